@@ -1,0 +1,16 @@
+pub mod Gives
+pub mod Number
+pub mod Name
+pub mod Dial
+pub mod Value
+pub mod JobTag
+pub mod Tag
+pub mod Pair
+pub mod Spelling
+pub mod Reading
+pub mod Status
+pub mod Job
+pub mod JobLines
+pub mod Refusal
+pub mod Order
+pub mod Alter

@@ -1,0 +1,265 @@
+//! Jobs.
+
+ghost use Rattle.std.specs.Prelude.{◌≡◌, ◌<◌, ◌^◌, ◌++◌, ◌∷◌, [], OnOk, unwrap_or};
+ghost use Rattle.std.specs.Fmt.{decimal};
+ghost use Rattle.std.specs.List.{AllByRecursion};
+ghost use Rattle.std.specs.Str.{IsUtf8};
+ghost use Rattle.fax_job.specs.JobLines.{order_lines, counter_lines};
+ghost use Rattle.fax_job.specs.Pair.{pair, IsPair, are_unknown};
+
+use crate::dial::Dial;
+use crate::job_tag::JobTag;
+use crate::lines::{Line, Lines};
+use crate::moment::Moment;
+use crate::name::Name;
+use crate::status::Status;
+use crate::tag::is_known;
+use std::alloc::{AllocError, Global};
+use std::marker::Model;
+
+/// Where a job stands.
+#[derive(Clone, Copy, Debug, PartialEq, Eq)]
+pub enum Phase {
+    /// Suspended by its client.
+    Held,
+    Waiting,
+    /// Handed to a modem.
+    Granted,
+    Done,
+    Failed,
+}
+
+/// What a client wishes for a job while it is granted.
+#[derive(Clone, Copy, Debug, PartialEq, Eq)]
+pub enum Wish {
+    Go,
+    Hold,
+    Kill,
+}
+
+/// How a call went.
+#[derive(Clone, Copy, Debug, PartialEq, Eq)]
+pub enum Call {
+    Connected,
+    Busy,
+    NoAnswer,
+    NoCarrier,
+    Other,
+}
+
+/// What is recorded of a job.
+#[derive(Debug, Drop)]
+pub struct JobFields {
+    /// The job's number, from 1 to 999999.
+    pub job: u32,
+    pub dial: Dial,
+    /// A modem's name, the name of a class of modems, or `any`.
+    pub modem: Name,
+    pub jobtag: JobTag,
+    /// The time to send.
+    pub tts: Moment,
+    pub killtime: Option<Moment>,
+    /// Lower goes first.
+    pub priority: u8,
+    /// Pages sent.
+    pub npages: u16,
+    /// All pages, from 1 to 9999.
+    pub totpages: u16,
+    /// Tries of the page that is next.
+    pub ntries: u16,
+    pub tottries: u16,
+    /// From 1 to 1000.
+    pub maxtries: u16,
+    /// Dials since the last connected call.
+    pub ndials: u16,
+    pub totdials: u16,
+    /// From 1 to 1000.
+    pub maxdials: u16,
+    pub phase: Phase,
+    pub wish: Wish,
+    /// The moment from which the job may be tried again, in seconds, at most 4102531200.
+    pub next: u32,
+    pub status: Status,
+    /// The lines whose tags a job description doesn't know.
+    pub extra: Lines,
+}
+
+/// A job within the limits of the queue.
+#[derive(Debug, Drop)]
+pub struct Job {
+    fields: JobFields,
+}
+
+impl Model for Job {
+    ghost use Rattle.fax_job.specs.declared.job.JobFields.{JobFields};
+    ghost use Rattle.fax_job.specs.Job.{IsLawful};
+
+    ghost Value = { JobFields };
+
+    ghost view = { λ job. job.fields };
+
+    ghost invariant = { λ job. IsLawful job.fields };
+}
+
+impl JobFields {
+    ghost use Rattle.std.specs.Prelude.{◌≡◌};
+    ghost use Rattle.fax_job.specs.Job.{is_lawful, are_lawful_pages, are_lawful_tries, are_lawful_dials};
+
+    fn is_lawful(&self) -> bool
+        ensures { result ≡ is_lawful self.now }
+    {
+        1 <= self.job
+            && self.job <= 999_999
+            && self.are_lawful_pages()
+            && self.are_lawful_tries()
+            && self.are_lawful_dials()
+            && self.next <= 4_102_531_200
+            && has_unknown_tags(&self.extra)
+    }
+
+    fn are_lawful_pages(&self) -> bool
+        ensures { result ≡ are_lawful_pages self.now }
+    {
+        self.npages <= self.totpages && 1 <= self.totpages && self.totpages <= 9999
+    }
+
+    fn are_lawful_tries(&self) -> bool
+        ensures { result ≡ are_lawful_tries self.now }
+    {
+        self.ntries <= self.tottries
+            && self.tottries <= self.maxtries
+            && 1 <= self.maxtries
+            && self.maxtries <= 1000
+    }
+
+    fn are_lawful_dials(&self) -> bool
+        ensures { result ≡ are_lawful_dials self.now }
+    {
+        self.ndials <= self.totdials
+            && self.totdials <= self.maxdials
+            && 1 <= self.maxdials
+            && self.maxdials <= 1000
+    }
+}
+
+impl Job {
+    ghost use Rattle.std.specs.Prelude.{◌≡◌, IsTrue, IfOk, Some, None, if◌then◌else◌};
+    ghost use Rattle.fax_job.specs.Job.{is_lawful, IsLawful};
+    ghost use Rattle.fax_job.specs.JobLines.{job_lines};
+
+    /// The job of these fields, where its number is from 1 to 999999, its pages from 1 to 9999 with no
+    /// more sent, its limits from 1 to 1000 with no more tries or dials in all, and of these no more in
+    /// a row, its next time at most 4102531200, and none of its extra lines of a known tag.
+    pub fn new(fields: JobFields) -> Option<Job>
+        ensures { result ≡ (if is_lawful fields then Some fields else None) }
+    {
+        if fields.is_lawful() {
+            Some(Job { fields })
+        } else {
+            None
+        }
+    }
+
+    pub fn fields(&self) -> &JobFields
+        ensures fields { result.now ≡ self.now }
+        ensures lawful { IsLawful self.now }
+    {
+        &self.fields
+    }
+
+    pub fn into_fields(self) -> JobFields
+        ensures fields { result ≡ self }
+        ensures lawful { IsLawful self }
+    {
+        self.fields
+    }
+
+    /// The job as key lines: the seventeen known tags, then the extra lines.
+    pub fn lines_at(&self, alloc: Global, state: u8) -> Result<Lines, AllocError>
+        ensures { IfOk result (λ lines. lines ≡ job_lines self.now state) }
+    {
+        let fields = &self.fields;
+        let mut items = Vec::new(alloc);
+        push_order(alloc, &mut items, fields)?;
+        push_counters(alloc, &mut items, fields)?;
+        push_number(alloc, &mut items, "state", u32::from(state))?;
+        push_text(alloc, &mut items, "status", fields.status.text())?;
+        push_copies(alloc, &mut items, fields.extra.as_slice())?;
+        Ok(Lines::from_items(items))
+    }
+}
+
+fn has_unknown_tags(lines: &Lines) -> bool
+    ensures { result ≡ are_unknown lines.now }
+{
+    lines.as_slice().iter().all(|line| !is_known(line.tag()))
+}
+
+fn push_order(alloc: Global, items: &mut Vec<Line>, fields: &JobFields) -> Result<(), AllocError>
+    ensures pushed { OnOk result (items.new.items ≡ items.old.items ++ order_lines fields.now) }
+    ensures formed { OnOk result (AllByRecursion IsPair (order_lines fields.now)) }
+{
+    push_number(alloc, items, "jobid", fields.job)?;
+    push_text(alloc, items, "number", fields.dial.text())?;
+    push_text(alloc, items, "modem", fields.modem.as_str())?;
+    push_text(alloc, items, "jobtag", fields.jobtag.as_str())?;
+    push_number(alloc, items, "tts", fields.tts.seconds())?;
+    push_number(alloc, items, "killtime", seconds(fields.killtime))?;
+    push_number(alloc, items, "priority", u32::from(fields.priority))?;
+    Ok(())
+}
+
+/// The seconds of a moment, 0 where there is none.
+fn seconds(moment: Option<Moment>) -> u32
+    ensures { result ≡ unwrap_or moment 0 }
+{
+    match moment {
+        Some(moment) => moment.seconds(),
+        None => 0,
+    }
+}
+
+fn push_counters(alloc: Global, items: &mut Vec<Line>, fields: &JobFields) -> Result<(), AllocError>
+    ensures pushed { OnOk result (items.new.items ≡ items.old.items ++ counter_lines fields.now) }
+    ensures formed { OnOk result (AllByRecursion IsPair (counter_lines fields.now)) }
+{
+    push_number(alloc, items, "npages", u32::from(fields.npages))?;
+    push_number(alloc, items, "totpages", u32::from(fields.totpages))?;
+    push_number(alloc, items, "ntries", u32::from(fields.ntries))?;
+    push_number(alloc, items, "tottries", u32::from(fields.tottries))?;
+    push_number(alloc, items, "maxtries", u32::from(fields.maxtries))?;
+    push_number(alloc, items, "ndials", u32::from(fields.ndials))?;
+    push_number(alloc, items, "totdials", u32::from(fields.totdials))?;
+    push_number(alloc, items, "maxdials", u32::from(fields.maxdials))?;
+    Ok(())
+}
+
+fn push_number(
+    alloc: Global,
+    items: &mut Vec<Line>,
+    tag: &str,
+    number: u32,
+) -> Result<(), AllocError>
+    ensures pushed { OnOk result (items.new.items ≡ items.old.items ++ pair tag.now (decimal number) ∷ []) }
+    ensures bound { number < 2 ^ 32 }
+{
+    let value = number.to_string(alloc)?;
+    push_text(alloc, items, tag, value.as_str())
+}
+
+fn push_text(alloc: Global, items: &mut Vec<Line>, tag: &str, value: &str) -> Result<(), AllocError>
+    ensures pushed { OnOk result (items.new.items ≡ items.old.items ++ pair tag.now value.now ∷ []) }
+    ensures utf8 { IsUtf8 value.now }
+{
+    items.push(Line::new(alloc, tag, value)?)?;
+    Ok(())
+}
+
+fn push_copies(alloc: Global, items: &mut Vec<Line>, lines: &[Line]) -> Result<(), AllocError>
+    ensures { OnOk result (items.new.items ≡ items.old.items ++ lines.now) }
+{
+    for line in lines {
+        items.push(line.copy(alloc)?)?;
+    }
+    Ok(())
+}

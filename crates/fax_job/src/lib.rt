@@ -1,0 +1,42 @@
+//! Jobs of a fax queue, and the key lines that state them, in the tags of HylaFAX's sendq(5).
+//!
+//! A text is read into [`Lines`], a list of (tag, value), and from these comes an [`Order`], what a
+//! submission asks for, or an [`Alter`], what changes a held job. A [`Job`] is a record whose numbers
+//! are within their limits, and it is written as key lines again.
+#![tactic(auto)]
+
+mod alter;
+mod dial;
+mod job;
+mod job_tag;
+mod lines;
+mod moment;
+mod name;
+mod number;
+mod order;
+mod reading;
+mod refusal;
+mod request_number;
+mod status;
+mod tag;
+mod value;
+mod values;
+mod writing;
+
+pub use alter::Alter;
+pub use dial::{Dial, DialFault};
+pub use job::{Call, Job, JobFields, Phase, Wish};
+pub use job_tag::{JobTag, JobTagFault};
+pub use lines::{Line, LineFault, LineKind, Lines};
+pub use moment::Moment;
+pub use name::{Name, NameFault, is_name};
+pub use number::number as read_number;
+pub use order::{Order, OrderFault};
+pub use reading::read_lines;
+pub use refusal::{BodyFault, Refusal};
+pub use request_number::RequestNumber;
+pub use status::{Status, StatusFault};
+pub use writing::write_lines;
+
+#[cfg(test)]
+mod tests;

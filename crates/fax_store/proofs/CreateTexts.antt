@@ -1,0 +1,83 @@
+-- What the texts that make the tables mean.
+use Rattle.std.proofs.Common.{◌≡◌, List, [], ◌∷◌, ◌++◌, ℕ, Ok, refl}
+use Rattle.sqlite.specs.Command.TheVariants.{CreateTable}
+use Rattle.sqlite.specs.Compile.{table_defined_by}
+use Rattle.sqlite.specs.Listing.{understood}
+use Rattle.sqlite.proofs.Callers.{IsPlain, command_of, statement_of}
+use Rattle.sqlite_schema.specs.declared.schema.Table.{Table}
+use Rattle.sqlite_schema.specs.declared.schema.Schema.{Schema}
+use Rattle.sqlite_catalog.specs.Change.{created}
+use Rattle.sqlite_tied.specs.Compute.{everything}
+use Rattle.fax_store.specs.declared.schema.TheConstants.{CREATE_JOBS, CREATE_GRANTS, CREATE_HOLDS, CREATE_DOWN, CREATE_REPLIES, CREATE_META}
+use Rattle.fax_store.specs.Schema.{no_tables, six_tables, jobs, grants, holds, down, replies, meta, holds_indexes, down_index, replies_index}
+
+-- the text makes this table in any database with this schema
+pub record Makes (schema : Schema) (sql : List ℕ) (table : Table) : Type 0 where
+  pub command : command_of (understood schema sql) ≡ CreateTable
+  pub statement : statement_of sql (understood schema sql) ≡ sql
+  pub defined : table_defined_by sql ≡ Ok (record table { tree = 0 })
+  pub plain : IsPlain (understood schema sql)
+
+-- the schema after each text in turn
+abbrev pub with_jobs : Schema
+with_jobs = record { tables = jobs ∷ []; indexes = []; views = [] }
+
+abbrev pub with_grants : Schema
+with_grants = record { tables = jobs ∷ grants ∷ []; indexes = []; views = [] }
+
+abbrev pub with_holds : Schema
+with_holds = record { tables = jobs ∷ grants ∷ holds ∷ []; indexes = holds_indexes; views = [] }
+
+abbrev pub with_down : Schema
+with_down = record { tables = jobs ∷ grants ∷ holds ∷ down ∷ []; indexes = holds_indexes ++ down_index ∷ []; views = [] }
+
+abbrev pub with_replies : Schema
+with_replies = record { tables = jobs ∷ grants ∷ holds ∷ down ∷ replies ∷ []; indexes = holds_indexes ++ down_index ∷ replies_index ∷ []; views = [] }
+
+pub makes_jobs : Makes no_tables CREATE_JOBS.now jobs
+unfolding understood everything
+makes_jobs = record { command = refl; statement = refl; defined = refl; plain = (refl, refl) }
+
+pub created_jobs : created no_tables jobs ≡ with_jobs
+unfolding everything
+created_jobs = refl
+
+pub makes_grants : Makes with_jobs CREATE_GRANTS.now grants
+unfolding understood everything
+makes_grants = record { command = refl; statement = refl; defined = refl; plain = (refl, refl) }
+
+pub created_grants : created with_jobs grants ≡ with_grants
+unfolding everything
+created_grants = refl
+
+pub makes_holds : Makes with_grants CREATE_HOLDS.now holds
+unfolding understood everything
+makes_holds = record { command = refl; statement = refl; defined = refl; plain = (refl, refl) }
+
+pub created_holds : created with_grants holds ≡ with_holds
+unfolding everything
+created_holds = refl
+
+pub makes_down : Makes with_holds CREATE_DOWN.now down
+unfolding understood everything
+makes_down = record { command = refl; statement = refl; defined = refl; plain = (refl, refl) }
+
+pub created_down : created with_holds down ≡ with_down
+unfolding everything
+created_down = refl
+
+pub makes_replies : Makes with_down CREATE_REPLIES.now replies
+unfolding understood everything
+makes_replies = record { command = refl; statement = refl; defined = refl; plain = (refl, refl) }
+
+pub created_replies : created with_down replies ≡ with_replies
+unfolding everything
+created_replies = refl
+
+pub makes_meta : Makes with_replies CREATE_META.now meta
+unfolding understood everything
+makes_meta = record { command = refl; statement = refl; defined = refl; plain = (refl, refl) }
+
+pub created_meta : created with_replies meta ≡ six_tables
+unfolding everything
+created_meta = refl

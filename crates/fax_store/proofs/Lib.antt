@@ -1,0 +1,2 @@
+pub mod CreateTexts
+pub mod StatementTexts

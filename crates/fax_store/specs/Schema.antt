@@ -1,0 +1,105 @@
+-- The six tables as the database knows them.
+use Rattle.std.specs.Prelude.{ℕ, true, false, List, [], ◌∷◌, ◌++◌, codes, Option, Some, None, pos}
+use Rattle.sqlite.specs.Collation.TheVariants.{Binary}
+use Rattle.sqlite.specs.declared.types.Value.TheVariants.{Null, Int}
+use Rattle.sqlite_schema.specs.declared.schema.Column.{Column}
+use Rattle.sqlite_schema.specs.declared.schema.Kind.{Kind}
+use Rattle.sqlite_schema.specs.declared.schema.Kind.TheVariants.{Integer, Text, Blob}
+use Rattle.sqlite_schema.specs.declared.schema.Index.{Index}
+use Rattle.sqlite_schema.specs.declared.schema.Table.{Table}
+use Rattle.sqlite_schema.specs.declared.schema.Schema.{Schema}
+use Rattle.sqlite_sql.specs.Term.{Term, lit, col, op2}
+use Rattle.sqlite_sql.specs.declared.ops.BinaryOp.TheVariants.{Compare}
+use Rattle.sqlite_sql.specs.declared.ops.CompareOp.TheVariants.{Eq}
+use Rattle.sqlite_value.specs.declared.keys.Order.{Order}
+use Rattle.sqlite_value.specs.Keys.{plain}
+
+abbrev pub column_of : List ℕ → Kind → Column
+column_of name kind = record { name = name; kind = kind; is_strict = true; not_null = true; default = Null; collation = Binary }
+
+abbrev pub integer : List ℕ → Column
+integer name = column_of name Integer
+
+abbrev pub text : List ℕ → Column
+text name = column_of name Text
+
+abbrev pub blob : List ℕ → Column
+blob name = column_of name Blob
+
+-- a strict table with no rule but NOT NULL and these keys
+abbrev pub table_of : List ℕ → ℕ → List Column → Option ℕ → List ℕ → List (List ℕ) → List Order → List Term → Table
+table_of name tree columns key primary uniques orders checks = record {
+  name = name;
+  tree = tree;
+  columns = columns;
+  key = key;
+  primary = primary;
+  uniques = uniques;
+  orders = orders;
+  checks = checks;
+  references = [];
+  computed = [];
+  stamps = record { places = []; terms = []; formats = [] };
+  is_counted = false;
+}
+
+abbrev pub job_columns : List Column
+job_columns =
+    integer (codes "job") ∷ text (codes "dial") ∷ text (codes "modem") ∷ text (codes "jobtag") ∷ text (codes "status") ∷ text (codes "extra")
+    ∷ integer (codes "tts") ∷ integer (codes "killtime") ∷ integer (codes "priority") ∷ integer (codes "npages") ∷ integer (codes "totpages")
+    ∷ integer (codes "ntries") ∷ integer (codes "tottries") ∷ integer (codes "maxtries") ∷ integer (codes "ndials") ∷ integer (codes "totdials")
+    ∷ integer (codes "maxdials") ∷ integer (codes "phase") ∷ integer (codes "wish") ∷ integer (codes "next") ∷ []
+
+abbrev pub jobs : Table
+jobs = table_of (codes "jobs") 0 job_columns (Some 0) (0 ∷ []) [] [] []
+
+abbrev pub grants : Table
+grants =
+    table_of (codes "grants") 1
+    (integer (codes "id") ∷ integer (codes "job") ∷ text (codes "modem") ∷ integer (codes "first_page") ∷ integer (codes "last_page") ∷ integer (codes "call") ∷ integer (codes "pages") ∷ integer (codes "shut") ∷ [])
+    (Some 0) (0 ∷ []) [] [] []
+
+abbrev pub holds : Table
+holds =
+    table_of (codes "holds") 2 (text (codes "modem") ∷ integer (codes "job") ∷ integer (codes "id") ∷ []) None (1 ∷ []) ((1 ∷ []) ∷ (2 ∷ []) ∷ (3 ∷ []) ∷ [])
+    (plain ∷ plain ∷ plain ∷ []) []
+
+abbrev pub down : Table
+down = table_of (codes "down") 6 (text (codes "modem") ∷ []) None (1 ∷ []) ((1 ∷ []) ∷ []) (plain ∷ []) []
+
+abbrev pub replies : Table
+replies =
+    table_of (codes "replies") 8 (text (codes "client") ∷ integer (codes "number") ∷ blob (codes "said") ∷ integer (codes "status") ∷ blob (codes "body") ∷ []) None (1 ∷ 2 ∷ [])
+    ((1 ∷ 2 ∷ []) ∷ []) (plain ∷ []) []
+
+abbrev pub meta : Table
+meta =
+    table_of (codes "meta") 10
+    (integer (codes "one") ∷ integer (codes "clock") ∷ integer (codes "next_job") ∷ integer (codes "next_grant") ∷ integer (codes "version") ∷ []) (Some 0) (0 ∷ []) [] []
+    (op2 (Compare Eq Binary) (col 1 0) (lit (Int (pos 1))) ∷ [])
+
+-- the index that a key of a table with hidden rowids has
+abbrev pub key_index : List ℕ → ℕ → ℕ → List ℕ → Index
+key_index name tree table places = record { name = name; tree = tree; table = table; columns = places; order = plain; is_unique = true }
+
+abbrev pub holds_indexes : List Index
+holds_indexes =
+    key_index (codes "sqlite_autoindex_holds_1") 3 2 (1 ∷ []) ∷ key_index (codes "sqlite_autoindex_holds_2") 4 2 (2 ∷ []) ∷ key_index (codes "sqlite_autoindex_holds_3") 5 2 (3 ∷ []) ∷ []
+
+abbrev pub down_index : Index
+down_index = key_index (codes "sqlite_autoindex_down_1") 7 6 (1 ∷ [])
+
+abbrev pub replies_index : Index
+replies_index = key_index (codes "sqlite_autoindex_replies_1") 9 8 (1 ∷ 2 ∷ [])
+
+-- a database with no tables
+abbrev pub no_tables : Schema
+no_tables = record { tables = []; indexes = []; views = [] }
+
+-- The six tables, each with a tree of rows and one for each index.
+abbrev pub six_tables : Schema
+six_tables = record {
+  tables = jobs ∷ grants ∷ holds ∷ down ∷ replies ∷ meta ∷ [];
+  indexes = holds_indexes ++ down_index ∷ replies_index ∷ [];
+  views = [];
+}

@@ -1,0 +1,22 @@
+//! The tables of the fax queue: jobs, grants and kept replies in a database of `sqlite`.
+//!
+//! A [`Store`] reads them, and a [`Work`] changes them, all of its changes together or none.
+//! Nothing above this crate speaks of SQL.
+#![tactic(auto)]
+
+mod fault;
+mod jobs;
+mod meta;
+mod replies;
+mod row;
+mod schema;
+mod store;
+#[cfg(test)]
+mod tests;
+mod work;
+
+pub use fault::StoreFault;
+pub use meta::Meta;
+pub use replies::Kept;
+pub use store::{MemoryStore, Store};
+pub use work::Work;

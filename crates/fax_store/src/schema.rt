@@ -1,0 +1,55 @@
+//! The six tables.
+
+use sqlite::{Alter, Connection, Error};
+
+const CREATE_JOBS: &str = "CREATE TABLE jobs (job INTEGER PRIMARY KEY NOT NULL, \
+    dial TEXT NOT NULL, modem TEXT NOT NULL, jobtag TEXT NOT NULL, \
+    status TEXT NOT NULL, extra TEXT NOT NULL, tts INTEGER NOT NULL, killtime INTEGER NOT NULL, \
+    priority INTEGER NOT NULL, npages INTEGER NOT NULL, totpages INTEGER NOT NULL, \
+    ntries INTEGER NOT NULL, tottries INTEGER NOT NULL, maxtries INTEGER NOT NULL, \
+    ndials INTEGER NOT NULL, totdials INTEGER NOT NULL, maxdials INTEGER NOT NULL, \
+    phase INTEGER NOT NULL, wish INTEGER NOT NULL, next INTEGER NOT NULL) STRICT";
+
+const CREATE_GRANTS: &str = "CREATE TABLE grants (id INTEGER PRIMARY KEY NOT NULL, \
+    job INTEGER NOT NULL, modem TEXT NOT NULL, first_page INTEGER NOT NULL, \
+    last_page INTEGER NOT NULL, call INTEGER NOT NULL, pages INTEGER NOT NULL, \
+    shut INTEGER NOT NULL) STRICT";
+
+const CREATE_HOLDS: &str = "CREATE TABLE holds (modem TEXT PRIMARY KEY NOT NULL, \
+    job INTEGER NOT NULL UNIQUE, id INTEGER NOT NULL UNIQUE) STRICT";
+
+const CREATE_DOWN: &str = "CREATE TABLE down (modem TEXT PRIMARY KEY NOT NULL) STRICT";
+
+const CREATE_REPLIES: &str = "CREATE TABLE replies (client TEXT NOT NULL, \
+    number INTEGER NOT NULL, said BLOB NOT NULL, status INTEGER NOT NULL, \
+    body BLOB NOT NULL, PRIMARY KEY (client, number)) STRICT";
+
+const CREATE_META: &str = "CREATE TABLE meta (one INTEGER PRIMARY KEY NOT NULL, \
+    clock INTEGER NOT NULL, next_job INTEGER NOT NULL, next_grant INTEGER NOT NULL, \
+    version INTEGER NOT NULL, CHECK (one = 1)) STRICT";
+
+const INSERT_META: &str =
+    "INSERT INTO meta (one, clock, next_job, next_grant, version) VALUES (1, 0, 1, 1, 1)";
+
+/// Makes the six tables in a database without any, with no rows but the one of meta.
+pub(crate) fn create_tables<S: Alter>(conn: &mut Connection<S>) -> Result<(), Error> {
+    create_work_tables(conn)?;
+    create_kept_tables(conn)
+}
+
+/// Makes the tables of jobs, grants, holds and modems down.
+fn create_work_tables<S: Alter>(conn: &mut Connection<S>) -> Result<(), Error> {
+    conn.execute(CREATE_JOBS, &[])?;
+    conn.execute(CREATE_GRANTS, &[])?;
+    conn.execute(CREATE_HOLDS, &[])?;
+    conn.execute(CREATE_DOWN, &[])?;
+    Ok(())
+}
+
+/// Makes the tables of replies and of the clock and next numbers, with the row of the latter.
+fn create_kept_tables<S: Alter>(conn: &mut Connection<S>) -> Result<(), Error> {
+    conn.execute(CREATE_REPLIES, &[])?;
+    conn.execute(CREATE_META, &[])?;
+    conn.execute(INSERT_META, &[])?;
+    Ok(())
+}

@@ -1,0 +1,31 @@
+use Rattle.std.specs.Prelude.{ℕ, List, [], ◌++◌, Bool, codes, decimal, if◌then◌else◌, ◌==◌}
+
+-- the phrase of a status (RFC 9110, section 15)
+abbrev pub phrase_of : ℕ → List ℕ
+phrase_of status =
+    if status == 200 then codes "OK" else (
+    if status == 201 then codes "Created" else (
+    if status == 400 then codes "Bad Request" else (
+    if status == 403 then codes "Forbidden" else (
+    if status == 404 then codes "Not Found" else (
+    if status == 409 then codes "Conflict" else (
+    if status == 410 then codes "Gone" else (
+    if status == 413 then codes "Payload Too Large" else (
+    if status == 503 then codes "Service Unavailable" else (
+    if status == 507 then codes "Insufficient Storage" else [])))))))))
+
+-- the media type of a body (RFC 9110, section 8.3)
+abbrev pub media_type : Bool → List ℕ
+media_type is_json = if is_json then codes "application/json" else codes "text/plain"
+
+-- the field that says that no reply follows (RFC 9112, section 9.6)
+abbrev pub closing_field : Bool → List ℕ
+closing_field is_last = if is_last then codes "Connection: close\r\n" else []
+
+-- the head of a reply: status, whether its body is JSON, how long that is, and whether it is the last reply
+abbrev pub head_bytes : ℕ → Bool → ℕ → Bool → List ℕ
+head_bytes status is_json body_length is_last =
+    codes "HTTP/1.1 " ++ decimal status ++ codes " " ++ phrase_of status
+    ++ codes "\r\nContent-Type: " ++ media_type is_json
+    ++ codes "\r\nContent-Length: " ++ decimal body_length
+    ++ codes "\r\n" ++ closing_field is_last ++ codes "\r\n"

@@ -1,0 +1,28 @@
+//! The program as a function of its words, its input and its outputs.
+use crate::replay::replay;
+use crate::status::{Status, fail};
+use crate::words::{Plan, WordsFault, read_words};
+use std::alloc::Global;
+use std::io::{Read, Write};
+
+/// Runs the command that the words ask for. Help goes to `out`, what is wrong to `err`.
+pub fn run<R: Read, W: Write, E: Write>(
+    alloc: Global,
+    words: &[String],
+    reader: &mut R,
+    out: &mut W,
+    err: &mut E,
+) -> Status {
+    match read_words(alloc, words) {
+        Ok(Plan::Replay) => replay(alloc, reader, out, err),
+        Err(WordsFault::Help(text)) => match out.write_all(text.as_bytes()) {
+            Ok(()) => Status::Success,
+            Err(_) => fail(err, "faxqd: ended write-failed\n"),
+        },
+        Err(WordsFault::Usage(text)) => {
+            let _ = err.write_all(text.as_bytes());
+            Status::Usage
+        }
+        Err(WordsFault::NoMemory) => fail(err, "faxqd: no memory\n"),
+    }
+}

@@ -1,0 +1,37 @@
+//! `faxqd replay`: serves one input over a store in memory.
+use crate::clock::SaidClock;
+use crate::queue::Queue;
+use crate::serve::{Bounds, End, Served, serve};
+use crate::status::{Status, fail};
+use fax_store::{Store, StoreFault};
+use std::alloc::Global;
+use std::io::{Read, Write};
+
+/// The most messages of one input.
+const MESSAGE_LIMIT: u32 = 1_000;
+
+/// Reads messages from `reader`, writes their replies to `out`, and a fault as one line to `err`.
+pub fn replay<R: Read, W: Write, E: Write>(
+    alloc: Global,
+    reader: &mut R,
+    out: &mut W,
+    err: &mut E,
+) -> Status {
+    let Ok(store) = Store::new_in_memory(alloc) else {
+        return fail(err, "faxqd: no memory\n");
+    };
+    let mut queue = Queue::new(store);
+    let mut clock = SaidClock::new();
+    let bounds = Bounds {
+        messages: MESSAGE_LIMIT,
+    };
+    let Served { end, .. } = serve(alloc, reader, out, &mut clock, &mut queue, bounds);
+    match end {
+        End::Closed => Status::Success,
+        End::Bad => fail(err, "faxqd: ended bad\n"),
+        End::Bound => fail(err, "faxqd: ended bound\n"),
+        End::ReadFailed => fail(err, "faxqd: ended read-failed\n"),
+        End::WriteFailed { .. } => fail(err, "faxqd: ended write-failed\n"),
+        End::NoMemory => fail(err, "faxqd: no memory\n"),
+    }
+}

@@ -1,0 +1,281 @@
+//! What no clause says: whole conversations, byte for byte, and how a command ends.
+use crate::command;
+use crate::status::Status;
+use std::alloc::Global;
+use std::io;
+use std::io::{Read, Write};
+use std::test::Fail;
+
+/// A submission of a job to `+14155550100`, three pages, by the client `desk`, number 1.
+const SUBMISSION: &str =
+    "POST /jobs HTTP/1.1\r\nFax-Client: desk\r\nFax-Number: 1\r\nFax-Moment: 1000\r\nContent-Length: 34\r\n\r\nnumber:+1 415 555-0100\ntotpages:3\n";
+
+const ACCEPTED: &str =
+    "HTTP/1.1 201 Created\r\nContent-Type: application/json\r\nContent-Length: 9\r\n\r\n{\"job\":1}";
+
+const BROKEN: &str =
+    "HTTP/1.1 400 Bad Request\r\nContent-Type: application/json\r\nContent-Length: 26\r\nConnection: close\r\n\r\n{\"no\":1,\"word\":\"bad-http\"}";
+
+/// What a command wrote, and how it ended.
+#[derive(Drop)]
+struct Ran {
+    status: Status,
+    out: Vec<u8>,
+    err: Vec<u8>,
+}
+
+fn run_on(alloc: Global, words: &[&str], mut input: &[u8]) -> Result<Ran, Fail> {
+    let mut texts = Vec::new(alloc);
+    for word in words {
+        texts.push(String::from_str(alloc, word)?)?;
+    }
+    let mut out = Vec::new(alloc);
+    let mut err = Vec::new(alloc);
+    let status = command::run(alloc, texts.as_slice(), &mut input, &mut out, &mut err);
+    Ok(Ran { status, out, err })
+}
+
+fn replayed(alloc: Global, input: &str) -> Result<Ran, Fail> {
+    run_on(alloc, &["faxqd", "replay"], input.as_bytes())
+}
+
+/// A message to `POST /jobs` with these fields and body.
+fn submission(alloc: Global, fields: &str, body: &str) -> Result<String, Fail> {
+    let length = body.len();
+    Ok(format!(in alloc; "POST /jobs HTTP/1.1\r\n{fields}Content-Length: {length}\r\n\r\n{body}")?)
+}
+
+/// A JSON reply that another one may follow.
+fn reply(alloc: Global, status: &str, body: &str) -> Result<String, Fail> {
+    let length = body.len();
+    Ok(format!(in alloc;
+        "HTTP/1.1 {status}\r\nContent-Type: application/json\r\nContent-Length: {length}\r\n\r\n{body}"
+    )?)
+}
+
+#[test]
+fn accepts_a_submission(rt: HostRuntime) -> Result<(), Fail> {
+    let ran = replayed(rt.alloc(), SUBMISSION)?;
+    assert_eq!(rt; ran.out.as_slice(), ACCEPTED.as_bytes());
+    assert_eq!(rt; ran.err.len(), 0);
+    assert_eq!(rt; ran.status, Status::Success);
+    Ok(())
+}
+
+#[test]
+fn refuses_by_the_first_check_that_fails(rt: HostRuntime) -> Result<(), Fail> {
+    let alloc = rt.alloc();
+    let client = "Fax-Client: desk\r\nFax-Number: 1\r\n";
+    let body = "number:5550111\ntotpages:1\n";
+    let cases = [
+        (
+            client,
+            "number:5550111\ntotpages:0\n",
+            "400 Bad Request",
+            r#"{"kind":"no-pages","no":6,"word":"bad-body"}"#,
+        ),
+        (
+            client,
+            "number:5550111\ntotpages\n",
+            "400 Bad Request",
+            r#"{"kind":"no-colon","line":2,"no":6,"word":"bad-body"}"#,
+        ),
+        (
+            client,
+            "number:5550111\ntotpages:1\ntts:4102444801\n",
+            "400 Bad Request",
+            r#"{"kind":"bad-tts","no":6,"word":"bad-body"}"#,
+        ),
+        (
+            "Fax-Number: 1\r\n",
+            body,
+            "400 Bad Request",
+            r#"{"no":4,"word":"bad-client"}"#,
+        ),
+        (
+            "Fax-Client: desk\r\nFax-Client: desk\r\nFax-Number: 1\r\n",
+            body,
+            "400 Bad Request",
+            r#"{"no":4,"word":"bad-client"}"#,
+        ),
+        (
+            "Fax-Client: a/b\r\nFax-Number: 0\r\n",
+            body,
+            "400 Bad Request",
+            r#"{"no":4,"word":"bad-client"}"#,
+        ),
+        (
+            "Fax-Client: desk\r\nFax-Number: 0\r\n",
+            "",
+            "400 Bad Request",
+            r#"{"no":5,"word":"bad-number"}"#,
+        ),
+        (
+            "Fax-Client: desk\r\n",
+            body,
+            "400 Bad Request",
+            r#"{"no":5,"word":"bad-number"}"#,
+        ),
+    ];
+    for (fields, text, status, want) in cases {
+        let ran = replayed(alloc, submission(alloc, fields, text)?.as_str())?;
+        assert_eq!(rt;
+            ran.out.as_slice(),
+            reply(alloc, status, want)?.as_bytes(),
+            "{fields}{text}"
+        );
+        assert_eq!(rt; ran.status, Status::Success);
+    }
+    Ok(())
+}
+
+#[test]
+fn knows_one_route(rt: HostRuntime) -> Result<(), Fail> {
+    let alloc = rt.alloc();
+    let want = reply(alloc, "404 Not Found", r#"{"no":3,"word":"no-route"}"#)?;
+    for line in [
+        "GET /job",
+        "GET /jobs",
+        "POST /jobs?",
+        "PUT /jobs",
+        "post /jobs",
+    ] {
+        let ran = replayed(
+            alloc,
+            format!(in alloc; "{line} HTTP/1.1\r\n\r\n")?.as_str(),
+        )?;
+        assert_eq!(rt; ran.out.as_slice(), want.as_bytes(), "{line}");
+    }
+    let ran = replayed(alloc, "HEAD /jobs HTTP/1.1\r\n\r\n")?;
+    let head =
+        "HTTP/1.1 404 Not Found\r\nContent-Type: application/json\r\nContent-Length: 26\r\n\r\n";
+    assert_eq!(rt; ran.out.as_slice(), head.as_bytes());
+    Ok(())
+}
+
+#[test]
+fn refuses_a_number_that_was_used(rt: HostRuntime) -> Result<(), Fail> {
+    let alloc = rt.alloc();
+    let fields = "Fax-Client: desk\r\nFax-Number: 1\r\n";
+    let other = submission(alloc, fields, "number:+1 415 555-0100\ntotpages:4\n")?;
+    let lab = submission(
+        alloc,
+        "Fax-Client: lab\r\nFax-Number: 1\r\n",
+        "number:5550111\ntotpages:1\n",
+    )?;
+    let input = format!(in alloc; "{SUBMISSION}{other}{lab}")?;
+    let used = reply(alloc, "409 Conflict", r#"{"no":7,"word":"number-reused"}"#)?;
+    let second = reply(alloc, "201 Created", r#"{"job":2}"#)?;
+    let want = format!(in alloc; "{ACCEPTED}{used}{second}")?;
+    assert_eq!(rt;
+        replayed(alloc, input.as_str())?.out.as_slice(),
+        want.as_bytes()
+    );
+    Ok(())
+}
+
+#[test]
+fn ends_at_what_is_no_message(rt: HostRuntime) -> Result<(), Fail> {
+    let alloc = rt.alloc();
+    let twice = "POST /jobs HTTP/1.1\r\nContent-Length: 1\r\nContent-Length: 1\r\n\r\nx";
+    let coded = "POST /jobs HTTP/1.1\r\nTransfer-Encoding: chunked\r\n\r\n";
+    let short = "POST /jobs HTTP/1.1\r\nContent-Length: 5\r\n\r\nabc";
+    for rest in ["POST /jobs HTT", twice, coded, short, "\r\n"] {
+        let ran = replayed(alloc, format!(in alloc; "{SUBMISSION}{rest}")?.as_str())?;
+        assert_eq!(rt;
+            ran.out.as_slice(),
+            format!(in alloc; "{ACCEPTED}{BROKEN}")?.as_bytes(),
+            "{rest}"
+        );
+        assert_eq!(rt; ran.err.as_slice(), b"faxqd: ended bad\n".as_slice());
+        assert_eq!(rt; ran.status, Status::Fault);
+    }
+    let ran = replayed(
+        alloc,
+        "POST /jobs HTTP/1.1\r\nContent-Length: 65537\r\n\r\n",
+    )?;
+    let large =
+        "HTTP/1.1 413 Payload Too Large\r\nContent-Type: application/json\r\nContent-Length: 27\r\nConnection: close\r\n\r\n{\"no\":2,\"word\":\"too-large\"}";
+    assert_eq!(rt; ran.out.as_slice(), large.as_bytes());
+    Ok(())
+}
+
+#[test]
+fn takes_an_input_up_to_its_limit(rt: HostRuntime) -> Result<(), Fail> {
+    let alloc = rt.alloc();
+    let input = vec![in alloc; b' '; 81_921]?;
+    let over = run_on(alloc, &["faxqd", "replay"], input.as_slice())?;
+    assert_eq!(rt; over.out.len(), 0);
+    assert_eq!(rt; over.err.as_slice(), b"faxqd: ended bad\n".as_slice());
+    let empty = replayed(alloc, "")?;
+    assert_eq!(rt; empty.out.len() + empty.err.len(), 0);
+    assert_eq!(rt; empty.status, Status::Success);
+    Ok(())
+}
+
+#[test]
+fn explains_its_words(rt: HostRuntime) -> Result<(), Fail> {
+    let alloc = rt.alloc();
+    let help = run_on(alloc, &["faxqd", "--help"], b"")?;
+    assert!(rt;
+        help.out
+            .as_slice()
+            .starts_with(b"The send queue of a fax server\n")
+    );
+    assert_eq!(rt; help.err.len(), 0);
+    assert_eq!(rt; help.status, Status::Success);
+    for words in [["faxqd", "serve"], ["faxqd", "--replay"]] {
+        let usage = run_on(alloc, &words, b"")?;
+        assert_eq!(rt; usage.out.len(), 0);
+        assert!(rt; usage.err.as_slice().starts_with(b"error: "));
+        assert_eq!(rt; usage.status, Status::Usage);
+    }
+    Ok(())
+}
+
+/// A writer that takes so many bytes and then fails, or takes none.
+#[derive(Drop)]
+struct Full {
+    taken: Vec<u8>,
+    room: usize,
+    fails: bool,
+}
+
+impl Write for Full {
+    fn write(&mut self, buf: &[u8]) -> io::Result<usize> {
+        if self.room == 0 && self.fails {
+            return Err(io::Error::from(io::ErrorKind::BrokenPipe));
+        }
+        let n = self.room.min(buf.len());
+        self.taken.extend_from_slice(&buf[..n])?;
+        self.room -= n;
+        Ok(n)
+    }
+
+    fn flush(&mut self) -> io::Result<()> {
+        Ok(())
+    }
+}
+
+#[test]
+fn stops_at_a_writer_that_fails(rt: HostRuntime) -> Result<(), Fail> {
+    let alloc = rt.alloc();
+    let mut words = Vec::new(alloc);
+    words.push(String::from_str(alloc, "faxqd")?)?;
+    words.push(String::from_str(alloc, "replay")?)?;
+    let input = format!(in alloc; "{SUBMISSION}{SUBMISSION}")?;
+    for (room, fails) in [(0, true), (5, true), (5, false), (83, true)] {
+        let mut out = Full {
+            taken: Vec::new(alloc),
+            room,
+            fails,
+        };
+        let mut err = Vec::new(alloc);
+        let mut reader = input.as_bytes();
+        let status = command::run(alloc, words.as_slice(), &mut reader, &mut out, &mut err);
+        assert_eq!(rt; out.taken.as_slice(), &ACCEPTED.as_bytes()[..room]);
+        assert_eq!(rt; err.as_slice(), b"faxqd: ended write-failed\n".as_slice());
+        assert_eq!(rt; status, Status::Fault);
+    }
+    Ok(())
+}
