@@ -6,3 +6,8 @@ pub mod PairLemmas
 pub mod StatusLemmas
 pub mod ReadLemmas
 pub mod JobLemmas
+pub mod EntryLemmas
+pub mod FoundLemmas
+pub mod SpelledLemmas
+pub mod TextLemmas
+pub mod PrintedLemmas

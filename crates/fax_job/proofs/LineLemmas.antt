@@ -76,13 +76,13 @@ without_blanks_is bs (Some x) Q space h = tt
 
 -- ---- what the parts were cut from
 
-abbrev done : {A : Type 0} → A → Option A
+abbrev pub done : {A : Type 0} → A → Option A
 done x = Some x
 
-abbrev two : List ℕ → List ℕ → List ℕ × List ℕ
+abbrev pub two : List ℕ → List ℕ → List ℕ × List ℕ
 two x y = (x, y)
 
-abbrev none_yet : Option (List ℕ)
+abbrev pub none_yet : Option (List ℕ)
 none_yet = None
 
 pub some_is : {A : Type 0} (x y : A) → done x ≡ done y → x ≡ y

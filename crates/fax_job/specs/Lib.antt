@@ -8,6 +8,7 @@ pub mod Tag
 pub mod Pair
 pub mod Spelling
 pub mod Reading
+pub mod Spells
 pub mod Status
 pub mod Job
 pub mod JobLines

@@ -36,7 +36,7 @@ pub use reading::read_lines;
 pub use refusal::{BodyFault, Refusal};
 pub use request_number::RequestNumber;
 pub use status::{Status, StatusFault};
-pub use writing::write_lines;
+pub use writing::{write_lines, written_is_read};
 
 #[cfg(test)]
 mod tests;

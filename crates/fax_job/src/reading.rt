@@ -1,12 +1,13 @@
 //! Key lines from their text.
 
-ghost use Rattle.std.specs.Prelude.{◌≡◌, ◌<◌, ◌++◌, ◌∷◌, ◌&&◌, [], true, false, length, codes, Ok, Err, Some, None, IfOk, IfSome, IfNone, MatchResult};
+ghost use Rattle.std.specs.Prelude.{List, IfErr, ◌≡◌, ◌<◌, ◌++◌, ◌∷◌, ◌&&◌, [], true, false, length, codes, Ok, Err, Some, None, IfOk, IfSome, IfNone, MatchResult};
 ghost use Rattle.std.specs.List.{list_all};
 ghost use Rattle.fax_job.specs.Value.{is_blank};
 ghost use Rattle.std.specs.Option.{option_map, option_copied};
 ghost use Rattle.std.specs.String.{string_bytes};
 ghost use Rattle.fax_job.specs.Gives.{Gives, GivesBy};
-ghost use Rattle.fax_job.specs.Pair.{pair, is_pair, begins_with_hash, has_tag};
+ghost use Rattle.fax_job.specs.Spells.{Spells, IsFirstFault};
+ghost use Rattle.fax_job.specs.Pair.{Pair, pair, is_pair, begins_with_hash, has_tag};
 ghost use Rattle.fax_job.specs.Reading.{lines, is_skipped, without_blanks, at_colon, before_backslash, begun_part, is_no_memory, entry_of, taken, begin_step, go_on_step, step, read_on, IsEntry, IsOpen};
 ghost use Rattle.fax_job.specs.Tag.{is_known};
 
@@ -24,7 +25,14 @@ use std::alloc::{AllocError, Global};
 /// # Errors
 ///
 /// The first fault of the text, and its line.
-pub fn read_lines(alloc: Global, bytes: &[u8]) -> Result<Lines, LineFault> {
+pub fn read_lines(alloc: Global, bytes: &[u8]) -> Result<Lines, LineFault>
+    // What is read is the list that the text spells.
+    ensures found { IfOk result (Spells bytes.now) }
+    // A fault is the first of the text.
+    ensures first { IfErr result (λ fault. is_no_memory fault ≡ false → IsFirstFault bytes.now fault) }
+    // What is spelled is read, unless memory runs out.
+    ensures only { (ps : List Pair) → Spells bytes.now ps → Gives is_no_memory result (Ok ps) }
+{
     match str::from_utf8(bytes) {
         Ok(text) => read_text(alloc, text),
         Err(_) => Err(LineFault {
