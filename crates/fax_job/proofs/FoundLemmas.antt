@@ -128,7 +128,7 @@ unfolding front_blanks
 blanks_blank [] = refl
 blanks_blank (b ∷ bs) = blanks_all b bs (is_blank b) refl (blanks_blank bs)
 
-plain_blank : (b : ℕ) → is_blank b ≡ true → is_plain_byte b ≡ true
+pub plain_blank : (b : ℕ) → is_blank b ≡ true → is_plain_byte b ≡ true
 plain_blank b h =
     elim (or_cases (eqb b 32) (eqb b 9) h) [
       | inl e ↦ subst (λ (x : ℕ). is_plain_byte x ≡ true) (sym (eqb-true b 32 e)) refl
@@ -235,11 +235,11 @@ fault_of seen line ls kind counts e = fault_line seen line ls (at_colon line) ki
 
 -- ---- the lines of a value that goes on
 
-closed : List ℕ → List ℕ → List (List ℕ)
+unfoldable pub closed : List ℕ → List ℕ → List (List ℕ)
 closed begun [] = []
 closed begun (b ∷ bs) = cond (eqb b 10) ((begun ++ 92 ∷ []) ∷ closed [] bs) (closed (begun ++ b ∷ []) bs)
 
-last : List ℕ → List ℕ → List ℕ
+unfoldable pub last : List ℕ → List ℕ → List ℕ
 last begun [] = begun
 last begun (b ∷ bs) = cond (eqb b 10) (last [] bs) (last (begun ++ b ∷ []) bs)
 
@@ -247,7 +247,7 @@ continued_by : (b : ℕ) (bs begun : List ℕ) (t : Bool) → ((c : List ℕ) �
 continued_by b bs begun true ih = ap (λ (ls : List (List ℕ)). (begun ++ 92 ∷ []) ∷ ls) (ih [])
 continued_by b bs begun false ih = ih (begun ++ b ∷ [])
 
-continued_is : (v begun : List ℕ) → continued begun v ≡ closed begun v ++ last begun v ∷ []
+pub continued_is : (v begun : List ℕ) → continued begun v ≡ closed begun v ++ last begun v ∷ []
 unfolding closed last
 continued_is [] begun = refl
 continued_is (b ∷ bs) begun = continued_by b bs begun (eqb b 10) (continued_is bs)

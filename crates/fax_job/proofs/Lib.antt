@@ -11,3 +11,4 @@ pub mod FoundLemmas
 pub mod SpelledLemmas
 pub mod TextLemmas
 pub mod PrintedLemmas
+pub mod FaultLemmas

@@ -22,7 +22,7 @@ okay ps = Ok ps
 okay_is : (ps qs : List Pair) → okay ps ≡ okay qs → ps ≡ qs
 okay_is ps qs e = cc
 
-spelled : (text : List ℕ) (ps : List Pair) → Spells text ps → Read text ≡ Ok ps
+pub spelled : (text : List ℕ) (ps : List Pair) → Spells text ps → Read text ≡ Ok ps
 spelled text ps h =
     ap (λ (ls : List (List ℕ)). read_on ls 0 [] None) (h.made ∙ all_lines_are h.entries h.formed)
     ∙ reads h.entries 0 [] h.formed (ap is_once (sym h.stated) ∙ h.once)

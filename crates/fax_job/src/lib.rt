@@ -32,7 +32,7 @@ pub use moment::Moment;
 pub use name::{Name, NameFault, is_name};
 pub use number::number as read_number;
 pub use order::{Order, OrderFault};
-pub use reading::read_lines;
+pub use reading::{one_fault_or_one_list, read_lines};
 pub use refusal::{BodyFault, Refusal};
 pub use request_number::RequestNumber;
 pub use status::{Status, StatusFault};

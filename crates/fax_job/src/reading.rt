@@ -1,11 +1,12 @@
 //! Key lines from their text.
 
-ghost use Rattle.std.specs.Prelude.{List, IfErr, ◌≡◌, ◌<◌, ◌++◌, ◌∷◌, ◌&&◌, [], true, false, length, codes, Ok, Err, Some, None, IfOk, IfSome, IfNone, MatchResult};
+ghost use Rattle.std.specs.Prelude.{ℕ, List, IfErr, ◌≡◌, ◌<◌, ◌++◌, ◌∷◌, ◌&&◌, [], true, false, length, codes, Ok, Err, Some, None, IfOk, IfSome, IfNone, MatchResult};
 ghost use Rattle.std.specs.List.{list_all};
 ghost use Rattle.fax_job.specs.Value.{is_blank};
 ghost use Rattle.std.specs.Option.{option_map, option_copied};
 ghost use Rattle.std.specs.String.{string_bytes};
 ghost use Rattle.fax_job.specs.Gives.{Gives, GivesBy};
+ghost use Rattle.fax_job.specs.declared.lines.LineFault.{LineFault};
 ghost use Rattle.fax_job.specs.Spells.{Spells, IsFirstFault};
 ghost use Rattle.fax_job.specs.Pair.{Pair, pair, is_pair, begins_with_hash, has_tag};
 ghost use Rattle.fax_job.specs.Reading.{lines, is_skipped, without_blanks, at_colon, before_backslash, begun_part, is_no_memory, entry_of, taken, begin_step, go_on_step, step, read_on, IsEntry, IsOpen};
@@ -41,6 +42,13 @@ pub fn read_lines(alloc: Global, bytes: &[u8]) -> Result<Lines, LineFault>
         }),
     }
 }
+
+/// A text has one first fault at most, and a text that has one spells no list. So what [`read_lines`]
+/// answers is fixed by the text, unless memory runs out.
+pub fn one_fault_or_one_list()
+    ensures one { (text : List ℕ) (f g : LineFault) → IsFirstFault text f → IsFirstFault text g → f ≡ g }
+    ensures no_list { (text : List ℕ) (fault : LineFault) (ps : List Pair) → IsFirstFault text fault → Spells text ps → ⊥ }
+{}
 
 fn read_text(alloc: Global, text: &str) -> Result<Lines, LineFault>
     ensures { Gives is_no_memory result (read_on (lines text.now) 0 [] None) }

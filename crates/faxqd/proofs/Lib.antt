@@ -1,5 +1,9 @@
+pub mod CheckLemmas
+pub mod ClientLemmas
+pub mod ConversationLemmas
 pub mod FieldLemmas
 pub mod InputLemmas
 pub mod MessageLemmas
 pub mod OutputLemmas
+pub mod Progress
 pub mod ResponseLemmas

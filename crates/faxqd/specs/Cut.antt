@@ -12,12 +12,17 @@ pub record HoldsHead (input : List ℕ) (room : List HeaderSpan) (spans : Reques
   pub is_head : IsHead head
   pub at : IsRequestAt input room spans head
 
--- the input is a message and then the rest, and the parts are the message's
-pub record HoldsMessage (input : List ℕ) (message : Message) (rest : List ℕ) : Type 0 where
-  pub head : RequestHead
-  pub begins : BeginsWith input head message.body.now rest
+-- the parts are those of a message with that head and body
+pub record ArePartsOf (message : Message) (head : RequestHead) (body : List ℕ) : Type 0 where
   pub method : message.method.now ≡ head.method
   pub target : message.target.now ≡ head.target
   pub client : message.client.now ≡ sole (values_of (codes "Fax-Client") (fields_of head))
   pub number : message.number.now ≡ sole (values_of (codes "Fax-Number") (fields_of head))
   pub moment : message.moment.now ≡ sole (values_of (codes "Fax-Moment") (fields_of head))
+  pub content : message.body.now ≡ body
+
+-- the input is a message and then the rest, and the parts are the message's
+pub record HoldsMessage (input : List ℕ) (message : Message) (rest : List ℕ) : Type 0 where
+  pub head : RequestHead
+  pub begins : BeginsWith input head message.body.now rest
+  pub parts : ArePartsOf message head message.body.now

@@ -1,3 +1,6 @@
+pub mod Arrival
+pub mod Checks
+pub mod Conversation
 pub mod Cut
 pub mod Field
 pub mod Message

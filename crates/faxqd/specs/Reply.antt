@@ -23,7 +23,7 @@ abbrev pub closing_field : Bool → List ℕ
 closing_field is_last = if is_last then codes "Connection: close\r\n" else []
 
 -- the head of a reply: status, whether its body is JSON, how long that is, and whether it is the last reply
-abbrev pub head_bytes : ℕ → Bool → ℕ → Bool → List ℕ
+unfoldable pub head_bytes : ℕ → Bool → ℕ → Bool → List ℕ
 head_bytes status is_json body_length is_last =
     codes "HTTP/1.1 " ++ decimal status ++ codes " " ++ phrase_of status
     ++ codes "\r\nContent-Type: " ++ media_type is_json

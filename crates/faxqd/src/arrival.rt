@@ -1,4 +1,7 @@
 //! A request as the queue gets it.
+ghost use Rattle.std.specs.Prelude.{◌≡◌};
+ghost use Rattle.faxqd.specs.Checks.{method_of};
+
 use fax_job::Moment;
 
 /// The method of a request, as far as the queue tells them apart.
@@ -11,11 +14,15 @@ pub enum Method {
 
 impl Method {
     /// The method that these bytes name (RFC 9110, section 9: names are case-sensitive).
-    pub fn of(name: &[u8]) -> Method {
-        match name {
-            b"GET" => Method::Get,
-            b"POST" => Method::Post,
-            _ => Method::Another,
+    pub fn of(name: &[u8]) -> Method
+        ensures { result ≡ method_of name.now }
+    {
+        if name == b"GET".as_slice() {
+            Method::Get
+        } else if name == b"POST".as_slice() {
+            Method::Post
+        } else {
+            Method::Another
         }
     }
 }

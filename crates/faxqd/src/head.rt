@@ -9,6 +9,7 @@ pub const HEAD_ROOM: usize = 200;
 
 pub type Head = ArrayString<HEAD_ROOM>;
 
+#[tactic(auto, unfolding(crate::specs::Reply::head_bytes))]
 pub fn reply_head(status: u16, is_json: bool, body_length: usize, is_last: bool) -> Head
     ensures { result.bytes ≡ head_bytes status is_json body_length is_last }
 {

@@ -4,6 +4,8 @@
 mod arrival;
 mod clock;
 mod command;
+mod conversation;
+mod desk;
 mod head;
 mod input;
 mod message;

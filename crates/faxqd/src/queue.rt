@@ -2,6 +2,12 @@
 //!
 //! An accepted request's effect and its kept reply are one transaction of the store, and the
 //! reply's bytes are made before its commit. A refused request changes nothing.
+ghost use Rattle.std.specs.Prelude.{◌≡◌, None, Some, Err, IfErr, IsOk, is_some};
+ghost use Rattle.fax_job.specs.declared.refusal.Refusal.{Refusal as RefusalOf};
+ghost use Rattle.fax_job.specs.Name.{is_name as is_name_of};
+ghost use Rattle.faxqd.specs.Arrival.{arrival_refusal};
+ghost use Rattle.faxqd.specs.Checks.{IsCheckedReply};
+
 use crate::arrival::{Arrival, Method};
 use crate::reply::{Answer, Reply};
 use fax_job::{
@@ -15,12 +21,11 @@ use std::str;
 /// The greatest number of a job.
 pub const LAST_JOB: u32 = 999_999;
 
-/// A submission that has passed the checks of its own text.
+/// Who sent a request, and the sender's number of it.
 #[derive(Drop)]
-struct Submission<'a> {
+struct Sender<'a> {
     client: &'a str,
     number: RequestNumber,
-    order: Order,
 }
 
 /// The send queue over a store.
@@ -35,21 +40,33 @@ impl<S: Alter> Queue<S> {
     }
 
     /// Answers the request, after its effect where it is accepted.
-    pub fn handle(&mut self, alloc: Global, arrival: &Arrival<'_>) -> Reply {
+    pub fn handle(&mut self, alloc: Global, arrival: &Arrival<'_>) -> Reply
+        ensures { IsCheckedReply (arrival_refusal arrival.now) result }
+    {
         match self.submit(alloc, arrival) {
             Ok(reply) => reply,
             Err(refusal) => Reply::refused(refusal),
         }
     }
 
-    fn submit(&mut self, alloc: Global, arrival: &Arrival<'_>) -> Result<Reply, Refusal> {
-        let submission = read_submission(alloc, arrival)?;
-        let Submission {
-            client,
-            number,
-            order,
-        } = submission;
-        if self.store.kept(client, number)?.is_some() {
+    fn submit(&mut self, alloc: Global, arrival: &Arrival<'_>) -> Result<Reply, Refusal>
+        ensures { (refusal : RefusalOf) → arrival_refusal arrival.now ≡ Some refusal → result ≡ Err refusal }
+    {
+        match sender_of(arrival) {
+            Ok(sender) => self.submit_from(alloc, arrival, &sender),
+            Err(refusal) => Err(refusal),
+        }
+    }
+
+    /// The rest of the checks, in their order, and the effect.
+    fn submit_from(
+        &mut self,
+        alloc: Global,
+        arrival: &Arrival<'_>,
+        sender: &Sender<'_>,
+    ) -> Result<Reply, Refusal> {
+        let order = read_lines(alloc, arrival.body)?.to_order(alloc)?;
+        if self.store.kept(sender.client, sender.number)?.is_some() {
             return Err(Refusal::NumberReused);
         }
         let meta = self.store.meta()?;
@@ -58,7 +75,7 @@ impl<S: Alter> Queue<S> {
         }
         let decided_at = meta.clock.later(arrival.moment);
         let job = new_job(order, meta.next_job, decided_at).ok_or(Refusal::Unavailable)?;
-        self.take(alloc, arrival, client, number, &job, decided_at)
+        self.take(alloc, arrival, sender, &job, decided_at)
     }
 
     /// Puts the job in and keeps the reply, both in one transaction.
@@ -66,8 +83,7 @@ impl<S: Alter> Queue<S> {
         &mut self,
         alloc: Global,
         arrival: &Arrival<'_>,
-        client: &str,
-        number: RequestNumber,
+        sender: &Sender<'_>,
         job: &Job,
         decided_at: Moment,
     ) -> Result<Reply, Refusal> {
@@ -80,8 +96,8 @@ impl<S: Alter> Queue<S> {
         work.put_job(job)?;
         work.set_clock(decided_at)?;
         work.keep(
-            client,
-            number,
+            sender.client,
+            sender.number,
             said.as_slice(),
             reply.status(),
             reply.body(),
@@ -91,28 +107,31 @@ impl<S: Alter> Queue<S> {
     }
 }
 
-/// Tests what a request says of itself: its route, its client and number, and its body, in that
-/// order.
-fn read_submission<'a>(alloc: Global, arrival: &Arrival<'a>) -> Result<Submission<'a>, Refusal> {
+/// The client and the number of a submission; or the refusal by its route, its client or its
+/// number, whichever is at fault first.
+fn sender_of<'a>(arrival: &Arrival<'a>) -> Result<Sender<'a>, Refusal>
+    ensures err { IfErr result (λ refusal. arrival_refusal arrival.now ≡ Some refusal) }
+    ensures ok { IsOk result → arrival_refusal arrival.now ≡ None }
+{
     if arrival.method != Method::Post || arrival.path != "/jobs" {
         return Err(Refusal::NoRoute);
     }
     let client = read_client(arrival.client).ok_or(Refusal::BadClient)?;
     let number = RequestNumber::read(arrival.number).ok_or(Refusal::BadNumber)?;
-    let order = read_lines(alloc, arrival.body)?.to_order(alloc)?;
-    Ok(Submission {
-        client,
-        number,
-        order,
-    })
+    Ok(Sender { client, number })
 }
 
 /// The client that the bytes name.
-fn read_client(text: &[u8]) -> Option<&str> {
+fn read_client(text: &[u8]) -> Option<&str>
+    ensures { is_some result ≡ is_name_of text.now }
+{
     if !is_name(text) {
         return None;
     }
-    str::from_utf8(text).ok()
+    match str::from_utf8(text) {
+        Ok(client) => Some(client),
+        Err(_) => None,
+    }
 }
 
 /// What a request said, as it is kept beside its reply: the path, LF, the body.

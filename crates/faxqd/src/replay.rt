@@ -1,7 +1,9 @@
 //! `faxqd replay`: serves one input over a store in memory.
 use crate::clock::SaidClock;
+use crate::conversation::{Bounds, End, Served};
+use crate::desk::Desk;
 use crate::queue::Queue;
-use crate::serve::{Bounds, End, Served, serve};
+use crate::serve::serve;
 use crate::status::{Status, fail};
 use fax_store::{Store, StoreFault};
 use std::alloc::Global;
@@ -20,12 +22,11 @@ pub fn replay<R: Read, W: Write, E: Write>(
     let Ok(store) = Store::new_in_memory(alloc) else {
         return fail(err, "faxqd: no memory\n");
     };
-    let mut queue = Queue::new(store);
-    let mut clock = SaidClock::new();
+    let mut desk = Desk::new(alloc, SaidClock::new(), Queue::new(store));
     let bounds = Bounds {
         messages: MESSAGE_LIMIT,
     };
-    let Served { end, .. } = serve(alloc, reader, out, &mut clock, &mut queue, bounds);
+    let Served { end, .. } = serve(alloc, reader, out, &mut desk, bounds);
     match end {
         End::Closed => Status::Success,
         End::Bad => fail(err, "faxqd: ended bad\n"),

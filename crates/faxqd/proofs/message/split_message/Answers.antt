@@ -1,4 +1,4 @@
-use Rattle.std.proofs.Common.{◌≡◌, rules, ap, sym, ◌∙◌, ◌++◌, Err, Ok, length, codes, arith, length-drop, length-take}
+use Rattle.std.proofs.Common.{◌≡◌, rules, ap, sym, ◌∙◌, ◌++◌, Err, Ok, length, codes, refl, arith, length-drop, length-take}
 use Rattle.faxqd.specs.declared.message.Broken.TheVariants.{BadHttp}
 use Rattle.httparse.specs.Grammar.{print_request}
 use Rattle.faxqd.specs.Cut.{HoldsHead}
@@ -31,9 +31,12 @@ returns-clause-message c =
         };
         bytes = h.at.reads.1 ∙ ap (λ r. print_request h.head ++ r) (body_and_rest c.args.input.now _ _ _ _ c.split_at.ensures.front c.split_at.ensures.back);
       };
-      method = c.of-2.ensures ∙ h.at.method;
-      target = search rules;
-      client = c.or_empty.ensures _ c.find_field.ensures ∙ ap (λ f. sole (values_of (codes "Fax-Client") f)) h.at.fields;
-      number = c.or_empty-2.ensures _ c.find_field-2.ensures ∙ ap (λ f. sole (values_of (codes "Fax-Number") f)) h.at.fields;
-      moment = c.or_empty-3.ensures _ c.find_field-3.ensures ∙ ap (λ f. sole (values_of (codes "Fax-Moment") f)) h.at.fields;
+      parts = record {
+        method = c.of-2.ensures ∙ h.at.method;
+        target = search rules;
+        client = c.or_empty.ensures _ c.find_field.ensures ∙ ap (λ f. sole (values_of (codes "Fax-Client") f)) h.at.fields;
+        number = c.or_empty-2.ensures _ c.find_field-2.ensures ∙ ap (λ f. sole (values_of (codes "Fax-Number") f)) h.at.fields;
+        moment = c.or_empty-3.ensures _ c.find_field-3.ensures ∙ ap (λ f. sole (values_of (codes "Fax-Moment") f)) h.at.fields;
+        content = refl;
+      };
     }
