@@ -1,2 +1,13 @@
 pub mod CreateTexts
+pub mod SelectLemmas
 pub mod StatementTexts
+pub mod ControlLemmas
+pub mod CompareLemmas
+pub mod WriteLemmas
+pub mod StoreLemmas
+pub mod ResultLemmas
+pub mod StatementLemmas
+pub mod MetaLemmas
+pub mod WorkLemmas
+pub mod RepliesLemmas
+pub mod AppendLemmas

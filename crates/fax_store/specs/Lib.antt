@@ -1,1 +1,9 @@
 pub mod Schema
+pub mod Queue
+pub mod Fault
+pub mod Row
+pub mod Tables
+pub mod Store
+pub mod Work
+pub mod Meta
+pub mod Kept

@@ -82,6 +82,11 @@ impl From<LineFault> for StoreFault {
 }
 
 impl From<StoreFault> for Refusal {
+    ghost use Rattle.std.specs.Prelude.{◌≡◌};
+    ghost use Rattle.fax_job.specs.declared.refusal.Refusal.TheVariants.{Unavailable};
+
+    ghost from_gives = { λ _ refusal. refusal ≡ Unavailable };
+
     fn from(_: StoreFault) -> Refusal {
         Refusal::Unavailable
     }

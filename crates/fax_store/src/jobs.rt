@@ -2,7 +2,7 @@
 
 use crate::fault::StoreFault;
 use crate::meta::{Meta, PAST_JOBS};
-use crate::row::{moment_at, small_at, value_at};
+use crate::row::{moment_at, number_at, small_at, value_at};
 use crate::store::Store;
 use crate::work::Work;
 use fax_job::{
@@ -34,7 +34,7 @@ fn phase_number(phase: Phase) -> u32 {
 
 /// The phase that a number stands for.
 fn phase_at(row: &Row, at: usize) -> Result<Phase, StoreFault> {
-    match value_at::<u32>(row, at)? {
+    match number_at(row, at)? {
         0 => Ok(Phase::Held),
         1 => Ok(Phase::Waiting),
         2 => Ok(Phase::Granted),
@@ -55,7 +55,7 @@ fn wish_number(wish: Wish) -> u32 {
 
 /// The wish that a number stands for.
 fn wish_at(row: &Row, at: usize) -> Result<Wish, StoreFault> {
-    match value_at::<u32>(row, at)? {
+    match number_at(row, at)? {
         0 => Ok(Wish::Go),
         1 => Ok(Wish::Hold),
         2 => Ok(Wish::Kill),
@@ -139,12 +139,12 @@ fn job_in(alloc: Global, row: &Row) -> Result<Job, StoreFault> {
 
 /// The fields in a row of all columns.
 fn fields_in(alloc: Global, row: &Row) -> Result<JobFields, StoreFault> {
-    let priority: u32 = value_at(row, 8)?;
+    let priority = number_at(row, 8)?;
     let Ok(priority) = u8::try_from(priority) else {
         return Err(StoreFault::Strange);
     };
     Ok(JobFields {
-        job: value_at(row, 0)?,
+        job: number_at(row, 0)?,
         dial: dial_at(alloc, row, 1)?,
         modem: name_at(alloc, row, 2)?,
         jobtag: jobtag_at(alloc, row, 3)?,
@@ -163,7 +163,7 @@ fn fields_in(alloc: Global, row: &Row) -> Result<JobFields, StoreFault> {
         maxdials: small_at(row, 16)?,
         phase: phase_at(row, 17)?,
         wish: wish_at(row, 18)?,
-        next: value_at(row, 19)?,
+        next: number_at(row, 19)?,
     })
 }
 
@@ -178,8 +178,7 @@ impl<S: Alter> Store<S> {
     }
 
     fn read_job(&mut self, job: u32) -> Result<Option<Job>, StoreFault> {
-        let mut rows = self.conn.query_all(SELECT_JOB, params![job])?;
-        match rows.pop() {
+        match self.find(SELECT_JOB, params![job])? {
             Some(row) => Ok(Some(job_in(self.alloc, &row)?)),
             None => Ok(None),
         }
@@ -187,7 +186,7 @@ impl<S: Alter> Store<S> {
 
     fn insert_job(&mut self, job: &JobFields) -> Result<(), StoreFault> {
         let extra = spelling(self.alloc, &job.extra)?;
-        self.conn.execute(
+        self.run(
             INSERT_JOB,
             params![
                 job.job,
@@ -211,8 +210,7 @@ impl<S: Alter> Store<S> {
                 wish_number(job.wish),
                 job.next,
             ],
-        )?;
-        Ok(())
+        )
     }
 
     fn add_job(&mut self, job: &Job) -> Result<(), StoreFault> {

@@ -1,7 +1,15 @@
 //! The clock and the next numbers.
 
+ghost use Rattle.std.specs.Prelude.{◌≡◌, ℕ, List, false, Err, is_err, ⊤, IsTrue};
+ghost use Rattle.sqlite.specs.Held.{state};
+ghost use Rattle.fax_store.specs.Fault.{OrUnavailable};
+ghost use Rattle.fax_store.specs.Queue.{Queue, Entry};
+ghost use Rattle.fax_store.specs.Tables.{IsLawfulMeta};
+ghost use Rattle.fax_store.specs.Store.{Serves, Means, MeansNow, Stays, Answers};
+ghost use Rattle.fax_store.specs.Work.{Works, Keeps, Changes, AnswersIn, Steps};
+
 use crate::fault::StoreFault;
-use crate::row::{moment_at, value_at};
+use crate::row::{moment_at, number_at};
 use crate::store::Store;
 use crate::work::Work;
 use fax_job::Moment;
@@ -29,61 +37,97 @@ pub struct Meta {
     pub next_grant: u32,
 }
 
-/// The clock and next numbers in a row of these three.
-fn meta_in(row: &Row) -> Result<Meta, StoreFault> {
-    let clock = moment_at(row, 0)?;
-    let next_job: u32 = value_at(row, 1)?;
-    let next_grant: u32 = value_at(row, 2)?;
-    if 1 <= next_job && next_job <= PAST_JOBS && 1 <= next_grant && next_grant <= PAST_GRANTS {
-        Ok(Meta {
-            clock,
-            next_job,
-            next_grant,
-        })
-    } else {
-        Err(StoreFault::Strange)
+impl Meta {
+    ghost use Rattle.fax_store.specs.Meta.{meta_of, meta_shown};
+
+    /// The clock and next numbers in a row of these three.
+    fn in_row(row: &Row) -> Result<Meta, StoreFault>
+        ensures { (m : Queue) → row.now ≡ meta_shown m → IsLawfulMeta m
+            → OrUnavailable result (λ meta. meta ≡ meta_of m) }
+    {
+        let clock = moment_at(row, 0)?;
+        let next_job = number_at(row, 1)?;
+        let next_grant = number_at(row, 2)?;
+        if 1 <= next_job && next_job <= PAST_JOBS && 1 <= next_grant && next_grant <= PAST_GRANTS {
+            Ok(Meta {
+                clock,
+                next_job,
+                next_grant,
+            })
+        } else {
+            Err(StoreFault::Strange)
+        }
     }
 }
 
 impl<S: Alter> Store<S> {
+    ghost use Rattle.fax_store.specs.Meta.{meta_of, with_meta, with_clock};
+
     /// The clock and the next numbers.
     ///
     /// # Errors
     ///
     /// `Unavailable`, or `Strange` where their row is no lawful record.
-    pub fn meta(&mut self) -> Result<Meta, StoreFault> {
+    pub fn meta(&mut self) -> Result<Meta, StoreFault>
+        ensures stays { Stays (state S.Store self.old.conn) (state S.Store self.new.conn) }
+        ensures found { (m : Queue) (k : List Entry) → Means (state S.Store self.old.conn) m k
+            → Serves (state S.Store self.new.conn) → OrUnavailable result (λ meta. meta ≡ meta_of m) }
+    {
         self.read_meta()
     }
 
-    pub(crate) fn read_meta(&mut self) -> Result<Meta, StoreFault> {
-        let mut rows = self.conn.query_all(SELECT_META, &[])?;
-        match rows.pop() {
-            Some(row) => meta_in(&row),
+    pub(crate) fn read_meta(&mut self) -> Result<Meta, StoreFault>
+        ensures served { Serves (state S.Store self.new.conn) → Serves (state S.Store self.old.conn) }
+        ensures answers { (m : Queue) (k : List Entry) → MeansNow (state S.Store self.old.conn) m k
+            → Serves (state S.Store self.new.conn)
+            → Answers (state S.Store self.old.conn) (state S.Store self.new.conn) result (λ meta. meta ≡ meta_of m) }
+    {
+        match self.find(SELECT_META, &[])? {
+            Some(row) => Meta::in_row(&row),
             None => Err(StoreFault::Strange),
         }
     }
 
-    pub(crate) fn write_meta(&mut self, meta: Meta) -> Result<(), StoreFault> {
-        self.conn.execute(
+    pub(crate) fn write_meta(&mut self, meta: Meta) -> Result<(), StoreFault>
+        ensures served { Serves (state S.Store self.new.conn) → Serves (state S.Store self.old.conn) }
+        ensures written { (m₀ m : Queue) (k₀ k : List Entry) → Works (state S.Store self.old.conn) false m₀ k₀ m k
+            → Serves (state S.Store self.new.conn) → IsLawfulMeta (with_meta meta m)
+            → Steps (state S.Store self.new.conn) result m₀ k₀ (with_meta meta m) k }
+    {
+        self.run(
             UPDATE_META,
             params![meta.clock.seconds(), meta.next_job, meta.next_grant],
-        )?;
-        Ok(())
+        )
     }
 
-    fn write_clock(&mut self, clock: Moment) -> Result<(), StoreFault> {
+    fn write_clock(&mut self, clock: Moment) -> Result<(), StoreFault>
+        ensures served { Serves (state S.Store self.new.conn) → Serves (state S.Store self.old.conn) }
+        ensures written { (m₀ m : Queue) (k₀ k : List Entry) → Works (state S.Store self.old.conn) false m₀ k₀ m k
+            → Serves (state S.Store self.new.conn)
+            → Steps (state S.Store self.new.conn) result m₀ k₀ (with_clock clock m) k }
+    {
         let meta = self.read_meta()?;
         self.write_meta(Meta { clock, ..meta })
     }
 }
 
 impl<S: Alter> Work<'_, S> {
+    ghost use Rattle.fax_store.specs.Meta.{meta_of, with_clock};
+
     /// The clock and the next numbers.
     ///
     /// # Errors
     ///
     /// `Unavailable`, or `Strange` where their row is no lawful record.
-    pub fn meta(&mut self) -> Result<Meta, StoreFault> {
+    pub fn meta(&mut self) -> Result<Meta, StoreFault>
+        ensures same_reference { self.new.store.ghost_name ≡ self.old.store.ghost_name }
+        ensures keeps { Keeps (state S.Store self.old.store.now.conn) self.old.failed
+            (state S.Store self.new.store.now.conn) self.new.failed }
+        ensures found { AnswersIn (state S.Store self.old.store.now.conn) self.old.failed
+            (state S.Store self.new.store.now.conn) result (λ m k meta. meta ≡ meta_of m) }
+        ensures fails { self.new.failed ≡ is_err result }
+        ensures refused { IsTrue self.old.failed → result ≡ Err StoreFault.Unavailable }
+    {
         if self.failed {
             return Err(StoreFault::Unavailable);
         }
@@ -97,7 +141,15 @@ impl<S: Alter> Work<'_, S> {
     /// # Errors
     ///
     /// `Unavailable`, or `Strange` where the row of the clock is no lawful record.
-    pub fn set_clock(&mut self, clock: Moment) -> Result<(), StoreFault> {
+    pub fn set_clock(&mut self, clock: Moment) -> Result<(), StoreFault>
+        ensures same_reference { self.new.store.ghost_name ≡ self.old.store.ghost_name }
+        ensures changes { Changes (state S.Store self.old.store.now.conn) self.old.failed
+            (state S.Store self.new.store.now.conn) self.new.failed (with_clock clock) (λ k. k) }
+        ensures cause { AnswersIn (state S.Store self.old.store.now.conn) self.old.failed
+            (state S.Store self.new.store.now.conn) result (λ m k done. ⊤) }
+        ensures fails { self.new.failed ≡ is_err result }
+        ensures refused { IsTrue self.old.failed → result ≡ Err StoreFault.Unavailable }
+    {
         if self.failed {
             return Err(StoreFault::Unavailable);
         }

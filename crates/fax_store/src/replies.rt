@@ -1,7 +1,16 @@
 //! The kept replies.
 
+ghost use Rattle.std.specs.Prelude.{◌≡◌, ◌⊎◌, ◌↔◌, ◌≤◌, ◌<◌, ◌^◌, ◌∷◌, ◌++◌, [], pos, false, List, Err, IfErr, is_err, IsTrue};
+ghost use Rattle.sqlite.specs.Held.{state};
+ghost use Rattle.fax_store.specs.Fault.{OrUnavailable};
+ghost use Rattle.fax_job.specs.Name.{IsName};
+ghost use Rattle.fax_store.specs.Queue.{Queue, Entry};
+ghost use Rattle.fax_store.specs.Tables.{IsLawfulEntry};
+ghost use Rattle.fax_store.specs.Store.{Serves, Means, MeansNow, Stays, Answers};
+ghost use Rattle.fax_store.specs.Work.{Works, Keeps, Changes, AnswersIn, Moves};
+
 use crate::fault::StoreFault;
-use crate::row::value_at;
+use crate::row::{small_at, value_at};
 use crate::store::Store;
 use crate::work::Work;
 use fax_job::{RequestNumber, is_name};
@@ -25,41 +34,52 @@ pub struct Kept {
 }
 
 /// Whether a reply of this status is kept.
-fn is_kept_status(status: u16) -> bool {
+fn is_kept_status(status: u16) -> bool
+    ensures { IsTrue result ↔ ((status ≡ 200) ⊎ (status ≡ 201)) }
+{
     status == 200 || status == 201
 }
 
 /// The number as the database takes it.
-fn number_value(number: RequestNumber) -> Result<i64, StoreFault> {
-    i64::try_from(number.get()).map_err(|_| StoreFault::Strange)
+fn number_value(number: RequestNumber) -> i64
+    ensures value { result ≡ pos number }
+    ensures lawful { (1 ≤ number) × (number < 10 ^ 18) }
+{
+    number.get() as i64
 }
 
-/// The kept reply in a row of what was said, status and body.
-fn kept_in(row: &Row) -> Result<Kept, StoreFault> {
-    let said = value_at(row, 0)?;
-    let status: u32 = value_at(row, 1)?;
-    let body = value_at(row, 2)?;
-    let Ok(status) = u16::try_from(status) else {
-        return Err(StoreFault::Strange);
-    };
-    if is_kept_status(status) {
-        Ok(Kept { said, status, body })
-    } else {
-        Err(StoreFault::Strange)
+impl Kept {
+    ghost use Rattle.fax_store.specs.Kept.{Tells, entry_shown};
+
+    /// The kept reply in a row of what was said, status and body.
+    fn in_row(row: &Row) -> Result<Kept, StoreFault>
+        ensures { (e : Entry) → row.now ≡ entry_shown e → IsLawfulEntry e
+            → OrUnavailable result (λ kept. Tells kept e) }
+    {
+        let said = value_at(row, 0)?;
+        let status = small_at(row, 1)?;
+        let body = value_at(row, 2)?;
+        if is_kept_status(status) {
+            Ok(Kept { said, status, body })
+        } else {
+            Err(StoreFault::Strange)
+        }
     }
 }
 
 impl<S: Alter> Store<S> {
+    ghost use Rattle.fax_store.specs.Kept.{IsKeptFor, entry};
+
     /// The reply that is kept for this number of this client.
     ///
     /// # Errors
     ///
     /// `Unavailable`, or `Strange` where its row is no lawful record.
-    pub fn kept(
-        &mut self,
-        client: &str,
-        number: RequestNumber,
-    ) -> Result<Option<Kept>, StoreFault> {
+    pub fn kept(&mut self, client: &str, number: RequestNumber) -> Result<Option<Kept>, StoreFault>
+        ensures stays { Stays (state S.Store self.old.conn) (state S.Store self.new.conn) }
+        ensures found { (m : Queue) (k : List Entry) → Means (state S.Store self.old.conn) m k
+            → Serves (state S.Store self.new.conn) → OrUnavailable result (IsKeptFor k client.now number) }
+    {
         self.read_reply(client, number)
     }
 
@@ -67,11 +87,15 @@ impl<S: Alter> Store<S> {
         &mut self,
         client: &str,
         number: RequestNumber,
-    ) -> Result<Option<Kept>, StoreFault> {
-        let number = number_value(number)?;
-        let mut rows = self.conn.query_all(SELECT_REPLY, params![client, number])?;
-        match rows.pop() {
-            Some(row) => Ok(Some(kept_in(&row)?)),
+    ) -> Result<Option<Kept>, StoreFault>
+        ensures served { Serves (state S.Store self.new.conn) → Serves (state S.Store self.old.conn) }
+        ensures answers { (m : Queue) (k : List Entry) → MeansNow (state S.Store self.old.conn) m k
+            → Serves (state S.Store self.new.conn)
+            → Answers (state S.Store self.old.conn) (state S.Store self.new.conn) result (IsKeptFor k client.now number) }
+    {
+        let number = number_value(number);
+        match self.find(SELECT_REPLY, params![client, number])? {
+            Some(row) => Ok(Some(Kept::in_row(&row)?)),
             None => Ok(None),
         }
     }
@@ -83,30 +107,43 @@ impl<S: Alter> Store<S> {
         said: &[u8],
         status: u16,
         body: &[u8],
-    ) -> Result<(), StoreFault> {
-        let number = number_value(number)?;
+    ) -> Result<(), StoreFault>
+        ensures served { Serves (state S.Store self.new.conn) → Serves (state S.Store self.old.conn) }
+        ensures written { (m₀ m : Queue) (k₀ k : List Entry) → Works (state S.Store self.old.conn) false m₀ k₀ m k
+            → Serves (state S.Store self.new.conn)
+            → Moves (state S.Store self.new.conn) result m₀ k₀ m
+            (k ++ entry client.now number said.now status body.now ∷ []) }
+        ensures cause { IsName client.now → (status ≡ 200) ⊎ (status ≡ 201)
+            → IfErr result (λ fault. fault ≡ StoreFault.Unavailable) }
+    {
+        let number = number_value(number);
         if !is_name(client.as_bytes()) || !is_kept_status(status) {
             return Err(StoreFault::Strange);
         }
-        self.conn.execute(
+        self.run(
             INSERT_REPLY,
             params![client, number, said, u32::from(status), body],
-        )?;
-        Ok(())
+        )
     }
 }
 
 impl<S: Alter> Work<'_, S> {
+    ghost use Rattle.fax_store.specs.Kept.{IsKeptFor, entry};
+
     /// The reply that is kept for this number of this client.
     ///
     /// # Errors
     ///
     /// `Unavailable`, or `Strange` where its row is no lawful record.
-    pub fn kept(
-        &mut self,
-        client: &str,
-        number: RequestNumber,
-    ) -> Result<Option<Kept>, StoreFault> {
+    pub fn kept(&mut self, client: &str, number: RequestNumber) -> Result<Option<Kept>, StoreFault>
+        ensures same_reference { self.new.store.ghost_name ≡ self.old.store.ghost_name }
+        ensures keeps { Keeps (state S.Store self.old.store.now.conn) self.old.failed
+            (state S.Store self.new.store.now.conn) self.new.failed }
+        ensures found { AnswersIn (state S.Store self.old.store.now.conn) self.old.failed
+            (state S.Store self.new.store.now.conn) result (λ m k found. IsKeptFor k client.now number found) }
+        ensures fails { self.new.failed ≡ is_err result }
+        ensures refused { IsTrue self.old.failed → result ≡ Err StoreFault.Unavailable }
+    {
         if self.failed {
             return Err(StoreFault::Unavailable);
         }
@@ -128,7 +165,16 @@ impl<S: Alter> Work<'_, S> {
         said: &[u8],
         status: u16,
         body: &[u8],
-    ) -> Result<(), StoreFault> {
+    ) -> Result<(), StoreFault>
+        ensures same_reference { self.new.store.ghost_name ≡ self.old.store.ghost_name }
+        ensures changes { Changes (state S.Store self.old.store.now.conn) self.old.failed
+            (state S.Store self.new.store.now.conn) self.new.failed (λ m. m)
+            (λ k. k ++ entry client.now number said.now status body.now ∷ []) }
+        ensures cause { IsName client.now → (status ≡ 200) ⊎ (status ≡ 201)
+            → IfErr result (λ fault. fault ≡ StoreFault.Unavailable) }
+        ensures fails { self.new.failed ≡ is_err result }
+        ensures refused { IsTrue self.old.failed → result ≡ Err StoreFault.Unavailable }
+    {
         if self.failed {
             return Err(StoreFault::Unavailable);
         }

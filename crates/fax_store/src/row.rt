@@ -1,12 +1,20 @@
 //! The values of a row.
 
+ghost use Rattle.std.specs.Prelude.{◌≡◌, ℕ, ◌<◌, ◌≤◌, ◌^◌, length};
+ghost use Rattle.sqlite.specs.Order.{column};
+ghost use Rattle.fax_store.specs.Fault.{OrUnavailable};
+ghost use Rattle.fax_store.specs.Row.{HasNumber};
+
 use crate::fault::StoreFault;
 use fax_job::Moment;
 use sqlite::types::FromSql;
 use sqlite::{Error, Row};
 
 /// The value in a column. One that does not read as `T` is strange.
-pub(crate) fn value_at<T: FromSql>(row: &Row, at: usize) -> Result<T, StoreFault> {
+pub(crate) fn value_at<T: FromSql>(row: &Row, at: usize) -> Result<T, StoreFault>
+    ensures { at < length row.now → T.FromSql.is_readable (column row.now at)
+        → OrUnavailable result (T.FromSql.reads_as (column row.now at)) }
+{
     match row.get(at) {
         Ok(value) => Ok(value),
         Err(Error::SqliteFailure(_)) => Err(StoreFault::Unavailable),
@@ -14,15 +22,29 @@ pub(crate) fn value_at<T: FromSql>(row: &Row, at: usize) -> Result<T, StoreFault
     }
 }
 
+/// The number in a column, which fits 32 bits.
+pub(crate) fn number_at(row: &Row, at: usize) -> Result<u32, StoreFault>
+    ensures { (n : ℕ) → HasNumber row.now at n → n < 2 ^ 32 → OrUnavailable result (λ number. number ≡ n) }
+{
+    value_at(row, at)
+}
+
 /// The number in a column, which fits 16 bits.
-pub(crate) fn small_at(row: &Row, at: usize) -> Result<u16, StoreFault> {
-    let number: u32 = value_at(row, at)?;
-    u16::try_from(number).map_err(|_| StoreFault::Strange)
+pub(crate) fn small_at(row: &Row, at: usize) -> Result<u16, StoreFault>
+    ensures { (n : ℕ) → HasNumber row.now at n → n < 2 ^ 16 → OrUnavailable result (λ small. small ≡ n) }
+{
+    let number = number_at(row, at)?;
+    match u16::try_from(number) {
+        Ok(small) => Ok(small),
+        Err(_) => Err(StoreFault::Strange),
+    }
 }
 
 /// The moment in a column.
-pub(crate) fn moment_at(row: &Row, at: usize) -> Result<Moment, StoreFault> {
-    let seconds: u32 = value_at(row, at)?;
+pub(crate) fn moment_at(row: &Row, at: usize) -> Result<Moment, StoreFault>
+    ensures { (n : ℕ) → HasNumber row.now at n → n ≤ 4102444800 → OrUnavailable result (λ moment. moment ≡ n) }
+{
+    let seconds = number_at(row, at)?;
     let moment = Moment::new(u64::from(seconds));
     if moment.seconds() == seconds {
         Ok(moment)

@@ -1,10 +1,26 @@
 //! A database with the six tables.
 
+ghost use Rattle.std.specs.Prelude.{◌≡◌, ◌∷◌, IfOk, IfErr, OnOk, OnErr};
+ghost use Rattle.std.specs.Borrow.{sem, RestsIfErr};
+ghost use Rattle.sqlite.specs.Held.{state};
+ghost use Rattle.fax_store.specs.contracts.store.Store.{the_row};
+ghost use Rattle.sqlite.specs.Values.{bound};
+ghost use Rattle.sqlite.specs.State.{HasCleanDisk};
+ghost use Rattle.fax_store.specs.Store.{Serves, Stays, GoesBack, LeavesCommit, FindsRow, HasRun};
+ghost use Rattle.fax_store.specs.Work.{Begins};
+
 use crate::fault::StoreFault;
 use crate::schema::create_tables;
 use crate::work::Work;
-use sqlite::{Alter, Connection, MemStore};
+use sqlite::types::ValueRef;
+use sqlite::{Alter, Connection, MemStore, Row};
 use std::alloc::Global;
+
+pub(crate) const BEGIN: &str = "BEGIN";
+
+pub(crate) const COMMIT: &str = "COMMIT";
+
+pub(crate) const ROLLBACK: &str = "ROLLBACK";
 
 /// The queue's tables in a database. Its own calls read what was last committed.
 #[derive(Drop)]
@@ -35,15 +51,54 @@ impl<S: Alter> Store<S> {
     /// # Errors
     ///
     /// `Unavailable`; the tables are as they were.
-    pub fn begin(&mut self) -> Result<Work<'_, S>, StoreFault> {
-        self.conn.execute("BEGIN", &[])?;
+    pub fn begin(&mut self) -> Result<Work<'_, S>, StoreFault>
+        ensures* refused { sem 𝓛 (RestsIfErr (the_row S.row S.Store) self.entry (λ work. work.store.ghost_name)
+            result (λ last. Stays (state S.Store self.old.conn) (state S.Store last.conn))) }
+        ensures same_reference { IfOk result (λ work. work.store.ghost_name ≡ self.entry.ghost_name) }
+        ensures begun { IfOk result (λ work.
+            Begins (state S.Store self.old.conn) (state S.Store work.store.now.conn) work.failed) }
+        ensures cause { IfErr result (λ fault. fault ≡ StoreFault.Unavailable) }
+    {
+        self.conn.execute(BEGIN, &[])?;
         Ok(Work::new(self))
     }
 
     /// Undoes what was not committed.
-    pub(crate) fn roll_back(&mut self) {
+    pub(crate) fn roll_back(&mut self)
+        ensures { GoesBack (state S.Store self.old.conn) (state S.Store self.new.conn) }
+    {
         if !self.conn.is_autocommit() {
-            let _ = self.conn.execute("ROLLBACK", &[]);
+            let _ = self.conn.execute(ROLLBACK, &[]);
         }
+    }
+
+    /// Runs a query that shows at most one row.
+    pub(crate) fn find(
+        &mut self,
+        sql: &str,
+        params: &[ValueRef<'_>],
+    ) -> Result<Option<Row>, StoreFault>
+        ensures served { Serves (state S.Store self.new.conn) → Serves (state S.Store self.old.conn) }
+        ensures found { HasCleanDisk (state S.Store self.new.conn) → IfOk result
+            (FindsRow sql.now (bound params.now) (state S.Store self.old.conn) (state S.Store self.new.conn)) }
+        ensures left { HasCleanDisk (state S.Store self.new.conn) → OnErr result
+            (LeavesCommit (state S.Store self.old.conn) (state S.Store self.new.conn)) }
+        ensures cause { IfErr result (λ fault. fault ≡ StoreFault.Unavailable) }
+    {
+        let mut rows = self.conn.query_all(sql, params)?;
+        Ok(rows.pop())
+    }
+
+    /// Runs a statement that shows no rows.
+    pub(crate) fn run(&mut self, sql: &str, params: &[ValueRef<'_>]) -> Result<(), StoreFault>
+        ensures served { Serves (state S.Store self.new.conn) → Serves (state S.Store self.old.conn) }
+        ensures ran { HasCleanDisk (state S.Store self.new.conn) → OnOk result
+            (HasRun sql.now (bound params.now) (state S.Store self.old.conn) (state S.Store self.new.conn)) }
+        ensures left { HasCleanDisk (state S.Store self.new.conn) → OnErr result
+            (LeavesCommit (state S.Store self.old.conn) (state S.Store self.new.conn)) }
+        ensures cause { IfErr result (λ fault. fault ≡ StoreFault.Unavailable) }
+    {
+        self.conn.execute(sql, params)?;
+        Ok(())
     }
 }

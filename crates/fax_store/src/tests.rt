@@ -1,13 +1,9 @@
 use crate::{MemoryStore, Store, StoreFault};
-use fax_job::{Job, Lines, Moment, Phase, RequestNumber, Wish, read_lines, write_lines};
+use fax_job::{Job, Lines, Moment, RequestNumber, read_lines, write_lines};
 use std::alloc::Global;
 use std::test::Fail;
 
-/// The lines of the job that `job_of` makes with number 1.
-const KEPT_JOB: &str =
-    "jobid:1\nnumber:5550111\nmodem:any\njobtag:\ntts:1000\nkilltime:5000\npriority:127\nnpages:1\ntotpages:3\nntries:0\ntottries:1\nmaxtries:3\nndials:2\ntotdials:4\nmaxdials:12\nstate:6\nstatus:Too many attempts to dial\nx-note:a b\n";
-
-/// A granted job of this number, as its key lines ask for it.
+/// A held job of this number, as its key lines ask for it.
 fn job_of(alloc: Global, number: u32) -> Result<Option<Job>, Fail> {
     let lines: Lines = read_lines(alloc, b"number:5550111\ntotpages:3\nx-note:a b\n")?;
     let order = lines.to_order(alloc)?;
@@ -35,6 +31,42 @@ fn job_of(alloc: Global, number: u32) -> Result<Option<Job>, Fail> {
     }))
 }
 
+/// Whether two jobs are written as the same key lines, and stand alike.
+fn same_job(alloc: Global, one: &Job, other: &Job) -> Result<bool, Fail> {
+    let text = write_lines(alloc, &one.lines_at(alloc, 1)?)?;
+    let other_text = write_lines(alloc, &other.lines_at(alloc, 1)?)?;
+    Ok(
+        text.as_slice() == other_text.as_slice()
+            && one.fields().phase == other.fields().phase
+            && one.fields().wish == other.fields().wish
+            && one.fields().next == other.fields().next,
+    )
+}
+
+fn has_same_texts(one: &Job, other: &Job) -> bool {
+    let one = one.fields();
+    let other = other.fields();
+    one.dial.text() == other.dial.text()
+        && one.modem.as_str() == other.modem.as_str()
+        && one.jobtag.as_str() == other.jobtag.as_str()
+        && one.status.text() == other.status.text()
+        && one.extra.get("x-note") == other.extra.get("x-note")
+}
+
+fn has_same_numbers(one: &Job, other: &Job) -> bool {
+    let one = one.fields();
+    let other = other.fields();
+    one.job == other.job
+        && (one.tts, one.killtime, one.next) == (other.tts, other.killtime, other.next)
+        && (one.priority, one.npages, one.totpages)
+            == (other.priority, other.npages, other.totpages)
+        && (one.ntries, one.tottries, one.maxtries)
+            == (other.ntries, other.tottries, other.maxtries)
+        && (one.ndials, one.totdials, one.maxdials)
+            == (other.ndials, other.totdials, other.maxdials)
+        && (one.phase, one.wish) == (other.phase, other.wish)
+}
+
 fn number_of(digits: &str) -> Result<RequestNumber, Fail> {
     Ok(RequestNumber::read(digits.as_bytes()).ok_or("no request number")?)
 }
@@ -51,36 +83,53 @@ fn fresh_store_is_empty(rt: HostRuntime) -> Result<(), Fail> {
     Ok(())
 }
 
-/// The key lines of job 1, and what they don't show of it.
-fn shown(alloc: Global, store: &mut MemoryStore) -> Result<(Vec<u8>, Phase, Wish, u32), Fail> {
-    let job = store.job(1)?.ok_or("no job")?;
-    let lines = job.lines_at(alloc, 6)?;
-    let text = write_lines(alloc, &lines)?;
-    let fields = job.fields();
-    Ok((text, fields.phase, fields.wish, fields.next))
+/// Puts a job, and tells whether the work then has it.
+fn put(alloc: Global, store: &mut MemoryStore, job: &Job) -> Result<bool, Fail> {
+    let mut work = store.begin()?;
+    work.put_job(job)?;
+    let seen = work.job(job.fields().job)?;
+    work.commit()?;
+    is_same(alloc, &seen, job)
 }
 
-/// Puts job 1 in, and whether the work sees it before it is committed.
-fn put_one(alloc: Global, store: &mut MemoryStore) -> Result<bool, Fail> {
-    let job = job_of(alloc, 1)?.ok_or("no job")?;
-    let mut work = store.begin()?;
-    work.put_job(&job)?;
-    let is_seen = work.job(1)?.is_some();
-    work.commit()?;
-    Ok(is_seen)
+/// Whether the store has that job under its number.
+fn has(alloc: Global, store: &mut MemoryStore, job: &Job) -> Result<bool, Fail> {
+    let found = store.job(job.fields().job)?;
+    is_same(alloc, &found, job)
+}
+
+/// Whether a job was found, and is that one.
+fn is_same(alloc: Global, found: &Option<Job>, job: &Job) -> Result<bool, Fail> {
+    match found {
+        Some(found) => same_job(alloc, found, job),
+        None => Ok(false),
+    }
 }
 
 #[test]
 fn put_job_is_read_back(rt: HostRuntime) -> Result<(), Fail> {
     let mut store = Store::new_in_memory(rt.alloc())?;
-    assert!(rt; put_one(rt.alloc(), &mut store)?);
-    let (text, phase, wish, next) = shown(rt.alloc(), &mut store)?;
-    assert_eq!(rt; text.as_slice(), KEPT_JOB.as_bytes());
-    assert_eq!(rt; phase, Phase::Granted);
-    assert_eq!(rt; wish, Wish::Kill);
-    assert_eq!(rt; next, 77);
-    assert_eq!(rt; store.meta()?.next_job, 2);
-    assert!(rt; store.job(2)?.is_none());
+    let job = job_of(rt.alloc(), 1)?.ok_or("no job")?;
+    assert!(rt; put(rt.alloc(), &mut store, &job)?);
+    assert!(rt; has(rt.alloc(), &mut store, &job)?);
+    Ok(())
+}
+
+/// Puts a job, and tells the next number.
+fn next_after(store: &mut MemoryStore, job: &Job) -> Result<u32, Fail> {
+    let mut work = store.begin()?;
+    work.put_job(job)?;
+    let meta = work.meta()?;
+    work.commit()?;
+    Ok(meta.next_job)
+}
+
+#[test]
+fn put_job_takes_the_next_number(rt: HostRuntime) -> Result<(), Fail> {
+    let mut store = Store::new_in_memory(rt.alloc())?;
+    let job = job_of(rt.alloc(), 1)?.ok_or("no job")?;
+    let next = next_after(&mut store, &job)?;
+    assert_eq!(rt; next, 2);
     Ok(())
 }
 
@@ -147,9 +196,7 @@ fn refused_call_refuses_the_commit(rt: HostRuntime) -> Result<(), Fail> {
 fn unlawful_rows_are_strange(rt: HostRuntime) -> Result<(), Fail> {
     let mut store = Store::new_in_memory(rt.alloc())?;
     let job = job_of(rt.alloc(), 1)?.ok_or("no job")?;
-    let mut work = store.begin()?;
-    work.put_job(&job)?;
-    work.commit()?;
+    assert!(rt; put(rt.alloc(), &mut store, &job)?);
     store.conn.execute("UPDATE jobs SET npages = 10000", &[])?;
     assert!(rt; matches!(store.job(1), Err(StoreFault::Strange)));
     store

@@ -1,7 +1,11 @@
 //! Changes that are made together.
 
+ghost use Rattle.std.specs.Prelude.{◌≡◌, false, IsTrue, IfErr, OnOk, OnErr};
+ghost use Rattle.sqlite.specs.Held.{state};
+ghost use Rattle.fax_store.specs.Work.{Commits, Undoes};
+
 use crate::fault::StoreFault;
-use crate::store::Store;
+use crate::store::{COMMIT, Store};
 use sqlite::Alter;
 
 /// Changes to the tables that are made together by `commit`, or not at all: where it is dropped
@@ -13,7 +17,11 @@ pub struct Work<'s, S: Alter> {
 }
 
 impl<'s, S: Alter> Work<'s, S> {
-    pub(crate) fn new(store: &'s mut Store<S>) -> Work<'s, S> {
+    pub(crate) fn new(store: &'s mut Store<S>) -> Work<'s, S>
+        ensures same_reference { result.store.ghost_name ≡ store.entry.ghost_name }
+        ensures same { result.store.now ≡ store.old }
+        ensures goes_on { result.failed ≡ false }
+    {
         Work {
             store,
             failed: false,
@@ -25,19 +33,29 @@ impl<'s, S: Alter> Work<'s, S> {
     /// # Errors
     ///
     /// `Unavailable`; the tables are as they were at `begin`.
-    pub fn commit(self) -> Result<(), StoreFault> {
+    pub fn commit(self) -> Result<(), StoreFault>
+        ensures committed { OnOk result (Commits (state S.Store self.entry.store.now.conn)
+            self.entry.failed (state S.Store self.exit.0.now.conn)) }
+        ensures undone { OnErr result (Undoes (state S.Store self.entry.store.now.conn)
+            self.entry.failed (state S.Store self.exit.0.now.conn)) }
+        ensures refused { IsTrue self.entry.failed → result ≡ Err StoreFault.Unavailable }
+        ensures cause { IfErr result (λ fault. fault ≡ StoreFault.Unavailable) }
+    {
         let Work { store, failed } = self;
         if failed {
             store.roll_back();
             return Err(StoreFault::Unavailable);
         }
-        store.conn.execute("COMMIT", &[])?;
+        store.conn.execute(COMMIT, &[])?;
         Ok(())
     }
 }
 
 impl<S: Alter> Drop for Work<'_, S> {
-    fn drop(self) {
+    fn drop(self)
+        ensures { Undoes (state S.Store self.entry.store.now.conn) self.entry.failed
+            (state S.Store self.exit.0.now.conn) }
+    {
         let Work { store, failed: _ } = self;
         store.roll_back();
     }

@@ -2,8 +2,8 @@ use Rattle.std.proofs.Common.{◌≡◌, ℕ, ◌-◌, ◌<◌, List, ◌++◌, 
 use Rattle.std.proofs.lemmas.List.{take-append-drop, take_rest}
 use Rattle.httparse.specs.Grammar.{RequestHead, ReadsRequest, print_request}
 use Rattle.httparse.proofs.GrammarLemmas.{request_unique}
-use Rattle.faxqd.specs.declared.message.Broken.TheVariants.{BadHttp, TooLarge}
-use Rattle.faxqd.specs.Message.{BeginsWith, IsBad, IsHead, IsTooLarge, fields_of, framed}
+use Rattle.faxqd.specs.declared.message.Broken.TheVariants.{BadHttp}
+use Rattle.faxqd.specs.Message.{IsBad, IsHead, fields_of, framed}
 
 -- the head that begins the input is the only one
 same_head : (input : List ℕ) (head other : RequestHead) (rest more : List ℕ) → ReadsRequest input head rest

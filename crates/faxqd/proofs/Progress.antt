@@ -1,6 +1,5 @@
 -- How far a conversation has come, and how it goes on and ends.
-use Rattle.std.proofs.Common.{◌≡◌, ◌⊎◌, ℕ, ◌+◌, ◌<◌, List, [], ◌∷◌, ◌++◌, length, Bool, false, not, codes, Option, Result, Err, refl, ap, subst, sym, ◌∙◌, inl, inr, append-nil, arith, length-append}
-use Rattle.std.specs.List.{flat_map}
+use Rattle.std.proofs.Common.{◌≡◌, ℕ, ◌+◌, ◌<◌, List, [], ◌∷◌, ◌++◌, length, Bool, false, not, codes, Option, Result, Err, refl, ap, subst, sym, ◌∙◌, inl, inr, append-nil, arith, length-append}
 use Rattle.std.specs.Str.{bytes_eq}
 use Rattle.std.specs.Io.KnownBytes.{Appends}
 use Rattle.std.proofs.lemmas.Grind.{flat_map-append}
@@ -10,7 +9,7 @@ use Rattle.faxqd.specs.declared.conversation.End.TheVariants.{Closed, Bad, Bound
 use Rattle.faxqd.specs.declared.message.Broken.{Broken}
 use Rattle.faxqd.specs.declared.message.Broken.TheVariants.{BadHttp, TooLarge}
 use Rattle.faxqd.specs.declared.message.Message.{Message}
-use Rattle.faxqd.specs.Conversation.{Turn, Reads, Answers, Converses, Fails, IsCut, IsFailure, RefusesRest, counted, failure_of, spelled, spelled_turns, wants_body}
+use Rattle.faxqd.specs.Conversation.{Turn, Reads, Answers, Converses, Fails, IsCut, RefusesRest, counted, failure_of, spelled, spelled_turns, wants_body}
 use Rattle.faxqd.specs.Cut.{ArePartsOf, HoldsMessage}
 use Rattle.faxqd.specs.Message.{BeginsWith, IsBad, IsTooLarge}
 use Rattle.faxqd.specs.Response.{Response}

@@ -1,4 +1,4 @@
-use Rattle.std.proofs.Common.{ℕ, ◌<◌, length, arith}
+use Rattle.std.proofs.Common.{◌<◌, length, arith}
 use Rattle.std.proofs.lemmas.Bool.Decides.{nat_tests}
 use Rattle.faxqd.proofs.Progress.{ends_bad, ends_cut, fails_by, progress_next}
 use Rattle.faxqd.proofs.conversation.converse.Goals as goal

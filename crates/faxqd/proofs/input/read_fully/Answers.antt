@@ -1,4 +1,3 @@
-use Rattle.std.proofs.Common.{arith}
 use Rattle.faxqd.proofs.InputLemmas.{consumes_next, filled_within}
 use Rattle.faxqd.proofs.input.read_fully.Goals as goal
 

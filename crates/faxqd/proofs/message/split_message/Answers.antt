@@ -1,8 +1,8 @@
-use Rattle.std.proofs.Common.{◌≡◌, rules, ap, sym, ◌∙◌, ◌++◌, Err, Ok, length, codes, refl, arith, length-drop, length-take}
+use Rattle.std.proofs.Common.{◌≡◌, rules, ap, sym, ◌∙◌, ◌++◌, Err, Ok, length, codes, refl, length-drop, length-take}
 use Rattle.faxqd.specs.declared.message.Broken.TheVariants.{BadHttp}
 use Rattle.httparse.specs.Grammar.{print_request}
 use Rattle.faxqd.specs.Cut.{HoldsHead}
-use Rattle.faxqd.specs.Message.{framed, fields_of, sole, values_of}
+use Rattle.faxqd.specs.Message.{framed, sole, values_of}
 use Rattle.faxqd.proofs.MessageLemmas.{bad_framing, body_and_rest, short_body}
 use Rattle.faxqd.proofs.message.split_message.Goals as goal
 

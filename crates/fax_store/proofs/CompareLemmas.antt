@@ -1,0 +1,56 @@
+-- When `=` of SQL holds between numbers and between texts, and what a column of their type makes of them.
+use Rattle.std.proofs.Common.{◌≡◌, ℕ, ℤ, pos, List, ◌∷◌, Bool, true, false, cond, Some, refl, sym, ap, ◌∙◌, arith}
+use Rattle.std.specs.Ordering.{is_eq, int_cmp}
+use Rattle.std.specs.Str.{bytes_eq}
+use Rattle.std.proofs.lemmas.Map.Text.{is_eq-slice_cmp}
+use Rattle.std.proofs.lemmas.Bool.Decides.{nat_tests}
+use Rattle.sqlite.specs.Collation.TheVariants.{Binary}
+use Rattle.sqlite.specs.Kind.TheVariants as kind
+use Rattle.sqlite.specs.Cast.{cast}
+use Rattle.sqlite.specs.declared.types.Value.{Value}
+use Rattle.sqlite.specs.declared.types.Value.TheVariants.{Null, Int, Text}
+use Rattle.sqlite_sql.specs.declared.ops.BinaryOp.TheVariants.{Compare}
+use Rattle.sqlite_sql.specs.declared.ops.CompareOp.TheVariants.{Eq}
+use Rattle.sqlite_sql.specs.Ops.{binary, unary, is_true, is_null, from_truth}
+use Rattle.sqlite_value.specs.Order.{value_cmp}
+use Rattle.sqlite_value.proofs.OrderLemmas.{value_cmp-Int, value_cmp-Text}
+
+truth_of : (t : Bool) → is_true (from_truth (Some t)) ≡ t
+truth_of true = refl
+truth_of false = refl
+
+-- the test of a = b
+abbrev pub are_equal : Value → Value → Bool
+are_equal a b = is_true (binary (Compare Eq Binary) a b)
+
+equal_by : (a b : Value) → is_null a ≡ false → is_null b ≡ false → are_equal a b ≡ is_eq (value_cmp a b)
+unfolding binary
+equal_by a b p q = rw (p, q) (truth_of (is_eq (value_cmp a b)))
+
+pub equal_numbers : (a b : ℕ) → are_equal (Int (pos a)) (Int (pos b)) ≡ is_eq (int_cmp (pos a) (pos b))
+equal_numbers a b = equal_by (Int (pos a)) (Int (pos b)) refl refl ∙ ap is_eq (value_cmp-Int (pos a) (pos b))
+
+pub equal_texts : (s t : List ℕ) → are_equal (Text s) (Text t) ≡ bytes_eq s t
+equal_texts s t = equal_by (Text s) (Text t) refl refl ∙ ap is_eq (value_cmp-Text s t) ∙ is_eq-slice_cmp s t
+
+pub same_number : (a b : ℕ) → are_equal (Int (pos a)) (Int (pos b)) ≡ true → a ≡ b
+same_number a b h = let e = sym (equal_numbers a b) ∙ h in grind (arith, nat_tests)
+
+pub number_same : (a : ℕ) → are_equal (Int (pos a)) (Int (pos a)) ≡ true
+number_same a = equal_numbers a a ∙ grind (arith, nat_tests)
+
+either : (b : Bool) (x : Value) → cond b x x ≡ x
+either true x = refl
+either false x = refl
+
+-- a column keeps an integer, a text or a blob of its type
+pub cast_int : (n : ℤ) → cast kind.Integer (Int n) ≡ Int n
+unfolding unary
+cast_int n = either _ (Int n)
+
+pub cast_null : cast kind.Integer Null ≡ Null
+unfolding unary
+cast_null = either _ Null
+
+pub same_row : {X : Type 0} {a b : X} {xs ys : List X} → a ≡ b → xs ≡ ys → a ∷ xs ≡ b ∷ ys
+same_row p q = cc

@@ -1,0 +1,159 @@
+-- What the texts on the kept replies read.
+use Rattle.std.proofs.Common.{◌≡◌, inl, inr, ℕ, suc, List, [], ◌∷◌, ◌++◌, map, filter, drop, All, arith, Bool, true, false, ◌&&◌, Option, Some, None, MatchOption, IsTrue, refl, sym, ap, subst, ◌∙◌}
+use Rattle.std.proofs.lemmas.Bool.{both_ways}
+use Rattle.std.proofs.lemmas.Slice.Eq.{bytes_eq-Decides}
+use Rattle.std.specs.List.Sorted.{IsPermutation}
+use Rattle.sqlite.specs.Order.{Row}
+use Rattle.sqlite.specs.State.{State, IsUnchanged}
+use Rattle.sqlite.specs.declared.types.Value.TheVariants.{Null, Int, Text, Blob}
+use Rattle.sqlite.specs.Listing.{understood}
+use Rattle.sqlite.proofs.Callers.{IsPlain, runs_as, reads_as}
+use Rattle.sqlite_rules.specs.Lists.{Has}
+use Rattle.fax_store.specs.declared.replies.TheConstants.{SELECT_REPLY, INSERT_REPLY}
+use Rattle.fax_store.specs.Schema as schema
+use Rattle.fax_store.specs.Schema.{six_tables}
+use Rattle.fax_store.specs.Queue.{Queue, Entry}
+use Rattle.fax_store.specs.Row.{number, entry_columns}
+use Rattle.fax_store.specs.Kept.{IsOf, entry_shown}
+use Rattle.fax_store.specs.Tables.{TablesMean, IsLawfulEntry, IsByRowid}
+use Rattle.fax_store.specs.Store.{FindsRow, HasRun}
+use Rattle.fax_store.proofs.CompareLemmas.{are_equal, equal_texts, same_number, number_same, same_row, cast_int, cast_null}
+use Rattle.fax_store.proofs.SelectLemmas.{passes, show, answers, shows, shows_none}
+use Rattle.fax_store.proofs.StatementLemmas.{shown_keeps}
+use Rattle.fax_store.proofs.StatementTexts.{reply_tests, reply_project, reply_terms, select_reply, insert_reply}
+use Rattle.fax_store.proofs.WriteLemmas.{KeepsOthers, InsertsRow, inserts}
+use Rattle.fax_store.proofs.MetaLemmas.{unreferred}
+use Rattle.fax_store.proofs.AppendLemmas.{appended}
+use Rattle.std.proofs.lemmas.List.{map-append}
+use Rattle.std.proofs.lemmas.List.Elements.{All-append, All-cons}
+use Rattle.sqlite_trees.proofs.TreeLemmas.{IsTable-put_row, all-put_row}
+use Rattle.sqlite.specs.Tree.{rowid}
+use Rattle.sqlite.specs.View.{is_int}
+use Rattle.sqlite.specs.Cast.{cast_row}
+use Rattle.sqlite.specs.Edit.{with_rowid, next_rowid}
+use Rattle.sqlite.specs.Rowids.TheVariants.{Chosen}
+
+both_true : (a b : Bool) → (a && b) ≡ true → (a ≡ true) × (b ≡ true)
+both_true true b h = (refl, h)
+both_true false b h = absurd cc
+
+-- rows and entries that stand for each other
+entry_of : (rows : List Row) (k : List Entry) → map (drop 1) rows ≡ map entry_columns k → (r : Row) → Has rows r → (e : Entry) × Has k e × (drop 1 r ≡ entry_columns e)
+entry_of [] k h r has = absurd has
+entry_of (x ∷ xs) [] h r has = absurd cc
+entry_of (x ∷ xs) (e ∷ es) h r (inl is) = (e, inl refl, ap (drop 1) is ∙ first h)
+  where
+    first : {X : Type 0} {a b : X} {xs ys : List X} → a ∷ xs ≡ b ∷ ys → a ≡ b
+    first h = cc
+entry_of (x ∷ xs) (e ∷ es) h r (inr more) = let it = entry_of xs es (rest h) r more in (it.0, inr it.1, it.2)
+  where
+    rest : {X : Type 0} {a b : X} {xs ys : List X} → a ∷ xs ≡ b ∷ ys → xs ≡ ys
+    rest h = cc
+
+row_of : (rows : List Row) (k : List Entry) → map (drop 1) rows ≡ map entry_columns k → (e : Entry) → Has k e → (r : Row) × Has rows r × (drop 1 r ≡ entry_columns e)
+row_of rows [] h e has = absurd has
+row_of [] (x ∷ xs) h e has = absurd cc
+row_of (r ∷ rs) (x ∷ xs) h e (inl is) = (r, inl refl, first h ∙ ap entry_columns (sym is))
+  where
+    first : {X : Type 0} {a b : X} {xs ys : List X} → a ∷ xs ≡ b ∷ ys → a ≡ b
+    first h = cc
+row_of (r ∷ rs) (x ∷ xs) h e (inr more) = let it = row_of rs xs (rest h) e more in (it.0, inr it.1, it.2)
+  where
+    rest : {X : Type 0} {a b : X} {xs ys : List X} → a ∷ xs ≡ b ∷ ys → xs ≡ ys
+    rest h = cc
+
+module _ (client : List ℕ) (n : ℕ) where
+  abbrev pub params : Row
+  params = Text client ∷ number n ∷ []
+
+  abbrev is_asked : Row → Bool
+  is_asked r = passes 8 reply_tests reply_project params r
+
+  -- a row that passes is that of the entry asked for, and shows it
+  is_of : (r : Row) (e : Entry) → drop 1 r ≡ entry_columns e → is_asked r ≡ true → IsOf client n e × (show 8 reply_tests reply_project params r ≡ entry_shown e)
+  is_of [] e h p = absurd cc
+  is_of (x ∷ rest) e h p =
+      let q : (are_equal (Text e.client) (Text client) && (are_equal (number e.number) (number n) && true)) ≡ true = subst (λ cols. is_asked (x ∷ cols) ≡ true) h p in
+      let both = both_true _ _ q in
+      let more = both_true _ _ both.1 in (
+        record { client_is = (bytes_eq-Decides e.client client).0 (sym (equal_texts e.client client) ∙ both.0); number_is = same_number e.number n more.0 },
+        ap (λ cols. show 8 reply_tests reply_project params (x ∷ cols)) h,
+      )
+
+  -- and the row of that entry passes
+  asked_for : (r : Row) (e : Entry) → drop 1 r ≡ entry_columns e → IsOf client n e → is_asked r ≡ true
+  asked_for [] e h of = absurd cc
+  asked_for (x ∷ rest) e h of =
+      let texts : are_equal (Text e.client) (Text client) ≡ true = equal_texts e.client client ∙ (bytes_eq-Decides e.client client).1 of.client_is in
+      let numbers : are_equal (number e.number) (number n) ≡ true = rw of.number_is (number_same n) in
+      let q : (are_equal (Text e.client) (Text client) && (are_equal (number e.number) (number n) && true)) ≡ true = rw (texts, numbers) refl in
+      subst (λ cols. is_asked (x ∷ cols) ≡ true) (sym h) q
+
+  module _ (old new : State) (m : Queue) (k : List Entry) (means : TablesMean old.now m k) where
+    pub reply_found : (found : Option Row) → FindsRow SELECT_REPLY.now params old new found
+        → MatchOption found ((e : Entry) → Has k e → ¬ IsOf client n e) (λ row. (e : Entry) × Has k e × IsOf client n e × (row ≡ entry_shown e))
+    reply_found found h = tells found h.2
+      where
+        same : IsPermutation (map (show 8 reply_tests reply_project params) (filter (passes 8 reply_tests reply_project params) (old.now.trees 8))) h.0
+        same = answers 8 reply_tests reply_project params old.now (old.now.trees 8) refl [] h.0 (reads_as SELECT_REPLY.now params old new six_tables means.schema _ select_reply.command select_reply.plain select_reply.unlisted h.0 h.1)
+
+        tells : (found : Option Row) → MatchOption found (h.0 ≡ []) (Has h.0) → MatchOption found ((e : Entry) → Has k e → ¬ IsOf client n e) (λ row. (e : Entry) × Has k e × IsOf client n e × (row ≡ entry_shown e))
+        tells None empty = λ e has of.
+            let it = row_of (old.now.trees 8) k means.replies e has in
+            both_ways _ (shows_none 8 reply_tests reply_project params old.now (old.now.trees 8) refl h.0 same empty it.0 it.1) (asked_for it.0 e it.2 of)
+        tells (Some row) has =
+            let shown = shows 8 reply_tests reply_project params old.now (old.now.trees 8) refl h.0 row same has in
+            let it = entry_of (old.now.trees 8) k means.replies shown.0 shown.1 in
+            let of = is_of shown.0 it.0 it.2 shown.2 in
+            (it.0, it.1, of.0, shown.3 ∙ of.1)
+
+    pub reply_unchanged : (found : Option Row) → FindsRow SELECT_REPLY.now params old new found → IsUnchanged old new
+    reply_unchanged found h = shown_keeps old new SELECT_REPLY.now params (subst (λ s. IsPlain (understood s SELECT_REPLY.now)) (sym means.schema) select_reply.plain) h.0 h.1
+
+pub lawful_of : (k : List Entry) (e : Entry) → All IsLawfulEntry k → Has k e → IsLawfulEntry e
+lawful_of [] e all has = absurd has
+lawful_of (x ∷ xs) e all (inl is) = subst IsLawfulEntry (sym is) (all 0 x (omega arith))
+lawful_of (x ∷ xs) e all (inr more) = lawful_of xs e (λ i d low. all (suc i) d (omega arith)) more
+
+-- the row of one more entry
+stored_reply : (e : Entry) → cast_row schema.replies (Null ∷ entry_columns e) ≡ Null ∷ entry_columns e
+stored_reply e = same_row cast_null (same_row refl (same_row (cast_int _) (same_row refl (same_row (cast_int _) refl))))
+
+all_more : (e : Entry) (k : List Entry) → IsLawfulEntry e → All IsLawfulEntry k → All IsLawfulEntry (k ++ e ∷ [])
+all_more e k lawful all = All-append IsLawfulEntry k (e ∷ []) all (All-cons IsLawfulEntry e [] lawful (λ i d low. absurd (omega arith)))
+
+module _ (old new : State) (m : Queue) (k : List Entry) (means : TablesMean old.now m k) (e : Entry) where
+  abbrev pub reply_params : Row
+  reply_params = Text e.client ∷ number e.number ∷ Blob e.said ∷ number e.status ∷ Blob e.body ∷ []
+
+  abbrev new_reply : Row
+  new_reply = Int (next_rowid (old.now.trees 8)) ∷ entry_columns e
+
+  inserted : HasRun INSERT_REPLY.now reply_params old new → InsertsRow six_tables 8 old new new_reply
+  inserted h =
+      let ran = runs_as INSERT_REPLY.now reply_params old new six_tables means.schema _ insert_reply.is insert_reply.plain h.0 h.1 in
+      inserts six_tables unreferred schema.replies.name 8 schema.replies.columns schema.replies.key schema.replies.primary schema.replies.uniques schema.replies.orders schema.replies.checks 4 refl old new means.schema reply_params _ h.0
+      reply_terms 6 (Null ∷ entry_columns e) new_reply refl (ap (with_rowid Chosen (old.now.trees 8)) (stored_reply e)) ran
+
+  pub reply_kept : IsLawfulEntry e → HasRun INSERT_REPLY.now reply_params old new → TablesMean new.now m (k ++ e ∷ []) × KeepsOthers six_tables 8 old new
+  reply_kept lawful h =
+      let done = inserted h in
+      let others = done.keeps.others in
+      let order = means.ordered in (
+        record {
+          schema = done.keeps.schema_is;
+          sound = done.keeps.sound;
+          grants = others.1.0 (λ e. absurd (omega arith)) ∙ means.grants;
+          holds = ap (map (drop 1)) (others.1.1.0 (λ e. absurd (omega arith))) ∙ means.holds;
+          down = ap (map (drop 1)) (others.1.1.1.0 (λ e. absurd (omega arith))) ∙ means.down;
+          replies = ap (map (drop 1)) done.rows ∙ appended (old.now.trees 8) (entry_columns e) order.integers order.rise ∙ ap (λ xs. xs ++ entry_columns e ∷ []) means.replies ∙ sym (map-append entry_columns k (e ∷ []));
+          ordered = subst IsByRowid (sym done.rows) (record {
+            rise = IsTable-put_row new_reply (old.now.trees 8) order.rise;
+            integers = all-put_row (λ r. IsTrue (is_int (rowid r))) new_reply (old.now.trees 8) refl order.integers;
+          });
+          meta = others.1.1.1.1.1.0 (λ e. absurd (omega arith)) ∙ means.meta;
+          lawful_meta = means.lawful_meta;
+          lawful_replies = all_more e k lawful means.lawful_replies;
+        },
+        done.keeps,
+      )

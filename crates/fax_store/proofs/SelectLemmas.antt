@@ -1,0 +1,96 @@
+-- What a query of one table shows: of each row that passes its tests, some columns.
+use Rattle.std.proofs.Common.{◌≡◌, inl, inr, ℕ, pos, negsuc, List, [], ◌∷◌, suc, map, filter, flat_map, length, Bool, true, false, cond, Option, Some, None, MatchOption, All, refl, sym, ap, subst, ◌∙◌, arith}
+use Rattle.std.specs.List.{list_all}
+use Rattle.std.specs.List.Sorted.{IsPermutation}
+use Rattle.std.proofs.lemmas.Bool.{cases_Bool}
+use Rattle.std.proofs.lemmas.List.Elements.{All-cons}
+use Rattle.std.proofs.lemmas.List.Sorted.{IsPermutation-map, length_permutation, All-permutation}
+use Rattle.sqlite.specs.Order.{Row}
+use Rattle.sqlite.specs.Effect.{Database, Reads}
+use Rattle.sqlite.specs.Command.TheVariants.{Select}
+use Rattle.sqlite.specs.Query.{Query, inner, end, IsAnswer, output, Output}
+use Rattle.sqlite.specs.Program.{overlay}
+use Rattle.sqlite.proofs.Callers.{one_permutation}
+use Rattle.sqlite.specs.declared.types.Value.TheVariants.{Null, Int}
+use Rattle.sqlite_sql.specs.Term.{Term, lit, eval_all, holds}
+use Rattle.sqlite_trees.proofs.ListLemmas.{map-map}
+use Rattle.sqlite_rules.specs.Lists.{Has}
+
+-- the rows of one table for which each test holds, with these terms of each
+abbrev pub rows_where : ℕ → List Term → List Term → Query
+rows_where tree filter project = record {
+  from = inner tree end;
+  filter = filter;
+  group = None;
+  project = project;
+  distinct = false;
+  collations = [];
+  order = [];
+  limit = lit (Int (negsuc 0));
+  offset = lit (Int (pos 0));
+}
+
+-- a function of the elements that pass a test
+each_passing : {A B : Type 0} (p : A → Bool) (f : A → B) (xs : List A) → flat_map (λ x. cond (p x) (f x ∷ []) []) xs ≡ map f (filter p xs)
+each_passing p f [] = refl
+each_passing p f (x ∷ xs) = elim (cases_Bool (p x)) [ inl holds_here ↦ rw (holds_here, each_passing p f xs) refl | inr off ↦ rw (off, each_passing p f xs) refl ]
+
+module _ (tree : ℕ) (tests project : List Term) (params : Row) where
+  abbrev pub passes : Row → Bool
+  passes r = list_all (holds (params ∷ r ∷ [])) tests
+
+  abbrev pub show : Row → Row
+  show r = eval_all project (params ∷ r ∷ [])
+
+  -- the one row of a table, which passes, is shown alone
+  pub only_row : (row : Row) (rows : List Row) → passes row ≡ true → IsPermutation (map show (filter passes (row ∷ []))) rows → rows ≡ show row ∷ []
+  only_row row rows on same = one_permutation (show row) rows (rw on at same)
+
+  module _ (db : Database) (table : List Row) (is : overlay db.trees [] tree ≡ table) where
+    pub answers : (names : List (List ℕ)) (rows : List Row) → Reads (Select (record { lets = []; body = rows_where tree tests project }) names) db params rows → IsPermutation (map show (filter passes table)) rows
+    answers names rows h =
+        let query = rows_where tree tests project in
+        let a : IsAnswer query (overlay db.trees []) params rows = h.answer Null in
+        let env = λ (r : Row). params ∷ r ∷ [] in
+        let staged = a.grouped ∙ ap (flat_map (λ r. cond (passes r) (env r ∷ []) [])) is ∙ each_passing passes env table in
+        let kept : map (λ (o : Output). o.1) a.kept ≡ map show (filter passes table) =
+        ap (map (λ (o : Output). o.1)) (a.distinct ∙ ap (map (output query)) staged) ∙ map-map _ _ _ ∙ map-map _ _ _ in
+        let shown : map (λ (o : Output). o.1) a.ordered ≡ rows = sym a.shown in
+        subst (IsPermutation (map show (filter passes table))) shown (subst (λ xs. IsPermutation xs (map (λ (o : Output). o.1) a.ordered)) kept (IsPermutation-map (λ (o : Output). o.1) a.kept a.ordered a.same))
+
+    -- each row of the answer is shown of a row of the table that passes
+    abbrev pub IsShown : Row → Type 0
+    IsShown x = (r : Row) × Has table r × (passes r ≡ true) × (x ≡ show r)
+
+    all_shown : (xs : List Row) → ((r : Row) → Has xs r → Has table r) → All IsShown (map show (filter passes xs))
+    all_shown [] within = λ i d low. absurd (omega arith)
+    all_shown (x ∷ xs) within =
+        let rest = all_shown xs (λ r has. within r (inr has)) in
+        elim (cases_Bool (passes x)) [
+          | inl holds_here ↦ rw holds_here (All-cons IsShown (show x) (map show (filter passes xs)) (x, within x (inl refl), holds_here, refl) rest)
+          | inr off ↦ rw off rest
+        ]
+
+    has_all : (P : Row → Type 0) (xs : List Row) (x : Row) → All P xs → Has xs x → P x
+    has_all P [] x all has = absurd has
+    has_all P (y ∷ ys) x all (inl is) = subst P (sym is) (all 0 y (omega arith))
+    has_all P (y ∷ ys) x all (inr has) = has_all P ys x (λ i d low. all (suc i) d (omega arith)) has
+
+    pub shows : (rows : List Row) (x : Row) → IsPermutation (map show (filter passes table)) rows → Has rows x → IsShown x
+    shows rows x same has = has_all IsShown rows x (All-permutation IsShown (map show (filter passes table)) rows same (all_shown table (λ r it. it))) has
+
+    -- an answer with no row means that none passes
+    none_left : (xs : List Row) → length (map show (filter passes xs)) ≡ 0 → (r : Row) → Has xs r → passes r ≡ false
+    none_left [] empty r has = absurd has
+    none_left (x ∷ xs) empty r has = elim (cases_Bool (passes x)) [
+      | inl holds_here ↦ absurd (omega (arith, rw holds_here at empty))
+      | inr off ↦ (elim has [ inl is ↦ rw is off | inr more ↦ none_left xs (rw off at empty) r more ])
+    ]
+
+    pub shows_none : (rows : List Row) → IsPermutation (map show (filter passes table)) rows → rows ≡ [] → (r : Row) → Has table r → passes r ≡ false
+    shows_none rows same empty = none_left table (sym (length_permutation (map show (filter passes table)) rows same) ∙ ap length empty)
+
+-- what is found in an answer of one row
+pub only_found : (x : Row) (rows : List Row) (found : Option Row) → rows ≡ x ∷ [] → MatchOption found (rows ≡ []) (Has rows) → found ≡ Some x
+only_found x rows None one none = absurd (let e = none in let f = one in cc)
+only_found x rows (Some y) one has = elim (rw one at has) [ inl is ↦ ap Some is | inr none ↦ absurd none ]

@@ -1,0 +1,142 @@
+-- What a work means across its calls.
+use Rattle.std.proofs.Common.{◌≡◌, inl, inr, ℕ, List, true, false, Ok, Err, Result, MatchResult, OnOk, OnErr, IfErr, IsErrAnd, is_err, if◌then◌else◌, ap, refl, sym, ◌∙◌}
+use Rattle.std.specs.Prelude.{⊤}
+use Rattle.sqlite.specs.Order.{Row}
+use Rattle.sqlite.specs.State.{State, IsUnchanged, IsRolledBack}
+use Rattle.fax_store.specs.declared.fault.StoreFault.{StoreFault}
+use Rattle.fax_store.specs.declared.fault.StoreFault.TheVariants.{Unavailable}
+use Rattle.fax_store.specs.Fault.{OrUnavailable}
+use Rattle.fax_store.specs.Queue.{Queue, Entry}
+use Rattle.fax_store.specs.Tables.{TablesMean}
+use Rattle.fax_store.specs.Store.{Serves, IsAtRest, Means, MeansNow, Stays, LeavesCommit, Answers, HasRun}
+use Rattle.fax_store.specs.Work.{IsUnderWay, Works, Changes, Keeps, AnswersIn, Steps, Moves}
+use Rattle.fax_store.specs.Schema.{six_tables}
+use Rattle.fax_store.proofs.StoreLemmas.{same_tables}
+use Rattle.fax_store.proofs.WriteLemmas.{KeepsOthers}
+
+pub answers_same : {A : Type 0} (old new : State) (P : A → Type 0) (result : Result A StoreFault) → OrUnavailable result P → IsUnchanged old new → Answers old new result P
+answers_same old new P (Ok a) h same = (h, same)
+answers_same old new P (Err e) h same = (h, inl same)
+
+pub answers_refused : {A : Type 0} (old new : State) (P : A → Type 0) (result : Result A StoreFault) → MatchResult result (λ _. ⊥) (λ fault. fault ≡ Unavailable) → LeavesCommit old new → Answers old new result P
+answers_refused old new P (Ok a) h left = absurd h
+answers_refused old new P (Err e) h left = (h, left)
+
+pub err_is : {A : Type 0} (result : Result A StoreFault) (fault : StoreFault) → IsErrAnd result (λ e. e ≡ fault) → fault ≡ Unavailable → MatchResult result (λ _. ⊥) (λ e. e ≡ Unavailable)
+err_is (Ok a) fault h is = absurd h
+err_is (Err e) fault h is = h ∙ is
+
+pub answer_of : {A : Type 0} (old new : State) (P : A → Type 0) (result : Result A StoreFault) → Answers old new result P → OrUnavailable result P
+answer_of old new P (Ok a) h = h.0
+answer_of old new P (Err e) h = h.0
+
+module _ (old new : State) (served : Serves new → Serves old) where
+  at_rest_unchanged : (m : Queue) (k : List Entry) → IsUnchanged old new → IsAtRest old m k → IsAtRest new m k
+  at_rest_unchanged m k same was =
+      record { autocommit = same.0.mode ∙ was.autocommit; settled = same.0.now_is ∙ was.settled ∙ sym same.0.committed_is; means = same_tables m k same.0.now_is was.means }
+
+  at_rest_undone : (m : Queue) (k : List Entry) → Serves new → IsRolledBack old new → IsAtRest old m k → IsAtRest new m k
+  at_rest_undone m k s undone was =
+      let back = undone.undone s.is_open in
+      record { autocommit = undone.autocommit; settled = back.0 ∙ sym back.1; means = same_tables m k (back.0 ∙ sym was.settled) was.means }
+
+  rests_after : (m : Queue) (k : List Entry) → Serves new → LeavesCommit old new → IsAtRest old m k → IsAtRest new m k
+  rests_after m k s (inl same) was = at_rest_unchanged m k same was
+  rests_after m k s (inr undone) was = at_rest_undone m k s undone was
+
+  answered : {A : Type 0} (P : A → Type 0) (result : Result A StoreFault) → Answers old new result P → LeavesCommit old new
+  answered P (Ok a) h = inl h.1
+  answered P (Err e) h = h.1
+
+  -- what a call of the store that only reads tells
+  module _ {A : Type 0} (P : Queue → List Entry → A → Type 0) (result : Result A StoreFault) (answers : (m : Queue) (k : List Entry) → MeansNow old m k → Serves new → Answers old new result (P m k)) where
+    pub stays_by : Stays old new
+    stays_by m k means s = rests_after m k s (answered (P m k) result (answers m k (λ was. (means was).means) s)) (means (served s))
+
+    pub found_by : (m : Queue) (k : List Entry) → Means old m k → Serves new → OrUnavailable result (P m k)
+    found_by m k means s = answer_of old new (P m k) result (answers m k (λ was. (means was).means) s)
+
+    -- and the same inside a work
+    works_now : (m₀ m : Queue) (k₀ k : List Entry) → Works old false m₀ k₀ m k → MeansNow old m k
+    works_now m₀ m k₀ k works was = ((works was).goes_on refl).means
+
+    pub keeps_by : Keeps old false new (is_err result)
+    keeps_by m₀ m k₀ k works s = kept result (answers m k (works_now m₀ m k₀ k works) s)
+      where
+        was : IsUnderWay old false m₀ k₀ m k
+        was = works (served s)
+
+        kept : (r : Result A StoreFault) → Answers old new r (P m k) → IsUnderWay new (is_err r) m₀ k₀ m k
+        kept (Ok a) h =
+            let same = h.1.0 in
+            let inside = was.goes_on refl in record {
+              began = same_tables m₀ k₀ same.committed_is was.began;
+              goes_on = λ _. record { inside = same.mode ∙ inside.inside; means = same_tables m k same.now_is inside.means };
+            }
+        kept (Err e) h = record { began = committed h.1; goes_on = λ on. absurd cc }
+          where
+            committed : LeavesCommit old new → TablesMean new.committed m₀ k₀
+            committed (inl same) = same_tables m₀ k₀ same.0.committed_is was.began
+            committed (inr undone) = same_tables m₀ k₀ (undone.undone s.is_open).1 was.began
+
+    pub found_in : AnswersIn old false new result P
+    found_in m₀ m k₀ k works s = answer_of old new (P m k) result (answers m k (works_now m₀ m k₀ k works) s)
+
+    -- the same, in the words of a step
+    pub goes_on : (m₀ m : Queue) (k₀ k : List Entry) → Works old false m₀ k₀ m k → Serves new → MatchResult result (λ a. P m k a × IsUnderWay new false m₀ k₀ m k) (λ fault. (fault ≡ Unavailable) × TablesMean new.committed m₀ k₀)
+    goes_on m₀ m k₀ k works s = stepped result (answers m k (works_now m₀ m k₀ k works) s) (keeps_by m₀ m k₀ k works s)
+      where
+        stepped : (r : Result A StoreFault) → Answers old new r (P m k) → IsUnderWay new (is_err r) m₀ k₀ m k → MatchResult r (λ a. P m k a × IsUnderWay new false m₀ k₀ m k) (λ fault. (fault ≡ Unavailable) × TablesMean new.committed m₀ k₀)
+        stepped (Ok a) h after = (h.0, after)
+        stepped (Err e) h after = (h.0, after.began)
+
+-- a step of a work that is a call of it
+module _ (old new : State) {A : Type 0} (result : Result A StoreFault) (f : Queue → Queue) (g : List Entry → List Entry)
+    (steps : (m₀ m : Queue) (k₀ k : List Entry) → Works old false m₀ k₀ m k → Serves new → Steps new result m₀ k₀ (f m) (g k)) where
+  pub changes_by : Changes old false new (is_err result) f g
+  changes_by m₀ m k₀ k works s = after result (steps m₀ m k₀ k works s)
+    where
+      after : (r : Result A StoreFault) → Steps new r m₀ k₀ (f m) (g k) → IsUnderWay new (is_err r) m₀ k₀ (f m) (g k)
+      after (Ok a) h = h
+      after (Err e) h = record { began = h.1; goes_on = λ on. absurd cc }
+
+  pub cause_by : AnswersIn old false new result (λ _ _ _. ⊤)
+  cause_by m₀ m k₀ k works s = after result (steps m₀ m k₀ k works s)
+    where
+      after : (r : Result A StoreFault) → Steps new r m₀ k₀ (f m) (g k) → OrUnavailable r (λ _. ⊤)
+      after (Ok a) h = tt
+      after (Err e) h = h.0
+
+-- a call of a work that was refused before
+pub failed_keeps : (s : State) (f : Queue → Queue) (g : List Entry → List Entry) → Changes s true s true f g
+failed_keeps s f g m₀ m k₀ k works serves = record { began = (works serves).began; goes_on = λ on. absurd cc }
+
+-- A statement that writes rows of one table is a step of a work.
+pub step_by : (old new : State) (sql : List ℕ) (params : Row) (tree : ℕ) (result : Result (Unit {0}) StoreFault) (m₀ m after : Queue) (k₀ k kept : List Entry) → (Serves new → Serves old) → Works old false m₀ k₀ m k → Serves new
+    → OnOk result (HasRun sql params old new) → OnErr result (LeavesCommit old new) → IfErr result (λ fault. fault ≡ Unavailable)
+    → (TablesMean old.now m k → HasRun sql params old new → TablesMean new.now after kept × KeepsOthers six_tables tree old new) → Steps new result m₀ k₀ after kept
+step_by old new sql params tree (Ok done) m₀ m after k₀ k kept served works s ran left cause does =
+    let was = works (served s) in
+    let inside = was.goes_on refl in
+    let did = does inside.means ran in
+    let shown = did.1.shown in record {
+      began = same_tables m₀ k₀ (shown.committed_is ∙ ap (λ b. if b then old.committed else new.now) inside.inside) was.began;
+      goes_on = λ _. record { inside = shown.mode ∙ inside.inside; means = did.0 };
+    }
+step_by old new sql params tree (Err e) m₀ m after k₀ k kept served works s ran left cause does = (cause, committed left)
+  where
+    committed : LeavesCommit old new → TablesMean new.committed m₀ k₀
+    committed (inl same) = same_tables m₀ k₀ same.0.committed_is (works (served s)).began
+    committed (inr undone) = same_tables m₀ k₀ (undone.undone s.is_open).1 (works (served s)).began
+
+pub moves_of : {A : Type 0} (new : State) (result : Result A StoreFault) (m₀ m : Queue) (k₀ k : List Entry) → Steps new result m₀ k₀ m k → Moves new result m₀ k₀ m k
+moves_of new (Ok a) m₀ m k₀ k h = h
+moves_of new (Err e) m₀ m k₀ k h = h.1
+
+pub moved_by : (old new : State) {A : Type 0} (result : Result A StoreFault) (f : Queue → Queue) (g : List Entry → List Entry) → ((m₀ m : Queue) (k₀ k : List Entry) → Works old false m₀ k₀ m k → Serves new → Moves new result m₀ k₀ (f m) (g k))
+    → Changes old false new (is_err result) f g
+moved_by old new {A} result f g moves m₀ m k₀ k works s = after result (moves m₀ m k₀ k works s)
+  where
+    after : (r : Result A StoreFault) → Moves new r m₀ k₀ (f m) (g k) → IsUnderWay new (is_err r) m₀ k₀ (f m) (g k)
+    after (Ok a) h = h
+    after (Err e) h = record { began = h; goes_on = λ on. absurd cc }

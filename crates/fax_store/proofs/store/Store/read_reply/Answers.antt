@@ -1,0 +1,39 @@
+use Rattle.std.proofs.Common.{◌≡◌, inl, subst, rules}
+use Rattle.sqlite.specs.Held.{state}
+use Rattle.fax_store.specs.declared.fault.StoreFault.TheVariants.{Unavailable}
+use Rattle.fax_store.specs.declared.replies.TheConstants.{SELECT_REPLY}
+use Rattle.fax_store.specs.Store.{FindsRow}
+use Rattle.fax_store.specs.Kept.{IsKeptFor}
+use Rattle.fax_store.proofs.RepliesLemmas.{params, reply_found, reply_unchanged, lawful_of}
+use Rattle.fax_store.proofs.WorkLemmas.{answers_refused, err_is}
+use Rattle.fax_store.proofs.store.Store.read_reply.Goals as goal
+
+pub returns-in_err-in_row-in-Some-clause-answers : goal.returns-in_err-in_row-in-Some-clause-answers
+returns-in_err-in_row-in-Some-clause-answers g c m k means s =
+    let old = state g.S.Store c.args.self.now.conn in
+    let new = state g.S.Store c.find.new.self.conn in
+    let means_now = means (c.in_ok-row.ensures.served s) in
+    let found : FindsRow SELECT_REPLY.now (params c.args.client.now c.args.number) old new c.in_ok-row.field-0 = subst (λ p. FindsRow SELECT_REPLY.now p old new c.in_ok-row.field-0) (search rules) (c.in_ok-row.ensures.found s.clean) in
+    let it = rw c.in-Some.is at (reply_found c.args.client.now c.args.number old new m k means_now c.in_ok-row.field-0 found) in
+    let same = reply_unchanged c.args.client.now c.args.number old new m k means_now c.in_ok-row.field-0 found in
+    let why_err = c.in_err-in_row-in-Some.ensures it.0 it.3 (lawful_of k it.0 means_now.lawful_replies it.1) in
+    let fault : c.in_err-in_row-in-Some.field-0.0 ≡ Unavailable = why_err in
+    answers_refused old new (IsKeptFor k c.args.client.now c.args.number) c.from_residual-in_err-in_row-in-Some.result (err_is c.from_residual-in_err-in_row-in-Some.result c.in_err-in_row-in-Some.field-0.0 c.from_residual-in_err-in_row-in-Some.ensures.1 fault) (inl same)
+
+pub returns-in_ok-in_row-in-Some-clause-answers : goal.returns-in_ok-in_row-in-Some-clause-answers
+returns-in_ok-in_row-in-Some-clause-answers g c m k means s =
+    let old = state g.S.Store c.args.self.now.conn in
+    let new = state g.S.Store c.find.new.self.conn in
+    let means_now = means (c.in_ok-row.ensures.served s) in
+    let found : FindsRow SELECT_REPLY.now (params c.args.client.now c.args.number) old new c.in_ok-row.field-0 = subst (λ p. FindsRow SELECT_REPLY.now p old new c.in_ok-row.field-0) (search rules) (c.in_ok-row.ensures.found s.clean) in
+    let it = rw c.in-Some.is at (reply_found c.args.client.now c.args.number old new m k means_now c.in_ok-row.field-0 found) in
+    let tells = c.in_ok-in_row-in-Some.ensures it.0 it.3 (lawful_of k it.0 means_now.lawful_replies it.1) in
+    ((it.0, it.1, it.2, tells), reply_unchanged c.args.client.now c.args.number old new m k means_now c.in_ok-row.field-0 found)
+
+pub returns-in-None-clause-answers : goal.returns-in-None-clause-answers
+returns-in-None-clause-answers g c m k means s =
+    let old = state g.S.Store c.args.self.now.conn in
+    let new = state g.S.Store c.find.new.self.conn in
+    let means_now = means (c.in_ok-row.ensures.served s) in
+    let found : FindsRow SELECT_REPLY.now (params c.args.client.now c.args.number) old new c.in_ok-row.field-0 = subst (λ p. FindsRow SELECT_REPLY.now p old new c.in_ok-row.field-0) (search rules) (c.in_ok-row.ensures.found s.clean) in
+    (rw c.in-None.is at (reply_found c.args.client.now c.args.number old new m k means_now c.in_ok-row.field-0 found), reply_unchanged c.args.client.now c.args.number old new m k means_now c.in_ok-row.field-0 found)

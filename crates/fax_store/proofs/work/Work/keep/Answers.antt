@@ -1,0 +1,12 @@
+use Rattle.std.proofs.Common.{List, [], ◌∷◌, ◌++◌}
+use Rattle.sqlite.specs.Held.{state}
+use Rattle.fax_store.specs.Kept.{entry}
+use Rattle.fax_store.specs.Queue.{Queue, Entry}
+use Rattle.fax_store.proofs.WorkLemmas.{moved_by}
+use Rattle.fax_store.proofs.work.Work.keep.Goals as goal
+
+pub returns-clause-changes : goal.returns-clause-changes
+returns-clause-changes g c =
+    rw (c.if-self.false, c.is_err-self.ensures.value)
+    (moved_by (state g.S.Store c.args.self.now.store.now.conn) (state g.S.Store c.write_reply-done.new.self.conn) c.write_reply-done.result (λ (m : Queue). m)
+    (λ (k : List Entry). k ++ entry c.args.client.now c.args.number c.args.said.now c.args.status c.args.body.now ∷ []) c.write_reply-done.ensures.written)

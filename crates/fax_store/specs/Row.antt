@@ -1,0 +1,66 @@
+-- How records stand in rows. A row is its rowid and then its columns, where the column that is the rowid is NULL.
+use Rattle.std.specs.Prelude.{◌≡◌, ℕ, ◌<◌, pos, List, [], ◌∷◌, length, ◌==◌, Option, Some, None, if◌then◌else◌}
+use Rattle.std.specs.List.{list_any}
+use Rattle.sqlite.specs.Order.{Row, column}
+use Rattle.sqlite.specs.declared.types.Value.{Value}
+use Rattle.sqlite.specs.declared.types.Value.TheVariants.{Null, Int, Text, Blob}
+use Rattle.fax_job.specs.declared.job.Phase.{Phase}
+use Rattle.fax_job.specs.declared.job.Phase.TheVariants.{Held, Waiting, Granted, Done, Failed}
+use Rattle.fax_job.specs.declared.job.Wish.{Wish}
+use Rattle.fax_job.specs.declared.job.Wish.TheVariants.{Go, Hold as ToHold, Kill}
+use Rattle.fax_job.specs.declared.job.Call.{Call}
+use Rattle.fax_job.specs.declared.job.Call.TheVariants.{Connected, Busy, NoAnswer, NoCarrier, Other}
+use Rattle.fax_store.specs.Queue.{Grant, Hold, Queue, Entry}
+
+abbrev pub number : ℕ → Value
+number n = Int (pos n)
+
+-- the row has this value in this place
+pub record HasValue (row : Row) (at : ℕ) (value : Value) : Type 0 where
+  pub within : at < length row
+  pub is : column row at ≡ value
+
+-- the row has this number in this place
+abbrev pub HasNumber : Row → ℕ → ℕ → Type 0
+HasNumber row at n = HasValue row at (number n)
+
+abbrev pub phase_number : Phase → ℕ
+phase_number Held = 0
+phase_number Waiting = 1
+phase_number Granted = 2
+phase_number Done = 3
+phase_number Failed = 4
+
+abbrev pub wish_number : Wish → ℕ
+wish_number Go = 0
+wish_number ToHold = 1
+wish_number Kill = 2
+
+abbrev pub call_number : Option Call → ℕ
+call_number None = 0
+call_number (Some Connected) = 1
+call_number (Some Busy) = 2
+call_number (Some NoAnswer) = 3
+call_number (Some NoCarrier) = 4
+call_number (Some Other) = 5
+
+-- 0 where a hold has the grant
+abbrev pub shut_number : List Hold → ℕ → ℕ
+shut_number holds id = if list_any (λ h. h.grant == id) holds then 0 else 1
+
+abbrev pub grant_row : List Hold → Grant → Row
+grant_row holds g =
+    number g.id ∷ Null ∷ number g.job ∷ Text g.modem ∷ number g.first_page ∷ number g.last_page ∷ number (call_number g.call) ∷ number g.pages ∷ number (shut_number holds g.id) ∷ []
+
+-- the next three are without the rowid, which says nothing
+abbrev pub hold_columns : Hold → Row
+hold_columns h = Text h.modem ∷ number h.job ∷ number h.grant ∷ []
+
+abbrev pub down_columns : List ℕ → Row
+down_columns modem = Text modem ∷ []
+
+abbrev pub entry_columns : Entry → Row
+entry_columns e = Text e.client ∷ number e.number ∷ Blob e.said ∷ number e.status ∷ Blob e.body ∷ []
+
+abbrev pub meta_row : Queue → Row
+meta_row m = number 1 ∷ Null ∷ number m.clock ∷ number m.next_job ∷ number m.next_grant ∷ number 1 ∷ []

@@ -1,0 +1,55 @@
+-- What a work shows.
+use Rattle.std.specs.Prelude.{◌≡◌, Bool, false, List, Result, MatchResult, IsTrue}
+use Rattle.sqlite.specs.State.{State}
+use Rattle.fax_store.specs.declared.fault.StoreFault.{StoreFault}
+use Rattle.fax_store.specs.declared.fault.StoreFault.TheVariants.{Unavailable}
+use Rattle.fax_store.specs.Fault.{OrUnavailable}
+use Rattle.fax_store.specs.Queue.{Queue, Entry}
+use Rattle.fax_store.specs.Tables.{TablesMean}
+use Rattle.fax_store.specs.Store.{Serves, Means}
+
+-- the work is under way, and its tables mean this
+pub record IsInside (s : State) (m : Queue) (k : List Entry) : Type 0 where
+  pub inside : IsTrue s.in_transaction
+  pub means : TablesMean s.now m k
+
+-- where the work began, which a drop goes back to, and what it means unless a call of it was refused
+pub record IsUnderWay (s : State) (failed : Bool) (m₀ : Queue) (k₀ : List Entry) (m : Queue) (k : List Entry) : Type 0 where
+  pub began : TablesMean s.committed m₀ k₀
+  pub goes_on : failed ≡ false → IsInside s m k
+
+-- The work began at this queue with these kept replies, and has made these of them, as long as the store serves.
+abbrev pub Works : State → Bool → Queue → List Entry → Queue → List Entry → Type 0
+Works s failed m₀ k₀ m k = Serves s → IsUnderWay s failed m₀ k₀ m k
+
+-- a work begins with what the store means
+abbrev pub Begins : State → State → Bool → Type 0
+Begins old new failed = (m : Queue) (k : List Entry) → Means old m k → Works new failed m k m k
+
+-- the store then means what the work made
+abbrev pub Commits : State → Bool → State → Type 0
+Commits old failed new = (m₀ m : Queue) (k₀ k : List Entry) → Works old failed m₀ k₀ m k → Means new m k
+
+-- the store then means what it did where the work began
+abbrev pub Undoes : State → Bool → State → Type 0
+Undoes old failed new = (m₀ m : Queue) (k₀ k : List Entry) → Works old failed m₀ k₀ m k → Means new m₀ k₀
+
+-- a call makes this of what the work means
+abbrev pub Changes : State → Bool → State → Bool → (Queue → Queue) → (List Entry → List Entry) → Type 0
+Changes old failed new failed_after f g = (m₀ m : Queue) (k₀ k : List Entry) → Works old failed m₀ k₀ m k → Works new failed_after m₀ k₀ (f m) (g k)
+
+-- a call leaves what the work means
+abbrev pub Keeps : State → Bool → State → Bool → Type 0
+Keeps old failed new failed_after = Changes old failed new failed_after (λ m. m) (λ k. k)
+
+-- a call of a work answers a value of which this holds, unless it was unavailable
+abbrev pub AnswersIn : {A : Type 0} → State → Bool → State → Result A StoreFault → (Queue → List Entry → A → Type 0) → Type 0
+AnswersIn old failed new result P = (m₀ m : Queue) (k₀ k : List Entry) → Works old failed m₀ k₀ m k → Serves new → OrUnavailable result (P m k)
+
+-- A step of a work makes this of it. Where it was refused, the last commit stands.
+abbrev pub Steps : {A : Type 0} → State → Result A StoreFault → Queue → List Entry → Queue → List Entry → Type 0
+Steps new result m₀ k₀ m k = MatchResult result (λ _. IsUnderWay new false m₀ k₀ m k) (λ fault. (fault ≡ Unavailable) × TablesMean new.committed m₀ k₀)
+
+-- the same, whatever the fault was
+abbrev pub Moves : {A : Type 0} → State → Result A StoreFault → Queue → List Entry → Queue → List Entry → Type 0
+Moves new result m₀ k₀ m k = MatchResult result (λ _. IsUnderWay new false m₀ k₀ m k) (λ fault. TablesMean new.committed m₀ k₀)
