@@ -3,7 +3,7 @@ use fax_job::{Job, Lines, Moment, RequestNumber, read_lines, write_lines};
 use std::alloc::Global;
 use std::test::Fail;
 
-/// A held job of this number, as its key lines ask for it.
+/// A granted job of this number, as its key lines ask for it.
 fn job_of(alloc: Global, number: u32) -> Result<Option<Job>, Fail> {
     let lines: Lines = read_lines(alloc, b"number:5550111\ntotpages:3\nx-note:a b\n")?;
     let order = lines.to_order(alloc)?;
@@ -41,30 +41,6 @@ fn same_job(alloc: Global, one: &Job, other: &Job) -> Result<bool, Fail> {
             && one.fields().wish == other.fields().wish
             && one.fields().next == other.fields().next,
     )
-}
-
-fn has_same_texts(one: &Job, other: &Job) -> bool {
-    let one = one.fields();
-    let other = other.fields();
-    one.dial.text() == other.dial.text()
-        && one.modem.as_str() == other.modem.as_str()
-        && one.jobtag.as_str() == other.jobtag.as_str()
-        && one.status.text() == other.status.text()
-        && one.extra.get("x-note") == other.extra.get("x-note")
-}
-
-fn has_same_numbers(one: &Job, other: &Job) -> bool {
-    let one = one.fields();
-    let other = other.fields();
-    one.job == other.job
-        && (one.tts, one.killtime, one.next) == (other.tts, other.killtime, other.next)
-        && (one.priority, one.npages, one.totpages)
-            == (other.priority, other.npages, other.totpages)
-        && (one.ntries, one.tottries, one.maxtries)
-            == (other.ntries, other.tottries, other.maxtries)
-        && (one.ndials, one.totdials, one.maxdials)
-            == (other.ndials, other.totdials, other.maxdials)
-        && (one.phase, one.wish) == (other.phase, other.wish)
 }
 
 fn number_of(digits: &str) -> Result<RequestNumber, Fail> {

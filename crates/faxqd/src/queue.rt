@@ -2,7 +2,7 @@
 //!
 //! An accepted request's effect and its kept reply are one transaction of the store, and the
 //! reply's bytes are made before its commit. A refused request changes nothing.
-ghost use Rattle.std.specs.Prelude.{◌≡◌, None, Some, Err, IfErr, IsOk, is_some};
+ghost use Rattle.std.specs.Prelude.{◌≡◌, ◌∷◌, ◌++◌, IfOk, None, Some, Err, IfErr, IsOk, is_some};
 ghost use Rattle.fax_job.specs.declared.refusal.Refusal.{Refusal as RefusalOf};
 ghost use Rattle.fax_job.specs.Name.{is_name as is_name_of};
 ghost use Rattle.faxqd.specs.Arrival.{arrival_refusal};
@@ -135,7 +135,9 @@ fn read_client(text: &[u8]) -> Option<&str>
 }
 
 /// What a request said, as it is kept beside its reply: the path, LF, the body.
-fn said(alloc: Global, arrival: &Arrival<'_>) -> Result<Vec<u8>, AllocError> {
+fn said(alloc: Global, arrival: &Arrival<'_>) -> Result<Vec<u8>, AllocError>
+    ensures { IfOk result (λ said. said.items ≡ arrival.now.path.now ++ 10 ∷ arrival.now.body.now) }
+{
     let mut said = Vec::from_slice(alloc, arrival.path.as_bytes())?;
     said.extend_from_slice(b"\n")?;
     said.extend_from_slice(arrival.body)?;

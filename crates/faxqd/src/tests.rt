@@ -1,5 +1,6 @@
 //! What no clause says: whole conversations, byte for byte, and how a command ends.
 use crate::command;
+use crate::replay::replay;
 use crate::status::Status;
 use std::alloc::Global;
 use std::io;
@@ -277,5 +278,51 @@ fn stops_at_a_writer_that_fails(rt: HostRuntime) -> Result<(), Fail> {
         assert_eq!(rt; err.as_slice(), b"faxqd: ended write-failed\n".as_slice());
         assert_eq!(rt; status, Status::Fault);
     }
+    Ok(())
+}
+
+/// A reader that gives its bytes and then fails.
+#[derive(Drop)]
+struct Failing<'a> {
+    rest: &'a [u8],
+}
+
+impl Read for Failing<'_> {
+    fn read(&mut self, buf: &mut [u8]) -> io::Result<usize> {
+        if self.rest.is_empty() {
+            return Err(io::Error::from(io::ErrorKind::ConnectionReset));
+        }
+        self.rest.read(buf)
+    }
+}
+
+#[test]
+fn writes_nothing_where_a_read_fails(rt: HostRuntime) -> Result<(), Fail> {
+    let alloc = rt.alloc();
+    let mut reader = Failing {
+        rest: SUBMISSION.as_bytes(),
+    };
+    let mut out = Vec::new(alloc);
+    let mut err = Vec::new(alloc);
+    let status = replay(alloc, &mut reader, &mut out, &mut err);
+    assert_eq!(rt; out.len(), 0);
+    assert_eq!(rt; err.as_slice(), b"faxqd: ended read-failed\n".as_slice());
+    assert_eq!(rt; status, Status::Fault);
+    Ok(())
+}
+
+#[test]
+fn ends_at_its_bound_of_messages(rt: HostRuntime) -> Result<(), Fail> {
+    let alloc = rt.alloc();
+    let mut input = String::new(alloc);
+    for _ in 0..1_001 {
+        input.push_str("GET / HTTP/1.1\r\n\r\n")?;
+    }
+    let one = reply(alloc, "404 Not Found", r#"{"no":3,"word":"no-route"}"#)?;
+    let ran = replayed(alloc, input.as_str())?;
+    assert_eq!(rt; ran.out.len() / 1_000, one.len());
+    assert_eq!(rt; ran.out.len() % 1_000, 0);
+    assert_eq!(rt; ran.err.as_slice(), b"faxqd: ended bound\n".as_slice());
+    assert_eq!(rt; ran.status, Status::Fault);
     Ok(())
 }
