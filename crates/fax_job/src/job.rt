@@ -4,6 +4,7 @@ ghost use Rattle.std.specs.Prelude.{◌≡◌, ◌<◌, ◌^◌, ◌++◌, ◌�
 ghost use Rattle.std.specs.Fmt.{decimal};
 ghost use Rattle.std.specs.List.{AllByRecursion};
 ghost use Rattle.std.specs.Str.{IsUtf8};
+ghost use Rattle.fax_job.specs.Job.{is_lawful_killtime};
 ghost use Rattle.fax_job.specs.JobLines.{order_lines, counter_lines};
 ghost use Rattle.fax_job.specs.Pair.{pair, IsPair, are_unknown};
 
@@ -110,6 +111,7 @@ impl JobFields {
     {
         1 <= self.job
             && self.job <= 999_999
+            && is_lawful_killtime(self.killtime)
             && self.are_lawful_pages()
             && self.are_lawful_tries()
             && self.are_lawful_dials()
@@ -147,9 +149,10 @@ impl Job {
     ghost use Rattle.fax_job.specs.Job.{is_lawful, IsLawful};
     ghost use Rattle.fax_job.specs.JobLines.{job_lines};
 
-    /// The job of these fields, where its number is from 1 to 999999, its pages from 1 to 9999 with no
-    /// more sent, its limits from 1 to 1000 with no more tries or dials in all, and of these no more in
-    /// a row, its next time at most 4102531200, and none of its extra lines of a known tag.
+    /// The job of these fields, where its number is from 1 to 999999, its kill time not 0 (which stands
+    /// for none), its pages from 1 to 9999 with no more sent, its limits from 1 to 1000 with no more
+    /// tries or dials in all, and of these no more in a row, its next time at most 4102531200, and none
+    /// of its extra lines of a known tag.
     pub fn new(fields: JobFields) -> Option<Job>
         ensures { result ≡ (if is_lawful fields then Some fields else None) }
     {
@@ -186,6 +189,15 @@ impl Job {
         push_text(alloc, &mut items, "status", fields.status.text())?;
         push_copies(alloc, &mut items, fields.extra.as_slice())?;
         Ok(Lines::from_items(items))
+    }
+}
+
+fn is_lawful_killtime(killtime: Option<Moment>) -> bool
+    ensures { result ≡ is_lawful_killtime killtime }
+{
+    match killtime {
+        Some(moment) => moment.seconds() >= 1,
+        None => true,
     }
 }
 

@@ -11,7 +11,8 @@ use std::alloc::{AllocError, Global};
 /// The printed spelling: for each line its tag, `:`, its value and LF, with `\` before an LF of a
 /// status.
 pub fn write_lines(alloc: Global, lines: &Lines) -> Result<Vec<u8>, AllocError>
-    ensures { IfOk result (λ text. text.items ≡ printed lines.now) }
+    ensures printed { IfOk result (λ text. text.items ≡ printed lines.now) }
+    ensures lawful { ArePairs lines.now }
 {
     let mut out = Vec::new(alloc);
     for line in lines.as_slice() {

@@ -9,7 +9,7 @@ use Rattle.sqlite_schema.specs.declared.schema.Schema.{Schema}
 use Rattle.sqlite_catalog.specs.Change.{created}
 use Rattle.sqlite_tied.specs.Compute.{everything}
 use Rattle.fax_store.specs.declared.schema.TheConstants.{CREATE_JOBS, CREATE_GRANTS, CREATE_HOLDS, CREATE_DOWN, CREATE_REPLIES, CREATE_META}
-use Rattle.fax_store.specs.Schema.{no_tables, six_tables, jobs, grants, holds, down, replies, meta, holds_indexes, down_index, replies_index}
+use Rattle.fax_store.specs.Schema.{no_tables, with_jobs, with_grants, with_holds, four_tables, with_replies, six_tables, jobs, grants, holds, down, replies, meta}
 
 -- the text makes this table in any database with this schema
 pub record Makes (schema : Schema) (sql : List ℕ) (table : Table) : Type 0 where
@@ -17,22 +17,6 @@ pub record Makes (schema : Schema) (sql : List ℕ) (table : Table) : Type 0 whe
   pub statement : statement_of sql (understood schema sql) ≡ sql
   pub defined : table_defined_by sql ≡ Ok (record table { tree = 0 })
   pub plain : IsPlain (understood schema sql)
-
--- the schema after each text in turn
-abbrev pub with_jobs : Schema
-with_jobs = record { tables = jobs ∷ []; indexes = []; views = [] }
-
-abbrev pub with_grants : Schema
-with_grants = record { tables = jobs ∷ grants ∷ []; indexes = []; views = [] }
-
-abbrev pub with_holds : Schema
-with_holds = record { tables = jobs ∷ grants ∷ holds ∷ []; indexes = holds_indexes; views = [] }
-
-abbrev pub with_down : Schema
-with_down = record { tables = jobs ∷ grants ∷ holds ∷ down ∷ []; indexes = holds_indexes ++ down_index ∷ []; views = [] }
-
-abbrev pub with_replies : Schema
-with_replies = record { tables = jobs ∷ grants ∷ holds ∷ down ∷ replies ∷ []; indexes = holds_indexes ++ down_index ∷ replies_index ∷ []; views = [] }
 
 pub makes_jobs : Makes no_tables CREATE_JOBS.now jobs
 unfolding understood everything
@@ -62,15 +46,15 @@ pub makes_down : Makes with_holds CREATE_DOWN.now down
 unfolding understood everything
 makes_down = record { command = refl; statement = refl; defined = refl; plain = (refl, refl) }
 
-pub created_down : created with_holds down ≡ with_down
+pub created_down : created with_holds down ≡ four_tables
 unfolding everything
 created_down = refl
 
-pub makes_replies : Makes with_down CREATE_REPLIES.now replies
+pub makes_replies : Makes four_tables CREATE_REPLIES.now replies
 unfolding understood everything
 makes_replies = record { command = refl; statement = refl; defined = refl; plain = (refl, refl) }
 
-pub created_replies : created with_down replies ≡ with_replies
+pub created_replies : created four_tables replies ≡ with_replies
 unfolding everything
 created_replies = refl
 

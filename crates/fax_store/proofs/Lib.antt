@@ -11,3 +11,7 @@ pub mod MetaLemmas
 pub mod WorkLemmas
 pub mod RepliesLemmas
 pub mod AppendLemmas
+pub mod JobLemmas
+pub mod TextLemmas
+pub mod RowLemmas
+pub mod CreateLemmas

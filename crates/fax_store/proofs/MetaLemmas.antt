@@ -14,7 +14,7 @@ use Rattle.sqlite_value.proofs.OrderLemmas.{value_cmp-Int}
 use Rattle.fax_store.specs.declared.meta.TheConstants.{SELECT_META, UPDATE_META}
 use Rattle.fax_store.specs.Schema as schema
 use Rattle.fax_store.specs.Schema.{six_tables}
-use Rattle.fax_store.specs.Queue.{Queue, Entry}
+use Rattle.fax_core.specs.Queue.{Queue, Entry}
 use Rattle.fax_store.specs.Row.{number, meta_row}
 use Rattle.fax_store.specs.Meta.{meta_shown}
 use Rattle.fax_store.specs.Tables.{TablesMean, IsLawfulMeta, IsByRowid}
@@ -75,14 +75,20 @@ module _ (old new : State) (m : Queue) (k : List Entry) (means : TablesMean old.
         let others = done.keeps.others in record {
           schema = done.keeps.schema_is;
           sound = done.keeps.sound;
+          jobs = others.0 (λ e. absurd (omega arith)) ∙ means.jobs;
           grants = others.1.0 (λ e. absurd (omega arith)) ∙ means.grants;
           holds = ap (map (drop 1)) (others.1.1.0 (λ e. absurd (omega arith))) ∙ means.holds;
           down = ap (map (drop 1)) (others.1.1.1.0 (λ e. absurd (omega arith))) ∙ means.down;
           replies = ap (map (drop 1)) (others.1.1.1.1.0 (λ e. absurd (omega arith))) ∙ means.replies;
-          ordered = subst IsByRowid (sym (others.1.1.1.1.0 (λ e. absurd (omega arith)))) means.ordered;
           meta = done.rows ∙ ap (λ rows. put_row (new_row clock next_job next_grant) (without_all rows (pos 1 ∷ []))) means.meta ∙ replaced m _;
-          lawful_meta = lawful;
-          lawful_replies = means.lawful_replies;
+          ordered = record {
+            jobs = subst IsByRowid (sym (others.0 (λ e. absurd (omega arith)))) means.ordered.jobs;
+            grants = subst IsByRowid (sym (others.1.0 (λ e. absurd (omega arith)))) means.ordered.grants;
+            holds = subst IsByRowid (sym (others.1.1.0 (λ e. absurd (omega arith)))) means.ordered.holds;
+            down = subst IsByRowid (sym (others.1.1.1.0 (λ e. absurd (omega arith)))) means.ordered.down;
+            replies = subst IsByRowid (sym (others.1.1.1.1.0 (λ e. absurd (omega arith)))) means.ordered.replies;
+          };
+          lawful = record { jobs = means.lawful.jobs; grants = means.lawful.grants; down = means.lawful.down; replies = means.lawful.replies; meta = lawful };
         }
 
     pub meta_shows : HasRun UPDATE_META.now params old new → KeepsOthers six_tables 10 old new

@@ -12,7 +12,7 @@ use Rattle.sqlite_rules.specs.Lists.{Has}
 use Rattle.fax_store.specs.declared.replies.TheConstants.{SELECT_REPLY, INSERT_REPLY}
 use Rattle.fax_store.specs.Schema as schema
 use Rattle.fax_store.specs.Schema.{six_tables}
-use Rattle.fax_store.specs.Queue.{Queue, Entry}
+use Rattle.fax_core.specs.Queue.{Queue, Entry}
 use Rattle.fax_store.specs.Row.{number, entry_columns}
 use Rattle.fax_store.specs.Kept.{IsOf, entry_shown}
 use Rattle.fax_store.specs.Tables.{TablesMean, IsLawfulEntry, IsByRowid}
@@ -139,21 +139,27 @@ module _ (old new : State) (m : Queue) (k : List Entry) (means : TablesMean old.
   reply_kept lawful h =
       let done = inserted h in
       let others = done.keeps.others in
-      let order = means.ordered in (
+      let order = means.ordered.replies in (
         record {
           schema = done.keeps.schema_is;
           sound = done.keeps.sound;
+          jobs = others.0 (λ e. absurd (omega arith)) ∙ means.jobs;
           grants = others.1.0 (λ e. absurd (omega arith)) ∙ means.grants;
           holds = ap (map (drop 1)) (others.1.1.0 (λ e. absurd (omega arith))) ∙ means.holds;
           down = ap (map (drop 1)) (others.1.1.1.0 (λ e. absurd (omega arith))) ∙ means.down;
           replies = ap (map (drop 1)) done.rows ∙ appended (old.now.trees 8) (entry_columns e) order.integers order.rise ∙ ap (λ xs. xs ++ entry_columns e ∷ []) means.replies ∙ sym (map-append entry_columns k (e ∷ []));
-          ordered = subst IsByRowid (sym done.rows) (record {
-            rise = IsTable-put_row new_reply (old.now.trees 8) order.rise;
-            integers = all-put_row (λ r. IsTrue (is_int (rowid r))) new_reply (old.now.trees 8) refl order.integers;
-          });
           meta = others.1.1.1.1.1.0 (λ e. absurd (omega arith)) ∙ means.meta;
-          lawful_meta = means.lawful_meta;
-          lawful_replies = all_more e k lawful means.lawful_replies;
+          ordered = record {
+            jobs = subst IsByRowid (sym (others.0 (λ e. absurd (omega arith)))) means.ordered.jobs;
+            grants = subst IsByRowid (sym (others.1.0 (λ e. absurd (omega arith)))) means.ordered.grants;
+            holds = subst IsByRowid (sym (others.1.1.0 (λ e. absurd (omega arith)))) means.ordered.holds;
+            down = subst IsByRowid (sym (others.1.1.1.0 (λ e. absurd (omega arith)))) means.ordered.down;
+            replies = subst IsByRowid (sym done.rows) (record {
+              rise = IsTable-put_row new_reply (old.now.trees 8) order.rise;
+              integers = all-put_row (λ r. IsTrue (is_int (rowid r))) new_reply (old.now.trees 8) refl order.integers;
+            });
+          };
+          lawful = record { jobs = means.lawful.jobs; grants = means.lawful.grants; down = means.lawful.down; replies = all_more e k lawful means.lawful.replies; meta = means.lawful.meta };
         },
         done.keeps,
       )

@@ -1,6 +1,9 @@
 -- What is said of a result that is known to be an error.
-use Rattle.std.proofs.Common.{◌≡◌, inl, inr, ℕ, List, [], ◌∷◌, ◌++◌, length, Option, Some, None, MatchOption, option_to_list, Ok, Err, Result, IsErr, OnOk, OnErr, refl, arith}
+use Rattle.std.proofs.Common.{◌≡◌, inl, inr, ℕ, List, [], ◌∷◌, ◌++◌, length, Option, Some, None, MatchOption, option_to_list, Ok, Err, Result, IsErr, IsErrAnd, OnOk, OnErr, refl, ◌∙◌, arith}
 use Rattle.sqlite_rules.specs.Lists.{Has}
+use Rattle.fax_store.specs.declared.fault.StoreFault.{StoreFault}
+use Rattle.fax_store.specs.declared.fault.StoreFault.TheVariants.{Unavailable}
+use Rattle.fax_store.specs.Fault.{OrUnavailable}
 use Rattle.std.specs.Borrow.{GName, name_if_ok}
 use mathlib.Core.Option as maybe
 
@@ -23,3 +26,13 @@ pub popped : {X : Type 0} (rows rest : List X) (found : Option X) (len : ℕ) (M
 popped [] rest None len M N e is cases = refl
 popped (r ∷ rows) rest None len M N e is cases = absurd (omega (arith, is, cases.0))
 popped rows rest (Some x) len M N e is cases = rw e (has_last rest x)
+
+-- an error that is `Unavailable` where something holds, which does
+pub unavailable_where : {A : Type 0} (r : Result A StoreFault) (W : Type 0) (Q : A → Type 0) → IsErrAnd r (λ fault. W → fault ≡ Unavailable) → W → OrUnavailable r Q
+unavailable_where (Ok x) W Q is w = absurd is
+unavailable_where (Err e) W Q is w = is w
+
+-- an error that is passed on
+pub passes_on : {A : Type 0} (r : Result A StoreFault) (fault : StoreFault) (Q : A → Type 0) → IsErrAnd r (λ e. e ≡ fault) → fault ≡ Unavailable → OrUnavailable r Q
+passes_on (Ok x) fault Q is why = absurd is
+passes_on (Err e) fault Q is why = is ∙ why

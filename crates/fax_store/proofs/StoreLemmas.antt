@@ -6,7 +6,7 @@ use Rattle.sqlite.specs.declared.error.Error.{Error}
 use Rattle.sqlite.specs.State.{State, HasCleanDisk, IsUnchanged, IsRolledBack, Executes}
 use Rattle.sqlite.proofs.InsideLemmas.{fails_whole}
 use Rattle.fax_store.specs.declared.store.TheConstants.{BEGIN, COMMIT, ROLLBACK}
-use Rattle.fax_store.specs.Queue.{Queue, Entry}
+use Rattle.fax_core.specs.Queue.{Queue, Entry}
 use Rattle.fax_store.specs.Tables.{TablesMean}
 use Rattle.fax_store.specs.Store.{Serves, Stays, GoesBack}
 use Rattle.fax_store.specs.Work.{Begins, Commits, Undoes}

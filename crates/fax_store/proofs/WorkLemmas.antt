@@ -6,7 +6,7 @@ use Rattle.sqlite.specs.State.{State, IsUnchanged, IsRolledBack}
 use Rattle.fax_store.specs.declared.fault.StoreFault.{StoreFault}
 use Rattle.fax_store.specs.declared.fault.StoreFault.TheVariants.{Unavailable}
 use Rattle.fax_store.specs.Fault.{OrUnavailable}
-use Rattle.fax_store.specs.Queue.{Queue, Entry}
+use Rattle.fax_core.specs.Queue.{Queue, Entry}
 use Rattle.fax_store.specs.Tables.{TablesMean}
 use Rattle.fax_store.specs.Store.{Serves, IsAtRest, Means, MeansNow, Stays, LeavesCommit, Answers, HasRun}
 use Rattle.fax_store.specs.Work.{IsUnderWay, Works, Changes, Keeps, AnswersIn, Steps, Moves}
@@ -132,6 +132,10 @@ step_by old new sql params tree (Err e) m₀ m after k₀ k kept served works s 
 pub moves_of : {A : Type 0} (new : State) (result : Result A StoreFault) (m₀ m : Queue) (k₀ k : List Entry) → Steps new result m₀ k₀ m k → Moves new result m₀ k₀ m k
 moves_of new (Ok a) m₀ m k₀ k h = h
 moves_of new (Err e) m₀ m k₀ k h = h.1
+
+pub steps_fault : {A : Type 0} (new : State) (result : Result A StoreFault) (m₀ m : Queue) (k₀ k : List Entry) → Steps new result m₀ k₀ m k → IfErr result (λ fault. fault ≡ Unavailable)
+steps_fault new (Ok a) m₀ m k₀ k h = tt
+steps_fault new (Err e) m₀ m k₀ k h = h.0
 
 pub moved_by : (old new : State) {A : Type 0} (result : Result A StoreFault) (f : Queue → Queue) (g : List Entry → List Entry) → ((m₀ m : Queue) (k₀ k : List Entry) → Works old false m₀ k₀ m k → Serves new → Moves new result m₀ k₀ (f m) (g k))
     → Changes old false new (is_err result) f g

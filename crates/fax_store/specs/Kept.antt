@@ -4,7 +4,7 @@ use Rattle.sqlite.specs.Order.{Row}
 use Rattle.sqlite.specs.declared.types.Value.TheVariants.{Blob}
 use Rattle.sqlite_rules.specs.Lists.{Has}
 use Rattle.fax_store.specs.declared.replies.Kept.{Kept}
-use Rattle.fax_store.specs.Queue.{Entry}
+use Rattle.fax_core.specs.Queue.{Entry}
 use Rattle.fax_store.specs.Row.{number}
 
 -- the entry is of this number of this client

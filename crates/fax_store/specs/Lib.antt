@@ -1,7 +1,7 @@
 pub mod Schema
-pub mod Queue
 pub mod Fault
 pub mod Row
+pub mod Job
 pub mod Tables
 pub mod Store
 pub mod Work

@@ -2,7 +2,7 @@
 use Rattle.std.specs.Prelude.{ℕ, [], ◌∷◌}
 use Rattle.fax_store.specs.declared.meta.Meta.{Meta}
 use Rattle.sqlite.specs.Order.{Row}
-use Rattle.fax_store.specs.Queue.{Queue}
+use Rattle.fax_core.specs.Queue.{Queue}
 use Rattle.fax_store.specs.Row.{number}
 
 -- those of a queue

@@ -1,16 +1,18 @@
 -- How records stand in rows. A row is its rowid and then its columns, where the column that is the rowid is NULL.
-use Rattle.std.specs.Prelude.{◌≡◌, ℕ, ◌<◌, pos, List, [], ◌∷◌, length, ◌==◌, Option, Some, None, if◌then◌else◌}
-use Rattle.std.specs.List.{list_any}
+use Rattle.std.specs.Prelude.{◌≡◌, ℕ, ◌<◌, pos, List, [], ◌∷◌, ◌++◌, length, Option, Some, None, unwrap_or, if◌then◌else◌}
 use Rattle.sqlite.specs.Order.{Row, column}
 use Rattle.sqlite.specs.declared.types.Value.{Value}
 use Rattle.sqlite.specs.declared.types.Value.TheVariants.{Null, Int, Text, Blob}
+use Rattle.fax_core.specs.Queue.{Queue, Entry}
+use Rattle.fax_core.specs.declared.grant.Grant.{Grant}
+use Rattle.fax_job.specs.Spelling.{printed}
+use Rattle.fax_job.specs.declared.job.JobFields.{JobFields}
 use Rattle.fax_job.specs.declared.job.Phase.{Phase}
 use Rattle.fax_job.specs.declared.job.Phase.TheVariants.{Held, Waiting, Granted, Done, Failed}
 use Rattle.fax_job.specs.declared.job.Wish.{Wish}
 use Rattle.fax_job.specs.declared.job.Wish.TheVariants.{Go, Hold as ToHold, Kill}
 use Rattle.fax_job.specs.declared.job.Call.{Call}
 use Rattle.fax_job.specs.declared.job.Call.TheVariants.{Connected, Busy, NoAnswer, NoCarrier, Other}
-use Rattle.fax_store.specs.Queue.{Grant, Hold, Queue, Entry}
 
 abbrev pub number : ℕ → Value
 number n = Int (pos n)
@@ -44,17 +46,30 @@ call_number (Some NoAnswer) = 3
 call_number (Some NoCarrier) = 4
 call_number (Some Other) = 5
 
--- 0 where a hold has the grant
-abbrev pub shut_number : List Hold → ℕ → ℕ
-shut_number holds id = if list_any (λ h. h.grant == id) holds then 0 else 1
+abbrev pub order_columns : JobFields → Row
+order_columns job =
+    Text job.dial ∷ Text job.modem ∷ Text job.jobtag ∷ Text job.status ∷ Text (printed job.extra) ∷ number job.tts ∷ number (unwrap_or job.killtime 0) ∷ number job.priority ∷ []
 
-abbrev pub grant_row : List Hold → Grant → Row
-grant_row holds g =
-    number g.id ∷ Null ∷ number g.job ∷ Text g.modem ∷ number g.first_page ∷ number g.last_page ∷ number (call_number g.call) ∷ number g.pages ∷ number (shut_number holds g.id) ∷ []
+abbrev pub counter_columns : JobFields → Row
+counter_columns job =
+    number job.npages ∷ number job.totpages ∷ number job.ntries ∷ number job.tottries ∷ number job.maxtries ∷ number job.ndials ∷ number job.totdials ∷ number job.maxdials ∷ []
+
+abbrev pub job_columns : JobFields → Row
+job_columns job = order_columns job ++ counter_columns job ++ number (phase_number job.phase) ∷ number (wish_number job.wish) ∷ number job.next ∷ []
+
+abbrev pub job_row : JobFields → Row
+job_row job = number job.job ∷ Null ∷ job_columns job
+
+abbrev pub shut_number : Grant → ℕ
+shut_number g = if g.is_open then 0 else 1
+
+abbrev pub grant_row : Grant → Row
+grant_row g =
+    number g.number ∷ Null ∷ number g.job ∷ Text g.modem ∷ number g.first_page ∷ number g.last_page ∷ number (call_number g.call) ∷ number g.confirmed ∷ number (shut_number g) ∷ []
 
 -- the next three are without the rowid, which says nothing
-abbrev pub hold_columns : Hold → Row
-hold_columns h = Text h.modem ∷ number h.job ∷ number h.grant ∷ []
+abbrev pub hold_columns : Grant → Row
+hold_columns g = Text g.modem ∷ number g.job ∷ number g.number ∷ []
 
 abbrev pub down_columns : List ℕ → Row
 down_columns modem = Text modem ∷ []

@@ -96,6 +96,22 @@ replies_index = key_index (codes "sqlite_autoindex_replies_1") 9 8 (1 ∷ 2 ∷ 
 abbrev pub no_tables : Schema
 no_tables = record { tables = []; indexes = []; views = [] }
 
+-- the schema after each of them was made
+abbrev pub with_jobs : Schema
+with_jobs = record { tables = jobs ∷ []; indexes = []; views = [] }
+
+abbrev pub with_grants : Schema
+with_grants = record { tables = jobs ∷ grants ∷ []; indexes = []; views = [] }
+
+abbrev pub with_holds : Schema
+with_holds = record { tables = jobs ∷ grants ∷ holds ∷ []; indexes = holds_indexes; views = [] }
+
+abbrev pub four_tables : Schema
+four_tables = record { tables = jobs ∷ grants ∷ holds ∷ down ∷ []; indexes = holds_indexes ++ down_index ∷ []; views = [] }
+
+abbrev pub with_replies : Schema
+with_replies = record { tables = jobs ∷ grants ∷ holds ∷ down ∷ replies ∷ []; indexes = holds_indexes ++ down_index ∷ replies_index ∷ []; views = [] }
+
 -- The six tables, each with a tree of rows and one for each index.
 abbrev pub six_tables : Schema
 six_tables = record {

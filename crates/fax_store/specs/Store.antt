@@ -1,11 +1,13 @@
 -- What a store shows.
 use Rattle.std.specs.Prelude.{◌≡◌, ◌⊎◌, ℕ, false, List, [], Option, Ok, Result, MatchResult, MatchOption, IsTrue}
+use Rattle.std.specs.List.{AllByRecursion}
 use Rattle.sqlite.specs.Order.{Row}
 use Rattle.sqlite.specs.State.{State, HasCleanDisk, IsUnchanged, IsRolledBack, Shown, Executes}
 use Rattle.sqlite_rules.specs.Lists.{Has}
+use Rattle.sqlite_schema.specs.declared.schema.Schema.{Schema}
 use Rattle.fax_store.specs.declared.fault.StoreFault.{StoreFault}
 use Rattle.fax_store.specs.declared.fault.StoreFault.TheVariants.{Unavailable}
-use Rattle.fax_store.specs.Queue.{Queue, Entry}
+use Rattle.fax_core.specs.Queue.{Queue, Entry}
 use Rattle.fax_store.specs.Tables.{TablesMean}
 
 -- The disk has returned what was written, and no fault of it has shut the database. Both hold of memory.
@@ -46,6 +48,13 @@ Answers old new result P = MatchResult result (λ a. P a × IsUnchanged old new)
 -- one of the rows that a query shows, or none where it shows none
 abbrev pub FindsRow : List ℕ → Row → State → State → Option Row → Type 0
 FindsRow sql params old new found = (rows : List Row) × Shown sql params old new rows × MatchOption found (rows ≡ []) (Has rows)
+
+-- no work is under way, and the tables are these, with no rows
+pub record HasEmptyTables (schema : Schema) (s : State) : Type 0 where
+  pub autocommit : s.in_transaction ≡ false
+  pub settled : s.now ≡ s.committed
+  pub schema_is : s.now.schema ≡ schema
+  pub empty : AllByRecursion (λ t. s.now.trees t.tree ≡ []) schema.tables
 
 -- a statement that answers no rows has run
 abbrev pub HasRun : List ℕ → Row → State → State → Type 0

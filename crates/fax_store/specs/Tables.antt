@@ -4,11 +4,20 @@ use Rattle.std.specs.List.{AllByRecursion}
 use Rattle.sqlite.specs.Order.{Row}
 use Rattle.sqlite.specs.Tree.{rowid, IsTable}
 use Rattle.sqlite.specs.View.{is_int}
-use Rattle.fax_job.specs.Name.{IsName}
 use Rattle.sqlite.specs.Effect.{Database, IsDatabase}
+use Rattle.fax_core.specs.Job.{fields_of}
+use Rattle.fax_core.specs.Queue.{Queue, Entry, open_grants}
+use Rattle.fax_core.specs.declared.grant.Grant.{Grant}
+use Rattle.fax_job.specs.Name.{IsName}
 use Rattle.fax_store.specs.Schema.{six_tables}
-use Rattle.fax_store.specs.Queue.{Queue, Entry}
-use Rattle.fax_store.specs.Row.{grant_row, hold_columns, down_columns, entry_columns, meta_row}
+use Rattle.fax_store.specs.Job.{IsLawfulJob}
+use Rattle.fax_store.specs.Row.{job_row, grant_row, hold_columns, down_columns, entry_columns, meta_row}
+
+pub record IsLawfulGrant (g : Grant) : Type 0 where
+  pub number : (1 ≤ g.number) × (g.number ≤ 999999999)
+  pub job : (1 ≤ g.job) × (g.job ≤ 999999)
+  pub modem : IsName g.modem
+  pub pages : (g.first_page ≤ 9999) × (g.last_page ≤ 9999) × (g.confirmed ≤ 9999)
 
 -- the clock is a moment, and the next numbers are at most one past the last
 pub record IsLawfulMeta (m : Queue) : Type 0 where
@@ -21,21 +30,36 @@ pub record IsLawfulEntry (e : Entry) : Type 0 where
   pub number : (1 ≤ e.number) × (e.number < 10 ^ 18)
   pub status : (e.status ≡ 200) ⊎ (e.status ≡ 201)
 
+-- every record is lawful
+pub record AreLawful (m : Queue) (k : List Entry) : Type 0 where
+  pub jobs : All IsLawfulJob m.jobs
+  pub grants : All IsLawfulGrant m.grants
+  pub down : All IsName m.down
+  pub replies : All IsLawfulEntry k
+  pub meta : IsLawfulMeta m
+
 -- the rowids rise, and are integers
 pub record IsByRowid (rows : List Row) : Type 0 where
   pub rise : IsTable rows
   pub integers : AllByRecursion (λ r. IsTrue (is_int (rowid r))) rows
 
--- The database has the six tables and obeys their rules. Their rows are the records of the queue and of the kept replies, each of them lawful, and no other row stands in them.
+-- jobs and grants stand by number, and the others, whose rowids say nothing, as they came
+pub record AreByRowid (db : Database) : Type 0 where
+  pub jobs : IsByRowid (db.trees 0)
+  pub grants : IsByRowid (db.trees 1)
+  pub holds : IsByRowid (db.trees 2)
+  pub down : IsByRowid (db.trees 6)
+  pub replies : IsByRowid (db.trees 8)
+
+-- The database has the six tables and obeys their rules. Their rows are the records of the queue and of the kept replies, each of them lawful, and no other row stands in them: `holds` has the open grants, and `shut` is 0 for just these.
 pub record TablesMean (db : Database) (m : Queue) (k : List Entry) : Type 0 where
   pub schema : db.schema ≡ six_tables
   pub sound : IsDatabase db
-  pub grants : db.trees 1 ≡ map (grant_row m.holds) m.grants
-  pub holds : map (drop 1) (db.trees 2) ≡ map hold_columns m.holds
+  pub jobs : db.trees 0 ≡ map (λ j. job_row (fields_of j)) m.jobs
+  pub grants : db.trees 1 ≡ map grant_row m.grants
+  pub holds : map (drop 1) (db.trees 2) ≡ map hold_columns (open_grants m)
   pub down : map (drop 1) (db.trees 6) ≡ map down_columns m.down
   pub replies : map (drop 1) (db.trees 8) ≡ map entry_columns k
-  -- by their rowids
-  pub ordered : IsByRowid (db.trees 8)
   pub meta : db.trees 10 ≡ meta_row m ∷ []
-  pub lawful_meta : IsLawfulMeta m
-  pub lawful_replies : All IsLawfulEntry k
+  pub ordered : AreByRowid db
+  pub lawful : AreLawful m k

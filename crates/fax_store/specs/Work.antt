@@ -4,7 +4,7 @@ use Rattle.sqlite.specs.State.{State}
 use Rattle.fax_store.specs.declared.fault.StoreFault.{StoreFault}
 use Rattle.fax_store.specs.declared.fault.StoreFault.TheVariants.{Unavailable}
 use Rattle.fax_store.specs.Fault.{OrUnavailable}
-use Rattle.fax_store.specs.Queue.{Queue, Entry}
+use Rattle.fax_core.specs.Queue.{Queue, Entry}
 use Rattle.fax_store.specs.Tables.{TablesMean}
 use Rattle.fax_store.specs.Store.{Serves, Means}
 

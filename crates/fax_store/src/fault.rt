@@ -37,6 +37,12 @@ impl From<AllocError> for StoreFault {
 }
 
 impl From<DialFault> for StoreFault {
+    ghost use Rattle.std.specs.Prelude.{◌≡◌, IsTrue};
+    ghost use Rattle.fax_job.specs.Dial.{is_no_memory};
+    ghost use Rattle.fax_store.specs.declared.fault.StoreFault.TheVariants.{Unavailable};
+
+    ghost from_gives = { λ given fault. IsTrue (is_no_memory given) → fault ≡ Unavailable };
+
     fn from(fault: DialFault) -> StoreFault {
         match fault {
             DialFault::BadDial => StoreFault::Strange,
@@ -46,6 +52,12 @@ impl From<DialFault> for StoreFault {
 }
 
 impl From<NameFault> for StoreFault {
+    ghost use Rattle.std.specs.Prelude.{◌≡◌, IsTrue};
+    ghost use Rattle.fax_job.specs.Name.{is_no_memory};
+    ghost use Rattle.fax_store.specs.declared.fault.StoreFault.TheVariants.{Unavailable};
+
+    ghost from_gives = { λ given fault. IsTrue (is_no_memory given) → fault ≡ Unavailable };
+
     fn from(fault: NameFault) -> StoreFault {
         match fault {
             NameFault::BadName => StoreFault::Strange,
@@ -55,6 +67,12 @@ impl From<NameFault> for StoreFault {
 }
 
 impl From<JobTagFault> for StoreFault {
+    ghost use Rattle.std.specs.Prelude.{◌≡◌, IsTrue};
+    ghost use Rattle.fax_job.specs.JobTag.{is_no_memory};
+    ghost use Rattle.fax_store.specs.declared.fault.StoreFault.TheVariants.{Unavailable};
+
+    ghost from_gives = { λ given fault. IsTrue (is_no_memory given) → fault ≡ Unavailable };
+
     fn from(fault: JobTagFault) -> StoreFault {
         match fault {
             JobTagFault::BadJobTag => StoreFault::Strange,
@@ -64,6 +82,12 @@ impl From<JobTagFault> for StoreFault {
 }
 
 impl From<StatusFault> for StoreFault {
+    ghost use Rattle.std.specs.Prelude.{◌≡◌, IsTrue};
+    ghost use Rattle.fax_job.specs.Status.{is_no_memory};
+    ghost use Rattle.fax_store.specs.declared.fault.StoreFault.TheVariants.{Unavailable};
+
+    ghost from_gives = { λ given fault. IsTrue (is_no_memory given) → fault ≡ Unavailable };
+
     fn from(fault: StatusFault) -> StoreFault {
         match fault {
             StatusFault::BadStatus => StoreFault::Strange,
@@ -73,6 +97,12 @@ impl From<StatusFault> for StoreFault {
 }
 
 impl From<LineFault> for StoreFault {
+    ghost use Rattle.std.specs.Prelude.{◌≡◌, IsTrue};
+    ghost use Rattle.fax_job.specs.Reading.{is_no_memory};
+    ghost use Rattle.fax_store.specs.declared.fault.StoreFault.TheVariants.{Unavailable};
+
+    ghost from_gives = { λ given fault. IsTrue (is_no_memory given) → fault ≡ Unavailable };
+
     fn from(fault: LineFault) -> StoreFault {
         match fault.kind {
             LineKind::NoMemory => StoreFault::Unavailable,

@@ -1,8 +1,32 @@
 //! The jobs.
 
+ghost use Rattle.std.specs.Prelude.{◌≡◌, ℕ, ◌≤◌, ◌<◌, List, Option, false, Err, IfErr, IfOk, is_err, IsTrue, unwrap_or};
+ghost use Rattle.std.specs.Option.{option_map};
+ghost use Rattle.std.specs.Str.{IsUtf8};
+ghost use Rattle.std.specs.String.{string_bytes};
+ghost use Rattle.sqlite.specs.Held.{state};
+ghost use Rattle.sqlite.specs.declared.types.Value.TheVariants.{Text};
+ghost use Rattle.fax_core.specs.Job.{job_of, fields_of};
+ghost use Rattle.fax_core.specs.Queue.{Queue, Entry, job_numbered};
+ghost use Rattle.fax_job.specs.Dial.{IsCanonical};
+ghost use Rattle.fax_job.specs.Name.{IsName};
+ghost use Rattle.fax_job.specs.Job.{is_lawful_killtime, IsLawful};
+ghost use Rattle.fax_job.specs.JobTag.{IsJobTag};
+ghost use Rattle.fax_job.specs.Pair.{Pair, ArePairs};
+ghost use Rattle.fax_job.specs.Spelling.{printed};
+ghost use Rattle.fax_job.specs.Value.{IsStatus};
+ghost use Rattle.fax_job.specs.declared.job.JobFields.{JobFields as Fields};
+ghost use Rattle.fax_job.specs.declared.job.Phase.{Phase as JobPhase};
+ghost use Rattle.fax_job.specs.declared.job.Wish.{Wish as JobWish};
+ghost use Rattle.fax_store.specs.Fault.{OrUnavailable};
+ghost use Rattle.fax_store.specs.Row.{HasValue, HasNumber, phase_number, wish_number};
+ghost use Rattle.fax_store.specs.Job.{IsText, IsFormed, IsLawfulJob, job_shown, with_placed, with_job};
+ghost use Rattle.fax_store.specs.Store.{Serves, Means, MeansNow, Stays, Answers};
+ghost use Rattle.fax_store.specs.Work.{Works, Keeps, Changes, AnswersIn, Moves, Steps};
+
 use crate::fault::StoreFault;
 use crate::meta::{Meta, PAST_JOBS};
-use crate::row::{moment_at, number_at, small_at, value_at};
+use crate::row::{moment_at, number_at, small_at, text_at};
 use crate::store::Store;
 use crate::work::Work;
 use fax_job::{
@@ -22,7 +46,9 @@ const INSERT_JOB: &str =
     ?17, ?18, ?19, ?20)";
 
 /// The number that stands for a phase.
-fn phase_number(phase: Phase) -> u32 {
+fn phase_number(phase: Phase) -> u32
+    ensures { result ≡ phase_number phase }
+{
     match phase {
         Phase::Held => 0,
         Phase::Waiting => 1,
@@ -33,7 +59,10 @@ fn phase_number(phase: Phase) -> u32 {
 }
 
 /// The phase that a number stands for.
-fn phase_at(row: &Row, at: usize) -> Result<Phase, StoreFault> {
+fn phase_at(row: &Row, at: usize) -> Result<Phase, StoreFault>
+    ensures { (phase : JobPhase) → HasNumber row.now at (phase_number phase)
+        → OrUnavailable result (λ found. found ≡ phase) }
+{
     match number_at(row, at)? {
         0 => Ok(Phase::Held),
         1 => Ok(Phase::Waiting),
@@ -45,7 +74,9 @@ fn phase_at(row: &Row, at: usize) -> Result<Phase, StoreFault> {
 }
 
 /// The number that stands for a wish.
-fn wish_number(wish: Wish) -> u32 {
+fn wish_number(wish: Wish) -> u32
+    ensures { result ≡ wish_number wish }
+{
     match wish {
         Wish::Go => 0,
         Wish::Hold => 1,
@@ -54,7 +85,10 @@ fn wish_number(wish: Wish) -> u32 {
 }
 
 /// The wish that a number stands for.
-fn wish_at(row: &Row, at: usize) -> Result<Wish, StoreFault> {
+fn wish_at(row: &Row, at: usize) -> Result<Wish, StoreFault>
+    ensures { (wish : JobWish) → HasNumber row.now at (wish_number wish)
+        → OrUnavailable result (λ found. found ≡ wish) }
+{
     match number_at(row, at)? {
         0 => Ok(Wish::Go),
         1 => Ok(Wish::Hold),
@@ -64,7 +98,10 @@ fn wish_at(row: &Row, at: usize) -> Result<Wish, StoreFault> {
 }
 
 /// The number that stands for a kill time, 0 for none.
-fn killtime_number(killtime: Option<Moment>) -> u32 {
+fn killtime_number(killtime: Option<Moment>) -> u32
+    ensures number { result ≡ unwrap_or killtime 0 }
+    ensures bound { result ≤ 4102444800 }
+{
     match killtime {
         Some(moment) => moment.seconds(),
         None => 0,
@@ -72,7 +109,11 @@ fn killtime_number(killtime: Option<Moment>) -> u32 {
 }
 
 /// The kill time in a column, where 0 is none.
-fn killtime_at(row: &Row, at: usize) -> Result<Option<Moment>, StoreFault> {
+fn killtime_at(row: &Row, at: usize) -> Result<Option<Moment>, StoreFault>
+    ensures { (killtime : Option ℕ) → HasNumber row.now at (unwrap_or killtime 0)
+        → unwrap_or killtime 0 ≤ 4102444800 → IsTrue (is_lawful_killtime killtime)
+        → OrUnavailable result (λ found. found ≡ killtime) }
+{
     let moment = moment_at(row, at)?;
     if moment.seconds() == 0 {
         Ok(None)
@@ -82,10 +123,22 @@ fn killtime_at(row: &Row, at: usize) -> Result<Option<Moment>, StoreFault> {
 }
 
 /// The number to dial in a column, which has it in canonical form.
-fn dial_at(alloc: Global, row: &Row, at: usize) -> Result<Dial, StoreFault> {
-    let text: String = value_at(row, at)?;
-    let dial = Dial::read(alloc, text.as_str())?;
-    if dial.text() == text.as_str() {
+fn dial_at(alloc: Global, row: &Row, at: usize) -> Result<Dial, StoreFault>
+    ensures { (text : List ℕ) → HasValue row.now at (Text text) → IsText IsCanonical text
+        → OrUnavailable result (λ found. found ≡ text) }
+{
+    let text = text_at(row, at)?;
+    canonical(alloc, text.as_str())
+}
+
+/// The number that a text in canonical form is.
+#[tactic(auto, using(crate::proofs::TextLemmas::dial_kept))]
+fn canonical(alloc: Global, text: &str) -> Result<Dial, StoreFault>
+    ensures { (number : List ℕ) → text.now ≡ number → IsText IsCanonical number
+        → OrUnavailable result (λ dial. dial ≡ number) }
+{
+    let dial = Dial::read(alloc, text)?;
+    if dial.text() == text {
         Ok(dial)
     } else {
         Err(StoreFault::Strange)
@@ -93,29 +146,57 @@ fn dial_at(alloc: Global, row: &Row, at: usize) -> Result<Dial, StoreFault> {
 }
 
 /// The name in a column.
-fn name_at(alloc: Global, row: &Row, at: usize) -> Result<Name, StoreFault> {
-    let text: String = value_at(row, at)?;
+fn name_at(alloc: Global, row: &Row, at: usize) -> Result<Name, StoreFault>
+    ensures { (text : List ℕ) → HasValue row.now at (Text text) → IsText IsName text
+        → OrUnavailable result (λ found. found ≡ text) }
+{
+    let text = text_at(row, at)?;
     Ok(Name::read(alloc, text.as_str())?)
 }
 
 /// The client's tag in a column.
-fn jobtag_at(alloc: Global, row: &Row, at: usize) -> Result<JobTag, StoreFault> {
-    let text: String = value_at(row, at)?;
+fn jobtag_at(alloc: Global, row: &Row, at: usize) -> Result<JobTag, StoreFault>
+    ensures { (text : List ℕ) → HasValue row.now at (Text text) → IsText IsJobTag text
+        → OrUnavailable result (λ found. found ≡ text) }
+{
+    let text = text_at(row, at)?;
     Ok(JobTag::read(alloc, text.as_str())?)
 }
 
 /// The status in a column.
-fn status_at(alloc: Global, row: &Row, at: usize) -> Result<Status, StoreFault> {
-    let text: String = value_at(row, at)?;
-    Ok(Status::read(alloc, text.as_str())?)
+fn status_at(alloc: Global, row: &Row, at: usize) -> Result<Status, StoreFault>
+    ensures { (text : List ℕ) → HasValue row.now at (Text text) → IsText IsStatus text
+        → OrUnavailable result (λ found. found ≡ text) }
+{
+    let text = text_at(row, at)?;
+    status_of(alloc, text.as_str())
+}
+
+/// The status that a text is.
+fn status_of(alloc: Global, text: &str) -> Result<Status, StoreFault>
+    ensures { (status : List ℕ) → text.now ≡ status → IsText IsStatus status
+        → OrUnavailable result (λ found. found ≡ status) }
+{
+    Ok(Status::read(alloc, text)?)
 }
 
 /// The lines in a column, which has their printed spelling.
-fn lines_at(alloc: Global, row: &Row, at: usize) -> Result<Lines, StoreFault> {
-    let text: String = value_at(row, at)?;
-    let lines = read_lines(alloc, text.as_bytes())?;
+fn lines_at(alloc: Global, row: &Row, at: usize) -> Result<Lines, StoreFault>
+    ensures { (lines : List Pair) → HasValue row.now at (Text (printed lines)) → IsUtf8 (printed lines)
+        → ArePairs lines → OrUnavailable result (λ found. found ≡ lines) }
+{
+    let text = text_at(row, at)?;
+    spelled(alloc, text.as_bytes())
+}
+
+/// The lines that a text in printed spelling spells.
+fn spelled(alloc: Global, text: &[u8]) -> Result<Lines, StoreFault>
+    ensures { (lines : List Pair) → text.now ≡ printed lines → ArePairs lines
+        → OrUnavailable result (λ found. found ≡ lines) }
+{
+    let lines = read_lines(alloc, text)?;
     let spelling = write_lines(alloc, &lines)?;
-    if spelling.as_slice() == text.as_bytes() {
+    if spelling.as_slice() == text {
         Ok(lines)
     } else {
         Err(StoreFault::Strange)
@@ -123,13 +204,23 @@ fn lines_at(alloc: Global, row: &Row, at: usize) -> Result<Lines, StoreFault> {
 }
 
 /// The printed spelling of lines.
-fn spelling(alloc: Global, lines: &Lines) -> Result<String, StoreFault> {
+#[tactic(auto, using(crate::proofs::TextLemmas::lines_kept))]
+fn spelling(alloc: Global, lines: &Lines) -> Result<String, StoreFault>
+    ensures spelled { OrUnavailable result (λ text. string_bytes text ≡ printed lines.now) }
+    ensures lawful { ArePairs lines.now }
+{
     let bytes = write_lines(alloc, lines)?;
-    String::from_utf8(bytes).map_err(|_| StoreFault::Strange)
+    match String::from_utf8(bytes) {
+        Ok(text) => Ok(text),
+        Err(_) => Err(StoreFault::Strange),
+    }
 }
 
 /// The job in a row of all columns.
-fn job_in(alloc: Global, row: &Row) -> Result<Job, StoreFault> {
+fn job_in(alloc: Global, row: &Row) -> Result<Job, StoreFault>
+    ensures { (job : Fields) → row.now ≡ job_shown job → IsLawful job → IsFormed job
+        → OrUnavailable result (λ found. found ≡ job) }
+{
     let fields = fields_in(alloc, row)?;
     match Job::new(fields) {
         Some(job) => Ok(job),
@@ -138,7 +229,10 @@ fn job_in(alloc: Global, row: &Row) -> Result<Job, StoreFault> {
 }
 
 /// The fields in a row of all columns.
-fn fields_in(alloc: Global, row: &Row) -> Result<JobFields, StoreFault> {
+fn fields_in(alloc: Global, row: &Row) -> Result<JobFields, StoreFault>
+    ensures { (job : Fields) → row.now ≡ job_shown job → IsLawful job → IsFormed job
+        → OrUnavailable result (λ found. found ≡ job) }
+{
     let priority = number_at(row, 8)?;
     let Ok(priority) = u8::try_from(priority) else {
         return Err(StoreFault::Strange);
@@ -173,18 +267,35 @@ impl<S: Alter> Store<S> {
     /// # Errors
     ///
     /// `Unavailable`, or `Strange` where its row is no lawful record.
-    pub fn job(&mut self, job: u32) -> Result<Option<Job>, StoreFault> {
+    pub fn job(&mut self, job: u32) -> Result<Option<Job>, StoreFault>
+        ensures stays { Stays (state S.Store self.old.conn) (state S.Store self.new.conn) }
+        ensures found { (m : Queue) (k : List Entry) → Means (state S.Store self.old.conn) m k
+            → Serves (state S.Store self.new.conn)
+            → OrUnavailable result (λ found. found ≡ option_map fields_of (job_numbered job m)) }
+    {
         self.read_job(job)
     }
 
-    fn read_job(&mut self, job: u32) -> Result<Option<Job>, StoreFault> {
+    fn read_job(&mut self, job: u32) -> Result<Option<Job>, StoreFault>
+        ensures served { Serves (state S.Store self.new.conn) → Serves (state S.Store self.old.conn) }
+        ensures answers { (m : Queue) (k : List Entry) → MeansNow (state S.Store self.old.conn) m k
+            → Serves (state S.Store self.new.conn)
+            → Answers (state S.Store self.old.conn) (state S.Store self.new.conn) result
+            (λ found. found ≡ option_map fields_of (job_numbered job m)) }
+    {
         match self.find(SELECT_JOB, params![job])? {
             Some(row) => Ok(Some(job_in(self.alloc, &row)?)),
             None => Ok(None),
         }
     }
 
-    fn insert_job(&mut self, job: &JobFields) -> Result<(), StoreFault> {
+    fn insert_job(&mut self, job: &Job) -> Result<(), StoreFault>
+        ensures served { Serves (state S.Store self.new.conn) → Serves (state S.Store self.old.conn) }
+        ensures written { (m₀ m : Queue) (k₀ k : List Entry) → Works (state S.Store self.old.conn) false m₀ k₀ m k
+            → Serves (state S.Store self.new.conn)
+            → Steps (state S.Store self.new.conn) result m₀ k₀ (with_placed (job_of job.now) m) k }
+    {
+        let job = job.fields();
         let extra = spelling(self.alloc, &job.extra)?;
         self.run(
             INSERT_JOB,
@@ -213,12 +324,20 @@ impl<S: Alter> Store<S> {
         )
     }
 
-    fn add_job(&mut self, job: &Job) -> Result<(), StoreFault> {
+    fn add_job(&mut self, job: &Job) -> Result<(), StoreFault>
+        ensures served { Serves (state S.Store self.new.conn) → Serves (state S.Store self.old.conn) }
+        ensures written { (m₀ m : Queue) (k₀ k : List Entry) → Works (state S.Store self.old.conn) false m₀ k₀ m k
+            → Serves (state S.Store self.new.conn)
+            → Moves (state S.Store self.new.conn) result m₀ k₀ (with_job (job_of job.now) m) k }
+        ensures cause { (m₀ m : Queue) (k₀ k : List Entry) → Works (state S.Store self.old.conn) false m₀ k₀ m k
+            → Serves (state S.Store self.new.conn) → m.next_job < 1000000
+            → IfErr result (λ fault. fault ≡ StoreFault.Unavailable) }
+    {
         let meta = self.read_meta()?;
         if meta.next_job >= PAST_JOBS {
             return Err(StoreFault::Strange);
         }
-        self.insert_job(job.fields())?;
+        self.insert_job(job)?;
         self.write_meta(Meta {
             next_job: meta.next_job + 1,
             ..meta
@@ -232,7 +351,16 @@ impl<S: Alter> Work<'_, S> {
     /// # Errors
     ///
     /// `Unavailable`, or `Strange` where its row is no lawful record.
-    pub fn job(&mut self, job: u32) -> Result<Option<Job>, StoreFault> {
+    pub fn job(&mut self, job: u32) -> Result<Option<Job>, StoreFault>
+        ensures same_reference { self.new.store.ghost_name ≡ self.old.store.ghost_name }
+        ensures keeps { Keeps (state S.Store self.old.store.now.conn) self.old.failed
+            (state S.Store self.new.store.now.conn) self.new.failed }
+        ensures found { AnswersIn (state S.Store self.old.store.now.conn) self.old.failed
+            (state S.Store self.new.store.now.conn) result
+            (λ m k found. found ≡ option_map fields_of (job_numbered job m)) }
+        ensures fails { self.new.failed ≡ is_err result }
+        ensures refused { IsTrue self.old.failed → result ≡ Err StoreFault.Unavailable }
+    {
         if self.failed {
             return Err(StoreFault::Unavailable);
         }
@@ -241,13 +369,22 @@ impl<S: Alter> Work<'_, S> {
         found
     }
 
-    /// Adds a job of a number that no job has, and makes the next number one greater. A kill time at
-    /// moment 0 is stored as none.
+    /// Adds a job of a number that no job has, and makes the next number one greater.
     ///
     /// # Errors
     ///
     /// `Unavailable`, also where a job has the number, or `Strange` where no next number is left.
-    pub fn put_job(&mut self, job: &Job) -> Result<(), StoreFault> {
+    pub fn put_job(&mut self, job: &Job) -> Result<(), StoreFault>
+        ensures same_reference { self.new.store.ghost_name ≡ self.old.store.ghost_name }
+        ensures changes { Changes (state S.Store self.old.store.now.conn) self.old.failed
+            (state S.Store self.new.store.now.conn) self.new.failed (with_job (job_of job.now)) (λ k. k) }
+        ensures cause { (m₀ m : Queue) (k₀ k : List Entry)
+            → Works (state S.Store self.old.store.now.conn) self.old.failed m₀ k₀ m k
+            → Serves (state S.Store self.new.store.now.conn) → m.next_job < 1000000
+            → IfErr result (λ fault. fault ≡ StoreFault.Unavailable) }
+        ensures fails { self.new.failed ≡ is_err result }
+        ensures refused { IsTrue self.old.failed → result ≡ Err StoreFault.Unavailable }
+    {
         if self.failed {
             return Err(StoreFault::Unavailable);
         }

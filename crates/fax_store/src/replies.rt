@@ -4,7 +4,7 @@ ghost use Rattle.std.specs.Prelude.{◌≡◌, ◌⊎◌, ◌↔◌, ◌≤◌, 
 ghost use Rattle.sqlite.specs.Held.{state};
 ghost use Rattle.fax_store.specs.Fault.{OrUnavailable};
 ghost use Rattle.fax_job.specs.Name.{IsName};
-ghost use Rattle.fax_store.specs.Queue.{Queue, Entry};
+ghost use Rattle.fax_core.specs.Queue.{Queue, Entry};
 ghost use Rattle.fax_store.specs.Tables.{IsLawfulEntry};
 ghost use Rattle.fax_store.specs.Store.{Serves, Means, MeansNow, Stays, Answers};
 ghost use Rattle.fax_store.specs.Work.{Works, Keeps, Changes, AnswersIn, Moves};

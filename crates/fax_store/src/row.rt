@@ -1,9 +1,12 @@
 //! The values of a row.
 
-ghost use Rattle.std.specs.Prelude.{◌≡◌, ℕ, ◌<◌, ◌≤◌, ◌^◌, length};
+ghost use Rattle.std.specs.Prelude.{◌≡◌, ℕ, ◌<◌, ◌≤◌, ◌^◌, List, length};
+ghost use Rattle.std.specs.Str.{IsUtf8};
+ghost use Rattle.std.specs.String.{string_bytes};
+ghost use Rattle.sqlite.specs.declared.types.Value.TheVariants.{Text};
 ghost use Rattle.sqlite.specs.Order.{column};
 ghost use Rattle.fax_store.specs.Fault.{OrUnavailable};
-ghost use Rattle.fax_store.specs.Row.{HasNumber};
+ghost use Rattle.fax_store.specs.Row.{HasValue, HasNumber};
 
 use crate::fault::StoreFault;
 use fax_job::Moment;
@@ -20,6 +23,14 @@ pub(crate) fn value_at<T: FromSql>(row: &Row, at: usize) -> Result<T, StoreFault
         Err(Error::SqliteFailure(_)) => Err(StoreFault::Unavailable),
         Err(_) => Err(StoreFault::Strange),
     }
+}
+
+/// The text in a column.
+pub(crate) fn text_at(row: &Row, at: usize) -> Result<String, StoreFault>
+    ensures { (text : List ℕ) → HasValue row.now at (Text text) → IsUtf8 text
+        → OrUnavailable result (λ found. string_bytes found ≡ text) }
+{
+    value_at(row, at)
 }
 
 /// The number in a column, which fits 32 bits.

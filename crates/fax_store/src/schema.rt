@@ -1,5 +1,13 @@
 //! The six tables.
 
+ghost use Rattle.std.specs.Prelude.{[], ◌≤◌, OnOk};
+ghost use Rattle.sqlite.specs.Held.{state};
+ghost use Rattle.sqlite.specs.View.{doubt};
+ghost use Rattle.sqlite.specs.State.{HasCleanDisk};
+ghost use Rattle.fax_core.specs.Queue.{empty_queue};
+ghost use Rattle.fax_store.specs.Schema.{no_tables, four_tables};
+ghost use Rattle.fax_store.specs.Store.{IsAtRest, HasEmptyTables};
+
 use sqlite::{Alter, Connection, Error};
 
 const CREATE_JOBS: &str = "CREATE TABLE jobs (job INTEGER PRIMARY KEY NOT NULL, \
@@ -32,13 +40,19 @@ const INSERT_META: &str =
     "INSERT INTO meta (one, clock, next_job, next_grant, version) VALUES (1, 0, 1, 1, 1)";
 
 /// Makes the six tables in a database without any, with no rows but the one of meta.
-pub(crate) fn create_tables<S: Alter>(conn: &mut Connection<S>) -> Result<(), Error> {
+pub(crate) fn create_tables<S: Alter>(conn: &mut Connection<S>) -> Result<(), Error>
+    ensures { HasCleanDisk (state S.Store conn.new) → OnOk result (HasEmptyTables no_tables (state S.Store conn.old)
+        → IsAtRest (state S.Store conn.new) empty_queue []) }
+{
     create_work_tables(conn)?;
     create_kept_tables(conn)
 }
 
 /// Makes the tables of jobs, grants, holds and modems down.
-fn create_work_tables<S: Alter>(conn: &mut Connection<S>) -> Result<(), Error> {
+fn create_work_tables<S: Alter>(conn: &mut Connection<S>) -> Result<(), Error>
+    ensures { HasCleanDisk (state S.Store conn.new) → OnOk result (HasEmptyTables no_tables (state S.Store conn.old)
+        → HasEmptyTables four_tables (state S.Store conn.new)) }
+{
     conn.execute(CREATE_JOBS, &[])?;
     conn.execute(CREATE_GRANTS, &[])?;
     conn.execute(CREATE_HOLDS, &[])?;
@@ -47,7 +61,11 @@ fn create_work_tables<S: Alter>(conn: &mut Connection<S>) -> Result<(), Error> {
 }
 
 /// Makes the tables of replies and of the clock and next numbers, with the row of the latter.
-fn create_kept_tables<S: Alter>(conn: &mut Connection<S>) -> Result<(), Error> {
+fn create_kept_tables<S: Alter>(conn: &mut Connection<S>) -> Result<(), Error>
+    ensures made { HasCleanDisk (state S.Store conn.new) → OnOk result (HasEmptyTables four_tables (state S.Store conn.old)
+        → IsAtRest (state S.Store conn.new) empty_queue []) }
+    ensures doubt { doubt (state S.Store conn.old).is_clean ≤ doubt (state S.Store conn.new).is_clean }
+{
     conn.execute(CREATE_REPLIES, &[])?;
     conn.execute(CREATE_META, &[])?;
     conn.execute(INSERT_META, &[])?;

@@ -1,12 +1,14 @@
 //! A database with the six tables.
 
-ghost use Rattle.std.specs.Prelude.{◌≡◌, ◌∷◌, IfOk, IfErr, OnOk, OnErr};
+ghost use Rattle.std.specs.Prelude.{◌≡◌, [], ◌∷◌, IfOk, IfErr, OnOk, OnErr};
 ghost use Rattle.std.specs.Borrow.{sem, RestsIfErr};
 ghost use Rattle.sqlite.specs.Held.{state};
 ghost use Rattle.fax_store.specs.contracts.store.Store.{the_row};
 ghost use Rattle.sqlite.specs.Values.{bound};
 ghost use Rattle.sqlite.specs.State.{HasCleanDisk};
-ghost use Rattle.fax_store.specs.Store.{Serves, Stays, GoesBack, LeavesCommit, FindsRow, HasRun};
+ghost use Rattle.sqlite.specs.Steps.{over_memory};
+ghost use Rattle.fax_core.specs.Queue.{empty_queue};
+ghost use Rattle.fax_store.specs.Store.{IsAtRest, Serves, Stays, GoesBack, LeavesCommit, FindsRow, HasRun};
 ghost use Rattle.fax_store.specs.Work.{Begins};
 
 use crate::fault::StoreFault;
@@ -38,7 +40,10 @@ impl Store<MemStore> {
     /// # Errors
     ///
     /// `Unavailable` for want of memory.
-    pub fn new_in_memory(alloc: Global) -> Result<MemoryStore, StoreFault> {
+    pub fn new_in_memory(alloc: Global) -> Result<MemoryStore, StoreFault>
+        ensures empty { IfOk result (λ store. IsAtRest (state over_memory store.conn) empty_queue []) }
+        ensures cause { IfErr result (λ fault. fault ≡ StoreFault.Unavailable) }
+    {
         let mut conn = Connection::open_in_memory(alloc)?;
         create_tables(&mut conn)?;
         Ok(Store { conn, alloc })

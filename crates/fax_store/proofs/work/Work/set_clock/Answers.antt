@@ -1,7 +1,7 @@
 use Rattle.std.proofs.Common.{List}
 use Rattle.sqlite.specs.Held.{state}
 use Rattle.fax_store.specs.Meta.{with_clock}
-use Rattle.fax_store.specs.Queue.{Entry}
+use Rattle.fax_core.specs.Queue.{Entry}
 use Rattle.fax_store.proofs.WorkLemmas.{changes_by, cause_by}
 use Rattle.fax_store.proofs.work.Work.set_clock.Goals as goal
 

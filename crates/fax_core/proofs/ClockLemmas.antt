@@ -1,0 +1,95 @@
+-- A taken step sets the clock to its moment, and the clock never goes back.
+use Rattle.std.proofs.Common.{◌≡◌, ℕ, ◌≤◌, Bool, true, false, cond, not, List, [], ◌∷◌, refl, sym, ap, ◌∙◌, arith}
+use Rattle.std.specs.Prelude.{Option, Some, None, Result, Ok, Err, max}
+use Rattle.fax_job.specs.declared.refusal.Refusal.{Refusal}
+use Rattle.fax_job.specs.declared.refusal.Refusal.TheVariants as refusal
+use Rattle.fax_core.specs.declared.grant.Grant.{Grant}
+use Rattle.fax_core.specs.Ageing.{aged}
+use Rattle.fax_core.specs.Ask.{Ask, Submission, Suspend, Resume, Kill, Alteration, Ready, Down, Next, CallReport, PageReport, OutcomeReport}
+use Rattle.fax_core.specs.Best.{best}
+use Rattle.fax_core.specs.Decisions.{JobAndGrant, submit, suspend, resume, kill, alter, grant, call, page, outcome}
+use Rattle.fax_core.specs.Job.{Job}
+use Rattle.fax_core.specs.Machine.{with_mark, is_down, held_by, submitted, changed, on_job, reported, on_both, on_grant, given, given_best, given_free, call_reply, page_reply, outcome_reply, act, step}
+use Rattle.fax_core.specs.Queue.{Queue, job_numbered, grant_numbered}
+use Rattle.fax_core.specs.Reply.{Reply, Marked, NoKeys, Step, Taken, Refused}
+use Rattle.fax_core.specs.Run.{Request, left_by, decided, queue_after}
+use Rattle.fax_core.specs.Settings.{Rule, Settings}
+
+-- the clock that a step leaves
+abbrev clock_left : Queue → Step → ℕ
+clock_left m x = (left_by m x).clock
+
+submitted_clock : (m : Queue) (rule : Rule) (d : Result Job Refusal) → clock_left m (submitted m rule d) ≡ m.clock
+submitted_clock m rule (Ok j) = refl
+submitted_clock m rule (Err e) = refl
+
+changed_clock : (s : Settings) (m : Queue) (t : ℕ) (d : Result Job Refusal) → clock_left m (changed s m t d) ≡ m.clock
+changed_clock s m t (Ok j) = refl
+changed_clock s m t (Err e) = refl
+
+on_job_clock : (s : Settings) (m : Queue) (t : ℕ) (decide : Job → Result Job Refusal) (o : Option Job) → clock_left m (on_job s m t decide o) ≡ m.clock
+on_job_clock s m t decide None = refl
+on_job_clock s m t decide (Some j) = changed_clock s m t (decide j)
+
+reported_clock : (m : Queue) (reply : Queue → JobAndGrant → Reply) (j : Job) (d : Result JobAndGrant Refusal) → clock_left m (reported m reply j d) ≡ m.clock
+reported_clock m reply j (Ok b) = refl
+reported_clock m reply j (Err e) = refl
+
+on_both_clock : (m : Queue) (decide : Job → Grant → Result JobAndGrant Refusal) (reply : Queue → JobAndGrant → Reply) (g : Grant) (o : Option Job) → clock_left m (on_both m decide reply g o) ≡ m.clock
+on_both_clock m decide reply g None = refl
+on_both_clock m decide reply g (Some j) = reported_clock m reply j (decide j g)
+
+on_grant_clock : (m : Queue) (decide : Job → Grant → Result JobAndGrant Refusal) (reply : Queue → JobAndGrant → Reply) (o : Option Grant) → clock_left m (on_grant m decide reply o) ≡ m.clock
+on_grant_clock m decide reply None = refl
+on_grant_clock m decide reply (Some g) = on_both_clock m decide reply g (job_numbered g.job m)
+
+mark_clock : (m : Queue) (modem : List ℕ) (down b : Bool) → clock_left m (cond b (Taken (with_mark modem down m) (Marked down)) (Refused refusal.NoModem NoKeys)) ≡ m.clock
+mark_clock m modem true true = refl
+mark_clock m modem true false = refl
+mark_clock m modem false true = refl
+mark_clock m modem false false = refl
+
+given_clock : (m : Queue) (d : Result JobAndGrant Refusal) → clock_left m (given m d) ≡ m.clock
+given_clock m (Ok b) = refl
+given_clock m (Err e) = refl
+
+best_clock : (s : Settings) (m : Queue) (modem : List ℕ) (o : Option Job) → clock_left m (given_best s m modem o) ≡ m.clock
+best_clock s m modem None = refl
+best_clock s m modem (Some j) = given_clock m (grant j modem m.next_grant s.max_grants)
+
+free_clock : (s : Settings) (m : Queue) (t : ℕ) (modem : List ℕ) (o : Option Grant) → clock_left m (given_free s m t modem o) ≡ m.clock
+free_clock s m t modem (Some g) = refl
+free_clock s m t modem None = best_clock s m modem (best s m t modem)
+
+next_clock : (s : Settings) (m : Queue) (t : ℕ) (modem : List ℕ) (b c : Bool) → clock_left m (cond b (Refused refusal.NoModem NoKeys) (cond c (Refused refusal.ModemDown NoKeys) (given_free s m t modem (held_by modem m)))) ≡ m.clock
+next_clock s m t modem true c = refl
+next_clock s m t modem false true = refl
+next_clock s m t modem false false = free_clock s m t modem (held_by modem m)
+
+act_clock : (s : Settings) (m : Queue) (t : ℕ) (ask : Ask) → clock_left m (act s m t ask) ≡ m.clock
+act_clock s m t (Submission o) = submitted_clock m (s.rule o.dial) (submit o (s.rule o.dial) m.next_job s.max_jobs t)
+act_clock s m t (Suspend n) = on_job_clock s m t suspend (job_numbered n m)
+act_clock s m t (Resume n) = on_job_clock s m t resume (job_numbered n m)
+act_clock s m t (Kill n) = on_job_clock s m t kill (job_numbered n m)
+act_clock s m t (Alteration n c) = on_job_clock s m t (λ j. alter c j t) (job_numbered n m)
+act_clock s m t (Ready modem) = mark_clock m modem false (s.has_modem modem)
+act_clock s m t (Down modem) = mark_clock m modem true (s.has_modem modem)
+act_clock s m t (Next modem) = next_clock s m t modem (not (s.has_modem modem)) (is_down modem m)
+act_clock s m t (CallReport n c) = on_grant_clock m (call c) (call_reply t) (grant_numbered n m)
+act_clock s m t (PageReport n p) = on_grant_clock m (page p) (page_reply t) (grant_numbered n m)
+act_clock s m t (OutcomeReport n o) = on_grant_clock m (λ j g. outcome o j g (s.delay g.call) t) (outcome_reply s t) (grant_numbered n m)
+
+pub step_clock : (s : Settings) (m n : Queue) (t : ℕ) (ask : Ask) (r : Reply) → step s m t ask ≡ Taken n r → n.clock ≡ t
+step_clock s m n t ask r e = sym (ap (clock_left (aged t m)) e) ∙ act_clock s (aged t m) t ask
+
+left_clock : (m : Queue) (t : ℕ) (x : Step) → m.clock ≤ t → ((n : Queue) (r : Reply) → x ≡ Taken n r → n.clock ≡ t) → m.clock ≤ clock_left m x
+left_clock m t (Taken n r) h f = omega (arith, f n r refl)
+left_clock m t (Refused e k) h f = omega arith
+
+pub run_clock : (s : Settings) (m : Queue) (rs : List Request) → m.clock ≤ (queue_after s m rs).clock
+run_clock s m [] = omega arith
+run_clock s m (r ∷ rs) =
+    let t = max m.clock r.moment in
+    let here : m.clock ≤ (left_by m (decided s m r)).clock = left_clock m t (decided s m r) (omega arith) (λ n q e. step_clock s m n t r.ask q e) in
+    let rest = run_clock s (left_by m (decided s m r)) rs in
+    omega arith

@@ -1,0 +1,247 @@
+-- A sound queue stays sound where a job, or a job and its grant, changes in its place or comes at the end, and they fit.
+use Rattle.std.proofs.Common.{◌≡◌, ◌≢◌, ◌⊎◌, inl, inr, ℕ, ◌+◌, Bool, true, false, cond, eqb, map, refl, sym, ap, subst, ◌∙◌, arith}
+use Rattle.std.specs.Prelude.{Some, None, find}
+use Rattle.std.specs.Option.{option_map}
+use Rattle.std.proofs.lemmas.Bool.{eqb-true, eq-eqb}
+use Rattle.fax_core.specs.declared.grant.Grant.{Grant}
+use Rattle.fax_core.specs.Decisions.{JobAndGrant}
+use Rattle.fax_core.specs.Job.{Job}
+use Rattle.fax_core.specs.Machine.{with_job, with_both, with_new_job, with_new_grant}
+use Rattle.fax_core.specs.Queue.{Queue, job_numbered, grant_numbered}
+use Rattle.fax_core.specs.Sound.{FitsFree, FitsGrant, IsJob, IsOpen, Sound}
+use Rattle.fax_core.proofs.PlaceLemmas.{find_map, mapped, numbered_map, length_map, numbered_more, length_more, absent, stays, comes, either, in_place, in_place_number, number_found, placed_here, placed_other, placed}
+
+abbrev job_number : Job → ℕ
+job_number j = j.number
+
+abbrev grant_number : Grant → ℕ
+grant_number g = g.number
+
+pub same_job : (m : Queue) (n : ℕ) (j k : Job) → IsJob m n j → IsJob m n k → j ≡ k
+same_job m n j k a b = cc
+
+same_grant : (m : Queue) (n : ℕ) (g h : Grant) → grant_numbered n m ≡ Some g → grant_numbered n m ≡ Some h → g ≡ h
+same_grant m n g h a b = cc
+
+pub numbered_job : (m : Queue) (n : ℕ) (j : Job) → IsJob m n j → j.number ≡ n
+numbered_job m n j e = number_found job_number n m.jobs j e
+
+pub numbered_grant : (m : Queue) (n : ℕ) (g : Grant) → grant_numbered n m ≡ Some g → g.number ≡ n
+numbered_grant m n g e = number_found grant_number n m.grants g e
+
+-- ---- each job changes, and no grant
+
+pub looked_up : (m : Queue) (f : Job → Job) → ((j : Job) → (f j).number ≡ j.number) → (n : ℕ) → find (λ j. eqb j.number n) (map f m.jobs) ≡ option_map f (job_numbered n m)
+looked_up m f same n = find_map (λ j. eqb j.number n) f (λ j. ap (λ (a : ℕ). eqb a n) (same j)) m.jobs
+
+pub keeps_mapped : (m : Queue) (f : Job → Job) (t : ℕ) → ((j : Job) → (f j).number ≡ j.number)
+    → ((n : ℕ) (j : Job) → IsJob m n j → FitsFree j → FitsFree (f j))
+    → ((n : ℕ) (j : Job) (g : Grant) → IsJob m n j → FitsGrant j g → FitsGrant (f j) g)
+    → Sound m → Sound (record m { jobs = map f m.jobs; clock = t })
+keeps_mapped m f t same free held h = record {
+  jobs = numbered_map job_number f same 1 m.jobs h.jobs;
+  next_job = h.next_job ∙ ap (λ (a : ℕ). a + 1) (sym (length_map f m.jobs));
+  grants = h.grants;
+  next_grant = h.next_grant;
+  one_to_a_modem = h.one_to_a_modem;
+  one_of_a_job = h.one_of_a_job;
+  held = λ a g o. let old = h.held a g o in (f old.0, looked_up m f same g.job ∙ ap (option_map f) old.1, held g.job old.0 g old.1 old.2);
+  free = λ n k e alone.
+      let old = mapped f (job_numbered n m) k (sym (looked_up m f same n) ∙ e) in
+      subst FitsFree old.2 (free n old.0 old.1 (h.free n old.0 old.1 alone));
+}
+
+-- ---- one job changes, and no grant
+
+placed_free : (m : Queue) (n a : ℕ) (j k x : Job) → IsJob m n j → k.number ≡ n → (FitsFree j → FitsFree k) → IsJob m a x → FitsFree x → (b : Bool) → eqb x.number k.number ≡ b → FitsFree (cond b k x)
+placed_free m n a j k x e same free is h true t =
+    let here : a ≡ n = sym (numbered_job m a x is) ∙ eqb-true x.number k.number t ∙ same in
+    let found : IsJob m n x = subst (λ (i : ℕ). IsJob m i x) here is in
+    free (subst FitsFree (same_job m n x j found e) h)
+placed_free m n a j k x e same free is h false t = h
+
+placed_held : (m : Queue) (n a : ℕ) (j k x : Job) (g : Grant) → IsJob m n j → k.number ≡ n → (FitsGrant j g → FitsGrant k g) → IsJob m a x → FitsGrant x g → (b : Bool) → eqb x.number k.number ≡ b → FitsGrant (cond b k x) g
+placed_held m n a j k x g e same held is h true t =
+    let here : a ≡ n = sym (numbered_job m a x is) ∙ eqb-true x.number k.number t ∙ same in
+    let found : IsJob m n x = subst (λ (i : ℕ). IsJob m i x) here is in
+    held (subst (λ (y : Job). FitsGrant y g) (same_job m n x j found e) h)
+placed_held m n a j k x g e same held is h false t = h
+
+pub keeps_job : (m : Queue) (n : ℕ) (j k : Job) → IsJob m n j → k.number ≡ n → (FitsFree j → FitsFree k) → ((g : Grant) → FitsGrant j g → FitsGrant k g) → Sound m → Sound (with_job k m)
+keeps_job m n j k e same free held h =
+    keeps_mapped m (in_place job_number k) m.clock (in_place_number job_number k)
+    (λ a x is f. placed_free m n a j k x e same free is f (eqb x.number k.number) refl)
+    (λ a x g is f. placed_held m n a j k x g e same (held g) is f (eqb x.number k.number) refl)
+    h
+
+-- ---- a job and its open grant change
+
+-- what a report may do to a job and its open grant
+pub record Reports (j : Job) (g : Grant) (b : JobAndGrant) : Type 0 where
+  pub number : b.job.number ≡ j.number
+  pub grant_number : b.grant.number ≡ g.number
+  pub modem : b.grant.modem ≡ g.modem
+  pub job : b.grant.job ≡ g.job
+  pub held : b.grant.is_open ≡ true → FitsGrant b.job b.grant
+  pub free : b.grant.is_open ≡ false → FitsFree b.job
+
+-- an open grant after a report was open before it, with the same modem and job
+record WasOpen (m : Queue) (a : ℕ) (x : Grant) : Type 0 where
+  before : Grant
+  open' : IsOpen m a before
+  modem : x.modem ≡ before.modem
+  job : x.job ≡ before.job
+
+module _ (m : Queue) (n : ℕ) (j : Job) (g : Grant) (b : JobAndGrant) (is : IsOpen m n g) (of : IsJob m g.job j) (r : Reports j g b) (h : Sound m) where
+  grant_at : b.grant.number ≡ n
+  grant_at = r.grant_number ∙ numbered_grant m n g is.0
+
+  job_at : b.job.number ≡ g.job
+  job_at = r.number ∙ numbered_job m g.job j of
+
+  was_by : (a : ℕ) (x y : Grant) → grant_numbered a m ≡ Some y → x.is_open ≡ true → ((b.grant.number ≡ a) × (x ≡ b.grant)) ⊎ ((b.grant.number ≢ a) × (x ≡ y)) → WasOpen m a x
+  was_by a x y e o (inl c) =
+      let here : n ≡ a = sym grant_at ∙ c.0 in
+      record {
+        before = g;
+        open' = subst (λ (i : ℕ). IsOpen m i g) here is;
+        modem = ap (λ (z : Grant). z.modem) c.1 ∙ r.modem;
+        job = ap (λ (z : Grant). z.job) c.1 ∙ r.job;
+      }
+  was_by a x y e o (inr c) = record {
+    before = y;
+    open' = (e, sym (ap (λ (z : Grant). z.is_open) c.1) ∙ o);
+    modem = ap (λ (z : Grant). z.modem) c.1;
+    job = ap (λ (z : Grant). z.job) c.1;
+  }
+
+  was : (a : ℕ) (x : Grant) → IsOpen (with_both b m) a x → WasOpen m a x
+  was a x o = let p = placed grant_number a b.grant x m.grants o.0 in was_by a x p.before p.was o.1 p.now
+
+  held_by : (a : ℕ) (x y : Grant) → grant_numbered a m ≡ Some y → x.is_open ≡ true → ((b.grant.number ≡ a) × (x ≡ b.grant)) ⊎ ((b.grant.number ≢ a) × (x ≡ y)) → (k : Job) × IsJob (with_both b m) x.job k × FitsGrant k x
+  held_by a x y e o (inl c) =
+      let there : IsJob (with_both b m) g.job b.job = placed_here job_number g.job b.job j m.jobs of job_at in
+      let job : g.job ≡ x.job = sym (ap (λ (z : Grant). z.job) c.1 ∙ r.job) in
+      let fits : FitsGrant b.job b.grant = r.held (sym (ap (λ (z : Grant). z.is_open) c.1) ∙ o) in
+      (b.job, subst (λ (i : ℕ). IsJob (with_both b m) i b.job) job there, subst (FitsGrant b.job) (sym c.1) fits)
+  held_by a x y e o (inr c) =
+      let was_open : y.is_open ≡ true = sym (ap (λ (z : Grant). z.is_open) c.1) ∙ o in
+      let old = h.held a y (e, was_open) in
+      let other : b.job.number ≢ y.job = λ q. c.0 (grant_at ∙ h.one_of_a_job n a g y is (e, was_open) (sym job_at ∙ q)) in
+      let there : IsJob (with_both b m) y.job old.0 = placed_other job_number y.job b.job old.0 m.jobs old.1 other in
+      (old.0, subst (λ (z : Grant). IsJob (with_both b m) z.job old.0) (sym c.1) there, subst (FitsGrant old.0) (sym c.1) old.2)
+
+  free_by : (a : ℕ) (x y : Job) → IsJob m a y → ((i : ℕ) (z : Grant) → IsOpen (with_both b m) i z → z.job ≢ a) → ((b.job.number ≡ a) × (x ≡ b.job)) ⊎ ((b.job.number ≢ a) × (x ≡ y)) → FitsFree x
+  free_by a x y e alone (inl c) =
+      let there : grant_numbered n (with_both b m) ≡ Some b.grant = placed_here grant_number n b.grant g m.grants is.0 grant_at in
+      let closed = elim b.grant.is_open as (λ (o : Bool). b.grant.is_open ≡ o → b.grant.is_open ≡ false) [
+        | true ↦ λ o. absurd (alone n b.grant (there, o) (r.job ∙ sym job_at ∙ c.0))
+        | false ↦ λ o. o
+      ] in
+      subst FitsFree (sym c.1) (r.free (closed refl))
+  free_by a x y e alone (inr c) =
+      let before : (i : ℕ) (z : Grant) → IsOpen m i z → z.job ≢ a = λ i z o q.
+      let other : b.grant.number ≢ i = λ p.
+      let here : i ≡ n = sym p ∙ grant_at in
+      let same : z ≡ g = same_grant m n z g (subst (λ (i : ℕ). grant_numbered i m ≡ Some z) here o.0) is.0 in
+      c.0 (job_at ∙ sym (ap (λ (z : Grant). z.job) same) ∙ q) in
+      alone i z (placed_other grant_number i b.grant z m.grants o.0 other, o.1) q in
+      subst FitsFree (sym c.1) (h.free a y e before)
+
+  pub keeps_both : Sound (with_both b m)
+  keeps_both = record {
+    jobs = numbered_map job_number (in_place job_number b.job) (in_place_number job_number b.job) 1 m.jobs h.jobs;
+    next_job = h.next_job ∙ ap (λ (a : ℕ). a + 1) (sym (length_map (in_place job_number b.job) m.jobs));
+    grants = numbered_map grant_number (in_place grant_number b.grant) (in_place_number grant_number b.grant) 1 m.grants h.grants;
+    next_grant = h.next_grant ∙ ap (λ (a : ℕ). a + 1) (sym (length_map (in_place grant_number b.grant) m.grants));
+    one_to_a_modem = λ a c x y o p e. let u = was a x o in let v = was c y p in h.one_to_a_modem a c u.before v.before u.open' v.open' (sym u.modem ∙ e ∙ v.modem);
+    one_of_a_job = λ a c x y o p e. let u = was a x o in let v = was c y p in h.one_of_a_job a c u.before v.before u.open' v.open' (sym u.job ∙ e ∙ v.job);
+    held = λ a x o. let p = placed grant_number a b.grant x m.grants o.0 in held_by a x p.before p.was o.1 p.now;
+    free = λ a x e alone. let p = placed job_number a b.job x m.jobs e in free_by a x p.before p.was alone p.now;
+  }
+
+-- ---- a new job
+
+pub keeps_new_job : (m : Queue) (j : Job) → j.number ≡ m.next_job → FitsFree j → Sound m → Sound (with_new_job j m)
+keeps_new_job m j same fits h =
+    let none : job_numbered m.next_job m ≡ None = absent job_number 1 m.next_job m.jobs h.jobs (omega (arith, h.next_job)) in
+    record {
+      jobs = numbered_more job_number 1 m.jobs j h.jobs (omega (arith, same, h.next_job));
+      next_job = omega (arith, h.next_job, length_more m.jobs j);
+      grants = h.grants;
+      next_grant = h.next_grant;
+      one_to_a_modem = h.one_to_a_modem;
+      one_of_a_job = h.one_of_a_job;
+      held = λ a g o. let old = h.held a g o in (old.0, stays (λ k. eqb k.number g.job) m.jobs j old.0 old.1, old.2);
+      free = λ n k e alone. free_new n k alone (either (λ x. eqb x.number n) m.jobs j k e);
+    }
+  where
+    free_new : (n : ℕ) (k : Job) → ((a : ℕ) (g : Grant) → IsOpen m a g → g.job ≢ n) → (job_numbered n m ≡ Some k) ⊎ ((eqb j.number n ≡ true) × (j ≡ k)) → FitsFree k
+    free_new n k alone (inl e) = h.free n k e alone
+    free_new n k alone (inr e) = subst FitsFree e.1 fits
+
+-- ---- a new grant
+
+-- what a grant may be, of a job that waits and to a modem that holds none
+pub record Grants (m : Queue) (n : ℕ) (j : Job) (b : JobAndGrant) : Type 0 where
+  pub of : IsJob m n j
+  pub number : b.job.number ≡ n
+  pub grant_number : b.grant.number ≡ m.next_grant
+  pub job : b.grant.job ≡ n
+  pub is_open : b.grant.is_open ≡ true
+  pub fits : FitsGrant b.job b.grant
+  pub modem_free : (a : ℕ) (g : Grant) → IsOpen m a g → g.modem ≢ b.grant.modem
+  pub job_free : (a : ℕ) (g : Grant) → IsOpen m a g → g.job ≢ n
+
+module _ (m : Queue) (n : ℕ) (j : Job) (b : JobAndGrant) (r : Grants m n j b) (h : Sound m) where
+  -- an open grant was there, or is the new one
+  new_or_old : (a : ℕ) (x : Grant) → IsOpen (with_new_grant b m) a x → IsOpen m a x ⊎ ((m.next_grant ≡ a) × (x ≡ b.grant))
+  new_or_old a x o = split (either (λ (y : Grant). eqb y.number a) m.grants b.grant x o.0)
+    where
+      split : (grant_numbered a m ≡ Some x) ⊎ ((eqb b.grant.number a ≡ true) × (b.grant ≡ x)) → IsOpen m a x ⊎ ((m.next_grant ≡ a) × (x ≡ b.grant))
+      split (inl e) = inl (e, o.1)
+      split (inr e) = inr (sym r.grant_number ∙ eqb-true b.grant.number a e.0, sym e.1)
+
+  modem_by : (a c : ℕ) (x y : Grant) → x.modem ≡ y.modem → IsOpen m a x ⊎ ((m.next_grant ≡ a) × (x ≡ b.grant)) → IsOpen m c y ⊎ ((m.next_grant ≡ c) × (y ≡ b.grant)) → a ≡ c
+  modem_by a c x y e (inl o) (inl p) = h.one_to_a_modem a c x y o p e
+  modem_by a c x y e (inl o) (inr p) = absurd (r.modem_free a x o (e ∙ ap (λ (z : Grant). z.modem) p.1))
+  modem_by a c x y e (inr o) (inl p) = absurd (r.modem_free c y p (sym e ∙ ap (λ (z : Grant). z.modem) o.1))
+  modem_by a c x y e (inr o) (inr p) = sym o.0 ∙ p.0
+
+  job_by : (a c : ℕ) (x y : Grant) → x.job ≡ y.job → IsOpen m a x ⊎ ((m.next_grant ≡ a) × (x ≡ b.grant)) → IsOpen m c y ⊎ ((m.next_grant ≡ c) × (y ≡ b.grant)) → a ≡ c
+  job_by a c x y e (inl o) (inl p) = h.one_of_a_job a c x y o p e
+  job_by a c x y e (inl o) (inr p) = absurd (r.job_free a x o (e ∙ ap (λ (z : Grant). z.job) p.1 ∙ r.job))
+  job_by a c x y e (inr o) (inl p) = absurd (r.job_free c y p (sym e ∙ ap (λ (z : Grant). z.job) o.1 ∙ r.job))
+  job_by a c x y e (inr o) (inr p) = sym o.0 ∙ p.0
+
+  held_new : (a : ℕ) (x : Grant) → IsOpen m a x ⊎ ((m.next_grant ≡ a) × (x ≡ b.grant)) → (k : Job) × IsJob (with_new_grant b m) x.job k × FitsGrant k x
+  held_new a x (inl o) =
+      let old = h.held a x o in
+      (old.0, placed_other job_number x.job b.job old.0 m.jobs old.1 (λ q. r.job_free a x o (sym q ∙ r.number)), old.2)
+  held_new a x (inr o) =
+      let there : IsJob (with_new_grant b m) n b.job = placed_here job_number n b.job j m.jobs r.of r.number in
+      let job : n ≡ x.job = sym (ap (λ (z : Grant). z.job) o.1 ∙ r.job) in
+      (b.job, subst (λ (i : ℕ). IsJob (with_new_grant b m) i b.job) job there, subst (FitsGrant b.job) (sym o.1) r.fits)
+
+  -- the new grant is found
+  pub found_new : IsOpen (with_new_grant b m) m.next_grant b.grant
+  found_new =
+      let none : grant_numbered m.next_grant m ≡ None = absent grant_number 1 m.next_grant m.grants h.grants (omega (arith, h.next_grant)) in
+      (comes (λ (g : Grant). eqb g.number m.next_grant) m.grants b.grant none (eq-eqb b.grant.number m.next_grant r.grant_number), r.is_open)
+
+  free_of_new : (a : ℕ) (x y : Job) → IsJob m a y → ((i : ℕ) (z : Grant) → IsOpen (with_new_grant b m) i z → z.job ≢ a) → ((b.job.number ≡ a) × (x ≡ b.job)) ⊎ ((b.job.number ≢ a) × (x ≡ y)) → FitsFree x
+  free_of_new a x y e alone (inl c) = absurd (alone m.next_grant b.grant found_new (r.job ∙ sym r.number ∙ c.0))
+  free_of_new a x y e alone (inr c) =
+      subst FitsFree (sym c.1) (h.free a y e (λ i z o q. alone i z (stays (λ (g : Grant). eqb g.number i) m.grants b.grant z o.0, o.1) q))
+
+  pub keeps_new_grant : Sound (with_new_grant b m)
+  keeps_new_grant = record {
+    jobs = numbered_map job_number (in_place job_number b.job) (in_place_number job_number b.job) 1 m.jobs h.jobs;
+    next_job = h.next_job ∙ ap (λ (a : ℕ). a + 1) (sym (length_map (in_place job_number b.job) m.jobs));
+    grants = numbered_more grant_number 1 m.grants b.grant h.grants (omega (arith, r.grant_number, h.next_grant));
+    next_grant = omega (arith, h.next_grant, length_more m.grants b.grant);
+    one_to_a_modem = λ a c x y o p e. modem_by a c x y e (new_or_old a x o) (new_or_old c y p);
+    one_of_a_job = λ a c x y o p e. job_by a c x y e (new_or_old a x o) (new_or_old c y p);
+    held = λ a x o. held_new a x (new_or_old a x o);
+    free = λ a x e alone. let p = placed job_number a b.job x m.jobs e in free_of_new a x p.before p.was alone p.now;
+  }

@@ -1,0 +1,16 @@
+pub mod RowWords
+pub mod RowsGrants
+pub mod RowsClients
+pub mod RowsRefusals
+pub mod RowsPhases
+pub mod RowsOrder
+pub mod RowsFields
+pub mod PlaceLemmas
+pub mod KeepLemmas
+pub mod DecisionLemmas
+pub mod BestLemmas
+pub mod StepLemmas
+pub mod PageLemmas
+pub mod ClockLemmas
+pub mod FitsLemmas
+pub mod RefusalLemmas

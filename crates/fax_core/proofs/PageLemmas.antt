@@ -1,0 +1,303 @@
+-- Pages go from the front of those left to the end of those sent, and stay there.
+use Rattle.std.proofs.Common.{◌≡◌, ◌≢◌, ◌⊎◌, inl, inr, ℕ, zero, suc, ◌+◌, ◌-◌, ◌<◌, ◌≤◌, Bool, true, false, cond, eqb, List, [], ◌∷◌, ◌++◌, length, refl, sym, ap, subst, ◌∙◌, append_assoc, arith}
+use Rattle.std.specs.Prelude.{Option, Some, None, Result, Ok, Err, find, max}
+use Rattle.std.specs.List.{range_with_len}
+use Rattle.std.specs.Option.{option_map}
+use Rattle.std.proofs.lemmas.Bool.{cases_eq}
+use Rattle.std.proofs.lemmas.List.{append-nil, length-append}
+use Rattle.fax_job.specs.declared.refusal.Refusal.{Refusal}
+use Rattle.fax_job.specs.declared.refusal.Refusal.TheVariants as refusal
+use Rattle.fax_core.specs.declared.grant.Grant.{Grant}
+use Rattle.fax_core.specs.Ageing.{aged, aged_job}
+use Rattle.fax_core.specs.Ask.{Ask, Submission, Suspend, Resume, Kill, Alteration, Ready, Down, Next, CallReport, PageReport, OutcomeReport}
+use Rattle.fax_core.specs.Decisions.{JobAndGrant, submit, suspend, resume, kill, alter, granted, call, page, outcome}
+use Rattle.fax_core.specs.Job.{Job, HasPages, pages_to}
+use Rattle.fax_core.specs.Laws.{HasSent, ConfirmsPage, GivesJob}
+use Rattle.fax_core.specs.Machine.{with_job, with_both, with_new_job, with_new_grant, with_mark, dial_of, handed, submitted, changed, on_job, reported, on_both, on_grant, call_reply, page_reply, outcome_reply, act, step}
+use Rattle.fax_core.specs.Queue.{Queue, job_numbered, grant_numbered}
+use Rattle.fax_core.specs.Reply.{Reply, Marked, Handed, Given, NoKeys, Step, Taken, Refused}
+use Rattle.fax_core.specs.Run.{Request, left_by, decided, queue_after, AreLawful}
+use Rattle.fax_core.specs.Settings.{Rule, Settings}
+use Rattle.fax_core.specs.Sound.{IsJob, IsOpen, Sound}
+use Rattle.fax_core.proofs.DecisionLemmas.{Keeps, IsReport, aged_number, aged_sent, suspended_in, resumed_in, killed_in, altered_in, called, paged, outcome_is}
+use Rattle.fax_core.proofs.KeepLemmas.{same_job, numbered_job, looked_up, Grants, found_new}
+use Rattle.fax_core.proofs.PlaceLemmas.{stays, placed_here, placed_other}
+use Rattle.fax_core.proofs.StepLemmas.{taken_same, aged_sound, GivenTo, None_to, Best_to, given_is, given_grants, run_sound, step_sound, decided_sound}
+
+-- ---- the pages that are sent stay sent
+
+abbrev pub KeepsSent : Queue → Queue → Type 0
+KeepsSent m n = (a : ℕ) (j : Job) → IsJob m a j → HasSent n a j.sent
+
+same_sent : (m n : Queue) → n.jobs ≡ m.jobs → KeepsSent m n
+same_sent m n e a j is = record { job = j; there = subst (λ (js : List Job). find (λ k. eqb k.number a) js ≡ Some j) (sym e) is; more = []; begins = sym (append-nil j.sent) }
+
+through : (l m n : Queue) → KeepsSent l m → KeepsSent m n → KeepsSent l n
+through l m n f g a j is =
+    let x = f a j is in
+    let y = g a x.job x.there in
+    record { job = y.job; there = y.there; more = x.more ++ y.more; begins = y.begins ∙ ap (λ (ps : List ℕ). ps ++ y.more) x.begins ∙ append_assoc j.sent x.more y.more }
+
+aged_keeps : (t : ℕ) (m : Queue) → KeepsSent m (aged t m)
+aged_keeps t m a j is = record { job = aged_job t j; there = looked_up m (aged_job t) (aged_number t) a ∙ ap (option_map (aged_job t)) is; more = []; begins = aged_sent t j ∙ sym (append-nil j.sent) }
+
+-- a job in its place
+placed_keeps_by : (m : Queue) (b : ℕ) (j k : Job) (more : List ℕ) → IsJob m b j → k.number ≡ b → k.sent ≡ j.sent ++ more → (a : ℕ) (x : Job) → IsJob m a x → (k.number ≡ a) ⊎ (k.number ≢ a) → HasSent (with_job k m) a x.sent
+placed_keeps_by m b j k more is same e a x at (inl q) =
+    let here : b ≡ a = sym same ∙ q in
+    let it : x ≡ j = same_job m b x j (subst (λ (i : ℕ). IsJob m i x) (sym here) at) is in
+    record { job = k; there = placed_here (λ (y : Job). y.number) a k x m.jobs at q; more = more; begins = e ∙ ap (λ (y : Job). y.sent ++ more) (sym it) }
+placed_keeps_by m b j k more is same e a x at (inr q) =
+    record { job = x; there = placed_other (λ (y : Job). y.number) a k x m.jobs at q; more = []; begins = sym (append-nil x.sent) }
+
+placed_keeps : (m : Queue) (b : ℕ) (j k : Job) (more : List ℕ) → IsJob m b j → k.number ≡ b → k.sent ≡ j.sent ++ more → KeepsSent m (with_job k m)
+placed_keeps m b j k more is same e a x at = placed_keeps_by m b j k more is same e a x at (cases_eq k.number a)
+
+changed_keeps : (s : Settings) (m : Queue) (t : ℕ) (a : ℕ) (j : Job) (d : Result Job Refusal) (n : Queue) (r : Reply) → IsJob m a j → ((k : Job) → d ≡ Ok k → Keeps j k) → changed s m t d ≡ Taken n r → KeepsSent m n
+changed_keeps s m t a j (Ok k) n r is keeps e =
+    let f = keeps k refl in
+    subst (KeepsSent m) (taken_same (with_job k m) n _ r e).0 (placed_keeps m a j k [] is (f.number ∙ numbered_job m a j is) (f.sent ∙ sym (append-nil j.sent)))
+changed_keeps s m t a j (Err x) n r is keeps e = cc
+
+on_job_keeps : (s : Settings) (m : Queue) (t : ℕ) (a : ℕ) (decide : Job → Result Job Refusal) (o : Option Job) (n : Queue) (r : Reply) → job_numbered a m ≡ o → ((j k : Job) → decide j ≡ Ok k → Keeps j k) → on_job s m t decide o ≡ Taken n r → KeepsSent m n
+on_job_keeps s m t a decide None n r is keeps e = cc
+on_job_keeps s m t a decide (Some j) n r is keeps e = changed_keeps s m t a j (decide j) n r is (keeps j) e
+
+-- what a taken report is
+pub record Reported (m n : Queue) (a : ℕ) (decide : Job → Grant → Result JobAndGrant Refusal) : Type 0 where
+  pub grant : Grant
+  pub is : grant_numbered a m ≡ Some grant
+  pub job : Job
+  pub of : IsJob m grant.job job
+  pub both : JobAndGrant
+  pub made : decide job grant ≡ Ok both
+  pub left : with_both both m ≡ n
+
+reported_is : (m : Queue) (decide : Job → Grant → Result JobAndGrant Refusal) (reply : Queue → JobAndGrant → Reply) (a : ℕ) (g : Grant) (j : Job) (d : Result JobAndGrant Refusal) (n : Queue) (r : Reply) → grant_numbered a m ≡ Some g → IsJob m g.job j → decide j g ≡ d → reported m reply j d ≡ Taken n r → Reported m n a decide
+reported_is m decide reply a g j (Ok b) n r is of made e = record { grant = g; is = is; job = j; of = of; both = b; made = made; left = (taken_same (with_both b m) n _ r e).0 }
+reported_is m decide reply a g j (Err x) n r is of made e = cc
+
+on_both_is : (m : Queue) (decide : Job → Grant → Result JobAndGrant Refusal) (reply : Queue → JobAndGrant → Reply) (a : ℕ) (g : Grant) (o : Option Job) (n : Queue) (r : Reply) → grant_numbered a m ≡ Some g → job_numbered g.job m ≡ o → on_both m decide reply g o ≡ Taken n r → Reported m n a decide
+on_both_is m decide reply a g None n r is of e = cc
+on_both_is m decide reply a g (Some j) n r is of e = reported_is m decide reply a g j (decide j g) n r is of refl e
+
+pub on_grant_is : (m : Queue) (decide : Job → Grant → Result JobAndGrant Refusal) (reply : Queue → JobAndGrant → Reply) (a : ℕ) (o : Option Grant) (n : Queue) (r : Reply) → grant_numbered a m ≡ o → on_grant m decide reply o ≡ Taken n r → Reported m n a decide
+on_grant_is m decide reply a None n r is e = cc
+on_grant_is m decide reply a (Some g) n r is e = on_both_is m decide reply a g (job_numbered g.job m) n r is refl e
+
+report_keeps : (m n : Queue) (a : ℕ) (decide : Job → Grant → Result JobAndGrant Refusal) → ((j : Job) (g : Grant) (b : JobAndGrant) → decide j g ≡ Ok b → IsReport j g b) → ((j : Job) (g : Grant) (b : JobAndGrant) → decide j g ≡ Ok b → b.job.number ≡ j.number) → Reported m n a decide → KeepsSent m n
+report_keeps m n a decide report number x =
+    let f = report x.job x.grant x.both x.made in
+    let k = placed_keeps m x.grant.job x.job x.both.job f.more x.of (number x.job x.grant x.both x.made ∙ numbered_job m x.grant.job x.job x.of) f.sent in
+    through m (with_job x.both.job m) n k (same_sent (with_job x.both.job m) n (ap (λ (q : Queue). q.jobs) (sym x.left)))
+
+given_keeps : (s : Settings) (m : Queue) (t : ℕ) (modem : List ℕ) (n : Queue) (r : Reply) → GivenTo s m t modem n r → KeepsSent m n
+given_keeps s m t modem n r (None_to none same told) = same_sent m n (ap (λ (q : Queue). q.jobs) (sym same))
+given_keeps s m t modem n r (Best_to j b none same told) =
+    let k = (granted j modem m.next_grant).job in
+    through m (with_job k m) n (placed_keeps m j.number j k [] b.goes.there refl (sym (append-nil j.sent))) (same_sent (with_job k m) n (ap (λ (q : Queue). q.jobs) (sym same)))
+
+submission_keeps : (m : Queue) (rule : Rule) (d : Result Job Refusal) (n : Queue) (r : Reply) → submitted m rule d ≡ Taken n r → KeepsSent m n
+submission_keeps m rule (Ok k) n r e = subst (KeepsSent m) (taken_same (with_new_job k m) n _ r e).0 (λ a j is. record { job = j; there = stays (λ (x : Job). eqb x.number a) m.jobs k j is; more = []; begins = sym (append-nil j.sent) })
+submission_keeps m rule (Err x) n r e = cc
+
+mark_jobs : (m : Queue) (modem : List ℕ) (down : Bool) → (with_mark modem down m).jobs ≡ m.jobs
+mark_jobs m modem true = refl
+mark_jobs m modem false = refl
+
+mark_keeps : (m : Queue) (modem : List ℕ) (down b : Bool) (n : Queue) (r : Reply) → cond b (Taken (with_mark modem down m) (Marked down)) (Refused refusal.NoModem NoKeys) ≡ Taken n r → KeepsSent m n
+mark_keeps m modem down true n r e = same_sent m n (ap (λ (q : Queue). q.jobs) (sym (taken_same (with_mark modem down m) n _ r e).0) ∙ mark_jobs m modem down)
+mark_keeps m modem down false n r e = cc
+
+act_keeps : (s : Settings) (m n : Queue) (t : ℕ) (ask : Ask) (r : Reply) → Sound m → act s m t ask ≡ Taken n r → KeepsSent m n
+act_keeps s m n t (Submission o) r h e = submission_keeps m (s.rule o.dial) (submit o (s.rule o.dial) m.next_job s.max_jobs t) n r e
+act_keeps s m n t (Suspend a) r h e = on_job_keeps s m t a suspend (job_numbered a m) n r refl (λ j k. suspended_in j.phase j.wish j k refl) e
+act_keeps s m n t (Resume a) r h e = on_job_keeps s m t a resume (job_numbered a m) n r refl (λ j k. resumed_in j.phase j.wish j k refl) e
+act_keeps s m n t (Kill a) r h e = on_job_keeps s m t a kill (job_numbered a m) n r refl (λ j k. killed_in j.phase j k refl) e
+act_keeps s m n t (Alteration a c) r h e = on_job_keeps s m t a (λ j. alter c j t) (job_numbered a m) n r refl (λ j k. altered_in j.phase c j k t refl) e
+act_keeps s m n t (Ready modem) r h e = mark_keeps m modem false (s.has_modem modem) n r e
+act_keeps s m n t (Down modem) r h e = mark_keeps m modem true (s.has_modem modem) n r e
+act_keeps s m n t (Next modem) r h e = given_keeps s m t modem n r (given_is s m t modem n r h e)
+act_keeps s m n t (CallReport a c) r h e = report_keeps m n a (call c) (λ j g b. called c j g b) (λ j g b d. (called c j g b d).number) (on_grant_is m (call c) (call_reply t) a (grant_numbered a m) n r refl e)
+act_keeps s m n t (PageReport a p) r h e = report_keeps m n a (page p) (λ j g b d. (paged p j g b d).0) (λ j g b d. (paged p j g b d).0.number) (on_grant_is m (page p) (page_reply t) a (grant_numbered a m) n r refl e)
+act_keeps s m n t (OutcomeReport a o) r h e = report_keeps m n a (λ j g. outcome o j g (s.delay g.call) t) (λ j g b. outcome_is o j g (s.delay g.call) t b) (λ j g b d. (outcome_is o j g (s.delay g.call) t b d).number) (on_grant_is m (λ j g. outcome o j g (s.delay g.call) t) (outcome_reply s t) a (grant_numbered a m) n r refl e)
+
+pub step_keeps : (s : Settings) (m n : Queue) (t : ℕ) (ask : Ask) (r : Reply) → Sound m → step s m t ask ≡ Taken n r → KeepsSent m n
+step_keeps s m n t ask r h e = through m (aged t m) n (aged_keeps t m) (act_keeps s (aged t m) n t ask r (aged_sound t m h) e)
+
+left_keeps : (m : Queue) (x : Step) → ((n : Queue) (r : Reply) → x ≡ Taken n r → KeepsSent m n) → KeepsSent m (left_by m x)
+left_keeps m (Taken n r) f = f n r refl
+left_keeps m (Refused e k) f = same_sent m m refl
+
+pub run_keeps : (s : Settings) (m : Queue) (rs : List Request) → Sound m → AreLawful rs → KeepsSent m (queue_after s m rs)
+run_keeps s m [] h lawful = same_sent m m refl
+run_keeps s m (r ∷ rs) h lawful =
+    let next = left_by m (decided s m r) in
+    through m next (queue_after s m (r ∷ rs))
+    (left_keeps m (decided s m r) (λ n q e. step_keeps s m n (max m.clock r.moment) r.ask q h e))
+    (run_keeps s next rs (decided_sound s m r h lawful.0) lawful.1)
+
+-- ---- numbers of pages
+
+head_is : (xs : List ℕ) (p : ℕ) (rest : List ℕ) (a n : ℕ) → xs ++ p ∷ rest ≡ range_with_len a n → p ≡ a + length xs
+head_is [] p rest a zero e = cc
+head_is [] p rest a (suc n) e = let same : p ≡ a = cc in omega arith
+head_is (x ∷ xs) p rest a zero e = cc
+head_is (x ∷ xs) p rest a (suc n) e =
+    let rest' : xs ++ p ∷ rest ≡ range_with_len (a + 1) n = cc in
+    let more = head_is xs p rest (a + 1) n rest' in
+    omega arith
+
+-- the front of a range is one
+pub front_is : (xs ys : List ℕ) (a n : ℕ) → xs ++ ys ≡ range_with_len a n → xs ≡ range_with_len a (length xs)
+front_is [] ys a n e = refl
+front_is (x ∷ xs) ys a zero e = cc
+front_is (x ∷ xs) ys a (suc n) e =
+    let head : x ≡ a = cc in
+    let rest : xs ++ ys ≡ range_with_len (a + 1) n = cc in
+    let more = front_is xs ys (a + 1) n rest in
+    cc
+
+pub tail_is : (xs ys : List ℕ) (a n : ℕ) → xs ++ ys ≡ range_with_len a n → ys ≡ range_with_len (a + length xs) (n - length xs)
+tail_is [] ys a n e =
+    let here : a + 0 ≡ a = omega arith in
+    let all : n - 0 ≡ n = omega arith in
+    rw (here, all) e
+tail_is (x ∷ xs) ys a zero e = cc
+tail_is (x ∷ xs) ys a (suc n) e =
+    let rest : xs ++ ys ≡ range_with_len (a + 1) n = cc in
+    let more = tail_is xs ys (a + 1) n rest in
+    let start : (a + 1) + length xs ≡ a + length (x ∷ xs) = omega arith in
+    let len : n - length xs ≡ suc n - length (x ∷ xs) = omega arith in
+    more ∙ ap (λ (i : ℕ). range_with_len i (n - length xs)) start ∙ ap (λ (i : ℕ). range_with_len (a + length (x ∷ xs)) i) len
+
+-- ---- a taken page report
+
+pub confirmed : (s : Settings) (m n : Queue) (t a p : ℕ) (r : Reply) → step s m t (PageReport a p) ≡ Taken n r → ConfirmsPage (aged t m) n a p
+confirmed s m n t a p r e =
+    let x = on_grant_is (aged t m) (page p) (page_reply t) a (grant_numbered a (aged t m)) n r refl e in
+    let f = paged p x.job x.grant x.both x.made in
+    let here : x.both.job.number ≡ x.grant.job = f.0.number ∙ numbered_job (aged t m) x.grant.job x.job x.of in
+    let there : IsJob (with_job x.both.job (aged t m)) x.grant.job x.both.job = placed_here (λ (y : Job). y.number) x.grant.job x.both.job x.job (aged t m).jobs x.of here in
+    record {
+      grant = x.grant;
+      open_grant = (x.is, f.0.was_open);
+      old = x.job;
+      was_there = x.of;
+      new = x.both.job;
+      there = subst (λ (q : Queue). IsJob q x.grant.job x.both.job) x.left there;
+      rest = f.1.rest;
+      left = f.1.left;
+      left_now = ap (λ (j : Job). j.left) f.1.job;
+      sent_now = ap (λ (j : Job). j.sent) f.1.job;
+    }
+
+-- ---- a taken request for a job
+
+left_of : (j : Job) → HasPages j → range_with_len (length j.sent + 1) (j.totpages + 1 - (length j.sent + 1)) ≡ j.left
+left_of j h =
+    let here : 1 + length j.sent ≡ length j.sent + 1 = omega arith in
+    let many : j.totpages - length j.sent ≡ j.totpages + 1 - (length j.sent + 1) = omega arith in
+    sym (tail_is j.sent j.left 1 j.totpages h ∙ ap (λ (i : ℕ). range_with_len i (j.totpages - length j.sent)) here ∙ ap (λ (i : ℕ). range_with_len (length j.sent + 1) i) many)
+
+gives : (s : Settings) (m n : Queue) (t : ℕ) (modem : List ℕ) (h : Handed) → Sound m → GivenTo s m t modem n (Given h) → GivesJob m n modem h
+gives s m n t modem h sound (None_to none same told) = cc
+gives s m n t modem h sound (Best_to j b none same told) =
+    let made : JobAndGrant = granted j modem m.next_grant in
+    let r : Grants m j.number j made = given_grants s m t modem j sound none b in
+    let is : handed made.grant (with_new_grant made m) ≡ h = cc in
+    let all : GivesJob m n modem (handed made.grant (with_new_grant made m)) = record {
+      job = j;
+      was_there = b.goes.there;
+      first = refl;
+      pages = left_of j r.fits.counted.pages;
+      modem_free = r.modem_free;
+      job_free = r.job_free;
+      grant = made.grant;
+      open_grant = subst (λ (q : Queue). IsOpen q m.next_grant made.grant) same (found_new m j.number j made r sound);
+      of_modem = refl;
+      of_job = refl;
+      first_page = refl;
+      last_page = refl;
+      dial = ap dial_of (placed_here (λ (x : Job). x.number) j.number made.job j m.jobs b.goes.there refl);
+    } in
+    subst (GivesJob m n modem) is all
+
+pub step_gives : (s : Settings) (m n : Queue) (t : ℕ) (modem : List ℕ) (h : Handed) → Sound m → step s m t (Next modem) ≡ Taken n (Given h) → GivesJob (aged t m) n modem h
+step_gives s m n t modem h sound e =
+    let aged_one : Sound (aged t m) = aged_sound t m sound in
+    gives s (aged t m) n t modem h aged_one (given_is s (aged t m) t modem n (Given h) aged_one e)
+
+-- ---- no page is granted again
+
+-- the first page that is left is the one after those that are sent
+first_left : (m n : Queue) (a p : ℕ) (c : ConfirmsPage m n a p) → Sound m → p ≡ length c.old.sent + 1
+first_left m n a p c h =
+    let old = h.held a c.grant c.open_grant in
+    let pages : HasPages c.old = subst HasPages (same_job m c.grant.job old.0 c.old old.1 c.was_there) old.2.counted.pages in
+    let split : c.old.sent ++ p ∷ c.rest ≡ pages_to c.old.totpages = ap (λ (ps : List ℕ). c.old.sent ++ ps) (sym c.left) ∙ pages in
+    let place = head_is c.old.sent p c.rest 1 c.old.totpages split in
+    omega arith
+
+-- the page that is confirmed is among those counted
+page_counted : (m n : Queue) (a p : ℕ) (c : ConfirmsPage m n a p) → Sound m → p ≤ length c.new.sent
+page_counted m n a p c h =
+    let place = first_left m n a p c h in
+    let long : length c.new.sent ≡ length c.old.sent + 1 = ap length c.sent_now ∙ length-append c.old.sent (p ∷ []) in
+    omega arith
+
+sent_before : (m : Queue) (a : ℕ) (pages : List ℕ) (j : Job) → HasSent m a pages → IsJob m a j → length pages ≤ length j.sent
+sent_before m a pages j x is =
+    let same : x.job.sent ≡ j.sent = ap (λ (k : Job). k.sent) (same_job m a x.job j x.there is) in
+    let long : length x.job.sent ≡ length pages + length x.more = ap length x.begins ∙ length-append pages x.more in
+    let all : length x.job.sent ≡ length j.sent = ap length same in
+    omega arith
+
+-- what the queue has after a confirmed page, and whatever requests, of the job of that grant
+record Later (s : Settings) (n : Queue) (rs : List Request) (u a page : ℕ) : Type 0 where
+  sound : Sound (queue_after s n rs)
+  counted : (j : Job) → IsJob (aged u (queue_after s n rs)) a j → page ≤ length j.sent
+
+later_of : (s : Settings) (m n : Queue) (t grant page : ℕ) (reply : Reply) (g : Grant) (rs : List Request) (u : ℕ)
+    → Sound m → AreLawful rs → step s m t (PageReport grant page) ≡ Taken n reply → grant_numbered grant m ≡ Some g → Later s n rs u g.job page
+later_of s m n t grant page reply g rs u sound lawful taken is =
+    let c = confirmed s m n t grant page reply taken in
+    let it : c.grant ≡ g = cc (c.open_grant.0, is) in
+    let after : Sound n = step_sound s m n t (PageReport grant page) reply sound tt taken in
+    let end : Sound (queue_after s n rs) = run_sound s n rs after lawful in
+    let kept : KeepsSent n (aged u (queue_after s n rs)) = through n (queue_after s n rs) (aged u (queue_after s n rs)) (run_keeps s n rs after lawful) (aged_keeps u (queue_after s n rs)) in
+    let place = page_counted (aged t m) n grant page c (aged_sound t m sound) in
+    record {
+      sound = end;
+      counted = λ j there.
+          let same : IsJob (aged u (queue_after s n rs)) c.grant.job j = subst (λ (x : Grant). IsJob (aged u (queue_after s n rs)) x.job j) (sym it) there in
+          let more = sent_before (aged u (queue_after s n rs)) c.grant.job c.new.sent j (kept c.grant.job c.new c.there) same in
+          omega arith;
+    }
+
+pub not_again : (s : Settings) (m n : Queue) (t grant page : ℕ) (reply : Reply) (g : Grant) (rs : List Request) (u : ℕ) (modem : List ℕ) (l : Queue) (h : Handed)
+    → Sound m → AreLawful rs → step s m t (PageReport grant page) ≡ Taken n reply → step s (queue_after s n rs) u (Next modem) ≡ Taken l (Given h)
+    → grant_numbered grant m ≡ Some g → h.job ≡ g.job → page < h.from
+not_again s m n t grant page reply g rs u modem l h sound lawful taken given is same =
+    let later : Later s n rs u g.job page = later_of s m n t grant page reply g rs u sound lawful taken is in
+    let next = step_gives s (queue_after s n rs) l u modem h later.sound given in
+    let more = later.counted next.job (subst (λ (i : ℕ). IsJob (aged u (queue_after s n rs)) i next.job) same next.was_there) in
+    omega (arith, next.first)
+
+pub rises : (s : Settings) (m n : Queue) (t grant page : ℕ) (reply : Reply) (g : Grant) (rs : List Request) (u other more : ℕ) (l : Queue) (answer : Reply) (h : Grant)
+    → Sound m → AreLawful rs → step s m t (PageReport grant page) ≡ Taken n reply → step s (queue_after s n rs) u (PageReport other more) ≡ Taken l answer
+    → grant_numbered grant m ≡ Some g → grant_numbered other (queue_after s n rs) ≡ Some h → h.job ≡ g.job → page < more
+rises s m n t grant page reply g rs u other more l answer h sound lawful taken again is at same =
+    let later : Later s n rs u g.job page = later_of s m n t grant page reply g rs u sound lawful taken is in
+    let c = confirmed s (queue_after s n rs) l u other more answer again in
+    let it : c.grant ≡ h = cc (c.open_grant.0, at) in
+    let there : IsJob (aged u (queue_after s n rs)) g.job c.old = subst (λ (i : ℕ). IsJob (aged u (queue_after s n rs)) i c.old) (ap (λ (x : Grant). x.job) it ∙ same) c.was_there in
+    let counted = later.counted c.old there in
+    let first = first_left (aged u (queue_after s n rs)) l other more c (aged_sound u (queue_after s n rs) later.sound) in
+    omega arith
+
+-- ---- no modem gets a second job, and no job a second modem
+
+pub one_each : (m : Queue) (a b : ℕ) (g h : Grant) → Sound m → IsOpen m a g → IsOpen m b h → (g.modem ≡ h.modem) ⊎ (g.job ≡ h.job) → a ≡ b
+one_each m a b g h sound o p (inl e) = sound.one_to_a_modem a b g h o p e
+one_each m a b g h sound o p (inr e) = sound.one_of_a_job a b g h o p e

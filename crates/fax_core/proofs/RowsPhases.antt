@@ -1,0 +1,121 @@
+-- Worked rows: each request of a client in each phase, and what comes of it when a grant ends.
+use Rattle.std.specs.Prelude.{◌≡◌, refl, true, false, List, [], ◌∷◌, ◌++◌, map, codes, Some}
+use Rattle.fax_job.specs.declared.job.Call.TheVariants.{Connected}
+use Rattle.fax_job.specs.declared.job.Phase.{Phase}
+use Rattle.fax_job.specs.declared.job.Phase.TheVariants as phase
+use Rattle.fax_job.specs.declared.job.Wish.{Wish}
+use Rattle.fax_job.specs.declared.job.Wish.TheVariants.{Go, Hold}
+use Rattle.fax_job.specs.declared.job.Wish.TheVariants as wish
+use Rattle.fax_job.specs.declared.refusal.Refusal.TheVariants.{JobOver, JobActive, NotSuspended}
+use Rattle.fax_core.specs.declared.report.Ending.TheVariants.{Retry}
+use Rattle.fax_core.specs.Ask.{Ask, Submission, Suspend, Resume, Kill, Alteration, Down, Next, CallReport, OutcomeReport}
+use Rattle.fax_core.specs.Queue.{Queue, empty_queue}
+use Rattle.fax_core.specs.Reply.{Submitted, Stands, Marked, NoneToSend, Given, Called, NoKeys}
+use Rattle.fax_core.specs.Run.{Request, Answer, Replied, Denied, answer_of, left_by, decided, answers}
+use Rattle.fax_core.proofs.RowWords.{ttyS0, ttyS1, settings, order, no_change, report, hand, ◌at◌, told, after, shown, statuses}
+use Rattle.fax_core.proofs.RowsGrants.{long_number, first_grant}
+
+-- ---- suspend, resume, kill and alter, each by itself after the same requests
+
+abbrev four : List Ask
+four = Suspend 1 ∷ Resume 1 ∷ Kill 1 ∷ Alteration 1 (record no_change { priority = Some 10 }) ∷ []
+
+abbrev each_told : List Request → List Answer
+each_told rs = map (λ ask. answer_of (decided settings (after rs) (ask at 1000))) four
+
+abbrev each_left : List Request → List Queue
+each_left rs = map (λ ask. left_by (after rs) (decided settings (after rs) (ask at 1000))) four
+
+abbrev phases : List Request → List (List Phase)
+phases rs = map (λ m. map (λ j. j.phase) m.jobs) (each_left rs)
+
+abbrev wishes : List Request → List (List Wish)
+wishes rs = map (λ m. map (λ j. j.wish) m.jobs) (each_left rs)
+
+abbrev waiting : List Request
+waiting = Submission (order long_number 3) at 1000 ∷ []
+
+of_held : each_told (waiting ++ Suspend 1 at 1000 ∷ []) ≡ Replied (Stands 1 1) ∷ Replied (Stands 1 5) ∷ Replied (Stands 1 8) ∷ Replied (Stands 1 1) ∷ []
+of_held = refl
+
+held_becomes : phases (waiting ++ Suspend 1 at 1000 ∷ []) ≡ (phase.Held ∷ []) ∷ (phase.Waiting ∷ []) ∷ (phase.Failed ∷ []) ∷ (phase.Held ∷ []) ∷ []
+held_becomes = refl
+
+of_waiting : each_told waiting ≡ Replied (Stands 1 1) ∷ Denied NotSuspended NoKeys ∷ Replied (Stands 1 8) ∷ Denied NotSuspended NoKeys ∷ []
+of_waiting = refl
+
+waiting_becomes : phases waiting ≡ (phase.Held ∷ []) ∷ (phase.Waiting ∷ []) ∷ (phase.Failed ∷ []) ∷ (phase.Waiting ∷ []) ∷ []
+waiting_becomes = refl
+
+of_granted : each_told first_grant ≡ Replied (Stands 1 6) ∷ Denied JobActive NoKeys ∷ Replied (Stands 1 6) ∷ Denied JobActive NoKeys ∷ []
+of_granted = refl
+
+granted_becomes : wishes first_grant ≡ (wish.Hold ∷ []) ∷ (wish.Go ∷ []) ∷ (wish.Kill ∷ []) ∷ (wish.Go ∷ []) ∷ []
+granted_becomes = refl
+
+of_granted_to_hold : each_told (first_grant ++ Suspend 1 at 1000 ∷ []) ≡ Replied (Stands 1 6) ∷ Replied (Stands 1 6) ∷ Replied (Stands 1 6) ∷ Denied JobActive NoKeys ∷ []
+of_granted_to_hold = refl
+
+granted_to_hold_becomes : wishes (first_grant ++ Suspend 1 at 1000 ∷ []) ≡ (wish.Hold ∷ []) ∷ (wish.Go ∷ []) ∷ (wish.Kill ∷ []) ∷ (wish.Hold ∷ []) ∷ []
+granted_to_hold_becomes = refl
+
+of_granted_to_kill : each_told (first_grant ++ Kill 1 at 1000 ∷ []) ≡ Denied JobActive NoKeys ∷ Denied JobActive NoKeys ∷ Replied (Stands 1 6) ∷ Denied JobActive NoKeys ∷ []
+of_granted_to_kill = refl
+
+granted_to_kill_becomes : wishes (first_grant ++ Kill 1 at 1000 ∷ []) ≡ (wish.Kill ∷ []) ∷ (wish.Kill ∷ []) ∷ (wish.Kill ∷ []) ∷ (wish.Kill ∷ []) ∷ []
+granted_to_kill_becomes = refl
+
+of_over : each_told (waiting ++ Kill 1 at 1000 ∷ []) ≡ Denied JobOver NoKeys ∷ Denied JobOver NoKeys ∷ Denied JobOver NoKeys ∷ Denied JobOver NoKeys ∷ []
+of_over = refl
+
+-- ---- when a grant ends
+
+-- suspended while it was granted: it is held, and when it is resumed it sleeps until its next time
+suspended_while_granted : told (first_grant ++ Suspend 1 at 1005 ∷ CallReport 1 Connected at 1006 ∷ OutcomeReport 1 (report true Retry 0 []) at 1007 ∷ Resume 1 at 1066 ∷ Suspend 1 at 1066 ∷ Resume 1 at 1067 ∷ []) ≡
+    Replied (Submitted 1) ∷ Replied (Given (hand 1 1 long_number 1 3))
+    ∷ Replied (Stands 1 6) ∷ Replied (Called true) ∷ Replied (Stands 1 1) ∷ Replied (Stands 1 3) ∷ Replied (Stands 1 1) ∷ Replied (Stands 1 5) ∷ []
+suspended_while_granted = refl
+
+resumed_while_granted : told (first_grant ++ Suspend 1 at 1005 ∷ Resume 1 at 1005 ∷ CallReport 1 Connected at 1006 ∷ OutcomeReport 1 (report true Retry 0 []) at 1007 ∷ []) ≡
+    Replied (Submitted 1) ∷ Replied (Given (hand 1 1 long_number 1 3))
+    ∷ Replied (Stands 1 6) ∷ Replied (Stands 1 6) ∷ Replied (Called false) ∷ Replied (Stands 1 3) ∷ []
+resumed_while_granted = refl
+
+-- a kill time that comes while the job is granted stops the worker, and fails the job when the grant ends
+abbrev expired_while_granted : List Request
+expired_while_granted =
+    Submission (record (order long_number 3) { killtime = Some 1500 }) at 1000
+    ∷ Next ttyS0 at 1000 ∷ CallReport 1 Connected at 1500 ∷ OutcomeReport 1 (report true Retry 0 []) at 1501 ∷ []
+
+expired_while_granted_row : told expired_while_granted ≡ Replied (Submitted 1) ∷ Replied (Given (hand 1 1 long_number 1 3)) ∷ Replied (Called true) ∷ Replied (Stands 1 8) ∷ []
+expired_while_granted_row = refl
+
+-- until then it is active
+expired_while_granted_shown : shown (after (Submission (record (order long_number 3) { killtime = Some 1500 }) at 1000 ∷ Next ttyS0 at 1000 ∷ CallReport 1 Connected at 1500 ∷ [])) 1500 ≡ 6 ∷ []
+expired_while_granted_shown = refl
+
+expired_while_granted_status : statuses (after expired_while_granted) 1501 ≡ codes "Kill time expired" ∷ []
+expired_while_granted_status = refl
+
+-- with no call the delay is that of no call, and the reason is the status
+abbrev no_call : List Request
+no_call = first_grant ++ OutcomeReport 1 (report false Retry 0 (codes "no dial tone")) at 1010 ∷ []
+
+no_call_next : map (λ j. j.next) (after no_call).jobs ≡ 1310 ∷ []
+no_call_next = refl
+
+no_call_status : statuses (after no_call) 1010 ≡ codes "no dial tone" ∷ []
+no_call_status = refl
+
+-- a modem that is down goes on with its grant, and gets no other
+down_with_a_grant : told (first_grant ++ Down ttyS0 at 1000 ∷ CallReport 1 Connected at 1000 ∷ []) ≡
+    Replied (Submitted 1) ∷ Replied (Given (hand 1 1 long_number 1 3)) ∷ Replied (Marked true) ∷ Replied (Called false) ∷ []
+down_with_a_grant = refl
+
+-- a refused request leaves the clock
+refused_leaves_clock : map (λ j. j.tts) (after (Kill 9 at 5000 ∷ Submission (order long_number 3) at 500 ∷ [])).jobs ≡ 500 ∷ []
+refused_leaves_clock = refl
+
+-- no grant is full where no job would be granted
+full_of_grants_but_nothing_to_send : answers (record settings { max_grants = 1 }) empty_queue (first_grant ++ Next ttyS1 at 1000 ∷ []) ≡ Replied (Submitted 1) ∷ Replied (Given (hand 1 1 long_number 1 3)) ∷ Replied NoneToSend ∷ []
+full_of_grants_but_nothing_to_send = refl

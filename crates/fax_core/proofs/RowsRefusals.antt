@@ -1,0 +1,132 @@
+-- Worked rows: one for each refusal, 8 to 26.
+use Rattle.std.specs.Prelude.{◌≡◌, refl, true, false, List, [], ◌∷◌, ◌++◌, codes, Some, if◌then◌else◌}
+use Rattle.std.specs.List.{starts_with}
+use Rattle.std.specs.Prelude.{nat_eq}
+use Rattle.fax_job.specs.declared.job.Call.TheVariants.{Connected, Busy}
+use Rattle.fax_job.specs.declared.refusal.Refusal.TheVariants.{NoJob, NoModem, NoGrant, Rejected, TooManyPages, JobOver, JobActive, NotSuspended, LimitReached, ModemDown, ModemBusy, GrantClosed, CallKnown, NotConnected, PageOrder, CallMissing, PagesMismatch, PagesLeft, Full}
+use Rattle.fax_core.specs.declared.report.Ending.TheVariants.{Done, Retry, Fail}
+use Rattle.fax_core.specs.Ask.{Submission, Suspend, Resume, Kill, Alteration, Ready, Down, Next, CallReport, PageReport, OutcomeReport}
+use Rattle.fax_core.specs.Queue.{empty_queue}
+use Rattle.fax_core.specs.Reply.{Submitted, Stands, Marked, NoneToSend, Given, Called, Confirmed, NoKeys, Notice, HeldGrant, Pages}
+use Rattle.fax_core.specs.Run.{Answer, Replied, Denied, answers}
+use Rattle.fax_core.specs.Settings.{Settings}
+use Rattle.fax_core.proofs.RowWords.{ttyS0, ttyS1, settings, default_rule, order, no_change, report, hand, ◌at◌, told, after, statuses}
+use Rattle.fax_core.proofs.RowsGrants.{long_number, first_grant}
+
+-- the answers to a row that begins with a submission and its grant
+abbrev after_grant : List Answer → List Answer
+after_grant rest = Replied (Submitted 1) ∷ Replied (Given (hand 1 1 long_number 1 3)) ∷ rest
+
+refused_8 : told (Kill 9 at 1000 ∷ []) ≡ Denied NoJob NoKeys ∷ []
+refused_8 = refl
+
+refused_9 : told (Ready (codes "ttyS9") at 1000 ∷ []) ≡ Denied NoModem NoKeys ∷ []
+refused_9 = refl
+
+refused_10 : told (CallReport 9 Busy at 1000 ∷ []) ≡ Denied NoGrant NoKeys ∷ []
+refused_10 = refl
+
+-- numbers that begin with 5559 aren't served, and to those that begin with 5558 two pages may be sent
+abbrev controlled : Settings
+controlled = record settings {
+  rule = λ dial.
+      if starts_with nat_eq dial (codes "5559") then record default_rule { notice = Some (codes "Number no longer served") }
+      else if starts_with nat_eq dial (codes "5558") then record default_rule { pages = Some 2 }
+      else default_rule;
+}
+
+refused_11 : answers controlled empty_queue (Submission (order (codes "5559000") 1) at 1000 ∷ []) ≡ Denied Rejected (Notice (codes "Number no longer served")) ∷ []
+refused_11 = refl
+
+refused_12 : answers controlled empty_queue (Submission (order (codes "5558000") 3) at 1000 ∷ Submission (order (codes "5558000") 2) at 1000 ∷ []) ≡ Denied TooManyPages NoKeys ∷ Replied (Submitted 1) ∷ []
+refused_12 = refl
+
+refused_13 : told (Submission (order long_number 3) at 1000 ∷ Kill 1 at 1000 ∷ Suspend 1 at 1000 ∷ Resume 1 at 1000 ∷ Kill 1 at 1000 ∷ Alteration 1 no_change at 1000 ∷ []) ≡
+    Replied (Submitted 1) ∷ Replied (Stands 1 8) ∷ Denied JobOver NoKeys ∷ Denied JobOver NoKeys ∷ Denied JobOver NoKeys ∷ Denied JobOver NoKeys ∷ []
+refused_13 = refl
+
+refused_14 : told (first_grant ++ Alteration 1 (record no_change { priority = Some 1 }) at 1000 ∷ []) ≡ after_grant (Denied JobActive NoKeys ∷ [])
+refused_14 = refl
+
+refused_15 : told (Submission (order long_number 3) at 1000 ∷ Alteration 1 (record no_change { priority = Some 10 }) at 1001 ∷ []) ≡ Replied (Submitted 1) ∷ Denied NotSuspended NoKeys ∷ []
+refused_15 = refl
+
+refused_16 : told (first_grant ++ CallReport 1 Busy at 1000 ∷ OutcomeReport 1 (report true Retry 0 []) at 1000 ∷ Suspend 1 at 1000 ∷ Alteration 1 (record no_change { maxdials = Some 1 }) at 1000 ∷ []) ≡
+    after_grant (Replied (Called false) ∷ Replied (Stands 1 3) ∷ Replied (Stands 1 1) ∷ Denied LimitReached NoKeys ∷ [])
+refused_16 = refl
+
+refused_17 : told (Down ttyS0 at 1000 ∷ Next ttyS0 at 1000 ∷ Ready ttyS0 at 1000 ∷ Next ttyS0 at 1000 ∷ []) ≡
+    Replied (Marked true) ∷ Denied ModemDown NoKeys ∷ Replied (Marked false) ∷ Replied NoneToSend ∷ []
+refused_17 = refl
+
+refused_18 : told (first_grant ++ Next ttyS0 at 1100 ∷ []) ≡ after_grant (Denied ModemBusy (HeldGrant false (hand 1 1 long_number 1 3)) ∷ [])
+refused_18 = refl
+
+refused_19 : told (first_grant ++ CallReport 1 Connected at 1000 ∷ OutcomeReport 1 (report true Fail 0 (codes "No fax tone")) at 1000 ∷ CallReport 1 Connected at 1000 ∷ []) ≡
+    after_grant (Replied (Called false) ∷ Replied (Stands 1 8) ∷ Denied GrantClosed NoKeys ∷ [])
+refused_19 = refl
+
+failed_by_reason : statuses (after (first_grant ++ CallReport 1 Connected at 1000 ∷ OutcomeReport 1 (report true Fail 0 (codes "No fax tone")) at 1000 ∷ [])) 1000 ≡ codes "No fax tone" ∷ []
+failed_by_reason = refl
+
+refused_20 : told (first_grant ++ CallReport 1 Connected at 1000 ∷ CallReport 1 Connected at 1000 ∷ OutcomeReport 1 (report false Retry 0 []) at 1000 ∷ []) ≡
+    after_grant (Replied (Called false) ∷ Denied CallKnown NoKeys ∷ Denied CallKnown NoKeys ∷ [])
+refused_20 = refl
+
+refused_21 : told (first_grant ++ PageReport 1 1 at 1010 ∷ []) ≡ after_grant (Denied NotConnected NoKeys ∷ [])
+refused_21 = refl
+
+refused_22 : told (first_grant ++ CallReport 1 Connected at 1000 ∷ PageReport 1 2 at 1000 ∷ []) ≡ after_grant (Replied (Called false) ∷ Denied PageOrder (Pages 0) ∷ [])
+refused_22 = refl
+
+refused_23 : told (first_grant ++ OutcomeReport 1 (report true Retry 0 []) at 1000 ∷ []) ≡ after_grant (Denied CallMissing NoKeys ∷ [])
+refused_23 = refl
+
+refused_24 : told (first_grant ++ CallReport 1 Connected at 1000 ∷ OutcomeReport 1 (report true Retry 2 []) at 1000 ∷ []) ≡ after_grant (Replied (Called false) ∷ Denied PagesMismatch NoKeys ∷ [])
+refused_24 = refl
+
+refused_25 : told (first_grant ++ CallReport 1 Connected at 1000 ∷ OutcomeReport 1 (report true Done 0 []) at 1000 ∷ []) ≡ after_grant (Replied (Called false) ∷ Denied PagesLeft NoKeys ∷ [])
+refused_25 = refl
+
+refused_26 : answers (record settings { max_jobs = 1 }) empty_queue (Submission (order long_number 3) at 1000 ∷ Submission (order (codes "5550111") 1) at 1000 ∷ []) ≡ Replied (Submitted 1) ∷ Denied Full NoKeys ∷ []
+refused_26 = refl
+
+-- only where a job would be granted
+refused_26_of_grants : answers (record settings { max_grants = 1 }) empty_queue (Submission (order long_number 3) at 1000 ∷ Submission (order (codes "5550111") 1) at 1000 ∷ Next ttyS0 at 1000 ∷ Next ttyS1 at 1000 ∷ []) ≡
+    Replied (Submitted 1) ∷ Replied (Submitted 2) ∷ Replied (Given (hand 1 1 long_number 1 3)) ∷ Denied Full NoKeys ∷ []
+refused_26_of_grants = refl
+
+-- ---- where several refusals apply the first is told
+
+abbrev strict : Settings
+strict = record settings { rule = λ dial. record default_rule { notice = Some (codes "closed"); pages = Some 2 }; max_jobs = 0 }
+
+submission_in_order : answers strict empty_queue (Submission (order long_number 3) at 1000 ∷ []) ≡ Denied Rejected (Notice (codes "closed")) ∷ []
+submission_in_order = refl
+
+pages_before_full : answers (record strict { rule = λ dial. record default_rule { pages = Some 2 } }) empty_queue (Submission (order long_number 3) at 1000 ∷ []) ≡ Denied TooManyPages NoKeys ∷ []
+pages_before_full = refl
+
+down_before_busy : told (first_grant ++ Down ttyS0 at 1000 ∷ Next ttyS0 at 1000 ∷ []) ≡ after_grant (Replied (Marked true) ∷ Denied ModemDown NoKeys ∷ [])
+down_before_busy = refl
+
+busy_before_full : answers (record settings { max_grants = 1 }) empty_queue (first_grant ++ Submission (order (codes "5550111") 1) at 1000 ∷ Next ttyS0 at 1000 ∷ []) ≡
+    after_grant (Replied (Submitted 2) ∷ Denied ModemBusy (HeldGrant false (hand 1 1 long_number 1 3)) ∷ [])
+busy_before_full = refl
+
+-- without a call: a page out of order isn't connected, and a call that is claimed is missing
+without_a_call : told (first_grant ++ PageReport 1 2 at 1000 ∷ OutcomeReport 1 (report true Done 2 []) at 1000 ∷ OutcomeReport 1 (report false Done 2 []) at 1000 ∷ OutcomeReport 1 (report false Done 0 []) at 1000 ∷ []) ≡
+    after_grant (Denied NotConnected NoKeys ∷ Denied CallMissing NoKeys ∷ Denied PagesMismatch NoKeys ∷ Denied PagesLeft NoKeys ∷ [])
+without_a_call = refl
+
+with_a_call : told (first_grant ++ CallReport 1 Connected at 1000 ∷ OutcomeReport 1 (report false Done 2 []) at 1000 ∷ OutcomeReport 1 (report true Done 2 []) at 1000 ∷ OutcomeReport 1 (report true Done 0 []) at 1000 ∷ []) ≡
+    after_grant (Replied (Called false) ∷ Denied CallKnown NoKeys ∷ Denied PagesMismatch NoKeys ∷ Denied PagesLeft NoKeys ∷ [])
+with_a_call = refl
+
+on_a_closed_grant : told (first_grant ++ OutcomeReport 1 (report false Retry 0 []) at 1000 ∷ CallReport 1 Busy at 1000 ∷ PageReport 1 9 at 1000 ∷ OutcomeReport 1 (report true Done 9 []) at 1000 ∷ []) ≡
+    after_grant (Replied (Stands 1 3) ∷ Denied GrantClosed NoKeys ∷ Denied GrantClosed NoKeys ∷ Denied GrantClosed NoKeys ∷ [])
+on_a_closed_grant = refl
+
+all_pages_confirmed : told (first_grant ++ CallReport 1 Connected at 1000 ∷ PageReport 1 1 at 1000 ∷ PageReport 1 1 at 1000 ∷ PageReport 1 2 at 1000 ∷ PageReport 1 3 at 1000 ∷ PageReport 1 4 at 1000 ∷ []) ≡
+    after_grant (Replied (Called false) ∷ Replied (Confirmed 1 false) ∷ Denied PageOrder (Pages 1) ∷ Replied (Confirmed 2 false) ∷ Replied (Confirmed 3 false) ∷ Denied PageOrder (Pages 3) ∷ [])
+all_pages_confirmed = refl

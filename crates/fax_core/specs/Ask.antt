@@ -1,0 +1,51 @@
+-- What is asked of the queue.
+use Rattle.std.specs.Prelude.{ℕ, ◌≤◌, Bool, List, ⊤}
+use Rattle.fax_job.specs.declared.alter.Alter.{Alter}
+use Rattle.fax_job.specs.declared.job.Call.{Call}
+use Rattle.fax_job.specs.declared.order.Order.{Order}
+use Rattle.fax_core.specs.declared.report.Ending.{Ending}
+
+-- what a worker says of a grant when it is over
+pub record Outcome : Type 0 where
+  -- whether it reported a call
+  pub dialed : Bool
+  -- how many pages it reported
+  pub pages : ℕ
+  pub ending : Ending
+  -- empty where none is given
+  pub reason : List ℕ
+
+pub data Ask : Type 0 where
+  -- a client's requests, with the job's number
+  Submission : (order : Order) → Ask
+  Suspend : (job : ℕ) → Ask
+  Resume : (job : ℕ) → Ask
+  Kill : (job : ℕ) → Ask
+  Alteration : (job : ℕ) (changes : Alter) → Ask
+  -- a worker's requests, with the modem's name or the grant's number
+  Ready : (modem : List ℕ) → Ask
+  Down : (modem : List ℕ) → Ask
+  Next : (modem : List ℕ) → Ask
+  CallReport : (grant : ℕ) (call : Call) → Ask
+  PageReport : (grant page : ℕ) → Ask
+  OutcomeReport : (grant : ℕ) (outcome : Outcome) → Ask
+
+-- an order has a page, a try and a dial
+pub record HasLimits (o : Order) : Type 0 where
+  pub pages : 1 ≤ o.totpages
+  pub tries : 1 ≤ o.maxtries
+  pub dials : 1 ≤ o.maxdials
+
+-- what is asked is lawful: whoever reads it from bytes owes that
+abbrev pub IsLawfulAsk : Ask → Type 0
+IsLawfulAsk (Submission order) = HasLimits order
+IsLawfulAsk (Suspend job) = ⊤
+IsLawfulAsk (Resume job) = ⊤
+IsLawfulAsk (Kill job) = ⊤
+IsLawfulAsk (Alteration job changes) = ⊤
+IsLawfulAsk (Ready modem) = ⊤
+IsLawfulAsk (Down modem) = ⊤
+IsLawfulAsk (Next modem) = ⊤
+IsLawfulAsk (CallReport grant call) = ⊤
+IsLawfulAsk (PageReport grant page) = ⊤
+IsLawfulAsk (OutcomeReport grant outcome) = ⊤

@@ -1,0 +1,223 @@
+-- The laws of the machine. They range over all settings, queues, moments and requests. The queue before a step is meant as it is aged at the step's moment.
+use Rattle.std.specs.Prelude.{◌≡◌, ◌≢◌, ◌⊎◌, ℕ, ◌+◌, ◌-◌, ◌<◌, ◌≤◌, Bool, true, List, [], ◌∷◌, ◌++◌, length, Option, Some, is_some, Decides}
+use Rattle.std.specs.List.{range_with_len}
+use Rattle.fax_job.specs.declared.job.JobFields.{JobFields}
+use Rattle.fax_job.specs.declared.refusal.Refusal.{Refusal}
+use Rattle.fax_job.specs.Refusal.{refusal_number}
+use Rattle.fax_core.specs.declared.grant.Grant.{Grant}
+use Rattle.fax_core.specs.Ageing.{aged}
+use Rattle.fax_core.specs.Ask.{Ask, Next, PageReport, IsLawfulAsk}
+use Rattle.fax_core.specs.Best.{MayGo, IsBest}
+use Rattle.fax_core.specs.Clock.{decided_at}
+use Rattle.fax_core.specs.Fits.{fits}
+use Rattle.fax_core.specs.Job.{Job, HasPages, job_of, fields_of}
+use Rattle.fax_core.specs.Machine.{step}
+use Rattle.fax_core.specs.Queue.{Queue, grant_numbered}
+use Rattle.fax_core.specs.Refusals.{may_meet, goes_with}
+use Rattle.fax_core.specs.Reply.{Reply, Handed, NoneToSend, Given, Keys, HeldGrant, Taken, Refused}
+use Rattle.fax_core.specs.Run.{Request, decided, queue_after, AreLawful}
+use Rattle.fax_core.specs.Settings.{Settings}
+use Rattle.fax_core.specs.Sound.{Fits, IsJob, IsOpen, Sound}
+use Rattle.fax_core.specs.State.{state, is_due}
+
+-- ---- soundness
+
+-- a taken step from a sound queue leaves a sound queue
+abbrev pub StepsStaySound : Type 0
+StepsStaySound =
+    (s : Settings) (m n : Queue) (t : ℕ) (ask : Ask) (reply : Reply)
+    → Sound m → IsLawfulAsk ask
+    → step s m t ask ≡ Taken n reply
+    → Sound n
+
+-- so does every run
+abbrev pub RunsStaySound : Type 0
+RunsStaySound = (s : Settings) (m : Queue) (rs : List Request) → Sound m → AreLawful rs → Sound (queue_after s m rs)
+
+-- ---- one modem, one job
+
+-- two open grants of one modem, or of one job, are one grant
+abbrev pub HoldsOnce : Queue → Type 0
+HoldsOnce m = (a b : ℕ) (g h : Grant) → IsOpen m a g → IsOpen m b h → (g.modem ≡ h.modem) ⊎ (g.job ≡ h.job) → a ≡ b
+
+-- so it is after every run
+abbrev pub RunsHoldOnce : Type 0
+RunsHoldOnce = (s : Settings) (m : Queue) (rs : List Request) → Sound m → AreLawful rs → HoldsOnce (queue_after s m rs)
+
+-- a job is given to a modem: neither held an open grant, the new one is theirs, and its pages are those that were left
+pub record GivesJob (before after : Queue) (modem : List ℕ) (h : Handed) : Type 0 where
+  pub modem_free : (n : ℕ) (g : Grant) → IsOpen before n g → g.modem ≢ modem
+  pub job_free : (n : ℕ) (g : Grant) → IsOpen before n g → g.job ≢ h.job
+  pub grant : Grant
+  pub open_grant : IsOpen after h.grant grant
+  pub of_modem : grant.modem ≡ modem
+  pub of_job : grant.job ≡ h.job
+  pub first_page : grant.first_page ≡ h.from
+  pub last_page : grant.last_page ≡ h.to
+  pub job : Job
+  pub was_there : IsJob before h.job job
+  pub dial : h.dial ≡ job.dial
+  pub first : h.from ≡ length job.sent + 1
+  pub pages : range_with_len h.from (h.to + 1 - h.from) ≡ job.left
+
+-- so it is whenever a job is given
+abbrev pub GivenJobsAreFree : Type 0
+GivenJobsAreFree =
+    (s : Settings) (m n : Queue) (t : ℕ) (modem : List ℕ) (h : Handed)
+    → Sound m
+    → step s m t (Next modem) ≡ Taken n (Given h)
+    → GivesJob (aged t m) n modem h
+
+-- ---- pages
+
+-- a page is confirmed: it was the first that was left, and is the last that is sent
+pub record ConfirmsPage (before after : Queue) (number page : ℕ) : Type 0 where
+  pub grant : Grant
+  pub open_grant : IsOpen before number grant
+  pub old : Job
+  pub was_there : IsJob before grant.job old
+  pub new : Job
+  pub there : IsJob after grant.job new
+  pub rest : List ℕ
+  pub left : old.left ≡ page ∷ rest
+  pub left_now : new.left ≡ rest
+  pub sent_now : new.sent ≡ old.sent ++ page ∷ []
+
+-- each page report that is taken is such
+abbrev pub PageReportsConfirm : Type 0
+PageReportsConfirm =
+    (s : Settings) (m n : Queue) (t grant page : ℕ) (reply : Reply)
+    → step s m t (PageReport grant page) ≡ Taken n reply
+    → ConfirmsPage (aged t m) n grant page
+
+-- the job of a number has sent these pages first, in this order
+pub record HasSent (m : Queue) (n : ℕ) (pages : List ℕ) : Type 0 where
+  pub job : Job
+  pub there : IsJob m n job
+  pub more : List ℕ
+  pub begins : job.sent ≡ pages ++ more
+
+-- no step takes a page from those that are sent
+abbrev pub StepsKeepSent : Type 0
+StepsKeepSent =
+    (s : Settings) (m n : Queue) (t : ℕ) (ask : Ask) (reply : Reply) (number : ℕ) (j : Job)
+    → Sound m
+    → step s m t ask ≡ Taken n reply
+    → IsJob m number j → HasSent n number j.sent
+
+-- nor does any run
+abbrev pub RunsKeepSent : Type 0
+RunsKeepSent =
+    (s : Settings) (m : Queue) (rs : List Request) (number : ℕ) (j : Job)
+    → Sound m → AreLawful rs
+    → IsJob m number j → HasSent (queue_after s m rs) number j.sent
+
+-- a page that was confirmed is in no grant that its job gets after whatever requests: it lies before the grant's first page
+abbrev pub PagesAreGrantedNoMore : Type 0
+PagesAreGrantedNoMore =
+    (s : Settings) (m n : Queue) (t grant page : ℕ) (reply : Reply) (g : Grant) (rs : List Request) (u : ℕ) (modem : List ℕ) (l : Queue) (h : Handed)
+    → Sound m → AreLawful rs
+    → step s m t (PageReport grant page) ≡ Taken n reply
+    → step s (queue_after s n rs) u (Next modem) ≡ Taken l (Given h)
+    → grant_numbered grant m ≡ Some g → h.job ≡ g.job
+    → page < h.from
+
+-- a page that is confirmed after it, on whichever grant of the job, comes after it
+abbrev pub PagesRise : Type 0
+PagesRise =
+    (s : Settings) (m n : Queue) (t grant page : ℕ) (reply : Reply) (g : Grant) (rs : List Request) (u other later : ℕ) (l : Queue) (answer : Reply) (h : Grant)
+    → Sound m → AreLawful rs
+    → step s m t (PageReport grant page) ≡ Taken n reply
+    → step s (queue_after s n rs) u (PageReport other later) ≡ Taken l answer
+    → grant_numbered grant m ≡ Some g → grant_numbered other (queue_after s n rs) ≡ Some h → h.job ≡ g.job
+    → page < later
+
+-- ---- refusals
+
+-- a refusal is one that the request may meet
+abbrev pub RefusalsAreMet : Type 0
+RefusalsAreMet =
+    (s : Settings) (m : Queue) (t : ℕ) (ask : Ask) (refusal : Refusal) (keys : Keys)
+    → Sound m
+    → step s m t ask ≡ Refused refusal keys
+    → may_meet ask refusal ≡ true
+
+-- and what is told with it goes with it
+abbrev pub KeysGoWithRefusals : Type 0
+KeysGoWithRefusals =
+    (s : Settings) (m : Queue) (t : ℕ) (ask : Ask) (refusal : Refusal) (keys : Keys)
+    → Sound m
+    → step s m t ask ≡ Refused refusal keys
+    → goes_with keys (refusal_number refusal) ≡ true
+
+-- what a busy modem is told is the open grant that it holds
+pub record TellsHeld (m : Queue) (modem : List ℕ) (called : Bool) (h : Handed) : Type 0 where
+  pub grant : Grant
+  pub open_grant : IsOpen m h.grant grant
+  pub of_modem : grant.modem ≡ modem
+  pub of_job : grant.job ≡ h.job
+  pub first_page : grant.first_page ≡ h.from
+  pub last_page : grant.last_page ≡ h.to
+  pub call : is_some grant.call ≡ called
+
+-- so it is whenever a modem is told that it is busy
+abbrev pub BusyModemsAreTold : Type 0
+BusyModemsAreTold =
+    (s : Settings) (m : Queue) (t : ℕ) (modem : List ℕ) (refusal : Refusal) (called : Bool) (h : Handed)
+    → Sound m
+    → step s m t (Next modem) ≡ Refused refusal (HeldGrant called h)
+    → TellsHeld m modem called h
+
+-- ---- the choice
+
+-- the job that is given is the best
+abbrev pub BestIsGiven : Type 0
+BestIsGiven =
+    (s : Settings) (m n : Queue) (t : ℕ) (modem : List ℕ) (h : Handed)
+    → Sound m
+    → step s m t (Next modem) ≡ Taken n (Given h)
+    → (j : Job) × (IsBest s (aged t m) t modem j × (j.number ≡ h.job))
+
+-- there is one best at most
+abbrev pub OneIsBest : Type 0
+OneIsBest = (s : Settings) (m : Queue) (t : ℕ) (modem : List ℕ) (j k : Job) → IsBest s m t modem j → IsBest s m t modem k → j ≡ k
+
+-- where nothing is given, no job may go
+abbrev pub NothingIsLeftOut : Type 0
+NothingIsLeftOut =
+    (s : Settings) (m n : Queue) (t : ℕ) (modem : List ℕ) (j : Job)
+    → Sound m
+    → step s m t (Next modem) ≡ Taken n NoneToSend
+    → ¬ MayGo s (aged t m) t modem j
+
+-- a ready job is due, so who looks for the best may pass over jobs that aren't
+abbrev pub ReadyJobsAreDue : Type 0
+ReadyJobsAreDue = (s : Settings) (m : Queue) (t : ℕ) (j : Job) → state s m t j ≡ 5 → is_due j t ≡ true
+
+-- ---- the clock
+
+-- a taken step sets the clock to its moment
+abbrev pub TakenStepsSetTheClock : Type 0
+TakenStepsSetTheClock = (s : Settings) (m n : Queue) (t : ℕ) (ask : Ask) (reply : Reply) → step s m t ask ≡ Taken n reply → n.clock ≡ t
+
+-- a request at a moment is decided at the later of it and the clock
+abbrev pub RequestsSetTheClock : Type 0
+RequestsSetTheClock = (s : Settings) (m n : Queue) (r : Request) (reply : Reply) → decided s m r ≡ Taken n reply → n.clock ≡ decided_at m.clock r.moment
+
+-- the clock never goes back
+abbrev pub ClocksGoForward : Type 0
+ClocksGoForward = (s : Settings) (m : Queue) (rs : List Request) → m.clock ≤ (queue_after s m rs).clock
+
+-- ---- records of code
+
+-- a record of code is a job, and back again it is the same record
+abbrev pub RecordsAreJobs : Type 0
+RecordsAreJobs = (f : JobFields) → fields_of (job_of f) ≡ f
+
+-- a job with its pages in order is a record, and back again it is the same job
+abbrev pub JobsAreRecords : Type 0
+JobsAreRecords = (j : Job) → HasPages j → job_of (fields_of j) ≡ j
+
+-- the test on a record decides whether its job fits the open grant, or none
+abbrev pub FitsIsDecided : Type 0
+FitsIsDecided = (f : JobFields) (o : Option Grant) → Decides (fits f o) (Fits (job_of f) o)

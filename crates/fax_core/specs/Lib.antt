@@ -1,0 +1,16 @@
+pub mod Job
+pub mod Queue
+pub mod Settings
+pub mod Clock
+pub mod Ask
+pub mod Reply
+pub mod Ageing
+pub mod State
+pub mod Best
+pub mod Decisions
+pub mod Machine
+pub mod Sound
+pub mod Fits
+pub mod Run
+pub mod Refusals
+pub mod Laws

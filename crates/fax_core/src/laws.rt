@@ -1,0 +1,68 @@
+//! Laws of the machine, over the definitions alone.
+//!
+//! Each function here does nothing: its contract is the law, for all settings, queues, moments and
+//! requests. The statements stand in `specs/Laws.antt`.
+
+ghost use Rattle.fax_core.specs.Laws.{StepsStaySound, RunsStaySound, RunsHoldOnce, GivenJobsAreFree, PageReportsConfirm, StepsKeepSent, RunsKeepSent, PagesAreGrantedNoMore, PagesRise, RefusalsAreMet, KeysGoWithRefusals, BusyModemsAreTold, BestIsGiven, OneIsBest, NothingIsLeftOut, ReadyJobsAreDue, TakenStepsSetTheClock, RequestsSetTheClock, ClocksGoForward, RecordsAreJobs, JobsAreRecords, FitsIsDecided};
+ghost use Rattle.fax_core.specs.Queue.{empty_queue};
+ghost use Rattle.fax_core.specs.Sound.{Sound};
+
+/// The empty queue is sound. A taken step from a sound queue leaves a sound queue, and so does every
+/// run, where what is asked is lawful: each order has a page, a try and a dial.
+pub fn soundness()
+    ensures empty { Sound empty_queue }
+    ensures step { StepsStaySound }
+    ensures run { RunsStaySound }
+{}
+
+/// After every run from a sound queue, two open grants of one modem, or of one job, are one grant. What
+/// is given to a modem is a job that no open grant has, the modem held none, and the new grant is open
+/// and theirs.
+pub fn one_modem_one_job()
+    ensures run { RunsHoldOnce }
+    ensures given { GivenJobsAreFree }
+{}
+
+/// A page report that is taken moves the first page that is left to the end of those sent, and no step
+/// takes a page from those sent. So a page that was confirmed is in no grant that its job gets later,
+/// whatever was asked in between, and isn't confirmed again.
+pub fn no_page_twice()
+    ensures confirmed { PageReportsConfirm }
+    ensures step { StepsKeepSent }
+    ensures run { RunsKeepSent }
+    ensures granted { PagesAreGrantedNoMore }
+    ensures rise { PagesRise }
+{}
+
+/// A refused request meets one of the refusals that are listed for it, and what is told with it is what
+/// goes with that refusal. A busy modem is told the open grant that it holds.
+pub fn refusals()
+    ensures number { RefusalsAreMet }
+    ensures keys { KeysGoWithRefusals }
+    ensures held { BusyModemsAreTold }
+{}
+
+/// The job that is given is the best one, and there is one best at most. Where none is given, no job may
+/// go. Each ready job is due.
+pub fn the_choice()
+    ensures best { BestIsGiven }
+    ensures alone { OneIsBest }
+    ensures nothing { NothingIsLeftOut }
+    ensures due { ReadyJobsAreDue }
+{}
+
+/// A taken step sets the clock to its moment, the later of the request's and the clock's, so the clock
+/// never goes back.
+pub fn the_clock()
+    ensures step { TakenStepsSetTheClock }
+    ensures request { RequestsSetTheClock }
+    ensures run { ClocksGoForward }
+{}
+
+/// A record of code keeps the number of pages sent, a job the lists of those sent and those left: each is
+/// had from the other. The test on records decides whether a job and its open grant, or none, fit.
+pub fn records()
+    ensures record { RecordsAreJobs }
+    ensures job { JobsAreRecords }
+    ensures fits { FitsIsDecided }
+{}

@@ -1,0 +1,2 @@
+pub mod HoursLemmas
+pub mod ZoneLemmas

@@ -1,0 +1,5 @@
+pub mod Days
+pub mod Range
+pub mod Item
+pub mod Hours
+pub mod Zone
