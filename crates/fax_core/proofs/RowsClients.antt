@@ -60,3 +60,6 @@ at_work = record settings { rule = λ dial. record default_rule { hours = on_wor
 
 time_of_day_row : map (λ t. map (state at_work (aged t (after (Submission (order (codes "5550111") 1) at 0 ∷ []))) t) (aged t (after (Submission (order (codes "5550111") 1) at 0 ∷ []))).jobs) (28799 ∷ 28800 ∷ 61199 ∷ 61200 ∷ []) ≡ (2 ∷ []) ∷ (5 ∷ []) ∷ (5 ∷ []) ∷ (2 ∷ []) ∷ []
 time_of_day_row = refl
+
+kill_time_passed_row : told (mortal ++ Kill 1 at 1500 ∷ []) ≡ Replied (Submitted 1) ∷ Denied JobOver NoKeys ∷ []
+kill_time_passed_row = refl

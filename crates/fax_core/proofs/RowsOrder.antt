@@ -38,6 +38,10 @@ expired_states :
     ≡ 8 ∷ 6 ∷ 7 ∷ 8 ∷ []
 expired_states = refl
 
+-- a kill time of 0 is none
+no_kill_time : state_at (record plain { killtime = Some 0 }) true 0 1 5 ≡ 5
+no_kill_time = refl
+
 -- ---- retries
 
 -- each has one reason less to fail

@@ -130,3 +130,26 @@ on_a_closed_grant = refl
 all_pages_confirmed : told (first_grant ++ CallReport 1 Connected at 1000 ∷ PageReport 1 1 at 1000 ∷ PageReport 1 1 at 1000 ∷ PageReport 1 2 at 1000 ∷ PageReport 1 3 at 1000 ∷ PageReport 1 4 at 1000 ∷ []) ≡
     after_grant (Replied (Called false) ∷ Replied (Confirmed 1 false) ∷ Denied PageOrder (Pages 1) ∷ Replied (Confirmed 2 false) ∷ Replied (Confirmed 3 false) ∷ Denied PageOrder (Pages 3) ∷ [])
 all_pages_confirmed = refl
+
+-- ---- one grant, refused in every way
+
+refusals_row : told (first_grant
+    ++ Alteration 1 (record no_change { priority = Some 1 }) at 1000
+    ∷ OutcomeReport 1 (report true Retry 0 []) at 1000
+    ∷ CallReport 1 Connected at 1000
+    ∷ CallReport 1 Connected at 1000
+    ∷ OutcomeReport 1 (report false Retry 0 []) at 1000
+    ∷ PageReport 1 2 at 1000
+    ∷ OutcomeReport 1 (report true Done 0 []) at 1000
+    ∷ OutcomeReport 1 (report true Fail 0 (codes "No fax tone")) at 1000
+    ∷ CallReport 1 Busy at 1000 ∷ []) ≡
+    after_grant (Denied JobActive NoKeys
+    ∷ Denied CallMissing NoKeys
+    ∷ Replied (Called false)
+    ∷ Denied CallKnown NoKeys
+    ∷ Denied CallKnown NoKeys
+    ∷ Denied PageOrder (Pages 0)
+    ∷ Denied PagesLeft NoKeys
+    ∷ Replied (Stands 1 8)
+    ∷ Denied GrantClosed NoKeys ∷ [])
+refusals_row = refl

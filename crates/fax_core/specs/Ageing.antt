@@ -1,7 +1,7 @@
 -- What time alone does to the queue.
 use Rattle.std.specs.Prelude.{ℕ, Bool, true, false, ◌&&◌, map, nat_le, Option, Some, None, if◌then◌else◌}
 use Rattle.fax_job.specs.declared.job.Phase.{Phase}
-use Rattle.fax_job.specs.declared.job.Phase.TheVariants.{Held, Waiting, Granted, Done, Failed}
+use Rattle.fax_job.specs.declared.job.Phase.TheVariants.{Held, Waiting, Failed}
 use Rattle.fax_job.specs.Status.{kill_time_expired}
 use Rattle.fax_core.specs.Job.{Job}
 use Rattle.fax_core.specs.Queue.{Queue}
@@ -15,9 +15,7 @@ is_past (Some killtime) t = nat_le 1 killtime && nat_le killtime t
 abbrev pub expires : Phase → Bool
 expires Held = true
 expires Waiting = true
-expires Granted = false
-expires Done = false
-expires Failed = false
+expires other = false
 
 -- what time does to a job
 abbrev pub aged_job : ℕ → Job → Job

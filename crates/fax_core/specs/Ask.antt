@@ -39,13 +39,4 @@ pub record HasLimits (o : Order) : Type 0 where
 -- what is asked is lawful: whoever reads it from bytes owes that
 abbrev pub IsLawfulAsk : Ask → Type 0
 IsLawfulAsk (Submission order) = HasLimits order
-IsLawfulAsk (Suspend job) = ⊤
-IsLawfulAsk (Resume job) = ⊤
-IsLawfulAsk (Kill job) = ⊤
-IsLawfulAsk (Alteration job changes) = ⊤
-IsLawfulAsk (Ready modem) = ⊤
-IsLawfulAsk (Down modem) = ⊤
-IsLawfulAsk (Next modem) = ⊤
-IsLawfulAsk (CallReport grant call) = ⊤
-IsLawfulAsk (PageReport grant page) = ⊤
-IsLawfulAsk (OutcomeReport grant outcome) = ⊤
+IsLawfulAsk other = ⊤

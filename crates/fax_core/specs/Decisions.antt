@@ -2,7 +2,7 @@
 use Rattle.std.specs.Prelude.{ℕ, ◌+◌, ◌==◌, Bool, true, false, not, ◌&&◌, ◌||◌, List, [], ◌∷◌, ◌++◌, length, nat_le, nat_lt, is_some, is_none, unwrap_or, Option, Some, None, Result, Ok, Err, if◌then◌else◌}
 use Rattle.fax_job.specs.declared.alter.Alter.{Alter}
 use Rattle.fax_job.specs.declared.job.Call.{Call}
-use Rattle.fax_job.specs.declared.job.Call.TheVariants.{Connected, Busy, NoAnswer, NoCarrier, Other}
+use Rattle.fax_job.specs.declared.job.Call.TheVariants.{Connected}
 use Rattle.fax_job.specs.declared.job.Phase.{Phase}
 use Rattle.fax_job.specs.declared.job.Phase.TheVariants as phase
 use Rattle.fax_job.specs.declared.job.Wish.{Wish}
@@ -163,10 +163,7 @@ grant j modem next_grant max_grants = refuse_if nat_lt max_grants next_grant bec
 -- a connected call is a try, and ends a row of dials that came to nothing
 abbrev pub after_call : Call → Job → Job
 after_call Connected j = record j { totdials = j.totdials + 1; ndials = 0; tottries = j.tottries + 1; ntries = j.ntries + 1 }
-after_call Busy j = record j { totdials = j.totdials + 1; ndials = j.ndials + 1 }
-after_call NoAnswer j = record j { totdials = j.totdials + 1; ndials = j.ndials + 1 }
-after_call NoCarrier j = record j { totdials = j.totdials + 1; ndials = j.ndials + 1 }
-after_call Other j = record j { totdials = j.totdials + 1; ndials = j.ndials + 1 }
+after_call _ j = record j { totdials = j.totdials + 1; ndials = j.ndials + 1 }
 
 -- a call report: a grant has one call
 abbrev pub call : Call → Job → Grant → Result JobAndGrant Refusal
@@ -177,12 +174,8 @@ call c j g =
 
 -- the call is known, and it connected
 abbrev pub is_connected : Option Call → Bool
-is_connected None = false
 is_connected (Some Connected) = true
-is_connected (Some Busy) = false
-is_connected (Some NoAnswer) = false
-is_connected (Some NoCarrier) = false
-is_connected (Some Other) = false
+is_connected _ = false
 
 -- the page that is named is the first that is left; it becomes the last that is sent
 abbrev pub page_of : List ℕ → ℕ → Job → Grant → Result JobAndGrant Refusal
@@ -200,15 +193,13 @@ page n j g =
 
 -- the client wishes the job killed
 abbrev pub is_kill : Wish → Bool
-is_kill wish.Go = false
-is_kill wish.Hold = false
 is_kill wish.Kill = true
+is_kill other = false
 
 -- a job that was suspended while it was granted is held when it comes back (one that was killed fails before this is asked)
 abbrev pub phase_after : Wish → Phase
-phase_after wish.Go = phase.Waiting
 phase_after wish.Hold = phase.Held
-phase_after wish.Kill = phase.Waiting
+phase_after other = phase.Waiting
 
 -- the job fails, and its status says why
 abbrev pub failed : Job → List ℕ → Job
@@ -238,8 +229,7 @@ ended (p ∷ rest) o j delay t = ended_by o.ending j o.reason delay t
 -- the outcome says that all pages are sent
 abbrev pub is_done : Ending → Bool
 is_done ending.Done = true
-is_done ending.Retry = false
-is_done ending.Fail = false
+is_done other = false
 
 -- no pages
 abbrev pub is_empty : List ℕ → Bool
@@ -259,8 +249,7 @@ outcome o j g delay t =
 -- the client lets the job go on
 abbrev pub is_go : Wish → Bool
 is_go wish.Go = true
-is_go wish.Hold = false
-is_go wish.Kill = false
+is_go other = false
 
 -- whether the worker is told to stop
 abbrev pub stops : Job → ℕ → Bool

@@ -26,12 +26,10 @@ fits_phase Granted f = false
 fits_phase Done f = true
 fits_phase Failed f = true
 
+-- the job is granted
 abbrev pub is_granted : Phase → Bool
-is_granted Held = false
-is_granted Waiting = false
 is_granted Granted = true
-is_granted Done = false
-is_granted Failed = false
+is_granted other = false
 
 -- the job and its open grant, or none
 abbrev pub fits : JobFields → Option Grant → Bool

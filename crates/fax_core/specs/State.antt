@@ -44,11 +44,8 @@ state s m t j = state_at j ((s.rule j.dial).hours t) (calls_to j.dial m) (s.rule
 
 -- the job waits
 abbrev pub is_waiting : Phase → Bool
-is_waiting Held = false
 is_waiting Waiting = true
-is_waiting Granted = false
-is_waiting Done = false
-is_waiting Failed = false
+is_waiting other = false
 
 -- what a job says for itself of being ready: it waits, no kill time is past, and its times have come
 abbrev pub is_due : Job → ℕ → Bool
