@@ -1,0 +1,134 @@
+-- Cutting texts at a byte, at a blank, and before the blanks at their end.
+use Rattle.std.proofs.Common.{◌≡◌, ◌≢◌, ℕ, ◌<◌, ◌≤◌, true, false, eqb, List, [], ◌∷◌, ◌++◌, length, get_or, reverse, refl, sym, ap, ◌∙◌, arith, lit<, length-append}
+use Rattle.std.specs.Prelude.{Option, Some, None}
+use Rattle.std.specs.Option.{MatchOption, IfSome, IfNone, option_map}
+use Rattle.std.proofs.lemmas.Bool.{ne_eqb, eq-eqb, or_from}
+use Rattle.std.proofs.lemmas.Str.Pattern.{IsSplitOnceResult, split_parts}
+use Rattle.std.proofs.lemmas.List.{reverse-append, reverse-reverse}
+use Rattle.std.proofs.Math.ListN.{get_or-append}
+use denote.Ref.{Bor}
+use Rattle.fax_job.specs.Reading.{without_blanks}
+use Rattle.fax_job.specs.Value.{is_blank}
+use Rattle.fax_job.proofs.LineLemmas.{Lacks, Lacks-tail}
+use Rattle.fax_hours.specs.Item.{before_blanks}
+use Rattle.fax_dest.specs.Line.{at_byte, at_blank, value_from}
+
+lacks_first : (c b : ℕ) (bs : List ℕ) → Lacks c (b ∷ bs) → eqb b c ≡ false
+lacks_first c b bs h = ne_eqb b c (h 0 (omega arith))
+
+at_byte_some : (c : ℕ) (x y : List ℕ) → Lacks c x → at_byte c (x ++ c ∷ y) ≡ Some (x, y)
+at_byte_some c [] y h = rw (eq-eqb c c refl) refl
+at_byte_some c (b ∷ x) y h = rw (lacks_first c b x h) (ap (option_map (λ (parts : List ℕ × List ℕ). (b ∷ parts.0, parts.1))) (at_byte_some c x y (Lacks-tail c b x h)))
+
+at_byte_none : (c : ℕ) (x : List ℕ) → Lacks c x → at_byte c x ≡ None
+at_byte_none c [] h = refl
+at_byte_none c (b ∷ x) h = rw (lacks_first c b x h) (ap (option_map (λ (parts : List ℕ × List ℕ). (b ∷ parts.0, parts.1))) (at_byte_none c x (Lacks-tail c b x h)))
+
+at_byte_by : (c : ℕ) (bs : List ℕ) (r : Option (Bor (List ℕ) × Bor (List ℕ))) → MatchOption r (Lacks c bs) (λ x. (bs ≡ x.0.now ++ (c ∷ x.1.now)) × Lacks c x.0.now) → option_map (λ parts. (parts.0.now, parts.1.now)) r ≡ at_byte c bs
+at_byte_by c bs None h = sym (at_byte_none c bs h)
+at_byte_by c bs (Some x) h = sym (ap (at_byte c) h.0 ∙ at_byte_some c x.0.now x.1.now h.1)
+
+-- what `split_once` gives at a byte
+pub at_byte_is : (c : ℕ) (bs : List ℕ) (r : Option (Bor (List ℕ) × Bor (List ℕ))) → c < 128 → IsSplitOnceResult c bs r → option_map (λ parts. (parts.0.now, parts.1.now)) r ≡ at_byte c bs
+at_byte_is c bs r ascii h = at_byte_by c bs r (split_parts c bs r h ascii)
+
+-- ---- at a blank
+
+lacks_blank : (b : ℕ) (x : List ℕ) → Lacks 32 (b ∷ x) → Lacks 9 (b ∷ x) → is_blank b ≡ false
+lacks_blank b x space tab = or_from (eqb b 32) (eqb b 9) (lacks_first 32 b x space) (lacks_first 9 b x tab)
+
+at_blank_some : (c : ℕ) (x y : List ℕ) → is_blank c ≡ true → Lacks 32 x → Lacks 9 x → at_blank (x ++ c ∷ y) ≡ (x, y)
+at_blank_some c [] y blank space tab = rw blank refl
+at_blank_some c (b ∷ x) y blank space tab =
+    rw (lacks_blank b x space tab) (ap (λ (parts : List ℕ × List ℕ). (b ∷ parts.0, parts.1)) (at_blank_some c x y blank (Lacks-tail 32 b x space) (Lacks-tail 9 b x tab)))
+
+at_blank_none : (x : List ℕ) → Lacks 32 x → Lacks 9 x → at_blank x ≡ (x, [])
+at_blank_none [] space tab = refl
+at_blank_none (b ∷ x) space tab =
+    rw (lacks_blank b x space tab) (ap (λ (parts : List ℕ × List ℕ). (b ∷ parts.0, parts.1)) (at_blank_none x (Lacks-tail 32 b x space) (Lacks-tail 9 b x tab)))
+
+lacks_front : (c : ℕ) (bs x y : List ℕ) → bs ≡ x ++ y → Lacks c bs → Lacks c x
+lacks_front c bs x y e h i lt same =
+    h i (omega (arith, ap length e, length-append x y)) (ap (λ t. get_or t i 0) e ∙ get_or-append x y 0 i lt ∙ same)
+
+lacks_shorter : (c : ℕ) (bs x y x' y' : List ℕ) → bs ≡ x ++ y → bs ≡ x' ++ y' → length x ≤ length x' → Lacks c x' → Lacks c x
+lacks_shorter c bs x y x' y' e e' short h i lt same =
+    h i (omega arith) (sym (get_or-append x' y' 0 i (omega arith)) ∙ sym (ap (λ t. get_or t i 0) e') ∙ ap (λ t. get_or t i 0) e ∙ get_or-append x y 0 i lt ∙ same)
+
+abbrev Cuts : ℕ → List ℕ → Bor (List ℕ) × Bor (List ℕ) → Type 0
+Cuts c bs x = (bs ≡ x.0.now ++ (c ∷ x.1.now)) × Lacks c x.0.now
+
+abbrev two : List ℕ → List ℕ → List ℕ × List ℕ
+two x y = (x, y)
+
+pub at_blank_neither : (bs : List ℕ) → IsSplitOnceResult 32 bs None → IsSplitOnceResult 9 bs None → two bs [] ≡ at_blank bs
+at_blank_neither bs space tab = sym (at_blank_none bs (split_parts 32 bs None space (lit< tt)) (split_parts 9 bs None tab (lit< tt)))
+
+by_space : (bs : List ℕ) (x : Bor (List ℕ) × Bor (List ℕ)) → Cuts 32 bs x → Lacks 9 x.0.now → two x.0.now x.1.now ≡ at_blank bs
+by_space bs x cut tab = sym (ap at_blank cut.0 ∙ at_blank_some 32 x.0.now x.1.now refl cut.1 tab)
+
+by_tab : (bs : List ℕ) (x : Bor (List ℕ) × Bor (List ℕ)) → Cuts 9 bs x → Lacks 32 x.0.now → two x.0.now x.1.now ≡ at_blank bs
+by_tab bs x cut space = sym (ap at_blank cut.0 ∙ at_blank_some 9 x.0.now x.1.now refl space cut.1)
+
+pub at_blank_space : (bs : List ℕ) (x : Bor (List ℕ) × Bor (List ℕ)) → IsSplitOnceResult 32 bs (Some x) → IsSplitOnceResult 9 bs None → two x.0.now x.1.now ≡ at_blank bs
+at_blank_space bs x space tab =
+    let cut : Cuts 32 bs x = split_parts 32 bs (Some x) space (lit< tt) in
+    by_space bs x cut (lacks_front 9 bs x.0.now (32 ∷ x.1.now) cut.0 (split_parts 9 bs None tab (lit< tt)))
+
+pub at_blank_tab : (bs : List ℕ) (x : Bor (List ℕ) × Bor (List ℕ)) → IsSplitOnceResult 32 bs None → IsSplitOnceResult 9 bs (Some x) → two x.0.now x.1.now ≡ at_blank bs
+at_blank_tab bs x space tab =
+    let cut : Cuts 9 bs x = split_parts 9 bs (Some x) tab (lit< tt) in
+    by_tab bs x cut (lacks_front 32 bs x.0.now (9 ∷ x.1.now) cut.0 (split_parts 32 bs None space (lit< tt)))
+
+pub at_blank_space_first : (bs : List ℕ) (x y : Bor (List ℕ) × Bor (List ℕ)) → IsSplitOnceResult 32 bs (Some x) → IsSplitOnceResult 9 bs (Some y) → length x.0.now < length y.0.now → two x.0.now x.1.now ≡ at_blank bs
+at_blank_space_first bs x y space tab short =
+    let cut : Cuts 32 bs x = split_parts 32 bs (Some x) space (lit< tt) in
+    let other : Cuts 9 bs y = split_parts 9 bs (Some y) tab (lit< tt) in
+    by_space bs x cut (lacks_shorter 9 bs x.0.now (32 ∷ x.1.now) y.0.now (9 ∷ y.1.now) cut.0 other.0 (omega arith) other.1)
+
+pub at_blank_tab_first : (bs : List ℕ) (x y : Bor (List ℕ) × Bor (List ℕ)) → IsSplitOnceResult 32 bs (Some x) → IsSplitOnceResult 9 bs (Some y) → length y.0.now ≤ length x.0.now → two y.0.now y.1.now ≡ at_blank bs
+at_blank_tab_first bs x y space tab short =
+    let cut : Cuts 9 bs y = split_parts 9 bs (Some y) tab (lit< tt) in
+    let other : Cuts 32 bs x = split_parts 32 bs (Some x) space (lit< tt) in
+    by_tab bs y cut (lacks_shorter 32 bs y.0.now (9 ∷ y.1.now) x.0.now (32 ∷ x.1.now) cut.0 other.0 short other.1)
+
+-- ---- before blanks
+
+last_first : (c : ℕ) (front : List ℕ) → reverse (front ++ c ∷ []) ≡ c ∷ reverse front
+last_first c front = reverse-append front (c ∷ [])
+
+pub before_blanks-blank : (c : ℕ) (bs front : List ℕ) → is_blank c ≡ true → bs ≡ front ++ c ∷ [] → before_blanks bs ≡ before_blanks front
+unfolding before_blanks
+before_blanks-blank c bs front blank e =
+    ap (λ t. reverse (without_blanks (reverse t))) e
+    ∙ ap (λ t. reverse (without_blanks t)) (last_first c front)
+    ∙ rw blank refl
+
+blankless : (bs : List ℕ) → ((rest : List ℕ) → bs ≢ 32 ∷ rest) → ((rest : List ℕ) → bs ≢ 9 ∷ rest) → without_blanks bs ≡ bs
+blankless [] space tab = refl
+blankless (b ∷ x) space tab =
+    rw (or_from (eqb b 32) (eqb b 9) (ne_eqb b 32 (λ e. space x (ap (λ (n : ℕ). n ∷ x) e))) (ne_eqb b 9 (λ e. tab x (ap (λ (n : ℕ). n ∷ x) e)))) refl
+
+turned : (c : ℕ) (bs rest : List ℕ) → reverse bs ≡ c ∷ rest → bs ≡ reverse rest ++ c ∷ []
+turned c bs rest e = sym (reverse-reverse bs) ∙ ap (λ t. reverse t) e ∙ reverse-append (c ∷ []) rest
+
+pub before_blanks-none : (bs : List ℕ) → ((front : List ℕ) → bs ≢ front ++ 32 ∷ []) → ((front : List ℕ) → bs ≢ front ++ 9 ∷ []) → before_blanks bs ≡ bs
+unfolding before_blanks
+before_blanks-none bs space tab =
+    ap reverse (blankless (reverse bs) (λ rest e. space (reverse rest) (turned 32 bs rest e)) (λ rest e. tab (reverse rest) (turned 9 bs rest e))) ∙ reverse-reverse bs
+
+-- what `strip_suffix` gives at a tab
+pub before_blanks_is : (bs : List ℕ) (r : Option (Bor (List ℕ))) → MatchOption r ((front : List ℕ) → bs ≢ front ++ (9 ∷ [])) (λ x. bs ≡ x.now ++ (9 ∷ [])) → IfSome r (λ front. before_blanks bs ≡ before_blanks front.now)
+before_blanks_is bs None h = tt
+before_blanks_is bs (Some x) h = before_blanks-blank 9 bs x.now refl h
+
+pub before_blanks_unless : (bs : List ℕ) (r : Option (Bor (List ℕ))) → ((front : List ℕ) → bs ≢ front ++ (32 ∷ [])) → MatchOption r ((front : List ℕ) → bs ≢ front ++ (9 ∷ [])) (λ x. bs ≡ x.now ++ (9 ∷ [])) → IfNone r (before_blanks bs ≡ bs)
+before_blanks_unless bs None space h = before_blanks-none bs space h
+before_blanks_unless bs (Some x) space h = tt
+
+-- ---- values
+
+pub unquoted : (bs : List ℕ) → ((rest : List ℕ) → bs ≢ 34 ∷ rest) → Some (before_blanks bs) ≡ value_from bs
+unfolding before_blanks
+unquoted [] h = refl
+unquoted (b ∷ x) h = rw (ne_eqb b 34 (λ e. h x (ap (λ (n : ℕ). n ∷ x) e))) refl

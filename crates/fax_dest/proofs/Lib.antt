@@ -1,0 +1,4 @@
+pub mod CutLemmas
+pub mod SetupLemmas
+pub mod FaultLemmas
+pub mod ControlsLemmas

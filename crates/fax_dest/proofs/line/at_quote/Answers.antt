@@ -1,0 +1,6 @@
+use Rattle.std.proofs.Common.{lit<}
+use Rattle.fax_dest.proofs.CutLemmas.{at_byte_is}
+use Rattle.fax_dest.proofs.line.at_quote.Goals as goal
+
+pub returns : goal.returns
+returns c = at_byte_is 34 c.args.text.now c.split_once.result (lit< tt) c.split_once.ensures.cases

@@ -1,0 +1,12 @@
+pub mod Fault
+pub mod Line
+pub mod Value
+pub mod Pattern
+pub mod Setting
+pub mod Setup
+pub mod SetupStep
+pub mod Notice
+pub mod Parameter
+pub mod Rule
+pub mod Controls
+pub mod ControlsStep

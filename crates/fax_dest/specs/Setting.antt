@@ -1,0 +1,83 @@
+-- The lines of a setup, after hylafax-config(5).
+use Rattle.std.specs.Prelude.{ℕ, Bool, List, codes, Option, Some, None, Result, Ok, Err, if◌then◌else◌}
+use Rattle.std.specs.Str.{str_eq_ignore_ascii_case}
+use Rattle.fax_job.specs.declared.job.Call.{Call}
+use Rattle.fax_job.specs.declared.job.Call.TheVariants.{Connected, Busy, NoAnswer, NoCarrier, Other}
+use Rattle.fax_dest.specs.Line.{is_skipped, at_byte, value_of, number_in}
+use Rattle.fax_dest.specs.Value.{name_in, is_zone, is_line_name}
+use Rattle.fax_dest.specs.declared.fault.FileKind.{FileKind}
+use Rattle.fax_dest.specs.declared.fault.FileKind.TheVariants.{NoColon, BadQuote, BadValue, BadPattern}
+use Rattle.fax_dest.specs.declared.setting.SettingName.{SettingName}
+use Rattle.fax_dest.specs.declared.setting.SettingName.TheVariants.{Modem, ModemClass, Delay, MaxJobs, MaxGrants, TimeZone, Another}
+
+-- a class's name, and the text of its pattern
+pub record ClassText : Type 0 where
+  pub name : List ℕ
+  pub pattern : List ℕ
+
+-- what a line says
+pub data Setting : Type 0 where
+  ModemNamed : List ℕ → Setting
+  ClassOf : ClassText → Setting
+  DelayAfter : Call → ℕ → Setting
+  JobsUpTo : ℕ → Setting
+  GrantsUpTo : ℕ → Setting
+  ZoneOf : List ℕ → Setting
+  Nothing : Setting
+
+-- letter case has no meaning
+unfoldable pub setting_name : List ℕ → SettingName
+setting_name name =
+    if str_eq_ignore_ascii_case name (codes "modem") then Modem
+    else if str_eq_ignore_ascii_case name (codes "modemclass") then ModemClass
+    else if str_eq_ignore_ascii_case name (codes "jobreqbusy") then Delay Busy
+    else if str_eq_ignore_ascii_case name (codes "jobreqnoanswer") then Delay NoAnswer
+    else if str_eq_ignore_ascii_case name (codes "jobreqnocarrier") then Delay NoCarrier
+    else if str_eq_ignore_ascii_case name (codes "jobreqother") then Delay Other
+    else if str_eq_ignore_ascii_case name (codes "jobreqproto") then Delay Connected
+    else if str_eq_ignore_ascii_case name (codes "maxjobs") then MaxJobs
+    else if str_eq_ignore_ascii_case name (codes "maxgrants") then MaxGrants
+    else if str_eq_ignore_ascii_case name (codes "timezone") then TimeZone
+    else Another
+
+-- ---- values
+
+abbrev pub numbered : (ℕ → Setting) → Result ℕ FileKind → Result Setting FileKind
+numbered setting (Ok number) = Ok (setting number)
+numbered setting (Err kind) = Err kind
+
+abbrev pub texted : (List ℕ → Setting) → Result (List ℕ) FileKind → Result Setting FileKind
+texted setting (Ok text) = Ok (setting text)
+texted setting (Err kind) = Err kind
+
+abbrev pub class_with : Bool → Result (List ℕ) FileKind → List ℕ → Result Setting FileKind
+class_with refused (Ok name) pattern = if refused then Err BadPattern else Ok (ClassOf (record { name = name; pattern = pattern }))
+class_with refused (Err kind) pattern = Err kind
+
+-- `name:regex`, where the pattern may be refused
+abbrev pub class_written : Bool → Option (List ℕ × List ℕ) → Result Setting FileKind
+class_written refused None = Err BadValue
+class_written refused (Some parts) = class_with refused (name_in parts.0) parts.1
+
+abbrev pub setting_in : Bool → SettingName → List ℕ → Result Setting FileKind
+setting_in refused Modem value = texted ModemNamed (name_in value)
+setting_in refused ModemClass value = class_written refused (at_byte 58 value)
+setting_in refused (Delay call) value = numbered (DelayAfter call) (number_in 0 86400 value)
+setting_in refused MaxJobs value = numbered JobsUpTo (number_in 1 999999 value)
+setting_in refused MaxGrants value = numbered GrantsUpTo (number_in 1 999999999 value)
+setting_in refused TimeZone value = texted ZoneOf (is_zone value)
+setting_in refused Another value = Ok Nothing
+
+-- ---- lines
+
+abbrev pub with_value : Bool → List ℕ → Option (List ℕ) → Result Setting FileKind
+with_value refused name None = Err BadQuote
+with_value refused name (Some value) = setting_in refused (setting_name name) value
+
+abbrev pub with_name : Bool → Option (List ℕ × List ℕ) → Result Setting FileKind
+with_name refused None = Err NoColon
+with_name refused (Some parts) = if is_line_name parts.0 then with_value refused parts.0 (value_of parts.1) else Err NoColon
+
+-- what a line says, or its fault; `regex` refuses its pattern or not
+unfoldable pub setting_of : List ℕ → Bool → Result Setting FileKind
+setting_of line refused = if is_skipped line then Ok Nothing else with_name refused (at_byte 58 line)

@@ -1,0 +1,176 @@
+//! Controls of destinations.
+
+use crate::fault::{FileFault, FileKind};
+use crate::line::{at_blank, begins_with_blank, cut_line, is_skipped};
+use crate::parameter::Parameter;
+use crate::pattern::{is_found, pattern};
+use crate::rule::Rule;
+use fax_job::Dial;
+use regex::Regex;
+use std::alloc::{AllocError, Global};
+
+/// Rules of destinations, in their order, of which the first that matches a number holds.
+#[derive(Drop)]
+pub struct Controls {
+    rules: Vec<Entry>,
+    /// What holds where none matches.
+    default: Rule,
+}
+
+/// A rule, and the pattern of the numbers for which it holds.
+#[derive(Drop)]
+pub(crate) struct Entry {
+    pattern: Regex,
+    rule: Rule,
+}
+
+impl Controls {
+    ghost use Rattle.std.specs.Prelude.{◌≡◌, ℕ, Bool, IfOk, Err};
+    ghost use Rattle.std.specs.Str.{IsUtf8};
+    ghost use Rattle.fax_dest.specs.Controls.{lines_of, AreControlsOf, place_of, rule_at};
+    ghost use Rattle.fax_dest.specs.Fault.{GivesFile, fault_at};
+    ghost use Rattle.fax_dest.specs.declared.fault.FileKind.TheVariants.{NotText};
+
+    /// The controls that a text spells.
+    ///
+    /// Lines of blanks and lines whose first character past blanks is `#` are skipped. A line that
+    /// begins with another character than a blank begins a rule: its first word is the pattern, in the
+    /// grammar of `regex`, and what follows, if anything but a comment, is a parameter. An indented
+    /// line is a parameter of the rule above. A parameter is `Name = value`, and of each name the last
+    /// holds: `MaxConcurrentCalls` or `MaxConcurrentJobs` (1 to 1000), `MaxSendPages` (1 to 9999),
+    /// `TimeOfDay` (as [`Hours::read`](fax_hours::Hours::read) reads it) and `RejectNotice` (at most
+    /// 200 bytes without control characters; empty is none). Other names are read and not used.
+    ///
+    /// # Errors
+    ///
+    /// The first fault of the text.
+    pub fn read(alloc: Global, bytes: &[u8]) -> Result<Controls, FileFault>
+        ensures text { IsUtf8 bytes.now → (refused : ℕ → Bool) × GivesFile AreControlsOf (lines_of refused bytes.now) result }
+        ensures not_text { ¬ (IsUtf8 bytes.now) → result ≡ Err (fault_at 0 NotText) }
+    {
+        match str::from_utf8(bytes) {
+            Ok(text) => Controls::read_text(alloc, text),
+            Err(_) => Err(FileFault {
+                line: 0,
+                kind: FileKind::NotText,
+            }),
+        }
+    }
+
+    fn read_text(alloc: Global, text: &str) -> Result<Controls, FileFault>
+        ensures { (refused : ℕ → Bool) × GivesFile AreControlsOf (lines_of refused text.now) result }
+    {
+        let mut rules = Vec::new(alloc);
+        let mut rest = text;
+        let mut number: u64 = 0;
+        while !rest.is_empty() {
+            let (line, after) = cut_line(rest);
+            number += 1;
+            if let Err(kind) = Entry::take(alloc, &mut rules, line) {
+                return Err(FileFault { line: number, kind });
+            }
+            rest = after;
+        }
+        Ok(Controls {
+            rules,
+            default: Rule::default_rule(),
+        })
+    }
+
+    /// The place of the first rule whose pattern is found anywhere in the canonical number, else the
+    /// number of rules.
+    #[tactic(auto, unfolding(crate::specs::Controls::place_of))]
+    pub fn rule_of(&self, alloc: Global, dial: &Dial) -> Result<usize, AllocError>
+        ensures { IfOk result (λ place. place ≡ place_of self.now dial.now) }
+    {
+        Entry::place(alloc, &self.rules, dial.text())
+    }
+
+    /// The rule at a place; what holds without one, at and past the end.
+    pub fn rule_at(&self, place: usize) -> &Rule
+        ensures { result.now ≡ rule_at self.now place }
+    {
+        match self.rules.get(place) {
+            Some(entry) => &entry.rule,
+            None => &self.default,
+        }
+    }
+}
+
+impl Entry {
+    ghost use Rattle.std.specs.Prelude.{◌≡◌, ◌≤◌, IfOk, length};
+    ghost use Rattle.std.specs.List.{position_or_len};
+    ghost use Rattle.fax_dest.specs.Controls.{line_of, begun, behind_of, matches, added};
+    ghost use Rattle.fax_dest.specs.Line.{at_blank};
+    ghost use Rattle.fax_dest.specs.ControlsStep.{rules_of, has_rule, IsTaken, IsBegun, IsRuleOf};
+    ghost use Rattle.fax_dest.specs.Fault.{GivesLine};
+
+    /// Takes what a line says to the rules above it.
+    #[tactic(auto, unfolding(crate::specs::Controls::line_of))]
+    fn take(alloc: Global, rules: &mut Vec<Entry>, line: &str) -> Result<(), FileKind>
+        ensures { GivesLine (λ item _. IsTaken item rules.old.items rules.new.items) (line_of (has_rule (rules_of rules.old.items)) line.now) result }
+    {
+        if is_skipped(line) {
+            return Ok(());
+        }
+        if begins_with_blank(line) {
+            return Entry::add(alloc, rules, line);
+        }
+        let entry = Entry::begin(alloc, line)?;
+        rules.push(entry)?;
+        Ok(())
+    }
+
+    /// The rule that a line begins.
+    fn begin(alloc: Global, line: &str) -> Result<Entry, FileKind>
+        ensures { GivesLine IsBegun (λ refused. begun refused (at_blank line.now)) result }
+    {
+        let (word, rest) = at_blank(line);
+        let pattern = pattern(alloc, word)?;
+        let rule = Entry::behind(alloc, rest)?;
+        Ok(Entry { pattern, rule })
+    }
+
+    /// What holds by the parameter behind a pattern, if there is one.
+    #[tactic(auto, unfolding(crate::specs::Controls::behind_of))]
+    fn behind(alloc: Global, rest: &str) -> Result<Rule, FileKind>
+        ensures { GivesLine IsRuleOf (λ _. behind_of rest.now) result }
+    {
+        let mut rule = Rule::default_rule();
+        if is_skipped(rest) {
+            return Ok(rule);
+        }
+        rule.set(Parameter::read(alloc, rest)?);
+        Ok(rule)
+    }
+
+    /// Takes a parameter to the last of the rules.
+    fn add(alloc: Global, rules: &mut Vec<Entry>, line: &str) -> Result<(), FileKind>
+        ensures { GivesLine (λ item _. IsTaken item rules.old.items rules.new.items) (λ _. added (has_rule (rules_of rules.old.items)) line.now) result }
+    {
+        if rules.is_empty() {
+            return Err(FileKind::NoRule);
+        }
+        let parameter = Parameter::read(alloc, line)?;
+        let last = rules.len() - 1;
+        let entry = &mut rules[last];
+        entry.rule.set(parameter);
+        Ok(())
+    }
+
+    /// The place of the first whose pattern is found, else how many they are.
+    fn place(alloc: Global, rules: &[Entry], number: &str) -> Result<usize, AllocError>
+        ensures { IfOk result (λ place. place ≡ position_or_len (matches number.now) rules.now) }
+    {
+        let mut place = 0;
+        let mut rest = rules;
+        while let [entry, after @ ..] = rest {
+            if is_found(alloc, &entry.pattern, number)? {
+                return Ok(place);
+            }
+            place += 1;
+            rest = after;
+        }
+        Ok(place)
+    }
+}

@@ -1,0 +1,95 @@
+//! Parameters of rules.
+
+use crate::fault::FileKind;
+use crate::line::{at_equals, number_in, trimmed, value_of};
+use crate::rule::Notice;
+use fax_hours::Hours;
+use std::alloc::Global;
+
+/// What a parameter is about.
+#[derive(Clone, Copy, Debug)]
+pub(crate) enum ParameterName {
+    Calls,
+    Pages,
+    TimeOfDay,
+    RejectNotice,
+    /// Read and not used.
+    Another,
+}
+
+/// What a parameter says.
+#[derive(Drop)]
+pub(crate) enum Parameter {
+    Calls(u16),
+    Pages(u16),
+    TimeOfDay(Hours),
+    RejectNotice(Option<Notice>),
+    Another,
+}
+
+impl ParameterName {
+    ghost use Rattle.std.specs.Prelude.{◌≡◌};
+    ghost use Rattle.fax_dest.specs.Parameter.{parameter_name};
+
+    /// What a name says, letter case aside.
+    #[tactic(auto, unfolding(crate::specs::Parameter::parameter_name))]
+    fn of(name: &str) -> ParameterName
+        ensures { result ≡ parameter_name name.now }
+    {
+        if name.eq_ignore_ascii_case("maxconcurrentcalls")
+            || name.eq_ignore_ascii_case("maxconcurrentjobs")
+        {
+            ParameterName::Calls
+        } else if name.eq_ignore_ascii_case("maxsendpages") {
+            ParameterName::Pages
+        } else if name.eq_ignore_ascii_case("timeofday") {
+            ParameterName::TimeOfDay
+        } else if name.eq_ignore_ascii_case("rejectnotice") {
+            ParameterName::RejectNotice
+        } else {
+            ParameterName::Another
+        }
+    }
+}
+
+impl Parameter {
+    ghost use Rattle.std.specs.Prelude.{◌≡◌};
+    ghost use Rattle.fax_job.specs.Gives.{Gives};
+    ghost use Rattle.fax_dest.specs.Fault.{is_memory};
+    ghost use Rattle.fax_dest.specs.Parameter.{parameter_of, parameter_in, hours_in};
+
+    /// The parameter that `Name = value` writes.
+    #[tactic(auto, unfolding(crate::specs::Parameter::parameter_of))]
+    pub(crate) fn read(alloc: Global, text: &str) -> Result<Parameter, FileKind>
+        ensures { Gives is_memory result (parameter_of text.now) }
+    {
+        let Some((name, rest)) = at_equals(text) else {
+            return Err(FileKind::NoEquals);
+        };
+        let Some(value) = value_of(rest) else {
+            return Err(FileKind::BadQuote);
+        };
+        Parameter::of(alloc, ParameterName::of(trimmed(name)), value)
+    }
+
+    fn of(alloc: Global, name: ParameterName, value: &str) -> Result<Parameter, FileKind>
+        ensures { Gives is_memory result (parameter_in name value.now) }
+    {
+        match name {
+            ParameterName::Calls => Ok(Parameter::Calls(number_in(1, 1000, value)? as u16)),
+            ParameterName::Pages => Ok(Parameter::Pages(number_in(1, 9999, value)? as u16)),
+            ParameterName::TimeOfDay => Parameter::hours(value),
+            ParameterName::RejectNotice => Ok(Parameter::RejectNotice(Notice::read(alloc, value)?)),
+            ParameterName::Another => Ok(Parameter::Another),
+        }
+    }
+
+    fn hours(value: &str) -> Result<Parameter, FileKind>
+        ensures { result ≡ hours_in value.now }
+    {
+        match Hours::read(value) {
+            Ok(hours) => Ok(Parameter::TimeOfDay(hours)),
+            Err(_) => Err(FileKind::BadHours),
+        }
+    }
+}

@@ -1,0 +1,32 @@
+//! Patterns in the grammar of `regex`.
+
+ghost use Rattle.std.specs.Prelude.{◌≡◌, ◌≢◌, IfOk, IfErr};
+ghost use Rattle.regex.specs.Strings.{regex_source, regex_config, IsReadFromSource};
+ghost use Rattle.regex.specs.Patterns.{default_config};
+ghost use Rattle.fax_dest.specs.Pattern.{is_found, IsRefusedKind};
+ghost use Rattle.fax_dest.specs.declared.fault.FileKind.TheVariants.{BadPattern, NoMemory};
+
+use crate::fault::FileKind;
+use regex::{Error, Regex};
+use std::alloc::{AllocError, Global};
+
+/// The pattern that a text writes.
+pub(crate) fn pattern(alloc: Global, text: &str) -> Result<Regex, FileKind>
+    ensures source { IfOk result (λ regex. regex_source regex ≡ text.now) }
+    ensures refused { IfErr result IsRefusedKind }
+{
+    match Regex::new(alloc, text) {
+        Ok(regex) => Ok(regex),
+        Err(Error::OutOfMemory) => Err(FileKind::NoMemory),
+        Err(_) => Err(FileKind::BadPattern),
+    }
+}
+
+/// Whether a pattern is found anywhere in a text.
+#[tactic(auto, unfolding(crate::specs::Pattern::is_found))]
+pub(crate) fn is_found(alloc: Global, pattern: &Regex, text: &str) -> Result<bool, AllocError>
+    ensures { IfOk result (λ found. found ≡ is_found pattern.now text.now) }
+{
+    let mut matcher = pattern.matcher(alloc)?;
+    Ok(matcher.is_match(text))
+}
