@@ -14,3 +14,4 @@ pub mod PageLemmas
 pub mod ClockLemmas
 pub mod FitsLemmas
 pub mod RefusalLemmas
+pub mod NewJobLemmas

@@ -14,3 +14,6 @@ pub mod Fits
 pub mod Run
 pub mod Refusals
 pub mod Laws
+pub mod Aging
+pub mod Change
+pub mod Submission

@@ -6,6 +6,7 @@
 ghost use Rattle.fax_core.specs.Laws.{StepsStaySound, RunsStaySound, RunsHoldOnce, GivenJobsAreFree, PageReportsConfirm, StepsKeepSent, RunsKeepSent, PagesAreGrantedNoMore, PagesRise, RefusalsAreMet, KeysGoWithRefusals, BusyModemsAreTold, BestIsGiven, OneIsBest, NothingIsLeftOut, ReadyJobsAreDue, TakenStepsSetTheClock, RequestsSetTheClock, ClocksGoForward, RecordsAreJobs, JobsAreRecords, FitsIsDecided};
 ghost use Rattle.fax_core.specs.Queue.{empty_queue};
 ghost use Rattle.fax_core.specs.Sound.{Sound};
+ghost use Rattle.fax_core.specs.Submission.{ReadOrdersAreLawful};
 
 /// The empty queue is sound. A taken step from a sound queue leaves a sound queue, and so does every
 /// run, where what is asked is lawful: each order has a page, a try and a dial.
@@ -65,4 +66,10 @@ pub fn records()
     ensures record { RecordsAreJobs }
     ensures job { JobsAreRecords }
     ensures fits { FitsIsDecided }
+{}
+
+/// A submission refuses no order that was read, with a number from 1 to 999999, as one whose job is no
+/// lawful record.
+pub fn read_orders()
+    ensures { ReadOrdersAreLawful }
 {}

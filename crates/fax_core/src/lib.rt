@@ -4,11 +4,27 @@
 //! `Queue` say what there is, `Decisions` has each rule on records alone, `Machine` puts what they give
 //! into the queue, and `Sound` says what holds of every queue that comes of it. What is proved of the
 //! definitions is stated in `Laws`, and [`laws`] has it as contracts.
+//!
+//! The functions decide on the records that they are given, and none of them needs memory. Each gives
+//! exactly what its definition says: a [`Change`] of the job, or a refusal.
 #![tactic(auto)]
 
+mod ageing;
+mod change;
+mod client;
 mod grant;
 pub mod laws;
 mod report;
+mod state;
+mod submission;
 
+pub use ageing::{Aging, aged};
+pub use change::{Altered, Change};
+pub use client::{alter, kill, resume, suspend};
 pub use grant::Grant;
 pub use report::Ending;
+pub use state::state_at;
+pub use submission::submit;
+
+#[cfg(test)]
+mod tests;

@@ -1,6 +1,6 @@
 //! Patterns in the grammar of `regex`.
 
-ghost use Rattle.std.specs.Prelude.{◌≡◌, ◌≢◌, IfOk, IfErr};
+ghost use Rattle.std.specs.Prelude.{◌≡◌, IfOk, IfErr};
 ghost use Rattle.regex.specs.Strings.{regex_source, regex_config, IsReadFromSource};
 ghost use Rattle.regex.specs.Patterns.{default_config};
 ghost use Rattle.fax_dest.specs.Pattern.{is_found, IsRefusedKind};
@@ -13,6 +13,9 @@ use std::alloc::{AllocError, Global};
 /// The pattern that a text writes.
 pub(crate) fn pattern(alloc: Global, text: &str) -> Result<Regex, FileKind>
     ensures source { IfOk result (λ regex. regex_source regex ≡ text.now) }
+    // The pattern is what the grammar reads in the text, with no flags set.
+    ensures config { IfOk result (λ regex. regex_config regex ≡ default_config) }
+    ensures read { IfOk result IsReadFromSource }
     ensures refused { IfErr result IsRefusedKind }
 {
     match Regex::new(alloc, text) {

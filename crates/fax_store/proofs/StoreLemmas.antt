@@ -55,6 +55,13 @@ module _ (old new : State) (kept : doubt old.is_clean ≤ doubt new.is_clean) wh
         goes_on = λ _. record { inside = began.mode; means = same_tables m k began.now_is was.means };
       }
 
+  -- where the store serves after a begin or a commit, it did before
+  pub begun_served : (n : ℕ) → (HasCleanDisk new → Executes BEGIN.now [] old new (Ok n)) → Serves new → Serves old
+  begun_served n ran s = served s (begins old new n (ran s.clean)).1.was_open
+
+  pub commit_served : (n : ℕ) → (HasCleanDisk new → Executes COMMIT.now [] old new (Ok n)) → Serves new → Serves old
+  commit_served n ran s = served s (commits old new n (ran s.clean)).was_open
+
   pub not_begun : (sql : List ℕ) (e : Error) → (HasCleanDisk new → Executes sql [] old new (Err e)) → Stays old new
   not_begun sql e ran = rests (λ clean. fails_whole old new false sql [] e (ran clean))
 

@@ -268,6 +268,7 @@ impl<S: Alter> Store<S> {
     ///
     /// `Unavailable`, or `Strange` where its row is no lawful record.
     pub fn job(&mut self, job: u32) -> Result<Option<Job>, StoreFault>
+        ensures served { Serves (state S.Store self.new.conn) → Serves (state S.Store self.old.conn) }
         ensures stays { Stays (state S.Store self.old.conn) (state S.Store self.new.conn) }
         ensures found { (m : Queue) (k : List Entry) → Means (state S.Store self.old.conn) m k
             → Serves (state S.Store self.new.conn)
@@ -358,6 +359,7 @@ impl<S: Alter> Work<'_, S> {
         ensures found { AnswersIn (state S.Store self.old.store.now.conn) self.old.failed
             (state S.Store self.new.store.now.conn) result
             (λ m k found. found ≡ option_map fields_of (job_numbered job m)) }
+        ensures served { Serves (state S.Store self.new.store.now.conn) → Serves (state S.Store self.old.store.now.conn) }
         ensures fails { self.new.failed ≡ is_err result }
         ensures refused { IsTrue self.old.failed → result ≡ Err StoreFault.Unavailable }
     {
@@ -382,6 +384,7 @@ impl<S: Alter> Work<'_, S> {
             → Works (state S.Store self.old.store.now.conn) self.old.failed m₀ k₀ m k
             → Serves (state S.Store self.new.store.now.conn) → m.next_job < 1000000
             → IfErr result (λ fault. fault ≡ StoreFault.Unavailable) }
+        ensures served { Serves (state S.Store self.new.store.now.conn) → Serves (state S.Store self.old.store.now.conn) }
         ensures fails { self.new.failed ≡ is_err result }
         ensures refused { IsTrue self.old.failed → result ≡ Err StoreFault.Unavailable }
     {

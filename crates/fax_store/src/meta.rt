@@ -69,6 +69,7 @@ impl<S: Alter> Store<S> {
     ///
     /// `Unavailable`, or `Strange` where their row is no lawful record.
     pub fn meta(&mut self) -> Result<Meta, StoreFault>
+        ensures served { Serves (state S.Store self.new.conn) → Serves (state S.Store self.old.conn) }
         ensures stays { Stays (state S.Store self.old.conn) (state S.Store self.new.conn) }
         ensures found { (m : Queue) (k : List Entry) → Means (state S.Store self.old.conn) m k
             → Serves (state S.Store self.new.conn) → OrUnavailable result (λ meta. meta ≡ meta_of m) }
@@ -125,6 +126,7 @@ impl<S: Alter> Work<'_, S> {
             (state S.Store self.new.store.now.conn) self.new.failed }
         ensures found { AnswersIn (state S.Store self.old.store.now.conn) self.old.failed
             (state S.Store self.new.store.now.conn) result (λ m k meta. meta ≡ meta_of m) }
+        ensures served { Serves (state S.Store self.new.store.now.conn) → Serves (state S.Store self.old.store.now.conn) }
         ensures fails { self.new.failed ≡ is_err result }
         ensures refused { IsTrue self.old.failed → result ≡ Err StoreFault.Unavailable }
     {
@@ -147,6 +149,7 @@ impl<S: Alter> Work<'_, S> {
             (state S.Store self.new.store.now.conn) self.new.failed (with_clock clock) (λ k. k) }
         ensures cause { AnswersIn (state S.Store self.old.store.now.conn) self.old.failed
             (state S.Store self.new.store.now.conn) result (λ m k done. ⊤) }
+        ensures served { Serves (state S.Store self.new.store.now.conn) → Serves (state S.Store self.old.store.now.conn) }
         ensures fails { self.new.failed ≡ is_err result }
         ensures refused { IsTrue self.old.failed → result ≡ Err StoreFault.Unavailable }
     {

@@ -62,6 +62,8 @@ impl<S: Alter> Store<S> {
         ensures same_reference { IfOk result (λ work. work.store.ghost_name ≡ self.entry.ghost_name) }
         ensures begun { IfOk result (λ work.
             Begins (state S.Store self.old.conn) (state S.Store work.store.now.conn) work.failed) }
+        ensures served { IfOk result (λ work.
+            Serves (state S.Store work.store.now.conn) → Serves (state S.Store self.old.conn)) }
         ensures cause { IfErr result (λ fault. fault ≡ StoreFault.Unavailable) }
     {
         self.conn.execute(BEGIN, &[])?;

@@ -2,6 +2,7 @@
 
 ghost use Rattle.std.specs.Prelude.{◌≡◌, false, IsTrue, IfErr, OnOk, OnErr};
 ghost use Rattle.sqlite.specs.Held.{state};
+ghost use Rattle.fax_store.specs.Store.{Serves};
 ghost use Rattle.fax_store.specs.Work.{Commits, Undoes};
 
 use crate::fault::StoreFault;
@@ -36,6 +37,8 @@ impl<'s, S: Alter> Work<'s, S> {
     pub fn commit(self) -> Result<(), StoreFault>
         ensures committed { OnOk result (Commits (state S.Store self.entry.store.now.conn)
             self.entry.failed (state S.Store self.exit.0.now.conn)) }
+        ensures served { OnOk result (Serves (state S.Store self.exit.0.now.conn)
+            → Serves (state S.Store self.entry.store.now.conn)) }
         ensures undone { OnErr result (Undoes (state S.Store self.entry.store.now.conn)
             self.entry.failed (state S.Store self.exit.0.now.conn)) }
         ensures refused { IsTrue self.entry.failed → result ≡ Err StoreFault.Unavailable }

@@ -7,3 +7,5 @@ pub mod MessageLemmas
 pub mod OutputLemmas
 pub mod Progress
 pub mod ResponseLemmas
+pub mod QueueLemmas
+pub mod SubmissionLemmas

@@ -1,4 +1,5 @@
-use Rattle.std.specs.Prelude.{Option}
+-- What an arrival says.
+use Rattle.std.specs.Prelude.{ℕ, List, ◌∷◌, ◌++◌, Option}
 use Rattle.fax_job.specs.declared.refusal.Refusal.{Refusal}
 use Rattle.faxqd.specs.declared.arrival.Arrival.{Arrival}
 use Rattle.faxqd.specs.Checks.{refusal_by}
@@ -6,3 +7,7 @@ use Rattle.faxqd.specs.Checks.{refusal_by}
 -- the refusal of an arrival by its head, if there is one
 abbrev pub arrival_refusal : Arrival → Option Refusal
 arrival_refusal arrival = refusal_by arrival.method arrival.path.now arrival.client.now arrival.number.now
+
+-- what is kept as said: the path, LF, the body
+abbrev pub said_of : Arrival → List ℕ
+said_of arrival = arrival.path.now ++ 10 ∷ arrival.body.now

@@ -7,3 +7,6 @@ pub mod Message
 pub mod Reply
 pub mod ReplyBody
 pub mod Response
+pub mod Serve
+pub mod Submission
+pub mod Sender

@@ -2,19 +2,18 @@
 use crate::replay::replay;
 use crate::status::{Status, fail};
 use crate::words::{Plan, WordsFault, read_words};
-use std::alloc::Global;
 use std::io::{Read, Write};
 
 /// Runs the command that the words ask for. Help goes to `out`, what is wrong to `err`.
 pub fn run<R: Read, W: Write, E: Write>(
-    alloc: Global,
+    rt: &HostRuntime,
     words: &[String],
     reader: &mut R,
     out: &mut W,
     err: &mut E,
 ) -> Status {
-    match read_words(alloc, words) {
-        Ok(Plan::Replay) => replay(alloc, reader, out, err),
+    match read_words(rt.alloc(), words) {
+        Ok(Plan::Replay(files)) => replay(rt, files, reader, out, err),
         Err(WordsFault::Help(text)) => match out.write_all(text.as_bytes()) {
             Ok(()) => Status::Success,
             Err(_) => fail(err, "faxqd: ended write-failed\n"),

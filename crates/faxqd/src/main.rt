@@ -9,6 +9,7 @@ mod desk;
 mod head;
 mod input;
 mod message;
+mod office;
 mod output;
 mod queue;
 mod replay;
@@ -31,7 +32,7 @@ fn called_with(rt: &HostRuntime) -> io::Result<Vec<String>> {
 fn main(rt: HostRuntime) -> ExitCode {
     let status = match called_with(&rt) {
         Ok(words) => command::run(
-            rt.alloc(),
+            &rt,
             words.as_slice(),
             &mut rt.stdin(),
             &mut rt.stdout(),

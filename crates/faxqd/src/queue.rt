@@ -2,7 +2,24 @@
 //!
 //! An accepted request's effect and its kept reply are one transaction of the store, and the
 //! reply's bytes are made before its commit. A refused request changes nothing.
-ghost use Rattle.std.specs.Prelude.{◌≡◌, ◌∷◌, ◌++◌, IfOk, None, Some, Err, IfErr, IsOk, is_some};
+ghost use Rattle.std.specs.Prelude.{◌≡◌, ◌∷◌, ◌++◌, [], List, IfOk, IfSome, OnOk, None, Some, Ok, Err, IfErr, IsOk, is_some, MatchResult};
+ghost use Rattle.sqlite.specs.Held.{state};
+ghost use Rattle.fax_core.specs.Decisions.{new_job};
+ghost use Rattle.fax_core.specs.Job.{job_of};
+ghost use Rattle.fax_job.specs.Order.{order_of};
+ghost use Rattle.fax_job.specs.Pair.{Pair};
+ghost use Rattle.fax_job.specs.Spells.{Spells};
+ghost use Rattle.faxqd.specs.Sender.{IsSender};
+ghost use Rattle.faxqd.specs.Submission.{MeansTaken, Leaves};
+ghost use Rattle.fax_core.specs.Queue.{Queue as QueueOf, Entry};
+ghost use Rattle.fax_store.specs.Job.{with_job};
+ghost use Rattle.fax_store.specs.Kept.{entry};
+ghost use Rattle.fax_store.specs.Meta.{with_clock};
+ghost use Rattle.fax_store.specs.Store.{Means, Serves};
+ghost use Rattle.fax_store.specs.Work.{Changes};
+ghost use Rattle.faxqd.specs.Response.{accepted_response};
+ghost use Rattle.faxqd.specs.declared.reply.Answer.TheVariants.{Submitted};
+ghost use Rattle.faxqd.specs.Arrival.{said_of};
 ghost use Rattle.fax_job.specs.declared.refusal.Refusal.{Refusal as RefusalOf};
 ghost use Rattle.fax_job.specs.Name.{is_name as is_name_of};
 ghost use Rattle.faxqd.specs.Arrival.{arrival_refusal};
@@ -13,7 +30,7 @@ use crate::reply::{Answer, Reply};
 use fax_job::{
     Job, JobFields, Moment, Order, Phase, Refusal, RequestNumber, Status, Wish, is_name, read_lines,
 };
-use fax_store::Store;
+use fax_store::{Store, Work};
 use sqlite::Alter;
 use std::alloc::{AllocError, Global};
 use std::str;
@@ -41,7 +58,9 @@ impl<S: Alter> Queue<S> {
 
     /// Answers the request, after its effect where it is accepted.
     pub fn handle(&mut self, alloc: Global, arrival: &Arrival<'_>) -> Reply
-        ensures { IsCheckedReply (arrival_refusal arrival.now) result }
+        ensures checked { IsCheckedReply (arrival_refusal arrival.now) result }
+        ensures leaves { (m : QueueOf) (k : List Entry) → Means (state S.Store self.old.store.conn) m k
+            → Leaves arrival.now m k result (state S.Store self.new.store.conn) }
     {
         match self.submit(alloc, arrival) {
             Ok(reply) => reply,
@@ -50,7 +69,11 @@ impl<S: Alter> Queue<S> {
     }
 
     fn submit(&mut self, alloc: Global, arrival: &Arrival<'_>) -> Result<Reply, Refusal>
-        ensures { (refusal : RefusalOf) → arrival_refusal arrival.now ≡ Some refusal → result ≡ Err refusal }
+        ensures checked { (refusal : RefusalOf) → arrival_refusal arrival.now ≡ Some refusal → result ≡ Err refusal }
+        ensures taken { (m : QueueOf) (k : List Entry) → Means (state S.Store self.old.store.conn) m k
+            → MatchResult result
+            (λ reply. (reply.status ≡ 201) × MeansTaken arrival.now m k reply (state S.Store self.new.store.conn))
+            (λ _. Means (state S.Store self.new.store.conn) m k) }
     {
         match sender_of(arrival) {
             Ok(sender) => self.submit_from(alloc, arrival, &sender),
@@ -64,8 +87,14 @@ impl<S: Alter> Queue<S> {
         alloc: Global,
         arrival: &Arrival<'_>,
         sender: &Sender<'_>,
-    ) -> Result<Reply, Refusal> {
-        let order = read_lines(alloc, arrival.body)?.to_order(alloc)?;
+    ) -> Result<Reply, Refusal>
+        ensures taken { (m : QueueOf) (k : List Entry) → Means (state S.Store self.old.store.conn) m k
+            → IsSender arrival.now sender.now
+            → MatchResult result
+            (λ reply. (reply.status ≡ 201) × MeansTaken arrival.now m k reply (state S.Store self.new.store.conn))
+            (λ _. Means (state S.Store self.new.store.conn) m k) }
+    {
+        let order = order_in(alloc, arrival.body)?;
         if self.store.kept(sender.client, sender.number)?.is_some() {
             return Err(Refusal::NumberReused);
         }
@@ -74,8 +103,10 @@ impl<S: Alter> Queue<S> {
             return Err(Refusal::Full);
         }
         let decided_at = meta.clock.later(arrival.moment);
-        let job = new_job(order, meta.next_job, decided_at).ok_or(Refusal::Unavailable)?;
-        self.take(alloc, arrival, sender, &job, decided_at)
+        match new_job(order, meta.next_job, decided_at) {
+            Some(job) => self.take(alloc, arrival, sender, &job, decided_at),
+            None => Err(Refusal::Unavailable),
+        }
     }
 
     /// Puts the job in and keeps the reply, both in one transaction.
@@ -86,25 +117,53 @@ impl<S: Alter> Queue<S> {
         sender: &Sender<'_>,
         job: &Job,
         decided_at: Moment,
-    ) -> Result<Reply, Refusal> {
+    ) -> Result<Reply, Refusal>
+        ensures served { OnOk result (Serves (state S.Store self.new.store.conn) → Serves (state S.Store self.old.store.conn)) }
+        ensures taken { (m : QueueOf) (k : List Entry) → Means (state S.Store self.old.store.conn) m k
+            → MatchResult result
+            (λ reply. (reply ≡ accepted_response (Submitted job.now.job))
+            × Means (state S.Store self.new.store.conn) (with_clock decided_at (with_job (job_of job.now) m))
+            (k ++ entry sender.now.client.now sender.now.number (said_of arrival.now) reply.status reply.body ∷ []))
+            (λ _. Means (state S.Store self.new.store.conn) m k) }
+    {
         let answer = Answer::Submitted {
             job: job.fields().job,
         };
         let reply = Reply::accepted(alloc, &answer)?;
         let said = said(alloc, arrival)?;
         let mut work = self.store.begin()?;
-        work.put_job(job)?;
-        work.set_clock(decided_at)?;
-        work.keep(
-            sender.client,
-            sender.number,
-            said.as_slice(),
-            reply.status(),
-            reply.body(),
-        )?;
+        write(&mut work, job, decided_at, sender, &said, &reply)?;
         work.commit()?;
         Ok(reply)
     }
+}
+
+/// Puts the job in, sets the clock and keeps the reply.
+fn write<S: Alter>(
+    work: &mut Work<'_, S>,
+    job: &Job,
+    decided_at: Moment,
+    sender: &Sender<'_>,
+    said: &[u8],
+    reply: &Reply,
+) -> Result<(), Refusal>
+    ensures same_reference { work.new.store.ghost_name ≡ work.old.store.ghost_name }
+    ensures served { Serves (state S.Store work.new.store.now.conn) → Serves (state S.Store work.old.store.now.conn) }
+    ensures changes { Changes (state S.Store work.old.store.now.conn) work.old.failed
+        (state S.Store work.new.store.now.conn) work.new.failed
+        (λ m. with_clock decided_at (with_job (job_of job.now) m))
+        (λ k. k ++ entry sender.now.client.now sender.now.number said.now reply.now.status reply.now.body ∷ []) }
+{
+    work.put_job(job)?;
+    work.set_clock(decided_at)?;
+    work.keep(
+        sender.client,
+        sender.number,
+        said,
+        reply.status(),
+        reply.body(),
+    )?;
+    Ok(())
 }
 
 /// The client and the number of a submission; or the refusal by its route, its client or its
@@ -112,6 +171,7 @@ impl<S: Alter> Queue<S> {
 fn sender_of<'a>(arrival: &Arrival<'a>) -> Result<Sender<'a>, Refusal>
     ensures err { IfErr result (λ refusal. arrival_refusal arrival.now ≡ Some refusal) }
     ensures ok { IsOk result → arrival_refusal arrival.now ≡ None }
+    ensures sender { IfOk result (IsSender arrival.now) }
 {
     if arrival.method != Method::Post || arrival.path != "/jobs" {
         return Err(Refusal::NoRoute);
@@ -123,7 +183,8 @@ fn sender_of<'a>(arrival: &Arrival<'a>) -> Result<Sender<'a>, Refusal>
 
 /// The client that the bytes name.
 fn read_client(text: &[u8]) -> Option<&str>
-    ensures { is_some result ≡ is_name_of text.now }
+    ensures named { is_some result ≡ is_name_of text.now }
+    ensures same { IfSome result (λ client. client.now ≡ text.now) }
 {
     if !is_name(text) {
         return None;
@@ -136,7 +197,7 @@ fn read_client(text: &[u8]) -> Option<&str>
 
 /// What a request said, as it is kept beside its reply: the path, LF, the body.
 fn said(alloc: Global, arrival: &Arrival<'_>) -> Result<Vec<u8>, AllocError>
-    ensures { IfOk result (λ said. said.items ≡ arrival.now.path.now ++ 10 ∷ arrival.now.body.now) }
+    ensures { IfOk result (λ said. said.items ≡ said_of arrival.now) }
 {
     let mut said = Vec::from_slice(alloc, arrival.path.as_bytes())?;
     said.extend_from_slice(b"\n")?;
@@ -144,8 +205,18 @@ fn said(alloc: Global, arrival: &Arrival<'_>) -> Result<Vec<u8>, AllocError>
     Ok(said)
 }
 
+/// The order that a body spells.
+fn order_in(alloc: Global, body: &[u8]) -> Result<Order, Refusal>
+    ensures { IfOk result (λ order. (lines : List Pair) × Spells body.now lines × (order_of lines ≡ Ok order)) }
+{
+    let lines = read_lines(alloc, body)?;
+    Ok(lines.to_order(alloc)?)
+}
+
 /// The job of an order that is taken at a moment: waiting, with nothing dialed or sent yet.
-fn new_job(order: Order, number: u32, decided_at: Moment) -> Option<Job> {
+fn new_job(order: Order, number: u32, decided_at: Moment) -> Option<Job>
+    ensures { IfSome result (λ job. job_of job ≡ new_job order number decided_at) }
+{
     Job::new(JobFields {
         job: number,
         dial: order.dial,

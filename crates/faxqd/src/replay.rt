@@ -2,23 +2,29 @@
 use crate::clock::SaidClock;
 use crate::conversation::{Bounds, End, Served};
 use crate::desk::Desk;
+use crate::office::{OfficeFiles, read_office, report};
 use crate::queue::Queue;
 use crate::serve::serve;
 use crate::status::{Status, fail};
-use fax_store::{Store, StoreFault};
-use std::alloc::Global;
+use fax_store::Store;
 use std::io::{Read, Write};
 
 /// The most messages of one input.
 const MESSAGE_LIMIT: u32 = 1_000;
 
-/// Reads messages from `reader`, writes their replies to `out`, and a fault as one line to `err`.
+/// Reads the files, then messages from `reader`, writes their replies to `out`, and a fault as one line
+/// to `err`. What the files say decides nothing yet.
 pub fn replay<R: Read, W: Write, E: Write>(
-    alloc: Global,
+    rt: &HostRuntime,
+    files: OfficeFiles<'_>,
     reader: &mut R,
     out: &mut W,
     err: &mut E,
 ) -> Status {
+    let alloc = rt.alloc();
+    if let Err(fault) = read_office(rt, files) {
+        return report(err, fault);
+    }
     let Ok(store) = Store::new_in_memory(alloc) else {
         return fail(err, "faxqd: no memory\n");
     };

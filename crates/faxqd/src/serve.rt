@@ -1,7 +1,10 @@
 //! A whole input, read to its end and then answered.
+ghost use Rattle.std.specs.Prelude.{◌≡◌, length, IfOk, MatchResult};
+ghost use Rattle.faxqd.specs.Serve.{ReadsWhole, IsUnread, AnswersInput};
+
 use crate::conversation::{Bounds, End, Handler, Served, converse};
 use crate::input::read_fully;
-use std::alloc::Global;
+use std::alloc::{AllocError, Global};
 use std::io::{Read, Write};
 
 /// The most bytes of a whole input.
@@ -15,7 +18,10 @@ pub fn serve<R: Read, W: Write, H: Handler>(
     writer: &mut W,
     handler: &mut H,
     bounds: Bounds,
-) -> Served {
+) -> Served
+    ensures { AnswersInput H.answers bounds.messages (R.remaining reader.old) (R.remaining reader.new)
+        handler.old handler.new (W.contents writer.old) (W.contents writer.new) result }
+{
     match read_input(alloc, reader) {
         Ok(input) => converse(input.as_slice(), writer, handler, bounds),
         Err(end) => Served { messages: 0, end },
@@ -23,8 +29,12 @@ pub fn serve<R: Read, W: Write, H: Handler>(
 }
 
 /// The whole input, or the end that serving comes to without it.
-fn read_input<R: Read>(alloc: Global, reader: &mut R) -> Result<Vec<u8>, End> {
-    let Ok(mut input) = vec![in alloc; 0u8; INPUT_LIMIT + 1] else {
+fn read_input<R: Read>(alloc: Global, reader: &mut R) -> Result<Vec<u8>, End>
+    ensures { MatchResult result
+        (λ input. ReadsWhole (R.remaining reader.old) (R.remaining reader.new) input.items)
+        (IsUnread (R.remaining reader.old) (R.remaining reader.new)) }
+{
+    let Ok(mut input) = room_for(alloc, INPUT_LIMIT + 1) else {
         return Err(End::NoMemory);
     };
     let Ok(length) = read_fully(reader, input.as_mut_slice()) else {
@@ -35,4 +45,11 @@ fn read_input<R: Read>(alloc: Global, reader: &mut R) -> Result<Vec<u8>, End> {
     }
     input.truncate(length);
     Ok(input)
+}
+
+/// Room for this many bytes.
+fn room_for(alloc: Global, size: usize) -> Result<Vec<u8>, AllocError>
+    ensures { IfOk result (λ room. length room.items ≡ size) }
+{
+    vec![in alloc; 0u8; size]
 }

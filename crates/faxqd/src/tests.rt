@@ -1,11 +1,12 @@
 //! What no clause says: whole conversations, byte for byte, and how a command ends.
 use crate::command;
+use crate::office::OfficeFiles;
 use crate::replay::replay;
 use crate::status::Status;
 use std::alloc::Global;
-use std::io;
 use std::io::{Read, Write};
 use std::test::Fail;
+use std::{fs, io};
 
 /// A submission of a job to `+14155550100`, three pages, by the client `desk`, number 1.
 const SUBMISSION: &str =
@@ -25,19 +26,20 @@ struct Ran {
     err: Vec<u8>,
 }
 
-fn run_on(alloc: Global, words: &[&str], mut input: &[u8]) -> Result<Ran, Fail> {
+fn run_on(rt: &HostRuntime, words: &[&str], mut input: &[u8]) -> Result<Ran, Fail> {
+    let alloc = rt.alloc();
     let mut texts = Vec::new(alloc);
     for word in words {
         texts.push(String::from_str(alloc, word)?)?;
     }
     let mut out = Vec::new(alloc);
     let mut err = Vec::new(alloc);
-    let status = command::run(alloc, texts.as_slice(), &mut input, &mut out, &mut err);
+    let status = command::run(rt, texts.as_slice(), &mut input, &mut out, &mut err);
     Ok(Ran { status, out, err })
 }
 
-fn replayed(alloc: Global, input: &str) -> Result<Ran, Fail> {
-    run_on(alloc, &["faxqd", "replay"], input.as_bytes())
+fn replayed(rt: &HostRuntime, input: &str) -> Result<Ran, Fail> {
+    run_on(rt, &["faxqd", "replay"], input.as_bytes())
 }
 
 /// A message to `POST /jobs` with these fields and body.
@@ -56,7 +58,7 @@ fn reply(alloc: Global, status: &str, body: &str) -> Result<String, Fail> {
 
 #[test]
 fn accepts_a_submission(rt: HostRuntime) -> Result<(), Fail> {
-    let ran = replayed(rt.alloc(), SUBMISSION)?;
+    let ran = replayed(&rt, SUBMISSION)?;
     assert_eq!(rt; ran.out.as_slice(), ACCEPTED.as_bytes());
     assert_eq!(rt; ran.err.len(), 0);
     assert_eq!(rt; ran.status, Status::Success);
@@ -119,7 +121,7 @@ fn refuses_by_the_first_check_that_fails(rt: HostRuntime) -> Result<(), Fail> {
         ),
     ];
     for (fields, text, status, want) in cases {
-        let ran = replayed(alloc, submission(alloc, fields, text)?.as_str())?;
+        let ran = replayed(&rt, submission(alloc, fields, text)?.as_str())?;
         assert_eq!(rt;
             ran.out.as_slice(),
             reply(alloc, status, want)?.as_bytes(),
@@ -141,13 +143,10 @@ fn knows_one_route(rt: HostRuntime) -> Result<(), Fail> {
         "PUT /jobs",
         "post /jobs",
     ] {
-        let ran = replayed(
-            alloc,
-            format!(in alloc; "{line} HTTP/1.1\r\n\r\n")?.as_str(),
-        )?;
+        let ran = replayed(&rt, format!(in alloc; "{line} HTTP/1.1\r\n\r\n")?.as_str())?;
         assert_eq!(rt; ran.out.as_slice(), want.as_bytes(), "{line}");
     }
-    let ran = replayed(alloc, "HEAD /jobs HTTP/1.1\r\n\r\n")?;
+    let ran = replayed(&rt, "HEAD /jobs HTTP/1.1\r\n\r\n")?;
     let head =
         "HTTP/1.1 404 Not Found\r\nContent-Type: application/json\r\nContent-Length: 26\r\n\r\n";
     assert_eq!(rt; ran.out.as_slice(), head.as_bytes());
@@ -169,7 +168,7 @@ fn refuses_a_number_that_was_used(rt: HostRuntime) -> Result<(), Fail> {
     let second = reply(alloc, "201 Created", r#"{"job":2}"#)?;
     let want = format!(in alloc; "{ACCEPTED}{used}{second}")?;
     assert_eq!(rt;
-        replayed(alloc, input.as_str())?.out.as_slice(),
+        replayed(&rt, input.as_str())?.out.as_slice(),
         want.as_bytes()
     );
     Ok(())
@@ -182,7 +181,7 @@ fn ends_at_what_is_no_message(rt: HostRuntime) -> Result<(), Fail> {
     let coded = "POST /jobs HTTP/1.1\r\nTransfer-Encoding: chunked\r\n\r\n";
     let short = "POST /jobs HTTP/1.1\r\nContent-Length: 5\r\n\r\nabc";
     for rest in ["POST /jobs HTT", twice, coded, short, "\r\n"] {
-        let ran = replayed(alloc, format!(in alloc; "{SUBMISSION}{rest}")?.as_str())?;
+        let ran = replayed(&rt, format!(in alloc; "{SUBMISSION}{rest}")?.as_str())?;
         assert_eq!(rt;
             ran.out.as_slice(),
             format!(in alloc; "{ACCEPTED}{BROKEN}")?.as_bytes(),
@@ -191,10 +190,7 @@ fn ends_at_what_is_no_message(rt: HostRuntime) -> Result<(), Fail> {
         assert_eq!(rt; ran.err.as_slice(), b"faxqd: ended bad\n".as_slice());
         assert_eq!(rt; ran.status, Status::Fault);
     }
-    let ran = replayed(
-        alloc,
-        "POST /jobs HTTP/1.1\r\nContent-Length: 65537\r\n\r\n",
-    )?;
+    let ran = replayed(&rt, "POST /jobs HTTP/1.1\r\nContent-Length: 65537\r\n\r\n")?;
     let large =
         "HTTP/1.1 413 Payload Too Large\r\nContent-Type: application/json\r\nContent-Length: 27\r\nConnection: close\r\n\r\n{\"no\":2,\"word\":\"too-large\"}";
     assert_eq!(rt; ran.out.as_slice(), large.as_bytes());
@@ -205,10 +201,10 @@ fn ends_at_what_is_no_message(rt: HostRuntime) -> Result<(), Fail> {
 fn takes_an_input_up_to_its_limit(rt: HostRuntime) -> Result<(), Fail> {
     let alloc = rt.alloc();
     let input = vec![in alloc; b' '; 81_921]?;
-    let over = run_on(alloc, &["faxqd", "replay"], input.as_slice())?;
+    let over = run_on(&rt, &["faxqd", "replay"], input.as_slice())?;
     assert_eq!(rt; over.out.len(), 0);
     assert_eq!(rt; over.err.as_slice(), b"faxqd: ended bad\n".as_slice());
-    let empty = replayed(alloc, "")?;
+    let empty = replayed(&rt, "")?;
     assert_eq!(rt; empty.out.len() + empty.err.len(), 0);
     assert_eq!(rt; empty.status, Status::Success);
     Ok(())
@@ -216,8 +212,7 @@ fn takes_an_input_up_to_its_limit(rt: HostRuntime) -> Result<(), Fail> {
 
 #[test]
 fn explains_its_words(rt: HostRuntime) -> Result<(), Fail> {
-    let alloc = rt.alloc();
-    let help = run_on(alloc, &["faxqd", "--help"], b"")?;
+    let help = run_on(&rt, &["faxqd", "--help"], b"")?;
     assert!(rt;
         help.out
             .as_slice()
@@ -226,7 +221,7 @@ fn explains_its_words(rt: HostRuntime) -> Result<(), Fail> {
     assert_eq!(rt; help.err.len(), 0);
     assert_eq!(rt; help.status, Status::Success);
     for words in [["faxqd", "serve"], ["faxqd", "--replay"]] {
-        let usage = run_on(alloc, &words, b"")?;
+        let usage = run_on(&rt, &words, b"")?;
         assert_eq!(rt; usage.out.len(), 0);
         assert!(rt; usage.err.as_slice().starts_with(b"error: "));
         assert_eq!(rt; usage.status, Status::Usage);
@@ -273,7 +268,7 @@ fn stops_at_a_writer_that_fails(rt: HostRuntime) -> Result<(), Fail> {
         };
         let mut err = Vec::new(alloc);
         let mut reader = input.as_bytes();
-        let status = command::run(alloc, words.as_slice(), &mut reader, &mut out, &mut err);
+        let status = command::run(&rt, words.as_slice(), &mut reader, &mut out, &mut err);
         assert_eq!(rt; out.taken.as_slice(), &ACCEPTED.as_bytes()[..room]);
         assert_eq!(rt; err.as_slice(), b"faxqd: ended write-failed\n".as_slice());
         assert_eq!(rt; status, Status::Fault);
@@ -304,7 +299,11 @@ fn writes_nothing_where_a_read_fails(rt: HostRuntime) -> Result<(), Fail> {
     };
     let mut out = Vec::new(alloc);
     let mut err = Vec::new(alloc);
-    let status = replay(alloc, &mut reader, &mut out, &mut err);
+    let files = OfficeFiles {
+        setup: None,
+        controls: None,
+    };
+    let status = replay(&rt, files, &mut reader, &mut out, &mut err);
     assert_eq!(rt; out.len(), 0);
     assert_eq!(rt; err.as_slice(), b"faxqd: ended read-failed\n".as_slice());
     assert_eq!(rt; status, Status::Fault);
@@ -319,10 +318,82 @@ fn ends_at_its_bound_of_messages(rt: HostRuntime) -> Result<(), Fail> {
         input.push_str("GET / HTTP/1.1\r\n\r\n")?;
     }
     let one = reply(alloc, "404 Not Found", r#"{"no":3,"word":"no-route"}"#)?;
-    let ran = replayed(alloc, input.as_str())?;
+    let ran = replayed(&rt, input.as_str())?;
     assert_eq!(rt; ran.out.len() / 1_000, one.len());
     assert_eq!(rt; ran.out.len() % 1_000, 0);
     assert_eq!(rt; ran.err.as_slice(), b"faxqd: ended bound\n".as_slice());
     assert_eq!(rt; ran.status, Status::Fault);
+    Ok(())
+}
+
+/// What `replay` does with these files and one submission.
+fn replayed_with(rt: &HostRuntime, setup: &str, controls: &str) -> Result<Ran, Fail> {
+    fs::write(rt, "faxqd-test.setup", setup)?;
+    fs::write(rt, "faxqd-test.controls", controls)?;
+    let words = [
+        "faxqd",
+        "replay",
+        "--controls",
+        "faxqd-test.controls",
+        "--setup",
+        "faxqd-test.setup",
+    ];
+    let ran = run_on(rt, &words, SUBMISSION.as_bytes())?;
+    fs::remove_file(rt, "faxqd-test.setup")?;
+    fs::remove_file(rt, "faxqd-test.controls")?;
+    Ok(ran)
+}
+
+#[test]
+fn reports_the_first_fault_of_its_files(rt: HostRuntime) -> Result<(), Fail> {
+    let bad_hours = "^5550\n  TimeOfDay = \"Xx\"\n";
+    for (setup, controls, want) in [
+        (
+            "ModemClass: \"fast:(\"",
+            "",
+            "faxqd: setup line 1: bad-pattern\n",
+        ),
+        (
+            "Modem: ttyS0\n\nTimeZone: Mars\n",
+            bad_hours,
+            "faxqd: setup line 3: bad-zone\n",
+        ),
+        (
+            "Modem: ttyS0",
+            bad_hours,
+            "faxqd: controls line 2: bad-hours\n",
+        ),
+        ("\u{7f}", "", "faxqd: setup line 1: no-colon\n"),
+    ] {
+        let ran = replayed_with(&rt, setup, controls)?;
+        assert_eq!(rt; ran.err.as_slice(), want.as_bytes());
+        assert_eq!(rt; ran.out.len(), 0);
+        assert_eq!(rt; ran.status, Status::Fault);
+    }
+    Ok(())
+}
+
+#[test]
+fn reports_a_file_that_it_cannot_read(rt: HostRuntime) -> Result<(), Fail> {
+    let ran = run_on(&rt, &["faxqd", "replay", "--setup", "no/such.setup"], b"")?;
+    assert_eq!(rt;
+        ran.err.as_slice(),
+        b"faxqd: cannot read no/such.setup\n".as_slice()
+    );
+    assert_eq!(rt; ran.out.len(), 0);
+    assert_eq!(rt; ran.status, Status::Fault);
+    Ok(())
+}
+
+#[test]
+fn answers_with_files_as_without(rt: HostRuntime) -> Result<(), Fail> {
+    let ran = replayed_with(
+        &rt,
+        "Modem: ttyS0\n",
+        "^5550\n  TimeOfDay = \"Wk0800-1700\"\n",
+    )?;
+    assert_eq!(rt; ran.out.as_slice(), ACCEPTED.as_bytes());
+    assert_eq!(rt; ran.err.len(), 0);
+    assert_eq!(rt; ran.status, Status::Success);
     Ok(())
 }

@@ -1,13 +1,14 @@
 //! The words of the command line, read by `clap`.
+use crate::office::OfficeFiles;
 use clap::error::ErrorKind;
-use clap::{Command, Error};
+use clap::{Arg, ArgMatches, Command, Error};
 use std::alloc::{AllocError, Global};
 
 /// What the words ask for.
-#[derive(Clone, Copy, Debug, PartialEq, Eq)]
-pub enum Plan {
+#[derive(Clone, Copy, Debug)]
+pub enum Plan<'a> {
     /// Serve the input over a store in memory.
-    Replay,
+    Replay(OfficeFiles<'a>),
 }
 
 /// Why words ask for no command.
@@ -27,18 +28,41 @@ impl From<AllocError> for WordsFault {
 }
 
 /// The plan that the words spell, the first of them being the program's name.
-pub fn read_words<'a>(alloc: Global, words: &'a [String]) -> Result<Plan, WordsFault> {
+pub fn read_words<'a>(alloc: Global, words: &'a [String]) -> Result<Plan<'a>, WordsFault> {
     match command(alloc)?.try_get_matches_from(words) {
-        Ok(_) => Ok(Plan::Replay),
+        Ok(matches) => Ok(Plan::Replay(files_in(&matches))),
         Err(error) => Err(explain(alloc, &error)?),
+    }
+}
+
+/// The files that a command is told to read.
+fn files_in<'a>(matches: &ArgMatches<'a>) -> OfficeFiles<'a> {
+    match matches.subcommand() {
+        Some((_, options)) => OfficeFiles {
+            setup: options.get_str("setup"),
+            controls: options.get_str("controls"),
+        },
+        None => OfficeFiles {
+            setup: None,
+            controls: None,
+        },
     }
 }
 
 /// The commands of faxqd.
 fn command<'a>(alloc: Global) -> Result<Command<'a>, AllocError> {
-    let replay = Command::new(alloc, "replay").about(
-        "Answers the requests on standard input, over tables in memory",
-    );
+    let setup = Arg::new(alloc, "setup")
+        .long("setup")
+        .value_name("FILE")
+        .help("The modems, their classes, delays and limits");
+    let controls = Arg::new(alloc, "controls")
+        .long("controls")
+        .value_name("FILE")
+        .help("What holds for which numbers");
+    let replay = Command::new(alloc, "replay")
+        .about("Answers the requests on standard input, over tables in memory")
+        .arg(setup)?
+        .arg(controls)?;
     Command::new(alloc, "faxqd")
         .about("The send queue of a fax server")
         .subcommand_required(true)

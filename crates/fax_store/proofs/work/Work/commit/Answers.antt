@@ -1,6 +1,6 @@
 use Rattle.sqlite.specs.Held.{state}
 use Rattle.fax_store.proofs.ResultLemmas.{on_err}
-use Rattle.fax_store.proofs.StoreLemmas.{undoes, committed, not_committed}
+use Rattle.fax_store.proofs.StoreLemmas.{undoes, commit_served, committed, not_committed}
 use Rattle.fax_store.proofs.work.Work.commit.Goals as goal
 
 pub returns-then-failed-clause-undone : goal.returns-then-failed-clause-undone
@@ -16,3 +16,6 @@ pub returns-clause-committed : goal.returns-clause-committed
 returns-clause-committed g c =
     let done = committed (state g.S.Store c.args.self.store.now.conn) (state g.S.Store c.execute.new.self) c.execute.ensures.survives.clean c.in_ok-execute.field-0 c.in_ok-execute.ensures.runs in
     rw c.if-failed.false done
+
+pub returns-clause-served : goal.returns-clause-served
+returns-clause-served g c = commit_served (state g.S.Store c.args.self.store.now.conn) (state g.S.Store c.execute.new.self) c.execute.ensures.survives.clean c.in_ok-execute.field-0 c.in_ok-execute.ensures.runs

@@ -1,0 +1,161 @@
+-- The new job of an order: its record, and that it is lawful where the order was read.
+use Rattle.std.proofs.Common.{◌≡◌, ℕ, ◌≤◌, Bool, true, false, cond, not, ◌&&◌, eqb, leb, List, [], ◌∷◌, length, refl, sym, ap, subst, ◌∙◌, arith}
+use Rattle.std.specs.Prelude.{Option, Some, None, Result, Ok, Err, IfOk, unwrap_or, option_and_then, codes}
+use Rattle.std.specs.Option.{option_map, ok_or}
+use Rattle.std.proofs.lemmas.Bool.{and_parts, and_from, le-leb, eqb-false}
+use Rattle.fax_job.specs.declared.job.JobFields.{JobFields}
+use Rattle.fax_job.specs.declared.order.Order.{Order}
+use Rattle.fax_job.specs.declared.order.OrderFault.{OrderFault}
+use Rattle.fax_job.specs.declared.order.OrderFault.TheVariants.{NoPages, BadKilltime}
+use Rattle.fax_job.specs.declared.refusal.Refusal.TheVariants.{Unavailable}
+use Rattle.fax_job.specs.Job.{is_lawful, is_lawful_killtime, are_lawful_pages, are_lawful_tries, are_lawful_dials}
+use Rattle.fax_job.specs.Order.{◌>>=◌, pages, dial_in, modem_in, jobtag_in, tts_in, killtime_in, priority_in, totpages_in, limit_in, maxtries_in, maxdials_in, moment_in, number_within, value_or_none, order_of}
+use Rattle.fax_job.specs.Number.{number_of}
+use Rattle.fax_job.specs.Pair.{Pair, are_unknown, extra_of}
+use Rattle.fax_job.specs.Tag.{is_known}
+use Rattle.fax_core.specs.Decisions.{new_job}
+use Rattle.fax_core.specs.Job.{Job, job_of, fields_of}
+use Rattle.fax_core.specs.Submission.{recorded, ReadOrdersAreLawful}
+use Rattle.fax_core.proofs.FitsLemmas.{job_again}
+
+-- ---- the values
+
+abbrev IsKilltime : Option ℕ → Type 0
+IsKilltime killtime = is_lawful_killtime killtime ≡ true
+
+abbrev IsWithin : ℕ → ℕ → Type 0
+IsWithin greatest number = (leb 1 number && leb number greatest) ≡ true
+
+zero_is_none : (seconds : ℕ) (none : Bool) → eqb seconds 0 ≡ none → IsKilltime (cond none None (Some seconds))
+zero_is_none seconds true e = refl
+zero_is_none seconds false e = le-leb 1 seconds (omega (arith, eqb-false seconds 0 e))
+
+killtime_of : (empty : Bool) (number : Option ℕ) → IfOk (ok_or (cond empty (Some None) (option_map (λ seconds. cond (eqb seconds 0) None (Some seconds)) number)) BadKilltime) IsKilltime
+killtime_of true number = refl
+killtime_of false None = tt
+killtime_of false (Some seconds) = zero_is_none seconds (eqb seconds 0) refl
+
+pages_of_number : (number : ℕ) (none : Bool) → eqb number 0 ≡ none → leb number 9999 ≡ true → IfOk (cond none (Err NoPages) (Ok number)) (IsWithin 9999)
+pages_of_number number true e h = tt
+pages_of_number number false e h = and_from (leb 1 number) (leb number 9999) (le-leb 1 number (omega (arith, eqb-false number 0 e))) h
+
+pages_of : (number : ℕ) (within : Bool) → leb number 9999 ≡ within → IfOk (pages (cond within (Some number) None)) (IsWithin 9999)
+pages_of number false h = tt
+pages_of number true h = pages_of_number number (eqb number 0) refl h
+
+totpages_of : (empty : Bool) (number : Option ℕ) → IfOk (cond empty (Err NoPages) (pages (option_and_then (λ n. cond (leb n 9999) (Some n) None) number))) (IsWithin 9999)
+totpages_of true number = tt
+totpages_of false None = tt
+totpages_of false (Some n) = pages_of n (leb n 9999) refl
+
+module _ (default : ℕ) (fault : OrderFault) (lawful : IsWithin 1000 default) where
+  limit_of_number : (number : ℕ) (none : Bool) → eqb number 0 ≡ none → leb number 1000 ≡ true → IsWithin 1000 (cond none default number)
+  limit_of_number number true e h = lawful
+  limit_of_number number false e h = and_from (leb 1 number) (leb number 1000) (le-leb 1 number (omega (arith, eqb-false number 0 e))) h
+
+  limit_within : (number : ℕ) (within : Bool) → leb number 1000 ≡ within → IfOk (ok_or (option_map (λ limit. cond (eqb limit 0) default limit) (cond within (Some number) None)) fault) (IsWithin 1000)
+  limit_within number false h = tt
+  limit_within number true h = limit_of_number number (eqb number 0) refl h
+
+  limit_of : (empty : Bool) (number : Option ℕ) → IfOk (ok_or (cond empty (Some default) (option_map (λ limit. cond (eqb limit 0) default limit) (option_and_then (λ n. cond (leb n 1000) (Some n) None) number))) fault) (IsWithin 1000)
+  limit_of true number = lawful
+  limit_of false None = tt
+  limit_of false (Some n) = limit_within n (leb n 1000) refl
+
+killtime_is : (value : List ℕ) → IfOk (killtime_in value) IsKilltime
+unfolding killtime_in moment_in
+killtime_is value = killtime_of (eqb (length value) 0) (number_within value 4102444800)
+
+totpages_is : (value : List ℕ) → IfOk (totpages_in value) (IsWithin 9999)
+unfolding totpages_in number_within
+totpages_is value = totpages_of (eqb (length value) 0) (number_of value)
+
+maxtries_is : (value : List ℕ) → IfOk (maxtries_in value) (IsWithin 1000)
+unfolding maxtries_in limit_in number_within
+maxtries_is value = limit_of 3 _ refl (eqb (length value) 0) (number_of value)
+
+maxdials_is : (value : List ℕ) → IfOk (maxdials_in value) (IsWithin 1000)
+unfolding maxdials_in limit_in number_within
+maxdials_is value = limit_of 12 _ refl (eqb (length value) 0) (number_of value)
+
+-- ---- the extra lines
+
+one_more : (p : Pair) (ps : List Pair) (known : Bool) → is_known p.tag ≡ known → are_unknown (extra_of ps) ≡ true → are_unknown (cond (not known) (p ∷ extra_of ps) (extra_of ps)) ≡ true
+one_more p ps true e h = h
+one_more p ps false e h = and_from (not (is_known p.tag)) (are_unknown (extra_of ps)) (subst (λ (k : Bool). not k ≡ true) (sym e) refl) h
+
+unknown : (ps : List Pair) → are_unknown (extra_of ps) ≡ true
+unknown [] = refl
+unknown (p ∷ ps) = one_more p ps (is_known p.tag) refl (unknown ps)
+
+-- ---- the order
+
+-- what the values must be
+pub record IsFit (o : Order) : Type 0 where
+  pub killtime : IsKilltime o.killtime
+  pub totpages : IsWithin 9999 o.totpages
+  pub maxtries : IsWithin 1000 o.maxtries
+  pub maxdials : IsWithin 1000 o.maxdials
+  pub extra : are_unknown o.extra ≡ true
+
+fit : (dial modem jobtag : Result (List ℕ) OrderFault) (tts killtime : Result (Option ℕ) OrderFault) (priority totpages maxtries maxdials : Result ℕ OrderFault) (extra : List Pair)
+    → IfOk killtime IsKilltime → IfOk totpages (IsWithin 9999) → IfOk maxtries (IsWithin 1000) → IfOk maxdials (IsWithin 1000) → are_unknown extra ≡ true
+    → IfOk (dial >>= λ d. modem >>= λ m. jobtag >>= λ j. tts >>= λ t. killtime >>= λ k. priority >>= λ p. totpages >>= λ g. maxtries >>= λ a. maxdials >>= λ b. Ok (record { dial = d; modem = m; jobtag = j; tts = t; killtime = k; priority = p; totpages = g; maxtries = a; maxdials = b; extra = extra })) IsFit
+fit (Err e) m j t k p g a b extra hk hg ha hb he = tt
+fit (Ok d) (Err e) j t k p g a b extra hk hg ha hb he = tt
+fit (Ok d) (Ok m) (Err e) t k p g a b extra hk hg ha hb he = tt
+fit (Ok d) (Ok m) (Ok j) (Err e) k p g a b extra hk hg ha hb he = tt
+fit (Ok d) (Ok m) (Ok j) (Ok t) (Err e) p g a b extra hk hg ha hb he = tt
+fit (Ok d) (Ok m) (Ok j) (Ok t) (Ok k) (Err e) g a b extra hk hg ha hb he = tt
+fit (Ok d) (Ok m) (Ok j) (Ok t) (Ok k) (Ok p) (Err e) a b extra hk hg ha hb he = tt
+fit (Ok d) (Ok m) (Ok j) (Ok t) (Ok k) (Ok p) (Ok g) (Err e) b extra hk hg ha hb he = tt
+fit (Ok d) (Ok m) (Ok j) (Ok t) (Ok k) (Ok p) (Ok g) (Ok a) (Err e) extra hk hg ha hb he = tt
+fit (Ok d) (Ok m) (Ok j) (Ok t) (Ok k) (Ok p) (Ok g) (Ok a) (Ok b) extra hk hg ha hb he = record { killtime = hk; totpages = hg; maxtries = ha; maxdials = hb; extra = he }
+
+read_fit : (ps : List Pair) → IfOk (order_of ps) IsFit
+unfolding order_of
+read_fit ps = fit (dial_in (value_or_none ps (codes "number"))) (modem_in (value_or_none ps (codes "modem"))) (jobtag_in (value_or_none ps (codes "jobtag"))) (tts_in (value_or_none ps (codes "tts"))) (killtime_in (value_or_none ps (codes "killtime"))) (priority_in (value_or_none ps (codes "priority"))) (totpages_in (value_or_none ps (codes "totpages"))) (maxtries_in (value_or_none ps (codes "maxtries"))) (maxdials_in (value_or_none ps (codes "maxdials"))) (extra_of ps)
+    (killtime_is (value_or_none ps (codes "killtime"))) (totpages_is (value_or_none ps (codes "totpages"))) (maxtries_is (value_or_none ps (codes "maxtries"))) (maxdials_is (value_or_none ps (codes "maxdials"))) (unknown ps)
+
+-- ---- the job
+
+-- none of them is used
+unused : (greatest number : ℕ) → IsWithin greatest number → (leb 0 number && leb 1 number && leb number greatest) ≡ true
+unused greatest number h =
+    let parts = and_parts (leb 1 number) (leb number greatest) h in
+    and_from _ (leb number greatest) (and_from (leb 0 number) (leb 1 number) (le-leb 0 number (omega arith)) parts.0) parts.1
+
+lawful_job : (o : Order) (n t : ℕ) → IsFit o → leb 1 n ≡ true → leb n 999999 ≡ true → is_lawful (fields_of (new_job o n t)) ≡ true
+lawful_job o n t h first last =
+    let f = fields_of (new_job o n t) in
+    and_from _ (are_unknown o.extra)
+    (and_from _ (leb 0 4102531200)
+    (and_from _ (are_lawful_dials f)
+    (and_from _ (are_lawful_tries f)
+    (and_from _ (are_lawful_pages f)
+    (and_from (leb 1 n && leb n 999999) (is_lawful_killtime o.killtime)
+    (and_from (leb 1 n) (leb n 999999) first last)
+    h.killtime)
+    (unused 9999 o.totpages h.totpages))
+    (unused 1000 o.maxtries h.maxtries))
+    (unused 1000 o.maxdials h.maxdials))
+    refl)
+    h.extra
+
+read_lawful : (ps : List Pair) (o : Order) (n t : ℕ) → order_of ps ≡ Ok o → 1 ≤ n → n ≤ 999999 → is_lawful (fields_of (new_job o n t)) ≡ true
+read_lawful ps o n t e first last = lawful_job o n t (subst (λ (r : Result Order OrderFault). IfOk r IsFit) e (read_fit ps)) (le-leb 1 n first) (le-leb n 999999 last)
+
+pub read_recorded : ReadOrdersAreLawful
+read_recorded ps o n t e first last = ap (λ (lawful : Bool). cond lawful (Ok (new_job o n t)) (Err Unavailable)) (read_lawful ps o n t e first last)
+
+-- the record of the new job is that job
+pub new_again : (o : Order) (n t : ℕ) → job_of (fields_of (new_job o n t)) ≡ new_job o n t
+new_again o n t = job_again (new_job o n t) refl
+
+made : (j : Job) (f g : JobFields) (lawful : Bool) → job_of f ≡ j → cond lawful (Some f) None ≡ Some g → Ok (job_of g) ≡ cond lawful (Ok j) (Err Unavailable)
+made j f g true again e = ap (λ (o : Option JobFields). Ok (job_of (unwrap_or o f))) (sym e) ∙ ap (λ (k : Job). Ok k) again
+made j f g false again e = cc
+
+-- the job that is made of the record is the new one
+pub made_new : (o : Order) (n t : ℕ) (g : JobFields) → cond (is_lawful (fields_of (new_job o n t))) (Some (fields_of (new_job o n t))) None ≡ Some g → Ok (job_of g) ≡ recorded (Ok (new_job o n t))
+made_new o n t g e = made (new_job o n t) (fields_of (new_job o n t)) g (is_lawful (fields_of (new_job o n t))) (new_again o n t) e
