@@ -14,4 +14,5 @@ pub mod PageLemmas
 pub mod ClockLemmas
 pub mod FitsLemmas
 pub mod RefusalLemmas
+pub mod ChangeLemmas
 pub mod NewJobLemmas

@@ -152,7 +152,8 @@ read_recorded ps o n t e first last = ap (λ (lawful : Bool). cond lawful (Ok (n
 pub new_again : (o : Order) (n t : ℕ) → job_of (fields_of (new_job o n t)) ≡ new_job o n t
 new_again o n t = job_again (new_job o n t) refl
 
-made : (j : Job) (f g : JobFields) (lawful : Bool) → job_of f ≡ j → cond lawful (Some f) None ≡ Some g → Ok (job_of g) ≡ cond lawful (Ok j) (Err Unavailable)
+-- the job that is made of its record is it, where a lawful record holds it
+pub made : (j : Job) (f g : JobFields) (lawful : Bool) → job_of f ≡ j → cond lawful (Some f) None ≡ Some g → Ok (job_of g) ≡ cond lawful (Ok j) (Err Unavailable)
 made j f g true again e = ap (λ (o : Option JobFields). Ok (job_of (unwrap_or o f))) (sym e) ∙ ap (λ (k : Job). Ok k) again
 made j f g false again e = cc
 

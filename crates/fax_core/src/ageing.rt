@@ -1,11 +1,12 @@
 //! What time alone does to a job.
 
 ghost use Rattle.std.specs.Prelude.{◌≡◌};
+ghost use Rattle.fax_job.specs.declared.job.Phase.TheVariants.{Failed};
 ghost use Rattle.fax_core.specs.Ageing.{is_past, expires, aged_job};
 ghost use Rattle.fax_core.specs.Aging.{aged_by};
 ghost use Rattle.fax_core.specs.Job.{job_of};
 
-use fax_job::{Job, Moment, Phase};
+use fax_job::{Job, JobFields, Moment, Phase, Status};
 
 /// What time alone does to a job.
 #[derive(Clone, Copy, Debug, PartialEq, Eq)]
@@ -26,6 +27,27 @@ pub fn aged(job: &Job, t: Moment) -> Aging
     } else {
         Aging::Stays
     }
+}
+
+/// The job as it is at `t`: failed, with the status `Kill time expired`, where [`aged`] says so.
+pub fn aged_job(job: Job, t: Moment) -> Job
+    ensures { job_of result ≡ aged_job t (job_of job) }
+{
+    match aged(&job, t) {
+        Aging::Stays => job,
+        Aging::Expires => failed(job, Status::kill_time_expired()),
+    }
+}
+
+fn failed(job: Job, status: Status) -> Job
+    ensures { result ≡ record job { phase = Failed; status = status } }
+{
+    let fields = JobFields {
+        phase: Phase::Failed,
+        status,
+        ..job.into_fields()
+    };
+    Job::new(fields).unwrap()
 }
 
 /// Whether a job of that phase fails when its kill time comes.

@@ -1,8 +1,8 @@
 //! What a request makes of a job.
 
-ghost use Rattle.std.specs.Prelude.{◌≡◌};
+ghost use Rattle.std.specs.Prelude.{◌≡◌, Ok};
 
-use fax_job::{JobFields, JobTag, Moment, Name, Phase, Status, Wish};
+use fax_job::{Job, JobFields, JobTag, Moment, Name, Phase, Refusal, Status, Wish};
 
 /// What a request makes of a job that it is taken for. What isn't named here stays.
 #[derive(Debug, Drop)]
@@ -60,7 +60,8 @@ impl Altered {
 impl Change {
     ghost use Rattle.fax_job.specs.declared.job.Phase.TheVariants.{Failed};
     ghost use Rattle.fax_core.specs.Change.{changed, unchanged};
-    ghost use Rattle.fax_core.specs.Job.{job_of};
+    ghost use Rattle.fax_core.specs.Job.{job_of, fields_of};
+    ghost use Rattle.fax_core.specs.Submission.{submitted, recorded};
 
     /// The change that leaves the job of these fields as it is.
     pub fn none(fields: &JobFields) -> Change
@@ -78,6 +79,53 @@ impl Change {
             next: fields.next,
             status: None,
             altered: Altered::none(),
+        }
+    }
+
+    /// The job after the change.
+    ///
+    /// # Errors
+    ///
+    /// `Unavailable` where it would be no lawful job, as [`Job::new`] tells.
+    pub fn applied_to(self, job: Job) -> Result<Job, Refusal>
+        ensures { submitted result ≡ recorded (Ok (changed self (job_of job))) }
+    {
+        match Job::new(self.fields_after(job.into_fields())) {
+            Some(job) => Ok(job),
+            None => Err(Refusal::Unavailable),
+        }
+    }
+
+    fn fields_after(self, fields: JobFields) -> JobFields
+        ensures { result ≡ fields_of (changed self (job_of fields)) }
+    {
+        let Altered {
+            modem,
+            jobtag,
+            tts,
+            killtime,
+            priority,
+            maxtries,
+            maxdials,
+        } = self.altered;
+        JobFields {
+            modem: modem.unwrap_or(fields.modem),
+            jobtag: jobtag.unwrap_or(fields.jobtag),
+            tts: tts.unwrap_or(fields.tts),
+            killtime: killtime.unwrap_or(fields.killtime),
+            priority: priority.unwrap_or(fields.priority),
+            npages: self.npages,
+            ntries: self.ntries,
+            tottries: self.tottries,
+            maxtries: maxtries.unwrap_or(fields.maxtries),
+            ndials: self.ndials,
+            totdials: self.totdials,
+            maxdials: maxdials.unwrap_or(fields.maxdials),
+            phase: self.phase,
+            wish: self.wish,
+            next: self.next,
+            status: self.status.unwrap_or(fields.status),
+            ..fields
         }
     }
 

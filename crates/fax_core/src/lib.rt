@@ -18,7 +18,7 @@ mod report;
 mod state;
 mod submission;
 
-pub use ageing::{Aging, aged};
+pub use ageing::{Aging, aged, aged_job};
 pub use change::{Altered, Change};
 pub use client::{alter, kill, resume, suspend};
 pub use grant::Grant;

@@ -224,6 +224,10 @@ impl From<OrderFault> for Refusal {
 }
 
 impl From<AllocError> for Refusal {
+    ghost use Rattle.fax_job.specs.declared.refusal.Refusal.TheVariants.{Unavailable};
+
+    ghost from_gives = { λ _ refusal. refusal ≡ Unavailable };
+
     fn from(_: AllocError) -> Refusal {
         Refusal::Unavailable
     }

@@ -9,3 +9,4 @@ pub mod Progress
 pub mod ResponseLemmas
 pub mod QueueLemmas
 pub mod SubmissionLemmas
+pub mod ViewLemmas

@@ -1,18 +1,18 @@
 -- What the parts of a submission come to.
-use Rattle.std.proofs.Common.{◌≡◌, ℕ, ◌+◌, ◌-◌, List, [], ◌∷◌, ◌++◌, Option, Some, None, Result, Ok, Err, MatchResult, OnOk, IfSome, Bool, true, false, cond, if◌then◌else◌, unwrap_or, max, refl, sym, ap, ap₂, ◌∙◌, arith}
-use Rattle.std.specs.List.{range_with_len}
+use Rattle.std.proofs.Common.{◌≡◌, ℕ, List, [], ◌∷◌, ◌++◌, Result, Ok, Err, IfOk, MatchResult, OnOk, Bool, true, false, if◌then◌else◌, max, refl, sym, ap, ap₂, ◌∙◌, arith}
+use Rattle.std.specs.Prelude.{nat_lt}
 use Rattle.sqlite.specs.State.{State}
-use Rattle.fax_core.specs.Decisions.{new_job}
-use Rattle.fax_core.specs.Job.{Job, job_of}
+use Rattle.fax_core.specs.Decisions.{new_job, submit}
+use Rattle.fax_core.specs.Job.{Job, job_of, fields_of}
 use Rattle.fax_core.specs.Queue.{Queue, Entry}
+use Rattle.fax_core.specs.Submission.{rule_of, recorded}
+use Rattle.fax_dest.specs.Rule.{default_rule}
 use Rattle.fax_job.specs.Job.{is_lawful}
 use Rattle.fax_job.specs.Order.{order_of}
 use Rattle.fax_job.specs.Pair.{Pair}
 use Rattle.fax_job.specs.Refusal.{refusal_status}
 use Rattle.fax_job.specs.Spells.{Spells}
 use Rattle.fax_job.specs.declared.job.JobFields.{JobFields}
-use Rattle.fax_job.specs.declared.job.Phase.TheVariants.{Waiting}
-use Rattle.fax_job.specs.declared.job.Wish.TheVariants.{Go}
 use Rattle.fax_job.specs.declared.order.Order.{Order}
 use Rattle.fax_job.specs.declared.refusal.Refusal.{Refusal}
 use Rattle.fax_job.specs.declared.refusal.Refusal.TheVariants as refusal
@@ -27,48 +27,19 @@ use Rattle.faxqd.specs.declared.reply.Answer.TheVariants.{Submitted}
 use Rattle.faxqd.specs.Arrival.{said_of}
 use Rattle.faxqd.specs.Response.{Response, accepted_response}
 use Rattle.faxqd.specs.Sender.{IsSender}
-use Rattle.faxqd.specs.Submission.{MeansTaken}
+use Rattle.faxqd.specs.Submission.{MeansTaken, Leaves}
 
-all_left : (total : ℕ) → range_with_len (0 + 1) (total - 0) ≡ range_with_len 1 total
-all_left total = ap (range_with_len 1) (let all : total - 0 ≡ total = omega arith in all)
-
--- the record of a new job is that job
-pub new_fields : (o : Order) (number t tts : ℕ) (status : List ℕ) → tts ≡ unwrap_or o.tts t → status ≡ []
-    → job_of (record {
-      job = number;
-      dial = o.dial;
-      modem = o.modem;
-      jobtag = o.jobtag;
-      tts = tts;
-      killtime = o.killtime;
-      priority = o.priority;
-      npages = 0;
-      totpages = o.totpages;
-      ntries = 0;
-      tottries = 0;
-      maxtries = o.maxtries;
-      ndials = 0;
-      totdials = 0;
-      maxdials = o.maxdials;
-      phase = Waiting;
-      wish = Go;
-      next = 0;
-      status = status;
-      extra = o.extra;
-    })
-    ≡ new_job o number t
-new_fields o number t tts status at none = rw (at, none, all_left o.totpages) refl
-
-pub made : (f : JobFields) (r : Option JobFields) (want : Job) → r ≡ (if is_lawful f then Some f else None) → job_of f ≡ want → IfSome r (λ job. job_of job ≡ want)
-made f r want is same = by (is_lawful f) r is
+-- an order that the default rule takes makes its new job
+pub by_default : (o : Order) (next t : ℕ) (j : Job) → Ok j ≡ recorded (submit o (rule_of default_rule (λ moment. true)) next 999999 t) → j ≡ new_job o next t
+by_default o next t j = within (nat_lt 999999 next)
   where
-    some : {A : Type 0} {a b : A} → ◌≡◌ {A = Option A} (Some a) (Some b) → a ≡ b
-    some h = cc
+    lawful_one : (lawful : Bool) → Ok j ≡ (if lawful then Ok (new_job o next t) else Err refusal.Unavailable) → j ≡ new_job o next t
+    lawful_one true h = cc
+    lawful_one false h = absurd cc
 
-    by : (lawful : Bool) (r : Option JobFields) → r ≡ (if lawful then Some f else None) → IfSome r (λ job. job_of job ≡ want)
-    by lawful None h = tt
-    by true (Some g) h = ap job_of (some h) ∙ same
-    by false (Some g) h = absurd cc
+    within : (full : Bool) → Ok j ≡ recorded (if full then Err refusal.Full else Ok (new_job o next t)) → j ≡ new_job o next t
+    within true h = absurd cc
+    within false h = lawful_one (is_lawful (fields_of (new_job o next t))) h
 
 -- a submission that was written is taken
 pub from_take : (r : Result Response Refusal) (s before : State) (arrival : Arrival) (sender : Sender) (m : Queue) (k : List Entry) (lines : List Pair) (order : Order) (job : JobFields) (meta : Meta) (t : ℕ)
@@ -130,3 +101,18 @@ never_created refusal.PagesMismatch h = omega (arith, h)
 never_created refusal.PagesLeft h = omega (arith, h)
 never_created refusal.Full h = omega (arith, h)
 never_created refusal.Unavailable h = omega (arith, h)
+
+-- ---- what is left
+
+-- a submission that was answered leaves what it made, or what there was
+pub leaves_taken : (r : Result Response Refusal) (s : State) (arrival : Arrival) (m : Queue) (k : List Entry)
+    → MatchResult r (λ reply. (reply.status ≡ 201) × MeansTaken arrival m k reply s) (λ _. Means s m k)
+    → MatchResult r (λ reply. Leaves arrival m k reply s) (λ _. Means s m k)
+leaves_taken (Ok reply) s arrival m k h = record { accepted = λ _. h.1; refused = λ other. absurd (other h.0) }
+leaves_taken (Err e) s arrival m k h = h
+
+-- what was only shown leaves what there was
+pub leaves_shown : (r : Result Response Refusal) (s : State) (arrival : Arrival) (m : Queue) (k : List Entry)
+    → IfOk r (λ reply. reply.status ≡ 200) → Means s m k → MatchResult r (λ reply. Leaves arrival m k reply s) (λ _. Means s m k)
+leaves_shown (Ok reply) s arrival m k is means = record { accepted = λ created. absurd (let no : 200 ≡ 201 = sym is ∙ created in omega (arith, no)); refused = λ _. means }
+leaves_shown (Err e) s arrival m k is means = means

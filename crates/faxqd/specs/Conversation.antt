@@ -39,7 +39,7 @@ wants_body head = not (bytes_eq head.method (codes "HEAD"))
 -- the bytes of a reply, which has its body or not, and is the last one or not
 abbrev pub spelled : Response → Bool → Bool → List ℕ
 spelled reply has_body is_last =
-    head_bytes reply.status true (length reply.body) is_last ++ (if has_body then reply.body else [])
+    head_bytes reply.status reply.is_json (length reply.body) is_last ++ (if has_body then reply.body else [])
 
 -- the replies in order
 abbrev pub spelled_turns : List Turn → List ℕ

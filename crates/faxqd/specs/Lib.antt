@@ -10,3 +10,4 @@ pub mod Response
 pub mod Serve
 pub mod Submission
 pub mod Sender
+pub mod View

@@ -1,5 +1,5 @@
 -- What a client sees of a reply, and what the replies to requests are.
-use Rattle.std.specs.Prelude.{ℕ, List, [], ◌++◌, Option, Some, None, codes, decimal}
+use Rattle.std.specs.Prelude.{ℕ, Bool, true, List, [], ◌++◌, Option, Some, None, codes, decimal}
 use Rattle.fax_job.specs.declared.refusal.BodyFault.{BodyFault}
 use Rattle.fax_job.specs.declared.refusal.Refusal.{Refusal}
 use Rattle.fax_job.specs.declared.refusal.Refusal.TheVariants.{BadBody}
@@ -7,14 +7,15 @@ use Rattle.fax_job.specs.Refusal.{body_line, body_word, refusal_number, refusal_
 use Rattle.faxqd.specs.declared.reply.Answer.{Answer}
 use Rattle.faxqd.specs.declared.reply.Answer.TheVariants.{Submitted}
 
--- a status (RFC 9110, section 15) and the bytes of a body
+-- a status (RFC 9110, section 15), whether the body is JSON or else plain text, and its bytes
 pub record Response : Type 0 where
   pub status : ℕ
+  pub is_json : Bool
   pub body : List ℕ
 
 -- what an accepted request is answered with
 abbrev pub accepted_response : Answer → Response
-accepted_response (Submitted job) = record { status = 201; body = codes "{\"job\":" ++ decimal job ++ codes "}" }
+accepted_response (Submitted job) = record { status = 201; is_json = true; body = codes "{\"job\":" ++ decimal job ++ codes "}" }
 
 -- the body of a refusal that needs no further key
 abbrev pub refusal_bytes : Refusal → List ℕ
@@ -35,4 +36,4 @@ refusal_body refusal = refusal_bytes refusal
 
 -- what a refused request is answered with
 abbrev pub refusal_response : Refusal → Response
-refusal_response refusal = record { status = refusal_status refusal; body = refusal_body refusal }
+refusal_response refusal = record { status = refusal_status refusal; is_json = true; body = refusal_body refusal }

@@ -1,8 +1,8 @@
 //! A request as the queue gets it.
 ghost use Rattle.std.specs.Prelude.{◌≡◌};
-ghost use Rattle.faxqd.specs.Checks.{method_of};
+ghost use Rattle.faxqd.specs.Checks.{job_in, method_of, route_of};
 
-use fax_job::Moment;
+use fax_job::{Moment, RequestNumber};
 
 /// The method of a request, as far as the queue tells them apart.
 #[derive(Clone, Copy, Debug, PartialEq, Eq)]
@@ -25,6 +25,36 @@ impl Method {
             Method::Another
         }
     }
+}
+
+/// What a request asks for.
+#[derive(Clone, Copy, Debug, PartialEq, Eq)]
+pub enum Route {
+    /// `POST /jobs`: takes a new job.
+    Submission,
+    /// `GET /jobs/{id}`: shows the job of that number.
+    Showing(u64),
+}
+
+impl Route {
+    /// What this method and path ask for, if it is anything.
+    pub fn of(method: Method, path: &str) -> Option<Route>
+        ensures { result ≡ route_of method path.now }
+    {
+        match method {
+            Method::Get => job_in(path.as_bytes()).map(Route::Showing),
+            Method::Post if path == "/jobs" => Some(Route::Submission),
+            Method::Post | Method::Another => None,
+        }
+    }
+}
+
+/// The number of the job that a path names: 1 to 18 digits, the first not 0.
+fn job_in(path: &[u8]) -> Option<u64>
+    ensures { result ≡ job_in path.now }
+{
+    let number = RequestNumber::read(path.strip_prefix(b"/jobs/")?)?;
+    Some(number.get())
 }
 
 /// One request, its parts borrowed from the message that brought it.

@@ -158,7 +158,7 @@ fn write_reply<W: Write>(
     ensures err { IfErr result (λ e. IsCut (W.contents writer.old) (W.contents writer.new) (spelled reply.now form.has_body form.is_last) sent e.sent) }
 {
     let body = reply.body();
-    let head = reply_head(reply.status(), true, body.len(), form.is_last);
+    let head = reply_head(reply.status(), reply.is_json(), body.len(), form.is_last);
     write_both(
         writer,
         head.as_str().as_bytes(),

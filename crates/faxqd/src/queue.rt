@@ -2,34 +2,36 @@
 //!
 //! An accepted request's effect and its kept reply are one transaction of the store, and the
 //! reply's bytes are made before its commit. A refused request changes nothing.
-ghost use Rattle.std.specs.Prelude.{◌≡◌, ◌∷◌, ◌++◌, [], List, IfOk, IfSome, OnOk, None, Some, Ok, Err, IfErr, IsOk, is_some, MatchResult};
+ghost use Rattle.std.specs.Prelude.{◌≡◌, ◌∷◌, ◌++◌, [], ℕ, List, IfOk, IfSome, OnOk, None, Some, Ok, Err, IfErr, IsOk, is_some, MatchResult};
 ghost use Rattle.sqlite.specs.Held.{state};
+ghost use Rattle.fax_core.specs.Clock.{decided_at};
 ghost use Rattle.fax_core.specs.Decisions.{new_job};
 ghost use Rattle.fax_core.specs.Job.{job_of};
+ghost use Rattle.fax_core.specs.Queue.{Queue as QueueOf, Entry, job_numbered};
+ghost use Rattle.fax_job.specs.Name.{is_name as is_name_of};
 ghost use Rattle.fax_job.specs.Order.{order_of};
 ghost use Rattle.fax_job.specs.Pair.{Pair};
 ghost use Rattle.fax_job.specs.Spells.{Spells};
-ghost use Rattle.faxqd.specs.Sender.{IsSender};
-ghost use Rattle.faxqd.specs.Submission.{MeansTaken, Leaves};
-ghost use Rattle.fax_core.specs.Queue.{Queue as QueueOf, Entry};
+ghost use Rattle.fax_job.specs.declared.refusal.Refusal.{Refusal as RefusalOf};
 ghost use Rattle.fax_store.specs.Job.{with_job};
 ghost use Rattle.fax_store.specs.Kept.{entry};
 ghost use Rattle.fax_store.specs.Meta.{with_clock};
-ghost use Rattle.fax_store.specs.Store.{Means, Serves};
+ghost use Rattle.fax_store.specs.Store.{Means, Serves, Stays};
 ghost use Rattle.fax_store.specs.Work.{Changes};
-ghost use Rattle.faxqd.specs.Response.{accepted_response};
-ghost use Rattle.faxqd.specs.declared.reply.Answer.TheVariants.{Submitted};
-ghost use Rattle.faxqd.specs.Arrival.{said_of};
-ghost use Rattle.fax_job.specs.declared.refusal.Refusal.{Refusal as RefusalOf};
-ghost use Rattle.fax_job.specs.Name.{is_name as is_name_of};
-ghost use Rattle.faxqd.specs.Arrival.{arrival_refusal};
+ghost use Rattle.faxqd.specs.Arrival.{arrival_refusal, route_in, said_of, sender_refusal_of};
 ghost use Rattle.faxqd.specs.Checks.{IsCheckedReply};
+ghost use Rattle.faxqd.specs.Response.{accepted_response};
+ghost use Rattle.faxqd.specs.Sender.{IsSender};
+ghost use Rattle.faxqd.specs.Submission.{MeansTaken, Leaves};
+ghost use Rattle.faxqd.specs.View.{OrUnavailable, found, job_response, viewed, IsView};
+ghost use Rattle.faxqd.specs.declared.arrival.Route.TheVariants.{Showing};
+ghost use Rattle.faxqd.specs.declared.reply.Answer.TheVariants.{Submitted};
 
-use crate::arrival::{Arrival, Method};
+use crate::arrival::{Arrival, Route};
 use crate::reply::{Answer, Reply};
-use fax_job::{
-    Job, JobFields, Moment, Order, Phase, Refusal, RequestNumber, Status, Wish, is_name, read_lines,
-};
+use fax_core::{aged_job, state_at, submit};
+use fax_dest::Rule;
+use fax_job::{Job, Moment, Order, Refusal, RequestNumber, is_name, read_lines, write_lines};
 use fax_store::{Store, Work};
 use sqlite::Alter;
 use std::alloc::{AllocError, Global};
@@ -61,15 +63,68 @@ impl<S: Alter> Queue<S> {
         ensures checked { IsCheckedReply (arrival_refusal arrival.now) result }
         ensures leaves { (m : QueueOf) (k : List Entry) → Means (state S.Store self.old.store.conn) m k
             → Leaves arrival.now m k result (state S.Store self.new.store.conn) }
+        ensures shown { (job : ℕ) (m : QueueOf) (k : List Entry) → route_in arrival.now ≡ Some (Showing job)
+            → Means (state S.Store self.old.store.conn) m k → Serves (state S.Store self.new.store.conn)
+            → IsView m job arrival.now.moment result }
     {
-        match self.submit(alloc, arrival) {
+        match self.answer(alloc, arrival) {
             Ok(reply) => reply,
             Err(refusal) => Reply::refused(refusal),
         }
     }
 
-    fn submit(&mut self, alloc: Global, arrival: &Arrival<'_>) -> Result<Reply, Refusal>
+    fn answer(&mut self, alloc: Global, arrival: &Arrival<'_>) -> Result<Reply, Refusal>
         ensures checked { (refusal : RefusalOf) → arrival_refusal arrival.now ≡ Some refusal → result ≡ Err refusal }
+        ensures leaves { (m : QueueOf) (k : List Entry) → Means (state S.Store self.old.store.conn) m k
+            → MatchResult result
+            (λ reply. Leaves arrival.now m k reply (state S.Store self.new.store.conn))
+            (λ _. Means (state S.Store self.new.store.conn) m k) }
+        ensures shown { (job : ℕ) (m : QueueOf) (k : List Entry) → route_in arrival.now ≡ Some (Showing job)
+            → Means (state S.Store self.old.store.conn) m k → Serves (state S.Store self.new.store.conn)
+            → OrUnavailable result (viewed (job_numbered job m) (decided_at m.clock arrival.now.moment)) }
+    {
+        match Route::of(arrival.method, arrival.path) {
+            Some(Route::Submission) => self.submit(alloc, arrival),
+            Some(Route::Showing(job)) => self.show(alloc, job, arrival.moment),
+            None => Err(Refusal::NoRoute),
+        }
+    }
+
+    /// Shows a copy of the job, aged at the moment. Nothing is stored.
+    fn show(&mut self, alloc: Global, job: u64, moment: Moment) -> Result<Reply, Refusal>
+        ensures created { IfOk result (λ reply. reply.status ≡ 200) }
+        ensures stays { Stays (state S.Store self.old.store.conn) (state S.Store self.new.store.conn) }
+        ensures shown { (m : QueueOf) (k : List Entry) → Means (state S.Store self.old.store.conn) m k
+            → Serves (state S.Store self.new.store.conn)
+            → OrUnavailable result (viewed (job_numbered job m) (decided_at m.clock moment)) }
+    {
+        let meta = self.store.meta()?;
+        let decided_at = meta.clock.later(moment);
+        match self.find(job) {
+            Ok(job) => Ok(show_job(alloc, &aged_job(job, decided_at), decided_at)?),
+            Err(refusal) => Err(refusal),
+        }
+    }
+
+    /// The job of that number.
+    fn find(&mut self, job: u64) -> Result<Job, Refusal>
+        ensures served { Serves (state S.Store self.new.store.conn) → Serves (state S.Store self.old.store.conn) }
+        ensures stays { Stays (state S.Store self.old.store.conn) (state S.Store self.new.store.conn) }
+        ensures found { (m : QueueOf) (k : List Entry) → Means (state S.Store self.old.store.conn) m k
+            → Serves (state S.Store self.new.store.conn)
+            → OrUnavailable result (found (job_numbered job m)) }
+    {
+        if job > u64::from(LAST_JOB) {
+            return Err(Refusal::NoJob);
+        }
+        match self.store.job(job as u32)? {
+            Some(job) => Ok(job),
+            None => Err(Refusal::NoJob),
+        }
+    }
+
+    fn submit(&mut self, alloc: Global, arrival: &Arrival<'_>) -> Result<Reply, Refusal>
+        ensures checked { (refusal : RefusalOf) → sender_refusal_of arrival.now ≡ Some refusal → result ≡ Err refusal }
         ensures taken { (m : QueueOf) (k : List Entry) → Means (state S.Store self.old.store.conn) m k
             → MatchResult result
             (λ reply. (reply.status ≡ 201) × MeansTaken arrival.now m k reply (state S.Store self.new.store.conn))
@@ -99,13 +154,11 @@ impl<S: Alter> Queue<S> {
             return Err(Refusal::NumberReused);
         }
         let meta = self.store.meta()?;
-        if meta.next_job > LAST_JOB {
-            return Err(Refusal::Full);
-        }
         let decided_at = meta.clock.later(arrival.moment);
-        match new_job(order, meta.next_job, decided_at) {
-            Some(job) => self.take(alloc, arrival, sender, &job, decided_at),
-            None => Err(Refusal::Unavailable),
+        let rule = Rule::default_rule();
+        match submit(order, &rule, meta.next_job, LAST_JOB, decided_at) {
+            Ok(job) => self.take(alloc, arrival, sender, &job, decided_at),
+            Err(refusal) => Err(refusal),
         }
     }
 
@@ -166,16 +219,12 @@ fn write<S: Alter>(
     Ok(())
 }
 
-/// The client and the number of a submission; or the refusal by its route, its client or its
-/// number, whichever is at fault first.
+/// Who sent a submission; or the refusal by the client or the number, whichever is at fault first.
 fn sender_of<'a>(arrival: &Arrival<'a>) -> Result<Sender<'a>, Refusal>
-    ensures err { IfErr result (λ refusal. arrival_refusal arrival.now ≡ Some refusal) }
-    ensures ok { IsOk result → arrival_refusal arrival.now ≡ None }
+    ensures err { IfErr result (λ refusal. sender_refusal_of arrival.now ≡ Some refusal) }
+    ensures ok { IsOk result → sender_refusal_of arrival.now ≡ None }
     ensures sender { IfOk result (IsSender arrival.now) }
 {
-    if arrival.method != Method::Post || arrival.path != "/jobs" {
-        return Err(Refusal::NoRoute);
-    }
     let client = read_client(arrival.client).ok_or(Refusal::BadClient)?;
     let number = RequestNumber::read(arrival.number).ok_or(Refusal::BadNumber)?;
     Ok(Sender { client, number })
@@ -213,30 +262,11 @@ fn order_in(alloc: Global, body: &[u8]) -> Result<Order, Refusal>
     Ok(lines.to_order(alloc)?)
 }
 
-/// The job of an order that is taken at a moment: waiting, with nothing dialed or sent yet.
-fn new_job(order: Order, number: u32, decided_at: Moment) -> Option<Job>
-    ensures { IfSome result (λ job. job_of job ≡ new_job order number decided_at) }
+/// Shows a job as it is at `decided_at`. No rule is asked yet, and there are no calls.
+fn show_job(alloc: Global, job: &Job, decided_at: Moment) -> Result<Reply, AllocError>
+    ensures { IfOk result (λ reply. reply ≡ job_response (job_of job.now) decided_at) }
 {
-    Job::new(JobFields {
-        job: number,
-        dial: order.dial,
-        modem: order.modem,
-        jobtag: order.jobtag,
-        tts: order.tts.unwrap_or(decided_at),
-        killtime: order.killtime,
-        priority: order.priority,
-        npages: 0,
-        totpages: order.totpages,
-        ntries: 0,
-        tottries: 0,
-        maxtries: order.maxtries,
-        ndials: 0,
-        totdials: 0,
-        maxdials: order.maxdials,
-        phase: Phase::Waiting,
-        wish: Wish::Go,
-        next: 0,
-        status: Status::empty(),
-        extra: order.extra,
-    })
+    let state = state_at(job, true, 0, 1, decided_at);
+    let lines = job.lines_at(alloc, state)?;
+    Ok(Reply::lines(write_lines(alloc, &lines)?))
 }

@@ -1,5 +1,5 @@
 //! A reply: its status, what kind of body it has, and the body's bytes.
-ghost use Rattle.std.specs.Prelude.{◌≡◌, ◌≤◌, IfOk, length};
+ghost use Rattle.std.specs.Prelude.{◌≡◌, ◌≤◌, false, IfOk, length};
 ghost use Rattle.faxqd.specs.Response.{accepted_response, fault_bytes, line_key as line_key_bytes, refusal_bytes, refusal_response};
 
 use arrayvec::ArrayString;
@@ -26,11 +26,12 @@ pub struct Reply {
     body: Body,
 }
 
-/// A body that takes no memory, or one that does.
+/// A body of JSON that takes no memory, one that does, or key lines.
 #[derive(Debug, Drop)]
 enum Body {
     Short(ShortText),
     Made(String),
+    Lines(Vec<u8>),
 }
 
 impl Model for Reply {
@@ -38,9 +39,9 @@ impl Model for Reply {
 
     ghost Value = { Response };
 
-    ghost use Rattle.faxqd.specs.ReplyBody.{body_bytes};
+    ghost use Rattle.faxqd.specs.ReplyBody.{body_bytes, is_json_body};
 
-    ghost view = { λ r. record { status = r.status; body = body_bytes r.body } };
+    ghost view = { λ r. record { status = r.status; is_json = is_json_body r.body; body = body_bytes r.body } };
 }
 
 impl Reply {
@@ -70,11 +71,31 @@ impl Reply {
         }
     }
 
+    /// The reply that shows a job as these key lines.
+    pub fn lines(text: Vec<u8>) -> Reply
+        ensures { result ≡ record { status = 200; is_json = false; body = text.items } }
+    {
+        Reply {
+            status: 200,
+            body: Body::Lines(text),
+        }
+    }
+
     /// The status code (RFC 9110, section 15).
     pub fn status(&self) -> u16
         ensures { result ≡ self.now.status }
     {
         self.status
+    }
+
+    /// Whether the body is JSON, or else plain text.
+    pub fn is_json(&self) -> bool
+        ensures { result ≡ self.now.is_json }
+    {
+        match &self.body {
+            Body::Short(_) | Body::Made(_) => true,
+            Body::Lines(_) => false,
+        }
     }
 
     /// The bytes of the body.
@@ -84,6 +105,7 @@ impl Reply {
         match &self.body {
             Body::Short(text) => text.as_str().as_bytes(),
             Body::Made(text) => text.as_bytes(),
+            Body::Lines(text) => text.as_slice(),
         }
     }
 }

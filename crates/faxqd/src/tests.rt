@@ -1,4 +1,6 @@
 //! What no clause says: whole conversations, byte for byte, and how a command ends.
+mod show;
+
 use crate::command;
 use crate::office::OfficeFiles;
 use crate::replay::replay;
@@ -133,7 +135,7 @@ fn refuses_by_the_first_check_that_fails(rt: HostRuntime) -> Result<(), Fail> {
 }
 
 #[test]
-fn knows_one_route(rt: HostRuntime) -> Result<(), Fail> {
+fn knows_no_other_route(rt: HostRuntime) -> Result<(), Fail> {
     let alloc = rt.alloc();
     let want = reply(alloc, "404 Not Found", r#"{"no":3,"word":"no-route"}"#)?;
     for line in [
