@@ -3,7 +3,7 @@ use Rattle.std.proofs.Common.{◌≡◌, ℕ, ◌≤◌, Bool, true, false, cond
 use Rattle.std.specs.Prelude.{Option, Some, None, Result, Ok, Err, max}
 use Rattle.fax_job.specs.declared.refusal.Refusal.{Refusal}
 use Rattle.fax_job.specs.declared.refusal.Refusal.TheVariants as refusal
-use Rattle.fax_core.specs.declared.grant.Grant.{Grant}
+use Rattle.fax_core.specs.declared.grants.Grant.{Grant}
 use Rattle.fax_core.specs.Ageing.{aged}
 use Rattle.fax_core.specs.Ask.{Ask, Submission, Suspend, Resume, Kill, Alteration, Ready, Down, Next, CallReport, PageReport, OutcomeReport}
 use Rattle.fax_core.specs.Best.{best}

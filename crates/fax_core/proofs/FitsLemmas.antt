@@ -10,7 +10,7 @@ use Rattle.fax_job.specs.declared.job.Phase.{Phase}
 use Rattle.fax_job.specs.declared.job.Phase.TheVariants.{Held, Waiting, Granted, Done, Failed}
 use Rattle.fax_job.specs.declared.job.Wish.{Wish}
 use Rattle.fax_job.specs.declared.job.Wish.TheVariants.{Go, Hold, Kill}
-use Rattle.fax_core.specs.declared.grant.Grant.{Grant}
+use Rattle.fax_core.specs.declared.grants.Grant.{Grant}
 use Rattle.fax_core.specs.Decisions.{is_go}
 use Rattle.fax_core.specs.Fits.{is_counted, has_call_left, can_go_on, fits_phase, is_granted, fits}
 use Rattle.fax_core.specs.Job.{Job, HasPages, job_of, fields_of}
@@ -31,7 +31,7 @@ job_again j h =
 
 -- ---- pages
 
-joined : (a n k : ℕ) → range_with_len a n ++ range_with_len (a + n) k ≡ range_with_len a (n + k)
+pub joined : (a n k : ℕ) → range_with_len a n ++ range_with_len (a + n) k ≡ range_with_len a (n + k)
 joined a zero k =
     let start : a + 0 ≡ a = omega arith in
     let len : 0 + k ≡ k = omega arith in

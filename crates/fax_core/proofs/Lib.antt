@@ -14,5 +14,6 @@ pub mod PageLemmas
 pub mod ClockLemmas
 pub mod FitsLemmas
 pub mod RefusalLemmas
+pub mod ReportLemmas
 pub mod ChangeLemmas
 pub mod NewJobLemmas

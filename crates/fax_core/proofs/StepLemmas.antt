@@ -6,7 +6,7 @@ use Rattle.std.specs.Cmp.Lexicographic.{bytes_decides}
 use Rattle.fax_job.specs.declared.job.Phase.TheVariants.{Waiting, Granted}
 use Rattle.fax_job.specs.declared.refusal.Refusal.{Refusal}
 use Rattle.fax_job.specs.declared.refusal.Refusal.TheVariants.{NoModem}
-use Rattle.fax_core.specs.declared.grant.Grant.{Grant}
+use Rattle.fax_core.specs.declared.grants.Grant.{Grant}
 use Rattle.fax_core.specs.Ageing.{aged, aged_job}
 use Rattle.fax_core.specs.Ask.{Ask, Submission, Suspend, Resume, Kill, Alteration, Ready, Down, Next, CallReport, PageReport, OutcomeReport, IsLawfulAsk}
 use Rattle.fax_core.specs.Best.{best, MayGo, IsBest}

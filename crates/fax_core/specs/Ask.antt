@@ -1,19 +1,10 @@
 -- What is asked of the queue.
-use Rattle.std.specs.Prelude.{ℕ, ◌≤◌, Bool, List, ⊤}
+use Rattle.std.specs.Prelude.{ℕ, ◌≤◌, List, ⊤}
 use Rattle.fax_job.specs.declared.alter.Alter.{Alter}
 use Rattle.fax_job.specs.declared.job.Call.{Call}
 use Rattle.fax_job.specs.declared.order.Order.{Order}
-use Rattle.fax_core.specs.declared.report.Ending.{Ending}
-
 -- what a worker says of a grant when it is over
-pub record Outcome : Type 0 where
-  -- whether it reported a call
-  pub dialed : Bool
-  -- how many pages it reported
-  pub pages : ℕ
-  pub ending : Ending
-  -- empty where none is given
-  pub reason : List ℕ
+pub use Rattle.fax_core.specs.declared.report.Outcome.{Outcome}
 
 pub data Ask : Type 0 where
   -- a client's requests, with the job's number

@@ -5,6 +5,8 @@ use Rattle.fax_job.specs.declared.job.JobFields.{JobFields}
 use Rattle.fax_job.specs.declared.refusal.Refusal.{Refusal}
 use Rattle.fax_core.specs.declared.change.Altered.{Altered}
 use Rattle.fax_core.specs.declared.change.Change.{Change}
+use Rattle.fax_core.specs.declared.grants.Grant.{Grant}
+use Rattle.fax_core.specs.Decisions.{JobAndGrant}
 use Rattle.fax_core.specs.Job.{Job, pages_to}
 
 -- the job afterwards: what the change doesn't name stays
@@ -33,6 +35,11 @@ changed c j = record j {
 abbrev pub decided : Job → Result Change Refusal → Result Job Refusal
 decided j (Ok change) = Ok (changed change j)
 decided j (Err refusal) = Err refusal
+
+-- the same of a job with the grant that goes with the change
+abbrev pub decided_with : Grant → Job → Result Change Refusal → Result JobAndGrant Refusal
+decided_with g j (Ok change) = Ok (record { job = changed change j; grant = g })
+decided_with g j (Err refusal) = Err refusal
 
 -- no field is altered
 abbrev pub unaltered : Altered

@@ -3,7 +3,7 @@ use Rattle.std.specs.Prelude.{◌+◌, ◌==◌, Bool, true, false, ◌&&◌, �
 use Rattle.fax_job.specs.declared.job.JobFields.{JobFields}
 use Rattle.fax_job.specs.declared.job.Phase.{Phase}
 use Rattle.fax_job.specs.declared.job.Phase.TheVariants.{Held, Waiting, Granted, Done, Failed}
-use Rattle.fax_core.specs.declared.grant.Grant.{Grant}
+use Rattle.fax_core.specs.declared.grants.Grant.{Grant}
 use Rattle.fax_core.specs.Decisions.{is_go}
 
 -- no more pages are sent than there are, and no counter is over its limit
@@ -31,10 +31,14 @@ abbrev pub is_granted : Phase → Bool
 is_granted Granted = true
 is_granted other = false
 
--- the job and its open grant, or none
-abbrev pub fits : JobFields → Option Grant → Bool
-fits f None = is_counted f && is_go f.wish && fits_phase f.phase f
-fits f (Some g) =
+-- an open grant of the job goes on where the job stands
+abbrev pub fits_grant : JobFields → Grant → Bool
+fits_grant f g =
     is_counted f && is_granted f.phase
     && (g.first_page + g.confirmed == f.npages + 1) && (g.last_page == f.totpages) && nat_le g.first_page g.last_page
     && (is_some g.call || has_call_left f)
+
+-- the job and its open grant, or none
+abbrev pub fits : JobFields → Option Grant → Bool
+fits f None = is_counted f && is_go f.wish && fits_phase f.phase f
+fits f (Some g) = fits_grant f g

@@ -1,7 +1,7 @@
 -- The queue, and the replies that are kept.
 use Rattle.std.specs.Prelude.{◌==◌, ℕ, List, [], Option}
 use Rattle.std.specs.List.{filter, find}
-use Rattle.fax_core.specs.declared.grant.Grant.{Grant}
+use Rattle.fax_core.specs.declared.grants.Grant.{Grant}
 use Rattle.fax_core.specs.Job.{Job}
 
 pub record Queue : Type 0 where

@@ -4,7 +4,7 @@ use Rattle.std.specs.List.{range_with_len}
 use Rattle.fax_job.specs.declared.job.Phase.{Phase}
 use Rattle.fax_job.specs.declared.job.Phase.TheVariants.{Held, Waiting, Granted, Done, Failed}
 use Rattle.fax_job.specs.declared.job.Wish.TheVariants.{Go}
-use Rattle.fax_core.specs.declared.grant.Grant.{Grant}
+use Rattle.fax_core.specs.declared.grants.Grant.{Grant}
 use Rattle.fax_core.specs.Job.{Job, HasPages}
 use Rattle.fax_core.specs.Queue.{Queue, job_numbered, grant_numbered}
 

@@ -11,20 +11,26 @@
 
 mod ageing;
 mod change;
+mod choice;
 mod client;
-mod grant;
+mod fit;
+mod grants;
 pub mod laws;
 mod report;
 mod state;
 mod submission;
+mod worker;
 
 pub use ageing::{Aging, aged, aged_job};
 pub use change::{Altered, Change};
+pub use choice::{better, due, grant};
 pub use client::{alter, kill, resume, suspend};
-pub use grant::Grant;
-pub use report::Ending;
+pub use fit::fits;
+pub use grants::Grant;
+pub use report::{Ending, Outcome};
 pub use state::state_at;
 pub use submission::submit;
+pub use worker::{call, outcome, page, stops};
 
 #[cfg(test)]
 mod tests;

@@ -1,5 +1,7 @@
 //! What a worker reports.
 
+use fax_job::Status;
+
 /// How a worker says that a grant ended.
 #[derive(Clone, Copy, Debug, PartialEq, Eq)]
 pub enum Ending {
@@ -9,4 +11,16 @@ pub enum Ending {
     Retry,
     /// The job has failed.
     Fail,
+}
+
+/// What a worker says of a grant when it is over.
+#[derive(Debug, Drop)]
+pub struct Outcome {
+    /// Whether it reported a call.
+    pub dialed: bool,
+    /// How many pages it reported.
+    pub pages: u16,
+    pub ending: Ending,
+    /// Empty where none is given.
+    pub reason: Status,
 }

@@ -2,6 +2,7 @@ use fax_job::{Dial, Job, JobFields, JobTag, Moment, Name, Phase, Status, Wish, r
 use std::alloc::Global;
 use std::test::Fail;
 
+mod reports;
 mod requests;
 mod submissions;
 mod times;

@@ -4,7 +4,7 @@ use Rattle.sqlite.specs.Order.{Row, column}
 use Rattle.sqlite.specs.declared.types.Value.{Value}
 use Rattle.sqlite.specs.declared.types.Value.TheVariants.{Null, Int, Text, Blob}
 use Rattle.fax_core.specs.Queue.{Queue, Entry}
-use Rattle.fax_core.specs.declared.grant.Grant.{Grant}
+use Rattle.fax_core.specs.declared.grants.Grant.{Grant}
 use Rattle.fax_job.specs.Spelling.{printed}
 use Rattle.fax_job.specs.declared.job.JobFields.{JobFields}
 use Rattle.fax_job.specs.declared.job.Phase.{Phase}
