@@ -1,0 +1,9 @@
+//! One arrival: what is answered to it, and what it makes of the tables.
+#![tactic(auto)]
+
+mod office;
+
+pub use office::Office;
+
+#[cfg(test)]
+mod tests;
