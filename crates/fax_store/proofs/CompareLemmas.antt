@@ -1,6 +1,7 @@
--- When `=` of SQL holds between numbers and between texts, and what a column of their type makes of them.
+-- When a comparison of SQL holds between numbers and between texts, and what a column of their type makes of them.
 use Rattle.std.proofs.Common.{◌≡◌, ℕ, ℤ, pos, List, ◌∷◌, Bool, true, false, cond, Some, refl, sym, ap, ◌∙◌, arith}
-use Rattle.std.specs.Ordering.{is_eq, int_cmp}
+use Rattle.std.specs.Prelude.{nat_le}
+use Rattle.std.specs.Ordering.{is_eq, is_le, is_ge, int_cmp}
 use Rattle.std.specs.Str.{bytes_eq}
 use Rattle.std.proofs.lemmas.Map.Text.{is_eq-slice_cmp}
 use Rattle.std.proofs.lemmas.Bool.Decides.{nat_tests}
@@ -10,8 +11,9 @@ use Rattle.sqlite.specs.Cast.{cast}
 use Rattle.sqlite.specs.declared.types.Value.{Value}
 use Rattle.sqlite.specs.declared.types.Value.TheVariants.{Null, Int, Text}
 use Rattle.sqlite_sql.specs.declared.ops.BinaryOp.TheVariants.{Compare}
-use Rattle.sqlite_sql.specs.declared.ops.CompareOp.TheVariants.{Eq}
-use Rattle.sqlite_sql.specs.Ops.{binary, unary, is_true, is_null, from_truth}
+use Rattle.sqlite_sql.specs.declared.ops.CompareOp.{CompareOp}
+use Rattle.sqlite_sql.specs.declared.ops.CompareOp.TheVariants.{Eq, Le, Ge}
+use Rattle.sqlite_sql.specs.Ops.{binary, unary, test, is_true, is_null, from_truth}
 use Rattle.sqlite_value.specs.Order.{value_cmp}
 use Rattle.sqlite_value.proofs.OrderLemmas.{value_cmp-Int, value_cmp-Text}
 
@@ -23,9 +25,18 @@ truth_of false = refl
 abbrev pub are_equal : Value → Value → Bool
 are_equal a b = is_true (binary (Compare Eq Binary) a b)
 
-equal_by : (a b : Value) → is_null a ≡ false → is_null b ≡ false → are_equal a b ≡ is_eq (value_cmp a b)
+compared : (op : CompareOp) (a b : Value) → is_null a ≡ false → is_null b ≡ false → is_true (binary (Compare op Binary) a b) ≡ test op (value_cmp a b)
 unfolding binary
-equal_by a b p q = rw (p, q) (truth_of (is_eq (value_cmp a b)))
+compared op a b p q = rw (p, q) (truth_of (test op (value_cmp a b)))
+
+equal_by : (a b : Value) → is_null a ≡ false → is_null b ≡ false → are_equal a b ≡ is_eq (value_cmp a b)
+equal_by a b p q = compared Eq a b p q
+
+pub at_most : (a b : ℕ) → is_true (binary (Compare Le Binary) (Int (pos a)) (Int (pos b))) ≡ nat_le a b
+at_most a b = compared Le (Int (pos a)) (Int (pos b)) refl refl ∙ ap is_le (value_cmp-Int (pos a) (pos b)) ∙ grind (arith, nat_tests)
+
+pub at_least : (a b : ℕ) → is_true (binary (Compare Ge Binary) (Int (pos a)) (Int (pos b))) ≡ nat_le b a
+at_least a b = compared Ge (Int (pos a)) (Int (pos b)) refl refl ∙ ap is_ge (value_cmp-Int (pos a) (pos b)) ∙ grind (arith, nat_tests)
 
 pub equal_numbers : (a b : ℕ) → are_equal (Int (pos a)) (Int (pos b)) ≡ is_eq (int_cmp (pos a) (pos b))
 equal_numbers a b = equal_by (Int (pos a)) (Int (pos b)) refl refl ∙ ap is_eq (value_cmp-Int (pos a) (pos b))

@@ -1,19 +1,20 @@
 -- What the texts that make the tables leave.
-use Rattle.std.proofs.Common.{◌≡◌, ◌⊎◌, inl, inr, ◌≤◌, ℕ, pos, List, [], ◌∷◌, ◌++◌, map, drop, All, Bool, false, true, Ok, Err, Result, refl, sym, ap, ap₂, subst, subst₂, ◌∙◌, arith, if◌then◌else◌}
+use Rattle.std.proofs.Common.{◌≡◌, ◌≤◌, ℕ, pos, List, [], ◌∷◌, ◌++◌, map, drop, false, Ok, Result, refl, sym, ap, ap₂, subst, subst₂, ◌∙◌, arith, if◌then◌else◌}
 use Rattle.std.specs.List.{AllByRecursion}
+use Rattle.std.specs.List.Sorted.{IsPermutation}
+use Rattle.std.proofs.lemmas.List.Sorted.{IsPermutation-refl}
 use Rattle.sqlite.specs.Tree.{Trees, put_row}
 use Rattle.sqlite.specs.Cast.{cast_row}
 use Rattle.sqlite.specs.Edit.{with_rowid}
 use Rattle.sqlite.specs.Rowids.TheVariants.{Chosen}
 use Rattle.sqlite.specs.View.{doubt}
-use Rattle.sqlite.specs.Effect.{Database, IsDatabase}
-use Rattle.sqlite.specs.State.{State, HasCleanDisk, Executes, Shows}
+use Rattle.sqlite.specs.Effect.{Database}
+use Rattle.sqlite.specs.State.{State, HasCleanDisk, Executes}
 use Rattle.std.specs.Bool.{MatchBool}
 use Rattle.sqlite.specs.Order.{Row}
 use Rattle.sqlite.specs.Rows.{Outcome}
 use Rattle.sqlite.specs.Does.{lacks_sequence, MakesTable, sequence_text}
 use Rattle.sqlite.specs.Compile.{table_defined_by}
-use Rattle.sqlite.specs.Listing.{understood}
 use Rattle.sqlite.specs.Command.TheVariants.{CreateTable}
 use Rattle.sqlite.proofs.Callers.{runs_as}
 use Rattle.sqlite_schema.specs.declared.schema.Table.{Table}
@@ -26,12 +27,11 @@ use Rattle.sqlite.specs.Steps.{IsEmpty}
 use Rattle.fax_store.specs.Schema.{no_tables, six_tables}
 use Rattle.fax_store.specs.Row.{meta_row}
 use Rattle.fax_store.specs.Store.{IsAtRest, HasEmptyTables}
-use Rattle.fax_store.specs.Tables.{TablesMean, IsByRowid}
+use Rattle.fax_store.specs.Tables.{IsByRowid}
 use Rattle.fax_store.proofs.CreateTexts.{Makes}
 use Rattle.fax_store.proofs.CompareLemmas.{same_row, cast_int, cast_null}
-use Rattle.fax_store.proofs.MetaLemmas.{unreferred}
 use Rattle.fax_store.proofs.StatementTexts.{insert_meta}
-use Rattle.fax_store.proofs.WriteLemmas.{went, inserts}
+use Rattle.fax_store.proofs.WriteLemmas.{went, unreferred, inserts}
 
 -- a disk that is clean at the end was clean before
 pub clean_before : (old new : State) → doubt old.is_clean ≤ doubt new.is_clean → HasCleanDisk new → HasCleanDisk old
@@ -95,7 +95,7 @@ filled old new count h was =
         sound = done.keeps.sound;
         jobs = jobs;
         grants = grants;
-        holds = ap (map (drop 1)) holds;
+        holds = subst (λ rows. IsPermutation [] (map (drop 1) rows)) (sym holds) (IsPermutation-refl []);
         down = ap (map (drop 1)) down;
         replies = ap (map (drop 1)) replies;
         meta = done.rows ∙ ap (put_row (meta_row empty_queue)) was.empty.1.1.1.1.1.0;

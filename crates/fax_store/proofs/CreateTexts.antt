@@ -1,5 +1,5 @@
 -- What the texts that make the tables mean.
-use Rattle.std.proofs.Common.{◌≡◌, List, [], ◌∷◌, ◌++◌, ℕ, Ok, refl}
+use Rattle.std.proofs.Common.{◌≡◌, List, ℕ, Ok, refl}
 use Rattle.sqlite.specs.Command.TheVariants.{CreateTable}
 use Rattle.sqlite.specs.Compile.{table_defined_by}
 use Rattle.sqlite.specs.Listing.{understood}

@@ -15,3 +15,8 @@ pub mod JobLemmas
 pub mod TextLemmas
 pub mod RowLemmas
 pub mod CreateLemmas
+pub mod EditLemmas
+pub mod KeyLemmas
+pub mod TablesLemmas
+pub mod UpdateLemmas
+pub mod ChangeLemmas

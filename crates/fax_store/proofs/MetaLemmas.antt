@@ -1,5 +1,5 @@
 -- What the texts on the row of the clock and the next numbers read and write.
-use Rattle.std.proofs.Common.{◌≡◌, ℕ, pos, List, [], ◌∷◌, map, drop, true, Some, Option, refl, sym, ap, subst, ◌∙◌, arith}
+use Rattle.std.proofs.Common.{◌≡◌, ℕ, pos, List, [], ◌∷◌, true, Some, Option, refl, sym, ap, subst, ◌∙◌}
 use Rattle.sqlite.specs.Order.{Row}
 use Rattle.sqlite.specs.Tree.{put_row}
 use Rattle.sqlite.specs.Edit.{without_all}
@@ -8,26 +8,21 @@ use Rattle.sqlite.specs.Listing.{understood}
 use Rattle.sqlite.specs.State.{State, IsUnchanged}
 use Rattle.sqlite.specs.declared.types.Value.TheVariants.{Null}
 use Rattle.sqlite.proofs.Callers.{IsPlain, runs_as, reads_as}
-use Rattle.sqlite_rules.specs.Action.{works}
-use Rattle.sqlite_schema.specs.declared.schema.Keys.TheVariants.{Enforced}
 use Rattle.sqlite_value.proofs.OrderLemmas.{value_cmp-Int}
 use Rattle.fax_store.specs.declared.meta.TheConstants.{SELECT_META, UPDATE_META}
 use Rattle.fax_store.specs.Schema as schema
 use Rattle.fax_store.specs.Schema.{six_tables}
-use Rattle.fax_core.specs.Queue.{Queue, Entry}
+use Rattle.fax_core.specs.Queue.{Queue, Entry, open_grants}
 use Rattle.fax_store.specs.Row.{number, meta_row}
 use Rattle.fax_store.specs.Meta.{meta_shown}
-use Rattle.fax_store.specs.Tables.{TablesMean, IsLawfulMeta, IsByRowid}
+use Rattle.fax_store.specs.Tables.{TablesMean, IsLawfulMeta}
 use Rattle.fax_store.specs.Store.{FindsRow, HasRun}
 use Rattle.fax_store.proofs.CompareLemmas.{number_same, same_row, cast_int, cast_null}
 use Rattle.fax_store.proofs.SelectLemmas.{passes, answers, only_row, only_found}
 use Rattle.fax_store.proofs.StatementLemmas.{shown_keeps}
 use Rattle.fax_store.proofs.StatementTexts.{meta_tests, meta_project, select_meta, update_meta, update_project}
-use Rattle.fax_store.proofs.WriteLemmas.{KeepsOthers, ReplacesRow, replaces}
-
--- no table refers to another
-pub unreferred : (tree : ℕ) (olds news : List Row) → works six_tables Enforced 0 tree olds news ≡ []
-unreferred tree olds news = refl
+use Rattle.fax_store.proofs.TablesLemmas.{parts_of, means_of, meta_changed}
+use Rattle.fax_store.proofs.WriteLemmas.{KeepsOthers, ReplacesRow, unreferred, replaces}
 
 meta_passes : (m : Queue) (params : Row) → passes 10 meta_tests [] params (meta_row m) ≡ true
 meta_passes m params = rw number_same refl
@@ -72,24 +67,8 @@ module _ (old new : State) (m : Queue) (k : List Entry) (means : TablesMean old.
         → TablesMean new.now (record m { clock = clock; next_job = next_job; next_grant = next_grant }) k
     meta_written lawful h =
         let done = updates h in
-        let others = done.keeps.others in record {
-          schema = done.keeps.schema_is;
-          sound = done.keeps.sound;
-          jobs = others.0 (λ e. absurd (omega arith)) ∙ means.jobs;
-          grants = others.1.0 (λ e. absurd (omega arith)) ∙ means.grants;
-          holds = ap (map (drop 1)) (others.1.1.0 (λ e. absurd (omega arith))) ∙ means.holds;
-          down = ap (map (drop 1)) (others.1.1.1.0 (λ e. absurd (omega arith))) ∙ means.down;
-          replies = ap (map (drop 1)) (others.1.1.1.1.0 (λ e. absurd (omega arith))) ∙ means.replies;
-          meta = done.rows ∙ ap (λ rows. put_row (new_row clock next_job next_grant) (without_all rows (pos 1 ∷ []))) means.meta ∙ replaced m _;
-          ordered = record {
-            jobs = subst IsByRowid (sym (others.0 (λ e. absurd (omega arith)))) means.ordered.jobs;
-            grants = subst IsByRowid (sym (others.1.0 (λ e. absurd (omega arith)))) means.ordered.grants;
-            holds = subst IsByRowid (sym (others.1.1.0 (λ e. absurd (omega arith)))) means.ordered.holds;
-            down = subst IsByRowid (sym (others.1.1.1.0 (λ e. absurd (omega arith)))) means.ordered.down;
-            replies = subst IsByRowid (sym (others.1.1.1.1.0 (λ e. absurd (omega arith)))) means.ordered.replies;
-          };
-          lawful = record { jobs = means.lawful.jobs; grants = means.lawful.grants; down = means.lawful.down; replies = means.lawful.replies; meta = lawful };
-        }
+        means_of new.now (record m { clock = clock; next_job = next_job; next_grant = next_grant }) k
+        (meta_changed old new m (open_grants m) k (parts_of old.now m k means) done.keeps clock next_job next_grant (done.rows ∙ ap (λ rows. put_row (new_row clock next_job next_grant) (without_all rows (pos 1 ∷ []))) means.meta ∙ replaced m _) lawful)
 
     pub meta_shows : HasRun UPDATE_META.now params old new → KeepsOthers six_tables 10 old new
     meta_shows h = (updates h).keeps

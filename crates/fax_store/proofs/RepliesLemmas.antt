@@ -1,5 +1,5 @@
 -- What the texts on the kept replies read.
-use Rattle.std.proofs.Common.{◌≡◌, inl, inr, ℕ, suc, List, [], ◌∷◌, ◌++◌, map, filter, drop, All, arith, Bool, true, false, ◌&&◌, Option, Some, None, MatchOption, IsTrue, refl, sym, ap, subst, ◌∙◌}
+use Rattle.std.proofs.Common.{◌≡◌, inl, inr, ℕ, suc, List, [], ◌∷◌, ◌++◌, map, filter, drop, All, arith, Bool, true, false, ◌&&◌, Option, Some, None, MatchOption, refl, sym, ap, subst, ◌∙◌}
 use Rattle.std.proofs.lemmas.Bool.{both_ways}
 use Rattle.std.proofs.lemmas.Slice.Eq.{bytes_eq-Decides}
 use Rattle.std.specs.List.Sorted.{IsPermutation}
@@ -12,23 +12,18 @@ use Rattle.sqlite_rules.specs.Lists.{Has}
 use Rattle.fax_store.specs.declared.replies.TheConstants.{SELECT_REPLY, INSERT_REPLY}
 use Rattle.fax_store.specs.Schema as schema
 use Rattle.fax_store.specs.Schema.{six_tables}
-use Rattle.fax_core.specs.Queue.{Queue, Entry}
+use Rattle.fax_core.specs.Queue.{Queue, Entry, open_grants}
 use Rattle.fax_store.specs.Row.{number, entry_columns}
 use Rattle.fax_store.specs.Kept.{IsOf, entry_shown}
-use Rattle.fax_store.specs.Tables.{TablesMean, IsLawfulEntry, IsByRowid}
+use Rattle.fax_store.specs.Tables.{TablesMean, IsLawfulEntry}
 use Rattle.fax_store.specs.Store.{FindsRow, HasRun}
 use Rattle.fax_store.proofs.CompareLemmas.{are_equal, equal_texts, same_number, number_same, same_row, cast_int, cast_null}
-use Rattle.fax_store.proofs.SelectLemmas.{passes, show, answers, shows, shows_none}
+use Rattle.fax_store.proofs.EditLemmas.{shown_one, none_shown}
+use Rattle.fax_store.proofs.SelectLemmas.{passes, show, answers}
 use Rattle.fax_store.proofs.StatementLemmas.{shown_keeps}
 use Rattle.fax_store.proofs.StatementTexts.{reply_tests, reply_project, reply_terms, select_reply, insert_reply}
-use Rattle.fax_store.proofs.WriteLemmas.{KeepsOthers, InsertsRow, inserts}
-use Rattle.fax_store.proofs.MetaLemmas.{unreferred}
-use Rattle.fax_store.proofs.AppendLemmas.{appended}
-use Rattle.std.proofs.lemmas.List.{map-append}
-use Rattle.std.proofs.lemmas.List.Elements.{All-append, All-cons}
-use Rattle.sqlite_trees.proofs.TreeLemmas.{IsTable-put_row, all-put_row}
-use Rattle.sqlite.specs.Tree.{rowid}
-use Rattle.sqlite.specs.View.{is_int}
+use Rattle.fax_store.proofs.WriteLemmas.{KeepsOthers, InsertsRow, unreferred, inserts}
+use Rattle.fax_store.proofs.TablesLemmas.{parts_of, means_of, replies_changed, one_more}
 use Rattle.sqlite.specs.Cast.{cast_row}
 use Rattle.sqlite.specs.Edit.{with_rowid, next_rowid}
 use Rattle.sqlite.specs.Rowids.TheVariants.{Chosen}
@@ -100,9 +95,9 @@ module _ (client : List ℕ) (n : ℕ) where
         tells : (found : Option Row) → MatchOption found (h.0 ≡ []) (Has h.0) → MatchOption found ((e : Entry) → Has k e → ¬ IsOf client n e) (λ row. (e : Entry) × Has k e × IsOf client n e × (row ≡ entry_shown e))
         tells None empty = λ e has of.
             let it = row_of (old.now.trees 8) k means.replies e has in
-            both_ways _ (shows_none 8 reply_tests reply_project params old.now (old.now.trees 8) refl h.0 same empty it.0 it.1) (asked_for it.0 e it.2 of)
+            both_ways _ (none_shown is_asked (show 8 reply_tests reply_project params) (old.now.trees 8) h.0 same empty it.0 it.1) (asked_for it.0 e it.2 of)
         tells (Some row) has =
-            let shown = shows 8 reply_tests reply_project params old.now (old.now.trees 8) refl h.0 row same has in
+            let shown = shown_one is_asked (show 8 reply_tests reply_project params) (old.now.trees 8) h.0 same row has in
             let it = entry_of (old.now.trees 8) k means.replies shown.0 shown.1 in
             let of = is_of shown.0 it.0 it.2 shown.2 in
             (it.0, it.1, of.0, shown.3 ∙ of.1)
@@ -118,9 +113,6 @@ lawful_of (x ∷ xs) e all (inr more) = lawful_of xs e (λ i d low. all (suc i) 
 -- the row of one more entry
 stored_reply : (e : Entry) → cast_row schema.replies (Null ∷ entry_columns e) ≡ Null ∷ entry_columns e
 stored_reply e = same_row cast_null (same_row refl (same_row (cast_int _) (same_row refl (same_row (cast_int _) refl))))
-
-all_more : (e : Entry) (k : List Entry) → IsLawfulEntry e → All IsLawfulEntry k → All IsLawfulEntry (k ++ e ∷ [])
-all_more e k lawful all = All-append IsLawfulEntry k (e ∷ []) all (All-cons IsLawfulEntry e [] lawful (λ i d low. absurd (omega arith)))
 
 module _ (old new : State) (m : Queue) (k : List Entry) (means : TablesMean old.now m k) (e : Entry) where
   abbrev pub reply_params : Row
@@ -138,28 +130,5 @@ module _ (old new : State) (m : Queue) (k : List Entry) (means : TablesMean old.
   pub reply_kept : IsLawfulEntry e → HasRun INSERT_REPLY.now reply_params old new → TablesMean new.now m (k ++ e ∷ []) × KeepsOthers six_tables 8 old new
   reply_kept lawful h =
       let done = inserted h in
-      let others = done.keeps.others in
-      let order = means.ordered.replies in (
-        record {
-          schema = done.keeps.schema_is;
-          sound = done.keeps.sound;
-          jobs = others.0 (λ e. absurd (omega arith)) ∙ means.jobs;
-          grants = others.1.0 (λ e. absurd (omega arith)) ∙ means.grants;
-          holds = ap (map (drop 1)) (others.1.1.0 (λ e. absurd (omega arith))) ∙ means.holds;
-          down = ap (map (drop 1)) (others.1.1.1.0 (λ e. absurd (omega arith))) ∙ means.down;
-          replies = ap (map (drop 1)) done.rows ∙ appended (old.now.trees 8) (entry_columns e) order.integers order.rise ∙ ap (λ xs. xs ++ entry_columns e ∷ []) means.replies ∙ sym (map-append entry_columns k (e ∷ []));
-          meta = others.1.1.1.1.1.0 (λ e. absurd (omega arith)) ∙ means.meta;
-          ordered = record {
-            jobs = subst IsByRowid (sym (others.0 (λ e. absurd (omega arith)))) means.ordered.jobs;
-            grants = subst IsByRowid (sym (others.1.0 (λ e. absurd (omega arith)))) means.ordered.grants;
-            holds = subst IsByRowid (sym (others.1.1.0 (λ e. absurd (omega arith)))) means.ordered.holds;
-            down = subst IsByRowid (sym (others.1.1.1.0 (λ e. absurd (omega arith)))) means.ordered.down;
-            replies = subst IsByRowid (sym done.rows) (record {
-              rise = IsTable-put_row new_reply (old.now.trees 8) order.rise;
-              integers = all-put_row (λ r. IsTrue (is_int (rowid r))) new_reply (old.now.trees 8) refl order.integers;
-            });
-          };
-          lawful = record { jobs = means.lawful.jobs; grants = means.lawful.grants; down = means.lawful.down; replies = all_more e k lawful means.lawful.replies; meta = means.lawful.meta };
-        },
-        done.keeps,
-      )
+      let was = parts_of old.now m k means in
+      (means_of new.now m (k ++ e ∷ []) (replies_changed old new m (open_grants m) k was done.keeps (k ++ e ∷ []) (one_more entry_columns IsLawfulEntry e k (old.now.trees 8) (new.now.trees 8) done.rows lawful was.replies)), done.keeps)

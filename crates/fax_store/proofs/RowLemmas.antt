@@ -4,7 +4,7 @@ use Rattle.std.proofs.lemmas.Bool.{and_parts, leb-true}
 use Rattle.sqlite.specs.Order.{Row, column}
 use Rattle.sqlite.specs.declared.types.Value.{Value}
 use Rattle.fax_job.specs.declared.job.JobFields.{JobFields}
-use Rattle.fax_job.specs.Job.{is_lawful_killtime, are_lawful_pages, are_lawful_tries, are_lawful_dials, IsLawful}
+use Rattle.fax_job.specs.Job.{is_lawful_killtime, IsLawful}
 use Rattle.fax_job.specs.Pair.{Pair}
 use Rattle.fax_job.specs.declared.job.Phase.{Phase}
 use Rattle.fax_job.specs.declared.job.Wish.{Wish}
@@ -70,11 +70,23 @@ pub same_fields : (j : JobFields) (job : ℕ) (dial : List ℕ) (modem : List �
     → ◌≡◌ {A = JobFields} (record { job = job; dial = dial; modem = modem; jobtag = jobtag; tts = tts; killtime = killtime; priority = priority; npages = npages; totpages = totpages; ntries = ntries; tottries = tottries; maxtries = maxtries; ndials = ndials; totdials = totdials; maxdials = maxdials; phase = phase; wish = wish; next = next; status = status; extra = extra }) j
 same_fields j job dial modem jobtag tts killtime priority npages totpages ntries tottries maxtries ndials totdials maxdials phase wish next status extra e0 e1 e2 e3 e4 e5 e6 e7 e8 e9 e10 e11 e12 e13 e14 e15 e16 e17 e18 e19 = rw (e0, e1, e2, e3, e4, e5, e6, e7, e8, e9, e10, e11, e12, e13, e14, e15, e16, e17, e18, e19) refl
 
+-- what a change of a job is told
+abbrev pub change_params : JobFields → Row
+change_params f =
+    number f.job ∷ Text f.modem ∷ Text f.jobtag ∷ Text f.status ∷ number f.tts ∷ number (unwrap_or f.killtime 0) ∷ number f.priority ∷ number f.npages ∷ number f.ntries ∷ number f.tottries ∷ number f.maxtries
+    ∷ number f.ndials ∷ number f.totdials ∷ number f.maxdials ∷ number (phase_number f.phase) ∷ number (wish_number f.wish) ∷ number f.next ∷ []
+
 -- values that are those of a job are its row
 pub shown_by : (j : JobFields) (dial modem jobtag status extra : List ℕ) (tts killtime priority npages totpages ntries tottries maxtries ndials totdials maxdials phase wish : ℕ)
     → dial ≡ j.dial → modem ≡ j.modem → jobtag ≡ j.jobtag → status ≡ j.status → extra ≡ printed j.extra → tts ≡ j.tts → killtime ≡ unwrap_or j.killtime 0 → priority ≡ j.priority → npages ≡ j.npages → totpages ≡ j.totpages → ntries ≡ j.ntries → tottries ≡ j.tottries → maxtries ≡ j.maxtries → ndials ≡ j.ndials → totdials ≡ j.totdials → maxdials ≡ j.maxdials → phase ≡ phase_number j.phase → wish ≡ wish_number j.wish
     → number j.job ∷ Text dial ∷ Text modem ∷ Text jobtag ∷ Text status ∷ Text extra ∷ number tts ∷ number killtime ∷ number priority ∷ number npages ∷ number totpages ∷ number ntries ∷ number tottries ∷ number maxtries ∷ number ndials ∷ number totdials ∷ number maxdials ∷ number phase ∷ number wish ∷ number j.next ∷ [] ≡ job_shown j
 shown_by j dial modem jobtag status extra tts killtime priority npages totpages ntries tottries maxtries ndials totdials maxdials phase wish e0 e1 e2 e3 e4 e5 e6 e7 e8 e9 e10 e11 e12 e13 e14 e15 e16 e17 = rw (e0, e1, e2, e3, e4, e5, e6, e7, e8, e9, e10, e11, e12, e13, e14, e15, e16, e17) refl
+
+-- values that are those of a job are what a change of it is told
+pub changed_by : (j : JobFields) (modem jobtag status : List ℕ) (tts killtime priority npages ntries tottries maxtries ndials totdials maxdials phase wish : ℕ)
+    → modem ≡ j.modem → jobtag ≡ j.jobtag → status ≡ j.status → tts ≡ j.tts → killtime ≡ unwrap_or j.killtime 0 → priority ≡ j.priority → npages ≡ j.npages → ntries ≡ j.ntries → tottries ≡ j.tottries → maxtries ≡ j.maxtries → ndials ≡ j.ndials → totdials ≡ j.totdials → maxdials ≡ j.maxdials → phase ≡ phase_number j.phase → wish ≡ wish_number j.wish
+    → number j.job ∷ Text modem ∷ Text jobtag ∷ Text status ∷ number tts ∷ number killtime ∷ number priority ∷ number npages ∷ number ntries ∷ number tottries ∷ number maxtries ∷ number ndials ∷ number totdials ∷ number maxdials ∷ number phase ∷ number wish ∷ number j.next ∷ [] ≡ change_params j
+changed_by j modem jobtag status tts killtime priority npages ntries tottries maxtries ndials totdials maxdials phase wish e0 e1 e2 e3 e4 e5 e6 e7 e8 e9 e10 e11 e12 e13 e14 = rw (e0, e1, e2, e3, e4, e5, e6, e7, e8, e9, e10, e11, e12, e13, e14) refl
 
 pub sent_low : (job : JobFields) → IsLawful job → job.npages ≤ job.totpages
 sent_low job h =

@@ -1,10 +1,9 @@
 -- What a query of one table shows: of each row that passes its tests, some columns.
-use Rattle.std.proofs.Common.{◌≡◌, inl, inr, ℕ, pos, negsuc, List, [], ◌∷◌, suc, map, filter, flat_map, length, Bool, true, false, cond, Option, Some, None, MatchOption, All, refl, sym, ap, subst, ◌∙◌, arith}
+use Rattle.std.proofs.Common.{◌≡◌, inl, inr, ℕ, pos, negsuc, List, [], ◌∷◌, map, filter, flat_map, Bool, true, false, cond, Option, Some, None, MatchOption, refl, sym, ap, subst, ◌∙◌}
 use Rattle.std.specs.List.{list_all}
 use Rattle.std.specs.List.Sorted.{IsPermutation}
 use Rattle.std.proofs.lemmas.Bool.{cases_Bool}
-use Rattle.std.proofs.lemmas.List.Elements.{All-cons}
-use Rattle.std.proofs.lemmas.List.Sorted.{IsPermutation-map, length_permutation, All-permutation}
+use Rattle.std.proofs.lemmas.List.Sorted.{IsPermutation-map}
 use Rattle.sqlite.specs.Order.{Row}
 use Rattle.sqlite.specs.Effect.{Database, Reads}
 use Rattle.sqlite.specs.Command.TheVariants.{Select}
@@ -57,38 +56,6 @@ module _ (tree : ℕ) (tests project : List Term) (params : Row) where
         ap (map (λ (o : Output). o.1)) (a.distinct ∙ ap (map (output query)) staged) ∙ map-map _ _ _ ∙ map-map _ _ _ in
         let shown : map (λ (o : Output). o.1) a.ordered ≡ rows = sym a.shown in
         subst (IsPermutation (map show (filter passes table))) shown (subst (λ xs. IsPermutation xs (map (λ (o : Output). o.1) a.ordered)) kept (IsPermutation-map (λ (o : Output). o.1) a.kept a.ordered a.same))
-
-    -- each row of the answer is shown of a row of the table that passes
-    abbrev pub IsShown : Row → Type 0
-    IsShown x = (r : Row) × Has table r × (passes r ≡ true) × (x ≡ show r)
-
-    all_shown : (xs : List Row) → ((r : Row) → Has xs r → Has table r) → All IsShown (map show (filter passes xs))
-    all_shown [] within = λ i d low. absurd (omega arith)
-    all_shown (x ∷ xs) within =
-        let rest = all_shown xs (λ r has. within r (inr has)) in
-        elim (cases_Bool (passes x)) [
-          | inl holds_here ↦ rw holds_here (All-cons IsShown (show x) (map show (filter passes xs)) (x, within x (inl refl), holds_here, refl) rest)
-          | inr off ↦ rw off rest
-        ]
-
-    has_all : (P : Row → Type 0) (xs : List Row) (x : Row) → All P xs → Has xs x → P x
-    has_all P [] x all has = absurd has
-    has_all P (y ∷ ys) x all (inl is) = subst P (sym is) (all 0 y (omega arith))
-    has_all P (y ∷ ys) x all (inr has) = has_all P ys x (λ i d low. all (suc i) d (omega arith)) has
-
-    pub shows : (rows : List Row) (x : Row) → IsPermutation (map show (filter passes table)) rows → Has rows x → IsShown x
-    shows rows x same has = has_all IsShown rows x (All-permutation IsShown (map show (filter passes table)) rows same (all_shown table (λ r it. it))) has
-
-    -- an answer with no row means that none passes
-    none_left : (xs : List Row) → length (map show (filter passes xs)) ≡ 0 → (r : Row) → Has xs r → passes r ≡ false
-    none_left [] empty r has = absurd has
-    none_left (x ∷ xs) empty r has = elim (cases_Bool (passes x)) [
-      | inl holds_here ↦ absurd (omega (arith, rw holds_here at empty))
-      | inr off ↦ (elim has [ inl is ↦ rw is off | inr more ↦ none_left xs (rw off at empty) r more ])
-    ]
-
-    pub shows_none : (rows : List Row) → IsPermutation (map show (filter passes table)) rows → rows ≡ [] → (r : Row) → Has table r → passes r ≡ false
-    shows_none rows same empty = none_left table (sym (length_permutation (map show (filter passes table)) rows same) ∙ ap length empty)
 
 -- what is found in an answer of one row
 pub only_found : (x : Row) (rows : List Row) (found : Option Row) → rows ≡ x ∷ [] → MatchOption found (rows ≡ []) (Has rows) → found ≡ Some x

@@ -1,20 +1,21 @@
 -- What the texts that read and write the six tables mean.
 use Rattle.std.proofs.Common.{◌≡◌, ℕ, pos, List, [], ◌∷◌, codes, false, refl}
 use Rattle.sqlite.specs.Collation.TheVariants.{Binary}
-use Rattle.sqlite.specs.declared.types.Value.TheVariants.{Null, Int}
+use Rattle.sqlite.specs.declared.types.Value.TheVariants.{Null, Int, Text}
 use Rattle.sqlite_sql.specs.Term.{Term, lit, col, op2}
 use Rattle.sqlite_sql.specs.declared.ops.BinaryOp.TheVariants.{Compare}
-use Rattle.sqlite_sql.specs.declared.ops.CompareOp.TheVariants.{Eq}
+use Rattle.sqlite_sql.specs.declared.ops.CompareOp.TheVariants.{Eq, Le, Ge}
 use Rattle.sqlite.specs.Source.TheVariants.{Values}
 use Rattle.sqlite.specs.Command.{Command}
 use Rattle.sqlite.specs.Command.TheVariants.{Insert, Select, Update}
 use Rattle.sqlite.specs.Listing.{understood, reads_listing}
 use Rattle.sqlite.proofs.Callers.{IsPlain, command_of}
 use Rattle.sqlite_tied.specs.Compute.{everything}
+use Rattle.fax_job.specs.Status.{kill_time_expired}
 use Rattle.fax_store.specs.declared.schema.TheConstants.{INSERT_META}
 use Rattle.fax_store.specs.declared.meta.TheConstants.{SELECT_META, UPDATE_META}
 use Rattle.fax_store.specs.declared.replies.TheConstants.{SELECT_REPLY, INSERT_REPLY}
-use Rattle.fax_store.specs.declared.jobs.TheConstants.{SELECT_JOB, INSERT_JOB}
+use Rattle.fax_store.specs.declared.jobs.TheConstants.{SELECT_JOB, INSERT_JOB, UPDATE_JOB, EXPIRE_JOBS}
 use Rattle.fax_store.specs.Schema.{six_tables}
 use Rattle.fax_store.proofs.SelectLemmas.{rows_where}
 
@@ -94,3 +95,22 @@ job_terms =
 pub insert_job : Commands INSERT_JOB.now (Insert 0 (Values job_terms 21))
 unfolding understood everything
 insert_job = record { is = refl; plain = (refl, refl) }
+
+abbrev pub change_project : List Term
+change_project =
+    col 1 0 ∷ col 1 0 ∷ lit Null ∷ col 1 2 ∷ col 0 1 ∷ col 0 2 ∷ col 0 3 ∷ col 1 6 ∷ col 0 4 ∷ col 0 5 ∷ col 0 6 ∷ col 0 7 ∷ col 1 11 ∷ col 0 8 ∷ col 0 9 ∷ col 0 10 ∷ col 0 11 ∷ col 0 12 ∷ col 0 13 ∷ col 0 14 ∷ col 0 15 ∷ col 0 16 ∷ []
+
+pub update_job : Commands UPDATE_JOB.now (Update 0 (record { lets = []; body = rows_where 0 job_tests change_project }))
+unfolding understood everything
+update_job = record { is = refl; plain = (refl, refl) }
+
+abbrev pub expired_tests : List Term
+expired_tests = op2 (Compare Le Binary) (col 1 18) (lit (Int (pos 1))) ∷ op2 (Compare Ge Binary) (col 1 8) (lit (Int (pos 1))) ∷ op2 (Compare Le Binary) (col 1 8) (col 0 0) ∷ []
+
+abbrev pub expired_project : List Term
+expired_project =
+    col 1 0 ∷ col 1 0 ∷ lit Null ∷ col 1 2 ∷ col 1 3 ∷ col 1 4 ∷ lit (Text kill_time_expired) ∷ col 1 6 ∷ col 1 7 ∷ col 1 8 ∷ col 1 9 ∷ col 1 10 ∷ col 1 11 ∷ col 1 12 ∷ col 1 13 ∷ col 1 14 ∷ col 1 15 ∷ col 1 16 ∷ col 1 17 ∷ lit (Int (pos 4)) ∷ col 1 19 ∷ col 1 20 ∷ []
+
+pub expire_jobs : Commands EXPIRE_JOBS.now (Update 0 (record { lets = []; body = rows_where 0 expired_tests expired_project }))
+unfolding understood everything
+expire_jobs = record { is = refl; plain = (refl, refl) }

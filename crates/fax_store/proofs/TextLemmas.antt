@@ -1,11 +1,10 @@
 -- Texts that are read back as they were written.
-use Rattle.std.proofs.Common.{◌≡◌, ℕ, Bool, true, false, not, ◌&&◌, ◌||◌, leb, List, [], ◌∷◌, length, filter, Result, Ok, Err, IsTrue, refl, ap, arith, inl, inr}
+use Rattle.std.proofs.Common.{◌≡◌, ℕ, Bool, true, false, not, ◌&&◌, leb, List, [], ◌∷◌, length, filter, Result, Ok, Err, IsTrue, refl, ap, arith, inl, inr}
 use Rattle.std.specs.Prelude.{⊤}
 use Rattle.std.specs.Bool.{MatchBool}
 use Rattle.std.proofs.lemmas.Bool.{and_parts, cases_Bool}
 use Rattle.std.proofs.lemmas.Bool.Decides.{nat_tests}
 use Rattle.std.specs.List.{list_all}
-use Rattle.std.specs.Char.{is_ascii_digit}
 use Rattle.std.specs.Prelude.{◌==◌}
 use Rattle.fax_job.specs.Dial.{is_key, is_separator, are_keys, is_canonical, IsCanonical, without_separators, dial_of}
 use Rattle.fax_job.specs.Pair.{Pair, ArePairs}

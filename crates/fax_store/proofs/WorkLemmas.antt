@@ -9,7 +9,7 @@ use Rattle.fax_store.specs.Fault.{OrUnavailable}
 use Rattle.fax_core.specs.Queue.{Queue, Entry}
 use Rattle.fax_store.specs.Tables.{TablesMean}
 use Rattle.fax_store.specs.Store.{Serves, IsAtRest, Means, MeansNow, Stays, LeavesCommit, Answers, HasRun}
-use Rattle.fax_store.specs.Work.{IsUnderWay, Works, Changes, Keeps, AnswersIn, Steps, Moves}
+use Rattle.fax_store.specs.Work.{IsUnderWay, Works, Changes, ChangesWhere, Keeps, AnswersIn, Steps, Moves}
 use Rattle.fax_store.specs.Schema.{six_tables}
 use Rattle.fax_store.proofs.StoreLemmas.{same_tables}
 use Rattle.fax_store.proofs.WriteLemmas.{KeepsOthers}
@@ -140,6 +140,15 @@ steps_fault new (Err e) m₀ m k₀ k h = h.0
 pub moved_by : (old new : State) {A : Type 0} (result : Result A StoreFault) (f : Queue → Queue) (g : List Entry → List Entry) → ((m₀ m : Queue) (k₀ k : List Entry) → Works old false m₀ k₀ m k → Serves new → Moves new result m₀ k₀ (f m) (g k))
     → Changes old false new (is_err result) f g
 moved_by old new {A} result f g moves m₀ m k₀ k works s = after result (moves m₀ m k₀ k works s)
+  where
+    after : (r : Result A StoreFault) → Moves new r m₀ k₀ (f m) (g k) → IsUnderWay new (is_err r) m₀ k₀ (f m) (g k)
+    after (Ok a) h = h
+    after (Err e) h = record { began = h; goes_on = λ on. absurd cc }
+
+-- a step of a work that is made where P holds of its queue
+pub steps_where : (old new : State) {A : Type 0} (P : Queue → Type 0) (result : Result A StoreFault) (f : Queue → Queue) (g : List Entry → List Entry)
+    → ((m₀ m : Queue) (k₀ k : List Entry) → P m → Works old false m₀ k₀ m k → Serves new → Moves new result m₀ k₀ (f m) (g k)) → ChangesWhere P old false new (is_err result) f g
+steps_where old new {A} P result f g moves m₀ m k₀ k holds works s = after result (moves m₀ m k₀ k holds works s)
   where
     after : (r : Result A StoreFault) → Moves new r m₀ k₀ (f m) (g k) → IsUnderWay new (is_err r) m₀ k₀ (f m) (g k)
     after (Ok a) h = h

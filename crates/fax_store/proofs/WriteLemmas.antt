@@ -1,5 +1,5 @@
--- What one INSERT of a row, and one UPDATE of a row by its key, make of a database where no foreign key acts.
-use Rattle.std.proofs.Common.{◌≡◌, ◌≢◌, ◌⊎◌, inl, inr, ℕ, ℤ, ◌/◌, List, [], ◌∷◌, drop, length, slice_get, true, Option, Some, None, Ok, Err, Result, sym, ap, subst, ◌∙◌, append-nil, if◌then◌else◌}
+-- What one INSERT of a row, an UPDATE and a DELETE make of a database where no foreign key acts.
+use Rattle.std.proofs.Common.{◌≡◌, ◌≢◌, ◌⊎◌, inl, inr, ℕ, ℤ, ◌/◌, List, [], ◌∷◌, map, drop, length, slice_get, true, Option, Some, None, Ok, Err, Result, refl, sym, ap, subst, ◌∙◌, append-nil, if◌then◌else◌}
 use Rattle.std.specs.List.{AllByRecursion}
 use Rattle.sqlite.specs.Order.{Row}
 use Rattle.sqlite.specs.Tree.{Trees, put_row}
@@ -10,7 +10,7 @@ use Rattle.sqlite.specs.Rows.{Task, Written}
 use Rattle.sqlite.specs.Edit.{edit_of, edited, put_all, taken_by, without_all, have_rowids, are_fresh, with_rowid}
 use Rattle.sqlite.specs.Cast.{cast_row}
 use Rattle.sqlite.specs.Rowids.TheVariants.{Chosen, Given}
-use Rattle.sqlite.specs.Command.TheVariants.{Insert, Update}
+use Rattle.sqlite.specs.Command.TheVariants.{Insert, Update, Delete}
 use Rattle.sqlite.specs.Source.TheVariants.{Values}
 use Rattle.sqlite_schema.specs.declared.schema.Schema.{Schema}
 use Rattle.sqlite_schema.specs.declared.schema.Table.{Table}
@@ -21,8 +21,13 @@ use Rattle.sqlite_value.specs.declared.keys.Order.{Order}
 use Rattle.sqlite_sql.specs.Term.{Term}
 use Rattle.sqlite_rules.specs.Action.{works}
 use Rattle.sqlite_rules.specs.Calls.{ids_of}
+use Rattle.sqlite_rules.proofs.PlaceLemmas.{given}
 use Rattle.sqlite.proofs.Callers.{one_step}
-use Rattle.fax_store.specs.Schema.{table_of}
+use Rattle.fax_store.specs.Schema.{table_of, six_tables}
+
+-- no table refers to another
+pub unreferred : (tree : ℕ) (olds news : List Row) → works six_tables Enforced 0 tree olds news ≡ []
+unreferred tree olds news = refl
 
 -- a part that gave a value did not stop on the way
 pub went : {B E R : Type 0} {b : B} {Stops : E → Type 0} → ((stop : E) × Stops stop × (Ok b ≡ Err stop)) ⊎ R → R
@@ -49,6 +54,12 @@ pub record InsertsRow (schema : Schema) (tree : ℕ) (old new : State) (row : Ro
 pub record ReplacesRow (schema : Schema) (tree : ℕ) (old new : State) (ids : List ℤ) (row : Row) : Type 0 where
   pub keeps : KeepsOthers schema tree old new
   pub rows : new.now.trees tree ≡ put_row row (without_all (old.now.trees tree) ids)
+
+-- rows that were shown are taken out, and what is made of them is put in
+pub record ChangesRows (schema : Schema) (tree : ℕ) (make : Row → Row) (old new : State) (shown : List Row) : Type 0 where
+  pub keeps : KeepsOthers schema tree old new
+  pub fresh : are_fresh (without_all (old.now.trees tree) (ids_of shown)) (map make shown) ≡ true
+  pub rows : new.now.trees tree ≡ put_all (without_all (old.now.trees tree) (ids_of shown)) (map make shown)
 
 module _ (schema : Schema) (bare : (tree : ℕ) (olds news : List Row) → works schema Enforced 0 tree olds news ≡ []) (name : List ℕ) (tree : ℕ) (columns : List Column) (key : Option ℕ) (primary : List ℕ)
     (uniques : List (List ℕ)) (orders : List Order) (checks : List Term) (at : ℕ) (found : slice_get schema.tables at ≡ Some (table_of name tree columns key primary uniques orders checks)) (old new : State)
@@ -116,3 +127,64 @@ module _ (schema : Schema) (bare : (tree : ℕ) (olds news : List Row) → works
         };
         rows = ap (λ (ts : Trees). ts tree) same ∙ step.rows ∙ ap (λ all. edited db (edit_of db table (ids_of all) Given 1 all)) sources ∙ ap (λ r. put_row r (without_all (db tree) (ids_of (shown ∷ [])))) is_row;
       }
+
+  -- what a row that is shown is stored as
+  abbrev pub made : Row → Row
+  made s = cast_row table (drop 1 s)
+
+  pub updates : (q : Program) → Writes old new None (Update at q) text params count → (shown : List Row) × Answers (record { schema = schema; trees = old.now.trees }) q params shown × ChangesRows schema tree made old new shown
+  updates q w =
+      let command = Update at q in
+      let db = old.now.trees in
+      let out = Ok (w.tally, new.now) in
+      let does = subst (λ s. Does old.step_limit (mode_of old) params (record old.now { schema = s }) text None command out) has w.changed in
+      let on : OnRows task (mode_of old) None command db out = subst (λ o. AtPlace (λ t. OnRows (record task { table = t }) (mode_of old) None command db) o out) found does in
+      let done = went on in
+      let now = ap (λ (p : Tally × Database). p.1) (same_value (went (went done.2).2).2) in
+      let shown = went done.1 in
+      let written = went shown.2 in
+      let trees : done.0.trees ≡ written.0 = ap (λ (it : Written). it.trees) (same_value written.2) in
+      let edit = edit_of db table (ids_of shown.0) Given 1 shown.0 in
+      let step = one_step schema Enforced db written.0 edit (bare tree (taken_by db edit) edit.news) written.1 in
+      let news : edit.news ≡ map made shown.0 = given (without_all (db tree) (ids_of shown.0)) (map made shown.0) in
+      let same : new.now.trees ≡ written.0 = ap (λ (d : Database). d.trees) now ∙ trees in (
+        shown.0,
+        shown.1,
+        record {
+          keeps = record {
+            schema_is = ap (λ (d : Database). d.schema) now;
+            others = subst (λ (ts : Trees). AllByRecursion (λ t. t.tree ≢ tree → ts t.tree ≡ db t.tree) schema.tables) (sym same) step.tables;
+            sound = w.sound;
+            shown = w.shown;
+          };
+          fresh = subst (λ n. are_fresh (without_all (db tree) (ids_of shown.0)) n ≡ true) news step.fresh;
+          rows = ap (λ (ts : Trees). ts tree) same ∙ step.rows ∙ ap (put_all (without_all (db tree) (ids_of shown.0))) news;
+        },
+      )
+
+  pub deletes : (q : Program) → Writes old new None (Delete at q) text params count
+      → (shown : List Row) × Answers (record { schema = schema; trees = old.now.trees }) q params shown × KeepsOthers schema tree old new × (new.now.trees tree ≡ without_all (old.now.trees tree) (ids_of shown))
+  deletes q w =
+      let command = Delete at q in
+      let db = old.now.trees in
+      let out = Ok (w.tally, new.now) in
+      let does = subst (λ s. Does old.step_limit (mode_of old) params (record old.now { schema = s }) text None command out) has w.changed in
+      let on : OnRows task (mode_of old) None command db out = subst (λ o. AtPlace (λ t. OnRows (record task { table = t }) (mode_of old) None command db) o out) found does in
+      let done = went on in
+      let now = ap (λ (p : Tally × Database). p.1) (same_value (went (went done.2).2).2) in
+      let shown = went done.1 in
+      let written = went shown.2 in
+      let trees : done.0.trees ≡ written.0 = ap (λ (it : Written). it.trees) (same_value written.2) in
+      let edit = edit_of db table (ids_of shown.0) Given 0 [] in
+      let step = one_step schema Enforced db written.0 edit (bare tree (taken_by db edit) edit.news) written.1 in
+      let same : new.now.trees ≡ written.0 = ap (λ (d : Database). d.trees) now ∙ trees in (
+        shown.0,
+        shown.1,
+        record {
+          schema_is = ap (λ (d : Database). d.schema) now;
+          others = subst (λ (ts : Trees). AllByRecursion (λ t. t.tree ≢ tree → ts t.tree ≡ db t.tree) schema.tables) (sym same) step.tables;
+          sound = w.sound;
+          shown = w.shown;
+        },
+        ap (λ (ts : Trees). ts tree) same ∙ step.rows,
+      )

@@ -1,9 +1,10 @@
--- Lawful jobs, one more job, and the row of a query for a job.
-use Rattle.std.specs.Prelude.{ℕ, List, [], ◌∷◌, ◌+◌, ◌≤◌, ◌<◌, nat_lt, unwrap_or, if◌then◌else◌}
+-- Lawful jobs, what is made of those of a queue, and the row of a query for a job.
+use Rattle.std.specs.Prelude.{◌≡◌, ℕ, List, [], ◌∷◌, ◌+◌, ◌≤◌, ◌<◌, map, nat_lt, unwrap_or, Some, if◌then◌else◌}
 use Rattle.std.specs.Str.{IsUtf8}
 use Rattle.sqlite.specs.Order.{Row}
 use Rattle.fax_core.specs.Job.{Job, fields_of, HasPages}
-use Rattle.fax_core.specs.Queue.{Queue}
+use Rattle.fax_core.specs.Ageing.{aged_job}
+use Rattle.fax_core.specs.Queue.{Queue, job_numbered}
 use Rattle.fax_job.specs.Dial.{IsCanonical}
 use Rattle.fax_job.specs.Job.{IsLawful}
 use Rattle.fax_job.specs.JobTag.{IsJobTag}
@@ -47,6 +48,20 @@ with_placed j m = record m { jobs = placed j m.jobs }
 -- the queue with one more job and the next number one greater
 abbrev pub with_job : Job → Queue → Queue
 with_job j m = record m { jobs = placed j m.jobs; next_job = m.next_job + 1 }
+
+-- what no change of a job touches
+pub record IsSameOrder (j k : Job) : Type 0 where
+  pub dial : j.dial ≡ k.dial
+  pub totpages : j.totpages ≡ k.totpages
+  pub extra : j.extra ≡ k.extra
+
+-- the job of that number, where there is one, is of the same order
+abbrev pub IsChange : Job → Queue → Type 0
+IsChange j m = (k : Job) → job_numbered j.number m ≡ Some k → IsSameOrder k j
+
+-- the queue with the jobs as time leaves them
+abbrev pub with_expired : ℕ → Queue → Queue
+with_expired t m = record m { jobs = map (aged_job t) m.jobs }
 
 -- the row of a query for a job
 abbrev pub job_shown : JobFields → Row

@@ -1,6 +1,7 @@
 -- What a database with the six tables means.
 use Rattle.std.specs.Prelude.{◌≡◌, ◌⊎◌, ◌≤◌, ◌<◌, ◌^◌, List, [], ◌∷◌, All, map, drop, IsTrue}
 use Rattle.std.specs.List.{AllByRecursion}
+use Rattle.std.specs.List.Sorted.{IsPermutation}
 use Rattle.sqlite.specs.Order.{Row}
 use Rattle.sqlite.specs.Tree.{rowid, IsTable}
 use Rattle.sqlite.specs.View.{is_int}
@@ -51,13 +52,13 @@ pub record AreByRowid (db : Database) : Type 0 where
   pub down : IsByRowid (db.trees 6)
   pub replies : IsByRowid (db.trees 8)
 
--- The database has the six tables and obeys their rules. Their rows are the records of the queue and of the kept replies, each of them lawful, and no other row stands in them: `holds` has the open grants, and `shut` is 0 for just these.
+-- The database has the six tables and obeys their rules. Their rows are the records of the queue and of the kept replies, each of them lawful, and no other row stands in them: `holds` has the open grants, in any order, and `shut` is 0 for just these.
 pub record TablesMean (db : Database) (m : Queue) (k : List Entry) : Type 0 where
   pub schema : db.schema ≡ six_tables
   pub sound : IsDatabase db
   pub jobs : db.trees 0 ≡ map (λ j. job_row (fields_of j)) m.jobs
   pub grants : db.trees 1 ≡ map grant_row m.grants
-  pub holds : map (drop 1) (db.trees 2) ≡ map hold_columns (open_grants m)
+  pub holds : IsPermutation (map hold_columns (open_grants m)) (map (drop 1) (db.trees 2))
   pub down : map (drop 1) (db.trees 6) ≡ map down_columns m.down
   pub replies : map (drop 1) (db.trees 8) ≡ map entry_columns k
   pub meta : db.trees 10 ≡ meta_row m ∷ []

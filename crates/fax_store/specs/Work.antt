@@ -38,6 +38,10 @@ Undoes old failed new = (m₀ m : Queue) (k₀ k : List Entry) → Works old fai
 abbrev pub Changes : State → Bool → State → Bool → (Queue → Queue) → (List Entry → List Entry) → Type 0
 Changes old failed new failed_after f g = (m₀ m : Queue) (k₀ k : List Entry) → Works old failed m₀ k₀ m k → Works new failed_after m₀ k₀ (f m) (g k)
 
+-- the same of a queue of which P holds
+abbrev pub ChangesWhere : (Queue → Type 0) → State → Bool → State → Bool → (Queue → Queue) → (List Entry → List Entry) → Type 0
+ChangesWhere P old failed new failed_after f g = (m₀ m : Queue) (k₀ k : List Entry) → P m → Works old failed m₀ k₀ m k → Works new failed_after m₀ k₀ (f m) (g k)
+
 -- a call leaves what the work means
 abbrev pub Keeps : State → Bool → State → Bool → Type 0
 Keeps old failed new failed_after = Changes old failed new failed_after (λ m. m) (λ k. k)

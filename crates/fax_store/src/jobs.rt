@@ -20,9 +20,10 @@ ghost use Rattle.fax_job.specs.declared.job.Phase.{Phase as JobPhase};
 ghost use Rattle.fax_job.specs.declared.job.Wish.{Wish as JobWish};
 ghost use Rattle.fax_store.specs.Fault.{OrUnavailable};
 ghost use Rattle.fax_store.specs.Row.{HasValue, HasNumber, phase_number, wish_number};
-ghost use Rattle.fax_store.specs.Job.{IsText, IsFormed, IsLawfulJob, job_shown, with_placed, with_job};
+ghost use Rattle.fax_core.specs.Machine.{with_job as with_change};
+ghost use Rattle.fax_store.specs.Job.{IsText, IsFormed, IsLawfulJob, IsChange, job_shown, with_placed, with_job, with_expired};
 ghost use Rattle.fax_store.specs.Store.{Serves, Means, MeansNow, Stays, Answers};
-ghost use Rattle.fax_store.specs.Work.{Works, Keeps, Changes, AnswersIn, Moves, Steps};
+ghost use Rattle.fax_store.specs.Work.{Works, Keeps, Changes, ChangesWhere, AnswersIn, Moves, Steps};
 
 use crate::fault::StoreFault;
 use crate::meta::{Meta, PAST_JOBS};
@@ -38,6 +39,14 @@ use std::alloc::Global;
 const SELECT_JOB: &str = "SELECT job, dial, modem, jobtag, status, extra, tts, killtime, priority, \
     npages, totpages, ntries, tottries, maxtries, ndials, totdials, maxdials, phase, wish, next \
     FROM jobs WHERE job = ?1";
+
+const UPDATE_JOB: &str = "UPDATE jobs SET modem = ?2, jobtag = ?3, status = ?4, tts = ?5, \
+    killtime = ?6, priority = ?7, npages = ?8, ntries = ?9, tottries = ?10, maxtries = ?11, \
+    ndials = ?12, totdials = ?13, maxdials = ?14, phase = ?15, wish = ?16, next = ?17 \
+    WHERE job = ?1";
+
+const EXPIRE_JOBS: &str = "UPDATE jobs SET phase = 4, status = 'Kill time expired' \
+    WHERE phase <= 1 AND killtime BETWEEN 1 AND ?1";
 
 const INSERT_JOB: &str =
     "INSERT INTO jobs (job, dial, modem, jobtag, status, extra, tts, killtime, \
@@ -325,14 +334,54 @@ impl<S: Alter> Store<S> {
         )
     }
 
+    fn write_change(&mut self, job: &Job) -> Result<(), StoreFault>
+        ensures served { Serves (state S.Store self.new.conn) → Serves (state S.Store self.old.conn) }
+        ensures written { (m₀ m : Queue) (k₀ k : List Entry) → IsChange (job_of job.now) m
+            → Works (state S.Store self.old.conn) false m₀ k₀ m k → Serves (state S.Store self.new.conn)
+            → Steps (state S.Store self.new.conn) result m₀ k₀ (with_change (job_of job.now) m) k }
+        ensures cause { IfErr result (λ fault. fault ≡ StoreFault.Unavailable) }
+    {
+        let job = job.fields();
+        self.run(
+            UPDATE_JOB,
+            params![
+                job.job,
+                job.modem.as_str(),
+                job.jobtag.as_str(),
+                job.status.text(),
+                job.tts.seconds(),
+                killtime_number(job.killtime),
+                u32::from(job.priority),
+                u32::from(job.npages),
+                u32::from(job.ntries),
+                u32::from(job.tottries),
+                u32::from(job.maxtries),
+                u32::from(job.ndials),
+                u32::from(job.totdials),
+                u32::from(job.maxdials),
+                phase_number(job.phase),
+                wish_number(job.wish),
+                job.next,
+            ],
+        )
+    }
+
+    fn write_expired(&mut self, t: Moment) -> Result<(), StoreFault>
+        ensures served { Serves (state S.Store self.new.conn) → Serves (state S.Store self.old.conn) }
+        ensures written { (m₀ m : Queue) (k₀ k : List Entry) → Works (state S.Store self.old.conn) false m₀ k₀ m k
+            → Serves (state S.Store self.new.conn)
+            → Steps (state S.Store self.new.conn) result m₀ k₀ (with_expired t m) k }
+        ensures cause { IfErr result (λ fault. fault ≡ StoreFault.Unavailable) }
+    {
+        self.run(EXPIRE_JOBS, params![t.seconds()])
+    }
+
     fn add_job(&mut self, job: &Job) -> Result<(), StoreFault>
         ensures served { Serves (state S.Store self.new.conn) → Serves (state S.Store self.old.conn) }
         ensures written { (m₀ m : Queue) (k₀ k : List Entry) → Works (state S.Store self.old.conn) false m₀ k₀ m k
             → Serves (state S.Store self.new.conn)
-            → Moves (state S.Store self.new.conn) result m₀ k₀ (with_job (job_of job.now) m) k }
-        ensures cause { (m₀ m : Queue) (k₀ k : List Entry) → Works (state S.Store self.old.conn) false m₀ k₀ m k
-            → Serves (state S.Store self.new.conn) → m.next_job < 1000000
-            → IfErr result (λ fault. fault ≡ StoreFault.Unavailable) }
+            → Moves (state S.Store self.new.conn) result m₀ k₀ (with_job (job_of job.now) m) k
+            × (m.next_job < 1000000 → IfErr result (λ fault. fault ≡ StoreFault.Unavailable)) }
     {
         let meta = self.read_meta()?;
         if meta.next_job >= PAST_JOBS {
@@ -392,6 +441,54 @@ impl<S: Alter> Work<'_, S> {
             return Err(StoreFault::Unavailable);
         }
         let done = self.store.add_job(job);
+        self.failed = done.is_err();
+        done
+    }
+
+    /// Sets what a change may set of the job of this number: the modem, the tag, the times, the
+    /// priority, the pages sent, the tries and dials with their limits, the status, and where it
+    /// stands. The number to dial, the pages and the extra lines are those of the job that is there.
+    /// Where no job has the number, nothing changes.
+    ///
+    /// # Errors
+    ///
+    /// `Unavailable`.
+    pub fn put_change(&mut self, job: &Job) -> Result<(), StoreFault>
+        ensures same_reference { self.new.store.ghost_name ≡ self.old.store.ghost_name }
+        ensures changes { ChangesWhere (IsChange (job_of job.now)) (state S.Store self.old.store.now.conn)
+            self.old.failed (state S.Store self.new.store.now.conn) self.new.failed
+            (with_change (job_of job.now)) (λ k. k) }
+        ensures cause { IfErr result (λ fault. fault ≡ StoreFault.Unavailable) }
+        ensures served { Serves (state S.Store self.new.store.now.conn) → Serves (state S.Store self.old.store.now.conn) }
+        ensures fails { self.new.failed ≡ is_err result }
+        ensures refused { IsTrue self.old.failed → result ≡ Err StoreFault.Unavailable }
+    {
+        if self.failed {
+            return Err(StoreFault::Unavailable);
+        }
+        let done = self.store.write_change(job);
+        self.failed = done.is_err();
+        done
+    }
+
+    /// Lets each held or waiting job fail whose kill time is from 1 to `t`.
+    ///
+    /// # Errors
+    ///
+    /// `Unavailable`.
+    pub fn expire_all(&mut self, t: Moment) -> Result<(), StoreFault>
+        ensures same_reference { self.new.store.ghost_name ≡ self.old.store.ghost_name }
+        ensures changes { Changes (state S.Store self.old.store.now.conn) self.old.failed
+            (state S.Store self.new.store.now.conn) self.new.failed (with_expired t) (λ k. k) }
+        ensures cause { IfErr result (λ fault. fault ≡ StoreFault.Unavailable) }
+        ensures served { Serves (state S.Store self.new.store.now.conn) → Serves (state S.Store self.old.store.now.conn) }
+        ensures fails { self.new.failed ≡ is_err result }
+        ensures refused { IsTrue self.old.failed → result ≡ Err StoreFault.Unavailable }
+    {
+        if self.failed {
+            return Err(StoreFault::Unavailable);
+        }
+        let done = self.store.write_expired(t);
         self.failed = done.is_err();
         done
     }

@@ -109,6 +109,59 @@ fn put_job_takes_the_next_number(rt: HostRuntime) -> Result<(), Fail> {
     Ok(())
 }
 
+/// The job of this number after a change that lets it wait until moment 9.
+fn change(alloc: Global, store: &mut MemoryStore, number: u32) -> Result<(), Fail> {
+    let mut fields = job_of(alloc, number)?.ok_or("no job")?.into_fields();
+    fields.phase = fax_job::Phase::Waiting;
+    fields.wish = fax_job::Wish::Go;
+    fields.next = 9;
+    let job = Job::new(fields).ok_or("no changed job")?;
+    let mut work = store.begin()?;
+    work.put_change(&job)?;
+    work.commit()?;
+    Ok(())
+}
+
+/// The phase of a job of the store, and the moment from which it may be tried again.
+fn stands(store: &mut MemoryStore, number: u32) -> Result<Option<(fax_job::Phase, u32)>, Fail> {
+    let found = store.job(number)?;
+    Ok(found.map(|job| (job.fields().phase, job.fields().next)))
+}
+
+#[test]
+fn put_change_changes_one_job(rt: HostRuntime) -> Result<(), Fail> {
+    let mut store = Store::new_in_memory(rt.alloc())?;
+    for number in 1..3 {
+        let job = job_of(rt.alloc(), number)?.ok_or("no job")?;
+        put(rt.alloc(), &mut store, &job)?;
+    }
+    change(rt.alloc(), &mut store, 2)?;
+    assert!(rt; stands(&mut store, 1)? == Some((fax_job::Phase::Granted, 77)));
+    assert!(rt; stands(&mut store, 2)? == Some((fax_job::Phase::Waiting, 9)));
+    Ok(())
+}
+
+/// Expires the jobs of the store at this moment.
+fn expire(store: &mut MemoryStore, t: u64) -> Result<(), Fail> {
+    let mut work = store.begin()?;
+    work.expire_all(Moment::new(t))?;
+    work.commit()?;
+    Ok(())
+}
+
+#[test]
+fn expire_all_waits_for_the_kill_time(rt: HostRuntime) -> Result<(), Fail> {
+    let mut store = Store::new_in_memory(rt.alloc())?;
+    let job = job_of(rt.alloc(), 1)?.ok_or("no job")?;
+    put(rt.alloc(), &mut store, &job)?;
+    change(rt.alloc(), &mut store, 1)?;
+    expire(&mut store, 4999)?;
+    assert!(rt; stands(&mut store, 1)? == Some((fax_job::Phase::Waiting, 9)));
+    expire(&mut store, 5000)?;
+    assert!(rt; stands(&mut store, 1)? == Some((fax_job::Phase::Failed, 9)));
+    Ok(())
+}
+
 #[test]
 fn clients_are_kept_apart(rt: HostRuntime) -> Result<(), Fail> {
     let mut store = Store::new_in_memory(rt.alloc())?;

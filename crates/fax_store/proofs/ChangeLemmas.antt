@@ -1,0 +1,191 @@
+-- What the texts that change jobs write.
+use Rattle.std.proofs.Common.{◌≡◌, ◌≤◌, ◌<◌, inl, inr, ℕ, suc, List, [], ◌∷◌, map, drop, All, Bool, true, false, ◌&&◌, Option, Some, None, unwrap_or, if◌then◌else◌, refl, sym, ap, ap₂, subst, ◌∙◌, arith}
+use Rattle.std.specs.Prelude.{find, ◌==◌, nat_le}
+use Rattle.std.specs.Str.{IsUtf8}
+use Rattle.std.proofs.lemmas.Bool.{cases_Bool, eqb-true, eq-eqb}
+use Rattle.std.proofs.lemmas.List.Elements.{All-cons}
+use Rattle.sqlite.specs.Cast.{cast_row}
+use Rattle.sqlite.specs.Order.{Row}
+use Rattle.sqlite.specs.State.{State}
+use Rattle.sqlite.specs.Tree.{rowid, IsTable}
+use Rattle.sqlite.proofs.Callers.{runs_as}
+use Rattle.sqlite_rules.specs.Lists.{Has}
+use Rattle.fax_core.specs.Ageing.{aged_job, expires, is_past}
+use Rattle.fax_core.specs.Job.{Job, job_of, fields_of}
+use Rattle.fax_core.specs.Machine.{with_job as with_change}
+use Rattle.fax_core.specs.Queue.{Queue, Entry, open_grants}
+use Rattle.fax_job.specs.Status.{kill_time_expired}
+use Rattle.fax_job.specs.declared.job.JobFields.{JobFields}
+use Rattle.fax_job.specs.declared.job.Phase.{Phase}
+use Rattle.fax_job.specs.declared.job.Phase.TheVariants.{Held, Waiting, Granted, Done, Failed}
+use Rattle.fax_store.specs.declared.jobs.TheConstants.{UPDATE_JOB, EXPIRE_JOBS}
+use Rattle.fax_job.specs.Dial.{IsCanonical}
+use Rattle.fax_job.specs.Job.{IsLawful}
+use Rattle.fax_job.specs.JobTag.{IsJobTag}
+use Rattle.fax_job.specs.Name.{IsName}
+use Rattle.fax_job.specs.Pair.{ArePairs}
+use Rattle.fax_job.specs.Value.{IsStatus}
+use Rattle.fax_store.specs.Job.{IsText, IsLawfulJob, IsSameOrder, IsChange, with_expired}
+use Rattle.fax_store.specs.Row.{number, job_row, phase_number}
+use Rattle.fax_store.specs.Schema as schema
+use Rattle.fax_store.specs.Schema.{six_tables}
+use Rattle.fax_store.specs.Store.{HasRun}
+use Rattle.fax_store.specs.Tables.{TablesMean}
+use Rattle.fax_store.proofs.CompareLemmas.{at_most, at_least}
+use Rattle.fax_store.proofs.JobLemmas.{fields_back, lawful_of_fields, stored_job}
+use Rattle.fax_store.proofs.KeyLemmas.{only_numbered, asked_is, not_asked}
+use Rattle.fax_store.proofs.RowLemmas.{change_params}
+use Rattle.fax_store.proofs.SelectLemmas.{passes, show}
+use Rattle.fax_store.proofs.StatementTexts.{job_tests, change_project, update_job, expired_tests, expired_project, expire_jobs}
+use Rattle.fax_store.proofs.TablesLemmas.{AreRecords, row_of, parts_of, means_of, jobs_changed}
+use Rattle.fax_store.proofs.UpdateLemmas.{updated}
+use Rattle.fax_store.proofs.WriteLemmas.{KeepsOthers}
+
+pub all_mapped : {X : Type 0} (P : X → Type 0) (f : X → X) (xs : List X) → ((x : X) → Has xs x → P x → P (f x)) → All P xs → All P (map f xs)
+all_mapped P f [] keeps all = λ i d low. absurd (omega arith)
+all_mapped P f (x ∷ xs) keeps all =
+    All-cons P (f x) (map f xs) (keeps x (inl refl) (all 0 x (omega arith))) (all_mapped P f xs (λ y has. keeps y (inr has)) (λ i d low. all (suc i) d (omega arith)))
+
+-- ---- one job
+
+-- what a change sets is of its form, and the numbers are within their limits
+pub record IsFormedChange (f : JobFields) : Type 0 where
+  pub modem : IsText IsName f.modem
+  pub jobtag : IsText IsJobTag f.jobtag
+  pub status : IsText IsStatus f.status
+  pub tts : f.tts ≤ 4102444800
+  pub killtime : unwrap_or f.killtime 0 ≤ 4102444800
+  pub priority : f.priority < 256
+  pub limits : IsLawful f
+
+module _ (f : JobFields) where
+  abbrev put : Job → Job
+  put x = if x.number == f.job then job_of f else x
+
+  -- the row of a job of the same order, as it is written
+  written : (x : Job) → x.number ≡ f.job → IsSameOrder x (job_of f) → cast_row schema.jobs (drop 1 (show 0 job_tests change_project (change_params f) (row_of x))) ≡ job_row f
+  written x is same =
+      stored_job (record f { job = x.number; dial = x.dial; totpages = x.totpages; extra = x.extra })
+      ∙ ap (λ n. job_row (record f { job = n; dial = x.dial; totpages = x.totpages; extra = x.extra })) is
+      ∙ ap (λ d. job_row (record f { dial = d; totpages = x.totpages; extra = x.extra })) same.dial
+      ∙ ap (λ p. job_row (record f { totpages = p; extra = x.extra })) same.totpages
+      ∙ ap (λ e. job_row (record f { extra = e })) same.extra
+
+  put_there : (x : Job) → x.number ≡ f.job → row_of (put x) ≡ job_row f
+  put_there x is = ap (λ b. row_of (if b then job_of f else x)) (eq-eqb x.number f.job is) ∙ ap job_row (fields_back f)
+
+  put_number : (x : Job) → rowid (row_of (put x)) ≡ rowid (row_of x)
+  put_number x = elim (cases_Bool (x.number == f.job)) [
+    | inl same ↦ ap (λ b. rowid (row_of (if b then job_of f else x))) same ∙ ap number (sym (eqb-true x.number f.job same))
+    | inr off ↦ ap (λ b. rowid (row_of (if b then job_of f else x))) off
+  ]
+
+  change_lawful : IsFormedChange f → (x : Job) → IsSameOrder x (job_of f) → IsLawfulJob x → IsLawfulJob (job_of f)
+  change_lawful lawful x same was = lawful_of_fields f lawful.limits (record {
+    dial = subst (IsText IsCanonical) same.dial was.formed.dial;
+    modem = lawful.modem;
+    jobtag = lawful.jobtag;
+    status = lawful.status;
+    extra = subst ArePairs same.extra was.formed.extra;
+    tts = lawful.tts;
+    killtime = lawful.killtime;
+    priority = lawful.priority;
+  })
+
+  put_lawful : IsFormedChange f → (x : Job) → (x.number ≡ f.job → IsSameOrder x (job_of f)) → IsLawfulJob x → IsLawfulJob (put x)
+  put_lawful lawful x same was = elim (cases_Bool (x.number == f.job)) [
+    | inl here ↦ subst (λ b. IsLawfulJob (if b then job_of f else x)) (sym here) (change_lawful lawful x (same (eqb-true x.number f.job here)) was)
+    | inr off ↦ subst (λ b. IsLawfulJob (if b then job_of f else x)) (sym off) was
+  ]
+
+  module _ (old new : State) (m : Queue) (k : List Entry) (means : TablesMean old.now m k) where
+    same_order : IsChange (job_of f) m → (x : Job) → Has m.jobs x → x.number ≡ f.job → IsSameOrder x (job_of f)
+    same_order change x has is =
+        change x (subst (λ n. find (λ (j : Job). j.number == n) m.jobs ≡ Some x) is (only_numbered row_of (λ (j : Job). j.number) (λ j. refl) m.jobs x (subst IsTable means.jobs means.ordered.jobs.rise) has))
+
+    pub job_changed : IsChange (job_of f) m → IsFormedChange f → HasRun UPDATE_JOB.now (change_params f) old new → TablesMean new.now (with_change (job_of f) m) k × KeepsOthers six_tables 0 old new
+    job_changed change lawful h =
+        let is_number = asked_is row_of (λ (j : Job). j.number) (λ j. refl) f.job (passes 0 job_tests change_project (change_params f)) (λ r. refl) in
+        let is_other = not_asked row_of (λ (j : Job). j.number) (λ j. refl) f.job (passes 0 job_tests change_project (change_params f)) (λ r. refl) in
+        let ran = runs_as UPDATE_JOB.now (change_params f) old new six_tables means.schema _ update_job.is update_job.plain h.0 h.1 in
+        let done = updated schema.jobs.name 0 schema.jobs.columns schema.jobs.key schema.jobs.primary schema.jobs.uniques schema.jobs.orders schema.jobs.checks 0 refl old new means.schema refl means.ordered.jobs
+        job_tests change_project (change_params f) (λ r. refl) _ h.0 row_of put m.jobs means.jobs put_number
+        (λ x has on. let is = is_number x on in written x is (same_order change x has is) ∙ sym (put_there x is))
+        (λ x has off. sym (ap (λ b. row_of (if b then job_of f else x)) (is_other x off)))
+        ran in
+        let now : AreRecords row_of IsLawfulJob (new.now.trees 0) (map put m.jobs) = record { is = done.1; ordered = done.2; lawful = all_mapped IsLawfulJob put m.jobs (λ x has. put_lawful lawful x (same_order change x has)) means.lawful.jobs } in
+        (means_of new.now (with_change (job_of f) m) k (jobs_changed old new m (open_grants m) k (parts_of old.now m k means) done.0 (map put m.jobs) now), done.0)
+
+-- ---- all jobs whose kill time is past
+
+module _ (t : ℕ) where
+  abbrev pub expired_params : Row
+  expired_params = number t ∷ []
+
+  and_true : (b : Bool) → (b && true) ≡ b
+  and_true true = refl
+  and_true false = refl
+
+  abbrev by_numbers : Phase → Option ℕ → Bool
+  by_numbers phase killtime = nat_le (phase_number phase) 1 && (nat_le 1 (unwrap_or killtime 0) && (nat_le (unwrap_or killtime 0) t && true))
+
+  past : (killtime : Option ℕ) → (nat_le 1 (unwrap_or killtime 0) && (nat_le (unwrap_or killtime 0) t && true)) ≡ is_past killtime t
+  past None = refl
+  past (Some s) = ap (λ b. nat_le 1 s && b) (and_true (nat_le s t))
+
+  same_test : (phase : Phase) (killtime : Option ℕ) → by_numbers phase killtime ≡ (expires phase && is_past killtime t)
+  same_test Held killtime = past killtime
+  same_test Waiting killtime = past killtime
+  same_test Granted killtime = refl
+  same_test Done killtime = refl
+  same_test Failed killtime = refl
+
+  -- the jobs that pass are those that expire
+  expiring : (j : Job) → passes 0 expired_tests expired_project expired_params (row_of j) ≡ (expires j.phase && is_past j.killtime t)
+  expiring j =
+      ap₂ ◌&&◌ (at_most (phase_number j.phase) 1) (ap₂ ◌&&◌ (at_least (unwrap_or j.killtime 0) 1) (ap (λ b. b && true) (at_most (unwrap_or j.killtime 0) t)))
+      ∙ same_test j.phase j.killtime
+
+  abbrev expired : Job → Job
+  expired j = record j { phase = Failed; status = kill_time_expired }
+
+  aged_by : (j : Job) (b : Bool) → (expires j.phase && is_past j.killtime t) ≡ b → aged_job t j ≡ (if b then expired j else j)
+  aged_by j b is = ap (λ c. if c then expired j else j) is
+
+  aged_number : (j : Job) → rowid (row_of (aged_job t j)) ≡ rowid (row_of j)
+  aged_number j = elim (cases_Bool (expires j.phase && is_past j.killtime t)) [ inl on ↦ ap (λ i. rowid (row_of i)) (aged_by j true on) | inr off ↦ ap (λ i. rowid (row_of i)) (aged_by j false off) ]
+
+  expired_text : IsUtf8 kill_time_expired
+  unfolding lib.Utf8.encode
+  expired_text = (kill_time_expired, (refl, refl))
+
+  aged_lawful : (j : Job) → IsLawfulJob j → IsLawfulJob (aged_job t j)
+  aged_lawful j was = elim (cases_Bool (expires j.phase && is_past j.killtime t)) [
+    | inl on ↦ subst IsLawfulJob (sym (aged_by j true on)) (record {
+      formed = record {
+        dial = was.formed.dial;
+        modem = was.formed.modem;
+        jobtag = was.formed.jobtag;
+        status = record { formed = refl; utf8 = expired_text };
+        extra = was.formed.extra;
+        tts = was.formed.tts;
+        killtime = was.formed.killtime;
+        priority = was.formed.priority;
+      };
+      limits = was.limits;
+      pages = was.pages;
+    })
+    | inr off ↦ subst IsLawfulJob (sym (aged_by j false off)) was
+  ]
+
+  module _ (old new : State) (m : Queue) (k : List Entry) (means : TablesMean old.now m k) where
+    pub jobs_expired : HasRun EXPIRE_JOBS.now expired_params old new → TablesMean new.now (with_expired t m) k × KeepsOthers six_tables 0 old new
+    jobs_expired h =
+        let ran = runs_as EXPIRE_JOBS.now expired_params old new six_tables means.schema _ expire_jobs.is expire_jobs.plain h.0 h.1 in
+        let done = updated schema.jobs.name 0 schema.jobs.columns schema.jobs.key schema.jobs.primary schema.jobs.uniques schema.jobs.orders schema.jobs.checks 0 refl old new means.schema refl means.ordered.jobs
+        expired_tests expired_project expired_params (λ r. refl) _ h.0 row_of (aged_job t) m.jobs means.jobs aged_number
+        (λ j has on. stored_job (fields_of (expired j)) ∙ sym (ap row_of (aged_by j true (sym (expiring j) ∙ on))))
+        (λ j has off. sym (ap row_of (aged_by j false (sym (expiring j) ∙ off))))
+        ran in
+        let now : AreRecords row_of IsLawfulJob (new.now.trees 0) (map (aged_job t) m.jobs) = record { is = done.1; ordered = done.2; lawful = all_mapped IsLawfulJob (aged_job t) m.jobs (λ j has. aged_lawful j) means.lawful.jobs } in
+        (means_of new.now (with_expired t m) k (jobs_changed old new m (open_grants m) k (parts_of old.now m k means) done.0 (map (aged_job t) m.jobs) now), done.0)
