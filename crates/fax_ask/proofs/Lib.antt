@@ -1,0 +1,6 @@
+mod PathLemmas
+mod RequestLemmas
+mod AskLemmas
+mod LimitLemmas
+mod ResponseLemmas
+mod SpellingLemmas

@@ -1,0 +1,136 @@
+-- A path that names a request has no LF.
+use Rattle.std.proofs.Common.{◌≡◌, ℕ, Bool, true, false, cond, eqb, leb, ◌&&◌, List, [], ◌∷◌, length, refl, ap, ◌∙◌, arith}
+use Rattle.std.specs.Prelude.{Option, Some, None, codes, option_and_then}
+use Rattle.std.specs.Char.{is_ascii_digit}
+use Rattle.std.specs.Cmp.Lexicographic.{bytes_decides}
+use Rattle.std.specs.List.{list_all, list_any}
+use Rattle.std.specs.Str.{bytes_eq}
+use Rattle.std.specs.Str.Parse.{digits_value}
+use Rattle.std.proofs.lemmas.Bool.{and_parts, or_from, ne_eqb, eqb-true, leb-true}
+use Rattle.std.proofs.lemmas.List.{nil_from_length}
+use Rattle.fax_job.specs.Number.{begins_with_zero, is_number, number_of, request_number_of}
+use Rattle.fax_job.specs.Spells.{has_byte}
+use Rattle.fax_ask.specs.Laws.{RoutedPathsLackLf}
+use Rattle.fax_ask.specs.declared.method.Method.{Method}
+use Rattle.fax_ask.specs.declared.method.Method.TheVariants.{Get, Post, Another}
+use Rattle.fax_ask.specs.declared.request.Request.{Request}
+use Rattle.fax_ask.specs.declared.request.Request.TheVariants.{Suspend, Resume, Kill, Alter}
+use Rattle.fax_job.specs.Reading.{onto}
+use Rattle.fax_ask.specs.Path.{parts, parts_left}
+use Rattle.fax_ask.specs.Request.{job_request, jobs_request, root_request, path_request, request_of}
+use Rattle.fax_ask.proofs.PathLemmas.{byte_of_parts}
+
+-- no text has an LF
+abbrev lacks_lf : List (List ℕ) → Type 0
+lacks_lf texts = list_any (has_byte 10) texts ≡ false
+
+one_more : (text : List ℕ) (texts : List (List ℕ)) → has_byte 10 text ≡ false → lacks_lf texts → lacks_lf (text ∷ texts)
+one_more text texts h t = or_from (has_byte 10 text) (list_any (has_byte 10) texts) h t
+
+same_text : (text word : List ℕ) → bytes_eq text word ≡ true → has_byte 10 word ≡ false → has_byte 10 text ≡ false
+same_text text word e h = ap (has_byte 10) ((bytes_decides text word).0 e) ∙ h
+
+digit_is_no_lf : (byte : ℕ) → is_ascii_digit byte ≡ true → eqb byte 10 ≡ false
+digit_is_no_lf byte h =
+    let from = leb-true 48 byte (and_parts (leb 48 byte) (leb byte 57) h).0 in
+    ne_eqb byte 10 (λ e. omega arith)
+
+digits_lack_lf : (text : List ℕ) → list_all is_ascii_digit text ≡ true → has_byte 10 text ≡ false
+digits_lack_lf [] h = refl
+digits_lack_lf (byte ∷ text) h =
+    let both = and_parts (is_ascii_digit byte) (list_all is_ascii_digit text) h in
+    or_from (eqb byte 10) (has_byte 10 text) (digit_is_no_lf byte both.0) (digits_lack_lf text both.1)
+
+of_number : (text : List ℕ) (n : ℕ) (is : Bool) → is_number text ≡ is → cond is (Some (digits_value 10 text)) None ≡ Some n → has_byte 10 text ≡ false
+of_number text n true e h = digits_lack_lf text (and_parts (leb 1 (length text) && leb (length text) 18) (list_all is_ascii_digit text) e).1
+of_number text n false e h = absurd cc
+
+numbers_lack_lf : (text : List ℕ) (n : ℕ) (zero : Bool) → cond zero None (number_of text) ≡ Some n → has_byte 10 text ≡ false
+numbers_lack_lf text n true h = absurd cc
+numbers_lack_lf text n false h = of_number text n (is_number text) refl h
+
+-- ---- the table
+
+in_action : (job : ℕ) (action : List ℕ) (request : Request) (a b c d : Bool)
+    → bytes_eq action (codes "suspend") ≡ a → bytes_eq action (codes "resume") ≡ b → bytes_eq action (codes "kill") ≡ c → bytes_eq action (codes "alter") ≡ d
+    → cond a (Some (Suspend job)) (cond b (Some (Resume job)) (cond c (Some (Kill job)) (cond d (Some (Alter job)) None))) ≡ Some request
+    → has_byte 10 action ≡ false
+in_action job action request true b c d e f g h is = same_text action (codes "suspend") e refl
+in_action job action request false true c d e f g h is = same_text action (codes "resume") f refl
+in_action job action request false false true d e f g h is = same_text action (codes "kill") g refl
+in_action job action request false false false true e f g h is = same_text action (codes "alter") h refl
+in_action job action request false false false false e f g h is = absurd cc
+
+in_job : (method : Method) (job : ℕ) (rest : List (List ℕ)) (request : Request) → job_request method job rest ≡ Some request → lacks_lf rest
+in_job Get job [] request is = refl
+in_job Get job (action ∷ rest) request is = absurd cc
+in_job Post job [] request is = absurd cc
+in_job Post job (action ∷ []) request is =
+    one_more action [] (in_action job action request _ _ _ _ refl refl refl refl is) refl
+in_job Post job (action ∷ more ∷ rest) request is = absurd cc
+in_job Another job rest request is = absurd cc
+
+in_id : (method : Method) (id : List ℕ) (rest : List (List ℕ)) (request : Request) (number : Option ℕ) → request_number_of id ≡ number
+    → option_and_then (λ job. job_request method job rest) number ≡ Some request → lacks_lf (id ∷ rest)
+in_id method id rest request None e is = absurd cc
+in_id method id rest request (Some job) e is =
+    one_more id rest (numbers_lack_lf id job (begins_with_zero id) e) (in_job method job rest request is)
+
+in_jobs : (method : Method) (rest : List (List ℕ)) (request : Request) → jobs_request method rest ≡ Some request → lacks_lf rest
+in_jobs Get [] request is = refl
+in_jobs Post [] request is = refl
+in_jobs Another [] request is = refl
+in_jobs Get (id ∷ rest) request is = in_id Get id rest request (request_number_of id) refl is
+in_jobs Post (id ∷ rest) request is = in_id Post id rest request (request_number_of id) refl is
+in_jobs Another (id ∷ rest) request is = in_id Another id rest request (request_number_of id) refl is
+
+in_collection : (method : Method) (collection : List ℕ) (rest : List (List ℕ)) (request : Request) (jobs : Bool) → bytes_eq collection (codes "jobs") ≡ jobs
+    → cond jobs (jobs_request method rest) None ≡ Some request → lacks_lf (collection ∷ rest)
+in_collection method collection rest request true e is = one_more collection rest (same_text collection (codes "jobs") e refl) (in_jobs method rest request is)
+in_collection method collection rest request false e is = absurd cc
+
+in_root : (method : Method) (rest : List (List ℕ)) (request : Request) → root_request method rest ≡ Some request → lacks_lf rest
+in_root method [] request is = refl
+in_root method (collection ∷ rest) request is = in_collection method collection rest request (bytes_eq collection (codes "jobs")) refl is
+
+in_lead : (method : Method) (lead : List ℕ) (rest : List (List ℕ)) (request : Request) (empty : Bool) → eqb (length lead) 0 ≡ empty
+    → cond empty (root_request method rest) None ≡ Some request → lacks_lf (lead ∷ rest)
+in_lead method lead rest request true e is =
+    one_more lead rest (ap (has_byte 10) (nil_from_length lead (eqb-true (length lead) 0 e))) (in_root method rest request is)
+in_lead method lead rest request false e is = absurd cc
+
+in_path : (method : Method) (texts : List (List ℕ)) (request : Request) → path_request method texts ≡ Some request → lacks_lf texts
+in_path method [] request is = refl
+in_path method (lead ∷ rest) request is = in_lead method lead rest request (eqb (length lead) 0) refl is
+
+pub routed_paths_lack_lf : RoutedPathsLackLf
+unfolding request_of
+routed_paths_lack_lf method path request is = byte_of_parts path ∙ in_path method (parts path) request is
+
+-- ---- a longer path names nothing
+
+abbrev IsFilled : List (List ℕ) → Type 0
+IsFilled texts = (text : List ℕ) × (more : List (List ℕ)) × (texts ≡ text ∷ more)
+
+onto_fills : (b : ℕ) (texts : List (List ℕ)) → IsFilled (onto b texts)
+onto_fills b [] = (b ∷ [], [], refl)
+onto_fills b (text ∷ texts) = (b ∷ text, texts, refl)
+
+filled_by : (b : ℕ) (bs : List ℕ) (slash : Bool) → IsFilled (cond slash ([] ∷ parts bs) (onto b (parts bs)))
+filled_by b bs true = ([], parts bs, refl)
+filled_by b bs false = onto_fills b (parts bs)
+
+filled : (path : List ℕ) → IsFilled (parts path)
+filled [] = ([], [], refl)
+filled (b ∷ bs) = filled_by b bs (eqb b 47)
+
+two_more : (method : Method) (job : ℕ) (action text : List ℕ) (more : List (List ℕ)) → job_request method job (action ∷ text ∷ more) ≡ None
+two_more Get job action text more = refl
+two_more Post job action text more = refl
+two_more Another job action text more = refl
+
+pub none_below : (method : Method) (job : ℕ) (action rest : List ℕ) (o : Option (List ℕ)) → o ≡ Some rest → job_request method job (action ∷ parts_left o) ≡ None
+none_below method job action rest o e =
+    let f = filled rest in
+    ap (λ (p : Option (List ℕ)). job_request method job (action ∷ parts_left p)) e
+    ∙ (ap (λ (texts : List (List ℕ)). job_request method job (action ∷ texts)) f.2 ∙ two_more method job action f.0 f.1)

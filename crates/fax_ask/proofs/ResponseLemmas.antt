@@ -1,0 +1,92 @@
+use Rattle.std.proofs.Common.{◌≡◌, ◌≤◌, false, length, lit≤, refl, inl, inr, arith}
+use Rattle.fax_job.specs.declared.lines.LineKind.{LineKind}
+use Rattle.fax_job.specs.declared.lines.LineKind.TheVariants as line
+use Rattle.fax_job.specs.declared.order.OrderFault.{OrderFault}
+use Rattle.fax_job.specs.declared.order.OrderFault.TheVariants as order
+use Rattle.fax_job.specs.declared.refusal.BodyFault.{BodyFault}
+use Rattle.fax_job.specs.declared.refusal.BodyFault.TheVariants.{Line, Order, BadJson, BadField}
+use Rattle.fax_job.specs.declared.refusal.Refusal.{Refusal}
+use Rattle.fax_job.specs.declared.refusal.Refusal.TheVariants.{BadHttp, TooLarge, NoRoute, BadClient, BadNumber, BadBody, NumberReused, NoJob, NoModem, NoGrant, Rejected, TooManyPages, JobOver, JobActive, NotSuspended, LimitReached, ModemDown, ModemBusy, GrantClosed, CallKnown, NotConnected, PageOrder, CallMissing, PagesMismatch, PagesLeft, Full, Unavailable}
+use Rattle.fax_job.specs.Refusal.{body_word, line_word, order_word, refusal_word}
+use Rattle.fax_ask.specs.Detail.{has_detail}
+use Rattle.fax_ask.specs.Response.{plain_body, refusal_bytes}
+use Rattle.fax_core.specs.Reply.{Submitted}
+use Rattle.fax_ask.specs.Answer.{Replied, Shown}
+use Rattle.fax_ask.specs.Laws.{AcceptedAre200Or201, OnlyUnavailableIs503}
+
+-- the words of refusals are short
+pub short_word : (refusal : Refusal) → length (refusal_word refusal) ≤ 16
+short_word BadHttp = lit≤ tt
+short_word TooLarge = lit≤ tt
+short_word NoRoute = lit≤ tt
+short_word BadClient = lit≤ tt
+short_word BadNumber = lit≤ tt
+short_word (BadBody fault) = lit≤ tt
+short_word NumberReused = lit≤ tt
+short_word NoJob = lit≤ tt
+short_word NoModem = lit≤ tt
+short_word NoGrant = lit≤ tt
+short_word Rejected = lit≤ tt
+short_word TooManyPages = lit≤ tt
+short_word JobOver = lit≤ tt
+short_word JobActive = lit≤ tt
+short_word NotSuspended = lit≤ tt
+short_word LimitReached = lit≤ tt
+short_word ModemDown = lit≤ tt
+short_word ModemBusy = lit≤ tt
+short_word GrantClosed = lit≤ tt
+short_word CallKnown = lit≤ tt
+short_word NotConnected = lit≤ tt
+short_word PageOrder = lit≤ tt
+short_word CallMissing = lit≤ tt
+short_word PagesMismatch = lit≤ tt
+short_word PagesLeft = lit≤ tt
+short_word Full = lit≤ tt
+short_word Unavailable = lit≤ tt
+
+short_line_word : (kind : LineKind) → length (line_word kind) ≤ 16
+short_line_word line.NotText = lit≤ tt
+short_line_word line.NoColon = lit≤ tt
+short_line_word line.BadTag = lit≤ tt
+short_line_word line.Twice = lit≤ tt
+short_line_word line.BadValue = lit≤ tt
+short_line_word line.OpenEnd = lit≤ tt
+short_line_word line.NoMemory = lit≤ tt
+
+short_order_word : (fault : OrderFault) → length (order_word fault) ≤ 16
+short_order_word order.NoNumber = lit≤ tt
+short_order_word order.BadDial = lit≤ tt
+short_order_word order.BadModem = lit≤ tt
+short_order_word order.BadJobtag = lit≤ tt
+short_order_word order.BadTts = lit≤ tt
+short_order_word order.BadKilltime = lit≤ tt
+short_order_word order.BadPriority = lit≤ tt
+short_order_word order.NoPages = lit≤ tt
+short_order_word order.BadPages = lit≤ tt
+short_order_word order.BadMaxtries = lit≤ tt
+short_order_word order.BadMaxdials = lit≤ tt
+short_order_word order.NotAlterable = lit≤ tt
+short_order_word order.NoMemory = lit≤ tt
+
+-- the kinds of faults are short
+pub short_kind : (fault : BodyFault) → length (body_word fault) ≤ 16
+short_kind (Line number kind) = short_line_word kind
+short_kind (Order fault) = short_order_word fault
+short_kind BadJson = lit≤ tt
+short_kind BadField = lit≤ tt
+
+-- what says no more than its number and word is no fault of a body
+pub plain : (refusal : Refusal) → has_detail refusal ≡ false → plain_body refusal ≡ refusal_bytes refusal
+plain (BadBody fault) h = absurd cc
+plain other h = refl
+
+-- ---- statuses
+
+pub accepted_statuses : AcceptedAre200Or201
+accepted_statuses (Replied (Submitted job)) = inr refl
+accepted_statuses (Replied other) = inl refl
+accepted_statuses (Shown lines) = inl refl
+
+pub unavailable_alone : OnlyUnavailableIs503
+unavailable_alone Unavailable keys e = refl
+unavailable_alone other keys e = absurd (omega arith)

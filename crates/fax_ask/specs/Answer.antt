@@ -1,0 +1,24 @@
+-- What accepted requests are answered with, in the machine's words.
+use Rattle.std.specs.Prelude.{ℕ, List}
+use Rattle.fax_core.specs.Reply as machine
+use Rattle.fax_ask.specs.declared.answer.Answer.{Answer}
+use Rattle.fax_ask.specs.declared.answer.Answer.TheVariants.{Submitted, Stands, Marked, NoneToSend, Given, Called, Confirmed, Lines}
+use Rattle.fax_ask.specs.declared.answer.Handed.{Handed}
+
+-- what a client is told: the machine's reply to a step, or the key lines of a job
+pub data Told : Type 0 where
+  Replied : (reply : machine.Reply) → Told
+  Shown : (lines : List ℕ) → Told
+
+abbrev pub grant_told : Handed → machine.Handed
+grant_told handed = record { grant = handed.grant; job = handed.job; dial = handed.number.now; from = handed.from; to = handed.to }
+
+abbrev pub told : Answer → Told
+told (Submitted job) = Replied (machine.Submitted job)
+told (Stands job state) = Replied (machine.Stands job state)
+told (Marked down) = Replied (machine.Marked down)
+told NoneToSend = Replied machine.NoneToSend
+told (Given handed) = Replied (machine.Given (grant_told handed))
+told (Called stop) = Replied (machine.Called stop)
+told (Confirmed npages stop) = Replied (machine.Confirmed npages stop)
+told (Lines bytes) = Shown bytes.now

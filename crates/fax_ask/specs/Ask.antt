@@ -1,0 +1,105 @@
+-- What is asked for: by method, path and body.
+use Rattle.std.specs.Prelude.{◌≡◌, ◌≤◌, ℕ, List, Result, Ok, Err, ⊤, IfSome, MatchOption}
+use Rattle.fax_job.specs.declared.alter.Alter.{Alter as Changes}
+use Rattle.fax_job.specs.declared.order.Order.{Order as OrderFields}
+use Rattle.fax_job.specs.declared.order.OrderFault.{OrderFault}
+use Rattle.fax_job.specs.declared.refusal.BodyFault.{BodyFault}
+use Rattle.fax_job.specs.declared.refusal.BodyFault.TheVariants.{Line, Order, BadJson, BadField}
+use Rattle.fax_job.specs.declared.refusal.Refusal.{Refusal}
+use Rattle.fax_job.specs.declared.refusal.Refusal.TheVariants.{NoRoute, BadBody, Unavailable}
+use Rattle.fax_job.specs.Alter.{alter_of}
+use Rattle.fax_job.specs.Order.{order_of}
+use Rattle.fax_job.specs.Pair.{Pair}
+use Rattle.fax_job.specs.Reading.{fault_at}
+use Rattle.fax_job.specs.Spells.{Spells, IsFirstFault}
+use Rattle.fax_core.specs.Ask as machine
+use Rattle.fax_ask.specs.declared.ask.Ask.{Ask}
+use Rattle.fax_ask.specs.declared.ask.Ask.TheVariants as said
+use Rattle.fax_ask.specs.declared.method.Method.{Method}
+use Rattle.fax_ask.specs.declared.request.Request.{Request}
+use Rattle.fax_ask.specs.declared.request.Request.TheVariants.{Submit, Suspend, Resume, Kill, Alter, Show}
+use Rattle.fax_ask.specs.Request.{request_of}
+
+-- a step of the queue, or the lines of a job
+pub data Asked : Type 0 where
+  Step : (ask : machine.Ask) → Asked
+  View : (job : ℕ) → Asked
+
+-- what is asked for, in the machine's words
+abbrev pub asked : Ask → Asked
+asked (said.Submission order) = Step (machine.Submission order)
+asked (said.Suspend job) = Step (machine.Suspend job)
+asked (said.Resume job) = Step (machine.Resume job)
+asked (said.Kill job) = Step (machine.Kill job)
+asked (said.Alteration job alter) = Step (machine.Alteration job alter)
+asked (said.Show job) = View job
+
+-- ---- bodies
+
+-- a body of key lines states this value
+pub record States {T : Type 0} (value_of : List Pair → Result T OrderFault) (body : List ℕ) (value : T) : Type 0 where
+  pub lines : List Pair
+  pub spelled : Spells body lines
+  pub stated : value_of lines ≡ Ok value
+
+-- the lines of a body are well, and this is the first fault of what they state
+pub record HasFault {T : Type 0} (value_of : List Pair → Result T OrderFault) (body : List ℕ) (fault : OrderFault) : Type 0 where
+  pub lines : List Pair
+  pub spelled : Spells body lines
+  pub faulty : value_of lines ≡ Err fault
+
+-- why a body of key lines is refused: its lines come before what they state
+abbrev pub IsLinesFault : {T : Type 0} → (List Pair → Result T OrderFault) → List ℕ → BodyFault → Type 0
+IsLinesFault value_of body (Line line kind) = IsFirstFault body (fault_at line kind)
+IsLinesFault value_of body (Order fault) = HasFault value_of body fault
+IsLinesFault value_of body BadJson = ⊥
+IsLinesFault value_of body BadField = ⊥
+
+-- want of memory may come in place of any answer
+abbrev pub IsLinesRefusal : {T : Type 0} → (List Pair → Result T OrderFault) → List ℕ → Refusal → Type 0
+IsLinesRefusal value_of body (BadBody fault) = IsLinesFault value_of body fault
+IsLinesRefusal value_of body Unavailable = ⊤
+IsLinesRefusal value_of body other = ⊥
+
+-- ---- requests with their bodies
+
+-- what a request with this body asks for
+abbrev pub Asks : Request → List ℕ → Asked → Type 0
+Asks Submit body ask = (order : OrderFields) × States order_of body order × (ask ≡ Step (machine.Submission order))
+Asks (Suspend job) body ask = ask ≡ Step (machine.Suspend job)
+Asks (Resume job) body ask = ask ≡ Step (machine.Resume job)
+Asks (Kill job) body ask = ask ≡ Step (machine.Kill job)
+Asks (Alter job) body ask = (changes : Changes) × States alter_of body changes × (ask ≡ Step (machine.Alteration job changes))
+Asks (Show job) body ask = ask ≡ View job
+
+-- why a request with this body is refused: a body that isn't read has no fault
+abbrev pub IsBodyRefusal : Request → List ℕ → Refusal → Type 0
+IsBodyRefusal Submit body refusal = IsLinesRefusal order_of body refusal
+IsBodyRefusal (Alter job) body refusal = IsLinesRefusal alter_of body refusal
+IsBodyRefusal other body refusal = ⊥
+
+-- ---- the whole
+
+-- what a method, a path and a body ask for
+abbrev pub IsAsk : Method → List ℕ → List ℕ → Asked → Type 0
+IsAsk method path body ask = MatchOption (request_of method path) ⊥ (λ request. Asks request body ask)
+
+-- why they are refused: the path comes before the body
+abbrev pub IsRefused : Method → List ℕ → List ℕ → Refusal → Type 0
+IsRefused method path body refusal = MatchOption (request_of method path) (refusal ≡ NoRoute) (λ request. IsBodyRefusal request body refusal)
+
+-- ---- what the queue may rely on
+
+-- an alteration leaves a job that has a try and a dial, and no more than a job may have
+pub record HasLimits (changes : Changes) : Type 0 where
+  pub tries : IfSome changes.maxtries (λ tries. (1 ≤ tries) × (tries ≤ 1000))
+  pub dials : IfSome changes.maxdials (λ dials. (1 ≤ dials) × (dials ≤ 1000))
+
+abbrev pub IsLawfulStep : machine.Ask → Type 0
+IsLawfulStep (machine.Submission order) = machine.IsLawfulAsk (machine.Submission order)
+IsLawfulStep (machine.Alteration job changes) = HasLimits changes
+IsLawfulStep other = machine.IsLawfulAsk other
+
+abbrev pub IsLawful : Asked → Type 0
+IsLawful (Step ask) = IsLawfulStep ask
+IsLawful (View job) = ⊤

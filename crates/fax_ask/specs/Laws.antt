@@ -1,0 +1,23 @@
+-- What is proved of the definitions.
+use Rattle.std.specs.Prelude.{◌≡◌, ◌⊎◌, ℕ, List, false, Some}
+use Rattle.fax_job.specs.declared.refusal.Refusal.{Refusal}
+use Rattle.fax_job.specs.declared.refusal.Refusal.TheVariants.{Unavailable}
+use Rattle.fax_job.specs.Spells.{has_byte}
+use Rattle.fax_core.specs.Reply.{Keys}
+use Rattle.fax_ask.specs.declared.method.Method.{Method}
+use Rattle.fax_ask.specs.declared.request.Request.{Request}
+use Rattle.fax_ask.specs.Answer.{Told}
+use Rattle.fax_ask.specs.Request.{request_of}
+use Rattle.fax_ask.specs.Response.{accepted_response, refused_response}
+
+-- a path that names a request has no LF
+abbrev pub RoutedPathsLackLf : Type 0
+RoutedPathsLackLf = (method : Method) (path : List ℕ) (request : Request) → request_of method path ≡ Some request → has_byte 10 path ≡ false
+
+-- an accepted request is answered with 200 or 201
+abbrev pub AcceptedAre200Or201 : Type 0
+AcceptedAre200Or201 = (told : Told) → ((accepted_response told).status ≡ 200) ⊎ ((accepted_response told).status ≡ 201)
+
+-- a refused request is answered with 503 for want of memory or of the store alone
+abbrev pub OnlyUnavailableIs503 : Type 0
+OnlyUnavailableIs503 = (refusal : Refusal) (keys : Keys) → (refused_response refusal keys).status ≡ 503 → refusal ≡ Unavailable

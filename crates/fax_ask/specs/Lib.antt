@@ -1,0 +1,9 @@
+pub mod Method
+pub mod Path
+pub mod Request
+pub mod Ask
+pub mod Answer
+pub mod Detail
+pub mod Response
+pub mod ReplyBody
+pub mod Laws

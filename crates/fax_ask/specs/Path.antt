@@ -1,0 +1,13 @@
+-- Paths, and the texts between their slashes.
+use Rattle.std.specs.Prelude.{ℕ, List, [], ◌∷◌, ◌==◌, Option, Some, None, if◌then◌else◌}
+use Rattle.fax_job.specs.Reading.{onto}
+
+-- RFC 3986, section 3.3: `/` divides a path into texts, which may be empty
+abbrev pub parts : List ℕ → List (List ℕ)
+parts [] = [] ∷ []
+parts (byte ∷ bytes) = if byte == 47 then [] ∷ parts bytes else onto byte (parts bytes)
+
+-- the texts of what is left of a path, if something is
+abbrev pub parts_left : Option (List ℕ) → List (List ℕ)
+parts_left None = []
+parts_left (Some rest) = parts rest

@@ -1,0 +1,43 @@
+-- The table of requests: which method and path name which.
+use Rattle.std.specs.Prelude.{ℕ, List, [], ◌∷◌, ◌==◌, length, codes, Option, Some, None, option_and_then, if◌then◌else◌}
+use Rattle.std.specs.Str.{bytes_eq}
+use Rattle.fax_job.specs.Number.{request_number_of}
+use Rattle.fax_ask.specs.declared.method.Method.{Method}
+use Rattle.fax_ask.specs.declared.method.Method.TheVariants.{Get, Post}
+use Rattle.fax_ask.specs.declared.request.Request.{Request}
+use Rattle.fax_ask.specs.declared.request.Request.TheVariants.{Submit, Suspend, Resume, Kill, Alter, Show}
+use Rattle.fax_ask.specs.Path.{parts}
+
+-- POST /jobs/{id}/ACTION
+abbrev pub job_action : ℕ → List ℕ → Option Request
+job_action job action =
+    if bytes_eq action (codes "suspend") then Some (Suspend job)
+    else if bytes_eq action (codes "resume") then Some (Resume job)
+    else if bytes_eq action (codes "kill") then Some (Kill job)
+    else if bytes_eq action (codes "alter") then Some (Alter job)
+    else None
+
+-- GET /jobs/{id}, and what is posted below it
+abbrev pub job_request : Method → ℕ → List (List ℕ) → Option Request
+job_request Get job [] = Some (Show job)
+job_request Post job (action ∷ []) = job_action job action
+job_request method job rest = None
+
+-- POST /jobs, and what stands below; {id} is 1 to 18 digits, the first not 0
+abbrev pub jobs_request : Method → List (List ℕ) → Option Request
+jobs_request Post [] = Some Submit
+jobs_request method (id ∷ rest) = option_and_then (λ job. job_request method job rest) (request_number_of id)
+jobs_request method [] = None
+
+abbrev pub root_request : Method → List (List ℕ) → Option Request
+root_request method (collection ∷ rest) = if bytes_eq collection (codes "jobs") then jobs_request method rest else None
+root_request method [] = None
+
+-- a path begins with `/`
+abbrev pub path_request : Method → List (List ℕ) → Option Request
+path_request method (lead ∷ rest) = if length lead == 0 then root_request method rest else None
+path_request method [] = None
+
+-- the request that a method and a path name, if they name one
+unfoldable pub request_of : Method → List ℕ → Option Request
+request_of method path = path_request method (parts path)

@@ -1,0 +1,82 @@
+//! What is asked for, from method, path and body.
+
+ghost use Rattle.std.specs.Prelude.{◌≡◌, IfOk, IfErr};
+ghost use Rattle.fax_job.specs.Alter.{alter_of};
+ghost use Rattle.fax_job.specs.Order.{order_of};
+ghost use Rattle.fax_core.specs.Ask.{HasLimits as HasOrderLimits};
+ghost use Rattle.fax_ask.specs.Ask.{asked, Asks, HasLimits, States, IsAsk, IsBodyRefusal, IsLawful, IsLinesRefusal, IsRefused};
+
+use crate::method::Method;
+use crate::request::Request;
+use fax_job::{Alter, Order, Refusal, read_lines};
+use std::alloc::Global;
+
+/// What is asked for. The numbers of jobs are as they were written: from 1, and of 18 digits at most.
+#[derive(Debug, Drop)]
+pub enum Ask {
+    Submission(Order),
+    Suspend { job: u64 },
+    Resume { job: u64 },
+    Kill { job: u64 },
+    Alteration { job: u64, alter: Alter },
+    /// The key lines of a job.
+    Show { job: u64 },
+}
+
+/// What a method, a path and a body ask for.
+///
+/// # Errors
+///
+/// `NoRoute` exactly where method and path name no request; else `BadBody` with the body's first fault,
+/// that of a line before that of an order or an alteration; `Unavailable` where memory runs out. A body
+/// that the request doesn't need isn't looked at.
+pub fn read_ask(alloc: Global, method: Method, path: &str, body: &[u8]) -> Result<Ask, Refusal>
+    ensures ask { IfOk result (λ ask. IsAsk method path.now body.now (asked ask)) }
+    ensures refused { IfErr result (IsRefused method path.now body.now) }
+    // What the queue relies on: pages, tries and dials are there, and limits are kept.
+    ensures lawful { IfOk result (λ ask. IsLawful (asked ask)) }
+{
+    match Request::named(method, path) {
+        Some(request) => read_body(alloc, request, body),
+        None => Err(Refusal::NoRoute),
+    }
+}
+
+/// What a request with this body asks for.
+fn read_body(alloc: Global, request: Request, body: &[u8]) -> Result<Ask, Refusal>
+    ensures ask { IfOk result (λ ask. Asks request body.now (asked ask)) }
+    ensures refused { IfErr result (IsBodyRefusal request body.now) }
+    ensures lawful { IfOk result (λ ask. IsLawful (asked ask)) }
+{
+    match request {
+        Request::Submit => Ok(Ask::Submission(read_order(alloc, body)?)),
+        Request::Suspend { job } => Ok(Ask::Suspend { job }),
+        Request::Resume { job } => Ok(Ask::Resume { job }),
+        Request::Kill { job } => Ok(Ask::Kill { job }),
+        Request::Alter { job } => {
+            let alter = read_alter(alloc, body)?;
+            Ok(Ask::Alteration { job, alter })
+        }
+        Request::Show { job } => Ok(Ask::Show { job }),
+    }
+}
+
+/// The order that a body of key lines states.
+fn read_order(alloc: Global, body: &[u8]) -> Result<Order, Refusal>
+    ensures order { IfOk result (States order_of body.now) }
+    ensures refused { IfErr result (IsLinesRefusal order_of body.now) }
+    ensures limits { IfOk result HasOrderLimits }
+{
+    let lines = read_lines(alloc, body)?;
+    Ok(lines.to_order(alloc)?)
+}
+
+/// The alteration that a body of key lines states.
+fn read_alter(alloc: Global, body: &[u8]) -> Result<Alter, Refusal>
+    ensures alter { IfOk result (States alter_of body.now) }
+    ensures refused { IfErr result (IsLinesRefusal alter_of body.now) }
+    ensures limits { IfOk result HasLimits }
+{
+    let lines = read_lines(alloc, body)?;
+    Ok(lines.to_alter(alloc)?)
+}

@@ -1,0 +1,17 @@
+//! Laws of the definitions.
+//!
+//! Each function here does nothing: its contract is the law. The statements stand in `specs/Laws.antt`.
+
+ghost use Rattle.fax_ask.specs.Laws.{AcceptedAre200Or201, OnlyUnavailableIs503, RoutedPathsLackLf};
+
+/// A path that names a request has no LF. So a path, LF and a body tell one request from another.
+pub fn paths()
+    ensures { RoutedPathsLackLf }
+{}
+
+/// An accepted request is answered with 200 or 201, and a refused one with 503 only where memory or the
+/// store gave out. So a reply of 503 says that the request was as good as lost.
+pub fn statuses()
+    ensures accepted { AcceptedAre200Or201 }
+    ensures unavailable { OnlyUnavailableIs503 }
+{}

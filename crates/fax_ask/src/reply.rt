@@ -1,0 +1,169 @@
+//! Replies: a status, what kind of body they have, and the body's bytes.
+
+ghost use Rattle.std.specs.Prelude.{◌≡◌, IfOk, false, true};
+ghost use Rattle.fax_ask.specs.Answer.{told};
+ghost use Rattle.fax_ask.specs.Detail.{has_detail, keys_in, refusal_in};
+ghost use Rattle.fax_ask.specs.ReplyBody.{body_bytes, body_is_json};
+ghost use Rattle.fax_ask.specs.Response.{accepted_response, refused_body, refused_response};
+ghost use Rattle.fax_core.specs.Reply.{NoKeys};
+
+use crate::answer::Answer;
+use crate::detail::Detail;
+use crate::spelling::{
+    ShortText, called_text, confirmed_text, fault_text, given_text, held_text, marked_text,
+    page_order_text, refusal_text, rejected_text, stands_text, submitted_text,
+};
+use fax_job::Refusal;
+use std::alloc::{AllocError, Global};
+use std::marker::Model;
+
+/// The answer to one request.
+#[derive(Debug, Drop)]
+pub struct Reply {
+    status: u16,
+    body: Body,
+}
+
+/// A body: JSON in room of its own or in memory, or key lines.
+#[derive(Debug, Drop)]
+enum Body {
+    Short(ShortText),
+    Made(String),
+    Lines(Vec<u8>),
+}
+
+impl Model for Reply {
+    ghost use Rattle.fax_ask.specs.Response.{Response};
+
+    ghost Value = { Response };
+
+    ghost use Rattle.fax_ask.specs.ReplyBody.{body_bytes, body_is_json};
+
+    ghost view = { λ r. record { status = r.status; is_json = body_is_json r.body; body = body_bytes r.body } };
+}
+
+/// Whether a refusal says more than its number and word, so that its reply wants a [`Detail`].
+pub fn has_detail(refusal: Refusal) -> bool
+    ensures { result ≡ has_detail refusal }
+{
+    matches!(
+        refusal,
+        Refusal::BadBody(_) | Refusal::Rejected | Refusal::ModemBusy | Refusal::PageOrder
+    )
+}
+
+impl Reply {
+    /// The reply to an accepted request: status 201 where a job was made, else 200.
+    pub fn accepted(alloc: Global, answer: &Answer<'_>) -> Result<Reply, AllocError>
+        ensures { IfOk result (λ reply. reply ≡ accepted_response (told answer.now)) }
+    {
+        let body = accepted_body(alloc, answer)?;
+        Ok(Reply {
+            status: accepted_status(answer),
+            body,
+        })
+    }
+
+    /// The reply to a refused request. It takes no memory.
+    pub fn refused(refusal: Refusal) -> Reply
+        requires { has_detail refusal ≡ false }
+        ensures { result ≡ refused_response refusal NoKeys }
+    {
+        Reply {
+            status: refusal.status(),
+            body: Body::Short(refusal_text(refusal)),
+        }
+    }
+
+    /// The reply to a refused request of which more is told.
+    pub fn refused_with(alloc: Global, detail: &Detail<'_>) -> Result<Reply, AllocError>
+        ensures { IfOk result (λ reply. reply ≡ refused_response (refusal_in detail.now) (keys_in detail.now)) }
+    {
+        let body = refused_body(alloc, detail)?;
+        Ok(Reply {
+            status: refusal_of(detail).status(),
+            body,
+        })
+    }
+
+    /// The status code (RFC 9110, section 15).
+    pub fn status(&self) -> u16
+        ensures { result ≡ self.now.status }
+    {
+        self.status
+    }
+
+    /// Whether the body is JSON (RFC 8259). Else it is key lines.
+    pub fn is_json(&self) -> bool
+        ensures { result ≡ self.now.is_json }
+    {
+        match &self.body {
+            Body::Short(_) | Body::Made(_) => true,
+            Body::Lines(_) => false,
+        }
+    }
+
+    /// The bytes of the body.
+    pub fn body(&self) -> &[u8]
+        ensures { result.now ≡ self.now.body }
+    {
+        match &self.body {
+            Body::Short(text) => text.as_str().as_bytes(),
+            Body::Made(text) => text.as_bytes(),
+            Body::Lines(bytes) => bytes.as_slice(),
+        }
+    }
+}
+
+fn accepted_status(answer: &Answer<'_>) -> u16
+    ensures { result ≡ (accepted_response (told answer.now)).status }
+{
+    match answer {
+        Answer::Submitted { job: _ } => 201,
+        _ => 200,
+    }
+}
+
+fn accepted_body(alloc: Global, answer: &Answer<'_>) -> Result<Body, AllocError>
+    ensures bytes { IfOk result (λ body. body_bytes body ≡ (accepted_response (told answer.now)).body) }
+    ensures kind { IfOk result (λ body. body_is_json body ≡ (accepted_response (told answer.now)).is_json) }
+{
+    let text = match answer {
+        Answer::Submitted { job } => submitted_text(alloc, *job)?,
+        Answer::Stands { job, state } => stands_text(alloc, *job, *state)?,
+        Answer::Marked { down } => marked_text(alloc, *down)?,
+        Answer::NoneToSend => String::from_str(alloc, "{\"grant\":0}")?,
+        Answer::Given(handed) => given_text(alloc, handed)?,
+        Answer::Called { stop } => called_text(alloc, *stop)?,
+        Answer::Confirmed { npages, stop } => confirmed_text(alloc, *npages, *stop)?,
+        Answer::Lines(bytes) => return Ok(Body::Lines(Vec::from_slice(alloc, bytes)?)),
+    };
+    Ok(Body::Made(text))
+}
+
+fn refusal_of(detail: &Detail<'_>) -> Refusal
+    ensures { result ≡ refusal_in detail.now }
+{
+    match detail {
+        Detail::Body(fault) => Refusal::BadBody(*fault),
+        Detail::Rejected { notice: _ } => Refusal::Rejected,
+        Detail::Held {
+            called: _,
+            handed: _,
+        } => Refusal::ModemBusy,
+        Detail::PageOrder { npages: _ } => Refusal::PageOrder,
+    }
+}
+
+fn refused_body(alloc: Global, detail: &Detail<'_>) -> Result<Body, AllocError>
+    ensures bytes { IfOk result (λ body. body_bytes body ≡ refused_body (refusal_in detail.now) (keys_in detail.now)) }
+    ensures kind { IfOk result (λ body. body_is_json body ≡ true) }
+{
+    let text = match detail {
+        Detail::Body(fault) => return Ok(Body::Short(fault_text(*fault))),
+        Detail::Rejected { notice } => rejected_text(alloc, notice)?,
+        Detail::Held { called, handed } => held_text(alloc, *called, handed)?,
+        Detail::PageOrder { npages } => page_order_text(alloc, *npages)?,
+    };
+    Ok(Body::Made(text))
+}
