@@ -25,7 +25,7 @@ truth_of false = refl
 abbrev pub are_equal : Value → Value → Bool
 are_equal a b = is_true (binary (Compare Eq Binary) a b)
 
-compared : (op : CompareOp) (a b : Value) → is_null a ≡ false → is_null b ≡ false → is_true (binary (Compare op Binary) a b) ≡ test op (value_cmp a b)
+pub compared : (op : CompareOp) (a b : Value) → is_null a ≡ false → is_null b ≡ false → is_true (binary (Compare op Binary) a b) ≡ test op (value_cmp a b)
 unfolding binary
 compared op a b p q = rw (p, q) (truth_of (test op (value_cmp a b)))
 

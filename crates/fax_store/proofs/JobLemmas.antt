@@ -1,25 +1,16 @@
 -- What the texts on jobs read and write.
-use Rattle.std.proofs.Common.{◌≡◌, inl, inr, ℕ, zero, suc, pos, ◌+◌, ◌-◌, ◌≤◌, List, [], ◌∷◌, ◌++◌, map, All, arith, Bool, true, false, not, ◌&&◌, ◌||◌, Option, Some, None, refl, sym, ap, ap₂, subst, ◌∙◌}
-use Rattle.std.specs.Prelude.{find, ◌==◌, nat_lt}
+use Rattle.std.proofs.Common.{◌≡◌, ℕ, zero, suc, pos, ◌+◌, ◌-◌, ◌≤◌, List, [], ◌∷◌, ◌++◌, map, arith, Bool, false, Option, refl, sym, ap, ap₂, subst, ◌∙◌}
 use Rattle.std.specs.Option.{option_map}
 use Rattle.std.specs.List.{range_with_len}
-use Rattle.std.proofs.lemmas.List.Elements.{All-cons}
 use Rattle.std.proofs.lemmas.List.FromFn.{length-range_with_len}
-use Rattle.std.specs.Ordering.{is_eq, int_cmp}
-use Rattle.std.specs.declared.cmp.Ordering.{Ordering}
-use Rattle.std.specs.declared.cmp.Ordering.TheVariants.{Less, Equal, Greater}
-use Rattle.std.proofs.lemmas.Bool.{cases_Bool}
-use Rattle.std.proofs.lemmas.Bool.Decides.{nat_tests}
 use Rattle.sqlite.specs.Order.{Row}
 use Rattle.sqlite.specs.State.{State, IsUnchanged}
-use Rattle.sqlite.specs.Tree.{rowid, put_row}
+use Rattle.sqlite.specs.Tree.{put_row}
 use Rattle.sqlite.specs.Cast.{cast_row}
 use Rattle.sqlite.specs.Edit.{is_taken, with_rowid}
 use Rattle.sqlite.specs.Rowids.TheVariants.{Chosen}
 use Rattle.sqlite.specs.Listing.{understood}
 use Rattle.sqlite.proofs.Callers.{IsPlain, runs_as, reads_as}
-use Rattle.sqlite_value.specs.Order.{value_cmp}
-use Rattle.sqlite_value.proofs.OrderLemmas.{value_cmp-Int}
 use Rattle.fax_core.specs.Job.{Job, job_of, fields_of, pages_to, HasPages}
 use Rattle.fax_core.specs.Queue.{Queue, Entry, job_numbered, open_grants}
 use Rattle.fax_job.specs.Job.{IsLawful}
@@ -32,7 +23,7 @@ use Rattle.fax_store.specs.Job.{IsFormed, IsLawfulJob, job_shown, placed, with_p
 use Rattle.fax_store.specs.Tables.{TablesMean, IsByRowid}
 use Rattle.fax_store.specs.Store.{FindsRow, HasRun}
 use Rattle.fax_store.proofs.CompareLemmas.{same_row, cast_int, cast_null}
-use Rattle.fax_store.proofs.KeyLemmas.{numbered_found}
+use Rattle.fax_store.proofs.KeyLemmas.{numbered_found, free_of, row_placed, all_placed}
 use Rattle.fax_store.proofs.TablesLemmas.{AreRecords, row_of, parts_of, means_of, jobs_changed, by_rowid_put}
 use Rattle.fax_store.proofs.RowLemmas.{sent_low}
 use Rattle.fax_store.proofs.WriteLemmas.{KeepsOthers, InsertsRow, unreferred, inserts}
@@ -60,30 +51,6 @@ module _ (n : ℕ) where
 
 -- ---- one more row
 
--- a row whose rowid is not taken stands in its place among those of jobs
-row_placed : (j : Job) (jobs : List Job) → is_taken (map row_of jobs) (row_of j) ≡ false → put_row (row_of j) (map row_of jobs) ≡ map row_of (placed j jobs)
-row_placed j [] free = refl
-row_placed j (x ∷ xs) free = by (int_cmp (pos x.number) (pos j.number)) refl (row_placed j xs parts.1)
-  where
-    both : (a b : Bool) → (a || b) ≡ false → (a ≡ false) × (b ≡ false)
-    both false b h = (refl, h)
-    both true b h = absurd (let no = h in cc)
-
-    parts : (is_eq (value_cmp (rowid (row_of x)) (rowid (row_of j))) ≡ false) × (is_taken (map row_of xs) (row_of j) ≡ false)
-    parts = both _ _ free
-
-    compare : value_cmp (rowid (row_of x)) (rowid (row_of j)) ≡ int_cmp (pos x.number) (pos j.number)
-    compare = value_cmp-Int (pos x.number) (pos j.number)
-
-    by : (o : Ordering) → int_cmp (pos x.number) (pos j.number) ≡ o → put_row (row_of j) (map row_of xs) ≡ map row_of (placed j xs) → put_row (row_of j) (map row_of (x ∷ xs)) ≡ map row_of (placed j (x ∷ xs))
-    by Less e rest =
-        let below : nat_lt x.number j.number ≡ true = grind (arith, nat_tests) in
-        rw (compare, e, below) (ap (λ rows. row_of x ∷ rows) rest)
-    by Equal e rest = absurd (let no = rw (compare, e) at parts.0 in cc)
-    by Greater e rest =
-        let above : nat_lt x.number j.number ≡ false = grind (arith, nat_tests) in
-        rw (compare, e, above) refl
-
 -- a record of code is what its job is written as
 pub fields_back : (f : JobFields) → fields_of (job_of f) ≡ f
 fields_back f = ap (λ n. record f { npages = n }) (length-range_with_len 1 f.npages)
@@ -110,13 +77,6 @@ stored_job f =
     (same_row (n _) (same_row (n _) (same_row (n _) (same_row (n _) (same_row (n _) (same_row (n _) (same_row (n _) (same_row (n _)
     (same_row (n _) (same_row (n _) (same_row (n _) (same_row (n _) (same_row (n _) (same_row (n _) refl))))))))))))))))))))
 
-all_placed : (P : Job → Type 0) (j : Job) (jobs : List Job) → P j → All P jobs → All P (placed j jobs)
-all_placed P j [] own all = All-cons P j [] own all
-all_placed P j (x ∷ xs) own all = elim (cases_Bool (nat_lt x.number j.number)) [
-  | inl below ↦ rw below (All-cons P x (placed j xs) (all 0 x (omega arith)) (all_placed P j xs own (λ i d low. all (suc i) d (omega arith))))
-  | inr above ↦ rw above (All-cons P j (x ∷ xs) own all)
-]
-
 module _ (old new : State) (m : Queue) (k : List Entry) (means : TablesMean old.now m k) (f : JobFields) where
   inserted : HasRun INSERT_JOB.now (job_shown f) old new → InsertsRow six_tables 0 old new (job_row f)
   inserted h =
@@ -130,21 +90,13 @@ module _ (old new : State) (m : Queue) (k : List Entry) (means : TablesMean old.
       let order = means.ordered.jobs in
       let row : row_of (job_of f) ≡ job_row f = ap job_row (fields_back f) in
       let free : is_taken (map row_of m.jobs) (row_of (job_of f)) ≡ false =
-      subst (λ r. is_taken (map row_of m.jobs) r ≡ false) (sym row) (subst (λ rows. is_taken rows (job_row f) ≡ false) means.jobs (not_true _ (first _ _ done.fresh))) in
+      subst (λ r. is_taken (map row_of m.jobs) r ≡ false) (sym row) (subst (λ rows. is_taken rows (job_row f) ≡ false) means.jobs (free_of (old.now.trees 0) (job_row f) done.fresh)) in
       let now : AreRecords row_of IsLawfulJob (new.now.trees 0) (placed (job_of f) m.jobs) = record {
-        is = done.rows ∙ ap₂ put_row (sym row) means.jobs ∙ row_placed (job_of f) m.jobs free;
+        is = done.rows ∙ ap₂ put_row (sym row) means.jobs ∙ row_placed row_of (λ (j : Job). j.number) (λ j. refl) placed (λ j. refl) (λ j x xs. refl) (job_of f) m.jobs free;
         ordered = subst IsByRowid (sym done.rows) (by_rowid_put (job_row f) (old.now.trees 0) refl order);
-        lawful = all_placed IsLawfulJob (job_of f) m.jobs lawful means.lawful.jobs;
+        lawful = all_placed row_of (λ (j : Job). j.number) (λ j. refl) placed (λ j. refl) (λ j x xs. refl) IsLawfulJob (job_of f) m.jobs lawful means.lawful.jobs;
       } in
       (means_of new.now (with_placed (job_of f) m) k (jobs_changed old new m (open_grants m) k (parts_of old.now m k means) done.keeps (placed (job_of f) m.jobs) now), done.keeps)
-    where
-      first : (a b : Bool) → (a && b) ≡ true → a ≡ true
-      first true b h = refl
-      first false b h = h
-
-      not_true : (a : Bool) → not a ≡ true → a ≡ false
-      not_true false h = refl
-      not_true true h = absurd (let no = h in cc)
 
 -- the job of a lawful record
 pub lawful_of_fields : (f : JobFields) → IsLawful f → IsFormed f → IsLawfulJob (job_of f)
@@ -153,26 +105,3 @@ lawful_of_fields f limits formed = record {
   limits = subst IsLawful (sym (fields_back f)) limits;
   pages = pages_of f (sent_low f limits);
 }
-
--- ---- what a found row tells
-
-pub is_there : (o : Option Job) (row : Row) → Some row ≡ option_map (λ j. job_shown (fields_of j)) o → (j : Job) × (o ≡ Some j) × (row ≡ job_shown (fields_of j))
-is_there None row h = absurd cc
-is_there (Some j) row h = (j, refl, same h)
-  where
-    same : {X : Type 0} {a b : X} → ◌≡◌ {A = Option X} (Some a) (Some b) → a ≡ b
-    same h = cc
-
-pub is_none : (o : Option Job) → None ≡ option_map (λ j. job_shown (fields_of j)) o → o ≡ None
-is_none None h = refl
-is_none (Some j) h = absurd cc
-
-pub lawful_numbered : (jobs : List Job) (n : ℕ) (j : Job) → All IsLawfulJob jobs → find (λ x. x.number == n) jobs ≡ Some j → IsLawfulJob j
-lawful_numbered [] n j all h = absurd cc
-lawful_numbered (x ∷ xs) n j all h = elim (cases_Bool (x.number == n)) [
-  | inl here ↦ subst IsLawfulJob (same (rw here at h)) (all 0 x (omega arith))
-  | inr off ↦ lawful_numbered xs n j (λ i d low. all (suc i) d (omega arith)) (rw off at h)
-]
-  where
-    same : {X : Type 0} {a b : X} → ◌≡◌ {A = Option X} (Some a) (Some b) → a ≡ b
-    same h = cc

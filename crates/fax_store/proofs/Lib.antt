@@ -20,3 +20,10 @@ pub mod KeyLemmas
 pub mod TablesLemmas
 pub mod UpdateLemmas
 pub mod ChangeLemmas
+pub mod ColumnLemmas
+pub mod ModemTexts
+pub mod ModemLemmas
+pub mod GrantTexts
+pub mod GrantLemmas
+pub mod HoldLemmas
+pub mod GrantWriteLemmas

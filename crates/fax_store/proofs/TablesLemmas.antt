@@ -70,6 +70,20 @@ pub record Parts (db : Database) (m : Queue) (held : List Grant) (k : List Entry
   pub meta : db.trees 10 ≡ meta_row m ∷ []
   pub lawful : IsLawfulMeta m
 
+-- other grants whose triples are those that stand there
+pub held_as : (db : Database) (m : Queue) (held others : List Grant) (k : List Entry) → AreHeld (db.trees 2) others → Parts db m held k → Parts db m others k
+held_as db m held others k holds parts = record {
+  schema = parts.schema;
+  sound = parts.sound;
+  jobs = parts.jobs;
+  grants = parts.grants;
+  holds = holds;
+  down = parts.down;
+  replies = parts.replies;
+  meta = parts.meta;
+  lawful = parts.lawful;
+}
+
 pub parts_of : (db : Database) (m : Queue) (k : List Entry) → TablesMean db m k → Parts db m (open_grants m) k
 parts_of db m k means = record {
   schema = means.schema;

@@ -1,5 +1,5 @@
 -- Texts that are read back as they were written.
-use Rattle.std.proofs.Common.{◌≡◌, ℕ, Bool, true, false, not, ◌&&◌, leb, List, [], ◌∷◌, length, filter, Result, Ok, Err, IsTrue, refl, ap, arith, inl, inr}
+use Rattle.std.proofs.Common.{◌≡◌, ℕ, Bool, true, false, not, ◌&&◌, leb, List, [], ◌∷◌, length, filter, Result, Ok, Err, IsTrue, refl, ap, arith, inl, inr, zero, suc, ◌<◌}
 use Rattle.std.specs.Prelude.{⊤}
 use Rattle.std.specs.Bool.{MatchBool}
 use Rattle.std.proofs.lemmas.Bool.{and_parts, cases_Bool}
@@ -7,7 +7,11 @@ use Rattle.std.proofs.lemmas.Bool.Decides.{nat_tests}
 use Rattle.std.specs.List.{list_all}
 use Rattle.std.specs.Prelude.{◌==◌}
 use Rattle.fax_job.specs.Dial.{is_key, is_separator, are_keys, is_canonical, IsCanonical, without_separators, dial_of}
+use Rattle.fax_job.specs.Name.{IsName, is_name_byte}
 use Rattle.fax_job.specs.Pair.{Pair, ArePairs}
+use Rattle.fax_store.specs.Job.{IsText}
+use Rattle.std.specs.Str.{IsAscii}
+use Rattle.std.proofs.lemmas.Str.{IsUtf8-from_ascii}
 use Rattle.fax_job.specs.Spelling.{printed}
 use Rattle.fax_job.specs.Reading.{is_no_memory}
 use Rattle.fax_job.specs.Spells.{Spells}
@@ -40,6 +44,21 @@ canonical_stays (b ∷ bs) h = elim (cases_Bool (b == 43)) [
 -- a canonical number is what it spells
 pub dial_kept : (text : List ℕ) → IsCanonical text → dial_of text ≡ Ok text
 dial_kept text h = rw (canonical_stays text h, h) refl
+
+-- a name is ASCII
+name_byte_small : (b : ℕ) → is_name_byte b ≡ true → b < 128
+name_byte_small b h = grind (arith, nat_tests)
+
+name_bytes_small : (bs : List ℕ) → list_all is_name_byte bs ≡ true → IsAscii bs
+name_bytes_small [] h i = omega arith
+name_bytes_small (b ∷ bs) h zero = name_byte_small b (and_parts (is_name_byte b) (list_all is_name_byte bs) h).0
+name_bytes_small (b ∷ bs) h (suc i) = name_bytes_small bs (and_parts (is_name_byte b) (list_all is_name_byte bs) h).1 i
+
+pub name_text : (text : List ℕ) → IsName text → IsText IsName text
+name_text text h = record {
+  formed = h;
+  utf8 = IsUtf8-from_ascii text (name_bytes_small text (and_parts (leb 1 (length text) && leb (length text) 32) (list_all is_name_byte text) h).1);
+}
 
 -- and lines are what their printed spelling spells
 pub lines_kept : (lines : List Pair) → ArePairs lines → Spells (printed lines) lines

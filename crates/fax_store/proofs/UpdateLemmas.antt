@@ -1,5 +1,5 @@
 -- What an UPDATE and a DELETE of rows of one of the six tables leave of it.
-use Rattle.std.proofs.Common.{◌≡◌, ℕ, List, [], map, filter, drop, not, true, false, Option, Some, None, slice_get, subst, sym, ◌∙◌}
+use Rattle.std.proofs.Common.{◌≡◌, ℕ, List, [], ◌∷◌, map, filter, drop, not, true, false, Option, Some, None, slice_get, subst, sym, ◌∙◌}
 use Rattle.sqlite.specs.Cast.{cast_row}
 use Rattle.sqlite.specs.Command.TheVariants.{Update, Delete}
 use Rattle.sqlite.specs.Order.{Row}
@@ -9,7 +9,7 @@ use Rattle.sqlite.specs.Tree.{rowid}
 use Rattle.sqlite_rules.specs.Lists.{Has}
 use Rattle.sqlite_schema.specs.declared.program.Program.{Program}
 use Rattle.sqlite_schema.specs.declared.schema.Column.{Column}
-use Rattle.sqlite_sql.specs.Term.{Term}
+use Rattle.sqlite_sql.specs.Term.{Term, col}
 use Rattle.sqlite_value.specs.declared.keys.Order.{Order}
 use Rattle.fax_store.specs.Schema.{table_of, six_tables}
 use Rattle.fax_store.specs.Tables.{IsByRowid}
@@ -21,6 +21,10 @@ use Rattle.fax_store.proofs.WriteLemmas.{KeepsOthers, unreferred, updates, delet
 -- the query of the rows that an UPDATE or a DELETE is of
 abbrev pub program_of : ℕ → List Term → List Term → Program
 program_of tree tests project = record { lets = []; body = rows_where tree tests project }
+
+-- a DELETE shows the rowids alone
+abbrev pub gone_project : List Term
+gone_project = col 1 0 ∷ []
 
 module _ (name : List ℕ) (tree : ℕ) (columns : List Column) (key : Option ℕ) (primary : List ℕ) (uniques : List (List ℕ)) (orders : List Order) (checks : List Term) (at : ℕ)
     (found : slice_get six_tables.tables at ≡ Some (table_of name tree columns key primary uniques orders checks)) (old new : State) (has : old.now.schema ≡ six_tables) (plain : overlay old.now.trees [] tree ≡ old.now.trees tree)

@@ -153,3 +153,39 @@ steps_where old new {A} P result f g moves m₀ m k₀ k holds works s = after r
     after : (r : Result A StoreFault) → Moves new r m₀ k₀ (f m) (g k) → IsUnderWay new (is_err r) m₀ k₀ (f m) (g k)
     after (Ok a) h = h
     after (Err e) h = record { began = h; goes_on = λ on. absurd cc }
+
+-- a step that was refused leaves the last commit
+pub refused_step : (old new : State) {A : Type 0} (result : Result A StoreFault) (fault : StoreFault) (m₀ m after : Queue) (k₀ k kept : List Entry) → (Serves new → Serves old) → Works old false m₀ k₀ m k → Serves new → LeavesCommit old new
+    → IsErrAnd result (λ e. e ≡ fault) → fault ≡ Unavailable → Steps new result m₀ k₀ after kept
+refused_step old new (Ok a) fault m₀ m after k₀ k kept served works s left is why = absurd is
+refused_step old new (Err e) fault m₀ m after k₀ k kept served works s left is why = (is ∙ why, committed left)
+  where
+    committed : LeavesCommit old new → TablesMean new.committed m₀ k₀
+    committed (inl same) = same_tables m₀ k₀ same.0.committed_is (works (served s)).began
+    committed (inr undone) = same_tables m₀ k₀ (undone.undone s.is_open).1 (works (served s)).began
+
+-- Two statements that write rows of one table each are a step of a work.
+pub two_steps : (old mid new : State) (first second : List ℕ) (params others : Row) (tree other : ℕ) (result : Result (Unit {0}) StoreFault) (m₀ m after : Queue) (k₀ k kept : List Entry) → (Serves mid → Serves old) → (Serves new → Serves mid)
+    → Works old false m₀ k₀ m k → Serves new → HasRun first params old mid → OnOk result (HasRun second others mid new) → OnErr result (LeavesCommit mid new) → IfErr result (λ fault. fault ≡ Unavailable)
+    → (TablesMean old.now m k → KeepsOthers six_tables tree old mid) → (TablesMean old.now m k → HasRun second others mid new → TablesMean new.now after kept × KeepsOthers six_tables other mid new) → Steps new result m₀ k₀ after kept
+two_steps old mid new first second params others tree other (Ok done) m₀ m after k₀ k kept was_mid was_new works s has ran left cause keeps does =
+    let was = works (was_mid (was_new s)) in
+    let inside = was.goes_on refl in
+    let before = (keeps inside.means).shown in
+    let did = does inside.means ran in
+    let shown = did.1.shown in
+    let still = before.mode ∙ inside.inside in record {
+      began = same_tables m₀ k₀ (shown.committed_is ∙ ap (λ b. if b then mid.committed else new.now) still ∙ before.committed_is ∙ ap (λ b. if b then old.committed else mid.now) inside.inside) was.began;
+      goes_on = λ _. record { inside = shown.mode ∙ still; means = did.0 };
+    }
+two_steps old mid new first second params others tree other (Err e) m₀ m after k₀ k kept was_mid was_new works s has ran left cause keeps does = (cause, committed left)
+  where
+    was : IsUnderWay old false m₀ k₀ m k
+    was = works (was_mid (was_new s))
+
+    between : mid.committed ≡ old.committed
+    between = let inside = was.goes_on refl in (keeps inside.means).shown.committed_is ∙ ap (λ b. if b then old.committed else mid.now) inside.inside
+
+    committed : LeavesCommit mid new → TablesMean new.committed m₀ k₀
+    committed (inl same) = same_tables m₀ k₀ (same.0.committed_is ∙ between) was.began
+    committed (inr undone) = same_tables m₀ k₀ ((undone.undone s.is_open).1 ∙ between) was.began

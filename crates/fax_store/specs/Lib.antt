@@ -7,3 +7,4 @@ pub mod Store
 pub mod Work
 pub mod Meta
 pub mod Kept
+pub mod Grant

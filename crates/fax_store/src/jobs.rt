@@ -9,7 +9,6 @@ ghost use Rattle.sqlite.specs.declared.types.Value.TheVariants.{Text};
 ghost use Rattle.fax_core.specs.Job.{job_of, fields_of};
 ghost use Rattle.fax_core.specs.Queue.{Queue, Entry, job_numbered};
 ghost use Rattle.fax_job.specs.Dial.{IsCanonical};
-ghost use Rattle.fax_job.specs.Name.{IsName};
 ghost use Rattle.fax_job.specs.Job.{is_lawful_killtime, IsLawful};
 ghost use Rattle.fax_job.specs.JobTag.{IsJobTag};
 ghost use Rattle.fax_job.specs.Pair.{Pair, ArePairs};
@@ -27,11 +26,11 @@ ghost use Rattle.fax_store.specs.Work.{Works, Keeps, Changes, ChangesWhere, Answ
 
 use crate::fault::StoreFault;
 use crate::meta::{Meta, PAST_JOBS};
-use crate::row::{moment_at, number_at, small_at, text_at};
+use crate::row::{moment_at, name_at, number_at, small_at, text_at};
 use crate::store::Store;
 use crate::work::Work;
 use fax_job::{
-    Dial, Job, JobFields, JobTag, Lines, Moment, Name, Phase, Status, Wish, read_lines, write_lines,
+    Dial, Job, JobFields, JobTag, Lines, Moment, Phase, Status, Wish, read_lines, write_lines,
 };
 use sqlite::{Alter, Row, params};
 use std::alloc::Global;
@@ -152,15 +151,6 @@ fn canonical(alloc: Global, text: &str) -> Result<Dial, StoreFault>
     } else {
         Err(StoreFault::Strange)
     }
-}
-
-/// The name in a column.
-fn name_at(alloc: Global, row: &Row, at: usize) -> Result<Name, StoreFault>
-    ensures { (text : List ℕ) → HasValue row.now at (Text text) → IsText IsName text
-        → OrUnavailable result (λ found. found ≡ text) }
-{
-    let text = text_at(row, at)?;
-    Ok(Name::read(alloc, text.as_str())?)
 }
 
 /// The client's tag in a column.

@@ -5,8 +5,10 @@
 #![tactic(auto)]
 
 mod fault;
+mod grants;
 mod jobs;
 mod meta;
+mod modems;
 mod replies;
 mod row;
 mod schema;
@@ -16,6 +18,7 @@ mod tests;
 mod work;
 
 pub use fault::StoreFault;
+pub use grants::Hold;
 pub use meta::Meta;
 pub use replies::Kept;
 pub use store::{MemoryStore, Store};

@@ -24,7 +24,7 @@ const UPDATE_META: &str =
 pub(crate) const PAST_JOBS: u32 = 1_000_000;
 
 /// One above the number of the last grant that there can be.
-const PAST_GRANTS: u32 = 1_000_000_000;
+pub(crate) const PAST_GRANTS: u32 = 1_000_000_000;
 
 /// The clock and the next numbers.
 #[derive(Clone, Copy, Debug, PartialEq, Eq)]

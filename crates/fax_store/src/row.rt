@@ -5,13 +5,16 @@ ghost use Rattle.std.specs.Str.{IsUtf8};
 ghost use Rattle.std.specs.String.{string_bytes};
 ghost use Rattle.sqlite.specs.declared.types.Value.TheVariants.{Text};
 ghost use Rattle.sqlite.specs.Order.{column};
+ghost use Rattle.fax_job.specs.Name.{IsName};
 ghost use Rattle.fax_store.specs.Fault.{OrUnavailable};
+ghost use Rattle.fax_store.specs.Job.{IsText};
 ghost use Rattle.fax_store.specs.Row.{HasValue, HasNumber};
 
 use crate::fault::StoreFault;
-use fax_job::Moment;
+use fax_job::{Moment, Name};
 use sqlite::types::FromSql;
 use sqlite::{Error, Row};
+use std::alloc::Global;
 
 /// The value in a column. One that does not read as `T` is strange.
 pub(crate) fn value_at<T: FromSql>(row: &Row, at: usize) -> Result<T, StoreFault>
@@ -62,4 +65,13 @@ pub(crate) fn moment_at(row: &Row, at: usize) -> Result<Moment, StoreFault>
     } else {
         Err(StoreFault::Strange)
     }
+}
+
+/// The name in a column.
+pub(crate) fn name_at(alloc: Global, row: &Row, at: usize) -> Result<Name, StoreFault>
+    ensures { (text : List ℕ) → HasValue row.now at (Text text) → IsText IsName text
+        → OrUnavailable result (λ found. found ≡ text) }
+{
+    let text = text_at(row, at)?;
+    Ok(Name::read(alloc, text.as_str())?)
 }

@@ -1,5 +1,6 @@
-use crate::{MemoryStore, Store, StoreFault};
-use fax_job::{Job, Lines, Moment, RequestNumber, read_lines, write_lines};
+use crate::{Hold, MemoryStore, Store, StoreFault};
+use fax_core::Grant;
+use fax_job::{Call, Job, Lines, Moment, Name, RequestNumber, read_lines, write_lines};
 use std::alloc::Global;
 use std::test::Fail;
 
@@ -159,6 +160,111 @@ fn expire_all_waits_for_the_kill_time(rt: HostRuntime) -> Result<(), Fail> {
     assert!(rt; stands(&mut store, 1)? == Some((fax_job::Phase::Waiting, 9)));
     expire(&mut store, 5000)?;
     assert!(rt; stands(&mut store, 1)? == Some((fax_job::Phase::Failed, 9)));
+    Ok(())
+}
+
+/// Marks a modem, or takes the mark away, and tells whether the work then has it as down.
+fn mark(store: &mut MemoryStore, modem: &str, down: bool) -> Result<bool, Fail> {
+    let mut work = store.begin()?;
+    work.set_down(modem, down)?;
+    let seen = work.is_down(modem)?;
+    work.commit()?;
+    Ok(seen)
+}
+
+#[test]
+fn modem_is_down_until_it_is_ready(rt: HostRuntime) -> Result<(), Fail> {
+    let mut store = Store::new_in_memory(rt.alloc())?;
+    assert!(rt; mark(&mut store, "ttyS0", true)?);
+    assert!(rt; mark(&mut store, "ttyS0", true)?);
+    assert!(rt; store.is_down("ttyS0")?);
+    assert!(rt; !store.is_down("ttyS1")?);
+    assert!(rt; !mark(&mut store, "ttyS0", false)?);
+    assert!(rt; !store.is_down("ttyS0")?);
+    Ok(())
+}
+
+/// An open grant of three pages of a job to a modem, of which no call is known.
+fn grant_of(alloc: Global, number: u32, job: u32, modem: &str) -> Result<Grant, Fail> {
+    Ok(Grant {
+        number,
+        job,
+        modem: Name::read(alloc, modem)?,
+        first_page: 1,
+        last_page: 3,
+        call: None,
+        confirmed: 0,
+        is_open: true,
+    })
+}
+
+/// Puts a grant, and tells the next number.
+fn put_grant(store: &mut MemoryStore, grant: &Grant) -> Result<u32, Fail> {
+    let mut work = store.begin()?;
+    work.put_grant(grant)?;
+    let meta = work.meta()?;
+    work.commit()?;
+    Ok(meta.next_grant)
+}
+
+#[test]
+fn put_grant_is_held_by_its_modem(rt: HostRuntime) -> Result<(), Fail> {
+    let mut store = Store::new_in_memory(rt.alloc())?;
+    let grant = grant_of(rt.alloc(), 1, 7, "ttyS0")?;
+    assert_eq!(rt; put_grant(&mut store, &grant)?, 2);
+    assert!(rt; store.hold_of("ttyS0")? == Some(Hold { grant: 1, job: 7 }));
+    assert!(rt; store.hold_of("ttyS1")?.is_none());
+    Ok(())
+}
+
+/// The call, the confirmed pages and the openness of a grant of the store.
+fn told(store: &mut MemoryStore, number: u32) -> Result<Option<(Option<Call>, u16, bool)>, Fail> {
+    let found = store.grant(number)?;
+    Ok(found.map(|grant| (grant.call, grant.confirmed, grant.is_open)))
+}
+
+/// Reports a call that connected and two pages.
+fn report(store: &mut MemoryStore, grant: Grant) -> Result<(), Fail> {
+    let grant = Grant {
+        call: Some(Call::Connected),
+        confirmed: 2,
+        ..grant
+    };
+    let mut work = store.begin()?;
+    work.put_report(&grant)?;
+    work.commit()?;
+    Ok(())
+}
+
+#[test]
+fn put_report_is_read_back(rt: HostRuntime) -> Result<(), Fail> {
+    let mut store = Store::new_in_memory(rt.alloc())?;
+    let grant = grant_of(rt.alloc(), 1, 7, "ttyS0")?;
+    put_grant(&mut store, &grant)?;
+    assert!(rt; told(&mut store, 1)? == Some((None, 0, true)));
+    report(&mut store, grant)?;
+    assert!(rt; told(&mut store, 1)? == Some((Some(Call::Connected), 2, true)));
+    assert!(rt; told(&mut store, 2)? == None);
+    Ok(())
+}
+
+/// Closes a grant.
+fn close(store: &mut MemoryStore, number: u32) -> Result<(), Fail> {
+    let mut work = store.begin()?;
+    work.close_grant(number)?;
+    work.commit()?;
+    Ok(())
+}
+
+#[test]
+fn closed_grant_is_held_no_more(rt: HostRuntime) -> Result<(), Fail> {
+    let mut store = Store::new_in_memory(rt.alloc())?;
+    put_grant(&mut store, &grant_of(rt.alloc(), 1, 7, "ttyS0")?)?;
+    put_grant(&mut store, &grant_of(rt.alloc(), 2, 8, "ttyS1")?)?;
+    close(&mut store, 1)?;
+    assert!(rt; told(&mut store, 1)? == Some((None, 0, false)));
+    assert!(rt; store.hold_of("ttyS0")?.is_none());
+    assert!(rt; store.hold_of("ttyS1")? == Some(Hold { grant: 2, job: 8 }));
     Ok(())
 }
 

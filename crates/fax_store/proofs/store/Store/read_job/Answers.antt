@@ -1,12 +1,15 @@
 use Rattle.std.proofs.Common.{◌≡◌, inl, Some, subst, sym, ap, ◌∙◌, rules}
 use Rattle.std.specs.Option.{option_map}
 use Rattle.sqlite.specs.Held.{state}
-use Rattle.fax_core.specs.Job.{fields_of}
+use Rattle.std.specs.Prelude.{◌==◌}
+use Rattle.fax_core.specs.Job.{Job, fields_of}
 use Rattle.fax_core.specs.Queue.{job_numbered}
 use Rattle.fax_store.specs.declared.fault.StoreFault.TheVariants.{Unavailable}
 use Rattle.fax_store.specs.declared.jobs.TheConstants.{SELECT_JOB}
+use Rattle.fax_store.specs.Job.{IsLawfulJob, job_shown}
 use Rattle.fax_store.specs.Store.{FindsRow}
-use Rattle.fax_store.proofs.JobLemmas.{params, job_found, job_unchanged, is_there, is_none, lawful_numbered}
+use Rattle.fax_store.proofs.JobLemmas.{params, job_found, job_unchanged}
+use Rattle.fax_store.proofs.KeyLemmas.{is_there, is_none, found_holds}
 use Rattle.fax_store.proofs.WorkLemmas.{answers_refused, err_is}
 use Rattle.fax_store.proofs.store.Store.read_job.Goals as goal
 
@@ -16,8 +19,8 @@ returns-in_err-job_in-in-Some-clause-answers g c m k means s =
     let new = state g.S.Store c.find.new.self.conn in
     let means_now = means (c.in_ok-row.ensures.served s) in
     let found : FindsRow SELECT_JOB.now (params c.args.job) old new c.in_ok-row.field-0 = subst (λ p. FindsRow SELECT_JOB.now p old new c.in_ok-row.field-0) (search rules) (c.in_ok-row.ensures.found s.clean) in
-    let it = is_there (job_numbered c.args.job m) _ (sym c.in-Some.is ∙ job_found c.args.job old new m k means_now c.in_ok-row.field-0 found) in
-    let lawful = lawful_numbered m.jobs c.args.job it.0 means_now.lawful.jobs it.1 in
+    let it = is_there (λ j. job_shown (fields_of j)) (job_numbered c.args.job m) _ (sym c.in-Some.is ∙ job_found c.args.job old new m k means_now c.in_ok-row.field-0 found) in
+    let lawful = found_holds IsLawfulJob (λ (j : Job). j.number == c.args.job) m.jobs it.0 means_now.lawful.jobs it.1 in
     let fault : c.in_err-job_in-in-Some.field-0.0 ≡ Unavailable = c.in_err-job_in-in-Some.ensures (fields_of it.0) it.2 lawful.limits lawful.formed in
     answers_refused old new (λ found. found ≡ option_map fields_of (job_numbered c.args.job m)) c.from_residual-in_err-job_in-in-Some.result (err_is c.from_residual-in_err-job_in-in-Some.result c.in_err-job_in-in-Some.field-0.0 c.from_residual-in_err-job_in-in-Some.ensures.1 fault)
     (inl (job_unchanged c.args.job old new m k means_now c.in_ok-row.field-0 found))
@@ -28,8 +31,8 @@ returns-in_ok-job_in-in-Some-clause-answers g c m k means s =
     let new = state g.S.Store c.find.new.self.conn in
     let means_now = means (c.in_ok-row.ensures.served s) in
     let found : FindsRow SELECT_JOB.now (params c.args.job) old new c.in_ok-row.field-0 = subst (λ p. FindsRow SELECT_JOB.now p old new c.in_ok-row.field-0) (search rules) (c.in_ok-row.ensures.found s.clean) in
-    let it = is_there (job_numbered c.args.job m) _ (sym c.in-Some.is ∙ job_found c.args.job old new m k means_now c.in_ok-row.field-0 found) in
-    let lawful = lawful_numbered m.jobs c.args.job it.0 means_now.lawful.jobs it.1 in
+    let it = is_there (λ j. job_shown (fields_of j)) (job_numbered c.args.job m) _ (sym c.in-Some.is ∙ job_found c.args.job old new m k means_now c.in_ok-row.field-0 found) in
+    let lawful = found_holds IsLawfulJob (λ (j : Job). j.number == c.args.job) m.jobs it.0 means_now.lawful.jobs it.1 in
     let read = c.in_ok-job_in-in-Some.ensures (fields_of it.0) it.2 lawful.limits lawful.formed in
     (ap Some read ∙ sym (ap (option_map fields_of) it.1), job_unchanged c.args.job old new m k means_now c.in_ok-row.field-0 found)
 
@@ -39,5 +42,5 @@ returns-in-None-clause-answers g c m k means s =
     let new = state g.S.Store c.find.new.self.conn in
     let means_now = means (c.in_ok-row.ensures.served s) in
     let found : FindsRow SELECT_JOB.now (params c.args.job) old new c.in_ok-row.field-0 = subst (λ p. FindsRow SELECT_JOB.now p old new c.in_ok-row.field-0) (search rules) (c.in_ok-row.ensures.found s.clean) in
-    let none = is_none (job_numbered c.args.job m) (sym c.in-None.is ∙ job_found c.args.job old new m k means_now c.in_ok-row.field-0 found) in
+    let none = is_none (λ j. job_shown (fields_of j)) (job_numbered c.args.job m) (sym c.in-None.is ∙ job_found c.args.job old new m k means_now c.in_ok-row.field-0 found) in
     (sym (ap (option_map fields_of) none), job_unchanged c.args.job old new m k means_now c.in_ok-row.field-0 found)

@@ -1,0 +1,330 @@
+-- What the texts on grants and holds write.
+use Rattle.std.proofs.Common.{◌≡◌, ◌≤◌, inl, inr, ℕ, pos, List, [], ◌∷◌, ◌++◌, map, filter, drop, Bool, true, false, not, ◌&&◌, Option, Some, None, if◌then◌else◌, IsTrue, refl, sym, ap, ap₂, subst, ◌∙◌, arith}
+use Rattle.std.specs.Prelude.{find, ◌==◌}
+use Rattle.std.specs.List.Sorted.{IsPermutation}
+use Rattle.std.proofs.lemmas.Bool.{cases_Bool, eqb-true, eq-eqb}
+use Rattle.std.proofs.lemmas.Bool.Decides.{nat_tests}
+use Rattle.std.proofs.lemmas.List.Sorted.{IsPermutation-sym, IsPermutation-trans, IsPermutation-cons, IsPermutation-to_front, IsPermutation-map}
+use Rattle.sqlite.specs.Cast.{cast_row}
+use Rattle.sqlite.specs.Edit.{is_taken, with_rowid, next_rowid}
+use Rattle.sqlite.specs.Order.{Row, column}
+use Rattle.sqlite.specs.Rowids.TheVariants.{Chosen}
+use Rattle.sqlite.specs.State.{State}
+use Rattle.sqlite.specs.Tree.{rowid, put_row, IsTable}
+use Rattle.sqlite.specs.declared.types.Value.TheVariants.{Null, Int, Text}
+use Rattle.sqlite.proofs.Callers.{runs_as}
+use Rattle.sqlite_rules.specs.Lists.{Has}
+use Rattle.sqlite_rules.proofs.ListLemmas.{has_found}
+use Rattle.sqlite_trees.proofs.ListLemmas.{IsPermutation-filter, filter_same, all_of}
+use Rattle.fax_core.specs.Machine.{with_grant}
+use Rattle.fax_core.specs.Queue.{Queue, Entry, open_grants, grant_numbered}
+use Rattle.fax_core.specs.declared.grant.Grant.{Grant}
+use Rattle.fax_job.specs.Name.{IsName}
+use Rattle.fax_store.specs.declared.grants.TheConstants.{INSERT_GRANT, INSERT_HOLD, UPDATE_REPORT, SHUT_GRANT, DELETE_HOLD}
+use Rattle.fax_store.specs.Grant.{IsSameGrant, IsReport, placed, with_placed, with_shut, with_closed}
+use Rattle.fax_store.specs.Row.{number, call_number, grant_row, hold_columns}
+use Rattle.fax_store.specs.Schema as schema
+use Rattle.fax_store.specs.Schema.{six_tables}
+use Rattle.fax_store.specs.Store.{HasRun}
+use Rattle.fax_store.specs.Tables.{TablesMean, IsLawfulGrant, IsByRowid}
+use Rattle.fax_store.proofs.AppendLemmas.{appended}
+use Rattle.fax_store.proofs.ChangeLemmas.{all_mapped}
+use Rattle.fax_store.proofs.ColumnLemmas.{kept_permuted}
+use Rattle.fax_store.proofs.CompareLemmas.{are_equal, equal_numbers, same_row, cast_int, cast_null}
+use Rattle.fax_store.proofs.GrantTexts.{grant_tests, grant_terms, report_project, shut_project, held_tests, hold_terms, insert_grant, insert_hold, update_report, shut_grant, delete_hold}
+use Rattle.fax_store.proofs.KeyLemmas.{only_numbered, asked_is, not_asked, row_placed, all_placed, placed_permuted, free_of}
+use Rattle.fax_store.proofs.SelectLemmas.{passes, show}
+use Rattle.fax_store.proofs.TablesLemmas.{AreRecords, AreHeld, Parts, parts_of, means_of, held_as, grants_changed, holds_changed, by_rowid_put}
+use Rattle.fax_store.proofs.UpdateLemmas.{gone_project, updated, deleted}
+use Rattle.fax_store.proofs.WriteLemmas.{KeepsOthers, InsertsRow, unreferred, inserts}
+
+and_true : (b : Bool) → (b && true) ≡ b
+and_true true = refl
+and_true false = refl
+
+stored_grant : (g : Grant) → cast_row schema.grants (grant_row g) ≡ grant_row g
+stored_grant g =
+    let n = λ (x : ℕ). cast_int (pos x) in
+    same_row (n _) (same_row cast_null (same_row (n _) (same_row refl (same_row (n _) (same_row (n _) (same_row (n _) (same_row (n _) (same_row (n _) refl))))))))
+
+-- ---- one more grant
+
+module _ (g : Grant) where
+  abbrev pub hold_params : Row
+  hold_params = Text g.modem ∷ number g.job ∷ number g.number ∷ []
+
+  abbrev pub grant_params : Row
+  grant_params = number g.number ∷ number g.job ∷ Text g.modem ∷ number g.first_page ∷ number g.last_page ∷ number (call_number g.call) ∷ number g.confirmed ∷ []
+
+  stored_hold : cast_row schema.holds (Null ∷ hold_columns g) ≡ Null ∷ hold_columns g
+  stored_hold = same_row cast_null (same_row refl (same_row (cast_int (pos g.job)) (same_row (cast_int (pos g.number)) refl)))
+
+  -- the open grants with it
+  open_placed : (gs : List Grant) → IsTrue g.is_open → IsPermutation (g ∷ filter (λ x. x.is_open) gs) (filter (λ x. x.is_open) (placed g gs))
+  open_placed gs is_open =
+      let both = IsPermutation-filter (λ (x : Grant). x.is_open) (g ∷ gs) (placed g gs) (placed_permuted grant_row (λ (x : Grant). x.number) (λ x. refl) placed (λ x. refl) (λ x y ys. refl) g gs) in
+      subst (λ (b : Bool). IsPermutation (if b then g ∷ filter (λ x. x.is_open) gs else filter (λ x. x.is_open) gs) (filter (λ x. x.is_open) (placed g gs))) is_open both
+
+  module _ (old mid new : State) (m : Queue) (k : List Entry) (means : TablesMean old.now m k) where
+    hold_inserted : HasRun INSERT_HOLD.now hold_params old mid → InsertsRow six_tables 2 old mid (Int (next_rowid (old.now.trees 2)) ∷ hold_columns g)
+    hold_inserted h =
+        let ran = runs_as INSERT_HOLD.now hold_params old mid six_tables means.schema _ insert_hold.is insert_hold.plain h.0 h.1 in
+        inserts six_tables unreferred schema.holds.name 2 schema.holds.columns schema.holds.key schema.holds.primary schema.holds.uniques schema.holds.orders schema.holds.checks 2 refl old mid means.schema hold_params _ h.0
+        hold_terms 4 (Null ∷ hold_columns g) (Int (next_rowid (old.now.trees 2)) ∷ hold_columns g) refl (ap (with_rowid Chosen (old.now.trees 2)) stored_hold) ran
+
+    pub hold_keeps : HasRun INSERT_HOLD.now hold_params old mid → KeepsOthers six_tables 2 old mid
+    hold_keeps h = (hold_inserted h).keeps
+
+    -- its modem and its job hold it, and it is to be put yet
+    held : HasRun INSERT_HOLD.now hold_params old mid → Parts mid.now m (g ∷ open_grants m) k
+    held h =
+        let done = hold_inserted h in
+        let by = means.ordered.holds in
+        let columns = map (drop 1) (old.now.trees 2) in
+        let more : IsPermutation (hold_columns g ∷ map hold_columns (open_grants m)) (columns ++ hold_columns g ∷ []) =
+        IsPermutation-trans (hold_columns g ∷ map hold_columns (open_grants m)) (hold_columns g ∷ columns) (columns ++ hold_columns g ∷ []) (IsPermutation-cons (hold_columns g) (map hold_columns (open_grants m)) columns means.holds)
+        (IsPermutation-sym (columns ++ hold_columns g ∷ []) (hold_columns g ∷ columns) (IsPermutation-to_front columns (hold_columns g))) in
+        let now : AreHeld (mid.now.trees 2) (g ∷ open_grants m) = record {
+          is = subst (IsPermutation (hold_columns g ∷ map hold_columns (open_grants m))) (sym (ap (map (drop 1)) done.rows ∙ appended (old.now.trees 2) (hold_columns g) by.integers by.rise)) more;
+          ordered = subst IsByRowid (sym done.rows) (by_rowid_put (Int (next_rowid (old.now.trees 2)) ∷ hold_columns g) (old.now.trees 2) refl by);
+        } in
+        holds_changed old mid m (open_grants m) k (parts_of old.now m k means) done.keeps (g ∷ open_grants m) now
+
+    pub grant_put : IsTrue g.is_open → IsLawfulGrant g → HasRun INSERT_HOLD.now hold_params old mid → HasRun INSERT_GRANT.now grant_params mid new → TablesMean new.now (with_placed g m) k × KeepsOthers six_tables 1 mid new
+    grant_put is_open lawful h more =
+        let was = held h in
+        let row : grant_row g ≡ number g.number ∷ Null ∷ number g.job ∷ Text g.modem ∷ number g.first_page ∷ number g.last_page ∷ number (call_number g.call) ∷ number g.confirmed ∷ number 0 ∷ [] =
+        ap (λ (b : Bool). number g.number ∷ Null ∷ number g.job ∷ Text g.modem ∷ number g.first_page ∷ number g.last_page ∷ number (call_number g.call) ∷ number g.confirmed ∷ number (if b then 0 else 1) ∷ []) is_open in
+        let ran = runs_as INSERT_GRANT.now grant_params mid new six_tables was.schema _ insert_grant.is insert_grant.plain more.0 more.1 in
+        let done = inserts six_tables unreferred schema.grants.name 1 schema.grants.columns schema.grants.key schema.grants.primary schema.grants.uniques schema.grants.orders schema.grants.checks 1 refl mid new was.schema grant_params _ more.0
+        grant_terms 9 (grant_row g) (grant_row g) (ap (λ r. r ∷ []) (sym row)) (ap (with_rowid Chosen (mid.now.trees 1)) (stored_grant g)) ran in
+        let free = subst (λ rows. is_taken rows (grant_row g) ≡ false) was.grants.is (free_of (mid.now.trees 1) (grant_row g) done.fresh) in
+        let now : AreRecords grant_row IsLawfulGrant (new.now.trees 1) (placed g m.grants) = record {
+          is = done.rows ∙ ap (put_row (grant_row g)) was.grants.is ∙ row_placed grant_row (λ (x : Grant). x.number) (λ x. refl) placed (λ x. refl) (λ x y ys. refl) g m.grants free;
+          ordered = subst IsByRowid (sym done.rows) (by_rowid_put (grant_row g) (mid.now.trees 1) refl was.grants.ordered);
+          lawful = all_placed grant_row (λ (x : Grant). x.number) (λ x. refl) placed (λ x. refl) (λ x y ys. refl) IsLawfulGrant g m.grants lawful was.grants.lawful;
+        } in
+        let after = grants_changed mid new m (g ∷ open_grants m) k was done.keeps (placed g m.grants) now in
+        let holds : AreHeld (new.now.trees 2) (open_grants (with_placed g m)) = record {
+          is = IsPermutation-trans (map hold_columns (open_grants (with_placed g m))) (map hold_columns (g ∷ open_grants m)) (map (drop 1) (new.now.trees 2))
+              (IsPermutation-map hold_columns (open_grants (with_placed g m)) (g ∷ open_grants m) (IsPermutation-sym (g ∷ open_grants m) (open_grants (with_placed g m)) (open_placed m.grants is_open))) after.holds.is;
+          ordered = after.holds.ordered;
+        } in
+        (means_of new.now (with_placed g m) k (held_as new.now (with_placed g m) (g ∷ open_grants m) (open_grants (with_placed g m)) k holds after), done.keeps)
+
+-- ---- a report
+
+-- the first of the open grants
+opens : (x : Grant) (xs : List Grant) (b : Bool) → x.is_open ≡ b → filter (λ y. y.is_open) (x ∷ xs) ≡ (if b then x ∷ filter (λ y. y.is_open) xs else filter (λ y. y.is_open) xs)
+opens x xs b is = ap (λ c. if c then x ∷ filter (λ y. y.is_open) xs else filter (λ y. y.is_open) xs) is
+
+-- grants that changed in neither modem, job nor number, nor in being open
+held_mapped : (f : Grant → Grant) (gs : List Grant) → ((x : Grant) → Has gs x → ((f x).is_open ≡ x.is_open) × (hold_columns (f x) ≡ hold_columns x))
+    → map hold_columns (filter (λ x. x.is_open) (map f gs)) ≡ map hold_columns (filter (λ x. x.is_open) gs)
+held_mapped f [] same = refl
+held_mapped f (x ∷ xs) same =
+    let first = same x (inl refl) in
+    let rest = held_mapped f xs (λ y has. same y (inr has)) in
+    elim (cases_Bool x.is_open) [
+      | inl on ↦ ap (map hold_columns) (opens (f x) (map f xs) true (first.0 ∙ on)) ∙ ap₂ ◌∷◌ first.1 rest ∙ sym (ap (map hold_columns) (opens x xs true on))
+      | inr off ↦ ap (map hold_columns) (opens (f x) (map f xs) false (first.0 ∙ off)) ∙ rest ∙ sym (ap (map hold_columns) (opens x xs false off))
+    ]
+
+module _ (g : Grant) where
+  abbrev pub report_params : Row
+  report_params = number g.number ∷ number (call_number g.call) ∷ number g.confirmed ∷ []
+
+  abbrev put : Grant → Grant
+  put x = if x.number == g.number then g else x
+
+  reported : (x : Grant) → x.number ≡ g.number → IsSameGrant x g → cast_row schema.grants (drop 1 (show 1 grant_tests report_project report_params (grant_row x))) ≡ grant_row g
+  reported x is same =
+      stored_grant (record g { number = x.number; job = x.job; modem = x.modem; first_page = x.first_page; last_page = x.last_page; is_open = x.is_open })
+      ∙ ap (λ n. grant_row (record g { number = n; job = x.job; modem = x.modem; first_page = x.first_page; last_page = x.last_page; is_open = x.is_open })) is
+      ∙ ap (λ j. grant_row (record g { job = j; modem = x.modem; first_page = x.first_page; last_page = x.last_page; is_open = x.is_open })) same.job
+      ∙ ap (λ n. grant_row (record g { modem = n; first_page = x.first_page; last_page = x.last_page; is_open = x.is_open })) same.modem
+      ∙ ap (λ n. grant_row (record g { first_page = n; last_page = x.last_page; is_open = x.is_open })) same.first_page
+      ∙ ap (λ n. grant_row (record g { last_page = n; is_open = x.is_open })) same.last_page
+      ∙ ap (λ b. grant_row (record g { is_open = b })) same.is_open
+
+  put_by : (x : Grant) (b : Bool) → (x.number == g.number) ≡ b → put x ≡ (if b then g else x)
+  put_by x b is = ap (λ c. if c then g else x) is
+
+  put_number : (x : Grant) → rowid (grant_row (put x)) ≡ rowid (grant_row x)
+  put_number x = elim (cases_Bool (x.number == g.number)) [
+    | inl here ↦ ap (λ y. rowid (grant_row y)) (put_by x true here) ∙ ap number (sym (eqb-true x.number g.number here))
+    | inr off ↦ ap (λ y. rowid (grant_row y)) (put_by x false off)
+  ]
+
+  report_lawful : g.confirmed ≤ 9999 → (x : Grant) → x.number ≡ g.number → IsSameGrant x g → IsLawfulGrant x → IsLawfulGrant g
+  report_lawful few x is same was = record {
+    number = subst (λ n. (1 ≤ n) × (n ≤ 999999999)) is was.number;
+    job = subst (λ n. (1 ≤ n) × (n ≤ 999999)) same.job was.job;
+    modem = subst IsName same.modem was.modem;
+    pages = (subst (λ n. n ≤ 9999) same.first_page was.pages.0, subst (λ n. n ≤ 9999) same.last_page was.pages.1, few);
+  }
+
+  put_lawful : g.confirmed ≤ 9999 → (x : Grant) → (x.number ≡ g.number → IsSameGrant x g) → IsLawfulGrant x → IsLawfulGrant (put x)
+  put_lawful few x same was = elim (cases_Bool (x.number == g.number)) [
+    | inl here ↦ (let is = eqb-true x.number g.number here in subst IsLawfulGrant (sym (put_by x true here)) (report_lawful few x is (same is) was))
+    | inr off ↦ subst IsLawfulGrant (sym (put_by x false off)) was
+  ]
+
+  put_held : (x : Grant) → (x.number ≡ g.number → IsSameGrant x g) → ((put x).is_open ≡ x.is_open) × (hold_columns (put x) ≡ hold_columns x)
+  put_held x same = elim (cases_Bool (x.number == g.number)) [
+    | inl here ↦ (let is = eqb-true x.number g.number here in let as_it = same is in (
+      ap (λ (y : Grant). y.is_open) (put_by x true here) ∙ sym as_it.is_open,
+      ap hold_columns (put_by x true here) ∙ sym (same_row (ap Text as_it.modem) (same_row (ap number as_it.job) (same_row (ap number is) refl))),
+    ))
+    | inr off ↦ (ap (λ (y : Grant). y.is_open) (put_by x false off), ap hold_columns (put_by x false off))
+  ]
+
+  module _ (old new : State) (m : Queue) (k : List Entry) (means : TablesMean old.now m k) where
+    same_grant : IsReport g m → (x : Grant) → Has m.grants x → x.number ≡ g.number → IsSameGrant x g
+    same_grant report x has is =
+        report x (subst (λ n. find (λ (y : Grant). y.number == n) m.grants ≡ Some x) is (only_numbered grant_row (λ (y : Grant). y.number) (λ y. refl) m.grants x (subst IsTable means.grants means.ordered.grants.rise) has))
+
+    pub grant_reported : IsReport g m → g.confirmed ≤ 9999 → HasRun UPDATE_REPORT.now report_params old new → TablesMean new.now (with_grant g m) k × KeepsOthers six_tables 1 old new
+    grant_reported report few h =
+        let is_number = asked_is grant_row (λ (y : Grant). y.number) (λ y. refl) g.number (passes 1 grant_tests report_project report_params) (λ r. refl) in
+        let is_other = not_asked grant_row (λ (y : Grant). y.number) (λ y. refl) g.number (passes 1 grant_tests report_project report_params) (λ r. refl) in
+        let ran = runs_as UPDATE_REPORT.now report_params old new six_tables means.schema _ update_report.is update_report.plain h.0 h.1 in
+        let done = updated schema.grants.name 1 schema.grants.columns schema.grants.key schema.grants.primary schema.grants.uniques schema.grants.orders schema.grants.checks 1 refl old new means.schema refl means.ordered.grants
+        grant_tests report_project report_params (λ r. refl) _ h.0 grant_row put m.grants means.grants put_number
+        (λ x has on. let is = is_number x on in reported x is (same_grant report x has is) ∙ sym (ap grant_row (put_by x true (eq-eqb x.number g.number is))))
+        (λ x has off. sym (ap grant_row (put_by x false (is_other x off))))
+        ran in
+        let now : AreRecords grant_row IsLawfulGrant (new.now.trees 1) (map put m.grants) = record { is = done.1; ordered = done.2; lawful = all_mapped IsLawfulGrant put m.grants (λ x has. put_lawful few x (same_grant report x has)) means.lawful.grants } in
+        let after = grants_changed old new m (open_grants m) k (parts_of old.now m k means) done.0 (map put m.grants) now in
+        let holds : AreHeld (new.now.trees 2) (open_grants (with_grant g m)) = record {
+          is = subst (λ columns. IsPermutation columns (map (drop 1) (new.now.trees 2))) (sym (held_mapped put m.grants (λ x has. put_held x (same_grant report x has)))) after.holds.is;
+          ordered = after.holds.ordered;
+        } in
+        (means_of new.now (with_grant g m) k (held_as new.now (with_grant g m) (open_grants m) (open_grants (with_grant g m)) k holds after), done.0)
+
+-- ---- a grant that is closed
+
+map_same : {X : Type 0} (f g : X → X) (xs : List X) → ((x : X) → Has xs x → f x ≡ g x) → map f xs ≡ map g xs
+map_same f g [] same = refl
+map_same f g (x ∷ xs) same = ap₂ ◌∷◌ (same x (inl refl)) (map_same f g xs (λ y has. same y (inr has)))
+
+map_none : {X : Type 0} (xs : List X) → map (λ x. x) xs ≡ xs
+map_none [] = refl
+map_none (x ∷ xs) = ap (λ rest. x ∷ rest) (map_none xs)
+
+is_number : (a b : ℕ) → are_equal (number a) (number b) ≡ (a == b)
+is_number a b = equal_numbers a b ∙ grind (arith, nat_tests)
+
+module _ (n : ℕ) where
+  abbrev pub close_params : Row
+  close_params = number n ∷ []
+
+  abbrev closed : Grant → Grant
+  closed x = record x { is_open = false }
+
+  abbrev shut : Grant → Grant
+  shut x = if x.number == n then closed x else x
+
+  shut_by : (x : Grant) (b : Bool) → (x.number == n) ≡ b → shut x ≡ (if b then closed x else x)
+  shut_by x b is = ap (λ c. if c then closed x else x) is
+
+  shut_id : (x : Grant) → rowid (grant_row (shut x)) ≡ rowid (grant_row x)
+  shut_id x = elim (cases_Bool (x.number == n)) [ inl here ↦ ap (λ y. rowid (grant_row y)) (shut_by x true here) | inr off ↦ ap (λ y. rowid (grant_row y)) (shut_by x false off) ]
+
+  shut_lawful : (x : Grant) → IsLawfulGrant x → IsLawfulGrant (shut x)
+  shut_lawful x was = elim (cases_Bool (x.number == n)) [
+    | inl here ↦ subst IsLawfulGrant (sym (shut_by x true here)) (record { number = was.number; job = was.job; modem = was.modem; pages = was.pages })
+    | inr off ↦ subst IsLawfulGrant (sym (shut_by x false off)) was
+  ]
+
+  abbrev but_this : List Grant → List Grant
+  but_this = filter (λ x. not (x.number == n))
+
+  but_first : (x : Grant) (xs : List Grant) (b : Bool) → (x.number == n) ≡ b → but_this (x ∷ xs) ≡ (if not b then x ∷ but_this xs else but_this xs)
+  but_first x xs b is = ap (λ c. if not c then x ∷ but_this xs else but_this xs) is
+
+  -- the open grants but this one
+  open_shut : (gs : List Grant) → filter (λ x. x.is_open) (map shut gs) ≡ but_this (filter (λ x. x.is_open) gs)
+  open_shut [] = refl
+  open_shut (x ∷ xs) = elim (cases_Bool (x.number == n)) [
+    | inl here ↦ (opens (shut x) (map shut xs) false (ap (λ (y : Grant). y.is_open) (shut_by x true here)) ∙ open_shut xs ∙ elim (cases_Bool x.is_open) [
+      | inl on ↦ sym (ap but_this (opens x xs true on) ∙ but_first x (filter (λ y. y.is_open) xs) true here)
+      | inr off ↦ sym (ap but_this (opens x xs false off))
+    ])
+    | inr other ↦ (ap (λ y. filter (λ z. z.is_open) (y ∷ map shut xs)) (shut_by x false other) ∙ elim (cases_Bool x.is_open) [
+      | inl on ↦ opens x (map shut xs) true on ∙ ap (λ rest. x ∷ rest) (open_shut xs) ∙ sym (ap but_this (opens x xs true on) ∙ but_first x (filter (λ y. y.is_open) xs) false other)
+      | inr off ↦ opens x (map shut xs) false off ∙ open_shut xs ∙ sym (ap but_this (opens x xs false off))
+    ])
+  ]
+
+  module _ (m : Queue) (rise : IsTable (map grant_row m.grants)) where
+    only : (x : Grant) → Has m.grants x → x.number ≡ n → grant_numbered n m ≡ Some x
+    only x has is = subst (λ i. find (λ (y : Grant). y.number == i) m.grants ≡ Some x) is (only_numbered grant_row (λ (y : Grant). y.number) (λ y. refl) m.grants x rise has)
+
+    same_some : (a b : Grant) → ◌≡◌ {A = Option Grant} (Some a) (Some b) → a ≡ b
+    same_some a b e = cc
+
+    closed_by : (o : Option Grant) → grant_numbered n m ≡ o → map shut m.grants ≡ (with_shut o m).grants
+    closed_by None none =
+        map_same shut (λ x. x) m.grants (λ x has. elim (cases_Bool (x.number == n)) [
+          | inl here ↦ absurd (let no = sym none ∙ only x has (eqb-true x.number n here) in cc)
+          | inr off ↦ shut_by x false off
+        ]) ∙ map_none m.grants
+    closed_by (Some g) one =
+        let found = has_found (λ (y : Grant). y.number == n) m.grants g one in
+        let is : g.number ≡ n = eqb-true g.number n found.1 in
+        map_same shut (λ x. if x.number == g.number then closed g else x) m.grants (λ x has. elim (cases_Bool (x.number == n)) [
+          | inl here ↦
+              (let it : x ≡ g = same_some x g (sym (only x has (eqb-true x.number n here)) ∙ one) in
+              shut_by x true here ∙ ap closed it ∙ sym (ap (λ i. if x.number == i then closed g else x) is ∙ ap (λ b. if b then closed g else x) here))
+          | inr off ↦ shut_by x false off ∙ sym (ap (λ i. if x.number == i then closed g else x) is ∙ ap (λ b. if b then closed g else x) off)
+        ])
+
+    as_closed : (o : Option Grant) → record m { grants = (with_shut o m).grants } ≡ with_shut o m
+    as_closed None = refl
+    as_closed (Some g) = refl
+
+    closed_is : record m { grants = map shut m.grants } ≡ with_closed n m
+    closed_is = ap (λ gs. record m { grants = gs }) (closed_by (grant_numbered n m) refl) ∙ as_closed (grant_numbered n m)
+
+  module _ (old mid new : State) (m : Queue) (k : List Entry) (means : TablesMean old.now m k) where
+    abbrev after : Queue
+    after = record m { grants = map shut m.grants }
+
+    grants_shut : HasRun SHUT_GRANT.now close_params old mid → KeepsOthers six_tables 1 old mid × AreRecords grant_row IsLawfulGrant (mid.now.trees 1) (map shut m.grants)
+    grants_shut h =
+        let is_one = asked_is grant_row (λ (y : Grant). y.number) (λ y. refl) n (passes 1 grant_tests shut_project close_params) (λ r. refl) in
+        let is_other = not_asked grant_row (λ (y : Grant). y.number) (λ y. refl) n (passes 1 grant_tests shut_project close_params) (λ r. refl) in
+        let ran = runs_as SHUT_GRANT.now close_params old mid six_tables means.schema _ shut_grant.is shut_grant.plain h.0 h.1 in
+        let done = updated schema.grants.name 1 schema.grants.columns schema.grants.key schema.grants.primary schema.grants.uniques schema.grants.orders schema.grants.checks 1 refl old mid means.schema refl means.ordered.grants
+        grant_tests shut_project close_params (λ r. refl) _ h.0 grant_row shut m.grants means.grants shut_id
+        (λ x has on. stored_grant (closed x) ∙ sym (ap grant_row (shut_by x true (eq-eqb x.number n (is_one x on)))))
+        (λ x has off. sym (ap grant_row (shut_by x false (is_other x off))))
+        ran in
+        (done.0, record { is = done.1; ordered = done.2; lawful = all_mapped IsLawfulGrant shut m.grants (λ x has. shut_lawful x) means.lawful.grants })
+
+    pub shut_keeps : HasRun SHUT_GRANT.now close_params old mid → KeepsOthers six_tables 1 old mid
+    shut_keeps h = (grants_shut h).0
+
+    is_held : (r : Row) → passes 2 held_tests gone_project close_params r ≡ (are_equal (column (drop 1 r) 2) (number n) && true)
+    is_held [] = refl
+    is_held (v ∷ r) = refl
+
+    pub grant_closed : HasRun SHUT_GRANT.now close_params old mid → HasRun DELETE_HOLD.now close_params mid new → TablesMean new.now (with_closed n m) k × KeepsOthers six_tables 2 mid new
+    grant_closed h more =
+        let first = grants_shut h in
+        let was = grants_changed old mid m (open_grants m) k (parts_of old.now m k means) first.0 (map shut m.grants) first.1 in
+        let ran = runs_as DELETE_HOLD.now close_params mid new six_tables was.schema _ delete_hold.is delete_hold.plain more.0 more.1 in
+        let done = deleted schema.holds.name 2 schema.holds.columns schema.holds.key schema.holds.primary schema.holds.uniques schema.holds.orders schema.holds.checks 2 refl mid new was.schema refl was.holds.ordered
+        held_tests gone_project close_params (λ r. refl) _ more.0 ran in
+        let others = λ (columns : Row). not (are_equal (column columns 2) (number n) && true) in
+        let left : filter (λ x. others (hold_columns x)) (open_grants m) ≡ open_grants after =
+        filter_same (λ x. others (hold_columns x)) (λ x. not (x.number == n)) (open_grants m) (all_of (λ x. others (hold_columns x) ≡ not (x.number == n)) (λ x. ap not (and_true (are_equal (number x.number) (number n)) ∙ is_number x.number n)) (open_grants m))
+        ∙ sym (open_shut m.grants) in
+        let kept = kept_permuted hold_columns (λ r. not (passes 2 held_tests gone_project close_params r)) others (λ r. ap not (is_held r)) (mid.now.trees 2) (open_grants m) was.holds.is in
+        let now : AreHeld (new.now.trees 2) (open_grants after) = record {
+          is = subst (λ rows. IsPermutation (map hold_columns (open_grants after)) (map (drop 1) rows)) (sym done.1) (subst (λ gs. IsPermutation (map hold_columns gs) (map (drop 1) (filter (λ r. not (passes 2 held_tests gone_project close_params r)) (mid.now.trees 2)))) left kept);
+          ordered = done.2;
+        } in
+        let both = holds_changed mid new after (open_grants m) k was done.0 (open_grants after) now in
+        (subst (λ it. TablesMean new.now it k) (closed_is m (subst IsTable means.grants means.ordered.grants.rise)) (means_of new.now after k both), done.0)

@@ -1,0 +1,101 @@
+-- What the texts on the modems that are down read and write.
+use Rattle.std.proofs.Common.{◌≡◌, ℕ, List, [], ◌∷◌, ◌++◌, if◌then◌else◌, map, filter, drop, Bool, true, false, not, ◌&&◌, Option, Some, None, is_some, MatchOption, refl, sym, ap, subst, ◌∙◌}
+use Rattle.std.specs.Str.{bytes_eq}
+use Rattle.std.specs.List.Sorted.{IsPermutation}
+use Rattle.std.proofs.lemmas.Slice.Eq.{bytes_eq-Decides}
+use Rattle.std.specs.Cmp as cmp
+use Rattle.sqlite.specs.Cast.{cast_row}
+use Rattle.sqlite.specs.Edit.{with_rowid, next_rowid}
+use Rattle.sqlite.specs.Listing.{understood}
+use Rattle.sqlite.specs.Order.{Row}
+use Rattle.sqlite.specs.Rowids.TheVariants.{Chosen}
+use Rattle.sqlite.specs.State.{State, IsUnchanged}
+use Rattle.sqlite.specs.declared.types.Value.TheVariants.{Null, Int, Text}
+use Rattle.sqlite.proofs.Callers.{IsPlain, runs_as, reads_as}
+use Rattle.sqlite_rules.specs.Lists.{Has}
+use Rattle.sqlite_rules.proofs.ListLemmas.{some_from}
+use Rattle.sqlite_trees.proofs.ListLemmas.{IsPermutation-same}
+use Rattle.fax_core.specs.Machine.{is_down, with_mark}
+use Rattle.fax_core.specs.Queue.{Queue, Entry, open_grants}
+use Rattle.fax_job.specs.Name.{IsName}
+use Rattle.fax_store.specs.declared.modems.TheConstants.{SELECT_DOWN, INSERT_DOWN, DELETE_DOWN}
+use Rattle.fax_store.specs.Row.{down_columns}
+use Rattle.fax_store.specs.Schema as schema
+use Rattle.fax_store.specs.Schema.{six_tables}
+use Rattle.fax_store.specs.Store.{FindsRow, HasRun}
+use Rattle.fax_store.specs.Tables.{TablesMean}
+use Rattle.fax_store.proofs.ColumnLemmas.{record_of, row_of, kept_columns, all_kept, none_holds}
+use Rattle.fax_store.proofs.CompareLemmas.{are_equal, equal_texts, same_row, cast_null}
+use Rattle.fax_store.proofs.EditLemmas.{shown_one, none_shown}
+use Rattle.fax_store.proofs.ModemTexts.{down_tests, down_project, down_terms, select_down, insert_down, delete_down}
+use Rattle.fax_store.proofs.SelectLemmas.{passes, show, answers}
+use Rattle.fax_store.proofs.StatementLemmas.{shown_keeps}
+use Rattle.fax_store.proofs.TablesLemmas.{AreColumns, parts_of, means_of, down_changed, one_more}
+use Rattle.fax_store.proofs.UpdateLemmas.{gone_project, deleted}
+use Rattle.fax_store.proofs.WriteLemmas.{KeepsOthers, unreferred, inserts}
+
+turned : (s t : List ℕ) → bytes_eq s t ≡ bytes_eq t s
+turned s t = cmp.both_ways (bytes_eq s t) (bytes_eq t s) (λ h. (bytes_eq-Decides t s).1 (sym ((bytes_eq-Decides s t).0 h))) (λ h. (bytes_eq-Decides s t).1 (sym ((bytes_eq-Decides t s).0 h)))
+
+and_true : (b : Bool) → (b && true) ≡ b
+and_true true = refl
+and_true false = refl
+
+module _ (modem : List ℕ) where
+  abbrev pub params : Row
+  params = Text modem ∷ []
+
+  -- the rows that pass are those of the modem
+  is_asked : (project : List _) (r : Row) (name : List ℕ) → drop 1 r ≡ down_columns name → passes 6 down_tests project params r ≡ bytes_eq modem name
+  is_asked project [] name is = absurd cc
+  is_asked project (i ∷ columns) name is = ap (λ rest. passes 6 down_tests project params (i ∷ rest)) is ∙ and_true (are_equal (Text name) (Text modem)) ∙ equal_texts name modem ∙ turned name modem
+
+  module _ (old new : State) (m : Queue) (k : List Entry) (means : TablesMean old.now m k) where
+    same : IsPermutation (map down_columns m.down) (map (drop 1) (old.now.trees 6))
+    same = IsPermutation-same (map down_columns m.down) (map (drop 1) (old.now.trees 6)) (sym means.down)
+
+    pub mark_found : (found : Option Row) → FindsRow SELECT_DOWN.now params old new found → is_some found ≡ is_down modem m
+    mark_found found h = tells found h.2
+      where
+        shows : IsPermutation (map (show 6 down_tests down_project params) (filter (passes 6 down_tests down_project params) (old.now.trees 6))) h.0
+        shows = answers 6 down_tests down_project params old.now (old.now.trees 6) refl [] h.0 (reads_as SELECT_DOWN.now params old new six_tables means.schema _ select_down.command select_down.plain select_down.unlisted h.0 h.1)
+
+        tells : (found : Option Row) → MatchOption found (h.0 ≡ []) (Has h.0) → is_some found ≡ is_down modem m
+        tells None empty = sym (none_holds (bytes_eq modem) m.down (λ name has.
+            let it = row_of down_columns (old.now.trees 6) m.down same name has in
+            sym (is_asked down_project it.0 name it.2) ∙ none_shown (passes 6 down_tests down_project params) (show 6 down_tests down_project params) (old.now.trees 6) h.0 shows empty it.0 it.1))
+        tells (Some row) has =
+            let shown = shown_one (passes 6 down_tests down_project params) (show 6 down_tests down_project params) (old.now.trees 6) h.0 shows row has in
+            let it = record_of down_columns (old.now.trees 6) m.down same shown.0 shown.1 in
+            sym (some_from (bytes_eq modem) m.down it.0 it.1 (sym (is_asked down_project shown.0 it.0 it.2) ∙ shown.2))
+
+    pub mark_unchanged : (found : Option Row) → FindsRow SELECT_DOWN.now params old new found → IsUnchanged old new
+    mark_unchanged found h = shown_keeps old new SELECT_DOWN.now params (subst (λ s. IsPlain (understood s SELECT_DOWN.now)) (sym means.schema) select_down.plain) h.0 h.1
+
+    pub mark_cleared : HasRun DELETE_DOWN.now params old new → TablesMean new.now (with_mark modem false m) k × KeepsOthers six_tables 6 old new
+    mark_cleared h =
+        let ran = runs_as DELETE_DOWN.now params old new six_tables means.schema _ delete_down.is delete_down.plain h.0 h.1 in
+        let done = deleted schema.down.name 6 schema.down.columns schema.down.key schema.down.primary schema.down.uniques schema.down.orders schema.down.checks 3 refl old new means.schema refl means.ordered.down
+        down_tests gone_project params (λ r. refl) _ h.0 ran in
+        let others = λ (name : List ℕ). not (bytes_eq modem name) in
+        let now : AreColumns down_columns IsName (new.now.trees 6) (filter others m.down) = record {
+          is = ap (map (drop 1)) done.1 ∙ kept_columns down_columns (λ r. not (passes 6 down_tests gone_project params r)) others (λ r name is. ap not (is_asked gone_project r name is)) (old.now.trees 6) m.down means.down;
+          ordered = done.2;
+          lawful = all_kept IsName others m.down means.lawful.down;
+        } in
+        (means_of new.now (with_mark modem false m) k (down_changed old new m (open_grants m) k (parts_of old.now m k means) done.0 (filter others m.down) now), done.0)
+
+    pub mark_added : IsName modem → is_down modem m ≡ false → HasRun INSERT_DOWN.now params old new → TablesMean new.now (with_mark modem true m) k × KeepsOthers six_tables 6 old new
+    mark_added lawful free h =
+        let stored : cast_row schema.down (Null ∷ down_columns modem) ≡ Null ∷ down_columns modem = same_row cast_null (same_row refl refl) in
+        let ran = runs_as INSERT_DOWN.now params old new six_tables means.schema _ insert_down.is insert_down.plain h.0 h.1 in
+        let done = inserts six_tables unreferred schema.down.name 6 schema.down.columns schema.down.key schema.down.primary schema.down.uniques schema.down.orders schema.down.checks 3 refl old new means.schema params _ h.0
+        down_terms 2 (Null ∷ down_columns modem) (Int (next_rowid (old.now.trees 6)) ∷ down_columns modem) refl (ap (with_rowid Chosen (old.now.trees 6)) stored) ran in
+        let was = parts_of old.now m k means in
+        let marked = m.down ++ modem ∷ [] in
+        let after = down_changed old new m (open_grants m) k was done.keeps marked (one_more down_columns IsName modem m.down (old.now.trees 6) (new.now.trees 6) done.rows lawful was.down) in
+        (subst (λ b. TablesMean new.now (record m { down = if b then m.down else marked }) k) (sym free) (means_of new.now (record m { down = marked }) k after), done.keeps)
+
+-- a mark that is there already
+pub marked_already : (modem : List ℕ) (m : Queue) → is_down modem m ≡ true → with_mark modem true m ≡ m
+marked_already modem m there = ap (λ b. record m { down = if b then m.down else m.down ++ modem ∷ [] }) there

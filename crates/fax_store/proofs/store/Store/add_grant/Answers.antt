@@ -1,0 +1,32 @@
+use Rattle.std.proofs.Common.{◌≡◌, ◌+◌, ◌<◌, false, Ok, subst, ap, arith, rules}
+use Rattle.sqlite.specs.Held.{state}
+use Rattle.fax_store.specs.Grant.{IsOpenGrant, with_placed, with_one_more}
+use Rattle.fax_store.specs.Meta.{meta_of, with_meta}
+use Rattle.fax_store.specs.Tables.{IsLawfulMeta}
+use Rattle.fax_store.specs.Work.{Steps}
+use Rattle.fax_store.proofs.WorkLemmas.{goes_on, moves_of, steps_fault}
+use Rattle.fax_store.proofs.store.Store.add_grant.Goals as goal
+
+pub returns-clause-written : goal.returns-clause-written
+returns-clause-written g c m₀ m k₀ k works s =
+    let old = state g.S.Store c.args.self.now.conn in
+    let read = state g.S.Store c.read_meta.new.self.conn in
+    let put = state g.S.Store c.insert_grant.new.self.conn in
+    let new = state g.S.Store c.write_meta.new.self.conn in
+    let grant = c.args.grant.now in
+    let at_put = c.write_meta.ensures.served s in
+    let at_read = c.insert_grant.ensures.served at_put in
+    let first = goes_on old read c.read_meta.ensures.served (λ m k meta. meta ≡ meta_of m) (Ok c.in_ok-meta.meta) c.in_ok-meta.ensures.answers m₀ m k₀ k works at_read in
+    let fit : IsOpenGrant grant = search rules in
+    let second = c.in_ok-insert_grant.ensures.written m₀ m k₀ k (λ _. first.1) at_put fit in
+    let went : false ≡ false = λ i. false in
+    let was = (((works (c.read_meta.ensures.served at_read)).goes_on went).means).lawful.meta in
+    let meta = c.in_ok-meta.meta in
+    let same : meta ≡ meta_of m = first.0 in
+    let low : meta.next_grant < 1000000000 = search rules in
+    let next : meta.next_grant ≡ m.next_grant = ap (λ it. it.next_grant) same in
+    let lawful : IsLawfulMeta (with_one_more grant m) = record { clock = was.clock; next_job = was.next_job; next_grant = (omega arith, omega (arith, low, next)) } in
+    let done : Steps new c.write_meta.result m₀ k₀ (with_one_more grant m) k =
+    subst (λ it. IsLawfulMeta (with_meta (record it { next_grant = it.next_grant + 1 }) (with_placed grant m)) → Steps new c.write_meta.result m₀ k₀ (with_meta (record it { next_grant = it.next_grant + 1 }) (with_placed grant m)) k) same
+    (c.write_meta.ensures.written m₀ (with_placed grant m) k₀ k (λ _. second) s) lawful in
+    (moves_of new c.write_meta.result m₀ (with_one_more grant m) k₀ k done, λ fits below. steps_fault new c.write_meta.result m₀ (with_one_more grant m) k₀ k done)

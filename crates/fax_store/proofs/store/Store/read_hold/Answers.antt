@@ -1,0 +1,49 @@
+use Rattle.std.proofs.Common.{◌≡◌, inl, Some, subst, sym, ap, ◌∙◌, rules}
+use Rattle.sqlite.specs.Held.{state}
+use Rattle.std.specs.Option.{option_map}
+use Rattle.std.specs.Str.{bytes_eq}
+use Rattle.fax_core.specs.Machine.{held_by}
+use Rattle.fax_core.specs.Queue.{open_grants}
+use Rattle.fax_core.specs.declared.grant.Grant.{Grant}
+use Rattle.fax_store.specs.Grant.{as_hold, hold_shown}
+use Rattle.fax_store.proofs.ColumnLemmas.{all_kept}
+use Rattle.fax_store.specs.declared.fault.StoreFault.TheVariants.{Unavailable}
+use Rattle.fax_store.specs.declared.grants.TheConstants.{SELECT_HOLD}
+use Rattle.fax_store.specs.Store.{FindsRow}
+use Rattle.fax_store.specs.Tables.{IsLawfulGrant}
+use Rattle.fax_store.proofs.HoldLemmas as texts
+use Rattle.fax_store.proofs.KeyLemmas.{is_there, is_none, found_holds}
+use Rattle.fax_store.proofs.WorkLemmas.{answers_refused, err_is}
+use Rattle.fax_store.proofs.store.Store.read_hold.Goals as goal
+
+pub returns-in_err-in_row-in-Some-clause-answers : goal.returns-in_err-in_row-in-Some-clause-answers
+returns-in_err-in_row-in-Some-clause-answers g c m k means s =
+    let old = state g.S.Store c.args.self.now.conn in
+    let new = state g.S.Store c.find.new.self.conn in
+    let means_now = means (c.in_ok-row.ensures.served s) in
+    let found : FindsRow SELECT_HOLD.now (texts.params c.args.modem.now) old new c.in_ok-row.field-0 = subst (λ p. FindsRow SELECT_HOLD.now p old new c.in_ok-row.field-0) (search rules) (c.in_ok-row.ensures.found s.clean) in
+    let it = is_there hold_shown (held_by c.args.modem.now m) _ (sym c.in-Some.is ∙ texts.hold_found c.args.modem.now old new m k means_now c.in_ok-row.field-0 found) in
+    let lawful : IsLawfulGrant it.0 = found_holds IsLawfulGrant (λ (g : Grant). bytes_eq g.modem c.args.modem.now) (open_grants m) it.0 (all_kept IsLawfulGrant (λ (g : Grant). g.is_open) m.grants means_now.lawful.grants) it.1 in
+    let fault : c.in_err-in_row-in-Some.field-0.0 ≡ Unavailable = c.in_err-in_row-in-Some.ensures it.0 it.2 lawful in
+    answers_refused old new (λ found. found ≡ option_map as_hold (held_by c.args.modem.now m)) c.from_residual-in_err-in_row-in-Some.result (err_is c.from_residual-in_err-in_row-in-Some.result c.in_err-in_row-in-Some.field-0.0 c.from_residual-in_err-in_row-in-Some.ensures.1 fault)
+    (inl (texts.hold_unchanged c.args.modem.now old new m k means_now c.in_ok-row.field-0 found))
+
+pub returns-in_ok-in_row-in-Some-clause-answers : goal.returns-in_ok-in_row-in-Some-clause-answers
+returns-in_ok-in_row-in-Some-clause-answers g c m k means s =
+    let old = state g.S.Store c.args.self.now.conn in
+    let new = state g.S.Store c.find.new.self.conn in
+    let means_now = means (c.in_ok-row.ensures.served s) in
+    let found : FindsRow SELECT_HOLD.now (texts.params c.args.modem.now) old new c.in_ok-row.field-0 = subst (λ p. FindsRow SELECT_HOLD.now p old new c.in_ok-row.field-0) (search rules) (c.in_ok-row.ensures.found s.clean) in
+    let it = is_there hold_shown (held_by c.args.modem.now m) _ (sym c.in-Some.is ∙ texts.hold_found c.args.modem.now old new m k means_now c.in_ok-row.field-0 found) in
+    let lawful : IsLawfulGrant it.0 = found_holds IsLawfulGrant (λ (g : Grant). bytes_eq g.modem c.args.modem.now) (open_grants m) it.0 (all_kept IsLawfulGrant (λ (g : Grant). g.is_open) m.grants means_now.lawful.grants) it.1 in
+    let read = c.in_ok-in_row-in-Some.ensures it.0 it.2 lawful in
+    (ap Some read ∙ sym (ap (option_map as_hold) it.1), texts.hold_unchanged c.args.modem.now old new m k means_now c.in_ok-row.field-0 found)
+
+pub returns-in-None-clause-answers : goal.returns-in-None-clause-answers
+returns-in-None-clause-answers g c m k means s =
+    let old = state g.S.Store c.args.self.now.conn in
+    let new = state g.S.Store c.find.new.self.conn in
+    let means_now = means (c.in_ok-row.ensures.served s) in
+    let found : FindsRow SELECT_HOLD.now (texts.params c.args.modem.now) old new c.in_ok-row.field-0 = subst (λ p. FindsRow SELECT_HOLD.now p old new c.in_ok-row.field-0) (search rules) (c.in_ok-row.ensures.found s.clean) in
+    let none = is_none hold_shown (held_by c.args.modem.now m) (sym c.in-None.is ∙ texts.hold_found c.args.modem.now old new m k means_now c.in_ok-row.field-0 found) in
+    (sym (ap (option_map as_hold) none), texts.hold_unchanged c.args.modem.now old new m k means_now c.in_ok-row.field-0 found)

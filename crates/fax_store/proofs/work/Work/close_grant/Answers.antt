@@ -1,0 +1,11 @@
+use Rattle.std.proofs.Common.{List}
+use Rattle.sqlite.specs.Held.{state}
+use Rattle.fax_core.specs.Queue.{Entry}
+use Rattle.fax_store.specs.Grant.{with_closed}
+use Rattle.fax_store.proofs.WorkLemmas.{changes_by}
+use Rattle.fax_store.proofs.work.Work.close_grant.Goals as goal
+
+pub returns-clause-changes : goal.returns-clause-changes
+returns-clause-changes g c =
+    rw (c.if-self.false, c.is_err-self.ensures.value)
+    (changes_by (state g.S.Store c.args.self.now.store.now.conn) (state g.S.Store c.shut_grant-done.new.self.conn) c.shut_grant-done.result (with_closed c.args.number) (λ (k : List Entry). k) c.shut_grant-done.ensures.written)

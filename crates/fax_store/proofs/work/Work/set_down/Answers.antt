@@ -1,0 +1,11 @@
+use Rattle.std.proofs.Common.{List}
+use Rattle.sqlite.specs.Held.{state}
+use Rattle.fax_core.specs.Machine.{with_mark}
+use Rattle.fax_core.specs.Queue.{Entry}
+use Rattle.fax_store.proofs.WorkLemmas.{moved_by}
+use Rattle.fax_store.proofs.work.Work.set_down.Goals as goal
+
+pub returns-clause-changes : goal.returns-clause-changes
+returns-clause-changes g c =
+    rw (c.if-self.false, c.is_err-self.ensures.value)
+    (moved_by (state g.S.Store c.args.self.now.store.now.conn) (state g.S.Store c.write_mark-done.new.self.conn) c.write_mark-done.result (with_mark c.args.modem.now c.args.down) (λ (k : List Entry). k) c.write_mark-done.ensures.written)

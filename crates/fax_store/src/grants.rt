@@ -1,0 +1,397 @@
+//! The grants, and what modems and jobs hold of those that are open.
+
+ghost use Rattle.std.specs.Prelude.{◌≡◌, ℕ, ◌<◌, ◌≤◌, List, Option, false, Err, IfErr, is_err, IsTrue};
+ghost use Rattle.std.specs.Option.{option_map};
+ghost use Rattle.sqlite.specs.Held.{state};
+ghost use Rattle.fax_core.specs.Machine.{held_by, with_grant};
+ghost use Rattle.fax_core.specs.Queue.{Queue, Entry, grant_numbered};
+ghost use Rattle.fax_core.specs.declared.grant.Grant.{Grant as Granted};
+ghost use Rattle.fax_job.specs.declared.job.Call.{Call as HowItWent};
+ghost use Rattle.fax_store.specs.Fault.{OrUnavailable};
+ghost use Rattle.fax_store.specs.Grant.{as_hold, hold_shown, grant_shown, IsOpenGrant, IsReport};
+ghost use Rattle.fax_store.specs.Grant.{with_placed, with_one_more, with_closed};
+ghost use Rattle.fax_store.specs.Row.{HasNumber, call_number, shut_number};
+ghost use Rattle.fax_store.specs.Store.{Serves, Means, MeansNow, Stays, Answers};
+ghost use Rattle.fax_store.specs.Tables.{IsLawfulGrant};
+ghost use Rattle.fax_store.specs.Work.{Works, Keeps, Changes, ChangesWhere, AnswersIn, Moves, Steps};
+
+use crate::fault::StoreFault;
+use crate::meta::{Meta, PAST_GRANTS, PAST_JOBS};
+use crate::row::{name_at, number_at, small_at};
+use crate::store::Store;
+use crate::work::Work;
+use fax_core::Grant;
+use fax_job::Call;
+use sqlite::{Alter, Row, params};
+use std::alloc::Global;
+
+const SELECT_GRANT: &str = "SELECT id, job, modem, first_page, last_page, call, pages, shut \
+    FROM grants WHERE id = ?1";
+
+const INSERT_GRANT: &str =
+    "INSERT INTO grants (id, job, modem, first_page, last_page, call, pages, shut) \
+    VALUES (?1, ?2, ?3, ?4, ?5, ?6, ?7, 0)";
+
+const UPDATE_REPORT: &str = "UPDATE grants SET call = ?2, pages = ?3 WHERE id = ?1";
+
+const SHUT_GRANT: &str = "UPDATE grants SET shut = 1 WHERE id = ?1";
+
+const INSERT_HOLD: &str = "INSERT INTO holds (modem, job, id) VALUES (?1, ?2, ?3)";
+
+const DELETE_HOLD: &str = "DELETE FROM holds WHERE id = ?1";
+
+const SELECT_HOLD: &str = "SELECT id, job FROM holds WHERE modem = ?1";
+
+/// What a modem and a job hold: the number of their open grant, and of the job.
+#[derive(Clone, Copy, Debug, PartialEq, Eq)]
+pub struct Hold {
+    /// The number of the grant.
+    pub grant: u32,
+    /// The number of the job.
+    pub job: u32,
+}
+
+/// The most pages that a grant can be of.
+const MOST_PAGES: u16 = 9999;
+
+/// The number that stands for how a call went, 0 where that is not known.
+fn call_number(call: Option<Call>) -> u32
+    ensures { result ≡ call_number call }
+{
+    match call {
+        None => 0,
+        Some(Call::Connected) => 1,
+        Some(Call::Busy) => 2,
+        Some(Call::NoAnswer) => 3,
+        Some(Call::NoCarrier) => 4,
+        Some(Call::Other) => 5,
+    }
+}
+
+/// Whether a grant is open, with its numbers within their limits.
+fn is_open_grant(grant: &Grant) -> bool
+    ensures fits { IsTrue result → IsOpenGrant grant.now }
+    ensures alone { IsOpenGrant grant.now → IsTrue result }
+{
+    grant.is_open
+        && 1 <= grant.number
+        && grant.number < PAST_GRANTS
+        && 1 <= grant.job
+        && grant.job < PAST_JOBS
+        && grant.first_page <= MOST_PAGES
+        && grant.last_page <= MOST_PAGES
+        && grant.confirmed <= MOST_PAGES
+}
+
+/// How the call in a column went, where 0 is not known.
+fn call_at(row: &Row, at: usize) -> Result<Option<Call>, StoreFault>
+    ensures { (call : Option HowItWent) → HasNumber row.now at (call_number call)
+        → OrUnavailable result (λ found. found ≡ call) }
+{
+    match number_at(row, at)? {
+        0 => Ok(None),
+        1 => Ok(Some(Call::Connected)),
+        2 => Ok(Some(Call::Busy)),
+        3 => Ok(Some(Call::NoAnswer)),
+        4 => Ok(Some(Call::NoCarrier)),
+        5 => Ok(Some(Call::Other)),
+        _ => Err(StoreFault::Strange),
+    }
+}
+
+/// Whether the grant of a row is open, by the column that says whether it is shut.
+fn open_at(row: &Row, at: usize) -> Result<bool, StoreFault>
+    ensures { (g : Granted) → HasNumber row.now at (shut_number g) → OrUnavailable result (λ found. found ≡ g.is_open) }
+{
+    match number_at(row, at)? {
+        0 => Ok(true),
+        1 => Ok(false),
+        _ => Err(StoreFault::Strange),
+    }
+}
+
+/// The grant in a row of all columns.
+fn grant_in(alloc: Global, row: &Row) -> Result<Grant, StoreFault>
+    ensures { (g : Granted) → row.now ≡ grant_shown g → IsLawfulGrant g → OrUnavailable result (λ grant. grant ≡ g) }
+{
+    Ok(Grant {
+        number: number_at(row, 0)?,
+        job: number_at(row, 1)?,
+        modem: name_at(alloc, row, 2)?,
+        first_page: small_at(row, 3)?,
+        last_page: small_at(row, 4)?,
+        call: call_at(row, 5)?,
+        confirmed: small_at(row, 6)?,
+        is_open: open_at(row, 7)?,
+    })
+}
+
+impl Hold {
+    /// The hold in a row of grant and job.
+    fn in_row(row: &Row) -> Result<Hold, StoreFault>
+        ensures { (g : Granted) → row.now ≡ hold_shown g → IsLawfulGrant g
+            → OrUnavailable result (λ hold. hold ≡ as_hold g) }
+    {
+        let grant = number_at(row, 0)?;
+        let job = number_at(row, 1)?;
+        Ok(Hold { grant, job })
+    }
+}
+
+impl<S: Alter> Store<S> {
+    /// What the modem holds, or none.
+    ///
+    /// # Errors
+    ///
+    /// `Unavailable`, or `Strange` where its row is no lawful record.
+    pub fn hold_of(&mut self, modem: &str) -> Result<Option<Hold>, StoreFault>
+        ensures served { Serves (state S.Store self.new.conn) → Serves (state S.Store self.old.conn) }
+        ensures stays { Stays (state S.Store self.old.conn) (state S.Store self.new.conn) }
+        ensures found { (m : Queue) (k : List Entry) → Means (state S.Store self.old.conn) m k
+            → Serves (state S.Store self.new.conn)
+            → OrUnavailable result (λ found. found ≡ option_map as_hold (held_by modem.now m)) }
+    {
+        self.read_hold(modem)
+    }
+
+    fn read_hold(&mut self, modem: &str) -> Result<Option<Hold>, StoreFault>
+        ensures served { Serves (state S.Store self.new.conn) → Serves (state S.Store self.old.conn) }
+        ensures answers { (m : Queue) (k : List Entry) → MeansNow (state S.Store self.old.conn) m k
+            → Serves (state S.Store self.new.conn)
+            → Answers (state S.Store self.old.conn) (state S.Store self.new.conn) result
+            (λ found. found ≡ option_map as_hold (held_by modem.now m)) }
+    {
+        match self.find(SELECT_HOLD, params![modem])? {
+            Some(row) => Ok(Some(Hold::in_row(&row)?)),
+            None => Ok(None),
+        }
+    }
+
+    /// The grant of this number.
+    ///
+    /// # Errors
+    ///
+    /// `Unavailable`, or `Strange` where its row is no lawful record.
+    pub fn grant(&mut self, number: u32) -> Result<Option<Grant>, StoreFault>
+        ensures served { Serves (state S.Store self.new.conn) → Serves (state S.Store self.old.conn) }
+        ensures stays { Stays (state S.Store self.old.conn) (state S.Store self.new.conn) }
+        ensures found { (m : Queue) (k : List Entry) → Means (state S.Store self.old.conn) m k
+            → Serves (state S.Store self.new.conn)
+            → OrUnavailable result (λ found. found ≡ grant_numbered number m) }
+    {
+        self.read_grant(number)
+    }
+
+    fn read_grant(&mut self, number: u32) -> Result<Option<Grant>, StoreFault>
+        ensures served { Serves (state S.Store self.new.conn) → Serves (state S.Store self.old.conn) }
+        ensures answers { (m : Queue) (k : List Entry) → MeansNow (state S.Store self.old.conn) m k
+            → Serves (state S.Store self.new.conn)
+            → Answers (state S.Store self.old.conn) (state S.Store self.new.conn) result
+            (λ found. found ≡ grant_numbered number m) }
+    {
+        match self.find(SELECT_GRANT, params![number])? {
+            Some(row) => Ok(Some(grant_in(self.alloc, &row)?)),
+            None => Ok(None),
+        }
+    }
+
+    fn insert_grant(&mut self, grant: &Grant) -> Result<(), StoreFault>
+        ensures served { Serves (state S.Store self.new.conn) → Serves (state S.Store self.old.conn) }
+        ensures written { (m₀ m : Queue) (k₀ k : List Entry) → Works (state S.Store self.old.conn) false m₀ k₀ m k
+            → Serves (state S.Store self.new.conn) → IsOpenGrant grant.now
+            → Steps (state S.Store self.new.conn) result m₀ k₀ (with_placed grant.now m) k }
+    {
+        self.run(
+            INSERT_HOLD,
+            params![grant.modem.as_str(), grant.job, grant.number],
+        )?;
+        self.run(
+            INSERT_GRANT,
+            params![
+                grant.number,
+                grant.job,
+                grant.modem.as_str(),
+                u32::from(grant.first_page),
+                u32::from(grant.last_page),
+                call_number(grant.call),
+                u32::from(grant.confirmed),
+            ],
+        )
+    }
+
+    fn add_grant(&mut self, grant: &Grant) -> Result<(), StoreFault>
+        ensures served { Serves (state S.Store self.new.conn) → Serves (state S.Store self.old.conn) }
+        ensures written { (m₀ m : Queue) (k₀ k : List Entry) → Works (state S.Store self.old.conn) false m₀ k₀ m k
+            → Serves (state S.Store self.new.conn)
+            → Moves (state S.Store self.new.conn) result m₀ k₀ (with_one_more grant.now m) k
+            × (IsOpenGrant grant.now → m.next_grant < 1000000000
+            → IfErr result (λ fault. fault ≡ StoreFault.Unavailable)) }
+    {
+        if !is_open_grant(grant) {
+            return Err(StoreFault::Strange);
+        }
+        let meta = self.read_meta()?;
+        if meta.next_grant >= PAST_GRANTS {
+            return Err(StoreFault::Strange);
+        }
+        self.insert_grant(grant)?;
+        self.write_meta(Meta {
+            next_grant: meta.next_grant + 1,
+            ..meta
+        })
+    }
+
+    fn write_report(&mut self, grant: &Grant) -> Result<(), StoreFault>
+        ensures served { Serves (state S.Store self.new.conn) → Serves (state S.Store self.old.conn) }
+        ensures written { (m₀ m : Queue) (k₀ k : List Entry) → IsReport grant.now m
+            → Works (state S.Store self.old.conn) false m₀ k₀ m k → Serves (state S.Store self.new.conn)
+            → Moves (state S.Store self.new.conn) result m₀ k₀ (with_grant grant.now m) k }
+        ensures cause { grant.now.confirmed ≤ 9999 → IfErr result (λ fault. fault ≡ StoreFault.Unavailable) }
+    {
+        if grant.confirmed > MOST_PAGES {
+            return Err(StoreFault::Strange);
+        }
+        self.run(
+            UPDATE_REPORT,
+            params![
+                grant.number,
+                call_number(grant.call),
+                u32::from(grant.confirmed),
+            ],
+        )
+    }
+
+    fn shut_grant(&mut self, number: u32) -> Result<(), StoreFault>
+        ensures served { Serves (state S.Store self.new.conn) → Serves (state S.Store self.old.conn) }
+        ensures written { (m₀ m : Queue) (k₀ k : List Entry) → Works (state S.Store self.old.conn) false m₀ k₀ m k
+            → Serves (state S.Store self.new.conn)
+            → Steps (state S.Store self.new.conn) result m₀ k₀ (with_closed number m) k }
+        ensures cause { IfErr result (λ fault. fault ≡ StoreFault.Unavailable) }
+    {
+        self.run(SHUT_GRANT, params![number])?;
+        self.run(DELETE_HOLD, params![number])
+    }
+}
+
+impl<S: Alter> Work<'_, S> {
+    /// What the modem holds, or none.
+    ///
+    /// # Errors
+    ///
+    /// `Unavailable`, or `Strange` where its row is no lawful record.
+    pub fn hold_of(&mut self, modem: &str) -> Result<Option<Hold>, StoreFault>
+        ensures same_reference { self.new.store.ghost_name ≡ self.old.store.ghost_name }
+        ensures keeps { Keeps (state S.Store self.old.store.now.conn) self.old.failed
+            (state S.Store self.new.store.now.conn) self.new.failed }
+        ensures found { AnswersIn (state S.Store self.old.store.now.conn) self.old.failed
+            (state S.Store self.new.store.now.conn) result
+            (λ m k found. found ≡ option_map as_hold (held_by modem.now m)) }
+        ensures served { Serves (state S.Store self.new.store.now.conn) → Serves (state S.Store self.old.store.now.conn) }
+        ensures fails { self.new.failed ≡ is_err result }
+        ensures refused { IsTrue self.old.failed → result ≡ Err StoreFault.Unavailable }
+    {
+        if self.failed {
+            return Err(StoreFault::Unavailable);
+        }
+        let found = self.store.read_hold(modem);
+        self.failed = found.is_err();
+        found
+    }
+
+    /// The grant of this number.
+    ///
+    /// # Errors
+    ///
+    /// `Unavailable`, or `Strange` where its row is no lawful record.
+    pub fn grant(&mut self, number: u32) -> Result<Option<Grant>, StoreFault>
+        ensures same_reference { self.new.store.ghost_name ≡ self.old.store.ghost_name }
+        ensures keeps { Keeps (state S.Store self.old.store.now.conn) self.old.failed
+            (state S.Store self.new.store.now.conn) self.new.failed }
+        ensures found { AnswersIn (state S.Store self.old.store.now.conn) self.old.failed
+            (state S.Store self.new.store.now.conn) result (λ m k found. found ≡ grant_numbered number m) }
+        ensures served { Serves (state S.Store self.new.store.now.conn) → Serves (state S.Store self.old.store.now.conn) }
+        ensures fails { self.new.failed ≡ is_err result }
+        ensures refused { IsTrue self.old.failed → result ≡ Err StoreFault.Unavailable }
+    {
+        if self.failed {
+            return Err(StoreFault::Unavailable);
+        }
+        let found = self.store.read_grant(number);
+        self.failed = found.is_err();
+        found
+    }
+
+    /// Adds an open grant of a number that no grant has, to a modem and a job that hold none, and
+    /// makes the next number one greater.
+    ///
+    /// # Errors
+    ///
+    /// `Unavailable`, also where a grant has the number, or the modem or the job holds one, or
+    /// `Strange` where the grant is not open, its numbers are past their limits or no next number
+    /// is left.
+    pub fn put_grant(&mut self, grant: &Grant) -> Result<(), StoreFault>
+        ensures same_reference { self.new.store.ghost_name ≡ self.old.store.ghost_name }
+        ensures changes { Changes (state S.Store self.old.store.now.conn) self.old.failed
+            (state S.Store self.new.store.now.conn) self.new.failed (with_one_more grant.now) (λ k. k) }
+        ensures cause { (m₀ m : Queue) (k₀ k : List Entry)
+            → Works (state S.Store self.old.store.now.conn) self.old.failed m₀ k₀ m k
+            → Serves (state S.Store self.new.store.now.conn) → IsOpenGrant grant.now → m.next_grant < 1000000000
+            → IfErr result (λ fault. fault ≡ StoreFault.Unavailable) }
+        ensures served { Serves (state S.Store self.new.store.now.conn) → Serves (state S.Store self.old.store.now.conn) }
+        ensures fails { self.new.failed ≡ is_err result }
+        ensures refused { IsTrue self.old.failed → result ≡ Err StoreFault.Unavailable }
+    {
+        if self.failed {
+            return Err(StoreFault::Unavailable);
+        }
+        let done = self.store.add_grant(grant);
+        self.failed = done.is_err();
+        done
+    }
+
+    /// Sets the call and the confirmed pages of the grant of this number. Where no grant has the
+    /// number, nothing changes.
+    ///
+    /// # Errors
+    ///
+    /// `Unavailable`, or `Strange` where more pages are confirmed than a grant can have.
+    pub fn put_report(&mut self, grant: &Grant) -> Result<(), StoreFault>
+        ensures same_reference { self.new.store.ghost_name ≡ self.old.store.ghost_name }
+        ensures changes { ChangesWhere (IsReport grant.now) (state S.Store self.old.store.now.conn) self.old.failed
+            (state S.Store self.new.store.now.conn) self.new.failed (with_grant grant.now) (λ k. k) }
+        ensures cause { grant.now.confirmed ≤ 9999 → IfErr result (λ fault. fault ≡ StoreFault.Unavailable) }
+        ensures served { Serves (state S.Store self.new.store.now.conn) → Serves (state S.Store self.old.store.now.conn) }
+        ensures fails { self.new.failed ≡ is_err result }
+        ensures refused { IsTrue self.old.failed → result ≡ Err StoreFault.Unavailable }
+    {
+        if self.failed {
+            return Err(StoreFault::Unavailable);
+        }
+        let done = self.store.write_report(grant);
+        self.failed = done.is_err();
+        done
+    }
+
+    /// Closes the grant of this number, so that its modem and its job hold it no more. Where no
+    /// grant has the number, nothing changes.
+    ///
+    /// # Errors
+    ///
+    /// `Unavailable`.
+    pub fn close_grant(&mut self, number: u32) -> Result<(), StoreFault>
+        ensures same_reference { self.new.store.ghost_name ≡ self.old.store.ghost_name }
+        ensures changes { Changes (state S.Store self.old.store.now.conn) self.old.failed
+            (state S.Store self.new.store.now.conn) self.new.failed (with_closed number) (λ k. k) }
+        ensures cause { IfErr result (λ fault. fault ≡ StoreFault.Unavailable) }
+        ensures served { Serves (state S.Store self.new.store.now.conn) → Serves (state S.Store self.old.store.now.conn) }
+        ensures fails { self.new.failed ≡ is_err result }
+        ensures refused { IsTrue self.old.failed → result ≡ Err StoreFault.Unavailable }
+    {
+        if self.failed {
+            return Err(StoreFault::Unavailable);
+        }
+        let done = self.store.shut_grant(number);
+        self.failed = done.is_err();
+        done
+    }
+}

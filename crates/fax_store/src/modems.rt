@@ -1,0 +1,136 @@
+//! The modems that are down.
+
+ghost use Rattle.std.specs.Prelude.{◌≡◌, List, true, false, Err, IfErr, is_err, IsTrue};
+ghost use Rattle.sqlite.specs.Held.{state};
+ghost use Rattle.fax_core.specs.Machine.{is_down, with_mark};
+ghost use Rattle.fax_core.specs.Queue.{Queue, Entry};
+ghost use Rattle.fax_job.specs.Name.{IsName};
+ghost use Rattle.fax_store.specs.Fault.{OrUnavailable};
+ghost use Rattle.fax_store.specs.Store.{Serves, Means, MeansNow, Stays, Answers};
+ghost use Rattle.fax_store.specs.Work.{Works, Keeps, Changes, AnswersIn, Moves, Steps};
+
+use crate::fault::StoreFault;
+use crate::store::Store;
+use crate::work::Work;
+use fax_job::is_name;
+use sqlite::{Alter, params};
+
+const SELECT_DOWN: &str = "SELECT modem FROM down WHERE modem = ?1";
+
+const INSERT_DOWN: &str = "INSERT INTO down (modem) VALUES (?1)";
+
+const DELETE_DOWN: &str = "DELETE FROM down WHERE modem = ?1";
+
+impl<S: Alter> Store<S> {
+    /// Whether the modem is down.
+    ///
+    /// # Errors
+    ///
+    /// `Unavailable`.
+    pub fn is_down(&mut self, modem: &str) -> Result<bool, StoreFault>
+        ensures served { Serves (state S.Store self.new.conn) → Serves (state S.Store self.old.conn) }
+        ensures stays { Stays (state S.Store self.old.conn) (state S.Store self.new.conn) }
+        ensures found { (m : Queue) (k : List Entry) → Means (state S.Store self.old.conn) m k
+            → Serves (state S.Store self.new.conn) → OrUnavailable result (λ down. down ≡ is_down modem.now m) }
+    {
+        self.read_mark(modem)
+    }
+
+    fn read_mark(&mut self, modem: &str) -> Result<bool, StoreFault>
+        ensures served { Serves (state S.Store self.new.conn) → Serves (state S.Store self.old.conn) }
+        ensures answers { (m : Queue) (k : List Entry) → MeansNow (state S.Store self.old.conn) m k
+            → Serves (state S.Store self.new.conn)
+            → Answers (state S.Store self.old.conn) (state S.Store self.new.conn) result (λ down. down ≡ is_down modem.now m) }
+        ensures cause { IfErr result (λ fault. fault ≡ StoreFault.Unavailable) }
+    {
+        let row = self.find(SELECT_DOWN, params![modem])?;
+        Ok(row.is_some())
+    }
+
+    fn clear_mark(&mut self, modem: &str) -> Result<(), StoreFault>
+        ensures served { Serves (state S.Store self.new.conn) → Serves (state S.Store self.old.conn) }
+        ensures written { (m₀ m : Queue) (k₀ k : List Entry) → Works (state S.Store self.old.conn) false m₀ k₀ m k
+            → Serves (state S.Store self.new.conn)
+            → Steps (state S.Store self.new.conn) result m₀ k₀ (with_mark modem.now false m) k }
+        ensures cause { IfErr result (λ fault. fault ≡ StoreFault.Unavailable) }
+    {
+        self.run(DELETE_DOWN, params![modem])
+    }
+
+    fn add_mark(&mut self, modem: &str) -> Result<(), StoreFault>
+        ensures served { Serves (state S.Store self.new.conn) → Serves (state S.Store self.old.conn) }
+        ensures written { (m₀ m : Queue) (k₀ k : List Entry) → Works (state S.Store self.old.conn) false m₀ k₀ m k
+            → Serves (state S.Store self.new.conn)
+            → Moves (state S.Store self.new.conn) result m₀ k₀ (with_mark modem.now true m) k }
+        ensures cause { IsName modem.now → IfErr result (λ fault. fault ≡ StoreFault.Unavailable) }
+    {
+        if !is_name(modem.as_bytes()) {
+            return Err(StoreFault::Strange);
+        }
+        if self.read_mark(modem)? {
+            return Ok(());
+        }
+        self.run(INSERT_DOWN, params![modem])
+    }
+
+    fn write_mark(&mut self, modem: &str, down: bool) -> Result<(), StoreFault>
+        ensures served { Serves (state S.Store self.new.conn) → Serves (state S.Store self.old.conn) }
+        ensures written { (m₀ m : Queue) (k₀ k : List Entry) → Works (state S.Store self.old.conn) false m₀ k₀ m k
+            → Serves (state S.Store self.new.conn)
+            → Moves (state S.Store self.new.conn) result m₀ k₀ (with_mark modem.now down m) k }
+        ensures cause { IsName modem.now → IfErr result (λ fault. fault ≡ StoreFault.Unavailable) }
+    {
+        if down {
+            self.add_mark(modem)
+        } else {
+            self.clear_mark(modem)
+        }
+    }
+}
+
+impl<S: Alter> Work<'_, S> {
+    /// Whether the modem is down.
+    ///
+    /// # Errors
+    ///
+    /// `Unavailable`.
+    pub fn is_down(&mut self, modem: &str) -> Result<bool, StoreFault>
+        ensures same_reference { self.new.store.ghost_name ≡ self.old.store.ghost_name }
+        ensures keeps { Keeps (state S.Store self.old.store.now.conn) self.old.failed
+            (state S.Store self.new.store.now.conn) self.new.failed }
+        ensures found { AnswersIn (state S.Store self.old.store.now.conn) self.old.failed
+            (state S.Store self.new.store.now.conn) result (λ m k down. down ≡ is_down modem.now m) }
+        ensures served { Serves (state S.Store self.new.store.now.conn) → Serves (state S.Store self.old.store.now.conn) }
+        ensures fails { self.new.failed ≡ is_err result }
+        ensures refused { IsTrue self.old.failed → result ≡ Err StoreFault.Unavailable }
+    {
+        if self.failed {
+            return Err(StoreFault::Unavailable);
+        }
+        let found = self.store.read_mark(modem);
+        self.failed = found.is_err();
+        found
+    }
+
+    /// Marks the modem as down, or takes the mark away. Either may stand so already.
+    ///
+    /// # Errors
+    ///
+    /// `Unavailable`, or `Strange` where what is to be marked is no name.
+    pub fn set_down(&mut self, modem: &str, down: bool) -> Result<(), StoreFault>
+        ensures same_reference { self.new.store.ghost_name ≡ self.old.store.ghost_name }
+        ensures changes { Changes (state S.Store self.old.store.now.conn) self.old.failed
+            (state S.Store self.new.store.now.conn) self.new.failed (with_mark modem.now down) (λ k. k) }
+        ensures cause { IsName modem.now → IfErr result (λ fault. fault ≡ StoreFault.Unavailable) }
+        ensures served { Serves (state S.Store self.new.store.now.conn) → Serves (state S.Store self.old.store.now.conn) }
+        ensures fails { self.new.failed ≡ is_err result }
+        ensures refused { IsTrue self.old.failed → result ≡ Err StoreFault.Unavailable }
+    {
+        if self.failed {
+            return Err(StoreFault::Unavailable);
+        }
+        let done = self.store.write_mark(modem, down);
+        self.failed = done.is_err();
+        done
+    }
+}
