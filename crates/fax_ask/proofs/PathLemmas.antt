@@ -9,7 +9,7 @@ use denote.Ref.{Bor}
 use Rattle.fax_job.proofs.LineLemmas.{Lacks, Lacks-tail}
 use Rattle.fax_job.specs.Reading.{onto}
 use Rattle.fax_job.specs.Spells.{has_byte}
-use Rattle.fax_ask.specs.Path.{parts}
+use Rattle.fax_ask.specs.Path.{parts, parts_left, two_texts}
 
 lacks_first : (c b : ℕ) (bs : List ℕ) → Lacks c (b ∷ bs) → eqb b c ≡ false
 lacks_first c b bs h = ne_eqb b c (h 0 (omega arith))
@@ -47,3 +47,37 @@ byte_of b bs false e h = ap (λ (t : Bool). eqb b 10 || t) h ∙ sym (any_onto 1
 pub byte_of_parts : (path : List ℕ) → has_byte 10 path ≡ list_any (has_byte 10) (parts path)
 byte_of_parts [] = refl
 byte_of_parts (b ∷ bs) = byte_of b bs (eqb b 47) refl (byte_of_parts bs)
+
+-- ---- every path has a text
+
+abbrev pub IsFilled : List (List ℕ) → Type 0
+IsFilled texts = (text : List ℕ) × (more : List (List ℕ)) × (texts ≡ text ∷ more)
+
+onto_fills : (b : ℕ) (texts : List (List ℕ)) → IsFilled (onto b texts)
+onto_fills b [] = (b ∷ [], [], refl)
+onto_fills b (text ∷ texts) = (b ∷ text, texts, refl)
+
+filled_by : (b : ℕ) (bs : List ℕ) (slash : Bool) → IsFilled (cond slash ([] ∷ parts bs) (onto b (parts bs)))
+filled_by b bs true = ([], parts bs, refl)
+filled_by b bs false = onto_fills b (parts bs)
+
+pub filled : (path : List ℕ) → IsFilled (parts path)
+filled [] = ([], [], refl)
+filled (b ∷ bs) = filled_by b bs (eqb b 47)
+
+-- ---- paths of two texts
+
+three_texts : (first second third : List ℕ) (more : List (List ℕ)) → two_texts (first ∷ second ∷ third ∷ more) ≡ None
+three_texts first second third more = refl
+
+pub more_texts : (first second rest : List ℕ) (o : Option (List ℕ)) → o ≡ Some rest → two_texts (first ∷ second ∷ parts_left o) ≡ None
+more_texts first second rest o e =
+    let f = filled rest in
+    ap (λ (p : Option (List ℕ)). two_texts (first ∷ second ∷ parts_left p)) e
+    ∙ (ap (λ (texts : List (List ℕ)). two_texts (first ∷ second ∷ texts)) f.2 ∙ three_texts first second f.0 f.1)
+
+pub more_than_two : (path first rest second third : List ℕ) (o p : Option (List ℕ)) → parts path ≡ first ∷ parts_left o → o ≡ Some rest → parts rest ≡ second ∷ parts_left p → p ≡ Some third → two_texts (parts path) ≡ None
+more_than_two path first rest second third o p e f g h =
+    ap two_texts e
+    ∙ (ap (λ (q : Option (List ℕ)). two_texts (first ∷ parts_left q)) f
+    ∙ (ap (λ (texts : List (List ℕ)). two_texts (first ∷ texts)) g ∙ more_texts first second third p h))

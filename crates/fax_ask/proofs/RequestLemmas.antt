@@ -1,5 +1,5 @@
 -- A path that names a request has no LF.
-use Rattle.std.proofs.Common.{◌≡◌, ℕ, Bool, true, false, cond, eqb, leb, ◌&&◌, List, [], ◌∷◌, length, refl, ap, ◌∙◌, arith}
+use Rattle.std.proofs.Common.{◌≡◌, ℕ, Bool, true, false, cond, eqb, leb, ◌&&◌, List, [], ◌∷◌, length, refl, sym, ap, ◌∙◌, arith}
 use Rattle.std.specs.Prelude.{Option, Some, None, codes, option_and_then}
 use Rattle.std.specs.Char.{is_ascii_digit}
 use Rattle.std.specs.Cmp.Lexicographic.{bytes_decides}
@@ -8,17 +8,19 @@ use Rattle.std.specs.Str.{bytes_eq}
 use Rattle.std.specs.Str.Parse.{digits_value}
 use Rattle.std.proofs.lemmas.Bool.{and_parts, or_from, ne_eqb, eqb-true, leb-true}
 use Rattle.std.proofs.lemmas.List.{nil_from_length}
+use Rattle.std.proofs.lemmas.Bool.{false≢true}
+use Rattle.std.proofs.lemmas.Option.{same_Some}
+use Rattle.fax_job.specs.Name.{is_name, is_name_byte}
 use Rattle.fax_job.specs.Number.{begins_with_zero, is_number, number_of, request_number_of}
 use Rattle.fax_job.specs.Spells.{has_byte}
 use Rattle.fax_ask.specs.Laws.{RoutedPathsLackLf}
 use Rattle.fax_ask.specs.declared.method.Method.{Method}
 use Rattle.fax_ask.specs.declared.method.Method.TheVariants.{Get, Post, Another}
 use Rattle.fax_ask.specs.declared.request.Request.{Request}
-use Rattle.fax_ask.specs.declared.request.Request.TheVariants.{Suspend, Resume, Kill, Alter}
-use Rattle.fax_job.specs.Reading.{onto}
-use Rattle.fax_ask.specs.Path.{parts, parts_left}
-use Rattle.fax_ask.specs.Request.{job_request, jobs_request, root_request, path_request, request_of}
-use Rattle.fax_ask.proofs.PathLemmas.{byte_of_parts}
+use Rattle.fax_ask.specs.declared.request.Request.TheVariants.{Suspend, Resume, Kill, Alter, Ready, Down, Next, Call, Page, Outcome}
+use Rattle.fax_ask.specs.Path.{parts, parts_left, two_texts}
+use Rattle.fax_ask.specs.Request.{job_request, jobs_request, modem_action, modem_request, modems_request, grant_report, grant_request, grants_request, root_request, path_request, request_of}
+use Rattle.fax_ask.proofs.PathLemmas.{byte_of_parts, filled}
 
 -- no text has an LF
 abbrev lacks_lf : List (List ℕ) → Type 0
@@ -84,14 +86,91 @@ in_jobs Get (id ∷ rest) request is = in_id Get id rest request (request_number
 in_jobs Post (id ∷ rest) request is = in_id Post id rest request (request_number_of id) refl is
 in_jobs Another (id ∷ rest) request is = in_id Another id rest request (request_number_of id) refl is
 
-in_collection : (method : Method) (collection : List ℕ) (rest : List (List ℕ)) (request : Request) (jobs : Bool) → bytes_eq collection (codes "jobs") ≡ jobs
-    → cond jobs (jobs_request method rest) None ≡ Some request → lacks_lf (collection ∷ rest)
-in_collection method collection rest request true e is = one_more collection rest (same_text collection (codes "jobs") e refl) (in_jobs method rest request is)
-in_collection method collection rest request false e is = absurd cc
+-- ---- modems and grants
+
+name_byte_is_no_lf : (byte : ℕ) → is_name_byte byte ≡ true → eqb byte 10 ≡ false
+name_byte_is_no_lf byte h = ne_eqb byte 10 (λ e. let other : is_name_byte 10 ≡ true = sym (ap is_name_byte e) ∙ h in absurd (false≢true other))
+
+bytes_lack_lf : (text : List ℕ) → list_all is_name_byte text ≡ true → has_byte 10 text ≡ false
+bytes_lack_lf [] h = refl
+bytes_lack_lf (byte ∷ text) h =
+    let both = and_parts (is_name_byte byte) (list_all is_name_byte text) h in
+    or_from (eqb byte 10) (has_byte 10 text) (name_byte_is_no_lf byte both.0) (bytes_lack_lf text both.1)
+
+names_lack_lf : (text : List ℕ) → is_name text ≡ true → has_byte 10 text ≡ false
+names_lack_lf text h = bytes_lack_lf text (and_parts (leb 1 (length text) && leb (length text) 32) (list_all is_name_byte text) h).1
+
+in_two : (rest : List (List ℕ)) (texts : List ℕ × List ℕ) → two_texts rest ≡ Some texts → has_byte 10 texts.0 ≡ false → has_byte 10 texts.1 ≡ false → lacks_lf rest
+in_two [] texts e h g = absurd cc
+in_two (first ∷ []) texts e h g = absurd cc
+in_two (first ∷ second ∷ []) texts e h g =
+    let same = same_Some (first, second) texts e in
+    one_more first (second ∷ []) (ap (λ (t : List ℕ × List ℕ). has_byte 10 t.0) same ∙ h)
+    (one_more second [] (ap (λ (t : List ℕ × List ℕ). has_byte 10 t.1) same ∙ g) refl)
+in_two (first ∷ second ∷ third ∷ more) texts e h g = absurd cc
+
+in_modem_action : (modem action : List ℕ) (request : Request) (a b c : Bool)
+    → bytes_eq action (codes "ready") ≡ a → bytes_eq action (codes "down") ≡ b → bytes_eq action (codes "next") ≡ c
+    → cond a (Some (Ready modem)) (cond b (Some (Down modem)) (cond c (Some (Next modem)) None)) ≡ Some request
+    → has_byte 10 action ≡ false
+in_modem_action modem action request true b c e f g is = same_text action (codes "ready") e refl
+in_modem_action modem action request false true c e f g is = same_text action (codes "down") f refl
+in_modem_action modem action request false false true e f g is = same_text action (codes "next") g refl
+in_modem_action modem action request false false false e f g is = absurd cc
+
+in_named : (rest : List (List ℕ)) (texts : List ℕ × List ℕ) (request : Request) (named : Bool) → two_texts rest ≡ Some texts → is_name texts.0 ≡ named
+    → cond named (modem_action texts.0 texts.1) None ≡ Some request → lacks_lf rest
+in_named rest texts request true e n is =
+    in_two rest texts e (names_lack_lf texts.0 n) (in_modem_action texts.0 texts.1 request _ _ _ refl refl refl is)
+in_named rest texts request false e n is = absurd cc
+
+in_modem : (rest : List (List ℕ)) (request : Request) (o : Option (List ℕ × List ℕ)) → two_texts rest ≡ o → modem_request o ≡ Some request → lacks_lf rest
+in_modem rest request None e is = absurd cc
+in_modem rest request (Some texts) e is = in_named rest texts request (is_name texts.0) e refl is
+
+in_modems : (method : Method) (rest : List (List ℕ)) (request : Request) → modems_request method rest ≡ Some request → lacks_lf rest
+in_modems Get rest request is = absurd cc
+in_modems Post rest request is = in_modem rest request (two_texts rest) refl is
+in_modems Another rest request is = absurd cc
+
+in_report : (grant : ℕ) (report : List ℕ) (request : Request) (a b c : Bool)
+    → bytes_eq report (codes "call") ≡ a → bytes_eq report (codes "page") ≡ b → bytes_eq report (codes "outcome") ≡ c
+    → cond a (Some (Call grant)) (cond b (Some (Page grant)) (cond c (Some (Outcome grant)) None)) ≡ Some request
+    → has_byte 10 report ≡ false
+in_report grant report request true b c e f g is = same_text report (codes "call") e refl
+in_report grant report request false true c e f g is = same_text report (codes "page") f refl
+in_report grant report request false false true e f g is = same_text report (codes "outcome") g refl
+in_report grant report request false false false e f g is = absurd cc
+
+in_numbered : (rest : List (List ℕ)) (texts : List ℕ × List ℕ) (request : Request) (number : Option ℕ) → two_texts rest ≡ Some texts → request_number_of texts.0 ≡ number
+    → option_and_then (λ grant. grant_report grant texts.1) number ≡ Some request → lacks_lf rest
+in_numbered rest texts request None e n is = absurd cc
+in_numbered rest texts request (Some grant) e n is =
+    in_two rest texts e (numbers_lack_lf texts.0 grant (begins_with_zero texts.0) n) (in_report grant texts.1 request _ _ _ refl refl refl is)
+
+in_grant : (rest : List (List ℕ)) (request : Request) (o : Option (List ℕ × List ℕ)) → two_texts rest ≡ o → grant_request o ≡ Some request → lacks_lf rest
+in_grant rest request None e is = absurd cc
+in_grant rest request (Some texts) e is = in_numbered rest texts request (request_number_of texts.0) e refl is
+
+in_grants : (method : Method) (rest : List (List ℕ)) (request : Request) → grants_request method rest ≡ Some request → lacks_lf rest
+in_grants Get rest request is = absurd cc
+in_grants Post rest request is = in_grant rest request (two_texts rest) refl is
+in_grants Another rest request is = absurd cc
+
+-- ---- the whole
+
+in_collection : (method : Method) (collection : List ℕ) (rest : List (List ℕ)) (request : Request) (jobs modems grants : Bool)
+    → bytes_eq collection (codes "jobs") ≡ jobs → bytes_eq collection (codes "modems") ≡ modems → bytes_eq collection (codes "grants") ≡ grants
+    → cond jobs (jobs_request method rest) (cond modems (modems_request method rest) (cond grants (grants_request method rest) None)) ≡ Some request
+    → lacks_lf (collection ∷ rest)
+in_collection method collection rest request true modems grants e f g is = one_more collection rest (same_text collection (codes "jobs") e refl) (in_jobs method rest request is)
+in_collection method collection rest request false true grants e f g is = one_more collection rest (same_text collection (codes "modems") f refl) (in_modems method rest request is)
+in_collection method collection rest request false false true e f g is = one_more collection rest (same_text collection (codes "grants") g refl) (in_grants method rest request is)
+in_collection method collection rest request false false false e f g is = absurd cc
 
 in_root : (method : Method) (rest : List (List ℕ)) (request : Request) → root_request method rest ≡ Some request → lacks_lf rest
 in_root method [] request is = refl
-in_root method (collection ∷ rest) request is = in_collection method collection rest request (bytes_eq collection (codes "jobs")) refl is
+in_root method (collection ∷ rest) request is = in_collection method collection rest request _ _ _ refl refl refl is
 
 in_lead : (method : Method) (lead : List ℕ) (rest : List (List ℕ)) (request : Request) (empty : Bool) → eqb (length lead) 0 ≡ empty
     → cond empty (root_request method rest) None ≡ Some request → lacks_lf (lead ∷ rest)
@@ -108,21 +187,6 @@ unfolding request_of
 routed_paths_lack_lf method path request is = byte_of_parts path ∙ in_path method (parts path) request is
 
 -- ---- a longer path names nothing
-
-abbrev IsFilled : List (List ℕ) → Type 0
-IsFilled texts = (text : List ℕ) × (more : List (List ℕ)) × (texts ≡ text ∷ more)
-
-onto_fills : (b : ℕ) (texts : List (List ℕ)) → IsFilled (onto b texts)
-onto_fills b [] = (b ∷ [], [], refl)
-onto_fills b (text ∷ texts) = (b ∷ text, texts, refl)
-
-filled_by : (b : ℕ) (bs : List ℕ) (slash : Bool) → IsFilled (cond slash ([] ∷ parts bs) (onto b (parts bs)))
-filled_by b bs true = ([], parts bs, refl)
-filled_by b bs false = onto_fills b (parts bs)
-
-filled : (path : List ℕ) → IsFilled (parts path)
-filled [] = ([], [], refl)
-filled (b ∷ bs) = filled_by b bs (eqb b 47)
 
 two_more : (method : Method) (job : ℕ) (action text : List ℕ) (more : List (List ℕ)) → job_request method job (action ∷ text ∷ more) ≡ None
 two_more Get job action text more = refl

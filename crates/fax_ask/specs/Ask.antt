@@ -1,6 +1,7 @@
 -- What is asked for: by method, path and body.
 use Rattle.std.specs.Prelude.{◌≡◌, ◌≤◌, ℕ, List, Result, Ok, Err, ⊤, IfSome, MatchOption}
 use Rattle.fax_job.specs.declared.alter.Alter.{Alter as Changes}
+use Rattle.fax_job.specs.declared.job.Call.{Call as CallEnd}
 use Rattle.fax_job.specs.declared.order.Order.{Order as OrderFields}
 use Rattle.fax_job.specs.declared.order.OrderFault.{OrderFault}
 use Rattle.fax_job.specs.declared.refusal.BodyFault.{BodyFault}
@@ -17,7 +18,8 @@ use Rattle.fax_ask.specs.declared.ask.Ask.{Ask}
 use Rattle.fax_ask.specs.declared.ask.Ask.TheVariants as said
 use Rattle.fax_ask.specs.declared.method.Method.{Method}
 use Rattle.fax_ask.specs.declared.request.Request.{Request}
-use Rattle.fax_ask.specs.declared.request.Request.TheVariants.{Submit, Suspend, Resume, Kill, Alter, Show}
+use Rattle.fax_ask.specs.declared.request.Request.TheVariants.{Submit, Suspend, Resume, Kill, Alter, Show, Ready, Down, Next, Call, Page, Outcome}
+use Rattle.fax_ask.specs.Report.{IsReportRefusal, Reports, call_in, outcome_in, outcome_of, page_in}
 use Rattle.fax_ask.specs.Request.{request_of}
 
 -- a step of the queue, or the lines of a job
@@ -33,6 +35,12 @@ asked (said.Resume job) = Step (machine.Resume job)
 asked (said.Kill job) = Step (machine.Kill job)
 asked (said.Alteration job alter) = Step (machine.Alteration job alter)
 asked (said.Show job) = View job
+asked (said.Ready modem) = Step (machine.Ready modem)
+asked (said.Down modem) = Step (machine.Down modem)
+asked (said.Next modem) = Step (machine.Next modem)
+asked (said.CallReport grant call) = Step (machine.CallReport grant call)
+asked (said.PageReport grant page) = Step (machine.PageReport grant page)
+asked (said.OutcomeReport grant outcome) = Step (machine.OutcomeReport grant (outcome_of outcome))
 
 -- ---- bodies
 
@@ -71,11 +79,24 @@ Asks (Resume job) body ask = ask ≡ Step (machine.Resume job)
 Asks (Kill job) body ask = ask ≡ Step (machine.Kill job)
 Asks (Alter job) body ask = (changes : Changes) × States alter_of body changes × (ask ≡ Step (machine.Alteration job changes))
 Asks (Show job) body ask = ask ≡ View job
+Asks (Ready modem) body ask = ask ≡ Step (machine.Ready modem)
+Asks (Down modem) body ask = ask ≡ Step (machine.Down modem)
+Asks (Next modem) body ask = ask ≡ Step (machine.Next modem)
+Asks (Call grant) body ask = (call : CallEnd) × Reports call_in body call × (ask ≡ Step (machine.CallReport grant call))
+Asks (Page grant) body ask = (page : ℕ) × Reports page_in body page × (ask ≡ Step (machine.PageReport grant page))
+Asks (Outcome grant) body ask = (outcome : machine.Outcome) × Reports outcome_in body outcome × (ask ≡ Step (machine.OutcomeReport grant outcome))
 
 -- why a request with this body is refused: a body that isn't read has no fault
 abbrev pub IsBodyRefusal : Request → List ℕ → Refusal → Type 0
 IsBodyRefusal Submit body refusal = IsLinesRefusal order_of body refusal
 IsBodyRefusal (Alter job) body refusal = IsLinesRefusal alter_of body refusal
+IsBodyRefusal (Call grant) body refusal = IsReportRefusal call_in body refusal
+IsBodyRefusal (Page grant) body refusal = IsReportRefusal page_in body refusal
+IsBodyRefusal (Outcome grant) body refusal = IsReportRefusal outcome_in body refusal
+-- a modem's name is kept in memory
+IsBodyRefusal (Ready modem) body refusal = refusal ≡ Unavailable
+IsBodyRefusal (Down modem) body refusal = refusal ≡ Unavailable
+IsBodyRefusal (Next modem) body refusal = refusal ≡ Unavailable
 IsBodyRefusal other body refusal = ⊥
 
 -- ---- the whole

@@ -7,12 +7,21 @@ use Rattle.fax_core.specs.Reply.{Keys}
 use Rattle.fax_ask.specs.declared.method.Method.{Method}
 use Rattle.fax_ask.specs.declared.request.Request.{Request}
 use Rattle.fax_ask.specs.Answer.{Told}
+use Rattle.fax_ask.specs.Ask.{Asked, IsAsk, IsRefused}
 use Rattle.fax_ask.specs.Request.{request_of}
 use Rattle.fax_ask.specs.Response.{accepted_response, refused_response}
 
 -- a path that names a request has no LF
 abbrev pub RoutedPathsLackLf : Type 0
 RoutedPathsLackLf = (method : Method) (path : List ℕ) (request : Request) → request_of method path ≡ Some request → has_byte 10 path ≡ false
+
+-- a method, a path and a body ask for one thing
+abbrev pub OneAsk : Type 0
+OneAsk = (method : Method) (path body : List ℕ) (a b : Asked) → IsAsk method path body a → IsAsk method path body b → a ≡ b
+
+-- what asks for something is refused for want of memory alone
+abbrev pub AskOrRefusal : Type 0
+AskOrRefusal = (method : Method) (path body : List ℕ) (ask : Asked) (refusal : Refusal) → IsAsk method path body ask → IsRefused method path body refusal → refusal ≡ Unavailable
 
 -- an accepted request is answered with 200 or 201
 abbrev pub AcceptedAre200Or201 : Type 0

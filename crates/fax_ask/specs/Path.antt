@@ -11,3 +11,8 @@ parts (byte ∷ bytes) = if byte == 47 then [] ∷ parts bytes else onto byte (p
 abbrev pub parts_left : Option (List ℕ) → List (List ℕ)
 parts_left None = []
 parts_left (Some rest) = parts rest
+
+-- the texts of a path that has two
+abbrev pub two_texts : List (List ℕ) → Option (List ℕ × List ℕ)
+two_texts (first ∷ second ∷ []) = Some (first, second)
+two_texts other = None

@@ -1,12 +1,13 @@
 -- The table of requests: which method and path name which.
 use Rattle.std.specs.Prelude.{ℕ, List, [], ◌∷◌, ◌==◌, length, codes, Option, Some, None, option_and_then, if◌then◌else◌}
 use Rattle.std.specs.Str.{bytes_eq}
+use Rattle.fax_job.specs.Name.{is_name}
 use Rattle.fax_job.specs.Number.{request_number_of}
 use Rattle.fax_ask.specs.declared.method.Method.{Method}
-use Rattle.fax_ask.specs.declared.method.Method.TheVariants.{Get, Post}
+use Rattle.fax_ask.specs.declared.method.Method.TheVariants.{Get, Post, Another}
 use Rattle.fax_ask.specs.declared.request.Request.{Request}
-use Rattle.fax_ask.specs.declared.request.Request.TheVariants.{Submit, Suspend, Resume, Kill, Alter, Show}
-use Rattle.fax_ask.specs.Path.{parts}
+use Rattle.fax_ask.specs.declared.request.Request.TheVariants.{Submit, Suspend, Resume, Kill, Alter, Show, Ready, Down, Next, Call, Page, Outcome}
+use Rattle.fax_ask.specs.Path.{parts, two_texts}
 
 -- POST /jobs/{id}/ACTION
 abbrev pub job_action : ℕ → List ℕ → Option Request
@@ -29,8 +30,48 @@ jobs_request Post [] = Some Submit
 jobs_request method (id ∷ rest) = option_and_then (λ job. job_request method job rest) (request_number_of id)
 jobs_request method [] = None
 
+-- POST /modems/{m}/ACTION
+abbrev pub modem_action : List ℕ → List ℕ → Option Request
+modem_action modem action =
+    if bytes_eq action (codes "ready") then Some (Ready modem)
+    else if bytes_eq action (codes "down") then Some (Down modem)
+    else if bytes_eq action (codes "next") then Some (Next modem)
+    else None
+
+-- {m} is 1 to 32 of `A-Za-z0-9._-`
+abbrev pub modem_request : Option (List ℕ × List ℕ) → Option Request
+modem_request None = None
+modem_request (Some texts) = if is_name texts.0 then modem_action texts.0 texts.1 else None
+
+abbrev pub modems_request : Method → List (List ℕ) → Option Request
+modems_request Post rest = modem_request (two_texts rest)
+modems_request Get rest = None
+modems_request Another rest = None
+
+-- POST /grants/{g}/REPORT
+abbrev pub grant_report : ℕ → List ℕ → Option Request
+grant_report grant report =
+    if bytes_eq report (codes "call") then Some (Call grant)
+    else if bytes_eq report (codes "page") then Some (Page grant)
+    else if bytes_eq report (codes "outcome") then Some (Outcome grant)
+    else None
+
+-- {g} is written as {id} is
+abbrev pub grant_request : Option (List ℕ × List ℕ) → Option Request
+grant_request None = None
+grant_request (Some texts) = option_and_then (λ grant. grant_report grant texts.1) (request_number_of texts.0)
+
+abbrev pub grants_request : Method → List (List ℕ) → Option Request
+grants_request Post rest = grant_request (two_texts rest)
+grants_request Get rest = None
+grants_request Another rest = None
+
 abbrev pub root_request : Method → List (List ℕ) → Option Request
-root_request method (collection ∷ rest) = if bytes_eq collection (codes "jobs") then jobs_request method rest else None
+root_request method (collection ∷ rest) =
+    if bytes_eq collection (codes "jobs") then jobs_request method rest
+    else if bytes_eq collection (codes "modems") then modems_request method rest
+    else if bytes_eq collection (codes "grants") then grants_request method rest
+    else None
 root_request method [] = None
 
 -- a path begins with `/`

@@ -7,11 +7,13 @@ ghost use Rattle.fax_core.specs.Ask.{HasLimits as HasOrderLimits};
 ghost use Rattle.fax_ask.specs.Ask.{asked, Asks, HasLimits, States, IsAsk, IsBodyRefusal, IsLawful, IsLinesRefusal, IsRefused};
 
 use crate::method::Method;
+use crate::report::{Outcome, read_call, read_outcome, read_page};
 use crate::request::Request;
-use fax_job::{Alter, Order, Refusal, read_lines};
+use fax_job::{Alter, Call, Name, Order, Refusal, read_lines};
 use std::alloc::Global;
 
-/// What is asked for. The numbers of jobs are as they were written: from 1, and of 18 digits at most.
+/// What is asked for. Numbers of jobs and grants are as they were written: from 1, and of 18 digits
+/// at most.
 #[derive(Debug, Drop)]
 pub enum Ask {
     Submission(Order),
@@ -21,6 +23,14 @@ pub enum Ask {
     Alteration { job: u64, alter: Alter },
     /// The key lines of a job.
     Show { job: u64 },
+    Ready { modem: Name },
+    Down { modem: Name },
+    /// What the modem is to send.
+    Next { modem: Name },
+    CallReport { grant: u64, call: Call },
+    /// A page, from 1 to 9999.
+    PageReport { grant: u64, page: u16 },
+    OutcomeReport { grant: u64, outcome: Outcome },
 }
 
 /// What a method, a path and a body ask for.
@@ -43,9 +53,9 @@ pub fn read_ask(alloc: Global, method: Method, path: &str, body: &[u8]) -> Resul
 }
 
 /// What a request with this body asks for.
-fn read_body(alloc: Global, request: Request, body: &[u8]) -> Result<Ask, Refusal>
-    ensures ask { IfOk result (λ ask. Asks request body.now (asked ask)) }
-    ensures refused { IfErr result (IsBodyRefusal request body.now) }
+fn read_body(alloc: Global, request: Request<'_>, body: &[u8]) -> Result<Ask, Refusal>
+    ensures ask { IfOk result (λ ask. Asks request.entry body.now (asked ask)) }
+    ensures refused { IfErr result (IsBodyRefusal request.entry body.now) }
     ensures lawful { IfOk result (λ ask. IsLawful (asked ask)) }
 {
     match request {
@@ -58,6 +68,27 @@ fn read_body(alloc: Global, request: Request, body: &[u8]) -> Result<Ask, Refusa
             Ok(Ask::Alteration { job, alter })
         }
         Request::Show { job } => Ok(Ask::Show { job }),
+        Request::Ready { modem } => Ok(Ask::Ready {
+            modem: modem.keep(alloc)?,
+        }),
+        Request::Down { modem } => Ok(Ask::Down {
+            modem: modem.keep(alloc)?,
+        }),
+        Request::Next { modem } => Ok(Ask::Next {
+            modem: modem.keep(alloc)?,
+        }),
+        Request::Call { grant } => {
+            let call = read_call(alloc, body)?;
+            Ok(Ask::CallReport { grant, call })
+        }
+        Request::Page { grant } => {
+            let page = read_page(alloc, body)?;
+            Ok(Ask::PageReport { grant, page })
+        }
+        Request::Outcome { grant } => {
+            let outcome = read_outcome(alloc, body)?;
+            Ok(Ask::OutcomeReport { grant, outcome })
+        }
     }
 }
 

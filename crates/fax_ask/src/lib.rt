@@ -10,8 +10,10 @@ mod ask;
 mod detail;
 pub mod laws;
 mod method;
+mod modem_name;
 mod path;
 mod reply;
+mod report;
 mod request;
 mod spelling;
 
@@ -20,6 +22,7 @@ pub use ask::{Ask, read_ask};
 pub use detail::Detail;
 pub use method::Method;
 pub use reply::{Reply, has_detail};
+pub use report::Outcome;
 
 #[cfg(test)]
 mod tests;

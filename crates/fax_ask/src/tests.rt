@@ -1,2 +1,3 @@
 mod replies;
+mod reports;
 mod requests;

@@ -5,7 +5,7 @@ use std::test::Fail;
 
 const SUBMISSION: &[u8] = b"number:+1 415 555-0100\ntotpages:3\n";
 
-/// What is asked for, and of which job.
+/// What is asked for, and the number of its job or grant.
 fn kind(ask: &Ask) -> (&'static str, u64) {
     match ask {
         Ask::Submission(_) => ("submission", 0),
@@ -14,6 +14,12 @@ fn kind(ask: &Ask) -> (&'static str, u64) {
         Ask::Kill { job } => ("kill", *job),
         Ask::Alteration { job, alter: _ } => ("alteration", *job),
         Ask::Show { job } => ("show", *job),
+        Ask::Ready { modem: _ } => ("ready", 0),
+        Ask::Down { modem: _ } => ("down", 0),
+        Ask::Next { modem: _ } => ("next", 0),
+        Ask::CallReport { grant, call: _ } => ("call", *grant),
+        Ask::PageReport { grant, page: _ } => ("page", *grant),
+        Ask::OutcomeReport { grant, outcome: _ } => ("outcome", *grant),
     }
 }
 
@@ -42,6 +48,9 @@ fn requests(rt: HostRuntime) -> Result<(), Fail> {
             "/jobs/999999999999999999",
             ("show", 999_999_999_999_999_999),
         ),
+        (Method::Post, "/modems/ttyS0/ready", ("ready", 0)),
+        (Method::Post, "/modems/a.b_c-9/down", ("down", 0)),
+        (Method::Post, "/modems/ttyS1/next", ("next", 0)),
     ];
     for (method, path, want) in cases {
         // A body that isn't needed isn't read.
@@ -77,6 +86,20 @@ fn what_names_no_request(rt: HostRuntime) {
         (Method::Post, "/jobs/+1/kill"),
         (Method::Post, "/jobs/1234567890123456789/kill"),
         (Method::Post, "http://localhost/jobs"),
+        (Method::Post, "/modems"),
+        (Method::Post, "/modems/ttyS0"),
+        (Method::Post, "/modems//next"),
+        (Method::Post, "/modems/tty+0/next"),
+        (Method::Post, "/modems/ttyS0/next/"),
+        (
+            Method::Post,
+            "/modems/a23456789012345678901234567890123/next",
+        ),
+        (Method::Get, "/modems/ttyS0/next"),
+        (Method::Post, "/grants"),
+        (Method::Post, "/grants/01/call"),
+        (Method::Post, "/grants/1/calls"),
+        (Method::Get, "/grants/1/call"),
     ];
     for (method, path) in cases {
         // The path comes before the body.

@@ -1,0 +1,114 @@
+-- What a method, a path and a body ask for is one thing, and nothing that is refused but for want of memory.
+use Rattle.std.proofs.Common.{◌≡◌, ℕ, List, refl, sym, ap, ◌∙◌}
+use Rattle.std.specs.Prelude.{Option, Some, None, Result, Ok, Err, MatchOption}
+use Rattle.std.proofs.lemmas.Option.{same_Some}
+use Rattle.serde_json.specs.Data.{Data}
+use Rattle.serde_json.specs.Read.{read}
+use Rattle.fax_job.specs.declared.order.OrderFault.{OrderFault}
+use Rattle.fax_job.specs.declared.refusal.BodyFault.TheVariants.{Line, Order, BadJson, BadField}
+use Rattle.fax_job.specs.declared.refusal.Refusal.{Refusal}
+use Rattle.fax_job.specs.declared.refusal.Refusal.TheVariants.{NoRoute, BadBody, Unavailable}
+use Rattle.fax_job.specs.Alter.{alter_of}
+use Rattle.fax_job.specs.Order.{order_of}
+use Rattle.fax_job.specs.Pair.{Pair}
+use Rattle.fax_job.specs.Reading.{fault_at}
+use Rattle.fax_job.proofs.FaultLemmas.{fault_or_list}
+use Rattle.fax_job.proofs.TextLemmas.{spelled_alone}
+use Rattle.fax_core.specs.Ask as machine
+use Rattle.fax_ask.specs.declared.request.Request.{Request}
+use Rattle.fax_ask.specs.declared.request.Request.TheVariants.{Submit, Suspend, Resume, Kill, Alter, Show, Ready, Down, Next, Call, Page, Outcome}
+use Rattle.fax_ask.specs.Ask.{Asked, Step, States, HasFault, IsLinesRefusal, Asks, IsBodyRefusal}
+use Rattle.fax_ask.specs.Laws.{OneAsk, AskOrRefusal}
+use Rattle.fax_ask.specs.Report.{IsJson, IsReportRefusal, Reports, call_in, outcome_in, page_in}
+use Rattle.fax_ask.specs.Request.{request_of}
+
+abbrev well : {T : Type 0} → T → Result T OrderFault
+well x = Ok x
+
+same_Ok : {T : Type 0} (x y : T) → well x ≡ well y → x ≡ y
+same_Ok x y e = cc
+
+module _ {T : Type 0} (value_of : List Pair → Result T OrderFault) (body : List ℕ) where
+  states_alone : (a b : T) → States value_of body a → States value_of body b → a ≡ b
+  states_alone a b s t = same_Ok a b (sym s.stated ∙ (ap value_of (spelled_alone body s.lines t.lines s.spelled t.spelled) ∙ t.stated))
+
+  no_fault : (a : T) (fault : OrderFault) → States value_of body a → HasFault value_of body fault → ⊥
+  no_fault a fault s t =
+      let both : well a ≡ Err fault = sym s.stated ∙ (ap value_of (spelled_alone body s.lines t.lines s.spelled t.spelled) ∙ t.faulty) in
+      absurd cc
+
+  states_or_refusal : (a : T) (refusal : Refusal) → States value_of body a → IsLinesRefusal value_of body refusal → refusal ≡ Unavailable
+  states_or_refusal a (BadBody (Line line kind)) s h = absurd (fault_or_list body (fault_at line kind) s.lines h s.spelled)
+  states_or_refusal a (BadBody (Order fault)) s h = absurd (no_fault a fault s h)
+  states_or_refusal a (BadBody BadJson) s h = absurd h
+  states_or_refusal a (BadBody BadField) s h = absurd h
+  states_or_refusal a Unavailable s h = refl
+  states_or_refusal a other s h = absurd h
+
+json_alone : (body : List ℕ) (a b : Data) → IsJson body a → IsJson body b → a ≡ b
+json_alone body a b h g = same_Some a b (sym h.written ∙ g.written)
+
+no_json : (body : List ℕ) (a : Data) → IsJson body a → read body ≡ None → ⊥
+no_json body a h e =
+    let both : Some a ≡ None = sym h.written ∙ e in
+    absurd cc
+
+module _ {T : Type 0} (report_in : Data → Option T) (body : List ℕ) where
+  reports_alone : (a b : T) → Reports report_in body a → Reports report_in body b → a ≡ b
+  reports_alone a b h g = same_Some a b (sym h.says ∙ (ap report_in (json_alone body h.json g.json h.is_json g.is_json) ∙ g.says))
+
+  reports_or_refusal : (a : T) (refusal : Refusal) → Reports report_in body a → IsReportRefusal report_in body refusal → refusal ≡ Unavailable
+  reports_or_refusal a (BadBody (Line line kind)) s h = absurd h
+  reports_or_refusal a (BadBody (Order fault)) s h = absurd h
+  reports_or_refusal a (BadBody BadJson) s h = absurd (no_json body s.json s.is_json (h s.is_json.text))
+  reports_or_refusal a (BadBody BadField) s h =
+      let both : Some a ≡ None = sym s.says ∙ (ap report_in (json_alone body s.json h.json s.is_json h.is_json) ∙ h.lacks) in
+      absurd cc
+  reports_or_refusal a Unavailable s h = refl
+  reports_or_refusal a other s h = absurd h
+
+-- ---- requests with their bodies
+
+asks_alone : (request : Request) (body : List ℕ) (a b : Asked) → Asks request body a → Asks request body b → a ≡ b
+asks_alone Submit body a b h g = h.2 ∙ (ap (λ o. Step (machine.Submission o)) (states_alone order_of body h.0 g.0 h.1 g.1) ∙ sym g.2)
+asks_alone (Alter job) body a b h g = h.2 ∙ (ap (λ o. Step (machine.Alteration job o)) (states_alone alter_of body h.0 g.0 h.1 g.1) ∙ sym g.2)
+asks_alone (Call grant) body a b h g = h.2 ∙ (ap (λ o. Step (machine.CallReport grant o)) (reports_alone call_in body h.0 g.0 h.1 g.1) ∙ sym g.2)
+asks_alone (Page grant) body a b h g = h.2 ∙ (ap (λ o. Step (machine.PageReport grant o)) (reports_alone page_in body h.0 g.0 h.1 g.1) ∙ sym g.2)
+asks_alone (Outcome grant) body a b h g = h.2 ∙ (ap (λ o. Step (machine.OutcomeReport grant o)) (reports_alone outcome_in body h.0 g.0 h.1 g.1) ∙ sym g.2)
+asks_alone (Suspend job) body a b h g = h ∙ sym g
+asks_alone (Resume job) body a b h g = h ∙ sym g
+asks_alone (Kill job) body a b h g = h ∙ sym g
+asks_alone (Show job) body a b h g = h ∙ sym g
+asks_alone (Ready modem) body a b h g = h ∙ sym g
+asks_alone (Down modem) body a b h g = h ∙ sym g
+asks_alone (Next modem) body a b h g = h ∙ sym g
+
+ask_or_refusal : (request : Request) (body : List ℕ) (a : Asked) (refusal : Refusal) → Asks request body a → IsBodyRefusal request body refusal → refusal ≡ Unavailable
+ask_or_refusal Submit body a refusal h r = states_or_refusal order_of body h.0 refusal h.1 r
+ask_or_refusal (Alter job) body a refusal h r = states_or_refusal alter_of body h.0 refusal h.1 r
+ask_or_refusal (Call grant) body a refusal h r = reports_or_refusal call_in body h.0 refusal h.1 r
+ask_or_refusal (Page grant) body a refusal h r = reports_or_refusal page_in body h.0 refusal h.1 r
+ask_or_refusal (Outcome grant) body a refusal h r = reports_or_refusal outcome_in body h.0 refusal h.1 r
+ask_or_refusal (Suspend job) body a refusal h r = absurd r
+ask_or_refusal (Resume job) body a refusal h r = absurd r
+ask_or_refusal (Kill job) body a refusal h r = absurd r
+ask_or_refusal (Show job) body a refusal h r = absurd r
+ask_or_refusal (Ready modem) body a refusal h r = r
+ask_or_refusal (Down modem) body a refusal h r = r
+ask_or_refusal (Next modem) body a refusal h r = r
+
+-- ---- the whole
+
+one_by : (o : Option Request) (body : List ℕ) (a b : Asked) → MatchOption o ⊥ (λ request. Asks request body a) → MatchOption o ⊥ (λ request. Asks request body b) → a ≡ b
+one_by None body a b h g = absurd h
+one_by (Some request) body a b h g = asks_alone request body a b h g
+
+pub one_ask : OneAsk
+one_ask method path body a b h g = one_by (request_of method path) body a b h g
+
+refused_by : (o : Option Request) (body : List ℕ) (a : Asked) (refusal : Refusal) → MatchOption o ⊥ (λ request. Asks request body a) → MatchOption o (refusal ≡ NoRoute) (λ request. IsBodyRefusal request body refusal) → refusal ≡ Unavailable
+refused_by None body a refusal h r = absurd h
+refused_by (Some request) body a refusal h r = ask_or_refusal request body a refusal h r
+
+pub ask_or_refused : AskOrRefusal
+ask_or_refused method path body a refusal h r = refused_by (request_of method path) body a refusal h r

@@ -1,0 +1,255 @@
+//! What workers report, from the JSON (RFC 8259) of a body.
+
+ghost use Rattle.std.specs.Prelude.{◌≡◌, ◌≤◌, IfOk, IfErr};
+ghost use Rattle.std.specs.List.{list_all};
+ghost use Rattle.std.specs.Option.{option_copied, option_map};
+ghost use Rattle.fax_ask.specs.Report.{IsJson, IsJsonRefusal, IsReportRefusal, Reports, begins_with_space, bool_at, call_in, call_named, ending_named, is_reason, is_reason_byte, number_at, outcome_in, outcome_of, outcome_read, page_in, reason_at, reason_of, text_at, within};
+ghost use Rattle.fax_job.specs.Value.{ends_with_backslash};
+ghost use Rattle.fax_job.specs.declared.refusal.Refusal.TheVariants.{Unavailable};
+ghost use Rattle.serde_json.specs.Find.{get};
+ghost use Rattle.serde_json.specs.View.{view};
+
+use fax_core::Ending;
+use fax_job::{BodyFault, Call, Refusal, Status};
+use serde_json::Value;
+use std::alloc::Global;
+
+/// What a worker says of a grant when it is over.
+#[derive(Debug, Drop)]
+pub struct Outcome {
+    /// Whether it reported a call.
+    pub dialed: bool,
+    /// How many pages it reported, from 0 to 9999.
+    pub pages: u16,
+    pub ending: Ending,
+    /// At most 200 bytes; empty where none is given.
+    pub reason: Status,
+}
+
+/// An outcome whose reason still stands in its JSON.
+#[derive(Clone, Copy, Debug)]
+pub struct OutcomeText<'a> {
+    dialed: bool,
+    pages: u16,
+    ending: Ending,
+    reason: &'a str,
+}
+
+const BAD_JSON: Refusal = Refusal::BadBody(BodyFault::BadJson);
+
+const BAD_FIELD: Refusal = Refusal::BadBody(BodyFault::BadField);
+
+/// How a call went, by a body.
+#[tactic(auto, using(crate::proofs::ReportLemmas::json_refused))]
+pub(crate) fn read_call(alloc: Global, body: &[u8]) -> Result<Call, Refusal>
+    ensures call { IfOk result (Reports call_in body.now) }
+    ensures refused { IfErr result (IsReportRefusal call_in body.now) }
+{
+    let json = read_json(alloc, body)?;
+    match call_in(&json) {
+        Some(call) => Ok(call),
+        None => Err(BAD_FIELD),
+    }
+}
+
+/// Which page was sent, by a body.
+#[tactic(auto, using(crate::proofs::ReportLemmas::json_refused))]
+pub(crate) fn read_page(alloc: Global, body: &[u8]) -> Result<u16, Refusal>
+    ensures page { IfOk result (Reports page_in body.now) }
+    ensures refused { IfErr result (IsReportRefusal page_in body.now) }
+{
+    let json = read_json(alloc, body)?;
+    match page_in(&json) {
+        Some(page) => Ok(page),
+        None => Err(BAD_FIELD),
+    }
+}
+
+/// How a grant ended, by a body.
+#[tactic(auto, using(crate::proofs::ReportLemmas::json_refused))]
+pub(crate) fn read_outcome(alloc: Global, body: &[u8]) -> Result<Outcome, Refusal>
+    ensures outcome { IfOk result (λ outcome. Reports outcome_in body.now (outcome_of outcome)) }
+    ensures refused { IfErr result (IsReportRefusal outcome_in body.now) }
+{
+    let json = read_json(alloc, body)?;
+    match outcome_in(&json) {
+        Some(outcome) => keep_reason(alloc, outcome),
+        None => Err(BAD_FIELD),
+    }
+}
+
+/// The outcome with a reason of its own.
+fn keep_reason(alloc: Global, outcome: OutcomeText<'_>) -> Result<Outcome, Refusal>
+    ensures kept { IfOk result (λ kept. outcome_of kept ≡ outcome_read outcome.entry) }
+    ensures refused { IfErr result (λ refusal. refusal ≡ Unavailable) }
+{
+    match Status::read(alloc, outcome.reason) {
+        Ok(reason) => Ok(Outcome {
+            dialed: outcome.dialed,
+            pages: outcome.pages,
+            ending: outcome.ending,
+            reason,
+        }),
+        // A reason is a status, so only memory is wanting.
+        Err(_) => Err(Refusal::Unavailable),
+    }
+}
+
+fn read_json(alloc: Global, body: &[u8]) -> Result<Value, Refusal>
+    ensures json { IfOk result (λ json. IsJson body.now (view json)) }
+    ensures refused { IfErr result (IsJsonRefusal body.now) }
+{
+    match Value::from_slice(alloc, body) {
+        Ok(json) => Ok(json),
+        Err(error) => {
+            if error.is_memory() {
+                Err(Refusal::Unavailable)
+            } else {
+                Err(BAD_JSON)
+            }
+        }
+    }
+}
+
+// ---- reports
+
+#[tactic(auto, unfolding(crate::specs::Report::call_in))]
+fn call_in(json: &Value) -> Option<Call>
+    ensures { result ≡ call_in (view json.now) }
+{
+    call_named(text_at(json, "result")?)
+}
+
+fn call_named(name: &str) -> Option<Call>
+    ensures { result ≡ call_named name.now }
+{
+    match name {
+        "connected" => Some(Call::Connected),
+        "busy" => Some(Call::Busy),
+        "no-answer" => Some(Call::NoAnswer),
+        "no-carrier" => Some(Call::NoCarrier),
+        "other" => Some(Call::Other),
+        _ => None,
+    }
+}
+
+#[tactic(auto, unfolding(crate::specs::Report::page_in))]
+fn page_in(json: &Value) -> Option<u16>
+    ensures { result ≡ page_in (view json.now) }
+{
+    within(1, 9999, number_at(json, "page")?)
+}
+
+#[tactic(auto, unfolding(crate::specs::Report::outcome_in))]
+fn outcome_in(json: &Value) -> Option<OutcomeText<'_>>
+    ensures { option_map outcome_read result ≡ outcome_in (view json.now) }
+{
+    let dialed = bool_at(json, "dialed")?;
+    let pages = within(0, 9999, number_at(json, "pages")?)?;
+    let ending = ending_named(text_at(json, "outcome")?)?;
+    let reason = reason_at(json.get("reason"))?;
+    Some(OutcomeText {
+        dialed,
+        pages,
+        ending,
+        reason,
+    })
+}
+
+fn ending_named(name: &str) -> Option<Ending>
+    ensures { result ≡ ending_named name.now }
+{
+    match name {
+        "done" => Some(Ending::Done),
+        "retry" => Some(Ending::Retry),
+        "fail" => Some(Ending::Fail),
+        _ => None,
+    }
+}
+
+// ---- reasons
+
+/// The reason that a member gives; the empty text where it is missing.
+fn reason_at(json: Option<&Value>) -> Option<&str>
+    ensures { option_copied result ≡ reason_at (option_map (λ j. view j.now) json.entry) }
+{
+    match json {
+        Some(json) => reason_of(json.as_str()?),
+        None => Some(""),
+    }
+}
+
+fn reason_of(text: &str) -> Option<&str>
+    ensures { option_copied result ≡ reason_of text.now }
+{
+    if is_reason(text.as_bytes()) {
+        Some(text)
+    } else {
+        None
+    }
+}
+
+fn is_reason(text: &[u8]) -> bool
+    ensures { result ≡ is_reason text.now }
+{
+    text.len() <= 200
+        && !begins_with_space(text)
+        && !ends_with_backslash(text)
+        && is_of_reason_bytes(text)
+}
+
+fn begins_with_space(text: &[u8]) -> bool
+    ensures { result ≡ begins_with_space text.now }
+{
+    match text {
+        [byte, ..] => *byte == b' ',
+        [] => false,
+    }
+}
+
+fn ends_with_backslash(text: &[u8]) -> bool
+    ensures { result ≡ ends_with_backslash text.now }
+{
+    match text {
+        [.., byte] => *byte == b'\\',
+        [] => false,
+    }
+}
+
+fn is_of_reason_bytes(text: &[u8]) -> bool
+    ensures { result ≡ list_all is_reason_byte text.now }
+{
+    text.iter().all(|byte| 32 <= *byte && *byte != 127)
+}
+
+// ---- members of an object
+
+fn text_at<'a>(json: &'a Value, key: &str) -> Option<&'a str>
+    ensures { option_copied result ≡ text_at key.now (view json.now) }
+{
+    json.get(key)?.as_str()
+}
+
+fn bool_at(json: &Value, key: &str) -> Option<bool>
+    ensures { result ≡ bool_at key.now (view json.now) }
+{
+    json.get(key)?.as_bool()
+}
+
+/// A number whose text has digits only.
+fn number_at(json: &Value, key: &str) -> Option<u64>
+    ensures { result ≡ number_at key.now (view json.now) }
+{
+    json.get(key)?.as_u64()
+}
+
+fn within(least: u64, greatest: u64, number: u64) -> Option<u16>
+    requires { greatest ≤ u16.MAX }
+    ensures { result ≡ within least greatest number }
+{
+    if least <= number && number <= greatest {
+        Some(number as u16)
+    } else {
+        None
+    }
+}
