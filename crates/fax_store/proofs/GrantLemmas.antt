@@ -6,7 +6,7 @@ use Rattle.sqlite.specs.Order.{Row}
 use Rattle.sqlite.specs.State.{State, IsUnchanged}
 use Rattle.sqlite.proofs.Callers.{IsPlain, reads_as}
 use Rattle.fax_core.specs.Queue.{Queue, Entry, grant_numbered}
-use Rattle.fax_core.specs.declared.grant.Grant.{Grant}
+use Rattle.fax_core.specs.declared.grants.Grant.{Grant}
 use Rattle.fax_store.specs.declared.grants.TheConstants.{SELECT_GRANT}
 use Rattle.fax_store.specs.Grant.{grant_shown}
 use Rattle.fax_store.specs.Row.{number, grant_row}

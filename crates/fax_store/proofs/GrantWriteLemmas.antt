@@ -18,7 +18,7 @@ use Rattle.sqlite_rules.proofs.ListLemmas.{has_found}
 use Rattle.sqlite_trees.proofs.ListLemmas.{IsPermutation-filter, filter_same, all_of}
 use Rattle.fax_core.specs.Machine.{with_grant}
 use Rattle.fax_core.specs.Queue.{Queue, Entry, open_grants, grant_numbered}
-use Rattle.fax_core.specs.declared.grant.Grant.{Grant}
+use Rattle.fax_core.specs.declared.grants.Grant.{Grant}
 use Rattle.fax_job.specs.Name.{IsName}
 use Rattle.fax_store.specs.declared.grants.TheConstants.{INSERT_GRANT, INSERT_HOLD, UPDATE_REPORT, SHUT_GRANT, DELETE_HOLD}
 use Rattle.fax_store.specs.Grant.{IsSameGrant, IsReport, placed, with_placed, with_shut, with_closed}

@@ -31,7 +31,7 @@ use Rattle.sqlite_value.specs.Order.{value_cmp}
 use Rattle.sqlite_value.proofs.KeyLemmas.{first_key-plain}
 use Rattle.fax_core.specs.Machine.{held_by}
 use Rattle.fax_core.specs.Queue.{Queue, Entry, open_grants}
-use Rattle.fax_core.specs.declared.grant.Grant.{Grant}
+use Rattle.fax_core.specs.declared.grants.Grant.{Grant}
 use Rattle.fax_store.specs.declared.grants.TheConstants.{SELECT_HOLD}
 use Rattle.fax_store.specs.Grant.{hold_shown}
 use Rattle.fax_store.specs.Row.{hold_columns}

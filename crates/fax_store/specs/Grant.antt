@@ -4,7 +4,7 @@ use Rattle.sqlite.specs.Order.{Row}
 use Rattle.sqlite.specs.declared.types.Value.TheVariants.{Text}
 use Rattle.fax_core.specs.Machine.{with_grant}
 use Rattle.fax_core.specs.Queue.{Queue, grant_numbered}
-use Rattle.fax_core.specs.declared.grant.Grant.{Grant}
+use Rattle.fax_core.specs.declared.grants.Grant.{Grant}
 use Rattle.fax_store.specs.declared.grants.Hold.{Hold}
 use Rattle.fax_store.specs.Row.{number, call_number, shut_number}
 

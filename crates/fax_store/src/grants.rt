@@ -5,7 +5,7 @@ ghost use Rattle.std.specs.Option.{option_map};
 ghost use Rattle.sqlite.specs.Held.{state};
 ghost use Rattle.fax_core.specs.Machine.{held_by, with_grant};
 ghost use Rattle.fax_core.specs.Queue.{Queue, Entry, grant_numbered};
-ghost use Rattle.fax_core.specs.declared.grant.Grant.{Grant as Granted};
+ghost use Rattle.fax_core.specs.declared.grants.Grant.{Grant as Granted};
 ghost use Rattle.fax_job.specs.declared.job.Call.{Call as HowItWent};
 ghost use Rattle.fax_store.specs.Fault.{OrUnavailable};
 ghost use Rattle.fax_store.specs.Grant.{as_hold, hold_shown, grant_shown, IsOpenGrant, IsReport};

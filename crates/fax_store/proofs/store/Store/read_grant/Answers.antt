@@ -2,7 +2,7 @@ use Rattle.std.proofs.Common.{◌≡◌, inl, Some, subst, sym, ap, ◌∙◌, r
 use Rattle.sqlite.specs.Held.{state}
 use Rattle.std.specs.Prelude.{◌==◌}
 use Rattle.fax_core.specs.Queue.{grant_numbered}
-use Rattle.fax_core.specs.declared.grant.Grant.{Grant}
+use Rattle.fax_core.specs.declared.grants.Grant.{Grant}
 use Rattle.fax_store.specs.Grant.{grant_shown}
 use Rattle.fax_store.specs.declared.fault.StoreFault.TheVariants.{Unavailable}
 use Rattle.fax_store.specs.declared.grants.TheConstants.{SELECT_GRANT}

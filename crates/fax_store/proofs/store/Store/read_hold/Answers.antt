@@ -4,7 +4,7 @@ use Rattle.std.specs.Option.{option_map}
 use Rattle.std.specs.Str.{bytes_eq}
 use Rattle.fax_core.specs.Machine.{held_by}
 use Rattle.fax_core.specs.Queue.{open_grants}
-use Rattle.fax_core.specs.declared.grant.Grant.{Grant}
+use Rattle.fax_core.specs.declared.grants.Grant.{Grant}
 use Rattle.fax_store.specs.Grant.{as_hold, hold_shown}
 use Rattle.fax_store.proofs.ColumnLemmas.{all_kept}
 use Rattle.fax_store.specs.declared.fault.StoreFault.TheVariants.{Unavailable}
