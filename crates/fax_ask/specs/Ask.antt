@@ -14,12 +14,13 @@ use Rattle.fax_job.specs.Pair.{Pair}
 use Rattle.fax_job.specs.Reading.{fault_at}
 use Rattle.fax_job.specs.Spells.{Spells, IsFirstFault}
 use Rattle.fax_core.specs.Ask as machine
+use Rattle.fax_core.specs.declared.report.Outcome.{Outcome as Said}
 use Rattle.fax_ask.specs.declared.ask.Ask.{Ask}
 use Rattle.fax_ask.specs.declared.ask.Ask.TheVariants as said
 use Rattle.fax_ask.specs.declared.method.Method.{Method}
 use Rattle.fax_ask.specs.declared.request.Request.{Request}
 use Rattle.fax_ask.specs.declared.request.Request.TheVariants.{Submit, Suspend, Resume, Kill, Alter, Show, Ready, Down, Next, Call, Page, Outcome}
-use Rattle.fax_ask.specs.Report.{IsReportRefusal, Reports, call_in, outcome_in, outcome_of, page_in}
+use Rattle.fax_ask.specs.Report.{IsReportRefusal, Reports, call_in, outcome_in, page_in}
 use Rattle.fax_ask.specs.Request.{request_of}
 
 -- a step of the queue, or the lines of a job
@@ -40,7 +41,7 @@ asked (said.Down modem) = Step (machine.Down modem)
 asked (said.Next modem) = Step (machine.Next modem)
 asked (said.CallReport grant call) = Step (machine.CallReport grant call)
 asked (said.PageReport grant page) = Step (machine.PageReport grant page)
-asked (said.OutcomeReport grant outcome) = Step (machine.OutcomeReport grant (outcome_of outcome))
+asked (said.OutcomeReport grant outcome) = Step (machine.OutcomeReport grant outcome)
 
 -- ---- bodies
 
@@ -84,7 +85,7 @@ Asks (Down modem) body ask = ask ≡ Step (machine.Down modem)
 Asks (Next modem) body ask = ask ≡ Step (machine.Next modem)
 Asks (Call grant) body ask = (call : CallEnd) × Reports call_in body call × (ask ≡ Step (machine.CallReport grant call))
 Asks (Page grant) body ask = (page : ℕ) × Reports page_in body page × (ask ≡ Step (machine.PageReport grant page))
-Asks (Outcome grant) body ask = (outcome : machine.Outcome) × Reports outcome_in body outcome × (ask ≡ Step (machine.OutcomeReport grant outcome))
+Asks (Outcome grant) body ask = (outcome : Said) × Reports outcome_in body outcome × (ask ≡ Step (machine.OutcomeReport grant outcome))
 
 -- why a request with this body is refused: a body that isn't read has no fault
 abbrev pub IsBodyRefusal : Request → List ℕ → Refusal → Type 0

@@ -13,8 +13,7 @@ use Rattle.fax_job.specs.declared.refusal.BodyFault.{BodyFault}
 use Rattle.fax_job.specs.declared.refusal.BodyFault.TheVariants.{Line, Order, BadJson, BadField}
 use Rattle.fax_job.specs.declared.refusal.Refusal.{Refusal}
 use Rattle.fax_job.specs.declared.refusal.Refusal.TheVariants.{BadBody, Unavailable}
-use Rattle.fax_core.specs.Ask.{Outcome}
-use Rattle.fax_ask.specs.declared.report.Outcome as held
+use Rattle.fax_core.specs.declared.report.Outcome.{Outcome}
 use Rattle.fax_ask.specs.declared.report.OutcomeText.{OutcomeText}
 use Rattle.fax_core.specs.declared.report.Ending.{Ending}
 use Rattle.fax_core.specs.declared.report.Ending.TheVariants.{Done, Retry, Fail}
@@ -88,11 +87,6 @@ outcome_in json =
     (option_and_then ending_named (text_at (codes "outcome") json)))
     (option_and_then (within 0 9999) (number_at (codes "pages") json)))
     (bool_at (codes "dialed") json)
-
--- ---- as the code holds them
-
-abbrev pub outcome_of : held.Outcome → Outcome
-outcome_of outcome = record { dialed = outcome.dialed; pages = outcome.pages; ending = outcome.ending; reason = outcome.reason }
 
 abbrev pub outcome_read : OutcomeText → Outcome
 outcome_read outcome = record { dialed = outcome.dialed; pages = outcome.pages; ending = outcome.ending; reason = outcome.reason.now }

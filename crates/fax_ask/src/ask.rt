@@ -7,8 +7,9 @@ ghost use Rattle.fax_core.specs.Ask.{HasLimits as HasOrderLimits};
 ghost use Rattle.fax_ask.specs.Ask.{asked, Asks, HasLimits, States, IsAsk, IsBodyRefusal, IsLawful, IsLinesRefusal, IsRefused};
 
 use crate::method::Method;
-use crate::report::{Outcome, read_call, read_outcome, read_page};
+use crate::report::{read_call, read_outcome, read_page};
 use crate::request::Request;
+use fax_core::Outcome;
 use fax_job::{Alter, Call, Name, Order, Refusal, read_lines};
 use std::alloc::Global;
 

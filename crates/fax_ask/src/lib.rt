@@ -22,7 +22,6 @@ pub use ask::{Ask, read_ask};
 pub use detail::Detail;
 pub use method::Method;
 pub use reply::{Reply, has_detail};
-pub use report::Outcome;
 
 #[cfg(test)]
 mod tests;

@@ -3,28 +3,16 @@
 ghost use Rattle.std.specs.Prelude.{◌≡◌, ◌≤◌, IfOk, IfErr};
 ghost use Rattle.std.specs.List.{list_all};
 ghost use Rattle.std.specs.Option.{option_copied, option_map};
-ghost use Rattle.fax_ask.specs.Report.{IsJson, IsJsonRefusal, IsReportRefusal, Reports, begins_with_space, bool_at, call_in, call_named, ending_named, is_reason, is_reason_byte, number_at, outcome_in, outcome_of, outcome_read, page_in, reason_at, reason_of, text_at, within};
+ghost use Rattle.fax_ask.specs.Report.{IsJson, IsJsonRefusal, IsReportRefusal, Reports, begins_with_space, bool_at, call_in, call_named, ending_named, is_reason, is_reason_byte, number_at, outcome_in, outcome_read, page_in, reason_at, reason_of, text_at, within};
 ghost use Rattle.fax_job.specs.Value.{ends_with_backslash};
 ghost use Rattle.fax_job.specs.declared.refusal.Refusal.TheVariants.{Unavailable};
 ghost use Rattle.serde_json.specs.Find.{get};
 ghost use Rattle.serde_json.specs.View.{view};
 
-use fax_core::Ending;
+use fax_core::{Ending, Outcome};
 use fax_job::{BodyFault, Call, Refusal, Status};
 use serde_json::Value;
 use std::alloc::Global;
-
-/// What a worker says of a grant when it is over.
-#[derive(Debug, Drop)]
-pub struct Outcome {
-    /// Whether it reported a call.
-    pub dialed: bool,
-    /// How many pages it reported, from 0 to 9999.
-    pub pages: u16,
-    pub ending: Ending,
-    /// At most 200 bytes; empty where none is given.
-    pub reason: Status,
-}
 
 /// An outcome whose reason still stands in its JSON.
 #[derive(Clone, Copy, Debug)]
@@ -68,7 +56,7 @@ pub(crate) fn read_page(alloc: Global, body: &[u8]) -> Result<u16, Refusal>
 /// How a grant ended, by a body.
 #[tactic(auto, using(crate::proofs::ReportLemmas::json_refused))]
 pub(crate) fn read_outcome(alloc: Global, body: &[u8]) -> Result<Outcome, Refusal>
-    ensures outcome { IfOk result (λ outcome. Reports outcome_in body.now (outcome_of outcome)) }
+    ensures outcome { IfOk result (Reports outcome_in body.now) }
     ensures refused { IfErr result (IsReportRefusal outcome_in body.now) }
 {
     let json = read_json(alloc, body)?;
@@ -80,7 +68,7 @@ pub(crate) fn read_outcome(alloc: Global, body: &[u8]) -> Result<Outcome, Refusa
 
 /// The outcome with a reason of its own.
 fn keep_reason(alloc: Global, outcome: OutcomeText<'_>) -> Result<Outcome, Refusal>
-    ensures kept { IfOk result (λ kept. outcome_of kept ≡ outcome_read outcome.entry) }
+    ensures kept { IfOk result (λ kept. kept ≡ outcome_read outcome.entry) }
     ensures refused { IfErr result (λ refusal. refusal ≡ Unavailable) }
 {
     match Status::read(alloc, outcome.reason) {

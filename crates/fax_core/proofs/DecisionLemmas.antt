@@ -18,7 +18,8 @@ use Rattle.fax_core.specs.declared.grants.Grant.{Grant}
 use Rattle.fax_core.specs.declared.report.Ending.{Ending}
 use Rattle.fax_core.specs.declared.report.Ending.TheVariants as ending
 use Rattle.fax_core.specs.Ageing.{is_past, expires, aged_job}
-use Rattle.fax_core.specs.Ask.{Outcome, HasLimits}
+use Rattle.fax_core.specs.Ask.{HasLimits}
+use Rattle.fax_core.specs.declared.report.Outcome.{Outcome}
 use Rattle.fax_core.specs.Decisions.{JobAndGrant, is_over, new_job, submit, suspend_in, resume_in, kill_in, altered, alter_in, granted, after_call, call, is_connected, page_of, page, is_kill, phase_after, failed, retried, ended_by, ended, is_done, is_empty, outcome}
 use Rattle.fax_core.specs.Job.{Job}
 use Rattle.fax_core.specs.Settings.{Rule}

@@ -10,7 +10,7 @@ use Rattle.fax_job.specs.declared.refusal.Refusal.TheVariants.{PageOrder}
 use Rattle.fax_job.specs.Job.{IsLawful}
 use Rattle.fax_core.specs.declared.change.Change.{Change}
 use Rattle.fax_core.specs.declared.grants.Grant.{Grant}
-use Rattle.fax_core.specs.Ask.{Outcome}
+use Rattle.fax_core.specs.declared.report.Outcome.{Outcome}
 use Rattle.fax_core.specs.Change.{changed, unchanged}
 use Rattle.fax_core.specs.Decisions.{JobAndGrant, granted, page_of, ended, ended_by, is_empty}
 use Rattle.fax_core.specs.Job.{Job, job_of, pages_to}

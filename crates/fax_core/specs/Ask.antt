@@ -3,8 +3,7 @@ use Rattle.std.specs.Prelude.{ℕ, ◌≤◌, List, ⊤}
 use Rattle.fax_job.specs.declared.alter.Alter.{Alter}
 use Rattle.fax_job.specs.declared.job.Call.{Call}
 use Rattle.fax_job.specs.declared.order.Order.{Order}
--- what a worker says of a grant when it is over
-pub use Rattle.fax_core.specs.declared.report.Outcome.{Outcome}
+use Rattle.fax_core.specs.declared.report.Outcome.{Outcome}
 
 pub data Ask : Type 0 where
   -- a client's requests, with the job's number

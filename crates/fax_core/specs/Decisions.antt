@@ -15,7 +15,7 @@ use Rattle.fax_core.specs.declared.grants.Grant.{Grant}
 use Rattle.fax_core.specs.declared.report.Ending.{Ending}
 use Rattle.fax_core.specs.declared.report.Ending.TheVariants as ending
 use Rattle.fax_core.specs.Ageing.{is_past}
-use Rattle.fax_core.specs.Ask.{Outcome}
+use Rattle.fax_core.specs.declared.report.Outcome.{Outcome}
 use Rattle.fax_core.specs.Job.{Job, pages_to}
 use Rattle.fax_core.specs.Settings.{Rule}
 
