@@ -6,3 +6,5 @@ mod LimitLemmas
 mod ReportLemmas
 mod ResponseLemmas
 mod SpellingLemmas
+mod RowsRequests
+mod RowsReplies

@@ -44,6 +44,10 @@ abbrev pub accepted_response : Told → Response
 accepted_response (Replied reply) = record { status = reply_status reply; is_json = true; body = reply_body reply }
 accepted_response (Shown lines) = record { status = 200; is_json = false; body = lines }
 
+-- what a request is answered with that was accepted before: only those are kept whose reply is JSON
+abbrev pub kept_response : ℕ → List ℕ → Response
+kept_response status body = record { status = status; is_json = true; body = body }
+
 -- ---- refused requests
 
 -- the body of a refusal that says no more than its number and word

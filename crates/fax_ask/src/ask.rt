@@ -38,9 +38,9 @@ pub enum Ask {
 ///
 /// # Errors
 ///
-/// `NoRoute` exactly where method and path name no request; else `BadBody` with the body's first fault,
-/// that of a line before that of an order or an alteration; `Unavailable` where memory runs out. A body
-/// that the request doesn't need isn't looked at.
+/// `NoRoute` exactly where method and path name no request; else `BadBody` with the body's first
+/// fault, one of a line before one of what the lines state; `Unavailable` where memory runs out. A
+/// body that the request doesn't need isn't looked at.
 pub fn read_ask(alloc: Global, method: Method, path: &str, body: &[u8]) -> Result<Ask, Refusal>
     ensures ask { IfOk result (λ ask. IsAsk method path.now body.now (asked ask)) }
     ensures refused { IfErr result (IsRefused method path.now body.now) }

@@ -1,6 +1,7 @@
 //! Laws of the definitions.
 //!
-//! Each function here does nothing: its contract is the law. The statements stand in `specs/Laws.antt`.
+//! Each function here does nothing: its contract is the law. The statements stand in
+//! `specs/Laws.antt`.
 
 ghost use Rattle.fax_ask.specs.Laws.{AcceptedAre200Or201, AskOrRefusal, OneAsk, OnlyUnavailableIs503, RoutedPathsLackLf};
 
@@ -10,14 +11,15 @@ pub fn paths()
 {}
 
 /// A method, a path and a body ask for one thing at most, and what asks for something is refused for
-/// want of memory alone. So what [`read_ask`](crate::read_ask) answers is fixed, unless memory runs out.
+/// want of memory alone. So what [`read_ask`](crate::read_ask) answers is fixed, unless memory runs
+/// out.
 pub fn asks()
     ensures one { OneAsk }
     ensures refused { AskOrRefusal }
 {}
 
-/// An accepted request is answered with 200 or 201, and a refused one with 503 only where memory or the
-/// store gave out. So a reply of 503 says that the request was as good as lost.
+/// An accepted request is answered with 200 or 201, and a refused one with 503 only where memory or
+/// the store gave out. So a reply of 503 says that the request was as good as lost.
 pub fn statuses()
     ensures accepted { AcceptedAre200Or201 }
     ensures unavailable { OnlyUnavailableIs503 }

@@ -1,8 +1,8 @@
 //! Requests read from method, path and body, and replies spelled.
 //!
-//! [`read_ask`] gives what is asked for, or the refusal of a path that isn't in the table of requests
-//! or of a body at fault. A [`Reply`] is a status and the bytes of a body: JSON (RFC 8259), or key
-//! lines in the manner of HylaFAX's sendq(5).
+//! [`read_ask`] gives what is asked for, or the refusal of a path that isn't in the table of
+//! requests or of a body at fault. A [`Reply`] is a status and the bytes of a body: JSON (RFC 8259),
+//! or key lines in the manner of HylaFAX's sendq(5).
 #![tactic(auto)]
 
 mod answer;

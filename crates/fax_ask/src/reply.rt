@@ -4,7 +4,7 @@ ghost use Rattle.std.specs.Prelude.{◌≡◌, IfOk, false, true};
 ghost use Rattle.fax_ask.specs.Answer.{told};
 ghost use Rattle.fax_ask.specs.Detail.{has_detail, keys_in, refusal_in};
 ghost use Rattle.fax_ask.specs.ReplyBody.{body_bytes, body_is_json};
-ghost use Rattle.fax_ask.specs.Response.{accepted_response, refused_body, refused_response};
+ghost use Rattle.fax_ask.specs.Response.{accepted_response, kept_response, refused_body, refused_response};
 ghost use Rattle.fax_core.specs.Reply.{NoKeys};
 
 use crate::answer::Answer;
@@ -29,6 +29,7 @@ pub struct Reply {
 enum Body {
     Short(ShortText),
     Made(String),
+    Kept(Vec<u8>),
     Lines(Vec<u8>),
 }
 
@@ -39,7 +40,11 @@ impl Model for Reply {
 
     ghost use Rattle.fax_ask.specs.ReplyBody.{body_bytes, body_is_json};
 
-    ghost view = { λ r. record { status = r.status; is_json = body_is_json r.body; body = body_bytes r.body } };
+    ghost view = { λ r. record {
+      status = r.status;
+      is_json = body_is_json r.body;
+      body = body_bytes r.body;
+    } };
 }
 
 /// Whether a refusal says more than its number and word, so that its reply wants a [`Detail`].
@@ -77,13 +82,25 @@ impl Reply {
 
     /// The reply to a refused request of which more is told.
     pub fn refused_with(alloc: Global, detail: &Detail<'_>) -> Result<Reply, AllocError>
-        ensures { IfOk result (λ reply. reply ≡ refused_response (refusal_in detail.now) (keys_in detail.now)) }
+        ensures { IfOk result (λ reply.
+            reply ≡ refused_response (refusal_in detail.now) (keys_in detail.now)) }
     {
         let body = refused_body(alloc, detail)?;
         Ok(Reply {
             status: refusal_of(detail).status(),
             body,
         })
+    }
+
+    /// The reply that was kept with an accepted request that changes something: its body is JSON. It
+    /// takes no memory.
+    pub fn kept(status: u16, body: Vec<u8>) -> Reply
+        ensures { result ≡ kept_response status body.items }
+    {
+        Reply {
+            status,
+            body: Body::Kept(body),
+        }
     }
 
     /// The status code (RFC 9110, section 15).
@@ -98,7 +115,7 @@ impl Reply {
         ensures { result ≡ self.now.is_json }
     {
         match &self.body {
-            Body::Short(_) | Body::Made(_) => true,
+            Body::Short(_) | Body::Made(_) | Body::Kept(_) => true,
             Body::Lines(_) => false,
         }
     }
@@ -110,6 +127,7 @@ impl Reply {
         match &self.body {
             Body::Short(text) => text.as_str().as_bytes(),
             Body::Made(text) => text.as_bytes(),
+            Body::Kept(bytes) => bytes.as_slice(),
             Body::Lines(bytes) => bytes.as_slice(),
         }
     }
@@ -125,8 +143,10 @@ fn accepted_status(answer: &Answer<'_>) -> u16
 }
 
 fn accepted_body(alloc: Global, answer: &Answer<'_>) -> Result<Body, AllocError>
-    ensures bytes { IfOk result (λ body. body_bytes body ≡ (accepted_response (told answer.now)).body) }
-    ensures kind { IfOk result (λ body. body_is_json body ≡ (accepted_response (told answer.now)).is_json) }
+    ensures bytes { IfOk result (λ body.
+        body_bytes body ≡ (accepted_response (told answer.now)).body) }
+    ensures kind { IfOk result (λ body.
+        body_is_json body ≡ (accepted_response (told answer.now)).is_json) }
 {
     let text = match answer {
         Answer::Submitted { job } => submitted_text(alloc, *job)?,
@@ -156,7 +176,8 @@ fn refusal_of(detail: &Detail<'_>) -> Refusal
 }
 
 fn refused_body(alloc: Global, detail: &Detail<'_>) -> Result<Body, AllocError>
-    ensures bytes { IfOk result (λ body. body_bytes body ≡ refused_body (refusal_in detail.now) (keys_in detail.now)) }
+    ensures bytes { IfOk result (λ body.
+        body_bytes body ≡ refused_body (refusal_in detail.now) (keys_in detail.now)) }
     ensures kind { IfOk result (λ body. body_is_json body ≡ true) }
 {
     let text = match detail {

@@ -120,7 +120,8 @@ pub(crate) fn held_text(
     called: bool,
     handed: &Handed<'_>,
 ) -> Result<String, AllocError>
-    ensures { IfOk result (λ text. string_bytes text ≡ refused_body ModemBusy (HeldGrant called (grant_told handed.now))) }
+    ensures { IfOk result (λ text.
+        string_bytes text ≡ refused_body ModemBusy (HeldGrant called (grant_told handed.now))) }
 {
     let called = bool_text(called);
     let keys = handed_keys(alloc, handed)?;

@@ -53,6 +53,16 @@ fn accepted(rt: HostRuntime) -> Result<(), Fail> {
 }
 
 #[test]
+fn kept(rt: HostRuntime) -> Result<(), Fail> {
+    let body = Vec::from_slice(rt.alloc(), b"{\"job\":1}")?;
+    let reply = Reply::kept(201, body);
+    assert_eq!(rt; reply.status(), 201);
+    assert_eq!(rt; reply.body(), b"{\"job\":1}".as_slice());
+    assert!(rt; reply.is_json());
+    Ok(())
+}
+
+#[test]
 fn refused(rt: HostRuntime) {
     let cases = [
         (Refusal::BadHttp, 400, r#"{"no":1,"word":"bad-http"}"#),

@@ -1,0 +1,55 @@
+-- Worked rows: the bytes of replies and refusals.
+use Rattle.std.specs.Prelude.{◌≡◌, refl, false, codes}
+use Rattle.std.specs.Fmt.{digits}
+use Rattle.json.specs.Print.{escape_byte}
+use Rattle.fax_job.specs.declared.lines.LineKind.TheVariants.{NoColon}
+use Rattle.fax_job.specs.declared.order.OrderFault.TheVariants.{NoPages}
+use Rattle.fax_job.specs.declared.refusal.BodyFault.TheVariants as body
+use Rattle.fax_job.specs.declared.refusal.Refusal.TheVariants.{NoRoute, BadBody, ModemBusy, PageOrder, Rejected}
+use Rattle.fax_core.specs.Reply.{Handed, Submitted, Stands, Given, Confirmed, NoKeys, Notice, HeldGrant, Pages}
+use Rattle.fax_ask.specs.Response.{reply_body, refused_body}
+
+submitted : reply_body (Submitted 1) ≡ codes "{\"job\":1}"
+unfolding digits escape_byte
+submitted = refl
+
+stands : reply_body (Stands 1 1) ≡ codes "{\"job\":1,\"state\":1}"
+unfolding digits escape_byte
+stands = refl
+
+confirmed : reply_body (Confirmed 1 false) ≡ codes "{\"npages\":1,\"stop\":false}"
+unfolding digits escape_byte
+confirmed = refl
+
+abbrev first_grant : Handed
+first_grant = record { grant = 1; job = 1; dial = codes "+14155550100"; from = 1; to = 3 }
+
+given : reply_body (Given first_grant) ≡ codes "{\"from\":1,\"grant\":1,\"job\":1,\"number\":\"+14155550100\",\"to\":3}"
+unfolding digits escape_byte
+given = refl
+
+-- ---- refusals
+
+no_route : refused_body NoRoute NoKeys ≡ codes "{\"no\":3,\"word\":\"no-route\"}"
+unfolding digits escape_byte
+no_route = refl
+
+no_colon : refused_body (BadBody (body.Line 2 NoColon)) NoKeys ≡ codes "{\"kind\":\"no-colon\",\"line\":2,\"no\":6,\"word\":\"bad-body\"}"
+unfolding digits escape_byte
+no_colon = refl
+
+no_pages : refused_body (BadBody (body.Order NoPages)) NoKeys ≡ codes "{\"kind\":\"no-pages\",\"no\":6,\"word\":\"bad-body\"}"
+unfolding digits escape_byte
+no_pages = refl
+
+rejected : refused_body Rejected (Notice (codes "Number no longer served")) ≡ codes "{\"no\":11,\"notice\":\"Number no longer served\",\"word\":\"rejected\"}"
+unfolding digits escape_byte
+rejected = refl
+
+modem_busy : refused_body ModemBusy (HeldGrant false first_grant) ≡ codes "{\"held\":{\"called\":false,\"from\":1,\"grant\":1,\"job\":1,\"number\":\"+14155550100\",\"to\":3},\"no\":18,\"word\":\"modem-busy\"}"
+unfolding digits escape_byte
+modem_busy = refl
+
+page_order : refused_body PageOrder (Pages 0) ≡ codes "{\"no\":22,\"npages\":0,\"word\":\"page-order\"}"
+unfolding digits escape_byte
+page_order = refl

@@ -1,0 +1,51 @@
+-- Worked rows: which method and path name which request.
+use Rattle.std.specs.Prelude.{◌≡◌, refl, codes, Some, None}
+use Rattle.fax_ask.specs.declared.method.Method.TheVariants.{Get, Post, Another}
+use Rattle.fax_ask.specs.declared.request.Request.TheVariants.{Submit, Kill, Alter, Show, Next, Call}
+use Rattle.fax_ask.specs.Request.{request_of}
+
+submit : request_of Post (codes "/jobs") ≡ Some Submit
+unfolding request_of
+submit = refl
+
+kill : request_of Post (codes "/jobs/9/kill") ≡ Some (Kill 9)
+unfolding request_of
+kill = refl
+
+alter : request_of Post (codes "/jobs/1/alter") ≡ Some (Alter 1)
+unfolding request_of
+alter = refl
+
+show : request_of Get (codes "/jobs/1") ≡ Some (Show 1)
+unfolding request_of
+show = refl
+
+next : request_of Post (codes "/modems/ttyS0/next") ≡ Some (Next (codes "ttyS0"))
+unfolding request_of
+next = refl
+
+call : request_of Post (codes "/grants/9/call") ≡ Some (Call 9)
+unfolding request_of
+call = refl
+
+-- ---- what names nothing
+
+another_path : request_of Get (codes "/job") ≡ None
+unfolding request_of
+another_path = refl
+
+another_method : request_of Another (codes "/jobs") ≡ None
+unfolding request_of
+another_method = refl
+
+zero_in_front : request_of Post (codes "/jobs/01/kill") ≡ None
+unfolding request_of
+zero_in_front = refl
+
+slash_behind : request_of Post (codes "/jobs/1/kill/") ≡ None
+unfolding request_of
+slash_behind = refl
+
+with_a_query : request_of Post (codes "/jobs?x=1") ≡ None
+unfolding request_of
+with_a_query = refl
