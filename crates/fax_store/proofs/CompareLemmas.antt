@@ -1,7 +1,7 @@
 -- When a comparison of SQL holds between numbers and between texts, and what a column of their type makes of them.
-use Rattle.std.proofs.Common.{◌≡◌, ℕ, ℤ, pos, List, ◌∷◌, Bool, true, false, cond, Some, refl, sym, ap, ◌∙◌, arith}
-use Rattle.std.specs.Prelude.{nat_le}
-use Rattle.std.specs.Ordering.{is_eq, is_le, is_ge, int_cmp}
+use Rattle.std.proofs.Common.{◌≡◌, ℕ, ℤ, pos, List, ◌∷◌, Bool, true, false, cond, ◌||◌, Some, refl, sym, ap, ap₂, ◌∙◌, arith}
+use Rattle.std.specs.Prelude.{nat_le, ◌==◌}
+use Rattle.std.specs.Ordering.{is_eq, is_le, is_ge, is_gt, int_cmp}
 use Rattle.std.specs.Str.{bytes_eq}
 use Rattle.std.proofs.lemmas.Map.Text.{is_eq-slice_cmp}
 use Rattle.std.proofs.lemmas.Bool.Decides.{nat_tests}
@@ -10,9 +10,9 @@ use Rattle.sqlite.specs.Kind.TheVariants as kind
 use Rattle.sqlite.specs.Cast.{cast}
 use Rattle.sqlite.specs.declared.types.Value.{Value}
 use Rattle.sqlite.specs.declared.types.Value.TheVariants.{Null, Int, Text}
-use Rattle.sqlite_sql.specs.declared.ops.BinaryOp.TheVariants.{Compare}
+use Rattle.sqlite_sql.specs.declared.ops.BinaryOp.TheVariants.{Compare, Or}
 use Rattle.sqlite_sql.specs.declared.ops.CompareOp.{CompareOp}
-use Rattle.sqlite_sql.specs.declared.ops.CompareOp.TheVariants.{Eq, Le, Ge}
+use Rattle.sqlite_sql.specs.declared.ops.CompareOp.TheVariants.{Eq, Le, Ge, Gt}
 use Rattle.sqlite_sql.specs.Ops.{binary, unary, test, is_true, is_null, from_truth}
 use Rattle.sqlite_value.specs.Order.{value_cmp}
 use Rattle.sqlite_value.proofs.OrderLemmas.{value_cmp-Int, value_cmp-Text}
@@ -44,6 +44,9 @@ equal_numbers a b = equal_by (Int (pos a)) (Int (pos b)) refl refl ∙ ap is_eq 
 pub equal_texts : (s t : List ℕ) → are_equal (Text s) (Text t) ≡ bytes_eq s t
 equal_texts s t = equal_by (Text s) (Text t) refl refl ∙ ap is_eq (value_cmp-Text s t) ∙ is_eq-slice_cmp s t
 
+pub is_number : (a b : ℕ) → are_equal (Int (pos a)) (Int (pos b)) ≡ (a == b)
+is_number a b = equal_numbers a b ∙ grind (arith, nat_tests)
+
 pub same_number : (a b : ℕ) → are_equal (Int (pos a)) (Int (pos b)) ≡ true → a ≡ b
 same_number a b h = let e = sym (equal_numbers a b) ∙ h in grind (arith, nat_tests)
 
@@ -65,3 +68,21 @@ cast_null = either _ Null
 
 pub same_row : {X : Type 0} {a b : X} {xs ys : List X} → a ≡ b → xs ≡ ys → a ∷ xs ≡ b ∷ ys
 same_row p q = cc
+
+-- an OR of two comparisons
+or_truth : (a b : Bool) → is_true (binary Or (from_truth (Some a)) (from_truth (Some b))) ≡ (a || b)
+unfolding binary
+or_truth true true = refl
+or_truth true false = refl
+or_truth false true = refl
+or_truth false false = refl
+
+gives : (op : CompareOp) (a b : Value) → is_null a ≡ false → is_null b ≡ false → binary (Compare op Binary) a b ≡ from_truth (Some (test op (value_cmp a b)))
+unfolding binary
+gives op a b p q = rw (p, q) refl
+
+pub or_else : (a t : ℕ) → is_true (binary Or (binary (Compare Eq Binary) (Int (pos a)) (Int (pos 0))) (binary (Compare Gt Binary) (Int (pos a)) (Int (pos t)))) ≡ (is_eq (int_cmp (pos a) (pos 0)) || is_gt (int_cmp (pos a) (pos t)))
+or_else a t =
+    ap₂ (λ x y. is_true (binary Or x y)) (gives Eq (Int (pos a)) (Int (pos 0)) refl refl) (gives Gt (Int (pos a)) (Int (pos t)) refl refl)
+    ∙ or_truth (is_eq (value_cmp (Int (pos a)) (Int (pos 0)))) (is_gt (value_cmp (Int (pos a)) (Int (pos t))))
+    ∙ ap₂ (λ x y. is_eq x || is_gt y) (value_cmp-Int (pos a) (pos 0)) (value_cmp-Int (pos a) (pos t))

@@ -1,13 +1,14 @@
 -- What the texts on grants and holds mean.
-use Rattle.std.proofs.Common.{List, [], ◌∷◌, ℕ, pos, codes, refl}
+use Rattle.std.proofs.Common.{List, [], ◌∷◌, ℕ, pos, negsuc, false, None, codes, refl}
 use Rattle.sqlite.specs.Command.TheVariants.{Insert, Update, Delete}
 use Rattle.sqlite.specs.Listing.{understood}
+use Rattle.sqlite.specs.Query.{Query, inner, end}
 use Rattle.sqlite.specs.Source.TheVariants.{Values}
 use Rattle.sqlite.specs.declared.types.Value.TheVariants.{Null, Int}
 use Rattle.sqlite_sql.specs.Term.{Term, lit, col}
 use Rattle.sqlite_tied.specs.Compute.{everything}
-use Rattle.fax_store.specs.declared.grants.TheConstants.{SELECT_GRANT, INSERT_GRANT, UPDATE_REPORT, SHUT_GRANT, SELECT_HOLD, INSERT_HOLD, DELETE_HOLD}
-use Rattle.fax_store.proofs.StatementTexts.{equals, Selects, Commands}
+use Rattle.fax_store.specs.declared.grants.TheConstants.{SELECT_GRANT, INSERT_GRANT, UPDATE_REPORT, SHUT_GRANT, SELECT_HOLD, INSERT_HOLD, DELETE_HOLD, SELECT_CALLS}
+use Rattle.fax_store.proofs.StatementTexts.{equals, Selects, SelectsAll, Commands}
 use Rattle.fax_store.proofs.UpdateLemmas.{program_of, gone_project}
 
 abbrev pub grant_tests : List Term
@@ -67,3 +68,23 @@ held_tests = equals (col 1 3) (col 0 0) ∷ []
 pub delete_hold : Commands DELETE_HOLD.now (Delete 2 (program_of 2 held_tests gone_project))
 unfolding understood everything
 delete_hold = record { is = refl; plain = (refl, refl) }
+
+abbrev pub call_tests : List Term
+call_tests = equals (col 2 0) (col 1 2) ∷ equals (col 2 2) (col 0 0) ∷ []
+
+abbrev pub calls_query : Query
+calls_query = record {
+  from = inner 2 (inner 0 end);
+  filter = call_tests;
+  group = None;
+  project = col 1 3 ∷ [];
+  distinct = false;
+  collations = [];
+  order = [];
+  limit = lit (Int (negsuc 0));
+  offset = lit (Int (pos 0));
+}
+
+pub select_calls : SelectsAll SELECT_CALLS.now calls_query (codes "id" ∷ [])
+unfolding understood everything
+select_calls = record { command = refl; plain = (refl, refl); unlisted = refl }

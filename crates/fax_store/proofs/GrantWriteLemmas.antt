@@ -1,9 +1,8 @@
 -- What the texts on grants and holds write.
-use Rattle.std.proofs.Common.{◌≡◌, ◌≤◌, inl, inr, ℕ, pos, List, [], ◌∷◌, ◌++◌, map, filter, drop, Bool, true, false, not, ◌&&◌, Option, Some, None, if◌then◌else◌, IsTrue, refl, sym, ap, ap₂, subst, ◌∙◌, arith}
+use Rattle.std.proofs.Common.{◌≡◌, ◌≤◌, inl, inr, ℕ, pos, List, [], ◌∷◌, ◌++◌, map, filter, drop, Bool, true, false, not, ◌&&◌, Option, Some, None, if◌then◌else◌, IsTrue, refl, sym, ap, ap₂, subst, ◌∙◌}
 use Rattle.std.specs.Prelude.{find, ◌==◌}
 use Rattle.std.specs.List.Sorted.{IsPermutation}
 use Rattle.std.proofs.lemmas.Bool.{cases_Bool, eqb-true, eq-eqb}
-use Rattle.std.proofs.lemmas.Bool.Decides.{nat_tests}
 use Rattle.std.proofs.lemmas.List.Sorted.{IsPermutation-sym, IsPermutation-trans, IsPermutation-cons, IsPermutation-to_front, IsPermutation-map}
 use Rattle.sqlite.specs.Cast.{cast_row}
 use Rattle.sqlite.specs.Edit.{is_taken, with_rowid, next_rowid}
@@ -30,7 +29,7 @@ use Rattle.fax_store.specs.Tables.{TablesMean, IsLawfulGrant, IsByRowid}
 use Rattle.fax_store.proofs.AppendLemmas.{appended}
 use Rattle.fax_store.proofs.ChangeLemmas.{all_mapped}
 use Rattle.fax_store.proofs.ColumnLemmas.{kept_permuted}
-use Rattle.fax_store.proofs.CompareLemmas.{are_equal, equal_numbers, same_row, cast_int, cast_null}
+use Rattle.fax_store.proofs.CompareLemmas.{are_equal, is_number, same_row, cast_int, cast_null}
 use Rattle.fax_store.proofs.GrantTexts.{grant_tests, grant_terms, report_project, shut_project, held_tests, hold_terms, insert_grant, insert_hold, update_report, shut_grant, delete_hold}
 use Rattle.fax_store.proofs.KeyLemmas.{only_numbered, asked_is, not_asked, row_placed, all_placed, placed_permuted, free_of}
 use Rattle.fax_store.proofs.SelectLemmas.{passes, show}
@@ -211,9 +210,6 @@ map_same f g (x ∷ xs) same = ap₂ ◌∷◌ (same x (inl refl)) (map_same f g
 map_none : {X : Type 0} (xs : List X) → map (λ x. x) xs ≡ xs
 map_none [] = refl
 map_none (x ∷ xs) = ap (λ rest. x ∷ rest) (map_none xs)
-
-is_number : (a b : ℕ) → are_equal (number a) (number b) ≡ (a == b)
-is_number a b = equal_numbers a b ∙ grind (arith, nat_tests)
 
 module _ (n : ℕ) where
   abbrev pub close_params : Row

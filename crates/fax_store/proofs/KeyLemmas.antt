@@ -24,7 +24,7 @@ use Rattle.fax_store.proofs.EditLemmas.{has_mapped, shown_one, none_shown}
 
 module _ {X : Type 0} (row : X → Row) (num : X → ℕ) (ids : (x : X) → rowid (row x) ≡ number (num x)) where
   -- no later row has the number of the first
-  apart : (x y : X) → value_cmp (rowid (row x)) (rowid (row y)) ≡ Less → (num x == num y) ≡ false
+  pub apart : (x y : X) → value_cmp (rowid (row x)) (rowid (row y)) ≡ Less → (num x == num y) ≡ false
   apart x y less =
       let e : int_cmp (pos (num x)) (pos (num y)) ≡ Less = sym (value_cmp-Int (pos (num x)) (pos (num y))) ∙ sym (ap₂ value_cmp (ids x) (ids y)) ∙ less in
       grind (arith, nat_tests)

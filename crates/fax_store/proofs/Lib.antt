@@ -27,3 +27,6 @@ pub mod GrantTexts
 pub mod GrantLemmas
 pub mod HoldLemmas
 pub mod GrantWriteLemmas
+pub mod WaitingLemmas
+pub mod IndexLemmas
+pub mod CallLemmas

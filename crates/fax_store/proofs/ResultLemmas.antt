@@ -36,3 +36,8 @@ unavailable_where (Err e) W Q is w = is w
 pub passes_on : {A : Type 0} (r : Result A StoreFault) (fault : StoreFault) (Q : A → Type 0) → IsErrAnd r (λ e. e ≡ fault) → fault ≡ Unavailable → OrUnavailable r Q
 passes_on (Ok x) fault Q is why = absurd is
 passes_on (Err e) fault Q is why = is ∙ why
+
+-- an answer of which more is known
+pub or_weaker : {A : Type 0} (r : Result A StoreFault) (P Q : A → Type 0) → ((a : A) → P a → Q a) → OrUnavailable r P → OrUnavailable r Q
+or_weaker (Ok a) P Q so h = so a h
+or_weaker (Err e) P Q so h = h

@@ -3,30 +3,41 @@ use Rattle.std.proofs.Common.{◌≡◌, ℕ, pos, List, [], ◌∷◌, codes, f
 use Rattle.sqlite.specs.Collation.TheVariants.{Binary}
 use Rattle.sqlite.specs.declared.types.Value.TheVariants.{Null, Int, Text}
 use Rattle.sqlite_sql.specs.Term.{Term, lit, col, op2}
-use Rattle.sqlite_sql.specs.declared.ops.BinaryOp.TheVariants.{Compare}
-use Rattle.sqlite_sql.specs.declared.ops.CompareOp.TheVariants.{Eq, Le, Ge}
+use Rattle.sqlite_sql.specs.declared.ops.BinaryOp.TheVariants.{Compare, Or}
+use Rattle.sqlite_sql.specs.declared.ops.CompareOp.TheVariants.{Eq, Le, Ge, Gt}
+use Rattle.sqlite.specs.Query.{Query}
 use Rattle.sqlite.specs.Source.TheVariants.{Values}
 use Rattle.sqlite.specs.Command.{Command}
 use Rattle.sqlite.specs.Command.TheVariants.{Insert, Select, Update}
 use Rattle.sqlite.specs.Listing.{understood, reads_listing}
 use Rattle.sqlite.proofs.Callers.{IsPlain, command_of}
 use Rattle.sqlite_tied.specs.Compute.{everything}
+use Rattle.sqlite_value.specs.Keys.{ascending}
+use Rattle.sqlite_value.specs.declared.keys.Key.{Key}
 use Rattle.fax_job.specs.Status.{kill_time_expired}
 use Rattle.fax_store.specs.declared.schema.TheConstants.{INSERT_META}
 use Rattle.fax_store.specs.declared.meta.TheConstants.{SELECT_META, UPDATE_META}
 use Rattle.fax_store.specs.declared.replies.TheConstants.{SELECT_REPLY, INSERT_REPLY}
-use Rattle.fax_store.specs.declared.jobs.TheConstants.{SELECT_JOB, INSERT_JOB, UPDATE_JOB, EXPIRE_JOBS}
+use Rattle.fax_store.specs.declared.jobs.TheConstants.{SELECT_JOB, INSERT_JOB, UPDATE_JOB, EXPIRE_JOBS, SELECT_WAITING}
 use Rattle.fax_store.specs.Schema.{six_tables}
-use Rattle.fax_store.proofs.SelectLemmas.{rows_where}
+use Rattle.fax_store.proofs.SelectLemmas.{rows_by, rows_where}
 
 abbrev pub equals : Term → Term → Term
 equals = op2 (Compare Eq Binary)
 
--- the text is this query of one table
-pub record Selects (sql : List ℕ) (tree : ℕ) (tests project : List Term) (names : List (List ℕ)) : Type 0 where
-  pub command : command_of (understood six_tables sql) ≡ Select (record { lets = []; body = rows_where tree tests project }) names
+-- the text is this query
+pub record SelectsAll (sql : List ℕ) (query : Query) (names : List (List ℕ)) : Type 0 where
+  pub command : command_of (understood six_tables sql) ≡ Select (record { lets = []; body = query }) names
   pub plain : IsPlain (understood six_tables sql)
   pub unlisted : reads_listing six_tables sql ≡ false
+
+-- it is of one table
+abbrev pub Selects : List ℕ → ℕ → List Term → List Term → List (List ℕ) → Type 0
+Selects sql tree tests project = SelectsAll sql (rows_where tree tests project)
+
+-- and in this order
+abbrev pub SelectsBy : List ℕ → ℕ → List Term → List Term → List (Term × Key) → List (List ℕ) → Type 0
+SelectsBy sql tree tests project order = SelectsAll sql (rows_by tree tests project order)
 
 -- the text is this command, which shows no rows
 pub record Commands (sql : List ℕ) (command : Command) : Type 0 where
@@ -114,3 +125,15 @@ expired_project =
 pub expire_jobs : Commands EXPIRE_JOBS.now (Update 0 (record { lets = []; body = rows_where 0 expired_tests expired_project }))
 unfolding understood everything
 expire_jobs = record { is = refl; plain = (refl, refl) }
+
+abbrev pub waiting_tests : List Term
+waiting_tests =
+    equals (col 1 18) (lit (Int (pos 1))) ∷ op2 (Compare Le Binary) (col 1 7) (col 0 0) ∷ op2 (Compare Le Binary) (col 1 20) (col 0 0)
+    ∷ op2 Or (equals (col 1 8) (lit (Int (pos 0)))) (op2 (Compare Gt Binary) (col 1 8) (col 0 0)) ∷ []
+
+abbrev pub waiting_order : List (Term × Key)
+waiting_order = (col 1 9, ascending Binary) ∷ (col 1 7, ascending Binary) ∷ (col 1 0, ascending Binary) ∷ []
+
+pub select_waiting : SelectsBy SELECT_WAITING.now 0 waiting_tests job_project waiting_order job_names
+unfolding understood everything
+select_waiting = record { command = refl; plain = (refl, refl); unlisted = refl }

@@ -1,9 +1,12 @@
 -- Lawful jobs, what is made of those of a queue, and the row of a query for a job.
-use Rattle.std.specs.Prelude.{◌≡◌, ℕ, List, [], ◌∷◌, ◌+◌, ◌≤◌, ◌<◌, map, nat_lt, unwrap_or, Some, if◌then◌else◌}
+use Rattle.std.specs.Prelude.{◌≡◌, ℕ, List, [], ◌∷◌, ◌+◌, ◌≤◌, ◌<◌, map, filter, nat_lt, unwrap_or, Some, if◌then◌else◌}
+use Rattle.std.specs.List.Sorted.{IsPermutation, IsSortedBy}
 use Rattle.std.specs.Str.{IsUtf8}
 use Rattle.sqlite.specs.Order.{Row}
 use Rattle.fax_core.specs.Job.{Job, fields_of, HasPages}
 use Rattle.fax_core.specs.Ageing.{aged_job}
+use Rattle.fax_core.specs.Best.{better}
+use Rattle.fax_core.specs.State.{is_due}
 use Rattle.fax_core.specs.Queue.{Queue, job_numbered}
 use Rattle.fax_job.specs.Dial.{IsCanonical}
 use Rattle.fax_job.specs.Job.{IsLawful}
@@ -62,6 +65,15 @@ IsChange j m = (k : Job) → job_numbered j.number m ≡ Some k → IsSameOrder 
 -- the queue with the jobs as time leaves them
 abbrev pub with_expired : ℕ → Queue → Queue
 with_expired t m = record m { jobs = map (aged_job t) m.jobs }
+
+-- the jobs that are due at t, in the order of the choice: none is better than the one before it
+pub record AreWaiting (t : ℕ) (m : Queue) (jobs : List Job) : Type 0 where
+  pub due : IsPermutation (filter (λ j. is_due j t) m.jobs) jobs
+  pub ordered : IsSortedBy better jobs
+
+-- the records of these
+abbrev pub IsWaiting : ℕ → Queue → List JobFields → Type 0
+IsWaiting t m found = (jobs : List Job) × (found ≡ map fields_of jobs) × AreWaiting t m jobs
 
 -- the row of a query for a job
 abbrev pub job_shown : JobFields → Row

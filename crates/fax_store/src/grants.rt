@@ -5,6 +5,7 @@ ghost use Rattle.std.specs.Option.{option_map};
 ghost use Rattle.sqlite.specs.Held.{state};
 ghost use Rattle.fax_core.specs.Machine.{held_by, with_grant};
 ghost use Rattle.fax_core.specs.Queue.{Queue, Entry, grant_numbered};
+ghost use Rattle.fax_core.specs.State.{calls_to};
 ghost use Rattle.fax_core.specs.declared.grants.Grant.{Grant as Granted};
 ghost use Rattle.fax_job.specs.declared.job.Call.{Call as HowItWent};
 ghost use Rattle.fax_store.specs.Fault.{OrUnavailable};
@@ -21,7 +22,7 @@ use crate::row::{name_at, number_at, small_at};
 use crate::store::Store;
 use crate::work::Work;
 use fax_core::Grant;
-use fax_job::Call;
+use fax_job::{Call, Dial};
 use sqlite::{Alter, Row, params};
 use std::alloc::Global;
 
@@ -35,6 +36,9 @@ const INSERT_GRANT: &str =
 const UPDATE_REPORT: &str = "UPDATE grants SET call = ?2, pages = ?3 WHERE id = ?1";
 
 const SHUT_GRANT: &str = "UPDATE grants SET shut = 1 WHERE id = ?1";
+
+const SELECT_CALLS: &str =
+    "SELECT holds.id FROM holds JOIN jobs ON jobs.job = holds.job WHERE jobs.dial = ?1";
 
 const INSERT_HOLD: &str = "INSERT INTO holds (modem, job, id) VALUES (?1, ?2, ?3)";
 
@@ -195,6 +199,32 @@ impl<S: Alter> Store<S> {
         }
     }
 
+    /// How many grants are open of jobs to the same canonical number.
+    ///
+    /// # Errors
+    ///
+    /// `Unavailable`.
+    pub fn active_to(&mut self, dial: &Dial) -> Result<u64, StoreFault>
+        ensures served { Serves (state S.Store self.new.conn) → Serves (state S.Store self.old.conn) }
+        ensures stays { Stays (state S.Store self.old.conn) (state S.Store self.new.conn) }
+        ensures found { (m : Queue) (k : List Entry) → Means (state S.Store self.old.conn) m k
+            → Serves (state S.Store self.new.conn) → OrUnavailable result (λ calls. calls ≡ calls_to dial.now m) }
+    {
+        self.read_calls(dial)
+    }
+
+    fn read_calls(&mut self, dial: &Dial) -> Result<u64, StoreFault>
+        ensures served { Serves (state S.Store self.new.conn) → Serves (state S.Store self.old.conn) }
+        ensures answers { (m : Queue) (k : List Entry) → MeansNow (state S.Store self.old.conn) m k
+            → Serves (state S.Store self.new.conn)
+            → Answers (state S.Store self.old.conn) (state S.Store self.new.conn) result
+            (λ calls. calls ≡ calls_to dial.now m) }
+        ensures cause { IfErr result (λ fault. fault ≡ StoreFault.Unavailable) }
+    {
+        let rows = self.show(SELECT_CALLS, params![dial.text()])?;
+        Ok(rows.len() as u64)
+    }
+
     fn insert_grant(&mut self, grant: &Grant) -> Result<(), StoreFault>
         ensures served { Serves (state S.Store self.new.conn) → Serves (state S.Store self.old.conn) }
         ensures written { (m₀ m : Queue) (k₀ k : List Entry) → Works (state S.Store self.old.conn) false m₀ k₀ m k
@@ -317,6 +347,29 @@ impl<S: Alter> Work<'_, S> {
             return Err(StoreFault::Unavailable);
         }
         let found = self.store.read_grant(number);
+        self.failed = found.is_err();
+        found
+    }
+
+    /// How many grants are open of jobs to the same canonical number.
+    ///
+    /// # Errors
+    ///
+    /// `Unavailable`.
+    pub fn active_to(&mut self, dial: &Dial) -> Result<u64, StoreFault>
+        ensures same_reference { self.new.store.ghost_name ≡ self.old.store.ghost_name }
+        ensures keeps { Keeps (state S.Store self.old.store.now.conn) self.old.failed
+            (state S.Store self.new.store.now.conn) self.new.failed }
+        ensures found { AnswersIn (state S.Store self.old.store.now.conn) self.old.failed
+            (state S.Store self.new.store.now.conn) result (λ m k calls. calls ≡ calls_to dial.now m) }
+        ensures served { Serves (state S.Store self.new.store.now.conn) → Serves (state S.Store self.old.store.now.conn) }
+        ensures fails { self.new.failed ≡ is_err result }
+        ensures refused { IsTrue self.old.failed → result ≡ Err StoreFault.Unavailable }
+    {
+        if self.failed {
+            return Err(StoreFault::Unavailable);
+        }
+        let found = self.store.read_calls(dial);
         self.failed = found.is_err();
         found
     }

@@ -1,12 +1,12 @@
 //! The jobs.
 
-ghost use Rattle.std.specs.Prelude.{◌≡◌, ℕ, ◌≤◌, ◌<◌, List, Option, false, Err, IfErr, IfOk, is_err, IsTrue, unwrap_or};
+ghost use Rattle.std.specs.Prelude.{◌≡◌, ℕ, ◌≤◌, ◌<◌, List, All, map, Option, false, Err, IfErr, IfOk, is_err, IsTrue, unwrap_or};
 ghost use Rattle.std.specs.Option.{option_map};
 ghost use Rattle.std.specs.Str.{IsUtf8};
 ghost use Rattle.std.specs.String.{string_bytes};
 ghost use Rattle.sqlite.specs.Held.{state};
 ghost use Rattle.sqlite.specs.declared.types.Value.TheVariants.{Text};
-ghost use Rattle.fax_core.specs.Job.{job_of, fields_of};
+ghost use Rattle.fax_core.specs.Job.{Job as OneJob, job_of, fields_of};
 ghost use Rattle.fax_core.specs.Queue.{Queue, Entry, job_numbered};
 ghost use Rattle.fax_job.specs.Dial.{IsCanonical};
 ghost use Rattle.fax_job.specs.Job.{is_lawful_killtime, IsLawful};
@@ -20,7 +20,8 @@ ghost use Rattle.fax_job.specs.declared.job.Wish.{Wish as JobWish};
 ghost use Rattle.fax_store.specs.Fault.{OrUnavailable};
 ghost use Rattle.fax_store.specs.Row.{HasValue, HasNumber, phase_number, wish_number};
 ghost use Rattle.fax_core.specs.Machine.{with_job as with_change};
-ghost use Rattle.fax_store.specs.Job.{IsText, IsFormed, IsLawfulJob, IsChange, job_shown, with_placed, with_job, with_expired};
+ghost use Rattle.fax_store.specs.Job.{IsText, IsFormed, IsLawfulJob, IsChange, IsWaiting, job_shown};
+ghost use Rattle.fax_store.specs.Job.{with_placed, with_job, with_expired};
 ghost use Rattle.fax_store.specs.Store.{Serves, Means, MeansNow, Stays, Answers};
 ghost use Rattle.fax_store.specs.Work.{Works, Keeps, Changes, ChangesWhere, AnswersIn, Moves, Steps};
 
@@ -38,6 +39,12 @@ use std::alloc::Global;
 const SELECT_JOB: &str = "SELECT job, dial, modem, jobtag, status, extra, tts, killtime, priority, \
     npages, totpages, ntries, tottries, maxtries, ndials, totdials, maxdials, phase, wish, next \
     FROM jobs WHERE job = ?1";
+
+const SELECT_WAITING: &str =
+    "SELECT job, dial, modem, jobtag, status, extra, tts, killtime, priority, \
+    npages, totpages, ntries, tottries, maxtries, ndials, totdials, maxdials, phase, wish, next \
+    FROM jobs WHERE phase = 1 AND tts <= ?1 AND next <= ?1 AND (killtime = 0 OR killtime > ?1) \
+    ORDER BY priority, tts, job";
 
 const UPDATE_JOB: &str = "UPDATE jobs SET modem = ?2, jobtag = ?3, status = ?4, tts = ?5, \
     killtime = ?6, priority = ?7, npages = ?8, ntries = ?9, tottries = ?10, maxtries = ?11, \
@@ -227,6 +234,21 @@ fn job_in(alloc: Global, row: &Row) -> Result<Job, StoreFault>
     }
 }
 
+/// The jobs in rows of all columns, in their order.
+fn jobs_in(alloc: Global, rows: &[Row]) -> Result<Vec<Job>, StoreFault>
+    ensures { (jobs : List OneJob) → rows.now ≡ map (λ j. job_shown (fields_of j)) jobs → All IsLawfulJob jobs
+        → OrUnavailable result (λ found. found.items ≡ map fields_of jobs) }
+{
+    let mut jobs = Vec::new(alloc);
+    for row in rows {
+        let job = job_in(alloc, row)?;
+        if jobs.push(job).is_err() {
+            return Err(StoreFault::Unavailable);
+        }
+    }
+    Ok(jobs)
+}
+
 /// The fields in a row of all columns.
 fn fields_in(alloc: Global, row: &Row) -> Result<JobFields, StoreFault>
     ensures { (job : Fields) → row.now ≡ job_shown job → IsLawful job → IsFormed job
@@ -287,6 +309,32 @@ impl<S: Alter> Store<S> {
             Some(row) => Ok(Some(job_in(self.alloc, &row)?)),
             None => Ok(None),
         }
+    }
+
+    /// The jobs that wait and may be tried at `t`, in the order of the choice: by priority, then
+    /// time to send, then number.
+    ///
+    /// # Errors
+    ///
+    /// `Unavailable`, or `Strange` where the row of one is no lawful record.
+    pub fn waiting(&mut self, t: Moment) -> Result<Vec<Job>, StoreFault>
+        ensures served { Serves (state S.Store self.new.conn) → Serves (state S.Store self.old.conn) }
+        ensures stays { Stays (state S.Store self.old.conn) (state S.Store self.new.conn) }
+        ensures found { (m : Queue) (k : List Entry) → Means (state S.Store self.old.conn) m k
+            → Serves (state S.Store self.new.conn) → OrUnavailable result (λ found. IsWaiting t m found.items) }
+    {
+        self.read_waiting(t)
+    }
+
+    fn read_waiting(&mut self, t: Moment) -> Result<Vec<Job>, StoreFault>
+        ensures served { Serves (state S.Store self.new.conn) → Serves (state S.Store self.old.conn) }
+        ensures answers { (m : Queue) (k : List Entry) → MeansNow (state S.Store self.old.conn) m k
+            → Serves (state S.Store self.new.conn)
+            → Answers (state S.Store self.old.conn) (state S.Store self.new.conn) result
+            (λ found. IsWaiting t m found.items) }
+    {
+        let rows = self.show(SELECT_WAITING, params![t.seconds()])?;
+        jobs_in(self.alloc, rows.as_slice())
     }
 
     fn insert_job(&mut self, job: &Job) -> Result<(), StoreFault>
@@ -410,6 +458,30 @@ impl<S: Alter> Work<'_, S> {
         found
     }
 
+    /// The jobs that wait and may be tried at `t`, in the order of the choice: by priority, then
+    /// time to send, then number.
+    ///
+    /// # Errors
+    ///
+    /// `Unavailable`, or `Strange` where the row of one is no lawful record.
+    pub fn waiting(&mut self, t: Moment) -> Result<Vec<Job>, StoreFault>
+        ensures same_reference { self.new.store.ghost_name ≡ self.old.store.ghost_name }
+        ensures keeps { Keeps (state S.Store self.old.store.now.conn) self.old.failed
+            (state S.Store self.new.store.now.conn) self.new.failed }
+        ensures found { AnswersIn (state S.Store self.old.store.now.conn) self.old.failed
+            (state S.Store self.new.store.now.conn) result (λ m k found. IsWaiting t m found.items) }
+        ensures served { Serves (state S.Store self.new.store.now.conn) → Serves (state S.Store self.old.store.now.conn) }
+        ensures fails { self.new.failed ≡ is_err result }
+        ensures refused { IsTrue self.old.failed → result ≡ Err StoreFault.Unavailable }
+    {
+        if self.failed {
+            return Err(StoreFault::Unavailable);
+        }
+        let found = self.store.read_waiting(t);
+        self.failed = found.is_err();
+        found
+    }
+
     /// Adds a job of a number that no job has, and makes the next number one greater.
     ///
     /// # Errors
@@ -437,8 +509,8 @@ impl<S: Alter> Work<'_, S> {
 
     /// Sets what a change may set of the job of this number: the modem, the tag, the times, the
     /// priority, the pages sent, the tries and dials with their limits, the status, and where it
-    /// stands. The number to dial, the pages and the extra lines are those of the job that is there.
-    /// Where no job has the number, nothing changes.
+    /// stands. The number to dial, the pages and the extra lines stay as they are there. Where no job
+    /// has the number, nothing changes.
     ///
     /// # Errors
     ///

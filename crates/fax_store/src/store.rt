@@ -5,7 +5,7 @@ ghost use Rattle.std.specs.Borrow.{sem, RestsIfErr};
 ghost use Rattle.sqlite.specs.Held.{state};
 ghost use Rattle.fax_store.specs.contracts.store.Store.{the_row};
 ghost use Rattle.sqlite.specs.Values.{bound};
-ghost use Rattle.sqlite.specs.State.{HasCleanDisk};
+ghost use Rattle.sqlite.specs.State.{HasCleanDisk, Shown};
 ghost use Rattle.sqlite.specs.Steps.{over_memory};
 ghost use Rattle.fax_core.specs.Queue.{empty_queue};
 ghost use Rattle.fax_store.specs.Store.{IsAtRest, Serves, Stays, GoesBack, LeavesCommit, FindsRow, HasRun};
@@ -79,6 +79,23 @@ impl<S: Alter> Store<S> {
         }
     }
 
+    /// Runs a query, and gives the rows that it shows.
+    pub(crate) fn show(
+        &mut self,
+        sql: &str,
+        params: &[ValueRef<'_>],
+    ) -> Result<Vec<Row>, StoreFault>
+        ensures served { Serves (state S.Store self.new.conn) → Serves (state S.Store self.old.conn) }
+        ensures shown { HasCleanDisk (state S.Store self.new.conn) → IfOk result
+            (λ rows. Shown sql.now (bound params.now) (state S.Store self.old.conn) (state S.Store self.new.conn) rows.items) }
+        ensures left { HasCleanDisk (state S.Store self.new.conn) → OnErr result
+            (LeavesCommit (state S.Store self.old.conn) (state S.Store self.new.conn)) }
+        ensures cause { IfErr result (λ fault. fault ≡ StoreFault.Unavailable) }
+    {
+        let rows = self.conn.query_all(sql, params)?;
+        Ok(rows)
+    }
+
     /// Runs a query that shows at most one row.
     pub(crate) fn find(
         &mut self,
@@ -92,7 +109,7 @@ impl<S: Alter> Store<S> {
             (LeavesCommit (state S.Store self.old.conn) (state S.Store self.new.conn)) }
         ensures cause { IfErr result (λ fault. fault ≡ StoreFault.Unavailable) }
     {
-        let mut rows = self.conn.query_all(sql, params)?;
+        let mut rows = self.show(sql, params)?;
         Ok(rows.pop())
     }
 

@@ -1,6 +1,6 @@
 use crate::{Hold, MemoryStore, Store, StoreFault};
 use fax_core::Grant;
-use fax_job::{Call, Job, Lines, Moment, Name, RequestNumber, read_lines, write_lines};
+use fax_job::{Call, Dial, Job, Lines, Moment, Name, RequestNumber, read_lines, write_lines};
 use std::alloc::Global;
 use std::test::Fail;
 
@@ -265,6 +265,66 @@ fn closed_grant_is_held_no_more(rt: HostRuntime) -> Result<(), Fail> {
     assert!(rt; told(&mut store, 1)? == Some((None, 0, false)));
     assert!(rt; store.hold_of("ttyS0")?.is_none());
     assert!(rt; store.hold_of("ttyS1")? == Some(Hold { grant: 2, job: 8 }));
+    Ok(())
+}
+
+/// Puts a waiting job of this number, with this priority and time to send.
+fn put_waiting(
+    alloc: Global,
+    store: &mut MemoryStore,
+    number: u32,
+    priority: u8,
+    tts: u64,
+) -> Result<bool, Fail> {
+    let mut fields = job_of(alloc, number)?.ok_or("no job")?.into_fields();
+    fields.phase = fax_job::Phase::Waiting;
+    fields.wish = fax_job::Wish::Go;
+    fields.priority = priority;
+    fields.tts = Moment::new(tts);
+    let job = Job::new(fields).ok_or("no waiting job")?;
+    put(alloc, store, &job)
+}
+
+/// The number of the job that is so many behind the first of those that wait.
+fn waits_at(store: &mut MemoryStore, t: u64, place: usize) -> Result<Option<u32>, Fail> {
+    let jobs = store.waiting(Moment::new(t))?;
+    Ok(jobs.get(place).map(|job| job.fields().job))
+}
+
+#[test]
+fn waiting_jobs_stand_in_the_order_of_the_choice(rt: HostRuntime) -> Result<(), Fail> {
+    let mut store = Store::new_in_memory(rt.alloc())?;
+    put_waiting(rt.alloc(), &mut store, 1, 127, 900)?;
+    put_waiting(rt.alloc(), &mut store, 2, 127, 800)?;
+    put_waiting(rt.alloc(), &mut store, 3, 5, 900)?;
+    assert!(rt; waits_at(&mut store, 850, 0)? == Some(2));
+    assert!(rt; waits_at(&mut store, 850, 1)? == None);
+    assert!(rt; waits_at(&mut store, 900, 0)? == Some(3));
+    assert!(rt; waits_at(&mut store, 900, 1)? == Some(2));
+    assert!(rt; waits_at(&mut store, 900, 2)? == Some(1));
+    assert!(rt; waits_at(&mut store, 5000, 0)? == None);
+    Ok(())
+}
+
+/// How many calls there are to a number.
+fn calls(alloc: Global, store: &mut MemoryStore, number: &str) -> Result<u64, Fail> {
+    let dial = Dial::read(alloc, number)?;
+    Ok(store.active_to(&dial)?)
+}
+
+#[test]
+fn calls_to_a_number_are_its_open_grants(rt: HostRuntime) -> Result<(), Fail> {
+    let mut store = Store::new_in_memory(rt.alloc())?;
+    for number in 1..3 {
+        let job = job_of(rt.alloc(), number)?.ok_or("no job")?;
+        put(rt.alloc(), &mut store, &job)?;
+    }
+    put_grant(&mut store, &grant_of(rt.alloc(), 1, 1, "ttyS0")?)?;
+    put_grant(&mut store, &grant_of(rt.alloc(), 2, 2, "ttyS1")?)?;
+    assert_eq!(rt; calls(rt.alloc(), &mut store, "5550111")?, 2);
+    assert_eq!(rt; calls(rt.alloc(), &mut store, "5550112")?, 0);
+    close(&mut store, 1)?;
+    assert_eq!(rt; calls(rt.alloc(), &mut store, "5550111")?, 1);
     Ok(())
 }
 

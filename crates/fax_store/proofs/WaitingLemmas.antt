@@ -1,0 +1,118 @@
+-- What the text on waiting jobs reads.
+use Rattle.std.proofs.Common.{◌≡◌, ◌<◌, ◌+◌, ℕ, suc, zero, pos, List, [], ◌∷◌, map, filter, All, Bool, true, false, not, ◌&&◌, ◌||◌, Option, Some, None, unwrap_or, refl, sym, ap, ap₂, subst, ◌∙◌, arith}
+use Rattle.std.specs.Prelude.{◌==◌, nat_le, nat_lt, slice_index_or}
+use Rattle.std.specs.Ordering.{is_lt, is_eq, is_gt, int_cmp, ordering_then}
+use Rattle.std.specs.declared.cmp.Ordering.TheVariants.{Equal}
+use Rattle.std.specs.List.Sorted.{IsSorted}
+use Rattle.std.proofs.lemmas.Bool.Decides.{nat_tests}
+use Rattle.sqlite.specs.Listing.{understood}
+use Rattle.sqlite.specs.Order.{Row}
+use Rattle.sqlite.specs.State.{State, IsUnchanged, Shown}
+use Rattle.sqlite.proofs.Callers.{IsPlain, reads_as}
+use Rattle.sqlite.specs.Query.{output_cmp}
+use Rattle.sqlite_trees.proofs.ListLemmas.{map-map, filter-map, filter_same, all_of, pull_back}
+use Rattle.sqlite_value.proofs.OrderLemmas.{value_cmp-Int}
+use Rattle.fax_core.specs.Ageing.{is_past}
+use Rattle.fax_core.specs.Best.{better}
+use Rattle.fax_core.specs.Job.{Job, fields_of}
+use Rattle.fax_core.specs.Queue.{Queue, Entry}
+use Rattle.fax_core.specs.State.{is_due, is_waiting}
+use Rattle.fax_job.specs.declared.job.Phase.{Phase}
+use Rattle.fax_job.specs.declared.job.Phase.TheVariants.{Held, Waiting, Granted, Done, Failed}
+use Rattle.fax_store.specs.declared.jobs.TheConstants.{SELECT_WAITING}
+use Rattle.fax_store.specs.Job.{IsLawfulJob, AreWaiting, job_shown}
+use Rattle.fax_store.specs.Row.{number, phase_number}
+use Rattle.fax_store.specs.Schema.{six_tables}
+use Rattle.fax_store.specs.Tables.{TablesMean}
+use Rattle.std.proofs.lemmas.List.Sorted.{All-permutation}
+use Rattle.fax_store.proofs.ColumnLemmas.{all_kept}
+use Rattle.fax_store.proofs.CompareLemmas.{are_equal, equal_numbers, at_most, or_else}
+use Rattle.fax_store.proofs.IndexLemmas.{length_map}
+use Rattle.fax_store.proofs.SelectLemmas.{rows_by, passes, show, put_out, in_order}
+use Rattle.fax_store.proofs.StatementLemmas.{shown_keeps}
+use Rattle.fax_store.proofs.StatementTexts.{job_names, job_project, waiting_tests, waiting_order, select_waiting}
+use Rattle.fax_store.proofs.TablesLemmas.{row_of}
+
+-- ---- which jobs
+
+module _ (t : ℕ) where
+  abbrev pub params : Row
+  params = number t ∷ []
+
+  waits : (phase : Phase) → are_equal (number (phase_number phase)) (number 1) ≡ is_waiting phase
+  waits Held = equal_numbers 0 1
+  waits Waiting = equal_numbers 1 1
+  waits Granted = equal_numbers 2 1
+  waits Done = equal_numbers 3 1
+  waits Failed = equal_numbers 4 1
+
+  -- 0 is none
+  not_past : (killtime : Option ℕ) → (is_eq (int_cmp (pos (unwrap_or killtime 0)) (pos 0)) || is_gt (int_cmp (pos (unwrap_or killtime 0)) (pos t))) ≡ not (is_past killtime t)
+  not_past None = refl
+  not_past (Some s) = grind (arith, nat_tests)
+
+  turned : (a b c d : Bool) → (a && (b && (c && (d && true)))) ≡ (a && d && b && c)
+  turned false b c d = refl
+  turned true false false false = refl
+  turned true false false true = refl
+  turned true false true false = refl
+  turned true false true true = refl
+  turned true true false false = refl
+  turned true true false true = refl
+  turned true true true false = refl
+  turned true true true true = refl
+
+  abbrev is_asked : Row → Bool
+  is_asked = passes 0 waiting_tests job_project params
+
+  -- the rows that pass are those of the jobs that are due
+  due : (j : Job) → is_asked (row_of j) ≡ is_due j t
+  due j =
+      ap₂ ◌&&◌ (waits j.phase) (ap₂ ◌&&◌ (at_most j.tts t) (ap₂ ◌&&◌ (at_most j.next t) (ap (λ b. b && true) (or_else (unwrap_or j.killtime 0) t ∙ not_past j.killtime))))
+      ∙ turned (is_waiting j.phase) (nat_le j.tts t) (nat_le j.next t) (not (is_past j.killtime t))
+
+  -- ---- in which order
+
+  by_numbers : (p q s u n k : ℕ) → is_lt (ordering_then (int_cmp (pos p) (pos q)) (ordering_then (int_cmp (pos s) (pos u)) (ordering_then (int_cmp (pos n) (pos k)) Equal)))
+      ≡ (nat_lt p q || ((p == q) && (nat_lt s u || ((s == u) && nat_lt n k))))
+  by_numbers p q s u n k = grind (arith, nat_tests)
+
+  same_order : (a b : Job) → is_lt (output_cmp (rows_by 0 waiting_tests job_project waiting_order) (put_out 0 waiting_tests job_project params waiting_order (row_of a)) (put_out 0 waiting_tests job_project params waiting_order (row_of b))) ≡ better a b
+  same_order a b =
+      ap is_lt (ap₂ ordering_then (value_cmp-Int (pos a.priority) (pos b.priority)) (ap₂ ordering_then (value_cmp-Int (pos a.tts) (pos b.tts)) (ap (λ o. ordering_then o Equal) (value_cmp-Int (pos a.number) (pos b.number)))))
+      ∙ by_numbers a.priority b.priority a.tts b.tts a.number b.number
+
+  index_map : {A B : Type 0} (f : A → B) (xs : List A) (i : ℕ) (d : A) → slice_index_or (map f xs) i (f d) ≡ f (slice_index_or xs i d)
+  index_map f [] i d = refl
+  index_map f (x ∷ xs) zero d = refl
+  index_map f (x ∷ xs) (suc i) d = index_map f xs i d
+
+  module _ (old new : State) (m : Queue) (k : List Entry) (means : TablesMean old.now m k) where
+    pub waiting_found : (rows : List Row) → Shown SELECT_WAITING.now params old new rows → (jobs : List Job) × (rows ≡ map (λ j. job_shown (fields_of j)) jobs) × AreWaiting t m jobs
+    waiting_found rows h =
+        let query = rows_by 0 waiting_tests job_project waiting_order in
+        let out = λ (j : Job). put_out 0 waiting_tests job_project params waiting_order (row_of j) in
+        let read = reads_as SELECT_WAITING.now params old new six_tables means.schema _ select_waiting.command select_waiting.plain select_waiting.unlisted rows h in
+        let shown = in_order 0 waiting_tests job_project params old.now (old.now.trees 0) refl waiting_order job_names rows read in
+        let asked : filter is_asked (old.now.trees 0) ≡ map row_of (filter (λ j. is_due j t) m.jobs) =
+        ap (filter is_asked) means.jobs ∙ filter-map is_asked row_of m.jobs ∙ ap (map row_of) (filter_same (λ j. is_asked (row_of j)) (λ j. is_due j t) m.jobs (all_of (λ j. is_asked (row_of j) ≡ is_due j t) due m.jobs)) in
+        let back = pull_back row_of (filter is_asked (old.now.trees 0)) shown.0 shown.1 (filter (λ j. is_due j t) m.jobs) asked in
+        let jobs = back.0 in
+        let sorted : IsSorted (output_cmp query) (map out jobs) = subst (IsSorted (output_cmp query)) (ap (map (put_out 0 waiting_tests job_project params waiting_order)) back.2 ∙ map-map _ _ jobs) shown.3 in (
+          jobs,
+          shown.2 ∙ ap (map (show 0 waiting_tests job_project params)) back.2 ∙ map-map _ _ jobs,
+          record {
+            due = back.1;
+            ordered = λ i d from low.
+                sym (same_order (slice_index_or jobs (i + 1) d) (slice_index_or jobs i d))
+                ∙ sym (ap₂ (λ a b. is_lt (output_cmp query a b)) (index_map out jobs (i + 1) d) (index_map out jobs i d))
+                ∙ sorted i (out d) from (subst (λ n. i + 1 < n) (sym (length_map out jobs)) low);
+          },
+        )
+
+    pub waiting_unchanged : (rows : List Row) → Shown SELECT_WAITING.now params old new rows → IsUnchanged old new
+    waiting_unchanged rows h = shown_keeps old new SELECT_WAITING.now params (subst (λ s. IsPlain (understood s SELECT_WAITING.now)) (sym means.schema) select_waiting.plain) rows h
+
+-- jobs that wait are lawful as all are
+pub all_waiting : (t : ℕ) (m : Queue) (jobs : List Job) → AreWaiting t m jobs → All IsLawfulJob m.jobs → All IsLawfulJob jobs
+all_waiting t m jobs waiting all = All-permutation IsLawfulJob (filter (λ j. is_due j t) m.jobs) jobs waiting.due (all_kept IsLawfulJob (λ j. is_due j t) m.jobs all)

@@ -1,0 +1,13 @@
+use Rattle.std.proofs.Common.{◌≡◌}
+use Rattle.sqlite.specs.Held.{state}
+use Rattle.fax_core.specs.State.{calls_to}
+use Rattle.fax_store.proofs.WorkLemmas.{stays_by, found_by}
+use Rattle.fax_store.proofs.store.Store.active_to.Goals as goal
+
+pub returns-clause-stays : goal.returns-clause-stays
+returns-clause-stays g c =
+    stays_by (state g.S.Store c.args.self.now.conn) (state g.S.Store c.read_calls.new.self.conn) c.read_calls.ensures.served (λ m k calls. calls ≡ calls_to c.args.dial.now m) c.read_calls.result c.read_calls.ensures.answers
+
+pub returns-clause-found : goal.returns-clause-found
+returns-clause-found g c =
+    found_by (state g.S.Store c.args.self.now.conn) (state g.S.Store c.read_calls.new.self.conn) c.read_calls.ensures.served (λ m k calls. calls ≡ calls_to c.args.dial.now m) c.read_calls.result c.read_calls.ensures.answers

@@ -1,0 +1,23 @@
+use Rattle.std.proofs.Common.{◌≡◌, map, subst, rules}
+use Rattle.sqlite.specs.Held.{state}
+use Rattle.sqlite.specs.State.{Shown}
+use Rattle.fax_core.specs.Job.{fields_of}
+use Rattle.fax_store.specs.declared.jobs.TheConstants.{SELECT_WAITING}
+use Rattle.fax_store.specs.Job.{IsWaiting}
+use Rattle.fax_store.proofs.ResultLemmas.{or_weaker}
+use Rattle.fax_store.proofs.WaitingLemmas as waiting
+use Rattle.fax_store.proofs.WorkLemmas.{answers_same}
+use Rattle.fax_store.proofs.store.Store.read_waiting.Goals as goal
+
+pub returns-clause-answers : goal.returns-clause-answers
+returns-clause-answers g c m k means s =
+    let old = state g.S.Store c.args.self.now.conn in
+    let new = state g.S.Store c.show.new.self.conn in
+    let t = c.args.t in
+    let means_now = means (c.in_ok-rows.ensures.served s) in
+    let shown : Shown SELECT_WAITING.now (waiting.params t) old new c.in_ok-rows.rows.items = subst (λ p. Shown SELECT_WAITING.now p old new c.in_ok-rows.rows.items) (search rules) (c.in_ok-rows.ensures.shown s.clean) in
+    let it = waiting.waiting_found t old new m k means_now c.in_ok-rows.rows.items shown in
+    let lawful = waiting.all_waiting t m it.0 it.2 means_now.lawful.jobs in
+    answers_same old new (λ found. IsWaiting t m found.items) c.jobs_in.result
+    (or_weaker c.jobs_in.result (λ found. found.items ≡ map fields_of it.0) (λ found. IsWaiting t m found.items) (λ found is. (it.0, is, it.2)) (c.jobs_in.ensures it.0 (search rules) lawful))
+    (waiting.waiting_unchanged t old new m k means_now c.in_ok-rows.rows.items shown)

@@ -1,0 +1,24 @@
+use Rattle.sqlite.specs.Held.{state}
+use Rattle.sqlite.specs.Values.{bound}
+use Rattle.fax_store.proofs.ResultLemmas.{on_err}
+use Rattle.fax_store.proofs.StatementLemmas.{query_fails, left_open, shown_open}
+use Rattle.fax_store.proofs.StoreLemmas.{served}
+use Rattle.fax_store.proofs.store.Store.show.Goals as goal
+
+pub returns-in_err-rows-clause-left : goal.returns-in_err-rows-clause-left
+returns-in_err-rows-clause-left g c clean =
+    on_err c.from_residual.result
+    (query_fails (state g.S.Store c.args.self.now.conn) (state g.S.Store c.query_all.new.self) c.args.sql.now (bound c.args.params.now) c.in_err-rows.field-0.0 (c.in_err-rows.ensures.err clean))
+
+pub returns-in_err-rows-clause-served : goal.returns-in_err-rows-clause-served
+returns-in_err-rows-clause-served g c s =
+    let old = state g.S.Store c.args.self.now.conn in
+    let new = state g.S.Store c.query_all.new.self in
+    let left = query_fails old new c.args.sql.now (bound c.args.params.now) c.in_err-rows.field-0.0 (c.in_err-rows.ensures.err s.clean) in
+    served old new c.query_all.ensures.survives.clean s (left_open old new c.args.sql.now (bound c.args.params.now) left s.is_open)
+
+pub returns-clause-served : goal.returns-clause-served
+returns-clause-served g c s =
+    let old = state g.S.Store c.args.self.now.conn in
+    let new = state g.S.Store c.query_all.new.self in
+    served old new c.query_all.ensures.survives.clean s (shown_open old new c.args.sql.now (bound c.args.params.now) c.in_ok-rows.rows.items (c.in_ok-rows.ensures.ok s.clean))
