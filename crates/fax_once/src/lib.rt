@@ -1,6 +1,8 @@
 //! One arrival: what is answered to it, and what it makes of the tables.
 #![tactic(auto)]
 
+mod acceptance;
+mod effect;
 mod office;
 
 pub use office::Office;

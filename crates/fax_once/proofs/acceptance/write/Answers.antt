@@ -1,0 +1,25 @@
+use Rattle.std.proofs.Common.{[], ◌∷◌, ◌++◌, subst₂}
+use Rattle.sqlite.specs.Held.{state}
+use Rattle.fax_store.specs.Kept.{entry}
+use Rattle.fax_store.specs.Work.{Works}
+use Rattle.fax_once.specs.Effect.{accepted}
+use Rattle.fax_once.proofs.WorkLemmas.{refused_any}
+use Rattle.fax_once.proofs.acceptance.write.Goals as goal
+
+pub returns-in_err-expire_all-clause-changes : goal.returns-in_err-expire_all-clause-changes
+returns-in_err-expire_all-clause-changes g c m₀ m k₀ k suits works =
+    refused_any (state g.S.Store c.expire_all.new.self.store.now.conn) c.expire_all.new.self.failed m₀ _ _ k₀ _ _ c.in_err-expire_all.ensures.fails (c.expire_all.ensures.changes m₀ m k₀ k works)
+
+pub returns-in_err-write-clause-changes : goal.returns-in_err-write-clause-changes
+returns-in_err-write-clause-changes g c m₀ m k₀ k suits works =
+    refused_any (state g.S.Store c.write.new.work.store.now.conn) c.write.new.work.failed m₀ _ _ k₀ _ _ c.in_err-write.ensures.fails (c.write.ensures.changes m₀ _ k₀ _ suits (c.expire_all.ensures.changes m₀ m k₀ k works))
+
+pub returns-in_err-set_clock-clause-changes : goal.returns-in_err-set_clock-clause-changes
+returns-in_err-set_clock-clause-changes g c m₀ m k₀ k suits works =
+    refused_any (state g.S.Store c.set_clock.new.self.store.now.conn) c.set_clock.new.self.failed m₀ _ _ k₀ _ _ c.in_err-set_clock.ensures.fails (c.set_clock.ensures.changes m₀ _ k₀ _ (c.write.ensures.changes m₀ _ k₀ _ suits (c.expire_all.ensures.changes m₀ m k₀ k works)))
+
+pub returns-clause-changes : goal.returns-clause-changes
+returns-clause-changes g c m₀ m k₀ k suits works =
+    subst₂ (λ status body. Works (state g.S.Store c.keep.new.self.store.now.conn) c.keep.new.self.failed m₀ k₀ (accepted c.args.decided_at c.args.effect.now m)
+    (k ++ entry c.args.sender.now.client.now c.args.sender.now.number c.args.said.now status body ∷ []))
+    c.status.ensures c.body.ensures (c.keep.ensures.changes m₀ _ k₀ _ (c.set_clock.ensures.changes m₀ _ k₀ _ (c.write.ensures.changes m₀ _ k₀ _ suits (c.expire_all.ensures.changes m₀ m k₀ k works))))

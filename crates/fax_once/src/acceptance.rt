@@ -1,0 +1,80 @@
+//! Accepting a request: its effect and its kept reply, in one transaction.
+
+ghost use Rattle.std.specs.Prelude.{◌≡◌, ◌++◌, ◌∷◌, [], List, MatchResult, OnOk};
+ghost use Rattle.sqlite.specs.Held.{state};
+ghost use Rattle.fax_core.specs.Queue.{Queue, Entry};
+ghost use Rattle.fax_store.specs.Job.{with_expired};
+ghost use Rattle.fax_store.specs.Kept.{entry};
+ghost use Rattle.fax_store.specs.Store.{Means, Serves};
+ghost use Rattle.fax_store.specs.Work.{ChangesWhere};
+ghost use Rattle.fax_once.specs.Effect.{Suits, accepted};
+
+use crate::effect::Effect;
+use fax_ask::Reply;
+use fax_job::{Moment, RequestNumber};
+use fax_store::{Store, StoreFault, Work};
+use sqlite::Alter;
+
+/// Who sent a request, and the sender's number of it.
+#[derive(Clone, Copy, Debug)]
+pub(crate) struct Sender<'a> {
+    pub client: &'a str,
+    pub number: RequestNumber,
+}
+
+/// Ages the queue at `decided_at`, makes the change, sets the clock and keeps the reply, all in one
+/// transaction.
+///
+/// # Errors
+///
+/// Those of the store; the tables are as they were.
+pub(crate) fn accept<S: Alter>(
+    store: &mut Store<S>,
+    decided_at: Moment,
+    effect: &Effect,
+    sender: &Sender<'_>,
+    said: &[u8],
+    reply: &Reply,
+) -> Result<(), StoreFault>
+    ensures served { OnOk result (Serves (state S.Store store.new.conn) → Serves (state S.Store store.old.conn)) }
+    ensures taken { (m : Queue) (k : List Entry) → Means (state S.Store store.old.conn) m k
+        → Suits effect.now (with_expired decided_at m)
+        → MatchResult result
+        (λ _. Means (state S.Store store.new.conn) (accepted decided_at effect.now m)
+        (k ++ entry sender.now.client.now sender.now.number said.now reply.now.status reply.now.body ∷ []))
+        (λ _. Means (state S.Store store.new.conn) m k) }
+{
+    let mut work = store.begin()?;
+    write(&mut work, decided_at, effect, sender, said, reply)?;
+    work.commit()?;
+    Ok(())
+}
+
+/// The writes of an accepted request.
+fn write<S: Alter>(
+    work: &mut Work<'_, S>,
+    decided_at: Moment,
+    effect: &Effect,
+    sender: &Sender<'_>,
+    said: &[u8],
+    reply: &Reply,
+) -> Result<(), StoreFault>
+    ensures same_reference { work.new.store.ghost_name ≡ work.old.store.ghost_name }
+    ensures served { Serves (state S.Store work.new.store.now.conn) → Serves (state S.Store work.old.store.now.conn) }
+    ensures changes { ChangesWhere (λ m. Suits effect.now (with_expired decided_at m))
+        (state S.Store work.old.store.now.conn) work.old.failed
+        (state S.Store work.new.store.now.conn) work.new.failed
+        (accepted decided_at effect.now)
+        (λ k. k ++ entry sender.now.client.now sender.now.number said.now reply.now.status reply.now.body ∷ []) }
+{
+    work.expire_all(decided_at)?;
+    effect.write(work)?;
+    work.set_clock(decided_at)?;
+    work.keep(
+        sender.client,
+        sender.number,
+        said,
+        reply.status(),
+        reply.body(),
+    )
+}
