@@ -1,5 +1,5 @@
 -- What one INSERT of a row, an UPDATE and a DELETE make of a database where no foreign key acts.
-use Rattle.std.proofs.Common.{◌≡◌, ◌≢◌, ◌⊎◌, inl, inr, ℕ, ℤ, ◌/◌, List, [], ◌∷◌, map, drop, length, slice_get, true, Option, Some, None, Ok, Err, Result, refl, sym, ap, subst, ◌∙◌, append-nil, if◌then◌else◌}
+use Rattle.std.proofs.Common.{◌≡◌, ◌≢◌, ◌⊎◌, inl, inr, ℕ, ◌/◌, List, [], ◌∷◌, map, drop, length, slice_get, true, Option, Some, None, Ok, Err, Result, refl, sym, ap, subst, ◌∙◌, append-nil, if◌then◌else◌}
 use Rattle.std.specs.List.{AllByRecursion}
 use Rattle.sqlite.specs.Order.{Row}
 use Rattle.sqlite.specs.Tree.{Trees, put_row}
@@ -7,7 +7,7 @@ use Rattle.sqlite.specs.Effect.{Database, IsDatabase, value_rows, Answers}
 use Rattle.sqlite.specs.State.{State, Writes, Shows, mode_of}
 use Rattle.sqlite.specs.Does.{Tally, Does, OnRows, AtPlace}
 use Rattle.sqlite.specs.Rows.{Task, Written}
-use Rattle.sqlite.specs.Edit.{edit_of, edited, put_all, taken_by, without_all, have_rowids, are_fresh, with_rowid}
+use Rattle.sqlite.specs.Edit.{edit_of, put_all, taken_by, without_all, have_rowids, are_fresh, with_rowid}
 use Rattle.sqlite.specs.Cast.{cast_row}
 use Rattle.sqlite.specs.Rowids.TheVariants.{Chosen, Given}
 use Rattle.sqlite.specs.Command.TheVariants.{Insert, Update, Delete}
@@ -49,11 +49,6 @@ pub record InsertsRow (schema : Schema) (tree : ℕ) (old new : State) (row : Ro
   pub keyed : have_rowids (row ∷ []) ≡ true
   pub fresh : are_fresh (old.now.trees tree) (row ∷ []) ≡ true
   pub rows : new.now.trees tree ≡ put_row row (old.now.trees tree)
-
--- the row takes the place of those of some rowids
-pub record ReplacesRow (schema : Schema) (tree : ℕ) (old new : State) (ids : List ℤ) (row : Row) : Type 0 where
-  pub keeps : KeepsOthers schema tree old new
-  pub rows : new.now.trees tree ≡ put_row row (without_all (old.now.trees tree) ids)
 
 -- rows that were shown are taken out, and what is made of them is put in
 pub record ChangesRows (schema : Schema) (tree : ℕ) (make : Row → Row) (old new : State) (shown : List Row) : Type 0 where
@@ -99,33 +94,6 @@ module _ (schema : Schema) (bare : (tree : ℕ) (olds news : List Row) → works
         keyed = subst (λ n. have_rowids n ≡ true) news step.keyed;
         fresh = subst (λ n. are_fresh (db tree) n ≡ true) news step.fresh;
         rows = ap (λ (ts : Trees). ts tree) same ∙ step.rows ∙ ap (put_all (db tree)) news;
-      }
-
-  pub replaces : (q : Program) (shown row : Row) → ((rows : List Row) → Answers (record { schema = schema; trees = old.now.trees }) q params rows → rows ≡ shown ∷ []) → cast_row table (drop 1 shown) ≡ row
-      → Writes old new None (Update at q) text params count → ReplacesRow schema tree old new (ids_of (shown ∷ [])) row
-  replaces q shown row only is_row w =
-      let command = Update at q in
-      let db = old.now.trees in
-      let out = Ok (w.tally, new.now) in
-      let does = subst (λ s. Does old.step_limit (mode_of old) params (record old.now { schema = s }) text None command out) has w.changed in
-      let on : OnRows task (mode_of old) None command db out = subst (λ o. AtPlace (λ t. OnRows (record task { table = t }) (mode_of old) None command db) o out) found does in
-      let done = went on in
-      let now = ap (λ (p : Tally × Database). p.1) (same_value (went (went done.2).2).2) in
-      let given = went done.1 in
-      let written = went given.2 in
-      let trees : done.0.trees ≡ written.0 = ap (λ (it : Written). it.trees) (same_value written.2) in
-      let sources : given.0 ≡ shown ∷ [] = only given.0 given.1 in
-      let edit = edit_of db table (ids_of given.0) Given 1 given.0 in
-      let step = one_step schema Enforced db written.0 edit (bare tree (taken_by db edit) edit.news) written.1 in
-      let same : new.now.trees ≡ written.0 = ap (λ (d : Database). d.trees) now ∙ trees in
-      record {
-        keeps = record {
-          schema_is = ap (λ (d : Database). d.schema) now;
-          others = subst (λ (ts : Trees). AllByRecursion (λ t. t.tree ≢ tree → ts t.tree ≡ db t.tree) schema.tables) (sym same) step.tables;
-          sound = w.sound;
-          shown = w.shown;
-        };
-        rows = ap (λ (ts : Trees). ts tree) same ∙ step.rows ∙ ap (λ all. edited db (edit_of db table (ids_of all) Given 1 all)) sources ∙ ap (λ r. put_row r (without_all (db tree) (ids_of (shown ∷ [])))) is_row;
       }
 
   -- what a row that is shown is stored as
