@@ -36,6 +36,17 @@ none_past (j ∷ js) n all past = elim (cases_Bool (j.number == n)) [
 
 -- ---- what is found
 
+-- each job that is found is lawful
+pub lawful_numbered : (jobs : List Job) (n : ℕ) (j : Job) → All IsLawfulJob jobs → find (λ x. x.number == n) jobs ≡ Some j → IsLawfulJob j
+lawful_numbered [] n j all h = absurd cc
+lawful_numbered (x ∷ xs) n j all h = elim (cases_Bool (x.number == n)) [
+  | inl here ↦ subst IsLawfulJob (same (rw here at h)) (all 0 x (omega arith))
+  | inr off ↦ lawful_numbered xs n j (λ i d within. all (suc i) d (omega arith)) (rw off at h)
+]
+  where
+    same : {X : Type 0} {a b : X} → ◌≡◌ {A = Option X} (Some a) (Some b) → a ≡ b
+    same h = cc
+
 pub found_some : (o : Option Job) (f : JobFields) (row : Option JobFields) → row ≡ option_map fields_of o → row ≡ Some f → Ok f ≡ found o
 found_some None f row is one = absurd (let no = sym one ∙ is in cc)
 found_some (Some j) f row is one = let same = sym one ∙ is in cc

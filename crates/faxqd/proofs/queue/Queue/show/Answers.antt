@@ -1,7 +1,6 @@
 use Rattle.std.proofs.Common.{inr, ap, ◌∙◌, max}
 use Rattle.fax_core.specs.Queue.{job_numbered}
-use Rattle.fax_store.proofs.JobLemmas.{lawful_numbered}
-use Rattle.faxqd.proofs.ViewLemmas.{unavailable, view_from, view_refused}
+use Rattle.faxqd.proofs.ViewLemmas.{lawful_numbered, unavailable, view_from, view_refused}
 use Rattle.faxqd.proofs.queue.Queue.show.Goals as goal
 
 pub returns-in_ok-show_job-in-Ok-clause-stays : goal.returns-in_ok-show_job-in-Ok-clause-stays
