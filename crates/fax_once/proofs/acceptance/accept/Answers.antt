@@ -27,5 +27,5 @@ returns-clause-taken g c m k means suits =
     let works = c.write.ensures.changes m m k k suits (c.in_ok-work.ensures.begun m k means) in
     let same : c.commit.new.self.0 ≡ c.store-2-1.given.0 = search rules in
     subst (λ v. Means (state g.S.Store v.conn) (accepted c.args.decided_at c.args.effect.now m)
-        (k ++ entry c.args.sender.now.client.now c.args.sender.now.number c.args.said.now c.args.reply.now.status c.args.reply.now.body ∷ [])) same
-        (c.in_ok-commit.ensures.committed m _ k _ works)
+    (k ++ entry c.args.sender.now.client.now c.args.sender.now.number c.args.said.now c.args.reply.now.status c.args.reply.now.body ∷ [])) same
+    (c.in_ok-commit.ensures.committed m _ k _ works)
