@@ -128,6 +128,38 @@ fn shows_what_an_older_queue_wrote(rt: HostRuntime) -> Result<(), Fail> {
 }
 
 #[test]
+fn reads_a_status_that_goes_on(rt: HostRuntime) -> Result<(), Fail> {
+    let alloc = rt.alloc();
+    let body = "number:5550111\nsender:A\\\ntotpages:1\nstatus:a\\\nnumber:5\n";
+    let taken = submitted(alloc, "1", "1000", body)?;
+    let view = request(alloc, "1", "1000")?;
+    let open = submitted(alloc, "2", "1000", "status:a\\\n")?;
+    let input = format!(in alloc; "{taken}{view}{open}")?;
+    let shown = description(
+        alloc,
+        Shown {
+            job: 1,
+            dial: "5550111",
+            tts: 1000,
+            killtime: 0,
+            totpages: 1,
+            state: "5\nstatus:\nsender:A\\",
+        },
+    )?;
+    let refused = reply(
+        alloc,
+        "400 Bad Request",
+        r#"{"kind":"open-end","line":1,"no":6,"word":"bad-body"}"#,
+    )?;
+    let want = format!(in alloc; "{ACCEPTED}{shown}{refused}")?;
+    assert_eq!(rt;
+        replayed(&rt, input.as_str())?.out.as_slice(),
+        want.as_bytes()
+    );
+    Ok(())
+}
+
+#[test]
 fn shows_jobs_of_the_latest_moment(rt: HostRuntime) -> Result<(), Fail> {
     let alloc = rt.alloc();
     let late = "number:5550111\ntotpages:1\ntts:4102444800\n";
