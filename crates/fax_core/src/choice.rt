@@ -45,8 +45,9 @@ pub fn better(job: &Job, other: &Job) -> bool
                 || (job.tts.seconds() == other.tts.seconds() && job.job < other.job)))
 }
 
-/// Grants a job, which goes with [`Grant::new`](crate::Grant::new): it is active, and its client wishes nothing else yet.
-/// `next_grant` is the grant's number, and `max_grants` the greatest that a grant may have.
+/// Grants a job, which goes with [`Grant::new`](crate::Grant::new): it is active, and its client wishes
+/// nothing else yet. `next_grant` is the grant's number, and `max_grants` the greatest that a grant may
+/// have.
 ///
 /// # Errors
 ///

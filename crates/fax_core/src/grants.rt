@@ -1,6 +1,6 @@
 //! Grants.
 
-ghost use Rattle.std.specs.Prelude.{◌≡◌, ◌+◌, ◌<◌, Some, false};
+ghost use Rattle.std.specs.Prelude.{◌≡◌, ◌+◌, min, Some, false};
 ghost use Rattle.fax_core.specs.Decisions.{granted};
 ghost use Rattle.fax_core.specs.Job.{job_of};
 
@@ -53,7 +53,7 @@ impl Grant {
 
     /// The grant with one more page confirmed; at 65535 pages the number stays.
     pub fn with_page(self) -> Grant
-        ensures { self.confirmed < 65535 → result ≡ record self { confirmed = self.confirmed + 1 } }
+        ensures { result ≡ record self { confirmed = min (self.confirmed + 1) 65535 } }
     {
         Grant {
             confirmed: self.confirmed.saturating_add(1),

@@ -1,9 +1,8 @@
 //! A worker's reports on a grant.
 
-ghost use Rattle.std.specs.Prelude.{◌≡◌, ◌+◌, ◌≤◌, ◌&&◌, IsTrue, Some, false, is_none, is_some, not};
+ghost use Rattle.std.specs.Prelude.{◌≡◌, ◌+◌, ◌≤◌, ◌&&◌, Some, false, is_none, is_some, not};
 ghost use Rattle.fax_core.specs.Change.{changed, decided_with};
 ghost use Rattle.fax_core.specs.Decisions.{call, after_call, is_connected, is_done, is_empty, page, page_of, outcome, ended, retried, phase_after, stops};
-ghost use Rattle.fax_core.specs.Fits.{fits};
 ghost use Rattle.fax_core.specs.Job.{job_of};
 ghost use Rattle.fax_core.specs.declared.grants.Grant.{Grant};
 ghost use Rattle.fax_job.specs.declared.job.Wish.TheVariants.{Go};
@@ -21,7 +20,6 @@ use fax_job::{Call, Job, JobFields, Moment, Phase, Refusal, Status, Wish};
 ///
 /// `GrantClosed`, or `CallKnown` where a call was reported.
 pub fn call(job: &Job, grant: &Grant, reported: Call) -> Result<Change, Refusal>
-    requires fits { IsTrue (fits job.now (Some grant.now)) }
     ensures { decided_with (record grant.now { call = Some reported }) (job_of job.now) result
         ≡ call reported (job_of job.now) grant.now }
 {
@@ -61,7 +59,6 @@ fn after_call(job: &Job, reported: Call) -> Change
 /// `GrantClosed`, `NotConnected` where no connected call was reported, or `PageOrder` where the page isn't
 /// the first that is left, in this order.
 pub fn page(job: &Job, grant: &Grant, confirmed: u16) -> Result<Change, Refusal>
-    requires fits { IsTrue (fits job.now (Some grant.now)) }
     ensures { decided_with (record grant.now { confirmed = grant.now.confirmed + 1 }) (job_of job.now) result
         ≡ page confirmed (job_of job.now) grant.now }
 {
@@ -110,7 +107,6 @@ pub fn outcome(
     delay: u64,
     t: Moment,
 ) -> Result<Change, Refusal>
-    requires fits { IsTrue (fits job.now (Some grant.now)) }
     requires delay { delay ≤ 86400 }
     ensures { decided_with (record grant.now { is_open = false }) (job_of job.now) result
         ≡ outcome said (job_of job.now) grant.now delay t }
