@@ -1,4 +1,10 @@
 mod PathLemmas
+mod WalkLemmas
+mod TableLemmas
+mod TakenLemmas
+mod CutLemmas
+mod CollectionLemmas
+mod RoutedLemmas
 mod RequestLemmas
 mod AloneLemmas
 mod AskLemmas

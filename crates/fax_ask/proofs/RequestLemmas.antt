@@ -18,9 +18,9 @@ use Rattle.fax_ask.specs.declared.method.Method.{Method}
 use Rattle.fax_ask.specs.declared.method.Method.TheVariants.{Get, Post, Another}
 use Rattle.fax_ask.specs.declared.request.Request.{Request}
 use Rattle.fax_ask.specs.declared.request.Request.TheVariants.{Suspend, Resume, Kill, Alter, Ready, Down, Next, Call, Page, Outcome}
-use Rattle.fax_ask.specs.Path.{parts, parts_left, two_texts}
+use Rattle.fax_ask.specs.Path.{parts, two_texts}
 use Rattle.fax_ask.specs.Request.{job_request, jobs_request, modem_action, modem_request, modems_request, grant_report, grant_request, grants_request, root_request, path_request, request_of}
-use Rattle.fax_ask.proofs.PathLemmas.{byte_of_parts, filled}
+use Rattle.fax_ask.proofs.PathLemmas.{byte_of_parts}
 
 -- no text has an LF
 abbrev lacks_lf : List (List ℕ) → Type 0
@@ -185,16 +185,3 @@ in_path method (lead ∷ rest) request is = in_lead method lead rest request (eq
 pub routed_paths_lack_lf : RoutedPathsLackLf
 unfolding request_of
 routed_paths_lack_lf method path request is = byte_of_parts path ∙ in_path method (parts path) request is
-
--- ---- a longer path names nothing
-
-two_more : (method : Method) (job : ℕ) (action text : List ℕ) (more : List (List ℕ)) → job_request method job (action ∷ text ∷ more) ≡ None
-two_more Get job action text more = refl
-two_more Post job action text more = refl
-two_more Another job action text more = refl
-
-pub none_below : (method : Method) (job : ℕ) (action rest : List ℕ) (o : Option (List ℕ)) → o ≡ Some rest → job_request method job (action ∷ parts_left o) ≡ None
-none_below method job action rest o e =
-    let f = filled rest in
-    ap (λ (p : Option (List ℕ)). job_request method job (action ∷ parts_left p)) e
-    ∙ (ap (λ (texts : List (List ℕ)). job_request method job (action ∷ texts)) f.2 ∙ two_more method job action f.0 f.1)

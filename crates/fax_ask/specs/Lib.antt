@@ -1,6 +1,7 @@
 pub mod Method
 pub mod Path
 pub mod Request
+pub mod Routes
 pub mod Report
 pub mod Ask
 pub mod Answer

@@ -7,11 +7,6 @@ abbrev pub parts : List ℕ → List (List ℕ)
 parts [] = [] ∷ []
 parts (byte ∷ bytes) = if byte == 47 then [] ∷ parts bytes else onto byte (parts bytes)
 
--- the texts of what is left of a path, if something is
-abbrev pub parts_left : Option (List ℕ) → List (List ℕ)
-parts_left None = []
-parts_left (Some rest) = parts rest
-
 -- the texts of a path that has two
 abbrev pub two_texts : List (List ℕ) → Option (List ℕ × List ℕ)
 two_texts (first ∷ second ∷ []) = Some (first, second)

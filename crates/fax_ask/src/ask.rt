@@ -9,6 +9,7 @@ ghost use Rattle.fax_ask.specs.Ask.{asked, Asks, HasLimits, States, IsAsk, IsBod
 use crate::method::Method;
 use crate::report::{read_call, read_outcome, read_page};
 use crate::request::Request;
+use crate::routes::Routes;
 use fax_core::Outcome;
 use fax_job::{Alter, Call, Name, Order, Refusal, read_lines};
 use std::alloc::Global;
@@ -34,22 +35,30 @@ pub enum Ask {
     OutcomeReport { grant: u64, outcome: Outcome },
 }
 
-/// What a method, a path and a body ask for.
-///
-/// # Errors
-///
-/// `NoRoute` exactly where method and path name no request; else `BadBody` with the body's first
-/// fault, one of a line before one of what the lines state; `Unavailable` where memory runs out. A
-/// body that the request doesn't need isn't looked at.
-pub fn read_ask(alloc: Global, method: Method, path: &str, body: &[u8]) -> Result<Ask, Refusal>
-    ensures ask { IfOk result (λ ask. IsAsk method path.now body.now (asked ask)) }
-    ensures refused { IfErr result (IsRefused method path.now body.now) }
-    // What the queue relies on: pages, tries and dials are there, and limits are kept.
-    ensures lawful { IfOk result (λ ask. IsLawful (asked ask)) }
-{
-    match Request::named(method, path) {
-        Some(request) => read_body(alloc, request, body),
-        None => Err(Refusal::NoRoute),
+impl Routes {
+    /// What a method, a path and a body ask for.
+    ///
+    /// # Errors
+    ///
+    /// `NoRoute` exactly where method and path name no request; else `BadBody` with the body's first
+    /// fault, one of a line before one of what the lines state; `Unavailable` where memory runs out.
+    /// A body that the request doesn't need isn't looked at.
+    pub fn read_ask(
+        &self,
+        alloc: Global,
+        method: Method,
+        path: &str,
+        body: &[u8],
+    ) -> Result<Ask, Refusal>
+        ensures ask { IfOk result (λ ask. IsAsk method path.now body.now (asked ask)) }
+        ensures refused { IfErr result (IsRefused method path.now body.now) }
+        // What the queue relies on: pages, tries and dials are there, and limits are kept.
+        ensures lawful { IfOk result (λ ask. IsLawful (asked ask)) }
+    {
+        match self.request(method, path) {
+            Some(request) => read_body(alloc, request, body),
+            None => Err(Refusal::NoRoute),
+        }
     }
 }
 

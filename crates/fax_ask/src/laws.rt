@@ -11,8 +11,8 @@ pub fn paths()
 {}
 
 /// A method, a path and a body ask for one thing at most, and what asks for something is refused for
-/// want of memory alone. So what [`read_ask`](crate::read_ask) answers is fixed, unless memory runs
-/// out.
+/// want of memory alone. So what [`Routes::read_ask`](crate::Routes::read_ask) answers is fixed,
+/// unless memory runs out.
 pub fn asks()
     ensures one { OneAsk }
     ensures refused { AskOrRefusal }

@@ -1,6 +1,6 @@
 //! Requests read from method, path and body, and replies spelled.
 //!
-//! [`read_ask`] gives what is asked for, or the refusal of a path that isn't in the table of
+//! [`Routes::read_ask`] gives what is asked for, or the refusal of a path that isn't in the table of
 //! requests or of a body at fault. A [`Reply`] is a status and the bytes of a body: JSON (RFC 8259),
 //! or key lines in the manner of HylaFAX's sendq(5).
 #![tactic(auto)]
@@ -11,17 +11,18 @@ mod detail;
 pub mod laws;
 mod method;
 mod modem_name;
-mod path;
 mod reply;
 mod report;
 mod request;
+mod routes;
 mod spelling;
 
 pub use answer::{Answer, Handed};
-pub use ask::{Ask, read_ask};
+pub use ask::Ask;
 pub use detail::Detail;
 pub use method::Method;
 pub use reply::{Reply, has_detail};
+pub use routes::Routes;
 
 #[cfg(test)]
 mod tests;

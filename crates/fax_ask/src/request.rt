@@ -1,13 +1,11 @@
-//! The table of requests: which method and path name which.
+//! What may be asked for, by the route of a path.
 
-ghost use Rattle.std.specs.Prelude.{◌≡◌};
-ghost use Rattle.std.specs.Option.{option_copied};
-ghost use Rattle.fax_ask.specs.Path.{parts, parts_left};
-ghost use Rattle.fax_ask.specs.Request.{grant_report, grants_request, job_action, job_request, jobs_request, modem_action, modems_request, request_of};
+ghost use Rattle.std.specs.Prelude.{◌≡◌, option_copied};
+ghost use Rattle.fax_ask.specs.Routes.{modem_in, number_in, posted, route_request, shown};
 
 use crate::method::Method;
 use crate::modem_name::ModemName;
-use crate::path::{cut_path, two_texts};
+use crate::routes::Route;
 use fax_job::RequestNumber;
 
 /// What a method and a path ask for, with the number or the name that they give.
@@ -28,123 +26,59 @@ pub enum Request<'a> {
 }
 
 impl<'a> Request<'a> {
-    /// The request that a method and a path name, if they name one.
-    #[tactic(auto, unfolding(crate::specs::Request::request_of))]
-    pub(crate) fn named(method: Method, path: &'a str) -> Option<Request<'a>>
-        ensures { result ≡ request_of method path.now }
+    /// The request that a method and a route name, with the text that stands in the place of the
+    /// route's parameter.
+    pub(crate) fn on_route(method: Method, route: Route, id: Option<&'a str>) -> Option<Request<'a>>
+        ensures { result ≡ route_request method route (option_copied id.entry) }
     {
-        let (lead, rest) = cut_path(path);
-        if !lead.is_empty() {
-            return None;
-        }
-        let (collection, rest) = cut_path(rest?);
-        match collection {
-            "jobs" => jobs_request(method, rest),
-            "modems" => modems_request(method, rest),
-            "grants" => grants_request(method, rest),
-            _ => None,
+        match method {
+            Method::Get => shown(route, id),
+            Method::Post => posted(route, id),
+            Method::Another => None,
         }
     }
 }
 
-/// A request on all jobs or on one of them, by what follows `/jobs`.
-fn jobs_request(method: Method, path: Option<&str>) -> Option<Request<'static>>
-    ensures { result ≡ jobs_request method (parts_left (option_copied path.entry)) }
+/// What GET names on a route.
+fn shown(route: Route, id: Option<&str>) -> Option<Request<'static>>
+    ensures { result ≡ shown route (option_copied id.entry) }
 {
-    match path {
-        Some(path) => job_request(method, path),
-        None => match method {
-            Method::Post => Some(Request::Submit),
-            Method::Get | Method::Another => None,
-        },
-    }
-}
-
-/// A request on one job, by what follows `/jobs/`.
-fn job_request(method: Method, path: &str) -> Option<Request<'static>>
-    ensures { result ≡ jobs_request method (parts path.now) }
-{
-    let (id, rest) = cut_path(path);
-    let job = RequestNumber::read(id.as_bytes())?.get();
-    match rest {
-        Some(rest) => posted_request(method, job, rest),
-        None => match method {
-            Method::Get => Some(Request::Show { job }),
-            Method::Post | Method::Another => None,
-        },
-    }
-}
-
-/// A request to do something to a job, by what follows its number and a slash.
-fn posted_request(method: Method, job: u64, path: &str) -> Option<Request<'static>>
-    ensures { result ≡ job_request method job (parts path.now) }
-{
-    let (action, rest) = cut_path(path);
-    match rest {
-        None => match method {
-            Method::Post => job_action(job, action),
-            Method::Get | Method::Another => None,
-        },
-        Some(_) => None,
-    }
-}
-
-fn job_action(job: u64, action: &str) -> Option<Request<'static>>
-    ensures { result ≡ job_action job action.now }
-{
-    match action {
-        "suspend" => Some(Request::Suspend { job }),
-        "resume" => Some(Request::Resume { job }),
-        "kill" => Some(Request::Kill { job }),
-        "alter" => Some(Request::Alter { job }),
+    match route {
+        Route::Job => Some(Request::Show { job: number(id)? }),
         _ => None,
     }
 }
 
-/// A request on a modem, by what follows `/modems`.
-fn modems_request(method: Method, path: Option<&str>) -> Option<Request<'_>>
-    ensures { result ≡ modems_request method (parts_left (option_copied path.entry)) }
+/// What POST names on a route.
+fn posted(route: Route, id: Option<&str>) -> Option<Request<'_>>
+    ensures { result ≡ posted route (option_copied id.entry) }
 {
-    match method {
-        Method::Post => {
-            let (modem, action) = two_texts(path?)?;
-            modem_action(ModemName::read(modem)?, action)
-        }
-        Method::Get | Method::Another => None,
+    match route {
+        Route::Jobs => Some(Request::Submit),
+        Route::Job => None,
+        Route::Suspend => Some(Request::Suspend { job: number(id)? }),
+        Route::Resume => Some(Request::Resume { job: number(id)? }),
+        Route::Kill => Some(Request::Kill { job: number(id)? }),
+        Route::Alter => Some(Request::Alter { job: number(id)? }),
+        Route::Ready => Some(Request::Ready { modem: modem(id)? }),
+        Route::Down => Some(Request::Down { modem: modem(id)? }),
+        Route::Next => Some(Request::Next { modem: modem(id)? }),
+        Route::Call => Some(Request::Call { grant: number(id)? }),
+        Route::Page => Some(Request::Page { grant: number(id)? }),
+        Route::Outcome => Some(Request::Outcome { grant: number(id)? }),
     }
 }
 
-fn modem_action<'a>(modem: ModemName<'a>, action: &str) -> Option<Request<'a>>
-    ensures { result ≡ modem_action modem.entry action.now }
+/// The number of a job or a grant.
+fn number(id: Option<&str>) -> Option<u64>
+    ensures { result ≡ number_in (option_copied id.entry) }
 {
-    match action {
-        "ready" => Some(Request::Ready { modem }),
-        "down" => Some(Request::Down { modem }),
-        "next" => Some(Request::Next { modem }),
-        _ => None,
-    }
+    Some(RequestNumber::read(id?.as_bytes())?.get())
 }
 
-/// A report on a grant, by what follows `/grants`.
-fn grants_request(method: Method, path: Option<&str>) -> Option<Request<'static>>
-    ensures { result ≡ grants_request method (parts_left (option_copied path.entry)) }
+/// The name of a modem.
+fn modem(id: Option<&str>) -> Option<ModemName<'_>>
+    ensures { result ≡ modem_in (option_copied id.entry) }
 {
-    match method {
-        Method::Post => {
-            let (id, report) = two_texts(path?)?;
-            grant_report(RequestNumber::read(id.as_bytes())?.get(), report)
-        }
-        Method::Get | Method::Another => None,
-    }
-}
-
-fn grant_report(grant: u64, report: &str) -> Option<Request<'static>>
-    ensures { result ≡ grant_report grant report.now }
-{
-    match report {
-        "call" => Some(Request::Call { grant }),
-        "page" => Some(Request::Page { grant }),
-        "outcome" => Some(Request::Outcome { grant }),
-        _ => None,
-    }
+    ModemName::read(id?)
 }

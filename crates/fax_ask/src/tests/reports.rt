@@ -1,4 +1,4 @@
-use crate::{Ask, Method, read_ask};
+use crate::{Ask, Method, Routes};
 use fax_core::Ending;
 use fax_job::{BodyFault, Call, Refusal};
 use std::test::Fail;
@@ -6,6 +6,7 @@ use std::test::Fail;
 #[test]
 fn calls(rt: HostRuntime) -> Result<(), Fail> {
     let alloc = rt.alloc();
+    let routes = Routes::new(alloc)?;
     let cases = [
         ("{\"result\":\"connected\"}", Call::Connected),
         ("{\"result\":\"busy\"}", Call::Busy),
@@ -18,7 +19,7 @@ fn calls(rt: HostRuntime) -> Result<(), Fail> {
         ),
     ];
     for (body, want) in cases {
-        match read_ask(alloc, Method::Post, "/grants/9/call", body.as_bytes())? {
+        match routes.read_ask(alloc, Method::Post, "/grants/9/call", body.as_bytes())? {
             Ask::CallReport { grant, call } => {
                 assert_eq!(rt; (grant, call), (9, want), "{body}");
             }
@@ -31,8 +32,9 @@ fn calls(rt: HostRuntime) -> Result<(), Fail> {
 #[test]
 fn pages(rt: HostRuntime) -> Result<(), Fail> {
     let alloc = rt.alloc();
+    let routes = Routes::new(alloc)?;
     for (body, want) in [("{\"page\":1}", 1), ("{\"page\":9999}", 9999)] {
-        match read_ask(alloc, Method::Post, "/grants/1/page", body.as_bytes())? {
+        match routes.read_ask(alloc, Method::Post, "/grants/1/page", body.as_bytes())? {
             Ask::PageReport { grant, page } => {
                 assert_eq!(rt; (grant, page), (1, want), "{body}");
             }
@@ -45,6 +47,7 @@ fn pages(rt: HostRuntime) -> Result<(), Fail> {
 #[test]
 fn outcomes(rt: HostRuntime) -> Result<(), Fail> {
     let alloc = rt.alloc();
+    let routes = Routes::new(alloc)?;
     let cases = [
         (
             r#"{"dialed":true,"outcome":"retry","pages":2,"reason":"line dropped"}"#,
@@ -60,7 +63,7 @@ fn outcomes(rt: HostRuntime) -> Result<(), Fail> {
         ),
     ];
     for (body, want) in cases {
-        match read_ask(alloc, Method::Post, "/grants/1/outcome", body.as_bytes())? {
+        match routes.read_ask(alloc, Method::Post, "/grants/1/outcome", body.as_bytes())? {
             Ask::OutcomeReport { grant: _, outcome } => {
                 assert_eq!(rt; (outcome.dialed, outcome.pages), (want.0, want.1), "{body}");
                 assert_eq!(rt; outcome.ending, want.2, "{body}");
@@ -73,8 +76,9 @@ fn outcomes(rt: HostRuntime) -> Result<(), Fail> {
 }
 
 #[test]
-fn bodies_that_report_nothing(rt: HostRuntime) {
+fn bodies_that_report_nothing(rt: HostRuntime) -> Result<(), Fail> {
     let alloc = rt.alloc();
+    let routes = Routes::new(alloc)?;
     let cases = [
         ("call", r#"{"result":"ring"}"#, BodyFault::BadField),
         ("call", r#"["result"]"#, BodyFault::BadField),
@@ -136,9 +140,14 @@ fn bodies_that_report_nothing(rt: HostRuntime) {
             "page" => "/grants/1/page",
             _ => "/grants/1/outcome",
         };
-        let got = read_ask(alloc, Method::Post, path, body.as_bytes()).err();
+        let got = routes
+            .read_ask(alloc, Method::Post, path, body.as_bytes())
+            .err();
         assert_eq!(rt; got, Some(Refusal::BadBody(fault)), "{body}");
     }
-    let got = read_ask(alloc, Method::Post, "/grants/1/call", b"\xff").err();
+    let got = routes
+        .read_ask(alloc, Method::Post, "/grants/1/call", b"\xff")
+        .err();
     assert_eq!(rt; got, Some(Refusal::BadBody(BodyFault::BadJson)));
+    Ok(())
 }

@@ -1,4 +1,4 @@
-use crate::{Ask, Method, read_ask};
+use crate::{Ask, Method, Routes};
 use fax_job::{BodyFault, LineKind, OrderFault, Refusal};
 use std::alloc::Global;
 use std::test::Fail;
@@ -23,8 +23,14 @@ fn kind(ask: &Ask) -> (&'static str, u64) {
     }
 }
 
-fn refusal(alloc: Global, method: Method, path: &str, body: &[u8]) -> Option<Refusal> {
-    read_ask(alloc, method, path, body).err()
+fn refusal(
+    routes: &Routes,
+    alloc: Global,
+    method: Method,
+    path: &str,
+    body: &[u8],
+) -> Option<Refusal> {
+    routes.read_ask(alloc, method, path, body).err()
 }
 
 #[test]
@@ -38,6 +44,7 @@ fn methods(rt: HostRuntime) {
 #[test]
 fn requests(rt: HostRuntime) -> Result<(), Fail> {
     let alloc = rt.alloc();
+    let routes = Routes::new(alloc)?;
     let cases = [
         (Method::Post, "/jobs/1/suspend", ("suspend", 1)),
         (Method::Post, "/jobs/1/resume", ("resume", 1)),
@@ -54,15 +61,16 @@ fn requests(rt: HostRuntime) -> Result<(), Fail> {
     ];
     for (method, path, want) in cases {
         // A body that isn't needed isn't read.
-        let ask = read_ask(alloc, method, path, b"no key lines\n")?;
+        let ask = routes.read_ask(alloc, method, path, b"no key lines\n")?;
         assert_eq!(rt; kind(&ask), want, "{path}");
     }
     Ok(())
 }
 
 #[test]
-fn what_names_no_request(rt: HostRuntime) {
+fn what_names_no_request(rt: HostRuntime) -> Result<(), Fail> {
     let alloc = rt.alloc();
+    let routes = Routes::new(alloc)?;
     let cases = [
         (Method::Get, "/job"),
         (Method::Get, "/jobs/1/kill"),
@@ -103,15 +111,17 @@ fn what_names_no_request(rt: HostRuntime) {
     ];
     for (method, path) in cases {
         // The path comes before the body.
-        let got = refusal(alloc, method, path, b"no key lines\n");
+        let got = refusal(&routes, alloc, method, path, b"no key lines\n");
         assert_eq!(rt; got, Some(Refusal::NoRoute), "{path}");
     }
+    Ok(())
 }
 
 #[test]
 fn submissions(rt: HostRuntime) -> Result<(), Fail> {
     let alloc = rt.alloc();
-    match read_ask(alloc, Method::Post, "/jobs", SUBMISSION)? {
+    let routes = Routes::new(alloc)?;
+    match routes.read_ask(alloc, Method::Post, "/jobs", SUBMISSION)? {
         Ask::Submission(order) => {
             assert_eq!(rt; order.dial.text(), "+14155550100");
             assert_eq!(rt; (order.totpages, order.maxtries), (3, 3));
@@ -124,7 +134,8 @@ fn submissions(rt: HostRuntime) -> Result<(), Fail> {
 #[test]
 fn alterations(rt: HostRuntime) -> Result<(), Fail> {
     let alloc = rt.alloc();
-    match read_ask(alloc, Method::Post, "/jobs/7/alter", b"priority:10\n")? {
+    let routes = Routes::new(alloc)?;
+    match routes.read_ask(alloc, Method::Post, "/jobs/7/alter", b"priority:10\n")? {
         Ask::Alteration { job, alter } => {
             assert_eq!(rt; job, 7);
             assert_eq!(rt; (alter.priority, alter.maxdials), (Some(10), None));
@@ -135,8 +146,9 @@ fn alterations(rt: HostRuntime) -> Result<(), Fail> {
 }
 
 #[test]
-fn bodies_at_fault(rt: HostRuntime) {
+fn bodies_at_fault(rt: HostRuntime) -> Result<(), Fail> {
     let alloc = rt.alloc();
+    let routes = Routes::new(alloc)?;
     let line = BodyFault::Line {
         line: 2,
         kind: LineKind::NoColon,
@@ -162,7 +174,8 @@ fn bodies_at_fault(rt: HostRuntime) {
         ),
     ];
     for (path, body, fault) in cases {
-        let got = refusal(alloc, Method::Post, path, body);
+        let got = refusal(&routes, alloc, Method::Post, path, body);
         assert_eq!(rt; got, Some(Refusal::BadBody(fault)), "{path}");
     }
+    Ok(())
 }

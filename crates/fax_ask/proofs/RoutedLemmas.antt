@@ -1,0 +1,325 @@
+-- What a router of all routes answers is what the table of requests says.
+use Rattle.std.proofs.Common.{◌≡◌, ℕ, suc, ◌+◌, List, [], ◌∷◌, ◌++◌, length, Option, Some, None, Bool, true, false, cond, codes, refl, sym, ap, ap₂, ◌∙◌, subst, arith, Bor, IsUtf8}
+use Rattle.std.specs.Prelude.{MatchOption, option_and_then, option_copied, option_map}
+use Rattle.std.specs.Str.{bytes_eq}
+use Rattle.std.proofs.lemmas.Bool.{ne_eqb}
+use Rattle.matchit.specs.Params.{AllText, named, part_of, walk}
+use Rattle.matchit.specs.Rows.{RowsOf, catch_all_token, param_token}
+use Rattle.matchit.specs.Seek.{first, has_slash, or_else, step}
+use Rattle.matchit.proofs.OnLiterals.{matchit_on_literals}
+use Rattle.fax_job.specs.Name.{is_name}
+use Rattle.fax_job.specs.Number.{request_number_of}
+use Rattle.fax_ask.specs.declared.method.Method.{Method}
+use Rattle.fax_ask.specs.declared.method.Method.TheVariants.{Get, Post, Another}
+use Rattle.fax_ask.specs.declared.request.Request.{Request}
+use Rattle.fax_ask.specs.declared.request.Request.TheVariants as request
+use Rattle.fax_ask.specs.declared.routes.Route.{Route}
+use Rattle.fax_ask.specs.declared.routes.Route.TheVariants.{Jobs, Job, Suspend, Resume, Kill, Alter, Ready, Down, Next, Call, Page, Outcome}
+use Rattle.fax_ask.specs.Path.{parts, two_texts}
+use Rattle.fax_ask.specs.Request.{grant_report, grant_request, job_action, job_request, jobs_request, modem_action, modem_request, modems_request, grants_request, root_request, path_request, request_of}
+use Rattle.fax_ask.specs.Routes.{posted, route_request, shown, table}
+use Rattle.fax_ask.proofs.CutLemmas.{IsTextIfSome, parts_left, both_texts, cut, same_bytes}
+use Rattle.fax_ask.proofs.TakenLemmas.{are_bytes, taken_last, taken_middle}
+use Rattle.fax_ask.proofs.WalkLemmas.{IsPlain, behind, branch, ends_of, joined, led_by, or_none, word}
+use Rattle.fax_ask.proofs.CollectionLemmas.{Entry, IsCollection, NoneIs, Says, below, in_collection, says_as, says_by, taken_says}
+
+-- ---- the rows
+
+-- a route with no parameter, and one with a parameter between these texts
+plain_route : List ℕ → Route → Entry
+plain_route text value = record { pattern = text; text = text; names = []; value = value }
+
+id_route : List ℕ → List ℕ → Route → Entry
+id_route w s value = record { pattern = w ++ param_token ∷ s; text = w ++ (codes "{id}" ++ s); names = (length w + 1, length w + 3) ∷ []; value = value }
+
+abbrev action : List ℕ → List ℕ → Route → List ℕ × Entry
+action w name value = (name, id_route w (47 ∷ name) value)
+
+abbrev of_jobs : List (List ℕ × Entry)
+of_jobs =
+    action (codes "/jobs/") (codes "alter") Alter ∷ action (codes "/jobs/") (codes "kill") Kill
+    ∷ action (codes "/jobs/") (codes "resume") Resume ∷ action (codes "/jobs/") (codes "suspend") Suspend ∷ []
+
+abbrev of_modems : List (List ℕ × Entry)
+of_modems =
+    action (codes "/modems/") (codes "down") Down ∷ action (codes "/modems/") (codes "next") Next
+    ∷ action (codes "/modems/") (codes "ready") Ready ∷ []
+
+abbrev of_grants : List (List ℕ × Entry)
+of_grants =
+    action (codes "/grants/") (codes "call") Call ∷ action (codes "/grants/") (codes "outcome") Outcome
+    ∷ action (codes "/grants/") (codes "page") Page ∷ []
+
+-- what follows the name of each collection
+abbrev jobs_end : Option Entry
+jobs_end = Some (plain_route (codes "/jobs") Jobs)
+
+abbrev job_end : Option Entry
+job_end = Some (id_route (codes "/jobs/") [] Job)
+
+abbrev jobs_below : RowsOf Entry
+jobs_below = below job_end of_jobs
+
+abbrev modems_below : RowsOf Entry
+modems_below = below None of_modems
+
+abbrev grants_below : RowsOf Entry
+grants_below = below None of_grants
+
+abbrev grants_rows : RowsOf Entry
+grants_rows = led_by (codes "grants") (led_by (47 ∷ []) grants_below ++ ends_of None)
+
+abbrev jobs_rows : RowsOf Entry
+jobs_rows = led_by (codes "jobs") (led_by (47 ∷ []) jobs_below ++ ends_of jobs_end)
+
+abbrev modems_rows : RowsOf Entry
+modems_rows = led_by (codes "modems") (led_by (47 ∷ []) modems_below ++ ends_of None)
+
+abbrev collections : RowsOf Entry
+collections = grants_rows ++ (jobs_rows ++ modems_rows)
+
+rows_are : table ≡ led_by [] (led_by (47 ∷ []) collections ++ ends_of None)
+unfolding matchit_on_literals table plain_route id_route
+rows_are = refl
+
+-- ---- the three collections
+
+always_none : (o : Option ℕ) → option_and_then {T = ℕ} {U = Request} (λ number. None) o ≡ None
+always_none None = refl
+always_none (Some n) = refl
+
+middle_says : (w name : List ℕ) (value : Route) (names : Method → Option Request) (id : List ℕ) → are_bytes w ≡ true
+    → part_of (w ++ (codes "{id}" ++ 47 ∷ name)) (length w + 1) (length w + 3) ≡ codes "id"
+    → IsUtf8 id → has_slash id ≡ false → ((method : Method) → names method ≡ route_request method value (Some id))
+    → Says names (w ++ (id ++ 47 ∷ name)) (Some (id_route w (47 ∷ name) value))
+unfolding id_route
+middle_says w name value names id h key u f same =
+    taken_says names (w ++ (id ++ 47 ∷ name)) (id_route w (47 ∷ name) value) id
+    (taken_middle w name id name (w ++ (codes "{id}" ++ 47 ∷ name)) (length w + 1, length w + 3) h f ∙ ap (λ (k : List ℕ). (k, id) ∷ []) key) u same
+
+last_says : (w : List ℕ) (value : Route) (names : Method → Option Request) (id : List ℕ) → are_bytes w ≡ true
+    → part_of (w ++ codes "{id}") (length w + 1) (length w + 3) ≡ codes "id"
+    → IsUtf8 id → ((method : Method) → names method ≡ route_request method value (Some id))
+    → Says names (w ++ id) (Some (id_route w [] value))
+unfolding id_route
+last_says w value names id h key u same =
+    taken_says names (w ++ id) (id_route w [] value) id
+    (taken_last w id (w ++ codes "{id}") (length w + 1, length w + 3) h ∙ ap (λ (k : List ℕ). (k, id) ∷ []) key) u same
+
+abbrev plain : {rs : RowsOf Entry} → step param_token rs ≡ [] → step catch_all_token rs ≡ [] → IsPlain rs
+plain {rs} params catches = record { params = params; catches = catches }
+
+-- what a method that isn't POST names behind a parameter
+abbrev NotPosted : (Method → Option Request) → Type 0
+NotPosted names = (names Get ≡ None) × (names Another ≡ None)
+
+by_method : (names : Method → Option Request) (value : Route) (id : List ℕ) → names Get ≡ route_request Get value (Some id) → names Post ≡ route_request Post value (Some id)
+    → names Another ≡ None → (method : Method) → names method ≡ route_request method value (Some id)
+by_method names value id get post another Get = get
+by_method names value id get post another Post = post
+by_method names value id get post another Another = another
+
+job_word : (id : List ℕ) → IsUtf8 id → has_slash id ≡ false → (name : List ℕ) (value : Route) → jobs_request Post (id ∷ name ∷ []) ≡ posted value (Some id) → shown value (Some id) ≡ None
+    → part_of (codes "/jobs/" ++ (codes "{id}" ++ 47 ∷ name)) 7 9 ≡ codes "id"
+    → Says (λ method. jobs_request method (id ∷ name ∷ [])) (codes "/jobs/" ++ (id ++ 47 ∷ name)) (Some (id_route (codes "/jobs/") (47 ∷ name) value))
+job_word id u f name value post get key =
+    middle_says (codes "/jobs/") name value (λ method. jobs_request method (id ∷ name ∷ [])) id refl key u f
+    (by_method (λ method. jobs_request method (id ∷ name ∷ [])) value id (always_none (request_number_of id) ∙ sym get) post (always_none (request_number_of id)))
+
+no_job_action : (job : ℕ) (text : List ℕ) → NoneIs text of_jobs → job_action job text ≡ None
+no_job_action job text none = rw (none.1.1.1.0, none.1.1.0, none.1.0, none.0)
+
+no_job_word : (o : Option ℕ) (text : List ℕ) → NoneIs text of_jobs → (method : Method) → option_and_then (λ job. job_request method job (text ∷ [])) o ≡ None
+no_job_word None text none method = refl
+no_job_word (Some job) text none Get = refl
+no_job_word (Some job) text none Post = no_job_action job text none
+no_job_word (Some job) text none Another = refl
+
+long_job : (o : Option ℕ) (text more : List ℕ) (rest : List (List ℕ)) (method : Method) → option_and_then (λ job. job_request method job (text ∷ more ∷ rest)) o ≡ None
+long_job None text more rest method = refl
+long_job (Some job) text more rest Get = refl
+long_job (Some job) text more rest Post = refl
+long_job (Some job) text more rest Another = refl
+
+jobs_are : IsCollection (codes "/jobs/") jobs_request job_end of_jobs
+jobs_are = record {
+  apart = (refl, refl, plain refl refl, (refl, refl, plain refl refl, (refl, refl, plain refl refl, (refl, refl, plain refl refl, tt))));
+  some = refl;
+  no_id = λ rest method. elim method as (λ m. jobs_request m ([] ∷ rest) ≡ None) [ Get ↦ refl | Post ↦ refl | Another ↦ refl ];
+  last = λ id u. last_says (codes "/jobs/") Job (λ method. jobs_request method (id ∷ [])) id refl refl u
+      (by_method (λ method. jobs_request method (id ∷ [])) Job id refl (always_none (request_number_of id)) (always_none (request_number_of id)));
+  words = λ id u f. (job_word id u f (codes "alter") Alter refl refl refl, (job_word id u f (codes "kill") Kill refl refl refl, (job_word id u f (codes "resume") Resume refl refl refl, (job_word id u f (codes "suspend") Suspend refl refl refl, tt))));
+  others = λ id text none method. no_job_word (request_number_of id) text none method;
+  longer = λ id text more rest method. long_job (request_number_of id) text more rest method;
+}
+
+modem_word : (id : List ℕ) → IsUtf8 id → has_slash id ≡ false → (name : List ℕ) (value : Route) → modems_request Post (id ∷ name ∷ []) ≡ posted value (Some id) → shown value (Some id) ≡ None
+    → part_of (codes "/modems/" ++ (codes "{id}" ++ 47 ∷ name)) 9 11 ≡ codes "id"
+    → Says (λ method. modems_request method (id ∷ name ∷ [])) (codes "/modems/" ++ (id ++ 47 ∷ name)) (Some (id_route (codes "/modems/") (47 ∷ name) value))
+modem_word id u f name value post get key =
+    middle_says (codes "/modems/") name value (λ method. modems_request method (id ∷ name ∷ [])) id refl key u f
+    (by_method (λ method. modems_request method (id ∷ name ∷ [])) value id (sym get) post refl)
+
+no_modem : (rest : List (List ℕ)) → modem_request (two_texts ([] ∷ rest)) ≡ None
+no_modem [] = refl
+no_modem (x ∷ []) = refl
+no_modem (x ∷ y ∷ rest) = refl
+
+no_modem_word : (modem text : List ℕ) → NoneIs text of_modems → cond (is_name modem) (modem_action modem text) None ≡ None
+no_modem_word modem text none = by (is_name modem) (rw (none.1.1.0, none.0, none.1.0))
+  where
+    by : (v : Bool) → modem_action modem text ≡ None → cond v (modem_action modem text) None ≡ None
+    by true e = e
+    by false e = refl
+
+on_name : (v : Bool) (request_on : List ℕ → Request) (id : List ℕ) → cond v (Some (request_on id)) None ≡ option_map request_on (cond v (Some id) None)
+on_name true request_on id = refl
+on_name false request_on id = refl
+
+modems_are : IsCollection (codes "/modems/") modems_request None of_modems
+modems_are = record {
+  apart = (refl, refl, plain refl refl, (refl, refl, plain refl refl, (refl, refl, plain refl refl, tt)));
+  some = refl;
+  no_id = λ rest method. elim method as (λ m. modems_request m ([] ∷ rest) ≡ None) [ Get ↦ refl | Post ↦ no_modem rest | Another ↦ refl ];
+  last = λ id u method. elim method as (λ m. modems_request m (id ∷ []) ≡ None) [ Get ↦ refl | Post ↦ refl | Another ↦ refl ];
+  words = λ id u f. (modem_word id u f (codes "down") Down (on_name (is_name id) request.Down id) refl refl, (modem_word id u f (codes "next") Next (on_name (is_name id) request.Next id) refl refl, (modem_word id u f (codes "ready") Ready (on_name (is_name id) request.Ready id) refl refl, tt)));
+  others = λ id text none method. elim method as (λ m. modems_request m (id ∷ text ∷ []) ≡ None) [ Get ↦ refl | Post ↦ no_modem_word id text none | Another ↦ refl ];
+  longer = λ id text more rest method. elim method as (λ m. modems_request m (id ∷ text ∷ more ∷ rest) ≡ None) [ Get ↦ refl | Post ↦ refl | Another ↦ refl ];
+}
+
+grant_word : (id : List ℕ) → IsUtf8 id → has_slash id ≡ false → (name : List ℕ) (value : Route) → grants_request Post (id ∷ name ∷ []) ≡ posted value (Some id) → shown value (Some id) ≡ None
+    → part_of (codes "/grants/" ++ (codes "{id}" ++ 47 ∷ name)) 9 11 ≡ codes "id"
+    → Says (λ method. grants_request method (id ∷ name ∷ [])) (codes "/grants/" ++ (id ++ 47 ∷ name)) (Some (id_route (codes "/grants/") (47 ∷ name) value))
+grant_word id u f name value post get key =
+    middle_says (codes "/grants/") name value (λ method. grants_request method (id ∷ name ∷ [])) id refl key u f
+    (by_method (λ method. grants_request method (id ∷ name ∷ [])) value id (sym get) post refl)
+
+no_grant : (rest : List (List ℕ)) → grant_request (two_texts ([] ∷ rest)) ≡ None
+no_grant [] = refl
+no_grant (x ∷ []) = refl
+no_grant (x ∷ y ∷ rest) = refl
+
+no_grant_word : (o : Option ℕ) (text : List ℕ) → NoneIs text of_grants → option_and_then (λ grant. grant_report grant text) o ≡ None
+no_grant_word None text none = refl
+no_grant_word (Some grant) text none = rw (none.0, none.1.1.0, none.1.0)
+
+grants_are : IsCollection (codes "/grants/") grants_request None of_grants
+grants_are = record {
+  apart = (refl, refl, plain refl refl, (refl, refl, plain refl refl, (refl, refl, plain refl refl, tt)));
+  some = refl;
+  no_id = λ rest method. elim method as (λ m. grants_request m ([] ∷ rest) ≡ None) [ Get ↦ refl | Post ↦ no_grant rest | Another ↦ refl ];
+  last = λ id u method. elim method as (λ m. grants_request m (id ∷ []) ≡ None) [ Get ↦ refl | Post ↦ refl | Another ↦ refl ];
+  words = λ id u f. (grant_word id u f (codes "call") Call refl refl refl, (grant_word id u f (codes "outcome") Outcome refl refl refl, (grant_word id u f (codes "page") Page refl refl refl, tt)));
+  others = λ id text none method. elim method as (λ m. grants_request m (id ∷ text ∷ []) ≡ None) [ Get ↦ refl | Post ↦ no_grant_word (request_number_of id) text none | Another ↦ refl ];
+  longer = λ id text more rest method. elim method as (λ m. grants_request m (id ∷ text ∷ more ∷ rest) ≡ None) [ Get ↦ refl | Post ↦ refl | Another ↦ refl ];
+}
+
+-- ---- the whole
+
+in_grants : (more : Option (List ℕ)) → IsTextIfSome more → Says (λ method. root_request method (codes "grants" ∷ parts_left more)) (47 ∷ joined (codes "grants") more) (behind None grants_below more)
+in_grants None u = λ method. elim method as (λ m. grants_request m [] ≡ None) [ Get ↦ refl | Post ↦ refl | Another ↦ refl ]
+in_grants (Some path) u = in_collection (codes "/grants/") grants_request None of_grants grants_are path u
+
+in_modems : (more : Option (List ℕ)) → IsTextIfSome more → Says (λ method. root_request method (codes "modems" ∷ parts_left more)) (47 ∷ joined (codes "modems") more) (behind None modems_below more)
+in_modems None u = λ method. elim method as (λ m. modems_request m [] ≡ None) [ Get ↦ refl | Post ↦ refl | Another ↦ refl ]
+in_modems (Some path) u = in_collection (codes "/modems/") modems_request None of_modems modems_are path u
+
+in_jobs : (more : Option (List ℕ)) → IsTextIfSome more
+    → Says (λ method. root_request method (codes "jobs" ∷ parts_left more)) (47 ∷ joined (codes "jobs") more)
+    (behind jobs_end jobs_below more)
+unfolding plain_route
+in_jobs None u = (tt, λ method. elim method as (λ m. jobs_request m [] ≡ route_request m Jobs None) [ Get ↦ refl | Post ↦ refl | Another ↦ refl ])
+in_jobs (Some path) u = in_collection (codes "/jobs/") jobs_request job_end of_jobs jobs_are path u
+
+-- the first text of a path behind its slash
+abbrev by_name : List ℕ → Option (List ℕ) → Option Entry
+by_name text more =
+    or_else (cond (bytes_eq text (codes "grants")) (behind None grants_below more) None)
+    (or_else (cond (bytes_eq text (codes "jobs")) (behind jobs_end jobs_below more) None)
+    (cond (bytes_eq text (codes "modems")) (behind None modems_below more) None))
+
+name_found : (text : List ℕ) (more : Option (List ℕ)) → has_slash text ≡ false → first collections (joined text more) ≡ by_name text more
+name_found text more f =
+    branch 103 (codes "rants") (led_by (47 ∷ []) grants_below ++ ends_of None) (jobs_rows ++ modems_rows) (joined text more) (omega arith) refl (plain refl refl)
+    ∙ ap₂ or_else (word (codes "grants") text grants_below None more refl f)
+    (branch 106 (codes "obs") (led_by (47 ∷ []) jobs_below ++ ends_of jobs_end) modems_rows (joined text more) (omega arith) refl (plain refl refl)
+    ∙ ap₂ or_else (word (codes "jobs") text jobs_below jobs_end more refl f)
+    (word (codes "modems") text modems_below None more refl f))
+
+other_name : (text : List ℕ) (rest : List (List ℕ)) → bytes_eq text (codes "grants") ≡ false → bytes_eq text (codes "jobs") ≡ false → bytes_eq text (codes "modems") ≡ false
+    → (method : Method) → root_request method (text ∷ rest) ≡ None
+other_name text rest grants jobs modems method = rw (jobs, modems, grants)
+
+name_says : (text : List ℕ) (more : Option (List ℕ)) → IsTextIfSome more → Says (λ method. root_request method (text ∷ parts_left more)) (47 ∷ joined text more) (by_name text more)
+name_says text more u = by (bytes_eq text (codes "grants")) refl (bytes_eq text (codes "jobs")) refl (bytes_eq text (codes "modems")) refl
+  where
+    at : List ℕ → Type 0
+    at name = Says (λ method. root_request method (name ∷ parts_left more)) (47 ∷ joined name more) (by_name name more)
+
+    named_so : (name : List ℕ) → bytes_eq text name ≡ true → at name → at text
+    named_so name e s = subst at (sym (same_bytes text name e)) s
+
+    by : (grants : Bool) → bytes_eq text (codes "grants") ≡ grants → (jobs : Bool) → bytes_eq text (codes "jobs") ≡ jobs → (modems : Bool) → bytes_eq text (codes "modems") ≡ modems → at text
+    by true e jobs f modems g = named_so (codes "grants") e
+        (says_by (λ method. root_request method (codes "grants" ∷ parts_left more)) (47 ∷ joined (codes "grants") more) (by_name (codes "grants") more) (behind None grants_below more)
+        (or_none (behind None grants_below more)) (in_grants more u))
+    by false e true f modems g = named_so (codes "jobs") f
+        (says_by (λ method. root_request method (codes "jobs" ∷ parts_left more)) (47 ∷ joined (codes "jobs") more) (by_name (codes "jobs") more)
+        (behind jobs_end jobs_below more)
+        (or_none (behind jobs_end jobs_below more)) (in_jobs more u))
+    by false e false f true g = named_so (codes "modems") g (in_modems more u)
+    by false e false f false g =
+        says_by (λ method. root_request method (text ∷ parts_left more)) (47 ∷ joined text more) (by_name text more) None (rw (e, f, g)) (other_name text (parts_left more) e f g)
+
+in_collections : (path : List ℕ) → IsUtf8 path → Says (λ method. root_request method (parts path)) (47 ∷ path) (first collections path)
+in_collections path u =
+    let c = cut path in
+    let t = both_texts c.text c.more (subst IsUtf8 c.whole u) in
+    says_as (λ method. root_request method (parts path)) (λ method. root_request method (c.text ∷ parts_left c.more)) (47 ∷ path) (first collections path)
+    (λ method. ap (root_request method) c.texts)
+    (subst (λ (p : List ℕ). Says (λ method. root_request method (c.text ∷ parts_left c.more)) (47 ∷ p) (first collections p)) (sym c.whole)
+    (says_by (λ method. root_request method (c.text ∷ parts_left c.more)) (47 ∷ joined c.text c.more) (first collections (joined c.text c.more)) (by_name c.text c.more)
+    (name_found c.text c.more c.free) (name_says c.text c.more t.1)))
+
+lead_says : (text : List ℕ) (more : Option (List ℕ)) → IsTextIfSome more
+    → Says (λ method. path_request method (text ∷ parts_left more)) (joined text more) (cond (bytes_eq text []) (behind None collections more) None)
+lead_says [] None u = λ method. refl
+lead_says [] (Some path) u = in_collections path u
+lead_says (b ∷ text) more u = λ method.
+    let n = ne_eqb (suc (length text)) 0 (λ e. omega arith) in
+    ap (λ (empty : Bool). cond empty (root_request method (parts_left more)) None) n
+
+-- the route of a path says what the table of requests does, and a path with no route names no request
+routed : (path : List ℕ) → IsUtf8 path → Says (λ method. request_of method path) path (first table path)
+unfolding request_of
+routed path u =
+    let c = cut path in
+    let t = both_texts c.text c.more (subst IsUtf8 c.whole u) in
+    says_as (λ method. request_of method path) (λ method. path_request method (c.text ∷ parts_left c.more)) path (first table path)
+    (λ method. ap (path_request method) c.texts)
+    (subst (λ (p : List ℕ). Says (λ method. path_request method (c.text ∷ parts_left c.more)) p (first table p)) (sym c.whole)
+    (says_by (λ method. path_request method (c.text ∷ parts_left c.more)) (joined c.text c.more) (first table (joined c.text c.more)) (cond (bytes_eq c.text []) (behind None collections c.more) None)
+    (ap (λ (rows : RowsOf Entry). first rows (joined c.text c.more)) rows_are ∙ word [] c.text collections None c.more refl c.free)
+    (lead_says c.text c.more t.1)))
+
+module _ (path : List ℕ) (rows : RowsOf Entry) (text : IsUtf8 path) (all : rows ≡ table) (method : Method) where
+  pub no_route : first rows path ≡ None → request_of method path ≡ None
+  no_route none =
+      subst (Says (λ m. request_of m path) path) (ap (λ (r : RowsOf Entry). first r path) (sym all) ∙ none) (routed path text) method
+
+  got : (id : Option (Bor (List ℕ))) (found : Option (List ℕ)) → MatchOption id (found ≡ None) (λ value. found ≡ Some value.now) → found ≡ option_copied id
+  got None found e = e
+  got (Some value) found e = e
+
+  -- what a router's `get` says of a parameter, for the path that the match keeps
+  abbrev Gives : Entry → List ℕ → Option (Bor (List ℕ)) → Type 0
+  Gives route seen id =
+      AllText (walk route.pattern route.text seen route.names 0 0)
+      → MatchOption id (named (codes "id") (walk route.pattern route.text seen route.names 0 0) ≡ None) (λ value. named (codes "id") (walk route.pattern route.text seen route.names 0 0) ≡ Some value.now)
+
+  pub with_route : (route : Entry) (seen : List ℕ) (id : Option (Bor (List ℕ))) → seen ≡ path → first rows path ≡ Some route → Gives route seen id
+      → route_request method route.value (option_copied id) ≡ request_of method path
+  with_route route seen id same found get =
+      let said : Says (λ m. request_of m path) path (Some route) = subst (Says (λ m. request_of m path) path) (ap (λ (r : RowsOf Entry). first r path) (sym all) ∙ found) (routed path text) in
+      let given : Gives route path id = subst (λ (p : List ℕ). Gives route p id) same get in
+      sym (said.1 method ∙ ap (route_request method route.value) (got id (named (codes "id") (walk route.pattern route.text path route.names 0 0)) (given said.0)))

@@ -1,0 +1,92 @@
+//! The routes of requests, by their paths.
+
+ghost use Rattle.std.specs.Prelude.{◌≡◌, IfOk};
+ghost use Rattle.fax_ask.specs.Request.{request_of};
+
+use crate::method::Method;
+use crate::request::Request;
+use matchit::{InsertError, MatchError, Router};
+use std::alloc::{AllocError, Global};
+use std::marker::Model;
+
+/// What a path is the path of.
+#[derive(Clone, Copy, Debug, PartialEq, Eq)]
+pub(crate) enum Route {
+    Jobs,
+    Job,
+    Suspend,
+    Resume,
+    Kill,
+    Alter,
+    Ready,
+    Down,
+    Next,
+    Call,
+    Page,
+    Outcome,
+}
+
+/// The pattern of each route: `{id}` is the number of a job or a grant, or the name of a modem.
+static ROUTES: [(&str, Route); 12] = [
+    ("/jobs", Route::Jobs),
+    ("/jobs/{id}", Route::Job),
+    ("/jobs/{id}/suspend", Route::Suspend),
+    ("/jobs/{id}/resume", Route::Resume),
+    ("/jobs/{id}/kill", Route::Kill),
+    ("/jobs/{id}/alter", Route::Alter),
+    ("/modems/{id}/ready", Route::Ready),
+    ("/modems/{id}/down", Route::Down),
+    ("/modems/{id}/next", Route::Next),
+    ("/grants/{id}/call", Route::Call),
+    ("/grants/{id}/page", Route::Page),
+    ("/grants/{id}/outcome", Route::Outcome),
+];
+
+/// The routes of requests, in a router.
+#[derive(Drop)]
+pub struct Routes {
+    router: Router<Route>,
+}
+
+impl Model for Routes {
+    ghost use Rattle.std.specs.Prelude.{◌≡◌};
+    ghost use Rattle.matchit.specs.Rows.{RowsOf};
+    ghost use Rattle.matchit.specs.Router.{RouteOf};
+    ghost use Rattle.fax_ask.specs.declared.routes.Route.{Route};
+    ghost use Rattle.fax_ask.specs.Routes.{table};
+
+    ghost Value = { RowsOf (RouteOf Route) };
+
+    ghost view = { λ routes. routes.router };
+
+    ghost invariant = { λ routes. routes.router ≡ table };
+}
+
+impl Routes {
+    ghost use Rattle.fax_ask.specs.Routes.{table};
+
+    /// The routes of every request. The only error is want of memory.
+    pub fn new(alloc: Global) -> Result<Routes, AllocError>
+        ensures { IfOk result (λ routes. routes ≡ table) }
+    {
+        let mut router = Router::new(alloc);
+        for (pattern, route) in ROUTES {
+            if let Err(error) = router.insert(pattern, route) {
+                // Each pattern reads, and conflicts with none before it.
+                prove!(matches!(&error, InsertError::OutOfMemory));
+                return Err(AllocError);
+            }
+        }
+        Ok(Routes { router })
+    }
+
+    /// The request that a method and a path name, if they name one.
+    pub(crate) fn request<'p>(&self, method: Method, path: &'p str) -> Option<Request<'p>>
+        ensures { result ≡ request_of method path.now }
+    {
+        match self.router.at(path) {
+            Ok(found) => Request::on_route(method, *found.value, found.params.get("id")),
+            Err(MatchError::NotFound) => None,
+        }
+    }
+}
