@@ -109,17 +109,15 @@ last_says w value names id h key u same =
 abbrev plain : {rs : RowsOf Entry} → step param_token rs ≡ [] → step catch_all_token rs ≡ [] → IsPlain rs
 plain {rs} params catches = record { params = params; catches = catches }
 
--- what a method that isn't POST names behind a parameter
-abbrev NotPosted : (Method → Option Request) → Type 0
-NotPosted names = (names Get ≡ None) × (names Another ≡ None)
-
-by_method : (names : Method → Option Request) (value : Route) (id : List ℕ) → names Get ≡ route_request Get value (Some id) → names Post ≡ route_request Post value (Some id)
+by_method : (names : Method → Option Request) (value : Route) (id : List ℕ)
+    → names Get ≡ route_request Get value (Some id) → names Post ≡ route_request Post value (Some id)
     → names Another ≡ None → (method : Method) → names method ≡ route_request method value (Some id)
 by_method names value id get post another Get = get
 by_method names value id get post another Post = post
 by_method names value id get post another Another = another
 
-job_word : (id : List ℕ) → IsUtf8 id → has_slash id ≡ false → (name : List ℕ) (value : Route) → jobs_request Post (id ∷ name ∷ []) ≡ posted value (Some id) → shown value (Some id) ≡ None
+job_word : (id : List ℕ) → IsUtf8 id → has_slash id ≡ false → (name : List ℕ) (value : Route)
+    → jobs_request Post (id ∷ name ∷ []) ≡ posted value (Some id) → shown value (Some id) ≡ None
     → part_of (codes "/jobs/" ++ (codes "{id}" ++ 47 ∷ name)) 7 9 ≡ codes "id"
     → Says (λ method. jobs_request method (id ∷ name ∷ [])) (codes "/jobs/" ++ (id ++ 47 ∷ name)) (Some (id_route (codes "/jobs/") (47 ∷ name) value))
 job_word id u f name value post get key =
@@ -148,12 +146,22 @@ jobs_are = record {
   no_id = λ rest method. elim method as (λ m. jobs_request m ([] ∷ rest) ≡ None) [ Get ↦ refl | Post ↦ refl | Another ↦ refl ];
   last = λ id u. last_says (codes "/jobs/") Job (λ method. jobs_request method (id ∷ [])) id refl refl u
       (by_method (λ method. jobs_request method (id ∷ [])) Job id refl (always_none (request_number_of id)) (always_none (request_number_of id)));
-  words = λ id u f. (job_word id u f (codes "alter") Alter refl refl refl, (job_word id u f (codes "kill") Kill refl refl refl, (job_word id u f (codes "resume") Resume refl refl refl, (job_word id u f (codes "suspend") Suspend refl refl refl, tt))));
+  words = λ id u f. (
+    job_word id u f (codes "alter") Alter refl refl refl,
+    (
+      job_word id u f (codes "kill") Kill refl refl refl,
+      (
+        job_word id u f (codes "resume") Resume refl refl refl,
+        (job_word id u f (codes "suspend") Suspend refl refl refl, tt),
+      ),
+    ),
+  );
   others = λ id text none method. no_job_word (request_number_of id) text none method;
   longer = λ id text more rest method. long_job (request_number_of id) text more rest method;
 }
 
-modem_word : (id : List ℕ) → IsUtf8 id → has_slash id ≡ false → (name : List ℕ) (value : Route) → modems_request Post (id ∷ name ∷ []) ≡ posted value (Some id) → shown value (Some id) ≡ None
+modem_word : (id : List ℕ) → IsUtf8 id → has_slash id ≡ false → (name : List ℕ) (value : Route)
+    → modems_request Post (id ∷ name ∷ []) ≡ posted value (Some id) → shown value (Some id) ≡ None
     → part_of (codes "/modems/" ++ (codes "{id}" ++ 47 ∷ name)) 9 11 ≡ codes "id"
     → Says (λ method. modems_request method (id ∷ name ∷ [])) (codes "/modems/" ++ (id ++ 47 ∷ name)) (Some (id_route (codes "/modems/") (47 ∷ name) value))
 modem_word id u f name value post get key =
@@ -182,12 +190,19 @@ modems_are = record {
   some = refl;
   no_id = λ rest method. elim method as (λ m. modems_request m ([] ∷ rest) ≡ None) [ Get ↦ refl | Post ↦ no_modem rest | Another ↦ refl ];
   last = λ id u method. elim method as (λ m. modems_request m (id ∷ []) ≡ None) [ Get ↦ refl | Post ↦ refl | Another ↦ refl ];
-  words = λ id u f. (modem_word id u f (codes "down") Down (on_name (is_name id) request.Down id) refl refl, (modem_word id u f (codes "next") Next (on_name (is_name id) request.Next id) refl refl, (modem_word id u f (codes "ready") Ready (on_name (is_name id) request.Ready id) refl refl, tt)));
+  words = λ id u f. (
+    modem_word id u f (codes "down") Down (on_name (is_name id) request.Down id) refl refl,
+    (
+      modem_word id u f (codes "next") Next (on_name (is_name id) request.Next id) refl refl,
+      (modem_word id u f (codes "ready") Ready (on_name (is_name id) request.Ready id) refl refl, tt),
+    ),
+  );
   others = λ id text none method. elim method as (λ m. modems_request m (id ∷ text ∷ []) ≡ None) [ Get ↦ refl | Post ↦ no_modem_word id text none | Another ↦ refl ];
   longer = λ id text more rest method. elim method as (λ m. modems_request m (id ∷ text ∷ more ∷ rest) ≡ None) [ Get ↦ refl | Post ↦ refl | Another ↦ refl ];
 }
 
-grant_word : (id : List ℕ) → IsUtf8 id → has_slash id ≡ false → (name : List ℕ) (value : Route) → grants_request Post (id ∷ name ∷ []) ≡ posted value (Some id) → shown value (Some id) ≡ None
+grant_word : (id : List ℕ) → IsUtf8 id → has_slash id ≡ false → (name : List ℕ) (value : Route)
+    → grants_request Post (id ∷ name ∷ []) ≡ posted value (Some id) → shown value (Some id) ≡ None
     → part_of (codes "/grants/" ++ (codes "{id}" ++ 47 ∷ name)) 9 11 ≡ codes "id"
     → Says (λ method. grants_request method (id ∷ name ∷ [])) (codes "/grants/" ++ (id ++ 47 ∷ name)) (Some (id_route (codes "/grants/") (47 ∷ name) value))
 grant_word id u f name value post get key =
@@ -209,18 +224,26 @@ grants_are = record {
   some = refl;
   no_id = λ rest method. elim method as (λ m. grants_request m ([] ∷ rest) ≡ None) [ Get ↦ refl | Post ↦ no_grant rest | Another ↦ refl ];
   last = λ id u method. elim method as (λ m. grants_request m (id ∷ []) ≡ None) [ Get ↦ refl | Post ↦ refl | Another ↦ refl ];
-  words = λ id u f. (grant_word id u f (codes "call") Call refl refl refl, (grant_word id u f (codes "outcome") Outcome refl refl refl, (grant_word id u f (codes "page") Page refl refl refl, tt)));
+  words = λ id u f. (
+    grant_word id u f (codes "call") Call refl refl refl,
+    (
+      grant_word id u f (codes "outcome") Outcome refl refl refl,
+      (grant_word id u f (codes "page") Page refl refl refl, tt),
+    ),
+  );
   others = λ id text none method. elim method as (λ m. grants_request m (id ∷ text ∷ []) ≡ None) [ Get ↦ refl | Post ↦ no_grant_word (request_number_of id) text none | Another ↦ refl ];
   longer = λ id text more rest method. elim method as (λ m. grants_request m (id ∷ text ∷ more ∷ rest) ≡ None) [ Get ↦ refl | Post ↦ refl | Another ↦ refl ];
 }
 
 -- ---- the whole
 
-in_grants : (more : Option (List ℕ)) → IsTextIfSome more → Says (λ method. root_request method (codes "grants" ∷ parts_left more)) (47 ∷ joined (codes "grants") more) (behind None grants_below more)
+in_grants : (more : Option (List ℕ)) → IsTextIfSome more
+    → Says (λ method. root_request method (codes "grants" ∷ parts_left more)) (47 ∷ joined (codes "grants") more) (behind None grants_below more)
 in_grants None u = λ method. elim method as (λ m. grants_request m [] ≡ None) [ Get ↦ refl | Post ↦ refl | Another ↦ refl ]
 in_grants (Some path) u = in_collection (codes "/grants/") grants_request None of_grants grants_are path u
 
-in_modems : (more : Option (List ℕ)) → IsTextIfSome more → Says (λ method. root_request method (codes "modems" ∷ parts_left more)) (47 ∷ joined (codes "modems") more) (behind None modems_below more)
+in_modems : (more : Option (List ℕ)) → IsTextIfSome more
+    → Says (λ method. root_request method (codes "modems" ∷ parts_left more)) (47 ∷ joined (codes "modems") more) (behind None modems_below more)
 in_modems None u = λ method. elim method as (λ m. modems_request m [] ≡ None) [ Get ↦ refl | Post ↦ refl | Another ↦ refl ]
 in_modems (Some path) u = in_collection (codes "/modems/") modems_request None of_modems modems_are path u
 
@@ -302,6 +325,8 @@ routed path u =
     (ap (λ (rows : RowsOf Entry). first rows (joined c.text c.more)) rows_are ∙ word [] c.text collections None c.more refl c.free)
     (lead_says c.text c.more t.1)))
 
+-- ---- what `Routes::request` cites
+
 module _ (path : List ℕ) (rows : RowsOf Entry) (text : IsUtf8 path) (all : rows ≡ table) (method : Method) where
   pub no_route : first rows path ≡ None → request_of method path ≡ None
   no_route none =
@@ -317,9 +342,9 @@ module _ (path : List ℕ) (rows : RowsOf Entry) (text : IsUtf8 path) (all : row
       AllText (walk route.pattern route.text seen route.names 0 0)
       → MatchOption id (named (codes "id") (walk route.pattern route.text seen route.names 0 0) ≡ None) (λ value. named (codes "id") (walk route.pattern route.text seen route.names 0 0) ≡ Some value.now)
 
-  pub with_route : (route : Entry) (seen : List ℕ) (id : Option (Bor (List ℕ))) → seen ≡ path → first rows path ≡ Some route → Gives route seen id
+  pub found_route : (route : Entry) (seen : List ℕ) (id : Option (Bor (List ℕ))) → seen ≡ path → first rows path ≡ Some route → Gives route seen id
       → route_request method route.value (option_copied id) ≡ request_of method path
-  with_route route seen id same found get =
+  found_route route seen id same found get =
       let said : Says (λ m. request_of m path) path (Some route) = subst (Says (λ m. request_of m path) path) (ap (λ (r : RowsOf Entry). first r path) (sym all) ∙ found) (routed path text) in
       let given : Gives route path id = subst (λ (p : List ℕ). Gives route p id) same get in
       sym (said.1 method ∙ ap (route_request method route.value) (got id (named (codes "id") (walk route.pattern route.text path route.names 0 0)) (given said.0)))
