@@ -1,10 +1,11 @@
 -- What a method, a path and a body ask for is one thing, and nothing that is refused but for want of memory.
-use Rattle.std.proofs.Common.{◌≡◌, ℕ, List, refl, sym, ap, ◌∙◌}
+use Rattle.std.proofs.Common.{◌≡◌, ℕ, List, refl, sym, ap, ap₂, ◌∙◌}
 use Rattle.std.specs.Prelude.{Option, Some, None, Result, Ok, Err, MatchOption}
 use Rattle.std.proofs.lemmas.Option.{same_Some}
 use Rattle.serde_json.specs.Data.{Data}
 use Rattle.serde_json.specs.Read.{read}
 use Rattle.fax_job.specs.declared.order.OrderFault.{OrderFault}
+use Rattle.fax_job.specs.declared.refusal.BodyFault.{BodyFault}
 use Rattle.fax_job.specs.declared.refusal.BodyFault.TheVariants.{Line, Order, BadJson, BadField}
 use Rattle.fax_job.specs.declared.refusal.Refusal.{Refusal}
 use Rattle.fax_job.specs.declared.refusal.Refusal.TheVariants.{NoRoute, BadBody, Unavailable}
@@ -12,14 +13,14 @@ use Rattle.fax_job.specs.Alter.{alter_of}
 use Rattle.fax_job.specs.Order.{order_of}
 use Rattle.fax_job.specs.Pair.{Pair}
 use Rattle.fax_job.specs.Reading.{fault_at}
-use Rattle.fax_job.proofs.FaultLemmas.{fault_or_list}
+use Rattle.fax_job.proofs.FaultLemmas.{fault_or_list, first_fault_alone}
 use Rattle.fax_job.proofs.TextLemmas.{spelled_alone}
 use Rattle.fax_core.specs.Ask as machine
 use Rattle.fax_ask.specs.declared.request.Request.{Request}
 use Rattle.fax_ask.specs.declared.request.Request.TheVariants.{Submit, Suspend, Resume, Kill, Alter, Show, Ready, Down, Next, Call, Page, Outcome}
-use Rattle.fax_ask.specs.Ask.{Asked, Step, States, HasFault, IsLinesRefusal, Asks, IsBodyRefusal}
-use Rattle.fax_ask.specs.Laws.{OneAsk, AskOrRefusal}
-use Rattle.fax_ask.specs.Report.{IsJson, IsReportRefusal, Reports, call_in, outcome_in, page_in}
+use Rattle.fax_ask.specs.Ask.{Asked, Step, States, HasFault, IsLinesFault, IsLinesRefusal, Asks, IsBodyRefusal}
+use Rattle.fax_ask.specs.Laws.{OneAsk, OneFault, AskOrRefusal}
+use Rattle.fax_ask.specs.Report.{IsJson, IsReportFault, IsReportRefusal, Reports, call_in, outcome_in, page_in}
 use Rattle.fax_ask.specs.Request.{request_of}
 
 abbrev well : {T : Type 0} → T → Result T OrderFault
@@ -112,3 +113,58 @@ refused_by (Some request) body a refusal h r = ask_or_refusal request body a ref
 
 pub ask_or_refused : AskOrRefusal
 ask_or_refused method path body a refusal h r = refused_by (request_of method path) body a refusal h r
+
+-- ---- faults of bodies
+
+same_Err : {T : Type 0} (e f : OrderFault) → ◌≡◌ {A = Result T OrderFault} (Err e) (Err f) → e ≡ f
+same_Err e f h = cc
+
+module _ {T : Type 0} (value_of : List Pair → Result T OrderFault) (body : List ℕ) where
+  one_lines_fault : (f g : BodyFault) → IsLinesFault value_of body f → IsLinesFault value_of body g → f ≡ g
+  one_lines_fault (Line line kind) (Line other that) h g =
+      let same = first_fault_alone body (fault_at line kind) (fault_at other that) h g in
+      ap₂ (λ n k. Line n k) (ap (λ e. e.line) same) (ap (λ e. e.kind) same)
+  one_lines_fault (Line line kind) (Order fault) h g = absurd (fault_or_list body (fault_at line kind) g.lines h g.spelled)
+  one_lines_fault (Order fault) (Line line kind) h g = absurd (fault_or_list body (fault_at line kind) h.lines g h.spelled)
+  one_lines_fault (Order fault) (Order other) h g =
+      ap (λ e. Order e) (same_Err fault other (sym h.faulty ∙ (ap value_of (spelled_alone body h.lines g.lines h.spelled g.spelled) ∙ g.faulty)))
+  one_lines_fault BadJson g h is = absurd h
+  one_lines_fault BadField g h is = absurd h
+  one_lines_fault (Line line kind) BadJson h g = absurd g
+  one_lines_fault (Line line kind) BadField h g = absurd g
+  one_lines_fault (Order fault) BadJson h g = absurd g
+  one_lines_fault (Order fault) BadField h g = absurd g
+
+module _ {T : Type 0} (report_in : Data → Option T) (body : List ℕ) where
+  one_report_fault : (f g : BodyFault) → IsReportFault report_in body f → IsReportFault report_in body g → f ≡ g
+  one_report_fault BadJson BadJson h g = refl
+  one_report_fault BadField BadField h g = refl
+  one_report_fault BadJson BadField h g = absurd (no_json body g.json g.is_json (h g.is_json.text))
+  one_report_fault BadField BadJson h g = absurd (no_json body h.json h.is_json (g h.is_json.text))
+  one_report_fault (Line line kind) g h is = absurd h
+  one_report_fault (Order fault) g h is = absurd h
+  one_report_fault BadJson (Line line kind) h g = absurd g
+  one_report_fault BadJson (Order fault) h g = absurd g
+  one_report_fault BadField (Line line kind) h g = absurd g
+  one_report_fault BadField (Order fault) h g = absurd g
+
+fault_alone : (request : Request) (body : List ℕ) (f g : BodyFault) → IsBodyRefusal request body (BadBody f) → IsBodyRefusal request body (BadBody g) → f ≡ g
+fault_alone Submit body f g h r = one_lines_fault order_of body f g h r
+fault_alone (Alter job) body f g h r = one_lines_fault alter_of body f g h r
+fault_alone (Call grant) body f g h r = one_report_fault call_in body f g h r
+fault_alone (Page grant) body f g h r = one_report_fault page_in body f g h r
+fault_alone (Outcome grant) body f g h r = one_report_fault outcome_in body f g h r
+fault_alone (Suspend job) body f g h r = absurd h
+fault_alone (Resume job) body f g h r = absurd h
+fault_alone (Kill job) body f g h r = absurd h
+fault_alone (Show job) body f g h r = absurd h
+fault_alone (Ready modem) body f g h r = absurd cc
+fault_alone (Down modem) body f g h r = absurd cc
+fault_alone (Next modem) body f g h r = absurd cc
+
+fault_by : (o : Option Request) (body : List ℕ) (f g : BodyFault) → MatchOption o (BadBody f ≡ NoRoute) (λ request. IsBodyRefusal request body (BadBody f)) → MatchOption o (BadBody g ≡ NoRoute) (λ request. IsBodyRefusal request body (BadBody g)) → f ≡ g
+fault_by None body f g h r = absurd cc
+fault_by (Some request) body f g h r = fault_alone request body f g h r
+
+pub one_fault : OneFault
+one_fault method path body f g h r = fault_by (request_of method path) body f g h r

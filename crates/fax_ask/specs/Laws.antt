@@ -1,7 +1,8 @@
 -- What is proved of the definitions.
 use Rattle.std.specs.Prelude.{◌≡◌, ◌⊎◌, ℕ, List, false, Some}
+use Rattle.fax_job.specs.declared.refusal.BodyFault.{BodyFault}
 use Rattle.fax_job.specs.declared.refusal.Refusal.{Refusal}
-use Rattle.fax_job.specs.declared.refusal.Refusal.TheVariants.{Unavailable}
+use Rattle.fax_job.specs.declared.refusal.Refusal.TheVariants.{BadBody, Unavailable}
 use Rattle.fax_job.specs.Spells.{has_byte}
 use Rattle.fax_core.specs.Reply.{Keys}
 use Rattle.fax_ask.specs.declared.method.Method.{Method}
@@ -22,6 +23,10 @@ OneAsk = (method : Method) (path body : List ℕ) (a b : Asked) → IsAsk method
 -- what asks for something is refused for want of memory alone
 abbrev pub AskOrRefusal : Type 0
 AskOrRefusal = (method : Method) (path body : List ℕ) (ask : Asked) (refusal : Refusal) → IsAsk method path body ask → IsRefused method path body refusal → refusal ≡ Unavailable
+
+-- a body has one fault at most
+abbrev pub OneFault : Type 0
+OneFault = (method : Method) (path body : List ℕ) (f g : BodyFault) → IsRefused method path body (BadBody f) → IsRefused method path body (BadBody g) → f ≡ g
 
 -- an accepted request is answered with 200 or 201
 abbrev pub AcceptedAre200Or201 : Type 0

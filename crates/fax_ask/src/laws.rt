@@ -3,19 +3,20 @@
 //! Each function here does nothing: its contract is the law. The statements stand in
 //! `specs/Laws.antt`.
 
-ghost use Rattle.fax_ask.specs.Laws.{AcceptedAre200Or201, AskOrRefusal, OneAsk, OnlyUnavailableIs503, RoutedPathsLackLf};
+ghost use Rattle.fax_ask.specs.Laws.{AcceptedAre200Or201, AskOrRefusal, OneAsk, OneFault, OnlyUnavailableIs503, RoutedPathsLackLf};
 
 /// A path that names a request has no LF. So a path, LF and a body tell one request from another.
 pub fn paths()
     ensures { RoutedPathsLackLf }
 {}
 
-/// A method, a path and a body ask for one thing at most, and what asks for something is refused for
-/// want of memory alone. So what [`Routes::read_ask`](crate::Routes::read_ask) answers is fixed,
+/// A method, a path and a body ask for one thing at most, what asks for something is refused for want
+/// of memory alone, and a body has one fault at most. So what [`Routes::read_ask`](crate::Routes::read_ask) answers is fixed,
 /// unless memory runs out.
 pub fn asks()
     ensures one { OneAsk }
     ensures refused { AskOrRefusal }
+    ensures fault { OneFault }
 {}
 
 /// An accepted request is answered with 200 or 201, and a refused one with 503 only where memory or

@@ -1,11 +1,13 @@
 //! Replies: a status, what kind of body they have, and the body's bytes.
 
-ghost use Rattle.std.specs.Prelude.{◌≡◌, IfOk, false, true};
+ghost use Rattle.std.specs.Prelude.{◌≡◌, IfOk, IsOk, false, true};
 ghost use Rattle.fax_ask.specs.Answer.{told};
 ghost use Rattle.fax_ask.specs.Detail.{has_detail, keys_in, refusal_in};
 ghost use Rattle.fax_ask.specs.ReplyBody.{body_bytes, body_is_json};
 ghost use Rattle.fax_ask.specs.Response.{accepted_response, kept_response, refused_body, refused_response};
+ghost use Rattle.fax_ask.specs.declared.detail.Detail.TheVariants.{Body as OfBody};
 ghost use Rattle.fax_core.specs.Reply.{NoKeys};
+ghost use Rattle.fax_job.specs.declared.refusal.BodyFault.{BodyFault};
 
 use crate::answer::Answer;
 use crate::detail::Detail;
@@ -82,8 +84,10 @@ impl Reply {
 
     /// The reply to a refused request of which more is told.
     pub fn refused_with(alloc: Global, detail: &Detail<'_>) -> Result<Reply, AllocError>
-        ensures { IfOk result (λ reply.
+        ensures reply { IfOk result (λ reply.
             reply ≡ refused_response (refusal_in detail.now) (keys_in detail.now)) }
+        // What is told of a body at fault takes no memory.
+        ensures body { (fault : BodyFault) → detail.now ≡ OfBody fault → IsOk result }
     {
         let body = refused_body(alloc, detail)?;
         Ok(Reply {
@@ -179,6 +183,7 @@ fn refused_body(alloc: Global, detail: &Detail<'_>) -> Result<Body, AllocError>
     ensures bytes { IfOk result (λ body.
         body_bytes body ≡ refused_body (refusal_in detail.now) (keys_in detail.now)) }
     ensures kind { IfOk result (λ body. body_is_json body ≡ true) }
+    ensures body { (fault : BodyFault) → detail.now ≡ OfBody fault → IsOk result }
 {
     let text = match detail {
         Detail::Body(fault) => return Ok(Body::Short(fault_text(*fault))),

@@ -5,6 +5,7 @@ pub mod RowsRefusals
 pub mod RowsPhases
 pub mod RowsOrder
 pub mod RowsFields
+pub mod RowsListed
 pub mod PlaceLemmas
 pub mod KeepLemmas
 pub mod DecisionLemmas

@@ -1,5 +1,5 @@
 -- A refused step has one of the numbers of its request, and what goes with it.
-use Rattle.std.proofs.Common.{◌≡◌, ℕ, Bool, true, false, cond, not, ◌&&◌, ◌||◌, eqb, leb, List, [], ◌∷◌, refl, subst}
+use Rattle.std.proofs.Common.{◌≡◌, ℕ, Bool, true, false, cond, not, ◌&&◌, ◌||◌, eqb, leb, List, [], ◌∷◌, refl, ap, subst}
 use Rattle.std.specs.Prelude.{Option, Some, None, Result, Ok, Err, is_some, is_none, nat_lt}
 use Rattle.fax_job.specs.declared.alter.Alter.{Alter}
 use Rattle.fax_job.specs.declared.job.Call.{Call}
@@ -19,12 +19,12 @@ use Rattle.fax_core.specs.Best.{best}
 use Rattle.fax_core.specs.Decisions.{JobAndGrant, is_over, new_job, submit, suspend_in, suspend, resume_in, resume, kill_in, kill, altered, alter_in, alter, granted, grant, after_call, call, is_connected, page_of, page, ended, is_done, is_empty, outcome}
 use Rattle.fax_core.specs.Job.{Job}
 use Rattle.fax_core.specs.Laws.{TellsHeld}
-use Rattle.fax_core.specs.Machine.{with_mark, is_down, held_by, handed, keys_of_rule, keys_of_job, submitted, changed, on_job, reported, without_job, on_both, on_grant, given, given_best, given_free, given_to, call_reply, page_reply, outcome_reply, act, step}
+use Rattle.fax_core.specs.Machine.{with_mark, is_down, held_by, dial_of, handed, keys_of_rule, keys_of_job, submitted, changed, on_job, reported, without_job, on_both, on_grant, given, given_best, given_free, given_to, call_reply, page_reply, outcome_reply, act, step}
 use Rattle.fax_core.specs.Queue.{Queue, open_grants, job_numbered, grant_numbered}
 use Rattle.fax_core.specs.Refusals.{may_meet, goes_with}
 use Rattle.fax_core.specs.Reply.{Handed, Reply, Marked, Keys, NoKeys, HeldGrant, Step, Taken, Refused}
 use Rattle.fax_core.specs.Settings.{Rule, Settings}
-use Rattle.fax_core.specs.Sound.{Sound}
+use Rattle.fax_core.specs.Sound.{IsOpen, Sound}
 use Rattle.fax_core.proofs.PlaceLemmas.{found, found_in, of_filter, in_found}
 use Rattle.fax_core.proofs.StepLemmas.{aged_sound}
 use Rattle.std.specs.Str.{bytes_eq}
@@ -215,14 +215,19 @@ step_refused s m t ask e k h x = act_refused s (aged t m) t ask e k (aged_sound 
 held_told : (m : Queue) (modem : List ℕ) (g : Grant) → Sound m → held_by modem m ≡ Some g → TellsHeld m modem (is_some g.call) (handed g m)
 held_told m modem g h e =
     let f = of_filter (λ (x : Grant). x.is_open) m.grants g (found_in (λ (x : Grant). bytes_eq x.modem modem) (open_grants m) g e) in
+    let is_open : IsOpen m g.number g = (in_found (λ (x : Grant). x.number) 1 m.grants g h.grants f.0, f.1) in
+    let held = h.held g.number g is_open in
     record {
       grant = g;
-      open_grant = (in_found (λ (x : Grant). x.number) 1 m.grants g h.grants f.0, f.1);
+      open_grant = is_open;
       of_modem = (bytes_decides g.modem modem).0 (found (λ (x : Grant). bytes_eq x.modem modem) (open_grants m) g e);
       of_job = refl;
       first_page = refl;
       last_page = refl;
       call = refl;
+      job = held.0;
+      there = held.1;
+      dial = ap dial_of held.1;
     }
 
 -- of no other refusal a grant is told
@@ -249,7 +254,5 @@ next_held s m t modem e c h sound true b x = cc
 next_held s m t modem e c h sound false true x = cc
 next_held s m t modem e c h sound false false x = free_held s m t modem (held_by modem m) e c h sound refl x
 
-pub step_held : (s : Settings) (m : Queue) (t : ℕ) (modem : List ℕ) (e : Refusal) (c : Bool) (h : Handed) → Sound m → step s m t (Next modem) ≡ Refused e (HeldGrant c h) → TellsHeld m modem c h
-step_held s m t modem e c h sound x =
-    let told = next_held s (aged t m) t modem e c h (aged_sound t m sound) (not (s.has_modem modem)) (is_down modem (aged t m)) x in
-    record { grant = told.grant; open_grant = told.open_grant; of_modem = told.of_modem; of_job = told.of_job; first_page = told.first_page; last_page = told.last_page; call = told.call }
+pub step_held : (s : Settings) (m : Queue) (t : ℕ) (modem : List ℕ) (e : Refusal) (c : Bool) (h : Handed) → Sound m → step s m t (Next modem) ≡ Refused e (HeldGrant c h) → TellsHeld (aged t m) modem c h
+step_held s m t modem e c h sound x = next_held s (aged t m) t modem e c h (aged_sound t m sound) (not (s.has_modem modem)) (is_down modem (aged t m)) x

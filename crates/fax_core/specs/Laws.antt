@@ -150,7 +150,7 @@ KeysGoWithRefusals =
     → step s m t ask ≡ Refused refusal keys
     → goes_with keys (refusal_number refusal) ≡ true
 
--- what a busy modem is told is the open grant that it holds
+-- what a busy modem is told is the open grant that it holds, with the number of its job
 pub record TellsHeld (m : Queue) (modem : List ℕ) (called : Bool) (h : Handed) : Type 0 where
   pub grant : Grant
   pub open_grant : IsOpen m h.grant grant
@@ -159,6 +159,9 @@ pub record TellsHeld (m : Queue) (modem : List ℕ) (called : Bool) (h : Handed)
   pub first_page : grant.first_page ≡ h.from
   pub last_page : grant.last_page ≡ h.to
   pub call : is_some grant.call ≡ called
+  pub job : Job
+  pub there : IsJob m h.job job
+  pub dial : h.dial ≡ job.dial
 
 -- so it is whenever a modem is told that it is busy
 abbrev pub BusyModemsAreTold : Type 0
@@ -166,7 +169,7 @@ BusyModemsAreTold =
     (s : Settings) (m : Queue) (t : ℕ) (modem : List ℕ) (refusal : Refusal) (called : Bool) (h : Handed)
     → Sound m
     → step s m t (Next modem) ≡ Refused refusal (HeldGrant called h)
-    → TellsHeld m modem called h
+    → TellsHeld (aged t m) modem called h
 
 -- ---- the choice
 

@@ -3,7 +3,7 @@
 ghost use Rattle.std.specs.Prelude.{◌≡◌};
 ghost use Rattle.fax_job.specs.declared.job.Phase.TheVariants.{Failed};
 ghost use Rattle.fax_core.specs.Ageing.{is_past, expires, aged_job};
-ghost use Rattle.fax_core.specs.Aging.{aged_by};
+ghost use Rattle.fax_core.specs.Aging.{aged_by, aging};
 ghost use Rattle.fax_core.specs.Job.{job_of};
 
 use fax_job::{Job, JobFields, Moment, Phase, Status};
@@ -19,7 +19,8 @@ pub enum Aging {
 
 /// Whether a job fails at `t`: it is held or waiting, and its kill time is from 1 to `t`.
 pub fn aged(job: &Job, t: Moment) -> Aging
-    ensures { aged_by result (job_of job.now) ≡ aged_job t (job_of job.now) }
+    ensures job { aged_by result (job_of job.now) ≡ aged_job t (job_of job.now) }
+    ensures aging { result ≡ aging job.now.phase job.now.killtime t }
 {
     let fields = job.fields();
     if expires(fields.phase) && is_past(fields.killtime, t) {

@@ -36,7 +36,7 @@ pub fn no_page_twice()
 {}
 
 /// A refused request meets one of the refusals that are listed for it, and what is told with it is what
-/// goes with that refusal. A busy modem is told the open grant that it holds.
+/// goes with that refusal. A busy modem is told the open grant that it holds, and its job's number to dial.
 pub fn refusals()
     ensures number { RefusalsAreMet }
     ensures keys { KeysGoWithRefusals }

@@ -126,6 +126,7 @@ pub fn week_minute_in_utc()
 /// Past 253402207200 seconds, the last instant of `jiff`'s calendar.
 pub fn civil_minute(zone: &Zone, seconds: u64) -> Result<Civil, MomentFault>
     ensures succeeds { IsOk result ↔ CanBeShown seconds }
+    ensures end { IsOk result ↔ (seconds ≤ 253402207200) }
     ensures civil { IfOk result (IsCivil zone.now seconds) }
 {
     let clock = zone.clock_at(seconds)?;

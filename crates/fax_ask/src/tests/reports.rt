@@ -61,6 +61,30 @@ fn outcomes(rt: HostRuntime) -> Result<(), Fail> {
             r#"{"dialed":false,"outcome":"fail","pages":0,"reason":""}"#,
             (false, 0, Ending::Fail, ""),
         ),
+        // The longest reason.
+        (
+            concat!(
+                r#"{"dialed":true,"outcome":"fail","pages":0,"reason":""#,
+                "a reason of 200 bytes is the longest, ",
+                "and its bytes may be any of a status: ~ ",
+                "{}[]/# and so on. Fifty bytes of digits: ",
+                "12345678901234567890123456789012345678901234567890",
+                "...............................",
+                r#""}"#
+            ),
+            (
+                true,
+                0,
+                Ending::Fail,
+                concat!(
+                    "a reason of 200 bytes is the longest, ",
+                    "and its bytes may be any of a status: ~ ",
+                    "{}[]/# and so on. Fifty bytes of digits: ",
+                    "12345678901234567890123456789012345678901234567890",
+                    "..............................."
+                ),
+            ),
+        ),
     ];
     for (body, want) in cases {
         match routes.read_ask(alloc, Method::Post, "/grants/1/outcome", body.as_bytes())? {

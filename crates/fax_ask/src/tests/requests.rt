@@ -58,6 +58,12 @@ fn requests(rt: HostRuntime) -> Result<(), Fail> {
         (Method::Post, "/modems/ttyS0/ready", ("ready", 0)),
         (Method::Post, "/modems/a.b_c-9/down", ("down", 0)),
         (Method::Post, "/modems/ttyS1/next", ("next", 0)),
+        // The longest name.
+        (
+            Method::Post,
+            "/modems/a2345678901234567890123456789012/next",
+            ("next", 0),
+        ),
     ];
     for (method, path, want) in cases {
         // A body that isn't needed isn't read.
