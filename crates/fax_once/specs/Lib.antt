@@ -1,2 +1,11 @@
 pub mod Settings
+pub mod Arrival
+pub mod State
 pub mod Effect
+pub mod Decision
+pub mod JobAsk
+pub mod View
+pub mod Report
+pub mod Ask
+pub mod Verdict
+pub mod Laws

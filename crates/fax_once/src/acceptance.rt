@@ -10,17 +10,11 @@ ghost use Rattle.fax_store.specs.Work.{ChangesWhere};
 ghost use Rattle.fax_once.specs.Effect.{Suits, accepted};
 
 use crate::effect::Effect;
+use crate::sender::Sender;
 use fax_ask::Reply;
-use fax_job::{Moment, RequestNumber};
+use fax_job::Moment;
 use fax_store::{Store, StoreFault, Work};
 use sqlite::Alter;
-
-/// Who sent a request, and the sender's number of it.
-#[derive(Clone, Copy, Debug)]
-pub(crate) struct Sender<'a> {
-    pub client: &'a str,
-    pub number: RequestNumber,
-}
 
 /// Ages the queue at `decided_at`, makes the change, sets the clock and keeps the reply, all in one
 /// transaction.
@@ -36,9 +30,10 @@ pub(crate) fn accept<S: Alter>(
     said: &[u8],
     reply: &Reply,
 ) -> Result<(), StoreFault>
-    ensures served { OnOk result (Serves (state S.Store store.new.conn) → Serves (state S.Store store.old.conn)) }
+    ensures served { OnOk result (Serves (state S.Store store.new.conn)
+        → Serves (state S.Store store.old.conn)) }
     ensures taken { (m : Queue) (k : List Entry) → Means (state S.Store store.old.conn) m k
-        → Suits effect.now (with_expired decided_at m)
+        → (Serves (state S.Store store.old.conn) → Suits effect.now (with_expired decided_at m))
         → MatchResult result
         (λ _. Means (state S.Store store.new.conn) (accepted decided_at effect.now m)
         (k ++ entry sender.now.client.now sender.now.number said.now reply.now.status reply.now.body ∷ []))
@@ -60,7 +55,8 @@ fn write<S: Alter>(
     reply: &Reply,
 ) -> Result<(), StoreFault>
     ensures same_reference { work.new.store.ghost_name ≡ work.old.store.ghost_name }
-    ensures served { Serves (state S.Store work.new.store.now.conn) → Serves (state S.Store work.old.store.now.conn) }
+    ensures served { Serves (state S.Store work.new.store.now.conn)
+        → Serves (state S.Store work.old.store.now.conn) }
     ensures changes { ChangesWhere (λ m. Suits effect.now (with_expired decided_at m))
         (state S.Store work.old.store.now.conn) work.old.failed
         (state S.Store work.new.store.now.conn) work.new.failed

@@ -32,7 +32,8 @@ impl Effect {
     /// Makes the change, by at most two calls of the work.
     pub(crate) fn write<S: Alter>(&self, work: &mut Work<'_, S>) -> Result<(), StoreFault>
         ensures same_reference { work.new.store.ghost_name ≡ work.old.store.ghost_name }
-        ensures served { Serves (state S.Store work.new.store.now.conn) → Serves (state S.Store work.old.store.now.conn) }
+        ensures served { Serves (state S.Store work.new.store.now.conn)
+            → Serves (state S.Store work.old.store.now.conn) }
         ensures fails { OnErr result (work.new.failed ≡ true) }
         ensures changes { ChangesWhere (Suits self.now) (state S.Store work.old.store.now.conn) work.old.failed
             (state S.Store work.new.store.now.conn) work.new.failed (effected self.now) (λ k. k) }

@@ -1,6 +1,14 @@
-use crate::acceptance::{Sender, accept};
+mod conversation;
+mod ends;
+mod jobs;
+mod modems;
+mod reports;
+mod submissions;
+
+use crate::acceptance::accept;
 use crate::effect::Effect;
 use crate::office::Office;
+use crate::sender::Sender;
 use fax_ask::{Answer, Reply};
 use fax_dest::{Controls, Setup};
 use fax_job::{

@@ -1,9 +1,9 @@
 use Rattle.std.proofs.Common.{◌≡◌, [], ◌∷◌, ◌++◌, subst, rules}
 use Rattle.sqlite.specs.Held.{state}
 use Rattle.fax_store.specs.Kept.{entry}
-use Rattle.fax_store.specs.Store.{Means, Serves, Stays}
+use Rattle.fax_store.specs.Store.{Means, Stays}
 use Rattle.fax_once.specs.Effect.{accepted}
-use Rattle.fax_once.proofs.WorkLemmas.{refused_with}
+use Rattle.fax_once.proofs.WorkLemmas.{refused_with, works_where}
 use Rattle.fax_once.proofs.acceptance.accept.Goals as goal
 
 pub returns-in_err-work-clause-taken : goal.returns-in_err-work-clause-taken
@@ -13,18 +13,18 @@ returns-in_err-work-clause-taken g c m k means suits =
 
 pub returns-in_err-write-clause-taken : goal.returns-in_err-write-clause-taken
 returns-in_err-write-clause-taken g c m k means suits =
-    let works = c.write.ensures.changes m m k k suits (c.in_ok-work.ensures.begun m k means) in
+    let works = works_where _ _ _ _ _ _ _ m k (λ serves. suits (c.in_ok-work.ensures.served serves)) c.write.ensures.served c.write.ensures.changes (c.in_ok-work.ensures.begun m k means) in
     refused_with c.from_residual-in_err-write.result _ _ c.from_residual-in_err-write.ensures.0 (let same : c.drop-work.new.self.0 ≡ c.store-in_err-write-1.given.0 = search rules in subst (λ v. Means (state g.S.Store v.conn) m k) same (c.drop-work.ensures m _ k _ works))
 
 pub returns-in_err-commit-clause-taken : goal.returns-in_err-commit-clause-taken
 returns-in_err-commit-clause-taken g c m k means suits =
-    let works = c.write.ensures.changes m m k k suits (c.in_ok-work.ensures.begun m k means) in
+    let works = works_where _ _ _ _ _ _ _ m k (λ serves. suits (c.in_ok-work.ensures.served serves)) c.write.ensures.served c.write.ensures.changes (c.in_ok-work.ensures.begun m k means) in
     refused_with c.from_residual-in_err-commit.result _ _ c.from_residual-in_err-commit.ensures.0
     (let same : c.commit.new.self.0 ≡ c.store-2-1.given.0 = search rules in subst (λ v. Means (state g.S.Store v.conn) m k) same (c.in_err-commit.ensures.undone m _ k _ works))
 
 pub returns-clause-taken : goal.returns-clause-taken
 returns-clause-taken g c m k means suits =
-    let works = c.write.ensures.changes m m k k suits (c.in_ok-work.ensures.begun m k means) in
+    let works = works_where _ _ _ _ _ _ _ m k (λ serves. suits (c.in_ok-work.ensures.served serves)) c.write.ensures.served c.write.ensures.changes (c.in_ok-work.ensures.begun m k means) in
     let same : c.commit.new.self.0 ≡ c.store-2-1.given.0 = search rules in
     subst (λ v. Means (state g.S.Store v.conn) (accepted c.args.decided_at c.args.effect.now m)
     (k ++ entry c.args.sender.now.client.now c.args.sender.now.number c.args.said.now c.args.reply.now.status c.args.reply.now.body ∷ [])) same

@@ -1,0 +1,53 @@
+-- An arrival comes to one thing at most, since a method, a path and a body ask for one thing, or have one fault.
+use Rattle.std.proofs.Common.{◌≡◌, inl, inr, ℕ, List, Option, Some, None, Ok, Err, refl, sym, ap, subst, ◌∙◌}
+use Rattle.std.specs.Prelude.{Result, MatchOption, MatchResult}
+use Rattle.fax_job.specs.declared.refusal.BodyFault.{BodyFault}
+use Rattle.fax_job.specs.declared.refusal.Refusal.{Refusal}
+use Rattle.fax_job.specs.declared.refusal.Refusal.TheVariants.{BadBody, NoRoute}
+use Rattle.fax_ask.specs.declared.request.Request.{Request}
+use Rattle.fax_ask.specs.Ask.{Asked, Asks, IsAsk, IsBodyRefusal, IsRefused, Step}
+use Rattle.fax_ask.specs.Laws.{AskOrRefusal, OneAsk, OneFault}
+use Rattle.fax_ask.specs.Request.{request_of}
+use Rattle.fax_core.specs.Queue.{Queue, Entry}
+use Rattle.fax_core.specs.Settings.{Settings}
+use Rattle.fax_once.specs.Arrival.{number_of}
+use Rattle.fax_once.specs.Laws.{OneVerdict}
+use Rattle.fax_once.specs.Verdict.{Verdict, denied, asked_for, seen_by, IsForBody, IsForRequest}
+use Rattle.fax_once.specs.declared.arrival.Arrival.{Arrival}
+use Rattle.fax_once.proofs.VerdictLemmas.{same_ask}
+
+module _ (one_ask : OneAsk) (or_refusal : AskOrRefusal) (one_fault : OneFault) (s : Settings) (a : Arrival) (m : Queue) (k : List Entry) where
+  asks_for : (request : Request) (x : Asked) → request_of a.method a.path.now ≡ Some request → Asks request a.body.now x → IsAsk a.method a.path.now a.body.now x
+  asks_for request x is asks = subst (λ (o : Option Request). MatchOption o ⊥ (λ r. Asks r a.body.now x)) (sym is) asks
+
+  refused_for : (request : Request) (e : Refusal) → request_of a.method a.path.now ≡ Some request → IsBodyRefusal request a.body.now e → IsRefused a.method a.path.now a.body.now e
+  refused_for request e is refused = subst (λ (o : Option Request). MatchOption o (e ≡ NoRoute) (λ r. IsBodyRefusal r a.body.now e)) (sym is) refused
+
+  one_for_body : (number : ℕ) (request : Request) (v w : Verdict) → request_of a.method a.path.now ≡ Some request → IsForBody s a m k number request v → IsForBody s a m k number request w → v ≡ w
+  one_for_body number request v w is (inl x) (inl y) =
+      x.2 ∙ ap (asked_for s a m k number) (same_ask (one_ask a.method a.path.now a.body.now (Step x.0) (Step y.0) (asks_for request (Step x.0) is x.1) (asks_for request (Step y.0) is y.1))) ∙ sym y.2
+  one_for_body number request v w is (inr x) (inr y) =
+      x.2 ∙ ap (λ (f : BodyFault). denied (BadBody f)) (one_fault a.method a.path.now a.body.now x.0 y.0 (refused_for request (BadBody x.0) is x.1) (refused_for request (BadBody y.0) is y.1)) ∙ sym y.2
+  one_for_body number request v w is (inl x) (inr y) =
+      absurd (let no = or_refusal a.method a.path.now a.body.now (Step x.0) (BadBody y.0) (asks_for request (Step x.0) is x.1) (refused_for request (BadBody y.0) is y.1) in cc)
+  one_for_body number request v w is (inr x) (inl y) =
+      absurd (let no = or_refusal a.method a.path.now a.body.now (Step y.0) (BadBody x.0) (asks_for request (Step y.0) is y.1) (refused_for request (BadBody x.0) is x.1) in cc)
+
+  one_by_number : (request : Request) (r : Result ℕ Refusal) (v w : Verdict) → request_of a.method a.path.now ≡ Some request
+      → MatchResult r (λ number. IsForBody s a m k number request v) (λ refusal. v ≡ denied refusal)
+      → MatchResult r (λ number. IsForBody s a m k number request w) (λ refusal. w ≡ denied refusal) → v ≡ w
+  one_by_number request (Ok number) v w is x y = one_for_body number request v w is x y
+  one_by_number request (Err e) v w is x y = x ∙ sym y
+
+  one_for_request : (request : Request) (o : Option ℕ) (seen : ℕ → Verdict) (v w : Verdict) → request_of a.method a.path.now ≡ Some request
+      → MatchOption o (MatchResult (number_of a) (λ number. IsForBody s a m k number request v) (λ refusal. v ≡ denied refusal)) (λ job. v ≡ seen job)
+      → MatchOption o (MatchResult (number_of a) (λ number. IsForBody s a m k number request w) (λ refusal. w ≡ denied refusal)) (λ job. w ≡ seen job) → v ≡ w
+  one_for_request request None seen v w is x y = one_by_number request (number_of a) v w is x y
+  one_for_request request (Some job) seen v w is x y = x ∙ sym y
+
+  one_of : (o : Option Request) (v w : Verdict) → request_of a.method a.path.now ≡ o → MatchOption o (v ≡ denied NoRoute) (IsForRequest s a m k v) → MatchOption o (w ≡ denied NoRoute) (IsForRequest s a m k w) → v ≡ w
+  one_of None v w is x y = x ∙ sym y
+  one_of (Some request) v w is x y = one_for_request request (seen_by request) _ v w is x y
+
+pub one_verdict : OneAsk → AskOrRefusal → OneFault → OneVerdict
+one_verdict one_ask or_refusal one_fault s a m k v w x y = one_of one_ask or_refusal one_fault s a m k (request_of a.method a.path.now) v w refl x y

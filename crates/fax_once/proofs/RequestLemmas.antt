@@ -1,0 +1,128 @@
+-- What is answered by the request that method and path name.
+use Rattle.std.proofs.Common.{◌≡◌, inl, ℕ, List, Option, Some, None, Ok, Err, refl, sym, ap, subst}
+use Rattle.std.specs.Prelude.{Result, IfOk, MatchOption, MatchResult}
+use Rattle.sqlite.specs.State.{State}
+use Rattle.fax_job.specs.declared.refusal.Refusal.{Refusal}
+use Rattle.fax_job.specs.declared.refusal.Refusal.TheVariants.{NoRoute}
+use Rattle.fax_ask.specs.declared.request.Request.{Request}
+use Rattle.fax_ask.specs.declared.request.Request.TheVariants.{Submit, Suspend, Resume, Kill, Alter, Show, Ready, Down, Next, Call, Page, Outcome}
+use Rattle.fax_ask.specs.Ask.{Asked, Asks, IsAsk, Step, View}
+use Rattle.fax_ask.specs.Request.{request_of}
+use Rattle.fax_ask.specs.Response.{Response, refused_response}
+use Rattle.fax_core.specs.Ask as machine
+use Rattle.fax_core.specs.Clock.{decided_at}
+use Rattle.fax_core.specs.Queue.{Queue, Entry}
+use Rattle.fax_core.specs.Reply.{NoKeys}
+use Rattle.fax_core.specs.Settings.{Settings}
+use Rattle.fax_store.specs.Store.{IsAtRest}
+use Rattle.fax_once.specs.Arrival.{IsSender, number_of}
+use Rattle.fax_once.specs.Ask.{shown_in}
+use Rattle.fax_once.specs.Verdict.{Verdict, Told, denied, asked_for, seen_by, IsForBody, IsForRequest, IsVerdict, LeavesBy, Answers}
+use Rattle.fax_once.specs.View.{view}
+use Rattle.fax_once.specs.declared.arrival.Arrival.{Arrival}
+use Rattle.fax_once.specs.declared.sender.Sender.{Sender}
+
+-- ---- which requests ask for a view
+
+seen : (r : Request) (body : List ℕ) (job : ℕ) → Asks r body (View job) → seen_by r ≡ Some job
+seen Submit body job is = absurd (let e = is.2 in cc)
+seen (Suspend n) body job is = absurd cc
+seen (Resume n) body job is = absurd cc
+seen (Kill n) body job is = absurd cc
+seen (Alter n) body job is = absurd (let e = is.2 in cc)
+seen (Show n) body job is = cc
+seen (Ready n) body job is = absurd cc
+seen (Down n) body job is = absurd cc
+seen (Next n) body job is = absurd cc
+seen (Call n) body job is = absurd (let e = is.2 in cc)
+seen (Page n) body job is = absurd (let e = is.2 in cc)
+seen (Outcome n) body job is = absurd (let e = is.2 in cc)
+
+unseen : (r : Request) (body : List ℕ) (ask : machine.Ask) → Asks r body (Step ask) → seen_by r ≡ None
+unseen Submit body ask is = refl
+unseen (Suspend n) body ask is = refl
+unseen (Resume n) body ask is = refl
+unseen (Kill n) body ask is = refl
+unseen (Alter n) body ask is = refl
+unseen (Show n) body ask is = absurd cc
+unseen (Ready n) body ask is = refl
+unseen (Down n) body ask is = refl
+unseen (Next n) body ask is = refl
+unseen (Call n) body ask is = refl
+unseen (Page n) body ask is = refl
+unseen (Outcome n) body ask is = refl
+
+-- what is no view is asked of the queue
+pub step_in : (x : Asked) → shown_in x ≡ None → (ask : machine.Ask) × (x ≡ Step ask)
+step_in (Step ask) is = (ask, refl)
+step_in (View job) is = absurd cc
+
+view_in : (x : Asked) (job : ℕ) → shown_in x ≡ Some job → x ≡ View job
+view_in (Step ask) job is = absurd cc
+view_in (View n) job is = cc
+
+-- ---- verdicts
+
+for_view : (s : Settings) (a : Arrival) (m : Queue) (k : List Entry) (o : Option Request) (job : ℕ) → MatchOption o ⊥ (λ r. Asks r a.body.now (View job))
+    → MatchOption o (Told (view s m (decided_at m.clock a.moment) job) ≡ denied NoRoute) (IsForRequest s a m k (Told (view s m (decided_at m.clock a.moment) job)))
+for_view s a m k None job is = absurd is
+for_view s a m k (Some r) job is = by (seen_by r) (seen r a.body.now job is)
+  where
+    by : (o : Option ℕ) → o ≡ Some job → MatchOption o (MatchResult (number_of a) (λ number. IsForBody s a m k number r (Told (view s m (decided_at m.clock a.moment) job))) (λ refusal. Told (view s m (decided_at m.clock a.moment) job) ≡ denied refusal)) (λ n. Told (view s m (decided_at m.clock a.moment) job) ≡ Told (view s m (decided_at m.clock a.moment) n))
+    by None e = absurd cc
+    by (Some n) e = let same : n ≡ job = cc in ap (λ (x : ℕ). Told (view s m (decided_at m.clock a.moment) x)) (sym same)
+
+-- a request that asks for no view, by its number
+posted : (s : Settings) (a : Arrival) (m : Queue) (k : List Entry) (v : Verdict) (r : Request) → seen_by r ≡ None
+    → MatchResult (number_of a) (λ number. IsForBody s a m k number r v) (λ refusal. v ≡ denied refusal) → IsForRequest s a m k v r
+posted s a m k v r is post = by (seen_by r) is
+  where
+    by : (o : Option ℕ) → o ≡ None → MatchOption o (MatchResult (number_of a) (λ number. IsForBody s a m k number r v) (λ refusal. v ≡ denied refusal)) (λ job. v ≡ Told (view s m (decided_at m.clock a.moment) job))
+    by None e = post
+    by (Some n) e = absurd cc
+
+by_number : (s : Settings) (a : Arrival) (m : Queue) (k : List Entry) (v : Verdict) (r : Request) (number : ℕ) → number_of a ≡ Ok number → IsForBody s a m k number r v
+    → MatchResult (number_of a) (λ n. IsForBody s a m k n r v) (λ refusal. v ≡ denied refusal)
+by_number s a m k v r number is post = subst (λ (x : Result ℕ Refusal). MatchResult x (λ n. IsForBody s a m k n r v) (λ refusal. v ≡ denied refusal)) (sym is) post
+
+by_refusal : (s : Settings) (a : Arrival) (m : Queue) (k : List Entry) (r : Request) (e : Refusal) → number_of a ≡ Err e
+    → MatchResult (number_of a) (λ n. IsForBody s a m k n r (denied e)) (λ refusal. denied e ≡ denied refusal)
+by_refusal s a m k r e is = subst (λ (x : Result ℕ Refusal). MatchResult x (λ n. IsForBody s a m k n r (denied e)) (λ refusal. denied e ≡ denied refusal)) (sym is) refl
+
+-- what is asked of the queue
+for_step : (s : Settings) (a : Arrival) (m : Queue) (k : List Entry) (o : Option Request) (number : ℕ) (ask : machine.Ask) → number_of a ≡ Ok number → MatchOption o ⊥ (λ r. Asks r a.body.now (Step ask))
+    → MatchOption o (asked_for s a m k number ask ≡ denied NoRoute) (IsForRequest s a m k (asked_for s a m k number ask))
+for_step s a m k None number ask of is = absurd is
+for_step s a m k (Some r) number ask of is =
+    posted s a m k (asked_for s a m k number ask) r (unseen r a.body.now ask is) (by_number s a m k (asked_for s a m k number ask) r number of (inl (ask, is, refl)))
+
+for_sender : (s : Settings) (a : Arrival) (m : Queue) (k : List Entry) (o : Option Request) (e : Refusal) (ask : machine.Ask) → number_of a ≡ Err e → MatchOption o ⊥ (λ r. Asks r a.body.now (Step ask))
+    → MatchOption o (denied e ≡ denied NoRoute) (IsForRequest s a m k (denied e))
+for_sender s a m k None e ask of is = absurd is
+for_sender s a m k (Some r) e ask of is = posted s a m k (denied e) r (unseen r a.body.now ask is) (by_refusal s a m k r e of)
+
+-- ---- answers
+
+pub view_answers : {E : Type 0} (result : Result Response E) (s : Settings) (a : Arrival) (m : Queue) (k : List Entry) (x : Asked) (job : ℕ) (store : State)
+    → IsAsk a.method a.path.now a.body.now x → shown_in x ≡ Some job → IfOk result (λ reply. reply ≡ view s m (decided_at m.clock a.moment) job) → IsAtRest store m k → Answers s a m k result store
+view_answers (Ok reply) s a m k x job store is shown replied rests =
+    (Told (view s m (decided_at m.clock a.moment) job), for_view s a m k (request_of a.method a.path.now) job (subst (λ (y : Asked). IsAsk a.method a.path.now a.body.now y) (view_in x job shown) is), (replied, rests))
+view_answers (Err e) s a m k x job store is shown replied rests = rests
+
+pub step_answers : {E : Type 0} (result : Result Response E) (s : Settings) (a : Arrival) (m : Queue) (k : List Entry) (sender : Sender) (x : Asked) (ask : machine.Ask) (store : State)
+    → IsAsk a.method a.path.now a.body.now x → x ≡ Step ask → IsSender a sender → LeavesBy m k result store (asked_for s a m k sender.number ask) → Answers s a m k result store
+step_answers (Ok reply) s a m k sender x ask store is asked from leaves =
+    (asked_for s a m k sender.number ask, for_step s a m k (request_of a.method a.path.now) sender.number ask from.number (subst (λ (y : Asked). IsAsk a.method a.path.now a.body.now y) asked is), leaves)
+step_answers (Err e) s a m k sender x ask store is asked from leaves = leaves
+
+pub sender_answers : {E : Type 0} (result : Result Response E) (s : Settings) (a : Arrival) (m : Queue) (k : List Entry) (x : Asked) (ask : machine.Ask) (e : Refusal) (store : State)
+    → IsAsk a.method a.path.now a.body.now x → x ≡ Step ask → number_of a ≡ Err e → IfOk result (λ reply. reply ≡ refused_response e NoKeys) → IsAtRest store m k → Answers s a m k result store
+sender_answers (Ok reply) s a m k x ask e store is asked of replied rests =
+    (denied e, for_sender s a m k (request_of a.method a.path.now) e ask of (subst (λ (y : Asked). IsAsk a.method a.path.now a.body.now y) asked is), (replied, rests))
+sender_answers (Err f) s a m k x ask e store is asked of replied rests = rests
+
+-- a reply that is told of an arrival leaves all as it is
+pub told_answers : {E : Type 0} (result : Result Response E) (s : Settings) (a : Arrival) (m : Queue) (k : List Entry) (store : State)
+    → IfOk result (λ reply. IsVerdict s a m k (Told reply)) → IsAtRest store m k → Answers s a m k result store
+told_answers (Ok reply) s a m k store is rests = (Told reply, is, (refl, rests))
+told_answers (Err e) s a m k store is rests = rests

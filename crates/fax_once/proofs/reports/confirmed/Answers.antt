@@ -1,0 +1,11 @@
+use Rattle.std.proofs.Common.{ap, ◌∙◌}
+use Rattle.fax_ask.specs.Answer.{Replied}
+use Rattle.fax_ask.specs.Response.{accepted_response}
+use Rattle.fax_core.specs.Reply.{Confirmed}
+use Rattle.fax_once.proofs.ReportLemmas.{page_taken}
+use Rattle.fax_once.proofs.reports.confirmed.Goals as goal
+
+pub returns : goal.returns
+returns c m before there same number =
+    page_taken m c.args.t c.args.change c.args.job c.in-Ok.job before c.args.grant c.stops.result _ there same number c.in-Ok.ensures c.stops.ensures
+    (c.in_ok-reply.ensures ∙ ap (λ f. accepted_response (Replied (Confirmed f.npages c.stops.result))) c.fields.ensures.fields)

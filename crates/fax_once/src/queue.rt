@@ -1,0 +1,343 @@
+//! The send queue: takes one arrival after the other, and answers each.
+//!
+//! An accepted request's effect and its kept reply are one transaction of the store, and the reply's
+//! bytes are made before its commit. A refused request changes nothing.
+
+ghost use Rattle.std.specs.Prelude.{◌≡◌, ◌∷◌, ◌++◌, [], ℕ, List, IfOk, OnOk, MatchResult};
+ghost use Rattle.sqlite.specs.Held.{state};
+ghost use Rattle.fax_ask.specs.Ask.{IsAsk, IsLawful, IsRefused, Step as Asked, asked};
+ghost use Rattle.fax_core.specs.Ask.{Ask as MachineAsk, IsLawfulAsk};
+ghost use Rattle.fax_ask.specs.Response.{refused_response};
+ghost use Rattle.fax_ask.specs.declared.method.Method.TheVariants.{Get};
+ghost use Rattle.fax_core.specs.Clock.{decided_at};
+ghost use Rattle.fax_core.specs.Machine.{step as step_of};
+ghost use Rattle.fax_core.specs.Queue.{Queue as QueueOf, Entry};
+ghost use Rattle.fax_core.specs.Reply.{NoKeys};
+ghost use Rattle.fax_core.specs.Settings.{Settings};
+ghost use Rattle.fax_core.specs.Sound.{Sound};
+ghost use Rattle.fax_job.specs.declared.refusal.BodyFault.{BodyFault};
+ghost use Rattle.fax_store.specs.Job.{with_expired};
+ghost use Rattle.fax_store.specs.Kept.{entry};
+ghost use Rattle.fax_store.specs.Meta.{meta_of};
+ghost use Rattle.fax_store.specs.Store.{Means, Serves, Stays};
+ghost use Rattle.fax_once.specs.Arrival.{IsSender, said_of};
+ghost use Rattle.fax_once.specs.Ask.{shown_in};
+ghost use Rattle.fax_once.specs.Decision.{Decides};
+ghost use Rattle.fax_once.specs.Effect.{Suits, accepted};
+ghost use Rattle.fax_once.specs.Settings.{settings_of};
+ghost use Rattle.fax_once.specs.Verdict.{Answers, Handles, IsDecided, IsVerdict, LeavesBy, Told, asked_for, is_used};
+ghost use Rattle.fax_once.specs.View.{view};
+ghost use Rattle.fax_once.specs.declared.arrival.Arrival.{Arrival as ArrivalOf};
+
+use crate::acceptance::accept;
+use crate::arrival::Arrival;
+use crate::choice::decide_next;
+use crate::decision::{Decision, plain};
+use crate::effect::Effect;
+use crate::fault::Unavailable;
+use crate::jobs::{JobAsk, decide_on_job};
+use crate::modems::decide_mark;
+use crate::office::Office;
+use crate::reports::{Report, decide_report};
+use crate::sender::Sender;
+use crate::submission::decide_submission;
+use crate::view::view_job;
+use fax_ask::{Ask, Detail, Reply, Routes};
+use fax_dest::{Controls, Setup};
+use fax_job::{Moment, Refusal};
+use fax_store::{Meta, Store, StoreFault};
+use sqlite::Alter;
+use std::alloc::{AllocError, Global};
+
+/// The send queue over a store, by an office's setup and destination controls.
+#[derive(Drop)]
+pub struct Queue<S: Alter> {
+    store: Store<S>,
+    office: Office,
+    routes: Routes,
+}
+
+impl<S: Alter + Drop> Queue<S> {
+    /// The queue that the store has, by this setup and these controls.
+    ///
+    /// # Errors
+    ///
+    /// Want of memory for the routes; then all three are dropped.
+    pub fn new(
+        alloc: Global,
+        store: Store<S>,
+        setup: Setup,
+        controls: Controls,
+    ) -> Result<Queue<S>, AllocError>
+        ensures store { IfOk result (λ queue. queue.store ≡ store) }
+        ensures office { IfOk result (λ queue. queue.office ≡ record { setup = setup; controls = controls }) }
+    {
+        let routes = Routes::new(alloc)?;
+        Ok(Queue {
+            store,
+            office: Office { setup, controls },
+            routes,
+        })
+    }
+}
+
+impl<S: Alter> Queue<S> {
+    /// Answers the request, after its effect where it is accepted.
+    pub fn handle(&mut self, alloc: Global, arrival: &Arrival<'_>) -> Reply
+        ensures office { self.new.office ≡ self.old.office }
+        ensures handled { (m : QueueOf) (k : List Entry) → Sound m
+            → Means (state S.Store self.old.store.conn) m k
+            → Serves (state S.Store self.new.store.conn)
+            → Handles (settings_of self.old.office.setup self.old.office.controls) arrival.now m k result
+            (state S.Store self.new.store.conn) }
+    {
+        match self.answer(alloc, arrival) {
+            Ok(reply) => reply,
+            Err(Unavailable) => Reply::refused(Refusal::Unavailable),
+        }
+    }
+
+    /// Answers `GET` of that path at that moment, as [`Queue::handle`] does. Nothing changes.
+    pub fn view(&mut self, alloc: Global, path: &str, moment: Moment) -> Reply
+        ensures office { self.new.office ≡ self.old.office }
+        ensures viewed { (m : QueueOf) (k : List Entry) → Sound m
+            → Means (state S.Store self.old.store.conn) m k
+            → Serves (state S.Store self.new.store.conn)
+            → (a : ArrivalOf) × (a.method ≡ Get) × (a.path.now ≡ path.now) × (a.moment ≡ moment)
+            × Handles (settings_of self.old.office.setup self.old.office.controls) a m k result
+            (state S.Store self.new.store.conn) }
+    {
+        let arrival = Arrival::get(path, moment);
+        self.handle(alloc, &arrival)
+    }
+
+    fn answer(&mut self, alloc: Global, arrival: &Arrival<'_>) -> Result<Reply, Unavailable>
+        ensures office { self.new.office ≡ self.old.office }
+        ensures answered { (m : QueueOf) (k : List Entry) → Sound m
+            → Means (state S.Store self.old.store.conn) m k
+            → Serves (state S.Store self.new.store.conn)
+            → Answers (settings_of self.old.office.setup self.old.office.controls) arrival.now m k result
+            (state S.Store self.new.store.conn) }
+    {
+        let asked = self
+            .routes
+            .read_ask(alloc, arrival.method, arrival.path, arrival.body);
+        match asked {
+            Ok(ask) => self.answer_ask(alloc, arrival, ask),
+            Err(refusal) => refuse_ask(alloc, arrival, refusal),
+        }
+    }
+
+    fn answer_ask(
+        &mut self,
+        alloc: Global,
+        arrival: &Arrival<'_>,
+        ask: Ask,
+    ) -> Result<Reply, Unavailable>
+        ensures office { self.new.office ≡ self.old.office }
+        ensures answered { (m : QueueOf) (k : List Entry) → Sound m
+            → Means (state S.Store self.old.store.conn) m k
+            → Serves (state S.Store self.new.store.conn)
+            → IsAsk arrival.now.method arrival.now.path.now arrival.now.body.now (asked ask)
+            → IsLawful (asked ask)
+            → Answers (settings_of self.old.office.setup self.old.office.controls) arrival.now m k result
+            (state S.Store self.new.store.conn) }
+    {
+        match shown_job(&ask) {
+            Some(job) => self.show(alloc, job, arrival.moment),
+            None => match Sender::of(arrival) {
+                Ok(sender) => self.step(alloc, arrival, &sender, ask),
+                Err(refusal) => plain(refusal),
+            },
+        }
+    }
+
+    /// Shows a job at the later of that moment and the clock. Nothing changes.
+    fn show(&mut self, alloc: Global, job: u64, moment: Moment) -> Result<Reply, Unavailable>
+        ensures office { self.new.office ≡ self.old.office }
+        ensures served { Serves (state S.Store self.new.store.conn)
+            → Serves (state S.Store self.old.store.conn) }
+        ensures stays { Stays (state S.Store self.old.store.conn) (state S.Store self.new.store.conn) }
+        ensures viewed { (m : QueueOf) (k : List Entry) → Means (state S.Store self.old.store.conn) m k
+            → Serves (state S.Store self.new.store.conn) → IfOk result (λ reply. reply
+            ≡ view (settings_of self.old.office.setup self.old.office.controls) m (decided_at m.clock moment) job) }
+    {
+        let meta = self.store.meta()?;
+        let t = moment_at(&meta, moment);
+        view_job(&mut self.store, &self.office, alloc, job, t)
+    }
+
+    /// Decides a request at the later of its moment and the clock, and accepts it where it is taken.
+    fn step(
+        &mut self,
+        alloc: Global,
+        arrival: &Arrival<'_>,
+        sender: &Sender<'_>,
+        ask: Ask,
+    ) -> Result<Reply, Unavailable>
+        ensures office { self.new.office ≡ self.old.office }
+        ensures stepped { (m : QueueOf) (k : List Entry) (want : MachineAsk) → Sound m
+            → Means (state S.Store self.old.store.conn) m k → Serves (state S.Store self.new.store.conn)
+            → IsSender arrival.now sender.now → asked ask ≡ Asked want → IsLawful (asked ask)
+            → LeavesBy m k result (state S.Store self.new.store.conn)
+            (asked_for (settings_of self.old.office.setup self.old.office.controls) arrival.now m k
+            sender.now.number want) }
+    {
+        let used = is_used(&mut self.store, sender)?;
+        if used {
+            return Ok(Reply::refused(Refusal::NumberReused));
+        }
+        let meta = self.store.meta()?;
+        let t = moment_at(&meta, arrival.moment);
+        let decision = decide(&mut self.store, &self.office, alloc, ask, &meta, t)?;
+        self.settle(alloc, arrival, sender, t, decision)
+    }
+
+    /// Accepts a request that is taken, and answers one that is refused, which changes nothing.
+    fn settle(
+        &mut self,
+        alloc: Global,
+        arrival: &Arrival<'_>,
+        sender: &Sender<'_>,
+        t: Moment,
+        decision: Decision,
+    ) -> Result<Reply, Unavailable>
+        ensures office { self.new.office ≡ self.old.office }
+        ensures settled { (s : Settings) (m : QueueOf) (k : List Entry) (want : MachineAsk) → Sound m
+            → Means (state S.Store self.old.store.conn) m k → Serves (state S.Store self.new.store.conn)
+            → IsSender arrival.now sender.now → IsLawfulAsk want
+            → (Serves (state S.Store self.old.store.conn)
+            → IsDecided s arrival.now m k sender.now t want decision)
+            → LeavesBy m k result (state S.Store self.new.store.conn)
+            (asked_for s arrival.now m k sender.now.number want) }
+    {
+        match decision {
+            Decision::Taken { effect, reply } => {
+                self.accept(alloc, arrival, sender, t, &effect, reply)
+            }
+            Decision::Refused(reply) => Ok(reply),
+        }
+    }
+
+    /// Accepts a request that is taken: its effect and its reply are stored together.
+    fn accept(
+        &mut self,
+        alloc: Global,
+        arrival: &Arrival<'_>,
+        sender: &Sender<'_>,
+        t: Moment,
+        effect: &Effect,
+        reply: Reply,
+    ) -> Result<Reply, Unavailable>
+        ensures office { self.new.office ≡ self.old.office }
+        ensures served { OnOk result (Serves (state S.Store self.new.store.conn)
+            → Serves (state S.Store self.old.store.conn)) }
+        ensures accepted { (m : QueueOf) (k : List Entry) → Means (state S.Store self.old.store.conn) m k
+            → (Serves (state S.Store self.old.store.conn) → Suits effect.now (with_expired t m))
+            → MatchResult result
+            (λ told. (told ≡ reply) × Means (state S.Store self.new.store.conn) (accepted t effect.now m)
+            (k ++ entry sender.now.client.now sender.now.number (said_of arrival.now) reply.status reply.body ∷ []))
+            (λ _. Means (state S.Store self.new.store.conn) m k) }
+    {
+        let said = arrival.said(alloc)?;
+        accept(&mut self.store, t, effect, sender, &said, &reply)?;
+        Ok(reply)
+    }
+}
+
+/// Whether the sender's number was accepted before.
+fn is_used<S: Alter>(store: &mut Store<S>, sender: &Sender<'_>) -> Result<bool, StoreFault>
+    ensures served { Serves (state S.Store store.new.conn) → Serves (state S.Store store.old.conn) }
+    ensures stays { Stays (state S.Store store.old.conn) (state S.Store store.new.conn) }
+    ensures found { (m : QueueOf) (k : List Entry) → Means (state S.Store store.old.conn) m k
+        → Serves (state S.Store store.new.conn)
+        → IfOk result (λ used. used ≡ is_used sender.now.client.now sender.now.number k) }
+{
+    let kept = store.kept(sender.client, sender.number)?;
+    Ok(kept.is_some())
+}
+
+/// The moment at which a request is decided: its own, or the clock's where that is later.
+fn moment_at(meta: &Meta, moment: Moment) -> Moment
+    ensures { result ≡ decided_at meta.now.clock moment }
+{
+    meta.clock.later(moment)
+}
+
+/// The job that is to be shown, if one is.
+fn shown_job(ask: &Ask) -> Option<u64>
+    ensures { result ≡ shown_in (asked ask.now) }
+{
+    match ask {
+        Ask::Show { job } => Some(*job),
+        _ => None,
+    }
+}
+
+/// The reply to an arrival that asks for nothing: the client and the number are looked at before the
+/// body.
+fn refuse_ask(alloc: Global, arrival: &Arrival<'_>, refusal: Refusal) -> Result<Reply, Unavailable>
+    ensures { (s : Settings) (m : QueueOf) (k : List Entry)
+        → IsRefused arrival.now.method arrival.now.path.now arrival.now.body.now refusal
+        → IfOk result (λ reply. IsVerdict s arrival.now m k (Told reply)) }
+{
+    if refusal == Refusal::NoRoute {
+        return Ok(Reply::refused(Refusal::NoRoute));
+    }
+    match Sender::of(arrival) {
+        Ok(_) => refuse_body(alloc, refusal),
+        Err(refusal) => plain(refusal),
+    }
+}
+
+/// The reply to a body at fault, with the kind of the fault and its line.
+fn refuse_body(alloc: Global, refusal: Refusal) -> Result<Reply, Unavailable>
+    ensures { IfOk result (λ reply. (fault : BodyFault) × (refusal ≡ Refusal.BadBody fault)
+        × (reply ≡ refused_response (Refusal.BadBody fault) NoKeys)) }
+{
+    match refusal {
+        Refusal::BadBody(fault) => Ok(Reply::refused_with(alloc, &Detail::Body(fault))?),
+        _ => Err(Unavailable),
+    }
+}
+
+/// What is decided of a request at `t`, by the rows that it is about.
+fn decide<S: Alter>(
+    store: &mut Store<S>,
+    office: &Office,
+    alloc: Global,
+    ask: Ask,
+    meta: &Meta,
+    t: Moment,
+) -> Result<Decision, Unavailable>
+    ensures served { Serves (state S.Store store.new.conn) → Serves (state S.Store store.old.conn) }
+    ensures stays { Stays (state S.Store store.old.conn) (state S.Store store.new.conn) }
+    ensures decided { (m : QueueOf) (k : List Entry) (want : MachineAsk) → Sound m
+        → Means (state S.Store store.old.conn) m k → Serves (state S.Store store.new.conn)
+        → meta.now ≡ meta_of m → asked ask ≡ Asked want
+        → IfOk result (Decides (step_of (settings_of office.now.setup office.now.controls) m t want) m t) }
+{
+    match ask {
+        Ask::Submission(order) => decide_submission(office, alloc, order, meta.next_job, t),
+        Ask::Suspend { job } => decide_on_job(store, office, alloc, job, JobAsk::Suspend, t),
+        Ask::Resume { job } => decide_on_job(store, office, alloc, job, JobAsk::Resume, t),
+        Ask::Kill { job } => decide_on_job(store, office, alloc, job, JobAsk::Kill, t),
+        Ask::Alteration { job, alter } => {
+            decide_on_job(store, office, alloc, job, JobAsk::Alter(alter), t)
+        }
+        Ask::Ready { modem } => decide_mark(office, alloc, modem, false),
+        Ask::Down { modem } => decide_mark(office, alloc, modem, true),
+        Ask::Next { modem } => decide_next(store, office, alloc, modem, meta.next_grant, t),
+        Ask::CallReport { grant, call } => {
+            decide_report(store, office, alloc, grant, Report::Call(call), t)
+        }
+        Ask::PageReport { grant, page } => {
+            decide_report(store, office, alloc, grant, Report::Page(page), t)
+        }
+        Ask::OutcomeReport { grant, outcome } => {
+            decide_report(store, office, alloc, grant, Report::Outcome(outcome), t)
+        }
+        // A view is decided by nothing.
+        Ask::Show { job: _ } => Err(Unavailable),
+    }
+}

@@ -1,0 +1,57 @@
+//! Jobs and grants by the numbers that requests name.
+
+ghost use Rattle.std.specs.Prelude.{◌≡◌, List, IfOk};
+ghost use Rattle.std.specs.Option.{option_map};
+ghost use Rattle.sqlite.specs.Held.{state};
+ghost use Rattle.fax_core.specs.Ageing.{aged};
+ghost use Rattle.fax_core.specs.Job.{job_of};
+ghost use Rattle.fax_core.specs.Queue.{Queue, Entry, job_numbered, grant_numbered};
+ghost use Rattle.fax_store.specs.Store.{Means, Serves, Stays};
+
+use fax_core::{Grant, aged_job};
+use fax_job::{Job, Moment};
+use fax_store::{Store, StoreFault};
+use sqlite::Alter;
+
+/// The greatest number of a job.
+const LAST_JOB: u64 = 999_999;
+
+/// The greatest number of a grant.
+const LAST_GRANT: u64 = 999_999_999;
+
+/// The job of that number, as it is at `t`, if there is one.
+pub(crate) fn job_at<S: Alter>(
+    store: &mut Store<S>,
+    number: u64,
+    t: Moment,
+) -> Result<Option<Job>, StoreFault>
+    ensures served { Serves (state S.Store store.new.conn) → Serves (state S.Store store.old.conn) }
+    ensures stays { Stays (state S.Store store.old.conn) (state S.Store store.new.conn) }
+    ensures found { (m : Queue) (k : List Entry) → Means (state S.Store store.old.conn) m k
+        → Serves (state S.Store store.new.conn)
+        → IfOk result (λ found. option_map (λ f. job_of f) found ≡ job_numbered number (aged t m)) }
+{
+    if number > LAST_JOB {
+        return Ok(None);
+    }
+    match store.job(number as u32)? {
+        Some(job) => Ok(Some(aged_job(job, t))),
+        None => Ok(None),
+    }
+}
+
+/// The grant of that number, if there is one.
+pub(crate) fn grant_at<S: Alter>(
+    store: &mut Store<S>,
+    number: u64,
+) -> Result<Option<Grant>, StoreFault>
+    ensures served { Serves (state S.Store store.new.conn) → Serves (state S.Store store.old.conn) }
+    ensures stays { Stays (state S.Store store.old.conn) (state S.Store store.new.conn) }
+    ensures found { (m : Queue) (k : List Entry) → Means (state S.Store store.old.conn) m k
+        → Serves (state S.Store store.new.conn) → IfOk result (λ found. found ≡ grant_numbered number m) }
+{
+    if number > LAST_GRANT {
+        return Ok(None);
+    }
+    store.grant(number as u32)
+}
