@@ -1,12 +1,6 @@
-pub mod CheckLemmas
-pub mod ClientLemmas
 pub mod ConversationLemmas
 pub mod FieldLemmas
 pub mod InputLemmas
 pub mod MessageLemmas
 pub mod OutputLemmas
 pub mod Progress
-pub mod ResponseLemmas
-pub mod QueueLemmas
-pub mod SubmissionLemmas
-pub mod ViewLemmas

@@ -12,7 +12,7 @@ use Rattle.faxqd.specs.declared.message.Message.{Message}
 use Rattle.faxqd.specs.Conversation.{Turn, Reads, Answers, Converses, Fails, IsCut, RefusesRest, counted, failure_of, spelled, spelled_turns, wants_body}
 use Rattle.faxqd.specs.Cut.{ArePartsOf, HoldsMessage}
 use Rattle.faxqd.specs.Message.{BeginsWith, IsBad, IsTooLarge}
-use Rattle.faxqd.specs.Response.{Response}
+use Rattle.fax_ask.specs.Response.{Response}
 use Rattle.faxqd.proofs.ConversationLemmas.{appends_none, counted-on, cut_behind}
 use Rattle.faxqd.proofs.OutputLemmas.{appends_both}
 

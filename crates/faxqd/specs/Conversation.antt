@@ -12,7 +12,8 @@ use Rattle.faxqd.specs.declared.message.Broken.{Broken}
 use Rattle.faxqd.specs.declared.message.Broken.TheVariants.{BadHttp, TooLarge}
 use Rattle.faxqd.specs.Message.{BeginsWith, IsBad, IsTooLarge}
 use Rattle.faxqd.specs.Reply.{head_bytes}
-use Rattle.faxqd.specs.Response.{Response, refusal_response}
+use Rattle.fax_ask.specs.Response.{Response, refused_response}
+use Rattle.fax_core.specs.Reply.{NoKeys}
 
 -- a message and its reply
 pub record Turn : Type 0 where
@@ -59,8 +60,8 @@ pub record IsCut (before after : Option (List ℕ)) (bytes : List ℕ) (sent tot
 
 -- the bytes of the last reply, to a rest that begins no message
 abbrev pub failure_of : Broken → List ℕ
-failure_of BadHttp = spelled (refusal_response refusal.BadHttp) true true
-failure_of TooLarge = spelled (refusal_response refusal.TooLarge) true true
+failure_of BadHttp = spelled (refused_response refusal.BadHttp NoKeys) true true
+failure_of TooLarge = spelled (refused_response refusal.TooLarge NoKeys) true true
 
 -- why the rest begins no message
 abbrev pub Fails : List ℕ → Broken → Type 0

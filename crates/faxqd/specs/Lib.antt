@@ -1,13 +1,7 @@
-pub mod Arrival
-pub mod Checks
 pub mod Conversation
 pub mod Cut
+pub mod Desk
 pub mod Field
 pub mod Message
 pub mod Reply
-pub mod ReplyBody
-pub mod Response
 pub mod Serve
-pub mod Submission
-pub mod Sender
-pub mod View

@@ -6,7 +6,7 @@ use Rattle.faxqd.specs.declared.conversation.End.{End}
 use Rattle.faxqd.specs.declared.conversation.End.TheVariants.{Closed, Bad, Bound, ReadFailed, WriteFailed, NoMemory}
 use Rattle.faxqd.specs.declared.conversation.Served.{Served}
 use Rattle.faxqd.specs.Conversation.{Converses}
-use Rattle.faxqd.specs.Response.{Response}
+use Rattle.fax_ask.specs.Response.{Response}
 
 -- the reader had these bytes to its end, and they are within the limit
 pub record ReadsWhole (before after : Option (List ℕ)) (input : List ℕ) : Type 0 where

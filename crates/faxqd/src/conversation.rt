@@ -3,12 +3,12 @@
 ghost use Rattle.std.specs.Prelude.{◌≡◌, ℕ, List, length, IfOk, IfErr, ◌+◌};
 ghost use Rattle.std.specs.Io.KnownBytes.{Appends};
 ghost use Rattle.httparse.specs.Grammar.{RequestHead};
-ghost use Rattle.faxqd.specs.Response.{Response};
+ghost use Rattle.fax_ask.specs.Response.{Response};
 
 use crate::head::reply_head;
 use crate::message::{Broken, Message, split_message};
 use crate::output::write_fully;
-use crate::reply::Reply;
+use fax_ask::Reply;
 use fax_job::Refusal;
 use std::io::Write;
 
@@ -121,15 +121,15 @@ pub fn converse<W: Write, H: Handler>(
 fn refuse_rest<W: Write>(writer: &mut W, broken: Broken, sent: u128) -> End
     ensures { RefusesRest broken sent (W.contents writer.old) (W.contents writer.new) result }
 {
-    let refusal = match broken {
-        Broken::BadHttp => Refusal::BadHttp,
-        Broken::TooLarge => Refusal::TooLarge,
+    let reply = match broken {
+        Broken::BadHttp => Reply::refused(Refusal::BadHttp),
+        Broken::TooLarge => Reply::refused(Refusal::TooLarge),
     };
     let form = Form {
         has_body: true,
         is_last: true,
     };
-    match write_reply(writer, &Reply::refused(refusal), form, sent) {
+    match write_reply(writer, &reply, form, sent) {
         Ok(_) => End::Bad,
         Err(WriteFailed { sent }) => End::WriteFailed { sent },
     }

@@ -1,11 +1,17 @@
 //! The queue as what answers messages: each message becomes an arrival at the moment that the clock
 //! gives for it.
-use crate::arrival::{Arrival, Method};
+
+ghost use Rattle.std.specs.Prelude.{ℕ, List};
+ghost use Rattle.httparse.specs.Grammar.{RequestHead};
+ghost use Rattle.faxqd.specs.Cut.{ArePartsOf};
+ghost use Rattle.faxqd.specs.Desk.{IsArrival};
+
 use crate::clock::Clock;
 use crate::conversation::Handler;
 use crate::message::Message;
-use crate::queue::Queue;
-use crate::reply::Reply;
+use fax_ask::{Method, Reply};
+use fax_job::Moment;
+use fax_once::{Arrival, Queue};
 use sqlite::Alter;
 use std::alloc::Global;
 
@@ -28,20 +34,34 @@ impl<C: Clock + Drop, S: Alter> Desk<C, S> {
 }
 
 impl<C: Clock + Drop, S: Alter> Handler for Desk<C, S> {
-    ghost use Rattle.faxqd.specs.Checks.{IsCheckedReply, head_refusal};
+    ghost use Rattle.std.specs.Prelude.{◌≡◌};
+    ghost use Rattle.sqlite.specs.Held.{state};
+    ghost use Rattle.fax_once.specs.Settings.{settings_of};
+    ghost use Rattle.faxqd.specs.Desk.{IsHandled};
 
-    // A request that its own head refuses gets that refusal.
-    ghost answers = { λ _ head _ reply _. IsCheckedReply (head_refusal head) reply };
+    // The queue handles the message's arrival, by the same setup and controls as ever.
+    ghost answers = { λ old head body reply new.
+        (new.queue.office ≡ old.queue.office)
+        × IsHandled (settings_of old.queue.office.setup old.queue.office.controls)
+        (state S.Store old.queue.store.conn) head body reply (state S.Store new.queue.store.conn) };
 
     fn answer(&mut self, message: &Message<'_>) -> Reply {
-        let arrival = Arrival {
-            client: message.client,
-            number: message.number,
-            moment: self.clock.moment(message.moment),
-            method: Method::of(message.method),
-            path: message.target,
-            body: message.body,
-        };
+        let moment = self.clock.moment(message.moment);
+        let arrival = arrival_of(message, moment);
         self.queue.handle(self.alloc, &arrival)
+    }
+}
+
+/// The arrival of a message at that moment.
+fn arrival_of<'b>(message: &Message<'b>, moment: Moment) -> Arrival<'b>
+    ensures { (head : RequestHead) (body : List ℕ) → ArePartsOf message.now head body → IsArrival head body result }
+{
+    Arrival {
+        client: message.client,
+        number: message.number,
+        moment,
+        method: Method::of(message.method),
+        path: message.target,
+        body: message.body,
     }
 }

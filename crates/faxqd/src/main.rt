@@ -1,7 +1,6 @@
 //! faxqd: the send queue of a fax server.
 #![tactic(auto)]
 
-mod arrival;
 mod clock;
 mod command;
 mod conversation;
@@ -11,9 +10,7 @@ mod input;
 mod message;
 mod office;
 mod output;
-mod queue;
 mod replay;
-mod reply;
 mod serve;
 mod status;
 #[cfg(test)]

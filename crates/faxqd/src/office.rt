@@ -1,6 +1,7 @@
 //! The setup and the destination controls that a command runs with.
 use crate::status::{Status, fail};
 use fax_dest::{Controls, FileFault, FileKind, Setup};
+use fax_once::Office;
 use std::fs;
 use std::io::{ErrorKind, Write};
 
@@ -9,13 +10,6 @@ use std::io::{ErrorKind, Write};
 pub struct OfficeFiles<'a> {
     pub setup: Option<&'a str>,
     pub controls: Option<&'a str>,
-}
-
-/// What the files say.
-#[derive(Drop)]
-pub struct Office {
-    pub setup: Setup,
-    pub controls: Controls,
 }
 
 /// Why there is no office.
@@ -30,7 +24,7 @@ pub enum OfficeFault<'a> {
     NoMemory,
 }
 
-/// Reads the setup, then the controls.
+/// What the files say: the setup is read first, then the controls.
 ///
 /// # Errors
 ///

@@ -3,17 +3,19 @@ use crate::clock::SaidClock;
 use crate::conversation::{Bounds, End, Served};
 use crate::desk::Desk;
 use crate::office::{OfficeFiles, read_office, report};
-use crate::queue::Queue;
 use crate::serve::serve;
 use crate::status::{Status, fail};
-use fax_store::Store;
+use fax_once::{Office, Queue};
+use fax_store::{Store, StoreFault};
+use sqlite::MemStore;
+use std::alloc::Global;
 use std::io::{Read, Write};
 
 /// The most messages of one input.
 const MESSAGE_LIMIT: u32 = 1_000;
 
 /// Reads the files, then messages from `reader`, writes their replies to `out`, and a fault as one line
-/// to `err`. What the files say decides nothing yet.
+/// to `err`.
 pub fn replay<R: Read, W: Write, E: Write>(
     rt: &HostRuntime,
     files: OfficeFiles<'_>,
@@ -22,13 +24,14 @@ pub fn replay<R: Read, W: Write, E: Write>(
     err: &mut E,
 ) -> Status {
     let alloc = rt.alloc();
-    if let Err(fault) = read_office(rt, files) {
-        return report(err, fault);
-    }
-    let Ok(store) = Store::new_in_memory(alloc) else {
+    let office = match read_office(rt, files) {
+        Ok(office) => office,
+        Err(fault) => return report(err, fault),
+    };
+    let Ok(queue) = empty_queue(alloc, office) else {
         return fail(err, "faxqd: no memory\n");
     };
-    let mut desk = Desk::new(alloc, SaidClock::new(), Queue::new(store));
+    let mut desk = Desk::new(alloc, SaidClock::new(), queue);
     let bounds = Bounds {
         messages: MESSAGE_LIMIT,
     };
@@ -41,4 +44,10 @@ pub fn replay<R: Read, W: Write, E: Write>(
         End::WriteFailed { .. } => fail(err, "faxqd: ended write-failed\n"),
         End::NoMemory => fail(err, "faxqd: no memory\n"),
     }
+}
+
+/// A queue over empty tables in memory.
+fn empty_queue(alloc: Global, office: Office) -> Result<Queue<MemStore>, StoreFault> {
+    let store = Store::new_in_memory(alloc)?;
+    Ok(Queue::new(alloc, store, office.setup, office.controls)?)
 }
