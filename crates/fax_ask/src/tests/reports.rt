@@ -175,3 +175,16 @@ fn bodies_that_report_nothing(rt: HostRuntime) -> Result<(), Fail> {
     assert_eq!(rt; got, Some(Refusal::BadBody(BodyFault::BadJson)));
     Ok(())
 }
+
+#[test]
+fn a_report_nested_too_deep_is_no_json(rt: HostRuntime) -> Result<(), Fail> {
+    let alloc = rt.alloc();
+    let routes = Routes::new(alloc)?;
+    let mut body = vec![in alloc; b'['; 200]?;
+    body.extend_from_slice(vec![in alloc; b']'; 200]?.as_slice())?;
+    let got = routes
+        .read_ask(alloc, Method::Post, "/grants/1/call", body.as_slice())
+        .err();
+    assert_eq!(rt; got, Some(Refusal::BadBody(BodyFault::BadJson)));
+    Ok(())
+}
