@@ -28,9 +28,6 @@ use Rattle.fax_once.proofs.CallLemmas.{state_aged}
 abbrev expired : Job → Job
 expired j = record j { phase = Failed; status = kill_time_expired }
 
-may_go_kept : (s : Settings) (m : Queue) (t : ℕ) (modem : List ℕ) (j : Job) → may_go s (aged t m) t modem j ≡ may_go s m t modem j
-may_go_kept s m t modem j = ap (λ (n : ℕ). eqb n 5 && s.admits j.modem modem) (state_aged s m t j)
-
 -- ---- lists
 
 in_all : {X : Type 0} (P : X → Type 0) (xs : List X) (x : X) → All P xs → In x xs → P x

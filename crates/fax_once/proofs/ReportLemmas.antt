@@ -12,7 +12,6 @@ use Rattle.fax_core.specs.Ageing.{aged}
 use Rattle.fax_core.specs.Change.{changed}
 use Rattle.fax_core.specs.declared.change.Change.{Change}
 use Rattle.fax_core.specs.declared.grants.Grant.{Grant}
-use Rattle.fax_core.specs.declared.report.Outcome.{Outcome as Said}
 use Rattle.fax_core.specs.Decisions.{JobAndGrant, call, page, outcome, stops}
 use Rattle.fax_core.specs.Job.{Job, job_of}
 use Rattle.fax_core.specs.Machine.{with_job, with_grant, with_both, reported, on_grant, on_both, without_job, call_reply, page_reply, outcome_reply}
@@ -23,7 +22,6 @@ use Rattle.fax_core.specs.Settings.{Settings}
 use Rattle.fax_core.specs.Sound.{Sound}
 use Rattle.fax_core.specs.State.{calls_to, state}
 use Rattle.fax_core.specs.Submission.{recorded}
-use Rattle.fax_core.proofs.DecisionLemmas.{outcome_is}
 use Rattle.fax_core.proofs.FitsLemmas.{record_again}
 use Rattle.fax_core.proofs.KeepLemmas.{numbered_job, numbered_grant}
 use Rattle.fax_store.specs.Grant.{IsReport, IsSameGrant, with_closed, with_shut}
@@ -118,10 +116,6 @@ pub outcome_taken : (s : Settings) (m : Queue) (t : ℕ) (c : Change) (f g : Job
     → IsTaken (reported (aged t m) (outcome_reply s t) (job_of f) (Ok (record { job = changed c (job_of f); grant = record grant { is_open = false } }))) m t (Closed g grant.number) reply
 outcome_taken s m t c f g grant calls st reply sound there open' one calls_is st_is replied =
     ended_taken s m t c f g grant calls st reply sound there open' (recorded_is (job_of g) (changed c (job_of f)) one) calls_is st_is replied
-
--- an outcome that is taken is of an open grant
-pub outcome_open : (o : Said) (j : Job) (g : Grant) (delay t : ℕ) (b : JobAndGrant) → Ok b ≡ outcome o j g delay t → g.is_open ≡ true
-outcome_open o j g delay t b is = (outcome_is o j g delay t b (sym is)).was_open
 
 -- ---- grants that are found
 
