@@ -18,3 +18,4 @@ pub mod RefusalLemmas
 pub mod ReportLemmas
 pub mod ChangeLemmas
 pub mod NewJobLemmas
+pub mod LawfulLemmas

@@ -20,10 +20,10 @@ use Rattle.fax_core.proofs.FitsLemmas.{job_again}
 
 -- ---- the values
 
-abbrev IsKilltime : Option ℕ → Type 0
+abbrev pub IsKilltime : Option ℕ → Type 0
 IsKilltime killtime = is_lawful_killtime killtime ≡ true
 
-abbrev IsWithin : ℕ → ℕ → Type 0
+abbrev pub IsWithin : ℕ → ℕ → Type 0
 IsWithin greatest number = (leb 1 number && leb number greatest) ≡ true
 
 zero_is_none : (seconds : ℕ) (none : Bool) → eqb seconds 0 ≡ none → IsKilltime (cond none None (Some seconds))
@@ -62,7 +62,7 @@ module _ (default : ℕ) (fault : OrderFault) (lawful : IsWithin 1000 default) w
   limit_of false None = tt
   limit_of false (Some n) = limit_within n (leb n 1000) refl
 
-killtime_is : (value : List ℕ) → IfOk (killtime_in value) IsKilltime
+pub killtime_is : (value : List ℕ) → IfOk (killtime_in value) IsKilltime
 unfolding killtime_in moment_in
 killtime_is value = killtime_of (eqb (length value) 0) (number_within value 4102444800)
 
@@ -70,11 +70,11 @@ totpages_is : (value : List ℕ) → IfOk (totpages_in value) (IsWithin 9999)
 unfolding totpages_in number_within
 totpages_is value = totpages_of (eqb (length value) 0) (number_of value)
 
-maxtries_is : (value : List ℕ) → IfOk (maxtries_in value) (IsWithin 1000)
+pub maxtries_is : (value : List ℕ) → IfOk (maxtries_in value) (IsWithin 1000)
 unfolding maxtries_in limit_in number_within
 maxtries_is value = limit_of 3 _ refl (eqb (length value) 0) (number_of value)
 
-maxdials_is : (value : List ℕ) → IfOk (maxdials_in value) (IsWithin 1000)
+pub maxdials_is : (value : List ℕ) → IfOk (maxdials_in value) (IsWithin 1000)
 unfolding maxdials_in limit_in number_within
 maxdials_is value = limit_of 12 _ refl (eqb (length value) 0) (number_of value)
 

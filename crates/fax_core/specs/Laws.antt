@@ -1,14 +1,21 @@
 -- The laws of the machine. They range over all settings, queues, moments and requests. The queue before a step is meant as it is aged at the step's moment.
-use Rattle.std.specs.Prelude.{◌≡◌, ◌≢◌, ◌⊎◌, ℕ, ◌+◌, ◌-◌, ◌<◌, ◌≤◌, Bool, true, List, [], ◌∷◌, ◌++◌, length, Option, Some, is_some, Decides}
+use Rattle.std.specs.Prelude.{◌≡◌, ◌≢◌, ◌⊎◌, ℕ, ◌+◌, ◌-◌, ◌<◌, ◌≤◌, Bool, true, List, [], ◌∷◌, ◌++◌, length, Option, Some, is_some, Decides, Ok, IfOk}
 use Rattle.std.specs.List.{range_with_len}
+use Rattle.fax_job.specs.Alter.{alter_of}
+use Rattle.fax_job.specs.Job.{is_lawful}
+use Rattle.fax_job.specs.Pair.{Pair}
+use Rattle.fax_job.specs.declared.alter.Alter.{Alter}
+use Rattle.fax_job.specs.declared.job.Call.{Call}
 use Rattle.fax_job.specs.declared.job.JobFields.{JobFields}
 use Rattle.fax_job.specs.declared.refusal.Refusal.{Refusal}
 use Rattle.fax_job.specs.Refusal.{refusal_number}
 use Rattle.fax_core.specs.declared.grants.Grant.{Grant}
+use Rattle.fax_core.specs.declared.report.Outcome.{Outcome}
 use Rattle.fax_core.specs.Ageing.{aged}
 use Rattle.fax_core.specs.Ask.{Ask, Next, PageReport, IsLawfulAsk}
 use Rattle.fax_core.specs.Best.{MayGo, IsBest}
 use Rattle.fax_core.specs.Clock.{decided_at}
+use Rattle.fax_core.specs.Decisions.{JobAndGrant, suspend, resume, kill, alter, grant, call, page, outcome}
 use Rattle.fax_core.specs.Fits.{fits}
 use Rattle.fax_core.specs.Job.{Job, HasPages, job_of, fields_of}
 use Rattle.fax_core.specs.Machine.{step}
@@ -224,3 +231,33 @@ JobsAreRecords = (j : Job) → HasPages j → job_of (fields_of j) ≡ j
 -- the test on a record decides whether its job fits the open grant, or none
 abbrev pub FitsIsDecided : Type 0
 FitsIsDecided = (f : JobFields) (o : Option Grant) → Decides (fits f o) (Fits (job_of f) o)
+
+-- ---- lawful records: no change that is decided is refused as unlawful
+
+-- a lawful record holds the job
+abbrev pub HasRecord : Job → Type 0
+HasRecord j = is_lawful (fields_of j) ≡ true
+
+-- one holds the job of a grant that is decided
+abbrev pub HasJobRecord : JobAndGrant → Type 0
+HasJobRecord both = HasRecord both.job
+
+-- a job that is held, let go or killed
+abbrev pub RequestsKeepRecords : Type 0
+RequestsKeepRecords = (j : Job) → HasRecord j → IfOk (suspend j) HasRecord × IfOk (resume j) HasRecord × IfOk (kill j) HasRecord
+
+-- a job that is altered by what was read
+abbrev pub AlterationsKeepRecords : Type 0
+AlterationsKeepRecords = (ps : List Pair) (a : Alter) (j : Job) (t : ℕ) → alter_of ps ≡ Ok a → HasRecord j → IfOk (alter a j t) HasRecord
+
+-- a job that is granted
+abbrev pub GrantsKeepRecords : Type 0
+GrantsKeepRecords = (j : Job) (modem : List ℕ) (number greatest : ℕ) → HasRecord j → IfOk (grant j modem number greatest) HasJobRecord
+
+-- a job whose open grant is reported on; its next time is at most a day past the last moment
+abbrev pub ReportsKeepRecords : Type 0
+ReportsKeepRecords =
+    (j : Job) (g : Grant) → Fits j (Some g) → HasRecord j
+    → ((c : Call) → IfOk (call c j g) HasJobRecord)
+    × ((n : ℕ) → IfOk (page n j g) HasJobRecord)
+    × ((o : Outcome) (delay t : ℕ) → t + delay ≤ 4102531200 → IfOk (outcome o j g delay t) HasJobRecord)

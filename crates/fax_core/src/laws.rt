@@ -3,7 +3,7 @@
 //! Each function here does nothing: its contract is the law, for all settings, queues, moments and
 //! requests. The statements stand in `specs/Laws.antt`.
 
-ghost use Rattle.fax_core.specs.Laws.{StepsStaySound, RunsStaySound, RunsHoldOnce, GivenJobsAreFree, PageReportsConfirm, StepsKeepSent, RunsKeepSent, PagesAreGrantedNoMore, PagesRise, RefusalsAreMet, KeysGoWithRefusals, BusyModemsAreTold, BestIsGiven, OneIsBest, NothingIsLeftOut, ReadyJobsAreDue, TakenStepsSetTheClock, RequestsSetTheClock, ClocksGoForward, RecordsAreJobs, JobsAreRecords, FitsIsDecided};
+ghost use Rattle.fax_core.specs.Laws.{StepsStaySound, RunsStaySound, RunsHoldOnce, GivenJobsAreFree, PageReportsConfirm, StepsKeepSent, RunsKeepSent, PagesAreGrantedNoMore, PagesRise, RefusalsAreMet, KeysGoWithRefusals, BusyModemsAreTold, BestIsGiven, OneIsBest, NothingIsLeftOut, ReadyJobsAreDue, TakenStepsSetTheClock, RequestsSetTheClock, ClocksGoForward, RecordsAreJobs, JobsAreRecords, FitsIsDecided, RequestsKeepRecords, AlterationsKeepRecords, GrantsKeepRecords, ReportsKeepRecords};
 ghost use Rattle.fax_core.specs.Queue.{empty_queue};
 ghost use Rattle.fax_core.specs.Sound.{Sound};
 ghost use Rattle.fax_core.specs.Submission.{ReadOrdersAreLawful};
@@ -72,4 +72,13 @@ pub fn records()
 /// lawful record.
 pub fn read_orders()
     ensures { ReadOrdersAreLawful }
+{}
+
+/// What is decided of a job that a lawful record holds makes a job that one holds, so no such change is
+/// refused as unlawful: of an alteration where it was read, of a report where job and grant fit.
+pub fn kept_records()
+    ensures requests { RequestsKeepRecords }
+    ensures alterations { AlterationsKeepRecords }
+    ensures grants { GrantsKeepRecords }
+    ensures reports { ReportsKeepRecords }
 {}

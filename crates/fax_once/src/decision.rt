@@ -23,6 +23,7 @@ pub(crate) enum Decision {
 pub(crate) fn plain(refusal: Refusal) -> Result<Reply, Unavailable>
     ensures reply { IfOk result (λ reply. reply ≡ refused_response refusal NoKeys) }
     ensures alone { IsOk result → has_detail refusal ≡ false }
+    ensures made { has_detail refusal ≡ false → IsOk result }
 {
     if has_detail(refusal) {
         return Err(Unavailable);

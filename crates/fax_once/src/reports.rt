@@ -1,6 +1,6 @@
 //! A worker's reports on a grant.
 
-ghost use Rattle.std.specs.Prelude.{◌≡◌, ◌≤◌, ℕ, List, Some, true, false, Ok, IfOk};
+ghost use Rattle.std.specs.Prelude.{◌≡◌, ◌≤◌, ℕ, List, Some, true, false, Ok, IfOk, IsOk};
 ghost use Rattle.sqlite.specs.Held.{state};
 ghost use Rattle.fax_ask.specs.Response.{refused_response};
 ghost use Rattle.fax_core.specs.Ageing.{aged};
@@ -64,7 +64,8 @@ pub(crate) fn decide_report<S: Alter>(
     }
 }
 
-/// Decides a report on a grant and its job. Where they don't fit together, nothing is decided.
+/// Decides a report on a grant and its job. Where they don't fit together, nothing is decided; a closed
+/// grant needn't fit any more.
 fn report_on<S: Alter>(
     store: &mut Store<S>,
     office: &Office,
@@ -80,6 +81,7 @@ fn report_on<S: Alter>(
         → Serves (state S.Store store.new.conn) → AreThere m t job grant → grant.confirmed ≤ 9999
         → IfOk result (Decides (report_both (settings_of office.now.setup office.now.controls) (aged t m) t
         report (job_of job) grant) m t) }
+    ensures closed { grant.is_open ≡ false → IsOk result }
 {
     if grant.is_open && !fits(&job, Some(&grant)) {
         return Err(Unavailable);
@@ -109,9 +111,10 @@ fn decide_call(
     said: Call,
     t: Moment,
 ) -> Result<Decision, Unavailable>
-    ensures { (m : Queue) → AreThere m t job grant
+    ensures decided { (m : Queue) → AreThere m t job grant
         → IfOk result (Decides (reported (aged t m) (call_reply t) (job_of job)
         (call_of said (job_of job) grant)) m t) }
+    ensures closed { grant.is_open ≡ false → IsOk result }
 {
     match call(&job, &grant, said) {
         Ok(change) => called(alloc, job, change, grant.with_call(said), t),
@@ -151,9 +154,10 @@ fn decide_page(
     said: u16,
     t: Moment,
 ) -> Result<Decision, Unavailable>
-    ensures { (m : Queue) → AreThere m t job grant → grant.confirmed ≤ 9999
+    ensures decided { (m : Queue) → AreThere m t job grant → grant.confirmed ≤ 9999
         → IfOk result (Decides (reported (aged t m) (page_reply t) (job_of job)
         (page_of said (job_of job) grant)) m t) }
+    ensures closed { grant.is_open ≡ false → IsOk result }
 {
     match page(&job, &grant, said) {
         Ok(change) => confirmed(alloc, job, change, grant.with_page(), t),
@@ -214,6 +218,7 @@ fn decide_outcome<S: Alter>(
         → IfOk result (Decides (reported (aged t m)
         (outcome_reply (settings_of office.now.setup office.now.controls) t) (job_of job)
         (outcome_of said (job_of job) grant (delay_of office.now.setup grant.call) t)) m t) }
+    ensures closed { grant.is_open ≡ false → IsOk result }
 {
     let delay = office.setup.delay(grant.call);
     match outcome(&job, &grant, said, delay, t) {

@@ -4,3 +4,4 @@ pub mod InputLemmas
 pub mod MessageLemmas
 pub mod OutputLemmas
 pub mod Progress
+pub mod ReplayLemmas

@@ -12,16 +12,23 @@ use Rattle.fax_once.specs.declared.arrival.Arrival.{Arrival}
 use Rattle.fax_store.specs.Store.{Means, Serves}
 use Rattle.faxqd.specs.Message.{fields_of, sole, values_of}
 
--- the arrival of a message with that head and body, at the moment that the clock gave for it
-pub record IsArrival (head : RequestHead) (body : List ℕ) (a : Arrival) : Type 0 where
+-- the arrival of a message with that head and body, at that moment
+pub record IsArrival (head : RequestHead) (body : List ℕ) (moment : ℕ) (a : Arrival) : Type 0 where
   pub method : a.method ≡ method_of head.method
   pub path : a.path.now ≡ head.target
   pub client : a.client.now ≡ sole (values_of (codes "Fax-Client") (fields_of head))
   pub number : a.number.now ≡ sole (values_of (codes "Fax-Number") (fields_of head))
   pub content : a.body.now ≡ body
+  pub at : a.moment ≡ moment
 
--- from a store that means a sound queue, the arrival is handled
-abbrev pub IsHandled : Settings → State → RequestHead → List ℕ → Response → State → Type 0
-IsHandled settings old head body reply new =
+-- from a store that means a sound queue, the arrival at that moment is handled
+abbrev pub HandlesAt : ℕ → Settings → State → RequestHead → List ℕ → Response → State → Type 0
+HandlesAt moment settings old head body reply new =
     (m : Queue) (k : List Entry) → Sound m → Means old m k → Serves new
-    → (a : Arrival) × IsArrival head body a × Handles settings a m k reply new
+    → (a : Arrival) × IsArrival head body moment a × Handles settings a m k reply new
+
+-- the clock gives a moment for what the message says of it, and the arrival at that moment is handled
+abbrev pub IsHandled : (List ℕ → ℕ → Type 0) → Settings → State → RequestHead → List ℕ → Response → State → Type 0
+IsHandled gives settings old head body reply new =
+    (moment : ℕ) × gives (sole (values_of (codes "Fax-Moment") (fields_of head))) moment
+    × HandlesAt moment settings old head body reply new

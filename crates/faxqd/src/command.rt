@@ -1,4 +1,7 @@
 //! The program as a function of its words, its input and its outputs.
+ghost use Rattle.std.specs.Prelude.{◌≡◌, ◌⊎◌};
+ghost use Rattle.faxqd.specs.Replay.{IsAnswered};
+
 use crate::replay::replay;
 use crate::status::{Status, fail};
 use crate::words::{Plan, WordsFault, read_words};
@@ -11,7 +14,12 @@ pub fn run<R: Read, W: Write, E: Write>(
     reader: &mut R,
     out: &mut W,
     err: &mut E,
-) -> Status {
+) -> Status
+    ensures success { result ≡ Status.Success
+        → IsAnswered (R.remaining reader.old) (R.remaining reader.new) (W.contents out.old) (W.contents out.new)
+        ⊎ (reader.new ≡ reader.old) }
+    ensures words { result ≡ Status.Usage → (reader.new ≡ reader.old) × (out.new ≡ out.old) }
+{
     match read_words(rt.alloc(), words) {
         Ok(Plan::Replay(files)) => replay(rt, files, reader, out, err),
         Err(WordsFault::Help(text)) => match out.write_all(text.as_bytes()) {

@@ -1,7 +1,7 @@
 //! The queue as what answers messages: each message becomes an arrival at the moment that the clock
 //! gives for it.
 
-ghost use Rattle.std.specs.Prelude.{ℕ, List};
+ghost use Rattle.std.specs.Prelude.{◌≡◌, ℕ, List};
 ghost use Rattle.httparse.specs.Grammar.{RequestHead};
 ghost use Rattle.faxqd.specs.Cut.{ArePartsOf};
 ghost use Rattle.faxqd.specs.Desk.{IsArrival};
@@ -24,7 +24,10 @@ pub struct Desk<C: Clock + Drop, S: Alter> {
 }
 
 impl<C: Clock + Drop, S: Alter> Desk<C, S> {
-    pub fn new(alloc: Global, clock: C, queue: Queue<S>) -> Desk<C, S> {
+    pub fn new(alloc: Global, clock: C, queue: Queue<S>) -> Desk<C, S>
+        ensures clock { result.clock ≡ clock }
+        ensures queue { result.queue ≡ queue }
+    {
         Desk {
             alloc,
             clock,
@@ -39,10 +42,11 @@ impl<C: Clock + Drop, S: Alter> Handler for Desk<C, S> {
     ghost use Rattle.fax_once.specs.Settings.{settings_of};
     ghost use Rattle.faxqd.specs.Desk.{IsHandled};
 
-    // The queue handles the message's arrival, by the same setup and controls as ever.
+    // The queue handles the message's arrival at the clock's moment, by the same setup and controls as ever.
     ghost answers = { λ old head body reply new.
         (new.queue.office ≡ old.queue.office)
-        × IsHandled (settings_of old.queue.office.setup old.queue.office.controls)
+        × IsHandled (λ said moment. C.gives old.clock said moment new.clock)
+        (settings_of old.queue.office.setup old.queue.office.controls)
         (state S.Store old.queue.store.conn) head body reply (state S.Store new.queue.store.conn) };
 
     fn answer(&mut self, message: &Message<'_>) -> Reply {
@@ -54,7 +58,7 @@ impl<C: Clock + Drop, S: Alter> Handler for Desk<C, S> {
 
 /// The arrival of a message at that moment.
 fn arrival_of<'b>(message: &Message<'b>, moment: Moment) -> Arrival<'b>
-    ensures { (head : RequestHead) (body : List ℕ) → ArePartsOf message.now head body → IsArrival head body result }
+    ensures { (head : RequestHead) (body : List ℕ) → ArePartsOf message.now head body → IsArrival head body moment result }
 {
     Arrival {
         client: message.client,

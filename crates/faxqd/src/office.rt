@@ -1,4 +1,6 @@
 //! The setup and the destination controls that a command runs with.
+ghost use Rattle.std.specs.Prelude.{◌≡◌};
+
 use crate::status::{Status, fail};
 use fax_dest::{Controls, FileFault, FileKind, Setup};
 use fax_once::Office;
@@ -72,7 +74,9 @@ fn controls_fault<'a>(fault: FileFault) -> OfficeFault<'a> {
 }
 
 /// Says on one line why there is no office, as far as `err` takes it. It takes no memory.
-pub fn report<E: Write>(err: &mut E, fault: OfficeFault<'_>) -> Status {
+pub fn report<E: Write>(err: &mut E, fault: OfficeFault<'_>) -> Status
+    ensures { result ≡ Status.Fault }
+{
     match fault {
         OfficeFault::Unreadable(name) => {
             let _ = err.write_all(b"faxqd: cannot read ");
@@ -85,7 +89,9 @@ pub fn report<E: Write>(err: &mut E, fault: OfficeFault<'_>) -> Status {
     }
 }
 
-fn report_line<E: Write>(err: &mut E, file: &str, fault: FileFault) -> Status {
+fn report_line<E: Write>(err: &mut E, file: &str, fault: FileFault) -> Status
+    ensures { result ≡ Status.Fault }
+{
     let mut number = itoa::Buffer::new();
     let _ = err.write_all(file.as_bytes());
     let _ = err.write_all(number.format(fault.line).as_bytes());

@@ -1,6 +1,9 @@
 //! `faxqd replay`: serves one input over a store in memory.
+ghost use Rattle.std.specs.Prelude.{◌≡◌};
+ghost use Rattle.faxqd.specs.Replay.{IsAnswered};
+
 use crate::clock::SaidClock;
-use crate::conversation::{Bounds, End, Served};
+use crate::conversation::{Bounds, End};
 use crate::desk::Desk;
 use crate::office::{OfficeFiles, read_office, report};
 use crate::serve::serve;
@@ -22,7 +25,11 @@ pub fn replay<R: Read, W: Write, E: Write>(
     reader: &mut R,
     out: &mut W,
     err: &mut E,
-) -> Status {
+) -> Status
+    ensures success { result ≡ Status.Success
+        → IsAnswered (R.remaining reader.old) (R.remaining reader.new) (W.contents out.old) (W.contents out.new) }
+    ensures words { ¬ (result ≡ Status.Usage) }
+{
     let alloc = rt.alloc();
     let office = match read_office(rt, files) {
         Ok(office) => office,
@@ -35,8 +42,8 @@ pub fn replay<R: Read, W: Write, E: Write>(
     let bounds = Bounds {
         messages: MESSAGE_LIMIT,
     };
-    let Served { end, .. } = serve(alloc, reader, out, &mut desk, bounds);
-    match end {
+    let served = serve(alloc, reader, out, &mut desk, bounds);
+    match served.end {
         End::Closed => Status::Success,
         End::Bad => fail(err, "faxqd: ended bad\n"),
         End::Bound => fail(err, "faxqd: ended bound\n"),

@@ -1,5 +1,13 @@
+use Rattle.std.specs.Prelude.{ℕ, List}
+use Rattle.std.proofs.Common.{subst}
 use Rattle.faxqd.proofs.desk.DeskHandler.answer.Goals as goal
 
 pub returns : goal.returns
-returns g c head body parts =
-    (c.handle.ensures.office, λ m k sound means serves. (c.arrival_of-arrival.result, c.arrival_of-arrival.ensures head body parts, c.handle.ensures.handled m k sound means serves))
+returns g c head body parts = (
+  c.handle.ensures.office,
+  (
+    c.moment-moment.result,
+    subst (λ (said : List ℕ). g.C.Clock.gives c.args.self.now.clock said c.moment-moment.result c.moment-moment.new.self) parts.moment c.moment-moment.ensures,
+    λ m k sound means serves. (c.arrival_of-arrival.result, c.arrival_of-arrival.ensures head body parts, c.handle.ensures.handled m k sound means serves),
+  ),
+)
