@@ -30,3 +30,4 @@ pub mod GrantWriteLemmas
 pub mod WaitingLemmas
 pub mod IndexLemmas
 pub mod CallLemmas
+pub mod Rows

@@ -27,11 +27,6 @@ popped [] rest None len M N e is cases = refl
 popped (r ∷ rows) rest None len M N e is cases = absurd (omega (arith, is, cases.0))
 popped rows rest (Some x) len M N e is cases = rw e (has_last rest x)
 
--- an error that is `Unavailable` where something holds, which does
-pub unavailable_where : {A : Type 0} (r : Result A StoreFault) (W : Type 0) (Q : A → Type 0) → IsErrAnd r (λ fault. W → fault ≡ Unavailable) → W → OrUnavailable r Q
-unavailable_where (Ok x) W Q is w = absurd is
-unavailable_where (Err e) W Q is w = is w
-
 -- an error that is passed on
 pub passes_on : {A : Type 0} (r : Result A StoreFault) (fault : StoreFault) (Q : A → Type 0) → IsErrAnd r (λ e. e ≡ fault) → fault ≡ Unavailable → OrUnavailable r Q
 passes_on (Ok x) fault Q is why = absurd is

@@ -34,6 +34,17 @@ with_placed g m = record m { grants = placed g m.grants }
 abbrev pub with_one_more : Grant → Queue → Queue
 with_one_more g m = record m { grants = placed g m.grants; next_grant = m.next_grant + 1 }
 
+-- its numbers are within their limits
+pub record IsWithinLimits (g : Grant) : Type 0 where
+  pub number : (1 ≤ g.number) × (g.number ≤ 999999999)
+  pub job : (1 ≤ g.job) × (g.job ≤ 999999)
+  pub pages : (g.first_page ≤ 9999) × (g.last_page ≤ 9999) × (g.confirmed ≤ 9999)
+
+-- the same of a hold
+pub record IsLawfulHold (h : Hold) : Type 0 where
+  pub grant : (1 ≤ h.grant) × (h.grant ≤ 999999999)
+  pub job : (1 ≤ h.job) × (h.job ≤ 999999)
+
 -- open, with its numbers within their limits
 pub record IsOpenGrant (g : Grant) : Type 0 where
   pub is_open : IsTrue g.is_open

@@ -37,11 +37,11 @@ impl From<AllocError> for StoreFault {
 }
 
 impl From<DialFault> for StoreFault {
-    ghost use Rattle.std.specs.Prelude.{◌≡◌, IsTrue};
+    ghost use Rattle.std.specs.Prelude.{◌≡◌};
     ghost use Rattle.fax_job.specs.Dial.{is_no_memory};
-    ghost use Rattle.fax_store.specs.declared.fault.StoreFault.TheVariants.{Unavailable};
+    ghost use Rattle.fax_store.specs.Fault.{fault_by};
 
-    ghost from_gives = { λ given fault. IsTrue (is_no_memory given) → fault ≡ Unavailable };
+    ghost from_gives = { λ given fault. fault ≡ fault_by (is_no_memory given) };
 
     fn from(fault: DialFault) -> StoreFault {
         match fault {
@@ -52,11 +52,11 @@ impl From<DialFault> for StoreFault {
 }
 
 impl From<NameFault> for StoreFault {
-    ghost use Rattle.std.specs.Prelude.{◌≡◌, IsTrue};
+    ghost use Rattle.std.specs.Prelude.{◌≡◌};
     ghost use Rattle.fax_job.specs.Name.{is_no_memory};
-    ghost use Rattle.fax_store.specs.declared.fault.StoreFault.TheVariants.{Unavailable};
+    ghost use Rattle.fax_store.specs.Fault.{fault_by};
 
-    ghost from_gives = { λ given fault. IsTrue (is_no_memory given) → fault ≡ Unavailable };
+    ghost from_gives = { λ given fault. fault ≡ fault_by (is_no_memory given) };
 
     fn from(fault: NameFault) -> StoreFault {
         match fault {
@@ -67,11 +67,11 @@ impl From<NameFault> for StoreFault {
 }
 
 impl From<JobTagFault> for StoreFault {
-    ghost use Rattle.std.specs.Prelude.{◌≡◌, IsTrue};
+    ghost use Rattle.std.specs.Prelude.{◌≡◌};
     ghost use Rattle.fax_job.specs.JobTag.{is_no_memory};
-    ghost use Rattle.fax_store.specs.declared.fault.StoreFault.TheVariants.{Unavailable};
+    ghost use Rattle.fax_store.specs.Fault.{fault_by};
 
-    ghost from_gives = { λ given fault. IsTrue (is_no_memory given) → fault ≡ Unavailable };
+    ghost from_gives = { λ given fault. fault ≡ fault_by (is_no_memory given) };
 
     fn from(fault: JobTagFault) -> StoreFault {
         match fault {
@@ -82,11 +82,11 @@ impl From<JobTagFault> for StoreFault {
 }
 
 impl From<StatusFault> for StoreFault {
-    ghost use Rattle.std.specs.Prelude.{◌≡◌, IsTrue};
+    ghost use Rattle.std.specs.Prelude.{◌≡◌};
     ghost use Rattle.fax_job.specs.Status.{is_no_memory};
-    ghost use Rattle.fax_store.specs.declared.fault.StoreFault.TheVariants.{Unavailable};
+    ghost use Rattle.fax_store.specs.Fault.{fault_by};
 
-    ghost from_gives = { λ given fault. IsTrue (is_no_memory given) → fault ≡ Unavailable };
+    ghost from_gives = { λ given fault. fault ≡ fault_by (is_no_memory given) };
 
     fn from(fault: StatusFault) -> StoreFault {
         match fault {
@@ -97,11 +97,11 @@ impl From<StatusFault> for StoreFault {
 }
 
 impl From<LineFault> for StoreFault {
-    ghost use Rattle.std.specs.Prelude.{◌≡◌, IsTrue};
+    ghost use Rattle.std.specs.Prelude.{◌≡◌};
     ghost use Rattle.fax_job.specs.Reading.{is_no_memory};
-    ghost use Rattle.fax_store.specs.declared.fault.StoreFault.TheVariants.{Unavailable};
+    ghost use Rattle.fax_store.specs.Fault.{fault_by};
 
-    ghost from_gives = { λ given fault. IsTrue (is_no_memory given) → fault ≡ Unavailable };
+    ghost from_gives = { λ given fault. fault ≡ fault_by (is_no_memory given) };
 
     fn from(fault: LineFault) -> StoreFault {
         match fault.kind {

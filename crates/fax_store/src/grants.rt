@@ -1,6 +1,6 @@
 //! The grants, and what modems and jobs hold of those that are open.
 
-ghost use Rattle.std.specs.Prelude.{◌≡◌, ℕ, ◌<◌, ◌≤◌, List, Option, false, Err, IfErr, is_err, IsTrue};
+ghost use Rattle.std.specs.Prelude.{◌≡◌, ℕ, ◌<◌, ◌≤◌, List, Option, false, Err, IfErr, IfOk, IfSome, is_err, IsTrue};
 ghost use Rattle.std.specs.Option.{option_map};
 ghost use Rattle.sqlite.specs.Held.{state};
 ghost use Rattle.fax_core.specs.Machine.{held_by, with_grant};
@@ -9,7 +9,7 @@ ghost use Rattle.fax_core.specs.State.{calls_to};
 ghost use Rattle.fax_core.specs.declared.grants.Grant.{Grant as Granted};
 ghost use Rattle.fax_job.specs.declared.job.Call.{Call as HowItWent};
 ghost use Rattle.fax_store.specs.Fault.{OrUnavailable};
-ghost use Rattle.fax_store.specs.Grant.{as_hold, hold_shown, grant_shown, IsOpenGrant, IsReport};
+ghost use Rattle.fax_store.specs.Grant.{as_hold, hold_shown, grant_shown, IsWithinLimits, IsLawfulHold, IsOpenGrant, IsReport};
 ghost use Rattle.fax_store.specs.Grant.{with_placed, with_one_more, with_closed};
 ghost use Rattle.fax_store.specs.Row.{HasNumber, call_number, shut_number};
 ghost use Rattle.fax_store.specs.Store.{Serves, Means, MeansNow, Stays, Answers};
@@ -72,19 +72,26 @@ fn call_number(call: Option<Call>) -> u32
     }
 }
 
-/// Whether a grant is open, with its numbers within their limits.
-fn is_open_grant(grant: &Grant) -> bool
-    ensures fits { IsTrue result → IsOpenGrant grant.now }
-    ensures alone { IsOpenGrant grant.now → IsTrue result }
+/// Whether the numbers of a grant are within their limits.
+fn is_within_limits(grant: &Grant) -> bool
+    ensures fits { IsTrue result → IsWithinLimits grant.now }
+    ensures alone { IsWithinLimits grant.now → IsTrue result }
 {
-    grant.is_open
-        && 1 <= grant.number
+    1 <= grant.number
         && grant.number < PAST_GRANTS
         && 1 <= grant.job
         && grant.job < PAST_JOBS
         && grant.first_page <= MOST_PAGES
         && grant.last_page <= MOST_PAGES
         && grant.confirmed <= MOST_PAGES
+}
+
+/// Whether a grant is open, with its numbers within their limits.
+fn is_open_grant(grant: &Grant) -> bool
+    ensures fits { IsTrue result → IsOpenGrant grant.now }
+    ensures alone { IsOpenGrant grant.now → IsTrue result }
+{
+    grant.is_open && is_within_limits(grant)
 }
 
 /// How the call in a column went, where 0 is not known.
@@ -116,9 +123,10 @@ fn open_at(row: &Row, at: usize) -> Result<bool, StoreFault>
 
 /// The grant in a row of all columns.
 fn grant_in(alloc: Global, row: &Row) -> Result<Grant, StoreFault>
-    ensures { (g : Granted) → row.now ≡ grant_shown g → IsLawfulGrant g → OrUnavailable result (λ grant. grant ≡ g) }
+    ensures found { (g : Granted) → row.now ≡ grant_shown g → IsLawfulGrant g → OrUnavailable result (λ grant. grant ≡ g) }
+    ensures lawful { IfOk result IsWithinLimits }
 {
-    Ok(Grant {
+    let grant = Grant {
         number: number_at(row, 0)?,
         job: number_at(row, 1)?,
         modem: name_at(alloc, row, 2)?,
@@ -127,18 +135,28 @@ fn grant_in(alloc: Global, row: &Row) -> Result<Grant, StoreFault>
         call: call_at(row, 5)?,
         confirmed: small_at(row, 6)?,
         is_open: open_at(row, 7)?,
-    })
+    };
+    if is_within_limits(&grant) {
+        Ok(grant)
+    } else {
+        Err(StoreFault::Strange)
+    }
 }
 
 impl Hold {
     /// The hold in a row of grant and job.
     fn in_row(row: &Row) -> Result<Hold, StoreFault>
-        ensures { (g : Granted) → row.now ≡ hold_shown g → IsLawfulGrant g
+        ensures found { (g : Granted) → row.now ≡ hold_shown g → IsLawfulGrant g
             → OrUnavailable result (λ hold. hold ≡ as_hold g) }
+        ensures lawful { IfOk result IsLawfulHold }
     {
         let grant = number_at(row, 0)?;
         let job = number_at(row, 1)?;
-        Ok(Hold { grant, job })
+        if 1 <= grant && grant < PAST_GRANTS && 1 <= job && job < PAST_JOBS {
+            Ok(Hold { grant, job })
+        } else {
+            Err(StoreFault::Strange)
+        }
     }
 }
 
@@ -154,6 +172,7 @@ impl<S: Alter> Store<S> {
         ensures found { (m : Queue) (k : List Entry) → Means (state S.Store self.old.conn) m k
             → Serves (state S.Store self.new.conn)
             → OrUnavailable result (λ found. found ≡ option_map as_hold (held_by modem.now m)) }
+        ensures lawful { IfOk result (λ found. IfSome found IsLawfulHold) }
     {
         self.read_hold(modem)
     }
@@ -164,6 +183,7 @@ impl<S: Alter> Store<S> {
             → Serves (state S.Store self.new.conn)
             → Answers (state S.Store self.old.conn) (state S.Store self.new.conn) result
             (λ found. found ≡ option_map as_hold (held_by modem.now m)) }
+        ensures lawful { IfOk result (λ found. IfSome found IsLawfulHold) }
     {
         match self.find(SELECT_HOLD, params![modem])? {
             Some(row) => Ok(Some(Hold::in_row(&row)?)),
@@ -182,6 +202,7 @@ impl<S: Alter> Store<S> {
         ensures found { (m : Queue) (k : List Entry) → Means (state S.Store self.old.conn) m k
             → Serves (state S.Store self.new.conn)
             → OrUnavailable result (λ found. found ≡ grant_numbered number m) }
+        ensures lawful { IfOk result (λ found. IfSome found IsWithinLimits) }
     {
         self.read_grant(number)
     }
@@ -192,6 +213,7 @@ impl<S: Alter> Store<S> {
             → Serves (state S.Store self.new.conn)
             → Answers (state S.Store self.old.conn) (state S.Store self.new.conn) result
             (λ found. found ≡ grant_numbered number m) }
+        ensures lawful { IfOk result (λ found. IfSome found IsWithinLimits) }
     {
         match self.find(SELECT_GRANT, params![number])? {
             Some(row) => Ok(Some(grant_in(self.alloc, &row)?)),
@@ -316,6 +338,7 @@ impl<S: Alter> Work<'_, S> {
         ensures found { AnswersIn (state S.Store self.old.store.now.conn) self.old.failed
             (state S.Store self.new.store.now.conn) result
             (λ m k found. found ≡ option_map as_hold (held_by modem.now m)) }
+        ensures lawful { IfOk result (λ found. IfSome found IsLawfulHold) }
         ensures served { Serves (state S.Store self.new.store.now.conn) → Serves (state S.Store self.old.store.now.conn) }
         ensures fails { self.new.failed ≡ is_err result }
         ensures refused { IsTrue self.old.failed → result ≡ Err StoreFault.Unavailable }
@@ -339,6 +362,7 @@ impl<S: Alter> Work<'_, S> {
             (state S.Store self.new.store.now.conn) self.new.failed }
         ensures found { AnswersIn (state S.Store self.old.store.now.conn) self.old.failed
             (state S.Store self.new.store.now.conn) result (λ m k found. found ≡ grant_numbered number m) }
+        ensures lawful { IfOk result (λ found. IfSome found IsWithinLimits) }
         ensures served { Serves (state S.Store self.new.store.now.conn) → Serves (state S.Store self.old.store.now.conn) }
         ensures fails { self.new.failed ≡ is_err result }
         ensures refused { IsTrue self.old.failed → result ≡ Err StoreFault.Unavailable }

@@ -1,6 +1,6 @@
 //! The clock and the next numbers.
 
-ghost use Rattle.std.specs.Prelude.{◌≡◌, ℕ, List, false, Err, is_err, ⊤, IsTrue};
+ghost use Rattle.std.specs.Prelude.{◌≡◌, ℕ, List, false, Err, IfOk, is_err, ⊤, IsTrue};
 ghost use Rattle.sqlite.specs.Held.{state};
 ghost use Rattle.fax_store.specs.Fault.{OrUnavailable};
 ghost use Rattle.fax_core.specs.Queue.{Queue, Entry};
@@ -38,12 +38,13 @@ pub struct Meta {
 }
 
 impl Meta {
-    ghost use Rattle.fax_store.specs.Meta.{meta_of, meta_shown};
+    ghost use Rattle.fax_store.specs.Meta.{meta_of, meta_shown, with_meta};
 
     /// The clock and next numbers in a row of these three.
     fn in_row(row: &Row) -> Result<Meta, StoreFault>
-        ensures { (m : Queue) → row.now ≡ meta_shown m → IsLawfulMeta m
+        ensures found { (m : Queue) → row.now ≡ meta_shown m → IsLawfulMeta m
             → OrUnavailable result (λ meta. meta ≡ meta_of m) }
+        ensures lawful { IfOk result (λ meta. (m : Queue) → IsLawfulMeta (with_meta meta m)) }
     {
         let clock = moment_at(row, 0)?;
         let next_job = number_at(row, 1)?;
@@ -73,6 +74,7 @@ impl<S: Alter> Store<S> {
         ensures stays { Stays (state S.Store self.old.conn) (state S.Store self.new.conn) }
         ensures found { (m : Queue) (k : List Entry) → Means (state S.Store self.old.conn) m k
             → Serves (state S.Store self.new.conn) → OrUnavailable result (λ meta. meta ≡ meta_of m) }
+        ensures lawful { IfOk result (λ meta. (m : Queue) → IsLawfulMeta (with_meta meta m)) }
     {
         self.read_meta()
     }
@@ -82,6 +84,7 @@ impl<S: Alter> Store<S> {
         ensures answers { (m : Queue) (k : List Entry) → MeansNow (state S.Store self.old.conn) m k
             → Serves (state S.Store self.new.conn)
             → Answers (state S.Store self.old.conn) (state S.Store self.new.conn) result (λ meta. meta ≡ meta_of m) }
+        ensures lawful { IfOk result (λ meta. (m : Queue) → IsLawfulMeta (with_meta meta m)) }
     {
         match self.find(SELECT_META, &[])? {
             Some(row) => Meta::in_row(&row),
@@ -113,7 +116,7 @@ impl<S: Alter> Store<S> {
 }
 
 impl<S: Alter> Work<'_, S> {
-    ghost use Rattle.fax_store.specs.Meta.{meta_of, with_clock};
+    ghost use Rattle.fax_store.specs.Meta.{meta_of, with_meta, with_clock};
 
     /// The clock and the next numbers.
     ///
@@ -126,6 +129,7 @@ impl<S: Alter> Work<'_, S> {
             (state S.Store self.new.store.now.conn) self.new.failed }
         ensures found { AnswersIn (state S.Store self.old.store.now.conn) self.old.failed
             (state S.Store self.new.store.now.conn) result (λ m k meta. meta ≡ meta_of m) }
+        ensures lawful { IfOk result (λ meta. (m : Queue) → IsLawfulMeta (with_meta meta m)) }
         ensures served { Serves (state S.Store self.new.store.now.conn) → Serves (state S.Store self.old.store.now.conn) }
         ensures fails { self.new.failed ≡ is_err result }
         ensures refused { IsTrue self.old.failed → result ≡ Err StoreFault.Unavailable }

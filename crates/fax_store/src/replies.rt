@@ -1,6 +1,6 @@
 //! The kept replies.
 
-ghost use Rattle.std.specs.Prelude.{◌≡◌, ◌⊎◌, ◌↔◌, ◌≤◌, ◌<◌, ◌^◌, ◌∷◌, ◌++◌, [], pos, false, List, Err, IfErr, is_err, IsTrue};
+ghost use Rattle.std.specs.Prelude.{◌≡◌, ◌⊎◌, ◌↔◌, ◌≤◌, ◌<◌, ◌^◌, ◌∷◌, ◌++◌, [], pos, false, List, Err, IfErr, IfOk, IfSome, is_err, IsTrue};
 ghost use Rattle.sqlite.specs.Held.{state};
 ghost use Rattle.fax_store.specs.Fault.{OrUnavailable};
 ghost use Rattle.fax_job.specs.Name.{IsName};
@@ -53,8 +53,9 @@ impl Kept {
 
     /// The kept reply in a row of what was said, status and body.
     fn in_row(row: &Row) -> Result<Kept, StoreFault>
-        ensures { (e : Entry) → row.now ≡ entry_shown e → IsLawfulEntry e
+        ensures found { (e : Entry) → row.now ≡ entry_shown e → IsLawfulEntry e
             → OrUnavailable result (λ kept. Tells kept e) }
+        ensures lawful { IfOk result (λ kept. (kept.status ≡ 200) ⊎ (kept.status ≡ 201)) }
     {
         let said = value_at(row, 0)?;
         let status = small_at(row, 1)?;
@@ -80,6 +81,7 @@ impl<S: Alter> Store<S> {
         ensures stays { Stays (state S.Store self.old.conn) (state S.Store self.new.conn) }
         ensures found { (m : Queue) (k : List Entry) → Means (state S.Store self.old.conn) m k
             → Serves (state S.Store self.new.conn) → OrUnavailable result (IsKeptFor k client.now number) }
+        ensures lawful { IfOk result (λ found. IfSome found (λ kept. (kept.status ≡ 200) ⊎ (kept.status ≡ 201))) }
     {
         self.read_reply(client, number)
     }
@@ -93,6 +95,7 @@ impl<S: Alter> Store<S> {
         ensures answers { (m : Queue) (k : List Entry) → MeansNow (state S.Store self.old.conn) m k
             → Serves (state S.Store self.new.conn)
             → Answers (state S.Store self.old.conn) (state S.Store self.new.conn) result (IsKeptFor k client.now number) }
+        ensures lawful { IfOk result (λ found. IfSome found (λ kept. (kept.status ≡ 200) ⊎ (kept.status ≡ 201))) }
     {
         let number = number_value(number);
         match self.find(SELECT_REPLY, params![client, number])? {
@@ -142,6 +145,7 @@ impl<S: Alter> Work<'_, S> {
             (state S.Store self.new.store.now.conn) self.new.failed }
         ensures found { AnswersIn (state S.Store self.old.store.now.conn) self.old.failed
             (state S.Store self.new.store.now.conn) result (λ m k found. IsKeptFor k client.now number found) }
+        ensures lawful { IfOk result (λ found. IfSome found (λ kept. (kept.status ≡ 200) ⊎ (kept.status ≡ 201))) }
         ensures served { Serves (state S.Store self.new.store.now.conn) → Serves (state S.Store self.old.store.now.conn) }
         ensures fails { self.new.failed ≡ is_err result }
         ensures refused { IsTrue self.old.failed → result ≡ Err StoreFault.Unavailable }

@@ -1,6 +1,6 @@
 //! A database with the six tables.
 
-ghost use Rattle.std.specs.Prelude.{◌≡◌, [], ◌∷◌, IfOk, IfErr, OnOk, OnErr};
+ghost use Rattle.std.specs.Prelude.{◌≡◌, false, [], ◌∷◌, IfOk, IfErr, OnOk, OnErr};
 ghost use Rattle.std.specs.Borrow.{sem, RestsIfErr};
 ghost use Rattle.sqlite.specs.Held.{state};
 ghost use Rattle.fax_store.specs.contracts.store.Store.{the_row};
@@ -64,6 +64,7 @@ impl<S: Alter> Store<S> {
             Begins (state S.Store self.old.conn) (state S.Store work.store.now.conn) work.failed) }
         ensures served { IfOk result (λ work.
             Serves (state S.Store work.store.now.conn) → Serves (state S.Store self.old.conn)) }
+        ensures goes_on { IfOk result (λ work. work.failed ≡ false) }
         ensures cause { IfErr result (λ fault. fault ≡ StoreFault.Unavailable) }
     {
         self.conn.execute(BEGIN, &[])?;

@@ -387,16 +387,73 @@ fn refused_call_refuses_the_commit(rt: HostRuntime) -> Result<(), Fail> {
     Ok(())
 }
 
+/// A store with a job, a grant of it and a kept reply, on which this statement has run.
+fn spoiled(alloc: Global, sql: &str) -> Result<MemoryStore, Fail> {
+    let mut store = Store::new_in_memory(alloc)?;
+    let job = job_of(alloc, 1)?.ok_or("no job")?;
+    put(alloc, &mut store, &job)?;
+    put_grant(&mut store, &grant_of(alloc, 1, 1, "ttyS0")?)?;
+    let mut work = store.begin()?;
+    work.keep("ann", number_of("1")?, b"/", 200, b"")?;
+    work.commit()?;
+    store.conn.execute(sql, &[])?;
+    Ok(store)
+}
+
 #[test]
-fn unlawful_rows_are_strange(rt: HostRuntime) -> Result<(), Fail> {
-    let mut store = Store::new_in_memory(rt.alloc())?;
-    let job = job_of(rt.alloc(), 1)?.ok_or("no job")?;
-    assert!(rt; put(rt.alloc(), &mut store, &job)?);
-    store.conn.execute("UPDATE jobs SET npages = 10000", &[])?;
-    assert!(rt; matches!(store.job(1), Err(StoreFault::Strange)));
-    store
-        .conn
-        .execute("UPDATE meta SET next_job = 1000001", &[])?;
+fn unlawful_jobs_are_strange(rt: HostRuntime) -> Result<(), Fail> {
+    let changes = [
+        "UPDATE jobs SET dial = '555 0111'",
+        "UPDATE jobs SET dial = 'five'",
+        "UPDATE jobs SET modem = 'a b'",
+        "UPDATE jobs SET jobtag = ' x'",
+        "UPDATE jobs SET status = ' x'",
+        "UPDATE jobs SET extra = 'x'",
+        "UPDATE jobs SET tts = 4102444801",
+        "UPDATE jobs SET priority = 256",
+        "UPDATE jobs SET npages = 65537",
+        "UPDATE jobs SET phase = 5",
+        "UPDATE jobs SET wish = 3",
+        "UPDATE jobs SET next = 4102531201",
+    ];
+    for change in changes {
+        let mut store = spoiled(rt.alloc(), change)?;
+        assert!(rt;
+            matches!(store.job(1), Err(StoreFault::Strange)),
+            "{change}"
+        );
+    }
+    Ok(())
+}
+
+#[test]
+fn unlawful_grants_are_strange(rt: HostRuntime) -> Result<(), Fail> {
+    let changes = [
+        "UPDATE grants SET job = 1000000",
+        "UPDATE grants SET modem = ''",
+        "UPDATE grants SET last_page = 10000",
+        "UPDATE grants SET call = 6",
+        "UPDATE grants SET shut = 2",
+    ];
+    for change in changes {
+        let mut store = spoiled(rt.alloc(), change)?;
+        assert!(rt;
+            matches!(store.grant(1), Err(StoreFault::Strange)),
+            "{change}"
+        );
+    }
+    let mut store = spoiled(rt.alloc(), "UPDATE holds SET job = 0")?;
+    assert!(rt; store.hold_of("ttyS0") == Err(StoreFault::Strange));
+    Ok(())
+}
+
+#[test]
+fn unlawful_numbers_and_replies_are_strange(rt: HostRuntime) -> Result<(), Fail> {
+    let mut store = spoiled(rt.alloc(), "UPDATE meta SET next_job = 1000001")?;
     assert!(rt; store.meta() == Err(StoreFault::Strange));
+    let mut store = spoiled(rt.alloc(), "UPDATE meta SET clock = -1")?;
+    assert!(rt; store.meta() == Err(StoreFault::Strange));
+    let mut store = spoiled(rt.alloc(), "UPDATE replies SET status = 202")?;
+    assert!(rt; matches!(store.kept("ann", number_of("1")?), Err(StoreFault::Strange)));
     Ok(())
 }

@@ -2,7 +2,8 @@ use Rattle.std.proofs.Common.{rules, ◌≡◌, ◌∙◌, sym, ap, subst, true,
 use Rattle.std.specs.Str.{bytes_eq}
 use Rattle.std.proofs.lemmas.Slice.Eq.{bytes_eq-Decides}
 use Rattle.fax_job.specs.Spelling.{printed}
-use Rattle.fax_store.proofs.ResultLemmas.{unavailable_where}
+use Rattle.fax_store.specs.Fault.{fault_by}
+use Rattle.fax_store.proofs.ResultLemmas.{passes_on}
 use Rattle.fax_job.specs.Spells.{Spells}
 use Rattle.fax_store.proofs.TextLemmas.{lines_kept, wants_memory}
 use Rattle.fax_store.proofs.jobs.spelled.Goals as goal
@@ -10,7 +11,7 @@ use Rattle.fax_store.proofs.jobs.spelled.Goals as goal
 pub returns-in_err-lines : goal.returns-in_err-lines
 returns-in_err-lines c lines is pairs =
     let wants = wants_memory lines c.in_err-lines.field-0.0 (c.in_err-lines.ensures.only lines (subst (λ t. Spells t lines) (sym is) (lines_kept lines pairs))) in
-    unavailable_where c.from_residual.result _ (λ found. found ≡ lines) c.from_residual.ensures.1 wants
+    passes_on c.from_residual.result _ (λ found. found ≡ lines) c.from_residual.ensures.1 (ap fault_by wants)
 
 pub returns-then-eq : goal.returns-then-eq
 returns-then-eq c lines is pairs = let e = c.in_ok-lines.ensures.only lines (subst (λ t. Spells t lines) (sym is) (lines_kept lines pairs)) in cc

@@ -21,7 +21,7 @@ returns-in_err-grant_in-in-Some-clause-answers g c m k means s =
     let found : FindsRow SELECT_GRANT.now (texts.params c.args.number) old new c.in_ok-row.field-0 = subst (λ p. FindsRow SELECT_GRANT.now p old new c.in_ok-row.field-0) (search rules) (c.in_ok-row.ensures.found s.clean) in
     let it = is_there grant_shown (grant_numbered c.args.number m) _ (sym c.in-Some.is ∙ texts.grant_found c.args.number old new m k means_now c.in_ok-row.field-0 found) in
     let lawful : IsLawfulGrant it.0 = found_holds IsLawfulGrant (λ (g : Grant). g.number == c.args.number) m.grants it.0 means_now.lawful.grants it.1 in
-    let fault : c.in_err-grant_in-in-Some.field-0.0 ≡ Unavailable = c.in_err-grant_in-in-Some.ensures it.0 it.2 lawful in
+    let fault : c.in_err-grant_in-in-Some.field-0.0 ≡ Unavailable = c.in_err-grant_in-in-Some.ensures.found it.0 it.2 lawful in
     answers_refused old new (λ found. found ≡ grant_numbered c.args.number m) c.from_residual-in_err-grant_in-in-Some.result (err_is c.from_residual-in_err-grant_in-in-Some.result c.in_err-grant_in-in-Some.field-0.0 c.from_residual-in_err-grant_in-in-Some.ensures.1 fault)
     (inl (texts.grant_unchanged c.args.number old new m k means_now c.in_ok-row.field-0 found))
 
@@ -33,7 +33,7 @@ returns-in_ok-grant_in-in-Some-clause-answers g c m k means s =
     let found : FindsRow SELECT_GRANT.now (texts.params c.args.number) old new c.in_ok-row.field-0 = subst (λ p. FindsRow SELECT_GRANT.now p old new c.in_ok-row.field-0) (search rules) (c.in_ok-row.ensures.found s.clean) in
     let it = is_there grant_shown (grant_numbered c.args.number m) _ (sym c.in-Some.is ∙ texts.grant_found c.args.number old new m k means_now c.in_ok-row.field-0 found) in
     let lawful : IsLawfulGrant it.0 = found_holds IsLawfulGrant (λ (g : Grant). g.number == c.args.number) m.grants it.0 means_now.lawful.grants it.1 in
-    let read = c.in_ok-grant_in-in-Some.ensures it.0 it.2 lawful in
+    let read = c.in_ok-grant_in-in-Some.ensures.found it.0 it.2 lawful in
     (ap Some read ∙ sym (it.1), texts.grant_unchanged c.args.number old new m k means_now c.in_ok-row.field-0 found)
 
 pub returns-in-None-clause-answers : goal.returns-in-None-clause-answers

@@ -24,7 +24,7 @@ returns-in_err-in_row-in-Some-clause-answers g c m k means s =
     let found : FindsRow SELECT_HOLD.now (texts.params c.args.modem.now) old new c.in_ok-row.field-0 = subst (λ p. FindsRow SELECT_HOLD.now p old new c.in_ok-row.field-0) (search rules) (c.in_ok-row.ensures.found s.clean) in
     let it = is_there hold_shown (held_by c.args.modem.now m) _ (sym c.in-Some.is ∙ texts.hold_found c.args.modem.now old new m k means_now c.in_ok-row.field-0 found) in
     let lawful : IsLawfulGrant it.0 = found_holds IsLawfulGrant (λ (g : Grant). bytes_eq g.modem c.args.modem.now) (open_grants m) it.0 (all_kept IsLawfulGrant (λ (g : Grant). g.is_open) m.grants means_now.lawful.grants) it.1 in
-    let fault : c.in_err-in_row-in-Some.field-0.0 ≡ Unavailable = c.in_err-in_row-in-Some.ensures it.0 it.2 lawful in
+    let fault : c.in_err-in_row-in-Some.field-0.0 ≡ Unavailable = c.in_err-in_row-in-Some.ensures.found it.0 it.2 lawful in
     answers_refused old new (λ found. found ≡ option_map as_hold (held_by c.args.modem.now m)) c.from_residual-in_err-in_row-in-Some.result (err_is c.from_residual-in_err-in_row-in-Some.result c.in_err-in_row-in-Some.field-0.0 c.from_residual-in_err-in_row-in-Some.ensures.1 fault)
     (inl (texts.hold_unchanged c.args.modem.now old new m k means_now c.in_ok-row.field-0 found))
 
@@ -36,7 +36,7 @@ returns-in_ok-in_row-in-Some-clause-answers g c m k means s =
     let found : FindsRow SELECT_HOLD.now (texts.params c.args.modem.now) old new c.in_ok-row.field-0 = subst (λ p. FindsRow SELECT_HOLD.now p old new c.in_ok-row.field-0) (search rules) (c.in_ok-row.ensures.found s.clean) in
     let it = is_there hold_shown (held_by c.args.modem.now m) _ (sym c.in-Some.is ∙ texts.hold_found c.args.modem.now old new m k means_now c.in_ok-row.field-0 found) in
     let lawful : IsLawfulGrant it.0 = found_holds IsLawfulGrant (λ (g : Grant). bytes_eq g.modem c.args.modem.now) (open_grants m) it.0 (all_kept IsLawfulGrant (λ (g : Grant). g.is_open) m.grants means_now.lawful.grants) it.1 in
-    let read = c.in_ok-in_row-in-Some.ensures it.0 it.2 lawful in
+    let read = c.in_ok-in_row-in-Some.ensures.found it.0 it.2 lawful in
     (ap Some read ∙ sym (ap (option_map as_hold) it.1), texts.hold_unchanged c.args.modem.now old new m k means_now c.in_ok-row.field-0 found)
 
 pub returns-in-None-clause-answers : goal.returns-in-None-clause-answers

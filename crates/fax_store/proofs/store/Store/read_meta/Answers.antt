@@ -12,7 +12,7 @@ returns-in-Some-clause-answers g c m k means s =
     let means_now = means (c.in_ok-row.ensures.served s) in
     let found = c.in_ok-row.ensures.found s.clean in
     let is = sym c.in-Some.is ∙ meta_found old new m k means_now c.in_ok-row.field-0 found in
-    answers_same old new (λ meta. meta ≡ meta_of m) c.in_row.result (c.in_row.ensures m (let it = is in cc) means_now.lawful.meta) (meta_unchanged old new m k means_now c.in_ok-row.field-0 found)
+    answers_same old new (λ meta. meta ≡ meta_of m) c.in_row.result (c.in_row.ensures.found m (let it = is in cc) means_now.lawful.meta) (meta_unchanged old new m k means_now c.in_ok-row.field-0 found)
 
 pub returns-in-None-clause-answers : goal.returns-in-None-clause-answers
 returns-in-None-clause-answers g c m k means s =

@@ -16,7 +16,7 @@ returns-in_err-in_row-in-Some-clause-answers g c m k means s =
     let found : FindsRow SELECT_REPLY.now (params c.args.client.now c.args.number) old new c.in_ok-row.field-0 = subst (λ p. FindsRow SELECT_REPLY.now p old new c.in_ok-row.field-0) (search rules) (c.in_ok-row.ensures.found s.clean) in
     let it = rw c.in-Some.is at (reply_found c.args.client.now c.args.number old new m k means_now c.in_ok-row.field-0 found) in
     let same = reply_unchanged c.args.client.now c.args.number old new m k means_now c.in_ok-row.field-0 found in
-    let why_err = c.in_err-in_row-in-Some.ensures it.0 it.3 (lawful_of k it.0 means_now.lawful.replies it.1) in
+    let why_err = c.in_err-in_row-in-Some.ensures.found it.0 it.3 (lawful_of k it.0 means_now.lawful.replies it.1) in
     let fault : c.in_err-in_row-in-Some.field-0.0 ≡ Unavailable = why_err in
     answers_refused old new (IsKeptFor k c.args.client.now c.args.number) c.from_residual-in_err-in_row-in-Some.result (err_is c.from_residual-in_err-in_row-in-Some.result c.in_err-in_row-in-Some.field-0.0 c.from_residual-in_err-in_row-in-Some.ensures.1 fault) (inl same)
 
@@ -27,7 +27,7 @@ returns-in_ok-in_row-in-Some-clause-answers g c m k means s =
     let means_now = means (c.in_ok-row.ensures.served s) in
     let found : FindsRow SELECT_REPLY.now (params c.args.client.now c.args.number) old new c.in_ok-row.field-0 = subst (λ p. FindsRow SELECT_REPLY.now p old new c.in_ok-row.field-0) (search rules) (c.in_ok-row.ensures.found s.clean) in
     let it = rw c.in-Some.is at (reply_found c.args.client.now c.args.number old new m k means_now c.in_ok-row.field-0 found) in
-    let tells = c.in_ok-in_row-in-Some.ensures it.0 it.3 (lawful_of k it.0 means_now.lawful.replies it.1) in
+    let tells = c.in_ok-in_row-in-Some.ensures.found it.0 it.3 (lawful_of k it.0 means_now.lawful.replies it.1) in
     ((it.0, it.1, it.2, tells), reply_unchanged c.args.client.now c.args.number old new m k means_now c.in_ok-row.field-0 found)
 
 pub returns-in-None-clause-answers : goal.returns-in-None-clause-answers
