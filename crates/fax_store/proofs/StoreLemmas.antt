@@ -4,6 +4,10 @@ use Rattle.sqlite.specs.Effect.{Database}
 use Rattle.sqlite.specs.View.{doubt}
 use Rattle.sqlite.specs.declared.error.Error.{Error}
 use Rattle.sqlite.specs.State.{State, HasCleanDisk, IsUnchanged, IsRolledBack, Executes}
+use Rattle.sqlite.specs.Held.{Held, state}
+use Rattle.sqlite.specs.Steps.{over_memory}
+use Rattle.sqlite_trees.specs.declared.memory.MemStore.{MemStore}
+use Rattle.sqlite.proofs.Callers.{memory_is_clean}
 use Rattle.sqlite.proofs.InsideLemmas.{fails_whole}
 use Rattle.fax_store.specs.declared.store.TheConstants.{BEGIN, COMMIT, ROLLBACK}
 use Rattle.fax_core.specs.Queue.{Queue, Entry}
@@ -15,6 +19,10 @@ use Rattle.fax_store.proofs.ControlLemmas.{begins, commits, commit_fails, rolls_
 -- the tables mean the same in an equal database
 pub same_tables : {a b : Database} (m : Queue) (k : List Entry) → b ≡ a → TablesMean a m k → TablesMean b m k
 same_tables m k e h = subst (λ d. TablesMean d m k) (sym e) h
+
+-- memory always serves
+pub memory_serves : (c : Held MemStore) → Serves (state over_memory c)
+memory_serves c = record { clean = memory_is_clean c; is_open = refl }
 
 module _ (old new : State) (kept : doubt old.is_clean ≤ doubt new.is_clean) where
   -- the old state served, where the new one does and was opened then

@@ -78,7 +78,7 @@ impl<S: Alter> Store<S> {
         ensures written { (m₀ m : Queue) (k₀ k : List Entry) → Works (state S.Store self.old.conn) false m₀ k₀ m k
             → Serves (state S.Store self.new.conn)
             → Moves (state S.Store self.new.conn) result m₀ k₀ (with_mark modem.now down m) k }
-        ensures cause { IsName modem.now → IfErr result (λ fault. fault ≡ StoreFault.Unavailable) }
+        ensures cause { (IsTrue down → IsName modem.now) → IfErr result (λ fault. fault ≡ StoreFault.Unavailable) }
     {
         if down {
             self.add_mark(modem)
@@ -121,7 +121,7 @@ impl<S: Alter> Work<'_, S> {
         ensures same_reference { self.new.store.ghost_name ≡ self.old.store.ghost_name }
         ensures changes { Changes (state S.Store self.old.store.now.conn) self.old.failed
             (state S.Store self.new.store.now.conn) self.new.failed (with_mark modem.now down) (λ k. k) }
-        ensures cause { IsName modem.now → IfErr result (λ fault. fault ≡ StoreFault.Unavailable) }
+        ensures cause { (IsTrue down → IsName modem.now) → IfErr result (λ fault. fault ≡ StoreFault.Unavailable) }
         ensures served { Serves (state S.Store self.new.store.now.conn) → Serves (state S.Store self.old.store.now.conn) }
         ensures fails { self.new.failed ≡ is_err result }
         ensures refused { IsTrue self.old.failed → result ≡ Err StoreFault.Unavailable }

@@ -42,6 +42,7 @@ impl Store<MemStore> {
     /// `Unavailable` for want of memory.
     pub fn new_in_memory(alloc: Global) -> Result<MemoryStore, StoreFault>
         ensures empty { IfOk result (λ store. IsAtRest (state over_memory store.conn) empty_queue []) }
+        ensures serves { IfOk result (λ store. Serves (state over_memory store.conn)) }
         ensures cause { IfErr result (λ fault. fault ≡ StoreFault.Unavailable) }
     {
         let mut conn = Connection::open_in_memory(alloc)?;
