@@ -12,3 +12,4 @@ pub mod SpelledLemmas
 pub mod TextLemmas
 pub mod PrintedLemmas
 pub mod FaultLemmas
+pub mod FaultKindLemmas
