@@ -175,5 +175,5 @@ set_last (e ∷ []) (suc at) old new p size is made = absurd (omega arith)
 set_last (e ∷ f ∷ es) zero old new p size is made = absurd (omega arith)
 set_last (e ∷ f ∷ es) (suc at) old new p size is made = ap (λ t. spelled e ∷ t) (set_last (f ∷ es) at old new p (omega arith) is made)
 
-pub spelled_by : (old : Entry) (p : Parameter) (rule : Rule) → rule ≡ with_parameter old.rule p → spelled (record { pattern = old.pattern; rule = rule }) ≡ with_added old p
+pub spelled_by : (old : Entry) (p : Parameter) (rule : Rule) → rule ≡ with_parameter old.rule p → spelled (record { pattern = old.pattern; rule = rule; plain = old.plain }) ≡ with_added old p
 spelled_by old p rule e = ap (λ r. record { pattern = regex_source old.pattern; rule = r }) e

@@ -1,5 +1,7 @@
 //! Controls of destinations.
 
+ghost use Rattle.fax_dest.specs.Pattern.{IsPlain};
+
 use crate::fault::{FileFault, FileKind};
 use crate::line::{at_blank, begins_with_blank, cut_line, is_skipped};
 use crate::parameter::Parameter;
@@ -22,6 +24,7 @@ pub struct Controls {
 pub(crate) struct Entry {
     pattern: Regex,
     rule: Rule,
+    ghost plain: { ∥ IsPlain pattern ∥₁ },
 }
 
 impl Controls {

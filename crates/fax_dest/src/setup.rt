@@ -1,6 +1,7 @@
 //! The setup of modems.
 
 ghost use Rattle.std.specs.Prelude.{◌≤◌};
+ghost use Rattle.fax_dest.specs.Pattern.{IsPlain};
 
 use crate::fault::{FileFault, FileKind};
 use crate::line::{at_colon, cut_line, is_skipped, number_in, value_of};
@@ -34,6 +35,7 @@ pub struct Setup {
 pub(crate) struct Class {
     name: Name,
     pattern: Regex,
+    ghost plain: { ∥ IsPlain pattern ∥₁ },
 }
 
 impl Class {
