@@ -1,17 +1,15 @@
 -- A job that a lawful record holds: what is decided of it has one too.
-use Rattle.std.proofs.Common.{◌≡◌, ℕ, ◌+◌, ◌<◌, ◌≤◌, Bool, true, false, cond, not, ◌&&◌, ◌||◌, eqb, leb, ltb, List, [], ◌∷◌, ◌++◌, length, refl, sym, ap, subst, ◌∙◌, arith}
+use Rattle.std.proofs.Common.{◌≡◌, ℕ, ◌+◌, ◌≤◌, Bool, true, false, cond, not, ◌&&◌, ◌||◌, eqb, leb, ltb, List, [], ◌∷◌, ◌++◌, length, refl, ap, subst, arith}
 use Rattle.std.specs.Prelude.{Option, Some, None, Result, Ok, Err, IfOk, IfSome, is_some, is_none, unwrap_or, codes}
 use Rattle.std.proofs.lemmas.Bool.{and_parts, and_from, leb-true, leb-false, le-leb}
 use Rattle.std.proofs.lemmas.List.{length-append}
 use Rattle.std.proofs.lemmas.List.FromFn.{length-range_with_len}
-use Rattle.fax_job.specs.Alter.{alter_of, changes_of, if_there, is_alterable}
-use Rattle.fax_job.specs.Job.{is_lawful, is_lawful_killtime, are_lawful_pages, are_lawful_tries, are_lawful_dials}
+use Rattle.fax_job.specs.Alter.{alter_of, changes_of, if_there}
 use Rattle.fax_job.specs.Order.{◌>>=◌, modem_in, jobtag_in, tts_in, killtime_in, priority_in, maxtries_in, maxdials_in}
-use Rattle.fax_job.specs.Pair.{Pair, are_unknown, value_of}
+use Rattle.fax_job.specs.Pair.{Pair, value_of}
 use Rattle.fax_job.specs.declared.alter.Alter.{Alter}
 use Rattle.fax_job.specs.declared.job.Call.{Call}
 use Rattle.fax_job.specs.declared.job.Call.TheVariants.{Connected, Busy, NoAnswer, NoCarrier, Other}
-use Rattle.fax_job.specs.declared.job.JobFields.{JobFields}
 use Rattle.fax_job.specs.declared.job.Phase.{Phase}
 use Rattle.fax_job.specs.declared.job.Phase.TheVariants.{Held, Waiting, Granted, Done, Failed}
 use Rattle.fax_job.specs.declared.job.Wish.{Wish}
@@ -26,41 +24,11 @@ use Rattle.fax_core.specs.declared.report.Outcome.{Outcome}
 use Rattle.fax_job.specs.Status.{killed, kill_time_expired, too_many_dials, too_many_tries, unable_to_transmit}
 use Rattle.fax_core.specs.Ageing.{is_past}
 use Rattle.fax_core.specs.Decisions.{JobAndGrant, suspend_in, resume_in, kill_in, altered, alter_in, granted, after_call, call, is_connected, page_of, page, is_kill, phase_after, failed, retried, ended, ended_by, is_done, is_empty, outcome}
-use Rattle.fax_core.specs.Job.{Job, HasPages, fields_of, pages_to}
+use Rattle.fax_core.specs.Job.{Job, HasPages, fields_of}
 use Rattle.fax_core.specs.Laws.{HasRecord, HasJobRecord, RequestsKeepRecords, AlterationsKeepRecords, GrantsKeepRecords, ReportsKeepRecords}
-use Rattle.fax_core.specs.Sound.{FitsGrant, HasCallLeft, IsCounted}
-use Rattle.fax_core.proofs.NewJobLemmas.{IsKilltime, IsWithin, killtime_is, maxtries_is, maxdials_is}
-
--- ---- what makes a record lawful
-
-record IsWithinLimits (f : JobFields) : Type 0 where
-  number : (leb 1 f.job && leb f.job 999999) ≡ true
-  killtime : IsKilltime f.killtime
-  pages : are_lawful_pages f ≡ true
-  tries : are_lawful_tries f ≡ true
-  dials : are_lawful_dials f ≡ true
-  next : leb f.next 4102531200 ≡ true
-  extra : are_unknown f.extra ≡ true
-
-within_limits_of : (f : JobFields) → is_lawful f ≡ true → IsWithinLimits f
-within_limits_of f h =
-    let x = and_parts (leb 1 f.job && leb f.job 999999 && is_lawful_killtime f.killtime && are_lawful_pages f && are_lawful_tries f && are_lawful_dials f && leb f.next 4102531200) (are_unknown f.extra) h in
-    let n = and_parts (leb 1 f.job && leb f.job 999999 && is_lawful_killtime f.killtime && are_lawful_pages f && are_lawful_tries f && are_lawful_dials f) (leb f.next 4102531200) x.0 in
-    let d = and_parts (leb 1 f.job && leb f.job 999999 && is_lawful_killtime f.killtime && are_lawful_pages f && are_lawful_tries f) (are_lawful_dials f) n.0 in
-    let t = and_parts (leb 1 f.job && leb f.job 999999 && is_lawful_killtime f.killtime && are_lawful_pages f) (are_lawful_tries f) d.0 in
-    let p = and_parts (leb 1 f.job && leb f.job 999999 && is_lawful_killtime f.killtime) (are_lawful_pages f) t.0 in
-    let k = and_parts (leb 1 f.job && leb f.job 999999) (is_lawful_killtime f.killtime) p.0 in
-    record { number = k.0; killtime = k.1; pages = p.1; tries = t.1; dials = d.1; next = n.1; extra = x.1 }
-
-lawful_from : (f : JobFields) → IsWithinLimits f → is_lawful f ≡ true
-lawful_from f h =
-    and_from _ (are_unknown f.extra)
-    (and_from _ (leb f.next 4102531200)
-    (and_from _ (are_lawful_dials f)
-    (and_from _ (are_lawful_tries f)
-    (and_from _ (are_lawful_pages f)
-    (and_from _ (is_lawful_killtime f.killtime) h.number h.killtime)
-    h.pages) h.tries) h.dials) h.next) h.extra
+use Rattle.fax_core.specs.Sound.{FitsGrant, HasCallLeft}
+use Rattle.fax_core.proofs.NewJobLemmas.{killtime_is, maxtries_is, maxdials_is}
+use Rattle.fax_core.proofs.RecordLemmas.{IsKilltime, IsWithin, within_limits_of, lawful_from}
 
 -- ---- counters
 

@@ -17,5 +17,6 @@ pub mod FitsLemmas
 pub mod RefusalLemmas
 pub mod ReportLemmas
 pub mod ChangeLemmas
+pub mod RecordLemmas
 pub mod NewJobLemmas
 pub mod LawfulLemmas

@@ -8,7 +8,7 @@ use Rattle.fax_job.specs.declared.order.Order.{Order}
 use Rattle.fax_job.specs.declared.order.OrderFault.{OrderFault}
 use Rattle.fax_job.specs.declared.order.OrderFault.TheVariants.{NoPages, BadKilltime}
 use Rattle.fax_job.specs.declared.refusal.Refusal.TheVariants.{Unavailable}
-use Rattle.fax_job.specs.Job.{is_lawful, is_lawful_killtime, are_lawful_pages, are_lawful_tries, are_lawful_dials}
+use Rattle.fax_job.specs.Job.{is_lawful}
 use Rattle.fax_job.specs.Order.{◌>>=◌, pages, dial_in, modem_in, jobtag_in, tts_in, killtime_in, priority_in, totpages_in, limit_in, maxtries_in, maxdials_in, moment_in, number_within, value_or_none, order_of}
 use Rattle.fax_job.specs.Number.{number_of}
 use Rattle.fax_job.specs.Pair.{Pair, are_unknown, extra_of}
@@ -17,14 +17,9 @@ use Rattle.fax_core.specs.Decisions.{new_job}
 use Rattle.fax_core.specs.Job.{Job, job_of, fields_of}
 use Rattle.fax_core.specs.Submission.{recorded, ReadOrdersAreLawful}
 use Rattle.fax_core.proofs.FitsLemmas.{job_again}
+use Rattle.fax_core.proofs.RecordLemmas.{IsKilltime, IsWithin, lawful_from}
 
 -- ---- the values
-
-abbrev pub IsKilltime : Option ℕ → Type 0
-IsKilltime killtime = is_lawful_killtime killtime ≡ true
-
-abbrev pub IsWithin : ℕ → ℕ → Type 0
-IsWithin greatest number = (leb 1 number && leb number greatest) ≡ true
 
 zero_is_none : (seconds : ℕ) (none : Bool) → eqb seconds 0 ≡ none → IsKilltime (cond none None (Some seconds))
 zero_is_none seconds true e = refl
@@ -127,20 +122,15 @@ unused greatest number h =
 
 lawful_job : (o : Order) (n t : ℕ) → IsFit o → leb 1 n ≡ true → leb n 999999 ≡ true → is_lawful (fields_of (new_job o n t)) ≡ true
 lawful_job o n t h first last =
-    let f = fields_of (new_job o n t) in
-    and_from _ (are_unknown o.extra)
-    (and_from _ (leb 0 4102531200)
-    (and_from _ (are_lawful_dials f)
-    (and_from _ (are_lawful_tries f)
-    (and_from _ (are_lawful_pages f)
-    (and_from (leb 1 n && leb n 999999) (is_lawful_killtime o.killtime)
-    (and_from (leb 1 n) (leb n 999999) first last)
-    h.killtime)
-    (unused 9999 o.totpages h.totpages))
-    (unused 1000 o.maxtries h.maxtries))
-    (unused 1000 o.maxdials h.maxdials))
-    refl)
-    h.extra
+    lawful_from (fields_of (new_job o n t)) (record {
+      number = and_from (leb 1 n) (leb n 999999) first last;
+      killtime = h.killtime;
+      pages = unused 9999 o.totpages h.totpages;
+      tries = unused 1000 o.maxtries h.maxtries;
+      dials = unused 1000 o.maxdials h.maxdials;
+      next = refl;
+      extra = h.extra;
+    })
 
 read_lawful : (ps : List Pair) (o : Order) (n t : ℕ) → order_of ps ≡ Ok o → 1 ≤ n → n ≤ 999999 → is_lawful (fields_of (new_job o n t)) ≡ true
 read_lawful ps o n t e first last = lawful_job o n t (subst (λ (r : Result Order OrderFault). IfOk r IsFit) e (read_fit ps)) (le-leb 1 n first) (le-leb n 999999 last)

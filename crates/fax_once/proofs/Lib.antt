@@ -13,3 +13,4 @@ pub mod GivenLemmas
 pub mod VerdictLemmas
 pub mod RequestLemmas
 pub mod OneVerdictLemmas
+pub mod AcceptedLemmas

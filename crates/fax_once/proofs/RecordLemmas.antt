@@ -35,7 +35,7 @@ past num P last low (x ∷ xs) n all h = elim (cases_Bool (num x == n)) [
 ]
 
 pub no_grant : (m : Queue) (n : ℕ) → All IsLawfulGrant m.grants → 999999999 < n → None ≡ grant_numbered n m
-no_grant m n all h = sym (past (λ (g : Grant). g.number) IsLawfulGrant 999999999 (λ g l. l.number.1) m.grants n all h)
+no_grant m n all h = sym (past (λ (g : Grant). g.number) IsLawfulGrant 999999999 (λ g l. l.limits.number.1) m.grants n all h)
 
 -- ---- jobs, as they are at t
 

@@ -34,7 +34,7 @@ same_ask is = cc
 
 -- ---- numbers that are used
 
-of_entry : (client : List ℕ) (number : ℕ) (e : Entry) → IsOf client number e → (bytes_eq e.client client && eqb e.number number) ≡ true
+pub of_entry : (client : List ℕ) (number : ℕ) (e : Entry) → IsOf client number e → (bytes_eq e.client client && eqb e.number number) ≡ true
 of_entry client number e of = and_from (bytes_eq e.client client) (eqb e.number number) ((bytes_decides e.client client).1 of.client_is) (eq-eqb e.number number of.number_is)
 
 entry_of : (client : List ℕ) (number : ℕ) (e : Entry) → (bytes_eq e.client client && eqb e.number number) ≡ true → IsOf client number e
@@ -44,7 +44,7 @@ or_true : (b : Bool) → (b || true) ≡ true
 or_true true = refl
 or_true false = refl
 
-one_of : (p : Entry → Bool) (es : List Entry) (e : Entry) → Has es e → p e ≡ true → list_any p es ≡ true
+pub one_of : (p : Entry → Bool) (es : List Entry) (e : Entry) → Has es e → p e ≡ true → list_any p es ≡ true
 one_of p [] e has is = absurd has
 one_of p (x ∷ es) e (inl here) is = ap (λ b. b || list_any p es) (ap p (sym here) ∙ is)
 one_of p (x ∷ es) e (inr there) is = ap (λ b. p x || b) (one_of p es e there is) ∙ or_true (p x)

@@ -1,9 +1,10 @@
 //! Laws of the definitions.
 //!
 //! What such a function does is nothing: its contract is the law. The statements stand in
-//! `specs/Laws.antt`.
+//! `specs/Laws.antt`. One more is there, `StaysSound`, which speaks of every store and so can be no
+//! clause; it is the lemma `stays_sound`.
 
-ghost use Rattle.fax_once.specs.Laws.{OneVerdict};
+ghost use Rattle.fax_once.specs.Laws.{AcceptedOnce, OneVerdict};
 
 use fax_ask::laws::asks;
 
@@ -14,3 +15,9 @@ pub fn one_verdict()
 {
     asks();
 }
+
+/// What is accepted has a client and a number that had no kept reply, and its reply is kept for them. So
+/// no request number of a client is accepted twice.
+pub fn accepted_once()
+    ensures { AcceptedOnce }
+{}

@@ -29,11 +29,11 @@ pub record Fits (g : Grant) : Type 0 where
 
 pub fits : (g : Grant) → IsLawfulGrant g → Fits g
 fits g lawful = record {
-  number = let a = lawful.number.1 in omega arith;
-  job = let a = lawful.job.1 in omega arith;
-  first_page = let a = lawful.pages.0 in omega arith;
-  last_page = let a = lawful.pages.1 in omega arith;
-  confirmed = let a = lawful.pages.2 in omega arith;
+  number = let a = lawful.limits.number.1 in omega arith;
+  job = let a = lawful.limits.job.1 in omega arith;
+  first_page = let a = lawful.limits.pages.0 in omega arith;
+  last_page = let a = lawful.limits.pages.1 in omega arith;
+  confirmed = let a = lawful.limits.pages.2 in omega arith;
 }
 
 pub same_grant : (g : Grant) (number job : ℕ) (modem : List ℕ) (first_page last_page : ℕ) (call : Option Call) (confirmed : ℕ) (is_open : Bool)

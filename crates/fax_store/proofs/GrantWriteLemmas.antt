@@ -157,10 +157,12 @@ module _ (g : Grant) where
 
   report_lawful : g.confirmed ≤ 9999 → (x : Grant) → x.number ≡ g.number → IsSameGrant x g → IsLawfulGrant x → IsLawfulGrant g
   report_lawful few x is same was = record {
-    number = subst (λ n. (1 ≤ n) × (n ≤ 999999999)) is was.number;
-    job = subst (λ n. (1 ≤ n) × (n ≤ 999999)) same.job was.job;
+    limits = record {
+      number = subst (λ n. (1 ≤ n) × (n ≤ 999999999)) is was.limits.number;
+      job = subst (λ n. (1 ≤ n) × (n ≤ 999999)) same.job was.limits.job;
+      pages = (subst (λ n. n ≤ 9999) same.first_page was.limits.pages.0, subst (λ n. n ≤ 9999) same.last_page was.limits.pages.1, few);
+    };
     modem = subst IsName same.modem was.modem;
-    pages = (subst (λ n. n ≤ 9999) same.first_page was.pages.0, subst (λ n. n ≤ 9999) same.last_page was.pages.1, few);
   }
 
   put_lawful : g.confirmed ≤ 9999 → (x : Grant) → (x.number ≡ g.number → IsSameGrant x g) → IsLawfulGrant x → IsLawfulGrant (put x)
@@ -229,7 +231,7 @@ module _ (n : ℕ) where
 
   shut_lawful : (x : Grant) → IsLawfulGrant x → IsLawfulGrant (shut x)
   shut_lawful x was = elim (cases_Bool (x.number == n)) [
-    | inl here ↦ subst IsLawfulGrant (sym (shut_by x true here)) (record { number = was.number; job = was.job; modem = was.modem; pages = was.pages })
+    | inl here ↦ subst IsLawfulGrant (sym (shut_by x true here)) (record { limits = record { number = was.limits.number; job = was.limits.job; pages = was.limits.pages }; modem = was.modem })
     | inr off ↦ subst IsLawfulGrant (sym (shut_by x false off)) was
   ]
 

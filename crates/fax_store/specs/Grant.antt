@@ -48,9 +48,7 @@ pub record IsLawfulHold (h : Hold) : Type 0 where
 -- open, with its numbers within their limits
 pub record IsOpenGrant (g : Grant) : Type 0 where
   pub is_open : IsTrue g.is_open
-  pub number : (1 ≤ g.number) × (g.number ≤ 999999999)
-  pub job : (1 ≤ g.job) × (g.job ≤ 999999)
-  pub pages : (g.first_page ≤ 9999) × (g.last_page ≤ 9999) × (g.confirmed ≤ 9999)
+  pub limits : IsWithinLimits g
 
 -- what no report on a grant touches
 pub record IsSameGrant (g h : Grant) : Type 0 where

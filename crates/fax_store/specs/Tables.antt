@@ -1,5 +1,5 @@
 -- What a database with the six tables means.
-use Rattle.std.specs.Prelude.{◌≡◌, ◌⊎◌, ◌≤◌, ◌<◌, ◌^◌, List, [], ◌∷◌, All, map, drop, IsTrue}
+use Rattle.std.specs.Prelude.{◌≡◌, ◌⊎◌, ℕ, ◌≤◌, ◌<◌, ◌^◌, List, [], ◌∷◌, All, map, drop, IsTrue}
 use Rattle.std.specs.List.{AllByRecursion}
 use Rattle.std.specs.List.Sorted.{IsPermutation}
 use Rattle.sqlite.specs.Order.{Row}
@@ -10,15 +10,14 @@ use Rattle.fax_core.specs.Job.{fields_of}
 use Rattle.fax_core.specs.Queue.{Queue, Entry, open_grants}
 use Rattle.fax_core.specs.declared.grants.Grant.{Grant}
 use Rattle.fax_job.specs.Name.{IsName}
+use Rattle.fax_store.specs.Grant.{IsWithinLimits}
 use Rattle.fax_store.specs.Schema.{six_tables}
 use Rattle.fax_store.specs.Job.{IsLawfulJob}
 use Rattle.fax_store.specs.Row.{job_row, grant_row, hold_columns, down_columns, entry_columns, meta_row}
 
 pub record IsLawfulGrant (g : Grant) : Type 0 where
-  pub number : (1 ≤ g.number) × (g.number ≤ 999999999)
-  pub job : (1 ≤ g.job) × (g.job ≤ 999999)
+  pub limits : IsWithinLimits g
   pub modem : IsName g.modem
-  pub pages : (g.first_page ≤ 9999) × (g.last_page ≤ 9999) × (g.confirmed ≤ 9999)
 
 -- the clock is a moment, and the next numbers are at most one past the last
 pub record IsLawfulMeta (m : Queue) : Type 0 where
@@ -26,10 +25,14 @@ pub record IsLawfulMeta (m : Queue) : Type 0 where
   pub next_job : (1 ≤ m.next_job) × (m.next_job ≤ 1000000)
   pub next_grant : (1 ≤ m.next_grant) × (m.next_grant ≤ 1000000000)
 
+-- the status of a reply that is kept: OK or Created
+abbrev pub IsKeptStatus : ℕ → Type 0
+IsKeptStatus status = (status ≡ 200) ⊎ (status ≡ 201)
+
 pub record IsLawfulEntry (e : Entry) : Type 0 where
   pub client : IsName e.client
   pub number : (1 ≤ e.number) × (e.number < 10 ^ 18)
-  pub status : (e.status ≡ 200) ⊎ (e.status ≡ 201)
+  pub status : IsKeptStatus e.status
 
 -- every record is lawful
 pub record AreLawful (m : Queue) (k : List Entry) : Type 0 where

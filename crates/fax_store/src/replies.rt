@@ -1,11 +1,11 @@
 //! The kept replies.
 
-ghost use Rattle.std.specs.Prelude.{◌≡◌, ◌⊎◌, ◌↔◌, ◌≤◌, ◌<◌, ◌^◌, ◌∷◌, ◌++◌, [], pos, false, List, Err, IfErr, IfOk, IfSome, is_err, IsTrue};
+ghost use Rattle.std.specs.Prelude.{◌≡◌, ◌↔◌, ◌≤◌, ◌<◌, ◌^◌, ◌∷◌, ◌++◌, [], pos, false, List, Err, IfErr, IfOk, IfSome, is_err, IsTrue};
 ghost use Rattle.sqlite.specs.Held.{state};
 ghost use Rattle.fax_store.specs.Fault.{OrUnavailable};
 ghost use Rattle.fax_job.specs.Name.{IsName};
 ghost use Rattle.fax_core.specs.Queue.{Queue, Entry};
-ghost use Rattle.fax_store.specs.Tables.{IsLawfulEntry};
+ghost use Rattle.fax_store.specs.Tables.{IsKeptStatus, IsLawfulEntry};
 ghost use Rattle.fax_store.specs.Store.{Serves, Means, MeansNow, Stays, Answers};
 ghost use Rattle.fax_store.specs.Work.{Works, Keeps, Changes, AnswersIn, Moves};
 
@@ -35,7 +35,7 @@ pub struct Kept {
 
 /// Whether a reply of this status is kept.
 fn is_kept_status(status: u16) -> bool
-    ensures { IsTrue result ↔ ((status ≡ 200) ⊎ (status ≡ 201)) }
+    ensures { IsTrue result ↔ IsKeptStatus status }
 {
     status == 200 || status == 201
 }
@@ -55,7 +55,7 @@ impl Kept {
     fn in_row(row: &Row) -> Result<Kept, StoreFault>
         ensures found { (e : Entry) → row.now ≡ entry_shown e → IsLawfulEntry e
             → OrUnavailable result (λ kept. Tells kept e) }
-        ensures lawful { IfOk result (λ kept. (kept.status ≡ 200) ⊎ (kept.status ≡ 201)) }
+        ensures lawful { IfOk result (λ kept. IsKeptStatus kept.status) }
     {
         let said = value_at(row, 0)?;
         let status = small_at(row, 1)?;
@@ -81,7 +81,7 @@ impl<S: Alter> Store<S> {
         ensures stays { Stays (state S.Store self.old.conn) (state S.Store self.new.conn) }
         ensures found { (m : Queue) (k : List Entry) → Means (state S.Store self.old.conn) m k
             → Serves (state S.Store self.new.conn) → OrUnavailable result (IsKeptFor k client.now number) }
-        ensures lawful { IfOk result (λ found. IfSome found (λ kept. (kept.status ≡ 200) ⊎ (kept.status ≡ 201))) }
+        ensures lawful { IfOk result (λ found. IfSome found (λ kept. IsKeptStatus kept.status)) }
     {
         self.read_reply(client, number)
     }
@@ -95,7 +95,7 @@ impl<S: Alter> Store<S> {
         ensures answers { (m : Queue) (k : List Entry) → MeansNow (state S.Store self.old.conn) m k
             → Serves (state S.Store self.new.conn)
             → Answers (state S.Store self.old.conn) (state S.Store self.new.conn) result (IsKeptFor k client.now number) }
-        ensures lawful { IfOk result (λ found. IfSome found (λ kept. (kept.status ≡ 200) ⊎ (kept.status ≡ 201))) }
+        ensures lawful { IfOk result (λ found. IfSome found (λ kept. IsKeptStatus kept.status)) }
     {
         let number = number_value(number);
         match self.find(SELECT_REPLY, params![client, number])? {
@@ -117,7 +117,7 @@ impl<S: Alter> Store<S> {
             → Serves (state S.Store self.new.conn)
             → Moves (state S.Store self.new.conn) result m₀ k₀ m
             (k ++ entry client.now number said.now status body.now ∷ []) }
-        ensures cause { IsName client.now → (status ≡ 200) ⊎ (status ≡ 201)
+        ensures cause { IsName client.now → IsKeptStatus status
             → IfErr result (λ fault. fault ≡ StoreFault.Unavailable) }
     {
         let number = number_value(number);
@@ -145,7 +145,7 @@ impl<S: Alter> Work<'_, S> {
             (state S.Store self.new.store.now.conn) self.new.failed }
         ensures found { AnswersIn (state S.Store self.old.store.now.conn) self.old.failed
             (state S.Store self.new.store.now.conn) result (λ m k found. IsKeptFor k client.now number found) }
-        ensures lawful { IfOk result (λ found. IfSome found (λ kept. (kept.status ≡ 200) ⊎ (kept.status ≡ 201))) }
+        ensures lawful { IfOk result (λ found. IfSome found (λ kept. IsKeptStatus kept.status)) }
         ensures served { Serves (state S.Store self.new.store.now.conn) → Serves (state S.Store self.old.store.now.conn) }
         ensures fails { self.new.failed ≡ is_err result }
         ensures refused { IsTrue self.old.failed → result ≡ Err StoreFault.Unavailable }
@@ -176,7 +176,7 @@ impl<S: Alter> Work<'_, S> {
         ensures changes { Changes (state S.Store self.old.store.now.conn) self.old.failed
             (state S.Store self.new.store.now.conn) self.new.failed (λ m. m)
             (λ k. k ++ entry client.now number said.now status body.now ∷ []) }
-        ensures cause { IsName client.now → (status ≡ 200) ⊎ (status ≡ 201)
+        ensures cause { IsName client.now → IsKeptStatus status
             → IfErr result (λ fault. fault ≡ StoreFault.Unavailable) }
         ensures served { Serves (state S.Store self.new.store.now.conn) → Serves (state S.Store self.old.store.now.conn) }
         ensures fails { self.new.failed ≡ is_err result }

@@ -1,17 +1,39 @@
 -- What a served input that ended as closed shows.
-use Rattle.std.proofs.Common.{◌≡◌, ℕ, List, length, Option, subst, inl, inr}
-use Rattle.faxqd.specs.declared.conversation.End.{End}
+use Rattle.std.proofs.Common.{◌≡◌, ◌∙◌, ℕ, List, [], ◌∷◌, length, Option, subst, inl, inr}
+use Rattle.sqlite.specs.Held.{Held, state}
+use Rattle.sqlite.specs.Steps.{over_memory}
+use Rattle.sqlite_trees.specs.declared.memory.MemStore.{MemStore}
+use Rattle.fax_core.specs.Settings.{Settings}
+use Rattle.httparse.specs.Grammar.{RequestHead}
+use Rattle.fax_ask.specs.Response.{Response}
 use Rattle.faxqd.specs.declared.conversation.End.TheVariants.{Closed}
 use Rattle.faxqd.specs.declared.conversation.Served.{Served}
-use Rattle.faxqd.specs.Conversation.{EndsBy, Reads, spelled_turns}
-use Rattle.faxqd.specs.Replay.{IsAnswered}
+use Rattle.faxqd.specs.Clock.{moment_said}
+use Rattle.faxqd.specs.Conversation.{Answers, EndsBy, Reads, Turn, spelled_turns}
+use Rattle.faxqd.specs.Desk.{HandlesAt, IsHandled}
+use Rattle.faxqd.specs.Replay.{AreHandled, AreOfEmptyQueue, IsAnswered, moment_of}
 use Rattle.faxqd.specs.Serve.{AnswersInput, IsUnread}
 use Rattle.faxqd.proofs.Progress.{Doing}
 
+module _ {H : Type 0} (answers : Doing H) (settings : H → Settings) (last : H → ℕ) (held : H → Held MemStore)
+    (each : (old : H) (head : RequestHead) (body : List ℕ) (reply : Response) (new : H) → answers old head body reply new
+    → (settings new ≡ settings old) × IsHandled (λ said moment. (moment ≡ moment_said (last old) said) × (last new ≡ moment)) (settings old) (state over_memory (held old)) head body reply (state over_memory (held new))) where
+  -- each answer is an arrival that is handled, so all of them are
+  pub handled_of : (old : H) (turns : List Turn) (new : H) → Answers answers old turns new → AreHandled (settings old) (last old) (held old) turns
+  handled_of old [] new same = tt
+  handled_of old (turn ∷ turns) new (next, here, behind) =
+      let it = each old turn.head turn.body turn.reply next here in
+      let when : last next ≡ moment_of (last old) turn = it.1.1.1 ∙ it.1.1.0 in (
+        held next,
+        subst (λ t. HandlesAt t (settings old) (state over_memory (held old)) turn.head turn.body turn.reply (state over_memory (held next))) it.1.1.0 it.1.2,
+        subst (λ t. AreHandled (settings old) t (held next) turns) when (subst (λ s. AreHandled s (last next) (held next) turns) it.0 (handled_of next turns new behind)),
+      )
+
 pub answered_of : {H : Type 0} (answers : Doing H) (bound : ℕ) (unread read : Option (List ℕ)) (old new : H)
     (before after : Option (List ℕ)) (served : Served) → served.end ≡ Closed
+    → ((turns : List Turn) → Answers answers old turns new → AreOfEmptyQueue turns)
     → AnswersInput answers bound unread read old new before after served → IsAnswered unread read before after
-answered_of answers bound unread read old new before after served closed (inl (input, whole, c)) =
+answered_of answers bound unread read old new before after served closed replies (inl (input, whole, c)) =
     let ends : EndsBy bound (length c.turns) c.rest (spelled_turns c.turns) before after Closed =
     subst (λ e. EndsBy bound (length c.turns) c.rest (spelled_turns c.turns) before after e) closed c.ends in
     record {
@@ -19,7 +41,16 @@ answered_of answers bound unread read old new before after served closed (inl (i
       turns = c.turns;
       whole = whole;
       messages = subst (λ rest. Reads input c.turns rest) ends.1 c.reads;
+      replies = replies c.turns c.answered;
       written = ends.2;
     }
-answered_of answers bound unread read old new before after served closed (inr (gone, unanswered)) =
+answered_of answers bound unread read old new before after served closed replies (inr (gone, unanswered)) =
     absurd (subst (λ e. IsUnread unread read e) closed gone)
+
+-- the same, with what tells the handler first
+pub handled_from : {H : Type 0} (answers : Doing H) (old : H) (turns : List Turn) (new : H) → Answers answers old turns new
+    → (settings : H → Settings) (last : H → ℕ) (held : H → Held MemStore)
+    → ((old : H) (head : RequestHead) (body : List ℕ) (reply : Response) (new : H) → answers old head body reply new
+    → (settings new ≡ settings old) × IsHandled (λ said moment. (moment ≡ moment_said (last old) said) × (last new ≡ moment)) (settings old) (state over_memory (held old)) head body reply (state over_memory (held new)))
+    → AreHandled (settings old) (last old) (held old) turns
+handled_from answers old turns new answered settings last held each = handled_of answers settings last held each old turns new answered

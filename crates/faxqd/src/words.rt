@@ -22,6 +22,11 @@ pub enum WordsFault {
 }
 
 impl From<AllocError> for WordsFault {
+    ghost use Rattle.std.specs.Prelude.{◌≡◌};
+    ghost use Rattle.faxqd.specs.declared.words.WordsFault.TheVariants.{NoMemory};
+
+    ghost from_gives = { λ _ fault. fault ≡ NoMemory };
+
     fn from(_: AllocError) -> WordsFault {
         WordsFault::NoMemory
     }

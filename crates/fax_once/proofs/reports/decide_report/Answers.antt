@@ -17,7 +17,7 @@ returns-in-Some-2-clause-decided g c m k sound means serves =
     let grant = c.in_ok-grant.ensures.found m k means serves_grant in
     let job = subst (λ n. option_map (λ f. job_of f) c.in_ok-job.field-0 ≡ job_numbered n (aged c.args.t m)) c.from.ensures (c.in_ok-job.ensures.found m k looked serves_job) in
     let there = are_there m c.args.t c.args.number c.in-Some.grant c.in-Some-2.job _ _ grant c.in-Some.is job c.in-Some-2.is in
-    let few = (lawful_grant m.grants c.in-Some.grant.number c.in-Some.grant (looked serves_grant).means.lawful.grants there.grant_there).pages in
+    let few = (lawful_grant m.grants c.in-Some.grant.number c.in-Some.grant (looked serves_grant).means.lawful.grants there.grant_there).limits.pages in
     subst (λ step. IfOk c.report_on.result (Decides step m c.args.t))
     (on_grant_is (settings_of c.args.office.now.setup c.args.office.now.controls) m c.args.t c.args.number c.args.report c.in-Some.grant c.in-Some-2.job _ _ grant c.in-Some.is job c.in-Some-2.is)
     (c.report_on.ensures.decided m k sound (c.job_at.ensures.stays m k looked) serves there few.2)

@@ -39,6 +39,6 @@ returns-else-is_within_limits-clause-found c g is lawful =
     (c.in_ok-call_at.ensures g.call (has_number c.args.row.now (grant_shown g) 5 (call_number g.call) is (omega arith) refl))
     (c.in_ok-small_at-3.ensures g.confirmed (has_number c.args.row.now (grant_shown g) 6 g.confirmed is (omega arith) refl) numbers.confirmed)
     (c.in_ok-open_at.ensures g (has_number c.args.row.now (grant_shown g) 7 (shut_number g) is (omega arith) refl)) in
-    let within = subst IsWithinLimits (sym same) (record { number = lawful.number; job = lawful.job; pages = lawful.pages }) in
+    let within = subst IsWithinLimits (sym same) lawful.limits in
     let yes = c.is_within_limits.ensures.alone within in
     absurd (let no = c.if-is_within_limits.false in cc)

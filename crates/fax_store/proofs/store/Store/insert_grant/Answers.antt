@@ -22,7 +22,7 @@ returns-clause-written g c m₀ m k₀ k works s fit =
     let params = hold_params grant in
     let others = grant_params grant in
     let at_mid = c.run-2.ensures.served s in
-    let lawful : IsLawfulGrant grant = record { number = fit.number; job = fit.job; modem = search rules; pages = fit.pages } in
+    let lawful : IsLawfulGrant grant = record { limits = fit.limits; modem = search rules } in
     let held : HasRun INSERT_HOLD.now params old mid = subst (λ p. HasRun INSERT_HOLD.now p old mid) (search rules) (c.in_ok-run.ensures.ran at_mid.clean) in
     let ran : OnOk c.run-2.result (HasRun INSERT_GRANT.now others mid new) = subst (λ p. OnOk c.run-2.result (HasRun INSERT_GRANT.now p mid new)) (search rules) (c.run-2.ensures.ran s.clean) in
     two_steps old mid new INSERT_HOLD.now INSERT_GRANT.now params others 2 1 c.run-2.result m₀ m (with_placed grant m) k₀ k k c.run.ensures.served c.run-2.ensures.served works s held ran (c.run-2.ensures.left s.clean) c.run-2.ensures.cause
