@@ -1,6 +1,6 @@
 //! What the queue asks of its setup and its destination controls.
 
-ghost use Rattle.std.specs.Prelude.{◌≡◌, IfOk};
+ghost use Rattle.std.specs.Prelude.{◌≡◌, Ok, IfOk};
 ghost use Rattle.fax_core.specs.Job.{job_of};
 ghost use Rattle.fax_core.specs.State.{state_at};
 ghost use Rattle.fax_once.specs.Settings.{have_moment, rule_for, settings_of};
@@ -35,9 +35,9 @@ impl Office {
     ///
     /// # Errors
     ///
-    /// Where `jiff` doesn't tell the time.
+    /// None: each moment is within `jiff`'s calendar.
     pub fn is_in_hours(&self, rule: &Rule, moment: Moment) -> Result<bool, MomentFault>
-        ensures { IfOk result (λ is_in. is_in ≡ have_moment self.now.setup rule.now.hours moment) }
+        ensures { result ≡ Ok (have_moment self.now.setup rule.now.hours moment) }
     {
         let (day, minute) = week_minute(self.setup.zone(), moment)?;
         Ok(rule.hours.admits(day, minute))
