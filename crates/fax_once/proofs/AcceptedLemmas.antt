@@ -1,5 +1,5 @@
 -- What an accepted arrival had, and what any arrival leaves.
-use Rattle.std.proofs.Common.{◌≡◌, ◌≤◌, inl, inr, ℕ, Bool, true, false, cond, List, [], ◌∷◌, ◌++◌, length, Option, Some, None, Ok, Err, refl, sym, ap, subst, ◌∙◌, append-nil, arith}
+use Rattle.std.proofs.Common.{◌≡◌, inl, inr, ℕ, Bool, true, false, cond, List, [], ◌∷◌, ◌++◌, Option, Some, None, Ok, Err, refl, sym, ap, subst, ◌∙◌, append-nil, arith}
 use Rattle.std.specs.Prelude.{Result, MatchOption, MatchResult}
 use Rattle.sqlite.specs.State.{State}
 use Rattle.sqlite_rules.specs.Lists.{Has}
@@ -18,7 +18,7 @@ use Rattle.fax_core.specs.Sound.{Sound}
 use Rattle.fax_store.specs.Kept.{entry}
 use Rattle.fax_store.specs.Store.{IsAtRest}
 use Rattle.fax_once.specs.Arrival.{number_of, said_of}
-use Rattle.fax_once.specs.Laws.{AcceptedOnce, StaysSound}
+use Rattle.fax_once.specs.Laws.{AcceptedOnce, IsKeptOnce, IsSoundWith, StaysSound}
 use Rattle.fax_once.specs.Verdict.{Verdict, IsVerdict, Told, Accepted, denied, kept_with, stepped, is_used, seen_by, IsForBody, IsForRequest, Leaves}
 use Rattle.fax_once.specs.declared.arrival.Arrival.{Arrival}
 use Rattle.fax_once.proofs.VerdictLemmas.{of_entry, one_of}
@@ -61,19 +61,16 @@ module _ (s : Settings) (a : Arrival) (m : Queue) (k : List Entry) (after : Queu
   once_for_body number request (inl (ask, asks, is)) = once_unused number (is_used a.client.now number k) (step s m (decided_at m.clock a.moment) ask) refl is
   once_for_body number request (inr (fault, refused, is)) = absurd (is_told _ is)
 
-  abbrev IsAccepted : Type 0
-  IsAccepted = (number : ℕ) × (number_of a ≡ Ok number) × (is_used a.client.now number k ≡ false) × (is_used a.client.now number kept ≡ true) × (kept ≡ kept_with a number k reply)
-
-  once_by_number : (request : Request) (r : Result ℕ Refusal) → number_of a ≡ r → MatchResult r (λ number. IsForBody s a m k number request this) (λ refusal. this ≡ denied refusal) → IsAccepted
+  once_by_number : (request : Request) (r : Result ℕ Refusal) → number_of a ≡ r → MatchResult r (λ number. IsForBody s a m k number request this) (λ refusal. this ≡ denied refusal) → IsKeptOnce a k kept reply
   once_by_number request (Ok number) is h = let once = once_for_body number request h in (number, is, once.0, subst (λ es. is_used a.client.now number es ≡ true) (sym once.1) (used_by a k number reply), once.1)
   once_by_number request (Err refusal) is h = absurd (is_told _ h)
 
   once_for_request : (request : Request) (o : Option ℕ) (seen : ℕ → Response)
-      → MatchOption o (MatchResult (number_of a) (λ number. IsForBody s a m k number request this) (λ refusal. this ≡ denied refusal)) (λ job. this ≡ Told (seen job)) → IsAccepted
+      → MatchOption o (MatchResult (number_of a) (λ number. IsForBody s a m k number request this) (λ refusal. this ≡ denied refusal)) (λ job. this ≡ Told (seen job)) → IsKeptOnce a k kept reply
   once_for_request request None seen h = once_by_number request (number_of a) refl h
   once_for_request request (Some job) seen h = absurd (is_told _ h)
 
-  once_of : (o : Option Request) → MatchOption o (this ≡ denied NoRoute) (IsForRequest s a m k this) → IsAccepted
+  once_of : (o : Option Request) → MatchOption o (this ≡ denied NoRoute) (IsForRequest s a m k this) → IsKeptOnce a k kept reply
   once_of None h = absurd (is_told _ h)
   once_of (Some request) h = once_for_request request (seen_by request) _ h
 
@@ -83,13 +80,10 @@ accepted_once s a m k after kept reply h = once_of s a m k after kept reply (req
 -- ---- what is left
 
 module _ (settings : Settings) (a : Arrival) (m : Queue) (k : List Entry) (reply : Response) (s : State) (sound : Sound m) where
-  abbrev IsLeft : Type 0
-  IsLeft = (after : Queue) × (more : List Entry) × IsAtRest s after (k ++ more) × Sound after × (length more ≤ 1)
-
-  unchanged : IsAtRest s m k → IsLeft
+  unchanged : IsAtRest s m k → IsSoundWith k s
   unchanged rest = (m, [], subst (IsAtRest s m) (sym (append-nil k)) rest, sound, omega arith)
 
-  left_by : (v : Verdict) → IsVerdict settings a m k v → Leaves m k reply s v → IsLeft
+  left_by : (v : Verdict) → IsVerdict settings a m k v → Leaves m k reply s v → IsSoundWith k s
   left_by (Told told) is (same, rest) = unchanged rest
   left_by (Accepted after kept told) is (same, rest, stays) =
       let once = accepted_once settings a m k after kept told is in

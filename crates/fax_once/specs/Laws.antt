@@ -14,15 +14,22 @@ use Rattle.fax_once.specs.declared.arrival.Arrival.{Arrival}
 abbrev pub OneVerdict : Type 0
 OneVerdict = (settings : Settings) (a : Arrival) (m : Queue) (k : List Entry) (v w : Verdict) → IsVerdict settings a m k v → IsVerdict settings a m k w → v ≡ w
 
--- what is accepted has a client and a number that had no kept reply, and its reply is kept for them
-abbrev pub AcceptedOnce : Type 0
-AcceptedOnce = (settings : Settings) (a : Arrival) (m : Queue) (k : List Entry) (after : Queue) (kept : List Entry) (reply : Response)
-    → IsVerdict settings a m k (Accepted after kept reply)
-    → (number : ℕ) × (number_of a ≡ Ok number) × (is_used a.client.now number k ≡ false) × (is_used a.client.now number kept ≡ true)
+-- the arrival has a client and a number that had no kept reply, and the reply is kept for them
+abbrev pub IsKeptOnce : Arrival → List Entry → List Entry → Response → Type 0
+IsKeptOnce a k kept reply =
+    (number : ℕ) × (number_of a ≡ Ok number) × (is_used a.client.now number k ≡ false) × (is_used a.client.now number kept ≡ true)
     × (kept ≡ kept_with a number k reply)
 
--- whatever an arrival comes to, the store has a sound queue afterwards, and the kept replies of before with one more at most
+-- what is accepted is kept once
+abbrev pub AcceptedOnce : Type 0
+AcceptedOnce = (settings : Settings) (a : Arrival) (m : Queue) (k : List Entry) (after : Queue) (kept : List Entry) (reply : Response)
+    → IsVerdict settings a m k (Accepted after kept reply) → IsKeptOnce a k kept reply
+
+-- the store has a sound queue, and these kept replies with one more at most
+abbrev pub IsSoundWith : List Entry → State → Type 0
+IsSoundWith k s = (after : Queue) × (more : List Entry) × IsAtRest s after (k ++ more) × Sound after × (length more ≤ 1)
+
+-- whatever an arrival comes to, the store has a sound queue afterwards, and no kept reply is lost
 abbrev pub StaysSound : Type 1
 StaysSound = (settings : Settings) (a : Arrival) (m : Queue) (k : List Entry) (reply : Response) (s : State)
-    → Sound m → Handles settings a m k reply s
-    → (after : Queue) × (more : List Entry) × IsAtRest s after (k ++ more) × Sound after × (length more ≤ 1)
+    → Sound m → Handles settings a m k reply s → IsSoundWith k s

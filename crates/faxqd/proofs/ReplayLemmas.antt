@@ -15,19 +15,20 @@ use Rattle.faxqd.specs.Replay.{AreHandled, AreOfEmptyQueue, IsAnswered, moment_o
 use Rattle.faxqd.specs.Serve.{AnswersInput, IsUnread}
 use Rattle.faxqd.proofs.Progress.{Doing}
 
-module _ {H : Type 0} (answers : Doing H) (settings : H → Settings) (last : H → ℕ) (held : H → Held MemStore)
-    (each : (old : H) (head : RequestHead) (body : List ℕ) (reply : Response) (new : H) → answers old head body reply new
-    → (settings new ≡ settings old) × IsHandled (λ said moment. (moment ≡ moment_said (last old) said) × (last new ≡ moment)) (settings old) (state over_memory (held old)) head body reply (state over_memory (held new))) where
-  -- each answer is an arrival that is handled, so all of them are
-  pub handled_of : (old : H) (turns : List Turn) (new : H) → Answers answers old turns new → AreHandled (settings old) (last old) (held old) turns
-  handled_of old [] new same = tt
-  handled_of old (turn ∷ turns) new (next, here, behind) =
-      let it = each old turn.head turn.body turn.reply next here in
-      let when : last next ≡ moment_of (last old) turn = it.1.1.1 ∙ it.1.1.0 in (
-        held next,
-        subst (λ t. HandlesAt t (settings old) (state over_memory (held old)) turn.head turn.body turn.reply (state over_memory (held next))) it.1.1.0 it.1.2,
-        subst (λ t. AreHandled (settings old) t (held next) turns) when (subst (λ s. AreHandled s (last next) (held next) turns) it.0 (handled_of next turns new behind)),
-      )
+-- each answer is an arrival that is handled, so all of them are
+pub handled_of : {H : Type 0} (answers : Doing H) (old : H) (turns : List Turn) (new : H) → Answers answers old turns new
+    → (settings : H → Settings) (last : H → ℕ) (held : H → Held MemStore)
+    → ((old : H) (head : RequestHead) (body : List ℕ) (reply : Response) (new : H) → answers old head body reply new
+    → (settings new ≡ settings old) × IsHandled (λ said moment. (moment ≡ moment_said (last old) said) × (last new ≡ moment)) (settings old) (state over_memory (held old)) head body reply (state over_memory (held new)))
+    → AreHandled (settings old) (last old) (held old) turns
+handled_of answers old [] new same settings last held each = tt
+handled_of answers old (turn ∷ turns) new (next, here, behind) settings last held each =
+    let it = each old turn.head turn.body turn.reply next here in
+    let when : last next ≡ moment_of (last old) turn = it.1.1.1 ∙ it.1.1.0 in (
+      held next,
+      subst (λ t. HandlesAt t (settings old) (state over_memory (held old)) turn.head turn.body turn.reply (state over_memory (held next))) it.1.1.0 it.1.2,
+      subst (λ t. AreHandled (settings old) t (held next) turns) when (subst (λ s. AreHandled s (last next) (held next) turns) it.0 (handled_of answers next turns new behind settings last held each)),
+    )
 
 pub answered_of : {H : Type 0} (answers : Doing H) (bound : ℕ) (unread read : Option (List ℕ)) (old new : H)
     (before after : Option (List ℕ)) (served : Served) → served.end ≡ Closed
@@ -46,11 +47,3 @@ answered_of answers bound unread read old new before after served closed replies
     }
 answered_of answers bound unread read old new before after served closed replies (inr (gone, unanswered)) =
     absurd (subst (λ e. IsUnread unread read e) closed gone)
-
--- the same, with what tells the handler first
-pub handled_from : {H : Type 0} (answers : Doing H) (old : H) (turns : List Turn) (new : H) → Answers answers old turns new
-    → (settings : H → Settings) (last : H → ℕ) (held : H → Held MemStore)
-    → ((old : H) (head : RequestHead) (body : List ℕ) (reply : Response) (new : H) → answers old head body reply new
-    → (settings new ≡ settings old) × IsHandled (λ said moment. (moment ≡ moment_said (last old) said) × (last new ≡ moment)) (settings old) (state over_memory (held old)) head body reply (state over_memory (held new)))
-    → AreHandled (settings old) (last old) (held old) turns
-handled_from answers old turns new answered settings last held each = handled_of answers settings last held each old turns new answered
