@@ -6,7 +6,7 @@ mod CutLemmas
 mod CollectionLemmas
 mod RoutedLemmas
 mod RequestLemmas
-mod AloneLemmas
+pub mod AloneLemmas
 mod AskLemmas
 mod LimitLemmas
 mod ReportLemmas

@@ -100,7 +100,7 @@ LeavesBy m k result s v = MatchResult result (λ reply. Leaves m k reply s v) (�
 abbrev pub Answers : {E : Type 0} → Settings → Arrival → Queue → List Entry → Result Response E → State → Type 0
 Answers settings a m k result s = MatchResult result (λ reply. (v : Verdict) × IsVerdict settings a m k v × Leaves m k reply s v) (λ _. IsAtRest s m k)
 
--- memory, the store or `jiff` gave out, or rows don't fit together: nothing has changed
+-- memory or the store gave out, or rows don't fit together: nothing has changed
 abbrev pub GivesOut : Queue → List Entry → Response → State → Type 0
 GivesOut m k reply s = (reply ≡ refused_response Unavailable NoKeys) × IsAtRest s m k
 

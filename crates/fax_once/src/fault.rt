@@ -4,7 +4,7 @@ use fax_hours::MomentFault;
 use fax_store::StoreFault;
 use std::alloc::AllocError;
 
-/// Memory, the store or `jiff` gave out, or rows of the store don't fit together: refusal 27.
+/// Memory or the store gave out, or rows of the store don't fit together: refusal 27.
 #[derive(Clone, Copy, Debug, PartialEq, Eq)]
 pub(crate) struct Unavailable;
 
@@ -20,6 +20,7 @@ impl From<AllocError> for Unavailable {
     }
 }
 
+/// Doesn't come about: each moment is within `jiff`'s calendar.
 impl From<MomentFault> for Unavailable {
     fn from(_: MomentFault) -> Unavailable {
         Unavailable

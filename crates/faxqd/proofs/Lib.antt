@@ -1,7 +1,9 @@
 pub mod ConversationLemmas
+pub mod DivisionLemmas
 pub mod FieldLemmas
 pub mod InputLemmas
 pub mod MessageLemmas
+pub mod OneReplayLemmas
 pub mod OutputLemmas
 pub mod Progress
 pub mod ReplayLemmas

@@ -3,6 +3,7 @@ pub mod Conversation
 pub mod Cut
 pub mod Desk
 pub mod Field
+pub mod Laws
 pub mod Message
 pub mod Replay
 pub mod Reply

@@ -27,12 +27,16 @@ AreHandled settings last held (turn ∷ turns) =
     × HandlesAt (moment_of last turn) settings (state over_memory held) turn.head turn.body turn.reply (state over_memory next)
     × AreHandled settings (moment_of last turn) next turns
 
+-- the machine's settings in an office
+abbrev pub settings_in : Office → Settings
+settings_in office = settings_of office.setup office.controls
+
 -- by the settings of an office, the turns are those of the empty queue from the moment 0 on
 pub record AreOfEmptyQueue (turns : List Turn) : Type 0 where
   pub office : Office
   pub held : Held MemStore
   pub empty : IsAtRest (state over_memory held) empty_queue []
-  pub handled : AreHandled (settings_of office.setup office.controls) 0 held turns
+  pub handled : AreHandled (settings_in office) 0 held turns
 
 -- the whole input was messages, one reply to each was written, in order, and they come of the empty queue
 pub record IsAnswered (unread read before after : Option (List ℕ)) : Type 0 where

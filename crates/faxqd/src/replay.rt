@@ -1,5 +1,5 @@
 //! `faxqd replay`: serves one input over a store in memory.
-ghost use Rattle.std.specs.Prelude.{◌≡◌, [], IfOk};
+ghost use Rattle.std.specs.Prelude.{◌≡◌, [], IfErr, IfOk};
 ghost use Rattle.sqlite.specs.Held.{state};
 ghost use Rattle.sqlite.specs.Steps.{over_memory};
 ghost use Rattle.fax_core.specs.Queue.{empty_queue as no_records};
@@ -60,6 +60,7 @@ pub fn replay<R: Read, W: Write, E: Write>(
 /// A queue over empty tables in memory.
 fn empty_queue(alloc: Global, office: Office) -> Result<Queue<MemStore>, StoreFault>
     ensures empty { IfOk result (λ queue. IsAtRest (state over_memory queue.store.conn) no_records []) }
+    ensures cause { IfErr result (λ fault. fault ≡ StoreFault.Unavailable) }
 {
     let store = Store::new_in_memory(alloc)?;
     Ok(Queue::new(alloc, store, office.setup, office.controls)?)
