@@ -7,3 +7,4 @@ pub mod OneReplayLemmas
 pub mod OutputLemmas
 pub mod Progress
 pub mod ReplayLemmas
+pub mod ServingLemmas

@@ -9,19 +9,15 @@ use Rattle.faxqd.specs.declared.conversation.End.TheVariants.{Closed, Bad, Bound
 use Rattle.faxqd.specs.declared.message.Broken.{Broken}
 use Rattle.faxqd.specs.declared.message.Broken.TheVariants.{BadHttp, TooLarge}
 use Rattle.faxqd.specs.declared.message.Message.{Message}
-use Rattle.faxqd.specs.Conversation.{Turn, Reads, Answers, Converses, Fails, IsCut, RefusesRest, counted, failure_of, spelled, spelled_turns, wants_body}
+use Rattle.faxqd.specs.Conversation.{Answering, Turn, Reads, Answers, Converses, Fails, IsCut, RefusesRest, counted, failure_of, spelled, spelled_turns, wants_body}
 use Rattle.faxqd.specs.Cut.{ArePartsOf, HoldsMessage}
 use Rattle.faxqd.specs.Message.{BeginsWith, IsBad, IsTooLarge}
 use Rattle.fax_ask.specs.Response.{Response}
 use Rattle.faxqd.proofs.ConversationLemmas.{appends_none, counted-on, cut_behind}
 use Rattle.faxqd.proofs.OutputLemmas.{appends_both}
 
--- what a handler may do
-abbrev pub Doing : Type 0 → Type 1
-Doing H = H → RequestHead → List ℕ → Response → H → Type 0
-
 -- so many messages were answered, and all their replies written
-pub record Progress {H : Type 0} (answers : Doing H) (input : List ℕ) (old now : H) (before after : Option (List ℕ))
+pub record Progress {H : Type 0} (answers : Answering H) (input : List ℕ) (old now : H) (before after : Option (List ℕ))
     (rest : List ℕ) (count sent : ℕ) : Type 0 where
   pub turns : List Turn
   pub count_is : count ≡ length turns
@@ -35,7 +31,7 @@ reads_one_more : (input : List ℕ) (turns : List Turn) (turn : Turn) (rest next
 reads_one_more input [] turn rest next e begins = (next, subst (λ i. BeginsWith i turn.head turn.body next) (sym e) begins, refl)
 reads_one_more input (t ∷ ts) turn rest next r begins = (r.0, r.1, reads_one_more r.0 ts turn rest next r.2 begins)
 
-answers_one_more : {H : Type 0} (answers : Doing H) (old : H) (turns : List Turn) (turn : Turn) (now next : H) → Answers answers old turns now
+answers_one_more : {H : Type 0} (answers : Answering H) (old : H) (turns : List Turn) (turn : Turn) (now next : H) → Answers answers old turns now
     → answers now turn.head turn.body turn.reply next → Answers answers old (turns ++ turn ∷ []) next
 answers_one_more answers old [] turn now next e step = (next, subst (λ h. answers h turn.head turn.body turn.reply next) e step, refl)
 answers_one_more answers old (t ∷ ts) turn now next a step = (a.0, a.1, answers_one_more answers a.0 ts turn now next a.2 step)
@@ -47,7 +43,7 @@ spelled_one_more turns turn =
     ∙ ap (λ bs. spelled_turns turns ++ bs) (append-nil (spelled turn.reply (wants_body turn.head) false))
 
 -- nothing was answered yet
-pub progress_begins : {H : Type 0} (answers : Doing H) (input : List ℕ) (handler : H) (contents : Option (List ℕ))
+pub progress_begins : {H : Type 0} (answers : Answering H) (input : List ℕ) (handler : H) (contents : Option (List ℕ))
     → Progress answers input handler handler contents contents input 0 0
 progress_begins answers input handler contents = record {
   turns = [];
@@ -59,7 +55,7 @@ progress_begins answers input handler contents = record {
 }
 
 -- one message more was answered
-pub record Answered {H : Type 0} (answers : Doing H) (rest behind : List ℕ) (message : Message) (now next : H) (reply : Response) : Type 0 where
+pub record Answered {H : Type 0} (answers : Answering H) (rest behind : List ℕ) (message : Message) (now next : H) (reply : Response) : Type 0 where
   pub holds : HoldsMessage rest message behind
   pub step : (head : RequestHead) (body : List ℕ) → ArePartsOf message head body → answers now head body reply next
 
@@ -70,7 +66,7 @@ same_body message head body reply has_body parts e =
     ap (λ b. spelled reply b false) (e ∙ ap (λ m. not (bytes_eq m (codes "HEAD"))) parts.method)
 
 -- and its reply written
-pub progress_next : {H : Type 0} (answers : Doing H) (input : List ℕ) (old now next : H) (before between after : Option (List ℕ))
+pub progress_next : {H : Type 0} (answers : Answering H) (input : List ℕ) (old now next : H) (before between after : Option (List ℕ))
     (rest behind : List ℕ) (count sent total : ℕ) (message : Message) (reply : Response) (has_body is_last : Bool)
     → Progress answers input old now before between rest count sent → Answered answers rest behind message now next reply
     → has_body ≡ not (bytes_eq message.method.now (codes "HEAD")) → is_last ≡ false
@@ -98,7 +94,7 @@ progress_next answers input old now next before between after rest behind count 
     }
 
 -- the input is at its end
-pub ends_closed : {H : Type 0} (answers : Doing H) (bound : ℕ) (input : List ℕ) (old now : H) (before after : Option (List ℕ))
+pub ends_closed : {H : Type 0} (answers : Answering H) (bound : ℕ) (input : List ℕ) (old now : H) (before after : Option (List ℕ))
     (rest : List ℕ) (count sent : ℕ) → Progress answers input old now before after rest count sent → count < bound → rest ≡ []
     → Converses answers bound input old now before after (record { messages = count; end = Closed })
 ends_closed answers bound input old now before after rest count sent p below empty = record {
@@ -111,7 +107,7 @@ ends_closed answers bound input old now before after rest count sent p below emp
 }
 
 -- the bound is reached
-pub ends_bound : {H : Type 0} (answers : Doing H) (bound : ℕ) (input : List ℕ) (old now : H) (before after : Option (List ℕ))
+pub ends_bound : {H : Type 0} (answers : Answering H) (bound : ℕ) (input : List ℕ) (old now : H) (before after : Option (List ℕ))
     (rest : List ℕ) (count sent : ℕ) → Progress answers input old now before after rest count sent → count ≡ bound
     → Converses answers bound input old now before after (record { messages = bound; end = Bound })
 ends_bound answers bound input old now before after rest count sent p at = record {
@@ -124,7 +120,7 @@ ends_bound answers bound input old now before after rest count sent p at = recor
 }
 
 -- the rest begins no message
-pub ends_bad : {H : Type 0} (answers : Doing H) (bound : ℕ) (input : List ℕ) (old now : H) (before between after : Option (List ℕ))
+pub ends_bad : {H : Type 0} (answers : Answering H) (bound : ℕ) (input : List ℕ) (old now : H) (before between after : Option (List ℕ))
     (rest : List ℕ) (count sent : ℕ) (broken : Broken) (end : End) → Progress answers input old now before between rest count sent
     → count < bound → 0 < length rest → Fails rest broken → RefusesRest broken sent between after end
     → Converses answers bound input old now before after (record { messages = count; end = end })
@@ -160,7 +156,7 @@ ends_bad answers bound input old now before between after rest count sent broken
 ends_bad answers bound input old now before between after rest count sent broken NoMemory p below some fails r = absurd r
 
 -- a reply was cut
-pub ends_cut : {H : Type 0} (answers : Doing H) (bound : ℕ) (input : List ℕ) (old now next : H) (before between after : Option (List ℕ))
+pub ends_cut : {H : Type 0} (answers : Answering H) (bound : ℕ) (input : List ℕ) (old now next : H) (before between after : Option (List ℕ))
     (rest behind : List ℕ) (count sent total : ℕ) (message : Message) (reply : Response) (has_body is_last : Bool)
     → Progress answers input old now before between rest count sent → Answered answers rest behind message now next reply
     → has_body ≡ not (bytes_eq message.method.now (codes "HEAD")) → is_last ≡ false

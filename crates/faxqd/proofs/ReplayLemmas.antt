@@ -9,14 +9,13 @@ use Rattle.fax_ask.specs.Response.{Response}
 use Rattle.faxqd.specs.declared.conversation.End.TheVariants.{Closed}
 use Rattle.faxqd.specs.declared.conversation.Served.{Served}
 use Rattle.faxqd.specs.Clock.{moment_said}
-use Rattle.faxqd.specs.Conversation.{Answers, EndsBy, Reads, Turn, spelled_turns}
+use Rattle.faxqd.specs.Conversation.{Answering, Answers, EndsBy, Reads, Turn, spelled_turns}
 use Rattle.faxqd.specs.Desk.{HandlesAt, IsHandled}
 use Rattle.faxqd.specs.Replay.{AreHandled, AreOfEmptyQueue, IsAnswered, moment_of}
 use Rattle.faxqd.specs.Serve.{AnswersInput, IsUnread}
-use Rattle.faxqd.proofs.Progress.{Doing}
 
 -- each answer is an arrival that is handled, so all of them are
-pub handled_of : {H : Type 0} (answers : Doing H) (old : H) (turns : List Turn) (new : H) → Answers answers old turns new
+pub handled_of : {H : Type 0} (answers : Answering H) (old : H) (turns : List Turn) (new : H) → Answers answers old turns new
     → (settings : H → Settings) (last : H → ℕ) (held : H → Held MemStore)
     → ((old : H) (head : RequestHead) (body : List ℕ) (reply : Response) (new : H) → answers old head body reply new
     → (settings new ≡ settings old) × IsHandled (λ said moment. (moment ≡ moment_said (last old) said) × (last new ≡ moment)) (settings old) (state over_memory (held old)) head body reply (state over_memory (held new)))
@@ -30,7 +29,7 @@ handled_of answers old (turn ∷ turns) new (next, here, behind) settings last h
       subst (λ t. AreHandled (settings old) t (held next) turns) when (subst (λ s. AreHandled s (last next) (held next) turns) it.0 (handled_of answers next turns new behind settings last held each)),
     )
 
-pub answered_of : {H : Type 0} (answers : Doing H) (bound : ℕ) (unread read : Option (List ℕ)) (old new : H)
+pub answered_of : {H : Type 0} (answers : Answering H) (bound : ℕ) (unread read : Option (List ℕ)) (old new : H)
     (before after : Option (List ℕ)) (served : Served) → served.end ≡ Closed
     → ((turns : List Turn) → Answers answers old turns new → AreOfEmptyQueue turns)
     → AnswersInput answers bound unread read old new before after served → IsAnswered unread read before after

@@ -27,8 +27,12 @@ Reads input [] rest = input ≡ rest
 Reads input (turn ∷ turns) rest =
     (next : List ℕ) × BeginsWith input turn.head turn.body next × Reads next turns rest
 
+-- what a message and its reply may make of a state
+abbrev pub Answering : Type 0 → Type 1
+Answering H = H → RequestHead → List ℕ → Response → H → Type 0
+
 -- the replies of the turns come of one state after the other
-abbrev pub Answers : {H : Type 0} → (H → RequestHead → List ℕ → Response → H → Type 0) → H → List Turn → H → Type 0
+abbrev pub Answers : {H : Type 0} → Answering H → H → List Turn → H → Type 0
 Answers answers old [] new = new ≡ old
 Answers {H} answers old (turn ∷ turns) new =
     (next : H) × answers old turn.head turn.body turn.reply next × Answers answers next turns new
@@ -88,7 +92,7 @@ EndsBy bound count rest replies before after ReadFailed = ⊥
 EndsBy bound count rest replies before after NoMemory = ⊥
 
 -- the input was divided into messages, each was answered in turn, and the replies were written in order
-pub record Converses {H : Type 0} (answers : H → RequestHead → List ℕ → Response → H → Type 0) (bound : ℕ) (input : List ℕ)
+pub record Converses {H : Type 0} (answers : Answering H) (bound : ℕ) (input : List ℕ)
     (old new : H) (before after : Option (List ℕ)) (served : Served) : Type 0 where
   pub turns : List Turn
   pub rest : List ℕ

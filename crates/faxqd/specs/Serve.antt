@@ -1,12 +1,10 @@
 -- A whole input that is read and answered.
 use Rattle.std.specs.Prelude.{◌≡◌, ◌⊎◌, ℕ, ◌<◌, ◌≤◌, List, length, Option, ⊤}
 use Rattle.std.specs.Io.KnownBytes.{Consumes, IsAtEnd}
-use Rattle.httparse.specs.Grammar.{RequestHead}
 use Rattle.faxqd.specs.declared.conversation.End.{End}
 use Rattle.faxqd.specs.declared.conversation.End.TheVariants.{Closed, Bad, Bound, ReadFailed, WriteFailed, NoMemory}
 use Rattle.faxqd.specs.declared.conversation.Served.{Served}
-use Rattle.faxqd.specs.Conversation.{Converses}
-use Rattle.fax_ask.specs.Response.{Response}
+use Rattle.faxqd.specs.Conversation.{Answering, Converses}
 
 -- the reader had these bytes to its end, and they are within the limit
 pub record ReadsWhole (before after : Option (List ℕ)) (input : List ℕ) : Type 0 where
@@ -30,7 +28,7 @@ pub record IsUnanswered {H : Type 0} (old new : H) (before after : Option (List 
   pub unwritten : after ≡ before
 
 -- the whole input was answered, or none of it
-abbrev pub AnswersInput : {H : Type 0} → (H → RequestHead → List ℕ → Response → H → Type 0) → ℕ → Option (List ℕ) → Option (List ℕ) → H → H → Option (List ℕ) → Option (List ℕ) → Served → Type 0
+abbrev pub AnswersInput : {H : Type 0} → Answering H → ℕ → Option (List ℕ) → Option (List ℕ) → H → H → Option (List ℕ) → Option (List ℕ) → Served → Type 0
 AnswersInput answers bound unread read old new before after served =
     ((input : List ℕ) × ReadsWhole unread read input × Converses answers bound input old new before after served)
     ⊎ (IsUnread unread read served.end × IsUnanswered old new before after served)
