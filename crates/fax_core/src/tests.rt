@@ -1,4 +1,7 @@
-use fax_job::{Dial, Job, JobFields, JobTag, Moment, Name, Phase, Status, Wish, read_lines};
+use crate::Change;
+use fax_job::{
+    Dial, Job, JobFields, JobTag, Moment, Name, Phase, Refusal, Status, Wish, read_lines,
+};
 use std::alloc::Global;
 use std::test::Fail;
 
@@ -51,4 +54,38 @@ fn with_killtime(alloc: Global, phase: Phase, killtime: u64) -> Result<Job, Fail
         ..fields(alloc)?
     };
     Ok(Job::new(fields).ok_or("a lawful job")?)
+}
+
+/// The phase and the wish afterwards.
+fn stands(decision: Result<Change, Refusal>) -> Result<(Phase, Wish), Refusal> {
+    let change = decision?;
+    Ok((change.phase, change.wish))
+}
+
+/// The pages sent afterwards, the tries in a row and in all, and the dials in a row and in all.
+fn counted(decision: Result<Change, Refusal>) -> Result<[u16; 5], Refusal> {
+    let change = decision?;
+    Ok([
+        change.npages,
+        change.ntries,
+        change.tottries,
+        change.ndials,
+        change.totdials,
+    ])
+}
+
+/// The phase, the new status, which is empty where there is none, and the next time afterwards.
+fn ended(decision: &Result<Change, Refusal>) -> Result<(Phase, &str, u32), Refusal> {
+    match decision {
+        Ok(change) => Ok((
+            change.phase,
+            change.status.as_ref().map_or("", |status| status.text()),
+            change.next,
+        )),
+        Err(refusal) => Err(*refusal),
+    }
+}
+
+fn ends(decision: Result<Change, Refusal>, want: Result<(Phase, &str, u32), Refusal>) -> bool {
+    ended(&decision) == want
 }

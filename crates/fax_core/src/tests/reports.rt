@@ -1,5 +1,5 @@
-use super::{fields, standing};
-use crate::{Change, Ending, Grant, Outcome, call, fits, grant, outcome, page, stops};
+use super::{counted, ends, fields, standing, stands};
+use crate::{Ending, Grant, Outcome, call, fits, grant, outcome, page, stops};
 use fax_job::{Call, Job, JobFields, Moment, Name, Phase, Refusal, Status, Wish};
 use std::alloc::Global;
 use std::test::Fail;
@@ -9,18 +9,6 @@ fn granted(alloc: Global, wish: Wish) -> Result<(Job, Grant), Fail> {
     let job = standing(alloc, Phase::Granted, wish)?;
     let grant = Grant::new(&job, Name::read(alloc, "ttyS0")?, 7);
     Ok((job, grant))
-}
-
-/// The phase, the status and the next time afterwards, or the refusal's number.
-fn ended(decision: &Result<Change, Refusal>) -> Result<(Phase, &str, u32), u8> {
-    match decision {
-        Ok(change) => Ok((
-            change.phase,
-            change.status.as_ref().map_or("", |status| status.text()),
-            change.next,
-        )),
-        Err(refusal) => Err(refusal.number()),
-    }
 }
 
 /// An outcome after a call, with a reason.
@@ -34,15 +22,18 @@ fn said(alloc: Global, pages: u16, ending: Ending) -> Result<Outcome, Fail> {
 }
 
 #[test]
-fn granted_from_the_first_page_left(rt: HostRuntime) -> Result<(), Fail> {
+fn a_grant_is_a_dial(rt: HostRuntime) -> Result<(), Fail> {
     let job = Job::new(fields(rt.alloc())?).ok_or("a lawful job")?;
     assert!(rt; fits(&job, None));
-    let change = grant(&job, 7, 7)?;
-    assert_eq!(rt;
-        (change.phase, change.wish, change.npages, change.ndials),
-        (Phase::Granted, Wish::Go, 1, 1)
-    );
-    assert_eq!(rt; grant(&job, 8, 7).err(), Some(Refusal::Full));
+    assert_eq!(rt; stands(grant(&job, 7, 7)), Ok((Phase::Granted, Wish::Go)));
+    assert_eq!(rt; counted(grant(&job, 7, 7)), Ok([1, 1, 2, 1, 3]));
+    // The grants are used up.
+    assert_eq!(rt; counted(grant(&job, 8, 7)), Err(Refusal::Full));
+    Ok(())
+}
+
+#[test]
+fn granted_from_the_first_page_left(rt: HostRuntime) -> Result<(), Fail> {
     let (job, grant) = granted(rt.alloc(), Wish::Go)?;
     assert_eq!(rt;
         (grant.number, grant.job, grant.first_page, grant.last_page),
@@ -57,30 +48,23 @@ fn granted_from_the_first_page_left(rt: HostRuntime) -> Result<(), Fail> {
 fn called_once(rt: HostRuntime) -> Result<(), Fail> {
     let (job, grant) = granted(rt.alloc(), Wish::Go)?;
     assert!(rt; fits(&job, Some(&grant)));
-    let connected = call(&job, &grant, Call::Connected)?;
     assert_eq!(rt;
-        (
-            connected.ntries,
-            connected.tottries,
-            connected.ndials,
-            connected.totdials
-        ),
-        (2, 3, 0, 4)
+        counted(call(&job, &grant, Call::Connected)),
+        Ok([1, 2, 3, 0, 4])
     );
-    let busy = call(&job, &grant, Call::Busy)?;
     assert_eq!(rt;
-        (busy.ntries, busy.tottries, busy.ndials, busy.totdials),
-        (1, 2, 2, 4)
+        counted(call(&job, &grant, Call::Busy)),
+        Ok([1, 1, 2, 2, 4])
     );
     let grant = grant.with_call(Call::Busy);
     assert!(rt; fits(&job, Some(&grant)));
+    // The call is known already, and no page can come without a connection.
     assert_eq!(rt;
-        call(&job, &grant, Call::Busy).err(),
-        Some(Refusal::CallKnown)
+        counted(call(&job, &grant, Call::Busy)),
+        Err(Refusal::CallKnown)
     );
-    assert_eq!(rt; page(&job, &grant, 2).err(), Some(Refusal::NotConnected));
-    let grant = grant.closed();
-    assert!(rt; !grant.is_open);
+    assert_eq!(rt; counted(page(&job, &grant, 2)), Err(Refusal::NotConnected));
+    assert!(rt; !grant.closed().is_open);
     Ok(())
 }
 
@@ -90,10 +74,20 @@ fn confirmed_in_order(rt: HostRuntime) -> Result<(), Fail> {
     let grant = grant.with_call(Call::Connected);
     assert!(rt; fits(&job, Some(&grant)));
     for number in [0, 1, 3, 4] {
-        assert_eq!(rt; page(&job, &grant, number).err(), Some(Refusal::PageOrder));
+        assert_eq!(rt;
+            counted(page(&job, &grant, number)),
+            Err(Refusal::PageOrder)
+        );
     }
+    assert_eq!(rt; counted(page(&job, &grant, 2)), Ok([2, 0, 2, 1, 3]));
+    Ok(())
+}
+
+#[test]
+fn a_confirmed_page_is_counted(rt: HostRuntime) -> Result<(), Fail> {
+    let (job, grant) = granted(rt.alloc(), Wish::Go)?;
+    let grant = grant.with_call(Call::Connected);
     let change = page(&job, &grant, 2)?;
-    assert_eq!(rt; (change.npages, change.ntries, change.tottries), (2, 0, 2));
     let job = change.applied_to(job)?;
     let grant = grant.with_page();
     assert_eq!(rt; (job.fields().npages, grant.confirmed), (2, 1));
@@ -130,14 +124,14 @@ fn ended_as_the_outcome_says(rt: HostRuntime) -> Result<(), Fail> {
             Ending::Fail,
             Ok((Phase::Failed, "line dropped", 1200)),
         ),
-        (Wish::Go, 0, Ending::Done, Err(25)),
-        (Wish::Go, 1, Ending::Retry, Err(24)),
+        (Wish::Go, 0, Ending::Done, Err(Refusal::PagesLeft)),
+        (Wish::Go, 1, Ending::Retry, Err(Refusal::PagesMismatch)),
     ] {
         let (job, grant) = granted(alloc, wish)?;
         let grant = grant.with_call(Call::Connected);
         assert!(rt; fits(&job, Some(&grant)));
-        let decision = outcome(&job, &grant, said(alloc, pages, ending)?, 60, t);
-        assert_eq!(rt; ended(&decision), want);
+        let said = said(alloc, pages, ending)?;
+        assert!(rt; ends(outcome(&job, &grant, said, 60, t), want));
         assert_eq!(rt; stops(&job, t), wish != Wish::Go);
     }
     Ok(())
@@ -154,13 +148,8 @@ fn done_with_all_pages_sent(rt: HostRuntime) -> Result<(), Fail> {
     let job = Job::new(fields).ok_or("a lawful job")?;
     let grant = grant.with_call(Call::Connected).with_page().with_page();
     assert!(rt; fits(&job, Some(&grant)));
-    let decision = outcome(
-        &job,
-        &grant,
-        said(alloc, 2, Ending::Retry)?,
-        60,
-        Moment::new(2000),
-    );
-    assert_eq!(rt; ended(&decision), Ok((Phase::Done, "", 1200)));
+    let said = said(alloc, 2, Ending::Retry)?;
+    let decision = outcome(&job, &grant, said, 60, Moment::new(2000));
+    assert!(rt; ends(decision, Ok((Phase::Done, "", 1200))));
     Ok(())
 }

@@ -1,16 +1,8 @@
-use super::{fields, standing};
-use crate::{Change, alter, kill, resume, suspend};
+use super::{counted, ends, fields, standing, stands};
+use crate::{alter, kill, resume, suspend};
 use fax_job::{Alter, Job, JobFields, Moment, Phase, Refusal, Wish, read_lines};
 use std::alloc::Global;
 use std::test::Fail;
-
-/// The phase and the wish afterwards, or the refusal's number.
-fn stands(decision: Result<Change, Refusal>) -> Result<(Phase, Wish), u8> {
-    match decision {
-        Ok(change) => Ok((change.phase, change.wish)),
-        Err(refusal) => Err(refusal.number()),
-    }
-}
 
 fn changes(alloc: Global, text: &[u8]) -> Result<Alter, Fail> {
     Ok(read_lines(alloc, text)?.to_alter(alloc)?)
@@ -34,9 +26,9 @@ fn suspended_in_each_phase(rt: HostRuntime) -> Result<(), Fail> {
         Ok((Phase::Held, Wish::Go)),
         Ok((Phase::Granted, Wish::Hold)),
         Ok((Phase::Granted, Wish::Hold)),
-        Err(14),
-        Err(13),
-        Err(13),
+        Err(Refusal::JobActive),
+        Err(Refusal::JobOver),
+        Err(Refusal::JobOver),
     ];
     for ((phase, wish), want) in STANDINGS.into_iter().zip(wants) {
         let job = standing(rt.alloc(), phase, wish)?;
@@ -49,12 +41,12 @@ fn suspended_in_each_phase(rt: HostRuntime) -> Result<(), Fail> {
 fn resumed_in_each_phase(rt: HostRuntime) -> Result<(), Fail> {
     let wants = [
         Ok((Phase::Waiting, Wish::Go)),
-        Err(15),
-        Err(14),
+        Err(Refusal::NotSuspended),
+        Err(Refusal::JobActive),
         Ok((Phase::Granted, Wish::Go)),
-        Err(14),
-        Err(13),
-        Err(13),
+        Err(Refusal::JobActive),
+        Err(Refusal::JobOver),
+        Err(Refusal::JobOver),
     ];
     for ((phase, wish), want) in STANDINGS.into_iter().zip(wants) {
         let job = standing(rt.alloc(), phase, wish)?;
@@ -71,8 +63,8 @@ fn killed_in_each_phase(rt: HostRuntime) -> Result<(), Fail> {
         Ok((Phase::Granted, Wish::Kill)),
         Ok((Phase::Granted, Wish::Kill)),
         Ok((Phase::Granted, Wish::Kill)),
-        Err(13),
-        Err(13),
+        Err(Refusal::JobOver),
+        Err(Refusal::JobOver),
     ];
     for ((phase, wish), want) in STANDINGS.into_iter().zip(wants) {
         let job = standing(rt.alloc(), phase, wish)?;
@@ -85,12 +77,12 @@ fn killed_in_each_phase(rt: HostRuntime) -> Result<(), Fail> {
 fn altered_in_each_phase(rt: HostRuntime) -> Result<(), Fail> {
     let wants = [
         Ok((Phase::Held, Wish::Go)),
-        Err(15),
-        Err(14),
-        Err(14),
-        Err(14),
-        Err(13),
-        Err(13),
+        Err(Refusal::NotSuspended),
+        Err(Refusal::JobActive),
+        Err(Refusal::JobActive),
+        Err(Refusal::JobActive),
+        Err(Refusal::JobOver),
+        Err(Refusal::JobOver),
     ];
     for ((phase, wish), want) in STANDINGS.into_iter().zip(wants) {
         let job = standing(rt.alloc(), phase, wish)?;
@@ -103,12 +95,10 @@ fn altered_in_each_phase(rt: HostRuntime) -> Result<(), Fail> {
 #[test]
 fn only_a_killed_job_has_a_new_status(rt: HostRuntime) -> Result<(), Fail> {
     let job = standing(rt.alloc(), Phase::Waiting, Wish::Go)?;
-    let status = kill(&job)?.status.ok_or("a new status")?;
-    assert_eq!(rt; status.text(), "Killed");
-    let change = suspend(&job)?;
-    assert!(rt; change.status.is_none() && change.altered.priority.is_none());
-    assert_eq!(rt; (change.npages, change.ntries, change.tottries), (1, 1, 2));
-    assert_eq!(rt; (change.ndials, change.totdials, change.next), (1, 3, 1200));
+    assert!(rt; ends(kill(&job), Ok((Phase::Failed, "Killed", 1200))));
+    assert!(rt; ends(suspend(&job), Ok((Phase::Held, "", 1200))));
+    assert_eq!(rt; counted(suspend(&job)), Ok([1, 1, 2, 1, 3]));
+    assert!(rt; suspend(&job)?.altered.priority.is_none());
     Ok(())
 }
 
@@ -118,13 +108,17 @@ fn an_alteration_sets_what_it_says(rt: HostRuntime) -> Result<(), Fail> {
     let job = standing(alloc, Phase::Held, Wish::Go)?;
     let text = b"modem:ttyS0\njobtag:invoices\ntts:\nkilltime:9000\nmaxdials:4\n";
     let altered = alter(&job, changes(alloc, text)?, Moment::new(1500))?.altered;
-    assert_eq!(rt; altered.modem.ok_or("a modem")?.as_str(), "ttyS0");
-    assert_eq!(rt; altered.jobtag.ok_or("a job tag")?.as_str(), "invoices");
+    let modem = altered.modem.as_ref().map(|modem| modem.as_str());
+    let jobtag = altered.jobtag.as_ref().map(|jobtag| jobtag.as_str());
+    assert_eq!(rt; (modem, jobtag), (Some("ttyS0"), Some("invoices")));
     // A time to send that is said as empty is the moment of the request.
-    assert_eq!(rt; altered.tts, Some(Moment::new(1500)));
-    assert_eq!(rt; altered.killtime, Some(Some(Moment::new(9000))));
-    assert_eq!(rt; (altered.priority, altered.maxtries), (None, None));
-    assert_eq!(rt; altered.maxdials, Some(4));
+    let times = (altered.tts, altered.killtime);
+    assert_eq!(rt;
+        times,
+        (Some(Moment::new(1500)), Some(Some(Moment::new(9000))))
+    );
+    let limits = (altered.priority, altered.maxtries, altered.maxdials);
+    assert_eq!(rt; limits, (None, None, Some(4)));
     Ok(())
 }
 
@@ -132,12 +126,12 @@ fn an_alteration_sets_what_it_says(rt: HostRuntime) -> Result<(), Fail> {
 fn a_try_and_a_dial_must_be_left(rt: HostRuntime) -> Result<(), Fail> {
     let alloc = rt.alloc();
     // Three dials and two tries are used.
-    let cases: [(&[u8], Option<u8>); 5] = [
-        (b"maxdials:3\n", Some(16)),
+    let cases: [(&[u8], Option<Refusal>); 5] = [
+        (b"maxdials:3\n", Some(Refusal::LimitReached)),
         (b"maxdials:4\n", None),
-        (b"maxtries:2\n", Some(16)),
+        (b"maxtries:2\n", Some(Refusal::LimitReached)),
         (b"maxtries:3\n", None),
-        (b"maxtries:9\nmaxdials:2\n", Some(16)),
+        (b"maxtries:9\nmaxdials:2\n", Some(Refusal::LimitReached)),
     ];
     for (text, want) in cases {
         let job = standing(alloc, Phase::Held, Wish::Go)?;
@@ -150,8 +144,8 @@ fn a_try_and_a_dial_must_be_left(rt: HostRuntime) -> Result<(), Fail> {
 #[test]
 fn a_used_up_job_is_altered_only_with_new_limits(rt: HostRuntime) -> Result<(), Fail> {
     let alloc = rt.alloc();
-    let cases: [(&[u8], Option<u8>); 2] = [
-        (b"priority:1\n", Some(16)),
+    let cases: [(&[u8], Option<Refusal>); 2] = [
+        (b"priority:1\n", Some(Refusal::LimitReached)),
         (b"priority:1\nmaxdials:13\n", None),
     ];
     for (text, want) in cases {
