@@ -22,7 +22,7 @@ fn said(alloc: Global, pages: u16, ending: Ending) -> Result<Outcome, Fail> {
 }
 
 #[test]
-fn a_grant_is_a_dial(rt: HostRuntime) -> Result<(), Fail> {
+fn granted_with_its_counts_kept(rt: HostRuntime) -> Result<(), Fail> {
     let job = Job::new(fields(rt.alloc())?).ok_or("a lawful job")?;
     assert!(rt; fits(&job, None));
     assert_eq!(rt; stands(grant(&job, 7, 7)), Ok((Phase::Granted, Wish::Go)));

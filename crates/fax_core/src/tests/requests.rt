@@ -98,7 +98,8 @@ fn only_a_killed_job_has_a_new_status(rt: HostRuntime) -> Result<(), Fail> {
     assert!(rt; ends(kill(&job), Ok((Phase::Failed, "Killed", 1200))));
     assert!(rt; ends(suspend(&job), Ok((Phase::Held, "", 1200))));
     assert_eq!(rt; counted(suspend(&job)), Ok([1, 1, 2, 1, 3]));
-    assert!(rt; suspend(&job)?.altered.priority.is_none());
+    let change = suspend(&job)?;
+    assert!(rt; change.status.is_none() && change.altered.priority.is_none());
     Ok(())
 }
 
