@@ -23,6 +23,3 @@ pub use detail::Detail;
 pub use method::Method;
 pub use reply::{Reply, has_detail};
 pub use routes::Routes;
-
-#[cfg(test)]
-mod tests;

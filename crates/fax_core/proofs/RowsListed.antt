@@ -7,7 +7,7 @@ use Rattle.fax_job.specs.declared.job.Call.TheVariants.{Connected, Busy}
 use Rattle.fax_job.specs.declared.job.Wish.TheVariants.{Kill as Killing}
 use Rattle.fax_job.specs.declared.refusal.Refusal.TheVariants.{Unavailable, GrantClosed, NoModem}
 use Rattle.fax_job.specs.Refusal.{refusal_number}
-use Rattle.fax_dest.specs.declared.rule.Rule as dest
+use Rattle.fax_rule.specs.declared.rule.Rule as dest
 use Rattle.fax_core.specs.Ageing.{aged_job}
 use Rattle.fax_core.specs.Job.{Job}
 use Rattle.fax_core.specs.Submission.{rule_of}

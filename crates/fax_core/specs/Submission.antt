@@ -1,6 +1,6 @@
 -- A submission, as the code has it: its rule comes from the controls, and its job is a record within its limits.
 use Rattle.std.specs.Prelude.{◌≡◌, ℕ, ◌≤◌, Bool, List, Result, Ok, Err, if◌then◌else◌}
-use Rattle.fax_dest.specs.declared.rule.Rule as dest
+use Rattle.fax_rule.specs.declared.rule.Rule as dest
 use Rattle.fax_job.specs.declared.job.JobFields.{JobFields}
 use Rattle.fax_job.specs.declared.order.Order.{Order}
 use Rattle.fax_job.specs.declared.refusal.Refusal.{Refusal}

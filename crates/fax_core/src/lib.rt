@@ -31,6 +31,3 @@ pub use report::{Ending, Outcome};
 pub use state::state_at;
 pub use submission::submit;
 pub use worker::{call, outcome, page, stops};
-
-#[cfg(test)]
-mod tests;

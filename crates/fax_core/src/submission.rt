@@ -6,8 +6,8 @@ ghost use Rattle.fax_core.specs.Decisions.{submit, is_over, new_job};
 ghost use Rattle.fax_core.specs.Job.{fields_of};
 ghost use Rattle.fax_core.specs.Submission.{rule_of, submitted, recorded};
 
-use fax_dest::Rule;
 use fax_job::{Job, JobFields, Moment, Order, Phase, Refusal, Status, Wish};
+use fax_rule::Rule;
 
 /// The new job of an order, by the rule of its number: it waits with all its pages left, and without a
 /// time to send it may go at once. `next_job` is its number, and `max_jobs` the greatest that a job may

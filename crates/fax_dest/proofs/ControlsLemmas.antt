@@ -9,12 +9,13 @@ use Rattle.fax_job.specs.Reading.{lines}
 use Rattle.fax_dest.specs.Controls.{Line, Skipped, Begins, Adds, Spelled, spelled, Groups, groups_of, is_beginning, onto, then_lines, lines_from, lines_of, line_of}
 use Rattle.fax_dest.specs.ControlsStep.{rules_of, has_rule, with_last, taken, IsTaken}
 use Rattle.fax_dest.specs.Fault.{at_line, fault_at, is_pattern}
-use Rattle.fax_dest.specs.Rule.{rule_of, with_parameter, last_of, calls_in, pages_in, week_in, notice_of, default_rule}
+use Rattle.fax_dest.specs.Rule.{rule_of, with_parameter, last_of, calls_in, pages_in, week_in, notice_of}
+use Rattle.fax_rule.specs.Rule.{default_rule}
 use Rattle.fax_dest.specs.declared.controls.Entry.{Entry}
 use Rattle.fax_dest.specs.declared.fault.FileFault.{FileFault}
 use Rattle.fax_dest.specs.declared.fault.FileKind.{FileKind}
 use Rattle.fax_dest.specs.declared.parameter.Parameter.{Parameter}
-use Rattle.fax_dest.specs.declared.rule.Rule.{Rule}
+use Rattle.fax_rule.specs.declared.rule.Rule.{Rule}
 use Rattle.fax_dest.proofs.SetupLemmas.{fold-append, Agrees, at_one, at_one_before, at_one_here}
 
 -- ---- one parameter after another

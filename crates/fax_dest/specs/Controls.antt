@@ -7,14 +7,15 @@ use Rattle.fax_dest.specs.Fault.{at_line}
 use Rattle.fax_dest.specs.Line.{is_skipped, begins_with_blank, at_blank}
 use Rattle.fax_dest.specs.Parameter.{parameter_of}
 use Rattle.fax_dest.specs.Pattern.{is_found}
-use Rattle.fax_dest.specs.Rule.{rule_of, default_rule}
+use Rattle.fax_dest.specs.Rule.{rule_of}
+use Rattle.fax_rule.specs.Rule.{default_rule}
 use Rattle.fax_dest.specs.declared.controls.Controls.{Controls}
 use Rattle.fax_dest.specs.declared.controls.Entry.{Entry}
 use Rattle.fax_dest.specs.declared.fault.FileFault.{FileFault}
 use Rattle.fax_dest.specs.declared.fault.FileKind.{FileKind}
 use Rattle.fax_dest.specs.declared.fault.FileKind.TheVariants.{NoRule, BadPattern}
 use Rattle.fax_dest.specs.declared.parameter.Parameter.{Parameter}
-use Rattle.fax_dest.specs.declared.rule.Rule.{Rule}
+use Rattle.fax_rule.specs.declared.rule.Rule.{Rule}
 
 -- ---- lines
 

@@ -5,7 +5,7 @@ use Rattle.fax_dest.specs.Controls.{Line, Skipped, Begins, Adds, Spelled, spelle
 use Rattle.fax_dest.specs.Rule.{rule_of, with_parameter}
 use Rattle.fax_dest.specs.declared.controls.Entry.{Entry}
 use Rattle.fax_dest.specs.declared.parameter.Parameter.{Parameter}
-use Rattle.fax_dest.specs.declared.rule.Rule.{Rule}
+use Rattle.fax_rule.specs.declared.rule.Rule.{Rule}
 
 abbrev pub rules_of : List Entry → List Spelled
 rules_of entries = map spelled entries

@@ -5,7 +5,6 @@ pub mod Pattern
 pub mod Setting
 pub mod Setup
 pub mod SetupStep
-pub mod Notice
 pub mod Parameter
 pub mod Rule
 pub mod Controls

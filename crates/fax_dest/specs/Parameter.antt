@@ -1,12 +1,12 @@
 -- Parameters of rules, after destctrls(5).
-use Rattle.std.specs.Prelude.{ℕ, ◌||◌, List, codes, Option, Some, None, Result, Ok, Err, if◌then◌else◌}
+use Rattle.std.specs.Prelude.{ℕ, ◌||◌, ◌==◌, List, length, codes, Option, Some, None, Result, Ok, Err, if◌then◌else◌}
 use Rattle.std.specs.Str.{str_eq_ignore_ascii_case}
 use Rattle.fax_hours.specs.Hours.{hours_of}
 use Rattle.fax_hours.specs.declared.hours.HoursFault.{HoursFault}
 use Rattle.fax_dest.specs.Line.{at_byte, trimmed, value_of, number_in}
-use Rattle.fax_dest.specs.Notice.{notice_in}
+use Rattle.fax_rule.specs.Notice.{is_notice}
 use Rattle.fax_dest.specs.declared.fault.FileKind.{FileKind}
-use Rattle.fax_dest.specs.declared.fault.FileKind.TheVariants.{NoEquals, BadQuote, BadHours}
+use Rattle.fax_dest.specs.declared.fault.FileKind.TheVariants.{NoEquals, BadQuote, BadValue, BadHours}
 use Rattle.fax_dest.specs.declared.parameter.Parameter.{Parameter}
 use Rattle.fax_dest.specs.declared.parameter.Parameter.TheVariants as says
 use Rattle.fax_dest.specs.declared.parameter.ParameterName.{ParameterName}
@@ -31,6 +31,13 @@ timed (Err fault) = Err BadHours
 
 abbrev pub hours_in : List ℕ → Result Parameter FileKind
 hours_in value = timed (hours_of value)
+
+-- an empty one counts as none
+abbrev pub notice_in : List ℕ → Result (Option (List ℕ)) FileKind
+notice_in value =
+    if length value == 0 then Ok None
+    else if is_notice value then Ok (Some value)
+    else Err BadValue
 
 abbrev pub noticed : Result (Option (List ℕ)) FileKind → Result Parameter FileKind
 noticed (Ok notice) = Ok (says.RejectNotice notice)

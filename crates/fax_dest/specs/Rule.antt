@@ -1,13 +1,9 @@
--- Rules of destinations.
+-- What parameters make of a rule.
 use Rattle.std.specs.Prelude.{ℕ, List, fold, Option, Some, None, unwrap_or}
-use Rattle.fax_hours.specs.Hours.{every_hour}
 use Rattle.fax_dest.specs.declared.parameter.Parameter.{Parameter}
 use Rattle.fax_dest.specs.declared.parameter.Parameter.TheVariants.{Calls, Pages, TimeOfDay, RejectNotice, Another}
-use Rattle.fax_dest.specs.declared.rule.Rule.{Rule}
-
--- what holds without a rule: one call at a time, no limit on pages, any time, no rejection
-abbrev pub default_rule : Rule
-default_rule = record { calls = 1; pages = None; hours = every_hour; notice = None }
+use Rattle.fax_rule.specs.Rule.{default_rule}
+use Rattle.fax_rule.specs.declared.rule.Rule.{Rule}
 
 -- ---- what a parameter sets
 

@@ -6,8 +6,8 @@ use crate::fault::{FileFault, FileKind};
 use crate::line::{at_blank, begins_with_blank, cut_line, is_skipped};
 use crate::parameter::Parameter;
 use crate::pattern::{is_found, pattern};
-use crate::rule::Rule;
 use fax_job::Dial;
+use fax_rule::Rule;
 use regex::Regex;
 use std::alloc::{AllocError, Global};
 
@@ -143,7 +143,7 @@ impl Entry {
         if is_skipped(rest) {
             return Ok(rule);
         }
-        rule.set(Parameter::read(alloc, rest)?);
+        Parameter::read(alloc, rest)?.set(&mut rule);
         Ok(rule)
     }
 
@@ -157,7 +157,7 @@ impl Entry {
         let parameter = Parameter::read(alloc, line)?;
         let last = rules.len() - 1;
         let entry = &mut rules[last];
-        entry.rule.set(parameter);
+        parameter.set(&mut entry.rule);
         Ok(())
     }
 

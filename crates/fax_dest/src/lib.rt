@@ -11,14 +11,10 @@ mod fault;
 mod line;
 mod parameter;
 mod pattern;
-mod rule;
 mod setting;
 mod setup;
 
 pub use controls::Controls;
 pub use fault::{FileFault, FileKind};
-pub use rule::{Notice, Rule};
+pub use fax_rule::{Notice, Rule};
 pub use setup::Setup;
-
-#[cfg(test)]
-mod tests;

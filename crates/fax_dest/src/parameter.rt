@@ -2,8 +2,8 @@
 
 use crate::fault::FileKind;
 use crate::line::{at_equals, number_in, trimmed, value_of};
-use crate::rule::Notice;
 use fax_hours::Hours;
+use fax_rule::{Notice, Rule};
 use std::alloc::Global;
 
 /// What a parameter is about.
@@ -56,7 +56,8 @@ impl Parameter {
     ghost use Rattle.std.specs.Prelude.{◌≡◌};
     ghost use Rattle.fax_job.specs.Gives.{Gives};
     ghost use Rattle.fax_dest.specs.Fault.{is_memory};
-    ghost use Rattle.fax_dest.specs.Parameter.{parameter_of, parameter_in, hours_in};
+    ghost use Rattle.fax_dest.specs.Parameter.{parameter_of, parameter_in, hours_in, notice_in};
+    ghost use Rattle.fax_dest.specs.Rule.{with_parameter};
 
     /// The parameter that `Name = value` writes.
     #[tactic(auto, unfolding(crate::specs::Parameter::parameter_of))]
@@ -79,7 +80,9 @@ impl Parameter {
             ParameterName::Calls => Ok(Parameter::Calls(number_in(1, 1000, value)? as u16)),
             ParameterName::Pages => Ok(Parameter::Pages(number_in(1, 9999, value)? as u16)),
             ParameterName::TimeOfDay => Parameter::hours(value),
-            ParameterName::RejectNotice => Ok(Parameter::RejectNotice(Notice::read(alloc, value)?)),
+            ParameterName::RejectNotice => Ok(Parameter::RejectNotice(Parameter::notice(
+                alloc, value,
+            )?)),
             ParameterName::Another => Ok(Parameter::Another),
         }
     }
@@ -90,6 +93,33 @@ impl Parameter {
         match Hours::read(value) {
             Ok(hours) => Ok(Parameter::TimeOfDay(hours)),
             Err(_) => Err(FileKind::BadHours),
+        }
+    }
+
+    /// The notice that a value is; none where it is empty.
+    fn notice(alloc: Global, value: &str) -> Result<Option<Notice>, FileKind>
+        ensures { Gives is_memory result (notice_in value.now) }
+    {
+        if value.is_empty() {
+            return Ok(None);
+        }
+        if !Notice::is_notice(value) {
+            return Err(FileKind::BadValue);
+        }
+        let text = String::from_str(alloc, value)?;
+        Ok(Some(Notice::new(text)))
+    }
+
+    /// Sets what the parameter says.
+    pub(crate) fn set(self, rule: &mut Rule)
+        ensures { rule.new ≡ with_parameter rule.old self }
+    {
+        match self {
+            Parameter::Calls(calls) => rule.calls = calls,
+            Parameter::Pages(pages) => rule.pages = Some(pages),
+            Parameter::TimeOfDay(hours) => rule.hours = hours,
+            Parameter::RejectNotice(notice) => rule.notice = notice,
+            Parameter::Another => {}
         }
     }
 }

@@ -15,6 +15,3 @@ pub use hours::{Hours, HoursFault};
 pub use zone::{
     Civil, MomentFault, Zone, ZoneFault, civil_minute, week_minute, week_minute_in_utc,
 };
-
-#[cfg(test)]
-mod tests;

@@ -37,6 +37,3 @@ pub use refusal::{BodyFault, Refusal};
 pub use request_number::RequestNumber;
 pub use status::{Status, StatusFault};
 pub use writing::{write_lines, written_is_read};
-
-#[cfg(test)]
-mod tests;

@@ -1,15 +1,4 @@
-pub mod WorkLemmas
-pub mod RecordLemmas
-pub mod CallLemmas
-pub mod JobLemmas
-pub mod SubmissionLemmas
-pub mod ModemLemmas
-pub mod ViewLemmas
-pub mod ReportLemmas
 pub mod SenderLemmas
-pub mod PlacedLemmas
-pub mod ChoiceLemmas
-pub mod GivenLemmas
 pub mod VerdictLemmas
 pub mod RequestLemmas
 pub mod OneVerdictLemmas

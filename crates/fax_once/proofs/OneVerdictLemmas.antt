@@ -14,7 +14,7 @@ use Rattle.fax_once.specs.Arrival.{number_of}
 use Rattle.fax_once.specs.Laws.{OneVerdict}
 use Rattle.fax_once.specs.Verdict.{Verdict, denied, asked_for, seen_by, IsForBody, IsForRequest}
 use Rattle.fax_once.specs.declared.arrival.Arrival.{Arrival}
-use Rattle.fax_once.proofs.VerdictLemmas.{same_ask}
+use Rattle.fax_decide.proofs.AskLemmas.{same_ask}
 
 module _ (one_ask : OneAsk) (or_refusal : AskOrRefusal) (one_fault : OneFault) (s : Settings) (a : Arrival) (m : Queue) (k : List Entry) where
   asks_for : (request : Request) (x : Asked) → request_of a.method a.path.now ≡ Some request → Asks request a.body.now x → IsAsk a.method a.path.now a.body.now x

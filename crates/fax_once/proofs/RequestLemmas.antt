@@ -18,7 +18,7 @@ use Rattle.fax_store.specs.Store.{IsAtRest}
 use Rattle.fax_once.specs.Arrival.{IsSender, number_of}
 use Rattle.fax_once.specs.Ask.{shown_in}
 use Rattle.fax_once.specs.Verdict.{Verdict, Told, denied, asked_for, seen_by, IsForBody, IsForRequest, IsVerdict, LeavesBy, Answers}
-use Rattle.fax_once.specs.View.{view}
+use Rattle.fax_decide.specs.View.{view}
 use Rattle.fax_once.specs.declared.arrival.Arrival.{Arrival}
 use Rattle.fax_once.specs.declared.sender.Sender.{Sender}
 

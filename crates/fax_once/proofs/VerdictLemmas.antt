@@ -8,7 +8,7 @@ use Rattle.std.proofs.lemmas.Bool.{cases_Bool, and_parts, and_from, eqb-true, eq
 use Rattle.sqlite.specs.State.{State}
 use Rattle.sqlite_rules.specs.Lists.{Has}
 use Rattle.fax_job.specs.declared.refusal.Refusal.TheVariants.{NumberReused}
-use Rattle.fax_ask.specs.Ask.{Asked, IsLawful, Step as Asking}
+use Rattle.fax_ask.specs.Ask.{IsLawful, Step as Asking}
 use Rattle.fax_ask.specs.Response.{Response, refused_response}
 use Rattle.fax_core.specs.Ask as machine
 use Rattle.fax_core.specs.Clock.{decided_at}
@@ -22,15 +22,12 @@ use Rattle.fax_store.specs.Kept.{IsKeptFor, IsOf, entry}
 use Rattle.fax_store.specs.Store.{IsAtRest, Means, Serves}
 use Rattle.fax_store.specs.declared.replies.Kept.{Kept}
 use Rattle.fax_once.specs.Arrival.{IsSender, said_of}
-use Rattle.fax_once.specs.Decision.{IsTaken, IsRefused as IsRefusedBy}
-use Rattle.fax_once.specs.Effect.{accepted}
+use Rattle.fax_decide.specs.Decision.{IsTaken, IsRefused as IsRefusedBy}
+use Rattle.fax_decide.specs.Effect.{accepted}
 use Rattle.fax_once.specs.Verdict.{denied, kept_with, stepped, is_used, asked_for, Leaves, LeavesBy}
 use Rattle.fax_once.specs.declared.arrival.Arrival.{Arrival}
-use Rattle.fax_once.specs.declared.effect.Effect.{Effect}
+use Rattle.fax_decide.specs.declared.effect.Effect.{Effect}
 use Rattle.fax_once.specs.declared.sender.Sender.{Sender}
-
-pub same_ask : {a b : machine.Ask} → ◌≡◌ {A = Asked} (Asking a) (Asking b) → a ≡ b
-same_ask is = cc
 
 -- ---- numbers that are used
 

@@ -1,11 +1,6 @@
-pub mod Settings
+pub use Rattle.fax_decide.specs.Settings
+pub use Rattle.fax_decide.specs.View
 pub mod Arrival
-pub mod State
-pub mod Effect
-pub mod Decision
-pub mod JobAsk
-pub mod View
-pub mod Report
 pub mod Ask
 pub mod Verdict
 pub mod Laws

@@ -22,10 +22,10 @@ use Rattle.fax_core.specs.Sound.{Sound}
 use Rattle.fax_store.specs.Kept.{entry}
 use Rattle.fax_store.specs.Store.{IsAtRest}
 use Rattle.fax_once.specs.Arrival.{number_of, said_of}
-use Rattle.fax_once.specs.Decision.{Decides}
-use Rattle.fax_once.specs.View.{view}
+use Rattle.fax_decide.specs.Decision.{Decides}
+use Rattle.fax_decide.specs.View.{view}
 use Rattle.fax_once.specs.declared.arrival.Arrival.{Arrival}
-use Rattle.fax_once.specs.declared.decision.Decision.{Decision}
+use Rattle.fax_decide.specs.declared.decision.Decision.{Decision}
 use Rattle.fax_once.specs.declared.sender.Sender.{Sender}
 
 pub data Verdict : Type 0 where

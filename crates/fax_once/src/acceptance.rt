@@ -7,11 +7,11 @@ ghost use Rattle.fax_store.specs.Job.{with_expired};
 ghost use Rattle.fax_store.specs.Kept.{entry};
 ghost use Rattle.fax_store.specs.Store.{Means, Serves};
 ghost use Rattle.fax_store.specs.Work.{ChangesWhere};
-ghost use Rattle.fax_once.specs.Effect.{Suits, accepted};
+ghost use Rattle.fax_decide.specs.Effect.{Suits, accepted};
 
-use crate::effect::Effect;
 use crate::sender::Sender;
 use fax_ask::Reply;
+use fax_decide::Effect;
 use fax_job::Moment;
 use fax_store::{Store, StoreFault, Work};
 use sqlite::Alter;

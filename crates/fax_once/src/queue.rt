@@ -10,7 +10,6 @@ ghost use Rattle.fax_core.specs.Ask.{Ask as MachineAsk, IsLawfulAsk};
 ghost use Rattle.fax_ask.specs.Response.{refused_response};
 ghost use Rattle.fax_ask.specs.declared.method.Method.TheVariants.{Get};
 ghost use Rattle.fax_core.specs.Clock.{decided_at};
-ghost use Rattle.fax_core.specs.Machine.{step as step_of};
 ghost use Rattle.fax_core.specs.Queue.{Queue as QueueOf, Entry};
 ghost use Rattle.fax_core.specs.Reply.{NoKeys};
 ghost use Rattle.fax_core.specs.Settings.{Settings};
@@ -18,31 +17,20 @@ ghost use Rattle.fax_core.specs.Sound.{Sound};
 ghost use Rattle.fax_job.specs.declared.refusal.BodyFault.{BodyFault};
 ghost use Rattle.fax_store.specs.Job.{with_expired};
 ghost use Rattle.fax_store.specs.Kept.{entry};
-ghost use Rattle.fax_store.specs.Meta.{meta_of};
 ghost use Rattle.fax_store.specs.Store.{Means, Serves, Stays};
+ghost use Rattle.fax_decide.specs.Effect.{Suits, accepted};
+ghost use Rattle.fax_decide.specs.Settings.{settings_of};
+ghost use Rattle.fax_decide.specs.View.{view};
 ghost use Rattle.fax_once.specs.Arrival.{IsSender, said_of};
 ghost use Rattle.fax_once.specs.Ask.{shown_in};
-ghost use Rattle.fax_once.specs.Decision.{Decides};
-ghost use Rattle.fax_once.specs.Effect.{Suits, accepted};
-ghost use Rattle.fax_once.specs.Settings.{settings_of};
 ghost use Rattle.fax_once.specs.Verdict.{Answers, Handles, IsDecided, IsVerdict, LeavesBy, Told, asked_for, is_used};
-ghost use Rattle.fax_once.specs.View.{view};
 ghost use Rattle.fax_once.specs.declared.arrival.Arrival.{Arrival as ArrivalOf};
 
 use crate::acceptance::accept;
 use crate::arrival::Arrival;
-use crate::choice::decide_next;
-use crate::decision::{Decision, plain};
-use crate::effect::Effect;
-use crate::fault::Unavailable;
-use crate::jobs::{JobAsk, decide_on_job};
-use crate::modems::decide_mark;
-use crate::office::Office;
-use crate::reports::{Report, decide_report};
 use crate::sender::Sender;
-use crate::submission::decide_submission;
-use crate::view::view_job;
 use fax_ask::{Ask, Detail, Reply, Routes};
+use fax_decide::{Decision, Effect, Office, Unavailable, decide, plain, view_job};
 use fax_dest::{Controls, Setup};
 use fax_job::{Moment, Refusal};
 use fax_store::{Meta, Store, StoreFault};
@@ -298,46 +286,5 @@ fn refuse_body(alloc: Global, refusal: Refusal) -> Result<Reply, Unavailable>
     match refusal {
         Refusal::BadBody(fault) => Ok(Reply::refused_with(alloc, &Detail::Body(fault))?),
         _ => Err(Unavailable),
-    }
-}
-
-/// What is decided of a request at `t`, by the rows that it is about.
-fn decide<S: Alter>(
-    store: &mut Store<S>,
-    office: &Office,
-    alloc: Global,
-    ask: Ask,
-    meta: &Meta,
-    t: Moment,
-) -> Result<Decision, Unavailable>
-    ensures served { Serves (state S.Store store.new.conn) → Serves (state S.Store store.old.conn) }
-    ensures stays { Stays (state S.Store store.old.conn) (state S.Store store.new.conn) }
-    ensures decided { (m : QueueOf) (k : List Entry) (want : MachineAsk) → Sound m
-        → Means (state S.Store store.old.conn) m k → Serves (state S.Store store.new.conn)
-        → meta.now ≡ meta_of m → asked ask ≡ Asked want
-        → IfOk result (Decides (step_of (settings_of office.now.setup office.now.controls) m t want) m t) }
-{
-    match ask {
-        Ask::Submission(order) => decide_submission(office, alloc, order, meta.next_job, t),
-        Ask::Suspend { job } => decide_on_job(store, office, alloc, job, JobAsk::Suspend, t),
-        Ask::Resume { job } => decide_on_job(store, office, alloc, job, JobAsk::Resume, t),
-        Ask::Kill { job } => decide_on_job(store, office, alloc, job, JobAsk::Kill, t),
-        Ask::Alteration { job, alter } => {
-            decide_on_job(store, office, alloc, job, JobAsk::Alter(alter), t)
-        }
-        Ask::Ready { modem } => decide_mark(office, alloc, modem, false),
-        Ask::Down { modem } => decide_mark(office, alloc, modem, true),
-        Ask::Next { modem } => decide_next(store, office, alloc, modem, meta.next_grant, t),
-        Ask::CallReport { grant, call } => {
-            decide_report(store, office, alloc, grant, Report::Call(call), t)
-        }
-        Ask::PageReport { grant, page } => {
-            decide_report(store, office, alloc, grant, Report::Page(page), t)
-        }
-        Ask::OutcomeReport { grant, outcome } => {
-            decide_report(store, office, alloc, grant, Report::Outcome(outcome), t)
-        }
-        // A view is decided by nothing.
-        Ask::Show { job: _ } => Err(Unavailable),
     }
 }

@@ -13,8 +13,6 @@ mod replies;
 mod row;
 mod schema;
 mod store;
-#[cfg(test)]
-mod tests;
 mod work;
 
 pub use fault::StoreFault;
@@ -23,3 +21,6 @@ pub use meta::Meta;
 pub use replies::Kept;
 pub use store::{MemoryStore, Store};
 pub use work::Work;
+
+#[cfg(test)]
+mod tests;

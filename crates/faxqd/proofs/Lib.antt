@@ -1,10 +1,2 @@
-pub mod ConversationLemmas
-pub mod DivisionLemmas
-pub mod FieldLemmas
-pub mod InputLemmas
-pub mod MessageLemmas
-pub mod OneReplayLemmas
-pub mod OutputLemmas
-pub mod Progress
-pub mod ReplayLemmas
-pub mod ServingLemmas
+mod OneReplayLemmas
+mod ReplayLemmas

@@ -18,11 +18,12 @@ use Rattle.fax_once.specs.Verdict.{Verdict, Told, Accepted, Handles, IsVerdict, 
 use Rattle.fax_once.specs.declared.arrival.Arrival.{Arrival}
 use Rattle.fax_store.proofs.StoreLemmas.{memory_serves}
 use Rattle.fax_store.specs.Store.{IsAtRest}
-use Rattle.faxqd.specs.Conversation.{Turn}
+use Rattle.fax_http.specs.Conversation.{Turn}
 use Rattle.faxqd.specs.Desk.{IsArrival}
-use Rattle.faxqd.specs.Laws.{NoneGaveOut, OneReplay, message_of}
+use Rattle.fax_http.specs.Laws.{message_of}
+use Rattle.faxqd.specs.Laws.{NoneGaveOut, OneReplay}
 use Rattle.faxqd.specs.Replay.{AreHandled, moment_of, settings_in}
-use Rattle.faxqd.proofs.DivisionLemmas.{one_division}
+use Rattle.fax_http.proofs.DivisionLemmas.{one_division}
 
 -- ---- one message
 

@@ -6,13 +6,13 @@ use Rattle.sqlite_trees.specs.declared.memory.MemStore.{MemStore}
 use Rattle.fax_core.specs.Settings.{Settings}
 use Rattle.httparse.specs.Grammar.{RequestHead}
 use Rattle.fax_ask.specs.Response.{Response}
-use Rattle.faxqd.specs.declared.conversation.End.TheVariants.{Closed}
-use Rattle.faxqd.specs.declared.conversation.Served.{Served}
-use Rattle.faxqd.specs.Clock.{moment_said}
-use Rattle.faxqd.specs.Conversation.{Answering, Answers, EndsBy, Reads, Turn, spelled_turns}
+use Rattle.fax_http.specs.declared.conversation.End.TheVariants.{Closed}
+use Rattle.fax_http.specs.declared.conversation.Served.{Served}
+use Rattle.fax_http.specs.Clock.{moment_said}
+use Rattle.fax_http.specs.Conversation.{Answering, Answers, EndsBy, Reads, Turn, spelled_turns}
 use Rattle.faxqd.specs.Desk.{HandlesAt, IsHandled}
 use Rattle.faxqd.specs.Replay.{AreHandled, AreOfEmptyQueue, IsAnswered, moment_of}
-use Rattle.faxqd.specs.Serve.{AnswersInput, IsUnread}
+use Rattle.fax_http.specs.Serving.{AnswersInput, IsUnread}
 
 -- each answer is an arrival that is handled, so all of them are
 pub handled_of : {H : Type 0} (answers : Answering H) (old : H) (turns : List Turn) (new : H) → Answers answers old turns new

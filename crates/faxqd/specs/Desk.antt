@@ -10,7 +10,7 @@ use Rattle.fax_core.specs.Sound.{Sound}
 use Rattle.fax_once.specs.Verdict.{Handles}
 use Rattle.fax_once.specs.declared.arrival.Arrival.{Arrival}
 use Rattle.fax_store.specs.Store.{Means, Serves}
-use Rattle.faxqd.specs.Message.{fields_of, sole, values_of}
+use Rattle.fax_http.specs.Message.{fields_of, sole, values_of}
 
 -- the arrival of a message with that head and body, at that moment
 pub record IsArrival (head : RequestHead) (body : List ℕ) (moment : ℕ) (a : Arrival) : Type 0 where

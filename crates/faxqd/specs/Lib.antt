@@ -1,11 +1,4 @@
-pub mod Clock
-pub mod Conversation
-pub mod Cut
 pub mod Desk
-pub mod Field
 pub mod Laws
-pub mod Message
 pub mod Replay
-pub mod Reply
-pub mod Serve
 pub mod Status

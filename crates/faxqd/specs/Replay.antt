@@ -6,14 +6,14 @@ use Rattle.sqlite.specs.Steps.{over_memory}
 use Rattle.sqlite_trees.specs.declared.memory.MemStore.{MemStore}
 use Rattle.fax_core.specs.Queue.{empty_queue}
 use Rattle.fax_core.specs.Settings.{Settings}
-use Rattle.fax_once.specs.Settings.{settings_of}
-use Rattle.fax_once.specs.declared.office.Office.{Office}
+use Rattle.fax_decide.specs.Settings.{settings_of}
+use Rattle.fax_decide.specs.declared.office.Office.{Office}
 use Rattle.fax_store.specs.Store.{IsAtRest}
-use Rattle.faxqd.specs.Clock.{moment_said}
-use Rattle.faxqd.specs.Conversation.{Reads, Turn, spelled_turns}
+use Rattle.fax_http.specs.Clock.{moment_said}
+use Rattle.fax_http.specs.Conversation.{Reads, Turn, spelled_turns}
 use Rattle.faxqd.specs.Desk.{HandlesAt}
-use Rattle.faxqd.specs.Message.{fields_of, sole, values_of}
-use Rattle.faxqd.specs.Serve.{ReadsWhole}
+use Rattle.fax_http.specs.Message.{fields_of, sole, values_of}
+use Rattle.fax_http.specs.Serving.{ReadsWhole}
 
 -- what a turn's message says of its moment, or else the last moment
 abbrev pub moment_of : ℕ → Turn → ℕ

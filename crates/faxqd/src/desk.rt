@@ -3,13 +3,11 @@
 
 ghost use Rattle.std.specs.Prelude.{◌≡◌, ℕ, List};
 ghost use Rattle.httparse.specs.Grammar.{RequestHead};
-ghost use Rattle.faxqd.specs.Cut.{ArePartsOf};
+ghost use Rattle.fax_http.specs.Cut.{ArePartsOf};
 ghost use Rattle.faxqd.specs.Desk.{IsArrival};
 
-use crate::clock::Clock;
-use crate::conversation::Handler;
-use crate::message::Message;
 use fax_ask::{Method, Reply};
+use fax_http::{Clock, Handler, Message};
 use fax_job::Moment;
 use fax_once::{Arrival, Queue};
 use sqlite::Alter;
@@ -39,7 +37,7 @@ impl<C: Clock + Drop, S: Alter> Desk<C, S> {
 impl<C: Clock + Drop, S: Alter> Handler for Desk<C, S> {
     ghost use Rattle.std.specs.Prelude.{◌≡◌};
     ghost use Rattle.sqlite.specs.Held.{state};
-    ghost use Rattle.fax_once.specs.Settings.{settings_of};
+    ghost use Rattle.fax_decide.specs.Settings.{settings_of};
     ghost use Rattle.faxqd.specs.Desk.{IsHandled};
 
     // The queue handles the message's arrival at the clock's moment, by the same setup and controls as ever.

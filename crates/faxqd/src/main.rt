@@ -1,20 +1,11 @@
 //! faxqd: the send queue of a fax server.
 #![tactic(auto)]
 
-mod clock;
 mod command;
-mod conversation;
 mod desk;
-mod head;
-mod input;
-mod message;
 mod office;
-mod output;
 mod replay;
-mod serve;
 mod status;
-#[cfg(test)]
-mod tests;
 mod words;
 
 use crate::status::fail;

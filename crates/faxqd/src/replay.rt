@@ -6,12 +6,10 @@ ghost use Rattle.fax_core.specs.Queue.{empty_queue as no_records};
 ghost use Rattle.fax_store.specs.Store.{IsAtRest};
 ghost use Rattle.faxqd.specs.Replay.{IsAnswered};
 
-use crate::clock::SaidClock;
-use crate::conversation::{Bounds, End};
 use crate::desk::Desk;
 use crate::office::{OfficeFiles, read_office, report};
-use crate::serve::serve;
 use crate::status::{Status, fail};
+use fax_http::{Bounds, End, SaidClock, serve};
 use fax_once::{Office, Queue};
 use fax_store::{Store, StoreFault};
 use sqlite::MemStore;
@@ -34,11 +32,24 @@ pub fn replay<R: Read, W: Write, E: Write>(
         → IsAnswered (R.remaining reader.old) (R.remaining reader.new) (W.contents out.old) (W.contents out.new) }
     ensures words { ¬ (result ≡ Status.Usage) }
 {
-    let alloc = rt.alloc();
-    let office = match read_office(rt, files) {
-        Ok(office) => office,
-        Err(fault) => return report(err, fault),
-    };
+    match read_office(rt, files) {
+        Ok(office) => answer(rt.alloc(), office, reader, out, err),
+        Err(fault) => report(err, fault),
+    }
+}
+
+/// Answers the messages from empty tables on, by that office.
+fn answer<R: Read, W: Write, E: Write>(
+    alloc: Global,
+    office: Office,
+    reader: &mut R,
+    out: &mut W,
+    err: &mut E,
+) -> Status
+    ensures success { result ≡ Status.Success
+        → IsAnswered (R.remaining reader.old) (R.remaining reader.new) (W.contents out.old) (W.contents out.new) }
+    ensures words { ¬ (result ≡ Status.Usage) }
+{
     let Ok(queue) = empty_queue(alloc, office) else {
         return fail(err, "faxqd: no memory\n");
     };
@@ -47,7 +58,15 @@ pub fn replay<R: Read, W: Write, E: Write>(
         messages: MESSAGE_LIMIT,
     };
     let served = serve(alloc, reader, out, &mut desk, bounds);
-    match served.end {
+    tell(err, served.end)
+}
+
+/// Says on one line how serving ended, where it didn't end with the input.
+fn tell<E: Write>(err: &mut E, end: End) -> Status
+    ensures success { result ≡ Status.Success → end ≡ End.Closed }
+    ensures words { ¬ (result ≡ Status.Usage) }
+{
+    match end {
         End::Closed => Status::Success,
         End::Bad => fail(err, "faxqd: ended bad\n"),
         End::Bound => fail(err, "faxqd: ended bound\n"),

@@ -2,8 +2,8 @@ use Rattle.std.proofs.Common.{◌≡◌, [], ◌∷◌, ◌++◌, subst, rules}
 use Rattle.sqlite.specs.Held.{state}
 use Rattle.fax_store.specs.Kept.{entry}
 use Rattle.fax_store.specs.Store.{Means, Stays}
-use Rattle.fax_once.specs.Effect.{accepted}
-use Rattle.fax_once.proofs.WorkLemmas.{refused_with, works_where}
+use Rattle.fax_decide.specs.Effect.{accepted}
+use Rattle.fax_decide.proofs.WorkLemmas.{refused_with, works_where}
 use Rattle.fax_once.proofs.acceptance.accept.Goals as goal
 
 pub returns-in_err-work-clause-taken : goal.returns-in_err-work-clause-taken

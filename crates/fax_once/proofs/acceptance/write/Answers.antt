@@ -2,8 +2,8 @@ use Rattle.std.proofs.Common.{[], ◌∷◌, ◌++◌, subst₂}
 use Rattle.sqlite.specs.Held.{state}
 use Rattle.fax_store.specs.Kept.{entry}
 use Rattle.fax_store.specs.Work.{Works}
-use Rattle.fax_once.specs.Effect.{accepted}
-use Rattle.fax_once.proofs.WorkLemmas.{refused_any}
+use Rattle.fax_decide.specs.Effect.{accepted}
+use Rattle.fax_decide.proofs.WorkLemmas.{refused_any}
 use Rattle.fax_once.proofs.acceptance.write.Goals as goal
 
 pub returns-in_err-expire_all-clause-changes : goal.returns-in_err-expire_all-clause-changes

@@ -11,5 +11,5 @@ returns c =
     let full : length rules.items ≢ 0 = eqb-false (length rules.items) 0 some in (
       Adds c.in_ok-parameter.parameter,
       rw (has_rule-some rules.items some) (ap (λ r. adds r) c.in_ok-parameter.ensures),
-      record { rules = set_last rules.items _ c.index_mut-entry.result.now _ c.in_ok-parameter.parameter (omega arith) c.index_mut-entry.ensures.value (spelled_by c.index_mut-entry.result.now c.in_ok-parameter.parameter c.set.new.self c.set.ensures) },
+      record { rules = set_last rules.items _ c.index_mut-entry.result.now _ c.in_ok-parameter.parameter (omega arith) c.index_mut-entry.ensures.value (spelled_by c.index_mut-entry.result.now c.in_ok-parameter.parameter c.set.new.rule c.set.ensures) },
     )

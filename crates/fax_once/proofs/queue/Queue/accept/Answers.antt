@@ -2,8 +2,8 @@ use Rattle.std.proofs.Common.{◌++◌, ◌∷◌, [], refl, subst, ◌∙◌}
 use Rattle.sqlite.specs.Held.{state}
 use Rattle.fax_store.specs.Kept.{entry}
 use Rattle.fax_store.specs.Store.{Means}
-use Rattle.fax_once.specs.Effect.{accepted}
-use Rattle.fax_once.proofs.WorkLemmas.{refused_with}
+use Rattle.fax_decide.specs.Effect.{accepted}
+use Rattle.fax_decide.proofs.WorkLemmas.{refused_with}
 use Rattle.fax_once.proofs.queue.Queue.accept.Goals as goal
 
 pub returns-in_err-accept-clause-accepted : goal.returns-in_err-accept-clause-accepted

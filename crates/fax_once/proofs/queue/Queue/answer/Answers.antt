@@ -1,5 +1,5 @@
 use Rattle.sqlite.specs.Held.{state}
-use Rattle.fax_once.specs.Settings.{settings_of}
+use Rattle.fax_decide.specs.Settings.{settings_of}
 use Rattle.fax_once.proofs.RequestLemmas.{told_answers}
 use Rattle.fax_once.proofs.queue.Queue.answer.Goals as goal
 

@@ -1,7 +1,7 @@
 use Rattle.std.proofs.Common.{sym, ◌∙◌}
 use Rattle.sqlite.specs.Held.{state}
 use Rattle.fax_ask.specs.Ask.{asked}
-use Rattle.fax_once.specs.Settings.{settings_of}
+use Rattle.fax_decide.specs.Settings.{settings_of}
 use Rattle.fax_once.proofs.RequestLemmas.{step_in, view_answers, step_answers, sender_answers}
 use Rattle.fax_once.proofs.queue.Queue.answer_ask.Goals as goal
 

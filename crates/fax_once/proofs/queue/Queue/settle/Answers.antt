@@ -1,7 +1,7 @@
 use Rattle.std.proofs.Common.{subst}
 use Rattle.sqlite.specs.Held.{state}
 use Rattle.fax_core.specs.Machine.{step}
-use Rattle.fax_once.specs.Decision.{Decides}
+use Rattle.fax_decide.specs.Decision.{Decides}
 use Rattle.fax_once.proofs.VerdictLemmas.{refused_leaves, accepted_leaves}
 use Rattle.fax_once.proofs.queue.Queue.settle.Goals as goal
 

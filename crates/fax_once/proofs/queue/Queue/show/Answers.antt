@@ -1,8 +1,8 @@
 use Rattle.std.proofs.Common.{◌≡◌, ap, subst, ◌∙◌}
 use Rattle.std.specs.Prelude.{IfOk}
 use Rattle.fax_core.specs.Clock.{decided_at}
-use Rattle.fax_once.specs.Settings.{settings_of}
-use Rattle.fax_once.specs.View.{view}
+use Rattle.fax_decide.specs.Settings.{settings_of}
+use Rattle.fax_decide.specs.View.{view}
 use Rattle.fax_once.proofs.queue.Queue.show.Goals as goal
 
 pub returns-clause-viewed : goal.returns-clause-viewed

@@ -4,8 +4,8 @@ use Rattle.fax_ask.specs.Ask.{IsLawful}
 use Rattle.std.specs.Prelude.{IfOk}
 use Rattle.fax_core.specs.Clock.{decided_at}
 use Rattle.fax_core.specs.Machine.{step}
-use Rattle.fax_once.specs.Decision.{Decides}
-use Rattle.fax_once.specs.Settings.{settings_of}
+use Rattle.fax_decide.specs.Decision.{Decides}
+use Rattle.fax_decide.specs.Settings.{settings_of}
 use Rattle.fax_once.proofs.VerdictLemmas.{used_leaves, lawful_ask}
 use Rattle.fax_once.proofs.queue.Queue.step.Goals as goal
 

@@ -1,3 +1,0 @@
-mod replies;
-mod reports;
-mod requests;

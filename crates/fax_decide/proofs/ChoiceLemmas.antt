@@ -1,0 +1,235 @@
+-- Which job is the best: the first that may go among the waiting jobs in the order of the choice.
+use Rattle.std.proofs.Common.{◌≡◌, ◌⊎◌, inl, inr, ℕ, zero, suc, ◌+◌, ◌<◌, Bool, true, false, cond, ◌&&◌, ◌||◌, eqb, leb, ltb, All, List, [], ◌∷◌, ◌++◌, map, get_or, refl, sym, ap, ap₂, subst, ◌∙◌, arith}
+use Rattle.std.specs.Prelude.{Option, Some, None, Result, Ok, Err, IfOk, find, filter}
+use Rattle.std.specs.List.Sorted.{IsPermutation, IsSortedBy}
+use Rattle.std.specs.Option.{option_map}
+use Rattle.std.proofs.lemmas.Bool.{and_parts, eqb-true, not-true, true≢false}
+use Rattle.std.proofs.lemmas.Bool.Decides.{nat_tests}
+use Rattle.std.proofs.lemmas.List.Sorted.{IsPermutation-sym, All-permutation}
+use Rattle.fax_job.specs.Status.{kill_time_expired}
+use Rattle.fax_job.specs.declared.job.JobFields.{JobFields}
+use Rattle.fax_job.specs.declared.job.Phase.TheVariants.{Failed}
+use Rattle.fax_core.specs.Ageing.{aged, aged_job, expires, is_past}
+use Rattle.fax_core.specs.Best.{better, may_go, best, Precedes, MayGo, IsBest}
+use Rattle.fax_core.specs.Job.{Job, job_of, fields_of}
+use Rattle.fax_core.specs.Queue.{Queue}
+use Rattle.fax_core.specs.Settings.{Settings}
+use Rattle.fax_core.specs.Sound.{Sound}
+use Rattle.fax_core.specs.State.{is_due, is_waiting, state}
+use Rattle.fax_core.proofs.BestLemmas.{best_is, best_alone, none_goes, ready_due}
+use Rattle.fax_core.proofs.FitsLemmas.{job_again}
+use Rattle.fax_core.proofs.PlaceLemmas.{In, found, found_in, none_passes, in_filter, of_filter, in_found}
+use Rattle.fax_core.proofs.StepLemmas.{aged_sound}
+use Rattle.fax_store.specs.Job.{AreWaiting, IsLawfulJob, IsWaiting}
+use Rattle.fax_decide.proofs.CallLemmas.{state_aged}
+
+-- ---- what ageing leaves alone
+
+abbrev expired : Job → Job
+expired j = record j { phase = Failed; status = kill_time_expired }
+
+-- ---- lists
+
+in_all : {X : Type 0} (P : X → Type 0) (xs : List X) (x : X) → All P xs → In x xs → P x
+in_all P [] x all i = absurd i
+in_all P (y ∷ ys) x all (inl s) = subst P s (all 0 y (omega arith))
+in_all P (y ∷ ys) x all (inr i) = in_all P ys x (λ k d h. all (suc k) d (omega arith)) i
+
+all_in : {X : Type 0} (P : X → Type 0) (xs : List X) → ((x : X) → In x xs → P x) → All P xs
+all_in P [] h k d below = absurd (omega (arith, below))
+all_in P (x ∷ xs) h zero d below = h x (inl refl)
+all_in P (x ∷ xs) h (suc k) d below = all_in P xs (λ y i. h y (inr i)) k d (omega arith)
+
+in_permuted : {X : Type 0} (xs ys : List X) (x : X) → IsPermutation xs ys → In x ys → In x xs
+in_permuted xs ys x h i = in_all (λ y. In y xs) ys x (All-permutation (λ y. In y xs) xs ys h (all_in (λ y. In y xs) xs (λ y there. there))) i
+
+in_map : {X Y : Type 0} (f : X → Y) (xs : List X) (x : X) → In x xs → In (f x) (map f xs)
+in_map f [] x i = i
+in_map f (y ∷ ys) x (inl s) = inl (ap f s)
+in_map f (y ∷ ys) x (inr i) = inr (in_map f ys x i)
+
+of_map : {X Y : Type 0} (f : X → Y) (xs : List X) (y : Y) → In y (map f xs) → (x : X) × In x xs × (f x ≡ y)
+of_map f [] y i = absurd i
+of_map f (x ∷ xs) y (inl s) = (x, inl refl, s)
+of_map f (x ∷ xs) y (inr i) = let r = of_map f xs y i in (r.0, inr r.1, r.2)
+
+-- ---- which jobs wait
+
+due_parts : (j : Job) (t : ℕ) → is_due j t ≡ true → (is_waiting j.phase ≡ true) × (is_past j.killtime t ≡ false)
+due_parts j t e =
+    let a = and_parts _ (leb j.next t) e in
+    let b = and_parts _ (leb j.tts t) a.0 in
+    let c = and_parts (is_waiting j.phase) _ b.0 in
+    (c.0, not-true (is_past j.killtime t) c.1)
+
+and_false : (a b : Bool) → b ≡ false → (a && b) ≡ false
+and_false true b e = e
+and_false false b e = refl
+
+-- a job that is due doesn't age
+due_stays : (j : Job) (t : ℕ) → is_due j t ≡ true → aged_job t j ≡ j
+due_stays j t e = ap (λ b. cond b (expired j) j) (and_false (expires j.phase) (is_past j.killtime t) (due_parts j t e).1)
+
+-- a job that is due after ageing was so before
+due_was : (k : Job) (t : ℕ) → is_due (aged_job t k) t ≡ true → aged_job t k ≡ k
+due_was k t e = by (expires k.phase && is_past k.killtime t) e
+  where
+    by : (b : Bool) → is_due (cond b (expired k) k) t ≡ true → cond b (expired k) k ≡ k
+    by true e = absurd (let no = (due_parts (expired k) t e).0 in cc)
+    by false e = refl
+
+module _ (m : Queue) (t : ℕ) (jobs : List Job) (w : AreWaiting t m jobs) where
+  waiting_due : (j : Job) → In j jobs → In j m.jobs × (is_due j t ≡ true)
+  waiting_due j i = of_filter (λ (k : Job). is_due k t) m.jobs j (in_permuted (filter (λ (k : Job). is_due k t) m.jobs) jobs j w.due i)
+
+  -- each of them is in the aged queue
+  waiting_aged : (j : Job) → In j jobs → In j (aged t m).jobs
+  waiting_aged j i = let d = waiting_due j i in subst (λ (k : Job). In k (aged t m).jobs) (due_stays j t d.1) (in_map (aged_job t) m.jobs j d.0)
+
+  -- and each that is due in the aged queue is one of them
+  due_waits : (j : Job) → In j (aged t m).jobs → is_due j t ≡ true → In j jobs
+  due_waits j i e =
+      let was = of_map (aged_job t) m.jobs j i in
+      let same : aged_job t was.0 ≡ was.0 = due_was was.0 t (subst (λ (k : Job). is_due k t ≡ true) (sym was.2) e) in
+      let there : In j m.jobs = subst (λ (k : Job). In k m.jobs) (sym same ∙ was.2) was.1 in
+      let back = IsPermutation-sym (filter (λ (k : Job). is_due k t) m.jobs) jobs w.due in
+      in_permuted jobs (filter (λ (k : Job). is_due k t) m.jobs) j back (in_filter (λ (k : Job). is_due k t) m.jobs j e there)
+
+-- ---- the order
+
+abbrev lex : ℕ → ℕ → ℕ → ℕ → ℕ → ℕ → Bool
+lex p t n q u k = ltb p q || (eqb p q && (ltb t u || (eqb t u && ltb n k)))
+
+lex_not_itself : (p t n : ℕ) → lex p t n p t n ≡ false
+lex_not_itself p t n = grind (arith, nat_tests)
+
+lex_not_through : (p t n q u k r v l : ℕ) → lex p t n q u k ≡ false → lex q u k r v l ≡ false → lex p t n r v l ≡ false
+lex_not_through p t n q u k r v l a b = grind (arith, nat_tests)
+
+lex_not : (p t n q u k : ℕ) → lex p t n q u k ≡ false → (p < q) ⊎ ((p ≡ q) × ((t < u) ⊎ ((t ≡ u) × (n < k)))) → ⊥
+lex_not p t n q u k e h = grind (arith, nat_tests)
+
+not_precedes : (j k : Job) → better j k ≡ false → Precedes j k → ⊥
+not_precedes j k e p = lex_not j.priority j.tts j.number k.priority k.tts k.number e p
+
+not_better_through : (i j k : Job) → better i j ≡ false → better j k ≡ false → better i k ≡ false
+not_better_through i j k a b = lex_not_through i.priority i.tts i.number j.priority j.tts j.number k.priority k.tts k.number a b
+
+sorted_rest : (x : Job) (xs : List Job) → IsSortedBy better (x ∷ xs) → IsSortedBy better xs
+sorted_rest x xs up k d low high =
+    let next : suc k + 1 ≡ suc (k + 1) = omega arith in
+    subst (λ (i : ℕ). better (get_or (x ∷ xs) i d) (get_or xs k d) ≡ false) next (up (suc k) d (omega arith) (omega arith))
+
+-- none of a list in order is better than its first
+first_least : (x : Job) (xs : List Job) (k : Job) → IsSortedBy better (x ∷ xs) → In k xs → better k x ≡ false
+first_least x [] k up i = absurd i
+first_least x (y ∷ ys) k up (inl s) = subst (λ (z : Job). better z x ≡ false) s (up 0 x (omega arith) (omega arith))
+first_least x (y ∷ ys) k up (inr i) = not_better_through k y x (first_least y ys k (sorted_rest x (y ∷ ys) up) i) (up 0 x (omega arith) (omega arith))
+
+-- none that passes is better than the first that does
+least_by : (p : Job → Bool) (x : Job) (xs : List Job) (j k : Job) (b : Bool) → p x ≡ b → IsSortedBy better (x ∷ xs) → cond b (Some x) (find p xs) ≡ Some j
+    → (x ≡ k) ⊎ In k xs → p k ≡ true → (find p xs ≡ Some j → In k xs → better k j ≡ false) → better k j ≡ false
+least_by p x xs j k true e up h (inl s) passes ih = let same : k ≡ j = cc in subst (λ (z : Job). better k z ≡ false) same (lex_not_itself k.priority k.tts k.number)
+least_by p x xs j k true e up h (inr i) passes ih = let same : x ≡ j = cc in subst (λ (z : Job). better k z ≡ false) same (first_least x xs k up i)
+least_by p x xs j k false e up h (inl s) passes ih = absurd (true≢false (sym passes ∙ sym (ap p s) ∙ e))
+least_by p x xs j k false e up h (inr i) passes ih = ih h i
+
+first_best : (p : Job → Bool) (xs : List Job) (j k : Job) → IsSortedBy better xs → find p xs ≡ Some j → In k xs → p k ≡ true → better k j ≡ false
+first_best p [] j k up h i passes = absurd i
+first_best p (x ∷ xs) j k up h i passes = least_by p x xs j k (p x) refl up h i passes (λ rest there. first_best p xs j k (sorted_rest x xs up) rest there passes)
+
+-- ---- the best
+
+module _ (s : Settings) (m : Queue) (t : ℕ) (modem : List ℕ) (jobs : List Job) (sound : Sound m) (w : AreWaiting t m jobs) where
+  abbrev goes : Job → Bool
+  goes = may_go s m t modem
+
+  may_go_of : (j : Job) → In j jobs → goes j ≡ true → MayGo s (aged t m) t modem j
+  may_go_of j i e =
+      let parts = and_parts (eqb (state s m t j) 5) (s.admits j.modem modem) e in
+      record {
+        there = in_found (λ (k : Job). k.number) 1 (aged t m).jobs j (aged_sound t m sound).jobs (waiting_aged m t jobs w j i);
+        ready = state_aged s m t j ∙ eqb-true (state s m t j) 5 parts.0;
+        admitted = parts.1;
+      }
+
+  waits_of : (k : Job) → MayGo s (aged t m) t modem k → In k jobs × (goes k ≡ true)
+  waits_of k g =
+      let there : In k (aged t m).jobs = found_in (λ (j : Job). eqb j.number k.number) (aged t m).jobs k g.there in (
+        due_waits m t jobs w k there (ready_due s (aged t m) t k g.ready),
+        ap₂ ◌&&◌ (ap (λ (n : ℕ). eqb n 5) (sym (state_aged s m t k) ∙ g.ready)) g.admitted,
+      )
+
+  first_is : (j : Job) → find goes jobs ≡ Some j → IsBest s (aged t m) t modem j
+  first_is j e = record {
+    goes = may_go_of j (found_in goes jobs j e) (found goes jobs j e);
+    least = λ k g p. let h = waits_of k g in not_precedes k j (first_best goes jobs j k w.ordered e h.0 h.1) p;
+  }
+
+  by_cases : (o b : Option Job) → find goes jobs ≡ o → best s (aged t m) t modem ≡ b → o ≡ b
+  by_cases None None e h = refl
+  by_cases None (Some k) e h =
+      let g = waits_of k (best_is s (aged t m) t modem k (aged_sound t m sound) h).goes in
+      absurd (true≢false (sym g.1 ∙ none_passes goes jobs k e g.0))
+  by_cases (Some j) None e h = absurd (none_goes s (aged t m) t modem h j (first_is j e).goes)
+  by_cases (Some j) (Some k) e h =
+      let other = best_is s (aged t m) t modem k (aged_sound t m sound) h in
+      ap (λ (x : Job). Some x) (best_alone s (aged t m) t modem j k (first_is j e) other)
+
+  -- the first of the waiting jobs that may go is the best
+  first_waiting : find goes jobs ≡ best s (aged t m) t modem
+  first_waiting = by_cases (find goes jobs) (best s (aged t m) t modem) refl refl
+
+-- ---- records
+
+abbrev jobs_of : List JobFields → List Job
+jobs_of fs = map (λ f. job_of f) fs
+
+-- one after those that don't pass
+pub found_next : (p : Job → Bool) (all before rest : List JobFields) (f : JobFields) → all ≡ before ++ f ∷ rest
+    → find p (jobs_of before) ≡ None → p (job_of f) ≡ true → Some (job_of f) ≡ find p (jobs_of all)
+found_next p all before rest f is none passes =
+    sym (ap (λ (xs : List JobFields). find p (jobs_of xs)) is ∙ walk before none)
+  where
+    by : (x : JobFields) (xs : List JobFields) (b : Bool) → cond b (Some (job_of x)) (find p (jobs_of xs)) ≡ None
+        → (find p (jobs_of xs) ≡ None → find p (jobs_of (xs ++ f ∷ rest)) ≡ Some (job_of f))
+        → cond b (Some (job_of x)) (find p (jobs_of (xs ++ f ∷ rest))) ≡ Some (job_of f)
+    by x xs true e ih = cc
+    by x xs false e ih = ih e
+
+    walk : (xs : List JobFields) → find p (jobs_of xs) ≡ None → find p (jobs_of (xs ++ f ∷ rest)) ≡ Some (job_of f)
+    walk [] e = ap (λ b. cond b (Some (job_of f)) (find p (jobs_of rest))) passes
+    walk (x ∷ xs) e = by x xs (p (job_of x)) e (walk xs)
+
+-- one more that doesn't pass
+pub none_more : (p : Job → Bool) (before : List JobFields) (f : JobFields) → find p (jobs_of before) ≡ None → p (job_of f) ≡ false
+    → find p (jobs_of (before ++ f ∷ [])) ≡ None
+none_more p [] f none fails = ap (λ b. cond b (Some (job_of f)) None) fails
+none_more p (x ∷ xs) f none fails = by (p (job_of x)) none (none_more p xs f)
+  where
+    by : (b : Bool) → cond b (Some (job_of x)) (find p (jobs_of xs)) ≡ None
+        → (find p (jobs_of xs) ≡ None → p (job_of f) ≡ false → find p (jobs_of (xs ++ f ∷ [])) ≡ None)
+        → cond b (Some (job_of x)) (find p (jobs_of (xs ++ f ∷ []))) ≡ None
+    by true e ih = cc
+    by false e ih = ih e fails
+
+jobs_again : (js : List Job) → All (λ j. job_of (fields_of j) ≡ j) js → jobs_of (map fields_of js) ≡ js
+jobs_again [] all = refl
+jobs_again (j ∷ js) all = ap₂ ◌∷◌ (all 0 j (omega arith)) (jobs_again js (λ k d h. all (suc k) d (omega arith)))
+
+-- the first of the waiting records that may go is that of the best job
+best_waiting : (s : Settings) (m : Queue) (t : ℕ) (modem : List ℕ) (found : List JobFields) → Sound m → All IsLawfulJob m.jobs → IsWaiting t m found
+    → find (may_go s m t modem) (jobs_of found) ≡ best s (aged t m) t modem
+best_waiting s m t modem found sound lawful w =
+    let is_lawful : (j : Job) → In j w.0 → IsLawfulJob j = λ j i. in_all IsLawfulJob m.jobs j lawful (waiting_due m t w.0 w.2 j i).0 in
+    let again : All (λ j. job_of (fields_of j) ≡ j) w.0 = all_in (λ (j : Job). job_of (fields_of j) ≡ j) w.0 (λ j i. job_again j (is_lawful j i).pages) in
+    let same : jobs_of found ≡ w.0 = ap jobs_of w.1 ∙ jobs_again w.0 again in
+    ap (find (may_go s m t modem)) same ∙ first_waiting s m t modem w.0 sound w.2
+
+-- so the first of them that is found is that of the best
+pub best_found : {E : Type 0} (r : Result (Option JobFields) E) (s : Settings) (m : Queue) (t : ℕ) (modem : List ℕ) (waiting : List JobFields)
+    → Sound m → All IsLawfulJob m.jobs → IsWaiting t m waiting
+    → IfOk r (λ o. option_map (λ f. job_of f) o ≡ find (may_go s m t modem) (jobs_of waiting))
+    → IfOk r (λ o. option_map (λ f. job_of f) o ≡ best s (aged t m) t modem)
+best_found (Ok o) s m t modem waiting sound lawful w is = is ∙ best_waiting s m t modem waiting sound lawful w
+best_found (Err e) s m t modem waiting sound lawful w is = is

@@ -1,0 +1,51 @@
+-- What is decided, where there is a reply.
+use Rattle.std.proofs.Common.{◌≡◌, ℕ, false, Ok, Err, refl, sym, ap, subst, ◌∙◌}
+use Rattle.std.specs.Prelude.{Result, IfOk, IsErr, IsOk, MatchResult}
+use Rattle.fax_job.specs.declared.refusal.Refusal.{Refusal}
+use Rattle.fax_job.specs.declared.refusal.Refusal.TheVariants.{PageOrder}
+use Rattle.fax_ask.specs.Detail.{has_detail}
+use Rattle.fax_ask.specs.Response.{Response, refused_response}
+use Rattle.fax_core.specs.Decisions.{JobAndGrant}
+use Rattle.fax_core.specs.Job.{Job}
+use Rattle.fax_core.specs.Machine.{keys_of_job, reported}
+use Rattle.fax_core.specs.Queue.{Queue}
+use Rattle.fax_core.specs.Reply as machine
+use Rattle.fax_core.specs.Reply.{Step}
+use Rattle.fax_decide.specs.Decision.{Decides, IsRefused}
+use Rattle.fax_decide.specs.declared.decision.Decision.{Decision}
+use Rattle.fax_decide.specs.declared.decision.Decision.TheVariants.{Refused}
+
+-- the decision is the step, where it is by the reply that there is
+pub decided_by : {E F : Type 0} (decision : Response → Decision) (told : Response) (step : Step) (m : Queue) (t : ℕ) (reply : Result Response E) (result : Result Decision F)
+    → MatchResult reply (λ r. result ≡ Ok (decision r)) (λ _. IsErr result) → IfOk reply (λ r. r ≡ told) → (IsOk reply → Decides step m t (decision told))
+    → IfOk result (Decides step m t)
+decided_by decision told step m t (Ok r) result is same holds = subst (λ d. IfOk d (Decides step m t)) (sym (is ∙ ap (λ (x : Response). Ok (decision x)) same)) (holds refl)
+decided_by decision told step m t (Err e) (Ok d) is same holds = absurd (let no = is in cc)
+decided_by decision told step m t (Err e) (Err f) is same holds = _
+
+-- there is a decision where there is a reply
+pub decided_where : {E F : Type 0} (decision : Response → Decision) (reply : Result Response E) (result : Result Decision F)
+    → MatchResult reply (λ r. result ≡ Ok (decision r)) (λ _. IsErr result) → IsOk reply → IsOk result
+decided_where decision (Ok r) result is ok = subst (λ d. IsOk d) (sym is) refl
+decided_where decision (Err e) result is ok = absurd (let no = ok in cc)
+
+-- a refusal is told with its keys
+pub refused_as : (e : Refusal) (keys : machine.Keys) → IsRefused (machine.Refused e keys) (refused_response e keys)
+refused_as e keys = record { refusal = e; keys = keys; refused = refl; replied = refl }
+
+plain_keys : (e : Refusal) (j : Job) → has_detail e ≡ false → keys_of_job e j ≡ machine.NoKeys
+plain_keys PageOrder j is = absurd (let no = is in cc)
+plain_keys e j is = refl
+
+-- a report is refused, and no more is told of it
+pub report_refused : {E F : Type 0} (n : Queue) (reply_to : Queue → JobAndGrant → machine.Reply) (j : Job) (r : Result JobAndGrant Refusal) (e : Refusal) (m : Queue) (t : ℕ) (reply : Result Response E) (result : Result Decision F)
+    → MatchResult reply (λ r. result ≡ Ok (Refused r)) (λ _. IsErr result) → IfOk reply (λ r. r ≡ refused_response e machine.NoKeys) → (IsOk reply → has_detail e ≡ false) → Err e ≡ r
+    → IfOk result (Decides (reported n reply_to j r) m t)
+report_refused n reply_to j r e m t reply result is same alone refused =
+    decided_by (λ x. Refused x) (refused_response e machine.NoKeys) (reported n reply_to j r) m t reply result is same
+    (λ ok. record {
+      refusal = e;
+      keys = machine.NoKeys;
+      refused = ap (reported n reply_to j) (sym refused) ∙ ap (λ (k : machine.Keys). machine.Refused e k) (plain_keys e j (alone ok));
+      replied = refl;
+    })

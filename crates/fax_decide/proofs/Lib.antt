@@ -1,0 +1,13 @@
+pub mod AskLemmas
+pub mod WorkLemmas
+mod DecisionLemmas
+mod RecordLemmas
+mod CallLemmas
+mod JobLemmas
+mod SubmissionLemmas
+mod ModemLemmas
+mod ViewLemmas
+mod ReportLemmas
+mod PlacedLemmas
+mod ChoiceLemmas
+mod GivenLemmas

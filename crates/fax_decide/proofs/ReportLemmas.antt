@@ -1,0 +1,192 @@
+-- What is decided of a report on a grant.
+use Rattle.std.proofs.Common.{◌≡◌, ℕ, ◌-◌, Bool, true, false, Some, None, Ok, Err, All, List, [], ◌∷◌, suc, find, refl, sym, ap, ap₂, subst, ◌∙◌, arith, inl, inr, ◌==◌}
+use Rattle.std.specs.Option.{option_map}
+use Rattle.std.specs.Prelude.{Option, Result}
+use Rattle.std.proofs.lemmas.Bool.{cases_Bool}
+use Rattle.fax_job.specs.declared.job.JobFields.{JobFields}
+use Rattle.fax_job.specs.declared.refusal.Refusal.{Refusal}
+use Rattle.fax_job.specs.declared.refusal.Refusal.TheVariants.{GrantClosed, PageOrder}
+use Rattle.fax_ask.specs.Answer.{Replied}
+use Rattle.fax_ask.specs.Detail.{has_detail}
+use Rattle.fax_ask.specs.Response.{Response, accepted_response, refused_response}
+use Rattle.fax_core.specs.Ageing.{aged}
+use Rattle.fax_core.specs.Change.{changed}
+use Rattle.fax_core.specs.declared.change.Change.{Change}
+use Rattle.fax_core.specs.declared.grants.Grant.{Grant}
+use Rattle.fax_core.specs.Decisions.{JobAndGrant, call, page, outcome, stops}
+use Rattle.fax_core.specs.Job.{Job, job_of}
+use Rattle.fax_core.specs.Machine.{with_job, with_grant, with_both, reported, on_grant, on_both, without_job, call_reply, page_reply, outcome_reply}
+use Rattle.fax_core.specs.Queue.{Queue, job_numbered, grant_numbered}
+use Rattle.fax_core.specs.Reply as machine
+use Rattle.fax_core.specs.Reply.{Reply, Called, Confirmed, Stands, Taken}
+use Rattle.fax_core.specs.Settings.{Settings}
+use Rattle.fax_core.specs.Sound.{Sound}
+use Rattle.fax_core.specs.State.{calls_to, state}
+use Rattle.fax_core.specs.Submission.{recorded}
+use Rattle.fax_core.proofs.FitsLemmas.{record_again}
+use Rattle.fax_core.proofs.KeepLemmas.{numbered_job, numbered_grant}
+use Rattle.fax_store.specs.Grant.{IsReport, IsSameGrant, with_closed, with_shut}
+use Rattle.fax_store.specs.Job.{IsChange, with_expired}
+use Rattle.fax_store.specs.Meta.{with_clock}
+use Rattle.fax_store.specs.Tables.{IsLawfulGrant}
+use Rattle.fax_decide.specs.Decision.{IsTaken, IsRefused}
+use Rattle.fax_decide.specs.Report.{AreThere, report_both, report_step}
+use Rattle.fax_decide.specs.State.{state_with}
+use Rattle.fax_decide.specs.declared.reports.Report.{Report}
+use Rattle.fax_decide.specs.declared.reports.Report.TheVariants.{Call, Page, Outcome}
+use Rattle.fax_decide.specs.declared.effect.Effect.TheVariants.{Reported, Closed}
+use Rattle.fax_decide.proofs.CallLemmas.{state_ended}
+use Rattle.fax_decide.proofs.JobLemmas.{recorded_is, same_order}
+use Rattle.fax_decide.proofs.RecordLemmas.{found_itself}
+
+-- ---- reports that leave the grant open
+
+reports_on : (m n : Queue) (before grant : Grant) → n.grants ≡ m.grants → grant_numbered before.number m ≡ Some before → IsSameGrant before grant → grant.number ≡ before.number → IsReport grant n
+reports_on m n before grant grants there same number h is =
+    let of : grant_numbered before.number m ≡ Some h = subst (λ (a : ℕ). grant_numbered a m ≡ Some h) number (subst (λ gs. find (λ (g : Grant). g.number == grant.number) gs ≡ Some h) grants is) in
+    let one : h ≡ before = (let both = sym of ∙ there in cc) in
+    subst (λ (x : Grant). IsSameGrant x grant) (sym one) same
+
+-- job and grant are put in their places
+report_taken : (m : Queue) (t : ℕ) (c : Change) (f g : JobFields) (before grant : Grant) (reply_to : Queue → JobAndGrant → Reply) (told : Reply) (reply : Response)
+    → AreThere m t f before → IsSameGrant before grant → grant.number ≡ before.number → job_of g ≡ changed c (job_of f)
+    → ((n : Queue) → reply_to n (record { job = job_of g; grant = grant }) ≡ told) → reply ≡ accepted_response (Replied told)
+    → IsTaken (reported (aged t m) reply_to (job_of f) (Ok (record { job = changed c (job_of f); grant = grant }))) m t (Reported g grant) reply
+report_taken m t c f g before grant reply_to told reply there same number one says replied = record {
+  suits = (
+    subst (λ (x : Job). IsChange x (with_expired t m)) (sym one) (same_order m t c (job_of f) there.job_there),
+    reports_on m (with_job (job_of g) (with_expired t m)) before grant refl there.grant_there same number,
+  );
+  told = told;
+  taken = ap (λ (x : Job). Taken (with_both (record { job = x; grant = grant }) (aged t m)) (reply_to (with_both (record { job = x; grant = grant }) (aged t m)) (record { job = x; grant = grant }))) (sym one)
+      ∙ ap (λ (r : Reply). Taken (with_both (record { job = job_of g; grant = grant }) (aged t m)) r) (says (with_both (record { job = job_of g; grant = grant }) (aged t m)));
+  replied = replied;
+}
+
+pub call_taken : (m : Queue) (t : ℕ) (c : Change) (f g : JobFields) (before grant : Grant) (stop : Bool) (reply : Response)
+    → AreThere m t f before → IsSameGrant before grant → grant.number ≡ before.number → Ok (job_of g) ≡ recorded (Ok (changed c (job_of f)))
+    → stop ≡ stops (job_of g) t → reply ≡ accepted_response (Replied (Called stop))
+    → IsTaken (reported (aged t m) (call_reply t) (job_of f) (Ok (record { job = changed c (job_of f); grant = grant }))) m t (Reported g grant) reply
+call_taken m t c f g before grant stop reply there same number one stop_is replied =
+    report_taken m t c f g before grant (call_reply t) (Called stop) reply there same number (recorded_is (job_of g) (changed c (job_of f)) one) (λ n. ap (λ (b : Bool). Called b) (sym stop_is)) replied
+
+pub page_taken : (m : Queue) (t : ℕ) (c : Change) (f g : JobFields) (before grant : Grant) (stop : Bool) (reply : Response)
+    → AreThere m t f before → IsSameGrant before grant → grant.number ≡ before.number → Ok (job_of g) ≡ recorded (Ok (changed c (job_of f)))
+    → stop ≡ stops (job_of g) t → reply ≡ accepted_response (Replied (Confirmed g.npages stop))
+    → IsTaken (reported (aged t m) (page_reply t) (job_of f) (Ok (record { job = changed c (job_of f); grant = grant }))) m t (Reported g grant) reply
+page_taken m t c f g before grant stop reply there same number one stop_is replied =
+    report_taken m t c f g before grant (page_reply t) (Confirmed g.npages stop) reply there same number (recorded_is (job_of g) (changed c (job_of f)) one)
+    (λ n. ap₂ (λ (a : ℕ) (b : Bool). Confirmed a b) (ap (λ (x : JobFields). x.npages) (record_again g)) (sym stop_is)) replied
+
+-- ---- outcomes
+
+closed_is : (m n : Queue) (g : Grant) → n.grants ≡ m.grants → grant_numbered g.number m ≡ Some g → with_closed g.number n ≡ with_grant (record g { is_open = false }) n
+closed_is m n g grants there = ap (λ (o : Option Grant). with_shut o n) (ap (λ gs. find (λ (x : Grant). x.number == g.number) gs) grants ∙ there)
+
+ended_taken : (s : Settings) (m : Queue) (t : ℕ) (c : Change) (f g : JobFields) (grant : Grant) (calls st : ℕ) (reply : Response)
+    → Sound m → AreThere m t f grant → grant.is_open ≡ true → job_of g ≡ changed c (job_of f)
+    → calls ≡ calls_to g.dial m - 1 → st ≡ state_with s (job_of g) calls t → reply ≡ accepted_response (Replied (Stands g.job st))
+    → IsTaken (reported (aged t m) (outcome_reply s t) (job_of f) (Ok (record { job = changed c (job_of f); grant = record grant { is_open = false } }))) m t (Closed g grant.number) reply
+ended_taken s m t c f g grant calls st reply sound there open' one calls_is st_is replied = record {
+  suits = subst (λ (x : Job). IsChange x (with_expired t m)) (sym one) (same_order m t c (job_of f) there.job_there);
+  told = Stands g.job st;
+  taken = ap (λ (x : Job). Taken (both x) (Stands x.number (state s (both x) t x))) (sym one)
+      ∙ ap (λ (n : ℕ). Taken (both (job_of g)) (Stands g.job n)) (state_ended s m t (job_of g) (job_of f) grant calls sound job_there dial of there.grant_there open' calls_is ∙ sym st_is)
+      ∙ ap (λ (n : Queue). Taken (with_clock t n) (Stands g.job st)) (sym (closed_is m (with_job (job_of g) (with_expired t m)) grant refl there.grant_there));
+  replied = replied;
+}
+  where
+    both : Job → Queue
+    both x = with_both (record { job = x; grant = record grant { is_open = false } }) (aged t m)
+
+    number : g.job ≡ f.job
+    number = ap (λ (x : Job). x.number) one
+
+    job_there : job_numbered g.job (aged t m) ≡ Some (job_of f)
+    job_there = subst (λ (n : ℕ). job_numbered n (aged t m) ≡ Some (job_of f)) (sym number) there.job_there
+
+    dial : g.dial ≡ f.dial
+    dial = ap (λ (x : Job). x.dial) one
+
+    of : grant.job ≡ g.job
+    of = there.of_job ∙ sym number
+
+pub outcome_taken : (s : Settings) (m : Queue) (t : ℕ) (c : Change) (f g : JobFields) (grant : Grant) (calls st : ℕ) (reply : Response)
+    → Sound m → AreThere m t f grant → grant.is_open ≡ true → Ok (job_of g) ≡ recorded (Ok (changed c (job_of f)))
+    → calls ≡ calls_to g.dial m - 1 → st ≡ state_with s (job_of g) calls t → reply ≡ accepted_response (Replied (Stands g.job st))
+    → IsTaken (reported (aged t m) (outcome_reply s t) (job_of f) (Ok (record { job = changed c (job_of f); grant = record grant { is_open = false } }))) m t (Closed g grant.number) reply
+outcome_taken s m t c f g grant calls st reply sound there open' one calls_is st_is replied =
+    ended_taken s m t c f g grant calls st reply sound there open' (recorded_is (job_of g) (changed c (job_of f)) one) calls_is st_is replied
+
+-- the state is told with one call less
+pub state_told : (s : Settings) (m : Queue) (t : ℕ) (f g h : JobFields) (calls st : ℕ) → g ≡ f → h ≡ f → calls ≡ calls_to g.dial m - 1 → st ≡ state_with s (job_of f) calls t
+    → accepted_response (Replied (Stands h.job st)) ≡ accepted_response (Replied (Stands f.job (state_with s (job_of f) (calls_to f.dial m - 1) t)))
+state_told s m t f g h calls st g_is h_is calls_is st_is =
+    ap₂ (λ (x : JobFields) (n : ℕ). accepted_response (Replied (Stands x.job n))) h_is
+    (st_is ∙ ap (λ (n : ℕ). state_with s (job_of f) n t) (calls_is ∙ ap (λ (x : JobFields). calls_to x.dial m - 1) g_is))
+
+-- ---- grants that are found
+
+pub lawful_grant : (gs : List Grant) (n : ℕ) (g : Grant) → All IsLawfulGrant gs → find (λ x. x.number == n) gs ≡ Some g → IsLawfulGrant g
+lawful_grant [] n g all h = absurd cc
+lawful_grant (x ∷ xs) n g all h = elim (cases_Bool (x.number == n)) [
+  | inl here ↦ subst IsLawfulGrant (same (rw here at h)) (all 0 x (omega arith))
+  | inr off ↦ lawful_grant xs n g (λ i d within. all (suc i) d (omega arith)) (rw off at h)
+]
+  where
+    same : {X : Type 0} {a b : X} → ◌≡◌ {A = Option X} (Some a) (Some b) → a ≡ b
+    same h = cc
+
+pub are_there : (m : Queue) (t n : ℕ) (g : Grant) (f : JobFields) (found_grant : Option Grant) (found_job : Option JobFields)
+    → found_grant ≡ grant_numbered n m → found_grant ≡ Some g → option_map (λ x. job_of x) found_job ≡ job_numbered g.job (aged t m) → found_job ≡ Some f
+    → AreThere m t f g
+are_there m t n g f found_grant found_job is_grant one_grant is_job one_job = record {
+  of_job = sym (numbered_job (aged t m) g.job (job_of f) (sym is_job ∙ ap (λ o. option_map (λ (x : JobFields). job_of x) o) one_job));
+  job_there = found_itself (aged t m) g.job f found_job is_job one_job;
+  grant_there =
+      let there : grant_numbered n m ≡ Some g = sym is_grant ∙ one_grant in
+      subst (λ (a : ℕ). grant_numbered a m ≡ Some g) (sym (numbered_grant m n g there)) there;
+}
+
+-- ---- the step of a report
+
+both_step : (s : Settings) (m : Queue) (t : ℕ) (report : Report) (o : Option Grant) (g : Grant) (j : Job) → o ≡ Some g → job_numbered g.job m ≡ Some j → report_both s m t report j g ≡ report_step s m t report o
+both_step s m t (Call said) o g j is job_is = sym (ap (on_grant m (call said) (call_reply t)) is ∙ ap (on_both m (call said) (call_reply t) g) job_is)
+both_step s m t (Page said) o g j is job_is = sym (ap (on_grant m (page said) (page_reply t)) is ∙ ap (on_both m (page said) (page_reply t) g) job_is)
+both_step s m t (Outcome said) o g j is job_is =
+    sym (ap (on_grant m (λ j g. outcome said j g (s.delay g.call) t) (outcome_reply s t)) is ∙ ap (on_both m (λ j g. outcome said j g (s.delay g.call) t) (outcome_reply s t) g) job_is)
+
+pub on_grant_is : (s : Settings) (m : Queue) (t n : ℕ) (report : Report) (g : Grant) (f : JobFields) (found_grant : Option Grant) (found_job : Option JobFields)
+    → found_grant ≡ grant_numbered n m → found_grant ≡ Some g → option_map (λ x. job_of x) found_job ≡ job_numbered g.job (aged t m) → found_job ≡ Some f
+    → report_both s (aged t m) t report (job_of f) g ≡ report_step s (aged t m) t report (grant_numbered n m)
+on_grant_is s m t n report g f found_grant found_job is_grant one_grant is_job one_job =
+    both_step s (aged t m) t report (grant_numbered n m) g (job_of f) (sym is_grant ∙ one_grant) (sym is_job ∙ ap (λ o. option_map (λ (x : JobFields). job_of x) o) one_job)
+
+alone_step : (s : Settings) (m : Queue) (t : ℕ) (report : Report) (o : Option Grant) (g : Grant) → o ≡ Some g → job_numbered g.job m ≡ None → machine.Refused (without_job g.is_open) machine.NoKeys ≡ report_step s m t report o
+alone_step s m t (Call said) o g is job_is = sym (ap (on_grant m (call said) (call_reply t)) is ∙ ap (on_both m (call said) (call_reply t) g) job_is)
+alone_step s m t (Page said) o g is job_is = sym (ap (on_grant m (page said) (page_reply t)) is ∙ ap (on_both m (page said) (page_reply t) g) job_is)
+alone_step s m t (Outcome said) o g is job_is =
+    sym (ap (on_grant m (λ j g. outcome said j g (s.delay g.call) t) (outcome_reply s t)) is ∙ ap (on_both m (λ j g. outcome said j g (s.delay g.call) t) (outcome_reply s t) g) job_is)
+
+pub without_job_is : (s : Settings) (m : Queue) (t n : ℕ) (report : Report) (g : Grant) (found_grant : Option Grant) (found_job : Option JobFields)
+    → found_grant ≡ grant_numbered n m → found_grant ≡ Some g → option_map (λ x. job_of x) found_job ≡ job_numbered g.job (aged t m) → found_job ≡ None
+    → machine.Refused (without_job g.is_open) machine.NoKeys ≡ report_step s (aged t m) t report (grant_numbered n m)
+without_job_is s m t n report g found_grant found_job is_grant one_grant is_job one_job =
+    alone_step s (aged t m) t report (grant_numbered n m) g (sym is_grant ∙ one_grant) (sym is_job ∙ ap (λ o. option_map (λ (x : JobFields). job_of x) o) one_job)
+
+-- ---- closed grants
+
+-- what is refused as closed has no detail
+pub closed_alone : (r : Result JobAndGrant Refusal) (e : Refusal) → Err e ≡ r → r ≡ Err GrantClosed → has_detail e ≡ false
+closed_alone r e is closed = let same : e ≡ GrantClosed = (let both = is ∙ closed in cc) in ap has_detail same
+
+-- ---- a page out of order
+
+pub page_refused : (m : Queue) (t : ℕ) (f : JobFields) (r : Result JobAndGrant Refusal) (e : Refusal) → e ≡ PageOrder → Err e ≡ r
+    → IsRefused (reported m (page_reply t) (job_of f) r) (refused_response PageOrder (machine.Pages f.npages))
+page_refused m t f r e named is = record {
+  refusal = PageOrder;
+  keys = machine.Pages f.npages;
+  refused = ap (reported m (page_reply t) (job_of f)) (sym is ∙ ap (λ (x : Refusal). Err x) named) ∙ ap (λ (n : ℕ). machine.Refused PageOrder (machine.Pages n)) (ap (λ (x : JobFields). x.npages) (record_again f));
+  replied = refl;
+}

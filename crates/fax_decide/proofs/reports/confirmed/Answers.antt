@@ -1,0 +1,15 @@
+use Rattle.std.proofs.Common.{ap}
+use Rattle.fax_ask.specs.Answer.{Replied}
+use Rattle.fax_ask.specs.Response.{accepted_response}
+use Rattle.fax_core.specs.Reply.{Confirmed}
+use Rattle.fax_decide.specs.declared.decision.Decision.TheVariants.{Taken}
+use Rattle.fax_decide.specs.declared.effect.Effect.TheVariants.{Reported}
+use Rattle.fax_decide.proofs.DecisionLemmas.{decided_by}
+use Rattle.fax_decide.proofs.ReportLemmas.{page_taken}
+use Rattle.fax_decide.proofs.reports.confirmed.Goals as goal
+
+pub returns : goal.returns
+returns c m before there same number =
+    decided_by (Taken (Reported c.in-Ok.job c.args.grant)) _ _ m c.args.t c.answered.result _ c.take.ensures c.answered.ensures
+    (λ _. page_taken m c.args.t c.args.change c.args.job c.in-Ok.job before c.args.grant c.stops.result _ there same number c.in-Ok.ensures c.stops.ensures
+    (ap (λ f. accepted_response (Replied (Confirmed f.npages c.stops.result))) c.fields.ensures.fields))

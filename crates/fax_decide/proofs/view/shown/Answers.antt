@@ -1,0 +1,10 @@
+use Rattle.std.proofs.Common.{ℕ, ap, ◌∙◌}
+use Rattle.fax_ask.specs.Answer.{Shown}
+use Rattle.fax_ask.specs.Response.{accepted_response}
+use Rattle.fax_job.specs.JobLines.{job_lines}
+use Rattle.fax_job.specs.Spelling.{printed}
+use Rattle.fax_decide.proofs.view.shown.Goals as goal
+
+pub returns-clause-told : goal.returns-clause-told
+returns-clause-told g c m k means serves =
+    c.in_ok-shown_with.ensures ∙ ap (λ (state : ℕ). accepted_response (Shown (printed (job_lines c.args.job.now state)))) (c.in_ok-state.ensures.found m k means serves)

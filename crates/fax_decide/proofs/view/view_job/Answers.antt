@@ -1,0 +1,13 @@
+use Rattle.std.proofs.Common.{◌≡◌, subst}
+use Rattle.std.specs.Prelude.{IfOk}
+use Rattle.fax_ask.specs.Response.{Response}
+use Rattle.fax_decide.specs.Settings.{settings_of}
+use Rattle.fax_decide.proofs.ViewLemmas.{job_viewed}
+use Rattle.fax_decide.proofs.view.view_job.Goals as goal
+
+pub returns-in-Some-clause-viewed : goal.returns-in-Some-clause-viewed
+returns-in-Some-clause-viewed g c m k means serves =
+    let found = c.in_ok-job.ensures.found m k means (c.shown.ensures.served serves) in
+    subst (λ (told : Response). IfOk c.shown.result (λ reply. reply ≡ told))
+    (job_viewed (settings_of c.args.office.now.setup c.args.office.now.controls) m c.args.t c.args.number c.in-Some.job _ found c.in-Some.is)
+    (c.shown.ensures.told m k (c.job_at.ensures.stays m k means) serves)

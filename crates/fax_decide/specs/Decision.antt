@@ -1,0 +1,32 @@
+-- What is decided of a request: the step of the machine.
+use Rattle.std.specs.Prelude.{◌≡◌, ℕ}
+use Rattle.fax_job.specs.declared.refusal.Refusal.{Refusal}
+use Rattle.fax_ask.specs.Answer.{Replied}
+use Rattle.fax_ask.specs.Response.{Response, accepted_response, refused_response}
+use Rattle.fax_core.specs.Queue.{Queue}
+use Rattle.fax_core.specs.Reply as machine
+use Rattle.fax_core.specs.Reply.{Step}
+use Rattle.fax_store.specs.Job.{with_expired}
+use Rattle.fax_decide.specs.Effect.{Suits, accepted}
+use Rattle.fax_decide.specs.declared.effect.Effect.{Effect}
+use Rattle.fax_decide.specs.declared.decision.Decision.{Decision}
+use Rattle.fax_decide.specs.declared.decision.Decision.TheVariants.{Taken, Refused}
+
+-- the step is taken: it leaves what the effect makes of the queue at t, and its reply is this
+pub record IsTaken (step : Step) (m : Queue) (t : ℕ) (effect : Effect) (reply : Response) : Type 0 where
+  pub suits : Suits effect (with_expired t m)
+  pub told : machine.Reply
+  pub taken : step ≡ machine.Taken (accepted t effect m) told
+  pub replied : reply ≡ accepted_response (Replied told)
+
+-- the step is refused, and its reply is this
+pub record IsRefused (step : Step) (reply : Response) : Type 0 where
+  pub refusal : Refusal
+  pub keys : machine.Keys
+  pub refused : step ≡ machine.Refused refusal keys
+  pub replied : reply ≡ refused_response refusal keys
+
+-- the decision is that step, from this queue at t
+abbrev pub Decides : Step → Queue → ℕ → Decision → Type 0
+Decides step m t (Taken effect reply) = IsTaken step m t effect reply
+Decides step m t (Refused reply) = IsRefused step reply

@@ -1,0 +1,34 @@
+-- What an accepted request changes in the queue, beside ageing it and setting the clock.
+use Rattle.std.specs.Prelude.{ℕ, ⊤}
+use Rattle.fax_core.specs.Job.{job_of}
+use Rattle.fax_core.specs.Machine.{with_grant, with_mark, with_job as with_change}
+use Rattle.fax_core.specs.Queue.{Queue}
+use Rattle.fax_store.specs.Grant.{IsReport, with_closed, with_one_more}
+use Rattle.fax_store.specs.Job.{IsChange, with_expired, with_job}
+use Rattle.fax_store.specs.Meta.{with_clock}
+use Rattle.fax_decide.specs.declared.effect.Effect.{Effect}
+use Rattle.fax_decide.specs.declared.effect.Effect.TheVariants.{Nothing, NewJob, ChangedJob, Marked, NewGrant, Reported, Closed}
+
+-- the queue afterwards
+abbrev pub effected : Effect → Queue → Queue
+effected Nothing m = m
+effected (NewJob job) m = with_job (job_of job) m
+effected (ChangedJob job) m = with_change (job_of job) m
+effected (Marked modem down) m = with_mark modem down m
+effected (NewGrant job grant) m = with_one_more grant (with_change (job_of job) m)
+effected (Reported job grant) m = with_grant grant (with_change (job_of job) m)
+effected (Closed job grant) m = with_closed grant (with_change (job_of job) m)
+
+-- a changed job keeps its order, and a grant that was reported on what it was given
+abbrev pub Suits : Effect → Queue → Type 0
+Suits Nothing m = ⊤
+Suits (NewJob job) m = ⊤
+Suits (ChangedJob job) m = IsChange (job_of job) m
+Suits (Marked modem down) m = ⊤
+Suits (NewGrant job grant) m = IsChange (job_of job) m
+Suits (Reported job grant) m = IsChange (job_of job) m × IsReport grant (with_change (job_of job) m)
+Suits (Closed job grant) m = IsChange (job_of job) m
+
+-- the queue is aged, the change is made, and the clock is set
+abbrev pub accepted : ℕ → Effect → Queue → Queue
+accepted t effect m = with_clock t (effected effect (with_expired t m))

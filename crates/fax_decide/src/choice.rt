@@ -1,0 +1,236 @@
+//! Which job a modem is given: a modem asks for work.
+
+ghost use Rattle.std.specs.Prelude.{◌≡◌, ℕ, List, IfOk, Ok, Some, find, is_some, map};
+ghost use Rattle.std.specs.Option.{option_map};
+ghost use Rattle.sqlite.specs.Held.{state};
+ghost use Rattle.fax_ask.specs.Answer.{grant_told};
+ghost use Rattle.fax_ask.specs.Response.{refused_response};
+ghost use Rattle.fax_core.specs.Ageing.{aged};
+ghost use Rattle.fax_core.specs.Best.{best, may_go};
+ghost use Rattle.fax_core.specs.Change.{decided_with};
+ghost use Rattle.fax_core.specs.Decisions.{grant as granted_if};
+ghost use Rattle.fax_core.specs.Job.{job_of};
+ghost use Rattle.fax_core.specs.Machine.{dial_of, given, given_best, given_to, handed, held_by};
+ghost use Rattle.fax_core.specs.Queue.{Queue, Entry, job_numbered};
+ghost use Rattle.fax_core.specs.Reply.{HeldGrant};
+ghost use Rattle.fax_core.specs.Sound.{Sound};
+ghost use Rattle.fax_core.specs.declared.grants.Grant.{Grant as OneGrant};
+ghost use Rattle.fax_job.specs.declared.refusal.Refusal.TheVariants.{ModemBusy};
+ghost use Rattle.fax_store.specs.Grant.{as_hold};
+ghost use Rattle.fax_store.specs.Store.{Means, Serves, Stays};
+ghost use Rattle.fax_decide.specs.Decision.{Decides};
+ghost use Rattle.fax_decide.specs.Settings.{settings_of};
+
+use crate::decision::{Decision, answered, plain, refuse, take};
+use crate::effect::Effect;
+use crate::fault::Unavailable;
+use crate::office::Office;
+use crate::state::state_of;
+use fax_ask::{Answer, Detail, Handed, Reply};
+use fax_core::{Change, Grant, fits, grant};
+use fax_job::{Job, Moment, Name, Refusal};
+use fax_store::{Hold, Store};
+use sqlite::Alter;
+use std::alloc::Global;
+
+/// Decides at `t` what a modem gets that asks for work. `next_grant` is the number of its grant.
+pub(crate) fn decide_next<S: Alter>(
+    store: &mut Store<S>,
+    office: &Office,
+    alloc: Global,
+    modem: Name,
+    next_grant: u32,
+    t: Moment,
+) -> Result<Decision, Unavailable>
+    ensures served { Serves (state S.Store store.new.conn) → Serves (state S.Store store.old.conn) }
+    ensures stays { Stays (state S.Store store.old.conn) (state S.Store store.new.conn) }
+    ensures decided { (m : Queue) (k : List Entry) → Sound m → Means (state S.Store store.old.conn) m k
+        → Serves (state S.Store store.new.conn) → next_grant ≡ m.next_grant
+        → IfOk result (Decides
+        (given_to (settings_of office.now.setup office.now.controls) (aged t m) t modem) m t) }
+{
+    if !office.setup.has_modem(modem.as_str()) {
+        return Ok(Decision::Refused(Reply::refused(Refusal::NoModem)));
+    }
+    if store.is_down(modem.as_str())? {
+        return Ok(Decision::Refused(Reply::refused(Refusal::ModemDown)));
+    }
+    match store.hold_of(modem.as_str())? {
+        Some(hold) => refuse(busy(store, alloc, hold)),
+        None => decide_free(store, office, alloc, modem, next_grant, t),
+    }
+}
+
+/// The reply to a modem that holds a grant: it is told which.
+fn busy<S: Alter>(store: &mut Store<S>, alloc: Global, hold: Hold) -> Result<Reply, Unavailable>
+    ensures served { Serves (state S.Store store.new.conn) → Serves (state S.Store store.old.conn) }
+    ensures stays { Stays (state S.Store store.old.conn) (state S.Store store.new.conn) }
+    ensures decided { (m : Queue) (k : List Entry) (t : ℕ) (modem : List ℕ) (g : OneGrant) → Sound m
+        → Means (state S.Store store.old.conn) m k → Serves (state S.Store store.new.conn)
+        → held_by modem m ≡ Some g → hold ≡ as_hold g
+        → IfOk result (λ reply. reply
+        ≡ refused_response ModemBusy (HeldGrant (is_some g.call) (handed g (aged t m)))) }
+{
+    let Some(grant) = store.grant(hold.grant)? else {
+        return Err(Unavailable);
+    };
+    let Some(job) = store.job(hold.job)? else {
+        return Err(Unavailable);
+    };
+    held(alloc, &grant, &job)
+}
+
+/// The reply that tells which grant of a job is held.
+fn held(alloc: Global, grant: &Grant, job: &Job) -> Result<Reply, Unavailable>
+    ensures { (m : Queue) → dial_of (job_numbered grant.now.job m) ≡ job.now.dial
+        → IfOk result (λ reply. reply
+        ≡ refused_response ModemBusy (HeldGrant (is_some grant.now.call) (handed grant.now m))) }
+{
+    let detail = Detail::Held {
+        called: grant.call.is_some(),
+        handed: handed(grant, job),
+    };
+    Ok(Reply::refused_with(alloc, &detail)?)
+}
+
+/// A modem that holds no grant gets the best job that may go to it.
+fn decide_free<S: Alter>(
+    store: &mut Store<S>,
+    office: &Office,
+    alloc: Global,
+    modem: Name,
+    next_grant: u32,
+    t: Moment,
+) -> Result<Decision, Unavailable>
+    ensures served { Serves (state S.Store store.new.conn) → Serves (state S.Store store.old.conn) }
+    ensures stays { Stays (state S.Store store.old.conn) (state S.Store store.new.conn) }
+    ensures decided { (m : Queue) (k : List Entry) → Sound m → Means (state S.Store store.old.conn) m k
+        → Serves (state S.Store store.new.conn) → next_grant ≡ m.next_grant
+        → IfOk result (Decides (given_best (settings_of office.now.setup office.now.controls) (aged t m) modem
+        (best (settings_of office.now.setup office.now.controls) (aged t m) t modem)) m t) }
+{
+    match best(store, office, alloc, &modem, t)? {
+        Some(job) => give(office, alloc, job, modem, next_grant),
+        None => take(Effect::Nothing, answered(alloc, &Answer::NoneToSend)),
+    }
+}
+
+/// The best of the waiting jobs that may go to the modem at `t`, if one may.
+fn best<S: Alter>(
+    store: &mut Store<S>,
+    office: &Office,
+    alloc: Global,
+    modem: &Name,
+    t: Moment,
+) -> Result<Option<Job>, Unavailable>
+    ensures served { Serves (state S.Store store.new.conn) → Serves (state S.Store store.old.conn) }
+    ensures stays { Stays (state S.Store store.old.conn) (state S.Store store.new.conn) }
+    ensures found { (m : Queue) (k : List Entry) → Sound m → Means (state S.Store store.old.conn) m k
+        → Serves (state S.Store store.new.conn)
+        → IfOk result (λ found. option_map (λ f. job_of f) found
+        ≡ best (settings_of office.now.setup office.now.controls) (aged t m) t modem.now) }
+{
+    let jobs = store.waiting(t)?;
+    first_of(store, office, alloc, jobs, modem, t)
+}
+
+/// The first of the jobs that may go to the modem at `t`, if one may.
+fn first_of<S: Alter>(
+    store: &mut Store<S>,
+    office: &Office,
+    alloc: Global,
+    jobs: Vec<Job>,
+    modem: &Name,
+    t: Moment,
+) -> Result<Option<Job>, Unavailable>
+    ensures served { Serves (state S.Store store.new.conn) → Serves (state S.Store store.old.conn) }
+    ensures stays { Stays (state S.Store store.old.conn) (state S.Store store.new.conn) }
+    ensures found { (m : Queue) (k : List Entry) → Means (state S.Store store.old.conn) m k
+        → Serves (state S.Store store.new.conn)
+        → IfOk result (λ found. option_map (λ f. job_of f) found
+        ≡ find (may_go (settings_of office.now.setup office.now.controls) m t modem.now)
+        (map (λ f. job_of f) jobs.items)) }
+{
+    for job in jobs {
+        if may_go(store, office, alloc, &job, modem, t)? {
+            return Ok(Some(job));
+        }
+    }
+    Ok(None)
+}
+
+/// Whether a job is ready at `t` and its modem value admits the modem.
+fn may_go<S: Alter>(
+    store: &mut Store<S>,
+    office: &Office,
+    alloc: Global,
+    job: &Job,
+    modem: &Name,
+    t: Moment,
+) -> Result<bool, Unavailable>
+    ensures served { Serves (state S.Store store.new.conn) → Serves (state S.Store store.old.conn) }
+    ensures stays { Stays (state S.Store store.old.conn) (state S.Store store.new.conn) }
+    ensures found { (m : Queue) (k : List Entry) → Means (state S.Store store.old.conn) m k
+        → Serves (state S.Store store.new.conn) → IfOk result (λ goes. goes
+        ≡ may_go (settings_of office.now.setup office.now.controls) m t modem.now (job_of job.now)) }
+{
+    if state_of(store, office, alloc, job, t)? != READY {
+        return Ok(false);
+    }
+    let value = &job.fields().modem;
+    Ok(office.setup.admits(alloc, value.as_str(), modem.as_str())?)
+}
+
+/// The state of a job that may go (sendq(5)).
+const READY: u8 = 5;
+
+/// The job goes to the modem with the pages that it has left.
+fn give(
+    office: &Office,
+    alloc: Global,
+    job: Job,
+    modem: Name,
+    next_grant: u32,
+) -> Result<Decision, Unavailable>
+    ensures { (m : Queue) (t : ℕ) → Sound m → job_numbered job.job (aged t m) ≡ Some (job_of job)
+        → next_grant ≡ m.next_grant → IfOk result (Decides
+        (given (aged t m) (granted_if (job_of job) modem next_grant office.now.setup.max_grants)) m t) }
+{
+    if !fits(&job, None) {
+        return Err(Unavailable);
+    }
+    match grant(&job, next_grant, office.setup.max_grants()) {
+        Ok(change) => {
+            let grant = Grant::new(&job, modem, next_grant);
+            given(alloc, job, change, grant)
+        }
+        Err(refusal) => refuse(plain(refusal)),
+    }
+}
+
+/// The job is changed, and the modem is told of its grant.
+fn given(alloc: Global, job: Job, change: Change, grant: Grant) -> Result<Decision, Unavailable>
+    ensures { (m : Queue) (t : ℕ) → Sound m → job_numbered job.job (aged t m) ≡ Some (job_of job)
+        → grant.job ≡ job.job → grant.number ≡ m.next_grant
+        → IfOk result (Decides (given (aged t m) (decided_with grant (job_of job) (Ok change))) m t) }
+{
+    let Ok(job) = change.applied_to(job) else {
+        return Err(Unavailable);
+    };
+    let reply = answered(alloc, &Answer::Given(handed(&grant, &job)));
+    take(Effect::NewGrant { job, grant }, reply)
+}
+
+/// A grant of a job, as it is told to a worker.
+fn handed<'a>(grant: &Grant, job: &'a Job) -> Handed<'a>
+    ensures { (m : Queue) → dial_of (job_numbered grant.now.job m) ≡ job.now.dial
+        → grant_told result ≡ handed grant.now m }
+{
+    Handed {
+        grant: grant.number,
+        job: grant.job,
+        number: job.fields().dial.text(),
+        from: grant.first_page,
+        to: grant.last_page,
+    }
+}

@@ -1,0 +1,124 @@
+//! A client's requests on a job.
+
+ghost use Rattle.std.specs.Prelude.{◌≡◌, List, Some, Ok, IfOk};
+ghost use Rattle.sqlite.specs.Held.{state};
+ghost use Rattle.fax_ask.specs.Answer.{Replied};
+ghost use Rattle.fax_ask.specs.Response.{accepted_response};
+ghost use Rattle.fax_core.specs.Ageing.{aged};
+ghost use Rattle.fax_core.specs.Change.{changed as changed_by, decided};
+ghost use Rattle.fax_core.specs.Job.{job_of};
+ghost use Rattle.fax_core.specs.Machine.{changed as change_step, on_job};
+ghost use Rattle.fax_core.specs.Queue.{Queue, Entry, job_numbered};
+ghost use Rattle.fax_core.specs.Reply.{Stands};
+ghost use Rattle.fax_core.specs.State.{state as job_state};
+ghost use Rattle.fax_store.specs.Store.{Means, Serves, Stays};
+ghost use Rattle.fax_decide.specs.Decision.{Decides};
+ghost use Rattle.fax_decide.specs.JobAsk.{decision_on};
+ghost use Rattle.fax_decide.specs.Settings.{settings_of};
+
+use crate::decision::{Decision, answered, plain, refuse, take};
+use crate::effect::Effect;
+use crate::fault::Unavailable;
+use crate::office::Office;
+use crate::records::job_at;
+use crate::state::state_of;
+use fax_ask::{Answer, Reply};
+use fax_core::{Change, alter, kill, resume, suspend};
+use fax_job::{Alter as Changes, Job, Moment, Refusal};
+use fax_store::Store;
+use sqlite::Alter;
+use std::alloc::Global;
+
+/// What a client asks of a job.
+#[derive(Drop)]
+pub(crate) enum JobAsk {
+    Suspend,
+    Resume,
+    Kill,
+    Alter(Changes),
+}
+
+impl JobAsk {
+    /// What it makes of the job at `t`.
+    fn decide(self, job: &Job, t: Moment) -> Result<Change, Refusal>
+        ensures { decided (job_of job.now) result ≡ decision_on self t (job_of job.now) }
+    {
+        match self {
+            JobAsk::Suspend => suspend(job),
+            JobAsk::Resume => resume(job),
+            JobAsk::Kill => kill(job),
+            JobAsk::Alter(changes) => alter(job, changes, t),
+        }
+    }
+}
+
+/// Decides a request on the job of that number at `t`.
+pub(crate) fn decide_on_job<S: Alter>(
+    store: &mut Store<S>,
+    office: &Office,
+    alloc: Global,
+    number: u64,
+    ask: JobAsk,
+    t: Moment,
+) -> Result<Decision, Unavailable>
+    ensures served { Serves (state S.Store store.new.conn) → Serves (state S.Store store.old.conn) }
+    ensures stays { Stays (state S.Store store.old.conn) (state S.Store store.new.conn) }
+    ensures decided { (m : Queue) (k : List Entry) → Means (state S.Store store.old.conn) m k
+        → Serves (state S.Store store.new.conn)
+        → IfOk result (Decides (on_job (settings_of office.now.setup office.now.controls) (aged t m) t
+        (decision_on ask t) (job_numbered number (aged t m))) m t) }
+{
+    let Some(job) = job_at(store, number, t)? else {
+        return Ok(Decision::Refused(Reply::refused(Refusal::NoJob)));
+    };
+    match ask.decide(&job, t) {
+        Ok(change) => changed(store, office, alloc, job, change, t),
+        Err(refusal) => refuse(plain(refusal)),
+    }
+}
+
+/// The job is changed, and its state from now on is told.
+fn changed<S: Alter>(
+    store: &mut Store<S>,
+    office: &Office,
+    alloc: Global,
+    job: Job,
+    change: Change,
+    t: Moment,
+) -> Result<Decision, Unavailable>
+    ensures served { Serves (state S.Store store.new.conn) → Serves (state S.Store store.old.conn) }
+    ensures stays { Stays (state S.Store store.old.conn) (state S.Store store.new.conn) }
+    ensures decided { (m : Queue) (k : List Entry) → Means (state S.Store store.old.conn) m k
+        → Serves (state S.Store store.new.conn) → job_numbered job.job (aged t m) ≡ Some (job_of job)
+        → IfOk result (Decides (change_step (settings_of office.now.setup office.now.controls) (aged t m) t
+        (Ok (changed_by change (job_of job)))) m t) }
+{
+    let Ok(job) = change.applied_to(job) else {
+        return Err(Unavailable);
+    };
+    let reply = stands(store, office, alloc, &job, t);
+    take(Effect::ChangedJob(job), reply)
+}
+
+/// The reply that tells the state of a job from `t` on.
+fn stands<S: Alter>(
+    store: &mut Store<S>,
+    office: &Office,
+    alloc: Global,
+    job: &Job,
+    t: Moment,
+) -> Result<Reply, Unavailable>
+    ensures served { Serves (state S.Store store.new.conn) → Serves (state S.Store store.old.conn) }
+    ensures stays { Stays (state S.Store store.old.conn) (state S.Store store.new.conn) }
+    ensures told { (m : Queue) (k : List Entry) → Means (state S.Store store.old.conn) m k
+        → Serves (state S.Store store.new.conn) → IfOk result (λ reply. reply ≡ accepted_response
+        (Replied (Stands job.now.job
+        (job_state (settings_of office.now.setup office.now.controls) m t (job_of job.now))))) }
+{
+    let state = state_of(store, office, alloc, job, t)?;
+    let answer = Answer::Stands {
+        job: job.fields().job,
+        state,
+    };
+    answered(alloc, &answer)
+}

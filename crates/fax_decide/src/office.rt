@@ -1,0 +1,45 @@
+//! What the queue asks of its setup and its destination controls.
+
+ghost use Rattle.std.specs.Prelude.{◌≡◌, Ok, IfOk};
+ghost use Rattle.fax_core.specs.Job.{job_of};
+ghost use Rattle.fax_core.specs.State.{state_at};
+ghost use Rattle.fax_decide.specs.Settings.{have_moment, rule_for, settings_of};
+
+use fax_core::state_at;
+use fax_dest::{Controls, Rule, Setup};
+use fax_hours::{MomentFault, week_minute};
+use fax_job::{Dial, Job, Moment};
+use std::alloc::{AllocError, Global};
+
+/// An office: its modems, delays and limits, and what holds for the numbers that it sends to.
+#[derive(Drop)]
+pub struct Office {
+    pub setup: Setup,
+    pub controls: Controls,
+}
+
+impl Office {
+    /// The rule of a number.
+    ///
+    /// # Errors
+    ///
+    /// Want of memory for the search.
+    pub fn rule_of(&self, alloc: Global, dial: &Dial) -> Result<&Rule, AllocError>
+        ensures { IfOk result (λ rule. rule.now ≡ rule_for self.now.controls dial.now) }
+    {
+        let place = self.controls.rule_of(alloc, dial)?;
+        Ok(self.controls.rule_at(place))
+    }
+
+    /// Whether the hours of a rule have a moment.
+    ///
+    /// # Errors
+    ///
+    /// None: each moment is within `jiff`'s calendar.
+    pub fn is_in_hours(&self, rule: &Rule, moment: Moment) -> Result<bool, MomentFault>
+        ensures { result ≡ Ok (have_moment self.now.setup rule.now.hours moment) }
+    {
+        let (day, minute) = week_minute(self.setup.zone(), moment)?;
+        Ok(rule.hours.admits(day, minute))
+    }
+}

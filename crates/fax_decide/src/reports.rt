@@ -1,0 +1,276 @@
+//! A worker's reports on a grant.
+
+ghost use Rattle.std.specs.Prelude.{◌≡◌, ◌≤◌, ◌-◌, ℕ, List, Some, true, false, Ok, IfOk, IsOk};
+ghost use Rattle.sqlite.specs.Held.{state};
+ghost use Rattle.fax_ask.specs.Answer.{Replied};
+ghost use Rattle.fax_ask.specs.Response.{accepted_response, refused_response};
+ghost use Rattle.fax_core.specs.Ageing.{aged};
+ghost use Rattle.fax_core.specs.Change.{changed};
+ghost use Rattle.fax_core.specs.Decisions.{call as call_of, page as page_of, outcome as outcome_of};
+ghost use Rattle.fax_core.specs.Job.{job_of};
+ghost use Rattle.fax_core.specs.Machine.{reported, call_reply, page_reply, outcome_reply, without_job};
+ghost use Rattle.fax_core.specs.Queue.{Queue, Entry, job_numbered, grant_numbered};
+ghost use Rattle.fax_core.specs.Reply.{NoKeys, Pages, Refused, Stands};
+ghost use Rattle.fax_core.specs.Sound.{Sound};
+ghost use Rattle.fax_core.specs.State.{calls_to};
+ghost use Rattle.fax_core.specs.declared.grants.Grant.{Grant as GrantOf};
+ghost use Rattle.fax_dest.specs.Setup.{delay_of};
+ghost use Rattle.fax_store.specs.Grant.{IsSameGrant};
+ghost use Rattle.fax_store.specs.Store.{Means, Serves, Stays};
+ghost use Rattle.fax_decide.specs.Decision.{Decides};
+ghost use Rattle.fax_decide.specs.Report.{AreThere, report_both, report_step};
+ghost use Rattle.fax_decide.specs.Settings.{settings_of};
+ghost use Rattle.fax_decide.specs.State.{state_with};
+
+use crate::decision::{Decision, answered, plain, refuse, take};
+use crate::effect::Effect;
+use crate::fault::Unavailable;
+use crate::office::Office;
+use crate::records::{grant_at, job_at};
+use fax_ask::{Answer, Detail, Reply};
+use fax_core::{Change, Grant, Outcome, call, fits, outcome, page, stops};
+use fax_job::{Call, Job, Moment, Refusal};
+use fax_store::Store;
+use sqlite::Alter;
+use std::alloc::Global;
+
+/// What a worker reports on a grant.
+#[derive(Drop)]
+pub(crate) enum Report {
+    Call(Call),
+    Page(u16),
+    Outcome(Outcome),
+}
+
+/// Decides a report on the grant of that number at `t`.
+pub(crate) fn decide_report<S: Alter>(
+    store: &mut Store<S>,
+    office: &Office,
+    alloc: Global,
+    number: u64,
+    report: Report,
+    t: Moment,
+) -> Result<Decision, Unavailable>
+    ensures served { Serves (state S.Store store.new.conn) → Serves (state S.Store store.old.conn) }
+    ensures stays { Stays (state S.Store store.old.conn) (state S.Store store.new.conn) }
+    ensures decided { (m : Queue) (k : List Entry) → Sound m → Means (state S.Store store.old.conn) m k
+        → Serves (state S.Store store.new.conn)
+        → IfOk result (Decides (report_step (settings_of office.now.setup office.now.controls) (aged t m) t
+        report (grant_numbered number m)) m t) }
+{
+    let Some(grant) = grant_at(store, number)? else {
+        return Ok(Decision::Refused(Reply::refused(Refusal::NoGrant)));
+    };
+    match job_at(store, u64::from(grant.job), t)? {
+        Some(job) => report_on(store, office, alloc, job, grant, report, t),
+        None => without_job(&grant),
+    }
+}
+
+/// Decides a report on a grant and its job. Where they don't fit together, nothing is decided; a closed
+/// grant needn't fit any more.
+fn report_on<S: Alter>(
+    store: &mut Store<S>,
+    office: &Office,
+    alloc: Global,
+    job: Job,
+    grant: Grant,
+    report: Report,
+    t: Moment,
+) -> Result<Decision, Unavailable>
+    ensures served { Serves (state S.Store store.new.conn) → Serves (state S.Store store.old.conn) }
+    ensures stays { Stays (state S.Store store.old.conn) (state S.Store store.new.conn) }
+    ensures decided { (m : Queue) (k : List Entry) → Sound m → Means (state S.Store store.old.conn) m k
+        → Serves (state S.Store store.new.conn) → AreThere m t job grant → grant.confirmed ≤ 9999
+        → IfOk result (Decides (report_both (settings_of office.now.setup office.now.controls) (aged t m) t
+        report (job_of job) grant) m t) }
+    ensures closed { grant.is_open ≡ false → IsOk result }
+{
+    if grant.is_open && !fits(&job, Some(&grant)) {
+        return Err(Unavailable);
+    }
+    match report {
+        Report::Call(said) => decide_call(alloc, job, grant, said, t),
+        Report::Page(said) => decide_page(alloc, job, grant, said, t),
+        Report::Outcome(said) => decide_outcome(store, office, alloc, job, grant, said, t),
+    }
+}
+
+/// An open grant has its job in every sound queue.
+fn without_job(grant: &Grant) -> Result<Decision, Unavailable>
+    ensures { (m : Queue) (t : ℕ)
+        → IfOk result (Decides (Refused (without_job grant.now.is_open) NoKeys) m t) }
+{
+    if grant.is_open {
+        return Err(Unavailable);
+    }
+    Ok(Decision::Refused(Reply::refused(Refusal::GrantClosed)))
+}
+
+fn decide_call(
+    alloc: Global,
+    job: Job,
+    grant: Grant,
+    said: Call,
+    t: Moment,
+) -> Result<Decision, Unavailable>
+    ensures decided { (m : Queue) → AreThere m t job grant
+        → IfOk result (Decides (reported (aged t m) (call_reply t) (job_of job)
+        (call_of said (job_of job) grant)) m t) }
+    ensures closed { grant.is_open ≡ false → IsOk result }
+{
+    match call(&job, &grant, said) {
+        Ok(change) => called(alloc, job, change, grant.with_call(said), t),
+        Err(refusal) => refuse(plain(refusal)),
+    }
+}
+
+fn called(
+    alloc: Global,
+    job: Job,
+    change: Change,
+    grant: Grant,
+    t: Moment,
+) -> Result<Decision, Unavailable>
+    ensures { (m : Queue) (before : GrantOf) → AreThere m t job before → IsSameGrant before grant
+        → grant.number ≡ before.number
+        → IfOk result (Decides (reported (aged t m) (call_reply t) (job_of job)
+        (Ok (record { job = changed change (job_of job); grant = grant }))) m t) }
+{
+    let Ok(job) = change.applied_to(job) else {
+        return Err(Unavailable);
+    };
+    let answer = Answer::Called {
+        stop: stops(&job, t),
+    };
+    take(Effect::Reported { job, grant }, answered(alloc, &answer))
+}
+
+fn decide_page(
+    alloc: Global,
+    job: Job,
+    grant: Grant,
+    said: u16,
+    t: Moment,
+) -> Result<Decision, Unavailable>
+    ensures decided { (m : Queue) → AreThere m t job grant → grant.confirmed ≤ 9999
+        → IfOk result (Decides (reported (aged t m) (page_reply t) (job_of job)
+        (page_of said (job_of job) grant)) m t) }
+    ensures closed { grant.is_open ≡ false → IsOk result }
+{
+    match page(&job, &grant, said) {
+        Ok(change) => confirmed(alloc, job, change, grant.with_page(), t),
+        Err(Refusal::PageOrder) => refuse(page_order(alloc, &job)),
+        Err(refusal) => refuse(plain(refusal)),
+    }
+}
+
+/// The reply to a page that isn't the next one: how many are confirmed.
+fn page_order(alloc: Global, job: &Job) -> Result<Reply, Unavailable>
+    ensures { IfOk result (λ reply. reply ≡ refused_response Refusal.PageOrder (Pages job.now.npages)) }
+{
+    let detail = Detail::PageOrder {
+        npages: job.fields().npages,
+    };
+    Ok(Reply::refused_with(alloc, &detail)?)
+}
+
+fn confirmed(
+    alloc: Global,
+    job: Job,
+    change: Change,
+    grant: Grant,
+    t: Moment,
+) -> Result<Decision, Unavailable>
+    ensures { (m : Queue) (before : GrantOf) → AreThere m t job before → IsSameGrant before grant
+        → grant.number ≡ before.number
+        → IfOk result (Decides (reported (aged t m) (page_reply t) (job_of job)
+        (Ok (record { job = changed change (job_of job); grant = grant }))) m t) }
+{
+    let Ok(job) = change.applied_to(job) else {
+        return Err(Unavailable);
+    };
+    let answer = Answer::Confirmed {
+        npages: job.fields().npages,
+        stop: stops(&job, t),
+    };
+    take(Effect::Reported { job, grant }, answered(alloc, &answer))
+}
+
+fn decide_outcome<S: Alter>(
+    store: &mut Store<S>,
+    office: &Office,
+    alloc: Global,
+    job: Job,
+    grant: Grant,
+    said: Outcome,
+    t: Moment,
+) -> Result<Decision, Unavailable>
+    ensures served { Serves (state S.Store store.new.conn) → Serves (state S.Store store.old.conn) }
+    ensures stays { Stays (state S.Store store.old.conn) (state S.Store store.new.conn) }
+    ensures decided { (m : Queue) (k : List Entry) → Sound m → Means (state S.Store store.old.conn) m k
+        → Serves (state S.Store store.new.conn) → AreThere m t job grant
+        → IfOk result (Decides (reported (aged t m)
+        (outcome_reply (settings_of office.now.setup office.now.controls) t) (job_of job)
+        (outcome_of said (job_of job) grant (delay_of office.now.setup grant.call) t)) m t) }
+    ensures closed { grant.is_open ≡ false → IsOk result }
+{
+    let delay = office.setup.delay(grant.call);
+    match outcome(&job, &grant, said, delay, t) {
+        Ok(change) => ended(store, office, alloc, job, change, &grant, t),
+        Err(refusal) => refuse(plain(refusal)),
+    }
+}
+
+/// The grant is closed, and the state of its job from now on is told.
+fn ended<S: Alter>(
+    store: &mut Store<S>,
+    office: &Office,
+    alloc: Global,
+    job: Job,
+    change: Change,
+    grant: &Grant,
+    t: Moment,
+) -> Result<Decision, Unavailable>
+    ensures served { Serves (state S.Store store.new.conn) → Serves (state S.Store store.old.conn) }
+    ensures stays { Stays (state S.Store store.old.conn) (state S.Store store.new.conn) }
+    ensures decided { (m : Queue) (k : List Entry) → Sound m → Means (state S.Store store.old.conn) m k
+        → Serves (state S.Store store.new.conn) → AreThere m t job grant.now → grant.now.is_open ≡ true
+        → IfOk result (Decides (reported (aged t m)
+        (outcome_reply (settings_of office.now.setup office.now.controls) t) (job_of job)
+        (Ok (record { job = changed change (job_of job); grant = record grant.now { is_open = false } }))) m t) }
+{
+    let Ok(job) = change.applied_to(job) else {
+        return Err(Unavailable);
+    };
+    let reply = stands(store, office, alloc, &job, t);
+    let effect = Effect::Closed {
+        job,
+        grant: grant.number,
+    };
+    take(effect, reply)
+}
+
+/// The reply that tells the state of a job from `t` on, where one call to its number ends.
+fn stands<S: Alter>(
+    store: &mut Store<S>,
+    office: &Office,
+    alloc: Global,
+    job: &Job,
+    t: Moment,
+) -> Result<Reply, Unavailable>
+    ensures served { Serves (state S.Store store.new.conn) → Serves (state S.Store store.old.conn) }
+    ensures stays { Stays (state S.Store store.old.conn) (state S.Store store.new.conn) }
+    ensures told { (m : Queue) (k : List Entry) → Means (state S.Store store.old.conn) m k
+        → Serves (state S.Store store.new.conn) → IfOk result (λ reply. reply ≡ accepted_response
+        (Replied (Stands job.now.job (state_with (settings_of office.now.setup office.now.controls)
+        (job_of job.now) (calls_to job.now.dial m - 1) t)))) }
+{
+    // The call of the grant that is closed counts no more.
+    let calls = store.active_to(&job.fields().dial)?.saturating_sub(1);
+    let answer = Answer::Stands {
+        job: job.fields().job,
+        state: office.state_with(alloc, job, calls, t)?,
+    };
+    answered(alloc, &answer)
+}

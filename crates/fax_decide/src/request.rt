@@ -1,0 +1,68 @@
+//! Any request: what is decided of it.
+
+ghost use Rattle.std.specs.Prelude.{◌≡◌, List, IfOk};
+ghost use Rattle.sqlite.specs.Held.{state};
+ghost use Rattle.fax_ask.specs.Ask.{Step as Asked, asked};
+ghost use Rattle.fax_core.specs.Ask.{Ask as MachineAsk};
+ghost use Rattle.fax_core.specs.Machine.{step as step_of};
+ghost use Rattle.fax_core.specs.Queue.{Queue, Entry};
+ghost use Rattle.fax_core.specs.Sound.{Sound};
+ghost use Rattle.fax_store.specs.Meta.{meta_of};
+ghost use Rattle.fax_store.specs.Store.{Means, Serves, Stays};
+ghost use Rattle.fax_decide.specs.Decision.{Decides};
+ghost use Rattle.fax_decide.specs.Settings.{settings_of};
+
+use crate::choice::decide_next;
+use crate::decision::Decision;
+use crate::fault::Unavailable;
+use crate::jobs::{JobAsk, decide_on_job};
+use crate::modems::decide_mark;
+use crate::office::Office;
+use crate::reports::{Report, decide_report};
+use crate::submission::decide_submission;
+use fax_ask::Ask;
+use fax_job::Moment;
+use fax_store::{Meta, Store};
+use sqlite::Alter;
+use std::alloc::Global;
+
+/// What is decided of a request at `t`, by the rows that it is about.
+pub fn decide<S: Alter>(
+    store: &mut Store<S>,
+    office: &Office,
+    alloc: Global,
+    ask: Ask,
+    meta: &Meta,
+    t: Moment,
+) -> Result<Decision, Unavailable>
+    ensures served { Serves (state S.Store store.new.conn) → Serves (state S.Store store.old.conn) }
+    ensures stays { Stays (state S.Store store.old.conn) (state S.Store store.new.conn) }
+    ensures decided { (m : Queue) (k : List Entry) (want : MachineAsk) → Sound m
+        → Means (state S.Store store.old.conn) m k → Serves (state S.Store store.new.conn)
+        → meta.now ≡ meta_of m → asked ask ≡ Asked want
+        → IfOk result (Decides (step_of (settings_of office.now.setup office.now.controls) m t want) m t) }
+{
+    match ask {
+        Ask::Submission(order) => decide_submission(office, alloc, order, meta.next_job, t),
+        Ask::Suspend { job } => decide_on_job(store, office, alloc, job, JobAsk::Suspend, t),
+        Ask::Resume { job } => decide_on_job(store, office, alloc, job, JobAsk::Resume, t),
+        Ask::Kill { job } => decide_on_job(store, office, alloc, job, JobAsk::Kill, t),
+        Ask::Alteration { job, alter } => {
+            decide_on_job(store, office, alloc, job, JobAsk::Alter(alter), t)
+        }
+        Ask::Ready { modem } => decide_mark(office, alloc, modem, false),
+        Ask::Down { modem } => decide_mark(office, alloc, modem, true),
+        Ask::Next { modem } => decide_next(store, office, alloc, modem, meta.next_grant, t),
+        Ask::CallReport { grant, call } => {
+            decide_report(store, office, alloc, grant, Report::Call(call), t)
+        }
+        Ask::PageReport { grant, page } => {
+            decide_report(store, office, alloc, grant, Report::Page(page), t)
+        }
+        Ask::OutcomeReport { grant, outcome } => {
+            decide_report(store, office, alloc, grant, Report::Outcome(outcome), t)
+        }
+        // A view is decided by nothing.
+        Ask::Show { job: _ } => Err(Unavailable),
+    }
+}

@@ -1,0 +1,54 @@
+//! The state of a job, by sendq(5).
+
+ghost use Rattle.std.specs.Prelude.{◌≡◌, List, IfOk};
+ghost use Rattle.sqlite.specs.Held.{state};
+ghost use Rattle.fax_core.specs.Job.{job_of};
+ghost use Rattle.fax_core.specs.Queue.{Queue, Entry};
+ghost use Rattle.fax_core.specs.State.{state as job_state};
+ghost use Rattle.fax_store.specs.Store.{Means, Serves, Stays};
+ghost use Rattle.fax_decide.specs.Settings.{settings_of};
+ghost use Rattle.fax_decide.specs.State.{state_with};
+
+use crate::fault::Unavailable;
+use crate::office::Office;
+use fax_core::state_at;
+use fax_job::{Job, Moment};
+use fax_store::Store;
+use sqlite::Alter;
+use std::alloc::Global;
+
+impl Office {
+    /// The state of a job at `t`, where that many calls are open to its number.
+    pub(crate) fn state_with(
+        &self,
+        alloc: Global,
+        job: &Job,
+        calls: u64,
+        t: Moment,
+    ) -> Result<u8, Unavailable>
+        ensures { IfOk result (λ found.
+            found ≡ state_with (settings_of self.now.setup self.now.controls) (job_of job.now) calls t) }
+    {
+        let rule = self.rule_of(alloc, &job.fields().dial)?;
+        let is_in_hours = self.is_in_hours(rule, t)?;
+        Ok(state_at(job, is_in_hours, calls, u64::from(rule.calls), t))
+    }
+}
+
+/// The state of a job at `t`, with the calls to its number that the store has.
+pub(crate) fn state_of<S: Alter>(
+    store: &mut Store<S>,
+    office: &Office,
+    alloc: Global,
+    job: &Job,
+    t: Moment,
+) -> Result<u8, Unavailable>
+    ensures served { Serves (state S.Store store.new.conn) → Serves (state S.Store store.old.conn) }
+    ensures stays { Stays (state S.Store store.old.conn) (state S.Store store.new.conn) }
+    ensures found { (m : Queue) (k : List Entry) → Means (state S.Store store.old.conn) m k
+        → Serves (state S.Store store.new.conn) → IfOk result (λ found.
+        found ≡ job_state (settings_of office.now.setup office.now.controls) m t (job_of job.now)) }
+{
+    let calls = store.active_to(&job.fields().dial)?;
+    office.state_with(alloc, job, calls, t)
+}

@@ -1,0 +1,76 @@
+//! Submissions.
+
+ghost use Rattle.std.specs.Prelude.{◌≡◌, ℕ, Bool, Ok, IfOk, IsOk};
+ghost use Rattle.fax_ask.specs.Response.{refused_response};
+ghost use Rattle.fax_core.specs.Ageing.{aged};
+ghost use Rattle.fax_core.specs.Decisions.{submit};
+ghost use Rattle.fax_core.specs.Machine.{submitted, keys_of_rule};
+ghost use Rattle.fax_core.specs.Queue.{Queue};
+ghost use Rattle.fax_core.specs.Settings.{Rule as MachineRule};
+ghost use Rattle.fax_core.specs.Job.{job_of};
+ghost use Rattle.fax_core.specs.Sound.{Sound};
+ghost use Rattle.fax_core.specs.Submission.{rule_of};
+ghost use Rattle.fax_decide.specs.Decision.{Decides};
+ghost use Rattle.fax_decide.specs.Settings.{machine_rule, rule_for};
+
+use crate::decision::{Decision, answered, plain, refuse, take};
+use crate::effect::Effect;
+use crate::fault::Unavailable;
+use crate::office::Office;
+use fax_ask::{Answer, Detail, Reply};
+use fax_core::submit;
+use fax_dest::Rule;
+use fax_job::{Job, Moment, Order, Refusal};
+use std::alloc::Global;
+
+/// Decides a submission at `t`, by the rule of its number. `next_job` is the number of its job.
+pub(crate) fn decide_submission(
+    office: &Office,
+    alloc: Global,
+    order: Order,
+    next_job: u32,
+    t: Moment,
+) -> Result<Decision, Unavailable>
+    ensures { (m : Queue) → Sound m → next_job ≡ m.next_job → IfOk result (Decides
+        (submitted (aged t m) (machine_rule office.now.setup (rule_for office.now.controls order.dial))
+        (submit order (machine_rule office.now.setup (rule_for office.now.controls order.dial))
+        m.next_job office.now.setup.max_jobs t)) m t) }
+{
+    let rule = office.rule_of(alloc, &order.dial)?;
+    match submit(order, rule, next_job, office.setup.max_jobs(), t) {
+        Ok(job) => taken(alloc, job),
+        Err(refusal) => refuse(refused(alloc, refusal, rule)),
+    }
+}
+
+/// The job is new, and its number is told.
+fn taken(alloc: Global, job: Job) -> Result<Decision, Unavailable>
+    ensures { (m : Queue) (t : ℕ) (rule : MachineRule) → Sound m → job.job ≡ m.next_job
+        → IfOk result (Decides (submitted (aged t m) rule (Ok (job_of job))) m t) }
+{
+    let answer = Answer::Submitted {
+        job: job.fields().job,
+    };
+    take(Effect::NewJob(job), answered(alloc, &answer))
+}
+
+/// The reply to a refused submission: a rejected one is told the notice of its rule.
+fn refused(alloc: Global, refusal: Refusal, rule: &Rule) -> Result<Reply, Unavailable>
+    ensures reply { (hours : ℕ → Bool) → IfOk result (λ reply.
+        reply ≡ refused_response refusal (keys_of_rule refusal (rule_of rule.now hours))) }
+    ensures recorded { IsOk result → ¬ (refusal ≡ Refusal.Unavailable) }
+{
+    if refusal == Refusal::Unavailable {
+        // The job would be no lawful record.
+        return Err(Unavailable);
+    }
+    match (refusal, &rule.notice) {
+        (Refusal::Rejected, Some(notice)) => {
+            let detail = Detail::Rejected {
+                notice: notice.as_str(),
+            };
+            Ok(Reply::refused_with(alloc, &detail)?)
+        }
+        _ => plain(refusal),
+    }
+}

@@ -1,0 +1,47 @@
+//! Where the moment of a message comes from.
+ghost use Rattle.std.specs.Prelude.{◌≡◌};
+
+use fax_job::{Moment, read_number};
+
+/// Gives each message its moment.
+pub trait Clock {
+    ghost use Rattle.std.specs.Prelude.{ℕ, List};
+
+    // The moments that may be given for what is said, and the clock after each.
+    ghost gives: { Self → List ℕ → ℕ → Self → Type 0 };
+
+    /// The moment of a message whose field `Fax-Moment` has these bytes (none where the field is
+    /// missing or occurs twice).
+    fn moment(&mut self, said: &[u8]) -> Moment
+        ensures { gives self.old said.now result self.new };
+}
+
+/// A clock that believes what is said, and else gives its last answer, 0 at first.
+#[derive(Clone, Copy, Debug)]
+pub struct SaidClock {
+    last: Moment,
+}
+
+impl SaidClock {
+    pub fn new() -> SaidClock
+        ensures { result.last ≡ 0 }
+    {
+        SaidClock {
+            last: Moment::new(0),
+        }
+    }
+}
+
+impl Clock for SaidClock {
+    ghost use Rattle.std.specs.Prelude.{◌≡◌};
+    ghost use Rattle.fax_http.specs.Clock.{moment_said};
+
+    ghost gives = { λ old said moment new. (moment ≡ moment_said old.last said) × (new.last ≡ moment) };
+
+    fn moment(&mut self, said: &[u8]) -> Moment {
+        if let Some(seconds) = read_number(said) {
+            self.last = Moment::new(seconds);
+        }
+        self.last
+    }
+}

@@ -1,0 +1,2 @@
+pub mod Notice
+pub mod Rule

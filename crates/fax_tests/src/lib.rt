@@ -1,0 +1,19 @@
+//! Tests of what no message to the program shows: calls that it doesn't make, and records that it never has.
+#![tactic(auto)]
+
+#[cfg(test)]
+mod decisions;
+#[cfg(test)]
+mod hours;
+#[cfg(test)]
+mod jobs;
+#[cfg(test)]
+mod lines;
+#[cfg(test)]
+mod replies;
+#[cfg(test)]
+mod setup;
+#[cfg(test)]
+mod store;
+#[cfg(test)]
+mod view;

@@ -1,9 +1,0 @@
-use Rattle.std.specs.Prelude.{◌≡◌, ℕ, ◌≤◌, List, [], ◌∷◌, length}
-use Rattle.faxqd.specs.declared.message.Occurrence.{Occurrence}
-use Rattle.faxqd.specs.declared.message.Occurrence.TheVariants.{Missing, Once, Repeated}
-
--- these are the values of a field that occurs so often
-abbrev pub Shows : Occurrence → List (List ℕ) → Type 0
-Shows Missing values = values ≡ []
-Shows (Once value) values = values ≡ value.now ∷ []
-Shows Repeated values = 2 ≤ length values
