@@ -3,8 +3,8 @@ use fax_job::{Dial, Job, JobFields, JobTag, Moment, Name, Phase, Status, Wish, r
 use std::alloc::Global;
 use std::test::Fail;
 
-/// A job of three pages that is granted or held.
-pub(crate) fn fields(alloc: Global, phase: Phase) -> Result<JobFields, Fail> {
+/// A held job of three pages, one of which is sent.
+fn fields(alloc: Global) -> Result<JobFields, Fail> {
     Ok(JobFields {
         job: 1,
         dial: Dial::read(alloc, "5550111")?,
@@ -21,7 +21,7 @@ pub(crate) fn fields(alloc: Global, phase: Phase) -> Result<JobFields, Fail> {
         ndials: 1,
         totdials: 3,
         maxdials: 12,
-        phase,
+        phase: Phase::Held,
         wish: Wish::Go,
         next: 1200,
         status: Status::empty(),
@@ -34,7 +34,7 @@ fn is_job(alloc: Global, npages: u16, next: u32) -> Result<bool, Fail> {
     let job = Job::new(JobFields {
         npages,
         next,
-        ..fields(alloc, Phase::Held)?
+        ..fields(alloc)?
     });
     Ok(job.is_some())
 }
@@ -43,7 +43,7 @@ fn is_job(alloc: Global, npages: u16, next: u32) -> Result<bool, Fail> {
 fn is_job_with(alloc: Global, extra: &[u8]) -> Result<bool, Fail> {
     let job = Job::new(JobFields {
         extra: read_lines(alloc, extra)?,
-        ..fields(alloc, Phase::Held)?
+        ..fields(alloc)?
     });
     Ok(job.is_some())
 }

@@ -2,8 +2,6 @@
 #![tactic(auto)]
 
 #[cfg(test)]
-mod decisions;
-#[cfg(test)]
 mod hours;
 #[cfg(test)]
 mod jobs;
