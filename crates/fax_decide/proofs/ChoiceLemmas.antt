@@ -20,7 +20,8 @@ use Rattle.fax_core.proofs.BestLemmas.{best_is, best_alone, none_goes, ready_due
 use Rattle.fax_core.proofs.FitsLemmas.{job_again}
 use Rattle.fax_core.proofs.PlaceLemmas.{In, found, found_in, none_passes, in_filter, of_filter, in_found}
 use Rattle.fax_core.proofs.StepLemmas.{aged_sound}
-use Rattle.fax_store.specs.Job.{AreWaiting, IsLawfulJob, IsWaiting}
+use Rattle.fax_tables.specs.Job.{IsLawfulJob}
+use Rattle.fax_store.specs.Job.{AreWaiting, IsWaiting}
 use Rattle.fax_decide.proofs.CallLemmas.{state_aged}
 
 -- ---- what ageing leaves alone

@@ -27,8 +27,8 @@ use Rattle.fax_core.specs.Submission.{submitted, recorded}
 use Rattle.fax_core.proofs.BestLemmas.{best_is}
 use Rattle.fax_core.proofs.PlaceLemmas.{found_in, in_found, of_filter, placed_here}
 use Rattle.fax_core.proofs.StepLemmas.{aged_sound}
-use Rattle.fax_store.specs.declared.grants.Hold.{Hold}
-use Rattle.fax_store.specs.Grant.{as_hold}
+use Rattle.fax_tables.specs.declared.grants.Hold.{Hold}
+use Rattle.fax_tables.specs.Grant.{as_hold}
 use Rattle.fax_store.specs.Job.{IsChange, IsSameOrder, with_expired}
 use Rattle.fax_decide.specs.Decision.{Decides, IsRefused, IsTaken}
 use Rattle.fax_decide.specs.Effect.{accepted}

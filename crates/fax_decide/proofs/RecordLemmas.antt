@@ -11,8 +11,8 @@ use Rattle.fax_core.specs.declared.grants.Grant.{Grant}
 use Rattle.fax_core.proofs.DecisionLemmas.{aged_number}
 use Rattle.fax_core.proofs.FitsLemmas.{job_again}
 use Rattle.fax_core.proofs.KeepLemmas.{looked_up, numbered_job}
-use Rattle.fax_store.specs.Job.{IsLawfulJob}
-use Rattle.fax_store.specs.Tables.{IsLawfulGrant}
+use Rattle.fax_tables.specs.Job.{IsLawfulJob}
+use Rattle.fax_tables.specs.Tables.{IsLawfulGrant}
 
 -- ---- numbers past the last
 

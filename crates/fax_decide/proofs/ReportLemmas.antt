@@ -28,7 +28,7 @@ use Rattle.fax_core.proofs.KeepLemmas.{numbered_job, numbered_grant}
 use Rattle.fax_store.specs.Grant.{IsReport, IsSameGrant, with_closed, with_shut}
 use Rattle.fax_store.specs.Job.{IsChange, with_expired}
 use Rattle.fax_store.specs.Meta.{with_clock}
-use Rattle.fax_store.specs.Tables.{IsLawfulGrant}
+use Rattle.fax_tables.specs.Tables.{IsLawfulGrant}
 use Rattle.fax_decide.specs.Decision.{IsTaken, IsRefused}
 use Rattle.fax_decide.specs.Report.{AreThere, report_both, report_step}
 use Rattle.fax_decide.specs.State.{state_with}

@@ -16,7 +16,7 @@ ghost use Rattle.fax_core.specs.Reply.{HeldGrant};
 ghost use Rattle.fax_core.specs.Sound.{Sound};
 ghost use Rattle.fax_core.specs.declared.grants.Grant.{Grant as OneGrant};
 ghost use Rattle.fax_job.specs.declared.refusal.Refusal.TheVariants.{ModemBusy};
-ghost use Rattle.fax_store.specs.Grant.{as_hold};
+ghost use Rattle.fax_tables.specs.Grant.{as_hold};
 ghost use Rattle.fax_store.specs.Store.{Means, Serves, Stays};
 ghost use Rattle.fax_decide.specs.Decision.{Decides};
 ghost use Rattle.fax_decide.specs.Settings.{settings_of};

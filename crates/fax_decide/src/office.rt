@@ -1,9 +1,7 @@
 //! What the queue asks of its setup and its destination controls.
 
 ghost use Rattle.std.specs.Prelude.{◌≡◌, Ok, IfOk};
-ghost use Rattle.fax_core.specs.Job.{job_of};
-ghost use Rattle.fax_core.specs.State.{state_at};
-ghost use Rattle.fax_decide.specs.Settings.{have_moment, rule_for, settings_of};
+ghost use Rattle.fax_decide.specs.Settings.{have_moment, rule_for};
 
 use fax_core::state_at;
 use fax_dest::{Controls, Rule, Setup};

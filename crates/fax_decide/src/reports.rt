@@ -9,7 +9,7 @@ ghost use Rattle.fax_core.specs.Change.{changed};
 ghost use Rattle.fax_core.specs.Decisions.{call as call_of, page as page_of, outcome as outcome_of};
 ghost use Rattle.fax_core.specs.Job.{job_of};
 ghost use Rattle.fax_core.specs.Machine.{reported, call_reply, page_reply, outcome_reply, without_job};
-ghost use Rattle.fax_core.specs.Queue.{Queue, Entry, job_numbered, grant_numbered};
+ghost use Rattle.fax_core.specs.Queue.{Queue, Entry, grant_numbered};
 ghost use Rattle.fax_core.specs.Reply.{NoKeys, Pages, Refused, Stands};
 ghost use Rattle.fax_core.specs.Sound.{Sound};
 ghost use Rattle.fax_core.specs.State.{calls_to};

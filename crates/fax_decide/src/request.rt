@@ -7,7 +7,7 @@ ghost use Rattle.fax_core.specs.Ask.{Ask as MachineAsk};
 ghost use Rattle.fax_core.specs.Machine.{step as step_of};
 ghost use Rattle.fax_core.specs.Queue.{Queue, Entry};
 ghost use Rattle.fax_core.specs.Sound.{Sound};
-ghost use Rattle.fax_store.specs.Meta.{meta_of};
+ghost use Rattle.fax_tables.specs.Meta.{meta_of};
 ghost use Rattle.fax_store.specs.Store.{Means, Serves, Stays};
 ghost use Rattle.fax_decide.specs.Decision.{Decides};
 ghost use Rattle.fax_decide.specs.Settings.{settings_of};

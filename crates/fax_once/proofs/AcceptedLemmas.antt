@@ -15,8 +15,8 @@ use Rattle.fax_core.specs.Queue.{Queue, Entry}
 use Rattle.fax_core.specs.Reply.{Step, Taken, Refused}
 use Rattle.fax_core.specs.Settings.{Settings}
 use Rattle.fax_core.specs.Sound.{Sound}
-use Rattle.fax_store.specs.Kept.{entry}
-use Rattle.fax_store.specs.Store.{IsAtRest}
+use Rattle.fax_tables.specs.Kept.{entry}
+use Rattle.fax_tables.specs.Tables.{IsAtRest}
 use Rattle.fax_once.specs.Arrival.{number_of, said_of}
 use Rattle.fax_once.specs.Laws.{AcceptedOnce, IsKeptOnce, IsSoundWith, StaysSound}
 use Rattle.fax_once.specs.Verdict.{Verdict, IsVerdict, Told, Accepted, denied, kept_with, stepped, is_used, seen_by, IsForBody, IsForRequest, Leaves}

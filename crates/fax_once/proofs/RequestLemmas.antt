@@ -14,7 +14,7 @@ use Rattle.fax_core.specs.Clock.{decided_at}
 use Rattle.fax_core.specs.Queue.{Queue, Entry}
 use Rattle.fax_core.specs.Reply.{NoKeys}
 use Rattle.fax_core.specs.Settings.{Settings}
-use Rattle.fax_store.specs.Store.{IsAtRest}
+use Rattle.fax_tables.specs.Tables.{IsAtRest}
 use Rattle.fax_once.specs.Arrival.{IsSender, number_of}
 use Rattle.fax_once.specs.Ask.{shown_in}
 use Rattle.fax_once.specs.Verdict.{Verdict, Told, denied, asked_for, seen_by, IsForBody, IsForRequest, IsVerdict, LeavesBy, Answers}

@@ -18,9 +18,11 @@ use Rattle.fax_core.specs.Reply.{NoKeys}
 use Rattle.fax_core.specs.Settings.{Settings}
 use Rattle.fax_core.specs.Sound.{Sound}
 use Rattle.fax_core.proofs.StepLemmas.{step_sound}
-use Rattle.fax_store.specs.Kept.{IsKeptFor, IsOf, entry}
-use Rattle.fax_store.specs.Store.{IsAtRest, Means, Serves}
-use Rattle.fax_store.specs.declared.replies.Kept.{Kept}
+use Rattle.fax_tables.specs.Kept.{entry}
+use Rattle.fax_store.specs.Kept.{IsKeptFor, IsOf}
+use Rattle.fax_tables.specs.Tables.{IsAtRest}
+use Rattle.fax_store.specs.Store.{Means, Serves}
+use Rattle.fax_tables.specs.declared.replies.Kept.{Kept}
 use Rattle.fax_once.specs.Arrival.{IsSender, said_of}
 use Rattle.fax_decide.specs.Decision.{IsTaken, IsRefused as IsRefusedBy}
 use Rattle.fax_decide.specs.Effect.{accepted}

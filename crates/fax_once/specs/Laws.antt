@@ -5,7 +5,7 @@ use Rattle.fax_ask.specs.Response.{Response}
 use Rattle.fax_core.specs.Queue.{Queue, Entry}
 use Rattle.fax_core.specs.Settings.{Settings}
 use Rattle.fax_core.specs.Sound.{Sound}
-use Rattle.fax_store.specs.Store.{IsAtRest}
+use Rattle.fax_tables.specs.Tables.{IsAtRest}
 use Rattle.fax_once.specs.Arrival.{number_of}
 use Rattle.fax_once.specs.Verdict.{Verdict, Accepted, Handles, IsVerdict, is_used, kept_with}
 use Rattle.fax_once.specs.declared.arrival.Arrival.{Arrival}

@@ -19,8 +19,8 @@ use Rattle.fax_core.specs.Queue.{Queue, Entry}
 use Rattle.fax_core.specs.Reply.{NoKeys, Step, Taken, Refused}
 use Rattle.fax_core.specs.Settings.{Settings}
 use Rattle.fax_core.specs.Sound.{Sound}
-use Rattle.fax_store.specs.Kept.{entry}
-use Rattle.fax_store.specs.Store.{IsAtRest}
+use Rattle.fax_tables.specs.Kept.{entry}
+use Rattle.fax_tables.specs.Tables.{IsAtRest}
 use Rattle.fax_once.specs.Arrival.{number_of, said_of}
 use Rattle.fax_decide.specs.Decision.{Decides}
 use Rattle.fax_decide.specs.View.{view}

@@ -4,7 +4,7 @@ ghost use Rattle.std.specs.Prelude.{◌≡◌, ◌++◌, ◌∷◌, [], List, Ma
 ghost use Rattle.sqlite.specs.Held.{state};
 ghost use Rattle.fax_core.specs.Queue.{Queue, Entry};
 ghost use Rattle.fax_store.specs.Job.{with_expired};
-ghost use Rattle.fax_store.specs.Kept.{entry};
+ghost use Rattle.fax_tables.specs.Kept.{entry};
 ghost use Rattle.fax_store.specs.Store.{Means, Serves};
 ghost use Rattle.fax_store.specs.Work.{ChangesWhere};
 ghost use Rattle.fax_decide.specs.Effect.{Suits, accepted};

@@ -3,7 +3,7 @@
 //! An accepted request's effect and its kept reply are one transaction of the store, and the reply's
 //! bytes are made before its commit. A refused request changes nothing.
 
-ghost use Rattle.std.specs.Prelude.{◌≡◌, ◌∷◌, ◌++◌, [], ℕ, List, IfOk, OnOk, MatchResult};
+ghost use Rattle.std.specs.Prelude.{◌≡◌, ◌∷◌, ◌++◌, [], List, IfOk, OnOk, MatchResult};
 ghost use Rattle.sqlite.specs.Held.{state};
 ghost use Rattle.fax_ask.specs.Ask.{IsAsk, IsLawful, IsRefused, Step as Asked, asked};
 ghost use Rattle.fax_core.specs.Ask.{Ask as MachineAsk, IsLawfulAsk};
@@ -16,7 +16,7 @@ ghost use Rattle.fax_core.specs.Settings.{Settings};
 ghost use Rattle.fax_core.specs.Sound.{Sound};
 ghost use Rattle.fax_job.specs.declared.refusal.BodyFault.{BodyFault};
 ghost use Rattle.fax_store.specs.Job.{with_expired};
-ghost use Rattle.fax_store.specs.Kept.{entry};
+ghost use Rattle.fax_tables.specs.Kept.{entry};
 ghost use Rattle.fax_store.specs.Store.{Means, Serves, Stays};
 ghost use Rattle.fax_decide.specs.Effect.{Suits, accepted};
 ghost use Rattle.fax_decide.specs.Settings.{settings_of};

@@ -28,16 +28,16 @@ use Rattle.fax_core.specs.Queue.{Queue, Entry, open_grants, job_numbered}
 use Rattle.fax_core.specs.State.{calls_to, is_of_number}
 use Rattle.fax_core.specs.declared.grants.Grant.{Grant}
 use Rattle.fax_store.specs.declared.grants.TheConstants.{SELECT_CALLS}
-use Rattle.fax_store.specs.Row.{number, hold_columns}
-use Rattle.fax_store.specs.Schema.{six_tables}
-use Rattle.fax_store.specs.Tables.{TablesMean}
-use Rattle.fax_store.proofs.CompareLemmas.{are_equal, equal_texts, is_number}
+use Rattle.fax_tables.specs.Row.{number, hold_columns}
+use Rattle.fax_tables.specs.Schema.{six_tables}
+use Rattle.fax_tables.specs.Tables.{TablesMean}
+use Rattle.fax_tables.proofs.CompareLemmas.{are_equal, equal_texts, is_number}
 use Rattle.fax_store.proofs.GrantTexts.{call_tests, calls_query, select_calls}
-use Rattle.fax_store.proofs.IndexLemmas.{length_map}
-use Rattle.fax_store.proofs.KeyLemmas.{apart}
-use Rattle.fax_store.proofs.SelectLemmas.{each_passing}
+use Rattle.fax_tables.proofs.IndexLemmas.{length_map}
+use Rattle.fax_tables.proofs.KeyLemmas.{apart}
+use Rattle.fax_tables.proofs.SelectLemmas.{each_passing}
 use Rattle.fax_store.proofs.StatementLemmas.{shown_keeps}
-use Rattle.fax_store.proofs.TablesLemmas.{row_of}
+use Rattle.fax_tables.proofs.TablesLemmas.{row_of}
 
 -- ---- sums
 

@@ -25,21 +25,22 @@ use Rattle.fax_job.specs.JobTag.{IsJobTag}
 use Rattle.fax_job.specs.Name.{IsName}
 use Rattle.fax_job.specs.Pair.{ArePairs}
 use Rattle.fax_job.specs.Value.{IsStatus}
-use Rattle.fax_store.specs.Job.{IsText, IsLawfulJob, IsSameOrder, IsChange, with_expired}
-use Rattle.fax_store.specs.Row.{number, job_row, phase_number}
-use Rattle.fax_store.specs.Schema as schema
-use Rattle.fax_store.specs.Schema.{six_tables}
+use Rattle.fax_tables.specs.Job.{IsText, IsLawfulJob}
+use Rattle.fax_store.specs.Job.{IsSameOrder, IsChange, with_expired}
+use Rattle.fax_tables.specs.Row.{number, job_row, phase_number}
+use Rattle.fax_tables.specs.Schema as schema
+use Rattle.fax_tables.specs.Schema.{six_tables}
 use Rattle.fax_store.specs.Store.{HasRun}
-use Rattle.fax_store.specs.Tables.{TablesMean}
-use Rattle.fax_store.proofs.CompareLemmas.{at_most, at_least}
+use Rattle.fax_tables.specs.Tables.{TablesMean}
+use Rattle.fax_tables.proofs.CompareLemmas.{at_most, at_least}
 use Rattle.fax_store.proofs.JobLemmas.{fields_back, lawful_of_fields, stored_job}
-use Rattle.fax_store.proofs.KeyLemmas.{only_numbered, asked_is, not_asked}
-use Rattle.fax_store.proofs.RowLemmas.{change_params}
-use Rattle.fax_store.proofs.SelectLemmas.{passes, show}
+use Rattle.fax_tables.proofs.KeyLemmas.{only_numbered, asked_is, not_asked}
+use Rattle.fax_tables.proofs.RowLemmas.{change_params}
+use Rattle.fax_tables.proofs.SelectLemmas.{passes, show}
 use Rattle.fax_store.proofs.StatementTexts.{job_tests, change_project, update_job, expired_tests, expired_project, expire_jobs}
-use Rattle.fax_store.proofs.TablesLemmas.{AreRecords, row_of, parts_of, means_of, jobs_changed}
-use Rattle.fax_store.proofs.UpdateLemmas.{updated}
-use Rattle.fax_store.proofs.WriteLemmas.{KeepsOthers}
+use Rattle.fax_tables.proofs.TablesLemmas.{AreRecords, row_of, parts_of, means_of, jobs_changed}
+use Rattle.fax_tables.proofs.UpdateLemmas.{updated}
+use Rattle.fax_tables.proofs.WriteLemmas.{KeepsOthers}
 
 pub all_mapped : {X : Type 0} (P : X → Type 0) (f : X → X) (xs : List X) → ((x : X) → Has xs x → P x → P (f x)) → All P xs → All P (map f xs)
 all_mapped P f [] keeps all = λ i d low. absurd (omega arith)

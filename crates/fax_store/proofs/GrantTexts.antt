@@ -8,8 +8,8 @@ use Rattle.sqlite.specs.declared.types.Value.TheVariants.{Null, Int}
 use Rattle.sqlite_sql.specs.Term.{Term, lit, col}
 use Rattle.sqlite_tied.specs.Compute.{everything}
 use Rattle.fax_store.specs.declared.grants.TheConstants.{SELECT_GRANT, INSERT_GRANT, UPDATE_REPORT, SHUT_GRANT, SELECT_HOLD, INSERT_HOLD, DELETE_HOLD, SELECT_CALLS}
-use Rattle.fax_store.proofs.StatementTexts.{equals, Selects, SelectsAll, Commands}
-use Rattle.fax_store.proofs.UpdateLemmas.{program_of, gone_project}
+use Rattle.fax_tables.proofs.StatementForms.{equals, Selects, SelectsAll, Commands}
+use Rattle.fax_tables.proofs.UpdateLemmas.{program_of, gone_project}
 
 abbrev pub grant_tests : List Term
 grant_tests = equals (col 1 0) (col 0 0) ∷ []

@@ -21,21 +21,21 @@ use Rattle.fax_core.specs.declared.grants.Grant.{Grant}
 use Rattle.fax_job.specs.Name.{IsName}
 use Rattle.fax_store.specs.declared.grants.TheConstants.{INSERT_GRANT, INSERT_HOLD, UPDATE_REPORT, SHUT_GRANT, DELETE_HOLD}
 use Rattle.fax_store.specs.Grant.{IsSameGrant, IsReport, placed, with_placed, with_shut, with_closed}
-use Rattle.fax_store.specs.Row.{number, call_number, grant_row, hold_columns}
-use Rattle.fax_store.specs.Schema as schema
-use Rattle.fax_store.specs.Schema.{six_tables}
+use Rattle.fax_tables.specs.Row.{number, call_number, grant_row, hold_columns}
+use Rattle.fax_tables.specs.Schema as schema
+use Rattle.fax_tables.specs.Schema.{six_tables}
 use Rattle.fax_store.specs.Store.{HasRun}
-use Rattle.fax_store.specs.Tables.{TablesMean, IsLawfulGrant, IsByRowid}
-use Rattle.fax_store.proofs.AppendLemmas.{appended}
+use Rattle.fax_tables.specs.Tables.{TablesMean, IsLawfulGrant, IsByRowid}
+use Rattle.fax_tables.proofs.AppendLemmas.{appended}
 use Rattle.fax_store.proofs.ChangeLemmas.{all_mapped}
-use Rattle.fax_store.proofs.ColumnLemmas.{kept_permuted}
-use Rattle.fax_store.proofs.CompareLemmas.{are_equal, is_number, same_row, cast_int, cast_null}
+use Rattle.fax_tables.proofs.ColumnLemmas.{kept_permuted}
+use Rattle.fax_tables.proofs.CompareLemmas.{are_equal, is_number, same_row, cast_int, cast_null}
 use Rattle.fax_store.proofs.GrantTexts.{grant_tests, grant_terms, report_project, shut_project, held_tests, hold_terms, insert_grant, insert_hold, update_report, shut_grant, delete_hold}
-use Rattle.fax_store.proofs.KeyLemmas.{only_numbered, asked_is, not_asked, row_placed, all_placed, placed_permuted, free_of}
-use Rattle.fax_store.proofs.SelectLemmas.{passes, show}
-use Rattle.fax_store.proofs.TablesLemmas.{AreRecords, AreHeld, Parts, parts_of, means_of, held_as, grants_changed, holds_changed, by_rowid_put}
-use Rattle.fax_store.proofs.UpdateLemmas.{gone_project, updated, deleted}
-use Rattle.fax_store.proofs.WriteLemmas.{KeepsOthers, InsertsRow, unreferred, inserts}
+use Rattle.fax_tables.proofs.KeyLemmas.{only_numbered, asked_is, not_asked, row_placed, all_placed, placed_permuted, free_of}
+use Rattle.fax_tables.proofs.SelectLemmas.{passes, show}
+use Rattle.fax_tables.proofs.TablesLemmas.{AreRecords, AreHeld, Parts, parts_of, means_of, held_as, grants_changed, holds_changed, by_rowid_put}
+use Rattle.fax_tables.proofs.UpdateLemmas.{gone_project, updated, deleted}
+use Rattle.fax_tables.proofs.WriteLemmas.{KeepsOthers, InsertsRow, unreferred, inserts}
 
 and_true : (b : Bool) → (b && true) ≡ b
 and_true true = refl

@@ -33,16 +33,16 @@ use Rattle.fax_core.specs.Machine.{held_by}
 use Rattle.fax_core.specs.Queue.{Queue, Entry, open_grants}
 use Rattle.fax_core.specs.declared.grants.Grant.{Grant}
 use Rattle.fax_store.specs.declared.grants.TheConstants.{SELECT_HOLD}
-use Rattle.fax_store.specs.Grant.{hold_shown}
-use Rattle.fax_store.specs.Row.{hold_columns}
-use Rattle.fax_store.specs.Schema.{six_tables}
+use Rattle.fax_tables.specs.Grant.{hold_shown}
+use Rattle.fax_tables.specs.Row.{hold_columns}
+use Rattle.fax_tables.specs.Schema.{six_tables}
 use Rattle.fax_store.specs.Store.{FindsRow}
-use Rattle.fax_store.specs.Tables.{TablesMean, IsByRowid}
-use Rattle.fax_store.proofs.ColumnLemmas.{record_of, row_of}
-use Rattle.fax_store.proofs.CompareLemmas.{are_equal, compared, equal_texts}
-use Rattle.fax_store.proofs.EditLemmas.{shown_one, none_shown}
+use Rattle.fax_tables.specs.Tables.{TablesMean, IsByRowid}
+use Rattle.fax_tables.proofs.ColumnLemmas.{record_of, row_of}
+use Rattle.fax_tables.proofs.CompareLemmas.{are_equal, compared, equal_texts}
+use Rattle.fax_tables.proofs.EditLemmas.{shown_one, none_shown}
 use Rattle.fax_store.proofs.GrantTexts.{hold_tests, hold_project, select_hold}
-use Rattle.fax_store.proofs.SelectLemmas.{passes, show, answers}
+use Rattle.fax_tables.proofs.SelectLemmas.{passes, show, answers}
 use Rattle.fax_store.proofs.StatementLemmas.{shown_keeps}
 
 -- ---- a modem stands in one row

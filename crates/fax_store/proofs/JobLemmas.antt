@@ -16,18 +16,19 @@ use Rattle.fax_core.specs.Queue.{Queue, Entry, job_numbered, open_grants}
 use Rattle.fax_job.specs.Job.{IsLawful}
 use Rattle.fax_job.specs.declared.job.JobFields.{JobFields}
 use Rattle.fax_store.specs.declared.jobs.TheConstants.{SELECT_JOB, INSERT_JOB}
-use Rattle.fax_store.specs.Schema as schema
-use Rattle.fax_store.specs.Schema.{six_tables}
-use Rattle.fax_store.specs.Row.{number, job_row}
-use Rattle.fax_store.specs.Job.{IsFormed, IsLawfulJob, job_shown, placed, with_placed}
-use Rattle.fax_store.specs.Tables.{TablesMean, IsByRowid}
+use Rattle.fax_tables.specs.Schema as schema
+use Rattle.fax_tables.specs.Schema.{six_tables}
+use Rattle.fax_tables.specs.Row.{number, job_row}
+use Rattle.fax_tables.specs.Job.{IsFormed, IsLawfulJob, job_shown}
+use Rattle.fax_store.specs.Job.{placed, with_placed}
+use Rattle.fax_tables.specs.Tables.{TablesMean, IsByRowid}
 use Rattle.fax_store.specs.Store.{FindsRow, HasRun}
-use Rattle.fax_store.proofs.CompareLemmas.{same_row, cast_int, cast_null}
-use Rattle.fax_store.proofs.KeyLemmas.{numbered_found, free_of, row_placed, all_placed}
-use Rattle.fax_store.proofs.TablesLemmas.{AreRecords, row_of, parts_of, means_of, jobs_changed, by_rowid_put}
-use Rattle.fax_store.proofs.RowLemmas.{sent_low}
-use Rattle.fax_store.proofs.WriteLemmas.{KeepsOthers, InsertsRow, unreferred, inserts}
-use Rattle.fax_store.proofs.SelectLemmas.{passes, show, answers}
+use Rattle.fax_tables.proofs.CompareLemmas.{same_row, cast_int, cast_null}
+use Rattle.fax_tables.proofs.KeyLemmas.{numbered_found, free_of, row_placed, all_placed}
+use Rattle.fax_tables.proofs.TablesLemmas.{AreRecords, row_of, parts_of, means_of, jobs_changed, by_rowid_put}
+use Rattle.fax_tables.proofs.RowLemmas.{sent_low}
+use Rattle.fax_tables.proofs.WriteLemmas.{KeepsOthers, InsertsRow, unreferred, inserts}
+use Rattle.fax_tables.proofs.SelectLemmas.{passes, show, answers}
 use Rattle.fax_store.proofs.StatementLemmas.{shown_keeps}
 use Rattle.fax_store.proofs.StatementTexts.{job_tests, job_project, job_terms, select_job, insert_job}
 

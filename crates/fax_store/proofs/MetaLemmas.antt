@@ -7,20 +7,20 @@ use Rattle.sqlite.specs.Listing.{understood}
 use Rattle.sqlite.specs.State.{State, IsUnchanged}
 use Rattle.sqlite.proofs.Callers.{IsPlain, runs_as, reads_as}
 use Rattle.fax_store.specs.declared.meta.TheConstants.{SELECT_META, UPDATE_META}
-use Rattle.fax_store.specs.Schema as schema
-use Rattle.fax_store.specs.Schema.{six_tables}
+use Rattle.fax_tables.specs.Schema as schema
+use Rattle.fax_tables.specs.Schema.{six_tables}
 use Rattle.fax_core.specs.Queue.{Queue, Entry, open_grants}
-use Rattle.fax_store.specs.Row.{number, meta_row}
-use Rattle.fax_store.specs.Meta.{meta_shown}
-use Rattle.fax_store.specs.Tables.{TablesMean, IsLawfulMeta, IsByRowid}
+use Rattle.fax_tables.specs.Row.{number, meta_row}
+use Rattle.fax_tables.specs.Meta.{meta_shown}
+use Rattle.fax_tables.specs.Tables.{TablesMean, IsLawfulMeta, IsByRowid}
 use Rattle.fax_store.specs.Store.{FindsRow, HasRun}
-use Rattle.fax_store.proofs.CompareLemmas.{number_same, same_row, cast_int, cast_null}
-use Rattle.fax_store.proofs.SelectLemmas.{passes, answers, only_row, only_found}
+use Rattle.fax_tables.proofs.CompareLemmas.{number_same, same_row, cast_int, cast_null}
+use Rattle.fax_tables.proofs.SelectLemmas.{passes, answers, only_row, only_found}
 use Rattle.fax_store.proofs.StatementLemmas.{shown_keeps}
 use Rattle.fax_store.proofs.StatementTexts.{meta_tests, meta_project, select_meta, update_meta, update_project}
-use Rattle.fax_store.proofs.TablesLemmas.{parts_of, means_of, meta_changed}
-use Rattle.fax_store.proofs.UpdateLemmas.{updated}
-use Rattle.fax_store.proofs.WriteLemmas.{KeepsOthers}
+use Rattle.fax_tables.proofs.TablesLemmas.{parts_of, means_of, meta_changed}
+use Rattle.fax_tables.proofs.UpdateLemmas.{updated}
+use Rattle.fax_tables.proofs.WriteLemmas.{KeepsOthers}
 
 meta_passes : (m : Queue) (params : Row) → passes 10 meta_tests [] params (meta_row m) ≡ true
 meta_passes m params = rw number_same refl

@@ -19,20 +19,20 @@ use Rattle.fax_core.specs.Machine.{is_down, with_mark}
 use Rattle.fax_core.specs.Queue.{Queue, Entry, open_grants}
 use Rattle.fax_job.specs.Name.{IsName}
 use Rattle.fax_store.specs.declared.modems.TheConstants.{SELECT_DOWN, INSERT_DOWN, DELETE_DOWN}
-use Rattle.fax_store.specs.Row.{down_columns}
-use Rattle.fax_store.specs.Schema as schema
-use Rattle.fax_store.specs.Schema.{six_tables}
+use Rattle.fax_tables.specs.Row.{down_columns}
+use Rattle.fax_tables.specs.Schema as schema
+use Rattle.fax_tables.specs.Schema.{six_tables}
 use Rattle.fax_store.specs.Store.{FindsRow, HasRun}
-use Rattle.fax_store.specs.Tables.{TablesMean}
-use Rattle.fax_store.proofs.ColumnLemmas.{record_of, row_of, kept_columns, all_kept, none_holds}
-use Rattle.fax_store.proofs.CompareLemmas.{are_equal, equal_texts, same_row, cast_null}
-use Rattle.fax_store.proofs.EditLemmas.{shown_one, none_shown}
+use Rattle.fax_tables.specs.Tables.{TablesMean}
+use Rattle.fax_tables.proofs.ColumnLemmas.{record_of, row_of, kept_columns, all_kept, none_holds}
+use Rattle.fax_tables.proofs.CompareLemmas.{are_equal, equal_texts, same_row, cast_null}
+use Rattle.fax_tables.proofs.EditLemmas.{shown_one, none_shown}
 use Rattle.fax_store.proofs.ModemTexts.{down_tests, down_project, down_terms, select_down, insert_down, delete_down}
-use Rattle.fax_store.proofs.SelectLemmas.{passes, show, answers}
+use Rattle.fax_tables.proofs.SelectLemmas.{passes, show, answers}
 use Rattle.fax_store.proofs.StatementLemmas.{shown_keeps}
-use Rattle.fax_store.proofs.TablesLemmas.{AreColumns, parts_of, means_of, down_changed, one_more}
-use Rattle.fax_store.proofs.UpdateLemmas.{gone_project, deleted}
-use Rattle.fax_store.proofs.WriteLemmas.{KeepsOthers, unreferred, inserts}
+use Rattle.fax_tables.proofs.TablesLemmas.{AreColumns, parts_of, means_of, down_changed, one_more}
+use Rattle.fax_tables.proofs.UpdateLemmas.{gone_project, deleted}
+use Rattle.fax_tables.proofs.WriteLemmas.{KeepsOthers, unreferred, inserts}
 
 turned : (s t : List ℕ) → bytes_eq s t ≡ bytes_eq t s
 turned s t = cmp.both_ways (bytes_eq s t) (bytes_eq t s) (λ h. (bytes_eq-Decides t s).1 (sym ((bytes_eq-Decides s t).0 h))) (λ h. (bytes_eq-Decides s t).1 (sym ((bytes_eq-Decides t s).0 h)))

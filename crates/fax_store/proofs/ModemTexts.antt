@@ -7,8 +7,8 @@ use Rattle.sqlite.specs.declared.types.Value.TheVariants.{Null}
 use Rattle.sqlite_sql.specs.Term.{Term, lit, col}
 use Rattle.sqlite_tied.specs.Compute.{everything}
 use Rattle.fax_store.specs.declared.modems.TheConstants.{SELECT_DOWN, INSERT_DOWN, DELETE_DOWN}
-use Rattle.fax_store.proofs.StatementTexts.{equals, Selects, Commands}
-use Rattle.fax_store.proofs.UpdateLemmas.{program_of, gone_project}
+use Rattle.fax_tables.proofs.StatementForms.{equals, Selects, Commands}
+use Rattle.fax_tables.proofs.UpdateLemmas.{program_of, gone_project}
 
 abbrev pub down_tests : List Term
 down_tests = equals (col 1 1) (col 0 0) ∷ []

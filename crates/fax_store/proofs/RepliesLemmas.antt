@@ -10,20 +10,21 @@ use Rattle.sqlite.specs.Listing.{understood}
 use Rattle.sqlite.proofs.Callers.{IsPlain, runs_as, reads_as}
 use Rattle.sqlite_rules.specs.Lists.{Has}
 use Rattle.fax_store.specs.declared.replies.TheConstants.{SELECT_REPLY, INSERT_REPLY}
-use Rattle.fax_store.specs.Schema as schema
-use Rattle.fax_store.specs.Schema.{six_tables}
+use Rattle.fax_tables.specs.Schema as schema
+use Rattle.fax_tables.specs.Schema.{six_tables}
 use Rattle.fax_core.specs.Queue.{Queue, Entry, open_grants}
-use Rattle.fax_store.specs.Row.{number, entry_columns}
-use Rattle.fax_store.specs.Kept.{IsOf, entry_shown}
-use Rattle.fax_store.specs.Tables.{TablesMean, IsLawfulEntry}
+use Rattle.fax_tables.specs.Row.{number, entry_columns}
+use Rattle.fax_tables.specs.Kept.{entry_shown}
+use Rattle.fax_store.specs.Kept.{IsOf}
+use Rattle.fax_tables.specs.Tables.{TablesMean, IsLawfulEntry}
 use Rattle.fax_store.specs.Store.{FindsRow, HasRun}
-use Rattle.fax_store.proofs.CompareLemmas.{are_equal, equal_texts, same_number, number_same, same_row, cast_int, cast_null}
-use Rattle.fax_store.proofs.EditLemmas.{shown_one, none_shown}
-use Rattle.fax_store.proofs.SelectLemmas.{passes, show, answers}
+use Rattle.fax_tables.proofs.CompareLemmas.{are_equal, equal_texts, same_number, number_same, same_row, cast_int, cast_null}
+use Rattle.fax_tables.proofs.EditLemmas.{shown_one, none_shown}
+use Rattle.fax_tables.proofs.SelectLemmas.{passes, show, answers}
 use Rattle.fax_store.proofs.StatementLemmas.{shown_keeps}
 use Rattle.fax_store.proofs.StatementTexts.{reply_tests, reply_project, reply_terms, select_reply, insert_reply}
-use Rattle.fax_store.proofs.WriteLemmas.{KeepsOthers, InsertsRow, unreferred, inserts}
-use Rattle.fax_store.proofs.TablesLemmas.{parts_of, means_of, replies_changed, one_more}
+use Rattle.fax_tables.proofs.WriteLemmas.{KeepsOthers, InsertsRow, unreferred, inserts}
+use Rattle.fax_tables.proofs.TablesLemmas.{parts_of, means_of, replies_changed, one_more}
 use Rattle.sqlite.specs.Cast.{cast_row}
 use Rattle.sqlite.specs.Edit.{with_rowid, next_rowid}
 use Rattle.sqlite.specs.Rowids.TheVariants.{Chosen}

@@ -1,85 +1,11 @@
--- Worked rows: records as they stand in the six tables, and what a call makes of them.
-use Rattle.std.specs.Prelude.{◌≡◌, refl, true, false, pos, [], ◌∷◌, ◌++◌, map, codes, Some, None}
-use Rattle.sqlite.specs.declared.types.Value.TheVariants.{Null, Int, Text, Blob}
+-- Worked rows: what calls make of a queue.
+use Rattle.std.specs.Prelude.{◌≡◌, refl, [], ◌∷◌}
 use Rattle.fax_core.specs.Queue.{Queue, empty_queue}
-use Rattle.fax_core.specs.declared.grants.Grant.{Grant}
-use Rattle.fax_job.specs.Pair.{pair}
-use Rattle.fax_job.specs.declared.job.JobFields.{JobFields}
-use Rattle.fax_job.specs.declared.job.Phase.TheVariants.{Held, Waiting, Granted, Done, Failed}
-use Rattle.fax_job.specs.declared.job.Wish.TheVariants.{Go, Hold, Kill}
-use Rattle.fax_job.specs.declared.job.Call.TheVariants.{Connected, Busy, NoAnswer, NoCarrier, Other}
-use Rattle.fax_store.specs.Grant.{as_hold, with_one_more, with_closed}
-use Rattle.fax_store.specs.Kept.{entry}
-use Rattle.fax_store.specs.Meta.{meta_of, with_clock}
-use Rattle.fax_store.specs.Row.{phase_number, wish_number, call_number, job_row, grant_row, hold_columns, down_columns, entry_columns, meta_row}
-
--- ---- numbers that stand for words
-
-phases : map phase_number (Held ∷ Waiting ∷ Granted ∷ Done ∷ Failed ∷ []) ≡ 0 ∷ 1 ∷ 2 ∷ 3 ∷ 4 ∷ []
-phases = refl
-
-wishes : map wish_number (Go ∷ Hold ∷ Kill ∷ []) ≡ 0 ∷ 1 ∷ 2 ∷ []
-wishes = refl
-
-calls : map call_number (None ∷ Some Connected ∷ Some Busy ∷ Some NoAnswer ∷ Some NoCarrier ∷ Some Other ∷ []) ≡ 0 ∷ 1 ∷ 2 ∷ 3 ∷ 4 ∷ 5 ∷ []
-calls = refl
-
--- ---- rows of the tables
-
-abbrev job : JobFields
-job = record {
-  job = 7;
-  dial = codes "5550111";
-  modem = codes "any";
-  jobtag = codes "memo";
-  tts = 1000;
-  killtime = Some 5000;
-  priority = 127;
-  npages = 1;
-  totpages = 3;
-  ntries = 0;
-  tottries = 2;
-  maxtries = 4;
-  ndials = 5;
-  totdials = 6;
-  maxdials = 12;
-  phase = Granted;
-  wish = Kill;
-  next = 77;
-  status = codes "Busy";
-  extra = pair (codes "x-note") (codes "a b") ∷ [];
-}
-
-job_stands : job_row job ≡
-    Int (pos 7) ∷ Null ∷ Text (codes "5550111") ∷ Text (codes "any") ∷ Text (codes "memo") ∷ Text (codes "Busy") ∷ Text (codes "x-note:a b" ++ 10 ∷ []) ∷ Int (pos 1000) ∷ Int (pos 5000) ∷ Int (pos 127)
-    ∷ Int (pos 1) ∷ Int (pos 3) ∷ Int (pos 0) ∷ Int (pos 2) ∷ Int (pos 4) ∷ Int (pos 5) ∷ Int (pos 6) ∷ Int (pos 12) ∷ Int (pos 2) ∷ Int (pos 2) ∷ Int (pos 77) ∷ []
-job_stands = refl
-
-abbrev grant : Grant
-grant = record { number = 1; job = 7; modem = codes "ttyS0"; first_page = 2; last_page = 3; call = Some Connected; confirmed = 4; is_open = true }
-
-abbrev closed : Grant
-closed = record grant { is_open = false }
-
-grant_stands : grant_row grant ≡ Int (pos 1) ∷ Null ∷ Int (pos 7) ∷ Text (codes "ttyS0") ∷ Int (pos 2) ∷ Int (pos 3) ∷ Int (pos 1) ∷ Int (pos 4) ∷ Int (pos 0) ∷ []
-grant_stands = refl
-
-closed_stands : grant_row closed ≡ Int (pos 1) ∷ Null ∷ Int (pos 7) ∷ Text (codes "ttyS0") ∷ Int (pos 2) ∷ Int (pos 3) ∷ Int (pos 1) ∷ Int (pos 4) ∷ Int (pos 1) ∷ []
-closed_stands = refl
-
-hold_stands : hold_columns grant ≡ Text (codes "ttyS0") ∷ Int (pos 7) ∷ Int (pos 1) ∷ []
-hold_stands = refl
-
-down_stands : down_columns (codes "ttyS1") ≡ Text (codes "ttyS1") ∷ []
-down_stands = refl
-
-reply_stands : entry_columns (entry (codes "ann") 9 (codes "/jobs") 201 (codes "{}")) ≡ Text (codes "ann") ∷ Int (pos 9) ∷ Blob (codes "/jobs") ∷ Int (pos 201) ∷ Blob (codes "{}") ∷ []
-reply_stands = refl
-
-meta_stands : meta_row (record empty_queue { clock = 5; next_job = 8; next_grant = 3 }) ≡ Int (pos 1) ∷ Null ∷ Int (pos 5) ∷ Int (pos 8) ∷ Int (pos 3) ∷ Int (pos 1) ∷ []
-meta_stands = refl
-
--- ---- what a call makes of them
+use Rattle.fax_store.specs.Grant.{with_one_more, with_closed}
+use Rattle.fax_store.specs.Meta.{with_clock}
+use Rattle.fax_tables.specs.Grant.{as_hold}
+use Rattle.fax_tables.specs.Meta.{meta_of}
+use Rattle.fax_tables.proofs.Rows.{grant, closed}
 
 abbrev after_grant : Queue
 after_grant = with_one_more grant (with_clock 5 empty_queue)

@@ -1,48 +1,22 @@
 -- What the texts that read and write the six tables mean.
-use Rattle.std.proofs.Common.{◌≡◌, ℕ, pos, List, [], ◌∷◌, codes, false, refl}
+use Rattle.std.proofs.Common.{ℕ, pos, List, [], ◌∷◌, codes, refl}
 use Rattle.sqlite.specs.Collation.TheVariants.{Binary}
 use Rattle.sqlite.specs.declared.types.Value.TheVariants.{Null, Int, Text}
 use Rattle.sqlite_sql.specs.Term.{Term, lit, col, op2}
 use Rattle.sqlite_sql.specs.declared.ops.BinaryOp.TheVariants.{Compare, Or}
-use Rattle.sqlite_sql.specs.declared.ops.CompareOp.TheVariants.{Eq, Le, Ge, Gt}
-use Rattle.sqlite.specs.Query.{Query}
+use Rattle.sqlite_sql.specs.declared.ops.CompareOp.TheVariants.{Le, Ge, Gt}
 use Rattle.sqlite.specs.Source.TheVariants.{Values}
-use Rattle.sqlite.specs.Command.{Command}
-use Rattle.sqlite.specs.Command.TheVariants.{Insert, Select, Update}
-use Rattle.sqlite.specs.Listing.{understood, reads_listing}
-use Rattle.sqlite.proofs.Callers.{IsPlain, command_of}
+use Rattle.sqlite.specs.Command.TheVariants.{Insert, Update}
+use Rattle.sqlite.specs.Listing.{understood}
 use Rattle.sqlite_tied.specs.Compute.{everything}
 use Rattle.sqlite_value.specs.Keys.{ascending}
 use Rattle.sqlite_value.specs.declared.keys.Key.{Key}
 use Rattle.fax_job.specs.Status.{kill_time_expired}
-use Rattle.fax_store.specs.declared.schema.TheConstants.{INSERT_META}
 use Rattle.fax_store.specs.declared.meta.TheConstants.{SELECT_META, UPDATE_META}
 use Rattle.fax_store.specs.declared.replies.TheConstants.{SELECT_REPLY, INSERT_REPLY}
 use Rattle.fax_store.specs.declared.jobs.TheConstants.{SELECT_JOB, INSERT_JOB, UPDATE_JOB, EXPIRE_JOBS, SELECT_WAITING}
-use Rattle.fax_store.specs.Schema.{six_tables}
-use Rattle.fax_store.proofs.SelectLemmas.{rows_by, rows_where}
-
-abbrev pub equals : Term → Term → Term
-equals = op2 (Compare Eq Binary)
-
--- the text is this query
-pub record SelectsAll (sql : List ℕ) (query : Query) (names : List (List ℕ)) : Type 0 where
-  pub command : command_of (understood six_tables sql) ≡ Select (record { lets = []; body = query }) names
-  pub plain : IsPlain (understood six_tables sql)
-  pub unlisted : reads_listing six_tables sql ≡ false
-
--- it is of one table
-abbrev pub Selects : List ℕ → ℕ → List Term → List Term → List (List ℕ) → Type 0
-Selects sql tree tests project = SelectsAll sql (rows_where tree tests project)
-
--- and in this order
-abbrev pub SelectsBy : List ℕ → ℕ → List Term → List Term → List (Term × Key) → List (List ℕ) → Type 0
-SelectsBy sql tree tests project order = SelectsAll sql (rows_by tree tests project order)
-
--- the text is this command, which shows no rows
-pub record Commands (sql : List ℕ) (command : Command) : Type 0 where
-  pub is : command_of (understood six_tables sql) ≡ command
-  pub plain : IsPlain (understood six_tables sql)
+use Rattle.fax_tables.proofs.SelectLemmas.{rows_where}
+use Rattle.fax_tables.proofs.StatementForms.{equals, Selects, SelectsBy, Commands}
 
 abbrev pub meta_tests : List Term
 meta_tests = equals (col 1 0) (lit (Int (pos 1))) ∷ []
@@ -60,11 +34,6 @@ update_project = col 1 0 ∷ col 1 0 ∷ lit Null ∷ col 0 0 ∷ col 0 1 ∷ co
 pub update_meta : Commands UPDATE_META.now (Update 5 (record { lets = []; body = rows_where 10 meta_tests update_project }))
 unfolding understood everything
 update_meta = record { is = refl; plain = (refl, refl) }
-
-pub insert_meta : Commands INSERT_META.now
-    (Insert 5 (Values (lit (Int (pos 1)) ∷ lit Null ∷ lit (Int (pos 0)) ∷ lit (Int (pos 1)) ∷ lit (Int (pos 1)) ∷ lit (Int (pos 1)) ∷ []) 6))
-unfolding understood everything
-insert_meta = record { is = refl; plain = (refl, refl) }
 
 abbrev pub reply_tests : List Term
 reply_tests = equals (col 1 1) (col 0 0) ∷ equals (col 1 2) (col 0 1) ∷ []

@@ -11,7 +11,7 @@ use Rattle.sqlite.proofs.Callers.{memory_is_clean}
 use Rattle.sqlite.proofs.InsideLemmas.{fails_whole}
 use Rattle.fax_store.specs.declared.store.TheConstants.{BEGIN, COMMIT, ROLLBACK}
 use Rattle.fax_core.specs.Queue.{Queue, Entry}
-use Rattle.fax_store.specs.Tables.{TablesMean}
+use Rattle.fax_tables.specs.Tables.{TablesMean}
 use Rattle.fax_store.specs.Store.{Serves, Stays, GoesBack}
 use Rattle.fax_store.specs.Work.{Begins, Commits, Undoes}
 use Rattle.fax_store.proofs.ControlLemmas.{begins, commits, commit_fails, rolls_back}

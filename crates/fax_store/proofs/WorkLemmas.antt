@@ -3,16 +3,17 @@ use Rattle.std.proofs.Common.{◌≡◌, inl, inr, ℕ, List, true, false, Ok, E
 use Rattle.std.specs.Prelude.{⊤}
 use Rattle.sqlite.specs.Order.{Row}
 use Rattle.sqlite.specs.State.{State, IsUnchanged, IsRolledBack}
-use Rattle.fax_store.specs.declared.fault.StoreFault.{StoreFault}
-use Rattle.fax_store.specs.declared.fault.StoreFault.TheVariants.{Unavailable}
-use Rattle.fax_store.specs.Fault.{OrUnavailable}
+use Rattle.fax_tables.specs.declared.fault.StoreFault.{StoreFault}
+use Rattle.fax_tables.specs.declared.fault.StoreFault.TheVariants.{Unavailable}
+use Rattle.fax_tables.specs.Fault.{OrUnavailable}
 use Rattle.fax_core.specs.Queue.{Queue, Entry}
-use Rattle.fax_store.specs.Tables.{TablesMean}
-use Rattle.fax_store.specs.Store.{Serves, IsAtRest, Means, MeansNow, Stays, LeavesCommit, Answers, HasRun}
+use Rattle.fax_tables.specs.Tables.{TablesMean}
+use Rattle.fax_tables.specs.Tables.{IsAtRest}
+use Rattle.fax_store.specs.Store.{Serves, Means, MeansNow, Stays, LeavesCommit, Answers, HasRun}
 use Rattle.fax_store.specs.Work.{IsUnderWay, Works, Changes, ChangesWhere, Keeps, AnswersIn, Steps, Moves}
-use Rattle.fax_store.specs.Schema.{six_tables}
+use Rattle.fax_tables.specs.Schema.{six_tables}
 use Rattle.fax_store.proofs.StoreLemmas.{same_tables}
-use Rattle.fax_store.proofs.WriteLemmas.{KeepsOthers}
+use Rattle.fax_tables.proofs.WriteLemmas.{KeepsOthers}
 
 pub answers_same : {A : Type 0} (old new : State) (P : A → Type 0) (result : Result A StoreFault) → OrUnavailable result P → IsUnchanged old new → Answers old new result P
 answers_same old new P (Ok a) h same = (h, same)

@@ -1,43 +1,12 @@
--- Lawful jobs, what is made of those of a queue, and the row of a query for a job.
-use Rattle.std.specs.Prelude.{◌≡◌, ℕ, List, [], ◌∷◌, ◌+◌, ◌≤◌, ◌<◌, map, filter, nat_lt, unwrap_or, Some, if◌then◌else◌}
+-- What is made of the jobs of a queue, and which of them wait.
+use Rattle.std.specs.Prelude.{◌≡◌, ℕ, List, [], ◌∷◌, ◌+◌, map, filter, nat_lt, Some, if◌then◌else◌}
 use Rattle.std.specs.List.Sorted.{IsPermutation, IsSortedBy}
-use Rattle.std.specs.Str.{IsUtf8}
-use Rattle.sqlite.specs.Order.{Row}
-use Rattle.fax_core.specs.Job.{Job, fields_of, HasPages}
+use Rattle.fax_core.specs.Job.{Job, fields_of}
 use Rattle.fax_core.specs.Ageing.{aged_job}
 use Rattle.fax_core.specs.Best.{better}
 use Rattle.fax_core.specs.State.{is_due}
 use Rattle.fax_core.specs.Queue.{Queue, job_numbered}
-use Rattle.fax_job.specs.Dial.{IsCanonical}
-use Rattle.fax_job.specs.Job.{IsLawful}
-use Rattle.fax_job.specs.JobTag.{IsJobTag}
-use Rattle.fax_job.specs.Name.{IsName}
-use Rattle.fax_job.specs.Pair.{ArePairs}
-use Rattle.fax_job.specs.Value.{IsStatus}
 use Rattle.fax_job.specs.declared.job.JobFields.{JobFields}
-use Rattle.fax_store.specs.Row.{number, job_columns}
-
--- a text of a form
-pub record IsText (Form : List ℕ → Type 0) (text : List ℕ) : Type 0 where
-  pub formed : Form text
-  pub utf8 : IsUtf8 text
-
--- the texts are of their forms, and the times are moments
-pub record IsFormed (job : JobFields) : Type 0 where
-  pub dial : IsText IsCanonical job.dial
-  pub modem : IsText IsName job.modem
-  pub jobtag : IsText IsJobTag job.jobtag
-  pub status : IsText IsStatus job.status
-  pub extra : ArePairs job.extra
-  pub tts : job.tts ≤ 4102444800
-  pub killtime : unwrap_or job.killtime 0 ≤ 4102444800
-  pub priority : job.priority < 256
-
--- also the numbers are within their limits, and the pages are those from the first to the last
-pub record IsLawfulJob (j : Job) : Type 0 where
-  pub formed : IsFormed (fields_of j)
-  pub limits : IsLawful (fields_of j)
-  pub pages : HasPages j
 
 -- the job in its place among jobs by number
 abbrev pub placed : Job → List Job → List Job
@@ -74,7 +43,3 @@ pub record AreWaiting (t : ℕ) (m : Queue) (jobs : List Job) : Type 0 where
 -- the records of these
 abbrev pub IsWaiting : ℕ → Queue → List JobFields → Type 0
 IsWaiting t m found = (jobs : List Job) × (found ≡ map fields_of jobs) × AreWaiting t m jobs
-
--- the row of a query for a job
-abbrev pub job_shown : JobFields → Row
-job_shown job = number job.job ∷ job_columns job

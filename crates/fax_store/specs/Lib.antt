@@ -1,10 +1,6 @@
-pub mod Schema
-pub mod Fault
-pub mod Row
-pub mod Job
-pub mod Tables
 pub mod Store
 pub mod Work
-pub mod Meta
-pub mod Kept
+pub mod Job
 pub mod Grant
+pub mod Kept
+pub mod Meta

@@ -1,21 +1,6 @@
--- The clock and the next numbers.
-use Rattle.std.specs.Prelude.{ℕ, [], ◌∷◌}
-use Rattle.fax_store.specs.declared.meta.Meta.{Meta}
-use Rattle.sqlite.specs.Order.{Row}
+-- What is made of the clock.
+use Rattle.std.specs.Prelude.{ℕ}
 use Rattle.fax_core.specs.Queue.{Queue}
-use Rattle.fax_store.specs.Row.{number}
-
--- those of a queue
-abbrev pub meta_of : Queue → Meta
-meta_of m = record { clock = m.clock; next_job = m.next_job; next_grant = m.next_grant }
-
--- the row of a query for these
-abbrev pub meta_shown : Queue → Row
-meta_shown m = number m.clock ∷ number m.next_job ∷ number m.next_grant ∷ []
-
--- the queue with these
-abbrev pub with_meta : Meta → Queue → Queue
-with_meta meta m = record m { clock = meta.clock; next_job = meta.next_job; next_grant = meta.next_grant }
 
 -- the queue with this clock
 abbrev pub with_clock : ℕ → Queue → Queue

@@ -1,25 +1,17 @@
 -- What a store shows.
-use Rattle.std.specs.Prelude.{◌≡◌, ◌⊎◌, ℕ, false, List, [], Option, Ok, Result, MatchResult, MatchOption, IsTrue}
-use Rattle.std.specs.List.{AllByRecursion}
+use Rattle.std.specs.Prelude.{◌≡◌, ◌⊎◌, ℕ, List, [], Option, Ok, Result, MatchResult, MatchOption, IsTrue}
 use Rattle.sqlite.specs.Order.{Row}
 use Rattle.sqlite.specs.State.{State, HasCleanDisk, IsUnchanged, IsRolledBack, Shown, Executes}
 use Rattle.sqlite_rules.specs.Lists.{Has}
-use Rattle.sqlite_schema.specs.declared.schema.Schema.{Schema}
-use Rattle.fax_store.specs.declared.fault.StoreFault.{StoreFault}
-use Rattle.fax_store.specs.declared.fault.StoreFault.TheVariants.{Unavailable}
+use Rattle.fax_tables.specs.declared.fault.StoreFault.{StoreFault}
+use Rattle.fax_tables.specs.declared.fault.StoreFault.TheVariants.{Unavailable}
 use Rattle.fax_core.specs.Queue.{Queue, Entry}
-use Rattle.fax_store.specs.Tables.{TablesMean}
+use Rattle.fax_tables.specs.Tables.{TablesMean, IsAtRest}
 
 -- The disk has returned what was written, and no fault of it has shut the database. Both hold of memory.
 pub record Serves (s : State) : Type 0 where
   pub clean : HasCleanDisk s
   pub is_open : IsTrue s.is_open
-
--- no work is under way, and the tables mean this
-pub record IsAtRest (s : State) (m : Queue) (k : List Entry) : Type 0 where
-  pub autocommit : s.in_transaction ≡ false
-  pub settled : s.now ≡ s.committed
-  pub means : TablesMean s.now m k
 
 -- the store means this queue and these kept replies, as long as it serves
 abbrev pub Means : State → Queue → List Entry → Type 0
@@ -48,13 +40,6 @@ Answers old new result P = MatchResult result (λ a. P a × IsUnchanged old new)
 -- one of the rows that a query shows, or none where it shows none
 abbrev pub FindsRow : List ℕ → Row → State → State → Option Row → Type 0
 FindsRow sql params old new found = (rows : List Row) × Shown sql params old new rows × MatchOption found (rows ≡ []) (Has rows)
-
--- no work is under way, and the tables are these, with no rows
-pub record HasEmptyTables (schema : Schema) (s : State) : Type 0 where
-  pub autocommit : s.in_transaction ≡ false
-  pub settled : s.now ≡ s.committed
-  pub schema_is : s.now.schema ≡ schema
-  pub empty : AllByRecursion (λ t. s.now.trees t.tree ≡ []) schema.tables
 
 -- a statement that answers no rows has run
 abbrev pub HasRun : List ℕ → Row → State → State → Type 0

@@ -1,11 +1,11 @@
 -- What a work shows.
 use Rattle.std.specs.Prelude.{◌≡◌, Bool, false, List, Result, MatchResult, IsTrue}
 use Rattle.sqlite.specs.State.{State}
-use Rattle.fax_store.specs.declared.fault.StoreFault.{StoreFault}
-use Rattle.fax_store.specs.declared.fault.StoreFault.TheVariants.{Unavailable}
-use Rattle.fax_store.specs.Fault.{OrUnavailable}
+use Rattle.fax_tables.specs.declared.fault.StoreFault.{StoreFault}
+use Rattle.fax_tables.specs.declared.fault.StoreFault.TheVariants.{Unavailable}
+use Rattle.fax_tables.specs.Fault.{OrUnavailable}
 use Rattle.fax_core.specs.Queue.{Queue, Entry}
-use Rattle.fax_store.specs.Tables.{TablesMean}
+use Rattle.fax_tables.specs.Tables.{TablesMean}
 use Rattle.fax_store.specs.Store.{Serves, Means}
 
 -- the work is under way, and its tables mean this

@@ -1,30 +1,25 @@
 //! The grants, and what modems and jobs hold of those that are open.
 
-ghost use Rattle.std.specs.Prelude.{◌≡◌, ℕ, ◌<◌, ◌≤◌, List, Option, false, Err, IfErr, IfOk, IfSome, is_err, IsTrue};
+ghost use Rattle.std.specs.Prelude.{◌≡◌, ◌<◌, ◌≤◌, List, false, Err, IfErr, IfOk, IfSome, is_err, IsTrue};
 ghost use Rattle.std.specs.Option.{option_map};
 ghost use Rattle.sqlite.specs.Held.{state};
 ghost use Rattle.fax_core.specs.Machine.{held_by, with_grant};
 ghost use Rattle.fax_core.specs.Queue.{Queue, Entry, grant_numbered};
 ghost use Rattle.fax_core.specs.State.{calls_to};
-ghost use Rattle.fax_core.specs.declared.grants.Grant.{Grant as Granted};
-ghost use Rattle.fax_job.specs.declared.job.Call.{Call as HowItWent};
-ghost use Rattle.fax_store.specs.Fault.{OrUnavailable};
-ghost use Rattle.fax_store.specs.Grant.{as_hold, hold_shown, grant_shown, IsWithinLimits, IsLawfulHold, IsOpenGrant, IsReport};
-ghost use Rattle.fax_store.specs.Grant.{with_placed, with_one_more, with_closed};
-ghost use Rattle.fax_store.specs.Row.{HasNumber, call_number, shut_number};
+ghost use Rattle.fax_store.specs.Grant.{IsReport, with_placed, with_one_more, with_closed};
 ghost use Rattle.fax_store.specs.Store.{Serves, Means, MeansNow, Stays, Answers};
-ghost use Rattle.fax_store.specs.Tables.{IsLawfulGrant};
 ghost use Rattle.fax_store.specs.Work.{Works, Keeps, Changes, ChangesWhere, AnswersIn, Moves, Steps};
+ghost use Rattle.fax_tables.specs.Fault.{OrUnavailable};
+ghost use Rattle.fax_tables.specs.Grant.{as_hold, IsWithinLimits, IsLawfulHold, IsOpenGrant};
 
-use crate::fault::StoreFault;
-use crate::meta::{Meta, PAST_GRANTS, PAST_JOBS};
-use crate::row::{name_at, number_at, small_at};
 use crate::store::Store;
 use crate::work::Work;
 use fax_core::Grant;
-use fax_job::{Call, Dial};
-use sqlite::{Alter, Row, params};
-use std::alloc::Global;
+use fax_job::Dial;
+use fax_tables::{
+    Hold, MOST_PAGES, Meta, PAST_GRANTS, StoreFault, call_number, grant_in, is_open_grant,
+};
+use sqlite::{Alter, params};
 
 const SELECT_GRANT: &str = "SELECT id, job, modem, first_page, last_page, call, pages, shut \
     FROM grants WHERE id = ?1";
@@ -45,120 +40,6 @@ const INSERT_HOLD: &str = "INSERT INTO holds (modem, job, id) VALUES (?1, ?2, ?3
 const DELETE_HOLD: &str = "DELETE FROM holds WHERE id = ?1";
 
 const SELECT_HOLD: &str = "SELECT id, job FROM holds WHERE modem = ?1";
-
-/// What a modem and a job hold: the number of their open grant, and of the job.
-#[derive(Clone, Copy, Debug, PartialEq, Eq)]
-pub struct Hold {
-    /// The number of the grant.
-    pub grant: u32,
-    /// The number of the job.
-    pub job: u32,
-}
-
-/// The most pages that a grant can be of.
-const MOST_PAGES: u16 = 9999;
-
-/// The number that stands for how a call went, 0 where that is not known.
-fn call_number(call: Option<Call>) -> u32
-    ensures { result ≡ call_number call }
-{
-    match call {
-        None => 0,
-        Some(Call::Connected) => 1,
-        Some(Call::Busy) => 2,
-        Some(Call::NoAnswer) => 3,
-        Some(Call::NoCarrier) => 4,
-        Some(Call::Other) => 5,
-    }
-}
-
-/// Whether the numbers of a grant are within their limits.
-fn is_within_limits(grant: &Grant) -> bool
-    ensures fits { IsTrue result → IsWithinLimits grant.now }
-    ensures alone { IsWithinLimits grant.now → IsTrue result }
-{
-    1 <= grant.number
-        && grant.number < PAST_GRANTS
-        && 1 <= grant.job
-        && grant.job < PAST_JOBS
-        && grant.first_page <= MOST_PAGES
-        && grant.last_page <= MOST_PAGES
-        && grant.confirmed <= MOST_PAGES
-}
-
-/// Whether a grant is open, with its numbers within their limits.
-fn is_open_grant(grant: &Grant) -> bool
-    ensures fits { IsTrue result → IsOpenGrant grant.now }
-    ensures alone { IsOpenGrant grant.now → IsTrue result }
-{
-    grant.is_open && is_within_limits(grant)
-}
-
-/// How the call in a column went, where 0 is not known.
-fn call_at(row: &Row, at: usize) -> Result<Option<Call>, StoreFault>
-    ensures { (call : Option HowItWent) → HasNumber row.now at (call_number call)
-        → OrUnavailable result (λ found. found ≡ call) }
-{
-    match number_at(row, at)? {
-        0 => Ok(None),
-        1 => Ok(Some(Call::Connected)),
-        2 => Ok(Some(Call::Busy)),
-        3 => Ok(Some(Call::NoAnswer)),
-        4 => Ok(Some(Call::NoCarrier)),
-        5 => Ok(Some(Call::Other)),
-        _ => Err(StoreFault::Strange),
-    }
-}
-
-/// Whether the grant of a row is open, by the column that says whether it is shut.
-fn open_at(row: &Row, at: usize) -> Result<bool, StoreFault>
-    ensures { (g : Granted) → HasNumber row.now at (shut_number g) → OrUnavailable result (λ found. found ≡ g.is_open) }
-{
-    match number_at(row, at)? {
-        0 => Ok(true),
-        1 => Ok(false),
-        _ => Err(StoreFault::Strange),
-    }
-}
-
-/// The grant in a row of all columns.
-fn grant_in(alloc: Global, row: &Row) -> Result<Grant, StoreFault>
-    ensures found { (g : Granted) → row.now ≡ grant_shown g → IsLawfulGrant g → OrUnavailable result (λ grant. grant ≡ g) }
-    ensures lawful { IfOk result IsWithinLimits }
-{
-    let grant = Grant {
-        number: number_at(row, 0)?,
-        job: number_at(row, 1)?,
-        modem: name_at(alloc, row, 2)?,
-        first_page: small_at(row, 3)?,
-        last_page: small_at(row, 4)?,
-        call: call_at(row, 5)?,
-        confirmed: small_at(row, 6)?,
-        is_open: open_at(row, 7)?,
-    };
-    if is_within_limits(&grant) {
-        Ok(grant)
-    } else {
-        Err(StoreFault::Strange)
-    }
-}
-
-impl Hold {
-    /// The hold in a row of grant and job.
-    fn in_row(row: &Row) -> Result<Hold, StoreFault>
-        ensures found { (g : Granted) → row.now ≡ hold_shown g → IsLawfulGrant g
-            → OrUnavailable result (λ hold. hold ≡ as_hold g) }
-        ensures lawful { IfOk result IsLawfulHold }
-    {
-        let grant = number_at(row, 0)?;
-        let job = number_at(row, 1)?;
-        if 1 <= grant && grant < PAST_GRANTS && 1 <= job && job < PAST_JOBS {
-            Ok(Hold { grant, job })
-        } else {
-            Err(StoreFault::Strange)
-        }
-    }
-}
 
 impl<S: Alter> Store<S> {
     /// What the modem holds, or none.

@@ -5,14 +5,14 @@ ghost use Rattle.sqlite.specs.Held.{state};
 ghost use Rattle.fax_core.specs.Machine.{is_down, with_mark};
 ghost use Rattle.fax_core.specs.Queue.{Queue, Entry};
 ghost use Rattle.fax_job.specs.Name.{IsName};
-ghost use Rattle.fax_store.specs.Fault.{OrUnavailable};
 ghost use Rattle.fax_store.specs.Store.{Serves, Means, MeansNow, Stays, Answers};
 ghost use Rattle.fax_store.specs.Work.{Works, Keeps, Changes, AnswersIn, Moves, Steps};
+ghost use Rattle.fax_tables.specs.Fault.{OrUnavailable};
 
-use crate::fault::StoreFault;
 use crate::store::Store;
 use crate::work::Work;
 use fax_job::is_name;
+use fax_tables::StoreFault;
 use sqlite::{Alter, params};
 
 const SELECT_DOWN: &str = "SELECT modem FROM down WHERE modem = ?1";

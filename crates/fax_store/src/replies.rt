@@ -1,20 +1,21 @@
 //! The kept replies.
 
-ghost use Rattle.std.specs.Prelude.{◌≡◌, ◌↔◌, ◌≤◌, ◌<◌, ◌^◌, ◌∷◌, ◌++◌, [], pos, false, List, Err, IfErr, IfOk, IfSome, is_err, IsTrue};
+ghost use Rattle.std.specs.Prelude.{◌≡◌, ◌∷◌, ◌++◌, [], false, List, Err, IfErr, IfOk, IfSome, is_err, IsTrue};
 ghost use Rattle.sqlite.specs.Held.{state};
-ghost use Rattle.fax_store.specs.Fault.{OrUnavailable};
-ghost use Rattle.fax_job.specs.Name.{IsName};
 ghost use Rattle.fax_core.specs.Queue.{Queue, Entry};
-ghost use Rattle.fax_store.specs.Tables.{IsKeptStatus, IsLawfulEntry};
+ghost use Rattle.fax_job.specs.Name.{IsName};
+ghost use Rattle.fax_store.specs.Kept.{IsKeptFor};
 ghost use Rattle.fax_store.specs.Store.{Serves, Means, MeansNow, Stays, Answers};
 ghost use Rattle.fax_store.specs.Work.{Works, Keeps, Changes, AnswersIn, Moves};
+ghost use Rattle.fax_tables.specs.Fault.{OrUnavailable};
+ghost use Rattle.fax_tables.specs.Kept.{entry};
+ghost use Rattle.fax_tables.specs.Tables.{IsKeptStatus};
 
-use crate::fault::StoreFault;
-use crate::row::{small_at, value_at};
 use crate::store::Store;
 use crate::work::Work;
 use fax_job::{RequestNumber, is_name};
-use sqlite::{Alter, Row, params};
+use fax_tables::{Kept, StoreFault, is_kept_status, number_value};
+use sqlite::{Alter, params};
 
 const SELECT_REPLY: &str =
     "SELECT said, status, body FROM replies WHERE client = ?1 AND number = ?2";
@@ -22,55 +23,7 @@ const SELECT_REPLY: &str =
 const INSERT_REPLY: &str =
     "INSERT INTO replies (client, number, said, status, body) VALUES (?1, ?2, ?3, ?4, ?5)";
 
-/// What was said under a client's request number, and the reply that is kept for it.
-#[derive(Debug, Drop)]
-pub struct Kept {
-    /// What the client said: the path, a line feed and the body.
-    pub said: Vec<u8>,
-    /// The status of the reply, 200 or 201.
-    pub status: u16,
-    /// The body of the reply.
-    pub body: Vec<u8>,
-}
-
-/// Whether a reply of this status is kept.
-fn is_kept_status(status: u16) -> bool
-    ensures { IsTrue result ↔ IsKeptStatus status }
-{
-    status == 200 || status == 201
-}
-
-/// The number as the database takes it.
-fn number_value(number: RequestNumber) -> i64
-    ensures value { result ≡ pos number }
-    ensures lawful { (1 ≤ number) × (number < 10 ^ 18) }
-{
-    number.get() as i64
-}
-
-impl Kept {
-    ghost use Rattle.fax_store.specs.Kept.{Tells, entry_shown};
-
-    /// The kept reply in a row of what was said, status and body.
-    fn in_row(row: &Row) -> Result<Kept, StoreFault>
-        ensures found { (e : Entry) → row.now ≡ entry_shown e → IsLawfulEntry e
-            → OrUnavailable result (λ kept. Tells kept e) }
-        ensures lawful { IfOk result (λ kept. IsKeptStatus kept.status) }
-    {
-        let said = value_at(row, 0)?;
-        let status = small_at(row, 1)?;
-        let body = value_at(row, 2)?;
-        if is_kept_status(status) {
-            Ok(Kept { said, status, body })
-        } else {
-            Err(StoreFault::Strange)
-        }
-    }
-}
-
 impl<S: Alter> Store<S> {
-    ghost use Rattle.fax_store.specs.Kept.{IsKeptFor, entry};
-
     /// The reply that is kept for this number of this client.
     ///
     /// # Errors
@@ -132,8 +85,6 @@ impl<S: Alter> Store<S> {
 }
 
 impl<S: Alter> Work<'_, S> {
-    ghost use Rattle.fax_store.specs.Kept.{IsKeptFor, entry};
-
     /// The reply that is kept for this number of this client.
     ///
     /// # Errors

@@ -1,6 +1,6 @@
 //! A database with the six tables.
 
-ghost use Rattle.std.specs.Prelude.{◌≡◌, false, [], ◌∷◌, IfOk, IfErr, OnOk, OnErr};
+ghost use Rattle.std.specs.Prelude.{◌≡◌, false, [], IfOk, IfErr, OnOk, OnErr};
 ghost use Rattle.std.specs.Borrow.{sem, RestsIfErr};
 ghost use Rattle.sqlite.specs.Held.{state};
 ghost use Rattle.fax_store.specs.contracts.store.Store.{the_row};
@@ -8,12 +8,12 @@ ghost use Rattle.sqlite.specs.Values.{bound};
 ghost use Rattle.sqlite.specs.State.{HasCleanDisk, Shown};
 ghost use Rattle.sqlite.specs.Steps.{over_memory};
 ghost use Rattle.fax_core.specs.Queue.{empty_queue};
-ghost use Rattle.fax_store.specs.Store.{IsAtRest, Serves, Stays, GoesBack, LeavesCommit, FindsRow, HasRun};
+ghost use Rattle.fax_store.specs.Store.{Serves, Stays, GoesBack, LeavesCommit, FindsRow, HasRun};
 ghost use Rattle.fax_store.specs.Work.{Begins};
+ghost use Rattle.fax_tables.specs.Tables.{IsAtRest};
 
-use crate::fault::StoreFault;
-use crate::schema::create_tables;
 use crate::work::Work;
+use fax_tables::{StoreFault, create_tables};
 use sqlite::types::ValueRef;
 use sqlite::{Alter, Connection, MemStore, Row};
 use std::alloc::Global;

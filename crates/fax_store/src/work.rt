@@ -5,8 +5,8 @@ ghost use Rattle.sqlite.specs.Held.{state};
 ghost use Rattle.fax_store.specs.Store.{Serves};
 ghost use Rattle.fax_store.specs.Work.{Commits, Undoes};
 
-use crate::fault::StoreFault;
 use crate::store::{COMMIT, Store};
+use fax_tables::StoreFault;
 use sqlite::Alter;
 
 /// Changes to the tables that are made together by `commit`, or not at all: where it is dropped

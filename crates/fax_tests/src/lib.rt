@@ -10,6 +10,8 @@ mod lines;
 #[cfg(test)]
 mod replies;
 #[cfg(test)]
+mod rows;
+#[cfg(test)]
 mod setup;
 #[cfg(test)]
 mod store;

@@ -17,7 +17,7 @@ use Rattle.fax_once.proofs.OneVerdictLemmas.{one_verdict}
 use Rattle.fax_once.specs.Verdict.{Verdict, Told, Accepted, Handles, IsVerdict, Leaves}
 use Rattle.fax_once.specs.declared.arrival.Arrival.{Arrival}
 use Rattle.fax_store.proofs.StoreLemmas.{memory_serves}
-use Rattle.fax_store.specs.Store.{IsAtRest}
+use Rattle.fax_tables.specs.Tables.{IsAtRest}
 use Rattle.fax_http.specs.Conversation.{Turn}
 use Rattle.faxqd.specs.Desk.{IsArrival}
 use Rattle.fax_http.specs.Laws.{message_of}

@@ -8,7 +8,7 @@ use Rattle.fax_core.specs.Queue.{empty_queue}
 use Rattle.fax_core.specs.Settings.{Settings}
 use Rattle.fax_decide.specs.Settings.{settings_of}
 use Rattle.fax_decide.specs.declared.office.Office.{Office}
-use Rattle.fax_store.specs.Store.{IsAtRest}
+use Rattle.fax_tables.specs.Tables.{IsAtRest}
 use Rattle.fax_http.specs.Clock.{moment_said}
 use Rattle.fax_http.specs.Conversation.{Reads, Turn, spelled_turns}
 use Rattle.faxqd.specs.Desk.{HandlesAt}

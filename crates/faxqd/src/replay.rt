@@ -3,7 +3,7 @@ ghost use Rattle.std.specs.Prelude.{◌≡◌, [], IfErr, IfOk};
 ghost use Rattle.sqlite.specs.Held.{state};
 ghost use Rattle.sqlite.specs.Steps.{over_memory};
 ghost use Rattle.fax_core.specs.Queue.{empty_queue as no_records};
-ghost use Rattle.fax_store.specs.Store.{IsAtRest};
+ghost use Rattle.fax_tables.specs.Tables.{IsAtRest};
 ghost use Rattle.faxqd.specs.Replay.{IsAnswered};
 
 use crate::desk::Desk;

@@ -6,7 +6,7 @@ use Rattle.fax_core.specs.Machine.{handed, held_by, is_down}
 use Rattle.fax_core.specs.Reply.{HeldGrant}
 use Rattle.fax_job.specs.declared.refusal.Refusal.TheVariants.{ModemBusy}
 use Rattle.fax_dest.specs.Setup.{has_modem}
-use Rattle.fax_store.specs.Grant.{as_hold}
+use Rattle.fax_tables.specs.Grant.{as_hold}
 use Rattle.fax_decide.specs.Decision.{Decides}
 use Rattle.fax_decide.specs.Settings.{settings_of}
 use Rattle.fax_decide.specs.declared.decision.Decision.TheVariants.{Refused}

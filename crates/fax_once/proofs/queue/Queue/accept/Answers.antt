@@ -1,6 +1,6 @@
 use Rattle.std.proofs.Common.{◌++◌, ◌∷◌, [], refl, subst, ◌∙◌}
 use Rattle.sqlite.specs.Held.{state}
-use Rattle.fax_store.specs.Kept.{entry}
+use Rattle.fax_tables.specs.Kept.{entry}
 use Rattle.fax_store.specs.Store.{Means}
 use Rattle.fax_decide.specs.Effect.{accepted}
 use Rattle.fax_decide.proofs.WorkLemmas.{refused_with}

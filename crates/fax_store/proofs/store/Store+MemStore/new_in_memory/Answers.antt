@@ -1,6 +1,6 @@
 use Rattle.sqlite.proofs.Callers.{memory_is_clean}
 use Rattle.fax_store.proofs.StoreLemmas.{memory_serves}
-use Rattle.fax_store.proofs.CreateLemmas.{empty_at_first}
+use Rattle.fax_tables.proofs.CreateLemmas.{empty_at_first}
 use Rattle.fax_store.proofs.store.Store+MemStore.new_in_memory.Goals as goal
 
 pub returns-clause-empty : goal.returns-clause-empty

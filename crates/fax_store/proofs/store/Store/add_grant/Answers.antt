@@ -1,8 +1,9 @@
 use Rattle.std.proofs.Common.{◌≡◌, ◌+◌, ◌<◌, false, Ok, subst, ap, arith, rules}
 use Rattle.sqlite.specs.Held.{state}
-use Rattle.fax_store.specs.Grant.{IsOpenGrant, with_placed, with_one_more}
-use Rattle.fax_store.specs.Meta.{meta_of, with_meta}
-use Rattle.fax_store.specs.Tables.{IsLawfulMeta}
+use Rattle.fax_tables.specs.Grant.{IsOpenGrant}
+use Rattle.fax_store.specs.Grant.{with_placed, with_one_more}
+use Rattle.fax_tables.specs.Meta.{meta_of, with_meta}
+use Rattle.fax_tables.specs.Tables.{IsLawfulMeta}
 use Rattle.fax_store.specs.Work.{Steps}
 use Rattle.fax_store.proofs.WorkLemmas.{goes_on, moves_of, steps_fault}
 use Rattle.fax_store.proofs.store.Store.add_grant.Goals as goal

@@ -2,8 +2,8 @@ use Rattle.std.proofs.Common.{◌≡◌, ◌+◌, ◌<◌, false, Ok, subst, ap,
 use Rattle.sqlite.specs.Held.{state}
 use Rattle.fax_core.specs.Job.{job_of}
 use Rattle.fax_store.specs.Job.{with_placed, with_job}
-use Rattle.fax_store.specs.Meta.{meta_of, with_meta}
-use Rattle.fax_store.specs.Tables.{IsLawfulMeta}
+use Rattle.fax_tables.specs.Meta.{meta_of, with_meta}
+use Rattle.fax_tables.specs.Tables.{IsLawfulMeta}
 use Rattle.fax_store.specs.Work.{Steps}
 use Rattle.fax_store.proofs.WorkLemmas.{goes_on, moves_of, steps_fault}
 use Rattle.fax_store.proofs.store.Store.add_job.Goals as goal

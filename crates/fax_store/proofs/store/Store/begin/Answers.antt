@@ -2,7 +2,7 @@ use Rattle.std.proofs.Common.{refl, sym, ap, rules}
 use mathlib.Core.Option as maybe
 use Rattle.sqlite.specs.Held.{state}
 use Rattle.fax_store.specs.declared.store.TheConstants.{BEGIN}
-use Rattle.fax_store.proofs.ResultLemmas.{rests_at_err}
+use Rattle.fax_tables.proofs.ResultLemmas.{rests_at_err}
 use Rattle.fax_store.proofs.StoreLemmas.{begun, begun_served, not_begun}
 use Rattle.fax_store.proofs.store.Store.begin.Goals as goal
 

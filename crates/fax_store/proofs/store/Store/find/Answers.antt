@@ -1,5 +1,5 @@
 use Rattle.std.proofs.Common.{rules}
-use Rattle.fax_store.proofs.ResultLemmas.{popped}
+use Rattle.fax_tables.proofs.ResultLemmas.{popped}
 use Rattle.fax_store.proofs.store.Store.find.Goals as goal
 
 pub returns-clause-found : goal.returns-clause-found

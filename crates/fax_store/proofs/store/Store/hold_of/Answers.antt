@@ -2,7 +2,7 @@ use Rattle.std.proofs.Common.{◌≡◌}
 use Rattle.sqlite.specs.Held.{state}
 use Rattle.std.specs.Option.{option_map}
 use Rattle.fax_core.specs.Machine.{held_by}
-use Rattle.fax_store.specs.Grant.{as_hold}
+use Rattle.fax_tables.specs.Grant.{as_hold}
 use Rattle.fax_store.proofs.WorkLemmas.{stays_by, found_by}
 use Rattle.fax_store.proofs.store.Store.hold_of.Goals as goal
 

@@ -3,7 +3,7 @@ use Rattle.sqlite.specs.Held.{state}
 use Rattle.fax_store.specs.declared.grants.TheConstants.{INSERT_GRANT, INSERT_HOLD}
 use Rattle.fax_store.specs.Grant.{with_placed}
 use Rattle.fax_store.specs.Store.{HasRun}
-use Rattle.fax_store.specs.Tables.{IsLawfulGrant}
+use Rattle.fax_tables.specs.Tables.{IsLawfulGrant}
 use Rattle.fax_store.proofs.GrantWriteLemmas.{hold_params, grant_params, hold_keeps, grant_put}
 use Rattle.fax_store.proofs.WorkLemmas.{refused_step, two_steps}
 use Rattle.fax_store.proofs.store.Store.insert_grant.Goals as goal

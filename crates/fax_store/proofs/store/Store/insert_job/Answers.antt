@@ -5,12 +5,13 @@ use Rattle.sqlite.specs.Order.{Row}
 use Rattle.sqlite.specs.declared.types.Value.TheVariants.{Text}
 use Rattle.fax_core.specs.Job.{job_of}
 use Rattle.fax_store.specs.declared.jobs.TheConstants.{INSERT_JOB}
-use Rattle.fax_store.specs.Job.{IsFormed, IsLawfulJob, job_shown, with_placed}
-use Rattle.fax_store.specs.Row.{number}
+use Rattle.fax_tables.specs.Job.{IsFormed, IsLawfulJob, job_shown}
+use Rattle.fax_store.specs.Job.{with_placed}
+use Rattle.fax_tables.specs.Row.{number}
 use Rattle.fax_store.specs.Store.{HasRun}
 use Rattle.fax_store.specs.Work.{Steps}
 use Rattle.fax_store.proofs.JobLemmas.{job_put, lawful_of_fields}
-use Rattle.fax_store.proofs.RowLemmas.{shown_by}
+use Rattle.fax_tables.proofs.RowLemmas.{shown_by}
 use Rattle.fax_store.proofs.WorkLemmas.{step_by}
 use Rattle.fax_store.proofs.store.Store.insert_job.Goals as goal
 

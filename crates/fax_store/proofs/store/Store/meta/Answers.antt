@@ -1,6 +1,6 @@
 use Rattle.std.proofs.Common.{◌≡◌}
 use Rattle.sqlite.specs.Held.{state}
-use Rattle.fax_store.specs.Meta.{meta_of}
+use Rattle.fax_tables.specs.Meta.{meta_of}
 use Rattle.fax_store.proofs.WorkLemmas.{stays_by, found_by}
 use Rattle.fax_store.proofs.store.Store.meta.Goals as goal
 

@@ -5,14 +5,14 @@ use Rattle.std.specs.Str.{bytes_eq}
 use Rattle.fax_core.specs.Machine.{held_by}
 use Rattle.fax_core.specs.Queue.{open_grants}
 use Rattle.fax_core.specs.declared.grants.Grant.{Grant}
-use Rattle.fax_store.specs.Grant.{as_hold, hold_shown}
-use Rattle.fax_store.proofs.ColumnLemmas.{all_kept}
-use Rattle.fax_store.specs.declared.fault.StoreFault.TheVariants.{Unavailable}
+use Rattle.fax_tables.specs.Grant.{as_hold, hold_shown}
+use Rattle.fax_tables.proofs.ColumnLemmas.{all_kept}
+use Rattle.fax_tables.specs.declared.fault.StoreFault.TheVariants.{Unavailable}
 use Rattle.fax_store.specs.declared.grants.TheConstants.{SELECT_HOLD}
 use Rattle.fax_store.specs.Store.{FindsRow}
-use Rattle.fax_store.specs.Tables.{IsLawfulGrant}
+use Rattle.fax_tables.specs.Tables.{IsLawfulGrant}
 use Rattle.fax_store.proofs.HoldLemmas as texts
-use Rattle.fax_store.proofs.KeyLemmas.{is_there, is_none, found_holds}
+use Rattle.fax_tables.proofs.KeyLemmas.{is_there, is_none, found_holds}
 use Rattle.fax_store.proofs.WorkLemmas.{answers_refused, err_is}
 use Rattle.fax_store.proofs.store.Store.read_hold.Goals as goal
 

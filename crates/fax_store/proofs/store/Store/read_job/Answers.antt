@@ -4,12 +4,12 @@ use Rattle.sqlite.specs.Held.{state}
 use Rattle.std.specs.Prelude.{◌==◌}
 use Rattle.fax_core.specs.Job.{Job, fields_of}
 use Rattle.fax_core.specs.Queue.{job_numbered}
-use Rattle.fax_store.specs.declared.fault.StoreFault.TheVariants.{Unavailable}
+use Rattle.fax_tables.specs.declared.fault.StoreFault.TheVariants.{Unavailable}
 use Rattle.fax_store.specs.declared.jobs.TheConstants.{SELECT_JOB}
-use Rattle.fax_store.specs.Job.{IsLawfulJob, job_shown}
+use Rattle.fax_tables.specs.Job.{IsLawfulJob, job_shown}
 use Rattle.fax_store.specs.Store.{FindsRow}
 use Rattle.fax_store.proofs.JobLemmas.{params, job_found, job_unchanged}
-use Rattle.fax_store.proofs.KeyLemmas.{is_there, is_none, found_holds}
+use Rattle.fax_tables.proofs.KeyLemmas.{is_there, is_none, found_holds}
 use Rattle.fax_store.proofs.WorkLemmas.{answers_refused, err_is}
 use Rattle.fax_store.proofs.store.Store.read_job.Goals as goal
 

@@ -1,6 +1,6 @@
 use Rattle.std.proofs.Common.{◌≡◌, sym, ◌∙◌}
 use Rattle.sqlite.specs.Held.{state}
-use Rattle.fax_store.specs.Meta.{meta_of}
+use Rattle.fax_tables.specs.Meta.{meta_of}
 use Rattle.fax_store.proofs.MetaLemmas.{meta_found, meta_unchanged}
 use Rattle.fax_store.proofs.WorkLemmas.{answers_same}
 use Rattle.fax_store.proofs.store.Store.read_meta.Goals as goal

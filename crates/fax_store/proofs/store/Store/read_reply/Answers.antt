@@ -1,6 +1,6 @@
 use Rattle.std.proofs.Common.{◌≡◌, inl, subst, rules}
 use Rattle.sqlite.specs.Held.{state}
-use Rattle.fax_store.specs.declared.fault.StoreFault.TheVariants.{Unavailable}
+use Rattle.fax_tables.specs.declared.fault.StoreFault.TheVariants.{Unavailable}
 use Rattle.fax_store.specs.declared.replies.TheConstants.{SELECT_REPLY}
 use Rattle.fax_store.specs.Store.{FindsRow}
 use Rattle.fax_store.specs.Kept.{IsKeptFor}

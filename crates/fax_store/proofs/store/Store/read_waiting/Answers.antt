@@ -4,7 +4,7 @@ use Rattle.sqlite.specs.State.{Shown}
 use Rattle.fax_core.specs.Job.{fields_of}
 use Rattle.fax_store.specs.declared.jobs.TheConstants.{SELECT_WAITING}
 use Rattle.fax_store.specs.Job.{IsWaiting}
-use Rattle.fax_store.proofs.ResultLemmas.{or_weaker}
+use Rattle.fax_tables.proofs.ResultLemmas.{or_weaker}
 use Rattle.fax_store.proofs.WaitingLemmas as waiting
 use Rattle.fax_store.proofs.WorkLemmas.{answers_same}
 use Rattle.fax_store.proofs.store.Store.read_waiting.Goals as goal

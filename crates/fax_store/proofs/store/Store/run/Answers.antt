@@ -2,7 +2,7 @@ use Rattle.std.proofs.Common.{false}
 use Rattle.sqlite.specs.Held.{state}
 use Rattle.sqlite.specs.Values.{bound}
 use Rattle.sqlite.proofs.InsideLemmas.{fails_whole}
-use Rattle.fax_store.proofs.ResultLemmas.{on_err}
+use Rattle.fax_tables.proofs.ResultLemmas.{on_err}
 use Rattle.fax_store.proofs.StatementLemmas.{left_open, run_open}
 use Rattle.fax_store.proofs.StoreLemmas.{served}
 use Rattle.fax_store.proofs.store.Store.run.Goals as goal

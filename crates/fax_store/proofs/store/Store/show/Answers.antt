@@ -1,6 +1,6 @@
 use Rattle.sqlite.specs.Held.{state}
 use Rattle.sqlite.specs.Values.{bound}
-use Rattle.fax_store.proofs.ResultLemmas.{on_err}
+use Rattle.fax_tables.proofs.ResultLemmas.{on_err}
 use Rattle.fax_store.proofs.StatementLemmas.{query_fails, left_open, shown_open}
 use Rattle.fax_store.proofs.StoreLemmas.{served}
 use Rattle.fax_store.proofs.store.Store.show.Goals as goal

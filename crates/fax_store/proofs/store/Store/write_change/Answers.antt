@@ -6,11 +6,11 @@ use Rattle.fax_core.specs.Job.{job_of}
 use Rattle.fax_core.specs.Machine.{with_job as with_change}
 use Rattle.fax_store.specs.declared.jobs.TheConstants.{UPDATE_JOB}
 use Rattle.fax_store.specs.Job.{IsChange}
-use Rattle.fax_store.specs.Row.{number}
+use Rattle.fax_tables.specs.Row.{number}
 use Rattle.fax_store.specs.Store.{HasRun}
 use Rattle.fax_store.specs.Work.{Steps}
 use Rattle.fax_store.proofs.ChangeLemmas.{IsFormedChange, job_changed}
-use Rattle.fax_store.proofs.RowLemmas.{change_params, changed_by}
+use Rattle.fax_tables.proofs.RowLemmas.{change_params, changed_by}
 use Rattle.fax_store.proofs.WorkLemmas.{step_by}
 use Rattle.fax_store.proofs.store.Store.write_change.Goals as goal
 

@@ -1,8 +1,8 @@
 use Rattle.std.proofs.Common.{[], ◌∷◌, OnOk, subst, rules}
 use Rattle.sqlite.specs.Held.{state}
 use Rattle.fax_store.specs.declared.meta.TheConstants.{UPDATE_META}
-use Rattle.fax_store.specs.Meta.{with_meta}
-use Rattle.fax_store.specs.Row.{number}
+use Rattle.fax_tables.specs.Meta.{with_meta}
+use Rattle.fax_tables.specs.Row.{number}
 use Rattle.fax_store.specs.Store.{HasRun}
 use Rattle.fax_store.proofs.MetaLemmas.{meta_written, meta_shows}
 use Rattle.fax_store.proofs.WorkLemmas.{step_by}

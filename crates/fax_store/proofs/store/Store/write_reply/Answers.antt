@@ -2,10 +2,10 @@ use Rattle.std.proofs.Common.{[], ◌∷◌, ◌++◌, OnOk, subst, rules}
 use Rattle.sqlite.specs.Held.{state}
 use Rattle.sqlite.specs.declared.types.Value.TheVariants.{Text, Blob}
 use Rattle.fax_store.specs.declared.replies.TheConstants.{INSERT_REPLY}
-use Rattle.fax_store.specs.Kept.{entry}
-use Rattle.fax_store.specs.Row.{number}
+use Rattle.fax_tables.specs.Kept.{entry}
+use Rattle.fax_tables.specs.Row.{number}
 use Rattle.fax_store.specs.Store.{HasRun}
-use Rattle.fax_store.specs.Tables.{IsLawfulEntry}
+use Rattle.fax_tables.specs.Tables.{IsLawfulEntry}
 use Rattle.fax_store.proofs.RepliesLemmas.{reply_kept}
 use Rattle.fax_store.proofs.WorkLemmas.{step_by, moves_of}
 use Rattle.fax_store.proofs.store.Store.write_reply.Goals as goal

@@ -1,5 +1,5 @@
 use Rattle.sqlite.specs.Held.{state}
-use Rattle.fax_store.proofs.ResultLemmas.{on_err}
+use Rattle.fax_tables.proofs.ResultLemmas.{on_err}
 use Rattle.fax_store.proofs.StoreLemmas.{undoes, commit_served, committed, not_committed}
 use Rattle.fax_store.proofs.work.Work.commit.Goals as goal
 

@@ -1,6 +1,6 @@
 use Rattle.std.proofs.Common.{List, [], ◌∷◌, ◌++◌}
 use Rattle.sqlite.specs.Held.{state}
-use Rattle.fax_store.specs.Kept.{entry}
+use Rattle.fax_tables.specs.Kept.{entry}
 use Rattle.fax_core.specs.Queue.{Queue, Entry}
 use Rattle.fax_store.proofs.WorkLemmas.{moved_by}
 use Rattle.fax_store.proofs.work.Work.keep.Goals as goal

@@ -1,6 +1,6 @@
 use Rattle.std.proofs.Common.{◌≡◌}
 use Rattle.sqlite.specs.Held.{state}
-use Rattle.fax_store.specs.Meta.{meta_of}
+use Rattle.fax_tables.specs.Meta.{meta_of}
 use Rattle.fax_store.proofs.WorkLemmas.{keeps_by, found_in}
 use Rattle.fax_store.proofs.work.Work.meta.Goals as goal
 

@@ -1,0 +1,118 @@
+-- What the texts that make the tables leave.
+use Rattle.std.proofs.Common.{◌≡◌, ◌≤◌, ℕ, pos, List, [], ◌∷◌, ◌++◌, map, drop, false, Ok, Result, refl, sym, ap, ap₂, subst, subst₂, ◌∙◌, arith, if◌then◌else◌}
+use Rattle.std.specs.List.{AllByRecursion}
+use Rattle.std.specs.List.Sorted.{IsPermutation}
+use Rattle.std.proofs.lemmas.List.Sorted.{IsPermutation-refl}
+use Rattle.sqlite.specs.Tree.{Trees, put_row}
+use Rattle.sqlite.specs.Cast.{cast_row}
+use Rattle.sqlite.specs.Edit.{with_rowid}
+use Rattle.sqlite.specs.Rowids.TheVariants.{Chosen}
+use Rattle.sqlite.specs.View.{doubt}
+use Rattle.sqlite.specs.Effect.{Database}
+use Rattle.sqlite.specs.State.{State, HasCleanDisk, Executes}
+use Rattle.std.specs.Bool.{MatchBool}
+use Rattle.sqlite.specs.Order.{Row}
+use Rattle.sqlite.specs.Rows.{Outcome}
+use Rattle.sqlite.specs.Does.{lacks_sequence, MakesTable, sequence_text}
+use Rattle.sqlite.specs.Compile.{table_defined_by}
+use Rattle.sqlite.specs.Command.TheVariants.{CreateTable}
+use Rattle.sqlite.proofs.Callers.{runs_as}
+use Rattle.sqlite_schema.specs.declared.schema.Table.{Table}
+use Rattle.sqlite_schema.specs.declared.schema.Schema.{Schema}
+use Rattle.sqlite_catalog.specs.Change.{created, next_tree, KeepsRows}
+use Rattle.fax_tables.specs.declared.schema.TheConstants.{INSERT_META}
+use Rattle.fax_core.specs.Queue.{empty_queue}
+use Rattle.fax_tables.specs.Schema as schema
+use Rattle.sqlite.specs.Steps.{IsEmpty}
+use Rattle.fax_tables.specs.Schema.{no_tables, six_tables}
+use Rattle.fax_tables.specs.Row.{meta_row}
+use Rattle.fax_tables.specs.Tables.{IsAtRest, HasEmptyTables}
+use Rattle.fax_tables.specs.Tables.{IsByRowid}
+use Rattle.fax_tables.proofs.CreateTexts.{Makes}
+use Rattle.fax_tables.proofs.CompareLemmas.{same_row, cast_int, cast_null}
+use Rattle.fax_tables.proofs.CreateTexts.{insert_meta}
+use Rattle.fax_tables.proofs.WriteLemmas.{went, unreferred, inserts}
+
+-- a disk that is clean at the end was clean before
+pub clean_before : (old new : State) → doubt old.is_clean ≤ doubt new.is_clean → HasCleanDisk new → HasCleanDisk old
+clean_before old new kept clean = omega arith
+
+same_ok : {A E : Type 0} {a b : A} → ◌≡◌ {A = Result A E} (Ok a) (Ok b) → a ≡ b
+same_ok e = cc
+
+still_empty : (tables : List Table) (old new : Trees) → KeepsRows tables old new → AllByRecursion (λ t. old t.tree ≡ []) tables → AllByRecursion (λ t. new t.tree ≡ []) tables
+still_empty [] old new kept empty = tt
+still_empty (t ∷ ts) old new kept empty = (kept.0 ∙ empty.0, still_empty ts old new kept.1 empty.1)
+
+one_more : (tables : List Table) (new : Trees) (t : Table) → new t.tree ≡ [] → AllByRecursion (λ t. new t.tree ≡ []) tables → AllByRecursion (λ t. new t.tree ≡ []) (tables ++ t ∷ [])
+one_more [] new t own all = (own, tt)
+one_more (x ∷ xs) new t own all = (all.0, one_more xs new t own all.1)
+
+-- one more table, with no rows
+pub made : (old new : State) (before after : Schema) (sql : List ℕ) (table : Table) (count : ℕ) → Makes before sql table → created before table ≡ after → lacks_sequence after ≡ false
+    → Executes sql [] old new (Ok count) → HasEmptyTables before old → HasEmptyTables after new
+made old new before after sql table count makes is none h was =
+    let ran = runs_as sql [] old new before was.schema_is CreateTable makes.command makes.plain count h in
+    let on = went ran.changed in
+    let it = went on.1 in
+    let now : new.now ≡ on.0 = ap (λ p. p.1) (same_ok on.2) in
+    let text = ap table_defined_by makes.statement ∙ makes.defined in
+    let defined : it.1.table ≡ record table { tree = 0 } = same_ok (sym it.1.defined ∙ text) in
+    let schema_is : it.0.schema ≡ after = it.1.is ∙ ap₂ created was.schema_is defined ∙ is in
+    let rest : on.0 ≡ it.0 = same_ok (subst (λ b. MatchBool b (MakesTable sequence_text it.0 (Ok on.0)) (◌≡◌ {A = Outcome Database} (Ok on.0) (Ok it.0))) (ap lacks_sequence schema_is ∙ none) it.2) in
+    let made_is : new.now ≡ it.0 = now ∙ rest in
+    let fresh : new.now.trees (next_tree before) ≡ [] = ap (λ d. d.trees (next_tree before)) made_is ∙ ap it.0.trees (ap next_tree (sym was.schema_is)) ∙ it.1.empty in
+    let kept : KeepsRows before.tables old.now.trees new.now.trees = subst₂ (λ ts d. KeepsRows ts old.now.trees d.trees) (ap (λ s. s.tables) was.schema_is) (sym made_is) it.1.others in
+    let all = one_more before.tables new.now.trees (record table { tree = next_tree before }) fresh (still_empty before.tables old.now.trees new.now.trees kept was.empty) in
+    let mode = ran.shown.mode ∙ was.autocommit in
+    record {
+      autocommit = mode;
+      settled = ran.shown.now_is ∙ sym (ran.shown.committed_is ∙ ap (λ b. if b then old.committed else new.now) was.autocommit);
+      schema_is = ap (λ d. d.schema) made_is ∙ schema_is;
+      empty = subst (λ s. AllByRecursion (λ t. new.now.trees t.tree ≡ []) s.tables) is all;
+    }
+
+stored_meta : cast_row schema.meta (meta_row empty_queue) ≡ meta_row empty_queue
+stored_meta = same_row (cast_int (pos 1)) (same_row cast_null (same_row (cast_int (pos 0)) (same_row (cast_int (pos 1)) (same_row (cast_int (pos 1)) (same_row (cast_int (pos 1)) refl)))))
+
+-- the one row of meta makes the empty store of empty tables
+pub filled : (old new : State) (count : ℕ) → Executes INSERT_META.now [] old new (Ok count) → HasEmptyTables six_tables old → IsAtRest new empty_queue []
+filled old new count h was =
+    let ran = runs_as INSERT_META.now [] old new six_tables was.schema_is _ insert_meta.is insert_meta.plain count h in
+    let done = inserts six_tables unreferred schema.meta.name 10 schema.meta.columns schema.meta.key schema.meta.primary schema.meta.uniques schema.meta.orders schema.meta.checks 5 refl old new was.schema_is [] _ count
+    _ 6 (meta_row empty_queue) (meta_row empty_queue) refl (ap (with_rowid Chosen (old.now.trees 10)) stored_meta) ran in
+    let others = done.keeps.others in
+    let jobs = others.0 (λ e. absurd (omega arith)) ∙ was.empty.0 in
+    let grants = others.1.0 (λ e. absurd (omega arith)) ∙ was.empty.1.0 in
+    let holds = others.1.1.0 (λ e. absurd (omega arith)) ∙ was.empty.1.1.0 in
+    let down = others.1.1.1.0 (λ e. absurd (omega arith)) ∙ was.empty.1.1.1.0 in
+    let replies = others.1.1.1.1.0 (λ e. absurd (omega arith)) ∙ was.empty.1.1.1.1.0 in
+    record {
+      autocommit = done.keeps.shown.mode ∙ was.autocommit;
+      settled = done.keeps.shown.now_is ∙ sym (done.keeps.shown.committed_is ∙ ap (λ b. if b then old.committed else new.now) was.autocommit);
+      means = record {
+        schema = done.keeps.schema_is;
+        sound = done.keeps.sound;
+        jobs = jobs;
+        grants = grants;
+        holds = subst (λ rows. IsPermutation [] (map (drop 1) rows)) (sym holds) (IsPermutation-refl []);
+        down = ap (map (drop 1)) down;
+        replies = ap (map (drop 1)) replies;
+        meta = done.rows ∙ ap (put_row (meta_row empty_queue)) was.empty.1.1.1.1.1.0;
+        ordered = record { jobs = rows_none _ jobs; grants = rows_none _ grants; holds = rows_none _ holds; down = rows_none _ down; replies = rows_none _ replies };
+        lawful = record {
+          jobs = λ i d low. absurd (omega arith);
+          grants = λ i d low. absurd (omega arith);
+          down = λ i d low. absurd (omega arith);
+          replies = λ i d low. absurd (omega arith);
+          meta = record { clock = omega arith; next_job = (omega arith, omega arith); next_grant = (omega arith, omega arith) };
+        };
+      };
+    }
+  where
+    rows_none : (rows : List Row) → rows ≡ [] → IsByRowid rows
+    rows_none rows none = subst IsByRowid (sym none) (record { rise = tt; integers = tt })
+
+-- a new database has no tables
+pub empty_at_first : (s : State) → IsEmpty s → HasEmptyTables no_tables s
+empty_at_first s h = record { autocommit = h.0.autocommit; settled = h.0.clean; schema_is = h.2; empty = tt }

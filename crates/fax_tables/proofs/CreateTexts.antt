@@ -1,0 +1,76 @@
+-- What the texts that make the tables mean.
+use Rattle.std.proofs.Common.{◌≡◌, List, ℕ, pos, [], ◌∷◌, Ok, refl}
+use Rattle.sqlite.specs.Command.TheVariants.{CreateTable, Insert}
+use Rattle.sqlite.specs.Compile.{table_defined_by}
+use Rattle.sqlite.specs.Listing.{understood}
+use Rattle.sqlite.specs.Source.TheVariants.{Values}
+use Rattle.sqlite.specs.declared.types.Value.TheVariants.{Null, Int}
+use Rattle.sqlite_sql.specs.Term.{lit}
+use Rattle.sqlite.proofs.Callers.{IsPlain, command_of, statement_of}
+use Rattle.sqlite_schema.specs.declared.schema.Table.{Table}
+use Rattle.sqlite_schema.specs.declared.schema.Schema.{Schema}
+use Rattle.sqlite_catalog.specs.Change.{created}
+use Rattle.sqlite_tied.specs.Compute.{everything}
+use Rattle.fax_tables.specs.declared.schema.TheConstants.{CREATE_JOBS, CREATE_GRANTS, CREATE_HOLDS, CREATE_DOWN, CREATE_REPLIES, CREATE_META, INSERT_META}
+use Rattle.fax_tables.proofs.StatementForms.{Commands}
+use Rattle.fax_tables.specs.Schema.{no_tables, with_jobs, with_grants, with_holds, four_tables, with_replies, six_tables, jobs, grants, holds, down, replies, meta}
+
+-- the text makes this table in any database with this schema
+pub record Makes (schema : Schema) (sql : List ℕ) (table : Table) : Type 0 where
+  pub command : command_of (understood schema sql) ≡ CreateTable
+  pub statement : statement_of sql (understood schema sql) ≡ sql
+  pub defined : table_defined_by sql ≡ Ok (record table { tree = 0 })
+  pub plain : IsPlain (understood schema sql)
+
+pub makes_jobs : Makes no_tables CREATE_JOBS.now jobs
+unfolding understood everything
+makes_jobs = record { command = refl; statement = refl; defined = refl; plain = (refl, refl) }
+
+pub created_jobs : created no_tables jobs ≡ with_jobs
+unfolding everything
+created_jobs = refl
+
+pub makes_grants : Makes with_jobs CREATE_GRANTS.now grants
+unfolding understood everything
+makes_grants = record { command = refl; statement = refl; defined = refl; plain = (refl, refl) }
+
+pub created_grants : created with_jobs grants ≡ with_grants
+unfolding everything
+created_grants = refl
+
+pub makes_holds : Makes with_grants CREATE_HOLDS.now holds
+unfolding understood everything
+makes_holds = record { command = refl; statement = refl; defined = refl; plain = (refl, refl) }
+
+pub created_holds : created with_grants holds ≡ with_holds
+unfolding everything
+created_holds = refl
+
+pub makes_down : Makes with_holds CREATE_DOWN.now down
+unfolding understood everything
+makes_down = record { command = refl; statement = refl; defined = refl; plain = (refl, refl) }
+
+pub created_down : created with_holds down ≡ four_tables
+unfolding everything
+created_down = refl
+
+pub makes_replies : Makes four_tables CREATE_REPLIES.now replies
+unfolding understood everything
+makes_replies = record { command = refl; statement = refl; defined = refl; plain = (refl, refl) }
+
+pub created_replies : created four_tables replies ≡ with_replies
+unfolding everything
+created_replies = refl
+
+pub makes_meta : Makes with_replies CREATE_META.now meta
+unfolding understood everything
+makes_meta = record { command = refl; statement = refl; defined = refl; plain = (refl, refl) }
+
+pub created_meta : created with_replies meta ≡ six_tables
+unfolding everything
+created_meta = refl
+
+pub insert_meta : Commands INSERT_META.now
+    (Insert 5 (Values (lit (Int (pos 1)) ∷ lit Null ∷ lit (Int (pos 0)) ∷ lit (Int (pos 1)) ∷ lit (Int (pos 1)) ∷ lit (Int (pos 1)) ∷ []) 6))
+unfolding understood everything
+insert_meta = record { is = refl; plain = (refl, refl) }

@@ -1,0 +1,95 @@
+-- What a row of a job's columns has in each place.
+use Rattle.std.proofs.Common.{◌≡◌, ℕ, [], ◌∷◌, unwrap_or, ◌<◌, ◌≤◌, ◌^◌, true, List, Option, length, leb, refl, sym, ap, subst, ◌∙◌, arith}
+use Rattle.std.proofs.lemmas.Bool.{and_parts, leb-true}
+use Rattle.sqlite.specs.Order.{Row, column}
+use Rattle.sqlite.specs.declared.types.Value.{Value}
+use Rattle.fax_job.specs.declared.job.JobFields.{JobFields}
+use Rattle.fax_job.specs.Job.{is_lawful_killtime, IsLawful}
+use Rattle.fax_job.specs.Pair.{Pair}
+use Rattle.fax_job.specs.declared.job.Phase.{Phase}
+use Rattle.fax_job.specs.declared.job.Wish.{Wish}
+use Rattle.fax_tables.specs.Job.{job_shown}
+use Rattle.fax_tables.specs.Row.{HasValue, HasNumber, number, phase_number, wish_number}
+use Rattle.fax_job.specs.Spelling.{printed}
+use Rattle.sqlite.specs.declared.types.Value.TheVariants.{Text}
+
+pub has_value : (row shown : Row) (at : ℕ) (v : Value) → row ≡ shown → at < length shown → column shown at ≡ v → HasValue row at v
+has_value row shown at v is within there = record { within = subst (λ r. at < length r) (sym is) within; is = ap (λ r. column r at) is ∙ there }
+
+pub has_number : (row shown : Row) (at n : ℕ) → row ≡ shown → at < length shown → column shown at ≡ number n → HasNumber row at n
+has_number row shown at n is within there = has_value row shown at (number n) is within there
+
+-- the numbers of a lawful job fit their columns
+pub record Fits (job : JobFields) : Type 0 where
+  pub number : job.job < 2 ^ 32
+  pub npages : job.npages < 2 ^ 16
+  pub totpages : job.totpages < 2 ^ 16
+  pub ntries : job.ntries < 2 ^ 16
+  pub tottries : job.tottries < 2 ^ 16
+  pub maxtries : job.maxtries < 2 ^ 16
+  pub ndials : job.ndials < 2 ^ 16
+  pub totdials : job.totdials < 2 ^ 16
+  pub maxdials : job.maxdials < 2 ^ 16
+  pub next : job.next < 2 ^ 32
+
+pub fits : (job : JobFields) → IsLawful job → Fits job
+fits job h =
+    let unknown = and_parts _ _ h in
+    let next = and_parts _ _ unknown.0 in
+    let dials = and_parts _ _ next.0 in
+    let tries = and_parts _ _ dials.0 in
+    let pages = and_parts _ _ tries.0 in
+    let killtime = and_parts _ _ pages.0 in
+    let number = and_parts (leb 1 job.job) (leb job.job 999999) killtime.0 in
+    let p = and_parts _ _ pages.1 in
+    let p0 = and_parts _ _ p.0 in
+    let t = and_parts _ _ tries.1 in
+    let t0 = and_parts _ _ t.0 in
+    let t1 = and_parts _ _ t0.0 in
+    let d = and_parts _ _ dials.1 in
+    let d0 = and_parts _ _ d.0 in
+    let d1 = and_parts _ _ d0.0 in
+    record {
+      number = let a = leb-true _ _ number.1 in omega arith;
+      npages = let a = leb-true job.npages job.totpages p0.0 in let b = leb-true job.totpages 9999 p.1 in omega arith;
+      totpages = let b = leb-true job.totpages 9999 p.1 in omega arith;
+      ntries = let a = leb-true job.ntries job.tottries t1.0 in let b = leb-true job.tottries job.maxtries t1.1 in let e = leb-true job.maxtries 1000 t.1 in omega arith;
+      tottries = let b = leb-true job.tottries job.maxtries t1.1 in let e = leb-true job.maxtries 1000 t.1 in omega arith;
+      maxtries = let e = leb-true job.maxtries 1000 t.1 in omega arith;
+      ndials = let a = leb-true job.ndials job.totdials d1.0 in let b = leb-true job.totdials job.maxdials d1.1 in let e = leb-true job.maxdials 1000 d.1 in omega arith;
+      totdials = let b = leb-true job.totdials job.maxdials d1.1 in let e = leb-true job.maxdials 1000 d.1 in omega arith;
+      maxdials = let e = leb-true job.maxdials 1000 d.1 in omega arith;
+      next = let a = leb-true job.next 4102531200 next.1 in omega arith;
+    }
+
+pub killtime_of : (job : JobFields) → IsLawful job → is_lawful_killtime job.killtime ≡ true
+killtime_of job h = (and_parts _ _ (and_parts _ _ (and_parts _ _ (and_parts _ _ (and_parts _ _ (and_parts _ _ h).0).0).0).0).0).1
+
+pub same_fields : (j : JobFields) (job : ℕ) (dial : List ℕ) (modem : List ℕ) (jobtag : List ℕ) (tts : ℕ) (killtime : Option ℕ) (priority : ℕ) (npages : ℕ) (totpages : ℕ) (ntries : ℕ) (tottries : ℕ) (maxtries : ℕ) (ndials : ℕ) (totdials : ℕ) (maxdials : ℕ) (phase : Phase) (wish : Wish) (next : ℕ) (status : List ℕ) (extra : List Pair)
+    → job ≡ j.job → dial ≡ j.dial → modem ≡ j.modem → jobtag ≡ j.jobtag → tts ≡ j.tts → killtime ≡ j.killtime → priority ≡ j.priority → npages ≡ j.npages → totpages ≡ j.totpages → ntries ≡ j.ntries → tottries ≡ j.tottries → maxtries ≡ j.maxtries → ndials ≡ j.ndials → totdials ≡ j.totdials → maxdials ≡ j.maxdials → phase ≡ j.phase → wish ≡ j.wish → next ≡ j.next → status ≡ j.status → extra ≡ j.extra
+    → ◌≡◌ {A = JobFields} (record { job = job; dial = dial; modem = modem; jobtag = jobtag; tts = tts; killtime = killtime; priority = priority; npages = npages; totpages = totpages; ntries = ntries; tottries = tottries; maxtries = maxtries; ndials = ndials; totdials = totdials; maxdials = maxdials; phase = phase; wish = wish; next = next; status = status; extra = extra }) j
+same_fields j job dial modem jobtag tts killtime priority npages totpages ntries tottries maxtries ndials totdials maxdials phase wish next status extra e0 e1 e2 e3 e4 e5 e6 e7 e8 e9 e10 e11 e12 e13 e14 e15 e16 e17 e18 e19 = rw (e0, e1, e2, e3, e4, e5, e6, e7, e8, e9, e10, e11, e12, e13, e14, e15, e16, e17, e18, e19) refl
+
+-- what a change of a job is told
+abbrev pub change_params : JobFields → Row
+change_params f =
+    number f.job ∷ Text f.modem ∷ Text f.jobtag ∷ Text f.status ∷ number f.tts ∷ number (unwrap_or f.killtime 0) ∷ number f.priority ∷ number f.npages ∷ number f.ntries ∷ number f.tottries ∷ number f.maxtries
+    ∷ number f.ndials ∷ number f.totdials ∷ number f.maxdials ∷ number (phase_number f.phase) ∷ number (wish_number f.wish) ∷ number f.next ∷ []
+
+-- values that are those of a job are its row
+pub shown_by : (j : JobFields) (dial modem jobtag status extra : List ℕ) (tts killtime priority npages totpages ntries tottries maxtries ndials totdials maxdials phase wish : ℕ)
+    → dial ≡ j.dial → modem ≡ j.modem → jobtag ≡ j.jobtag → status ≡ j.status → extra ≡ printed j.extra → tts ≡ j.tts → killtime ≡ unwrap_or j.killtime 0 → priority ≡ j.priority → npages ≡ j.npages → totpages ≡ j.totpages → ntries ≡ j.ntries → tottries ≡ j.tottries → maxtries ≡ j.maxtries → ndials ≡ j.ndials → totdials ≡ j.totdials → maxdials ≡ j.maxdials → phase ≡ phase_number j.phase → wish ≡ wish_number j.wish
+    → number j.job ∷ Text dial ∷ Text modem ∷ Text jobtag ∷ Text status ∷ Text extra ∷ number tts ∷ number killtime ∷ number priority ∷ number npages ∷ number totpages ∷ number ntries ∷ number tottries ∷ number maxtries ∷ number ndials ∷ number totdials ∷ number maxdials ∷ number phase ∷ number wish ∷ number j.next ∷ [] ≡ job_shown j
+shown_by j dial modem jobtag status extra tts killtime priority npages totpages ntries tottries maxtries ndials totdials maxdials phase wish e0 e1 e2 e3 e4 e5 e6 e7 e8 e9 e10 e11 e12 e13 e14 e15 e16 e17 = rw (e0, e1, e2, e3, e4, e5, e6, e7, e8, e9, e10, e11, e12, e13, e14, e15, e16, e17) refl
+
+-- values that are those of a job are what a change of it is told
+pub changed_by : (j : JobFields) (modem jobtag status : List ℕ) (tts killtime priority npages ntries tottries maxtries ndials totdials maxdials phase wish : ℕ)
+    → modem ≡ j.modem → jobtag ≡ j.jobtag → status ≡ j.status → tts ≡ j.tts → killtime ≡ unwrap_or j.killtime 0 → priority ≡ j.priority → npages ≡ j.npages → ntries ≡ j.ntries → tottries ≡ j.tottries → maxtries ≡ j.maxtries → ndials ≡ j.ndials → totdials ≡ j.totdials → maxdials ≡ j.maxdials → phase ≡ phase_number j.phase → wish ≡ wish_number j.wish
+    → number j.job ∷ Text modem ∷ Text jobtag ∷ Text status ∷ number tts ∷ number killtime ∷ number priority ∷ number npages ∷ number ntries ∷ number tottries ∷ number maxtries ∷ number ndials ∷ number totdials ∷ number maxdials ∷ number phase ∷ number wish ∷ number j.next ∷ [] ≡ change_params j
+changed_by j modem jobtag status tts killtime priority npages ntries tottries maxtries ndials totdials maxdials phase wish e0 e1 e2 e3 e4 e5 e6 e7 e8 e9 e10 e11 e12 e13 e14 = rw (e0, e1, e2, e3, e4, e5, e6, e7, e8, e9, e10, e11, e12, e13, e14) refl
+
+pub sent_low : (job : JobFields) → IsLawful job → job.npages ≤ job.totpages
+sent_low job h =
+    let pages = and_parts _ _ (and_parts _ _ (and_parts _ _ (and_parts _ _ (and_parts _ _ h).0).0).0).0 in
+    let low = and_parts _ _ (and_parts _ _ pages.1).0 in
+    leb-true job.npages job.totpages low.0

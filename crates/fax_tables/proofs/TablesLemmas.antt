@@ -1,0 +1,201 @@
+-- What the rows of each table mean, and that they still do where another table changed.
+use Rattle.std.proofs.Common.{◌≡◌, ◌≤◌, ℕ, List, [], ◌∷◌, ◌++◌, map, drop, All, IsTrue, refl, sym, ap, subst, ◌∙◌, arith}
+use Rattle.std.specs.List.Sorted.{IsPermutation}
+use Rattle.std.proofs.lemmas.List.{map-append}
+use Rattle.std.proofs.lemmas.List.Elements.{All-append, All-cons}
+use Rattle.sqlite.specs.Edit.{next_rowid}
+use Rattle.sqlite.specs.Tree.{rowid, put_row}
+use Rattle.sqlite.specs.View.{is_int}
+use Rattle.sqlite.specs.declared.types.Value.TheVariants.{Int}
+use Rattle.sqlite_trees.proofs.TreeLemmas.{IsTable-put_row, all-put_row}
+use Rattle.sqlite.specs.Order.{Row}
+use Rattle.sqlite.specs.Effect.{Database, IsDatabase}
+use Rattle.sqlite.specs.State.{State}
+use Rattle.fax_core.specs.Job.{Job, fields_of}
+use Rattle.fax_core.specs.Queue.{Queue, Entry, open_grants}
+use Rattle.fax_core.specs.declared.grants.Grant.{Grant}
+use Rattle.fax_job.specs.Name.{IsName}
+use Rattle.fax_tables.specs.Schema.{six_tables}
+use Rattle.fax_tables.specs.Job.{IsLawfulJob}
+use Rattle.fax_tables.specs.Row.{job_row, grant_row, hold_columns, down_columns, entry_columns, meta_row}
+use Rattle.fax_tables.specs.Tables.{TablesMean, IsLawfulGrant, IsLawfulMeta, IsLawfulEntry, IsByRowid}
+use Rattle.fax_tables.proofs.AppendLemmas.{appended}
+use Rattle.fax_tables.proofs.WriteLemmas.{KeepsOthers}
+
+abbrev pub row_of : Job → Row
+row_of j = job_row (fields_of j)
+
+-- lawful records in rows by number
+pub record AreRecords {X : Type 0} (row : X → Row) (Lawful : X → Type 0) (rows : List Row) (xs : List X) : Type 0 where
+  pub is : rows ≡ map row xs
+  pub ordered : IsByRowid rows
+  pub lawful : All Lawful xs
+
+-- the same in a table whose rowids say nothing
+pub record AreColumns {X : Type 0} (columns : X → Row) (Lawful : X → Type 0) (rows : List Row) (xs : List X) : Type 0 where
+  pub is : map (drop 1) rows ≡ map columns xs
+  pub ordered : IsByRowid rows
+  pub lawful : All Lawful xs
+
+-- the open grants, in any order
+pub record AreHeld (rows : List Row) (held : List Grant) : Type 0 where
+  pub is : IsPermutation (map hold_columns held) (map (drop 1) rows)
+  pub ordered : IsByRowid rows
+
+-- a row that is put among them
+pub by_rowid_put : (row : Row) (rows : List Row) → IsTrue (is_int (rowid row)) → IsByRowid rows → IsByRowid (put_row row rows)
+by_rowid_put row rows keyed by = record {
+  rise = IsTable-put_row row rows by.rise;
+  integers = all-put_row (λ r. IsTrue (is_int (rowid r))) row rows keyed by.integers;
+}
+
+-- one more row, whose rowid is chosen
+pub one_more : {X : Type 0} (columns : X → Row) (Lawful : X → Type 0) (x : X) (xs : List X) (rows after : List Row) → after ≡ put_row (Int (next_rowid rows) ∷ columns x) rows → Lawful x → AreColumns columns Lawful rows xs
+    → AreColumns columns Lawful after (xs ++ x ∷ [])
+one_more columns Lawful x xs rows after is lawful was = record {
+  is = ap (map (drop 1)) is ∙ appended rows (columns x) was.ordered.integers was.ordered.rise ∙ ap (λ all. all ++ columns x ∷ []) was.is ∙ sym (map-append columns xs (x ∷ []));
+  ordered = subst IsByRowid (sym is) (by_rowid_put (Int (next_rowid rows) ∷ columns x) rows refl was.ordered);
+  lawful = All-append Lawful xs (x ∷ []) was.lawful (All-cons Lawful x [] lawful (λ i d low. absurd (omega arith)));
+}
+
+-- What `TablesMean` says, table by table. The open grants stand for themselves, for the time between two statements.
+pub record Parts (db : Database) (m : Queue) (held : List Grant) (k : List Entry) : Type 0 where
+  pub schema : db.schema ≡ six_tables
+  pub sound : IsDatabase db
+  pub jobs : AreRecords row_of IsLawfulJob (db.trees 0) m.jobs
+  pub grants : AreRecords grant_row IsLawfulGrant (db.trees 1) m.grants
+  pub holds : AreHeld (db.trees 2) held
+  pub down : AreColumns down_columns IsName (db.trees 6) m.down
+  pub replies : AreColumns entry_columns IsLawfulEntry (db.trees 8) k
+  pub meta : db.trees 10 ≡ meta_row m ∷ []
+  pub lawful : IsLawfulMeta m
+
+-- other grants whose triples are those that stand there
+pub held_as : (db : Database) (m : Queue) (held others : List Grant) (k : List Entry) → AreHeld (db.trees 2) others → Parts db m held k → Parts db m others k
+held_as db m held others k holds parts = record {
+  schema = parts.schema;
+  sound = parts.sound;
+  jobs = parts.jobs;
+  grants = parts.grants;
+  holds = holds;
+  down = parts.down;
+  replies = parts.replies;
+  meta = parts.meta;
+  lawful = parts.lawful;
+}
+
+pub parts_of : (db : Database) (m : Queue) (k : List Entry) → TablesMean db m k → Parts db m (open_grants m) k
+parts_of db m k means = record {
+  schema = means.schema;
+  sound = means.sound;
+  jobs = record { is = means.jobs; ordered = means.ordered.jobs; lawful = means.lawful.jobs };
+  grants = record { is = means.grants; ordered = means.ordered.grants; lawful = means.lawful.grants };
+  holds = record { is = means.holds; ordered = means.ordered.holds };
+  down = record { is = means.down; ordered = means.ordered.down; lawful = means.lawful.down };
+  replies = record { is = means.replies; ordered = means.ordered.replies; lawful = means.lawful.replies };
+  meta = means.meta;
+  lawful = means.lawful.meta;
+}
+
+pub means_of : (db : Database) (m : Queue) (k : List Entry) → Parts db m (open_grants m) k → TablesMean db m k
+means_of db m k parts = record {
+  schema = parts.schema;
+  sound = parts.sound;
+  jobs = parts.jobs.is;
+  grants = parts.grants.is;
+  holds = parts.holds.is;
+  down = parts.down.is;
+  replies = parts.replies.is;
+  meta = parts.meta;
+  ordered = record { jobs = parts.jobs.ordered; grants = parts.grants.ordered; holds = parts.holds.ordered; down = parts.down.ordered; replies = parts.replies.ordered };
+  lawful = record { jobs = parts.jobs.lawful; grants = parts.grants.lawful; down = parts.down.lawful; replies = parts.replies.lawful; meta = parts.lawful };
+}
+
+-- the same numbers of another queue
+lawful_as : (m after : Queue) → after.clock ≡ m.clock → after.next_job ≡ m.next_job → after.next_grant ≡ m.next_grant → IsLawfulMeta m → IsLawfulMeta after
+lawful_as m after clock next_job next_grant lawful = record {
+  clock = subst (λ n. n ≤ 4102444800) (sym clock) lawful.clock;
+  next_job = subst (λ n. (1 ≤ n) × (n ≤ 1000000)) (sym next_job) lawful.next_job;
+  next_grant = subst (λ n. (1 ≤ n) × (n ≤ 1000000000)) (sym next_grant) lawful.next_grant;
+}
+
+-- one table changed, and what its rows mean now is known
+module _ (old new : State) (m : Queue) (held : List Grant) (k : List Entry) (was : Parts old.now m held k) where
+  pub jobs_changed : KeepsOthers six_tables 0 old new → (jobs : List Job) → AreRecords row_of IsLawfulJob (new.now.trees 0) jobs → Parts new.now (record m { jobs = jobs }) held k
+  jobs_changed keeps jobs now = let same = keeps.others in record {
+    schema = keeps.schema_is;
+    sound = keeps.sound;
+    jobs = now;
+    grants = subst (λ rows. AreRecords grant_row IsLawfulGrant rows m.grants) (sym (same.1.0 (λ e. absurd (omega arith)))) was.grants;
+    holds = subst (λ rows. AreHeld rows held) (sym (same.1.1.0 (λ e. absurd (omega arith)))) was.holds;
+    down = subst (λ rows. AreColumns down_columns IsName rows m.down) (sym (same.1.1.1.0 (λ e. absurd (omega arith)))) was.down;
+    replies = subst (λ rows. AreColumns entry_columns IsLawfulEntry rows k) (sym (same.1.1.1.1.0 (λ e. absurd (omega arith)))) was.replies;
+    meta = same.1.1.1.1.1.0 (λ e. absurd (omega arith)) ∙ was.meta;
+    lawful = lawful_as m (record m { jobs = jobs }) refl refl refl was.lawful;
+  }
+
+  pub grants_changed : KeepsOthers six_tables 1 old new → (grants : List Grant) → AreRecords grant_row IsLawfulGrant (new.now.trees 1) grants → Parts new.now (record m { grants = grants }) held k
+  grants_changed keeps grants now = let same = keeps.others in record {
+    schema = keeps.schema_is;
+    sound = keeps.sound;
+    jobs = subst (λ rows. AreRecords row_of IsLawfulJob rows m.jobs) (sym (same.0 (λ e. absurd (omega arith)))) was.jobs;
+    grants = now;
+    holds = subst (λ rows. AreHeld rows held) (sym (same.1.1.0 (λ e. absurd (omega arith)))) was.holds;
+    down = subst (λ rows. AreColumns down_columns IsName rows m.down) (sym (same.1.1.1.0 (λ e. absurd (omega arith)))) was.down;
+    replies = subst (λ rows. AreColumns entry_columns IsLawfulEntry rows k) (sym (same.1.1.1.1.0 (λ e. absurd (omega arith)))) was.replies;
+    meta = same.1.1.1.1.1.0 (λ e. absurd (omega arith)) ∙ was.meta;
+    lawful = lawful_as m (record m { grants = grants }) refl refl refl was.lawful;
+  }
+
+  pub holds_changed : KeepsOthers six_tables 2 old new → (now_held : List Grant) → AreHeld (new.now.trees 2) now_held → Parts new.now m now_held k
+  holds_changed keeps now_held now = let same = keeps.others in record {
+    schema = keeps.schema_is;
+    sound = keeps.sound;
+    jobs = subst (λ rows. AreRecords row_of IsLawfulJob rows m.jobs) (sym (same.0 (λ e. absurd (omega arith)))) was.jobs;
+    grants = subst (λ rows. AreRecords grant_row IsLawfulGrant rows m.grants) (sym (same.1.0 (λ e. absurd (omega arith)))) was.grants;
+    holds = now;
+    down = subst (λ rows. AreColumns down_columns IsName rows m.down) (sym (same.1.1.1.0 (λ e. absurd (omega arith)))) was.down;
+    replies = subst (λ rows. AreColumns entry_columns IsLawfulEntry rows k) (sym (same.1.1.1.1.0 (λ e. absurd (omega arith)))) was.replies;
+    meta = same.1.1.1.1.1.0 (λ e. absurd (omega arith)) ∙ was.meta;
+    lawful = was.lawful;
+  }
+
+  pub down_changed : KeepsOthers six_tables 6 old new → (down : List (List ℕ)) → AreColumns down_columns IsName (new.now.trees 6) down → Parts new.now (record m { down = down }) held k
+  down_changed keeps down now = let same = keeps.others in record {
+    schema = keeps.schema_is;
+    sound = keeps.sound;
+    jobs = subst (λ rows. AreRecords row_of IsLawfulJob rows m.jobs) (sym (same.0 (λ e. absurd (omega arith)))) was.jobs;
+    grants = subst (λ rows. AreRecords grant_row IsLawfulGrant rows m.grants) (sym (same.1.0 (λ e. absurd (omega arith)))) was.grants;
+    holds = subst (λ rows. AreHeld rows held) (sym (same.1.1.0 (λ e. absurd (omega arith)))) was.holds;
+    down = now;
+    replies = subst (λ rows. AreColumns entry_columns IsLawfulEntry rows k) (sym (same.1.1.1.1.0 (λ e. absurd (omega arith)))) was.replies;
+    meta = same.1.1.1.1.1.0 (λ e. absurd (omega arith)) ∙ was.meta;
+    lawful = lawful_as m (record m { down = down }) refl refl refl was.lawful;
+  }
+
+  pub replies_changed : KeepsOthers six_tables 8 old new → (kept : List Entry) → AreColumns entry_columns IsLawfulEntry (new.now.trees 8) kept → Parts new.now m held kept
+  replies_changed keeps kept now = let same = keeps.others in record {
+    schema = keeps.schema_is;
+    sound = keeps.sound;
+    jobs = subst (λ rows. AreRecords row_of IsLawfulJob rows m.jobs) (sym (same.0 (λ e. absurd (omega arith)))) was.jobs;
+    grants = subst (λ rows. AreRecords grant_row IsLawfulGrant rows m.grants) (sym (same.1.0 (λ e. absurd (omega arith)))) was.grants;
+    holds = subst (λ rows. AreHeld rows held) (sym (same.1.1.0 (λ e. absurd (omega arith)))) was.holds;
+    down = subst (λ rows. AreColumns down_columns IsName rows m.down) (sym (same.1.1.1.0 (λ e. absurd (omega arith)))) was.down;
+    replies = now;
+    meta = same.1.1.1.1.1.0 (λ e. absurd (omega arith)) ∙ was.meta;
+    lawful = was.lawful;
+  }
+
+  pub meta_changed : KeepsOthers six_tables 10 old new → (clock next_job next_grant : ℕ) → new.now.trees 10 ≡ meta_row (record m { clock = clock; next_job = next_job; next_grant = next_grant }) ∷ []
+      → IsLawfulMeta (record m { clock = clock; next_job = next_job; next_grant = next_grant }) → Parts new.now (record m { clock = clock; next_job = next_job; next_grant = next_grant }) held k
+  meta_changed keeps clock next_job next_grant now lawful = let same = keeps.others in record {
+    schema = keeps.schema_is;
+    sound = keeps.sound;
+    jobs = subst (λ rows. AreRecords row_of IsLawfulJob rows m.jobs) (sym (same.0 (λ e. absurd (omega arith)))) was.jobs;
+    grants = subst (λ rows. AreRecords grant_row IsLawfulGrant rows m.grants) (sym (same.1.0 (λ e. absurd (omega arith)))) was.grants;
+    holds = subst (λ rows. AreHeld rows held) (sym (same.1.1.0 (λ e. absurd (omega arith)))) was.holds;
+    down = subst (λ rows. AreColumns down_columns IsName rows m.down) (sym (same.1.1.1.0 (λ e. absurd (omega arith)))) was.down;
+    replies = subst (λ rows. AreColumns entry_columns IsLawfulEntry rows k) (sym (same.1.1.1.1.0 (λ e. absurd (omega arith)))) was.replies;
+    meta = now;
+    lawful = lawful;
+  }

@@ -1,0 +1,13 @@
+-- What a call returns that may want memory.
+use Rattle.std.specs.Prelude.{◌≡◌, Bool, true, false, Result, MatchResult}
+use Rattle.fax_tables.specs.declared.fault.StoreFault.{StoreFault}
+use Rattle.fax_tables.specs.declared.fault.StoreFault.TheVariants.{Unavailable, Strange}
+
+-- a value of which this holds, unless the call was unavailable
+abbrev pub OrUnavailable : {A : Type 0} → Result A StoreFault → (A → Type 0) → Type 0
+OrUnavailable result P = MatchResult result P (λ fault. fault ≡ Unavailable)
+
+-- the fault of a text that doesn't read: want of memory, or no lawful record
+abbrev pub fault_by : Bool → StoreFault
+fault_by true = Unavailable
+fault_by false = Strange

@@ -1,0 +1,84 @@
+-- What a database with the six tables means.
+use Rattle.std.specs.Prelude.{◌≡◌, ◌⊎◌, ℕ, ◌≤◌, ◌<◌, ◌^◌, false, List, [], ◌∷◌, All, map, drop, IsTrue}
+use Rattle.std.specs.List.{AllByRecursion}
+use Rattle.std.specs.List.Sorted.{IsPermutation}
+use Rattle.sqlite.specs.Order.{Row}
+use Rattle.sqlite.specs.Tree.{rowid, IsTable}
+use Rattle.sqlite.specs.View.{is_int}
+use Rattle.sqlite.specs.Effect.{Database, IsDatabase}
+use Rattle.sqlite.specs.State.{State}
+use Rattle.sqlite_schema.specs.declared.schema.Schema.{Schema}
+use Rattle.fax_core.specs.Job.{fields_of}
+use Rattle.fax_core.specs.Queue.{Queue, Entry, open_grants}
+use Rattle.fax_core.specs.declared.grants.Grant.{Grant}
+use Rattle.fax_job.specs.Name.{IsName}
+use Rattle.fax_tables.specs.Grant.{IsWithinLimits}
+use Rattle.fax_tables.specs.Schema.{six_tables}
+use Rattle.fax_tables.specs.Job.{IsLawfulJob}
+use Rattle.fax_tables.specs.Row.{job_row, grant_row, hold_columns, down_columns, entry_columns, meta_row}
+
+pub record IsLawfulGrant (g : Grant) : Type 0 where
+  pub limits : IsWithinLimits g
+  pub modem : IsName g.modem
+
+-- the clock is a moment, and the next numbers are at most one past the last
+pub record IsLawfulMeta (m : Queue) : Type 0 where
+  pub clock : m.clock ≤ 4102444800
+  pub next_job : (1 ≤ m.next_job) × (m.next_job ≤ 1000000)
+  pub next_grant : (1 ≤ m.next_grant) × (m.next_grant ≤ 1000000000)
+
+-- the status of a reply that is kept: OK or Created
+abbrev pub IsKeptStatus : ℕ → Type 0
+IsKeptStatus status = (status ≡ 200) ⊎ (status ≡ 201)
+
+pub record IsLawfulEntry (e : Entry) : Type 0 where
+  pub client : IsName e.client
+  pub number : (1 ≤ e.number) × (e.number < 10 ^ 18)
+  pub status : IsKeptStatus e.status
+
+-- every record is lawful
+pub record AreLawful (m : Queue) (k : List Entry) : Type 0 where
+  pub jobs : All IsLawfulJob m.jobs
+  pub grants : All IsLawfulGrant m.grants
+  pub down : All IsName m.down
+  pub replies : All IsLawfulEntry k
+  pub meta : IsLawfulMeta m
+
+-- the rowids rise, and are integers
+pub record IsByRowid (rows : List Row) : Type 0 where
+  pub rise : IsTable rows
+  pub integers : AllByRecursion (λ r. IsTrue (is_int (rowid r))) rows
+
+-- jobs and grants stand by number, and the others, whose rowids say nothing, as they came
+pub record AreByRowid (db : Database) : Type 0 where
+  pub jobs : IsByRowid (db.trees 0)
+  pub grants : IsByRowid (db.trees 1)
+  pub holds : IsByRowid (db.trees 2)
+  pub down : IsByRowid (db.trees 6)
+  pub replies : IsByRowid (db.trees 8)
+
+-- The database has the six tables and obeys their rules. Their rows are the records of the queue and of the kept replies, each of them lawful, and no other row stands in them: `holds` has the open grants, in any order, and `shut` is 0 for just these.
+pub record TablesMean (db : Database) (m : Queue) (k : List Entry) : Type 0 where
+  pub schema : db.schema ≡ six_tables
+  pub sound : IsDatabase db
+  pub jobs : db.trees 0 ≡ map (λ j. job_row (fields_of j)) m.jobs
+  pub grants : db.trees 1 ≡ map grant_row m.grants
+  pub holds : IsPermutation (map hold_columns (open_grants m)) (map (drop 1) (db.trees 2))
+  pub down : map (drop 1) (db.trees 6) ≡ map down_columns m.down
+  pub replies : map (drop 1) (db.trees 8) ≡ map entry_columns k
+  pub meta : db.trees 10 ≡ meta_row m ∷ []
+  pub ordered : AreByRowid db
+  pub lawful : AreLawful m k
+
+-- no work is under way, and the tables mean this
+pub record IsAtRest (s : State) (m : Queue) (k : List Entry) : Type 0 where
+  pub autocommit : s.in_transaction ≡ false
+  pub settled : s.now ≡ s.committed
+  pub means : TablesMean s.now m k
+
+-- no work is under way, and the tables are these, with no rows
+pub record HasEmptyTables (schema : Schema) (s : State) : Type 0 where
+  pub autocommit : s.in_transaction ≡ false
+  pub settled : s.now ≡ s.committed
+  pub schema_is : s.now.schema ≡ schema
+  pub empty : AllByRecursion (λ t. s.now.trees t.tree ≡ []) schema.tables

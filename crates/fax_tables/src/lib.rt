@@ -1,0 +1,19 @@
+//! The six tables of the fax queue in a database of `sqlite`: how they are made, and how each record stands in its row.
+//!
+//! What reads and writes the rows is above, in `fax_store`.
+#![tactic(auto)]
+
+mod fault;
+mod grants;
+mod jobs;
+mod meta;
+mod replies;
+mod row;
+mod schema;
+
+pub use fault::StoreFault;
+pub use grants::{Hold, MOST_PAGES, call_number, grant_in, is_open_grant};
+pub use jobs::{job_in, jobs_in, killtime_number, phase_number, spelling, wish_number};
+pub use meta::{Meta, PAST_GRANTS, PAST_JOBS};
+pub use replies::{Kept, is_kept_status, number_value};
+pub use schema::create_tables;

@@ -1,0 +1,73 @@
+//! The six tables.
+
+ghost use Rattle.std.specs.Prelude.{[], ◌≤◌, OnOk};
+ghost use Rattle.sqlite.specs.Held.{state};
+ghost use Rattle.sqlite.specs.View.{doubt};
+ghost use Rattle.sqlite.specs.State.{HasCleanDisk};
+ghost use Rattle.fax_core.specs.Queue.{empty_queue};
+ghost use Rattle.fax_tables.specs.Schema.{no_tables, four_tables};
+ghost use Rattle.fax_tables.specs.Tables.{IsAtRest, HasEmptyTables};
+
+use sqlite::{Alter, Connection, Error};
+
+const CREATE_JOBS: &str = "CREATE TABLE jobs (job INTEGER PRIMARY KEY NOT NULL, \
+    dial TEXT NOT NULL, modem TEXT NOT NULL, jobtag TEXT NOT NULL, \
+    status TEXT NOT NULL, extra TEXT NOT NULL, tts INTEGER NOT NULL, killtime INTEGER NOT NULL, \
+    priority INTEGER NOT NULL, npages INTEGER NOT NULL, totpages INTEGER NOT NULL, \
+    ntries INTEGER NOT NULL, tottries INTEGER NOT NULL, maxtries INTEGER NOT NULL, \
+    ndials INTEGER NOT NULL, totdials INTEGER NOT NULL, maxdials INTEGER NOT NULL, \
+    phase INTEGER NOT NULL, wish INTEGER NOT NULL, next INTEGER NOT NULL) STRICT";
+
+const CREATE_GRANTS: &str = "CREATE TABLE grants (id INTEGER PRIMARY KEY NOT NULL, \
+    job INTEGER NOT NULL, modem TEXT NOT NULL, first_page INTEGER NOT NULL, \
+    last_page INTEGER NOT NULL, call INTEGER NOT NULL, pages INTEGER NOT NULL, \
+    shut INTEGER NOT NULL) STRICT";
+
+const CREATE_HOLDS: &str = "CREATE TABLE holds (modem TEXT PRIMARY KEY NOT NULL, \
+    job INTEGER NOT NULL UNIQUE, id INTEGER NOT NULL UNIQUE) STRICT";
+
+const CREATE_DOWN: &str = "CREATE TABLE down (modem TEXT PRIMARY KEY NOT NULL) STRICT";
+
+const CREATE_REPLIES: &str = "CREATE TABLE replies (client TEXT NOT NULL, \
+    number INTEGER NOT NULL, said BLOB NOT NULL, status INTEGER NOT NULL, \
+    body BLOB NOT NULL, PRIMARY KEY (client, number)) STRICT";
+
+const CREATE_META: &str = "CREATE TABLE meta (one INTEGER PRIMARY KEY NOT NULL, \
+    clock INTEGER NOT NULL, next_job INTEGER NOT NULL, next_grant INTEGER NOT NULL, \
+    version INTEGER NOT NULL, CHECK (one = 1)) STRICT";
+
+const INSERT_META: &str =
+    "INSERT INTO meta (one, clock, next_job, next_grant, version) VALUES (1, 0, 1, 1, 1)";
+
+/// Makes the six tables in a database without any, with no rows but the one of meta.
+pub fn create_tables<S: Alter>(conn: &mut Connection<S>) -> Result<(), Error>
+    ensures { HasCleanDisk (state S.Store conn.new) → OnOk result (HasEmptyTables no_tables (state S.Store conn.old)
+        → IsAtRest (state S.Store conn.new) empty_queue []) }
+{
+    create_work_tables(conn)?;
+    create_kept_tables(conn)
+}
+
+/// Makes the tables of jobs, grants, holds and modems down.
+fn create_work_tables<S: Alter>(conn: &mut Connection<S>) -> Result<(), Error>
+    ensures { HasCleanDisk (state S.Store conn.new) → OnOk result (HasEmptyTables no_tables (state S.Store conn.old)
+        → HasEmptyTables four_tables (state S.Store conn.new)) }
+{
+    conn.execute(CREATE_JOBS, &[])?;
+    conn.execute(CREATE_GRANTS, &[])?;
+    conn.execute(CREATE_HOLDS, &[])?;
+    conn.execute(CREATE_DOWN, &[])?;
+    Ok(())
+}
+
+/// Makes the tables of replies and of the clock and next numbers, with the row of the latter.
+fn create_kept_tables<S: Alter>(conn: &mut Connection<S>) -> Result<(), Error>
+    ensures made { HasCleanDisk (state S.Store conn.new) → OnOk result (HasEmptyTables four_tables (state S.Store conn.old)
+        → IsAtRest (state S.Store conn.new) empty_queue []) }
+    ensures doubt { doubt (state S.Store conn.old).is_clean ≤ doubt (state S.Store conn.new).is_clean }
+{
+    conn.execute(CREATE_REPLIES, &[])?;
+    conn.execute(CREATE_META, &[])?;
+    conn.execute(INSERT_META, &[])?;
+    Ok(())
+}

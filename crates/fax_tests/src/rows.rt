@@ -1,0 +1,116 @@
+//! Rows that no call of ours writes: what reads them refuses each as strange.
+use fax_tables::{Hold, Kept, Meta, StoreFault, create_tables, grant_in, job_in};
+use sqlite::{Connection, Row};
+use std::alloc::Global;
+use std::test::Fail;
+
+const RECORDS: [&str; 4] = [
+    "INSERT INTO jobs (job, dial, modem, jobtag, status, extra, tts, killtime, priority, npages, \
+        totpages, ntries, tottries, maxtries, ndials, totdials, maxdials, phase, wish, next) \
+        VALUES (1, '5550111', 'any', 'memo', 'Busy', 'x-note:a b\n', 1000, 5000, 127, 1, \
+        3, 0, 1, 12, 2, 4, 12, 2, 2, 77)",
+    "INSERT INTO grants (id, job, modem, first_page, last_page, call, pages, shut) \
+        VALUES (1, 1, 'ttyS0', 2, 3, 0, 0, 0)",
+    "INSERT INTO holds (modem, job, id) VALUES ('ttyS0', 1, 1)",
+    "INSERT INTO replies (client, number, said, status, body) VALUES ('ann', 1, x'2f', 200, x'')",
+];
+
+/// A record of one of the tables.
+#[derive(Clone, Copy)]
+enum Record {
+    Job,
+    Grant,
+    Hold,
+    Numbers,
+    Reply,
+}
+
+/// The query for a record's row.
+fn query_of(record: Record) -> &'static str {
+    match record {
+        Record::Job => {
+            "SELECT job, dial, modem, jobtag, status, extra, tts, killtime, priority, npages, \
+            totpages, ntries, tottries, maxtries, ndials, totdials, maxdials, phase, wish, next \
+            FROM jobs"
+        }
+        Record::Grant => {
+            "SELECT id, job, modem, first_page, last_page, call, pages, shut FROM grants"
+        }
+        Record::Hold => "SELECT id, job FROM holds",
+        Record::Numbers => "SELECT clock, next_job, next_grant FROM meta",
+        Record::Reply => "SELECT said, status, body FROM replies",
+    }
+}
+
+/// The row of a record, once the change has run on tables with one of each.
+fn row_after(alloc: Global, change: &str, record: Record) -> Result<Row, Fail> {
+    let mut conn = Connection::open_in_memory(alloc)?;
+    create_tables(&mut conn)?;
+    for made in RECORDS {
+        conn.execute(made, &[])?;
+    }
+    conn.execute(change, &[])?;
+    Ok(conn.query_row(query_of(record), &[])?)
+}
+
+/// Why the record isn't read from that row, or none where it is.
+fn read_after(alloc: Global, change: &str, record: Record) -> Result<Option<StoreFault>, Fail> {
+    let row = row_after(alloc, change, record)?;
+    Ok(match record {
+        Record::Job => job_in(alloc, &row).err(),
+        Record::Grant => grant_in(alloc, &row).err(),
+        Record::Hold => Hold::in_row(&row).err(),
+        Record::Numbers => Meta::in_row(&row).err(),
+        Record::Reply => Kept::in_row(&row).err(),
+    })
+}
+
+#[test]
+fn rows_within_their_limits_are_read(rt: HostRuntime) -> Result<(), Fail> {
+    for (change, record) in [
+        ("UPDATE jobs SET tts = 4102444800", Record::Job),
+        ("UPDATE jobs SET priority = 255", Record::Job),
+        ("UPDATE jobs SET next = 4102531200", Record::Job),
+        ("UPDATE grants SET job = 999999", Record::Grant),
+        ("UPDATE grants SET last_page = 9999", Record::Grant),
+        ("UPDATE grants SET call = 5", Record::Grant),
+        ("UPDATE holds SET job = 999999", Record::Hold),
+        ("UPDATE meta SET next_job = 1000000", Record::Numbers),
+        ("UPDATE replies SET status = 201", Record::Reply),
+    ] {
+        let fault = read_after(rt.alloc(), change, record)?;
+        assert_eq!(rt; fault, None, "{change}");
+    }
+    Ok(())
+}
+
+#[test]
+fn rows_past_their_limits_are_strange(rt: HostRuntime) -> Result<(), Fail> {
+    for (change, record) in [
+        ("UPDATE jobs SET dial = '555 0111'", Record::Job),
+        ("UPDATE jobs SET dial = 'five'", Record::Job),
+        ("UPDATE jobs SET modem = 'a b'", Record::Job),
+        ("UPDATE jobs SET jobtag = ' x'", Record::Job),
+        ("UPDATE jobs SET status = ' x'", Record::Job),
+        ("UPDATE jobs SET extra = 'x'", Record::Job),
+        ("UPDATE jobs SET tts = 4102444801", Record::Job),
+        ("UPDATE jobs SET priority = 256", Record::Job),
+        ("UPDATE jobs SET npages = 65537", Record::Job),
+        ("UPDATE jobs SET phase = 5", Record::Job),
+        ("UPDATE jobs SET wish = 3", Record::Job),
+        ("UPDATE jobs SET next = 4102531201", Record::Job),
+        ("UPDATE grants SET job = 1000000", Record::Grant),
+        ("UPDATE grants SET modem = ''", Record::Grant),
+        ("UPDATE grants SET last_page = 10000", Record::Grant),
+        ("UPDATE grants SET call = 6", Record::Grant),
+        ("UPDATE grants SET shut = 2", Record::Grant),
+        ("UPDATE holds SET job = 0", Record::Hold),
+        ("UPDATE meta SET next_job = 1000001", Record::Numbers),
+        ("UPDATE meta SET clock = -1", Record::Numbers),
+        ("UPDATE replies SET status = 202", Record::Reply),
+    ] {
+        let fault = read_after(rt.alloc(), change, record)?;
+        assert_eq!(rt; fault, Some(StoreFault::Strange), "{change}");
+    }
+    Ok(())
+}
