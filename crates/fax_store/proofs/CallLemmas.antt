@@ -29,7 +29,7 @@ use Rattle.fax_core.specs.State.{calls_to, is_of_number}
 use Rattle.fax_core.specs.declared.grants.Grant.{Grant}
 use Rattle.fax_store.specs.declared.grants.TheConstants.{SELECT_CALLS}
 use Rattle.fax_tables.specs.Row.{number, hold_columns}
-use Rattle.fax_tables.specs.Schema.{six_tables}
+use Rattle.fax_tables.specs.Schema.{six_tables, holds_tree, jobs_tree}
 use Rattle.fax_tables.specs.Tables.{TablesMean}
 use Rattle.fax_tables.proofs.CompareLemmas.{are_equal, equal_texts, is_number}
 use Rattle.fax_store.proofs.GrantTexts.{call_tests, calls_query, select_calls}
@@ -121,19 +121,19 @@ module _ (dial : List ℕ) where
 
   module _ (old new : State) (m : Queue) (k : List Entry) (means : TablesMean old.now m k) where
     abbrev with_jobs : Row → List Env
-    with_jobs r = flat_map (λ s. cond (list_all (holds (params ∷ r ∷ s ∷ [])) call_tests) ((params ∷ r ∷ s ∷ []) ∷ []) []) (old.now.trees 0)
+    with_jobs r = flat_map (λ s. cond (list_all (holds (params ∷ r ∷ s ∷ [])) call_tests) ((params ∷ r ∷ s ∷ []) ∷ []) []) (old.now.trees jobs_tree)
 
     by_columns : (r : Row) → length (with_jobs r) ≡ count_with m.jobs (drop 1 r)
     by_columns r =
         let pair = λ (s : Row). list_all (holds (params ∷ r ∷ s ∷ [])) call_tests in
-        ap length (each_passing pair (λ s. params ∷ r ∷ s ∷ []) (old.now.trees 0)) ∙ length_map (λ s. params ∷ r ∷ s ∷ []) (filter pair (old.now.trees 0))
+        ap length (each_passing pair (λ s. params ∷ r ∷ s ∷ []) (old.now.trees jobs_tree)) ∙ length_map (λ s. params ∷ r ∷ s ∷ []) (filter pair (old.now.trees jobs_tree))
         ∙ ap (λ rows. length (filter pair rows)) means.jobs ∙ ap length (filter-map pair row_of m.jobs) ∙ length_map row_of (filter (λ j. pair (row_of j)) m.jobs) ∙ columns_of r
       where
         columns_of : (r : Row) → length (filter (λ j. list_all (holds (params ∷ r ∷ row_of j ∷ [])) call_tests) m.jobs) ≡ count_with m.jobs (drop 1 r)
         columns_of [] = refl
         columns_of (v ∷ r) = refl
 
-    shown_count : (rows : List Row) → Reads (Select (record { lets = []; body = calls_query }) (codes "id" ∷ [])) old.now params rows → length rows ≡ length (flat_map with_jobs (old.now.trees 2))
+    shown_count : (rows : List Row) → Reads (Select (record { lets = []; body = calls_query }) (codes "id" ∷ [])) old.now params rows → length rows ≡ length (flat_map with_jobs (old.now.trees holds_tree))
     shown_count rows h =
         let a : IsAnswer calls_query (overlay old.now.trees []) params rows = h.answer Null in
         ap length a.shown ∙ length_map (λ (o : Output). o.1) a.ordered ∙ length_permutation a.kept a.ordered a.same ∙ ap length a.distinct ∙ length_map (output calls_query) a.staged ∙ ap length a.grouped
@@ -143,8 +143,8 @@ module _ (dial : List ℕ) where
         let read = reads_as SELECT_CALLS.now params old new six_tables means.schema _ select_calls.command select_calls.plain select_calls.unlisted rows h in
         let count = count_with m.jobs in
         let held = open_grants m in
-        shown_count rows read ∙ total with_jobs (old.now.trees 2) ∙ sum_same (λ r. length (with_jobs r)) (λ r. count (drop 1 r)) (old.now.trees 2) by_columns
-        ∙ sym (sum_mapped count (drop 1) (old.now.trees 2)) ∙ sum_by-IsPermutation count (map hold_columns held) (map (drop 1) (old.now.trees 2)) means.holds ∙ sum_mapped count hold_columns held
+        shown_count rows read ∙ total with_jobs (old.now.trees holds_tree) ∙ sum_same (λ r. length (with_jobs r)) (λ r. count (drop 1 r)) (old.now.trees holds_tree) by_columns
+        ∙ sym (sum_mapped count (drop 1) (old.now.trees holds_tree)) ∙ sum_by-IsPermutation count (map hold_columns held) (map (drop 1) (old.now.trees holds_tree)) means.holds ∙ sum_mapped count hold_columns held
         ∙ sum_same (λ g. count (hold_columns g)) (λ g. if is_of_number dial (job_numbered g.job m) then 1 else 0) held (count_held m (subst IsTable means.jobs means.ordered.jobs.rise))
         ∙ counted (λ g. is_of_number dial (job_numbered g.job m)) held
 

@@ -29,7 +29,7 @@ use Rattle.fax_tables.specs.Job.{IsText, IsLawfulJob}
 use Rattle.fax_store.specs.Job.{IsSameOrder, IsChange, with_expired}
 use Rattle.fax_tables.specs.Row.{number, job_row, phase_number}
 use Rattle.fax_tables.specs.Schema as schema
-use Rattle.fax_tables.specs.Schema.{six_tables}
+use Rattle.fax_tables.specs.Schema.{six_tables, jobs_tree}
 use Rattle.fax_store.specs.Store.{HasRun}
 use Rattle.fax_tables.specs.Tables.{TablesMean}
 use Rattle.fax_tables.proofs.CompareLemmas.{at_most, at_least}
@@ -64,7 +64,7 @@ module _ (f : JobFields) where
   put x = if x.number == f.job then job_of f else x
 
   -- the row of a job of the same order, as it is written
-  written : (x : Job) → x.number ≡ f.job → IsSameOrder x (job_of f) → cast_row schema.jobs (drop 1 (show 0 job_tests change_project (change_params f) (row_of x))) ≡ job_row f
+  written : (x : Job) → x.number ≡ f.job → IsSameOrder x (job_of f) → cast_row schema.jobs (drop 1 (show jobs_tree job_tests change_project (change_params f) (row_of x))) ≡ job_row f
   written x is same =
       stored_job (record f { job = x.number; dial = x.dial; totpages = x.totpages; extra = x.extra })
       ∙ ap (λ n. job_row (record f { job = n; dial = x.dial; totpages = x.totpages; extra = x.extra })) is
@@ -104,17 +104,17 @@ module _ (f : JobFields) where
     same_order change x has is =
         change x (subst (λ n. find (λ (j : Job). j.number == n) m.jobs ≡ Some x) is (only_numbered row_of (λ (j : Job). j.number) (λ j. refl) m.jobs x (subst IsTable means.jobs means.ordered.jobs.rise) has))
 
-    pub job_changed : IsChange (job_of f) m → IsFormedChange f → HasRun UPDATE_JOB.now (change_params f) old new → TablesMean new.now (with_change (job_of f) m) k × KeepsOthers six_tables 0 old new
+    pub job_changed : IsChange (job_of f) m → IsFormedChange f → HasRun UPDATE_JOB.now (change_params f) old new → TablesMean new.now (with_change (job_of f) m) k × KeepsOthers six_tables jobs_tree old new
     job_changed change lawful h =
-        let is_number = asked_is row_of (λ (j : Job). j.number) (λ j. refl) f.job (passes 0 job_tests change_project (change_params f)) (λ r. refl) in
-        let is_other = not_asked row_of (λ (j : Job). j.number) (λ j. refl) f.job (passes 0 job_tests change_project (change_params f)) (λ r. refl) in
+        let is_number = asked_is row_of (λ (j : Job). j.number) (λ j. refl) f.job (passes jobs_tree job_tests change_project (change_params f)) (λ r. refl) in
+        let is_other = not_asked row_of (λ (j : Job). j.number) (λ j. refl) f.job (passes jobs_tree job_tests change_project (change_params f)) (λ r. refl) in
         let ran = runs_as UPDATE_JOB.now (change_params f) old new six_tables means.schema _ update_job.is update_job.plain h.0 h.1 in
         let done = updated schema.jobs.name 0 schema.jobs.columns schema.jobs.key schema.jobs.primary schema.jobs.uniques schema.jobs.orders schema.jobs.checks 0 refl old new means.schema refl means.ordered.jobs
         job_tests change_project (change_params f) (λ r. refl) _ h.0 row_of put m.jobs means.jobs put_number
         (λ x has on. let is = is_number x on in written x is (same_order change x has is) ∙ sym (put_there x is))
         (λ x has off. sym (ap (λ b. row_of (if b then job_of f else x)) (is_other x off)))
         ran in
-        let now : AreRecords row_of IsLawfulJob (new.now.trees 0) (map put m.jobs) = record { is = done.1; ordered = done.2; lawful = all_mapped IsLawfulJob put m.jobs (λ x has. put_lawful lawful x (same_order change x has)) means.lawful.jobs } in
+        let now : AreRecords row_of IsLawfulJob (new.now.trees jobs_tree) (map put m.jobs) = record { is = done.1; ordered = done.2; lawful = all_mapped IsLawfulJob put m.jobs (λ x has. put_lawful lawful x (same_order change x has)) means.lawful.jobs } in
         (means_of new.now (with_change (job_of f) m) k (jobs_changed old new m (open_grants m) k (parts_of old.now m k means) done.0 (map put m.jobs) now), done.0)
 
 -- ---- all jobs whose kill time is past
@@ -142,7 +142,7 @@ module _ (t : ℕ) where
   same_test Failed killtime = refl
 
   -- the jobs that pass are those that expire
-  expiring : (j : Job) → passes 0 expired_tests expired_project expired_params (row_of j) ≡ (expires j.phase && is_past j.killtime t)
+  expiring : (j : Job) → passes jobs_tree expired_tests expired_project expired_params (row_of j) ≡ (expires j.phase && is_past j.killtime t)
   expiring j =
       ap₂ ◌&&◌ (at_most (phase_number j.phase) 1) (ap₂ ◌&&◌ (at_least (unwrap_or j.killtime 0) 1) (ap (λ b. b && true) (at_most (unwrap_or j.killtime 0) t)))
       ∙ same_test j.phase j.killtime
@@ -180,7 +180,7 @@ module _ (t : ℕ) where
   ]
 
   module _ (old new : State) (m : Queue) (k : List Entry) (means : TablesMean old.now m k) where
-    pub jobs_expired : HasRun EXPIRE_JOBS.now expired_params old new → TablesMean new.now (with_expired t m) k × KeepsOthers six_tables 0 old new
+    pub jobs_expired : HasRun EXPIRE_JOBS.now expired_params old new → TablesMean new.now (with_expired t m) k × KeepsOthers six_tables jobs_tree old new
     jobs_expired h =
         let ran = runs_as EXPIRE_JOBS.now expired_params old new six_tables means.schema _ expire_jobs.is expire_jobs.plain h.0 h.1 in
         let done = updated schema.jobs.name 0 schema.jobs.columns schema.jobs.key schema.jobs.primary schema.jobs.uniques schema.jobs.orders schema.jobs.checks 0 refl old new means.schema refl means.ordered.jobs
@@ -188,5 +188,5 @@ module _ (t : ℕ) where
         (λ j has on. stored_job (fields_of (expired j)) ∙ sym (ap row_of (aged_by j true (sym (expiring j) ∙ on))))
         (λ j has off. sym (ap row_of (aged_by j false (sym (expiring j) ∙ off))))
         ran in
-        let now : AreRecords row_of IsLawfulJob (new.now.trees 0) (map (aged_job t) m.jobs) = record { is = done.1; ordered = done.2; lawful = all_mapped IsLawfulJob (aged_job t) m.jobs (λ j has. aged_lawful j) means.lawful.jobs } in
+        let now : AreRecords row_of IsLawfulJob (new.now.trees jobs_tree) (map (aged_job t) m.jobs) = record { is = done.1; ordered = done.2; lawful = all_mapped IsLawfulJob (aged_job t) m.jobs (λ j has. aged_lawful j) means.lawful.jobs } in
         (means_of new.now (with_expired t m) k (jobs_changed old new m (open_grants m) k (parts_of old.now m k means) done.0 (map (aged_job t) m.jobs) now), done.0)

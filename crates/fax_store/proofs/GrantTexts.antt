@@ -10,6 +10,7 @@ use Rattle.sqlite_tied.specs.Compute.{everything}
 use Rattle.fax_store.specs.declared.grants.TheConstants.{SELECT_GRANT, INSERT_GRANT, UPDATE_REPORT, SHUT_GRANT, SELECT_HOLD, INSERT_HOLD, DELETE_HOLD, SELECT_CALLS}
 use Rattle.fax_tables.proofs.StatementForms.{equals, Selects, SelectsAll, Commands}
 use Rattle.fax_tables.proofs.UpdateLemmas.{program_of, gone_project}
+use Rattle.fax_tables.specs.Schema.{grants_tree, holds_tree, jobs_tree}
 
 abbrev pub grant_tests : List Term
 grant_tests = equals (col 1 0) (col 0 0) ∷ []
@@ -20,7 +21,7 @@ grant_project = col 1 0 ∷ col 1 2 ∷ col 1 3 ∷ col 1 4 ∷ col 1 5 ∷ col 
 abbrev pub grant_names : List (List ℕ)
 grant_names = codes "id" ∷ codes "job" ∷ codes "modem" ∷ codes "first_page" ∷ codes "last_page" ∷ codes "call" ∷ codes "pages" ∷ codes "shut" ∷ []
 
-pub select_grant : Selects SELECT_GRANT.now 1 grant_tests grant_project grant_names
+pub select_grant : Selects SELECT_GRANT.now grants_tree grant_tests grant_project grant_names
 unfolding understood everything
 select_grant = record { command = refl; plain = (refl, refl); unlisted = refl }
 
@@ -30,7 +31,7 @@ hold_tests = equals (col 1 1) (col 0 0) ∷ []
 abbrev pub hold_project : List Term
 hold_project = col 1 3 ∷ col 1 2 ∷ []
 
-pub select_hold : Selects SELECT_HOLD.now 2 hold_tests hold_project (codes "id" ∷ codes "job" ∷ [])
+pub select_hold : Selects SELECT_HOLD.now holds_tree hold_tests hold_project (codes "id" ∷ codes "job" ∷ [])
 unfolding understood everything
 select_hold = record { command = refl; plain = (refl, refl); unlisted = refl }
 
@@ -51,21 +52,21 @@ insert_hold = record { is = refl; plain = (refl, refl) }
 abbrev pub report_project : List Term
 report_project = col 1 0 ∷ col 1 0 ∷ lit Null ∷ col 1 2 ∷ col 1 3 ∷ col 1 4 ∷ col 1 5 ∷ col 0 1 ∷ col 0 2 ∷ col 1 8 ∷ []
 
-pub update_report : Commands UPDATE_REPORT.now (Update 1 (program_of 1 grant_tests report_project))
+pub update_report : Commands UPDATE_REPORT.now (Update 1 (program_of grants_tree grant_tests report_project))
 unfolding understood everything
 update_report = record { is = refl; plain = (refl, refl) }
 
 abbrev pub shut_project : List Term
 shut_project = col 1 0 ∷ col 1 0 ∷ lit Null ∷ col 1 2 ∷ col 1 3 ∷ col 1 4 ∷ col 1 5 ∷ col 1 6 ∷ col 1 7 ∷ lit (Int (pos 1)) ∷ []
 
-pub shut_grant : Commands SHUT_GRANT.now (Update 1 (program_of 1 grant_tests shut_project))
+pub shut_grant : Commands SHUT_GRANT.now (Update 1 (program_of grants_tree grant_tests shut_project))
 unfolding understood everything
 shut_grant = record { is = refl; plain = (refl, refl) }
 
 abbrev pub held_tests : List Term
 held_tests = equals (col 1 3) (col 0 0) ∷ []
 
-pub delete_hold : Commands DELETE_HOLD.now (Delete 2 (program_of 2 held_tests gone_project))
+pub delete_hold : Commands DELETE_HOLD.now (Delete 2 (program_of holds_tree held_tests gone_project))
 unfolding understood everything
 delete_hold = record { is = refl; plain = (refl, refl) }
 
@@ -74,7 +75,7 @@ call_tests = equals (col 2 0) (col 1 2) ∷ equals (col 2 2) (col 0 0) ∷ []
 
 abbrev pub calls_query : Query
 calls_query = record {
-  from = inner 2 (inner 0 end);
+  from = inner holds_tree (inner jobs_tree end);
   filter = call_tests;
   group = None;
   project = col 1 3 ∷ [];

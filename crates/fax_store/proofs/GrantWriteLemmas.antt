@@ -23,7 +23,7 @@ use Rattle.fax_store.specs.declared.grants.TheConstants.{INSERT_GRANT, INSERT_HO
 use Rattle.fax_store.specs.Grant.{IsSameGrant, IsReport, placed, with_placed, with_shut, with_closed}
 use Rattle.fax_tables.specs.Row.{number, call_number, grant_row, hold_columns}
 use Rattle.fax_tables.specs.Schema as schema
-use Rattle.fax_tables.specs.Schema.{six_tables}
+use Rattle.fax_tables.specs.Schema.{six_tables, grants_tree, holds_tree}
 use Rattle.fax_store.specs.Store.{HasRun}
 use Rattle.fax_tables.specs.Tables.{TablesMean, IsLawfulGrant, IsByRowid}
 use Rattle.fax_tables.proofs.AppendLemmas.{appended}
@@ -65,13 +65,13 @@ module _ (g : Grant) where
       subst (λ (b : Bool). IsPermutation (if b then g ∷ filter (λ x. x.is_open) gs else filter (λ x. x.is_open) gs) (filter (λ x. x.is_open) (placed g gs))) is_open both
 
   module _ (old mid new : State) (m : Queue) (k : List Entry) (means : TablesMean old.now m k) where
-    hold_inserted : HasRun INSERT_HOLD.now hold_params old mid → InsertsRow six_tables 2 old mid (Int (next_rowid (old.now.trees 2)) ∷ hold_columns g)
+    hold_inserted : HasRun INSERT_HOLD.now hold_params old mid → InsertsRow six_tables holds_tree old mid (Int (next_rowid (old.now.trees holds_tree)) ∷ hold_columns g)
     hold_inserted h =
         let ran = runs_as INSERT_HOLD.now hold_params old mid six_tables means.schema _ insert_hold.is insert_hold.plain h.0 h.1 in
         inserts six_tables unreferred schema.holds.name 2 schema.holds.columns schema.holds.key schema.holds.primary schema.holds.uniques schema.holds.orders schema.holds.checks 2 refl old mid means.schema hold_params _ h.0
-        hold_terms 4 (Null ∷ hold_columns g) (Int (next_rowid (old.now.trees 2)) ∷ hold_columns g) refl (ap (with_rowid Chosen (old.now.trees 2)) stored_hold) ran
+        hold_terms 4 (Null ∷ hold_columns g) (Int (next_rowid (old.now.trees holds_tree)) ∷ hold_columns g) refl (ap (with_rowid Chosen (old.now.trees holds_tree)) stored_hold) ran
 
-    pub hold_keeps : HasRun INSERT_HOLD.now hold_params old mid → KeepsOthers six_tables 2 old mid
+    pub hold_keeps : HasRun INSERT_HOLD.now hold_params old mid → KeepsOthers six_tables holds_tree old mid
     hold_keeps h = (hold_inserted h).keeps
 
     -- its modem and its job hold it, and it is to be put yet
@@ -79,33 +79,33 @@ module _ (g : Grant) where
     held h =
         let done = hold_inserted h in
         let by = means.ordered.holds in
-        let columns = map (drop 1) (old.now.trees 2) in
+        let columns = map (drop 1) (old.now.trees holds_tree) in
         let more : IsPermutation (hold_columns g ∷ map hold_columns (open_grants m)) (columns ++ hold_columns g ∷ []) =
         IsPermutation-trans (hold_columns g ∷ map hold_columns (open_grants m)) (hold_columns g ∷ columns) (columns ++ hold_columns g ∷ []) (IsPermutation-cons (hold_columns g) (map hold_columns (open_grants m)) columns means.holds)
         (IsPermutation-sym (columns ++ hold_columns g ∷ []) (hold_columns g ∷ columns) (IsPermutation-to_front columns (hold_columns g))) in
-        let now : AreHeld (mid.now.trees 2) (g ∷ open_grants m) = record {
-          is = subst (IsPermutation (hold_columns g ∷ map hold_columns (open_grants m))) (sym (ap (map (drop 1)) done.rows ∙ appended (old.now.trees 2) (hold_columns g) by.integers by.rise)) more;
-          ordered = subst IsByRowid (sym done.rows) (by_rowid_put (Int (next_rowid (old.now.trees 2)) ∷ hold_columns g) (old.now.trees 2) refl by);
+        let now : AreHeld (mid.now.trees holds_tree) (g ∷ open_grants m) = record {
+          is = subst (IsPermutation (hold_columns g ∷ map hold_columns (open_grants m))) (sym (ap (map (drop 1)) done.rows ∙ appended (old.now.trees holds_tree) (hold_columns g) by.integers by.rise)) more;
+          ordered = subst IsByRowid (sym done.rows) (by_rowid_put (Int (next_rowid (old.now.trees holds_tree)) ∷ hold_columns g) (old.now.trees holds_tree) refl by);
         } in
         holds_changed old mid m (open_grants m) k (parts_of old.now m k means) done.keeps (g ∷ open_grants m) now
 
-    pub grant_put : IsTrue g.is_open → IsLawfulGrant g → HasRun INSERT_HOLD.now hold_params old mid → HasRun INSERT_GRANT.now grant_params mid new → TablesMean new.now (with_placed g m) k × KeepsOthers six_tables 1 mid new
+    pub grant_put : IsTrue g.is_open → IsLawfulGrant g → HasRun INSERT_HOLD.now hold_params old mid → HasRun INSERT_GRANT.now grant_params mid new → TablesMean new.now (with_placed g m) k × KeepsOthers six_tables grants_tree mid new
     grant_put is_open lawful h more =
         let was = held h in
         let row : grant_row g ≡ number g.number ∷ Null ∷ number g.job ∷ Text g.modem ∷ number g.first_page ∷ number g.last_page ∷ number (call_number g.call) ∷ number g.confirmed ∷ number 0 ∷ [] =
         ap (λ (b : Bool). number g.number ∷ Null ∷ number g.job ∷ Text g.modem ∷ number g.first_page ∷ number g.last_page ∷ number (call_number g.call) ∷ number g.confirmed ∷ number (if b then 0 else 1) ∷ []) is_open in
         let ran = runs_as INSERT_GRANT.now grant_params mid new six_tables was.schema _ insert_grant.is insert_grant.plain more.0 more.1 in
         let done = inserts six_tables unreferred schema.grants.name 1 schema.grants.columns schema.grants.key schema.grants.primary schema.grants.uniques schema.grants.orders schema.grants.checks 1 refl mid new was.schema grant_params _ more.0
-        grant_terms 9 (grant_row g) (grant_row g) (ap (λ r. r ∷ []) (sym row)) (ap (with_rowid Chosen (mid.now.trees 1)) (stored_grant g)) ran in
-        let free = subst (λ rows. is_taken rows (grant_row g) ≡ false) was.grants.is (free_of (mid.now.trees 1) (grant_row g) done.fresh) in
-        let now : AreRecords grant_row IsLawfulGrant (new.now.trees 1) (placed g m.grants) = record {
+        grant_terms 9 (grant_row g) (grant_row g) (ap (λ r. r ∷ []) (sym row)) (ap (with_rowid Chosen (mid.now.trees grants_tree)) (stored_grant g)) ran in
+        let free = subst (λ rows. is_taken rows (grant_row g) ≡ false) was.grants.is (free_of (mid.now.trees grants_tree) (grant_row g) done.fresh) in
+        let now : AreRecords grant_row IsLawfulGrant (new.now.trees grants_tree) (placed g m.grants) = record {
           is = done.rows ∙ ap (put_row (grant_row g)) was.grants.is ∙ row_placed grant_row (λ (x : Grant). x.number) (λ x. refl) placed (λ x. refl) (λ x y ys. refl) g m.grants free;
-          ordered = subst IsByRowid (sym done.rows) (by_rowid_put (grant_row g) (mid.now.trees 1) refl was.grants.ordered);
+          ordered = subst IsByRowid (sym done.rows) (by_rowid_put (grant_row g) (mid.now.trees grants_tree) refl was.grants.ordered);
           lawful = all_placed grant_row (λ (x : Grant). x.number) (λ x. refl) placed (λ x. refl) (λ x y ys. refl) IsLawfulGrant g m.grants lawful was.grants.lawful;
         } in
         let after = grants_changed mid new m (g ∷ open_grants m) k was done.keeps (placed g m.grants) now in
-        let holds : AreHeld (new.now.trees 2) (open_grants (with_placed g m)) = record {
-          is = IsPermutation-trans (map hold_columns (open_grants (with_placed g m))) (map hold_columns (g ∷ open_grants m)) (map (drop 1) (new.now.trees 2))
+        let holds : AreHeld (new.now.trees holds_tree) (open_grants (with_placed g m)) = record {
+          is = IsPermutation-trans (map hold_columns (open_grants (with_placed g m))) (map hold_columns (g ∷ open_grants m)) (map (drop 1) (new.now.trees holds_tree))
               (IsPermutation-map hold_columns (open_grants (with_placed g m)) (g ∷ open_grants m) (IsPermutation-sym (g ∷ open_grants m) (open_grants (with_placed g m)) (open_placed m.grants is_open))) after.holds.is;
           ordered = after.holds.ordered;
         } in
@@ -136,7 +136,7 @@ module _ (g : Grant) where
   abbrev put : Grant → Grant
   put x = if x.number == g.number then g else x
 
-  reported : (x : Grant) → x.number ≡ g.number → IsSameGrant x g → cast_row schema.grants (drop 1 (show 1 grant_tests report_project report_params (grant_row x))) ≡ grant_row g
+  reported : (x : Grant) → x.number ≡ g.number → IsSameGrant x g → cast_row schema.grants (drop 1 (show grants_tree grant_tests report_project report_params (grant_row x))) ≡ grant_row g
   reported x is same =
       stored_grant (record g { number = x.number; job = x.job; modem = x.modem; first_page = x.first_page; last_page = x.last_page; is_open = x.is_open })
       ∙ ap (λ n. grant_row (record g { number = n; job = x.job; modem = x.modem; first_page = x.first_page; last_page = x.last_page; is_open = x.is_open })) is
@@ -185,20 +185,20 @@ module _ (g : Grant) where
     same_grant report x has is =
         report x (subst (λ n. find (λ (y : Grant). y.number == n) m.grants ≡ Some x) is (only_numbered grant_row (λ (y : Grant). y.number) (λ y. refl) m.grants x (subst IsTable means.grants means.ordered.grants.rise) has))
 
-    pub grant_reported : IsReport g m → g.confirmed ≤ 9999 → HasRun UPDATE_REPORT.now report_params old new → TablesMean new.now (with_grant g m) k × KeepsOthers six_tables 1 old new
+    pub grant_reported : IsReport g m → g.confirmed ≤ 9999 → HasRun UPDATE_REPORT.now report_params old new → TablesMean new.now (with_grant g m) k × KeepsOthers six_tables grants_tree old new
     grant_reported report few h =
-        let is_number = asked_is grant_row (λ (y : Grant). y.number) (λ y. refl) g.number (passes 1 grant_tests report_project report_params) (λ r. refl) in
-        let is_other = not_asked grant_row (λ (y : Grant). y.number) (λ y. refl) g.number (passes 1 grant_tests report_project report_params) (λ r. refl) in
+        let is_number = asked_is grant_row (λ (y : Grant). y.number) (λ y. refl) g.number (passes grants_tree grant_tests report_project report_params) (λ r. refl) in
+        let is_other = not_asked grant_row (λ (y : Grant). y.number) (λ y. refl) g.number (passes grants_tree grant_tests report_project report_params) (λ r. refl) in
         let ran = runs_as UPDATE_REPORT.now report_params old new six_tables means.schema _ update_report.is update_report.plain h.0 h.1 in
         let done = updated schema.grants.name 1 schema.grants.columns schema.grants.key schema.grants.primary schema.grants.uniques schema.grants.orders schema.grants.checks 1 refl old new means.schema refl means.ordered.grants
         grant_tests report_project report_params (λ r. refl) _ h.0 grant_row put m.grants means.grants put_number
         (λ x has on. let is = is_number x on in reported x is (same_grant report x has is) ∙ sym (ap grant_row (put_by x true (eq-eqb x.number g.number is))))
         (λ x has off. sym (ap grant_row (put_by x false (is_other x off))))
         ran in
-        let now : AreRecords grant_row IsLawfulGrant (new.now.trees 1) (map put m.grants) = record { is = done.1; ordered = done.2; lawful = all_mapped IsLawfulGrant put m.grants (λ x has. put_lawful few x (same_grant report x has)) means.lawful.grants } in
+        let now : AreRecords grant_row IsLawfulGrant (new.now.trees grants_tree) (map put m.grants) = record { is = done.1; ordered = done.2; lawful = all_mapped IsLawfulGrant put m.grants (λ x has. put_lawful few x (same_grant report x has)) means.lawful.grants } in
         let after = grants_changed old new m (open_grants m) k (parts_of old.now m k means) done.0 (map put m.grants) now in
-        let holds : AreHeld (new.now.trees 2) (open_grants (with_grant g m)) = record {
-          is = subst (λ columns. IsPermutation columns (map (drop 1) (new.now.trees 2))) (sym (held_mapped put m.grants (λ x has. put_held x (same_grant report x has)))) after.holds.is;
+        let holds : AreHeld (new.now.trees holds_tree) (open_grants (with_grant g m)) = record {
+          is = subst (λ columns. IsPermutation columns (map (drop 1) (new.now.trees holds_tree))) (sym (held_mapped put m.grants (λ x has. put_held x (same_grant report x has)))) after.holds.is;
           ordered = after.holds.ordered;
         } in
         (means_of new.now (with_grant g m) k (held_as new.now (with_grant g m) (open_grants m) (open_grants (with_grant g m)) k holds after), done.0)
@@ -289,10 +289,10 @@ module _ (n : ℕ) where
     abbrev after : Queue
     after = record m { grants = map shut m.grants }
 
-    grants_shut : HasRun SHUT_GRANT.now close_params old mid → KeepsOthers six_tables 1 old mid × AreRecords grant_row IsLawfulGrant (mid.now.trees 1) (map shut m.grants)
+    grants_shut : HasRun SHUT_GRANT.now close_params old mid → KeepsOthers six_tables grants_tree old mid × AreRecords grant_row IsLawfulGrant (mid.now.trees grants_tree) (map shut m.grants)
     grants_shut h =
-        let is_one = asked_is grant_row (λ (y : Grant). y.number) (λ y. refl) n (passes 1 grant_tests shut_project close_params) (λ r. refl) in
-        let is_other = not_asked grant_row (λ (y : Grant). y.number) (λ y. refl) n (passes 1 grant_tests shut_project close_params) (λ r. refl) in
+        let is_one = asked_is grant_row (λ (y : Grant). y.number) (λ y. refl) n (passes grants_tree grant_tests shut_project close_params) (λ r. refl) in
+        let is_other = not_asked grant_row (λ (y : Grant). y.number) (λ y. refl) n (passes grants_tree grant_tests shut_project close_params) (λ r. refl) in
         let ran = runs_as SHUT_GRANT.now close_params old mid six_tables means.schema _ shut_grant.is shut_grant.plain h.0 h.1 in
         let done = updated schema.grants.name 1 schema.grants.columns schema.grants.key schema.grants.primary schema.grants.uniques schema.grants.orders schema.grants.checks 1 refl old mid means.schema refl means.ordered.grants
         grant_tests shut_project close_params (λ r. refl) _ h.0 grant_row shut m.grants means.grants shut_id
@@ -301,14 +301,14 @@ module _ (n : ℕ) where
         ran in
         (done.0, record { is = done.1; ordered = done.2; lawful = all_mapped IsLawfulGrant shut m.grants (λ x has. shut_lawful x) means.lawful.grants })
 
-    pub shut_keeps : HasRun SHUT_GRANT.now close_params old mid → KeepsOthers six_tables 1 old mid
+    pub shut_keeps : HasRun SHUT_GRANT.now close_params old mid → KeepsOthers six_tables grants_tree old mid
     shut_keeps h = (grants_shut h).0
 
-    is_held : (r : Row) → passes 2 held_tests gone_project close_params r ≡ (are_equal (column (drop 1 r) 2) (number n) && true)
+    is_held : (r : Row) → passes holds_tree held_tests gone_project close_params r ≡ (are_equal (column (drop 1 r) 2) (number n) && true)
     is_held [] = refl
     is_held (v ∷ r) = refl
 
-    pub grant_closed : HasRun SHUT_GRANT.now close_params old mid → HasRun DELETE_HOLD.now close_params mid new → TablesMean new.now (with_closed n m) k × KeepsOthers six_tables 2 mid new
+    pub grant_closed : HasRun SHUT_GRANT.now close_params old mid → HasRun DELETE_HOLD.now close_params mid new → TablesMean new.now (with_closed n m) k × KeepsOthers six_tables holds_tree mid new
     grant_closed h more =
         let first = grants_shut h in
         let was = grants_changed old mid m (open_grants m) k (parts_of old.now m k means) first.0 (map shut m.grants) first.1 in
@@ -319,9 +319,9 @@ module _ (n : ℕ) where
         let left : filter (λ x. others (hold_columns x)) (open_grants m) ≡ open_grants after =
         filter_same (λ x. others (hold_columns x)) (λ x. not (x.number == n)) (open_grants m) (all_of (λ x. others (hold_columns x) ≡ not (x.number == n)) (λ x. ap not (and_true (are_equal (number x.number) (number n)) ∙ is_number x.number n)) (open_grants m))
         ∙ sym (open_shut m.grants) in
-        let kept = kept_permuted hold_columns (λ r. not (passes 2 held_tests gone_project close_params r)) others (λ r. ap not (is_held r)) (mid.now.trees 2) (open_grants m) was.holds.is in
-        let now : AreHeld (new.now.trees 2) (open_grants after) = record {
-          is = subst (λ rows. IsPermutation (map hold_columns (open_grants after)) (map (drop 1) rows)) (sym done.1) (subst (λ gs. IsPermutation (map hold_columns gs) (map (drop 1) (filter (λ r. not (passes 2 held_tests gone_project close_params r)) (mid.now.trees 2)))) left kept);
+        let kept = kept_permuted hold_columns (λ r. not (passes holds_tree held_tests gone_project close_params r)) others (λ r. ap not (is_held r)) (mid.now.trees holds_tree) (open_grants m) was.holds.is in
+        let now : AreHeld (new.now.trees holds_tree) (open_grants after) = record {
+          is = subst (λ rows. IsPermutation (map hold_columns (open_grants after)) (map (drop 1) rows)) (sym done.1) (subst (λ gs. IsPermutation (map hold_columns gs) (map (drop 1) (filter (λ r. not (passes holds_tree held_tests gone_project close_params r)) (mid.now.trees holds_tree)))) left kept);
           ordered = done.2;
         } in
         let both = holds_changed mid new after (open_grants m) k was done.0 (open_grants after) now in

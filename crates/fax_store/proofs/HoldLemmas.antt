@@ -35,7 +35,7 @@ use Rattle.fax_core.specs.declared.grants.Grant.{Grant}
 use Rattle.fax_store.specs.declared.grants.TheConstants.{SELECT_HOLD}
 use Rattle.fax_tables.specs.Grant.{hold_shown}
 use Rattle.fax_tables.specs.Row.{hold_columns}
-use Rattle.fax_tables.specs.Schema.{six_tables}
+use Rattle.fax_tables.specs.Schema.{six_tables, holds_tree}
 use Rattle.fax_store.specs.Store.{FindsRow}
 use Rattle.fax_tables.specs.Tables.{TablesMean, IsByRowid}
 use Rattle.fax_tables.proofs.ColumnLemmas.{record_of, row_of}
@@ -47,32 +47,32 @@ use Rattle.fax_store.proofs.StatementLemmas.{shown_keeps}
 
 -- ---- a modem stands in one row
 
-module _ (db : Database) (has : db.schema ≡ six_tables) (sound : IsDatabase db) (by : IsByRowid (db.trees 2)) where
+module _ (db : Database) (has : db.schema ≡ six_tables) (sound : IsDatabase db) (by : IsByRowid (db.trees holds_tree)) where
   keeps : Keeps Unique six_tables db.trees
   keeps = subst (λ s. Keeps Unique s db.trees) has (sound.obeys.rules Unique)
 
-  no_clash : (r : Row) → Has (db.trees 2) r → clashes plain (1 ∷ []) (db.trees 2) r ≡ false
-  no_clash r there = not-true _ (and_parts (not (clashes plain (1 ∷ []) (db.trees 2) r)) _ (all_has _ (db.trees 2) r keeps.1.1.0 there)).0
+  no_clash : (r : Row) → Has (db.trees holds_tree) r → clashes plain (1 ∷ []) (db.trees holds_tree) r ≡ false
+  no_clash r there = not-true _ (and_parts (not (clashes plain (1 ∷ []) (db.trees holds_tree) r)) _ (all_has _ (db.trees holds_tree) r keeps.1.1.0 there)).0
 
-  module _ (modem : List ℕ) (r s : Row) (there : Has (db.trees 2) r) (also : Has (db.trees 2) s) (of_r : column r 1 ≡ Text modem) (of_s : column s 1 ≡ Text modem) where
+  module _ (modem : List ℕ) (r s : Row) (there : Has (db.trees holds_tree) r) (also : Has (db.trees holds_tree) s) (of_r : column r 1 ≡ Text modem) (of_s : column s 1 ≡ Text modem) where
     agrees : agree plain (1 ∷ []) s (1 ∷ []) r ≡ true
     agrees =
         ap (λ key. equal key.collation (column s 1) (column r 1) && true) first_key-plain
         ∙ ap₂ (λ a b. equal Binary a b && true) of_s of_r
         ∙ ap (λ b. b && true) (equal_texts modem modem ∙ (bytes_eq-Decides modem modem).1 refl)
 
-    whole : (x : Row) → Has (db.trees 2) x → is_null (rowid x) ≡ false
-    whole x has = ap is_null (int_is (rowid x) (all_has _ (db.trees 2) x by.integers has))
+    whole : (x : Row) → Has (db.trees holds_tree) x → is_null (rowid x) ≡ false
+    whole x has = ap is_null (int_is (rowid x) (all_has _ (db.trees holds_tree) x by.integers has))
 
     differs : differ (rowid s) (rowid r) ≡ is_ne (value_cmp (rowid s) (rowid r))
     differs = compared Ne (rowid s) (rowid r) (whole s also) (whole r there)
 
     apart : is_ne (value_cmp (rowid s) (rowid r)) ≡ true → ⊥
-    apart other = both_ways _ (no_clash r there) (some_from (λ o. agree plain (1 ∷ []) o (1 ∷ []) r && differ (rowid o) (rowid r)) (db.trees 2) s also (rw (agrees, differs, other) refl))
+    apart other = both_ways _ (no_clash r there) (some_from (λ o. agree plain (1 ∷ []) o (1 ∷ []) r && differ (rowid o) (rowid r)) (db.trees holds_tree) s also (rw (agrees, differs, other) refl))
 
     by_order : (o : Ordering) → value_cmp (rowid s) (rowid r) ≡ o → s ≡ r
     by_order Less e = absurd (apart (ap is_ne e))
-    by_order Equal e = tied_same (db.trees 2) s r by.rise also there e
+    by_order Equal e = tied_same (db.trees holds_tree) s r by.rise also there e
     by_order Greater e = absurd (apart (ap is_ne e))
 
     pub one_of_modem : s ≡ r
@@ -112,13 +112,13 @@ module _ (modem : List ℕ) where
   params = Text modem ∷ []
 
   -- the row that passes is that of the grant which the modem holds
-  is_asked : (project : List Term) (r : Row) (g : Grant) → drop 1 r ≡ hold_columns g → passes 2 hold_tests project params r ≡ bytes_eq g.modem modem
+  is_asked : (project : List Term) (r : Row) (g : Grant) → drop 1 r ≡ hold_columns g → passes holds_tree hold_tests project params r ≡ bytes_eq g.modem modem
   is_asked project [] g is = absurd cc
-  is_asked project (i ∷ columns) g is = ap (λ rest. passes 2 hold_tests project params (i ∷ rest)) is ∙ and_true (are_equal (Text g.modem) (Text modem)) ∙ equal_texts g.modem modem
+  is_asked project (i ∷ columns) g is = ap (λ rest. passes holds_tree hold_tests project params (i ∷ rest)) is ∙ and_true (are_equal (Text g.modem) (Text modem)) ∙ equal_texts g.modem modem
 
-  shown_as : (r : Row) (g : Grant) → drop 1 r ≡ hold_columns g → show 2 hold_tests hold_project params r ≡ hold_shown g
+  shown_as : (r : Row) (g : Grant) → drop 1 r ≡ hold_columns g → show holds_tree hold_tests hold_project params r ≡ hold_shown g
   shown_as [] g is = absurd cc
-  shown_as (i ∷ columns) g is = ap (λ rest. show 2 hold_tests hold_project params (i ∷ rest)) is
+  shown_as (i ∷ columns) g is = ap (λ rest. show holds_tree hold_tests hold_project params (i ∷ rest)) is
 
   modem_of : (r : Row) (g : Grant) → drop 1 r ≡ hold_columns g → bytes_eq g.modem modem ≡ true → column r 1 ≡ Text modem
   modem_of r g is same = second r ∙ ap (λ columns. column columns 0) is ∙ ap Text ((bytes_eq-Decides g.modem modem).0 same)
@@ -127,20 +127,20 @@ module _ (modem : List ℕ) where
     pub hold_found : (found : Option Row) → FindsRow SELECT_HOLD.now params old new found → found ≡ option_map hold_shown (held_by modem m)
     hold_found found h = tells found h.2
       where
-        shows : IsPermutation (map (show 2 hold_tests hold_project params) (filter (passes 2 hold_tests hold_project params) (old.now.trees 2))) h.0
-        shows = answers 2 hold_tests hold_project params old.now (old.now.trees 2) refl [] h.0 (reads_as SELECT_HOLD.now params old new six_tables means.schema _ select_hold.command select_hold.plain select_hold.unlisted h.0 h.1)
+        shows : IsPermutation (map (show holds_tree hold_tests hold_project params) (filter (passes holds_tree hold_tests hold_project params) (old.now.trees holds_tree))) h.0
+        shows = answers holds_tree hold_tests hold_project params old.now (old.now.trees holds_tree) refl [] h.0 (reads_as SELECT_HOLD.now params old new six_tables means.schema _ select_hold.command select_hold.plain select_hold.unlisted h.0 h.1)
 
         tells : (found : Option Row) → MatchOption found (h.0 ≡ []) (Has h.0) → found ≡ option_map hold_shown (held_by modem m)
         tells None empty = sym (ap (option_map hold_shown) (find_none (λ (g : Grant). bytes_eq g.modem modem) (open_grants m) (λ g has.
-            let it = row_of hold_columns (old.now.trees 2) (open_grants m) means.holds g has in
-            sym (is_asked hold_project it.0 g it.2) ∙ none_shown (passes 2 hold_tests hold_project params) (show 2 hold_tests hold_project params) (old.now.trees 2) h.0 shows empty it.0 it.1)))
+            let it = row_of hold_columns (old.now.trees holds_tree) (open_grants m) means.holds g has in
+            sym (is_asked hold_project it.0 g it.2) ∙ none_shown (passes holds_tree hold_tests hold_project params) (show holds_tree hold_tests hold_project params) (old.now.trees holds_tree) h.0 shows empty it.0 it.1)))
         tells (Some row) has =
-            let shown = shown_one (passes 2 hold_tests hold_project params) (show 2 hold_tests hold_project params) (old.now.trees 2) h.0 shows row has in
-            let it = record_of hold_columns (old.now.trees 2) (open_grants m) means.holds shown.0 shown.1 in
+            let shown = shown_one (passes holds_tree hold_tests hold_project params) (show holds_tree hold_tests hold_project params) (old.now.trees holds_tree) h.0 shows row has in
+            let it = record_of hold_columns (old.now.trees holds_tree) (open_grants m) means.holds shown.0 shown.1 in
             let on = sym (is_asked hold_project shown.0 it.0 it.2) ∙ shown.2 in
             let one = find_some (λ (g : Grant). bytes_eq g.modem modem) (open_grants m) it.0 it.1 on in
             let held = has_found (λ (g : Grant). bytes_eq g.modem modem) (open_grants m) one.0 one.1 in
-            let its = row_of hold_columns (old.now.trees 2) (open_grants m) means.holds one.0 held.0 in
+            let its = row_of hold_columns (old.now.trees holds_tree) (open_grants m) means.holds one.0 held.0 in
             let same = one_of_modem old.now means.schema means.sound means.ordered.holds modem its.0 shown.0 its.1 shown.1 (modem_of its.0 one.0 its.2 held.1) (modem_of shown.0 it.0 it.2 on) in
             ap Some (shown.3 ∙ shown_as shown.0 one.0 (ap (drop 1) same ∙ its.2)) ∙ sym (ap (option_map hold_shown) one.1)
 

@@ -17,7 +17,7 @@ use Rattle.fax_job.specs.Job.{IsLawful}
 use Rattle.fax_job.specs.declared.job.JobFields.{JobFields}
 use Rattle.fax_store.specs.declared.jobs.TheConstants.{SELECT_JOB, INSERT_JOB}
 use Rattle.fax_tables.specs.Schema as schema
-use Rattle.fax_tables.specs.Schema.{six_tables}
+use Rattle.fax_tables.specs.Schema.{six_tables, jobs_tree}
 use Rattle.fax_tables.specs.Row.{number, job_row}
 use Rattle.fax_tables.specs.Job.{IsFormed, IsLawfulJob, job_shown}
 use Rattle.fax_store.specs.Job.{placed, with_placed}
@@ -38,13 +38,13 @@ module _ (n : ℕ) where
 
   -- the row that passes is that of the job of this number
   abbrev pub is_asked : Row → Bool
-  is_asked r = passes 0 job_tests job_project params r
+  is_asked r = passes jobs_tree job_tests job_project params r
 
   module _ (old new : State) (m : Queue) (k : List Entry) (means : TablesMean old.now m k) where
     pub job_found : (found : Option Row) → FindsRow SELECT_JOB.now params old new found → found ≡ option_map (λ j. job_shown (fields_of j)) (job_numbered n m)
     job_found found h =
-        numbered_found row_of (λ j. j.number) (λ j. refl) n is_asked (λ r. refl) m.jobs (old.now.trees 0) h.0 means.jobs means.ordered.jobs.rise (show 0 job_tests job_project params)
-        (answers 0 job_tests job_project params old.now (old.now.trees 0) refl [] h.0 (reads_as SELECT_JOB.now params old new six_tables means.schema _ select_job.command select_job.plain select_job.unlisted h.0 h.1))
+        numbered_found row_of (λ j. j.number) (λ j. refl) n is_asked (λ r. refl) m.jobs (old.now.trees jobs_tree) h.0 means.jobs means.ordered.jobs.rise (show jobs_tree job_tests job_project params)
+        (answers jobs_tree job_tests job_project params old.now (old.now.trees jobs_tree) refl [] h.0 (reads_as SELECT_JOB.now params old new six_tables means.schema _ select_job.command select_job.plain select_job.unlisted h.0 h.1))
         found h.2
 
     pub job_unchanged : (found : Option Row) → FindsRow SELECT_JOB.now params old new found → IsUnchanged old new
@@ -79,22 +79,22 @@ stored_job f =
     (same_row (n _) (same_row (n _) (same_row (n _) (same_row (n _) (same_row (n _) (same_row (n _) refl))))))))))))))))))))
 
 module _ (old new : State) (m : Queue) (k : List Entry) (means : TablesMean old.now m k) (f : JobFields) where
-  inserted : HasRun INSERT_JOB.now (job_shown f) old new → InsertsRow six_tables 0 old new (job_row f)
+  inserted : HasRun INSERT_JOB.now (job_shown f) old new → InsertsRow six_tables jobs_tree old new (job_row f)
   inserted h =
       let ran = runs_as INSERT_JOB.now (job_shown f) old new six_tables means.schema _ insert_job.is insert_job.plain h.0 h.1 in
       inserts six_tables unreferred schema.jobs.name 0 schema.jobs.columns schema.jobs.key schema.jobs.primary schema.jobs.uniques schema.jobs.orders schema.jobs.checks 0 refl old new means.schema (job_shown f) _ h.0
-      job_terms 21 (job_row f) (job_row f) refl (ap (with_rowid Chosen (old.now.trees 0)) (stored_job f)) ran
+      job_terms 21 (job_row f) (job_row f) refl (ap (with_rowid Chosen (old.now.trees jobs_tree)) (stored_job f)) ran
 
-  pub job_put : IsLawfulJob (job_of f) → HasRun INSERT_JOB.now (job_shown f) old new → TablesMean new.now (with_placed (job_of f) m) k × KeepsOthers six_tables 0 old new
+  pub job_put : IsLawfulJob (job_of f) → HasRun INSERT_JOB.now (job_shown f) old new → TablesMean new.now (with_placed (job_of f) m) k × KeepsOthers six_tables jobs_tree old new
   job_put lawful h =
       let done = inserted h in
       let order = means.ordered.jobs in
       let row : row_of (job_of f) ≡ job_row f = ap job_row (fields_back f) in
       let free : is_taken (map row_of m.jobs) (row_of (job_of f)) ≡ false =
-      subst (λ r. is_taken (map row_of m.jobs) r ≡ false) (sym row) (subst (λ rows. is_taken rows (job_row f) ≡ false) means.jobs (free_of (old.now.trees 0) (job_row f) done.fresh)) in
-      let now : AreRecords row_of IsLawfulJob (new.now.trees 0) (placed (job_of f) m.jobs) = record {
+      subst (λ r. is_taken (map row_of m.jobs) r ≡ false) (sym row) (subst (λ rows. is_taken rows (job_row f) ≡ false) means.jobs (free_of (old.now.trees jobs_tree) (job_row f) done.fresh)) in
+      let now : AreRecords row_of IsLawfulJob (new.now.trees jobs_tree) (placed (job_of f) m.jobs) = record {
         is = done.rows ∙ ap₂ put_row (sym row) means.jobs ∙ row_placed row_of (λ (j : Job). j.number) (λ j. refl) placed (λ j. refl) (λ j x xs. refl) (job_of f) m.jobs free;
-        ordered = subst IsByRowid (sym done.rows) (by_rowid_put (job_row f) (old.now.trees 0) refl order);
+        ordered = subst IsByRowid (sym done.rows) (by_rowid_put (job_row f) (old.now.trees jobs_tree) refl order);
         lawful = all_placed row_of (λ (j : Job). j.number) (λ j. refl) placed (λ j. refl) (λ j x xs. refl) IsLawfulJob (job_of f) m.jobs lawful means.lawful.jobs;
       } in
       (means_of new.now (with_placed (job_of f) m) k (jobs_changed old new m (open_grants m) k (parts_of old.now m k means) done.keeps (placed (job_of f) m.jobs) now), done.keeps)

@@ -8,7 +8,7 @@ use Rattle.sqlite.specs.State.{State, IsUnchanged}
 use Rattle.sqlite.proofs.Callers.{IsPlain, runs_as, reads_as}
 use Rattle.fax_store.specs.declared.meta.TheConstants.{SELECT_META, UPDATE_META}
 use Rattle.fax_tables.specs.Schema as schema
-use Rattle.fax_tables.specs.Schema.{six_tables}
+use Rattle.fax_tables.specs.Schema.{six_tables, meta_tree}
 use Rattle.fax_core.specs.Queue.{Queue, Entry, open_grants}
 use Rattle.fax_tables.specs.Row.{number, meta_row}
 use Rattle.fax_tables.specs.Meta.{meta_shown}
@@ -22,7 +22,7 @@ use Rattle.fax_tables.proofs.TablesLemmas.{parts_of, means_of, meta_changed}
 use Rattle.fax_tables.proofs.UpdateLemmas.{updated}
 use Rattle.fax_tables.proofs.WriteLemmas.{KeepsOthers}
 
-meta_passes : (m : Queue) (params : Row) → passes 10 meta_tests [] params (meta_row m) ≡ true
+meta_passes : (m : Queue) (params : Row) → passes meta_tree meta_tests [] params (meta_row m) ≡ true
 meta_passes m params = rw number_same refl
 
 stored : (m : Queue) → cast_row schema.meta (meta_row m) ≡ meta_row m
@@ -36,8 +36,8 @@ module _ (old new : State) (m : Queue) (k : List Entry) (means : TablesMean old.
   pub meta_found : (found : Option Row) → FindsRow SELECT_META.now [] old new found → found ≡ Some (meta_shown m)
   meta_found found h =
       let read = reads_as SELECT_META.now [] old new six_tables means.schema _ select_meta.command select_meta.plain select_meta.unlisted h.0 h.1 in
-      let same = answers 10 meta_tests meta_project [] old.now (meta_row m ∷ []) means.meta [] h.0 read in
-      only_found (meta_shown m) h.0 found (only_row 10 meta_tests meta_project [] (meta_row m) h.0 (meta_passes m []) same) h.2
+      let same = answers meta_tree meta_tests meta_project [] old.now (meta_row m ∷ []) means.meta [] h.0 read in
+      only_found (meta_shown m) h.0 found (only_row meta_tree meta_tests meta_project [] (meta_row m) h.0 (meta_passes m []) same) h.2
 
   pub meta_unchanged : (found : Option Row) → FindsRow SELECT_META.now [] old new found → IsUnchanged old new
   meta_unchanged found h = shown_keeps old new SELECT_META.now [] (subst (λ s. IsPlain (understood s SELECT_META.now)) (sym means.schema) select_meta.plain) h.0 h.1
@@ -49,7 +49,7 @@ module _ (old new : State) (m : Queue) (k : List Entry) (means : TablesMean old.
     abbrev put : Queue → Queue
     put it = record it { clock = clock; next_job = next_job; next_grant = next_grant }
 
-    written : HasRun UPDATE_META.now params old new → KeepsOthers six_tables 10 old new × (new.now.trees 10 ≡ meta_row (put m) ∷ []) × IsByRowid (new.now.trees 10)
+    written : HasRun UPDATE_META.now params old new → KeepsOthers six_tables meta_tree old new × (new.now.trees meta_tree ≡ meta_row (put m) ∷ []) × IsByRowid (new.now.trees meta_tree)
     written h =
         let ran = runs_as UPDATE_META.now params old new six_tables means.schema _ update_meta.is update_meta.plain h.0 h.1 in
         updated schema.meta.name 10 schema.meta.columns schema.meta.key schema.meta.primary schema.meta.uniques schema.meta.orders schema.meta.checks 5 refl old new means.schema refl (subst IsByRowid (sym means.meta) (alone m))
@@ -62,5 +62,5 @@ module _ (old new : State) (m : Queue) (k : List Entry) (means : TablesMean old.
         let done = written h in
         means_of new.now (put m) k (meta_changed old new m (open_grants m) k (parts_of old.now m k means) done.0 clock next_job next_grant done.1 lawful)
 
-    pub meta_shows : HasRun UPDATE_META.now params old new → KeepsOthers six_tables 10 old new
+    pub meta_shows : HasRun UPDATE_META.now params old new → KeepsOthers six_tables meta_tree old new
     meta_shows h = (written h).0

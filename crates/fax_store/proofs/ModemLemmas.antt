@@ -21,7 +21,7 @@ use Rattle.fax_job.specs.Name.{IsName}
 use Rattle.fax_store.specs.declared.modems.TheConstants.{SELECT_DOWN, INSERT_DOWN, DELETE_DOWN}
 use Rattle.fax_tables.specs.Row.{down_columns}
 use Rattle.fax_tables.specs.Schema as schema
-use Rattle.fax_tables.specs.Schema.{six_tables}
+use Rattle.fax_tables.specs.Schema.{six_tables, down_tree}
 use Rattle.fax_store.specs.Store.{FindsRow, HasRun}
 use Rattle.fax_tables.specs.Tables.{TablesMean}
 use Rattle.fax_tables.proofs.ColumnLemmas.{record_of, row_of, kept_columns, all_kept, none_holds}
@@ -46,54 +46,54 @@ module _ (modem : List ℕ) where
   params = Text modem ∷ []
 
   -- the rows that pass are those of the modem
-  is_asked : (project : List _) (r : Row) (name : List ℕ) → drop 1 r ≡ down_columns name → passes 6 down_tests project params r ≡ bytes_eq modem name
+  is_asked : (project : List _) (r : Row) (name : List ℕ) → drop 1 r ≡ down_columns name → passes down_tree down_tests project params r ≡ bytes_eq modem name
   is_asked project [] name is = absurd cc
-  is_asked project (i ∷ columns) name is = ap (λ rest. passes 6 down_tests project params (i ∷ rest)) is ∙ and_true (are_equal (Text name) (Text modem)) ∙ equal_texts name modem ∙ turned name modem
+  is_asked project (i ∷ columns) name is = ap (λ rest. passes down_tree down_tests project params (i ∷ rest)) is ∙ and_true (are_equal (Text name) (Text modem)) ∙ equal_texts name modem ∙ turned name modem
 
   module _ (old new : State) (m : Queue) (k : List Entry) (means : TablesMean old.now m k) where
-    same : IsPermutation (map down_columns m.down) (map (drop 1) (old.now.trees 6))
-    same = IsPermutation-same (map down_columns m.down) (map (drop 1) (old.now.trees 6)) (sym means.down)
+    same : IsPermutation (map down_columns m.down) (map (drop 1) (old.now.trees down_tree))
+    same = IsPermutation-same (map down_columns m.down) (map (drop 1) (old.now.trees down_tree)) (sym means.down)
 
     pub mark_found : (found : Option Row) → FindsRow SELECT_DOWN.now params old new found → is_some found ≡ is_down modem m
     mark_found found h = tells found h.2
       where
-        shows : IsPermutation (map (show 6 down_tests down_project params) (filter (passes 6 down_tests down_project params) (old.now.trees 6))) h.0
-        shows = answers 6 down_tests down_project params old.now (old.now.trees 6) refl [] h.0 (reads_as SELECT_DOWN.now params old new six_tables means.schema _ select_down.command select_down.plain select_down.unlisted h.0 h.1)
+        shows : IsPermutation (map (show down_tree down_tests down_project params) (filter (passes down_tree down_tests down_project params) (old.now.trees down_tree))) h.0
+        shows = answers down_tree down_tests down_project params old.now (old.now.trees down_tree) refl [] h.0 (reads_as SELECT_DOWN.now params old new six_tables means.schema _ select_down.command select_down.plain select_down.unlisted h.0 h.1)
 
         tells : (found : Option Row) → MatchOption found (h.0 ≡ []) (Has h.0) → is_some found ≡ is_down modem m
         tells None empty = sym (none_holds (bytes_eq modem) m.down (λ name has.
-            let it = row_of down_columns (old.now.trees 6) m.down same name has in
-            sym (is_asked down_project it.0 name it.2) ∙ none_shown (passes 6 down_tests down_project params) (show 6 down_tests down_project params) (old.now.trees 6) h.0 shows empty it.0 it.1))
+            let it = row_of down_columns (old.now.trees down_tree) m.down same name has in
+            sym (is_asked down_project it.0 name it.2) ∙ none_shown (passes down_tree down_tests down_project params) (show down_tree down_tests down_project params) (old.now.trees down_tree) h.0 shows empty it.0 it.1))
         tells (Some row) has =
-            let shown = shown_one (passes 6 down_tests down_project params) (show 6 down_tests down_project params) (old.now.trees 6) h.0 shows row has in
-            let it = record_of down_columns (old.now.trees 6) m.down same shown.0 shown.1 in
+            let shown = shown_one (passes down_tree down_tests down_project params) (show down_tree down_tests down_project params) (old.now.trees down_tree) h.0 shows row has in
+            let it = record_of down_columns (old.now.trees down_tree) m.down same shown.0 shown.1 in
             sym (some_from (bytes_eq modem) m.down it.0 it.1 (sym (is_asked down_project shown.0 it.0 it.2) ∙ shown.2))
 
     pub mark_unchanged : (found : Option Row) → FindsRow SELECT_DOWN.now params old new found → IsUnchanged old new
     mark_unchanged found h = shown_keeps old new SELECT_DOWN.now params (subst (λ s. IsPlain (understood s SELECT_DOWN.now)) (sym means.schema) select_down.plain) h.0 h.1
 
-    pub mark_cleared : HasRun DELETE_DOWN.now params old new → TablesMean new.now (with_mark modem false m) k × KeepsOthers six_tables 6 old new
+    pub mark_cleared : HasRun DELETE_DOWN.now params old new → TablesMean new.now (with_mark modem false m) k × KeepsOthers six_tables down_tree old new
     mark_cleared h =
         let ran = runs_as DELETE_DOWN.now params old new six_tables means.schema _ delete_down.is delete_down.plain h.0 h.1 in
         let done = deleted schema.down.name 6 schema.down.columns schema.down.key schema.down.primary schema.down.uniques schema.down.orders schema.down.checks 3 refl old new means.schema refl means.ordered.down
         down_tests gone_project params (λ r. refl) _ h.0 ran in
         let others = λ (name : List ℕ). not (bytes_eq modem name) in
-        let now : AreColumns down_columns IsName (new.now.trees 6) (filter others m.down) = record {
-          is = ap (map (drop 1)) done.1 ∙ kept_columns down_columns (λ r. not (passes 6 down_tests gone_project params r)) others (λ r name is. ap not (is_asked gone_project r name is)) (old.now.trees 6) m.down means.down;
+        let now : AreColumns down_columns IsName (new.now.trees down_tree) (filter others m.down) = record {
+          is = ap (map (drop 1)) done.1 ∙ kept_columns down_columns (λ r. not (passes down_tree down_tests gone_project params r)) others (λ r name is. ap not (is_asked gone_project r name is)) (old.now.trees down_tree) m.down means.down;
           ordered = done.2;
           lawful = all_kept IsName others m.down means.lawful.down;
         } in
         (means_of new.now (with_mark modem false m) k (down_changed old new m (open_grants m) k (parts_of old.now m k means) done.0 (filter others m.down) now), done.0)
 
-    pub mark_added : IsName modem → is_down modem m ≡ false → HasRun INSERT_DOWN.now params old new → TablesMean new.now (with_mark modem true m) k × KeepsOthers six_tables 6 old new
+    pub mark_added : IsName modem → is_down modem m ≡ false → HasRun INSERT_DOWN.now params old new → TablesMean new.now (with_mark modem true m) k × KeepsOthers six_tables down_tree old new
     mark_added lawful free h =
         let stored : cast_row schema.down (Null ∷ down_columns modem) ≡ Null ∷ down_columns modem = same_row cast_null (same_row refl refl) in
         let ran = runs_as INSERT_DOWN.now params old new six_tables means.schema _ insert_down.is insert_down.plain h.0 h.1 in
         let done = inserts six_tables unreferred schema.down.name 6 schema.down.columns schema.down.key schema.down.primary schema.down.uniques schema.down.orders schema.down.checks 3 refl old new means.schema params _ h.0
-        down_terms 2 (Null ∷ down_columns modem) (Int (next_rowid (old.now.trees 6)) ∷ down_columns modem) refl (ap (with_rowid Chosen (old.now.trees 6)) stored) ran in
+        down_terms 2 (Null ∷ down_columns modem) (Int (next_rowid (old.now.trees down_tree)) ∷ down_columns modem) refl (ap (with_rowid Chosen (old.now.trees down_tree)) stored) ran in
         let was = parts_of old.now m k means in
         let marked = m.down ++ modem ∷ [] in
-        let after = down_changed old new m (open_grants m) k was done.keeps marked (one_more down_columns IsName modem m.down (old.now.trees 6) (new.now.trees 6) done.rows lawful was.down) in
+        let after = down_changed old new m (open_grants m) k was done.keeps marked (one_more down_columns IsName modem m.down (old.now.trees down_tree) (new.now.trees down_tree) done.rows lawful was.down) in
         (subst (λ b. TablesMean new.now (record m { down = if b then m.down else marked }) k) (sym free) (means_of new.now (record m { down = marked }) k after), done.keeps)
 
 -- a mark that is there already

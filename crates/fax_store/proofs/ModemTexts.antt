@@ -9,6 +9,7 @@ use Rattle.sqlite_tied.specs.Compute.{everything}
 use Rattle.fax_store.specs.declared.modems.TheConstants.{SELECT_DOWN, INSERT_DOWN, DELETE_DOWN}
 use Rattle.fax_tables.proofs.StatementForms.{equals, Selects, Commands}
 use Rattle.fax_tables.proofs.UpdateLemmas.{program_of, gone_project}
+use Rattle.fax_tables.specs.Schema.{down_tree}
 
 abbrev pub down_tests : List Term
 down_tests = equals (col 1 1) (col 0 0) ∷ []
@@ -16,7 +17,7 @@ down_tests = equals (col 1 1) (col 0 0) ∷ []
 abbrev pub down_project : List Term
 down_project = col 1 1 ∷ []
 
-pub select_down : Selects SELECT_DOWN.now 6 down_tests down_project (codes "modem" ∷ [])
+pub select_down : Selects SELECT_DOWN.now down_tree down_tests down_project (codes "modem" ∷ [])
 unfolding understood everything
 select_down = record { command = refl; plain = (refl, refl); unlisted = refl }
 
@@ -27,6 +28,6 @@ pub insert_down : Commands INSERT_DOWN.now (Insert 3 (Values down_terms 2))
 unfolding understood everything
 insert_down = record { is = refl; plain = (refl, refl) }
 
-pub delete_down : Commands DELETE_DOWN.now (Delete 3 (program_of 6 down_tests gone_project))
+pub delete_down : Commands DELETE_DOWN.now (Delete 3 (program_of down_tree down_tests gone_project))
 unfolding understood everything
 delete_down = record { is = refl; plain = (refl, refl) }

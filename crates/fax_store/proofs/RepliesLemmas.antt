@@ -11,7 +11,7 @@ use Rattle.sqlite.proofs.Callers.{IsPlain, runs_as, reads_as}
 use Rattle.sqlite_rules.specs.Lists.{Has}
 use Rattle.fax_store.specs.declared.replies.TheConstants.{SELECT_REPLY, INSERT_REPLY}
 use Rattle.fax_tables.specs.Schema as schema
-use Rattle.fax_tables.specs.Schema.{six_tables}
+use Rattle.fax_tables.specs.Schema.{six_tables, replies_tree}
 use Rattle.fax_core.specs.Queue.{Queue, Entry, open_grants}
 use Rattle.fax_tables.specs.Row.{number, entry_columns}
 use Rattle.fax_tables.specs.Kept.{entry_shown}
@@ -63,17 +63,17 @@ module _ (client : List ℕ) (n : ℕ) where
   params = Text client ∷ number n ∷ []
 
   abbrev is_asked : Row → Bool
-  is_asked r = passes 8 reply_tests reply_project params r
+  is_asked r = passes replies_tree reply_tests reply_project params r
 
   -- a row that passes is that of the entry asked for, and shows it
-  is_of : (r : Row) (e : Entry) → drop 1 r ≡ entry_columns e → is_asked r ≡ true → IsOf client n e × (show 8 reply_tests reply_project params r ≡ entry_shown e)
+  is_of : (r : Row) (e : Entry) → drop 1 r ≡ entry_columns e → is_asked r ≡ true → IsOf client n e × (show replies_tree reply_tests reply_project params r ≡ entry_shown e)
   is_of [] e h p = absurd cc
   is_of (x ∷ rest) e h p =
       let q : (are_equal (Text e.client) (Text client) && (are_equal (number e.number) (number n) && true)) ≡ true = subst (λ cols. is_asked (x ∷ cols) ≡ true) h p in
       let both = both_true _ _ q in
       let more = both_true _ _ both.1 in (
         record { client_is = (bytes_eq-Decides e.client client).0 (sym (equal_texts e.client client) ∙ both.0); number_is = same_number e.number n more.0 },
-        ap (λ cols. show 8 reply_tests reply_project params (x ∷ cols)) h,
+        ap (λ cols. show replies_tree reply_tests reply_project params (x ∷ cols)) h,
       )
 
   -- and the row of that entry passes
@@ -90,16 +90,16 @@ module _ (client : List ℕ) (n : ℕ) where
         → MatchOption found ((e : Entry) → Has k e → ¬ IsOf client n e) (λ row. (e : Entry) × Has k e × IsOf client n e × (row ≡ entry_shown e))
     reply_found found h = tells found h.2
       where
-        same : IsPermutation (map (show 8 reply_tests reply_project params) (filter (passes 8 reply_tests reply_project params) (old.now.trees 8))) h.0
-        same = answers 8 reply_tests reply_project params old.now (old.now.trees 8) refl [] h.0 (reads_as SELECT_REPLY.now params old new six_tables means.schema _ select_reply.command select_reply.plain select_reply.unlisted h.0 h.1)
+        same : IsPermutation (map (show replies_tree reply_tests reply_project params) (filter (passes replies_tree reply_tests reply_project params) (old.now.trees replies_tree))) h.0
+        same = answers replies_tree reply_tests reply_project params old.now (old.now.trees replies_tree) refl [] h.0 (reads_as SELECT_REPLY.now params old new six_tables means.schema _ select_reply.command select_reply.plain select_reply.unlisted h.0 h.1)
 
         tells : (found : Option Row) → MatchOption found (h.0 ≡ []) (Has h.0) → MatchOption found ((e : Entry) → Has k e → ¬ IsOf client n e) (λ row. (e : Entry) × Has k e × IsOf client n e × (row ≡ entry_shown e))
         tells None empty = λ e has of.
-            let it = row_of (old.now.trees 8) k means.replies e has in
-            both_ways _ (none_shown is_asked (show 8 reply_tests reply_project params) (old.now.trees 8) h.0 same empty it.0 it.1) (asked_for it.0 e it.2 of)
+            let it = row_of (old.now.trees replies_tree) k means.replies e has in
+            both_ways _ (none_shown is_asked (show replies_tree reply_tests reply_project params) (old.now.trees replies_tree) h.0 same empty it.0 it.1) (asked_for it.0 e it.2 of)
         tells (Some row) has =
-            let shown = shown_one is_asked (show 8 reply_tests reply_project params) (old.now.trees 8) h.0 same row has in
-            let it = entry_of (old.now.trees 8) k means.replies shown.0 shown.1 in
+            let shown = shown_one is_asked (show replies_tree reply_tests reply_project params) (old.now.trees replies_tree) h.0 same row has in
+            let it = entry_of (old.now.trees replies_tree) k means.replies shown.0 shown.1 in
             let of = is_of shown.0 it.0 it.2 shown.2 in
             (it.0, it.1, of.0, shown.3 ∙ of.1)
 
@@ -120,16 +120,16 @@ module _ (old new : State) (m : Queue) (k : List Entry) (means : TablesMean old.
   reply_params = Text e.client ∷ number e.number ∷ Blob e.said ∷ number e.status ∷ Blob e.body ∷ []
 
   abbrev new_reply : Row
-  new_reply = Int (next_rowid (old.now.trees 8)) ∷ entry_columns e
+  new_reply = Int (next_rowid (old.now.trees replies_tree)) ∷ entry_columns e
 
-  inserted : HasRun INSERT_REPLY.now reply_params old new → InsertsRow six_tables 8 old new new_reply
+  inserted : HasRun INSERT_REPLY.now reply_params old new → InsertsRow six_tables replies_tree old new new_reply
   inserted h =
       let ran = runs_as INSERT_REPLY.now reply_params old new six_tables means.schema _ insert_reply.is insert_reply.plain h.0 h.1 in
       inserts six_tables unreferred schema.replies.name 8 schema.replies.columns schema.replies.key schema.replies.primary schema.replies.uniques schema.replies.orders schema.replies.checks 4 refl old new means.schema reply_params _ h.0
-      reply_terms 6 (Null ∷ entry_columns e) new_reply refl (ap (with_rowid Chosen (old.now.trees 8)) (stored_reply e)) ran
+      reply_terms 6 (Null ∷ entry_columns e) new_reply refl (ap (with_rowid Chosen (old.now.trees replies_tree)) (stored_reply e)) ran
 
-  pub reply_kept : IsLawfulEntry e → HasRun INSERT_REPLY.now reply_params old new → TablesMean new.now m (k ++ e ∷ []) × KeepsOthers six_tables 8 old new
+  pub reply_kept : IsLawfulEntry e → HasRun INSERT_REPLY.now reply_params old new → TablesMean new.now m (k ++ e ∷ []) × KeepsOthers six_tables replies_tree old new
   reply_kept lawful h =
       let done = inserted h in
       let was = parts_of old.now m k means in
-      (means_of new.now m (k ++ e ∷ []) (replies_changed old new m (open_grants m) k was done.keeps (k ++ e ∷ []) (one_more entry_columns IsLawfulEntry e k (old.now.trees 8) (new.now.trees 8) done.rows lawful was.replies)), done.keeps)
+      (means_of new.now m (k ++ e ∷ []) (replies_changed old new m (open_grants m) k was done.keeps (k ++ e ∷ []) (one_more entry_columns IsLawfulEntry e k (old.now.trees replies_tree) (new.now.trees replies_tree) done.rows lawful was.replies)), done.keeps)

@@ -17,6 +17,7 @@ use Rattle.fax_store.specs.declared.replies.TheConstants.{SELECT_REPLY, INSERT_R
 use Rattle.fax_store.specs.declared.jobs.TheConstants.{SELECT_JOB, INSERT_JOB, UPDATE_JOB, EXPIRE_JOBS, SELECT_WAITING}
 use Rattle.fax_tables.proofs.SelectLemmas.{rows_where}
 use Rattle.fax_tables.proofs.StatementForms.{equals, Selects, SelectsBy, Commands}
+use Rattle.fax_tables.specs.Schema.{jobs_tree, meta_tree, replies_tree}
 
 abbrev pub meta_tests : List Term
 meta_tests = equals (col 1 0) (lit (Int (pos 1))) ∷ []
@@ -24,14 +25,14 @@ meta_tests = equals (col 1 0) (lit (Int (pos 1))) ∷ []
 abbrev pub meta_project : List Term
 meta_project = col 1 2 ∷ col 1 3 ∷ col 1 4 ∷ []
 
-pub select_meta : Selects SELECT_META.now 10 meta_tests meta_project (codes "clock" ∷ codes "next_job" ∷ codes "next_grant" ∷ [])
+pub select_meta : Selects SELECT_META.now meta_tree meta_tests meta_project (codes "clock" ∷ codes "next_job" ∷ codes "next_grant" ∷ [])
 unfolding understood everything
 select_meta = record { command = refl; plain = (refl, refl); unlisted = refl }
 
 abbrev pub update_project : List Term
 update_project = col 1 0 ∷ col 1 0 ∷ lit Null ∷ col 0 0 ∷ col 0 1 ∷ col 0 2 ∷ col 1 5 ∷ []
 
-pub update_meta : Commands UPDATE_META.now (Update 5 (record { lets = []; body = rows_where 10 meta_tests update_project }))
+pub update_meta : Commands UPDATE_META.now (Update 5 (record { lets = []; body = rows_where meta_tree meta_tests update_project }))
 unfolding understood everything
 update_meta = record { is = refl; plain = (refl, refl) }
 
@@ -41,7 +42,7 @@ reply_tests = equals (col 1 1) (col 0 0) ∷ equals (col 1 2) (col 0 1) ∷ []
 abbrev pub reply_project : List Term
 reply_project = col 1 3 ∷ col 1 4 ∷ col 1 5 ∷ []
 
-pub select_reply : Selects SELECT_REPLY.now 8 reply_tests reply_project (codes "said" ∷ codes "status" ∷ codes "body" ∷ [])
+pub select_reply : Selects SELECT_REPLY.now replies_tree reply_tests reply_project (codes "said" ∷ codes "status" ∷ codes "body" ∷ [])
 unfolding understood everything
 select_reply = record { command = refl; plain = (refl, refl); unlisted = refl }
 
@@ -64,7 +65,7 @@ job_names =
 abbrev pub job_tests : List Term
 job_tests = equals (col 1 0) (col 0 0) ∷ []
 
-pub select_job : Selects SELECT_JOB.now 0 job_tests job_project job_names
+pub select_job : Selects SELECT_JOB.now jobs_tree job_tests job_project job_names
 unfolding understood everything
 select_job = record { command = refl; plain = (refl, refl); unlisted = refl }
 
@@ -80,7 +81,7 @@ abbrev pub change_project : List Term
 change_project =
     col 1 0 ∷ col 1 0 ∷ lit Null ∷ col 1 2 ∷ col 0 1 ∷ col 0 2 ∷ col 0 3 ∷ col 1 6 ∷ col 0 4 ∷ col 0 5 ∷ col 0 6 ∷ col 0 7 ∷ col 1 11 ∷ col 0 8 ∷ col 0 9 ∷ col 0 10 ∷ col 0 11 ∷ col 0 12 ∷ col 0 13 ∷ col 0 14 ∷ col 0 15 ∷ col 0 16 ∷ []
 
-pub update_job : Commands UPDATE_JOB.now (Update 0 (record { lets = []; body = rows_where 0 job_tests change_project }))
+pub update_job : Commands UPDATE_JOB.now (Update 0 (record { lets = []; body = rows_where jobs_tree job_tests change_project }))
 unfolding understood everything
 update_job = record { is = refl; plain = (refl, refl) }
 
@@ -91,7 +92,7 @@ abbrev pub expired_project : List Term
 expired_project =
     col 1 0 ∷ col 1 0 ∷ lit Null ∷ col 1 2 ∷ col 1 3 ∷ col 1 4 ∷ lit (Text kill_time_expired) ∷ col 1 6 ∷ col 1 7 ∷ col 1 8 ∷ col 1 9 ∷ col 1 10 ∷ col 1 11 ∷ col 1 12 ∷ col 1 13 ∷ col 1 14 ∷ col 1 15 ∷ col 1 16 ∷ col 1 17 ∷ lit (Int (pos 4)) ∷ col 1 19 ∷ col 1 20 ∷ []
 
-pub expire_jobs : Commands EXPIRE_JOBS.now (Update 0 (record { lets = []; body = rows_where 0 expired_tests expired_project }))
+pub expire_jobs : Commands EXPIRE_JOBS.now (Update 0 (record { lets = []; body = rows_where jobs_tree expired_tests expired_project }))
 unfolding understood everything
 expire_jobs = record { is = refl; plain = (refl, refl) }
 
@@ -103,6 +104,6 @@ waiting_tests =
 abbrev pub waiting_order : List (Term × Key)
 waiting_order = (col 1 9, ascending Binary) ∷ (col 1 7, ascending Binary) ∷ (col 1 0, ascending Binary) ∷ []
 
-pub select_waiting : SelectsBy SELECT_WAITING.now 0 waiting_tests job_project waiting_order job_names
+pub select_waiting : SelectsBy SELECT_WAITING.now jobs_tree waiting_tests job_project waiting_order job_names
 unfolding understood everything
 select_waiting = record { command = refl; plain = (refl, refl); unlisted = refl }

@@ -23,7 +23,7 @@ use Rattle.fax_store.specs.declared.jobs.TheConstants.{SELECT_WAITING}
 use Rattle.fax_tables.specs.Job.{IsLawfulJob, job_shown}
 use Rattle.fax_store.specs.Job.{AreWaiting}
 use Rattle.fax_tables.specs.Row.{number, phase_number}
-use Rattle.fax_tables.specs.Schema.{six_tables}
+use Rattle.fax_tables.specs.Schema.{six_tables, jobs_tree}
 use Rattle.fax_tables.specs.Tables.{TablesMean}
 use Rattle.std.proofs.lemmas.List.Sorted.{All-permutation}
 use Rattle.fax_tables.proofs.ColumnLemmas.{all_kept}
@@ -64,7 +64,7 @@ module _ (t : ℕ) where
   turned true true true true = refl
 
   abbrev is_asked : Row → Bool
-  is_asked = passes 0 waiting_tests job_project params
+  is_asked = passes jobs_tree waiting_tests job_project params
 
   -- the rows that pass are those of the jobs that are due
   due : (j : Job) → is_asked (row_of j) ≡ is_due j t
@@ -78,7 +78,7 @@ module _ (t : ℕ) where
       ≡ (nat_lt p q || ((p == q) && (nat_lt s u || ((s == u) && nat_lt n k))))
   by_numbers p q s u n k = grind (arith, nat_tests)
 
-  same_order : (a b : Job) → is_lt (output_cmp (rows_by 0 waiting_tests job_project waiting_order) (put_out 0 waiting_tests job_project params waiting_order (row_of a)) (put_out 0 waiting_tests job_project params waiting_order (row_of b))) ≡ better a b
+  same_order : (a b : Job) → is_lt (output_cmp (rows_by jobs_tree waiting_tests job_project waiting_order) (put_out 0 waiting_tests job_project params waiting_order (row_of a)) (put_out 0 waiting_tests job_project params waiting_order (row_of b))) ≡ better a b
   same_order a b =
       ap is_lt (ap₂ ordering_then (value_cmp-Int (pos a.priority) (pos b.priority)) (ap₂ ordering_then (value_cmp-Int (pos a.tts) (pos b.tts)) (ap (λ o. ordering_then o Equal) (value_cmp-Int (pos a.number) (pos b.number)))))
       ∙ by_numbers a.priority b.priority a.tts b.tts a.number b.number
@@ -91,17 +91,17 @@ module _ (t : ℕ) where
   module _ (old new : State) (m : Queue) (k : List Entry) (means : TablesMean old.now m k) where
     pub waiting_found : (rows : List Row) → Shown SELECT_WAITING.now params old new rows → (jobs : List Job) × (rows ≡ map (λ j. job_shown (fields_of j)) jobs) × AreWaiting t m jobs
     waiting_found rows h =
-        let query = rows_by 0 waiting_tests job_project waiting_order in
+        let query = rows_by jobs_tree waiting_tests job_project waiting_order in
         let out = λ (j : Job). put_out 0 waiting_tests job_project params waiting_order (row_of j) in
         let read = reads_as SELECT_WAITING.now params old new six_tables means.schema _ select_waiting.command select_waiting.plain select_waiting.unlisted rows h in
-        let shown = in_order 0 waiting_tests job_project params old.now (old.now.trees 0) refl waiting_order job_names rows read in
-        let asked : filter is_asked (old.now.trees 0) ≡ map row_of (filter (λ j. is_due j t) m.jobs) =
+        let shown = in_order 0 waiting_tests job_project params old.now (old.now.trees jobs_tree) refl waiting_order job_names rows read in
+        let asked : filter is_asked (old.now.trees jobs_tree) ≡ map row_of (filter (λ j. is_due j t) m.jobs) =
         ap (filter is_asked) means.jobs ∙ filter-map is_asked row_of m.jobs ∙ ap (map row_of) (filter_same (λ j. is_asked (row_of j)) (λ j. is_due j t) m.jobs (all_of (λ j. is_asked (row_of j) ≡ is_due j t) due m.jobs)) in
-        let back = pull_back row_of (filter is_asked (old.now.trees 0)) shown.0 shown.1 (filter (λ j. is_due j t) m.jobs) asked in
+        let back = pull_back row_of (filter is_asked (old.now.trees jobs_tree)) shown.0 shown.1 (filter (λ j. is_due j t) m.jobs) asked in
         let jobs = back.0 in
         let sorted : IsSorted (output_cmp query) (map out jobs) = subst (IsSorted (output_cmp query)) (ap (map (put_out 0 waiting_tests job_project params waiting_order)) back.2 ∙ map-map _ _ jobs) shown.3 in (
           jobs,
-          shown.2 ∙ ap (map (show 0 waiting_tests job_project params)) back.2 ∙ map-map _ _ jobs,
+          shown.2 ∙ ap (map (show jobs_tree waiting_tests job_project params)) back.2 ∙ map-map _ _ jobs,
           record {
             due = back.1;
             ordered = λ i d from low.

@@ -24,7 +24,7 @@ use Rattle.fax_tables.specs.declared.schema.TheConstants.{INSERT_META}
 use Rattle.fax_core.specs.Queue.{empty_queue}
 use Rattle.fax_tables.specs.Schema as schema
 use Rattle.sqlite.specs.Steps.{IsEmpty}
-use Rattle.fax_tables.specs.Schema.{no_tables, six_tables}
+use Rattle.fax_tables.specs.Schema.{no_tables, six_tables, meta_tree}
 use Rattle.fax_tables.specs.Row.{meta_row}
 use Rattle.fax_tables.specs.Tables.{IsAtRest, HasEmptyTables}
 use Rattle.fax_tables.specs.Tables.{IsByRowid}
@@ -80,7 +80,7 @@ pub filled : (old new : State) (count : ℕ) → Executes INSERT_META.now [] old
 filled old new count h was =
     let ran = runs_as INSERT_META.now [] old new six_tables was.schema_is _ insert_meta.is insert_meta.plain count h in
     let done = inserts six_tables unreferred schema.meta.name 10 schema.meta.columns schema.meta.key schema.meta.primary schema.meta.uniques schema.meta.orders schema.meta.checks 5 refl old new was.schema_is [] _ count
-    _ 6 (meta_row empty_queue) (meta_row empty_queue) refl (ap (with_rowid Chosen (old.now.trees 10)) stored_meta) ran in
+    _ 6 (meta_row empty_queue) (meta_row empty_queue) refl (ap (with_rowid Chosen (old.now.trees meta_tree)) stored_meta) ran in
     let others = done.keeps.others in
     let jobs = others.0 (λ e. absurd (omega arith)) ∙ was.empty.0 in
     let grants = others.1.0 (λ e. absurd (omega arith)) ∙ was.empty.1.0 in

@@ -15,7 +15,7 @@ use Rattle.fax_core.specs.Job.{Job, fields_of}
 use Rattle.fax_core.specs.Queue.{Queue, Entry, open_grants}
 use Rattle.fax_core.specs.declared.grants.Grant.{Grant}
 use Rattle.fax_job.specs.Name.{IsName}
-use Rattle.fax_tables.specs.Schema.{six_tables}
+use Rattle.fax_tables.specs.Schema.{six_tables, down_tree, grants_tree, holds_tree, jobs_tree, meta_tree, replies_tree}
 use Rattle.fax_tables.specs.Job.{IsLawfulJob}
 use Rattle.fax_tables.specs.Row.{job_row, grant_row, hold_columns, down_columns, entry_columns, meta_row}
 use Rattle.fax_tables.specs.Tables.{TablesMean, IsLawfulGrant, IsLawfulMeta, IsLawfulEntry, IsByRowid}
@@ -62,16 +62,16 @@ one_more columns Lawful x xs rows after is lawful was = record {
 pub record Parts (db : Database) (m : Queue) (held : List Grant) (k : List Entry) : Type 0 where
   pub schema : db.schema ≡ six_tables
   pub sound : IsDatabase db
-  pub jobs : AreRecords row_of IsLawfulJob (db.trees 0) m.jobs
-  pub grants : AreRecords grant_row IsLawfulGrant (db.trees 1) m.grants
-  pub holds : AreHeld (db.trees 2) held
-  pub down : AreColumns down_columns IsName (db.trees 6) m.down
-  pub replies : AreColumns entry_columns IsLawfulEntry (db.trees 8) k
-  pub meta : db.trees 10 ≡ meta_row m ∷ []
+  pub jobs : AreRecords row_of IsLawfulJob (db.trees jobs_tree) m.jobs
+  pub grants : AreRecords grant_row IsLawfulGrant (db.trees grants_tree) m.grants
+  pub holds : AreHeld (db.trees holds_tree) held
+  pub down : AreColumns down_columns IsName (db.trees down_tree) m.down
+  pub replies : AreColumns entry_columns IsLawfulEntry (db.trees replies_tree) k
+  pub meta : db.trees meta_tree ≡ meta_row m ∷ []
   pub lawful : IsLawfulMeta m
 
 -- other grants whose triples are those that stand there
-pub held_as : (db : Database) (m : Queue) (held others : List Grant) (k : List Entry) → AreHeld (db.trees 2) others → Parts db m held k → Parts db m others k
+pub held_as : (db : Database) (m : Queue) (held others : List Grant) (k : List Entry) → AreHeld (db.trees holds_tree) others → Parts db m held k → Parts db m others k
 held_as db m held others k holds parts = record {
   schema = parts.schema;
   sound = parts.sound;
@@ -121,7 +121,7 @@ lawful_as m after clock next_job next_grant lawful = record {
 
 -- one table changed, and what its rows mean now is known
 module _ (old new : State) (m : Queue) (held : List Grant) (k : List Entry) (was : Parts old.now m held k) where
-  pub jobs_changed : KeepsOthers six_tables 0 old new → (jobs : List Job) → AreRecords row_of IsLawfulJob (new.now.trees 0) jobs → Parts new.now (record m { jobs = jobs }) held k
+  pub jobs_changed : KeepsOthers six_tables jobs_tree old new → (jobs : List Job) → AreRecords row_of IsLawfulJob (new.now.trees jobs_tree) jobs → Parts new.now (record m { jobs = jobs }) held k
   jobs_changed keeps jobs now = let same = keeps.others in record {
     schema = keeps.schema_is;
     sound = keeps.sound;
@@ -134,7 +134,7 @@ module _ (old new : State) (m : Queue) (held : List Grant) (k : List Entry) (was
     lawful = lawful_as m (record m { jobs = jobs }) refl refl refl was.lawful;
   }
 
-  pub grants_changed : KeepsOthers six_tables 1 old new → (grants : List Grant) → AreRecords grant_row IsLawfulGrant (new.now.trees 1) grants → Parts new.now (record m { grants = grants }) held k
+  pub grants_changed : KeepsOthers six_tables grants_tree old new → (grants : List Grant) → AreRecords grant_row IsLawfulGrant (new.now.trees grants_tree) grants → Parts new.now (record m { grants = grants }) held k
   grants_changed keeps grants now = let same = keeps.others in record {
     schema = keeps.schema_is;
     sound = keeps.sound;
@@ -147,7 +147,7 @@ module _ (old new : State) (m : Queue) (held : List Grant) (k : List Entry) (was
     lawful = lawful_as m (record m { grants = grants }) refl refl refl was.lawful;
   }
 
-  pub holds_changed : KeepsOthers six_tables 2 old new → (now_held : List Grant) → AreHeld (new.now.trees 2) now_held → Parts new.now m now_held k
+  pub holds_changed : KeepsOthers six_tables holds_tree old new → (now_held : List Grant) → AreHeld (new.now.trees holds_tree) now_held → Parts new.now m now_held k
   holds_changed keeps now_held now = let same = keeps.others in record {
     schema = keeps.schema_is;
     sound = keeps.sound;
@@ -160,7 +160,7 @@ module _ (old new : State) (m : Queue) (held : List Grant) (k : List Entry) (was
     lawful = was.lawful;
   }
 
-  pub down_changed : KeepsOthers six_tables 6 old new → (down : List (List ℕ)) → AreColumns down_columns IsName (new.now.trees 6) down → Parts new.now (record m { down = down }) held k
+  pub down_changed : KeepsOthers six_tables down_tree old new → (down : List (List ℕ)) → AreColumns down_columns IsName (new.now.trees down_tree) down → Parts new.now (record m { down = down }) held k
   down_changed keeps down now = let same = keeps.others in record {
     schema = keeps.schema_is;
     sound = keeps.sound;
@@ -173,7 +173,7 @@ module _ (old new : State) (m : Queue) (held : List Grant) (k : List Entry) (was
     lawful = lawful_as m (record m { down = down }) refl refl refl was.lawful;
   }
 
-  pub replies_changed : KeepsOthers six_tables 8 old new → (kept : List Entry) → AreColumns entry_columns IsLawfulEntry (new.now.trees 8) kept → Parts new.now m held kept
+  pub replies_changed : KeepsOthers six_tables replies_tree old new → (kept : List Entry) → AreColumns entry_columns IsLawfulEntry (new.now.trees replies_tree) kept → Parts new.now m held kept
   replies_changed keeps kept now = let same = keeps.others in record {
     schema = keeps.schema_is;
     sound = keeps.sound;
@@ -186,7 +186,7 @@ module _ (old new : State) (m : Queue) (held : List Grant) (k : List Entry) (was
     lawful = was.lawful;
   }
 
-  pub meta_changed : KeepsOthers six_tables 10 old new → (clock next_job next_grant : ℕ) → new.now.trees 10 ≡ meta_row (record m { clock = clock; next_job = next_job; next_grant = next_grant }) ∷ []
+  pub meta_changed : KeepsOthers six_tables meta_tree old new → (clock next_job next_grant : ℕ) → new.now.trees meta_tree ≡ meta_row (record m { clock = clock; next_job = next_job; next_grant = next_grant }) ∷ []
       → IsLawfulMeta (record m { clock = clock; next_job = next_job; next_grant = next_grant }) → Parts new.now (record m { clock = clock; next_job = next_job; next_grant = next_grant }) held k
   meta_changed keeps clock next_job next_grant now lawful = let same = keeps.others in record {
     schema = keeps.schema_is;

@@ -43,6 +43,25 @@ table_of name tree columns key primary uniques orders checks = record {
   is_counted = false;
 }
 
+-- the tree of each table's rows. Those between are of their indexes.
+abbrev pub jobs_tree : ℕ
+jobs_tree = 0
+
+abbrev pub grants_tree : ℕ
+grants_tree = 1
+
+abbrev pub holds_tree : ℕ
+holds_tree = 2
+
+abbrev pub down_tree : ℕ
+down_tree = 6
+
+abbrev pub replies_tree : ℕ
+replies_tree = 8
+
+abbrev pub meta_tree : ℕ
+meta_tree = 10
+
 abbrev pub job_columns : List Column
 job_columns =
     integer (codes "job") ∷ text (codes "dial") ∷ text (codes "modem") ∷ text (codes "jobtag") ∷ text (codes "status") ∷ text (codes "extra")
@@ -51,30 +70,30 @@ job_columns =
     ∷ integer (codes "maxdials") ∷ integer (codes "phase") ∷ integer (codes "wish") ∷ integer (codes "next") ∷ []
 
 abbrev pub jobs : Table
-jobs = table_of (codes "jobs") 0 job_columns (Some 0) (0 ∷ []) [] [] []
+jobs = table_of (codes "jobs") jobs_tree job_columns (Some 0) (0 ∷ []) [] [] []
 
 abbrev pub grants : Table
 grants =
-    table_of (codes "grants") 1
+    table_of (codes "grants") grants_tree
     (integer (codes "id") ∷ integer (codes "job") ∷ text (codes "modem") ∷ integer (codes "first_page") ∷ integer (codes "last_page") ∷ integer (codes "call") ∷ integer (codes "pages") ∷ integer (codes "shut") ∷ [])
     (Some 0) (0 ∷ []) [] [] []
 
 abbrev pub holds : Table
 holds =
-    table_of (codes "holds") 2 (text (codes "modem") ∷ integer (codes "job") ∷ integer (codes "id") ∷ []) None (1 ∷ []) ((1 ∷ []) ∷ (2 ∷ []) ∷ (3 ∷ []) ∷ [])
+    table_of (codes "holds") holds_tree (text (codes "modem") ∷ integer (codes "job") ∷ integer (codes "id") ∷ []) None (1 ∷ []) ((1 ∷ []) ∷ (2 ∷ []) ∷ (3 ∷ []) ∷ [])
     (plain ∷ plain ∷ plain ∷ []) []
 
 abbrev pub down : Table
-down = table_of (codes "down") 6 (text (codes "modem") ∷ []) None (1 ∷ []) ((1 ∷ []) ∷ []) (plain ∷ []) []
+down = table_of (codes "down") down_tree (text (codes "modem") ∷ []) None (1 ∷ []) ((1 ∷ []) ∷ []) (plain ∷ []) []
 
 abbrev pub replies : Table
 replies =
-    table_of (codes "replies") 8 (text (codes "client") ∷ integer (codes "number") ∷ blob (codes "said") ∷ integer (codes "status") ∷ blob (codes "body") ∷ []) None (1 ∷ 2 ∷ [])
+    table_of (codes "replies") replies_tree (text (codes "client") ∷ integer (codes "number") ∷ blob (codes "said") ∷ integer (codes "status") ∷ blob (codes "body") ∷ []) None (1 ∷ 2 ∷ [])
     ((1 ∷ 2 ∷ []) ∷ []) (plain ∷ []) []
 
 abbrev pub meta : Table
 meta =
-    table_of (codes "meta") 10
+    table_of (codes "meta") meta_tree
     (integer (codes "one") ∷ integer (codes "clock") ∷ integer (codes "next_job") ∷ integer (codes "next_grant") ∷ integer (codes "version") ∷ []) (Some 0) (0 ∷ []) [] []
     (op2 (Compare Eq Binary) (col 1 0) (lit (Int (pos 1))) ∷ [])
 
@@ -84,13 +103,13 @@ key_index name tree table places = record { name = name; tree = tree; table = ta
 
 abbrev pub holds_indexes : List Index
 holds_indexes =
-    key_index (codes "sqlite_autoindex_holds_1") 3 2 (1 ∷ []) ∷ key_index (codes "sqlite_autoindex_holds_2") 4 2 (2 ∷ []) ∷ key_index (codes "sqlite_autoindex_holds_3") 5 2 (3 ∷ []) ∷ []
+    key_index (codes "sqlite_autoindex_holds_1") 3 holds_tree (1 ∷ []) ∷ key_index (codes "sqlite_autoindex_holds_2") 4 holds_tree (2 ∷ []) ∷ key_index (codes "sqlite_autoindex_holds_3") 5 holds_tree (3 ∷ []) ∷ []
 
 abbrev pub down_index : Index
-down_index = key_index (codes "sqlite_autoindex_down_1") 7 6 (1 ∷ [])
+down_index = key_index (codes "sqlite_autoindex_down_1") 7 down_tree (1 ∷ [])
 
 abbrev pub replies_index : Index
-replies_index = key_index (codes "sqlite_autoindex_replies_1") 9 8 (1 ∷ 2 ∷ [])
+replies_index = key_index (codes "sqlite_autoindex_replies_1") 9 replies_tree (1 ∷ 2 ∷ [])
 
 -- a database with no tables
 abbrev pub no_tables : Schema

@@ -13,7 +13,7 @@ use Rattle.fax_core.specs.Queue.{Queue, Entry, open_grants}
 use Rattle.fax_core.specs.declared.grants.Grant.{Grant}
 use Rattle.fax_job.specs.Name.{IsName}
 use Rattle.fax_tables.specs.Grant.{IsWithinLimits}
-use Rattle.fax_tables.specs.Schema.{six_tables}
+use Rattle.fax_tables.specs.Schema.{six_tables, down_tree, grants_tree, holds_tree, jobs_tree, meta_tree, replies_tree}
 use Rattle.fax_tables.specs.Job.{IsLawfulJob}
 use Rattle.fax_tables.specs.Row.{job_row, grant_row, hold_columns, down_columns, entry_columns, meta_row}
 
@@ -51,22 +51,22 @@ pub record IsByRowid (rows : List Row) : Type 0 where
 
 -- jobs and grants stand by number, and the others, whose rowids say nothing, as they came
 pub record AreByRowid (db : Database) : Type 0 where
-  pub jobs : IsByRowid (db.trees 0)
-  pub grants : IsByRowid (db.trees 1)
-  pub holds : IsByRowid (db.trees 2)
-  pub down : IsByRowid (db.trees 6)
-  pub replies : IsByRowid (db.trees 8)
+  pub jobs : IsByRowid (db.trees jobs_tree)
+  pub grants : IsByRowid (db.trees grants_tree)
+  pub holds : IsByRowid (db.trees holds_tree)
+  pub down : IsByRowid (db.trees down_tree)
+  pub replies : IsByRowid (db.trees replies_tree)
 
 -- The database has the six tables and obeys their rules. Their rows are the records of the queue and of the kept replies, each of them lawful, and no other row stands in them: `holds` has the open grants, in any order, and `shut` is 0 for just these.
 pub record TablesMean (db : Database) (m : Queue) (k : List Entry) : Type 0 where
   pub schema : db.schema ≡ six_tables
   pub sound : IsDatabase db
-  pub jobs : db.trees 0 ≡ map (λ j. job_row (fields_of j)) m.jobs
-  pub grants : db.trees 1 ≡ map grant_row m.grants
-  pub holds : IsPermutation (map hold_columns (open_grants m)) (map (drop 1) (db.trees 2))
-  pub down : map (drop 1) (db.trees 6) ≡ map down_columns m.down
-  pub replies : map (drop 1) (db.trees 8) ≡ map entry_columns k
-  pub meta : db.trees 10 ≡ meta_row m ∷ []
+  pub jobs : db.trees jobs_tree ≡ map (λ j. job_row (fields_of j)) m.jobs
+  pub grants : db.trees grants_tree ≡ map grant_row m.grants
+  pub holds : IsPermutation (map hold_columns (open_grants m)) (map (drop 1) (db.trees holds_tree))
+  pub down : map (drop 1) (db.trees down_tree) ≡ map down_columns m.down
+  pub replies : map (drop 1) (db.trees replies_tree) ≡ map entry_columns k
+  pub meta : db.trees meta_tree ≡ meta_row m ∷ []
   pub ordered : AreByRowid db
   pub lawful : AreLawful m k
 
