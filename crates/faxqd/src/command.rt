@@ -5,7 +5,7 @@ ghost use Rattle.faxqd.specs.Replay.{IsAnswered};
 use crate::replay::replay;
 use crate::status::{Status, fail};
 use crate::words::{Plan, WordsFault, read_words};
-use std::io::{Read, Write};
+use std::io::{ErrorKind, Read, Write};
 
 /// Runs the command that the words ask for. Help goes to `out`, what is wrong to `err`.
 pub fn run<R: Read, W: Write, E: Write>(
@@ -32,4 +32,16 @@ pub fn run<R: Read, W: Write, E: Write>(
         }
         Err(WordsFault::NoMemory) => fail(err, "faxqd: no memory\n"),
     }
+}
+
+/// Says on one line why there are no words: one of them is no text in UTF-8, or there is no memory for them.
+pub fn refuse_words<E: Write>(err: &mut E, kind: ErrorKind) -> Status
+    ensures usage { kind ≡ ErrorKind.InvalidData → result ≡ Status.Usage }
+    ensures fault { ¬ (kind ≡ ErrorKind.InvalidData) → result ≡ Status.Fault }
+{
+    if kind == ErrorKind::InvalidData {
+        let _ = err.write_all(b"error: a word is not UTF-8\n");
+        return Status::Usage;
+    }
+    fail(err, "faxqd: no memory\n")
 }

@@ -8,7 +8,6 @@ mod replay;
 mod status;
 mod words;
 
-use crate::status::fail;
 use std::process::ExitCode;
 use std::{env, io};
 
@@ -26,7 +25,7 @@ fn main(rt: HostRuntime) -> ExitCode {
             &mut rt.stdout(),
             &mut rt.stderr(),
         ),
-        Err(_) => fail(&mut rt.stderr(), "faxqd: no memory\n"),
+        Err(error) => command::refuse_words(&mut rt.stderr(), error.kind()),
     };
     ExitCode::from(status)
 }

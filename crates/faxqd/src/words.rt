@@ -4,6 +4,9 @@ use clap::error::ErrorKind;
 use clap::{Arg, ArgMatches, Command, Error};
 use std::alloc::{AllocError, Global};
 
+/// The name of the command that serves its input.
+const REPLAY: &str = "replay";
+
 /// What the words ask for.
 #[derive(Clone, Copy, Debug)]
 pub enum Plan<'a> {
@@ -34,23 +37,29 @@ impl From<AllocError> for WordsFault {
 
 /// The plan that the words spell, the first of them being the program's name.
 pub fn read_words<'a>(alloc: Global, words: &'a [String]) -> Result<Plan<'a>, WordsFault> {
-    match command(alloc)?.try_get_matches_from(words) {
-        Ok(matches) => Ok(Plan::Replay(files_in(&matches))),
-        Err(error) => Err(explain(alloc, &error)?),
+    let matches = match command(alloc)?.try_get_matches_from(words) {
+        Ok(matches) => matches,
+        Err(error) => return Err(explain(alloc, &error)?),
+    };
+    match plan_in(&matches) {
+        Some(plan) => Ok(plan),
+        None => Err(WordsFault::Usage(format!(in alloc; "error: no such command\n")?)),
     }
 }
 
-/// The files that a command is told to read.
-fn files_in<'a>(matches: &ArgMatches<'a>) -> OfficeFiles<'a> {
+/// What the command that was named is to do, by its own options.
+fn plan_in<'a>(matches: &ArgMatches<'a>) -> Option<Plan<'a>> {
     match matches.subcommand() {
-        Some((_, options)) => OfficeFiles {
-            setup: options.get_str("setup"),
-            controls: options.get_str("controls"),
-        },
-        None => OfficeFiles {
-            setup: None,
-            controls: None,
-        },
+        Some((REPLAY, options)) => Some(Plan::Replay(files_in(options))),
+        _ => None,
+    }
+}
+
+/// The files that a command's options name.
+fn files_in<'a>(options: &ArgMatches<'a>) -> OfficeFiles<'a> {
+    OfficeFiles {
+        setup: options.get_str("setup"),
+        controls: options.get_str("controls"),
     }
 }
 
@@ -64,7 +73,7 @@ fn command<'a>(alloc: Global) -> Result<Command<'a>, AllocError> {
         .long("controls")
         .value_name("FILE")
         .help("What holds for which numbers");
-    let replay = Command::new(alloc, "replay")
+    let replay = Command::new(alloc, REPLAY)
         .about("Answers the requests on standard input, over tables in memory")
         .arg(setup)?
         .arg(controls)?;
