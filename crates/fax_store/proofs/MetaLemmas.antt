@@ -1,23 +1,24 @@
 -- What the texts on the row of the clock and the next numbers read and write.
-use Rattle.std.proofs.Common.{◌≡◌, ℕ, pos, List, [], ◌∷◌, true, Some, Option, refl, sym, subst}
+use Rattle.std.proofs.Common.{◌≡◌, ◌≤◌, ℕ, pos, List, [], ◌∷◌, true, Some, Option, refl, sym, subst}
 use Rattle.std.proofs.lemmas.Bool.{both_ways}
 use Rattle.sqlite.specs.Order.{Row}
 use Rattle.sqlite.specs.Cast.{cast_row}
 use Rattle.sqlite.specs.Listing.{understood}
 use Rattle.sqlite.specs.State.{State, IsUnchanged}
 use Rattle.sqlite.proofs.Callers.{IsPlain, runs_as, reads_as}
-use Rattle.fax_store.specs.declared.meta.TheConstants.{SELECT_META, UPDATE_META}
+use Rattle.fax_store.specs.declared.meta.TheConstants.{SELECT_META, UPDATE_CLOCK, UPDATE_META}
 use Rattle.fax_tables.specs.Schema as schema
 use Rattle.fax_tables.specs.Schema.{six_tables, meta_tree}
 use Rattle.fax_core.specs.Queue.{Queue, Entry, open_grants}
 use Rattle.fax_tables.specs.Row.{number, meta_row}
+use Rattle.fax_store.specs.Meta.{with_clock}
 use Rattle.fax_tables.specs.Meta.{meta_shown}
 use Rattle.fax_tables.specs.Tables.{TablesMean, IsLawfulMeta, IsByRowid}
 use Rattle.fax_store.specs.Store.{FindsRow, HasRun}
 use Rattle.fax_tables.proofs.CompareLemmas.{number_same, same_row, cast_int, cast_null}
 use Rattle.fax_tables.proofs.SelectLemmas.{passes, answers, only_row, only_found}
 use Rattle.fax_store.proofs.StatementLemmas.{shown_keeps}
-use Rattle.fax_store.proofs.StatementTexts.{meta_tests, meta_project, select_meta, update_meta, update_project}
+use Rattle.fax_store.proofs.StatementTexts.{meta_tests, meta_project, select_meta, update_meta, update_project, update_clock, clock_project}
 use Rattle.fax_tables.proofs.TablesLemmas.{parts_of, means_of, meta_changed}
 use Rattle.fax_tables.proofs.UpdateLemmas.{updated}
 use Rattle.fax_tables.proofs.WriteLemmas.{KeepsOthers}
@@ -27,6 +28,10 @@ meta_passes m params = rw number_same refl
 
 stored : (m : Queue) → cast_row schema.meta (meta_row m) ≡ meta_row m
 stored m = same_row (cast_int (pos 1)) (same_row cast_null (same_row (cast_int _) (same_row (cast_int _) (same_row (cast_int _) (same_row (cast_int (pos 1)) refl)))))
+
+-- what a change of the clock is told
+abbrev pub clock_params : ℕ → Row
+clock_params clock = number clock ∷ []
 
 -- the one row of a table stands by its rowid
 alone : (m : Queue) → IsByRowid (meta_row m ∷ [])
@@ -64,3 +69,17 @@ module _ (old new : State) (m : Queue) (k : List Entry) (means : TablesMean old.
 
     pub meta_shows : HasRun UPDATE_META.now params old new → KeepsOthers six_tables meta_tree old new
     meta_shows h = (written h).0
+
+  module _ (clock : ℕ) where
+    clocked : HasRun UPDATE_CLOCK.now (clock_params clock) old new → KeepsOthers six_tables meta_tree old new × (new.now.trees meta_tree ≡ meta_row (with_clock clock m) ∷ []) × IsByRowid (new.now.trees meta_tree)
+    clocked h =
+        let ran = runs_as UPDATE_CLOCK.now (clock_params clock) old new six_tables means.schema _ update_clock.is update_clock.plain h.0 h.1 in
+        updated schema.meta.name meta_tree schema.meta.columns schema.meta.key schema.meta.primary schema.meta.uniques schema.meta.orders schema.meta.checks 5 refl old new means.schema refl (subst IsByRowid (sym means.meta) (alone m))
+        meta_tests clock_project (clock_params clock) (λ r. refl) _ h.0 meta_row (with_clock clock) (m ∷ []) means.meta (λ it. refl) (λ it has on. stored (with_clock clock it)) (λ it has off. absurd (both_ways _ off (meta_passes it (clock_params clock)))) ran
+
+    -- the tables mean the queue with this clock
+    pub clock_written : clock ≤ 4102444800 → HasRun UPDATE_CLOCK.now (clock_params clock) old new → TablesMean new.now (with_clock clock m) k × KeepsOthers six_tables meta_tree old new
+    clock_written within h =
+        let done = clocked h in
+        let lawful = record { clock = within; next_job = means.lawful.meta.next_job; next_grant = means.lawful.meta.next_grant } in
+        (means_of new.now (with_clock clock m) k (meta_changed old new m (open_grants m) k (parts_of old.now m k means) done.0 clock m.next_job m.next_grant done.1 lawful), done.0)

@@ -12,10 +12,11 @@ use Rattle.sqlite_tied.specs.Compute.{everything}
 use Rattle.sqlite_value.specs.Keys.{ascending}
 use Rattle.sqlite_value.specs.declared.keys.Key.{Key}
 use Rattle.fax_job.specs.Status.{kill_time_expired}
-use Rattle.fax_store.specs.declared.meta.TheConstants.{SELECT_META, UPDATE_META}
+use Rattle.fax_store.specs.declared.meta.TheConstants.{SELECT_META, UPDATE_CLOCK, UPDATE_META}
 use Rattle.fax_store.specs.declared.replies.TheConstants.{SELECT_REPLY, INSERT_REPLY}
 use Rattle.fax_store.specs.declared.jobs.TheConstants.{SELECT_JOB, INSERT_JOB, UPDATE_JOB, EXPIRE_JOBS, SELECT_WAITING}
 use Rattle.fax_tables.proofs.SelectLemmas.{rows_where}
+use Rattle.fax_tables.proofs.UpdateLemmas.{program_of}
 use Rattle.fax_tables.proofs.StatementForms.{equals, Selects, SelectsBy, Commands}
 use Rattle.fax_tables.specs.Schema.{jobs_tree, meta_tree, replies_tree}
 
@@ -35,6 +36,13 @@ update_project = col 1 0 ∷ col 1 0 ∷ lit Null ∷ col 0 0 ∷ col 0 1 ∷ co
 pub update_meta : Commands UPDATE_META.now (Update 5 (record { lets = []; body = rows_where meta_tree meta_tests update_project }))
 unfolding understood everything
 update_meta = record { is = refl; plain = (refl, refl) }
+
+abbrev pub clock_project : List Term
+clock_project = col 1 0 ∷ col 1 0 ∷ lit Null ∷ col 0 0 ∷ col 1 3 ∷ col 1 4 ∷ col 1 5 ∷ []
+
+pub update_clock : Commands UPDATE_CLOCK.now (Update 5 (program_of meta_tree meta_tests clock_project))
+unfolding understood everything
+update_clock = record { is = refl; plain = (refl, refl) }
 
 abbrev pub reply_tests : List Term
 reply_tests = equals (col 1 1) (col 0 0) ∷ equals (col 1 2) (col 0 1) ∷ []

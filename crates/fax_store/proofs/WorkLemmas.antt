@@ -1,6 +1,5 @@
 -- What a work means across its calls.
 use Rattle.std.proofs.Common.{◌≡◌, inl, inr, ℕ, List, true, false, Ok, Err, Result, MatchResult, OnOk, OnErr, IfErr, IsErrAnd, is_err, if◌then◌else◌, ap, refl, sym, ◌∙◌}
-use Rattle.std.specs.Prelude.{⊤}
 use Rattle.sqlite.specs.Order.{Row}
 use Rattle.sqlite.specs.State.{State, IsUnchanged, IsRolledBack}
 use Rattle.fax_tables.specs.declared.fault.StoreFault.{StoreFault}
@@ -100,13 +99,6 @@ module _ (old new : State) {A : Type 0} (result : Result A StoreFault) (f : Queu
       after : (r : Result A StoreFault) → Steps new r m₀ k₀ (f m) (g k) → IsUnderWay new (is_err r) m₀ k₀ (f m) (g k)
       after (Ok a) h = h
       after (Err e) h = record { began = h.1; goes_on = λ on. absurd cc }
-
-  pub cause_by : AnswersIn old false new result (λ _ _ _. ⊤)
-  cause_by m₀ m k₀ k works s = after result (steps m₀ m k₀ k works s)
-    where
-      after : (r : Result A StoreFault) → Steps new r m₀ k₀ (f m) (g k) → OrUnavailable r (λ _. ⊤)
-      after (Ok a) h = tt
-      after (Err e) h = h.0
 
 -- a call of a work that was refused before
 pub failed_keeps : (s : State) (f : Queue → Queue) (g : List Entry → List Entry) → Changes s true s true f g

@@ -1,6 +1,6 @@
 //! The clock and the next numbers.
 
-ghost use Rattle.std.specs.Prelude.{◌≡◌, List, false, Err, IfOk, is_err, ⊤, IsTrue};
+ghost use Rattle.std.specs.Prelude.{◌≡◌, List, false, Err, IfErr, IfOk, is_err, IsTrue};
 ghost use Rattle.sqlite.specs.Held.{state};
 ghost use Rattle.fax_core.specs.Queue.{Queue, Entry};
 ghost use Rattle.fax_store.specs.Meta.{with_clock};
@@ -17,6 +17,8 @@ use fax_tables::{Meta, StoreFault};
 use sqlite::{Alter, params};
 
 const SELECT_META: &str = "SELECT clock, next_job, next_grant FROM meta WHERE one = 1";
+
+const UPDATE_CLOCK: &str = "UPDATE meta SET clock = ?1 WHERE one = 1";
 
 const UPDATE_META: &str =
     "UPDATE meta SET clock = ?1, next_job = ?2, next_grant = ?3 WHERE one = 1";
@@ -67,9 +69,9 @@ impl<S: Alter> Store<S> {
         ensures written { (m₀ m : Queue) (k₀ k : List Entry) → Works (state S.Store self.old.conn) false m₀ k₀ m k
             → Serves (state S.Store self.new.conn)
             → Steps (state S.Store self.new.conn) result m₀ k₀ (with_clock clock m) k }
+        ensures cause { IfErr result (λ fault. fault ≡ StoreFault.Unavailable) }
     {
-        let meta = self.read_meta()?;
-        self.write_meta(Meta { clock, ..meta })
+        self.run(UPDATE_CLOCK, params![clock.seconds()])
     }
 }
 
@@ -102,13 +104,12 @@ impl<S: Alter> Work<'_, S> {
     ///
     /// # Errors
     ///
-    /// `Unavailable`, or `Strange` where the row of the clock is no lawful record.
+    /// `Unavailable`.
     pub fn set_clock(&mut self, clock: Moment) -> Result<(), StoreFault>
         ensures same_reference { self.new.store.ghost_name ≡ self.old.store.ghost_name }
         ensures changes { Changes (state S.Store self.old.store.now.conn) self.old.failed
             (state S.Store self.new.store.now.conn) self.new.failed (with_clock clock) (λ k. k) }
-        ensures cause { AnswersIn (state S.Store self.old.store.now.conn) self.old.failed
-            (state S.Store self.new.store.now.conn) result (λ m k done. ⊤) }
+        ensures cause { IfErr result (λ fault. fault ≡ StoreFault.Unavailable) }
         ensures served { Serves (state S.Store self.new.store.now.conn) → Serves (state S.Store self.old.store.now.conn) }
         ensures fails { self.new.failed ≡ is_err result }
         ensures refused { IsTrue self.old.failed → result ≡ Err StoreFault.Unavailable }

@@ -2,15 +2,10 @@ use Rattle.std.proofs.Common.{List}
 use Rattle.sqlite.specs.Held.{state}
 use Rattle.fax_store.specs.Meta.{with_clock}
 use Rattle.fax_core.specs.Queue.{Entry}
-use Rattle.fax_store.proofs.WorkLemmas.{changes_by, cause_by}
+use Rattle.fax_store.proofs.WorkLemmas.{changes_by}
 use Rattle.fax_store.proofs.work.Work.set_clock.Goals as goal
 
 pub returns-clause-changes : goal.returns-clause-changes
 returns-clause-changes g c =
     rw (c.if-self.false, c.is_err-self.ensures.value)
     (changes_by (state g.S.Store c.args.self.now.store.now.conn) (state g.S.Store c.write_clock-done.new.self.conn) c.write_clock-done.result (with_clock c.args.clock) (λ (k : List Entry). k) c.write_clock-done.ensures.written)
-
-pub returns-clause-cause : goal.returns-clause-cause
-returns-clause-cause g c =
-    rw c.if-self.false
-    (cause_by (state g.S.Store c.args.self.now.store.now.conn) (state g.S.Store c.write_clock-done.new.self.conn) c.write_clock-done.result (with_clock c.args.clock) (λ (k : List Entry). k) c.write_clock-done.ensures.written)
