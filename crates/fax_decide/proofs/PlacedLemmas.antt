@@ -8,33 +8,24 @@ use Rattle.fax_core.specs.Job.{Job}
 use Rattle.fax_core.specs.Queue.{Queue}
 use Rattle.fax_core.specs.Sound.{Sound}
 use Rattle.fax_core.proofs.StepLemmas.{aged_sound}
-use Rattle.fax_store.specs.Grant as grant
-use Rattle.fax_store.specs.Job as job
+use Rattle.fax_tables.specs.Place.{placed}
 
-job_last : (a : ℕ) (j : Job) (js : List Job) → map (λ k. k.number) js ≡ range_with_len a (length js) → j.number ≡ a + length js → job.placed j js ≡ js ++ j ∷ []
-job_last a j [] e n = refl
-job_last a j (x ∷ xs) e n =
-    let head : x.number ≡ a = cc in
-    let rest : map (λ (k : Job). k.number) xs ≡ range_with_len (a + 1) (length xs) = cc in
-    let before : ltb x.number j.number ≡ true = lt-ltb x.number j.number (omega arith) in
-    ap (λ b. cond b (x ∷ job.placed j xs) (j ∷ x ∷ xs)) before ∙ ap (λ l. x ∷ l) (job_last (a + 1) j xs rest (omega arith))
-
-grant_last : (a : ℕ) (g : Grant) (gs : List Grant) → map (λ h. h.number) gs ≡ range_with_len a (length gs) → g.number ≡ a + length gs → grant.placed g gs ≡ gs ++ g ∷ []
-grant_last a g [] e n = refl
-grant_last a g (x ∷ xs) e n =
-    let head : x.number ≡ a = cc in
-    let rest : map (λ (h : Grant). h.number) xs ≡ range_with_len (a + 1) (length xs) = cc in
-    let before : ltb x.number g.number ≡ true = lt-ltb x.number g.number (omega arith) in
-    ap (λ b. cond b (x ∷ grant.placed g xs) (g ∷ x ∷ xs)) before ∙ ap (λ l. x ∷ l) (grant_last (a + 1) g xs rest (omega arith))
+last_placed : {X : Type 0} (number : X → ℕ) (a : ℕ) (x : X) (xs : List X) → map number xs ≡ range_with_len a (length xs) → number x ≡ a + length xs → placed number x xs ≡ xs ++ x ∷ []
+last_placed number a x [] e n = refl
+last_placed number a x (y ∷ ys) e n =
+    let head : number y ≡ a = cc in
+    let rest : map number ys ≡ range_with_len (a + 1) (length ys) = cc in
+    let before : ltb (number y) (number x) ≡ true = lt-ltb (number y) (number x) (omega arith) in
+    ap (λ b. cond b (y ∷ placed number x ys) (x ∷ y ∷ ys)) before ∙ ap (λ l. y ∷ l) (last_placed number (a + 1) x ys rest (omega arith))
 
 -- a job of the next number comes after those of a sound queue
-pub job_placed : (m : Queue) (j : Job) → Sound m → j.number ≡ m.next_job → job.placed j m.jobs ≡ m.jobs ++ j ∷ []
-job_placed m j h n = job_last 1 j m.jobs h.jobs (omega (arith, h.next_job))
+pub job_placed : (m : Queue) (j : Job) → Sound m → j.number ≡ m.next_job → placed (λ (k : Job). k.number) j m.jobs ≡ m.jobs ++ j ∷ []
+job_placed m j h n = last_placed (λ (k : Job). k.number) 1 j m.jobs h.jobs (omega (arith, h.next_job))
 
 -- also as time leaves them
-pub aged_job_placed : (t : ℕ) (m : Queue) (j : Job) → Sound m → j.number ≡ m.next_job → job.placed j (map (aged_job t) m.jobs) ≡ map (aged_job t) m.jobs ++ j ∷ []
+pub aged_job_placed : (t : ℕ) (m : Queue) (j : Job) → Sound m → j.number ≡ m.next_job → placed (λ (k : Job). k.number) j (map (aged_job t) m.jobs) ≡ map (aged_job t) m.jobs ++ j ∷ []
 aged_job_placed t m j h n = job_placed (aged t m) j (aged_sound t m h) n
 
 -- a grant of the next number comes after those of a sound queue
-pub grant_placed : (m : Queue) (g : Grant) → Sound m → g.number ≡ m.next_grant → grant.placed g m.grants ≡ m.grants ++ g ∷ []
-grant_placed m g h n = grant_last 1 g m.grants h.grants (omega (arith, h.next_grant))
+pub grant_placed : (m : Queue) (g : Grant) → Sound m → g.number ≡ m.next_grant → placed (λ (h : Grant). h.number) g m.grants ≡ m.grants ++ g ∷ []
+grant_placed m g h n = last_placed (λ (h : Grant). h.number) 1 g m.grants h.grants (omega (arith, h.next_grant))

@@ -3,8 +3,8 @@ use Rattle.std.specs.Prelude.{ℕ, ⊤}
 use Rattle.fax_core.specs.Job.{job_of}
 use Rattle.fax_core.specs.Machine.{with_grant, with_mark, with_job as with_change}
 use Rattle.fax_core.specs.Queue.{Queue}
-use Rattle.fax_store.specs.Grant.{IsReport, with_closed, with_one_more}
-use Rattle.fax_store.specs.Job.{IsChange, with_expired, with_job}
+use Rattle.fax_store.specs.Grant.{IsReport, with_closed, with_one_more_grant}
+use Rattle.fax_store.specs.Job.{IsChange, with_expired, with_one_more_job}
 use Rattle.fax_store.specs.Meta.{with_clock}
 use Rattle.fax_decide.specs.declared.effect.Effect.{Effect}
 use Rattle.fax_decide.specs.declared.effect.Effect.TheVariants.{Nothing, NewJob, ChangedJob, Marked, NewGrant, Reported, Closed}
@@ -12,10 +12,10 @@ use Rattle.fax_decide.specs.declared.effect.Effect.TheVariants.{Nothing, NewJob,
 -- the queue afterwards
 abbrev pub effected : Effect → Queue → Queue
 effected Nothing m = m
-effected (NewJob job) m = with_job (job_of job) m
+effected (NewJob job) m = with_one_more_job (job_of job) m
 effected (ChangedJob job) m = with_change (job_of job) m
 effected (Marked modem down) m = with_mark modem down m
-effected (NewGrant job grant) m = with_one_more grant (with_change (job_of job) m)
+effected (NewGrant job grant) m = with_one_more_grant grant (with_change (job_of job) m)
 effected (Reported job grant) m = with_grant grant (with_change (job_of job) m)
 effected (Closed job grant) m = with_closed grant (with_change (job_of job) m)
 

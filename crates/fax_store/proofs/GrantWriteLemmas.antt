@@ -20,7 +20,8 @@ use Rattle.fax_core.specs.Queue.{Queue, Entry, open_grants, grant_numbered}
 use Rattle.fax_core.specs.declared.grants.Grant.{Grant}
 use Rattle.fax_job.specs.Name.{IsName}
 use Rattle.fax_store.specs.declared.grants.TheConstants.{INSERT_GRANT, INSERT_HOLD, UPDATE_REPORT, SHUT_GRANT, DELETE_HOLD}
-use Rattle.fax_store.specs.Grant.{IsSameGrant, IsReport, placed, with_placed, with_shut, with_closed}
+use Rattle.fax_store.specs.Grant.{IsSameGrant, IsReport, with_placed, with_shut, with_closed}
+use Rattle.fax_tables.specs.Place.{placed}
 use Rattle.fax_tables.specs.Row.{number, call_number, grant_row, hold_columns}
 use Rattle.fax_tables.specs.Schema as schema
 use Rattle.fax_tables.specs.Schema.{six_tables, grants_tree, holds_tree}
@@ -59,10 +60,10 @@ module _ (g : Grant) where
   stored_hold = same_row cast_null (same_row refl (same_row (cast_int (pos g.job)) (same_row (cast_int (pos g.number)) refl)))
 
   -- the open grants with it
-  open_placed : (gs : List Grant) → IsTrue g.is_open → IsPermutation (g ∷ filter (λ x. x.is_open) gs) (filter (λ x. x.is_open) (placed g gs))
+  open_placed : (gs : List Grant) → IsTrue g.is_open → IsPermutation (g ∷ filter (λ x. x.is_open) gs) (filter (λ x. x.is_open) (placed (λ (x : Grant). x.number) g gs))
   open_placed gs is_open =
-      let both = IsPermutation-filter (λ (x : Grant). x.is_open) (g ∷ gs) (placed g gs) (placed_permuted grant_row (λ (x : Grant). x.number) (λ x. refl) placed (λ x. refl) (λ x y ys. refl) g gs) in
-      subst (λ (b : Bool). IsPermutation (if b then g ∷ filter (λ x. x.is_open) gs else filter (λ x. x.is_open) gs) (filter (λ x. x.is_open) (placed g gs))) is_open both
+      let both = IsPermutation-filter (λ (x : Grant). x.is_open) (g ∷ gs) (placed (λ (x : Grant). x.number) g gs) (placed_permuted grant_row (λ (x : Grant). x.number) (λ x. refl) g gs) in
+      subst (λ (b : Bool). IsPermutation (if b then g ∷ filter (λ x. x.is_open) gs else filter (λ x. x.is_open) gs) (filter (λ x. x.is_open) (placed (λ (x : Grant). x.number) g gs))) is_open both
 
   module _ (old mid new : State) (m : Queue) (k : List Entry) (means : TablesMean old.now m k) where
     hold_inserted : HasRun INSERT_HOLD.now hold_params old mid → InsertsRow six_tables holds_tree old mid (Int (next_rowid (old.now.trees holds_tree)) ∷ hold_columns g)
@@ -98,12 +99,12 @@ module _ (g : Grant) where
         let done = inserts six_tables unreferred schema.grants.name 1 schema.grants.columns schema.grants.key schema.grants.primary schema.grants.uniques schema.grants.orders schema.grants.checks 1 refl mid new was.schema grant_params _ more.0
         grant_terms 9 (grant_row g) (grant_row g) (ap (λ r. r ∷ []) (sym row)) (ap (with_rowid Chosen (mid.now.trees grants_tree)) (stored_grant g)) ran in
         let free = subst (λ rows. is_taken rows (grant_row g) ≡ false) was.grants.is (free_of (mid.now.trees grants_tree) (grant_row g) done.fresh) in
-        let now : AreRecords grant_row IsLawfulGrant (new.now.trees grants_tree) (placed g m.grants) = record {
-          is = done.rows ∙ ap (put_row (grant_row g)) was.grants.is ∙ row_placed grant_row (λ (x : Grant). x.number) (λ x. refl) placed (λ x. refl) (λ x y ys. refl) g m.grants free;
+        let now : AreRecords grant_row IsLawfulGrant (new.now.trees grants_tree) (placed (λ (x : Grant). x.number) g m.grants) = record {
+          is = done.rows ∙ ap (put_row (grant_row g)) was.grants.is ∙ row_placed grant_row (λ (x : Grant). x.number) (λ x. refl) g m.grants free;
           ordered = subst IsByRowid (sym done.rows) (by_rowid_put (grant_row g) (mid.now.trees grants_tree) refl was.grants.ordered);
-          lawful = all_placed grant_row (λ (x : Grant). x.number) (λ x. refl) placed (λ x. refl) (λ x y ys. refl) IsLawfulGrant g m.grants lawful was.grants.lawful;
+          lawful = all_placed grant_row (λ (x : Grant). x.number) (λ x. refl) IsLawfulGrant g m.grants lawful was.grants.lawful;
         } in
-        let after = grants_changed mid new m (g ∷ open_grants m) k was done.keeps (placed g m.grants) now in
+        let after = grants_changed mid new m (g ∷ open_grants m) k was done.keeps (placed (λ (x : Grant). x.number) g m.grants) now in
         let holds : AreHeld (new.now.trees holds_tree) (open_grants (with_placed g m)) = record {
           is = IsPermutation-trans (map hold_columns (open_grants (with_placed g m))) (map hold_columns (g ∷ open_grants m)) (map (drop 1) (new.now.trees holds_tree))
               (IsPermutation-map hold_columns (open_grants (with_placed g m)) (g ∷ open_grants m) (IsPermutation-sym (g ∷ open_grants m) (open_grants (with_placed g m)) (open_placed m.grants is_open))) after.holds.is;

@@ -18,9 +18,10 @@ use Rattle.fax_job.specs.declared.job.JobFields.{JobFields}
 use Rattle.fax_store.specs.declared.jobs.TheConstants.{SELECT_JOB, INSERT_JOB}
 use Rattle.fax_tables.specs.Schema as schema
 use Rattle.fax_tables.specs.Schema.{six_tables, jobs_tree}
+use Rattle.fax_tables.specs.Place.{placed}
 use Rattle.fax_tables.specs.Row.{number, job_row}
 use Rattle.fax_tables.specs.Job.{IsFormed, IsLawfulJob, job_shown}
-use Rattle.fax_store.specs.Job.{placed, with_placed}
+use Rattle.fax_store.specs.Job.{with_placed}
 use Rattle.fax_tables.specs.Tables.{TablesMean, IsByRowid}
 use Rattle.fax_store.specs.Store.{FindsRow, HasRun}
 use Rattle.fax_tables.proofs.CompareLemmas.{same_row, cast_int, cast_null}
@@ -92,12 +93,12 @@ module _ (old new : State) (m : Queue) (k : List Entry) (means : TablesMean old.
       let row : row_of (job_of f) ≡ job_row f = ap job_row (fields_back f) in
       let free : is_taken (map row_of m.jobs) (row_of (job_of f)) ≡ false =
       subst (λ r. is_taken (map row_of m.jobs) r ≡ false) (sym row) (subst (λ rows. is_taken rows (job_row f) ≡ false) means.jobs (free_of (old.now.trees jobs_tree) (job_row f) done.fresh)) in
-      let now : AreRecords row_of IsLawfulJob (new.now.trees jobs_tree) (placed (job_of f) m.jobs) = record {
-        is = done.rows ∙ ap₂ put_row (sym row) means.jobs ∙ row_placed row_of (λ (j : Job). j.number) (λ j. refl) placed (λ j. refl) (λ j x xs. refl) (job_of f) m.jobs free;
+      let now : AreRecords row_of IsLawfulJob (new.now.trees jobs_tree) (placed (λ (j : Job). j.number) (job_of f) m.jobs) = record {
+        is = done.rows ∙ ap₂ put_row (sym row) means.jobs ∙ row_placed row_of (λ (j : Job). j.number) (λ j. refl) (job_of f) m.jobs free;
         ordered = subst IsByRowid (sym done.rows) (by_rowid_put (job_row f) (old.now.trees jobs_tree) refl order);
-        lawful = all_placed row_of (λ (j : Job). j.number) (λ j. refl) placed (λ j. refl) (λ j x xs. refl) IsLawfulJob (job_of f) m.jobs lawful means.lawful.jobs;
+        lawful = all_placed row_of (λ (j : Job). j.number) (λ j. refl) IsLawfulJob (job_of f) m.jobs lawful means.lawful.jobs;
       } in
-      (means_of new.now (with_placed (job_of f) m) k (jobs_changed old new m (open_grants m) k (parts_of old.now m k means) done.keeps (placed (job_of f) m.jobs) now), done.keeps)
+      (means_of new.now (with_placed (job_of f) m) k (jobs_changed old new m (open_grants m) k (parts_of old.now m k means) done.keeps (placed (λ (j : Job). j.number) (job_of f) m.jobs) now), done.keeps)
 
 -- the job of a lawful record
 pub lawful_of_fields : (f : JobFields) → IsLawful f → IsFormed f → IsLawfulJob (job_of f)

@@ -1,14 +1,14 @@
 -- Worked rows: what calls make of a queue.
 use Rattle.std.specs.Prelude.{◌≡◌, refl, [], ◌∷◌}
 use Rattle.fax_core.specs.Queue.{Queue, empty_queue}
-use Rattle.fax_store.specs.Grant.{with_one_more, with_closed}
+use Rattle.fax_store.specs.Grant.{with_one_more_grant, with_closed}
 use Rattle.fax_store.specs.Meta.{with_clock}
 use Rattle.fax_tables.specs.Grant.{as_hold}
 use Rattle.fax_tables.specs.Meta.{meta_of}
 use Rattle.fax_tables.proofs.Rows.{grant, closed}
 
 abbrev after_grant : Queue
-after_grant = with_one_more grant (with_clock 5 empty_queue)
+after_grant = with_one_more_grant grant (with_clock 5 empty_queue)
 
 granted : after_grant ≡ record { jobs = []; grants = grant ∷ []; down = []; clock = 5; next_job = 1; next_grant = 2 }
 granted = refl

@@ -1,21 +1,17 @@
 -- What is made of the grants of a queue.
-use Rattle.std.specs.Prelude.{◌≡◌, ℕ, List, [], ◌∷◌, ◌+◌, nat_lt, false, Option, Some, None, if◌then◌else◌}
+use Rattle.std.specs.Prelude.{◌≡◌, ℕ, ◌+◌, false, Option, Some, None}
 use Rattle.fax_core.specs.Machine.{with_grant}
 use Rattle.fax_core.specs.Queue.{Queue, grant_numbered}
 use Rattle.fax_core.specs.declared.grants.Grant.{Grant}
-
--- the grant in its place among grants by number
-abbrev pub placed : Grant → List Grant → List Grant
-placed g [] = g ∷ []
-placed g (x ∷ xs) = if nat_lt x.number g.number then x ∷ placed g xs else g ∷ x ∷ xs
+use Rattle.fax_tables.specs.Place.{placed}
 
 -- the queue with one more grant
 abbrev pub with_placed : Grant → Queue → Queue
-with_placed g m = record m { grants = placed g m.grants }
+with_placed g m = record m { grants = placed (λ h. h.number) g m.grants }
 
 -- the queue with one more grant and the next number one greater
-abbrev pub with_one_more : Grant → Queue → Queue
-with_one_more g m = record m { grants = placed g m.grants; next_grant = m.next_grant + 1 }
+abbrev pub with_one_more_grant : Grant → Queue → Queue
+with_one_more_grant g m = record m { grants = placed (λ h. h.number) g m.grants; next_grant = m.next_grant + 1 }
 
 -- what no report on a grant touches
 pub record IsSameGrant (g h : Grant) : Type 0 where

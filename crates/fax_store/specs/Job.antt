@@ -1,5 +1,5 @@
 -- What is made of the jobs of a queue, and which of them wait.
-use Rattle.std.specs.Prelude.{◌≡◌, ℕ, List, [], ◌∷◌, ◌+◌, map, filter, nat_lt, Some, if◌then◌else◌}
+use Rattle.std.specs.Prelude.{◌≡◌, ℕ, List, ◌+◌, map, filter, Some}
 use Rattle.std.specs.List.Sorted.{IsPermutation, IsSortedBy}
 use Rattle.fax_core.specs.Job.{Job, fields_of}
 use Rattle.fax_core.specs.Ageing.{aged_job}
@@ -7,19 +7,15 @@ use Rattle.fax_core.specs.Best.{better}
 use Rattle.fax_core.specs.State.{is_due}
 use Rattle.fax_core.specs.Queue.{Queue, job_numbered}
 use Rattle.fax_job.specs.declared.job.JobFields.{JobFields}
-
--- the job in its place among jobs by number
-abbrev pub placed : Job → List Job → List Job
-placed j [] = j ∷ []
-placed j (x ∷ xs) = if nat_lt x.number j.number then x ∷ placed j xs else j ∷ x ∷ xs
+use Rattle.fax_tables.specs.Place.{placed}
 
 -- the queue with one more job
 abbrev pub with_placed : Job → Queue → Queue
-with_placed j m = record m { jobs = placed j m.jobs }
+with_placed j m = record m { jobs = placed (λ k. k.number) j m.jobs }
 
 -- the queue with one more job and the next number one greater
-abbrev pub with_job : Job → Queue → Queue
-with_job j m = record m { jobs = placed j m.jobs; next_job = m.next_job + 1 }
+abbrev pub with_one_more_job : Job → Queue → Queue
+with_one_more_job j m = record m { jobs = placed (λ k. k.number) j m.jobs; next_job = m.next_job + 1 }
 
 -- what no change of a job touches
 pub record IsSameOrder (j k : Job) : Type 0 where

@@ -6,7 +6,7 @@ ghost use Rattle.sqlite.specs.Held.{state};
 ghost use Rattle.fax_core.specs.Machine.{held_by, with_grant};
 ghost use Rattle.fax_core.specs.Queue.{Queue, Entry, grant_numbered};
 ghost use Rattle.fax_core.specs.State.{calls_to};
-ghost use Rattle.fax_store.specs.Grant.{IsReport, with_placed, with_one_more, with_closed};
+ghost use Rattle.fax_store.specs.Grant.{IsReport, with_placed, with_one_more_grant, with_closed};
 ghost use Rattle.fax_store.specs.Store.{Serves, Means, MeansNow, Stays, Answers};
 ghost use Rattle.fax_store.specs.Work.{Works, Keeps, Changes, ChangesWhere, AnswersIn, Moves, Steps};
 ghost use Rattle.fax_tables.specs.Fault.{OrUnavailable};
@@ -156,7 +156,7 @@ impl<S: Alter> Store<S> {
         ensures served { Serves (state S.Store self.new.conn) → Serves (state S.Store self.old.conn) }
         ensures written { (m₀ m : Queue) (k₀ k : List Entry) → Works (state S.Store self.old.conn) false m₀ k₀ m k
             → Serves (state S.Store self.new.conn)
-            → Moves (state S.Store self.new.conn) result m₀ k₀ (with_one_more grant.now m) k
+            → Moves (state S.Store self.new.conn) result m₀ k₀ (with_one_more_grant grant.now m) k
             × (IsOpenGrant grant.now → m.next_grant < 1000000000
             → IfErr result (λ fault. fault ≡ StoreFault.Unavailable)) }
     {
@@ -290,7 +290,7 @@ impl<S: Alter> Work<'_, S> {
     pub fn put_grant(&mut self, grant: &Grant) -> Result<(), StoreFault>
         ensures same_reference { self.new.store.ghost_name ≡ self.old.store.ghost_name }
         ensures changes { Changes (state S.Store self.old.store.now.conn) self.old.failed
-            (state S.Store self.new.store.now.conn) self.new.failed (with_one_more grant.now) (λ k. k) }
+            (state S.Store self.new.store.now.conn) self.new.failed (with_one_more_grant grant.now) (λ k. k) }
         ensures cause { (m₀ m : Queue) (k₀ k : List Entry)
             → Works (state S.Store self.old.store.now.conn) self.old.failed m₀ k₀ m k
             → Serves (state S.Store self.new.store.now.conn) → IsOpenGrant grant.now → m.next_grant < 1000000000

@@ -6,7 +6,7 @@ ghost use Rattle.sqlite.specs.Held.{state};
 ghost use Rattle.fax_core.specs.Job.{job_of, fields_of};
 ghost use Rattle.fax_core.specs.Machine.{with_job as with_change};
 ghost use Rattle.fax_core.specs.Queue.{Queue, Entry, job_numbered};
-ghost use Rattle.fax_store.specs.Job.{IsChange, IsWaiting, with_placed, with_job, with_expired};
+ghost use Rattle.fax_store.specs.Job.{IsChange, IsWaiting, with_placed, with_one_more_job, with_expired};
 ghost use Rattle.fax_store.specs.Store.{Serves, Means, MeansNow, Stays, Answers};
 ghost use Rattle.fax_store.specs.Work.{Works, Keeps, Changes, ChangesWhere, AnswersIn, Moves, Steps};
 ghost use Rattle.fax_tables.specs.Fault.{OrUnavailable};
@@ -180,7 +180,7 @@ impl<S: Alter> Store<S> {
         ensures served { Serves (state S.Store self.new.conn) → Serves (state S.Store self.old.conn) }
         ensures written { (m₀ m : Queue) (k₀ k : List Entry) → Works (state S.Store self.old.conn) false m₀ k₀ m k
             → Serves (state S.Store self.new.conn)
-            → Moves (state S.Store self.new.conn) result m₀ k₀ (with_job (job_of job.now) m) k
+            → Moves (state S.Store self.new.conn) result m₀ k₀ (with_one_more_job (job_of job.now) m) k
             × (m.next_job < 1000000 → IfErr result (λ fault. fault ≡ StoreFault.Unavailable)) }
     {
         let meta = self.read_meta()?;
@@ -252,7 +252,7 @@ impl<S: Alter> Work<'_, S> {
     pub fn put_job(&mut self, job: &Job) -> Result<(), StoreFault>
         ensures same_reference { self.new.store.ghost_name ≡ self.old.store.ghost_name }
         ensures changes { Changes (state S.Store self.old.store.now.conn) self.old.failed
-            (state S.Store self.new.store.now.conn) self.new.failed (with_job (job_of job.now)) (λ k. k) }
+            (state S.Store self.new.store.now.conn) self.new.failed (with_one_more_job (job_of job.now)) (λ k. k) }
         ensures cause { (m₀ m : Queue) (k₀ k : List Entry)
             → Works (state S.Store self.old.store.now.conn) self.old.failed m₀ k₀ m k
             → Serves (state S.Store self.new.store.now.conn) → m.next_job < 1000000

@@ -18,6 +18,7 @@ use Rattle.sqlite_rules.proofs.ListLemmas.{all_has, has_found}
 use Rattle.sqlite_rules.proofs.ProbeLemmas.{mapped_has}
 use Rattle.sqlite_value.specs.Order.{value_cmp}
 use Rattle.sqlite_value.proofs.OrderLemmas.{value_cmp-Int}
+use Rattle.fax_tables.specs.Place.{placed}
 use Rattle.fax_tables.specs.Row.{number}
 use Rattle.fax_tables.proofs.CompareLemmas.{are_equal, same_number, number_same}
 use Rattle.fax_tables.proofs.EditLemmas.{has_mapped, shown_one, none_shown}
@@ -94,11 +95,10 @@ pub free_of : (rows : List Row) (new : Row) → are_fresh rows (new ∷ []) ≡ 
 free_of rows new fresh = not-true _ (and_parts (not (is_taken rows new)) true fresh).0
 
 -- a row whose rowid is not taken stands in its place among those of records
-module _ {X : Type 0} (row : X → Row) (num : X → ℕ) (ids : (x : X) → rowid (row x) ≡ number (num x)) (placed : X → List X → List X) (alone : (x : X) → placed x [] ≡ x ∷ [])
-    (before : (x y : X) (ys : List X) → placed x (y ∷ ys) ≡ (if nat_lt (num y) (num x) then y ∷ placed x ys else x ∷ y ∷ ys)) where
-  pub row_placed : (x : X) (xs : List X) → is_taken (map row xs) (row x) ≡ false → put_row (row x) (map row xs) ≡ map row (placed x xs)
-  row_placed x [] free = sym (ap (map row) (alone x))
-  row_placed x (y ∷ ys) free = by (int_cmp (pos (num y)) (pos (num x))) refl (row_placed x ys parts.1) ∙ sym (ap (map row) (before x y ys))
+module _ {X : Type 0} (row : X → Row) (num : X → ℕ) (ids : (x : X) → rowid (row x) ≡ number (num x)) where
+  pub row_placed : (x : X) (xs : List X) → is_taken (map row xs) (row x) ≡ false → put_row (row x) (map row xs) ≡ map row (placed num x xs)
+  row_placed x [] free = refl
+  row_placed x (y ∷ ys) free = by (int_cmp (pos (num y)) (pos (num x))) refl (row_placed x ys parts.1)
     where
       both : (a b : Bool) → (a || b) ≡ false → (a ≡ false) × (b ≡ false)
       both false b h = (refl, h)
@@ -110,7 +110,7 @@ module _ {X : Type 0} (row : X → Row) (num : X → ℕ) (ids : (x : X) → row
       compare : value_cmp (rowid (row y)) (rowid (row x)) ≡ int_cmp (pos (num y)) (pos (num x))
       compare = ap₂ value_cmp (ids y) (ids x) ∙ value_cmp-Int (pos (num y)) (pos (num x))
 
-      by : (o : Ordering) → int_cmp (pos (num y)) (pos (num x)) ≡ o → put_row (row x) (map row ys) ≡ map row (placed x ys) → put_row (row x) (map row (y ∷ ys)) ≡ map row (if nat_lt (num y) (num x) then y ∷ placed x ys else x ∷ y ∷ ys)
+      by : (o : Ordering) → int_cmp (pos (num y)) (pos (num x)) ≡ o → put_row (row x) (map row ys) ≡ map row (placed num x ys) → put_row (row x) (map row (y ∷ ys)) ≡ map row (if nat_lt (num y) (num x) then y ∷ placed num x ys else x ∷ y ∷ ys)
       by Less e rest =
           let below : nat_lt (num y) (num x) ≡ true = grind (arith, nat_tests) in
           rw (compare, e, below) (ap (λ rows. row y ∷ rows) rest)
@@ -119,20 +119,20 @@ module _ {X : Type 0} (row : X → Row) (num : X → ℕ) (ids : (x : X) → row
           let above : nat_lt (num y) (num x) ≡ false = grind (arith, nat_tests) in
           rw (compare, e, above) refl
 
-  pub all_placed : (P : X → Type 0) (x : X) (xs : List X) → P x → All P xs → All P (placed x xs)
-  all_placed P x [] own all = subst (All P) (sym (alone x)) (All-cons P x [] own all)
-  all_placed P x (y ∷ ys) own all = subst (All P) (sym (before x y ys)) (elim (cases_Bool (nat_lt (num y) (num x))) [
-    | inl below ↦ rw below (All-cons P y (placed x ys) (all 0 y (omega arith)) (all_placed P x ys own (λ i d low. all (suc i) d (omega arith))))
+  pub all_placed : (P : X → Type 0) (x : X) (xs : List X) → P x → All P xs → All P (placed num x xs)
+  all_placed P x [] own all = All-cons P x [] own all
+  all_placed P x (y ∷ ys) own all = elim (cases_Bool (nat_lt (num y) (num x))) [
+    | inl below ↦ rw below (All-cons P y (placed num x ys) (all 0 y (omega arith)) (all_placed P x ys own (λ i d low. all (suc i) d (omega arith))))
     | inr above ↦ rw above (All-cons P x (y ∷ ys) own all)
-  ])
+  ]
 
   -- in place or first, it is one more
-  pub placed_permuted : (x : X) (xs : List X) → IsPermutation (x ∷ xs) (placed x xs)
-  placed_permuted x [] = subst (IsPermutation (x ∷ [])) (sym (alone x)) (IsPermutation-refl (x ∷ []))
-  placed_permuted x (y ∷ ys) = subst (IsPermutation (x ∷ y ∷ ys)) (sym (before x y ys)) (elim (cases_Bool (nat_lt (num y) (num x))) [
-    | inl below ↦ rw below (IsPermutation-trans (x ∷ y ∷ ys) (y ∷ x ∷ ys) (y ∷ placed x ys) (exchanged x y ys) (IsPermutation-cons y (x ∷ ys) (placed x ys) (placed_permuted x ys)))
+  pub placed_permuted : (x : X) (xs : List X) → IsPermutation (x ∷ xs) (placed num x xs)
+  placed_permuted x [] = IsPermutation-refl (x ∷ [])
+  placed_permuted x (y ∷ ys) = elim (cases_Bool (nat_lt (num y) (num x))) [
+    | inl below ↦ rw below (IsPermutation-trans (x ∷ y ∷ ys) (y ∷ x ∷ ys) (y ∷ placed num x ys) (exchanged x y ys) (IsPermutation-cons y (x ∷ ys) (placed num x ys) (placed_permuted x ys)))
     | inr above ↦ rw above (IsPermutation-refl (x ∷ y ∷ ys))
-  ])
+  ]
     where
       exchanged : (x y : X) (ys : List X) → IsPermutation (x ∷ y ∷ ys) (y ∷ x ∷ ys)
       exchanged x y ys = IsPermutation-sym (y ∷ x ∷ ys) (x ∷ y ∷ ys)

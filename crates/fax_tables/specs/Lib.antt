@@ -6,3 +6,4 @@ pub mod Grant
 pub mod Kept
 pub mod Meta
 pub mod Tables
+pub mod Place

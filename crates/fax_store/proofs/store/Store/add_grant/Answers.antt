@@ -1,7 +1,7 @@
 use Rattle.std.proofs.Common.{◌≡◌, ◌+◌, ◌<◌, false, Ok, subst, ap, arith, rules}
 use Rattle.sqlite.specs.Held.{state}
 use Rattle.fax_tables.specs.Grant.{IsOpenGrant}
-use Rattle.fax_store.specs.Grant.{with_placed, with_one_more}
+use Rattle.fax_store.specs.Grant.{with_placed, with_one_more_grant}
 use Rattle.fax_tables.specs.Meta.{meta_of, with_meta}
 use Rattle.fax_tables.specs.Tables.{IsLawfulMeta}
 use Rattle.fax_store.specs.Work.{Steps}
@@ -26,8 +26,8 @@ returns-clause-written g c m₀ m k₀ k works s =
     let same : meta ≡ meta_of m = first.0 in
     let low : meta.next_grant < 1000000000 = search rules in
     let next : meta.next_grant ≡ m.next_grant = ap (λ it. it.next_grant) same in
-    let lawful : IsLawfulMeta (with_one_more grant m) = record { clock = was.clock; next_job = was.next_job; next_grant = (omega arith, omega (arith, low, next)) } in
-    let done : Steps new c.write_meta.result m₀ k₀ (with_one_more grant m) k =
+    let lawful : IsLawfulMeta (with_one_more_grant grant m) = record { clock = was.clock; next_job = was.next_job; next_grant = (omega arith, omega (arith, low, next)) } in
+    let done : Steps new c.write_meta.result m₀ k₀ (with_one_more_grant grant m) k =
     subst (λ it. IsLawfulMeta (with_meta (record it { next_grant = it.next_grant + 1 }) (with_placed grant m)) → Steps new c.write_meta.result m₀ k₀ (with_meta (record it { next_grant = it.next_grant + 1 }) (with_placed grant m)) k) same
     (c.write_meta.ensures.written m₀ (with_placed grant m) k₀ k (λ _. second) s) lawful in
-    (moves_of new c.write_meta.result m₀ (with_one_more grant m) k₀ k done, λ fits below. steps_fault new c.write_meta.result m₀ (with_one_more grant m) k₀ k done)
+    (moves_of new c.write_meta.result m₀ (with_one_more_grant grant m) k₀ k done, λ fits below. steps_fault new c.write_meta.result m₀ (with_one_more_grant grant m) k₀ k done)

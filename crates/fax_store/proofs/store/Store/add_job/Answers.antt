@@ -1,7 +1,7 @@
 use Rattle.std.proofs.Common.{◌≡◌, ◌+◌, ◌<◌, false, Ok, subst, ap, arith, rules}
 use Rattle.sqlite.specs.Held.{state}
 use Rattle.fax_core.specs.Job.{job_of}
-use Rattle.fax_store.specs.Job.{with_placed, with_job}
+use Rattle.fax_store.specs.Job.{with_placed, with_one_more_job}
 use Rattle.fax_tables.specs.Meta.{meta_of, with_meta}
 use Rattle.fax_tables.specs.Tables.{IsLawfulMeta}
 use Rattle.fax_store.specs.Work.{Steps}
@@ -25,7 +25,7 @@ returns-clause-written g c m₀ m k₀ k works s =
     let same : meta ≡ meta_of m = first.0 in
     let low : meta.next_job < 1000000 = search rules in
     let next : meta.next_job ≡ m.next_job = ap (λ it. it.next_job) same in
-    let lawful : IsLawfulMeta (with_job j m) = record { clock = was.clock; next_job = (omega arith, omega (arith, low, next)); next_grant = was.next_grant } in
-    let done : Steps new c.write_meta.result m₀ k₀ (with_job j m) k = subst (λ it. IsLawfulMeta (with_meta (record it { next_job = it.next_job + 1 }) (with_placed j m)) → Steps new c.write_meta.result m₀ k₀ (with_meta (record it { next_job = it.next_job + 1 }) (with_placed j m)) k) same
+    let lawful : IsLawfulMeta (with_one_more_job j m) = record { clock = was.clock; next_job = (omega arith, omega (arith, low, next)); next_grant = was.next_grant } in
+    let done : Steps new c.write_meta.result m₀ k₀ (with_one_more_job j m) k = subst (λ it. IsLawfulMeta (with_meta (record it { next_job = it.next_job + 1 }) (with_placed j m)) → Steps new c.write_meta.result m₀ k₀ (with_meta (record it { next_job = it.next_job + 1 }) (with_placed j m)) k) same
     (c.write_meta.ensures.written m₀ (with_placed j m) k₀ k (λ _. second) s) lawful in
-    (moves_of new c.write_meta.result m₀ (with_job j m) k₀ k done, λ below. steps_fault new c.write_meta.result m₀ (with_job j m) k₀ k done)
+    (moves_of new c.write_meta.result m₀ (with_one_more_job j m) k₀ k done, λ below. steps_fault new c.write_meta.result m₀ (with_one_more_job j m) k₀ k done)
