@@ -81,5 +81,5 @@ module _ (old new : State) (m : Queue) (k : List Entry) (means : TablesMean old.
     pub clock_written : clock ≤ 4102444800 → HasRun UPDATE_CLOCK.now (clock_params clock) old new → TablesMean new.now (with_clock clock m) k × KeepsOthers six_tables meta_tree old new
     clock_written within h =
         let done = clocked h in
-        let lawful = record { clock = within; next_job = means.lawful.meta.next_job; next_grant = means.lawful.meta.next_grant } in
+        let lawful : IsLawfulMeta (with_clock clock m) = record { clock = within; next_job = means.lawful.meta.next_job; next_grant = means.lawful.meta.next_grant } in
         (means_of new.now (with_clock clock m) k (meta_changed old new m (open_grants m) k (parts_of old.now m k means) done.0 clock m.next_job m.next_grant done.1 lawful), done.0)
