@@ -1,2 +1,0 @@
-mod OneReplayLemmas
-mod ReplayLemmas

@@ -1,4 +1,2 @@
-pub mod Desk
-pub mod Laws
 pub mod Replay
 pub mod Status

@@ -1,48 +1,21 @@
--- What a replay that succeeded did.
-use Rattle.std.specs.Prelude.{ℕ, List, [], ◌∷◌, Option, codes, ⊤}
-use Rattle.std.specs.Io.KnownBytes.{Appends}
-use Rattle.sqlite.specs.Held.{Held, state}
-use Rattle.sqlite.specs.Steps.{over_memory}
-use Rattle.sqlite_trees.specs.declared.memory.MemStore.{MemStore}
-use Rattle.fax_core.specs.Queue.{empty_queue}
-use Rattle.fax_core.specs.Settings.{Settings}
-use Rattle.fax_decide.specs.Settings.{settings_of}
+-- How the command `replay` ends.
+use Rattle.std.specs.Prelude.{◌≡◌, ◌⊎◌, ℕ, List, Option}
 use Rattle.fax_decide.specs.declared.office.Office.{Office}
-use Rattle.fax_tables.specs.Tables.{IsAtRest}
-use Rattle.fax_http.specs.Clock.{moment_said}
-use Rattle.fax_http.specs.Conversation.{Reads, Turn, spelled_turns}
-use Rattle.faxqd.specs.Desk.{HandlesAt}
-use Rattle.fax_http.specs.Message.{fields_of, sole, values_of}
-use Rattle.fax_http.specs.Serving.{ReadsWhole}
+use Rattle.fax_desk.specs.Replaying.{IsReplayed}
+use Rattle.fax_http.specs.declared.conversation.End.{End}
+use Rattle.fax_http.specs.declared.conversation.End.TheVariants.{Closed}
+use Rattle.faxqd.specs.declared.status.Status.{Status}
+use Rattle.faxqd.specs.declared.status.Status.TheVariants.{Success, Fault, Usage}
 
--- what a turn's message says of its moment, or else the last moment
-abbrev pub moment_of : ℕ → Turn → ℕ
-moment_of last turn = moment_said last (sole (values_of (codes "Fax-Moment") (fields_of turn.head)))
-
--- the arrivals are handled one after the other, from tables in memory and the last moment on
-abbrev pub AreHandled : Settings → ℕ → Held MemStore → List Turn → Type 0
-AreHandled settings last held [] = ⊤
-AreHandled settings last held (turn ∷ turns) =
-    (next : Held MemStore)
-    × HandlesAt (moment_of last turn) settings (state over_memory held) turn.head turn.body turn.reply (state over_memory next)
-    × AreHandled settings (moment_of last turn) next turns
-
--- the machine's settings in an office
-abbrev pub settings_in : Office → Settings
-settings_in office = settings_of office.setup office.controls
-
--- by the settings of an office, the turns are those of the empty queue from the moment 0 on
-pub record AreOfEmptyQueue (turns : List Turn) : Type 0 where
+-- the input was replayed by some office, and didn't end as it should
+pub record EndsBadly (unread read before after : Option (List ℕ)) : Type 0 where
   pub office : Office
-  pub held : Held MemStore
-  pub empty : IsAtRest (state over_memory held) empty_queue []
-  pub handled : AreHandled (settings_in office) 0 held turns
+  pub end : End
+  pub badly : ¬ (end ≡ Closed)
+  pub replayed : IsReplayed office unread read before after end
 
--- the whole input was messages, one reply to each was written, in order, and they come of the empty queue
-pub record IsAnswered (unread read before after : Option (List ℕ)) : Type 0 where
-  pub input : List ℕ
-  pub turns : List Turn
-  pub whole : ReadsWhole unread read input
-  pub messages : Reads input turns []
-  pub replies : AreOfEmptyQueue turns
-  pub written : Appends before after (spelled_turns turns)
+-- It succeeds where an office's replay of the input ends as it should. It ends at fault where that ends otherwise, or where there is no office; then nothing is read or written.
+abbrev pub Ends : Option (List ℕ) → Option (List ℕ) → Option (List ℕ) → Option (List ℕ) → Status → Type 0
+Ends unread read before after Success = (office : Office) × IsReplayed office unread read before after Closed
+Ends unread read before after Fault = EndsBadly unread read before after ⊎ ((read ≡ unread) × (after ≡ before))
+Ends unread read before after Usage = ⊥

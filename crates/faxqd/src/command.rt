@@ -1,6 +1,6 @@
 //! The program as a function of its words, its input and its outputs.
 ghost use Rattle.std.specs.Prelude.{◌≡◌, ◌⊎◌};
-ghost use Rattle.faxqd.specs.Replay.{IsAnswered};
+ghost use Rattle.faxqd.specs.Replay.{Ends};
 
 use crate::replay::replay;
 use crate::status::{Status, fail};
@@ -15,8 +15,7 @@ pub fn run<R: Read, W: Write, E: Write>(
     out: &mut W,
     err: &mut E,
 ) -> Status
-    ensures success { result ≡ Status.Success
-        → IsAnswered (R.remaining reader.old) (R.remaining reader.new) (W.contents out.old) (W.contents out.new)
+    ensures ends { Ends (R.remaining reader.old) (R.remaining reader.new) (W.contents out.old) (W.contents out.new) result
         ⊎ (reader.new ≡ reader.old) }
     ensures words { result ≡ Status.Usage → (reader.new ≡ reader.old) × (out.new ≡ out.old) }
 {

@@ -2,7 +2,6 @@
 #![tactic(auto)]
 
 mod command;
-mod desk;
 mod office;
 mod replay;
 mod status;

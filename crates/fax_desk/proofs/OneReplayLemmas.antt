@@ -19,10 +19,10 @@ use Rattle.fax_once.specs.declared.arrival.Arrival.{Arrival}
 use Rattle.fax_store.proofs.StoreLemmas.{memory_serves}
 use Rattle.fax_tables.specs.Tables.{IsAtRest}
 use Rattle.fax_http.specs.Conversation.{Turn}
-use Rattle.faxqd.specs.Desk.{IsArrival}
+use Rattle.fax_desk.specs.Desk.{IsArrival}
 use Rattle.fax_http.specs.Laws.{message_of}
-use Rattle.faxqd.specs.Laws.{NoneGaveOut, OneReplay}
-use Rattle.faxqd.specs.Replay.{AreHandled, moment_of, settings_in}
+use Rattle.fax_desk.specs.Laws.{NoneGaveOut, OneReplay}
+use Rattle.fax_desk.specs.Replaying.{AreHandled, moment_of, settings_in}
 use Rattle.fax_http.proofs.DivisionLemmas.{one_division}
 
 -- ---- one message
@@ -101,7 +101,7 @@ one_run s last m k (turn ∷ turns) (turn₂ ∷ turns₂) held other sound here
     ap (λ t. t ∷ turns) (same_turn turn turn₂ head body left.replies) ∙ ap (λ ts. turn₂ ∷ ts) rest
 
 pub one_replay : OneReplay
-one_replay input turns others r q a b settings none more =
-    one_run (settings_in b.office) 0 empty_queue [] turns others a.held b.held empty_sound a.empty b.empty
+one_replay office other input turns others settings r q a b none more =
+    one_run (settings_in other) 0 empty_queue [] turns others a.held b.held empty_sound a.empty b.empty
     (one_division input turns others r q) none more
     (subst (λ s. AreHandled s 0 a.held turns) settings a.handled) b.handled

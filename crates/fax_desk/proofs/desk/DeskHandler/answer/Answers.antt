@@ -1,6 +1,6 @@
 use Rattle.std.specs.Prelude.{ℕ, List}
 use Rattle.std.proofs.Common.{subst}
-use Rattle.faxqd.proofs.desk.DeskHandler.answer.Goals as goal
+use Rattle.fax_desk.proofs.desk.DeskHandler.answer.Goals as goal
 
 pub returns : goal.returns
 returns g c head body parts = (

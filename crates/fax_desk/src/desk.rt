@@ -4,7 +4,7 @@
 ghost use Rattle.std.specs.Prelude.{◌≡◌, ℕ, List};
 ghost use Rattle.httparse.specs.Grammar.{RequestHead};
 ghost use Rattle.fax_http.specs.Cut.{ArePartsOf};
-ghost use Rattle.faxqd.specs.Desk.{IsArrival};
+ghost use Rattle.fax_desk.specs.Desk.{IsArrival};
 
 use fax_ask::{Method, Reply};
 use fax_http::{Clock, Handler, Message};
@@ -38,7 +38,7 @@ impl<C: Clock + Drop, S: Alter> Handler for Desk<C, S> {
     ghost use Rattle.std.specs.Prelude.{◌≡◌};
     ghost use Rattle.sqlite.specs.Held.{state};
     ghost use Rattle.fax_decide.specs.Settings.{settings_of};
-    ghost use Rattle.faxqd.specs.Desk.{IsHandled};
+    ghost use Rattle.fax_desk.specs.Desk.{IsHandled};
 
     // The queue handles the message's arrival at the clock's moment, by the same setup and controls as ever.
     ghost answers = { λ old head body reply new.

@@ -1,18 +1,18 @@
--- What a served input that ended as closed shows.
-use Rattle.std.proofs.Common.{◌≡◌, ◌∙◌, ℕ, List, [], ◌∷◌, length, Option, subst, inl, inr}
+-- What a served input shows.
+use Rattle.std.proofs.Common.{◌≡◌, ◌∙◌, ℕ, List, [], ◌∷◌, Option, subst, inl, inr}
 use Rattle.sqlite.specs.Held.{Held, state}
 use Rattle.sqlite.specs.Steps.{over_memory}
 use Rattle.sqlite_trees.specs.declared.memory.MemStore.{MemStore}
 use Rattle.fax_core.specs.Settings.{Settings}
 use Rattle.httparse.specs.Grammar.{RequestHead}
 use Rattle.fax_ask.specs.Response.{Response}
-use Rattle.fax_http.specs.declared.conversation.End.TheVariants.{Closed}
 use Rattle.fax_http.specs.declared.conversation.Served.{Served}
 use Rattle.fax_http.specs.Clock.{moment_said}
-use Rattle.fax_http.specs.Conversation.{Answering, Answers, EndsBy, Reads, Turn, spelled_turns}
-use Rattle.faxqd.specs.Desk.{HandlesAt, IsHandled}
-use Rattle.faxqd.specs.Replay.{AreHandled, AreOfEmptyQueue, IsAnswered, moment_of}
-use Rattle.fax_http.specs.Serving.{AnswersInput, IsUnread}
+use Rattle.fax_http.specs.Conversation.{Answering, Answers, Turn}
+use Rattle.fax_desk.specs.Desk.{HandlesAt, IsHandled}
+use Rattle.fax_decide.specs.declared.office.Office.{Office}
+use Rattle.fax_desk.specs.Replaying.{AreHandled, AreOfEmptyQueue, IsReplayed, moment_of}
+use Rattle.fax_http.specs.Serving.{AnswersInput}
 
 -- each answer is an arrival that is handled, so all of them are
 pub handled_of : {H : Type 0} (answers : Answering H) (old : H) (turns : List Turn) (new : H) → Answers answers old turns new
@@ -29,20 +29,16 @@ handled_of answers old (turn ∷ turns) new (next, here, behind) settings last h
       subst (λ t. AreHandled (settings old) t (held next) turns) when (subst (λ s. AreHandled s (last next) (held next) turns) it.0 (handled_of answers next turns new behind settings last held each)),
     )
 
-pub answered_of : {H : Type 0} (answers : Answering H) (bound : ℕ) (unread read : Option (List ℕ)) (old new : H)
-    (before after : Option (List ℕ)) (served : Served) → served.end ≡ Closed
-    → ((turns : List Turn) → Answers answers old turns new → AreOfEmptyQueue turns)
-    → AnswersInput answers bound unread read old new before after served → IsAnswered unread read before after
-answered_of answers bound unread read old new before after served closed replies (inl (input, whole, c)) =
-    let ends : EndsBy bound (length c.turns) c.rest (spelled_turns c.turns) before after Closed =
-    subst (λ e. EndsBy bound (length c.turns) c.rest (spelled_turns c.turns) before after e) closed c.ends in
-    record {
-      input = input;
-      turns = c.turns;
-      whole = whole;
-      messages = subst (λ rest. Reads input c.turns rest) ends.1 c.reads;
-      replies = replies c.turns c.answered;
-      written = ends.2;
-    }
-answered_of answers bound unread read old new before after served closed replies (inr (gone, unanswered)) =
-    absurd (subst (λ e. IsUnread unread read e) closed gone)
+pub replayed_of : {H : Type 0} (answers : Answering H) (office : Office) (unread read : Option (List ℕ)) (old new : H) (before after : Option (List ℕ)) (served : Served)
+    → ((turns : List Turn) → Answers answers old turns new → AreOfEmptyQueue office turns)
+    → AnswersInput answers 1000 unread read old new before after served → IsReplayed office unread read before after served.end
+replayed_of answers office unread read old new before after served replies (inl (input, whole, c)) = inl (record {
+  input = input;
+  turns = c.turns;
+  rest = c.rest;
+  whole = whole;
+  messages = c.reads;
+  replies = replies c.turns c.answered;
+  ends = c.ends;
+})
+replayed_of answers office unread read old new before after served replies (inr (gone, unanswered)) = inr (gone, unanswered.unwritten)

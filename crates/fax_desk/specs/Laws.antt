@@ -3,16 +3,17 @@ use Rattle.std.specs.Prelude.{◌≡◌, ℕ, List, [], ◌∷◌, ⊤}
 use Rattle.fax_job.specs.declared.refusal.Refusal.TheVariants.{Unavailable}
 use Rattle.fax_ask.specs.Response.{refused_response}
 use Rattle.fax_core.specs.Reply.{NoKeys}
+use Rattle.fax_decide.specs.declared.office.Office.{Office}
 use Rattle.fax_http.specs.Conversation.{Reads, Turn}
-use Rattle.faxqd.specs.Replay.{AreOfEmptyQueue, settings_in}
+use Rattle.fax_desk.specs.Replaying.{AreOfEmptyQueue, settings_in}
 
 -- no reply says that memory or the store gave out
 abbrev pub NoneGaveOut : List Turn → Type 0
 NoneGaveOut [] = ⊤
 NoneGaveOut (turn ∷ turns) = ¬ (turn.reply ≡ refused_response Unavailable NoKeys) × NoneGaveOut turns
 
--- from the empty queue, and by the same settings, an input is answered in one way at most, where nothing gave out
+-- from the empty queue, and by offices of the same settings, an input is answered in one way at most, where nothing gave out
 abbrev pub OneReplay : Type 0
-OneReplay = (input : List ℕ) (turns others : List Turn) → Reads input turns [] → Reads input others []
-    → (a : AreOfEmptyQueue turns) (b : AreOfEmptyQueue others) → settings_in a.office ≡ settings_in b.office
+OneReplay = (office other : Office) (input : List ℕ) (turns others : List Turn) → settings_in office ≡ settings_in other
+    → Reads input turns [] → Reads input others [] → AreOfEmptyQueue office turns → AreOfEmptyQueue other others
     → NoneGaveOut turns → NoneGaveOut others → turns ≡ others

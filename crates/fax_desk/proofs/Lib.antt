@@ -1,0 +1,2 @@
+mod OneReplayLemmas
+mod ReplayingLemmas

@@ -1,0 +1,8 @@
+//! The queue at its desk: it answers messages by a clock, and a whole input from empty tables on.
+#![tactic(auto)]
+
+mod desk;
+mod replaying;
+
+pub use desk::Desk;
+pub use replaying::replay;

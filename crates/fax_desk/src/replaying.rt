@@ -1,0 +1,51 @@
+//! One input, answered from empty tables on.
+
+ghost use Rattle.std.specs.Prelude.{◌≡◌, [], IfErr, IfOk};
+ghost use Rattle.sqlite.specs.Held.{state};
+ghost use Rattle.sqlite.specs.Steps.{over_memory};
+ghost use Rattle.fax_core.specs.Queue.{empty_queue as no_records};
+ghost use Rattle.fax_desk.specs.Replaying.{IsReplayed};
+ghost use Rattle.fax_tables.specs.Tables.{IsAtRest};
+
+use crate::desk::Desk;
+use fax_http::{Bounds, End, SaidClock, serve};
+use fax_once::{Office, Queue};
+use fax_store::{Store, StoreFault};
+use sqlite::MemStore;
+use std::alloc::Global;
+use std::io::{Read, Write};
+
+/// The most messages of one input.
+const MESSAGE_LIMIT: u32 = 1_000;
+
+/// Reads the whole input, answers its messages by that office from empty tables in memory on, and writes their
+/// replies to `out`. Each message has the moment that it says, or else that of the message before it, 0 at first.
+/// Gives why it ended.
+pub fn replay<R: Read, W: Write>(
+    alloc: Global,
+    office: Office,
+    reader: &mut R,
+    out: &mut W,
+) -> End
+    ensures { IsReplayed office (R.remaining reader.old) (R.remaining reader.new) (W.contents out.old) (W.contents out.new) result }
+{
+    let Ok(queue) = empty_queue(alloc, office) else {
+        return End::NoMemory;
+    };
+    let mut desk = Desk::new(alloc, SaidClock::new(), queue);
+    let bounds = Bounds {
+        messages: MESSAGE_LIMIT,
+    };
+    let served = serve(alloc, reader, out, &mut desk, bounds);
+    served.end
+}
+
+/// A queue over empty tables in memory, by that office.
+fn empty_queue(alloc: Global, office: Office) -> Result<Queue<MemStore>, StoreFault>
+    ensures empty { IfOk result (λ queue. IsAtRest (state over_memory queue.store.conn) no_records []) }
+    ensures office { IfOk result (λ queue. queue.office ≡ office) }
+    ensures cause { IfErr result (λ fault. fault ≡ StoreFault.Unavailable) }
+{
+    let store = Store::new_in_memory(alloc)?;
+    Ok(Queue::new(alloc, store, office.setup, office.controls)?)
+}
