@@ -2,6 +2,7 @@
 #![tactic(auto)]
 
 mod desk;
+pub mod laws;
 mod replaying;
 
 pub use desk::Desk;

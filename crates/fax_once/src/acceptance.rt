@@ -22,7 +22,7 @@ use sqlite::Alter;
 /// # Errors
 ///
 /// Those of the store; the tables are as they were.
-pub(crate) fn accept<S: Alter>(
+pub(crate) fn commit_accepted<S: Alter>(
     store: &mut Store<S>,
     decided_at: Moment,
     effect: &Effect,

@@ -26,7 +26,7 @@ ghost use Rattle.fax_once.specs.Ask.{shown_in};
 ghost use Rattle.fax_once.specs.Verdict.{Answers, Handles, IsDecided, IsVerdict, LeavesBy, Told, asked_for, is_used};
 ghost use Rattle.fax_once.specs.declared.arrival.Arrival.{Arrival as ArrivalOf};
 
-use crate::acceptance::accept;
+use crate::acceptance::commit_accepted;
 use crate::arrival::Arrival;
 use crate::sender::Sender;
 use fax_ask::{Ask, Detail, Reply, Routes};
@@ -228,7 +228,7 @@ impl<S: Alter> Queue<S> {
             (λ _. Means (state S.Store self.new.store.conn) m k) }
     {
         let said = arrival.said(alloc)?;
-        accept(&mut self.store, t, effect, sender, &said, &reply)?;
+        commit_accepted(&mut self.store, t, effect, sender, &said, &reply)?;
         Ok(reply)
     }
 }

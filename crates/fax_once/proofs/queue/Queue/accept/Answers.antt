@@ -6,14 +6,14 @@ use Rattle.fax_decide.specs.Effect.{accepted}
 use Rattle.fax_decide.proofs.WorkLemmas.{refused_with}
 use Rattle.fax_once.proofs.queue.Queue.accept.Goals as goal
 
-pub returns-in_err-accept-clause-accepted : goal.returns-in_err-accept-clause-accepted
-returns-in_err-accept-clause-accepted g c m k means suits =
-    refused_with c.from_residual-in_err-accept.result _ _ c.from_residual-in_err-accept.ensures.0 (c.in_err-accept.ensures.taken m k means suits)
+pub returns-in_err-commit_accepted-clause-accepted : goal.returns-in_err-commit_accepted-clause-accepted
+returns-in_err-commit_accepted-clause-accepted g c m k means suits =
+    refused_with c.from_residual-in_err-commit_accepted.result _ _ c.from_residual-in_err-commit_accepted.ensures.0 (c.in_err-commit_accepted.ensures.taken m k means suits)
 
 pub returns-clause-accepted : goal.returns-clause-accepted
 returns-clause-accepted g c m k means suits = (
   refl,
-  subst (λ said. Means (state g.S.Store c.accept.new.store.conn) (accepted c.args.t c.args.effect.now m)
+  subst (λ said. Means (state g.S.Store c.commit_accepted.new.store.conn) (accepted c.args.t c.args.effect.now m)
       (k ++ entry c.args.sender.now.client.now c.args.sender.now.number said c.args.reply.status c.args.reply.body ∷ []))
-      (c.deref.ensures.value ∙ c.in_ok-said.ensures) (c.in_ok-accept.ensures.taken m k means suits),
+      (c.deref.ensures.value ∙ c.in_ok-said.ensures) (c.in_ok-commit_accepted.ensures.taken m k means suits),
 )

@@ -4,7 +4,7 @@ use Rattle.fax_tables.specs.Kept.{entry}
 use Rattle.fax_store.specs.Store.{Means, Stays}
 use Rattle.fax_decide.specs.Effect.{accepted}
 use Rattle.fax_decide.proofs.WorkLemmas.{refused_with, works_where}
-use Rattle.fax_once.proofs.acceptance.accept.Goals as goal
+use Rattle.fax_once.proofs.acceptance.commit_accepted.Goals as goal
 
 pub returns-in_err-work-clause-taken : goal.returns-in_err-work-clause-taken
 returns-in_err-work-clause-taken g c m k means suits =
