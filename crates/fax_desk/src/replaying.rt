@@ -21,12 +21,7 @@ const MESSAGE_LIMIT: u32 = 1_000;
 /// Reads the whole input, answers its messages by that office from empty tables in memory on, and writes their
 /// replies to `out`. Each message has the moment that it says, or else that of the message before it, 0 at first.
 /// Gives why it ended.
-pub fn replay<R: Read, W: Write>(
-    alloc: Global,
-    office: Office,
-    reader: &mut R,
-    out: &mut W,
-) -> End
+pub fn replay<R: Read, W: Write>(alloc: Global, office: Office, reader: &mut R, out: &mut W) -> End
     ensures { IsReplayed office (R.remaining reader.old) (R.remaining reader.new) (W.contents out.old) (W.contents out.new) result }
 {
     let Ok(queue) = empty_queue(alloc, office) else {
