@@ -11,7 +11,7 @@ use Rattle.fax_http.specs.declared.message.Broken.TheVariants.{BadHttp, TooLarge
 use Rattle.fax_http.specs.declared.message.Message.{Message}
 use Rattle.fax_http.specs.Conversation.{Answering, Turn, Reads, Answers, Converses, Fails, IsCut, RefusesRest, counted, failure_of, spelled, spelled_turns, wants_body}
 use Rattle.fax_http.specs.Cut.{ArePartsOf, HoldsMessage}
-use Rattle.fax_http.specs.Message.{BeginsWith, IsBad, IsTooLarge}
+use Rattle.fax_http.specs.Message.{BeginsWith, IsBad, IsTooLarge, StaysBad}
 use Rattle.fax_ask.specs.Response.{Response}
 use Rattle.fax_http.proofs.ConversationLemmas.{appends_none, counted-on, cut_behind}
 use Rattle.fax_http.proofs.OutputLemmas.{appends_both}
@@ -179,8 +179,8 @@ ends_cut answers bound input old now next before between after rest behind count
       ends = inl (subst (λ bs. IsCut before after bs 0 total) all (cut_behind before between after _ _ 0 sent total p.wrote p.sent_is cut));
     }
 
--- why a rest isn't divided further
+-- why the rest of a whole input isn't divided further
 pub fails_by : {T : Type 0} (result : Result T Broken) (rest : List ℕ) (broken : Broken) → result ≡ Err broken
-    → (result ≡ Err TooLarge → IsTooLarge rest) → (result ≡ Err BadHttp → IsBad rest) → Fails rest broken
-fails_by result rest BadHttp e large bad = bad e
+    → (result ≡ Err TooLarge → IsTooLarge rest) → (result ≡ Err BadHttp → StaysBad rest) → Fails rest broken
+fails_by result rest BadHttp e large bad = subst IsBad (append-nil rest) (bad e [])
 fails_by result rest TooLarge e large bad = large e

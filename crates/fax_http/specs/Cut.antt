@@ -1,8 +1,12 @@
-use Rattle.std.specs.Prelude.{◌≡◌, ℕ, List, codes}
+use Rattle.std.specs.Prelude.{◌≡◌, ℕ, List, codes, ⊤}
 use Rattle.httparse.specs.Grammar.{RequestHead}
 use Rattle.httparse.specs.Spans.{IsRequestAt}
 use Rattle.httparse.specs.declared.spans.HeaderSpan.{HeaderSpan}
 use Rattle.httparse.specs.declared.spans.RequestSpans.{RequestSpans}
+use Rattle.fax_http.specs.declared.message.Front.{Front}
+use Rattle.fax_http.specs.declared.message.Front.TheVariants.{NotYet, Whole}
+use Rattle.fax_http.specs.declared.message.HeadRead.{HeadRead}
+use Rattle.fax_http.specs.declared.message.HeadRead.TheVariants.{Head, Never, NotYet as NoHeadYet}
 use Rattle.fax_http.specs.declared.message.Message.{Message}
 use Rattle.fax_http.specs.Message.{BeginsWith, IsHead, fields_of, sole, values_of}
 
@@ -11,6 +15,12 @@ pub record HoldsHead (input : List ℕ) (room : List HeaderSpan) (spans : Reques
   pub head : RequestHead
   pub is_head : IsHead head
   pub at : IsRequestAt input room spans head
+
+-- P of the spans of the head, where one was read
+abbrev pub IfHead : HeadRead → (RequestSpans → Type 0) → Type 0
+IfHead (Head spans) P = P spans
+IfHead NoHeadYet P = ⊤
+IfHead Never P = ⊤
 
 -- the parts are those of a message with that head and body
 pub record ArePartsOf (message : Message) (head : RequestHead) (body : List ℕ) : Type 0 where
@@ -26,3 +36,8 @@ pub record HoldsMessage (input : List ℕ) (message : Message) (rest : List ℕ)
   pub head : RequestHead
   pub begins : BeginsWith input head message.body.now rest
   pub parts : ArePartsOf message head message.body.now
+
+-- P of the message and of the bytes behind it, where it is there to its end
+abbrev pub IfWhole : Front → (Message → List ℕ → Type 0) → Type 0
+IfWhole (Whole message rest) P = P message rest.now
+IfWhole NotYet P = ⊤

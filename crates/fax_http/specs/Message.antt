@@ -1,10 +1,9 @@
 -- Messages: the head of a request, and a body as long as the head's fields frame it (RFC 9112, sections 2 to 6).
-use Rattle.std.specs.Prelude.{◌≡◌, ℕ, ◌≤◌, List, [], ◌∷◌, ◌++◌, length, map, filter, Option, Some, None, Result, Ok, Err, codes, if◌then◌else◌, nat_le}
+use Rattle.std.specs.Prelude.{◌≡◌, ◌⊎◌, ℕ, ◌+◌, ◌<◌, ◌≤◌, List, [], ◌∷◌, ◌++◌, length, map, filter, Option, Some, None, Result, Ok, Err, codes, if◌then◌else◌, nat_le}
 use Rattle.std.specs.Str.{str_eq_ignore_ascii_case}
-use Rattle.httparse.specs.Grammar.{RequestHead, IsRequestHead, print_request}
+use Rattle.httparse.specs.Grammar.{RequestHead, IsRequestHead, MayBecomeRequest, print_request}
 use Rattle.httparse.specs.Spans.{name_and_value}
 use Rattle.fax_job.specs.Number.{number_of}
-use Rattle.fax_http.specs.declared.message.TheConstants.{HEAD_LIMIT, FIELD_LIMIT, BODY_LIMIT}
 use Rattle.fax_http.specs.declared.message.Broken.{Broken}
 use Rattle.fax_http.specs.declared.message.Broken.TheVariants.{BadHttp, TooLarge}
 
@@ -29,7 +28,7 @@ sole (value ∷ another ∷ more) = []
 -- a length within its bound
 abbrev pub bounded : Option ℕ → Result ℕ Broken
 bounded None = Err BadHttp
-bounded (Some n) = if nat_le n BODY_LIMIT then Ok n else Err TooLarge
+bounded (Some n) = if nat_le n 65536 then Ok n else Err TooLarge
 
 -- the length that the values of `Content-Length` say
 abbrev pub said_length : List (List ℕ) → Result ℕ Broken
@@ -49,8 +48,8 @@ framed fields = uncoded (values_of (codes "Transfer-Encoding") fields) (said_len
 -- a head within its limits
 pub record IsHead (head : RequestHead) : Type 0 where
   pub grammar : IsRequestHead head
-  pub bytes : length (print_request head) ≤ HEAD_LIMIT
-  pub fields : length head.fields ≤ FIELD_LIMIT
+  pub bytes : length (print_request head) ≤ 16384
+  pub fields : length head.fields ≤ 64
 
 -- a head, and the body that it frames
 pub record IsMessage (head : RequestHead) (body : List ℕ) : Type 0 where
@@ -82,3 +81,33 @@ HasNoHead input = (head : RequestHead) (rest : List ℕ) → IsHead head → ¬ 
 pub record IsBad (input : List ℕ) : Type 0 where
   pub none : BeginsNone input
   pub not_too_large : ¬ (IsTooLarge input)
+
+-- whatever bytes follow, no head within its limits begins them
+abbrev pub NeverHasHead : List ℕ → Type 0
+NeverHasHead input = (more : List ℕ) → HasNoHead (input ++ more)
+
+-- no head yet, in fewer bytes than one may have; more can make it one by the grammar, or it ends in its target
+pub record IsUnfinishedHead (input : List ℕ) : Type 0 where
+  pub none : HasNoHead input
+  pub within : length input < 16384
+  pub grammar : MayBecomeRequest input
+
+-- the bytes begin with a head, and end before the body that it frames does
+pub record IsUnfinishedBody (input : List ℕ) : Type 0 where
+  pub head : RequestHead
+  pub rest : List ℕ
+  pub size : ℕ
+  pub is_head : IsHead head
+  pub frames : framed (fields_of head) ≡ Ok size
+  pub bytes : input ≡ print_request head ++ rest
+  pub short : length rest < size
+
+-- no message yet, in fewer bytes than one may have: its head or its body isn't there to its end
+pub record IsUnfinished (input : List ℕ) : Type 0 where
+  pub none : IsBad input
+  pub within : length input < 16384 + 65536
+  pub part : IsUnfinishedHead input ⊎ IsUnfinishedBody input
+
+-- whatever bytes follow, neither a message begins them, nor a head that frames too long a body
+abbrev pub StaysBad : List ℕ → Type 0
+StaysBad input = (more : List ℕ) → IsBad (input ++ more)

@@ -6,7 +6,7 @@ ghost use Rattle.httparse.specs.Grammar.{RequestHead};
 ghost use Rattle.fax_ask.specs.Response.{Response};
 
 use crate::head::reply_head;
-use crate::message::{Broken, Message, split_message};
+use crate::message::{Broken, Front, Message, split_message};
 use crate::output::write_fully;
 use fax_ask::Reply;
 use fax_job::Refusal;
@@ -69,7 +69,8 @@ struct WriteFailed {
 
 ghost use Rattle.std.specs.Prelude.{[], ◌++◌, not, codes, false, if◌then◌else◌};
 ghost use Rattle.std.specs.Str.{bytes_eq};
-ghost use Rattle.fax_http.specs.Conversation.{Converses, IsCut, RefusesRest, counted, spelled};
+ghost use Rattle.fax_http.specs.Conversation.{Converses, Fails, IsCut, RefusesRest, counted, spelled};
+ghost use Rattle.fax_http.specs.Cut.{HoldsMessage};
 
 /// Divides the input into messages, has each answered, and writes the replies in order; behind
 /// them, where the rest begins no message, the refusal of it.
@@ -90,7 +91,7 @@ pub fn converse<W: Write, H: Handler>(
                 end: End::Closed,
             };
         }
-        let (message, behind) = match split_message(rest) {
+        let (message, behind) = match next_message(rest) {
             Ok(cut) => cut,
             Err(broken) => {
                 return Served {
@@ -114,6 +115,18 @@ pub fn converse<W: Write, H: Handler>(
     Served {
         messages: bounds.messages,
         end: End::Bound,
+    }
+}
+
+/// Cuts the next message off the rest of a whole input, and gives the bytes behind it too. What isn't
+/// a message yet is none, since the input ends there.
+fn next_message(rest: &[u8]) -> Result<(Message<'_>, &[u8]), Broken>
+    ensures message { IfOk result (λ cut. HoldsMessage rest.now cut.0 cut.1.now) }
+    ensures broken { IfErr result (Fails rest.now) }
+{
+    match split_message(rest)? {
+        Front::Whole(message, behind) => Ok((message, behind)),
+        Front::NotYet => Err(Broken::BadHttp),
     }
 }
 

@@ -14,5 +14,5 @@ mod serving;
 
 pub use clock::{Clock, SaidClock};
 pub use conversation::{Bounds, End, Handler, Served, converse};
-pub use message::{Broken, Message, split_message};
+pub use message::{Broken, Front, Message, split_message};
 pub use serving::serve;

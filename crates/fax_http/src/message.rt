@@ -1,10 +1,10 @@
 //! One message of a stream: the head of a request by the grammar of `httparse` (RFC 9112, sections
 //! 2 to 5), and a body of as many bytes as its `Content-Length` says.
-ghost use Rattle.std.specs.Prelude.{◌≡◌, ℕ, List, [], ◌∷◌, ◌++◌, length, map, All, IfOk, IfSome, IfNone};
+ghost use Rattle.std.specs.Prelude.{◌≡◌, ℕ, List, [], ◌∷◌, ◌++◌, length, map, All, IfOk};
 ghost use Rattle.httparse.specs.Spans.{IsHeaderWithin, IsRequestWithin, header_bytes};
-ghost use Rattle.fax_http.specs.Cut.{HoldsHead, HoldsMessage};
+ghost use Rattle.fax_http.specs.Cut.{HoldsHead, HoldsMessage, IfHead, IfWhole};
 ghost use Rattle.fax_http.specs.Field.{Shows};
-ghost use Rattle.fax_http.specs.Message.{HasNoHead, IsBad, IsTooLarge, values_of, framed, sole};
+ghost use Rattle.fax_http.specs.Message.{IsTooLarge, IsUnfinished, IsUnfinishedHead, NeverHasHead, StaysBad, values_of, framed, sole};
 
 use fax_job::read_number;
 use httparse::Status;
@@ -18,10 +18,11 @@ pub const FIELD_LIMIT: usize = 64;
 /// The most bytes of a body.
 pub const BODY_LIMIT: u64 = 65_536;
 
-/// Why the front of some bytes is no message.
+/// Why no message begins some bytes.
 #[derive(Clone, Copy, Debug, PartialEq, Eq)]
 pub enum Broken {
-    /// No head, a head past its limits, a framing that isn't taken, or a body that ends too soon.
+    /// No head, a head past its limits, a framing that isn't taken, or a message that the end of an
+    /// input cuts short.
     BadHttp,
     /// A head without another fault whose body is over `BODY_LIMIT`.
     TooLarge,
@@ -39,6 +40,26 @@ pub struct Message<'b> {
     /// The field `Fax-Moment`, likewise.
     pub moment: &'b [u8],
     pub body: &'b [u8],
+}
+
+/// What begins some bytes.
+#[derive(Clone, Copy, Debug)]
+pub enum Front<'b> {
+    /// A message, and the bytes behind it.
+    Whole(Message<'b>, &'b [u8]),
+    /// No message yet: its head or its body isn't there to its end.
+    NotYet,
+}
+
+/// Whether a head begins some bytes.
+#[derive(Clone, Copy, Debug)]
+enum HeadRead {
+    /// A head within its limits.
+    Head(RequestSpans),
+    /// No head yet; more bytes may make one. Where only the limits forbid that, it may be told later.
+    NotYet,
+    /// No head within its limits, whatever bytes follow.
+    Never,
 }
 
 /// How often a field occurs in a head, with its value where that is once.
@@ -71,21 +92,24 @@ impl<'b> Occurrence<'b> {
     }
 }
 
-/// Cuts the message that `input` begins with off its front. Gives it, and the bytes behind it.
-pub fn split_message(input: &[u8]) -> Result<(Message<'_>, &[u8]), Broken>
-    ensures message { IfOk result (λ cut. HoldsMessage input.now cut.0 cut.1.now) }
+/// Cuts the message that `input` begins with off its front, where it is there to its end.
+pub fn split_message(input: &[u8]) -> Result<Front<'_>, Broken>
+    ensures message { IfOk result (λ front. IfWhole front (HoldsMessage input.now)) }
+    ensures not_yet { result ≡ Ok Front.NotYet → IsUnfinished input.now }
     ensures too_large { result ≡ Err Broken.TooLarge → IsTooLarge input.now }
-    ensures bad { result ≡ Err Broken.BadHttp → IsBad input.now }
+    ensures bad { result ≡ Err Broken.BadHttp → StaysBad input.now }
 {
     let mut room = [EMPTY_HEADER_SPAN; FIELD_LIMIT];
-    let Some(head) = read_head(input, &mut room) else {
-        return Err(Broken::BadHttp);
+    let head = match read_head(input, &mut room) {
+        HeadRead::Head(head) => head,
+        HeadRead::NotYet => return Ok(Front::NotYet),
+        HeadRead::Never => return Err(Broken::BadHttp),
     };
     let fields = &room[..head.headers];
     let length = body_length(input, fields)?;
     let behind = &input[head.len..];
     if behind.len() < length {
-        return Err(Broken::BadHttp);
+        return Ok(Front::NotYet);
     }
     let (body, rest) = behind.split_at(length);
     let Ok(target) = str::from_utf8(head.path.of(input)) else {
@@ -99,19 +123,21 @@ pub fn split_message(input: &[u8]) -> Result<(Message<'_>, &[u8]), Broken>
         moment: find_field(input, fields, b"Fax-Moment").or_empty(),
         body,
     };
-    Ok((message, rest))
+    Ok(Front::Whole(message, rest))
 }
 
-/// The head that `input` begins with, where it has one within its limits.
-fn read_head(input: &[u8], room: &mut [HeaderSpan]) -> Option<RequestSpans>
+/// The head that `input` begins with, or whether there may be one yet.
+fn read_head(input: &[u8], room: &mut [HeaderSpan]) -> HeadRead
     requires { length room.old ≡ FIELD_LIMIT }
-    ensures within { IfSome result (IsRequestWithin input.now room.new) }
-    ensures head { IfSome result (HoldsHead input.now room.new) }
-    ensures none { IfNone result (HasNoHead input.now) }
+    ensures within { IfHead result (IsRequestWithin input.now room.new) }
+    ensures head { IfHead result (HoldsHead input.now room.new) }
+    ensures not_yet { result ≡ HeadRead.NotYet → IsUnfinishedHead input.now }
+    ensures never { result ≡ HeadRead.Never → NeverHasHead input.now }
 {
     match parse_request(input, room) {
-        Ok(Status::Complete(head)) if head.len <= HEAD_LIMIT => Some(head),
-        _ => None,
+        Ok(Status::Complete(head)) if head.len <= HEAD_LIMIT => HeadRead::Head(head),
+        Ok(Status::Partial) if input.len() < HEAD_LIMIT => HeadRead::NotYet,
+        _ => HeadRead::Never,
     }
 }
 

@@ -1,14 +1,13 @@
 use Rattle.std.proofs.Common.{◌<◌, length, arith}
 use Rattle.std.proofs.lemmas.Bool.Decides.{nat_tests}
-use Rattle.fax_http.proofs.Progress.{ends_bad, ends_cut, fails_by, progress_next}
+use Rattle.fax_http.proofs.Progress.{ends_bad, ends_cut, progress_next}
 use Rattle.fax_http.proofs.conversation.converse.Goals as goal
 
 pub returns-in-Err : goal.returns-in-Err
 returns-in-Err g c =
     let some : 0 < length c.loop-messages.rest.now = grind (arith, nat_tests) in
     ends_bad _ _ _ _ _ _ _ _ _ _ _ _ _ c.loop-messages.invariant c.loop-messages-test.true some
-    (fails_by c.split_message.result _ _ c.in-Err.is c.split_message.ensures.too_large c.split_message.ensures.bad)
-    c.refuse_rest.ensures
+    c.in-Err.ensures.broken c.refuse_rest.ensures
 
 pub returns-in-Err-write_reply : goal.returns-in-Err-write_reply
 returns-in-Err-write_reply g c =

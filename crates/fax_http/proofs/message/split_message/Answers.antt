@@ -3,24 +3,24 @@ use Rattle.fax_http.specs.declared.message.Broken.TheVariants.{BadHttp}
 use Rattle.httparse.specs.Grammar.{print_request}
 use Rattle.fax_http.specs.Cut.{HoldsHead}
 use Rattle.fax_http.specs.Message.{framed, sole, values_of}
-use Rattle.fax_http.proofs.MessageLemmas.{bad_framing, body_and_rest, short_body}
+use Rattle.fax_http.proofs.MessageLemmas.{body_and_rest, stays_bad, unfinished_body}
 use Rattle.fax_http.proofs.message.split_message.Goals as goal
 
 pub returns-in_err-length-clause-bad : goal.returns-in_err-length-clause-bad
 returns-in_err-length-clause-bad c e =
-    let h : HoldsHead c.args.input.now c.read_head.new.room c.in-Some.head = c.in-Some.ensures.head in
+    let h : HoldsHead c.args.input.now c.read_head.new.room c.in-Head.head = c.in-Head.ensures.head in
     let is_bad : c.body_length.result ≡ Err BadHttp = search rules in
-    bad_framing c.args.input.now h.head _ h.at.reads (sym (c.body_length.ensures ∙ ap framed h.at.fields) ∙ is_bad)
+    stays_bad c.args.input.now h.head _ h.at.reads (sym (c.body_length.ensures ∙ ap framed h.at.fields) ∙ is_bad)
 
-pub returns-then-behind-length-clause-bad : goal.returns-then-behind-length-clause-bad
-returns-then-behind-length-clause-bad c e =
-    let h : HoldsHead c.args.input.now c.read_head.new.room c.in-Some.head = c.in-Some.ensures.head in
-    short_body c.args.input.now h.head _ c.in_ok-length.length h.at.reads (sym (c.body_length.ensures ∙ ap framed h.at.fields) ∙ c.in_ok-length.was)
+pub returns-then-behind-length-clause-not_yet : goal.returns-then-behind-length-clause-not_yet
+returns-then-behind-length-clause-not_yet c e =
+    let h : HoldsHead c.args.input.now c.read_head.new.room c.in-Head.head = c.in-Head.ensures.head in
+    unfinished_body c.args.input.now h.head _ c.in_ok-length.length h.is_head h.at.reads (sym (c.body_length.ensures ∙ ap framed h.at.fields) ∙ c.in_ok-length.was)
     (search (rules, length-drop, length-take))
 
 pub returns-clause-message : goal.returns-clause-message
 returns-clause-message c =
-    let h : HoldsHead c.args.input.now c.read_head.new.room c.in-Some.head = c.in-Some.ensures.head in
+    let h : HoldsHead c.args.input.now c.read_head.new.room c.in-Head.head = c.in-Head.ensures.head in
     let size : c.in_ok-length.length ≡ length c.split_at.result.0.now = search rules in
     record {
       head = h.head;
