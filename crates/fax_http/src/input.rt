@@ -1,5 +1,5 @@
 //! A whole input, read to its end.
-ghost use Rattle.std.specs.Prelude.{◌≡◌, ◌≤◌, ◌<◌, length, take, IfOk, OnErr};
+ghost use Rattle.std.specs.Prelude.{◌≤◌, ◌<◌, length, take, IfOk};
 ghost use Rattle.std.specs.Io.KnownBytes.{Consumes, IsAtEnd};
 
 use std::io::Read;

@@ -1,5 +1,5 @@
 //! Bytes written to a writer, with a count of those that it took.
-ghost use Rattle.std.specs.Prelude.{◌≡◌, ◌≤◌, length, take, OnOk, IfErr};
+ghost use Rattle.std.specs.Prelude.{◌≤◌, length, take, OnOk, IfErr};
 ghost use Rattle.std.specs.Io.KnownBytes.{Appends};
 
 use std::io::Write;
