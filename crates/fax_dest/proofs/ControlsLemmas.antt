@@ -8,7 +8,8 @@ use Rattle.std.proofs.lemmas.List.{append-nil}
 use Rattle.fax_job.specs.Reading.{lines}
 use Rattle.fax_dest.specs.Controls.{Line, Skipped, Begins, Adds, Spelled, spelled, Groups, groups_of, is_beginning, onto, then_lines, lines_from, lines_of, line_of}
 use Rattle.fax_dest.specs.ControlsStep.{rules_of, has_rule, with_last, taken, IsTaken}
-use Rattle.fax_dest.specs.Fault.{at_line, fault_at, is_pattern}
+use Rattle.fax_dest.specs.Fault.{at_line, fault_at, is_big, compiled_on}
+use Rattle.fax_dest.specs.Pattern.{compiled}
 use Rattle.fax_dest.specs.Rule.{rule_of, with_parameter, last_of, calls_in, pages_in, week_in, notice_of}
 use Rattle.fax_rule.specs.Rule.{default_rule}
 use Rattle.fax_dest.specs.declared.controls.Entry.{Entry}
@@ -118,47 +119,53 @@ behind_one : (done : List Line) (line : Line) (r : Result (List Line) FileFault)
 behind_one done line (Ok ls) = ap (λ xs. Ok xs) (sym (append_assoc done (line ∷ []) ls))
 behind_one done line (Err fault) = refl
 
-pub record IsReadTo (text : List ℕ) (number : ℕ) (rules : List Entry) (rest : List ℕ) : Type 0 where
+-- by a test of the grammar
+pub record IsReadTo (is_pattern : List ℕ → Bool) (text : List ℕ) (number : ℕ) (rules : List Entry) (rest : List ℕ) : Type 0 where
   pub done : List Line
   pub shown : rules_of rules ≡ fold taken [] done
-  pub left : (refused : ℕ → Bool) → Agrees refused number → lines_of refused text ≡ behind done (lines_from refused (has_rule (rules_of rules)) (number + 1) (lines rest))
+  pub left : (too_big : ℕ → Bool) → Agrees too_big number → lines_of text (compiled_on is_pattern too_big) ≡ behind done (lines_from (compiled_on is_pattern too_big) (has_rule (rules_of rules)) (number + 1) (lines rest))
 
-pub read_first : (text : List ℕ) (rules : List Entry) → rules ≡ [] → IsReadTo text 0 rules text
-read_first text rules none = record {
+pub read_first : (is_pattern : List ℕ → Bool) (text : List ℕ) (rules : List Entry) → rules ≡ [] → IsReadTo is_pattern text 0 rules text
+read_first is_pattern text rules none = record {
   done = [];
   shown = ap rules_of none;
-  left = λ refused agrees. behind_none (lines_from refused false 1 (lines text)) ∙ ap (λ rs. behind [] (lines_from refused (has_rule (rules_of rs)) 1 (lines text))) (sym none);
+  left = λ too_big agrees.
+      let compile = compiled_on is_pattern too_big in
+      behind_none (lines_from compile false 1 (lines text)) ∙ ap (λ rs. behind [] (lines_from compile (has_rule (rules_of rs)) 1 (lines text))) (sym none);
 }
 
-step_is : (refused : ℕ → Bool) (under : Bool) (number : ℕ) (line rest after : List ℕ) (b : Bool) (r : Result Line FileKind) → lines rest ≡ line ∷ lines after → refused (number + 1) ≡ b → line_of under line b ≡ r → lines_from refused under (number + 1) (lines rest) ≡ then_lines (at_line (number + 1) r) (λ begun. lines_from refused (under || begun) (number + 1 + 1) (lines after))
-step_is refused under number line rest after b r cut e is =
-    ap (lines_from refused under (number + 1)) cut
-    ∙ ap (λ b. then_lines (at_line (number + 1) (line_of under line b)) (λ begun. lines_from refused (under || begun) (number + 1 + 1) (lines after))) e
-    ∙ ap (λ r. then_lines (at_line (number + 1) r) (λ begun. lines_from refused (under || begun) (number + 1 + 1) (lines after))) is
+step_is : (is_pattern : List ℕ → Bool) (too_big : ℕ → Bool) (under : Bool) (number : ℕ) (line rest after : List ℕ) (b : Bool) (r : Result Line FileKind) → lines rest ≡ line ∷ lines after → too_big (number + 1) ≡ b → line_of under line (compiled is_pattern b) ≡ r → lines_from (compiled_on is_pattern too_big) under (number + 1) (lines rest) ≡ then_lines (at_line (number + 1) r) (λ begun. lines_from (compiled_on is_pattern too_big) (under || begun) (number + 1 + 1) (lines after))
+step_is is_pattern too_big under number line rest after b r cut e is =
+    let compile = compiled_on is_pattern too_big in
+    ap (lines_from compile under (number + 1)) cut
+    ∙ ap (λ b. then_lines (at_line (number + 1) (line_of under line (compiled is_pattern b))) (λ begun. lines_from compile (under || begun) (number + 1 + 1) (lines after))) e
+    ∙ ap (λ r. then_lines (at_line (number + 1) r) (λ begun. lines_from compile (under || begun) (number + 1 + 1) (lines after))) is
 
-pub read_more : (text : List ℕ) (number : ℕ) (old new : List Entry) (line rest after : List ℕ) (item : Line) → IsReadTo text number old rest → lines rest ≡ line ∷ lines after → line_of (has_rule (rules_of old)) line false ≡ Ok item → IsTaken item old new → IsReadTo text (number + 1) new after
-read_more text number old new line rest after item read cut is set = record {
+pub read_more : (is_pattern : List ℕ → Bool) (text : List ℕ) (number : ℕ) (old new : List Entry) (line rest after : List ℕ) (item : Line) → IsReadTo is_pattern text number old rest → lines rest ≡ line ∷ lines after → line_of (has_rule (rules_of old)) line (compiled is_pattern false) ≡ Ok item → IsTaken item old new → IsReadTo is_pattern text (number + 1) new after
+read_more is_pattern text number old new line rest after item read cut is set = record {
   done = read.done ++ item ∷ [];
   shown = set.rules ∙ ap (λ rs. taken rs item) read.shown ∙ sym (fold-append taken [] read.done (item ∷ []));
-  left = λ refused agrees.
-      read.left refused (λ k h. agrees k (omega arith))
-      ∙ ap (behind read.done) (step_is refused (has_rule (rules_of old)) number line rest after false (Ok item) cut (agrees (number + 1) (omega arith)) is)
-      ∙ behind_one read.done item (lines_from refused (has_rule (rules_of old) || is_beginning item) (number + 1 + 1) (lines after))
-      ∙ ap (λ under. behind (read.done ++ item ∷ []) (lines_from refused under (number + 1 + 1) (lines after))) (sym (ap has_rule set.rules ∙ has_rule-taken (rules_of old) item));
+  left = λ too_big agrees.
+      let compile = compiled_on is_pattern too_big in
+      read.left too_big (λ k h. agrees k (omega arith))
+      ∙ ap (behind read.done) (step_is is_pattern too_big (has_rule (rules_of old)) number line rest after false (Ok item) cut (agrees (number + 1) (omega arith)) is)
+      ∙ behind_one read.done item (lines_from compile (has_rule (rules_of old) || is_beginning item) (number + 1 + 1) (lines after))
+      ∙ ap (λ under. behind (read.done ++ item ∷ []) (lines_from compile under (number + 1 + 1) (lines after))) (sym (ap has_rule set.rules ∙ has_rule-taken (rules_of old) item));
 }
 
-pub read_fault : (text : List ℕ) (number : ℕ) (rules : List Entry) (line rest after : List ℕ) (kind : FileKind) → IsReadTo text number rules rest → lines rest ≡ line ∷ lines after → line_of (has_rule (rules_of rules)) line (is_pattern kind) ≡ Err kind → lines_of (at_one (number + 1) (is_pattern kind)) text ≡ Err (fault_at (number + 1) kind)
-read_fault text number rules line rest after kind read cut is =
-    let refused = at_one (number + 1) (is_pattern kind) in
-    read.left refused (λ k h. at_one_before (number + 1) (is_pattern kind) k (omega arith))
-    ∙ ap (behind read.done) (step_is refused (has_rule (rules_of rules)) number line rest after (is_pattern kind) (Err kind) cut (at_one_here (number + 1) (is_pattern kind)) is)
+pub read_fault : (is_pattern : List ℕ → Bool) (text : List ℕ) (number : ℕ) (rules : List Entry) (line rest after : List ℕ) (kind : FileKind) → IsReadTo is_pattern text number rules rest → lines rest ≡ line ∷ lines after → line_of (has_rule (rules_of rules)) line (compiled is_pattern (is_big kind)) ≡ Err kind → lines_of text (compiled_on is_pattern (at_one (number + 1) (is_big kind))) ≡ Err (fault_at (number + 1) kind)
+read_fault is_pattern text number rules line rest after kind read cut is =
+    let too_big = at_one (number + 1) (is_big kind) in
+    read.left too_big (λ k h. at_one_before (number + 1) (is_big kind) k (omega arith))
+    ∙ ap (behind read.done) (step_is is_pattern too_big (has_rule (rules_of rules)) number line rest after (is_big kind) (Err kind) cut (at_one_here (number + 1) (is_big kind)) is)
 
-pub read_last : (text : List ℕ) (number : ℕ) (rules : List Entry) (rest : List ℕ) → IsReadTo text number rules rest → rest ≡ [] → (ls : List Line) × (lines_of (λ k. false) text ≡ Ok ls) × (rules_of rules ≡ (groups_of ls).rules)
-read_last text number rules rest read over = (
-  read.done,
-  read.left (λ k. false) (λ k h. refl) ∙ ap (λ t. behind read.done (lines_from (λ k. false) (has_rule (rules_of rules)) (number + 1) (lines t))) over ∙ ap (λ xs. Ok xs) (append-nil read.done),
-  read.shown ∙ taken-groups_of read.done,
-)
+pub read_last : (is_pattern : List ℕ → Bool) (text : List ℕ) (number : ℕ) (rules : List Entry) (rest : List ℕ) → IsReadTo is_pattern text number rules rest → rest ≡ [] → (ls : List Line) × (lines_of text (compiled_on is_pattern (λ k. false)) ≡ Ok ls) × (rules_of rules ≡ (groups_of ls).rules)
+read_last is_pattern text number rules rest read over =
+    let compile = compiled_on is_pattern (λ (k : ℕ). false) in (
+      read.done,
+      read.left (λ k. false) (λ k h. refl) ∙ ap (λ t. behind read.done (lines_from compile (has_rule (rules_of rules)) (number + 1) (lines t))) over ∙ ap (λ xs. Ok xs) (append-nil read.done),
+      read.shown ∙ taken-groups_of read.done,
+    )
 
 -- ---- the last of the entries
 

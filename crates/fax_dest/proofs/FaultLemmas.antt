@@ -1,10 +1,11 @@
 -- Faults, unless memory ran out.
-use Rattle.std.proofs.Common.{◌≡◌, Bool, true, false, refl}
-use Rattle.std.specs.Prelude.{⊤}
+use Rattle.std.proofs.Common.{◌≡◌, ℕ, Bool, true, false, List, refl}
+use Rattle.std.specs.Prelude.{⊤, Result, Ok, Err, IsErr, IsErrAnd}
 use Rattle.std.specs.Bool.{MatchBool}
-use Rattle.fax_dest.specs.Fault.{is_memory, is_pattern}
+use Rattle.fax_dest.specs.Fault.{is_memory, GivesBy}
+use Rattle.fax_dest.specs.Pattern.{Compiling}
 use Rattle.fax_dest.specs.declared.fault.FileKind.{FileKind}
-use Rattle.fax_dest.specs.declared.fault.FileKind.TheVariants.{NotText, NoColon, NoRule, NoEquals, BadQuote, BadValue, BadHours, BadPattern, BadZone, NoMemory}
+use Rattle.fax_dest.specs.declared.fault.FileKind.TheVariants.{NotText, NoColon, NoRule, NoEquals, BadQuote, BadValue, BadHours, BadPattern, BigPattern, BadZone, NoMemory}
 
 pub MatchBool-weaker : {P Q : Type 0} (b : Bool) → (P → Q) → MatchBool b ⊤ P → MatchBool b ⊤ Q
 MatchBool-weaker true f h = h
@@ -21,17 +22,10 @@ memory_alone BadQuote h = cc
 memory_alone BadValue h = cc
 memory_alone BadHours h = cc
 memory_alone BadPattern h = cc
+memory_alone BigPattern h = cc
 memory_alone BadZone h = cc
 
--- only a bad pattern hangs on what `regex` refuses
-pub pattern_alone : (kind : FileKind) → is_pattern kind ≡ true → kind ≡ BadPattern
-pattern_alone BadPattern h = refl
-pattern_alone NotText h = cc
-pattern_alone NoColon h = cc
-pattern_alone NoRule h = cc
-pattern_alone NoEquals h = cc
-pattern_alone BadQuote h = cc
-pattern_alone BadValue h = cc
-pattern_alone BadHours h = cc
-pattern_alone BadZone h = cc
-pattern_alone NoMemory h = cc
+-- a fault that is handed on
+pub handed_on : {A X : Type 0} (is_pattern : List ℕ → Bool) (Made : A → X → Type 0) (given : Compiling → Result A FileKind) (result : Result X FileKind) (kind : FileKind) → IsErr result × IsErrAnd result (λ told. told ≡ kind) → GivesBy is_pattern Made given (Err kind) → GivesBy is_pattern Made given result
+handed_on is_pattern Made given (Ok made) kind told gives = absurd told.1
+handed_on is_pattern Made given (Err other) kind told gives = rw told.1 gives

@@ -1,4 +1,5 @@
 pub mod CutLemmas
 pub mod SetupLemmas
 pub mod FaultLemmas
+pub mod PatternLemmas
 pub mod ControlsLemmas

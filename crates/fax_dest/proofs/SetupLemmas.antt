@@ -6,7 +6,8 @@ use Rattle.std.proofs.lemmas.List.{append-nil}
 use Rattle.jiff.specs.Types.{TimeZone as JiffZone}
 use Rattle.fax_job.specs.Reading.{lines}
 use Rattle.fax_job.specs.declared.job.Call.TheVariants.{Connected, Busy, NoAnswer, NoCarrier, Other}
-use Rattle.fax_dest.specs.Fault.{at_line, fault_at, is_pattern}
+use Rattle.fax_dest.specs.Fault.{at_line, fault_at, is_big, compiled_on}
+use Rattle.fax_dest.specs.Pattern.{compiled}
 use Rattle.fax_dest.specs.Setting.{Setting, setting_of}
 use Rattle.fax_dest.specs.Setup.{Shown, shown, shown_of, modem_in, class_in, delay_in, jobs_in, grants_in, zone_in, last_of, IsZoneFor, IsSetupOf, then_settings, settings_from, settings_of}
 use Rattle.fax_dest.specs.SetupStep.{with_one, with_setting, IsZoneAfter, IsSetBy, IsEmpty}
@@ -76,9 +77,9 @@ set_by-shown_of xs = same_shown (set_by xs) (shown_of xs) (modems-fold (shown_of
 
 -- ---- one line after another
 
--- `regex` refuses no pattern up to a line
+-- no pattern up to a line is too big
 abbrev pub Agrees : (ℕ → Bool) → ℕ → Type 0
-Agrees refused number = (k : ℕ) → k ≤ number → refused k ≡ false
+Agrees too_big number = (k : ℕ) → k ≤ number → too_big k ≡ false
 
 abbrev pub behind : List Setting → Result (List Setting) FileFault → Result (List Setting) FileFault
 behind done (Ok settings) = Ok (done ++ settings)
@@ -92,42 +93,44 @@ behind_one : (done : List Setting) (setting : Setting) (r : Result (List Setting
 behind_one done setting (Ok settings) = ap (λ xs. Ok xs) (sym (append_assoc done (setting ∷ []) settings))
 behind_one done setting (Err fault) = refl
 
-pub record IsReadTo (text : List ℕ) (number : ℕ) (setup : Setup) (rest : List ℕ) : Type 0 where
+-- by a test of the grammar
+pub record IsReadTo (is_pattern : List ℕ → Bool) (text : List ℕ) (number : ℕ) (setup : Setup) (rest : List ℕ) : Type 0 where
   pub done : List Setting
   pub shown : shown setup ≡ set_by done
   pub zone : IsZoneFor (last_of zone_in None done) setup.zone
-  pub left : (refused : ℕ → Bool) → Agrees refused number → settings_of refused text ≡ behind done (settings_from refused (number + 1) (lines rest))
+  pub left : (too_big : ℕ → Bool) → Agrees too_big number → settings_of text (compiled_on is_pattern too_big) ≡ behind done (settings_from (compiled_on is_pattern too_big) (number + 1) (lines rest))
 
-pub read_first : (text : List ℕ) (setup : Setup) → IsEmpty setup → IsReadTo text 0 setup text
-read_first text setup empty = record {
+pub read_first : (is_pattern : List ℕ → Bool) (text : List ℕ) (setup : Setup) → IsEmpty setup → IsReadTo is_pattern text 0 setup text
+read_first is_pattern text setup empty = record {
   done = [];
   shown = empty.shown;
   zone = empty.zone;
-  left = λ refused agrees. behind_none (settings_from refused 1 (lines text));
+  left = λ too_big agrees. behind_none (settings_from (compiled_on is_pattern too_big) 1 (lines text));
 }
 
 zone_more : (done : List Setting) (setting : Setting) (old new : JiffZone) (kept : Option (List ℕ)) (o : Option (Option (List ℕ))) → IsZoneFor kept old → IsZoneAfter o old new → IsZoneFor (unwrap_or o kept) new
 zone_more done setting old new kept (Some text) before after = after
 zone_more done setting old new kept None before after = rw after before
 
-step_is : (refused : ℕ → Bool) (number : ℕ) (line rest after : List ℕ) (b : Bool) (r : Result Setting FileKind) → lines rest ≡ line ∷ lines after → refused (number + 1) ≡ b → setting_of line b ≡ r → settings_from refused (number + 1) (lines rest) ≡ then_settings (at_line (number + 1) r) (settings_from refused (number + 1 + 1) (lines after))
-step_is refused number line rest after b r cut e is =
-    ap (settings_from refused (number + 1)) cut
-    ∙ ap (λ b. then_settings (at_line (number + 1) (setting_of line b)) (settings_from refused (number + 1 + 1) (lines after))) e
-    ∙ ap (λ r. then_settings (at_line (number + 1) r) (settings_from refused (number + 1 + 1) (lines after))) is
+step_is : (is_pattern : List ℕ → Bool) (too_big : ℕ → Bool) (number : ℕ) (line rest after : List ℕ) (b : Bool) (r : Result Setting FileKind) → lines rest ≡ line ∷ lines after → too_big (number + 1) ≡ b → setting_of line (compiled is_pattern b) ≡ r → settings_from (compiled_on is_pattern too_big) (number + 1) (lines rest) ≡ then_settings (at_line (number + 1) r) (settings_from (compiled_on is_pattern too_big) (number + 1 + 1) (lines after))
+step_is is_pattern too_big number line rest after b r cut e is =
+    let compile = compiled_on is_pattern too_big in
+    ap (settings_from compile (number + 1)) cut
+    ∙ ap (λ b. then_settings (at_line (number + 1) (setting_of line (compiled is_pattern b))) (settings_from compile (number + 1 + 1) (lines after))) e
+    ∙ ap (λ r. then_settings (at_line (number + 1) r) (settings_from compile (number + 1 + 1) (lines after))) is
 
-pub read_more : (text : List ℕ) (number : ℕ) (old new : Setup) (line rest after : List ℕ) (setting : Setting) → IsReadTo text number old rest → lines rest ≡ line ∷ lines after → setting_of line false ≡ Ok setting → IsSetBy setting old new → IsReadTo text (number + 1) new after
-read_more text number old new line rest after setting read cut is set = record {
+pub read_more : (is_pattern : List ℕ → Bool) (text : List ℕ) (number : ℕ) (old new : Setup) (line rest after : List ℕ) (setting : Setting) → IsReadTo is_pattern text number old rest → lines rest ≡ line ∷ lines after → setting_of line (compiled is_pattern false) ≡ Ok setting → IsSetBy setting old new → IsReadTo is_pattern text (number + 1) new after
+read_more is_pattern text number old new line rest after setting read cut is set = record {
   done = read.done ++ setting ∷ [];
   shown = set.shown ∙ ap (with_setting setting) read.shown ∙ sym (fold-append by_setting (shown_of []) read.done (setting ∷ []));
   zone = rw (fold-append (λ kept x. unwrap_or (zone_in x) kept) None read.done (setting ∷ [])) (zone_more read.done setting old.zone new.zone (last_of zone_in None read.done) (zone_in setting) read.zone set.zone);
-  left = λ refused agrees.
-      read.left refused (λ k h. agrees k (omega arith))
-      ∙ ap (behind read.done) (step_is refused number line rest after false (Ok setting) cut (agrees (number + 1) (omega arith)) is)
-      ∙ behind_one read.done setting (settings_from refused (number + 1 + 1) (lines after));
+  left = λ too_big agrees.
+      read.left too_big (λ k h. agrees k (omega arith))
+      ∙ ap (behind read.done) (step_is is_pattern too_big number line rest after false (Ok setting) cut (agrees (number + 1) (omega arith)) is)
+      ∙ behind_one read.done setting (settings_from (compiled_on is_pattern too_big) (number + 1 + 1) (lines after));
 }
 
--- the patterns of one line alone are refused
+-- the pattern of one line alone is too big
 abbrev pub at_one : ℕ → Bool → ℕ → Bool
 at_one number b k = nat_eq k number && b
 
@@ -137,15 +140,16 @@ at_one_before number b k h = ap (λ t. t && b) (ne_eqb k number (λ e. absurd (o
 pub at_one_here : (number : ℕ) (b : Bool) → at_one number b number ≡ b
 at_one_here number b = ap (λ t. t && b) (eq-eqb number number refl)
 
-pub read_fault : (text : List ℕ) (number : ℕ) (setup : Setup) (line rest after : List ℕ) (kind : FileKind) → IsReadTo text number setup rest → lines rest ≡ line ∷ lines after → setting_of line (is_pattern kind) ≡ Err kind → settings_of (at_one (number + 1) (is_pattern kind)) text ≡ Err (fault_at (number + 1) kind)
-read_fault text number setup line rest after kind read cut is =
-    let refused = at_one (number + 1) (is_pattern kind) in
-    read.left refused (λ k h. at_one_before (number + 1) (is_pattern kind) k (omega arith))
-    ∙ ap (behind read.done) (step_is refused number line rest after (is_pattern kind) (Err kind) cut (at_one_here (number + 1) (is_pattern kind)) is)
+pub read_fault : (is_pattern : List ℕ → Bool) (text : List ℕ) (number : ℕ) (setup : Setup) (line rest after : List ℕ) (kind : FileKind) → IsReadTo is_pattern text number setup rest → lines rest ≡ line ∷ lines after → setting_of line (compiled is_pattern (is_big kind)) ≡ Err kind → settings_of text (compiled_on is_pattern (at_one (number + 1) (is_big kind))) ≡ Err (fault_at (number + 1) kind)
+read_fault is_pattern text number setup line rest after kind read cut is =
+    let too_big = at_one (number + 1) (is_big kind) in
+    read.left too_big (λ k h. at_one_before (number + 1) (is_big kind) k (omega arith))
+    ∙ ap (behind read.done) (step_is is_pattern too_big number line rest after (is_big kind) (Err kind) cut (at_one_here (number + 1) (is_big kind)) is)
 
-pub read_last : (text : List ℕ) (number : ℕ) (setup : Setup) (rest : List ℕ) → IsReadTo text number setup rest → rest ≡ [] → (settings : List Setting) × (settings_of (λ k. false) text ≡ Ok settings) × IsSetupOf settings setup
-read_last text number setup rest read over = (
-  read.done,
-  read.left (λ k. false) (λ k h. refl) ∙ ap (λ t. behind read.done (settings_from (λ k. false) (number + 1) (lines t))) over ∙ ap (λ xs. Ok xs) (append-nil read.done),
-  record { shown = read.shown ∙ set_by-shown_of read.done; zone = read.zone },
-)
+pub read_last : (is_pattern : List ℕ → Bool) (text : List ℕ) (number : ℕ) (setup : Setup) (rest : List ℕ) → IsReadTo is_pattern text number setup rest → rest ≡ [] → (settings : List Setting) × (settings_of text (compiled_on is_pattern (λ k. false)) ≡ Ok settings) × IsSetupOf settings setup
+read_last is_pattern text number setup rest read over =
+    let compile = compiled_on is_pattern (λ (k : ℕ). false) in (
+      read.done,
+      read.left (λ k. false) (λ k h. refl) ∙ ap (λ t. behind read.done (settings_from compile (number + 1) (lines t))) over ∙ ap (λ xs. Ok xs) (append-nil read.done),
+      record { shown = read.shown ∙ set_by-shown_of read.done; zone = read.zone },
+    )

@@ -6,14 +6,14 @@ use Rattle.fax_job.specs.Reading.{lines}
 use Rattle.fax_dest.specs.Fault.{at_line}
 use Rattle.fax_dest.specs.Line.{is_skipped, begins_with_blank, at_blank}
 use Rattle.fax_dest.specs.Parameter.{parameter_of}
-use Rattle.fax_dest.specs.Pattern.{is_found}
+use Rattle.fax_dest.specs.Pattern.{is_found, Compiling}
 use Rattle.fax_dest.specs.Rule.{rule_of}
 use Rattle.fax_rule.specs.Rule.{default_rule}
 use Rattle.fax_dest.specs.declared.controls.Controls.{Controls}
 use Rattle.fax_dest.specs.declared.controls.Entry.{Entry}
 use Rattle.fax_dest.specs.declared.fault.FileFault.{FileFault}
 use Rattle.fax_dest.specs.declared.fault.FileKind.{FileKind}
-use Rattle.fax_dest.specs.declared.fault.FileKind.TheVariants.{NoRule, BadPattern}
+use Rattle.fax_dest.specs.declared.fault.FileKind.TheVariants.{NoRule}
 use Rattle.fax_dest.specs.declared.parameter.Parameter.{Parameter}
 use Rattle.fax_rule.specs.declared.rule.Rule.{Rule}
 
@@ -37,24 +37,26 @@ one_parameter (Err kind) = Err kind
 unfoldable pub behind_of : List ℕ → Result (List Parameter) FileKind
 behind_of rest = if is_skipped rest then Ok [] else one_parameter (parameter_of rest)
 
-abbrev pub begins : List ℕ → Result (List Parameter) FileKind → Result Line FileKind
-begins pattern (Ok parameters) = Ok (Begins pattern parameters)
-begins pattern (Err kind) = Err kind
+-- the fault of a pattern comes before that of its parameter
+abbrev pub begins : Result (List ℕ) FileKind → Result (List Parameter) FileKind → Result Line FileKind
+begins (Ok pattern) (Ok parameters) = Ok (Begins pattern parameters)
+begins (Ok pattern) (Err kind) = Err kind
+begins (Err kind) parameters = Err kind
 
 -- an indented line is a parameter of the rule above
 abbrev pub added : Bool → List ℕ → Result Line FileKind
 added under line = if under then adds (parameter_of line) else Err NoRule
 
--- the first word is the pattern, which `regex` refuses or not
-abbrev pub begun : Bool → List ℕ × List ℕ → Result Line FileKind
-begun refused parts = if refused then Err BadPattern else begins parts.0 (behind_of parts.1)
+-- the first word is the pattern
+abbrev pub begun : Compiling → List ℕ × List ℕ → Result Line FileKind
+begun compile parts = begins (compile parts.0) (behind_of parts.1)
 
 -- what a line says where a rule stands above it or not, or its fault
-unfoldable pub line_of : Bool → List ℕ → Bool → Result Line FileKind
-line_of under line refused =
+unfoldable pub line_of : Bool → List ℕ → Compiling → Result Line FileKind
+line_of under line compile =
     if is_skipped line then Ok Skipped
     else if begins_with_blank line then added under line
-    else begun refused (at_blank line)
+    else begun compile (at_blank line)
 
 -- ---- the lines of a text, or its first fault
 
@@ -71,14 +73,14 @@ abbrev pub then_lines : Result Line FileFault → (Bool → Result (List Line) F
 then_lines (Ok line) behind = onto line (behind (is_beginning line))
 then_lines (Err fault) behind = Err fault
 
--- line by line from a number on, where refused names the lines whose patterns `regex` refuses
-abbrev pub lines_from : (ℕ → Bool) → Bool → ℕ → List (List ℕ) → Result (List Line) FileFault
-lines_from refused under number [] = Ok []
-lines_from refused under number (line ∷ lines) =
-    then_lines (at_line number (line_of under line (refused number))) (λ begun. lines_from refused (under || begun) (number + 1) lines)
+-- line by line from a number on
+abbrev pub lines_from : (ℕ → Compiling) → Bool → ℕ → List (List ℕ) → Result (List Line) FileFault
+lines_from compile under number [] = Ok []
+lines_from compile under number (line ∷ lines) =
+    then_lines (at_line number (line_of under line (compile number))) (λ begun. lines_from compile (under || begun) (number + 1) lines)
 
-abbrev pub lines_of : (ℕ → Bool) → List ℕ → Result (List Line) FileFault
-lines_of refused text = lines_from refused false 1 (lines text)
+abbrev pub lines_of : List ℕ → (ℕ → Compiling) → Result (List Line) FileFault
+lines_of text compile = lines_from compile false 1 (lines text)
 
 -- ---- the rules
 

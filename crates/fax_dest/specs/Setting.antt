@@ -1,12 +1,13 @@
 -- The lines of a setup, after hylafax-config(5).
-use Rattle.std.specs.Prelude.{ℕ, Bool, List, codes, Option, Some, None, Result, Ok, Err, if◌then◌else◌}
+use Rattle.std.specs.Prelude.{ℕ, List, codes, Option, Some, None, Result, Ok, Err, if◌then◌else◌}
 use Rattle.std.specs.Str.{str_eq_ignore_ascii_case}
 use Rattle.fax_job.specs.declared.job.Call.{Call}
 use Rattle.fax_job.specs.declared.job.Call.TheVariants.{Connected, Busy, NoAnswer, NoCarrier, Other}
 use Rattle.fax_dest.specs.Line.{is_skipped, at_byte, value_of, number_in}
+use Rattle.fax_dest.specs.Pattern.{Compiling}
 use Rattle.fax_dest.specs.Value.{name_in, is_zone, is_line_name}
 use Rattle.fax_dest.specs.declared.fault.FileKind.{FileKind}
-use Rattle.fax_dest.specs.declared.fault.FileKind.TheVariants.{NoColon, BadQuote, BadValue, BadPattern}
+use Rattle.fax_dest.specs.declared.fault.FileKind.TheVariants.{NoColon, BadQuote, BadValue}
 use Rattle.fax_dest.specs.declared.setting.SettingName.{SettingName}
 use Rattle.fax_dest.specs.declared.setting.SettingName.TheVariants.{Modem, ModemClass, Delay, MaxJobs, MaxGrants, TimeZone, Another}
 
@@ -50,34 +51,36 @@ abbrev pub texted : (List ℕ → Setting) → Result (List ℕ) FileKind → Re
 texted setting (Ok text) = Ok (setting text)
 texted setting (Err kind) = Err kind
 
-abbrev pub class_with : Bool → Result (List ℕ) FileKind → List ℕ → Result Setting FileKind
-class_with refused (Ok name) pattern = if refused then Err BadPattern else Ok (ClassOf (record { name = name; pattern = pattern }))
-class_with refused (Err kind) pattern = Err kind
+-- the fault of a name comes before that of its pattern
+abbrev pub class_with : Result (List ℕ) FileKind → Result (List ℕ) FileKind → Result Setting FileKind
+class_with (Ok name) (Ok pattern) = Ok (ClassOf (record { name = name; pattern = pattern }))
+class_with (Ok name) (Err kind) = Err kind
+class_with (Err kind) pattern = Err kind
 
--- `name:regex`, where the pattern may be refused
-abbrev pub class_written : Bool → Option (List ℕ × List ℕ) → Result Setting FileKind
-class_written refused None = Err BadValue
-class_written refused (Some parts) = class_with refused (name_in parts.0) parts.1
+-- `name:regex`
+abbrev pub class_written : Compiling → Option (List ℕ × List ℕ) → Result Setting FileKind
+class_written compile None = Err BadValue
+class_written compile (Some parts) = class_with (name_in parts.0) (compile parts.1)
 
-abbrev pub setting_in : Bool → SettingName → List ℕ → Result Setting FileKind
-setting_in refused Modem value = texted ModemNamed (name_in value)
-setting_in refused ModemClass value = class_written refused (at_byte 58 value)
-setting_in refused (Delay call) value = numbered (DelayAfter call) (number_in 0 86400 value)
-setting_in refused MaxJobs value = numbered JobsUpTo (number_in 1 999999 value)
-setting_in refused MaxGrants value = numbered GrantsUpTo (number_in 1 999999999 value)
-setting_in refused TimeZone value = texted ZoneOf (is_zone value)
-setting_in refused Another value = Ok Nothing
+abbrev pub setting_in : Compiling → SettingName → List ℕ → Result Setting FileKind
+setting_in compile Modem value = texted ModemNamed (name_in value)
+setting_in compile ModemClass value = class_written compile (at_byte 58 value)
+setting_in compile (Delay call) value = numbered (DelayAfter call) (number_in 0 86400 value)
+setting_in compile MaxJobs value = numbered JobsUpTo (number_in 1 999999 value)
+setting_in compile MaxGrants value = numbered GrantsUpTo (number_in 1 999999999 value)
+setting_in compile TimeZone value = texted ZoneOf (is_zone value)
+setting_in compile Another value = Ok Nothing
 
 -- ---- lines
 
-abbrev pub with_value : Bool → List ℕ → Option (List ℕ) → Result Setting FileKind
-with_value refused name None = Err BadQuote
-with_value refused name (Some value) = setting_in refused (setting_name name) value
+abbrev pub with_value : Compiling → List ℕ → Option (List ℕ) → Result Setting FileKind
+with_value compile name None = Err BadQuote
+with_value compile name (Some value) = setting_in compile (setting_name name) value
 
-abbrev pub with_name : Bool → Option (List ℕ × List ℕ) → Result Setting FileKind
-with_name refused None = Err NoColon
-with_name refused (Some parts) = if is_line_name parts.0 then with_value refused parts.0 (value_of parts.1) else Err NoColon
+abbrev pub with_name : Compiling → Option (List ℕ × List ℕ) → Result Setting FileKind
+with_name compile None = Err NoColon
+with_name compile (Some parts) = if is_line_name parts.0 then with_value compile parts.0 (value_of parts.1) else Err NoColon
 
--- what a line says, or its fault; `regex` refuses its pattern or not
-unfoldable pub setting_of : List ℕ → Bool → Result Setting FileKind
-setting_of line refused = if is_skipped line then Ok Nothing else with_name refused (at_byte 58 line)
+-- what a line says, or its fault
+unfoldable pub setting_of : List ℕ → Compiling → Result Setting FileKind
+setting_of line compile = if is_skipped line then Ok Nothing else with_name compile (at_byte 58 line)

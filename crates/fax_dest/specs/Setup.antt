@@ -9,7 +9,7 @@ use Rattle.fax_job.specs.declared.job.Call.{Call}
 use Rattle.fax_job.specs.declared.job.Call.TheVariants.{Connected, Busy, NoAnswer, NoCarrier, Other}
 use Rattle.fax_hours.specs.Zone.{IsZoneOf}
 use Rattle.fax_dest.specs.Fault.{at_line}
-use Rattle.fax_dest.specs.Pattern.{is_found}
+use Rattle.fax_dest.specs.Pattern.{is_found, Compiling}
 use Rattle.fax_dest.specs.Setting.{ClassText, Setting, ModemNamed, ClassOf, DelayAfter, JobsUpTo, GrantsUpTo, ZoneOf, Nothing, setting_of}
 use Rattle.fax_dest.specs.declared.fault.FileFault.{FileFault}
 use Rattle.fax_dest.specs.declared.setup.Class.{Class}
@@ -22,14 +22,14 @@ then_settings (Ok setting) (Ok settings) = Ok (setting ∷ settings)
 then_settings (Ok setting) (Err fault) = Err fault
 then_settings (Err fault) settings = Err fault
 
--- line by line from a number on, where refused names the lines whose patterns `regex` refuses
-abbrev pub settings_from : (ℕ → Bool) → ℕ → List (List ℕ) → Result (List Setting) FileFault
-settings_from refused number [] = Ok []
-settings_from refused number (line ∷ lines) =
-    then_settings (at_line number (setting_of line (refused number))) (settings_from refused (number + 1) lines)
+-- line by line from a number on
+abbrev pub settings_from : (ℕ → Compiling) → ℕ → List (List ℕ) → Result (List Setting) FileFault
+settings_from compile number [] = Ok []
+settings_from compile number (line ∷ lines) =
+    then_settings (at_line number (setting_of line (compile number))) (settings_from compile (number + 1) lines)
 
-abbrev pub settings_of : (ℕ → Bool) → List ℕ → Result (List Setting) FileFault
-settings_of refused text = settings_from refused 1 (lines text)
+abbrev pub settings_of : List ℕ → (ℕ → Compiling) → Result (List Setting) FileFault
+settings_of text compile = settings_from compile 1 (lines text)
 
 -- ---- what a setting sets
 

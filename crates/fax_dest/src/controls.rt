@@ -28,7 +28,7 @@ pub(crate) struct Entry {
 }
 
 impl Controls {
-    ghost use Rattle.std.specs.Prelude.{◌≡◌, ℕ, Bool, IfOk, Err};
+    ghost use Rattle.std.specs.Prelude.{◌≡◌, IfOk, Err};
     ghost use Rattle.std.specs.Str.{IsUtf8};
     ghost use Rattle.fax_dest.specs.Controls.{lines_of, AreControlsOf, place_of, rule_at};
     ghost use Rattle.fax_dest.specs.Fault.{GivesFile, fault_at};
@@ -48,7 +48,7 @@ impl Controls {
     ///
     /// The first fault of the text.
     pub fn read(alloc: Global, bytes: &[u8]) -> Result<Controls, FileFault>
-        ensures text { IsUtf8 bytes.now → (refused : ℕ → Bool) × GivesFile AreControlsOf (lines_of refused bytes.now) result }
+        ensures text { IsUtf8 bytes.now → GivesFile AreControlsOf (lines_of bytes.now) result }
         ensures not_text { ¬ (IsUtf8 bytes.now) → result ≡ Err (fault_at 0 NotText) }
     {
         match str::from_utf8(bytes) {
@@ -61,7 +61,7 @@ impl Controls {
     }
 
     fn read_text(alloc: Global, text: &str) -> Result<Controls, FileFault>
-        ensures { (refused : ℕ → Bool) × GivesFile AreControlsOf (lines_of refused text.now) result }
+        ensures { GivesFile AreControlsOf (lines_of text.now) result }
     {
         let mut rules = Vec::new(alloc);
         let mut rest = text;
@@ -101,7 +101,7 @@ impl Controls {
 }
 
 impl Entry {
-    ghost use Rattle.std.specs.Prelude.{◌≡◌, ◌≤◌, IfOk, length};
+    ghost use Rattle.std.specs.Prelude.{◌≡◌, IfOk};
     ghost use Rattle.std.specs.List.{position_or_len};
     ghost use Rattle.fax_dest.specs.Controls.{line_of, begun, behind_of, matches, added};
     ghost use Rattle.fax_dest.specs.Line.{at_blank};
@@ -126,7 +126,7 @@ impl Entry {
 
     /// The rule that a line begins.
     fn begin(alloc: Global, line: &str) -> Result<Entry, FileKind>
-        ensures { GivesLine IsBegun (λ refused. begun refused (at_blank line.now)) result }
+        ensures { GivesLine IsBegun (λ compile. begun compile (at_blank line.now)) result }
     {
         let (word, rest) = at_blank(line);
         let pattern = pattern(alloc, word)?;

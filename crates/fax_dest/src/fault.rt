@@ -26,9 +26,12 @@ pub enum FileKind {
     /// A `TimeOfDay` that names no hours.
     #[error("bad hours")]
     BadHours,
-    /// A pattern that `regex` refuses, for another cause than memory.
+    /// A pattern that isn't in the grammar of `regex`, or that nests too deep.
     #[error("a bad pattern")]
     BadPattern,
+    /// A pattern that is in the grammar, and that `regex` finds too big.
+    #[error("a pattern that is too big")]
+    BigPattern,
     /// A text that is no POSIX TZ rule.
     #[error("a bad time zone")]
     BadZone,
@@ -47,7 +50,7 @@ pub struct FileFault {
 
 impl FileKind {
     ghost use Rattle.std.specs.Prelude.{◌≡◌};
-    ghost use Rattle.fax_dest.specs.Fault.{kind_word, is_memory, is_pattern};
+    ghost use Rattle.fax_dest.specs.Fault.{kind_word};
 
     /// The word for it in a message.
     #[tactic(auto, unfolding(crate::specs::Fault::kind_word))]
@@ -62,7 +65,7 @@ impl FileKind {
             FileKind::BadQuote => "bad-quote",
             FileKind::BadValue => "bad-value",
             FileKind::BadHours => "bad-hours",
-            FileKind::BadPattern => "bad-pattern",
+            FileKind::BadPattern | FileKind::BigPattern => "bad-pattern",
             FileKind::BadZone => "bad-zone",
             FileKind::NoMemory => "no-memory",
         }

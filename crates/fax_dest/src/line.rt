@@ -1,12 +1,12 @@
 //! Lines and values, which setup and controls have in common.
 
-ghost use Rattle.std.specs.Prelude.{◌≡◌, ◌∷◌, ◌<◌, ◌≤◌, ◌^◌, ℕ, List, length, IfSome, IfNone, IfOk, Some, None, Ok, Err};
+ghost use Rattle.std.specs.Prelude.{◌≡◌, ◌∷◌, ◌<◌, ◌≤◌, length, IfSome, IfNone, IfOk, Some, None, Ok, Err};
 ghost use Rattle.std.specs.List.{list_all};
 ghost use Rattle.std.specs.Option.{option_map, option_copied};
 ghost use Rattle.fax_job.specs.Reading.{lines, without_blanks};
 ghost use Rattle.fax_job.specs.Value.{is_blank};
 ghost use Rattle.fax_hours.specs.Item.{before_blanks};
-ghost use Rattle.fax_dest.specs.Line.{at_byte, at_blank, is_skipped, begins_with_blank, is_nothing, value_of, value_from, inside_quotes, trimmed, number_in};
+ghost use Rattle.fax_dest.specs.Line.{at_byte, at_blank, is_skipped, begins_with_blank, is_nothing, value_of, inside_quotes, trimmed, number_in};
 
 use crate::fault::FileKind;
 use fax_job::read_number;

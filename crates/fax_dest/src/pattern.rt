@@ -1,10 +1,10 @@
 //! Patterns in the grammar of `regex`.
 
-ghost use Rattle.std.specs.Prelude.{◌≡◌, IfOk, IfErr};
+ghost use Rattle.std.specs.Prelude.{◌≡◌, IfOk};
 ghost use Rattle.regex.specs.Strings.{regex_source, regex_config, IsReadFromSource};
 ghost use Rattle.regex.specs.Patterns.{default_config};
-ghost use Rattle.fax_dest.specs.Pattern.{is_found, IsRefusedKind};
-ghost use Rattle.fax_dest.specs.declared.fault.FileKind.TheVariants.{BadPattern, NoMemory};
+ghost use Rattle.fax_dest.specs.Fault.{GivesLine};
+ghost use Rattle.fax_dest.specs.Pattern.{is_found};
 
 use crate::fault::FileKind;
 use regex::{Error, Regex};
@@ -12,16 +12,18 @@ use std::alloc::{AllocError, Global};
 
 /// The pattern that a text writes.
 pub(crate) fn pattern(alloc: Global, text: &str) -> Result<Regex, FileKind>
+    ensures given { GivesLine (λ source regex. regex_source regex ≡ source) (λ compile. compile text.now) result }
     ensures source { IfOk result (λ regex. regex_source regex ≡ text.now) }
     // The pattern is what the grammar reads in the text, with no flags set.
     ensures config { IfOk result (λ regex. regex_config regex ≡ default_config) }
     ensures read { IfOk result IsReadFromSource }
-    ensures refused { IfErr result IsRefusedKind }
 {
     match Regex::new(alloc, text) {
         Ok(regex) => Ok(regex),
+        Err(Error::Syntax(_)) => Err(FileKind::BadPattern),
         Err(Error::OutOfMemory) => Err(FileKind::NoMemory),
-        Err(_) => Err(FileKind::BadPattern),
+        Err(Error::CompiledTooBig) => Err(FileKind::BigPattern),
+        Err(Error::Internal) => Err(FileKind::BigPattern),
     }
 }
 

@@ -48,7 +48,7 @@ impl Class {
 
     /// The class that `name:regex` writes.
     fn read(alloc: Global, value: &str) -> Result<Class, FileKind>
-        ensures { GivesLine (λ setting class. setting ≡ ClassOf (class_text class)) (λ refused. class_written refused (at_byte 58 value.now)) result }
+        ensures { GivesLine (λ setting class. setting ≡ ClassOf (class_text class)) (λ compile. class_written compile (at_byte 58 value.now)) result }
     {
         let Some((name, text)) = at_colon(value) else {
             return Err(FileKind::BadValue);
@@ -74,7 +74,7 @@ impl Class {
 }
 
 impl Setup {
-    ghost use Rattle.std.specs.Prelude.{◌≡◌, ◌≤◌, ℕ, Bool, IfOk, Err};
+    ghost use Rattle.std.specs.Prelude.{◌≡◌, ◌≤◌, IfOk, Err};
     ghost use Rattle.std.specs.Str.{IsUtf8};
     ghost use Rattle.fax_dest.specs.Fault.{GivesFile, GivesLine, fault_at};
     ghost use Rattle.fax_dest.specs.Setting.{setting_of, setting_in};
@@ -94,7 +94,7 @@ impl Setup {
     ///
     /// The first fault of the text.
     pub fn read(alloc: Global, bytes: &[u8]) -> Result<Setup, FileFault>
-        ensures text { IsUtf8 bytes.now → (refused : ℕ → Bool) × GivesFile IsSetupOf (settings_of refused bytes.now) result }
+        ensures text { IsUtf8 bytes.now → GivesFile IsSetupOf (settings_of bytes.now) result }
         ensures not_text { ¬ (IsUtf8 bytes.now) → result ≡ Err (fault_at 0 NotText) }
     {
         match str::from_utf8(bytes) {
@@ -107,7 +107,7 @@ impl Setup {
     }
 
     fn read_text(alloc: Global, text: &str) -> Result<Setup, FileFault>
-        ensures { (refused : ℕ → Bool) × GivesFile IsSetupOf (settings_of refused text.now) result }
+        ensures { GivesFile IsSetupOf (settings_of text.now) result }
     {
         let mut setup = Setup::empty(alloc);
         let mut rest = text;
@@ -162,7 +162,7 @@ impl Setup {
     }
 
     fn set(&mut self, alloc: Global, name: SettingName, value: &str) -> Result<(), FileKind>
-        ensures { GivesLine (λ setting _. IsSetBy setting self.old self.new) (λ refused. setting_in refused name value.now) result }
+        ensures { GivesLine (λ setting _. IsSetBy setting self.old self.new) (λ compile. setting_in compile name value.now) result }
     {
         match name {
             SettingName::Modem => self.modems.push(name_of(alloc, value)?)?,

@@ -5,7 +5,7 @@ use Rattle.fax_dest.proofs.ControlsLemmas.{has_rule-some, set_last, spelled_by}
 use Rattle.fax_dest.proofs.controls.Entry.add.Goals as goal
 
 pub returns : goal.returns
-returns c =
+returns c = λ is_pattern grammar.
     let rules = c.args.rules.now in
     let some : nat_eq (length rules.items) 0 ≡ false = ap (λ n. nat_eq n 0) (sym rules.ok.0) ∙ sym c.if-is_empty.ensures in
     let full : length rules.items ≢ 0 = eqb-false (length rules.items) 0 some in (
