@@ -3,3 +3,4 @@ pub mod SetupLemmas
 pub mod FaultLemmas
 pub mod PatternLemmas
 pub mod ControlsLemmas
+pub mod GrammarLemmas

@@ -1,10 +1,10 @@
 //! Patterns in the grammar of `regex`.
 
-ghost use Rattle.std.specs.Prelude.{◌≡◌, IfOk};
+ghost use Rattle.std.specs.Prelude.{◌≡◌, ℕ, Bool, List, IfOk};
 ghost use Rattle.regex.specs.Strings.{regex_source, regex_config, IsReadFromSource};
 ghost use Rattle.regex.specs.Patterns.{default_config};
 ghost use Rattle.fax_dest.specs.Fault.{GivesLine};
-ghost use Rattle.fax_dest.specs.Pattern.{is_found};
+ghost use Rattle.fax_dest.specs.Pattern.{is_found, IsGrammar};
 
 use crate::fault::FileKind;
 use regex::{Error, Regex};
@@ -26,6 +26,11 @@ pub(crate) fn pattern(alloc: Global, text: &str) -> Result<Regex, FileKind>
         Err(Error::Internal) => Err(FileKind::BigPattern),
     }
 }
+
+/// The grammar has a test, so clauses that hold by each of its tests say something.
+pub(crate) fn grammar_test()
+    ensures { (is_pattern : List ℕ → Bool) × IsGrammar is_pattern }
+{}
 
 /// Whether a pattern is found anywhere in a text.
 #[tactic(auto, unfolding(crate::specs::Pattern::is_found))]
