@@ -71,7 +71,8 @@ abbrev pub GivesItems : {A X : Type 0} → (A → X → Type 0) → Result A Fil
 GivesItems Made given (Ok made) = (items : _) × (given ≡ Ok items) × Made items made
 GivesItems Made given (Err fault) = MatchBool (is_memory fault.kind) ⊤ (given ≡ Err fault)
 
--- What a file gives, by the grammar, where too_big names the lines whose patterns are too big for `regex`.
+-- What a file gives, by the grammar, where too_big names the lines whose patterns are too big for `regex`. No more
+-- than these is left to the answer.
 abbrev pub GivesFile : {A X : Type 0} → (A → X → Type 0) → ((ℕ → Compiling) → Result A FileFault) → Result X FileFault → Type 0
 GivesFile Made given result =
     (is_pattern : List ℕ → Bool) → IsGrammar is_pattern → (too_big : ℕ → Bool) × GivesItems Made (given (compiled_on is_pattern too_big)) result

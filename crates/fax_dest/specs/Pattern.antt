@@ -20,7 +20,7 @@ pub record IsPlain (pattern : Regex) : Type 0 where
 
 -- ---- which texts are patterns
 
--- the grammar of `regex` has an error of syntax for the text, or it nests too deep
+-- an error of syntax that `Regex::new` may give for the text: the grammar reads nothing there, or what nests too deep
 abbrev pub IsNoPattern : List ℕ → Type 0
 IsNoPattern text = (error : _) × IsRefusal default_config text (Syntax error) × IsRightKind default_config text (Syntax error)
 
@@ -33,6 +33,6 @@ pub record IsGrammar (is_pattern : List ℕ → Bool) : Type 0 where
 abbrev pub Compiling : Type 0
 Compiling = List ℕ → Result (List ℕ) FileKind
 
--- by a test of the grammar, and where `regex` finds a pattern too big or not
+-- A text that isn't in the grammar is a bad pattern. One that is in it may be too big for `regex`.
 unfoldable pub compiled : (List ℕ → Bool) → Bool → Compiling
 compiled is_pattern too_big text = if is_pattern text then (if too_big then Err BigPattern else Ok text) else Err BadPattern
