@@ -35,13 +35,13 @@ pub record IsOf (ask : Ask) (e : Refusal) (k : Keys) : Type 0 where
   pub met : may_meet ask e ≡ true
   pub keys : goes_with k (refusal_number e) ≡ true
 
-abbrev Decided : Type 0 → Type 0
+abbrev pub Decided : Type 0 → Type 0
 Decided A = Result A Refusal
 
 err_is : {A : Type 0} (P : Refusal → Type 0) (x e : Refusal) → Path (Decided A) (Err x) (Err e) → P x → P e
 err_is P x e h p = let same : x ≡ e = cc in subst P same p
 
-refused_or : {A : Type 0} (P : Refusal → Type 0) (b : Bool) (x e : Refusal) (r : Decided A) → cond b (Err x) r ≡ Err e → P x → (r ≡ Err e → P e) → P e
+pub refused_or : {A : Type 0} (P : Refusal → Type 0) (b : Bool) (x e : Refusal) (r : Decided A) → cond b (Err x) r ≡ Err e → P x → (r ≡ Err e → P e) → P e
 refused_or P true x e r h p f = err_is P x e h p
 refused_or P false x e r h p f = f h
 
@@ -94,7 +94,7 @@ module _ (P : Refusal → Keys → Type 0) where
 -- ---- the decisions
 
 module _ (P : Refusal → Type 0) where
-  suspend_refused : P JobActive → P JobOver → (p : Phase) (w : Wish) (j : Job) (e : Refusal) → suspend_in p w j ≡ Err e → P e
+  pub suspend_refused : P JobActive → P JobOver → (p : Phase) (w : Wish) (j : Job) (e : Refusal) → suspend_in p w j ≡ Err e → P e
   suspend_refused a o phase.Held w j e h = cc
   suspend_refused a o phase.Waiting w j e h = cc
   suspend_refused a o phase.Granted wish.Go j e h = cc
@@ -103,7 +103,7 @@ module _ (P : Refusal → Type 0) where
   suspend_refused a o phase.Done w j e h = err_is P JobOver e h o
   suspend_refused a o phase.Failed w j e h = err_is P JobOver e h o
 
-  resume_refused : P JobActive → P JobOver → P NotSuspended → (p : Phase) (w : Wish) (j : Job) (e : Refusal) → resume_in p w j ≡ Err e → P e
+  pub resume_refused : P JobActive → P JobOver → P NotSuspended → (p : Phase) (w : Wish) (j : Job) (e : Refusal) → resume_in p w j ≡ Err e → P e
   resume_refused a o n phase.Held w j e h = cc
   resume_refused a o n phase.Waiting w j e h = err_is P NotSuspended e h n
   resume_refused a o n phase.Granted wish.Go j e h = err_is P JobActive e h a
@@ -112,27 +112,27 @@ module _ (P : Refusal → Type 0) where
   resume_refused a o n phase.Done w j e h = err_is P JobOver e h o
   resume_refused a o n phase.Failed w j e h = err_is P JobOver e h o
 
-  kill_refused : P JobOver → (p : Phase) (j : Job) (e : Refusal) → kill_in p j ≡ Err e → P e
+  pub kill_refused : P JobOver → (p : Phase) (j : Job) (e : Refusal) → kill_in p j ≡ Err e → P e
   kill_refused o phase.Held j e h = cc
   kill_refused o phase.Waiting j e h = cc
   kill_refused o phase.Granted j e h = cc
   kill_refused o phase.Done j e h = err_is P JobOver e h o
   kill_refused o phase.Failed j e h = err_is P JobOver e h o
 
-  alter_refused : P JobActive → P JobOver → P NotSuspended → P LimitReached → (p : Phase) (c : Alter) (j : Job) (t : ℕ) (e : Refusal) → alter_in p c j t ≡ Err e → P e
+  pub alter_refused : P JobActive → P JobOver → P NotSuspended → P LimitReached → (p : Phase) (c : Alter) (j : Job) (t : ℕ) (e : Refusal) → alter_in p c j t ≡ Err e → P e
   alter_refused a o n l phase.Held c j t e h = refused_or P (leb (altered c j t).maxdials j.totdials || leb (altered c j t).maxtries j.tottries) LimitReached e (Ok (altered c j t)) h l (λ x. cc x)
   alter_refused a o n l phase.Waiting c j t e h = err_is P NotSuspended e h n
   alter_refused a o n l phase.Granted c j t e h = err_is P JobActive e h a
   alter_refused a o n l phase.Done c j t e h = err_is P JobOver e h o
   alter_refused a o n l phase.Failed c j t e h = err_is P JobOver e h o
 
-  submit_refused : P Rejected → P TooManyPages → P Full → (o : Order) (rule : Rule) (n max t : ℕ) (e : Refusal) → submit o rule n max t ≡ Err e → P e
+  pub submit_refused : P Rejected → P TooManyPages → P Full → (o : Order) (rule : Rule) (n max t : ℕ) (e : Refusal) → submit o rule n max t ≡ Err e → P e
   submit_refused a b c o rule n max t e h =
       refused_or P (is_some rule.notice) Rejected e _ h a (λ h.
       refused_or P (is_over o.totpages rule.pages) TooManyPages e _ h b (λ h.
       refused_or P (nat_lt max n) Full e (Ok (new_job o n t)) h c (λ x. cc x)))
 
-  call_refused : P GrantClosed → P CallKnown → (c : Call) (j : Job) (g : Grant) (e : Refusal) → call c j g ≡ Err e → P e
+  pub call_refused : P GrantClosed → P CallKnown → (c : Call) (j : Job) (g : Grant) (e : Refusal) → call c j g ≡ Err e → P e
   call_refused a b c j g e h =
       refused_or P (not g.is_open) GrantClosed e _ h a (λ h.
       refused_or P (is_some g.call) CallKnown e (Ok (record { job = after_call c j; grant = record g { call = Some c } })) h b (λ x. cc x))
@@ -141,13 +141,13 @@ module _ (P : Refusal → Type 0) where
   page_of_refused a [] n j g e h = err_is P PageOrder e h a
   page_of_refused a (p ∷ rest) n j g e h = refused_or P (not (eqb p n)) PageOrder e _ h a (λ x. cc x)
 
-  page_refused : P GrantClosed → P NotConnected → P PageOrder → (n : ℕ) (j : Job) (g : Grant) (e : Refusal) → page n j g ≡ Err e → P e
+  pub page_refused : P GrantClosed → P NotConnected → P PageOrder → (n : ℕ) (j : Job) (g : Grant) (e : Refusal) → page n j g ≡ Err e → P e
   page_refused a b c n j g e h =
       refused_or P (not g.is_open) GrantClosed e _ h a (λ h.
       refused_or P (not (is_connected g.call)) NotConnected e (page_of j.left n j g) h b (λ h.
       page_of_refused c j.left n j g e h))
 
-  outcome_refused : P GrantClosed → P CallKnown → P CallMissing → P PagesMismatch → P PagesLeft → (o : Outcome) (j : Job) (g : Grant) (delay t : ℕ) (e : Refusal) → outcome o j g delay t ≡ Err e → P e
+  pub outcome_refused : P GrantClosed → P CallKnown → P CallMissing → P PagesMismatch → P PagesLeft → (o : Outcome) (j : Job) (g : Grant) (delay t : ℕ) (e : Refusal) → outcome o j g delay t ≡ Err e → P e
   outcome_refused a b c d f o j g delay t e h =
       refused_or P (not g.is_open) GrantClosed e _ h a (λ h.
       refused_or P (not o.dialed && is_some g.call) CallKnown e _ h b (λ h.

@@ -33,19 +33,16 @@ decided_where decision (Err e) result is ok = absurd (let no = ok in cc)
 pub refused_as : (e : Refusal) (keys : machine.Keys) → IsRefused (machine.Refused e keys) (refused_response e keys)
 refused_as e keys = record { refusal = e; keys = keys; refused = refl; replied = refl }
 
-plain_keys : (e : Refusal) (j : Job) → has_detail e ≡ false → keys_of_job e j ≡ machine.NoKeys
+pub plain_keys : (e : Refusal) (j : Job) → has_detail e ≡ false → keys_of_job e j ≡ machine.NoKeys
 plain_keys PageOrder j is = absurd (let no = is in cc)
 plain_keys e j is = refl
 
 -- a report is refused, and no more is told of it
-pub report_refused : {E F : Type 0} (n : Queue) (reply_to : Queue → JobAndGrant → machine.Reply) (j : Job) (r : Result JobAndGrant Refusal) (e : Refusal) (m : Queue) (t : ℕ) (reply : Result Response E) (result : Result Decision F)
-    → MatchResult reply (λ r. result ≡ Ok (Refused r)) (λ _. IsErr result) → IfOk reply (λ r. r ≡ refused_response e machine.NoKeys) → (IsOk reply → has_detail e ≡ false) → Err e ≡ r
-    → IfOk result (Decides (reported n reply_to j r) m t)
-report_refused n reply_to j r e m t reply result is same alone refused =
-    decided_by (λ x. Refused x) (refused_response e machine.NoKeys) (reported n reply_to j r) m t reply result is same
-    (λ ok. record {
-      refusal = e;
-      keys = machine.NoKeys;
-      refused = ap (reported n reply_to j) (sym refused) ∙ ap (λ (k : machine.Keys). machine.Refused e k) (plain_keys e j (alone ok));
-      replied = refl;
-    })
+pub report_refused : (n : Queue) (reply_to : Queue → JobAndGrant → machine.Reply) (j : Job) (r : Result JobAndGrant Refusal) (e : Refusal) (m : Queue) (t : ℕ) (reply : Response)
+    → has_detail e ≡ false → reply ≡ refused_response e machine.NoKeys → Err e ≡ r → Decides (reported n reply_to j r) m t (Refused reply)
+report_refused n reply_to j r e m t reply alone same refused = record {
+  refusal = e;
+  keys = machine.NoKeys;
+  refused = ap (reported n reply_to j) (sym refused) ∙ ap (λ (k : machine.Keys). machine.Refused e k) (plain_keys e j alone);
+  replied = same;
+}

@@ -11,3 +11,4 @@ mod ReportLemmas
 mod PlacedLemmas
 mod ChoiceLemmas
 mod GivenLemmas
+mod PlainLemmas

@@ -7,7 +7,6 @@ use Rattle.fax_job.specs.declared.job.JobFields.{JobFields}
 use Rattle.fax_job.specs.declared.refusal.Refusal.{Refusal}
 use Rattle.fax_job.specs.declared.refusal.Refusal.TheVariants.{GrantClosed, PageOrder}
 use Rattle.fax_ask.specs.Answer.{Replied}
-use Rattle.fax_ask.specs.Detail.{has_detail}
 use Rattle.fax_ask.specs.Response.{Response, accepted_response, refused_response}
 use Rattle.fax_core.specs.Ageing.{aged}
 use Rattle.fax_core.specs.Change.{changed}
@@ -15,7 +14,7 @@ use Rattle.fax_core.specs.declared.change.Change.{Change}
 use Rattle.fax_core.specs.declared.grants.Grant.{Grant}
 use Rattle.fax_core.specs.Decisions.{JobAndGrant, call, page, outcome, stops}
 use Rattle.fax_core.specs.Job.{Job, job_of}
-use Rattle.fax_core.specs.Machine.{with_job, with_grant, with_both, reported, on_grant, on_both, without_job, call_reply, page_reply, outcome_reply}
+use Rattle.fax_core.specs.Machine.{with_job, with_grant, with_both, reported, on_grant, on_both, without_job, keys_of_job, call_reply, page_reply, outcome_reply}
 use Rattle.fax_core.specs.Queue.{Queue, job_numbered, grant_numbered}
 use Rattle.fax_core.specs.Reply as machine
 use Rattle.fax_core.specs.Reply.{Reply, Called, Confirmed, Stands, Taken}
@@ -177,16 +176,16 @@ without_job_is s m t n report g found_grant found_job is_grant one_grant is_job 
 -- ---- closed grants
 
 -- what is refused as closed has no detail
-pub closed_alone : (r : Result JobAndGrant Refusal) (e : Refusal) → Err e ≡ r → r ≡ Err GrantClosed → has_detail e ≡ false
-closed_alone r e is closed = let same : e ≡ GrantClosed = (let both = is ∙ closed in cc) in ap has_detail same
+pub closed_page : (r : Result JobAndGrant Refusal) (e : Refusal) → Err e ≡ r → r ≡ Err GrantClosed → ¬ (e ≡ PageOrder)
+closed_page r e is closed named = let same : e ≡ GrantClosed = (let both = is ∙ closed in cc) in let no = sym same ∙ named in cc
 
--- ---- a page out of order
+-- ---- a page that is refused
 
-pub page_refused : (m : Queue) (t : ℕ) (f : JobFields) (r : Result JobAndGrant Refusal) (e : Refusal) → e ≡ PageOrder → Err e ≡ r
-    → IsRefused (reported m (page_reply t) (job_of f) r) (refused_response PageOrder (machine.Pages f.npages))
-page_refused m t f r e named is = record {
-  refusal = PageOrder;
-  keys = machine.Pages f.npages;
-  refused = ap (reported m (page_reply t) (job_of f)) (sym is ∙ ap (λ (x : Refusal). Err x) named) ∙ ap (λ (n : ℕ). machine.Refused PageOrder (machine.Pages n)) (ap (λ (x : JobFields). x.npages) (record_again f));
-  replied = refl;
-}
+pub page_refused_is : (m : Queue) (t : ℕ) (j : Job) (r : Result JobAndGrant Refusal) (e : Refusal) → Err e ≡ r → IsRefused (reported m (page_reply t) j r) (refused_response e (keys_of_job e j))
+page_refused_is m t j r e is = record { refusal = e; keys = keys_of_job e j; refused = ap (reported m (page_reply t) j) (sym is); replied = refl }
+
+-- how many pages are confirmed, by the record
+pub order_keys : (f : JobFields) (e : Refusal) → e ≡ PageOrder → refused_response PageOrder (machine.Pages f.npages) ≡ refused_response e (keys_of_job e (job_of f))
+order_keys f e named =
+    subst (λ (x : Refusal). refused_response PageOrder (machine.Pages f.npages) ≡ refused_response x (keys_of_job x (job_of f))) (sym named)
+    (ap (λ (n : ℕ). refused_response PageOrder (machine.Pages n)) (sym (ap (λ (x : JobFields). x.npages) (record_again f))))

@@ -1,8 +1,9 @@
 //! Which job a modem is given: a modem asks for work.
 
-ghost use Rattle.std.specs.Prelude.{◌≡◌, ℕ, List, IfOk, Ok, Some, find, is_some, map};
+ghost use Rattle.std.specs.Prelude.{◌≡◌, ℕ, List, false, IfOk, IsErr, Ok, None, Some, find, is_some, map, OnOk};
 ghost use Rattle.std.specs.Option.{option_map};
 ghost use Rattle.sqlite.specs.Held.{state};
+ghost use Rattle.sqlite.specs.State.{HasCleanDisk};
 ghost use Rattle.fax_ask.specs.Answer.{grant_told};
 ghost use Rattle.fax_ask.specs.Response.{refused_response};
 ghost use Rattle.fax_core.specs.Ageing.{aged};
@@ -10,6 +11,7 @@ ghost use Rattle.fax_core.specs.Best.{best, may_go};
 ghost use Rattle.fax_core.specs.Change.{decided_with};
 ghost use Rattle.fax_core.specs.Decisions.{grant as granted_if};
 ghost use Rattle.fax_core.specs.Job.{job_of};
+ghost use Rattle.fax_core.specs.Fits.{fits};
 ghost use Rattle.fax_core.specs.Machine.{dial_of, given, given_best, given_to, handed, held_by};
 ghost use Rattle.fax_core.specs.Queue.{Queue, Entry, job_numbered};
 ghost use Rattle.fax_core.specs.Reply.{HeldGrant};
@@ -17,11 +19,11 @@ ghost use Rattle.fax_core.specs.Sound.{Sound};
 ghost use Rattle.fax_core.specs.declared.grants.Grant.{Grant as OneGrant};
 ghost use Rattle.fax_job.specs.declared.refusal.Refusal.TheVariants.{ModemBusy};
 ghost use Rattle.fax_tables.specs.Grant.{as_hold};
-ghost use Rattle.fax_store.specs.Store.{Means, Serves, Stays};
+ghost use Rattle.fax_store.specs.Store.{Means, Serves, Stays, StaysOpen};
 ghost use Rattle.fax_decide.specs.Decision.{Decides};
 ghost use Rattle.fax_decide.specs.Settings.{settings_of};
 
-use crate::decision::{Decision, answered, plain, refuse, take};
+use crate::decision::{Decision, answered, refuse, take};
 use crate::effect::Effect;
 use crate::fault::Unavailable;
 use crate::office::Office;
@@ -43,6 +45,8 @@ pub(crate) fn decide_next<S: Alter>(
     t: Moment,
 ) -> Result<Decision, Unavailable>
     ensures served { Serves (state S.Store store.new.conn) → Serves (state S.Store store.old.conn) }
+    ensures clean { HasCleanDisk (state S.Store store.new.conn) → HasCleanDisk (state S.Store store.old.conn) }
+    ensures opens { OnOk result (StaysOpen (state S.Store store.old.conn) (state S.Store store.new.conn)) }
     ensures stays { Stays (state S.Store store.old.conn) (state S.Store store.new.conn) }
     ensures decided { (m : Queue) (k : List Entry) → Sound m → Means (state S.Store store.old.conn) m k
         → Serves (state S.Store store.new.conn) → next_grant ≡ m.next_grant
@@ -61,9 +65,12 @@ pub(crate) fn decide_next<S: Alter>(
     }
 }
 
-/// The reply to a modem that holds a grant: it is told which.
+/// The reply to a modem that holds a grant: it is told which. Where the grant or its job isn't there, as in no
+/// sound queue, there is none.
 fn busy<S: Alter>(store: &mut Store<S>, alloc: Global, hold: Hold) -> Result<Reply, Unavailable>
     ensures served { Serves (state S.Store store.new.conn) → Serves (state S.Store store.old.conn) }
+    ensures clean { HasCleanDisk (state S.Store store.new.conn) → HasCleanDisk (state S.Store store.old.conn) }
+    ensures opens { OnOk result (StaysOpen (state S.Store store.old.conn) (state S.Store store.new.conn)) }
     ensures stays { Stays (state S.Store store.old.conn) (state S.Store store.new.conn) }
     ensures decided { (m : Queue) (k : List Entry) (t : ℕ) (modem : List ℕ) (g : OneGrant) → Sound m
         → Means (state S.Store store.old.conn) m k → Serves (state S.Store store.new.conn)
@@ -103,6 +110,8 @@ fn decide_free<S: Alter>(
     t: Moment,
 ) -> Result<Decision, Unavailable>
     ensures served { Serves (state S.Store store.new.conn) → Serves (state S.Store store.old.conn) }
+    ensures clean { HasCleanDisk (state S.Store store.new.conn) → HasCleanDisk (state S.Store store.old.conn) }
+    ensures opens { OnOk result (StaysOpen (state S.Store store.old.conn) (state S.Store store.new.conn)) }
     ensures stays { Stays (state S.Store store.old.conn) (state S.Store store.new.conn) }
     ensures decided { (m : Queue) (k : List Entry) → Sound m → Means (state S.Store store.old.conn) m k
         → Serves (state S.Store store.new.conn) → next_grant ≡ m.next_grant
@@ -124,6 +133,8 @@ fn best<S: Alter>(
     t: Moment,
 ) -> Result<Option<Job>, Unavailable>
     ensures served { Serves (state S.Store store.new.conn) → Serves (state S.Store store.old.conn) }
+    ensures clean { HasCleanDisk (state S.Store store.new.conn) → HasCleanDisk (state S.Store store.old.conn) }
+    ensures opens { OnOk result (StaysOpen (state S.Store store.old.conn) (state S.Store store.new.conn)) }
     ensures stays { Stays (state S.Store store.old.conn) (state S.Store store.new.conn) }
     ensures found { (m : Queue) (k : List Entry) → Sound m → Means (state S.Store store.old.conn) m k
         → Serves (state S.Store store.new.conn)
@@ -144,6 +155,8 @@ fn first_of<S: Alter>(
     t: Moment,
 ) -> Result<Option<Job>, Unavailable>
     ensures served { Serves (state S.Store store.new.conn) → Serves (state S.Store store.old.conn) }
+    ensures clean { HasCleanDisk (state S.Store store.new.conn) → HasCleanDisk (state S.Store store.old.conn) }
+    ensures opens { OnOk result (StaysOpen (state S.Store store.old.conn) (state S.Store store.new.conn)) }
     ensures stays { Stays (state S.Store store.old.conn) (state S.Store store.new.conn) }
     ensures found { (m : Queue) (k : List Entry) → Means (state S.Store store.old.conn) m k
         → Serves (state S.Store store.new.conn)
@@ -169,6 +182,8 @@ fn may_go<S: Alter>(
     t: Moment,
 ) -> Result<bool, Unavailable>
     ensures served { Serves (state S.Store store.new.conn) → Serves (state S.Store store.old.conn) }
+    ensures clean { HasCleanDisk (state S.Store store.new.conn) → HasCleanDisk (state S.Store store.old.conn) }
+    ensures opens { OnOk result (StaysOpen (state S.Store store.old.conn) (state S.Store store.new.conn)) }
     ensures stays { Stays (state S.Store store.old.conn) (state S.Store store.new.conn) }
     ensures found { (m : Queue) (k : List Entry) → Means (state S.Store store.old.conn) m k
         → Serves (state S.Store store.new.conn) → IfOk result (λ goes. goes
@@ -184,7 +199,8 @@ fn may_go<S: Alter>(
 /// The state of a job that may go (sendq(5)).
 const READY: u8 = 5;
 
-/// The job goes to the modem with the pages that it has left.
+/// The job goes to the modem with the pages that it has left. Where it doesn't fit to be granted, as in no sound
+/// queue, nothing is decided.
 fn give(
     office: &Office,
     alloc: Global,
@@ -192,9 +208,10 @@ fn give(
     modem: Name,
     next_grant: u32,
 ) -> Result<Decision, Unavailable>
-    ensures { (m : Queue) (t : ℕ) → Sound m → job_numbered job.job (aged t m) ≡ Some (job_of job)
+    ensures decided { (m : Queue) (t : ℕ) → Sound m → job_numbered job.job (aged t m) ≡ Some (job_of job)
         → next_grant ≡ m.next_grant → IfOk result (Decides
         (given (aged t m) (granted_if (job_of job) modem next_grant office.now.setup.max_grants)) m t) }
+    ensures misfit { fits job None ≡ false → IsErr result }
 {
     if !fits(&job, None) {
         return Err(Unavailable);
@@ -204,7 +221,7 @@ fn give(
             let grant = Grant::new(&job, modem, next_grant);
             given(alloc, job, change, grant)
         }
-        Err(refusal) => refuse(plain(refusal)),
+        Err(refusal) => Ok(Decision::Refused(Reply::refused(refusal))),
     }
 }
 

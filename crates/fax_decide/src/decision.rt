@@ -1,15 +1,12 @@
 //! What is decided of a request.
 
-ghost use Rattle.std.specs.Prelude.{◌≡◌, false, IfOk, IsErr, IsOk, MatchResult, Ok};
+ghost use Rattle.std.specs.Prelude.{◌≡◌, IfOk, IsErr, MatchResult, Ok};
 ghost use Rattle.fax_ask.specs.Answer.{told};
-ghost use Rattle.fax_ask.specs.Detail.{has_detail};
-ghost use Rattle.fax_ask.specs.Response.{accepted_response, refused_response};
-ghost use Rattle.fax_core.specs.Reply.{NoKeys};
+ghost use Rattle.fax_ask.specs.Response.{accepted_response};
 
 use crate::effect::Effect;
 use crate::fault::Unavailable;
-use fax_ask::{Answer, Reply, has_detail};
-use fax_job::Refusal;
+use fax_ask::{Answer, Reply};
 use std::alloc::Global;
 
 /// What is decided of a request.
@@ -49,16 +46,4 @@ pub(crate) fn answered(alloc: Global, answer: &Answer<'_>) -> Result<Reply, Unav
     ensures { IfOk result (λ reply. reply ≡ accepted_response (told answer.now)) }
 {
     Ok(Reply::accepted(alloc, answer)?)
-}
-
-/// The reply to a refusal that says no more than its number and word.
-pub fn plain(refusal: Refusal) -> Result<Reply, Unavailable>
-    ensures reply { IfOk result (λ reply. reply ≡ refused_response refusal NoKeys) }
-    ensures alone { IsOk result → has_detail refusal ≡ false }
-    ensures made { has_detail refusal ≡ false → IsOk result }
-{
-    if has_detail(refusal) {
-        return Err(Unavailable);
-    }
-    Ok(Reply::refused(refusal))
 }

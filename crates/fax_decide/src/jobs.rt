@@ -1,7 +1,8 @@
 //! A client's requests on a job.
 
-ghost use Rattle.std.specs.Prelude.{◌≡◌, List, Some, Ok, IfOk};
+ghost use Rattle.std.specs.Prelude.{◌≡◌, List, Some, Ok, IfOk, OnOk};
 ghost use Rattle.sqlite.specs.Held.{state};
+ghost use Rattle.sqlite.specs.State.{HasCleanDisk};
 ghost use Rattle.fax_ask.specs.Answer.{Replied};
 ghost use Rattle.fax_ask.specs.Response.{accepted_response};
 ghost use Rattle.fax_core.specs.Ageing.{aged};
@@ -11,12 +12,12 @@ ghost use Rattle.fax_core.specs.Machine.{changed as change_step, on_job};
 ghost use Rattle.fax_core.specs.Queue.{Queue, Entry, job_numbered};
 ghost use Rattle.fax_core.specs.Reply.{Stands};
 ghost use Rattle.fax_core.specs.State.{state as job_state};
-ghost use Rattle.fax_store.specs.Store.{Means, Serves, Stays};
+ghost use Rattle.fax_store.specs.Store.{Means, Serves, Stays, StaysOpen};
 ghost use Rattle.fax_decide.specs.Decision.{Decides};
 ghost use Rattle.fax_decide.specs.JobAsk.{decision_on};
 ghost use Rattle.fax_decide.specs.Settings.{settings_of};
 
-use crate::decision::{Decision, answered, plain, refuse, take};
+use crate::decision::{Decision, answered, refuse, take};
 use crate::effect::Effect;
 use crate::fault::Unavailable;
 use crate::office::Office;
@@ -62,6 +63,8 @@ pub(crate) fn decide_on_job<S: Alter>(
     t: Moment,
 ) -> Result<Decision, Unavailable>
     ensures served { Serves (state S.Store store.new.conn) → Serves (state S.Store store.old.conn) }
+    ensures clean { HasCleanDisk (state S.Store store.new.conn) → HasCleanDisk (state S.Store store.old.conn) }
+    ensures opens { OnOk result (StaysOpen (state S.Store store.old.conn) (state S.Store store.new.conn)) }
     ensures stays { Stays (state S.Store store.old.conn) (state S.Store store.new.conn) }
     ensures decided { (m : Queue) (k : List Entry) → Means (state S.Store store.old.conn) m k
         → Serves (state S.Store store.new.conn)
@@ -73,7 +76,7 @@ pub(crate) fn decide_on_job<S: Alter>(
     };
     match ask.decide(&job, t) {
         Ok(change) => changed(store, office, alloc, job, change, t),
-        Err(refusal) => refuse(plain(refusal)),
+        Err(refusal) => Ok(Decision::Refused(Reply::refused(refusal))),
     }
 }
 
@@ -87,6 +90,8 @@ fn changed<S: Alter>(
     t: Moment,
 ) -> Result<Decision, Unavailable>
     ensures served { Serves (state S.Store store.new.conn) → Serves (state S.Store store.old.conn) }
+    ensures clean { HasCleanDisk (state S.Store store.new.conn) → HasCleanDisk (state S.Store store.old.conn) }
+    ensures opens { OnOk result (StaysOpen (state S.Store store.old.conn) (state S.Store store.new.conn)) }
     ensures stays { Stays (state S.Store store.old.conn) (state S.Store store.new.conn) }
     ensures decided { (m : Queue) (k : List Entry) → Means (state S.Store store.old.conn) m k
         → Serves (state S.Store store.new.conn) → job_numbered job.job (aged t m) ≡ Some (job_of job)
@@ -109,6 +114,8 @@ fn stands<S: Alter>(
     t: Moment,
 ) -> Result<Reply, Unavailable>
     ensures served { Serves (state S.Store store.new.conn) → Serves (state S.Store store.old.conn) }
+    ensures clean { HasCleanDisk (state S.Store store.new.conn) → HasCleanDisk (state S.Store store.old.conn) }
+    ensures opens { OnOk result (StaysOpen (state S.Store store.old.conn) (state S.Store store.new.conn)) }
     ensures stays { Stays (state S.Store store.old.conn) (state S.Store store.new.conn) }
     ensures told { (m : Queue) (k : List Entry) → Means (state S.Store store.old.conn) m k
         → Serves (state S.Store store.new.conn) → IfOk result (λ reply. reply ≡ accepted_response

@@ -19,7 +19,7 @@ mod state;
 mod submission;
 mod view;
 
-pub use decision::{Decision, plain};
+pub use decision::Decision;
 pub use effect::Effect;
 pub use fault::Unavailable;
 pub use office::Office;

@@ -1,12 +1,13 @@
 //! Jobs and grants by the numbers that requests name.
 
-ghost use Rattle.std.specs.Prelude.{◌≡◌, List, IfOk};
+ghost use Rattle.std.specs.Prelude.{◌≡◌, ◌<◌, List, IfOk, OnOk};
 ghost use Rattle.std.specs.Option.{option_map};
 ghost use Rattle.sqlite.specs.Held.{state};
+ghost use Rattle.sqlite.specs.State.{HasCleanDisk};
 ghost use Rattle.fax_core.specs.Ageing.{aged};
 ghost use Rattle.fax_core.specs.Job.{job_of};
 ghost use Rattle.fax_core.specs.Queue.{Queue, Entry, job_numbered, grant_numbered};
-ghost use Rattle.fax_store.specs.Store.{Means, Serves, Stays};
+ghost use Rattle.fax_store.specs.Store.{Means, Serves, Stays, StaysOpen};
 
 use fax_core::{Grant, aged_job};
 use fax_job::{Job, Moment};
@@ -26,10 +27,13 @@ pub(crate) fn job_at<S: Alter>(
     t: Moment,
 ) -> Result<Option<Job>, StoreFault>
     ensures served { Serves (state S.Store store.new.conn) → Serves (state S.Store store.old.conn) }
+    ensures clean { HasCleanDisk (state S.Store store.new.conn) → HasCleanDisk (state S.Store store.old.conn) }
+    ensures opens { OnOk result (StaysOpen (state S.Store store.old.conn) (state S.Store store.new.conn)) }
     ensures stays { Stays (state S.Store store.old.conn) (state S.Store store.new.conn) }
     ensures found { (m : Queue) (k : List Entry) → Means (state S.Store store.old.conn) m k
         → Serves (state S.Store store.new.conn)
         → IfOk result (λ found. option_map (λ f. job_of f) found ≡ job_numbered number (aged t m)) }
+    ensures past { 999999 < number → result ≡ Ok None }
 {
     if number > LAST_JOB {
         return Ok(None);
@@ -46,9 +50,12 @@ pub(crate) fn grant_at<S: Alter>(
     number: u64,
 ) -> Result<Option<Grant>, StoreFault>
     ensures served { Serves (state S.Store store.new.conn) → Serves (state S.Store store.old.conn) }
+    ensures clean { HasCleanDisk (state S.Store store.new.conn) → HasCleanDisk (state S.Store store.old.conn) }
+    ensures opens { OnOk result (StaysOpen (state S.Store store.old.conn) (state S.Store store.new.conn)) }
     ensures stays { Stays (state S.Store store.old.conn) (state S.Store store.new.conn) }
     ensures found { (m : Queue) (k : List Entry) → Means (state S.Store store.old.conn) m k
         → Serves (state S.Store store.new.conn) → IfOk result (λ found. found ≡ grant_numbered number m) }
+    ensures past { 999999999 < number → result ≡ Ok None }
 {
     if number > LAST_GRANT {
         return Ok(None);

@@ -1,14 +1,17 @@
 //! A worker's reports on a grant.
 
-ghost use Rattle.std.specs.Prelude.{◌≡◌, ◌≤◌, ◌-◌, ℕ, List, Some, true, false, Ok, IfOk, IsOk};
+ghost use Rattle.std.specs.Prelude.{◌≡◌, ◌≤◌, ◌-◌, ◌↔◌, ℕ, List, Some, true, false, Ok, IfOk, IsErr, IsOk, OnOk};
 ghost use Rattle.sqlite.specs.Held.{state};
+ghost use Rattle.sqlite.specs.State.{HasCleanDisk};
 ghost use Rattle.fax_ask.specs.Answer.{Replied};
 ghost use Rattle.fax_ask.specs.Response.{accepted_response, refused_response};
 ghost use Rattle.fax_core.specs.Ageing.{aged};
 ghost use Rattle.fax_core.specs.Change.{changed};
 ghost use Rattle.fax_core.specs.Decisions.{call as call_of, page as page_of, outcome as outcome_of};
 ghost use Rattle.fax_core.specs.Job.{job_of};
-ghost use Rattle.fax_core.specs.Machine.{reported, call_reply, page_reply, outcome_reply, without_job};
+ghost use Rattle.fax_core.specs.Fits.{fits};
+ghost use Rattle.fax_core.specs.Machine.{reported, call_reply, page_reply, outcome_reply, keys_of_job, without_job};
+ghost use Rattle.fax_ask.specs.Detail.{has_detail};
 ghost use Rattle.fax_core.specs.Queue.{Queue, Entry, grant_numbered};
 ghost use Rattle.fax_core.specs.Reply.{NoKeys, Pages, Refused, Stands};
 ghost use Rattle.fax_core.specs.Sound.{Sound};
@@ -16,13 +19,13 @@ ghost use Rattle.fax_core.specs.State.{calls_to};
 ghost use Rattle.fax_core.specs.declared.grants.Grant.{Grant as GrantOf};
 ghost use Rattle.fax_dest.specs.Setup.{delay_of};
 ghost use Rattle.fax_store.specs.Grant.{IsSameGrant};
-ghost use Rattle.fax_store.specs.Store.{Means, Serves, Stays};
+ghost use Rattle.fax_store.specs.Store.{Means, Serves, Stays, StaysOpen};
 ghost use Rattle.fax_decide.specs.Decision.{Decides};
 ghost use Rattle.fax_decide.specs.Report.{AreThere, report_both, report_step};
 ghost use Rattle.fax_decide.specs.Settings.{settings_of};
 ghost use Rattle.fax_decide.specs.State.{state_with};
 
-use crate::decision::{Decision, answered, plain, refuse, take};
+use crate::decision::{Decision, answered, refuse, take};
 use crate::effect::Effect;
 use crate::fault::Unavailable;
 use crate::office::Office;
@@ -52,6 +55,8 @@ pub(crate) fn decide_report<S: Alter>(
     t: Moment,
 ) -> Result<Decision, Unavailable>
     ensures served { Serves (state S.Store store.new.conn) → Serves (state S.Store store.old.conn) }
+    ensures clean { HasCleanDisk (state S.Store store.new.conn) → HasCleanDisk (state S.Store store.old.conn) }
+    ensures opens { OnOk result (StaysOpen (state S.Store store.old.conn) (state S.Store store.new.conn)) }
     ensures stays { Stays (state S.Store store.old.conn) (state S.Store store.new.conn) }
     ensures decided { (m : Queue) (k : List Entry) → Sound m → Means (state S.Store store.old.conn) m k
         → Serves (state S.Store store.new.conn)
@@ -79,12 +84,15 @@ fn report_on<S: Alter>(
     t: Moment,
 ) -> Result<Decision, Unavailable>
     ensures served { Serves (state S.Store store.new.conn) → Serves (state S.Store store.old.conn) }
+    ensures clean { HasCleanDisk (state S.Store store.new.conn) → HasCleanDisk (state S.Store store.old.conn) }
+    ensures opens { OnOk result (StaysOpen (state S.Store store.old.conn) (state S.Store store.new.conn)) }
     ensures stays { Stays (state S.Store store.old.conn) (state S.Store store.new.conn) }
     ensures decided { (m : Queue) (k : List Entry) → Sound m → Means (state S.Store store.old.conn) m k
         → Serves (state S.Store store.new.conn) → AreThere m t job grant → grant.confirmed ≤ 9999
         → IfOk result (Decides (report_both (settings_of office.now.setup office.now.controls) (aged t m) t
         report (job_of job) grant) m t) }
     ensures closed { grant.is_open ≡ false → IsOk result }
+    ensures misfit { grant.is_open ≡ true → fits job (Some grant) ≡ false → IsErr result }
 {
     if grant.is_open && !fits(&job, Some(&grant)) {
         return Err(Unavailable);
@@ -96,10 +104,11 @@ fn report_on<S: Alter>(
     }
 }
 
-/// An open grant has its job in every sound queue.
+/// An open grant has its job in every sound queue: where it has none, nothing is decided.
 fn without_job(grant: &Grant) -> Result<Decision, Unavailable>
-    ensures { (m : Queue) (t : ℕ)
+    ensures decided { (m : Queue) (t : ℕ)
         → IfOk result (Decides (Refused (without_job grant.now.is_open) NoKeys) m t) }
+    ensures misfit { IsErr result ↔ (grant.now.is_open ≡ true) }
 {
     if grant.is_open {
         return Err(Unavailable);
@@ -121,7 +130,7 @@ fn decide_call(
 {
     match call(&job, &grant, said) {
         Ok(change) => called(alloc, job, change, grant.with_call(said), t),
-        Err(refusal) => refuse(plain(refusal)),
+        Err(refusal) => Ok(Decision::Refused(Reply::refused(refusal))),
     }
 }
 
@@ -160,9 +169,21 @@ fn decide_page(
 {
     match page(&job, &grant, said) {
         Ok(change) => confirmed(alloc, job, change, grant.with_page(), t),
-        Err(Refusal::PageOrder) => refuse(page_order(alloc, &job)),
-        Err(refusal) => refuse(plain(refusal)),
+        Err(refusal) => refuse(page_refused(alloc, &job, refusal)),
     }
+}
+
+/// The reply to a page report that is refused: where it is no page that comes next, how many are confirmed.
+fn page_refused(alloc: Global, job: &Job, refusal: Refusal) -> Result<Reply, Unavailable>
+    requires { ¬ (refusal ≡ Refusal.PageOrder) → has_detail refusal ≡ false }
+    ensures reply { IfOk result (λ reply.
+        reply ≡ refused_response refusal (keys_of_job refusal (job_of job.now))) }
+    ensures made { ¬ (refusal ≡ Refusal.PageOrder) → IsOk result }
+{
+    if refusal == Refusal::PageOrder {
+        return page_order(alloc, job);
+    }
+    Ok(Reply::refused(refusal))
 }
 
 /// The reply to a page that isn't the next one: how many are confirmed.
@@ -207,6 +228,8 @@ fn decide_outcome<S: Alter>(
     t: Moment,
 ) -> Result<Decision, Unavailable>
     ensures served { Serves (state S.Store store.new.conn) → Serves (state S.Store store.old.conn) }
+    ensures clean { HasCleanDisk (state S.Store store.new.conn) → HasCleanDisk (state S.Store store.old.conn) }
+    ensures opens { OnOk result (StaysOpen (state S.Store store.old.conn) (state S.Store store.new.conn)) }
     ensures stays { Stays (state S.Store store.old.conn) (state S.Store store.new.conn) }
     ensures decided { (m : Queue) (k : List Entry) → Sound m → Means (state S.Store store.old.conn) m k
         → Serves (state S.Store store.new.conn) → AreThere m t job grant
@@ -218,7 +241,7 @@ fn decide_outcome<S: Alter>(
     let delay = office.setup.delay(grant.call);
     match outcome(&job, &grant, said, delay, t) {
         Ok(change) => ended(store, office, alloc, job, change, &grant, t),
-        Err(refusal) => refuse(plain(refusal)),
+        Err(refusal) => Ok(Decision::Refused(Reply::refused(refusal))),
     }
 }
 
@@ -233,6 +256,8 @@ fn ended<S: Alter>(
     t: Moment,
 ) -> Result<Decision, Unavailable>
     ensures served { Serves (state S.Store store.new.conn) → Serves (state S.Store store.old.conn) }
+    ensures clean { HasCleanDisk (state S.Store store.new.conn) → HasCleanDisk (state S.Store store.old.conn) }
+    ensures opens { OnOk result (StaysOpen (state S.Store store.old.conn) (state S.Store store.new.conn)) }
     ensures stays { Stays (state S.Store store.old.conn) (state S.Store store.new.conn) }
     ensures decided { (m : Queue) (k : List Entry) → Sound m → Means (state S.Store store.old.conn) m k
         → Serves (state S.Store store.new.conn) → AreThere m t job grant.now → grant.now.is_open ≡ true
@@ -260,6 +285,8 @@ fn stands<S: Alter>(
     t: Moment,
 ) -> Result<Reply, Unavailable>
     ensures served { Serves (state S.Store store.new.conn) → Serves (state S.Store store.old.conn) }
+    ensures clean { HasCleanDisk (state S.Store store.new.conn) → HasCleanDisk (state S.Store store.old.conn) }
+    ensures opens { OnOk result (StaysOpen (state S.Store store.old.conn) (state S.Store store.new.conn)) }
     ensures stays { Stays (state S.Store store.old.conn) (state S.Store store.new.conn) }
     ensures told { (m : Queue) (k : List Entry) → Means (state S.Store store.old.conn) m k
         → Serves (state S.Store store.new.conn) → IfOk result (λ reply. reply ≡ accepted_response

@@ -1,11 +1,12 @@
 //! The state of a job, by sendq(5).
 
-ghost use Rattle.std.specs.Prelude.{◌≡◌, List, IfOk};
+ghost use Rattle.std.specs.Prelude.{◌≡◌, List, IfOk, OnOk};
 ghost use Rattle.sqlite.specs.Held.{state};
+ghost use Rattle.sqlite.specs.State.{HasCleanDisk};
 ghost use Rattle.fax_core.specs.Job.{job_of};
 ghost use Rattle.fax_core.specs.Queue.{Queue, Entry};
 ghost use Rattle.fax_core.specs.State.{state as job_state};
-ghost use Rattle.fax_store.specs.Store.{Means, Serves, Stays};
+ghost use Rattle.fax_store.specs.Store.{Means, Serves, Stays, StaysOpen};
 ghost use Rattle.fax_decide.specs.Settings.{settings_of};
 ghost use Rattle.fax_decide.specs.State.{state_with};
 
@@ -44,6 +45,8 @@ pub(crate) fn state_of<S: Alter>(
     t: Moment,
 ) -> Result<u8, Unavailable>
     ensures served { Serves (state S.Store store.new.conn) → Serves (state S.Store store.old.conn) }
+    ensures clean { HasCleanDisk (state S.Store store.new.conn) → HasCleanDisk (state S.Store store.old.conn) }
+    ensures opens { OnOk result (StaysOpen (state S.Store store.old.conn) (state S.Store store.new.conn)) }
     ensures stays { Stays (state S.Store store.old.conn) (state S.Store store.new.conn) }
     ensures found { (m : Queue) (k : List Entry) → Means (state S.Store store.old.conn) m k
         → Serves (state S.Store store.new.conn) → IfOk result (λ found.

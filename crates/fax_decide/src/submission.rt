@@ -1,6 +1,7 @@
 //! Submissions.
 
-ghost use Rattle.std.specs.Prelude.{◌≡◌, ℕ, Bool, Ok, IfOk, IsOk};
+ghost use Rattle.std.specs.Prelude.{◌≡◌, ℕ, Bool, false, Ok, IfOk, IsOk, IsSome};
+ghost use Rattle.fax_ask.specs.Detail.{has_detail};
 ghost use Rattle.fax_ask.specs.Response.{refused_response};
 ghost use Rattle.fax_core.specs.Ageing.{aged};
 ghost use Rattle.fax_core.specs.Decisions.{submit};
@@ -13,7 +14,7 @@ ghost use Rattle.fax_core.specs.Submission.{rule_of};
 ghost use Rattle.fax_decide.specs.Decision.{Decides};
 ghost use Rattle.fax_decide.specs.Settings.{machine_rule, rule_for};
 
-use crate::decision::{Decision, answered, plain, refuse, take};
+use crate::decision::{Decision, answered, refuse, take};
 use crate::effect::Effect;
 use crate::fault::Unavailable;
 use crate::office::Office;
@@ -54,23 +55,32 @@ fn taken(alloc: Global, job: Job) -> Result<Decision, Unavailable>
     take(Effect::NewJob(job), answered(alloc, &answer))
 }
 
-/// The reply to a refused submission: a rejected one is told the notice of its rule.
+/// The reply to a refused submission: a rejected one is told the notice of its rule. Where the job would be no
+/// lawful record, which an order that was read never gives, there is none.
 fn refused(alloc: Global, refusal: Refusal, rule: &Rule) -> Result<Reply, Unavailable>
+    requires notice { refusal ≡ Refusal.Rejected → IsSome rule.now.notice }
+    requires plain { ¬ (refusal ≡ Refusal.Rejected) → has_detail refusal ≡ false }
     ensures reply { (hours : ℕ → Bool) → IfOk result (λ reply.
         reply ≡ refused_response refusal (keys_of_rule refusal (rule_of rule.now hours))) }
     ensures recorded { IsOk result → ¬ (refusal ≡ Refusal.Unavailable) }
+    ensures made { ¬ (refusal ≡ Refusal.Rejected) → ¬ (refusal ≡ Refusal.Unavailable) → IsOk result }
 {
-    if refusal == Refusal::Unavailable {
-        // The job would be no lawful record.
-        return Err(Unavailable);
+    match refusal {
+        Refusal::Unavailable => Err(Unavailable),
+        Refusal::Rejected => rejected(alloc, rule),
+        _ => Ok(Reply::refused(refusal)),
     }
-    match (refusal, &rule.notice) {
-        (Refusal::Rejected, Some(notice)) => {
-            let detail = Detail::Rejected {
-                notice: notice.as_str(),
-            };
-            Ok(Reply::refused_with(alloc, &detail)?)
-        }
-        _ => plain(refusal),
-    }
+}
+
+/// The reply to a rejected submission, with the notice of its rule.
+fn rejected(alloc: Global, rule: &Rule) -> Result<Reply, Unavailable>
+    requires { IsSome rule.now.notice }
+    ensures { (hours : ℕ → Bool) → IfOk result (λ reply.
+        reply ≡ refused_response Refusal.Rejected (keys_of_rule Refusal.Rejected (rule_of rule.now hours))) }
+{
+    let notice = rule.notice.as_ref().unwrap();
+    let detail = Detail::Rejected {
+        notice: notice.as_str(),
+    };
+    Ok(Reply::refused_with(alloc, &detail)?)
 }

@@ -1,7 +1,8 @@
 //! What a client sees of a job.
 
-ghost use Rattle.std.specs.Prelude.{◌≡◌, List, IfOk};
+ghost use Rattle.std.specs.Prelude.{◌≡◌, List, IfOk, OnOk};
 ghost use Rattle.sqlite.specs.Held.{state};
+ghost use Rattle.sqlite.specs.State.{HasCleanDisk};
 ghost use Rattle.fax_ask.specs.Answer.{Shown};
 ghost use Rattle.fax_ask.specs.Response.{accepted_response};
 ghost use Rattle.fax_core.specs.Job.{job_of};
@@ -9,7 +10,7 @@ ghost use Rattle.fax_core.specs.Queue.{Queue, Entry};
 ghost use Rattle.fax_core.specs.State.{state as job_state};
 ghost use Rattle.fax_job.specs.JobLines.{job_lines};
 ghost use Rattle.fax_job.specs.Spelling.{printed};
-ghost use Rattle.fax_store.specs.Store.{Means, Serves, Stays};
+ghost use Rattle.fax_store.specs.Store.{Means, Serves, Stays, StaysOpen};
 ghost use Rattle.fax_decide.specs.Settings.{settings_of};
 ghost use Rattle.fax_decide.specs.View.{view};
 
@@ -33,6 +34,8 @@ pub fn view_job<S: Alter>(
     t: Moment,
 ) -> Result<Reply, Unavailable>
     ensures served { Serves (state S.Store store.new.conn) → Serves (state S.Store store.old.conn) }
+    ensures clean { HasCleanDisk (state S.Store store.new.conn) → HasCleanDisk (state S.Store store.old.conn) }
+    ensures opens { OnOk result (StaysOpen (state S.Store store.old.conn) (state S.Store store.new.conn)) }
     ensures stays { Stays (state S.Store store.old.conn) (state S.Store store.new.conn) }
     ensures viewed { (m : Queue) (k : List Entry) → Means (state S.Store store.old.conn) m k
         → Serves (state S.Store store.new.conn) → IfOk result (λ reply.
@@ -53,6 +56,8 @@ fn shown<S: Alter>(
     t: Moment,
 ) -> Result<Reply, Unavailable>
     ensures served { Serves (state S.Store store.new.conn) → Serves (state S.Store store.old.conn) }
+    ensures clean { HasCleanDisk (state S.Store store.new.conn) → HasCleanDisk (state S.Store store.old.conn) }
+    ensures opens { OnOk result (StaysOpen (state S.Store store.old.conn) (state S.Store store.new.conn)) }
     ensures stays { Stays (state S.Store store.old.conn) (state S.Store store.new.conn) }
     ensures told { (m : Queue) (k : List Entry) → Means (state S.Store store.old.conn) m k
         → Serves (state S.Store store.new.conn) → IfOk result (λ reply.

@@ -16,10 +16,10 @@ use Rattle.fax_core.specs.Reply.{Step, Taken, Refused}
 use Rattle.fax_core.specs.Settings.{Settings}
 use Rattle.fax_core.specs.Sound.{Sound}
 use Rattle.fax_tables.specs.Kept.{entry}
-use Rattle.fax_tables.specs.Tables.{IsAtRest}
+use Rattle.fax_store.specs.Store.{Means}
 use Rattle.fax_once.specs.Arrival.{number_of, said_of}
-use Rattle.fax_once.specs.Laws.{AcceptedOnce, IsKeptOnce, IsSoundWith, StaysSound}
-use Rattle.fax_once.specs.Verdict.{Verdict, IsVerdict, Told, Accepted, denied, kept_with, stepped, is_used, seen_by, IsForBody, IsForRequest, Leaves}
+use Rattle.fax_once.specs.Laws.{AcceptedOnce, IsKeptOnce, IsSoundWith}
+use Rattle.fax_once.specs.Verdict.{Verdict, IsVerdict, Told, Accepted, denied, kept_with, stepped, is_used, seen_by, IsForBody, IsForRequest, Handles, Leaves}
 use Rattle.fax_once.specs.declared.arrival.Arrival.{Arrival}
 use Rattle.fax_once.proofs.VerdictLemmas.{of_entry, one_of}
 
@@ -80,16 +80,17 @@ accepted_once s a m k after kept reply h = once_of s a m k after kept reply (req
 -- ---- what is left
 
 module _ (settings : Settings) (a : Arrival) (m : Queue) (k : List Entry) (reply : Response) (s : State) (sound : Sound m) where
-  unchanged : IsAtRest s m k → IsSoundWith k s
-  unchanged rest = (m, [], subst (IsAtRest s m) (sym (append-nil k)) rest, sound, omega arith)
+  unchanged : Means s m k → IsSoundWith k s
+  unchanged rest = (m, [], subst (Means s m) (sym (append-nil k)) rest, sound, omega arith)
 
   left_by : (v : Verdict) → IsVerdict settings a m k v → Leaves m k reply s v → IsSoundWith k s
   left_by (Told told) is (same, rest) = unchanged rest
-  left_by (Accepted after kept told) is (same, rest, stays) =
+  left_by (Accepted after kept told) is (same, serves, rest, stays) =
       let once = accepted_once settings a m k after kept told is in
       let more : List Entry = entry a.client.now once.0 (said_of a) told.status told.body ∷ [] in
-      (after, more, subst (IsAtRest s after) once.4 rest, stays, omega arith)
+      (after, more, subst (Means s after) once.4 (λ _. rest), stays, omega arith)
 
-pub stays_sound : StaysSound
-stays_sound settings a m k reply s sound (inl (v, is, leaves)) = left_by settings a m k reply s sound v is leaves
-stays_sound settings a m k reply s sound (inr (same, rest)) = unchanged settings a m k reply s sound rest
+  -- whatever an arrival comes to, the store has a sound queue afterwards, and no kept reply is lost
+  pub stays_sound : Handles settings a m k reply s → IsSoundWith k s
+  stays_sound (inl (v, is, leaves)) = left_by v is leaves
+  stays_sound (inr (same, rest)) = unchanged rest

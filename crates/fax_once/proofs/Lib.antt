@@ -3,3 +3,4 @@ pub mod VerdictLemmas
 pub mod RequestLemmas
 pub mod OneVerdictLemmas
 pub mod AcceptedLemmas
+mod GetLemmas

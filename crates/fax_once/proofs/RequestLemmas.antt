@@ -1,6 +1,6 @@
 -- What is answered by the request that method and path name.
 use Rattle.std.proofs.Common.{◌≡◌, inl, ℕ, List, Option, Some, None, Ok, Err, refl, sym, ap, subst}
-use Rattle.std.specs.Prelude.{Result, IfOk, MatchOption, MatchResult}
+use Rattle.std.specs.Prelude.{Result, IfOk, OnOk, MatchOption, MatchResult}
 use Rattle.sqlite.specs.State.{State}
 use Rattle.fax_job.specs.declared.refusal.Refusal.{Refusal}
 use Rattle.fax_job.specs.declared.refusal.Refusal.TheVariants.{NoRoute}
@@ -14,7 +14,7 @@ use Rattle.fax_core.specs.Clock.{decided_at}
 use Rattle.fax_core.specs.Queue.{Queue, Entry}
 use Rattle.fax_core.specs.Reply.{NoKeys}
 use Rattle.fax_core.specs.Settings.{Settings}
-use Rattle.fax_tables.specs.Tables.{IsAtRest}
+use Rattle.fax_store.specs.Store.{Means}
 use Rattle.fax_once.specs.Arrival.{IsSender, number_of}
 use Rattle.fax_once.specs.Ask.{shown_in}
 use Rattle.fax_once.specs.Verdict.{Verdict, Told, denied, asked_for, seen_by, IsForBody, IsForRequest, IsVerdict, LeavesBy, Answers}
@@ -103,8 +103,13 @@ for_sender s a m k (Some r) e ask of is = posted s a m k (denied e) r (unseen r 
 
 -- ---- answers
 
+-- what holds of an answer where the store is open, which it is where there is an answer and the disk is clean
+pub where_open : {A E : Type 0} (r : Result A E) {C S : Type 0} {P : A → Type 0} → OnOk r (C → S) → C → (S → IfOk r P) → IfOk r P
+where_open (Ok a) opens clean so = so (opens clean)
+where_open (Err e) opens clean so = tt
+
 pub view_answers : {E : Type 0} (result : Result Response E) (s : Settings) (a : Arrival) (m : Queue) (k : List Entry) (x : Asked) (job : ℕ) (store : State)
-    → IsAsk a.method a.path.now a.body.now x → shown_in x ≡ Some job → IfOk result (λ reply. reply ≡ view s m (decided_at m.clock a.moment) job) → IsAtRest store m k → Answers s a m k result store
+    → IsAsk a.method a.path.now a.body.now x → shown_in x ≡ Some job → IfOk result (λ reply. reply ≡ view s m (decided_at m.clock a.moment) job) → Means store m k → Answers s a m k result store
 view_answers (Ok reply) s a m k x job store is shown replied rests =
     (Told (view s m (decided_at m.clock a.moment) job), for_view s a m k (request_of a.method a.path.now) job (subst (λ (y : Asked). IsAsk a.method a.path.now a.body.now y) (view_in x job shown) is), (replied, rests))
 view_answers (Err e) s a m k x job store is shown replied rests = rests
@@ -116,13 +121,13 @@ step_answers (Ok reply) s a m k sender x ask store is asked from leaves =
 step_answers (Err e) s a m k sender x ask store is asked from leaves = leaves
 
 pub sender_answers : {E : Type 0} (result : Result Response E) (s : Settings) (a : Arrival) (m : Queue) (k : List Entry) (x : Asked) (ask : machine.Ask) (e : Refusal) (store : State)
-    → IsAsk a.method a.path.now a.body.now x → x ≡ Step ask → number_of a ≡ Err e → IfOk result (λ reply. reply ≡ refused_response e NoKeys) → IsAtRest store m k → Answers s a m k result store
+    → IsAsk a.method a.path.now a.body.now x → x ≡ Step ask → number_of a ≡ Err e → IfOk result (λ reply. reply ≡ refused_response e NoKeys) → Means store m k → Answers s a m k result store
 sender_answers (Ok reply) s a m k x ask e store is asked of replied rests =
     (denied e, for_sender s a m k (request_of a.method a.path.now) e ask of (subst (λ (y : Asked). IsAsk a.method a.path.now a.body.now y) asked is), (replied, rests))
 sender_answers (Err f) s a m k x ask e store is asked of replied rests = rests
 
 -- a reply that is told of an arrival leaves all as it is
 pub told_answers : {E : Type 0} (result : Result Response E) (s : Settings) (a : Arrival) (m : Queue) (k : List Entry) (store : State)
-    → IfOk result (λ reply. IsVerdict s a m k (Told reply)) → IsAtRest store m k → Answers s a m k result store
+    → IfOk result (λ reply. IsVerdict s a m k (Told reply)) → Means store m k → Answers s a m k result store
 told_answers (Ok reply) s a m k store is rests = (Told reply, is, (refl, rests))
 told_answers (Err e) s a m k store is rests = rests

@@ -1,4 +1,11 @@
-use Rattle.std.proofs.Common.{◌≡◌, ℕ, ◌<◌, List, [], ◌∷◌, Bool, true, false, refl, ◌&&◌, zero, suc, arith, lit<}
+-- Which bytes are a client's name, and what is told of those that aren't.
+use Rattle.std.proofs.Common.{◌≡◌, ℕ, ◌<◌, List, [], ◌∷◌, Bool, true, false, refl, sym, ap, ◌&&◌, zero, suc, arith, lit<, Option, Some, None, Err, if◌then◌else◌}
+use Rattle.fax_job.specs.declared.refusal.Refusal.{Refusal}
+use Rattle.fax_job.specs.declared.refusal.Refusal.TheVariants.{BadClient, BadNumber}
+use Rattle.fax_job.specs.Number.{request_number_of}
+use Rattle.fax_ask.specs.Detail.{has_detail}
+use Rattle.fax_once.specs.Arrival.{digits_of, number_of}
+use Rattle.fax_once.specs.declared.arrival.Arrival.{Arrival}
 use Rattle.std.specs.Prelude.{IsUtf8, slice_index}
 use Rattle.std.specs.List.{list_all}
 use Rattle.std.proofs.lemmas.Bool.Decides.{nat_tests}
@@ -24,3 +31,15 @@ name_bytes_ascii (byte ∷ bytes) e (suc i) = name_bytes_ascii bytes (right_true
 -- a name is ASCII, and so it is text
 pub name_is_text : (bytes : List ℕ) → is_name bytes ≡ true → IsUtf8 bytes
 name_is_text bytes e = IsUtf8-from_ascii bytes (name_bytes_ascii bytes (right_true _ _ e))
+
+-- of a client or a number at fault no more is told than the refusal's number and word
+pub sender_plain : (a : Arrival) (e : Refusal) → number_of a ≡ Err e → has_detail e ≡ false
+sender_plain a e h = by (is_name a.client.now) h
+  where
+    of_digits : (found : Option ℕ) → digits_of found ≡ Err e → has_detail e ≡ false
+    of_digits None x = let same : BadNumber ≡ e = cc in ap has_detail (sym same)
+    of_digits (Some number) x = absurd cc
+
+    by : (b : Bool) → (if b then digits_of (request_number_of a.number.now) else Err BadClient) ≡ Err e → has_detail e ≡ false
+    by true x = of_digits (request_number_of a.number.now) x
+    by false x = let same : BadClient ≡ e = cc in ap has_detail (sym same)

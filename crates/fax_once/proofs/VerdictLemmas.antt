@@ -5,7 +5,7 @@ use Rattle.std.specs.List.{list_any}
 use Rattle.std.specs.Str.{bytes_eq}
 use Rattle.std.specs.Cmp.Lexicographic.{bytes_decides}
 use Rattle.std.proofs.lemmas.Bool.{cases_Bool, and_parts, and_from, eqb-true, eq-eqb}
-use Rattle.sqlite.specs.State.{State}
+use Rattle.sqlite.specs.State.{State, HasCleanDisk}
 use Rattle.sqlite_rules.specs.Lists.{Has}
 use Rattle.fax_job.specs.declared.refusal.Refusal.TheVariants.{NumberReused}
 use Rattle.fax_ask.specs.Ask.{IsLawful, Step as Asking}
@@ -70,7 +70,7 @@ new_is s a m k number ask is = rw is refl
 
 -- a number that was used is refused
 pub used_leaves : (s : Settings) (a : Arrival) (m : Queue) (k : List Entry) (sender : Sender) (ask : machine.Ask) (reply : Response) (store : State)
-    → IsSender a sender → is_used sender.client.now sender.number k ≡ true → reply ≡ refused_response NumberReused NoKeys → IsAtRest store m k → Leaves m k reply store (asked_for s a m k sender.number ask)
+    → IsSender a sender → is_used sender.client.now sender.number k ≡ true → reply ≡ refused_response NumberReused NoKeys → Means store m k → Leaves m k reply store (asked_for s a m k sender.number ask)
 used_leaves s a m k sender ask reply store from is replied rests =
     subst (Leaves m k reply store) (sym (used_is s a m k sender.number ask (ap (λ client. is_used client sender.number k) (sym from.client) ∙ is))) (replied, rests)
 
@@ -80,7 +80,7 @@ unused_is s a m k number t ask is now = ap (λ (u : ℕ). stepped a number k (st
 
 -- what is refused is told
 pub refused_leaves : (s : Settings) (a : Arrival) (m : Queue) (k : List Entry) (sender : Sender) (t : ℕ) (ask : machine.Ask) (reply : Response) (store : State)
-    → IsSender a sender → is_used sender.client.now sender.number k ≡ false → t ≡ decided_at m.clock a.moment → IsRefusedBy (step s m t ask) reply → IsAtRest store m k → Leaves m k reply store (asked_for s a m k sender.number ask)
+    → IsSender a sender → is_used sender.client.now sender.number k ≡ false → t ≡ decided_at m.clock a.moment → IsRefusedBy (step s m t ask) reply → Means store m k → Leaves m k reply store (asked_for s a m k sender.number ask)
 refused_leaves s a m k sender t ask reply store from is now by rests =
     subst (Leaves m k reply store)
     (ap (stepped a sender.number k) (sym by.refused) ∙ unused_is s a m k sender.number t ask (ap (λ client. is_used client sender.number k) (sym from.client) ∙ is) now)
@@ -89,11 +89,12 @@ refused_leaves s a m k sender t ask reply store from is now by rests =
 -- what is taken is accepted, and leaves a sound queue
 taken_leaves : (s : Settings) (a : Arrival) (m : Queue) (k : List Entry) (sender : Sender) (t : ℕ) (ask : machine.Ask) (effect : Effect) (reply : Response) (store : State)
     → Sound m → machine.IsLawfulAsk ask → IsSender a sender → is_used sender.client.now sender.number k ≡ false → t ≡ decided_at m.clock a.moment → IsTaken (step s m t ask) m t effect reply
-    → IsAtRest store (accepted t effect m) (k ++ entry sender.client.now sender.number (said_of a) reply.status reply.body ∷ []) → Leaves m k reply store (asked_for s a m k sender.number ask)
-taken_leaves s a m k sender t ask effect reply store sound lawful from is now by rests =
+    → Serves store → IsAtRest store (accepted t effect m) (k ++ entry sender.client.now sender.number (said_of a) reply.status reply.body ∷ []) → Leaves m k reply store (asked_for s a m k sender.number ask)
+taken_leaves s a m k sender t ask effect reply store sound lawful from is now by serves rests =
     subst (Leaves m k reply store)
     (ap (stepped a sender.number k) (sym by.taken) ∙ unused_is s a m k sender.number t ask (ap (λ client. is_used client sender.number k) (sym from.client) ∙ is) now) (
       by.replied,
+      serves,
       subst (λ (r : Response). IsAtRest store (accepted t effect m) (kept_with a sender.number k r)) by.replied
           (subst (λ client. IsAtRest store (accepted t effect m) (k ++ entry client sender.number (said_of a) reply.status reply.body ∷ [])) from.client rests),
       step_sound s m (accepted t effect m) t ask by.told sound lawful by.taken,
@@ -103,13 +104,14 @@ taken_leaves s a m k sender t ask effect reply store sound lawful from is now by
 pub accepted_leaves : {E : Type 0} (result : Result Response E) (s : Settings) (a : Arrival) (m : Queue) (k : List Entry) (sender : Sender) (t : ℕ) (ask : machine.Ask) (effect : Effect) (reply : Response) (old new : State)
     → Sound m → machine.IsLawfulAsk ask → IsSender a sender
     → (Serves old → is_used sender.client.now sender.number k ≡ false) → (Serves old → t ≡ decided_at m.clock a.moment) → (Serves old → IsTaken (step s m t ask) m t effect reply)
-    → OnOk result (Serves new → Serves old)
+    → OnOk result (Serves new → Serves old) → OnOk result (HasCleanDisk new → Serves new)
     → MatchResult result (λ told. (told ≡ reply) × Means new (accepted t effect m) (k ++ entry sender.client.now sender.number (said_of a) reply.status reply.body ∷ [])) (λ _. Means new m k)
-    → Serves new → LeavesBy m k result new (asked_for s a m k sender.number ask)
-accepted_leaves (Ok told) s a m k sender t ask effect reply old new sound lawful from is now by served made serves =
+    → HasCleanDisk new → LeavesBy m k result new (asked_for s a m k sender.number ask)
+accepted_leaves (Ok told) s a m k sender t ask effect reply old new sound lawful from is now by served opens made clean =
+    let serves = opens clean in
     let before = served serves in
-    subst (λ (r : Response). Leaves m k r new (asked_for s a m k sender.number ask)) (sym made.0) (taken_leaves s a m k sender t ask effect reply new sound lawful from (is before) (now before) (by before) (made.1 serves))
-accepted_leaves (Err e) s a m k sender t ask effect reply old new sound lawful from is now by served made serves = made serves
+    subst (λ (r : Response). Leaves m k r new (asked_for s a m k sender.number ask)) (sym made.0) (taken_leaves s a m k sender t ask effect reply new sound lawful from (is before) (now before) (by before) serves (made.1 serves))
+accepted_leaves (Err e) s a m k sender t ask effect reply old new sound lawful from is now by served opens made clean = made
 
 -- what is lawful to ask
 pub lawful_ask : (ask : machine.Ask) → IsLawful (Asking ask) → machine.IsLawfulAsk ask

@@ -5,9 +5,9 @@ use Rattle.fax_ask.specs.Response.{Response}
 use Rattle.fax_core.specs.Queue.{Queue, Entry}
 use Rattle.fax_core.specs.Settings.{Settings}
 use Rattle.fax_core.specs.Sound.{Sound}
-use Rattle.fax_tables.specs.Tables.{IsAtRest}
+use Rattle.fax_store.specs.Store.{Means}
 use Rattle.fax_once.specs.Arrival.{number_of}
-use Rattle.fax_once.specs.Verdict.{Verdict, Accepted, Handles, IsVerdict, is_used, kept_with}
+use Rattle.fax_once.specs.Verdict.{Verdict, Accepted, IsVerdict, is_used, kept_with}
 use Rattle.fax_once.specs.declared.arrival.Arrival.{Arrival}
 
 -- an arrival comes to one thing at most
@@ -27,9 +27,4 @@ AcceptedOnce = (settings : Settings) (a : Arrival) (m : Queue) (k : List Entry) 
 
 -- the store has a sound queue, and these kept replies with one more at most
 abbrev pub IsSoundWith : List Entry → State → Type 0
-IsSoundWith k s = (after : Queue) × (more : List Entry) × IsAtRest s after (k ++ more) × Sound after × (length more ≤ 1)
-
--- whatever an arrival comes to, the store has a sound queue afterwards, and no kept reply is lost
-abbrev pub StaysSound : Type 1
-StaysSound = (settings : Settings) (a : Arrival) (m : Queue) (k : List Entry) (reply : Response) (s : State)
-    → Sound m → Handles settings a m k reply s → IsSoundWith k s
+IsSoundWith k s = (after : Queue) × (more : List Entry) × Means s after (k ++ more) × Sound after × (length more ≤ 1)

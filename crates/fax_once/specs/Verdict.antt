@@ -1,5 +1,5 @@
 -- What comes of an arrival: what is answered to it, and what it makes of the queue and of the kept replies.
-use Rattle.std.specs.Prelude.{◌≡◌, ◌⊎◌, ℕ, ◌==◌, false, Bool, ◌&&◌, List, [], ◌∷◌, ◌++◌, Option, Some, None, Result, MatchOption, MatchResult, if◌then◌else◌}
+use Rattle.std.specs.Prelude.{◌≡◌, ◌⊎◌, ⊤, ℕ, ◌==◌, false, Bool, ◌&&◌, List, [], ◌∷◌, ◌++◌, Option, Some, None, Result, MatchOption, MatchResult, if◌then◌else◌}
 use Rattle.std.specs.List.{list_any}
 use Rattle.std.specs.Str.{bytes_eq}
 use Rattle.sqlite.specs.State.{State}
@@ -20,7 +20,8 @@ use Rattle.fax_core.specs.Reply.{NoKeys, Step, Taken, Refused}
 use Rattle.fax_core.specs.Settings.{Settings}
 use Rattle.fax_core.specs.Sound.{Sound}
 use Rattle.fax_tables.specs.Kept.{entry}
-use Rattle.fax_tables.specs.Tables.{IsAtRest}
+use Rattle.fax_store.specs.Store.{Means, Serves}
+use Rattle.fax_tables.specs.Tables.{IsAtRest, IsKeptStatus}
 use Rattle.fax_once.specs.Arrival.{number_of, said_of}
 use Rattle.fax_decide.specs.Decision.{Decides}
 use Rattle.fax_decide.specs.View.{view}
@@ -87,22 +88,26 @@ IsVerdict s a m k v = MatchOption (request_of a.method a.path.now) (v ≡ denied
 
 -- ---- what is left in the store
 
--- the reply is that of the verdict, and the store has what the verdict leaves: a sound queue
+-- The reply is that of the verdict. What is told changes nothing. What is accepted leaves an open store, with what the verdict leaves: a sound queue.
 abbrev pub Leaves : Queue → List Entry → Response → State → Verdict → Type 0
-Leaves m k reply s (Told told) = (reply ≡ told) × IsAtRest s m k
-Leaves m k reply s (Accepted after kept told) = (reply ≡ told) × IsAtRest s after kept × Sound after
+Leaves m k reply s (Told told) = (reply ≡ told) × Means s m k
+Leaves m k reply s (Accepted after kept told) = (reply ≡ told) × Serves s × IsAtRest s after kept × Sound after
 
 -- the same of a result: where there is none, nothing has changed
 abbrev pub LeavesBy : {E : Type 0} → Queue → List Entry → Result Response E → State → Verdict → Type 0
-LeavesBy m k result s v = MatchResult result (λ reply. Leaves m k reply s v) (λ _. IsAtRest s m k)
+LeavesBy m k result s v = MatchResult result (λ reply. Leaves m k reply s v) (λ _. Means s m k)
 
 -- an arrival is answered by its verdict, or nothing has changed
 abbrev pub Answers : {E : Type 0} → Settings → Arrival → Queue → List Entry → Result Response E → State → Type 0
-Answers settings a m k result s = MatchResult result (λ reply. (v : Verdict) × IsVerdict settings a m k v × Leaves m k reply s v) (λ _. IsAtRest s m k)
+Answers settings a m k result s = MatchResult result (λ reply. (v : Verdict) × IsVerdict settings a m k v × Leaves m k reply s v) (λ _. Means s m k)
 
 -- memory or the store gave out, or rows don't fit together: nothing has changed
 abbrev pub GivesOut : Queue → List Entry → Response → State → Type 0
-GivesOut m k reply s = (reply ≡ refused_response Unavailable NoKeys) × IsAtRest s m k
+GivesOut m k reply s = (reply ≡ refused_response Unavailable NoKeys) × Means s m k
+
+-- there is no reply, or one that refuses
+abbrev pub IsNotAccepted : {E : Type 0} → Result Response E → Type 0
+IsNotAccepted result = MatchResult result (λ reply. ¬ IsKeptStatus reply.status) (λ _. ⊤)
 
 -- an arrival is handled
 abbrev pub Handles : Settings → Arrival → Queue → List Entry → Response → State → Type 0

@@ -1,12 +1,14 @@
 //! Accepting a request: its effect and its kept reply, in one transaction.
 
-ghost use Rattle.std.specs.Prelude.{◌≡◌, ◌++◌, ◌∷◌, [], List, MatchResult, OnOk};
+ghost use Rattle.std.specs.Prelude.{◌≡◌, ◌++◌, ◌∷◌, [], List, MatchResult, OnErr, OnOk};
 ghost use Rattle.sqlite.specs.Held.{state};
+ghost use Rattle.sqlite.specs.State.{HasCleanDisk};
 ghost use Rattle.fax_core.specs.Queue.{Queue, Entry};
 ghost use Rattle.fax_store.specs.Job.{with_expired};
 ghost use Rattle.fax_tables.specs.Kept.{entry};
-ghost use Rattle.fax_store.specs.Store.{Means, Serves};
-ghost use Rattle.fax_store.specs.Work.{ChangesWhere};
+ghost use Rattle.fax_tables.specs.Tables.{IsKeptStatus};
+ghost use Rattle.fax_store.specs.Store.{Means, Serves, Stays};
+ghost use Rattle.fax_store.specs.Work.{ChangesWhere, Holds};
 ghost use Rattle.fax_decide.specs.Effect.{Suits, accepted};
 
 use crate::sender::Sender;
@@ -32,6 +34,10 @@ pub(crate) fn commit_accepted<S: Alter>(
 ) -> Result<(), StoreFault>
     ensures served { OnOk result (Serves (state S.Store store.new.conn)
         → Serves (state S.Store store.old.conn)) }
+    ensures opens { OnOk result (HasCleanDisk (state S.Store store.new.conn)
+        → Serves (state S.Store store.new.conn)) }
+    ensures unchanged { OnErr result (Stays (state S.Store store.old.conn) (state S.Store store.new.conn)) }
+    ensures kept { OnOk result (IsKeptStatus reply.now.status) }
     ensures taken { (m : Queue) (k : List Entry) → Means (state S.Store store.old.conn) m k
         → (Serves (state S.Store store.old.conn) → Suits effect.now (with_expired decided_at m))
         → MatchResult result
@@ -57,6 +63,9 @@ fn write<S: Alter>(
     ensures same_reference { work.new.store.ghost_name ≡ work.old.store.ghost_name }
     ensures served { Serves (state S.Store work.new.store.now.conn)
         → Serves (state S.Store work.old.store.now.conn) }
+    ensures holds { Holds (state S.Store work.old.store.now.conn) work.old.failed
+        (state S.Store work.new.store.now.conn) work.new.failed }
+    ensures kept { OnOk result (IsKeptStatus reply.now.status) }
     ensures changes { ChangesWhere (λ m. Suits effect.now (with_expired decided_at m))
         (state S.Store work.old.store.now.conn) work.old.failed
         (state S.Store work.new.store.now.conn) work.new.failed

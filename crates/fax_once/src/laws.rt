@@ -1,8 +1,7 @@
 //! Laws of the definitions.
 //!
 //! What such a function does is nothing: its contract is the law. The statements stand in
-//! `specs/Laws.antt`. One more is there, `StaysSound`, which speaks of every store and so can be no
-//! clause; it is the lemma `stays_sound`.
+//! `specs/Laws.antt`.
 
 ghost use Rattle.fax_once.specs.Laws.{AcceptedOnce, OneVerdict};
 

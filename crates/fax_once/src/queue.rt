@@ -3,8 +3,9 @@
 //! An accepted request's effect and its kept reply are one transaction of the store, and the reply's
 //! bytes are made before its commit. A refused request changes nothing.
 
-ghost use Rattle.std.specs.Prelude.{◌≡◌, ◌∷◌, ◌++◌, [], List, IfOk, OnOk, MatchResult};
+ghost use Rattle.std.specs.Prelude.{◌≡◌, ◌∷◌, ◌++◌, [], List, IfOk, IsErr, OnOk, MatchResult};
 ghost use Rattle.sqlite.specs.Held.{state};
+ghost use Rattle.sqlite.specs.State.{HasCleanDisk};
 ghost use Rattle.fax_ask.specs.Ask.{IsAsk, IsLawful, IsRefused, Step as Asked, asked};
 ghost use Rattle.fax_core.specs.Ask.{Ask as MachineAsk, IsLawfulAsk};
 ghost use Rattle.fax_ask.specs.Response.{refused_response};
@@ -14,25 +15,26 @@ ghost use Rattle.fax_core.specs.Queue.{Queue as QueueOf, Entry};
 ghost use Rattle.fax_core.specs.Reply.{NoKeys};
 ghost use Rattle.fax_core.specs.Settings.{Settings};
 ghost use Rattle.fax_core.specs.Sound.{Sound};
-ghost use Rattle.fax_job.specs.declared.refusal.BodyFault.{BodyFault};
 ghost use Rattle.fax_store.specs.Job.{with_expired};
 ghost use Rattle.fax_tables.specs.Kept.{entry};
 ghost use Rattle.fax_store.specs.Store.{Means, Serves, Stays};
+ghost use Rattle.fax_tables.specs.Tables.{IsKeptStatus};
+ghost use Rattle.fax_once.specs.Laws.{IsSoundWith};
 ghost use Rattle.fax_decide.specs.Effect.{Suits, accepted};
 ghost use Rattle.fax_decide.specs.Settings.{settings_of};
 ghost use Rattle.fax_decide.specs.View.{view};
-ghost use Rattle.fax_once.specs.Arrival.{IsSender, said_of};
+ghost use Rattle.fax_once.specs.Arrival.{IsSender, number_of, said_of};
 ghost use Rattle.fax_once.specs.Ask.{shown_in};
-ghost use Rattle.fax_once.specs.Verdict.{Answers, Handles, IsDecided, IsVerdict, LeavesBy, Told, asked_for, is_used};
+ghost use Rattle.fax_once.specs.Verdict.{Answers, Handles, IsDecided, IsNotAccepted, IsVerdict, LeavesBy, Told, asked_for, is_used};
 ghost use Rattle.fax_once.specs.declared.arrival.Arrival.{Arrival as ArrivalOf};
 
 use crate::acceptance::commit_accepted;
 use crate::arrival::Arrival;
 use crate::sender::Sender;
 use fax_ask::{Ask, Detail, Reply, Routes};
-use fax_decide::{Decision, Effect, Office, Unavailable, decide, plain, view_job};
+use fax_decide::{Decision, Effect, Office, Unavailable, decide, view_job};
 use fax_dest::{Controls, Setup};
-use fax_job::{Moment, Refusal};
+use fax_job::{BodyFault, Moment, Refusal};
 use fax_store::{Meta, Store, StoreFault};
 use sqlite::Alter;
 use std::alloc::{AllocError, Global};
@@ -75,9 +77,17 @@ impl<S: Alter> Queue<S> {
         ensures office { self.new.office ≡ self.old.office }
         ensures handled { (m : QueueOf) (k : List Entry) → Sound m
             → Means (state S.Store self.old.store.conn) m k
-            → Serves (state S.Store self.new.store.conn)
+            → HasCleanDisk (state S.Store self.new.store.conn)
             → Handles (settings_of self.old.office.setup self.old.office.controls) arrival.now m k result
             (state S.Store self.new.store.conn) }
+        ensures sound { (m : QueueOf) (k : List Entry) → Sound m
+            → Means (state S.Store self.old.store.conn) m k
+            → HasCleanDisk (state S.Store self.new.store.conn) → IsSoundWith k (state S.Store self.new.store.conn) }
+        // Whatever the rows say, a refusal changes nothing, and a GET doesn't either.
+        ensures refused { ¬ IsKeptStatus result.status
+            → Stays (state S.Store self.old.store.conn) (state S.Store self.new.store.conn) }
+        ensures seen { arrival.now.method ≡ Get
+            → Stays (state S.Store self.old.store.conn) (state S.Store self.new.store.conn) }
     {
         match self.answer(alloc, arrival) {
             Ok(reply) => reply,
@@ -88,9 +98,10 @@ impl<S: Alter> Queue<S> {
     /// Answers `GET` of that path at that moment, as [`Queue::handle`] does. Nothing changes.
     pub fn view(&mut self, alloc: Global, path: &str, moment: Moment) -> Reply
         ensures office { self.new.office ≡ self.old.office }
+        ensures stays { Stays (state S.Store self.old.store.conn) (state S.Store self.new.store.conn) }
         ensures viewed { (m : QueueOf) (k : List Entry) → Sound m
             → Means (state S.Store self.old.store.conn) m k
-            → Serves (state S.Store self.new.store.conn)
+            → HasCleanDisk (state S.Store self.new.store.conn)
             → (a : ArrivalOf) × (a.method ≡ Get) × (a.path.now ≡ path.now) × (a.moment ≡ moment)
             × Handles (settings_of self.old.office.setup self.old.office.controls) a m k result
             (state S.Store self.new.store.conn) }
@@ -101,9 +112,13 @@ impl<S: Alter> Queue<S> {
 
     fn answer(&mut self, alloc: Global, arrival: &Arrival<'_>) -> Result<Reply, Unavailable>
         ensures office { self.new.office ≡ self.old.office }
+        ensures unchanged { IsNotAccepted result
+            → Stays (state S.Store self.old.store.conn) (state S.Store self.new.store.conn) }
+        ensures seen { arrival.now.method ≡ Get
+            → Stays (state S.Store self.old.store.conn) (state S.Store self.new.store.conn) }
         ensures answered { (m : QueueOf) (k : List Entry) → Sound m
             → Means (state S.Store self.old.store.conn) m k
-            → Serves (state S.Store self.new.store.conn)
+            → HasCleanDisk (state S.Store self.new.store.conn)
             → Answers (settings_of self.old.office.setup self.old.office.controls) arrival.now m k result
             (state S.Store self.new.store.conn) }
     {
@@ -123,9 +138,14 @@ impl<S: Alter> Queue<S> {
         ask: Ask,
     ) -> Result<Reply, Unavailable>
         ensures office { self.new.office ≡ self.old.office }
+        ensures unchanged { IsNotAccepted result
+            → Stays (state S.Store self.old.store.conn) (state S.Store self.new.store.conn) }
+        ensures seen { arrival.now.method ≡ Get
+            → IsAsk arrival.now.method arrival.now.path.now arrival.now.body.now (asked ask)
+            → Stays (state S.Store self.old.store.conn) (state S.Store self.new.store.conn) }
         ensures answered { (m : QueueOf) (k : List Entry) → Sound m
             → Means (state S.Store self.old.store.conn) m k
-            → Serves (state S.Store self.new.store.conn)
+            → HasCleanDisk (state S.Store self.new.store.conn)
             → IsAsk arrival.now.method arrival.now.path.now arrival.now.body.now (asked ask)
             → IsLawful (asked ask)
             → Answers (settings_of self.old.office.setup self.old.office.controls) arrival.now m k result
@@ -135,7 +155,7 @@ impl<S: Alter> Queue<S> {
             Some(job) => self.show(alloc, job, arrival.moment),
             None => match Sender::of(arrival) {
                 Ok(sender) => self.step(alloc, arrival, &sender, ask),
-                Err(refusal) => plain(refusal),
+                Err(refusal) => Ok(Reply::refused(refusal)),
             },
         }
     }
@@ -145,6 +165,8 @@ impl<S: Alter> Queue<S> {
         ensures office { self.new.office ≡ self.old.office }
         ensures served { Serves (state S.Store self.new.store.conn)
             → Serves (state S.Store self.old.store.conn) }
+        ensures opens { OnOk result (HasCleanDisk (state S.Store self.new.store.conn)
+            → Serves (state S.Store self.new.store.conn)) }
         ensures stays { Stays (state S.Store self.old.store.conn) (state S.Store self.new.store.conn) }
         ensures viewed { (m : QueueOf) (k : List Entry) → Means (state S.Store self.old.store.conn) m k
             → Serves (state S.Store self.new.store.conn) → IfOk result (λ reply. reply
@@ -164,8 +186,10 @@ impl<S: Alter> Queue<S> {
         ask: Ask,
     ) -> Result<Reply, Unavailable>
         ensures office { self.new.office ≡ self.old.office }
+        ensures unchanged { IsNotAccepted result
+            → Stays (state S.Store self.old.store.conn) (state S.Store self.new.store.conn) }
         ensures stepped { (m : QueueOf) (k : List Entry) (want : MachineAsk) → Sound m
-            → Means (state S.Store self.old.store.conn) m k → Serves (state S.Store self.new.store.conn)
+            → Means (state S.Store self.old.store.conn) m k → HasCleanDisk (state S.Store self.new.store.conn)
             → IsSender arrival.now sender.now → asked ask ≡ Asked want → IsLawful (asked ask)
             → LeavesBy m k result (state S.Store self.new.store.conn)
             (asked_for (settings_of self.old.office.setup self.old.office.controls) arrival.now m k
@@ -191,9 +215,12 @@ impl<S: Alter> Queue<S> {
         decision: Decision,
     ) -> Result<Reply, Unavailable>
         ensures office { self.new.office ≡ self.old.office }
+        ensures unchanged { IsNotAccepted result
+            → Stays (state S.Store self.old.store.conn) (state S.Store self.new.store.conn) }
         ensures settled { (s : Settings) (m : QueueOf) (k : List Entry) (want : MachineAsk) → Sound m
-            → Means (state S.Store self.old.store.conn) m k → Serves (state S.Store self.new.store.conn)
-            → IsSender arrival.now sender.now → IsLawfulAsk want
+            → Means (state S.Store self.old.store.conn) m k
+            → (HasCleanDisk (state S.Store self.old.store.conn) → Serves (state S.Store self.old.store.conn))
+            → HasCleanDisk (state S.Store self.new.store.conn) → IsSender arrival.now sender.now → IsLawfulAsk want
             → (Serves (state S.Store self.old.store.conn)
             → IsDecided s arrival.now m k sender.now t want decision)
             → LeavesBy m k result (state S.Store self.new.store.conn)
@@ -220,6 +247,10 @@ impl<S: Alter> Queue<S> {
         ensures office { self.new.office ≡ self.old.office }
         ensures served { OnOk result (Serves (state S.Store self.new.store.conn)
             → Serves (state S.Store self.old.store.conn)) }
+        ensures opens { OnOk result (HasCleanDisk (state S.Store self.new.store.conn)
+            → Serves (state S.Store self.new.store.conn)) }
+        ensures unchanged { IsNotAccepted result
+            → Stays (state S.Store self.old.store.conn) (state S.Store self.new.store.conn) }
         ensures accepted { (m : QueueOf) (k : List Entry) → Means (state S.Store self.old.store.conn) m k
             → (Serves (state S.Store self.old.store.conn) → Suits effect.now (with_expired t m))
             → MatchResult result
@@ -236,6 +267,7 @@ impl<S: Alter> Queue<S> {
 /// Whether the sender's number was accepted before.
 fn is_used<S: Alter>(store: &mut Store<S>, sender: &Sender<'_>) -> Result<bool, StoreFault>
     ensures served { Serves (state S.Store store.new.conn) → Serves (state S.Store store.old.conn) }
+    ensures opens { OnOk result (HasCleanDisk (state S.Store store.new.conn) → Serves (state S.Store store.new.conn)) }
     ensures stays { Stays (state S.Store store.old.conn) (state S.Store store.new.conn) }
     ensures found { (m : QueueOf) (k : List Entry) → Means (state S.Store store.old.conn) m k
         → Serves (state S.Store store.new.conn)
@@ -262,29 +294,31 @@ fn shown_job(ask: &Ask) -> Option<u64>
     }
 }
 
-/// The reply to an arrival that asks for nothing: the client and the number are looked at before the
-/// body.
+/// The reply to an arrival that asks for nothing: a path that names no request comes first, and then the client, the
+/// number and the body. There is none where memory ran out as the body was read.
 fn refuse_ask(alloc: Global, arrival: &Arrival<'_>, refusal: Refusal) -> Result<Reply, Unavailable>
-    ensures { (s : Settings) (m : QueueOf) (k : List Entry)
+    ensures verdict { (s : Settings) (m : QueueOf) (k : List Entry)
         → IsRefused arrival.now.method arrival.now.path.now arrival.now.body.now refusal
         → IfOk result (λ reply. IsVerdict s arrival.now m k (Told reply)) }
+    ensures cause { IsRefused arrival.now.method arrival.now.path.now arrival.now.body.now refusal
+        → IsErr result → refusal ≡ Refusal.Unavailable }
 {
-    if refusal == Refusal::NoRoute {
-        return Ok(Reply::refused(Refusal::NoRoute));
-    }
-    match Sender::of(arrival) {
-        Ok(_) => refuse_body(alloc, refusal),
-        Err(refusal) => plain(refusal),
+    match refusal {
+        Refusal::NoRoute => Ok(Reply::refused(Refusal::NoRoute)),
+        Refusal::BadBody(fault) => Ok(refuse_body(alloc, arrival, fault)),
+        _ => Err(Unavailable),
     }
 }
 
-/// The reply to a body at fault, with the kind of the fault and its line.
-fn refuse_body(alloc: Global, refusal: Refusal) -> Result<Reply, Unavailable>
-    ensures { IfOk result (λ reply. (fault : BodyFault) × (refusal ≡ Refusal.BadBody fault)
-        × (reply ≡ refused_response (Refusal.BadBody fault) NoKeys)) }
+/// The reply to a body at fault, with the kind of the fault and its line, unless the client or the number is at fault.
+/// It takes no memory.
+fn refuse_body(alloc: Global, arrival: &Arrival<'_>, fault: BodyFault) -> Reply
+    ensures { MatchResult (number_of arrival.now)
+        (λ _. result ≡ refused_response (Refusal.BadBody fault) NoKeys)
+        (λ refusal. result ≡ refused_response refusal NoKeys) }
 {
-    match refusal {
-        Refusal::BadBody(fault) => Ok(Reply::refused_with(alloc, &Detail::Body(fault))?),
-        _ => Err(Unavailable),
+    match Sender::of(arrival) {
+        Ok(_) => Reply::refused_with(alloc, &Detail::Body(fault)).unwrap(),
+        Err(refusal) => Reply::refused(refusal),
     }
 }

@@ -147,6 +147,3 @@ module _ (dial : List ℕ) where
         ∙ sym (sum_mapped count (drop 1) (old.now.trees holds_tree)) ∙ sum_by-IsPermutation count (map hold_columns held) (map (drop 1) (old.now.trees holds_tree)) means.holds ∙ sum_mapped count hold_columns held
         ∙ sum_same (λ g. count (hold_columns g)) (λ g. if is_of_number dial (job_numbered g.job m) then 1 else 0) held (count_held m (subst IsTable means.jobs means.ordered.jobs.rise))
         ∙ counted (λ g. is_of_number dial (job_numbered g.job m)) held
-
-    pub calls_unchanged : (rows : List Row) → Shown SELECT_CALLS.now params old new rows → IsUnchanged old new
-    calls_unchanged rows h = shown_keeps old new SELECT_CALLS.now params (subst (λ s. IsPlain (understood s SELECT_CALLS.now)) (sym means.schema) select_calls.plain) rows h

@@ -28,6 +28,3 @@ module _ (n : ℕ) where
         numbered_found grant_row (λ (g : Grant). g.number) (λ g. refl) n (passes grants_tree grant_tests grant_project params) (λ r. refl) m.grants (old.now.trees grants_tree) h.0 means.grants means.ordered.grants.rise (show grants_tree grant_tests grant_project params)
         (answers grants_tree grant_tests grant_project params old.now (old.now.trees grants_tree) refl [] h.0 (reads_as SELECT_GRANT.now params old new six_tables means.schema _ select_grant.command select_grant.plain select_grant.unlisted h.0 h.1))
         found h.2
-
-    pub grant_unchanged : (found : Option Row) → FindsRow SELECT_GRANT.now params old new found → IsUnchanged old new
-    grant_unchanged found h = shown_keeps old new SELECT_GRANT.now params (subst (λ s. IsPlain (understood s SELECT_GRANT.now)) (sym means.schema) select_grant.plain) h.0 h.1

@@ -143,6 +143,3 @@ module _ (modem : List ℕ) where
             let its = row_of hold_columns (old.now.trees holds_tree) (open_grants m) means.holds one.0 held.0 in
             let same = one_of_modem old.now means.schema means.sound means.ordered.holds modem its.0 shown.0 its.1 shown.1 (modem_of its.0 one.0 its.2 held.1) (modem_of shown.0 it.0 it.2 on) in
             ap Some (shown.3 ∙ shown_as shown.0 one.0 (ap (drop 1) same ∙ its.2)) ∙ sym (ap (option_map hold_shown) one.1)
-
-    pub hold_unchanged : (found : Option Row) → FindsRow SELECT_HOLD.now params old new found → IsUnchanged old new
-    hold_unchanged found h = shown_keeps old new SELECT_HOLD.now params (subst (λ s. IsPlain (understood s SELECT_HOLD.now)) (sym means.schema) select_hold.plain) h.0 h.1

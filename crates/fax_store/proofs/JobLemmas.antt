@@ -48,9 +48,6 @@ module _ (n : ℕ) where
         (answers jobs_tree job_tests job_project params old.now (old.now.trees jobs_tree) refl [] h.0 (reads_as SELECT_JOB.now params old new six_tables means.schema _ select_job.command select_job.plain select_job.unlisted h.0 h.1))
         found h.2
 
-    pub job_unchanged : (found : Option Row) → FindsRow SELECT_JOB.now params old new found → IsUnchanged old new
-    job_unchanged found h = shown_keeps old new SELECT_JOB.now params (subst (λ s. IsPlain (understood s SELECT_JOB.now)) (sym means.schema) select_job.plain) h.0 h.1
-
 -- ---- one more row
 
 -- a record of code is what its job is written as

@@ -44,9 +44,6 @@ module _ (old new : State) (m : Queue) (k : List Entry) (means : TablesMean old.
       let same = answers meta_tree meta_tests meta_project [] old.now (meta_row m ∷ []) means.meta [] h.0 read in
       only_found (meta_shown m) h.0 found (only_row meta_tree meta_tests meta_project [] (meta_row m) h.0 (meta_passes m []) same) h.2
 
-  pub meta_unchanged : (found : Option Row) → FindsRow SELECT_META.now [] old new found → IsUnchanged old new
-  meta_unchanged found h = shown_keeps old new SELECT_META.now [] (subst (λ s. IsPlain (understood s SELECT_META.now)) (sym means.schema) select_meta.plain) h.0 h.1
-
   module _ (clock next_job next_grant : ℕ) where
     abbrev pub params : Row
     params = number clock ∷ number next_job ∷ number next_grant ∷ []

@@ -69,9 +69,6 @@ module _ (modem : List ℕ) where
             let it = record_of down_columns (old.now.trees down_tree) m.down same shown.0 shown.1 in
             sym (some_from (bytes_eq modem) m.down it.0 it.1 (sym (is_asked down_project shown.0 it.0 it.2) ∙ shown.2))
 
-    pub mark_unchanged : (found : Option Row) → FindsRow SELECT_DOWN.now params old new found → IsUnchanged old new
-    mark_unchanged found h = shown_keeps old new SELECT_DOWN.now params (subst (λ s. IsPlain (understood s SELECT_DOWN.now)) (sym means.schema) select_down.plain) h.0 h.1
-
     pub mark_cleared : HasRun DELETE_DOWN.now params old new → TablesMean new.now (with_mark modem false m) k × KeepsOthers six_tables down_tree old new
     mark_cleared h =
         let ran = runs_as DELETE_DOWN.now params old new six_tables means.schema _ delete_down.is delete_down.plain h.0 h.1 in

@@ -103,9 +103,6 @@ module _ (client : List ℕ) (n : ℕ) where
             let of = is_of shown.0 it.0 it.2 shown.2 in
             (it.0, it.1, of.0, shown.3 ∙ of.1)
 
-    pub reply_unchanged : (found : Option Row) → FindsRow SELECT_REPLY.now params old new found → IsUnchanged old new
-    reply_unchanged found h = shown_keeps old new SELECT_REPLY.now params (subst (λ s. IsPlain (understood s SELECT_REPLY.now)) (sym means.schema) select_reply.plain) h.0 h.1
-
 pub lawful_of : (k : List Entry) (e : Entry) → All IsLawfulEntry k → Has k e → IsLawfulEntry e
 lawful_of [] e all has = absurd has
 lawful_of (x ∷ xs) e all (inl is) = subst IsLawfulEntry (sym is) (all 0 x (omega arith))

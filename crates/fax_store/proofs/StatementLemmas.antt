@@ -1,24 +1,43 @@
 -- What any query or statement leaves of a database.
-use Rattle.std.proofs.Common.{inl, inr, ℕ, false, List, Option, Some, None, IsTrue, Ok, subst}
+use Rattle.std.proofs.Common.{◌≡◌, inl, inr, ℕ, false, List, Option, Some, None, IsTrue, Ok, Err, Result, refl, sym, ap, subst, slice_get, ◌∙◌, if◌then◌else◌}
+use Rattle.sqlite.specs.Does.{AtPlace, Does, OnRows, Tally}
+use Rattle.sqlite.specs.Effect.{Database}
 use Rattle.sqlite.specs.Order.{Row}
 use Rattle.sqlite.specs.declared.error.Error.{Error}
 use Rattle.sqlite_resolve.specs.declared.compiled.Compiled.{Compiled}
 use Rattle.sqlite_schema.specs.declared.command.Returning.{Returning}
 use Rattle.sqlite.specs.Listing.{understood}
-use Rattle.sqlite.specs.State.{State, IsNotRun, Shown, ShowsRows, FailsToQuery, FailsToShow, IsUnchanged, Runs, shows_rows, ExecutesIn, Executes}
+use Rattle.sqlite.specs.Rows.{Task}
+use Rattle.sqlite_schema.specs.declared.schema.Table.{Table}
+use Rattle.sqlite.specs.State.{State, IsNotRun, Shown, ShowsRows, FailsToQuery, FailsToShow, IsUnchanged, Runs, Shows, Writes, mode_of, shows_rows, text_of, ExecutesIn, Executes}
 use Rattle.sqlite.specs.Command.{Command}
 use Rattle.sqlite.specs.Command.TheVariants.{Select, Insert, InsertOr, Update, Delete, CreateTable, CreateIndex, DropTable, DropIndex, Rows, Begin, Commit, Rollback, Savepoint, Release, RollbackTo, Nothing, CreateView, DropView}
 use Rattle.std.proofs.lemmas.Bool.{cases_Bool}
 use Rattle.sqlite.specs.Clock.{timed}
-use Rattle.sqlite.proofs.Callers.{IsPlain}
-use Rattle.fax_store.specs.Store.{LeavesCommit}
+use Rattle.sqlite.proofs.Callers.{IsPlain, command_of}
+use Rattle.fax_store.specs.Store.{EditsRows, HasTables, IsEdit, IsEditText, LeavesCommit}
+use Rattle.fax_tables.specs.Schema.{six_tables}
+use Rattle.fax_tables.proofs.StatementForms.{Commands}
+use Rattle.fax_tables.proofs.WriteLemmas.{went}
+use Rattle.sqlite_resolve.specs.declared.error.CompileError.{CompileError}
+
+same_value : {B E : Type 0} {a b : B} → ◌≡◌ {A = Result B E} (Ok a) (Ok b) → a ≡ b
+same_value e = cc
 
 module _ (old new : State) (sql : List ℕ) (params : Row) where
   shows_open : (c : Compiled) (full : Row) (rows : List Row) (returning : Option Returning) → ShowsRows old new sql c full rows returning → IsTrue old.is_open
   shows_open c full rows None h = h.3.0.was_open
   shows_open c full rows (Some what) h = h.1.shown.was_open
 
-  -- the database was open where a query shows its rows
+  shows_still : (c : Compiled) (full : Row) (rows : List Row) (returning : Option Returning) → ShowsRows old new sql c full rows returning → IsTrue new.is_open
+  shows_still c full rows None h = h.3.0.is_open
+  shows_still c full rows (Some what) h = h.1.shown.is_open
+
+  -- the database was open where a query shows its rows, and is
+  pub shown_still : (rows : List Row) → Shown sql params old new rows → IsTrue new.is_open
+  unfolding Shown
+  shown_still rows h = shows_still h.0 _ rows h.0.returning h.2
+
   pub shown_open : (rows : List Row) → Shown sql params old new rows → IsTrue old.is_open
   unfolding Shown
   shown_open rows h = shows_open h.0 _ rows h.0.returning h.2
@@ -75,3 +94,50 @@ module _ (old new : State) (sql : List ℕ) (params : Row) where
     | inl shows ↦ absurd (let e = (rw shows at h.2).0 in cc)
     | inr runs ↦ runs_open old new sql (timed params h.0.formats h.1.now) h.0.returning h.0.command _ count (rw runs at h.2) is_open
   ]
+
+  -- the database is open where a statement that changes rows has run, its tables are as before, and nothing is committed inside a work
+  module _ (tables : HasTables old) (edit : IsEditText sql) where
+    schema_kept : (c : Compiled) (text : List ℕ) (full : Row) (tally : Tally) (after : Database) → IsEdit c.command → Does old.step_limit (mode_of old) full old.now text None c.command (Ok (tally, after)) → after.schema ≡ old.now.schema
+    schema_kept c text full tally after is does = by_command c.command is does
+      where
+        on_table : (task : Table → Task) (command : Command) (found : Option Table) → ((t : Table) → (task t).schema ≡ old.now.schema)
+            → AtPlace (λ t. OnRows (task t) (mode_of old) None command old.now.trees) found (Ok (tally, after)) → after.schema ≡ old.now.schema
+        on_table task command None same h = absurd cc
+        on_table task command (Some t) same h =
+            let done = went h in
+            ap (λ (p : Tally × Database). p.1.schema) (same_value (went (went done.2).2).2) ∙ same t
+
+        task_of : Table → Task
+        task_of t = record { limit = old.step_limit; keys = (mode_of old).keys; schema = old.now.schema; table = t; params = full }
+
+        by_command : (command : Command) → IsEdit command → Does old.step_limit (mode_of old) full old.now text None command (Ok (tally, after)) → after.schema ≡ old.now.schema
+        by_command (Insert at from) is h = on_table task_of (Insert at from) (slice_get old.now.schema.tables at) (λ t. refl) h
+        by_command (Update at q) is h = on_table task_of (Update at q) (slice_get old.now.schema.tables at) (λ t. refl) h
+        by_command (Delete at q) is h = on_table task_of (Delete at q) (slice_get old.now.schema.tables at) (λ t. refl) h
+        by_command _ is h = absurd is
+
+    writes_of : (command : Command) (text : List ℕ) (full : Row) (count : ℕ) → IsEdit command → Runs old new None command text full count → Writes old new None command text full count
+    writes_of (Insert at from) text full count is h = h
+    writes_of (Update at q) text full count is h = h
+    writes_of (Delete at q) text full count is h = h
+    writes_of _ text full count is h = absurd is
+
+    pub edit_shows : (count : ℕ) → Executes sql params old new (Ok count) → (new.now.schema ≡ old.now.schema) × Shows old new new.now (if old.in_transaction then old.committed else new.now) old.in_transaction
+    unfolding ExecutesIn
+    edit_shows count h =
+        let is : EditsRows (Ok h.0) = subst EditsRows (sym (ap (λ s. understood s sql) tables) ∙ h.1.is) edit in
+        elim (cases_Bool (shows_rows false h.0)) [
+          | inl shows ↦ absurd (let e = (rw shows at h.2).0 in cc)
+          | inr runs ↦
+              (let ran = subst (λ r. Runs old new r h.0.command (text_of sql h.0) (timed params h.0.formats h.1.now) count) is.1 (rw runs at h.2) in
+              let w = writes_of h.0.command (text_of sql h.0) (timed params h.0.formats h.1.now) count is.0 ran in
+              (schema_kept h.0 (text_of sql h.0) (timed params h.0.formats h.1.now) w.tally new.now is.0 w.changed, w.shown))
+        ]
+
+-- a text that is known as a command that changes rows
+pub edit_text : (sql : List ℕ) (command : Command) → IsEdit command → Commands sql command → IsEditText sql
+edit_text sql command is text = by (understood six_tables sql) text.is text.plain
+  where
+    by : (known : Result Compiled CompileError) → command_of known ≡ command → IsPlain known → EditsRows known
+    by (Ok c) e plain = (subst IsEdit (sym e) is, plain.0)
+    by (Err fault) e plain = absurd plain

@@ -1,5 +1,5 @@
 -- What a store means across the calls of its connection.
-use Rattle.std.proofs.Common.{◌≡◌, ◌⊎◌, inl, inr, ◌≤◌, ℕ, List, [], false, IsTrue, Ok, Err, Result, refl, sym, subst, ◌∙◌, arith}
+use Rattle.std.proofs.Common.{◌≡◌, ◌⊎◌, inl, inr, ◌≤◌, ℕ, List, [], false, IsTrue, Ok, Err, Result, refl, sym, subst, ap, ◌∙◌, arith}
 use Rattle.sqlite.specs.Effect.{Database}
 use Rattle.sqlite.specs.View.{doubt}
 use Rattle.sqlite.specs.declared.error.Error.{Error}
@@ -11,10 +11,11 @@ use Rattle.sqlite.proofs.Callers.{memory_is_clean}
 use Rattle.sqlite.proofs.InsideLemmas.{fails_whole}
 use Rattle.fax_store.specs.declared.store.TheConstants.{BEGIN, COMMIT, ROLLBACK}
 use Rattle.fax_core.specs.Queue.{Queue, Entry}
-use Rattle.fax_tables.specs.Tables.{TablesMean}
-use Rattle.fax_store.specs.Store.{Serves, Stays, GoesBack}
-use Rattle.fax_store.specs.Work.{Begins, Commits, Undoes}
+use Rattle.fax_tables.specs.Tables.{TablesMean, IsAtRest}
+use Rattle.fax_store.specs.Store.{Serves, Means, HasRows, Stays, GoesBack}
+use Rattle.fax_store.specs.Work.{Begins, BeginsAt, Commits, Forgets, Undoes}
 use Rattle.fax_store.proofs.ControlLemmas.{begins, commits, commit_fails, rolls_back}
+use Rattle.fax_store.proofs.StatementLemmas.{left_open, run_open}
 
 -- the tables mean the same in an equal database
 pub same_tables : {a b : Database} (m : Queue) (k : List Entry) → b ≡ a → TablesMean a m k → TablesMean b m k
@@ -24,35 +25,42 @@ same_tables m k e h = subst (λ d. TablesMean d m k) (sym e) h
 pub memory_serves : (c : Held MemStore) → Serves (state over_memory c)
 memory_serves c = record { clean = memory_is_clean c; is_open = refl }
 
+-- rows that are known, and what they mean
+pub at_rest_of : (s : State) (db : Database) (m : Queue) (k : List Entry) → HasRows s db → TablesMean db m k → IsAtRest s m k
+at_rest_of s db m k rows means = record { autocommit = rows.autocommit; settled = rows.now ∙ sym rows.committed; means = same_tables m k rows.now means }
+
+-- where the rows stay, so does what they mean
+pub means_stay : {old new : State} → (Serves new → Serves old) → Stays old new → (m : Queue) (k : List Entry) → Means old m k → Means new m k
+means_stay {old} {new} served stays m k means s =
+    let was = means (served s) in
+    at_rest_of new old.now m k (stays old.now was.means.schema (λ at. let here = means at in record { autocommit = here.autocommit; now = refl; committed = sym here.settled }) s) was.means
+
 module _ (old new : State) (kept : doubt old.is_clean ≤ doubt new.is_clean) where
+  -- the disk was clean, where it still is
+  pub cleaner : HasCleanDisk new → HasCleanDisk old
+  cleaner now = omega arith
+
   -- the old state served, where the new one does and was opened then
   pub served : Serves new → IsTrue old.is_open → Serves old
-  served s is_open = let now = s.clean in record { clean = omega arith; is_open = is_open }
+  served s is_open = record { clean = cleaner s.clean; is_open = is_open }
 
   pub rests : (HasCleanDisk new → IsUnchanged old new ⊎ IsRolledBack old new) → Stays old new
-  rests left m k means s = elim (left s.clean) [
+  rests left db six has s = elim (left s.clean) [
     | inl same ↦
-        (let was = means (served s same.0.was_open) in
-        record {
-          autocommit = same.0.mode ∙ was.autocommit;
-          settled = same.0.now_is ∙ was.settled ∙ sym same.0.committed_is;
-          means = same_tables m k same.0.now_is was.means;
-        })
+        (let was = has (served s same.0.was_open) in
+        record { autocommit = same.0.mode ∙ was.autocommit; now = same.0.now_is ∙ was.now; committed = same.0.committed_is ∙ was.committed })
     | inr undone ↦
-        (let was = means (served s (undone.was_open s.is_open)) in
+        (let was = has (served s (undone.was_open s.is_open)) in
         let back = undone.undone s.is_open in
-        record { autocommit = undone.autocommit; settled = back.0 ∙ sym back.1; means = same_tables m k (back.0 ∙ sym was.settled) was.means })
+        record { autocommit = undone.autocommit; now = back.0 ∙ was.committed; committed = back.1 ∙ was.committed })
   ]
 
   pub goes_back : (HasCleanDisk new → IsRolledBack old new) → GoesBack old new
-  goes_back left m k means s =
+  goes_back left db is s =
       let undone = left s.clean in
       let back = undone.undone s.is_open in
-      record {
-        autocommit = undone.autocommit;
-        settled = back.0 ∙ sym back.1;
-        means = same_tables m k back.0 (means (served s (undone.was_open s.is_open)));
-      }
+      let was = is (served s (undone.was_open s.is_open)) in
+      record { autocommit = undone.autocommit; now = back.0 ∙ was; committed = back.1 ∙ was }
 
   pub begun : (n : ℕ) → (HasCleanDisk new → Executes BEGIN.now [] old new (Ok n)) → Begins old new false
   begun n ran m k means s =
@@ -62,6 +70,12 @@ module _ (old new : State) (kept : doubt old.is_clean ≤ doubt new.is_clean) wh
         began = same_tables m k (began.committed_is ∙ sym was.settled) was.means;
         goes_on = λ _. record { inside = began.mode; means = same_tables m k began.now_is was.means };
       }
+
+  pub begun_at : (n : ℕ) → (HasCleanDisk new → Executes BEGIN.now [] old new (Ok n)) → BeginsAt old new false
+  begun_at n ran db six has s =
+      let began = (begins old new n (ran s.clean)).1 in
+      let was = has (served s began.was_open) in
+      record { began = began.committed_is ∙ was.committed; goes_on = λ _. (began.mode, ap (λ (d : Database). d.schema) (began.now_is ∙ was.now) ∙ six) }
 
   -- where the store serves after a begin or a commit, it did before
   pub begun_served : (n : ℕ) → (HasCleanDisk new → Executes BEGIN.now [] old new (Ok n)) → Serves new → Serves old
@@ -79,22 +93,38 @@ module _ (old new : State) (kept : doubt old.is_clean ≤ doubt new.is_clean) wh
       let was = (works (served s done.was_open)).goes_on refl in
       record { autocommit = done.mode; settled = done.now_is ∙ sym done.committed_is; means = same_tables m k done.now_is was.means }
 
-  pub not_committed : (e : Error) → (HasCleanDisk new → Executes COMMIT.now [] old new (Err e)) → Undoes old false new
-  not_committed e ran m₀ m k₀ k works s = goes_back rolled m₀ k₀ (λ was. (works was).began) s
-    where
-      is_open : HasCleanDisk new → IsTrue old.is_open
-      is_open clean = elim (fails_whole old new false COMMIT.now [] e (ran clean)) [ inl same ↦ same.0.was_open | inr undone ↦ undone.was_open s.is_open ]
+  pub commit_opens : (n : ℕ) → (HasCleanDisk new → Executes COMMIT.now [] old new (Ok n)) → HasCleanDisk new → Serves new
+  commit_opens n ran clean = record { clean = clean; is_open = (commits old new n (ran clean)).is_open }
 
-      rolled : HasCleanDisk new → IsRolledBack old new
-      rolled clean = commit_fails old new e (((works (served s (is_open clean))).goes_on refl).inside) (ran clean)
+  pub fails_served : (sql : List ℕ) (e : Error) → (HasCleanDisk new → Executes sql [] old new (Err e)) → Serves new → Serves old
+  fails_served sql e ran s = served s (left_open old new sql [] (fails_whole old new false sql [] e (ran s.clean)) s.is_open)
+
+  pub ran_served : (sql : List ℕ) (r : Result ℕ Error) → (HasCleanDisk new → Executes sql [] old new r) → Serves new → Serves old
+  ran_served sql (Ok n) ran s = served s (run_open old new sql [] n (ran s.clean) s.is_open)
+  ran_served sql (Err e) ran s = fails_served sql e ran s
+
+  -- a commit that fails while a work is under way undoes it
+  pub not_committed : (e : Error) → (Serves old → IsTrue old.in_transaction) → (HasCleanDisk new → Executes COMMIT.now [] old new (Err e)) → GoesBack old new
+  not_committed e inside ran db is s = goes_back (λ clean. commit_fails old new e (inside (fails_served COMMIT.now e ran s)) (ran clean)) db is s
 
   pub rolled : (r : Result ℕ Error) → IsTrue old.in_transaction → (HasCleanDisk new → Executes ROLLBACK.now [] old new r) → GoesBack old new
   rolled r inside ran = goes_back (λ clean. rolls_back old new r inside (ran clean))
 
 -- nothing is to be undone
 pub at_rest : (s : State) → s.in_transaction ≡ false → (IsTrue s.is_open → s.now ≡ s.committed) → GoesBack s s
-at_rest s autocommit settled m k means serves =
-    record { autocommit = autocommit; settled = settled serves.is_open; means = same_tables m k (settled serves.is_open) (means serves) }
+at_rest s autocommit settled db is serves = record { autocommit = autocommit; now = settled serves.is_open ∙ is serves; committed = is serves }
 
-pub undoes : (old new : State) (failed : _) → GoesBack old new → Undoes old failed new
-undoes old new failed back m₀ m k₀ k works s = back m₀ k₀ (λ was. (works was).began) s
+-- what a drop of a work leaves
+pub forgets : (old new : State) (failed : _) → GoesBack old new → Forgets old failed new
+forgets old new failed back db over s = back db (λ was. (over was).began) s
+
+pub undoes : (old new : State) (failed : _) → (Serves new → Serves old) → GoesBack old new → Undoes old failed new
+undoes old new failed served back m₀ m k₀ k works s = at_rest_of new old.committed m₀ k₀ (back old.committed (λ _. refl) s) (works (served s)).began
+
+-- the same of a commit that fails
+pub forgets_commit : (old new : State) → ((Serves old → IsTrue old.in_transaction) → GoesBack old new) → Forgets old false new
+forgets_commit old new back db over s = back (λ was. ((over was).goes_on refl).0) db (λ was. (over was).began) s
+
+pub undoes_commit : (old new : State) → (Serves new → Serves old) → ((Serves old → IsTrue old.in_transaction) → GoesBack old new) → Undoes old false new
+undoes_commit old new served back m₀ m k₀ k works s =
+    at_rest_of new old.committed m₀ k₀ (back (λ was. ((works was).goes_on refl).inside) old.committed (λ _. refl) s) (works (served s)).began

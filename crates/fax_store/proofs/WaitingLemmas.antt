@@ -111,9 +111,6 @@ module _ (t : ℕ) where
           },
         )
 
-    pub waiting_unchanged : (rows : List Row) → Shown SELECT_WAITING.now params old new rows → IsUnchanged old new
-    waiting_unchanged rows h = shown_keeps old new SELECT_WAITING.now params (subst (λ s. IsPlain (understood s SELECT_WAITING.now)) (sym means.schema) select_waiting.plain) rows h
-
 -- jobs that wait are lawful as all are
 pub all_waiting : (t : ℕ) (m : Queue) (jobs : List Job) → AreWaiting t m jobs → All IsLawfulJob m.jobs → All IsLawfulJob jobs
 all_waiting t m jobs waiting all = All-permutation IsLawfulJob (filter (λ j. is_due j t) m.jobs) jobs waiting.due (all_kept IsLawfulJob (λ j. is_due j t) m.jobs all)

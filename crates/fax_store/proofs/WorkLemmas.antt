@@ -1,94 +1,117 @@
 -- What a work means across its calls.
-use Rattle.std.proofs.Common.{◌≡◌, inl, inr, ℕ, List, true, false, Ok, Err, Result, MatchResult, OnOk, OnErr, IfErr, IsErrAnd, is_err, if◌then◌else◌, ap, refl, sym, ◌∙◌}
+use Rattle.std.proofs.Common.{◌≡◌, inl, inr, ℕ, List, true, false, Ok, Err, Result, MatchResult, OnOk, OnErr, IfErr, IsErrAnd, is_err, if◌then◌else◌, ap, refl, sym, ◌∙◌, Bool}
+use Rattle.sqlite.specs.Effect.{Database}
 use Rattle.sqlite.specs.Order.{Row}
-use Rattle.sqlite.specs.State.{State, IsUnchanged, IsRolledBack}
+use Rattle.sqlite.specs.State.{State, HasCleanDisk, IsUnchanged, IsRolledBack, Executes}
 use Rattle.fax_tables.specs.declared.fault.StoreFault.{StoreFault}
 use Rattle.fax_tables.specs.declared.fault.StoreFault.TheVariants.{Unavailable}
 use Rattle.fax_tables.specs.Fault.{OrUnavailable}
 use Rattle.fax_core.specs.Queue.{Queue, Entry}
 use Rattle.fax_tables.specs.Tables.{TablesMean}
-use Rattle.fax_tables.specs.Tables.{IsAtRest}
-use Rattle.fax_store.specs.Store.{Serves, Means, MeansNow, Stays, LeavesCommit, Answers, HasRun}
-use Rattle.fax_store.specs.Work.{IsUnderWay, Works, Changes, ChangesWhere, Keeps, AnswersIn, Steps, Moves}
+use Rattle.fax_store.specs.Store.{Serves, Means, MeansNow, HasRows, HasTables, IsEditText, Stays, LeavesCommit, Reads, HasRun}
+use Rattle.fax_store.specs.Work.{IsOver, Holds, IsUnderWay, Works, Changes, ChangesWhere, Keeps, AnswersIn, Steps, Moves}
 use Rattle.fax_tables.specs.Schema.{six_tables}
+use Rattle.fax_store.proofs.StatementLemmas.{edit_shows}
 use Rattle.fax_store.proofs.StoreLemmas.{same_tables}
 use Rattle.fax_tables.proofs.WriteLemmas.{KeepsOthers}
 
-pub answers_same : {A : Type 0} (old new : State) (P : A → Type 0) (result : Result A StoreFault) → OrUnavailable result P → IsUnchanged old new → Answers old new result P
-answers_same old new P (Ok a) h same = (h, same)
-answers_same old new P (Err e) h same = (h, inl same)
+-- an answer after which all is as it was, whatever it is
+pub reads_same : {A : Type 0} (old new : State) (result : Result A StoreFault) → IsUnchanged old new → Reads old new result
+reads_same old new (Ok a) same = same
+reads_same old new (Err e) same = inl same
 
-pub answers_refused : {A : Type 0} (old new : State) (P : A → Type 0) (result : Result A StoreFault) → MatchResult result (λ _. ⊥) (λ fault. fault ≡ Unavailable) → LeavesCommit old new → Answers old new result P
-answers_refused old new P (Ok a) h left = absurd h
-answers_refused old new P (Err e) h left = (h, left)
+-- a refusal
+pub reads_refused : {A : Type 0} (old new : State) (result : Result A StoreFault) (P : StoreFault → Type 0) → IsErrAnd result P → LeavesCommit old new → Reads old new result
+reads_refused old new (Ok a) P is left = absurd is
+reads_refused old new (Err e) P is left = left
 
-pub err_is : {A : Type 0} (result : Result A StoreFault) (fault : StoreFault) → IsErrAnd result (λ e. e ≡ fault) → fault ≡ Unavailable → MatchResult result (λ _. ⊥) (λ e. e ≡ Unavailable)
-err_is (Ok a) fault h is = absurd h
-err_is (Err e) fault h is = h ∙ is
+pub left_by : {A : Type 0} (old new : State) (result : Result A StoreFault) → Reads old new result → LeavesCommit old new
+left_by old new (Ok a) same = inl same
+left_by old new (Err e) left = left
 
-pub answer_of : {A : Type 0} (old new : State) (P : A → Type 0) (result : Result A StoreFault) → Answers old new result P → OrUnavailable result P
-answer_of old new P (Ok a) h = h.0
-answer_of old new P (Err e) h = h.0
+-- what a refused statement leaves of a work
+pub left_holds : (old new : State) → (Serves new → Serves old) → (HasCleanDisk new → LeavesCommit old new) → Holds old false new true
+left_holds old new served left db over s = record { began = committed (left s.clean) ∙ (over (served s)).began; goes_on = λ on. absurd cc }
+  where
+    committed : LeavesCommit old new → new.committed ≡ old.committed
+    committed (inl same) = same.0.committed_is
+    committed (inr undone) = (undone.undone s.is_open).1
 
-module _ (old new : State) (served : Serves new → Serves old) where
-  at_rest_unchanged : (m : Queue) (k : List Entry) → IsUnchanged old new → IsAtRest old m k → IsAtRest new m k
-  at_rest_unchanged m k same was =
-      record { autocommit = same.0.mode ∙ was.autocommit; settled = same.0.now_is ∙ was.settled ∙ sym same.0.committed_is; means = same_tables m k same.0.now_is was.means }
+-- what a statement that changes rows leaves of one
+pub edit_holds : (old new : State) (sql : List ℕ) (params : Row) → (Serves new → Serves old) → IsEditText sql → (count : ℕ) → (HasCleanDisk new → Executes sql params old new (Ok count)) → Holds old false new false
+edit_holds old new sql params served edit count ran db over s =
+    let was = over (served s) in
+    let on = was.goes_on refl in
+    let did = edit_shows old new sql params on.1 edit count (ran s.clean) in
+    record { began = did.1.committed_is ∙ ap (λ b. if b then old.committed else new.now) on.0 ∙ was.began; goes_on = λ _. (did.1.mode ∙ on.0, did.0 ∙ on.1) }
 
-  at_rest_undone : (m : Queue) (k : List Entry) → Serves new → IsRolledBack old new → IsAtRest old m k → IsAtRest new m k
-  at_rest_undone m k s undone was =
+-- what a call that only reads tells, and leaves
+module _ (old new : State) (served : Serves new → Serves old) {A : Type 0} (result : Result A StoreFault) (read : HasTables old → HasCleanDisk new → Reads old new result) where
+  rests_after : (db : Database) → Serves new → LeavesCommit old new → HasRows old db → HasRows new db
+  rests_after db s (inl same) was = record { autocommit = same.0.mode ∙ was.autocommit; now = same.0.now_is ∙ was.now; committed = same.0.committed_is ∙ was.committed }
+  rests_after db s (inr undone) was =
       let back = undone.undone s.is_open in
-      record { autocommit = undone.autocommit; settled = back.0 ∙ sym back.1; means = same_tables m k (back.0 ∙ sym was.settled) was.means }
+      record { autocommit = undone.autocommit; now = back.0 ∙ was.committed; committed = back.1 ∙ was.committed }
 
-  rests_after : (m : Queue) (k : List Entry) → Serves new → LeavesCommit old new → IsAtRest old m k → IsAtRest new m k
-  rests_after m k s (inl same) was = at_rest_unchanged m k same was
-  rests_after m k s (inr undone) was = at_rest_undone m k s undone was
+  pub stays_by : Stays old new
+  stays_by db six has s =
+      let was = has (served s) in
+      rests_after db s (left_by old new result (read (ap (λ (d : Database). d.schema) was.now ∙ six) s.clean)) was
 
-  answered : {A : Type 0} (P : A → Type 0) (result : Result A StoreFault) → Answers old new result P → LeavesCommit old new
-  answered P (Ok a) h = inl h.1
-  answered P (Err e) h = h.1
+  -- and inside a work
+  pub holds_by : Holds old false new (is_err result)
+  holds_by db over s = kept result (read (was.goes_on refl).1 s.clean)
+    where
+      was : IsOver old false db
+      was = over (served s)
 
-  -- what a call of the store that only reads tells
-  module _ {A : Type 0} (P : Queue → List Entry → A → Type 0) (result : Result A StoreFault) (answers : (m : Queue) (k : List Entry) → MeansNow old m k → Serves new → Answers old new result (P m k)) where
-    pub stays_by : Stays old new
-    stays_by m k means s = rests_after m k s (answered (P m k) result (answers m k (λ was. (means was).means) s)) (means (served s))
+      kept : (r : Result A StoreFault) → Reads old new r → IsOver new (is_err r) db
+      kept (Ok a) same =
+          let on = was.goes_on refl in
+          record { began = same.0.committed_is ∙ was.began; goes_on = λ _. (same.0.mode ∙ on.0, ap (λ (d : Database). d.schema) same.0.now_is ∙ on.1) }
+      kept (Err e) left = record { began = committed left ∙ was.began; goes_on = λ on. absurd cc }
+        where
+          committed : LeavesCommit old new → new.committed ≡ old.committed
+          committed (inl same) = same.0.committed_is
+          committed (inr undone) = (undone.undone s.is_open).1
 
+  module _ (P : Queue → List Entry → A → Type 0) (answers : (m : Queue) (k : List Entry) → MeansNow old m k → Serves new → OrUnavailable result (P m k)) where
     pub found_by : (m : Queue) (k : List Entry) → Means old m k → Serves new → OrUnavailable result (P m k)
-    found_by m k means s = answer_of old new (P m k) result (answers m k (λ was. (means was).means) s)
+    found_by m k means s = answers m k (λ was. (means was).means) s
 
     -- and the same inside a work
     works_now : (m₀ m : Queue) (k₀ k : List Entry) → Works old false m₀ k₀ m k → MeansNow old m k
     works_now m₀ m k₀ k works was = ((works was).goes_on refl).means
 
     pub keeps_by : Keeps old false new (is_err result)
-    keeps_by m₀ m k₀ k works s = kept result (answers m k (works_now m₀ m k₀ k works) s)
+    keeps_by m₀ m k₀ k works s = kept result (read (was.goes_on refl).means.schema s.clean)
       where
         was : IsUnderWay old false m₀ k₀ m k
         was = works (served s)
 
-        kept : (r : Result A StoreFault) → Answers old new r (P m k) → IsUnderWay new (is_err r) m₀ k₀ m k
+        kept : (r : Result A StoreFault) → Reads old new r → IsUnderWay new (is_err r) m₀ k₀ m k
         kept (Ok a) h =
-            let same = h.1.0 in
+            let same = h.0 in
             let inside = was.goes_on refl in record {
               began = same_tables m₀ k₀ same.committed_is was.began;
               goes_on = λ _. record { inside = same.mode ∙ inside.inside; means = same_tables m k same.now_is inside.means };
             }
-        kept (Err e) h = record { began = committed h.1; goes_on = λ on. absurd cc }
+        kept (Err e) left = record { began = committed left; goes_on = λ on. absurd cc }
           where
             committed : LeavesCommit old new → TablesMean new.committed m₀ k₀
             committed (inl same) = same_tables m₀ k₀ same.0.committed_is was.began
             committed (inr undone) = same_tables m₀ k₀ (undone.undone s.is_open).1 was.began
 
     pub found_in : AnswersIn old false new result P
-    found_in m₀ m k₀ k works s = answer_of old new (P m k) result (answers m k (works_now m₀ m k₀ k works) s)
+    found_in m₀ m k₀ k works s = answers m k (works_now m₀ m k₀ k works) s
 
     -- the same, in the words of a step
     pub goes_on : (m₀ m : Queue) (k₀ k : List Entry) → Works old false m₀ k₀ m k → Serves new → MatchResult result (λ a. P m k a × IsUnderWay new false m₀ k₀ m k) (λ fault. (fault ≡ Unavailable) × TablesMean new.committed m₀ k₀)
     goes_on m₀ m k₀ k works s = stepped result (answers m k (works_now m₀ m k₀ k works) s) (keeps_by m₀ m k₀ k works s)
       where
-        stepped : (r : Result A StoreFault) → Answers old new r (P m k) → IsUnderWay new (is_err r) m₀ k₀ m k → MatchResult r (λ a. P m k a × IsUnderWay new false m₀ k₀ m k) (λ fault. (fault ≡ Unavailable) × TablesMean new.committed m₀ k₀)
-        stepped (Ok a) h after = (h.0, after)
-        stepped (Err e) h after = (h.0, after.began)
+        stepped : (r : Result A StoreFault) → OrUnavailable r (P m k) → IsUnderWay new (is_err r) m₀ k₀ m k → MatchResult r (λ a. P m k a × IsUnderWay new false m₀ k₀ m k) (λ fault. (fault ≡ Unavailable) × TablesMean new.committed m₀ k₀)
+        stepped (Ok a) h after = (h, after)
+        stepped (Err e) h after = (h, after.began)
 
 -- a step of a work that is a call of it
 module _ (old new : State) {A : Type 0} (result : Result A StoreFault) (f : Queue → Queue) (g : List Entry → List Entry)
@@ -100,7 +123,24 @@ module _ (old new : State) {A : Type 0} (result : Result A StoreFault) (f : Queu
       after (Ok a) h = h
       after (Err e) h = record { began = h.1; goes_on = λ on. absurd cc }
 
+-- calls of a work, one after the other
+pub holds_then : (a b c : State) (failed : Bool) → (Serves c → Serves b) → Holds a false b false → Holds b false c failed → Holds a false c failed
+holds_then a b c failed served first next db over s = next db (λ at. first db over at) s
+
+-- what a refusal leaves, whatever it is
+pub holds_err : {A : Type 0} (a b : State) (result : Result A StoreFault) (P : StoreFault → Type 0) → IsErrAnd result P → Holds a false b true → Holds a false b (is_err result)
+holds_err a b (Ok x) P is h = absurd is
+holds_err a b (Err e) P is h = h
+
+-- a refusal that comes before any call of the database
+pub holds_refused : {A : Type 0} (s : State) (result : Result A StoreFault) (P : StoreFault → Type 0) → IsErrAnd result P → Holds s false s (is_err result)
+holds_refused s (Ok a) P is db over serves = absurd is
+holds_refused s (Err e) P is db over serves = record { began = (over serves).began; goes_on = λ on. absurd cc }
+
 -- a call of a work that was refused before
+pub failed_holds : (s : State) → Holds s true s true
+failed_holds s db over serves = record { began = (over serves).began; goes_on = λ on. absurd cc }
+
 pub failed_keeps : (s : State) (f : Queue → Queue) (g : List Entry → List Entry) → Changes s true s true f g
 failed_keeps s f g m₀ m k₀ k works serves = record { began = (works serves).began; goes_on = λ on. absurd cc }
 

@@ -1,11 +1,18 @@
 -- What a store shows.
-use Rattle.std.specs.Prelude.{◌≡◌, ◌⊎◌, ℕ, List, [], Option, Ok, Result, MatchResult, MatchOption, IsTrue}
+use Rattle.std.specs.Prelude.{◌≡◌, ◌⊎◌, ⊤, ℕ, false, List, [], Option, None, Ok, Err, Result, MatchResult, MatchOption, IsTrue}
+use Rattle.sqlite.specs.Command.{Command}
+use Rattle.sqlite.specs.Command.TheVariants.{Insert, Update, Delete}
+use Rattle.sqlite.specs.Effect.{Database}
+use Rattle.sqlite.specs.Given.{IsPlain}
+use Rattle.sqlite.specs.Listing.{understood}
 use Rattle.sqlite.specs.Order.{Row}
 use Rattle.sqlite.specs.State.{State, HasCleanDisk, IsUnchanged, IsRolledBack, Shown, Executes}
+use Rattle.sqlite_resolve.specs.declared.compiled.Compiled.{Compiled}
+use Rattle.sqlite_resolve.specs.declared.error.CompileError.{CompileError}
 use Rattle.sqlite_rules.specs.Lists.{Has}
 use Rattle.fax_tables.specs.declared.fault.StoreFault.{StoreFault}
-use Rattle.fax_tables.specs.declared.fault.StoreFault.TheVariants.{Unavailable}
 use Rattle.fax_core.specs.Queue.{Queue, Entry}
+use Rattle.fax_tables.specs.Schema.{six_tables}
 use Rattle.fax_tables.specs.Tables.{TablesMean, IsAtRest}
 
 -- The disk has returned what was written, and no fault of it has shut the database. Both hold of memory.
@@ -17,13 +24,35 @@ pub record Serves (s : State) : Type 0 where
 abbrev pub Means : State → Queue → List Entry → Type 0
 Means s m k = Serves s → IsAtRest s m k
 
--- what the store means stays
+-- ---- the rows, whatever they say
+
+-- no work is under way, and these rows are committed
+pub record HasRows (s : State) (db : Database) : Type 0 where
+  pub autocommit : s.in_transaction ≡ false
+  pub now : s.now ≡ db
+  pub committed : s.committed ≡ db
+
+-- the store has these rows, as long as it serves
+abbrev pub Rests : State → Database → Type 0
+Rests s db = Serves s → HasRows s db
+
+-- the rows of the six tables stay as they are, whatever they say
 abbrev pub Stays : State → State → Type 0
-Stays old new = (m : Queue) (k : List Entry) → Means old m k → Means new m k
+Stays old new = (db : Database) → db.schema ≡ six_tables → Rests old db → Rests new db
+
+-- the same of a store that served before, where it still does
+abbrev pub StaysAsItWas : State → State → Type 0
+StaysAsItWas old new = (Serves new → Serves old) × Stays old new
 
 -- what is not committed is undone
 abbrev pub GoesBack : State → State → Type 0
-GoesBack old new = (m : Queue) (k : List Entry) → (Serves old → TablesMean old.committed m k) → Means new m k
+GoesBack old new = (db : Database) → (Serves old → old.committed ≡ db) → Rests new db
+
+-- a store that served serves still, as long as the disk is clean
+abbrev pub StaysOpen : State → State → Type 0
+StaysOpen old new = HasCleanDisk new → Serves old → Serves new
+
+-- ---- statements
 
 -- the tables mean this, whether a work is under way or not
 abbrev pub MeansNow : State → Queue → List Entry → Type 0
@@ -33,9 +62,33 @@ MeansNow s m k = Serves s → TablesMean s.now m k
 abbrev pub LeavesCommit : State → State → Type 0
 LeavesCommit old new = IsUnchanged old new ⊎ IsRolledBack old new
 
--- an answer that leaves all as it is
-abbrev pub Answers : {A : Type 0} → State → State → Result A StoreFault → (A → Type 0) → Type 0
-Answers old new result P = MatchResult result (λ a. P a × IsUnchanged old new) (λ fault. (fault ≡ Unavailable) × LeavesCommit old new)
+-- an answer leaves all as it is, and a refusal what was committed
+abbrev pub Reads : {A : Type 0} → State → State → Result A StoreFault → Type 0
+Reads old new result = MatchResult result (λ _. IsUnchanged old new) (λ _. LeavesCommit old new)
+
+-- the database has the six tables
+abbrev pub HasTables : State → Type 0
+HasTables s = s.now.schema ≡ six_tables
+
+-- over the six tables, the text shows rows and writes none
+abbrev pub IsQueryText : List ℕ → Type 0
+IsQueryText sql = IsPlain (understood six_tables sql)
+
+-- a command that changes rows and no table
+abbrev pub IsEdit : Command → Type 0
+IsEdit (Insert at from) = ⊤
+IsEdit (Update at query) = ⊤
+IsEdit (Delete at query) = ⊤
+IsEdit other = ⊥
+
+-- a statement that changes rows and shows none
+abbrev pub EditsRows : Result Compiled CompileError → Type 0
+EditsRows (Ok c) = IsEdit c.command × (c.returning ≡ None)
+EditsRows (Err fault) = ⊥
+
+-- over the six tables, the text is one
+abbrev pub IsEditText : List ℕ → Type 0
+IsEditText sql = EditsRows (understood six_tables sql)
 
 -- one of the rows that a query shows, or none where it shows none
 abbrev pub FindsRow : List ℕ → Row → State → State → Option Row → Type 0

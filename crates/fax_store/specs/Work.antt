@@ -1,12 +1,35 @@
 -- What a work shows.
 use Rattle.std.specs.Prelude.{◌≡◌, Bool, false, List, Result, MatchResult, IsTrue}
+use Rattle.sqlite.specs.Effect.{Database}
 use Rattle.sqlite.specs.State.{State}
 use Rattle.fax_tables.specs.declared.fault.StoreFault.{StoreFault}
 use Rattle.fax_tables.specs.declared.fault.StoreFault.TheVariants.{Unavailable}
 use Rattle.fax_tables.specs.Fault.{OrUnavailable}
 use Rattle.fax_core.specs.Queue.{Queue, Entry}
+use Rattle.fax_tables.specs.Schema.{six_tables}
 use Rattle.fax_tables.specs.Tables.{TablesMean}
-use Rattle.fax_store.specs.Store.{Serves, Means}
+use Rattle.fax_store.specs.Store.{Serves, Means, Rests}
+
+-- ---- the rows, whatever they say
+
+-- The work began at these rows, which a drop goes back to. Unless a call of it was refused, it is under way.
+pub record IsOver (s : State) (failed : Bool) (db : Database) : Type 0 where
+  pub began : s.committed ≡ db
+  pub goes_on : failed ≡ false → IsTrue s.in_transaction × (s.now.schema ≡ six_tables)
+
+-- a work begins at the rows of the store
+abbrev pub BeginsAt : State → State → Bool → Type 0
+BeginsAt old new failed = (db : Database) → db.schema ≡ six_tables → Rests old db → Serves new → IsOver new failed db
+
+-- a call of a work commits nothing
+abbrev pub Holds : State → Bool → State → Bool → Type 0
+Holds old failed new failed_after = (db : Database) → (Serves old → IsOver old failed db) → Serves new → IsOver new failed_after db
+
+-- the store has the rows at which the work began
+abbrev pub Forgets : State → Bool → State → Type 0
+Forgets old failed new = (db : Database) → (Serves old → IsOver old failed db) → Rests new db
+
+-- ---- what they mean
 
 -- the work is under way, and its tables mean this
 pub record IsInside (s : State) (m : Queue) (k : List Entry) : Type 0 where

@@ -1,14 +1,15 @@
 //! The grants, and what modems and jobs hold of those that are open.
 
-ghost use Rattle.std.specs.Prelude.{◌≡◌, ◌<◌, ◌≤◌, List, false, Err, IfErr, IfOk, IfSome, is_err, IsTrue};
+ghost use Rattle.std.specs.Prelude.{◌≡◌, ◌<◌, ◌≤◌, List, false, Err, IfErr, IfOk, IfSome, is_err, IsTrue, OnOk};
 ghost use Rattle.std.specs.Option.{option_map};
 ghost use Rattle.sqlite.specs.Held.{state};
+ghost use Rattle.sqlite.specs.State.{HasCleanDisk};
 ghost use Rattle.fax_core.specs.Machine.{held_by, with_grant};
 ghost use Rattle.fax_core.specs.Queue.{Queue, Entry, grant_numbered};
 ghost use Rattle.fax_core.specs.State.{calls_to};
 ghost use Rattle.fax_store.specs.Grant.{IsReport, with_placed, with_one_more_grant, with_closed};
-ghost use Rattle.fax_store.specs.Store.{Serves, Means, MeansNow, Stays, Answers};
-ghost use Rattle.fax_store.specs.Work.{Works, Keeps, Changes, ChangesWhere, AnswersIn, Moves, Steps};
+ghost use Rattle.fax_store.specs.Store.{Serves, Means, MeansNow, HasTables, Reads, Stays};
+ghost use Rattle.fax_store.specs.Work.{Holds, Works, Keeps, Changes, ChangesWhere, AnswersIn, Moves, Steps};
 ghost use Rattle.fax_tables.specs.Fault.{OrUnavailable};
 ghost use Rattle.fax_tables.specs.Grant.{as_hold, IsWithinLimits, IsLawfulHold, IsOpenGrant};
 
@@ -49,10 +50,11 @@ impl<S: Alter> Store<S> {
     /// `Unavailable`, or `Strange` where its row is no lawful record.
     pub fn hold_of(&mut self, modem: &str) -> Result<Option<Hold>, StoreFault>
         ensures served { Serves (state S.Store self.new.conn) → Serves (state S.Store self.old.conn) }
+        ensures clean { HasCleanDisk (state S.Store self.new.conn) → HasCleanDisk (state S.Store self.old.conn) }
+        ensures opens { OnOk result (HasCleanDisk (state S.Store self.new.conn) → Serves (state S.Store self.new.conn)) }
         ensures stays { Stays (state S.Store self.old.conn) (state S.Store self.new.conn) }
         ensures found { (m : Queue) (k : List Entry) → Means (state S.Store self.old.conn) m k
-            → Serves (state S.Store self.new.conn)
-            → OrUnavailable result (λ found. found ≡ option_map as_hold (held_by modem.now m)) }
+            → Serves (state S.Store self.new.conn) → OrUnavailable result (λ found. found ≡ option_map as_hold (held_by modem.now m)) }
         ensures lawful { IfOk result (λ found. IfSome found IsLawfulHold) }
     {
         self.read_hold(modem)
@@ -60,10 +62,12 @@ impl<S: Alter> Store<S> {
 
     fn read_hold(&mut self, modem: &str) -> Result<Option<Hold>, StoreFault>
         ensures served { Serves (state S.Store self.new.conn) → Serves (state S.Store self.old.conn) }
+        ensures clean { HasCleanDisk (state S.Store self.new.conn) → HasCleanDisk (state S.Store self.old.conn) }
+        ensures opens { OnOk result (HasCleanDisk (state S.Store self.new.conn) → Serves (state S.Store self.new.conn)) }
+        ensures reads { HasTables (state S.Store self.old.conn) → HasCleanDisk (state S.Store self.new.conn)
+            → Reads (state S.Store self.old.conn) (state S.Store self.new.conn) result }
         ensures answers { (m : Queue) (k : List Entry) → MeansNow (state S.Store self.old.conn) m k
-            → Serves (state S.Store self.new.conn)
-            → Answers (state S.Store self.old.conn) (state S.Store self.new.conn) result
-            (λ found. found ≡ option_map as_hold (held_by modem.now m)) }
+            → Serves (state S.Store self.new.conn) → OrUnavailable result (λ found. found ≡ option_map as_hold (held_by modem.now m)) }
         ensures lawful { IfOk result (λ found. IfSome found IsLawfulHold) }
     {
         match self.find(SELECT_HOLD, params![modem])? {
@@ -79,10 +83,11 @@ impl<S: Alter> Store<S> {
     /// `Unavailable`, or `Strange` where its row is no lawful record.
     pub fn grant(&mut self, number: u32) -> Result<Option<Grant>, StoreFault>
         ensures served { Serves (state S.Store self.new.conn) → Serves (state S.Store self.old.conn) }
+        ensures clean { HasCleanDisk (state S.Store self.new.conn) → HasCleanDisk (state S.Store self.old.conn) }
+        ensures opens { OnOk result (HasCleanDisk (state S.Store self.new.conn) → Serves (state S.Store self.new.conn)) }
         ensures stays { Stays (state S.Store self.old.conn) (state S.Store self.new.conn) }
         ensures found { (m : Queue) (k : List Entry) → Means (state S.Store self.old.conn) m k
-            → Serves (state S.Store self.new.conn)
-            → OrUnavailable result (λ found. found ≡ grant_numbered number m) }
+            → Serves (state S.Store self.new.conn) → OrUnavailable result (λ found. found ≡ grant_numbered number m) }
         ensures lawful { IfOk result (λ found. IfSome found IsWithinLimits) }
     {
         self.read_grant(number)
@@ -90,10 +95,12 @@ impl<S: Alter> Store<S> {
 
     fn read_grant(&mut self, number: u32) -> Result<Option<Grant>, StoreFault>
         ensures served { Serves (state S.Store self.new.conn) → Serves (state S.Store self.old.conn) }
+        ensures clean { HasCleanDisk (state S.Store self.new.conn) → HasCleanDisk (state S.Store self.old.conn) }
+        ensures opens { OnOk result (HasCleanDisk (state S.Store self.new.conn) → Serves (state S.Store self.new.conn)) }
+        ensures reads { HasTables (state S.Store self.old.conn) → HasCleanDisk (state S.Store self.new.conn)
+            → Reads (state S.Store self.old.conn) (state S.Store self.new.conn) result }
         ensures answers { (m : Queue) (k : List Entry) → MeansNow (state S.Store self.old.conn) m k
-            → Serves (state S.Store self.new.conn)
-            → Answers (state S.Store self.old.conn) (state S.Store self.new.conn) result
-            (λ found. found ≡ grant_numbered number m) }
+            → Serves (state S.Store self.new.conn) → OrUnavailable result (λ found. found ≡ grant_numbered number m) }
         ensures lawful { IfOk result (λ found. IfSome found IsWithinLimits) }
     {
         match self.find(SELECT_GRANT, params![number])? {
@@ -109,6 +116,8 @@ impl<S: Alter> Store<S> {
     /// `Unavailable`.
     pub fn active_to(&mut self, dial: &Dial) -> Result<u64, StoreFault>
         ensures served { Serves (state S.Store self.new.conn) → Serves (state S.Store self.old.conn) }
+        ensures clean { HasCleanDisk (state S.Store self.new.conn) → HasCleanDisk (state S.Store self.old.conn) }
+        ensures opens { OnOk result (HasCleanDisk (state S.Store self.new.conn) → Serves (state S.Store self.new.conn)) }
         ensures stays { Stays (state S.Store self.old.conn) (state S.Store self.new.conn) }
         ensures found { (m : Queue) (k : List Entry) → Means (state S.Store self.old.conn) m k
             → Serves (state S.Store self.new.conn) → OrUnavailable result (λ calls. calls ≡ calls_to dial.now m) }
@@ -118,10 +127,12 @@ impl<S: Alter> Store<S> {
 
     fn read_calls(&mut self, dial: &Dial) -> Result<u64, StoreFault>
         ensures served { Serves (state S.Store self.new.conn) → Serves (state S.Store self.old.conn) }
+        ensures clean { HasCleanDisk (state S.Store self.new.conn) → HasCleanDisk (state S.Store self.old.conn) }
+        ensures opens { OnOk result (HasCleanDisk (state S.Store self.new.conn) → Serves (state S.Store self.new.conn)) }
+        ensures reads { HasTables (state S.Store self.old.conn) → HasCleanDisk (state S.Store self.new.conn)
+            → Reads (state S.Store self.old.conn) (state S.Store self.new.conn) result }
         ensures answers { (m : Queue) (k : List Entry) → MeansNow (state S.Store self.old.conn) m k
-            → Serves (state S.Store self.new.conn)
-            → Answers (state S.Store self.old.conn) (state S.Store self.new.conn) result
-            (λ calls. calls ≡ calls_to dial.now m) }
+            → Serves (state S.Store self.new.conn) → OrUnavailable result (λ calls. calls ≡ calls_to dial.now m) }
         ensures cause { IfErr result (λ fault. fault ≡ StoreFault.Unavailable) }
     {
         let rows = self.show(SELECT_CALLS, params![dial.text()])?;
@@ -130,6 +141,7 @@ impl<S: Alter> Store<S> {
 
     fn insert_grant(&mut self, grant: &Grant) -> Result<(), StoreFault>
         ensures served { Serves (state S.Store self.new.conn) → Serves (state S.Store self.old.conn) }
+        ensures holds { Holds (state S.Store self.old.conn) false (state S.Store self.new.conn) (is_err result) }
         ensures written { (m₀ m : Queue) (k₀ k : List Entry) → Works (state S.Store self.old.conn) false m₀ k₀ m k
             → Serves (state S.Store self.new.conn) → IsOpenGrant grant.now
             → Steps (state S.Store self.new.conn) result m₀ k₀ (with_placed grant.now m) k }
@@ -154,6 +166,7 @@ impl<S: Alter> Store<S> {
 
     fn add_grant(&mut self, grant: &Grant) -> Result<(), StoreFault>
         ensures served { Serves (state S.Store self.new.conn) → Serves (state S.Store self.old.conn) }
+        ensures holds { Holds (state S.Store self.old.conn) false (state S.Store self.new.conn) (is_err result) }
         ensures written { (m₀ m : Queue) (k₀ k : List Entry) → Works (state S.Store self.old.conn) false m₀ k₀ m k
             → Serves (state S.Store self.new.conn)
             → Moves (state S.Store self.new.conn) result m₀ k₀ (with_one_more_grant grant.now m) k
@@ -176,6 +189,7 @@ impl<S: Alter> Store<S> {
 
     fn write_report(&mut self, grant: &Grant) -> Result<(), StoreFault>
         ensures served { Serves (state S.Store self.new.conn) → Serves (state S.Store self.old.conn) }
+        ensures holds { Holds (state S.Store self.old.conn) false (state S.Store self.new.conn) (is_err result) }
         ensures written { (m₀ m : Queue) (k₀ k : List Entry) → IsReport grant.now m
             → Works (state S.Store self.old.conn) false m₀ k₀ m k → Serves (state S.Store self.new.conn)
             → Moves (state S.Store self.new.conn) result m₀ k₀ (with_grant grant.now m) k }
@@ -196,6 +210,7 @@ impl<S: Alter> Store<S> {
 
     fn shut_grant(&mut self, number: u32) -> Result<(), StoreFault>
         ensures served { Serves (state S.Store self.new.conn) → Serves (state S.Store self.old.conn) }
+        ensures holds { Holds (state S.Store self.old.conn) false (state S.Store self.new.conn) (is_err result) }
         ensures written { (m₀ m : Queue) (k₀ k : List Entry) → Works (state S.Store self.old.conn) false m₀ k₀ m k
             → Serves (state S.Store self.new.conn)
             → Steps (state S.Store self.new.conn) result m₀ k₀ (with_closed number m) k }
@@ -214,6 +229,8 @@ impl<S: Alter> Work<'_, S> {
     /// `Unavailable`, or `Strange` where its row is no lawful record.
     pub fn hold_of(&mut self, modem: &str) -> Result<Option<Hold>, StoreFault>
         ensures same_reference { self.new.store.ghost_name ≡ self.old.store.ghost_name }
+        ensures holds { Holds (state S.Store self.old.store.now.conn) self.old.failed
+            (state S.Store self.new.store.now.conn) self.new.failed }
         ensures keeps { Keeps (state S.Store self.old.store.now.conn) self.old.failed
             (state S.Store self.new.store.now.conn) self.new.failed }
         ensures found { AnswersIn (state S.Store self.old.store.now.conn) self.old.failed
@@ -239,6 +256,8 @@ impl<S: Alter> Work<'_, S> {
     /// `Unavailable`, or `Strange` where its row is no lawful record.
     pub fn grant(&mut self, number: u32) -> Result<Option<Grant>, StoreFault>
         ensures same_reference { self.new.store.ghost_name ≡ self.old.store.ghost_name }
+        ensures holds { Holds (state S.Store self.old.store.now.conn) self.old.failed
+            (state S.Store self.new.store.now.conn) self.new.failed }
         ensures keeps { Keeps (state S.Store self.old.store.now.conn) self.old.failed
             (state S.Store self.new.store.now.conn) self.new.failed }
         ensures found { AnswersIn (state S.Store self.old.store.now.conn) self.old.failed
@@ -263,6 +282,8 @@ impl<S: Alter> Work<'_, S> {
     /// `Unavailable`.
     pub fn active_to(&mut self, dial: &Dial) -> Result<u64, StoreFault>
         ensures same_reference { self.new.store.ghost_name ≡ self.old.store.ghost_name }
+        ensures holds { Holds (state S.Store self.old.store.now.conn) self.old.failed
+            (state S.Store self.new.store.now.conn) self.new.failed }
         ensures keeps { Keeps (state S.Store self.old.store.now.conn) self.old.failed
             (state S.Store self.new.store.now.conn) self.new.failed }
         ensures found { AnswersIn (state S.Store self.old.store.now.conn) self.old.failed
@@ -289,6 +310,8 @@ impl<S: Alter> Work<'_, S> {
     /// is left.
     pub fn put_grant(&mut self, grant: &Grant) -> Result<(), StoreFault>
         ensures same_reference { self.new.store.ghost_name ≡ self.old.store.ghost_name }
+        ensures holds { Holds (state S.Store self.old.store.now.conn) self.old.failed
+            (state S.Store self.new.store.now.conn) self.new.failed }
         ensures changes { Changes (state S.Store self.old.store.now.conn) self.old.failed
             (state S.Store self.new.store.now.conn) self.new.failed (with_one_more_grant grant.now) (λ k. k) }
         ensures cause { (m₀ m : Queue) (k₀ k : List Entry)
@@ -315,6 +338,8 @@ impl<S: Alter> Work<'_, S> {
     /// `Unavailable`, or `Strange` where more pages are confirmed than a grant can have.
     pub fn put_report(&mut self, grant: &Grant) -> Result<(), StoreFault>
         ensures same_reference { self.new.store.ghost_name ≡ self.old.store.ghost_name }
+        ensures holds { Holds (state S.Store self.old.store.now.conn) self.old.failed
+            (state S.Store self.new.store.now.conn) self.new.failed }
         ensures changes { ChangesWhere (IsReport grant.now) (state S.Store self.old.store.now.conn) self.old.failed
             (state S.Store self.new.store.now.conn) self.new.failed (with_grant grant.now) (λ k. k) }
         ensures cause { grant.now.confirmed ≤ 9999 → IfErr result (λ fault. fault ≡ StoreFault.Unavailable) }
@@ -338,6 +363,8 @@ impl<S: Alter> Work<'_, S> {
     /// `Unavailable`.
     pub fn close_grant(&mut self, number: u32) -> Result<(), StoreFault>
         ensures same_reference { self.new.store.ghost_name ≡ self.old.store.ghost_name }
+        ensures holds { Holds (state S.Store self.old.store.now.conn) self.old.failed
+            (state S.Store self.new.store.now.conn) self.new.failed }
         ensures changes { Changes (state S.Store self.old.store.now.conn) self.old.failed
             (state S.Store self.new.store.now.conn) self.new.failed (with_closed number) (λ k. k) }
         ensures cause { IfErr result (λ fault. fault ≡ StoreFault.Unavailable) }

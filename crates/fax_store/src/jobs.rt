@@ -1,14 +1,15 @@
 //! The jobs.
 
-ghost use Rattle.std.specs.Prelude.{◌≡◌, ◌<◌, List, false, Err, IfErr, is_err, IsTrue};
+ghost use Rattle.std.specs.Prelude.{◌≡◌, ◌<◌, List, false, Err, IfErr, is_err, IsTrue, OnOk};
 ghost use Rattle.std.specs.Option.{option_map};
 ghost use Rattle.sqlite.specs.Held.{state};
+ghost use Rattle.sqlite.specs.State.{HasCleanDisk};
 ghost use Rattle.fax_core.specs.Job.{job_of, fields_of};
 ghost use Rattle.fax_core.specs.Machine.{with_job as with_change};
 ghost use Rattle.fax_core.specs.Queue.{Queue, Entry, job_numbered};
 ghost use Rattle.fax_store.specs.Job.{IsChange, IsWaiting, with_placed, with_one_more_job, with_expired};
-ghost use Rattle.fax_store.specs.Store.{Serves, Means, MeansNow, Stays, Answers};
-ghost use Rattle.fax_store.specs.Work.{Works, Keeps, Changes, ChangesWhere, AnswersIn, Moves, Steps};
+ghost use Rattle.fax_store.specs.Store.{Serves, Means, MeansNow, HasTables, Reads, Stays};
+ghost use Rattle.fax_store.specs.Work.{Holds, Works, Keeps, Changes, ChangesWhere, AnswersIn, Moves, Steps};
 ghost use Rattle.fax_tables.specs.Fault.{OrUnavailable};
 
 use crate::store::Store;
@@ -52,20 +53,23 @@ impl<S: Alter> Store<S> {
     /// `Unavailable`, or `Strange` where its row is no lawful record.
     pub fn job(&mut self, job: u32) -> Result<Option<Job>, StoreFault>
         ensures served { Serves (state S.Store self.new.conn) → Serves (state S.Store self.old.conn) }
+        ensures clean { HasCleanDisk (state S.Store self.new.conn) → HasCleanDisk (state S.Store self.old.conn) }
+        ensures opens { OnOk result (HasCleanDisk (state S.Store self.new.conn) → Serves (state S.Store self.new.conn)) }
         ensures stays { Stays (state S.Store self.old.conn) (state S.Store self.new.conn) }
         ensures found { (m : Queue) (k : List Entry) → Means (state S.Store self.old.conn) m k
-            → Serves (state S.Store self.new.conn)
-            → OrUnavailable result (λ found. found ≡ option_map fields_of (job_numbered job m)) }
+            → Serves (state S.Store self.new.conn) → OrUnavailable result (λ found. found ≡ option_map fields_of (job_numbered job m)) }
     {
         self.read_job(job)
     }
 
     fn read_job(&mut self, job: u32) -> Result<Option<Job>, StoreFault>
         ensures served { Serves (state S.Store self.new.conn) → Serves (state S.Store self.old.conn) }
+        ensures clean { HasCleanDisk (state S.Store self.new.conn) → HasCleanDisk (state S.Store self.old.conn) }
+        ensures opens { OnOk result (HasCleanDisk (state S.Store self.new.conn) → Serves (state S.Store self.new.conn)) }
+        ensures reads { HasTables (state S.Store self.old.conn) → HasCleanDisk (state S.Store self.new.conn)
+            → Reads (state S.Store self.old.conn) (state S.Store self.new.conn) result }
         ensures answers { (m : Queue) (k : List Entry) → MeansNow (state S.Store self.old.conn) m k
-            → Serves (state S.Store self.new.conn)
-            → Answers (state S.Store self.old.conn) (state S.Store self.new.conn) result
-            (λ found. found ≡ option_map fields_of (job_numbered job m)) }
+            → Serves (state S.Store self.new.conn) → OrUnavailable result (λ found. found ≡ option_map fields_of (job_numbered job m)) }
     {
         match self.find(SELECT_JOB, params![job])? {
             Some(row) => Ok(Some(job_in(self.alloc, &row)?)),
@@ -81,6 +85,8 @@ impl<S: Alter> Store<S> {
     /// `Unavailable`, or `Strange` where the row of one is no lawful record.
     pub fn waiting(&mut self, t: Moment) -> Result<Vec<Job>, StoreFault>
         ensures served { Serves (state S.Store self.new.conn) → Serves (state S.Store self.old.conn) }
+        ensures clean { HasCleanDisk (state S.Store self.new.conn) → HasCleanDisk (state S.Store self.old.conn) }
+        ensures opens { OnOk result (HasCleanDisk (state S.Store self.new.conn) → Serves (state S.Store self.new.conn)) }
         ensures stays { Stays (state S.Store self.old.conn) (state S.Store self.new.conn) }
         ensures found { (m : Queue) (k : List Entry) → Means (state S.Store self.old.conn) m k
             → Serves (state S.Store self.new.conn) → OrUnavailable result (λ found. IsWaiting t m found.items) }
@@ -90,10 +96,12 @@ impl<S: Alter> Store<S> {
 
     fn read_waiting(&mut self, t: Moment) -> Result<Vec<Job>, StoreFault>
         ensures served { Serves (state S.Store self.new.conn) → Serves (state S.Store self.old.conn) }
+        ensures clean { HasCleanDisk (state S.Store self.new.conn) → HasCleanDisk (state S.Store self.old.conn) }
+        ensures opens { OnOk result (HasCleanDisk (state S.Store self.new.conn) → Serves (state S.Store self.new.conn)) }
+        ensures reads { HasTables (state S.Store self.old.conn) → HasCleanDisk (state S.Store self.new.conn)
+            → Reads (state S.Store self.old.conn) (state S.Store self.new.conn) result }
         ensures answers { (m : Queue) (k : List Entry) → MeansNow (state S.Store self.old.conn) m k
-            → Serves (state S.Store self.new.conn)
-            → Answers (state S.Store self.old.conn) (state S.Store self.new.conn) result
-            (λ found. IsWaiting t m found.items) }
+            → Serves (state S.Store self.new.conn) → OrUnavailable result (λ found. IsWaiting t m found.items) }
     {
         let rows = self.show(SELECT_WAITING, params![t.seconds()])?;
         jobs_in(self.alloc, rows.as_slice())
@@ -101,6 +109,7 @@ impl<S: Alter> Store<S> {
 
     fn insert_job(&mut self, job: &Job) -> Result<(), StoreFault>
         ensures served { Serves (state S.Store self.new.conn) → Serves (state S.Store self.old.conn) }
+        ensures holds { Holds (state S.Store self.old.conn) false (state S.Store self.new.conn) (is_err result) }
         ensures written { (m₀ m : Queue) (k₀ k : List Entry) → Works (state S.Store self.old.conn) false m₀ k₀ m k
             → Serves (state S.Store self.new.conn)
             → Steps (state S.Store self.new.conn) result m₀ k₀ (with_placed (job_of job.now) m) k }
@@ -136,6 +145,7 @@ impl<S: Alter> Store<S> {
 
     fn write_change(&mut self, job: &Job) -> Result<(), StoreFault>
         ensures served { Serves (state S.Store self.new.conn) → Serves (state S.Store self.old.conn) }
+        ensures holds { Holds (state S.Store self.old.conn) false (state S.Store self.new.conn) (is_err result) }
         ensures written { (m₀ m : Queue) (k₀ k : List Entry) → IsChange (job_of job.now) m
             → Works (state S.Store self.old.conn) false m₀ k₀ m k → Serves (state S.Store self.new.conn)
             → Steps (state S.Store self.new.conn) result m₀ k₀ (with_change (job_of job.now) m) k }
@@ -168,6 +178,7 @@ impl<S: Alter> Store<S> {
 
     fn write_expired(&mut self, t: Moment) -> Result<(), StoreFault>
         ensures served { Serves (state S.Store self.new.conn) → Serves (state S.Store self.old.conn) }
+        ensures holds { Holds (state S.Store self.old.conn) false (state S.Store self.new.conn) (is_err result) }
         ensures written { (m₀ m : Queue) (k₀ k : List Entry) → Works (state S.Store self.old.conn) false m₀ k₀ m k
             → Serves (state S.Store self.new.conn)
             → Steps (state S.Store self.new.conn) result m₀ k₀ (with_expired t m) k }
@@ -178,6 +189,7 @@ impl<S: Alter> Store<S> {
 
     fn add_job(&mut self, job: &Job) -> Result<(), StoreFault>
         ensures served { Serves (state S.Store self.new.conn) → Serves (state S.Store self.old.conn) }
+        ensures holds { Holds (state S.Store self.old.conn) false (state S.Store self.new.conn) (is_err result) }
         ensures written { (m₀ m : Queue) (k₀ k : List Entry) → Works (state S.Store self.old.conn) false m₀ k₀ m k
             → Serves (state S.Store self.new.conn)
             → Moves (state S.Store self.new.conn) result m₀ k₀ (with_one_more_job (job_of job.now) m) k
@@ -203,6 +215,8 @@ impl<S: Alter> Work<'_, S> {
     /// `Unavailable`, or `Strange` where its row is no lawful record.
     pub fn job(&mut self, job: u32) -> Result<Option<Job>, StoreFault>
         ensures same_reference { self.new.store.ghost_name ≡ self.old.store.ghost_name }
+        ensures holds { Holds (state S.Store self.old.store.now.conn) self.old.failed
+            (state S.Store self.new.store.now.conn) self.new.failed }
         ensures keeps { Keeps (state S.Store self.old.store.now.conn) self.old.failed
             (state S.Store self.new.store.now.conn) self.new.failed }
         ensures found { AnswersIn (state S.Store self.old.store.now.conn) self.old.failed
@@ -228,6 +242,8 @@ impl<S: Alter> Work<'_, S> {
     /// `Unavailable`, or `Strange` where the row of one is no lawful record.
     pub fn waiting(&mut self, t: Moment) -> Result<Vec<Job>, StoreFault>
         ensures same_reference { self.new.store.ghost_name ≡ self.old.store.ghost_name }
+        ensures holds { Holds (state S.Store self.old.store.now.conn) self.old.failed
+            (state S.Store self.new.store.now.conn) self.new.failed }
         ensures keeps { Keeps (state S.Store self.old.store.now.conn) self.old.failed
             (state S.Store self.new.store.now.conn) self.new.failed }
         ensures found { AnswersIn (state S.Store self.old.store.now.conn) self.old.failed
@@ -251,6 +267,8 @@ impl<S: Alter> Work<'_, S> {
     /// `Unavailable`, also where a job has the number, or `Strange` where no next number is left.
     pub fn put_job(&mut self, job: &Job) -> Result<(), StoreFault>
         ensures same_reference { self.new.store.ghost_name ≡ self.old.store.ghost_name }
+        ensures holds { Holds (state S.Store self.old.store.now.conn) self.old.failed
+            (state S.Store self.new.store.now.conn) self.new.failed }
         ensures changes { Changes (state S.Store self.old.store.now.conn) self.old.failed
             (state S.Store self.new.store.now.conn) self.new.failed (with_one_more_job (job_of job.now)) (λ k. k) }
         ensures cause { (m₀ m : Queue) (k₀ k : List Entry)
@@ -279,6 +297,8 @@ impl<S: Alter> Work<'_, S> {
     /// `Unavailable`.
     pub fn put_change(&mut self, job: &Job) -> Result<(), StoreFault>
         ensures same_reference { self.new.store.ghost_name ≡ self.old.store.ghost_name }
+        ensures holds { Holds (state S.Store self.old.store.now.conn) self.old.failed
+            (state S.Store self.new.store.now.conn) self.new.failed }
         ensures changes { ChangesWhere (IsChange (job_of job.now)) (state S.Store self.old.store.now.conn)
             self.old.failed (state S.Store self.new.store.now.conn) self.new.failed
             (with_change (job_of job.now)) (λ k. k) }
@@ -302,6 +322,8 @@ impl<S: Alter> Work<'_, S> {
     /// `Unavailable`.
     pub fn expire_all(&mut self, t: Moment) -> Result<(), StoreFault>
         ensures same_reference { self.new.store.ghost_name ≡ self.old.store.ghost_name }
+        ensures holds { Holds (state S.Store self.old.store.now.conn) self.old.failed
+            (state S.Store self.new.store.now.conn) self.new.failed }
         ensures changes { Changes (state S.Store self.old.store.now.conn) self.old.failed
             (state S.Store self.new.store.now.conn) self.new.failed (with_expired t) (λ k. k) }
         ensures cause { IfErr result (λ fault. fault ≡ StoreFault.Unavailable) }

@@ -1,11 +1,12 @@
 //! The clock and the next numbers.
 
-ghost use Rattle.std.specs.Prelude.{◌≡◌, List, false, Err, IfErr, IfOk, is_err, IsTrue};
+ghost use Rattle.std.specs.Prelude.{◌≡◌, List, false, Err, IfErr, IfOk, is_err, IsTrue, OnOk};
 ghost use Rattle.sqlite.specs.Held.{state};
+ghost use Rattle.sqlite.specs.State.{HasCleanDisk};
 ghost use Rattle.fax_core.specs.Queue.{Queue, Entry};
 ghost use Rattle.fax_store.specs.Meta.{with_clock};
-ghost use Rattle.fax_store.specs.Store.{Serves, Means, MeansNow, Stays, Answers};
-ghost use Rattle.fax_store.specs.Work.{Works, Keeps, Changes, AnswersIn, Steps};
+ghost use Rattle.fax_store.specs.Store.{Serves, Means, MeansNow, HasTables, Reads, Stays};
+ghost use Rattle.fax_store.specs.Work.{Holds, Works, Keeps, Changes, AnswersIn, Steps};
 ghost use Rattle.fax_tables.specs.Fault.{OrUnavailable};
 ghost use Rattle.fax_tables.specs.Meta.{meta_of, with_meta};
 ghost use Rattle.fax_tables.specs.Tables.{IsLawfulMeta};
@@ -31,6 +32,8 @@ impl<S: Alter> Store<S> {
     /// `Unavailable`, or `Strange` where their row is no lawful record.
     pub fn meta(&mut self) -> Result<Meta, StoreFault>
         ensures served { Serves (state S.Store self.new.conn) → Serves (state S.Store self.old.conn) }
+        ensures clean { HasCleanDisk (state S.Store self.new.conn) → HasCleanDisk (state S.Store self.old.conn) }
+        ensures opens { OnOk result (HasCleanDisk (state S.Store self.new.conn) → Serves (state S.Store self.new.conn)) }
         ensures stays { Stays (state S.Store self.old.conn) (state S.Store self.new.conn) }
         ensures found { (m : Queue) (k : List Entry) → Means (state S.Store self.old.conn) m k
             → Serves (state S.Store self.new.conn) → OrUnavailable result (λ meta. meta ≡ meta_of m) }
@@ -41,9 +44,12 @@ impl<S: Alter> Store<S> {
 
     pub(crate) fn read_meta(&mut self) -> Result<Meta, StoreFault>
         ensures served { Serves (state S.Store self.new.conn) → Serves (state S.Store self.old.conn) }
+        ensures clean { HasCleanDisk (state S.Store self.new.conn) → HasCleanDisk (state S.Store self.old.conn) }
+        ensures opens { OnOk result (HasCleanDisk (state S.Store self.new.conn) → Serves (state S.Store self.new.conn)) }
+        ensures reads { HasTables (state S.Store self.old.conn) → HasCleanDisk (state S.Store self.new.conn)
+            → Reads (state S.Store self.old.conn) (state S.Store self.new.conn) result }
         ensures answers { (m : Queue) (k : List Entry) → MeansNow (state S.Store self.old.conn) m k
-            → Serves (state S.Store self.new.conn)
-            → Answers (state S.Store self.old.conn) (state S.Store self.new.conn) result (λ meta. meta ≡ meta_of m) }
+            → Serves (state S.Store self.new.conn) → OrUnavailable result (λ meta. meta ≡ meta_of m) }
         ensures lawful { IfOk result (λ meta. (m : Queue) → IsLawfulMeta (with_meta meta m)) }
     {
         match self.find(SELECT_META, &[])? {
@@ -54,6 +60,7 @@ impl<S: Alter> Store<S> {
 
     pub(crate) fn write_meta(&mut self, meta: Meta) -> Result<(), StoreFault>
         ensures served { Serves (state S.Store self.new.conn) → Serves (state S.Store self.old.conn) }
+        ensures holds { Holds (state S.Store self.old.conn) false (state S.Store self.new.conn) (is_err result) }
         ensures written { (m₀ m : Queue) (k₀ k : List Entry) → Works (state S.Store self.old.conn) false m₀ k₀ m k
             → Serves (state S.Store self.new.conn) → IsLawfulMeta (with_meta meta m)
             → Steps (state S.Store self.new.conn) result m₀ k₀ (with_meta meta m) k }
@@ -66,6 +73,7 @@ impl<S: Alter> Store<S> {
 
     fn write_clock(&mut self, clock: Moment) -> Result<(), StoreFault>
         ensures served { Serves (state S.Store self.new.conn) → Serves (state S.Store self.old.conn) }
+        ensures holds { Holds (state S.Store self.old.conn) false (state S.Store self.new.conn) (is_err result) }
         ensures written { (m₀ m : Queue) (k₀ k : List Entry) → Works (state S.Store self.old.conn) false m₀ k₀ m k
             → Serves (state S.Store self.new.conn)
             → Steps (state S.Store self.new.conn) result m₀ k₀ (with_clock clock m) k }
@@ -83,6 +91,8 @@ impl<S: Alter> Work<'_, S> {
     /// `Unavailable`, or `Strange` where their row is no lawful record.
     pub fn meta(&mut self) -> Result<Meta, StoreFault>
         ensures same_reference { self.new.store.ghost_name ≡ self.old.store.ghost_name }
+        ensures holds { Holds (state S.Store self.old.store.now.conn) self.old.failed
+            (state S.Store self.new.store.now.conn) self.new.failed }
         ensures keeps { Keeps (state S.Store self.old.store.now.conn) self.old.failed
             (state S.Store self.new.store.now.conn) self.new.failed }
         ensures found { AnswersIn (state S.Store self.old.store.now.conn) self.old.failed
@@ -107,6 +117,8 @@ impl<S: Alter> Work<'_, S> {
     /// `Unavailable`.
     pub fn set_clock(&mut self, clock: Moment) -> Result<(), StoreFault>
         ensures same_reference { self.new.store.ghost_name ≡ self.old.store.ghost_name }
+        ensures holds { Holds (state S.Store self.old.store.now.conn) self.old.failed
+            (state S.Store self.new.store.now.conn) self.new.failed }
         ensures changes { Changes (state S.Store self.old.store.now.conn) self.old.failed
             (state S.Store self.new.store.now.conn) self.new.failed (with_clock clock) (λ k. k) }
         ensures cause { IfErr result (λ fault. fault ≡ StoreFault.Unavailable) }

@@ -1,12 +1,13 @@
 //! The modems that are down.
 
-ghost use Rattle.std.specs.Prelude.{◌≡◌, List, true, false, Err, IfErr, is_err, IsTrue};
+ghost use Rattle.std.specs.Prelude.{◌≡◌, List, true, false, Err, IfErr, is_err, IsTrue, OnOk};
 ghost use Rattle.sqlite.specs.Held.{state};
+ghost use Rattle.sqlite.specs.State.{HasCleanDisk};
 ghost use Rattle.fax_core.specs.Machine.{is_down, with_mark};
 ghost use Rattle.fax_core.specs.Queue.{Queue, Entry};
 ghost use Rattle.fax_job.specs.Name.{IsName};
-ghost use Rattle.fax_store.specs.Store.{Serves, Means, MeansNow, Stays, Answers};
-ghost use Rattle.fax_store.specs.Work.{Works, Keeps, Changes, AnswersIn, Moves, Steps};
+ghost use Rattle.fax_store.specs.Store.{Serves, Means, MeansNow, HasTables, Reads, Stays};
+ghost use Rattle.fax_store.specs.Work.{Holds, Works, Keeps, Changes, AnswersIn, Moves, Steps};
 ghost use Rattle.fax_tables.specs.Fault.{OrUnavailable};
 
 use crate::store::Store;
@@ -29,6 +30,8 @@ impl<S: Alter> Store<S> {
     /// `Unavailable`.
     pub fn is_down(&mut self, modem: &str) -> Result<bool, StoreFault>
         ensures served { Serves (state S.Store self.new.conn) → Serves (state S.Store self.old.conn) }
+        ensures clean { HasCleanDisk (state S.Store self.new.conn) → HasCleanDisk (state S.Store self.old.conn) }
+        ensures opens { OnOk result (HasCleanDisk (state S.Store self.new.conn) → Serves (state S.Store self.new.conn)) }
         ensures stays { Stays (state S.Store self.old.conn) (state S.Store self.new.conn) }
         ensures found { (m : Queue) (k : List Entry) → Means (state S.Store self.old.conn) m k
             → Serves (state S.Store self.new.conn) → OrUnavailable result (λ down. down ≡ is_down modem.now m) }
@@ -38,9 +41,12 @@ impl<S: Alter> Store<S> {
 
     fn read_mark(&mut self, modem: &str) -> Result<bool, StoreFault>
         ensures served { Serves (state S.Store self.new.conn) → Serves (state S.Store self.old.conn) }
+        ensures clean { HasCleanDisk (state S.Store self.new.conn) → HasCleanDisk (state S.Store self.old.conn) }
+        ensures opens { OnOk result (HasCleanDisk (state S.Store self.new.conn) → Serves (state S.Store self.new.conn)) }
+        ensures reads { HasTables (state S.Store self.old.conn) → HasCleanDisk (state S.Store self.new.conn)
+            → Reads (state S.Store self.old.conn) (state S.Store self.new.conn) result }
         ensures answers { (m : Queue) (k : List Entry) → MeansNow (state S.Store self.old.conn) m k
-            → Serves (state S.Store self.new.conn)
-            → Answers (state S.Store self.old.conn) (state S.Store self.new.conn) result (λ down. down ≡ is_down modem.now m) }
+            → Serves (state S.Store self.new.conn) → OrUnavailable result (λ down. down ≡ is_down modem.now m) }
         ensures cause { IfErr result (λ fault. fault ≡ StoreFault.Unavailable) }
     {
         let row = self.find(SELECT_DOWN, params![modem])?;
@@ -49,6 +55,7 @@ impl<S: Alter> Store<S> {
 
     fn clear_mark(&mut self, modem: &str) -> Result<(), StoreFault>
         ensures served { Serves (state S.Store self.new.conn) → Serves (state S.Store self.old.conn) }
+        ensures holds { Holds (state S.Store self.old.conn) false (state S.Store self.new.conn) (is_err result) }
         ensures written { (m₀ m : Queue) (k₀ k : List Entry) → Works (state S.Store self.old.conn) false m₀ k₀ m k
             → Serves (state S.Store self.new.conn)
             → Steps (state S.Store self.new.conn) result m₀ k₀ (with_mark modem.now false m) k }
@@ -59,6 +66,7 @@ impl<S: Alter> Store<S> {
 
     fn add_mark(&mut self, modem: &str) -> Result<(), StoreFault>
         ensures served { Serves (state S.Store self.new.conn) → Serves (state S.Store self.old.conn) }
+        ensures holds { Holds (state S.Store self.old.conn) false (state S.Store self.new.conn) (is_err result) }
         ensures written { (m₀ m : Queue) (k₀ k : List Entry) → Works (state S.Store self.old.conn) false m₀ k₀ m k
             → Serves (state S.Store self.new.conn)
             → Moves (state S.Store self.new.conn) result m₀ k₀ (with_mark modem.now true m) k }
@@ -75,6 +83,7 @@ impl<S: Alter> Store<S> {
 
     fn write_mark(&mut self, modem: &str, down: bool) -> Result<(), StoreFault>
         ensures served { Serves (state S.Store self.new.conn) → Serves (state S.Store self.old.conn) }
+        ensures holds { Holds (state S.Store self.old.conn) false (state S.Store self.new.conn) (is_err result) }
         ensures written { (m₀ m : Queue) (k₀ k : List Entry) → Works (state S.Store self.old.conn) false m₀ k₀ m k
             → Serves (state S.Store self.new.conn)
             → Moves (state S.Store self.new.conn) result m₀ k₀ (with_mark modem.now down m) k }
@@ -96,6 +105,8 @@ impl<S: Alter> Work<'_, S> {
     /// `Unavailable`.
     pub fn is_down(&mut self, modem: &str) -> Result<bool, StoreFault>
         ensures same_reference { self.new.store.ghost_name ≡ self.old.store.ghost_name }
+        ensures holds { Holds (state S.Store self.old.store.now.conn) self.old.failed
+            (state S.Store self.new.store.now.conn) self.new.failed }
         ensures keeps { Keeps (state S.Store self.old.store.now.conn) self.old.failed
             (state S.Store self.new.store.now.conn) self.new.failed }
         ensures found { AnswersIn (state S.Store self.old.store.now.conn) self.old.failed
@@ -119,6 +130,8 @@ impl<S: Alter> Work<'_, S> {
     /// `Unavailable`, or `Strange` where what is to be marked is no name.
     pub fn set_down(&mut self, modem: &str, down: bool) -> Result<(), StoreFault>
         ensures same_reference { self.new.store.ghost_name ≡ self.old.store.ghost_name }
+        ensures holds { Holds (state S.Store self.old.store.now.conn) self.old.failed
+            (state S.Store self.new.store.now.conn) self.new.failed }
         ensures changes { Changes (state S.Store self.old.store.now.conn) self.old.failed
             (state S.Store self.new.store.now.conn) self.new.failed (with_mark modem.now down) (λ k. k) }
         ensures cause { (IsTrue down → IsName modem.now) → IfErr result (λ fault. fault ≡ StoreFault.Unavailable) }

@@ -1,12 +1,13 @@
 //! The kept replies.
 
-ghost use Rattle.std.specs.Prelude.{◌≡◌, ◌∷◌, ◌++◌, [], false, List, Err, IfErr, IfOk, IfSome, is_err, IsTrue};
+ghost use Rattle.std.specs.Prelude.{◌≡◌, ◌∷◌, ◌++◌, [], false, List, Err, IfErr, IfOk, IfSome, is_err, IsTrue, OnOk};
 ghost use Rattle.sqlite.specs.Held.{state};
+ghost use Rattle.sqlite.specs.State.{HasCleanDisk};
 ghost use Rattle.fax_core.specs.Queue.{Queue, Entry};
 ghost use Rattle.fax_job.specs.Name.{IsName};
 ghost use Rattle.fax_store.specs.Kept.{IsKeptFor};
-ghost use Rattle.fax_store.specs.Store.{Serves, Means, MeansNow, Stays, Answers};
-ghost use Rattle.fax_store.specs.Work.{Works, Keeps, Changes, AnswersIn, Moves};
+ghost use Rattle.fax_store.specs.Store.{Serves, Means, MeansNow, HasTables, Reads, Stays};
+ghost use Rattle.fax_store.specs.Work.{Holds, Works, Keeps, Changes, AnswersIn, Moves};
 ghost use Rattle.fax_tables.specs.Fault.{OrUnavailable};
 ghost use Rattle.fax_tables.specs.Kept.{entry};
 ghost use Rattle.fax_tables.specs.Tables.{IsKeptStatus};
@@ -31,6 +32,8 @@ impl<S: Alter> Store<S> {
     /// `Unavailable`, or `Strange` where its row is no lawful record.
     pub fn kept(&mut self, client: &str, number: RequestNumber) -> Result<Option<Kept>, StoreFault>
         ensures served { Serves (state S.Store self.new.conn) → Serves (state S.Store self.old.conn) }
+        ensures clean { HasCleanDisk (state S.Store self.new.conn) → HasCleanDisk (state S.Store self.old.conn) }
+        ensures opens { OnOk result (HasCleanDisk (state S.Store self.new.conn) → Serves (state S.Store self.new.conn)) }
         ensures stays { Stays (state S.Store self.old.conn) (state S.Store self.new.conn) }
         ensures found { (m : Queue) (k : List Entry) → Means (state S.Store self.old.conn) m k
             → Serves (state S.Store self.new.conn) → OrUnavailable result (IsKeptFor k client.now number) }
@@ -45,9 +48,12 @@ impl<S: Alter> Store<S> {
         number: RequestNumber,
     ) -> Result<Option<Kept>, StoreFault>
         ensures served { Serves (state S.Store self.new.conn) → Serves (state S.Store self.old.conn) }
+        ensures clean { HasCleanDisk (state S.Store self.new.conn) → HasCleanDisk (state S.Store self.old.conn) }
+        ensures opens { OnOk result (HasCleanDisk (state S.Store self.new.conn) → Serves (state S.Store self.new.conn)) }
+        ensures reads { HasTables (state S.Store self.old.conn) → HasCleanDisk (state S.Store self.new.conn)
+            → Reads (state S.Store self.old.conn) (state S.Store self.new.conn) result }
         ensures answers { (m : Queue) (k : List Entry) → MeansNow (state S.Store self.old.conn) m k
-            → Serves (state S.Store self.new.conn)
-            → Answers (state S.Store self.old.conn) (state S.Store self.new.conn) result (IsKeptFor k client.now number) }
+            → Serves (state S.Store self.new.conn) → OrUnavailable result (IsKeptFor k client.now number) }
         ensures lawful { IfOk result (λ found. IfSome found (λ kept. IsKeptStatus kept.status)) }
     {
         let number = number_value(number);
@@ -66,12 +72,14 @@ impl<S: Alter> Store<S> {
         body: &[u8],
     ) -> Result<(), StoreFault>
         ensures served { Serves (state S.Store self.new.conn) → Serves (state S.Store self.old.conn) }
+        ensures holds { Holds (state S.Store self.old.conn) false (state S.Store self.new.conn) (is_err result) }
         ensures written { (m₀ m : Queue) (k₀ k : List Entry) → Works (state S.Store self.old.conn) false m₀ k₀ m k
             → Serves (state S.Store self.new.conn)
             → Moves (state S.Store self.new.conn) result m₀ k₀ m
             (k ++ entry client.now number said.now status body.now ∷ []) }
         ensures cause { IsName client.now → IsKeptStatus status
             → IfErr result (λ fault. fault ≡ StoreFault.Unavailable) }
+        ensures status { OnOk result (IsKeptStatus status) }
     {
         let number = number_value(number);
         if !is_name(client.as_bytes()) || !is_kept_status(status) {
@@ -92,6 +100,8 @@ impl<S: Alter> Work<'_, S> {
     /// `Unavailable`, or `Strange` where its row is no lawful record.
     pub fn kept(&mut self, client: &str, number: RequestNumber) -> Result<Option<Kept>, StoreFault>
         ensures same_reference { self.new.store.ghost_name ≡ self.old.store.ghost_name }
+        ensures holds { Holds (state S.Store self.old.store.now.conn) self.old.failed
+            (state S.Store self.new.store.now.conn) self.new.failed }
         ensures keeps { Keeps (state S.Store self.old.store.now.conn) self.old.failed
             (state S.Store self.new.store.now.conn) self.new.failed }
         ensures found { AnswersIn (state S.Store self.old.store.now.conn) self.old.failed
@@ -124,11 +134,14 @@ impl<S: Alter> Work<'_, S> {
         body: &[u8],
     ) -> Result<(), StoreFault>
         ensures same_reference { self.new.store.ghost_name ≡ self.old.store.ghost_name }
+        ensures holds { Holds (state S.Store self.old.store.now.conn) self.old.failed
+            (state S.Store self.new.store.now.conn) self.new.failed }
         ensures changes { Changes (state S.Store self.old.store.now.conn) self.old.failed
             (state S.Store self.new.store.now.conn) self.new.failed (λ m. m)
             (λ k. k ++ entry client.now number said.now status body.now ∷ []) }
         ensures cause { IsName client.now → IsKeptStatus status
             → IfErr result (λ fault. fault ≡ StoreFault.Unavailable) }
+        ensures status { OnOk result (IsKeptStatus status) }
         ensures served { Serves (state S.Store self.new.store.now.conn) → Serves (state S.Store self.old.store.now.conn) }
         ensures fails { self.new.failed ≡ is_err result }
         ensures refused { IsTrue self.old.failed → result ≡ Err StoreFault.Unavailable }

@@ -1,6 +1,6 @@
 //! A database with the six tables.
 
-ghost use Rattle.std.specs.Prelude.{◌≡◌, false, [], IfOk, IfErr, OnOk, OnErr};
+ghost use Rattle.std.specs.Prelude.{◌≡◌, false, [], IfOk, IfErr, OnOk, OnErr, is_err};
 ghost use Rattle.std.specs.Borrow.{sem, RestsIfErr};
 ghost use Rattle.sqlite.specs.Held.{state};
 ghost use Rattle.fax_store.specs.contracts.store.Store.{the_row};
@@ -8,8 +8,8 @@ ghost use Rattle.sqlite.specs.Values.{bound};
 ghost use Rattle.sqlite.specs.State.{HasCleanDisk, Shown};
 ghost use Rattle.sqlite.specs.Steps.{over_memory};
 ghost use Rattle.fax_core.specs.Queue.{empty_queue};
-ghost use Rattle.fax_store.specs.Store.{Serves, Stays, GoesBack, LeavesCommit, FindsRow, HasRun};
-ghost use Rattle.fax_store.specs.Work.{Begins};
+ghost use Rattle.fax_store.specs.Store.{Serves, StaysAsItWas, GoesBack, LeavesCommit, FindsRow, HasRun, HasTables, IsEditText, IsQueryText, Reads};
+ghost use Rattle.fax_store.specs.Work.{Begins, BeginsAt, Holds};
 ghost use Rattle.fax_tables.specs.Tables.{IsAtRest};
 
 use crate::work::Work;
@@ -59,10 +59,12 @@ impl<S: Alter> Store<S> {
     /// `Unavailable`; the tables are as they were.
     pub fn begin(&mut self) -> Result<Work<'_, S>, StoreFault>
         ensures* refused { sem 𝓛 (RestsIfErr (the_row S.row S.Store) self.entry (λ work. work.store.ghost_name)
-            result (λ last. Stays (state S.Store self.old.conn) (state S.Store last.conn))) }
+            result (λ last. StaysAsItWas (state S.Store self.old.conn) (state S.Store last.conn))) }
         ensures same_reference { IfOk result (λ work. work.store.ghost_name ≡ self.entry.ghost_name) }
         ensures begun { IfOk result (λ work.
             Begins (state S.Store self.old.conn) (state S.Store work.store.now.conn) work.failed) }
+        ensures at { IfOk result (λ work.
+            BeginsAt (state S.Store self.old.conn) (state S.Store work.store.now.conn) work.failed) }
         ensures served { IfOk result (λ work.
             Serves (state S.Store work.store.now.conn) → Serves (state S.Store self.old.conn)) }
         ensures goes_on { IfOk result (λ work. work.failed ≡ false) }
@@ -74,7 +76,8 @@ impl<S: Alter> Store<S> {
 
     /// Undoes what was not committed.
     pub(crate) fn roll_back(&mut self)
-        ensures { GoesBack (state S.Store self.old.conn) (state S.Store self.new.conn) }
+        ensures back { GoesBack (state S.Store self.old.conn) (state S.Store self.new.conn) }
+        ensures served { Serves (state S.Store self.new.conn) → Serves (state S.Store self.old.conn) }
     {
         if !self.conn.is_autocommit() {
             let _ = self.conn.execute(ROLLBACK, &[]);
@@ -88,6 +91,11 @@ impl<S: Alter> Store<S> {
         params: &[ValueRef<'_>],
     ) -> Result<Vec<Row>, StoreFault>
         ensures served { Serves (state S.Store self.new.conn) → Serves (state S.Store self.old.conn) }
+        ensures clean { HasCleanDisk (state S.Store self.new.conn) → HasCleanDisk (state S.Store self.old.conn) }
+        ensures opens { OnOk result (HasCleanDisk (state S.Store self.new.conn) → Serves (state S.Store self.new.conn)) }
+        ensures reads { IsQueryText sql.now → HasTables (state S.Store self.old.conn)
+            → HasCleanDisk (state S.Store self.new.conn)
+            → Reads (state S.Store self.old.conn) (state S.Store self.new.conn) result }
         ensures shown { HasCleanDisk (state S.Store self.new.conn) → IfOk result
             (λ rows. Shown sql.now (bound params.now) (state S.Store self.old.conn) (state S.Store self.new.conn) rows.items) }
         ensures left { HasCleanDisk (state S.Store self.new.conn) → OnErr result
@@ -105,6 +113,11 @@ impl<S: Alter> Store<S> {
         params: &[ValueRef<'_>],
     ) -> Result<Option<Row>, StoreFault>
         ensures served { Serves (state S.Store self.new.conn) → Serves (state S.Store self.old.conn) }
+        ensures clean { HasCleanDisk (state S.Store self.new.conn) → HasCleanDisk (state S.Store self.old.conn) }
+        ensures opens { OnOk result (HasCleanDisk (state S.Store self.new.conn) → Serves (state S.Store self.new.conn)) }
+        ensures reads { IsQueryText sql.now → HasTables (state S.Store self.old.conn)
+            → HasCleanDisk (state S.Store self.new.conn)
+            → Reads (state S.Store self.old.conn) (state S.Store self.new.conn) result }
         ensures found { HasCleanDisk (state S.Store self.new.conn) → IfOk result
             (FindsRow sql.now (bound params.now) (state S.Store self.old.conn) (state S.Store self.new.conn)) }
         ensures left { HasCleanDisk (state S.Store self.new.conn) → OnErr result
@@ -118,6 +131,8 @@ impl<S: Alter> Store<S> {
     /// Runs a statement that shows no rows.
     pub(crate) fn run(&mut self, sql: &str, params: &[ValueRef<'_>]) -> Result<(), StoreFault>
         ensures served { Serves (state S.Store self.new.conn) → Serves (state S.Store self.old.conn) }
+        ensures holds { IsEditText sql.now
+            → Holds (state S.Store self.old.conn) false (state S.Store self.new.conn) (is_err result) }
         ensures ran { HasCleanDisk (state S.Store self.new.conn) → OnOk result
             (HasRun sql.now (bound params.now) (state S.Store self.old.conn) (state S.Store self.new.conn)) }
         ensures left { HasCleanDisk (state S.Store self.new.conn) → OnErr result

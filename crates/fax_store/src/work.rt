@@ -2,8 +2,9 @@
 
 ghost use Rattle.std.specs.Prelude.{◌≡◌, false, IsTrue, IfErr, OnOk, OnErr};
 ghost use Rattle.sqlite.specs.Held.{state};
+ghost use Rattle.sqlite.specs.State.{HasCleanDisk};
 ghost use Rattle.fax_store.specs.Store.{Serves};
-ghost use Rattle.fax_store.specs.Work.{Commits, Undoes};
+ghost use Rattle.fax_store.specs.Work.{Commits, Forgets, Undoes};
 
 use crate::store::{COMMIT, Store};
 use fax_tables::StoreFault;
@@ -39,6 +40,10 @@ impl<'s, S: Alter> Work<'s, S> {
             self.entry.failed (state S.Store self.exit.0.now.conn)) }
         ensures served { OnOk result (Serves (state S.Store self.exit.0.now.conn)
             → Serves (state S.Store self.entry.store.now.conn)) }
+        ensures opens { OnOk result (HasCleanDisk (state S.Store self.exit.0.now.conn)
+            → Serves (state S.Store self.exit.0.now.conn)) }
+        ensures forgets { OnErr result (Forgets (state S.Store self.entry.store.now.conn)
+            self.entry.failed (state S.Store self.exit.0.now.conn)) }
         ensures undone { OnErr result (Undoes (state S.Store self.entry.store.now.conn)
             self.entry.failed (state S.Store self.exit.0.now.conn)) }
         ensures refused { IsTrue self.entry.failed → result ≡ Err StoreFault.Unavailable }
@@ -56,7 +61,9 @@ impl<'s, S: Alter> Work<'s, S> {
 
 impl<S: Alter> Drop for Work<'_, S> {
     fn drop(self)
-        ensures { Undoes (state S.Store self.entry.store.now.conn) self.entry.failed
+        ensures forgets { Forgets (state S.Store self.entry.store.now.conn) self.entry.failed
+            (state S.Store self.exit.0.now.conn) }
+        ensures undone { Undoes (state S.Store self.entry.store.now.conn) self.entry.failed
             (state S.Store self.exit.0.now.conn) }
     {
         let Work { store, failed: _ } = self;

@@ -1,5 +1,6 @@
 use Rattle.std.proofs.Common.{◌≡◌, sym, ◌∙◌}
 use Rattle.std.specs.Prelude.{IfOk}
+use Rattle.fax_store.proofs.StoreLemmas.{means_stay}
 use Rattle.fax_decide.proofs.GivenLemmas.{held_told}
 use Rattle.fax_decide.proofs.choice.busy.Goals as goal
 
@@ -8,4 +9,4 @@ returns-clause-decided g c m k t modem one sound means serves is same =
     let serves_grant = c.job.ensures.served serves in
     held_told (λ told. IfOk c.held.result (λ reply. reply ≡ told)) m t modem one c.in-Some.grant c.args.hold c.in-Some-2.job sound is same
     (sym c.in-Some.is ∙ c.in_ok-grant.ensures.found m k means serves_grant)
-    (sym c.in-Some-2.is ∙ c.in_ok-job.ensures.found m k (c.grant.ensures.stays m k means) serves) c.held.ensures
+    (sym c.in-Some-2.is ∙ c.in_ok-job.ensures.found m k (means_stay c.grant.ensures.served c.grant.ensures.stays m k means) serves) c.held.ensures

@@ -10,6 +10,7 @@ use Rattle.fax_tables.specs.Grant.{as_hold}
 use Rattle.fax_decide.specs.Decision.{Decides}
 use Rattle.fax_decide.specs.Settings.{settings_of}
 use Rattle.fax_decide.specs.declared.decision.Decision.TheVariants.{Refused}
+use Rattle.fax_store.proofs.StoreLemmas.{means_stay}
 use Rattle.fax_decide.proofs.DecisionLemmas.{decided_by, refused_as}
 use Rattle.fax_decide.proofs.GivenLemmas.{goes_free, is_busy}
 use Rattle.fax_decide.proofs.choice.decide_next.Goals as goal
@@ -18,8 +19,8 @@ pub returns-in-Some-clause-decided : goal.returns-in-Some-clause-decided
 returns-in-Some-clause-decided g c m k sound means serves next =
     let serves_hold = c.busy.ensures.served serves in
     let serves_down = c.hold_of.ensures.served serves_hold in
-    let looked = c.is_down.ensures.stays m k means in
-    let held = c.hold_of.ensures.stays m k looked in
+    let looked = means_stay c.is_down.ensures.served c.is_down.ensures.stays m k means in
+    let held = means_stay c.hold_of.ensures.served c.hold_of.ensures.stays m k looked in
     is_busy (settings_of c.args.office.now.setup c.args.office.now.controls) m c.args.t c.args.modem
     (sym (c.has_modem.ensures ∙ ap (has_modem c.args.office.now.setup) c.as_str.ensures.text) ∙ c.if-not-has_modem.false)
     (sym (c.in_ok-is_down.ensures.found m k means serves_down ∙ ap (λ (name : List ℕ). is_down name m) c.as_str-2.ensures.text) ∙ c.if-branch.false)
@@ -33,8 +34,8 @@ pub returns-in-None-clause-decided : goal.returns-in-None-clause-decided
 returns-in-None-clause-decided g c m k sound means serves next =
     let serves_hold = c.decide_free.ensures.served serves in
     let serves_down = c.hold_of.ensures.served serves_hold in
-    let looked = c.is_down.ensures.stays m k means in
-    let held = c.hold_of.ensures.stays m k looked in
+    let looked = means_stay c.is_down.ensures.served c.is_down.ensures.stays m k means in
+    let held = means_stay c.hold_of.ensures.served c.hold_of.ensures.stays m k looked in
     goes_free (settings_of c.args.office.now.setup c.args.office.now.controls) m c.args.t c.args.modem
     (sym (c.has_modem.ensures ∙ ap (has_modem c.args.office.now.setup) c.as_str.ensures.text) ∙ c.if-not-has_modem.false)
     (sym (c.in_ok-is_down.ensures.found m k means serves_down ∙ ap (λ (name : List ℕ). is_down name m) c.as_str-2.ensures.text) ∙ c.if-branch.false)

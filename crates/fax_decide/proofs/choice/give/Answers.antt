@@ -1,4 +1,4 @@
-use Rattle.std.proofs.Common.{IfOk, Ok, refl, ap, ◌∙◌}
+use Rattle.std.proofs.Common.{IfOk, Ok, refl, sym, subst, ap, ◌∙◌}
 use Rattle.fax_core.specs.Ageing.{aged}
 use Rattle.fax_core.specs.Decisions.{grant}
 use Rattle.fax_core.specs.Job.{job_of}
@@ -6,18 +6,21 @@ use Rattle.fax_core.specs.Machine.{given}
 use Rattle.fax_core.specs.declared.grants.Grant.{Grant}
 use Rattle.fax_decide.specs.Decision.{Decides}
 use Rattle.fax_decide.specs.declared.decision.Decision.TheVariants.{Refused}
-use Rattle.fax_decide.proofs.DecisionLemmas.{decided_by}
 use Rattle.fax_decide.proofs.GivenLemmas.{given_by, given_not}
+use Rattle.fax_decide.proofs.PlainLemmas.{grant_plain}
 use Rattle.fax_decide.proofs.choice.give.Goals as goal
 
-pub returns-in-Ok : goal.returns-in-Ok
-returns-in-Ok c m t sound there next =
+pub returns-in-Ok-clause-decided : goal.returns-in-Ok-clause-decided
+returns-in-Ok-clause-decided c m t sound there next =
     given_by (λ step. IfOk c.given.result (Decides step m t)) (aged t m) (job_of c.args.job) c.args.modem c.args.next_grant c.max_grants.result c.args.office.now.setup.max_grants
     (Ok c.in-Ok.change) c.new-grant.result c.new-grant.ensures (c.in-Ok.ensures c.args.modem) c.max_grants.ensures.number
     (c.given.ensures m t sound there (ap (λ (g : Grant). g.job) c.new-grant.ensures) (ap (λ (g : Grant). g.number) c.new-grant.ensures ∙ next))
 
-pub returns-in-Err : goal.returns-in-Err
-returns-in-Err c m t sound there next =
-    decided_by (λ reply. Refused reply) _ (given (aged t m) (grant (job_of c.args.job) c.args.modem c.args.next_grant c.args.office.now.setup.max_grants)) m t c.plain.result _ c.refuse.ensures c.plain.ensures.reply
-    (λ _. given_not (aged t m) (job_of c.args.job) c.args.modem c.args.next_grant c.max_grants.result c.args.office.now.setup.max_grants
+pub refused-requires : goal.refused-requires
+refused-requires c = grant_plain (job_of c.args.job) c.args.modem c.args.next_grant c.max_grants.result c.in-Err.refusal (sym (c.in-Err.ensures c.args.modem))
+
+pub returns-in-Err-clause-decided : goal.returns-in-Err-clause-decided
+returns-in-Err-clause-decided c m t sound there next =
+    subst (λ reply. Decides (given (aged t m) (grant (job_of c.args.job) c.args.modem c.args.next_grant c.args.office.now.setup.max_grants)) m t (Refused reply)) (sym c.refused.ensures)
+    (given_not (aged t m) (job_of c.args.job) c.args.modem c.args.next_grant c.max_grants.result c.args.office.now.setup.max_grants
     c.in-Err.refusal _ (c.in-Err.ensures c.args.modem) c.max_grants.ensures.number refl)

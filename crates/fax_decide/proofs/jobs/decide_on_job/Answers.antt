@@ -1,14 +1,20 @@
-use Rattle.std.proofs.Common.{subst}
+use Rattle.std.proofs.Common.{sym, subst}
 use Rattle.std.specs.Prelude.{IfOk}
+use Rattle.fax_core.specs.Job.{job_of}
 use Rattle.fax_core.specs.Reply.{NoKeys}
 use Rattle.fax_decide.specs.Decision.{Decides}
 use Rattle.fax_decide.specs.declared.decision.Decision.TheVariants.{Refused}
 use Rattle.fax_decide.specs.Settings.{settings_of}
 use Rattle.fax_core.specs.Ageing.{aged}
-use Rattle.fax_decide.proofs.DecisionLemmas.{decided_by, refused_as}
+use Rattle.fax_store.proofs.StoreLemmas.{means_stay}
+use Rattle.fax_decide.proofs.DecisionLemmas.{refused_as}
 use Rattle.fax_decide.proofs.JobLemmas.{on_job_is}
+use Rattle.fax_decide.proofs.PlainLemmas.{on_job_plain}
 use Rattle.fax_decide.proofs.RecordLemmas.{found_itself}
 use Rattle.fax_decide.proofs.jobs.decide_on_job.Goals as goal
+
+pub refused-in-Err-requires : goal.refused-in-Err-requires
+refused-in-Err-requires g c = on_job_plain c.args.ask c.args.t (job_of c.in-Some.job) c.in-Err.refusal (sym c.in-Err.ensures)
 
 pub returns-in-Ok-clause-decided : goal.returns-in-Ok-clause-decided
 returns-in-Ok-clause-decided g c m k means serves =
@@ -16,10 +22,10 @@ returns-in-Ok-clause-decided g c m k means serves =
     let there = found_itself (aged c.args.t m) c.args.number c.in-Some.job _ found c.in-Some.is in
     subst (λ step. IfOk c.changed.result (Decides step m c.args.t))
     (on_job_is (settings_of c.args.office.now.setup c.args.office.now.controls) m c.args.t c.args.ask c.args.number _ c.in-Some.job _ found c.in-Some.is c.in-Ok.ensures)
-    (c.changed.ensures.decided m k (c.job_at.ensures.stays m k means) serves there)
+    (c.changed.ensures.decided m k (means_stay c.job_at.ensures.served c.job_at.ensures.stays m k means) serves there)
 
 pub returns-in-Err-clause-decided : goal.returns-in-Err-clause-decided
 returns-in-Err-clause-decided g c m k means serves =
-    subst (λ step. IfOk c.refuse.result (Decides step m c.args.t))
+    subst (λ step. Decides step m c.args.t (Refused c.refused-in-Err.result))
     (on_job_is (settings_of c.args.office.now.setup c.args.office.now.controls) m c.args.t c.args.ask c.args.number _ c.in-Some.job _ (c.in_ok-job.ensures.found m k means serves) c.in-Some.is c.in-Err.ensures)
-    (decided_by (λ reply. Refused reply) _ _ m c.args.t c.plain.result _ c.refuse.ensures c.plain.ensures.reply (λ _. refused_as c.in-Err.refusal NoKeys))
+    (subst (λ reply. Decides _ m c.args.t (Refused reply)) (sym c.refused-in-Err.ensures) (refused_as c.in-Err.refusal NoKeys))

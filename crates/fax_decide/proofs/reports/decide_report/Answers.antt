@@ -6,6 +6,7 @@ use Rattle.fax_core.specs.Job.{job_of}
 use Rattle.fax_core.specs.Queue.{job_numbered}
 use Rattle.fax_decide.specs.Decision.{Decides}
 use Rattle.fax_decide.specs.Settings.{settings_of}
+use Rattle.fax_store.proofs.StoreLemmas.{means_stay}
 use Rattle.fax_decide.proofs.ReportLemmas.{are_there, on_grant_is, without_job_is, lawful_grant}
 use Rattle.fax_decide.proofs.reports.decide_report.Goals as goal
 
@@ -13,19 +14,19 @@ pub returns-in-Some-2-clause-decided : goal.returns-in-Some-2-clause-decided
 returns-in-Some-2-clause-decided g c m k sound means serves =
     let serves_job = c.report_on.ensures.served serves in
     let serves_grant = c.job_at.ensures.served serves_job in
-    let looked = c.grant_at.ensures.stays m k means in
+    let looked = means_stay c.grant_at.ensures.served c.grant_at.ensures.stays m k means in
     let grant = c.in_ok-grant.ensures.found m k means serves_grant in
     let job = subst (λ n. option_map (λ f. job_of f) c.in_ok-job.field-0 ≡ job_numbered n (aged c.args.t m)) c.from.ensures (c.in_ok-job.ensures.found m k looked serves_job) in
     let there = are_there m c.args.t c.args.number c.in-Some.grant c.in-Some-2.job _ _ grant c.in-Some.is job c.in-Some-2.is in
     let few = (lawful_grant m.grants c.in-Some.grant.number c.in-Some.grant (looked serves_grant).means.lawful.grants there.grant_there).limits.pages in
     subst (λ step. IfOk c.report_on.result (Decides step m c.args.t))
     (on_grant_is (settings_of c.args.office.now.setup c.args.office.now.controls) m c.args.t c.args.number c.args.report c.in-Some.grant c.in-Some-2.job _ _ grant c.in-Some.is job c.in-Some-2.is)
-    (c.report_on.ensures.decided m k sound (c.job_at.ensures.stays m k looked) serves there few.2)
+    (c.report_on.ensures.decided m k sound (means_stay c.job_at.ensures.served c.job_at.ensures.stays m k looked) serves there few.2)
 
 pub returns-in-None-clause-decided : goal.returns-in-None-clause-decided
 returns-in-None-clause-decided g c m k sound means serves =
     let serves_grant = c.job_at.ensures.served serves in
-    let looked = c.grant_at.ensures.stays m k means in
+    let looked = means_stay c.grant_at.ensures.served c.grant_at.ensures.stays m k means in
     let job = subst (λ n. option_map (λ f. job_of f) c.in_ok-job.field-0 ≡ job_numbered n (aged c.args.t m)) c.from.ensures (c.in_ok-job.ensures.found m k looked serves) in
     subst (λ step. IfOk c.without_job.result (Decides step m c.args.t))
     (without_job_is (settings_of c.args.office.now.setup c.args.office.now.controls) m c.args.t c.args.number c.args.report c.in-Some.grant _ _ (c.in_ok-grant.ensures.found m k means serves_grant) c.in-Some.is job c.in-None.is)

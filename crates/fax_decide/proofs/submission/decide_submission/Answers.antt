@@ -1,4 +1,4 @@
-use Rattle.std.proofs.Common.{Ok, Err, ap, subst, sym}
+use Rattle.std.proofs.Common.{true, Ok, Err, ap, subst, sym}
 use Rattle.std.specs.Prelude.{IfOk}
 use Rattle.fax_ask.specs.Response.{refused_response}
 use Rattle.fax_core.specs.Ageing.{aged}
@@ -10,8 +10,15 @@ use Rattle.fax_decide.specs.Decision.{Decides}
 use Rattle.fax_decide.specs.Settings.{have_moment, machine_rule, rule_for}
 use Rattle.fax_decide.specs.declared.decision.Decision.TheVariants.{Refused}
 use Rattle.fax_decide.proofs.DecisionLemmas.{decided_by}
+use Rattle.fax_decide.proofs.PlainLemmas.{rejected_has, submit_plain}
 use Rattle.fax_decide.proofs.SubmissionLemmas.{moved, submit_is, refused_is}
 use Rattle.fax_decide.proofs.submission.decide_submission.Goals as goal
+
+pub refused-requires-notice : goal.refused-requires-notice
+refused-requires-notice c = rejected_has c.args.order (rule_of c.in_ok-rule.rule.now (λ _. true)) c.args.next_job c.max_jobs.result c.args.t c.in-Err.refusal (sym (c.in-Err.ensures (λ _. true)))
+
+pub refused-requires-plain : goal.refused-requires-plain
+refused-requires-plain c = submit_plain c.args.order (rule_of c.in_ok-rule.rule.now (λ _. true)) c.args.next_job c.max_jobs.result c.args.t c.in-Err.refusal (sym (c.in-Err.ensures (λ _. true)))
 
 pub returns-in-Ok : goal.returns-in-Ok
 returns-in-Ok c m sound next =

@@ -2,6 +2,7 @@ use Rattle.std.proofs.Common.{◌≡◌, subst}
 use Rattle.std.specs.Prelude.{IfOk}
 use Rattle.fax_ask.specs.Response.{Response}
 use Rattle.fax_decide.specs.Settings.{settings_of}
+use Rattle.fax_store.proofs.StoreLemmas.{means_stay}
 use Rattle.fax_decide.proofs.ViewLemmas.{job_viewed}
 use Rattle.fax_decide.proofs.view.view_job.Goals as goal
 
@@ -10,4 +11,4 @@ returns-in-Some-clause-viewed g c m k means serves =
     let found = c.in_ok-job.ensures.found m k means (c.shown.ensures.served serves) in
     subst (λ (told : Response). IfOk c.shown.result (λ reply. reply ≡ told))
     (job_viewed (settings_of c.args.office.now.setup c.args.office.now.controls) m c.args.t c.args.number c.in-Some.job _ found c.in-Some.is)
-    (c.shown.ensures.told m k (c.job_at.ensures.stays m k means) serves)
+    (c.shown.ensures.told m k (means_stay c.job_at.ensures.served c.job_at.ensures.stays m k means) serves)

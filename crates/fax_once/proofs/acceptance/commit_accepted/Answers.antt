@@ -1,20 +1,21 @@
 use Rattle.std.proofs.Common.{◌≡◌, [], ◌∷◌, ◌++◌, subst, rules}
 use Rattle.sqlite.specs.Held.{state}
 use Rattle.fax_tables.specs.Kept.{entry}
-use Rattle.fax_store.specs.Store.{Means, Stays}
+use Rattle.fax_store.specs.Store.{Means, StaysAsItWas}
 use Rattle.fax_decide.specs.Effect.{accepted}
 use Rattle.fax_decide.proofs.WorkLemmas.{refused_with, works_where}
+use Rattle.fax_store.proofs.StoreLemmas.{means_stay}
 use Rattle.fax_once.proofs.acceptance.commit_accepted.Goals as goal
 
 pub returns-in_err-work-clause-taken : goal.returns-in_err-work-clause-taken
 returns-in_err-work-clause-taken g c m k means suits =
-    let stays : Stays (state g.S.Store c.args.store.now.conn) (state g.S.Store c.begin.follows.lender-at-none.conn) = search rules in
-    refused_with c.from_residual.result _ _ c.from_residual.ensures.0 (stays m k means)
+    let stays : StaysAsItWas (state g.S.Store c.args.store.now.conn) (state g.S.Store c.begin.follows.lender-at-none.conn) = search rules in
+    refused_with c.from_residual.result _ _ c.from_residual.ensures.0 (means_stay stays.0 stays.1 m k means)
 
 pub returns-in_err-write-clause-taken : goal.returns-in_err-write-clause-taken
 returns-in_err-write-clause-taken g c m k means suits =
     let works = works_where _ _ _ _ _ _ _ m k (λ serves. suits (c.in_ok-work.ensures.served serves)) c.write.ensures.served c.write.ensures.changes (c.in_ok-work.ensures.begun m k means) in
-    refused_with c.from_residual-in_err-write.result _ _ c.from_residual-in_err-write.ensures.0 (let same : c.drop-work.new.self.0 ≡ c.store-in_err-write-1.given.0 = search rules in subst (λ v. Means (state g.S.Store v.conn) m k) same (c.drop-work.ensures m _ k _ works))
+    refused_with c.from_residual-in_err-write.result _ _ c.from_residual-in_err-write.ensures.0 (let same : c.drop-work.new.self.0 ≡ c.store-in_err-write-1.given.0 = search rules in subst (λ v. Means (state g.S.Store v.conn) m k) same (c.drop-work.ensures.undone m _ k _ works))
 
 pub returns-in_err-commit-clause-taken : goal.returns-in_err-commit-clause-taken
 returns-in_err-commit-clause-taken g c m k means suits =

@@ -4,10 +4,10 @@ use Rattle.fax_once.proofs.RequestLemmas.{told_answers}
 use Rattle.fax_once.proofs.queue.Queue.answer.Goals as goal
 
 pub returns-in-Ok-clause-answered : goal.returns-in-Ok-clause-answered
-returns-in-Ok-clause-answered g c m k sound means serves =
-    c.answer_ask.ensures.answered m k sound means serves c.in-Ok.ensures.ask c.in-Ok.ensures.lawful
+returns-in-Ok-clause-answered g c m k sound means clean =
+    c.answer_ask.ensures.answered m k sound means clean c.in-Ok.ensures.ask c.in-Ok.ensures.lawful
 
 pub returns-in-Err-clause-answered : goal.returns-in-Err-clause-answered
-returns-in-Err-clause-answered g c m k sound means serves =
+returns-in-Err-clause-answered g c m k sound means clean =
     let settings = settings_of c.args.self.now.office.setup c.args.self.now.office.controls in
-    told_answers c.refuse_ask.result settings c.args.arrival.now m k (state g.S.Store c.args.self.now.store.conn) (c.refuse_ask.ensures settings m k c.in-Err.ensures.refused) (means serves)
+    told_answers c.refuse_ask.result settings c.args.arrival.now m k (state g.S.Store c.args.self.now.store.conn) (c.refuse_ask.ensures.verdict settings m k c.in-Err.ensures.refused) means

@@ -6,16 +6,16 @@ use Rattle.fax_once.proofs.VerdictLemmas.{refused_leaves, accepted_leaves}
 use Rattle.fax_once.proofs.queue.Queue.settle.Goals as goal
 
 pub returns-in-Taken-clause-settled : goal.returns-in-Taken-clause-settled
-returns-in-Taken-clause-settled g c s m k want sound means serves from lawful known =
+returns-in-Taken-clause-settled g c s m k want sound means opens clean from lawful known =
     accepted_leaves c.accept.result s c.args.arrival.now m k c.args.sender.now c.args.t want c.in-Taken.effect c.in-Taken.reply
     (state g.S.Store c.args.self.now.store.conn) (state g.S.Store c.accept.new.self.store.conn)
     sound lawful from (λ at. (known at).unused) (λ at. (known at).now)
     (λ at. subst (Decides (step s m c.args.t want) m c.args.t) c.in-Taken.is (known at).decides)
-    c.accept.ensures.served (c.accept.ensures.accepted m k means
-    (λ at. (subst (Decides (step s m c.args.t want) m c.args.t) c.in-Taken.is (known at).decides).suits)) serves
+    c.accept.ensures.served c.accept.ensures.opens (c.accept.ensures.accepted m k means
+    (λ at. (subst (Decides (step s m c.args.t want) m c.args.t) c.in-Taken.is (known at).decides).suits)) clean
 
 pub returns-in-Refused-clause-settled : goal.returns-in-Refused-clause-settled
-returns-in-Refused-clause-settled g c s m k want sound means serves from lawful known =
-    let here = known serves in
+returns-in-Refused-clause-settled g c s m k want sound means opens clean from lawful known =
+    let here = known (opens clean) in
     refused_leaves s c.args.arrival.now m k c.args.sender.now c.args.t want c.in-Refused.reply (state g.S.Store c.args.self.now.store.conn) from here.unused here.now
-    (subst (Decides (step s m c.args.t want) m c.args.t) c.in-Refused.is here.decides) (means serves)
+    (subst (Decides (step s m c.args.t want) m c.args.t) c.in-Refused.is here.decides) means

@@ -3,10 +3,11 @@ use Rattle.std.specs.Prelude.{IfOk}
 use Rattle.fax_core.specs.Clock.{decided_at}
 use Rattle.fax_decide.specs.Settings.{settings_of}
 use Rattle.fax_decide.specs.View.{view}
+use Rattle.fax_store.proofs.StoreLemmas.{means_stay}
 use Rattle.fax_once.proofs.queue.Queue.show.Goals as goal
 
 pub returns-clause-viewed : goal.returns-clause-viewed
 returns-clause-viewed g c m k means serves =
     let same = c.in_ok-meta.ensures.found m k means (c.view_job.ensures.served serves) in
     subst (λ t. IfOk c.view_job.result (λ reply. reply ≡ view (settings_of c.args.self.now.office.setup c.args.self.now.office.controls) m t c.args.job))
-    (c.moment_at-t.ensures ∙ ap (λ meta. decided_at meta.clock c.args.moment) same) (c.view_job.ensures.viewed m k (c.meta.ensures.stays m k means) serves)
+    (c.moment_at-t.ensures ∙ ap (λ meta. decided_at meta.clock c.args.moment) same) (c.view_job.ensures.viewed m k (means_stay c.meta.ensures.served c.meta.ensures.stays m k means) serves)

@@ -7,19 +7,21 @@ use Rattle.fax_core.specs.Machine.{step}
 use Rattle.fax_decide.specs.Decision.{Decides}
 use Rattle.fax_decide.specs.Settings.{settings_of}
 use Rattle.fax_once.proofs.VerdictLemmas.{used_leaves, lawful_ask}
+use Rattle.fax_store.proofs.StoreLemmas.{means_stay}
 use Rattle.fax_once.proofs.queue.Queue.step.Goals as goal
 
 pub returns-then-used-clause-stepped : goal.returns-then-used-clause-stepped
-returns-then-used-clause-stepped g c m k want sound means serves from is lawful =
+returns-then-used-clause-stepped g c m k want sound means clean from is lawful =
     used_leaves (settings_of c.args.self.now.office.setup c.args.self.now.office.controls) c.args.arrival.now m k c.args.sender.now want _ (state g.S.Store c.is_used.new.store.conn) from
-    (sym (c.in_ok-used.ensures.found m k means serves) ∙ c.if-used.true) c.refused.ensures (c.is_used.ensures.stays m k means serves)
+    (sym (c.in_ok-used.ensures.found m k means (c.in_ok-used.ensures.opens clean)) ∙ c.if-used.true) c.refused.ensures (means_stay c.is_used.ensures.served c.is_used.ensures.stays m k means)
 
 pub returns-clause-stepped : goal.returns-clause-stepped
-returns-clause-stepped g c m k want sound means serves from is lawful =
+returns-clause-stepped g c m k want sound means clean from is lawful =
     let settings = settings_of c.args.self.now.office.setup c.args.self.now.office.controls in
-    let looked = c.is_used.ensures.stays m k means in
-    let read = c.meta.ensures.stays m k looked in
-    c.settle.ensures.settled settings m k want sound (c.decide.ensures.stays m k read) serves from (lawful_ask want (subst IsLawful is lawful))
+    let looked = means_stay c.is_used.ensures.served c.is_used.ensures.stays m k means in
+    let read = means_stay c.meta.ensures.served c.meta.ensures.stays m k looked in
+    c.settle.ensures.settled settings m k want sound (means_stay c.decide.ensures.served c.decide.ensures.stays m k read)
+    (λ decided. c.in_ok-decision.ensures.opens decided (c.in_ok-meta.ensures.opens (c.decide.ensures.clean decided))) clean from (lawful_ask want (subst IsLawful is lawful))
     (λ at.
     let meta = c.in_ok-meta.ensures.found m k looked (c.decide.ensures.served at) in
     record {

@@ -1,11 +1,12 @@
-use Rattle.std.proofs.Common.{◌≡◌, ◌+◌, ◌<◌, false, Ok, subst, ap, arith, rules}
+use Rattle.std.proofs.Common.{◌≡◌, ◌+◌, ◌<◌, true, false, Ok, subst, ap, arith, rules}
 use Rattle.sqlite.specs.Held.{state}
 use Rattle.fax_tables.specs.Grant.{IsOpenGrant}
 use Rattle.fax_store.specs.Grant.{with_placed, with_one_more_grant}
 use Rattle.fax_tables.specs.Meta.{meta_of, with_meta}
 use Rattle.fax_tables.specs.Tables.{IsLawfulMeta}
 use Rattle.fax_store.specs.Work.{Steps}
-use Rattle.fax_store.proofs.WorkLemmas.{goes_on, moves_of, steps_fault}
+use Rattle.fax_store.proofs.WorkLemmas.{goes_on, holds_by, holds_err, holds_then, moves_of, steps_fault}
+use Rattle.std.specs.Prelude.{is_err}
 use Rattle.fax_store.proofs.store.Store.add_grant.Goals as goal
 
 pub returns-clause-written : goal.returns-clause-written
@@ -17,7 +18,7 @@ returns-clause-written g c m₀ m k₀ k works s =
     let grant = c.args.grant.now in
     let at_put = c.write_meta.ensures.served s in
     let at_read = c.insert_grant.ensures.served at_put in
-    let first = goes_on old read c.read_meta.ensures.served (λ m k meta. meta ≡ meta_of m) (Ok c.in_ok-meta.meta) c.in_ok-meta.ensures.answers m₀ m k₀ k works at_read in
+    let first = goes_on old read c.read_meta.ensures.served (Ok c.in_ok-meta.meta) c.in_ok-meta.ensures.reads (λ m k meta. meta ≡ meta_of m) c.in_ok-meta.ensures.answers m₀ m k₀ k works at_read in
     let fit : IsOpenGrant grant = search rules in
     let second = c.in_ok-insert_grant.ensures.written m₀ m k₀ k (λ _. first.1) at_put fit in
     let went : false ≡ false = λ i. false in
@@ -31,3 +32,20 @@ returns-clause-written g c m₀ m k₀ k works s =
     subst (λ it. IsLawfulMeta (with_meta (record it { next_grant = it.next_grant + 1 }) (with_placed grant m)) → Steps new c.write_meta.result m₀ k₀ (with_meta (record it { next_grant = it.next_grant + 1 }) (with_placed grant m)) k) same
     (c.write_meta.ensures.written m₀ (with_placed grant m) k₀ k (λ _. second) s) lawful in
     (moves_of new c.write_meta.result m₀ (with_one_more_grant grant m) k₀ k done, λ fits below. steps_fault new c.write_meta.result m₀ (with_one_more_grant grant m) k₀ k done)
+
+pub returns-in_err-insert_grant-clause-holds : goal.returns-in_err-insert_grant-clause-holds
+returns-in_err-insert_grant-clause-holds g c =
+    let old = state g.S.Store c.args.self.now.conn in
+    let read = state g.S.Store c.read_meta.new.self.conn in
+    let put = state g.S.Store c.insert_grant.new.self.conn in
+    holds_err old put c.from_residual-in_err-insert_grant.result _ c.from_residual-in_err-insert_grant.ensures.1
+    (holds_then old read put true c.insert_grant.ensures.served (holds_by old read c.read_meta.ensures.served (Ok c.in_ok-meta.meta) c.in_ok-meta.ensures.reads) c.in_err-insert_grant.ensures.holds)
+
+pub returns-clause-holds : goal.returns-clause-holds
+returns-clause-holds g c =
+    let old = state g.S.Store c.args.self.now.conn in
+    let read = state g.S.Store c.read_meta.new.self.conn in
+    let put = state g.S.Store c.insert_grant.new.self.conn in
+    let first = holds_by old read c.read_meta.ensures.served (Ok c.in_ok-meta.meta) c.in_ok-meta.ensures.reads in
+    holds_then old put (state g.S.Store c.write_meta.new.self.conn) (is_err c.write_meta.result) c.write_meta.ensures.served
+    (holds_then old read put false c.insert_grant.ensures.served first c.in_ok-insert_grant.ensures.holds) c.write_meta.ensures.holds

@@ -5,7 +5,10 @@ use Rattle.fax_store.specs.Grant.{with_placed}
 use Rattle.fax_store.specs.Store.{HasRun}
 use Rattle.fax_tables.specs.Tables.{IsLawfulGrant}
 use Rattle.fax_store.proofs.GrantWriteLemmas.{hold_params, grant_params, hold_keeps, grant_put}
-use Rattle.fax_store.proofs.WorkLemmas.{refused_step, two_steps}
+use Rattle.fax_store.proofs.WorkLemmas.{holds_then, refused_step, two_steps}
+use Rattle.std.specs.Prelude.{is_err}
+use Rattle.fax_store.proofs.GrantTexts as texts
+use Rattle.fax_store.proofs.StatementLemmas.{edit_text}
 use Rattle.fax_store.proofs.store.Store.insert_grant.Goals as goal
 
 pub returns-in_err-run-clause-written : goal.returns-in_err-run-clause-written
@@ -27,3 +30,8 @@ returns-clause-written g c m₀ m k₀ k works s fit =
     let ran : OnOk c.run-2.result (HasRun INSERT_GRANT.now others mid new) = subst (λ p. OnOk c.run-2.result (HasRun INSERT_GRANT.now p mid new)) (search rules) (c.run-2.ensures.ran s.clean) in
     two_steps old mid new INSERT_HOLD.now INSERT_GRANT.now params others 2 1 c.run-2.result m₀ m (with_placed grant m) k₀ k k c.run.ensures.served c.run-2.ensures.served works s held ran (c.run-2.ensures.left s.clean) c.run-2.ensures.cause
     (λ means. hold_keeps grant old mid new m k means held) (λ means has. grant_put grant old mid new m k means fit.is_open lawful held has)
+
+pub returns-clause-holds : goal.returns-clause-holds
+returns-clause-holds g c =
+    holds_then (state g.S.Store c.args.self.now.conn) (state g.S.Store c.run.new.self.conn) (state g.S.Store c.run-2.new.self.conn) (is_err c.run-2.result) c.run-2.ensures.served
+    (c.in_ok-run.ensures.holds (edit_text INSERT_HOLD.now _ tt texts.insert_hold)) (c.run-2.ensures.holds (edit_text INSERT_GRANT.now _ tt texts.insert_grant))

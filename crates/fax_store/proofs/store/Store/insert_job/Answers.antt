@@ -13,6 +13,8 @@ use Rattle.fax_store.specs.Work.{Steps}
 use Rattle.fax_store.proofs.JobLemmas.{job_put, lawful_of_fields}
 use Rattle.fax_tables.proofs.RowLemmas.{shown_by}
 use Rattle.fax_store.proofs.WorkLemmas.{step_by}
+use Rattle.fax_store.proofs.StatementLemmas.{edit_text}
+use Rattle.fax_store.proofs.StatementTexts as texts
 use Rattle.fax_store.proofs.store.Store.insert_job.Goals as goal
 
 pub returns-clause-written : goal.returns-clause-written
@@ -40,3 +42,6 @@ returns-clause-written g c m₀ m k₀ k works s =
     let done : OnOk c.run.result (HasRun INSERT_JOB.now (job_shown j) old new) = subst (λ p. OnOk c.run.result (HasRun INSERT_JOB.now p old new)) shown ran in
     subst (λ f. Steps new c.run.result m₀ k₀ (with_placed (job_of f) m) k) same
     (step_by old new INSERT_JOB.now (job_shown j) 0 c.run.result m₀ m (with_placed (job_of j) m) k₀ k k c.run.ensures.served works s done (c.run.ensures.left s.clean) c.run.ensures.cause (λ means has. job_put old new m k means j lawful has))
+
+pub returns-clause-holds : goal.returns-clause-holds
+returns-clause-holds g c = c.run.ensures.holds (edit_text INSERT_JOB.now _ tt texts.insert_job)

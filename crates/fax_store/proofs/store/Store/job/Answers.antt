@@ -8,8 +8,8 @@ use Rattle.fax_store.proofs.store.Store.job.Goals as goal
 
 pub returns-clause-stays : goal.returns-clause-stays
 returns-clause-stays g c =
-    stays_by (state g.S.Store c.args.self.now.conn) (state g.S.Store c.read_job.new.self.conn) c.read_job.ensures.served (λ m k found. found ≡ option_map fields_of (job_numbered c.args.job m)) c.read_job.result c.read_job.ensures.answers
+    stays_by (state g.S.Store c.args.self.now.conn) (state g.S.Store c.read_job.new.self.conn) c.read_job.ensures.served c.read_job.result c.read_job.ensures.reads
 
 pub returns-clause-found : goal.returns-clause-found
 returns-clause-found g c =
-    found_by (state g.S.Store c.args.self.now.conn) (state g.S.Store c.read_job.new.self.conn) c.read_job.ensures.served (λ m k found. found ≡ option_map fields_of (job_numbered c.args.job m)) c.read_job.result c.read_job.ensures.answers
+    found_by (state g.S.Store c.args.self.now.conn) (state g.S.Store c.read_job.new.self.conn) c.read_job.ensures.served c.read_job.result c.read_job.ensures.reads (λ m k found. found ≡ option_map fields_of (job_numbered c.args.job m)) c.read_job.ensures.answers

@@ -10,7 +10,9 @@ use Rattle.fax_store.specs.Store.{FindsRow}
 use Rattle.fax_tables.specs.Tables.{IsLawfulGrant}
 use Rattle.fax_store.proofs.GrantLemmas as texts
 use Rattle.fax_tables.proofs.KeyLemmas.{is_there, is_none, found_holds}
-use Rattle.fax_store.proofs.WorkLemmas.{answers_refused, err_is}
+use Rattle.fax_tables.proofs.ResultLemmas.{passes_on}
+use Rattle.fax_store.proofs.GrantTexts.{select_grant}
+use Rattle.fax_store.proofs.WorkLemmas.{reads_same}
 use Rattle.fax_store.proofs.store.Store.read_grant.Goals as goal
 
 pub returns-in_err-grant_in-in-Some-clause-answers : goal.returns-in_err-grant_in-in-Some-clause-answers
@@ -22,8 +24,7 @@ returns-in_err-grant_in-in-Some-clause-answers g c m k means s =
     let it = is_there grant_shown (grant_numbered c.args.number m) _ (sym c.in-Some.is ∙ texts.grant_found c.args.number old new m k means_now c.in_ok-row.field-0 found) in
     let lawful : IsLawfulGrant it.0 = found_holds IsLawfulGrant (λ (g : Grant). g.number == c.args.number) m.grants it.0 means_now.lawful.grants it.1 in
     let fault : c.in_err-grant_in-in-Some.field-0.0 ≡ Unavailable = c.in_err-grant_in-in-Some.ensures.found it.0 it.2 lawful in
-    answers_refused old new (λ found. found ≡ grant_numbered c.args.number m) c.from_residual-in_err-grant_in-in-Some.result (err_is c.from_residual-in_err-grant_in-in-Some.result c.in_err-grant_in-in-Some.field-0.0 c.from_residual-in_err-grant_in-in-Some.ensures.1 fault)
-    (inl (texts.grant_unchanged c.args.number old new m k means_now c.in_ok-row.field-0 found))
+    passes_on c.from_residual-in_err-grant_in-in-Some.result c.in_err-grant_in-in-Some.field-0.0 (λ found. found ≡ grant_numbered c.args.number m) c.from_residual-in_err-grant_in-in-Some.ensures.1 fault
 
 pub returns-in_ok-grant_in-in-Some-clause-answers : goal.returns-in_ok-grant_in-in-Some-clause-answers
 returns-in_ok-grant_in-in-Some-clause-answers g c m k means s =
@@ -34,7 +35,7 @@ returns-in_ok-grant_in-in-Some-clause-answers g c m k means s =
     let it = is_there grant_shown (grant_numbered c.args.number m) _ (sym c.in-Some.is ∙ texts.grant_found c.args.number old new m k means_now c.in_ok-row.field-0 found) in
     let lawful : IsLawfulGrant it.0 = found_holds IsLawfulGrant (λ (g : Grant). g.number == c.args.number) m.grants it.0 means_now.lawful.grants it.1 in
     let read = c.in_ok-grant_in-in-Some.ensures.found it.0 it.2 lawful in
-    (ap Some read ∙ sym (it.1), texts.grant_unchanged c.args.number old new m k means_now c.in_ok-row.field-0 found)
+    ap Some read ∙ sym (it.1)
 
 pub returns-in-None-clause-answers : goal.returns-in-None-clause-answers
 returns-in-None-clause-answers g c m k means s =
@@ -43,4 +44,14 @@ returns-in-None-clause-answers g c m k means s =
     let means_now = means (c.in_ok-row.ensures.served s) in
     let found : FindsRow SELECT_GRANT.now (texts.params c.args.number) old new c.in_ok-row.field-0 = subst (λ p. FindsRow SELECT_GRANT.now p old new c.in_ok-row.field-0) (search rules) (c.in_ok-row.ensures.found s.clean) in
     let none = is_none grant_shown (grant_numbered c.args.number m) (sym c.in-None.is ∙ texts.grant_found c.args.number old new m k means_now c.in_ok-row.field-0 found) in
-    (sym (none), texts.grant_unchanged c.args.number old new m k means_now c.in_ok-row.field-0 found)
+    sym (none)
+
+pub returns-in_err-grant_in-in-Some-clause-reads : goal.returns-in_err-grant_in-in-Some-clause-reads
+returns-in_err-grant_in-in-Some-clause-reads g c tables clean =
+    reads_same (state g.S.Store c.args.self.now.conn) (state g.S.Store c.find.new.self.conn) c.from_residual-in_err-grant_in-in-Some.result (c.in_ok-row.ensures.reads select_grant.plain tables clean)
+
+pub returns-in_ok-grant_in-in-Some-clause-reads : goal.returns-in_ok-grant_in-in-Some-clause-reads
+returns-in_ok-grant_in-in-Some-clause-reads g c tables clean = c.in_ok-row.ensures.reads select_grant.plain tables clean
+
+pub returns-in-None-clause-reads : goal.returns-in-None-clause-reads
+returns-in-None-clause-reads g c tables clean = c.in_ok-row.ensures.reads select_grant.plain tables clean

@@ -13,7 +13,9 @@ use Rattle.fax_store.specs.Store.{FindsRow}
 use Rattle.fax_tables.specs.Tables.{IsLawfulGrant}
 use Rattle.fax_store.proofs.HoldLemmas as texts
 use Rattle.fax_tables.proofs.KeyLemmas.{is_there, is_none, found_holds}
-use Rattle.fax_store.proofs.WorkLemmas.{answers_refused, err_is}
+use Rattle.fax_tables.proofs.ResultLemmas.{passes_on}
+use Rattle.fax_store.proofs.GrantTexts.{select_hold}
+use Rattle.fax_store.proofs.WorkLemmas.{reads_same}
 use Rattle.fax_store.proofs.store.Store.read_hold.Goals as goal
 
 pub returns-in_err-in_row-in-Some-clause-answers : goal.returns-in_err-in_row-in-Some-clause-answers
@@ -25,8 +27,7 @@ returns-in_err-in_row-in-Some-clause-answers g c m k means s =
     let it = is_there hold_shown (held_by c.args.modem.now m) _ (sym c.in-Some.is ∙ texts.hold_found c.args.modem.now old new m k means_now c.in_ok-row.field-0 found) in
     let lawful : IsLawfulGrant it.0 = found_holds IsLawfulGrant (λ (g : Grant). bytes_eq g.modem c.args.modem.now) (open_grants m) it.0 (all_kept IsLawfulGrant (λ (g : Grant). g.is_open) m.grants means_now.lawful.grants) it.1 in
     let fault : c.in_err-in_row-in-Some.field-0.0 ≡ Unavailable = c.in_err-in_row-in-Some.ensures.found it.0 it.2 lawful in
-    answers_refused old new (λ found. found ≡ option_map as_hold (held_by c.args.modem.now m)) c.from_residual-in_err-in_row-in-Some.result (err_is c.from_residual-in_err-in_row-in-Some.result c.in_err-in_row-in-Some.field-0.0 c.from_residual-in_err-in_row-in-Some.ensures.1 fault)
-    (inl (texts.hold_unchanged c.args.modem.now old new m k means_now c.in_ok-row.field-0 found))
+    passes_on c.from_residual-in_err-in_row-in-Some.result c.in_err-in_row-in-Some.field-0.0 (λ found. found ≡ option_map as_hold (held_by c.args.modem.now m)) c.from_residual-in_err-in_row-in-Some.ensures.1 fault
 
 pub returns-in_ok-in_row-in-Some-clause-answers : goal.returns-in_ok-in_row-in-Some-clause-answers
 returns-in_ok-in_row-in-Some-clause-answers g c m k means s =
@@ -37,7 +38,7 @@ returns-in_ok-in_row-in-Some-clause-answers g c m k means s =
     let it = is_there hold_shown (held_by c.args.modem.now m) _ (sym c.in-Some.is ∙ texts.hold_found c.args.modem.now old new m k means_now c.in_ok-row.field-0 found) in
     let lawful : IsLawfulGrant it.0 = found_holds IsLawfulGrant (λ (g : Grant). bytes_eq g.modem c.args.modem.now) (open_grants m) it.0 (all_kept IsLawfulGrant (λ (g : Grant). g.is_open) m.grants means_now.lawful.grants) it.1 in
     let read = c.in_ok-in_row-in-Some.ensures.found it.0 it.2 lawful in
-    (ap Some read ∙ sym (ap (option_map as_hold) it.1), texts.hold_unchanged c.args.modem.now old new m k means_now c.in_ok-row.field-0 found)
+    ap Some read ∙ sym (ap (option_map as_hold) it.1)
 
 pub returns-in-None-clause-answers : goal.returns-in-None-clause-answers
 returns-in-None-clause-answers g c m k means s =
@@ -46,4 +47,14 @@ returns-in-None-clause-answers g c m k means s =
     let means_now = means (c.in_ok-row.ensures.served s) in
     let found : FindsRow SELECT_HOLD.now (texts.params c.args.modem.now) old new c.in_ok-row.field-0 = subst (λ p. FindsRow SELECT_HOLD.now p old new c.in_ok-row.field-0) (search rules) (c.in_ok-row.ensures.found s.clean) in
     let none = is_none hold_shown (held_by c.args.modem.now m) (sym c.in-None.is ∙ texts.hold_found c.args.modem.now old new m k means_now c.in_ok-row.field-0 found) in
-    (sym (ap (option_map as_hold) none), texts.hold_unchanged c.args.modem.now old new m k means_now c.in_ok-row.field-0 found)
+    sym (ap (option_map as_hold) none)
+
+pub returns-in_err-in_row-in-Some-clause-reads : goal.returns-in_err-in_row-in-Some-clause-reads
+returns-in_err-in_row-in-Some-clause-reads g c tables clean =
+    reads_same (state g.S.Store c.args.self.now.conn) (state g.S.Store c.find.new.self.conn) c.from_residual-in_err-in_row-in-Some.result (c.in_ok-row.ensures.reads select_hold.plain tables clean)
+
+pub returns-in_ok-in_row-in-Some-clause-reads : goal.returns-in_ok-in_row-in-Some-clause-reads
+returns-in_ok-in_row-in-Some-clause-reads g c tables clean = c.in_ok-row.ensures.reads select_hold.plain tables clean
+
+pub returns-in-None-clause-reads : goal.returns-in-None-clause-reads
+returns-in-None-clause-reads g c tables clean = c.in_ok-row.ensures.reads select_hold.plain tables clean

@@ -8,9 +8,11 @@ use Rattle.fax_tables.specs.declared.fault.StoreFault.TheVariants.{Unavailable}
 use Rattle.fax_store.specs.declared.jobs.TheConstants.{SELECT_JOB}
 use Rattle.fax_tables.specs.Job.{IsLawfulJob, job_shown}
 use Rattle.fax_store.specs.Store.{FindsRow}
-use Rattle.fax_store.proofs.JobLemmas.{params, job_found, job_unchanged}
+use Rattle.fax_store.proofs.JobLemmas.{params, job_found}
 use Rattle.fax_tables.proofs.KeyLemmas.{is_there, is_none, found_holds}
-use Rattle.fax_store.proofs.WorkLemmas.{answers_refused, err_is}
+use Rattle.fax_tables.proofs.ResultLemmas.{passes_on}
+use Rattle.fax_store.proofs.StatementTexts.{select_job}
+use Rattle.fax_store.proofs.WorkLemmas.{reads_same}
 use Rattle.fax_store.proofs.store.Store.read_job.Goals as goal
 
 pub returns-in_err-job_in-in-Some-clause-answers : goal.returns-in_err-job_in-in-Some-clause-answers
@@ -22,8 +24,7 @@ returns-in_err-job_in-in-Some-clause-answers g c m k means s =
     let it = is_there (λ j. job_shown (fields_of j)) (job_numbered c.args.job m) _ (sym c.in-Some.is ∙ job_found c.args.job old new m k means_now c.in_ok-row.field-0 found) in
     let lawful = found_holds IsLawfulJob (λ (j : Job). j.number == c.args.job) m.jobs it.0 means_now.lawful.jobs it.1 in
     let fault : c.in_err-job_in-in-Some.field-0.0 ≡ Unavailable = c.in_err-job_in-in-Some.ensures (fields_of it.0) it.2 lawful.limits lawful.formed in
-    answers_refused old new (λ found. found ≡ option_map fields_of (job_numbered c.args.job m)) c.from_residual-in_err-job_in-in-Some.result (err_is c.from_residual-in_err-job_in-in-Some.result c.in_err-job_in-in-Some.field-0.0 c.from_residual-in_err-job_in-in-Some.ensures.1 fault)
-    (inl (job_unchanged c.args.job old new m k means_now c.in_ok-row.field-0 found))
+    passes_on c.from_residual-in_err-job_in-in-Some.result c.in_err-job_in-in-Some.field-0.0 (λ found. found ≡ option_map fields_of (job_numbered c.args.job m)) c.from_residual-in_err-job_in-in-Some.ensures.1 fault
 
 pub returns-in_ok-job_in-in-Some-clause-answers : goal.returns-in_ok-job_in-in-Some-clause-answers
 returns-in_ok-job_in-in-Some-clause-answers g c m k means s =
@@ -34,7 +35,7 @@ returns-in_ok-job_in-in-Some-clause-answers g c m k means s =
     let it = is_there (λ j. job_shown (fields_of j)) (job_numbered c.args.job m) _ (sym c.in-Some.is ∙ job_found c.args.job old new m k means_now c.in_ok-row.field-0 found) in
     let lawful = found_holds IsLawfulJob (λ (j : Job). j.number == c.args.job) m.jobs it.0 means_now.lawful.jobs it.1 in
     let read = c.in_ok-job_in-in-Some.ensures (fields_of it.0) it.2 lawful.limits lawful.formed in
-    (ap Some read ∙ sym (ap (option_map fields_of) it.1), job_unchanged c.args.job old new m k means_now c.in_ok-row.field-0 found)
+    ap Some read ∙ sym (ap (option_map fields_of) it.1)
 
 pub returns-in-None-clause-answers : goal.returns-in-None-clause-answers
 returns-in-None-clause-answers g c m k means s =
@@ -43,4 +44,14 @@ returns-in-None-clause-answers g c m k means s =
     let means_now = means (c.in_ok-row.ensures.served s) in
     let found : FindsRow SELECT_JOB.now (params c.args.job) old new c.in_ok-row.field-0 = subst (λ p. FindsRow SELECT_JOB.now p old new c.in_ok-row.field-0) (search rules) (c.in_ok-row.ensures.found s.clean) in
     let none = is_none (λ j. job_shown (fields_of j)) (job_numbered c.args.job m) (sym c.in-None.is ∙ job_found c.args.job old new m k means_now c.in_ok-row.field-0 found) in
-    (sym (ap (option_map fields_of) none), job_unchanged c.args.job old new m k means_now c.in_ok-row.field-0 found)
+    sym (ap (option_map fields_of) none)
+
+pub returns-in_err-job_in-in-Some-clause-reads : goal.returns-in_err-job_in-in-Some-clause-reads
+returns-in_err-job_in-in-Some-clause-reads g c tables clean =
+    reads_same (state g.S.Store c.args.self.now.conn) (state g.S.Store c.find.new.self.conn) c.from_residual-in_err-job_in-in-Some.result (c.in_ok-row.ensures.reads select_job.plain tables clean)
+
+pub returns-in_ok-job_in-in-Some-clause-reads : goal.returns-in_ok-job_in-in-Some-clause-reads
+returns-in_ok-job_in-in-Some-clause-reads g c tables clean = c.in_ok-row.ensures.reads select_job.plain tables clean
+
+pub returns-in-None-clause-reads : goal.returns-in-None-clause-reads
+returns-in-None-clause-reads g c tables clean = c.in_ok-row.ensures.reads select_job.plain tables clean

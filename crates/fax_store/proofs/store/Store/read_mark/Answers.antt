@@ -3,6 +3,7 @@ use Rattle.sqlite.specs.Held.{state}
 use Rattle.fax_store.specs.declared.modems.TheConstants.{SELECT_DOWN}
 use Rattle.fax_store.specs.Store.{FindsRow}
 use Rattle.fax_store.proofs.ModemLemmas as modems
+use Rattle.fax_store.proofs.ModemTexts.{select_down}
 use Rattle.fax_store.proofs.store.Store.read_mark.Goals as goal
 
 pub returns-clause-answers : goal.returns-clause-answers
@@ -12,4 +13,7 @@ returns-clause-answers g c m k means s =
     let modem = c.args.modem.now in
     let means_now = means (c.in_ok-row.ensures.served s) in
     let found : FindsRow SELECT_DOWN.now (modems.params modem) old new c.in_ok-row.row = subst (λ p. FindsRow SELECT_DOWN.now p old new c.in_ok-row.row) (search rules) (c.in_ok-row.ensures.found s.clean) in
-    (c.is_some.ensures ∙ modems.mark_found modem old new m k means_now c.in_ok-row.row found, modems.mark_unchanged modem old new m k means_now c.in_ok-row.row found)
+    c.is_some.ensures ∙ modems.mark_found modem old new m k means_now c.in_ok-row.row found
+
+pub returns-clause-reads : goal.returns-clause-reads
+returns-clause-reads g c tables clean = c.in_ok-row.ensures.reads select_down.plain tables clean

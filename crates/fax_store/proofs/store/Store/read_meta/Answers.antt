@@ -1,20 +1,23 @@
-use Rattle.std.proofs.Common.{◌≡◌, sym, ◌∙◌}
+use Rattle.std.proofs.Common.{◌≡◌, inl, sym, ◌∙◌}
 use Rattle.sqlite.specs.Held.{state}
-use Rattle.fax_tables.specs.Meta.{meta_of}
-use Rattle.fax_store.proofs.MetaLemmas.{meta_found, meta_unchanged}
-use Rattle.fax_store.proofs.WorkLemmas.{answers_same}
+use Rattle.fax_store.proofs.MetaLemmas.{meta_found}
+use Rattle.fax_store.proofs.StatementTexts.{select_meta}
+use Rattle.fax_store.proofs.WorkLemmas.{reads_same}
 use Rattle.fax_store.proofs.store.Store.read_meta.Goals as goal
 
 pub returns-in-Some-clause-answers : goal.returns-in-Some-clause-answers
 returns-in-Some-clause-answers g c m k means s =
-    let old = state g.S.Store c.args.self.now.conn in
-    let new = state g.S.Store c.find.new.self.conn in
     let means_now = means (c.in_ok-row.ensures.served s) in
-    let found = c.in_ok-row.ensures.found s.clean in
-    let is = sym c.in-Some.is ∙ meta_found old new m k means_now c.in_ok-row.field-0 found in
-    answers_same old new (λ meta. meta ≡ meta_of m) c.in_row.result (c.in_row.ensures.found m (let it = is in cc) means_now.lawful.meta) (meta_unchanged old new m k means_now c.in_ok-row.field-0 found)
+    let is = sym c.in-Some.is ∙ meta_found (state g.S.Store c.args.self.now.conn) (state g.S.Store c.find.new.self.conn) m k means_now c.in_ok-row.field-0 (c.in_ok-row.ensures.found s.clean) in
+    c.in_row.ensures.found m (let it = is in cc) means_now.lawful.meta
 
 pub returns-in-None-clause-answers : goal.returns-in-None-clause-answers
 returns-in-None-clause-answers g c m k means s =
     let is = sym c.in-None.is ∙ meta_found (state g.S.Store c.args.self.now.conn) (state g.S.Store c.find.new.self.conn) m k (means (c.in_ok-row.ensures.served s)) c.in_ok-row.field-0 (c.in_ok-row.ensures.found s.clean) in
     absurd (let it = is in cc)
+
+pub returns-in-Some-clause-reads : goal.returns-in-Some-clause-reads
+returns-in-Some-clause-reads g c tables clean = reads_same (state g.S.Store c.args.self.now.conn) (state g.S.Store c.find.new.self.conn) c.in_row.result (c.in_ok-row.ensures.reads select_meta.plain tables clean)
+
+pub returns-in-None-clause-reads : goal.returns-in-None-clause-reads
+returns-in-None-clause-reads g c tables clean = inl (c.in_ok-row.ensures.reads select_meta.plain tables clean)

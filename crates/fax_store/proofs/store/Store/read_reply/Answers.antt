@@ -4,8 +4,10 @@ use Rattle.fax_tables.specs.declared.fault.StoreFault.TheVariants.{Unavailable}
 use Rattle.fax_store.specs.declared.replies.TheConstants.{SELECT_REPLY}
 use Rattle.fax_store.specs.Store.{FindsRow}
 use Rattle.fax_store.specs.Kept.{IsKeptFor}
-use Rattle.fax_store.proofs.RepliesLemmas.{params, reply_found, reply_unchanged, lawful_of}
-use Rattle.fax_store.proofs.WorkLemmas.{answers_refused, err_is}
+use Rattle.fax_store.proofs.RepliesLemmas.{params, reply_found, lawful_of}
+use Rattle.fax_tables.proofs.ResultLemmas.{passes_on}
+use Rattle.fax_store.proofs.StatementTexts.{select_reply}
+use Rattle.fax_store.proofs.WorkLemmas.{reads_same}
 use Rattle.fax_store.proofs.store.Store.read_reply.Goals as goal
 
 pub returns-in_err-in_row-in-Some-clause-answers : goal.returns-in_err-in_row-in-Some-clause-answers
@@ -15,10 +17,9 @@ returns-in_err-in_row-in-Some-clause-answers g c m k means s =
     let means_now = means (c.in_ok-row.ensures.served s) in
     let found : FindsRow SELECT_REPLY.now (params c.args.client.now c.args.number) old new c.in_ok-row.field-0 = subst (λ p. FindsRow SELECT_REPLY.now p old new c.in_ok-row.field-0) (search rules) (c.in_ok-row.ensures.found s.clean) in
     let it = rw c.in-Some.is at (reply_found c.args.client.now c.args.number old new m k means_now c.in_ok-row.field-0 found) in
-    let same = reply_unchanged c.args.client.now c.args.number old new m k means_now c.in_ok-row.field-0 found in
     let why_err = c.in_err-in_row-in-Some.ensures.found it.0 it.3 (lawful_of k it.0 means_now.lawful.replies it.1) in
     let fault : c.in_err-in_row-in-Some.field-0.0 ≡ Unavailable = why_err in
-    answers_refused old new (IsKeptFor k c.args.client.now c.args.number) c.from_residual-in_err-in_row-in-Some.result (err_is c.from_residual-in_err-in_row-in-Some.result c.in_err-in_row-in-Some.field-0.0 c.from_residual-in_err-in_row-in-Some.ensures.1 fault) (inl same)
+    passes_on c.from_residual-in_err-in_row-in-Some.result c.in_err-in_row-in-Some.field-0.0 (IsKeptFor k c.args.client.now c.args.number) c.from_residual-in_err-in_row-in-Some.ensures.1 fault
 
 pub returns-in_ok-in_row-in-Some-clause-answers : goal.returns-in_ok-in_row-in-Some-clause-answers
 returns-in_ok-in_row-in-Some-clause-answers g c m k means s =
@@ -28,7 +29,7 @@ returns-in_ok-in_row-in-Some-clause-answers g c m k means s =
     let found : FindsRow SELECT_REPLY.now (params c.args.client.now c.args.number) old new c.in_ok-row.field-0 = subst (λ p. FindsRow SELECT_REPLY.now p old new c.in_ok-row.field-0) (search rules) (c.in_ok-row.ensures.found s.clean) in
     let it = rw c.in-Some.is at (reply_found c.args.client.now c.args.number old new m k means_now c.in_ok-row.field-0 found) in
     let tells = c.in_ok-in_row-in-Some.ensures.found it.0 it.3 (lawful_of k it.0 means_now.lawful.replies it.1) in
-    ((it.0, it.1, it.2, tells), reply_unchanged c.args.client.now c.args.number old new m k means_now c.in_ok-row.field-0 found)
+    (it.0, it.1, it.2, tells)
 
 pub returns-in-None-clause-answers : goal.returns-in-None-clause-answers
 returns-in-None-clause-answers g c m k means s =
@@ -36,4 +37,14 @@ returns-in-None-clause-answers g c m k means s =
     let new = state g.S.Store c.find.new.self.conn in
     let means_now = means (c.in_ok-row.ensures.served s) in
     let found : FindsRow SELECT_REPLY.now (params c.args.client.now c.args.number) old new c.in_ok-row.field-0 = subst (λ p. FindsRow SELECT_REPLY.now p old new c.in_ok-row.field-0) (search rules) (c.in_ok-row.ensures.found s.clean) in
-    (rw c.in-None.is at (reply_found c.args.client.now c.args.number old new m k means_now c.in_ok-row.field-0 found), reply_unchanged c.args.client.now c.args.number old new m k means_now c.in_ok-row.field-0 found)
+    rw c.in-None.is at (reply_found c.args.client.now c.args.number old new m k means_now c.in_ok-row.field-0 found)
+
+pub returns-in_err-in_row-in-Some-clause-reads : goal.returns-in_err-in_row-in-Some-clause-reads
+returns-in_err-in_row-in-Some-clause-reads g c tables clean =
+    reads_same (state g.S.Store c.args.self.now.conn) (state g.S.Store c.find.new.self.conn) c.from_residual-in_err-in_row-in-Some.result (c.in_ok-row.ensures.reads select_reply.plain tables clean)
+
+pub returns-in_ok-in_row-in-Some-clause-reads : goal.returns-in_ok-in_row-in-Some-clause-reads
+returns-in_ok-in_row-in-Some-clause-reads g c tables clean = c.in_ok-row.ensures.reads select_reply.plain tables clean
+
+pub returns-in-None-clause-reads : goal.returns-in-None-clause-reads
+returns-in-None-clause-reads g c tables clean = c.in_ok-row.ensures.reads select_reply.plain tables clean

@@ -6,7 +6,8 @@ use Rattle.fax_store.specs.declared.jobs.TheConstants.{SELECT_WAITING}
 use Rattle.fax_store.specs.Job.{IsWaiting}
 use Rattle.fax_tables.proofs.ResultLemmas.{or_weaker}
 use Rattle.fax_store.proofs.WaitingLemmas as waiting
-use Rattle.fax_store.proofs.WorkLemmas.{answers_same}
+use Rattle.fax_store.proofs.StatementTexts.{select_waiting}
+use Rattle.fax_store.proofs.WorkLemmas.{reads_same}
 use Rattle.fax_store.proofs.store.Store.read_waiting.Goals as goal
 
 pub returns-clause-answers : goal.returns-clause-answers
@@ -18,6 +19,8 @@ returns-clause-answers g c m k means s =
     let shown : Shown SELECT_WAITING.now (waiting.params t) old new c.in_ok-rows.rows.items = subst (λ p. Shown SELECT_WAITING.now p old new c.in_ok-rows.rows.items) (search rules) (c.in_ok-rows.ensures.shown s.clean) in
     let it = waiting.waiting_found t old new m k means_now c.in_ok-rows.rows.items shown in
     let lawful = waiting.all_waiting t m it.0 it.2 means_now.lawful.jobs in
-    answers_same old new (λ found. IsWaiting t m found.items) c.jobs_in.result
-    (or_weaker c.jobs_in.result (λ found. found.items ≡ map fields_of it.0) (λ found. IsWaiting t m found.items) (λ found is. (it.0, is, it.2)) (c.jobs_in.ensures it.0 (search rules) lawful))
-    (waiting.waiting_unchanged t old new m k means_now c.in_ok-rows.rows.items shown)
+    or_weaker c.jobs_in.result (λ found. found.items ≡ map fields_of it.0) (λ found. IsWaiting t m found.items) (λ found is. (it.0, is, it.2)) (c.jobs_in.ensures it.0 (search rules) lawful)
+
+pub returns-clause-reads : goal.returns-clause-reads
+returns-clause-reads g c tables clean =
+    reads_same (state g.S.Store c.args.self.now.conn) (state g.S.Store c.show.new.self.conn) c.jobs_in.result (c.in_ok-rows.ensures.reads select_waiting.plain tables clean)

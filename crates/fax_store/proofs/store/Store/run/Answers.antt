@@ -1,10 +1,13 @@
 use Rattle.std.proofs.Common.{false}
 use Rattle.sqlite.specs.Held.{state}
+use Rattle.sqlite.specs.State.{HasCleanDisk}
 use Rattle.sqlite.specs.Values.{bound}
 use Rattle.sqlite.proofs.InsideLemmas.{fails_whole}
 use Rattle.fax_tables.proofs.ResultLemmas.{on_err}
+use Rattle.fax_store.specs.Store.{LeavesCommit}
 use Rattle.fax_store.proofs.StatementLemmas.{left_open, run_open}
 use Rattle.fax_store.proofs.StoreLemmas.{served}
+use Rattle.fax_store.proofs.WorkLemmas.{edit_holds, holds_err, left_holds}
 use Rattle.fax_store.proofs.store.Store.run.Goals as goal
 
 pub returns-in_err-execute-clause-left : goal.returns-in_err-execute-clause-left
@@ -24,3 +27,19 @@ returns-clause-served g c s =
     let old = state g.S.Store c.args.self.now.conn in
     let new = state g.S.Store c.execute.new.self in
     served old new c.execute.ensures.survives.clean s (run_open old new c.args.sql.now (bound c.args.params.now) c.in_ok-execute.field-0 (c.in_ok-execute.ensures.runs s.clean) s.is_open)
+
+pub returns-clause-holds : goal.returns-clause-holds
+returns-clause-holds g c edit =
+    let old = state g.S.Store c.args.self.now.conn in
+    let new = state g.S.Store c.execute.new.self in
+    edit_holds old new c.args.sql.now (bound c.args.params.now)
+    (λ s. served old new c.execute.ensures.survives.clean s (run_open old new c.args.sql.now (bound c.args.params.now) c.in_ok-execute.field-0 (c.in_ok-execute.ensures.runs s.clean) s.is_open))
+    edit c.in_ok-execute.field-0 c.in_ok-execute.ensures.runs
+
+pub returns-in_err-execute-clause-holds : goal.returns-in_err-execute-clause-holds
+returns-in_err-execute-clause-holds g c edit =
+    let old = state g.S.Store c.args.self.now.conn in
+    let new = state g.S.Store c.execute.new.self in
+    let left : HasCleanDisk new → LeavesCommit old new = λ clean. fails_whole old new false c.args.sql.now (bound c.args.params.now) c.in_err-execute.field-0.0 (c.in_err-execute.ensures.runs clean) in
+    holds_err old new c.from_residual.result _ c.from_residual.ensures.1
+    (left_holds old new (λ s. served old new c.execute.ensures.survives.clean s (left_open old new c.args.sql.now (bound c.args.params.now) (left s.clean) s.is_open)) left)

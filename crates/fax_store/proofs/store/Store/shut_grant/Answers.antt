@@ -4,7 +4,10 @@ use Rattle.fax_store.specs.declared.grants.TheConstants.{SHUT_GRANT, DELETE_HOLD
 use Rattle.fax_store.specs.Grant.{with_closed}
 use Rattle.fax_store.specs.Store.{HasRun}
 use Rattle.fax_store.proofs.GrantWriteLemmas.{close_params, shut_keeps, grant_closed}
-use Rattle.fax_store.proofs.WorkLemmas.{refused_step, two_steps}
+use Rattle.fax_store.proofs.WorkLemmas.{holds_then, refused_step, two_steps}
+use Rattle.std.specs.Prelude.{is_err}
+use Rattle.fax_store.proofs.GrantTexts as texts
+use Rattle.fax_store.proofs.StatementLemmas.{edit_text}
 use Rattle.fax_store.proofs.store.Store.shut_grant.Goals as goal
 
 pub returns-in_err-run-clause-written : goal.returns-in_err-run-clause-written
@@ -24,3 +27,8 @@ returns-clause-written g c m₀ m k₀ k works s =
     let ran : OnOk c.run-2.result (HasRun DELETE_HOLD.now params mid new) = subst (λ p. OnOk c.run-2.result (HasRun DELETE_HOLD.now p mid new)) (search rules) (c.run-2.ensures.ran s.clean) in
     two_steps old mid new SHUT_GRANT.now DELETE_HOLD.now params params 1 2 c.run-2.result m₀ m (with_closed n m) k₀ k k c.run.ensures.served c.run-2.ensures.served works s shut ran (c.run-2.ensures.left s.clean) c.run-2.ensures.cause
     (λ means. shut_keeps n old mid new m k means shut) (λ means has. grant_closed n old mid new m k means shut has)
+
+pub returns-clause-holds : goal.returns-clause-holds
+returns-clause-holds g c =
+    holds_then (state g.S.Store c.args.self.now.conn) (state g.S.Store c.run.new.self.conn) (state g.S.Store c.run-2.new.self.conn) (is_err c.run-2.result) c.run-2.ensures.served
+    (c.in_ok-run.ensures.holds (edit_text SHUT_GRANT.now _ tt texts.shut_grant)) (c.run-2.ensures.holds (edit_text DELETE_HOLD.now _ tt texts.delete_hold))

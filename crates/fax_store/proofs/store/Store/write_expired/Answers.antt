@@ -5,6 +5,8 @@ use Rattle.fax_store.specs.Job.{with_expired}
 use Rattle.fax_store.specs.Store.{HasRun}
 use Rattle.fax_store.proofs.ChangeLemmas.{expired_params, jobs_expired}
 use Rattle.fax_store.proofs.WorkLemmas.{step_by}
+use Rattle.fax_store.proofs.StatementLemmas.{edit_text}
+use Rattle.fax_store.proofs.StatementTexts as texts
 use Rattle.fax_store.proofs.store.Store.write_expired.Goals as goal
 
 pub returns-clause-written : goal.returns-clause-written
@@ -14,3 +16,6 @@ returns-clause-written g c m₀ m k₀ k works s =
     let params = expired_params c.args.t in
     let ran : OnOk c.run.result (HasRun EXPIRE_JOBS.now params old new) = subst (λ p. OnOk c.run.result (HasRun EXPIRE_JOBS.now p old new)) (search rules) (c.run.ensures.ran s.clean) in
     step_by old new EXPIRE_JOBS.now params 0 c.run.result m₀ m (with_expired c.args.t m) k₀ k k c.run.ensures.served works s ran (c.run.ensures.left s.clean) c.run.ensures.cause (λ means has. jobs_expired c.args.t old new m k means has)
+
+pub returns-clause-holds : goal.returns-clause-holds
+returns-clause-holds g c = c.run.ensures.holds (edit_text EXPIRE_JOBS.now _ tt texts.expire_jobs)

@@ -6,6 +6,8 @@ use Rattle.fax_tables.specs.Row.{number}
 use Rattle.fax_store.specs.Store.{HasRun}
 use Rattle.fax_store.proofs.MetaLemmas.{meta_written, meta_shows}
 use Rattle.fax_store.proofs.WorkLemmas.{step_by}
+use Rattle.fax_store.proofs.StatementLemmas.{edit_text}
+use Rattle.fax_store.proofs.StatementTexts as texts
 use Rattle.fax_store.proofs.store.Store.write_meta.Goals as goal
 
 pub returns-clause-written : goal.returns-clause-written
@@ -17,3 +19,6 @@ returns-clause-written g c m₀ m k₀ k works s lawful =
     let ran : OnOk c.run.result (HasRun UPDATE_META.now params old new) = subst (λ p. OnOk c.run.result (HasRun UPDATE_META.now p old new)) (search rules) (c.run.ensures.ran s.clean) in
     step_by old new UPDATE_META.now params 10 c.run.result m₀ m (with_meta meta m) k₀ k k c.run.ensures.served works s ran (c.run.ensures.left s.clean) c.run.ensures.cause
     (λ means has. (meta_written old new m k means meta.clock meta.next_job meta.next_grant lawful has, meta_shows old new m k means meta.clock meta.next_job meta.next_grant has))
+
+pub returns-clause-holds : goal.returns-clause-holds
+returns-clause-holds g c = c.run.ensures.holds (edit_text UPDATE_META.now _ tt texts.update_meta)

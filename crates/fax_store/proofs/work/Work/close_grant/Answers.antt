@@ -9,3 +9,6 @@ pub returns-clause-changes : goal.returns-clause-changes
 returns-clause-changes g c =
     rw (c.if-self.false, c.is_err-self.ensures.value)
     (changes_by (state g.S.Store c.args.self.now.store.now.conn) (state g.S.Store c.shut_grant-done.new.self.conn) c.shut_grant-done.result (with_closed c.args.number) (λ (k : List Entry). k) c.shut_grant-done.ensures.written)
+
+pub returns-clause-holds : goal.returns-clause-holds
+returns-clause-holds g c = rw (c.if-self.false, c.is_err-self.ensures.value) c.shut_grant-done.ensures.holds

@@ -1,15 +1,20 @@
 use Rattle.std.proofs.Common.{◌≡◌}
 use Rattle.sqlite.specs.Held.{state}
 use Rattle.fax_core.specs.Machine.{is_down}
-use Rattle.fax_store.proofs.WorkLemmas.{keeps_by, found_in}
+use Rattle.fax_store.proofs.WorkLemmas.{holds_by, keeps_by, found_in}
 use Rattle.fax_store.proofs.work.Work.is_down.Goals as goal
 
 pub returns-clause-keeps : goal.returns-clause-keeps
 returns-clause-keeps g c =
     rw (c.if-self.false, c.is_err-self.ensures.value)
-    (keeps_by (state g.S.Store c.args.self.now.store.now.conn) (state g.S.Store c.read_mark-found.new.self.conn) c.read_mark-found.ensures.served (λ m k down. down ≡ is_down c.args.modem.now m) c.read_mark-found.result c.read_mark-found.ensures.answers)
+    (keeps_by (state g.S.Store c.args.self.now.store.now.conn) (state g.S.Store c.read_mark-found.new.self.conn) c.read_mark-found.ensures.served c.read_mark-found.result c.read_mark-found.ensures.reads (λ m k down. down ≡ is_down c.args.modem.now m) c.read_mark-found.ensures.answers)
 
 pub returns-clause-found : goal.returns-clause-found
 returns-clause-found g c =
     rw c.if-self.false
-    (found_in (state g.S.Store c.args.self.now.store.now.conn) (state g.S.Store c.read_mark-found.new.self.conn) c.read_mark-found.ensures.served (λ m k down. down ≡ is_down c.args.modem.now m) c.read_mark-found.result c.read_mark-found.ensures.answers)
+    (found_in (state g.S.Store c.args.self.now.store.now.conn) (state g.S.Store c.read_mark-found.new.self.conn) c.read_mark-found.ensures.served c.read_mark-found.result c.read_mark-found.ensures.reads (λ m k down. down ≡ is_down c.args.modem.now m) c.read_mark-found.ensures.answers)
+
+pub returns-clause-holds : goal.returns-clause-holds
+returns-clause-holds g c =
+    rw (c.if-self.false, c.is_err-self.ensures.value)
+    (holds_by (state g.S.Store c.args.self.now.store.now.conn) (state g.S.Store c.read_mark-found.new.self.conn) c.read_mark-found.ensures.served c.read_mark-found.result c.read_mark-found.ensures.reads)

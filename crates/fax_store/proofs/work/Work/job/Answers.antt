@@ -3,15 +3,20 @@ use Rattle.std.specs.Option.{option_map}
 use Rattle.sqlite.specs.Held.{state}
 use Rattle.fax_core.specs.Job.{fields_of}
 use Rattle.fax_core.specs.Queue.{job_numbered}
-use Rattle.fax_store.proofs.WorkLemmas.{keeps_by, found_in}
+use Rattle.fax_store.proofs.WorkLemmas.{holds_by, keeps_by, found_in}
 use Rattle.fax_store.proofs.work.Work.job.Goals as goal
 
 pub returns-clause-keeps : goal.returns-clause-keeps
 returns-clause-keeps g c =
     rw (c.if-self.false, c.is_err-self.ensures.value)
-    (keeps_by (state g.S.Store c.args.self.now.store.now.conn) (state g.S.Store c.read_job-found.new.self.conn) c.read_job-found.ensures.served (λ m k found. found ≡ option_map fields_of (job_numbered c.args.job m)) c.read_job-found.result c.read_job-found.ensures.answers)
+    (keeps_by (state g.S.Store c.args.self.now.store.now.conn) (state g.S.Store c.read_job-found.new.self.conn) c.read_job-found.ensures.served c.read_job-found.result c.read_job-found.ensures.reads (λ m k found. found ≡ option_map fields_of (job_numbered c.args.job m)) c.read_job-found.ensures.answers)
 
 pub returns-clause-found : goal.returns-clause-found
 returns-clause-found g c =
     rw c.if-self.false
-    (found_in (state g.S.Store c.args.self.now.store.now.conn) (state g.S.Store c.read_job-found.new.self.conn) c.read_job-found.ensures.served (λ m k found. found ≡ option_map fields_of (job_numbered c.args.job m)) c.read_job-found.result c.read_job-found.ensures.answers)
+    (found_in (state g.S.Store c.args.self.now.store.now.conn) (state g.S.Store c.read_job-found.new.self.conn) c.read_job-found.ensures.served c.read_job-found.result c.read_job-found.ensures.reads (λ m k found. found ≡ option_map fields_of (job_numbered c.args.job m)) c.read_job-found.ensures.answers)
+
+pub returns-clause-holds : goal.returns-clause-holds
+returns-clause-holds g c =
+    rw (c.if-self.false, c.is_err-self.ensures.value)
+    (holds_by (state g.S.Store c.args.self.now.store.now.conn) (state g.S.Store c.read_job-found.new.self.conn) c.read_job-found.ensures.served c.read_job-found.result c.read_job-found.ensures.reads)

@@ -10,3 +10,6 @@ returns-clause-changes g c =
     rw (c.if-self.false, c.is_err-self.ensures.value)
     (moved_by (state g.S.Store c.args.self.now.store.now.conn) (state g.S.Store c.write_reply-done.new.self.conn) c.write_reply-done.result (λ (m : Queue). m)
     (λ (k : List Entry). k ++ entry c.args.client.now c.args.number c.args.said.now c.args.status c.args.body.now ∷ []) c.write_reply-done.ensures.written)
+
+pub returns-clause-holds : goal.returns-clause-holds
+returns-clause-holds g c = rw (c.if-self.false, c.is_err-self.ensures.value) c.write_reply-done.ensures.holds

@@ -1,14 +1,19 @@
 use Rattle.sqlite.specs.Held.{state}
 use Rattle.fax_store.specs.Kept.{IsKeptFor}
-use Rattle.fax_store.proofs.WorkLemmas.{keeps_by, found_in}
+use Rattle.fax_store.proofs.WorkLemmas.{holds_by, keeps_by, found_in}
 use Rattle.fax_store.proofs.work.Work.kept.Goals as goal
 
 pub returns-clause-keeps : goal.returns-clause-keeps
 returns-clause-keeps g c =
     rw (c.if-self.false, c.is_err-self.ensures.value)
-    (keeps_by (state g.S.Store c.args.self.now.store.now.conn) (state g.S.Store c.read_reply-found.new.self.conn) c.read_reply-found.ensures.served (λ m k. IsKeptFor k c.args.client.now c.args.number) c.read_reply-found.result c.read_reply-found.ensures.answers)
+    (keeps_by (state g.S.Store c.args.self.now.store.now.conn) (state g.S.Store c.read_reply-found.new.self.conn) c.read_reply-found.ensures.served c.read_reply-found.result c.read_reply-found.ensures.reads (λ m k. IsKeptFor k c.args.client.now c.args.number) c.read_reply-found.ensures.answers)
 
 pub returns-clause-found : goal.returns-clause-found
 returns-clause-found g c =
     rw c.if-self.false
-    (found_in (state g.S.Store c.args.self.now.store.now.conn) (state g.S.Store c.read_reply-found.new.self.conn) c.read_reply-found.ensures.served (λ m k. IsKeptFor k c.args.client.now c.args.number) c.read_reply-found.result c.read_reply-found.ensures.answers)
+    (found_in (state g.S.Store c.args.self.now.store.now.conn) (state g.S.Store c.read_reply-found.new.self.conn) c.read_reply-found.ensures.served c.read_reply-found.result c.read_reply-found.ensures.reads (λ m k. IsKeptFor k c.args.client.now c.args.number) c.read_reply-found.ensures.answers)
+
+pub returns-clause-holds : goal.returns-clause-holds
+returns-clause-holds g c =
+    rw (c.if-self.false, c.is_err-self.ensures.value)
+    (holds_by (state g.S.Store c.args.self.now.store.now.conn) (state g.S.Store c.read_reply-found.new.self.conn) c.read_reply-found.ensures.served c.read_reply-found.result c.read_reply-found.ensures.reads)

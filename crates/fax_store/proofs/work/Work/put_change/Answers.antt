@@ -14,3 +14,6 @@ returns-clause-changes g c =
     rw (c.if-self.false, c.is_err-self.ensures.value)
     (steps_where (state g.S.Store c.args.self.now.store.now.conn) new (IsChange (job_of c.args.job.now)) c.write_change-done.result put (λ (k : List Entry). k)
     (λ m₀ m k₀ k change works s. moves_of new c.write_change-done.result m₀ (put m) k₀ k (c.write_change-done.ensures.written m₀ m k₀ k change works s)))
+
+pub returns-clause-holds : goal.returns-clause-holds
+returns-clause-holds g c = rw (c.if-self.false, c.is_err-self.ensures.value) c.write_change-done.ensures.holds

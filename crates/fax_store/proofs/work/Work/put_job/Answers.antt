@@ -15,3 +15,6 @@ returns-clause-changes g c =
 pub returns-clause-cause : goal.returns-clause-cause
 returns-clause-cause g c m₀ m k₀ k works s below =
     (c.add_job-done.ensures.written m₀ m k₀ k (subst (λ b. Works (state g.S.Store c.args.self.now.store.now.conn) b m₀ k₀ m k) c.if-self.false works) s).1 below
+
+pub returns-clause-holds : goal.returns-clause-holds
+returns-clause-holds g c = rw (c.if-self.false, c.is_err-self.ensures.value) c.add_job-done.ensures.holds

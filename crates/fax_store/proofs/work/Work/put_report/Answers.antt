@@ -10,3 +10,6 @@ pub returns-clause-changes : goal.returns-clause-changes
 returns-clause-changes g c =
     rw (c.if-self.false, c.is_err-self.ensures.value)
     (steps_where (state g.S.Store c.args.self.now.store.now.conn) (state g.S.Store c.write_report-done.new.self.conn) (IsReport c.args.grant.now) c.write_report-done.result (with_grant c.args.grant.now) (λ (k : List Entry). k) c.write_report-done.ensures.written)
+
+pub returns-clause-holds : goal.returns-clause-holds
+returns-clause-holds g c = rw (c.if-self.false, c.is_err-self.ensures.value) c.write_report-done.ensures.holds

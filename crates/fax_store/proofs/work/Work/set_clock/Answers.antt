@@ -9,3 +9,6 @@ pub returns-clause-changes : goal.returns-clause-changes
 returns-clause-changes g c =
     rw (c.if-self.false, c.is_err-self.ensures.value)
     (changes_by (state g.S.Store c.args.self.now.store.now.conn) (state g.S.Store c.write_clock-done.new.self.conn) c.write_clock-done.result (with_clock c.args.clock) (λ (k : List Entry). k) c.write_clock-done.ensures.written)
+
+pub returns-clause-holds : goal.returns-clause-holds
+returns-clause-holds g c = rw (c.if-self.false, c.is_err-self.ensures.value) c.write_clock-done.ensures.holds

@@ -9,3 +9,6 @@ pub returns-clause-changes : goal.returns-clause-changes
 returns-clause-changes g c =
     rw (c.if-self.false, c.is_err-self.ensures.value)
     (moved_by (state g.S.Store c.args.self.now.store.now.conn) (state g.S.Store c.write_mark-done.new.self.conn) c.write_mark-done.result (with_mark c.args.modem.now c.args.down) (λ (k : List Entry). k) c.write_mark-done.ensures.written)
+
+pub returns-clause-holds : goal.returns-clause-holds
+returns-clause-holds g c = rw (c.if-self.false, c.is_err-self.ensures.value) c.write_mark-done.ensures.holds

@@ -1,0 +1,61 @@
+-- A GET asks for a view.
+use Rattle.std.proofs.Common.{◌≡◌, ℕ, Bool, true, false, List, [], ◌∷◌, Option, Some, None, refl, sym, subst, if◌then◌else◌}
+use Rattle.std.specs.Prelude.{MatchOption, codes, length, option_and_then, ◌==◌}
+use Rattle.std.specs.Str.{bytes_eq}
+use Rattle.fax_core.specs.Ask as machine
+use Rattle.fax_job.specs.Number.{request_number_of}
+use Rattle.fax_ask.specs.declared.method.Method.{Method}
+use Rattle.fax_ask.specs.declared.method.Method.TheVariants.{Get}
+use Rattle.fax_ask.specs.declared.request.Request.{Request}
+use Rattle.fax_ask.specs.declared.request.Request.TheVariants.{Show}
+use Rattle.fax_ask.specs.Ask.{Asks, IsAsk, Step}
+use Rattle.fax_ask.specs.Path.{parts}
+use Rattle.fax_ask.specs.Request.{grants_request, job_request, jobs_request, modems_request, path_request, request_of, root_request}
+
+IsShow : Request → Type 0
+IsShow r = (job : ℕ) × (r ≡ Show job)
+
+of_job : (job : ℕ) (rest : List (List ℕ)) (r : Request) → job_request Get job rest ≡ Some r → IsShow r
+unfolding IsShow
+of_job job [] r e = (job, cc)
+of_job job (x ∷ xs) r e = absurd cc
+
+of_id : (found : Option ℕ) (rest : List (List ℕ)) (r : Request) → option_and_then (λ job. job_request Get job rest) found ≡ Some r → IsShow r
+of_id None rest r e = absurd cc
+of_id (Some job) rest r e = of_job job rest r e
+
+of_jobs : (rest : List (List ℕ)) (r : Request) → jobs_request Get rest ≡ Some r → IsShow r
+of_jobs [] r e = absurd cc
+of_jobs (id ∷ rest) r e = of_id (request_number_of id) rest r e
+
+none : (r : Request) → ◌≡◌ {A = Option Request} None (Some r) → IsShow r
+none r e = absurd cc
+
+either : (b : Bool) (x y : Option Request) (r : Request) → (x ≡ Some r → IsShow r) → (y ≡ Some r → IsShow r) → (if b then x else y) ≡ Some r → IsShow r
+either true x y r one other e = one e
+either false x y r one other e = other e
+
+of_root : (path : List (List ℕ)) (r : Request) → root_request Get path ≡ Some r → IsShow r
+of_root [] r e = none r e
+of_root (collection ∷ rest) r e =
+    either (bytes_eq collection (codes "jobs")) (jobs_request Get rest) _ r (of_jobs rest r)
+    (either (bytes_eq collection (codes "modems")) (modems_request Get rest) _ r (none r) (either (bytes_eq collection (codes "grants")) (grants_request Get rest) None r (none r) (none r))) e
+
+of_path : (path : List (List ℕ)) (r : Request) → path_request Get path ≡ Some r → IsShow r
+of_path [] r e = none r e
+of_path (lead ∷ rest) r e = either (length lead == 0) (root_request Get rest) None r (of_root rest r) (none r) e
+
+get_shows : (path : List ℕ) (r : Request) → request_of Get path ≡ Some r → IsShow r
+unfolding request_of
+get_shows path r e = of_path (parts path) r e
+
+-- so it asks for no step of the queue
+pub no_step : (method : Method) (path body : List ℕ) (ask : machine.Ask) → method ≡ Get → IsAsk method path body (Step ask) → ⊥
+unfolding IsShow
+no_step method path body ask get is = by (request_of Get path) refl (subst (λ (m : Method). MatchOption (request_of m path) ⊥ (λ r. Asks r body (Step ask))) get is)
+  where
+    by : (o : Option Request) → request_of Get path ≡ o → MatchOption o ⊥ (λ r. Asks r body (Step ask)) → ⊥
+    by None e h = h
+    by (Some r) e h =
+        let shown = get_shows path r e in
+        let no = subst (λ (q : Request). Asks q body (Step ask)) shown.1 h in cc
