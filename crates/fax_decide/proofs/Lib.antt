@@ -12,3 +12,4 @@ mod PlacedLemmas
 mod ChoiceLemmas
 mod GivenLemmas
 mod PlainLemmas
+pub mod OpenLemmas

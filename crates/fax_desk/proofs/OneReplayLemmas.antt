@@ -17,7 +17,7 @@ use Rattle.fax_once.proofs.OneVerdictLemmas.{one_verdict}
 use Rattle.fax_once.specs.Verdict.{Verdict, Told, Accepted, Handles, IsVerdict, Leaves}
 use Rattle.fax_once.specs.declared.arrival.Arrival.{Arrival}
 use Rattle.fax_store.proofs.StoreLemmas.{memory_serves}
-use Rattle.fax_tables.specs.Tables.{IsAtRest}
+use Rattle.fax_store.specs.Store.{Means}
 use Rattle.fax_http.specs.Conversation.{Turn}
 use Rattle.fax_desk.specs.Desk.{IsArrival}
 use Rattle.fax_http.specs.Laws.{message_of}
@@ -45,15 +45,15 @@ record SameLeft (reply other : Response) (left right : State) : Type 0 where
   pub queue : Queue
   pub kept : List Entry
   pub sound : Sound queue
-  pub here : IsAtRest left queue kept
-  pub there : IsAtRest right queue kept
+  pub here : Means left queue kept
+  pub there : Means right queue kept
 
 left_same : (m : Queue) (k : List Entry) (reply other : Response) (left right : State) (v : Verdict) → Sound m
     → Leaves m k reply left v → Leaves m k other right v → SameLeft reply other left right
 left_same m k reply other left right (Told told) sound (e, here) (e', there) =
     record { replies = e ∙ sym e'; queue = m; kept = k; sound = sound; here = here; there = there }
-left_same m k reply other left right (Accepted after kept told) sound (e, here, stays) (e', there, more) =
-    record { replies = e ∙ sym e'; queue = after; kept = kept; sound = stays; here = here; there = there }
+left_same m k reply other left right (Accepted after kept told) sound (e, serves, here, stays) (e', serves', there, more) =
+    record { replies = e ∙ sym e'; queue = after; kept = kept; sound = stays; here = λ _. here; there = λ _. there }
 
 handled_same : (s : Settings) (m : Queue) (k : List Entry) (head : RequestHead) (body : List ℕ) (moment : ℕ) (a b : Arrival)
     (reply other : Response) (left right : State) → Sound m → IsArrival head body moment a → IsArrival head body moment b
@@ -76,7 +76,7 @@ same_turn turn other head body reply =
     ∙ ap (λ r. record other { reply = r }) reply
 
 one_run : (s : Settings) (last : ℕ) (m : Queue) (k : List Entry) (turns others : List Turn) (held other : Held MemStore)
-    → Sound m → IsAtRest (state over_memory held) m k → IsAtRest (state over_memory other) m k
+    → Sound m → Means (state over_memory held) m k → Means (state over_memory other) m k
     → map message_of turns ≡ map message_of others → NoneGaveOut turns → NoneGaveOut others
     → AreHandled s last held turns → AreHandled s last other others → turns ≡ others
 one_run s last m k [] [] held other sound here there same none more a b = refl
@@ -88,8 +88,8 @@ one_run s last m k (turn ∷ turns) (turn₂ ∷ turns₂) held other sound here
     let head : turn.head ≡ turn₂.head = ap (λ p. p.0) message in
     let body : turn.body ≡ turn₂.body = ap (λ p. p.1) message in
     let moment : moment_of last turn ≡ moment_of last turn₂ = ap (λ h. moment_of last (record turn { head = h })) head in
-    let x = a.1 m k sound (λ serves. here) (memory_serves a.0) in
-    let y = b.1 m k sound (λ serves. there) (memory_serves b.0) in
+    let x = a.1 m k sound here (memory_serves a.0).clean in
+    let y = b.1 m k sound there (memory_serves b.0).clean in
     let is_y : IsArrival turn.head turn.body (moment_of last turn) y.0 =
     subst (λ t. IsArrival turn.head turn.body t y.0) (sym moment)
     (subst (λ c. IsArrival turn.head c (moment_of last turn₂) y.0) (sym body)
@@ -102,6 +102,6 @@ one_run s last m k (turn ∷ turns) (turn₂ ∷ turns₂) held other sound here
 
 pub one_replay : OneReplay
 one_replay office other input turns others settings r q a b none more =
-    one_run (settings_in other) 0 empty_queue [] turns others a.held b.held empty_sound a.empty b.empty
+    one_run (settings_in other) 0 empty_queue [] turns others a.held b.held empty_sound (λ _. a.empty) (λ _. b.empty)
     (one_division input turns others r q) none more
     (subst (λ s. AreHandled s 0 a.held turns) settings a.handled) b.handled

@@ -1,7 +1,7 @@
 -- What a message comes to at the desk: an arrival, which the queue handles.
 use Rattle.std.specs.Prelude.{◌≡◌, ℕ, List, codes}
 use Rattle.httparse.specs.Grammar.{RequestHead}
-use Rattle.sqlite.specs.State.{State}
+use Rattle.sqlite.specs.State.{State, HasCleanDisk}
 use Rattle.fax_ask.specs.Method.{method_of}
 use Rattle.fax_ask.specs.Response.{Response}
 use Rattle.fax_core.specs.Queue.{Queue, Entry}
@@ -9,7 +9,7 @@ use Rattle.fax_core.specs.Settings.{Settings}
 use Rattle.fax_core.specs.Sound.{Sound}
 use Rattle.fax_once.specs.Verdict.{Handles}
 use Rattle.fax_once.specs.declared.arrival.Arrival.{Arrival}
-use Rattle.fax_store.specs.Store.{Means, Serves}
+use Rattle.fax_store.specs.Store.{Means}
 use Rattle.fax_http.specs.Message.{fields_of, sole, values_of}
 
 -- the arrival of a message with that head and body, at that moment
@@ -24,7 +24,7 @@ pub record IsArrival (head : RequestHead) (body : List ℕ) (moment : ℕ) (a : 
 -- from a store that means a sound queue, the arrival at that moment is handled
 abbrev pub HandlesAt : ℕ → Settings → State → RequestHead → List ℕ → Response → State → Type 0
 HandlesAt moment settings old head body reply new =
-    (m : Queue) (k : List Entry) → Sound m → Means old m k → Serves new
+    (m : Queue) (k : List Entry) → Sound m → Means old m k → HasCleanDisk new
     → (a : Arrival) × IsArrival head body moment a × Handles settings a m k reply new
 
 -- the clock gives a moment for what the message says of it, and the arrival at that moment is handled

@@ -10,3 +10,12 @@ returns-clause-decided g c m k t modem one sound means serves is same =
     held_told (λ told. IfOk c.held.result (λ reply. reply ≡ told)) m t modem one c.in-Some.grant c.args.hold c.in-Some-2.job sound is same
     (sym c.in-Some.is ∙ c.in_ok-grant.ensures.found m k means serves_grant)
     (sym c.in-Some-2.is ∙ c.in_ok-job.ensures.found m k (means_stay c.grant.ensures.served c.grant.ensures.stays m k means) serves) c.held.ensures
+
+pub returns-in_err-job-clause-stays : goal.returns-in_err-job-clause-stays
+returns-in_err-job-clause-stays g c db six rests = c.job.ensures.stays db six (c.grant.ensures.stays db six rests)
+
+pub returns-in_default-2-clause-stays : goal.returns-in_default-2-clause-stays
+returns-in_default-2-clause-stays g c db six rests = c.job.ensures.stays db six (c.grant.ensures.stays db six rests)
+
+pub returns-clause-stays : goal.returns-clause-stays
+returns-clause-stays g c db six rests = c.job.ensures.stays db six (c.grant.ensures.stays db six rests)

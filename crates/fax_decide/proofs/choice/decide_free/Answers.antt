@@ -13,7 +13,7 @@ pub returns-in-Some-clause-decided : goal.returns-in-Some-clause-decided
 returns-in-Some-clause-decided g c m k sound means serves next =
     best_given (λ step. IfOk c.give.result (Decides step m c.args.t)) (settings_of c.args.office.now.setup c.args.office.now.controls) m c.args.t c.args.modem c.in-Some.job c.args.next_grant sound
     (sym (ap (option_map (λ f. job_of f)) c.in-Some.is) ∙ c.in_ok-job.ensures.found m k sound means serves) next
-    (λ there. c.give.ensures m c.args.t sound there next)
+    (λ there. c.give.ensures.decided m c.args.t sound there next)
 
 pub returns-in-None-clause-decided : goal.returns-in-None-clause-decided
 returns-in-None-clause-decided g c m k sound means serves next =

@@ -42,3 +42,12 @@ returns-in-None-clause-decided g c m k sound means serves next =
     (λ step. IfOk c.decide_free.result (Decides step m c.args.t))
     (sym c.in-None.is ∙ c.in_ok-hold.ensures.found m k looked serves_hold ∙ ap (λ (name : List ℕ). option_map as_hold (held_by name m)) c.as_str-3.ensures.text)
     (c.decide_free.ensures.decided m k sound held serves next)
+
+pub returns-in_err-hold-clause-stays : goal.returns-in_err-hold-clause-stays
+returns-in_err-hold-clause-stays g c db six rests = c.hold_of.ensures.stays db six (c.is_down.ensures.stays db six rests)
+
+pub returns-in-Some-clause-stays : goal.returns-in-Some-clause-stays
+returns-in-Some-clause-stays g c db six rests = c.busy.ensures.stays db six (c.hold_of.ensures.stays db six (c.is_down.ensures.stays db six rests))
+
+pub returns-in-None-clause-stays : goal.returns-in-None-clause-stays
+returns-in-None-clause-stays g c db six rests = c.decide_free.ensures.stays db six (c.hold_of.ensures.stays db six (c.is_down.ensures.stays db six rests))

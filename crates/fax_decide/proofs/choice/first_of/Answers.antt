@@ -26,3 +26,6 @@ loop-job-preserved g c = record {
       none_more _ c.loop-job.yielded c.in-Some.job (c.loop-job.invariant.none m k means (c.may_go.ensures.served serves))
       (sym (c.in_ok-may_go.ensures.found m k (means_stay c.loop-job.invariant.served c.loop-job.invariant.stays m k means) serves) ∙ c.if-branch.false);
 }
+
+pub returns-in_err-may_go-clause-stays : goal.returns-in_err-may_go-clause-stays
+returns-in_err-may_go-clause-stays g c db six rests = c.may_go.ensures.stays db six (c.loop-job.invariant.stays db six rests)

@@ -1,20 +1,17 @@
-use Rattle.std.proofs.Common.{sym, subst}
+use Rattle.sqlite.specs.Held.{state}
+use Rattle.std.proofs.Common.{subst}
 use Rattle.std.specs.Prelude.{IfOk}
-use Rattle.fax_core.specs.Job.{job_of}
 use Rattle.fax_core.specs.Reply.{NoKeys}
 use Rattle.fax_decide.specs.Decision.{Decides}
 use Rattle.fax_decide.specs.declared.decision.Decision.TheVariants.{Refused}
 use Rattle.fax_decide.specs.Settings.{settings_of}
 use Rattle.fax_core.specs.Ageing.{aged}
 use Rattle.fax_store.proofs.StoreLemmas.{means_stay}
-use Rattle.fax_decide.proofs.DecisionLemmas.{refused_as}
+use Rattle.fax_decide.proofs.DecisionLemmas.{refused_like}
 use Rattle.fax_decide.proofs.JobLemmas.{on_job_is}
-use Rattle.fax_decide.proofs.PlainLemmas.{on_job_plain}
+use Rattle.fax_decide.proofs.OpenLemmas.{opens_then}
 use Rattle.fax_decide.proofs.RecordLemmas.{found_itself}
 use Rattle.fax_decide.proofs.jobs.decide_on_job.Goals as goal
-
-pub refused-in-Err-requires : goal.refused-in-Err-requires
-refused-in-Err-requires g c = on_job_plain c.args.ask c.args.t (job_of c.in-Some.job) c.in-Err.refusal (sym c.in-Err.ensures)
 
 pub returns-in-Ok-clause-decided : goal.returns-in-Ok-clause-decided
 returns-in-Ok-clause-decided g c m k means serves =
@@ -28,4 +25,10 @@ pub returns-in-Err-clause-decided : goal.returns-in-Err-clause-decided
 returns-in-Err-clause-decided g c m k means serves =
     subst (λ step. Decides step m c.args.t (Refused c.refused-in-Err.result))
     (on_job_is (settings_of c.args.office.now.setup c.args.office.now.controls) m c.args.t c.args.ask c.args.number _ c.in-Some.job _ (c.in_ok-job.ensures.found m k means serves) c.in-Some.is c.in-Err.ensures)
-    (subst (λ reply. Decides _ m c.args.t (Refused reply)) (sym c.refused-in-Err.ensures) (refused_as c.in-Err.refusal NoKeys))
+    (refused_like c.in-Err.refusal NoKeys c.refused-in-Err.result c.refused-in-Err.ensures)
+
+pub returns-in-Ok-clause-opens : goal.returns-in-Ok-clause-opens
+returns-in-Ok-clause-opens g c = opens_then (state g.S.Store c.args.store.now.conn) (state g.S.Store c.job_at.new.store.conn) (state g.S.Store c.changed.new.store.conn) c.changed.result c.in_ok-job.ensures.opens c.changed.ensures.clean c.changed.ensures.opens
+
+pub returns-in-Ok-clause-stays : goal.returns-in-Ok-clause-stays
+returns-in-Ok-clause-stays g c db six rests = c.changed.ensures.stays db six (c.job_at.ensures.stays db six rests)

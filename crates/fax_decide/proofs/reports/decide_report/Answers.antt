@@ -1,3 +1,4 @@
+use Rattle.sqlite.specs.Held.{state}
 use Rattle.std.proofs.Common.{◌≡◌, subst}
 use Rattle.std.specs.Option.{option_map}
 use Rattle.std.specs.Prelude.{IfOk}
@@ -8,6 +9,7 @@ use Rattle.fax_decide.specs.Decision.{Decides}
 use Rattle.fax_decide.specs.Settings.{settings_of}
 use Rattle.fax_store.proofs.StoreLemmas.{means_stay}
 use Rattle.fax_decide.proofs.ReportLemmas.{are_there, on_grant_is, without_job_is, lawful_grant}
+use Rattle.fax_decide.proofs.OpenLemmas.{always, opens_then}
 use Rattle.fax_decide.proofs.reports.decide_report.Goals as goal
 
 pub returns-in-Some-2-clause-decided : goal.returns-in-Some-2-clause-decided
@@ -30,4 +32,20 @@ returns-in-None-clause-decided g c m k sound means serves =
     let job = subst (λ n. option_map (λ f. job_of f) c.in_ok-job.field-0 ≡ job_numbered n (aged c.args.t m)) c.from.ensures (c.in_ok-job.ensures.found m k looked serves) in
     subst (λ step. IfOk c.without_job.result (Decides step m c.args.t))
     (without_job_is (settings_of c.args.office.now.setup c.args.office.now.controls) m c.args.t c.args.number c.args.report c.in-Some.grant _ _ (c.in_ok-grant.ensures.found m k means serves_grant) c.in-Some.is job c.in-None.is)
-    (c.without_job.ensures m c.args.t)
+    (c.without_job.ensures.decided m c.args.t)
+
+pub returns-in_err-job-clause-stays : goal.returns-in_err-job-clause-stays
+returns-in_err-job-clause-stays g c db six rests = c.job_at.ensures.stays db six (c.grant_at.ensures.stays db six rests)
+
+pub returns-in-Some-2-clause-opens : goal.returns-in-Some-2-clause-opens
+returns-in-Some-2-clause-opens g c =
+    opens_then (state g.S.Store c.args.store.now.conn) (state g.S.Store c.job_at.new.store.conn) (state g.S.Store c.report_on.new.store.conn) c.report_on.result (λ clean serves. c.in_ok-job.ensures.opens clean (c.in_ok-grant.ensures.opens (c.job_at.ensures.clean clean) serves)) c.report_on.ensures.clean c.report_on.ensures.opens
+
+pub returns-in-Some-2-clause-stays : goal.returns-in-Some-2-clause-stays
+returns-in-Some-2-clause-stays g c db six rests = c.report_on.ensures.stays db six (c.job_at.ensures.stays db six (c.grant_at.ensures.stays db six rests))
+
+pub returns-in-None-clause-opens : goal.returns-in-None-clause-opens
+returns-in-None-clause-opens g c = always c.without_job.result (λ clean serves. c.in_ok-job.ensures.opens clean (c.in_ok-grant.ensures.opens (c.job_at.ensures.clean clean) serves))
+
+pub returns-in-None-clause-stays : goal.returns-in-None-clause-stays
+returns-in-None-clause-stays g c db six rests = c.job_at.ensures.stays db six (c.grant_at.ensures.stays db six rests)

@@ -14,11 +14,11 @@ use Rattle.fax_decide.proofs.PlainLemmas.{rejected_has, submit_plain}
 use Rattle.fax_decide.proofs.SubmissionLemmas.{moved, submit_is, refused_is}
 use Rattle.fax_decide.proofs.submission.decide_submission.Goals as goal
 
-pub refused-requires-notice : goal.refused-requires-notice
-refused-requires-notice c = rejected_has c.args.order (rule_of c.in_ok-rule.rule.now (λ _. true)) c.args.next_job c.max_jobs.result c.args.t c.in-Err.refusal (sym (c.in-Err.ensures (λ _. true)))
+pub refused-requires-clause-notice : goal.refused-requires-clause-notice
+refused-requires-clause-notice c = rejected_has c.args.order (rule_of c.in_ok-rule.rule.now (λ _. true)) c.args.next_job c.max_jobs.result c.args.t c.in-Err.refusal (sym (c.in-Err.ensures (λ _. true)))
 
-pub refused-requires-plain : goal.refused-requires-plain
-refused-requires-plain c = submit_plain c.args.order (rule_of c.in_ok-rule.rule.now (λ _. true)) c.args.next_job c.max_jobs.result c.args.t c.in-Err.refusal (sym (c.in-Err.ensures (λ _. true)))
+pub refused-requires-clause-plain : goal.refused-requires-clause-plain
+refused-requires-clause-plain c = submit_plain c.args.order (rule_of c.in_ok-rule.rule.now (λ _. true)) c.args.next_job c.max_jobs.result c.args.t c.in-Err.refusal (sym (c.in-Err.ensures (λ _. true)))
 
 pub returns-in-Ok : goal.returns-in-Ok
 returns-in-Ok c m sound next =

@@ -49,3 +49,12 @@ pub returns-in_ok-put_change-in-Closed-clause-changes : goal.returns-in_ok-put_c
 returns-in_ok-put_change-in-Closed-clause-changes g c m₀ m k₀ k suits works =
     let suited = subst (λ e. Suits e m) c.in-Closed.is suits in
     subst (λ e. Works (state g.S.Store c.close_grant.new.self.store.now.conn) c.close_grant.new.self.failed m₀ k₀ (effected e m) k) (sym c.in-Closed.is) (c.close_grant.ensures.changes m₀ _ k₀ _ (c.put_change-in-Closed.ensures.changes m₀ m k₀ k suited works))
+
+pub returns-in_ok-put_change-in-NewGrant-clause-holds : goal.returns-in_ok-put_change-in-NewGrant-clause-holds
+returns-in_ok-put_change-in-NewGrant-clause-holds g c db over = c.put_grant.ensures.holds db (c.put_change-in-NewGrant.ensures.holds db over)
+
+pub returns-in_ok-put_change-in-Reported-clause-holds : goal.returns-in_ok-put_change-in-Reported-clause-holds
+returns-in_ok-put_change-in-Reported-clause-holds g c db over = c.put_report.ensures.holds db (c.put_change-in-Reported.ensures.holds db over)
+
+pub returns-in_ok-put_change-in-Closed-clause-holds : goal.returns-in_ok-put_change-in-Closed-clause-holds
+returns-in_ok-put_change-in-Closed-clause-holds g c db over = c.close_grant.ensures.holds db (c.put_change-in-Closed.ensures.holds db over)

@@ -1,0 +1,10 @@
+use Rattle.std.proofs.Common.{◌≡◌, sym, subst}
+use Rattle.std.specs.Prelude.{IfOk}
+use Rattle.fax_ask.specs.Response.{refused_response}
+use Rattle.fax_core.specs.Machine.{keys_of_rule}
+use Rattle.fax_core.specs.Submission.{rule_of}
+use Rattle.fax_decide.proofs.submission.refused.Goals as goal
+
+pub returns-in-Rejected-clause-reply : goal.returns-in-Rejected-clause-reply
+returns-in-Rejected-clause-reply c hours =
+    subst (λ e. IfOk c.rejected.result (λ reply. reply ≡ refused_response e (keys_of_rule e (rule_of c.args.rule.now hours)))) (sym c.in-Rejected.is) (c.rejected.ensures hours)
