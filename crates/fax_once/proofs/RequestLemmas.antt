@@ -1,12 +1,13 @@
 -- What is answered by the request that method and path name.
-use Rattle.std.proofs.Common.{◌≡◌, inl, ℕ, List, Option, Some, None, Ok, Err, refl, sym, ap, subst}
+use Rattle.std.proofs.Common.{◌≡◌, inl, inr, ℕ, List, Option, Some, None, Ok, Err, refl, sym, ap, subst}
 use Rattle.std.specs.Prelude.{Result, IfOk, OnOk, MatchOption, MatchResult}
 use Rattle.sqlite.specs.State.{State}
 use Rattle.fax_job.specs.declared.refusal.Refusal.{Refusal}
-use Rattle.fax_job.specs.declared.refusal.Refusal.TheVariants.{NoRoute}
+use Rattle.fax_job.specs.declared.refusal.Refusal.TheVariants.{BadBody, NoRoute}
+use Rattle.fax_job.specs.declared.refusal.BodyFault.{BodyFault}
 use Rattle.fax_ask.specs.declared.request.Request.{Request}
 use Rattle.fax_ask.specs.declared.request.Request.TheVariants.{Submit, Suspend, Resume, Kill, Alter, Show, Ready, Down, Next, Call, Page, Outcome}
-use Rattle.fax_ask.specs.Ask.{Asked, Asks, IsAsk, Step, View}
+use Rattle.fax_ask.specs.Ask.{Asked, Asks, IsAsk, IsBodyRefusal, IsRefused, Step, View}
 use Rattle.fax_ask.specs.Request.{request_of}
 use Rattle.fax_ask.specs.Response.{Response, refused_response}
 use Rattle.fax_core.specs.Ask as machine
@@ -104,9 +105,9 @@ for_sender s a m k (Some r) e ask of is = posted s a m k (denied e) r (unseen r 
 -- ---- answers
 
 -- what holds of an answer where the store is open, which it is where there is an answer and the disk is clean
-pub where_open : {A E : Type 0} (r : Result A E) {C S : Type 0} {P : A → Type 0} → OnOk r (C → S) → C → (S → IfOk r P) → IfOk r P
-where_open (Ok a) opens clean so = so (opens clean)
-where_open (Err e) opens clean so = tt
+pub where_open : {A E : Type 0} (r : Result A E) (C S : Type 0) (P : A → Type 0) → OnOk r (C → S) → C → (S → IfOk r P) → IfOk r P
+where_open (Ok a) C S P opens clean so = so (opens clean)
+where_open (Err e) C S P opens clean so = tt
 
 pub view_answers : {E : Type 0} (result : Result Response E) (s : Settings) (a : Arrival) (m : Queue) (k : List Entry) (x : Asked) (job : ℕ) (store : State)
     → IsAsk a.method a.path.now a.body.now x → shown_in x ≡ Some job → IfOk result (λ reply. reply ≡ view s m (decided_at m.clock a.moment) job) → Means store m k → Answers s a m k result store
@@ -131,3 +132,35 @@ pub told_answers : {E : Type 0} (result : Result Response E) (s : Settings) (a :
     → IfOk result (λ reply. IsVerdict s a m k (Told reply)) → Means store m k → Answers s a m k result store
 told_answers (Ok reply) s a m k store is rests = (Told reply, is, (refl, rests))
 told_answers (Err e) s a m k store is rests = rests
+
+-- ---- bodies at fault
+
+-- what is shown has no fault
+unseen_fault : (r : Request) (body : List ℕ) (fault : BodyFault) → IsBodyRefusal r body (BadBody fault) → seen_by r ≡ None
+unseen_fault (Show n) body fault is = absurd is
+unseen_fault Submit body fault is = refl
+unseen_fault (Suspend n) body fault is = refl
+unseen_fault (Resume n) body fault is = refl
+unseen_fault (Kill n) body fault is = refl
+unseen_fault (Alter n) body fault is = refl
+unseen_fault (Ready n) body fault is = refl
+unseen_fault (Down n) body fault is = refl
+unseen_fault (Next n) body fault is = refl
+unseen_fault (Call n) body fault is = refl
+unseen_fault (Page n) body fault is = refl
+unseen_fault (Outcome n) body fault is = refl
+
+-- the client and the number come before the body
+pub body_told : (s : Settings) (a : Arrival) (m : Queue) (k : List Entry) (fault : BodyFault) (reply : Response) → IsRefused a.method a.path.now a.body.now (BadBody fault)
+    → MatchResult (number_of a) (λ _. reply ≡ refused_response (BadBody fault) NoKeys) (λ e. reply ≡ refused_response e NoKeys) → IsVerdict s a m k (Told reply)
+body_told s a m k fault reply refused told = by (request_of a.method a.path.now) refused
+  where
+    sent : (r : Request) → IsBodyRefusal r a.body.now (BadBody fault) → (n : Result ℕ Refusal)
+        → MatchResult n (λ _. reply ≡ refused_response (BadBody fault) NoKeys) (λ e. reply ≡ refused_response e NoKeys)
+        → MatchResult n (λ number. IsForBody s a m k number r (Told reply)) (λ e. Told reply ≡ denied e)
+    sent r is (Ok number) h = inr (fault, is, ap (λ (x : Response). Told x) h)
+    sent r is (Err e) h = ap (λ (x : Response). Told x) h
+
+    by : (o : Option Request) → MatchOption o (BadBody fault ≡ NoRoute) (λ r. IsBodyRefusal r a.body.now (BadBody fault)) → MatchOption o (Told reply ≡ denied NoRoute) (IsForRequest s a m k (Told reply))
+    by None h = absurd (let no = h in cc)
+    by (Some r) h = posted s a m k (Told reply) r (unseen_fault r a.body.now fault h) (sent r h (number_of a) told)

@@ -1,10 +1,11 @@
 use Rattle.std.proofs.Common.{◌≡◌, [], ◌∷◌, ◌++◌, subst, rules}
 use Rattle.sqlite.specs.Held.{state}
 use Rattle.fax_tables.specs.Kept.{entry}
-use Rattle.fax_store.specs.Store.{Means, StaysAsItWas}
+use Rattle.fax_store.specs.Store.{Means, Stays, StaysAsItWas}
 use Rattle.fax_decide.specs.Effect.{accepted}
 use Rattle.fax_decide.proofs.WorkLemmas.{refused_with, works_where}
 use Rattle.fax_store.proofs.StoreLemmas.{means_stay}
+use Rattle.fax_tables.proofs.ResultLemmas.{on_err}
 use Rattle.fax_once.proofs.acceptance.commit_accepted.Goals as goal
 
 pub returns-in_err-work-clause-taken : goal.returns-in_err-work-clause-taken
@@ -30,3 +31,15 @@ returns-clause-taken g c m k means suits =
     subst (λ v. Means (state g.S.Store v.conn) (accepted c.args.decided_at c.args.effect.now m)
     (k ++ entry c.args.sender.now.client.now c.args.sender.now.number c.args.said.now c.args.reply.now.status c.args.reply.now.body ∷ [])) same
     (c.in_ok-commit.ensures.committed m _ k _ works)
+
+pub returns-in_err-write-clause-unchanged : goal.returns-in_err-write-clause-unchanged
+returns-in_err-write-clause-unchanged g c =
+    let same : c.drop-work.new.self.0 ≡ c.store-in_err-write-1.given.0 = search rules in
+    let stays : Stays (state g.S.Store c.args.store.now.conn) (state g.S.Store c.drop-work.new.self.0.conn) = λ db six rests. c.drop-work.ensures.forgets db (c.write.ensures.holds db (c.in_ok-work.ensures.at db six rests)) in
+    on_err c.from_residual-in_err-write.result (subst (λ v. Stays (state g.S.Store c.args.store.now.conn) (state g.S.Store v.conn)) same stays)
+
+pub returns-in_err-commit-clause-unchanged : goal.returns-in_err-commit-clause-unchanged
+returns-in_err-commit-clause-unchanged g c =
+    let same : c.commit.new.self.0 ≡ c.store-2-1.given.0 = search rules in
+    let stays : Stays (state g.S.Store c.args.store.now.conn) (state g.S.Store c.commit.new.self.0.conn) = λ db six rests. c.in_err-commit.ensures.forgets db (c.write.ensures.holds db (c.in_ok-work.ensures.at db six rests)) in
+    on_err c.from_residual-in_err-commit.result (subst (λ v. Stays (state g.S.Store c.args.store.now.conn) (state g.S.Store v.conn)) same stays)

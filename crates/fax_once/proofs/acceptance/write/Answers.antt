@@ -23,3 +23,12 @@ returns-clause-changes g c m₀ m k₀ k suits works =
     subst₂ (λ status body. Works (state g.S.Store c.keep.new.self.store.now.conn) c.keep.new.self.failed m₀ k₀ (accepted c.args.decided_at c.args.effect.now m)
     (k ++ entry c.args.sender.now.client.now c.args.sender.now.number c.args.said.now status body ∷ []))
     c.status.ensures c.body.ensures (c.keep.ensures.changes m₀ _ k₀ _ (c.set_clock.ensures.changes m₀ _ k₀ _ (c.write.ensures.changes m₀ _ k₀ _ suits (c.expire_all.ensures.changes m₀ m k₀ k works))))
+
+pub returns-in_err-write-clause-holds : goal.returns-in_err-write-clause-holds
+returns-in_err-write-clause-holds g c db over = c.write.ensures.holds db (c.expire_all.ensures.holds db over)
+
+pub returns-in_err-set_clock-clause-holds : goal.returns-in_err-set_clock-clause-holds
+returns-in_err-set_clock-clause-holds g c db over = c.set_clock.ensures.holds db (c.write.ensures.holds db (c.expire_all.ensures.holds db over))
+
+pub returns-clause-holds : goal.returns-clause-holds
+returns-clause-holds g c db over = c.keep.ensures.holds db (c.set_clock.ensures.holds db (c.write.ensures.holds db (c.expire_all.ensures.holds db over)))

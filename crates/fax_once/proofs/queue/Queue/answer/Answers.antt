@@ -11,3 +11,6 @@ pub returns-in-Err-clause-answered : goal.returns-in-Err-clause-answered
 returns-in-Err-clause-answered g c m k sound means clean =
     let settings = settings_of c.args.self.now.office.setup c.args.self.now.office.controls in
     told_answers c.refuse_ask.result settings c.args.arrival.now m k (state g.S.Store c.args.self.now.store.conn) (c.refuse_ask.ensures.verdict settings m k c.in-Err.ensures.refused) means
+
+pub returns-in-Ok-clause-seen : goal.returns-in-Ok-clause-seen
+returns-in-Ok-clause-seen g c get = c.answer_ask.ensures.seen get c.in-Ok.ensures.ask

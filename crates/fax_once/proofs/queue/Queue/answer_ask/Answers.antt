@@ -1,5 +1,8 @@
 use Rattle.std.proofs.Common.{Ok, sym, subst, ◌∙◌}
 use Rattle.sqlite.specs.Held.{state}
+use Rattle.sqlite.specs.State.{HasCleanDisk}
+use Rattle.fax_store.specs.Store.{Serves}
+use Rattle.fax_decide.specs.declared.fault.Unavailable.{Unavailable}
 use Rattle.fax_ask.specs.Ask.{IsAsk, asked}
 use Rattle.fax_decide.specs.Settings.{settings_of}
 use Rattle.fax_store.proofs.StoreLemmas.{means_stay}
@@ -11,7 +14,7 @@ use Rattle.fax_once.proofs.queue.Queue.answer_ask.Goals as goal
 pub returns-in-Some-clause-answered : goal.returns-in-Some-clause-answered
 returns-in-Some-clause-answered g c m k sound means clean is lawful =
     view_answers c.show.result (settings_of c.args.self.now.office.setup c.args.self.now.office.controls) c.args.arrival.now m k (asked c.args.ask) c.in-Some.job (state g.S.Store c.show.new.self.store.conn)
-    is (sym c.shown_job.ensures ∙ c.in-Some.is) (where_open c.show.result c.show.ensures.opens clean (c.show.ensures.viewed m k means))
+    is (sym c.shown_job.ensures ∙ c.in-Some.is) (where_open c.show.result (HasCleanDisk (state g.S.Store c.show.new.self.store.conn)) (Serves (state g.S.Store c.show.new.self.store.conn)) _ c.show.ensures.opens clean (c.show.ensures.viewed m k means))
     (means_stay c.show.ensures.served c.show.ensures.stays m k means)
 
 pub returns-in-Ok-clause-answered : goal.returns-in-Ok-clause-answered
@@ -23,7 +26,7 @@ returns-in-Ok-clause-answered g c m k sound means clean is lawful =
 pub returns-in-Err-clause-answered : goal.returns-in-Err-clause-answered
 returns-in-Err-clause-answered g c m k sound means clean is lawful =
     let step = step_in (asked c.args.ask) (sym c.shown_job.ensures ∙ c.in-None.is) in
-    sender_answers (Ok c.refused.result) (settings_of c.args.self.now.office.setup c.args.self.now.office.controls) c.args.arrival.now m k (asked c.args.ask) step.0 c.in-Err.refusal (state g.S.Store c.args.self.now.store.conn)
+    sender_answers {E = Unavailable} (Ok c.refused.result) (settings_of c.args.self.now.office.setup c.args.self.now.office.controls) c.args.arrival.now m k (asked c.args.ask) step.0 c.in-Err.refusal (state g.S.Store c.args.self.now.store.conn)
     is step.1 c.in-Err.ensures.refused c.refused.ensures means
 
 pub refused-requires : goal.refused-requires

@@ -19,3 +19,6 @@ pub returns-in-Err-clause-sound : goal.returns-in-Err-clause-sound
 returns-in-Err-clause-sound g c m k sound means clean =
     stays_sound (settings_of c.args.self.now.office.setup c.args.self.now.office.controls) c.args.arrival.now m k c.refused.result (state g.S.Store c.answer.new.self.store.conn) sound
     (inr (c.refused.ensures, c.in-Err.ensures.answered m k sound means clean))
+
+pub returns-in-Err-clause-refused : goal.returns-in-Err-clause-refused
+returns-in-Err-clause-refused g c refused = c.in-Err.ensures.unchanged tt

@@ -7,6 +7,7 @@ use Rattle.fax_core.specs.Machine.{step}
 use Rattle.fax_decide.specs.Decision.{Decides}
 use Rattle.fax_decide.specs.Settings.{settings_of}
 use Rattle.fax_once.proofs.VerdictLemmas.{used_leaves, lawful_ask}
+use Rattle.fax_decide.proofs.WorkLemmas.{refused_with}
 use Rattle.fax_store.proofs.StoreLemmas.{means_stay}
 use Rattle.fax_once.proofs.queue.Queue.step.Goals as goal
 
@@ -29,3 +30,28 @@ returns-clause-stepped g c m k want sound means clean from is lawful =
       now = c.moment_at-t.ensures ∙ ap (λ meta. decided_at meta.clock c.args.arrival.now.moment) meta;
       decides = subst (λ r. IfOk r (Decides (step settings m c.moment_at-t.result want) m c.moment_at-t.result)) c.in_ok-decision.was (c.decide.ensures.decided m k want sound read at meta is);
     })
+
+pub returns-in_err-used-clause-stepped : goal.returns-in_err-used-clause-stepped
+returns-in_err-used-clause-stepped g c m k want sound means clean from is lawful =
+    refused_with c.from_residual.result _ _ c.from_residual.ensures.0 (means_stay c.is_used.ensures.served c.is_used.ensures.stays m k means)
+
+pub returns-in_err-meta-clause-stepped : goal.returns-in_err-meta-clause-stepped
+returns-in_err-meta-clause-stepped g c m k want sound means clean from is lawful =
+    let looked = means_stay c.is_used.ensures.served c.is_used.ensures.stays m k means in
+    refused_with c.from_residual-in_err-meta.result _ _ c.from_residual-in_err-meta.ensures.0 (means_stay c.meta.ensures.served c.meta.ensures.stays m k looked)
+
+pub returns-in_err-decision-clause-stepped : goal.returns-in_err-decision-clause-stepped
+returns-in_err-decision-clause-stepped g c m k want sound means clean from is lawful =
+    let looked = means_stay c.is_used.ensures.served c.is_used.ensures.stays m k means in
+    let read = means_stay c.meta.ensures.served c.meta.ensures.stays m k looked in
+    refused_with c.from_residual-in_err-decision.result _ _ c.from_residual-in_err-decision.ensures.0 (means_stay c.decide.ensures.served c.decide.ensures.stays m k read)
+
+pub returns-in_err-meta-clause-unchanged : goal.returns-in_err-meta-clause-unchanged
+returns-in_err-meta-clause-unchanged g c refused db six rests = c.meta.ensures.stays db six (c.is_used.ensures.stays db six rests)
+
+pub returns-in_err-decision-clause-unchanged : goal.returns-in_err-decision-clause-unchanged
+returns-in_err-decision-clause-unchanged g c refused db six rests = c.decide.ensures.stays db six (c.meta.ensures.stays db six (c.is_used.ensures.stays db six rests))
+
+pub returns-clause-unchanged : goal.returns-clause-unchanged
+returns-clause-unchanged g c refused db six rests =
+    c.settle.ensures.unchanged refused db six (c.decide.ensures.stays db six (c.meta.ensures.stays db six (c.is_used.ensures.stays db six rests)))
