@@ -9,15 +9,10 @@ ghost use Rattle.fax_core.specs.Queue.{Queue, Entry, job_numbered, grant_numbere
 ghost use Rattle.fax_store.specs.Store.{Means, Serves, Stays};
 
 use fax_core::{Grant, aged_job};
+use fax_job::limits::{LAST_GRANT, LAST_JOB};
 use fax_job::{Job, Moment};
 use fax_store::{Store, StoreFault};
 use sqlite::Alter;
-
-/// The greatest number of a job.
-const LAST_JOB: u64 = 999_999;
-
-/// The greatest number of a grant.
-const LAST_GRANT: u64 = 999_999_999;
 
 /// The job of that number, as it is at `t`, if there is one.
 pub(crate) fn job_at<S: Alter>(
@@ -31,7 +26,7 @@ pub(crate) fn job_at<S: Alter>(
         → Serves (state S.Store store.new.conn)
         → IfOk result (λ found. option_map (λ f. job_of f) found ≡ job_numbered number (aged t m)) }
 {
-    if number > LAST_JOB {
+    if number > u64::from(LAST_JOB) {
         return Ok(None);
     }
     match store.job(number as u32)? {
@@ -50,7 +45,7 @@ pub(crate) fn grant_at<S: Alter>(
     ensures found { (m : Queue) (k : List Entry) → Means (state S.Store store.old.conn) m k
         → Serves (state S.Store store.new.conn) → IfOk result (λ found. found ≡ grant_numbered number m) }
 {
-    if number > LAST_GRANT {
+    if number > u64::from(LAST_GRANT) {
         return Ok(None);
     }
     store.grant(number as u32)
