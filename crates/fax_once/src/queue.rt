@@ -5,8 +5,9 @@
 
 ghost use Rattle.std.specs.Prelude.{◌≡◌, ◌∷◌, ◌++◌, [], List, IfOk, OnOk, MatchResult};
 ghost use Rattle.sqlite.specs.Held.{state};
-ghost use Rattle.fax_ask.specs.Ask.{IsAsk, IsLawful, IsRefused, Step as Asked, asked};
-ghost use Rattle.fax_core.specs.Ask.{Ask as MachineAsk, IsLawfulAsk};
+ghost use Rattle.fax_ask.specs.Ask.{IsAsk, IsLawful, IsLawfulStep, IsRefused};
+ghost use Rattle.fax_core.specs.Ask.{IsLawfulAsk};
+ghost use Rattle.fax_core.specs.declared.ask.Ask.{Ask as MachineAsk};
 ghost use Rattle.fax_ask.specs.Response.{refused_response};
 ghost use Rattle.fax_ask.specs.declared.method.Method.TheVariants.{Get};
 ghost use Rattle.fax_core.specs.Clock.{decided_at};
@@ -22,7 +23,6 @@ ghost use Rattle.fax_decide.specs.Effect.{Suits, accepted};
 ghost use Rattle.fax_decide.specs.Settings.{settings_of};
 ghost use Rattle.fax_decide.specs.View.{view};
 ghost use Rattle.fax_once.specs.Arrival.{IsSender, said_of};
-ghost use Rattle.fax_once.specs.Ask.{shown_in};
 ghost use Rattle.fax_once.specs.Verdict.{Answers, Handles, IsDecided, IsVerdict, LeavesBy, Told, asked_for, is_used};
 ghost use Rattle.fax_once.specs.declared.arrival.Arrival.{Arrival as ArrivalOf};
 
@@ -30,6 +30,7 @@ use crate::acceptance::commit_accepted;
 use crate::arrival::Arrival;
 use crate::sender::Sender;
 use fax_ask::{Ask, Detail, Reply, Routes};
+use fax_core::Ask as Step;
 use fax_decide::{Decision, Effect, Office, Unavailable, decide, plain, view_job};
 use fax_dest::{Controls, Setup};
 use fax_job::{Moment, Refusal};
@@ -126,14 +127,14 @@ impl<S: Alter> Queue<S> {
         ensures answered { (m : QueueOf) (k : List Entry) → Sound m
             → Means (state S.Store self.old.store.conn) m k
             → Serves (state S.Store self.new.store.conn)
-            → IsAsk arrival.now.method arrival.now.path.now arrival.now.body.now (asked ask)
-            → IsLawful (asked ask)
+            → IsAsk arrival.now.method arrival.now.path.now arrival.now.body.now ask
+            → IsLawful ask
             → Answers (settings_of self.old.office.setup self.old.office.controls) arrival.now m k result
             (state S.Store self.new.store.conn) }
     {
-        match shown_job(&ask) {
-            Some(job) => self.show(alloc, job, arrival.moment),
-            None => match Sender::of(arrival) {
+        match ask {
+            Ask::View { job } => self.show(alloc, job, arrival.moment),
+            Ask::Step(ask) => match Sender::of(arrival) {
                 Ok(sender) => self.step(alloc, arrival, &sender, ask),
                 Err(refusal) => plain(refusal),
             },
@@ -161,15 +162,15 @@ impl<S: Alter> Queue<S> {
         alloc: Global,
         arrival: &Arrival<'_>,
         sender: &Sender<'_>,
-        ask: Ask,
+        ask: Step,
     ) -> Result<Reply, Unavailable>
         ensures office { self.new.office ≡ self.old.office }
-        ensures stepped { (m : QueueOf) (k : List Entry) (want : MachineAsk) → Sound m
+        ensures stepped { (m : QueueOf) (k : List Entry) → Sound m
             → Means (state S.Store self.old.store.conn) m k → Serves (state S.Store self.new.store.conn)
-            → IsSender arrival.now sender.now → asked ask ≡ Asked want → IsLawful (asked ask)
+            → IsSender arrival.now sender.now → IsLawfulStep ask
             → LeavesBy m k result (state S.Store self.new.store.conn)
             (asked_for (settings_of self.old.office.setup self.old.office.controls) arrival.now m k
-            sender.now.number want) }
+            sender.now.number ask) }
     {
         let used = is_used(&mut self.store, sender)?;
         if used {
@@ -250,16 +251,6 @@ fn moment_at(meta: &Meta, moment: Moment) -> Moment
     ensures { result ≡ decided_at meta.now.clock moment }
 {
     meta.clock.later(moment)
-}
-
-/// The job that is to be shown, if one is.
-fn shown_job(ask: &Ask) -> Option<u64>
-    ensures { result ≡ shown_in (asked ask.now) }
-{
-    match ask {
-        Ask::Show { job } => Some(*job),
-        _ => None,
-    }
 }
 
 /// The reply to an arrival that asks for nothing: the client and the number are looked at before the
