@@ -15,10 +15,12 @@ use Rattle.fax_job.specs.Pair.{Pair}
 use Rattle.fax_job.specs.Reading.{fault_at}
 use Rattle.fax_job.proofs.FaultLemmas.{fault_or_list, first_fault_alone}
 use Rattle.fax_job.proofs.TextLemmas.{spelled_alone}
-use Rattle.fax_core.specs.Ask as machine
+use Rattle.fax_core.specs.declared.ask.Ask.TheVariants as machine
 use Rattle.fax_ask.specs.declared.request.Request.{Request}
 use Rattle.fax_ask.specs.declared.request.Request.TheVariants.{Submit, Suspend, Resume, Kill, Alter, Show, Ready, Down, Next, Call, Page, Outcome}
-use Rattle.fax_ask.specs.Ask.{Asked, Step, States, HasFault, IsLinesFault, IsLinesRefusal, Asks, IsBodyRefusal}
+use Rattle.fax_ask.specs.declared.ask.Ask.{Ask}
+use Rattle.fax_ask.specs.declared.ask.Ask.TheVariants.{Step}
+use Rattle.fax_ask.specs.Ask.{States, HasFault, IsLinesFault, IsLinesRefusal, Asks, IsBodyRefusal}
 use Rattle.fax_ask.specs.Laws.{OneAsk, OneFault, AskOrRefusal}
 use Rattle.fax_ask.specs.Report.{IsJson, IsReportFault, IsReportRefusal, Reports, call_in, outcome_in, page_in}
 use Rattle.fax_ask.specs.Request.{request_of}
@@ -70,7 +72,7 @@ module _ {T : Type 0} (report_in : Data → Option T) (body : List ℕ) where
 
 -- ---- requests with their bodies
 
-asks_alone : (request : Request) (body : List ℕ) (a b : Asked) → Asks request body a → Asks request body b → a ≡ b
+asks_alone : (request : Request) (body : List ℕ) (a b : Ask) → Asks request body a → Asks request body b → a ≡ b
 asks_alone Submit body a b h g = h.2 ∙ (ap (λ o. Step (machine.Submission o)) (states_alone order_of body h.0 g.0 h.1 g.1) ∙ sym g.2)
 asks_alone (Alter job) body a b h g = h.2 ∙ (ap (λ o. Step (machine.Alteration job o)) (states_alone alter_of body h.0 g.0 h.1 g.1) ∙ sym g.2)
 asks_alone (Call grant) body a b h g = h.2 ∙ (ap (λ o. Step (machine.CallReport grant o)) (reports_alone call_in body h.0 g.0 h.1 g.1) ∙ sym g.2)
@@ -84,7 +86,7 @@ asks_alone (Ready modem) body a b h g = h ∙ sym g
 asks_alone (Down modem) body a b h g = h ∙ sym g
 asks_alone (Next modem) body a b h g = h ∙ sym g
 
-ask_or_refusal : (request : Request) (body : List ℕ) (a : Asked) (refusal : Refusal) → Asks request body a → IsBodyRefusal request body refusal → refusal ≡ Unavailable
+ask_or_refusal : (request : Request) (body : List ℕ) (a : Ask) (refusal : Refusal) → Asks request body a → IsBodyRefusal request body refusal → refusal ≡ Unavailable
 ask_or_refusal Submit body a refusal h r = states_or_refusal order_of body h.0 refusal h.1 r
 ask_or_refusal (Alter job) body a refusal h r = states_or_refusal alter_of body h.0 refusal h.1 r
 ask_or_refusal (Call grant) body a refusal h r = reports_or_refusal call_in body h.0 refusal h.1 r
@@ -100,14 +102,14 @@ ask_or_refusal (Next modem) body a refusal h r = r
 
 -- ---- the whole
 
-one_by : (o : Option Request) (body : List ℕ) (a b : Asked) → MatchOption o ⊥ (λ request. Asks request body a) → MatchOption o ⊥ (λ request. Asks request body b) → a ≡ b
+one_by : (o : Option Request) (body : List ℕ) (a b : Ask) → MatchOption o ⊥ (λ request. Asks request body a) → MatchOption o ⊥ (λ request. Asks request body b) → a ≡ b
 one_by None body a b h g = absurd h
 one_by (Some request) body a b h g = asks_alone request body a b h g
 
 pub one_ask : OneAsk
 one_ask method path body a b h g = one_by (request_of method path) body a b h g
 
-refused_by : (o : Option Request) (body : List ℕ) (a : Asked) (refusal : Refusal) → MatchOption o ⊥ (λ request. Asks request body a) → MatchOption o (refusal ≡ NoRoute) (λ request. IsBodyRefusal request body refusal) → refusal ≡ Unavailable
+refused_by : (o : Option Request) (body : List ℕ) (a : Ask) (refusal : Refusal) → MatchOption o ⊥ (λ request. Asks request body a) → MatchOption o (refusal ≡ NoRoute) (λ request. IsBodyRefusal request body refusal) → refusal ≡ Unavailable
 refused_by None body a refusal h r = absurd h
 refused_by (Some request) body a refusal h r = ask_or_refusal request body a refusal h r
 

@@ -11,6 +11,7 @@ use Rattle.fax_job.specs.declared.order.OrderFault.TheVariants.{NotAlterable}
 use Rattle.fax_job.specs.declared.refusal.Refusal.TheVariants.{Unavailable}
 use Rattle.fax_job.specs.Alter.{if_there, is_alterable, changes_of, alter_of}
 use Rattle.fax_job.specs.Job.{is_lawful, are_lawful_pages, are_lawful_tries, are_lawful_dials}
+use Rattle.fax_job.specs.Limits.{last_next, most_attempts, most_pages}
 use Rattle.fax_job.specs.Number.{number_of}
 use Rattle.fax_job.specs.Order.{◌>>=◌, modem_in, jobtag_in, tts_in, killtime_in, priority_in, limit_in, maxtries_in, maxdials_in, number_within, order_of}
 use Rattle.fax_job.specs.Pair.{Pair, value_of, are_unknown}
@@ -35,34 +36,34 @@ order_limits lines order e =
     let f = fields_of new in
     let all : is_lawful f ≡ true = lawful_by new (is_lawful f) (read_recorded lines order 1 0 e (omega arith) (omega arith)) in
     let a = and_parts _ (are_unknown f.extra) all in
-    let b = and_parts _ (leb f.next 4102531200) a.0 in
+    let b = and_parts _ (leb f.next last_next) a.0 in
     let c = and_parts _ (are_lawful_dials f) b.0 in
     let d = and_parts _ (are_lawful_tries f) c.0 in
     let p = and_parts _ (are_lawful_pages f) d.0 in
     record {
-      pages = least_of (leb 0 order.totpages) true (leb order.totpages 9999) order.totpages p.1;
-      tries = least_of (leb 0 0 && leb 0 order.maxtries) true (leb order.maxtries 1000) order.maxtries d.1;
-      dials = least_of (leb 0 0 && leb 0 order.maxdials) true (leb order.maxdials 1000) order.maxdials c.1;
+      pages = least_of (leb 0 order.totpages) true (leb order.totpages most_pages) order.totpages p.1;
+      tries = least_of (leb 0 0 && leb 0 order.maxtries) true (leb order.maxtries most_attempts) order.maxtries d.1;
+      dials = least_of (leb 0 0 && leb 0 order.maxdials) true (leb order.maxdials most_attempts) order.maxdials c.1;
     }
 
 -- ---- alterations
 
 abbrev IsLimit : ℕ → Type 0
-IsLimit n = (1 ≤ n) × (n ≤ 1000)
+IsLimit n = (1 ≤ n) × (n ≤ most_attempts)
 
 module _ (default : ℕ) (fault : OrderFault) (lawful : IsLimit default) where
-  limit_of_number : (number : ℕ) (none : Bool) → eqb number 0 ≡ none → leb number 1000 ≡ true → IsLimit (cond none default number)
+  limit_of_number : (number : ℕ) (none : Bool) → eqb number 0 ≡ none → leb number most_attempts ≡ true → IsLimit (cond none default number)
   limit_of_number number true e h = lawful
   limit_of_number number false e h = let not_zero = eqb-false number 0 e in (omega arith, leb-true number 1000 h)
 
-  limit_within : (number : ℕ) (within : Bool) → leb number 1000 ≡ within → IfOk (ok_or (option_map (λ limit. cond (eqb limit 0) default limit) (cond within (Some number) None)) fault) IsLimit
+  limit_within : (number : ℕ) (within : Bool) → leb number most_attempts ≡ within → IfOk (ok_or (option_map (λ limit. cond (eqb limit 0) default limit) (cond within (Some number) None)) fault) IsLimit
   limit_within number false h = tt
   limit_within number true h = limit_of_number number (eqb number 0) refl h
 
-  limit_of : (empty : Bool) (number : Option ℕ) → IfOk (ok_or (cond empty (Some default) (option_map (λ limit. cond (eqb limit 0) default limit) (option_and_then (λ n. cond (leb n 1000) (Some n) None) number))) fault) IsLimit
+  limit_of : (empty : Bool) (number : Option ℕ) → IfOk (ok_or (cond empty (Some default) (option_map (λ limit. cond (eqb limit 0) default limit) (option_and_then (λ n. cond (leb n most_attempts) (Some n) None) number))) fault) IsLimit
   limit_of true number = lawful
   limit_of false None = tt
-  limit_of false (Some n) = limit_within n (leb n 1000) refl
+  limit_of false (Some n) = limit_within n (leb n most_attempts) refl
 
 maxtries_is : (value : List ℕ) → IfOk (maxtries_in value) IsLimit
 unfolding maxtries_in limit_in number_within

@@ -1,6 +1,6 @@
 -- What is asked for: by method, path and body.
 use Rattle.std.specs.Prelude.{◌≡◌, ◌≤◌, ℕ, List, Result, Ok, Err, ⊤, IfSome, MatchOption}
-use Rattle.fax_job.specs.declared.alter.Alter.{Alter as Changes}
+use Rattle.fax_job.specs.declared.alter.Alter as alter
 use Rattle.fax_job.specs.declared.job.Call.{Call as CallEnd}
 use Rattle.fax_job.specs.declared.order.Order.{Order as OrderFields}
 use Rattle.fax_job.specs.declared.order.OrderFault.{OrderFault}
@@ -9,39 +9,22 @@ use Rattle.fax_job.specs.declared.refusal.BodyFault.TheVariants.{Line, Order, Ba
 use Rattle.fax_job.specs.declared.refusal.Refusal.{Refusal}
 use Rattle.fax_job.specs.declared.refusal.Refusal.TheVariants.{NoRoute, BadBody, Unavailable}
 use Rattle.fax_job.specs.Alter.{alter_of}
+use Rattle.fax_job.specs.Limits.{most_attempts}
 use Rattle.fax_job.specs.Order.{order_of}
 use Rattle.fax_job.specs.Pair.{Pair}
 use Rattle.fax_job.specs.Reading.{fault_at}
 use Rattle.fax_job.specs.Spells.{Spells, IsFirstFault}
-use Rattle.fax_core.specs.Ask as machine
+use Rattle.fax_core.specs.Ask.{IsLawfulAsk}
+use Rattle.fax_core.specs.declared.ask.Ask as asked
+use Rattle.fax_core.specs.declared.ask.Ask.TheVariants as machine
 use Rattle.fax_core.specs.declared.report.Outcome.{Outcome as Said}
 use Rattle.fax_ask.specs.declared.ask.Ask.{Ask}
-use Rattle.fax_ask.specs.declared.ask.Ask.TheVariants as said
+use Rattle.fax_ask.specs.declared.ask.Ask.TheVariants.{Step, View}
 use Rattle.fax_ask.specs.declared.method.Method.{Method}
 use Rattle.fax_ask.specs.declared.request.Request.{Request}
 use Rattle.fax_ask.specs.declared.request.Request.TheVariants.{Submit, Suspend, Resume, Kill, Alter, Show, Ready, Down, Next, Call, Page, Outcome}
 use Rattle.fax_ask.specs.Report.{IsReportRefusal, Reports, call_in, outcome_in, page_in}
 use Rattle.fax_ask.specs.Request.{request_of}
-
--- a step of the queue, or the lines of a job
-pub data Asked : Type 0 where
-  Step : (ask : machine.Ask) → Asked
-  View : (job : ℕ) → Asked
-
--- what is asked for, in the machine's words
-abbrev pub asked : Ask → Asked
-asked (said.Submission order) = Step (machine.Submission order)
-asked (said.Suspend job) = Step (machine.Suspend job)
-asked (said.Resume job) = Step (machine.Resume job)
-asked (said.Kill job) = Step (machine.Kill job)
-asked (said.Alteration job alter) = Step (machine.Alteration job alter)
-asked (said.Show job) = View job
-asked (said.Ready modem) = Step (machine.Ready modem)
-asked (said.Down modem) = Step (machine.Down modem)
-asked (said.Next modem) = Step (machine.Next modem)
-asked (said.CallReport grant call) = Step (machine.CallReport grant call)
-asked (said.PageReport grant page) = Step (machine.PageReport grant page)
-asked (said.OutcomeReport grant outcome) = Step (machine.OutcomeReport grant outcome)
 
 -- ---- bodies
 
@@ -73,12 +56,12 @@ IsLinesRefusal value_of body other = ⊥
 -- ---- requests with their bodies
 
 -- what a request with this body asks for
-abbrev pub Asks : Request → List ℕ → Asked → Type 0
+abbrev pub Asks : Request → List ℕ → Ask → Type 0
 Asks Submit body ask = (order : OrderFields) × States order_of body order × (ask ≡ Step (machine.Submission order))
 Asks (Suspend job) body ask = ask ≡ Step (machine.Suspend job)
 Asks (Resume job) body ask = ask ≡ Step (machine.Resume job)
 Asks (Kill job) body ask = ask ≡ Step (machine.Kill job)
-Asks (Alter job) body ask = (changes : Changes) × States alter_of body changes × (ask ≡ Step (machine.Alteration job changes))
+Asks (Alter job) body ask = (changes : alter.Alter) × States alter_of body changes × (ask ≡ Step (machine.Alteration job changes))
 Asks (Show job) body ask = ask ≡ View job
 Asks (Ready modem) body ask = ask ≡ Step (machine.Ready modem)
 Asks (Down modem) body ask = ask ≡ Step (machine.Down modem)
@@ -103,7 +86,7 @@ IsBodyRefusal other body refusal = ⊥
 -- ---- the whole
 
 -- what a method, a path and a body ask for
-abbrev pub IsAsk : Method → List ℕ → List ℕ → Asked → Type 0
+abbrev pub IsAsk : Method → List ℕ → List ℕ → Ask → Type 0
 IsAsk method path body ask = MatchOption (request_of method path) ⊥ (λ request. Asks request body ask)
 
 -- why they are refused: the path comes before the body
@@ -113,15 +96,15 @@ IsRefused method path body refusal = MatchOption (request_of method path) (refus
 -- ---- what the queue may rely on
 
 -- an alteration leaves a job that has a try and a dial, and no more than a job may have
-pub record HasLimits (changes : Changes) : Type 0 where
-  pub tries : IfSome changes.maxtries (λ tries. (1 ≤ tries) × (tries ≤ 1000))
-  pub dials : IfSome changes.maxdials (λ dials. (1 ≤ dials) × (dials ≤ 1000))
+pub record HasLimits (changes : alter.Alter) : Type 0 where
+  pub tries : IfSome changes.maxtries (λ tries. (1 ≤ tries) × (tries ≤ most_attempts))
+  pub dials : IfSome changes.maxdials (λ dials. (1 ≤ dials) × (dials ≤ most_attempts))
 
-abbrev pub IsLawfulStep : machine.Ask → Type 0
-IsLawfulStep (machine.Submission order) = machine.IsLawfulAsk (machine.Submission order)
+abbrev pub IsLawfulStep : asked.Ask → Type 0
+IsLawfulStep (machine.Submission order) = IsLawfulAsk (machine.Submission order)
 IsLawfulStep (machine.Alteration job changes) = HasLimits changes
-IsLawfulStep other = machine.IsLawfulAsk other
+IsLawfulStep other = IsLawfulAsk other
 
-abbrev pub IsLawful : Asked → Type 0
+abbrev pub IsLawful : Ask → Type 0
 IsLawful (Step ask) = IsLawfulStep ask
 IsLawful (View job) = ⊤

@@ -8,7 +8,8 @@ use Rattle.fax_core.specs.Reply.{Keys}
 use Rattle.fax_ask.specs.declared.method.Method.{Method}
 use Rattle.fax_ask.specs.declared.request.Request.{Request}
 use Rattle.fax_ask.specs.Answer.{Told}
-use Rattle.fax_ask.specs.Ask.{Asked, IsAsk, IsRefused}
+use Rattle.fax_ask.specs.Ask.{IsAsk, IsRefused}
+use Rattle.fax_ask.specs.declared.ask.Ask.{Ask}
 use Rattle.fax_ask.specs.Request.{request_of}
 use Rattle.fax_ask.specs.Response.{accepted_response, refused_response}
 
@@ -18,11 +19,11 @@ RoutedPathsLackLf = (method : Method) (path : List ℕ) (request : Request) → 
 
 -- a method, a path and a body ask for one thing
 abbrev pub OneAsk : Type 0
-OneAsk = (method : Method) (path body : List ℕ) (a b : Asked) → IsAsk method path body a → IsAsk method path body b → a ≡ b
+OneAsk = (method : Method) (path body : List ℕ) (a b : Ask) → IsAsk method path body a → IsAsk method path body b → a ≡ b
 
 -- what asks for something is refused for want of memory alone
 abbrev pub AskOrRefusal : Type 0
-AskOrRefusal = (method : Method) (path body : List ℕ) (ask : Asked) (refusal : Refusal) → IsAsk method path body ask → IsRefused method path body refusal → refusal ≡ Unavailable
+AskOrRefusal = (method : Method) (path body : List ℕ) (ask : Ask) (refusal : Refusal) → IsAsk method path body ask → IsRefused method path body refusal → refusal ≡ Unavailable
 
 -- a body has one fault at most
 abbrev pub OneFault : Type 0

@@ -8,6 +8,7 @@ use Rattle.serde_json.specs.Find.{as_bool, as_number, as_str, as_u64, get}
 use Rattle.serde_json.specs.Read.{read}
 use Rattle.fax_job.specs.declared.job.Call.{Call}
 use Rattle.fax_job.specs.declared.job.Call.TheVariants.{Connected, Busy, NoAnswer, NoCarrier, Other}
+use Rattle.fax_job.specs.Limits.{most_pages}
 use Rattle.fax_job.specs.Value.{ends_with_backslash}
 use Rattle.fax_job.specs.declared.refusal.BodyFault.{BodyFault}
 use Rattle.fax_job.specs.declared.refusal.BodyFault.TheVariants.{Line, Order, BadJson, BadField}
@@ -48,7 +49,7 @@ unfoldable pub call_in : Data → Option Call
 call_in json = option_and_then call_named (text_at (codes "result") json)
 
 unfoldable pub page_in : Data → Option ℕ
-page_in json = option_and_then (within 1 9999) (number_at (codes "page") json)
+page_in json = option_and_then (within 1 most_pages) (number_at (codes "page") json)
 
 abbrev pub ending_named : List ℕ → Option Ending
 ending_named name =
@@ -85,7 +86,7 @@ outcome_in json =
     option_map (λ reason. record { dialed = dialed; pages = pages; ending = ending; reason = reason })
     (reason_at (get (codes "reason") json)))
     (option_and_then ending_named (text_at (codes "outcome") json)))
-    (option_and_then (within 0 9999) (number_at (codes "pages") json)))
+    (option_and_then (within 0 most_pages) (number_at (codes "pages") json)))
     (bool_at (codes "dialed") json)
 
 abbrev pub outcome_read : OutcomeText → Outcome

@@ -4,35 +4,24 @@ ghost use Rattle.std.specs.Prelude.{◌≡◌, IfOk, IfErr};
 ghost use Rattle.fax_job.specs.Alter.{alter_of};
 ghost use Rattle.fax_job.specs.Order.{order_of};
 ghost use Rattle.fax_core.specs.Ask.{HasLimits as HasOrderLimits};
-ghost use Rattle.fax_ask.specs.Ask.{asked, Asks, HasLimits, States, IsAsk, IsBodyRefusal, IsLawful, IsLinesRefusal, IsRefused};
+ghost use Rattle.fax_ask.specs.Ask.{Asks, HasLimits, States, IsAsk, IsBodyRefusal, IsLawful, IsLinesRefusal, IsRefused};
 
 use crate::method::Method;
 use crate::report::{read_call, read_outcome, read_page};
 use crate::request::Request;
 use crate::routes::Routes;
-use fax_core::Outcome;
-use fax_job::{Alter, Call, Name, Order, Refusal, read_lines};
+use fax_core::Ask as Step;
+use fax_job::{Alter, Order, Refusal, read_lines};
 use std::alloc::Global;
 
-/// What is asked for. Numbers of jobs and grants are as they were written: from 1, and of 18 digits
-/// at most.
+/// What is asked for.
 #[derive(Debug, Drop)]
 pub enum Ask {
-    Submission(Order),
-    Suspend { job: u64 },
-    Resume { job: u64 },
-    Kill { job: u64 },
-    Alteration { job: u64, alter: Alter },
+    /// A step of the queue. Numbers of jobs and grants are as they were written: from 1, and of 18
+    /// digits at most.
+    Step(Step),
     /// The key lines of a job.
-    Show { job: u64 },
-    Ready { modem: Name },
-    Down { modem: Name },
-    /// What the modem is to send.
-    Next { modem: Name },
-    CallReport { grant: u64, call: Call },
-    /// A page, from 1 to 9999.
-    PageReport { grant: u64, page: u16 },
-    OutcomeReport { grant: u64, outcome: Outcome },
+    View { job: u64 },
 }
 
 impl Routes {
@@ -50,10 +39,10 @@ impl Routes {
         path: &str,
         body: &[u8],
     ) -> Result<Ask, Refusal>
-        ensures ask { IfOk result (λ ask. IsAsk method path.now body.now (asked ask)) }
+        ensures ask { IfOk result (λ ask. IsAsk method path.now body.now ask) }
         ensures refused { IfErr result (IsRefused method path.now body.now) }
         // What the queue relies on: pages, tries and dials are there, and limits are kept.
-        ensures lawful { IfOk result (λ ask. IsLawful (asked ask)) }
+        ensures lawful { IfOk result (λ ask. IsLawful ask) }
     {
         match self.request(method, path) {
             Some(request) => read_body(alloc, request, body),
@@ -64,42 +53,43 @@ impl Routes {
 
 /// What a request with this body asks for.
 fn read_body(alloc: Global, request: Request<'_>, body: &[u8]) -> Result<Ask, Refusal>
-    ensures ask { IfOk result (λ ask. Asks request.entry body.now (asked ask)) }
+    ensures ask { IfOk result (λ ask. Asks request.entry body.now ask) }
     ensures refused { IfErr result (IsBodyRefusal request.entry body.now) }
-    ensures lawful { IfOk result (λ ask. IsLawful (asked ask)) }
+    ensures lawful { IfOk result (λ ask. IsLawful ask) }
 {
-    match request {
-        Request::Submit => Ok(Ask::Submission(read_order(alloc, body)?)),
-        Request::Suspend { job } => Ok(Ask::Suspend { job }),
-        Request::Resume { job } => Ok(Ask::Resume { job }),
-        Request::Kill { job } => Ok(Ask::Kill { job }),
+    let step = match request {
+        Request::Show { job } => return Ok(Ask::View { job }),
+        Request::Submit => Step::Submission(read_order(alloc, body)?),
+        Request::Suspend { job } => Step::Suspend { job },
+        Request::Resume { job } => Step::Resume { job },
+        Request::Kill { job } => Step::Kill { job },
         Request::Alter { job } => {
             let alter = read_alter(alloc, body)?;
-            Ok(Ask::Alteration { job, alter })
+            Step::Alteration { job, alter }
         }
-        Request::Show { job } => Ok(Ask::Show { job }),
-        Request::Ready { modem } => Ok(Ask::Ready {
+        Request::Ready { modem } => Step::Ready {
             modem: modem.keep(alloc)?,
-        }),
-        Request::Down { modem } => Ok(Ask::Down {
+        },
+        Request::Down { modem } => Step::Down {
             modem: modem.keep(alloc)?,
-        }),
-        Request::Next { modem } => Ok(Ask::Next {
+        },
+        Request::Next { modem } => Step::Next {
             modem: modem.keep(alloc)?,
-        }),
+        },
         Request::Call { grant } => {
             let call = read_call(alloc, body)?;
-            Ok(Ask::CallReport { grant, call })
+            Step::CallReport { grant, call }
         }
         Request::Page { grant } => {
             let page = read_page(alloc, body)?;
-            Ok(Ask::PageReport { grant, page })
+            Step::PageReport { grant, page }
         }
         Request::Outcome { grant } => {
             let outcome = read_outcome(alloc, body)?;
-            Ok(Ask::OutcomeReport { grant, outcome })
+            Step::OutcomeReport { grant, outcome }
         }
-    }
+    };
+    Ok(Ask::Step(step))
 }
 
 /// The order that a body of key lines states.

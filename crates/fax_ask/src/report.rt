@@ -4,14 +4,15 @@ ghost use Rattle.std.specs.Prelude.{◌≡◌, ◌≤◌, IfOk, IfErr};
 ghost use Rattle.std.specs.List.{list_all};
 ghost use Rattle.std.specs.Option.{option_copied, option_map};
 ghost use Rattle.fax_ask.specs.Report.{IsJson, IsJsonRefusal, IsReportRefusal, Reports, begins_with_space, bool_at, call_in, call_named, ending_named, is_reason, is_reason_byte, number_at, outcome_in, outcome_read, page_in, reason_at, reason_of, text_at, within};
-ghost use Rattle.fax_job.specs.Value.{ends_with_backslash};
 ghost use Rattle.fax_job.specs.declared.refusal.Refusal.TheVariants.{Unavailable};
+ghost use Rattle.serde_json.specs.Errors.{IsMemory};
 ghost use Rattle.serde_json.specs.Find.{get};
 ghost use Rattle.serde_json.specs.View.{view};
 
 use fax_core::{Ending, Outcome};
-use fax_job::{BodyFault, Call, Refusal, Status};
-use serde_json::Value;
+use fax_job::limits::MOST_PAGES;
+use fax_job::{BodyFault, Call, Refusal, Status, ends_with_backslash};
+use serde_json::{Error, Value};
 use std::alloc::Global;
 
 /// An outcome whose reason still stands in its JSON.
@@ -89,13 +90,19 @@ fn read_json(alloc: Global, body: &[u8]) -> Result<Value, Refusal>
 {
     match Value::from_slice(alloc, body) {
         Ok(json) => Ok(json),
-        Err(error) => {
-            if error.is_memory() {
-                Err(Refusal::Unavailable)
-            } else {
-                Err(BAD_JSON)
-            }
-        }
+        Err(error) => Err(refusal_of(&error)),
+    }
+}
+
+/// Why a body that didn't read is refused.
+fn refusal_of(error: &Error) -> Refusal
+    ensures memory { IsMemory error.now → result ≡ Unavailable }
+    ensures text { ¬ IsMemory error.now → result ≡ Refusal.BadBody BodyFault.BadJson }
+{
+    if error.is_memory() {
+        Refusal::Unavailable
+    } else {
+        BAD_JSON
     }
 }
 
@@ -125,7 +132,7 @@ fn call_named(name: &str) -> Option<Call>
 fn page_in(json: &Value) -> Option<u16>
     ensures { result ≡ page_in (view json.now) }
 {
-    within(1, 9999, number_at(json, "page")?)
+    within(1, u64::from(MOST_PAGES), number_at(json, "page")?)
 }
 
 #[tactic(auto, unfolding(crate::specs::Report::outcome_in))]
@@ -133,7 +140,7 @@ fn outcome_in(json: &Value) -> Option<OutcomeText<'_>>
     ensures { option_map outcome_read result ≡ outcome_in (view json.now) }
 {
     let dialed = bool_at(json, "dialed")?;
-    let pages = within(0, 9999, number_at(json, "pages")?)?;
+    let pages = within(0, u64::from(MOST_PAGES), number_at(json, "pages")?)?;
     let ending = ending_named(text_at(json, "outcome")?)?;
     let reason = reason_at(json.get("reason"))?;
     Some(OutcomeText {
@@ -191,15 +198,6 @@ fn begins_with_space(text: &[u8]) -> bool
 {
     match text {
         [byte, ..] => *byte == b' ',
-        [] => false,
-    }
-}
-
-fn ends_with_backslash(text: &[u8]) -> bool
-    ensures { result ≡ ends_with_backslash text.now }
-{
-    match text {
-        [.., byte] => *byte == b'\\',
         [] => false,
     }
 }

@@ -4,6 +4,7 @@ use Rattle.std.specs.Prelude.{Option, Some, None, Result, Ok, Err, IfOk, IfSome,
 use Rattle.std.proofs.lemmas.Bool.{and_parts, and_from, leb-true, leb-false, le-leb}
 use Rattle.std.proofs.lemmas.List.{length-append}
 use Rattle.std.proofs.lemmas.List.FromFn.{length-range_with_len}
+use Rattle.fax_job.specs.Limits.{last_next, most_attempts, most_pages}
 use Rattle.fax_job.specs.Alter.{alter_of, changes_of, if_there}
 use Rattle.fax_job.specs.Order.{◌>>=◌, modem_in, jobtag_in, tts_in, killtime_in, priority_in, maxtries_in, maxdials_in}
 use Rattle.fax_job.specs.Pair.{Pair, value_of}
@@ -33,22 +34,22 @@ use Rattle.fax_core.proofs.RecordLemmas.{IsKilltime, IsWithin, within_limits_of,
 -- ---- counters
 
 -- at most so many in a row, in all and by the limit, which is within 1 to 1000
-counters : (row all limit : ℕ) → row ≤ all → all ≤ limit → IsWithin 1000 limit → (leb row all && leb all limit && leb 1 limit && leb limit 1000) ≡ true
+counters : (row all limit : ℕ) → row ≤ all → all ≤ limit → IsWithin most_attempts limit → (leb row all && leb all limit && leb 1 limit && leb limit most_attempts) ≡ true
 counters row all limit a b w =
-    let parts = and_parts (leb 1 limit) (leb limit 1000) w in
-    and_from _ (leb limit 1000) (and_from _ (leb 1 limit) (and_from (leb row all) (leb all limit) (le-leb row all a) (le-leb all limit b)) parts.0) parts.1
+    let parts = and_parts (leb 1 limit) (leb limit most_attempts) w in
+    and_from _ (leb limit most_attempts) (and_from _ (leb 1 limit) (and_from (leb row all) (leb all limit) (le-leb row all a) (le-leb all limit b)) parts.0) parts.1
 
 record AreCounters (a b c : ℕ) : Type 0 where
   row : a ≤ b
   all : b ≤ c
-  limit : IsWithin 1000 c
+  limit : IsWithin most_attempts c
 
-counters_of : (a b c : ℕ) → (leb a b && leb b c && leb 1 c && leb c 1000) ≡ true → AreCounters a b c
+counters_of : (a b c : ℕ) → (leb a b && leb b c && leb 1 c && leb c most_attempts) ≡ true → AreCounters a b c
 counters_of a b c h =
-    let most = and_parts (leb a b && leb b c && leb 1 c) (leb c 1000) h in
+    let most = and_parts (leb a b && leb b c && leb 1 c) (leb c most_attempts) h in
     let least = and_parts (leb a b && leb b c) (leb 1 c) most.0 in
     let rest = and_parts (leb a b) (leb b c) least.0 in
-    record { row = leb-true a b rest.0; all = leb-true b c rest.1; limit = and_from (leb 1 c) (leb c 1000) least.1 most.1 }
+    record { row = leb-true a b rest.0; all = leb-true b c rest.1; limit = and_from (leb 1 c) (leb c most_attempts) least.1 most.1 }
 
 -- ---- one of several
 
@@ -91,8 +92,8 @@ requests_keep j h = (suspended j.phase j.wish j h, resumed j.phase j.wish j h, k
 -- what the values must be that are said
 record IsFitAlter (a : Alter) : Type 0 where
   killtime : IfSome a.killtime IsKilltime
-  maxtries : IfSome a.maxtries (IsWithin 1000)
-  maxdials : IfSome a.maxdials (IsWithin 1000)
+  maxtries : IfSome a.maxtries (IsWithin most_attempts)
+  maxdials : IfSome a.maxdials (IsWithin most_attempts)
 
 said : {A : Type 0} (P : A → Type 0) (r : Result A OrderFault) → IfOk r P → IfOk (r >>= λ x. Ok (Some x)) (λ o. IfSome o P)
 said P (Ok x) h = h
@@ -103,7 +104,7 @@ there P value_in each None = tt
 there P value_in each (Some value) = said P (value_in value) (each value)
 
 fit : (modem jobtag : Result (Option (List ℕ)) OrderFault) (tts killtime : Result (Option (Option ℕ)) OrderFault) (priority maxtries maxdials : Result (Option ℕ) OrderFault)
-    → IfOk killtime (λ o. IfSome o IsKilltime) → IfOk maxtries (λ o. IfSome o (IsWithin 1000)) → IfOk maxdials (λ o. IfSome o (IsWithin 1000))
+    → IfOk killtime (λ o. IfSome o IsKilltime) → IfOk maxtries (λ o. IfSome o (IsWithin most_attempts)) → IfOk maxdials (λ o. IfSome o (IsWithin most_attempts))
     → IfOk (modem >>= λ m. jobtag >>= λ j. tts >>= λ t. killtime >>= λ k. priority >>= λ p. maxtries >>= λ a. maxdials >>= λ b. Ok (record { modem = m; jobtag = j; tts = t; killtime = k; priority = p; maxtries = a; maxdials = b })) IsFitAlter
 fit (Err e) j t k p a b hk ha hb = tt
 fit (Ok m) (Err e) t k p a b hk ha hb = tt
@@ -117,7 +118,7 @@ fit (Ok m) (Ok j) (Ok t) (Ok k) (Ok p) (Ok a) (Ok b) hk ha hb = record { killtim
 changes_fit : (ps : List Pair) → IfOk (changes_of ps) IsFitAlter
 unfolding changes_of
 changes_fit ps = fit (if_there modem_in (value_of (codes "modem") ps)) (if_there jobtag_in (value_of (codes "jobtag") ps)) (if_there tts_in (value_of (codes "tts") ps)) (if_there killtime_in (value_of (codes "killtime") ps)) (if_there priority_in (value_of (codes "priority") ps)) (if_there maxtries_in (value_of (codes "maxtries") ps)) (if_there maxdials_in (value_of (codes "maxdials") ps))
-    (there IsKilltime killtime_in killtime_is (value_of (codes "killtime") ps)) (there (IsWithin 1000) maxtries_in maxtries_is (value_of (codes "maxtries") ps)) (there (IsWithin 1000) maxdials_in maxdials_is (value_of (codes "maxdials") ps))
+    (there IsKilltime killtime_in killtime_is (value_of (codes "killtime") ps)) (there (IsWithin most_attempts) maxtries_in maxtries_is (value_of (codes "maxtries") ps)) (there (IsWithin most_attempts) maxdials_in maxdials_is (value_of (codes "maxdials") ps))
 
 fit_where : (b : Bool) (r : Result Alter OrderFault) (e : OrderFault) → IfOk r IsFitAlter → IfOk (cond b r (Err e)) IsFitAlter
 fit_where true r e h = h
@@ -147,8 +148,8 @@ kept_within a j t false false ex ey fits h =
       number = old.number;
       killtime = new_or_old IsKilltime a.killtime j.killtime fits.killtime old.killtime;
       pages = old.pages;
-      tries = counters j.ntries j.tottries (altered a j t).maxtries tries.row (not_over j.tottries (altered a j t).maxtries ey) (new_or_old (IsWithin 1000) a.maxtries j.maxtries fits.maxtries tries.limit);
-      dials = counters j.ndials j.totdials (altered a j t).maxdials dials.row (not_over j.totdials (altered a j t).maxdials ex) (new_or_old (IsWithin 1000) a.maxdials j.maxdials fits.maxdials dials.limit);
+      tries = counters j.ntries j.tottries (altered a j t).maxtries tries.row (not_over j.tottries (altered a j t).maxtries ey) (new_or_old (IsWithin most_attempts) a.maxtries j.maxtries fits.maxtries tries.limit);
+      dials = counters j.ndials j.totdials (altered a j t).maxdials dials.row (not_over j.totdials (altered a j t).maxdials ex) (new_or_old (IsWithin most_attempts) a.maxdials j.maxdials fits.maxdials dials.limit);
       next = old.next;
       extra = old.extra;
     })
@@ -226,12 +227,12 @@ confirmed n j g (p ∷ rest) e pages h =
     confirmed_job =
         let old = within_limits_of (fields_of j) h in
         let tries = counters_of j.ntries j.tottries j.maxtries old.tries in
-        let parts = and_parts (leb (length j.sent) j.totpages && leb 1 j.totpages) (leb j.totpages 9999) old.pages in
+        let parts = and_parts (leb (length j.sent) j.totpages && leb 1 j.totpages) (leb j.totpages most_pages) old.pages in
         let least = and_parts (leb (length j.sent) j.totpages) (leb 1 j.totpages) parts.0 in
         lawful_from (fields_of (record j { sent = j.sent ++ p ∷ []; left = rest; ntries = 0 })) (record {
           number = old.number;
           killtime = old.killtime;
-          pages = and_from _ (leb j.totpages 9999) (and_from (leb (length (j.sent ++ p ∷ [])) j.totpages) (leb 1 j.totpages) (le-leb (length (j.sent ++ p ∷ [])) j.totpages (one_more_page j p rest pages e)) least.1) parts.1;
+          pages = and_from _ (leb j.totpages most_pages) (and_from (leb (length (j.sent ++ p ∷ [])) j.totpages) (leb 1 j.totpages) (le-leb (length (j.sent ++ p ∷ [])) j.totpages (one_more_page j p rest pages e)) least.1) parts.1;
           tries = counters 0 j.tottries j.maxtries (omega arith) tries.all tries.limit;
           dials = old.dials;
           next = old.next;
@@ -239,7 +240,7 @@ confirmed n j g (p ∷ rest) e pages h =
         })
 
 -- a retry waits until a moment that is not too late
-waits : (j : Job) (phase : Phase) (next : ℕ) (reason : List ℕ) → next ≤ 4102531200 → HasRecord j → HasRecord (record j { phase = phase; wish = Go; next = next; status = reason })
+waits : (j : Job) (phase : Phase) (next : ℕ) (reason : List ℕ) → next ≤ last_next → HasRecord j → HasRecord (record j { phase = phase; wish = Go; next = next; status = reason })
 waits j phase next reason late h =
     let old = within_limits_of (fields_of j) h in
     lawful_from (fields_of (record j { phase = phase; wish = Go; next = next; status = reason })) (record {
@@ -248,7 +249,7 @@ waits j phase next reason late h =
       pages = old.pages;
       tries = old.tries;
       dials = old.dials;
-      next = le-leb next 4102531200 late;
+      next = le-leb next last_next late;
       extra = old.extra;
     })
 
@@ -261,19 +262,19 @@ one_of false false false true e v w x y z last hv hw hx hy hz h = hy
 one_of false false false false true v w x y z last hv hw hx hy hz h = hz
 one_of false false false false false v w x y z last hv hw hx hy hz h = h
 
-retried_kept : (j : Job) (reason : List ℕ) (delay t : ℕ) → t + delay ≤ 4102531200 → HasRecord j → HasRecord (retried j reason delay t)
+retried_kept : (j : Job) (reason : List ℕ) (delay t : ℕ) → t + delay ≤ last_next → HasRecord j → HasRecord (retried j reason delay t)
 retried_kept j reason delay t late h =
     one_of (is_kill j.wish) (is_past j.killtime t) (leb j.maxdials j.totdials) (leb j.maxtries j.tottries) (leb 3 j.ntries)
     (failed j killed) (failed j kill_time_expired) (failed j too_many_dials) (failed j too_many_tries) (failed j unable_to_transmit)
     (record j { phase = phase_after j.wish; wish = Go; next = t + delay; status = reason })
     h h h h h (waits j (phase_after j.wish) (t + delay) reason late h)
 
-ended_kept : (e : Ending) (j : Job) (reason : List ℕ) (delay t : ℕ) → t + delay ≤ 4102531200 → HasRecord j → HasRecord (ended_by e j reason delay t)
+ended_kept : (e : Ending) (j : Job) (reason : List ℕ) (delay t : ℕ) → t + delay ≤ last_next → HasRecord j → HasRecord (ended_by e j reason delay t)
 ended_kept ending.Done j reason delay t late h = h
 ended_kept ending.Fail j reason delay t late h = h
 ended_kept ending.Retry j reason delay t late h = retried_kept j reason delay t late h
 
-all_ended : (left : List ℕ) (o : Outcome) (j : Job) (delay t : ℕ) → t + delay ≤ 4102531200 → HasRecord j → HasRecord (ended left o j delay t)
+all_ended : (left : List ℕ) (o : Outcome) (j : Job) (delay t : ℕ) → t + delay ≤ last_next → HasRecord j → HasRecord (ended left o j delay t)
 all_ended [] o j delay t late h = h
 all_ended (p ∷ rest) o j delay t late h = ended_kept o.ending j o.reason delay t late h
 
@@ -299,7 +300,7 @@ ended_if false false false true e v w x y z both h = tt
 ended_if false false false false true v w x y z both h = tt
 ended_if false false false false false v w x y z both h = h
 
-outcome_kept : (o : Outcome) (j : Job) (g : Grant) (delay t : ℕ) → t + delay ≤ 4102531200 → HasRecord j → IfOk (outcome o j g delay t) HasJobRecord
+outcome_kept : (o : Outcome) (j : Job) (g : Grant) (delay t : ℕ) → t + delay ≤ last_next → HasRecord j → IfOk (outcome o j g delay t) HasJobRecord
 outcome_kept o j g delay t late h =
     ended_if (not g.is_open) (not o.dialed && is_some g.call) (o.dialed && is_none g.call) (not (eqb o.pages g.confirmed)) (is_done o.ending && not (is_empty j.left))
     GrantClosed CallKnown CallMissing PagesMismatch PagesLeft

@@ -8,6 +8,7 @@ use Rattle.fax_job.specs.declared.order.Order.{Order}
 use Rattle.fax_job.specs.declared.order.OrderFault.{OrderFault}
 use Rattle.fax_job.specs.declared.order.OrderFault.TheVariants.{NoPages, BadKilltime}
 use Rattle.fax_job.specs.declared.refusal.Refusal.TheVariants.{Unavailable}
+use Rattle.fax_job.specs.Limits.{last_job, last_moment, most_attempts, most_pages}
 use Rattle.fax_job.specs.Job.{is_lawful}
 use Rattle.fax_job.specs.Order.{◌>>=◌, pages, dial_in, modem_in, jobtag_in, tts_in, killtime_in, priority_in, totpages_in, limit_in, maxtries_in, maxdials_in, moment_in, number_within, value_or_none, order_of}
 use Rattle.fax_job.specs.Number.{number_of}
@@ -30,46 +31,46 @@ killtime_of true number = refl
 killtime_of false None = tt
 killtime_of false (Some seconds) = zero_is_none seconds (eqb seconds 0) refl
 
-pages_of_number : (number : ℕ) (none : Bool) → eqb number 0 ≡ none → leb number 9999 ≡ true → IfOk (cond none (Err NoPages) (Ok number)) (IsWithin 9999)
+pages_of_number : (number : ℕ) (none : Bool) → eqb number 0 ≡ none → leb number most_pages ≡ true → IfOk (cond none (Err NoPages) (Ok number)) (IsWithin most_pages)
 pages_of_number number true e h = tt
-pages_of_number number false e h = and_from (leb 1 number) (leb number 9999) (le-leb 1 number (omega (arith, eqb-false number 0 e))) h
+pages_of_number number false e h = and_from (leb 1 number) (leb number most_pages) (le-leb 1 number (omega (arith, eqb-false number 0 e))) h
 
-pages_of : (number : ℕ) (within : Bool) → leb number 9999 ≡ within → IfOk (pages (cond within (Some number) None)) (IsWithin 9999)
+pages_of : (number : ℕ) (within : Bool) → leb number most_pages ≡ within → IfOk (pages (cond within (Some number) None)) (IsWithin most_pages)
 pages_of number false h = tt
 pages_of number true h = pages_of_number number (eqb number 0) refl h
 
-totpages_of : (empty : Bool) (number : Option ℕ) → IfOk (cond empty (Err NoPages) (pages (option_and_then (λ n. cond (leb n 9999) (Some n) None) number))) (IsWithin 9999)
+totpages_of : (empty : Bool) (number : Option ℕ) → IfOk (cond empty (Err NoPages) (pages (option_and_then (λ n. cond (leb n most_pages) (Some n) None) number))) (IsWithin most_pages)
 totpages_of true number = tt
 totpages_of false None = tt
-totpages_of false (Some n) = pages_of n (leb n 9999) refl
+totpages_of false (Some n) = pages_of n (leb n most_pages) refl
 
-module _ (default : ℕ) (fault : OrderFault) (lawful : IsWithin 1000 default) where
-  limit_of_number : (number : ℕ) (none : Bool) → eqb number 0 ≡ none → leb number 1000 ≡ true → IsWithin 1000 (cond none default number)
+module _ (default : ℕ) (fault : OrderFault) (lawful : IsWithin most_attempts default) where
+  limit_of_number : (number : ℕ) (none : Bool) → eqb number 0 ≡ none → leb number most_attempts ≡ true → IsWithin most_attempts (cond none default number)
   limit_of_number number true e h = lawful
-  limit_of_number number false e h = and_from (leb 1 number) (leb number 1000) (le-leb 1 number (omega (arith, eqb-false number 0 e))) h
+  limit_of_number number false e h = and_from (leb 1 number) (leb number most_attempts) (le-leb 1 number (omega (arith, eqb-false number 0 e))) h
 
-  limit_within : (number : ℕ) (within : Bool) → leb number 1000 ≡ within → IfOk (ok_or (option_map (λ limit. cond (eqb limit 0) default limit) (cond within (Some number) None)) fault) (IsWithin 1000)
+  limit_within : (number : ℕ) (within : Bool) → leb number most_attempts ≡ within → IfOk (ok_or (option_map (λ limit. cond (eqb limit 0) default limit) (cond within (Some number) None)) fault) (IsWithin most_attempts)
   limit_within number false h = tt
   limit_within number true h = limit_of_number number (eqb number 0) refl h
 
-  limit_of : (empty : Bool) (number : Option ℕ) → IfOk (ok_or (cond empty (Some default) (option_map (λ limit. cond (eqb limit 0) default limit) (option_and_then (λ n. cond (leb n 1000) (Some n) None) number))) fault) (IsWithin 1000)
+  limit_of : (empty : Bool) (number : Option ℕ) → IfOk (ok_or (cond empty (Some default) (option_map (λ limit. cond (eqb limit 0) default limit) (option_and_then (λ n. cond (leb n most_attempts) (Some n) None) number))) fault) (IsWithin most_attempts)
   limit_of true number = lawful
   limit_of false None = tt
-  limit_of false (Some n) = limit_within n (leb n 1000) refl
+  limit_of false (Some n) = limit_within n (leb n most_attempts) refl
 
 pub killtime_is : (value : List ℕ) → IfOk (killtime_in value) IsKilltime
 unfolding killtime_in moment_in
-killtime_is value = killtime_of (eqb (length value) 0) (number_within value 4102444800)
+killtime_is value = killtime_of (eqb (length value) 0) (number_within value last_moment)
 
-totpages_is : (value : List ℕ) → IfOk (totpages_in value) (IsWithin 9999)
+totpages_is : (value : List ℕ) → IfOk (totpages_in value) (IsWithin most_pages)
 unfolding totpages_in number_within
 totpages_is value = totpages_of (eqb (length value) 0) (number_of value)
 
-pub maxtries_is : (value : List ℕ) → IfOk (maxtries_in value) (IsWithin 1000)
+pub maxtries_is : (value : List ℕ) → IfOk (maxtries_in value) (IsWithin most_attempts)
 unfolding maxtries_in limit_in number_within
 maxtries_is value = limit_of 3 _ refl (eqb (length value) 0) (number_of value)
 
-pub maxdials_is : (value : List ℕ) → IfOk (maxdials_in value) (IsWithin 1000)
+pub maxdials_is : (value : List ℕ) → IfOk (maxdials_in value) (IsWithin most_attempts)
 unfolding maxdials_in limit_in number_within
 maxdials_is value = limit_of 12 _ refl (eqb (length value) 0) (number_of value)
 
@@ -88,13 +89,13 @@ unknown (p ∷ ps) = one_more p ps (is_known p.tag) refl (unknown ps)
 -- what the values must be
 pub record IsFit (o : Order) : Type 0 where
   pub killtime : IsKilltime o.killtime
-  pub totpages : IsWithin 9999 o.totpages
-  pub maxtries : IsWithin 1000 o.maxtries
-  pub maxdials : IsWithin 1000 o.maxdials
+  pub totpages : IsWithin most_pages o.totpages
+  pub maxtries : IsWithin most_attempts o.maxtries
+  pub maxdials : IsWithin most_attempts o.maxdials
   pub extra : are_unknown o.extra ≡ true
 
 fit : (dial modem jobtag : Result (List ℕ) OrderFault) (tts killtime : Result (Option ℕ) OrderFault) (priority totpages maxtries maxdials : Result ℕ OrderFault) (extra : List Pair)
-    → IfOk killtime IsKilltime → IfOk totpages (IsWithin 9999) → IfOk maxtries (IsWithin 1000) → IfOk maxdials (IsWithin 1000) → are_unknown extra ≡ true
+    → IfOk killtime IsKilltime → IfOk totpages (IsWithin most_pages) → IfOk maxtries (IsWithin most_attempts) → IfOk maxdials (IsWithin most_attempts) → are_unknown extra ≡ true
     → IfOk (dial >>= λ d. modem >>= λ m. jobtag >>= λ j. tts >>= λ t. killtime >>= λ k. priority >>= λ p. totpages >>= λ g. maxtries >>= λ a. maxdials >>= λ b. Ok (record { dial = d; modem = m; jobtag = j; tts = t; killtime = k; priority = p; totpages = g; maxtries = a; maxdials = b; extra = extra })) IsFit
 fit (Err e) m j t k p g a b extra hk hg ha hb he = tt
 fit (Ok d) (Err e) j t k p g a b extra hk hg ha hb he = tt
@@ -120,20 +121,20 @@ unused greatest number h =
     let parts = and_parts (leb 1 number) (leb number greatest) h in
     and_from _ (leb number greatest) (and_from (leb 0 number) (leb 1 number) (le-leb 0 number (omega arith)) parts.0) parts.1
 
-lawful_job : (o : Order) (n t : ℕ) → IsFit o → leb 1 n ≡ true → leb n 999999 ≡ true → is_lawful (fields_of (new_job o n t)) ≡ true
+lawful_job : (o : Order) (n t : ℕ) → IsFit o → leb 1 n ≡ true → leb n last_job ≡ true → is_lawful (fields_of (new_job o n t)) ≡ true
 lawful_job o n t h first last =
     lawful_from (fields_of (new_job o n t)) (record {
-      number = and_from (leb 1 n) (leb n 999999) first last;
+      number = and_from (leb 1 n) (leb n last_job) first last;
       killtime = h.killtime;
-      pages = unused 9999 o.totpages h.totpages;
-      tries = unused 1000 o.maxtries h.maxtries;
-      dials = unused 1000 o.maxdials h.maxdials;
+      pages = unused most_pages o.totpages h.totpages;
+      tries = unused most_attempts o.maxtries h.maxtries;
+      dials = unused most_attempts o.maxdials h.maxdials;
       next = refl;
       extra = h.extra;
     })
 
-read_lawful : (ps : List Pair) (o : Order) (n t : ℕ) → order_of ps ≡ Ok o → 1 ≤ n → n ≤ 999999 → is_lawful (fields_of (new_job o n t)) ≡ true
-read_lawful ps o n t e first last = lawful_job o n t (subst (λ (r : Result Order OrderFault). IfOk r IsFit) e (read_fit ps)) (le-leb 1 n first) (le-leb n 999999 last)
+read_lawful : (ps : List Pair) (o : Order) (n t : ℕ) → order_of ps ≡ Ok o → 1 ≤ n → n ≤ last_job → is_lawful (fields_of (new_job o n t)) ≡ true
+read_lawful ps o n t e first last = lawful_job o n t (subst (λ (r : Result Order OrderFault). IfOk r IsFit) e (read_fit ps)) (le-leb 1 n first) (le-leb n last_job last)
 
 pub read_recorded : ReadOrdersAreLawful
 read_recorded ps o n t e first last = ap (λ (lawful : Bool). cond lawful (Ok (new_job o n t)) (Err Unavailable)) (read_lawful ps o n t e first last)

@@ -7,7 +7,7 @@ use Rattle.fax_job.specs.declared.job.Call.TheVariants.{Connected, Busy, NoAnswe
 use Rattle.fax_job.specs.declared.order.Order.{Order}
 use Rattle.fax_core.specs.declared.report.Ending.{Ending}
 use Rattle.fax_core.specs.Ageing.{aged}
-use Rattle.fax_core.specs.Ask.{Ask}
+use Rattle.fax_core.specs.declared.ask.Ask.{Ask}
 use Rattle.fax_core.specs.declared.report.Outcome.{Outcome}
 use Rattle.fax_core.specs.Queue.{Queue, empty_queue}
 use Rattle.fax_core.specs.Reply.{Handed}

@@ -4,7 +4,7 @@ use Rattle.fax_job.specs.declared.job.Call.TheVariants.{Busy}
 use Rattle.fax_job.specs.declared.refusal.Refusal.TheVariants.{JobOver, NotSuspended}
 use Rattle.fax_core.specs.declared.report.Ending.TheVariants.{Retry}
 use Rattle.fax_core.specs.Ageing.{aged}
-use Rattle.fax_core.specs.Ask.{Submission, Suspend, Resume, Kill, Alteration, Next, CallReport, OutcomeReport}
+use Rattle.fax_core.specs.declared.ask.Ask.TheVariants.{Submission, Suspend, Resume, Kill, Alteration, Next, CallReport, OutcomeReport}
 use Rattle.fax_core.specs.Reply.{Submitted, Stands, NoneToSend, NoKeys}
 use Rattle.fax_core.specs.Run.{Request, Replied, Denied}
 use Rattle.fax_core.specs.State.{state}

@@ -7,7 +7,7 @@ use Rattle.fax_job.specs.Pair.{Pair}
 use Rattle.fax_job.specs.declared.order.Order.{Order}
 use Rattle.fax_job.specs.declared.job.Call.TheVariants.{Connected}
 use Rattle.fax_core.specs.declared.report.Ending.TheVariants.{Retry}
-use Rattle.fax_core.specs.Ask.{Submission, Suspend, Resume, Kill, Alteration, Ready, Down, Next, CallReport, PageReport, OutcomeReport}
+use Rattle.fax_core.specs.declared.ask.Ask.TheVariants.{Submission, Suspend, Resume, Kill, Alteration, Ready, Down, Next, CallReport, PageReport, OutcomeReport}
 use Rattle.fax_core.specs.Job.{Job}
 use Rattle.fax_core.specs.Queue.{empty_queue}
 use Rattle.fax_core.specs.Reply.{Submitted, Stands, Given, NoneToSend}

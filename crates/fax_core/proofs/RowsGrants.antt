@@ -3,7 +3,7 @@ use Rattle.std.specs.Prelude.{◌≡◌, refl, ℕ, true, false, List, [], ◌�
 use Rattle.fax_job.specs.declared.job.Call.TheVariants.{Connected, Busy}
 use Rattle.fax_job.specs.declared.refusal.Refusal.TheVariants.{ModemBusy, NotConnected, PagesMismatch}
 use Rattle.fax_core.specs.declared.report.Ending.TheVariants.{Done, Retry}
-use Rattle.fax_core.specs.Ask.{Submission, Kill, Next, CallReport, PageReport, OutcomeReport}
+use Rattle.fax_core.specs.declared.ask.Ask.TheVariants.{Submission, Kill, Next, CallReport, PageReport, OutcomeReport}
 use Rattle.fax_core.specs.Reply.{Submitted, Stands, NoneToSend, Given, Called, Confirmed, NoKeys, HeldGrant}
 use Rattle.fax_core.specs.Run.{Request, Replied, Denied}
 use Rattle.fax_core.proofs.RowWords.{ttyS0, ttyS1, order, report, hand, ◌at◌, told, after, shown, statuses}

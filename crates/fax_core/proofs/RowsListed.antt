@@ -12,7 +12,9 @@ use Rattle.fax_core.specs.Ageing.{aged_job}
 use Rattle.fax_core.specs.Job.{Job}
 use Rattle.fax_core.specs.Submission.{rule_of}
 use Rattle.fax_core.specs.declared.report.Ending.TheVariants.{Done, Retry, Fail}
-use Rattle.fax_core.specs.Ask.{Ask, Submission, Suspend, Resume, Kill, Alteration, Ready, Down, Next, CallReport, PageReport, OutcomeReport, HasLimits}
+use Rattle.fax_core.specs.Ask.{HasLimits}
+use Rattle.fax_core.specs.declared.ask.Ask.{Ask}
+use Rattle.fax_core.specs.declared.ask.Ask.TheVariants.{Submission, Suspend, Resume, Kill, Alteration, Ready, Down, Next, CallReport, PageReport, OutcomeReport}
 use Rattle.fax_core.specs.Decisions.{new_job, retried}
 use Rattle.fax_core.specs.Machine.{step}
 use Rattle.fax_core.specs.Queue.{Queue, empty_queue}

@@ -8,7 +8,8 @@ use Rattle.fax_job.specs.declared.job.Wish.TheVariants.{Go, Hold}
 use Rattle.fax_job.specs.declared.job.Wish.TheVariants as wish
 use Rattle.fax_job.specs.declared.refusal.Refusal.TheVariants.{JobOver, JobActive, NotSuspended}
 use Rattle.fax_core.specs.declared.report.Ending.TheVariants.{Retry}
-use Rattle.fax_core.specs.Ask.{Ask, Submission, Suspend, Resume, Kill, Alteration, Down, Next, CallReport, OutcomeReport}
+use Rattle.fax_core.specs.declared.ask.Ask.{Ask}
+use Rattle.fax_core.specs.declared.ask.Ask.TheVariants.{Submission, Suspend, Resume, Kill, Alteration, Down, Next, CallReport, OutcomeReport}
 use Rattle.fax_core.specs.Queue.{Queue, empty_queue}
 use Rattle.fax_core.specs.Reply.{Submitted, Stands, Marked, NoneToSend, Given, Called, NoKeys}
 use Rattle.fax_core.specs.Run.{Request, Answer, Replied, Denied, answer_of, left_by, decided, answers}

@@ -5,7 +5,7 @@ use Rattle.std.specs.Prelude.{nat_eq}
 use Rattle.fax_job.specs.declared.job.Call.TheVariants.{Connected, Busy}
 use Rattle.fax_job.specs.declared.refusal.Refusal.TheVariants.{NoJob, NoModem, NoGrant, Rejected, TooManyPages, JobOver, JobActive, NotSuspended, LimitReached, ModemDown, ModemBusy, GrantClosed, CallKnown, NotConnected, PageOrder, CallMissing, PagesMismatch, PagesLeft, Full}
 use Rattle.fax_core.specs.declared.report.Ending.TheVariants.{Done, Retry, Fail}
-use Rattle.fax_core.specs.Ask.{Submission, Suspend, Resume, Kill, Alteration, Ready, Down, Next, CallReport, PageReport, OutcomeReport}
+use Rattle.fax_core.specs.declared.ask.Ask.TheVariants.{Submission, Suspend, Resume, Kill, Alteration, Ready, Down, Next, CallReport, PageReport, OutcomeReport}
 use Rattle.fax_core.specs.Queue.{empty_queue}
 use Rattle.fax_core.specs.Reply.{Submitted, Stands, Marked, NoneToSend, Given, Called, Confirmed, NoKeys, Notice, HeldGrant, Pages}
 use Rattle.fax_core.specs.Run.{Answer, Replied, Denied, answers}

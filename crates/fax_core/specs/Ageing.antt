@@ -3,6 +3,8 @@ use Rattle.std.specs.Prelude.{ℕ, Bool, true, false, ◌&&◌, map, nat_le, Opt
 use Rattle.fax_job.specs.declared.job.Phase.{Phase}
 use Rattle.fax_job.specs.declared.job.Phase.TheVariants.{Held, Waiting, Failed}
 use Rattle.fax_job.specs.Status.{kill_time_expired}
+use Rattle.fax_core.specs.declared.ageing.Aging.{Aging}
+use Rattle.fax_core.specs.declared.ageing.Aging.TheVariants.{Stays, Expires}
 use Rattle.fax_core.specs.Job.{Job}
 use Rattle.fax_core.specs.Queue.{Queue}
 
@@ -24,3 +26,14 @@ aged_job t j = if expires j.phase && is_past j.killtime t then record j { phase 
 -- the queue at t
 abbrev pub aged : ℕ → Queue → Queue
 aged t m = record m { jobs = map (aged_job t) m.jobs; clock = t }
+
+-- ---- what ageing says of a job
+
+-- the job afterwards
+abbrev pub aged_by : Aging → Job → Job
+aged_by Stays j = j
+aged_by Expires j = record j { phase = Failed; status = kill_time_expired }
+
+-- by phase and kill time: a job that failed before doesn't expire again
+abbrev pub aging : Phase → Option ℕ → ℕ → Aging
+aging phase killtime t = if expires phase && is_past killtime t then Expires else Stays

@@ -4,7 +4,8 @@ use Rattle.std.specs.List.{list_all}
 use Rattle.fax_core.specs.Job.{Job}
 use Rattle.fax_core.specs.Queue.{Queue, job_numbered}
 use Rattle.fax_core.specs.Settings.{Settings}
-use Rattle.fax_core.specs.State.{state}
+use Rattle.fax_core.specs.State.{state, state_number}
+use Rattle.fax_core.specs.declared.state.State.TheVariants.{Ready}
 
 -- sendq(5): a lower priority goes first; then the earlier time to send, then the lower number
 abbrev pub better : Job → Job → Bool
@@ -12,7 +13,7 @@ better j k = nat_lt j.priority k.priority || (j.priority == k.priority && (nat_l
 
 -- the job is ready, and its modem value admits the modem
 abbrev pub may_go : Settings → Queue → ℕ → List ℕ → Job → Bool
-may_go s m t modem j = (state s m t j == 5) && s.admits j.modem modem
+may_go s m t modem j = (state s m t j == state_number Ready) && s.admits j.modem modem
 
 -- all jobs that may go
 abbrev pub going : Settings → Queue → ℕ → List ℕ → List Job
@@ -35,7 +36,7 @@ Precedes j k = (j.priority < k.priority) ⊎ ((j.priority ≡ k.priority) × ((j
 -- a job of the queue is ready, and its modem value admits the modem
 pub record MayGo (s : Settings) (m : Queue) (t : ℕ) (modem : List ℕ) (j : Job) : Type 0 where
   pub there : job_numbered j.number m ≡ Some j
-  pub ready : state s m t j ≡ 5
+  pub ready : state s m t j ≡ state_number Ready
   pub admitted : s.admits j.modem modem ≡ true
 
 -- a job that may go, such that no other does that precedes it

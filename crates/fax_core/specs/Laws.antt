@@ -3,6 +3,7 @@ use Rattle.std.specs.Prelude.{◌≡◌, ◌≢◌, ◌⊎◌, ℕ, ◌+◌, ◌
 use Rattle.std.specs.List.{range_with_len}
 use Rattle.fax_job.specs.Alter.{alter_of}
 use Rattle.fax_job.specs.Job.{is_lawful}
+use Rattle.fax_job.specs.Limits.{last_next}
 use Rattle.fax_job.specs.Pair.{Pair}
 use Rattle.fax_job.specs.declared.alter.Alter.{Alter}
 use Rattle.fax_job.specs.declared.job.Call.{Call}
@@ -12,7 +13,9 @@ use Rattle.fax_job.specs.Refusal.{refusal_number}
 use Rattle.fax_core.specs.declared.grants.Grant.{Grant}
 use Rattle.fax_core.specs.declared.report.Outcome.{Outcome}
 use Rattle.fax_core.specs.Ageing.{aged}
-use Rattle.fax_core.specs.Ask.{Ask, Next, PageReport, IsLawfulAsk}
+use Rattle.fax_core.specs.Ask.{IsLawfulAsk}
+use Rattle.fax_core.specs.declared.ask.Ask.{Ask}
+use Rattle.fax_core.specs.declared.ask.Ask.TheVariants.{Next, PageReport}
 use Rattle.fax_core.specs.Best.{MayGo, IsBest}
 use Rattle.fax_core.specs.Clock.{decided_at}
 use Rattle.fax_core.specs.Decisions.{JobAndGrant, suspend, resume, kill, alter, grant, call, page, outcome}
@@ -25,7 +28,8 @@ use Rattle.fax_core.specs.Reply.{Reply, Handed, NoneToSend, Given, Keys, HeldGra
 use Rattle.fax_core.specs.Run.{Request, decided, queue_after, AreLawful}
 use Rattle.fax_core.specs.Settings.{Settings}
 use Rattle.fax_core.specs.Sound.{Fits, IsJob, IsOpen, Sound}
-use Rattle.fax_core.specs.State.{state, is_due}
+use Rattle.fax_core.specs.State.{state, is_due, state_number}
+use Rattle.fax_core.specs.declared.state.State.TheVariants.{Ready}
 
 -- ---- soundness
 
@@ -202,7 +206,7 @@ NothingIsLeftOut =
 
 -- a ready job is due, so who looks for the best may pass over jobs that aren't
 abbrev pub ReadyJobsAreDue : Type 0
-ReadyJobsAreDue = (s : Settings) (m : Queue) (t : ℕ) (j : Job) → state s m t j ≡ 5 → is_due j t ≡ true
+ReadyJobsAreDue = (s : Settings) (m : Queue) (t : ℕ) (j : Job) → state s m t j ≡ state_number Ready → is_due j t ≡ true
 
 -- ---- the clock
 
@@ -260,4 +264,4 @@ ReportsKeepRecords =
     (j : Job) (g : Grant) → Fits j (Some g) → HasRecord j
     → ((c : Call) → IfOk (call c j g) HasJobRecord)
     × ((n : ℕ) → IfOk (page n j g) HasJobRecord)
-    × ((o : Outcome) (delay t : ℕ) → t + delay ≤ 4102531200 → IfOk (outcome o j g delay t) HasJobRecord)
+    × ((o : Outcome) (delay t : ℕ) → t + delay ≤ last_next → IfOk (outcome o j g delay t) HasJobRecord)

@@ -14,6 +14,5 @@ pub mod Fits
 pub mod Run
 pub mod Refusals
 pub mod Laws
-pub mod Aging
 pub mod Change
 pub mod Submission

@@ -6,6 +6,7 @@ use Rattle.fax_job.specs.declared.order.Order.{Order}
 use Rattle.fax_job.specs.declared.refusal.Refusal.{Refusal}
 use Rattle.fax_job.specs.declared.refusal.Refusal.TheVariants.{Unavailable}
 use Rattle.fax_job.specs.Job.{is_lawful}
+use Rattle.fax_job.specs.Limits.{last_job}
 use Rattle.fax_job.specs.Order.{order_of}
 use Rattle.fax_job.specs.Pair.{Pair}
 use Rattle.fax_core.specs.Decisions.{new_job}
@@ -28,4 +29,4 @@ recorded (Err refusal) = Err refusal
 
 -- an order that was read, with a number from 1 to 999999, makes a job that a lawful record holds
 abbrev pub ReadOrdersAreLawful : Type 0
-ReadOrdersAreLawful = (ps : List Pair) (order : Order) (number t : ℕ) → order_of ps ≡ Ok order → 1 ≤ number → number ≤ 999999 → recorded (Ok (new_job order number t)) ≡ Ok (new_job order number t)
+ReadOrdersAreLawful = (ps : List Pair) (order : Order) (number t : ℕ) → order_of ps ≡ Ok order → 1 ≤ number → number ≤ last_job → recorded (Ok (new_job order number t)) ≡ Ok (new_job order number t)

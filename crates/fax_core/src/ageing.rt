@@ -2,8 +2,7 @@
 
 ghost use Rattle.std.specs.Prelude.{◌≡◌};
 ghost use Rattle.fax_job.specs.declared.job.Phase.TheVariants.{Failed};
-ghost use Rattle.fax_core.specs.Ageing.{is_past, expires, aged_job};
-ghost use Rattle.fax_core.specs.Aging.{aged_by, aging};
+ghost use Rattle.fax_core.specs.Ageing.{is_past, expires, aged_job, aged_by, aging};
 ghost use Rattle.fax_core.specs.Job.{job_of};
 
 use fax_job::{Job, JobFields, Moment, Phase, Status};

@@ -10,6 +10,7 @@
 #![tactic(auto)]
 
 mod ageing;
+mod ask;
 mod change;
 mod choice;
 mod client;
@@ -22,12 +23,13 @@ mod submission;
 mod worker;
 
 pub use ageing::{Aging, aged, aged_job};
+pub use ask::Ask;
 pub use change::{Altered, Change};
 pub use choice::{better, due, grant};
 pub use client::{alter, kill, resume, suspend};
 pub use fit::fits;
 pub use grants::Grant;
 pub use report::{Ending, Outcome};
-pub use state::state_at;
+pub use state::{State, state_at};
 pub use submission::submit;
 pub use worker::{call, outcome, page, stops};

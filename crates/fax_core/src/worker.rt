@@ -6,6 +6,7 @@ ghost use Rattle.fax_core.specs.Decisions.{call, after_call, is_connected, is_do
 ghost use Rattle.fax_core.specs.Job.{job_of};
 ghost use Rattle.fax_core.specs.declared.grants.Grant.{Grant};
 ghost use Rattle.fax_job.specs.declared.job.Wish.TheVariants.{Go};
+ghost use Rattle.fax_job.specs.Limits.{longest_delay};
 
 use crate::ageing::is_past;
 use crate::change::Change;
@@ -107,7 +108,7 @@ pub fn outcome(
     delay: u64,
     t: Moment,
 ) -> Result<Change, Refusal>
-    requires delay { delay ≤ 86400 }
+    requires delay { delay ≤ longest_delay }
     ensures { decided_with (record grant.now { is_open = false }) (job_of job.now) result
         ≡ outcome said (job_of job.now) grant.now delay t }
 {
@@ -161,7 +162,7 @@ fn has_pages_left(fields: &JobFields) -> bool
 
 /// What becomes of the job: with all pages confirmed it is done, whatever the outcome says.
 fn ended(fields: &JobFields, said: Outcome, delay: u64, t: Moment) -> Change
-    requires delay { delay ≤ 86400 }
+    requires delay { delay ≤ longest_delay }
     ensures { changed result (job_of fields.now) ≡ ended (job_of fields.now).left said (job_of fields.now) delay t }
 {
     if fields.totpages <= fields.npages {
@@ -188,7 +189,7 @@ fn over(fields: &JobFields, phase: Phase, status: Status) -> Change
 /// The job fails where it was to be killed, its kill time is past, or its dials or tries are used up, or
 /// three tries of one page failed; else it goes on after the delay.
 fn retried(fields: &JobFields, reason: Status, delay: u64, t: Moment) -> Change
-    requires delay { delay ≤ 86400 }
+    requires delay { delay ≤ longest_delay }
     ensures { changed result (job_of fields.now) ≡ retried (job_of fields.now) reason delay t }
 {
     if fields.wish == Wish::Kill {

@@ -1,4 +1,3 @@
-pub mod AskLemmas
 pub mod WorkLemmas
 mod DecisionLemmas
 mod RecordLemmas

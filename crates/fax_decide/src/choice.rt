@@ -29,7 +29,7 @@ use crate::fault::Unavailable;
 use crate::office::Office;
 use crate::state::state_of;
 use fax_ask::{Answer, Detail, Handed, Reply};
-use fax_core::{Change, Grant, fits, grant};
+use fax_core::{Change, Grant, State, fits, grant};
 use fax_job::{Job, Moment, Name, Refusal};
 use fax_store::{Hold, Store};
 use sqlite::Alter;
@@ -189,15 +189,12 @@ fn may_go<S: Alter>(
         → Serves (state S.Store store.new.conn) → IfOk result (λ goes. goes
         ≡ may_go (settings_of office.now.setup office.now.controls) m t modem.now (job_of job.now)) }
 {
-    if state_of(store, office, alloc, job, t)? != READY {
+    if state_of(store, office, alloc, job, t)? != State::Ready.number() {
         return Ok(false);
     }
     let value = &job.fields().modem;
     Ok(office.setup.admits(alloc, value.as_str(), modem.as_str())?)
 }
-
-/// The state of a job that may go (sendq(5)).
-const READY: u8 = 5;
 
 /// The job goes to the modem with the pages that it has left. Where it doesn't fit to be granted, as in no sound
 /// queue, nothing is decided.

@@ -25,7 +25,7 @@ use crate::records::job_at;
 use crate::state::state_of;
 use fax_ask::{Answer, Reply};
 use fax_core::{Change, alter, kill, resume, suspend};
-use fax_job::{Alter as Changes, Job, Moment, Refusal};
+use fax_job::{Job, Moment, Refusal};
 use fax_store::Store;
 use sqlite::Alter;
 use std::alloc::Global;
@@ -36,7 +36,7 @@ pub(crate) enum JobAsk {
     Suspend,
     Resume,
     Kill,
-    Alter(Changes),
+    Alter(fax_job::Alter),
 }
 
 impl JobAsk {

@@ -7,18 +7,14 @@ ghost use Rattle.sqlite.specs.State.{HasCleanDisk};
 ghost use Rattle.fax_core.specs.Ageing.{aged};
 ghost use Rattle.fax_core.specs.Job.{job_of};
 ghost use Rattle.fax_core.specs.Queue.{Queue, Entry, job_numbered, grant_numbered};
+ghost use Rattle.fax_job.specs.Limits.{last_grant, last_job};
 ghost use Rattle.fax_store.specs.Store.{Means, Serves, Stays, StaysOpen};
 
 use fax_core::{Grant, aged_job};
+use fax_job::limits::{LAST_GRANT, LAST_JOB};
 use fax_job::{Job, Moment};
 use fax_store::{Store, StoreFault};
 use sqlite::Alter;
-
-/// The greatest number of a job.
-const LAST_JOB: u64 = 999_999;
-
-/// The greatest number of a grant.
-const LAST_GRANT: u64 = 999_999_999;
 
 /// The job of that number, as it is at `t`, if there is one.
 pub(crate) fn job_at<S: Alter>(
@@ -33,9 +29,9 @@ pub(crate) fn job_at<S: Alter>(
     ensures found { (m : Queue) (k : List Entry) → Means (state S.Store store.old.conn) m k
         → Serves (state S.Store store.new.conn)
         → IfOk result (λ found. option_map (λ f. job_of f) found ≡ job_numbered number (aged t m)) }
-    ensures past { 999999 < number → result ≡ Ok None }
+    ensures past { last_job < number → result ≡ Ok None }
 {
-    if number > LAST_JOB {
+    if number > u64::from(LAST_JOB) {
         return Ok(None);
     }
     match store.job(number as u32)? {
@@ -55,9 +51,9 @@ pub(crate) fn grant_at<S: Alter>(
     ensures stays { Stays (state S.Store store.old.conn) (state S.Store store.new.conn) }
     ensures found { (m : Queue) (k : List Entry) → Means (state S.Store store.old.conn) m k
         → Serves (state S.Store store.new.conn) → IfOk result (λ found. found ≡ grant_numbered number m) }
-    ensures past { 999999999 < number → result ≡ Ok None }
+    ensures past { last_grant < number → result ≡ Ok None }
 {
-    if number > LAST_GRANT {
+    if number > u64::from(LAST_GRANT) {
         return Ok(None);
     }
     store.grant(number as u32)

@@ -18,6 +18,7 @@ ghost use Rattle.fax_core.specs.Sound.{Sound};
 ghost use Rattle.fax_core.specs.State.{calls_to};
 ghost use Rattle.fax_core.specs.declared.grants.Grant.{Grant as GrantOf};
 ghost use Rattle.fax_dest.specs.Setup.{delay_of};
+ghost use Rattle.fax_job.specs.Limits.{most_pages};
 ghost use Rattle.fax_store.specs.Grant.{IsSameGrant};
 ghost use Rattle.fax_store.specs.Store.{Means, Serves, Stays, StaysOpen};
 ghost use Rattle.fax_decide.specs.Decision.{Decides};
@@ -88,7 +89,7 @@ fn report_on<S: Alter>(
     ensures opens { OnOk result (StaysOpen (state S.Store store.old.conn) (state S.Store store.new.conn)) }
     ensures stays { Stays (state S.Store store.old.conn) (state S.Store store.new.conn) }
     ensures decided { (m : Queue) (k : List Entry) → Sound m → Means (state S.Store store.old.conn) m k
-        → Serves (state S.Store store.new.conn) → AreThere m t job grant → grant.confirmed ≤ 9999
+        → Serves (state S.Store store.new.conn) → AreThere m t job grant → grant.confirmed ≤ most_pages
         → IfOk result (Decides (report_both (settings_of office.now.setup office.now.controls) (aged t m) t
         report (job_of job) grant) m t) }
     ensures closed { grant.is_open ≡ false → IsOk result }
@@ -162,7 +163,7 @@ fn decide_page(
     said: u16,
     t: Moment,
 ) -> Result<Decision, Unavailable>
-    ensures decided { (m : Queue) → AreThere m t job grant → grant.confirmed ≤ 9999
+    ensures decided { (m : Queue) → AreThere m t job grant → grant.confirmed ≤ most_pages
         → IfOk result (Decides (reported (aged t m) (page_reply t) (job_of job)
         (page_of said (job_of job) grant)) m t) }
     ensures closed { grant.is_open ≡ false → IsOk result }

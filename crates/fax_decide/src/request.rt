@@ -3,8 +3,6 @@
 ghost use Rattle.std.specs.Prelude.{◌≡◌, List, IfOk, OnOk};
 ghost use Rattle.sqlite.specs.Held.{state};
 ghost use Rattle.sqlite.specs.State.{HasCleanDisk};
-ghost use Rattle.fax_ask.specs.Ask.{Step as Asked, asked};
-ghost use Rattle.fax_core.specs.Ask.{Ask as MachineAsk};
 ghost use Rattle.fax_core.specs.Machine.{step as step_of};
 ghost use Rattle.fax_core.specs.Queue.{Queue, Entry};
 ghost use Rattle.fax_core.specs.Sound.{Sound};
@@ -21,7 +19,7 @@ use crate::modems::decide_mark;
 use crate::office::Office;
 use crate::reports::{Report, decide_report};
 use crate::submission::decide_submission;
-use fax_ask::Ask;
+use fax_core::Ask;
 use fax_job::Moment;
 use fax_store::{Meta, Store};
 use sqlite::Alter;
@@ -40,10 +38,10 @@ pub fn decide<S: Alter>(
     ensures clean { HasCleanDisk (state S.Store store.new.conn) → HasCleanDisk (state S.Store store.old.conn) }
     ensures opens { OnOk result (StaysOpen (state S.Store store.old.conn) (state S.Store store.new.conn)) }
     ensures stays { Stays (state S.Store store.old.conn) (state S.Store store.new.conn) }
-    ensures decided { (m : Queue) (k : List Entry) (want : MachineAsk) → Sound m
+    ensures decided { (m : Queue) (k : List Entry) → Sound m
         → Means (state S.Store store.old.conn) m k → Serves (state S.Store store.new.conn)
-        → meta.now ≡ meta_of m → asked ask ≡ Asked want
-        → IfOk result (Decides (step_of (settings_of office.now.setup office.now.controls) m t want) m t) }
+        → meta.now ≡ meta_of m
+        → IfOk result (Decides (step_of (settings_of office.now.setup office.now.controls) m t ask) m t) }
 {
     match ask {
         Ask::Submission(order) => decide_submission(office, alloc, order, meta.next_job, t),
@@ -65,7 +63,5 @@ pub fn decide<S: Alter>(
         Ask::OutcomeReport { grant, outcome } => {
             decide_report(store, office, alloc, grant, Report::Outcome(outcome), t)
         }
-        // A view is decided by nothing.
-        Ask::Show { job: _ } => Err(Unavailable),
     }
 }

@@ -1,16 +1,13 @@
 -- Cutting texts at a byte, at a blank, and before the blanks at their end.
-use Rattle.std.proofs.Common.{◌≡◌, ◌≢◌, ℕ, ◌<◌, ◌≤◌, true, false, eqb, List, [], ◌∷◌, ◌++◌, length, get_or, reverse, refl, sym, ap, ◌∙◌, arith, lit<, length-append}
+use Rattle.std.proofs.Common.{◌≡◌, ◌≢◌, ℕ, ◌<◌, ◌≤◌, true, false, eqb, List, [], ◌∷◌, ◌++◌, length, get_or, refl, sym, ap, ◌∙◌, arith, lit<, length-append}
 use Rattle.std.specs.Prelude.{Option, Some, None}
-use Rattle.std.specs.Option.{MatchOption, IfSome, IfNone, option_map}
+use Rattle.std.specs.Option.{MatchOption, option_map}
 use Rattle.std.proofs.lemmas.Bool.{ne_eqb, eq-eqb, or_from}
 use Rattle.std.proofs.lemmas.Str.Pattern.{IsSplitOnceResult, split_parts}
-use Rattle.std.proofs.lemmas.List.{reverse-append, reverse-reverse}
 use Rattle.std.proofs.Math.ListN.{get_or-append}
 use denote.Ref.{Bor}
-use Rattle.fax_job.specs.Reading.{without_blanks}
-use Rattle.fax_job.specs.Value.{is_blank}
+use Rattle.fax_job.specs.Blank.{is_blank, before_blanks}
 use Rattle.fax_job.proofs.LineLemmas.{Lacks, Lacks-tail}
-use Rattle.fax_hours.specs.Item.{before_blanks}
 use Rattle.fax_dest.specs.Line.{at_byte, at_blank, value_from}
 
 lacks_first : (c b : ℕ) (bs : List ℕ) → Lacks c (b ∷ bs) → eqb b c ≡ false
@@ -91,40 +88,6 @@ at_blank_tab_first bs x y space tab short =
     let cut : Cuts 9 bs y = split_parts 9 bs (Some y) tab (lit< tt) in
     let other : Cuts 32 bs x = split_parts 32 bs (Some x) space (lit< tt) in
     by_tab bs y cut (lacks_shorter 32 bs y.0.now (9 ∷ y.1.now) x.0.now (32 ∷ x.1.now) cut.0 other.0 short other.1)
-
--- ---- before blanks
-
-last_first : (c : ℕ) (front : List ℕ) → reverse (front ++ c ∷ []) ≡ c ∷ reverse front
-last_first c front = reverse-append front (c ∷ [])
-
-pub before_blanks-blank : (c : ℕ) (bs front : List ℕ) → is_blank c ≡ true → bs ≡ front ++ c ∷ [] → before_blanks bs ≡ before_blanks front
-unfolding before_blanks
-before_blanks-blank c bs front blank e =
-    ap (λ t. reverse (without_blanks (reverse t))) e
-    ∙ ap (λ t. reverse (without_blanks t)) (last_first c front)
-    ∙ rw blank refl
-
-blankless : (bs : List ℕ) → ((rest : List ℕ) → bs ≢ 32 ∷ rest) → ((rest : List ℕ) → bs ≢ 9 ∷ rest) → without_blanks bs ≡ bs
-blankless [] space tab = refl
-blankless (b ∷ x) space tab =
-    rw (or_from (eqb b 32) (eqb b 9) (ne_eqb b 32 (λ e. space x (ap (λ (n : ℕ). n ∷ x) e))) (ne_eqb b 9 (λ e. tab x (ap (λ (n : ℕ). n ∷ x) e)))) refl
-
-turned : (c : ℕ) (bs rest : List ℕ) → reverse bs ≡ c ∷ rest → bs ≡ reverse rest ++ c ∷ []
-turned c bs rest e = sym (reverse-reverse bs) ∙ ap (λ t. reverse t) e ∙ reverse-append (c ∷ []) rest
-
-pub before_blanks-none : (bs : List ℕ) → ((front : List ℕ) → bs ≢ front ++ 32 ∷ []) → ((front : List ℕ) → bs ≢ front ++ 9 ∷ []) → before_blanks bs ≡ bs
-unfolding before_blanks
-before_blanks-none bs space tab =
-    ap reverse (blankless (reverse bs) (λ rest e. space (reverse rest) (turned 32 bs rest e)) (λ rest e. tab (reverse rest) (turned 9 bs rest e))) ∙ reverse-reverse bs
-
--- what `strip_suffix` gives at a tab
-pub before_blanks_is : (bs : List ℕ) (r : Option (Bor (List ℕ))) → MatchOption r ((front : List ℕ) → bs ≢ front ++ (9 ∷ [])) (λ x. bs ≡ x.now ++ (9 ∷ [])) → IfSome r (λ front. before_blanks bs ≡ before_blanks front.now)
-before_blanks_is bs None h = tt
-before_blanks_is bs (Some x) h = before_blanks-blank 9 bs x.now refl h
-
-pub before_blanks_unless : (bs : List ℕ) (r : Option (Bor (List ℕ))) → ((front : List ℕ) → bs ≢ front ++ (32 ∷ [])) → MatchOption r ((front : List ℕ) → bs ≢ front ++ (9 ∷ [])) (λ x. bs ≡ x.now ++ (9 ∷ [])) → IfNone r (before_blanks bs ≡ bs)
-before_blanks_unless bs None space h = before_blanks-none bs space h
-before_blanks_unless bs (Some x) space h = tt
 
 -- ---- values
 

@@ -1,6 +1,8 @@
 -- What is wrong with a file.
 use Rattle.std.specs.Prelude.{◌≡◌, ℕ, Bool, true, false, List, Result, Ok, Err, ⊤, codes}
 use Rattle.std.specs.Bool.{MatchBool}
+use Rattle.fax_job.specs.declared.text_fault.TextFault.{TextFault}
+use Rattle.fax_job.specs.declared.text_fault.TextFault.TheVariants as text
 use Rattle.fax_dest.specs.Pattern.{IsGrammar, Compiling, compiled}
 use Rattle.fax_dest.specs.declared.fault.FileFault.{FileFault}
 use Rattle.fax_dest.specs.declared.fault.FileKind.{FileKind}
@@ -44,6 +46,11 @@ is_big BadPattern = false
 is_big BigPattern = true
 is_big BadZone = false
 is_big NoMemory = false
+
+-- a bad text is a bad value, and want of memory stays what it is
+abbrev pub kind_of_text : TextFault → FileKind
+kind_of_text text.Bad = BadValue
+kind_of_text text.NoMemory = NoMemory
 
 abbrev pub fault_at : ℕ → FileKind → FileFault
 fault_at line kind = record { line = line; kind = kind }

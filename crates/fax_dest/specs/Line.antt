@@ -1,11 +1,9 @@
 -- Lines and values, which setup and controls have in common.
-use Rattle.std.specs.Prelude.{ℕ, Bool, true, false, ◌==◌, ◌&&◌, List, [], ◌∷◌, nat_le, Option, Some, None, Result, Ok, Err, if◌then◌else◌}
+use Rattle.std.specs.Prelude.{ℕ, Bool, true, ◌==◌, ◌&&◌, List, [], ◌∷◌, nat_le, Option, Some, None, Result, Ok, Err, if◌then◌else◌}
 use Rattle.std.specs.List.{list_all}
 use Rattle.std.specs.Option.{option_map}
 use Rattle.fax_job.specs.Number.{number_of}
-use Rattle.fax_job.specs.Reading.{without_blanks}
-use Rattle.fax_job.specs.Value.{is_blank}
-use Rattle.fax_hours.specs.Item.{before_blanks}
+use Rattle.fax_job.specs.Blank.{without_blanks, is_blank, before_blanks}
 use Rattle.fax_dest.specs.declared.fault.FileKind.{FileKind}
 use Rattle.fax_dest.specs.declared.fault.FileKind.TheVariants.{BadValue}
 
@@ -19,13 +17,6 @@ is_nothing (byte ∷ bytes) = byte == 35
 -- blanks alone, or `#` as the first other character
 unfoldable pub is_skipped : List ℕ → Bool
 is_skipped line = is_nothing (without_blanks line)
-
-abbrev pub begins_with_blank : List ℕ → Bool
-begins_with_blank [] = false
-begins_with_blank (byte ∷ bytes) = is_blank byte
-
-abbrev pub trimmed : List ℕ → List ℕ
-trimmed text = before_blanks (without_blanks text)
 
 -- what stands before and behind the first such byte
 abbrev pub at_byte : ℕ → List ℕ → Option (List ℕ × List ℕ)

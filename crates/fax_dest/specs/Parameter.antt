@@ -3,7 +3,9 @@ use Rattle.std.specs.Prelude.{ℕ, ◌||◌, ◌==◌, List, length, codes, Opti
 use Rattle.std.specs.Str.{str_eq_ignore_ascii_case}
 use Rattle.fax_hours.specs.Hours.{hours_of}
 use Rattle.fax_hours.specs.declared.hours.HoursFault.{HoursFault}
-use Rattle.fax_dest.specs.Line.{at_byte, trimmed, value_of, number_in}
+use Rattle.fax_job.specs.Limits.{most_attempts, most_pages}
+use Rattle.fax_dest.specs.Line.{at_byte, value_of, number_in}
+use Rattle.fax_job.specs.Blank.{trimmed}
 use Rattle.fax_rule.specs.Notice.{is_notice}
 use Rattle.fax_dest.specs.declared.fault.FileKind.{FileKind}
 use Rattle.fax_dest.specs.declared.fault.FileKind.TheVariants.{NoEquals, BadQuote, BadValue, BadHours}
@@ -44,8 +46,8 @@ noticed (Ok notice) = Ok (says.RejectNotice notice)
 noticed (Err kind) = Err kind
 
 abbrev pub parameter_in : ParameterName → List ℕ → Result Parameter FileKind
-parameter_in Calls value = numbered says.Calls (number_in 1 1000 value)
-parameter_in Pages value = numbered says.Pages (number_in 1 9999 value)
+parameter_in Calls value = numbered says.Calls (number_in 1 most_attempts value)
+parameter_in Pages value = numbered says.Pages (number_in 1 most_pages value)
 parameter_in TimeOfDay value = hours_in value
 parameter_in RejectNotice value = noticed (notice_in value)
 parameter_in Another value = Ok says.Another

@@ -3,6 +3,7 @@ use Rattle.std.specs.Prelude.{ℕ, List, codes, Option, Some, None, Result, Ok, 
 use Rattle.std.specs.Str.{str_eq_ignore_ascii_case}
 use Rattle.fax_job.specs.declared.job.Call.{Call}
 use Rattle.fax_job.specs.declared.job.Call.TheVariants.{Connected, Busy, NoAnswer, NoCarrier, Other}
+use Rattle.fax_job.specs.Limits.{last_grant, last_job, longest_delay}
 use Rattle.fax_dest.specs.Line.{is_skipped, at_byte, value_of, number_in}
 use Rattle.fax_dest.specs.Pattern.{Compiling}
 use Rattle.fax_dest.specs.Value.{name_in, is_zone, is_line_name}
@@ -65,9 +66,9 @@ class_written compile (Some parts) = class_with (name_in parts.0) (compile parts
 abbrev pub setting_in : Compiling → SettingName → List ℕ → Result Setting FileKind
 setting_in compile Modem value = texted ModemNamed (name_in value)
 setting_in compile ModemClass value = class_written compile (at_byte 58 value)
-setting_in compile (Delay call) value = numbered (DelayAfter call) (number_in 0 86400 value)
-setting_in compile MaxJobs value = numbered JobsUpTo (number_in 1 999999 value)
-setting_in compile MaxGrants value = numbered GrantsUpTo (number_in 1 999999999 value)
+setting_in compile (Delay call) value = numbered (DelayAfter call) (number_in 0 longest_delay value)
+setting_in compile MaxJobs value = numbered JobsUpTo (number_in 1 last_job value)
+setting_in compile MaxGrants value = numbered GrantsUpTo (number_in 1 last_grant value)
 setting_in compile TimeZone value = texted ZoneOf (is_zone value)
 setting_in compile Another value = Ok Nothing
 

@@ -4,6 +4,7 @@ use Rattle.std.specs.List.{list_any}
 use Rattle.std.specs.Str.{bytes_eq}
 use Rattle.jiff.specs.Types.{TimeZone as JiffZone, UTC}
 use Rattle.regex.specs.Strings.{regex_source}
+use Rattle.fax_job.specs.Limits.{last_grant, last_job}
 use Rattle.fax_job.specs.Reading.{lines}
 use Rattle.fax_job.specs.declared.job.Call.{Call}
 use Rattle.fax_job.specs.declared.job.Call.TheVariants.{Connected, Busy, NoAnswer, NoCarrier, Other}
@@ -139,8 +140,8 @@ shown_of settings = record {
   no_carrier = last_of (delay_in NoCarrier) 300 settings;
   other = last_of (delay_in Other) 300 settings;
   proto = last_of (delay_in Connected) 60 settings;
-  max_jobs = last_of jobs_in 999999 settings;
-  max_grants = last_of grants_in 999999999 settings;
+  max_jobs = last_of jobs_in last_job settings;
+  max_grants = last_of grants_in last_grant settings;
 }
 
 -- without a line it is UTC

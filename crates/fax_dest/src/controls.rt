@@ -3,10 +3,10 @@
 ghost use Rattle.fax_dest.specs.Pattern.{IsPlain};
 
 use crate::fault::{FileFault, FileKind};
-use crate::line::{at_blank, begins_with_blank, cut_line, is_skipped};
+use crate::line::{at_blank, is_indented, is_skipped};
 use crate::parameter::Parameter;
 use crate::pattern::{is_found, pattern};
-use fax_job::Dial;
+use fax_job::{Dial, cut_line};
 use fax_rule::Rule;
 use regex::Regex;
 use std::alloc::{AllocError, Global};
@@ -116,7 +116,7 @@ impl Entry {
         if is_skipped(line) {
             return Ok(());
         }
-        if begins_with_blank(line) {
+        if is_indented(line) {
             return Entry::add(alloc, rules, line);
         }
         let entry = Entry::begin(alloc, line)?;

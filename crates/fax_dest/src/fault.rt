@@ -1,5 +1,6 @@
 //! What is wrong with a file.
 
+use fax_job::TextFault;
 use std::alloc::{AllocError, AllocFailed};
 use thiserror::Error;
 
@@ -91,5 +92,19 @@ impl<T: Drop> From<AllocFailed<T>> for FileKind {
 
     fn from(_failed: AllocFailed<T>) -> FileKind {
         FileKind::NoMemory
+    }
+}
+
+impl From<TextFault> for FileKind {
+    ghost use Rattle.std.specs.Prelude.{◌≡◌};
+    ghost use Rattle.fax_dest.specs.Fault.{kind_of_text};
+
+    ghost from_gives = { λ fault kind. kind ≡ kind_of_text fault };
+
+    fn from(fault: TextFault) -> FileKind {
+        match fault {
+            TextFault::Bad => FileKind::BadValue,
+            TextFault::NoMemory => FileKind::NoMemory,
+        }
     }
 }

@@ -1,27 +1,12 @@
 //! Lines and values, which setup and controls have in common.
 
-ghost use Rattle.std.specs.Prelude.{◌≡◌, ◌∷◌, ◌<◌, ◌≤◌, length, IfSome, IfNone, IfOk, Some, None, Ok, Err};
-ghost use Rattle.std.specs.List.{list_all};
+ghost use Rattle.std.specs.Prelude.{◌≡◌, ◌≤◌, IfOk, Some, None, Ok, Err};
 ghost use Rattle.std.specs.Option.{option_map, option_copied};
-ghost use Rattle.fax_job.specs.Reading.{lines, without_blanks};
-ghost use Rattle.fax_job.specs.Value.{is_blank};
-ghost use Rattle.fax_hours.specs.Item.{before_blanks};
-ghost use Rattle.fax_dest.specs.Line.{at_byte, at_blank, is_skipped, begins_with_blank, is_nothing, value_of, inside_quotes, trimmed, number_in};
+ghost use Rattle.fax_job.specs.Blank.{begins_with_blank, trimmed};
+ghost use Rattle.fax_dest.specs.Line.{at_byte, at_blank, is_skipped, is_nothing, value_of, inside_quotes, number_in};
 
 use crate::fault::FileKind;
-use fax_job::read_number;
-
-/// The first line, and what follows its LF.
-pub(crate) fn cut_line(text: &str) -> (&str, &str)
-    requires { 0 < length text.now }
-    ensures lines { lines text.now ≡ result.0.now ∷ lines result.1.now }
-    ensures shorter { length result.1.now < length text.now }
-{
-    match text.split_once('\n') {
-        Some(parts) => parts,
-        None => (text, ""),
-    }
-}
+use fax_job::{before_blanks, begins_with_blank, is_of_blanks, read_number, without_blanks};
 
 /// Whether a line has blanks alone, or `#` as its first other character.
 #[tactic(auto, unfolding(crate::specs::Line::is_skipped))]
@@ -40,13 +25,11 @@ fn is_nothing(text: &[u8]) -> bool
     }
 }
 
-pub(crate) fn begins_with_blank(line: &str) -> bool
+/// Whether a line begins with a blank, so that it adds to the rule above it.
+pub(crate) fn is_indented(line: &str) -> bool
     ensures { result ≡ begins_with_blank line.now }
 {
-    match line.as_bytes() {
-        [byte, ..] => is_blank(*byte),
-        [] => false,
-    }
+    begins_with_blank(line.as_bytes())
 }
 
 /// What stands before and behind the first `:`.
@@ -112,67 +95,11 @@ fn inside_quotes(text: &str) -> Option<&str>
     }
 }
 
-fn is_of_blanks(text: &[u8]) -> bool
-    ensures { result ≡ list_all is_blank text.now }
-{
-    text.iter().all(|byte| is_blank(*byte))
-}
-
-fn is_blank(byte: u8) -> bool
-    ensures { result ≡ is_blank byte }
-{
-    byte == b' ' || byte == b'\t'
-}
-
 /// The text without the blanks round it.
 pub(crate) fn trimmed(text: &str) -> &str
     ensures { result.now ≡ trimmed text.now }
 {
     before_blanks(without_blanks(text))
-}
-
-/// The text from its first character on that isn't a blank.
-fn without_blanks(text: &str) -> &str
-    ensures { result.now ≡ without_blanks text.now }
-{
-    let mut rest = text;
-    while let Some(after) = after_blank(rest) {
-        rest = after;
-    }
-    rest
-}
-
-fn after_blank(text: &str) -> Option<&str>
-    ensures some { IfSome result (λ rest. without_blanks text.now ≡ without_blanks rest.now) }
-    ensures none { IfNone result (without_blanks text.now ≡ text.now) }
-    ensures shorter { IfSome result (λ rest. length rest.now < length text.now) }
-{
-    match text.strip_prefix(' ') {
-        Some(rest) => Some(rest),
-        None => text.strip_prefix('\t'),
-    }
-}
-
-/// The text up to its last character that isn't a blank.
-fn before_blanks(text: &str) -> &str
-    ensures { result.now ≡ before_blanks text.now }
-{
-    let mut front = text;
-    while let Some(before) = before_blank(front) {
-        front = before;
-    }
-    front
-}
-
-fn before_blank(text: &str) -> Option<&str>
-    ensures some { IfSome result (λ front. before_blanks text.now ≡ before_blanks front.now) }
-    ensures none { IfNone result (before_blanks text.now ≡ text.now) }
-    ensures shorter { IfSome result (λ front. length front.now < length text.now) }
-{
-    match text.strip_suffix(' ') {
-        Some(front) => Some(front),
-        None => text.strip_suffix('\t'),
-    }
 }
 
 /// The number of 1 to 18 digits that a value writes, within bounds.

@@ -3,6 +3,7 @@
 use crate::fault::FileKind;
 use crate::line::{at_equals, number_in, trimmed, value_of};
 use fax_hours::Hours;
+use fax_job::limits::{MOST_ATTEMPTS, MOST_PAGES};
 use fax_rule::{Notice, Rule};
 use std::alloc::Global;
 
@@ -77,8 +78,12 @@ impl Parameter {
         ensures { Gives is_memory result (parameter_in name value.now) }
     {
         match name {
-            ParameterName::Calls => Ok(Parameter::Calls(number_in(1, 1000, value)? as u16)),
-            ParameterName::Pages => Ok(Parameter::Pages(number_in(1, 9999, value)? as u16)),
+            ParameterName::Calls => Ok(Parameter::Calls(
+                number_in(1, u32::from(MOST_ATTEMPTS), value)? as u16,
+            )),
+            ParameterName::Pages => Ok(Parameter::Pages(
+                number_in(1, u32::from(MOST_PAGES), value)? as u16,
+            )),
             ParameterName::TimeOfDay => Parameter::hours(value),
             ParameterName::RejectNotice => Ok(Parameter::RejectNotice(Parameter::notice(
                 alloc, value,

@@ -2,8 +2,8 @@
 
 ghost use Rattle.std.specs.Prelude.{◌≡◌, Ok, Err, MatchResult};
 ghost use Rattle.std.specs.List.{list_any};
-ghost use Rattle.fax_job.specs.Gives.{Gives};
-ghost use Rattle.fax_job.specs.Value.{is_blank};
+ghost use Rattle.fax_job.specs.Gives.{Gives, Tells};
+ghost use Rattle.fax_job.specs.Blank.{is_blank};
 ghost use Rattle.fax_hours.specs.Zone.{IsZoneOf};
 ghost use Rattle.fax_dest.specs.Fault.{is_memory};
 ghost use Rattle.fax_dest.specs.Value.{name_in, is_line_name, is_zone};
@@ -11,7 +11,7 @@ ghost use Rattle.fax_dest.specs.declared.fault.FileKind.TheVariants.{BadZone};
 
 use crate::fault::FileKind;
 use fax_hours::Zone;
-use fax_job::{Call, Name, NameFault};
+use fax_job::{Call, Name, is_blank};
 use std::alloc::Global;
 
 /// What a line of a setup is about.
@@ -73,18 +73,15 @@ pub(crate) fn is_line_name(name: &[u8]) -> bool
 fn has_blank(text: &[u8]) -> bool
     ensures { result ≡ list_any is_blank text.now }
 {
-    text.iter().any(|byte| *byte == b' ' || *byte == b'\t')
+    text.iter().any(|byte| is_blank(*byte))
 }
 
 /// The name of a modem or of a class.
 pub(crate) fn name_of(alloc: Global, value: &str) -> Result<Name, FileKind>
-    ensures { Gives is_memory result (name_in value.now) }
+    ensures read { Gives is_memory result (name_in value.now) }
+    ensures told { Tells result (name_in value.now) }
 {
-    match Name::read(alloc, value) {
-        Ok(name) => Ok(name),
-        Err(NameFault::BadName) => Err(FileKind::BadValue),
-        Err(NameFault::NoMemory) => Err(FileKind::NoMemory),
-    }
+    Ok(Name::read(alloc, value)?)
 }
 
 /// The zone of a POSIX TZ rule.

@@ -1,14 +1,16 @@
 //! The setup of modems.
 
 ghost use Rattle.std.specs.Prelude.{◌≤◌};
+ghost use Rattle.fax_job.specs.Limits.{last_grant, last_job, longest_delay};
 ghost use Rattle.fax_dest.specs.Pattern.{IsPlain};
 
 use crate::fault::{FileFault, FileKind};
-use crate::line::{at_colon, cut_line, is_skipped, number_in, value_of};
+use crate::line::{at_colon, is_skipped, number_in, value_of};
 use crate::pattern::{is_found, pattern};
 use crate::setting::{SettingName, is_line_name, name_of, zone_of};
 use fax_hours::Zone;
-use fax_job::{Call, Name};
+use fax_job::limits::{LAST_GRANT, LAST_JOB, LONGEST_DELAY};
+use fax_job::{Call, Name, cut_line};
 use regex::Regex;
 use std::alloc::{AllocError, Global};
 
@@ -26,8 +28,8 @@ pub struct Setup {
     max_jobs: u32,
     max_grants: u32,
     zone: Zone,
-    ghost short_delays: { (busy ≤ 86400) × (no_answer ≤ 86400) × (no_carrier ≤ 86400) × (other ≤ 86400) × (proto ≤ 86400) },
-    ghost small_numbers: { (1 ≤ max_jobs) × (max_jobs ≤ 999999) × (1 ≤ max_grants) × (max_grants ≤ 999999999) },
+    ghost short_delays: { (busy ≤ longest_delay) × (no_answer ≤ longest_delay) × (no_carrier ≤ longest_delay) × (other ≤ longest_delay) × (proto ≤ longest_delay) },
+    ghost small_numbers: { (1 ≤ max_jobs) × (max_jobs ≤ last_job) × (1 ≤ max_grants) × (max_grants ≤ last_grant) },
 }
 
 /// A name for the modems in whose names a pattern is found.
@@ -135,8 +137,8 @@ impl Setup {
             no_carrier: 300,
             other: 300,
             proto: 60,
-            max_jobs: 999_999,
-            max_grants: 999_999_999,
+            max_jobs: LAST_JOB,
+            max_grants: LAST_GRANT,
             zone: Zone::utc(),
         }
     }
@@ -167,9 +169,9 @@ impl Setup {
         match name {
             SettingName::Modem => self.modems.push(name_of(alloc, value)?)?,
             SettingName::ModemClass => self.classes.push(Class::read(alloc, value)?)?,
-            SettingName::Delay(call) => self.set_delay(call, number_in(0, 86400, value)?),
-            SettingName::MaxJobs => self.max_jobs = number_in(1, 999_999, value)?,
-            SettingName::MaxGrants => self.max_grants = number_in(1, 999_999_999, value)?,
+            SettingName::Delay(call) => self.set_delay(call, number_in(0, LONGEST_DELAY, value)?),
+            SettingName::MaxJobs => self.max_jobs = number_in(1, LAST_JOB, value)?,
+            SettingName::MaxGrants => self.max_grants = number_in(1, LAST_GRANT, value)?,
             SettingName::TimeZone => self.zone = zone_of(value)?,
             SettingName::Another => {}
         }
@@ -177,7 +179,7 @@ impl Setup {
     }
 
     fn set_delay(&mut self, call: Call, seconds: u32)
-        requires { seconds ≤ 86400 }
+        requires { seconds ≤ longest_delay }
         ensures { IsDelaySet call seconds self.old self.new }
     {
         match call {
@@ -211,7 +213,7 @@ impl Setup {
     /// Seconds to wait after a call that went so, or after none.
     pub fn delay(&self, call: Option<Call>) -> u64
         ensures seconds { result ≡ delay_of self.now call }
-        ensures bound { result ≤ 86400 }
+        ensures bound { result ≤ longest_delay }
     {
         u64::from(match call {
             Some(Call::Connected) => self.proto,
@@ -225,7 +227,7 @@ impl Setup {
     /// The greatest number of a job.
     pub fn max_jobs(&self) -> u32
         ensures number { result ≡ self.now.max_jobs }
-        ensures bounds { (1 ≤ result) × (result ≤ 999999) }
+        ensures bounds { (1 ≤ result) × (result ≤ last_job) }
     {
         self.max_jobs
     }
@@ -233,7 +235,7 @@ impl Setup {
     /// The greatest number of a grant.
     pub fn max_grants(&self) -> u32
         ensures number { result ≡ self.now.max_grants }
-        ensures bounds { (1 ≤ result) × (result ≤ 999999999) }
+        ensures bounds { (1 ≤ result) × (result ≤ last_grant) }
     {
         self.max_grants
     }

@@ -1,8 +1,9 @@
 -- Items of hours: days, and a range of minutes on each of them.
-use Rattle.std.specs.Prelude.{ℕ, Bool, ◌==◌, ◌||◌, ◌&&◌, List, [], ◌∷◌, length, take, drop, reverse, Option, Some, None, Result, Ok, Err, if◌then◌else◌}
+use Rattle.std.specs.Prelude.{ℕ, Bool, ◌==◌, ◌&&◌, List, length, take, drop, Option, Some, None, Result, Ok, Err, if◌then◌else◌}
 use Rattle.std.specs.Char.{is_ascii_alphabetic}
 use Rattle.std.specs.List.{prefix_len}
 use Rattle.std.specs.Int.{bit_at}
+use Rattle.fax_job.specs.Blank.{trimmed}
 use Rattle.fax_hours.specs.Days.{days_of}
 use Rattle.fax_hours.specs.Range.{range_of, has_minute}
 use Rattle.fax_hours.specs.declared.hours.HoursFault.{HoursFault}
@@ -19,21 +20,6 @@ abbrev pub covers : ℕ → ℕ → Item → Bool
 covers day minute item = has_day item.days day && has_minute item.range minute
 
 -- ---- from texts
-
--- a space or a tab
-abbrev pub is_blank : ℕ → Bool
-is_blank byte = (byte == 32) || (byte == 9)
-
-abbrev pub without_blanks : List ℕ → List ℕ
-without_blanks [] = []
-without_blanks (byte ∷ bytes) = if is_blank byte then without_blanks bytes else byte ∷ bytes
-
--- what stands before the blanks at the end
-unfoldable pub before_blanks : List ℕ → List ℕ
-before_blanks text = reverse (without_blanks (reverse text))
-
-abbrev pub trimmed : List ℕ → List ℕ
-trimmed text = before_blanks (without_blanks text)
 
 -- how many letters a text begins with
 abbrev pub letter_count : List ℕ → ℕ

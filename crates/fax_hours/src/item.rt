@@ -1,11 +1,13 @@
 //! Items of hours: days, and a range of minutes on each of them.
 
 ghost use Rattle.std.specs.Prelude.{◌≡◌};
-ghost use Rattle.fax_hours.specs.Item.{item_of, without_blanks, letter_count, range_or_all, before_blanks, is_blank};
+ghost use Rattle.fax_hours.specs.Item.{item_of, letter_count, range_or_all};
+ghost use Rattle.fax_job.specs.Blank.{without_blanks, before_blanks};
 
 use crate::days::days_of;
 use crate::hours::HoursFault;
 use crate::range::{Range, range_of};
+use fax_job::is_blank;
 
 /// Days, with bit d for day d, and the minutes on each of them.
 #[derive(Clone, Copy, Debug)]
@@ -75,7 +77,7 @@ fn without_blanks(text: &[u8]) -> &[u8]
 }
 
 /// The text up to its last byte that isn't a blank.
-#[tactic(auto, unfolding(crate::specs::Item::before_blanks))]
+#[tactic(auto, unfolding(fax_job::specs::Blank::before_blanks))]
 fn before_blanks(text: &[u8]) -> &[u8]
     ensures { result.now ≡ before_blanks text.now }
 {
@@ -86,10 +88,4 @@ fn before_blanks(text: &[u8]) -> &[u8]
         front = before;
     }
     front
-}
-
-fn is_blank(byte: u8) -> bool
-    ensures { result ≡ is_blank byte }
-{
-    byte == b' ' || byte == b'\t'
 }

@@ -1,11 +1,12 @@
 -- The moment of a message, by what it says of it.
 use Rattle.std.specs.Prelude.{ℕ, List, Option, Some, None, min}
+use Rattle.fax_job.specs.Limits.{last_moment}
 use Rattle.fax_job.specs.Number.{number_of}
 
 -- the moment of that many seconds, the last there is where they are more; or the last answer
 abbrev pub said_or : ℕ → Option ℕ → ℕ
 said_or last None = last
-said_or last (Some seconds) = min seconds 4102444800
+said_or last (Some seconds) = min seconds last_moment
 
 -- what the bytes say, or the last answer where they write no number
 abbrev pub moment_said : ℕ → List ℕ → ℕ

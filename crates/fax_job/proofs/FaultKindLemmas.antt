@@ -1,39 +1,18 @@
 -- Only want of memory excuses a call: no other fault of any kind counts as that.
 use Rattle.std.proofs.Common.{◌≡◌, true, refl}
-use Rattle.fax_job.specs.Dial as dial
-use Rattle.fax_job.specs.JobTag as tag
-use Rattle.fax_job.specs.Name as name
 use Rattle.fax_job.specs.Order as order
 use Rattle.fax_job.specs.Reading as reading
-use Rattle.fax_job.specs.Status as status
-use Rattle.fax_job.specs.declared.dial.DialFault.{DialFault}
-use Rattle.fax_job.specs.declared.dial.DialFault.TheVariants as dial_fault
-use Rattle.fax_job.specs.declared.job_tag.JobTagFault.{JobTagFault}
-use Rattle.fax_job.specs.declared.job_tag.JobTagFault.TheVariants as tag_fault
+use Rattle.fax_job.specs.TextFault as text
+use Rattle.fax_job.specs.declared.text_fault.TextFault.{TextFault}
+use Rattle.fax_job.specs.declared.text_fault.TextFault.TheVariants as text_fault
 use Rattle.fax_job.specs.declared.lines.LineKind.{LineKind}
 use Rattle.fax_job.specs.declared.lines.LineKind.TheVariants as kind
-use Rattle.fax_job.specs.declared.name.NameFault.{NameFault}
-use Rattle.fax_job.specs.declared.name.NameFault.TheVariants as name_fault
 use Rattle.fax_job.specs.declared.order.OrderFault.{OrderFault}
 use Rattle.fax_job.specs.declared.order.OrderFault.TheVariants as order_fault
-use Rattle.fax_job.specs.declared.status.StatusFault.{StatusFault}
-use Rattle.fax_job.specs.declared.status.StatusFault.TheVariants as status_fault
 
-pub memory_of_dial : (fault : DialFault) → dial.is_no_memory fault ≡ true → fault ≡ dial_fault.NoMemory
-memory_of_dial dial_fault.NoMemory h = refl
-memory_of_dial dial_fault.BadDial h = cc
-
-pub memory_of_job_tag : (fault : JobTagFault) → tag.is_no_memory fault ≡ true → fault ≡ tag_fault.NoMemory
-memory_of_job_tag tag_fault.NoMemory h = refl
-memory_of_job_tag tag_fault.BadJobTag h = cc
-
-pub memory_of_name : (fault : NameFault) → name.is_no_memory fault ≡ true → fault ≡ name_fault.NoMemory
-memory_of_name name_fault.NoMemory h = refl
-memory_of_name name_fault.BadName h = cc
-
-pub memory_of_status : (fault : StatusFault) → status.is_no_memory fault ≡ true → fault ≡ status_fault.NoMemory
-memory_of_status status_fault.NoMemory h = refl
-memory_of_status status_fault.BadStatus h = cc
+pub memory_of_text : (fault : TextFault) → text.is_no_memory fault ≡ true → fault ≡ text_fault.NoMemory
+memory_of_text text_fault.NoMemory h = refl
+memory_of_text text_fault.Bad h = cc
 
 pub memory_of_line : (fault : LineKind) → reading.is_memory fault ≡ true → fault ≡ kind.NoMemory
 memory_of_line kind.NoMemory h = refl

@@ -7,12 +7,13 @@ use Rattle.std.proofs.lemmas.Bool.{and_parts}
 use Rattle.fax_job.specs.declared.job.JobFields.{JobFields}
 use Rattle.fax_job.specs.Job.{is_lawful, is_lawful_killtime, are_lawful_pages, are_lawful_tries, are_lawful_dials}
 use Rattle.fax_job.specs.JobLines.{order_lines, counter_lines, state_lines, job_lines}
+use Rattle.fax_job.specs.Limits.{last_job, last_next}
 use Rattle.fax_job.specs.Pair.{pair, IsPair, is_once, are_unknown, ArePairs}
 use Rattle.fax_job.specs.Tag.{is_known}
 use Rattle.fax_job.proofs.PairLemmas.{each_append, once_append}
 
 pub unknown_of_lawful : (job : JobFields) → is_lawful job ≡ true → are_unknown job.extra ≡ true
-unknown_of_lawful job h = (and_parts (leb 1 job.job && leb job.job 999999 && is_lawful_killtime job.killtime && are_lawful_pages job && are_lawful_tries job && are_lawful_dials job && leb job.next 4102531200) (are_unknown job.extra) h).1
+unknown_of_lawful job h = (and_parts (leb 1 job.job && leb job.job last_job && is_lawful_killtime job.killtime && are_lawful_pages job && are_lawful_tries job && are_lawful_dials job && leb job.next last_next) (are_unknown job.extra) h).1
 
 known_once : (job : JobFields) (state : ℕ) → is_once (order_lines job ++ counter_lines job ++ state_lines state job.status) ≡ true
 unfolding is_known

@@ -2,6 +2,7 @@ pub mod NumberLemmas
 pub mod ValueLemmas
 pub mod DialLemmas
 pub mod LineLemmas
+pub mod BlankLemmas
 pub mod PairLemmas
 pub mod StatusLemmas
 pub mod ReadLemmas

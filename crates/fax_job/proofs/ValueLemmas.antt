@@ -15,7 +15,8 @@ use Rattle.fax_job.specs.JobTag.{is_job_tag}
 use Rattle.fax_job.specs.Name.{is_name_byte, is_name}
 use Rattle.fax_job.specs.Pair.{pair, IsPair, begins_with_hash}
 use Rattle.fax_job.specs.Tag.{is_tag}
-use Rattle.fax_job.specs.Value.{begins_with_blank, ends_with_backslash, is_plain_byte, is_plain, is_value, is_status}
+use Rattle.fax_job.specs.Value.{ends_with_backslash, is_plain_byte, is_plain, is_value, is_status}
+use Rattle.fax_job.specs.Blank.{begins_with_blank}
 
 pub ends_with_backslash_last : (bs : List ℕ) → ends_with_backslash bs ≡ eqb (get_or bs (length bs - 1) 0) 92
 ends_with_backslash_last [] = refl

@@ -1,9 +1,9 @@
 -- Numbers to dial.
-use Rattle.std.specs.Prelude.{ℕ, Bool, IsTrue, true, false, not, ◌&&◌, ◌||◌, ◌==◌, List, [], ◌∷◌, length, filter, nat_le, Result, Ok, Err, if◌then◌else◌}
+use Rattle.std.specs.Prelude.{ℕ, Bool, IsTrue, not, ◌&&◌, ◌||◌, ◌==◌, List, [], ◌∷◌, length, filter, nat_le, Result, Ok, Err, if◌then◌else◌}
 use Rattle.std.specs.Char.{is_ascii_digit}
 use Rattle.std.specs.List.{list_all}
-use Rattle.fax_job.specs.declared.dial.DialFault.{DialFault}
-use Rattle.fax_job.specs.declared.dial.DialFault.TheVariants.{BadDial, NoMemory}
+use Rattle.fax_job.specs.declared.text_fault.TextFault.{TextFault}
+use Rattle.fax_job.specs.declared.text_fault.TextFault.TheVariants.{Bad}
 
 -- a space, `-`, `.`, `(` or `)`
 abbrev pub is_separator : ℕ → Bool
@@ -31,9 +31,5 @@ abbrev pub without_separators : List ℕ → List ℕ
 without_separators text = filter (λ byte. not (is_separator byte)) text
 
 -- the canonical number that a text spells
-abbrev pub dial_of : List ℕ → Result (List ℕ) DialFault
-dial_of text = if is_canonical (without_separators text) then Ok (without_separators text) else Err BadDial
-
-abbrev pub is_no_memory : DialFault → Bool
-is_no_memory NoMemory = true
-is_no_memory BadDial = false
+abbrev pub dial_of : List ℕ → Result (List ℕ) TextFault
+dial_of text = if is_canonical (without_separators text) then Ok (without_separators text) else Err Bad

@@ -1,8 +1,8 @@
 -- Tags that clients give their jobs.
-use Rattle.std.specs.Prelude.{ℕ, Bool, IsTrue, true, false, ◌&&◌, List, length, nat_le, Result, Ok, Err, if◌then◌else◌}
+use Rattle.std.specs.Prelude.{ℕ, Bool, IsTrue, ◌&&◌, List, length, nat_le, Result, Ok, Err, if◌then◌else◌}
 use Rattle.fax_job.specs.Value.{is_value}
-use Rattle.fax_job.specs.declared.job_tag.JobTagFault.{JobTagFault}
-use Rattle.fax_job.specs.declared.job_tag.JobTagFault.TheVariants.{BadJobTag, NoMemory}
+use Rattle.fax_job.specs.declared.text_fault.TextFault.{TextFault}
+use Rattle.fax_job.specs.declared.text_fault.TextFault.TheVariants.{Bad}
 
 abbrev pub is_job_tag : List ℕ → Bool
 is_job_tag text = nat_le (length text) 200 && is_value text
@@ -10,9 +10,5 @@ is_job_tag text = nat_le (length text) 200 && is_value text
 abbrev pub IsJobTag : List ℕ → Type 0
 IsJobTag text = IsTrue (is_job_tag text)
 
-abbrev pub job_tag_of : List ℕ → Result (List ℕ) JobTagFault
-job_tag_of text = if is_job_tag text then Ok text else Err BadJobTag
-
-abbrev pub is_no_memory : JobTagFault → Bool
-is_no_memory NoMemory = true
-is_no_memory BadJobTag = false
+abbrev pub job_tag_of : List ℕ → Result (List ℕ) TextFault
+job_tag_of text = if is_job_tag text then Ok text else Err Bad

@@ -1,4 +1,7 @@
+pub mod Limits
 pub mod Gives
+pub mod TextFault
+pub mod Blank
 pub mod Number
 pub mod Name
 pub mod Dial

@@ -1,9 +1,9 @@
 -- Names of modems, of classes of modems and of clients.
-use Rattle.std.specs.Prelude.{ℕ, Bool, IsTrue, true, false, ◌&&◌, ◌||◌, ◌==◌, List, length, nat_le, Result, Ok, Err, if◌then◌else◌}
+use Rattle.std.specs.Prelude.{ℕ, Bool, IsTrue, ◌&&◌, ◌||◌, ◌==◌, List, length, nat_le, Result, Ok, Err, if◌then◌else◌}
 use Rattle.std.specs.Char.{is_ascii_alphanumeric}
 use Rattle.std.specs.List.{list_all}
-use Rattle.fax_job.specs.declared.name.NameFault.{NameFault}
-use Rattle.fax_job.specs.declared.name.NameFault.TheVariants.{BadName, NoMemory}
+use Rattle.fax_job.specs.declared.text_fault.TextFault.{TextFault}
+use Rattle.fax_job.specs.declared.text_fault.TextFault.TheVariants.{Bad}
 
 -- a letter, a digit, `.`, `_` or `-`
 abbrev pub is_name_byte : ℕ → Bool
@@ -15,9 +15,5 @@ is_name text = nat_le 1 (length text) && nat_le (length text) 32 && list_all is_
 abbrev pub IsName : List ℕ → Type 0
 IsName text = IsTrue (is_name text)
 
-abbrev pub name_of : List ℕ → Result (List ℕ) NameFault
-name_of text = if is_name text then Ok text else Err BadName
-
-abbrev pub is_no_memory : NameFault → Bool
-is_no_memory NoMemory = true
-is_no_memory BadName = false
+abbrev pub name_of : List ℕ → Result (List ℕ) TextFault
+name_of text = if is_name text then Ok text else Err Bad

@@ -3,9 +3,12 @@ use Rattle.std.specs.Prelude.{ℕ, Bool, true, false, ◌==◌, List, length, co
 use Rattle.std.specs.Option.{option_map, ok_or}
 use Rattle.fax_job.specs.declared.order.Order.{Order}
 use Rattle.fax_job.specs.declared.order.OrderFault.{OrderFault}
+use Rattle.fax_job.specs.declared.text_fault.TextFault.{TextFault}
+use Rattle.fax_job.specs.declared.text_fault.TextFault.TheVariants as text
 use Rattle.fax_job.specs.declared.order.OrderFault.TheVariants.{NoNumber, BadDial, BadModem, BadJobtag, BadTts, BadKilltime, BadPriority, NoPages, BadPages, BadMaxtries, BadMaxdials, NotAlterable, NoMemory}
 use Rattle.fax_job.specs.Dial.{is_canonical, without_separators}
 use Rattle.fax_job.specs.JobTag.{is_job_tag}
+use Rattle.fax_job.specs.Limits.{last_moment, most_attempts, most_pages}
 use Rattle.fax_job.specs.Name.{is_name}
 use Rattle.fax_job.specs.Number.{number_of}
 use Rattle.fax_job.specs.Pair.{Pair, value_of, extra_of}
@@ -24,6 +27,11 @@ is_no_memory BadPages = false
 is_no_memory BadMaxtries = false
 is_no_memory BadMaxdials = false
 is_no_memory NotAlterable = false
+
+-- a bad text is this fault, and want of memory stays what it is
+abbrev pub fault_of : OrderFault → TextFault → OrderFault
+fault_of bad text.Bad = bad
+fault_of bad text.NoMemory = NoMemory
 
 -- the number that a value writes, up to the greatest
 unfoldable pub number_within : List ℕ → ℕ → Option ℕ
@@ -50,7 +58,7 @@ jobtag_in value = if is_job_tag value then Ok value else Err BadJobtag
 unfoldable pub moment_in : List ℕ → Option (Option ℕ)
 moment_in value =
     if length value == 0 then Some None
-    else option_map (λ seconds. if seconds == 0 then None else Some seconds) (number_within value 4102444800)
+    else option_map (λ seconds. if seconds == 0 then None else Some seconds) (number_within value last_moment)
 
 unfoldable pub tts_in : List ℕ → Result (Option ℕ) OrderFault
 tts_in value = ok_or (moment_in value) BadTts
@@ -66,13 +74,13 @@ pages None = Err BadPages
 pages (Some number) = if number == 0 then Err NoPages else Ok number
 
 unfoldable pub totpages_in : List ℕ → Result ℕ OrderFault
-totpages_in value = if length value == 0 then Err NoPages else pages (number_within value 9999)
+totpages_in value = if length value == 0 then Err NoPages else pages (number_within value most_pages)
 
 -- 0 is none
 unfoldable pub limit_in : List ℕ → ℕ → Option ℕ
 limit_in value default =
     if length value == 0 then Some default
-    else option_map (λ limit. if limit == 0 then default else limit) (number_within value 1000)
+    else option_map (λ limit. if limit == 0 then default else limit) (number_within value most_attempts)
 
 unfoldable pub maxtries_in : List ℕ → Result ℕ OrderFault
 maxtries_in value = ok_or (limit_in value 3) BadMaxtries

@@ -9,7 +9,8 @@ use Rattle.fax_job.specs.declared.lines.LineKind.{LineKind}
 use Rattle.fax_job.specs.declared.lines.LineKind.TheVariants.{NotText, NoColon, BadTag, Twice, BadValue, OpenEnd, NoMemory}
 use Rattle.fax_job.specs.Pair.{Pair, pair, begins_with_hash, has_tag}
 use Rattle.fax_job.specs.Tag.{is_tag, is_known}
-use Rattle.fax_job.specs.Value.{is_blank, begins_with_blank, ends_with_backslash, is_plain, is_status_byte}
+use Rattle.fax_job.specs.Value.{ends_with_backslash, is_plain, is_status_byte}
+use Rattle.fax_job.specs.Blank.{is_blank, begins_with_blank, without_blanks}
 
 -- ---- lines
 
@@ -25,10 +26,6 @@ lines (byte ∷ bytes) = if byte == 10 then [] ∷ lines bytes else onto byte (l
 -- blanks alone, or a comment
 abbrev pub is_skipped : List ℕ → Bool
 is_skipped line = begins_with_hash line || list_all is_blank line
-
-abbrev pub without_blanks : List ℕ → List ℕ
-without_blanks [] = []
-without_blanks (byte ∷ bytes) = if is_blank byte then without_blanks bytes else byte ∷ bytes
 
 -- what stands before and behind the first `:`
 abbrev pub at_colon : List ℕ → Option (List ℕ × List ℕ)

@@ -1,11 +1,11 @@
 -- The texts of statuses.
-use Rattle.std.specs.Prelude.{ℕ, Bool, true, false, List, [], codes, Result, Ok, Err, if◌then◌else◌}
+use Rattle.std.specs.Prelude.{ℕ, List, [], codes, Result, Ok, Err, if◌then◌else◌}
 use Rattle.std.specs.String.{string_bytes}
 use Rattle.fax_job.specs.Value.{is_status}
 use Rattle.fax_job.specs.declared.status.StatusText.{StatusText}
 use Rattle.fax_job.specs.declared.status.StatusText.TheVariants.{Empty, Killed, KillTimeExpired, TooManyDials, TooManyTries, UnableToTransmit, Given}
-use Rattle.fax_job.specs.declared.status.StatusFault.{StatusFault}
-use Rattle.fax_job.specs.declared.status.StatusFault.TheVariants.{BadStatus, NoMemory}
+use Rattle.fax_job.specs.declared.text_fault.TextFault.{TextFault}
+use Rattle.fax_job.specs.declared.text_fault.TextFault.TheVariants.{Bad}
 
 abbrev pub killed : List ℕ
 killed = codes "Killed"
@@ -31,9 +31,5 @@ text_of TooManyTries = too_many_tries
 text_of UnableToTransmit = unable_to_transmit
 text_of (Given text) = string_bytes text
 
-abbrev pub status_of : List ℕ → Result (List ℕ) StatusFault
-status_of text = if is_status text then Ok text else Err BadStatus
-
-abbrev pub is_no_memory : StatusFault → Bool
-is_no_memory NoMemory = true
-is_no_memory BadStatus = false
+abbrev pub status_of : List ℕ → Result (List ℕ) TextFault
+status_of text = if is_status text then Ok text else Err Bad

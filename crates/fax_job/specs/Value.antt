@@ -1,14 +1,7 @@
 -- Values of key lines, by their bytes.
 use Rattle.std.specs.Prelude.{ℕ, Bool, IsTrue, false, not, ◌&&◌, ◌||◌, ◌==◌, List, [], ◌∷◌, nat_le}
 use Rattle.std.specs.List.{list_all}
-
--- a space or a tab
-abbrev pub is_blank : ℕ → Bool
-is_blank byte = (byte == 32) || (byte == 9)
-
-abbrev pub begins_with_blank : List ℕ → Bool
-begins_with_blank [] = false
-begins_with_blank (byte ∷ bytes) = is_blank byte
+use Rattle.fax_job.specs.Blank.{begins_with_blank}
 
 abbrev pub ends_with_backslash : List ℕ → Bool
 ends_with_backslash [] = false

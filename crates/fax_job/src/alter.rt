@@ -102,7 +102,7 @@ impl Lines {
     }
 
     fn new_tts(&self) -> Result<Option<Option<Moment>>, OrderFault>
-        ensures { Gives is_no_memory result (if_there tts_in (value_of (codes "tts") self.now)) }
+        ensures { result ≡ if_there tts_in (value_of (codes "tts") self.now) }
     {
         match self.get("tts") {
             Some(value) => Ok(Some(tts_of(value)?)),
@@ -111,7 +111,7 @@ impl Lines {
     }
 
     fn new_killtime(&self) -> Result<Option<Option<Moment>>, OrderFault>
-        ensures { Gives is_no_memory result (if_there killtime_in (value_of (codes "killtime") self.now)) }
+        ensures { result ≡ if_there killtime_in (value_of (codes "killtime") self.now) }
     {
         match self.get("killtime") {
             Some(value) => Ok(Some(killtime_of(value)?)),
@@ -120,7 +120,7 @@ impl Lines {
     }
 
     fn new_priority(&self) -> Result<Option<u8>, OrderFault>
-        ensures { Gives is_no_memory result (if_there priority_in (value_of (codes "priority") self.now)) }
+        ensures { result ≡ if_there priority_in (value_of (codes "priority") self.now) }
     {
         match self.get("priority") {
             Some(value) => Ok(Some(priority_of(value)?)),
@@ -129,7 +129,7 @@ impl Lines {
     }
 
     fn new_maxtries(&self) -> Result<Option<u16>, OrderFault>
-        ensures { Gives is_no_memory result (if_there maxtries_in (value_of (codes "maxtries") self.now)) }
+        ensures { result ≡ if_there maxtries_in (value_of (codes "maxtries") self.now) }
     {
         match self.get("maxtries") {
             Some(value) => Ok(Some(maxtries_of(value)?)),
@@ -138,7 +138,7 @@ impl Lines {
     }
 
     fn new_maxdials(&self) -> Result<Option<u16>, OrderFault>
-        ensures { Gives is_no_memory result (if_there maxdials_in (value_of (codes "maxdials") self.now)) }
+        ensures { result ≡ if_there maxdials_in (value_of (codes "maxdials") self.now) }
     {
         match self.get("maxdials") {
             Some(value) => Ok(Some(maxdials_of(value)?)),

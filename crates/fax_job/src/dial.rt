@@ -4,12 +4,12 @@ ghost use Rattle.std.specs.Prelude.{◌≡◌, ℕ, List, IfOk};
 ghost use Rattle.std.specs.List.{list_all};
 ghost use Rattle.std.specs.String.{string_bytes};
 ghost use Rattle.fax_job.specs.Gives.{Gives};
-ghost use Rattle.fax_job.specs.Dial.{is_separator, is_key, are_keys, is_canonical, IsCanonical, without_separators, dial_of, is_no_memory};
-ghost use Rattle.fax_job.specs.declared.dial.DialFault.TheVariants.{NoMemory};
+ghost use Rattle.fax_job.specs.TextFault.{is_no_memory};
+ghost use Rattle.fax_job.specs.Dial.{is_separator, is_key, are_keys, is_canonical, IsCanonical, without_separators, dial_of};
 
+use crate::text_fault::TextFault;
 use std::alloc::{AllocError, Global};
 use std::marker::Model;
-use thiserror::Error;
 
 /// A number to dial in its canonical form: `+` or nothing, then 1 to 32 of the keys `0` to `9`, `*`
 /// and `#`.
@@ -27,21 +27,7 @@ impl Model for Dial {
 }
 
 /// Why a text gave no number to dial.
-#[derive(Clone, Copy, Debug, PartialEq, Eq, Error)]
-pub enum DialFault {
-    #[error("not a number to dial")]
-    BadDial,
-    #[error("out of memory")]
-    NoMemory,
-}
-
-impl From<AllocError> for DialFault {
-    ghost from_gives = { λ _ fault. fault ≡ NoMemory };
-
-    fn from(_error: AllocError) -> DialFault {
-        DialFault::NoMemory
-    }
-}
+pub type DialFault = TextFault;
 
 impl Dial {
     /// The number that a text spells. Spaces, `-`, `.`, `(` and `)` are taken out of it; what remains
@@ -51,7 +37,7 @@ impl Dial {
     {
         let kept = without_separators(alloc, text.as_bytes())?;
         if !is_canonical(&kept) {
-            return Err(DialFault::BadDial);
+            return Err(DialFault::Bad);
         }
         let text = String::from_utf8(kept).unwrap();
         Ok(Dial { text })

@@ -10,6 +10,7 @@ ghost use Rattle.fax_job.specs.Pair.{pair, IsPair, are_unknown};
 
 use crate::dial::Dial;
 use crate::job_tag::JobTag;
+use crate::limits::{LAST_JOB, LAST_NEXT, MOST_ATTEMPTS, MOST_PAGES};
 use crate::lines::{Line, Lines};
 use crate::moment::Moment;
 use crate::name::Name;
@@ -110,19 +111,19 @@ impl JobFields {
         ensures { result ≡ is_lawful self.now }
     {
         1 <= self.job
-            && self.job <= 999_999
+            && self.job <= LAST_JOB
             && is_lawful_killtime(self.killtime)
             && self.are_lawful_pages()
             && self.are_lawful_tries()
             && self.are_lawful_dials()
-            && self.next <= 4_102_531_200
+            && self.next <= LAST_NEXT
             && has_unknown_tags(&self.extra)
     }
 
     fn are_lawful_pages(&self) -> bool
         ensures { result ≡ are_lawful_pages self.now }
     {
-        self.npages <= self.totpages && 1 <= self.totpages && self.totpages <= 9999
+        self.npages <= self.totpages && 1 <= self.totpages && self.totpages <= MOST_PAGES
     }
 
     fn are_lawful_tries(&self) -> bool
@@ -131,7 +132,7 @@ impl JobFields {
         self.ntries <= self.tottries
             && self.tottries <= self.maxtries
             && 1 <= self.maxtries
-            && self.maxtries <= 1000
+            && self.maxtries <= MOST_ATTEMPTS
     }
 
     fn are_lawful_dials(&self) -> bool
@@ -140,7 +141,7 @@ impl JobFields {
         self.ndials <= self.totdials
             && self.totdials <= self.maxdials
             && 1 <= self.maxdials
-            && self.maxdials <= 1000
+            && self.maxdials <= MOST_ATTEMPTS
     }
 }
 

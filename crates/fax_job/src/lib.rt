@@ -6,9 +6,11 @@
 #![tactic(auto)]
 
 mod alter;
+mod blank;
 mod dial;
 mod job;
 mod job_tag;
+pub mod limits;
 mod lines;
 mod moment;
 mod name;
@@ -19,21 +21,25 @@ mod refusal;
 mod request_number;
 mod status;
 mod tag;
+mod text_fault;
 mod value;
 mod values;
 mod writing;
 
 pub use alter::Alter;
+pub use blank::{before_blanks, begins_with_blank, is_blank, is_of_blanks, without_blanks};
 pub use dial::{Dial, DialFault};
 pub use job::{Call, Job, JobFields, Phase, Wish};
-pub use job_tag::{JobTag, JobTagFault};
+pub use job_tag::JobTag;
 pub use lines::{Line, LineFault, LineKind, Lines};
 pub use moment::Moment;
-pub use name::{Name, NameFault, is_name};
+pub use name::{Name, is_name};
 pub use number::number as read_number;
 pub use order::{Order, OrderFault};
-pub use reading::{one_fault_or_one_list, read_lines};
+pub use reading::{cut_line, one_fault_or_one_list, read_lines};
 pub use refusal::{BodyFault, Refusal};
 pub use request_number::RequestNumber;
-pub use status::{Status, StatusFault};
+pub use status::Status;
+pub use text_fault::TextFault;
+pub use value::ends_with_backslash;
 pub use writing::{write_lines, written_is_read};

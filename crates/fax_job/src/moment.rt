@@ -1,11 +1,10 @@
 //! Moments, in whole seconds.
 
 ghost use Rattle.std.specs.Prelude.{◌≡◌, ◌≤◌, ℕ, min, max};
+ghost use Rattle.fax_job.specs.Limits.{last_moment};
 
+use crate::limits::LAST_MOMENT;
 use std::marker::Model;
-
-/// The last moment: 2100-01-01T00:00:00Z.
-const LAST: u64 = 4_102_444_800;
 
 /// A moment in whole seconds since 1970-01-01T00:00:00Z, from 0 to 4102444800.
 #[derive(Clone, Copy, Debug, PartialEq, Eq, PartialOrd, Ord)]
@@ -18,7 +17,7 @@ impl Model for Moment {
 
     ghost view = { λ moment. moment.seconds };
 
-    ghost invariant = { λ moment. moment.seconds ≤ 4102444800 };
+    ghost invariant = { λ moment. moment.seconds ≤ last_moment };
 
     ghost inverse = { λ seconds. record { seconds = seconds } };
 }
@@ -26,17 +25,17 @@ impl Model for Moment {
 impl Moment {
     /// The moment of that many seconds. A greater number counts as 4102444800.
     pub fn new(seconds: u64) -> Moment
-        ensures { result ≡ min seconds 4102444800 }
+        ensures { result ≡ min seconds last_moment }
     {
         Moment {
-            seconds: seconds.min(LAST) as u32,
+            seconds: seconds.min(u64::from(LAST_MOMENT)) as u32,
         }
     }
 
     /// Seconds since 1970-01-01T00:00:00Z.
     pub fn seconds(self) -> u32
         ensures seconds { result ≡ self }
-        ensures bound { result ≤ 4102444800 }
+        ensures bound { result ≤ last_moment }
     {
         self.seconds
     }

@@ -3,13 +3,13 @@
 ghost use Rattle.std.specs.Prelude.{◌≡◌, ◌↔◌, ℕ, List, IsTrue};
 ghost use Rattle.std.specs.List.{list_all};
 ghost use Rattle.std.specs.String.{string_bytes};
-ghost use Rattle.fax_job.specs.Gives.{Gives};
-ghost use Rattle.fax_job.specs.Name.{is_name_byte, is_name, IsName, name_of, is_no_memory};
-ghost use Rattle.fax_job.specs.declared.name.NameFault.TheVariants.{NoMemory};
+ghost use Rattle.fax_job.specs.Gives.{Gives, Tells};
+ghost use Rattle.fax_job.specs.TextFault.{is_no_memory};
+ghost use Rattle.fax_job.specs.Name.{is_name_byte, is_name, IsName, name_of};
 
-use std::alloc::{AllocError, Global};
+use crate::text_fault::TextFault;
+use std::alloc::Global;
 use std::marker::Model;
-use thiserror::Error;
 
 /// Whether a text is a name: 1 to 32 bytes of `A-Za-z0-9._-`.
 pub fn is_name(text: &[u8]) -> bool
@@ -45,30 +45,14 @@ impl Model for Name {
     ghost invariant = { λ name. IsName (string_bytes name.text) };
 }
 
-/// Why a text gave no name.
-#[derive(Clone, Copy, Debug, PartialEq, Eq, Error)]
-pub enum NameFault {
-    #[error("not a name of 1 to 32 letters, digits, `.`, `_` or `-`")]
-    BadName,
-    #[error("out of memory")]
-    NoMemory,
-}
-
-impl From<AllocError> for NameFault {
-    ghost from_gives = { λ _ fault. fault ≡ NoMemory };
-
-    fn from(_error: AllocError) -> NameFault {
-        NameFault::NoMemory
-    }
-}
-
 impl Name {
     /// The name that the text is.
-    pub fn read(alloc: Global, text: &str) -> Result<Name, NameFault>
-        ensures { Gives is_no_memory result (name_of text.now) }
+    pub fn read(alloc: Global, text: &str) -> Result<Name, TextFault>
+        ensures read { Gives is_no_memory result (name_of text.now) }
+        ensures told { Tells result (name_of text.now) }
     {
         if !is_name(text.as_bytes()) {
-            return Err(NameFault::BadName);
+            return Err(TextFault::Bad);
         }
         let text = String::from_str(alloc, text)?;
         Ok(Name { text })

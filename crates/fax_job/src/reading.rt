@@ -1,20 +1,19 @@
 //! Key lines from their text.
 
-ghost use Rattle.std.specs.Prelude.{ℕ, List, IfErr, ◌≡◌, ◌<◌, ◌++◌, ◌∷◌, ◌&&◌, [], true, false, length, codes, Ok, Err, Some, None, IfOk, IfSome, IfNone, MatchResult};
-ghost use Rattle.std.specs.List.{list_all};
-ghost use Rattle.fax_job.specs.Value.{is_blank};
+ghost use Rattle.std.specs.Prelude.{ℕ, List, IfErr, ◌≡◌, ◌<◌, ◌++◌, ◌∷◌, ◌&&◌, [], true, false, length, codes, Ok, Err, Some, None, IfOk, IfSome, MatchResult};
 ghost use Rattle.std.specs.Option.{option_map, option_copied};
 ghost use Rattle.std.specs.String.{string_bytes};
 ghost use Rattle.fax_job.specs.Gives.{Gives, GivesBy};
 ghost use Rattle.fax_job.specs.declared.lines.LineFault.{LineFault};
 ghost use Rattle.fax_job.specs.Spells.{Spells, IsFirstFault};
 ghost use Rattle.fax_job.specs.Pair.{Pair, pair, is_pair, begins_with_hash, has_tag};
-ghost use Rattle.fax_job.specs.Reading.{lines, is_skipped, without_blanks, at_colon, before_backslash, begun_part, is_no_memory, entry_of, taken, begin_step, go_on_step, step, read_on, IsEntry, IsOpen};
+ghost use Rattle.fax_job.specs.Reading.{lines, is_skipped, at_colon, before_backslash, begun_part, is_no_memory, entry_of, taken, begin_step, go_on_step, step, read_on, IsEntry, IsOpen};
 ghost use Rattle.fax_job.specs.Tag.{is_known};
 
+use crate::blank::{is_of_blanks, without_blanks};
 use crate::lines::{Line, LineFault, LineKind, Lines};
 use crate::tag::{is_known, is_tag};
-use crate::value::{is_blank, is_plain};
+use crate::value::is_plain;
 use std::alloc::{AllocError, Global};
 
 /// The lines that a text spells.
@@ -73,7 +72,7 @@ fn read_text(alloc: Global, text: &str) -> Result<Lines, LineFault>
 }
 
 /// The first line, and what follows its LF.
-fn cut_line(text: &str) -> (&str, &str)
+pub fn cut_line(text: &str) -> (&str, &str)
     requires { 0 < length text.now }
     ensures lines { lines text.now ≡ result.0.now ∷ lines result.1.now }
     ensures shorter { length result.1.now < length text.now }
@@ -241,33 +240,5 @@ fn begins_with_hash(line: &[u8]) -> bool
     match line {
         [byte, ..] => *byte == b'#',
         [] => false,
-    }
-}
-
-fn is_of_blanks(line: &[u8]) -> bool
-    ensures { result ≡ list_all is_blank line.now }
-{
-    line.iter().all(|byte| is_blank(*byte))
-}
-
-/// The text from its first character on that isn't a blank.
-fn without_blanks(text: &str) -> &str
-    ensures { result.now ≡ without_blanks text.now }
-{
-    let mut rest = text;
-    while let Some(after) = after_blank(rest) {
-        rest = after;
-    }
-    rest
-}
-
-fn after_blank(text: &str) -> Option<&str>
-    ensures some { IfSome result (λ rest. without_blanks text.now ≡ without_blanks rest.now) }
-    ensures none { IfNone result (without_blanks text.now ≡ text.now) }
-    ensures shorter { IfSome result (λ rest. length rest.now < length text.now) }
-{
-    match text.strip_prefix(' ') {
-        Some(rest) => Some(rest),
-        None => text.strip_prefix('\t'),
     }
 }

@@ -1,14 +1,14 @@
 //! Statuses of jobs.
 
 ghost use Rattle.std.specs.Prelude.{◌≡◌, []};
-ghost use Rattle.fax_job.specs.Gives.{Gives};
+ghost use Rattle.fax_job.specs.Gives.{Gives, Tells};
+ghost use Rattle.fax_job.specs.TextFault.{is_no_memory};
 ghost use Rattle.fax_job.specs.Value.{IsStatus};
-ghost use Rattle.fax_job.specs.declared.status.StatusFault.TheVariants.{NoMemory};
 
+use crate::text_fault::TextFault;
 use crate::value::is_status;
-use std::alloc::{AllocError, Global};
+use std::alloc::Global;
 use std::marker::Model;
-use thiserror::Error;
 
 /// What a job's status line says. The texts that the queue itself gives take no memory.
 #[derive(Debug, Drop)]
@@ -40,25 +40,8 @@ enum StatusText {
     Given(String),
 }
 
-/// Why a text gave no status.
-#[derive(Clone, Copy, Debug, PartialEq, Eq, Error)]
-pub enum StatusFault {
-    #[error("not a status")]
-    BadStatus,
-    #[error("out of memory")]
-    NoMemory,
-}
-
-impl From<AllocError> for StatusFault {
-    ghost from_gives = { λ _ fault. fault ≡ NoMemory };
-
-    fn from(_error: AllocError) -> StatusFault {
-        StatusFault::NoMemory
-    }
-}
-
 impl Status {
-    ghost use Rattle.fax_job.specs.Status.{killed, kill_time_expired, too_many_dials, too_many_tries, unable_to_transmit, status_of, is_no_memory};
+    ghost use Rattle.fax_job.specs.Status.{killed, kill_time_expired, too_many_dials, too_many_tries, unable_to_transmit, status_of};
 
     /// The empty text.
     pub fn empty() -> Status
@@ -116,11 +99,12 @@ impl Status {
 
     /// The status that the text is: no control character but tab and LF, not beginning with a blank,
     /// not ending with `\`.
-    pub fn read(alloc: Global, text: &str) -> Result<Status, StatusFault>
-        ensures { Gives is_no_memory result (status_of text.now) }
+    pub fn read(alloc: Global, text: &str) -> Result<Status, TextFault>
+        ensures read { Gives is_no_memory result (status_of text.now) }
+        ensures told { Tells result (status_of text.now) }
     {
         if !is_status(text.as_bytes()) {
-            return Err(StatusFault::BadStatus);
+            return Err(TextFault::Bad);
         }
         let text = String::from_str(alloc, text)?;
         Ok(Status {

@@ -2,13 +2,9 @@
 
 ghost use Rattle.std.specs.Prelude.{◌≡◌};
 ghost use Rattle.std.specs.List.{list_all};
-ghost use Rattle.fax_job.specs.Value.{is_blank, begins_with_blank, ends_with_backslash, is_plain_byte, is_plain, is_value, is_status_byte, is_status};
+ghost use Rattle.fax_job.specs.Value.{ends_with_backslash, is_plain_byte, is_plain, is_value, is_status_byte, is_status};
 
-pub(crate) fn is_blank(byte: u8) -> bool
-    ensures { result ≡ is_blank byte }
-{
-    byte == b' ' || byte == b'\t'
-}
+use crate::blank::begins_with_blank;
 
 /// Whether no byte is a control character other than a tab.
 pub(crate) fn is_plain(text: &[u8]) -> bool
@@ -31,16 +27,8 @@ pub(crate) fn is_status(text: &[u8]) -> bool
     !begins_with_blank(text) && !ends_with_backslash(text) && is_of_status_bytes(text)
 }
 
-fn begins_with_blank(text: &[u8]) -> bool
-    ensures { result ≡ begins_with_blank text.now }
-{
-    match text {
-        [byte, ..] => is_blank(*byte),
-        [] => false,
-    }
-}
-
-fn ends_with_backslash(text: &[u8]) -> bool
+/// Whether a text ends with `\`.
+pub fn ends_with_backslash(text: &[u8]) -> bool
     ensures { result ≡ ends_with_backslash text.now }
 {
     match text {

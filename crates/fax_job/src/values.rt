@@ -1,22 +1,28 @@
 //! The values of an order, tag by tag. An empty value counts as none.
 
 ghost use Rattle.std.specs.Prelude.{◌≡◌, ◌≤◌, IfSome};
-ghost use Rattle.fax_job.specs.Gives.{Gives};
-ghost use Rattle.fax_job.specs.Order.{is_no_memory, number_within, dial_in, modem_in, jobtag_in, moment_in, tts_in, killtime_in, priority_in, totpages_in, limit_in, maxtries_in, maxdials_in};
+ghost use Rattle.fax_job.specs.Gives.{Gives, Tells};
+ghost use Rattle.fax_job.specs.Order.{is_no_memory, fault_of, number_within, dial_in, modem_in, jobtag_in, moment_in, tts_in, killtime_in, priority_in, totpages_in, limit_in, maxtries_in, maxdials_in};
 
-use crate::dial::{Dial, DialFault};
-use crate::job_tag::{JobTag, JobTagFault};
+use crate::dial::Dial;
+use crate::job_tag::JobTag;
+use crate::limits::{LAST_MOMENT, MOST_ATTEMPTS, MOST_PAGES};
 use crate::moment::Moment;
-use crate::name::{Name, NameFault};
+use crate::name::Name;
 use crate::number::number;
 use crate::order::OrderFault;
+use crate::text_fault::TextFault;
 use std::alloc::Global;
 
-/// The last moment that a line may state.
-const LAST_MOMENT: u64 = 4_102_444_800;
-
-/// The most tries and dials of a job.
-const MOST_ATTEMPTS: u64 = 1000;
+/// The fault of an order whose text is at fault: this one, where the text is bad.
+fn fault_of(bad: OrderFault, fault: TextFault) -> OrderFault
+    ensures { result ≡ fault_of bad fault }
+{
+    match fault {
+        TextFault::Bad => bad,
+        TextFault::NoMemory => OrderFault::NoMemory,
+    }
+}
 
 #[tactic(auto, unfolding(crate::specs::Order::dial_in))]
 pub(crate) fn dial_of(alloc: Global, value: &str) -> Result<Dial, OrderFault>
@@ -27,39 +33,38 @@ pub(crate) fn dial_of(alloc: Global, value: &str) -> Result<Dial, OrderFault>
     }
     match Dial::read(alloc, value) {
         Ok(dial) => Ok(dial),
-        Err(DialFault::BadDial) => Err(OrderFault::BadDial),
-        Err(DialFault::NoMemory) => Err(OrderFault::NoMemory),
+        Err(fault) => Err(fault_of(OrderFault::BadDial, fault)),
     }
 }
 
 /// The modem value; `any` where there is none.
 #[tactic(auto, unfolding(crate::specs::Order::modem_in))]
 pub(crate) fn modem_of(alloc: Global, value: &str) -> Result<Name, OrderFault>
-    ensures { Gives is_no_memory result (modem_in value.now) }
+    ensures read { Gives is_no_memory result (modem_in value.now) }
+    ensures told { Tells result (modem_in value.now) }
 {
     let name = if value.is_empty() { "any" } else { value };
     match Name::read(alloc, name) {
         Ok(name) => Ok(name),
-        Err(NameFault::BadName) => Err(OrderFault::BadModem),
-        Err(NameFault::NoMemory) => Err(OrderFault::NoMemory),
+        Err(fault) => Err(fault_of(OrderFault::BadModem, fault)),
     }
 }
 
 #[tactic(auto, unfolding(crate::specs::Order::jobtag_in))]
 pub(crate) fn jobtag_of(alloc: Global, value: &str) -> Result<JobTag, OrderFault>
-    ensures { Gives is_no_memory result (jobtag_in value.now) }
+    ensures read { Gives is_no_memory result (jobtag_in value.now) }
+    ensures told { Tells result (jobtag_in value.now) }
 {
     match JobTag::read(alloc, value) {
         Ok(tag) => Ok(tag),
-        Err(JobTagFault::BadJobTag) => Err(OrderFault::BadJobtag),
-        Err(JobTagFault::NoMemory) => Err(OrderFault::NoMemory),
+        Err(fault) => Err(fault_of(OrderFault::BadJobtag, fault)),
     }
 }
 
 /// The time to send; none where the value is 0.
 #[tactic(auto, unfolding(crate::specs::Order::tts_in))]
 pub(crate) fn tts_of(value: &str) -> Result<Option<Moment>, OrderFault>
-    ensures { Gives is_no_memory result (tts_in value.now) }
+    ensures { result ≡ tts_in value.now }
 {
     moment_of(value).ok_or(OrderFault::BadTts)
 }
@@ -67,7 +72,7 @@ pub(crate) fn tts_of(value: &str) -> Result<Option<Moment>, OrderFault>
 /// The kill time; none where the value is 0.
 #[tactic(auto, unfolding(crate::specs::Order::killtime_in))]
 pub(crate) fn killtime_of(value: &str) -> Result<Option<Moment>, OrderFault>
-    ensures { Gives is_no_memory result (killtime_in value.now) }
+    ensures { result ≡ killtime_in value.now }
 {
     moment_of(value).ok_or(OrderFault::BadKilltime)
 }
@@ -79,7 +84,7 @@ fn moment_of(value: &str) -> Option<Option<Moment>>
     if value.is_empty() {
         return Some(None);
     }
-    match number_within(value, LAST_MOMENT)? {
+    match number_within(value, u64::from(LAST_MOMENT))? {
         0 => Some(None),
         seconds => Some(Some(Moment::new(seconds))),
     }
@@ -88,7 +93,7 @@ fn moment_of(value: &str) -> Option<Option<Moment>>
 /// The priority, 127 where there is none.
 #[tactic(auto, unfolding(crate::specs::Order::priority_in))]
 pub(crate) fn priority_of(value: &str) -> Result<u8, OrderFault>
-    ensures { Gives is_no_memory result (priority_in value.now) }
+    ensures { result ≡ priority_in value.now }
 {
     if value.is_empty() {
         return Ok(127);
@@ -102,12 +107,12 @@ pub(crate) fn priority_of(value: &str) -> Result<u8, OrderFault>
 /// The number of pages. No job has none.
 #[tactic(auto, unfolding(crate::specs::Order::totpages_in))]
 pub(crate) fn totpages_of(value: &str) -> Result<u16, OrderFault>
-    ensures { Gives is_no_memory result (totpages_in value.now) }
+    ensures { result ≡ totpages_in value.now }
 {
     if value.is_empty() {
         return Err(OrderFault::NoPages);
     }
-    match number_within(value, 9999) {
+    match number_within(value, u64::from(MOST_PAGES)) {
         Some(0) => Err(OrderFault::NoPages),
         Some(pages) => Ok(pages as u16),
         None => Err(OrderFault::BadPages),
@@ -117,7 +122,7 @@ pub(crate) fn totpages_of(value: &str) -> Result<u16, OrderFault>
 /// The most tries of a job, 3 where there is none.
 #[tactic(auto, unfolding(crate::specs::Order::maxtries_in))]
 pub(crate) fn maxtries_of(value: &str) -> Result<u16, OrderFault>
-    ensures { Gives is_no_memory result (maxtries_in value.now) }
+    ensures { result ≡ maxtries_in value.now }
 {
     limit_of(value, 3).ok_or(OrderFault::BadMaxtries)
 }
@@ -125,7 +130,7 @@ pub(crate) fn maxtries_of(value: &str) -> Result<u16, OrderFault>
 /// The most dials of a job, 12 where there is none.
 #[tactic(auto, unfolding(crate::specs::Order::maxdials_in))]
 pub(crate) fn maxdials_of(value: &str) -> Result<u16, OrderFault>
-    ensures { Gives is_no_memory result (maxdials_in value.now) }
+    ensures { result ≡ maxdials_in value.now }
 {
     limit_of(value, 12).ok_or(OrderFault::BadMaxdials)
 }
@@ -138,7 +143,7 @@ fn limit_of(value: &str, default: u16) -> Option<u16>
     if value.is_empty() {
         return Some(default);
     }
-    match number_within(value, MOST_ATTEMPTS)? {
+    match number_within(value, u64::from(MOST_ATTEMPTS))? {
         0 => Some(default),
         limit => Some(limit as u16),
     }

@@ -2,13 +2,14 @@
 use Rattle.std.proofs.Common.{◌≡◌, ℕ, Bool, true, false, List, [], ◌∷◌, Option, Some, None, refl, sym, subst, if◌then◌else◌}
 use Rattle.std.specs.Prelude.{MatchOption, codes, length, option_and_then, ◌==◌}
 use Rattle.std.specs.Str.{bytes_eq}
-use Rattle.fax_core.specs.Ask as machine
+use Rattle.fax_core.specs.declared.ask.Ask.{Ask}
 use Rattle.fax_job.specs.Number.{request_number_of}
 use Rattle.fax_ask.specs.declared.method.Method.{Method}
 use Rattle.fax_ask.specs.declared.method.Method.TheVariants.{Get}
 use Rattle.fax_ask.specs.declared.request.Request.{Request}
 use Rattle.fax_ask.specs.declared.request.Request.TheVariants.{Show}
-use Rattle.fax_ask.specs.Ask.{Asks, IsAsk, Step}
+use Rattle.fax_ask.specs.Ask.{Asks, IsAsk}
+use Rattle.fax_ask.specs.declared.ask.Ask.TheVariants.{Step}
 use Rattle.fax_ask.specs.Path.{parts}
 use Rattle.fax_ask.specs.Request.{grants_request, job_request, jobs_request, modems_request, path_request, request_of, root_request}
 
@@ -50,7 +51,7 @@ unfolding request_of
 get_shows path r e = of_path (parts path) r e
 
 -- so it asks for no step of the queue
-pub no_step : (method : Method) (path body : List ℕ) (ask : machine.Ask) → method ≡ Get → IsAsk method path body (Step ask) → ⊥
+pub no_step : (method : Method) (path body : List ℕ) (ask : Ask) → method ≡ Get → IsAsk method path body (Step ask) → ⊥
 unfolding IsShow
 no_step method path body ask get is = by (request_of Get path) refl (subst (λ (m : Method). MatchOption (request_of m path) ⊥ (λ r. Asks r body (Step ask))) get is)
   where

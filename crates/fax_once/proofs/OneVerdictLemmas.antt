@@ -5,16 +5,21 @@ use Rattle.fax_job.specs.declared.refusal.BodyFault.{BodyFault}
 use Rattle.fax_job.specs.declared.refusal.Refusal.{Refusal}
 use Rattle.fax_job.specs.declared.refusal.Refusal.TheVariants.{BadBody, NoRoute}
 use Rattle.fax_ask.specs.declared.request.Request.{Request}
-use Rattle.fax_ask.specs.Ask.{Asked, Asks, IsAsk, IsBodyRefusal, IsRefused, Step}
+use Rattle.fax_ask.specs.Ask.{Asks, IsAsk, IsBodyRefusal, IsRefused}
+use Rattle.fax_ask.specs.declared.ask.Ask.{Ask as Asked}
+use Rattle.fax_ask.specs.declared.ask.Ask.TheVariants.{Step}
 use Rattle.fax_ask.specs.Laws.{AskOrRefusal, OneAsk, OneFault}
 use Rattle.fax_ask.specs.Request.{request_of}
+use Rattle.fax_core.specs.declared.ask.Ask.{Ask}
 use Rattle.fax_core.specs.Queue.{Queue, Entry}
 use Rattle.fax_core.specs.Settings.{Settings}
 use Rattle.fax_once.specs.Arrival.{number_of}
 use Rattle.fax_once.specs.Laws.{OneVerdict}
 use Rattle.fax_once.specs.Verdict.{Verdict, denied, asked_for, seen_by, IsForBody, IsForRequest}
 use Rattle.fax_once.specs.declared.arrival.Arrival.{Arrival}
-use Rattle.fax_decide.proofs.AskLemmas.{same_ask}
+
+same_ask : {a b : Ask} → ◌≡◌ {A = Asked} (Step a) (Step b) → a ≡ b
+same_ask is = cc
 
 module _ (one_ask : OneAsk) (or_refusal : AskOrRefusal) (one_fault : OneFault) (s : Settings) (a : Arrival) (m : Queue) (k : List Entry) where
   asks_for : (request : Request) (x : Asked) → request_of a.method a.path.now ≡ Some request → Asks request a.body.now x → IsAsk a.method a.path.now a.body.now x

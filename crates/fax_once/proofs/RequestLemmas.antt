@@ -7,17 +7,18 @@ use Rattle.fax_job.specs.declared.refusal.Refusal.TheVariants.{BadBody, NoRoute}
 use Rattle.fax_job.specs.declared.refusal.BodyFault.{BodyFault}
 use Rattle.fax_ask.specs.declared.request.Request.{Request}
 use Rattle.fax_ask.specs.declared.request.Request.TheVariants.{Submit, Suspend, Resume, Kill, Alter, Show, Ready, Down, Next, Call, Page, Outcome}
-use Rattle.fax_ask.specs.Ask.{Asked, Asks, IsAsk, IsBodyRefusal, IsRefused, Step, View}
+use Rattle.fax_ask.specs.Ask.{Asks, IsAsk, IsBodyRefusal, IsRefused}
+use Rattle.fax_ask.specs.declared.ask.Ask.{Ask as Asked}
+use Rattle.fax_ask.specs.declared.ask.Ask.TheVariants.{Step, View}
 use Rattle.fax_ask.specs.Request.{request_of}
 use Rattle.fax_ask.specs.Response.{Response, refused_response}
-use Rattle.fax_core.specs.Ask as machine
+use Rattle.fax_core.specs.declared.ask.Ask.{Ask}
 use Rattle.fax_core.specs.Clock.{decided_at}
 use Rattle.fax_core.specs.Queue.{Queue, Entry}
 use Rattle.fax_core.specs.Reply.{NoKeys}
 use Rattle.fax_core.specs.Settings.{Settings}
 use Rattle.fax_store.specs.Store.{Means}
 use Rattle.fax_once.specs.Arrival.{IsSender, number_of}
-use Rattle.fax_once.specs.Ask.{shown_in}
 use Rattle.fax_once.specs.Verdict.{Verdict, Told, denied, asked_for, seen_by, IsForBody, IsForRequest, IsVerdict, LeavesBy, Answers}
 use Rattle.fax_decide.specs.View.{view}
 use Rattle.fax_once.specs.declared.arrival.Arrival.{Arrival}
@@ -39,7 +40,7 @@ seen (Call n) body job is = absurd (let e = is.2 in cc)
 seen (Page n) body job is = absurd (let e = is.2 in cc)
 seen (Outcome n) body job is = absurd (let e = is.2 in cc)
 
-unseen : (r : Request) (body : List ℕ) (ask : machine.Ask) → Asks r body (Step ask) → seen_by r ≡ None
+unseen : (r : Request) (body : List ℕ) (ask : Ask) → Asks r body (Step ask) → seen_by r ≡ None
 unseen Submit body ask is = refl
 unseen (Suspend n) body ask is = refl
 unseen (Resume n) body ask is = refl
@@ -52,15 +53,6 @@ unseen (Next n) body ask is = refl
 unseen (Call n) body ask is = refl
 unseen (Page n) body ask is = refl
 unseen (Outcome n) body ask is = refl
-
--- what is no view is asked of the queue
-pub step_in : (x : Asked) → shown_in x ≡ None → (ask : machine.Ask) × (x ≡ Step ask)
-step_in (Step ask) is = (ask, refl)
-step_in (View job) is = absurd cc
-
-view_in : (x : Asked) (job : ℕ) → shown_in x ≡ Some job → x ≡ View job
-view_in (Step ask) job is = absurd cc
-view_in (View n) job is = cc
 
 -- ---- verdicts
 
@@ -91,13 +83,13 @@ by_refusal : (s : Settings) (a : Arrival) (m : Queue) (k : List Entry) (r : Requ
 by_refusal s a m k r e is = subst (λ (x : Result ℕ Refusal). MatchResult x (λ n. IsForBody s a m k n r (denied e)) (λ refusal. denied e ≡ denied refusal)) (sym is) refl
 
 -- what is asked of the queue
-for_step : (s : Settings) (a : Arrival) (m : Queue) (k : List Entry) (o : Option Request) (number : ℕ) (ask : machine.Ask) → number_of a ≡ Ok number → MatchOption o ⊥ (λ r. Asks r a.body.now (Step ask))
+for_step : (s : Settings) (a : Arrival) (m : Queue) (k : List Entry) (o : Option Request) (number : ℕ) (ask : Ask) → number_of a ≡ Ok number → MatchOption o ⊥ (λ r. Asks r a.body.now (Step ask))
     → MatchOption o (asked_for s a m k number ask ≡ denied NoRoute) (IsForRequest s a m k (asked_for s a m k number ask))
 for_step s a m k None number ask of is = absurd is
 for_step s a m k (Some r) number ask of is =
     posted s a m k (asked_for s a m k number ask) r (unseen r a.body.now ask is) (by_number s a m k (asked_for s a m k number ask) r number of (inl (ask, is, refl)))
 
-for_sender : (s : Settings) (a : Arrival) (m : Queue) (k : List Entry) (o : Option Request) (e : Refusal) (ask : machine.Ask) → number_of a ≡ Err e → MatchOption o ⊥ (λ r. Asks r a.body.now (Step ask))
+for_sender : (s : Settings) (a : Arrival) (m : Queue) (k : List Entry) (o : Option Request) (e : Refusal) (ask : Ask) → number_of a ≡ Err e → MatchOption o ⊥ (λ r. Asks r a.body.now (Step ask))
     → MatchOption o (denied e ≡ denied NoRoute) (IsForRequest s a m k (denied e))
 for_sender s a m k None e ask of is = absurd is
 for_sender s a m k (Some r) e ask of is = posted s a m k (denied e) r (unseen r a.body.now ask is) (by_refusal s a m k r e of)
@@ -110,18 +102,18 @@ where_open (Ok a) C S P opens clean so = so (opens clean)
 where_open (Err e) C S P opens clean so = tt
 
 pub view_answers : {E : Type 0} (result : Result Response E) (s : Settings) (a : Arrival) (m : Queue) (k : List Entry) (x : Asked) (job : ℕ) (store : State)
-    → IsAsk a.method a.path.now a.body.now x → shown_in x ≡ Some job → IfOk result (λ reply. reply ≡ view s m (decided_at m.clock a.moment) job) → Means store m k → Answers s a m k result store
+    → IsAsk a.method a.path.now a.body.now x → x ≡ View job → IfOk result (λ reply. reply ≡ view s m (decided_at m.clock a.moment) job) → Means store m k → Answers s a m k result store
 view_answers (Ok reply) s a m k x job store is shown replied rests =
-    (Told (view s m (decided_at m.clock a.moment) job), for_view s a m k (request_of a.method a.path.now) job (subst (λ (y : Asked). IsAsk a.method a.path.now a.body.now y) (view_in x job shown) is), (replied, rests))
+    (Told (view s m (decided_at m.clock a.moment) job), for_view s a m k (request_of a.method a.path.now) job (subst (λ (y : Asked). IsAsk a.method a.path.now a.body.now y) shown is), (replied, rests))
 view_answers (Err e) s a m k x job store is shown replied rests = rests
 
-pub step_answers : {E : Type 0} (result : Result Response E) (s : Settings) (a : Arrival) (m : Queue) (k : List Entry) (sender : Sender) (x : Asked) (ask : machine.Ask) (store : State)
+pub step_answers : {E : Type 0} (result : Result Response E) (s : Settings) (a : Arrival) (m : Queue) (k : List Entry) (sender : Sender) (x : Asked) (ask : Ask) (store : State)
     → IsAsk a.method a.path.now a.body.now x → x ≡ Step ask → IsSender a sender → LeavesBy m k result store (asked_for s a m k sender.number ask) → Answers s a m k result store
 step_answers (Ok reply) s a m k sender x ask store is asked from leaves =
     (asked_for s a m k sender.number ask, for_step s a m k (request_of a.method a.path.now) sender.number ask from.number (subst (λ (y : Asked). IsAsk a.method a.path.now a.body.now y) asked is), leaves)
 step_answers (Err e) s a m k sender x ask store is asked from leaves = leaves
 
-pub sender_answers : {E : Type 0} (result : Result Response E) (s : Settings) (a : Arrival) (m : Queue) (k : List Entry) (x : Asked) (ask : machine.Ask) (e : Refusal) (store : State)
+pub sender_answers : {E : Type 0} (result : Result Response E) (s : Settings) (a : Arrival) (m : Queue) (k : List Entry) (x : Asked) (ask : Ask) (e : Refusal) (store : State)
     → IsAsk a.method a.path.now a.body.now x → x ≡ Step ask → number_of a ≡ Err e → IfOk result (λ reply. reply ≡ refused_response e NoKeys) → Means store m k → Answers s a m k result store
 sender_answers (Ok reply) s a m k x ask e store is asked of replied rests =
     (denied e, for_sender s a m k (request_of a.method a.path.now) e ask of (subst (λ (y : Asked). IsAsk a.method a.path.now a.body.now y) asked is), (replied, rests))

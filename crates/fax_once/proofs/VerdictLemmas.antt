@@ -8,9 +8,11 @@ use Rattle.std.proofs.lemmas.Bool.{cases_Bool, and_parts, and_from, eqb-true, eq
 use Rattle.sqlite.specs.State.{State, HasCleanDisk}
 use Rattle.sqlite_rules.specs.Lists.{Has}
 use Rattle.fax_job.specs.declared.refusal.Refusal.TheVariants.{NumberReused}
-use Rattle.fax_ask.specs.Ask.{IsLawful, Step as Asking}
+use Rattle.fax_ask.specs.Ask.{IsLawfulStep}
 use Rattle.fax_ask.specs.Response.{Response, refused_response}
-use Rattle.fax_core.specs.Ask as machine
+use Rattle.fax_core.specs.Ask.{IsLawfulAsk}
+use Rattle.fax_core.specs.declared.ask.Ask.{Ask}
+use Rattle.fax_core.specs.declared.ask.Ask.TheVariants as machine
 use Rattle.fax_core.specs.Clock.{decided_at}
 use Rattle.fax_core.specs.Machine.{step}
 use Rattle.fax_core.specs.Queue.{Queue, Entry}
@@ -62,24 +64,24 @@ is_used_by k client number (Some kept) is = sym (one_of (λ e. bytes_eq e.client
 
 -- ---- what is asked for
 
-used_is : (s : Settings) (a : Arrival) (m : Queue) (k : List Entry) (number : ℕ) (ask : machine.Ask) → is_used a.client.now number k ≡ true → asked_for s a m k number ask ≡ denied NumberReused
+used_is : (s : Settings) (a : Arrival) (m : Queue) (k : List Entry) (number : ℕ) (ask : Ask) → is_used a.client.now number k ≡ true → asked_for s a m k number ask ≡ denied NumberReused
 used_is s a m k number ask is = rw is refl
 
-new_is : (s : Settings) (a : Arrival) (m : Queue) (k : List Entry) (number : ℕ) (ask : machine.Ask) → is_used a.client.now number k ≡ false → asked_for s a m k number ask ≡ stepped a number k (step s m (decided_at m.clock a.moment) ask)
+new_is : (s : Settings) (a : Arrival) (m : Queue) (k : List Entry) (number : ℕ) (ask : Ask) → is_used a.client.now number k ≡ false → asked_for s a m k number ask ≡ stepped a number k (step s m (decided_at m.clock a.moment) ask)
 new_is s a m k number ask is = rw is refl
 
 -- a number that was used is refused
-pub used_leaves : (s : Settings) (a : Arrival) (m : Queue) (k : List Entry) (sender : Sender) (ask : machine.Ask) (reply : Response) (store : State)
+pub used_leaves : (s : Settings) (a : Arrival) (m : Queue) (k : List Entry) (sender : Sender) (ask : Ask) (reply : Response) (store : State)
     → IsSender a sender → is_used sender.client.now sender.number k ≡ true → reply ≡ refused_response NumberReused NoKeys → Means store m k → Leaves m k reply store (asked_for s a m k sender.number ask)
 used_leaves s a m k sender ask reply store from is replied rests =
     subst (Leaves m k reply store) (sym (used_is s a m k sender.number ask (ap (λ client. is_used client sender.number k) (sym from.client) ∙ is))) (replied, rests)
 
-unused_is : (s : Settings) (a : Arrival) (m : Queue) (k : List Entry) (number t : ℕ) (ask : machine.Ask) → is_used a.client.now number k ≡ false → t ≡ decided_at m.clock a.moment
+unused_is : (s : Settings) (a : Arrival) (m : Queue) (k : List Entry) (number t : ℕ) (ask : Ask) → is_used a.client.now number k ≡ false → t ≡ decided_at m.clock a.moment
     → stepped a number k (step s m t ask) ≡ asked_for s a m k number ask
 unused_is s a m k number t ask is now = ap (λ (u : ℕ). stepped a number k (step s m u ask)) now ∙ sym (new_is s a m k number ask is)
 
 -- what is refused is told
-pub refused_leaves : (s : Settings) (a : Arrival) (m : Queue) (k : List Entry) (sender : Sender) (t : ℕ) (ask : machine.Ask) (reply : Response) (store : State)
+pub refused_leaves : (s : Settings) (a : Arrival) (m : Queue) (k : List Entry) (sender : Sender) (t : ℕ) (ask : Ask) (reply : Response) (store : State)
     → IsSender a sender → is_used sender.client.now sender.number k ≡ false → t ≡ decided_at m.clock a.moment → IsRefusedBy (step s m t ask) reply → Means store m k → Leaves m k reply store (asked_for s a m k sender.number ask)
 refused_leaves s a m k sender t ask reply store from is now by rests =
     subst (Leaves m k reply store)
@@ -87,8 +89,8 @@ refused_leaves s a m k sender t ask reply store from is now by rests =
     (by.replied, rests)
 
 -- what is taken is accepted, and leaves a sound queue
-taken_leaves : (s : Settings) (a : Arrival) (m : Queue) (k : List Entry) (sender : Sender) (t : ℕ) (ask : machine.Ask) (effect : Effect) (reply : Response) (store : State)
-    → Sound m → machine.IsLawfulAsk ask → IsSender a sender → is_used sender.client.now sender.number k ≡ false → t ≡ decided_at m.clock a.moment → IsTaken (step s m t ask) m t effect reply
+taken_leaves : (s : Settings) (a : Arrival) (m : Queue) (k : List Entry) (sender : Sender) (t : ℕ) (ask : Ask) (effect : Effect) (reply : Response) (store : State)
+    → Sound m → IsLawfulAsk ask → IsSender a sender → is_used sender.client.now sender.number k ≡ false → t ≡ decided_at m.clock a.moment → IsTaken (step s m t ask) m t effect reply
     → Serves store → IsAtRest store (accepted t effect m) (k ++ entry sender.client.now sender.number (said_of a) reply.status reply.body ∷ []) → Leaves m k reply store (asked_for s a m k sender.number ask)
 taken_leaves s a m k sender t ask effect reply store sound lawful from is now by serves rests =
     subst (Leaves m k reply store)
@@ -101,8 +103,8 @@ taken_leaves s a m k sender t ask effect reply store sound lawful from is now by
     )
 
 -- what is known of the decision, and what its acceptance leaves
-pub accepted_leaves : {E : Type 0} (result : Result Response E) (s : Settings) (a : Arrival) (m : Queue) (k : List Entry) (sender : Sender) (t : ℕ) (ask : machine.Ask) (effect : Effect) (reply : Response) (old new : State)
-    → Sound m → machine.IsLawfulAsk ask → IsSender a sender
+pub accepted_leaves : {E : Type 0} (result : Result Response E) (s : Settings) (a : Arrival) (m : Queue) (k : List Entry) (sender : Sender) (t : ℕ) (ask : Ask) (effect : Effect) (reply : Response) (old new : State)
+    → Sound m → IsLawfulAsk ask → IsSender a sender
     → (Serves old → is_used sender.client.now sender.number k ≡ false) → (Serves old → t ≡ decided_at m.clock a.moment) → (Serves old → IsTaken (step s m t ask) m t effect reply)
     → OnOk result (Serves new → Serves old) → OnOk result (HasCleanDisk new → Serves new)
     → MatchResult result (λ told. (told ≡ reply) × Means new (accepted t effect m) (k ++ entry sender.client.now sender.number (said_of a) reply.status reply.body ∷ [])) (λ _. Means new m k)
@@ -114,7 +116,7 @@ accepted_leaves (Ok told) s a m k sender t ask effect reply old new sound lawful
 accepted_leaves (Err e) s a m k sender t ask effect reply old new sound lawful from is now by served opens made clean = made
 
 -- what is lawful to ask
-pub lawful_ask : (ask : machine.Ask) → IsLawful (Asking ask) → machine.IsLawfulAsk ask
+pub lawful_ask : (ask : Ask) → IsLawfulStep ask → IsLawfulAsk ask
 lawful_ask (machine.Submission order) is = is
 lawful_ask (machine.Suspend job) is = _
 lawful_ask (machine.Resume job) is = _

@@ -9,10 +9,11 @@ use Rattle.fax_job.specs.declared.refusal.Refusal.TheVariants.{BadBody, NoRoute,
 use Rattle.fax_ask.specs.declared.request.Request.{Request}
 use Rattle.fax_ask.specs.declared.request.Request.TheVariants.{Show}
 use Rattle.fax_ask.specs.Answer.{Replied}
-use Rattle.fax_ask.specs.Ask.{Asks, IsBodyRefusal, Step as Asked}
+use Rattle.fax_ask.specs.Ask.{Asks, IsBodyRefusal}
+use Rattle.fax_ask.specs.declared.ask.Ask.TheVariants.{Step as Asked}
 use Rattle.fax_ask.specs.Request.{request_of}
 use Rattle.fax_ask.specs.Response.{Response, accepted_response, refused_response}
-use Rattle.fax_core.specs.Ask.{Ask}
+use Rattle.fax_core.specs.declared.ask.Ask.{Ask}
 use Rattle.fax_core.specs.Clock.{decided_at}
 use Rattle.fax_core.specs.Machine.{step}
 use Rattle.fax_core.specs.Queue.{Queue, Entry}

@@ -6,8 +6,9 @@
 ghost use Rattle.std.specs.Prelude.{◌≡◌, ◌∷◌, ◌++◌, [], List, IfOk, IsErr, OnOk, MatchResult};
 ghost use Rattle.sqlite.specs.Held.{state};
 ghost use Rattle.sqlite.specs.State.{HasCleanDisk};
-ghost use Rattle.fax_ask.specs.Ask.{IsAsk, IsLawful, IsRefused, Step as Asked, asked};
-ghost use Rattle.fax_core.specs.Ask.{Ask as MachineAsk, IsLawfulAsk};
+ghost use Rattle.fax_ask.specs.Ask.{IsAsk, IsLawful, IsLawfulStep, IsRefused};
+ghost use Rattle.fax_core.specs.Ask.{IsLawfulAsk};
+ghost use Rattle.fax_core.specs.declared.ask.Ask.{Ask as MachineAsk};
 ghost use Rattle.fax_ask.specs.Response.{refused_response};
 ghost use Rattle.fax_ask.specs.declared.method.Method.TheVariants.{Get};
 ghost use Rattle.fax_core.specs.Clock.{decided_at};
@@ -24,7 +25,6 @@ ghost use Rattle.fax_decide.specs.Effect.{Suits, accepted};
 ghost use Rattle.fax_decide.specs.Settings.{settings_of};
 ghost use Rattle.fax_decide.specs.View.{view};
 ghost use Rattle.fax_once.specs.Arrival.{IsSender, number_of, said_of};
-ghost use Rattle.fax_once.specs.Ask.{shown_in};
 ghost use Rattle.fax_once.specs.Verdict.{Answers, Handles, IsDecided, IsNotAccepted, IsVerdict, LeavesBy, Told, asked_for, is_used};
 ghost use Rattle.fax_once.specs.declared.arrival.Arrival.{Arrival as ArrivalOf};
 
@@ -32,6 +32,7 @@ use crate::acceptance::commit_accepted;
 use crate::arrival::Arrival;
 use crate::sender::Sender;
 use fax_ask::{Ask, Detail, Reply, Routes};
+use fax_core::Ask as Step;
 use fax_decide::{Decision, Effect, Office, Unavailable, decide, view_job};
 use fax_dest::{Controls, Setup};
 use fax_job::{BodyFault, Moment, Refusal};
@@ -141,19 +142,19 @@ impl<S: Alter> Queue<S> {
         ensures unchanged { IsNotAccepted result
             → Stays (state S.Store self.old.store.conn) (state S.Store self.new.store.conn) }
         ensures seen { arrival.now.method ≡ Get
-            → IsAsk arrival.now.method arrival.now.path.now arrival.now.body.now (asked ask)
+            → IsAsk arrival.now.method arrival.now.path.now arrival.now.body.now ask
             → Stays (state S.Store self.old.store.conn) (state S.Store self.new.store.conn) }
         ensures answered { (m : QueueOf) (k : List Entry) → Sound m
             → Means (state S.Store self.old.store.conn) m k
             → HasCleanDisk (state S.Store self.new.store.conn)
-            → IsAsk arrival.now.method arrival.now.path.now arrival.now.body.now (asked ask)
-            → IsLawful (asked ask)
+            → IsAsk arrival.now.method arrival.now.path.now arrival.now.body.now ask
+            → IsLawful ask
             → Answers (settings_of self.old.office.setup self.old.office.controls) arrival.now m k result
             (state S.Store self.new.store.conn) }
     {
-        match shown_job(&ask) {
-            Some(job) => self.show(alloc, job, arrival.moment),
-            None => match Sender::of(arrival) {
+        match ask {
+            Ask::View { job } => self.show(alloc, job, arrival.moment),
+            Ask::Step(ask) => match Sender::of(arrival) {
                 Ok(sender) => self.step(alloc, arrival, &sender, ask),
                 Err(refusal) => Ok(Reply::refused(refusal)),
             },
@@ -183,17 +184,17 @@ impl<S: Alter> Queue<S> {
         alloc: Global,
         arrival: &Arrival<'_>,
         sender: &Sender<'_>,
-        ask: Ask,
+        ask: Step,
     ) -> Result<Reply, Unavailable>
         ensures office { self.new.office ≡ self.old.office }
         ensures unchanged { IsNotAccepted result
             → Stays (state S.Store self.old.store.conn) (state S.Store self.new.store.conn) }
-        ensures stepped { (m : QueueOf) (k : List Entry) (want : MachineAsk) → Sound m
+        ensures stepped { (m : QueueOf) (k : List Entry) → Sound m
             → Means (state S.Store self.old.store.conn) m k → HasCleanDisk (state S.Store self.new.store.conn)
-            → IsSender arrival.now sender.now → asked ask ≡ Asked want → IsLawful (asked ask)
+            → IsSender arrival.now sender.now → IsLawfulStep ask
             → LeavesBy m k result (state S.Store self.new.store.conn)
             (asked_for (settings_of self.old.office.setup self.old.office.controls) arrival.now m k
-            sender.now.number want) }
+            sender.now.number ask) }
     {
         let used = is_used(&mut self.store, sender)?;
         if used {
@@ -282,16 +283,6 @@ fn moment_at(meta: &Meta, moment: Moment) -> Moment
     ensures { result ≡ decided_at meta.now.clock moment }
 {
     meta.clock.later(moment)
-}
-
-/// The job that is to be shown, if one is.
-fn shown_job(ask: &Ask) -> Option<u64>
-    ensures { result ≡ shown_in (asked ask.now) }
-{
-    match ask {
-        Ask::Show { job } => Some(*job),
-        _ => None,
-    }
 }
 
 /// The reply to an arrival that asks for nothing: a path that names no request comes first, and then the client, the

@@ -7,6 +7,7 @@ ghost use Rattle.sqlite.specs.State.{HasCleanDisk};
 ghost use Rattle.fax_core.specs.Machine.{held_by, with_grant};
 ghost use Rattle.fax_core.specs.Queue.{Queue, Entry, grant_numbered};
 ghost use Rattle.fax_core.specs.State.{calls_to};
+ghost use Rattle.fax_job.specs.Limits.{most_pages};
 ghost use Rattle.fax_store.specs.Grant.{IsReport, with_placed, with_one_more_grant, with_closed};
 ghost use Rattle.fax_store.specs.Store.{Serves, Means, MeansNow, HasTables, Reads, Stays};
 ghost use Rattle.fax_store.specs.Work.{Holds, Works, Keeps, Changes, ChangesWhere, AnswersIn, Moves, Steps};
@@ -17,8 +18,9 @@ use crate::store::Store;
 use crate::work::Work;
 use fax_core::Grant;
 use fax_job::Dial;
+use fax_job::limits::MOST_PAGES;
 use fax_tables::{
-    Hold, MOST_PAGES, Meta, PAST_GRANTS, StoreFault, call_number, grant_in, is_open_grant,
+    Hold, Meta, PAST_GRANTS, StoreFault, call_number, grant_in, is_open_grant,
 };
 use sqlite::{Alter, params};
 
@@ -193,7 +195,7 @@ impl<S: Alter> Store<S> {
         ensures written { (m₀ m : Queue) (k₀ k : List Entry) → IsReport grant.now m
             → Works (state S.Store self.old.conn) false m₀ k₀ m k → Serves (state S.Store self.new.conn)
             → Moves (state S.Store self.new.conn) result m₀ k₀ (with_grant grant.now m) k }
-        ensures cause { grant.now.confirmed ≤ 9999 → IfErr result (λ fault. fault ≡ StoreFault.Unavailable) }
+        ensures cause { grant.now.confirmed ≤ most_pages → IfErr result (λ fault. fault ≡ StoreFault.Unavailable) }
     {
         if grant.confirmed > MOST_PAGES {
             return Err(StoreFault::Strange);
@@ -342,7 +344,7 @@ impl<S: Alter> Work<'_, S> {
             (state S.Store self.new.store.now.conn) self.new.failed }
         ensures changes { ChangesWhere (IsReport grant.now) (state S.Store self.old.store.now.conn) self.old.failed
             (state S.Store self.new.store.now.conn) self.new.failed (with_grant grant.now) (λ k. k) }
-        ensures cause { grant.now.confirmed ≤ 9999 → IfErr result (λ fault. fault ≡ StoreFault.Unavailable) }
+        ensures cause { grant.now.confirmed ≤ most_pages → IfErr result (λ fault. fault ≡ StoreFault.Unavailable) }
         ensures served { Serves (state S.Store self.new.store.now.conn) → Serves (state S.Store self.old.store.now.conn) }
         ensures fails { self.new.failed ≡ is_err result }
         ensures refused { IsTrue self.old.failed → result ≡ Err StoreFault.Unavailable }

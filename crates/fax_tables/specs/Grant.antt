@@ -3,6 +3,7 @@ use Rattle.std.specs.Prelude.{◌≤◌, [], ◌∷◌, IsTrue}
 use Rattle.sqlite.specs.Order.{Row}
 use Rattle.sqlite.specs.declared.types.Value.TheVariants.{Text}
 use Rattle.fax_core.specs.declared.grants.Grant.{Grant}
+use Rattle.fax_job.specs.Limits.{last_grant, last_job, most_pages}
 use Rattle.fax_tables.specs.declared.grants.Hold.{Hold}
 use Rattle.fax_tables.specs.Row.{number, call_number, shut_number}
 
@@ -21,14 +22,14 @@ grant_shown g =
 
 -- its numbers are within their limits
 pub record IsWithinLimits (g : Grant) : Type 0 where
-  pub number : (1 ≤ g.number) × (g.number ≤ 999999999)
-  pub job : (1 ≤ g.job) × (g.job ≤ 999999)
-  pub pages : (g.first_page ≤ 9999) × (g.last_page ≤ 9999) × (g.confirmed ≤ 9999)
+  pub number : (1 ≤ g.number) × (g.number ≤ last_grant)
+  pub job : (1 ≤ g.job) × (g.job ≤ last_job)
+  pub pages : (g.first_page ≤ most_pages) × (g.last_page ≤ most_pages) × (g.confirmed ≤ most_pages)
 
 -- the same of a hold
 pub record IsLawfulHold (h : Hold) : Type 0 where
-  pub grant : (1 ≤ h.grant) × (h.grant ≤ 999999999)
-  pub job : (1 ≤ h.job) × (h.job ≤ 999999)
+  pub grant : (1 ≤ h.grant) × (h.grant ≤ last_grant)
+  pub job : (1 ≤ h.job) × (h.job ≤ last_job)
 
 -- open, with its numbers within their limits
 pub record IsOpenGrant (g : Grant) : Type 0 where

@@ -6,6 +6,7 @@ use Rattle.fax_core.specs.Job.{Job, fields_of, HasPages}
 use Rattle.fax_job.specs.Dial.{IsCanonical}
 use Rattle.fax_job.specs.Job.{IsLawful}
 use Rattle.fax_job.specs.JobTag.{IsJobTag}
+use Rattle.fax_job.specs.Limits.{last_moment}
 use Rattle.fax_job.specs.Name.{IsName}
 use Rattle.fax_job.specs.Pair.{ArePairs}
 use Rattle.fax_job.specs.Value.{IsStatus}
@@ -24,8 +25,8 @@ pub record IsFormed (job : JobFields) : Type 0 where
   pub jobtag : IsText IsJobTag job.jobtag
   pub status : IsText IsStatus job.status
   pub extra : ArePairs job.extra
-  pub tts : job.tts ≤ 4102444800
-  pub killtime : unwrap_or job.killtime 0 ≤ 4102444800
+  pub tts : job.tts ≤ last_moment
+  pub killtime : unwrap_or job.killtime 0 ≤ last_moment
   pub priority : job.priority < 256
 
 -- also the numbers are within their limits, and the pages are those from the first to the last

@@ -1,5 +1,5 @@
 -- What a database with the six tables means.
-use Rattle.std.specs.Prelude.{◌≡◌, ◌⊎◌, ℕ, ◌≤◌, ◌<◌, ◌^◌, false, List, [], ◌∷◌, All, map, drop, IsTrue}
+use Rattle.std.specs.Prelude.{◌≡◌, ◌⊎◌, ℕ, ◌+◌, ◌≤◌, ◌<◌, ◌^◌, false, List, [], ◌∷◌, All, map, drop, IsTrue}
 use Rattle.std.specs.List.{AllByRecursion}
 use Rattle.std.specs.List.Sorted.{IsPermutation}
 use Rattle.sqlite.specs.Order.{Row}
@@ -11,6 +11,7 @@ use Rattle.sqlite_schema.specs.declared.schema.Schema.{Schema}
 use Rattle.fax_core.specs.Job.{fields_of}
 use Rattle.fax_core.specs.Queue.{Queue, Entry, open_grants}
 use Rattle.fax_core.specs.declared.grants.Grant.{Grant}
+use Rattle.fax_job.specs.Limits.{last_grant, last_job, last_moment}
 use Rattle.fax_job.specs.Name.{IsName}
 use Rattle.fax_tables.specs.Grant.{IsWithinLimits}
 use Rattle.fax_tables.specs.Schema.{six_tables, down_tree, grants_tree, holds_tree, jobs_tree, meta_tree, replies_tree}
@@ -23,9 +24,9 @@ pub record IsLawfulGrant (g : Grant) : Type 0 where
 
 -- the clock is a moment, and the next numbers are at most one past the last
 pub record IsLawfulMeta (m : Queue) : Type 0 where
-  pub clock : m.clock ≤ 4102444800
-  pub next_job : (1 ≤ m.next_job) × (m.next_job ≤ 1000000)
-  pub next_grant : (1 ≤ m.next_grant) × (m.next_grant ≤ 1000000000)
+  pub clock : m.clock ≤ last_moment
+  pub next_job : (1 ≤ m.next_job) × (m.next_job ≤ last_job + 1)
+  pub next_grant : (1 ≤ m.next_grant) × (m.next_grant ≤ last_grant + 1)
 
 -- the status of a reply that is kept: OK or Created
 abbrev pub IsKeptStatus : ℕ → Type 0

@@ -1,6 +1,6 @@
 //! Why a call of the store was refused.
 
-use fax_job::{DialFault, JobTagFault, LineFault, LineKind, NameFault, Refusal, StatusFault};
+use fax_job::{LineFault, LineKind, Refusal, TextFault};
 use sqlite::Error;
 use std::alloc::AllocError;
 
@@ -36,62 +36,17 @@ impl From<AllocError> for StoreFault {
     }
 }
 
-impl From<DialFault> for StoreFault {
+impl From<TextFault> for StoreFault {
     ghost use Rattle.std.specs.Prelude.{◌≡◌};
-    ghost use Rattle.fax_job.specs.Dial.{is_no_memory};
+    ghost use Rattle.fax_job.specs.TextFault.{is_no_memory};
     ghost use Rattle.fax_tables.specs.Fault.{fault_by};
 
     ghost from_gives = { λ given fault. fault ≡ fault_by (is_no_memory given) };
 
-    fn from(fault: DialFault) -> StoreFault {
+    fn from(fault: TextFault) -> StoreFault {
         match fault {
-            DialFault::BadDial => StoreFault::Strange,
-            DialFault::NoMemory => StoreFault::Unavailable,
-        }
-    }
-}
-
-impl From<NameFault> for StoreFault {
-    ghost use Rattle.std.specs.Prelude.{◌≡◌};
-    ghost use Rattle.fax_job.specs.Name.{is_no_memory};
-    ghost use Rattle.fax_tables.specs.Fault.{fault_by};
-
-    ghost from_gives = { λ given fault. fault ≡ fault_by (is_no_memory given) };
-
-    fn from(fault: NameFault) -> StoreFault {
-        match fault {
-            NameFault::BadName => StoreFault::Strange,
-            NameFault::NoMemory => StoreFault::Unavailable,
-        }
-    }
-}
-
-impl From<JobTagFault> for StoreFault {
-    ghost use Rattle.std.specs.Prelude.{◌≡◌};
-    ghost use Rattle.fax_job.specs.JobTag.{is_no_memory};
-    ghost use Rattle.fax_tables.specs.Fault.{fault_by};
-
-    ghost from_gives = { λ given fault. fault ≡ fault_by (is_no_memory given) };
-
-    fn from(fault: JobTagFault) -> StoreFault {
-        match fault {
-            JobTagFault::BadJobTag => StoreFault::Strange,
-            JobTagFault::NoMemory => StoreFault::Unavailable,
-        }
-    }
-}
-
-impl From<StatusFault> for StoreFault {
-    ghost use Rattle.std.specs.Prelude.{◌≡◌};
-    ghost use Rattle.fax_job.specs.Status.{is_no_memory};
-    ghost use Rattle.fax_tables.specs.Fault.{fault_by};
-
-    ghost from_gives = { λ given fault. fault ≡ fault_by (is_no_memory given) };
-
-    fn from(fault: StatusFault) -> StoreFault {
-        match fault {
-            StatusFault::BadStatus => StoreFault::Strange,
-            StatusFault::NoMemory => StoreFault::Unavailable,
+            TextFault::Bad => StoreFault::Strange,
+            TextFault::NoMemory => StoreFault::Unavailable,
         }
     }
 }

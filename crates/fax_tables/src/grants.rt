@@ -13,6 +13,7 @@ use crate::meta::{PAST_GRANTS, PAST_JOBS};
 use crate::row::{name_at, number_at, small_at};
 use fax_core::Grant;
 use fax_job::Call;
+use fax_job::limits::MOST_PAGES;
 use sqlite::Row;
 use std::alloc::Global;
 
@@ -24,9 +25,6 @@ pub struct Hold {
     /// The number of the job.
     pub job: u32,
 }
-
-/// The most pages that a grant can be of.
-pub const MOST_PAGES: u16 = 9999;
 
 /// The number that stands for how a call went, 0 where that is not known.
 pub fn call_number(call: Option<Call>) -> u32

@@ -8,6 +8,7 @@ ghost use Rattle.fax_core.specs.Job.{Job as OneJob, fields_of};
 ghost use Rattle.fax_job.specs.Dial.{IsCanonical};
 ghost use Rattle.fax_job.specs.Job.{is_lawful_killtime, IsLawful};
 ghost use Rattle.fax_job.specs.JobTag.{IsJobTag};
+ghost use Rattle.fax_job.specs.Limits.{last_moment};
 ghost use Rattle.fax_job.specs.Pair.{Pair, ArePairs};
 ghost use Rattle.fax_job.specs.Spelling.{printed};
 ghost use Rattle.fax_job.specs.Value.{IsStatus};
@@ -81,7 +82,7 @@ fn wish_at(row: &Row, at: usize) -> Result<Wish, StoreFault>
 /// The number that stands for a kill time, 0 for none.
 pub fn killtime_number(killtime: Option<Moment>) -> u32
     ensures number { result ≡ unwrap_or killtime 0 }
-    ensures bound { result ≤ 4102444800 }
+    ensures bound { result ≤ last_moment }
 {
     match killtime {
         Some(moment) => moment.seconds(),
@@ -92,7 +93,7 @@ pub fn killtime_number(killtime: Option<Moment>) -> u32
 /// The kill time in a column, where 0 is none.
 fn killtime_at(row: &Row, at: usize) -> Result<Option<Moment>, StoreFault>
     ensures { (killtime : Option ℕ) → HasNumber row.now at (unwrap_or killtime 0)
-        → unwrap_or killtime 0 ≤ 4102444800 → IsTrue (is_lawful_killtime killtime)
+        → unwrap_or killtime 0 ≤ last_moment → IsTrue (is_lawful_killtime killtime)
         → OrUnavailable result (λ found. found ≡ killtime) }
 {
     let moment = moment_at(row, at)?;

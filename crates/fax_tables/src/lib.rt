@@ -12,7 +12,7 @@ mod row;
 mod schema;
 
 pub use fault::StoreFault;
-pub use grants::{Hold, MOST_PAGES, call_number, grant_in, is_open_grant};
+pub use grants::{Hold, call_number, grant_in, is_open_grant};
 pub use jobs::{job_in, jobs_in, killtime_number, phase_number, spelling, wish_number};
 pub use meta::{Meta, PAST_GRANTS, PAST_JOBS};
 pub use replies::{Kept, is_kept_status, number_value};

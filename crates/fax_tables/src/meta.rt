@@ -8,13 +8,14 @@ ghost use Rattle.fax_tables.specs.Tables.{IsLawfulMeta};
 use crate::fault::StoreFault;
 use crate::row::{moment_at, number_at};
 use fax_job::Moment;
+use fax_job::limits::{LAST_GRANT, LAST_JOB};
 use sqlite::Row;
 
 /// One above the number of the last job that there can be.
-pub const PAST_JOBS: u32 = 1_000_000;
+pub const PAST_JOBS: u32 = LAST_JOB + 1;
 
 /// One above the number of the last grant that there can be.
-pub const PAST_GRANTS: u32 = 1_000_000_000;
+pub const PAST_GRANTS: u32 = LAST_GRANT + 1;
 
 /// The clock and the next numbers.
 #[derive(Clone, Copy, Debug, PartialEq, Eq)]

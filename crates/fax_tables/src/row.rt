@@ -5,6 +5,7 @@ ghost use Rattle.std.specs.Str.{IsUtf8};
 ghost use Rattle.std.specs.String.{string_bytes};
 ghost use Rattle.sqlite.specs.declared.types.Value.TheVariants.{Text};
 ghost use Rattle.sqlite.specs.Order.{column};
+ghost use Rattle.fax_job.specs.Limits.{last_moment};
 ghost use Rattle.fax_job.specs.Name.{IsName};
 ghost use Rattle.fax_tables.specs.Fault.{OrUnavailable};
 ghost use Rattle.fax_tables.specs.Job.{IsText};
@@ -56,7 +57,7 @@ pub(crate) fn small_at(row: &Row, at: usize) -> Result<u16, StoreFault>
 
 /// The moment in a column.
 pub(crate) fn moment_at(row: &Row, at: usize) -> Result<Moment, StoreFault>
-    ensures { (n : ℕ) → HasNumber row.now at n → n ≤ 4102444800 → OrUnavailable result (λ moment. moment ≡ n) }
+    ensures { (n : ℕ) → HasNumber row.now at n → n ≤ last_moment → OrUnavailable result (λ moment. moment ≡ n) }
 {
     let seconds = number_at(row, at)?;
     let moment = Moment::new(u64::from(seconds));

@@ -1,10 +1,11 @@
 use Rattle.std.proofs.Common.{◌<◌, rules}
+use Rattle.fax_job.specs.Limits.{last_grant}
 use Rattle.fax_decide.proofs.RecordLemmas.{no_grant, if_ok}
 use Rattle.fax_decide.proofs.records.grant_at.Goals as goal
 
-pub returns-then-number-gt-LAST_GRANT-clause-found : goal.returns-then-number-gt-LAST_GRANT-clause-found
-returns-then-number-gt-LAST_GRANT-clause-found g c m k means serves =
-    let past : 999999999 < c.args.number = search rules in
+pub returns-then-number-from-clause-found : goal.returns-then-number-from-clause-found
+returns-then-number-from-clause-found g c m k means serves =
+    let past : last_grant < c.args.number = search rules in
     no_grant m c.args.number (means serves).means.lawful.grants past
 
 pub returns-clause-found : goal.returns-clause-found

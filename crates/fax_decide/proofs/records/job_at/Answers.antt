@@ -1,10 +1,11 @@
 use Rattle.std.proofs.Common.{◌<◌, rules}
+use Rattle.fax_job.specs.Limits.{last_job}
 use Rattle.fax_decide.proofs.RecordLemmas.{no_job, found_job, found_no_job}
 use Rattle.fax_decide.proofs.records.job_at.Goals as goal
 
-pub returns-then-number-gt-LAST_JOB-clause-found : goal.returns-then-number-gt-LAST_JOB-clause-found
-returns-then-number-gt-LAST_JOB-clause-found g c m k means serves =
-    let past : 999999 < c.args.number = search rules in
+pub returns-then-number-from-clause-found : goal.returns-then-number-from-clause-found
+returns-then-number-from-clause-found g c m k means serves =
+    let past : last_job < c.args.number = search rules in
     no_job m c.args.t c.args.number (means serves).means.lawful.jobs past
 
 pub returns-in-Some-clause-found : goal.returns-in-Some-clause-found

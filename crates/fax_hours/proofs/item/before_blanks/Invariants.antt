@@ -1,5 +1,5 @@
 use Rattle.std.proofs.Common.{◌≡◌, length}
-use Rattle.fax_hours.specs.Item.{before_blanks}
+use Rattle.fax_job.specs.Blank.{before_blanks}
 use Rattle.fax_hours.proofs.item.before_blanks.Given as goal
 
 abbrev pub invariant-loop-front : goal.invariant-loop-front

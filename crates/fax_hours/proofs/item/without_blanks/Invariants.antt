@@ -1,5 +1,5 @@
 use Rattle.std.proofs.Common.{◌≡◌, length}
-use Rattle.fax_hours.specs.Item.{without_blanks}
+use Rattle.fax_job.specs.Blank.{without_blanks}
 use Rattle.fax_hours.proofs.item.without_blanks.Given as goal
 
 abbrev pub invariant-loop-rest : goal.invariant-loop-rest

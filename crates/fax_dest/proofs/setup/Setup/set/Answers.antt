@@ -7,7 +7,7 @@ use Rattle.fax_dest.proofs.setup.Setup.set.Goals as goal
 
 pub returns-in_ok-push-in-Modem : goal.returns-in_ok-push-in-Modem
 returns-in_ok-push-in-Modem c = λ is_pattern grammar.
-    (ModemNamed c.in_ok-name_of-in-Modem.field-0, rw c.in-Modem.is (ap (λ r. texted ModemNamed r) c.in_ok-name_of-in-Modem.ensures), record { shown = rw c.in_ok-push-in-Modem.ensures.items refl; zone = refl })
+    (ModemNamed c.in_ok-name_of-in-Modem.field-0, rw c.in-Modem.is (ap (λ r. texted ModemNamed r) c.in_ok-name_of-in-Modem.ensures.read), record { shown = rw c.in_ok-push-in-Modem.ensures.items refl; zone = refl })
 
 pub returns-in_ok-push-in-ModemClass : goal.returns-in_ok-push-in-ModemClass
 returns-in_ok-push-in-ModemClass c = λ is_pattern grammar.

@@ -1,39 +1,36 @@
-use Rattle.std.proofs.Common.{Ok, sym, subst, ◌∙◌}
+use Rattle.std.proofs.Common.{Ok, subst}
 use Rattle.sqlite.specs.Held.{state}
 use Rattle.sqlite.specs.State.{HasCleanDisk}
 use Rattle.fax_store.specs.Store.{Serves}
 use Rattle.fax_decide.specs.declared.fault.Unavailable.{Unavailable}
-use Rattle.fax_ask.specs.Ask.{IsAsk, asked}
+use Rattle.fax_ask.specs.Ask.{IsAsk, IsLawful}
 use Rattle.fax_decide.specs.Settings.{settings_of}
 use Rattle.fax_store.proofs.StoreLemmas.{means_stay}
 use Rattle.fax_once.proofs.GetLemmas.{no_step}
 use Rattle.fax_once.proofs.SenderLemmas.{sender_plain}
-use Rattle.fax_once.proofs.RequestLemmas.{step_in, view_answers, step_answers, sender_answers, where_open}
+use Rattle.fax_once.proofs.RequestLemmas.{view_answers, step_answers, sender_answers, where_open}
 use Rattle.fax_once.proofs.queue.Queue.answer_ask.Goals as goal
 
-pub returns-in-Some-clause-answered : goal.returns-in-Some-clause-answered
-returns-in-Some-clause-answered g c m k sound means clean is lawful =
-    view_answers c.show.result (settings_of c.args.self.now.office.setup c.args.self.now.office.controls) c.args.arrival.now m k (asked c.args.ask) c.in-Some.job (state g.S.Store c.show.new.self.store.conn)
-    is (sym c.shown_job.ensures ∙ c.in-Some.is) (where_open c.show.result (HasCleanDisk (state g.S.Store c.show.new.self.store.conn)) (Serves (state g.S.Store c.show.new.self.store.conn)) _ c.show.ensures.opens clean (c.show.ensures.viewed m k means))
+pub returns-in-View-clause-answered : goal.returns-in-View-clause-answered
+returns-in-View-clause-answered g c m k sound means clean is lawful =
+    view_answers c.show.result (settings_of c.args.self.now.office.setup c.args.self.now.office.controls) c.args.arrival.now m k c.args.ask c.in-View.job (state g.S.Store c.show.new.self.store.conn)
+    is c.in-View.is (where_open c.show.result (HasCleanDisk (state g.S.Store c.show.new.self.store.conn)) (Serves (state g.S.Store c.show.new.self.store.conn)) _ c.show.ensures.opens clean (c.show.ensures.viewed m k means))
     (means_stay c.show.ensures.served c.show.ensures.stays m k means)
 
 pub returns-in-Ok-clause-answered : goal.returns-in-Ok-clause-answered
 returns-in-Ok-clause-answered g c m k sound means clean is lawful =
-    let step = step_in (asked c.args.ask) (sym c.shown_job.ensures ∙ c.in-None.is) in
-    step_answers c.step.result (settings_of c.args.self.now.office.setup c.args.self.now.office.controls) c.args.arrival.now m k c.in-Ok.sender (asked c.args.ask) step.0 (state g.S.Store c.step.new.self.store.conn)
-    is step.1 c.in-Ok.ensures.sender (c.step.ensures.stepped m k step.0 sound means clean c.in-Ok.ensures.sender step.1 lawful)
+    step_answers c.step.result (settings_of c.args.self.now.office.setup c.args.self.now.office.controls) c.args.arrival.now m k c.in-Ok.sender c.args.ask c.in-Step.ask (state g.S.Store c.step.new.self.store.conn)
+    is c.in-Step.is c.in-Ok.ensures.sender (c.step.ensures.stepped m k sound means clean c.in-Ok.ensures.sender (subst IsLawful c.in-Step.is lawful))
 
 pub returns-in-Err-clause-answered : goal.returns-in-Err-clause-answered
 returns-in-Err-clause-answered g c m k sound means clean is lawful =
-    let step = step_in (asked c.args.ask) (sym c.shown_job.ensures ∙ c.in-None.is) in
-    sender_answers {E = Unavailable} (Ok c.refused.result) (settings_of c.args.self.now.office.setup c.args.self.now.office.controls) c.args.arrival.now m k (asked c.args.ask) step.0 c.in-Err.refusal (state g.S.Store c.args.self.now.store.conn)
-    is step.1 c.in-Err.ensures.refused c.refused.ensures means
+    sender_answers {E = Unavailable} (Ok c.refused.result) (settings_of c.args.self.now.office.setup c.args.self.now.office.controls) c.args.arrival.now m k c.args.ask c.in-Step.ask c.in-Err.refusal (state g.S.Store c.args.self.now.store.conn)
+    is c.in-Step.is c.in-Err.ensures.refused c.refused.ensures means
 
 pub refused-requires : goal.refused-requires
 refused-requires g c = sender_plain c.args.arrival.now c.in-Err.refusal c.in-Err.ensures.refused
 
 pub returns-in-Ok-clause-seen : goal.returns-in-Ok-clause-seen
 returns-in-Ok-clause-seen g c get is =
-    let step = step_in (asked c.args.ask) (sym c.shown_job.ensures ∙ c.in-None.is) in
-    absurd (no_step c.args.arrival.now.method c.args.arrival.now.path.now c.args.arrival.now.body.now step.0 get
-    (subst (IsAsk c.args.arrival.now.method c.args.arrival.now.path.now c.args.arrival.now.body.now) step.1 is))
+    absurd (no_step c.args.arrival.now.method c.args.arrival.now.path.now c.args.arrival.now.body.now c.in-Step.ask get
+    (subst (IsAsk c.args.arrival.now.method c.args.arrival.now.path.now c.args.arrival.now.body.now) c.in-Step.is is))

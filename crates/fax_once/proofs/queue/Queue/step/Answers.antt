@@ -1,6 +1,5 @@
 use Rattle.std.proofs.Common.{ap, subst, sym, ◌∙◌}
 use Rattle.sqlite.specs.Held.{state}
-use Rattle.fax_ask.specs.Ask.{IsLawful}
 use Rattle.std.specs.Prelude.{IfOk}
 use Rattle.fax_core.specs.Clock.{decided_at}
 use Rattle.fax_core.specs.Machine.{step}
@@ -12,36 +11,36 @@ use Rattle.fax_store.proofs.StoreLemmas.{means_stay}
 use Rattle.fax_once.proofs.queue.Queue.step.Goals as goal
 
 pub returns-then-used-clause-stepped : goal.returns-then-used-clause-stepped
-returns-then-used-clause-stepped g c m k want sound means clean from is lawful =
-    used_leaves (settings_of c.args.self.now.office.setup c.args.self.now.office.controls) c.args.arrival.now m k c.args.sender.now want _ (state g.S.Store c.is_used.new.store.conn) from
+returns-then-used-clause-stepped g c m k sound means clean from lawful =
+    used_leaves (settings_of c.args.self.now.office.setup c.args.self.now.office.controls) c.args.arrival.now m k c.args.sender.now c.args.ask _ (state g.S.Store c.is_used.new.store.conn) from
     (sym (c.in_ok-used.ensures.found m k means (c.in_ok-used.ensures.opens clean)) ∙ c.if-used.true) c.refused.ensures (means_stay c.is_used.ensures.served c.is_used.ensures.stays m k means)
 
 pub returns-clause-stepped : goal.returns-clause-stepped
-returns-clause-stepped g c m k want sound means clean from is lawful =
+returns-clause-stepped g c m k sound means clean from lawful =
     let settings = settings_of c.args.self.now.office.setup c.args.self.now.office.controls in
     let looked = means_stay c.is_used.ensures.served c.is_used.ensures.stays m k means in
     let read = means_stay c.meta.ensures.served c.meta.ensures.stays m k looked in
-    c.settle.ensures.settled settings m k want sound (means_stay c.decide.ensures.served c.decide.ensures.stays m k read)
-    (λ decided. c.in_ok-decision.ensures.opens decided (c.in_ok-meta.ensures.opens (c.decide.ensures.clean decided))) clean from (lawful_ask want (subst IsLawful is lawful))
+    c.settle.ensures.settled settings m k c.args.ask sound (means_stay c.decide.ensures.served c.decide.ensures.stays m k read)
+    (λ decided. c.in_ok-decision.ensures.opens decided (c.in_ok-meta.ensures.opens (c.decide.ensures.clean decided))) clean from (lawful_ask c.args.ask lawful)
     (λ at.
     let meta = c.in_ok-meta.ensures.found m k looked (c.decide.ensures.served at) in
     record {
       unused = sym (c.in_ok-used.ensures.found m k means (c.meta.ensures.served (c.decide.ensures.served at))) ∙ c.if-used.false;
       now = c.moment_at-t.ensures ∙ ap (λ meta. decided_at meta.clock c.args.arrival.now.moment) meta;
-      decides = subst (λ r. IfOk r (Decides (step settings m c.moment_at-t.result want) m c.moment_at-t.result)) c.in_ok-decision.was (c.decide.ensures.decided m k want sound read at meta is);
+      decides = subst (λ r. IfOk r (Decides (step settings m c.moment_at-t.result c.args.ask) m c.moment_at-t.result)) c.in_ok-decision.was (c.decide.ensures.decided m k sound read at meta);
     })
 
 pub returns-in_err-used-clause-stepped : goal.returns-in_err-used-clause-stepped
-returns-in_err-used-clause-stepped g c m k want sound means clean from is lawful =
+returns-in_err-used-clause-stepped g c m k sound means clean from lawful =
     refused_with c.from_residual.result _ _ c.from_residual.ensures.0 (means_stay c.is_used.ensures.served c.is_used.ensures.stays m k means)
 
 pub returns-in_err-meta-clause-stepped : goal.returns-in_err-meta-clause-stepped
-returns-in_err-meta-clause-stepped g c m k want sound means clean from is lawful =
+returns-in_err-meta-clause-stepped g c m k sound means clean from lawful =
     let looked = means_stay c.is_used.ensures.served c.is_used.ensures.stays m k means in
     refused_with c.from_residual-in_err-meta.result _ _ c.from_residual-in_err-meta.ensures.0 (means_stay c.meta.ensures.served c.meta.ensures.stays m k looked)
 
 pub returns-in_err-decision-clause-stepped : goal.returns-in_err-decision-clause-stepped
-returns-in_err-decision-clause-stepped g c m k want sound means clean from is lawful =
+returns-in_err-decision-clause-stepped g c m k sound means clean from lawful =
     let looked = means_stay c.is_used.ensures.served c.is_used.ensures.stays m k means in
     let read = means_stay c.meta.ensures.served c.meta.ensures.stays m k looked in
     refused_with c.from_residual-in_err-decision.result _ _ c.from_residual-in_err-decision.ensures.0 (means_stay c.decide.ensures.served c.decide.ensures.stays m k read)

@@ -1,8 +1,8 @@
 use Rattle.std.proofs.Common.{refl, arith}
 use Rattle.std.specs.Prelude.{Some, None}
 use Rattle.std.proofs.lemmas.Str.Pattern.{strip_suffix_char}
-use Rattle.fax_dest.proofs.CutLemmas.{before_blanks-blank, before_blanks_is, before_blanks_unless}
-use Rattle.fax_dest.proofs.line.before_blank.Goals as goal
+use Rattle.fax_job.proofs.BlankLemmas.{before_blanks-blank, before_blanks_is, before_blanks_unless}
+use Rattle.fax_job.proofs.blank.before_blank.Goals as goal
 
 pub returns-in-Some-clause-some : goal.returns-in-Some-clause-some
 returns-in-Some-clause-some c =

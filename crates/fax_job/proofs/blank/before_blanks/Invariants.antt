@@ -1,8 +1,8 @@
 use Rattle.std.proofs.Common.{◌≡◌, length}
 use denote.Text.{Utf8}
 use denote.Shadow.{shadow}
-use Rattle.fax_hours.specs.Item.{before_blanks}
-use Rattle.fax_dest.proofs.line.before_blanks.Given as goal
+use Rattle.fax_job.specs.Blank.{before_blanks}
+use Rattle.fax_job.proofs.blank.before_blanks.Given as goal
 
 abbrev pub invariant-loop-before : goal.invariant-loop-before
 invariant-loop-before l = (before_blanks l.front ≡ before_blanks l.text) × shadow (Utf8 l.front)

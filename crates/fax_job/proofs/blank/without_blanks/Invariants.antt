@@ -1,8 +1,8 @@
 use Rattle.std.proofs.Common.{◌≡◌, length}
 use denote.Text.{Utf8}
 use denote.Shadow.{shadow}
-use Rattle.fax_job.specs.Reading.{without_blanks}
-use Rattle.fax_dest.proofs.line.without_blanks.Given as goal
+use Rattle.fax_job.specs.Blank.{without_blanks}
+use Rattle.fax_job.proofs.blank.without_blanks.Given as goal
 
 abbrev pub invariant-loop-after : goal.invariant-loop-after
 invariant-loop-after l = (without_blanks l.rest ≡ without_blanks l.text) × shadow (Utf8 l.rest)

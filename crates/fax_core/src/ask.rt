@@ -1,0 +1,23 @@
+//! What is asked of the queue.
+
+use crate::report::Outcome;
+use fax_job::{Alter, Call, Name, Order};
+
+/// What is asked of the queue: a client's requests, with the job's number, and a worker's, with the
+/// modem's name or the grant's number. Numbers of jobs and grants are as they were written.
+#[derive(Debug, Drop)]
+pub enum Ask {
+    Submission(Order),
+    Suspend { job: u64 },
+    Resume { job: u64 },
+    Kill { job: u64 },
+    Alteration { job: u64, alter: Alter },
+    Ready { modem: Name },
+    Down { modem: Name },
+    /// What the modem is to send.
+    Next { modem: Name },
+    CallReport { grant: u64, call: Call },
+    /// A page that was confirmed; pages count from 1.
+    PageReport { grant: u64, page: u16 },
+    OutcomeReport { grant: u64, outcome: Outcome },
+}
