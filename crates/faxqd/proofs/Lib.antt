@@ -1,1 +1,5 @@
 mod EndsLemmas
+mod OptionWords
+mod RefusedWords
+mod ReplayWords
+mod WordsLemmas

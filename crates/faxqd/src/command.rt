@@ -1,10 +1,10 @@
 //! The program as a function of its words, its input and its outputs.
-ghost use Rattle.std.specs.Prelude.{◌≡◌, ◌⊎◌};
-ghost use Rattle.faxqd.specs.Replay.{Ends};
+ghost use Rattle.std.specs.Prelude.{◌≡◌, map, string_bytes};
+ghost use Rattle.faxqd.specs.Command.{Runs, Tells};
 
 use crate::replay::replay;
 use crate::status::{Status, fail};
-use crate::words::{Plan, WordsFault, read_words};
+use crate::words::{WordsFault, read_words};
 use std::io::{ErrorKind, Read, Write};
 
 /// Runs the command that the words ask for. Help goes to `out`, what is wrong to `err`.
@@ -15,21 +15,28 @@ pub fn run<R: Read, W: Write, E: Write>(
     out: &mut W,
     err: &mut E,
 ) -> Status
-    ensures ends { Ends (R.remaining reader.old) (R.remaining reader.new) (W.contents out.old) (W.contents out.new) result
-        ⊎ (reader.new ≡ reader.old) }
-    ensures words { result ≡ Status.Usage → (reader.new ≡ reader.old) × (out.new ≡ out.old) }
+    ensures { Runs R.remaining W.contents (map string_bytes words.now) reader.old reader.new out.old out.new err.old err.new result }
 {
     match read_words(rt.alloc(), words) {
-        Ok(Plan::Replay(files)) => replay(rt, files, reader, out, err),
-        Err(WordsFault::Help(text)) => match out.write_all(text.as_bytes()) {
+        Ok(plan) => replay(rt, plan.replay, reader, out, err),
+        Err(fault) => refuse(out, err, &fault),
+    }
+}
+
+/// Gives the help that was asked for, or says what is wrong with the words.
+fn refuse<W: Write, E: Write>(out: &mut W, err: &mut E, fault: &WordsFault) -> Status
+    ensures { Tells W.contents out.old out.new err.old err.new fault.now result }
+{
+    match fault {
+        WordsFault::Help(text) => match out.write_all(text.as_bytes()) {
             Ok(()) => Status::Success,
             Err(_) => fail(err, "faxqd: ended write-failed\n"),
         },
-        Err(WordsFault::Usage(text)) => {
+        WordsFault::Usage(text) => {
             let _ = err.write_all(text.as_bytes());
             Status::Usage
         }
-        Err(WordsFault::NoMemory) => fail(err, "faxqd: no memory\n"),
+        WordsFault::NoMemory => fail(err, "faxqd: no memory\n"),
     }
 }
 

@@ -17,7 +17,7 @@ fn called_with(rt: &HostRuntime) -> io::Result<Vec<String>> {
 
 fn main(rt: HostRuntime) -> ExitCode {
     let status = match called_with(&rt) {
-        Ok(words) => command::run(
+        Ok(words) => command::run::<io::Stdin, io::Stdout, io::Stderr>(
             &rt,
             words.as_slice(),
             &mut rt.stdin(),

@@ -1,9 +1,11 @@
 //! The setup and the destination controls that a command runs with.
 ghost use Rattle.std.specs.Prelude.{◌≡◌};
+ghost use Rattle.faxqd.specs.Office.{ComesOf, ControlsOf, IsOfficeOf, IsReadOf, SetupOf};
 
 use crate::status::{Status, fail};
 use fax_dest::{Controls, FileFault, FileKind, Setup};
 use fax_once::Office;
+use std::alloc::Global;
 use std::fs;
 use std::io::{ErrorKind, Write};
 
@@ -26,29 +28,23 @@ pub enum OfficeFault<'a> {
     NoMemory,
 }
 
-/// What the files say: the setup is read first, then the controls.
+/// What the files say.
 ///
 /// # Errors
 ///
-/// The first fault.
-pub fn read_office<'a>(
-    rt: &HostRuntime,
-    files: OfficeFiles<'a>,
-) -> Result<Office, OfficeFault<'a>> {
-    let text = read_file(rt, files.setup)?;
-    let setup = match Setup::read(rt.alloc(), text.as_slice()) {
-        Ok(setup) => setup,
-        Err(fault) => return Err(setup_fault(fault)),
-    };
-    let text = read_file(rt, files.controls)?;
-    match Controls::read(rt.alloc(), text.as_slice()) {
-        Ok(controls) => Ok(Office { setup, controls }),
-        Err(fault) => Err(controls_fault(fault)),
-    }
+/// The first fault, the setup's before the controls'.
+pub fn read_office<'a>(rt: &HostRuntime, files: OfficeFiles<'a>) -> Result<Office, OfficeFault<'a>>
+    ensures { ComesOf files.entry result }
+{
+    let setup = read_file(rt, files.setup);
+    let controls = read_file(rt, files.controls);
+    office_of(rt.alloc(), setup, controls)
 }
 
 /// The bytes of a file, none where no file is named.
-fn read_file<'a>(rt: &HostRuntime, name: Option<&'a str>) -> Result<Vec<u8>, OfficeFault<'a>> {
+fn read_file<'a>(rt: &HostRuntime, name: Option<&'a str>) -> Result<Vec<u8>, OfficeFault<'a>>
+    ensures { IsReadOf name.entry result }
+{
     let Some(name) = name else {
         return Ok(Vec::new(rt.alloc()));
     };
@@ -59,17 +55,46 @@ fn read_file<'a>(rt: &HostRuntime, name: Option<&'a str>) -> Result<Vec<u8>, Off
     }
 }
 
-fn setup_fault<'a>(fault: FileFault) -> OfficeFault<'a> {
-    match fault.kind {
-        FileKind::NoMemory => OfficeFault::NoMemory,
-        _ => OfficeFault::Setup(fault),
+/// The office of two files that were read.
+fn office_of<'a>(
+    alloc: Global,
+    setup: Result<Vec<u8>, OfficeFault<'a>>,
+    controls: Result<Vec<u8>, OfficeFault<'a>>,
+) -> Result<Office, OfficeFault<'a>>
+    ensures { IsOfficeOf setup.entry controls.entry result }
+{
+    let setup = setup_in(alloc, setup)?;
+    match controls_in(alloc, controls) {
+        Ok(controls) => Ok(Office { setup, controls }),
+        Err(fault) => Err(fault),
     }
 }
 
-fn controls_fault<'a>(fault: FileFault) -> OfficeFault<'a> {
-    match fault.kind {
-        FileKind::NoMemory => OfficeFault::NoMemory,
-        _ => OfficeFault::Controls(fault),
+/// The setup of a file that was read.
+fn setup_in<'a>(
+    alloc: Global,
+    file: Result<Vec<u8>, OfficeFault<'a>>,
+) -> Result<Setup, OfficeFault<'a>>
+    ensures { SetupOf file.entry result }
+{
+    match Setup::read(alloc, file?.as_slice()) {
+        Ok(setup) => Ok(setup),
+        Err(fault) if fault.kind == FileKind::NoMemory => Err(OfficeFault::NoMemory),
+        Err(fault) => Err(OfficeFault::Setup(fault)),
+    }
+}
+
+/// The controls of a file that was read.
+fn controls_in<'a>(
+    alloc: Global,
+    file: Result<Vec<u8>, OfficeFault<'a>>,
+) -> Result<Controls, OfficeFault<'a>>
+    ensures { ControlsOf file.entry result }
+{
+    match Controls::read(alloc, file?.as_slice()) {
+        Ok(controls) => Ok(controls),
+        Err(fault) if fault.kind == FileKind::NoMemory => Err(OfficeFault::NoMemory),
+        Err(fault) => Err(OfficeFault::Controls(fault)),
     }
 }
 

@@ -1,10 +1,12 @@
 //! `faxqd replay`: answers one input from empty tables in memory on.
 ghost use Rattle.std.specs.Prelude.{◌≡◌};
-ghost use Rattle.faxqd.specs.Replay.{Ends};
+ghost use Rattle.faxqd.specs.Replay.{Ends, EndsWith};
 
 use crate::office::{OfficeFiles, read_office, report};
 use crate::status::{Status, fail};
 use fax_http::End;
+use fax_once::Office;
+use std::alloc::Global;
 use std::io::{Read, Write};
 
 /// Reads the files, then messages from `reader`, writes their replies to `out`, and a fault as one line
@@ -16,21 +18,35 @@ pub fn replay<R: Read, W: Write, E: Write>(
     out: &mut W,
     err: &mut E,
 ) -> Status
-    ensures { Ends (R.remaining reader.old) (R.remaining reader.new) (W.contents out.old) (W.contents out.new) result }
+    ensures ends { Ends files.entry (R.remaining reader.old) (R.remaining reader.new) (W.contents out.old) (W.contents out.new) result }
+    ensures silent { result ≡ Status.Success → err.new ≡ err.old }
 {
     match read_office(rt, files) {
-        Ok(office) => {
-            let end = fax_desk::replay(rt.alloc(), office, reader, out);
-            tell(err, end)
-        }
+        Ok(office) => replay_with(rt.alloc(), office, reader, out, err),
         Err(fault) => report(err, fault),
     }
+}
+
+/// Answers the messages by that office.
+fn replay_with<R: Read, W: Write, E: Write>(
+    alloc: Global,
+    office: Office,
+    reader: &mut R,
+    out: &mut W,
+    err: &mut E,
+) -> Status
+    ensures ends { EndsWith office (R.remaining reader.old) (R.remaining reader.new) (W.contents out.old) (W.contents out.new) result }
+    ensures silent { result ≡ Status.Success → err.new ≡ err.old }
+{
+    let end = fax_desk::replay(alloc, office, reader, out);
+    tell(err, end)
 }
 
 /// Says on one line how an input ended, where it didn't end as it should.
 fn tell<E: Write>(err: &mut E, end: End) -> Status
     ensures success { end ≡ End.Closed → result ≡ Status.Success }
     ensures fault { ¬ (end ≡ End.Closed) → result ≡ Status.Fault }
+    ensures silent { end ≡ End.Closed → err.new ≡ err.old }
 {
     match end {
         End::Closed => Status::Success,
