@@ -19,9 +19,7 @@ use crate::work::Work;
 use fax_core::Grant;
 use fax_job::Dial;
 use fax_job::limits::MOST_PAGES;
-use fax_tables::{
-    Hold, Meta, PAST_GRANTS, StoreFault, call_number, grant_in, is_open_grant,
-};
+use fax_tables::{Hold, Meta, PAST_GRANTS, StoreFault, call_number, grant_in, is_open_grant};
 use sqlite::{Alter, params};
 
 const SELECT_GRANT: &str = "SELECT id, job, modem, first_page, last_page, call, pages, shut \
