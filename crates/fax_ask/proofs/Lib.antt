@@ -7,6 +7,7 @@ mod CollectionLemmas
 mod RoutedLemmas
 mod RequestLemmas
 pub mod AloneLemmas
+mod EachLemmas
 mod AskLemmas
 mod LimitLemmas
 mod ReportLemmas

@@ -8,7 +8,7 @@ use Rattle.fax_core.specs.Reply.{Keys}
 use Rattle.fax_ask.specs.declared.method.Method.{Method}
 use Rattle.fax_ask.specs.declared.request.Request.{Request}
 use Rattle.fax_ask.specs.Answer.{Told}
-use Rattle.fax_ask.specs.Ask.{IsAsk, IsRefused}
+use Rattle.fax_ask.specs.Ask.{Asks, IsAsk, IsBodyRefusal, IsRefused}
 use Rattle.fax_ask.specs.declared.ask.Ask.{Ask}
 use Rattle.fax_ask.specs.Request.{request_of}
 use Rattle.fax_ask.specs.Response.{accepted_response, refused_response}
@@ -28,6 +28,10 @@ AskOrRefusal = (method : Method) (path body : List ℕ) (ask : Ask) (refusal : R
 -- a body has one fault at most
 abbrev pub OneFault : Type 0
 OneFault = (method : Method) (path body : List ℕ) (f g : BodyFault) → IsRefused method path body (BadBody f) → IsRefused method path body (BadBody g) → f ≡ g
+
+-- a request with this body asks for something, or the body has a fault
+abbrev pub AsksOrHasFault : List ℕ → Type 0
+AsksOrHasFault body = (request : Request) → ((ask : Ask) × Asks request body ask) ⊎ ((fault : BodyFault) × IsBodyRefusal request body (BadBody fault))
 
 -- an accepted request is answered with 200 or 201
 abbrev pub AcceptedAre200Or201 : Type 0

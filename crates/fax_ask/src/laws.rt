@@ -3,7 +3,7 @@
 //! Each function here does nothing: its contract is the law. The statements stand in
 //! `specs/Laws.antt`.
 
-ghost use Rattle.fax_ask.specs.Laws.{AcceptedAre200Or201, AskOrRefusal, OneAsk, OneFault, OnlyUnavailableIs503, RoutedPathsLackLf};
+ghost use Rattle.fax_ask.specs.Laws.{AcceptedAre200Or201, AskOrRefusal, AsksOrHasFault, OneAsk, OneFault, OnlyUnavailableIs503, RoutedPathsLackLf};
 
 /// A path that names a request has no LF. So a path, LF and a body tell one request from another.
 pub fn paths()
@@ -18,6 +18,14 @@ pub fn asks()
     ensures refused { AskOrRefusal }
     ensures fault { OneFault }
 {}
+
+/// A request with this body asks for something, or the body has a fault. So no body leaves
+/// [`Routes::read_ask`](crate::Routes::read_ask) without an answer. All that is done is to look whether the body is text.
+pub fn each_asks_or_has_fault(body: &[u8])
+    ensures { AsksOrHasFault body.now }
+{
+    let _ = str::from_utf8(body);
+}
 
 /// An accepted request is answered with 200 or 201, and a refused one with 503 only where memory or
 /// the store gave out. So a reply of 503 says that the request was as good as lost.

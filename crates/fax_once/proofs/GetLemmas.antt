@@ -1,5 +1,5 @@
 -- A GET asks for a view.
-use Rattle.std.proofs.Common.{◌≡◌, ℕ, Bool, true, false, List, [], ◌∷◌, Option, Some, None, refl, sym, subst, if◌then◌else◌}
+use Rattle.std.proofs.Common.{◌≡◌, ℕ, Bool, true, false, List, [], ◌∷◌, Option, Some, None, refl, subst, if◌then◌else◌}
 use Rattle.std.specs.Prelude.{MatchOption, codes, length, option_and_then, ◌==◌}
 use Rattle.std.specs.Str.{bytes_eq}
 use Rattle.fax_core.specs.declared.ask.Ask.{Ask}

@@ -36,6 +36,11 @@ pub data Verdict : Type 0 where
   -- the queue and the kept replies are these afterwards
   Accepted : (after : Queue) (kept : List Entry) (reply : Response) → Verdict
 
+-- what is answered
+abbrev pub reply_of : Verdict → Response
+reply_of (Told reply) = reply
+reply_of (Accepted after kept reply) = reply
+
 -- nothing changes, and a refusal is told that says no more than its number and word, or a fault of the body
 abbrev pub denied : Refusal → Verdict
 denied refusal = Told (refused_response refusal NoKeys)
