@@ -44,7 +44,7 @@ files_in rows = (first_of (codes "setup") rows, first_of (codes "controls") rows
 abbrev pub IsPlanOf : Option (Text × List Row) → Plan → Type 0
 IsPlanOf found plan = (rows : List Row) × (found ≡ Some (codes "replay", rows)) × (names_files plan ≡ files_in rows)
 
--- the command is none that there is
+-- the words name no command
 abbrev pub IsNoCommand : Option (Text × List Row) → Type 0
 IsNoCommand found = (rows : List Row) → ¬ (found ≡ Some (codes "replay", rows))
 

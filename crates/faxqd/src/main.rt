@@ -15,6 +15,7 @@ fn called_with(rt: &HostRuntime) -> io::Result<Vec<String>> {
     Ok(env::args(rt)?.collect(rt.alloc())?)
 }
 
+// The types of the streams are named, so that no two of them can change places.
 fn main(rt: HostRuntime) -> ExitCode {
     let status = match called_with(&rt) {
         Ok(words) => command::run::<io::Stdin, io::Stdout, io::Stderr>(
