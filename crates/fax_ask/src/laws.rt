@@ -1,6 +1,6 @@
 //! Laws of the definitions.
 //!
-//! Each function here does nothing: its contract is the law. The statements stand in
+//! Each function here changes nothing: its contract is the law. The statements stand in
 //! `specs/Laws.antt`.
 
 ghost use Rattle.fax_ask.specs.Laws.{AcceptedAre200Or201, AskOrRefusal, AsksOrHasFault, OneAsk, OneFault, OnlyUnavailableIs503, RoutedPathsLackLf};
@@ -19,8 +19,9 @@ pub fn asks()
     ensures fault { OneFault }
 {}
 
-/// A request with this body asks for something, or the body has a fault. So no body leaves
-/// [`Routes::read_ask`](crate::Routes::read_ask) without an answer. All that is done is to look whether the body is text.
+/// A request with this body asks for something, or the body has a fault. So each body has its answer,
+/// which [`Routes::read_ask`](crate::Routes::read_ask) gives unless memory runs out. All that is done
+/// is to look whether the body is text.
 pub fn each_asks_or_has_fault(body: &[u8])
     ensures { AsksOrHasFault body.now }
 {

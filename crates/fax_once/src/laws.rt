@@ -1,6 +1,6 @@
 //! Laws of the definitions.
 //!
-//! What such a function does is nothing: its contract is the law. The statements stand in
+//! Such a function changes nothing: its contract is the law. The statements stand in
 //! `specs/Laws.antt`.
 
 ghost use Rattle.fax_once.specs.Laws.{AcceptedOnce, HasVerdict, NoVerdictIsUnavailable, OneVerdict};
