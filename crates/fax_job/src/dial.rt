@@ -1,9 +1,9 @@
 //! Numbers to dial.
 
-ghost use Rattle.std.specs.Prelude.{◌≡◌, ℕ, List, IfOk};
-ghost use Rattle.std.specs.List.{list_all};
+ghost use Rattle.std.specs.Prelude.{◌≡◌, ℕ, ◌<◌, ◌||◌, not, List, length, IfOk, IfSome};
+ghost use Rattle.std.specs.List.{list_all, position_from};
 ghost use Rattle.std.specs.String.{string_bytes};
-ghost use Rattle.fax_job.specs.Gives.{Gives};
+ghost use Rattle.fax_job.specs.Gives.{Gives, Tells};
 ghost use Rattle.fax_job.specs.TextFault.{is_no_memory};
 ghost use Rattle.fax_job.specs.Dial.{is_separator, is_key, are_keys, is_canonical, IsCanonical, without_separators, dial_of};
 
@@ -33,12 +33,14 @@ impl Dial {
     /// The number that a text spells. Spaces, `-`, `.`, `(` and `)` are taken out of it; what remains
     /// is the canonical form.
     pub fn read(alloc: Global, text: &str) -> Result<Dial, DialFault>
-        ensures { Gives is_no_memory result (dial_of text.now) }
+        ensures read { Gives is_no_memory result (dial_of text.now) }
+        ensures told { Tells result (dial_of text.now) }
     {
-        let kept = without_separators(alloc, text.as_bytes())?;
-        if !is_canonical(&kept) {
+        let bytes = text.as_bytes();
+        if !spells_number(bytes) {
             return Err(DialFault::Bad);
         }
+        let kept = without_separators(alloc, bytes)?;
         let text = String::from_utf8(kept).unwrap();
         Ok(Dial { text })
     }
@@ -73,23 +75,42 @@ fn is_key(byte: u8) -> bool
     byte.is_ascii_digit() || byte == b'*' || byte == b'#'
 }
 
-fn is_canonical(text: &[u8]) -> bool
-    ensures { result ≡ is_canonical text.now }
+/// Whether a text without its separators is a number in the canonical form.
+fn spells_number(text: &[u8]) -> bool
+    ensures { result ≡ is_canonical (without_separators text.now) }
 {
-    match text {
-        [b'+', keys @ ..] => are_keys(keys),
-        _ => are_keys(text),
+    match first_kept(text) {
+        Some(first) if text[first] == b'+' => spells_keys(&text[first + 1..]),
+        _ => spells_keys(text),
     }
 }
 
-fn are_keys(text: &[u8]) -> bool
-    ensures { result ≡ are_keys text.now }
+/// The place of a text's first byte that is no separator.
+fn first_kept(text: &[u8]) -> Option<usize>
+    ensures place { result ≡ position_from (λ byte. not (is_separator byte)) 0 text.now }
+    ensures bound { IfSome result (λ place. place < length text.now) }
 {
-    !text.is_empty() && text.len() <= 32 && is_of_keys(text)
+    text.iter().position(|byte| !is_separator(*byte))
 }
 
-fn is_of_keys(text: &[u8]) -> bool
-    ensures { result ≡ list_all is_key text.now }
+/// Whether a text without its separators is 1 to 32 keys.
+#[tactic(auto, using(crate::proofs::DialLemmas::keys_kept))]
+fn spells_keys(text: &[u8]) -> bool
+    ensures { result ≡ are_keys (without_separators text.now) }
 {
-    text.iter().all(|byte| is_key(*byte))
+    let count = count_kept(text);
+    1 <= count && count <= 32 && is_of_keys_and_separators(text)
+}
+
+/// How many bytes of a text are no separators.
+fn count_kept(text: &[u8]) -> usize
+    ensures { result ≡ length (without_separators text.now) }
+{
+    text.iter().filter(|byte| !is_separator(**byte)).count()
+}
+
+fn is_of_keys_and_separators(text: &[u8]) -> bool
+    ensures { result ≡ list_all (λ byte. is_separator byte || is_key byte) text.now }
+{
+    text.iter().all(|byte| is_separator(*byte) || is_key(*byte))
 }

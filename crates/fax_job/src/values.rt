@@ -26,7 +26,8 @@ fn fault_of(bad: OrderFault, fault: TextFault) -> OrderFault
 
 #[tactic(auto, unfolding(crate::specs::Order::dial_in))]
 pub(crate) fn dial_of(alloc: Global, value: &str) -> Result<Dial, OrderFault>
-    ensures { Gives is_no_memory result (dial_in value.now) }
+    ensures read { Gives is_no_memory result (dial_in value.now) }
+    ensures told { Tells result (dial_in value.now) }
 {
     if value.is_empty() {
         return Err(OrderFault::NoNumber);
