@@ -12,3 +12,4 @@ mod ChoiceLemmas
 mod GivenLemmas
 mod PlainLemmas
 pub mod OpenLemmas
+pub mod FreeLemmas

@@ -1,11 +1,13 @@
 -- What an accepted request changes in the queue, beside ageing it and setting the clock.
-use Rattle.std.specs.Prelude.{ℕ, ⊤}
+use Rattle.std.specs.Prelude.{◌<◌, ◌≤◌, ℕ, ⊤}
 use Rattle.fax_core.specs.Job.{job_of}
 use Rattle.fax_core.specs.Machine.{with_grant, with_mark, with_job as with_change}
 use Rattle.fax_core.specs.Queue.{Queue}
-use Rattle.fax_store.specs.Grant.{IsReport, with_closed, with_one_more_grant}
-use Rattle.fax_store.specs.Job.{IsChange, with_expired, with_one_more_job}
+use Rattle.fax_job.specs.Limits.{most_pages}
+use Rattle.fax_store.specs.Grant.{IsNewGrant, IsReport, with_closed, with_one_more_grant}
+use Rattle.fax_store.specs.Job.{IsChange, IsNewJob, with_expired, with_one_more_job}
 use Rattle.fax_store.specs.Meta.{with_clock}
+use Rattle.fax_tables.specs.Grant.{IsOpenGrant}
 use Rattle.fax_decide.specs.declared.effect.Effect.{Effect}
 use Rattle.fax_decide.specs.declared.effect.Effect.TheVariants.{Nothing, NewJob, ChangedJob, Marked, NewGrant, Reported, Closed}
 
@@ -28,6 +30,32 @@ Suits (Marked modem down) m = ⊤
 Suits (NewGrant job grant) m = IsChange (job_of job) m
 Suits (Reported job grant) m = IsChange (job_of job) m × IsReport grant (with_change (job_of job) m)
 Suits (Closed job grant) m = IsChange (job_of job) m
+
+-- a new job or grant has a number that none has, and neither the modem nor the job of a new grant holds one
+abbrev pub IsFree : Effect → Queue → Type 0
+IsFree Nothing m = ⊤
+IsFree (NewJob job) m = IsNewJob (job_of job) m
+IsFree (ChangedJob job) m = ⊤
+IsFree (Marked modem down) m = ⊤
+IsFree (NewGrant job grant) m = IsNewGrant grant (with_change (job_of job) m)
+IsFree (Reported job grant) m = ⊤
+IsFree (Closed job grant) m = ⊤
+
+-- a new grant is open, a next number is left, and what is written is within its limits
+abbrev pub IsWithin : Effect → Queue → Type 0
+IsWithin Nothing m = ⊤
+IsWithin (NewJob job) m = m.next_job < 1000000
+IsWithin (ChangedJob job) m = ⊤
+IsWithin (Marked modem down) m = ⊤
+IsWithin (NewGrant job grant) m = IsOpenGrant grant × m.next_grant < 1000000000
+IsWithin (Reported job grant) m = grant.confirmed ≤ most_pages
+IsWithin (Closed job grant) m = ⊤
+
+-- The tables take the change: it suits the queue, no key of what is new is taken, and all is within its limits.
+pub record IsWritable (effect : Effect) (m : Queue) : Type 0 where
+  pub suits : Suits effect m
+  pub free : IsFree effect m
+  pub within : IsWithin effect m
 
 -- the queue is aged, the change is made, and the clock is set
 abbrev pub accepted : ℕ → Effect → Queue → Queue

@@ -3,8 +3,8 @@
 ghost use Rattle.std.specs.Prelude.{◌≡◌, true, OnErr};
 ghost use Rattle.sqlite.specs.Held.{state};
 ghost use Rattle.fax_store.specs.Store.{Serves};
-ghost use Rattle.fax_store.specs.Work.{ChangesWhere, Holds};
-ghost use Rattle.fax_decide.specs.Effect.{Suits, effected};
+ghost use Rattle.fax_store.specs.Work.{ChangesWhere, Holds, IsOnlyUnavailable};
+ghost use Rattle.fax_decide.specs.Effect.{IsWritable, Suits, effected};
 
 use fax_core::Grant;
 use fax_job::{Job, Name};
@@ -33,7 +33,8 @@ impl Effect {
     ///
     /// # Errors
     ///
-    /// Those of the store.
+    /// `Unavailable`, or `Strange` where what is new has a key that is taken, or what is written is
+    /// past its limits.
     pub fn write<S: Alter>(&self, work: &mut Work<'_, S>) -> Result<(), StoreFault>
         ensures same_reference { work.new.store.ghost_name ≡ work.old.store.ghost_name }
         ensures served { Serves (state S.Store work.new.store.now.conn)
@@ -43,6 +44,8 @@ impl Effect {
         ensures fails { OnErr result (work.new.failed ≡ true) }
         ensures changes { ChangesWhere (Suits self.now) (state S.Store work.old.store.now.conn) work.old.failed
             (state S.Store work.new.store.now.conn) work.new.failed (effected self.now) (λ k. k) }
+        ensures cause { IsOnlyUnavailable (state S.Store work.old.store.now.conn) work.old.failed
+            (state S.Store work.new.store.now.conn) result (λ m k. IsWritable self.now m) }
     {
         match self {
             Effect::Nothing => Ok(()),

@@ -1,15 +1,17 @@
 //! Accepting a request: its effect and its kept reply, in one transaction.
 
-ghost use Rattle.std.specs.Prelude.{◌≡◌, ◌++◌, ◌∷◌, [], List, MatchResult, OnErr, OnOk};
+ghost use Rattle.std.specs.Prelude.{◌≡◌, ◌++◌, ◌∷◌, [], IfErr, List, MatchResult, OnErr, OnOk};
 ghost use Rattle.sqlite.specs.Held.{state};
 ghost use Rattle.sqlite.specs.State.{HasCleanDisk};
 ghost use Rattle.fax_core.specs.Queue.{Queue, Entry};
 ghost use Rattle.fax_store.specs.Job.{with_expired};
+ghost use Rattle.fax_job.specs.Name.{IsName};
+ghost use Rattle.fax_store.specs.Kept.{IsUnkept};
 ghost use Rattle.fax_tables.specs.Kept.{entry};
 ghost use Rattle.fax_tables.specs.Tables.{IsKeptStatus};
 ghost use Rattle.fax_store.specs.Store.{Means, Serves, Stays};
-ghost use Rattle.fax_store.specs.Work.{ChangesWhere, Holds};
-ghost use Rattle.fax_decide.specs.Effect.{Suits, accepted};
+ghost use Rattle.fax_store.specs.Work.{ChangesWhere, Holds, IsOnlyUnavailable};
+ghost use Rattle.fax_decide.specs.Effect.{IsWritable, Suits, accepted};
 
 use crate::sender::Sender;
 use fax_ask::Reply;
@@ -44,6 +46,11 @@ pub(crate) fn commit_accepted<S: Alter>(
         (λ _. Means (state S.Store store.new.conn) (accepted decided_at effect.now m)
         (k ++ entry sender.now.client.now sender.now.number said.now reply.now.status reply.now.body ∷ []))
         (λ _. Means (state S.Store store.new.conn) m k) }
+    ensures cause { (m : Queue) (k : List Entry) → Means (state S.Store store.old.conn) m k
+        → (Serves (state S.Store store.old.conn) → IsWritable effect.now (with_expired decided_at m)
+        × IsName sender.now.client.now × IsKeptStatus reply.now.status
+        × IsUnkept sender.now.client.now sender.now.number k)
+        → Serves (state S.Store store.new.conn) → IfErr result (λ fault. fault ≡ StoreFault.Unavailable) }
 {
     let mut work = store.begin()?;
     write(&mut work, decided_at, effect, sender, said, reply)?;
@@ -71,6 +78,11 @@ fn write<S: Alter>(
         (state S.Store work.new.store.now.conn) work.new.failed
         (accepted decided_at effect.now)
         (λ k. k ++ entry sender.now.client.now sender.now.number said.now reply.now.status reply.now.body ∷ []) }
+    ensures cause { IsOnlyUnavailable (state S.Store work.old.store.now.conn) work.old.failed
+        (state S.Store work.new.store.now.conn) result
+        (λ m k. IsWritable effect.now (with_expired decided_at m)
+        × IsName sender.now.client.now × IsKeptStatus reply.now.status
+        × IsUnkept sender.now.client.now sender.now.number k) }
 {
     work.expire_all(decided_at)?;
     effect.write(work)?;

@@ -1,26 +1,26 @@
 -- What the texts on grants and holds write.
-use Rattle.std.proofs.Common.{◌≡◌, ◌≤◌, inl, inr, ℕ, pos, List, [], ◌∷◌, ◌++◌, map, filter, drop, Bool, true, false, not, ◌&&◌, Option, Some, None, if◌then◌else◌, IsTrue, refl, sym, ap, ap₂, subst, ◌∙◌}
+use Rattle.std.proofs.Common.{◌≡◌, ◌≤◌, inl, inr, ℕ, ℤ, pos, List, [], ◌∷◌, ◌++◌, map, filter, drop, Bool, true, false, not, ◌&&◌, Option, Some, None, Err, if◌then◌else◌, IsTrue, refl, sym, ap, ap₂, subst, ◌∙◌}
 use Rattle.std.specs.Prelude.{find, ◌==◌}
 use Rattle.std.specs.List.Sorted.{IsPermutation}
-use Rattle.std.proofs.lemmas.Bool.{cases_Bool, eqb-true, eq-eqb}
+use Rattle.std.proofs.lemmas.Bool.{cases_Bool, eqb-true, eq-eqb, false_from_ne_true}
 use Rattle.std.proofs.lemmas.List.Sorted.{IsPermutation-sym, IsPermutation-trans, IsPermutation-cons, IsPermutation-to_front, IsPermutation-map}
 use Rattle.sqlite.specs.Cast.{cast_row}
 use Rattle.sqlite.specs.Edit.{is_taken, with_rowid, next_rowid}
 use Rattle.sqlite.specs.Order.{Row, column}
 use Rattle.sqlite.specs.Rowids.TheVariants.{Chosen}
-use Rattle.sqlite.specs.State.{State}
+use Rattle.sqlite.specs.State.{State, Executes}
 use Rattle.sqlite.specs.Tree.{rowid, put_row, IsTable}
 use Rattle.sqlite.specs.declared.types.Value.TheVariants.{Null, Int, Text}
 use Rattle.sqlite.proofs.Callers.{runs_as}
 use Rattle.sqlite_rules.specs.Lists.{Has}
-use Rattle.sqlite_rules.proofs.ListLemmas.{has_found}
+use Rattle.sqlite_rules.proofs.ListLemmas.{has_filtered, has_found}
 use Rattle.sqlite_trees.proofs.ListLemmas.{IsPermutation-filter, filter_same, all_of}
 use Rattle.fax_core.specs.Machine.{with_grant}
 use Rattle.fax_core.specs.Queue.{Queue, Entry, open_grants, grant_numbered}
 use Rattle.fax_core.specs.declared.grants.Grant.{Grant}
 use Rattle.fax_job.specs.Name.{IsName}
 use Rattle.fax_store.specs.declared.grants.TheConstants.{INSERT_GRANT, INSERT_HOLD, UPDATE_REPORT, SHUT_GRANT, DELETE_HOLD}
-use Rattle.fax_store.specs.Grant.{IsSameGrant, IsReport, with_placed, with_shut, with_closed}
+use Rattle.fax_store.specs.Grant.{IsNewGrant, IsSameGrant, IsReport, with_placed, with_shut, with_closed}
 use Rattle.fax_tables.specs.Place.{placed}
 use Rattle.fax_tables.specs.Row.{number, call_number, grant_row, hold_columns}
 use Rattle.fax_tables.specs.Schema as schema
@@ -29,9 +29,18 @@ use Rattle.fax_store.specs.Store.{HasRun}
 use Rattle.fax_tables.specs.Tables.{TablesMean, IsLawfulGrant, IsByRowid}
 use Rattle.fax_tables.proofs.AppendLemmas.{appended}
 use Rattle.fax_store.proofs.ChangeLemmas.{all_mapped}
-use Rattle.fax_tables.proofs.ColumnLemmas.{kept_permuted}
-use Rattle.fax_tables.proofs.CompareLemmas.{are_equal, is_number, same_row, cast_int, cast_null}
+use Rattle.fax_tables.proofs.ColumnLemmas.{kept_permuted, record_of}
+use Rattle.fax_tables.proofs.CompareLemmas.{are_equal, equal_texts, is_number, same_row, cast_int, cast_null}
 use Rattle.fax_store.proofs.GrantTexts.{grant_tests, grant_terms, report_project, shut_project, held_tests, hold_terms, insert_grant, insert_hold, update_report, shut_grant, delete_hold}
+use Rattle.fax_tables.proofs.FreeLemmas.{free_row, none_found}
+use Rattle.fax_tables.proofs.RefusalLemmas.{no_rule_broken}
+use Rattle.fax_tables.proofs.StandLemmas.{hold_may, grant_may}
+use Rattle.fax_tables.specs.Fault.{fault_of}
+use Rattle.fax_tables.specs.declared.fault.StoreFault.TheVariants.{Unavailable}
+use Rattle.sqlite.specs.declared.error.Error.{Error}
+use Rattle.sqlite_schema.specs.Rules.{agree}
+use Rattle.sqlite_value.specs.Keys.{first_key, plain}
+use Rattle.std.specs.Str.{bytes_eq}
 use Rattle.fax_tables.proofs.KeyLemmas.{only_numbered, asked_is, not_asked, row_placed, all_placed, placed_permuted, free_of}
 use Rattle.fax_tables.proofs.SelectLemmas.{passes, show}
 use Rattle.fax_tables.proofs.TablesLemmas.{AreRecords, AreHeld, Parts, parts_of, means_of, held_as, grants_changed, holds_changed, by_rowid_put}
@@ -65,6 +74,9 @@ module _ (g : Grant) where
       let both = IsPermutation-filter (λ (x : Grant). x.is_open) (g ∷ gs) (placed (λ (x : Grant). x.number) g gs) (placed_permuted grant_row (λ (x : Grant). x.number) (λ x. refl) g gs) in
       subst (λ (b : Bool). IsPermutation (if b then g ∷ filter (λ x. x.is_open) gs else filter (λ x. x.is_open) gs) (filter (λ x. x.is_open) (placed (λ (x : Grant). x.number) g gs))) is_open both
 
+  open_row : IsTrue g.is_open → grant_row g ≡ number g.number ∷ Null ∷ number g.job ∷ Text g.modem ∷ number g.first_page ∷ number g.last_page ∷ number (call_number g.call) ∷ number g.confirmed ∷ number 0 ∷ []
+  open_row is_open = ap (λ (b : Bool). number g.number ∷ Null ∷ number g.job ∷ Text g.modem ∷ number g.first_page ∷ number g.last_page ∷ number (call_number g.call) ∷ number g.confirmed ∷ number (if b then 0 else 1) ∷ []) is_open
+
   module _ (old mid new : State) (m : Queue) (k : List Entry) (means : TablesMean old.now m k) where
     hold_inserted : HasRun INSERT_HOLD.now hold_params old mid → InsertsRow six_tables holds_tree old mid (Int (next_rowid (old.now.trees holds_tree)) ∷ hold_columns g)
     hold_inserted h =
@@ -93,8 +105,7 @@ module _ (g : Grant) where
     pub grant_put : IsTrue g.is_open → IsLawfulGrant g → HasRun INSERT_HOLD.now hold_params old mid → HasRun INSERT_GRANT.now grant_params mid new → TablesMean new.now (with_placed g m) k × KeepsOthers six_tables grants_tree mid new
     grant_put is_open lawful h more =
         let was = held h in
-        let row : grant_row g ≡ number g.number ∷ Null ∷ number g.job ∷ Text g.modem ∷ number g.first_page ∷ number g.last_page ∷ number (call_number g.call) ∷ number g.confirmed ∷ number 0 ∷ [] =
-        ap (λ (b : Bool). number g.number ∷ Null ∷ number g.job ∷ Text g.modem ∷ number g.first_page ∷ number g.last_page ∷ number (call_number g.call) ∷ number g.confirmed ∷ number (if b then 0 else 1) ∷ []) is_open in
+        let row = open_row is_open in
         let ran = runs_as INSERT_GRANT.now grant_params mid new six_tables was.schema _ insert_grant.is insert_grant.plain more.0 more.1 in
         let done = inserts six_tables unreferred schema.grants.name 1 schema.grants.columns schema.grants.key schema.grants.primary schema.grants.uniques schema.grants.orders schema.grants.checks 1 refl mid new was.schema grant_params _ more.0
         grant_terms 9 (grant_row g) (grant_row g) (ap (λ r. r ∷ []) (sym row)) (ap (with_rowid Chosen (mid.now.trees grants_tree)) (stored_grant g)) ran in
@@ -111,6 +122,44 @@ module _ (g : Grant) where
           ordered = after.holds.ordered;
         } in
         (means_of new.now (with_placed g m) k (held_as new.now (with_placed g m) (g ∷ open_grants m) (open_grants (with_placed g m)) k holds after), done.keeps)
+
+    -- the row of a hold agrees with the new one where modem, job or grant is the same
+    modem_agrees : (r : Row) (h : Grant) (id : ℤ) → drop 1 r ≡ hold_columns h → agree plain (1 ∷ []) r (1 ∷ []) (Int id ∷ hold_columns g) ≡ bytes_eq h.modem g.modem
+    unfolding first_key
+    modem_agrees [] h id is = absurd cc
+    modem_agrees (i ∷ columns) h id is = ap (λ rest. agree plain (1 ∷ []) (i ∷ rest) (1 ∷ []) (Int id ∷ hold_columns g)) is ∙ and_true (are_equal (Text h.modem) (Text g.modem)) ∙ equal_texts h.modem g.modem
+
+    job_agrees : (r : Row) (h : Grant) (id : ℤ) → drop 1 r ≡ hold_columns h → agree plain (2 ∷ []) r (2 ∷ []) (Int id ∷ hold_columns g) ≡ (h.job == g.job)
+    unfolding first_key
+    job_agrees [] h id is = absurd cc
+    job_agrees (i ∷ columns) h id is = ap (λ rest. agree plain (2 ∷ []) (i ∷ rest) (2 ∷ []) (Int id ∷ hold_columns g)) is ∙ and_true (are_equal (number h.job) (number g.job)) ∙ is_number h.job g.job
+
+    number_agrees : (r : Row) (h : Grant) (id : ℤ) → drop 1 r ≡ hold_columns h → agree plain (3 ∷ []) r (3 ∷ []) (Int id ∷ hold_columns g) ≡ (h.number == g.number)
+    unfolding first_key
+    number_agrees [] h id is = absurd cc
+    number_agrees (i ∷ columns) h id is = ap (λ rest. agree plain (3 ∷ []) (i ∷ rest) (3 ∷ []) (Int id ∷ hold_columns g)) is ∙ and_true (are_equal (number h.number) (number g.number)) ∙ is_number h.number g.number
+
+    -- a hold of a modem and a job that hold none breaks no rule
+    pub hold_goes : IsNewGrant g m → (e : Error) → Executes INSERT_HOLD.now hold_params old mid (Err e) → fault_of e ≡ Unavailable
+    hold_goes free =
+        let rows = old.now.trees holds_tree in
+        let id = next_rowid rows in
+        let by = λ (r : Row) (has : Has rows r). record_of hold_columns rows (open_grants m) means.holds r has in
+        let may = hold_may old.now means.schema means.sound g means.ordered.holds
+        (λ r has. let it = by r has in modem_agrees r it.0 id it.2 ∙ none_found (λ (h : Grant). bytes_eq h.modem g.modem) (open_grants m) it.0 free.modem it.1)
+        (λ r has. let it = by r has in job_agrees r it.0 id it.2 ∙ false_from_ne_true _ (λ same. free.job it.0 it.1 (eqb-true it.0.job g.job same)))
+        (λ r has. let it = by r has in number_agrees r it.0 id it.2 ∙ none_found (λ (h : Grant). h.number == g.number) m.grants it.0 free.number (has_filtered (λ (h : Grant). h.is_open) m.grants it.0 it.1).0) in
+        no_rule_broken schema.holds.name 2 schema.holds.columns schema.holds.key schema.holds.primary schema.holds.uniques schema.holds.orders schema.holds.checks 2 refl old means.schema hold_params hold_terms 4 (Null ∷ hold_columns g)
+        (Int id ∷ hold_columns g) refl (ap (with_rowid Chosen rows) stored_hold) may INSERT_HOLD.now insert_hold mid
+
+    -- and then its grant, of a number that none has
+    pub grant_goes : IsTrue g.is_open → IsNewGrant g m → HasRun INSERT_HOLD.now hold_params old mid → (e : Error) → Executes INSERT_GRANT.now grant_params mid new (Err e) → fault_of e ≡ Unavailable
+    grant_goes is_open free h =
+        let was = held h in
+        let untaken = free_row grant_row (λ (x : Grant). x.number) (λ x. refl) g m.grants free.number in
+        let may = grant_may mid.now was.schema was.sound g (subst (λ rows. is_taken rows (grant_row g) ≡ false) (sym was.grants.is) untaken) in
+        no_rule_broken schema.grants.name 1 schema.grants.columns schema.grants.key schema.grants.primary schema.grants.uniques schema.grants.orders schema.grants.checks 1 refl mid was.schema grant_params grant_terms 9 (grant_row g) (grant_row g)
+        (ap (λ r. r ∷ []) (sym (open_row is_open))) (ap (with_rowid Chosen (mid.now.trees grants_tree)) (stored_grant g)) may INSERT_GRANT.now insert_grant new
 
 -- ---- a report
 

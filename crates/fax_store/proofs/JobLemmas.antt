@@ -1,10 +1,10 @@
 -- What the texts on jobs read and write.
-use Rattle.std.proofs.Common.{◌≡◌, ℕ, zero, suc, pos, ◌+◌, ◌-◌, ◌≤◌, List, [], ◌∷◌, ◌++◌, map, arith, Bool, false, Option, refl, sym, ap, ap₂, subst, ◌∙◌}
+use Rattle.std.proofs.Common.{◌≡◌, ℕ, zero, suc, pos, ◌+◌, ◌-◌, ◌≤◌, List, [], ◌∷◌, ◌++◌, map, arith, Bool, false, Option, Err, refl, sym, ap, ap₂, subst, ◌∙◌}
 use Rattle.std.specs.Option.{option_map}
 use Rattle.std.specs.List.{range_with_len}
 use Rattle.std.proofs.lemmas.List.FromFn.{length-range_with_len}
 use Rattle.sqlite.specs.Order.{Row}
-use Rattle.sqlite.specs.State.{State, IsUnchanged}
+use Rattle.sqlite.specs.State.{State, IsUnchanged, Executes}
 use Rattle.sqlite.specs.Tree.{put_row}
 use Rattle.sqlite.specs.Cast.{cast_row}
 use Rattle.sqlite.specs.Edit.{is_taken, with_rowid}
@@ -21,10 +21,16 @@ use Rattle.fax_tables.specs.Schema.{six_tables, jobs_tree}
 use Rattle.fax_tables.specs.Place.{placed}
 use Rattle.fax_tables.specs.Row.{number, job_row}
 use Rattle.fax_tables.specs.Job.{IsFormed, IsLawfulJob, job_shown}
-use Rattle.fax_store.specs.Job.{with_placed}
+use Rattle.fax_store.specs.Job.{IsNewJob, with_placed}
 use Rattle.fax_tables.specs.Tables.{TablesMean, IsByRowid}
 use Rattle.fax_store.specs.Store.{FindsRow, HasRun}
 use Rattle.fax_tables.proofs.CompareLemmas.{same_row, cast_int, cast_null}
+use Rattle.fax_tables.proofs.FreeLemmas.{free_row}
+use Rattle.fax_tables.proofs.RefusalLemmas.{no_rule_broken}
+use Rattle.fax_tables.proofs.StandLemmas.{job_may}
+use Rattle.fax_tables.specs.Fault.{fault_of}
+use Rattle.fax_tables.specs.declared.fault.StoreFault.TheVariants.{Unavailable}
+use Rattle.sqlite.specs.declared.error.Error.{Error}
 use Rattle.fax_tables.proofs.KeyLemmas.{numbered_found, free_of, row_placed, all_placed}
 use Rattle.fax_tables.proofs.TablesLemmas.{AreRecords, row_of, parts_of, means_of, jobs_changed, by_rowid_put}
 use Rattle.fax_tables.proofs.RowLemmas.{sent_low}
@@ -96,6 +102,15 @@ module _ (old new : State) (m : Queue) (k : List Entry) (means : TablesMean old.
         lawful = all_placed row_of (λ (j : Job). j.number) (λ j. refl) IsLawfulJob (job_of f) m.jobs lawful means.lawful.jobs;
       } in
       (means_of new.now (with_placed (job_of f) m) k (jobs_changed old new m (open_grants m) k (parts_of old.now m k means) done.keeps (placed (λ (j : Job). j.number) (job_of f) m.jobs) now), done.keeps)
+
+  -- a job of a number that none has breaks no rule
+  pub job_goes : IsNewJob (job_of f) m → (e : Error) → Executes INSERT_JOB.now (job_shown f) old new (Err e) → fault_of e ≡ Unavailable
+  job_goes free =
+      let row : row_of (job_of f) ≡ job_row f = ap job_row (fields_back f) in
+      let untaken : is_taken (map row_of m.jobs) (row_of (job_of f)) ≡ false = free_row row_of (λ (j : Job). j.number) (λ j. refl) (job_of f) m.jobs free in
+      let may = job_may old.now means.schema means.sound f (subst (λ rows. is_taken rows (job_row f) ≡ false) (sym means.jobs) (subst (λ r. is_taken (map row_of m.jobs) r ≡ false) row untaken)) in
+      no_rule_broken schema.jobs.name 0 schema.jobs.columns schema.jobs.key schema.jobs.primary schema.jobs.uniques schema.jobs.orders schema.jobs.checks 0 refl old means.schema (job_shown f) job_terms 21 (job_row f) (job_row f) refl
+      (ap (with_rowid Chosen (old.now.trees jobs_tree)) (stored_job f)) may INSERT_JOB.now insert_job new
 
 -- the job of a lawful record
 pub lawful_of_fields : (f : JobFields) → IsLawful f → IsFormed f → IsLawfulJob (job_of f)

@@ -1,5 +1,5 @@
 -- What the texts on the modems that are down read and write.
-use Rattle.std.proofs.Common.{◌≡◌, ℕ, List, [], ◌∷◌, ◌++◌, if◌then◌else◌, map, filter, drop, Bool, true, false, not, ◌&&◌, Option, Some, None, is_some, MatchOption, refl, sym, ap, subst, ◌∙◌}
+use Rattle.std.proofs.Common.{◌≡◌, ℕ, ℤ, List, [], ◌∷◌, ◌++◌, if◌then◌else◌, map, filter, drop, Bool, true, false, not, ◌&&◌, Option, Some, None, Err, is_some, MatchOption, refl, sym, ap, subst, ◌∙◌}
 use Rattle.std.specs.Str.{bytes_eq}
 use Rattle.std.specs.List.Sorted.{IsPermutation}
 use Rattle.std.proofs.lemmas.Slice.Eq.{bytes_eq-Decides}
@@ -9,7 +9,7 @@ use Rattle.sqlite.specs.Edit.{with_rowid, next_rowid}
 use Rattle.sqlite.specs.Listing.{understood}
 use Rattle.sqlite.specs.Order.{Row}
 use Rattle.sqlite.specs.Rowids.TheVariants.{Chosen}
-use Rattle.sqlite.specs.State.{State, IsUnchanged}
+use Rattle.sqlite.specs.State.{State, IsUnchanged, Executes}
 use Rattle.sqlite.specs.declared.types.Value.TheVariants.{Null, Int, Text}
 use Rattle.sqlite.proofs.Callers.{IsPlain, runs_as, reads_as}
 use Rattle.sqlite_rules.specs.Lists.{Has}
@@ -27,6 +27,14 @@ use Rattle.fax_tables.specs.Tables.{TablesMean}
 use Rattle.fax_tables.proofs.ColumnLemmas.{record_of, row_of, kept_columns, all_kept, none_holds}
 use Rattle.fax_tables.proofs.CompareLemmas.{are_equal, equal_texts, same_row, cast_null}
 use Rattle.fax_tables.proofs.EditLemmas.{shown_one, none_shown}
+use Rattle.fax_tables.proofs.FreeLemmas.{none_of}
+use Rattle.fax_tables.proofs.RefusalLemmas.{no_rule_broken}
+use Rattle.fax_tables.proofs.StandLemmas.{down_may}
+use Rattle.fax_tables.specs.Fault.{fault_of}
+use Rattle.fax_tables.specs.declared.fault.StoreFault.TheVariants.{Unavailable}
+use Rattle.sqlite.specs.declared.error.Error.{Error}
+use Rattle.sqlite_schema.specs.Rules.{agree}
+use Rattle.sqlite_value.specs.Keys.{first_key, plain}
 use Rattle.fax_store.proofs.ModemTexts.{down_tests, down_project, down_terms, select_down, insert_down, delete_down}
 use Rattle.fax_tables.proofs.SelectLemmas.{passes, show, answers}
 use Rattle.fax_store.proofs.StatementLemmas.{shown_keeps}
@@ -92,6 +100,24 @@ module _ (modem : List ℕ) where
         let marked = m.down ++ modem ∷ [] in
         let after = down_changed old new m (open_grants m) k was done.keeps marked (one_more down_columns IsName modem m.down (old.now.trees down_tree) (new.now.trees down_tree) done.rows lawful was.down) in
         (subst (λ b. TablesMean new.now (record m { down = if b then m.down else marked }) k) (sym free) (means_of new.now (record m { down = marked }) k after), done.keeps)
+
+    -- the row of a mark agrees with the new one where it is of the same modem
+    agrees : (r : Row) (name : List ℕ) (id : ℤ) → drop 1 r ≡ down_columns name → agree plain (1 ∷ []) r (1 ∷ []) (Int id ∷ down_columns modem) ≡ bytes_eq name modem
+    unfolding first_key
+    agrees [] name id is = absurd cc
+    agrees (i ∷ columns) name id is = ap (λ rest. agree plain (1 ∷ []) (i ∷ rest) (1 ∷ []) (Int id ∷ down_columns modem)) is ∙ and_true (are_equal (Text name) (Text modem)) ∙ equal_texts name modem
+
+    -- a mark that is new breaks no rule
+    pub mark_goes : is_down modem m ≡ false → (e : Error) → Executes INSERT_DOWN.now params old new (Err e) → fault_of e ≡ Unavailable
+    mark_goes free =
+        let rows = old.now.trees down_tree in
+        let row = Int (next_rowid rows) ∷ down_columns modem in
+        let stored : cast_row schema.down (Null ∷ down_columns modem) ≡ Null ∷ down_columns modem = same_row cast_null (same_row refl refl) in
+        let may = down_may old.now means.schema means.sound modem means.ordered.down (λ r has.
+        let it = record_of down_columns rows m.down same r has in
+        agrees r it.0 (next_rowid rows) it.2 ∙ turned it.0 modem ∙ none_of (bytes_eq modem) m.down it.0 free it.1) in
+        no_rule_broken schema.down.name 6 schema.down.columns schema.down.key schema.down.primary schema.down.uniques schema.down.orders schema.down.checks 3 refl old means.schema params down_terms 2 (Null ∷ down_columns modem) row refl
+        (ap (with_rowid Chosen rows) stored) may INSERT_DOWN.now insert_down new
 
 -- a mark that is there already
 pub marked_already : (modem : List ℕ) (m : Queue) → is_down modem m ≡ true → with_mark modem true m ≡ m

@@ -1,10 +1,10 @@
 -- What the texts on the kept replies read.
-use Rattle.std.proofs.Common.{◌≡◌, inl, inr, ℕ, suc, List, [], ◌∷◌, ◌++◌, map, filter, drop, All, arith, Bool, true, false, ◌&&◌, Option, Some, None, MatchOption, refl, sym, ap, subst, ◌∙◌}
-use Rattle.std.proofs.lemmas.Bool.{both_ways}
+use Rattle.std.proofs.Common.{◌≡◌, inl, inr, ℕ, ℤ, suc, List, [], ◌∷◌, ◌++◌, map, filter, drop, All, arith, Bool, true, false, ◌&&◌, Option, Some, None, Err, MatchOption, refl, sym, ap, subst, ◌∙◌}
+use Rattle.std.proofs.lemmas.Bool.{both_ways, false_from_ne_true}
 use Rattle.std.proofs.lemmas.Slice.Eq.{bytes_eq-Decides}
 use Rattle.std.specs.List.Sorted.{IsPermutation}
 use Rattle.sqlite.specs.Order.{Row}
-use Rattle.sqlite.specs.State.{State, IsUnchanged}
+use Rattle.sqlite.specs.State.{State, IsUnchanged, Executes}
 use Rattle.sqlite.specs.declared.types.Value.TheVariants.{Null, Int, Text, Blob}
 use Rattle.sqlite.specs.Listing.{understood}
 use Rattle.sqlite.proofs.Callers.{IsPlain, runs_as, reads_as}
@@ -15,11 +15,18 @@ use Rattle.fax_tables.specs.Schema.{six_tables, replies_tree}
 use Rattle.fax_core.specs.Queue.{Queue, Entry, open_grants}
 use Rattle.fax_tables.specs.Row.{number, entry_columns}
 use Rattle.fax_tables.specs.Kept.{entry_shown}
-use Rattle.fax_store.specs.Kept.{IsOf}
+use Rattle.fax_store.specs.Kept.{IsOf, IsUnkept}
 use Rattle.fax_tables.specs.Tables.{TablesMean, IsLawfulEntry}
 use Rattle.fax_store.specs.Store.{FindsRow, HasRun}
 use Rattle.fax_tables.proofs.CompareLemmas.{are_equal, equal_texts, same_number, number_same, same_row, cast_int, cast_null}
 use Rattle.fax_tables.proofs.EditLemmas.{shown_one, none_shown}
+use Rattle.fax_tables.proofs.RefusalLemmas.{no_rule_broken}
+use Rattle.fax_tables.proofs.StandLemmas.{reply_may}
+use Rattle.fax_tables.specs.Fault.{fault_of}
+use Rattle.fax_tables.specs.declared.fault.StoreFault.TheVariants.{Unavailable}
+use Rattle.sqlite.specs.declared.error.Error.{Error}
+use Rattle.sqlite_schema.specs.Rules.{agree}
+use Rattle.sqlite_value.specs.Keys.{first_key, plain}
 use Rattle.fax_tables.proofs.SelectLemmas.{passes, show, answers}
 use Rattle.fax_store.proofs.StatementLemmas.{shown_keeps}
 use Rattle.fax_store.proofs.StatementTexts.{reply_tests, reply_project, reply_terms, select_reply, insert_reply}
@@ -130,3 +137,24 @@ module _ (old new : State) (m : Queue) (k : List Entry) (means : TablesMean old.
       let done = inserted h in
       let was = parts_of old.now m k means in
       (means_of new.now m (k ++ e ∷ []) (replies_changed old new m (open_grants m) k was done.keeps (k ++ e ∷ []) (one_more entry_columns IsLawfulEntry e k (old.now.trees replies_tree) (new.now.trees replies_tree) done.rows lawful was.replies)), done.keeps)
+
+  -- the row of an entry agrees with the new one where it is of the same number of the same client
+  agrees : (r : Row) (other : Entry) (id : ℤ) → drop 1 r ≡ entry_columns other → agree plain (1 ∷ 2 ∷ []) r (1 ∷ 2 ∷ []) (Int id ∷ entry_columns e) ≡ true → IsOf e.client e.number other
+  unfolding first_key
+  agrees [] other id is on = absurd cc
+  agrees (x ∷ rest) other id is on =
+      let q : (are_equal (Text other.client) (Text e.client) && (are_equal (number other.number) (number e.number) && true)) ≡ true =
+      subst (λ cols. agree plain (1 ∷ 2 ∷ []) (x ∷ cols) (1 ∷ 2 ∷ []) (Int id ∷ entry_columns e) ≡ true) is on in
+      let both = both_true _ _ q in
+      let more = both_true _ _ both.1 in
+      record { client_is = (bytes_eq-Decides other.client e.client).0 (sym (equal_texts other.client e.client) ∙ both.0); number_is = same_number other.number e.number more.0 }
+
+  -- a reply to a number for which none is kept breaks no rule
+  pub reply_goes : IsUnkept e.client e.number k → (fault : Error) → Executes INSERT_REPLY.now reply_params old new (Err fault) → fault_of fault ≡ Unavailable
+  reply_goes free =
+      let rows = old.now.trees replies_tree in
+      let may = reply_may old.now means.schema means.sound e means.ordered.replies (λ r has.
+      let it = entry_of rows k means.replies r has in
+      false_from_ne_true _ (λ on. free it.0 it.1 (agrees r it.0 (next_rowid rows) it.2 on))) in
+      no_rule_broken schema.replies.name 8 schema.replies.columns schema.replies.key schema.replies.primary schema.replies.uniques schema.replies.orders schema.replies.checks 4 refl old means.schema reply_params reply_terms 6
+      (Null ∷ entry_columns e) new_reply refl (ap (with_rowid Chosen rows) (stored_reply e)) may INSERT_REPLY.now insert_reply new

@@ -5,11 +5,12 @@ use Rattle.sqlite.specs.Order.{Row}
 use Rattle.sqlite.specs.State.{State, HasCleanDisk, IsUnchanged, IsRolledBack, Executes}
 use Rattle.fax_tables.specs.declared.fault.StoreFault.{StoreFault}
 use Rattle.fax_tables.specs.declared.fault.StoreFault.TheVariants.{Unavailable}
-use Rattle.fax_tables.specs.Fault.{OrUnavailable}
+use Rattle.sqlite.specs.declared.error.Error.{Error}
+use Rattle.fax_tables.specs.Fault.{OrUnavailable, fault_of}
 use Rattle.fax_core.specs.Queue.{Queue, Entry}
 use Rattle.fax_tables.specs.Tables.{TablesMean}
-use Rattle.fax_store.specs.Store.{Serves, Means, MeansNow, HasRows, HasTables, IsEditText, Stays, LeavesCommit, Reads, HasRun}
-use Rattle.fax_store.specs.Work.{IsOver, Holds, IsUnderWay, Works, Changes, ChangesWhere, Keeps, AnswersIn, Steps, Moves}
+use Rattle.fax_store.specs.Store.{Serves, Means, MeansNow, HasRows, HasTables, IsEditText, Stays, IsRefusedFor, LeavesCommit, Reads, HasRun}
+use Rattle.fax_store.specs.Work.{IsOver, Holds, IsUnderWay, Works, Changes, ChangesWhere, Keeps, AnswersIn, IsOnlyUnavailable, Steps, Moves}
 use Rattle.fax_tables.specs.Schema.{six_tables}
 use Rattle.fax_store.proofs.StatementLemmas.{edit_shows}
 use Rattle.fax_store.proofs.StoreLemmas.{same_tables}
@@ -144,11 +145,10 @@ failed_holds s db over serves = record { began = (over serves).began; goes_on = 
 pub failed_keeps : (s : State) (f : Queue → Queue) (g : List Entry → List Entry) → Changes s true s true f g
 failed_keeps s f g m₀ m k₀ k works serves = record { began = (works serves).began; goes_on = λ on. absurd cc }
 
--- A statement that writes rows of one table is a step of a work.
-pub step_by : (old new : State) (sql : List ℕ) (params : Row) (tree : ℕ) (result : Result (Unit {0}) StoreFault) (m₀ m after : Queue) (k₀ k kept : List Entry) → (Serves new → Serves old) → Works old false m₀ k₀ m k → Serves new
-    → OnOk result (HasRun sql params old new) → OnErr result (LeavesCommit old new) → IfErr result (λ fault. fault ≡ Unavailable)
-    → (TablesMean old.now m k → HasRun sql params old new → TablesMean new.now after kept × KeepsOthers six_tables tree old new) → Steps new result m₀ k₀ after kept
-step_by old new sql params tree (Ok done) m₀ m after k₀ k kept served works s ran left cause does =
+-- A statement that writes rows of one table moves a work on. Where it was refused, the last commit stands.
+pub move_by : (old new : State) (sql : List ℕ) (params : Row) (tree : ℕ) (result : Result (Unit {0}) StoreFault) (m₀ m after : Queue) (k₀ k kept : List Entry) → (Serves new → Serves old) → Works old false m₀ k₀ m k → Serves new
+    → OnOk result (HasRun sql params old new) → OnErr result (LeavesCommit old new) → (TablesMean old.now m k → HasRun sql params old new → TablesMean new.now after kept × KeepsOthers six_tables tree old new) → Moves new result m₀ k₀ after kept
+move_by old new sql params tree (Ok done) m₀ m after k₀ k kept served works s ran left does =
     let was = works (served s) in
     let inside = was.goes_on refl in
     let did = does inside.means ran in
@@ -156,11 +156,39 @@ step_by old new sql params tree (Ok done) m₀ m after k₀ k kept served works 
       began = same_tables m₀ k₀ (shown.committed_is ∙ ap (λ b. if b then old.committed else new.now) inside.inside) was.began;
       goes_on = λ _. record { inside = shown.mode ∙ inside.inside; means = did.0 };
     }
-step_by old new sql params tree (Err e) m₀ m after k₀ k kept served works s ran left cause does = (cause, committed left)
+move_by old new sql params tree (Err e) m₀ m after k₀ k kept served works s ran left does = committed left
   where
     committed : LeavesCommit old new → TablesMean new.committed m₀ k₀
     committed (inl same) = same_tables m₀ k₀ same.0.committed_is (works (served s)).began
     committed (inr undone) = same_tables m₀ k₀ (undone.undone s.is_open).1 (works (served s)).began
+
+-- a step is a move whose refusal is known
+pub step_of : {A : Type 0} (new : State) (result : Result A StoreFault) (m₀ m : Queue) (k₀ k : List Entry) → IfErr result (λ fault. fault ≡ Unavailable) → Moves new result m₀ k₀ m k → Steps new result m₀ k₀ m k
+step_of new (Ok a) m₀ m k₀ k cause h = h
+step_of new (Err e) m₀ m k₀ k cause h = (cause, h)
+
+-- A statement that writes rows of one table is a step of a work.
+pub step_by : (old new : State) (sql : List ℕ) (params : Row) (tree : ℕ) (result : Result (Unit {0}) StoreFault) (m₀ m after : Queue) (k₀ k kept : List Entry) → (Serves new → Serves old) → Works old false m₀ k₀ m k → Serves new
+    → OnOk result (HasRun sql params old new) → OnErr result (LeavesCommit old new) → IfErr result (λ fault. fault ≡ Unavailable)
+    → (TablesMean old.now m k → HasRun sql params old new → TablesMean new.now after kept × KeepsOthers six_tables tree old new) → Steps new result m₀ k₀ after kept
+step_by old new sql params tree result m₀ m after k₀ k kept served works s ran left cause does =
+    step_of new result m₀ after k₀ kept cause (move_by old new sql params tree result m₀ m after k₀ k kept served works s ran left does)
+
+-- an INSERT that breaks no rule is refused for want of an answer alone
+pub told_unavailable : (old new : State) (sql : List ℕ) (params : Row) {A : Type 0} (result : Result A StoreFault) → IfErr result (IsRefusedFor sql params old new) → ((e : Error) → Executes sql params old new (Err e) → fault_of e ≡ Unavailable)
+    → IfErr result (λ fault. fault ≡ Unavailable)
+told_unavailable old new sql params (Ok a) told goes = tt
+told_unavailable old new sql params (Err fault) told goes = told.2 ∙ goes told.0 told.1
+
+-- and so it is where what the tables mean lets its row break none
+pub only_unavailable : (old new : State) (sql : List ℕ) (params : Row) {A : Type 0} (result : Result A StoreFault) (P : Queue → List Entry → Type 0) → (Serves new → Serves old) → (HasCleanDisk new → IfErr result (IsRefusedFor sql params old new))
+    → ((m : Queue) (k : List Entry) → TablesMean old.now m k → P m k → (e : Error) → Executes sql params old new (Err e) → fault_of e ≡ Unavailable) → IsOnlyUnavailable old false new result P
+only_unavailable old new sql params result P served told goes m₀ m k₀ k works s holds = told_unavailable old new sql params result (told s.clean) (goes m k ((works (served s)).goes_on refl).means holds)
+
+-- a refusal that is passed on
+pub refused_as : {A : Type 0} (result : Result A StoreFault) (fault : StoreFault) → IsErrAnd result (λ e. e ≡ fault) → fault ≡ Unavailable → IfErr result (λ e. e ≡ Unavailable)
+refused_as (Ok a) fault is why = tt
+refused_as (Err e) fault is why = is ∙ why
 
 pub moves_of : {A : Type 0} (new : State) (result : Result A StoreFault) (m₀ m : Queue) (k₀ k : List Entry) → Steps new result m₀ k₀ m k → Moves new result m₀ k₀ m k
 moves_of new (Ok a) m₀ m k₀ k h = h
@@ -197,11 +225,21 @@ refused_step old new (Err e) fault m₀ m after k₀ k kept served works s left 
     committed (inl same) = same_tables m₀ k₀ same.0.committed_is (works (served s)).began
     committed (inr undone) = same_tables m₀ k₀ (undone.undone s.is_open).1 (works (served s)).began
 
--- Two statements that write rows of one table each are a step of a work.
-pub two_steps : (old mid new : State) (first second : List ℕ) (params others : Row) (tree other : ℕ) (result : Result (Unit {0}) StoreFault) (m₀ m after : Queue) (k₀ k kept : List Entry) → (Serves mid → Serves old) → (Serves new → Serves mid)
-    → Works old false m₀ k₀ m k → Serves new → HasRun first params old mid → OnOk result (HasRun second others mid new) → OnErr result (LeavesCommit mid new) → IfErr result (λ fault. fault ≡ Unavailable)
-    → (TablesMean old.now m k → KeepsOthers six_tables tree old mid) → (TablesMean old.now m k → HasRun second others mid new → TablesMean new.now after kept × KeepsOthers six_tables other mid new) → Steps new result m₀ k₀ after kept
-two_steps old mid new first second params others tree other (Ok done) m₀ m after k₀ k kept was_mid was_new works s has ran left cause keeps does =
+-- the same, whatever the fault was
+pub refused_move : (old new : State) {A : Type 0} (result : Result A StoreFault) (fault : StoreFault) (m₀ m after : Queue) (k₀ k kept : List Entry) → (Serves new → Serves old) → Works old false m₀ k₀ m k → Serves new → LeavesCommit old new
+    → IsErrAnd result (λ e. e ≡ fault) → Moves new result m₀ k₀ after kept
+refused_move old new (Ok a) fault m₀ m after k₀ k kept served works s left is = absurd is
+refused_move old new (Err e) fault m₀ m after k₀ k kept served works s left is = committed left
+  where
+    committed : LeavesCommit old new → TablesMean new.committed m₀ k₀
+    committed (inl same) = same_tables m₀ k₀ same.0.committed_is (works (served s)).began
+    committed (inr undone) = same_tables m₀ k₀ (undone.undone s.is_open).1 (works (served s)).began
+
+-- Two statements that write rows of one table each move a work on.
+pub two_moves : (old mid new : State) (first second : List ℕ) (params others : Row) (tree other : ℕ) (result : Result (Unit {0}) StoreFault) (m₀ m after : Queue) (k₀ k kept : List Entry) → (Serves mid → Serves old) → (Serves new → Serves mid)
+    → Works old false m₀ k₀ m k → Serves new → HasRun first params old mid → OnOk result (HasRun second others mid new) → OnErr result (LeavesCommit mid new)
+    → (TablesMean old.now m k → KeepsOthers six_tables tree old mid) → (TablesMean old.now m k → HasRun second others mid new → TablesMean new.now after kept × KeepsOthers six_tables other mid new) → Moves new result m₀ k₀ after kept
+two_moves old mid new first second params others tree other (Ok done) m₀ m after k₀ k kept was_mid was_new works s has ran left keeps does =
     let was = works (was_mid (was_new s)) in
     let inside = was.goes_on refl in
     let before = (keeps inside.means).shown in
@@ -211,7 +249,7 @@ two_steps old mid new first second params others tree other (Ok done) m₀ m aft
       began = same_tables m₀ k₀ (shown.committed_is ∙ ap (λ b. if b then mid.committed else new.now) still ∙ before.committed_is ∙ ap (λ b. if b then old.committed else mid.now) inside.inside) was.began;
       goes_on = λ _. record { inside = shown.mode ∙ still; means = did.0 };
     }
-two_steps old mid new first second params others tree other (Err e) m₀ m after k₀ k kept was_mid was_new works s has ran left cause keeps does = (cause, committed left)
+two_moves old mid new first second params others tree other (Err e) m₀ m after k₀ k kept was_mid was_new works s has ran left keeps does = committed left
   where
     was : IsUnderWay old false m₀ k₀ m k
     was = works (was_mid (was_new s))
@@ -222,3 +260,10 @@ two_steps old mid new first second params others tree other (Err e) m₀ m after
     committed : LeavesCommit mid new → TablesMean new.committed m₀ k₀
     committed (inl same) = same_tables m₀ k₀ (same.0.committed_is ∙ between) was.began
     committed (inr undone) = same_tables m₀ k₀ ((undone.undone s.is_open).1 ∙ between) was.began
+
+-- Two statements that write rows of one table each are a step of a work.
+pub two_steps : (old mid new : State) (first second : List ℕ) (params others : Row) (tree other : ℕ) (result : Result (Unit {0}) StoreFault) (m₀ m after : Queue) (k₀ k kept : List Entry) → (Serves mid → Serves old) → (Serves new → Serves mid)
+    → Works old false m₀ k₀ m k → Serves new → HasRun first params old mid → OnOk result (HasRun second others mid new) → OnErr result (LeavesCommit mid new) → IfErr result (λ fault. fault ≡ Unavailable)
+    → (TablesMean old.now m k → KeepsOthers six_tables tree old mid) → (TablesMean old.now m k → HasRun second others mid new → TablesMean new.now after kept × KeepsOthers six_tables other mid new) → Steps new result m₀ k₀ after kept
+two_steps old mid new first second params others tree other result m₀ m after k₀ k kept was_mid was_new works s has ran left cause keeps does =
+    step_of new result m₀ after k₀ kept cause (two_moves old mid new first second params others tree other result m₀ m after k₀ k kept was_mid was_new works s has ran left keeps does)

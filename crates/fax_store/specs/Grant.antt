@@ -1,7 +1,8 @@
 -- What is made of the grants of a queue.
-use Rattle.std.specs.Prelude.{◌≡◌, ℕ, ◌+◌, false, Option, Some, None}
-use Rattle.fax_core.specs.Machine.{with_grant}
-use Rattle.fax_core.specs.Queue.{Queue, grant_numbered}
+use Rattle.std.specs.Prelude.{◌≡◌, ◌≢◌, ℕ, ◌+◌, false, Option, Some, None}
+use Rattle.sqlite_rules.specs.Lists.{Has}
+use Rattle.fax_core.specs.Machine.{held_by, with_grant}
+use Rattle.fax_core.specs.Queue.{Queue, grant_numbered, open_grants}
 use Rattle.fax_core.specs.declared.grants.Grant.{Grant}
 use Rattle.fax_tables.specs.Place.{placed}
 
@@ -12,6 +13,12 @@ with_placed g m = record m { grants = placed (λ h. h.number) g m.grants }
 -- the queue with one more grant and the next number one greater
 abbrev pub with_one_more_grant : Grant → Queue → Queue
 with_one_more_grant g m = record m { grants = placed (λ h. h.number) g m.grants; next_grant = m.next_grant + 1 }
+
+-- no grant has its number, and neither its modem nor its job holds one
+pub record IsNewGrant (g : Grant) (m : Queue) : Type 0 where
+  pub number : grant_numbered g.number m ≡ None
+  pub modem : held_by g.modem m ≡ None
+  pub job : (h : Grant) → Has (open_grants m) h → h.job ≢ g.job
 
 -- what no report on a grant touches
 pub record IsSameGrant (g h : Grant) : Type 0 where

@@ -1,5 +1,5 @@
 -- What is made of the jobs of a queue, and which of them wait.
-use Rattle.std.specs.Prelude.{◌≡◌, ℕ, List, ◌+◌, map, filter, Some}
+use Rattle.std.specs.Prelude.{◌≡◌, ℕ, List, ◌+◌, map, filter, Some, None}
 use Rattle.std.specs.List.Sorted.{IsPermutation, IsSortedBy}
 use Rattle.fax_core.specs.Job.{Job, fields_of}
 use Rattle.fax_core.specs.Ageing.{aged_job}
@@ -16,6 +16,10 @@ with_placed j m = record m { jobs = placed (λ k. k.number) j m.jobs }
 -- the queue with one more job and the next number one greater
 abbrev pub with_one_more_job : Job → Queue → Queue
 with_one_more_job j m = record m { jobs = placed (λ k. k.number) j m.jobs; next_job = m.next_job + 1 }
+
+-- no job has its number
+abbrev pub IsNewJob : Job → Queue → Type 0
+IsNewJob j m = job_numbered j.number m ≡ None
 
 -- what no change of a job touches
 pub record IsSameOrder (j k : Job) : Type 0 where

@@ -14,3 +14,7 @@ pub record IsOf (client : List ℕ) (n : ℕ) (e : Entry) : Type 0 where
 abbrev pub IsKeptFor : List Entry → List ℕ → ℕ → Option Kept → Type 0
 IsKeptFor k client n None = (e : Entry) → Has k e → ¬ IsOf client n e
 IsKeptFor k client n (Some kept) = (e : Entry) × Has k e × IsOf client n e × Tells kept e
+
+-- no reply is kept for this number of this client
+abbrev pub IsUnkept : List ℕ → ℕ → List Entry → Type 0
+IsUnkept client n k = (e : Entry) → Has k e → ¬ IsOf client n e

@@ -10,7 +10,9 @@ use Rattle.sqlite.specs.State.{State, HasCleanDisk, IsUnchanged, IsRolledBack, S
 use Rattle.sqlite_resolve.specs.declared.compiled.Compiled.{Compiled}
 use Rattle.sqlite_resolve.specs.declared.error.CompileError.{CompileError}
 use Rattle.sqlite_rules.specs.Lists.{Has}
+use Rattle.sqlite.specs.declared.error.Error.{Error}
 use Rattle.fax_tables.specs.declared.fault.StoreFault.{StoreFault}
+use Rattle.fax_tables.specs.Fault.{fault_of}
 use Rattle.fax_core.specs.Queue.{Queue, Entry}
 use Rattle.fax_tables.specs.Schema.{six_tables}
 use Rattle.fax_tables.specs.Tables.{TablesMean, IsAtRest}
@@ -90,6 +92,20 @@ EditsRows (Err fault) = ⊥
 abbrev pub IsEditText : List ℕ → Type 0
 IsEditText sql = EditsRows (understood six_tables sql)
 
+-- a command that puts no row in, and so needs no free key
+abbrev pub PutsNone : Command → Type 0
+PutsNone (Update at query) = ⊤
+PutsNone (Delete at query) = ⊤
+PutsNone other = ⊥
+
+abbrev pub UpdatesOrDeletes : Result Compiled CompileError → Type 0
+UpdatesOrDeletes (Ok c) = PutsNone c.command
+UpdatesOrDeletes (Err fault) = ⊥
+
+-- over the six tables, the text updates or deletes rows
+abbrev pub IsUpdateOrDelete : List ℕ → Type 0
+IsUpdateOrDelete sql = UpdatesOrDeletes (understood six_tables sql)
+
 -- one of the rows that a query shows, or none where it shows none
 abbrev pub FindsRow : List ℕ → Row → State → State → Option Row → Type 0
 FindsRow sql params old new found = (rows : List Row) × Shown sql params old new rows × MatchOption found (rows ≡ []) (Has rows)
@@ -97,3 +113,7 @@ FindsRow sql params old new found = (rows : List Row) × Shown sql params old ne
 -- a statement that answers no rows has run
 abbrev pub HasRun : List ℕ → Row → State → State → Type 0
 HasRun sql params old new = (count : ℕ) × Executes sql params old new (Ok count)
+
+-- the statement was refused, and the fault tells whether it broke a rule of the tables
+abbrev pub IsRefusedFor : List ℕ → Row → State → State → StoreFault → Type 0
+IsRefusedFor sql params old new fault = (e : Error) × Executes sql params old new (Err e) × (fault ≡ fault_of e)

@@ -1,5 +1,5 @@
 -- What a work shows.
-use Rattle.std.specs.Prelude.{◌≡◌, Bool, false, List, Result, MatchResult, IsTrue}
+use Rattle.std.specs.Prelude.{◌≡◌, Bool, false, List, Result, MatchResult, IfErr, IsTrue}
 use Rattle.sqlite.specs.Effect.{Database}
 use Rattle.sqlite.specs.State.{State}
 use Rattle.fax_tables.specs.declared.fault.StoreFault.{StoreFault}
@@ -80,3 +80,7 @@ Steps new result m₀ k₀ m k = MatchResult result (λ _. IsUnderWay new false 
 -- the same, whatever the fault was
 abbrev pub Moves : {A : Type 0} → State → Result A StoreFault → Queue → List Entry → Queue → List Entry → Type 0
 Moves new result m₀ k₀ m k = MatchResult result (λ _. IsUnderWay new false m₀ k₀ m k) (λ fault. TablesMean new.committed m₀ k₀)
+
+-- Where the tables mean a queue of which P holds, the call is refused for want of an answer of the database alone.
+abbrev pub IsOnlyUnavailable : {A : Type 0} → State → Bool → State → Result A StoreFault → (Queue → List Entry → Type 0) → Type 0
+IsOnlyUnavailable old failed new result P = (m₀ m : Queue) (k₀ k : List Entry) → Works old failed m₀ k₀ m k → Serves new → P m k → IfErr result (λ fault. fault ≡ Unavailable)

@@ -8,9 +8,9 @@ ghost use Rattle.fax_core.specs.Machine.{held_by, with_grant};
 ghost use Rattle.fax_core.specs.Queue.{Queue, Entry, grant_numbered};
 ghost use Rattle.fax_core.specs.State.{calls_to};
 ghost use Rattle.fax_job.specs.Limits.{most_pages};
-ghost use Rattle.fax_store.specs.Grant.{IsReport, with_placed, with_one_more_grant, with_closed};
+ghost use Rattle.fax_store.specs.Grant.{IsNewGrant, IsReport, with_placed, with_one_more_grant, with_closed};
 ghost use Rattle.fax_store.specs.Store.{Serves, Means, MeansNow, HasTables, Reads, Stays};
-ghost use Rattle.fax_store.specs.Work.{Holds, Works, Keeps, Changes, ChangesWhere, AnswersIn, Moves, Steps};
+ghost use Rattle.fax_store.specs.Work.{Holds, Works, Keeps, Changes, ChangesWhere, AnswersIn, IsOnlyUnavailable, Moves, Steps};
 ghost use Rattle.fax_tables.specs.Fault.{OrUnavailable};
 ghost use Rattle.fax_tables.specs.Grant.{as_hold, IsWithinLimits, IsLawfulHold, IsOpenGrant};
 
@@ -144,13 +144,15 @@ impl<S: Alter> Store<S> {
         ensures holds { Holds (state S.Store self.old.conn) false (state S.Store self.new.conn) (is_err result) }
         ensures written { (m₀ m : Queue) (k₀ k : List Entry) → Works (state S.Store self.old.conn) false m₀ k₀ m k
             → Serves (state S.Store self.new.conn) → IsOpenGrant grant.now
-            → Steps (state S.Store self.new.conn) result m₀ k₀ (with_placed grant.now m) k }
+            → Moves (state S.Store self.new.conn) result m₀ k₀ (with_placed grant.now m) k }
+        ensures cause { IsOnlyUnavailable (state S.Store self.old.conn) false (state S.Store self.new.conn) result
+            (λ m k. IsOpenGrant grant.now × IsNewGrant grant.now m) }
     {
-        self.run(
+        self.insert(
             INSERT_HOLD,
             params![grant.modem.as_str(), grant.job, grant.number],
         )?;
-        self.run(
+        self.insert(
             INSERT_GRANT,
             params![
                 grant.number,
@@ -169,9 +171,9 @@ impl<S: Alter> Store<S> {
         ensures holds { Holds (state S.Store self.old.conn) false (state S.Store self.new.conn) (is_err result) }
         ensures written { (m₀ m : Queue) (k₀ k : List Entry) → Works (state S.Store self.old.conn) false m₀ k₀ m k
             → Serves (state S.Store self.new.conn)
-            → Moves (state S.Store self.new.conn) result m₀ k₀ (with_one_more_grant grant.now m) k
-            × (IsOpenGrant grant.now → m.next_grant < 1000000000
-            → IfErr result (λ fault. fault ≡ StoreFault.Unavailable)) }
+            → Moves (state S.Store self.new.conn) result m₀ k₀ (with_one_more_grant grant.now m) k }
+        ensures cause { IsOnlyUnavailable (state S.Store self.old.conn) false (state S.Store self.new.conn) result
+            (λ m k. IsOpenGrant grant.now × IsNewGrant grant.now m × m.next_grant < 1000000000) }
     {
         if !is_open_grant(grant) {
             return Err(StoreFault::Strange);
@@ -305,19 +307,17 @@ impl<S: Alter> Work<'_, S> {
     ///
     /// # Errors
     ///
-    /// `Unavailable`, also where a grant has the number, or the modem or the job holds one, or
-    /// `Strange` where the grant is not open, its numbers are past their limits or no next number
-    /// is left.
+    /// `Unavailable`, or `Strange` where a grant has the number, the modem or the job holds one, the
+    /// grant is not open, its numbers are past their limits or no next number is left.
     pub fn put_grant(&mut self, grant: &Grant) -> Result<(), StoreFault>
         ensures same_reference { self.new.store.ghost_name ≡ self.old.store.ghost_name }
         ensures holds { Holds (state S.Store self.old.store.now.conn) self.old.failed
             (state S.Store self.new.store.now.conn) self.new.failed }
         ensures changes { Changes (state S.Store self.old.store.now.conn) self.old.failed
             (state S.Store self.new.store.now.conn) self.new.failed (with_one_more_grant grant.now) (λ k. k) }
-        ensures cause { (m₀ m : Queue) (k₀ k : List Entry)
-            → Works (state S.Store self.old.store.now.conn) self.old.failed m₀ k₀ m k
-            → Serves (state S.Store self.new.store.now.conn) → IsOpenGrant grant.now → m.next_grant < 1000000000
-            → IfErr result (λ fault. fault ≡ StoreFault.Unavailable) }
+        ensures cause { IsOnlyUnavailable (state S.Store self.old.store.now.conn) self.old.failed
+            (state S.Store self.new.store.now.conn) result
+            (λ m k. IsOpenGrant grant.now × IsNewGrant grant.now m × m.next_grant < 1000000000) }
         ensures served { Serves (state S.Store self.new.store.now.conn) → Serves (state S.Store self.old.store.now.conn) }
         ensures fails { self.new.failed ≡ is_err result }
         ensures refused { IsTrue self.old.failed → result ≡ Err StoreFault.Unavailable }

@@ -7,9 +7,9 @@ ghost use Rattle.sqlite.specs.State.{HasCleanDisk};
 ghost use Rattle.fax_core.specs.Job.{job_of, fields_of};
 ghost use Rattle.fax_core.specs.Machine.{with_job as with_change};
 ghost use Rattle.fax_core.specs.Queue.{Queue, Entry, job_numbered};
-ghost use Rattle.fax_store.specs.Job.{IsChange, IsWaiting, with_placed, with_one_more_job, with_expired};
+ghost use Rattle.fax_store.specs.Job.{IsChange, IsNewJob, IsWaiting, with_placed, with_one_more_job, with_expired};
 ghost use Rattle.fax_store.specs.Store.{Serves, Means, MeansNow, HasTables, Reads, Stays};
-ghost use Rattle.fax_store.specs.Work.{Holds, Works, Keeps, Changes, ChangesWhere, AnswersIn, Moves, Steps};
+ghost use Rattle.fax_store.specs.Work.{Holds, Works, Keeps, Changes, ChangesWhere, AnswersIn, IsOnlyUnavailable, Moves, Steps};
 ghost use Rattle.fax_tables.specs.Fault.{OrUnavailable};
 
 use crate::store::Store;
@@ -112,11 +112,13 @@ impl<S: Alter> Store<S> {
         ensures holds { Holds (state S.Store self.old.conn) false (state S.Store self.new.conn) (is_err result) }
         ensures written { (m₀ m : Queue) (k₀ k : List Entry) → Works (state S.Store self.old.conn) false m₀ k₀ m k
             → Serves (state S.Store self.new.conn)
-            → Steps (state S.Store self.new.conn) result m₀ k₀ (with_placed (job_of job.now) m) k }
+            → Moves (state S.Store self.new.conn) result m₀ k₀ (with_placed (job_of job.now) m) k }
+        ensures cause { IsOnlyUnavailable (state S.Store self.old.conn) false (state S.Store self.new.conn) result
+            (λ m k. IsNewJob (job_of job.now) m) }
     {
         let job = job.fields();
         let extra = spelling(self.alloc, &job.extra)?;
-        self.run(
+        self.insert(
             INSERT_JOB,
             params![
                 job.job,
@@ -192,8 +194,9 @@ impl<S: Alter> Store<S> {
         ensures holds { Holds (state S.Store self.old.conn) false (state S.Store self.new.conn) (is_err result) }
         ensures written { (m₀ m : Queue) (k₀ k : List Entry) → Works (state S.Store self.old.conn) false m₀ k₀ m k
             → Serves (state S.Store self.new.conn)
-            → Moves (state S.Store self.new.conn) result m₀ k₀ (with_one_more_job (job_of job.now) m) k
-            × (m.next_job < 1000000 → IfErr result (λ fault. fault ≡ StoreFault.Unavailable)) }
+            → Moves (state S.Store self.new.conn) result m₀ k₀ (with_one_more_job (job_of job.now) m) k }
+        ensures cause { IsOnlyUnavailable (state S.Store self.old.conn) false (state S.Store self.new.conn) result
+            (λ m k. IsNewJob (job_of job.now) m × m.next_job < 1000000) }
     {
         let meta = self.read_meta()?;
         if meta.next_job >= PAST_JOBS {
@@ -264,17 +267,16 @@ impl<S: Alter> Work<'_, S> {
     ///
     /// # Errors
     ///
-    /// `Unavailable`, also where a job has the number, or `Strange` where no next number is left.
+    /// `Unavailable`, or `Strange` where a job has the number or no next number is left.
     pub fn put_job(&mut self, job: &Job) -> Result<(), StoreFault>
         ensures same_reference { self.new.store.ghost_name ≡ self.old.store.ghost_name }
         ensures holds { Holds (state S.Store self.old.store.now.conn) self.old.failed
             (state S.Store self.new.store.now.conn) self.new.failed }
         ensures changes { Changes (state S.Store self.old.store.now.conn) self.old.failed
             (state S.Store self.new.store.now.conn) self.new.failed (with_one_more_job (job_of job.now)) (λ k. k) }
-        ensures cause { (m₀ m : Queue) (k₀ k : List Entry)
-            → Works (state S.Store self.old.store.now.conn) self.old.failed m₀ k₀ m k
-            → Serves (state S.Store self.new.store.now.conn) → m.next_job < 1000000
-            → IfErr result (λ fault. fault ≡ StoreFault.Unavailable) }
+        ensures cause { IsOnlyUnavailable (state S.Store self.old.store.now.conn) self.old.failed
+            (state S.Store self.new.store.now.conn) result
+            (λ m k. IsNewJob (job_of job.now) m × m.next_job < 1000000) }
         ensures served { Serves (state S.Store self.new.store.now.conn) → Serves (state S.Store self.old.store.now.conn) }
         ensures fails { self.new.failed ≡ is_err result }
         ensures refused { IsTrue self.old.failed → result ≡ Err StoreFault.Unavailable }

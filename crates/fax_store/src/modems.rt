@@ -7,7 +7,7 @@ ghost use Rattle.fax_core.specs.Machine.{is_down, with_mark};
 ghost use Rattle.fax_core.specs.Queue.{Queue, Entry};
 ghost use Rattle.fax_job.specs.Name.{IsName};
 ghost use Rattle.fax_store.specs.Store.{Serves, Means, MeansNow, HasTables, Reads, Stays};
-ghost use Rattle.fax_store.specs.Work.{Holds, Works, Keeps, Changes, AnswersIn, Moves, Steps};
+ghost use Rattle.fax_store.specs.Work.{Holds, Works, Keeps, Changes, AnswersIn, IsOnlyUnavailable, Moves, Steps};
 ghost use Rattle.fax_tables.specs.Fault.{OrUnavailable};
 
 use crate::store::Store;
@@ -70,7 +70,8 @@ impl<S: Alter> Store<S> {
         ensures written { (m₀ m : Queue) (k₀ k : List Entry) → Works (state S.Store self.old.conn) false m₀ k₀ m k
             → Serves (state S.Store self.new.conn)
             → Moves (state S.Store self.new.conn) result m₀ k₀ (with_mark modem.now true m) k }
-        ensures cause { IsName modem.now → IfErr result (λ fault. fault ≡ StoreFault.Unavailable) }
+        ensures cause { IsOnlyUnavailable (state S.Store self.old.conn) false (state S.Store self.new.conn) result
+            (λ m k. IsName modem.now) }
     {
         if !is_name(modem.as_bytes()) {
             return Err(StoreFault::Strange);
@@ -78,7 +79,7 @@ impl<S: Alter> Store<S> {
         if self.read_mark(modem)? {
             return Ok(());
         }
-        self.run(INSERT_DOWN, params![modem])
+        self.insert(INSERT_DOWN, params![modem])
     }
 
     fn write_mark(&mut self, modem: &str, down: bool) -> Result<(), StoreFault>
@@ -87,7 +88,9 @@ impl<S: Alter> Store<S> {
         ensures written { (m₀ m : Queue) (k₀ k : List Entry) → Works (state S.Store self.old.conn) false m₀ k₀ m k
             → Serves (state S.Store self.new.conn)
             → Moves (state S.Store self.new.conn) result m₀ k₀ (with_mark modem.now down m) k }
-        ensures cause { (IsTrue down → IsName modem.now) → IfErr result (λ fault. fault ≡ StoreFault.Unavailable) }
+        ensures cause { IsOnlyUnavailable (state S.Store self.old.conn) false (state S.Store self.new.conn) result
+            (λ m k. IsTrue down → IsName modem.now) }
+        ensures clears { down ≡ false → IfErr result (λ fault. fault ≡ StoreFault.Unavailable) }
     {
         if down {
             self.add_mark(modem)
@@ -134,7 +137,9 @@ impl<S: Alter> Work<'_, S> {
             (state S.Store self.new.store.now.conn) self.new.failed }
         ensures changes { Changes (state S.Store self.old.store.now.conn) self.old.failed
             (state S.Store self.new.store.now.conn) self.new.failed (with_mark modem.now down) (λ k. k) }
-        ensures cause { (IsTrue down → IsName modem.now) → IfErr result (λ fault. fault ≡ StoreFault.Unavailable) }
+        ensures cause { IsOnlyUnavailable (state S.Store self.old.store.now.conn) self.old.failed
+            (state S.Store self.new.store.now.conn) result (λ m k. IsTrue down → IsName modem.now) }
+        ensures clears { down ≡ false → IfErr result (λ fault. fault ≡ StoreFault.Unavailable) }
         ensures served { Serves (state S.Store self.new.store.now.conn) → Serves (state S.Store self.old.store.now.conn) }
         ensures fails { self.new.failed ≡ is_err result }
         ensures refused { IsTrue self.old.failed → result ≡ Err StoreFault.Unavailable }

@@ -5,9 +5,9 @@ ghost use Rattle.sqlite.specs.Held.{state};
 ghost use Rattle.sqlite.specs.State.{HasCleanDisk};
 ghost use Rattle.fax_core.specs.Queue.{Queue, Entry};
 ghost use Rattle.fax_job.specs.Name.{IsName};
-ghost use Rattle.fax_store.specs.Kept.{IsKeptFor};
+ghost use Rattle.fax_store.specs.Kept.{IsKeptFor, IsUnkept};
 ghost use Rattle.fax_store.specs.Store.{Serves, Means, MeansNow, HasTables, Reads, Stays};
-ghost use Rattle.fax_store.specs.Work.{Holds, Works, Keeps, Changes, AnswersIn, Moves};
+ghost use Rattle.fax_store.specs.Work.{Holds, Works, Keeps, Changes, AnswersIn, IsOnlyUnavailable, Moves};
 ghost use Rattle.fax_tables.specs.Fault.{OrUnavailable};
 ghost use Rattle.fax_tables.specs.Kept.{entry};
 ghost use Rattle.fax_tables.specs.Tables.{IsKeptStatus};
@@ -77,15 +77,15 @@ impl<S: Alter> Store<S> {
             → Serves (state S.Store self.new.conn)
             → Moves (state S.Store self.new.conn) result m₀ k₀ m
             (k ++ entry client.now number said.now status body.now ∷ []) }
-        ensures cause { IsName client.now → IsKeptStatus status
-            → IfErr result (λ fault. fault ≡ StoreFault.Unavailable) }
+        ensures cause { IsOnlyUnavailable (state S.Store self.old.conn) false (state S.Store self.new.conn) result
+            (λ m k. IsName client.now × IsKeptStatus status × IsUnkept client.now number k) }
         ensures status { OnOk result (IsKeptStatus status) }
     {
         let number = number_value(number);
         if !is_name(client.as_bytes()) || !is_kept_status(status) {
             return Err(StoreFault::Strange);
         }
-        self.run(
+        self.insert(
             INSERT_REPLY,
             params![client, number, said, u32::from(status), body],
         )
@@ -123,8 +123,8 @@ impl<S: Alter> Work<'_, S> {
     ///
     /// # Errors
     ///
-    /// `Unavailable`, also where one is kept already, or `Strange` where the client is no name or the
-    /// status neither 200 nor 201.
+    /// `Unavailable`, or `Strange` where one is kept already, the client is no name or the status
+    /// neither 200 nor 201.
     pub fn keep(
         &mut self,
         client: &str,
@@ -139,8 +139,9 @@ impl<S: Alter> Work<'_, S> {
         ensures changes { Changes (state S.Store self.old.store.now.conn) self.old.failed
             (state S.Store self.new.store.now.conn) self.new.failed (λ m. m)
             (λ k. k ++ entry client.now number said.now status body.now ∷ []) }
-        ensures cause { IsName client.now → IsKeptStatus status
-            → IfErr result (λ fault. fault ≡ StoreFault.Unavailable) }
+        ensures cause { IsOnlyUnavailable (state S.Store self.old.store.now.conn) self.old.failed
+            (state S.Store self.new.store.now.conn) result
+            (λ m k. IsName client.now × IsKeptStatus status × IsUnkept client.now number k) }
         ensures status { OnOk result (IsKeptStatus status) }
         ensures served { Serves (state S.Store self.new.store.now.conn) → Serves (state S.Store self.old.store.now.conn) }
         ensures fails { self.new.failed ≡ is_err result }

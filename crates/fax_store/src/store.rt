@@ -8,12 +8,12 @@ ghost use Rattle.sqlite.specs.Values.{bound};
 ghost use Rattle.sqlite.specs.State.{HasCleanDisk, Shown};
 ghost use Rattle.sqlite.specs.Steps.{over_memory};
 ghost use Rattle.fax_core.specs.Queue.{empty_queue};
-ghost use Rattle.fax_store.specs.Store.{Serves, StaysAsItWas, GoesBack, LeavesCommit, FindsRow, HasRun, HasTables, IsEditText, IsQueryText, Reads};
+ghost use Rattle.fax_store.specs.Store.{Serves, StaysAsItWas, GoesBack, LeavesCommit, FindsRow, HasRun, HasTables, IsEditText, IsQueryText, IsRefusedFor, IsUpdateOrDelete, Reads};
 ghost use Rattle.fax_store.specs.Work.{Begins, BeginsAt, Holds};
 ghost use Rattle.fax_tables.specs.Tables.{IsAtRest};
 
 use crate::work::Work;
-use fax_tables::{StoreFault, create_tables};
+use fax_tables::{StoreFault, create_tables, insert_fault};
 use sqlite::types::ValueRef;
 use sqlite::{Alter, Connection, MemStore, Row};
 use std::alloc::Global;
@@ -128,7 +128,29 @@ impl<S: Alter> Store<S> {
         Ok(rows.pop())
     }
 
-    /// Runs a statement that shows no rows.
+    /// Puts a row into a table.
+    ///
+    /// # Errors
+    ///
+    /// `Unavailable`, or `Strange` where the row breaks a rule of its table, as a key that is taken.
+    pub(crate) fn insert(&mut self, sql: &str, params: &[ValueRef<'_>]) -> Result<(), StoreFault>
+        ensures served { Serves (state S.Store self.new.conn) → Serves (state S.Store self.old.conn) }
+        ensures holds { IsEditText sql.now
+            → Holds (state S.Store self.old.conn) false (state S.Store self.new.conn) (is_err result) }
+        ensures ran { HasCleanDisk (state S.Store self.new.conn) → OnOk result
+            (HasRun sql.now (bound params.now) (state S.Store self.old.conn) (state S.Store self.new.conn)) }
+        ensures left { HasCleanDisk (state S.Store self.new.conn) → OnErr result
+            (LeavesCommit (state S.Store self.old.conn) (state S.Store self.new.conn)) }
+        ensures told { HasCleanDisk (state S.Store self.new.conn) → IfErr result
+            (IsRefusedFor sql.now (bound params.now) (state S.Store self.old.conn) (state S.Store self.new.conn)) }
+    {
+        match self.conn.execute(sql, params) {
+            Ok(_) => Ok(()),
+            Err(error) => Err(insert_fault(error)),
+        }
+    }
+
+    /// Runs a statement that updates or deletes rows.
     pub(crate) fn run(&mut self, sql: &str, params: &[ValueRef<'_>]) -> Result<(), StoreFault>
         ensures served { Serves (state S.Store self.new.conn) → Serves (state S.Store self.old.conn) }
         ensures holds { IsEditText sql.now
@@ -137,7 +159,7 @@ impl<S: Alter> Store<S> {
             (HasRun sql.now (bound params.now) (state S.Store self.old.conn) (state S.Store self.new.conn)) }
         ensures left { HasCleanDisk (state S.Store self.new.conn) → OnErr result
             (LeavesCommit (state S.Store self.old.conn) (state S.Store self.new.conn)) }
-        ensures cause { IfErr result (λ fault. fault ≡ StoreFault.Unavailable) }
+        ensures cause { IsUpdateOrDelete sql.now → IfErr result (λ fault. fault ≡ StoreFault.Unavailable) }
     {
         self.conn.execute(sql, params)?;
         Ok(())

@@ -65,6 +65,8 @@ impl<S: Alter> Drop for Work<'_, S> {
             (state S.Store self.exit.0.now.conn) }
         ensures undone { Undoes (state S.Store self.entry.store.now.conn) self.entry.failed
             (state S.Store self.exit.0.now.conn) }
+        ensures served { Serves (state S.Store self.exit.0.now.conn)
+            → Serves (state S.Store self.entry.store.now.conn) }
     {
         let Work { store, failed: _ } = self;
         store.roll_back();

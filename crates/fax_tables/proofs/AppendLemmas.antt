@@ -29,6 +29,11 @@ below_next r [] int ints_rest order =
     ap (λ v. value_cmp v (Int (id_in (rowid r) +ℤ pos 1))) is ∙ value_cmp-Int (id_in (rowid r)) (id_in (rowid r) +ℤ pos 1) ∙ next_above (id_in (rowid r))
 below_next r (x ∷ xs) int ints_rest order = value_cmp_total.trans (rowid r) (rowid x) _ order.0.0 (below_next x xs ints_rest.0 ints_rest.1 order.1)
 
+-- and so are all of these
+pub all_below : (first : ℤ) (rows : List Row) → AllByRecursion (λ x. IsTrue (is_int (rowid x))) rows → IsTable rows → AllByRecursion (λ r. value_cmp (rowid r) (Int (next_from first rows)) ≡ Less) rows
+all_below first [] all order = tt
+all_below first (r ∷ rows) all order = (below_next r rows all.0 all.1 order, all_below (id_in (rowid r) +ℤ pos 1) rows all.1 order.1)
+
 put_last : (first : ℤ) (rows : List Row) (columns : Row) → AllByRecursion (λ x. IsTrue (is_int (rowid x))) rows → IsTable rows → put_row (Int (next_from first rows) ∷ columns) rows ≡ rows ++ (Int (next_from first rows) ∷ columns) ∷ []
 put_last first [] columns all order = refl
 put_last first (r ∷ rows) columns all order = rw (below_next r rows all.0 all.1 order) (ap (λ x. r ∷ x) (put_last (id_in (rowid r) +ℤ pos 1) rows columns all.1 order.1))

@@ -5,6 +5,7 @@ pub mod EditLemmas
 pub mod UpdateLemmas
 pub mod AppendLemmas
 pub mod ColumnLemmas
+pub mod FreeLemmas
 pub mod KeyLemmas
 pub mod IndexLemmas
 pub mod RowLemmas
@@ -13,6 +14,8 @@ pub mod TextLemmas
 pub mod ResultLemmas
 pub mod TablesLemmas
 pub mod StatementForms
+pub mod RefusalLemmas
+pub mod StandLemmas
 pub mod CreateTexts
 pub mod CreateLemmas
 pub mod Rows

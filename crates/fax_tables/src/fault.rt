@@ -1,7 +1,10 @@
 //! Why a call of the store was refused.
 
+ghost use Rattle.std.specs.Prelude.{◌≡◌};
+ghost use Rattle.fax_tables.specs.Fault.{fault_of};
+
 use fax_job::{LineFault, LineKind, Refusal, TextFault};
-use sqlite::Error;
+use sqlite::{Error, ErrorCode};
 use std::alloc::AllocError;
 
 /// Why a call of the store was refused.
@@ -10,7 +13,7 @@ pub enum StoreFault {
     /// The database gave no answer, for want of memory or by a fault of its disk, or a work goes on
     /// after a call of it was refused.
     Unavailable,
-    /// A row is no lawful record.
+    /// A row is no lawful record, or one that is new breaks a rule of its table.
     Strange,
 }
 
@@ -22,6 +25,17 @@ impl From<Error> for StoreFault {
 
     fn from(_: Error) -> StoreFault {
         StoreFault::Unavailable
+    }
+}
+
+/// Why a row was not put into its table: it breaks a rule of it, as a key that is taken, or the
+/// database gave no answer.
+pub fn insert_fault(error: Error) -> StoreFault
+    ensures { result ≡ fault_of error }
+{
+    match error {
+        Error::SqliteFailure(ErrorCode::ConstraintViolation(_)) => StoreFault::Strange,
+        _ => StoreFault::Unavailable,
     }
 }
 

@@ -11,7 +11,7 @@ mod replies;
 mod row;
 mod schema;
 
-pub use fault::StoreFault;
+pub use fault::{StoreFault, insert_fault};
 pub use grants::{Hold, call_number, grant_in, is_open_grant};
 pub use jobs::{job_in, jobs_in, killtime_number, phase_number, spelling, wish_number};
 pub use meta::{Meta, PAST_GRANTS, PAST_JOBS};

@@ -1,10 +1,11 @@
-use Rattle.std.proofs.Common.{◌≡◌, [], ◌∷◌, ◌++◌, subst, rules}
+use Rattle.std.proofs.Common.{◌≡◌, [], ◌∷◌, ◌++◌, sym, subst, rules}
 use Rattle.sqlite.specs.Held.{state}
 use Rattle.fax_tables.specs.Kept.{entry}
-use Rattle.fax_store.specs.Store.{Means, Stays, StaysAsItWas}
+use Rattle.fax_store.specs.Store.{Means, Serves, Stays, StaysAsItWas}
 use Rattle.fax_decide.specs.Effect.{accepted}
 use Rattle.fax_decide.proofs.WorkLemmas.{refused_with, works_where}
 use Rattle.fax_store.proofs.StoreLemmas.{means_stay}
+use Rattle.fax_store.proofs.WorkLemmas.{refused_as}
 use Rattle.fax_tables.proofs.ResultLemmas.{on_err}
 use Rattle.fax_once.proofs.acceptance.commit_accepted.Goals as goal
 
@@ -43,3 +44,10 @@ returns-in_err-commit-clause-unchanged g c =
     let same : c.commit.new.self.0 ≡ c.store-2-1.given.0 = search rules in
     let stays : Stays (state g.S.Store c.args.store.now.conn) (state g.S.Store c.commit.new.self.0.conn) = λ db six rests. c.in_err-commit.ensures.forgets db (c.write.ensures.holds db (c.in_ok-work.ensures.at db six rests)) in
     on_err c.from_residual-in_err-commit.result (subst (λ v. Stays (state g.S.Store c.args.store.now.conn) (state g.S.Store v.conn)) same stays)
+
+pub returns-in_err-write-clause-cause : goal.returns-in_err-write-clause-cause
+returns-in_err-write-clause-cause g c m k means fits s =
+    let same : c.drop-work.new.self.0 ≡ c.store-in_err-write-1.given.0 = search rules in
+    let at_write = c.drop-work.ensures.served (subst (λ v. Serves (state g.S.Store v.conn)) (sym same) s) in
+    refused_as c.from_residual-in_err-write.result c.in_err-write.field-0.0 c.from_residual-in_err-write.ensures.1
+    (c.in_err-write.ensures.cause m _ k _ (c.in_ok-work.ensures.begun m k means) at_write (fits (c.in_ok-work.ensures.served (c.write.ensures.served at_write))))

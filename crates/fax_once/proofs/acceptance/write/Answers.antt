@@ -1,7 +1,9 @@
-use Rattle.std.proofs.Common.{[], ◌∷◌, ◌++◌, subst₂}
+use Rattle.std.proofs.Common.{[], ◌∷◌, ◌++◌, sym, subst, subst₂}
 use Rattle.sqlite.specs.Held.{state}
 use Rattle.fax_tables.specs.Kept.{entry}
+use Rattle.fax_tables.specs.Tables.{IsKeptStatus}
 use Rattle.fax_store.specs.Work.{Works}
+use Rattle.fax_store.proofs.WorkLemmas.{refused_as}
 use Rattle.fax_decide.specs.Effect.{accepted}
 use Rattle.fax_decide.proofs.WorkLemmas.{refused_any}
 use Rattle.fax_once.proofs.acceptance.write.Goals as goal
@@ -32,3 +34,12 @@ returns-in_err-set_clock-clause-holds g c db over = c.set_clock.ensures.holds db
 
 pub returns-clause-holds : goal.returns-clause-holds
 returns-clause-holds g c db over = c.keep.ensures.holds db (c.set_clock.ensures.holds db (c.write.ensures.holds db (c.expire_all.ensures.holds db over)))
+
+pub returns-in_err-write-clause-cause : goal.returns-in_err-write-clause-cause
+returns-in_err-write-clause-cause g c m₀ m k₀ k works s fits =
+    refused_as c.from_residual-in_err-write.result c.in_err-write.field-0.0 c.from_residual-in_err-write.ensures.1 (c.in_err-write.ensures.cause m₀ _ k₀ _ (c.expire_all.ensures.changes m₀ m k₀ k works) s fits.0)
+
+pub returns-clause-cause : goal.returns-clause-cause
+returns-clause-cause g c m₀ m k₀ k works s fits =
+    c.keep.ensures.cause m₀ _ k₀ _ (c.set_clock.ensures.changes m₀ _ k₀ _ (c.write.ensures.changes m₀ _ k₀ _ fits.0.suits (c.expire_all.ensures.changes m₀ m k₀ k works))) s
+    (fits.1, subst IsKeptStatus (sym c.status.ensures) fits.2, fits.3)

@@ -1,8 +1,8 @@
-use Rattle.std.proofs.Common.{sym, subst}
+use Rattle.std.proofs.Common.{sym, subst, rules}
 use Rattle.sqlite.specs.Held.{state}
 use Rattle.fax_core.specs.Machine.{with_mark}
 use Rattle.fax_store.specs.Work.{Works}
-use Rattle.fax_decide.specs.Effect.{Suits, effected}
+use Rattle.fax_decide.specs.Effect.{IsWithin, IsWritable, Suits, effected}
 use Rattle.fax_decide.proofs.WorkLemmas.{refused_any}
 use Rattle.fax_decide.proofs.effect.Effect.write.Goals as goal
 
@@ -58,3 +58,19 @@ returns-in_ok-put_change-in-Reported-clause-holds g c db over = c.put_report.ens
 
 pub returns-in_ok-put_change-in-Closed-clause-holds : goal.returns-in_ok-put_change-in-Closed-clause-holds
 returns-in_ok-put_change-in-Closed-clause-holds g c db over = c.close_grant.ensures.holds db (c.put_change-in-Closed.ensures.holds db over)
+
+pub returns-in-NewJob-clause-cause : goal.returns-in-NewJob-clause-cause
+returns-in-NewJob-clause-cause g c m₀ m k₀ k works s fits =
+    let fit = subst (λ e. IsWritable e m) c.in-NewJob.is fits in
+    c.put_job.ensures.cause m₀ m k₀ k works s (fit.free, fit.within)
+
+pub returns-in-Marked-clause-cause : goal.returns-in-Marked-clause-cause
+returns-in-Marked-clause-cause g c m₀ m k₀ k works s fits = c.set_down.ensures.cause m₀ m k₀ k works s (λ down. search rules)
+
+pub returns-in_ok-put_change-in-NewGrant-clause-cause : goal.returns-in_ok-put_change-in-NewGrant-clause-cause
+returns-in_ok-put_change-in-NewGrant-clause-cause g c m₀ m k₀ k works s fits =
+    let fit = subst (λ e. IsWritable e m) c.in-NewGrant.is fits in
+    c.put_grant.ensures.cause m₀ _ k₀ _ (c.put_change-in-NewGrant.ensures.changes m₀ m k₀ k fit.suits works) s (fit.within.0, fit.free, fit.within.1)
+
+pub returns-in_ok-put_change-in-Reported-clause-cause : goal.returns-in_ok-put_change-in-Reported-clause-cause
+returns-in_ok-put_change-in-Reported-clause-cause g c m₀ m k₀ k works s fits = c.put_report.ensures.cause (subst (λ e. IsWithin e m) c.in-Reported.is fits.within)

@@ -5,7 +5,7 @@ use Rattle.fax_store.specs.Job.{with_placed, with_one_more_job}
 use Rattle.fax_tables.specs.Meta.{meta_of, with_meta}
 use Rattle.fax_tables.specs.Tables.{IsLawfulMeta}
 use Rattle.fax_store.specs.Work.{Steps}
-use Rattle.fax_store.proofs.WorkLemmas.{goes_on, holds_by, holds_err, holds_then, moves_of, steps_fault}
+use Rattle.fax_store.proofs.WorkLemmas.{goes_on, holds_by, holds_err, holds_then, moves_of, refused_as, steps_fault}
 use Rattle.std.specs.Prelude.{is_err}
 use Rattle.fax_store.proofs.store.Store.add_job.Goals as goal
 
@@ -29,7 +29,36 @@ returns-clause-written g c m₀ m k₀ k works s =
     let lawful : IsLawfulMeta (with_one_more_job j m) = record { clock = was.clock; next_job = (omega arith, omega (arith, low, next)); next_grant = was.next_grant } in
     let done : Steps new c.write_meta.result m₀ k₀ (with_one_more_job j m) k = subst (λ it. IsLawfulMeta (with_meta (record it { next_job = it.next_job + 1 }) (with_placed j m)) → Steps new c.write_meta.result m₀ k₀ (with_meta (record it { next_job = it.next_job + 1 }) (with_placed j m)) k) same
     (c.write_meta.ensures.written m₀ (with_placed j m) k₀ k (λ _. second) s) lawful in
-    (moves_of new c.write_meta.result m₀ (with_one_more_job j m) k₀ k done, λ below. steps_fault new c.write_meta.result m₀ (with_one_more_job j m) k₀ k done)
+    moves_of new c.write_meta.result m₀ (with_one_more_job j m) k₀ k done
+
+pub returns-clause-cause : goal.returns-clause-cause
+returns-clause-cause g c m₀ m k₀ k works s fits =
+    let old = state g.S.Store c.args.self.now.conn in
+    let read = state g.S.Store c.read_meta.new.self.conn in
+    let put = state g.S.Store c.insert_job.new.self.conn in
+    let new = state g.S.Store c.write_meta.new.self.conn in
+    let j = job_of c.args.job.now in
+    let at_put = c.write_meta.ensures.served s in
+    let at_read = c.insert_job.ensures.served at_put in
+    let first = goes_on old read c.read_meta.ensures.served (Ok c.in_ok-meta.meta) c.in_ok-meta.ensures.reads (λ m k meta. meta ≡ meta_of m) c.in_ok-meta.ensures.answers m₀ m k₀ k works at_read in
+    let second = c.in_ok-insert_job.ensures.written m₀ m k₀ k (λ _. first.1) at_put in
+    let went : false ≡ false = λ i. false in
+    let was = (((works (c.read_meta.ensures.served at_read)).goes_on went).means).lawful.meta in
+    let meta = c.in_ok-meta.meta in
+    let same : meta ≡ meta_of m = first.0 in
+    let low : meta.next_job < 1000000 = search rules in
+    let next : meta.next_job ≡ m.next_job = ap (λ it. it.next_job) same in
+    let lawful : IsLawfulMeta (with_one_more_job j m) = record { clock = was.clock; next_job = (omega arith, omega (arith, low, next)); next_grant = was.next_grant } in
+    let done : Steps new c.write_meta.result m₀ k₀ (with_one_more_job j m) k = subst (λ it. IsLawfulMeta (with_meta (record it { next_job = it.next_job + 1 }) (with_placed j m)) → Steps new c.write_meta.result m₀ k₀ (with_meta (record it { next_job = it.next_job + 1 }) (with_placed j m)) k) same
+    (c.write_meta.ensures.written m₀ (with_placed j m) k₀ k (λ _. second) s) lawful in
+    steps_fault new c.write_meta.result m₀ (with_one_more_job j m) k₀ k done
+
+pub returns-in_err-insert_job-clause-cause : goal.returns-in_err-insert_job-clause-cause
+returns-in_err-insert_job-clause-cause g c m₀ m k₀ k works s fits =
+    let old = state g.S.Store c.args.self.now.conn in
+    let read = state g.S.Store c.read_meta.new.self.conn in
+    let first = goes_on old read c.read_meta.ensures.served (Ok c.in_ok-meta.meta) c.in_ok-meta.ensures.reads (λ m k meta. meta ≡ meta_of m) c.in_ok-meta.ensures.answers m₀ m k₀ k works (c.insert_job.ensures.served s) in
+    refused_as c.from_residual-in_err-insert_job.result c.in_err-insert_job.field-0.0 c.from_residual-in_err-insert_job.ensures.1 (c.in_err-insert_job.ensures.cause m₀ m k₀ k (λ _. first.1) s fits.0)
 
 pub returns-in_err-insert_job-clause-holds : goal.returns-in_err-insert_job-clause-holds
 returns-in_err-insert_job-clause-holds g c =

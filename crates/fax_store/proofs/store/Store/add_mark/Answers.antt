@@ -1,12 +1,13 @@
-use Rattle.std.proofs.Common.{◌≡◌, true, false, Ok, OnOk, sym, subst, ◌∙◌, rules}
+use Rattle.std.proofs.Common.{◌≡◌, true, false, Ok, OnOk, IfErr, sym, subst, ◌∙◌, rules}
 use Rattle.sqlite.specs.Held.{state}
+use Rattle.sqlite.specs.State.{HasCleanDisk}
 use Rattle.fax_core.specs.Machine.{is_down, with_mark}
 use Rattle.fax_job.specs.Name.{IsName}
 use Rattle.fax_store.specs.declared.modems.TheConstants.{INSERT_DOWN}
-use Rattle.fax_store.specs.Store.{HasRun}
+use Rattle.fax_store.specs.Store.{HasRun, IsRefusedFor}
 use Rattle.fax_store.specs.Work.{IsUnderWay}
 use Rattle.fax_store.proofs.ModemLemmas as modems
-use Rattle.fax_store.proofs.WorkLemmas.{goes_on, holds_by, holds_then, step_by, moves_of}
+use Rattle.fax_store.proofs.WorkLemmas.{goes_on, holds_by, holds_then, move_by, only_unavailable}
 use Rattle.fax_store.proofs.StatementLemmas.{edit_text}
 use Rattle.fax_store.proofs.ModemTexts as texts
 use Rattle.std.specs.Prelude.{is_err}
@@ -24,19 +25,30 @@ pub returns-clause-written : goal.returns-clause-written
 returns-clause-written g c m₀ m k₀ k works s =
     let old = state g.S.Store c.args.self.now.conn in
     let read = state g.S.Store c.read_mark.new.self.conn in
-    let new = state g.S.Store c.run.new.self.conn in
+    let new = state g.S.Store c.insert.new.self.conn in
     let modem = c.args.modem.now in
     let params = modems.params modem in
-    let first = goes_on old read c.read_mark.ensures.served (Ok c.in_ok-read_mark.field-0) c.in_ok-read_mark.ensures.reads (λ m k down. down ≡ is_down modem m) c.in_ok-read_mark.ensures.answers m₀ m k₀ k works (c.run.ensures.served s) in
-    let ran : OnOk c.run.result (HasRun INSERT_DOWN.now params read new) = subst (λ p. OnOk c.run.result (HasRun INSERT_DOWN.now p read new)) (search rules) (c.run.ensures.ran s.clean) in
+    let first = goes_on old read c.read_mark.ensures.served (Ok c.in_ok-read_mark.field-0) c.in_ok-read_mark.ensures.reads (λ m k down. down ≡ is_down modem m) c.in_ok-read_mark.ensures.answers m₀ m k₀ k works (c.insert.ensures.served s) in
+    let ran : OnOk c.insert.result (HasRun INSERT_DOWN.now params read new) = subst (λ p. OnOk c.insert.result (HasRun INSERT_DOWN.now p read new)) (search rules) (c.insert.ensures.ran s.clean) in
     let lawful : IsName modem = search rules in
     let free : is_down modem m ≡ false = sym first.0 ∙ c.if-branch.false in
-    moves_of new c.run.result m₀ (with_mark modem true m) k₀ k
-    (step_by read new INSERT_DOWN.now params 6 c.run.result m₀ m (with_mark modem true m) k₀ k k c.run.ensures.served (λ _. first.1) s ran (c.run.ensures.left s.clean) c.run.ensures.cause (λ means has. modems.mark_added modem read new m k means lawful free has))
+    move_by read new INSERT_DOWN.now params 6 c.insert.result m₀ m (with_mark modem true m) k₀ k k c.insert.ensures.served (λ _. first.1) s ran (c.insert.ensures.left s.clean) (λ means has. modems.mark_added modem read new m k means lawful free has)
+
+pub returns-clause-cause : goal.returns-clause-cause
+returns-clause-cause g c m₀ m k₀ k works s named =
+    let old = state g.S.Store c.args.self.now.conn in
+    let read = state g.S.Store c.read_mark.new.self.conn in
+    let new = state g.S.Store c.insert.new.self.conn in
+    let modem = c.args.modem.now in
+    let params = modems.params modem in
+    let first = goes_on old read c.read_mark.ensures.served (Ok c.in_ok-read_mark.field-0) c.in_ok-read_mark.ensures.reads (λ m k down. down ≡ is_down modem m) c.in_ok-read_mark.ensures.answers m₀ m k₀ k works (c.insert.ensures.served s) in
+    let told : HasCleanDisk new → IfErr c.insert.result (IsRefusedFor INSERT_DOWN.now params read new) = λ clean. subst (λ p. IfErr c.insert.result (IsRefusedFor INSERT_DOWN.now p read new)) (search rules) (c.insert.ensures.told clean) in
+    only_unavailable read new INSERT_DOWN.now params c.insert.result (λ m k. is_down modem m ≡ false) c.insert.ensures.served told (λ m k means free e h. modems.mark_goes modem read new m k means free e h) m₀ m k₀ k (λ _. first.1) s
+    (sym first.0 ∙ c.if-branch.false)
 
 pub returns-clause-holds : goal.returns-clause-holds
 returns-clause-holds g c =
     let old = state g.S.Store c.args.self.now.conn in
     let read = state g.S.Store c.read_mark.new.self.conn in
-    holds_then old read (state g.S.Store c.run.new.self.conn) (is_err c.run.result) c.run.ensures.served
-    (holds_by old read c.read_mark.ensures.served (Ok c.in_ok-read_mark.field-0) c.in_ok-read_mark.ensures.reads) (c.run.ensures.holds (edit_text INSERT_DOWN.now _ tt texts.insert_down))
+    holds_then old read (state g.S.Store c.insert.new.self.conn) (is_err c.insert.result) c.insert.ensures.served
+    (holds_by old read c.read_mark.ensures.served (Ok c.in_ok-read_mark.field-0) c.in_ok-read_mark.ensures.reads) (c.insert.ensures.holds (edit_text INSERT_DOWN.now _ tt texts.insert_down))

@@ -9,11 +9,11 @@ use Rattle.fax_store.proofs.work.Work.put_grant.Goals as goal
 pub returns-clause-changes : goal.returns-clause-changes
 returns-clause-changes g c =
     rw (c.if-self.false, c.is_err-self.ensures.value)
-    (moved_by (state g.S.Store c.args.self.now.store.now.conn) (state g.S.Store c.add_grant-done.new.self.conn) c.add_grant-done.result (with_one_more_grant c.args.grant.now) (λ (k : List Entry). k) (λ m₀ m k₀ k works s. (c.add_grant-done.ensures.written m₀ m k₀ k works s).0))
+    (moved_by (state g.S.Store c.args.self.now.store.now.conn) (state g.S.Store c.add_grant-done.new.self.conn) c.add_grant-done.result (with_one_more_grant c.args.grant.now) (λ (k : List Entry). k) (λ m₀ m k₀ k works s. c.add_grant-done.ensures.written m₀ m k₀ k works s))
 
 pub returns-clause-cause : goal.returns-clause-cause
-returns-clause-cause g c m₀ m k₀ k works s fit below =
-    (c.add_grant-done.ensures.written m₀ m k₀ k (subst (λ b. Works (state g.S.Store c.args.self.now.store.now.conn) b m₀ k₀ m k) c.if-self.false works) s).1 fit below
+returns-clause-cause g c m₀ m k₀ k works s fits =
+    c.add_grant-done.ensures.cause m₀ m k₀ k (subst (λ b. Works (state g.S.Store c.args.self.now.store.now.conn) b m₀ k₀ m k) c.if-self.false works) s fits
 
 pub returns-clause-holds : goal.returns-clause-holds
 returns-clause-holds g c = rw (c.if-self.false, c.is_err-self.ensures.value) c.add_grant-done.ensures.holds

@@ -1,0 +1,102 @@
+-- What is accepted of a sound queue, and leaves one, has keys that were free.
+use Rattle.std.proofs.Common.{◌≡◌, ◌≢◌, ◌⊎◌, inl, inr, ℕ, ◌+◌, ◌≤◌, true, List, [], ◌∷◌, ◌++◌, map, length, find, Option, Some, None, refl, sym, ap, subst, ◌∙◌, arith}
+use Rattle.std.specs.Prelude.{nat_lt, ◌==◌}
+use Rattle.std.specs.List.{range_with_len}
+use Rattle.std.specs.Str.{bytes_eq}
+use Rattle.std.proofs.lemmas.Bool.{cases_Bool, eq-eqb}
+use Rattle.std.proofs.lemmas.Slice.Eq.{bytes_eq-Decides}
+use Rattle.sqlite_rules.specs.Lists.{Has}
+use Rattle.fax_core.specs.declared.grants.Grant.{Grant}
+use Rattle.fax_core.specs.Ageing.{aged, aged_job}
+use Rattle.fax_core.specs.Job.{Job, job_of}
+use Rattle.fax_core.specs.Machine.{held_by}
+use Rattle.fax_core.specs.Queue.{Queue, grant_numbered, open_grants}
+use Rattle.fax_core.specs.Sound.{IsOpen, Sound}
+use Rattle.fax_core.proofs.PlaceLemmas.{In, absent, comes, found, found_in, in_found, of_filter, stays}
+use Rattle.fax_core.proofs.StepLemmas.{aged_sound}
+use Rattle.fax_tables.specs.Place.{placed}
+use Rattle.fax_store.specs.Grant.{IsNewGrant}
+use Rattle.fax_store.specs.Job.{IsNewJob, with_expired}
+use Rattle.fax_decide.specs.Effect.{IsFree, IsWithin, accepted}
+use Rattle.fax_decide.specs.declared.effect.Effect.{Effect}
+use Rattle.fax_decide.specs.declared.effect.Effect.TheVariants.{Nothing, NewJob, ChangedJob, Marked, NewGrant, Reported, Closed}
+use Rattle.fax_decide.proofs.PlacedLemmas.{grant_placed}
+
+-- what is put among numbers without a gap, so that there is none, comes last
+last_number : {X : Type 0} (number : X → ℕ) (a : ℕ) (x : X) (xs : List X) → map number xs ≡ range_with_len a (length xs) → map number (placed number x xs) ≡ range_with_len a (length (placed number x xs)) → number x ≡ a + length xs
+last_number number a x [] before after = let head : number x ≡ a = cc in omega arith
+last_number number a x (y ∷ ys) before after = elim (cases_Bool (nat_lt (number y) (number x))) [
+  | inl below ↦
+      (let all : number y ∷ map number (placed number x ys) ≡ range_with_len a (length (y ∷ placed number x ys)) = rw below at after in
+      let rest : map number (placed number x ys) ≡ range_with_len (a + 1) (length (placed number x ys)) = cc in
+      let others : map number ys ≡ range_with_len (a + 1) (length ys) = cc in
+      omega (arith, last_number number (a + 1) x ys others rest))
+  | inr above ↦
+      (let all : number x ∷ number y ∷ map number ys ≡ range_with_len a (length (x ∷ y ∷ ys)) = rw above at after in
+      let second : number y ≡ a + 1 = cc in
+      let first : number y ≡ a = cc in
+      absurd (omega (arith, first, second)))
+]
+
+none_by : {X : Type 0} (o : Option X) → ((x : X) → o ≡ Some x → ⊥) → o ≡ None
+none_by None never = refl
+none_by (Some x) never = absurd (never x refl)
+
+in_had : {X : Type 0} (xs : List X) (x : X) → Has xs x → In x xs
+in_had [] x has = has
+in_had (y ∷ ys) x (inl is) = inl (sym is)
+in_had (y ∷ ys) x (inr more) = inr (in_had ys x more)
+
+-- a job that leaves a sound queue has a number that none had
+job_free : (t : ℕ) (j : Job) (m : Queue) → Sound m → map (λ (k : Job). k.number) (placed (λ (k : Job). k.number) j (map (aged_job t) m.jobs)) ≡ range_with_len 1 (length (placed (λ (k : Job). k.number) j (map (aged_job t) m.jobs)))
+    → IsNewJob j (with_expired t m)
+job_free t j m sound after =
+    let jobs = map (aged_job t) m.jobs in
+    let before : map (λ (k : Job). k.number) jobs ≡ range_with_len 1 (length jobs) = (aged_sound t m sound).jobs in
+    let next = last_number (λ (k : Job). k.number) 1 j jobs before after in
+    absent (λ (k : Job). k.number) 1 j.number jobs before (omega (arith, next))
+
+-- a grant that leaves one has such a number, and neither its modem nor its job held one
+module _ (m after : Queue) (g : Grant) (sound : Sound m) (still : Sound after) (is : after.grants ≡ placed (λ (h : Grant). h.number) g m.grants) (is_open : g.is_open ≡ true) where
+  next : g.number ≡ 1 + length m.grants
+  next = last_number (λ (h : Grant). h.number) 1 g m.grants sound.grants (subst (λ (gs : List Grant). map (λ (h : Grant). h.number) gs ≡ range_with_len 1 (length gs)) is still.grants)
+
+  unknown : grant_numbered g.number m ≡ None
+  unknown = absent (λ (h : Grant). h.number) 1 g.number m.grants sound.grants (omega (arith, next))
+
+  grants_are : after.grants ≡ m.grants ++ g ∷ []
+  grants_are = is ∙ grant_placed m g sound (omega (arith, next, sound.next_grant))
+
+  new_open : IsOpen after g.number g
+  new_open = (ap (find (λ (h : Grant). h.number == g.number)) grants_are ∙ comes (λ (h : Grant). h.number == g.number) m.grants g unknown (eq-eqb g.number g.number refl), is_open)
+
+  -- one that was open is so still, and is another
+  module _ (h : Grant) (there : In h (open_grants m)) where
+    was : grant_numbered h.number m ≡ Some h
+    was = in_found (λ (x : Grant). x.number) 1 m.grants h sound.grants (of_filter (λ (x : Grant). x.is_open) m.grants h there).0
+
+    old_open : IsOpen after h.number h
+    old_open = (ap (find (λ (x : Grant). x.number == h.number)) grants_are ∙ stays (λ (x : Grant). x.number == h.number) m.grants g h was, (of_filter (λ (x : Grant). x.is_open) m.grants h there).1)
+
+    other : h.number ≡ g.number → ⊥
+    other same = let both = sym (subst (λ n. grant_numbered n m ≡ Some h) same was) ∙ unknown in cc
+
+  pub grant_free : IsNewGrant g m
+  grant_free = record {
+    number = unknown;
+    modem = none_by (held_by g.modem m) (λ h held.
+        let there = found_in (λ (x : Grant). bytes_eq x.modem g.modem) (open_grants m) h held in
+        let same = (bytes_eq-Decides h.modem g.modem).0 (found (λ (x : Grant). bytes_eq x.modem g.modem) (open_grants m) h held) in
+        other h there (still.one_to_a_modem h.number g.number h g (old_open h there) new_open same));
+    job = λ h has same. let there = in_had (open_grants m) h has in other h there (still.one_of_a_job h.number g.number h g (old_open h there) new_open same);
+  }
+
+-- so what is accepted takes no key that is taken
+pub keys_free : (t : ℕ) (effect : Effect) (m : Queue) → Sound m → Sound (accepted t effect m) → IsWithin effect (with_expired t m) → IsFree effect (with_expired t m)
+keys_free t Nothing m sound still within = tt
+keys_free t (NewJob f) m sound still within = job_free t (job_of f) m sound still.jobs
+keys_free t (ChangedJob f) m sound still within = tt
+keys_free t (Marked modem down) m sound still within = tt
+keys_free t (NewGrant f g) m sound still within = let free = grant_free m (accepted t (NewGrant f g) m) g sound still refl within.0.is_open in record { number = free.number; modem = free.modem; job = free.job }
+keys_free t (Reported f g) m sound still within = tt
+keys_free t (Closed f g) m sound still within = tt
