@@ -9,7 +9,7 @@ mod RequestLemmas
 pub mod AloneLemmas
 mod EachLemmas
 mod AskLemmas
-mod LimitLemmas
+pub mod LimitLemmas
 mod ReportLemmas
 mod ResponseLemmas
 mod SpellingLemmas

@@ -2,6 +2,7 @@
 
 ghost use Rattle.std.specs.Prelude.{◌≡◌, true, OnErr};
 ghost use Rattle.sqlite.specs.Held.{state};
+ghost use Rattle.sqlite.specs.State.{HasCleanDisk};
 ghost use Rattle.fax_store.specs.Store.{Serves};
 ghost use Rattle.fax_store.specs.Work.{ChangesWhere, Holds, IsOnlyUnavailable};
 ghost use Rattle.fax_decide.specs.Effect.{IsWritable, Suits, effected};
@@ -39,6 +40,8 @@ impl Effect {
         ensures same_reference { work.new.store.ghost_name ≡ work.old.store.ghost_name }
         ensures served { Serves (state S.Store work.new.store.now.conn)
             → Serves (state S.Store work.old.store.now.conn) }
+        ensures clean { HasCleanDisk (state S.Store work.new.store.now.conn)
+            → HasCleanDisk (state S.Store work.old.store.now.conn) }
         ensures holds { Holds (state S.Store work.old.store.now.conn) work.old.failed
             (state S.Store work.new.store.now.conn) work.new.failed }
         ensures fails { OnErr result (work.new.failed ≡ true) }

@@ -14,7 +14,7 @@ use Rattle.fax_core.specs.Reply.{NoKeys}
 use Rattle.fax_core.specs.Settings.{Settings}
 use Rattle.fax_core.specs.Sound.{Sound}
 use Rattle.fax_once.proofs.OneVerdictLemmas.{one_verdict}
-use Rattle.fax_once.specs.Verdict.{Verdict, Told, Accepted, Handles, IsVerdict, Leaves}
+use Rattle.fax_once.specs.Verdict.{Verdict, Told, Repeated, Accepted, Handles, IsVerdict, Leaves}
 use Rattle.fax_once.specs.declared.arrival.Arrival.{Arrival}
 use Rattle.fax_store.proofs.StoreLemmas.{memory_serves}
 use Rattle.fax_store.specs.Store.{Means}
@@ -52,6 +52,8 @@ left_same : (m : Queue) (k : List Entry) (reply other : Response) (left right : 
     → Leaves m k reply left v → Leaves m k other right v → SameLeft reply other left right
 left_same m k reply other left right (Told told) sound (e, here) (e', there) =
     record { replies = e ∙ sym e'; queue = m; kept = k; sound = sound; here = here; there = there }
+left_same m k reply other left right (Repeated told) sound (e, serves, here) (e', serves', there) =
+    record { replies = e ∙ sym e'; queue = m; kept = k; sound = sound; here = λ _. here; there = λ _. there }
 left_same m k reply other left right (Accepted after kept told) sound (e, serves, here, stays) (e', serves', there, more) =
     record { replies = e ∙ sym e'; queue = after; kept = kept; sound = stays; here = λ _. here; there = λ _. there }
 

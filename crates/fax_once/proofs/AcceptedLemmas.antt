@@ -1,81 +1,127 @@
 -- What an accepted arrival had, and what any arrival leaves.
-use Rattle.std.proofs.Common.{◌≡◌, inl, inr, ℕ, Bool, true, false, cond, List, [], ◌∷◌, ◌++◌, Option, Some, None, Ok, Err, refl, sym, ap, subst, ◌∙◌, append-nil, arith}
+use Rattle.std.proofs.Common.{◌≡◌, inl, inr, ℕ, Bool, true, false, cond, List, [], ◌∷◌, Option, Some, None, Ok, Err, refl, sym, ap, subst, ◌∙◌, append-nil, arith}
 use Rattle.std.specs.Prelude.{Result, MatchOption, MatchResult}
+use Rattle.std.specs.Str.{bytes_eq}
 use Rattle.sqlite.specs.State.{State}
-use Rattle.sqlite_rules.specs.Lists.{Has}
 use Rattle.fax_job.specs.declared.refusal.Refusal.{Refusal}
 use Rattle.fax_job.specs.declared.refusal.Refusal.TheVariants.{NoRoute, NumberReused}
-use Rattle.fax_ask.specs.declared.request.Request.{Request}
+use Rattle.fax_ask.specs.declared.request.Request.{Request as Route}
 use Rattle.fax_ask.specs.Answer.{Replied}
 use Rattle.fax_ask.specs.Request.{request_of}
-use Rattle.fax_ask.specs.Response.{Response, accepted_response}
-use Rattle.fax_core.specs.Clock.{decided_at}
-use Rattle.fax_core.specs.Machine.{step}
+use Rattle.fax_ask.specs.Response.{Response, accepted_response, kept_response}
+use Rattle.fax_core.specs.declared.ask.Ask.{Ask}
 use Rattle.fax_core.specs.Queue.{Queue, Entry}
-use Rattle.fax_core.specs.Reply.{Step, Taken, Refused}
+use Rattle.fax_core.specs.Reply.{Reply, Step, Taken, Refused}
+use Rattle.fax_core.specs.Run.{decided}
 use Rattle.fax_core.specs.Settings.{Settings}
 use Rattle.fax_core.specs.Sound.{Sound}
-use Rattle.fax_tables.specs.Kept.{entry}
+use Rattle.fax_store.specs.Kept.{kept_for}
 use Rattle.fax_store.specs.Store.{Means}
+use Rattle.fax_tables.specs.Kept.{entry}
 use Rattle.fax_once.specs.Arrival.{number_of, said_of}
-use Rattle.fax_once.specs.Laws.{AcceptedOnce, IsKeptOnce, IsSoundWith}
-use Rattle.fax_once.specs.Verdict.{Verdict, IsVerdict, Told, Accepted, denied, kept_with, stepped, is_used, seen_by, IsForBody, IsForRequest, Handles, Leaves}
+use Rattle.fax_once.specs.Laws.{AcceptedOnce, IsSoundWith}
+use Rattle.fax_once.specs.Reading.{Post, Reading, Faulty, Sees, Posts, IsForBody, IsForRoute, IsReading, post_of, seen_by}
+use Rattle.fax_once.specs.Verdict.{Verdict, IsVerdict, Told, Repeated, Accepted, denied, kept_with, stepped, taken_once, verdict, Handles, Leaves}
 use Rattle.fax_once.specs.declared.arrival.Arrival.{Arrival}
-use Rattle.fax_once.proofs.VerdictLemmas.{of_entry, one_of}
 
 -- ---- what is accepted
 
-has_last : (k : List Entry) (e : Entry) → Has (k ++ e ∷ []) e
-has_last [] e = inl refl
-has_last (x ∷ xs) e = inr (has_last xs e)
+-- it asked for a step under a number that is new, the step took it, and its reply is kept
+pub record IsAcceptance (s : Settings) (m : Queue) (k : List Entry) (r : Reading) (after : Queue) (kept : List Entry) (reply : Response) : Type 0 where
+  pub post : Post
+  pub told : Reply
+  pub posts : r ≡ Posts post
+  pub unused : kept_for post.client post.number k ≡ None
+  pub taken : decided s m post.request ≡ Taken after told
+  pub replied : reply ≡ accepted_response (Replied told)
+  pub keeps : kept ≡ kept_with post k reply
 
--- the number is used by its kept reply
-used_by : (a : Arrival) (k : List Entry) (number : ℕ) (reply : Response) → is_used a.client.now number (kept_with a number k reply) ≡ true
-used_by a k number reply =
-    let e = entry a.client.now number (said_of a) reply.status reply.body in
-    one_of _ (k ++ e ∷ []) e (has_last k e) (of_entry a.client.now number e (record { client_is = refl; number_is = refl }))
-
-module _ (s : Settings) (a : Arrival) (m : Queue) (k : List Entry) (after : Queue) (kept : List Entry) (reply : Response) where
-  -- its number was not used, and its reply is kept
-  abbrev IsOnce : ℕ → Type 0
-  IsOnce number = (is_used a.client.now number k ≡ false) × (kept ≡ kept_with a number k reply)
-
+module _ (s : Settings) (m : Queue) (k : List Entry) (after : Queue) (kept : List Entry) (reply : Response) where
   abbrev this : Verdict
   this = Accepted after kept reply
 
   is_told : (told : Response) → this ≡ Told told → ⊥
   is_told told e = cc
 
-  kept_by : (number : ℕ) (taken : Step) → this ≡ stepped a number k taken → kept ≡ kept_with a number k reply
-  kept_by number (Taken q told) e =
+  is_repeated : (e : Entry) (b : Bool) → this ≡ cond b (Repeated (kept_response e.status e.body)) (denied NumberReused) → ⊥
+  is_repeated e true h = cc
+  is_repeated e false h = is_told _ h
+
+  of_step : (p : Post) (taken : Step) → kept_for p.client p.number k ≡ None → decided s m p.request ≡ taken → this ≡ stepped p k taken → IsAcceptance s m k (Posts p) after kept reply
+  of_step p (Taken q told) unused is e =
+      let queue : after ≡ q = cc in
       let replies : reply ≡ accepted_response (Replied told) = cc in
-      let entries : kept ≡ kept_with a number k (accepted_response (Replied told)) = cc in
-      entries ∙ ap (kept_with a number k) (sym replies)
-  kept_by number (Refused refusal keys) e = absurd (is_told _ e)
+      let entries : kept ≡ kept_with p k (accepted_response (Replied told)) = cc in
+      record {
+        post = p;
+        told = told;
+        posts = refl;
+        unused = unused;
+        taken = is ∙ ap (λ (x : Queue). Taken x told) (sym queue);
+        replied = replies;
+        keeps = entries ∙ ap (kept_with p k) (sym replies);
+      }
+  of_step p (Refused refusal keys) unused is e = absurd (is_told _ e)
 
-  once_unused : (number : ℕ) (used : Bool) (taken : Step) → is_used a.client.now number k ≡ used → this ≡ cond used (denied NumberReused) (stepped a number k taken) → IsOnce number
-  once_unused number true taken is e = absurd (is_told _ e)
-  once_unused number false taken is e = (is, kept_by number taken e)
+  of_kept : (p : Post) (o : Option Entry) → kept_for p.client p.number k ≡ o → this ≡ taken_once o p.said (stepped p k (decided s m p.request)) → IsAcceptance s m k (Posts p) after kept reply
+  of_kept p None is h = of_step p (decided s m p.request) is refl h
+  of_kept p (Some e) is h = absurd (is_repeated e (bytes_eq e.said p.said) h)
 
-  once_for_body : (number : ℕ) (request : Request) → IsForBody s a m k number request this → IsOnce number
-  once_for_body number request (inl (ask, asks, is)) = once_unused number (is_used a.client.now number k) (step s m (decided_at m.clock a.moment) ask) refl is
-  once_for_body number request (inr (fault, refused, is)) = absurd (is_told _ is)
+  pub acceptance : (r : Reading) → this ≡ verdict s m k r → IsAcceptance s m k r after kept reply
+  acceptance (Faulty refusal) h = absurd (is_told _ h)
+  acceptance (Sees moment job) h = absurd (is_told _ h)
+  acceptance (Posts p) h = of_kept p (kept_for p.client p.number k) refl h
 
-  once_by_number : (request : Request) (r : Result ℕ Refusal) → number_of a ≡ r → MatchResult r (λ number. IsForBody s a m k number request this) (λ refusal. this ≡ denied refusal) → IsKeptOnce a k kept reply
-  once_by_number request (Ok number) is h = let once = once_for_body number request h in (number, is, once.0, subst (λ es. is_used a.client.now number es ≡ true) (sym once.1) (used_by a k number reply), once.1)
-  once_by_number request (Err refusal) is h = absurd (is_told _ h)
+-- what is posted is of the arrival's client, under its number, in its bytes
+pub record IsPosted (a : Arrival) (p : Post) : Type 0 where
+  pub number : number_of a ≡ Ok p.number
+  pub is : p ≡ post_of a p.number p.request.ask
 
-  once_for_request : (request : Request) (o : Option ℕ) (seen : ℕ → Response)
-      → MatchOption o (MatchResult (number_of a) (λ number. IsForBody s a m k number request this) (λ refusal. this ≡ denied refusal)) (λ job. this ≡ Told (seen job)) → IsKeptOnce a k kept reply
-  once_for_request request None seen h = once_by_number request (number_of a) refl h
-  once_for_request request (Some job) seen h = absurd (is_told _ h)
+module _ (a : Arrival) (p : Post) where
+  is_faulty : (refusal : Refusal) → Posts p ≡ Faulty refusal → ⊥
+  is_faulty refusal e = cc
 
-  once_of : (o : Option Request) → MatchOption o (this ≡ denied NoRoute) (IsForRequest s a m k this) → IsKeptOnce a k kept reply
-  once_of None h = absurd (is_told _ h)
-  once_of (Some request) h = once_for_request request (seen_by request) _ h
+  is_seen : (moment job : ℕ) → Posts p ≡ Sees moment job → ⊥
+  is_seen moment job e = cc
+
+  of_post : (n : ℕ) (ask : Ask) → number_of a ≡ Ok n → p ≡ post_of a n ask → IsPosted a p
+  of_post n ask is same =
+      let number : n ≡ p.number = ap (λ q. q.number) (sym same) in
+      let asked : ask ≡ p.request.ask = ap (λ q. q.request.ask) (sym same) in
+      record { number = is ∙ ap (λ (x : ℕ). Ok x) number; is = same ∙ ap (λ x. post_of a x ask) number ∙ ap (λ x. post_of a p.number x) asked }
+
+  same_post : (q : Post) → Posts p ≡ Posts q → p ≡ q
+  same_post q e = cc
+
+  for_body : (n : ℕ) (route : Route) → number_of a ≡ Ok n → IsForBody a n route (Posts p) → IsPosted a p
+  for_body n route is (inl (ask, asks, same)) = of_post n ask is (same_post (post_of a n ask) same)
+  for_body n route is (inr (fault, refused, same)) = absurd (is_faulty _ same)
+
+  by_number : (route : Route) (n : Result ℕ Refusal) → number_of a ≡ n → MatchResult n (λ number. IsForBody a number route (Posts p)) (λ refusal. Posts p ≡ Faulty refusal) → IsPosted a p
+  by_number route (Ok n) is h = for_body n route is h
+  by_number route (Err refusal) is h = absurd (is_faulty _ h)
+
+  for_route : (route : Route) (o : Option ℕ)
+      → MatchOption o (MatchResult (number_of a) (λ number. IsForBody a number route (Posts p)) (λ refusal. Posts p ≡ Faulty refusal)) (λ job. Posts p ≡ Sees a.moment job) → IsPosted a p
+  for_route route None h = by_number route (number_of a) refl h
+  for_route route (Some job) h = absurd (is_seen _ _ h)
+
+  by_route : (o : Option Route) → MatchOption o (Posts p ≡ Faulty NoRoute) (IsForRoute a (Posts p)) → IsPosted a p
+  by_route None h = absurd (is_faulty _ h)
+  by_route (Some route) h = for_route route (seen_by route) h
+
+  pub is_posted : IsReading a (Posts p) → IsPosted a p
+  is_posted h = by_route (request_of a.method a.path.now) h
 
 pub accepted_once : AcceptedOnce
-accepted_once s a m k after kept reply h = once_of s a m k after kept reply (request_of a.method a.path.now) h
+accepted_once s a m k after kept reply (r, is, v_is) =
+    let it = acceptance s m k after kept reply r v_is in
+    let from = is_posted a it.post (subst (IsReading a) it.posts is) in (
+      it.post.number,
+      from.number,
+      subst (λ client. kept_for client it.post.number k ≡ None) (ap (λ p. p.client) from.is) it.unused,
+      it.keeps ∙ ap (λ p. kept_with p k reply) from.is,
+    )
 
 -- ---- what is left
 
@@ -85,10 +131,11 @@ module _ (settings : Settings) (a : Arrival) (m : Queue) (k : List Entry) (reply
 
   left_by : (v : Verdict) → IsVerdict settings a m k v → Leaves m k reply s v → IsSoundWith k s
   left_by (Told told) is (same, rest) = unchanged rest
+  left_by (Repeated told) is (same, serves, rest) = unchanged (λ _. rest)
   left_by (Accepted after kept told) is (same, serves, rest, stays) =
       let once = accepted_once settings a m k after kept told is in
       let more : List Entry = entry a.client.now once.0 (said_of a) told.status told.body ∷ [] in
-      (after, more, subst (Means s after) once.4 (λ _. rest), stays, omega arith)
+      (after, more, subst (Means s after) once.3 (λ _. rest), stays, omega arith)
 
   -- whatever an arrival comes to, the store has a sound queue afterwards, and no kept reply is lost
   pub stays_sound : Handles settings a m k reply s → IsSoundWith k s

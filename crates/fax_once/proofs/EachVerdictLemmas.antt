@@ -1,5 +1,5 @@
 -- An arrival comes to something, and at a sound queue never to 27.
-use Rattle.std.proofs.Common.{◌≡◌, ◌≢◌, ◌⊎◌, inl, inr, ℕ, Bool, true, false, List, Option, Some, None, Ok, Err, refl, sym, ap, subst, ◌∙◌, eqb, true≢false, if◌then◌else◌}
+use Rattle.std.proofs.Common.{All, ◌≡◌, ◌≢◌, ◌⊎◌, inl, inr, ℕ, Bool, true, false, List, Option, Some, None, Ok, Err, refl, sym, ap, subst, ◌∙◌, eqb, true≢false, if◌then◌else◌}
 use Rattle.std.specs.Prelude.{Result, MatchOption, MatchResult}
 use Rattle.fax_job.specs.declared.refusal.Refusal.{Refusal}
 use Rattle.fax_job.specs.declared.refusal.Refusal.TheVariants.{BadBody, BadClient, NoRoute, NumberReused, NoJob, Unavailable}
@@ -18,17 +18,23 @@ use Rattle.fax_core.specs.declared.ask.Ask.{Ask}
 use Rattle.fax_core.specs.declared.ask.Ask.TheVariants as machine
 use Rattle.fax_core.specs.Job.{Job}
 use Rattle.fax_core.specs.Laws.{RefusalsAreMet}
-use Rattle.fax_core.specs.Machine.{step}
 use Rattle.fax_core.specs.Ageing.{aged}
 use Rattle.fax_core.specs.Queue.{Queue, Entry, job_numbered}
 use Rattle.fax_core.specs.Refusals.{may_meet}
 use Rattle.fax_core.specs.Reply.{NoKeys, Step as Stepped, Taken, Refused}
+use Rattle.fax_core.specs.Run.{decided}
 use Rattle.fax_core.specs.Settings.{Settings}
 use Rattle.fax_core.specs.Sound.{Sound}
-use Rattle.fax_decide.specs.View.{view, viewed}
+use Rattle.fax_decide.specs.View.{viewed}
 use Rattle.fax_once.specs.Arrival.{digits_of, number_of}
 use Rattle.fax_once.specs.Laws.{HasVerdict, NoVerdictIsUnavailable}
-use Rattle.fax_once.specs.Verdict.{Verdict, Told, denied, asked_for, stepped, is_used, seen_by, reply_of, IsForBody, IsForRequest}
+use Rattle.fax_once.specs.Reading.{Post, Reading, Faulty, Sees, Posts, post_of, seen_by, IsForBody, IsForRoute}
+use Rattle.fax_once.specs.Verdict.{Verdict, Told, Repeated, denied, stepped, taken_once, reply_of, verdict}
+use Rattle.fax_store.specs.Kept.{kept_for}
+use Rattle.fax_tables.specs.Tables.{IsKeptStatus, IsLawfulEntry}
+use Rattle.fax_tables.proofs.KeyLemmas.{found_holds}
+use Rattle.fax_ask.specs.Response.{kept_response}
+use Rattle.std.specs.Str.{bytes_eq}
 use Rattle.fax_once.specs.declared.arrival.Arrival.{Arrival}
 
 -- ---- an arrival comes to something
@@ -48,31 +54,31 @@ step_of (Down modem) body asked is h = (machine.Down modem, h)
 step_of (Next modem) body asked is h = (machine.Next modem, h)
 step_of (Show job) body asked is h = absurd cc
 
-module _ (a : Arrival) (each : AsksOrHasFault a.body.now) (s : Settings) (m : Queue) (k : List Entry) where
-  for_body : (number : ℕ) (request : Request) → seen_by request ≡ None → (v : Verdict) × IsForBody s a m k number request v
+module _ (a : Arrival) (each : AsksOrHasFault a.body.now) where
+  for_body : (number : ℕ) (request : Request) → seen_by request ≡ None → (r : Reading) × IsForBody a number request r
   for_body number request unseen = elim (each request) [
     | inl x ↦
         let one = step_of request a.body.now x.0 unseen x.1 in
-        (asked_for s a m k number one.0, inl (one.0, subst (Asks request a.body.now) one.1 x.1, refl))
-    | inr f ↦ (denied (BadBody f.0), inr (f.0, f.1, refl))
+        (Posts (post_of a number one.0), inl (one.0, subst (Asks request a.body.now) one.1 x.1, refl))
+    | inr f ↦ (Faulty (BadBody f.0), inr (f.0, f.1, refl))
   ]
 
-  for_sender : (request : Request) (r : Result ℕ Refusal) → seen_by request ≡ None
-      → (v : Verdict) × MatchResult r (λ number. IsForBody s a m k number request v) (λ refusal. v ≡ denied refusal)
+  for_sender : (request : Request) (n : Result ℕ Refusal) → seen_by request ≡ None
+      → (r : Reading) × MatchResult n (λ number. IsForBody a number request r) (λ refusal. r ≡ Faulty refusal)
   for_sender request (Ok number) unseen = for_body number request unseen
-  for_sender request (Err refusal) unseen = (denied refusal, refl)
+  for_sender request (Err refusal) unseen = (Faulty refusal, refl)
 
   for_seen : (request : Request) (o : Option ℕ) → seen_by request ≡ o
-      → (v : Verdict) × MatchOption o (MatchResult (number_of a) (λ number. IsForBody s a m k number request v) (λ refusal. v ≡ denied refusal)) (λ job. v ≡ Told (view s m (decided_at m.clock a.moment) job))
+      → (r : Reading) × MatchOption o (MatchResult (number_of a) (λ number. IsForBody a number request r) (λ refusal. r ≡ Faulty refusal)) (λ job. r ≡ Sees a.moment job)
   for_seen request None unseen = for_sender request (number_of a) unseen
-  for_seen request (Some job) seen = (Told (view s m (decided_at m.clock a.moment) job), refl)
+  for_seen request (Some job) seen = (Sees a.moment job, refl)
 
-  for_route : (o : Option Request) → (v : Verdict) × MatchOption o (v ≡ denied NoRoute) (IsForRequest s a m k v)
-  for_route None = (denied NoRoute, refl)
+  for_route : (o : Option Request) → (r : Reading) × MatchOption o (r ≡ Faulty NoRoute) (IsForRoute a r)
+  for_route None = (Faulty NoRoute, refl)
   for_route (Some request) = for_seen request (seen_by request) refl
 
 pub each_verdict : (a : Arrival) → AsksOrHasFault a.body.now → HasVerdict a
-each_verdict a each s m k = for_route a each s m k (request_of a.method a.path.now)
+each_verdict a each s m k = let one = for_route a each (request_of a.method a.path.now) in (verdict s m k one.0, (one.0, one.1, refl))
 
 -- ---- and at a sound queue never to 27
 
@@ -96,24 +102,29 @@ other_number : (n : ℕ) → (n ≡ 200) ⊎ (n ≡ 201) → n ≢ 503
 other_number n (inl is) e = true≢false (ap (λ x. eqb x 200) (sym is ∙ e))
 other_number n (inr is) e = true≢false (ap (λ x. eqb x 201) (sym is ∙ e))
 
-module _ (accepted : AcceptedAre200Or201) (alone : OnlyUnavailableIs503) (met : RefusalsAreMet) (s : Settings) (a : Arrival) (m : Queue) (k : List Entry) (sound : Sound m) where
+module _ (accepted : AcceptedAre200Or201) (alone : OnlyUnavailableIs503) (met : RefusalsAreMet) (s : Settings) (a : Arrival) (m : Queue) (k : List Entry) (sound : Sound m) (lawful : All IsLawfulEntry k) where
   of_denied : (refusal : Refusal) → refusal ≢ Unavailable → IsOther (denied refusal)
   unfolding IsOther
   of_denied refusal other e = other (alone refusal NoKeys e)
 
-  of_step : (number t : ℕ) (ask : Ask) (r : Stepped) → step s m t ask ≡ r → IsOther (stepped a number k r)
+  of_step : (p : Post) (r : Stepped) → decided s m p.request ≡ r → IsOther (stepped p k r)
   unfolding IsOther
-  of_step number t ask (Taken after reply) is = other_number _ (accepted (Replied reply))
-  of_step number t ask (Refused refusal keys) is = λ e.
-      never_met ask (subst (λ refusal. may_meet ask refusal ≡ true) (alone refusal keys e) (met s m t ask refusal keys sound is))
+  of_step p (Taken after reply) is = other_number _ (accepted (Replied reply))
+  of_step p (Refused refusal keys) is = λ e.
+      never_met p.request.ask (subst (λ refusal. may_meet p.request.ask refusal ≡ true) (alone refusal keys e) (met s m (decided_at m.clock p.request.moment) p.request.ask refusal keys sound is))
 
-  of_number : (b : Bool) (number t : ℕ) (ask : Ask) → IsOther (if b then denied NumberReused else stepped a number k (step s m t ask))
-  of_number true number t ask = of_denied NumberReused (λ e. absurd cc)
-  of_number false number t ask = of_step number t ask (step s m t ask) refl
+  of_entry : (e : Entry) (said : List ℕ) (b : Bool) → IsKeptStatus e.status → IsOther (if b then Repeated (kept_response e.status e.body) else denied NumberReused)
+  unfolding IsOther
+  of_entry e said true status = other_number e.status status
+  of_entry e said false status = of_denied NumberReused (λ is. absurd cc)
 
-  of_body : (number : ℕ) (request : Request) (v : Verdict) → IsForBody s a m k number request v → IsOther v
-  of_body number request v (inl x) = subst IsOther (sym x.2) (of_number (is_used a.client.now number k) number (decided_at m.clock a.moment) x.0)
-  of_body number request v (inr f) = subst IsOther (sym f.2) (of_denied (BadBody f.0) (λ e. absurd cc))
+  of_kept : (p : Post) (o : Option Entry) → kept_for p.client p.number k ≡ o → IsOther (taken_once o p.said (stepped p k (decided s m p.request)))
+  of_kept p None is = of_step p (decided s m p.request) refl
+  of_kept p (Some e) is = of_entry e p.said (bytes_eq e.said p.said) (found_holds IsLawfulEntry _ k e lawful is).status
+
+  of_body : (number : ℕ) (request : Request) (r : Reading) → IsForBody a number request r → IsOther (verdict s m k r)
+  of_body number request r (inl x) = subst (λ q. IsOther (verdict s m k q)) (sym x.2) (let p = post_of a number x.0 in of_kept p (kept_for p.client p.number k) refl)
+  of_body number request r (inr f) = subst (λ q. IsOther (verdict s m k q)) (sym f.2) (of_denied (BadBody f.0) (λ e. absurd cc))
 
   bad_digits : (o : Option ℕ) (refusal : Refusal) → digits_of o ≡ Err refusal → refusal ≢ Unavailable
   bad_digits None refusal is e = absurd cc
@@ -123,29 +134,29 @@ module _ (accepted : AcceptedAre200Or201) (alone : OnlyUnavailableIs503) (met : 
   bad_sender true o refusal is e = bad_digits o refusal is e
   bad_sender false o refusal is e = absurd cc
 
-  of_sender : (request : Request) (r : Result ℕ Refusal) (v : Verdict) → number_of a ≡ r
-      → MatchResult r (λ number. IsForBody s a m k number request v) (λ refusal. v ≡ denied refusal) → IsOther v
-  of_sender request (Ok number) v is h = of_body number request v h
-  of_sender request (Err refusal) v is h =
-      subst IsOther (sym h) (of_denied refusal (bad_sender (is_name a.client.now) (request_number_of a.number.now) refusal is))
+  of_sender : (request : Request) (n : Result ℕ Refusal) (r : Reading) → number_of a ≡ n
+      → MatchResult n (λ number. IsForBody a number request r) (λ refusal. r ≡ Faulty refusal) → IsOther (verdict s m k r)
+  of_sender request (Ok number) r is h = of_body number request r h
+  of_sender request (Err refusal) r is h =
+      subst (λ q. IsOther (verdict s m k q)) (sym h) (of_denied refusal (bad_sender (is_name a.client.now) (request_number_of a.number.now) refusal is))
 
   of_view : (q : Queue) (t : ℕ) (o : Option Job) → IsOther (Told (viewed s q t o))
   unfolding IsOther
   of_view q t None = λ e. absurd (let other = alone NoJob NoKeys e in cc)
   of_view q t (Some j) = other_number 200 (inl refl)
 
-  of_request : (request : Request) (o : Option ℕ) (v : Verdict)
-      → MatchOption o (MatchResult (number_of a) (λ number. IsForBody s a m k number request v) (λ refusal. v ≡ denied refusal)) (λ job. v ≡ Told (view s m (decided_at m.clock a.moment) job))
-      → IsOther v
-  of_request request None v h = of_sender request (number_of a) v refl h
-  of_request request (Some job) v h =
+  of_request : (request : Request) (o : Option ℕ) (r : Reading)
+      → MatchOption o (MatchResult (number_of a) (λ number. IsForBody a number request r) (λ refusal. r ≡ Faulty refusal)) (λ job. r ≡ Sees a.moment job)
+      → IsOther (verdict s m k r)
+  of_request request None r h = of_sender request (number_of a) r refl h
+  of_request request (Some job) r h =
       let t = decided_at m.clock a.moment in
-      subst IsOther (sym h) (of_view (aged t m) t (job_numbered job (aged t m)))
+      subst (λ q. IsOther (verdict s m k q)) (sym h) (of_view (aged t m) t (job_numbered job (aged t m)))
 
-  of_route : (o : Option Request) (v : Verdict) → MatchOption o (v ≡ denied NoRoute) (IsForRequest s a m k v) → IsOther v
-  of_route None v h = subst IsOther (sym h) (of_denied NoRoute (λ e. absurd cc))
-  of_route (Some request) v h = of_request request (seen_by request) v h
+  of_route : (o : Option Request) (r : Reading) → MatchOption o (r ≡ Faulty NoRoute) (IsForRoute a r) → IsOther (verdict s m k r)
+  of_route None r h = subst (λ q. IsOther (verdict s m k q)) (sym h) (of_denied NoRoute (λ e. absurd cc))
+  of_route (Some request) r h = of_request request (seen_by request) r h
 
 pub never_unavailable : AcceptedAre200Or201 → OnlyUnavailableIs503 → RefusalsAreMet → NoVerdictIsUnavailable
 unfolding IsOther
-never_unavailable accepted alone met s a m k v sound h = of_route accepted alone met s a m k sound (request_of a.method a.path.now) v h
+never_unavailable accepted alone met s a m k v sound lawful (r, is, v_is) = subst IsOther (sym v_is) (of_route accepted alone met s a m k sound lawful (request_of a.method a.path.now) r is)

@@ -19,7 +19,8 @@ use Rattle.fax_core.specs.Reply.{NoKeys}
 use Rattle.fax_core.specs.Settings.{Settings}
 use Rattle.fax_store.specs.Store.{Means}
 use Rattle.fax_once.specs.Arrival.{IsSender, number_of}
-use Rattle.fax_once.specs.Verdict.{Verdict, Told, denied, asked_for, seen_by, IsForBody, IsForRequest, IsVerdict, LeavesBy, Answers}
+use Rattle.fax_once.specs.Reading.{Reading, Faulty, Sees, Posts, post_of, seen_by, IsForBody, IsForRoute}
+use Rattle.fax_once.specs.Verdict.{Told, denied, asked_for, IsVerdict, LeavesBy, Answers}
 use Rattle.fax_decide.specs.View.{view}
 use Rattle.fax_once.specs.declared.arrival.Arrival.{Arrival}
 use Rattle.fax_once.specs.declared.sender.Sender.{Sender}
@@ -54,45 +55,44 @@ unseen (Call n) body ask is = refl
 unseen (Page n) body ask is = refl
 unseen (Outcome n) body ask is = refl
 
--- ---- verdicts
+-- ---- readings
 
-for_view : (s : Settings) (a : Arrival) (m : Queue) (k : List Entry) (o : Option Request) (job : ℕ) → MatchOption o ⊥ (λ r. Asks r a.body.now (View job))
-    → MatchOption o (Told (view s m (decided_at m.clock a.moment) job) ≡ denied NoRoute) (IsForRequest s a m k (Told (view s m (decided_at m.clock a.moment) job)))
-for_view s a m k None job is = absurd is
-for_view s a m k (Some r) job is = by (seen_by r) (seen r a.body.now job is)
+for_view : (a : Arrival) (o : Option Request) (job : ℕ) → MatchOption o ⊥ (λ r. Asks r a.body.now (View job)) → MatchOption o (Sees a.moment job ≡ Faulty NoRoute) (IsForRoute a (Sees a.moment job))
+for_view a None job is = absurd is
+for_view a (Some r) job is = by (seen_by r) (seen r a.body.now job is)
   where
-    by : (o : Option ℕ) → o ≡ Some job → MatchOption o (MatchResult (number_of a) (λ number. IsForBody s a m k number r (Told (view s m (decided_at m.clock a.moment) job))) (λ refusal. Told (view s m (decided_at m.clock a.moment) job) ≡ denied refusal)) (λ n. Told (view s m (decided_at m.clock a.moment) job) ≡ Told (view s m (decided_at m.clock a.moment) n))
+    by : (o : Option ℕ) → o ≡ Some job → MatchOption o (MatchResult (number_of a) (λ number. IsForBody a number r (Sees a.moment job)) (λ refusal. Sees a.moment job ≡ Faulty refusal)) (λ n. Sees a.moment job ≡ Sees a.moment n)
     by None e = absurd cc
-    by (Some n) e = let same : n ≡ job = cc in ap (λ (x : ℕ). Told (view s m (decided_at m.clock a.moment) x)) (sym same)
+    by (Some n) e = let same : n ≡ job = cc in ap (Sees a.moment) (sym same)
 
 -- a request that asks for no view, by its number
-posted : (s : Settings) (a : Arrival) (m : Queue) (k : List Entry) (v : Verdict) (r : Request) → seen_by r ≡ None
-    → MatchResult (number_of a) (λ number. IsForBody s a m k number r v) (λ refusal. v ≡ denied refusal) → IsForRequest s a m k v r
-posted s a m k v r is post = by (seen_by r) is
+posted : (a : Arrival) (v : Reading) (r : Request) → seen_by r ≡ None
+    → MatchResult (number_of a) (λ number. IsForBody a number r v) (λ refusal. v ≡ Faulty refusal) → IsForRoute a v r
+posted a v r is post = by (seen_by r) is
   where
-    by : (o : Option ℕ) → o ≡ None → MatchOption o (MatchResult (number_of a) (λ number. IsForBody s a m k number r v) (λ refusal. v ≡ denied refusal)) (λ job. v ≡ Told (view s m (decided_at m.clock a.moment) job))
+    by : (o : Option ℕ) → o ≡ None → MatchOption o (MatchResult (number_of a) (λ number. IsForBody a number r v) (λ refusal. v ≡ Faulty refusal)) (λ job. v ≡ Sees a.moment job)
     by None e = post
     by (Some n) e = absurd cc
 
-by_number : (s : Settings) (a : Arrival) (m : Queue) (k : List Entry) (v : Verdict) (r : Request) (number : ℕ) → number_of a ≡ Ok number → IsForBody s a m k number r v
-    → MatchResult (number_of a) (λ n. IsForBody s a m k n r v) (λ refusal. v ≡ denied refusal)
-by_number s a m k v r number is post = subst (λ (x : Result ℕ Refusal). MatchResult x (λ n. IsForBody s a m k n r v) (λ refusal. v ≡ denied refusal)) (sym is) post
+by_number : (a : Arrival) (v : Reading) (r : Request) (number : ℕ) → number_of a ≡ Ok number → IsForBody a number r v
+    → MatchResult (number_of a) (λ n. IsForBody a n r v) (λ refusal. v ≡ Faulty refusal)
+by_number a v r number is post = subst (λ (x : Result ℕ Refusal). MatchResult x (λ n. IsForBody a n r v) (λ refusal. v ≡ Faulty refusal)) (sym is) post
 
-by_refusal : (s : Settings) (a : Arrival) (m : Queue) (k : List Entry) (r : Request) (e : Refusal) → number_of a ≡ Err e
-    → MatchResult (number_of a) (λ n. IsForBody s a m k n r (denied e)) (λ refusal. denied e ≡ denied refusal)
-by_refusal s a m k r e is = subst (λ (x : Result ℕ Refusal). MatchResult x (λ n. IsForBody s a m k n r (denied e)) (λ refusal. denied e ≡ denied refusal)) (sym is) refl
+by_refusal : (a : Arrival) (r : Request) (e : Refusal) → number_of a ≡ Err e
+    → MatchResult (number_of a) (λ n. IsForBody a n r (Faulty e)) (λ refusal. Faulty e ≡ Faulty refusal)
+by_refusal a r e is = subst (λ (x : Result ℕ Refusal). MatchResult x (λ n. IsForBody a n r (Faulty e)) (λ refusal. Faulty e ≡ Faulty refusal)) (sym is) refl
 
 -- what is asked of the queue
-for_step : (s : Settings) (a : Arrival) (m : Queue) (k : List Entry) (o : Option Request) (number : ℕ) (ask : Ask) → number_of a ≡ Ok number → MatchOption o ⊥ (λ r. Asks r a.body.now (Step ask))
-    → MatchOption o (asked_for s a m k number ask ≡ denied NoRoute) (IsForRequest s a m k (asked_for s a m k number ask))
-for_step s a m k None number ask of is = absurd is
-for_step s a m k (Some r) number ask of is =
-    posted s a m k (asked_for s a m k number ask) r (unseen r a.body.now ask is) (by_number s a m k (asked_for s a m k number ask) r number of (inl (ask, is, refl)))
+for_step : (a : Arrival) (o : Option Request) (number : ℕ) (ask : Ask) → number_of a ≡ Ok number → MatchOption o ⊥ (λ r. Asks r a.body.now (Step ask))
+    → MatchOption o (Posts (post_of a number ask) ≡ Faulty NoRoute) (IsForRoute a (Posts (post_of a number ask)))
+for_step a None number ask of is = absurd is
+for_step a (Some r) number ask of is =
+    posted a (Posts (post_of a number ask)) r (unseen r a.body.now ask is) (by_number a (Posts (post_of a number ask)) r number of (inl (ask, is, refl)))
 
-for_sender : (s : Settings) (a : Arrival) (m : Queue) (k : List Entry) (o : Option Request) (e : Refusal) (ask : Ask) → number_of a ≡ Err e → MatchOption o ⊥ (λ r. Asks r a.body.now (Step ask))
-    → MatchOption o (denied e ≡ denied NoRoute) (IsForRequest s a m k (denied e))
-for_sender s a m k None e ask of is = absurd is
-for_sender s a m k (Some r) e ask of is = posted s a m k (denied e) r (unseen r a.body.now ask is) (by_refusal s a m k r e of)
+for_sender : (a : Arrival) (o : Option Request) (e : Refusal) (ask : Ask) → number_of a ≡ Err e → MatchOption o ⊥ (λ r. Asks r a.body.now (Step ask))
+    → MatchOption o (Faulty e ≡ Faulty NoRoute) (IsForRoute a (Faulty e))
+for_sender a None e ask of is = absurd is
+for_sender a (Some r) e ask of is = posted a (Faulty e) r (unseen r a.body.now ask is) (by_refusal a r e of)
 
 -- ---- answers
 
@@ -103,20 +103,29 @@ where_open (Err e) C S P opens clean so = tt
 
 pub view_answers : {E : Type 0} (result : Result Response E) (s : Settings) (a : Arrival) (m : Queue) (k : List Entry) (x : Asked) (job : ℕ) (store : State)
     → IsAsk a.method a.path.now a.body.now x → x ≡ View job → IfOk result (λ reply. reply ≡ view s m (decided_at m.clock a.moment) job) → Means store m k → Answers s a m k result store
-view_answers (Ok reply) s a m k x job store is shown replied rests =
-    (Told (view s m (decided_at m.clock a.moment) job), for_view s a m k (request_of a.method a.path.now) job (subst (λ (y : Asked). IsAsk a.method a.path.now a.body.now y) shown is), (replied, rests))
+view_answers (Ok reply) s a m k x job store is shown replied rests = (
+  Told (view s m (decided_at m.clock a.moment) job),
+  (Sees a.moment job, for_view a (request_of a.method a.path.now) job (subst (λ (y : Asked). IsAsk a.method a.path.now a.body.now y) shown is), refl),
+  (replied, rests),
+)
 view_answers (Err e) s a m k x job store is shown replied rests = rests
 
 pub step_answers : {E : Type 0} (result : Result Response E) (s : Settings) (a : Arrival) (m : Queue) (k : List Entry) (sender : Sender) (x : Asked) (ask : Ask) (store : State)
-    → IsAsk a.method a.path.now a.body.now x → x ≡ Step ask → IsSender a sender → LeavesBy m k result store (asked_for s a m k sender.number ask) → Answers s a m k result store
-step_answers (Ok reply) s a m k sender x ask store is asked from leaves =
-    (asked_for s a m k sender.number ask, for_step s a m k (request_of a.method a.path.now) sender.number ask from.number (subst (λ (y : Asked). IsAsk a.method a.path.now a.body.now y) asked is), leaves)
+    → IsAsk a.method a.path.now a.body.now x → x ≡ Step ask → IsSender a sender → LeavesBy m k result store (asked_for s m k (post_of a sender.number ask)) → Answers s a m k result store
+step_answers (Ok reply) s a m k sender x ask store is asked from leaves = (
+  asked_for s m k (post_of a sender.number ask),
+  (Posts (post_of a sender.number ask), for_step a (request_of a.method a.path.now) sender.number ask from.number (subst (λ (y : Asked). IsAsk a.method a.path.now a.body.now y) asked is), refl),
+  leaves,
+)
 step_answers (Err e) s a m k sender x ask store is asked from leaves = leaves
 
 pub sender_answers : {E : Type 0} (result : Result Response E) (s : Settings) (a : Arrival) (m : Queue) (k : List Entry) (x : Asked) (ask : Ask) (e : Refusal) (store : State)
     → IsAsk a.method a.path.now a.body.now x → x ≡ Step ask → number_of a ≡ Err e → IfOk result (λ reply. reply ≡ refused_response e NoKeys) → Means store m k → Answers s a m k result store
-sender_answers (Ok reply) s a m k x ask e store is asked of replied rests =
-    (denied e, for_sender s a m k (request_of a.method a.path.now) e ask of (subst (λ (y : Asked). IsAsk a.method a.path.now a.body.now y) asked is), (replied, rests))
+sender_answers (Ok reply) s a m k x ask e store is asked of replied rests = (
+  denied e,
+  (Faulty e, for_sender a (request_of a.method a.path.now) e ask of (subst (λ (y : Asked). IsAsk a.method a.path.now a.body.now y) asked is), refl),
+  (replied, rests),
+)
 sender_answers (Err f) s a m k x ask e store is asked of replied rests = rests
 
 -- a reply that is told of an arrival leaves all as it is
@@ -126,7 +135,6 @@ told_answers (Ok reply) s a m k store is rests = (Told reply, is, (refl, rests))
 told_answers (Err e) s a m k store is rests = rests
 
 -- ---- bodies at fault
-
 -- what is shown has no fault
 unseen_fault : (r : Request) (body : List ℕ) (fault : BodyFault) → IsBodyRefusal r body (BadBody fault) → seen_by r ≡ None
 unseen_fault (Show n) body fault is = absurd is
@@ -145,14 +153,38 @@ unseen_fault (Outcome n) body fault is = refl
 -- the client and the number come before the body
 pub body_told : (s : Settings) (a : Arrival) (m : Queue) (k : List Entry) (fault : BodyFault) (reply : Response) → IsRefused a.method a.path.now a.body.now (BadBody fault)
     → MatchResult (number_of a) (λ _. reply ≡ refused_response (BadBody fault) NoKeys) (λ e. reply ≡ refused_response e NoKeys) → IsVerdict s a m k (Told reply)
-body_told s a m k fault reply refused told = by (request_of a.method a.path.now) refused
+body_told s a m k fault reply refused told = sent (number_of a) refl told
   where
-    sent : (r : Request) → IsBodyRefusal r a.body.now (BadBody fault) → (n : Result ℕ Refusal)
-        → MatchResult n (λ _. reply ≡ refused_response (BadBody fault) NoKeys) (λ e. reply ≡ refused_response e NoKeys)
-        → MatchResult n (λ number. IsForBody s a m k number r (Told reply)) (λ e. Told reply ≡ denied e)
-    sent r is (Ok number) h = inr (fault, is, ap (λ (x : Response). Told x) h)
-    sent r is (Err e) h = ap (λ (x : Response). Told x) h
+    by : (e : Refusal) (o : Option Request) → MatchOption o (BadBody fault ≡ NoRoute) (λ r. IsBodyRefusal r a.body.now (BadBody fault))
+        → ((r : Request) → IsBodyRefusal r a.body.now (BadBody fault) → MatchResult (number_of a) (λ number. IsForBody a number r (Faulty e)) (λ x. Faulty e ≡ Faulty x))
+        → MatchOption o (Faulty e ≡ Faulty NoRoute) (IsForRoute a (Faulty e))
+    by e None h of = absurd (let no = h in cc)
+    by e (Some r) h of = posted a (Faulty e) r (unseen_fault r a.body.now fault h) (of r h)
 
-    by : (o : Option Request) → MatchOption o (BadBody fault ≡ NoRoute) (λ r. IsBodyRefusal r a.body.now (BadBody fault)) → MatchOption o (Told reply ≡ denied NoRoute) (IsForRequest s a m k (Told reply))
-    by None h = absurd (let no = h in cc)
-    by (Some r) h = posted s a m k (Told reply) r (unseen_fault r a.body.now fault h) (sent r h (number_of a) told)
+    sent : (n : Result ℕ Refusal) → number_of a ≡ n → MatchResult n (λ _. reply ≡ refused_response (BadBody fault) NoKeys) (λ e. reply ≡ refused_response e NoKeys) → IsVerdict s a m k (Told reply)
+    sent (Ok number) is h = (Faulty (BadBody fault), by (BadBody fault) (request_of a.method a.path.now) refused (λ r at. by_number a (Faulty (BadBody fault)) r number is (inr (fault, at, refl))), ap (λ (x : Response). Told x) h)
+    sent (Err e) is h = (Faulty e, by e (request_of a.method a.path.now) refused (λ r at. by_refusal a r e is), ap (λ (x : Response). Told x) h)
+
+-- ---- paths without a route
+
+-- a body has no such fault
+no_body_fault : (r : Request) (body : List ℕ) → IsBodyRefusal r body NoRoute → ⊥
+no_body_fault Submit body is = is
+no_body_fault (Alter n) body is = is
+no_body_fault (Call n) body is = is
+no_body_fault (Page n) body is = is
+no_body_fault (Outcome n) body is = is
+no_body_fault (Suspend n) body is = is
+no_body_fault (Resume n) body is = is
+no_body_fault (Kill n) body is = is
+no_body_fault (Show n) body is = is
+no_body_fault (Ready n) body is = absurd (let no = is in cc)
+no_body_fault (Down n) body is = absurd (let no = is in cc)
+no_body_fault (Next n) body is = absurd (let no = is in cc)
+
+pub unrouted : (s : Settings) (a : Arrival) (m : Queue) (k : List Entry) (reply : Response) → IsRefused a.method a.path.now a.body.now NoRoute → reply ≡ refused_response NoRoute NoKeys → IsVerdict s a m k (Told reply)
+unrouted s a m k reply refused told = (Faulty NoRoute, by (request_of a.method a.path.now) refused, ap (λ (x : Response). Told x) told)
+  where
+    by : (o : Option Request) → MatchOption o (NoRoute ≡ NoRoute) (λ r. IsBodyRefusal r a.body.now NoRoute) → MatchOption o (Faulty NoRoute ≡ Faulty NoRoute) (IsForRoute a (Faulty NoRoute))
+    by None h = refl
+    by (Some r) h = absurd (no_body_fault r a.body.now h)

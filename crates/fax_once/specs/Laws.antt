@@ -1,38 +1,176 @@
 -- What is proved of the definitions.
-use Rattle.std.specs.Prelude.{◌≡◌, ◌≢◌, ◌≤◌, ℕ, true, false, List, ◌++◌, length, Ok}
+use Rattle.std.specs.Prelude.{true, ⊤, ◌≡◌, ◌≢◌, ◌≤◌, ◌<◌, ℕ, List, [], ◌∷◌, All, ◌++◌, length, None, Some, Ok}
 use Rattle.sqlite.specs.State.{State}
 use Rattle.fax_ask.specs.Response.{Response}
-use Rattle.fax_core.specs.Queue.{Queue, Entry}
+use Rattle.fax_core.specs.Ask.{IsLawfulAsk}
+use Rattle.fax_core.specs.Job.{Job}
+use Rattle.fax_core.specs.Laws.{HoldsOnce}
+use Rattle.fax_core.specs.Queue.{Queue, Entry, empty_queue, grant_numbered}
+use Rattle.fax_core.specs.Reply.{Given, Handed, Reply, Taken}
+use Rattle.fax_core.specs.declared.ask.Ask.TheVariants.{Next, PageReport}
+use Rattle.fax_core.specs.declared.grants.Grant.{Grant}
+use Rattle.fax_core.specs.Run.{decided}
 use Rattle.fax_core.specs.Settings.{Settings}
-use Rattle.fax_core.specs.Sound.{Sound}
+use Rattle.fax_core.specs.Sound.{IsJob, Sound}
+use Rattle.fax_store.specs.Kept.{kept_for}
 use Rattle.fax_store.specs.Store.{Means}
-use Rattle.fax_once.specs.Arrival.{number_of}
-use Rattle.fax_once.specs.Verdict.{Verdict, Accepted, IsVerdict, is_used, kept_with, reply_of}
+use Rattle.fax_tables.specs.Kept.{entry}
+use Rattle.fax_tables.specs.Tables.{IsKeptStatus, IsLawfulEntry}
+use Rattle.fax_once.specs.Arrival.{number_of, said_of}
+use Rattle.fax_once.specs.Reading.{Post, Reading, Posts, IsReading}
+use Rattle.fax_once.specs.Counts.{counters_of, counts, reports_of}
+use Rattle.fax_once.specs.Run.{Start, IsRun, end_of, is_taken, queue_after, reply_at, taken, takes}
+use Rattle.fax_once.specs.Verdict.{Verdict, Told, Repeated, Accepted, IsVerdict, reply_of, verdict}
 use Rattle.fax_once.specs.declared.arrival.Arrival.{Arrival}
 
--- an arrival comes to one thing at most
+-- an arrival says one thing at most
+abbrev pub OneReading : Type 0
+OneReading = (a : Arrival) (r q : Reading) → IsReading a r → IsReading a q → r ≡ q
+
+-- so it comes to one thing at most
 abbrev pub OneVerdict : Type 0
 OneVerdict = (settings : Settings) (a : Arrival) (m : Queue) (k : List Entry) (v w : Verdict) → IsVerdict settings a m k v → IsVerdict settings a m k w → v ≡ w
 
--- an arrival comes to something
+-- an arrival says something, so it comes to something
 abbrev pub HasVerdict : Arrival → Type 0
 HasVerdict a = (settings : Settings) (m : Queue) (k : List Entry) → (v : Verdict) × IsVerdict settings a m k v
 
--- at a sound queue no arrival comes to 503, which stands for want of memory or of the store
+-- at a sound queue with lawful kept replies no arrival comes to 503, which stands for want of memory or of the store
 abbrev pub NoVerdictIsUnavailable : Type 0
-NoVerdictIsUnavailable = (settings : Settings) (a : Arrival) (m : Queue) (k : List Entry) (v : Verdict) → Sound m → IsVerdict settings a m k v → (reply_of v).status ≢ 503
+NoVerdictIsUnavailable = (settings : Settings) (a : Arrival) (m : Queue) (k : List Entry) (v : Verdict) → Sound m → All IsLawfulEntry k → IsVerdict settings a m k v → (reply_of v).status ≢ 503
 
 -- the arrival has a client and a number that had no kept reply, and the reply is kept for them
 abbrev pub IsKeptOnce : Arrival → List Entry → List Entry → Response → Type 0
 IsKeptOnce a k kept reply =
-    (number : ℕ) × (number_of a ≡ Ok number) × (is_used a.client.now number k ≡ false) × (is_used a.client.now number kept ≡ true)
-    × (kept ≡ kept_with a number k reply)
+    (number : ℕ) × (number_of a ≡ Ok number) × (kept_for a.client.now number k ≡ None)
+    × (kept ≡ k ++ entry a.client.now number (said_of a) reply.status reply.body ∷ [])
 
 -- what is accepted is kept once
 abbrev pub AcceptedOnce : Type 0
 AcceptedOnce = (settings : Settings) (a : Arrival) (m : Queue) (k : List Entry) (after : Queue) (kept : List Entry) (reply : Response)
     → IsVerdict settings a m k (Accepted after kept reply) → IsKeptOnce a k kept reply
 
+-- the same client says the same under the same number, at whatever moment
+pub record SaysTheSame (a b : Arrival) : Type 0 where
+  pub client : a.client.now ≡ b.client.now
+  pub number : a.number.now ≡ b.number.now
+  pub method : a.method ≡ b.method
+  pub path : a.path.now ≡ b.path.now
+  pub body : a.body.now ≡ b.body.now
+
+-- A repeat of what was accepted gets the reply to it, byte for byte, and changes nothing: whatever its moment, and whatever was accepted since.
+abbrev pub RepeatsGetTheirReply : Type 0
+RepeatsGetTheirReply = (settings : Settings) (a b : Arrival) (m after later : Queue) (k kept more : List Entry) (reply : Response)
+    → IsVerdict settings a m k (Accepted after kept reply) → SaysTheSame a b
+    → IsVerdict settings b later (kept ++ more) (Repeated reply)
+
 -- the store has a sound queue, and these kept replies with one more at most
 abbrev pub IsSoundWith : List Entry → State → Type 0
 IsSoundWith k s = (after : Queue) × (more : List Entry) × Means s after (k ++ more) × Sound after × (length more ≤ 1)
+
+-- ---- whole runs
+
+-- where a verdict leads
+abbrev pub left_of : Start → Verdict → Start
+left_of start (Told reply) = start
+left_of start (Repeated reply) = start
+left_of start (Accepted after kept reply) = record { queue = after; kept = kept }
+
+-- looking back gives what taking one arrival after the other gives: the reply, and where it leads
+abbrev pub Threads : Settings → Start → List Reading → Reading → Type 0
+Threads s start past r =
+    let here = end_of s start past in
+    (reply_of (verdict s here.queue here.kept r) ≡ reply_at s start past r)
+    × (end_of s start (r ∷ past) ≡ left_of here (verdict s here.queue here.kept r))
+
+abbrev pub RunsThread : Type 0
+RunsThread = (s : Settings) (start : Start) (past : List Reading) (r : Reading) → Threads s start past r
+
+-- What is taken, answered and left of a run is that of its beginning, and then that of the rest from where the beginning leads.
+abbrev pub RunsSplit : Type 0
+RunsSplit = (s : Settings) (start : Start) (rest beginning : List Reading) (r : Reading) →
+    let later = end_of s start beginning in
+    (taken s start (rest ++ beginning) ≡ taken s later rest ++ taken s start beginning)
+    × (end_of s start (rest ++ beginning) ≡ end_of s later rest)
+    × (reply_at s start (rest ++ beginning) r ≡ reply_at s later rest r)
+
+-- the post is taken behind that past
+abbrev pub IsTakenAt : Settings → Start → List Reading → Post → Type 0
+IsTakenAt s start past p = is_taken s start (taken s start past) p ≡ true
+
+-- all else is left and answered as if that had not been heard
+abbrev pub LeavesNoTrace : Settings → Start → List Reading → List Reading → Reading → Type 0
+LeavesNoTrace s start later past r =
+    (end_of s start (later ++ r ∷ past) ≡ end_of s start (later ++ past))
+    × ((x : Reading) → reply_at s start (later ++ r ∷ past) x ≡ reply_at s start (later ++ past) x)
+
+-- what is not taken leaves no trace
+abbrev pub UntakenLeaveNoTrace : Type 0
+UntakenLeaveNoTrace = (s : Settings) (start : Start) (later past : List Reading) (r : Reading)
+    → taken s start (r ∷ past) ≡ taken s start past → LeavesNoTrace s start later past r
+
+-- nor does what comes under a number that was taken, wherever it comes behind it, at whatever moment: so no copy of what was taken does
+abbrev pub CopiesLeaveNoTrace : Type 0
+CopiesLeaveNoTrace = (s : Settings) (start : Start) (later between past : List Reading) (p q : Post)
+    → IsTakenAt s start past p → q.client ≡ p.client → q.number ≡ p.number → LeavesNoTrace s start later (between ++ Posts p ∷ past) (Posts q)
+
+-- and who is answered 200 or 201 under that number is answered what was answered when it was taken
+abbrev pub NumbersHaveOneReply : Type 0
+NumbersHaveOneReply = (s : Settings) (start : Start) (later past : List Reading) (p q : Post)
+    → IsTakenAt s start past p → q.client ≡ p.client → q.number ≡ p.number
+    → IsKeptStatus (reply_at s start (later ++ Posts p ∷ past) (Posts q)).status
+    → reply_at s start (later ++ Posts p ∷ past) (Posts q) ≡ reply_at s start past (Posts p)
+
+-- ---- counters
+
+-- each of these posts was taken behind the earlier ones, and what it asks for is lawful
+abbrev pub AreTaken : Settings → Queue → List Post → Type 0
+AreTaken s m [] = ⊤
+AreTaken s m (p ∷ earlier) = IsLawfulAsk p.request.ask × (takes (decided s (queue_after s m earlier) p.request) ≡ true) × AreTaken s m earlier
+
+-- from the empty queue the counters of each job are the counts of its reports
+abbrev pub CountersAreCounts : Type 0
+CountersAreCounts = (s : Settings) (posts : List Post) → AreTaken s empty_queue posts
+    → (number : ℕ) (j : Job) → IsJob (queue_after s empty_queue posts) number j → counters_of j ≡ counts (reports_of s empty_queue number posts)
+
+-- ---- modems, jobs and pages
+
+-- after each run the queue is sound, so a modem holds one open grant at most, and so does a job
+abbrev pub RunsAreSound : Type 0
+RunsAreSound = (s : Settings) (m : Queue) (posts : List Post) → Sound m → AreTaken s m posts → Sound (queue_after s m posts) × HoldsOnce (queue_after s m posts)
+
+-- the post reports this page of this grant
+abbrev pub IsConfirmed : Queue → Post → ℕ → ℕ → Grant → Type 0
+IsConfirmed m p grant page g = (p.request.ask ≡ PageReport grant page) × (grant_numbered grant m ≡ Some g)
+
+-- where the post is given the job, its pages lie behind that page; where it reports a page of the job, that lies behind it too
+pub record GoesBehind (s : Settings) (m : Queue) (q : Post) (job page : ℕ) : Type 0 where
+  pub given : (modem : List ℕ) (n : Queue) (handed : Handed) → q.request.ask ≡ Next modem → decided s m q.request ≡ Taken n (Given handed) → handed.job ≡ job → page < handed.from
+  pub confirmed : (grant more : ℕ) (n : Queue) (told : Reply) (g : Grant) → q.request.ask ≡ PageReport grant more → decided s m q.request ≡ Taken n told → grant_numbered grant m ≡ Some g → g.job ≡ job → page < more
+
+-- behind each page report that was taken, each post that was taken goes behind its page: no page is confirmed twice, and none that was is granted again
+abbrev pub NoPageTwice : Settings → Queue → List Post → Type 0
+NoPageTwice s m posts = (newer between earlier : List Post) (p q : Post) (grant page : ℕ) (g : Grant)
+    → posts ≡ newer ++ q ∷ (between ++ p ∷ earlier) → IsConfirmed (queue_after s m earlier) p grant page g
+    → GoesBehind s (queue_after s m (between ++ p ∷ earlier)) q g.job page
+
+abbrev pub RunsSendOnce : Type 0
+RunsSendOnce = (s : Settings) (m : Queue) (posts : List Post) → Sound m → AreTaken s m posts → NoPageTwice s m posts
+
+-- ---- a run of a queue
+
+-- What a run has done: each reply is by what was heard before, and the store has where that leads. What was taken is lawful.
+pub record HasRun (s : Settings) (start : Start) (arrivals : List Arrival) (replies : List Response) (store : State) : Type 0 where
+  pub heard : List Reading
+  pub answered : IsRun s start [] arrivals replies heard
+  pub means : Means store (end_of s start heard).queue (end_of s start heard).kept
+  pub are_taken : AreTaken s start.queue (taken s start heard)
+
+-- So the queue there is sound, a modem and a job hold one open grant at most, no page goes twice, and from the empty queue on the counters count.
+pub record RunsWell (s : Settings) (start : Start) (arrivals : List Arrival) (replies : List Response) (store : State) : Type 0 where
+  pub run : HasRun s start arrivals replies store
+  pub sound : Sound (end_of s start run.heard).queue
+  pub held_once : HoldsOnce (end_of s start run.heard).queue
+  pub sent_once : NoPageTwice s start.queue (taken s start run.heard)
+  pub counted : start.queue ≡ empty_queue → (number : ℕ) (j : Job) → IsJob (end_of s start run.heard).queue number j
+      → counters_of j ≡ counts (reports_of s empty_queue number (taken s start run.heard))

@@ -36,6 +36,7 @@ pub(crate) fn commit_accepted<S: Alter>(
 ) -> Result<(), StoreFault>
     ensures served { OnOk result (Serves (state S.Store store.new.conn)
         → Serves (state S.Store store.old.conn)) }
+    ensures clean { HasCleanDisk (state S.Store store.new.conn) → HasCleanDisk (state S.Store store.old.conn) }
     ensures opens { OnOk result (HasCleanDisk (state S.Store store.new.conn)
         → Serves (state S.Store store.new.conn)) }
     ensures unchanged { OnErr result (Stays (state S.Store store.old.conn) (state S.Store store.new.conn)) }
@@ -70,6 +71,8 @@ fn write<S: Alter>(
     ensures same_reference { work.new.store.ghost_name ≡ work.old.store.ghost_name }
     ensures served { Serves (state S.Store work.new.store.now.conn)
         → Serves (state S.Store work.old.store.now.conn) }
+    ensures clean { HasCleanDisk (state S.Store work.new.store.now.conn)
+        → HasCleanDisk (state S.Store work.old.store.now.conn) }
     ensures holds { Holds (state S.Store work.old.store.now.conn) work.old.failed
         (state S.Store work.new.store.now.conn) work.new.failed }
     ensures kept { OnOk result (IsKeptStatus reply.now.status) }

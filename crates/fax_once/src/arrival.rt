@@ -1,6 +1,7 @@
 //! A request as the queue gets it.
 
-ghost use Rattle.std.specs.Prelude.{◌≡◌, IfOk};
+ghost use Rattle.std.specs.Prelude.{◌≡◌, ◌∷◌, IfOk};
+ghost use Rattle.std.specs.Str.{bytes_eq};
 ghost use Rattle.fax_once.specs.Arrival.{said_of};
 
 use fax_ask::Method;
@@ -47,5 +48,25 @@ impl<'a> Arrival<'a> {
         said.extend_from_slice(b"\n")?;
         said.extend_from_slice(self.body)?;
         Ok(said)
+    }
+
+    /// Whether these bytes are what was said. It takes no memory.
+    pub(crate) fn says(&self, said: &[u8]) -> bool
+        ensures { result ≡ bytes_eq said.now (said_of self.now) }
+    {
+        match said.strip_prefix(self.path.as_bytes()) {
+            Some(rest) => is_behind_line_feed(self.body, rest),
+            None => false,
+        }
+    }
+}
+
+/// Whether the text is a line feed and then that body.
+fn is_behind_line_feed(body: &[u8], text: &[u8]) -> bool
+    ensures { result ≡ bytes_eq text.now (10 ∷ body.now) }
+{
+    match text.split_first() {
+        Some((first, rest)) => *first == b'\n' && rest == body,
+        None => false,
     }
 }

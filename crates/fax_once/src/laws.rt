@@ -3,16 +3,17 @@
 //! Such a function changes nothing: its contract is the law. The statements stand in
 //! `specs/Laws.antt`.
 
-ghost use Rattle.fax_once.specs.Laws.{AcceptedOnce, HasVerdict, NoVerdictIsUnavailable, OneVerdict};
+ghost use Rattle.fax_once.specs.Laws.{AcceptedOnce, CopiesLeaveNoTrace, CountersAreCounts, HasVerdict, NoVerdictIsUnavailable, NumbersHaveOneReply, OneReading, OneVerdict, RepeatsGetTheirReply, RunsAreSound, RunsSendOnce, RunsSplit, RunsThread, UntakenLeaveNoTrace};
 
 use crate::arrival::Arrival;
 use fax_ask::laws::{asks, each_asks_or_has_fault, statuses};
 use fax_core::laws::refusals;
 
-/// An arrival at a queue with these kept replies comes to one thing at most. So what
-/// [`Queue::handle`](crate::Queue::handle) answers and leaves is fixed, unless it answers 27.
+/// An arrival says one thing at most, so at a queue with these kept replies it comes to one thing at most.
+/// What [`Queue::handle`](crate::Queue::handle) answers and leaves is fixed, unless it answers 27.
 pub fn one_verdict()
-    ensures { OneVerdict }
+    ensures reading { OneReading }
+    ensures verdict { OneVerdict }
 {
     asks();
 }
@@ -24,7 +25,8 @@ pub fn each_has_verdict(arrival: &Arrival<'_>)
     each_asks_or_has_fault(arrival.body);
 }
 
-/// At a sound queue no arrival comes to 27. So that answer says that memory or the store gave out.
+/// At a sound queue with lawful kept replies no arrival comes to 27. So that answer says that memory or the
+/// store gave out.
 pub fn no_verdict_is_unavailable()
     ensures { NoVerdictIsUnavailable }
 {
@@ -36,4 +38,39 @@ pub fn no_verdict_is_unavailable()
 /// no request number of a client is accepted twice.
 pub fn accepted_once()
     ensures { AcceptedOnce }
+{}
+
+/// A repeat of what was accepted gets the reply to it, byte for byte, and changes nothing: whatever its
+/// moment, and whatever was accepted since.
+pub fn repeats_get_their_reply()
+    ensures { RepeatsGetTheirReply }
+{}
+
+/// A run in two parts is the first part, and then the second from where the first leads. And looking back over what
+/// was heard gives what taking one arrival after the other gives.
+pub fn split()
+    ensures thread { RunsThread }
+    ensures split { RunsSplit }
+{}
+
+/// What is not taken leaves no trace in a run, and neither does what comes under a number that was taken: a copy at
+/// whatever moment, wherever it stands behind it. Whoever is answered 200 or 201 under that number has the reply of
+/// its first acceptance.
+pub fn repeats()
+    ensures untaken { UntakenLeaveNoTrace }
+    ensures copies { CopiesLeaveNoTrace }
+    ensures reply { NumbersHaveOneReply }
+{}
+
+/// From the empty queue the five counters of every job are the counts of its reports: dials, tries and pages, in all
+/// and since the last that came further.
+pub fn counters()
+    ensures { CountersAreCounts }
+{}
+
+/// After a run from a sound queue the queue is sound, and a modem and a job hold one open grant at most. A page whose
+/// report was taken is in no later grant of its job, and isn't confirmed again.
+pub fn no_page_twice()
+    ensures sound { RunsAreSound }
+    ensures sent { RunsSendOnce }
 {}

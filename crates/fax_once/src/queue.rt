@@ -1,15 +1,17 @@
 //! The send queue: takes one arrival after the other, and answers each.
 //!
 //! An accepted request's effect and its kept reply are one transaction of the store, and the reply's
-//! bytes are made before its commit. A refused request changes nothing.
+//! bytes are made before its commit. A refused request changes nothing, and neither does a repeat of an
+//! accepted one, which gets the kept reply.
 
-ghost use Rattle.std.specs.Prelude.{◌≡◌, ◌∷◌, ◌++◌, [], List, IfOk, IsErr, OnOk, MatchResult};
+ghost use Rattle.std.specs.Prelude.{◌≡◌, ◌∷◌, ◌++◌, [], List, IfOk, IsErr, None, OnErr, OnOk, MatchResult, if◌then◌else◌};
+ghost use Rattle.std.specs.Str.{bytes_eq};
 ghost use Rattle.sqlite.specs.Held.{state};
 ghost use Rattle.sqlite.specs.State.{HasCleanDisk};
 ghost use Rattle.fax_ask.specs.Ask.{IsAsk, IsLawful, IsLawfulStep, IsRefused};
 ghost use Rattle.fax_core.specs.Ask.{IsLawfulAsk};
 ghost use Rattle.fax_core.specs.declared.ask.Ask.{Ask as MachineAsk};
-ghost use Rattle.fax_ask.specs.Response.{refused_response};
+ghost use Rattle.fax_ask.specs.Response.{kept_response, refused_response};
 ghost use Rattle.fax_ask.specs.declared.method.Method.TheVariants.{Get};
 ghost use Rattle.fax_core.specs.Clock.{decided_at};
 ghost use Rattle.fax_core.specs.Queue.{Queue as QueueOf, Entry};
@@ -17,15 +19,17 @@ ghost use Rattle.fax_core.specs.Reply.{NoKeys};
 ghost use Rattle.fax_core.specs.Settings.{Settings};
 ghost use Rattle.fax_core.specs.Sound.{Sound};
 ghost use Rattle.fax_store.specs.Job.{with_expired};
+ghost use Rattle.fax_store.specs.Kept.{kept_for};
 ghost use Rattle.fax_tables.specs.Kept.{entry};
 ghost use Rattle.fax_store.specs.Store.{Means, Serves, Stays};
 ghost use Rattle.fax_tables.specs.Tables.{IsKeptStatus};
-ghost use Rattle.fax_once.specs.Laws.{IsSoundWith};
+ghost use Rattle.fax_once.specs.Laws.{IsSoundWith, RunsWell};
 ghost use Rattle.fax_decide.specs.Effect.{Suits, accepted};
 ghost use Rattle.fax_decide.specs.Settings.{settings_of};
 ghost use Rattle.fax_decide.specs.View.{view};
 ghost use Rattle.fax_once.specs.Arrival.{IsSender, number_of, said_of};
-ghost use Rattle.fax_once.specs.Verdict.{Answers, Handles, IsDecided, IsNotAccepted, IsVerdict, LeavesBy, Told, asked_for, is_used};
+ghost use Rattle.fax_once.specs.Reading.{post_of};
+ghost use Rattle.fax_once.specs.Verdict.{Answers, Handles, IsDecided, IsNotAccepted, IsVerdict, LeavesBy, Told, asked_for};
 ghost use Rattle.fax_once.specs.declared.arrival.Arrival.{Arrival as ArrivalOf};
 
 use crate::acceptance::commit_accepted;
@@ -36,7 +40,7 @@ use fax_core::Ask as Step;
 use fax_decide::{Decision, Effect, Office, Unavailable, decide, view_job};
 use fax_dest::{Controls, Setup};
 use fax_job::{BodyFault, Moment, Refusal};
-use fax_store::{Meta, Store, StoreFault};
+use fax_store::{Kept, Meta, Store};
 use sqlite::Alter;
 use std::alloc::{AllocError, Global};
 
@@ -76,6 +80,8 @@ impl<S: Alter> Queue<S> {
     /// Answers the request, after its effect where it is accepted.
     pub fn handle(&mut self, alloc: Global, arrival: &Arrival<'_>) -> Reply
         ensures office { self.new.office ≡ self.old.office }
+        ensures clean { HasCleanDisk (state S.Store self.new.store.conn)
+            → HasCleanDisk (state S.Store self.old.store.conn) }
         ensures handled { (m : QueueOf) (k : List Entry) → Sound m
             → Means (state S.Store self.old.store.conn) m k
             → HasCleanDisk (state S.Store self.new.store.conn)
@@ -99,6 +105,8 @@ impl<S: Alter> Queue<S> {
     /// Answers `GET` of that path at that moment, as [`Queue::handle`] does. Nothing changes.
     pub fn view(&mut self, alloc: Global, path: &str, moment: Moment) -> Reply
         ensures office { self.new.office ≡ self.old.office }
+        ensures clean { HasCleanDisk (state S.Store self.new.store.conn)
+            → HasCleanDisk (state S.Store self.old.store.conn) }
         ensures stays { Stays (state S.Store self.old.store.conn) (state S.Store self.new.store.conn) }
         ensures viewed { (m : QueueOf) (k : List Entry) → Sound m
             → Means (state S.Store self.old.store.conn) m k
@@ -111,8 +119,34 @@ impl<S: Alter> Queue<S> {
         self.handle(alloc, &arrival)
     }
 
+    /// Answers the arrivals one after the other. The room for their replies is taken first.
+    ///
+    /// # Errors
+    ///
+    /// Want of memory for the replies; then no arrival was handled.
+    pub fn run(&mut self, alloc: Global, arrivals: &[Arrival<'_>]) -> Result<Vec<Reply>, AllocError>
+        ensures office { self.new.office ≡ self.old.office }
+        ensures none { OnErr result (self.new ≡ self.old) }
+        ensures clean { HasCleanDisk (state S.Store self.new.store.conn)
+            → HasCleanDisk (state S.Store self.old.store.conn) }
+        ensures ran { (m : QueueOf) (k : List Entry) → Sound m
+            → Means (state S.Store self.old.store.conn) m k
+            → HasCleanDisk (state S.Store self.new.store.conn)
+            → IfOk result (λ replies. RunsWell (settings_of self.old.office.setup self.old.office.controls)
+            (record { queue = m; kept = k }) arrivals.now replies.items (state S.Store self.new.store.conn)) }
+    {
+        let mut replies = Vec::with_capacity(alloc, arrivals.len())?;
+        for arrival in arrivals {
+            let reply = self.handle(alloc, arrival);
+            replies.push(reply).unwrap();
+        }
+        Ok(replies)
+    }
+
     fn answer(&mut self, alloc: Global, arrival: &Arrival<'_>) -> Result<Reply, Unavailable>
         ensures office { self.new.office ≡ self.old.office }
+        ensures clean { HasCleanDisk (state S.Store self.new.store.conn)
+            → HasCleanDisk (state S.Store self.old.store.conn) }
         ensures unchanged { IsNotAccepted result
             → Stays (state S.Store self.old.store.conn) (state S.Store self.new.store.conn) }
         ensures seen { arrival.now.method ≡ Get
@@ -139,6 +173,8 @@ impl<S: Alter> Queue<S> {
         ask: Ask,
     ) -> Result<Reply, Unavailable>
         ensures office { self.new.office ≡ self.old.office }
+        ensures clean { HasCleanDisk (state S.Store self.new.store.conn)
+            → HasCleanDisk (state S.Store self.old.store.conn) }
         ensures unchanged { IsNotAccepted result
             → Stays (state S.Store self.old.store.conn) (state S.Store self.new.store.conn) }
         ensures seen { arrival.now.method ≡ Get
@@ -164,6 +200,8 @@ impl<S: Alter> Queue<S> {
     /// Shows a job at the later of that moment and the clock. Nothing changes.
     fn show(&mut self, alloc: Global, job: u64, moment: Moment) -> Result<Reply, Unavailable>
         ensures office { self.new.office ≡ self.old.office }
+        ensures clean { HasCleanDisk (state S.Store self.new.store.conn)
+            → HasCleanDisk (state S.Store self.old.store.conn) }
         ensures served { Serves (state S.Store self.new.store.conn)
             → Serves (state S.Store self.old.store.conn) }
         ensures opens { OnOk result (HasCleanDisk (state S.Store self.new.store.conn)
@@ -178,7 +216,7 @@ impl<S: Alter> Queue<S> {
         view_job(&mut self.store, &self.office, alloc, job, t)
     }
 
-    /// Decides a request at the later of its moment and the clock, and accepts it where it is taken.
+    /// Answers a request whose number has a kept reply, and decides one whose number is new.
     fn step(
         &mut self,
         alloc: Global,
@@ -187,19 +225,47 @@ impl<S: Alter> Queue<S> {
         ask: Step,
     ) -> Result<Reply, Unavailable>
         ensures office { self.new.office ≡ self.old.office }
+        ensures clean { HasCleanDisk (state S.Store self.new.store.conn)
+            → HasCleanDisk (state S.Store self.old.store.conn) }
         ensures unchanged { IsNotAccepted result
             → Stays (state S.Store self.old.store.conn) (state S.Store self.new.store.conn) }
         ensures stepped { (m : QueueOf) (k : List Entry) → Sound m
             → Means (state S.Store self.old.store.conn) m k → HasCleanDisk (state S.Store self.new.store.conn)
             → IsSender arrival.now sender.now → IsLawfulStep ask
             → LeavesBy m k result (state S.Store self.new.store.conn)
-            (asked_for (settings_of self.old.office.setup self.old.office.controls) arrival.now m k
-            sender.now.number ask) }
+            (asked_for (settings_of self.old.office.setup self.old.office.controls) m k
+            (post_of arrival.now sender.now.number ask)) }
     {
-        let used = is_used(&mut self.store, sender)?;
-        if used {
-            return Ok(Reply::refused(Refusal::NumberReused));
+        match self.store.kept(sender.client, sender.number)? {
+            Some(kept) => Ok(repeat(arrival, kept)),
+            None => self.step_once(alloc, arrival, sender, ask),
         }
+    }
+
+    /// Decides a request whose number is new at the later of its moment and the clock, and accepts it where it is
+    /// taken.
+    fn step_once(
+        &mut self,
+        alloc: Global,
+        arrival: &Arrival<'_>,
+        sender: &Sender<'_>,
+        ask: Step,
+    ) -> Result<Reply, Unavailable>
+        ensures office { self.new.office ≡ self.old.office }
+        ensures clean { HasCleanDisk (state S.Store self.new.store.conn)
+            → HasCleanDisk (state S.Store self.old.store.conn) }
+        ensures unchanged { IsNotAccepted result
+            → Stays (state S.Store self.old.store.conn) (state S.Store self.new.store.conn) }
+        ensures stepped { (m : QueueOf) (k : List Entry) → Sound m
+            → Means (state S.Store self.old.store.conn) m k
+            → (HasCleanDisk (state S.Store self.old.store.conn) → Serves (state S.Store self.old.store.conn))
+            → HasCleanDisk (state S.Store self.new.store.conn)
+            → IsSender arrival.now sender.now → IsLawfulStep ask
+            → (Serves (state S.Store self.old.store.conn) → kept_for sender.now.client.now sender.now.number k ≡ None)
+            → LeavesBy m k result (state S.Store self.new.store.conn)
+            (asked_for (settings_of self.old.office.setup self.old.office.controls) m k
+            (post_of arrival.now sender.now.number ask)) }
+    {
         let meta = self.store.meta()?;
         let t = moment_at(&meta, arrival.moment);
         let decision = decide(&mut self.store, &self.office, alloc, ask, &meta, t)?;
@@ -216,6 +282,8 @@ impl<S: Alter> Queue<S> {
         decision: Decision,
     ) -> Result<Reply, Unavailable>
         ensures office { self.new.office ≡ self.old.office }
+        ensures clean { HasCleanDisk (state S.Store self.new.store.conn)
+            → HasCleanDisk (state S.Store self.old.store.conn) }
         ensures unchanged { IsNotAccepted result
             → Stays (state S.Store self.old.store.conn) (state S.Store self.new.store.conn) }
         ensures settled { (s : Settings) (m : QueueOf) (k : List Entry) (want : MachineAsk) → Sound m
@@ -225,7 +293,7 @@ impl<S: Alter> Queue<S> {
             → (Serves (state S.Store self.old.store.conn)
             → IsDecided s arrival.now m k sender.now t want decision)
             → LeavesBy m k result (state S.Store self.new.store.conn)
-            (asked_for s arrival.now m k sender.now.number want) }
+            (asked_for s m k (post_of arrival.now sender.now.number want)) }
     {
         match decision {
             Decision::Taken { effect, reply } => {
@@ -246,6 +314,8 @@ impl<S: Alter> Queue<S> {
         reply: Reply,
     ) -> Result<Reply, Unavailable>
         ensures office { self.new.office ≡ self.old.office }
+        ensures clean { HasCleanDisk (state S.Store self.new.store.conn)
+            → HasCleanDisk (state S.Store self.old.store.conn) }
         ensures served { OnOk result (Serves (state S.Store self.new.store.conn)
             → Serves (state S.Store self.old.store.conn)) }
         ensures opens { OnOk result (HasCleanDisk (state S.Store self.new.store.conn)
@@ -265,17 +335,17 @@ impl<S: Alter> Queue<S> {
     }
 }
 
-/// Whether the sender's number was accepted before.
-fn is_used<S: Alter>(store: &mut Store<S>, sender: &Sender<'_>) -> Result<bool, StoreFault>
-    ensures served { Serves (state S.Store store.new.conn) → Serves (state S.Store store.old.conn) }
-    ensures opens { OnOk result (HasCleanDisk (state S.Store store.new.conn) → Serves (state S.Store store.new.conn)) }
-    ensures stays { Stays (state S.Store store.old.conn) (state S.Store store.new.conn) }
-    ensures found { (m : QueueOf) (k : List Entry) → Means (state S.Store store.old.conn) m k
-        → Serves (state S.Store store.new.conn)
-        → IfOk result (λ used. used ≡ is_used sender.now.client.now sender.now.number k) }
+/// The reply to a request whose number has a kept reply: that reply where the client says the same bytes, and a
+/// refusal else. It takes no memory.
+fn repeat(arrival: &Arrival<'_>, kept: Kept) -> Reply
+    ensures { result ≡ (if bytes_eq kept.said.items (said_of arrival.now)
+        then kept_response kept.status kept.body.items else refused_response Refusal.NumberReused NoKeys) }
 {
-    let kept = store.kept(sender.client, sender.number)?;
-    Ok(kept.is_some())
+    if arrival.says(&kept.said) {
+        Reply::kept(kept.status, kept.body)
+    } else {
+        Reply::refused(Refusal::NumberReused)
+    }
 }
 
 /// The moment at which a request is decided: its own, or the clock's where that is later.

@@ -9,14 +9,13 @@ use Rattle.std.proofs.lemmas.List.Sums.{sum_by-cons}
 use Rattle.std.proofs.lemmas.List.Sorted.{length_permutation, sum_by-IsPermutation}
 use Rattle.sqlite.specs.Effect.{Reads}
 use Rattle.sqlite.specs.Command.TheVariants.{Select}
-use Rattle.sqlite.specs.Listing.{understood}
 use Rattle.sqlite.specs.Order.{Row, column}
 use Rattle.sqlite.specs.Program.{overlay}
 use Rattle.sqlite.specs.Query.{IsAnswer, output, Output}
-use Rattle.sqlite.specs.State.{State, IsUnchanged, Shown}
+use Rattle.sqlite.specs.State.{State, Shown}
 use Rattle.sqlite.specs.Tree.{rowid, IsTable}
 use Rattle.sqlite.specs.declared.types.Value.TheVariants.{Null, Text}
-use Rattle.sqlite.proofs.Callers.{IsPlain, reads_as}
+use Rattle.sqlite.proofs.Callers.{reads_as}
 use Rattle.sqlite_rules.proofs.ListLemmas.{all_has}
 use Rattle.sqlite_rules.proofs.ProbeLemmas.{mapped_has}
 use Rattle.sqlite_sql.specs.Term.{holds, Env}
@@ -36,7 +35,6 @@ use Rattle.fax_store.proofs.GrantTexts.{call_tests, calls_query, select_calls}
 use Rattle.fax_tables.proofs.IndexLemmas.{length_map}
 use Rattle.fax_tables.proofs.KeyLemmas.{apart}
 use Rattle.fax_tables.proofs.SelectLemmas.{each_passing}
-use Rattle.fax_store.proofs.StatementLemmas.{shown_keeps}
 use Rattle.fax_tables.proofs.TablesLemmas.{row_of}
 
 -- ---- sums

@@ -1,10 +1,9 @@
 -- What the texts on grants read.
-use Rattle.std.proofs.Common.{◌≡◌, ℕ, List, [], ◌∷◌, Option, refl, sym, subst}
+use Rattle.std.proofs.Common.{◌≡◌, ℕ, List, [], ◌∷◌, Option, refl}
 use Rattle.std.specs.Option.{option_map}
-use Rattle.sqlite.specs.Listing.{understood}
 use Rattle.sqlite.specs.Order.{Row}
-use Rattle.sqlite.specs.State.{State, IsUnchanged}
-use Rattle.sqlite.proofs.Callers.{IsPlain, reads_as}
+use Rattle.sqlite.specs.State.{State}
+use Rattle.sqlite.proofs.Callers.{reads_as}
 use Rattle.fax_core.specs.Queue.{Queue, Entry, grant_numbered}
 use Rattle.fax_core.specs.declared.grants.Grant.{Grant}
 use Rattle.fax_store.specs.declared.grants.TheConstants.{SELECT_GRANT}
@@ -16,7 +15,6 @@ use Rattle.fax_tables.specs.Tables.{TablesMean}
 use Rattle.fax_store.proofs.GrantTexts.{grant_tests, grant_project, select_grant}
 use Rattle.fax_tables.proofs.KeyLemmas.{numbered_found}
 use Rattle.fax_tables.proofs.SelectLemmas.{passes, show, answers}
-use Rattle.fax_store.proofs.StatementLemmas.{shown_keeps}
 
 module _ (n : ℕ) where
   abbrev pub params : Row

@@ -11,12 +11,11 @@ use Rattle.std.proofs.lemmas.Bool.{and_parts, both_ways, cases_Bool, not-true}
 use Rattle.std.proofs.lemmas.Slice.Eq.{bytes_eq-Decides}
 use Rattle.sqlite.specs.Collation.TheVariants.{Binary}
 use Rattle.sqlite.specs.Effect.{Database, IsDatabase}
-use Rattle.sqlite.specs.Listing.{understood}
 use Rattle.sqlite.specs.Order.{Row, column}
-use Rattle.sqlite.specs.State.{State, IsUnchanged}
+use Rattle.sqlite.specs.State.{State}
 use Rattle.sqlite.specs.Tree.{rowid}
 use Rattle.sqlite.specs.declared.types.Value.TheVariants.{Text}
-use Rattle.sqlite.proofs.Callers.{IsPlain, reads_as}
+use Rattle.sqlite.proofs.Callers.{reads_as}
 use Rattle.sqlite_rules.specs.Lists.{Has}
 use Rattle.sqlite_rules.proofs.ListLemmas.{all_has, some_from, has_found}
 use Rattle.sqlite_rules.proofs.PlaceLemmas.{tied_same}
@@ -43,7 +42,6 @@ use Rattle.fax_tables.proofs.CompareLemmas.{are_equal, compared, equal_texts}
 use Rattle.fax_tables.proofs.EditLemmas.{shown_one, none_shown}
 use Rattle.fax_store.proofs.GrantTexts.{hold_tests, hold_project, select_hold}
 use Rattle.fax_tables.proofs.SelectLemmas.{passes, show, answers}
-use Rattle.fax_store.proofs.StatementLemmas.{shown_keeps}
 
 -- ---- a modem stands in one row
 

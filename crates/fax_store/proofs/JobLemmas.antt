@@ -4,13 +4,12 @@ use Rattle.std.specs.Option.{option_map}
 use Rattle.std.specs.List.{range_with_len}
 use Rattle.std.proofs.lemmas.List.FromFn.{length-range_with_len}
 use Rattle.sqlite.specs.Order.{Row}
-use Rattle.sqlite.specs.State.{State, IsUnchanged, Executes}
+use Rattle.sqlite.specs.State.{State, Executes}
 use Rattle.sqlite.specs.Tree.{put_row}
 use Rattle.sqlite.specs.Cast.{cast_row}
 use Rattle.sqlite.specs.Edit.{is_taken, with_rowid}
 use Rattle.sqlite.specs.Rowids.TheVariants.{Chosen}
-use Rattle.sqlite.specs.Listing.{understood}
-use Rattle.sqlite.proofs.Callers.{IsPlain, runs_as, reads_as}
+use Rattle.sqlite.proofs.Callers.{runs_as, reads_as}
 use Rattle.fax_core.specs.Job.{Job, job_of, fields_of, pages_to, HasPages}
 use Rattle.fax_core.specs.Queue.{Queue, Entry, job_numbered, open_grants}
 use Rattle.fax_job.specs.Job.{IsLawful}
@@ -36,7 +35,6 @@ use Rattle.fax_tables.proofs.TablesLemmas.{AreRecords, row_of, parts_of, means_o
 use Rattle.fax_tables.proofs.RowLemmas.{sent_low}
 use Rattle.fax_tables.proofs.WriteLemmas.{KeepsOthers, InsertsRow, unreferred, inserts}
 use Rattle.fax_tables.proofs.SelectLemmas.{passes, show, answers}
-use Rattle.fax_store.proofs.StatementLemmas.{shown_keeps}
 use Rattle.fax_store.proofs.StatementTexts.{job_tests, job_project, job_terms, select_job, insert_job}
 
 module _ (n : ℕ) where

@@ -4,6 +4,7 @@ pub mod StoreLemmas
 pub mod StatementLemmas
 pub mod MetaLemmas
 pub mod WorkLemmas
+pub mod KeptLemmas
 pub mod RepliesLemmas
 pub mod JobLemmas
 pub mod ChangeLemmas

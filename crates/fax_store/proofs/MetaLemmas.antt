@@ -3,9 +3,8 @@ use Rattle.std.proofs.Common.{◌≡◌, ◌≤◌, ℕ, pos, List, [], ◌∷�
 use Rattle.std.proofs.lemmas.Bool.{both_ways}
 use Rattle.sqlite.specs.Order.{Row}
 use Rattle.sqlite.specs.Cast.{cast_row}
-use Rattle.sqlite.specs.Listing.{understood}
-use Rattle.sqlite.specs.State.{State, IsUnchanged}
-use Rattle.sqlite.proofs.Callers.{IsPlain, runs_as, reads_as}
+use Rattle.sqlite.specs.State.{State}
+use Rattle.sqlite.proofs.Callers.{runs_as, reads_as}
 use Rattle.fax_store.specs.declared.meta.TheConstants.{SELECT_META, UPDATE_CLOCK, UPDATE_META}
 use Rattle.fax_tables.specs.Schema as schema
 use Rattle.fax_tables.specs.Schema.{six_tables, meta_tree}
@@ -17,7 +16,6 @@ use Rattle.fax_tables.specs.Tables.{TablesMean, IsLawfulMeta, IsByRowid}
 use Rattle.fax_store.specs.Store.{FindsRow, HasRun}
 use Rattle.fax_tables.proofs.CompareLemmas.{number_same, same_row, cast_int, cast_null}
 use Rattle.fax_tables.proofs.SelectLemmas.{passes, answers, only_row, only_found}
-use Rattle.fax_store.proofs.StatementLemmas.{shown_keeps}
 use Rattle.fax_store.proofs.StatementTexts.{meta_tests, meta_project, select_meta, update_meta, update_project, update_clock, clock_project}
 use Rattle.fax_tables.proofs.TablesLemmas.{parts_of, means_of, meta_changed}
 use Rattle.fax_tables.proofs.UpdateLemmas.{updated}

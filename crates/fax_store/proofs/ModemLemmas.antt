@@ -6,12 +6,11 @@ use Rattle.std.proofs.lemmas.Slice.Eq.{bytes_eq-Decides}
 use Rattle.std.specs.Cmp as cmp
 use Rattle.sqlite.specs.Cast.{cast_row}
 use Rattle.sqlite.specs.Edit.{with_rowid, next_rowid}
-use Rattle.sqlite.specs.Listing.{understood}
 use Rattle.sqlite.specs.Order.{Row}
 use Rattle.sqlite.specs.Rowids.TheVariants.{Chosen}
-use Rattle.sqlite.specs.State.{State, IsUnchanged, Executes}
+use Rattle.sqlite.specs.State.{State, Executes}
 use Rattle.sqlite.specs.declared.types.Value.TheVariants.{Null, Int, Text}
-use Rattle.sqlite.proofs.Callers.{IsPlain, runs_as, reads_as}
+use Rattle.sqlite.proofs.Callers.{runs_as, reads_as}
 use Rattle.sqlite_rules.specs.Lists.{Has}
 use Rattle.sqlite_rules.proofs.ListLemmas.{some_from}
 use Rattle.sqlite_trees.proofs.ListLemmas.{IsPermutation-same}
@@ -37,7 +36,6 @@ use Rattle.sqlite_schema.specs.Rules.{agree}
 use Rattle.sqlite_value.specs.Keys.{first_key, plain}
 use Rattle.fax_store.proofs.ModemTexts.{down_tests, down_project, down_terms, select_down, insert_down, delete_down}
 use Rattle.fax_tables.proofs.SelectLemmas.{passes, show, answers}
-use Rattle.fax_store.proofs.StatementLemmas.{shown_keeps}
 use Rattle.fax_tables.proofs.TablesLemmas.{AreColumns, parts_of, means_of, down_changed, one_more}
 use Rattle.fax_tables.proofs.UpdateLemmas.{gone_project, deleted}
 use Rattle.fax_tables.proofs.WriteLemmas.{KeepsOthers, unreferred, inserts}

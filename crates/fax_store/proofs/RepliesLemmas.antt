@@ -4,10 +4,9 @@ use Rattle.std.proofs.lemmas.Bool.{both_ways, false_from_ne_true}
 use Rattle.std.proofs.lemmas.Slice.Eq.{bytes_eq-Decides}
 use Rattle.std.specs.List.Sorted.{IsPermutation}
 use Rattle.sqlite.specs.Order.{Row}
-use Rattle.sqlite.specs.State.{State, IsUnchanged, Executes}
+use Rattle.sqlite.specs.State.{State, Executes}
 use Rattle.sqlite.specs.declared.types.Value.TheVariants.{Null, Int, Text, Blob}
-use Rattle.sqlite.specs.Listing.{understood}
-use Rattle.sqlite.proofs.Callers.{IsPlain, runs_as, reads_as}
+use Rattle.sqlite.proofs.Callers.{runs_as, reads_as}
 use Rattle.sqlite_rules.specs.Lists.{Has}
 use Rattle.fax_store.specs.declared.replies.TheConstants.{SELECT_REPLY, INSERT_REPLY}
 use Rattle.fax_tables.specs.Schema as schema
@@ -28,7 +27,7 @@ use Rattle.sqlite.specs.declared.error.Error.{Error}
 use Rattle.sqlite_schema.specs.Rules.{agree}
 use Rattle.sqlite_value.specs.Keys.{first_key, plain}
 use Rattle.fax_tables.proofs.SelectLemmas.{passes, show, answers}
-use Rattle.fax_store.proofs.StatementLemmas.{shown_keeps}
+use Rattle.fax_store.proofs.KeptLemmas.{row_of}
 use Rattle.fax_store.proofs.StatementTexts.{reply_tests, reply_project, reply_terms, select_reply, insert_reply}
 use Rattle.fax_tables.proofs.WriteLemmas.{KeepsOthers, InsertsRow, unreferred, inserts}
 use Rattle.fax_tables.proofs.TablesLemmas.{parts_of, means_of, replies_changed, one_more}
@@ -49,18 +48,6 @@ entry_of (x ∷ xs) (e ∷ es) h r (inl is) = (e, inl refl, ap (drop 1) is ∙ f
     first : {X : Type 0} {a b : X} {xs ys : List X} → a ∷ xs ≡ b ∷ ys → a ≡ b
     first h = cc
 entry_of (x ∷ xs) (e ∷ es) h r (inr more) = let it = entry_of xs es (rest h) r more in (it.0, inr it.1, it.2)
-  where
-    rest : {X : Type 0} {a b : X} {xs ys : List X} → a ∷ xs ≡ b ∷ ys → xs ≡ ys
-    rest h = cc
-
-row_of : (rows : List Row) (k : List Entry) → map (drop 1) rows ≡ map entry_columns k → (e : Entry) → Has k e → (r : Row) × Has rows r × (drop 1 r ≡ entry_columns e)
-row_of rows [] h e has = absurd has
-row_of [] (x ∷ xs) h e has = absurd cc
-row_of (r ∷ rs) (x ∷ xs) h e (inl is) = (r, inl refl, first h ∙ ap entry_columns (sym is))
-  where
-    first : {X : Type 0} {a b : X} {xs ys : List X} → a ∷ xs ≡ b ∷ ys → a ≡ b
-    first h = cc
-row_of (r ∷ rs) (x ∷ xs) h e (inr more) = let it = row_of rs xs (rest h) e more in (it.0, inr it.1, it.2)
   where
     rest : {X : Type 0} {a b : X} {xs ys : List X} → a ∷ xs ≡ b ∷ ys → xs ≡ ys
     rest h = cc

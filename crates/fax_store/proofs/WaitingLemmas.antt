@@ -5,10 +5,9 @@ use Rattle.std.specs.Ordering.{is_lt, is_eq, is_gt, int_cmp, ordering_then}
 use Rattle.std.specs.declared.cmp.Ordering.TheVariants.{Equal}
 use Rattle.std.specs.List.Sorted.{IsSorted}
 use Rattle.std.proofs.lemmas.Bool.Decides.{nat_tests}
-use Rattle.sqlite.specs.Listing.{understood}
 use Rattle.sqlite.specs.Order.{Row}
-use Rattle.sqlite.specs.State.{State, IsUnchanged, Shown}
-use Rattle.sqlite.proofs.Callers.{IsPlain, reads_as}
+use Rattle.sqlite.specs.State.{State, Shown}
+use Rattle.sqlite.proofs.Callers.{reads_as}
 use Rattle.sqlite.specs.Query.{output_cmp}
 use Rattle.sqlite_trees.proofs.ListLemmas.{map-map, filter-map, filter_same, all_of, pull_back}
 use Rattle.sqlite_value.proofs.OrderLemmas.{value_cmp-Int}
@@ -30,7 +29,6 @@ use Rattle.fax_tables.proofs.ColumnLemmas.{all_kept}
 use Rattle.fax_tables.proofs.CompareLemmas.{are_equal, equal_numbers, at_most, or_else}
 use Rattle.fax_tables.proofs.IndexLemmas.{length_map}
 use Rattle.fax_tables.proofs.SelectLemmas.{rows_by, passes, show, put_out, in_order}
-use Rattle.fax_store.proofs.StatementLemmas.{shown_keeps}
 use Rattle.fax_store.proofs.StatementTexts.{job_names, job_project, waiting_tests, waiting_order, select_waiting}
 use Rattle.fax_tables.proofs.TablesLemmas.{row_of}
 

@@ -1,8 +1,8 @@
 -- What a work means across its calls.
-use Rattle.std.proofs.Common.{◌≡◌, inl, inr, ℕ, List, true, false, Ok, Err, Result, MatchResult, OnOk, OnErr, IfErr, IsErrAnd, is_err, if◌then◌else◌, ap, refl, sym, ◌∙◌, Bool}
+use Rattle.std.proofs.Common.{◌≡◌, inl, inr, ℕ, List, true, false, Ok, Err, Result, MatchResult, OnOk, OnErr, IfErr, IsErrAnd, is_err, if◌then◌else◌, ap, refl, ◌∙◌, Bool}
 use Rattle.sqlite.specs.Effect.{Database}
 use Rattle.sqlite.specs.Order.{Row}
-use Rattle.sqlite.specs.State.{State, HasCleanDisk, IsUnchanged, IsRolledBack, Executes}
+use Rattle.sqlite.specs.State.{State, HasCleanDisk, IsUnchanged, Executes}
 use Rattle.fax_tables.specs.declared.fault.StoreFault.{StoreFault}
 use Rattle.fax_tables.specs.declared.fault.StoreFault.TheVariants.{Unavailable}
 use Rattle.sqlite.specs.declared.error.Error.{Error}

@@ -1,8 +1,12 @@
 -- Which reply is kept for a client's request number.
-use Rattle.std.specs.Prelude.{◌≡◌, ℕ, List, Option, Some, None}
+use Rattle.std.specs.Prelude.{◌≡◌, ℕ, ◌==◌, ◌&&◌, List, Option, Some, None}
+use Rattle.std.specs.List.{find}
+use Rattle.std.specs.Str.{bytes_eq}
+use Rattle.sqlite.specs.Effect.{Database}
 use Rattle.sqlite_rules.specs.Lists.{Has}
-use Rattle.fax_core.specs.Queue.{Entry}
+use Rattle.fax_core.specs.Queue.{Queue, Entry}
 use Rattle.fax_tables.specs.Kept.{Tells}
+use Rattle.fax_tables.specs.Tables.{TablesMean}
 use Rattle.fax_tables.specs.declared.replies.Kept.{Kept}
 
 -- the entry is of this number of this client
@@ -10,10 +14,22 @@ pub record IsOf (client : List ℕ) (n : ℕ) (e : Entry) : Type 0 where
   pub client_is : e.client ≡ client
   pub number_is : e.number ≡ n
 
--- what the kept replies have for this number of this client
+-- a number of a client has one entry at most
+abbrev pub AreKeptOnce : List Entry → Type 0
+AreKeptOnce k = (client : List ℕ) (n : ℕ) (e f : Entry) → Has k e → Has k f → IsOf client n e → IsOf client n f → e ≡ f
+
+-- so it is in all tables that mean something, since the two columns are their key
+abbrev pub TablesKeepOnce : Type 0
+TablesKeepOnce = (db : Database) (m : Queue) (k : List Entry) → TablesMean db m k → AreKeptOnce k
+
+-- the entry of this number of this client, if there is one
+abbrev pub kept_for : List ℕ → ℕ → List Entry → Option Entry
+kept_for client n k = find (λ e. bytes_eq e.client client && (e.number == n)) k
+
+-- what is found tells that entry
 abbrev pub IsKeptFor : List Entry → List ℕ → ℕ → Option Kept → Type 0
-IsKeptFor k client n None = (e : Entry) → Has k e → ¬ IsOf client n e
-IsKeptFor k client n (Some kept) = (e : Entry) × Has k e × IsOf client n e × Tells kept e
+IsKeptFor k client n None = kept_for client n k ≡ None
+IsKeptFor k client n (Some kept) = (e : Entry) × (kept_for client n k ≡ Some e) × Tells kept e
 
 -- no reply is kept for this number of this client
 abbrev pub IsUnkept : List ℕ → ℕ → List Entry → Type 0

@@ -42,9 +42,9 @@ Rests s db = Serves s → HasRows s db
 abbrev pub Stays : State → State → Type 0
 Stays old new = (db : Database) → db.schema ≡ six_tables → Rests old db → Rests new db
 
--- the same of a store that served before, where it still does
+-- the same of a store that served before, where it still does, and whose disk was clean, where it still is
 abbrev pub StaysAsItWas : State → State → Type 0
-StaysAsItWas old new = (Serves new → Serves old) × Stays old new
+StaysAsItWas old new = (Serves new → Serves old) × Stays old new × (HasCleanDisk new → HasCleanDisk old)
 
 -- what is not committed is undone
 abbrev pub GoesBack : State → State → Type 0

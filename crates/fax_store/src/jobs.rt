@@ -109,6 +109,7 @@ impl<S: Alter> Store<S> {
 
     fn insert_job(&mut self, job: &Job) -> Result<(), StoreFault>
         ensures served { Serves (state S.Store self.new.conn) → Serves (state S.Store self.old.conn) }
+        ensures clean { HasCleanDisk (state S.Store self.new.conn) → HasCleanDisk (state S.Store self.old.conn) }
         ensures holds { Holds (state S.Store self.old.conn) false (state S.Store self.new.conn) (is_err result) }
         ensures written { (m₀ m : Queue) (k₀ k : List Entry) → Works (state S.Store self.old.conn) false m₀ k₀ m k
             → Serves (state S.Store self.new.conn)
@@ -147,6 +148,7 @@ impl<S: Alter> Store<S> {
 
     fn write_change(&mut self, job: &Job) -> Result<(), StoreFault>
         ensures served { Serves (state S.Store self.new.conn) → Serves (state S.Store self.old.conn) }
+        ensures clean { HasCleanDisk (state S.Store self.new.conn) → HasCleanDisk (state S.Store self.old.conn) }
         ensures holds { Holds (state S.Store self.old.conn) false (state S.Store self.new.conn) (is_err result) }
         ensures written { (m₀ m : Queue) (k₀ k : List Entry) → IsChange (job_of job.now) m
             → Works (state S.Store self.old.conn) false m₀ k₀ m k → Serves (state S.Store self.new.conn)
@@ -180,6 +182,7 @@ impl<S: Alter> Store<S> {
 
     fn write_expired(&mut self, t: Moment) -> Result<(), StoreFault>
         ensures served { Serves (state S.Store self.new.conn) → Serves (state S.Store self.old.conn) }
+        ensures clean { HasCleanDisk (state S.Store self.new.conn) → HasCleanDisk (state S.Store self.old.conn) }
         ensures holds { Holds (state S.Store self.old.conn) false (state S.Store self.new.conn) (is_err result) }
         ensures written { (m₀ m : Queue) (k₀ k : List Entry) → Works (state S.Store self.old.conn) false m₀ k₀ m k
             → Serves (state S.Store self.new.conn)
@@ -191,6 +194,7 @@ impl<S: Alter> Store<S> {
 
     fn add_job(&mut self, job: &Job) -> Result<(), StoreFault>
         ensures served { Serves (state S.Store self.new.conn) → Serves (state S.Store self.old.conn) }
+        ensures clean { HasCleanDisk (state S.Store self.new.conn) → HasCleanDisk (state S.Store self.old.conn) }
         ensures holds { Holds (state S.Store self.old.conn) false (state S.Store self.new.conn) (is_err result) }
         ensures written { (m₀ m : Queue) (k₀ k : List Entry) → Works (state S.Store self.old.conn) false m₀ k₀ m k
             → Serves (state S.Store self.new.conn)
@@ -278,6 +282,7 @@ impl<S: Alter> Work<'_, S> {
             (state S.Store self.new.store.now.conn) result
             (λ m k. IsNewJob (job_of job.now) m × m.next_job < 1000000) }
         ensures served { Serves (state S.Store self.new.store.now.conn) → Serves (state S.Store self.old.store.now.conn) }
+        ensures clean { HasCleanDisk (state S.Store self.new.store.now.conn) → HasCleanDisk (state S.Store self.old.store.now.conn) }
         ensures fails { self.new.failed ≡ is_err result }
         ensures refused { IsTrue self.old.failed → result ≡ Err StoreFault.Unavailable }
     {
@@ -306,6 +311,7 @@ impl<S: Alter> Work<'_, S> {
             (with_change (job_of job.now)) (λ k. k) }
         ensures cause { IfErr result (λ fault. fault ≡ StoreFault.Unavailable) }
         ensures served { Serves (state S.Store self.new.store.now.conn) → Serves (state S.Store self.old.store.now.conn) }
+        ensures clean { HasCleanDisk (state S.Store self.new.store.now.conn) → HasCleanDisk (state S.Store self.old.store.now.conn) }
         ensures fails { self.new.failed ≡ is_err result }
         ensures refused { IsTrue self.old.failed → result ≡ Err StoreFault.Unavailable }
     {
@@ -330,6 +336,7 @@ impl<S: Alter> Work<'_, S> {
             (state S.Store self.new.store.now.conn) self.new.failed (with_expired t) (λ k. k) }
         ensures cause { IfErr result (λ fault. fault ≡ StoreFault.Unavailable) }
         ensures served { Serves (state S.Store self.new.store.now.conn) → Serves (state S.Store self.old.store.now.conn) }
+        ensures clean { HasCleanDisk (state S.Store self.new.store.now.conn) → HasCleanDisk (state S.Store self.old.store.now.conn) }
         ensures fails { self.new.failed ≡ is_err result }
         ensures refused { IsTrue self.old.failed → result ≡ Err StoreFault.Unavailable }
     {

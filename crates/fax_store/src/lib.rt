@@ -6,6 +6,7 @@
 
 mod grants;
 mod jobs;
+pub mod laws;
 mod meta;
 mod modems;
 mod replies;

@@ -55,6 +55,7 @@ impl<S: Alter> Store<S> {
 
     fn clear_mark(&mut self, modem: &str) -> Result<(), StoreFault>
         ensures served { Serves (state S.Store self.new.conn) → Serves (state S.Store self.old.conn) }
+        ensures clean { HasCleanDisk (state S.Store self.new.conn) → HasCleanDisk (state S.Store self.old.conn) }
         ensures holds { Holds (state S.Store self.old.conn) false (state S.Store self.new.conn) (is_err result) }
         ensures written { (m₀ m : Queue) (k₀ k : List Entry) → Works (state S.Store self.old.conn) false m₀ k₀ m k
             → Serves (state S.Store self.new.conn)
@@ -66,6 +67,7 @@ impl<S: Alter> Store<S> {
 
     fn add_mark(&mut self, modem: &str) -> Result<(), StoreFault>
         ensures served { Serves (state S.Store self.new.conn) → Serves (state S.Store self.old.conn) }
+        ensures clean { HasCleanDisk (state S.Store self.new.conn) → HasCleanDisk (state S.Store self.old.conn) }
         ensures holds { Holds (state S.Store self.old.conn) false (state S.Store self.new.conn) (is_err result) }
         ensures written { (m₀ m : Queue) (k₀ k : List Entry) → Works (state S.Store self.old.conn) false m₀ k₀ m k
             → Serves (state S.Store self.new.conn)
@@ -84,6 +86,7 @@ impl<S: Alter> Store<S> {
 
     fn write_mark(&mut self, modem: &str, down: bool) -> Result<(), StoreFault>
         ensures served { Serves (state S.Store self.new.conn) → Serves (state S.Store self.old.conn) }
+        ensures clean { HasCleanDisk (state S.Store self.new.conn) → HasCleanDisk (state S.Store self.old.conn) }
         ensures holds { Holds (state S.Store self.old.conn) false (state S.Store self.new.conn) (is_err result) }
         ensures written { (m₀ m : Queue) (k₀ k : List Entry) → Works (state S.Store self.old.conn) false m₀ k₀ m k
             → Serves (state S.Store self.new.conn)
@@ -141,6 +144,7 @@ impl<S: Alter> Work<'_, S> {
             (state S.Store self.new.store.now.conn) result (λ m k. IsTrue down → IsName modem.now) }
         ensures clears { down ≡ false → IfErr result (λ fault. fault ≡ StoreFault.Unavailable) }
         ensures served { Serves (state S.Store self.new.store.now.conn) → Serves (state S.Store self.old.store.now.conn) }
+        ensures clean { HasCleanDisk (state S.Store self.new.store.now.conn) → HasCleanDisk (state S.Store self.old.store.now.conn) }
         ensures fails { self.new.failed ≡ is_err result }
         ensures refused { IsTrue self.old.failed → result ≡ Err StoreFault.Unavailable }
     {

@@ -72,6 +72,7 @@ impl<S: Alter> Store<S> {
         body: &[u8],
     ) -> Result<(), StoreFault>
         ensures served { Serves (state S.Store self.new.conn) → Serves (state S.Store self.old.conn) }
+        ensures clean { HasCleanDisk (state S.Store self.new.conn) → HasCleanDisk (state S.Store self.old.conn) }
         ensures holds { Holds (state S.Store self.old.conn) false (state S.Store self.new.conn) (is_err result) }
         ensures written { (m₀ m : Queue) (k₀ k : List Entry) → Works (state S.Store self.old.conn) false m₀ k₀ m k
             → Serves (state S.Store self.new.conn)
@@ -144,6 +145,7 @@ impl<S: Alter> Work<'_, S> {
             (λ m k. IsName client.now × IsKeptStatus status × IsUnkept client.now number k) }
         ensures status { OnOk result (IsKeptStatus status) }
         ensures served { Serves (state S.Store self.new.store.now.conn) → Serves (state S.Store self.old.store.now.conn) }
+        ensures clean { HasCleanDisk (state S.Store self.new.store.now.conn) → HasCleanDisk (state S.Store self.old.store.now.conn) }
         ensures fails { self.new.failed ≡ is_err result }
         ensures refused { IsTrue self.old.failed → result ≡ Err StoreFault.Unavailable }
     {

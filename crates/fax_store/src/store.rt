@@ -67,6 +67,8 @@ impl<S: Alter> Store<S> {
             BeginsAt (state S.Store self.old.conn) (state S.Store work.store.now.conn) work.failed) }
         ensures served { IfOk result (λ work.
             Serves (state S.Store work.store.now.conn) → Serves (state S.Store self.old.conn)) }
+        ensures clean { IfOk result (λ work.
+            HasCleanDisk (state S.Store work.store.now.conn) → HasCleanDisk (state S.Store self.old.conn)) }
         ensures goes_on { IfOk result (λ work. work.failed ≡ false) }
         ensures cause { IfErr result (λ fault. fault ≡ StoreFault.Unavailable) }
     {
@@ -78,6 +80,7 @@ impl<S: Alter> Store<S> {
     pub(crate) fn roll_back(&mut self)
         ensures back { GoesBack (state S.Store self.old.conn) (state S.Store self.new.conn) }
         ensures served { Serves (state S.Store self.new.conn) → Serves (state S.Store self.old.conn) }
+        ensures clean { HasCleanDisk (state S.Store self.new.conn) → HasCleanDisk (state S.Store self.old.conn) }
     {
         if !self.conn.is_autocommit() {
             let _ = self.conn.execute(ROLLBACK, &[]);
@@ -135,6 +138,7 @@ impl<S: Alter> Store<S> {
     /// `Unavailable`, or `Strange` where the row breaks a rule of its table, as a key that is taken.
     pub(crate) fn insert(&mut self, sql: &str, params: &[ValueRef<'_>]) -> Result<(), StoreFault>
         ensures served { Serves (state S.Store self.new.conn) → Serves (state S.Store self.old.conn) }
+        ensures clean { HasCleanDisk (state S.Store self.new.conn) → HasCleanDisk (state S.Store self.old.conn) }
         ensures holds { IsEditText sql.now
             → Holds (state S.Store self.old.conn) false (state S.Store self.new.conn) (is_err result) }
         ensures ran { HasCleanDisk (state S.Store self.new.conn) → OnOk result
@@ -153,6 +157,7 @@ impl<S: Alter> Store<S> {
     /// Runs a statement that updates or deletes rows.
     pub(crate) fn run(&mut self, sql: &str, params: &[ValueRef<'_>]) -> Result<(), StoreFault>
         ensures served { Serves (state S.Store self.new.conn) → Serves (state S.Store self.old.conn) }
+        ensures clean { HasCleanDisk (state S.Store self.new.conn) → HasCleanDisk (state S.Store self.old.conn) }
         ensures holds { IsEditText sql.now
             → Holds (state S.Store self.old.conn) false (state S.Store self.new.conn) (is_err result) }
         ensures ran { HasCleanDisk (state S.Store self.new.conn) → OnOk result

@@ -40,6 +40,8 @@ impl<'s, S: Alter> Work<'s, S> {
             self.entry.failed (state S.Store self.exit.0.now.conn)) }
         ensures served { OnOk result (Serves (state S.Store self.exit.0.now.conn)
             → Serves (state S.Store self.entry.store.now.conn)) }
+        ensures clean { HasCleanDisk (state S.Store self.exit.0.now.conn)
+            → HasCleanDisk (state S.Store self.entry.store.now.conn) }
         ensures opens { OnOk result (HasCleanDisk (state S.Store self.exit.0.now.conn)
             → Serves (state S.Store self.exit.0.now.conn)) }
         ensures forgets { OnErr result (Forgets (state S.Store self.entry.store.now.conn)
@@ -65,6 +67,8 @@ impl<S: Alter> Drop for Work<'_, S> {
             (state S.Store self.exit.0.now.conn) }
         ensures undone { Undoes (state S.Store self.entry.store.now.conn) self.entry.failed
             (state S.Store self.exit.0.now.conn) }
+        ensures clean { HasCleanDisk (state S.Store self.exit.0.now.conn)
+            → HasCleanDisk (state S.Store self.entry.store.now.conn) }
         ensures served { Serves (state S.Store self.exit.0.now.conn)
             → Serves (state S.Store self.entry.store.now.conn) }
     {

@@ -12,6 +12,8 @@ mod replies;
 #[cfg(test)]
 mod rows;
 #[cfg(test)]
+mod runs;
+#[cfg(test)]
 mod setup;
 #[cfg(test)]
 mod store;

@@ -1,5 +1,6 @@
 use Rattle.std.proofs.Common.{◌≡◌, [], ◌∷◌, ◌++◌, sym, subst, rules}
 use Rattle.sqlite.specs.Held.{state}
+use Rattle.sqlite.specs.State.{HasCleanDisk}
 use Rattle.fax_tables.specs.Kept.{entry}
 use Rattle.fax_store.specs.Store.{Means, Serves, Stays, StaysAsItWas}
 use Rattle.fax_decide.specs.Effect.{accepted}
@@ -44,6 +45,29 @@ returns-in_err-commit-clause-unchanged g c =
     let same : c.commit.new.self.0 ≡ c.store-2-1.given.0 = search rules in
     let stays : Stays (state g.S.Store c.args.store.now.conn) (state g.S.Store c.commit.new.self.0.conn) = λ db six rests. c.in_err-commit.ensures.forgets db (c.write.ensures.holds db (c.in_ok-work.ensures.at db six rests)) in
     on_err c.from_residual-in_err-commit.result (subst (λ v. Stays (state g.S.Store c.args.store.now.conn) (state g.S.Store v.conn)) same stays)
+
+pub returns-in_err-work-clause-clean : goal.returns-in_err-work-clause-clean
+returns-in_err-work-clause-clean g c =
+    let stays : StaysAsItWas (state g.S.Store c.args.store.now.conn) (state g.S.Store c.begin.follows.lender-at-none.conn) = search rules in
+    stays.2
+
+pub returns-in_err-write-clause-clean : goal.returns-in_err-write-clause-clean
+returns-in_err-write-clause-clean g c =
+    let same : c.drop-work.new.self.0 ≡ c.store-in_err-write-1.given.0 = search rules in
+    let clean : HasCleanDisk (state g.S.Store c.drop-work.new.self.0.conn) → HasCleanDisk (state g.S.Store c.args.store.now.conn) = λ now. c.in_ok-work.ensures.clean (c.write.ensures.clean (c.drop-work.ensures.clean now)) in
+    subst (λ v. HasCleanDisk (state g.S.Store v.conn) → HasCleanDisk (state g.S.Store c.args.store.now.conn)) same clean
+
+pub returns-in_err-commit-clause-clean : goal.returns-in_err-commit-clause-clean
+returns-in_err-commit-clause-clean g c =
+    let same : c.commit.new.self.0 ≡ c.store-2-1.given.0 = search rules in
+    let clean : HasCleanDisk (state g.S.Store c.commit.new.self.0.conn) → HasCleanDisk (state g.S.Store c.args.store.now.conn) = λ now. c.in_ok-work.ensures.clean (c.write.ensures.clean (c.commit.ensures.clean now)) in
+    subst (λ v. HasCleanDisk (state g.S.Store v.conn) → HasCleanDisk (state g.S.Store c.args.store.now.conn)) same clean
+
+pub returns-clause-clean : goal.returns-clause-clean
+returns-clause-clean g c =
+    let same : c.commit.new.self.0 ≡ c.store-2-1.given.0 = search rules in
+    let clean : HasCleanDisk (state g.S.Store c.commit.new.self.0.conn) → HasCleanDisk (state g.S.Store c.args.store.now.conn) = λ now. c.in_ok-work.ensures.clean (c.write.ensures.clean (c.commit.ensures.clean now)) in
+    subst (λ v. HasCleanDisk (state g.S.Store v.conn) → HasCleanDisk (state g.S.Store c.args.store.now.conn)) same clean
 
 pub returns-in_err-write-clause-cause : goal.returns-in_err-write-clause-cause
 returns-in_err-write-clause-cause g c m k means fits s =

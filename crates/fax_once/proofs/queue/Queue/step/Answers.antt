@@ -1,56 +1,28 @@
-use Rattle.std.proofs.Common.{ap, subst, sym, ◌∙◌}
+use Rattle.std.proofs.Common.{subst}
 use Rattle.sqlite.specs.Held.{state}
-use Rattle.std.specs.Prelude.{IfOk}
-use Rattle.fax_core.specs.Clock.{decided_at}
-use Rattle.fax_core.specs.Machine.{step}
-use Rattle.fax_decide.specs.Decision.{Decides}
 use Rattle.fax_decide.specs.Settings.{settings_of}
-use Rattle.fax_once.proofs.VerdictLemmas.{used_leaves, lawful_ask}
 use Rattle.fax_decide.proofs.WorkLemmas.{refused_with}
 use Rattle.fax_store.proofs.StoreLemmas.{means_stay}
+use Rattle.fax_store.specs.Kept.{IsKeptFor}
+use Rattle.fax_once.proofs.VerdictLemmas.{repeated_leaves}
 use Rattle.fax_once.proofs.queue.Queue.step.Goals as goal
 
-pub returns-then-used-clause-stepped : goal.returns-then-used-clause-stepped
-returns-then-used-clause-stepped g c m k sound means clean from lawful =
-    used_leaves (settings_of c.args.self.now.office.setup c.args.self.now.office.controls) c.args.arrival.now m k c.args.sender.now c.args.ask _ (state g.S.Store c.is_used.new.store.conn) from
-    (sym (c.in_ok-used.ensures.found m k means (c.in_ok-used.ensures.opens clean)) ∙ c.if-used.true) c.refused.ensures (means_stay c.is_used.ensures.served c.is_used.ensures.stays m k means)
-
-pub returns-clause-stepped : goal.returns-clause-stepped
-returns-clause-stepped g c m k sound means clean from lawful =
+pub returns-in-Some-clause-stepped : goal.returns-in-Some-clause-stepped
+returns-in-Some-clause-stepped g c m k sound means clean from lawful =
     let settings = settings_of c.args.self.now.office.setup c.args.self.now.office.controls in
-    let looked = means_stay c.is_used.ensures.served c.is_used.ensures.stays m k means in
-    let read = means_stay c.meta.ensures.served c.meta.ensures.stays m k looked in
-    c.settle.ensures.settled settings m k c.args.ask sound (means_stay c.decide.ensures.served c.decide.ensures.stays m k read)
-    (λ decided. c.in_ok-decision.ensures.opens decided (c.in_ok-meta.ensures.opens (c.decide.ensures.clean decided))) clean from (lawful_ask c.args.ask lawful)
-    (λ at.
-    let meta = c.in_ok-meta.ensures.found m k looked (c.decide.ensures.served at) in
-    record {
-      unused = sym (c.in_ok-used.ensures.found m k means (c.meta.ensures.served (c.decide.ensures.served at))) ∙ c.if-used.false;
-      now = c.moment_at-t.ensures ∙ ap (λ meta. decided_at meta.clock c.args.arrival.now.moment) meta;
-      decides = subst (λ r. IfOk r (Decides (step settings m c.moment_at-t.result c.args.ask) m c.moment_at-t.result)) c.in_ok-decision.was (c.decide.ensures.decided m k sound read at meta);
-    })
+    let serves = c.in_ok-kept.ensures.opens clean in
+    let found = subst (IsKeptFor k c.args.sender.now.client.now c.args.sender.now.number) c.in-Some.is (c.in_ok-kept.ensures.found m k means serves) in
+    repeated_leaves settings c.args.arrival.now m k c.args.sender.now c.args.ask c.in-Some.kept found.0 c.repeat.result (state g.S.Store c.kept.new.self.conn)
+    from found.1 found.2 serves (means_stay c.kept.ensures.served c.kept.ensures.stays m k means serves) c.repeat.ensures
 
-pub returns-in_err-used-clause-stepped : goal.returns-in_err-used-clause-stepped
-returns-in_err-used-clause-stepped g c m k sound means clean from lawful =
-    refused_with c.from_residual.result _ _ c.from_residual.ensures.0 (means_stay c.is_used.ensures.served c.is_used.ensures.stays m k means)
+pub returns-in-None-clause-stepped : goal.returns-in-None-clause-stepped
+returns-in-None-clause-stepped g c m k sound means clean from lawful =
+    c.step_once.ensures.stepped m k sound (means_stay c.kept.ensures.served c.kept.ensures.stays m k means) c.in_ok-kept.ensures.opens clean from lawful
+    (λ serves. subst (IsKeptFor k c.args.sender.now.client.now c.args.sender.now.number) c.in-None.is (c.in_ok-kept.ensures.found m k means serves))
 
-pub returns-in_err-meta-clause-stepped : goal.returns-in_err-meta-clause-stepped
-returns-in_err-meta-clause-stepped g c m k sound means clean from lawful =
-    let looked = means_stay c.is_used.ensures.served c.is_used.ensures.stays m k means in
-    refused_with c.from_residual-in_err-meta.result _ _ c.from_residual-in_err-meta.ensures.0 (means_stay c.meta.ensures.served c.meta.ensures.stays m k looked)
+pub returns-in-None-clause-unchanged : goal.returns-in-None-clause-unchanged
+returns-in-None-clause-unchanged g c refused db six rests = c.step_once.ensures.unchanged refused db six (c.kept.ensures.stays db six rests)
 
-pub returns-in_err-decision-clause-stepped : goal.returns-in_err-decision-clause-stepped
-returns-in_err-decision-clause-stepped g c m k sound means clean from lawful =
-    let looked = means_stay c.is_used.ensures.served c.is_used.ensures.stays m k means in
-    let read = means_stay c.meta.ensures.served c.meta.ensures.stays m k looked in
-    refused_with c.from_residual-in_err-decision.result _ _ c.from_residual-in_err-decision.ensures.0 (means_stay c.decide.ensures.served c.decide.ensures.stays m k read)
-
-pub returns-in_err-meta-clause-unchanged : goal.returns-in_err-meta-clause-unchanged
-returns-in_err-meta-clause-unchanged g c refused db six rests = c.meta.ensures.stays db six (c.is_used.ensures.stays db six rests)
-
-pub returns-in_err-decision-clause-unchanged : goal.returns-in_err-decision-clause-unchanged
-returns-in_err-decision-clause-unchanged g c refused db six rests = c.decide.ensures.stays db six (c.meta.ensures.stays db six (c.is_used.ensures.stays db six rests))
-
-pub returns-clause-unchanged : goal.returns-clause-unchanged
-returns-clause-unchanged g c refused db six rests =
-    c.settle.ensures.unchanged refused db six (c.decide.ensures.stays db six (c.meta.ensures.stays db six (c.is_used.ensures.stays db six rests)))
+pub returns-in_err-kept-clause-stepped : goal.returns-in_err-kept-clause-stepped
+returns-in_err-kept-clause-stepped g c m k sound means clean from lawful =
+    refused_with c.from_residual.result _ _ c.from_residual.ensures.0 (means_stay c.kept.ensures.served c.kept.ensures.stays m k means)

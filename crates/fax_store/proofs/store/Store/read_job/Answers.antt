@@ -1,4 +1,4 @@
-use Rattle.std.proofs.Common.{◌≡◌, inl, Some, subst, sym, ap, ◌∙◌, rules}
+use Rattle.std.proofs.Common.{◌≡◌, Some, subst, sym, ap, ◌∙◌, rules}
 use Rattle.std.specs.Option.{option_map}
 use Rattle.sqlite.specs.Held.{state}
 use Rattle.std.specs.Prelude.{◌==◌}

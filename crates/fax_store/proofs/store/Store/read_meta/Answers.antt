@@ -1,4 +1,4 @@
-use Rattle.std.proofs.Common.{◌≡◌, inl, sym, ◌∙◌}
+use Rattle.std.proofs.Common.{inl, sym, ◌∙◌}
 use Rattle.sqlite.specs.Held.{state}
 use Rattle.fax_store.proofs.MetaLemmas.{meta_found}
 use Rattle.fax_store.proofs.StatementTexts.{select_meta}

@@ -1,9 +1,10 @@
-use Rattle.std.proofs.Common.{◌≡◌, inl, subst, rules}
+use Rattle.std.proofs.Common.{◌≡◌, subst, rules}
 use Rattle.sqlite.specs.Held.{state}
 use Rattle.fax_tables.specs.declared.fault.StoreFault.TheVariants.{Unavailable}
 use Rattle.fax_store.specs.declared.replies.TheConstants.{SELECT_REPLY}
 use Rattle.fax_store.specs.Store.{FindsRow}
 use Rattle.fax_store.specs.Kept.{IsKeptFor}
+use Rattle.fax_store.proofs.KeptLemmas.{none_kept, one_kept, tables_keep_once}
 use Rattle.fax_store.proofs.RepliesLemmas.{params, reply_found, lawful_of}
 use Rattle.fax_tables.proofs.ResultLemmas.{passes_on}
 use Rattle.fax_store.proofs.StatementTexts.{select_reply}
@@ -29,7 +30,7 @@ returns-in_ok-in_row-in-Some-clause-answers g c m k means s =
     let found : FindsRow SELECT_REPLY.now (params c.args.client.now c.args.number) old new c.in_ok-row.field-0 = subst (λ p. FindsRow SELECT_REPLY.now p old new c.in_ok-row.field-0) (search rules) (c.in_ok-row.ensures.found s.clean) in
     let it = rw c.in-Some.is at (reply_found c.args.client.now c.args.number old new m k means_now c.in_ok-row.field-0 found) in
     let tells = c.in_ok-in_row-in-Some.ensures.found it.0 it.3 (lawful_of k it.0 means_now.lawful.replies it.1) in
-    (it.0, it.1, it.2, tells)
+    (it.0, one_kept c.args.client.now c.args.number k it.0 (tables_keep_once old.now m k means_now) it.1 it.2, tells)
 
 pub returns-in-None-clause-answers : goal.returns-in-None-clause-answers
 returns-in-None-clause-answers g c m k means s =
@@ -37,7 +38,7 @@ returns-in-None-clause-answers g c m k means s =
     let new = state g.S.Store c.find.new.self.conn in
     let means_now = means (c.in_ok-row.ensures.served s) in
     let found : FindsRow SELECT_REPLY.now (params c.args.client.now c.args.number) old new c.in_ok-row.field-0 = subst (λ p. FindsRow SELECT_REPLY.now p old new c.in_ok-row.field-0) (search rules) (c.in_ok-row.ensures.found s.clean) in
-    rw c.in-None.is at (reply_found c.args.client.now c.args.number old new m k means_now c.in_ok-row.field-0 found)
+    none_kept c.args.client.now c.args.number k (rw c.in-None.is at (reply_found c.args.client.now c.args.number old new m k means_now c.in_ok-row.field-0 found))
 
 pub returns-in_err-in_row-in-Some-clause-reads : goal.returns-in_err-in_row-in-Some-clause-reads
 returns-in_err-in_row-in-Some-clause-reads g c tables clean =

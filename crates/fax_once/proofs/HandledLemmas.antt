@@ -1,0 +1,157 @@
+-- A run goes on by one arrival that is handled.
+use Rattle.std.proofs.Common.{◌≡◌, inl, inr, ℕ, Bool, true, false, List, [], ◌∷◌, ◌++◌, Option, Some, None, Ok, Err, refl, sym, ap, subst, ◌∙◌, if◌then◌else◌}
+use Rattle.std.specs.Prelude.{⊤, Result, MatchOption, MatchResult}
+use Rattle.std.proofs.lemmas.Bool.{and_parts}
+use Rattle.sqlite.specs.State.{State}
+use Rattle.fax_job.specs.declared.refusal.Refusal.{Refusal}
+use Rattle.fax_job.specs.declared.refusal.Refusal.TheVariants.{NoRoute, Unavailable}
+use Rattle.fax_ask.specs.Ask.{Asks}
+use Rattle.fax_ask.specs.declared.ask.Ask.{Ask as Asked}
+use Rattle.fax_ask.specs.declared.ask.Ask.TheVariants.{Step}
+use Rattle.fax_ask.specs.declared.request.Request.{Request as Route}
+use Rattle.fax_ask.specs.declared.request.Request.TheVariants.{Submit, Suspend, Resume, Kill, Alter, Show, Ready, Down, Next, Call, Page, Outcome}
+use Rattle.fax_ask.specs.Request.{request_of}
+use Rattle.fax_ask.specs.Response.{Response, refused_response}
+use Rattle.fax_ask.proofs.LimitLemmas.{order_limits}
+use Rattle.fax_core.specs.Ask.{IsLawfulAsk}
+use Rattle.fax_core.specs.declared.ask.Ask.{Ask}
+use Rattle.fax_core.specs.Reply.{NoKeys}
+use Rattle.fax_core.specs.Run.{decided}
+use Rattle.fax_core.specs.Settings.{Settings}
+use Rattle.fax_core.specs.Queue.{Queue}
+use Rattle.fax_core.specs.Sound.{IsJob, Sound}
+use Rattle.fax_once.proofs.OnceLemmas.{runs_are_sound, runs_send_once, sound_after}
+use Rattle.fax_once.proofs.SumLemmas.{counters_are_counts}
+use Rattle.fax_once.proofs.RunLemmas.{runs_thread}
+use Rattle.fax_once.specs.Arrival.{number_of}
+use Rattle.fax_once.specs.Laws.{AreTaken, HasRun, RunsWell, left_of}
+use Rattle.fax_once.specs.Reading.{Post, Reading, Faulty, Sees, Posts, IsForBody, IsForRoute, IsReading, seen_by}
+use Rattle.fax_once.specs.Run.{Start, IsRun, end_of, is_new, is_taken, queue_after, reply_at, taken, takes}
+use Rattle.fax_once.specs.Verdict.{Verdict, Told, Repeated, Accepted, Handles, Leaves, reply_of, verdict}
+use Rattle.fax_once.specs.declared.arrival.Arrival.{Arrival}
+use Rattle.fax_store.specs.Store.{Means}
+
+-- ---- what is posted is lawful
+
+same_ask : {a b : Ask} → ◌≡◌ {A = Asked} (Step a) (Step b) → a ≡ b
+same_ask is = cc
+
+lawful_ask : (route : Route) (body : List ℕ) (ask : Ask) → Asks route body (Step ask) → IsLawfulAsk ask
+lawful_ask Submit body ask h = subst IsLawfulAsk (sym (same_ask h.2)) (order_limits h.1.lines h.0 h.1.stated)
+lawful_ask (Alter job) body ask h = subst IsLawfulAsk (sym (same_ask h.2)) tt
+lawful_ask (Call grant) body ask h = subst IsLawfulAsk (sym (same_ask h.2)) tt
+lawful_ask (Page grant) body ask h = subst IsLawfulAsk (sym (same_ask h.2)) tt
+lawful_ask (Outcome grant) body ask h = subst IsLawfulAsk (sym (same_ask h.2)) tt
+lawful_ask (Suspend job) body ask h = subst IsLawfulAsk (sym (same_ask h)) tt
+lawful_ask (Resume job) body ask h = subst IsLawfulAsk (sym (same_ask h)) tt
+lawful_ask (Kill job) body ask h = subst IsLawfulAsk (sym (same_ask h)) tt
+lawful_ask (Ready modem) body ask h = subst IsLawfulAsk (sym (same_ask h)) tt
+lawful_ask (Down modem) body ask h = subst IsLawfulAsk (sym (same_ask h)) tt
+lawful_ask (Next modem) body ask h = subst IsLawfulAsk (sym (same_ask h)) tt
+lawful_ask (Show job) body ask h = absurd cc
+
+abbrev IsLawful : Reading → Type 0
+IsLawful (Faulty refusal) = ⊤
+IsLawful (Sees moment job) = ⊤
+IsLawful (Posts p) = IsLawfulAsk p.request.ask
+
+module _ (a : Arrival) (r : Reading) where
+  for_body : (number : ℕ) (route : Route) → IsForBody a number route r → IsLawful r
+  for_body number route (inl (ask, asks, is)) = subst IsLawful (sym is) (lawful_ask route a.body.now ask asks)
+  for_body number route (inr (fault, refused, is)) = subst IsLawful (sym is) tt
+
+  by_number : (route : Route) (n : Result ℕ Refusal) → MatchResult n (λ number. IsForBody a number route r) (λ refusal. r ≡ Faulty refusal) → IsLawful r
+  by_number route (Ok number) h = for_body number route h
+  by_number route (Err refusal) h = subst IsLawful (sym h) tt
+
+  for_route : (route : Route) (o : Option ℕ)
+      → MatchOption o (MatchResult (number_of a) (λ number. IsForBody a number route r) (λ refusal. r ≡ Faulty refusal)) (λ job. r ≡ Sees a.moment job) → IsLawful r
+  for_route route None h = by_number route (number_of a) h
+  for_route route (Some job) h = subst IsLawful (sym h) tt
+
+  by_route : (o : Option Route) → MatchOption o (r ≡ Faulty NoRoute) (IsForRoute a r) → IsLawful r
+  by_route None h = subst IsLawful (sym h) tt
+  by_route (Some route) h = for_route route (seen_by route) h
+
+  pub lawful_reading : IsReading a r → IsLawful r
+  lawful_reading h = by_route (request_of a.method a.path.now) h
+
+-- so what is taken is lawful, and taken
+one_taken : (s : Settings) (start : Start) (earlier : List Post) (r : Reading) → IsLawful r → AreTaken s start.queue earlier → AreTaken s start.queue (Rattle.fax_once.specs.Run.with_taken s start earlier r)
+one_taken s start earlier (Faulty refusal) is are = are
+one_taken s start earlier (Sees moment job) is are = are
+one_taken s start earlier (Posts p) is are = by (is_taken s start earlier p) refl
+  where
+    by : (b : Bool) → is_taken s start earlier p ≡ b → AreTaken s start.queue (if b then p ∷ earlier else earlier)
+    by true on = (is, (and_parts (is_new start earlier p) (takes (decided s (queue_after s start.queue earlier) p.request)) on).1, are)
+    by false off = are
+
+-- ---- one more arrival
+
+unheard_more : (s : Settings) (start : Start) (past : List Reading) (arrivals : List Arrival) (replies : List Response) (heard : List Reading) (a : Arrival) (reply : Response)
+    → IsRun s start past arrivals replies heard → reply ≡ refused_response Unavailable NoKeys → IsRun s start past (arrivals ++ a ∷ []) (replies ++ reply ∷ []) heard
+unheard_more s start past [] [] heard a reply is gone = inl (gone, is)
+unheard_more s start past [] (q ∷ replies) heard a reply is gone = absurd is
+unheard_more s start past (b ∷ arrivals) [] heard a reply is gone = absurd is
+unheard_more s start past (b ∷ arrivals) (q ∷ replies) heard a reply (inl (lost, is)) gone = inl (lost, unheard_more s start past arrivals replies heard a reply is gone)
+unheard_more s start past (b ∷ arrivals) (q ∷ replies) heard a reply (inr (r, reads, told, is)) gone = inr (r, reads, told, unheard_more s start (r ∷ past) arrivals replies heard a reply is gone)
+
+heard_more : (s : Settings) (start : Start) (past : List Reading) (arrivals : List Arrival) (replies : List Response) (heard : List Reading) (a : Arrival) (reply : Response) (r : Reading)
+    → IsRun s start past arrivals replies heard → IsReading a r → reply ≡ reply_at s start heard r → IsRun s start past (arrivals ++ a ∷ []) (replies ++ reply ∷ []) (r ∷ heard)
+heard_more s start past [] [] heard a reply r is reads told = inr (r, reads, told ∙ ap (λ (before : List Reading). reply_at s start before r) is, ap (λ (before : List Reading). r ∷ before) is)
+heard_more s start past [] (q ∷ replies) heard a reply r is reads told = absurd is
+heard_more s start past (b ∷ arrivals) [] heard a reply r is reads told = absurd is
+heard_more s start past (b ∷ arrivals) (q ∷ replies) heard a reply r (inl (lost, is)) reads told = inl (lost, heard_more s start past arrivals replies heard a reply r is reads told)
+heard_more s start past (b ∷ arrivals) (q ∷ replies) heard a reply r (inr (x, others, said, is)) reads told = inr (x, others, said, heard_more s start (x ∷ past) arrivals replies heard a reply r is reads told)
+
+-- a verdict is answered, and the store has where it leads
+leaves_at : (here : Start) (reply : Response) (store : State) (v : Verdict) → Leaves here.queue here.kept reply store v → (reply ≡ reply_of v) × Means store (left_of here v).queue (left_of here v).kept
+leaves_at here reply store (Told told) (is, rest) = (is, rest)
+leaves_at here reply store (Repeated told) (is, serves, rest) = (is, λ _. rest)
+leaves_at here reply store (Accepted after kept told) (is, serves, rest, sound) = (is, λ _. rest)
+
+module _ (s : Settings) (start : Start) (arrivals : List Arrival) (replies : List Response) (a : Arrival) (reply : Response) (old new : State) (ran : HasRun s start arrivals replies old) where
+  abbrev here : Start
+  here = end_of s start ran.heard
+
+  handled : (r : Reading) → IsReading a r → (reply ≡ reply_of (verdict s here.queue here.kept r)) × Means new (left_of here (verdict s here.queue here.kept r)).queue (left_of here (verdict s here.queue here.kept r)).kept
+      → HasRun s start (arrivals ++ a ∷ []) (replies ++ reply ∷ []) new
+  handled r reads (told, rests) =
+      let thread = runs_thread s start ran.heard r in
+      record {
+        heard = r ∷ ran.heard;
+        answered = heard_more s start [] arrivals replies ran.heard a reply r ran.answered reads (told ∙ thread.0);
+        means = subst (λ (e : Start). Means new e.queue e.kept) (sym thread.1) rests;
+        are_taken = one_taken s start (taken s start ran.heard) r (lawful_reading a r reads) ran.are_taken;
+      }
+
+  pub runs_on : Handles s a here.queue here.kept reply new → HasRun s start (arrivals ++ a ∷ []) (replies ++ reply ∷ []) new
+  runs_on (inl (v, (r, reads, is), leaves)) = handled r reads (leaves_at here reply new (verdict s here.queue here.kept r) (subst (λ (w : Verdict). Leaves here.queue here.kept reply new w) is leaves))
+  runs_on (inr (gone, rests)) = record {
+    heard = ran.heard;
+    answered = unheard_more s start [] arrivals replies ran.heard a reply ran.answered gone;
+    means = rests;
+    are_taken = ran.are_taken;
+  }
+
+-- where a run leads is sound
+pub run_sound : (s : Settings) (start : Start) (arrivals : List Arrival) (replies : List Response) (store : State) → Sound start.queue → (ran : HasRun s start arrivals replies store) → Sound (end_of s start ran.heard).queue
+run_sound s start arrivals replies store sound ran = sound_after s start.queue (taken s start ran.heard) sound ran.are_taken
+
+-- before the first
+pub no_run : (s : Settings) (start : Start) (store : State) → Means store start.queue start.kept → HasRun s start [] [] store
+no_run s start store means = record { heard = []; answered = refl; means = means; are_taken = tt }
+
+-- what holds of each run
+pub runs_well : (s : Settings) (start : Start) (arrivals : List Arrival) (replies : List Response) (store : State) → Sound start.queue → HasRun s start arrivals replies store → RunsWell s start arrivals replies store
+runs_well s start arrivals replies store sound ran =
+    let posts = taken s start ran.heard in
+    let after = runs_are_sound s start.queue posts sound ran.are_taken in
+    record {
+      run = ran;
+      sound = after.0;
+      held_once = after.1;
+      sent_once = runs_send_once s start.queue posts sound ran.are_taken;
+      counted = λ empty number j there.
+          counters_are_counts s posts (subst (λ (m : Queue). AreTaken s m posts) empty ran.are_taken) number j (subst (λ (m : Queue). IsJob (queue_after s m posts) number j) empty there);
+    }

@@ -1,0 +1,126 @@
+-- Over a run from the empty queue the counters of a job are the counts of its reports.
+use Rattle.std.proofs.Common.{◌≡◌, ◌⊎◌, inl, inr, ℕ, ◌<◌, ◌≤◌, Bool, true, false, ◌||◌, List, [], ◌∷◌, ◌++◌, refl, sym, ap, ap₂, ◌∙◌, arith, if◌then◌else◌}
+use Rattle.std.proofs.lemmas.Bool.{cases_Bool, or_cases}
+use Rattle.fax_core.specs.Ask.{IsLawfulAsk}
+use Rattle.fax_core.specs.Clock.{decided_at}
+use Rattle.fax_core.specs.declared.ask.Ask.{Ask}
+use Rattle.fax_core.specs.declared.ask.Ask.TheVariants.{Submission, Suspend, Resume, Kill, Alteration, Ready, Down, Next, CallReport, PageReport, OutcomeReport}
+use Rattle.fax_core.specs.Job.{Job}
+use Rattle.fax_core.specs.Queue.{Queue, empty_queue, grant_numbered}
+use Rattle.fax_core.specs.Reply.{Reply, Step, Taken, Refused}
+use Rattle.fax_core.specs.Run.{decided, left_by}
+use Rattle.fax_core.specs.Settings.{Settings}
+use Rattle.fax_core.specs.Sound.{IsJob, Sound}
+use Rattle.fax_core.proofs.StepLemmas.{empty_sound, step_sound}
+use Rattle.fax_once.proofs.CountLemmas.{counted_all, counts_all}
+use Rattle.fax_once.proofs.MoveLemmas.{Became, Is_new, Moved, Was, fresh, has_job, step_moves}
+use Rattle.fax_once.specs.Counts.{Called, Confirmed, Report, counters_of, counts, gives, hands, reported, reports_of, was_given}
+use Rattle.fax_once.specs.Laws.{AreTaken, CountersAreCounts}
+use Rattle.fax_once.specs.Reading.{Post}
+use Rattle.fax_once.specs.Run.{queue_after, takes}
+
+-- ---- what is reported of a job
+
+reported_same : (f g : ℕ → Bool) → ((a : ℕ) → f a ≡ g a) → (ask : Ask) → reported f ask ≡ reported g ask
+reported_same f g same (CallReport a c) = ap (λ b. if b then Called c ∷ [] else []) (same a)
+reported_same f g same (PageReport a p) = ap (λ b. if b then Confirmed ∷ [] else []) (same a)
+reported_same f g same (OutcomeReport a o) = refl
+reported_same f g same (Submission o) = refl
+reported_same f g same (Suspend a) = refl
+reported_same f g same (Resume a) = refl
+reported_same f g same (Kill a) = refl
+reported_same f g same (Alteration a c) = refl
+reported_same f g same (Ready modem) = refl
+reported_same f g same (Down modem) = refl
+reported_same f g same (Next modem) = refl
+
+reported_none : (ask : Ask) → reported (λ a. false) ask ≡ []
+reported_none (CallReport a c) = refl
+reported_none (PageReport a p) = refl
+reported_none (OutcomeReport a o) = refl
+reported_none (Submission o) = refl
+reported_none (Suspend a) = refl
+reported_none (Resume a) = refl
+reported_none (Kill a) = refl
+reported_none (Alteration a c) = refl
+reported_none (Ready modem) = refl
+reported_none (Down modem) = refl
+reported_none (Next modem) = refl
+
+-- ---- what holds after each post
+
+record Sums (s : Settings) (posts : List Post) (m : Queue) : Type 0 where
+  sound : Sound m
+  grants : (a x : ℕ) → has_job x (grant_numbered a m) ≡ was_given s empty_queue posts a x
+  jobs : (x : ℕ) (j : Job) → IsJob m x j → counters_of j ≡ counts (reports_of s empty_queue x posts)
+  known : (a x : ℕ) → has_job x (grant_numbered a m) ≡ true → x < m.next_job
+  none : (x : ℕ) → m.next_job ≤ x → reports_of s empty_queue x posts ≡ []
+
+no_sums : (s : Settings) → Sums s [] empty_queue
+no_sums s = record {
+  sound = empty_sound;
+  grants = λ a x. refl;
+  jobs = λ x j is. absurd cc;
+  known = λ a x on. absurd cc;
+  none = λ x high. refl;
+}
+
+module _ (s : Settings) (p : Post) (earlier : List Post) (lawful : IsLawfulAsk p.request.ask) (n : Queue) (r : Reply) where
+  abbrev m : Queue
+  m = queue_after s empty_queue earlier
+
+  module _ (is : decided s m p.request ≡ Taken n r) (sums : Sums s earlier m) where
+    moved : Moved m n p.request.ask r
+    moved = step_moves s m n (decided_at m.clock p.request.moment) p.request.ask r sums.sound is
+
+    its : (x : ℕ) → reported (λ grant. was_given s empty_queue earlier grant x) p.request.ask ≡ fresh m p.request.ask x
+    its x = reported_same (λ grant. was_given s empty_queue earlier grant x) (λ a. has_job x (grant_numbered a m)) (λ a. sym (sums.grants a x)) p.request.ask
+
+    -- a job whose number isn't given yet has no reports
+    unknown : (x : ℕ) → m.next_job ≤ x → reports_of s empty_queue x (p ∷ earlier) ≡ []
+    unknown x high = ap₂ (λ (front rest : List Report). front ++ rest) (its x ∙ none_fresh) (sums.none x high)
+      where
+        not_its : (a : ℕ) → has_job x (grant_numbered a m) ≡ false
+        not_its a = elim (cases_Bool (has_job x (grant_numbered a m))) [
+          | inl on ↦ absurd (let low = sums.known a x on in omega (arith, low, high))
+          | inr off ↦ off
+        ]
+
+        none_fresh : fresh m p.request.ask x ≡ []
+        none_fresh = reported_same (λ a. has_job x (grant_numbered a m)) (λ a. false) not_its p.request.ask ∙ reported_none p.request.ask
+
+    became : (x : ℕ) (j : Job) → Became m p.request.ask x j → counters_of j ≡ counts (reports_of s empty_queue x (p ∷ earlier))
+    became x j (Was i there counted) =
+        counted ∙ ap (counted_all (fresh m p.request.ask x)) (sums.jobs x i there)
+        ∙ sym (counts_all (fresh m p.request.ask x) (reports_of s empty_queue x earlier))
+        ∙ ap (λ (front : List Report). counts (front ++ reports_of s empty_queue x earlier)) (sym (its x))
+    became x j (Is_new new none) =
+        let high : m.next_job ≤ x = omega (arith, new) in
+        none ∙ ap counts (sym (unknown x high))
+
+    known_by : (a x : ℕ) → (hands r a x ≡ true) ⊎ (has_job x (grant_numbered a m) ≡ true) → x < n.next_job
+    known_by a x (inl new) = let low = moved.given a x new in let more = moved.numbers in omega (arith, low, more)
+    known_by a x (inr old) = let low = sums.known a x old in let more = moved.numbers in omega (arith, low, more)
+
+    sums_more : Sums s (p ∷ earlier) n
+    sums_more = record {
+      sound = step_sound s m n (decided_at m.clock p.request.moment) p.request.ask r sums.sound lawful is;
+      grants = λ a x.
+          moved.grants a x ∙ ap (λ (b : Bool). hands r a x || b) (sums.grants a x)
+          ∙ ap (λ (y : Step). gives y a x || was_given s empty_queue earlier a x) (sym is);
+      jobs = λ x j found. became x j (moved.jobs x j found);
+      known = λ a x on. known_by a x (or_cases (hands r a x) (has_job x (grant_numbered a m)) (sym (moved.grants a x) ∙ on));
+      none = λ x high. unknown x (let more = moved.numbers in omega (arith, more, high));
+    }
+
+sums_by : (s : Settings) (p : Post) (earlier : List Post) (x : Step) → IsLawfulAsk p.request.ask → decided s (queue_after s empty_queue earlier) p.request ≡ x → takes x ≡ true
+    → Sums s earlier (queue_after s empty_queue earlier) → Sums s (p ∷ earlier) (left_by (queue_after s empty_queue earlier) x)
+sums_by s p earlier (Taken n r) lawful is on sums = sums_more s p earlier lawful n r is sums
+sums_by s p earlier (Refused refusal keys) lawful is on sums = absurd cc
+
+all_sums : (s : Settings) (posts : List Post) → AreTaken s empty_queue posts → Sums s posts (queue_after s empty_queue posts)
+all_sums s [] are = no_sums s
+all_sums s (p ∷ earlier) (lawful, on, are) = sums_by s p earlier (decided s (queue_after s empty_queue earlier) p.request) lawful refl on (all_sums s earlier are)
+
+pub counters_are_counts : CountersAreCounts
+counters_are_counts s posts are x j found = (all_sums s posts are).jobs x j found

@@ -1,0 +1,21 @@
+use Rattle.std.proofs.Common.{◌≡◌, ◌≤◌, List, length, take}
+use Rattle.std.specs.Prelude.{vec_len, vec_capacity}
+use Rattle.sqlite.specs.Held.{state}
+use Rattle.sqlite.specs.State.{HasCleanDisk}
+use Rattle.fax_core.specs.Queue.{Queue, Entry}
+use Rattle.fax_core.specs.Sound.{Sound}
+use Rattle.fax_decide.specs.Settings.{settings_of}
+use Rattle.fax_store.specs.Store.{Means}
+use Rattle.fax_once.specs.Laws.{HasRun}
+use Rattle.fax_once.proofs.queue.Queue.run.Given as goal
+
+-- the arrivals so far have run
+abbrev pub invariant-loop-arrival : goal.invariant-loop-arrival
+invariant-loop-arrival g l = record {
+  filled : vec_len l.replies ≡ l.arrival-index;
+  room : length l.arrivals ≤ vec_capacity l.replies;
+  office : l.self.office ≡ l.initial.self.office;
+  clean : HasCleanDisk (state g.S.Store l.self.store.conn) → HasCleanDisk (state g.S.Store l.initial.self.store.conn);
+  ran : (m : Queue) (k : List Entry) → Sound m → Means (state g.S.Store l.initial.self.store.conn) m k → HasCleanDisk (state g.S.Store l.self.store.conn)
+      → HasRun (settings_of l.initial.self.office.setup l.initial.self.office.controls) (record { queue = m; kept = k }) (take l.arrival-index l.arrivals) l.replies.items (state g.S.Store l.self.store.conn);
+}

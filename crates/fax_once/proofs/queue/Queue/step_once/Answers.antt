@@ -1,0 +1,40 @@
+use Rattle.std.proofs.Common.{ap, subst, ◌∙◌}
+use Rattle.std.specs.Prelude.{IfOk}
+use Rattle.fax_core.specs.Clock.{decided_at}
+use Rattle.fax_core.specs.Machine.{step}
+use Rattle.fax_decide.specs.Decision.{Decides}
+use Rattle.fax_decide.specs.Settings.{settings_of}
+use Rattle.fax_once.proofs.VerdictLemmas.{lawful_ask}
+use Rattle.fax_decide.proofs.WorkLemmas.{refused_with}
+use Rattle.fax_store.proofs.StoreLemmas.{means_stay}
+use Rattle.fax_once.proofs.queue.Queue.step_once.Goals as goal
+
+pub returns-clause-stepped : goal.returns-clause-stepped
+returns-clause-stepped g c m k sound means opens clean from lawful unused =
+    let settings = settings_of c.args.self.now.office.setup c.args.self.now.office.controls in
+    let read = means_stay c.meta.ensures.served c.meta.ensures.stays m k means in
+    c.settle.ensures.settled settings m k c.args.ask sound (means_stay c.decide.ensures.served c.decide.ensures.stays m k read)
+    (λ decided. c.in_ok-decision.ensures.opens decided (c.in_ok-meta.ensures.opens (c.decide.ensures.clean decided))) clean from (lawful_ask c.args.ask lawful)
+    (λ at.
+    let meta = c.in_ok-meta.ensures.found m k means (c.decide.ensures.served at) in
+    record {
+      unused = unused (c.meta.ensures.served (c.decide.ensures.served at));
+      now = c.moment_at-t.ensures ∙ ap (λ meta. decided_at meta.clock c.args.arrival.now.moment) meta;
+      decides = subst (λ r. IfOk r (Decides (step settings m c.moment_at-t.result c.args.ask) m c.moment_at-t.result)) c.in_ok-decision.was (c.decide.ensures.decided m k sound read at meta);
+    })
+
+pub returns-in_err-meta-clause-stepped : goal.returns-in_err-meta-clause-stepped
+returns-in_err-meta-clause-stepped g c m k sound means opens clean from lawful unused =
+    refused_with c.from_residual.result _ _ c.from_residual.ensures.0 (means_stay c.meta.ensures.served c.meta.ensures.stays m k means)
+
+pub returns-in_err-decision-clause-stepped : goal.returns-in_err-decision-clause-stepped
+returns-in_err-decision-clause-stepped g c m k sound means opens clean from lawful unused =
+    let read = means_stay c.meta.ensures.served c.meta.ensures.stays m k means in
+    refused_with c.from_residual-in_err-decision.result _ _ c.from_residual-in_err-decision.ensures.0 (means_stay c.decide.ensures.served c.decide.ensures.stays m k read)
+
+pub returns-in_err-decision-clause-unchanged : goal.returns-in_err-decision-clause-unchanged
+returns-in_err-decision-clause-unchanged g c refused db six rests = c.decide.ensures.stays db six (c.meta.ensures.stays db six rests)
+
+pub returns-clause-unchanged : goal.returns-clause-unchanged
+returns-clause-unchanged g c refused db six rests =
+    c.settle.ensures.unchanged refused db six (c.decide.ensures.stays db six (c.meta.ensures.stays db six rests))

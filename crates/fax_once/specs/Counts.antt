@@ -1,0 +1,88 @@
+-- The counters of a job are sums over the reports on its grants that were taken. Of posts and of reports the newest comes first.
+use Rattle.std.specs.Prelude.{ℕ, ◌==◌, Bool, true, false, ◌&&◌, ◌||◌, List, [], ◌∷◌, ◌++◌, length, filter, if◌then◌else◌}
+use Rattle.fax_job.specs.declared.job.Call.{Call}
+use Rattle.fax_job.specs.declared.job.Call.TheVariants.{Connected}
+use Rattle.fax_core.specs.declared.ask.Ask.{Ask}
+use Rattle.fax_core.specs.declared.ask.Ask.TheVariants.{CallReport, PageReport}
+use Rattle.fax_core.specs.Job.{Job}
+use Rattle.fax_core.specs.Queue.{Queue}
+use Rattle.fax_core.specs.Reply.{Reply, Given, Step, Taken, Refused}
+use Rattle.fax_core.specs.Run.{decided}
+use Rattle.fax_core.specs.Settings.{Settings}
+use Rattle.fax_once.specs.Reading.{Post}
+use Rattle.fax_once.specs.Run.{queue_after}
+
+-- the reply hands out this grant of this job
+abbrev pub hands : Reply → ℕ → ℕ → Bool
+hands (Given handed) grant job = (handed.grant == grant) && (handed.job == job)
+hands other grant job = false
+
+abbrev pub gives : Step → ℕ → ℕ → Bool
+gives (Taken after reply) grant job = hands reply grant job
+gives (Refused refusal keys) grant job = false
+
+-- one of these posts was given this grant of this job
+abbrev pub was_given : Settings → Queue → List Post → ℕ → ℕ → Bool
+was_given s m [] grant job = false
+was_given s m (p ∷ earlier) grant job = gives (decided s (queue_after s m earlier) p.request) grant job || was_given s m earlier grant job
+
+-- a call, or a page that is confirmed
+pub data Report : Type 0 where
+  Called : (call : Call) → Report
+  Confirmed : Report
+
+-- what is reported of these grants
+abbrev pub reported : (ℕ → Bool) → Ask → List Report
+reported is_its (CallReport grant call) = if is_its grant then Called call ∷ [] else []
+reported is_its (PageReport grant page) = if is_its grant then Confirmed ∷ [] else []
+reported is_its other = []
+
+-- the reports of a job: each is on a grant that was given with it before
+abbrev pub reports_of : Settings → Queue → ℕ → List Post → List Report
+reports_of s m job [] = []
+reports_of s m job (p ∷ earlier) = reported (λ grant. was_given s m earlier grant job) p.request.ask ++ reports_of s m job earlier
+
+abbrev pub is_call : Report → Bool
+is_call (Called call) = true
+is_call Confirmed = false
+
+abbrev pub is_connection : Call → Bool
+is_connection Connected = true
+is_connection _ = false
+
+abbrev pub is_connected : Report → Bool
+is_connected (Called call) = is_connection call
+is_connected Confirmed = false
+
+abbrev pub is_page : Report → Bool
+is_page (Called call) = false
+is_page Confirmed = true
+
+-- those since the last of a kind, or all
+abbrev pub since : (Report → Bool) → List Report → List Report
+since ends [] = []
+since ends (r ∷ rs) = if ends r then [] else r ∷ since ends rs
+
+-- how many of a kind
+abbrev pub number_of : (Report → Bool) → List Report → ℕ
+number_of is rs = length (filter is rs)
+
+pub record Counters : Type 0 where
+  pub totdials : ℕ
+  pub tottries : ℕ
+  pub ndials : ℕ
+  pub npages : ℕ
+  pub ntries : ℕ
+
+-- dials are calls, and tries are connected ones, each in all and since the last that came further
+abbrev pub counts : List Report → Counters
+counts rs = record {
+  totdials = number_of is_call rs;
+  tottries = number_of is_connected rs;
+  ndials = number_of is_call (since is_connected rs);
+  npages = number_of is_page rs;
+  ntries = number_of is_connected (since is_page rs);
+}
+
+abbrev pub counters_of : Job → Counters
+counters_of j = record { totdials = j.totdials; tottries = j.tottries; ndials = j.ndials; npages = length j.sent; ntries = j.ntries }

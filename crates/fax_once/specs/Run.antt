@@ -1,0 +1,99 @@
+-- A whole run: what is taken, what the queue is after it and what is answered, by looking back over what was heard before.
+-- Of what was heard and of what was taken the newest comes first.
+use Rattle.std.specs.Prelude.{◌≡◌, ◌⊎◌, ℕ, ◌==◌, ◌&&◌, Bool, true, false, not, is_none, List, [], ◌∷◌, Option, Some, None, if◌then◌else◌}
+use Rattle.std.specs.List.{list_any}
+use Rattle.std.specs.Str.{bytes_eq}
+use Rattle.fax_job.specs.declared.refusal.Refusal.TheVariants.{NumberReused, Unavailable}
+use Rattle.fax_ask.specs.Answer.{Replied}
+use Rattle.fax_ask.specs.Response.{Response, accepted_response, kept_response, refused_response}
+use Rattle.fax_core.specs.Clock.{decided_at}
+use Rattle.fax_core.specs.Queue.{Queue, Entry}
+use Rattle.fax_core.specs.Reply.{NoKeys, Step, Taken, Refused}
+use Rattle.fax_core.specs.Run.{decided, left_by}
+use Rattle.fax_core.specs.Settings.{Settings}
+use Rattle.fax_decide.specs.View.{view}
+use Rattle.fax_once.specs.Reading.{Post, Reading, Faulty, Sees, Posts, IsReading}
+use Rattle.fax_once.specs.Verdict.{kept_with}
+use Rattle.fax_once.specs.declared.arrival.Arrival.{Arrival}
+use Rattle.fax_store.specs.Kept.{kept_for}
+
+-- where a run begins: a queue, and the kept replies
+pub record Start : Type 0 where
+  pub queue : Queue
+  pub kept : List Entry
+
+-- ---- what is taken
+
+-- the queue after the steps of these posts
+abbrev pub queue_after : Settings → Queue → List Post → Queue
+queue_after s m [] = m
+queue_after s m (p ∷ earlier) = left_by (queue_after s m earlier) (decided s (queue_after s m earlier) p.request)
+
+-- the step takes it
+abbrev pub takes : Step → Bool
+takes (Taken after reply) = true
+takes (Refused refusal keys) = false
+
+-- the post is of this client, under this number
+abbrev pub is_of : List ℕ → ℕ → Post → Bool
+is_of client number p = bytes_eq p.client client && (p.number == number)
+
+-- neither where the run begins nor among these is the client's number used
+abbrev pub is_new : Start → List Post → Post → Bool
+is_new start earlier p = is_none (kept_for p.client p.number start.kept) && not (list_any (is_of p.client p.number) earlier)
+
+-- Where these were taken before it, a post is taken when its number is new, and the step takes it in the queue after them.
+abbrev pub is_taken : Settings → Start → List Post → Post → Bool
+is_taken s start earlier p = is_new start earlier p && takes (decided s (queue_after s start.queue earlier) p.request)
+
+-- and else nothing is taken
+abbrev pub with_taken : Settings → Start → List Post → Reading → List Post
+with_taken s start earlier (Posts p) = if is_taken s start earlier p then p ∷ earlier else earlier
+with_taken s start earlier other = earlier
+
+-- what was taken of all that was heard
+abbrev pub taken : Settings → Start → List Reading → List Post
+taken s start [] = []
+taken s start (r ∷ past) = with_taken s start (taken s start past) r
+
+-- ---- what is answered
+
+-- the reply to a step
+abbrev pub step_reply : Step → Response
+step_reply (Taken after reply) = accepted_response (Replied reply)
+step_reply (Refused refusal keys) = refused_response refusal keys
+
+-- what is kept after these posts: where the run begins, and one entry for each, with the reply to its step
+abbrev pub kept_after : Settings → Start → List Post → List Entry
+kept_after s start [] = start.kept
+kept_after s start (p ∷ earlier) = kept_with p (kept_after s start earlier) (step_reply (decided s (queue_after s start.queue earlier) p.request))
+
+-- a number that has a kept reply gets it where the same bytes are said, and a refusal else
+abbrev pub once_reply : Option Entry → List ℕ → Response → Response
+once_reply None said new = new
+once_reply (Some e) said new = if bytes_eq e.said said then kept_response e.status e.body else refused_response NumberReused NoKeys
+
+-- the reply where these were taken before
+abbrev pub reply_behind : Settings → Start → List Post → Reading → Response
+reply_behind s start earlier (Faulty refusal) = refused_response refusal NoKeys
+reply_behind s start earlier (Sees moment job) = view s (queue_after s start.queue earlier) (decided_at (queue_after s start.queue earlier).clock moment) job
+reply_behind s start earlier (Posts p) = once_reply (kept_for p.client p.number (kept_after s start earlier)) p.said (step_reply (decided s (queue_after s start.queue earlier) p.request))
+
+-- the reply at a position, with what was heard before it
+abbrev pub reply_at : Settings → Start → List Reading → Reading → Response
+reply_at s start past r = reply_behind s start (taken s start past) r
+
+-- what a run from there leaves
+abbrev pub end_of : Settings → Start → List Reading → Start
+end_of s start past = record { queue = queue_after s start.queue (taken s start past); kept = kept_after s start (taken s start past) }
+
+-- ---- what is heard
+
+-- An arrival that is answered 27 isn't heard. Each other is heard as what it says, and answered by what was heard before it.
+abbrev pub IsRun : Settings → Start → List Reading → List Arrival → List Response → List Reading → Type 0
+IsRun s start past [] [] heard = heard ≡ past
+IsRun s start past [] (reply ∷ replies) heard = ⊥
+IsRun s start past (a ∷ arrivals) [] heard = ⊥
+IsRun s start past (a ∷ arrivals) (reply ∷ replies) heard =
+    ((reply ≡ refused_response Unavailable NoKeys) × IsRun s start past arrivals replies heard)
+    ⊎ ((r : Reading) × IsReading a r × (reply ≡ reply_at s start past r) × IsRun s start (r ∷ past) arrivals replies heard)
