@@ -3,8 +3,10 @@ use Rattle.std.proofs.Common.{◌≡◌, inl, inr, ℕ, ℤ, suc, List, [], ◌�
 use Rattle.std.proofs.lemmas.Bool.{both_ways, false_from_ne_true}
 use Rattle.std.proofs.lemmas.Slice.Eq.{bytes_eq-Decides}
 use Rattle.std.specs.List.Sorted.{IsPermutation}
+use Rattle.sqlite.specs.Effect.{Database}
 use Rattle.sqlite.specs.Order.{Row}
 use Rattle.sqlite.specs.State.{State, Executes}
+use Rattle.sqlite.specs.declared.types.Value.{Value}
 use Rattle.sqlite.specs.declared.types.Value.TheVariants.{Null, Int, Text, Blob}
 use Rattle.sqlite.proofs.Callers.{runs_as, reads_as}
 use Rattle.sqlite_rules.specs.Lists.{Has}
@@ -14,7 +16,7 @@ use Rattle.fax_tables.specs.Schema.{six_tables, replies_tree}
 use Rattle.fax_core.specs.Queue.{Queue, Entry, open_grants}
 use Rattle.fax_tables.specs.Row.{number, entry_columns}
 use Rattle.fax_tables.specs.Kept.{entry_shown}
-use Rattle.fax_store.specs.Kept.{IsOf, IsUnkept}
+use Rattle.fax_store.specs.Kept.{HasReply, IsOf, IsUnkept}
 use Rattle.fax_tables.specs.Tables.{TablesMean, IsLawfulEntry}
 use Rattle.fax_store.specs.Store.{FindsRow, HasRun}
 use Rattle.fax_tables.proofs.CompareLemmas.{are_equal, equal_texts, same_number, number_same, same_row, cast_int, cast_null}
@@ -96,6 +98,22 @@ module _ (client : List ℕ) (n : ℕ) where
             let it = entry_of (old.now.trees replies_tree) k means.replies shown.0 shown.1 in
             let of = is_of shown.0 it.0 it.2 shown.2 in
             (it.0, it.1, of.0, shown.3 ∙ of.1)
+
+  -- a row of the client and the number passes, whatever stands beside them
+  key_passes : (id said status body : Value) → is_asked (id ∷ Text client ∷ number n ∷ said ∷ status ∷ body ∷ []) ≡ true
+  key_passes id said status body =
+      let texts : are_equal (Text client) (Text client) ≡ true = equal_texts client client ∙ (bytes_eq-Decides client client).1 refl in
+      let numbers : are_equal (number n) (number n) ≡ true = number_same n in
+      let q : (are_equal (Text client) (Text client) && (are_equal (number n) (number n) && true)) ≡ true = rw (texts, numbers) refl in
+      q
+
+  -- so where none is found there is no such row
+  pub none_found : (old new : State) (db : Database) → db.schema ≡ six_tables → old.now ≡ db → FindsRow SELECT_REPLY.now params old new None → ¬ HasReply db client n
+  none_found old new db six now h row =
+      let same : IsPermutation (map (show replies_tree reply_tests reply_project params) (filter (passes replies_tree reply_tests reply_project params) (old.now.trees replies_tree))) h.0 =
+      answers replies_tree reply_tests reply_project params old.now (old.now.trees replies_tree) refl [] h.0 (reads_as SELECT_REPLY.now params old new six_tables (ap (λ (d : Database). d.schema) now ∙ six) _ select_reply.command select_reply.plain select_reply.unlisted h.0 h.1) in
+      let there = subst (λ (d : Database). Has (d.trees replies_tree) (row.id ∷ Text client ∷ number n ∷ row.said ∷ row.status ∷ row.body ∷ [])) (sym now) row.has in
+      both_ways _ (none_shown is_asked (show replies_tree reply_tests reply_project params) (old.now.trees replies_tree) h.0 same h.2 _ there) (key_passes row.id row.said row.status row.body)
 
 pub lawful_of : (k : List Entry) (e : Entry) → All IsLawfulEntry k → Has k e → IsLawfulEntry e
 lawful_of [] e all has = absurd has

@@ -1,11 +1,15 @@
 -- Which reply is kept for a client's request number.
-use Rattle.std.specs.Prelude.{◌≡◌, ℕ, ◌==◌, ◌&&◌, List, Option, Some, None}
+use Rattle.std.specs.Prelude.{◌≡◌, ⊤, ℕ, ◌==◌, ◌&&◌, List, [], ◌∷◌, Option, Some, None}
 use Rattle.std.specs.List.{find}
 use Rattle.std.specs.Str.{bytes_eq}
 use Rattle.sqlite.specs.Effect.{Database}
+use Rattle.sqlite.specs.declared.types.Value.{Value}
+use Rattle.sqlite.specs.declared.types.Value.TheVariants.{Text}
 use Rattle.sqlite_rules.specs.Lists.{Has}
 use Rattle.fax_core.specs.Queue.{Queue, Entry}
 use Rattle.fax_tables.specs.Kept.{Tells}
+use Rattle.fax_tables.specs.Row.{number}
+use Rattle.fax_tables.specs.Schema.{replies_tree}
 use Rattle.fax_tables.specs.Tables.{TablesMean}
 use Rattle.fax_tables.specs.declared.replies.Kept.{Kept}
 
@@ -34,3 +38,18 @@ IsKeptFor k client n (Some kept) = (e : Entry) × (kept_for client n k ≡ Some 
 -- no reply is kept for this number of this client
 abbrev pub IsUnkept : List ℕ → ℕ → List Entry → Type 0
 IsUnkept client n k = (e : Entry) → Has k e → ¬ IsOf client n e
+
+-- ---- the rows, whatever they say
+
+-- a row of the kept replies has this number of this client, whatever stands beside it
+pub record HasReply (db : Database) (client : List ℕ) (n : ℕ) : Type 0 where
+  pub id : Value
+  pub said : Value
+  pub status : Value
+  pub body : Value
+  pub has : Has (db.trees replies_tree) (id ∷ Text client ∷ number n ∷ said ∷ status ∷ body ∷ [])
+
+-- where none is found there is no such row
+abbrev pub MissesNone : Database → List ℕ → ℕ → Option Kept → Type 0
+MissesNone db client n None = ¬ HasReply db client n
+MissesNone db client n (Some kept) = ⊤

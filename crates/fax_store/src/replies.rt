@@ -1,15 +1,17 @@
 //! The kept replies.
 
 ghost use Rattle.std.specs.Prelude.{◌≡◌, ◌∷◌, ◌++◌, [], false, List, Err, IfErr, IfOk, IfSome, is_err, IsTrue, OnOk};
+ghost use Rattle.sqlite.specs.Effect.{Database};
 ghost use Rattle.sqlite.specs.Held.{state};
 ghost use Rattle.sqlite.specs.State.{HasCleanDisk};
 ghost use Rattle.fax_core.specs.Queue.{Queue, Entry};
 ghost use Rattle.fax_job.specs.Name.{IsName};
-ghost use Rattle.fax_store.specs.Kept.{IsKeptFor, IsUnkept};
-ghost use Rattle.fax_store.specs.Store.{Serves, Means, MeansNow, HasTables, Reads, Stays};
+ghost use Rattle.fax_store.specs.Kept.{IsKeptFor, IsUnkept, MissesNone};
+ghost use Rattle.fax_store.specs.Store.{Serves, Means, MeansNow, HasTables, Reads, Rests, Stays};
 ghost use Rattle.fax_store.specs.Work.{Holds, Works, Keeps, Changes, AnswersIn, IsOnlyUnavailable, Moves};
 ghost use Rattle.fax_tables.specs.Fault.{OrUnavailable};
 ghost use Rattle.fax_tables.specs.Kept.{entry};
+ghost use Rattle.fax_tables.specs.Schema.{six_tables};
 ghost use Rattle.fax_tables.specs.Tables.{IsKeptStatus};
 
 use crate::store::Store;
@@ -37,6 +39,9 @@ impl<S: Alter> Store<S> {
         ensures stays { Stays (state S.Store self.old.conn) (state S.Store self.new.conn) }
         ensures found { (m : Queue) (k : List Entry) → Means (state S.Store self.old.conn) m k
             → Serves (state S.Store self.new.conn) → OrUnavailable result (IsKeptFor k client.now number) }
+        // Whatever the rows say, where none is found there is none.
+        ensures unkept { (db : Database) → db.schema ≡ six_tables → Rests (state S.Store self.old.conn) db
+            → Serves (state S.Store self.new.conn) → IfOk result (MissesNone db client.now number) }
         ensures lawful { IfOk result (λ found. IfSome found (λ kept. IsKeptStatus kept.status)) }
     {
         self.read_reply(client, number)
@@ -54,6 +59,8 @@ impl<S: Alter> Store<S> {
             → Reads (state S.Store self.old.conn) (state S.Store self.new.conn) result }
         ensures answers { (m : Queue) (k : List Entry) → MeansNow (state S.Store self.old.conn) m k
             → Serves (state S.Store self.new.conn) → OrUnavailable result (IsKeptFor k client.now number) }
+        ensures unkept { (db : Database) → db.schema ≡ six_tables → (state S.Store self.old.conn).now ≡ db
+            → HasCleanDisk (state S.Store self.new.conn) → IfOk result (MissesNone db client.now number) }
         ensures lawful { IfOk result (λ found. IfSome found (λ kept. IsKeptStatus kept.status)) }
     {
         let number = number_value(number);

@@ -5,7 +5,7 @@ use Rattle.fax_store.specs.declared.replies.TheConstants.{SELECT_REPLY}
 use Rattle.fax_store.specs.Store.{FindsRow}
 use Rattle.fax_store.specs.Kept.{IsKeptFor}
 use Rattle.fax_store.proofs.KeptLemmas.{none_kept, one_kept, tables_keep_once}
-use Rattle.fax_store.proofs.RepliesLemmas.{params, reply_found, lawful_of}
+use Rattle.fax_store.proofs.RepliesLemmas.{params, reply_found, lawful_of, none_found}
 use Rattle.fax_tables.proofs.ResultLemmas.{passes_on}
 use Rattle.fax_store.proofs.StatementTexts.{select_reply}
 use Rattle.fax_store.proofs.WorkLemmas.{reads_same}
@@ -49,3 +49,10 @@ returns-in_ok-in_row-in-Some-clause-reads g c tables clean = c.in_ok-row.ensures
 
 pub returns-in-None-clause-reads : goal.returns-in-None-clause-reads
 returns-in-None-clause-reads g c tables clean = c.in_ok-row.ensures.reads select_reply.plain tables clean
+
+pub returns-in-None-clause-unkept : goal.returns-in-None-clause-unkept
+returns-in-None-clause-unkept g c db six now clean =
+    let old = state g.S.Store c.args.self.now.conn in
+    let new = state g.S.Store c.find.new.self.conn in
+    let found : FindsRow SELECT_REPLY.now (params c.args.client.now c.args.number) old new c.in_ok-row.field-0 = subst (λ p. FindsRow SELECT_REPLY.now p old new c.in_ok-row.field-0) (search rules) (c.in_ok-row.ensures.found clean) in
+    none_found c.args.client.now c.args.number old new db six now (subst (FindsRow SELECT_REPLY.now (params c.args.client.now c.args.number) old new) c.in-None.is found)
