@@ -1,13 +1,10 @@
 -- What an accepted arrival had, and what any arrival leaves.
-use Rattle.std.proofs.Common.{◌≡◌, inl, inr, ℕ, Bool, true, false, cond, List, [], ◌∷◌, Option, Some, None, Ok, Err, refl, sym, ap, subst, ◌∙◌, append-nil, arith}
-use Rattle.std.specs.Prelude.{Result, MatchOption, MatchResult}
+use Rattle.std.proofs.Common.{◌≡◌, inl, inr, ℕ, Bool, true, false, cond, List, [], ◌∷◌, Option, Some, None, Ok, refl, sym, ap, subst, ◌∙◌, append-nil, arith}
 use Rattle.std.specs.Str.{bytes_eq}
 use Rattle.sqlite.specs.State.{State}
 use Rattle.fax_job.specs.declared.refusal.Refusal.{Refusal}
-use Rattle.fax_job.specs.declared.refusal.Refusal.TheVariants.{NoRoute, NumberReused}
-use Rattle.fax_ask.specs.declared.request.Request.{Request as Route}
+use Rattle.fax_job.specs.declared.refusal.Refusal.TheVariants.{NumberReused}
 use Rattle.fax_ask.specs.Answer.{Replied}
-use Rattle.fax_ask.specs.Request.{request_of}
 use Rattle.fax_ask.specs.Response.{Response, accepted_response, kept_response}
 use Rattle.fax_core.specs.declared.ask.Ask.{Ask}
 use Rattle.fax_core.specs.Queue.{Queue, Entry}
@@ -18,9 +15,10 @@ use Rattle.fax_core.specs.Sound.{Sound}
 use Rattle.fax_store.specs.Kept.{kept_for}
 use Rattle.fax_store.specs.Store.{Means}
 use Rattle.fax_tables.specs.Kept.{entry}
+use Rattle.fax_once.proofs.ReadingLemmas.{Says, Says_fault, Says_post, Says_view, says}
 use Rattle.fax_once.specs.Arrival.{number_of, said_of}
 use Rattle.fax_once.specs.Laws.{AcceptedOnce, IsSoundWith}
-use Rattle.fax_once.specs.Reading.{Post, Reading, Faulty, Sees, Posts, IsForBody, IsForRoute, IsReading, post_of, seen_by}
+use Rattle.fax_once.specs.Reading.{Post, Reading, Faulty, Sees, Posts, IsReading, post_of}
 use Rattle.fax_once.specs.Verdict.{Verdict, IsVerdict, Told, Repeated, Accepted, denied, kept_with, stepped, taken_once, verdict, Handles, Leaves}
 use Rattle.fax_once.specs.declared.arrival.Arrival.{Arrival}
 
@@ -93,25 +91,13 @@ module _ (a : Arrival) (p : Post) where
   same_post : (q : Post) → Posts p ≡ Posts q → p ≡ q
   same_post q e = cc
 
-  for_body : (n : ℕ) (route : Route) → number_of a ≡ Ok n → IsForBody a n route (Posts p) → IsPosted a p
-  for_body n route is (inl (ask, asks, same)) = of_post n ask is (same_post (post_of a n ask) same)
-  for_body n route is (inr (fault, refused, same)) = absurd (is_faulty _ same)
-
-  by_number : (route : Route) (n : Result ℕ Refusal) → number_of a ≡ n → MatchResult n (λ number. IsForBody a number route (Posts p)) (λ refusal. Posts p ≡ Faulty refusal) → IsPosted a p
-  by_number route (Ok n) is h = for_body n route is h
-  by_number route (Err refusal) is h = absurd (is_faulty _ h)
-
-  for_route : (route : Route) (o : Option ℕ)
-      → MatchOption o (MatchResult (number_of a) (λ number. IsForBody a number route (Posts p)) (λ refusal. Posts p ≡ Faulty refusal)) (λ job. Posts p ≡ Sees a.moment job) → IsPosted a p
-  for_route route None h = by_number route (number_of a) refl h
-  for_route route (Some job) h = absurd (is_seen _ _ h)
-
-  by_route : (o : Option Route) → MatchOption o (Posts p ≡ Faulty NoRoute) (IsForRoute a (Posts p)) → IsPosted a p
-  by_route None h = absurd (is_faulty _ h)
-  by_route (Some route) h = for_route route (seen_by route) h
+  of_said : Says a (Posts p) → IsPosted a p
+  of_said (Says_fault refusal cause is) = absurd (is_faulty refusal is)
+  of_said (Says_view job is) = absurd (is_seen a.moment job is)
+  of_said (Says_post number route ask its asks is) = of_post number ask its (same_post (post_of a number ask) is)
 
   pub is_posted : IsReading a (Posts p) → IsPosted a p
-  is_posted h = by_route (request_of a.method a.path.now) h
+  is_posted h = of_said (says a (Posts p) h)
 
 pub accepted_once : AcceptedOnce
 accepted_once s a m k after kept reply (r, is, v_is) =

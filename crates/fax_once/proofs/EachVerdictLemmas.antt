@@ -26,6 +26,7 @@ use Rattle.fax_core.specs.Run.{decided}
 use Rattle.fax_core.specs.Settings.{Settings}
 use Rattle.fax_core.specs.Sound.{Sound}
 use Rattle.fax_decide.specs.View.{viewed}
+use Rattle.fax_once.proofs.ReadingLemmas.{Cause, Of_body, Of_route, Of_sender, Says, Says_fault, Says_post, Says_view, says}
 use Rattle.fax_once.specs.Arrival.{digits_of, number_of}
 use Rattle.fax_once.specs.Laws.{HasVerdict, NoVerdictIsUnavailable}
 use Rattle.fax_once.specs.Reading.{Post, Reading, Faulty, Sees, Posts, post_of, seen_by, IsForBody, IsForRoute}
@@ -122,10 +123,6 @@ module _ (accepted : AcceptedAre200Or201) (alone : OnlyUnavailableIs503) (met : 
   of_kept p None is = of_step p (decided s m p.request) refl
   of_kept p (Some e) is = of_entry e p.said (bytes_eq e.said p.said) (found_holds IsLawfulEntry _ k e lawful is).status
 
-  of_body : (number : ℕ) (request : Request) (r : Reading) → IsForBody a number request r → IsOther (verdict s m k r)
-  of_body number request r (inl x) = subst (λ q. IsOther (verdict s m k q)) (sym x.2) (let p = post_of a number x.0 in of_kept p (kept_for p.client p.number k) refl)
-  of_body number request r (inr f) = subst (λ q. IsOther (verdict s m k q)) (sym f.2) (of_denied (BadBody f.0) (λ e. absurd cc))
-
   bad_digits : (o : Option ℕ) (refusal : Refusal) → digits_of o ≡ Err refusal → refusal ≢ Unavailable
   bad_digits None refusal is e = absurd cc
   bad_digits (Some number) refusal is e = absurd cc
@@ -134,29 +131,24 @@ module _ (accepted : AcceptedAre200Or201) (alone : OnlyUnavailableIs503) (met : 
   bad_sender true o refusal is e = bad_digits o refusal is e
   bad_sender false o refusal is e = absurd cc
 
-  of_sender : (request : Request) (n : Result ℕ Refusal) (r : Reading) → number_of a ≡ n
-      → MatchResult n (λ number. IsForBody a number request r) (λ refusal. r ≡ Faulty refusal) → IsOther (verdict s m k r)
-  of_sender request (Ok number) r is h = of_body number request r h
-  of_sender request (Err refusal) r is h =
-      subst (λ q. IsOther (verdict s m k q)) (sym h) (of_denied refusal (bad_sender (is_name a.client.now) (request_number_of a.number.now) refusal is))
-
   of_view : (q : Queue) (t : ℕ) (o : Option Job) → IsOther (Told (viewed s q t o))
   unfolding IsOther
   of_view q t None = λ e. absurd (let other = alone NoJob NoKeys e in cc)
   of_view q t (Some j) = other_number 200 (inl refl)
 
-  of_request : (request : Request) (o : Option ℕ) (r : Reading)
-      → MatchOption o (MatchResult (number_of a) (λ number. IsForBody a number request r) (λ refusal. r ≡ Faulty refusal)) (λ job. r ≡ Sees a.moment job)
-      → IsOther (verdict s m k r)
-  of_request request None r h = of_sender request (number_of a) r refl h
-  of_request request (Some job) r h =
-      let t = decided_at m.clock a.moment in
-      subst (λ q. IsOther (verdict s m k q)) (sym h) (of_view (aged t m) t (job_numbered job (aged t m)))
+  of_cause : (refusal : Refusal) → Cause a refusal → refusal ≢ Unavailable
+  of_cause refusal (Of_route is) e = absurd cc
+  of_cause refusal (Of_sender is) e = bad_sender (is_name a.client.now) (request_number_of a.number.now) refusal is e
+  of_cause refusal (Of_body fault is) e = absurd cc
 
-  of_route : (o : Option Request) (r : Reading) → MatchOption o (r ≡ Faulty NoRoute) (IsForRoute a r) → IsOther (verdict s m k r)
-  of_route None r h = subst (λ q. IsOther (verdict s m k q)) (sym h) (of_denied NoRoute (λ e. absurd cc))
-  of_route (Some request) r h = of_request request (seen_by request) r h
+  of_said : (r : Reading) → Says a r → IsOther (verdict s m k r)
+  of_said r (Says_fault refusal cause is) = subst (λ q. IsOther (verdict s m k q)) (sym is) (of_denied refusal (of_cause refusal cause))
+  of_said r (Says_view job is) =
+      let t = decided_at m.clock a.moment in
+      subst (λ q. IsOther (verdict s m k q)) (sym is) (of_view (aged t m) t (job_numbered job (aged t m)))
+  of_said r (Says_post number route ask its asks is) =
+      subst (λ q. IsOther (verdict s m k q)) (sym is) (let p = post_of a number ask in of_kept p (kept_for p.client p.number k) refl)
 
 pub never_unavailable : AcceptedAre200Or201 → OnlyUnavailableIs503 → RefusalsAreMet → NoVerdictIsUnavailable
 unfolding IsOther
-never_unavailable accepted alone met s a m k v sound lawful (r, is, v_is) = subst IsOther (sym v_is) (of_route accepted alone met s a m k sound lawful (request_of a.method a.path.now) r is)
+never_unavailable accepted alone met s a m k v sound lawful (r, is, v_is) = subst IsOther (sym v_is) (of_said accepted alone met s a m k sound lawful r (says a r is))

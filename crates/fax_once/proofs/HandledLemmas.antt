@@ -1,16 +1,13 @@
 -- A run goes on by one arrival that is handled.
-use Rattle.std.proofs.Common.{◌≡◌, inl, inr, ℕ, Bool, true, false, List, [], ◌∷◌, ◌++◌, Option, Some, None, Ok, Err, refl, sym, ap, subst, ◌∙◌, if◌then◌else◌}
-use Rattle.std.specs.Prelude.{⊤, Result, MatchOption, MatchResult}
+use Rattle.std.proofs.Common.{◌≡◌, inl, inr, ℕ, Bool, true, false, List, [], ◌∷◌, ◌++◌, refl, sym, ap, subst, ◌∙◌, if◌then◌else◌}
+use Rattle.std.specs.Prelude.{⊤}
 use Rattle.std.proofs.lemmas.Bool.{and_parts}
 use Rattle.sqlite.specs.State.{State}
-use Rattle.fax_job.specs.declared.refusal.Refusal.{Refusal}
-use Rattle.fax_job.specs.declared.refusal.Refusal.TheVariants.{NoRoute, Unavailable}
+use Rattle.fax_job.specs.declared.refusal.Refusal.TheVariants.{Unavailable}
 use Rattle.fax_ask.specs.Ask.{Asks}
-use Rattle.fax_ask.specs.declared.ask.Ask.{Ask as Asked}
 use Rattle.fax_ask.specs.declared.ask.Ask.TheVariants.{Step}
 use Rattle.fax_ask.specs.declared.request.Request.{Request as Route}
 use Rattle.fax_ask.specs.declared.request.Request.TheVariants.{Submit, Suspend, Resume, Kill, Alter, Show, Ready, Down, Next, Call, Page, Outcome}
-use Rattle.fax_ask.specs.Request.{request_of}
 use Rattle.fax_ask.specs.Response.{Response, refused_response}
 use Rattle.fax_ask.proofs.LimitLemmas.{order_limits}
 use Rattle.fax_core.specs.Ask.{IsLawfulAsk}
@@ -20,21 +17,19 @@ use Rattle.fax_core.specs.Run.{decided}
 use Rattle.fax_core.specs.Settings.{Settings}
 use Rattle.fax_core.specs.Queue.{Queue}
 use Rattle.fax_core.specs.Sound.{IsJob, Sound}
+use Rattle.fax_once.proofs.GrantLemmas.{runs_keep_grants}
 use Rattle.fax_once.proofs.OnceLemmas.{runs_are_sound, runs_send_once, sound_after}
+use Rattle.fax_once.proofs.ReadingLemmas.{Says, Says_fault, Says_post, Says_view, same_ask, says}
 use Rattle.fax_once.proofs.SumLemmas.{counters_are_counts}
 use Rattle.fax_once.proofs.RunLemmas.{runs_thread}
-use Rattle.fax_once.specs.Arrival.{number_of}
-use Rattle.fax_once.specs.Laws.{AreTaken, HasRun, RunsWell, left_of}
-use Rattle.fax_once.specs.Reading.{Post, Reading, Faulty, Sees, Posts, IsForBody, IsForRoute, IsReading, seen_by}
+use Rattle.fax_once.specs.Laws.{AreTaken, HasRun, KeepsGrants, RunsWell, left_of}
+use Rattle.fax_once.specs.Reading.{Post, Reading, Faulty, Sees, Posts, IsReading}
 use Rattle.fax_once.specs.Run.{Start, IsRun, end_of, is_new, is_taken, queue_after, reply_at, taken, takes}
 use Rattle.fax_once.specs.Verdict.{Verdict, Told, Repeated, Accepted, Handles, Leaves, reply_of, verdict}
 use Rattle.fax_once.specs.declared.arrival.Arrival.{Arrival}
 use Rattle.fax_store.specs.Store.{Means}
 
 -- ---- what is posted is lawful
-
-same_ask : {a b : Ask} → ◌≡◌ {A = Asked} (Step a) (Step b) → a ≡ b
-same_ask is = cc
 
 lawful_ask : (route : Route) (body : List ℕ) (ask : Ask) → Asks route body (Step ask) → IsLawfulAsk ask
 lawful_ask Submit body ask h = subst IsLawfulAsk (sym (same_ask h.2)) (order_limits h.1.lines h.0 h.1.stated)
@@ -55,26 +50,10 @@ IsLawful (Faulty refusal) = ⊤
 IsLawful (Sees moment job) = ⊤
 IsLawful (Posts p) = IsLawfulAsk p.request.ask
 
-module _ (a : Arrival) (r : Reading) where
-  for_body : (number : ℕ) (route : Route) → IsForBody a number route r → IsLawful r
-  for_body number route (inl (ask, asks, is)) = subst IsLawful (sym is) (lawful_ask route a.body.now ask asks)
-  for_body number route (inr (fault, refused, is)) = subst IsLawful (sym is) tt
-
-  by_number : (route : Route) (n : Result ℕ Refusal) → MatchResult n (λ number. IsForBody a number route r) (λ refusal. r ≡ Faulty refusal) → IsLawful r
-  by_number route (Ok number) h = for_body number route h
-  by_number route (Err refusal) h = subst IsLawful (sym h) tt
-
-  for_route : (route : Route) (o : Option ℕ)
-      → MatchOption o (MatchResult (number_of a) (λ number. IsForBody a number route r) (λ refusal. r ≡ Faulty refusal)) (λ job. r ≡ Sees a.moment job) → IsLawful r
-  for_route route None h = by_number route (number_of a) h
-  for_route route (Some job) h = subst IsLawful (sym h) tt
-
-  by_route : (o : Option Route) → MatchOption o (r ≡ Faulty NoRoute) (IsForRoute a r) → IsLawful r
-  by_route None h = subst IsLawful (sym h) tt
-  by_route (Some route) h = for_route route (seen_by route) h
-
-  pub lawful_reading : IsReading a r → IsLawful r
-  lawful_reading h = by_route (request_of a.method a.path.now) h
+lawful_by : (a : Arrival) (r : Reading) → Says a r → IsLawful r
+lawful_by a r (Says_fault refusal cause is) = subst IsLawful (sym is) tt
+lawful_by a r (Says_view job is) = subst IsLawful (sym is) tt
+lawful_by a r (Says_post number route ask its asks is) = subst IsLawful (sym is) (lawful_ask route a.body.now ask asks)
 
 -- so what is taken is lawful, and taken
 one_taken : (s : Settings) (start : Start) (earlier : List Post) (r : Reading) → IsLawful r → AreTaken s start.queue earlier → AreTaken s start.queue (Rattle.fax_once.specs.Run.with_taken s start earlier r)
@@ -122,7 +101,7 @@ module _ (s : Settings) (start : Start) (arrivals : List Arrival) (replies : Lis
         heard = r ∷ ran.heard;
         answered = heard_more s start [] arrivals replies ran.heard a reply r ran.answered reads (told ∙ thread.0);
         means = subst (λ (e : Start). Means new e.queue e.kept) (sym thread.1) rests;
-        are_taken = one_taken s start (taken s start ran.heard) r (lawful_reading a r reads) ran.are_taken;
+        are_taken = one_taken s start (taken s start ran.heard) r (lawful_by a r (says a r reads)) ran.are_taken;
       }
 
   pub runs_on : Handles s a here.queue here.kept reply new → HasRun s start (arrivals ++ a ∷ []) (replies ++ reply ∷ []) new
@@ -152,6 +131,9 @@ runs_well s start arrivals replies store sound ran =
       sound = after.0;
       held_once = after.1;
       sent_once = runs_send_once s start.queue posts sound ran.are_taken;
+      grants_stay = λ later earlier split.
+          subst (λ (ps : List Post). KeepsGrants (queue_after s start.queue earlier) (queue_after s start.queue ps)) (sym split)
+          (runs_keep_grants s start.queue later earlier sound (subst (AreTaken s start.queue) split ran.are_taken));
       counted = λ empty number j there.
           counters_are_counts s posts (subst (λ (m : Queue). AreTaken s m posts) empty ran.are_taken) number j (subst (λ (m : Queue). IsJob (queue_after s m posts) number j) empty there);
     }

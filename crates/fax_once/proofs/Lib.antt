@@ -1,6 +1,7 @@
 pub mod SenderLemmas
 pub mod VerdictLemmas
 pub mod RequestLemmas
+mod ReadingLemmas
 pub mod OneVerdictLemmas
 pub mod AcceptedLemmas
 mod EachVerdictLemmas
@@ -12,5 +13,6 @@ mod CountLemmas
 mod MoveLemmas
 mod SumLemmas
 mod OnceLemmas
+mod GrantLemmas
 mod HandledLemmas
 mod SaidLemmas

@@ -1,8 +1,9 @@
 -- What a step makes of the counters of the jobs, and which grants it leaves.
 use Rattle.std.proofs.Common.{◌≡◌, ◌≢◌, ◌⊎◌, inl, inr, ℕ, ◌<◌, ◌≤◌, eqb, Bool, true, false, cond, ◌&&◌, ◌||◌, List, [], ◌∷◌, ◌++◌, Option, Some, None, Ok, Err, refl, sym, ap, subst, ◌∙◌, arith}
 use Rattle.std.specs.Prelude.{Result, find, nat_lt}
-use Rattle.std.specs.Option.{option_map}
+use Rattle.std.specs.Option.{option_map, option_or}
 use Rattle.std.proofs.lemmas.Bool.{and_parts, cases_Bool, eqb-true, eq-eqb, ltb-false, ltb-true}
+use Rattle.std.proofs.lemmas.List.Folds.{find-append}
 use Rattle.fax_job.specs.declared.order.Order.{Order}
 use Rattle.fax_job.specs.declared.refusal.Refusal.{Refusal}
 use Rattle.fax_job.specs.declared.refusal.Refusal.TheVariants as refusal
@@ -214,11 +215,7 @@ either_way false = refl
 -- ---- a request for work
 
 found_end : {X : Type 0} (q : X → Bool) (xs : List X) (y : X) → find q xs ≡ None → q y ≡ false → find q (xs ++ y ∷ []) ≡ None
-found_end q [] y none off = rw off refl
-found_end q (x ∷ xs) y none off = elim (cases_Bool (q x)) [
-  | inl on ↦ absurd (let no = rw on at none in cc)
-  | inr other ↦ rw other (found_end q xs y (rw other at none) off)
-]
+found_end q xs y none off = find-append q xs (y ∷ []) ∙ ap (λ o. option_or o (find q (y ∷ []))) none ∙ ap (λ b. cond b (Some y) None) off
 
 module _ (m : Queue) (h : Sound m) (g : Grant) (is : g.number ≡ m.next_grant) where
   none_at : (a : ℕ) → eqb g.number a ≡ true → grant_numbered a m ≡ None

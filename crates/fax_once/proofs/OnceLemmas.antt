@@ -1,4 +1,4 @@
--- Over a run no page is confirmed twice, none that was confirmed is granted again, and a grant keeps what it was given with.
+-- Over a run no page is confirmed twice, and none that was confirmed is granted again.
 use Rattle.std.proofs.Common.{◌≡◌, ℕ, ◌<◌, true, List, [], ◌∷◌, ◌++◌, Some, refl, sym, ap, subst, ◌∙◌}
 use Rattle.fax_core.specs.declared.grants.Grant.{Grant}
 use Rattle.fax_core.specs.Ask.{IsLawfulAsk}

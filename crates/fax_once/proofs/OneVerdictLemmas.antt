@@ -11,14 +11,12 @@ use Rattle.fax_ask.specs.declared.ask.Ask.TheVariants.{Step}
 use Rattle.fax_ask.specs.Laws.{AskOrRefusal, OneAsk, OneFault}
 use Rattle.fax_ask.specs.Request.{request_of}
 use Rattle.fax_core.specs.declared.ask.Ask.{Ask}
+use Rattle.fax_once.proofs.ReadingLemmas.{same_ask}
 use Rattle.fax_once.specs.Arrival.{number_of}
 use Rattle.fax_once.specs.Laws.{OneReading, OneVerdict}
 use Rattle.fax_once.specs.Reading.{Reading, Faulty, Posts, Sees, post_of, seen_by, IsForBody, IsForRoute}
 use Rattle.fax_once.specs.Verdict.{verdict}
 use Rattle.fax_once.specs.declared.arrival.Arrival.{Arrival}
-
-same_ask : {a b : Ask} → ◌≡◌ {A = Asked} (Step a) (Step b) → a ≡ b
-same_ask is = cc
 
 module _ (one_ask : OneAsk) (or_refusal : AskOrRefusal) (one_fault : OneFault) (a : Arrival) where
   asks_for : (request : Request) (x : Asked) → request_of a.method a.path.now ≡ Some request → Asks request a.body.now x → IsAsk a.method a.path.now a.body.now x

@@ -1,5 +1,5 @@
 -- What is proved of the definitions.
-use Rattle.std.specs.Prelude.{true, ⊤, ◌≡◌, ◌≢◌, ◌≤◌, ◌<◌, ℕ, List, [], ◌∷◌, All, ◌++◌, length, None, Some, Ok}
+use Rattle.std.specs.Prelude.{true, false, ⊤, ◌≡◌, ◌≢◌, ◌≤◌, ◌<◌, ℕ, List, [], ◌∷◌, All, ◌++◌, length, None, Some, Ok}
 use Rattle.sqlite.specs.State.{State}
 use Rattle.fax_ask.specs.Response.{Response}
 use Rattle.fax_core.specs.Ask.{IsLawfulAsk}
@@ -139,6 +139,24 @@ CountersAreCounts = (s : Settings) (posts : List Post) → AreTaken s empty_queu
 abbrev pub RunsAreSound : Type 0
 RunsAreSound = (s : Settings) (m : Queue) (posts : List Post) → Sound m → AreTaken s m posts → Sound (queue_after s m posts) × HoldsOnce (queue_after s m posts)
 
+-- The grant is as it was given: its number, its job, its modem and its pages. Pages confirmed under it may have come. Once it is closed, nothing of it changes.
+pub record IsSameGrant (g h : Grant) : Type 0 where
+  pub number : h.number ≡ g.number
+  pub job : h.job ≡ g.job
+  pub modem : h.modem ≡ g.modem
+  pub first_page : h.first_page ≡ g.first_page
+  pub last_page : h.last_page ≡ g.last_page
+  pub confirmed : g.confirmed ≤ h.confirmed
+  pub closed : g.is_open ≡ false → h ≡ g
+
+-- each grant of the one queue is in the other
+abbrev pub KeepsGrants : Queue → Queue → Type 0
+KeepsGrants m n = (number : ℕ) (g : Grant) → grant_numbered number m ≡ Some g → (h : Grant) × (grant_numbered number n ≡ Some h) × IsSameGrant g h
+
+-- what is given in a run stays there, as it was given
+abbrev pub RunsKeepGrants : Type 0
+RunsKeepGrants = (s : Settings) (m : Queue) (later earlier : List Post) → Sound m → AreTaken s m (later ++ earlier) → KeepsGrants (queue_after s m earlier) (queue_after s m (later ++ earlier))
+
 -- the post reports this page of this grant
 abbrev pub IsConfirmed : Queue → Post → ℕ → ℕ → Grant → Type 0
 IsConfirmed m p grant page g = (p.request.ask ≡ PageReport grant page) × (grant_numbered grant m ≡ Some g)
@@ -166,11 +184,12 @@ pub record HasRun (s : Settings) (start : Start) (arrivals : List Arrival) (repl
   pub means : Means store (end_of s start heard).queue (end_of s start heard).kept
   pub are_taken : AreTaken s start.queue (taken s start heard)
 
--- So the queue there is sound, a modem and a job hold one open grant at most, no page goes twice, and from the empty queue on the counters count.
+-- So the queue there is sound, a modem and a job hold one open grant at most, no page goes twice, each grant is as it was given, and from the empty queue on the counters count.
 pub record RunsWell (s : Settings) (start : Start) (arrivals : List Arrival) (replies : List Response) (store : State) : Type 0 where
   pub run : HasRun s start arrivals replies store
   pub sound : Sound (end_of s start run.heard).queue
   pub held_once : HoldsOnce (end_of s start run.heard).queue
   pub sent_once : NoPageTwice s start.queue (taken s start run.heard)
+  pub grants_stay : (later earlier : List Post) → taken s start run.heard ≡ later ++ earlier → KeepsGrants (queue_after s start.queue earlier) (end_of s start run.heard).queue
   pub counted : start.queue ≡ empty_queue → (number : ℕ) (j : Job) → IsJob (end_of s start run.heard).queue number j
       → counters_of j ≡ counts (reports_of s empty_queue number (taken s start run.heard))

@@ -3,7 +3,7 @@
 //! Such a function changes nothing: its contract is the law. The statements stand in
 //! `specs/Laws.antt`.
 
-ghost use Rattle.fax_once.specs.Laws.{AcceptedOnce, CopiesLeaveNoTrace, CountersAreCounts, HasVerdict, NoVerdictIsUnavailable, NumbersHaveOneReply, OneReading, OneVerdict, RepeatsGetTheirReply, RunsAreSound, RunsSendOnce, RunsSplit, RunsThread, UntakenLeaveNoTrace};
+ghost use Rattle.fax_once.specs.Laws.{AcceptedOnce, CopiesLeaveNoTrace, CountersAreCounts, HasVerdict, NoVerdictIsUnavailable, NumbersHaveOneReply, OneReading, OneVerdict, RepeatsGetTheirReply, RunsAreSound, RunsKeepGrants, RunsSendOnce, RunsSplit, RunsThread, UntakenLeaveNoTrace};
 
 use crate::arrival::Arrival;
 use fax_ask::laws::{asks, each_asks_or_has_fault, statuses};
@@ -73,4 +73,10 @@ pub fn counters()
 pub fn no_page_twice()
     ensures sound { RunsAreSound }
     ensures sent { RunsSendOnce }
+{}
+
+/// A grant keeps its number, job, modem and pages over a run from a sound queue. No page confirmed under it is taken
+/// back, and a closed grant stays as it is.
+pub fn grants_stay()
+    ensures { RunsKeepGrants }
 {}

@@ -1,0 +1,173 @@
+-- A step, and so a run, leaves each grant as it was given.
+use Rattle.std.proofs.Common.{◌≡◌, ◌≢◌, ◌⊎◌, inl, inr, ℕ, ◌+◌, eqb, Bool, true, false, cond, not, ◌&&◌, List, [], ◌∷◌, ◌++◌, Option, Some, None, Ok, Err, refl, sym, ap, subst, ◌∙◌, arith}
+use Rattle.std.specs.Prelude.{Result, find, is_some, is_none}
+use Rattle.std.proofs.lemmas.Bool.{cases_eq, not-false, true≢false}
+use Rattle.fax_job.specs.declared.job.Call.{Call}
+use Rattle.fax_job.specs.declared.refusal.Refusal.{Refusal}
+use Rattle.fax_job.specs.declared.refusal.Refusal.TheVariants as refusal
+use Rattle.fax_core.specs.declared.grants.Grant.{Grant}
+use Rattle.fax_core.specs.declared.report.Outcome.{Outcome}
+use Rattle.fax_core.specs.Ageing.{aged}
+use Rattle.fax_core.specs.Clock.{decided_at}
+use Rattle.fax_core.specs.declared.ask.Ask.{Ask}
+use Rattle.fax_core.specs.declared.ask.Ask.TheVariants.{Submission, Suspend, Resume, Kill, Alteration, Ready, Down, Next, CallReport, PageReport, OutcomeReport}
+use Rattle.fax_core.specs.Decisions.{JobAndGrant, after_call, alter, call, ended, granted, is_connected, kill, outcome, page, page_of, resume, submit, suspend}
+use Rattle.fax_core.specs.Job.{Job}
+use Rattle.fax_core.specs.Machine.{act, call_reply, changed, on_job, outcome_reply, page_reply, step, submitted, with_both, with_job, with_mark, with_new_job}
+use Rattle.fax_core.specs.Queue.{Queue, grant_numbered, job_numbered}
+use Rattle.fax_core.specs.Reply.{Marked, NoKeys, Refused, Reply, Step, Taken}
+use Rattle.fax_core.specs.Run.{decided, left_by}
+use Rattle.fax_core.specs.Settings.{Rule, Settings}
+use Rattle.fax_core.specs.Sound.{Sound}
+use Rattle.fax_core.proofs.DecisionLemmas.{not_refused, ok_same}
+use Rattle.fax_core.proofs.KeepLemmas.{numbered_grant}
+use Rattle.fax_core.proofs.PageLemmas.{Reported, on_grant_is}
+use Rattle.fax_core.proofs.PlaceLemmas.{placed_here, placed_other, stays}
+use Rattle.fax_core.proofs.StepLemmas.{Best_to, GivenTo, None_to, aged_sound, given_is, taken_same}
+use Rattle.fax_once.proofs.OnceLemmas.{sound_after}
+use Rattle.fax_once.specs.Laws.{IsSameGrant, KeepsGrants, RunsKeepGrants}
+use Rattle.fax_once.specs.Run.{queue_after}
+
+-- ---- the same grant
+
+same_itself : (g : Grant) → IsSameGrant g g
+same_itself g = record { number = refl; job = refl; modem = refl; first_page = refl; last_page = refl; confirmed = omega arith; closed = λ off. refl }
+
+same_through : (f g h : Grant) → IsSameGrant f g → IsSameGrant g h → IsSameGrant f h
+same_through f g h a b = record {
+  number = b.number ∙ a.number;
+  job = b.job ∙ a.job;
+  modem = b.modem ∙ a.modem;
+  first_page = b.first_page ∙ a.first_page;
+  last_page = b.last_page ∙ a.last_page;
+  confirmed = omega (arith, a.confirmed, b.confirmed);
+  closed = λ off. let same = a.closed off in b.closed (ap (λ (z : Grant). z.is_open) same ∙ off) ∙ same;
+}
+
+kept_all : (m n : Queue) → n.grants ≡ m.grants → KeepsGrants m n
+kept_all m n same a g is = (g, subst (λ (gs : List Grant). find (λ (z : Grant). eqb z.number a) gs ≡ Some g) (sym same) is, same_itself g)
+
+through : (l m n : Queue) → KeepsGrants l m → KeepsGrants m n → KeepsGrants l n
+through l m n first then' a g is =
+    let x = first a g is in
+    let y = then' a x.0 x.1 in
+    (y.0, y.1, same_through g x.0 y.0 x.2 y.2)
+
+-- ---- requests on a job, submissions and marks
+
+changed_grants : (s : Settings) (m n : Queue) (t : ℕ) (d : Result Job Refusal) (r : Reply) → changed s m t d ≡ Taken n r → n.grants ≡ m.grants
+changed_grants s m n t (Ok k) r e = ap (λ (q : Queue). q.grants) (sym (taken_same (with_job k m) n _ r e).0)
+changed_grants s m n t (Err x) r e = cc
+
+on_job_grants : (s : Settings) (m n : Queue) (t : ℕ) (decide : Job → Result Job Refusal) (o : Option Job) (r : Reply) → on_job s m t decide o ≡ Taken n r → KeepsGrants m n
+on_job_grants s m n t decide None r e = cc
+on_job_grants s m n t decide (Some j) r e = kept_all m n (changed_grants s m n t (decide j) r e)
+
+submission_grants : (m n : Queue) (rule : Rule) (d : Result Job Refusal) (r : Reply) → submitted m rule d ≡ Taken n r → KeepsGrants m n
+submission_grants m n rule (Ok k) r e = kept_all m n (ap (λ (q : Queue). q.grants) (sym (taken_same (with_new_job k m) n _ r e).0))
+submission_grants m n rule (Err x) r e = cc
+
+mark_same : (m : Queue) (modem : List ℕ) (down : Bool) → (with_mark modem down m).grants ≡ m.grants
+mark_same m modem true = refl
+mark_same m modem false = refl
+
+mark_grants : (m n : Queue) (modem : List ℕ) (down b : Bool) (r : Reply) → cond b (Taken (with_mark modem down m) (Marked down)) (Refused refusal.NoModem NoKeys) ≡ Taken n r → KeepsGrants m n
+mark_grants m n modem down true r e = kept_all m n (ap (λ (q : Queue). q.grants) (sym (taken_same (with_mark modem down m) n _ r e).0) ∙ mark_same m modem down)
+mark_grants m n modem down false r e = cc
+
+-- ---- reports
+
+called_same : (c : Call) (j : Job) (g : Grant) (b : JobAndGrant) → call c j g ≡ Ok b → IsSameGrant g b.grant
+called_same c j g b e =
+    let new : JobAndGrant = record { job = after_call c j; grant = record g { call = Some c } } in
+    let p = not_refused (not g.is_open) _ _ b e in
+    let q = not_refused (is_some g.call) _ (Ok new) b p.1 in
+    let on : g.is_open ≡ true = not-false g.is_open p.0 in
+    subst (λ (x : JobAndGrant). IsSameGrant g x.grant) (ok_same new b q.1)
+    (record { number = refl; job = refl; modem = refl; first_page = refl; last_page = refl; confirmed = omega arith; closed = λ off. absurd (true≢false (sym on ∙ off)) })
+
+page_same : (ps : List ℕ) (n : ℕ) (j : Job) (g : Grant) (b : JobAndGrant) → g.is_open ≡ true → page_of ps n j g ≡ Ok b → IsSameGrant g b.grant
+page_same [] n j g b on e = cc
+page_same (p ∷ rest) n j g b on e =
+    let new : JobAndGrant = record { job = record j { sent = j.sent ++ p ∷ []; left = rest; ntries = 0 }; grant = record g { confirmed = g.confirmed + 1 } } in
+    let q = not_refused (not (eqb p n)) _ (Ok new) b e in
+    subst (λ (x : JobAndGrant). IsSameGrant g x.grant) (ok_same new b q.1)
+    (record { number = refl; job = refl; modem = refl; first_page = refl; last_page = refl; confirmed = omega arith; closed = λ off. absurd (true≢false (sym on ∙ off)) })
+
+paged_same : (n : ℕ) (j : Job) (g : Grant) (b : JobAndGrant) → page n j g ≡ Ok b → IsSameGrant g b.grant
+paged_same n j g b e =
+    let p = not_refused (not g.is_open) _ _ b e in
+    let q = not_refused (not (is_connected g.call)) _ (page_of j.left n j g) b p.1 in
+    page_same j.left n j g b (not-false g.is_open p.0) q.1
+
+outcome_same : (o : Outcome) (j : Job) (g : Grant) (delay t : ℕ) (b : JobAndGrant) → outcome o j g delay t ≡ Ok b → IsSameGrant g b.grant
+outcome_same o j g delay t b e =
+    let new : JobAndGrant = record { job = ended j.left o j delay t; grant = record g { is_open = false } } in
+    let p = not_refused (not g.is_open) _ _ b e in
+    let q = not_refused (not o.dialed && is_some g.call) _ _ b p.1 in
+    let r = not_refused (o.dialed && is_none g.call) _ _ b q.1 in
+    let s = not_refused (not (eqb o.pages g.confirmed)) _ _ b r.1 in
+    let u = not_refused _ _ (Ok new) b s.1 in
+    let on : g.is_open ≡ true = not-false g.is_open p.0 in
+    subst (λ (x : JobAndGrant). IsSameGrant g x.grant) (ok_same new b u.1)
+    (record { number = refl; job = refl; modem = refl; first_page = refl; last_page = refl; confirmed = omega arith; closed = λ off. absurd (true≢false (sym on ∙ off)) })
+
+module _ (m : Queue) (b : ℕ) (g : Grant) (both : JobAndGrant) (is : grant_numbered b m ≡ Some g) (same : IsSameGrant g both.grant) where
+  it_is : (x : Grant) → grant_numbered b m ≡ Some x → g ≡ x
+  it_is x there = let found = sym is ∙ there in cc
+
+  placed_grants : KeepsGrants m (with_both both m)
+  placed_grants a x there = by (cases_eq both.grant.number a)
+    where
+      by : (both.grant.number ≡ a) ⊎ (both.grant.number ≢ a) → (h : Grant) × (grant_numbered a (with_both both m) ≡ Some h) × IsSameGrant x h
+      by (inl here) =
+          let place : a ≡ b = sym here ∙ same.number ∙ numbered_grant m b g is in (
+            both.grant,
+            placed_here (λ (z : Grant). z.number) a both.grant x m.grants there here,
+            subst (λ (z : Grant). IsSameGrant z both.grant) (it_is x (subst (λ (i : ℕ). grant_numbered i m ≡ Some x) place there)) same,
+          )
+      by (inr other) = (x, placed_other (λ (z : Grant). z.number) a both.grant x m.grants there other, same_itself x)
+
+report_grants : (m n : Queue) (b : ℕ) (decide : Job → Grant → Result JobAndGrant Refusal) → ((j : Job) (g : Grant) (both : JobAndGrant) → decide j g ≡ Ok both → IsSameGrant g both.grant) → Reported m n b decide → KeepsGrants m n
+report_grants m n b decide same it = subst (KeepsGrants m) it.left (placed_grants m b it.grant it.both it.is (same it.job it.grant it.both it.made))
+
+-- ---- a request for work
+
+given_grants : (s : Settings) (m n : Queue) (t : ℕ) (modem : List ℕ) (r : Reply) → GivenTo s m t modem n r → KeepsGrants m n
+given_grants s m n t modem r (None_to none same told) = kept_all m n (ap (λ (q : Queue). q.grants) (sym same))
+given_grants s m n t modem r (Best_to j best none same told) =
+    subst (KeepsGrants m) same (λ a g is. (g, stays (λ (z : Grant). eqb z.number a) m.grants (granted j modem m.next_grant).grant g is, same_itself g))
+
+-- ---- each request
+
+act_grants : (s : Settings) (m n : Queue) (t : ℕ) (ask : Ask) (r : Reply) → Sound m → act s m t ask ≡ Taken n r → KeepsGrants m n
+act_grants s m n t (Submission o) r h e = submission_grants m n (s.rule o.dial) (submit o (s.rule o.dial) m.next_job s.max_jobs t) r e
+act_grants s m n t (Suspend a) r h e = on_job_grants s m n t suspend (job_numbered a m) r e
+act_grants s m n t (Resume a) r h e = on_job_grants s m n t resume (job_numbered a m) r e
+act_grants s m n t (Kill a) r h e = on_job_grants s m n t kill (job_numbered a m) r e
+act_grants s m n t (Alteration a c) r h e = on_job_grants s m n t (λ j. alter c j t) (job_numbered a m) r e
+act_grants s m n t (Ready modem) r h e = mark_grants m n modem false (s.has_modem modem) r e
+act_grants s m n t (Down modem) r h e = mark_grants m n modem true (s.has_modem modem) r e
+act_grants s m n t (Next modem) r h e = given_grants s m n t modem r (given_is s m t modem n r h e)
+act_grants s m n t (CallReport a c) r h e = report_grants m n a (call c) (called_same c) (on_grant_is m (call c) (call_reply t) a (grant_numbered a m) n r refl e)
+act_grants s m n t (PageReport a p) r h e = report_grants m n a (page p) (paged_same p) (on_grant_is m (page p) (page_reply t) a (grant_numbered a m) n r refl e)
+act_grants s m n t (OutcomeReport a o) r h e =
+    report_grants m n a (λ j g. outcome o j g (s.delay g.call) t) (λ j g b. outcome_same o j g (s.delay g.call) t b)
+    (on_grant_is m (λ j g. outcome o j g (s.delay g.call) t) (outcome_reply s t) a (grant_numbered a m) n r refl e)
+
+-- ageing leaves the grants
+step_keeps_grants : (s : Settings) (m n : Queue) (t : ℕ) (ask : Ask) (r : Reply) → Sound m → step s m t ask ≡ Taken n r → KeepsGrants m n
+step_keeps_grants s m n t ask r h e = through m (aged t m) n (kept_all m (aged t m) refl) (act_grants s (aged t m) n t ask r (aged_sound t m h) e)
+
+left_grants : (m : Queue) (x : Step) → ((n : Queue) (r : Reply) → x ≡ Taken n r → KeepsGrants m n) → KeepsGrants m (left_by m x)
+left_grants m (Taken n r) keeps = keeps n r refl
+left_grants m (Refused e k) keeps = kept_all m m refl
+
+-- ---- a run
+
+pub runs_keep_grants : RunsKeepGrants
+runs_keep_grants s m [] earlier h are = kept_all (queue_after s m earlier) (queue_after s m earlier) refl
+runs_keep_grants s m (p ∷ later) earlier h are =
+    let here = queue_after s m (later ++ earlier) in
+    through (queue_after s m earlier) here (left_by here (decided s here p.request)) (runs_keep_grants s m later earlier h are.2)
+    (left_grants here (decided s here p.request) (λ n r e. step_keeps_grants s here n (decided_at here.clock p.request.moment) p.request.ask r (sound_after s m (later ++ earlier) h are.2) e))
