@@ -1,11 +1,16 @@
 -- Which bytes are a client's name, and what is told of those that aren't.
-use Rattle.std.proofs.Common.{◌≡◌, ℕ, ◌<◌, List, [], ◌∷◌, Bool, true, false, refl, sym, ap, ◌&&◌, zero, suc, arith, lit<, Option, Some, None, Err, if◌then◌else◌}
+use Rattle.std.proofs.Common.{◌≡◌, ℕ, ◌<◌, List, [], ◌∷◌, Bool, true, false, refl, sym, ap, subst, ◌∙◌, ◌&&◌, zero, suc, arith, lit<, Option, Some, None, Err, if◌then◌else◌}
 use Rattle.fax_job.specs.declared.refusal.Refusal.{Refusal}
 use Rattle.fax_job.specs.declared.refusal.Refusal.TheVariants.{BadClient, BadNumber}
 use Rattle.fax_job.specs.Number.{request_number_of}
 use Rattle.fax_ask.specs.Detail.{has_detail}
-use Rattle.fax_once.specs.Arrival.{digits_of, number_of}
+use Rattle.sqlite.specs.Effect.{Database}
+use Rattle.fax_core.proofs.DecisionLemmas.{ok_same}
+use Rattle.fax_store.specs.Kept.{HasReply}
+use Rattle.fax_once.specs.Arrival.{IsSender, digits_of, number_of}
+use Rattle.fax_once.specs.Verdict.{IsUsed}
 use Rattle.fax_once.specs.declared.arrival.Arrival.{Arrival}
+use Rattle.fax_once.specs.declared.sender.Sender.{Sender}
 use Rattle.std.specs.Prelude.{IsUtf8, slice_index}
 use Rattle.std.specs.List.{list_all}
 use Rattle.std.proofs.lemmas.Bool.Decides.{nat_tests}
@@ -43,3 +48,9 @@ sender_plain a e h = by (is_name a.client.now) h
     by : (b : Bool) → (if b then digits_of (request_number_of a.number.now) else Err BadClient) ≡ Err e → has_detail e ≡ false
     by true x = of_digits (request_number_of a.number.now) x
     by false x = let same : BadClient ≡ e = cc in ap has_detail (sym same)
+
+-- what is kept for the arrival's number is kept for its sender's
+pub its_reply : (a : Arrival) (sender : Sender) (db : Database) → IsSender a sender → (used : IsUsed a db) → HasReply db sender.client.now sender.number
+its_reply a sender db from used =
+    subst (λ (n : ℕ). HasReply db sender.client.now n) (ok_same used.number sender.number (sym used.its ∙ from.number))
+    (subst (λ (client : List ℕ). HasReply db client used.number) (sym from.client) used.kept)

@@ -1,6 +1,7 @@
 -- What comes of an arrival: what is answered to it, and what it makes of the queue and of the kept replies.
-use Rattle.std.specs.Prelude.{◌≡◌, ◌⊎◌, ⊤, ℕ, List, [], ◌∷◌, ◌++◌, Option, Some, None, Result, MatchResult, if◌then◌else◌}
+use Rattle.std.specs.Prelude.{◌≡◌, ◌⊎◌, ⊤, ℕ, List, [], ◌∷◌, ◌++◌, Option, Some, None, Result, Ok, MatchResult, if◌then◌else◌}
 use Rattle.std.specs.Str.{bytes_eq}
+use Rattle.sqlite.specs.Effect.{Database}
 use Rattle.sqlite.specs.State.{State}
 use Rattle.fax_job.specs.declared.refusal.Refusal.{Refusal}
 use Rattle.fax_job.specs.declared.refusal.Refusal.TheVariants.{NumberReused, Unavailable}
@@ -17,10 +18,11 @@ use Rattle.fax_core.specs.Sound.{Sound}
 use Rattle.fax_decide.specs.Decision.{Decides}
 use Rattle.fax_decide.specs.View.{view}
 use Rattle.fax_decide.specs.declared.decision.Decision.{Decision}
+use Rattle.fax_once.specs.Arrival.{number_of}
 use Rattle.fax_once.specs.Reading.{Post, Reading, Faulty, Sees, Posts, IsReading}
 use Rattle.fax_once.specs.declared.arrival.Arrival.{Arrival}
 use Rattle.fax_once.specs.declared.sender.Sender.{Sender}
-use Rattle.fax_store.specs.Kept.{kept_for}
+use Rattle.fax_store.specs.Kept.{HasReply, kept_for}
 use Rattle.fax_store.specs.Store.{Means, Serves}
 use Rattle.fax_tables.specs.Kept.{entry}
 use Rattle.fax_tables.specs.Tables.{IsAtRest, IsKeptStatus}
@@ -103,6 +105,12 @@ GivesOut m k reply s = (reply ≡ refused_response Unavailable NoKeys) × Means 
 -- there is no reply, or one that refuses
 abbrev pub IsNotAccepted : {E : Type 0} → Result Response E → Type 0
 IsNotAccepted result = MatchResult result (λ reply. ¬ IsKeptStatus reply.status) (λ _. ⊤)
+
+-- the rows have a reply to the arrival's number of its client, whatever else they say
+pub record IsUsed (a : Arrival) (db : Database) : Type 0 where
+  pub number : ℕ
+  pub its : number_of a ≡ Ok number
+  pub kept : HasReply db a.client.now number
 
 -- an arrival is handled
 abbrev pub Handles : Settings → Arrival → Queue → List Entry → Response → State → Type 0

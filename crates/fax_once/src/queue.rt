@@ -6,6 +6,7 @@
 
 ghost use Rattle.std.specs.Prelude.{◌≡◌, ◌∷◌, ◌++◌, [], List, IfOk, IsErr, None, OnErr, OnOk, MatchResult, if◌then◌else◌};
 ghost use Rattle.std.specs.Str.{bytes_eq};
+ghost use Rattle.sqlite.specs.Effect.{Database};
 ghost use Rattle.sqlite.specs.Held.{state};
 ghost use Rattle.sqlite.specs.State.{HasCleanDisk};
 ghost use Rattle.fax_ask.specs.Ask.{IsAsk, IsLawful, IsLawfulStep, IsRefused};
@@ -19,9 +20,10 @@ ghost use Rattle.fax_core.specs.Reply.{NoKeys};
 ghost use Rattle.fax_core.specs.Settings.{Settings};
 ghost use Rattle.fax_core.specs.Sound.{Sound};
 ghost use Rattle.fax_store.specs.Job.{with_expired};
-ghost use Rattle.fax_store.specs.Kept.{kept_for};
+ghost use Rattle.fax_store.specs.Kept.{HasReply, kept_for};
 ghost use Rattle.fax_tables.specs.Kept.{entry};
-ghost use Rattle.fax_store.specs.Store.{Means, Serves, Stays};
+ghost use Rattle.fax_store.specs.Store.{Means, Rests, Serves, Stays};
+ghost use Rattle.fax_tables.specs.Schema.{six_tables};
 ghost use Rattle.fax_tables.specs.Tables.{IsKeptStatus};
 ghost use Rattle.fax_once.specs.Laws.{IsSoundWith, RunsWell};
 ghost use Rattle.fax_decide.specs.Effect.{Suits, accepted};
@@ -29,7 +31,7 @@ ghost use Rattle.fax_decide.specs.Settings.{settings_of};
 ghost use Rattle.fax_decide.specs.View.{view};
 ghost use Rattle.fax_once.specs.Arrival.{IsSender, number_of, said_of};
 ghost use Rattle.fax_once.specs.Reading.{post_of};
-ghost use Rattle.fax_once.specs.Verdict.{Answers, Handles, IsDecided, IsNotAccepted, IsVerdict, LeavesBy, Told, asked_for};
+ghost use Rattle.fax_once.specs.Verdict.{Answers, Handles, IsDecided, IsNotAccepted, IsUsed, IsVerdict, LeavesBy, Told, asked_for};
 ghost use Rattle.fax_once.specs.declared.arrival.Arrival.{Arrival as ArrivalOf};
 
 use crate::acceptance::commit_accepted;
@@ -90,11 +92,14 @@ impl<S: Alter> Queue<S> {
         ensures sound { (m : QueueOf) (k : List Entry) → Sound m
             → Means (state S.Store self.old.store.conn) m k
             → HasCleanDisk (state S.Store self.new.store.conn) → IsSoundWith k (state S.Store self.new.store.conn) }
-        // Whatever the rows say, a refusal changes nothing, and a GET doesn't either.
+        // Whatever the rows say, a refusal changes nothing, a GET doesn't either, and nor does what comes under a used
+        // number.
         ensures refused { ¬ IsKeptStatus result.status
             → Stays (state S.Store self.old.store.conn) (state S.Store self.new.store.conn) }
         ensures seen { arrival.now.method ≡ Get
             → Stays (state S.Store self.old.store.conn) (state S.Store self.new.store.conn) }
+        ensures repeated { (db : Database) → db.schema ≡ six_tables → Rests (state S.Store self.old.store.conn) db
+            → IsUsed arrival.now db → Rests (state S.Store self.new.store.conn) db }
     {
         match self.answer(alloc, arrival) {
             Ok(reply) => reply,
@@ -151,6 +156,8 @@ impl<S: Alter> Queue<S> {
             → Stays (state S.Store self.old.store.conn) (state S.Store self.new.store.conn) }
         ensures seen { arrival.now.method ≡ Get
             → Stays (state S.Store self.old.store.conn) (state S.Store self.new.store.conn) }
+        ensures repeated { (db : Database) → db.schema ≡ six_tables → Rests (state S.Store self.old.store.conn) db
+            → IsUsed arrival.now db → Rests (state S.Store self.new.store.conn) db }
         ensures answered { (m : QueueOf) (k : List Entry) → Sound m
             → Means (state S.Store self.old.store.conn) m k
             → HasCleanDisk (state S.Store self.new.store.conn)
@@ -180,6 +187,8 @@ impl<S: Alter> Queue<S> {
         ensures seen { arrival.now.method ≡ Get
             → IsAsk arrival.now.method arrival.now.path.now arrival.now.body.now ask
             → Stays (state S.Store self.old.store.conn) (state S.Store self.new.store.conn) }
+        ensures repeated { (db : Database) → db.schema ≡ six_tables → Rests (state S.Store self.old.store.conn) db
+            → IsUsed arrival.now db → Rests (state S.Store self.new.store.conn) db }
         ensures answered { (m : QueueOf) (k : List Entry) → Sound m
             → Means (state S.Store self.old.store.conn) m k
             → HasCleanDisk (state S.Store self.new.store.conn)
@@ -229,6 +238,8 @@ impl<S: Alter> Queue<S> {
             → HasCleanDisk (state S.Store self.old.store.conn) }
         ensures unchanged { IsNotAccepted result
             → Stays (state S.Store self.old.store.conn) (state S.Store self.new.store.conn) }
+        ensures repeated { (db : Database) → db.schema ≡ six_tables → Rests (state S.Store self.old.store.conn) db
+            → HasReply db sender.now.client.now sender.now.number → Rests (state S.Store self.new.store.conn) db }
         ensures stepped { (m : QueueOf) (k : List Entry) → Sound m
             → Means (state S.Store self.old.store.conn) m k → HasCleanDisk (state S.Store self.new.store.conn)
             → IsSender arrival.now sender.now → IsLawfulStep ask

@@ -7,7 +7,7 @@ use Rattle.fax_ask.specs.Ask.{IsAsk, IsLawful}
 use Rattle.fax_decide.specs.Settings.{settings_of}
 use Rattle.fax_store.proofs.StoreLemmas.{means_stay}
 use Rattle.fax_once.proofs.GetLemmas.{no_step}
-use Rattle.fax_once.proofs.SenderLemmas.{sender_plain}
+use Rattle.fax_once.proofs.SenderLemmas.{its_reply, sender_plain}
 use Rattle.fax_once.proofs.RequestLemmas.{view_answers, step_answers, sender_answers, where_open}
 use Rattle.fax_once.proofs.queue.Queue.answer_ask.Goals as goal
 
@@ -34,3 +34,10 @@ pub returns-in-Ok-clause-seen : goal.returns-in-Ok-clause-seen
 returns-in-Ok-clause-seen g c get is =
     absurd (no_step c.args.arrival.now.method c.args.arrival.now.path.now c.args.arrival.now.body.now c.in-Step.ask get
     (subst (IsAsk c.args.arrival.now.method c.args.arrival.now.path.now c.args.arrival.now.body.now) c.in-Step.is is))
+
+pub returns-in-Ok-clause-repeated : goal.returns-in-Ok-clause-repeated
+returns-in-Ok-clause-repeated g c db six rests used =
+    c.step.ensures.repeated db six rests (its_reply c.args.arrival.now c.in-Ok.sender db c.in-Ok.ensures.sender used)
+
+pub returns-in-View-clause-repeated : goal.returns-in-View-clause-repeated
+returns-in-View-clause-repeated g c db six rests used = c.show.ensures.stays db six rests

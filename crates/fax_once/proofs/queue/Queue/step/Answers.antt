@@ -3,7 +3,7 @@ use Rattle.sqlite.specs.Held.{state}
 use Rattle.fax_decide.specs.Settings.{settings_of}
 use Rattle.fax_decide.proofs.WorkLemmas.{refused_with}
 use Rattle.fax_store.proofs.StoreLemmas.{means_stay}
-use Rattle.fax_store.specs.Kept.{IsKeptFor}
+use Rattle.fax_store.specs.Kept.{IsKeptFor, MissesNone}
 use Rattle.fax_once.proofs.VerdictLemmas.{repeated_leaves}
 use Rattle.fax_once.proofs.queue.Queue.step.Goals as goal
 
@@ -26,3 +26,14 @@ returns-in-None-clause-unchanged g c refused db six rests = c.step_once.ensures.
 pub returns-in_err-kept-clause-stepped : goal.returns-in_err-kept-clause-stepped
 returns-in_err-kept-clause-stepped g c m k sound means clean from lawful =
     refused_with c.from_residual.result _ _ c.from_residual.ensures.0 (means_stay c.kept.ensures.served c.kept.ensures.stays m k means)
+
+pub returns-in-None-clause-repeated : goal.returns-in-None-clause-repeated
+returns-in-None-clause-repeated g c db six rests used serves =
+    let read = c.in_ok-kept.ensures.opens (c.step_once.ensures.clean serves.clean) in
+    absurd (subst (MissesNone db c.args.sender.now.client.now c.args.sender.now.number) c.in-None.is (c.in_ok-kept.ensures.unkept db six rests read) used)
+
+pub returns-in-Some-clause-repeated : goal.returns-in-Some-clause-repeated
+returns-in-Some-clause-repeated g c db six rests used = c.kept.ensures.stays db six rests
+
+pub returns-in_err-kept-clause-repeated : goal.returns-in_err-kept-clause-repeated
+returns-in_err-kept-clause-repeated g c db six rests used = c.kept.ensures.stays db six rests
