@@ -8,6 +8,8 @@ mod jobs;
 #[cfg(test)]
 mod lines;
 #[cfg(test)]
+mod queues;
+#[cfg(test)]
 mod replies;
 #[cfg(test)]
 mod rows;

@@ -1,12 +1,13 @@
 //! Runs of arrivals: what is repeated gets its first reply, in whichever order it comes again.
+use crate::queues::empty_queue;
 use fax_ask::{Method, Reply};
-use fax_dest::{Controls, Setup};
 use fax_job::Moment;
-use fax_once::{Arrival, Queue};
-use fax_store::Store;
-use sqlite::MemStore;
+use fax_once::Arrival;
 use std::alloc::Global;
 use std::test::Fail;
+
+/// The setup of an office with two modems.
+const TWO_MODEMS: &[u8] = b"Modem: ttyS0\nModem: ttyS1\n";
 
 /// A request, and the reply that is wanted.
 #[derive(Clone, Copy)]
@@ -160,14 +161,6 @@ const ONE_FAX: [Exchange; 15] = [
     },
 ];
 
-/// An empty queue of an office with two modems.
-fn empty_queue(alloc: Global) -> Result<Queue<MemStore>, Fail> {
-    let store = Store::new_in_memory(alloc)?;
-    let setup = Setup::read(alloc, b"Modem: ttyS0\nModem: ttyS1\n")?;
-    let controls = Controls::read(alloc, b"")?;
-    Ok(Queue::new(alloc, store, setup, controls)?)
-}
-
 fn arrival_of(exchange: &Exchange) -> Arrival<'static> {
     Arrival {
         client: exchange.client,
@@ -203,25 +196,26 @@ fn twice_and_back(alloc: Global) -> Result<Vec<Exchange>, Fail> {
     Ok(exchanges)
 }
 
+/// Whether the messages that came twice have the replies that are wanted, and those that came again have known ones.
+fn are_replies(replies: &[Reply], exchanges: &[Exchange]) -> bool {
+    replies.iter().zip(exchanges).enumerate().all(|(at, (reply, exchange))| {
+        if at < 2 * ONE_FAX.len() {
+            is_reply(reply, exchange)
+        } else {
+            is_known(reply, exchange) && reply.status() < 300
+        }
+    })
+}
+
 #[test]
 fn a_run_answers_repeats_with_their_first_reply(rt: HostRuntime) -> Result<(), Fail> {
     let alloc = rt.alloc();
-    let mut queue = empty_queue(alloc)?;
+    let mut queue = empty_queue(alloc, TWO_MODEMS)?;
     let exchanges = twice_and_back(alloc)?;
     let arrivals: Vec<Arrival<'_>> = exchanges.iter().map(arrival_of).collect(alloc)?;
     let replies = queue.run(alloc, &arrivals)?;
     assert_eq!(rt; replies.len(), exchanges.len());
-    for (at, (reply, exchange)) in replies.iter().zip(&exchanges).enumerate() {
-        if at < 2 * ONE_FAX.len() {
-            assert_eq!(rt; is_reply(reply, exchange), true, "{at}");
-        } else {
-            assert_eq!(rt;
-                is_known(reply, exchange) && reply.status() < 300,
-                true,
-                "{at}"
-            );
-        }
-    }
+    assert!(rt; are_replies(&replies, &exchanges));
     Ok(())
 }
 
@@ -253,17 +247,23 @@ fn submits(submission: &Submission) -> Arrival<'_> {
     }
 }
 
+/// Whether each reply tells its submission's job.
+fn tell_jobs(replies: &[Reply], submissions: &[Submission]) -> bool {
+    replies
+        .iter()
+        .zip(submissions.iter().chain(submissions))
+        .all(|(reply, submission)| reply.status() == 201
+            && reply.body() == submission.reply.as_bytes())
+}
+
 #[test]
 fn five_hundred_submissions_and_then_the_same_again(rt: HostRuntime) -> Result<(), Fail> {
     let alloc = rt.alloc();
-    let mut queue = empty_queue(alloc)?;
+    let mut queue = empty_queue(alloc, TWO_MODEMS)?;
     let all = submissions(alloc)?;
     let arrivals: Vec<Arrival<'_>> = all.iter().chain(&all).map(submits).collect(alloc)?;
     let replies = queue.run(alloc, &arrivals)?;
     assert_eq!(rt; replies.len(), 1000);
-    for (reply, submission) in replies.iter().zip(all.iter().chain(&all)) {
-        assert_eq!(rt; reply.status(), 201);
-        assert_eq!(rt; reply.body() == submission.reply.as_bytes(), true);
-    }
+    assert!(rt; tell_jobs(&replies, &all));
     Ok(())
 }

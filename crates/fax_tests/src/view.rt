@@ -1,20 +1,11 @@
 //! The call that shows a job to the process that has the queue.
+use crate::queues::empty_queue;
 use fax_ask::Method;
-use fax_dest::{Controls, Setup};
 use fax_job::Moment;
 use fax_once::{Arrival, Queue};
-use fax_store::Store;
 use sqlite::MemStore;
 use std::alloc::Global;
 use std::test::Fail;
-
-/// An empty queue of an office without modems and rules.
-fn empty_queue(alloc: Global) -> Result<Queue<MemStore>, Fail> {
-    let store = Store::new_in_memory(alloc)?;
-    let setup = Setup::read(alloc, b"")?;
-    let controls = Controls::read(alloc, b"")?;
-    Ok(Queue::new(alloc, store, setup, controls)?)
-}
 
 /// The status of the reply to a submission with a kill time.
 fn submit(alloc: Global, queue: &mut Queue<MemStore>) -> u16 {
@@ -45,7 +36,7 @@ fn shows(
 #[test]
 fn a_view_shows_a_later_moment_and_changes_nothing(rt: HostRuntime) -> Result<(), Fail> {
     let alloc = rt.alloc();
-    let mut queue = empty_queue(alloc)?;
+    let mut queue = empty_queue(alloc, b"")?;
     let taken = submit(alloc, &mut queue);
     assert_eq!(rt; taken, 201);
     for (path, moment, status, end) in [
