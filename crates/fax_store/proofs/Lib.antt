@@ -17,3 +17,4 @@ pub mod GrantWriteLemmas
 pub mod WaitingLemmas
 pub mod CallLemmas
 pub mod Rows
+pub mod AdoptLemmas

@@ -12,6 +12,7 @@ use Rattle.sqlite_tied.specs.Compute.{everything}
 use Rattle.sqlite_value.specs.Keys.{ascending}
 use Rattle.sqlite_value.specs.declared.keys.Key.{Key}
 use Rattle.fax_job.specs.Status.{kill_time_expired}
+use Rattle.fax_store.specs.declared.adopt.TheConstants.{SELECT_VERSION}
 use Rattle.fax_store.specs.declared.meta.TheConstants.{SELECT_META, UPDATE_CLOCK, UPDATE_META}
 use Rattle.fax_store.specs.declared.replies.TheConstants.{SELECT_REPLY, INSERT_REPLY}
 use Rattle.fax_store.specs.declared.jobs.TheConstants.{SELECT_JOB, INSERT_JOB, UPDATE_JOB, EXPIRE_JOBS, SELECT_WAITING}
@@ -29,6 +30,13 @@ meta_project = col 1 2 ∷ col 1 3 ∷ col 1 4 ∷ []
 pub select_meta : Selects SELECT_META.now meta_tree meta_tests meta_project (codes "clock" ∷ codes "next_job" ∷ codes "next_grant" ∷ [])
 unfolding understood everything
 select_meta = record { command = refl; plain = (refl, refl); unlisted = refl }
+
+abbrev pub version_project : List Term
+version_project = col 1 5 ∷ []
+
+pub select_version : Selects SELECT_VERSION.now meta_tree [] version_project (codes "version" ∷ [])
+unfolding understood everything
+select_version = record { command = refl; plain = (refl, refl); unlisted = refl }
 
 abbrev pub update_project : List Term
 update_project = col 1 0 ∷ col 1 0 ∷ lit Null ∷ col 0 0 ∷ col 0 1 ∷ col 0 2 ∷ col 1 5 ∷ []

@@ -4,3 +4,4 @@ pub mod Job
 pub mod Grant
 pub mod Kept
 pub mod Meta
+pub mod Adopt

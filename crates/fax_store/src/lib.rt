@@ -4,6 +4,7 @@
 //! Nothing above this crate speaks of SQL.
 #![tactic(auto)]
 
+mod adopt;
 mod grants;
 mod jobs;
 pub mod laws;

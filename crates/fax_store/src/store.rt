@@ -13,7 +13,7 @@ ghost use Rattle.fax_store.specs.Work.{Begins, BeginsAt, Holds};
 ghost use Rattle.fax_tables.specs.Tables.{IsAtRest};
 
 use crate::work::Work;
-use fax_tables::{StoreFault, create_tables, insert_fault};
+use fax_tables::{StoreFault, insert_fault};
 use sqlite::types::ValueRef;
 use sqlite::{Alter, Connection, MemStore, Row};
 use std::alloc::Global;
@@ -45,9 +45,10 @@ impl Store<MemStore> {
         ensures serves { IfOk result (λ store. Serves (state over_memory store.conn)) }
         ensures cause { IfErr result (λ fault. fault ≡ StoreFault.Unavailable) }
     {
-        let mut conn = Connection::open_in_memory(alloc)?;
-        create_tables(&mut conn)?;
-        Ok(Store { conn, alloc })
+        let conn = Connection::open_in_memory(alloc)?;
+        let mut store = Store { conn, alloc };
+        store.make_tables()?;
+        Ok(store)
     }
 }
 

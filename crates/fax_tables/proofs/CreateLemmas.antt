@@ -1,5 +1,5 @@
 -- What the texts that make the tables leave.
-use Rattle.std.proofs.Common.{◌≡◌, ◌≤◌, ℕ, pos, List, [], ◌∷◌, ◌++◌, map, drop, false, Ok, Result, refl, sym, ap, ap₂, subst, subst₂, ◌∙◌, arith, if◌then◌else◌}
+use Rattle.std.proofs.Common.{◌≡◌, ◌≤◌, ℕ, pos, List, [], ◌∷◌, ◌++◌, map, drop, false, IsTrue, Ok, Err, Result, refl, sym, ap, ap₂, subst, subst₂, ◌∙◌, arith, if◌then◌else◌}
 use Rattle.std.specs.List.{AllByRecursion}
 use Rattle.std.specs.List.Sorted.{IsPermutation}
 use Rattle.std.proofs.lemmas.List.Sorted.{IsPermutation-refl}
@@ -9,7 +9,8 @@ use Rattle.sqlite.specs.Edit.{with_rowid}
 use Rattle.sqlite.specs.Rowids.TheVariants.{Chosen}
 use Rattle.sqlite.specs.View.{doubt}
 use Rattle.sqlite.specs.Effect.{Database}
-use Rattle.sqlite.specs.State.{State, HasCleanDisk, Executes}
+use Rattle.sqlite.specs.State.{State, HasCleanDisk, Executes, KeepsCommit, Shows}
+use Rattle.sqlite.specs.declared.error.Error.{Error}
 use Rattle.std.specs.Bool.{MatchBool}
 use Rattle.sqlite.specs.Order.{Row}
 use Rattle.sqlite.specs.Rows.{Outcome}
@@ -17,16 +18,16 @@ use Rattle.sqlite.specs.Does.{lacks_sequence, MakesTable, sequence_text}
 use Rattle.sqlite.specs.Compile.{table_defined_by}
 use Rattle.sqlite.specs.Command.TheVariants.{CreateTable}
 use Rattle.sqlite.proofs.Callers.{runs_as}
+use Rattle.sqlite.proofs.InsideLemmas.{fails_whole, unchanged_keeps}
 use Rattle.sqlite_schema.specs.declared.schema.Table.{Table}
 use Rattle.sqlite_schema.specs.declared.schema.Schema.{Schema}
 use Rattle.sqlite_catalog.specs.Change.{created, next_tree, KeepsRows}
 use Rattle.fax_tables.specs.declared.schema.TheConstants.{INSERT_META}
 use Rattle.fax_core.specs.Queue.{empty_queue}
 use Rattle.fax_tables.specs.Schema as schema
-use Rattle.sqlite.specs.Steps.{IsEmpty}
 use Rattle.fax_tables.specs.Schema.{no_tables, six_tables, meta_tree}
 use Rattle.fax_tables.specs.Row.{meta_row}
-use Rattle.fax_tables.specs.Tables.{IsAtRest, HasEmptyTables}
+use Rattle.fax_tables.specs.Tables.{GoesOn, HasEmptyTables, TablesMean}
 use Rattle.fax_tables.specs.Tables.{IsByRowid}
 use Rattle.fax_tables.proofs.CreateTexts.{Makes}
 use Rattle.fax_tables.proofs.CompareLemmas.{same_row, cast_int, cast_null}
@@ -48,9 +49,29 @@ one_more : (tables : List Table) (new : Trees) (t : Table) → new t.tree ≡ []
 one_more [] new t own all = (own, tt)
 one_more (x ∷ xs) new t own all = (all.0, one_more xs new t own all.1)
 
+-- a transaction that goes on commits nothing
+pub goes_on : (a b c : State) → GoesOn a b → GoesOn b c → GoesOn a c
+goes_on a b c first next = record { was_open = first.was_open; is_open = next.is_open; now_is = refl; committed_is = next.committed_is ∙ first.committed_is; mode = next.mode }
+
+pub commit_kept : (a b c : State) → GoesOn a b → KeepsCommit b c → KeepsCommit a c
+commit_kept a b c first next = record { was_open = λ _. first.was_open; committed = λ is_open. next.committed is_open ∙ first.committed_is }
+
+-- and what a refused statement leaves is committed still
+pub refused_keeps : (old new : State) (sql : List ℕ) (e : Error) → Executes sql [] old new (Err e) → KeepsCommit old new
+refused_keeps old new sql e h = unchanged_keeps old new (fails_whole old new false sql [] e h)
+
+inside_shown : (old new : State) (now : Database) → IsTrue old.in_transaction → Shows old new now (if old.in_transaction then old.committed else new.now) old.in_transaction → GoesOn old new
+inside_shown old new now inside h = record {
+  was_open = h.was_open;
+  is_open = h.is_open;
+  now_is = refl;
+  committed_is = h.committed_is ∙ ap (λ b. if b then old.committed else new.now) inside;
+  mode = h.mode ∙ inside;
+}
+
 -- one more table, with no rows
 pub made : (old new : State) (before after : Schema) (sql : List ℕ) (table : Table) (count : ℕ) → Makes before sql table → created before table ≡ after → lacks_sequence after ≡ false
-    → Executes sql [] old new (Ok count) → HasEmptyTables before old → HasEmptyTables after new
+    → Executes sql [] old new (Ok count) → HasEmptyTables before old → GoesOn old new × HasEmptyTables after new
 made old new before after sql table count makes is none h was =
     let ran = runs_as sql [] old new before was.schema_is CreateTable makes.command makes.plain count h in
     let on = went ran.changed in
@@ -63,20 +84,20 @@ made old new before after sql table count makes is none h was =
     let made_is : new.now ≡ it.0 = now ∙ rest in
     let fresh : new.now.trees (next_tree before) ≡ [] = ap (λ d. d.trees (next_tree before)) made_is ∙ ap it.0.trees (ap next_tree (sym was.schema_is)) ∙ it.1.empty in
     let kept : KeepsRows before.tables old.now.trees new.now.trees = subst₂ (λ ts d. KeepsRows ts old.now.trees d.trees) (ap (λ s. s.tables) was.schema_is) (sym made_is) it.1.others in
-    let all = one_more before.tables new.now.trees (record table { tree = next_tree before }) fresh (still_empty before.tables old.now.trees new.now.trees kept was.empty) in
-    let mode = ran.shown.mode ∙ was.autocommit in
-    record {
-      autocommit = mode;
-      settled = ran.shown.now_is ∙ sym (ran.shown.committed_is ∙ ap (λ b. if b then old.committed else new.now) was.autocommit);
-      schema_is = ap (λ d. d.schema) made_is ∙ schema_is;
-      empty = subst (λ s. AllByRecursion (λ t. new.now.trees t.tree ≡ []) s.tables) is all;
-    }
+    let all = one_more before.tables new.now.trees (record table { tree = next_tree before }) fresh (still_empty before.tables old.now.trees new.now.trees kept was.empty) in (
+      inside_shown old new _ was.inside ran.shown,
+      record {
+        inside = ran.shown.mode ∙ was.inside;
+        schema_is = ap (λ d. d.schema) made_is ∙ schema_is;
+        empty = subst (λ s. AllByRecursion (λ t. new.now.trees t.tree ≡ []) s.tables) is all;
+      },
+    )
 
 stored_meta : cast_row schema.meta (meta_row empty_queue) ≡ meta_row empty_queue
 stored_meta = same_row (cast_int (pos 1)) (same_row cast_null (same_row (cast_int (pos 0)) (same_row (cast_int (pos 1)) (same_row (cast_int (pos 1)) (same_row (cast_int (pos 1)) refl)))))
 
 -- the one row of meta makes the empty store of empty tables
-pub filled : (old new : State) (count : ℕ) → Executes INSERT_META.now [] old new (Ok count) → HasEmptyTables six_tables old → IsAtRest new empty_queue []
+pub filled : (old new : State) (count : ℕ) → Executes INSERT_META.now [] old new (Ok count) → HasEmptyTables six_tables old → GoesOn old new × TablesMean new.now empty_queue []
 filled old new count h was =
     let ran = runs_as INSERT_META.now [] old new six_tables was.schema_is _ insert_meta.is insert_meta.plain count h in
     let done = inserts six_tables unreferred schema.meta.name 10 schema.meta.columns schema.meta.key schema.meta.primary schema.meta.uniques schema.meta.orders schema.meta.checks 5 refl old new was.schema_is [] _ count
@@ -86,11 +107,9 @@ filled old new count h was =
     let grants = others.1.0 (λ e. absurd (omega arith)) ∙ was.empty.1.0 in
     let holds = others.1.1.0 (λ e. absurd (omega arith)) ∙ was.empty.1.1.0 in
     let down = others.1.1.1.0 (λ e. absurd (omega arith)) ∙ was.empty.1.1.1.0 in
-    let replies = others.1.1.1.1.0 (λ e. absurd (omega arith)) ∙ was.empty.1.1.1.1.0 in
-    record {
-      autocommit = done.keeps.shown.mode ∙ was.autocommit;
-      settled = done.keeps.shown.now_is ∙ sym (done.keeps.shown.committed_is ∙ ap (λ b. if b then old.committed else new.now) was.autocommit);
-      means = record {
+    let replies = others.1.1.1.1.0 (λ e. absurd (omega arith)) ∙ was.empty.1.1.1.1.0 in (
+      inside_shown old new _ was.inside done.keeps.shown,
+      record {
         schema = done.keeps.schema_is;
         sound = done.keeps.sound;
         jobs = jobs;
@@ -107,12 +126,12 @@ filled old new count h was =
           replies = λ i d low. absurd (omega arith);
           meta = record { clock = omega arith; next_job = (omega arith, omega arith); next_grant = (omega arith, omega arith) };
         };
-      };
-    }
+      },
+    )
   where
     rows_none : (rows : List Row) → rows ≡ [] → IsByRowid rows
     rows_none rows none = subst IsByRowid (sym none) (record { rise = tt; integers = tt })
 
--- a new database has no tables
-pub empty_at_first : (s : State) → IsEmpty s → HasEmptyTables no_tables s
-empty_at_first s h = record { autocommit = h.0.autocommit; settled = h.0.clean; schema_is = h.2; empty = tt }
+-- a database with no tables has none with rows
+pub none_at_first : (s : State) → IsTrue s.in_transaction → s.now.schema ≡ no_tables → HasEmptyTables no_tables s
+none_at_first s inside none = record { inside = inside; schema_is = none; empty = tt }

@@ -19,3 +19,4 @@ pub mod StandLemmas
 pub mod CreateTexts
 pub mod CreateLemmas
 pub mod Rows
+pub mod ShapeLemmas

@@ -1,4 +1,5 @@
 pub mod Schema
+pub mod Shape
 pub mod Fault
 pub mod Row
 pub mod Job

@@ -1,12 +1,12 @@
 -- What a database with the six tables means.
-use Rattle.std.specs.Prelude.{◌≡◌, ◌⊎◌, ℕ, ◌+◌, ◌≤◌, ◌<◌, ◌^◌, false, List, [], ◌∷◌, All, map, drop, IsTrue}
+use Rattle.std.specs.Prelude.{◌≡◌, ◌⊎◌, ℕ, ◌+◌, ◌≤◌, ◌<◌, ◌^◌, true, false, List, [], ◌∷◌, All, map, drop, IsTrue}
 use Rattle.std.specs.List.{AllByRecursion}
 use Rattle.std.specs.List.Sorted.{IsPermutation}
 use Rattle.sqlite.specs.Order.{Row}
 use Rattle.sqlite.specs.Tree.{rowid, IsTable}
 use Rattle.sqlite.specs.View.{is_int}
 use Rattle.sqlite.specs.Effect.{Database, IsDatabase}
-use Rattle.sqlite.specs.State.{State}
+use Rattle.sqlite.specs.State.{State, Shows}
 use Rattle.sqlite_schema.specs.declared.schema.Schema.{Schema}
 use Rattle.fax_core.specs.Job.{fields_of}
 use Rattle.fax_core.specs.Queue.{Queue, Entry, open_grants}
@@ -77,9 +77,12 @@ pub record IsAtRest (s : State) (m : Queue) (k : List Entry) : Type 0 where
   pub settled : s.now ≡ s.committed
   pub means : TablesMean s.now m k
 
--- no work is under way, and the tables are these, with no rows
+-- a transaction goes on
+abbrev pub GoesOn : State → State → Type 0
+GoesOn old new = Shows old new new.now old.committed true
+
+-- a transaction is under way, and the tables are these, with no rows
 pub record HasEmptyTables (schema : Schema) (s : State) : Type 0 where
-  pub autocommit : s.in_transaction ≡ false
-  pub settled : s.now ≡ s.committed
+  pub inside : IsTrue s.in_transaction
   pub schema_is : s.now.schema ≡ schema
   pub empty : AllByRecursion (λ t. s.now.trees t.tree ≡ []) schema.tables

@@ -7,13 +7,16 @@ mod fault;
 mod grants;
 mod jobs;
 mod meta;
+mod recognize;
 mod replies;
 mod row;
 mod schema;
+mod shape;
 
 pub use fault::{StoreFault, insert_fault};
 pub use grants::{Hold, call_number, grant_in, is_open_grant};
 pub use jobs::{job_in, jobs_in, killtime_number, phase_number, spelling, wish_number};
-pub use meta::{Meta, PAST_GRANTS, PAST_JOBS};
+pub use meta::{Meta, PAST_GRANTS, PAST_JOBS, is_version};
+pub use recognize::{has_no_tables, has_six_tables};
 pub use replies::{Kept, is_kept_status, number_value};
 pub use schema::create_tables;

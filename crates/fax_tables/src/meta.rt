@@ -1,8 +1,9 @@
 //! The clock and the next numbers in their row.
 
-ghost use Rattle.std.specs.Prelude.{◌≡◌, IfOk};
+ghost use Rattle.std.specs.Prelude.{◌≡◌, ◌↔◌, [], ◌∷◌, IfOk, IsTrue};
 ghost use Rattle.fax_core.specs.Queue.{Queue};
 ghost use Rattle.fax_tables.specs.Fault.{OrUnavailable};
+ghost use Rattle.fax_tables.specs.Row.{number};
 ghost use Rattle.fax_tables.specs.Tables.{IsLawfulMeta};
 
 use crate::fault::StoreFault;
@@ -10,6 +11,7 @@ use crate::row::{moment_at, number_at};
 use fax_job::Moment;
 use fax_job::limits::{LAST_GRANT, LAST_JOB};
 use sqlite::Row;
+use sqlite::types::ValueRef;
 
 /// One above the number of the last job that there can be.
 pub const PAST_JOBS: u32 = LAST_JOB + 1;
@@ -50,4 +52,14 @@ impl Meta {
             Err(StoreFault::Strange)
         }
     }
+}
+
+/// Whether a query for the version showed one row, of version 1.
+pub fn is_version(rows: &[Row]) -> bool
+    ensures { IsTrue result ↔ (rows.now ≡ (number 1 ∷ []) ∷ []) }
+{
+    let [row] = rows else {
+        return false;
+    };
+    row.column_count() == 1 && matches!(row.get_ref(0), Ok(ValueRef::Int(1)))
 }

@@ -1,12 +1,12 @@
 //! The six tables.
 
-ghost use Rattle.std.specs.Prelude.{[], ◌≤◌, OnOk};
+ghost use Rattle.std.specs.Prelude.{[], ◌≤◌, OnErr, OnOk};
 ghost use Rattle.sqlite.specs.Held.{state};
 ghost use Rattle.sqlite.specs.View.{doubt};
-ghost use Rattle.sqlite.specs.State.{HasCleanDisk};
+ghost use Rattle.sqlite.specs.State.{HasCleanDisk, KeepsCommit};
 ghost use Rattle.fax_core.specs.Queue.{empty_queue};
 ghost use Rattle.fax_tables.specs.Schema.{no_tables, four_tables};
-ghost use Rattle.fax_tables.specs.Tables.{IsAtRest, HasEmptyTables};
+ghost use Rattle.fax_tables.specs.Tables.{GoesOn, HasEmptyTables, TablesMean};
 
 use sqlite::{Alter, Connection, Error};
 
@@ -39,10 +39,15 @@ const CREATE_META: &str = "CREATE TABLE meta (one INTEGER PRIMARY KEY NOT NULL, 
 const INSERT_META: &str =
     "INSERT INTO meta (one, clock, next_job, next_grant, version) VALUES (1, 0, 1, 1, 1)";
 
-/// Makes the six tables in a database without any, with no rows but the one of meta.
+/// Makes the six tables in a database without any, with no rows but the one of meta. Inside a
+/// transaction nothing is committed.
 pub fn create_tables<S: Alter>(conn: &mut Connection<S>) -> Result<(), Error>
-    ensures { HasCleanDisk (state S.Store conn.new) → OnOk result (HasEmptyTables no_tables (state S.Store conn.old)
-        → IsAtRest (state S.Store conn.new) empty_queue []) }
+    ensures made { HasCleanDisk (state S.Store conn.new) → OnOk result
+        (HasEmptyTables no_tables (state S.Store conn.old) → GoesOn (state S.Store conn.old) (state S.Store conn.new)
+        × TablesMean (state S.Store conn.new).now empty_queue []) }
+    ensures kept { HasCleanDisk (state S.Store conn.new) → OnErr result
+        (HasEmptyTables no_tables (state S.Store conn.old) → KeepsCommit (state S.Store conn.old) (state S.Store conn.new)) }
+    ensures doubt { doubt (state S.Store conn.old).is_clean ≤ doubt (state S.Store conn.new).is_clean }
 {
     create_work_tables(conn)?;
     create_kept_tables(conn)
@@ -50,8 +55,12 @@ pub fn create_tables<S: Alter>(conn: &mut Connection<S>) -> Result<(), Error>
 
 /// Makes the tables of jobs, grants, holds and modems down.
 fn create_work_tables<S: Alter>(conn: &mut Connection<S>) -> Result<(), Error>
-    ensures { HasCleanDisk (state S.Store conn.new) → OnOk result (HasEmptyTables no_tables (state S.Store conn.old)
-        → HasEmptyTables four_tables (state S.Store conn.new)) }
+    ensures made { HasCleanDisk (state S.Store conn.new) → OnOk result
+        (HasEmptyTables no_tables (state S.Store conn.old) → GoesOn (state S.Store conn.old) (state S.Store conn.new)
+        × HasEmptyTables four_tables (state S.Store conn.new)) }
+    ensures kept { HasCleanDisk (state S.Store conn.new) → OnErr result
+        (HasEmptyTables no_tables (state S.Store conn.old) → KeepsCommit (state S.Store conn.old) (state S.Store conn.new)) }
+    ensures doubt { doubt (state S.Store conn.old).is_clean ≤ doubt (state S.Store conn.new).is_clean }
 {
     conn.execute(CREATE_JOBS, &[])?;
     conn.execute(CREATE_GRANTS, &[])?;
@@ -62,8 +71,11 @@ fn create_work_tables<S: Alter>(conn: &mut Connection<S>) -> Result<(), Error>
 
 /// Makes the tables of replies and of the clock and next numbers, with the row of the latter.
 fn create_kept_tables<S: Alter>(conn: &mut Connection<S>) -> Result<(), Error>
-    ensures made { HasCleanDisk (state S.Store conn.new) → OnOk result (HasEmptyTables four_tables (state S.Store conn.old)
-        → IsAtRest (state S.Store conn.new) empty_queue []) }
+    ensures made { HasCleanDisk (state S.Store conn.new) → OnOk result
+        (HasEmptyTables four_tables (state S.Store conn.old) → GoesOn (state S.Store conn.old) (state S.Store conn.new)
+        × TablesMean (state S.Store conn.new).now empty_queue []) }
+    ensures kept { HasCleanDisk (state S.Store conn.new) → OnErr result
+        (HasEmptyTables four_tables (state S.Store conn.old) → KeepsCommit (state S.Store conn.old) (state S.Store conn.new)) }
     ensures doubt { doubt (state S.Store conn.old).is_clean ≤ doubt (state S.Store conn.new).is_clean }
 {
     conn.execute(CREATE_REPLIES, &[])?;

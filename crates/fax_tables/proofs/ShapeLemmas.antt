@@ -1,0 +1,28 @@
+-- Lists that are compared element by element.
+use Rattle.std.proofs.Common.{◌≡◌, ℕ, zero, suc, ◌<◌, List, [], ◌∷◌, length, get_or, map, Some, Option, refl, ap, ap₂, ◌∙◌, arith}
+use Rattle.std.specs.List.{slice_get}
+
+same_head : {X : Type 0} {x y : X} → ◌≡◌ {A = Option X} (Some x) (Some y) → x ≡ y
+same_head e = cc
+
+-- lists of one length are the same where each of their elements is
+pub same_each : {A B : Type 0} (f : A → B) (xs : List B) (ns : List A) → length xs ≡ length ns → ((k : ℕ) → k < length xs → slice_get xs k ≡ slice_get (map f ns) k) → xs ≡ map f ns
+same_each f [] [] long each = refl
+same_each f [] (n ∷ ns) long each = absurd (omega arith)
+same_each f (x ∷ xs) [] long each = absurd (omega arith)
+same_each f (x ∷ xs) (n ∷ ns) long each = ap₂ (λ h t. h ∷ t) (same_head (each 0 (omega arith))) (same_each f xs ns (omega arith) (λ k low. each (suc k) (omega arith)))
+
+-- and so are those whose elements are all this one
+pub all_alike : {A B : Type 0} (d : B) (xs : List B) (ns : List A) → length xs ≡ length ns → ((k : ℕ) → k < length xs → get_or xs k d ≡ d) → xs ≡ map (λ _. d) ns
+all_alike d [] [] long each = refl
+all_alike d [] (n ∷ ns) long each = absurd (omega arith)
+all_alike d (x ∷ xs) [] long each = absurd (omega arith)
+all_alike d (x ∷ xs) (n ∷ ns) long each = ap₂ (λ h t. h ∷ t) (each 0 (omega arith)) (all_alike d xs ns (omega arith) (λ k low. each (suc k) (omega arith)))
+
+pub each_alike : {A B : Type 0} (d : B) (xs : List B) (ns : List A) (i : ℕ) → xs ≡ map (λ _. d) ns → get_or xs i d ≡ d
+each_alike d xs ns i same = ap (λ ys. get_or ys i d) same ∙ of_all ns i
+  where
+    of_all : {A : Type 0} (ns : List A) (i : ℕ) → get_or (map (λ _. d) ns) i d ≡ d
+    of_all [] i = refl
+    of_all (n ∷ ns) zero = refl
+    of_all (n ∷ ns) (suc i) = of_all ns i

@@ -1,0 +1,158 @@
+//! The shapes of the six tables.
+
+use sqlite_schema::schema::Kind;
+use sqlite_value::keys::Order;
+
+/// What a table has beside its checks.
+pub(crate) struct Shape {
+    pub(crate) name: &'static str,
+    pub(crate) tree: u32,
+    pub(crate) columns: &'static [(&'static str, Kind)],
+    pub(crate) key: Option<usize>,
+    pub(crate) primary: &'static [usize],
+    pub(crate) uniques: &'static [&'static [usize]],
+}
+
+/// Each column ascends by its bytes.
+pub(crate) const PLAIN: Order = Order { digits: 0 };
+
+pub(crate) const JOBS: Shape = Shape {
+    name: "jobs",
+    tree: 0,
+    columns: &[
+        ("job", Kind::Integer),
+        ("dial", Kind::Text),
+        ("modem", Kind::Text),
+        ("jobtag", Kind::Text),
+        ("status", Kind::Text),
+        ("extra", Kind::Text),
+        ("tts", Kind::Integer),
+        ("killtime", Kind::Integer),
+        ("priority", Kind::Integer),
+        ("npages", Kind::Integer),
+        ("totpages", Kind::Integer),
+        ("ntries", Kind::Integer),
+        ("tottries", Kind::Integer),
+        ("maxtries", Kind::Integer),
+        ("ndials", Kind::Integer),
+        ("totdials", Kind::Integer),
+        ("maxdials", Kind::Integer),
+        ("phase", Kind::Integer),
+        ("wish", Kind::Integer),
+        ("next", Kind::Integer),
+    ],
+    key: Some(0),
+    primary: &[0],
+    uniques: &[],
+};
+
+pub(crate) const GRANTS: Shape = Shape {
+    name: "grants",
+    tree: 1,
+    columns: &[
+        ("id", Kind::Integer),
+        ("job", Kind::Integer),
+        ("modem", Kind::Text),
+        ("first_page", Kind::Integer),
+        ("last_page", Kind::Integer),
+        ("call", Kind::Integer),
+        ("pages", Kind::Integer),
+        ("shut", Kind::Integer),
+    ],
+    key: Some(0),
+    primary: &[0],
+    uniques: &[],
+};
+
+pub(crate) const HOLDS: Shape = Shape {
+    name: "holds",
+    tree: 2,
+    columns: &[
+        ("modem", Kind::Text),
+        ("job", Kind::Integer),
+        ("id", Kind::Integer),
+    ],
+    key: None,
+    primary: &[1],
+    uniques: &[&[1], &[2], &[3]],
+};
+
+pub(crate) const DOWN: Shape = Shape {
+    name: "down",
+    tree: 6,
+    columns: &[("modem", Kind::Text)],
+    key: None,
+    primary: &[1],
+    uniques: &[&[1]],
+};
+
+pub(crate) const REPLIES: Shape = Shape {
+    name: "replies",
+    tree: 8,
+    columns: &[
+        ("client", Kind::Text),
+        ("number", Kind::Integer),
+        ("said", Kind::Blob),
+        ("status", Kind::Integer),
+        ("body", Kind::Blob),
+    ],
+    key: None,
+    primary: &[1, 2],
+    uniques: &[&[1, 2]],
+};
+
+pub(crate) const META: Shape = Shape {
+    name: "meta",
+    tree: 10,
+    columns: &[
+        ("one", Kind::Integer),
+        ("clock", Kind::Integer),
+        ("next_job", Kind::Integer),
+        ("next_grant", Kind::Integer),
+        ("version", Kind::Integer),
+    ],
+    key: Some(0),
+    primary: &[0],
+    uniques: &[],
+};
+
+/// The index that a key of a table has.
+pub(crate) struct KeyIndex {
+    pub(crate) name: &'static str,
+    pub(crate) tree: u32,
+    pub(crate) table: u32,
+    pub(crate) places: &'static [usize],
+}
+
+pub(crate) const INDEXES: &[KeyIndex] = &[
+    KeyIndex {
+        name: "sqlite_autoindex_holds_1",
+        tree: 3,
+        table: 2,
+        places: &[1],
+    },
+    KeyIndex {
+        name: "sqlite_autoindex_holds_2",
+        tree: 4,
+        table: 2,
+        places: &[2],
+    },
+    KeyIndex {
+        name: "sqlite_autoindex_holds_3",
+        tree: 5,
+        table: 2,
+        places: &[3],
+    },
+    KeyIndex {
+        name: "sqlite_autoindex_down_1",
+        tree: 7,
+        table: 6,
+        places: &[1],
+    },
+    KeyIndex {
+        name: "sqlite_autoindex_replies_1",
+        tree: 9,
+        table: 8,
+        places: &[1, 2],
+    },
+];
