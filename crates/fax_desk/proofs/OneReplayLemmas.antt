@@ -103,7 +103,9 @@ one_run s last m k (turn ∷ turns) (turn₂ ∷ turns₂) held other sound here
     ap (λ t. t ∷ turns) (same_turn turn turn₂ head body left.replies) ∙ ap (λ ts. turn₂ ∷ ts) rest
 
 pub one_replay : OneReplay
-one_replay office other input turns others settings r q a b none more =
-    one_run (settings_in other) 0 empty_queue [] turns others a.held b.held empty_sound (λ _. a.empty) (λ _. b.empty)
-    (one_division input turns others r q) none more
-    (subst (λ s. AreHandled s 0 a.held turns) settings a.handled) b.handled
+one_replay office other bound input turns others stop another settings r q a b none more =
+    let one = one_division bound input turns others stop another r q in (
+      one_run (settings_in other) 0 empty_queue [] turns others a.held b.held empty_sound (λ _. a.empty) (λ _. b.empty)
+          one.0 none more (subst (λ s. AreHandled s 0 a.held turns) settings a.handled) b.handled,
+      one.1,
+    )

@@ -1,18 +1,19 @@
 -- What a served input shows.
-use Rattle.std.proofs.Common.{◌≡◌, ◌∙◌, ℕ, List, [], ◌∷◌, Option, subst, inl, inr}
+use Rattle.std.proofs.Common.{◌≡◌, ◌∙◌, ℕ, List, [], ◌∷◌, Option, subst, inl}
 use Rattle.sqlite.specs.Held.{Held, state}
 use Rattle.sqlite.specs.Steps.{over_memory}
 use Rattle.sqlite_trees.specs.declared.memory.MemStore.{MemStore}
 use Rattle.fax_core.specs.Settings.{Settings}
 use Rattle.httparse.specs.Grammar.{RequestHead}
 use Rattle.fax_ask.specs.Response.{Response}
-use Rattle.fax_http.specs.declared.conversation.Served.{Served}
+use Rattle.fax_http.specs.declared.device.Watched.{Watched}
+use Rattle.fax_http.specs.declared.serving.Served.{Served}
 use Rattle.fax_http.specs.Clock.{moment_said}
-use Rattle.fax_http.specs.Conversation.{Answering, Answers, Turn}
+use Rattle.fax_http.specs.Conversation.{Turn}
 use Rattle.fax_desk.specs.Desk.{HandlesAt, IsHandled}
 use Rattle.fax_decide.specs.declared.office.Office.{Office}
 use Rattle.fax_desk.specs.Replaying.{AreHandled, AreOfEmptyQueue, IsReplayed, moment_of}
-use Rattle.fax_http.specs.Serving.{AnswersInput}
+use Rattle.fax_http.specs.Serving.{Answering, Answers, Serves}
 
 -- each answer is an arrival that is handled, so all of them are
 pub handled_of : {H : Type 0} (answers : Answering H) (old : H) (turns : List Turn) (new : H) → Answers answers old turns new
@@ -29,16 +30,18 @@ handled_of answers old (turn ∷ turns) new (next, here, behind) settings last h
       subst (λ t. AreHandled (settings old) t (held next) turns) when (subst (λ s. AreHandled s (last next) (held next) turns) it.0 (handled_of answers next turns new behind settings last held each)),
     )
 
-pub replayed_of : {H : Type 0} (answers : Answering H) (office : Office) (unread read : Option (List ℕ)) (old new : H) (before after : Option (List ℕ)) (served : Served)
+pub replayed_of : {R W H : Type 0} (remaining : R → Option (List ℕ)) (contents : W → Option (List ℕ)) (answers : Answering H) (office : Office)
+    (reader reader₂ : Watched R) (out out₂ : Watched W) (old new : H) (served : Served)
     → ((turns : List Turn) → Answers answers old turns new → AreOfEmptyQueue office turns)
-    → AnswersInput answers 1000 unread read old new before after served → IsReplayed office unread read before after served.end
-replayed_of answers office unread read old new before after served replies (inl (input, whole, c)) = inl (record {
-  input = input;
-  turns = c.turns;
-  rest = c.rest;
-  whole = whole;
-  messages = c.reads;
-  replies = replies c.turns c.answered;
-  ends = c.ends;
+    → Serves remaining contents answers 1000 reader reader₂ out out₂ old new served
+    → IsReplayed remaining contents reader reader₂ out out₂ office served.end
+replayed_of remaining contents answers office reader reader₂ out out₂ old new served replies s = inl (record {
+  taken = s.taken;
+  turns = s.turns;
+  rest = s.rest;
+  took = s.took;
+  reads = s.reads;
+  within = s.within;
+  replies = replies s.turns s.answered;
+  ends = s.ends;
 })
-replayed_of answers office unread read old new before after served replies (inr (gone, unanswered)) = inr (gone, unanswered.unwritten)

@@ -1,5 +1,5 @@
 -- What a replay did.
-use Rattle.std.specs.Prelude.{◌≡◌, ◌⊎◌, ℕ, List, [], ◌∷◌, length, Option, codes, ⊤}
+use Rattle.std.specs.Prelude.{◌≡◌, ◌⊎◌, ℕ, ◌≤◌, List, [], ◌∷◌, length, Option, codes, ⊤}
 use Rattle.sqlite.specs.Held.{Held, state}
 use Rattle.sqlite.specs.Steps.{over_memory}
 use Rattle.sqlite_trees.specs.declared.memory.MemStore.{MemStore}
@@ -9,11 +9,14 @@ use Rattle.fax_decide.specs.Settings.{settings_of}
 use Rattle.fax_decide.specs.declared.office.Office.{Office}
 use Rattle.fax_tables.specs.Tables.{IsAtRest}
 use Rattle.fax_http.specs.Clock.{moment_said}
-use Rattle.fax_http.specs.declared.conversation.End.{End}
-use Rattle.fax_http.specs.Conversation.{EndsBy, Reads, Turn, spelled_turns}
+use Rattle.fax_http.specs.declared.device.Watched.{Watched}
+use Rattle.fax_http.specs.declared.serving.End.{End}
+use Rattle.fax_http.specs.declared.serving.End.TheVariants.{NoMemory}
+use Rattle.fax_http.specs.Conversation.{Reads, Turn}
+use Rattle.fax_http.specs.Device.{Took}
 use Rattle.fax_desk.specs.Desk.{HandlesAt}
 use Rattle.fax_http.specs.Message.{fields_of, sole, values_of}
-use Rattle.fax_http.specs.Serving.{IsUnread, ReadsWhole}
+use Rattle.fax_http.specs.Serving.{EndsBy, failed_to_read}
 
 -- what a turn's message says of its moment, or else the last moment
 abbrev pub moment_of : ℕ → Turn → ℕ
@@ -37,17 +40,24 @@ pub record AreOfEmptyQueue (office : Office) (turns : List Turn) : Type 0 where
   pub empty : IsAtRest (state over_memory held) empty_queue []
   pub handled : AreHandled (settings_in office) 0 held turns
 
--- The whole input was divided into messages, 1,000 at most, each was answered in turn, and the replies were written in order. That is how it ended.
-pub record IsAnswered (office : Office) (unread read before after : Option (List ℕ)) (end : End) : Type 0 where
-  pub input : List ℕ
-  pub turns : List Turn
-  pub rest : List ℕ
-  pub whole : ReadsWhole unread read input
-  pub messages : Reads input turns rest
-  pub replies : AreOfEmptyQueue office turns
-  pub ends : EndsBy 1000 (length turns) rest (spelled_turns turns) before after end
+module _ {R W : Type 0} (remaining : R → Option (List ℕ)) (contents : W → Option (List ℕ)) (reader reader₂ : Watched R) (out out₂ : Watched W) where
+  -- The bytes that were read are messages, 1,000 at most, and a rest. Each message was answered in turn from the empty queue on, and the replies were written. That is how it ended.
+  pub record IsAnswered (office : Office) (end : End) : Type 0 where
+    pub taken : List ℕ
+    pub turns : List Turn
+    pub rest : List ℕ
+    pub took : Took remaining reader reader₂ taken (failed_to_read end)
+    pub reads : Reads taken turns rest
+    pub within : length turns ≤ 1000
+    pub replies : AreOfEmptyQueue office turns
+    pub ends : EndsBy contents out out₂ 1000 turns rest (remaining reader₂.device) end
 
--- the input was answered by that office, or none of it was, and nothing was written
-abbrev pub IsReplayed : Office → Option (List ℕ) → Option (List ℕ) → Option (List ℕ) → Option (List ℕ) → End → Type 0
-IsReplayed office unread read before after end =
-    IsAnswered office unread read before after end ⊎ (IsUnread unread read end × (after ≡ before))
+  -- there was no memory for the tables, and nothing was read or written
+  pub record HasNoQueue (end : End) : Type 0 where
+    pub ends : end ≡ NoMemory
+    pub unread : reader₂ ≡ reader
+    pub unwritten : out₂ ≡ out
+
+  -- the input was answered by that office, or there was no memory for it
+  abbrev pub IsReplayed : Office → End → Type 0
+  IsReplayed office end = IsAnswered office end ⊎ HasNoQueue end

@@ -5,10 +5,11 @@ ghost use Rattle.sqlite.specs.Held.{state};
 ghost use Rattle.sqlite.specs.Steps.{over_memory};
 ghost use Rattle.fax_core.specs.Queue.{empty_queue as no_records};
 ghost use Rattle.fax_desk.specs.Replaying.{IsReplayed};
+ghost use Rattle.fax_http.specs.Device.{IsFresh};
 ghost use Rattle.fax_tables.specs.Tables.{IsAtRest};
 
 use crate::desk::Desk;
-use fax_http::{Bounds, End, SaidClock, serve};
+use fax_http::{Bounds, End, SaidClock, Watched, serve};
 use fax_once::{Office, Queue};
 use fax_store::{Store, StoreFault};
 use sqlite::MemStore;
@@ -18,11 +19,17 @@ use std::io::{Read, Write};
 /// The most messages of one input.
 const MESSAGE_LIMIT: u32 = 1_000;
 
-/// Reads the whole input, answers its messages by that office from empty tables in memory on, and writes their
-/// replies to `out`. Each message has the moment that it says, or else that of the message before it, 0 at first.
-/// Gives why it ended.
-pub fn replay<R: Read, W: Write>(alloc: Global, office: Office, reader: &mut R, out: &mut W) -> End
-    ensures { IsReplayed office (R.remaining reader.old) (R.remaining reader.new) (W.contents out.old) (W.contents out.new) result }
+/// Reads messages, answers each by that office from empty tables in memory on, and writes their replies to `out`. Each
+/// message has the moment that it says, or else that of the message before it, 0 at first. Gives why it ended.
+pub fn replay<R: Read + Drop, W: Write + Drop>(
+    alloc: Global,
+    office: Office,
+    reader: &mut Watched<R>,
+    out: &mut Watched<W>,
+) -> End
+    requires reading { IsFresh reader.old }
+    requires writing { IsFresh out.old }
+    ensures { IsReplayed R.remaining W.contents reader.old reader.new out.old out.new office result }
 {
     let Ok(queue) = empty_queue(alloc, office) else {
         return End::NoMemory;

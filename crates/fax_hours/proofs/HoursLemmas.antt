@@ -3,16 +3,16 @@ use Rattle.std.proofs.Math.Bool.{or_assoc, or-false, and-true, and-false}
 use Rattle.std.specs.Int.{bit_at}
 use Rattle.std.specs.Int.Bits.{bit_or}
 use Rattle.std.proofs.lemmas.Bool.{cases_Bool}
-use Rattle.std.proofs.lemmas.List.Splits.{slice_split-cons_no, slice_split_first}
 use Rattle.std.proofs.Common.{◌-◌, take, drop, inl, inr, ◌≤◌, ◌&&◌, ◌≡◌, ℕ, ◌<◌, ◌+◌, List, [], ◌∷◌, Option, Some, None, Result, Ok, Err, Bool, true, false, cond, length, get_or, map, fold, replicate, refl, sym, ap, ◌∙◌, arith, ◌||◌, eqb, max}
 use Rattle.std.proofs.lemmas.Grind.{same_number_lists}
-use Rattle.std.proofs.lemmas.List.{get_or-replicate, length-replicate, take_rest}
+use Rattle.std.proofs.lemmas.List.{get_or-replicate, length-replicate}
 use Rattle.std.proofs.lemmas.List.FromFn.{get_or-map-range_with_len, length-map-range_with_len}
 use Rattle.std.proofs.lemmas.Nat.Bits.{bit_at_or, bit_at-zero, bit_at-lt, bit_at_ones}
-use Rattle.std.specs.List.{range_with_len, list_any, slice_split, onto_first, position_or_len}
+use Rattle.std.specs.List.{range_with_len, list_any}
+use Rattle.fax_job.specs.Comma.{parts_of, parts_left}
 use Rattle.fax_hours.specs.Item.{item_of, has_day, covers}
 use Rattle.fax_hours.specs.Range.{has_minute}
-use Rattle.fax_hours.specs.Hours.{then_items, items_in, items_of, parts_of, parts_left, names, is_in, with_days, days_at, week_of, week_in, hours_of, IsNamedBy}
+use Rattle.fax_hours.specs.Hours.{then_items, items_in, items_of, names, is_in, with_days, days_at, week_of, week_in, hours_of, IsNamedBy}
 use Rattle.fax_hours.specs.declared.hours.HoursFault.{HoursFault}
 use Rattle.fax_hours.specs.declared.item.Item.{Item}
 
@@ -87,29 +87,6 @@ is_in-week_of items day minute h =
     ap (λ days. has_day days day) (get_or-map-range_with_len (days_at items) 0 1440 minute minute 0 h (omega arith))
     ∙ has_day-fold day minute 0 items
     ∙ ap (λ bit. eqb bit 1 || list_any (covers day minute) items) (bit_at-zero day)
-
--- ---- the parts
-
-whole_yes : (p : ℕ → Bool) (x : ℕ) (xs : List ℕ) → p x ≡ true → length (x ∷ xs) ≤ position_or_len p (x ∷ xs) → ⊥
-whole_yes p x xs passes h = let at : position_or_len p (x ∷ xs) ≡ 0 = rw passes refl in omega arith
-
-whole_no : (p : ℕ → Bool) (x : ℕ) (xs : List ℕ) → p x ≡ false → length (x ∷ xs) ≤ position_or_len p (x ∷ xs) → length xs ≤ position_or_len p xs
-whole_no p x xs fails h = let at : position_or_len p (x ∷ xs) ≡ 1 + position_or_len p xs = rw fails refl in omega arith
-
--- a text without a comma is one part
-pub slice_split_whole : (p : ℕ → Bool) (xs : List ℕ) → length xs ≤ position_or_len p xs → slice_split p xs ≡ xs ∷ []
-slice_split_whole p [] h = refl
-slice_split_whole p (x ∷ xs) h =
-    elim (cases_Bool (p x)) [
-      | inl passes ↦ absurd (whole_yes p x xs passes h)
-      | inr fails ↦ slice_split-cons_no p x xs fails ∙ ap (onto_first x) (slice_split_whole p xs (whole_no p x xs fails h))
-    ]
-
--- the first part ends before the first comma
-pub slice_split_at_first : (p : ℕ → Bool) (xs : List ℕ) (at : ℕ) → at ≡ position_or_len p xs → at < length xs → slice_split p xs ≡ take at xs ∷ slice_split p (take (length xs - (at + 1)) (drop (at + 1) xs))
-slice_split_at_first p xs at e h =
-    let before : position_or_len p xs < length xs = omega arith in
-    slice_split_first p xs 0 before ∙ rw (← e, take_rest xs (at + 1)) refl
 
 -- ---- every hour
 

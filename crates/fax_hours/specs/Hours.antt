@@ -1,7 +1,8 @@
 -- Hours of the week: the items that a text names, and the set of (day, minute) that is their union.
 use Rattle.std.specs.Prelude.{◌≡◌, ℕ, ◌<◌, Bool, ◌==◌, List, [], ◌∷◌, fold, map, replicate, slice_index, Option, Some, None, Result, Ok, Err, if◌then◌else◌}
 use Rattle.std.specs.Int.Bits.{bit_or}
-use Rattle.std.specs.List.{list_any, slice_split, range_with_len}
+use Rattle.std.specs.List.{list_any, range_with_len}
+use Rattle.fax_job.specs.Comma.{parts_of}
 use Rattle.fax_hours.specs.Item.{item_of, covers, has_day}
 use Rattle.fax_hours.specs.Range.{has_minute}
 use Rattle.fax_hours.specs.declared.hours.HoursFault.{HoursFault}
@@ -18,15 +19,6 @@ then_items (Err fault) items = Err fault
 abbrev pub items_in : List (List ℕ) → Result (List Item) HoursFault
 items_in [] = Ok []
 items_in (part ∷ parts) = then_items (item_of part) (items_in parts)
-
--- what stands between the commas
-abbrev pub parts_of : List ℕ → List (List ℕ)
-parts_of text = slice_split (λ byte. byte == 44) text
-
--- the same of what may be left of a text
-abbrev pub parts_left : Option (List ℕ) → List (List ℕ)
-parts_left None = []
-parts_left (Some text) = parts_of text
 
 unfoldable pub items_of : List ℕ → Result (List Item) HoursFault
 items_of text = items_in (parts_of text)

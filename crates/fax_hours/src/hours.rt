@@ -1,11 +1,10 @@
 //! Hours of the week.
 
-ghost use Rattle.std.specs.Prelude.{◌≡◌, ◌∷◌, ◌<◌, ◌≤◌, ◌==◌, ℕ, List, true, IfOk, MatchOption, length, slice_index, replicate};
-ghost use Rattle.std.specs.List.{position_or_len};
-ghost use Rattle.std.specs.Option.{option_copied};
-ghost use Rattle.fax_hours.specs.Hours.{parts_of, parts_left, IsNamedBy, hours_of, every_hour, with_days, is_in};
+ghost use Rattle.std.specs.Prelude.{◌≡◌, ◌<◌, ℕ, List, true, IfOk, length, slice_index, replicate};
+ghost use Rattle.fax_hours.specs.Hours.{IsNamedBy, hours_of, every_hour, with_days, is_in};
 
 use crate::item::{Item, item_of};
+use fax_job::at_comma;
 use std::marker::Model;
 use thiserror::Error;
 
@@ -96,31 +95,4 @@ impl Hours {
             }
         }
     }
-}
-
-/// What stands before the first comma, and what stands behind it.
-fn at_comma(text: &[u8]) -> (&[u8], Option<&[u8]>)
-    ensures parts { parts_of text.now ≡ result.0.now ∷ parts_left (option_copied result.1) }
-    ensures shorter { MatchOption result.1 (length text.now ≡ length text.now) (λ after. length after.now < length text.now) }
-{
-    let at = comma_at(text);
-    if at < text.len() {
-        (&text[..at], Some(&text[at + 1..]))
-    } else {
-        (text, None)
-    }
-}
-
-/// The place of the first comma, else the text's length.
-fn comma_at(text: &[u8]) -> usize
-    ensures place { result ≡ position_or_len (λ byte. byte == 44) text.now }
-    ensures bound { result ≤ length text.now }
-{
-    let mut rest = text;
-    while let [byte, after @ ..] = rest
-        && *byte != b','
-    {
-        rest = after;
-    }
-    text.len() - rest.len()
 }

@@ -2,12 +2,11 @@
 
 ghost use Rattle.std.specs.Prelude.{◌≡◌};
 ghost use Rattle.fax_hours.specs.Item.{item_of, letter_count, range_or_all};
-ghost use Rattle.fax_job.specs.Blank.{without_blanks, before_blanks};
 
 use crate::days::days_of;
 use crate::hours::HoursFault;
 use crate::range::{Range, range_of};
-use fax_job::is_blank;
+use fax_job::trimmed;
 
 /// Days, with bit d for day d, and the minutes on each of them.
 #[derive(Clone, Copy, Debug)]
@@ -21,7 +20,7 @@ pub(crate) struct Item {
 pub(crate) fn item_of(text: &[u8]) -> Result<Item, HoursFault>
     ensures { result ≡ item_of text.now }
 {
-    let text = before_blanks(without_blanks(text));
+    let text = trimmed(text);
     if text.is_empty() {
         return Err(HoursFault::Empty);
     }
@@ -61,31 +60,4 @@ fn range_or_all(text: &[u8]) -> Option<Range>
     } else {
         range_of(text)
     }
-}
-
-/// The text from its first byte on that isn't a blank.
-fn without_blanks(text: &[u8]) -> &[u8]
-    ensures { result.now ≡ without_blanks text.now }
-{
-    let mut rest = text;
-    while let [byte, after @ ..] = rest
-        && is_blank(*byte)
-    {
-        rest = after;
-    }
-    rest
-}
-
-/// The text up to its last byte that isn't a blank.
-#[tactic(auto, unfolding(fax_job::specs::Blank::before_blanks))]
-fn before_blanks(text: &[u8]) -> &[u8]
-    ensures { result.now ≡ before_blanks text.now }
-{
-    let mut front = text;
-    while let [before @ .., byte] = front
-        && is_blank(*byte)
-    {
-        front = before;
-    }
-    front
 }

@@ -1,6 +1,8 @@
-use Rattle.std.proofs.Common.{◌≡◌, ℕ, ◌+◌, ◌<◌, List, [], ◌∷◌, ◌++◌, Bool, true, false, length, map, take, get_or, refl, cond, ap, subst, sym, ◌∙◌, append-nil}
+use Rattle.std.proofs.Common.{◌≡◌, ℕ, ◌+◌, ◌<◌, List, [], ◌∷◌, ◌++◌, Bool, true, false, ◌||◌, length, map, take, get_or, refl, cond, ap, subst, sym, ◌∙◌, append-nil}
 use Rattle.std.specs.Prelude.{filter}
 use Rattle.std.specs.Bool.{Decides}
+use Rattle.std.specs.List.{list_any}
+use Rattle.std.proofs.Math.Bool.{or_assoc, or-false}
 use Rattle.std.specs.Str.{str_to_ascii_lowercase, str_eq_ignore_ascii_case}
 use Rattle.std.proofs.lemmas.Bool.Decides.{same_from_decides}
 use Rattle.std.proofs.lemmas.List.{take_more, map-append}
@@ -50,3 +52,20 @@ pub shows_passed : (found next : Occurrence) (before after : List (List ℕ)) (b
     → after ≡ before ++ cond b (v ∷ []) [] → b ≡ false → found ≡ next → Shows next before → Shows found after
 shows_passed found next before after b v e f is h =
     subst (λ o. Shows o after) (sym is) (subst (λ vs. Shows next vs) (sym (e ∙ ap (λ x. before ++ cond x (v ∷ []) []) f ∙ append-nil before)) h)
+
+any_more : (p : List ℕ → Bool) (before : List (List ℕ)) (v : List ℕ) → list_any p (before ++ v ∷ []) ≡ (list_any p before || p v)
+any_more p [] v = or-false (p v)
+any_more p (x ∷ xs) v = ap (λ b. p x || b) (any_more p xs v) ∙ sym (or_assoc (p x) (list_any p xs) (p v))
+
+-- one of the values passes, where the next field has the name
+pub any_found : (p : List ℕ → Bool) (found now next : Bool) (before after : List (List ℕ)) (b : Bool) (v w : List ℕ)
+    → after ≡ before ++ cond b (v ∷ []) [] → b ≡ true → found ≡ list_any p before → w ≡ v → next ≡ p w → now ≡ (found || next) → now ≡ list_any p after
+any_found p found now next before after b v w e t is same passes or =
+    or ∙ ap (λ x. x || next) is ∙ ap (λ x. list_any p before || x) (passes ∙ ap p same) ∙ sym (any_more p before v)
+    ∙ sym (ap (list_any p) (e ∙ ap (λ x. before ++ cond x (v ∷ []) []) t))
+
+-- and where it has another
+pub any_passed : (p : List ℕ → Bool) (found now : Bool) (before after : List (List ℕ)) (b : Bool) (v : List ℕ)
+    → after ≡ before ++ cond b (v ∷ []) [] → b ≡ false → found ≡ list_any p before → now ≡ found → now ≡ list_any p after
+any_passed p found now before after b v e f is same =
+    same ∙ is ∙ sym (ap (list_any p) (e ∙ ap (λ x. before ++ cond x (v ∷ []) []) f ∙ append-nil before))

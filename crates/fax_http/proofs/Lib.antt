@@ -1,8 +1,7 @@
-mod ConversationLemmas
+mod DeviceLemmas
 pub mod DivisionLemmas
+mod ExchangeLemmas
 mod FieldLemmas
-mod InputLemmas
 mod MessageLemmas
-mod OutputLemmas
-mod Progress
 mod ServingLemmas
+mod WholeLemmas

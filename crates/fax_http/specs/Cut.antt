@@ -8,7 +8,7 @@ use Rattle.fax_http.specs.declared.message.Front.TheVariants.{NotYet, Whole}
 use Rattle.fax_http.specs.declared.message.HeadRead.{HeadRead}
 use Rattle.fax_http.specs.declared.message.HeadRead.TheVariants.{Head, Never, NotYet as NoHeadYet}
 use Rattle.fax_http.specs.declared.message.Message.{Message}
-use Rattle.fax_http.specs.Message.{BeginsWith, IsHead, fields_of, sole, values_of}
+use Rattle.fax_http.specs.Message.{BeginsWith, IsHead, fields_of, is_last, sole, values_of}
 
 -- the input is a head within its limits and then other bytes, and the spans are the head's
 pub record HoldsHead (input : List ℕ) (room : List HeaderSpan) (spans : RequestSpans) : Type 0 where
@@ -30,6 +30,7 @@ pub record ArePartsOf (message : Message) (head : RequestHead) (body : List ℕ)
   pub number : message.number.now ≡ sole (values_of (codes "Fax-Number") (fields_of head))
   pub moment : message.moment.now ≡ sole (values_of (codes "Fax-Moment") (fields_of head))
   pub content : message.body.now ≡ body
+  pub is_last : message.is_last ≡ is_last head
 
 -- the input is a message and then the rest, and the parts are the message's
 pub record HoldsMessage (input : List ℕ) (message : Message) (rest : List ℕ) : Type 0 where

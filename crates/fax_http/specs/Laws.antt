@@ -1,13 +1,14 @@
 -- What is proved of the definitions. Each is the contract of a function in `src/laws.rt`.
-use Rattle.std.specs.Prelude.{◌≡◌, ◌⊎◌, ℕ, ◌<◌, ◌≤◌, List, [], ◌++◌, length, map, Option, Some}
+use Rattle.std.specs.Prelude.{◌≡◌, ℕ, List, ◌++◌, map, Option, Some, false}
 use Rattle.std.specs.Io.KnownBytes.{Appends}
 use Rattle.httparse.specs.Grammar.{RequestHead}
-use Rattle.fax_http.specs.declared.conversation.End.TheVariants.{Bad, NoMemory, ReadFailed}
-use Rattle.fax_http.specs.declared.conversation.Served.{Served}
-use Rattle.fax_http.specs.declared.message.Broken.TheVariants.{BadHttp, TooLarge}
-use Rattle.fax_http.specs.Conversation.{Answering, Converses, Reads, Turn, failure_of, spelled_turns}
-use Rattle.fax_http.specs.Message.{BeginsWith, IsBad, IsTooLarge}
-use Rattle.fax_http.specs.Serving.{AnswersInput}
+use Rattle.fax_http.specs.declared.device.Watched.{Watched}
+use Rattle.fax_http.specs.declared.serving.End.{End}
+use Rattle.fax_http.specs.declared.serving.End.TheVariants.{Bad, Bound, Closed, NoMemory}
+use Rattle.fax_http.specs.declared.serving.Served.{Served}
+use Rattle.fax_http.specs.Conversation.{Divides, Stop, AtBound, AtEnd, AtFailure, AtLast, Turn, spelled_stop, spelled_turns}
+use Rattle.fax_http.specs.Message.{BeginsWith}
+use Rattle.fax_http.specs.Serving.{Answering, Serves}
 
 -- one message at most begins the bytes
 abbrev pub OneMessage : Type 0
@@ -18,37 +19,29 @@ OneMessage = (input : List ℕ) (head other : RequestHead) (body another rest mo
 abbrev pub message_of : Turn → RequestHead × List ℕ
 message_of turn = (turn.head, turn.body)
 
--- the bytes are messages, to their end, in one way at most
+-- an input is divided in one way at most, and stops in one way
 abbrev pub OneDivision : Type 0
-OneDivision = (input : List ℕ) (turns others : List Turn)
-    → Reads input turns [] → Reads input others [] → map message_of turns ≡ map message_of others
+OneDivision = (bound : ℕ) (input : List ℕ) (turns others : List Turn) (stop another : Stop)
+    → Divides bound input turns stop → Divides bound input others another → (map message_of turns ≡ map message_of others) × (stop ≡ another)
 
--- no message was handed over, nothing changed and nothing was written
-abbrev pub DoesNothing : {H : Type 0} → H → H → Option (List ℕ) → Option (List ℕ) → Served → Type 0
-DoesNothing old new before after served = (served.messages ≡ 0) × (new ≡ old) × (after ≡ before)
+-- how serving ends where the messages stop
+abbrev pub end_of : Stop → End
+end_of AtBound = Bound
+end_of AtLast = Closed
+end_of AtEnd = Closed
+end_of (AtFailure broken) = Bad
 
--- an input within the limit is answered, unless memory or the reader gave out
-abbrev pub AnswersWhatFits : {H : Type 0} → Answering H → Type 0
-AnswersWhatFits {H} answers = (bound : ℕ) (bytes : List ℕ) (read : Option (List ℕ)) (old new : H) (before after : Option (List ℕ)) (served : Served)
-    → length bytes ≤ 81920 → AnswersInput answers bound (Some bytes) read old new before after served
-    → ¬ (served.end ≡ NoMemory) → ¬ (served.end ≡ ReadFailed) → Converses answers bound bytes old new before after served
+-- The input is divided as a whole, however it came in pieces: its messages were handed over, and the replies were written, with the refusal of what begins no message.
+pub record ServesWhole (bound : ℕ) (input : List ℕ) (before after : Option (List ℕ)) (turns : List Turn) (end : End) : Type 0 where
+  pub stop : Stop
+  pub divides : Divides bound input turns stop
+  pub wrote : Appends before after (spelled_turns turns ++ spelled_stop stop)
+  pub ends : end ≡ end_of stop
 
--- of a longer input nothing is answered
-abbrev pub LeavesWhatIsTooLong : {H : Type 0} → Answering H → Type 0
-LeavesWhatIsTooLong {H} answers = (bound : ℕ) (bytes : List ℕ) (read : Option (List ℕ)) (old new : H) (before after : Option (List ℕ)) (served : Served)
-    → 81920 < length bytes → AnswersInput answers bound (Some bytes) read old new before after served → DoesNothing old new before after served
-
--- where memory or the reader gave out nothing was answered; for want of memory nothing was read either
-abbrev pub GivesOutUntouched : {H : Type 0} → Answering H → Type 0
-GivesOutUntouched {H} answers = (bound : ℕ) (unread read : Option (List ℕ)) (old new : H) (before after : Option (List ℕ)) (served : Served)
-    → AnswersInput answers bound unread read old new before after served
-    → (served.end ≡ NoMemory → (read ≡ unread) × DoesNothing old new before after served)
-    × (served.end ≡ ReadFailed → DoesNothing old new before after served)
-
--- a conversation that ends badly is messages and then a rest that begins none, whose refusal stands behind the replies
-abbrev pub RefusesTheRest : {H : Type 0} → Answering H → Type 0
-RefusesTheRest {H} answers = (bound : ℕ) (input : List ℕ) (old new : H) (before after : Option (List ℕ)) (served : Served)
-    → Converses answers bound input old new before after served → served.end ≡ Bad
-    → (turns : List Turn) × (rest : List ℕ) × Reads input turns rest × (served.messages ≡ length turns) × (0 < length rest)
-    × ((IsBad rest × Appends before after (spelled_turns turns ++ failure_of BadHttp))
-    ⊎ (IsTooLarge rest × Appends before after (spelled_turns turns ++ failure_of TooLarge)))
+-- where neither the reader nor the writer failed, and there was memory for the buffer, the whole input was served
+abbrev pub ServesWholeInputs : {R W H : Type 0} → (R → Option (List ℕ)) → (W → Option (List ℕ)) → Answering H → Type 0
+ServesWholeInputs {R} {W} {H} remaining contents answers =
+    (bound : ℕ) (input : List ℕ) (reader reader₂ : Watched R) (writer writer₂ : Watched W) (old new : H) (served : Served)
+    → (s : Serves remaining contents answers bound reader reader₂ writer writer₂ old new served)
+    → remaining reader.device ≡ Some input → reader₂.failed ≡ false → writer₂.failed ≡ false → ¬ (served.end ≡ NoMemory)
+    → ServesWhole bound input (contents writer.device) (contents writer₂.device) s.turns served.end

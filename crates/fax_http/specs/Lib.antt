@@ -1,6 +1,9 @@
+pub mod Buffer
 pub mod Clock
 pub mod Conversation
 pub mod Cut
+pub mod Device
+pub mod Exchange
 pub mod Field
 pub mod Laws
 pub mod Message

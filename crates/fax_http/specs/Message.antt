@@ -1,8 +1,11 @@
 -- Messages: the head of a request, and a body as long as the head's fields frame it (RFC 9112, sections 2 to 6).
-use Rattle.std.specs.Prelude.{◌≡◌, ◌⊎◌, ℕ, ◌+◌, ◌<◌, ◌≤◌, List, [], ◌∷◌, ◌++◌, length, map, filter, Option, Some, None, Result, Ok, Err, codes, if◌then◌else◌, nat_le}
+use Rattle.std.specs.Prelude.{◌≡◌, ◌⊎◌, ℕ, ◌+◌, ◌<◌, ◌≤◌, Bool, ◌||◌, ◌==◌, List, [], ◌∷◌, ◌++◌, length, map, filter, Option, Some, None, Result, Ok, Err, codes, if◌then◌else◌, nat_le}
+use Rattle.std.specs.List.{list_any}
 use Rattle.std.specs.Str.{str_eq_ignore_ascii_case}
 use Rattle.httparse.specs.Grammar.{RequestHead, IsRequestHead, MayBecomeRequest, print_request}
 use Rattle.httparse.specs.Spans.{name_and_value}
+use Rattle.fax_job.specs.Blank.{trimmed}
+use Rattle.fax_job.specs.Comma.{parts_of}
 use Rattle.fax_job.specs.Number.{number_of}
 use Rattle.fax_http.specs.declared.message.Broken.{Broken}
 use Rattle.fax_http.specs.declared.message.Broken.TheVariants.{BadHttp, TooLarge}
@@ -24,6 +27,18 @@ abbrev pub sole : List (List ℕ) → List ℕ
 sole [] = []
 sole (value ∷ []) = value
 sole (value ∷ another ∷ more) = []
+
+-- the word stands in the list that a value is, between commas; letter case and the blanks around it don't matter
+abbrev pub lists : List ℕ → List ℕ → Bool
+lists word value = list_any (λ part. str_eq_ignore_ascii_case (trimmed part) word) (parts_of value)
+
+-- no message follows: this one is of HTTP/1.0, or a `Connection` field has the word `close` (RFC 9112, section 9.6)
+abbrev pub closes : ℕ → Fields → Bool
+closes minor fields = (minor == 0) || list_any (lists (codes "close")) (values_of (codes "Connection") fields)
+
+-- no message follows that of the head
+abbrev pub is_last : RequestHead → Bool
+is_last head = closes head.minor (fields_of head)
 
 -- a length within its bound
 abbrev pub bounded : Option ℕ → Result ℕ Broken

@@ -1,34 +1,94 @@
--- A whole input that is read and answered.
-use Rattle.std.specs.Prelude.{◌≡◌, ◌⊎◌, ℕ, ◌<◌, ◌≤◌, List, length, Option, ⊤}
-use Rattle.std.specs.Io.KnownBytes.{Consumes, IsAtEnd}
-use Rattle.fax_http.specs.declared.conversation.End.{End}
-use Rattle.fax_http.specs.declared.conversation.End.TheVariants.{Closed, Bad, Bound, ReadFailed, WriteFailed, NoMemory}
-use Rattle.fax_http.specs.declared.conversation.Served.{Served}
-use Rattle.fax_http.specs.Conversation.{Answering, Converses}
+-- What it is to serve a stream: its messages are answered one after the other, and their replies are written in order.
+use Rattle.std.specs.Prelude.{◌≡◌, ◌⊎◌, ℕ, ◌<◌, ◌≤◌, Bool, true, false, List, [], ◌∷◌, ◌++◌, length, Option}
+use Rattle.std.specs.Io.KnownBytes.{IsAtEnd}
+use Rattle.httparse.specs.Grammar.{RequestHead}
+use Rattle.fax_ask.specs.Response.{Response}
+use Rattle.fax_http.specs.declared.device.Watched.{Watched}
+use Rattle.fax_http.specs.declared.message.Broken.{Broken}
+use Rattle.fax_http.specs.declared.message.Broken.TheVariants.{BadHttp, TooLarge}
+use Rattle.fax_http.specs.declared.serving.End.{End}
+use Rattle.fax_http.specs.declared.serving.End.TheVariants.{Closed, Bad, Bound, ReadFailed, WriteFailed, NoMemory}
+use Rattle.fax_http.specs.declared.serving.Served.{Served}
+use Rattle.fax_http.specs.Conversation.{EndWithLast, GoOn, Reads, Turn, failure_of, spelled_turn, spelled_turns}
+use Rattle.fax_http.specs.Device.{Put, Took}
+use Rattle.fax_http.specs.Message.{IsTooLarge, IsBad, IsUnfinished, StaysBad}
 
--- the reader had these bytes to its end, and they are within the limit
-pub record ReadsWhole (before after : Option (List ℕ)) (input : List ℕ) : Type 0 where
-  pub consumed : Consumes before after input
-  pub ended : IsAtEnd after
-  pub within : length input ≤ 81920
+-- what a message and its reply may make of a state
+abbrev pub Answering : Type 0 → Type 1
+Answering H = H → RequestHead → List ℕ → Response → H → Type 0
 
--- Why there is no input to answer: there was no memory and nothing was read, or a read failed, or the reader had more than the limit.
-abbrev pub IsUnread : Option (List ℕ) → Option (List ℕ) → End → Type 0
-IsUnread before after NoMemory = after ≡ before
-IsUnread before after ReadFailed = ⊤
-IsUnread before after Bad = (front : List ℕ) × Consumes before after front × (81920 < length front)
-IsUnread before after Closed = ⊥
-IsUnread before after Bound = ⊥
-IsUnread before after (WriteFailed sent) = ⊥
+-- the replies of the turns come of one state after the other
+abbrev pub Answers : {H : Type 0} → Answering H → H → List Turn → H → Type 0
+Answers answers old [] new = new ≡ old
+Answers {H} answers old (turn ∷ turns) new =
+    (next : H) × answers old turn.head turn.body turn.reply next × Answers answers next turns new
 
--- no message was handed over, and nothing was written
-pub record IsUnanswered {H : Type 0} (old new : H) (before after : Option (List ℕ)) (served : Served) : Type 0 where
-  pub none : served.messages ≡ 0
-  pub untouched : new ≡ old
-  pub unwritten : after ≡ before
+-- no message begins the rest: whatever follows, or since nothing does
+abbrev pub FailsHere : List ℕ → Option (List ℕ) → Broken → Type 0
+FailsHere rest unread BadHttp = StaysBad rest ⊎ (IsBad rest × IsAtEnd unread)
+FailsHere rest unread TooLarge = IsTooLarge rest
 
--- the whole input was answered, or none of it
-abbrev pub AnswersInput : {H : Type 0} → Answering H → ℕ → Option (List ℕ) → Option (List ℕ) → H → H → Option (List ℕ) → Option (List ℕ) → Served → Type 0
-AnswersInput answers bound unread read old new before after served =
-    ((input : List ℕ) × ReadsWhole unread read input × Converses answers bound input old new before after served)
-    ⊎ (IsUnread unread read served.end × IsUnanswered old new before after served)
+-- a rest that begins no message, for this reason
+pub record IsRefused (bound : ℕ) (turns : List Turn) (rest : List ℕ) (unread : Option (List ℕ)) (broken : Broken) : Type 0 where
+  pub going : GoOn turns
+  pub below : length turns < bound
+  pub some : 0 < length rest
+  pub fails : FailsHere rest unread broken
+
+-- a message is looked for, and isn't there to its end
+pub record IsAwaited (bound : ℕ) (turns : List Turn) (rest : List ℕ) : Type 0 where
+  pub going : GoOn turns
+  pub below : length turns < bound
+  pub unfinished : IsUnfinished rest
+
+-- the messages are all there are: the input has ended, or the last of them says so
+abbrev pub AreAll : ℕ → List Turn → List ℕ → Option (List ℕ) → Type 0
+AreAll bound turns rest unread = (GoOn turns × (length turns < bound) × (rest ≡ []) × IsAtEnd unread) ⊎ EndWithLast turns
+
+module _ {W : Type 0} (contents : W → Option (List ℕ)) (old new : Watched W) where
+  -- the front was written, and of the other bytes not all, and then the writer failed
+  pub record FailedBehind (front bytes : List ℕ) : Type 0 where
+    pub part : List ℕ
+    pub left : List ℕ
+    pub parts : bytes ≡ part ++ left
+    pub some : 0 < length left
+    pub put : Put contents old new (front ++ part) true
+
+  -- the earlier replies were written, and the writer failed in the last
+  pub record FailedInReply (turns : List Turn) : Type 0 where
+    pub earlier : List Turn
+    pub last : Turn
+    pub parts : turns ≡ earlier ++ last ∷ []
+    pub going : GoOn earlier
+    pub failed : FailedBehind (spelled_turns earlier) (spelled_turn last)
+
+  -- What was written, by the end: all replies, or those and the refusal of the rest, or what comes before the writer failed.
+  abbrev pub EndsBy : ℕ → List Turn → List ℕ → Option (List ℕ) → End → Type 0
+  EndsBy bound turns rest unread Closed = AreAll bound turns rest unread × Put contents old new (spelled_turns turns) false
+  EndsBy bound turns rest unread Bound = GoOn turns × (length turns ≡ bound) × Put contents old new (spelled_turns turns) false
+  EndsBy bound turns rest unread Bad =
+      (broken : Broken) × IsRefused bound turns rest unread broken × Put contents old new (spelled_turns turns ++ failure_of broken) false
+  EndsBy bound turns rest unread ReadFailed = IsAwaited bound turns rest × Put contents old new (spelled_turns turns) false
+  EndsBy bound turns rest unread (WriteFailed sent) =
+      (sent ≡ new.passed)
+      × (FailedInReply turns
+      ⊎ ((broken : Broken) × IsRefused bound turns rest unread broken × FailedBehind (spelled_turns turns) (failure_of broken)))
+  EndsBy bound turns rest unread NoMemory = (turns ≡ []) × (rest ≡ []) × (new ≡ old)
+
+-- only this end says that the reader failed
+abbrev pub failed_to_read : End → Bool
+failed_to_read ReadFailed = true
+failed_to_read other = false
+
+-- The bytes that were read are messages and a rest. Each message was answered in turn, and it ended by these rules.
+pub record Serves {R W H : Type 0} (remaining : R → Option (List ℕ)) (contents : W → Option (List ℕ)) (answers : Answering H) (bound : ℕ)
+    (reader reader₂ : Watched R) (writer writer₂ : Watched W) (old new : H) (served : Served) : Type 0 where
+  pub taken : List ℕ
+  pub turns : List Turn
+  pub rest : List ℕ
+  pub took : Took remaining reader reader₂ taken (failed_to_read served.end)
+  pub reads : Reads taken turns rest
+  pub answered : Answers answers old turns new
+  pub handed : served.messages ≡ length turns
+  pub within : length turns ≤ bound
+  pub ends : EndsBy contents writer writer₂ bound turns rest (remaining reader₂.device) served.end

@@ -2,6 +2,7 @@
 ghost use Rattle.std.specs.Prelude.{◌≡◌};
 
 use fax_job::{Moment, read_number};
+use std::time::{SystemTime, UNIX_EPOCH};
 
 /// Gives each message its moment.
 pub trait Clock {
@@ -41,6 +42,40 @@ impl Clock for SaidClock {
     fn moment(&mut self, said: &[u8]) -> Moment {
         if let Some(seconds) = read_number(said) {
             self.last = Moment::new(seconds);
+        }
+        self.last
+    }
+}
+
+/// The machine's clock. It gives its last answer, 0 at first, where that can't be read.
+#[derive(Drop)]
+pub struct MachineClock<'r> {
+    rt: &'r HostRuntime,
+    last: Moment,
+}
+
+impl<'r> MachineClock<'r> {
+    pub fn new(rt: &'r HostRuntime) -> MachineClock<'r>
+        ensures { result.last ≡ 0 }
+    {
+        MachineClock {
+            rt,
+            last: Moment::new(0),
+        }
+    }
+}
+
+impl Clock for MachineClock<'_> {
+    ghost use Rattle.std.specs.Prelude.{◌≡◌};
+
+    // What the machine's clock shows is not known here.
+    ghost gives = { λ old said moment new. new.last ≡ moment };
+
+    fn moment(&mut self, _said: &[u8]) -> Moment {
+        if let Ok(now) = SystemTime::now(self.rt)
+            && let Ok(since) = now.duration_since(UNIX_EPOCH)
+        {
+            self.last = Moment::new(since.as_secs());
         }
         self.last
     }

@@ -3,26 +3,19 @@
 //! What such a function does is nothing: its contract is the law. The statements stand in
 //! `specs/Laws.antt`.
 
-ghost use Rattle.fax_http.specs.Laws.{AnswersWhatFits, GivesOutUntouched, LeavesWhatIsTooLong, OneDivision, OneMessage, RefusesTheRest};
+ghost use Rattle.fax_http.specs.Laws.{OneDivision, OneMessage, ServesWholeInputs};
 
-use crate::conversation::Handler;
+use crate::serving::Handler;
+use std::io::{Read, Write};
 
-/// Bytes begin with one message at most, and are messages, to their end, in one way at most.
+/// Bytes begin with one message at most, and an input is divided into messages in one way.
 pub fn one_division()
     ensures message { OneMessage }
     ensures division { OneDivision }
 {}
 
-/// Whoever answers: an input within the limit is answered, unless memory or the reader gives out, and of a longer one
-/// nothing is. Where memory or the reader gives out, nothing is answered or written.
-pub fn whole_inputs<H: Handler>()
-    ensures fits { AnswersWhatFits H.answers }
-    ensures too_long { LeavesWhatIsTooLong H.answers }
-    ensures gives_out { GivesOutUntouched H.answers }
-{}
-
-/// Whoever answers: an input that ends badly is messages and then a rest that begins none, and the refusal of the rest
-/// stands behind the replies.
-pub fn broken_inputs<H: Handler>()
-    ensures { RefusesTheRest H.answers }
+/// Whoever answers, and whatever pieces the input comes in: where neither the reader nor the writer fails, the messages of
+/// the whole input are handed over, and what is written are their replies, with the refusal of what begins no message.
+pub fn whole_inputs<R: Read, W: Write, H: Handler>()
+    ensures { ServesWholeInputs R.remaining W.contents H.answers }
 {}

@@ -4,9 +4,10 @@ ghost use Rattle.std.specs.Prelude.{◌≡◌, ℕ, List, [], ◌∷◌, ◌++�
 ghost use Rattle.httparse.specs.Spans.{IsHeaderWithin, IsRequestWithin, header_bytes};
 ghost use Rattle.fax_http.specs.Cut.{HoldsHead, HoldsMessage, IfHead, IfWhole};
 ghost use Rattle.fax_http.specs.Field.{Shows};
-ghost use Rattle.fax_http.specs.Message.{IsTooLarge, IsUnfinished, IsUnfinishedHead, NeverHasHead, StaysBad, values_of, framed, sole};
+ghost use Rattle.std.specs.List.{list_any};
+ghost use Rattle.fax_http.specs.Message.{IsTooLarge, IsUnfinished, IsUnfinishedHead, NeverHasHead, StaysBad, closes, values_of, framed, lists, sole};
 
-use fax_job::read_number;
+use fax_job::{at_comma, read_number, trimmed};
 use httparse::Status;
 use httparse::spans::{EMPTY_HEADER_SPAN, HeaderSpan, RequestSpans, Span, parse_request};
 use std::str;
@@ -40,6 +41,8 @@ pub struct Message<'b> {
     /// The field `Fax-Moment`, likewise.
     pub moment: &'b [u8],
     pub body: &'b [u8],
+    /// Whether no message follows it: it is of HTTP/1.0, or a `Connection` field has the word `close`.
+    pub is_last: bool,
 }
 
 /// What begins some bytes.
@@ -122,6 +125,7 @@ pub fn split_message(input: &[u8]) -> Result<Front<'_>, Broken>
         number: find_field(input, fields, b"Fax-Number").or_empty(),
         moment: find_field(input, fields, b"Fax-Moment").or_empty(),
         body,
+        is_last: is_last(input, head.version, fields),
     };
     Ok(Front::Whole(message, rest))
 }
@@ -175,4 +179,41 @@ fn find_field<'b>(input: &'b [u8], fields: &[HeaderSpan], name: &[u8]) -> Occurr
         }
     }
     found
+}
+
+/// Whether no message follows one of that minor version, with those fields.
+fn is_last(input: &[u8], version: u8, fields: &[HeaderSpan]) -> bool
+    requires { All (IsHeaderWithin (length input.now)) fields.now }
+    ensures { result ≡ closes version (map (header_bytes input.now) fields.now) }
+{
+    version == 0 || has_word(input, fields, b"Connection", b"close")
+}
+
+/// Whether a field of that name lists the word, between commas; letter case doesn't matter.
+fn has_word(input: &[u8], fields: &[HeaderSpan], name: &[u8], word: &[u8]) -> bool
+    requires { All (IsHeaderWithin (length input.now)) fields.now }
+    ensures { result ≡ list_any (lists word.now) (values_of name.now (map (header_bytes input.now) fields.now)) }
+{
+    let mut found = false;
+    for field in fields {
+        if field.name.of(input).eq_ignore_ascii_case(name) {
+            found |= lists(field.value.of(input), word);
+        }
+    }
+    found
+}
+
+/// Whether the word stands in the list.
+fn lists(list: &[u8], word: &[u8]) -> bool
+    ensures { result ≡ lists word.now list.now }
+{
+    let mut rest = Some(list);
+    while let Some(parts) = rest {
+        let (part, after) = at_comma(parts);
+        if trimmed(part).eq_ignore_ascii_case(word) {
+            return true;
+        }
+        rest = after;
+    }
+    false
 }

@@ -1,55 +1,95 @@
-//! A whole input, read to its end and then answered.
-ghost use Rattle.std.specs.Prelude.{◌≡◌, length, IfOk, MatchResult};
-ghost use Rattle.fax_http.specs.Serving.{ReadsWhole, IsUnread, AnswersInput};
+//! A stream is served: its messages are answered in order, each before the next is read to its end.
+ghost use Rattle.std.specs.Prelude.{ℕ, List};
+ghost use Rattle.httparse.specs.Grammar.{RequestHead};
+ghost use Rattle.fax_ask.specs.Response.{Response};
 
-use crate::conversation::{Bounds, End, Handler, Served, converse};
-use crate::input::read_fully;
-use std::alloc::{AllocError, Global};
+use crate::buffer::Buffer;
+use crate::device::Watched;
+use crate::exchange::{Exchange, serve_one};
+use crate::message::Message;
+use fax_ask::Reply;
+use std::alloc::Global;
 use std::io::{Read, Write};
 
-/// The most bytes of a whole input.
-pub const INPUT_LIMIT: usize = 81_920;
+/// How much one stream may ask for.
+#[derive(Clone, Copy, Debug, PartialEq, Eq)]
+pub struct Bounds {
+    /// The most messages that are answered.
+    pub messages: u32,
+}
 
-/// Reads the whole input, has its messages answered in order, and writes their replies. Where the
-/// input is over `INPUT_LIMIT` no message is answered and nothing is written.
-pub fn serve<R: Read, W: Write, H: Handler>(
+/// Why serving ended.
+#[derive(Clone, Copy, Debug, PartialEq, Eq)]
+pub enum End {
+    /// The input ended where a message would begin, or the last message was one that none follows.
+    Closed,
+    /// Bytes that begin no message.
+    Bad,
+    /// The bound on messages was reached.
+    Bound,
+    ReadFailed,
+    /// A write failed or took no byte, after `sent` bytes in all.
+    WriteFailed { sent: u128 },
+    /// There was no memory for the buffer. Nothing was read or written.
+    NoMemory,
+}
+
+/// What came of a stream.
+#[derive(Clone, Copy, Debug, PartialEq, Eq)]
+pub struct Served {
+    /// How many messages were handed over, the last of them even where its reply wasn't written.
+    pub messages: u32,
+    pub end: End,
+}
+
+/// Who answers messages.
+pub trait Handler {
+    ghost use Rattle.fax_http.specs.Cut.{ArePartsOf};
+
+    // What may come of a message, by its head and body: its reply, and the handler after it.
+    ghost answers: { Self → RequestHead → List ℕ → Response → Self → Type 0 };
+
+    fn answer(&mut self, message: &Message<'_>) -> Reply
+        ensures { (head : RequestHead) (body : List ℕ) → ArePartsOf message.now head body → answers self.old head body result self.new };
+}
+
+ghost use Rattle.fax_http.specs.Device.{IsFresh};
+ghost use Rattle.fax_http.specs.Serving.{Serves};
+
+/// Reads messages, has each answered, and writes its reply before it reads on, until the stream ends, a message says
+/// that none follows, or the bound is reached. Bytes that begin no message are refused, and nothing behind them is read.
+/// All memory is taken before the first read.
+pub fn serve<R: Read + Drop, W: Write + Drop, H: Handler>(
     alloc: Global,
-    reader: &mut R,
-    writer: &mut W,
+    reader: &mut Watched<R>,
+    writer: &mut Watched<W>,
     handler: &mut H,
     bounds: Bounds,
 ) -> Served
-    ensures { AnswersInput H.answers bounds.messages (R.remaining reader.old) (R.remaining reader.new)
-        handler.old handler.new (W.contents writer.old) (W.contents writer.new) result }
+    requires reading { IsFresh reader.old }
+    requires writing { IsFresh writer.old }
+    ensures { Serves R.remaining W.contents H.answers bounds.messages reader.old reader.new writer.old writer.new handler.old handler.new result }
 {
-    match read_input(alloc, reader) {
-        Ok(input) => converse(input.as_slice(), writer, handler, bounds),
-        Err(end) => Served { messages: 0, end },
-    }
-}
-
-/// The whole input, or the end that serving comes to without it.
-fn read_input<R: Read>(alloc: Global, reader: &mut R) -> Result<Vec<u8>, End>
-    ensures { MatchResult result
-        (λ input. ReadsWhole (R.remaining reader.old) (R.remaining reader.new) input.items)
-        (IsUnread (R.remaining reader.old) (R.remaining reader.new)) }
-{
-    let Ok(mut input) = room_for(alloc, INPUT_LIMIT + 1) else {
-        return Err(End::NoMemory);
+    let Ok(mut buffer) = Buffer::new(alloc) else {
+        return Served {
+            messages: 0,
+            end: End::NoMemory,
+        };
     };
-    let Ok(length) = read_fully(reader, input.as_mut_slice()) else {
-        return Err(End::ReadFailed);
-    };
-    if length > INPUT_LIMIT {
-        return Err(End::Bad);
+    for messages in 0..bounds.messages {
+        match serve_one(&mut buffer, reader, writer, handler) {
+            Exchange::Answered => {}
+            Exchange::Last(end) => {
+                return Served {
+                    messages: messages + 1,
+                    end,
+                };
+            }
+            Exchange::Missing(end) => return Served { messages, end },
+        }
     }
-    input.truncate(length);
-    Ok(input)
-}
-
-/// Room for this many bytes.
-fn room_for(alloc: Global, size: usize) -> Result<Vec<u8>, AllocError>
-    ensures { IfOk result (λ room. length room.items ≡ size) }
-{
-    vec![in alloc; 0u8; size]
+    Served {
+        messages: bounds.messages,
+        end: End::Bound,
+    }
 }

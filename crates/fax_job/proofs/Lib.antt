@@ -3,6 +3,7 @@ pub mod ValueLemmas
 pub mod DialLemmas
 pub mod LineLemmas
 pub mod BlankLemmas
+mod CommaLemmas
 pub mod PairLemmas
 pub mod StatusLemmas
 pub mod ReadLemmas

@@ -2,6 +2,7 @@ pub mod Limits
 pub mod Gives
 pub mod TextFault
 pub mod Blank
+pub mod Comma
 pub mod Number
 pub mod Name
 pub mod Dial

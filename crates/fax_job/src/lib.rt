@@ -7,6 +7,7 @@
 
 mod alter;
 mod blank;
+mod comma;
 mod dial;
 mod job;
 mod job_tag;
@@ -28,6 +29,7 @@ mod writing;
 
 pub use alter::Alter;
 pub use blank::{before_blanks, begins_with_blank, is_blank, is_of_blanks, without_blanks};
+pub use comma::{at_comma, trimmed};
 pub use dial::{Dial, DialFault};
 pub use job::{Call, Job, JobFields, Phase, Wish};
 pub use job_tag::JobTag;

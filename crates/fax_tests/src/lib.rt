@@ -2,6 +2,8 @@
 #![tactic(auto)]
 
 #[cfg(test)]
+mod adopt;
+#[cfg(test)]
 mod hours;
 #[cfg(test)]
 mod jobs;
@@ -15,6 +17,8 @@ mod replies;
 mod rows;
 #[cfg(test)]
 mod runs;
+#[cfg(test)]
+mod serving;
 #[cfg(test)]
 mod setup;
 #[cfg(test)]

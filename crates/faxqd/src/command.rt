@@ -1,20 +1,24 @@
 //! The program as a function of its words, its input and its outputs.
-ghost use Rattle.std.specs.Prelude.{◌≡◌, map, string_bytes};
+ghost use Rattle.std.specs.Prelude.{◌≡◌, false, map, string_bytes};
+ghost use Rattle.fax_http.specs.Device.{IsFresh};
 ghost use Rattle.faxqd.specs.Command.{Runs, Tells};
 
 use crate::replay::replay;
 use crate::status::{Status, fail};
 use crate::words::{WordsFault, read_words};
+use fax_http::Watched;
 use std::io::{ErrorKind, Read, Write};
 
 /// Runs the command that the words ask for. Help goes to `out`, what is wrong to `err`.
-pub fn run<R: Read, W: Write, E: Write>(
+pub fn run<R: Read + Drop, W: Write + Drop, E: Write>(
     rt: &HostRuntime,
     words: &[String],
-    reader: &mut R,
-    out: &mut W,
+    reader: &mut Watched<R>,
+    out: &mut Watched<W>,
     err: &mut E,
 ) -> Status
+    requires reading { IsFresh reader.old }
+    requires writing { IsFresh out.old }
     ensures { Runs R.remaining W.contents (map string_bytes words.now) reader.old reader.new out.old out.new err.old err.new result }
 {
     match read_words(rt.alloc(), words) {
@@ -24,11 +28,16 @@ pub fn run<R: Read, W: Write, E: Write>(
 }
 
 /// Gives the help that was asked for, or says what is wrong with the words.
-fn refuse<W: Write, E: Write>(out: &mut W, err: &mut E, fault: &WordsFault) -> Status
+fn refuse<W: Write + Drop, E: Write>(
+    out: &mut Watched<W>,
+    err: &mut E,
+    fault: &WordsFault,
+) -> Status
+    requires { out.old.failed ≡ false }
     ensures { Tells W.contents out.old out.new err.old err.new fault.now result }
 {
     match fault {
-        WordsFault::Help(text) => match out.write_all(text.as_bytes()) {
+        WordsFault::Help(text) => match out.put(text.as_bytes()) {
             Ok(()) => Status::Success,
             Err(_) => fail(err, "faxqd: ended write-failed\n"),
         },

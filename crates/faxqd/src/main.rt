@@ -7,6 +7,7 @@ mod replay;
 mod status;
 mod words;
 
+use fax_http::Watched;
 use std::process::ExitCode;
 use std::{env, io};
 
@@ -21,8 +22,8 @@ fn main(rt: HostRuntime) -> ExitCode {
         Ok(words) => command::run::<io::Stdin, io::Stdout, io::Stderr>(
             &rt,
             words.as_slice(),
-            &mut rt.stdin(),
-            &mut rt.stdout(),
+            &mut Watched::new(rt.stdin()),
+            &mut Watched::new(rt.stdout()),
             &mut rt.stderr(),
         ),
         Err(error) => command::refuse_words(&mut rt.stderr(), error.kind()),

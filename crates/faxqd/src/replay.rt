@@ -1,24 +1,27 @@
 //! `faxqd replay`: answers one input from empty tables in memory on.
 ghost use Rattle.std.specs.Prelude.{◌≡◌};
+ghost use Rattle.fax_http.specs.Device.{IsFresh};
 ghost use Rattle.faxqd.specs.Replay.{Ends, EndsWith};
 
 use crate::office::{OfficeFiles, read_office, report};
 use crate::status::{Status, fail};
-use fax_http::End;
+use fax_http::{End, Watched};
 use fax_once::Office;
 use std::alloc::Global;
 use std::io::{Read, Write};
 
-/// Reads the files, then messages from `reader`, writes their replies to `out`, and a fault as one line
+/// Reads the files, then messages from `reader`, writes the reply to each to `out`, and a fault as one line
 /// to `err`.
-pub fn replay<R: Read, W: Write, E: Write>(
+pub fn replay<R: Read + Drop, W: Write + Drop, E: Write>(
     rt: &HostRuntime,
     files: OfficeFiles<'_>,
-    reader: &mut R,
-    out: &mut W,
+    reader: &mut Watched<R>,
+    out: &mut Watched<W>,
     err: &mut E,
 ) -> Status
-    ensures ends { Ends files.entry (R.remaining reader.old) (R.remaining reader.new) (W.contents out.old) (W.contents out.new) result }
+    requires reading { IsFresh reader.old }
+    requires writing { IsFresh out.old }
+    ensures ends { Ends R.remaining W.contents reader.old reader.new out.old out.new files.entry result }
     ensures silent { result ≡ Status.Success → err.new ≡ err.old }
 {
     match read_office(rt, files) {
@@ -28,14 +31,16 @@ pub fn replay<R: Read, W: Write, E: Write>(
 }
 
 /// Answers the messages by that office.
-fn replay_with<R: Read, W: Write, E: Write>(
+fn replay_with<R: Read + Drop, W: Write + Drop, E: Write>(
     alloc: Global,
     office: Office,
-    reader: &mut R,
-    out: &mut W,
+    reader: &mut Watched<R>,
+    out: &mut Watched<W>,
     err: &mut E,
 ) -> Status
-    ensures ends { EndsWith office (R.remaining reader.old) (R.remaining reader.new) (W.contents out.old) (W.contents out.new) result }
+    requires reading { IsFresh reader.old }
+    requires writing { IsFresh out.old }
+    ensures ends { EndsWith R.remaining W.contents reader.old reader.new out.old out.new office result }
     ensures silent { result ≡ Status.Success → err.new ≡ err.old }
 {
     let end = fax_desk::replay(alloc, office, reader, out);

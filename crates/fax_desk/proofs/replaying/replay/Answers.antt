@@ -7,7 +7,7 @@ pub returns : goal.returns
 returns g c =
     let queue = c.in-Ok.queue in
     let desk = c.new-desk.result in
-    replayed_of _ c.args.office _ _ _ _ _ _ _ (λ turns answered. record {
+    replayed_of _ _ _ c.args.office _ _ _ _ _ _ _ (λ turns answered. record {
       held = queue.store.conn;
       empty = c.in-Ok.ensures.empty;
       handled = subst (λ o. AreHandled (settings_in o) 0 queue.store.conn turns) c.in-Ok.ensures.office (subst (λ q. AreHandled (settings_in q.office) 0 q.store.conn turns) c.new-desk.ensures.queue

@@ -1,8 +1,8 @@
-use Rattle.std.proofs.Common.{◌≡◌, rules, ap, sym, ◌∙◌, ◌++◌, Err, Ok, length, codes, refl, length-drop, length-take}
+use Rattle.std.proofs.Common.{◌≡◌, rules, ap, ap₂, sym, ◌∙◌, ◌++◌, Err, Ok, length, codes, refl, length-drop, length-take}
 use Rattle.fax_http.specs.declared.message.Broken.TheVariants.{BadHttp}
 use Rattle.httparse.specs.Grammar.{print_request}
 use Rattle.fax_http.specs.Cut.{HoldsHead}
-use Rattle.fax_http.specs.Message.{framed, sole, values_of}
+use Rattle.fax_http.specs.Message.{closes, framed, sole, values_of}
 use Rattle.fax_http.proofs.MessageLemmas.{body_and_rest, stays_bad, unfinished_body}
 use Rattle.fax_http.proofs.message.split_message.Goals as goal
 
@@ -38,5 +38,6 @@ returns-clause-message c =
         number = c.or_empty-2.ensures _ c.find_field-2.ensures ∙ ap (λ f. sole (values_of (codes "Fax-Number") f)) h.at.fields;
         moment = c.or_empty-3.ensures _ c.find_field-3.ensures ∙ ap (λ f. sole (values_of (codes "Fax-Moment") f)) h.at.fields;
         content = refl;
+        is_last = c.is_last.ensures ∙ ap₂ closes h.at.version h.at.fields;
       };
     }

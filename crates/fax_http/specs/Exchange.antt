@@ -1,0 +1,64 @@
+-- One message that is looked for, and its reply.
+use Rattle.std.specs.Prelude.{◌≡◌, ℕ, ◌<◌, Bool, true, false, List, [], ◌++◌, length, Option}
+use Rattle.std.specs.Io.KnownBytes.{IsAtEnd}
+use Rattle.httparse.specs.Grammar.{RequestHead}
+use Rattle.fax_ask.specs.Response.{Response}
+use Rattle.fax_http.specs.declared.device.Watched.{Watched}
+use Rattle.fax_http.specs.declared.exchange.Exchange.{Exchange}
+use Rattle.fax_http.specs.declared.exchange.Exchange.TheVariants.{Answered, Last, Missing}
+use Rattle.fax_http.specs.declared.message.Broken.{Broken}
+use Rattle.fax_http.specs.declared.serving.End.{End}
+use Rattle.fax_http.specs.declared.serving.End.TheVariants.{Closed, Bad, Bound, ReadFailed, WriteFailed, NoMemory}
+use Rattle.fax_http.specs.Conversation.{Turn, failure_of, spelled_turn}
+use Rattle.fax_http.specs.Device.{BrokeOff, Put, Took}
+use Rattle.fax_http.specs.Message.{BeginsWith, IsUnfinished, is_last}
+use Rattle.fax_http.specs.Serving.{Answering, FailsHere}
+
+module _ {W : Type 0} (contents : W → Option (List ℕ)) (writer writer₂ : Watched W) where
+  -- the bytes were written, and this is the end; or the writer failed in them
+  abbrev pub WritesTo : List ℕ → End → End → Type 0
+  WritesTo bytes end (WriteFailed sent) = BrokeOff contents writer writer₂ bytes × (sent ≡ writer₂.passed)
+  WritesTo bytes end other = Put contents writer writer₂ bytes false × (other ≡ end)
+
+  -- the reply of a turn was written, and another message may follow or none does; or the writer failed in it
+  abbrev pub Replies : Turn → Exchange → Type 0
+  Replies turn Answered = Put contents writer writer₂ (spelled_turn turn) false × (is_last turn.head ≡ false)
+  Replies turn (Last Closed) = Put contents writer writer₂ (spelled_turn turn) false × (is_last turn.head ≡ true)
+  Replies turn (Last (WriteFailed sent)) = BrokeOff contents writer writer₂ (spelled_turn turn) × (sent ≡ writer₂.passed)
+  Replies turn (Last Bad) = ⊥
+  Replies turn (Last Bound) = ⊥
+  Replies turn (Last ReadFailed) = ⊥
+  Replies turn (Last NoMemory) = ⊥
+  Replies turn (Missing end) = ⊥
+
+  -- a message with that head and body was handed over, and its reply written
+  abbrev pub HandsOver : {H : Type 0} → Answering H → H → H → RequestHead → List ℕ → Exchange → Type 0
+  HandsOver answers old new head body exchange =
+      (reply : Response) × answers old head body reply new × Replies (record { head = head; body = body; reply = reply }) exchange
+
+module _ {R W H : Type 0} (remaining : R → Option (List ℕ)) (contents : W → Option (List ℕ)) (answers : Answering H)
+    (reader reader₂ : Watched R) (writer writer₂ : Watched W) (old new : H) (before after : List ℕ) where
+  -- bytes were read, and stand behind those that were there
+  abbrev pub HasRead : Bool → Type 0
+  HasRead failed = (more : List ℕ) × Took remaining reader reader₂ more failed × (after ≡ before ++ more)
+
+  -- There is no message: the input ended where one would begin, or the reader failed, or what was read begins none, which was answered.
+  abbrev pub IsMissing : End → Type 0
+  IsMissing Closed = HasRead false × (after ≡ []) × IsAtEnd (remaining reader₂.device) × (writer₂ ≡ writer)
+  IsMissing ReadFailed = HasRead true × IsUnfinished after × (writer₂ ≡ writer)
+  IsMissing end =
+      HasRead false × (0 < length after)
+      × (broken : Broken) × FailsHere after (remaining reader₂.device) broken × WritesTo contents writer writer₂ (failure_of broken) Bad end
+
+  -- a message was read, handed over and answered
+  pub record HasTurned (exchange : Exchange) : Type 0 where
+    pub turn : Turn
+    pub more : List ℕ
+    pub took : Took remaining reader reader₂ more false
+    pub begins : BeginsWith (before ++ more) turn.head turn.body after
+    pub step : answers old turn.head turn.body turn.reply new
+    pub replies : Replies contents writer writer₂ turn exchange
+
+  abbrev pub Exchanges : Exchange → Type 0
+  Exchanges (Missing end) = (new ≡ old) × IsMissing end
+  Exchanges exchange = HasTurned exchange
