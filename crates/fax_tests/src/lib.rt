@@ -24,4 +24,6 @@ mod setup;
 #[cfg(test)]
 mod store;
 #[cfg(test)]
+mod text;
+#[cfg(test)]
 mod view;

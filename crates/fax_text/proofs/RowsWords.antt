@@ -1,0 +1,61 @@
+-- Worked rows: words of the command line, and the plans that they spell.
+use Rattle.std.specs.Prelude.{◌≡◌, List, [], ◌∷◌, codes, refl, None, Some}
+use Rattle.clap.proofs.OnLiterals.{clap_on_literals}
+use Rattle.clap.specs.Faults.{fault_of}
+use Rattle.clap.specs.Simple.{subcommand_of}
+use Rattle.clap.specs.Walk.{Text}
+use Rattle.clap.specs.declared.error.kind.ErrorKind.TheVariants as kind
+use Rattle.fax_text.specs.Option.{number_or}
+use Rattle.fax_text.specs.Words.{IsPlanOf, moment_or_none, program}
+use Rattle.fax_text.specs.declared.words.Plan.TheVariants.{Sendfax}
+use Rattle.fax_text.proofs.RowsSendfax.{of_desk}
+
+abbrev desk_words : List Text
+desk_words =
+    codes "faxqd" ∷ codes "sendfax" ∷ codes "-d" ∷ codes "+1 415 555-0100" ∷ codes "--pages" ∷ codes "3"
+    ∷ codes "--client" ∷ codes "desk" ∷ codes "--request" ∷ codes "7" ∷ []
+
+desk_has_no_fault : fault_of program desk_words ≡ []
+unfolding clap_on_literals
+desk_has_no_fault = refl
+
+desk_plan : IsPlanOf (subcommand_of program desk_words) (Sendfax of_desk)
+unfolding clap_on_literals number_or moment_or_none
+desk_plan = (
+  _,
+  refl,
+  record {
+    destination = refl;
+    pages = refl;
+    request = refl;
+    client = refl;
+    priority = refl;
+    tries = refl;
+    dials = refl;
+    at = refl;
+    kill = refl;
+    tag = refl;
+    moment = refl;
+  },
+)
+
+-- an option of sendfax(1) that isn't here
+cover_page : fault_of program (codes "faxqd" ∷ codes "sendfax" ∷ codes "-n" ∷ []) ≡ kind.UnknownArgument ∷ []
+unfolding clap_on_literals
+cover_page = refl
+
+nothing_is_said : fault_of program (codes "faxqd" ∷ codes "sendfax" ∷ []) ≡ kind.MissingRequiredArgument ∷ []
+unfolding clap_on_literals
+nothing_is_said = refl
+
+greatest_priority : number_or 127 0 255 (Some (codes "255")) ≡ Some 255
+unfolding number_or
+greatest_priority = refl
+
+past_the_priorities : number_or 127 0 255 (Some (codes "256")) ≡ None
+unfolding number_or
+past_the_priorities = refl
+
+no_tries : number_or 3 1 1000 (Some (codes "0")) ≡ None
+unfolding number_or
+no_tries = refl

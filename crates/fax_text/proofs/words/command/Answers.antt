@@ -1,0 +1,20 @@
+use Rattle.std.proofs.Common.{◌≡◌, ◌∙◌, ap, ap₂, codes, true}
+use Rattle.std.proofs.lemmas.Result.{IfOk-weaker}
+use Rattle.clap.specs.Simple.{App, Shape, app_of, app_of_fields, new_app, on_top, with_subcommand}
+use Rattle.fax_text.proofs.WordsLemmas.{plain_is_local}
+use Rattle.fax_text.proofs.words.command.Goals as goal
+
+pub returns : goal.returns
+returns c =
+    let sendfax = c.in_ok-sendfax_command.ensures in
+    let top : app_of c.about.result ≡ new_app (codes "faxqd") = ap app_of_fields c.about.ensures ∙ c.new.ensures.app in
+    let wants : App → App = on_top (λ (s : Shape). record s { subcommand_required = true }) in
+    let start : app_of c.subcommand_required.result ≡ wants (new_app (codes "faxqd")) =
+    ap app_of_fields c.subcommand_required.ensures ∙ ap wants top in
+    let first = c.in_ok-subcommand.ensures.shape c.in_ok-replay_command.ensures.local
+    ∙ ap₂ with_subcommand start (ap (λ (a : App). a.top) c.in_ok-replay_command.ensures.shape) in
+    let second = c.in_ok-subcommand-2.ensures.shape c.in_ok-serve_command.ensures.local
+    ∙ ap₂ with_subcommand first (ap (λ (a : App). a.top) c.in_ok-serve_command.ensures.shape) in
+    IfOk-weaker c.subcommand-3.result _ _
+    (λ made h. h.shape (plain_is_local _ _ _ _ (ap (λ (a : App). a.top.is_plain) sendfax)) ∙ ap₂ with_subcommand second (ap (λ (a : App). a.top) sendfax))
+    c.subcommand-3.ensures

@@ -1,0 +1,98 @@
+-- What the words of the command line ask for, read as clap reads them.
+use Rattle.std.specs.Prelude.{◌≡◌, ℕ, ◌⊎◌, ◌&&◌, true, List, [], codes, nat_le, Option, Some, None, option_and_then, unwrap_or, Result, Ok, Err, ⊤, if◌then◌else◌}
+use Rattle.std.specs.Option.{option_copied, option_map}
+use Rattle.clap.specs.Faults.{fault_of}
+use Rattle.clap.specs.Kinds.{IsAmong}
+use Rattle.clap.specs.Simple.{App, new_app, new_rule, on_top, subcommand_of, with_rule, with_subcommand}
+use Rattle.clap.specs.Walk.{Row, Rule, Text, first_of}
+use Rattle.clap.specs.declared.error.kind.ErrorKind.{ErrorKind}
+use Rattle.clap.specs.declared.error.kind.ErrorKind.TheVariants.{DisplayHelp, DisplayVersion, OutOfMemory}
+use Rattle.fax_job.specs.Number.{number_of}
+use Rattle.fax_text.specs.declared.sendfax.SendPlan.{SendPlan}
+use Rattle.fax_text.specs.declared.server.ServePlan.{ServePlan}
+use Rattle.fax_text.specs.Option.{long_option, number_from, number_or, required, short_option}
+use Rattle.fax_text.specs.Server.{IsServePlan, file_names, files_in, replay_command, serve_command}
+use Rattle.fax_text.specs.declared.words.Plan.{Plan}
+use Rattle.fax_text.specs.declared.words.Plan.TheVariants.{Replay, Serve, Sendfax}
+use Rattle.fax_text.specs.declared.words.WordsFault.{WordsFault}
+use Rattle.fax_text.specs.declared.words.WordsFault.TheVariants.{Help, Usage, NoMemory}
+
+-- ---- the commands
+
+-- `-d NUMBER --pages PAGES [-i TAG]`
+abbrev pub with_fax : App → App
+with_fax app = with_rule (with_rule (with_rule app (required (short_option (codes "destination") 100))) (required (long_option (codes "pages")))) (short_option (codes "tag") 105)
+
+-- `[-P PRIORITY] [-t TRIES] [-T DIALS]`
+abbrev pub with_limits : App → App
+with_limits app = with_rule (with_rule (with_rule app (short_option (codes "priority") 80)) (short_option (codes "tries") 116)) (short_option (codes "dials") 84)
+
+-- `[-a TIME] [-k TIME] [--moment SECONDS]`
+abbrev pub with_times : App → App
+with_times app = with_rule (with_rule (with_rule app (short_option (codes "at") 97)) (short_option (codes "kill") 107)) (long_option (codes "moment"))
+
+-- `--request NUMBER [--client NAME]`
+abbrev pub with_request : App → App
+with_request app = with_rule (with_rule app (required (long_option (codes "request")))) (long_option (codes "client"))
+
+abbrev pub sendfax_command : App
+sendfax_command = with_request (with_times (with_limits (with_fax (new_app (codes "sendfax")))))
+
+-- `faxqd COMMAND`
+abbrev pub program : App
+program =
+    with_subcommand (with_subcommand (with_subcommand (on_top (λ s. record s { subcommand_required = true }) (new_app (codes "faxqd")))
+    replay_command.top) serve_command.top) sendfax_command.top
+
+-- ---- what the words ask for
+
+-- the moment may be missing
+unfoldable pub moment_or_none : Option Text → Option (Option ℕ)
+moment_or_none None = Some None
+moment_or_none (Some text) = option_map (λ seconds. Some seconds) (number_of text)
+
+-- the plan has what the options say, and for those that are missing their defaults
+pub record IsSendPlan (rows : List Row) (plan : SendPlan) : Type 0 where
+  pub destination : first_of (codes "destination") rows ≡ Some plan.destination.now
+  pub pages : option_and_then (number_from 1 9999) (first_of (codes "pages") rows) ≡ Some plan.pages
+  pub request : first_of (codes "request") rows ≡ Some plan.request.now
+  pub client : unwrap_or (first_of (codes "client") rows) (codes "sendfax") ≡ plan.client.now
+  pub priority : number_or 127 0 255 (first_of (codes "priority") rows) ≡ Some plan.priority
+  pub tries : number_or 3 1 1000 (first_of (codes "tries") rows) ≡ Some plan.tries
+  pub dials : number_or 12 1 1000 (first_of (codes "dials") rows) ≡ Some plan.dials
+  pub at : first_of (codes "at") rows ≡ option_copied plan.at
+  pub kill : first_of (codes "kill") rows ≡ option_copied plan.kill
+  pub tag : first_of (codes "tag") rows ≡ option_copied plan.tag
+  pub moment : moment_or_none (first_of (codes "moment") rows) ≡ Some plan.moment
+
+-- the plan of a command and its options
+abbrev pub IsPlanOf : Option (Text × List Row) → Plan → Type 0
+IsPlanOf found (Replay files) = (rows : List Row) × (found ≡ Some (codes "replay", rows)) × (file_names files ≡ files_in rows)
+IsPlanOf found (Serve plan) = (rows : List Row) × (found ≡ Some (codes "serve", rows)) × IsServePlan rows plan
+IsPlanOf found (Sendfax plan) = (rows : List Row) × (found ≡ Some (codes "sendfax", rows)) × IsSendPlan rows plan
+
+-- No plan has what they say. Whatever the options of `replay` say, there is one.
+pub record IsNoPlan (found : Option (Text × List Row)) : Type 0 where
+  pub replay : (rows : List Row) → ¬ (found ≡ Some (codes "replay", rows))
+  pub serve : (plan : ServePlan) → ¬ (IsPlanOf found (Serve plan))
+  pub sendfax : (plan : SendPlan) → ¬ (IsPlanOf found (Sendfax plan))
+
+-- text that is asked for, and no fault
+abbrev pub IsAsked : ErrorKind → Type 0
+IsAsked kind = (kind ≡ DisplayHelp) ⊎ (kind ≡ DisplayVersion)
+
+-- What comes of words: the plan of their command and its options where no rule of the command line is broken, help
+-- where it is asked for, else a usage fault.
+abbrev pub Reads : List Text → Result Plan WordsFault → Type 0
+Reads words (Ok plan) = IsPlanOf (subcommand_of program words) plan × (fault_of program words ≡ [])
+Reads words (Err (Help text)) = (kind : ErrorKind) × IsAmong kind (fault_of program words) × IsAsked kind
+Reads words (Err (Usage text)) =
+    ((kind : ErrorKind) × IsAmong kind (fault_of program words) × ¬ (IsAsked kind))
+    ⊎ ((fault_of program words ≡ []) × IsNoPlan (subcommand_of program words))
+Reads words (Err NoMemory) = ⊤
+
+-- the fault of an error of that kind
+abbrev pub TellsKind : ErrorKind → WordsFault → Type 0
+TellsKind kind (Help text) = IsAsked kind
+TellsKind kind (Usage text) = ¬ (kind ≡ OutOfMemory) × ¬ (IsAsked kind)
+TellsKind kind NoMemory = kind ≡ OutOfMemory

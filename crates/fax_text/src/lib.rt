@@ -1,0 +1,16 @@
+//! Texts for people at a terminal: the listing of a queue's jobs, after HylaFAX's faxstat(1), and the
+//! request that hands in a job, by the options of its sendfax(1). The words of the command line are read
+//! into a [`Plan`].
+#![tactic(auto)]
+
+mod column;
+mod listing;
+mod sendfax;
+mod server;
+mod time;
+mod words;
+
+pub use listing::{ListFault, list};
+pub use sendfax::{SendFault, SendPlan, request};
+pub use server::{OfficeFiles, ServePlan};
+pub use words::{Plan, WordsFault, read_words};
