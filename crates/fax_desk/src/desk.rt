@@ -32,17 +32,33 @@ impl<C: Clock + Drop, S: Alter> Desk<C, S> {
             queue,
         }
     }
+
+    /// The queue, as it stands.
+    pub fn close(self) -> Queue<S>
+        ensures { result ≡ self.queue }
+    {
+        let Desk {
+            alloc: _,
+            clock,
+            queue,
+        } = self;
+        drop(clock);
+        queue
+    }
 }
 
 impl<C: Clock + Drop, S: Alter> Handler for Desk<C, S> {
     ghost use Rattle.std.specs.Prelude.{◌≡◌};
     ghost use Rattle.sqlite.specs.Held.{state};
+    ghost use Rattle.sqlite.specs.State.{HasCleanDisk};
     ghost use Rattle.fax_decide.specs.Settings.{settings_of};
     ghost use Rattle.fax_desk.specs.Desk.{IsHandled};
 
-    // The queue handles the message's arrival at the clock's moment, by the same setup and controls as ever.
+    // The queue handles the message's arrival at the clock's moment, by the same setup and controls as ever. Where the disk
+    // has returned what was written, it had before.
     ghost answers = { λ old head body reply new.
         (new.queue.office ≡ old.queue.office)
+        × (HasCleanDisk (state S.Store new.queue.store.conn) → HasCleanDisk (state S.Store old.queue.store.conn))
         × IsHandled (λ said moment. C.gives old.clock said moment new.clock)
         (settings_of old.queue.office.setup old.queue.office.controls)
         (state S.Store old.queue.store.conn) head body reply (state S.Store new.queue.store.conn) };

@@ -1,5 +1,3 @@
 mod EndsLemmas
-mod OptionWords
-mod RefusedWords
-mod ReplayWords
-mod WordsLemmas
+mod ServeLemmas
+mod SendfaxLemmas

@@ -3,12 +3,16 @@ use Rattle.std.specs.Prelude.{◌≡◌, ℕ, false, List, ◌∷◌, Option, Re
 use Rattle.fax_http.specs.Device.{BrokeOff, Put}
 use Rattle.fax_http.specs.declared.device.Watched.{Watched}
 use Rattle.faxqd.specs.Replay.{Ends}
-use Rattle.faxqd.specs.Words.{IsFixed, Reads}
+use Rattle.faxqd.specs.Sendfax.{Prints}
+use Rattle.faxqd.specs.Serve.{Serves}
+use Rattle.fax_text.specs.CommandLine.{IsFixed}
+use Rattle.fax_text.specs.Words.{Reads}
 use Rattle.faxqd.specs.declared.status.Status.{Status}
 use Rattle.faxqd.specs.declared.status.Status.TheVariants.{Success, Fault, Usage as Misused}
-use Rattle.faxqd.specs.declared.words.Plan.{Plan}
-use Rattle.faxqd.specs.declared.words.WordsFault.{WordsFault}
-use Rattle.faxqd.specs.declared.words.WordsFault.TheVariants.{Help, Usage, NoMemory}
+use Rattle.fax_text.specs.declared.words.Plan.{Plan}
+use Rattle.fax_text.specs.declared.words.Plan.TheVariants.{Replay, Serve, Sendfax}
+use Rattle.fax_text.specs.declared.words.WordsFault.{WordsFault}
+use Rattle.fax_text.specs.declared.words.WordsFault.TheVariants.{Help, Usage, NoMemory}
 
 module _ {W E : Type 0} (contents : W → Option (List ℕ)) (out out₂ : Watched W) (err err₂ : E) where
   -- Help is written to the output, with success, or the output failed. What is wrong with the words is a usage fault, and nothing is written to the output; want of memory is another fault.
@@ -23,17 +27,23 @@ module _ {W E : Type 0} (contents : W → Option (List ℕ)) (out out₂ : Watch
   Tells NoMemory Fault = out₂ ≡ out
   Tells NoMemory Misused = ⊥
 
--- what a plan or a fault of words comes to
-module _ {R W E : Type 0} (remaining : R → Option (List ℕ)) (contents : W → Option (List ℕ)) where
-  abbrev pub Does : Result Plan WordsFault → Watched R → Watched R → Watched W → Watched W → E → E → Status → Type 0
-  Does (Ok plan) reader reader₂ out out₂ err err₂ status =
-      Ends remaining contents reader reader₂ out out₂ plan.replay status × (status ≡ Success → err₂ ≡ err)
-  Does (Err fault) reader reader₂ out out₂ err err₂ status =
-      (reader₂ ≡ reader) × Tells contents out out₂ err err₂ fault status
+module _ {R W : Type 0} (remaining : R → Option (List ℕ)) (contents : W → Option (List ℕ))
+    (reader reader₂ : Watched R) (out out₂ : Watched W) where
+  -- what a plan comes to; only `replay` reads of the input
+  abbrev pub CarriesOut : Plan → Status → Type 0
+  CarriesOut (Replay files) status = Ends remaining contents reader reader₂ out out₂ files status
+  CarriesOut (Serve plan) status = (reader₂ ≡ reader) × Serves contents out out₂ plan status
+  CarriesOut (Sendfax plan) status = (reader₂ ≡ reader) × Prints contents out out₂ plan status
 
-  -- the words are read, and what they say is done
-  pub record Runs (words : List (List ℕ)) (reader reader₂ : Watched R) (out out₂ : Watched W) (err err₂ : E) (status : Status) : Type 0 where
-    pub read : Result Plan WordsFault
-    pub reads : Reads words read
-    pub fixed : (name : List ℕ) (behind : List (List ℕ)) → words ≡ name ∷ behind → IsFixed behind read
-    pub does : Does read reader reader₂ out out₂ err err₂ status
+  module _ {E : Type 0} (err err₂ : E) where
+    -- what a plan or a fault of words comes to
+    abbrev pub Does : Result Plan WordsFault → Status → Type 0
+    Does (Ok plan) status = CarriesOut plan status × (status ≡ Success → err₂ ≡ err)
+    Does (Err fault) status = (reader₂ ≡ reader) × Tells contents out out₂ err err₂ fault status
+
+    -- the words are read, and what they say is done
+    pub record Runs (words : List (List ℕ)) (status : Status) : Type 0 where
+      pub read : Result Plan WordsFault
+      pub reads : Reads words read
+      pub fixed : (name : List ℕ) (behind : List (List ℕ)) → words ≡ name ∷ behind → IsFixed behind read
+      pub does : Does read status

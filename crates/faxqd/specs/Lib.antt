@@ -1,5 +1,6 @@
 pub mod Command
 pub mod Office
 pub mod Replay
+pub mod Sendfax
+pub mod Serve
 pub mod Status
-pub mod Words

@@ -13,7 +13,7 @@ use Rattle.fax_dest.specs.declared.fault.FileKind.TheVariants.{NotText}
 use Rattle.fax_dest.specs.declared.setup.Setup.{Setup as Settings}
 use Rattle.faxqd.specs.declared.office.OfficeFault.{OfficeFault}
 use Rattle.faxqd.specs.declared.office.OfficeFault.TheVariants.{Unreadable, Setup, Controls, NoMemory}
-use Rattle.faxqd.specs.declared.office.OfficeFiles.{OfficeFiles}
+use Rattle.fax_text.specs.declared.server.OfficeFiles.{OfficeFiles}
 
 -- ---- texts
 

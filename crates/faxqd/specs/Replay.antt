@@ -7,7 +7,7 @@ use Rattle.fax_http.specs.declared.serving.End.{End}
 use Rattle.fax_http.specs.declared.serving.End.TheVariants.{Closed}
 use Rattle.faxqd.specs.Office.{ComesOf}
 use Rattle.faxqd.specs.declared.office.OfficeFault.{OfficeFault}
-use Rattle.faxqd.specs.declared.office.OfficeFiles.{OfficeFiles}
+use Rattle.fax_text.specs.declared.server.OfficeFiles.{OfficeFiles}
 use Rattle.faxqd.specs.declared.status.Status.{Status}
 use Rattle.faxqd.specs.declared.status.Status.TheVariants.{Success, Fault, Usage}
 

@@ -1,29 +1,55 @@
 //! The program as a function of its words, its input and its outputs.
 ghost use Rattle.std.specs.Prelude.{◌≡◌, false, map, string_bytes};
 ghost use Rattle.fax_http.specs.Device.{IsFresh};
-ghost use Rattle.faxqd.specs.Command.{Runs, Tells};
+ghost use Rattle.faxqd.specs.Command.{CarriesOut, Runs, Tells};
 
 use crate::replay::replay;
+use crate::sendfax::sendfax;
+use crate::serve::serve;
 use crate::status::{Status, fail};
-use crate::words::{WordsFault, read_words};
 use fax_http::Watched;
+use fax_text::{Plan, WordsFault, read_words};
+use sqlite::Start;
 use std::io::{ErrorKind, Read, Write};
 
 /// Runs the command that the words ask for. Help goes to `out`, what is wrong to `err`.
-pub fn run<R: Read + Drop, W: Write + Drop, E: Write>(
+/// `start` stands for what a database's files hold.
+pub fn run<S: Start, R: Read + Drop, W: Write + Drop, E: Write>(
     rt: &HostRuntime,
     words: &[String],
+    start: S,
     reader: &mut Watched<R>,
     out: &mut Watched<W>,
     err: &mut E,
 ) -> Status
     requires reading { IsFresh reader.old }
     requires writing { IsFresh out.old }
-    ensures { Runs R.remaining W.contents (map string_bytes words.now) reader.old reader.new out.old out.new err.old err.new result }
+    ensures { Runs R.remaining W.contents reader.old reader.new out.old out.new err.old err.new (map string_bytes words.now) result }
 {
     match read_words(rt.alloc(), words) {
-        Ok(plan) => replay(rt, plan.replay, reader, out, err),
+        Ok(plan) => carry_out(rt, plan, start, reader, out, err),
         Err(fault) => refuse(out, err, &fault),
+    }
+}
+
+/// Does what the words ask for.
+fn carry_out<S: Start, R: Read + Drop, W: Write + Drop, E: Write>(
+    rt: &HostRuntime,
+    plan: Plan<'_>,
+    start: S,
+    reader: &mut Watched<R>,
+    out: &mut Watched<W>,
+    err: &mut E,
+) -> Status
+    requires reading { IsFresh reader.old }
+    requires writing { IsFresh out.old }
+    ensures done { CarriesOut R.remaining W.contents reader.old reader.new out.old out.new plan.entry result }
+    ensures silent { result ≡ Status.Success → err.new ≡ err.old }
+{
+    match plan {
+        Plan::Replay(files) => replay(rt, files, reader, out, err),
+        Plan::Serve(plan) => serve(rt, plan, start, out, err),
+        Plan::Sendfax(plan) => sendfax(rt, &plan, out, err),
     }
 }
 

@@ -2,12 +2,15 @@
 #![tactic(auto)]
 
 mod command;
+mod connection;
 mod office;
 mod replay;
+mod sendfax;
+mod serve;
 mod status;
-mod words;
 
 use fax_http::Watched;
+use sqlite::Unknown;
 use std::process::ExitCode;
 use std::{env, io};
 
@@ -19,9 +22,10 @@ fn called_with(rt: &HostRuntime) -> io::Result<Vec<String>> {
 // The types of the streams are named, so that no two of them can change places.
 fn main(rt: HostRuntime) -> ExitCode {
     let status = match called_with(&rt) {
-        Ok(words) => command::run::<io::Stdin, io::Stdout, io::Stderr>(
+        Ok(words) => command::run::<Unknown, io::Stdin, io::Stdout, io::Stderr>(
             &rt,
             words.as_slice(),
+            Unknown,
             &mut Watched::new(rt.stdin()),
             &mut Watched::new(rt.stdout()),
             &mut rt.stderr(),

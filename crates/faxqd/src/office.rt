@@ -5,16 +5,10 @@ ghost use Rattle.faxqd.specs.Office.{ComesOf, ControlsOf, IsOfficeOf, IsReadOf, 
 use crate::status::{Status, fail};
 use fax_dest::{Controls, FileFault, FileKind, Setup};
 use fax_once::Office;
+use fax_text::OfficeFiles;
 use std::alloc::Global;
 use std::fs;
 use std::io::{ErrorKind, Write};
-
-/// The files that a command is told to read. One that isn't named counts as empty.
-#[derive(Clone, Copy, Debug)]
-pub struct OfficeFiles<'a> {
-    pub setup: Option<&'a str>,
-    pub controls: Option<&'a str>,
-}
 
 /// Why there is no office.
 #[derive(Clone, Copy, Debug)]

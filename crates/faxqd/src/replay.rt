@@ -3,10 +3,11 @@ ghost use Rattle.std.specs.Prelude.{◌≡◌};
 ghost use Rattle.fax_http.specs.Device.{IsFresh};
 ghost use Rattle.faxqd.specs.Replay.{Ends, EndsWith};
 
-use crate::office::{OfficeFiles, read_office, report};
+use crate::office::{read_office, report};
 use crate::status::{Status, fail};
 use fax_http::{End, Watched};
 use fax_once::Office;
+use fax_text::OfficeFiles;
 use std::alloc::Global;
 use std::io::{Read, Write};
 

@@ -12,5 +12,5 @@ returns g c =
       empty = c.in-Ok.ensures.empty;
       handled = subst (λ o. AreHandled (settings_in o) 0 queue.store.conn turns) c.in-Ok.ensures.office (subst (λ q. AreHandled (settings_in q.office) 0 q.store.conn turns) c.new-desk.ensures.queue
           (subst (λ last. AreHandled (settings_in desk.queue.office) last desk.queue.store.conn turns) (ap (λ clock. clock.last) c.new-desk.ensures.clock ∙ c.new.ensures)
-          (handled_of _ desk turns _ answered (λ d. settings_in d.queue.office) (λ d. d.clock.last) (λ d. d.queue.store.conn) (λ old head body reply new it. (ap settings_in it.0, it.1)))));
+          (handled_of _ desk turns _ answered (λ d. settings_in d.queue.office) (λ d. d.clock.last) (λ d. d.queue.store.conn) (λ old head body reply new it. (ap settings_in it.0, it.2)))));
     }) c.serve-served.ensures

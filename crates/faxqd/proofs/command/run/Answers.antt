@@ -6,5 +6,5 @@ returns-in-Ok g c = record {
   read = Ok c.in-Ok.plan;
   reads = c.in-Ok.ensures.reads;
   fixed = c.in-Ok.ensures.fixed;
-  does = (c.replay.ensures.ends, c.replay.ensures.silent);
+  does = (c.carry_out.ensures.done, c.carry_out.ensures.silent);
 }

@@ -5,6 +5,7 @@ use Rattle.fax_desk.proofs.desk.DeskHandler.answer.Goals as goal
 pub returns : goal.returns
 returns g c head body parts = (
   c.handle.ensures.office,
+  c.handle.ensures.clean,
   (
     c.moment-moment.result,
     subst (λ (said : List ℕ). g.C.Clock.gives c.args.self.now.clock said c.moment-moment.result c.moment-moment.new.self) parts.moment c.moment-moment.ensures,

@@ -1,0 +1,59 @@
+#!/bin/sh
+# client.sh FOLDER [FILE]: hands in a fax, and says the number of its job. FILE has the key lines, as `number:5550111`
+# and `totpages:3`. FOLDER keeps the client's request numbers and what isn't answered yet: one folder for each client.
+#
+#   FAXQD=http://127.0.0.1:4560 CLIENT=desk examples/client.sh /var/spool/desk fax.txt
+#
+# It asks until there is an answer, however often the line fails, and the fax is taken once. Where it was stopped
+# before, `client.sh FOLDER` alone goes on with what is left.
+set -eu
+folder=$1
+server=${FAXQD:-http://127.0.0.1:4560}
+client=${CLIENT:-desk}
+limit=${LIMIT:-10} # seconds until a request without a reply counts as lost
+pause=${PAUSE:-2}  # seconds before it is sent again
+
+mkdir -p "$folder/waiting" "$folder/taken" "$folder/refused"
+exec 9> "$folder/lock"
+flock 9 # one at a time
+
+# The number is kept before the fax, and the fax under its number before it is sent. Numbers follow the clock, so that
+# none is used again where the folder was lost or comes from an old backup.
+if [ $# -gt 1 ]; then
+    last=$(cat "$folder/number" 2> /dev/null || echo 0)
+    number=$(date +%s)00000
+    if [ "$number" -le "$last" ]; then number=$((last + 1)); fi
+    echo "$number" > "$folder/number.new"
+    sync "$folder/number.new"
+    mv "$folder/number.new" "$folder/number"
+    cp "$2" "$folder/new"
+    sync "$folder/new"
+    mv "$folder/new" "$folder/waiting/$number"
+    sync "$folder" "$folder/waiting"
+fi
+
+failed=0
+for file in "$folder"/waiting/*; do
+    [ -e "$file" ] || continue
+    number=${file##*/}
+    # Any of these says nothing of what became of the request. So the same one goes out again, under its number.
+    while
+        status=$(curl --silent --netrc-optional --max-time "$limit" --output "$folder/reply" \
+            --write-out '%{http_code}' --header "Fax-Client: $client" --header "Fax-Number: $number" \
+            --header 'Content-Type: text/plain' --data-binary "@$file" "$server/jobs") || status=000
+        case $status in 000 | 50[!7]) true ;; *) false ;; esac
+    do
+        sleep "$pause"
+    done
+    if [ "$status" = 201 ]; then
+        mv "$file" "$folder/taken/$number"
+        sed 's/.*"job":\([0-9]*\).*/\1/' "$folder/reply"
+        echo
+    else
+        # Not taken. A mended fax may be put into waiting/ under this same number: then the first can't be taken late.
+        mv "$file" "$folder/refused/$number"
+        echo "client.sh: fax $number is refused: $(cat "$folder/reply")" >&2
+        failed=1
+    fi
+done
+exit "$failed"
