@@ -15,6 +15,8 @@ pub mod GrantLemmas
 pub mod HoldLemmas
 pub mod GrantWriteLemmas
 pub mod WaitingLemmas
+pub mod OrderLemmas
+pub mod JobsLemmas
 pub mod CallLemmas
 pub mod Rows
 pub mod AdoptLemmas

@@ -15,7 +15,7 @@ use Rattle.fax_job.specs.Status.{kill_time_expired}
 use Rattle.fax_store.specs.declared.adopt.TheConstants.{SELECT_VERSION}
 use Rattle.fax_store.specs.declared.meta.TheConstants.{SELECT_META, UPDATE_CLOCK, UPDATE_META}
 use Rattle.fax_store.specs.declared.replies.TheConstants.{SELECT_REPLY, INSERT_REPLY}
-use Rattle.fax_store.specs.declared.jobs.TheConstants.{SELECT_JOB, INSERT_JOB, UPDATE_JOB, EXPIRE_JOBS, SELECT_WAITING}
+use Rattle.fax_store.specs.declared.jobs.TheConstants.{SELECT_JOB, INSERT_JOB, UPDATE_JOB, EXPIRE_JOBS, SELECT_WAITING, SELECT_JOBS}
 use Rattle.fax_tables.proofs.SelectLemmas.{rows_where}
 use Rattle.fax_tables.proofs.UpdateLemmas.{program_of}
 use Rattle.fax_tables.proofs.StatementForms.{equals, Selects, SelectsBy, Commands}
@@ -123,3 +123,10 @@ waiting_order = (col 1 9, ascending Binary) ∷ (col 1 7, ascending Binary) ∷ 
 pub select_waiting : SelectsBy SELECT_WAITING.now jobs_tree waiting_tests job_project waiting_order job_names
 unfolding understood everything
 select_waiting = record { command = refl; plain = (refl, refl); unlisted = refl }
+
+abbrev pub jobs_order : List (Term × Key)
+jobs_order = (col 1 0, ascending Binary) ∷ []
+
+pub select_jobs : SelectsBy SELECT_JOBS.now jobs_tree [] job_project jobs_order job_names
+unfolding understood everything
+select_jobs = record { command = refl; plain = (refl, refl); unlisted = refl }

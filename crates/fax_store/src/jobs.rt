@@ -1,6 +1,6 @@
 //! The jobs.
 
-ghost use Rattle.std.specs.Prelude.{◌≡◌, ◌<◌, List, false, Err, IfErr, is_err, IsTrue, OnOk};
+ghost use Rattle.std.specs.Prelude.{◌≡◌, ◌<◌, List, map, false, Err, IfErr, is_err, IsTrue, OnOk};
 ghost use Rattle.std.specs.Option.{option_map};
 ghost use Rattle.sqlite.specs.Held.{state};
 ghost use Rattle.sqlite.specs.State.{HasCleanDisk};
@@ -30,6 +30,11 @@ const SELECT_WAITING: &str =
     npages, totpages, ntries, tottries, maxtries, ndials, totdials, maxdials, phase, wish, next \
     FROM jobs WHERE phase = 1 AND tts <= ?1 AND next <= ?1 AND (killtime = 0 OR killtime > ?1) \
     ORDER BY priority, tts, job";
+
+const SELECT_JOBS: &str =
+    "SELECT job, dial, modem, jobtag, status, extra, tts, killtime, priority, \
+    npages, totpages, ntries, tottries, maxtries, ndials, totdials, maxdials, phase, wish, next \
+    FROM jobs ORDER BY job";
 
 const UPDATE_JOB: &str = "UPDATE jobs SET modem = ?2, jobtag = ?3, status = ?4, tts = ?5, \
     killtime = ?6, priority = ?7, npages = ?8, ntries = ?9, tottries = ?10, maxtries = ?11, \
@@ -105,6 +110,35 @@ impl<S: Alter> Store<S> {
     {
         let rows = self.show(SELECT_WAITING, params![t.seconds()])?;
         jobs_in(self.alloc, rows.as_slice())
+    }
+
+    /// The jobs of the queue, in ascending order of their numbers.
+    ///
+    /// # Errors
+    ///
+    /// `Unavailable`, or `Strange` where the row of one is no lawful record.
+    pub fn jobs(&mut self) -> Result<Vec<Job>, StoreFault>
+        ensures served { Serves (state S.Store self.new.conn) → Serves (state S.Store self.old.conn) }
+        ensures clean { HasCleanDisk (state S.Store self.new.conn) → HasCleanDisk (state S.Store self.old.conn) }
+        ensures opens { OnOk result (HasCleanDisk (state S.Store self.new.conn) → Serves (state S.Store self.new.conn)) }
+        ensures stays { Stays (state S.Store self.old.conn) (state S.Store self.new.conn) }
+        ensures found { (m : Queue) (k : List Entry) → Means (state S.Store self.old.conn) m k
+            → Serves (state S.Store self.new.conn) → OrUnavailable result (λ found. found.items ≡ map fields_of m.jobs) }
+    {
+        self.read_jobs()
+    }
+
+    fn read_jobs(&mut self) -> Result<Vec<Job>, StoreFault>
+        ensures served { Serves (state S.Store self.new.conn) → Serves (state S.Store self.old.conn) }
+        ensures clean { HasCleanDisk (state S.Store self.new.conn) → HasCleanDisk (state S.Store self.old.conn) }
+        ensures opens { OnOk result (HasCleanDisk (state S.Store self.new.conn) → Serves (state S.Store self.new.conn)) }
+        ensures reads { HasTables (state S.Store self.old.conn) → HasCleanDisk (state S.Store self.new.conn)
+            → Reads (state S.Store self.old.conn) (state S.Store self.new.conn) result }
+        ensures answers { (m : Queue) (k : List Entry) → MeansNow (state S.Store self.old.conn) m k
+            → Serves (state S.Store self.new.conn) → OrUnavailable result (λ found. found.items ≡ map fields_of m.jobs) }
+    {
+        let shown = self.show(SELECT_JOBS, &[])?;
+        jobs_in(self.alloc, shown.as_slice())
     }
 
     fn insert_job(&mut self, job: &Job) -> Result<(), StoreFault>
@@ -263,6 +297,31 @@ impl<S: Alter> Work<'_, S> {
             return Err(StoreFault::Unavailable);
         }
         let found = self.store.read_waiting(t);
+        self.failed = found.is_err();
+        found
+    }
+
+    /// The jobs of the queue, in ascending order of their numbers.
+    ///
+    /// # Errors
+    ///
+    /// `Unavailable`, or `Strange` where the row of one is no lawful record.
+    pub fn jobs(&mut self) -> Result<Vec<Job>, StoreFault>
+        ensures same_reference { self.new.store.ghost_name ≡ self.old.store.ghost_name }
+        ensures holds { Holds (state S.Store self.old.store.now.conn) self.old.failed
+            (state S.Store self.new.store.now.conn) self.new.failed }
+        ensures keeps { Keeps (state S.Store self.old.store.now.conn) self.old.failed
+            (state S.Store self.new.store.now.conn) self.new.failed }
+        ensures found { AnswersIn (state S.Store self.old.store.now.conn) self.old.failed
+            (state S.Store self.new.store.now.conn) result (λ m k found. found.items ≡ map fields_of m.jobs) }
+        ensures served { Serves (state S.Store self.new.store.now.conn) → Serves (state S.Store self.old.store.now.conn) }
+        ensures fails { self.new.failed ≡ is_err result }
+        ensures refused { IsTrue self.old.failed → result ≡ Err StoreFault.Unavailable }
+    {
+        if self.failed {
+            return Err(StoreFault::Unavailable);
+        }
+        let found = self.store.read_jobs();
         self.failed = found.is_err();
         found
     }

@@ -1,0 +1,12 @@
+use Rattle.std.proofs.Common.{◌≡◌, map}
+use Rattle.sqlite.specs.Held.{state}
+use Rattle.fax_core.specs.Job.{fields_of}
+use Rattle.fax_store.proofs.WorkLemmas.{stays_by, found_by}
+use Rattle.fax_store.proofs.store.Store.jobs.Goals as goal
+
+pub returns-clause-stays : goal.returns-clause-stays
+returns-clause-stays g c = stays_by (state g.S.Store c.args.self.now.conn) (state g.S.Store c.read_jobs.new.self.conn) c.read_jobs.ensures.served c.read_jobs.result c.read_jobs.ensures.reads
+
+pub returns-clause-found : goal.returns-clause-found
+returns-clause-found g c =
+    found_by (state g.S.Store c.args.self.now.conn) (state g.S.Store c.read_jobs.new.self.conn) c.read_jobs.ensures.served c.read_jobs.result c.read_jobs.ensures.reads (λ m k found. found.items ≡ map fields_of m.jobs) c.read_jobs.ensures.answers
