@@ -1,3 +1,4 @@
+mod AnswerLemmas
 mod DeviceLemmas
 pub mod DivisionLemmas
 mod ExchangeLemmas

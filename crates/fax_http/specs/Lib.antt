@@ -1,3 +1,4 @@
+pub mod Answer
 pub mod Buffer
 pub mod Clock
 pub mod Conversation

@@ -3,8 +3,11 @@
 //! A stream is divided into [`Message`]s, each is answered by a [`Handler`], and its reply is written before the next is
 //! read to its end: that is what [`serve`] does, over any reader and writer, which are [`Watched`]. A [`Clock`] gives the
 //! moments. [`laws`] has what is proved of the definitions.
+//!
+//! [`read_answer`] is the other side: it reads the reply to one request that was sent.
 #![tactic(auto)]
 
+mod answer;
 mod buffer;
 mod clock;
 mod device;
@@ -14,6 +17,7 @@ pub mod laws;
 mod message;
 mod serving;
 
+pub use answer::{Answer, AnswerFault, read_answer};
 pub use clock::{Clock, MachineClock, SaidClock};
 pub use device::{ReadFailed, Watched, WriteFailed};
 pub use message::{Broken, Front, Message, split_message};

@@ -67,7 +67,7 @@ enum HeadRead {
 
 /// How often a field occurs in a head, with its value where that is once.
 #[derive(Clone, Copy, Debug)]
-enum Occurrence<'b> {
+pub(crate) enum Occurrence<'b> {
     Missing,
     Once(&'b [u8]),
     Repeated,
@@ -146,7 +146,7 @@ fn read_head(input: &[u8], room: &mut [HeaderSpan]) -> HeadRead
 }
 
 /// The length of the body that the fields frame: that of `Content-Length`, or 0 without one.
-fn body_length(input: &[u8], fields: &[HeaderSpan]) -> Result<usize, Broken>
+pub(crate) fn body_length(input: &[u8], fields: &[HeaderSpan]) -> Result<usize, Broken>
     requires { All (IsHeaderWithin (length input.now)) fields.now }
     ensures { result ≡ framed (map (header_bytes input.now) fields.now) }
 {
@@ -168,7 +168,7 @@ fn body_length(input: &[u8], fields: &[HeaderSpan]) -> Result<usize, Broken>
 }
 
 /// The field of that name among the fields of a head; letter case doesn't matter.
-fn find_field<'b>(input: &'b [u8], fields: &[HeaderSpan], name: &[u8]) -> Occurrence<'b>
+pub(crate) fn find_field<'b>(input: &'b [u8], fields: &[HeaderSpan], name: &[u8]) -> Occurrence<'b>
     requires { All (IsHeaderWithin (length input.now)) fields.now }
     ensures { Shows result (values_of name.now (map (header_bytes input.now) fields.now)) }
 {
