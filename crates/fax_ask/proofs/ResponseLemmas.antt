@@ -11,7 +11,7 @@ use Rattle.fax_job.specs.Refusal.{body_word, line_word, order_word, refusal_word
 use Rattle.fax_ask.specs.Detail.{has_detail}
 use Rattle.fax_ask.specs.Response.{plain_body, refusal_bytes}
 use Rattle.fax_core.specs.Reply.{Submitted}
-use Rattle.fax_ask.specs.Answer.{Replied, Shown}
+use Rattle.fax_ask.specs.Answer.{Replied, Shown, Listed}
 use Rattle.fax_ask.specs.Laws.{AcceptedAre200Or201, OnlyUnavailableIs503}
 
 -- the words of refusals are short
@@ -86,6 +86,7 @@ pub accepted_statuses : AcceptedAre200Or201
 accepted_statuses (Replied (Submitted job)) = inr refl
 accepted_statuses (Replied other) = inl refl
 accepted_statuses (Shown lines) = inl refl
+accepted_statuses (Listed text) = inl refl
 
 pub unavailable_alone : OnlyUnavailableIs503
 unavailable_alone Unavailable keys e = refl

@@ -2,6 +2,7 @@
 use Rattle.std.specs.Prelude.{◌≡◌, refl, codes, Some, None}
 use Rattle.fax_ask.specs.declared.method.Method.TheVariants.{Get, Post, Another}
 use Rattle.fax_ask.specs.declared.request.Request.TheVariants.{Submit, Kill, Alter, Show, Next, Call}
+use Rattle.fax_ask.specs.declared.view.View.TheVariants as view
 use Rattle.fax_ask.specs.Request.{request_of}
 
 submit : request_of Post (codes "/jobs") ≡ Some Submit
@@ -16,9 +17,13 @@ alter : request_of Post (codes "/jobs/1/alter") ≡ Some (Alter 1)
 unfolding request_of
 alter = refl
 
-show : request_of Get (codes "/jobs/1") ≡ Some (Show 1)
+show : request_of Get (codes "/jobs/1") ≡ Some (Show (view.Job 1))
 unfolding request_of
 show = refl
+
+list : request_of Get (codes "/jobs") ≡ Some (Show view.Jobs)
+unfolding request_of
+list = refl
 
 next : request_of Post (codes "/modems/ttyS0/next") ≡ Some (Next (codes "ttyS0"))
 unfolding request_of

@@ -2,13 +2,14 @@
 use Rattle.std.specs.Prelude.{ℕ, List}
 use Rattle.fax_core.specs.Reply as machine
 use Rattle.fax_ask.specs.declared.answer.Answer.{Answer}
-use Rattle.fax_ask.specs.declared.answer.Answer.TheVariants.{Submitted, Stands, Marked, NoneToSend, Given, Called, Confirmed, Lines}
+use Rattle.fax_ask.specs.declared.answer.Answer.TheVariants.{Submitted, Stands, Marked, NoneToSend, Given, Called, Confirmed, Lines, Listing}
 use Rattle.fax_ask.specs.declared.answer.Handed.{Handed}
 
--- what a client is told: the machine's reply to a step, or the key lines of a job
+-- what a client is told: the machine's reply to a step, the key lines of a job, or the listing of all
 pub data Told : Type 0 where
   Replied : (reply : machine.Reply) → Told
   Shown : (lines : List ℕ) → Told
+  Listed : (text : List ℕ) → Told
 
 abbrev pub grant_told : Handed → machine.Handed
 grant_told handed = record { grant = handed.grant; job = handed.job; dial = handed.number.now; from = handed.from; to = handed.to }
@@ -22,3 +23,4 @@ told (Given handed) = Replied (machine.Given (grant_told handed))
 told (Called stop) = Replied (machine.Called stop)
 told (Confirmed npages stop) = Replied (machine.Confirmed npages stop)
 told (Lines bytes) = Shown bytes.now
+told (Listing bytes) = Listed bytes.now

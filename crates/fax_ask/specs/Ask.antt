@@ -62,7 +62,7 @@ Asks (Suspend job) body ask = ask ≡ Step (machine.Suspend job)
 Asks (Resume job) body ask = ask ≡ Step (machine.Resume job)
 Asks (Kill job) body ask = ask ≡ Step (machine.Kill job)
 Asks (Alter job) body ask = (changes : alter.Alter) × States alter_of body changes × (ask ≡ Step (machine.Alteration job changes))
-Asks (Show job) body ask = ask ≡ View job
+Asks (Show view) body ask = ask ≡ View view
 Asks (Ready modem) body ask = ask ≡ Step (machine.Ready modem)
 Asks (Down modem) body ask = ask ≡ Step (machine.Down modem)
 Asks (Next modem) body ask = ask ≡ Step (machine.Next modem)
@@ -107,4 +107,4 @@ IsLawfulStep other = IsLawfulAsk other
 
 abbrev pub IsLawful : Ask → Type 0
 IsLawful (Step ask) = IsLawfulStep ask
-IsLawful (View job) = ⊤
+IsLawful (View view) = ⊤

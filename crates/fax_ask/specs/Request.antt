@@ -7,6 +7,7 @@ use Rattle.fax_ask.specs.declared.method.Method.{Method}
 use Rattle.fax_ask.specs.declared.method.Method.TheVariants.{Get, Post, Another}
 use Rattle.fax_ask.specs.declared.request.Request.{Request}
 use Rattle.fax_ask.specs.declared.request.Request.TheVariants.{Submit, Suspend, Resume, Kill, Alter, Show, Ready, Down, Next, Call, Page, Outcome}
+use Rattle.fax_ask.specs.declared.view.View.TheVariants as view
 use Rattle.fax_ask.specs.Path.{parts, two_texts}
 
 -- POST /jobs/{id}/ACTION
@@ -20,12 +21,13 @@ job_action job action =
 
 -- GET /jobs/{id}, and what is posted below it
 abbrev pub job_request : Method → ℕ → List (List ℕ) → Option Request
-job_request Get job [] = Some (Show job)
+job_request Get job [] = Some (Show (view.Job job))
 job_request Post job (action ∷ []) = job_action job action
 job_request method job rest = None
 
--- POST /jobs, and what stands below; {id} is 1 to 18 digits, the first not 0
+-- GET and POST of /jobs, and what stands below; {id} is 1 to 18 digits, the first not 0
 abbrev pub jobs_request : Method → List (List ℕ) → Option Request
+jobs_request Get [] = Some (Show view.Jobs)
 jobs_request Post [] = Some Submit
 jobs_request method (id ∷ rest) = option_and_then (λ job. job_request method job rest) (request_number_of id)
 jobs_request method [] = None

@@ -7,7 +7,7 @@ use Rattle.fax_job.specs.declared.refusal.Refusal.{Refusal}
 use Rattle.fax_job.specs.declared.refusal.Refusal.TheVariants.{BadBody}
 use Rattle.fax_job.specs.Refusal.{body_line, body_word, refusal_number, refusal_status, refusal_word}
 use Rattle.fax_core.specs.Reply.{Handed, Reply, Submitted, Stands, Marked, NoneToSend, Given, Called, Confirmed, Keys, NoKeys, Notice, HeldGrant, Pages}
-use Rattle.fax_ask.specs.Answer.{Told, Replied, Shown}
+use Rattle.fax_ask.specs.Answer.{Told, Replied, Shown, Listed}
 
 -- a status (RFC 9110, section 15), whether the body is JSON (RFC 8259), and the body's bytes
 pub record Response : Type 0 where
@@ -43,6 +43,7 @@ reply_status other = 200
 abbrev pub accepted_response : Told → Response
 accepted_response (Replied reply) = record { status = reply_status reply; is_json = true; body = reply_body reply }
 accepted_response (Shown lines) = record { status = 200; is_json = false; body = lines }
+accepted_response (Listed text) = record { status = 200; is_json = false; body = text }
 
 -- what a request is answered with that was accepted before: only those are kept whose reply is JSON
 abbrev pub kept_response : ℕ → List ℕ → Response

@@ -14,6 +14,7 @@ use Rattle.fax_ask.specs.declared.request.Request.TheVariants as request
 use Rattle.fax_ask.specs.declared.routes.Route.{Route}
 use Rattle.fax_ask.specs.declared.routes.Route.TheVariants.{Jobs, Job, Suspend, Resume, Kill, Alter, Ready, Down, Next, Call, Page, Outcome}
 use Rattle.fax_ask.specs.declared.routes.TheConstants.{ROUTES}
+use Rattle.fax_ask.specs.declared.view.View.TheVariants as view
 
 -- the rows with the route that a pattern's text gives
 abbrev pub with_route : Result Scan InsertError → Route → RowsOf (RouteOf Route) → RowsOf (RouteOf Route)
@@ -56,7 +57,8 @@ posted Outcome id = option_map request.Outcome (number_in id)
 
 -- what GET names on it
 abbrev pub shown : Route → Option (List ℕ) → Option Request
-shown Job id = option_map request.Show (number_in id)
+shown Jobs id = Some (request.Show view.Jobs)
+shown Job id = option_map (λ job. request.Show (view.Job job)) (number_in id)
 shown other id = None
 
 -- what a method names on it

@@ -32,4 +32,6 @@ pub enum Answer<'a> {
     Confirmed { npages: u16, stop: bool },
     /// The key lines of a job (sendq(5)).
     Lines(&'a [u8]),
+    /// The listing of all jobs (faxstat(1)).
+    Listing(&'a [u8]),
 }

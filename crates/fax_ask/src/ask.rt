@@ -10,6 +10,7 @@ use crate::method::Method;
 use crate::report::{read_call, read_outcome, read_page};
 use crate::request::Request;
 use crate::routes::Routes;
+use crate::view::View;
 use fax_core::Ask as Step;
 use fax_job::{Alter, Order, Refusal, read_lines};
 use std::alloc::Global;
@@ -20,8 +21,8 @@ pub enum Ask {
     /// A step of the queue. Numbers of jobs and grants are as they were written: from 1, and of 18
     /// digits at most.
     Step(Step),
-    /// The key lines of a job.
-    View { job: u64 },
+    /// A job, or the listing of all.
+    View(View),
 }
 
 impl Routes {
@@ -58,7 +59,7 @@ fn read_body(alloc: Global, request: Request<'_>, body: &[u8]) -> Result<Ask, Re
     ensures lawful { IfOk result (λ ask. IsLawful ask) }
 {
     let step = match request {
-        Request::Show { job } => return Ok(Ask::View { job }),
+        Request::Show(view) => return Ok(Ask::View(view)),
         Request::Submit => Step::Submission(read_order(alloc, body)?),
         Request::Suspend { job } => Step::Suspend { job },
         Request::Resume { job } => Step::Resume { job },

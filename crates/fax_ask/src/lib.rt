@@ -2,7 +2,7 @@
 //!
 //! [`Routes::read_ask`] gives what is asked for, or the refusal of a path that isn't in the table of
 //! requests or of a body at fault. A [`Reply`] is a status and the bytes of a body: JSON (RFC 8259),
-//! or key lines in the manner of HylaFAX's sendq(5).
+//! key lines in the manner of HylaFAX's sendq(5), or a listing in the manner of its faxstat(1).
 #![tactic(auto)]
 
 mod answer;
@@ -16,6 +16,7 @@ mod report;
 mod request;
 mod routes;
 mod spelling;
+mod view;
 
 pub use answer::{Answer, Handed};
 pub use ask::Ask;
@@ -23,3 +24,4 @@ pub use detail::Detail;
 pub use method::Method;
 pub use reply::{Reply, has_detail};
 pub use routes::Routes;
+pub use view::View;

@@ -26,13 +26,13 @@ pub struct Reply {
     body: Body,
 }
 
-/// A body: JSON in room of its own or in memory, or key lines.
+/// A body: JSON in room of its own or in memory, or a text of key lines or of a listing.
 #[derive(Debug, Drop)]
 enum Body {
     Short(ShortText),
     Made(String),
     Kept(Vec<u8>),
-    Lines(Vec<u8>),
+    Text(Vec<u8>),
 }
 
 impl Model for Reply {
@@ -114,13 +114,13 @@ impl Reply {
         self.status
     }
 
-    /// Whether the body is JSON (RFC 8259). Else it is key lines.
+    /// Whether the body is JSON (RFC 8259). Else it is key lines or a listing.
     pub fn is_json(&self) -> bool
         ensures { result ≡ self.now.is_json }
     {
         match &self.body {
             Body::Short(_) | Body::Made(_) | Body::Kept(_) => true,
-            Body::Lines(_) => false,
+            Body::Text(_) => false,
         }
     }
 
@@ -132,7 +132,7 @@ impl Reply {
             Body::Short(text) => text.as_str().as_bytes(),
             Body::Made(text) => text.as_bytes(),
             Body::Kept(bytes) => bytes.as_slice(),
-            Body::Lines(bytes) => bytes.as_slice(),
+            Body::Text(bytes) => bytes.as_slice(),
         }
     }
 }
@@ -160,7 +160,9 @@ fn accepted_body(alloc: Global, answer: &Answer<'_>) -> Result<Body, AllocError>
         Answer::Given(handed) => given_text(alloc, handed)?,
         Answer::Called { stop } => called_text(alloc, *stop)?,
         Answer::Confirmed { npages, stop } => confirmed_text(alloc, *npages, *stop)?,
-        Answer::Lines(bytes) => return Ok(Body::Lines(Vec::from_slice(alloc, bytes)?)),
+        Answer::Lines(bytes) | Answer::Listing(bytes) => {
+            return Ok(Body::Text(Vec::from_slice(alloc, bytes)?));
+        }
     };
     Ok(Body::Made(text))
 }

@@ -6,6 +6,7 @@ ghost use Rattle.fax_ask.specs.Routes.{modem_in, number_in, posted, route_reques
 use crate::method::Method;
 use crate::modem_name::ModemName;
 use crate::routes::Route;
+use crate::view::View;
 use fax_job::RequestNumber;
 
 /// What a method and a path ask for, with the number or the name that they give.
@@ -16,7 +17,7 @@ pub enum Request<'a> {
     Resume { job: u64 },
     Kill { job: u64 },
     Alter { job: u64 },
-    Show { job: u64 },
+    Show(View),
     Ready { modem: ModemName<'a> },
     Down { modem: ModemName<'a> },
     Next { modem: ModemName<'a> },
@@ -44,7 +45,8 @@ fn shown(route: Route, id: Option<&str>) -> Option<Request<'static>>
     ensures { result ≡ shown route (option_copied id.entry) }
 {
     match route {
-        Route::Job => Some(Request::Show { job: number(id)? }),
+        Route::Jobs => Some(Request::Show(View::Jobs)),
+        Route::Job => Some(Request::Show(View::Job { job: number(id)? })),
         _ => None,
     }
 }

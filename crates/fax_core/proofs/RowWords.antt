@@ -1,5 +1,5 @@
 -- Words of the worked rows: two modems, of which one is fast, no controls and an empty queue, unless a row says otherwise.
-use Rattle.std.specs.Prelude.{ℕ, Bool, true, ◌&&◌, ◌||◌, List, [], map, codes, Option, Some, None}
+use Rattle.std.specs.Prelude.{decimal, ℕ, Bool, true, ◌&&◌, ◌||◌, List, [], map, codes, Option, Some, None}
 use Rattle.std.specs.Str.{bytes_eq}
 use Rattle.fax_job.specs.declared.alter.Alter.{Alter}
 use Rattle.fax_job.specs.declared.job.Call.{Call}
@@ -41,6 +41,7 @@ settings = record {
   delay = delay_after;
   max_jobs = 999999;
   max_grants = 999999999;
+  shows = decimal;
 }
 
 abbrev pub order : List ℕ → ℕ → Order

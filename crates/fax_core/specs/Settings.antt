@@ -24,3 +24,5 @@ pub record Settings : Type 0 where
   pub delay : Option Call → ℕ
   pub max_jobs : ℕ
   pub max_grants : ℕ
+  -- how a clock of the office shows a moment
+  pub shows : ℕ → List ℕ

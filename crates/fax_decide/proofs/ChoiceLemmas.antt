@@ -183,7 +183,7 @@ module _ (s : Settings) (m : Queue) (t : ℕ) (modem : List ℕ) (jobs : List Jo
 
 -- ---- records
 
-abbrev jobs_of : List JobFields → List Job
+abbrev pub jobs_of : List JobFields → List Job
 jobs_of fs = map (λ f. job_of f) fs
 
 -- one after those that don't pass
@@ -214,7 +214,7 @@ none_more p (x ∷ xs) f none fails = by (p (job_of x)) none (none_more p xs f)
     by true e ih = cc
     by false e ih = ih e fails
 
-jobs_again : (js : List Job) → All (λ j. job_of (fields_of j) ≡ j) js → jobs_of (map fields_of js) ≡ js
+pub jobs_again : (js : List Job) → All (λ j. job_of (fields_of j) ≡ j) js → jobs_of (map fields_of js) ≡ js
 jobs_again [] all = refl
 jobs_again (j ∷ js) all = ap₂ ◌∷◌ (all 0 j (omega arith)) (jobs_again js (λ k d h. all (suc k) d (omega arith)))
 

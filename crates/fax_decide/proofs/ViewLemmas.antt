@@ -1,24 +1,79 @@
--- What is shown of a job.
-use Rattle.std.proofs.Common.{◌≡◌, ℕ, Option, Some, sym, ap, ap₂, ◌∙◌}
+-- What is shown of a job, and of all jobs.
+use Rattle.std.proofs.Common.{◌≡◌, ℕ, List, [], ◌∷◌, ◌++◌, All, length, map, Option, Some, refl, sym, ap, ap₂, ◌∙◌}
+use Rattle.std.specs.List.{range_with_len}
+use Rattle.std.specs.List.Sorted.{IsStrictlyIncreasing}
+use Rattle.std.proofs.lemmas.List.{length-map, map-append}
 use Rattle.std.specs.Option.{option_map}
 use Rattle.fax_job.specs.JobLines.{job_lines}
 use Rattle.fax_job.specs.Spelling.{printed}
 use Rattle.fax_job.specs.declared.job.JobFields.{JobFields}
 use Rattle.fax_ask.specs.Answer.{Shown}
 use Rattle.fax_ask.specs.Response.{accepted_response}
-use Rattle.fax_core.specs.Ageing.{aged}
-use Rattle.fax_core.specs.Job.{job_of}
+use Rattle.fax_ask.specs.declared.view.View.TheVariants as sight
+use Rattle.fax_core.specs.Ageing.{aged, aged_job}
+use Rattle.fax_core.specs.Job.{Job, fields_of, job_of}
 use Rattle.fax_core.specs.Queue.{Queue, job_numbered}
 use Rattle.fax_core.specs.Settings.{Settings}
+use Rattle.fax_core.specs.Sound.{Sound}
 use Rattle.fax_core.specs.State.{state}
-use Rattle.fax_core.proofs.FitsLemmas.{record_again}
-use Rattle.fax_decide.specs.View.{viewed, view}
+use Rattle.fax_core.proofs.DecisionLemmas.{aged_number}
+use Rattle.fax_core.proofs.FitsLemmas.{job_again, record_again}
+use Rattle.fax_tables.specs.Job.{IsLawfulJob}
+use Rattle.fax_text.specs.Listing.{Listed, number_of}
+use Rattle.fax_text.proofs.OrderLemmas.{numbered}
+use Rattle.fax_decide.specs.View.{viewed, view, with_state}
 use Rattle.fax_decide.proofs.CallLemmas.{state_aged}
+use Rattle.fax_decide.proofs.ChoiceLemmas.{jobs_again, jobs_of}
 
 pub job_viewed : (s : Settings) (m : Queue) (t n : ℕ) (f : JobFields) (found : Option JobFields)
     → option_map (λ x. job_of x) found ≡ job_numbered n (aged t m) → found ≡ Some f
-    → accepted_response (Shown (printed (job_lines f (state s m t (job_of f))))) ≡ view s m t n
+    → accepted_response (Shown (printed (job_lines f (state s m t (job_of f))))) ≡ view s m t (sight.Job n)
 job_viewed s m t n f found is one =
     let there : Some (job_of f) ≡ job_numbered n (aged t m) = ap (λ o. option_map (λ (x : JobFields). job_of x) o) (sym one) ∙ is in
     ap₂ (λ (x : JobFields) (a : ℕ). accepted_response (Shown (printed (job_lines x a)))) (sym (record_again f)) (sym (state_aged s m t (job_of f)))
     ∙ ap (viewed s (aged t m) t) there
+
+-- ---- the listing
+
+twice : {X Y Z : Type 0} (g : Y → Z) (f : X → Y) (xs : List X) → map (λ x. g (f x)) xs ≡ map g (map f xs)
+twice g f [] = refl
+twice g f (x ∷ xs) = ap (λ zs. g (f x) ∷ zs) (twice g f xs)
+
+-- one more of them
+pub one_more_row : (s : Settings) (m : Queue) (t : ℕ) (before : List JobFields) (f g : JobFields) (found : ℕ) (rows more : List Listed)
+    → rows ≡ map (λ x. with_state s m t (aged_job t (job_of x))) before → job_of g ≡ aged_job t (job_of f) → found ≡ state s m t (job_of g) → more ≡ rows ++ (g, found) ∷ []
+    → more ≡ map (λ x. with_state s m t (aged_job t (job_of x))) (before ++ f ∷ [])
+one_more_row s m t before f g found rows more is old told one =
+    let row : ◌≡◌ {A = Listed} (g, found) (with_state s m t (aged_job t (job_of f))) =
+    ap₂ (λ (x : JobFields) (n : ℕ). (x, n)) (sym (record_again g)) told ∙ ap (with_state s m t) old in
+    one ∙ ap₂ (λ (xs : List Listed) (x : Listed). xs ++ x ∷ []) is row ∙ sym (map-append (λ (x : JobFields). with_state s m t (aged_job t (job_of x))) before (f ∷ []))
+
+-- all of them
+pub all_rows : (s : Settings) (m : Queue) (t : ℕ) (all before : List JobFields) (rows : List Listed) → all ≡ before
+    → rows ≡ map (λ x. with_state s m t (aged_job t (job_of x))) before → rows ≡ map (λ x. with_state s m t (aged_job t (job_of x))) all
+all_rows s m t all before rows same is = is ∙ ap (map (λ x. with_state s m t (aged_job t (job_of x)))) (sym same)
+
+-- the states are those of the aged queue
+same_states : (s : Settings) (m : Queue) (t : ℕ) (jobs : List Job) → map (λ j. with_state s m t (aged_job t j)) jobs ≡ map (with_state s (aged t m) t) (map (aged_job t) jobs)
+same_states s m t [] = refl
+same_states s m t (j ∷ js) = ap₂ ◌∷◌ (ap (λ (n : ℕ). (fields_of (aged_job t j), n)) (sym (state_aged s m t (aged_job t j)))) (same_states s m t js)
+
+-- the records of all jobs, aged, are the rows of the listing
+pub rows_seen : (s : Settings) (m : Queue) (t : ℕ) (records : List JobFields) → All IsLawfulJob m.jobs → records ≡ map fields_of m.jobs
+    → map (λ f. with_state s m t (aged_job t (job_of f))) records ≡ map (with_state s (aged t m) t) (aged t m).jobs
+rows_seen s m t records lawful is =
+    twice (λ j. with_state s m t (aged_job t j)) (λ f. job_of f) records
+    ∙ ap (map (λ j. with_state s m t (aged_job t j))) (ap jobs_of is ∙ jobs_again m.jobs (λ k d below. job_again _ (lawful k d below).pages))
+    ∙ same_states s m t m.jobs
+
+numbers_seen : (s : Settings) (q : Queue) (t : ℕ) (jobs : List Job) → map number_of (map (with_state s q t) (map (aged_job t) jobs)) ≡ map (λ j. j.number) jobs
+numbers_seen s q t [] = refl
+numbers_seen s q t (j ∷ js) = ap₂ ◌∷◌ (aged_number t j) (numbers_seen s q t js)
+
+-- and stand in ascending order of their numbers
+pub rows_ascend : (s : Settings) (m : Queue) (t : ℕ) → Sound m → IsStrictlyIncreasing (map number_of (map (with_state s (aged t m) t) (aged t m).jobs))
+rows_ascend s m t sound =
+    numbered (map (with_state s (aged t m) t) (map (aged_job t) m.jobs)) (numbers_seen s (aged t m) t m.jobs ∙ sound.jobs ∙ ap (range_with_len 1) (sym as_many))
+  where
+    as_many : length (map (with_state s (aged t m) t) (map (aged_job t) m.jobs)) ≡ length m.jobs
+    as_many = length-map (map (aged_job t) m.jobs) (with_state s (aged t m) t) ∙ length-map m.jobs (aged_job t)

@@ -9,6 +9,7 @@ use Rattle.fax_rule.specs.declared.rule.Rule as dest
 use Rattle.fax_dest.specs.declared.setup.Setup.{Setup}
 use Rattle.fax_hours.specs.Hours.{is_in}
 use Rattle.fax_hours.specs.Zone.{WeekMinute, week_minute_at}
+use Rattle.fax_text.specs.Listing.{time_shown}
 
 abbrev pub has_minute : List ℕ → WeekMinute → Bool
 has_minute week minute = is_in week minute.0 minute.1
@@ -34,4 +35,5 @@ settings_of setup controls = record {
   delay = delay_of setup;
   max_jobs = setup.max_jobs;
   max_grants = setup.max_grants;
+  shows = time_shown setup.zone;
 }

@@ -1,22 +1,35 @@
--- What a client sees of a job.
-use Rattle.std.specs.Prelude.{ℕ, Option, Some, None}
+-- What a client sees of the queue: a job, or the listing of all jobs.
+use Rattle.std.specs.Prelude.{ℕ, map, Option, Some, None}
 use Rattle.fax_job.specs.JobLines.{job_lines}
 use Rattle.fax_job.specs.Spelling.{printed}
 use Rattle.fax_job.specs.declared.refusal.Refusal.TheVariants.{NoJob}
-use Rattle.fax_ask.specs.Answer.{Shown}
+use Rattle.fax_ask.specs.Answer as answer
 use Rattle.fax_ask.specs.Response.{Response, accepted_response, refused_response}
+use Rattle.fax_ask.specs.declared.view.View.{View}
+use Rattle.fax_ask.specs.declared.view.View.TheVariants as asked
 use Rattle.fax_core.specs.Ageing.{aged}
 use Rattle.fax_core.specs.Job.{Job, fields_of}
 use Rattle.fax_core.specs.Queue.{Queue, job_numbered}
 use Rattle.fax_core.specs.Reply.{NoKeys}
 use Rattle.fax_core.specs.Settings.{Settings}
 use Rattle.fax_core.specs.State.{state}
+use Rattle.fax_text.specs.Listing.{Listed, listing_of}
 
--- its key lines, with its state
+-- a job's key lines, with its state
 abbrev pub viewed : Settings → Queue → ℕ → Option Job → Response
 viewed s m t None = refused_response NoJob NoKeys
-viewed s m t (Some j) = accepted_response (Shown (printed (job_lines (fields_of j) (state s m t j))))
+viewed s m t (Some j) = accepted_response (answer.Shown (printed (job_lines (fields_of j) (state s m t j))))
 
--- the job of a number, in a queue that is aged and not stored
-abbrev pub view : Settings → Queue → ℕ → ℕ → Response
-view s m t n = viewed s (aged t m) t (job_numbered n (aged t m))
+-- a job with the number of its state
+abbrev pub with_state : Settings → Queue → ℕ → Job → Listed
+with_state s m t j = (fields_of j, state s m t j)
+
+-- what is seen of the queue as it is at t
+abbrev pub seen : Settings → Queue → ℕ → View → Response
+seen s m t (asked.Job n) = viewed s m t (job_numbered n m)
+-- a sound queue has its jobs in ascending order of their numbers
+seen s m t asked.Jobs = accepted_response (answer.Listed (listing_of s.shows (map (with_state s m t) m.jobs)))
+
+-- the queue is aged and not stored
+abbrev pub view : Settings → Queue → ℕ → View → Response
+view s m t what = seen s (aged t m) t what

@@ -24,4 +24,4 @@ pub use effect::Effect;
 pub use fault::Unavailable;
 pub use office::Office;
 pub use request::decide;
-pub use view::view_job;
+pub use view::show;

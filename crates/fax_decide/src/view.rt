@@ -1,32 +1,65 @@
-//! What a client sees of a job.
+//! What a client sees of the queue: a job, or the listing of all jobs.
 
-ghost use Rattle.std.specs.Prelude.{◌≡◌, List, IfOk, OnOk};
+ghost use Rattle.std.specs.Prelude.{◌≡◌, List, [], ◌∷◌, ◌++◌, IfOk, OnOk, map};
+ghost use Rattle.std.specs.List.Sorted.{IsStrictlyIncreasing};
 ghost use Rattle.sqlite.specs.Held.{state};
 ghost use Rattle.sqlite.specs.State.{HasCleanDisk};
-ghost use Rattle.fax_ask.specs.Answer.{Shown};
+ghost use Rattle.fax_ask.specs.Answer.{Listed, Shown};
 ghost use Rattle.fax_ask.specs.Response.{accepted_response};
+ghost use Rattle.fax_ask.specs.declared.view.View.TheVariants.{Job as OneJob, Jobs as AllJobs};
+ghost use Rattle.fax_core.specs.Ageing.{aged_job};
 ghost use Rattle.fax_core.specs.Job.{job_of};
 ghost use Rattle.fax_core.specs.Queue.{Queue, Entry};
+ghost use Rattle.fax_core.specs.Sound.{Sound};
 ghost use Rattle.fax_core.specs.State.{state as job_state};
 ghost use Rattle.fax_job.specs.JobLines.{job_lines};
 ghost use Rattle.fax_job.specs.Spelling.{printed};
 ghost use Rattle.fax_store.specs.Store.{Means, Serves, Stays, StaysOpen};
+ghost use Rattle.fax_text.specs.Listing.{listing_of, number_of};
 ghost use Rattle.fax_decide.specs.Settings.{settings_of};
-ghost use Rattle.fax_decide.specs.View.{view};
+ghost use Rattle.fax_decide.specs.View.{view, with_state};
 
 use crate::fault::Unavailable;
 use crate::office::Office;
 use crate::records::job_at;
 use crate::state::state_of;
-use fax_ask::{Answer, Reply};
+use fax_ask::{Answer, Reply, View};
+use fax_core::aged_job;
 use fax_job::{Job, Moment, Refusal, write_lines};
 use fax_store::Store;
+use fax_text::list;
 use sqlite::Alter;
 use std::alloc::{AllocError, Global};
 
+/// What a client asks to see, of the queue as it is at `t`. Nothing is stored.
+///
+/// # Errors
+///
+/// [`Unavailable`].
+pub fn show<S: Alter>(
+    store: &mut Store<S>,
+    office: &Office,
+    alloc: Global,
+    asked: View,
+    t: Moment,
+) -> Result<Reply, Unavailable>
+    ensures served { Serves (state S.Store store.new.conn) → Serves (state S.Store store.old.conn) }
+    ensures clean { HasCleanDisk (state S.Store store.new.conn) → HasCleanDisk (state S.Store store.old.conn) }
+    ensures opens { OnOk result (StaysOpen (state S.Store store.old.conn) (state S.Store store.new.conn)) }
+    ensures stays { Stays (state S.Store store.old.conn) (state S.Store store.new.conn) }
+    ensures viewed { (m : Queue) (k : List Entry) → Sound m → Means (state S.Store store.old.conn) m k
+        → Serves (state S.Store store.new.conn) → IfOk result (λ reply.
+        reply ≡ view (settings_of office.now.setup office.now.controls) m t asked) }
+{
+    match asked {
+        View::Job { job } => show_job(store, office, alloc, job, t),
+        View::Jobs => show_jobs(store, office, alloc, t),
+    }
+}
+
 /// The key lines of the job of that number, by a copy aged at `t`, with its state there. Nothing is
 /// stored.
-pub fn view_job<S: Alter>(
+fn show_job<S: Alter>(
     store: &mut Store<S>,
     office: &Office,
     alloc: Global,
@@ -39,7 +72,7 @@ pub fn view_job<S: Alter>(
     ensures stays { Stays (state S.Store store.old.conn) (state S.Store store.new.conn) }
     ensures viewed { (m : Queue) (k : List Entry) → Means (state S.Store store.old.conn) m k
         → Serves (state S.Store store.new.conn) → IfOk result (λ reply.
-        reply ≡ view (settings_of office.now.setup office.now.controls) m t number) }
+        reply ≡ view (settings_of office.now.setup office.now.controls) m t (OneJob number)) }
 {
     match job_at(store, number, t)? {
         Some(job) => shown(store, office, alloc, &job, t),
@@ -75,4 +108,68 @@ fn shown_with(alloc: Global, job: &Job, state: u8) -> Result<Reply, AllocError>
     let lines = job.lines_at(alloc, state)?;
     let bytes = write_lines(alloc, &lines)?;
     Reply::accepted(alloc, &Answer::Lines(bytes.as_slice()))
+}
+
+// ---- the listing
+
+/// The listing of all jobs, by copies aged at `t`, with their states there. Nothing is stored.
+fn show_jobs<S: Alter>(
+    store: &mut Store<S>,
+    office: &Office,
+    alloc: Global,
+    t: Moment,
+) -> Result<Reply, Unavailable>
+    ensures served { Serves (state S.Store store.new.conn) → Serves (state S.Store store.old.conn) }
+    ensures clean { HasCleanDisk (state S.Store store.new.conn) → HasCleanDisk (state S.Store store.old.conn) }
+    ensures opens { OnOk result (StaysOpen (state S.Store store.old.conn) (state S.Store store.new.conn)) }
+    ensures stays { Stays (state S.Store store.old.conn) (state S.Store store.new.conn) }
+    ensures viewed { (m : Queue) (k : List Entry) → Sound m → Means (state S.Store store.old.conn) m k
+        → Serves (state S.Store store.new.conn) → IfOk result (λ reply.
+        reply ≡ view (settings_of office.now.setup office.now.controls) m t AllJobs) }
+{
+    let jobs = store.jobs()?;
+    let rows = with_states(store, office, alloc, jobs, t)?;
+    Ok(listed(office, alloc, rows.as_slice())?)
+}
+
+/// The jobs aged at `t`, each with the number of its state there.
+fn with_states<S: Alter>(
+    store: &mut Store<S>,
+    office: &Office,
+    alloc: Global,
+    jobs: Vec<Job>,
+    t: Moment,
+) -> Result<Vec<(Job, u8)>, Unavailable>
+    ensures served { Serves (state S.Store store.new.conn) → Serves (state S.Store store.old.conn) }
+    ensures clean { HasCleanDisk (state S.Store store.new.conn) → HasCleanDisk (state S.Store store.old.conn) }
+    ensures opens { OnOk result (StaysOpen (state S.Store store.old.conn) (state S.Store store.new.conn)) }
+    ensures stays { Stays (state S.Store store.old.conn) (state S.Store store.new.conn) }
+    ensures rows { (m : Queue) (k : List Entry) → Means (state S.Store store.old.conn) m k
+        → Serves (state S.Store store.new.conn) → IfOk result (λ rows. rows.items
+        ≡ map (λ job. with_state (settings_of office.now.setup office.now.controls) m t (aged_job t (job_of job))) jobs.items) }
+{
+    let mut rows = Vec::with_capacity(alloc, jobs.len())?;
+    for job in jobs {
+        let job = aged_job(job, t);
+        let state = state_of(store, office, alloc, &job, t)?;
+        add_row(&mut rows, job, state)?;
+    }
+    Ok(rows)
+}
+
+/// Puts a job with its state behind the others.
+fn add_row(rows: &mut Vec<(Job, u8)>, job: Job, state: u8) -> Result<(), AllocError>
+    ensures { OnOk result (rows.new.items ≡ rows.old.items ++ (job, state) ∷ []) }
+{
+    rows.push((job, state))?;
+    Ok(())
+}
+
+/// The reply that lists jobs that stand in ascending order of their numbers.
+fn listed(office: &Office, alloc: Global, jobs: &[(Job, u8)]) -> Result<Reply, AllocError>
+    ensures { IsStrictlyIncreasing (map number_of jobs.now) → IfOk result (λ reply. reply
+        ≡ accepted_response (Listed (listing_of (settings_of office.now.setup office.now.controls).shows jobs.now))) }
+{
+    let text = list(alloc, jobs, office.setup.zone())?;
+    Reply::accepted(alloc, &Answer::Listing(text.as_slice()))
 }

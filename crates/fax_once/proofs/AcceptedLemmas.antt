@@ -5,6 +5,7 @@ use Rattle.sqlite.specs.State.{State}
 use Rattle.fax_job.specs.declared.refusal.Refusal.{Refusal}
 use Rattle.fax_job.specs.declared.refusal.Refusal.TheVariants.{NumberReused}
 use Rattle.fax_ask.specs.Answer.{Replied}
+use Rattle.fax_ask.specs.declared.view.View.{View}
 use Rattle.fax_ask.specs.Response.{Response, accepted_response, kept_response}
 use Rattle.fax_core.specs.declared.ask.Ask.{Ask}
 use Rattle.fax_core.specs.Queue.{Queue, Entry}
@@ -67,7 +68,7 @@ module _ (s : Settings) (m : Queue) (k : List Entry) (after : Queue) (kept : Lis
 
   pub acceptance : (r : Reading) → this ≡ verdict s m k r → IsAcceptance s m k r after kept reply
   acceptance (Faulty refusal) h = absurd (is_told _ h)
-  acceptance (Sees moment job) h = absurd (is_told _ h)
+  acceptance (Sees moment what) h = absurd (is_told _ h)
   acceptance (Posts p) h = of_kept p (kept_for p.client p.number k) refl h
 
 -- what is posted is of the arrival's client, under its number, in its bytes
@@ -79,8 +80,8 @@ module _ (a : Arrival) (p : Post) where
   is_faulty : (refusal : Refusal) → Posts p ≡ Faulty refusal → ⊥
   is_faulty refusal e = cc
 
-  is_seen : (moment job : ℕ) → Posts p ≡ Sees moment job → ⊥
-  is_seen moment job e = cc
+  is_seen : (moment : ℕ) (what : View) → Posts p ≡ Sees moment what → ⊥
+  is_seen moment what e = cc
 
   of_post : (n : ℕ) (ask : Ask) → number_of a ≡ Ok n → p ≡ post_of a n ask → IsPosted a p
   of_post n ask is same =
@@ -93,7 +94,7 @@ module _ (a : Arrival) (p : Post) where
 
   of_said : Says a (Posts p) → IsPosted a p
   of_said (Says_fault refusal cause is) = absurd (is_faulty refusal is)
-  of_said (Says_view job is) = absurd (is_seen a.moment job is)
+  of_said (Says_view what is) = absurd (is_seen a.moment what is)
   of_said (Says_post number route ask its asks is) = of_post number ask its (same_post (post_of a number ask) is)
 
   pub is_posted : IsReading a (Posts p) → IsPosted a p

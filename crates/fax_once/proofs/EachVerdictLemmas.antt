@@ -7,6 +7,8 @@ use Rattle.fax_job.specs.Name.{is_name}
 use Rattle.fax_job.specs.Number.{request_number_of}
 use Rattle.fax_ask.specs.declared.request.Request.{Request}
 use Rattle.fax_ask.specs.declared.request.Request.TheVariants.{Submit, Suspend, Resume, Kill, Alter, Show, Ready, Down, Next, Call, Page, Outcome}
+use Rattle.fax_ask.specs.declared.view.View.{View}
+use Rattle.fax_ask.specs.declared.view.View.TheVariants as sight
 use Rattle.fax_ask.specs.Ask.{Asks}
 use Rattle.fax_ask.specs.Answer.{Replied}
 use Rattle.fax_ask.specs.declared.ask.Ask.{Ask as Asked}
@@ -25,7 +27,7 @@ use Rattle.fax_core.specs.Reply.{NoKeys, Step as Stepped, Taken, Refused}
 use Rattle.fax_core.specs.Run.{decided}
 use Rattle.fax_core.specs.Settings.{Settings}
 use Rattle.fax_core.specs.Sound.{Sound}
-use Rattle.fax_decide.specs.View.{viewed}
+use Rattle.fax_decide.specs.View.{seen, viewed}
 use Rattle.fax_once.proofs.ReadingLemmas.{Cause, Of_body, Of_route, Of_sender, Says, Says_fault, Says_post, Says_view, says}
 use Rattle.fax_once.specs.Arrival.{digits_of, number_of}
 use Rattle.fax_once.specs.Laws.{HasVerdict, NoVerdictIsUnavailable}
@@ -69,10 +71,10 @@ module _ (a : Arrival) (each : AsksOrHasFault a.body.now) where
   for_sender request (Ok number) unseen = for_body number request unseen
   for_sender request (Err refusal) unseen = (Faulty refusal, refl)
 
-  for_seen : (request : Request) (o : Option ℕ) → seen_by request ≡ o
-      → (r : Reading) × MatchOption o (MatchResult (number_of a) (λ number. IsForBody a number request r) (λ refusal. r ≡ Faulty refusal)) (λ job. r ≡ Sees a.moment job)
+  for_seen : (request : Request) (o : Option View) → seen_by request ≡ o
+      → (r : Reading) × MatchOption o (MatchResult (number_of a) (λ number. IsForBody a number request r) (λ refusal. r ≡ Faulty refusal)) (λ what. r ≡ Sees a.moment what)
   for_seen request None unseen = for_sender request (number_of a) unseen
-  for_seen request (Some job) seen = (Sees a.moment job, refl)
+  for_seen request (Some what) asked = (Sees a.moment what, refl)
 
   for_route : (o : Option Request) → (r : Reading) × MatchOption o (r ≡ Faulty NoRoute) (IsForRoute a r)
   for_route None = (Faulty NoRoute, refl)
@@ -136,6 +138,11 @@ module _ (accepted : AcceptedAre200Or201) (alone : OnlyUnavailableIs503) (met : 
   of_view q t None = λ e. absurd (let other = alone NoJob NoKeys e in cc)
   of_view q t (Some j) = other_number 200 (inl refl)
 
+  of_sight : (q : Queue) (t : ℕ) (what : View) → IsOther (Told (seen s q t what))
+  unfolding IsOther
+  of_sight q t (sight.Job n) = of_view q t (job_numbered n q)
+  of_sight q t sight.Jobs = other_number 200 (inl refl)
+
   of_cause : (refusal : Refusal) → Cause a refusal → refusal ≢ Unavailable
   of_cause refusal (Of_route is) e = absurd cc
   of_cause refusal (Of_sender is) e = bad_sender (is_name a.client.now) (request_number_of a.number.now) refusal is e
@@ -143,9 +150,9 @@ module _ (accepted : AcceptedAre200Or201) (alone : OnlyUnavailableIs503) (met : 
 
   of_said : (r : Reading) → Says a r → IsOther (verdict s m k r)
   of_said r (Says_fault refusal cause is) = subst (λ q. IsOther (verdict s m k q)) (sym is) (of_denied refusal (of_cause refusal cause))
-  of_said r (Says_view job is) =
+  of_said r (Says_view what is) =
       let t = decided_at m.clock a.moment in
-      subst (λ q. IsOther (verdict s m k q)) (sym is) (of_view (aged t m) t (job_numbered job (aged t m)))
+      subst (λ q. IsOther (verdict s m k q)) (sym is) (of_sight (aged t m) t what)
   of_said r (Says_post number route ask its asks is) =
       subst (λ q. IsOther (verdict s m k q)) (sym is) (let p = post_of a number ask in of_kept p (kept_for p.client p.number k) refl)
 

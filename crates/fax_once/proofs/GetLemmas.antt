@@ -8,17 +8,19 @@ use Rattle.fax_ask.specs.declared.method.Method.{Method}
 use Rattle.fax_ask.specs.declared.method.Method.TheVariants.{Get}
 use Rattle.fax_ask.specs.declared.request.Request.{Request}
 use Rattle.fax_ask.specs.declared.request.Request.TheVariants.{Show}
+use Rattle.fax_ask.specs.declared.view.View.{View}
+use Rattle.fax_ask.specs.declared.view.View.TheVariants as view
 use Rattle.fax_ask.specs.Ask.{Asks, IsAsk}
 use Rattle.fax_ask.specs.declared.ask.Ask.TheVariants.{Step}
 use Rattle.fax_ask.specs.Path.{parts}
 use Rattle.fax_ask.specs.Request.{grants_request, job_request, jobs_request, modems_request, path_request, request_of, root_request}
 
 IsShow : Request → Type 0
-IsShow r = (job : ℕ) × (r ≡ Show job)
+IsShow r = (what : View) × (r ≡ Show what)
 
 of_job : (job : ℕ) (rest : List (List ℕ)) (r : Request) → job_request Get job rest ≡ Some r → IsShow r
 unfolding IsShow
-of_job job [] r e = (job, cc)
+of_job job [] r e = (view.Job job, cc)
 of_job job (x ∷ xs) r e = absurd cc
 
 of_id : (found : Option ℕ) (rest : List (List ℕ)) (r : Request) → option_and_then (λ job. job_request Get job rest) found ≡ Some r → IsShow r
@@ -26,7 +28,8 @@ of_id None rest r e = absurd cc
 of_id (Some job) rest r e = of_job job rest r e
 
 of_jobs : (rest : List (List ℕ)) (r : Request) → jobs_request Get rest ≡ Some r → IsShow r
-of_jobs [] r e = absurd cc
+unfolding IsShow
+of_jobs [] r e = (view.Jobs, cc)
 of_jobs (id ∷ rest) r e = of_id (request_number_of id) rest r e
 
 none : (r : Request) → ◌≡◌ {A = Option Request} None (Some r) → IsShow r

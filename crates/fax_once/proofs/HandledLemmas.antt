@@ -47,18 +47,18 @@ lawful_ask (Show job) body ask h = absurd cc
 
 abbrev IsLawful : Reading → Type 0
 IsLawful (Faulty refusal) = ⊤
-IsLawful (Sees moment job) = ⊤
+IsLawful (Sees moment what) = ⊤
 IsLawful (Posts p) = IsLawfulAsk p.request.ask
 
 lawful_by : (a : Arrival) (r : Reading) → Says a r → IsLawful r
 lawful_by a r (Says_fault refusal cause is) = subst IsLawful (sym is) tt
-lawful_by a r (Says_view job is) = subst IsLawful (sym is) tt
+lawful_by a r (Says_view what is) = subst IsLawful (sym is) tt
 lawful_by a r (Says_post number route ask its asks is) = subst IsLawful (sym is) (lawful_ask route a.body.now ask asks)
 
 -- so what is taken is lawful, and taken
 one_taken : (s : Settings) (start : Start) (earlier : List Post) (r : Reading) → IsLawful r → AreTaken s start.queue earlier → AreTaken s start.queue (Rattle.fax_once.specs.Run.with_taken s start earlier r)
 one_taken s start earlier (Faulty refusal) is are = are
-one_taken s start earlier (Sees moment job) is are = are
+one_taken s start earlier (Sees moment what) is are = are
 one_taken s start earlier (Posts p) is are = by (is_taken s start earlier p) refl
   where
     by : (b : Bool) → is_taken s start earlier p ≡ b → AreTaken s start.queue (if b then p ∷ earlier else earlier)

@@ -5,6 +5,7 @@ use Rattle.fax_job.specs.declared.refusal.BodyFault.{BodyFault}
 use Rattle.fax_job.specs.declared.refusal.Refusal.{Refusal}
 use Rattle.fax_job.specs.declared.refusal.Refusal.TheVariants.{BadBody, NoRoute}
 use Rattle.fax_ask.specs.declared.request.Request.{Request}
+use Rattle.fax_ask.specs.declared.view.View.{View}
 use Rattle.fax_ask.specs.Ask.{Asks, IsAsk, IsBodyRefusal, IsRefused}
 use Rattle.fax_ask.specs.declared.ask.Ask.{Ask as Asked}
 use Rattle.fax_ask.specs.declared.ask.Ask.TheVariants.{Step}
@@ -41,11 +42,11 @@ module _ (one_ask : OneAsk) (or_refusal : AskOrRefusal) (one_fault : OneFault) (
   one_by_number request (Ok number) v w is x y = one_for_body number request v w is x y
   one_by_number request (Err e) v w is x y = x ∙ sym y
 
-  one_for_request : (request : Request) (o : Option ℕ) (v w : Reading) → request_of a.method a.path.now ≡ Some request
-      → MatchOption o (MatchResult (number_of a) (λ number. IsForBody a number request v) (λ refusal. v ≡ Faulty refusal)) (λ job. v ≡ Sees a.moment job)
-      → MatchOption o (MatchResult (number_of a) (λ number. IsForBody a number request w) (λ refusal. w ≡ Faulty refusal)) (λ job. w ≡ Sees a.moment job) → v ≡ w
+  one_for_request : (request : Request) (o : Option View) (v w : Reading) → request_of a.method a.path.now ≡ Some request
+      → MatchOption o (MatchResult (number_of a) (λ number. IsForBody a number request v) (λ refusal. v ≡ Faulty refusal)) (λ what. v ≡ Sees a.moment what)
+      → MatchOption o (MatchResult (number_of a) (λ number. IsForBody a number request w) (λ refusal. w ≡ Faulty refusal)) (λ what. w ≡ Sees a.moment what) → v ≡ w
   one_for_request request None v w is x y = one_by_number request (number_of a) v w is x y
-  one_for_request request (Some job) v w is x y = x ∙ sym y
+  one_for_request request (Some what) v w is x y = x ∙ sym y
 
   one_of : (o : Option Request) (v w : Reading) → request_of a.method a.path.now ≡ o → MatchOption o (v ≡ Faulty NoRoute) (IsForRoute a v) → MatchOption o (w ≡ Faulty NoRoute) (IsForRoute a w) → v ≡ w
   one_of None v w is x y = x ∙ sym y

@@ -57,7 +57,7 @@ module _ (s : Settings) (start : Start) (beginning : List Reading) where
   more : (rest : List Reading) (r : Reading) → taken s start (rest ++ beginning) ≡ taken s later rest ++ taken s start beginning
       → with_taken s start (taken s start (rest ++ beginning)) r ≡ with_taken s later (taken s later rest) r ++ taken s start beginning
   more rest (Faulty refusal) is = is
-  more rest (Sees moment job) is = is
+  more rest (Sees moment what) is = is
   more rest (Posts p) is =
       ap (λ b. if b then p ∷ taken s start (rest ++ beginning) else taken s start (rest ++ beginning)) (same_taken rest p)
       ∙ one_more p (is_taken s later (taken s later rest) p) (taken s start (rest ++ beginning)) (taken s later rest) is
@@ -90,7 +90,7 @@ grows s start earlier (r ∷ later) past is = by r (grows s start earlier later 
   where
     by : (r : Reading) → (more : List Post) × (taken s start (later ++ past) ≡ more ++ earlier) → (more : List Post) × (with_taken s start (taken s start (later ++ past)) r ≡ more ++ earlier)
     by (Faulty refusal) it = it
-    by (Sees moment job) it = it
+    by (Sees moment what) it = it
     by (Posts p) it = either (is_taken s start (taken s start (later ++ past)) p)
       where
         either : (b : Bool) → (more : List Post) × ((if b then p ∷ taken s start (later ++ past) else taken s start (later ++ past)) ≡ more ++ earlier)

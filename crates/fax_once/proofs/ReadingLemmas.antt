@@ -1,10 +1,11 @@
--- What an arrival says is one of three: a fault with its cause, a job that it asks to see, or a post.
+-- What an arrival says is one of three: a fault with its cause, what it asks to see, or a post.
 use Rattle.std.proofs.Common.{◌≡◌, inl, inr, ℕ, Option, Some, None, Ok, Err, refl}
 use Rattle.std.specs.Prelude.{Result, MatchOption, MatchResult}
 use Rattle.fax_job.specs.declared.refusal.BodyFault.{BodyFault}
 use Rattle.fax_job.specs.declared.refusal.Refusal.{Refusal}
 use Rattle.fax_job.specs.declared.refusal.Refusal.TheVariants.{BadBody, NoRoute}
 use Rattle.fax_ask.specs.Ask.{Asks}
+use Rattle.fax_ask.specs.declared.view.View.{View}
 use Rattle.fax_ask.specs.declared.ask.Ask.{Ask as Asked}
 use Rattle.fax_ask.specs.declared.ask.Ask.TheVariants.{Step}
 use Rattle.fax_ask.specs.declared.request.Request.{Request as Route}
@@ -25,7 +26,7 @@ pub data Cause (a : Arrival) (refusal : Refusal) : Type 0 where
 
 pub data Says (a : Arrival) (r : Reading) : Type 0 where
   Says_fault : (refusal : Refusal) → Cause a refusal → r ≡ Faulty refusal → Says a r
-  Says_view : (job : ℕ) → r ≡ Sees a.moment job → Says a r
+  Says_view : (what : View) → r ≡ Sees a.moment what → Says a r
   Says_post : (number : ℕ) (route : Route) (ask : Ask) → number_of a ≡ Ok number → Asks route a.body.now (Step ask) → r ≡ Posts (post_of a number ask) → Says a r
 
 module _ (a : Arrival) (r : Reading) where
@@ -37,10 +38,10 @@ module _ (a : Arrival) (r : Reading) where
   by_number route (Ok number) its h = for_body number route its h
   by_number route (Err refusal) its h = Says_fault refusal (Of_sender its) h
 
-  for_route : (route : Route) (o : Option ℕ)
-      → MatchOption o (MatchResult (number_of a) (λ number. IsForBody a number route r) (λ refusal. r ≡ Faulty refusal)) (λ job. r ≡ Sees a.moment job) → Says a r
+  for_route : (route : Route) (o : Option View)
+      → MatchOption o (MatchResult (number_of a) (λ number. IsForBody a number route r) (λ refusal. r ≡ Faulty refusal)) (λ what. r ≡ Sees a.moment what) → Says a r
   for_route route None h = by_number route (number_of a) refl h
-  for_route route (Some job) h = Says_view job h
+  for_route route (Some what) h = Says_view what h
 
   by_route : (o : Option Route) → MatchOption o (r ≡ Faulty NoRoute) (IsForRoute a r) → Says a r
   by_route None h = Says_fault NoRoute (Of_route refl) h

@@ -8,6 +8,7 @@ use Rattle.std.proofs.lemmas.Bool.{and_from, cases_Bool, eq-eqb}
 use Rattle.fax_job.specs.declared.refusal.Refusal.{Refusal}
 use Rattle.fax_job.specs.declared.refusal.Refusal.TheVariants.{NoRoute}
 use Rattle.fax_ask.specs.declared.request.Request.{Request as Route}
+use Rattle.fax_ask.specs.declared.view.View.{View}
 use Rattle.fax_ask.specs.Request.{request_of}
 use Rattle.fax_ask.specs.Answer.{Replied}
 use Rattle.fax_ask.specs.Response.{Response, accepted_response, kept_response}
@@ -27,7 +28,7 @@ use Rattle.fax_once.specs.declared.arrival.Arrival.{Arrival}
 -- the same, at another moment
 abbrev moved : ℕ → Reading → Reading
 moved t (Faulty refusal) = Faulty refusal
-moved t (Sees moment job) = Sees t job
+moved t (Sees moment what) = Sees t what
 moved t (Posts p) = Posts (record p { request = record p.request { moment = t } })
 
 module _ (t : ℕ) (a : Arrival) (r : Reading) where
@@ -43,11 +44,11 @@ module _ (t : ℕ) (a : Arrival) (r : Reading) where
   by_number route (Ok number) h = for_body number route h
   by_number route (Err refusal) h = ap (moved t) h
 
-  for_route : (route : Route) (o : Option ℕ)
-      → MatchOption o (MatchResult (number_of a) (λ number. IsForBody a number route r) (λ refusal. r ≡ Faulty refusal)) (λ job. r ≡ Sees a.moment job)
-      → MatchOption o (MatchResult (number_of a) (λ number. IsForBody other number route (moved t r)) (λ refusal. moved t r ≡ Faulty refusal)) (λ job. moved t r ≡ Sees t job)
+  for_route : (route : Route) (o : Option View)
+      → MatchOption o (MatchResult (number_of a) (λ number. IsForBody a number route r) (λ refusal. r ≡ Faulty refusal)) (λ what. r ≡ Sees a.moment what)
+      → MatchOption o (MatchResult (number_of a) (λ number. IsForBody other number route (moved t r)) (λ refusal. moved t r ≡ Faulty refusal)) (λ what. moved t r ≡ Sees t what)
   for_route route None h = by_number route (number_of a) h
-  for_route route (Some job) h = ap (moved t) h
+  for_route route (Some what) h = ap (moved t) h
 
   by_route : (o : Option Route) → MatchOption o (r ≡ Faulty NoRoute) (IsForRoute a r) → MatchOption o (moved t r ≡ Faulty NoRoute) (IsForRoute other (moved t r))
   by_route None h = ap (moved t) h

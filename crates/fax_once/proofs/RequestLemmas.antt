@@ -10,6 +10,7 @@ use Rattle.fax_ask.specs.declared.request.Request.TheVariants.{Submit, Suspend, 
 use Rattle.fax_ask.specs.Ask.{Asks, IsAsk, IsBodyRefusal, IsRefused}
 use Rattle.fax_ask.specs.declared.ask.Ask.{Ask as Asked}
 use Rattle.fax_ask.specs.declared.ask.Ask.TheVariants.{Step, View}
+use Rattle.fax_ask.specs.declared.view.View.{View as Sight}
 use Rattle.fax_ask.specs.Request.{request_of}
 use Rattle.fax_ask.specs.Response.{Response, refused_response}
 use Rattle.fax_core.specs.declared.ask.Ask.{Ask}
@@ -27,19 +28,19 @@ use Rattle.fax_once.specs.declared.sender.Sender.{Sender}
 
 -- ---- which requests ask for a view
 
-seen : (r : Request) (body : List ℕ) (job : ℕ) → Asks r body (View job) → seen_by r ≡ Some job
-seen Submit body job is = absurd (let e = is.2 in cc)
-seen (Suspend n) body job is = absurd cc
-seen (Resume n) body job is = absurd cc
-seen (Kill n) body job is = absurd cc
-seen (Alter n) body job is = absurd (let e = is.2 in cc)
-seen (Show n) body job is = cc
-seen (Ready n) body job is = absurd cc
-seen (Down n) body job is = absurd cc
-seen (Next n) body job is = absurd cc
-seen (Call n) body job is = absurd (let e = is.2 in cc)
-seen (Page n) body job is = absurd (let e = is.2 in cc)
-seen (Outcome n) body job is = absurd (let e = is.2 in cc)
+seen : (r : Request) (body : List ℕ) (what : Sight) → Asks r body (View what) → seen_by r ≡ Some what
+seen Submit body what is = absurd (let e = is.2 in cc)
+seen (Suspend n) body what is = absurd cc
+seen (Resume n) body what is = absurd cc
+seen (Kill n) body what is = absurd cc
+seen (Alter n) body what is = absurd (let e = is.2 in cc)
+seen (Show n) body what is = cc
+seen (Ready n) body what is = absurd cc
+seen (Down n) body what is = absurd cc
+seen (Next n) body what is = absurd cc
+seen (Call n) body what is = absurd (let e = is.2 in cc)
+seen (Page n) body what is = absurd (let e = is.2 in cc)
+seen (Outcome n) body what is = absurd (let e = is.2 in cc)
 
 unseen : (r : Request) (body : List ℕ) (ask : Ask) → Asks r body (Step ask) → seen_by r ≡ None
 unseen Submit body ask is = refl
@@ -57,20 +58,20 @@ unseen (Outcome n) body ask is = refl
 
 -- ---- readings
 
-for_view : (a : Arrival) (o : Option Request) (job : ℕ) → MatchOption o ⊥ (λ r. Asks r a.body.now (View job)) → MatchOption o (Sees a.moment job ≡ Faulty NoRoute) (IsForRoute a (Sees a.moment job))
-for_view a None job is = absurd is
-for_view a (Some r) job is = by (seen_by r) (seen r a.body.now job is)
+for_view : (a : Arrival) (o : Option Request) (what : Sight) → MatchOption o ⊥ (λ r. Asks r a.body.now (View what)) → MatchOption o (Sees a.moment what ≡ Faulty NoRoute) (IsForRoute a (Sees a.moment what))
+for_view a None what is = absurd is
+for_view a (Some r) what is = by (seen_by r) (seen r a.body.now what is)
   where
-    by : (o : Option ℕ) → o ≡ Some job → MatchOption o (MatchResult (number_of a) (λ number. IsForBody a number r (Sees a.moment job)) (λ refusal. Sees a.moment job ≡ Faulty refusal)) (λ n. Sees a.moment job ≡ Sees a.moment n)
+    by : (o : Option Sight) → o ≡ Some what → MatchOption o (MatchResult (number_of a) (λ number. IsForBody a number r (Sees a.moment what)) (λ refusal. Sees a.moment what ≡ Faulty refusal)) (λ x. Sees a.moment what ≡ Sees a.moment x)
     by None e = absurd cc
-    by (Some n) e = let same : n ≡ job = cc in ap (Sees a.moment) (sym same)
+    by (Some x) e = let same : x ≡ what = cc in ap (Sees a.moment) (sym same)
 
 -- a request that asks for no view, by its number
 posted : (a : Arrival) (v : Reading) (r : Request) → seen_by r ≡ None
     → MatchResult (number_of a) (λ number. IsForBody a number r v) (λ refusal. v ≡ Faulty refusal) → IsForRoute a v r
 posted a v r is post = by (seen_by r) is
   where
-    by : (o : Option ℕ) → o ≡ None → MatchOption o (MatchResult (number_of a) (λ number. IsForBody a number r v) (λ refusal. v ≡ Faulty refusal)) (λ job. v ≡ Sees a.moment job)
+    by : (o : Option Sight) → o ≡ None → MatchOption o (MatchResult (number_of a) (λ number. IsForBody a number r v) (λ refusal. v ≡ Faulty refusal)) (λ what. v ≡ Sees a.moment what)
     by None e = post
     by (Some n) e = absurd cc
 
@@ -101,14 +102,14 @@ pub where_open : {A E : Type 0} (r : Result A E) (C S : Type 0) (P : A → Type 
 where_open (Ok a) C S P opens clean so = so (opens clean)
 where_open (Err e) C S P opens clean so = tt
 
-pub view_answers : {E : Type 0} (result : Result Response E) (s : Settings) (a : Arrival) (m : Queue) (k : List Entry) (x : Asked) (job : ℕ) (store : State)
-    → IsAsk a.method a.path.now a.body.now x → x ≡ View job → IfOk result (λ reply. reply ≡ view s m (decided_at m.clock a.moment) job) → Means store m k → Answers s a m k result store
-view_answers (Ok reply) s a m k x job store is shown replied rests = (
-  Told (view s m (decided_at m.clock a.moment) job),
-  (Sees a.moment job, for_view a (request_of a.method a.path.now) job (subst (λ (y : Asked). IsAsk a.method a.path.now a.body.now y) shown is), refl),
+pub view_answers : {E : Type 0} (result : Result Response E) (s : Settings) (a : Arrival) (m : Queue) (k : List Entry) (x : Asked) (what : Sight) (store : State)
+    → IsAsk a.method a.path.now a.body.now x → x ≡ View what → IfOk result (λ reply. reply ≡ view s m (decided_at m.clock a.moment) what) → Means store m k → Answers s a m k result store
+view_answers (Ok reply) s a m k x what store is shown replied rests = (
+  Told (view s m (decided_at m.clock a.moment) what),
+  (Sees a.moment what, for_view a (request_of a.method a.path.now) what (subst (λ (y : Asked). IsAsk a.method a.path.now a.body.now y) shown is), refl),
   (replied, rests),
 )
-view_answers (Err e) s a m k x job store is shown replied rests = rests
+view_answers (Err e) s a m k x what store is shown replied rests = rests
 
 pub step_answers : {E : Type 0} (result : Result Response E) (s : Settings) (a : Arrival) (m : Queue) (k : List Entry) (sender : Sender) (x : Asked) (ask : Ask) (store : State)
     → IsAsk a.method a.path.now a.body.now x → x ≡ Step ask → IsSender a sender → LeavesBy m k result store (asked_for s m k (post_of a sender.number ask)) → Answers s a m k result store

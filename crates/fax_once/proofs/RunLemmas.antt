@@ -91,7 +91,7 @@ module _ (s : Settings) (start : Start) (earlier : List Post) where
 
   pub behind : (r : Reading) → ThreadsBehind r
   behind (Faulty refusal) = (refl, refl)
-  behind (Sees moment job) = (refl, refl)
+  behind (Sees moment what) = (refl, refl)
   behind (Posts p) = posted p
 
 pub runs_thread : RunsThread

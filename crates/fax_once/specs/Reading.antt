@@ -8,6 +8,7 @@ use Rattle.fax_ask.specs.Request.{request_of}
 use Rattle.fax_ask.specs.declared.ask.Ask.TheVariants.{Step}
 use Rattle.fax_ask.specs.declared.request.Request.{Request as Route}
 use Rattle.fax_ask.specs.declared.request.Request.TheVariants.{Show}
+use Rattle.fax_ask.specs.declared.view.View.{View}
 use Rattle.fax_core.specs.declared.ask.Ask.{Ask}
 use Rattle.fax_core.specs.Run.{Request}
 use Rattle.fax_once.specs.Arrival.{number_of, said_of}
@@ -23,8 +24,8 @@ pub record Post : Type 0 where
 pub data Reading : Type 0 where
   -- it is refused, whatever the queue is
   Faulty : (refusal : Refusal) → Reading
-  -- it asks to see a job
-  Sees : (moment job : ℕ) → Reading
+  -- it asks to see a job, or all jobs
+  Sees : (moment : ℕ) (view : View) → Reading
   Posts : (post : Post) → Reading
 
 -- the client as it stands, the number that its digits write, and the bytes as they are kept
@@ -37,9 +38,9 @@ IsForBody a number route r =
     ((ask : Ask) × Asks route a.body.now (Step ask) × (r ≡ Posts (post_of a number ask)))
     ⊎ ((fault : BodyFault) × IsBodyRefusal route a.body.now (BadBody fault) × (r ≡ Faulty (BadBody fault)))
 
--- the job that a request asks to see, if it does
-abbrev pub seen_by : Route → Option ℕ
-seen_by (Show job) = Some job
+-- what a request asks to see, if it does
+abbrev pub seen_by : Route → Option View
+seen_by (Show view) = Some view
 seen_by other = None
 
 -- a view needs no client and no number; for all else they come before the body
@@ -47,7 +48,7 @@ abbrev pub IsForRoute : Arrival → Reading → Route → Type 0
 IsForRoute a r route =
     MatchOption (seen_by route)
     (MatchResult (number_of a) (λ number. IsForBody a number route r) (λ refusal. r ≡ Faulty refusal))
-    (λ job. r ≡ Sees a.moment job)
+    (λ view. r ≡ Sees a.moment view)
 
 -- the method and the path come first
 abbrev pub IsReading : Arrival → Reading → Type 0

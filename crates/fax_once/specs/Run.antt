@@ -76,7 +76,7 @@ once_reply (Some e) said new = if bytes_eq e.said said then kept_response e.stat
 -- the reply where these were taken before
 abbrev pub reply_behind : Settings → Start → List Post → Reading → Response
 reply_behind s start earlier (Faulty refusal) = refused_response refusal NoKeys
-reply_behind s start earlier (Sees moment job) = view s (queue_after s start.queue earlier) (decided_at (queue_after s start.queue earlier).clock moment) job
+reply_behind s start earlier (Sees moment what) = view s (queue_after s start.queue earlier) (decided_at (queue_after s start.queue earlier).clock moment) what
 reply_behind s start earlier (Posts p) = once_reply (kept_for p.client p.number (kept_after s start earlier)) p.said (step_reply (decided s (queue_after s start.queue earlier) p.request))
 
 -- the reply at a position, with what was heard before it

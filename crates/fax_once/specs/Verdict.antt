@@ -70,7 +70,7 @@ asked_for s m k p = taken_once (kept_for p.client p.number k) p.said (stepped p 
 -- what comes of a reading
 abbrev pub verdict : Settings → Queue → List Entry → Reading → Verdict
 verdict s m k (Faulty refusal) = denied refusal
-verdict s m k (Sees moment job) = Told (view s m (decided_at m.clock moment) job)
+verdict s m k (Sees moment what) = Told (view s m (decided_at m.clock moment) what)
 verdict s m k (Posts p) = asked_for s m k p
 
 abbrev pub IsVerdict : Settings → Arrival → Queue → List Entry → Verdict → Type 0

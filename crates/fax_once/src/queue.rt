@@ -37,9 +37,9 @@ ghost use Rattle.fax_once.specs.declared.arrival.Arrival.{Arrival as ArrivalOf};
 use crate::acceptance::commit_accepted;
 use crate::arrival::Arrival;
 use crate::sender::Sender;
-use fax_ask::{Ask, Detail, Reply, Routes};
+use fax_ask::{Ask, Detail, Reply, Routes, View};
 use fax_core::Ask as Step;
-use fax_decide::{Decision, Effect, Office, Unavailable, decide, view_job};
+use fax_decide::{Decision, Effect, Office, Unavailable, decide, show};
 use fax_dest::{Controls, Setup};
 use fax_job::{BodyFault, Moment, Refusal};
 use fax_store::{Kept, Meta, Store};
@@ -198,7 +198,7 @@ impl<S: Alter> Queue<S> {
             (state S.Store self.new.store.conn) }
     {
         match ask {
-            Ask::View { job } => self.show(alloc, job, arrival.moment),
+            Ask::View(asked) => self.show(alloc, asked, arrival.moment),
             Ask::Step(ask) => match Sender::of(arrival) {
                 Ok(sender) => self.step(alloc, arrival, &sender, ask),
                 Err(refusal) => Ok(Reply::refused(refusal)),
@@ -206,8 +206,8 @@ impl<S: Alter> Queue<S> {
         }
     }
 
-    /// Shows a job at the later of that moment and the clock. Nothing changes.
-    fn show(&mut self, alloc: Global, job: u64, moment: Moment) -> Result<Reply, Unavailable>
+    /// Shows what a client asks to see, at the later of that moment and the clock. Nothing changes.
+    fn show(&mut self, alloc: Global, asked: View, moment: Moment) -> Result<Reply, Unavailable>
         ensures office { self.new.office ≡ self.old.office }
         ensures clean { HasCleanDisk (state S.Store self.new.store.conn)
             → HasCleanDisk (state S.Store self.old.store.conn) }
@@ -216,13 +216,13 @@ impl<S: Alter> Queue<S> {
         ensures opens { OnOk result (HasCleanDisk (state S.Store self.new.store.conn)
             → Serves (state S.Store self.new.store.conn)) }
         ensures stays { Stays (state S.Store self.old.store.conn) (state S.Store self.new.store.conn) }
-        ensures viewed { (m : QueueOf) (k : List Entry) → Means (state S.Store self.old.store.conn) m k
+        ensures viewed { (m : QueueOf) (k : List Entry) → Sound m → Means (state S.Store self.old.store.conn) m k
             → Serves (state S.Store self.new.store.conn) → IfOk result (λ reply. reply
-            ≡ view (settings_of self.old.office.setup self.old.office.controls) m (decided_at m.clock moment) job) }
+            ≡ view (settings_of self.old.office.setup self.old.office.controls) m (decided_at m.clock moment) asked) }
     {
         let meta = self.store.meta()?;
         let t = moment_at(&meta, moment);
-        view_job(&mut self.store, &self.office, alloc, job, t)
+        show(&mut self.store, &self.office, alloc, asked, t)
     }
 
     /// Answers a request whose number has a kept reply, and decides one whose number is new.

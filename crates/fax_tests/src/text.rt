@@ -288,7 +288,7 @@ fn said(alloc: Global, line: &str) -> Result<String, Fail> {
     }
     let plan = match read_words(alloc, words.as_slice()) {
         Ok(Plan::Sendfax(plan)) => plan,
-        Ok(Plan::Replay(_) | Plan::Serve(_)) => {
+        Ok(Plan::Replay(_) | Plan::Serve(_) | Plan::List(_)) => {
             return Ok(String::from_str(alloc, "another command")?);
         }
         Err(WordsFault::Help(_)) => return Ok(String::from_str(alloc, "help")?),

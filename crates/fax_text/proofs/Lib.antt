@@ -1,7 +1,10 @@
+pub mod CivilLemmas
 pub mod ListingLemmas
 pub mod OptionWords
+pub mod OrderLemmas
 pub mod RefusedWords
 pub mod ReplayWords
+mod RowsCivil
 mod RowsListing
 pub mod RowsSendfax
 mod RowsWords

@@ -10,7 +10,7 @@ use Rattle.fax_text.specs.CommandLine.{AskForReplay, GivesReplay, IsPlainWord}
 use Rattle.fax_text.specs.Server.{files_in}
 use Rattle.fax_text.specs.Words.{Reads, program}
 use Rattle.fax_text.specs.declared.words.Plan.{Plan}
-use Rattle.fax_text.specs.declared.words.Plan.TheVariants.{Replay, Serve, Sendfax}
+use Rattle.fax_text.specs.declared.words.Plan.TheVariants.{List as ListJobs, Replay, Serve, Sendfax}
 use Rattle.fax_text.specs.declared.words.WordsFault.{WordsFault}
 use Rattle.fax_text.specs.declared.words.WordsFault.TheVariants.{Help, Usage, NoMemory}
 
@@ -102,6 +102,10 @@ no_serve : (rows other : List Row) → ¬ (Some (codes "serve", rows) ≡ entere
 unfolding name_in
 no_serve rows other e = let no : codes "serve" ≡ codes "replay" = ap name_in e in cc
 
+no_list : (rows other : List Row) → ¬ (Some (codes "list", rows) ≡ entered other)
+unfolding name_in
+no_list rows other e = let no : codes "list" ≡ codes "replay" = ap name_in e in cc
+
 no_sendfax : (rows other : List Row) → ¬ (Some (codes "sendfax", rows) ≡ entered other)
 unfolding name_in
 no_sendfax rows other e = let no : codes "sendfax" ≡ codes "replay" = ap name_in e in cc
@@ -109,6 +113,7 @@ no_sendfax rows other e = let no : codes "sendfax" ≡ codes "replay" = ap name_
 given : (words : List Text) (setup controls : Option Text) (result : Result Plan WordsFault) → IsReplay words setup controls
     → Reads words result → GivesReplay setup controls result
 given words setup controls (Ok (Serve plan)) is reads = no_serve reads.0.0 is.rows (sym reads.0.1 ∙ is.command)
+given words setup controls (Ok (ListJobs plan)) is reads = no_list reads.0.0 is.rows (sym reads.0.1 ∙ is.command)
 given words setup controls (Ok (Sendfax plan)) is reads = no_sendfax reads.0.0 is.rows (sym reads.0.1 ∙ is.command)
 given words setup controls (Ok (Replay files)) is reads =
     reads.0.2 ∙ ap files_in (same_rows reads.0.0 is.rows (sym reads.0.1 ∙ is.command)) ∙ is.files

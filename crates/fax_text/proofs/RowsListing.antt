@@ -1,13 +1,13 @@
 -- Worked rows: the heading, lines of jobs, and columns at their edges.
-use Rattle.std.specs.Prelude.{◌≡◌, [], ◌∷◌, codes, length, refl, pos, None}
+use Rattle.std.specs.Prelude.{◌≡◌, ℕ, List, [], ◌∷◌, codes, length, refl, pos, None}
 use Rattle.std.specs.Fmt.{digits}
 use Rattle.std.specs.Str.{chars}
 use Rattle.fax_hours.specs.declared.zone.Civil.{Civil}
 use Rattle.fax_job.specs.declared.job.JobFields.{JobFields}
 use Rattle.fax_job.specs.declared.job.Phase.TheVariants.{Waiting, Failed}
 use Rattle.fax_job.specs.declared.job.Wish.TheVariants.{Go}
-use Rattle.fax_text.specs.Column.{left, right, spaced, zeros}
-use Rattle.fax_text.specs.Listing.{columns, heading, letter_of}
+use Rattle.fax_text.specs.Column.{left, right, zeros}
+use Rattle.fax_text.specs.Listing.{heading, letter_of, line_of, time_text}
 
 heading_is : heading ≡ codes "   JID Pri S Number               Tag              Pages     Dials TTS              Status\n"
 heading_is = refl
@@ -42,13 +42,17 @@ waiting = record {
 abbrev sixteen_past : Civil
 sixteen_past = record { year = pos 1970; month = 1; day = 1; hour = 0; minute = 16 }
 
+-- a clock that shows the first of January 1970 at 00:16
+abbrev at_sixteen_past : ℕ → List ℕ
+at_sixteen_past moment = time_text sixteen_past
+
 -- no status: the line ends behind the time
-waiting_line : spaced (columns waiting 5 sixteen_past) ≡ codes "     1 127 W +14155550100         Quarterly re       0:3      0:12 1970-01-01 00:16"
+waiting_line : line_of at_sixteen_past (waiting, 5) ≡ codes "     1 127 W +14155550100         Quarterly re       0:3      0:12 1970-01-01 00:16\n"
 unfolding digits chars
 waiting_line = refl
 
-failed_line : spaced (columns (record waiting { phase = Failed; status = codes "Killed" }) 8 sixteen_past)
-    ≡ codes "     1 127 F +14155550100         Quarterly re       0:3      0:12 1970-01-01 00:16 Killed"
+failed_line : line_of at_sixteen_past (record waiting { phase = Failed; status = codes "Killed" }, 8)
+    ≡ codes "     1 127 F +14155550100         Quarterly re       0:3      0:12 1970-01-01 00:16 Killed\n"
 unfolding digits chars
 failed_line = refl
 

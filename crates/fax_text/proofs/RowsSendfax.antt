@@ -53,6 +53,7 @@ of_desk = record {
   kill = None;
   tag = None;
   moment = None;
+  to = None;
 }
 
 with_defaults : request_of of_desk 0

@@ -1,14 +1,14 @@
 -- Worked rows: words of the command line, and the plans that they spell.
-use Rattle.std.specs.Prelude.{◌≡◌, List, [], ◌∷◌, codes, refl, None, Some}
+use Rattle.std.specs.Prelude.{◌≡◌, List, [], ◌∷◌, codes, option_and_then, refl, None, Some}
 use Rattle.clap.proofs.OnLiterals.{clap_on_literals}
 use Rattle.clap.specs.Faults.{fault_of}
 use Rattle.clap.specs.Simple.{subcommand_of}
-use Rattle.clap.specs.Walk.{Text}
+use Rattle.clap.specs.Walk.{Text, first_of}
 use Rattle.clap.specs.declared.error.kind.ErrorKind.TheVariants as kind
-use Rattle.fax_text.specs.Option.{number_or}
-use Rattle.fax_text.specs.Words.{IsPlanOf, moment_or_none, program}
-use Rattle.fax_text.specs.declared.words.Plan.TheVariants.{Sendfax}
-use Rattle.fax_text.proofs.RowsSendfax.{of_desk}
+use Rattle.fax_text.specs.Option.{moment_or_none, number_or}
+use Rattle.fax_text.specs.Words.{IsPlanOf, program}
+use Rattle.fax_text.specs.declared.words.Plan.TheVariants.{List as ListJobs, Sendfax}
+use Rattle.fax_text.proofs.RowsSendfax.{of_desk, text}
 
 abbrev desk_words : List Text
 desk_words =
@@ -36,8 +36,38 @@ desk_plan = (
     kill = refl;
     tag = refl;
     moment = refl;
+    to = refl;
   },
 )
+
+-- with an address to send it to
+sent_words : List Text
+sent_words =
+    codes "faxqd" ∷ codes "sendfax" ∷ codes "-d" ∷ codes "5550100" ∷ codes "--pages" ∷ codes "1" ∷ codes "--request" ∷ codes "7"
+    ∷ codes "--to" ∷ codes "localhost:4559" ∷ []
+
+sent_has_no_fault : fault_of program sent_words ≡ []
+unfolding clap_on_literals sent_words
+sent_has_no_fault = refl
+
+sent_address : option_and_then (λ found. first_of (codes "to") found.1) (subcommand_of program sent_words) ≡ Some (codes "localhost:4559")
+unfolding clap_on_literals sent_words
+sent_address = refl
+
+list_words : List Text
+list_words = codes "faxqd" ∷ codes "list" ∷ codes "--db" ∷ codes "queue.db" ∷ codes "--moment" ∷ codes "1000" ∷ []
+
+list_has_no_fault : fault_of program list_words ≡ []
+unfolding clap_on_literals list_words
+list_has_no_fault = refl
+
+list_plan : IsPlanOf (subcommand_of program list_words) (ListJobs (record { files = record { setup = None; controls = None }; database = text (codes "queue.db"); moment = Some 1000 }))
+unfolding clap_on_literals list_words moment_or_none
+list_plan = (_, refl, record { files = refl; database = refl; moment = refl })
+
+no_database : fault_of program (codes "faxqd" ∷ codes "list" ∷ []) ≡ kind.MissingRequiredArgument ∷ []
+unfolding clap_on_literals
+no_database = refl
 
 -- an option of sendfax(1) that isn't here
 cover_page : fault_of program (codes "faxqd" ∷ codes "sendfax" ∷ codes "-n" ∷ []) ≡ kind.UnknownArgument ∷ []

@@ -1,5 +1,7 @@
+pub mod Civil
 pub mod Column
 pub mod CommandLine
+pub mod ListWords
 pub mod Listing
 pub mod Option
 pub mod Sendfax

@@ -1,17 +1,20 @@
 -- The listing of jobs, after faxstat(1).
-use Rattle.std.specs.Prelude.{◌≡◌, ℕ, List, [], ◌∷◌, ◌++◌, codes, map, max, slice_index_or, unsigned_abs}
+use Rattle.std.specs.Prelude.{◌≡◌, ℕ, List, [], ◌∷◌, ◌++◌, codes, flat_map, map, max, slice_index_or, unsigned_abs}
 use Rattle.std.specs.Fmt.{decimal}
 use Rattle.std.specs.List.Sorted.{IsNonDecreasingBy, IsPermutation}
 use Rattle.std.specs.Str.{chars}
 use Rattle.jiff.specs.Types.{TimeZone}
-use Rattle.fax_hours.specs.Zone.{IsCivil}
 use Rattle.fax_hours.specs.declared.zone.Civil.{Civil}
 use Rattle.fax_job.specs.declared.job.JobFields.{JobFields}
+use Rattle.fax_text.specs.Civil.{civil_at}
 use Rattle.fax_text.specs.Column.{left, right, shown, spaced, zeros}
 
 -- a job and the number of its state
 abbrev pub Listed : Type 0
 Listed = JobFields × ℕ
+
+abbrev pub number_of : Listed → ℕ
+number_of job = job.0.job
 
 -- the names of the columns, each as wide as its column; the last one is as long as it is
 abbrev pub names : List (List ℕ)
@@ -45,33 +48,32 @@ abbrev pub status_column : List ℕ → List (List ℕ)
 status_column [] = []
 status_column (byte ∷ bytes) = map shown (chars (byte ∷ bytes)) ∷ []
 
--- the columns of a job, which goes no earlier than the time that is shown
-abbrev pub columns : JobFields → ℕ → Civil → List (List ℕ)
-columns job state at =
+-- what a clock in the zone shows at a moment, as text
+unfoldable pub time_shown : TimeZone → ℕ → List ℕ
+time_shown zone seconds = time_text (civil_at zone seconds)
+
+-- the columns of a job, with the text of its time
+abbrev pub columns : JobFields → ℕ → List ℕ → List (List ℕ)
+columns job state time =
     right 6 (decimal job.job) ∷ right 3 (decimal job.priority) ∷ (letter_of state ∷ [])
     ∷ left 20 (chars job.dial) ∷ left 12 (chars job.jobtag)
     ∷ right 9 (ratio job.npages job.totpages) ∷ right 9 (ratio job.totdials job.maxdials)
-    ∷ time_text at ∷ status_column job.status
+    ∷ time ∷ status_column job.status
 
--- a job's line: its time is the later of its time to send and its next time, as a clock in the zone shows it
-pub record IsLine (zone : TimeZone) (job : Listed) (line : List ℕ) : Type 0 where
-  pub at : Civil
-  pub shows : IsCivil zone (max job.0.tts job.0.next) at
-  pub is : line ≡ spaced (columns job.0 job.1 at) ++ codes "\n"
+-- a job's line, by how a clock shows a moment: its time is the later of its time to send and its next time
+abbrev pub line_of : (ℕ → List ℕ) → Listed → List ℕ
+line_of shows job = spaced (columns job.0 job.1 (shows (max job.0.tts job.0.next))) ++ codes "\n"
 
--- a text of one line for each job
-abbrev pub AreLines : TimeZone → List Listed → List ℕ → Type 0
-AreLines zone [] text = text ≡ []
-AreLines zone (job ∷ jobs) text = (line rest : List ℕ) × IsLine zone job line × AreLines zone jobs rest × (text ≡ line ++ rest)
+-- the heading, and then a line for each job in the order in which they are given
+unfoldable pub listing_of : (ℕ → List ℕ) → List Listed → List ℕ
+listing_of shows jobs = heading ++ flat_map (line_of shows) jobs
 
--- the heading, and then the lines of all jobs in ascending order of their numbers
+-- the listing of all jobs in ascending order of their numbers, by a clock in the zone
 pub record IsListing (zone : TimeZone) (jobs : List Listed) (text : List ℕ) : Type 0 where
   pub rows : List Listed
   pub all : IsPermutation jobs rows
-  pub order : IsNonDecreasingBy (λ row. row.0.job) rows
-  pub lines : List ℕ
-  pub are : AreLines zone rows lines
-  pub is : text ≡ heading ++ lines
+  pub order : IsNonDecreasingBy number_of rows
+  pub is : text ≡ listing_of (time_shown zone) rows
 
 -- ---- parts of a line, as they are written
 
@@ -84,9 +86,3 @@ who job state =
 -- the columns that say how far it has come, likewise
 abbrev pub progress : JobFields → List ℕ
 progress job = right 9 (ratio job.npages job.totpages) ++ codes " " ++ right 9 (ratio job.totdials job.maxdials) ++ codes " "
-
--- a line of the job stands at the end
-pub record AddsLine (zone : TimeZone) (job : JobFields) (state : ℕ) (old new : List ℕ) : Type 0 where
-  pub line : List ℕ
-  pub of : IsLine zone (job, state) line
-  pub is : new ≡ old ++ line

@@ -1,4 +1,5 @@
 -- Options of the command line.
+use Rattle.std.specs.Option.{option_map}
 use Rattle.std.specs.Prelude.{ℕ, ◌&&◌, true, nat_le, Option, Some, None, option_and_then, if◌then◌else◌}
 use Rattle.clap.specs.Simple.{new_rule}
 use Rattle.clap.specs.Walk.{Rule, Text}
@@ -24,3 +25,8 @@ number_from least greatest text = option_and_then (λ number. if nat_le least nu
 unfoldable pub number_or : ℕ → ℕ → ℕ → Option Text → Option ℕ
 number_or default least greatest None = Some default
 number_or default least greatest (Some text) = number_from least greatest text
+
+-- the moment may be missing
+unfoldable pub moment_or_none : Option Text → Option (Option ℕ)
+moment_or_none None = Some None
+moment_or_none (Some text) = option_map (λ seconds. Some seconds) (number_of text)

@@ -1,5 +1,5 @@
 -- What the words of the commands that serve ask for.
-use Rattle.std.specs.Prelude.{◌≡◌, ℕ, List, codes, Option, Some}
+use Rattle.std.specs.Prelude.{◌≡◌, List, codes, Option, Some}
 use Rattle.std.specs.Option.{option_copied}
 use Rattle.clap.specs.Simple.{App, new_app, with_rule}
 use Rattle.clap.specs.Walk.{Row, Text, first_of}

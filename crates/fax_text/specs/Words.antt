@@ -1,19 +1,20 @@
 -- What the words of the command line ask for, read as clap reads them.
-use Rattle.std.specs.Prelude.{◌≡◌, ℕ, ◌⊎◌, ◌&&◌, true, List, [], codes, nat_le, Option, Some, None, option_and_then, unwrap_or, Result, Ok, Err, ⊤, if◌then◌else◌}
-use Rattle.std.specs.Option.{option_copied, option_map}
+use Rattle.std.specs.Prelude.{◌≡◌, ◌⊎◌, true, List, [], codes, Option, Some, option_and_then, unwrap_or, Result, Ok, Err, ⊤}
+use Rattle.std.specs.Option.{option_copied}
 use Rattle.clap.specs.Faults.{fault_of}
 use Rattle.clap.specs.Kinds.{IsAmong}
-use Rattle.clap.specs.Simple.{App, new_app, new_rule, on_top, subcommand_of, with_rule, with_subcommand}
-use Rattle.clap.specs.Walk.{Row, Rule, Text, first_of}
+use Rattle.clap.specs.Simple.{App, new_app, on_top, subcommand_of, with_rule, with_subcommand}
+use Rattle.clap.specs.Walk.{Row, Text, first_of}
 use Rattle.clap.specs.declared.error.kind.ErrorKind.{ErrorKind}
 use Rattle.clap.specs.declared.error.kind.ErrorKind.TheVariants.{DisplayHelp, DisplayVersion, OutOfMemory}
-use Rattle.fax_job.specs.Number.{number_of}
+use Rattle.fax_text.specs.declared.list_words.ListPlan.{ListPlan}
 use Rattle.fax_text.specs.declared.sendfax.SendPlan.{SendPlan}
 use Rattle.fax_text.specs.declared.server.ServePlan.{ServePlan}
-use Rattle.fax_text.specs.Option.{long_option, number_from, number_or, required, short_option}
+use Rattle.fax_text.specs.ListWords.{IsListPlan, list_command}
+use Rattle.fax_text.specs.Option.{long_option, moment_or_none, number_from, number_or, required, short_option}
 use Rattle.fax_text.specs.Server.{IsServePlan, file_names, files_in, replay_command, serve_command}
 use Rattle.fax_text.specs.declared.words.Plan.{Plan}
-use Rattle.fax_text.specs.declared.words.Plan.TheVariants.{Replay, Serve, Sendfax}
+use Rattle.fax_text.specs.declared.words.Plan.TheVariants.{List as ListJobs, Replay, Serve, Sendfax}
 use Rattle.fax_text.specs.declared.words.WordsFault.{WordsFault}
 use Rattle.fax_text.specs.declared.words.WordsFault.TheVariants.{Help, Usage, NoMemory}
 
@@ -31,9 +32,9 @@ with_limits app = with_rule (with_rule (with_rule app (short_option (codes "prio
 abbrev pub with_times : App → App
 with_times app = with_rule (with_rule (with_rule app (short_option (codes "at") 97)) (short_option (codes "kill") 107)) (long_option (codes "moment"))
 
--- `--request NUMBER [--client NAME]`
+-- `--request NUMBER [--client NAME] [--to ADDRESS]`
 abbrev pub with_request : App → App
-with_request app = with_rule (with_rule app (required (long_option (codes "request")))) (long_option (codes "client"))
+with_request app = with_rule (with_rule (with_rule app (required (long_option (codes "request")))) (long_option (codes "client"))) (long_option (codes "to"))
 
 abbrev pub sendfax_command : App
 sendfax_command = with_request (with_times (with_limits (with_fax (new_app (codes "sendfax")))))
@@ -41,15 +42,10 @@ sendfax_command = with_request (with_times (with_limits (with_fax (new_app (code
 -- `faxqd COMMAND`
 abbrev pub program : App
 program =
-    with_subcommand (with_subcommand (with_subcommand (on_top (λ s. record s { subcommand_required = true }) (new_app (codes "faxqd")))
-    replay_command.top) serve_command.top) sendfax_command.top
+    with_subcommand (with_subcommand (with_subcommand (with_subcommand (on_top (λ s. record s { subcommand_required = true }) (new_app (codes "faxqd")))
+    replay_command.top) serve_command.top) list_command.top) sendfax_command.top
 
 -- ---- what the words ask for
-
--- the moment may be missing
-unfoldable pub moment_or_none : Option Text → Option (Option ℕ)
-moment_or_none None = Some None
-moment_or_none (Some text) = option_map (λ seconds. Some seconds) (number_of text)
 
 -- the plan has what the options say, and for those that are missing their defaults
 pub record IsSendPlan (rows : List Row) (plan : SendPlan) : Type 0 where
@@ -64,17 +60,20 @@ pub record IsSendPlan (rows : List Row) (plan : SendPlan) : Type 0 where
   pub kill : first_of (codes "kill") rows ≡ option_copied plan.kill
   pub tag : first_of (codes "tag") rows ≡ option_copied plan.tag
   pub moment : moment_or_none (first_of (codes "moment") rows) ≡ Some plan.moment
+  pub to : first_of (codes "to") rows ≡ option_copied plan.to
 
 -- the plan of a command and its options
 abbrev pub IsPlanOf : Option (Text × List Row) → Plan → Type 0
 IsPlanOf found (Replay files) = (rows : List Row) × (found ≡ Some (codes "replay", rows)) × (file_names files ≡ files_in rows)
 IsPlanOf found (Serve plan) = (rows : List Row) × (found ≡ Some (codes "serve", rows)) × IsServePlan rows plan
+IsPlanOf found (ListJobs plan) = (rows : List Row) × (found ≡ Some (codes "list", rows)) × IsListPlan rows plan
 IsPlanOf found (Sendfax plan) = (rows : List Row) × (found ≡ Some (codes "sendfax", rows)) × IsSendPlan rows plan
 
 -- No plan has what they say. Whatever the options of `replay` say, there is one.
 pub record IsNoPlan (found : Option (Text × List Row)) : Type 0 where
   pub replay : (rows : List Row) → ¬ (found ≡ Some (codes "replay", rows))
   pub serve : (plan : ServePlan) → ¬ (IsPlanOf found (Serve plan))
+  pub list : (plan : ListPlan) → ¬ (IsPlanOf found (ListJobs plan))
   pub sendfax : (plan : SendPlan) → ¬ (IsPlanOf found (Sendfax plan))
 
 -- text that is asked for, and no fault

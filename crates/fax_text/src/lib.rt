@@ -4,12 +4,14 @@
 #![tactic(auto)]
 
 mod column;
+mod list_words;
 mod listing;
 mod sendfax;
 mod server;
 mod time;
 mod words;
 
+pub use list_words::ListPlan;
 pub use listing::{ListFault, list};
 pub use sendfax::{SendFault, SendPlan, request};
 pub use server::{OfficeFiles, ServePlan};

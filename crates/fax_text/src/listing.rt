@@ -1,9 +1,11 @@
 //! The listing of jobs.
 
-ghost use Rattle.std.specs.Prelude.{◌≡◌, ◌++◌, IfOk, OnOk, max, string_bytes};
+ghost use Rattle.std.specs.Prelude.{◌≡◌, ◌++◌, IfOk, OnOk, map, max, string_bytes};
+ghost use Rattle.std.specs.List.Sorted.{IsStrictlyIncreasing};
 ghost use Rattle.fax_hours.specs.Zone.{IsCivil};
+ghost use Rattle.fax_text.specs.Civil.{civil_at};
 ghost use Rattle.fax_text.specs.Column.{behind_spaces};
-ghost use Rattle.fax_text.specs.Listing.{AddsLine, IsListing, letter_of, progress, ratio, status_column, time_text, who};
+ghost use Rattle.fax_text.specs.Listing.{IsListing, letter_of, line_of, listing_of, number_of, progress, ratio, status_column, time_shown, time_text, who};
 
 use crate::column::{push_left, push_right, push_shown, push_zeros};
 use fax_hours::{Civil, Zone, civil_minute};
@@ -31,13 +33,15 @@ pub type ListFault = AllocError;
 ///
 /// Want of memory.
 pub fn list(alloc: Global, jobs: &[(Job, u8)], zone: &Zone) -> Result<Vec<u8>, ListFault>
-    ensures { IfOk result (λ text. IsListing zone.now jobs.now text.items) }
+    ensures listing { IfOk result (λ text. IsListing zone.now jobs.now text.items) }
+    // Jobs whose numbers ascend have one listing, of these jobs as they stand.
+    ensures ordered { IsStrictlyIncreasing (map number_of jobs.now) → IfOk result (λ text. text.items ≡ listing_of (time_shown zone.now) jobs.now) }
 {
     let mut rows: Vec<&(Job, u8)> = jobs.iter().collect(alloc)?;
     rows.sort_by_key(|row| row.0.fields().job)?;
     let mut text = Vec::from_slice(alloc, HEADING)?;
     for row in rows.iter() {
-        push_line(alloc, &mut text, &row.0, row.1, zone)?;
+        push_line(alloc, &mut text, row, zone)?;
     }
     Ok(text)
 }
@@ -46,16 +50,15 @@ pub fn list(alloc: Global, jobs: &[(Job, u8)], zone: &Zone) -> Result<Vec<u8>, L
 fn push_line(
     alloc: Global,
     text: &mut Vec<u8>,
-    job: &Job,
-    state: u8,
+    row: &(Job, u8),
     zone: &Zone,
 ) -> Result<(), AllocError>
-    ensures { OnOk result (AddsLine zone.now job.now state text.old.items text.new.items) }
+    ensures { OnOk result (text.new.items ≡ text.old.items ++ line_of (time_shown zone.now) row.now) }
 {
-    let fields = job.fields();
-    push_who(text, fields, state)?;
+    let fields = row.0.fields();
+    push_who(text, fields, row.1)?;
     push_progress(alloc, text, fields)?;
-    push_time(text, time_of(job, zone))?;
+    push_time(text, time_of(&row.0, zone))?;
     push_status(text, fields.status.text())?;
     text.push(b'\n')?;
     Ok(())
@@ -116,7 +119,9 @@ fn letter_of(state: u8) -> u8
 /// What a clock in the zone shows when a job may go: at its time to send or its next time, whichever is
 /// later.
 fn time_of(job: &Job, zone: &Zone) -> Civil
-    ensures { IsCivil zone.now (max job.now.tts job.now.next) result }
+    ensures civil { IsCivil zone.now (max job.now.tts job.now.next) result }
+    // The same as one equation.
+    ensures counted { result ≡ civil_at zone.now (max job.now.tts job.now.next) }
 {
     let fields = job.fields();
     let seconds = fields.tts.seconds().max(fields.next);

@@ -1,4 +1,4 @@
-//! The request that `faxqd sendfax` sends.
+//! The request that `faxqd sendfax` sends or prints.
 
 ghost use Rattle.std.specs.Prelude.{◌≡◌, IfOk, codes, string_bytes};
 ghost use Rattle.std.specs.Fmt.{decimal};
@@ -36,6 +36,8 @@ pub struct SendPlan<'a> {
     pub tag: Option<&'a str>,
     /// `--moment`: in seconds since 1970-01-01T00:00:00Z, at most 999999999999999999.
     pub moment: Option<u64>,
+    /// `--to`: a host and a port to send the request to. Without it the request is printed.
+    pub to: Option<&'a str>,
 }
 
 /// Why no request can be made of a plan.

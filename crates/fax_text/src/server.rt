@@ -151,7 +151,7 @@ pub(crate) fn serve_command<'a>(alloc: Global) -> Result<Command<'a>, AllocError
 }
 
 /// The command, with the options that name an office's files.
-fn with_files<'a>(alloc: Global, command: Command<'a>) -> Result<Command<'a>, AllocError>
+pub(crate) fn with_files<'a>(alloc: Global, command: Command<'a>) -> Result<Command<'a>, AllocError>
     ensures shape { IfOk result (λ made. app_of made ≡ with_files (app_of command.entry)) }
     ensures local { IfOk result (λ made. (fields_of command.entry).has_globals ≡ false → (fields_of made).has_globals ≡ false) }
 {

@@ -5,9 +5,10 @@ ghost use Rattle.std.specs.Option.{option_copied};
 ghost use Rattle.clap.specs.Words.{app_of, first_of, found_of, kind_of, rows_of, rule_of, subcommand_rows_of};
 ghost use Rattle.fax_text.specs.declared.sendfax.SendPlan.{SendPlan};
 ghost use Rattle.fax_text.specs.CommandLine.{IsFixed};
-ghost use Rattle.fax_text.specs.Option.{long_option, number_from, number_or, short_option};
-ghost use Rattle.fax_text.specs.Words.{IsNoPlan, IsPlanOf, IsSendPlan, Reads, TellsKind, moment_or_none, program, sendfax_command, with_fax, with_limits, with_request, with_times};
+ghost use Rattle.fax_text.specs.Option.{long_option, moment_or_none, number_from, number_or, short_option};
+ghost use Rattle.fax_text.specs.Words.{IsNoPlan, IsPlanOf, IsSendPlan, Reads, TellsKind, program, sendfax_command, with_fax, with_limits, with_request, with_times};
 
+use crate::list_words::{LIST, ListPlan, list_command, list_plan_in};
 use crate::sendfax::SendPlan;
 use crate::server::{
     OfficeFiles, REPLAY, SERVE, ServePlan, files_in, replay_command, serve_command, serve_plan_in,
@@ -27,7 +28,9 @@ pub enum Plan<'a> {
     Replay(OfficeFiles<'a>),
     /// Serve connections over a store in a file.
     Serve(ServePlan<'a>),
-    /// Print the request that hands in a job.
+    /// List the jobs in a database.
+    List(ListPlan<'a>),
+    /// Hand in a job, or print the request that does.
     Sendfax(SendPlan<'a>),
 }
 
@@ -121,6 +124,9 @@ fn plan_in<'a>(matches: &ArgMatches<'a>) -> Result<Plan<'a>, Misuse>
     if let Some(options) = matches.subcommand_matches(SERVE) {
         return Ok(Plan::Serve(serve_plan_in(options)?));
     }
+    if let Some(options) = matches.subcommand_matches(LIST) {
+        return Ok(Plan::List(list_plan_in(options)?));
+    }
     if let Some(options) = matches.subcommand_matches(SENDFAX) {
         return Ok(Plan::Sendfax(send_plan_in(options)?));
     }
@@ -167,6 +173,7 @@ fn send_plan_in<'a>(options: &ArgMatches<'a>) -> Result<SendPlan<'a>, Misuse>
         kill: text_of(options, "kill"),
         tag: text_of(options, "tag"),
         moment,
+        to: text_of(options, "to"),
     })
 }
 
@@ -216,8 +223,8 @@ fn number_from(least: u16, greatest: u16, text: &str) -> Option<u16>
 }
 
 /// The moment, which may be missing.
-#[tactic(auto, unfolding(crate::specs::Words::moment_or_none))]
-fn moment_in(options: &ArgMatches<'_>) -> Option<Option<u64>>
+#[tactic(auto, unfolding(crate::specs::Option::moment_or_none))]
+pub(crate) fn moment_in(options: &ArgMatches<'_>) -> Option<Option<u64>>
     ensures { result ≡ moment_or_none (first_of (codes "moment") (rows_of (found_of options.now))) }
 {
     match text_of(options, "moment") {
@@ -237,6 +244,7 @@ fn command<'a>(alloc: Global) -> Result<Command<'a>, AllocError>
         .subcommand_required(true)
         .subcommand(replay_command(alloc)?)?
         .subcommand(serve_command(alloc)?)?
+        .subcommand(list_command(alloc)?)?
         .subcommand(sendfax_command(alloc)?)
 }
 
@@ -244,7 +252,9 @@ fn command<'a>(alloc: Global) -> Result<Command<'a>, AllocError>
 fn sendfax_command<'a>(alloc: Global) -> Result<Command<'a>, AllocError>
     ensures { IfOk result (λ command. app_of command ≡ sendfax_command) }
 {
-    let command = Command::new(alloc, SENDFAX).about("Prints the request that hands in a job");
+    let command = Command::new(alloc, SENDFAX).about(
+        "Hands in a job, or prints the request that does",
+    );
     let command = with_fax(alloc, command)?;
     let command = with_limits(alloc, command)?;
     let command = with_times(alloc, command)?;
@@ -307,7 +317,7 @@ fn with_times<'a>(alloc: Global, command: Command<'a>) -> Result<Command<'a>, Al
         .arg(long_option(alloc, "moment", "SECONDS", "What counts as now, since 1970"))
 }
 
-/// Adds who asks.
+/// Adds who asks, and where.
 fn with_request<'a>(alloc: Global, command: Command<'a>) -> Result<Command<'a>, AllocError>
     ensures { IfOk result (λ made. app_of made ≡ with_request (app_of command.entry)) }
 {
@@ -319,7 +329,13 @@ fn with_request<'a>(alloc: Global, command: Command<'a>) -> Result<Command<'a>, 
             "The client's own number of this request",
         )
         .required(true))?
-        .arg(long_option(alloc, "client", "NAME", "Who asks [default: sendfax]"))
+        .arg(long_option(alloc, "client", "NAME", "Who asks [default: sendfax]"))?
+        .arg(long_option(
+            alloc,
+            "to",
+            "ADDRESS",
+            "A host and a port to send the request to; without it the request is printed",
+        ))
 }
 
 /// An option with a name of two dashes.

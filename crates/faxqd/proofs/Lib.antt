@@ -1,3 +1,5 @@
+mod DatabaseLemmas
 mod EndsLemmas
+mod ListLemmas
 mod ServeLemmas
 mod SendfaxLemmas

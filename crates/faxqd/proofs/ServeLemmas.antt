@@ -1,10 +1,6 @@
--- What a file held, and what connections show.
+-- What connections show.
 use Rattle.std.proofs.Common.{◌≡◌, ◌⊎◌, ℕ, List, [], ◌∷◌, ◌++◌, Option, Ok, ap, ◌∙◌, refl, subst, sym, inl, inr}
-use Rattle.sqlite.specs.Effect.{Database}
-use Rattle.sqlite.specs.Files.{AreFoundIn}
-use Rattle.sqlite.specs.Start.{FindsIn}
-use Rattle.sqlite.specs.State.{State, HasCleanDisk, Opens}
-use Rattle.sqlite_wal.specs.Recovery.{Image}
+use Rattle.sqlite.specs.State.{State, HasCleanDisk}
 use Rattle.fax_core.specs.Queue.{Queue, Entry}
 use Rattle.fax_core.specs.Settings.{Settings}
 use Rattle.fax_core.specs.Sound.{Sound}
@@ -14,27 +10,14 @@ use Rattle.fax_http.specs.Serving.{Answering, Answers}
 use Rattle.fax_once.specs.Run.{Start}
 use Rattle.fax_once.specs.Verdict.{Handles, IsVerdict, Leaves, Told, Repeated, Accepted, Verdict}
 use Rattle.fax_once.specs.declared.arrival.Arrival.{Arrival}
-use Rattle.fax_store.specs.Adopt.{Adopts}
 use Rattle.fax_store.specs.Store.{Means}
 use Rattle.fax_decide.specs.declared.office.Office.{Office}
 use Rattle.fax_http.specs.declared.device.Watched.{Watched}
 use Rattle.faxqd.specs.Office.{ComesOf}
-use Rattle.faxqd.specs.Serve.{AreTurns, HasServed, IsFound, IsTurn, Listens, Serves, ServesFrom}
+use Rattle.faxqd.specs.Serve.{AreTurns, HasServed, IsTurn, Listens, Serves, ServesFrom}
 use Rattle.faxqd.specs.declared.status.Status.{Status}
 use Rattle.faxqd.specs.declared.status.Status.TheVariants.{Success, Fault, Usage}
 use Rattle.fax_text.specs.declared.server.ServePlan.{ServePlan}
-
-pub found_by : (image : Image) (opened new : State) → FindsIn image opened → Opens opened → Adopts opened new → IsFound image new
-found_by image opened new finds opens adopts =
-    let same = ap (λ (db : Database). db.trees) opens.clean in
-    record {
-      found = opened.now;
-      held = record {
-        holds = λ held holds. same ∙ finds.holds held holds;
-        reads = subst (AreFoundIn image) (sym same) finds.reads;
-      };
-      taken = adopts;
-    }
 
 -- the turns of one connection stand behind those of the others
 pub more_turns : {H : Type 0} (answers : Answering H) (first : H) (turns : List Turn) (next : H) (others : List Turn) (last : H)

@@ -2,15 +2,16 @@
 use Rattle.std.specs.Prelude.{◌≡◌, ℕ, false, List, ◌∷◌, Option, Result, Ok, Err, string_bytes}
 use Rattle.fax_http.specs.Device.{BrokeOff, Put}
 use Rattle.fax_http.specs.declared.device.Watched.{Watched}
+use Rattle.faxqd.specs.List.{Lists}
 use Rattle.faxqd.specs.Replay.{Ends}
-use Rattle.faxqd.specs.Sendfax.{Prints}
+use Rattle.faxqd.specs.Sendfax.{Hands}
 use Rattle.faxqd.specs.Serve.{Serves}
 use Rattle.fax_text.specs.CommandLine.{IsFixed}
 use Rattle.fax_text.specs.Words.{Reads}
 use Rattle.faxqd.specs.declared.status.Status.{Status}
 use Rattle.faxqd.specs.declared.status.Status.TheVariants.{Success, Fault, Usage as Misused}
 use Rattle.fax_text.specs.declared.words.Plan.{Plan}
-use Rattle.fax_text.specs.declared.words.Plan.TheVariants.{Replay, Serve, Sendfax}
+use Rattle.fax_text.specs.declared.words.Plan.TheVariants.{Replay, Serve, List as ListJobs, Sendfax}
 use Rattle.fax_text.specs.declared.words.WordsFault.{WordsFault}
 use Rattle.fax_text.specs.declared.words.WordsFault.TheVariants.{Help, Usage, NoMemory}
 
@@ -33,7 +34,8 @@ module _ {R W : Type 0} (remaining : R → Option (List ℕ)) (contents : W → 
   abbrev pub CarriesOut : Plan → Status → Type 0
   CarriesOut (Replay files) status = Ends remaining contents reader reader₂ out out₂ files status
   CarriesOut (Serve plan) status = (reader₂ ≡ reader) × Serves contents out out₂ plan status
-  CarriesOut (Sendfax plan) status = (reader₂ ≡ reader) × Prints contents out out₂ plan status
+  CarriesOut (ListJobs plan) status = (reader₂ ≡ reader) × Lists contents out out₂ plan status
+  CarriesOut (Sendfax plan) status = (reader₂ ≡ reader) × Hands contents out out₂ plan status
 
   module _ {E : Type 0} (err err₂ : E) where
     -- what a plan or a fault of words comes to

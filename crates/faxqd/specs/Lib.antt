@@ -1,4 +1,7 @@
 pub mod Command
+pub mod Database
+pub mod List
+pub mod Moment
 pub mod Office
 pub mod Replay
 pub mod Sendfax

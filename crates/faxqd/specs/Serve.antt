@@ -1,13 +1,9 @@
 -- How the command `serve` ends, and what it answers.
 use Rattle.std.specs.Prelude.{◌≡◌, ◌⊎◌, ℕ, false, List, [], ◌∷◌, Option, Ok, codes, ⊤}
-use Rattle.sqlite.specs.Effect.{Database}
-use Rattle.sqlite.specs.Files.{AreFoundIn, HoldsDatabase}
 use Rattle.sqlite.specs.State.{State, HasCleanDisk}
-use Rattle.sqlite_trees.specs.Tree.{Trees}
-use Rattle.sqlite_wal.specs.Recovery.{Image}
 use Rattle.fax_job.specs.declared.refusal.Refusal.TheVariants.{Unavailable}
 use Rattle.fax_ask.specs.Response.{refused_response}
-use Rattle.fax_core.specs.Queue.{Queue, Entry, empty_queue}
+use Rattle.fax_core.specs.Queue.{Queue, Entry}
 use Rattle.fax_core.specs.Reply.{NoKeys}
 use Rattle.fax_core.specs.Settings.{Settings}
 use Rattle.fax_core.specs.Sound.{Sound}
@@ -20,31 +16,11 @@ use Rattle.fax_once.specs.Laws.{left_of}
 use Rattle.fax_once.specs.Run.{Start}
 use Rattle.fax_once.specs.Verdict.{Verdict, IsVerdict, reply_of}
 use Rattle.fax_once.specs.declared.arrival.Arrival.{Arrival}
-use Rattle.fax_store.specs.Adopt.{IsOurs}
-use Rattle.fax_store.specs.Store.{HasRows, Means}
-use Rattle.fax_tables.specs.Schema.{no_tables}
-use Rattle.fax_tables.specs.Tables.{IsAtRest}
+use Rattle.fax_store.specs.Store.{Means}
 use Rattle.faxqd.specs.Office.{ComesOf}
 use Rattle.faxqd.specs.declared.status.Status.{Status}
 use Rattle.faxqd.specs.declared.status.Status.TheVariants.{Success, Fault, Usage}
 use Rattle.fax_text.specs.declared.server.ServePlan.{ServePlan}
-
--- ---- the file
-
--- the trees are those that the files hold, or there was no database yet
-pub record AreHeld (image : Image) (trees : Trees) : Type 0 where
-  pub holds : (held : Trees) → HoldsDatabase image held → trees ≡ held
-  pub reads : AreFoundIn image trees
-
--- a database with no tables has become an empty queue's, and one with ours has the rows that it had
-abbrev pub IsTaken : Database → State → Type 0
-IsTaken found new = ((found.schema ≡ no_tables) × IsAtRest new empty_queue []) ⊎ (IsOurs found × HasRows new found)
-
--- the database was found in the files, and was taken
-pub record IsFound (image : Image) (new : State) : Type 0 where
-  pub found : Database
-  pub held : AreHeld image found.trees
-  pub taken : IsTaken found new
 
 -- ---- the connections
 

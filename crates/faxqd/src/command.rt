@@ -3,6 +3,7 @@ ghost use Rattle.std.specs.Prelude.{◌≡◌, false, map, string_bytes};
 ghost use Rattle.fax_http.specs.Device.{IsFresh};
 ghost use Rattle.faxqd.specs.Command.{CarriesOut, Runs, Tells};
 
+use crate::list::list;
 use crate::replay::replay;
 use crate::sendfax::sendfax;
 use crate::serve::serve;
@@ -49,6 +50,7 @@ fn carry_out<S: Start, R: Read + Drop, W: Write + Drop, E: Write>(
     match plan {
         Plan::Replay(files) => replay(rt, files, reader, out, err),
         Plan::Serve(plan) => serve(rt, plan, start, out, err),
+        Plan::List(plan) => list(rt, plan, start, out, err),
         Plan::Sendfax(plan) => sendfax(rt, &plan, out, err),
     }
 }

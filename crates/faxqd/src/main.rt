@@ -3,11 +3,15 @@
 
 mod command;
 mod connection;
+mod database;
+mod list;
+mod moment;
 mod office;
 mod replay;
 mod sendfax;
 mod serve;
 mod status;
+mod timed;
 
 use fax_http::Watched;
 use sqlite::Unknown;

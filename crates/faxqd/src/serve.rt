@@ -1,50 +1,23 @@
 //! `faxqd serve`: answers connections over the tables in a file.
-ghost use Rattle.std.specs.Prelude.{◌≡◌, List, IfOk};
-ghost use Rattle.sqlite.specs.Files.{file_state};
+ghost use Rattle.std.specs.Prelude.{◌≡◌, List};
 ghost use Rattle.sqlite.specs.Held.{state};
-ghost use Rattle.sqlite.specs.State.{HasCleanDisk};
-ghost use Rattle.sqlite_wal.specs.Files.{image_at};
 ghost use Rattle.fax_desk.specs.Replaying.{settings_in};
 ghost use Rattle.fax_http.specs.Conversation.{Turn};
 ghost use Rattle.fax_http.specs.Device.{IsFresh};
 ghost use Rattle.fax_http.specs.Serving.{Answers};
-ghost use Rattle.faxqd.specs.Serve.{IsFound, Listens, Serves, ServesFrom};
+ghost use Rattle.faxqd.specs.Serve.{Listens, Serves, ServesFrom};
 
 use crate::connection::serve_connection;
+use crate::database::{open_queue, tell_fault};
 use crate::office::{read_office, report};
 use crate::status::{Status, fail};
 use fax_desk::Desk;
 use fax_http::{Handler, MachineClock, Watched};
-use fax_once::{Office, Queue};
-use fax_store::Store;
+use fax_once::Queue;
 use fax_text::ServePlan;
-use sqlite::{Alter, Connection, Error, ErrorCode, FileFrom, FileStore, Start};
-use std::alloc::AllocError;
+use sqlite::{Alter, Start};
 use std::io::Write;
 use std::net::TcpListener;
-
-/// Why there is no queue over a file.
-#[derive(Clone, Copy, Debug, PartialEq, Eq)]
-enum OpenFault {
-    /// The file can't be opened, or has no queue of this version.
-    Database,
-    NoMemory,
-}
-
-impl From<AllocError> for OpenFault {
-    fn from(_: AllocError) -> OpenFault {
-        OpenFault::NoMemory
-    }
-}
-
-impl From<Error> for OpenFault {
-    fn from(error: Error) -> OpenFault {
-        match error {
-            Error::SqliteFailure(ErrorCode::OutOfMemory) => OpenFault::NoMemory,
-            _ => OpenFault::Database,
-        }
-    }
-}
 
 /// Reads the files, opens the database, listens, says so on `out`, and serves the connections one after the other. A fault
 /// is one line to `err`. `start` stands for what the database's files hold.
@@ -65,31 +38,8 @@ pub fn serve<S: Start, W: Write + Drop, E: Write>(
     };
     match open_queue(rt, plan.database, start, office) {
         Ok(queue) => serve_queue(rt, plan, queue, out, err).0,
-        Err(OpenFault::Database) => fail(err, "faxqd: database\n"),
-        Err(OpenFault::NoMemory) => fail(err, "faxqd: no memory\n"),
+        Err(fault) => tell_fault(err, fault),
     }
-}
-
-/// The queue in the file of this name, by that office. Where the file has no tables yet, it gets those of an empty queue.
-fn open_queue<S: Start>(
-    rt: &HostRuntime,
-    name: &str,
-    start: S,
-    office: Office,
-) -> Result<Queue<FileStore<FileFrom<S>>>, OpenFault>
-    ensures office { IfOk result (λ queue. queue.office ≡ office) }
-    ensures found { IfOk result (λ queue. HasCleanDisk (file_state queue.store.conn)
-        → IsFound (image_at S.Start) (file_state queue.store.conn)) }
-{
-    let conn = match Connection::open_from(rt, name, false, start) {
-        Ok(conn) => conn,
-        Err((error, _)) => return Err(error.into()),
-    };
-    let store = match Store::adopt(rt.alloc(), conn) {
-        Ok(store) => store,
-        Err(_) => return Err(OpenFault::Database),
-    };
-    Ok(Queue::new(rt.alloc(), store, office.setup, office.controls)?)
 }
 
 /// Listens, says so, and answers connections by that queue, which is given back.

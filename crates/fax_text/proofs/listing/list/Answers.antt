@@ -1,20 +1,24 @@
-use Rattle.std.proofs.Common.{◌∙◌, subst, map, rules}
+use Rattle.std.proofs.Common.{◌∙◌, ap, subst, map, rules}
 use Rattle.std.proofs.lemmas.Iterator.{YieldsList-from_slice}
 use Rattle.std.proofs.lemmas.Iterator.Consumers.{map_from_collect}
 use Rattle.std.proofs.lemmas.List.{take_all}
 use Rattle.std.specs.List.Sorted.{IsPermutation}
 use Rattle.std.proofs.lemmas.List.Sorted.{IsNonDecreasingBy-from_sort_by_key, IsPermutation-map}
-use Rattle.fax_text.specs.Listing.{AddsLine, AreLines}
-use Rattle.fax_text.proofs.ListingLemmas.{in_order, more_rows}
+use Rattle.fax_text.specs.Listing.{listing_of, time_shown}
+use Rattle.fax_text.proofs.ListingLemmas.{in_order, more_rows, no_lines}
+use Rattle.fax_text.proofs.OrderLemmas.{rows_are_jobs}
 use Rattle.fax_text.proofs.listing.list.Goals as goal
+
+pub loop-row-init : goal.loop-row-init
+loop-row-init c = c.in_ok-text.ensures.items ∙ no_lines (time_shown c.args.zone.now)
 
 pub loop-row-preserved : goal.loop-row-preserved
 loop-row-preserved c =
-    let added : AddsLine c.args.zone.now c.row-item.result.now.0 c.row-item.result.now.1 c.loop-row.text.items c.push_line.new.text.items = c.in_ok-push_line.ensures in
-    more_rows c.args.zone.now c.deref-row-items.result.now c.loop-row.row-index c.row-item.result c.loop-row.text.items c.push_line.new.text.items c.loop-row-test.true c.row-item.is c.loop-row.invariant added
+    let shows = time_shown c.args.zone.now in
+    more_rows shows c.deref-row-items.result.now c.loop-row.row-index c.row-item.result c.loop-row.text.items c.push_line.new.text.items c.loop-row-test.true c.row-item.is c.loop-row.invariant c.in_ok-push_line.ensures
 
-pub returns : goal.returns
-returns c =
+pub returns-clause-listing : goal.returns-clause-listing
+returns-clause-listing c =
     let all = map_from_collect c.collect.result c.collect.ensures.ran (YieldsList-from_slice c.args.jobs.now cc) in
     let same = rw c.in_ok-rows.was at all in
     let rows = c.deref-row-items.result.now in
@@ -26,7 +30,10 @@ returns c =
       rows = map (λ row. row.now) sorted;
       all = subst (λ l. IsPermutation l (map (λ row. row.now) sorted)) same moved;
       order = in_order sorted up;
-      lines = c.loop-row.invariant.0;
-      are = subst (λ l. AreLines c.args.zone.now (map (λ row. row.now) l) c.loop-row.invariant.0) whole c.loop-row.invariant.1;
-      is = c.loop-row.invariant.2;
+      is = c.loop-row.invariant ∙ ap (λ l. listing_of (time_shown c.args.zone.now) (map (λ row. row.now) l)) whole;
     }
+
+pub returns-clause-ordered : goal.returns-clause-ordered
+returns-clause-ordered c = λ ascend.
+    let listing = returns-clause-listing c in
+    listing.is ∙ ap (listing_of (time_shown c.args.zone.now)) (rows_are_jobs c.args.jobs.now listing.rows listing.all listing.order ascend)

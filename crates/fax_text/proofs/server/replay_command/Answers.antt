@@ -1,4 +1,4 @@
-use Rattle.std.proofs.Common.{◌≡◌, ◌∙◌, ap, codes, false, rules}
+use Rattle.std.proofs.Common.{◌≡◌, ◌∙◌, ap, codes, false}
 use Rattle.std.proofs.lemmas.Result.{IfOk-weaker}
 use Rattle.clap.specs.Simple.{app_of, app_of_fields, new_app}
 use Rattle.clap.specs.declared.builder.command.Command.TheViews.{out-Command as fields_of}

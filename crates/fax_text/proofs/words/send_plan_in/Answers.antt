@@ -21,4 +21,5 @@ returns-clause-ok c = record {
   kill = sym c.text_of-5.ensures;
   tag = sym c.text_of-6.ensures;
   moment = sym c.in-Some-moment_in.ensures;
+  to = sym c.text_of-7.ensures;
 }

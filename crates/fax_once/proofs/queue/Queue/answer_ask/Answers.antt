@@ -13,8 +13,8 @@ use Rattle.fax_once.proofs.queue.Queue.answer_ask.Goals as goal
 
 pub returns-in-View-clause-answered : goal.returns-in-View-clause-answered
 returns-in-View-clause-answered g c m k sound means clean is lawful =
-    view_answers c.show.result (settings_of c.args.self.now.office.setup c.args.self.now.office.controls) c.args.arrival.now m k c.args.ask c.in-View.job (state g.S.Store c.show.new.self.store.conn)
-    is c.in-View.is (where_open c.show.result (HasCleanDisk (state g.S.Store c.show.new.self.store.conn)) (Serves (state g.S.Store c.show.new.self.store.conn)) _ c.show.ensures.opens clean (c.show.ensures.viewed m k means))
+    view_answers c.show.result (settings_of c.args.self.now.office.setup c.args.self.now.office.controls) c.args.arrival.now m k c.args.ask c.in-View.asked (state g.S.Store c.show.new.self.store.conn)
+    is c.in-View.is (where_open c.show.result (HasCleanDisk (state g.S.Store c.show.new.self.store.conn)) (Serves (state g.S.Store c.show.new.self.store.conn)) _ c.show.ensures.opens clean (c.show.ensures.viewed m k sound means))
     (means_stay c.show.ensures.served c.show.ensures.stays m k means)
 
 pub returns-in-Ok-clause-answered : goal.returns-in-Ok-clause-answered

@@ -7,10 +7,10 @@ use Rattle.fax_store.proofs.StoreLemmas.{means_stay}
 use Rattle.fax_once.proofs.queue.Queue.show.Goals as goal
 
 pub returns-clause-viewed : goal.returns-clause-viewed
-returns-clause-viewed g c m k means serves =
-    let same = c.in_ok-meta.ensures.found m k means (c.view_job.ensures.served serves) in
-    subst (λ t. IfOk c.view_job.result (λ reply. reply ≡ view (settings_of c.args.self.now.office.setup c.args.self.now.office.controls) m t c.args.job))
-    (c.moment_at-t.ensures ∙ ap (λ meta. decided_at meta.clock c.args.moment) same) (c.view_job.ensures.viewed m k (means_stay c.meta.ensures.served c.meta.ensures.stays m k means) serves)
+returns-clause-viewed g c m k sound means serves =
+    let same = c.in_ok-meta.ensures.found m k means (c.show.ensures.served serves) in
+    subst (λ t. IfOk c.show.result (λ reply. reply ≡ view (settings_of c.args.self.now.office.setup c.args.self.now.office.controls) m t c.args.asked))
+    (c.moment_at-t.ensures ∙ ap (λ meta. decided_at meta.clock c.args.moment) same) (c.show.ensures.viewed m k sound (means_stay c.meta.ensures.served c.meta.ensures.stays m k means) serves)
 
 pub returns-clause-stays : goal.returns-clause-stays
-returns-clause-stays g c db six rests = c.view_job.ensures.stays db six (c.meta.ensures.stays db six rests)
+returns-clause-stays g c db six rests = c.show.ensures.stays db six (c.meta.ensures.stays db six rests)

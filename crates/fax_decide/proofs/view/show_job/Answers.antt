@@ -6,7 +6,7 @@ use Rattle.fax_decide.specs.Settings.{settings_of}
 use Rattle.fax_store.proofs.StoreLemmas.{means_stay}
 use Rattle.fax_decide.proofs.ViewLemmas.{job_viewed}
 use Rattle.fax_decide.proofs.OpenLemmas.{opens_then}
-use Rattle.fax_decide.proofs.view.view_job.Goals as goal
+use Rattle.fax_decide.proofs.view.show_job.Goals as goal
 
 pub returns-in-Some-clause-viewed : goal.returns-in-Some-clause-viewed
 returns-in-Some-clause-viewed g c m k means serves =

@@ -2,9 +2,9 @@ use Rattle.std.proofs.Common.{subst, sym}
 use Rattle.sqlite.specs.Files.{file_state}
 use Rattle.sqlite.specs.State.{HasCleanDisk}
 use Rattle.sqlite_wal.specs.Files.{image_at}
-use Rattle.faxqd.specs.Serve.{IsFound}
-use Rattle.faxqd.proofs.ServeLemmas.{found_by}
-use Rattle.faxqd.proofs.serve.open_queue.Goals as goal
+use Rattle.faxqd.specs.Database.{IsFound}
+use Rattle.faxqd.proofs.DatabaseLemmas.{found_by}
+use Rattle.faxqd.proofs.database.open_queue.Goals as goal
 
 pub returns-clause-found : goal.returns-clause-found
 returns-clause-found g c =

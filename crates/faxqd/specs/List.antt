@@ -1,0 +1,46 @@
+-- How the command `list` ends, and what it prints.
+use Rattle.std.specs.Prelude.{◌≡◌, ◌⊎◌, ℕ, false, List, Option, Ok, codes}
+use Rattle.sqlite.specs.State.{State, HasCleanDisk}
+use Rattle.fax_ask.specs.Response.{Response}
+use Rattle.fax_ask.specs.declared.method.Method.TheVariants.{Get}
+use Rattle.fax_core.specs.Queue.{Queue, Entry}
+use Rattle.fax_core.specs.Settings.{Settings}
+use Rattle.fax_core.specs.Sound.{Sound}
+use Rattle.fax_decide.specs.declared.office.Office.{Office}
+use Rattle.fax_http.specs.Device.{BrokeOff, Put}
+use Rattle.fax_http.specs.declared.device.Watched.{Watched}
+use Rattle.fax_once.specs.Verdict.{Handles}
+use Rattle.fax_once.specs.declared.arrival.Arrival.{Arrival}
+use Rattle.fax_store.specs.Store.{Means, Stays}
+use Rattle.faxqd.specs.Office.{ComesOf}
+use Rattle.faxqd.specs.declared.status.Status.{Status}
+use Rattle.faxqd.specs.declared.status.Status.TheVariants.{Success, Fault, Usage}
+use Rattle.fax_text.specs.declared.list_words.ListPlan.{ListPlan}
+
+-- the queue's reply to GET of /jobs at that moment
+abbrev pub IsReply : Settings → ℕ → Queue → List Entry → State → Response → Type 0
+IsReply s moment m k new reply =
+    (a : Arrival) × (a.method ≡ Get) × (a.path.now ≡ codes "/jobs") × (a.moment ≡ moment) × Handles s a m k reply new
+
+-- The reply is that of the queue, where the store means a sound one. The rows stay as they are.
+pub record IsSeen (s : Settings) (moment : ℕ) (old new : State) (reply : Response) : Type 0 where
+  pub stays : Stays old new
+  pub clean : HasCleanDisk new → HasCleanDisk old
+  pub seen : (m : Queue) (k : List Entry) → Sound m → Means old m k → HasCleanDisk new → IsReply s moment m k new reply
+
+module _ {W : Type 0} (contents : W → Option (List ℕ)) (out out₂ : Watched W) where
+  -- a reply of status 200 is printed; or there is another reply, or the output failed
+  abbrev pub Prints : Response → Status → Type 0
+  Prints reply Success = (reply.status ≡ 200) × Put contents out out₂ reply.body false
+  Prints reply Fault = (out₂ ≡ out) ⊎ BrokeOff contents out out₂ reply.body
+  Prints reply Usage = ⊥
+
+  -- what the queue replies is printed
+  abbrev pub Shows : Settings → ℕ → State → State → Status → Type 0
+  Shows s moment old new status = (reply : Response) × IsSeen s moment old new reply × Prints reply status
+
+  -- where it succeeds, the files say an office, and a reply is printed
+  abbrev pub Lists : ListPlan → Status → Type 0
+  Lists plan Success = ((office : Office) × ComesOf plan.files (Ok office)) × (reply : Response) × Prints reply Success
+  Lists plan Fault = (out₂ ≡ out) ⊎ ((reply : Response) × BrokeOff contents out out₂ reply.body)
+  Lists plan Usage = ⊥

@@ -1,0 +1,65 @@
+//! `faxqd list`: prints the listing of the jobs in a file.
+ghost use Rattle.std.specs.Prelude.{◌≡◌, false};
+ghost use Rattle.sqlite.specs.Held.{state};
+ghost use Rattle.fax_desk.specs.Replaying.{settings_in};
+ghost use Rattle.faxqd.specs.List.{Lists, Prints, Shows};
+
+use crate::database::{open_queue, tell_fault};
+use crate::moment::moment_of;
+use crate::office::{read_office, report};
+use crate::status::{Status, fail};
+use fax_http::Watched;
+use fax_job::Moment;
+use fax_once::Queue;
+use fax_text::ListPlan;
+use sqlite::{Alter, Start};
+use std::alloc::Global;
+use std::io::Write;
+
+/// Reads the files, opens the database, and prints the listing of its jobs at the moment that the plan says, or else at
+/// the machine's. A fault is one line to `err`. `start` stands for what the database's files hold.
+pub fn list<S: Start, W: Write + Drop, E: Write>(
+    rt: &HostRuntime,
+    plan: ListPlan<'_>,
+    start: S,
+    out: &mut Watched<W>,
+    err: &mut E,
+) -> Status
+    requires { out.old.failed ≡ false }
+    ensures ends { Lists W.contents out.old out.new plan.entry result }
+    ensures silent { result ≡ Status.Success → err.new ≡ err.old }
+{
+    let office = match read_office(rt, plan.files) {
+        Ok(office) => office,
+        Err(fault) => return report(err, fault),
+    };
+    let moment = moment_of(rt, plan.moment);
+    match open_queue(rt, plan.database, start, office) {
+        Ok(queue) => list_queue(rt.alloc(), queue, moment, out, err).0,
+        Err(fault) => tell_fault(err, fault),
+    }
+}
+
+/// Prints the listing of that queue, which is given back.
+fn list_queue<S: Alter + Drop, W: Write + Drop, E: Write>(
+    alloc: Global,
+    mut queue: Queue<S>,
+    moment: Moment,
+    out: &mut Watched<W>,
+    err: &mut E,
+) -> (Status, Queue<S>)
+    requires { out.old.failed ≡ false }
+    ensures office { result.1.office ≡ queue.office }
+    ensures shown { Shows W.contents out.old out.new (settings_in queue.office) moment
+        (state S.Store queue.store.conn) (state S.Store result.1.store.conn) result.0 }
+    ensures silent { result.0 ≡ Status.Success → err.new ≡ err.old }
+{
+    let reply = queue.view(alloc, "/jobs", moment);
+    if reply.status() != 200 {
+        return (fail(err, "faxqd: database\n"), queue);
+    }
+    match out.put(reply.body()) {
+        Ok(()) => (Status::Success, queue),
+        Err(_) => (fail(err, "faxqd: ended write-failed\n"), queue),
+    }
+}
