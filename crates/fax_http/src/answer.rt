@@ -51,8 +51,8 @@ enum AnswerRead<'b> {
 }
 
 /// Reads one reply: a head of at most 16,384 bytes and 64 fields, and a body of as many bytes as its one
-/// `Content-Length` says, at most 65,536 (RFC 9112, sections 4 and 6). Memory for it is taken before the first read,
-/// and for the body. A reply without `Content-Length`, one with `Transfer-Encoding` and an interim one, of a status
+/// `Content-Length` says, at most 65,536 (RFC 9112, sections 4 and 6). Room for what is read is taken before the first
+/// read, and that of the body when it is there. A reply without `Content-Length`, one with `Transfer-Encoding` and an interim one, of a status
 /// under 200, count as none.
 pub fn read_answer<R: Read + Drop>(
     alloc: Global,
