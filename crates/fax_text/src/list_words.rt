@@ -52,6 +52,7 @@ pub(crate) fn list_command<'a>(alloc: Global) -> Result<Command<'a>, AllocError>
     let moment = long_option(alloc, "moment", "SECONDS", "What counts as now, since 1970");
     let list = Command::new(alloc, LIST)
         .about("Prints the listing of the jobs in a database's file")
+        .after_help("Example:\n  faxqd list --db queue.db --setup office.setup")
         .arg(database)?
         .arg(moment)?;
     with_files(alloc, list)

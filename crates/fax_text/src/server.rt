@@ -105,9 +105,9 @@ pub(crate) fn replay_command<'a>(alloc: Global) -> Result<Command<'a>, AllocErro
     ensures shape { IfOk result (λ command. app_of command ≡ replay_command) }
     ensures local { IfOk result (λ command. (fields_of command).has_globals ≡ false) }
 {
-    let replay = Command::new(alloc, REPLAY).about(
-        "Answers the requests on standard input, over tables in memory",
-    );
+    let replay = Command::new(alloc, REPLAY)
+        .about("Answers the requests on standard input, over tables in memory")
+        .after_help("Example:\n  faxqd replay --setup office.setup < one-fax.http");
     with_files(alloc, replay)
 }
 
@@ -133,16 +133,19 @@ pub(crate) fn serve_command<'a>(alloc: Global) -> Result<Command<'a>, AllocError
         alloc,
         "connections",
         "N",
-        "How many connections to serve, one after the other [default: 1000]",
+        "Connections to serve, one by one [default: 1000]",
     );
     let timeout = long_option(
         alloc,
         "timeout",
         "SECONDS",
-        "How long a read or a write may wait; a whole connection, six times as long [default: 10]",
+        "How long a read or a write may wait; a connection,\nsix times as long [default: 10]",
     );
     let serve = Command::new(alloc, SERVE)
         .about("Serves connections, over the tables in a file")
+        .after_help(
+            "Example:\n  faxqd serve --db queue.db --listen 127.0.0.1:4559 --setup office.setup",
+        )
         .arg(database)?
         .arg(address)?
         .arg(connections)?

@@ -241,6 +241,7 @@ fn command<'a>(alloc: Global) -> Result<Command<'a>, AllocError>
 {
     Command::new(alloc, "faxqd")
         .about("The send queue of a fax server")
+        .after_help("Example:\n  faxqd serve --db queue.db --listen 127.0.0.1:4559")
         .subcommand_required(true)
         .subcommand(replay_command(alloc)?)?
         .subcommand(serve_command(alloc)?)?
@@ -252,9 +253,11 @@ fn command<'a>(alloc: Global) -> Result<Command<'a>, AllocError>
 fn sendfax_command<'a>(alloc: Global) -> Result<Command<'a>, AllocError>
     ensures { IfOk result (λ command. app_of command ≡ sendfax_command) }
 {
-    let command = Command::new(alloc, SENDFAX).about(
-        "Hands in a job, or prints the request that does",
-    );
+    let command = Command::new(alloc, SENDFAX)
+        .about("Hands in a job, or prints the request that does")
+        .after_help(
+            "Example:\n  faxqd sendfax -d '+1 415 555-0100' --pages 3 --request 7 --to 127.0.0.1:4559",
+        );
     let command = with_fax(alloc, command)?;
     let command = with_limits(alloc, command)?;
     let command = with_times(alloc, command)?;
@@ -334,7 +337,7 @@ fn with_request<'a>(alloc: Global, command: Command<'a>) -> Result<Command<'a>, 
             alloc,
             "to",
             "ADDRESS",
-            "A host and a port to send the request to; without it the request is printed",
+            "The host and the port to send it to; without this,\nthe request is printed",
         ))
 }
 

@@ -7,10 +7,10 @@ use Rattle.fax_text.proofs.server.replay_command.Goals as goal
 
 pub returns-clause-shape : goal.returns-clause-shape
 returns-clause-shape c =
-    let start : app_of c.about-replay.result ≡ new_app (codes "replay") = ap app_of_fields c.about-replay.ensures ∙ c.new.ensures.app in
+    let start : app_of c.after_help-replay.result ≡ new_app (codes "replay") = ap app_of_fields c.after_help-replay.ensures ∙ ap app_of_fields c.about.ensures ∙ c.new.ensures.app in
     IfOk-weaker c.with_files.result _ _ (λ made e. e ∙ ap with_files start) c.with_files.ensures.shape
 
 pub returns-clause-local : goal.returns-clause-local
 returns-clause-local c =
-    let start : (fields_of c.about-replay.result).has_globals ≡ false = ap (λ f. f.has_globals) c.about-replay.ensures ∙ c.new.ensures.local in
+    let start : (fields_of c.after_help-replay.result).has_globals ≡ false = ap (λ f. f.has_globals) c.after_help-replay.ensures ∙ ap (λ f. f.has_globals) c.about.ensures ∙ c.new.ensures.local in
     IfOk-weaker c.with_files.result _ _ (λ made local. local start) c.with_files.ensures.local

@@ -17,7 +17,7 @@ returns-clause-shape c =
     let address : rule_of c.required-address.result ≡ required (long_option (codes "listen")) = ap rule_of c.required-address.ensures ∙ ap as_needed c.long_option-2.ensures.rule in
     let no_database : c.required-database.result.global ≡ false = ap (λ (a : Arg). a.global) c.required-database.ensures ∙ c.long_option.ensures.local in
     let no_address : c.required-address.result.global ≡ false = ap (λ (a : Arg). a.global) c.required-address.ensures ∙ c.long_option-2.ensures.local in
-    let start : app_of c.about.result ≡ new_app (codes "serve") = ap app_of_fields c.about.ensures ∙ c.new.ensures.app in
+    let start : app_of c.after_help.result ≡ new_app (codes "serve") = ap app_of_fields c.after_help.ensures ∙ ap app_of_fields c.about.ensures ∙ c.new.ensures.app in
     let first = c.in_ok-arg.ensures.shape no_database ∙ ap₂ with_rule start database in
     let second = c.in_ok-arg-2.ensures.shape no_address ∙ ap₂ with_rule first address in
     let third = c.in_ok-arg-3.ensures.shape c.long_option-connections.ensures.local ∙ ap₂ with_rule second c.long_option-connections.ensures.rule in
@@ -28,7 +28,7 @@ pub returns-clause-local : goal.returns-clause-local
 returns-clause-local c =
     let database : c.required-database.result.global ≡ false = ap (λ (a : Arg). a.global) c.required-database.ensures ∙ c.long_option.ensures.local in
     let address : c.required-address.result.global ≡ false = ap (λ (a : Arg). a.global) c.required-address.ensures ∙ c.long_option-2.ensures.local in
-    let start : (fields_of c.about.result).has_globals ≡ false = ap (λ f. f.has_globals) c.about.ensures ∙ c.new.ensures.local in
+    let start : (fields_of c.after_help.result).has_globals ≡ false = ap (λ f. f.has_globals) c.after_help.ensures ∙ ap (λ f. f.has_globals) c.about.ensures ∙ c.new.ensures.local in
     let first = c.in_ok-arg.ensures.globals ∙ ap₂ (λ a b. a || b) start database in
     let second = c.in_ok-arg-2.ensures.globals ∙ ap₂ (λ a b. a || b) first address in
     let third = c.in_ok-arg-3.ensures.globals ∙ ap₂ (λ a b. a || b) second c.long_option-connections.ensures.local in

@@ -7,7 +7,7 @@ use Rattle.fax_text.proofs.words.command.Goals as goal
 pub returns : goal.returns
 returns c =
     let sendfax = c.in_ok-sendfax_command.ensures in
-    let top : app_of c.about.result ≡ new_app (codes "faxqd") = ap app_of_fields c.about.ensures ∙ c.new.ensures.app in
+    let top : app_of c.after_help.result ≡ new_app (codes "faxqd") = ap app_of_fields c.after_help.ensures ∙ ap app_of_fields c.about.ensures ∙ c.new.ensures.app in
     let wants : App → App = on_top (λ (s : Shape). record s { subcommand_required = true }) in
     let start : app_of c.subcommand_required.result ≡ wants (new_app (codes "faxqd")) =
     ap app_of_fields c.subcommand_required.ensures ∙ ap wants top in
