@@ -1,8 +1,10 @@
 -- What the texts that change jobs write.
-use Rattle.std.proofs.Common.{◌≡◌, ◌≤◌, ◌<◌, inl, inr, ℕ, suc, List, [], ◌∷◌, map, drop, All, Bool, true, false, ◌&&◌, Option, Some, None, unwrap_or, if◌then◌else◌, refl, sym, ap, ap₂, subst, ◌∙◌, arith}
+use Rattle.std.proofs.Common.{◌≡◌, ◌≤◌, ◌<◌, inl, inr, ℕ, suc, List, [], ◌∷◌, map, drop, All, Bool, true, false, ◌&&◌, ◌||◌, pos, Option, Some, None, unwrap_or, if◌then◌else◌, refl, sym, ap, ap₂, subst, ◌∙◌, arith}
 use Rattle.std.specs.Prelude.{find, ◌==◌, nat_le}
+use Rattle.std.specs.Ordering.{int_cmp, is_eq}
 use Rattle.std.specs.Str.{IsUtf8}
 use Rattle.std.proofs.lemmas.Bool.{cases_Bool, eqb-true, eq-eqb}
+use Rattle.std.proofs.lemmas.Bool.Decides.{nat_tests}
 use Rattle.std.proofs.lemmas.List.Elements.{All-cons}
 use Rattle.sqlite.specs.Cast.{cast_row}
 use Rattle.sqlite.specs.Order.{Row}
@@ -26,13 +28,13 @@ use Rattle.fax_job.specs.Name.{IsName}
 use Rattle.fax_job.specs.Pair.{ArePairs}
 use Rattle.fax_job.specs.Value.{IsStatus}
 use Rattle.fax_tables.specs.Job.{IsText, IsLawfulJob}
-use Rattle.fax_store.specs.Job.{IsSameOrder, IsChange, with_expired}
+use Rattle.fax_store.specs.Job.{IsSameOrder, IsChange, expired_in, with_expired, with_expired_in}
 use Rattle.fax_tables.specs.Row.{number, job_row, phase_number}
 use Rattle.fax_tables.specs.Schema as schema
 use Rattle.fax_tables.specs.Schema.{six_tables, jobs_tree}
 use Rattle.fax_store.specs.Store.{HasRun}
 use Rattle.fax_tables.specs.Tables.{TablesMean}
-use Rattle.fax_tables.proofs.CompareLemmas.{at_most, at_least}
+use Rattle.fax_tables.proofs.CompareLemmas.{at_most, at_least, equal_numbers}
 use Rattle.fax_store.proofs.JobLemmas.{fields_back, lawful_of_fields, stored_job}
 use Rattle.fax_tables.proofs.KeyLemmas.{only_numbered, asked_is, not_asked}
 use Rattle.fax_tables.proofs.RowLemmas.{change_params}
@@ -117,52 +119,48 @@ module _ (f : JobFields) where
         let now : AreRecords row_of IsLawfulJob (new.now.trees jobs_tree) (map put m.jobs) = record { is = done.1; ordered = done.2; lawful = all_mapped IsLawfulJob put m.jobs (λ x has. put_lawful lawful x (same_order change x has)) means.lawful.jobs } in
         (means_of new.now (with_change (job_of f) m) k (jobs_changed old new m (open_grants m) k (parts_of old.now m k means) done.0 (map put m.jobs) now), done.0)
 
--- ---- all jobs whose kill time is past
+-- ---- all jobs of a phase whose kill time is past
 
-module _ (t : ℕ) where
+module _ (phase : Phase) (t : ℕ) where
   abbrev pub expired_params : Row
-  expired_params = number t ∷ []
+  expired_params = number t ∷ number (phase_number phase) ∷ []
 
   and_true : (b : Bool) → (b && true) ≡ b
   and_true true = refl
   and_true false = refl
 
-  abbrev by_numbers : Phase → Option ℕ → Bool
-  by_numbers phase killtime = nat_le (phase_number phase) 1 && (nat_le 1 (unwrap_or killtime 0) && (nat_le (unwrap_or killtime 0) t && true))
-
   past : (killtime : Option ℕ) → (nat_le 1 (unwrap_or killtime 0) && (nat_le (unwrap_or killtime 0) t && true)) ≡ is_past killtime t
   past None = refl
   past (Some s) = ap (λ b. nat_le 1 s && b) (and_true (nat_le s t))
 
-  same_test : (phase : Phase) (killtime : Option ℕ) → by_numbers phase killtime ≡ (expires phase && is_past killtime t)
-  same_test Held killtime = past killtime
-  same_test Waiting killtime = past killtime
-  same_test Granted killtime = refl
-  same_test Done killtime = refl
-  same_test Failed killtime = refl
+  abbrev expires_here : Job → Bool
+  expires_here j = phase_number j.phase == phase_number phase && is_past j.killtime t
+
+  same_number : (a b : ℕ) → is_eq (int_cmp (pos a) (pos b)) ≡ (a == b)
+  same_number a b = grind (arith, nat_tests)
 
   -- the jobs that pass are those that expire
-  expiring : (j : Job) → passes jobs_tree expired_tests expired_project expired_params (row_of j) ≡ (expires j.phase && is_past j.killtime t)
+  expiring : (j : Job) → passes jobs_tree expired_tests expired_project expired_params (row_of j) ≡ expires_here j
   expiring j =
-      ap₂ ◌&&◌ (at_most (phase_number j.phase) 1) (ap₂ ◌&&◌ (at_least (unwrap_or j.killtime 0) 1) (ap (λ b. b && true) (at_most (unwrap_or j.killtime 0) t)))
-      ∙ same_test j.phase j.killtime
+      ap₂ ◌&&◌ (equal_numbers (phase_number j.phase) (phase_number phase) ∙ same_number (phase_number j.phase) (phase_number phase))
+      (ap₂ ◌&&◌ (at_least (unwrap_or j.killtime 0) 1) (ap (λ b. b && true) (at_most (unwrap_or j.killtime 0) t)) ∙ past j.killtime)
 
   abbrev expired : Job → Job
   expired j = record j { phase = Failed; status = kill_time_expired }
 
-  aged_by : (j : Job) (b : Bool) → (expires j.phase && is_past j.killtime t) ≡ b → aged_job t j ≡ (if b then expired j else j)
-  aged_by j b is = ap (λ c. if c then expired j else j) is
+  expired_by : (j : Job) (b : Bool) → expires_here j ≡ b → expired_in phase t j ≡ (if b then expired j else j)
+  expired_by j b is = ap (λ c. if c then expired j else j) is
 
-  aged_number : (j : Job) → rowid (row_of (aged_job t j)) ≡ rowid (row_of j)
-  aged_number j = elim (cases_Bool (expires j.phase && is_past j.killtime t)) [ inl on ↦ ap (λ i. rowid (row_of i)) (aged_by j true on) | inr off ↦ ap (λ i. rowid (row_of i)) (aged_by j false off) ]
+  expired_number : (j : Job) → rowid (row_of (expired_in phase t j)) ≡ rowid (row_of j)
+  expired_number j = elim (cases_Bool (expires_here j)) [ inl on ↦ ap (λ i. rowid (row_of i)) (expired_by j true on) | inr off ↦ ap (λ i. rowid (row_of i)) (expired_by j false off) ]
 
   expired_text : IsUtf8 kill_time_expired
   unfolding lib.Utf8.encode
   expired_text = (kill_time_expired, (refl, refl))
 
-  aged_lawful : (j : Job) → IsLawfulJob j → IsLawfulJob (aged_job t j)
-  aged_lawful j was = elim (cases_Bool (expires j.phase && is_past j.killtime t)) [
-    | inl on ↦ subst IsLawfulJob (sym (aged_by j true on)) (record {
+  expired_lawful : (j : Job) → IsLawfulJob j → IsLawfulJob (expired_in phase t j)
+  expired_lawful j was = elim (cases_Bool (expires_here j)) [
+    | inl on ↦ subst IsLawfulJob (sym (expired_by j true on)) (record {
       formed = record {
         dial = was.formed.dial;
         modem = was.formed.modem;
@@ -176,17 +174,43 @@ module _ (t : ℕ) where
       limits = was.limits;
       pages = was.pages;
     })
-    | inr off ↦ subst IsLawfulJob (sym (aged_by j false off)) was
+    | inr off ↦ subst IsLawfulJob (sym (expired_by j false off)) was
   ]
 
   module _ (old new : State) (m : Queue) (k : List Entry) (means : TablesMean old.now m k) where
-    pub jobs_expired : HasRun EXPIRE_JOBS.now expired_params old new → TablesMean new.now (with_expired t m) k × KeepsOthers six_tables jobs_tree old new
+    pub jobs_expired : HasRun EXPIRE_JOBS.now expired_params old new → TablesMean new.now (with_expired_in phase t m) k × KeepsOthers six_tables jobs_tree old new
     jobs_expired h =
         let ran = runs_as EXPIRE_JOBS.now expired_params old new six_tables means.schema _ expire_jobs.is expire_jobs.plain h.0 h.1 in
         let done = updated schema.jobs.name 0 schema.jobs.columns schema.jobs.key schema.jobs.primary schema.jobs.uniques schema.jobs.orders schema.jobs.checks 0 refl old new means.schema refl means.ordered.jobs
-        expired_tests expired_project expired_params (λ r. refl) _ h.0 row_of (aged_job t) m.jobs means.jobs aged_number
-        (λ j has on. stored_job (fields_of (expired j)) ∙ sym (ap row_of (aged_by j true (sym (expiring j) ∙ on))))
-        (λ j has off. sym (ap row_of (aged_by j false (sym (expiring j) ∙ off))))
+        expired_tests expired_project expired_params (λ r. refl) _ h.0 row_of (expired_in phase t) m.jobs means.jobs expired_number
+        (λ j has on. stored_job (fields_of (expired j)) ∙ sym (ap row_of (expired_by j true (sym (expiring j) ∙ on))))
+        (λ j has off. sym (ap row_of (expired_by j false (sym (expiring j) ∙ off))))
         ran in
-        let now : AreRecords row_of IsLawfulJob (new.now.trees jobs_tree) (map (aged_job t) m.jobs) = record { is = done.1; ordered = done.2; lawful = all_mapped IsLawfulJob (aged_job t) m.jobs (λ j has. aged_lawful j) means.lawful.jobs } in
-        (means_of new.now (with_expired t m) k (jobs_changed old new m (open_grants m) k (parts_of old.now m k means) done.0 (map (aged_job t) m.jobs) now), done.0)
+        let now : AreRecords row_of IsLawfulJob (new.now.trees jobs_tree) (map (expired_in phase t) m.jobs) = record { is = done.1; ordered = done.2; lawful = all_mapped IsLawfulJob (expired_in phase t) m.jobs (λ j has. expired_lawful j) means.lawful.jobs } in
+        (means_of new.now (with_expired_in phase t m) k (jobs_changed old new m (open_grants m) k (parts_of old.now m k means) done.0 (map (expired_in phase t) m.jobs) now), done.0)
+
+-- ---- the jobs that are held, and then those that wait, are all that expire
+
+-- what ages is in one of the two phases
+either : (phase : Phase) (past : Bool) → (expires phase && past) ≡ ((phase_number phase == 0 && past) || (phase_number phase == 1 && past))
+either Held true = refl
+either Held false = refl
+either Waiting past = refl
+either Granted past = refl
+either Done past = refl
+either Failed past = refl
+
+expired_once : (t : ℕ) (j : Job) → expired_in Waiting t (expired_in Held t j) ≡ aged_job t j
+expired_once t j = by (phase_number j.phase == 0 && is_past j.killtime t) (phase_number j.phase == 1 && is_past j.killtime t) refl refl ∙ ap (λ b. if b then expired Held t j else j) (sym (either j.phase (is_past j.killtime t)))
+  where
+    by : (held waits : Bool) → (phase_number j.phase == 0 && is_past j.killtime t) ≡ held → (phase_number j.phase == 1 && is_past j.killtime t) ≡ waits
+        → expired_in Waiting t (expired_in Held t j) ≡ (if held || waits then expired Held t j else j)
+    by true waits e w = ap (expired_in Waiting t) (expired_by Held t j true e)
+    by false waits e w = ap (expired_in Waiting t) (expired_by Held t j false e) ∙ expired_by Waiting t j waits w
+
+pub expired_in_turn : (t : ℕ) (m : Queue) → with_expired_in Waiting t (with_expired_in Held t m) ≡ with_expired t m
+expired_in_turn t m = ap (λ jobs. record m { jobs = jobs }) (all m.jobs)
+  where
+    all : (jobs : List Job) → map (expired_in Waiting t) (map (expired_in Held t) jobs) ≡ map (aged_job t) jobs
+    all [] = refl
+    all (j ∷ jobs) = ap₂ (λ i is. i ∷ is) (expired_once t j) (all jobs)

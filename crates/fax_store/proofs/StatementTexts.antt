@@ -102,7 +102,7 @@ unfolding understood everything
 update_job = record { is = refl; plain = (refl, refl) }
 
 abbrev pub expired_tests : List Term
-expired_tests = op2 (Compare Le Binary) (col 1 18) (lit (Int (pos 1))) ∷ op2 (Compare Ge Binary) (col 1 8) (lit (Int (pos 1))) ∷ op2 (Compare Le Binary) (col 1 8) (col 0 0) ∷ []
+expired_tests = equals (col 1 18) (col 0 1) ∷ op2 (Compare Ge Binary) (col 1 8) (lit (Int (pos 1))) ∷ op2 (Compare Le Binary) (col 1 8) (col 0 0) ∷ []
 
 abbrev pub expired_project : List Term
 expired_project =

@@ -1,13 +1,17 @@
 -- What is made of the jobs of a queue, and which of them wait.
-use Rattle.std.specs.Prelude.{◌≡◌, ℕ, List, ◌+◌, map, filter, Some, None}
+use Rattle.std.specs.Prelude.{◌≡◌, ℕ, List, ◌+◌, ◌==◌, ◌&&◌, map, filter, Some, None, if◌then◌else◌}
 use Rattle.std.specs.List.Sorted.{IsPermutation, IsSortedBy}
 use Rattle.fax_core.specs.Job.{Job, fields_of}
-use Rattle.fax_core.specs.Ageing.{aged_job}
+use Rattle.fax_core.specs.Ageing.{aged_job, is_past}
 use Rattle.fax_core.specs.Best.{better}
 use Rattle.fax_core.specs.State.{is_due}
 use Rattle.fax_core.specs.Queue.{Queue, job_numbered}
+use Rattle.fax_job.specs.Status.{kill_time_expired}
 use Rattle.fax_job.specs.declared.job.JobFields.{JobFields}
+use Rattle.fax_job.specs.declared.job.Phase.{Phase}
+use Rattle.fax_job.specs.declared.job.Phase.TheVariants.{Failed}
 use Rattle.fax_tables.specs.Place.{placed}
+use Rattle.fax_tables.specs.Row.{phase_number}
 
 -- the queue with one more job
 abbrev pub with_placed : Job → Queue → Queue
@@ -34,6 +38,14 @@ IsChange j m = (k : Job) → job_numbered j.number m ≡ Some k → IsSameOrder 
 -- the queue with the jobs as time leaves them
 abbrev pub with_expired : ℕ → Queue → Queue
 with_expired t m = record m { jobs = map (aged_job t) m.jobs }
+
+-- the job, failed where it is in this phase and its kill time is past
+abbrev pub expired_in : Phase → ℕ → Job → Job
+expired_in phase t j = if phase_number j.phase == phase_number phase && is_past j.killtime t then record j { phase = Failed; status = kill_time_expired } else j
+
+-- the queue with the jobs of this phase as time leaves them
+abbrev pub with_expired_in : Phase → ℕ → Queue → Queue
+with_expired_in phase t m = record m { jobs = map (expired_in phase t) m.jobs }
 
 -- the jobs that are due at t, in the order of the choice: none is better than the one before it
 pub record AreWaiting (t : ℕ) (m : Queue) (jobs : List Job) : Type 0 where

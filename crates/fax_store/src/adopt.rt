@@ -4,21 +4,25 @@ ghost use Rattle.std.specs.Prelude.{◌≡◌, false, [], Err, IfErr, IfOk, List
 ghost use Rattle.sqlite.specs.Held.{state};
 ghost use Rattle.sqlite.specs.State.{HasCleanDisk, IsUnchanged, KeepsCommit};
 ghost use Rattle.fax_core.specs.Queue.{Queue, Entry, empty_queue};
-ghost use Rattle.fax_store.specs.Adopt.{Adopts, IsAdoptable, IsOurs, TakesTables};
+ghost use Rattle.fax_store.specs.Adopt.{Adopts, HasIndexed, HasVersion, IsAdoptable, IsOurs, TakesTables};
 ghost use Rattle.fax_store.specs.Store.{GoesBack, Means, Serves};
-ghost use Rattle.fax_tables.specs.Schema.{no_tables};
-ghost use Rattle.fax_tables.specs.Tables.{IsAtRest};
+ghost use Rattle.fax_tables.specs.Schema.{bare_tables, no_tables};
+ghost use Rattle.fax_tables.specs.Tables.{IsAtRest, RowsMean};
 
 use crate::store::{BEGIN, COMMIT, Store};
-use fax_tables::{StoreFault, create_tables, has_no_tables, has_six_tables, is_version};
+use fax_tables::{
+    StoreFault, create_indexes, create_tables, has_bare_tables, has_no_tables, has_six_tables,
+    is_version,
+};
 use sqlite::{Alter, Connection};
 use std::alloc::Global;
 
 const SELECT_VERSION: &str = "SELECT version FROM meta";
 
 impl<S: Alter> Store<S> {
-    /// The store over a database. One with no tables gets the six of an empty store, all in one
-    /// transaction. One that has exactly these, of version 1, stays as it is.
+    /// The store over a database. One with no tables gets the six of an empty store, with their indexes.
+    /// One that has exactly these tables, of version 1, keeps its rows, and gets the indexes by which
+    /// jobs are found where it has none. Either is done in one transaction.
     ///
     /// # Errors
     ///
@@ -33,6 +37,9 @@ impl<S: Alter> Store<S> {
             → Adopts (state S.Store conn) (state S.Store store.conn)) }
         ensures means { IfOk result (λ store. (m : Queue) (k : List Entry)
             → Means (state S.Store conn) m k → Means (state S.Store store.conn) m k) }
+        ensures means_alone { IfOk result (λ store. (m : Queue) (k : List Entry)
+            → (state S.Store conn).now.schema ≡ bare_tables
+            → RowsMean (state S.Store conn).now m k → Means (state S.Store store.conn) m k) }
         ensures served { IfOk result (λ store. Serves (state S.Store store.conn) → Serves (state S.Store conn)) }
         ensures clean { IfOk result (λ store.
             HasCleanDisk (state S.Store store.conn) → HasCleanDisk (state S.Store conn)) }
@@ -66,7 +73,8 @@ impl<S: Alter> Store<S> {
         conn
     }
 
-    /// Makes the tables in a database with none, and tests those of any other.
+    /// Makes the tables in a database with none, and the indexes in one without them, and tests the
+    /// tables of any other.
     fn take_tables(&mut self) -> Result<(), StoreFault>
         ensures taken { HasCleanDisk (state S.Store self.new.conn) → OnOk result
             (TakesTables (state S.Store self.old.conn) (state S.Store self.new.conn)) }
@@ -80,6 +88,8 @@ impl<S: Alter> Store<S> {
     {
         if has_no_tables(self.conn.schema()) {
             self.make_tables()
+        } else if has_bare_tables(self.alloc, self.conn.schema())? {
+            self.make_indexes()
         } else {
             self.test_tables()
         }
@@ -103,11 +113,13 @@ impl<S: Alter> Store<S> {
         Ok(())
     }
 
-    /// Tests whether the database has the six tables, of version 1.
-    fn test_tables(&mut self) -> Result<(), StoreFault>
-        ensures ours { HasCleanDisk (state S.Store self.new.conn) → OnOk result
+    /// Makes the indexes in a database that has the tables without them, of version 1, or leaves it as
+    /// it is.
+    fn make_indexes(&mut self) -> Result<(), StoreFault>
+        requires { (state S.Store self.old.conn).now.schema ≡ bare_tables }
+        ensures made { HasCleanDisk (state S.Store self.new.conn) → OnOk result
             (IsOurs (state S.Store self.old.conn).now
-            × IsUnchanged (state S.Store self.old.conn) (state S.Store self.new.conn)) }
+            × HasIndexed (state S.Store self.new.conn) (state S.Store self.old.conn).now) }
         ensures kept { HasCleanDisk (state S.Store self.new.conn) → OnErr result
             (KeepsCommit (state S.Store self.old.conn) (state S.Store self.new.conn)) }
         ensures served { Serves (state S.Store self.new.conn) → Serves (state S.Store self.old.conn) }
@@ -115,6 +127,26 @@ impl<S: Alter> Store<S> {
         ensures opens { OnOk result (HasCleanDisk (state S.Store self.new.conn) → Serves (state S.Store self.new.conn)) }
         ensures strange { HasCleanDisk (state S.Store self.new.conn) → result ≡ Err StoreFault.Strange
             → ¬ IsOurs (state S.Store self.old.conn).now }
+    {
+        self.conn.execute(BEGIN, &[])?;
+        create_indexes(&mut self.conn)?;
+        self.test_tables()?;
+        self.conn.execute(COMMIT, &[])?;
+        Ok(())
+    }
+
+    /// Tests whether the database has the six tables with their indexes, of version 1.
+    fn test_tables(&mut self) -> Result<(), StoreFault>
+        ensures ours { HasCleanDisk (state S.Store self.new.conn) → OnOk result
+            (HasVersion (state S.Store self.old.conn).now
+            × IsUnchanged (state S.Store self.old.conn) (state S.Store self.new.conn)) }
+        ensures kept { HasCleanDisk (state S.Store self.new.conn) → OnErr result
+            (KeepsCommit (state S.Store self.old.conn) (state S.Store self.new.conn)) }
+        ensures served { Serves (state S.Store self.new.conn) → Serves (state S.Store self.old.conn) }
+        ensures clean { HasCleanDisk (state S.Store self.new.conn) → HasCleanDisk (state S.Store self.old.conn) }
+        ensures opens { OnOk result (HasCleanDisk (state S.Store self.new.conn) → Serves (state S.Store self.new.conn)) }
+        ensures strange { HasCleanDisk (state S.Store self.new.conn) → result ≡ Err StoreFault.Strange
+            → ¬ HasVersion (state S.Store self.old.conn).now }
     {
         if !has_six_tables(self.alloc, self.conn.schema())? {
             return Err(StoreFault::Strange);

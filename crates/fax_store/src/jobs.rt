@@ -7,14 +7,14 @@ ghost use Rattle.sqlite.specs.State.{HasCleanDisk};
 ghost use Rattle.fax_core.specs.Job.{job_of, fields_of};
 ghost use Rattle.fax_core.specs.Machine.{with_job as with_change};
 ghost use Rattle.fax_core.specs.Queue.{Queue, Entry, job_numbered};
-ghost use Rattle.fax_store.specs.Job.{IsChange, IsNewJob, IsWaiting, with_placed, with_one_more_job, with_expired};
+ghost use Rattle.fax_store.specs.Job.{IsChange, IsNewJob, IsWaiting, with_placed, with_one_more_job, with_expired, with_expired_in};
 ghost use Rattle.fax_store.specs.Store.{Serves, Means, MeansNow, HasTables, Reads, Stays};
 ghost use Rattle.fax_store.specs.Work.{Holds, Works, Keeps, Changes, ChangesWhere, AnswersIn, IsOnlyUnavailable, Moves, Steps};
 ghost use Rattle.fax_tables.specs.Fault.{OrUnavailable};
 
 use crate::store::Store;
 use crate::work::Work;
-use fax_job::{Job, Moment};
+use fax_job::{Job, Moment, Phase};
 use fax_tables::{
     Meta, PAST_JOBS, StoreFault, job_in, jobs_in, killtime_number, phase_number, spelling,
     wish_number,
@@ -42,7 +42,7 @@ const UPDATE_JOB: &str = "UPDATE jobs SET modem = ?2, jobtag = ?3, status = ?4, 
     WHERE job = ?1";
 
 const EXPIRE_JOBS: &str = "UPDATE jobs SET phase = 4, status = 'Kill time expired' \
-    WHERE phase <= 1 AND killtime BETWEEN 1 AND ?1";
+    WHERE phase = ?2 AND killtime BETWEEN 1 AND ?1";
 
 const INSERT_JOB: &str =
     "INSERT INTO jobs (job, dial, modem, jobtag, status, extra, tts, killtime, \
@@ -223,7 +223,22 @@ impl<S: Alter> Store<S> {
             → Steps (state S.Store self.new.conn) result m₀ k₀ (with_expired t m) k }
         ensures cause { IfErr result (λ fault. fault ≡ StoreFault.Unavailable) }
     {
-        self.run(EXPIRE_JOBS, params![t.seconds()])
+        self.expire_in(Phase::Held, t)?;
+        self.expire_in(Phase::Waiting, t)
+    }
+
+    /// Lets each job of this phase fail whose kill time is from 1 to `t`. One phase at a time, since
+    /// the index that finds them is by phase first.
+    fn expire_in(&mut self, phase: Phase, t: Moment) -> Result<(), StoreFault>
+        ensures served { Serves (state S.Store self.new.conn) → Serves (state S.Store self.old.conn) }
+        ensures clean { HasCleanDisk (state S.Store self.new.conn) → HasCleanDisk (state S.Store self.old.conn) }
+        ensures holds { Holds (state S.Store self.old.conn) false (state S.Store self.new.conn) (is_err result) }
+        ensures written { (m₀ m : Queue) (k₀ k : List Entry) → Works (state S.Store self.old.conn) false m₀ k₀ m k
+            → Serves (state S.Store self.new.conn)
+            → Steps (state S.Store self.new.conn) result m₀ k₀ (with_expired_in phase t m) k }
+        ensures cause { IfErr result (λ fault. fault ≡ StoreFault.Unavailable) }
+    {
+        self.run(EXPIRE_JOBS, params![t.seconds(), phase_number(phase)])
     }
 
     fn add_job(&mut self, job: &Job) -> Result<(), StoreFault>

@@ -1,5 +1,5 @@
 -- What the texts that make the tables leave.
-use Rattle.std.proofs.Common.{◌≡◌, ◌≤◌, ℕ, pos, List, [], ◌∷◌, ◌++◌, map, drop, false, IsTrue, Ok, Err, Result, refl, sym, ap, ap₂, subst, subst₂, ◌∙◌, arith, if◌then◌else◌}
+use Rattle.std.proofs.Common.{◌≡◌, ◌≤◌, ℕ, pos, List, [], ◌∷◌, ◌++◌, map, drop, false, IsTrue, slice_get, Some, None, Ok, Err, Result, refl, sym, ap, ap₂, subst, subst₂, ◌∙◌, arith, if◌then◌else◌}
 use Rattle.std.specs.List.{AllByRecursion}
 use Rattle.std.specs.List.Sorted.{IsPermutation}
 use Rattle.std.proofs.lemmas.List.Sorted.{IsPermutation-refl}
@@ -8,28 +8,29 @@ use Rattle.sqlite.specs.Cast.{cast_row}
 use Rattle.sqlite.specs.Edit.{with_rowid}
 use Rattle.sqlite.specs.Rowids.TheVariants.{Chosen}
 use Rattle.sqlite.specs.View.{doubt}
-use Rattle.sqlite.specs.Effect.{Database}
-use Rattle.sqlite.specs.State.{State, HasCleanDisk, Executes, KeepsCommit, Shows}
+use Rattle.sqlite.specs.Effect.{Database, IsDatabase}
+use Rattle.sqlite.specs.Listing.{understood}
+use Rattle.sqlite.specs.State.{State, HasCleanDisk, Executes, KeepsCommit, Shows, mode_of}
 use Rattle.sqlite.specs.declared.error.Error.{Error}
 use Rattle.std.specs.Bool.{MatchBool}
 use Rattle.sqlite.specs.Order.{Row}
 use Rattle.sqlite.specs.Rows.{Outcome}
-use Rattle.sqlite.specs.Does.{lacks_sequence, MakesTable, sequence_text}
-use Rattle.sqlite.specs.Compile.{table_defined_by}
-use Rattle.sqlite.specs.Command.TheVariants.{CreateTable}
-use Rattle.sqlite.proofs.Callers.{runs_as}
+use Rattle.sqlite.specs.Does.{AtPlace, Defines, Does, MakesIndex, MakesTable, Tally, lacks_sequence, sequence_text}
+use Rattle.sqlite.specs.Compile.{table_defined_by, index_defined_by}
+use Rattle.sqlite.specs.Command.TheVariants.{CreateTable, CreateIndex}
+use Rattle.sqlite.proofs.Callers.{runs_as, statement_of}
 use Rattle.sqlite.proofs.InsideLemmas.{fails_whole, unchanged_keeps}
+use Rattle.sqlite_schema.specs.declared.schema.Index.{Index}
 use Rattle.sqlite_schema.specs.declared.schema.Table.{Table}
 use Rattle.sqlite_schema.specs.declared.schema.Schema.{Schema}
-use Rattle.sqlite_catalog.specs.Change.{created, next_tree, KeepsRows}
+use Rattle.sqlite_catalog.specs.Change.{created, indexed, next_tree, KeepsRows}
 use Rattle.fax_tables.specs.declared.schema.TheConstants.{INSERT_META}
 use Rattle.fax_core.specs.Queue.{empty_queue}
 use Rattle.fax_tables.specs.Schema as schema
-use Rattle.fax_tables.specs.Schema.{no_tables, six_tables, meta_tree}
+use Rattle.fax_tables.specs.Schema.{no_tables, bare_tables, six_tables, meta_tree}
 use Rattle.fax_tables.specs.Row.{meta_row}
-use Rattle.fax_tables.specs.Tables.{GoesOn, HasEmptyTables, TablesMean}
-use Rattle.fax_tables.specs.Tables.{IsByRowid}
-use Rattle.fax_tables.proofs.CreateTexts.{Makes}
+use Rattle.fax_tables.specs.Tables.{GoesOn, HasEmptyTables, IsByRowid, IsIndexed, TablesMean}
+use Rattle.fax_tables.proofs.CreateTexts.{Makes, MakesIndexOf}
 use Rattle.fax_tables.proofs.CompareLemmas.{same_row, cast_int, cast_null}
 use Rattle.fax_tables.proofs.CreateTexts.{insert_meta}
 use Rattle.fax_tables.proofs.WriteLemmas.{went, unreferred, inserts}
@@ -92,6 +93,33 @@ made old new before after sql table count makes is none h was =
         empty = subst (λ s. AllByRecursion (λ t. new.now.trees t.tree ≡ []) s.tables) is all;
       },
     )
+
+-- one more index of jobs, and the rows that there were
+pub made_index : (old new : State) (before after : Schema) (sql : List ℕ) (index : Index) (count : ℕ) → MakesIndexOf before sql index → slice_get before.tables 0 ≡ Some schema.jobs → indexed before schema.jobs index ≡ after
+    → Executes sql [] old new (Ok count) → IsTrue old.in_transaction → old.now.schema ≡ before → GoesOn old new × (new.now.schema ≡ after) × IsDatabase new.now × KeepsRows before.tables old.now.trees new.now.trees
+made_index old new before after sql index count makes first is h inside has =
+    let ran = runs_as sql [] old new before has (CreateIndex 0) makes.command makes.plain count h in
+    let out = Ok (ran.tally, new.now) in
+    let does = subst (λ s. Does old.step_limit (mode_of old) [] (record old.now { schema = s }) (statement_of sql (understood before sql)) None (CreateIndex 0) out) has ran.changed in
+    let on = subst (λ t. AtPlace (λ (table : Table). Defines (mode_of old) (MakesIndex (statement_of sql (understood before sql)) (record old.now { schema = before }) table)) t out) first does in
+    let made = went on in
+    let now : new.now ≡ made.0 = ap (λ (p : Tally × Database). p.1) (same_ok made.2) in
+    let text = ap (index_defined_by schema.jobs) makes.statement ∙ makes.defined in
+    let defined : made.1.index ≡ record index { tree = 0; table = 0 } = same_ok (sym made.1.defined ∙ text) in (
+      inside_shown old new _ inside ran.shown,
+      ap (λ (d : Database). d.schema) now ∙ made.1.is ∙ ap (indexed before schema.jobs) defined ∙ is,
+      ran.sound,
+      subst (λ (d : Database). KeepsRows before.tables old.now.trees d.trees) (sym now) made.1.rows,
+    )
+
+-- rows that were kept twice are kept
+pub kept_rows : (tables : List Table) (a b c : Trees) → KeepsRows tables a b → KeepsRows tables b c → KeepsRows tables a c
+kept_rows [] a b c first next = tt
+kept_rows (t ∷ ts) a b c first next = (next.0 ∙ first.0, kept_rows ts a b c first.1 next.1)
+
+-- tables with no rows have none with the indexes
+pub indexed_empty : (old new : State) → HasEmptyTables bare_tables old → GoesOn old new → IsIndexed old.now new.now → HasEmptyTables six_tables new
+indexed_empty old new was on is = record { inside = on.mode; schema_is = is.schema_is; empty = still_empty six_tables.tables old.now.trees new.now.trees is.rows was.empty }
 
 stored_meta : cast_row schema.meta (meta_row empty_queue) ≡ meta_row empty_queue
 stored_meta = same_row (cast_int (pos 1)) (same_row cast_null (same_row (cast_int (pos 0)) (same_row (cast_int (pos 1)) (same_row (cast_int (pos 1)) (same_row (cast_int (pos 1)) refl)))))

@@ -1,19 +1,20 @@
 -- What the texts that make the tables mean.
 use Rattle.std.proofs.Common.{◌≡◌, List, ℕ, pos, [], ◌∷◌, Ok, refl}
-use Rattle.sqlite.specs.Command.TheVariants.{CreateTable, Insert}
-use Rattle.sqlite.specs.Compile.{table_defined_by}
+use Rattle.sqlite.specs.Command.TheVariants.{CreateTable, CreateIndex, Insert}
+use Rattle.sqlite.specs.Compile.{table_defined_by, index_defined_by}
 use Rattle.sqlite.specs.Listing.{understood}
 use Rattle.sqlite.specs.Source.TheVariants.{Values}
 use Rattle.sqlite.specs.declared.types.Value.TheVariants.{Null, Int}
 use Rattle.sqlite_sql.specs.Term.{lit}
 use Rattle.sqlite.proofs.Callers.{IsPlain, command_of, statement_of}
+use Rattle.sqlite_schema.specs.declared.schema.Index.{Index}
 use Rattle.sqlite_schema.specs.declared.schema.Table.{Table}
 use Rattle.sqlite_schema.specs.declared.schema.Schema.{Schema}
-use Rattle.sqlite_catalog.specs.Change.{created}
+use Rattle.sqlite_catalog.specs.Change.{created, indexed}
 use Rattle.sqlite_tied.specs.Compute.{everything}
-use Rattle.fax_tables.specs.declared.schema.TheConstants.{CREATE_JOBS, CREATE_GRANTS, CREATE_HOLDS, CREATE_DOWN, CREATE_REPLIES, CREATE_META, INSERT_META}
+use Rattle.fax_tables.specs.declared.schema.TheConstants.{CREATE_JOBS, CREATE_GRANTS, CREATE_HOLDS, CREATE_DOWN, CREATE_REPLIES, CREATE_META, CREATE_KILLTIME_INDEX, CREATE_CHOICE_INDEX, INSERT_META}
 use Rattle.fax_tables.proofs.StatementForms.{Commands}
-use Rattle.fax_tables.specs.Schema.{no_tables, with_jobs, with_grants, with_holds, four_tables, with_replies, six_tables, jobs, grants, holds, down, replies, meta}
+use Rattle.fax_tables.specs.Schema.{no_tables, with_jobs, with_grants, with_holds, four_tables, with_replies, bare_tables, with_killtime_index, six_tables, jobs, grants, holds, down, replies, meta, killtime_index, choice_index}
 
 -- the text makes this table in any database with this schema
 pub record Makes (schema : Schema) (sql : List ℕ) (table : Table) : Type 0 where
@@ -66,9 +67,32 @@ pub makes_meta : Makes with_replies CREATE_META.now meta
 unfolding understood everything
 makes_meta = record { command = refl; statement = refl; defined = refl; plain = (refl, refl) }
 
-pub created_meta : created with_replies meta ≡ six_tables
+pub created_meta : created with_replies meta ≡ bare_tables
 unfolding everything
 created_meta = refl
+
+-- the text makes this index of jobs in any database with this schema
+pub record MakesIndexOf (schema : Schema) (sql : List ℕ) (index : Index) : Type 0 where
+  pub command : command_of (understood schema sql) ≡ CreateIndex 0
+  pub statement : statement_of sql (understood schema sql) ≡ sql
+  pub defined : index_defined_by jobs sql ≡ Ok (record index { tree = 0; table = 0 })
+  pub plain : IsPlain (understood schema sql)
+
+pub makes_killtime_index : MakesIndexOf bare_tables CREATE_KILLTIME_INDEX.now killtime_index
+unfolding understood everything
+makes_killtime_index = record { command = refl; statement = refl; defined = refl; plain = (refl, refl) }
+
+pub indexed_killtime : indexed bare_tables jobs killtime_index ≡ with_killtime_index
+unfolding everything
+indexed_killtime = refl
+
+pub makes_choice_index : MakesIndexOf with_killtime_index CREATE_CHOICE_INDEX.now choice_index
+unfolding understood everything
+makes_choice_index = record { command = refl; statement = refl; defined = refl; plain = (refl, refl) }
+
+pub indexed_choice : indexed with_killtime_index jobs choice_index ≡ six_tables
+unfolding everything
+indexed_choice = refl
 
 pub insert_meta : Commands INSERT_META.now
     (Insert 5 (Values (lit (Int (pos 1)) ∷ lit Null ∷ lit (Int (pos 0)) ∷ lit (Int (pos 1)) ∷ lit (Int (pos 1)) ∷ lit (Int (pos 1)) ∷ []) 6))

@@ -11,6 +11,7 @@ use Rattle.sqlite_trees.proofs.TreeLemmas.{IsTable-put_row, all-put_row}
 use Rattle.sqlite.specs.Order.{Row}
 use Rattle.sqlite.specs.Effect.{Database, IsDatabase}
 use Rattle.sqlite.specs.State.{State}
+use Rattle.sqlite_catalog.specs.Change.{KeepsRows}
 use Rattle.fax_core.specs.Job.{Job, fields_of}
 use Rattle.fax_core.specs.Queue.{Queue, Entry, open_grants}
 use Rattle.fax_core.specs.declared.grants.Grant.{Grant}
@@ -199,3 +200,30 @@ module _ (old new : State) (m : Queue) (held : List Grant) (k : List Entry) (was
     meta = now;
     lawful = lawful;
   }
+
+-- what rows mean, they mean in another database that has them
+pub rows_mean : (full db : Database) (m : Queue) (k : List Entry) → db.schema ≡ six_tables → IsDatabase db → KeepsRows six_tables.tables full.trees db.trees → TablesMean full m k → TablesMean db m k
+rows_mean full db m k schema sound rows means =
+    let jobs = rows.0 in
+    let grants = rows.1.0 in
+    let holds = rows.1.1.0 in
+    let down = rows.1.1.1.0 in
+    let replies = rows.1.1.1.1.0 in
+    record {
+      schema = schema;
+      sound = sound;
+      jobs = jobs ∙ means.jobs;
+      grants = grants ∙ means.grants;
+      holds = subst (λ rs. IsPermutation (map hold_columns (open_grants m)) (map (drop 1) rs)) (sym holds) means.holds;
+      down = ap (map (drop 1)) down ∙ means.down;
+      replies = ap (map (drop 1)) replies ∙ means.replies;
+      meta = rows.1.1.1.1.1.0 ∙ means.meta;
+      ordered = record {
+        jobs = subst IsByRowid (sym jobs) means.ordered.jobs;
+        grants = subst IsByRowid (sym grants) means.ordered.grants;
+        holds = subst IsByRowid (sym holds) means.ordered.holds;
+        down = subst IsByRowid (sym down) means.ordered.down;
+        replies = subst IsByRowid (sym replies) means.ordered.replies;
+      };
+      lawful = means.lawful;
+    }

@@ -1,4 +1,4 @@
--- The six tables as the database knows them.
+-- The six tables and their indexes as the database knows them.
 use Rattle.std.specs.Prelude.{ℕ, true, false, List, [], ◌∷◌, ◌++◌, codes, Option, Some, None, pos}
 use Rattle.sqlite.specs.Collation.TheVariants.{Binary}
 use Rattle.sqlite.specs.declared.types.Value.TheVariants.{Null, Int}
@@ -111,6 +111,18 @@ down_index = key_index (codes "sqlite_autoindex_down_1") 7 down_tree (1 ∷ [])
 abbrev pub replies_index : Index
 replies_index = key_index (codes "sqlite_autoindex_replies_1") 9 replies_tree (1 ∷ 2 ∷ [])
 
+-- an index by which jobs are found without reading the others. It holds no rule.
+abbrev pub jobs_index : List ℕ → ℕ → List ℕ → Index
+jobs_index name tree places = record { name = name; tree = tree; table = jobs_tree; columns = places; order = plain; is_unique = false }
+
+-- by phase and kill time, for those that expire
+abbrev pub killtime_index : Index
+killtime_index = jobs_index (codes "jobs_by_killtime") 11 (18 ∷ 8 ∷ [])
+
+-- by phase, priority and time to send, for those that wait, in the order of the choice
+abbrev pub choice_index : Index
+choice_index = jobs_index (codes "jobs_by_choice") 12 (18 ∷ 9 ∷ 7 ∷ [])
+
 -- a database with no tables
 abbrev pub no_tables : Schema
 no_tables = record { tables = []; indexes = []; views = [] }
@@ -131,10 +143,17 @@ four_tables = record { tables = jobs ∷ grants ∷ holds ∷ down ∷ []; index
 abbrev pub with_replies : Schema
 with_replies = record { tables = jobs ∷ grants ∷ holds ∷ down ∷ replies ∷ []; indexes = holds_indexes ++ down_index ∷ replies_index ∷ []; views = [] }
 
--- The six tables, each with a tree of rows and one for each index.
-abbrev pub six_tables : Schema
-six_tables = record {
+-- The six tables with the indexes of their keys, each with a tree, and no other index.
+abbrev pub bare_tables : Schema
+bare_tables = record {
   tables = jobs ∷ grants ∷ holds ∷ down ∷ replies ∷ meta ∷ [];
   indexes = holds_indexes ++ down_index ∷ replies_index ∷ [];
   views = [];
 }
+
+abbrev pub with_killtime_index : Schema
+with_killtime_index = record bare_tables { indexes = holds_indexes ++ down_index ∷ replies_index ∷ killtime_index ∷ [] }
+
+-- The six tables with all indexes.
+abbrev pub six_tables : Schema
+six_tables = record bare_tables { indexes = holds_indexes ++ down_index ∷ replies_index ∷ killtime_index ∷ choice_index ∷ [] }

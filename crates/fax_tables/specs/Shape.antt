@@ -12,8 +12,8 @@ use Rattle.sqlite_sql.specs.declared.ops.CompareOp.TheVariants.{Eq}
 use Rattle.sqlite_value.specs.declared.keys.Order.{Order}
 use Rattle.sqlite_value.specs.Keys.{plain}
 use Rattle.fax_tables.specs.declared.shape.Shape.{Shape}
-use Rattle.fax_tables.specs.declared.shape.KeyIndex.{KeyIndex}
-use Rattle.fax_tables.specs.Schema.{column_of, down, grants, holds, jobs, key_index, meta, replies, table_of}
+use Rattle.fax_tables.specs.declared.shape.IndexShape.{IndexShape}
+use Rattle.fax_tables.specs.Schema.{column_of, down, grants, holds, jobs, meta, replies, table_of}
 
 -- the columns of a shape
 abbrev pub columns_of : Shape → List Column
@@ -53,9 +53,9 @@ no_stamps = record { places = []; terms = []; formats = [] }
 abbrev pub first_is_one : Term
 first_is_one = op2 (Compare Eq Binary) (col 1 0) (lit (Int (pos 1)))
 
--- the index of this key
-abbrev pub keyed : KeyIndex → Index
-keyed k = key_index k.name.now k.tree k.table k.places.now
+-- the index of this shape
+abbrev pub indexed_as : IndexShape → Index
+indexed_as i = record { name = i.name.now; tree = i.tree; table = i.table; columns = i.places.now; order = plain; is_unique = i.is_unique }
 
 pub record AreWorkTables (of_jobs of_grants of_holds : Table) : Type 0 where
   pub jobs_is : of_jobs ≡ jobs

@@ -8,13 +8,14 @@ use Rattle.sqlite.specs.View.{is_int}
 use Rattle.sqlite.specs.Effect.{Database, IsDatabase}
 use Rattle.sqlite.specs.State.{State, Shows}
 use Rattle.sqlite_schema.specs.declared.schema.Schema.{Schema}
+use Rattle.sqlite_catalog.specs.Change.{KeepsRows}
 use Rattle.fax_core.specs.Job.{fields_of}
 use Rattle.fax_core.specs.Queue.{Queue, Entry, open_grants}
 use Rattle.fax_core.specs.declared.grants.Grant.{Grant}
 use Rattle.fax_job.specs.Limits.{last_grant, last_job, last_moment}
 use Rattle.fax_job.specs.Name.{IsName}
 use Rattle.fax_tables.specs.Grant.{IsWithinLimits}
-use Rattle.fax_tables.specs.Schema.{six_tables, down_tree, grants_tree, holds_tree, jobs_tree, meta_tree, replies_tree}
+use Rattle.fax_tables.specs.Schema.{six_tables, bare_tables, down_tree, grants_tree, holds_tree, jobs_tree, meta_tree, replies_tree}
 use Rattle.fax_tables.specs.Job.{IsLawfulJob}
 use Rattle.fax_tables.specs.Row.{job_row, grant_row, hold_columns, down_columns, entry_columns, meta_row}
 
@@ -58,7 +59,7 @@ pub record AreByRowid (db : Database) : Type 0 where
   pub down : IsByRowid (db.trees down_tree)
   pub replies : IsByRowid (db.trees replies_tree)
 
--- The database has the six tables and obeys their rules. Their rows are the records of the queue and of the kept replies, each of them lawful, and no other row stands in them: `holds` has the open grants, in any order, and `shut` is 0 for just these.
+-- The database has the six tables with their indexes and obeys their rules. Their rows are the records of the queue and of the kept replies, each of them lawful, and no other row stands in them: `holds` has the open grants, in any order, and `shut` is 0 for just these.
 pub record TablesMean (db : Database) (m : Queue) (k : List Entry) : Type 0 where
   pub schema : db.schema ≡ six_tables
   pub sound : IsDatabase db
@@ -70,6 +71,10 @@ pub record TablesMean (db : Database) (m : Queue) (k : List Entry) : Type 0 wher
   pub meta : db.trees meta_tree ≡ meta_row m ∷ []
   pub ordered : AreByRowid db
   pub lawful : AreLawful m k
+
+-- Its rows are those of a database that means this, which may have the indexes where this one has none.
+abbrev pub RowsMean : Database → Queue → List Entry → Type 0
+RowsMean db m k = (full : Database) × TablesMean full m k × KeepsRows six_tables.tables full.trees db.trees
 
 -- no work is under way, and the tables mean this
 pub record IsAtRest (s : State) (m : Queue) (k : List Entry) : Type 0 where
@@ -86,3 +91,14 @@ pub record HasEmptyTables (schema : Schema) (s : State) : Type 0 where
   pub inside : IsTrue s.in_transaction
   pub schema_is : s.now.schema ≡ schema
   pub empty : AllByRecursion (λ t. s.now.trees t.tree ≡ []) schema.tables
+
+-- a transaction is under way over the tables without the indexes, whatever their rows are
+pub record HasTablesAlone (s : State) : Type 0 where
+  pub inside : IsTrue s.in_transaction
+  pub schema_is : s.now.schema ≡ bare_tables
+
+-- it has the indexes, and the rows of the other in each table
+pub record IsIndexed (db after : Database) : Type 0 where
+  pub schema_is : after.schema ≡ six_tables
+  pub sound : IsDatabase after
+  pub rows : KeepsRows six_tables.tables db.trees after.trees

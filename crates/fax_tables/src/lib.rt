@@ -17,6 +17,6 @@ pub use fault::{StoreFault, insert_fault};
 pub use grants::{Hold, call_number, grant_in, is_open_grant};
 pub use jobs::{job_in, jobs_in, killtime_number, phase_number, spelling, wish_number};
 pub use meta::{Meta, PAST_GRANTS, PAST_JOBS, is_version};
-pub use recognize::{has_no_tables, has_six_tables};
+pub use recognize::{has_bare_tables, has_no_tables, has_six_tables};
 pub use replies::{Kept, is_kept_status, number_value};
-pub use schema::create_tables;
+pub use schema::{create_indexes, create_tables};

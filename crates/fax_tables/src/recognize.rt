@@ -1,14 +1,16 @@
-//! Which databases have no tables, and which have exactly the six.
+//! Which databases have no tables, and which have exactly the six, with their indexes or without.
 
 ghost use Rattle.std.specs.Prelude.{◌≡◌, ◌↔◌, [], ◌∷◌, map, pos, IsTrue, IfOk};
 ghost use Rattle.sqlite.specs.declared.types.Value.TheVariants.{Int};
 ghost use Rattle.sqlite_sql.specs.Syntax.{term_of, term_at};
 ghost use Rattle.sqlite_sql.specs.Term.{lit, col};
 ghost use Rattle.sqlite_value.specs.Keys.{plain};
-ghost use Rattle.fax_tables.specs.Schema.{column_of, meta, no_tables, six_tables};
-ghost use Rattle.fax_tables.specs.Shape.{AreKeptTables, AreWorkTables, HasColumns, HasRules, first_is_one, keyed, no_stamps, shaped};
+ghost use Rattle.fax_tables.specs.Schema.{bare_tables, column_of, meta, no_tables, six_tables};
+ghost use Rattle.fax_tables.specs.Shape.{AreKeptTables, AreWorkTables, HasColumns, HasRules, first_is_one, indexed_as, no_stamps, shaped};
 
-use crate::shape::{DOWN, GRANTS, HOLDS, INDEXES, JOBS, KeyIndex, META, PLAIN, REPLIES, Shape};
+use crate::shape::{
+    DOWN, GRANTS, HOLDS, INDEXES, IndexShape, JOBS, KEY_INDEXES, META, PLAIN, REPLIES, Shape,
+};
 use sqlite_items::Items;
 use sqlite_schema::code::Terms;
 use sqlite_schema::schema::{Column, Index, Kind, Schema, Stamps, Table};
@@ -189,27 +191,27 @@ fn is_meta(alloc: Global, table: &Table) -> Result<bool, AllocError>
     }
 }
 
-/// Whether an index is that of a key.
-fn is_index(index: &Index, key: &KeyIndex) -> bool
-    ensures { IsTrue result ↔ (index.now ≡ keyed key.now) }
+/// Whether an index has this shape.
+fn is_index(index: &Index, shape: &IndexShape) -> bool
+    ensures { IsTrue result ↔ (index.now ≡ indexed_as shape.now) }
 {
-    index.name.as_slice() == key.name.as_bytes()
-        && index.tree == key.tree
-        && index.table == key.table
-        && are_places(&index.columns, key.places)
+    index.name.as_slice() == shape.name.as_bytes()
+        && index.tree == shape.tree
+        && index.table == shape.table
+        && are_places(&index.columns, shape.places)
         && is_plain(&index.order)
-        && index.is_unique
+        && index.is_unique == shape.is_unique
 }
 
-/// Whether these are the indexes of these keys.
-fn are_indexes(indexes: &[Index], keys: &[KeyIndex]) -> bool
-    ensures { IsTrue result ↔ (indexes.now ≡ map keyed keys.now) }
+/// Whether these indexes have these shapes.
+fn are_indexes(indexes: &[Index], shapes: &[IndexShape]) -> bool
+    ensures { IsTrue result ↔ (indexes.now ≡ map indexed_as shapes.now) }
 {
-    if indexes.len() != keys.len() {
+    if indexes.len() != shapes.len() {
         return false;
     }
     for (at, index) in indexes.iter().enumerate() {
-        if !is_index(index, &keys[at]) {
+        if !is_index(index, &shapes[at]) {
             return false;
         }
     }
@@ -265,7 +267,15 @@ pub fn has_no_tables(schema: &Schema) -> bool
     schema.tables.is_empty() && schema.indexes.is_empty() && schema.views.is_empty()
 }
 
-/// Whether a database has exactly the six tables.
+/// Whether a database has exactly the six tables, with no index but those of their keys.
+pub fn has_bare_tables(alloc: Global, schema: &Schema) -> Result<bool, AllocError>
+    ensures { IfOk result (λ same. IsTrue same ↔ (schema.now ≡ bare_tables)) }
+{
+    let same = are_tables(alloc, schema.tables.as_slice())?;
+    Ok(same && are_indexes(schema.indexes.as_slice(), KEY_INDEXES) && schema.views.is_empty())
+}
+
+/// Whether a database has exactly the six tables and their indexes.
 pub fn has_six_tables(alloc: Global, schema: &Schema) -> Result<bool, AllocError>
     ensures { IfOk result (λ same. IsTrue same ↔ (schema.now ≡ six_tables)) }
 {

@@ -1,12 +1,12 @@
-//! The six tables.
+//! The six tables and their indexes.
 
 ghost use Rattle.std.specs.Prelude.{[], ◌≤◌, OnErr, OnOk};
 ghost use Rattle.sqlite.specs.Held.{state};
 ghost use Rattle.sqlite.specs.View.{doubt};
 ghost use Rattle.sqlite.specs.State.{HasCleanDisk, KeepsCommit};
 ghost use Rattle.fax_core.specs.Queue.{empty_queue};
-ghost use Rattle.fax_tables.specs.Schema.{no_tables, four_tables};
-ghost use Rattle.fax_tables.specs.Tables.{GoesOn, HasEmptyTables, TablesMean};
+ghost use Rattle.fax_tables.specs.Schema.{no_tables, four_tables, bare_tables, six_tables};
+ghost use Rattle.fax_tables.specs.Tables.{GoesOn, HasEmptyTables, HasTablesAlone, IsIndexed, TablesMean};
 
 use sqlite::{Alter, Connection, Error};
 
@@ -36,10 +36,14 @@ const CREATE_META: &str = "CREATE TABLE meta (one INTEGER PRIMARY KEY NOT NULL, 
     clock INTEGER NOT NULL, next_job INTEGER NOT NULL, next_grant INTEGER NOT NULL, \
     version INTEGER NOT NULL, CHECK (one = 1)) STRICT";
 
+const CREATE_KILLTIME_INDEX: &str = "CREATE INDEX jobs_by_killtime ON jobs (phase, killtime)";
+
+const CREATE_CHOICE_INDEX: &str = "CREATE INDEX jobs_by_choice ON jobs (phase, priority, tts)";
+
 const INSERT_META: &str =
     "INSERT INTO meta (one, clock, next_job, next_grant, version) VALUES (1, 0, 1, 1, 1)";
 
-/// Makes the six tables in a database without any, with no rows but the one of meta. Inside a
+/// Makes the six tables and their indexes in a database without any, with no rows but the one of meta. Inside a
 /// transaction nothing is committed.
 pub fn create_tables<S: Alter>(conn: &mut Connection<S>) -> Result<(), Error>
     ensures made { HasCleanDisk (state S.Store conn.new) → OnOk result
@@ -50,7 +54,9 @@ pub fn create_tables<S: Alter>(conn: &mut Connection<S>) -> Result<(), Error>
     ensures doubt { doubt (state S.Store conn.old).is_clean ≤ doubt (state S.Store conn.new).is_clean }
 {
     create_work_tables(conn)?;
-    create_kept_tables(conn)
+    create_kept_tables(conn)?;
+    create_indexes(conn)?;
+    fill_meta(conn)
 }
 
 /// Makes the tables of jobs, grants, holds and modems down.
@@ -69,17 +75,43 @@ fn create_work_tables<S: Alter>(conn: &mut Connection<S>) -> Result<(), Error>
     Ok(())
 }
 
-/// Makes the tables of replies and of the clock and next numbers, with the row of the latter.
+/// Makes the tables of replies and of the clock and next numbers.
 fn create_kept_tables<S: Alter>(conn: &mut Connection<S>) -> Result<(), Error>
     ensures made { HasCleanDisk (state S.Store conn.new) → OnOk result
         (HasEmptyTables four_tables (state S.Store conn.old) → GoesOn (state S.Store conn.old) (state S.Store conn.new)
-        × TablesMean (state S.Store conn.new).now empty_queue []) }
+        × HasEmptyTables bare_tables (state S.Store conn.new)) }
     ensures kept { HasCleanDisk (state S.Store conn.new) → OnErr result
         (HasEmptyTables four_tables (state S.Store conn.old) → KeepsCommit (state S.Store conn.old) (state S.Store conn.new)) }
     ensures doubt { doubt (state S.Store conn.old).is_clean ≤ doubt (state S.Store conn.new).is_clean }
 {
     conn.execute(CREATE_REPLIES, &[])?;
     conn.execute(CREATE_META, &[])?;
+    Ok(())
+}
+
+/// Makes the indexes by which jobs are found. The rows stay as they are, and inside a transaction nothing is committed.
+pub fn create_indexes<S: Alter>(conn: &mut Connection<S>) -> Result<(), Error>
+    ensures made { HasCleanDisk (state S.Store conn.new) → OnOk result
+        (HasTablesAlone (state S.Store conn.old) → GoesOn (state S.Store conn.old) (state S.Store conn.new)
+        × IsIndexed (state S.Store conn.old).now (state S.Store conn.new).now) }
+    ensures kept { HasCleanDisk (state S.Store conn.new) → OnErr result
+        (HasTablesAlone (state S.Store conn.old) → KeepsCommit (state S.Store conn.old) (state S.Store conn.new)) }
+    ensures doubt { doubt (state S.Store conn.old).is_clean ≤ doubt (state S.Store conn.new).is_clean }
+{
+    conn.execute(CREATE_KILLTIME_INDEX, &[])?;
+    conn.execute(CREATE_CHOICE_INDEX, &[])?;
+    Ok(())
+}
+
+/// Puts in the row of the clock and next numbers, as an empty store has it.
+fn fill_meta<S: Alter>(conn: &mut Connection<S>) -> Result<(), Error>
+    ensures made { HasCleanDisk (state S.Store conn.new) → OnOk result
+        (HasEmptyTables six_tables (state S.Store conn.old) → GoesOn (state S.Store conn.old) (state S.Store conn.new)
+        × TablesMean (state S.Store conn.new).now empty_queue []) }
+    ensures kept { HasCleanDisk (state S.Store conn.new) → OnErr result
+        (KeepsCommit (state S.Store conn.old) (state S.Store conn.new)) }
+    ensures doubt { doubt (state S.Store conn.old).is_clean ≤ doubt (state S.Store conn.new).is_clean }
+{
     conn.execute(INSERT_META, &[])?;
     Ok(())
 }

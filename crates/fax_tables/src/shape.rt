@@ -1,4 +1,4 @@
-//! The shapes of the six tables.
+//! The shapes of the six tables and of their indexes.
 
 use sqlite_schema::schema::Kind;
 use sqlite_value::keys::Order;
@@ -116,43 +116,87 @@ pub(crate) const META: Shape = Shape {
     uniques: &[],
 };
 
-/// The index that a key of a table has.
-pub(crate) struct KeyIndex {
+/// The index that a key of a table has, or one that a table has beside its keys.
+pub(crate) struct IndexShape {
     pub(crate) name: &'static str,
     pub(crate) tree: u32,
     pub(crate) table: u32,
     pub(crate) places: &'static [usize],
+    pub(crate) is_unique: bool,
 }
 
-pub(crate) const INDEXES: &[KeyIndex] = &[
-    KeyIndex {
-        name: "sqlite_autoindex_holds_1",
-        tree: 3,
-        table: 2,
-        places: &[1],
-    },
-    KeyIndex {
-        name: "sqlite_autoindex_holds_2",
-        tree: 4,
-        table: 2,
-        places: &[2],
-    },
-    KeyIndex {
-        name: "sqlite_autoindex_holds_3",
-        tree: 5,
-        table: 2,
-        places: &[3],
-    },
-    KeyIndex {
-        name: "sqlite_autoindex_down_1",
-        tree: 7,
-        table: 6,
-        places: &[1],
-    },
-    KeyIndex {
-        name: "sqlite_autoindex_replies_1",
-        tree: 9,
-        table: 8,
-        places: &[1, 2],
-    },
+const HOLDS_MODEM: IndexShape = IndexShape {
+    name: "sqlite_autoindex_holds_1",
+    tree: 3,
+    table: 2,
+    places: &[1],
+    is_unique: true,
+};
+
+const HOLDS_JOB: IndexShape = IndexShape {
+    name: "sqlite_autoindex_holds_2",
+    tree: 4,
+    table: 2,
+    places: &[2],
+    is_unique: true,
+};
+
+const HOLDS_ID: IndexShape = IndexShape {
+    name: "sqlite_autoindex_holds_3",
+    tree: 5,
+    table: 2,
+    places: &[3],
+    is_unique: true,
+};
+
+const DOWN_MODEM: IndexShape = IndexShape {
+    name: "sqlite_autoindex_down_1",
+    tree: 7,
+    table: 6,
+    places: &[1],
+    is_unique: true,
+};
+
+const REPLIES_KEY: IndexShape = IndexShape {
+    name: "sqlite_autoindex_replies_1",
+    tree: 9,
+    table: 8,
+    places: &[1, 2],
+    is_unique: true,
+};
+
+const JOBS_BY_KILLTIME: IndexShape = IndexShape {
+    name: "jobs_by_killtime",
+    tree: 11,
+    table: 0,
+    places: &[18, 8],
+    is_unique: false,
+};
+
+const JOBS_BY_CHOICE: IndexShape = IndexShape {
+    name: "jobs_by_choice",
+    tree: 12,
+    table: 0,
+    places: &[18, 9, 7],
+    is_unique: false,
+};
+
+/// The indexes of the keys.
+pub(crate) const KEY_INDEXES: &[IndexShape] = &[
+    HOLDS_MODEM,
+    HOLDS_JOB,
+    HOLDS_ID,
+    DOWN_MODEM,
+    REPLIES_KEY,
+];
+
+/// These and the indexes by which jobs are found.
+pub(crate) const INDEXES: &[IndexShape] = &[
+    HOLDS_MODEM,
+    HOLDS_JOB,
+    HOLDS_ID,
+    DOWN_MODEM,
+    REPLIES_KEY,
+    JOBS_BY_KILLTIME,
+    JOBS_BY_CHOICE,
 ];

@@ -47,6 +47,20 @@ fn rows_are_there_in_the_next_store(rt: HostRuntime) -> Result<(), Fail> {
     Ok(())
 }
 
+#[test]
+fn tables_without_indexes_get_them(rt: HostRuntime) -> Result<(), Fail> {
+    let mut store = adopt(rt.alloc(), database(rt.alloc())?)?;
+    let number = RequestNumber::read(b"1").ok_or("a number")?;
+    keep_one(&mut store, number)?;
+    let mut conn = store.close();
+    conn.execute_batch("DROP INDEX jobs_by_choice; DROP INDEX jobs_by_killtime")?;
+    let mut next = adopt(rt.alloc(), conn)?;
+    assert_eq!(rt; holds(&mut next, number)?, (Moment::new(9), true));
+    let conn = next.close();
+    assert_eq!(rt; conn.schema().indexes.len(), 7);
+    Ok(())
+}
+
 /// Why our database isn't taken once this was done to it, or none where it is.
 fn fault_after(alloc: Global, change: &str) -> Result<Option<StoreFault>, Fail> {
     let mut conn = database(alloc)?;
@@ -62,6 +76,8 @@ fn other_databases_are_strange(rt: HostRuntime) -> Result<(), Fail> {
         "DROP TABLE replies",
         "CREATE TABLE more (name TEXT NOT NULL) STRICT",
         "CREATE INDEX by_job ON grants (job)",
+        "DROP INDEX jobs_by_choice",
+        "DROP INDEX jobs_by_choice; DROP INDEX jobs_by_killtime; UPDATE meta SET version = 9",
         "CREATE VIEW late AS SELECT job FROM jobs",
         "DROP TABLE meta; CREATE TABLE meta (one INTEGER PRIMARY KEY NOT NULL, \
             clock INTEGER NOT NULL, next_job INTEGER NOT NULL, next_grant INTEGER NOT NULL, \
@@ -77,7 +93,8 @@ fn other_databases_are_strange(rt: HostRuntime) -> Result<(), Fail> {
 
 #[test]
 fn tables_are_known_by_what_they_mean(rt: HostRuntime) -> Result<(), Fail> {
-    let spelled = "DROP TABLE meta; create table \"meta\" (one integer not null primary key, \
+    let spelled = "DROP INDEX jobs_by_killtime; DROP INDEX jobs_by_choice; DROP TABLE meta; \
+        create table \"meta\" (one integer not null primary key, \
         clock integer not null, next_job integer not null, next_grant integer not null, \
         version integer not null, constraint only_one check ( (one = 1) )) strict; \
         insert into meta values (1, 0, 1, 1, 1)";

@@ -1,9 +1,9 @@
 use Rattle.std.proofs.Common.{refl}
 use Rattle.sqlite.specs.Held.{state}
-use Rattle.fax_tables.specs.declared.schema.TheConstants.{CREATE_REPLIES, CREATE_META, INSERT_META}
+use Rattle.fax_tables.specs.declared.schema.TheConstants.{CREATE_REPLIES, CREATE_META}
 use Rattle.fax_tables.specs.Schema as schema
-use Rattle.fax_tables.specs.Schema.{four_tables, six_tables, with_replies}
-use Rattle.fax_tables.proofs.CreateLemmas.{clean_before, commit_kept, goes_on, made, refused_keeps, filled}
+use Rattle.fax_tables.specs.Schema.{bare_tables, four_tables, with_replies}
+use Rattle.fax_tables.proofs.CreateLemmas.{clean_before, commit_kept, goes_on, made, refused_keeps}
 use Rattle.fax_tables.proofs.CreateTexts.{makes_replies, created_replies, makes_meta, created_meta}
 use Rattle.fax_tables.proofs.ResultLemmas.{on_err}
 use Rattle.fax_tables.proofs.schema.create_kept_tables.Goals as goal
@@ -27,29 +27,12 @@ returns-in_err-execute-2-clause-kept g c clean =
     let m1 = made s0 s1 four_tables with_replies CREATE_REPLIES.now schema.replies c.in_ok-execute.field-0 makes_replies created_replies refl (c.in_ok-execute.ensures.runs clean1) was in
     commit_kept s0 s1 s2 m1.0 (refused_keeps s1 s2 CREATE_META.now c.in_err-execute-2.field-0.0 (c.in_err-execute-2.ensures.runs clean)))
 
-pub returns-in_err-execute-3-clause-kept : goal.returns-in_err-execute-3-clause-kept
-returns-in_err-execute-3-clause-kept g c clean =
-    let s0 = state g.S.Store c.args.conn.now in
-    let s1 = state g.S.Store c.execute.new.self in
-    let s2 = state g.S.Store c.execute-2.new.self in
-    let s3 = state g.S.Store c.execute-3.new.self in
-    let clean2 = clean_before s2 s3 c.execute-3.ensures.survives.clean clean in
-    let clean1 = clean_before s1 s2 c.execute-2.ensures.survives.clean clean2 in
-    on_err c.from_residual-in_err-execute-3.result
-    (λ was.
-    let m1 = made s0 s1 four_tables with_replies CREATE_REPLIES.now schema.replies c.in_ok-execute.field-0 makes_replies created_replies refl (c.in_ok-execute.ensures.runs clean1) was in
-    let m2 = made s1 s2 with_replies six_tables CREATE_META.now schema.meta c.in_ok-execute-2.field-0 makes_meta created_meta refl (c.in_ok-execute-2.ensures.runs clean2) m1.1 in
-    commit_kept s0 s1 s3 m1.0 (commit_kept s1 s2 s3 m2.0 (refused_keeps s2 s3 INSERT_META.now c.in_err-execute-3.field-0.0 (c.in_err-execute-3.ensures.runs clean))))
-
 pub returns-clause-made : goal.returns-clause-made
 returns-clause-made g c clean was =
     let s0 = state g.S.Store c.args.conn.now in
     let s1 = state g.S.Store c.execute.new.self in
     let s2 = state g.S.Store c.execute-2.new.self in
-    let s3 = state g.S.Store c.execute-3.new.self in
-    let clean2 = clean_before s2 s3 c.execute-3.ensures.survives.clean clean in
-    let clean1 = clean_before s1 s2 c.execute-2.ensures.survives.clean clean2 in
+    let clean1 = clean_before s1 s2 c.execute-2.ensures.survives.clean clean in
     let m1 = made s0 s1 four_tables with_replies CREATE_REPLIES.now schema.replies c.in_ok-execute.field-0 makes_replies created_replies refl (c.in_ok-execute.ensures.runs clean1) was in
-    let m2 = made s1 s2 with_replies six_tables CREATE_META.now schema.meta c.in_ok-execute-2.field-0 makes_meta created_meta refl (c.in_ok-execute-2.ensures.runs clean2) m1.1 in
-    let m3 = filled s2 s3 c.in_ok-execute-3.field-0 (c.in_ok-execute-3.ensures.runs clean) m2.1 in
-    (goes_on s0 s1 s3 m1.0 (goes_on s1 s2 s3 m2.0 m3.0), m3.1)
+    let m2 = made s1 s2 with_replies bare_tables CREATE_META.now schema.meta c.in_ok-execute-2.field-0 makes_meta created_meta refl (c.in_ok-execute-2.ensures.runs clean) m1.1 in
+    (goes_on s0 s1 s2 m1.0 m2.0, m2.1)

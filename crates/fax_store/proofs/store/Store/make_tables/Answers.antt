@@ -74,7 +74,7 @@ returns-clause-served g c s =
     let s3 = state g.S.Store c.execute-2.new.self in
     let clean2 = cleaner s2 s3 c.execute-2.ensures.survives.clean s.clean in
     let clean1 = cleaner s1 s2 c.create_tables.ensures.doubt clean2 in
-    record { clean = cleaner s0 s1 c.execute.ensures.survives.clean clean1; is_open = (starts s0 s1 c.requires c.in_ok-execute.field-0 (c.in_ok-execute.ensures.runs clean1)).was_open }
+    record { clean = cleaner s0 s1 c.execute.ensures.survives.clean clean1; is_open = (starts s0 s1 c.in_ok-execute.field-0 (c.in_ok-execute.ensures.runs clean1)).was_open }
 
 pub returns-clause-opens : goal.returns-clause-opens
 returns-clause-opens g c = commit_opens (state g.S.Store c.create_tables.new.conn) (state g.S.Store c.execute-2.new.self) c.execute-2.ensures.survives.clean c.in_ok-execute-2.field-0 c.in_ok-execute-2.ensures.runs

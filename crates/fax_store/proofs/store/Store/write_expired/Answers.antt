@@ -1,24 +1,25 @@
-use Rattle.std.proofs.Common.{OnOk, subst, rules}
+use Rattle.std.proofs.Common.{◌≡◌, subst}
+use Rattle.std.specs.Prelude.{is_err}
 use Rattle.sqlite.specs.Held.{state}
-use Rattle.fax_store.specs.declared.jobs.TheConstants.{EXPIRE_JOBS}
-use Rattle.fax_store.specs.Job.{with_expired}
-use Rattle.fax_store.specs.Store.{HasRun}
-use Rattle.fax_store.proofs.ChangeLemmas.{expired_params, jobs_expired}
-use Rattle.fax_store.proofs.WorkLemmas.{step_by}
-use Rattle.fax_store.proofs.StatementLemmas.{change_text, edit_text}
-use Rattle.fax_store.proofs.StatementTexts as texts
+use Rattle.fax_store.specs.Job.{with_expired_in}
+use Rattle.fax_job.specs.declared.job.Phase.TheVariants.{Held}
+use Rattle.fax_store.specs.Work.{Steps}
+use Rattle.fax_store.proofs.ChangeLemmas.{expired_in_turn}
+use Rattle.fax_store.proofs.WorkLemmas.{holds_err, holds_then}
 use Rattle.fax_store.proofs.store.Store.write_expired.Goals as goal
 
 pub returns-clause-written : goal.returns-clause-written
 returns-clause-written g c m₀ m k₀ k works s =
-    let old = state g.S.Store c.args.self.now.conn in
-    let new = state g.S.Store c.run.new.self.conn in
-    let params = expired_params c.args.t in
-    let ran : OnOk c.run.result (HasRun EXPIRE_JOBS.now params old new) = subst (λ p. OnOk c.run.result (HasRun EXPIRE_JOBS.now p old new)) (search rules) (c.run.ensures.ran s.clean) in
-    step_by old new EXPIRE_JOBS.now params 0 c.run.result m₀ m (with_expired c.args.t m) k₀ k k c.run.ensures.served works s ran (c.run.ensures.left s.clean) (c.run.ensures.cause (change_text EXPIRE_JOBS.now _ tt texts.expire_jobs)) (λ means has. jobs_expired c.args.t old new m k means has)
+    let new = state g.S.Store c.expire_in-2.new.self.conn in
+    let mid = c.expire_in-2.ensures.served s in
+    let first = c.in_ok-expire_in.ensures.written m₀ m k₀ k works mid in
+    subst (λ after. Steps new c.expire_in-2.result m₀ k₀ after k) (expired_in_turn c.args.t m) (c.expire_in-2.ensures.written m₀ (with_expired_in Held c.args.t m) k₀ k (λ _. first) s)
 
 pub returns-clause-holds : goal.returns-clause-holds
-returns-clause-holds g c = c.run.ensures.holds (edit_text EXPIRE_JOBS.now _ tt texts.expire_jobs)
+returns-clause-holds g c =
+    holds_then (state g.S.Store c.args.self.now.conn) (state g.S.Store c.expire_in.new.self.conn) (state g.S.Store c.expire_in-2.new.self.conn) (is_err c.expire_in-2.result) c.expire_in-2.ensures.served
+    c.in_ok-expire_in.ensures.holds c.expire_in-2.ensures.holds
 
-pub returns-clause-cause : goal.returns-clause-cause
-returns-clause-cause g c = c.run.ensures.cause (change_text EXPIRE_JOBS.now _ tt texts.expire_jobs)
+pub returns-in_err-expire_in-clause-holds : goal.returns-in_err-expire_in-clause-holds
+returns-in_err-expire_in-clause-holds g c =
+    holds_err (state g.S.Store c.args.self.now.conn) (state g.S.Store c.expire_in.new.self.conn) c.from_residual.result (λ e. e ≡ c.in_err-expire_in.field-0.0) c.from_residual.ensures.1 c.in_err-expire_in.ensures.holds
