@@ -1,10 +1,8 @@
 -- What the texts that change jobs write.
-use Rattle.std.proofs.Common.{◌≡◌, ◌≤◌, ◌<◌, inl, inr, ℕ, suc, List, [], ◌∷◌, map, drop, All, Bool, true, false, ◌&&◌, ◌||◌, pos, Option, Some, None, unwrap_or, if◌then◌else◌, refl, sym, ap, ap₂, subst, ◌∙◌, arith}
+use Rattle.std.proofs.Common.{◌≡◌, ◌≤◌, ◌<◌, inl, inr, ℕ, suc, List, [], ◌∷◌, map, drop, All, Bool, true, false, ◌&&◌, ◌||◌, Option, Some, None, unwrap_or, if◌then◌else◌, refl, sym, ap, ap₂, subst, ◌∙◌, arith}
 use Rattle.std.specs.Prelude.{find, ◌==◌, nat_le}
-use Rattle.std.specs.Ordering.{int_cmp, is_eq}
 use Rattle.std.specs.Str.{IsUtf8}
 use Rattle.std.proofs.lemmas.Bool.{cases_Bool, eqb-true, eq-eqb}
-use Rattle.std.proofs.lemmas.Bool.Decides.{nat_tests}
 use Rattle.std.proofs.lemmas.List.Elements.{All-cons}
 use Rattle.sqlite.specs.Cast.{cast_row}
 use Rattle.sqlite.specs.Order.{Row}
@@ -34,7 +32,7 @@ use Rattle.fax_tables.specs.Schema as schema
 use Rattle.fax_tables.specs.Schema.{six_tables, jobs_tree}
 use Rattle.fax_store.specs.Store.{HasRun}
 use Rattle.fax_tables.specs.Tables.{TablesMean}
-use Rattle.fax_tables.proofs.CompareLemmas.{at_most, at_least, equal_numbers}
+use Rattle.fax_tables.proofs.CompareLemmas.{at_most, at_least, is_number}
 use Rattle.fax_store.proofs.JobLemmas.{fields_back, lawful_of_fields, stored_job}
 use Rattle.fax_tables.proofs.KeyLemmas.{only_numbered, asked_is, not_asked}
 use Rattle.fax_tables.proofs.RowLemmas.{change_params}
@@ -136,13 +134,10 @@ module _ (phase : Phase) (t : ℕ) where
   abbrev expires_here : Job → Bool
   expires_here j = phase_number j.phase == phase_number phase && is_past j.killtime t
 
-  same_number : (a b : ℕ) → is_eq (int_cmp (pos a) (pos b)) ≡ (a == b)
-  same_number a b = grind (arith, nat_tests)
-
   -- the jobs that pass are those that expire
   expiring : (j : Job) → passes jobs_tree expired_tests expired_project expired_params (row_of j) ≡ expires_here j
   expiring j =
-      ap₂ ◌&&◌ (equal_numbers (phase_number j.phase) (phase_number phase) ∙ same_number (phase_number j.phase) (phase_number phase))
+      ap₂ ◌&&◌ (is_number (phase_number j.phase) (phase_number phase))
       (ap₂ ◌&&◌ (at_least (unwrap_or j.killtime 0) 1) (ap (λ b. b && true) (at_most (unwrap_or j.killtime 0) t)) ∙ past j.killtime)
 
   abbrev expired : Job → Job

@@ -1,10 +1,18 @@
 -- What the texts on the row of the clock and the next numbers read and write.
-use Rattle.std.proofs.Common.{◌≡◌, ◌≤◌, ℕ, pos, List, [], ◌∷◌, true, Some, Option, refl, sym, subst}
-use Rattle.std.proofs.lemmas.Bool.{both_ways}
+use Rattle.std.proofs.Common.{◌≡◌, ◌≤◌, inl, inr, ℕ, pos, List, [], ◌∷◌, true, false, not, ◌&&◌, Some, Option, refl, sym, ap, ap₂, subst, ◌∙◌, arith}
+use Rattle.std.specs.Prelude.{◌==◌}
+use Rattle.std.specs.Ordering.{is_ne}
+use Rattle.std.proofs.lemmas.Bool.{both_ways, cases_Bool, eqb-true, true≢false}
+use Rattle.std.proofs.lemmas.Bool.Decides.{nat_tests}
+use Rattle.sqlite.specs.Collation.TheVariants.{Binary}
 use Rattle.sqlite.specs.Order.{Row}
 use Rattle.sqlite.specs.Cast.{cast_row}
 use Rattle.sqlite.specs.State.{State}
 use Rattle.sqlite.proofs.Callers.{runs_as, reads_as}
+use Rattle.sqlite_sql.specs.Ops.{binary, is_true}
+use Rattle.sqlite_sql.specs.declared.ops.BinaryOp.TheVariants.{Compare}
+use Rattle.sqlite_sql.specs.declared.ops.CompareOp.TheVariants.{Ne}
+use Rattle.sqlite_value.proofs.OrderLemmas.{value_cmp-Int}
 use Rattle.fax_store.specs.declared.meta.TheConstants.{SELECT_META, UPDATE_CLOCK, UPDATE_META}
 use Rattle.fax_tables.specs.Schema as schema
 use Rattle.fax_tables.specs.Schema.{six_tables, meta_tree}
@@ -14,9 +22,9 @@ use Rattle.fax_store.specs.Meta.{with_clock}
 use Rattle.fax_tables.specs.Meta.{meta_shown}
 use Rattle.fax_tables.specs.Tables.{TablesMean, IsLawfulMeta, IsByRowid}
 use Rattle.fax_store.specs.Store.{FindsRow, HasRun}
-use Rattle.fax_tables.proofs.CompareLemmas.{number_same, same_row, cast_int, cast_null}
+use Rattle.fax_tables.proofs.CompareLemmas.{compared, number_same, same_row, cast_int, cast_null}
 use Rattle.fax_tables.proofs.SelectLemmas.{passes, answers, only_row, only_found}
-use Rattle.fax_store.proofs.StatementTexts.{meta_tests, meta_project, select_meta, update_meta, update_project, update_clock, clock_project}
+use Rattle.fax_store.proofs.StatementTexts.{meta_tests, meta_project, select_meta, update_meta, update_project, update_clock, clock_project, clock_tests}
 use Rattle.fax_tables.proofs.TablesLemmas.{parts_of, means_of, meta_changed}
 use Rattle.fax_tables.proofs.UpdateLemmas.{updated}
 use Rattle.fax_tables.proofs.WriteLemmas.{KeepsOthers}
@@ -30,6 +38,15 @@ stored m = same_row (cast_int (pos 1)) (same_row cast_null (same_row (cast_int _
 -- what a change of the clock is told
 abbrev pub clock_params : ℕ → Row
 clock_params clock = number clock ∷ []
+
+-- where the clock isn't written, it stood there
+differs : (a b : ℕ) → is_true (binary (Compare Ne Binary) (number a) (number b)) ≡ not (a == b)
+differs a b = compared Ne (number a) (number b) refl refl ∙ ap is_ne (value_cmp-Int (pos a) (pos b)) ∙ grind (arith, nat_tests)
+
+clock_kept : (clock : ℕ) (m : Queue) → passes meta_tree clock_tests clock_project (clock_params clock) (meta_row m) ≡ false → meta_row m ≡ meta_row (with_clock clock m)
+clock_kept clock m off =
+    let tested : (true && (not (m.clock == clock) && true)) ≡ false = sym (ap₂ ◌&&◌ (number_same 1) (ap (λ b. b && true) (differs m.clock clock))) ∙ off in
+    ap (λ n. meta_row (record m { clock = n })) (elim (cases_Bool (m.clock == clock)) [ inl same ↦ eqb-true m.clock clock same | inr other ↦ absurd (true≢false (sym (ap (λ b. true && (not b && true)) other) ∙ tested)) ])
 
 -- the one row of a table stands by its rowid
 alone : (m : Queue) → IsByRowid (meta_row m ∷ [])
@@ -70,7 +87,7 @@ module _ (old new : State) (m : Queue) (k : List Entry) (means : TablesMean old.
     clocked h =
         let ran = runs_as UPDATE_CLOCK.now (clock_params clock) old new six_tables means.schema _ update_clock.is update_clock.plain h.0 h.1 in
         updated schema.meta.name meta_tree schema.meta.columns schema.meta.key schema.meta.primary schema.meta.uniques schema.meta.orders schema.meta.checks 5 refl old new means.schema refl (subst IsByRowid (sym means.meta) (alone m))
-        meta_tests clock_project (clock_params clock) (λ r. refl) _ h.0 meta_row (with_clock clock) (m ∷ []) means.meta (λ it. refl) (λ it has on. stored (with_clock clock it)) (λ it has off. absurd (both_ways _ off (meta_passes it (clock_params clock)))) ran
+        clock_tests clock_project (clock_params clock) (λ r. refl) _ h.0 meta_row (with_clock clock) (m ∷ []) means.meta (λ it. refl) (λ it has on. stored (with_clock clock it)) (λ it has off. clock_kept clock it off) ran
 
     -- the tables mean the queue with this clock
     pub clock_written : clock ≤ 4102444800 → HasRun UPDATE_CLOCK.now (clock_params clock) old new → TablesMean new.now (with_clock clock m) k × KeepsOthers six_tables meta_tree old new

@@ -4,7 +4,7 @@ use Rattle.sqlite.specs.Collation.TheVariants.{Binary}
 use Rattle.sqlite.specs.declared.types.Value.TheVariants.{Null, Int, Text}
 use Rattle.sqlite_sql.specs.Term.{Term, lit, col, op2}
 use Rattle.sqlite_sql.specs.declared.ops.BinaryOp.TheVariants.{Compare, Or}
-use Rattle.sqlite_sql.specs.declared.ops.CompareOp.TheVariants.{Le, Ge, Gt}
+use Rattle.sqlite_sql.specs.declared.ops.CompareOp.TheVariants.{Ne, Le, Ge, Gt}
 use Rattle.sqlite.specs.Source.TheVariants.{Values}
 use Rattle.sqlite.specs.Command.TheVariants.{Insert, Update}
 use Rattle.sqlite.specs.Listing.{understood}
@@ -45,10 +45,13 @@ pub update_meta : Commands UPDATE_META.now (Update 5 (record { lets = []; body =
 unfolding understood everything
 update_meta = record { is = refl; plain = (refl, refl) }
 
+abbrev pub clock_tests : List Term
+clock_tests = equals (col 1 0) (lit (Int (pos 1))) ∷ op2 (Compare Ne Binary) (col 1 2) (col 0 0) ∷ []
+
 abbrev pub clock_project : List Term
 clock_project = col 1 0 ∷ col 1 0 ∷ lit Null ∷ col 0 0 ∷ col 1 3 ∷ col 1 4 ∷ col 1 5 ∷ []
 
-pub update_clock : Commands UPDATE_CLOCK.now (Update 5 (program_of meta_tree meta_tests clock_project))
+pub update_clock : Commands UPDATE_CLOCK.now (Update 5 (program_of meta_tree clock_tests clock_project))
 unfolding understood everything
 update_clock = record { is = refl; plain = (refl, refl) }
 
