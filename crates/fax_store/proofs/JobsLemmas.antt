@@ -27,7 +27,7 @@ use Rattle.fax_tables.proofs.TablesLemmas.{row_of}
 use Rattle.fax_store.proofs.OrderLemmas.{Below, only_order}
 use Rattle.fax_store.proofs.StatementTexts.{job_names, job_project, jobs_order, select_jobs}
 
-abbrev number_of : Job → ℕ
+abbrev pub number_of : Job → ℕ
 number_of j = j.number
 
 -- what a job is sorted by, and what is shown of it
@@ -54,7 +54,7 @@ below : (a b : Job) → value_cmp (rowid (row_of a)) (rowid (row_of b)) ≡ Less
 below a b less = let e : int_cmp (pos a.number) (pos b.number) ≡ Less = sym (value_cmp-Int (pos a.number) (pos b.number)) ∙ less in grind (arith, nat_tests)
 
 -- the rows of a table stand by number
-ascend : (jobs : List Job) → IsTable (map row_of jobs) → IsAscending (Below number_of) jobs
+pub ascend : (jobs : List Job) → IsTable (map row_of jobs) → IsAscending (Below number_of) jobs
 ascend jobs rise =
     ascending_weaker (λ a b. value_cmp (rowid (row_of a)) (rowid (row_of b)) ≡ Less) (Below number_of) below jobs (ascending_from_map (λ a b. value_cmp (rowid a) (rowid b) ≡ Less) row_of jobs rise)
 

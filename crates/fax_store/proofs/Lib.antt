@@ -17,6 +17,7 @@ pub mod GrantWriteLemmas
 pub mod WaitingLemmas
 pub mod OrderLemmas
 pub mod JobsLemmas
+pub mod CandidateLemmas
 pub mod CallLemmas
 pub mod Rows
 pub mod AdoptLemmas

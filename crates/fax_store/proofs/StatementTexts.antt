@@ -5,6 +5,7 @@ use Rattle.sqlite.specs.declared.types.Value.TheVariants.{Null, Int, Text}
 use Rattle.sqlite_sql.specs.Term.{Term, lit, col, op2}
 use Rattle.sqlite_sql.specs.declared.ops.BinaryOp.TheVariants.{Compare, Or}
 use Rattle.sqlite_sql.specs.declared.ops.CompareOp.TheVariants.{Ne, Le, Ge, Gt}
+use Rattle.sqlite.specs.Query.{Query}
 use Rattle.sqlite.specs.Source.TheVariants.{Values}
 use Rattle.sqlite.specs.Command.TheVariants.{Insert, Update}
 use Rattle.sqlite.specs.Listing.{understood}
@@ -15,10 +16,11 @@ use Rattle.fax_job.specs.Status.{kill_time_expired}
 use Rattle.fax_store.specs.declared.adopt.TheConstants.{SELECT_VERSION}
 use Rattle.fax_store.specs.declared.meta.TheConstants.{SELECT_META, UPDATE_CLOCK, UPDATE_META}
 use Rattle.fax_store.specs.declared.replies.TheConstants.{SELECT_REPLY, INSERT_REPLY}
+use Rattle.fax_store.specs.declared.candidates.TheConstants.{SELECT_PAGE}
 use Rattle.fax_store.specs.declared.jobs.TheConstants.{SELECT_JOB, INSERT_JOB, UPDATE_JOB, EXPIRE_JOBS, SELECT_WAITING, SELECT_JOBS}
-use Rattle.fax_tables.proofs.SelectLemmas.{rows_where}
+use Rattle.fax_tables.proofs.SelectLemmas.{rows_by, rows_where}
 use Rattle.fax_tables.proofs.UpdateLemmas.{program_of}
-use Rattle.fax_tables.proofs.StatementForms.{equals, Selects, SelectsBy, Commands}
+use Rattle.fax_tables.proofs.StatementForms.{equals, Selects, SelectsAll, SelectsBy, Commands}
 use Rattle.fax_tables.specs.Schema.{jobs_tree, meta_tree, replies_tree}
 
 abbrev pub meta_tests : List Term
@@ -126,6 +128,14 @@ waiting_order = (col 1 9, ascending Binary) ∷ (col 1 7, ascending Binary) ∷ 
 pub select_waiting : SelectsBy SELECT_WAITING.now jobs_tree waiting_tests job_project waiting_order job_names
 unfolding understood everything
 select_waiting = record { command = refl; plain = (refl, refl); unlisted = refl }
+
+-- the second parameter is the most rows, and the third how many are left out before them
+abbrev pub page_query : Query
+page_query = record (rows_by jobs_tree waiting_tests job_project waiting_order) { limit = col 0 1; offset = col 0 2 }
+
+pub select_page : SelectsAll SELECT_PAGE.now page_query job_names
+unfolding understood everything
+select_page = record { command = refl; plain = (refl, refl); unlisted = refl }
 
 abbrev pub jobs_order : List (Term × Key)
 jobs_order = (col 1 0, ascending Binary) ∷ []

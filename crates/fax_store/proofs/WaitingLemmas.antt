@@ -3,12 +3,13 @@ use Rattle.std.proofs.Common.{◌≡◌, ◌<◌, ◌+◌, ℕ, suc, zero, pos, 
 use Rattle.std.specs.Prelude.{◌==◌, nat_le, nat_lt, slice_index_or}
 use Rattle.std.specs.Ordering.{is_lt, is_eq, is_gt, int_cmp, ordering_then}
 use Rattle.std.specs.declared.cmp.Ordering.TheVariants.{Equal}
-use Rattle.std.specs.List.Sorted.{IsSorted}
+use Rattle.std.specs.List.Sorted.{IsPermutation, IsSorted}
 use Rattle.std.proofs.lemmas.Bool.Decides.{nat_tests}
+use Rattle.sqlite.specs.Effect.{Database}
 use Rattle.sqlite.specs.Order.{Row}
 use Rattle.sqlite.specs.State.{State, Shown}
 use Rattle.sqlite.proofs.Callers.{reads_as}
-use Rattle.sqlite.specs.Query.{output_cmp}
+use Rattle.sqlite.specs.Query.{Output, Query, output_cmp}
 use Rattle.sqlite_trees.proofs.ListLemmas.{map-map, filter-map, filter_same, all_of, pull_back}
 use Rattle.sqlite_value.proofs.OrderLemmas.{value_cmp-Int}
 use Rattle.fax_core.specs.Ageing.{is_past}
@@ -61,7 +62,7 @@ module _ (t : ℕ) where
   turned true true true false = refl
   turned true true true true = refl
 
-  abbrev is_asked : Row → Bool
+  abbrev pub is_asked : Row → Bool
   is_asked = passes jobs_tree waiting_tests job_project params
 
   -- the rows that pass are those of the jobs that are due
@@ -86,28 +87,44 @@ module _ (t : ℕ) where
   index_map f (x ∷ xs) zero d = refl
   index_map f (x ∷ xs) (suc i) d = index_map f xs i d
 
-  module _ (old new : State) (m : Queue) (k : List Entry) (means : TablesMean old.now m k) where
-    pub waiting_found : (rows : List Row) → Shown SELECT_WAITING.now params old new rows → (jobs : List Job) × (rows ≡ map (λ j. job_shown (fields_of j)) jobs) × AreWaiting t m jobs
-    waiting_found rows h =
-        let query = rows_by jobs_tree waiting_tests job_project waiting_order in
-        let out = λ (j : Job). put_out 0 waiting_tests job_project params waiting_order (row_of j) in
-        let read = reads_as SELECT_WAITING.now params old new six_tables means.schema _ select_waiting.command select_waiting.plain select_waiting.unlisted rows h in
-        let shown = in_order 0 waiting_tests job_project params old.now (old.now.trees jobs_tree) refl waiting_order job_names rows read in
-        let asked : filter is_asked (old.now.trees jobs_tree) ≡ map row_of (filter (λ j. is_due j t) m.jobs) =
+  abbrev pub query : Query
+  query = rows_by jobs_tree waiting_tests job_project waiting_order
+
+  abbrev pub out : Row → Output
+  out = put_out jobs_tree waiting_tests job_project params waiting_order
+
+  abbrev pub shown_of : Row → Row
+  shown_of = show jobs_tree waiting_tests job_project params
+
+  module _ (db : Database) (m : Queue) (k : List Entry) (means : TablesMean db m k) where
+    -- rows that pass, in order, are those of the jobs that wait
+    pub are_waiting : (to : List Row) → IsPermutation (filter is_asked (db.trees jobs_tree)) to → IsSorted (output_cmp query) (map out to)
+        → (jobs : List Job) × (map shown_of to ≡ map (λ j. job_shown (fields_of j)) jobs) × AreWaiting t m jobs
+    are_waiting to same in_place =
+        let asked : filter is_asked (db.trees jobs_tree) ≡ map row_of (filter (λ j. is_due j t) m.jobs) =
         ap (filter is_asked) means.jobs ∙ filter-map is_asked row_of m.jobs ∙ ap (map row_of) (filter_same (λ j. is_asked (row_of j)) (λ j. is_due j t) m.jobs (all_of (λ j. is_asked (row_of j) ≡ is_due j t) due m.jobs)) in
-        let back = pull_back row_of (filter is_asked (old.now.trees jobs_tree)) shown.0 shown.1 (filter (λ j. is_due j t) m.jobs) asked in
+        let back = pull_back row_of (filter is_asked (db.trees jobs_tree)) to same (filter (λ j. is_due j t) m.jobs) asked in
         let jobs = back.0 in
-        let sorted : IsSorted (output_cmp query) (map out jobs) = subst (IsSorted (output_cmp query)) (ap (map (put_out 0 waiting_tests job_project params waiting_order)) back.2 ∙ map-map _ _ jobs) shown.3 in (
+        let put = λ (j : Job). out (row_of j) in
+        let sorted : IsSorted (output_cmp query) (map put jobs) = subst (IsSorted (output_cmp query)) (ap (map out) back.2 ∙ map-map _ _ jobs) in_place in (
           jobs,
-          shown.2 ∙ ap (map (show jobs_tree waiting_tests job_project params)) back.2 ∙ map-map _ _ jobs,
+          ap (map shown_of) back.2 ∙ map-map _ _ jobs,
           record {
             due = back.1;
             ordered = λ i d from low.
                 sym (same_order (slice_index_or jobs (i + 1) d) (slice_index_or jobs i d))
-                ∙ sym (ap₂ (λ a b. is_lt (output_cmp query a b)) (index_map out jobs (i + 1) d) (index_map out jobs i d))
-                ∙ sorted i (out d) from (subst (λ n. i + 1 < n) (sym (length_map out jobs)) low);
+                ∙ sym (ap₂ (λ a b. is_lt (output_cmp query a b)) (index_map put jobs (i + 1) d) (index_map put jobs i d))
+                ∙ sorted i (put d) from (subst (λ n. i + 1 < n) (sym (length_map put jobs)) low);
           },
         )
+
+  module _ (old new : State) (m : Queue) (k : List Entry) (means : TablesMean old.now m k) where
+    pub waiting_found : (rows : List Row) → Shown SELECT_WAITING.now params old new rows → (jobs : List Job) × (rows ≡ map (λ j. job_shown (fields_of j)) jobs) × AreWaiting t m jobs
+    waiting_found rows h =
+        let read = reads_as SELECT_WAITING.now params old new six_tables means.schema _ select_waiting.command select_waiting.plain select_waiting.unlisted rows h in
+        let shown = in_order jobs_tree waiting_tests job_project params old.now (old.now.trees jobs_tree) refl waiting_order job_names rows read in
+        let it = are_waiting old.now m k means shown.0 shown.1 shown.3 in
+        (it.0, shown.2 ∙ it.1, it.2)
 
 -- jobs that wait are lawful as all are
 pub all_waiting : (t : ℕ) (m : Queue) (jobs : List Job) → AreWaiting t m jobs → All IsLawfulJob m.jobs → All IsLawfulJob jobs

@@ -5,6 +5,7 @@
 #![tactic(auto)]
 
 mod adopt;
+mod candidates;
 mod grants;
 mod jobs;
 pub mod laws;
@@ -14,6 +15,7 @@ mod replies;
 mod store;
 mod work;
 
+pub use candidates::Candidates;
 pub use fax_tables::{Hold, Kept, Meta, StoreFault};
 pub use store::{MemoryStore, Store};
 pub use work::Work;
