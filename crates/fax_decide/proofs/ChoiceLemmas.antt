@@ -1,5 +1,5 @@
 -- Which job is the best: the first that may go among the waiting jobs in the order of the choice.
-use Rattle.std.proofs.Common.{◌≡◌, ◌⊎◌, inl, inr, ℕ, zero, suc, ◌+◌, ◌<◌, Bool, true, false, cond, ◌&&◌, ◌||◌, eqb, leb, ltb, All, List, [], ◌∷◌, ◌++◌, map, get_or, refl, sym, ap, ap₂, subst, ◌∙◌, arith}
+use Rattle.std.proofs.Common.{◌≡◌, ◌⊎◌, inl, inr, ℕ, zero, suc, ◌+◌, ◌<◌, Bool, true, false, cond, ◌&&◌, ◌||◌, eqb, leb, ltb, All, List, [], ◌∷◌, ◌++◌, map, get_or, refl, sym, ap, ap₂, subst, ◌∙◌, arith, append_assoc, drop, take-append-drop}
 use Rattle.std.specs.Prelude.{Option, Some, None, Result, Ok, Err, IfOk, find, filter}
 use Rattle.std.specs.List.Sorted.{IsPermutation, IsSortedBy}
 use Rattle.std.specs.Option.{option_map}
@@ -21,6 +21,7 @@ use Rattle.fax_core.proofs.FitsLemmas.{job_again}
 use Rattle.fax_core.proofs.PlaceLemmas.{In, found, found_in, none_passes, in_filter, of_filter, in_found}
 use Rattle.fax_core.proofs.StepLemmas.{aged_sound}
 use Rattle.fax_tables.specs.Job.{IsLawfulJob}
+use Rattle.fax_store.specs.Candidates.{Gives, StandsAt}
 use Rattle.fax_store.specs.Job.{AreWaiting, IsWaiting}
 use Rattle.fax_decide.proofs.CallLemmas.{state_aged}
 
@@ -187,7 +188,7 @@ abbrev pub jobs_of : List JobFields → List Job
 jobs_of fs = map (λ f. job_of f) fs
 
 -- one after those that don't pass
-pub found_next : (p : Job → Bool) (all before rest : List JobFields) (f : JobFields) → all ≡ before ++ f ∷ rest
+found_next : (p : Job → Bool) (all before rest : List JobFields) (f : JobFields) → all ≡ before ++ f ∷ rest
     → find p (jobs_of before) ≡ None → p (job_of f) ≡ true → Some (job_of f) ≡ find p (jobs_of all)
 found_next p all before rest f is none passes =
     sym (ap (λ (xs : List JobFields). find p (jobs_of xs)) is ∙ walk before none)
@@ -228,9 +229,28 @@ best_waiting s m t modem found sound lawful w =
     ap (find (may_go s m t modem)) same ∙ first_waiting s m t modem w.0 sound w.2
 
 -- so the first of them that is found is that of the best
-pub best_found : {E : Type 0} (r : Result (Option JobFields) E) (s : Settings) (m : Queue) (t : ℕ) (modem : List ℕ) (waiting : List JobFields)
-    → Sound m → All IsLawfulJob m.jobs → IsWaiting t m waiting
-    → IfOk r (λ o. option_map (λ f. job_of f) o ≡ find (may_go s m t modem) (jobs_of waiting))
+pub best_found : {E : Type 0} (r : Result (Option JobFields) E) (s : Settings) (m : Queue) (t : ℕ) (modem : List ℕ) → Sound m → All IsLawfulJob m.jobs
+    → IfOk r (λ o. (waiting : List JobFields) × IsWaiting t m waiting × (option_map (λ f. job_of f) o ≡ find (may_go s m t modem) (jobs_of waiting)))
     → IfOk r (λ o. option_map (λ f. job_of f) o ≡ best s (aged t m) t modem)
-best_found (Ok o) s m t modem waiting sound lawful w is = is ∙ best_waiting s m t modem waiting sound lawful w
-best_found (Err e) s m t modem waiting sound lawful w is = is
+best_found (Ok o) s m t modem sound lawful is = is.2 ∙ best_waiting s m t modem is.0 sound lawful is.1
+best_found (Err e) s m t modem sound lawful is = is
+
+-- ---- candidates
+
+-- the candidates that were given so far, none of which may go
+abbrev pub NoneWent : (Job → Bool) → ℕ → Queue → List JobFields → ℕ → Type 0
+NoneWent p t m page read = (given : List JobFields) × StandsAt t m given page read × (find p (jobs_of given) ≡ None)
+
+-- what is given next
+pub next_given : (p : Job → Bool) (t s : ℕ) (m : Queue) (page after : List JobFields) (read more : ℕ) (o : Option (JobFields × ℕ)) → s ≡ t → NoneWent p t m page read
+    → ((given : List JobFields) → StandsAt s m given page read → Gives s m given after more o) → (given : List JobFields) × Gives t m given after more o × (find p (jobs_of given) ≡ None)
+next_given p t s m page after read more o same none next =
+    (none.0, subst (λ (x : ℕ). Gives x m none.0 after more o) same (next none.0 (subst (λ (x : ℕ). StandsAt x m none.0 page read) (sym same) none.1)), none.2)
+
+-- the next of them may go, and is the first that may
+pub went : (p : Job → Bool) (t : ℕ) (m : Queue) (given page : List JobFields) (f : JobFields) (read : ℕ) → StandsAt t m (given ++ f ∷ []) page read
+    → find p (jobs_of given) ≡ None → p (job_of f) ≡ true → (waiting : List JobFields) × IsWaiting t m waiting × (Some (job_of f) ≡ find p (jobs_of waiting))
+went p t m given page f read h none passes =
+    let rest = page ++ drop read h.all in
+    let is : h.all ≡ given ++ f ∷ rest = sym (take-append-drop read h.all) ∙ ap (λ (xs : List JobFields). xs ++ drop read h.all) (sym h.reads) ∙ append_assoc (given ++ f ∷ []) page (drop read h.all) ∙ append_assoc given (f ∷ []) rest in
+    (h.all, h.waiting, found_next p h.all given rest f is none passes)

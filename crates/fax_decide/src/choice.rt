@@ -1,7 +1,8 @@
 //! Which job a modem is given: a modem asks for work.
 
-ghost use Rattle.std.specs.Prelude.{◌≡◌, ℕ, List, false, IfOk, IsErr, Ok, None, Some, find, is_some, map, OnOk};
+ghost use Rattle.std.specs.Prelude.{◌≡◌, ℕ, List, [], false, IfOk, IsErr, Ok, None, Some, find, is_some, map, OnOk};
 ghost use Rattle.std.specs.Option.{option_map};
+ghost use Rattle.std.specs.Vec.Iter.{into_iter_items};
 ghost use Rattle.sqlite.specs.Held.{state};
 ghost use Rattle.sqlite.specs.State.{HasCleanDisk};
 ghost use Rattle.fax_ask.specs.Answer.{grant_told};
@@ -16,9 +17,13 @@ ghost use Rattle.fax_core.specs.Machine.{dial_of, given, given_best, given_to, h
 ghost use Rattle.fax_core.specs.Queue.{Queue, Entry, job_numbered};
 ghost use Rattle.fax_core.specs.Reply.{HeldGrant};
 ghost use Rattle.fax_core.specs.Sound.{Sound};
+ghost use Rattle.fax_core.specs.State.{calls_to};
 ghost use Rattle.fax_core.specs.declared.grants.Grant.{Grant as OneGrant};
+ghost use Rattle.fax_job.specs.declared.job.JobFields.{JobFields};
 ghost use Rattle.fax_job.specs.declared.refusal.Refusal.TheVariants.{ModemBusy};
 ghost use Rattle.fax_tables.specs.Grant.{as_hold};
+ghost use Rattle.fax_store.specs.Candidates.{StandsAt};
+ghost use Rattle.fax_store.specs.Job.{IsWaiting};
 ghost use Rattle.fax_store.specs.Store.{Means, Serves, Stays, StaysOpen};
 ghost use Rattle.fax_decide.specs.Decision.{Decides};
 ghost use Rattle.fax_decide.specs.Settings.{settings_of};
@@ -27,11 +32,11 @@ use crate::decision::{Decision, answered, refuse, take};
 use crate::effect::Effect;
 use crate::fault::Unavailable;
 use crate::office::Office;
-use crate::state::state_of;
 use fax_ask::{Answer, Detail, Handed, Reply};
 use fax_core::{Change, Grant, State, fits, grant};
+use fax_job::limits::LAST_JOB;
 use fax_job::{Job, Moment, Name, Refusal};
-use fax_store::{Hold, Store};
+use fax_store::{Candidates, Hold, Store};
 use sqlite::Alter;
 use std::alloc::Global;
 
@@ -141,59 +146,60 @@ fn best<S: Alter>(
         → IfOk result (λ found. option_map (λ f. job_of f) found
         ≡ best (settings_of office.now.setup office.now.controls) (aged t m) t modem.now) }
 {
-    let jobs = store.waiting(t)?;
-    first_of(store, office, alloc, jobs, modem, t)
+    let mut candidates = store.candidates(t)?;
+    first_of(&mut candidates, office, alloc, modem, t)
 }
 
-/// The first of the jobs that may go to the modem at `t`, if one may.
+/// The first of the candidates that may go to the modem at `t`, the moment that they were asked for, if one may.
 fn first_of<S: Alter>(
-    store: &mut Store<S>,
+    candidates: &mut Candidates<'_, S>,
     office: &Office,
     alloc: Global,
-    jobs: Vec<Job>,
     modem: &Name,
     t: Moment,
 ) -> Result<Option<Job>, Unavailable>
-    ensures served { Serves (state S.Store store.new.conn) → Serves (state S.Store store.old.conn) }
-    ensures clean { HasCleanDisk (state S.Store store.new.conn) → HasCleanDisk (state S.Store store.old.conn) }
-    ensures opens { OnOk result (StaysOpen (state S.Store store.old.conn) (state S.Store store.new.conn)) }
-    ensures stays { Stays (state S.Store store.old.conn) (state S.Store store.new.conn) }
-    ensures found { (m : Queue) (k : List Entry) → Means (state S.Store store.old.conn) m k
-        → Serves (state S.Store store.new.conn)
-        → IfOk result (λ found. option_map (λ f. job_of f) found
-        ≡ find (may_go (settings_of office.now.setup office.now.controls) m t modem.now)
-        (map (λ f. job_of f) jobs.items)) }
+    ensures same_reference { candidates.new.store.ghost_name ≡ candidates.old.store.ghost_name }
+    ensures served { Serves (state S.Store candidates.new.store.now.conn) → Serves (state S.Store candidates.old.store.now.conn) }
+    ensures clean { HasCleanDisk (state S.Store candidates.new.store.now.conn)
+        → HasCleanDisk (state S.Store candidates.old.store.now.conn) }
+    ensures opens { OnOk result (StaysOpen (state S.Store candidates.old.store.now.conn) (state S.Store candidates.new.store.now.conn)) }
+    ensures stays { Stays (state S.Store candidates.old.store.now.conn) (state S.Store candidates.new.store.now.conn) }
+    ensures found { (m : Queue) (k : List Entry) → Means (state S.Store candidates.old.store.now.conn) m k
+        → Serves (state S.Store candidates.new.store.now.conn) → candidates.old.t ≡ t
+        → StandsAt t m [] (into_iter_items candidates.old.page) candidates.old.read
+        → IfOk result (λ found. (jobs : List JobFields) × IsWaiting t m jobs × (option_map (λ f. job_of f) found
+        ≡ find (may_go (settings_of office.now.setup office.now.controls) m t modem.now) (map (λ f. job_of f) jobs))) }
 {
-    for job in jobs {
-        if may_go(store, office, alloc, &job, modem, t)? {
+    // Each job has a number of its own, so no queue has more.
+    for _ in 0..LAST_JOB + 1 {
+        let Some((job, calls)) = candidates.next()? else {
+            return Ok(None);
+        };
+        if may_go(office, alloc, &job, calls, modem, t)? {
             return Ok(Some(job));
         }
     }
-    Ok(None)
+    Err(Unavailable)
 }
 
-/// Whether a job is ready at `t` and its modem value admits the modem.
-fn may_go<S: Alter>(
-    store: &mut Store<S>,
+/// Whether the modem value of a job admits the modem, and the job is ready at `t` where that many calls are open to
+/// its number.
+fn may_go(
     office: &Office,
     alloc: Global,
     job: &Job,
+    calls: u64,
     modem: &Name,
     t: Moment,
 ) -> Result<bool, Unavailable>
-    ensures served { Serves (state S.Store store.new.conn) → Serves (state S.Store store.old.conn) }
-    ensures clean { HasCleanDisk (state S.Store store.new.conn) → HasCleanDisk (state S.Store store.old.conn) }
-    ensures opens { OnOk result (StaysOpen (state S.Store store.old.conn) (state S.Store store.new.conn)) }
-    ensures stays { Stays (state S.Store store.old.conn) (state S.Store store.new.conn) }
-    ensures found { (m : Queue) (k : List Entry) → Means (state S.Store store.old.conn) m k
-        → Serves (state S.Store store.new.conn) → IfOk result (λ goes. goes
+    ensures { (m : Queue) → calls ≡ calls_to job.now.dial m → IfOk result (λ goes. goes
         ≡ may_go (settings_of office.now.setup office.now.controls) m t modem.now (job_of job.now)) }
 {
-    if state_of(store, office, alloc, job, t)? != State::Ready.number() {
+    let value = &job.fields().modem;
+    if !office.setup.admits(alloc, value.as_str(), modem.as_str())? {
         return Ok(false);
     }
-    let value = &job.fields().modem;
-    Ok(office.setup.admits(alloc, value.as_str(), modem.as_str())?)
+    Ok(office.state_with(alloc, job, calls, t)? == State::Ready.number())
 }
 
 /// The job goes to the modem with the pages that it has left. Where it doesn't fit to be granted, as in no sound

@@ -1,15 +1,22 @@
+use Rattle.std.proofs.Common.{◌≡◌, rules, subst, sym}
+use Rattle.sqlite.specs.Held.{state}
 use Rattle.fax_decide.specs.Settings.{settings_of}
+use Rattle.fax_store.specs.Store.{Rests, Serves}
 use Rattle.fax_store.proofs.StoreLemmas.{means_stay}
 use Rattle.fax_decide.proofs.ChoiceLemmas.{best_found}
 use Rattle.fax_decide.proofs.choice.best.Goals as goal
 
+pub returns-clause-stays : goal.returns-clause-stays
+returns-clause-stays g c db six rests =
+    let same : c.first_of.new.candidates.store.now ≡ c.store-2-1.given.0 = search rules in
+    subst (λ v. Rests (state g.S.Store v.conn) db) same (c.first_of.ensures.stays db six (c.in_ok-candidates.ensures.stays db six rests))
+
 pub returns-clause-found : goal.returns-clause-found
 returns-clause-found g c m k sound means serves =
-    let serves_waiting = c.first_of.ensures.served serves in
-    let lawful = (means (c.waiting.ensures.served serves_waiting)).means.lawful.jobs in
-    let waiting = c.in_ok-jobs.ensures.found m k means serves_waiting in
-    best_found c.first_of.result (settings_of c.args.office.now.setup c.args.office.now.controls) m c.args.t c.args.modem.now c.in_ok-jobs.jobs.items sound lawful waiting
-    (c.first_of.ensures.found m k (means_stay c.waiting.ensures.served c.waiting.ensures.stays m k means) serves)
-
-pub returns-clause-stays : goal.returns-clause-stays
-returns-clause-stays g c db six rests = c.first_of.ensures.stays db six (c.waiting.ensures.stays db six rests)
+    let same : c.first_of.new.candidates.store.now ≡ c.store-2-1.given.0 = search rules in
+    let after = subst (λ v. Serves (state g.S.Store v.conn)) (sym same) serves in
+    let between = c.first_of.ensures.served after in
+    let lawful = (means (c.in_ok-candidates.ensures.served between)).means.lawful.jobs in
+    best_found c.first_of.result (settings_of c.args.office.now.setup c.args.office.now.controls) m c.args.t c.args.modem.now sound lawful
+    (c.first_of.ensures.found m k (means_stay c.in_ok-candidates.ensures.served c.in_ok-candidates.ensures.stays m k means) after c.in_ok-candidates.ensures.moment
+    (c.in_ok-candidates.ensures.stands m k means between))

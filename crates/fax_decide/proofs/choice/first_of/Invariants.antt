@@ -1,22 +1,24 @@
-use Rattle.std.proofs.Common.{◌≡◌, List, ◌++◌, None, find, map}
+use Rattle.std.proofs.Common.{◌≡◌, List, []}
+use Rattle.std.specs.Vec.Iter.{into_iter_items}
 use Rattle.sqlite.specs.Held.{state}
 use Rattle.sqlite.specs.State.{HasCleanDisk}
 use Rattle.fax_core.specs.Best.{may_go}
-use Rattle.fax_core.specs.Job.{job_of}
 use Rattle.fax_core.specs.Queue.{Queue, Entry}
+use Rattle.fax_store.specs.Candidates.{StandsAt}
 use Rattle.fax_store.specs.Store.{Means, Serves, Stays, StaysOpen}
 use Rattle.fax_decide.specs.Settings.{settings_of}
+use Rattle.fax_decide.proofs.ChoiceLemmas.{NoneWent}
 use Rattle.fax_decide.proofs.choice.first_of.Given as goal
 
-abbrev pub invariant-loop-job : goal.invariant-loop-job
-invariant-loop-job g l = record {
-  can : (goal.iterator-loop-job g).can_next l.job-iterator;
-  ends : (goal.iterator-loop-job g).is_finite l.job-iterator;
-  items : l.fn.jobs.items ≡ l.yielded ++ l.job-iterator.rest.items;
-  served : Serves (state g.S.Store l.store.conn) → Serves (state g.S.Store l.initial.store.conn);
-  clean : HasCleanDisk (state g.S.Store l.store.conn) → HasCleanDisk (state g.S.Store l.initial.store.conn);
-  opens : StaysOpen (state g.S.Store l.initial.store.conn) (state g.S.Store l.store.conn);
-  stays : Stays (state g.S.Store l.initial.store.conn) (state g.S.Store l.store.conn);
-  none : (m : Queue) (k : List Entry) → Means (state g.S.Store l.initial.store.conn) m k → Serves (state g.S.Store l.store.conn)
-      → find (may_go (settings_of l.office.setup l.office.controls) m l.t l.modem) (map (λ f. job_of f) l.yielded) ≡ None;
+abbrev pub invariant-loop : goal.invariant-loop
+invariant-loop g l = record {
+  same_reference : l.candidates.store.ghost_name ≡ l.initial.candidates.store.ghost_name;
+  moment : l.candidates.t ≡ l.initial.candidates.t;
+  served : Serves (state g.S.Store l.candidates.store.now.conn) → Serves (state g.S.Store l.initial.candidates.store.now.conn);
+  clean : HasCleanDisk (state g.S.Store l.candidates.store.now.conn) → HasCleanDisk (state g.S.Store l.initial.candidates.store.now.conn);
+  opens : StaysOpen (state g.S.Store l.initial.candidates.store.now.conn) (state g.S.Store l.candidates.store.now.conn);
+  stays : Stays (state g.S.Store l.initial.candidates.store.now.conn) (state g.S.Store l.candidates.store.now.conn);
+  none : (m : Queue) (k : List Entry) → Means (state g.S.Store l.initial.candidates.store.now.conn) m k → Serves (state g.S.Store l.candidates.store.now.conn) → l.initial.candidates.t ≡ l.t
+      → StandsAt l.t m [] (into_iter_items l.initial.candidates.page) l.initial.candidates.read
+      → NoneWent (may_go (settings_of l.office.setup l.office.controls) m l.t l.modem) l.t m (into_iter_items l.candidates.page) l.candidates.read;
 }
