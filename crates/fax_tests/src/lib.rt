@@ -10,6 +10,8 @@ mod jobs;
 #[cfg(test)]
 mod lines;
 #[cfg(test)]
+mod loopback;
+#[cfg(test)]
 mod queues;
 #[cfg(test)]
 mod replies;
