@@ -1,5 +1,5 @@
 -- What is accepted of a sound queue, and leaves one, has keys that were free.
-use Rattle.std.proofs.Common.{◌≡◌, ◌≢◌, ◌⊎◌, inl, inr, ℕ, ◌+◌, ◌≤◌, true, List, [], ◌∷◌, ◌++◌, map, length, find, Option, Some, None, refl, sym, ap, subst, ◌∙◌, arith}
+use Rattle.std.proofs.Common.{◌≡◌, inl, inr, ℕ, ◌+◌, true, List, [], ◌∷◌, ◌++◌, map, length, find, Option, Some, None, refl, sym, ap, subst, ◌∙◌, arith}
 use Rattle.std.specs.Prelude.{nat_lt, ◌==◌}
 use Rattle.std.specs.List.{range_with_len}
 use Rattle.std.specs.Str.{bytes_eq}
@@ -7,7 +7,7 @@ use Rattle.std.proofs.lemmas.Bool.{cases_Bool, eq-eqb}
 use Rattle.std.proofs.lemmas.Slice.Eq.{bytes_eq-Decides}
 use Rattle.sqlite_rules.specs.Lists.{Has}
 use Rattle.fax_core.specs.declared.grants.Grant.{Grant}
-use Rattle.fax_core.specs.Ageing.{aged, aged_job}
+use Rattle.fax_core.specs.Ageing.{aged_job}
 use Rattle.fax_core.specs.Job.{Job, job_of}
 use Rattle.fax_core.specs.Machine.{held_by}
 use Rattle.fax_core.specs.Queue.{Queue, grant_numbered, open_grants}

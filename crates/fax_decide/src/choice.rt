@@ -24,7 +24,7 @@ ghost use Rattle.fax_job.specs.declared.refusal.Refusal.TheVariants.{ModemBusy};
 ghost use Rattle.fax_tables.specs.Grant.{as_hold};
 ghost use Rattle.fax_store.specs.Candidates.{StandsAt};
 ghost use Rattle.fax_store.specs.Job.{IsWaiting};
-ghost use Rattle.fax_store.specs.Store.{Means, Serves, Stays, StaysOpen};
+ghost use Rattle.fax_store.specs.Store.{CommitsNothing, Means, Serves, Stays, StaysOpen};
 ghost use Rattle.fax_decide.specs.Decision.{Decides};
 ghost use Rattle.fax_decide.specs.Settings.{settings_of};
 
@@ -53,6 +53,7 @@ pub(crate) fn decide_next<S: Alter>(
     ensures clean { HasCleanDisk (state S.Store store.new.conn) → HasCleanDisk (state S.Store store.old.conn) }
     ensures opens { OnOk result (StaysOpen (state S.Store store.old.conn) (state S.Store store.new.conn)) }
     ensures stays { Stays (state S.Store store.old.conn) (state S.Store store.new.conn) }
+    ensures crash { CommitsNothing (state S.Store store.old.conn) (state S.Store store.new.conn) }
     ensures decided { (m : Queue) (k : List Entry) → Sound m → Means (state S.Store store.old.conn) m k
         → Serves (state S.Store store.new.conn) → next_grant ≡ m.next_grant
         → IfOk result (Decides
@@ -77,6 +78,7 @@ fn busy<S: Alter>(store: &mut Store<S>, alloc: Global, hold: Hold) -> Result<Rep
     ensures clean { HasCleanDisk (state S.Store store.new.conn) → HasCleanDisk (state S.Store store.old.conn) }
     ensures opens { OnOk result (StaysOpen (state S.Store store.old.conn) (state S.Store store.new.conn)) }
     ensures stays { Stays (state S.Store store.old.conn) (state S.Store store.new.conn) }
+    ensures crash { CommitsNothing (state S.Store store.old.conn) (state S.Store store.new.conn) }
     ensures decided { (m : Queue) (k : List Entry) (t : ℕ) (modem : List ℕ) (g : OneGrant) → Sound m
         → Means (state S.Store store.old.conn) m k → Serves (state S.Store store.new.conn)
         → held_by modem m ≡ Some g → hold ≡ as_hold g
@@ -118,6 +120,7 @@ fn decide_free<S: Alter>(
     ensures clean { HasCleanDisk (state S.Store store.new.conn) → HasCleanDisk (state S.Store store.old.conn) }
     ensures opens { OnOk result (StaysOpen (state S.Store store.old.conn) (state S.Store store.new.conn)) }
     ensures stays { Stays (state S.Store store.old.conn) (state S.Store store.new.conn) }
+    ensures crash { CommitsNothing (state S.Store store.old.conn) (state S.Store store.new.conn) }
     ensures decided { (m : Queue) (k : List Entry) → Sound m → Means (state S.Store store.old.conn) m k
         → Serves (state S.Store store.new.conn) → next_grant ≡ m.next_grant
         → IfOk result (Decides (given_best (settings_of office.now.setup office.now.controls) (aged t m) modem
@@ -141,6 +144,7 @@ fn best<S: Alter>(
     ensures clean { HasCleanDisk (state S.Store store.new.conn) → HasCleanDisk (state S.Store store.old.conn) }
     ensures opens { OnOk result (StaysOpen (state S.Store store.old.conn) (state S.Store store.new.conn)) }
     ensures stays { Stays (state S.Store store.old.conn) (state S.Store store.new.conn) }
+    ensures crash { CommitsNothing (state S.Store store.old.conn) (state S.Store store.new.conn) }
     ensures found { (m : Queue) (k : List Entry) → Sound m → Means (state S.Store store.old.conn) m k
         → Serves (state S.Store store.new.conn)
         → IfOk result (λ found. option_map (λ f. job_of f) found
@@ -164,6 +168,7 @@ fn first_of<S: Alter>(
         → HasCleanDisk (state S.Store candidates.old.store.now.conn) }
     ensures opens { OnOk result (StaysOpen (state S.Store candidates.old.store.now.conn) (state S.Store candidates.new.store.now.conn)) }
     ensures stays { Stays (state S.Store candidates.old.store.now.conn) (state S.Store candidates.new.store.now.conn) }
+    ensures crash { CommitsNothing (state S.Store candidates.old.store.now.conn) (state S.Store candidates.new.store.now.conn) }
     ensures found { (m : Queue) (k : List Entry) → Means (state S.Store candidates.old.store.now.conn) m k
         → Serves (state S.Store candidates.new.store.now.conn) → candidates.old.t ≡ t
         → StandsAt t m [] (into_iter_items candidates.old.page) candidates.old.read

@@ -4,7 +4,7 @@ ghost use Rattle.std.specs.Prelude.{◌≡◌, true, OnErr};
 ghost use Rattle.sqlite.specs.Held.{state};
 ghost use Rattle.sqlite.specs.State.{HasCleanDisk};
 ghost use Rattle.fax_store.specs.Store.{Serves};
-ghost use Rattle.fax_store.specs.Work.{ChangesWhere, Holds, IsOnlyUnavailable};
+ghost use Rattle.fax_store.specs.Work.{ChangesWhere, Holds, IsOnlyUnavailable, Withholds};
 ghost use Rattle.fax_decide.specs.Effect.{IsWritable, Suits, effected};
 
 use fax_core::Grant;
@@ -43,6 +43,8 @@ impl Effect {
         ensures clean { HasCleanDisk (state S.Store work.new.store.now.conn)
             → HasCleanDisk (state S.Store work.old.store.now.conn) }
         ensures holds { Holds (state S.Store work.old.store.now.conn) work.old.failed
+            (state S.Store work.new.store.now.conn) work.new.failed }
+        ensures crash { Withholds (state S.Store work.old.store.now.conn) work.old.failed
             (state S.Store work.new.store.now.conn) work.new.failed }
         ensures fails { OnErr result (work.new.failed ≡ true) }
         ensures changes { ChangesWhere (Suits self.now) (state S.Store work.old.store.now.conn) work.old.failed

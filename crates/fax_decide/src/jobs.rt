@@ -12,7 +12,7 @@ ghost use Rattle.fax_core.specs.Machine.{changed as change_step, on_job};
 ghost use Rattle.fax_core.specs.Queue.{Queue, Entry, job_numbered};
 ghost use Rattle.fax_core.specs.Reply.{Stands};
 ghost use Rattle.fax_core.specs.State.{state as job_state};
-ghost use Rattle.fax_store.specs.Store.{Means, Serves, Stays, StaysOpen};
+ghost use Rattle.fax_store.specs.Store.{CommitsNothing, Means, Serves, Stays, StaysOpen};
 ghost use Rattle.fax_decide.specs.Decision.{Decides};
 ghost use Rattle.fax_decide.specs.JobAsk.{decision_on};
 ghost use Rattle.fax_decide.specs.Settings.{settings_of};
@@ -66,6 +66,7 @@ pub(crate) fn decide_on_job<S: Alter>(
     ensures clean { HasCleanDisk (state S.Store store.new.conn) → HasCleanDisk (state S.Store store.old.conn) }
     ensures opens { OnOk result (StaysOpen (state S.Store store.old.conn) (state S.Store store.new.conn)) }
     ensures stays { Stays (state S.Store store.old.conn) (state S.Store store.new.conn) }
+    ensures crash { CommitsNothing (state S.Store store.old.conn) (state S.Store store.new.conn) }
     ensures decided { (m : Queue) (k : List Entry) → Means (state S.Store store.old.conn) m k
         → Serves (state S.Store store.new.conn)
         → IfOk result (Decides (on_job (settings_of office.now.setup office.now.controls) (aged t m) t
@@ -93,6 +94,7 @@ fn changed<S: Alter>(
     ensures clean { HasCleanDisk (state S.Store store.new.conn) → HasCleanDisk (state S.Store store.old.conn) }
     ensures opens { OnOk result (StaysOpen (state S.Store store.old.conn) (state S.Store store.new.conn)) }
     ensures stays { Stays (state S.Store store.old.conn) (state S.Store store.new.conn) }
+    ensures crash { CommitsNothing (state S.Store store.old.conn) (state S.Store store.new.conn) }
     ensures decided { (m : Queue) (k : List Entry) → Means (state S.Store store.old.conn) m k
         → Serves (state S.Store store.new.conn) → job_numbered job.job (aged t m) ≡ Some (job_of job)
         → IfOk result (Decides (change_step (settings_of office.now.setup office.now.controls) (aged t m) t
@@ -117,6 +119,7 @@ fn stands<S: Alter>(
     ensures clean { HasCleanDisk (state S.Store store.new.conn) → HasCleanDisk (state S.Store store.old.conn) }
     ensures opens { OnOk result (StaysOpen (state S.Store store.old.conn) (state S.Store store.new.conn)) }
     ensures stays { Stays (state S.Store store.old.conn) (state S.Store store.new.conn) }
+    ensures crash { CommitsNothing (state S.Store store.old.conn) (state S.Store store.new.conn) }
     ensures told { (m : Queue) (k : List Entry) → Means (state S.Store store.old.conn) m k
         → Serves (state S.Store store.new.conn) → IfOk result (λ reply. reply ≡ accepted_response
         (Replied (Stands job.now.job

@@ -8,7 +8,7 @@ ghost use Rattle.fax_core.specs.Ageing.{aged};
 ghost use Rattle.fax_core.specs.Job.{job_of};
 ghost use Rattle.fax_core.specs.Queue.{Queue, Entry, job_numbered, grant_numbered};
 ghost use Rattle.fax_job.specs.Limits.{last_grant, last_job};
-ghost use Rattle.fax_store.specs.Store.{Means, Serves, Stays, StaysOpen};
+ghost use Rattle.fax_store.specs.Store.{CommitsNothing, Means, Serves, Stays, StaysOpen};
 
 use fax_core::{Grant, aged_job};
 use fax_job::limits::{LAST_GRANT, LAST_JOB};
@@ -26,6 +26,7 @@ pub(crate) fn job_at<S: Alter>(
     ensures clean { HasCleanDisk (state S.Store store.new.conn) → HasCleanDisk (state S.Store store.old.conn) }
     ensures opens { OnOk result (StaysOpen (state S.Store store.old.conn) (state S.Store store.new.conn)) }
     ensures stays { Stays (state S.Store store.old.conn) (state S.Store store.new.conn) }
+    ensures crash { CommitsNothing (state S.Store store.old.conn) (state S.Store store.new.conn) }
     ensures found { (m : Queue) (k : List Entry) → Means (state S.Store store.old.conn) m k
         → Serves (state S.Store store.new.conn)
         → IfOk result (λ found. option_map (λ f. job_of f) found ≡ job_numbered number (aged t m)) }
@@ -49,6 +50,7 @@ pub(crate) fn grant_at<S: Alter>(
     ensures clean { HasCleanDisk (state S.Store store.new.conn) → HasCleanDisk (state S.Store store.old.conn) }
     ensures opens { OnOk result (StaysOpen (state S.Store store.old.conn) (state S.Store store.new.conn)) }
     ensures stays { Stays (state S.Store store.old.conn) (state S.Store store.new.conn) }
+    ensures crash { CommitsNothing (state S.Store store.old.conn) (state S.Store store.new.conn) }
     ensures found { (m : Queue) (k : List Entry) → Means (state S.Store store.old.conn) m k
         → Serves (state S.Store store.new.conn) → IfOk result (λ found. found ≡ grant_numbered number m) }
     ensures past { last_grant < number → result ≡ Ok None }

@@ -20,7 +20,7 @@ ghost use Rattle.fax_core.specs.declared.grants.Grant.{Grant as GrantOf};
 ghost use Rattle.fax_dest.specs.Setup.{delay_of};
 ghost use Rattle.fax_job.specs.Limits.{most_pages};
 ghost use Rattle.fax_store.specs.Grant.{IsSameGrant};
-ghost use Rattle.fax_store.specs.Store.{Means, Serves, Stays, StaysOpen};
+ghost use Rattle.fax_store.specs.Store.{CommitsNothing, Means, Serves, Stays, StaysOpen};
 ghost use Rattle.fax_decide.specs.Decision.{Decides};
 ghost use Rattle.fax_decide.specs.Report.{AreThere, report_both, report_step};
 ghost use Rattle.fax_decide.specs.Settings.{settings_of};
@@ -59,6 +59,7 @@ pub(crate) fn decide_report<S: Alter>(
     ensures clean { HasCleanDisk (state S.Store store.new.conn) → HasCleanDisk (state S.Store store.old.conn) }
     ensures opens { OnOk result (StaysOpen (state S.Store store.old.conn) (state S.Store store.new.conn)) }
     ensures stays { Stays (state S.Store store.old.conn) (state S.Store store.new.conn) }
+    ensures crash { CommitsNothing (state S.Store store.old.conn) (state S.Store store.new.conn) }
     ensures decided { (m : Queue) (k : List Entry) → Sound m → Means (state S.Store store.old.conn) m k
         → Serves (state S.Store store.new.conn)
         → IfOk result (Decides (report_step (settings_of office.now.setup office.now.controls) (aged t m) t
@@ -88,6 +89,7 @@ fn report_on<S: Alter>(
     ensures clean { HasCleanDisk (state S.Store store.new.conn) → HasCleanDisk (state S.Store store.old.conn) }
     ensures opens { OnOk result (StaysOpen (state S.Store store.old.conn) (state S.Store store.new.conn)) }
     ensures stays { Stays (state S.Store store.old.conn) (state S.Store store.new.conn) }
+    ensures crash { CommitsNothing (state S.Store store.old.conn) (state S.Store store.new.conn) }
     ensures decided { (m : Queue) (k : List Entry) → Sound m → Means (state S.Store store.old.conn) m k
         → Serves (state S.Store store.new.conn) → AreThere m t job grant → grant.confirmed ≤ most_pages
         → IfOk result (Decides (report_both (settings_of office.now.setup office.now.controls) (aged t m) t
@@ -232,6 +234,7 @@ fn decide_outcome<S: Alter>(
     ensures clean { HasCleanDisk (state S.Store store.new.conn) → HasCleanDisk (state S.Store store.old.conn) }
     ensures opens { OnOk result (StaysOpen (state S.Store store.old.conn) (state S.Store store.new.conn)) }
     ensures stays { Stays (state S.Store store.old.conn) (state S.Store store.new.conn) }
+    ensures crash { CommitsNothing (state S.Store store.old.conn) (state S.Store store.new.conn) }
     ensures decided { (m : Queue) (k : List Entry) → Sound m → Means (state S.Store store.old.conn) m k
         → Serves (state S.Store store.new.conn) → AreThere m t job grant
         → IfOk result (Decides (reported (aged t m)
@@ -260,6 +263,7 @@ fn ended<S: Alter>(
     ensures clean { HasCleanDisk (state S.Store store.new.conn) → HasCleanDisk (state S.Store store.old.conn) }
     ensures opens { OnOk result (StaysOpen (state S.Store store.old.conn) (state S.Store store.new.conn)) }
     ensures stays { Stays (state S.Store store.old.conn) (state S.Store store.new.conn) }
+    ensures crash { CommitsNothing (state S.Store store.old.conn) (state S.Store store.new.conn) }
     ensures decided { (m : Queue) (k : List Entry) → Sound m → Means (state S.Store store.old.conn) m k
         → Serves (state S.Store store.new.conn) → AreThere m t job grant.now → grant.now.is_open ≡ true
         → IfOk result (Decides (reported (aged t m)
@@ -289,6 +293,7 @@ fn stands<S: Alter>(
     ensures clean { HasCleanDisk (state S.Store store.new.conn) → HasCleanDisk (state S.Store store.old.conn) }
     ensures opens { OnOk result (StaysOpen (state S.Store store.old.conn) (state S.Store store.new.conn)) }
     ensures stays { Stays (state S.Store store.old.conn) (state S.Store store.new.conn) }
+    ensures crash { CommitsNothing (state S.Store store.old.conn) (state S.Store store.new.conn) }
     ensures told { (m : Queue) (k : List Entry) → Means (state S.Store store.old.conn) m k
         → Serves (state S.Store store.new.conn) → IfOk result (λ reply. reply ≡ accepted_response
         (Replied (Stands job.now.job (state_with (settings_of office.now.setup office.now.controls)

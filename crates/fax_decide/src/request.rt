@@ -7,7 +7,7 @@ ghost use Rattle.fax_core.specs.Machine.{step as step_of};
 ghost use Rattle.fax_core.specs.Queue.{Queue, Entry};
 ghost use Rattle.fax_core.specs.Sound.{Sound};
 ghost use Rattle.fax_tables.specs.Meta.{meta_of};
-ghost use Rattle.fax_store.specs.Store.{Means, Serves, Stays, StaysOpen};
+ghost use Rattle.fax_store.specs.Store.{CommitsNothing, Means, Serves, Stays, StaysOpen};
 ghost use Rattle.fax_decide.specs.Decision.{Decides};
 ghost use Rattle.fax_decide.specs.Settings.{settings_of};
 
@@ -38,6 +38,7 @@ pub fn decide<S: Alter>(
     ensures clean { HasCleanDisk (state S.Store store.new.conn) → HasCleanDisk (state S.Store store.old.conn) }
     ensures opens { OnOk result (StaysOpen (state S.Store store.old.conn) (state S.Store store.new.conn)) }
     ensures stays { Stays (state S.Store store.old.conn) (state S.Store store.new.conn) }
+    ensures crash { CommitsNothing (state S.Store store.old.conn) (state S.Store store.new.conn) }
     ensures decided { (m : Queue) (k : List Entry) → Sound m
         → Means (state S.Store store.old.conn) m k → Serves (state S.Store store.new.conn)
         → meta.now ≡ meta_of m

@@ -1,6 +1,7 @@
 pub mod SenderLemmas
 pub mod VerdictLemmas
 pub mod RequestLemmas
+mod StopLemmas
 mod ReadingLemmas
 pub mod OneVerdictLemmas
 pub mod AcceptedLemmas

@@ -111,13 +111,15 @@ view_answers (Ok reply) s a m k x what store is shown replied rests = (
 )
 view_answers (Err e) s a m k x what store is shown replied rests = rests
 
+-- what is posted comes to what is asked for
+pub is_post : (s : Settings) (a : Arrival) (m : Queue) (k : List Entry) (sender : Sender) (x : Asked) (ask : Ask)
+    → IsAsk a.method a.path.now a.body.now x → x ≡ Step ask → IsSender a sender → IsVerdict s a m k (asked_for s m k (post_of a sender.number ask))
+is_post s a m k sender x ask is asked from =
+    (Posts (post_of a sender.number ask), for_step a (request_of a.method a.path.now) sender.number ask from.number (subst (λ (y : Asked). IsAsk a.method a.path.now a.body.now y) asked is), refl)
+
 pub step_answers : {E : Type 0} (result : Result Response E) (s : Settings) (a : Arrival) (m : Queue) (k : List Entry) (sender : Sender) (x : Asked) (ask : Ask) (store : State)
     → IsAsk a.method a.path.now a.body.now x → x ≡ Step ask → IsSender a sender → LeavesBy m k result store (asked_for s m k (post_of a sender.number ask)) → Answers s a m k result store
-step_answers (Ok reply) s a m k sender x ask store is asked from leaves = (
-  asked_for s m k (post_of a sender.number ask),
-  (Posts (post_of a sender.number ask), for_step a (request_of a.method a.path.now) sender.number ask from.number (subst (λ (y : Asked). IsAsk a.method a.path.now a.body.now y) asked is), refl),
-  leaves,
-)
+step_answers (Ok reply) s a m k sender x ask store is asked from leaves = (asked_for s m k (post_of a sender.number ask), is_post s a m k sender x ask is asked from, leaves)
 step_answers (Err e) s a m k sender x ask store is asked from leaves = leaves
 
 pub sender_answers : {E : Type 0} (result : Result Response E) (s : Settings) (a : Arrival) (m : Queue) (k : List Entry) (x : Asked) (ask : Ask) (e : Refusal) (store : State)

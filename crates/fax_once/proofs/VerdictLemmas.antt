@@ -31,7 +31,7 @@ use Rattle.fax_decide.specs.declared.effect.Effect.{Effect}
 use Rattle.fax_once.specs.declared.sender.Sender.{Sender}
 
 -- what is asked for by an arrival under this number
-abbrev asked_by : Settings → Arrival → Queue → List Entry → ℕ → Ask → Verdict
+abbrev pub asked_by : Settings → Arrival → Queue → List Entry → ℕ → Ask → Verdict
 asked_by s a m k number ask = asked_for s m k (post_of a number ask)
 
 -- ---- repeats
@@ -58,7 +58,7 @@ repeated_leaves s a m k sender ask kept e reply store from found tells serves re
 
 -- ---- what is asked for
 
-unused_is : (s : Settings) (a : Arrival) (m : Queue) (k : List Entry) (number t : ℕ) (ask : Ask) → kept_for a.client.now number k ≡ None → t ≡ decided_at m.clock a.moment
+pub unused_is : (s : Settings) (a : Arrival) (m : Queue) (k : List Entry) (number t : ℕ) (ask : Ask) → kept_for a.client.now number k ≡ None → t ≡ decided_at m.clock a.moment
     → stepped (post_of a number ask) k (step s m t ask) ≡ asked_by s a m k number ask
 unused_is s a m k number t ask is now = rw is (ap (λ (u : ℕ). stepped (post_of a number ask) k (step s m u ask)) now)
 

@@ -3,6 +3,7 @@ pub use Rattle.fax_decide.specs.View
 pub mod Arrival
 pub mod Reading
 pub mod Verdict
+pub mod Stop
 pub mod Run
 pub mod Counts
 pub mod Laws

@@ -10,8 +10,9 @@ ghost use Rattle.fax_store.specs.Kept.{IsUnkept};
 ghost use Rattle.fax_tables.specs.Kept.{entry};
 ghost use Rattle.fax_tables.specs.Tables.{IsKeptStatus};
 ghost use Rattle.fax_store.specs.Store.{Means, Serves, Stays};
-ghost use Rattle.fax_store.specs.Work.{ChangesWhere, Holds, IsOnlyUnavailable};
+ghost use Rattle.fax_store.specs.Work.{ChangesWhere, Holds, IsOnlyUnavailable, Withholds};
 ghost use Rattle.fax_decide.specs.Effect.{IsWritable, Suits, accepted};
+ghost use Rattle.fax_once.specs.Stop.{MayLeave};
 
 use crate::sender::Sender;
 use fax_ask::Reply;
@@ -47,6 +48,10 @@ pub(crate) fn commit_accepted<S: Alter>(
         (λ _. Means (state S.Store store.new.conn) (accepted decided_at effect.now m)
         (k ++ entry sender.now.client.now sender.now.number said.now reply.now.status reply.now.body ∷ []))
         (λ _. Means (state S.Store store.new.conn) m k) }
+    ensures crash { (m : Queue) (k : List Entry) → Means (state S.Store store.old.conn) m k
+        → (Serves (state S.Store store.old.conn) → Suits effect.now (with_expired decided_at m))
+        → MayLeave (state S.Store store.old.conn) (state S.Store store.new.conn) (accepted decided_at effect.now m)
+        (k ++ entry sender.now.client.now sender.now.number said.now reply.now.status reply.now.body ∷ []) }
     ensures cause { (m : Queue) (k : List Entry) → Means (state S.Store store.old.conn) m k
         → (Serves (state S.Store store.old.conn) → IsWritable effect.now (with_expired decided_at m)
         × IsName sender.now.client.now × IsKeptStatus reply.now.status
@@ -74,6 +79,8 @@ fn write<S: Alter>(
     ensures clean { HasCleanDisk (state S.Store work.new.store.now.conn)
         → HasCleanDisk (state S.Store work.old.store.now.conn) }
     ensures holds { Holds (state S.Store work.old.store.now.conn) work.old.failed
+        (state S.Store work.new.store.now.conn) work.new.failed }
+    ensures crash { Withholds (state S.Store work.old.store.now.conn) work.old.failed
         (state S.Store work.new.store.now.conn) work.new.failed }
     ensures kept { OnOk result (IsKeptStatus reply.now.status) }
     ensures changes { ChangesWhere (λ m. Suits effect.now (with_expired decided_at m))

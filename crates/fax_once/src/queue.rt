@@ -22,7 +22,7 @@ ghost use Rattle.fax_core.specs.Sound.{Sound};
 ghost use Rattle.fax_store.specs.Job.{with_expired};
 ghost use Rattle.fax_store.specs.Kept.{HasReply, kept_for};
 ghost use Rattle.fax_tables.specs.Kept.{entry};
-ghost use Rattle.fax_store.specs.Store.{Means, Rests, Serves, Stays};
+ghost use Rattle.fax_store.specs.Store.{CommitsNothing, LeavesAlone, Means, Rests, Serves, Stays};
 ghost use Rattle.fax_tables.specs.Schema.{six_tables};
 ghost use Rattle.fax_tables.specs.Tables.{IsKeptStatus};
 ghost use Rattle.fax_once.specs.Laws.{IsSoundWith, RunsWell};
@@ -31,6 +31,7 @@ ghost use Rattle.fax_decide.specs.Settings.{settings_of};
 ghost use Rattle.fax_decide.specs.View.{view};
 ghost use Rattle.fax_once.specs.Arrival.{IsSender, number_of, said_of};
 ghost use Rattle.fax_once.specs.Reading.{post_of};
+ghost use Rattle.fax_once.specs.Stop.{MayLeave, Stops, StopsBy};
 ghost use Rattle.fax_once.specs.Verdict.{Answers, Handles, IsDecided, IsNotAccepted, IsUsed, IsVerdict, LeavesBy, Told, asked_for};
 ghost use Rattle.fax_once.specs.declared.arrival.Arrival.{Arrival as ArrivalOf};
 
@@ -43,7 +44,7 @@ use fax_decide::{Decision, Effect, Office, Unavailable, decide, show};
 use fax_dest::{Controls, Setup};
 use fax_job::{BodyFault, Moment, Refusal};
 use fax_store::{Kept, Meta, Store};
-use sqlite::Alter;
+use sqlite::{Alter, Connection};
 use std::alloc::{AllocError, Global};
 
 /// The send queue over a store, by an office's setup and destination controls.
@@ -92,6 +93,14 @@ impl<S: Alter> Queue<S> {
         ensures sound { (m : QueueOf) (k : List Entry) → Sound m
             → Means (state S.Store self.old.store.conn) m k
             → HasCleanDisk (state S.Store self.new.store.conn) → IsSoundWith k (state S.Store self.new.store.conn) }
+        // A crash leaves what a crash before could leave, or what the request makes, with its reply kept. While the
+        // store is open it leaves the last commit alone.
+        ensures crash { (m : QueueOf) (k : List Entry) → Sound m
+            → Means (state S.Store self.old.store.conn) m k
+            → Stops (settings_of self.old.office.setup self.old.office.controls) arrival.now m k
+            (state S.Store self.old.store.conn) (state S.Store self.new.store.conn) }
+        ensures alone { Serves (state S.Store self.new.store.conn)
+            → LeavesAlone (state S.Store self.new.store.conn) (state S.Store self.new.store.conn).committed.trees }
         // Whatever the rows say, a refusal changes nothing, a GET doesn't either, and nor does what comes under a used
         // number.
         ensures refused { ¬ IsKeptStatus result.status
@@ -122,6 +131,18 @@ impl<S: Alter> Queue<S> {
     {
         let arrival = Arrival::get(path, moment);
         self.handle(alloc, &arrival)
+    }
+
+    /// The database, as the queue has it.
+    pub fn close(self) -> Connection<S>
+        ensures { result ≡ self.store.conn }
+    {
+        let Queue {
+            store,
+            office: _,
+            routes: _,
+        } = self;
+        store.close()
     }
 
     /// Answers the arrivals one after the other. The room for their replies is taken first.
@@ -158,6 +179,10 @@ impl<S: Alter> Queue<S> {
             → Stays (state S.Store self.old.store.conn) (state S.Store self.new.store.conn) }
         ensures repeated { (db : Database) → db.schema ≡ six_tables → Rests (state S.Store self.old.store.conn) db
             → IsUsed arrival.now db → Rests (state S.Store self.new.store.conn) db }
+        ensures crash { (m : QueueOf) (k : List Entry) → Sound m
+            → Means (state S.Store self.old.store.conn) m k
+            → Stops (settings_of self.old.office.setup self.old.office.controls) arrival.now m k
+            (state S.Store self.old.store.conn) (state S.Store self.new.store.conn) }
         ensures answered { (m : QueueOf) (k : List Entry) → Sound m
             → Means (state S.Store self.old.store.conn) m k
             → HasCleanDisk (state S.Store self.new.store.conn)
@@ -189,6 +214,12 @@ impl<S: Alter> Queue<S> {
             → Stays (state S.Store self.old.store.conn) (state S.Store self.new.store.conn) }
         ensures repeated { (db : Database) → db.schema ≡ six_tables → Rests (state S.Store self.old.store.conn) db
             → IsUsed arrival.now db → Rests (state S.Store self.new.store.conn) db }
+        ensures crash { (m : QueueOf) (k : List Entry) → Sound m
+            → Means (state S.Store self.old.store.conn) m k
+            → IsAsk arrival.now.method arrival.now.path.now arrival.now.body.now ask
+            → IsLawful ask
+            → Stops (settings_of self.old.office.setup self.old.office.controls) arrival.now m k
+            (state S.Store self.old.store.conn) (state S.Store self.new.store.conn) }
         ensures answered { (m : QueueOf) (k : List Entry) → Sound m
             → Means (state S.Store self.old.store.conn) m k
             → HasCleanDisk (state S.Store self.new.store.conn)
@@ -216,6 +247,7 @@ impl<S: Alter> Queue<S> {
         ensures opens { OnOk result (HasCleanDisk (state S.Store self.new.store.conn)
             → Serves (state S.Store self.new.store.conn)) }
         ensures stays { Stays (state S.Store self.old.store.conn) (state S.Store self.new.store.conn) }
+        ensures crash { CommitsNothing (state S.Store self.old.store.conn) (state S.Store self.new.store.conn) }
         ensures viewed { (m : QueueOf) (k : List Entry) → Sound m → Means (state S.Store self.old.store.conn) m k
             → Serves (state S.Store self.new.store.conn) → IfOk result (λ reply. reply
             ≡ view (settings_of self.old.office.setup self.old.office.controls) m (decided_at m.clock moment) asked) }
@@ -240,6 +272,11 @@ impl<S: Alter> Queue<S> {
             → Stays (state S.Store self.old.store.conn) (state S.Store self.new.store.conn) }
         ensures repeated { (db : Database) → db.schema ≡ six_tables → Rests (state S.Store self.old.store.conn) db
             → HasReply db sender.now.client.now sender.now.number → Rests (state S.Store self.new.store.conn) db }
+        ensures crash { (m : QueueOf) (k : List Entry) → Sound m
+            → Means (state S.Store self.old.store.conn) m k → IsSender arrival.now sender.now
+            → StopsBy (state S.Store self.old.store.conn) (state S.Store self.new.store.conn)
+            (asked_for (settings_of self.old.office.setup self.old.office.controls) m k
+            (post_of arrival.now sender.now.number ask)) }
         ensures stepped { (m : QueueOf) (k : List Entry) → Sound m
             → Means (state S.Store self.old.store.conn) m k → HasCleanDisk (state S.Store self.new.store.conn)
             → IsSender arrival.now sender.now → IsLawfulStep ask
@@ -267,6 +304,12 @@ impl<S: Alter> Queue<S> {
             → HasCleanDisk (state S.Store self.old.store.conn) }
         ensures unchanged { IsNotAccepted result
             → Stays (state S.Store self.old.store.conn) (state S.Store self.new.store.conn) }
+        ensures crash { (m : QueueOf) (k : List Entry) → Sound m
+            → Means (state S.Store self.old.store.conn) m k → IsSender arrival.now sender.now
+            → (Serves (state S.Store self.old.store.conn) → kept_for sender.now.client.now sender.now.number k ≡ None)
+            → StopsBy (state S.Store self.old.store.conn) (state S.Store self.new.store.conn)
+            (asked_for (settings_of self.old.office.setup self.old.office.controls) m k
+            (post_of arrival.now sender.now.number ask)) }
         ensures stepped { (m : QueueOf) (k : List Entry) → Sound m
             → Means (state S.Store self.old.store.conn) m k
             → (HasCleanDisk (state S.Store self.old.store.conn) → Serves (state S.Store self.old.store.conn))
@@ -297,6 +340,12 @@ impl<S: Alter> Queue<S> {
             → HasCleanDisk (state S.Store self.old.store.conn) }
         ensures unchanged { IsNotAccepted result
             → Stays (state S.Store self.old.store.conn) (state S.Store self.new.store.conn) }
+        ensures crash { (s : Settings) (m : QueueOf) (k : List Entry) (want : MachineAsk)
+            → Means (state S.Store self.old.store.conn) m k → IsSender arrival.now sender.now
+            → (Serves (state S.Store self.old.store.conn)
+            → IsDecided s arrival.now m k sender.now t want decision)
+            → StopsBy (state S.Store self.old.store.conn) (state S.Store self.new.store.conn)
+            (asked_for s m k (post_of arrival.now sender.now.number want)) }
         ensures settled { (s : Settings) (m : QueueOf) (k : List Entry) (want : MachineAsk) → Sound m
             → Means (state S.Store self.old.store.conn) m k
             → (HasCleanDisk (state S.Store self.old.store.conn) → Serves (state S.Store self.old.store.conn))
@@ -333,6 +382,10 @@ impl<S: Alter> Queue<S> {
             → Serves (state S.Store self.new.store.conn)) }
         ensures unchanged { IsNotAccepted result
             → Stays (state S.Store self.old.store.conn) (state S.Store self.new.store.conn) }
+        ensures crash { (m : QueueOf) (k : List Entry) → Means (state S.Store self.old.store.conn) m k
+            → (Serves (state S.Store self.old.store.conn) → Suits effect.now (with_expired t m))
+            → MayLeave (state S.Store self.old.store.conn) (state S.Store self.new.store.conn) (accepted t effect.now m)
+            (k ++ entry sender.now.client.now sender.now.number (said_of arrival.now) reply.status reply.body ∷ []) }
         ensures accepted { (m : QueueOf) (k : List Entry) → Means (state S.Store self.old.store.conn) m k
             → (Serves (state S.Store self.old.store.conn) → Suits effect.now (with_expired t m))
             → MatchResult result

@@ -1,12 +1,13 @@
 -- What the statements do by which a store comes to a database.
-use Rattle.std.proofs.Common.{◌≡◌, ◌≤◌, inl, inr, ℕ, List, [], ◌∷◌, codes, length, map, filter, true, Ok, Err, IsErrAnd, Result, refl, sym, subst, ap, ◌∙◌, arith}
+use Rattle.std.proofs.Common.{◌≡◌, ◌≤◌, inl, inr, ℕ, List, [], ◌∷◌, codes, length, map, filter, true, IsTrue, false, Ok, Err, IsErrAnd, Result, refl, sym, subst, ap, ◌∙◌, arith}
 use Rattle.std.specs.List.Sorted.{IsPermutation}
 use Rattle.std.proofs.lemmas.List.Sorted.{IsPermutation-sym}
-use Rattle.sqlite.specs.Effect.{Database}
+use Rattle.sqlite.specs.Effect.{Database, IsDatabase}
 use Rattle.sqlite.specs.Order.{Row, column}
 use Rattle.sqlite.specs.View.{doubt}
 use Rattle.sqlite.specs.declared.error.Error.{Error}
-use Rattle.sqlite.specs.State.{State, HasCleanDisk, IsUnchanged, KeepsCommit, Shown, Executes}
+use Rattle.sqlite.specs.State.{State, HasCleanDisk, IsUnchanged, KeepsCommit, Shown, Executes, CommitsBy, Survives}
+use Rattle.sqlite_trees.specs.Tree.{Trees}
 use Rattle.sqlite.proofs.Callers.{one_permutation, reads_as}
 use Rattle.sqlite_schema.specs.declared.schema.Schema.{Schema}
 use Rattle.fax_core.specs.Queue.{Queue, Entry, empty_queue}
@@ -18,12 +19,15 @@ use Rattle.fax_tables.specs.Row.{number}
 use Rattle.fax_tables.specs.Schema.{no_tables, bare_tables, six_tables, meta_tree}
 use Rattle.fax_tables.specs.Tables.{GoesOn, HasEmptyTables, HasTablesAlone, IsAtRest, IsIndexed, RowsMean, TablesMean}
 use Rattle.fax_tables.proofs.CreateLemmas.{commit_kept, goes_on, kept_rows, none_at_first, refused_keeps}
-use Rattle.fax_tables.proofs.TablesLemmas.{rows_mean}
+use Rattle.fax_tables.proofs.StopLemmas.{nothing_then}
+use Rattle.fax_tables.proofs.TablesLemmas.{rows_mean, same_database}
+use Rattle.fax_tables.specs.Stop.{HoldsBack}
 use Rattle.fax_tables.proofs.SelectLemmas.{answers}
-use Rattle.fax_store.specs.Adopt.{HasIndexed, HasVersion, IsOurs, TakesTables, versions}
-use Rattle.fax_store.specs.Store.{GoesBack, Serves}
+use Rattle.fax_store.specs.Adopt.{AreIndexed, HasIndexed, HasVersion, IsOurs, MayMake, TakesTables, versions}
+use Rattle.fax_store.specs.Store.{CommitsNothing, GoesBack, RowsFound, Serves}
 use Rattle.fax_store.proofs.ControlLemmas.{begins, commits}
 use Rattle.fax_store.proofs.StatementTexts.{select_version, version_project}
+use Rattle.fax_store.proofs.StopLemmas.{begin_nothing, commit_makes}
 use Rattle.fax_store.proofs.StoreLemmas.{same_tables, served}
 
 -- where the commit is kept, a connection that serves did before
@@ -167,3 +171,68 @@ module _ (old new : State) (six : old.now.schema ≡ six_tables) (rows : List Ro
 
   pub version_shown : versions old.now ≡ number 1 ∷ [] → rows ≡ (number 1 ∷ []) ∷ []
   version_shown is = one_permutation (number 1 ∷ []) rows (subst (λ all. IsPermutation all rows) (in_one_row (old.now.trees meta_tree) is) shown_versions)
+
+-- ---- a stop
+
+-- nothing is committed, and so nothing is made
+pub makes_none : (old new : State) (Made : Trees → Type 0) → CommitsNothing old new → MayMake old new Made
+makes_none old new Made nothing found may = inl (nothing found may)
+
+-- the same after a call that commits nothing
+pub then_makes : (a b c : State) (Made : Trees → Type 0) → CommitsNothing a b → MayMake b c Made → MayMake a c Made
+then_makes a b c Made first next found may = elim (next found may) [ inl before ↦ inl (first found before) | inr made ↦ inr made ]
+
+pub makes_then : (a b c : State) (Made : Trees → Type 0) → MayMake a b Made → CommitsNothing b c → MayMake a c Made
+makes_then a b c Made first next found may = first found (next found may)
+
+pub makes_as : (a b : State) (Made Named : Trees → Type 0) → ((found : Trees) → Made found → Named found) → MayMake a b Made → MayMake a b Named
+makes_as a b Made Named named makes found may = elim (makes found may) [ inl before ↦ inl before | inr made ↦ inr (named found made) ]
+
+module _ (s0 s1 : State) (none : s0.now.schema ≡ no_tables) (n : ℕ) (survives : Survives s0 s1 (CommitsBy BEGIN.now [] s0)) (began : HasCleanDisk s1 → Executes BEGIN.now [] s0 s1 (Ok n)) (s2 : State) (made : HoldsBack (HasEmptyTables no_tables) s1 s2) where
+  -- making the tables commits nothing before its commit
+  pub tables_hold_back : CommitsNothing s0 s2
+  tables_hold_back = nothing_then s0 s1 s2 (begin_nothing s0 s1 survives) (made (λ clean. starts_empty s0 s1 none n (began clean)))
+
+  pub tables_stop : (HasCleanDisk s2 → HasCleanDisk s1) → (HasCleanDisk s2 → HasEmptyTables no_tables s1 → GoesOn s1 s2 × TablesMean s2.now empty_queue [])
+      → (s3 : State) → Survives s2 s3 (CommitsBy COMMIT.now [] s2) → MayMake s0 s3 (λ found. RowsFound found empty_queue [])
+  tables_stop cleaner done s3 committing found may =
+      let here : HasCleanDisk s2 → GoesOn s1 s2 × TablesMean s2.now empty_queue [] = λ clean. done clean (starts_empty s0 s1 none n (began (cleaner clean))) in
+      elim (commit_makes s2 s3 committing (λ clean. (here clean).0.mode) found may) [
+        | inl before ↦ inl (tables_hold_back found before)
+        | inr it ↦ inr (s2.now, sym it.1, (here it.0).1)
+      ]
+
+module _ (s0 s1 : State) (alone : s0.now.schema ≡ bare_tables) (n : ℕ) (survives : Survives s0 s1 (CommitsBy BEGIN.now [] s0)) (began : HasCleanDisk s1 → Executes BEGIN.now [] s0 s1 (Ok n)) (s2 : State) (made : HoldsBack HasTablesAlone s1 s2) where
+  -- nor does making the indexes
+  pub indexes_hold_back : CommitsNothing s0 s2
+  indexes_hold_back = nothing_then s0 s1 s2 (begin_nothing s0 s1 survives) (made (λ clean. starts_alone s0 s1 alone n (began clean)))
+
+  pub indexes_stop : (HasCleanDisk s2 → HasCleanDisk s1) → (HasCleanDisk s2 → HasTablesAlone s1 → GoesOn s1 s2 × IsIndexed s1.now s2.now)
+      → (s3 : State) → (HasCleanDisk s3 → HasCleanDisk s2) → CommitsNothing s2 s3 → (HasCleanDisk s3 → HasVersion s2.now × IsUnchanged s2 s3)
+      → (s4 : State) → Survives s3 s4 (CommitsBy COMMIT.now [] s3) → MayMake s0 s4 (AreIndexed s0.now)
+  indexes_stop cleaner done s3 cleaned tests tested s4 committing found may =
+      let on : HasCleanDisk s3 → GoesOn s0 s2 = λ clean. goes_on_indexed s0 s1 alone n (began (cleaner (cleaned clean))) s2 (done (cleaned clean)) in
+      elim (commit_makes s3 s4 committing (λ clean. (tested clean).1.0.mode ∙ (on clean).mode) found may) [
+        | inl before ↦ inl (indexes_hold_back found (tests found before))
+        | inr it ↦
+            (let clean = it.0 in
+            let test = tested clean in
+            let starting = began (cleaner (cleaned clean)) in
+            inr (s2.now, sym (it.1 ∙ ap (λ (d : Database). d.trees) test.1.0.now_is), was_ours s0 s1 alone n starting s2 (done (cleaned clean)) test.0, is_indexed s0 s1 alone n starting s2 (done (cleaned clean))))
+      ]
+
+-- Rows have one meaning: the tables of any database that has them are ours, where those of one are.
+pub rows_reopened : (db : Database) (m : Queue) (k : List Entry) → RowsFound db.trees m k → IsDatabase db → TablesMean db m k
+rows_reopened db m k rows sound = same_tables m k (same_database db rows.0 (sym rows.1) sound rows.2.sound) rows.2
+
+-- so a store that takes a database with such rows means what they mean
+pub reopened : (old new : State) (m : Queue) (k : List Entry) → old.in_transaction ≡ false → (IsTrue old.is_open → old.now ≡ old.committed) → TablesMean old.now m k → TakesTables old new → IsAtRest new m k
+reopened old new m k autocommit settled means (inl made) =
+    let sizes : 0 ≡ 6 = ap (λ (s : Schema). length s.tables) (sym made.0 ∙ means.schema) in
+    absurd (omega (arith, sizes))
+reopened old new m k autocommit settled means (inr (ours, inl kept)) =
+    let same = kept.1.0 in
+    record { autocommit = same.mode ∙ autocommit; settled = same.now_is ∙ settled same.was_open ∙ sym same.committed_is; means = same_tables m k same.now_is means }
+reopened old new m k autocommit settled means (inr (ours, inr got)) =
+    let sizes : 5 ≡ 7 = ap (λ (s : Schema). length s.indexes) (sym got.0 ∙ means.schema) in
+    absurd (omega (arith, sizes))

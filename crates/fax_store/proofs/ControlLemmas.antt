@@ -16,19 +16,19 @@ use Rattle.sqlite_tied.specs.Compute.{everything}
 use Rattle.fax_store.specs.declared.store.TheConstants.{BEGIN, COMMIT, ROLLBACK}
 
 -- the text is this command, with no parameters
-abbrev IsControl : List ℕ → Command → Result Compiled CompileError → Type 0
+abbrev pub IsControl : List ℕ → Command → Result Compiled CompileError → Type 0
 IsControl sql command (Ok c) = (c.command ≡ command) × (c.returning ≡ None) × (c.names ≡ []) × (c.formats ≡ []) × (nat_le (length sql) c.tail ≡ true)
 IsControl sql command (Err e) = ⊥
 
-begin_is : (schema : Schema) → IsControl BEGIN.now Begin (understood schema BEGIN.now)
+pub begin_is : (schema : Schema) → IsControl BEGIN.now Begin (understood schema BEGIN.now)
 unfolding understood everything
 begin_is schema = (refl, refl, refl, refl, refl)
 
-commit_is : (schema : Schema) → IsControl COMMIT.now Commit (understood schema COMMIT.now)
+pub commit_is : (schema : Schema) → IsControl COMMIT.now Commit (understood schema COMMIT.now)
 unfolding understood everything
 commit_is schema = (refl, refl, refl, refl, refl)
 
-rollback_is : (schema : Schema) → IsControl ROLLBACK.now Rollback (understood schema ROLLBACK.now)
+pub rollback_is : (schema : Schema) → IsControl ROLLBACK.now Rollback (understood schema ROLLBACK.now)
 unfolding understood everything
 rollback_is schema = (refl, refl, refl, refl, refl)
 

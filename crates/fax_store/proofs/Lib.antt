@@ -2,6 +2,8 @@ pub mod StatementTexts
 pub mod ControlLemmas
 pub mod StoreLemmas
 pub mod StatementLemmas
+pub mod ShownLemmas
+pub mod StopLemmas
 pub mod MetaLemmas
 pub mod WorkLemmas
 pub mod KeptLemmas

@@ -9,7 +9,8 @@ use Rattle.fax_core.specs.Queue.{empty_queue}
 use Rattle.fax_tables.specs.Row.{number}
 use Rattle.fax_tables.specs.Schema.{no_tables, bare_tables, six_tables, meta_tree}
 use Rattle.fax_tables.specs.Tables.{IsAtRest, IsIndexed}
-use Rattle.fax_store.specs.Store.{HasRows}
+use Rattle.sqlite_trees.specs.Tree.{Trees}
+use Rattle.fax_store.specs.Store.{HasRows, MayFind, RowsFound}
 
 -- the version in each row of meta
 abbrev pub versions : Database → List Value
@@ -52,3 +53,17 @@ abbrev pub TakesTables : State → State → Type 0
 TakesTables old new =
     ((old.now.schema ≡ no_tables) × IsAtRest new empty_queue [])
     ⊎ (IsOurs old.now × (((old.now.schema ≡ six_tables) × IsUnchanged old new) ⊎ ((old.now.schema ≡ bare_tables) × HasIndexed new old.now)))
+
+-- ---- a stop
+
+-- these are the rows that the database had, with the indexes
+abbrev pub AreIndexed : Database → Trees → Type 0
+AreIndexed db found = (after : Database) × (after.trees ≡ found) × IsOurs db × IsIndexed db after
+
+-- what adopting makes of a database: the rows of an empty store where it had no tables, or those that it had with the indexes
+abbrev pub AreAdopted : Database → Trees → Type 0
+AreAdopted db found = ((db.schema ≡ no_tables) × RowsFound found empty_queue []) ⊎ AreIndexed db found
+
+-- A crash leaves what a crash before could leave, or rows of which this holds.
+abbrev pub MayMake : State → State → (Trees → Type 0) → Type 0
+MayMake old new Made = (found : Trees) → MayFind new found → MayFind old found ⊎ Made found

@@ -10,11 +10,13 @@ use Rattle.sqlite.specs.State.{State, HasCleanDisk, IsUnchanged, IsRolledBack, S
 use Rattle.sqlite_resolve.specs.declared.compiled.Compiled.{Compiled}
 use Rattle.sqlite_resolve.specs.declared.error.CompileError.{CompileError}
 use Rattle.sqlite_rules.specs.Lists.{Has}
+use Rattle.sqlite_trees.specs.Tree.{Trees}
 use Rattle.sqlite.specs.declared.error.Error.{Error}
 use Rattle.fax_tables.specs.declared.fault.StoreFault.{StoreFault}
 use Rattle.fax_tables.specs.Fault.{fault_of}
 use Rattle.fax_core.specs.Queue.{Queue, Entry}
 use Rattle.fax_tables.specs.Schema.{six_tables}
+pub use Rattle.fax_tables.specs.Stop.{MayFind, CommitsNothing}
 use Rattle.fax_tables.specs.Tables.{TablesMean, IsAtRest}
 
 -- The disk has returned what was written, and no fault of it has shut the database. Both hold of memory.
@@ -42,10 +44,6 @@ Rests s db = Serves s → HasRows s db
 abbrev pub Stays : State → State → Type 0
 Stays old new = (db : Database) → db.schema ≡ six_tables → Rests old db → Rests new db
 
--- the same of a store that served before, where it still does, and whose disk was clean, where it still is
-abbrev pub StaysAsItWas : State → State → Type 0
-StaysAsItWas old new = (Serves new → Serves old) × Stays old new × (HasCleanDisk new → HasCleanDisk old)
-
 -- what is not committed is undone
 abbrev pub GoesBack : State → State → Type 0
 GoesBack old new = (db : Database) → (Serves old → old.committed ≡ db) → Rests new db
@@ -53,6 +51,20 @@ GoesBack old new = (db : Database) → (Serves old → old.committed ≡ db) →
 -- a store that served serves still, as long as the disk is clean
 abbrev pub StaysOpen : State → State → Type 0
 StaysOpen old new = HasCleanDisk new → Serves old → Serves new
+
+-- ---- a stop
+
+-- a database with these rows means this queue and these kept replies
+abbrev pub RowsFound : Trees → Queue → List Entry → Type 0
+RowsFound found m k = (db : Database) × (db.trees ≡ found) × TablesMean db m k
+
+-- a crash leaves just this
+abbrev pub LeavesAlone : State → Trees → Type 0
+LeavesAlone s db = (found : Trees) → s.may_leave found → found ≡ db
+
+-- the rows stay, nothing is committed, a store that serves did before, and a disk that is clean was
+abbrev pub StaysAsItWas : State → State → Type 0
+StaysAsItWas old new = (Serves new → Serves old) × Stays old new × (HasCleanDisk new → HasCleanDisk old) × CommitsNothing old new
 
 -- ---- statements
 

@@ -1,14 +1,15 @@
 -- What a work shows.
-use Rattle.std.specs.Prelude.{◌≡◌, Bool, false, List, Result, MatchResult, IfErr, IsTrue}
+use Rattle.std.specs.Prelude.{◌≡◌, ◌⊎◌, Bool, false, List, Result, MatchResult, IfErr, IsTrue}
 use Rattle.sqlite.specs.Effect.{Database}
-use Rattle.sqlite.specs.State.{State}
+use Rattle.sqlite.specs.State.{State, HasCleanDisk}
 use Rattle.fax_tables.specs.declared.fault.StoreFault.{StoreFault}
 use Rattle.fax_tables.specs.declared.fault.StoreFault.TheVariants.{Unavailable}
 use Rattle.fax_tables.specs.Fault.{OrUnavailable}
 use Rattle.fax_core.specs.Queue.{Queue, Entry}
 use Rattle.fax_tables.specs.Schema.{six_tables}
 use Rattle.fax_tables.specs.Tables.{TablesMean}
-use Rattle.fax_store.specs.Store.{Serves, Means, Rests}
+use Rattle.sqlite_trees.specs.Tree.{Trees}
+use Rattle.fax_store.specs.Store.{Serves, Means, Rests, HasTables, MayFind, CommitsNothing}
 
 -- ---- the rows, whatever they say
 
@@ -28,6 +29,30 @@ Holds old failed new failed_after = (db : Database) → (Serves old → IsOver o
 -- the store has the rows at which the work began
 abbrev pub Forgets : State → Bool → State → Type 0
 Forgets old failed new = (db : Database) → (Serves old → IsOver old failed db) → Rests new db
+
+-- ---- a stop
+
+-- the work is under way in an open database with the six tables
+pub record IsOn (s : State) : Type 0 where
+  pub is_open : IsTrue s.is_open
+  pub inside : IsTrue s.in_transaction
+  pub schema_is : s.now.schema ≡ six_tables
+
+-- so it is unless a call of it was refused, as long as the disk is clean
+abbrev pub IsActive : State → Bool → Type 0
+IsActive s failed = HasCleanDisk s → failed ≡ false → IsOn s
+
+-- a work that begins over the six tables is active, and nothing is committed
+abbrev pub Opens : State → State → Bool → Type 0
+Opens old new failed = ((Serves old → HasTables old) → IsActive new failed) × CommitsNothing old new
+
+-- a call of an active work commits nothing, and leaves it active unless it is refused
+abbrev pub Withholds : State → Bool → State → Bool → Type 0
+Withholds old failed new failed_after = IsActive old failed → IsActive new failed_after × CommitsNothing old new
+
+-- A crash behind a commit leaves what a crash before could leave, or the tables of the work.
+abbrev pub MayCommit : State → Bool → State → Type 0
+MayCommit old failed new = IsActive old failed → (found : Trees) → MayFind new found → MayFind old found ⊎ ((failed ≡ false) × IsOn old × (found ≡ old.now.trees))
 
 -- ---- what they mean
 

@@ -1,11 +1,12 @@
 //! How a store comes to a database, and how it gives it back.
 
 ghost use Rattle.std.specs.Prelude.{◌≡◌, false, [], Err, IfErr, IfOk, List, OnErr, OnOk};
+ghost use Rattle.sqlite.specs.Effect.{IsDatabase};
 ghost use Rattle.sqlite.specs.Held.{state};
 ghost use Rattle.sqlite.specs.State.{HasCleanDisk, IsUnchanged, KeepsCommit};
 ghost use Rattle.fax_core.specs.Queue.{Queue, Entry, empty_queue};
-ghost use Rattle.fax_store.specs.Adopt.{Adopts, HasIndexed, HasVersion, IsAdoptable, IsOurs, TakesTables};
-ghost use Rattle.fax_store.specs.Store.{GoesBack, Means, Serves};
+ghost use Rattle.fax_store.specs.Adopt.{Adopts, AreAdopted, AreIndexed, HasIndexed, HasVersion, IsAdoptable, IsOurs, MayMake, TakesTables};
+ghost use Rattle.fax_store.specs.Store.{CommitsNothing, GoesBack, LeavesAlone, Means, RowsFound, Serves};
 ghost use Rattle.fax_tables.specs.Schema.{bare_tables, no_tables};
 ghost use Rattle.fax_tables.specs.Tables.{IsAtRest, RowsMean};
 
@@ -45,6 +46,17 @@ impl<S: Alter> Store<S> {
             HasCleanDisk (state S.Store store.conn) → HasCleanDisk (state S.Store conn)) }
         ensures opens { IfOk result (λ store.
             HasCleanDisk (state S.Store store.conn) → Serves (state S.Store store.conn)) }
+        ensures reopens { IfOk result (λ store. (m : Queue) (k : List Entry)
+            → RowsFound (state S.Store conn).now.trees m k → IsDatabase (state S.Store conn).now
+            → Means (state S.Store store.conn) m k) }
+        ensures crash { IfOk result (λ store.
+            MayMake (state S.Store conn) (state S.Store store.conn) (AreAdopted (state S.Store conn).now)) }
+        ensures alone { IfOk result (λ store. Serves (state S.Store store.conn)
+            → LeavesAlone (state S.Store store.conn) (state S.Store store.conn).committed.trees) }
+        ensures crash_before { IfErr result (λ e.
+            MayMake (state S.Store conn) (state S.Store e.1) (AreAdopted (state S.Store conn).now)) }
+        ensures nothing { IfErr result (λ e. e.0 ≡ StoreFault.Strange
+            → CommitsNothing (state S.Store conn) (state S.Store e.1)) }
         ensures back { IfErr result (λ e. GoesBack (state S.Store conn) (state S.Store e.1)) }
         ensures served_before { IfErr result (λ e. Serves (state S.Store e.1) → Serves (state S.Store conn)) }
         ensures clean_before { IfErr result (λ e.
@@ -83,6 +95,8 @@ impl<S: Alter> Store<S> {
         ensures served { Serves (state S.Store self.new.conn) → Serves (state S.Store self.old.conn) }
         ensures clean { HasCleanDisk (state S.Store self.new.conn) → HasCleanDisk (state S.Store self.old.conn) }
         ensures opens { OnOk result (HasCleanDisk (state S.Store self.new.conn) → Serves (state S.Store self.new.conn)) }
+        ensures crash { MayMake (state S.Store self.old.conn) (state S.Store self.new.conn) (AreAdopted (state S.Store self.old.conn).now) }
+        ensures nothing { result ≡ Err StoreFault.Strange → CommitsNothing (state S.Store self.old.conn) (state S.Store self.new.conn) }
         ensures strange { HasCleanDisk (state S.Store self.new.conn) → result ≡ Err StoreFault.Strange
             → ¬ IsAdoptable (state S.Store self.old.conn).now }
     {
@@ -105,6 +119,7 @@ impl<S: Alter> Store<S> {
         ensures served { Serves (state S.Store self.new.conn) → Serves (state S.Store self.old.conn) }
         ensures clean { HasCleanDisk (state S.Store self.new.conn) → HasCleanDisk (state S.Store self.old.conn) }
         ensures opens { OnOk result (HasCleanDisk (state S.Store self.new.conn) → Serves (state S.Store self.new.conn)) }
+        ensures crash { MayMake (state S.Store self.old.conn) (state S.Store self.new.conn) (λ found. RowsFound found empty_queue []) }
         ensures cause { IfErr result (λ fault. fault ≡ StoreFault.Unavailable) }
     {
         self.conn.execute(BEGIN, &[])?;
@@ -125,6 +140,8 @@ impl<S: Alter> Store<S> {
         ensures served { Serves (state S.Store self.new.conn) → Serves (state S.Store self.old.conn) }
         ensures clean { HasCleanDisk (state S.Store self.new.conn) → HasCleanDisk (state S.Store self.old.conn) }
         ensures opens { OnOk result (HasCleanDisk (state S.Store self.new.conn) → Serves (state S.Store self.new.conn)) }
+        ensures crash { MayMake (state S.Store self.old.conn) (state S.Store self.new.conn) (AreIndexed (state S.Store self.old.conn).now) }
+        ensures nothing { result ≡ Err StoreFault.Strange → CommitsNothing (state S.Store self.old.conn) (state S.Store self.new.conn) }
         ensures strange { HasCleanDisk (state S.Store self.new.conn) → result ≡ Err StoreFault.Strange
             → ¬ IsOurs (state S.Store self.old.conn).now }
     {
@@ -145,6 +162,7 @@ impl<S: Alter> Store<S> {
         ensures served { Serves (state S.Store self.new.conn) → Serves (state S.Store self.old.conn) }
         ensures clean { HasCleanDisk (state S.Store self.new.conn) → HasCleanDisk (state S.Store self.old.conn) }
         ensures opens { OnOk result (HasCleanDisk (state S.Store self.new.conn) → Serves (state S.Store self.new.conn)) }
+        ensures crash { CommitsNothing (state S.Store self.old.conn) (state S.Store self.new.conn) }
         ensures strange { HasCleanDisk (state S.Store self.new.conn) → result ≡ Err StoreFault.Strange
             → ¬ HasVersion (state S.Store self.old.conn).now }
     {

@@ -10,7 +10,7 @@ ghost use Rattle.fax_job.specs.declared.job.JobFields.{JobFields};
 ghost use Rattle.fax_store.specs.contracts.store.Store.{the_row};
 ghost use Rattle.fax_store.specs.Candidates.{Gives, IsPage, StandsAt};
 ghost use Rattle.fax_store.specs.Job.{IsWaiting};
-ghost use Rattle.fax_store.specs.Store.{Serves, Means, MeansNow, HasTables, Reads, Stays, StaysAsItWas};
+ghost use Rattle.fax_store.specs.Store.{CommitsNothing, Serves, Means, MeansNow, HasTables, Reads, Stays, StaysAsItWas};
 ghost use Rattle.fax_tables.specs.Fault.{OrUnavailable};
 
 use crate::store::Store;
@@ -59,6 +59,8 @@ impl<S: Alter> Store<S> {
             HasCleanDisk (state S.Store found.store.now.conn) → Serves (state S.Store found.store.now.conn)) }
         ensures stays { IfOk result (λ found.
             Stays (state S.Store self.old.conn) (state S.Store found.store.now.conn)) }
+        ensures crash { IfOk result (λ found.
+            CommitsNothing (state S.Store self.old.conn) (state S.Store found.store.now.conn)) }
         ensures moment { IfOk result (λ found. found.t ≡ t) }
         ensures stands { (m : Queue) (k : List Entry) → Means (state S.Store self.old.conn) m k
             → IfOk result (λ found. Serves (state S.Store found.store.now.conn)
@@ -79,6 +81,7 @@ impl<S: Alter> Store<S> {
         ensures clean { HasCleanDisk (state S.Store self.new.conn) → HasCleanDisk (state S.Store self.old.conn) }
         ensures opens { OnOk result (HasCleanDisk (state S.Store self.new.conn) → Serves (state S.Store self.new.conn)) }
         ensures stays { Stays (state S.Store self.old.conn) (state S.Store self.new.conn) }
+        ensures crash { CommitsNothing (state S.Store self.old.conn) (state S.Store self.new.conn) }
         ensures found { (m : Queue) (k : List Entry) → Means (state S.Store self.old.conn) m k
             → Serves (state S.Store self.new.conn) → OrUnavailable result (λ found. IsPage t m most skip found.items) }
     {
@@ -91,6 +94,7 @@ impl<S: Alter> Store<S> {
         ensures opens { OnOk result (HasCleanDisk (state S.Store self.new.conn) → Serves (state S.Store self.new.conn)) }
         ensures reads { HasTables (state S.Store self.old.conn) → HasCleanDisk (state S.Store self.new.conn)
             → Reads (state S.Store self.old.conn) (state S.Store self.new.conn) result }
+        ensures crash { CommitsNothing (state S.Store self.old.conn) (state S.Store self.new.conn) }
         ensures answers { (m : Queue) (k : List Entry) → MeansNow (state S.Store self.old.conn) m k
             → Serves (state S.Store self.new.conn) → OrUnavailable result (λ found. IsPage t m most skip found.items) }
     {
@@ -112,6 +116,7 @@ impl<S: Alter> Candidates<'_, S> {
         ensures clean { HasCleanDisk (state S.Store self.new.store.now.conn) → HasCleanDisk (state S.Store self.old.store.now.conn) }
         ensures opens { OnOk result (HasCleanDisk (state S.Store self.new.store.now.conn) → Serves (state S.Store self.new.store.now.conn)) }
         ensures stays { Stays (state S.Store self.old.store.now.conn) (state S.Store self.new.store.now.conn) }
+        ensures crash { CommitsNothing (state S.Store self.old.store.now.conn) (state S.Store self.new.store.now.conn) }
         ensures moment { self.new.t ≡ self.old.t }
         ensures found { (m : Queue) (k : List Entry) (given : List JobFields) → Means (state S.Store self.old.store.now.conn) m k
             → Serves (state S.Store self.new.store.now.conn)
@@ -134,6 +139,7 @@ impl<S: Alter> Candidates<'_, S> {
         ensures opens { OnOk result (into_iter_items self.new.page ≡ []
             → HasCleanDisk (state S.Store self.new.store.now.conn) → Serves (state S.Store self.new.store.now.conn)) }
         ensures stays { Stays (state S.Store self.old.store.now.conn) (state S.Store self.new.store.now.conn) }
+        ensures crash { CommitsNothing (state S.Store self.old.store.now.conn) (state S.Store self.new.store.now.conn) }
         ensures moment { self.new.t ≡ self.old.t }
         ensures found { (m : Queue) (k : List Entry) (given : List JobFields) → Means (state S.Store self.old.store.now.conn) m k
             → Serves (state S.Store self.new.store.now.conn)

@@ -9,8 +9,8 @@ ghost use Rattle.fax_core.specs.Queue.{Queue, Entry, grant_numbered};
 ghost use Rattle.fax_core.specs.State.{calls_to};
 ghost use Rattle.fax_job.specs.Limits.{most_pages};
 ghost use Rattle.fax_store.specs.Grant.{IsNewGrant, IsReport, with_placed, with_one_more_grant, with_closed};
-ghost use Rattle.fax_store.specs.Store.{Serves, Means, MeansNow, HasTables, Reads, Stays};
-ghost use Rattle.fax_store.specs.Work.{Holds, Works, Keeps, Changes, ChangesWhere, AnswersIn, IsOnlyUnavailable, Moves, Steps};
+ghost use Rattle.fax_store.specs.Store.{CommitsNothing, Serves, Means, MeansNow, HasTables, Reads, Stays};
+ghost use Rattle.fax_store.specs.Work.{Holds, Works, Keeps, Changes, ChangesWhere, AnswersIn, IsOnlyUnavailable, Moves, Steps, Withholds};
 ghost use Rattle.fax_tables.specs.Fault.{OrUnavailable};
 ghost use Rattle.fax_tables.specs.Grant.{as_hold, IsWithinLimits, IsLawfulHold, IsOpenGrant};
 
@@ -53,6 +53,7 @@ impl<S: Alter> Store<S> {
         ensures clean { HasCleanDisk (state S.Store self.new.conn) → HasCleanDisk (state S.Store self.old.conn) }
         ensures opens { OnOk result (HasCleanDisk (state S.Store self.new.conn) → Serves (state S.Store self.new.conn)) }
         ensures stays { Stays (state S.Store self.old.conn) (state S.Store self.new.conn) }
+        ensures crash { CommitsNothing (state S.Store self.old.conn) (state S.Store self.new.conn) }
         ensures found { (m : Queue) (k : List Entry) → Means (state S.Store self.old.conn) m k
             → Serves (state S.Store self.new.conn) → OrUnavailable result (λ found. found ≡ option_map as_hold (held_by modem.now m)) }
         ensures lawful { IfOk result (λ found. IfSome found IsLawfulHold) }
@@ -66,6 +67,7 @@ impl<S: Alter> Store<S> {
         ensures opens { OnOk result (HasCleanDisk (state S.Store self.new.conn) → Serves (state S.Store self.new.conn)) }
         ensures reads { HasTables (state S.Store self.old.conn) → HasCleanDisk (state S.Store self.new.conn)
             → Reads (state S.Store self.old.conn) (state S.Store self.new.conn) result }
+        ensures crash { CommitsNothing (state S.Store self.old.conn) (state S.Store self.new.conn) }
         ensures answers { (m : Queue) (k : List Entry) → MeansNow (state S.Store self.old.conn) m k
             → Serves (state S.Store self.new.conn) → OrUnavailable result (λ found. found ≡ option_map as_hold (held_by modem.now m)) }
         ensures lawful { IfOk result (λ found. IfSome found IsLawfulHold) }
@@ -86,6 +88,7 @@ impl<S: Alter> Store<S> {
         ensures clean { HasCleanDisk (state S.Store self.new.conn) → HasCleanDisk (state S.Store self.old.conn) }
         ensures opens { OnOk result (HasCleanDisk (state S.Store self.new.conn) → Serves (state S.Store self.new.conn)) }
         ensures stays { Stays (state S.Store self.old.conn) (state S.Store self.new.conn) }
+        ensures crash { CommitsNothing (state S.Store self.old.conn) (state S.Store self.new.conn) }
         ensures found { (m : Queue) (k : List Entry) → Means (state S.Store self.old.conn) m k
             → Serves (state S.Store self.new.conn) → OrUnavailable result (λ found. found ≡ grant_numbered number m) }
         ensures lawful { IfOk result (λ found. IfSome found IsWithinLimits) }
@@ -99,6 +102,7 @@ impl<S: Alter> Store<S> {
         ensures opens { OnOk result (HasCleanDisk (state S.Store self.new.conn) → Serves (state S.Store self.new.conn)) }
         ensures reads { HasTables (state S.Store self.old.conn) → HasCleanDisk (state S.Store self.new.conn)
             → Reads (state S.Store self.old.conn) (state S.Store self.new.conn) result }
+        ensures crash { CommitsNothing (state S.Store self.old.conn) (state S.Store self.new.conn) }
         ensures answers { (m : Queue) (k : List Entry) → MeansNow (state S.Store self.old.conn) m k
             → Serves (state S.Store self.new.conn) → OrUnavailable result (λ found. found ≡ grant_numbered number m) }
         ensures lawful { IfOk result (λ found. IfSome found IsWithinLimits) }
@@ -119,6 +123,7 @@ impl<S: Alter> Store<S> {
         ensures clean { HasCleanDisk (state S.Store self.new.conn) → HasCleanDisk (state S.Store self.old.conn) }
         ensures opens { OnOk result (HasCleanDisk (state S.Store self.new.conn) → Serves (state S.Store self.new.conn)) }
         ensures stays { Stays (state S.Store self.old.conn) (state S.Store self.new.conn) }
+        ensures crash { CommitsNothing (state S.Store self.old.conn) (state S.Store self.new.conn) }
         ensures found { (m : Queue) (k : List Entry) → Means (state S.Store self.old.conn) m k
             → Serves (state S.Store self.new.conn) → OrUnavailable result (λ calls. calls ≡ calls_to dial.now m) }
     {
@@ -131,6 +136,7 @@ impl<S: Alter> Store<S> {
         ensures opens { OnOk result (HasCleanDisk (state S.Store self.new.conn) → Serves (state S.Store self.new.conn)) }
         ensures reads { HasTables (state S.Store self.old.conn) → HasCleanDisk (state S.Store self.new.conn)
             → Reads (state S.Store self.old.conn) (state S.Store self.new.conn) result }
+        ensures crash { CommitsNothing (state S.Store self.old.conn) (state S.Store self.new.conn) }
         ensures answers { (m : Queue) (k : List Entry) → MeansNow (state S.Store self.old.conn) m k
             → Serves (state S.Store self.new.conn) → OrUnavailable result (λ calls. calls ≡ calls_to dial.now m) }
         ensures cause { IfErr result (λ fault. fault ≡ StoreFault.Unavailable) }
@@ -143,6 +149,7 @@ impl<S: Alter> Store<S> {
         ensures served { Serves (state S.Store self.new.conn) → Serves (state S.Store self.old.conn) }
         ensures clean { HasCleanDisk (state S.Store self.new.conn) → HasCleanDisk (state S.Store self.old.conn) }
         ensures holds { Holds (state S.Store self.old.conn) false (state S.Store self.new.conn) (is_err result) }
+        ensures crash { Withholds (state S.Store self.old.conn) false (state S.Store self.new.conn) (is_err result) }
         ensures written { (m₀ m : Queue) (k₀ k : List Entry) → Works (state S.Store self.old.conn) false m₀ k₀ m k
             → Serves (state S.Store self.new.conn) → IsOpenGrant grant.now
             → Moves (state S.Store self.new.conn) result m₀ k₀ (with_placed grant.now m) k }
@@ -171,6 +178,7 @@ impl<S: Alter> Store<S> {
         ensures served { Serves (state S.Store self.new.conn) → Serves (state S.Store self.old.conn) }
         ensures clean { HasCleanDisk (state S.Store self.new.conn) → HasCleanDisk (state S.Store self.old.conn) }
         ensures holds { Holds (state S.Store self.old.conn) false (state S.Store self.new.conn) (is_err result) }
+        ensures crash { Withholds (state S.Store self.old.conn) false (state S.Store self.new.conn) (is_err result) }
         ensures written { (m₀ m : Queue) (k₀ k : List Entry) → Works (state S.Store self.old.conn) false m₀ k₀ m k
             → Serves (state S.Store self.new.conn)
             → Moves (state S.Store self.new.conn) result m₀ k₀ (with_one_more_grant grant.now m) k }
@@ -195,6 +203,7 @@ impl<S: Alter> Store<S> {
         ensures served { Serves (state S.Store self.new.conn) → Serves (state S.Store self.old.conn) }
         ensures clean { HasCleanDisk (state S.Store self.new.conn) → HasCleanDisk (state S.Store self.old.conn) }
         ensures holds { Holds (state S.Store self.old.conn) false (state S.Store self.new.conn) (is_err result) }
+        ensures crash { Withholds (state S.Store self.old.conn) false (state S.Store self.new.conn) (is_err result) }
         ensures written { (m₀ m : Queue) (k₀ k : List Entry) → IsReport grant.now m
             → Works (state S.Store self.old.conn) false m₀ k₀ m k → Serves (state S.Store self.new.conn)
             → Moves (state S.Store self.new.conn) result m₀ k₀ (with_grant grant.now m) k }
@@ -217,6 +226,7 @@ impl<S: Alter> Store<S> {
         ensures served { Serves (state S.Store self.new.conn) → Serves (state S.Store self.old.conn) }
         ensures clean { HasCleanDisk (state S.Store self.new.conn) → HasCleanDisk (state S.Store self.old.conn) }
         ensures holds { Holds (state S.Store self.old.conn) false (state S.Store self.new.conn) (is_err result) }
+        ensures crash { Withholds (state S.Store self.old.conn) false (state S.Store self.new.conn) (is_err result) }
         ensures written { (m₀ m : Queue) (k₀ k : List Entry) → Works (state S.Store self.old.conn) false m₀ k₀ m k
             → Serves (state S.Store self.new.conn)
             → Steps (state S.Store self.new.conn) result m₀ k₀ (with_closed number m) k }
@@ -236,6 +246,8 @@ impl<S: Alter> Work<'_, S> {
     pub fn hold_of(&mut self, modem: &str) -> Result<Option<Hold>, StoreFault>
         ensures same_reference { self.new.store.ghost_name ≡ self.old.store.ghost_name }
         ensures holds { Holds (state S.Store self.old.store.now.conn) self.old.failed
+            (state S.Store self.new.store.now.conn) self.new.failed }
+        ensures crash { Withholds (state S.Store self.old.store.now.conn) self.old.failed
             (state S.Store self.new.store.now.conn) self.new.failed }
         ensures keeps { Keeps (state S.Store self.old.store.now.conn) self.old.failed
             (state S.Store self.new.store.now.conn) self.new.failed }
@@ -264,6 +276,8 @@ impl<S: Alter> Work<'_, S> {
         ensures same_reference { self.new.store.ghost_name ≡ self.old.store.ghost_name }
         ensures holds { Holds (state S.Store self.old.store.now.conn) self.old.failed
             (state S.Store self.new.store.now.conn) self.new.failed }
+        ensures crash { Withholds (state S.Store self.old.store.now.conn) self.old.failed
+            (state S.Store self.new.store.now.conn) self.new.failed }
         ensures keeps { Keeps (state S.Store self.old.store.now.conn) self.old.failed
             (state S.Store self.new.store.now.conn) self.new.failed }
         ensures found { AnswersIn (state S.Store self.old.store.now.conn) self.old.failed
@@ -289,6 +303,8 @@ impl<S: Alter> Work<'_, S> {
     pub fn active_to(&mut self, dial: &Dial) -> Result<u64, StoreFault>
         ensures same_reference { self.new.store.ghost_name ≡ self.old.store.ghost_name }
         ensures holds { Holds (state S.Store self.old.store.now.conn) self.old.failed
+            (state S.Store self.new.store.now.conn) self.new.failed }
+        ensures crash { Withholds (state S.Store self.old.store.now.conn) self.old.failed
             (state S.Store self.new.store.now.conn) self.new.failed }
         ensures keeps { Keeps (state S.Store self.old.store.now.conn) self.old.failed
             (state S.Store self.new.store.now.conn) self.new.failed }
@@ -316,6 +332,8 @@ impl<S: Alter> Work<'_, S> {
     pub fn put_grant(&mut self, grant: &Grant) -> Result<(), StoreFault>
         ensures same_reference { self.new.store.ghost_name ≡ self.old.store.ghost_name }
         ensures holds { Holds (state S.Store self.old.store.now.conn) self.old.failed
+            (state S.Store self.new.store.now.conn) self.new.failed }
+        ensures crash { Withholds (state S.Store self.old.store.now.conn) self.old.failed
             (state S.Store self.new.store.now.conn) self.new.failed }
         ensures changes { Changes (state S.Store self.old.store.now.conn) self.old.failed
             (state S.Store self.new.store.now.conn) self.new.failed (with_one_more_grant grant.now) (λ k. k) }
@@ -345,6 +363,8 @@ impl<S: Alter> Work<'_, S> {
         ensures same_reference { self.new.store.ghost_name ≡ self.old.store.ghost_name }
         ensures holds { Holds (state S.Store self.old.store.now.conn) self.old.failed
             (state S.Store self.new.store.now.conn) self.new.failed }
+        ensures crash { Withholds (state S.Store self.old.store.now.conn) self.old.failed
+            (state S.Store self.new.store.now.conn) self.new.failed }
         ensures changes { ChangesWhere (IsReport grant.now) (state S.Store self.old.store.now.conn) self.old.failed
             (state S.Store self.new.store.now.conn) self.new.failed (with_grant grant.now) (λ k. k) }
         ensures cause { grant.now.confirmed ≤ most_pages → IfErr result (λ fault. fault ≡ StoreFault.Unavailable) }
@@ -370,6 +390,8 @@ impl<S: Alter> Work<'_, S> {
     pub fn close_grant(&mut self, number: u32) -> Result<(), StoreFault>
         ensures same_reference { self.new.store.ghost_name ≡ self.old.store.ghost_name }
         ensures holds { Holds (state S.Store self.old.store.now.conn) self.old.failed
+            (state S.Store self.new.store.now.conn) self.new.failed }
+        ensures crash { Withholds (state S.Store self.old.store.now.conn) self.old.failed
             (state S.Store self.new.store.now.conn) self.new.failed }
         ensures changes { Changes (state S.Store self.old.store.now.conn) self.old.failed
             (state S.Store self.new.store.now.conn) self.new.failed (with_closed number) (λ k. k) }

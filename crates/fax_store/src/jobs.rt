@@ -8,8 +8,8 @@ ghost use Rattle.fax_core.specs.Job.{job_of, fields_of};
 ghost use Rattle.fax_core.specs.Machine.{with_job as with_change};
 ghost use Rattle.fax_core.specs.Queue.{Queue, Entry, job_numbered};
 ghost use Rattle.fax_store.specs.Job.{IsChange, IsNewJob, IsWaiting, with_placed, with_one_more_job, with_expired, with_expired_in};
-ghost use Rattle.fax_store.specs.Store.{Serves, Means, MeansNow, HasTables, Reads, Stays};
-ghost use Rattle.fax_store.specs.Work.{Holds, Works, Keeps, Changes, ChangesWhere, AnswersIn, IsOnlyUnavailable, Moves, Steps};
+ghost use Rattle.fax_store.specs.Store.{CommitsNothing, Serves, Means, MeansNow, HasTables, Reads, Stays};
+ghost use Rattle.fax_store.specs.Work.{Holds, Works, Keeps, Changes, ChangesWhere, AnswersIn, IsOnlyUnavailable, Moves, Steps, Withholds};
 ghost use Rattle.fax_tables.specs.Fault.{OrUnavailable};
 
 use crate::store::Store;
@@ -61,6 +61,7 @@ impl<S: Alter> Store<S> {
         ensures clean { HasCleanDisk (state S.Store self.new.conn) → HasCleanDisk (state S.Store self.old.conn) }
         ensures opens { OnOk result (HasCleanDisk (state S.Store self.new.conn) → Serves (state S.Store self.new.conn)) }
         ensures stays { Stays (state S.Store self.old.conn) (state S.Store self.new.conn) }
+        ensures crash { CommitsNothing (state S.Store self.old.conn) (state S.Store self.new.conn) }
         ensures found { (m : Queue) (k : List Entry) → Means (state S.Store self.old.conn) m k
             → Serves (state S.Store self.new.conn) → OrUnavailable result (λ found. found ≡ option_map fields_of (job_numbered job m)) }
     {
@@ -73,6 +74,7 @@ impl<S: Alter> Store<S> {
         ensures opens { OnOk result (HasCleanDisk (state S.Store self.new.conn) → Serves (state S.Store self.new.conn)) }
         ensures reads { HasTables (state S.Store self.old.conn) → HasCleanDisk (state S.Store self.new.conn)
             → Reads (state S.Store self.old.conn) (state S.Store self.new.conn) result }
+        ensures crash { CommitsNothing (state S.Store self.old.conn) (state S.Store self.new.conn) }
         ensures answers { (m : Queue) (k : List Entry) → MeansNow (state S.Store self.old.conn) m k
             → Serves (state S.Store self.new.conn) → OrUnavailable result (λ found. found ≡ option_map fields_of (job_numbered job m)) }
     {
@@ -93,6 +95,7 @@ impl<S: Alter> Store<S> {
         ensures clean { HasCleanDisk (state S.Store self.new.conn) → HasCleanDisk (state S.Store self.old.conn) }
         ensures opens { OnOk result (HasCleanDisk (state S.Store self.new.conn) → Serves (state S.Store self.new.conn)) }
         ensures stays { Stays (state S.Store self.old.conn) (state S.Store self.new.conn) }
+        ensures crash { CommitsNothing (state S.Store self.old.conn) (state S.Store self.new.conn) }
         ensures found { (m : Queue) (k : List Entry) → Means (state S.Store self.old.conn) m k
             → Serves (state S.Store self.new.conn) → OrUnavailable result (λ found. IsWaiting t m found.items) }
     {
@@ -105,6 +108,7 @@ impl<S: Alter> Store<S> {
         ensures opens { OnOk result (HasCleanDisk (state S.Store self.new.conn) → Serves (state S.Store self.new.conn)) }
         ensures reads { HasTables (state S.Store self.old.conn) → HasCleanDisk (state S.Store self.new.conn)
             → Reads (state S.Store self.old.conn) (state S.Store self.new.conn) result }
+        ensures crash { CommitsNothing (state S.Store self.old.conn) (state S.Store self.new.conn) }
         ensures answers { (m : Queue) (k : List Entry) → MeansNow (state S.Store self.old.conn) m k
             → Serves (state S.Store self.new.conn) → OrUnavailable result (λ found. IsWaiting t m found.items) }
     {
@@ -122,6 +126,7 @@ impl<S: Alter> Store<S> {
         ensures clean { HasCleanDisk (state S.Store self.new.conn) → HasCleanDisk (state S.Store self.old.conn) }
         ensures opens { OnOk result (HasCleanDisk (state S.Store self.new.conn) → Serves (state S.Store self.new.conn)) }
         ensures stays { Stays (state S.Store self.old.conn) (state S.Store self.new.conn) }
+        ensures crash { CommitsNothing (state S.Store self.old.conn) (state S.Store self.new.conn) }
         ensures found { (m : Queue) (k : List Entry) → Means (state S.Store self.old.conn) m k
             → Serves (state S.Store self.new.conn) → OrUnavailable result (λ found. found.items ≡ map fields_of m.jobs) }
     {
@@ -134,6 +139,7 @@ impl<S: Alter> Store<S> {
         ensures opens { OnOk result (HasCleanDisk (state S.Store self.new.conn) → Serves (state S.Store self.new.conn)) }
         ensures reads { HasTables (state S.Store self.old.conn) → HasCleanDisk (state S.Store self.new.conn)
             → Reads (state S.Store self.old.conn) (state S.Store self.new.conn) result }
+        ensures crash { CommitsNothing (state S.Store self.old.conn) (state S.Store self.new.conn) }
         ensures answers { (m : Queue) (k : List Entry) → MeansNow (state S.Store self.old.conn) m k
             → Serves (state S.Store self.new.conn) → OrUnavailable result (λ found. found.items ≡ map fields_of m.jobs) }
     {
@@ -145,6 +151,7 @@ impl<S: Alter> Store<S> {
         ensures served { Serves (state S.Store self.new.conn) → Serves (state S.Store self.old.conn) }
         ensures clean { HasCleanDisk (state S.Store self.new.conn) → HasCleanDisk (state S.Store self.old.conn) }
         ensures holds { Holds (state S.Store self.old.conn) false (state S.Store self.new.conn) (is_err result) }
+        ensures crash { Withholds (state S.Store self.old.conn) false (state S.Store self.new.conn) (is_err result) }
         ensures written { (m₀ m : Queue) (k₀ k : List Entry) → Works (state S.Store self.old.conn) false m₀ k₀ m k
             → Serves (state S.Store self.new.conn)
             → Moves (state S.Store self.new.conn) result m₀ k₀ (with_placed (job_of job.now) m) k }
@@ -184,6 +191,7 @@ impl<S: Alter> Store<S> {
         ensures served { Serves (state S.Store self.new.conn) → Serves (state S.Store self.old.conn) }
         ensures clean { HasCleanDisk (state S.Store self.new.conn) → HasCleanDisk (state S.Store self.old.conn) }
         ensures holds { Holds (state S.Store self.old.conn) false (state S.Store self.new.conn) (is_err result) }
+        ensures crash { Withholds (state S.Store self.old.conn) false (state S.Store self.new.conn) (is_err result) }
         ensures written { (m₀ m : Queue) (k₀ k : List Entry) → IsChange (job_of job.now) m
             → Works (state S.Store self.old.conn) false m₀ k₀ m k → Serves (state S.Store self.new.conn)
             → Steps (state S.Store self.new.conn) result m₀ k₀ (with_change (job_of job.now) m) k }
@@ -218,6 +226,7 @@ impl<S: Alter> Store<S> {
         ensures served { Serves (state S.Store self.new.conn) → Serves (state S.Store self.old.conn) }
         ensures clean { HasCleanDisk (state S.Store self.new.conn) → HasCleanDisk (state S.Store self.old.conn) }
         ensures holds { Holds (state S.Store self.old.conn) false (state S.Store self.new.conn) (is_err result) }
+        ensures crash { Withholds (state S.Store self.old.conn) false (state S.Store self.new.conn) (is_err result) }
         ensures written { (m₀ m : Queue) (k₀ k : List Entry) → Works (state S.Store self.old.conn) false m₀ k₀ m k
             → Serves (state S.Store self.new.conn)
             → Steps (state S.Store self.new.conn) result m₀ k₀ (with_expired t m) k }
@@ -233,6 +242,7 @@ impl<S: Alter> Store<S> {
         ensures served { Serves (state S.Store self.new.conn) → Serves (state S.Store self.old.conn) }
         ensures clean { HasCleanDisk (state S.Store self.new.conn) → HasCleanDisk (state S.Store self.old.conn) }
         ensures holds { Holds (state S.Store self.old.conn) false (state S.Store self.new.conn) (is_err result) }
+        ensures crash { Withholds (state S.Store self.old.conn) false (state S.Store self.new.conn) (is_err result) }
         ensures written { (m₀ m : Queue) (k₀ k : List Entry) → Works (state S.Store self.old.conn) false m₀ k₀ m k
             → Serves (state S.Store self.new.conn)
             → Steps (state S.Store self.new.conn) result m₀ k₀ (with_expired_in phase t m) k }
@@ -245,6 +255,7 @@ impl<S: Alter> Store<S> {
         ensures served { Serves (state S.Store self.new.conn) → Serves (state S.Store self.old.conn) }
         ensures clean { HasCleanDisk (state S.Store self.new.conn) → HasCleanDisk (state S.Store self.old.conn) }
         ensures holds { Holds (state S.Store self.old.conn) false (state S.Store self.new.conn) (is_err result) }
+        ensures crash { Withholds (state S.Store self.old.conn) false (state S.Store self.new.conn) (is_err result) }
         ensures written { (m₀ m : Queue) (k₀ k : List Entry) → Works (state S.Store self.old.conn) false m₀ k₀ m k
             → Serves (state S.Store self.new.conn)
             → Moves (state S.Store self.new.conn) result m₀ k₀ (with_one_more_job (job_of job.now) m) k }
@@ -273,6 +284,8 @@ impl<S: Alter> Work<'_, S> {
         ensures same_reference { self.new.store.ghost_name ≡ self.old.store.ghost_name }
         ensures holds { Holds (state S.Store self.old.store.now.conn) self.old.failed
             (state S.Store self.new.store.now.conn) self.new.failed }
+        ensures crash { Withholds (state S.Store self.old.store.now.conn) self.old.failed
+            (state S.Store self.new.store.now.conn) self.new.failed }
         ensures keeps { Keeps (state S.Store self.old.store.now.conn) self.old.failed
             (state S.Store self.new.store.now.conn) self.new.failed }
         ensures found { AnswersIn (state S.Store self.old.store.now.conn) self.old.failed
@@ -300,6 +313,8 @@ impl<S: Alter> Work<'_, S> {
         ensures same_reference { self.new.store.ghost_name ≡ self.old.store.ghost_name }
         ensures holds { Holds (state S.Store self.old.store.now.conn) self.old.failed
             (state S.Store self.new.store.now.conn) self.new.failed }
+        ensures crash { Withholds (state S.Store self.old.store.now.conn) self.old.failed
+            (state S.Store self.new.store.now.conn) self.new.failed }
         ensures keeps { Keeps (state S.Store self.old.store.now.conn) self.old.failed
             (state S.Store self.new.store.now.conn) self.new.failed }
         ensures found { AnswersIn (state S.Store self.old.store.now.conn) self.old.failed
@@ -325,6 +340,8 @@ impl<S: Alter> Work<'_, S> {
         ensures same_reference { self.new.store.ghost_name ≡ self.old.store.ghost_name }
         ensures holds { Holds (state S.Store self.old.store.now.conn) self.old.failed
             (state S.Store self.new.store.now.conn) self.new.failed }
+        ensures crash { Withholds (state S.Store self.old.store.now.conn) self.old.failed
+            (state S.Store self.new.store.now.conn) self.new.failed }
         ensures keeps { Keeps (state S.Store self.old.store.now.conn) self.old.failed
             (state S.Store self.new.store.now.conn) self.new.failed }
         ensures found { AnswersIn (state S.Store self.old.store.now.conn) self.old.failed
@@ -349,6 +366,8 @@ impl<S: Alter> Work<'_, S> {
     pub fn put_job(&mut self, job: &Job) -> Result<(), StoreFault>
         ensures same_reference { self.new.store.ghost_name ≡ self.old.store.ghost_name }
         ensures holds { Holds (state S.Store self.old.store.now.conn) self.old.failed
+            (state S.Store self.new.store.now.conn) self.new.failed }
+        ensures crash { Withholds (state S.Store self.old.store.now.conn) self.old.failed
             (state S.Store self.new.store.now.conn) self.new.failed }
         ensures changes { Changes (state S.Store self.old.store.now.conn) self.old.failed
             (state S.Store self.new.store.now.conn) self.new.failed (with_one_more_job (job_of job.now)) (λ k. k) }
@@ -380,6 +399,8 @@ impl<S: Alter> Work<'_, S> {
         ensures same_reference { self.new.store.ghost_name ≡ self.old.store.ghost_name }
         ensures holds { Holds (state S.Store self.old.store.now.conn) self.old.failed
             (state S.Store self.new.store.now.conn) self.new.failed }
+        ensures crash { Withholds (state S.Store self.old.store.now.conn) self.old.failed
+            (state S.Store self.new.store.now.conn) self.new.failed }
         ensures changes { ChangesWhere (IsChange (job_of job.now)) (state S.Store self.old.store.now.conn)
             self.old.failed (state S.Store self.new.store.now.conn) self.new.failed
             (with_change (job_of job.now)) (λ k. k) }
@@ -405,6 +426,8 @@ impl<S: Alter> Work<'_, S> {
     pub fn expire_all(&mut self, t: Moment) -> Result<(), StoreFault>
         ensures same_reference { self.new.store.ghost_name ≡ self.old.store.ghost_name }
         ensures holds { Holds (state S.Store self.old.store.now.conn) self.old.failed
+            (state S.Store self.new.store.now.conn) self.new.failed }
+        ensures crash { Withholds (state S.Store self.old.store.now.conn) self.old.failed
             (state S.Store self.new.store.now.conn) self.new.failed }
         ensures changes { Changes (state S.Store self.old.store.now.conn) self.old.failed
             (state S.Store self.new.store.now.conn) self.new.failed (with_expired t) (λ k. k) }

@@ -7,8 +7,8 @@ ghost use Rattle.sqlite.specs.State.{HasCleanDisk};
 ghost use Rattle.fax_core.specs.Queue.{Queue, Entry};
 ghost use Rattle.fax_job.specs.Name.{IsName};
 ghost use Rattle.fax_store.specs.Kept.{IsKeptFor, IsUnkept, MissesNone};
-ghost use Rattle.fax_store.specs.Store.{Serves, Means, MeansNow, HasTables, Reads, Rests, Stays};
-ghost use Rattle.fax_store.specs.Work.{Holds, Works, Keeps, Changes, AnswersIn, IsOnlyUnavailable, Moves};
+ghost use Rattle.fax_store.specs.Store.{CommitsNothing, Serves, Means, MeansNow, HasTables, Reads, Rests, Stays};
+ghost use Rattle.fax_store.specs.Work.{Holds, Works, Keeps, Changes, AnswersIn, IsOnlyUnavailable, Moves, Withholds};
 ghost use Rattle.fax_tables.specs.Fault.{OrUnavailable};
 ghost use Rattle.fax_tables.specs.Kept.{entry};
 ghost use Rattle.fax_tables.specs.Schema.{six_tables};
@@ -37,6 +37,7 @@ impl<S: Alter> Store<S> {
         ensures clean { HasCleanDisk (state S.Store self.new.conn) → HasCleanDisk (state S.Store self.old.conn) }
         ensures opens { OnOk result (HasCleanDisk (state S.Store self.new.conn) → Serves (state S.Store self.new.conn)) }
         ensures stays { Stays (state S.Store self.old.conn) (state S.Store self.new.conn) }
+        ensures crash { CommitsNothing (state S.Store self.old.conn) (state S.Store self.new.conn) }
         ensures found { (m : Queue) (k : List Entry) → Means (state S.Store self.old.conn) m k
             → Serves (state S.Store self.new.conn) → OrUnavailable result (IsKeptFor k client.now number) }
         // Whatever the rows say, where none is found there is none.
@@ -57,6 +58,7 @@ impl<S: Alter> Store<S> {
         ensures opens { OnOk result (HasCleanDisk (state S.Store self.new.conn) → Serves (state S.Store self.new.conn)) }
         ensures reads { HasTables (state S.Store self.old.conn) → HasCleanDisk (state S.Store self.new.conn)
             → Reads (state S.Store self.old.conn) (state S.Store self.new.conn) result }
+        ensures crash { CommitsNothing (state S.Store self.old.conn) (state S.Store self.new.conn) }
         ensures answers { (m : Queue) (k : List Entry) → MeansNow (state S.Store self.old.conn) m k
             → Serves (state S.Store self.new.conn) → OrUnavailable result (IsKeptFor k client.now number) }
         ensures unkept { (db : Database) → db.schema ≡ six_tables → (state S.Store self.old.conn).now ≡ db
@@ -81,6 +83,7 @@ impl<S: Alter> Store<S> {
         ensures served { Serves (state S.Store self.new.conn) → Serves (state S.Store self.old.conn) }
         ensures clean { HasCleanDisk (state S.Store self.new.conn) → HasCleanDisk (state S.Store self.old.conn) }
         ensures holds { Holds (state S.Store self.old.conn) false (state S.Store self.new.conn) (is_err result) }
+        ensures crash { Withholds (state S.Store self.old.conn) false (state S.Store self.new.conn) (is_err result) }
         ensures written { (m₀ m : Queue) (k₀ k : List Entry) → Works (state S.Store self.old.conn) false m₀ k₀ m k
             → Serves (state S.Store self.new.conn)
             → Moves (state S.Store self.new.conn) result m₀ k₀ m
@@ -109,6 +112,8 @@ impl<S: Alter> Work<'_, S> {
     pub fn kept(&mut self, client: &str, number: RequestNumber) -> Result<Option<Kept>, StoreFault>
         ensures same_reference { self.new.store.ghost_name ≡ self.old.store.ghost_name }
         ensures holds { Holds (state S.Store self.old.store.now.conn) self.old.failed
+            (state S.Store self.new.store.now.conn) self.new.failed }
+        ensures crash { Withholds (state S.Store self.old.store.now.conn) self.old.failed
             (state S.Store self.new.store.now.conn) self.new.failed }
         ensures keeps { Keeps (state S.Store self.old.store.now.conn) self.old.failed
             (state S.Store self.new.store.now.conn) self.new.failed }
@@ -143,6 +148,8 @@ impl<S: Alter> Work<'_, S> {
     ) -> Result<(), StoreFault>
         ensures same_reference { self.new.store.ghost_name ≡ self.old.store.ghost_name }
         ensures holds { Holds (state S.Store self.old.store.now.conn) self.old.failed
+            (state S.Store self.new.store.now.conn) self.new.failed }
+        ensures crash { Withholds (state S.Store self.old.store.now.conn) self.old.failed
             (state S.Store self.new.store.now.conn) self.new.failed }
         ensures changes { Changes (state S.Store self.old.store.now.conn) self.old.failed
             (state S.Store self.new.store.now.conn) self.new.failed (λ m. m)

@@ -8,8 +8,8 @@ ghost use Rattle.sqlite.specs.Values.{bound};
 ghost use Rattle.sqlite.specs.State.{HasCleanDisk, Shown};
 ghost use Rattle.sqlite.specs.Steps.{over_memory};
 ghost use Rattle.fax_core.specs.Queue.{empty_queue};
-ghost use Rattle.fax_store.specs.Store.{Serves, StaysAsItWas, GoesBack, LeavesCommit, FindsRow, HasRun, HasTables, IsEditText, IsQueryText, IsRefusedFor, IsUpdateOrDelete, Reads};
-ghost use Rattle.fax_store.specs.Work.{Begins, BeginsAt, Holds};
+ghost use Rattle.fax_store.specs.Store.{Serves, StaysAsItWas, CommitsNothing, GoesBack, LeavesCommit, FindsRow, HasRun, HasTables, IsEditText, IsQueryText, IsRefusedFor, IsUpdateOrDelete, Reads};
+ghost use Rattle.fax_store.specs.Work.{Begins, BeginsAt, Holds, Opens, Withholds};
 ghost use Rattle.fax_tables.specs.Tables.{IsAtRest};
 
 use crate::work::Work;
@@ -66,6 +66,8 @@ impl<S: Alter> Store<S> {
             Begins (state S.Store self.old.conn) (state S.Store work.store.now.conn) work.failed) }
         ensures at { IfOk result (λ work.
             BeginsAt (state S.Store self.old.conn) (state S.Store work.store.now.conn) work.failed) }
+        ensures opens { IfOk result (λ work.
+            Opens (state S.Store self.old.conn) (state S.Store work.store.now.conn) work.failed) }
         ensures served { IfOk result (λ work.
             Serves (state S.Store work.store.now.conn) → Serves (state S.Store self.old.conn)) }
         ensures clean { IfOk result (λ work.
@@ -80,6 +82,7 @@ impl<S: Alter> Store<S> {
     /// Undoes what was not committed.
     pub(crate) fn roll_back(&mut self)
         ensures back { GoesBack (state S.Store self.old.conn) (state S.Store self.new.conn) }
+        ensures crash { CommitsNothing (state S.Store self.old.conn) (state S.Store self.new.conn) }
         ensures served { Serves (state S.Store self.new.conn) → Serves (state S.Store self.old.conn) }
         ensures clean { HasCleanDisk (state S.Store self.new.conn) → HasCleanDisk (state S.Store self.old.conn) }
     {
@@ -94,12 +97,13 @@ impl<S: Alter> Store<S> {
         sql: &str,
         params: &[ValueRef<'_>],
     ) -> Result<Vec<Row>, StoreFault>
+        requires { IsQueryText sql.now }
         ensures served { Serves (state S.Store self.new.conn) → Serves (state S.Store self.old.conn) }
         ensures clean { HasCleanDisk (state S.Store self.new.conn) → HasCleanDisk (state S.Store self.old.conn) }
         ensures opens { OnOk result (HasCleanDisk (state S.Store self.new.conn) → Serves (state S.Store self.new.conn)) }
-        ensures reads { IsQueryText sql.now → HasTables (state S.Store self.old.conn)
-            → HasCleanDisk (state S.Store self.new.conn)
+        ensures reads { HasTables (state S.Store self.old.conn) → HasCleanDisk (state S.Store self.new.conn)
             → Reads (state S.Store self.old.conn) (state S.Store self.new.conn) result }
+        ensures crash { CommitsNothing (state S.Store self.old.conn) (state S.Store self.new.conn) }
         ensures shown { HasCleanDisk (state S.Store self.new.conn) → IfOk result
             (λ rows. Shown sql.now (bound params.now) (state S.Store self.old.conn) (state S.Store self.new.conn) rows.items) }
         ensures left { HasCleanDisk (state S.Store self.new.conn) → OnErr result
@@ -116,12 +120,13 @@ impl<S: Alter> Store<S> {
         sql: &str,
         params: &[ValueRef<'_>],
     ) -> Result<Option<Row>, StoreFault>
+        requires { IsQueryText sql.now }
         ensures served { Serves (state S.Store self.new.conn) → Serves (state S.Store self.old.conn) }
         ensures clean { HasCleanDisk (state S.Store self.new.conn) → HasCleanDisk (state S.Store self.old.conn) }
         ensures opens { OnOk result (HasCleanDisk (state S.Store self.new.conn) → Serves (state S.Store self.new.conn)) }
-        ensures reads { IsQueryText sql.now → HasTables (state S.Store self.old.conn)
-            → HasCleanDisk (state S.Store self.new.conn)
+        ensures reads { HasTables (state S.Store self.old.conn) → HasCleanDisk (state S.Store self.new.conn)
             → Reads (state S.Store self.old.conn) (state S.Store self.new.conn) result }
+        ensures crash { CommitsNothing (state S.Store self.old.conn) (state S.Store self.new.conn) }
         ensures found { HasCleanDisk (state S.Store self.new.conn) → IfOk result
             (FindsRow sql.now (bound params.now) (state S.Store self.old.conn) (state S.Store self.new.conn)) }
         ensures left { HasCleanDisk (state S.Store self.new.conn) → OnErr result
@@ -138,10 +143,11 @@ impl<S: Alter> Store<S> {
     ///
     /// `Unavailable`, or `Strange` where the row breaks a rule of its table, as a key that is taken.
     pub(crate) fn insert(&mut self, sql: &str, params: &[ValueRef<'_>]) -> Result<(), StoreFault>
+        requires { IsEditText sql.now }
         ensures served { Serves (state S.Store self.new.conn) → Serves (state S.Store self.old.conn) }
         ensures clean { HasCleanDisk (state S.Store self.new.conn) → HasCleanDisk (state S.Store self.old.conn) }
-        ensures holds { IsEditText sql.now
-            → Holds (state S.Store self.old.conn) false (state S.Store self.new.conn) (is_err result) }
+        ensures holds { Holds (state S.Store self.old.conn) false (state S.Store self.new.conn) (is_err result) }
+        ensures crash { Withholds (state S.Store self.old.conn) false (state S.Store self.new.conn) (is_err result) }
         ensures ran { HasCleanDisk (state S.Store self.new.conn) → OnOk result
             (HasRun sql.now (bound params.now) (state S.Store self.old.conn) (state S.Store self.new.conn)) }
         ensures left { HasCleanDisk (state S.Store self.new.conn) → OnErr result
@@ -157,10 +163,11 @@ impl<S: Alter> Store<S> {
 
     /// Runs a statement that updates or deletes rows.
     pub(crate) fn run(&mut self, sql: &str, params: &[ValueRef<'_>]) -> Result<(), StoreFault>
+        requires { IsEditText sql.now }
         ensures served { Serves (state S.Store self.new.conn) → Serves (state S.Store self.old.conn) }
         ensures clean { HasCleanDisk (state S.Store self.new.conn) → HasCleanDisk (state S.Store self.old.conn) }
-        ensures holds { IsEditText sql.now
-            → Holds (state S.Store self.old.conn) false (state S.Store self.new.conn) (is_err result) }
+        ensures holds { Holds (state S.Store self.old.conn) false (state S.Store self.new.conn) (is_err result) }
+        ensures crash { Withholds (state S.Store self.old.conn) false (state S.Store self.new.conn) (is_err result) }
         ensures ran { HasCleanDisk (state S.Store self.new.conn) → OnOk result
             (HasRun sql.now (bound params.now) (state S.Store self.old.conn) (state S.Store self.new.conn)) }
         ensures left { HasCleanDisk (state S.Store self.new.conn) → OnErr result

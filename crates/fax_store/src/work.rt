@@ -3,8 +3,8 @@
 ghost use Rattle.std.specs.Prelude.{◌≡◌, false, IsTrue, IfErr, OnOk, OnErr};
 ghost use Rattle.sqlite.specs.Held.{state};
 ghost use Rattle.sqlite.specs.State.{HasCleanDisk};
-ghost use Rattle.fax_store.specs.Store.{Serves};
-ghost use Rattle.fax_store.specs.Work.{Commits, Forgets, Undoes};
+ghost use Rattle.fax_store.specs.Store.{CommitsNothing, LeavesAlone, Serves};
+ghost use Rattle.fax_store.specs.Work.{Commits, Forgets, MayCommit, Undoes};
 
 use crate::store::{COMMIT, Store};
 use fax_tables::StoreFault;
@@ -48,6 +48,10 @@ impl<'s, S: Alter> Work<'s, S> {
             self.entry.failed (state S.Store self.exit.0.now.conn)) }
         ensures undone { OnErr result (Undoes (state S.Store self.entry.store.now.conn)
             self.entry.failed (state S.Store self.exit.0.now.conn)) }
+        ensures crash { MayCommit (state S.Store self.entry.store.now.conn) self.entry.failed
+            (state S.Store self.exit.0.now.conn) }
+        ensures alone { OnOk result (Serves (state S.Store self.exit.0.now.conn)
+            → LeavesAlone (state S.Store self.exit.0.now.conn) (state S.Store self.entry.store.now.conn).now.trees) }
         ensures refused { IsTrue self.entry.failed → result ≡ Err StoreFault.Unavailable }
         ensures cause { IfErr result (λ fault. fault ≡ StoreFault.Unavailable) }
     {
@@ -66,6 +70,8 @@ impl<S: Alter> Drop for Work<'_, S> {
         ensures forgets { Forgets (state S.Store self.entry.store.now.conn) self.entry.failed
             (state S.Store self.exit.0.now.conn) }
         ensures undone { Undoes (state S.Store self.entry.store.now.conn) self.entry.failed
+            (state S.Store self.exit.0.now.conn) }
+        ensures crash { CommitsNothing (state S.Store self.entry.store.now.conn)
             (state S.Store self.exit.0.now.conn) }
         ensures clean { HasCleanDisk (state S.Store self.exit.0.now.conn)
             → HasCleanDisk (state S.Store self.entry.store.now.conn) }

@@ -18,5 +18,6 @@ pub mod RefusalLemmas
 pub mod StandLemmas
 pub mod CreateTexts
 pub mod CreateLemmas
+pub mod StopLemmas
 pub mod Rows
 pub mod ShapeLemmas

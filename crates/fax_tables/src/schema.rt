@@ -6,6 +6,7 @@ ghost use Rattle.sqlite.specs.View.{doubt};
 ghost use Rattle.sqlite.specs.State.{HasCleanDisk, KeepsCommit};
 ghost use Rattle.fax_core.specs.Queue.{empty_queue};
 ghost use Rattle.fax_tables.specs.Schema.{no_tables, four_tables, bare_tables, six_tables};
+ghost use Rattle.fax_tables.specs.Stop.{HoldsBack};
 ghost use Rattle.fax_tables.specs.Tables.{GoesOn, HasEmptyTables, HasTablesAlone, IsIndexed, TablesMean};
 
 use sqlite::{Alter, Connection, Error};
@@ -51,6 +52,7 @@ pub fn create_tables<S: Alter>(conn: &mut Connection<S>) -> Result<(), Error>
         × TablesMean (state S.Store conn.new).now empty_queue []) }
     ensures kept { HasCleanDisk (state S.Store conn.new) → OnErr result
         (HasEmptyTables no_tables (state S.Store conn.old) → KeepsCommit (state S.Store conn.old) (state S.Store conn.new)) }
+    ensures crash { HoldsBack (HasEmptyTables no_tables) (state S.Store conn.old) (state S.Store conn.new) }
     ensures doubt { doubt (state S.Store conn.old).is_clean ≤ doubt (state S.Store conn.new).is_clean }
 {
     create_work_tables(conn)?;
@@ -66,6 +68,7 @@ fn create_work_tables<S: Alter>(conn: &mut Connection<S>) -> Result<(), Error>
         × HasEmptyTables four_tables (state S.Store conn.new)) }
     ensures kept { HasCleanDisk (state S.Store conn.new) → OnErr result
         (HasEmptyTables no_tables (state S.Store conn.old) → KeepsCommit (state S.Store conn.old) (state S.Store conn.new)) }
+    ensures crash { HoldsBack (HasEmptyTables no_tables) (state S.Store conn.old) (state S.Store conn.new) }
     ensures doubt { doubt (state S.Store conn.old).is_clean ≤ doubt (state S.Store conn.new).is_clean }
 {
     conn.execute(CREATE_JOBS, &[])?;
@@ -82,6 +85,7 @@ fn create_kept_tables<S: Alter>(conn: &mut Connection<S>) -> Result<(), Error>
         × HasEmptyTables bare_tables (state S.Store conn.new)) }
     ensures kept { HasCleanDisk (state S.Store conn.new) → OnErr result
         (HasEmptyTables four_tables (state S.Store conn.old) → KeepsCommit (state S.Store conn.old) (state S.Store conn.new)) }
+    ensures crash { HoldsBack (HasEmptyTables four_tables) (state S.Store conn.old) (state S.Store conn.new) }
     ensures doubt { doubt (state S.Store conn.old).is_clean ≤ doubt (state S.Store conn.new).is_clean }
 {
     conn.execute(CREATE_REPLIES, &[])?;
@@ -96,6 +100,7 @@ pub fn create_indexes<S: Alter>(conn: &mut Connection<S>) -> Result<(), Error>
         × IsIndexed (state S.Store conn.old).now (state S.Store conn.new).now) }
     ensures kept { HasCleanDisk (state S.Store conn.new) → OnErr result
         (HasTablesAlone (state S.Store conn.old) → KeepsCommit (state S.Store conn.old) (state S.Store conn.new)) }
+    ensures crash { HoldsBack HasTablesAlone (state S.Store conn.old) (state S.Store conn.new) }
     ensures doubt { doubt (state S.Store conn.old).is_clean ≤ doubt (state S.Store conn.new).is_clean }
 {
     conn.execute(CREATE_KILLTIME_INDEX, &[])?;
@@ -110,6 +115,7 @@ fn fill_meta<S: Alter>(conn: &mut Connection<S>) -> Result<(), Error>
         × TablesMean (state S.Store conn.new).now empty_queue []) }
     ensures kept { HasCleanDisk (state S.Store conn.new) → OnErr result
         (KeepsCommit (state S.Store conn.old) (state S.Store conn.new)) }
+    ensures crash { HoldsBack (HasEmptyTables six_tables) (state S.Store conn.old) (state S.Store conn.new) }
     ensures doubt { doubt (state S.Store conn.old).is_clean ≤ doubt (state S.Store conn.new).is_clean }
 {
     conn.execute(INSERT_META, &[])?;

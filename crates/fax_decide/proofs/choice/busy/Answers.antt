@@ -19,3 +19,12 @@ returns-in_default-2-clause-stays g c db six rests = c.job.ensures.stays db six 
 
 pub returns-clause-stays : goal.returns-clause-stays
 returns-clause-stays g c db six rests = c.job.ensures.stays db six (c.grant.ensures.stays db six rests)
+
+pub returns-in_err-job-clause-crash : goal.returns-in_err-job-clause-crash
+returns-in_err-job-clause-crash g c found may = c.grant.ensures.crash found (c.job.ensures.crash found may)
+
+pub returns-in_default-2-clause-crash : goal.returns-in_default-2-clause-crash
+returns-in_default-2-clause-crash g c found may = c.grant.ensures.crash found (c.job.ensures.crash found may)
+
+pub returns-clause-crash : goal.returns-clause-crash
+returns-clause-crash g c found may = c.grant.ensures.crash found (c.job.ensures.crash found may)

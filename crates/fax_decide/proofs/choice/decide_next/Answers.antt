@@ -51,3 +51,12 @@ returns-in-Some-clause-stays g c db six rests = c.busy.ensures.stays db six (c.h
 
 pub returns-in-None-clause-stays : goal.returns-in-None-clause-stays
 returns-in-None-clause-stays g c db six rests = c.decide_free.ensures.stays db six (c.hold_of.ensures.stays db six (c.is_down.ensures.stays db six rests))
+
+pub returns-in_err-hold-clause-crash : goal.returns-in_err-hold-clause-crash
+returns-in_err-hold-clause-crash g c found may = c.is_down.ensures.crash found (c.hold_of.ensures.crash found may)
+
+pub returns-in-Some-clause-crash : goal.returns-in-Some-clause-crash
+returns-in-Some-clause-crash g c found may = c.is_down.ensures.crash found (c.hold_of.ensures.crash found (c.busy.ensures.crash found may))
+
+pub returns-in-None-clause-crash : goal.returns-in-None-clause-crash
+returns-in-None-clause-crash g c found may = c.is_down.ensures.crash found (c.hold_of.ensures.crash found (c.decide_free.ensures.crash found may))

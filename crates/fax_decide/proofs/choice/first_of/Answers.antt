@@ -48,6 +48,7 @@ loop-preserved g c = record {
   clean = λ clean. c.loop.invariant.clean (c.next.ensures.clean clean);
   opens = λ clean serves. c.in_ok-job.ensures.opens clean;
   stays = λ db six rests. c.next.ensures.stays db six (c.loop.invariant.stays db six rests);
+  crash = λ found may. c.loop.invariant.crash found (c.next.ensures.crash found may);
   none = λ m k means serves same stands.
       let goes = may_go (settings_of c.args.office.now.setup c.args.office.now.controls) m c.args.t c.args.modem.now in
       let page = into_iter_items c.next.new.self.page in
@@ -58,3 +59,15 @@ loop-preserved g c = record {
       let it = subst (Gives c.args.t m next.0 page read) c.in-Some.is next.1 in
       (next.0 ++ c.in-Some.job ∷ [], it.0, none_more goes next.0 c.in-Some.job next.2 (sym (c.in_ok-may_go.ensures m it.1) ∙ c.if-branch.false));
 }
+
+pub returns-in_err-job-clause-crash : goal.returns-in_err-job-clause-crash
+returns-in_err-job-clause-crash g c found may = c.loop.invariant.crash found (c.next.ensures.crash found may)
+
+pub returns-in_default-clause-crash : goal.returns-in_default-clause-crash
+returns-in_default-clause-crash g c found may = c.loop.invariant.crash found (c.next.ensures.crash found may)
+
+pub returns-in_err-may_go-clause-crash : goal.returns-in_err-may_go-clause-crash
+returns-in_err-may_go-clause-crash g c found may = c.loop.invariant.crash found (c.next.ensures.crash found may)
+
+pub returns-then-branch-clause-crash : goal.returns-then-branch-clause-crash
+returns-then-branch-clause-crash g c found may = c.loop.invariant.crash found (c.next.ensures.crash found may)

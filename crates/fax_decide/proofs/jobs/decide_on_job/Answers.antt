@@ -32,3 +32,6 @@ returns-in-Ok-clause-opens g c = opens_then (state g.S.Store c.args.store.now.co
 
 pub returns-in-Ok-clause-stays : goal.returns-in-Ok-clause-stays
 returns-in-Ok-clause-stays g c db six rests = c.changed.ensures.stays db six (c.job_at.ensures.stays db six rests)
+
+pub returns-in-Ok-clause-crash : goal.returns-in-Ok-clause-crash
+returns-in-Ok-clause-crash g c found may = c.job_at.ensures.crash found (c.changed.ensures.crash found may)

@@ -1,7 +1,6 @@
 use Rattle.std.proofs.Common.{refl, sym}
 use Rattle.fax_core.specs.Ageing.{aged}
 use Rattle.fax_core.specs.Job.{job_of}
-use Rattle.fax_core.specs.Machine.{page_reply, reported}
 use Rattle.fax_decide.specs.declared.decision.Decision.TheVariants.{Refused}
 use Rattle.fax_decide.proofs.DecisionLemmas.{decided_by, decided_where}
 use Rattle.fax_decide.proofs.PlainLemmas.{page_plain}

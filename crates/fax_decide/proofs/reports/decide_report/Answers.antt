@@ -49,3 +49,12 @@ returns-in-None-clause-opens g c = always c.without_job.result (λ clean serves.
 
 pub returns-in-None-clause-stays : goal.returns-in-None-clause-stays
 returns-in-None-clause-stays g c db six rests = c.job_at.ensures.stays db six (c.grant_at.ensures.stays db six rests)
+
+pub returns-in_err-job-clause-crash : goal.returns-in_err-job-clause-crash
+returns-in_err-job-clause-crash g c found may = c.grant_at.ensures.crash found (c.job_at.ensures.crash found may)
+
+pub returns-in-Some-2-clause-crash : goal.returns-in-Some-2-clause-crash
+returns-in-Some-2-clause-crash g c found may = c.grant_at.ensures.crash found (c.job_at.ensures.crash found (c.report_on.ensures.crash found may))
+
+pub returns-in-None-clause-crash : goal.returns-in-None-clause-crash
+returns-in-None-clause-crash g c found may = c.grant_at.ensures.crash found (c.job_at.ensures.crash found may)

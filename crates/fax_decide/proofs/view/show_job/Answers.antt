@@ -20,3 +20,6 @@ returns-in-Some-clause-opens g c = opens_then (state g.S.Store c.args.store.now.
 
 pub returns-in-Some-clause-stays : goal.returns-in-Some-clause-stays
 returns-in-Some-clause-stays g c db six rests = c.shown.ensures.stays db six (c.job_at.ensures.stays db six rests)
+
+pub returns-in-Some-clause-crash : goal.returns-in-Some-clause-crash
+returns-in-Some-clause-crash g c found may = c.job_at.ensures.crash found (c.shown.ensures.crash found may)

@@ -1,13 +1,11 @@
-use Rattle.std.proofs.Common.{◌≡◌, List, map, sym, subst, ap, ◌∙◌}
+use Rattle.std.proofs.Common.{List, map, sym, subst, ap, ◌∙◌}
 use Rattle.std.specs.List.Sorted.{IsStrictlyIncreasing}
-use Rattle.sqlite.specs.Held.{state}
 use Rattle.fax_ask.specs.Answer.{Listed}
 use Rattle.fax_ask.specs.Response.{accepted_response}
 use Rattle.fax_text.specs.Listing.{Listed as Row, listing_of, number_of}
 use Rattle.fax_decide.specs.Settings.{settings_of}
 use Rattle.fax_store.proofs.StoreLemmas.{means_stay}
 use Rattle.fax_decide.proofs.ViewLemmas.{rows_ascend, rows_seen}
-use Rattle.fax_decide.proofs.OpenLemmas.{opens_then}
 use Rattle.fax_decide.proofs.view.show_jobs.Goals as goal
 
 pub returns-clause-viewed : goal.returns-clause-viewed
@@ -28,3 +26,12 @@ returns-in_err-rows-clause-stays g c db six rests = c.with_states.ensures.stays 
 
 pub returns-in_err-listed-clause-stays : goal.returns-in_err-listed-clause-stays
 returns-in_err-listed-clause-stays g c db six rests = c.with_states.ensures.stays db six (c.jobs.ensures.stays db six rests)
+
+pub returns-clause-crash : goal.returns-clause-crash
+returns-clause-crash g c found may = c.jobs.ensures.crash found (c.with_states.ensures.crash found may)
+
+pub returns-in_err-rows-clause-crash : goal.returns-in_err-rows-clause-crash
+returns-in_err-rows-clause-crash g c found may = c.jobs.ensures.crash found (c.with_states.ensures.crash found may)
+
+pub returns-in_err-listed-clause-crash : goal.returns-in_err-listed-clause-crash
+returns-in_err-listed-clause-crash g c found may = c.jobs.ensures.crash found (c.with_states.ensures.crash found may)

@@ -1,4 +1,4 @@
-use Rattle.std.proofs.Common.{◌≡◌, [], ◌∷◌, ◌++◌, ap, sym, ◌∙◌, append_assoc, append-nil}
+use Rattle.std.proofs.Common.{[], ◌∷◌, ◌++◌, ap, sym, ◌∙◌, append_assoc, append-nil}
 use Rattle.std.proofs.lemmas.List.{nil_from_length}
 use Rattle.fax_store.proofs.StoreLemmas.{means_stay}
 use Rattle.fax_decide.specs.Settings.{settings_of}
@@ -20,6 +20,7 @@ loop-job-preserved g c = record {
   clean = λ clean. c.loop-job.invariant.clean (c.state_of.ensures.clean clean);
   opens = λ clean serves. c.in_ok-state.ensures.opens clean (c.loop-job.invariant.opens (c.state_of.ensures.clean clean) serves);
   stays = λ db six rests. c.state_of.ensures.stays db six (c.loop-job.invariant.stays db six rests);
+  crash = λ found may. c.loop-job.invariant.crash found (c.state_of.ensures.crash found may);
   rows = λ m k means serves.
       one_more_row (settings_of c.args.office.now.setup c.args.office.now.controls) m c.args.t c.loop-job.yielded c.in-Some.job c.aged_job-job.result c.in_ok-state.state c.loop-job.rows.items _
       (c.loop-job.invariant.rows m k means (c.state_of.ensures.served serves)) c.aged_job-job.ensures
@@ -31,3 +32,9 @@ returns-clause-rows g c m k means serves =
     all_rows (settings_of c.args.office.now.setup c.args.office.now.controls) m c.args.t c.args.jobs.items c.loop-job.yielded c.loop-job.rows.items
     (c.loop-job.invariant.items ∙ ap (λ rest. c.loop-job.yielded ++ rest) (nil_from_length c.loop-job.job-iterator.rest.items (sym c.loop-job.job-iterator.rest.ok.0 ∙ c.in-None.ensures.steps.0)) ∙ append-nil c.loop-job.yielded)
     (c.loop-job.invariant.rows m k means serves)
+
+pub returns-in_err-state-clause-crash : goal.returns-in_err-state-clause-crash
+returns-in_err-state-clause-crash g c found may = c.loop-job.invariant.crash found (c.state_of.ensures.crash found may)
+
+pub returns-in_err-add_row-clause-crash : goal.returns-in_err-add_row-clause-crash
+returns-in_err-add_row-clause-crash g c found may = c.loop-job.invariant.crash found (c.state_of.ensures.crash found may)

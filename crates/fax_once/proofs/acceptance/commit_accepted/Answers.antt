@@ -1,13 +1,15 @@
-use Rattle.std.proofs.Common.{◌≡◌, [], ◌∷◌, ◌++◌, sym, subst, rules}
+use Rattle.std.proofs.Common.{◌≡◌, inl, [], ◌∷◌, ◌++◌, sym, subst, rules}
 use Rattle.sqlite.specs.Held.{state}
 use Rattle.sqlite.specs.State.{HasCleanDisk}
 use Rattle.fax_tables.specs.Kept.{entry}
-use Rattle.fax_store.specs.Store.{Means, Serves, Stays, StaysAsItWas}
+use Rattle.fax_store.specs.Store.{CommitsNothing, Means, Serves, Stays, StaysAsItWas}
 use Rattle.fax_decide.specs.Effect.{accepted}
 use Rattle.fax_decide.proofs.WorkLemmas.{refused_with, works_where}
 use Rattle.fax_store.proofs.StoreLemmas.{means_stay}
 use Rattle.fax_store.proofs.WorkLemmas.{refused_as}
 use Rattle.fax_tables.proofs.ResultLemmas.{on_err}
+use Rattle.fax_once.specs.Stop.{MayLeave}
+use Rattle.fax_once.proofs.StopLemmas.{committed_stops, dropped_stops, has_tables}
 use Rattle.fax_once.proofs.acceptance.commit_accepted.Goals as goal
 
 pub returns-in_err-work-clause-taken : goal.returns-in_err-work-clause-taken
@@ -75,3 +77,33 @@ returns-in_err-write-clause-cause g c m k means fits s =
     let at_write = c.drop-work.ensures.served (subst (λ v. Serves (state g.S.Store v.conn)) (sym same) s) in
     refused_as c.from_residual-in_err-write.result c.in_err-write.field-0.0 c.from_residual-in_err-write.ensures.1
     (c.in_err-write.ensures.cause m _ k _ (c.in_ok-work.ensures.begun m k means) at_write (fits (c.in_ok-work.ensures.served (c.write.ensures.served at_write))))
+
+pub returns-in_err-work-clause-crash : goal.returns-in_err-work-clause-crash
+returns-in_err-work-clause-crash g c m k means suits found may =
+    let stays : StaysAsItWas (state g.S.Store c.args.store.now.conn) (state g.S.Store c.begin.follows.lender-at-none.conn) = search rules in
+    inl (stays.3 found may)
+
+pub returns-in_err-write-clause-crash : goal.returns-in_err-write-clause-crash
+returns-in_err-write-clause-crash g c m k means suits found may =
+    let old = state g.S.Store c.args.store.now.conn in
+    let same : c.drop-work.new.self.0 ≡ c.store-in_err-write-1.given.0 = search rules in
+    let nothing = dropped_stops old _ _ (state g.S.Store c.drop-work.new.self.0.conn) _ _ c.in_ok-work.ensures.opens (has_tables old m k means) c.write.ensures.crash c.drop-work.ensures.crash in
+    inl (subst (λ v. CommitsNothing old (state g.S.Store v.conn)) same nothing found may)
+
+pub returns-in_err-commit-clause-crash : goal.returns-in_err-commit-clause-crash
+returns-in_err-commit-clause-crash g c m k means suits =
+    let old = state g.S.Store c.args.store.now.conn in
+    let works = works_where _ _ _ _ _ _ _ m k (λ serves. suits (c.in_ok-work.ensures.served serves)) c.write.ensures.served c.write.ensures.changes (c.in_ok-work.ensures.begun m k means) in
+    let same : c.commit.new.self.0 ≡ c.store-2-1.given.0 = search rules in
+    subst (λ v. MayLeave old (state g.S.Store v.conn) (accepted c.args.decided_at c.args.effect.now m)
+    (k ++ entry c.args.sender.now.client.now c.args.sender.now.number c.args.said.now c.args.reply.now.status c.args.reply.now.body ∷ [])) same
+    (committed_stops old _ _ (state g.S.Store c.commit.new.self.0.conn) _ _ c.in_ok-work.ensures.opens (has_tables old m k means) c.write.ensures.crash m _ k _ works c.commit.ensures.clean (λ at. c.in_ok-work.ensures.served (c.write.ensures.served at)) c.commit.ensures.crash)
+
+pub returns-clause-crash : goal.returns-clause-crash
+returns-clause-crash g c m k means suits =
+    let old = state g.S.Store c.args.store.now.conn in
+    let works = works_where _ _ _ _ _ _ _ m k (λ serves. suits (c.in_ok-work.ensures.served serves)) c.write.ensures.served c.write.ensures.changes (c.in_ok-work.ensures.begun m k means) in
+    let same : c.commit.new.self.0 ≡ c.store-2-1.given.0 = search rules in
+    subst (λ v. MayLeave old (state g.S.Store v.conn) (accepted c.args.decided_at c.args.effect.now m)
+    (k ++ entry c.args.sender.now.client.now c.args.sender.now.number c.args.said.now c.args.reply.now.status c.args.reply.now.body ∷ [])) same
+    (committed_stops old _ _ (state g.S.Store c.commit.new.self.0.conn) _ _ c.in_ok-work.ensures.opens (has_tables old m k means) c.write.ensures.crash m _ k _ works c.commit.ensures.clean (λ at. c.in_ok-work.ensures.served (c.write.ensures.served at)) c.commit.ensures.crash)

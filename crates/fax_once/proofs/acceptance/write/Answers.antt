@@ -6,6 +6,7 @@ use Rattle.fax_store.specs.Work.{Works}
 use Rattle.fax_store.proofs.WorkLemmas.{refused_as}
 use Rattle.fax_decide.specs.Effect.{accepted}
 use Rattle.fax_decide.proofs.WorkLemmas.{refused_any}
+use Rattle.fax_store.proofs.StopLemmas.{withholds_then}
 use Rattle.fax_once.proofs.acceptance.write.Goals as goal
 
 pub returns-in_err-expire_all-clause-changes : goal.returns-in_err-expire_all-clause-changes
@@ -43,3 +44,23 @@ pub returns-clause-cause : goal.returns-clause-cause
 returns-clause-cause g c m₀ m k₀ k works s fits =
     c.keep.ensures.cause m₀ _ k₀ _ (c.set_clock.ensures.changes m₀ _ k₀ _ (c.write.ensures.changes m₀ _ k₀ _ fits.0.suits (c.expire_all.ensures.changes m₀ m k₀ k works))) s
     (fits.1, subst IsKeptStatus (sym c.status.ensures) fits.2, fits.3)
+
+pub returns-in_err-write-clause-crash : goal.returns-in_err-write-clause-crash
+returns-in_err-write-clause-crash g c =
+    withholds_then (state g.S.Store c.args.work.now.store.now.conn) (state g.S.Store c.expire_all.new.self.store.now.conn) (state g.S.Store c.write.new.work.store.now.conn) _ c.expire_all.ensures.crash c.write.ensures.crash
+
+pub returns-in_err-set_clock-clause-crash : goal.returns-in_err-set_clock-clause-crash
+returns-in_err-set_clock-clause-crash g c =
+    let old = state g.S.Store c.args.work.now.store.now.conn in
+    let aged = state g.S.Store c.expire_all.new.self.store.now.conn in
+    let wrote = state g.S.Store c.write.new.work.store.now.conn in
+    withholds_then old wrote (state g.S.Store c.set_clock.new.self.store.now.conn) _ (withholds_then old aged wrote _ c.expire_all.ensures.crash c.write.ensures.crash) c.set_clock.ensures.crash
+
+pub returns-clause-crash : goal.returns-clause-crash
+returns-clause-crash g c =
+    let old = state g.S.Store c.args.work.now.store.now.conn in
+    let aged = state g.S.Store c.expire_all.new.self.store.now.conn in
+    let wrote = state g.S.Store c.write.new.work.store.now.conn in
+    let set = state g.S.Store c.set_clock.new.self.store.now.conn in
+    withholds_then old set (state g.S.Store c.keep.new.self.store.now.conn) _
+    (withholds_then old wrote set _ (withholds_then old aged wrote _ c.expire_all.ensures.crash c.write.ensures.crash) c.set_clock.ensures.crash) c.keep.ensures.crash

@@ -1,10 +1,15 @@
-use Rattle.std.proofs.Common.{refl}
+use Rattle.std.proofs.Common.{◌≡◌, ℕ, [], Ok, IsTrue, refl}
 use Rattle.sqlite.specs.Held.{state}
 use Rattle.fax_tables.specs.declared.schema.TheConstants.{CREATE_KILLTIME_INDEX, CREATE_CHOICE_INDEX}
 use Rattle.fax_tables.specs.Schema.{bare_tables, choice_index, killtime_index, six_tables, with_killtime_index}
 use Rattle.fax_tables.proofs.CreateLemmas.{clean_before, commit_kept, goes_on, kept_rows, made_index, refused_keeps}
 use Rattle.fax_tables.proofs.CreateTexts.{indexed_choice, indexed_killtime, makes_choice_index, makes_killtime_index}
 use Rattle.fax_tables.proofs.ResultLemmas.{on_err}
+use Rattle.sqlite.specs.Command.TheVariants.{CreateIndex}
+use Rattle.sqlite.specs.State.{State, HasCleanDisk, CommitsBy, Executes, Survives}
+use Rattle.fax_tables.specs.Stop.{HoldsBack}
+use Rattle.fax_tables.specs.Tables.{HasTablesAlone}
+use Rattle.fax_tables.proofs.StopLemmas.{holds_back_then, step_holds_back}
 use Rattle.fax_tables.proofs.schema.create_indexes.Goals as goal
 
 pub returns-in_err-execute-clause-kept : goal.returns-in_err-execute-clause-kept
@@ -35,3 +40,30 @@ returns-clause-made g c clean was =
     let m1 = made_index s0 s1 bare_tables with_killtime_index CREATE_KILLTIME_INDEX.now killtime_index c.in_ok-execute.field-0 makes_killtime_index refl indexed_killtime (c.in_ok-execute.ensures.runs clean1) was.inside was.schema_is in
     let m2 = made_index s1 s2 with_killtime_index six_tables CREATE_CHOICE_INDEX.now choice_index c.in_ok-execute-2.field-0 makes_choice_index refl indexed_choice (c.in_ok-execute-2.ensures.runs clean) m1.0.mode m1.1 in
     (goes_on s0 s1 s2 m1.0 m2.0, record { schema_is = m2.1; sound = m2.2; rows = kept_rows six_tables.tables s0.now.trees s1.now.trees s2.now.trees m1.3 m2.3 })
+
+-- inside a transaction, with the first index
+abbrev HasFirstIndex : State → Type 0
+HasFirstIndex s = IsTrue s.in_transaction × (s.now.schema ≡ with_killtime_index)
+
+pub returns-in_err-execute-clause-crash : goal.returns-in_err-execute-clause-crash
+returns-in_err-execute-clause-crash g c =
+    step_holds_back (state g.S.Store c.args.conn.now) (state g.S.Store c.execute.new.self) HasTablesAlone bare_tables CREATE_KILLTIME_INDEX.now (CreateIndex 0) makes_killtime_index.command (λ e. e) (λ was. (was.inside, was.schema_is)) c.execute.ensures.survives
+
+both : (s0 s1 s2 : State) (n : ℕ) → Survives s0 s1 (CommitsBy CREATE_KILLTIME_INDEX.now [] s0) → Survives s1 s2 (CommitsBy CREATE_CHOICE_INDEX.now [] s1)
+    → (HasCleanDisk s1 → Executes CREATE_KILLTIME_INDEX.now [] s0 s1 (Ok n)) → HoldsBack HasTablesAlone s0 s2
+both s0 s1 s2 n first next ran =
+    let h1 = step_holds_back s0 s1 HasTablesAlone bare_tables CREATE_KILLTIME_INDEX.now (CreateIndex 0) makes_killtime_index.command (λ e. e) (λ was. (was.inside, was.schema_is)) first in
+    let h2 = step_holds_back s1 s2 HasFirstIndex with_killtime_index CREATE_CHOICE_INDEX.now (CreateIndex 0) makes_choice_index.command (λ e. e) (λ was. was) next in
+    holds_back_then s0 s1 s2 HasTablesAlone HasFirstIndex (clean_before s0 s1 first.clean) h1
+    (λ clean was.
+    let m1 = made_index s0 s1 bare_tables with_killtime_index CREATE_KILLTIME_INDEX.now killtime_index n makes_killtime_index refl indexed_killtime (ran clean) was.inside was.schema_is in
+    (m1.0.mode, m1.1))
+    h2
+
+pub returns-in_err-execute-2-clause-crash : goal.returns-in_err-execute-2-clause-crash
+returns-in_err-execute-2-clause-crash g c =
+    both (state g.S.Store c.args.conn.now) (state g.S.Store c.execute.new.self) (state g.S.Store c.execute-2.new.self) c.in_ok-execute.field-0 c.execute.ensures.survives c.execute-2.ensures.survives c.in_ok-execute.ensures.runs
+
+pub returns-clause-crash : goal.returns-clause-crash
+returns-clause-crash g c =
+    both (state g.S.Store c.args.conn.now) (state g.S.Store c.execute.new.self) (state g.S.Store c.execute-2.new.self) c.in_ok-execute.field-0 c.execute.ensures.survives c.execute-2.ensures.survives c.in_ok-execute.ensures.runs

@@ -6,6 +6,9 @@ use Rattle.fax_tables.specs.Schema.{four_tables, no_tables, with_grants, with_ho
 use Rattle.fax_tables.proofs.CreateLemmas.{clean_before, commit_kept, goes_on, made, refused_keeps}
 use Rattle.fax_tables.proofs.CreateTexts.{makes_jobs, created_jobs, makes_grants, created_grants, makes_holds, created_holds, makes_down, created_down}
 use Rattle.fax_tables.proofs.ResultLemmas.{on_err}
+use Rattle.sqlite.specs.Command.TheVariants.{CreateTable}
+use Rattle.fax_tables.specs.Tables.{HasEmptyTables}
+use Rattle.fax_tables.proofs.StopLemmas.{holds_back_then, step_holds_back}
 use Rattle.fax_tables.proofs.schema.create_work_tables.Goals as goal
 
 pub returns-in_err-execute-clause-kept : goal.returns-in_err-execute-clause-kept
@@ -73,3 +76,56 @@ returns-clause-made g c clean was =
     let m3 = made s2 s3 with_grants with_holds CREATE_HOLDS.now schema.holds c.in_ok-execute-3.field-0 makes_holds created_holds refl (c.in_ok-execute-3.ensures.runs clean3) m2.1 in
     let m4 = made s3 s4 with_holds four_tables CREATE_DOWN.now schema.down c.in_ok-execute-4.field-0 makes_down created_down refl (c.in_ok-execute-4.ensures.runs clean) m3.1 in
     (goes_on s0 s1 s4 m1.0 (goes_on s1 s2 s4 m2.0 (goes_on s2 s3 s4 m3.0 m4.0)), m4.1)
+
+pub returns-in_err-execute-clause-crash : goal.returns-in_err-execute-clause-crash
+returns-in_err-execute-clause-crash g c =
+    let s0 = state g.S.Store c.args.conn.now in
+    let s1 = state g.S.Store c.execute.new.self in
+    let h1 = step_holds_back s0 s1 (HasEmptyTables no_tables) no_tables CREATE_JOBS.now CreateTable makes_jobs.command (λ e. e) (λ was. (was.inside, was.schema_is)) c.execute.ensures.survives in
+    h1
+
+pub returns-in_err-execute-2-clause-crash : goal.returns-in_err-execute-2-clause-crash
+returns-in_err-execute-2-clause-crash g c =
+    let s0 = state g.S.Store c.args.conn.now in
+    let s1 = state g.S.Store c.execute.new.self in
+    let s2 = state g.S.Store c.execute-2.new.self in
+    let h1 = step_holds_back s0 s1 (HasEmptyTables no_tables) no_tables CREATE_JOBS.now CreateTable makes_jobs.command (λ e. e) (λ was. (was.inside, was.schema_is)) c.execute.ensures.survives in
+    let h2 = step_holds_back s1 s2 (HasEmptyTables with_jobs) with_jobs CREATE_GRANTS.now CreateTable makes_grants.command (λ e. e) (λ was. (was.inside, was.schema_is)) c.execute-2.ensures.survives in
+    holds_back_then s0 s1 s2 (HasEmptyTables no_tables) (HasEmptyTables with_jobs) (clean_before s0 s1 c.execute.ensures.survives.clean) h1 (λ clean was. (made s0 s1 no_tables with_jobs CREATE_JOBS.now schema.jobs c.in_ok-execute.field-0 makes_jobs created_jobs refl (c.in_ok-execute.ensures.runs clean) was).1) h2
+
+pub returns-in_err-execute-3-clause-crash : goal.returns-in_err-execute-3-clause-crash
+returns-in_err-execute-3-clause-crash g c =
+    let s0 = state g.S.Store c.args.conn.now in
+    let s1 = state g.S.Store c.execute.new.self in
+    let s2 = state g.S.Store c.execute-2.new.self in
+    let s3 = state g.S.Store c.execute-3.new.self in
+    let h1 = step_holds_back s0 s1 (HasEmptyTables no_tables) no_tables CREATE_JOBS.now CreateTable makes_jobs.command (λ e. e) (λ was. (was.inside, was.schema_is)) c.execute.ensures.survives in
+    let h2 = step_holds_back s1 s2 (HasEmptyTables with_jobs) with_jobs CREATE_GRANTS.now CreateTable makes_grants.command (λ e. e) (λ was. (was.inside, was.schema_is)) c.execute-2.ensures.survives in
+    let h3 = step_holds_back s2 s3 (HasEmptyTables with_grants) with_grants CREATE_HOLDS.now CreateTable makes_holds.command (λ e. e) (λ was. (was.inside, was.schema_is)) c.execute-3.ensures.survives in
+    holds_back_then s0 s1 s3 (HasEmptyTables no_tables) (HasEmptyTables with_jobs) (clean_before s0 s1 c.execute.ensures.survives.clean) h1 (λ clean was. (made s0 s1 no_tables with_jobs CREATE_JOBS.now schema.jobs c.in_ok-execute.field-0 makes_jobs created_jobs refl (c.in_ok-execute.ensures.runs clean) was).1) (holds_back_then s1 s2 s3 (HasEmptyTables with_jobs) (HasEmptyTables with_grants) (clean_before s1 s2 c.execute-2.ensures.survives.clean) h2 (λ clean was. (made s1 s2 with_jobs with_grants CREATE_GRANTS.now schema.grants c.in_ok-execute-2.field-0 makes_grants created_grants refl (c.in_ok-execute-2.ensures.runs clean) was).1) h3)
+
+pub returns-in_err-execute-4-clause-crash : goal.returns-in_err-execute-4-clause-crash
+returns-in_err-execute-4-clause-crash g c =
+    let s0 = state g.S.Store c.args.conn.now in
+    let s1 = state g.S.Store c.execute.new.self in
+    let s2 = state g.S.Store c.execute-2.new.self in
+    let s3 = state g.S.Store c.execute-3.new.self in
+    let s4 = state g.S.Store c.execute-4.new.self in
+    let h1 = step_holds_back s0 s1 (HasEmptyTables no_tables) no_tables CREATE_JOBS.now CreateTable makes_jobs.command (λ e. e) (λ was. (was.inside, was.schema_is)) c.execute.ensures.survives in
+    let h2 = step_holds_back s1 s2 (HasEmptyTables with_jobs) with_jobs CREATE_GRANTS.now CreateTable makes_grants.command (λ e. e) (λ was. (was.inside, was.schema_is)) c.execute-2.ensures.survives in
+    let h3 = step_holds_back s2 s3 (HasEmptyTables with_grants) with_grants CREATE_HOLDS.now CreateTable makes_holds.command (λ e. e) (λ was. (was.inside, was.schema_is)) c.execute-3.ensures.survives in
+    let h4 = step_holds_back s3 s4 (HasEmptyTables with_holds) with_holds CREATE_DOWN.now CreateTable makes_down.command (λ e. e) (λ was. (was.inside, was.schema_is)) c.execute-4.ensures.survives in
+    holds_back_then s0 s1 s4 (HasEmptyTables no_tables) (HasEmptyTables with_jobs) (clean_before s0 s1 c.execute.ensures.survives.clean) h1 (λ clean was. (made s0 s1 no_tables with_jobs CREATE_JOBS.now schema.jobs c.in_ok-execute.field-0 makes_jobs created_jobs refl (c.in_ok-execute.ensures.runs clean) was).1) (holds_back_then s1 s2 s4 (HasEmptyTables with_jobs) (HasEmptyTables with_grants) (clean_before s1 s2 c.execute-2.ensures.survives.clean) h2 (λ clean was. (made s1 s2 with_jobs with_grants CREATE_GRANTS.now schema.grants c.in_ok-execute-2.field-0 makes_grants created_grants refl (c.in_ok-execute-2.ensures.runs clean) was).1) (holds_back_then s2 s3 s4 (HasEmptyTables with_grants) (HasEmptyTables with_holds) (clean_before s2 s3 c.execute-3.ensures.survives.clean) h3 (λ clean was. (made s2 s3 with_grants with_holds CREATE_HOLDS.now schema.holds c.in_ok-execute-3.field-0 makes_holds created_holds refl (c.in_ok-execute-3.ensures.runs clean) was).1) h4))
+
+pub returns-clause-crash : goal.returns-clause-crash
+returns-clause-crash g c =
+    let s0 = state g.S.Store c.args.conn.now in
+    let s1 = state g.S.Store c.execute.new.self in
+    let s2 = state g.S.Store c.execute-2.new.self in
+    let s3 = state g.S.Store c.execute-3.new.self in
+    let s4 = state g.S.Store c.execute-4.new.self in
+    let h1 = step_holds_back s0 s1 (HasEmptyTables no_tables) no_tables CREATE_JOBS.now CreateTable makes_jobs.command (λ e. e) (λ was. (was.inside, was.schema_is)) c.execute.ensures.survives in
+    let h2 = step_holds_back s1 s2 (HasEmptyTables with_jobs) with_jobs CREATE_GRANTS.now CreateTable makes_grants.command (λ e. e) (λ was. (was.inside, was.schema_is)) c.execute-2.ensures.survives in
+    let h3 = step_holds_back s2 s3 (HasEmptyTables with_grants) with_grants CREATE_HOLDS.now CreateTable makes_holds.command (λ e. e) (λ was. (was.inside, was.schema_is)) c.execute-3.ensures.survives in
+    let h4 = step_holds_back s3 s4 (HasEmptyTables with_holds) with_holds CREATE_DOWN.now CreateTable makes_down.command (λ e. e) (λ was. (was.inside, was.schema_is)) c.execute-4.ensures.survives in
+    holds_back_then s0 s1 s4 (HasEmptyTables no_tables) (HasEmptyTables with_jobs) (clean_before s0 s1 c.execute.ensures.survives.clean) h1 (λ clean was. (made s0 s1 no_tables with_jobs CREATE_JOBS.now schema.jobs c.in_ok-execute.field-0 makes_jobs created_jobs refl (c.in_ok-execute.ensures.runs clean) was).1) (holds_back_then s1 s2 s4 (HasEmptyTables with_jobs) (HasEmptyTables with_grants) (clean_before s1 s2 c.execute-2.ensures.survives.clean) h2 (λ clean was. (made s1 s2 with_jobs with_grants CREATE_GRANTS.now schema.grants c.in_ok-execute-2.field-0 makes_grants created_grants refl (c.in_ok-execute-2.ensures.runs clean) was).1) (holds_back_then s2 s3 s4 (HasEmptyTables with_grants) (HasEmptyTables with_holds) (clean_before s2 s3 c.execute-3.ensures.survives.clean) h3 (λ clean was. (made s2 s3 with_grants with_holds CREATE_HOLDS.now schema.holds c.in_ok-execute-3.field-0 makes_holds created_holds refl (c.in_ok-execute-3.ensures.runs clean) was).1) h4))

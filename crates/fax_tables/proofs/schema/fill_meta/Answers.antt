@@ -2,6 +2,10 @@ use Rattle.sqlite.specs.Held.{state}
 use Rattle.fax_tables.specs.declared.schema.TheConstants.{INSERT_META}
 use Rattle.fax_tables.proofs.CreateLemmas.{filled, refused_keeps}
 use Rattle.fax_tables.proofs.ResultLemmas.{on_err}
+use Rattle.fax_tables.specs.Schema.{six_tables}
+use Rattle.fax_tables.specs.Tables.{HasEmptyTables}
+use Rattle.fax_tables.proofs.CreateTexts.{insert_meta}
+use Rattle.fax_tables.proofs.StopLemmas.{step_holds_back}
 use Rattle.fax_tables.proofs.schema.fill_meta.Goals as goal
 
 pub returns-in_err-execute-clause-kept : goal.returns-in_err-execute-clause-kept
@@ -10,3 +14,11 @@ returns-in_err-execute-clause-kept g c clean =
 
 pub returns-clause-made : goal.returns-clause-made
 returns-clause-made g c clean was = filled (state g.S.Store c.args.conn.now) (state g.S.Store c.execute.new.self) c.in_ok-execute.field-0 (c.in_ok-execute.ensures.runs clean) was
+
+pub returns-in_err-execute-clause-crash : goal.returns-in_err-execute-clause-crash
+returns-in_err-execute-clause-crash g c =
+    step_holds_back (state g.S.Store c.args.conn.now) (state g.S.Store c.execute.new.self) (HasEmptyTables six_tables) six_tables INSERT_META.now _ insert_meta.is (λ e. e) (λ was. (was.inside, was.schema_is)) c.execute.ensures.survives
+
+pub returns-clause-crash : goal.returns-clause-crash
+returns-clause-crash g c =
+    step_holds_back (state g.S.Store c.args.conn.now) (state g.S.Store c.execute.new.self) (HasEmptyTables six_tables) six_tables INSERT_META.now _ insert_meta.is (λ e. e) (λ was. (was.inside, was.schema_is)) c.execute.ensures.survives

@@ -4,6 +4,7 @@ use Rattle.fax_core.specs.Machine.{with_mark}
 use Rattle.fax_store.specs.Work.{Works}
 use Rattle.fax_decide.specs.Effect.{IsWithin, IsWritable, Suits, effected}
 use Rattle.fax_decide.proofs.WorkLemmas.{refused_any}
+use Rattle.fax_store.proofs.StopLemmas.{withholds_then}
 use Rattle.fax_decide.proofs.effect.Effect.write.Goals as goal
 
 pub returns-in-NewJob-clause-changes : goal.returns-in-NewJob-clause-changes
@@ -74,3 +75,15 @@ returns-in_ok-put_change-in-NewGrant-clause-cause g c m₀ m k₀ k works s fits
 
 pub returns-in_ok-put_change-in-Reported-clause-cause : goal.returns-in_ok-put_change-in-Reported-clause-cause
 returns-in_ok-put_change-in-Reported-clause-cause g c m₀ m k₀ k works s fits = c.put_report.ensures.cause (subst (λ e. IsWithin e m) c.in-Reported.is fits.within)
+
+pub returns-in_ok-put_change-in-NewGrant-clause-crash : goal.returns-in_ok-put_change-in-NewGrant-clause-crash
+returns-in_ok-put_change-in-NewGrant-clause-crash g c =
+    withholds_then (state g.S.Store c.args.work.now.store.now.conn) (state g.S.Store c.put_change-in-NewGrant.new.self.store.now.conn) (state g.S.Store c.put_grant.new.self.store.now.conn) _ c.put_change-in-NewGrant.ensures.crash c.put_grant.ensures.crash
+
+pub returns-in_ok-put_change-in-Reported-clause-crash : goal.returns-in_ok-put_change-in-Reported-clause-crash
+returns-in_ok-put_change-in-Reported-clause-crash g c =
+    withholds_then (state g.S.Store c.args.work.now.store.now.conn) (state g.S.Store c.put_change-in-Reported.new.self.store.now.conn) (state g.S.Store c.put_report.new.self.store.now.conn) _ c.put_change-in-Reported.ensures.crash c.put_report.ensures.crash
+
+pub returns-in_ok-put_change-in-Closed-clause-crash : goal.returns-in_ok-put_change-in-Closed-clause-crash
+returns-in_ok-put_change-in-Closed-clause-crash g c =
+    withholds_then (state g.S.Store c.args.work.now.store.now.conn) (state g.S.Store c.put_change-in-Closed.new.self.store.now.conn) (state g.S.Store c.close_grant.new.self.store.now.conn) _ c.put_change-in-Closed.ensures.crash c.close_grant.ensures.crash

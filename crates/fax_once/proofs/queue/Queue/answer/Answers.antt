@@ -1,6 +1,7 @@
 use Rattle.sqlite.specs.Held.{state}
 use Rattle.fax_decide.specs.Settings.{settings_of}
 use Rattle.fax_once.proofs.RequestLemmas.{told_answers}
+use Rattle.std.proofs.Common.{inl}
 use Rattle.fax_once.proofs.queue.Queue.answer.Goals as goal
 
 pub returns-in-Ok-clause-answered : goal.returns-in-Ok-clause-answered
@@ -14,3 +15,9 @@ returns-in-Err-clause-answered g c m k sound means clean =
 
 pub returns-in-Ok-clause-seen : goal.returns-in-Ok-clause-seen
 returns-in-Ok-clause-seen g c get = c.answer_ask.ensures.seen get c.in-Ok.ensures.ask
+
+pub returns-in-Ok-clause-crash : goal.returns-in-Ok-clause-crash
+returns-in-Ok-clause-crash g c m k sound means = c.answer_ask.ensures.crash m k sound means c.in-Ok.ensures.ask c.in-Ok.ensures.lawful
+
+pub returns-in-Err-clause-crash : goal.returns-in-Err-clause-crash
+returns-in-Err-clause-crash g c m k sound means found may = inl may

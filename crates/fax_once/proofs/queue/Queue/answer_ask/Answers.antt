@@ -1,4 +1,4 @@
-use Rattle.std.proofs.Common.{Ok, subst}
+use Rattle.std.proofs.Common.{Ok, inl, subst}
 use Rattle.sqlite.specs.Held.{state}
 use Rattle.sqlite.specs.State.{HasCleanDisk}
 use Rattle.fax_store.specs.Store.{Serves}
@@ -9,6 +9,7 @@ use Rattle.fax_store.proofs.StoreLemmas.{means_stay}
 use Rattle.fax_once.proofs.GetLemmas.{no_step}
 use Rattle.fax_once.proofs.SenderLemmas.{its_reply, sender_plain}
 use Rattle.fax_once.proofs.RequestLemmas.{view_answers, step_answers, sender_answers, where_open}
+use Rattle.fax_once.proofs.StopLemmas.{asked_stops}
 use Rattle.fax_once.proofs.queue.Queue.answer_ask.Goals as goal
 
 pub returns-in-View-clause-answered : goal.returns-in-View-clause-answered
@@ -41,3 +42,14 @@ returns-in-Ok-clause-repeated g c db six rests used =
 
 pub returns-in-View-clause-repeated : goal.returns-in-View-clause-repeated
 returns-in-View-clause-repeated g c db six rests used = c.show.ensures.stays db six rests
+
+pub returns-in-View-clause-crash : goal.returns-in-View-clause-crash
+returns-in-View-clause-crash g c m k sound means is lawful found may = inl (c.show.ensures.crash found may)
+
+pub returns-in-Ok-clause-crash : goal.returns-in-Ok-clause-crash
+returns-in-Ok-clause-crash g c m k sound means is lawful =
+    asked_stops (settings_of c.args.self.now.office.setup c.args.self.now.office.controls) c.args.arrival.now m k c.in-Ok.sender c.args.ask c.in-Step.ask
+    (state g.S.Store c.args.self.now.store.conn) (state g.S.Store c.step.new.self.store.conn) is c.in-Step.is c.in-Ok.ensures.sender (c.step.ensures.crash m k sound means c.in-Ok.ensures.sender)
+
+pub returns-in-Err-clause-crash : goal.returns-in-Err-clause-crash
+returns-in-Err-clause-crash g c m k sound means is lawful found may = inl may

@@ -22,3 +22,9 @@ returns-in-Err-clause-sound g c m k sound means clean =
 
 pub returns-in-Err-clause-refused : goal.returns-in-Err-clause-refused
 returns-in-Err-clause-refused g c refused = c.in-Err.ensures.unchanged tt
+
+pub returns-in-Ok-clause-alone : goal.returns-in-Ok-clause-alone
+returns-in-Ok-clause-alone g c serves found leaves = g.met.S.Store.settled c.answer.new.self.store.conn.store found serves.is_open leaves
+
+pub returns-in-Err-clause-alone : goal.returns-in-Err-clause-alone
+returns-in-Err-clause-alone g c serves found leaves = g.met.S.Store.settled c.answer.new.self.store.conn.store found serves.is_open leaves

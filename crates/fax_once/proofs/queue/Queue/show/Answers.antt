@@ -14,3 +14,6 @@ returns-clause-viewed g c m k sound means serves =
 
 pub returns-clause-stays : goal.returns-clause-stays
 returns-clause-stays g c db six rests = c.show.ensures.stays db six (c.meta.ensures.stays db six rests)
+
+pub returns-clause-crash : goal.returns-clause-crash
+returns-clause-crash g c found may = c.meta.ensures.crash found (c.show.ensures.crash found may)

@@ -1,10 +1,11 @@
-use Rattle.std.proofs.Common.{subst}
+use Rattle.std.proofs.Common.{inl, subst}
 use Rattle.sqlite.specs.Held.{state}
 use Rattle.fax_decide.specs.Settings.{settings_of}
 use Rattle.fax_decide.proofs.WorkLemmas.{refused_with}
 use Rattle.fax_store.proofs.StoreLemmas.{means_stay}
 use Rattle.fax_store.specs.Kept.{IsKeptFor, MissesNone}
 use Rattle.fax_once.proofs.VerdictLemmas.{repeated_leaves}
+use Rattle.fax_once.proofs.StopLemmas.{then_stops}
 use Rattle.fax_once.proofs.queue.Queue.step.Goals as goal
 
 pub returns-in-Some-clause-stepped : goal.returns-in-Some-clause-stepped
@@ -37,3 +38,15 @@ returns-in-Some-clause-repeated g c db six rests used = c.kept.ensures.stays db 
 
 pub returns-in_err-kept-clause-repeated : goal.returns-in_err-kept-clause-repeated
 returns-in_err-kept-clause-repeated g c db six rests used = c.kept.ensures.stays db six rests
+
+pub returns-in-None-clause-crash : goal.returns-in-None-clause-crash
+returns-in-None-clause-crash g c m k sound means from =
+    then_stops (state g.S.Store c.args.self.now.store.conn) (state g.S.Store c.kept.new.self.conn) (state g.S.Store c.step_once.new.self.store.conn) _ c.kept.ensures.crash
+    (c.step_once.ensures.crash m k sound (means_stay c.kept.ensures.served c.kept.ensures.stays m k means) from
+    (λ serves. subst (IsKeptFor k c.args.sender.now.client.now c.args.sender.now.number) c.in-None.is (c.in_ok-kept.ensures.found m k means serves)))
+
+pub returns-in-Some-clause-crash : goal.returns-in-Some-clause-crash
+returns-in-Some-clause-crash g c m k sound means from found may = inl (c.kept.ensures.crash found may)
+
+pub returns-in_err-kept-clause-crash : goal.returns-in_err-kept-clause-crash
+returns-in_err-kept-clause-crash g c m k sound means from found may = inl (c.kept.ensures.crash found may)

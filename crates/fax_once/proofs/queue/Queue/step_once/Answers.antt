@@ -1,4 +1,4 @@
-use Rattle.std.proofs.Common.{ap, subst, ◌∙◌}
+use Rattle.std.proofs.Common.{ap, inl, subst, ◌∙◌}
 use Rattle.std.specs.Prelude.{IfOk}
 use Rattle.fax_core.specs.Clock.{decided_at}
 use Rattle.fax_core.specs.Machine.{step}
@@ -7,6 +7,9 @@ use Rattle.fax_decide.specs.Settings.{settings_of}
 use Rattle.fax_once.proofs.VerdictLemmas.{lawful_ask}
 use Rattle.fax_decide.proofs.WorkLemmas.{refused_with}
 use Rattle.fax_store.proofs.StoreLemmas.{means_stay}
+use Rattle.sqlite.specs.Held.{state}
+use Rattle.fax_tables.proofs.StopLemmas.{nothing_then}
+use Rattle.fax_once.proofs.StopLemmas.{then_stops}
 use Rattle.fax_once.proofs.queue.Queue.step_once.Goals as goal
 
 pub returns-clause-stepped : goal.returns-clause-stepped
@@ -38,3 +41,26 @@ returns-in_err-decision-clause-unchanged g c refused db six rests = c.decide.ens
 pub returns-clause-unchanged : goal.returns-clause-unchanged
 returns-clause-unchanged g c refused db six rests =
     c.settle.ensures.unchanged refused db six (c.decide.ensures.stays db six (c.meta.ensures.stays db six rests))
+
+pub returns-clause-crash : goal.returns-clause-crash
+returns-clause-crash g c m k sound means from unused =
+    let settings = settings_of c.args.self.now.office.setup c.args.self.now.office.controls in
+    let read = means_stay c.meta.ensures.served c.meta.ensures.stays m k means in
+    let old = state g.S.Store c.args.self.now.store.conn in
+    let between = state g.S.Store c.decide.new.store.conn in
+    then_stops old between (state g.S.Store c.settle.new.self.store.conn) _
+    (nothing_then old (state g.S.Store c.meta.new.self.conn) between c.meta.ensures.crash c.decide.ensures.crash)
+    (c.settle.ensures.crash settings m k c.args.ask (means_stay c.decide.ensures.served c.decide.ensures.stays m k read) from
+    (λ at.
+    let meta = c.in_ok-meta.ensures.found m k means (c.decide.ensures.served at) in
+    record {
+      unused = unused (c.meta.ensures.served (c.decide.ensures.served at));
+      now = c.moment_at-t.ensures ∙ ap (λ meta. decided_at meta.clock c.args.arrival.now.moment) meta;
+      decides = subst (λ r. IfOk r (Decides (step settings m c.moment_at-t.result c.args.ask) m c.moment_at-t.result)) c.in_ok-decision.was (c.decide.ensures.decided m k sound read at meta);
+    }))
+
+pub returns-in_err-meta-clause-crash : goal.returns-in_err-meta-clause-crash
+returns-in_err-meta-clause-crash g c m k sound means from unused found may = inl (c.meta.ensures.crash found may)
+
+pub returns-in_err-decision-clause-crash : goal.returns-in_err-decision-clause-crash
+returns-in_err-decision-clause-crash g c m k sound means from unused found may = inl (c.meta.ensures.crash found (c.decide.ensures.crash found may))

@@ -41,3 +41,9 @@ returns-clause-found g c m k given means serves stands =
       c.in_ok-calls.ensures.found m k (means_stay c.refill.ensures.served c.refill.ensures.stays m k means) serves
           ∙ ap (λ (job : JobFields). calls_to job.dial m) c.fields.ensures.fields,
     )
+
+pub returns-in_err-calls-clause-crash : goal.returns-in_err-calls-clause-crash
+returns-in_err-calls-clause-crash g c found may = c.refill.ensures.crash found (c.active_to.ensures.crash found may)
+
+pub returns-clause-crash : goal.returns-clause-crash
+returns-clause-crash g c found may = c.refill.ensures.crash found (c.active_to.ensures.crash found may)

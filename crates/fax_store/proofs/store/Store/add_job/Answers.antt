@@ -7,6 +7,7 @@ use Rattle.fax_tables.specs.Tables.{IsLawfulMeta}
 use Rattle.fax_store.specs.Work.{Steps}
 use Rattle.fax_store.proofs.WorkLemmas.{goes_on, holds_by, holds_err, holds_then, moves_of, refused_as, steps_fault}
 use Rattle.std.specs.Prelude.{is_err}
+use Rattle.fax_store.proofs.StopLemmas.{withholds_by, withholds_err, withholds_then}
 use Rattle.fax_store.proofs.store.Store.add_job.Goals as goal
 
 pub returns-clause-written : goal.returns-clause-written
@@ -76,3 +77,20 @@ returns-clause-holds g c =
     let first = holds_by old read c.read_meta.ensures.served (Ok c.in_ok-meta.meta) c.in_ok-meta.ensures.reads in
     holds_then old put (state g.S.Store c.write_meta.new.self.conn) (is_err c.write_meta.result) c.write_meta.ensures.served
     (holds_then old read put false c.insert_job.ensures.served first c.in_ok-insert_job.ensures.holds) c.write_meta.ensures.holds
+
+pub returns-in_err-insert_job-clause-crash : goal.returns-in_err-insert_job-clause-crash
+returns-in_err-insert_job-clause-crash g c =
+    let old = state g.S.Store c.args.self.now.conn in
+    let read = state g.S.Store c.read_meta.new.self.conn in
+    let put = state g.S.Store c.insert_job.new.self.conn in
+    withholds_err old put c.from_residual-in_err-insert_job.result _ c.from_residual-in_err-insert_job.ensures.1
+    (withholds_then old read put true (withholds_by old read c.read_meta.ensures.clean (Ok c.in_ok-meta.meta) c.in_ok-meta.ensures.reads c.read_meta.ensures.crash) c.in_err-insert_job.ensures.crash)
+
+pub returns-clause-crash : goal.returns-clause-crash
+returns-clause-crash g c =
+    let old = state g.S.Store c.args.self.now.conn in
+    let read = state g.S.Store c.read_meta.new.self.conn in
+    let put = state g.S.Store c.insert_job.new.self.conn in
+    let first = withholds_by old read c.read_meta.ensures.clean (Ok c.in_ok-meta.meta) c.in_ok-meta.ensures.reads c.read_meta.ensures.crash in
+    withholds_then old put (state g.S.Store c.write_meta.new.self.conn) (is_err c.write_meta.result)
+    (withholds_then old read put false first c.in_ok-insert_job.ensures.crash) c.write_meta.ensures.crash

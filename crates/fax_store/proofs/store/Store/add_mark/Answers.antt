@@ -11,6 +11,7 @@ use Rattle.fax_store.proofs.WorkLemmas.{goes_on, holds_by, holds_then, move_by, 
 use Rattle.fax_store.proofs.StatementLemmas.{edit_text}
 use Rattle.fax_store.proofs.ModemTexts as texts
 use Rattle.std.specs.Prelude.{is_err}
+use Rattle.fax_store.proofs.StopLemmas.{withholds_by, withholds_then}
 use Rattle.fax_store.proofs.store.Store.add_mark.Goals as goal
 
 pub returns-then-branch-clause-written : goal.returns-then-branch-clause-written
@@ -51,4 +52,14 @@ returns-clause-holds g c =
     let old = state g.S.Store c.args.self.now.conn in
     let read = state g.S.Store c.read_mark.new.self.conn in
     holds_then old read (state g.S.Store c.insert.new.self.conn) (is_err c.insert.result) c.insert.ensures.served
-    (holds_by old read c.read_mark.ensures.served (Ok c.in_ok-read_mark.field-0) c.in_ok-read_mark.ensures.reads) (c.insert.ensures.holds (edit_text INSERT_DOWN.now _ tt texts.insert_down))
+    (holds_by old read c.read_mark.ensures.served (Ok c.in_ok-read_mark.field-0) c.in_ok-read_mark.ensures.reads) (c.insert.ensures.holds)
+
+pub insert-requires : goal.insert-requires
+insert-requires g c = edit_text INSERT_DOWN.now _ tt texts.insert_down
+
+pub returns-clause-crash : goal.returns-clause-crash
+returns-clause-crash g c =
+    let old = state g.S.Store c.args.self.now.conn in
+    let read = state g.S.Store c.read_mark.new.self.conn in
+    withholds_then old read (state g.S.Store c.insert.new.self.conn) (is_err c.insert.result)
+    (withholds_by old read c.read_mark.ensures.clean (Ok c.in_ok-read_mark.field-0) c.in_ok-read_mark.ensures.reads c.read_mark.ensures.crash) (c.insert.ensures.crash)

@@ -18,8 +18,8 @@ returns-clause-written g c m₀ m k₀ k works s =
     let ran : OnOk c.run.result (HasRun DELETE_DOWN.now params old new) = subst (λ p. OnOk c.run.result (HasRun DELETE_DOWN.now p old new)) (search rules) (c.run.ensures.ran s.clean) in
     step_by old new DELETE_DOWN.now params 6 c.run.result m₀ m (with_mark modem false m) k₀ k k c.run.ensures.served works s ran (c.run.ensures.left s.clean) (c.run.ensures.cause (change_text DELETE_DOWN.now _ tt texts.delete_down)) (λ means has. modems.mark_cleared modem old new m k means has)
 
-pub returns-clause-holds : goal.returns-clause-holds
-returns-clause-holds g c = c.run.ensures.holds (edit_text DELETE_DOWN.now _ tt texts.delete_down)
-
 pub returns-clause-cause : goal.returns-clause-cause
 returns-clause-cause g c = c.run.ensures.cause (change_text DELETE_DOWN.now _ tt texts.delete_down)
+
+pub run-requires : goal.run-requires
+run-requires g c = edit_text DELETE_DOWN.now _ tt texts.delete_down

@@ -18,8 +18,8 @@ returns-clause-written g c m₀ m k₀ k works s =
     step_by old new EXPIRE_JOBS.now params 0 c.run.result m₀ m (with_expired_in c.args.phase c.args.t m) k₀ k k c.run.ensures.served works s ran (c.run.ensures.left s.clean) (c.run.ensures.cause (change_text EXPIRE_JOBS.now _ tt texts.expire_jobs))
     (λ means has. jobs_expired c.args.phase c.args.t old new m k means has)
 
-pub returns-clause-holds : goal.returns-clause-holds
-returns-clause-holds g c = c.run.ensures.holds (edit_text EXPIRE_JOBS.now _ tt texts.expire_jobs)
-
 pub returns-clause-cause : goal.returns-clause-cause
 returns-clause-cause g c = c.run.ensures.cause (change_text EXPIRE_JOBS.now _ tt texts.expire_jobs)
+
+pub run-requires : goal.run-requires
+run-requires g c = edit_text EXPIRE_JOBS.now _ tt texts.expire_jobs

@@ -7,6 +7,7 @@ use Rattle.fax_store.specs.Store.{LeavesCommit}
 use Rattle.fax_store.proofs.StatementLemmas.{left_open, run_open}
 use Rattle.fax_store.proofs.StoreLemmas.{served}
 use Rattle.fax_store.proofs.WorkLemmas.{edit_holds, left_holds}
+use Rattle.fax_store.proofs.StopLemmas.{edit_withholds, refused_withholds}
 use Rattle.fax_store.proofs.store.Store.insert.Goals as goal
 
 pub returns-in-Err-clause-left : goal.returns-in-Err-clause-left
@@ -27,16 +28,23 @@ returns-in-Ok-clause-served g c s =
     served old new c.execute.ensures.survives.clean s (run_open old new c.args.sql.now (bound c.args.params.now) c.in-Ok.field-0 (c.in-Ok.ensures.runs s.clean) s.is_open)
 
 pub returns-in-Ok-clause-holds : goal.returns-in-Ok-clause-holds
-returns-in-Ok-clause-holds g c edit =
+returns-in-Ok-clause-holds g c =
     let old = state g.S.Store c.args.self.now.conn in
     let new = state g.S.Store c.execute.new.self in
     edit_holds old new c.args.sql.now (bound c.args.params.now)
     (λ s. served old new c.execute.ensures.survives.clean s (run_open old new c.args.sql.now (bound c.args.params.now) c.in-Ok.field-0 (c.in-Ok.ensures.runs s.clean) s.is_open))
-    edit c.in-Ok.field-0 c.in-Ok.ensures.runs
+    c.requires c.in-Ok.field-0 c.in-Ok.ensures.runs
 
 pub returns-in-Err-clause-holds : goal.returns-in-Err-clause-holds
-returns-in-Err-clause-holds g c edit =
+returns-in-Err-clause-holds g c =
     let old = state g.S.Store c.args.self.now.conn in
     let new = state g.S.Store c.execute.new.self in
     let left : HasCleanDisk new → LeavesCommit old new = λ clean. fails_whole old new false c.args.sql.now (bound c.args.params.now) c.in-Err.error (c.in-Err.ensures.runs clean) in
     left_holds old new (λ s. served old new c.execute.ensures.survives.clean s (left_open old new c.args.sql.now (bound c.args.params.now) (left s.clean) s.is_open)) left
+
+pub returns-in-Ok-clause-crash : goal.returns-in-Ok-clause-crash
+returns-in-Ok-clause-crash g c =
+    edit_withholds (state g.S.Store c.args.self.now.conn) (state g.S.Store c.execute.new.self) c.args.sql.now (bound c.args.params.now) c.requires c.execute.ensures.survives c.in-Ok.field-0 c.in-Ok.ensures.runs
+
+pub returns-in-Err-clause-crash : goal.returns-in-Err-clause-crash
+returns-in-Err-clause-crash g c = refused_withholds (state g.S.Store c.args.self.now.conn) (state g.S.Store c.execute.new.self) c.args.sql.now (bound c.args.params.now) c.requires c.execute.ensures.survives

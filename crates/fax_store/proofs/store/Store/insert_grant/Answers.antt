@@ -9,6 +9,7 @@ use Rattle.fax_store.proofs.WorkLemmas.{holds_then, refused_move, refused_as, to
 use Rattle.std.specs.Prelude.{is_err}
 use Rattle.fax_store.proofs.GrantTexts as texts
 use Rattle.fax_store.proofs.StatementLemmas.{edit_text}
+use Rattle.fax_store.proofs.StopLemmas.{withholds_then}
 use Rattle.fax_store.proofs.store.Store.insert_grant.Goals as goal
 
 pub returns-in_err-insert-clause-written : goal.returns-in_err-insert-clause-written
@@ -58,4 +59,15 @@ returns-clause-cause g c m₀ m k₀ k works s fit =
 pub returns-clause-holds : goal.returns-clause-holds
 returns-clause-holds g c =
     holds_then (state g.S.Store c.args.self.now.conn) (state g.S.Store c.insert.new.self.conn) (state g.S.Store c.insert-2.new.self.conn) (is_err c.insert-2.result) c.insert-2.ensures.served
-    (c.in_ok-insert.ensures.holds (edit_text INSERT_HOLD.now _ tt texts.insert_hold)) (c.insert-2.ensures.holds (edit_text INSERT_GRANT.now _ tt texts.insert_grant))
+    (c.in_ok-insert.ensures.holds) (c.insert-2.ensures.holds)
+
+pub insert-requires : goal.insert-requires
+insert-requires g c = edit_text INSERT_HOLD.now _ tt texts.insert_hold
+
+pub insert-requires-2 : goal.insert-requires-2
+insert-requires-2 g c = edit_text INSERT_GRANT.now _ tt texts.insert_grant
+
+pub returns-clause-crash : goal.returns-clause-crash
+returns-clause-crash g c =
+    withholds_then (state g.S.Store c.args.self.now.conn) (state g.S.Store c.insert.new.self.conn) (state g.S.Store c.insert-2.new.self.conn) (is_err c.insert-2.result)
+    (c.in_ok-insert.ensures.crash) (c.insert-2.ensures.crash)

@@ -58,5 +58,5 @@ returns-clause-cause g c m₀ m k₀ k works s free =
     only_unavailable old new INSERT_JOB.now (job_shown j) c.insert.result (λ m k. IsNewJob (job_of j) m) c.insert.ensures.served (subst (λ p. HasCleanDisk new → IfErr c.insert.result (IsRefusedFor INSERT_JOB.now p old new)) shown told)
     (λ m k means free e h. job_goes old new m k means j free e h) m₀ m k₀ k works s (subst (λ f. IsNewJob (job_of f) m) (sym same) free)
 
-pub returns-clause-holds : goal.returns-clause-holds
-returns-clause-holds g c = c.insert.ensures.holds (edit_text INSERT_JOB.now _ tt texts.insert_job)
+pub insert-requires : goal.insert-requires
+insert-requires g c = edit_text INSERT_JOB.now _ tt texts.insert_job

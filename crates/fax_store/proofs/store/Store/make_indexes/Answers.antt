@@ -2,8 +2,10 @@ use Rattle.sqlite.specs.Held.{state}
 use Rattle.fax_tables.proofs.CreateLemmas.{refused_keeps}
 use Rattle.fax_tables.proofs.ResultLemmas.{on_err}
 use Rattle.fax_store.specs.declared.store.TheConstants.{BEGIN}
-use Rattle.fax_store.proofs.AdoptLemmas.{has_version, indexes_made, indexes_not_committed, indexing_kept, kept_served, starts, test_kept, told_strange, was_ours}
+use Rattle.fax_store.proofs.AdoptLemmas.{has_version, indexes_hold_back, indexes_made, indexes_not_committed, indexes_stop, indexing_kept, kept_served, makes_none, starts, test_kept, told_strange, was_ours}
 use Rattle.fax_store.proofs.StoreLemmas.{cleaner, commit_opens}
+use Rattle.fax_store.proofs.StopLemmas.{begin_nothing}
+use Rattle.fax_tables.proofs.StopLemmas.{nothing_then}
 use Rattle.fax_store.proofs.store.Store.make_indexes.Goals as goal
 
 pub returns-in_err-execute-clause-kept : goal.returns-in_err-execute-clause-kept
@@ -124,3 +126,64 @@ returns-clause-served g c s =
 
 pub returns-clause-opens : goal.returns-clause-opens
 returns-clause-opens g c = commit_opens (state g.S.Store c.test_tables.new.self.conn) (state g.S.Store c.execute-2.new.self) c.execute-2.ensures.survives.clean c.in_ok-execute-2.field-0 c.in_ok-execute-2.ensures.runs
+
+pub returns-in_err-execute-clause-crash : goal.returns-in_err-execute-clause-crash
+returns-in_err-execute-clause-crash g c =
+    let s0 = state g.S.Store c.args.self.now.conn in
+    let s1 = state g.S.Store c.execute.new.self in
+    makes_none s0 s1 _ (begin_nothing s0 s1 c.execute.ensures.survives)
+
+pub returns-in_err-execute-clause-nothing : goal.returns-in_err-execute-clause-nothing
+returns-in_err-execute-clause-nothing g c is = begin_nothing (state g.S.Store c.args.self.now.conn) (state g.S.Store c.execute.new.self) c.execute.ensures.survives
+
+pub returns-in_err-create_indexes-clause-crash : goal.returns-in_err-create_indexes-clause-crash
+returns-in_err-create_indexes-clause-crash g c =
+    let s0 = state g.S.Store c.args.self.now.conn in
+    let s1 = state g.S.Store c.execute.new.self in
+    let s2 = state g.S.Store c.create_indexes.new.conn in
+    let held = indexes_hold_back s0 s1 c.requires c.in_ok-execute.field-0 c.execute.ensures.survives c.in_ok-execute.ensures.runs s2 c.create_indexes.ensures.crash in
+    makes_none s0 s2 _ held
+
+pub returns-in_err-create_indexes-clause-nothing : goal.returns-in_err-create_indexes-clause-nothing
+returns-in_err-create_indexes-clause-nothing g c is =
+    let s0 = state g.S.Store c.args.self.now.conn in
+    let s1 = state g.S.Store c.execute.new.self in
+    let s2 = state g.S.Store c.create_indexes.new.conn in
+    let held = indexes_hold_back s0 s1 c.requires c.in_ok-execute.field-0 c.execute.ensures.survives c.in_ok-execute.ensures.runs s2 c.create_indexes.ensures.crash in
+    held
+
+pub returns-in_err-test_tables-clause-crash : goal.returns-in_err-test_tables-clause-crash
+returns-in_err-test_tables-clause-crash g c =
+    let s0 = state g.S.Store c.args.self.now.conn in
+    let s1 = state g.S.Store c.execute.new.self in
+    let s2 = state g.S.Store c.create_indexes.new.conn in
+    let held = indexes_hold_back s0 s1 c.requires c.in_ok-execute.field-0 c.execute.ensures.survives c.in_ok-execute.ensures.runs s2 c.create_indexes.ensures.crash in
+    makes_none s0 (state g.S.Store c.test_tables.new.self.conn) _ (nothing_then s0 s2 (state g.S.Store c.test_tables.new.self.conn) held c.test_tables.ensures.crash)
+
+pub returns-in_err-test_tables-clause-nothing : goal.returns-in_err-test_tables-clause-nothing
+returns-in_err-test_tables-clause-nothing g c is =
+    let s0 = state g.S.Store c.args.self.now.conn in
+    let s1 = state g.S.Store c.execute.new.self in
+    let s2 = state g.S.Store c.create_indexes.new.conn in
+    let held = indexes_hold_back s0 s1 c.requires c.in_ok-execute.field-0 c.execute.ensures.survives c.in_ok-execute.ensures.runs s2 c.create_indexes.ensures.crash in
+    nothing_then s0 s2 (state g.S.Store c.test_tables.new.self.conn) held c.test_tables.ensures.crash
+
+pub returns-in_err-execute-2-clause-crash : goal.returns-in_err-execute-2-clause-crash
+returns-in_err-execute-2-clause-crash g c =
+    let s0 = state g.S.Store c.args.self.now.conn in
+    let s1 = state g.S.Store c.execute.new.self in
+    let s2 = state g.S.Store c.create_indexes.new.conn in
+    let s3 = state g.S.Store c.test_tables.new.self.conn in
+    let s4 = state g.S.Store c.execute-2.new.self in
+    indexes_stop s0 s1 c.requires c.in_ok-execute.field-0 c.execute.ensures.survives c.in_ok-execute.ensures.runs s2 c.create_indexes.ensures.crash
+    (cleaner s1 s2 c.create_indexes.ensures.doubt) c.in_ok-create_indexes.ensures.made s3 c.test_tables.ensures.clean c.test_tables.ensures.crash c.in_ok-test_tables.ensures.ours s4 c.execute-2.ensures.survives
+
+pub returns-clause-crash : goal.returns-clause-crash
+returns-clause-crash g c =
+    let s0 = state g.S.Store c.args.self.now.conn in
+    let s1 = state g.S.Store c.execute.new.self in
+    let s2 = state g.S.Store c.create_indexes.new.conn in
+    let s3 = state g.S.Store c.test_tables.new.self.conn in
+    let s4 = state g.S.Store c.execute-2.new.self in
+    indexes_stop s0 s1 c.requires c.in_ok-execute.field-0 c.execute.ensures.survives c.in_ok-execute.ensures.runs s2 c.create_indexes.ensures.crash
+    (cleaner s1 s2 c.create_indexes.ensures.doubt) c.in_ok-create_indexes.ensures.made s3 c.test_tables.ensures.clean c.test_tables.ensures.crash c.in_ok-test_tables.ensures.ours s4 c.execute-2.ensures.survives

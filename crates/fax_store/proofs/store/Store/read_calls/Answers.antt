@@ -17,4 +17,7 @@ returns-clause-answers g c m k means s =
     search rules ∙ calls.calls_found dial old new m k means_now rows shown
 
 pub returns-clause-reads : goal.returns-clause-reads
-returns-clause-reads g c tables clean = c.in_ok-rows.ensures.reads select_calls.plain tables clean
+returns-clause-reads g c tables clean = c.in_ok-rows.ensures.reads tables clean
+
+pub show-requires : goal.show-requires
+show-requires g c = select_calls.plain

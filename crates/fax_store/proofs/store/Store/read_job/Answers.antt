@@ -48,10 +48,13 @@ returns-in-None-clause-answers g c m k means s =
 
 pub returns-in_err-job_in-in-Some-clause-reads : goal.returns-in_err-job_in-in-Some-clause-reads
 returns-in_err-job_in-in-Some-clause-reads g c tables clean =
-    reads_same (state g.S.Store c.args.self.now.conn) (state g.S.Store c.find.new.self.conn) c.from_residual-in_err-job_in-in-Some.result (c.in_ok-row.ensures.reads select_job.plain tables clean)
+    reads_same (state g.S.Store c.args.self.now.conn) (state g.S.Store c.find.new.self.conn) c.from_residual-in_err-job_in-in-Some.result (c.in_ok-row.ensures.reads tables clean)
 
 pub returns-in_ok-job_in-in-Some-clause-reads : goal.returns-in_ok-job_in-in-Some-clause-reads
-returns-in_ok-job_in-in-Some-clause-reads g c tables clean = c.in_ok-row.ensures.reads select_job.plain tables clean
+returns-in_ok-job_in-in-Some-clause-reads g c tables clean = c.in_ok-row.ensures.reads tables clean
 
 pub returns-in-None-clause-reads : goal.returns-in-None-clause-reads
-returns-in-None-clause-reads g c tables clean = c.in_ok-row.ensures.reads select_job.plain tables clean
+returns-in-None-clause-reads g c tables clean = c.in_ok-row.ensures.reads tables clean
+
+pub find-requires : goal.find-requires
+find-requires g c = select_job.plain

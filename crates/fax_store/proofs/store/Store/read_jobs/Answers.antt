@@ -15,4 +15,7 @@ returns-clause-answers g c m k means s =
 
 pub returns-clause-reads : goal.returns-clause-reads
 returns-clause-reads g c tables clean =
-    reads_same (state g.S.Store c.args.self.now.conn) (state g.S.Store c.show.new.self.conn) c.jobs_in.result (c.in_ok-shown.ensures.reads select_jobs.plain tables clean)
+    reads_same (state g.S.Store c.args.self.now.conn) (state g.S.Store c.show.new.self.conn) c.jobs_in.result (c.in_ok-shown.ensures.reads tables clean)
+
+pub show-requires : goal.show-requires
+show-requires g c = select_jobs.plain

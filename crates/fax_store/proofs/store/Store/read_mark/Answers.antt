@@ -16,4 +16,7 @@ returns-clause-answers g c m k means s =
     c.is_some.ensures ∙ modems.mark_found modem old new m k means_now c.in_ok-row.row found
 
 pub returns-clause-reads : goal.returns-clause-reads
-returns-clause-reads g c tables clean = c.in_ok-row.ensures.reads select_down.plain tables clean
+returns-clause-reads g c tables clean = c.in_ok-row.ensures.reads tables clean
+
+pub find-requires : goal.find-requires
+find-requires g c = select_down.plain

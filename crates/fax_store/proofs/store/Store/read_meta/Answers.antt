@@ -17,7 +17,10 @@ returns-in-None-clause-answers g c m k means s =
     absurd (let it = is in cc)
 
 pub returns-in-Some-clause-reads : goal.returns-in-Some-clause-reads
-returns-in-Some-clause-reads g c tables clean = reads_same (state g.S.Store c.args.self.now.conn) (state g.S.Store c.find.new.self.conn) c.in_row.result (c.in_ok-row.ensures.reads select_meta.plain tables clean)
+returns-in-Some-clause-reads g c tables clean = reads_same (state g.S.Store c.args.self.now.conn) (state g.S.Store c.find.new.self.conn) c.in_row.result (c.in_ok-row.ensures.reads tables clean)
 
 pub returns-in-None-clause-reads : goal.returns-in-None-clause-reads
-returns-in-None-clause-reads g c tables clean = inl (c.in_ok-row.ensures.reads select_meta.plain tables clean)
+returns-in-None-clause-reads g c tables clean = inl (c.in_ok-row.ensures.reads tables clean)
+
+pub find-requires : goal.find-requires
+find-requires g c = select_meta.plain

@@ -42,13 +42,13 @@ returns-in-None-clause-answers g c m k means s =
 
 pub returns-in_err-in_row-in-Some-clause-reads : goal.returns-in_err-in_row-in-Some-clause-reads
 returns-in_err-in_row-in-Some-clause-reads g c tables clean =
-    reads_same (state g.S.Store c.args.self.now.conn) (state g.S.Store c.find.new.self.conn) c.from_residual-in_err-in_row-in-Some.result (c.in_ok-row.ensures.reads select_reply.plain tables clean)
+    reads_same (state g.S.Store c.args.self.now.conn) (state g.S.Store c.find.new.self.conn) c.from_residual-in_err-in_row-in-Some.result (c.in_ok-row.ensures.reads tables clean)
 
 pub returns-in_ok-in_row-in-Some-clause-reads : goal.returns-in_ok-in_row-in-Some-clause-reads
-returns-in_ok-in_row-in-Some-clause-reads g c tables clean = c.in_ok-row.ensures.reads select_reply.plain tables clean
+returns-in_ok-in_row-in-Some-clause-reads g c tables clean = c.in_ok-row.ensures.reads tables clean
 
 pub returns-in-None-clause-reads : goal.returns-in-None-clause-reads
-returns-in-None-clause-reads g c tables clean = c.in_ok-row.ensures.reads select_reply.plain tables clean
+returns-in-None-clause-reads g c tables clean = c.in_ok-row.ensures.reads tables clean
 
 pub returns-in-None-clause-unkept : goal.returns-in-None-clause-unkept
 returns-in-None-clause-unkept g c db six now clean =
@@ -56,3 +56,6 @@ returns-in-None-clause-unkept g c db six now clean =
     let new = state g.S.Store c.find.new.self.conn in
     let found : FindsRow SELECT_REPLY.now (params c.args.client.now c.args.number) old new c.in_ok-row.field-0 = subst (λ p. FindsRow SELECT_REPLY.now p old new c.in_ok-row.field-0) (search rules) (c.in_ok-row.ensures.found clean) in
     none_found c.args.client.now c.args.number old new db six now (subst (FindsRow SELECT_REPLY.now (params c.args.client.now c.args.number) old new) c.in-None.is found)
+
+pub find-requires : goal.find-requires
+find-requires g c = select_reply.plain

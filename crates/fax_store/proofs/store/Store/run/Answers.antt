@@ -8,6 +8,7 @@ use Rattle.fax_store.specs.Store.{LeavesCommit}
 use Rattle.fax_store.proofs.StatementLemmas.{left_open, run_open}
 use Rattle.fax_store.proofs.StoreLemmas.{served}
 use Rattle.fax_store.proofs.WorkLemmas.{edit_holds, holds_err, left_holds}
+use Rattle.fax_store.proofs.StopLemmas.{edit_withholds, refused_withholds, withholds_err}
 use Rattle.fax_store.proofs.store.Store.run.Goals as goal
 
 pub returns-in_err-execute-clause-left : goal.returns-in_err-execute-clause-left
@@ -29,17 +30,27 @@ returns-clause-served g c s =
     served old new c.execute.ensures.survives.clean s (run_open old new c.args.sql.now (bound c.args.params.now) c.in_ok-execute.field-0 (c.in_ok-execute.ensures.runs s.clean) s.is_open)
 
 pub returns-clause-holds : goal.returns-clause-holds
-returns-clause-holds g c edit =
+returns-clause-holds g c =
     let old = state g.S.Store c.args.self.now.conn in
     let new = state g.S.Store c.execute.new.self in
     edit_holds old new c.args.sql.now (bound c.args.params.now)
     (λ s. served old new c.execute.ensures.survives.clean s (run_open old new c.args.sql.now (bound c.args.params.now) c.in_ok-execute.field-0 (c.in_ok-execute.ensures.runs s.clean) s.is_open))
-    edit c.in_ok-execute.field-0 c.in_ok-execute.ensures.runs
+    c.requires c.in_ok-execute.field-0 c.in_ok-execute.ensures.runs
 
 pub returns-in_err-execute-clause-holds : goal.returns-in_err-execute-clause-holds
-returns-in_err-execute-clause-holds g c edit =
+returns-in_err-execute-clause-holds g c =
     let old = state g.S.Store c.args.self.now.conn in
     let new = state g.S.Store c.execute.new.self in
     let left : HasCleanDisk new → LeavesCommit old new = λ clean. fails_whole old new false c.args.sql.now (bound c.args.params.now) c.in_err-execute.field-0.0 (c.in_err-execute.ensures.runs clean) in
     holds_err old new c.from_residual.result _ c.from_residual.ensures.1
     (left_holds old new (λ s. served old new c.execute.ensures.survives.clean s (left_open old new c.args.sql.now (bound c.args.params.now) (left s.clean) s.is_open)) left)
+
+pub returns-clause-crash : goal.returns-clause-crash
+returns-clause-crash g c =
+    edit_withholds (state g.S.Store c.args.self.now.conn) (state g.S.Store c.execute.new.self) c.args.sql.now (bound c.args.params.now) c.requires c.execute.ensures.survives c.in_ok-execute.field-0 c.in_ok-execute.ensures.runs
+
+pub returns-in_err-execute-clause-crash : goal.returns-in_err-execute-clause-crash
+returns-in_err-execute-clause-crash g c =
+    let old = state g.S.Store c.args.self.now.conn in
+    let new = state g.S.Store c.execute.new.self in
+    withholds_err old new c.from_residual.result _ c.from_residual.ensures.1 (refused_withholds old new c.args.sql.now (bound c.args.params.now) c.requires c.execute.ensures.survives)

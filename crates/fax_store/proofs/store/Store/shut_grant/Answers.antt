@@ -8,6 +8,7 @@ use Rattle.fax_store.proofs.WorkLemmas.{holds_then, refused_as, refused_step, tw
 use Rattle.std.specs.Prelude.{is_err}
 use Rattle.fax_store.proofs.GrantTexts as texts
 use Rattle.fax_store.proofs.StatementLemmas.{change_text, edit_text}
+use Rattle.fax_store.proofs.StopLemmas.{withholds_then}
 use Rattle.fax_store.proofs.store.Store.shut_grant.Goals as goal
 
 pub returns-in_err-run-clause-written : goal.returns-in_err-run-clause-written
@@ -31,10 +32,21 @@ returns-clause-written g c m₀ m k₀ k works s =
 pub returns-clause-holds : goal.returns-clause-holds
 returns-clause-holds g c =
     holds_then (state g.S.Store c.args.self.now.conn) (state g.S.Store c.run.new.self.conn) (state g.S.Store c.run-2.new.self.conn) (is_err c.run-2.result) c.run-2.ensures.served
-    (c.in_ok-run.ensures.holds (edit_text SHUT_GRANT.now _ tt texts.shut_grant)) (c.run-2.ensures.holds (edit_text DELETE_HOLD.now _ tt texts.delete_hold))
+    (c.in_ok-run.ensures.holds) (c.run-2.ensures.holds)
 
 pub returns-in_err-run-clause-cause : goal.returns-in_err-run-clause-cause
 returns-in_err-run-clause-cause g c = refused_as c.from_residual.result c.in_err-run.field-0.0 c.from_residual.ensures.1 (c.in_err-run.ensures.cause (change_text SHUT_GRANT.now _ tt texts.shut_grant))
 
 pub returns-clause-cause : goal.returns-clause-cause
 returns-clause-cause g c = c.run-2.ensures.cause (change_text DELETE_HOLD.now _ tt texts.delete_hold)
+
+pub run-requires : goal.run-requires
+run-requires g c = edit_text SHUT_GRANT.now _ tt texts.shut_grant
+
+pub run-requires-2 : goal.run-requires-2
+run-requires-2 g c = edit_text DELETE_HOLD.now _ tt texts.delete_hold
+
+pub returns-clause-crash : goal.returns-clause-crash
+returns-clause-crash g c =
+    withholds_then (state g.S.Store c.args.self.now.conn) (state g.S.Store c.run.new.self.conn) (state g.S.Store c.run-2.new.self.conn) (is_err c.run-2.result)
+    (c.in_ok-run.ensures.crash) (c.run-2.ensures.crash)

@@ -41,8 +41,8 @@ returns-clause-written g c m₀ m k₀ k change works s =
     subst (λ f. Steps new c.run.result m₀ k₀ (with_change (job_of f) m) k) same
     (step_by old new UPDATE_JOB.now (change_params j) 0 c.run.result m₀ m (with_change (job_of j) m) k₀ k k c.run.ensures.served works s done (c.run.ensures.left s.clean) (c.run.ensures.cause (change_text UPDATE_JOB.now _ tt texts.update_job)) (λ means has. job_changed j old new m k means fits lawful has))
 
-pub returns-clause-holds : goal.returns-clause-holds
-returns-clause-holds g c = c.run.ensures.holds (edit_text UPDATE_JOB.now _ tt texts.update_job)
-
 pub returns-clause-cause : goal.returns-clause-cause
 returns-clause-cause g c = c.run.ensures.cause (change_text UPDATE_JOB.now _ tt texts.update_job)
+
+pub run-requires : goal.run-requires
+run-requires g c = edit_text UPDATE_JOB.now _ tt texts.update_job

@@ -17,8 +17,8 @@ returns-clause-written g c m₀ m k₀ k works s =
     let ran : OnOk c.run.result (HasRun UPDATE_CLOCK.now params old new) = subst (λ p. OnOk c.run.result (HasRun UPDATE_CLOCK.now p old new)) (search rules) (c.run.ensures.ran s.clean) in
     step_by old new UPDATE_CLOCK.now params 10 c.run.result m₀ m (with_clock c.args.clock m) k₀ k k c.run.ensures.served works s ran (c.run.ensures.left s.clean) (c.run.ensures.cause (change_text UPDATE_CLOCK.now _ tt texts.update_clock)) (λ means has. clock_written old new m k means c.args.clock (subst (λ n. n ≤ 4102444800) c.seconds.ensures.seconds c.seconds.ensures.bound) has)
 
-pub returns-clause-holds : goal.returns-clause-holds
-returns-clause-holds g c = c.run.ensures.holds (edit_text UPDATE_CLOCK.now _ tt texts.update_clock)
-
 pub returns-clause-cause : goal.returns-clause-cause
 returns-clause-cause g c = c.run.ensures.cause (change_text UPDATE_CLOCK.now _ tt texts.update_clock)
+
+pub run-requires : goal.run-requires
+run-requires g c = edit_text UPDATE_CLOCK.now _ tt texts.update_clock

@@ -6,6 +6,7 @@ use Rattle.fax_job.specs.declared.job.Phase.TheVariants.{Held}
 use Rattle.fax_store.specs.Work.{Steps}
 use Rattle.fax_store.proofs.ChangeLemmas.{expired_in_turn}
 use Rattle.fax_store.proofs.WorkLemmas.{holds_err, holds_then}
+use Rattle.fax_store.proofs.StopLemmas.{withholds_err, withholds_then}
 use Rattle.fax_store.proofs.store.Store.write_expired.Goals as goal
 
 pub returns-clause-written : goal.returns-clause-written
@@ -23,3 +24,12 @@ returns-clause-holds g c =
 pub returns-in_err-expire_in-clause-holds : goal.returns-in_err-expire_in-clause-holds
 returns-in_err-expire_in-clause-holds g c =
     holds_err (state g.S.Store c.args.self.now.conn) (state g.S.Store c.expire_in.new.self.conn) c.from_residual.result (λ e. e ≡ c.in_err-expire_in.field-0.0) c.from_residual.ensures.1 c.in_err-expire_in.ensures.holds
+
+pub returns-clause-crash : goal.returns-clause-crash
+returns-clause-crash g c =
+    withholds_then (state g.S.Store c.args.self.now.conn) (state g.S.Store c.expire_in.new.self.conn) (state g.S.Store c.expire_in-2.new.self.conn) (is_err c.expire_in-2.result)
+    c.in_ok-expire_in.ensures.crash c.expire_in-2.ensures.crash
+
+pub returns-in_err-expire_in-clause-crash : goal.returns-in_err-expire_in-clause-crash
+returns-in_err-expire_in-clause-crash g c =
+    withholds_err (state g.S.Store c.args.self.now.conn) (state g.S.Store c.expire_in.new.self.conn) c.from_residual.result (λ e. e ≡ c.in_err-expire_in.field-0.0) c.from_residual.ensures.1 c.in_err-expire_in.ensures.crash

@@ -20,5 +20,5 @@ returns-clause-written g c m₀ m k₀ k works s lawful =
     step_by old new UPDATE_META.now params 10 c.run.result m₀ m (with_meta meta m) k₀ k k c.run.ensures.served works s ran (c.run.ensures.left s.clean) (c.run.ensures.cause (change_text UPDATE_META.now _ tt texts.update_meta))
     (λ means has. (meta_written old new m k means meta.clock meta.next_job meta.next_grant lawful has, meta_shows old new m k means meta.clock meta.next_job meta.next_grant has))
 
-pub returns-clause-holds : goal.returns-clause-holds
-returns-clause-holds g c = c.run.ensures.holds (edit_text UPDATE_META.now _ tt texts.update_meta)
+pub run-requires : goal.run-requires
+run-requires g c = edit_text UPDATE_META.now _ tt texts.update_meta

@@ -33,5 +33,5 @@ returns-clause-cause g c m₀ m k₀ k works s fit =
     let told : HasCleanDisk new → IfErr c.insert.result (IsRefusedFor INSERT_REPLY.now params old new) = λ clean. subst (λ p. IfErr c.insert.result (IsRefusedFor INSERT_REPLY.now p old new)) (search rules) (c.insert.ensures.told clean) in
     only_unavailable old new INSERT_REPLY.now params c.insert.result (λ m k. IsUnkept e.client e.number k) c.insert.ensures.served told (λ m k means free fault h. reply_goes old new m k means e free fault h) m₀ m k₀ k works s fit.2
 
-pub returns-clause-holds : goal.returns-clause-holds
-returns-clause-holds g c = c.insert.ensures.holds (edit_text INSERT_REPLY.now _ tt texts.insert_reply)
+pub insert-requires : goal.insert-requires
+insert-requires g c = edit_text INSERT_REPLY.now _ tt texts.insert_reply

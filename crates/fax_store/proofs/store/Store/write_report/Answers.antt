@@ -20,8 +20,8 @@ returns-clause-written g c m₀ m k₀ k report works s =
     moves_of new c.run.result m₀ (with_grant grant m) k₀ k
     (step_by old new UPDATE_REPORT.now params 1 c.run.result m₀ m (with_grant grant m) k₀ k k c.run.ensures.served works s ran (c.run.ensures.left s.clean) (c.run.ensures.cause (change_text UPDATE_REPORT.now _ tt texts.update_report)) (λ means has. grant_reported grant old new m k means report few has))
 
-pub returns-clause-holds : goal.returns-clause-holds
-returns-clause-holds g c = c.run.ensures.holds (edit_text UPDATE_REPORT.now _ tt texts.update_report)
-
 pub returns-clause-cause : goal.returns-clause-cause
 returns-clause-cause g c fits = c.run.ensures.cause (change_text UPDATE_REPORT.now _ tt texts.update_report)
+
+pub run-requires : goal.run-requires
+run-requires g c = edit_text UPDATE_REPORT.now _ tt texts.update_report

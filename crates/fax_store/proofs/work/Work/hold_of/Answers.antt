@@ -4,6 +4,7 @@ use Rattle.std.specs.Option.{option_map}
 use Rattle.fax_core.specs.Machine.{held_by}
 use Rattle.fax_tables.specs.Grant.{as_hold}
 use Rattle.fax_store.proofs.WorkLemmas.{holds_by, keeps_by, found_in}
+use Rattle.fax_store.proofs.StopLemmas.{withholds_by}
 use Rattle.fax_store.proofs.work.Work.hold_of.Goals as goal
 
 pub returns-clause-keeps : goal.returns-clause-keeps
@@ -20,3 +21,8 @@ pub returns-clause-holds : goal.returns-clause-holds
 returns-clause-holds g c =
     rw (c.if-self.false, c.is_err-self.ensures.value)
     (holds_by (state g.S.Store c.args.self.now.store.now.conn) (state g.S.Store c.read_hold-found.new.self.conn) c.read_hold-found.ensures.served c.read_hold-found.result c.read_hold-found.ensures.reads)
+
+pub returns-clause-crash : goal.returns-clause-crash
+returns-clause-crash g c =
+    rw (c.if-self.false, c.is_err-self.ensures.value)
+    (withholds_by (state g.S.Store c.args.self.now.store.now.conn) (state g.S.Store c.read_hold-found.new.self.conn) c.read_hold-found.ensures.clean c.read_hold-found.result c.read_hold-found.ensures.reads c.read_hold-found.ensures.crash)

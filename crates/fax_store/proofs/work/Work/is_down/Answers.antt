@@ -2,6 +2,7 @@ use Rattle.std.proofs.Common.{◌≡◌}
 use Rattle.sqlite.specs.Held.{state}
 use Rattle.fax_core.specs.Machine.{is_down}
 use Rattle.fax_store.proofs.WorkLemmas.{holds_by, keeps_by, found_in}
+use Rattle.fax_store.proofs.StopLemmas.{withholds_by}
 use Rattle.fax_store.proofs.work.Work.is_down.Goals as goal
 
 pub returns-clause-keeps : goal.returns-clause-keeps
@@ -18,3 +19,8 @@ pub returns-clause-holds : goal.returns-clause-holds
 returns-clause-holds g c =
     rw (c.if-self.false, c.is_err-self.ensures.value)
     (holds_by (state g.S.Store c.args.self.now.store.now.conn) (state g.S.Store c.read_mark-found.new.self.conn) c.read_mark-found.ensures.served c.read_mark-found.result c.read_mark-found.ensures.reads)
+
+pub returns-clause-crash : goal.returns-clause-crash
+returns-clause-crash g c =
+    rw (c.if-self.false, c.is_err-self.ensures.value)
+    (withholds_by (state g.S.Store c.args.self.now.store.now.conn) (state g.S.Store c.read_mark-found.new.self.conn) c.read_mark-found.ensures.clean c.read_mark-found.result c.read_mark-found.ensures.reads c.read_mark-found.ensures.crash)

@@ -4,6 +4,7 @@ use Rattle.sqlite.specs.Held.{state}
 use Rattle.fax_core.specs.Job.{fields_of}
 use Rattle.fax_core.specs.Queue.{job_numbered}
 use Rattle.fax_store.proofs.WorkLemmas.{holds_by, keeps_by, found_in}
+use Rattle.fax_store.proofs.StopLemmas.{withholds_by}
 use Rattle.fax_store.proofs.work.Work.job.Goals as goal
 
 pub returns-clause-keeps : goal.returns-clause-keeps
@@ -20,3 +21,8 @@ pub returns-clause-holds : goal.returns-clause-holds
 returns-clause-holds g c =
     rw (c.if-self.false, c.is_err-self.ensures.value)
     (holds_by (state g.S.Store c.args.self.now.store.now.conn) (state g.S.Store c.read_job-found.new.self.conn) c.read_job-found.ensures.served c.read_job-found.result c.read_job-found.ensures.reads)
+
+pub returns-clause-crash : goal.returns-clause-crash
+returns-clause-crash g c =
+    rw (c.if-self.false, c.is_err-self.ensures.value)
+    (withholds_by (state g.S.Store c.args.self.now.store.now.conn) (state g.S.Store c.read_job-found.new.self.conn) c.read_job-found.ensures.clean c.read_job-found.result c.read_job-found.ensures.reads c.read_job-found.ensures.crash)

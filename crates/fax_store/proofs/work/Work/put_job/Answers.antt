@@ -18,3 +18,6 @@ returns-clause-cause g c m₀ m k₀ k works s fits =
 
 pub returns-clause-holds : goal.returns-clause-holds
 returns-clause-holds g c = rw (c.if-self.false, c.is_err-self.ensures.value) c.add_job-done.ensures.holds
+
+pub returns-clause-crash : goal.returns-clause-crash
+returns-clause-crash g c = rw (c.if-self.false, c.is_err-self.ensures.value) c.add_job-done.ensures.crash

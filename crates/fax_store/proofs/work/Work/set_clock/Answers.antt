@@ -12,3 +12,6 @@ returns-clause-changes g c =
 
 pub returns-clause-holds : goal.returns-clause-holds
 returns-clause-holds g c = rw (c.if-self.false, c.is_err-self.ensures.value) c.write_clock-done.ensures.holds
+
+pub returns-clause-crash : goal.returns-clause-crash
+returns-clause-crash g c = rw (c.if-self.false, c.is_err-self.ensures.value) c.write_clock-done.ensures.crash

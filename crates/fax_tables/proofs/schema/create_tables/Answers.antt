@@ -1,0 +1,51 @@
+use Rattle.sqlite.specs.Held.{state}
+use Rattle.sqlite.specs.State.{State}
+use Rattle.fax_tables.specs.Schema.{bare_tables, four_tables, no_tables, six_tables}
+use Rattle.fax_tables.specs.Stop.{HoldsBack}
+use Rattle.fax_tables.specs.Tables.{GoesOn, HasEmptyTables, HasTablesAlone, IsIndexed}
+use Rattle.fax_tables.proofs.CreateLemmas.{clean_before, indexed_empty}
+use Rattle.fax_tables.proofs.StopLemmas.{holds_back_then}
+use Rattle.fax_tables.proofs.schema.create_tables.Goals as goal
+
+alone : (s : State) → HasEmptyTables bare_tables s → HasTablesAlone s
+alone s was = record { inside = was.inside; schema_is = was.schema_is }
+
+-- the indexes of tables with no rows
+indexes : (s2 s3 : State) → HoldsBack HasTablesAlone s2 s3 → HoldsBack (HasEmptyTables bare_tables) s2 s3
+indexes s2 s3 holds was = holds (λ clean. alone s2 (was clean))
+
+empty_still : (s2 s3 : State) → (HasTablesAlone s2 → GoesOn s2 s3 × IsIndexed s2.now s3.now) → HasEmptyTables bare_tables s2 → HasEmptyTables six_tables s3
+empty_still s2 s3 made was = let done = made (alone s2 was) in indexed_empty s2 s3 was done.0 done.1
+
+pub returns-in_err-create_kept_tables-clause-crash : goal.returns-in_err-create_kept_tables-clause-crash
+returns-in_err-create_kept_tables-clause-crash g c =
+    let s0 = state g.S.Store c.args.conn.now in
+    let s1 = state g.S.Store c.create_work_tables.new.conn in
+    let s2 = state g.S.Store c.create_kept_tables.new.conn in
+    holds_back_then s0 s1 s2 (HasEmptyTables no_tables) (HasEmptyTables four_tables) (clean_before s0 s1 c.create_work_tables.ensures.doubt) c.create_work_tables.ensures.crash
+    (λ clean was. (c.in_ok-create_work_tables.ensures.made clean was).1) c.create_kept_tables.ensures.crash
+
+pub returns-in_err-create_indexes-clause-crash : goal.returns-in_err-create_indexes-clause-crash
+returns-in_err-create_indexes-clause-crash g c =
+    let s0 = state g.S.Store c.args.conn.now in
+    let s1 = state g.S.Store c.create_work_tables.new.conn in
+    let s2 = state g.S.Store c.create_kept_tables.new.conn in
+    let s3 = state g.S.Store c.create_indexes.new.conn in
+    holds_back_then s0 s1 s3 (HasEmptyTables no_tables) (HasEmptyTables four_tables) (clean_before s0 s1 c.create_work_tables.ensures.doubt) c.create_work_tables.ensures.crash
+    (λ clean was. (c.in_ok-create_work_tables.ensures.made clean was).1)
+    (holds_back_then s1 s2 s3 (HasEmptyTables four_tables) (HasEmptyTables bare_tables) (clean_before s1 s2 c.create_kept_tables.ensures.doubt) c.create_kept_tables.ensures.crash
+    (λ clean was. (c.in_ok-create_kept_tables.ensures.made clean was).1) (indexes s2 s3 c.create_indexes.ensures.crash))
+
+pub returns-clause-crash : goal.returns-clause-crash
+returns-clause-crash g c =
+    let s0 = state g.S.Store c.args.conn.now in
+    let s1 = state g.S.Store c.create_work_tables.new.conn in
+    let s2 = state g.S.Store c.create_kept_tables.new.conn in
+    let s3 = state g.S.Store c.create_indexes.new.conn in
+    let s4 = state g.S.Store c.fill_meta.new.conn in
+    holds_back_then s0 s1 s4 (HasEmptyTables no_tables) (HasEmptyTables four_tables) (clean_before s0 s1 c.create_work_tables.ensures.doubt) c.create_work_tables.ensures.crash
+    (λ clean was. (c.in_ok-create_work_tables.ensures.made clean was).1)
+    (holds_back_then s1 s2 s4 (HasEmptyTables four_tables) (HasEmptyTables bare_tables) (clean_before s1 s2 c.create_kept_tables.ensures.doubt) c.create_kept_tables.ensures.crash
+    (λ clean was. (c.in_ok-create_kept_tables.ensures.made clean was).1)
+    (holds_back_then s2 s3 s4 (HasEmptyTables bare_tables) (HasEmptyTables six_tables) (clean_before s2 s3 c.create_indexes.ensures.doubt) (indexes s2 s3 c.create_indexes.ensures.crash)
+    (λ clean. empty_still s2 s3 (c.in_ok-create_indexes.ensures.made clean)) c.fill_meta.ensures.crash))
