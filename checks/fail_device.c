@@ -1,6 +1,7 @@
 /* Preloaded into the program: standard input fails once READ_FAILS bytes were read, and standard output, once
- * WRITE_FAILS bytes were written, fails, or takes nothing where WRITE_TAKES_NONE is set. READ_FILE and WRITE_FILE name
- * another file, as a socket is. */
+ * WRITE_FAILS bytes were written, fails, or takes nothing where WRITE_TAKES_NONE is set. Where FAILS_ONCE is set, it
+ * serves again behind its fault: what the program then reads or writes is seen. READ_FILE and WRITE_FILE name another
+ * file, as a socket is. */
 #define _GNU_SOURCE
 #include <dlfcn.h>
 #include <errno.h>
@@ -9,10 +10,10 @@
 #include <sys/types.h>
 #include <unistd.h>
 
-/* How many bytes the named variable leaves after these, or -1 where it isn't set. */
-static ssize_t left(const char *name, size_t passed) {
+/* How many bytes the named variable leaves after these, or -1 where it isn't set, or set for one fault that has been. */
+static ssize_t left(const char *name, size_t passed, int has_failed) {
     const char *limit = getenv(name);
-    if (limit == NULL) {
+    if (limit == NULL || (has_failed && getenv("FAILS_ONCE") != NULL)) {
         return -1;
     }
     size_t bytes = strtoul(limit, NULL, 10);
@@ -52,11 +53,13 @@ static ssize_t plain_write(int file, const void *bytes, size_t count, int flags)
 
 static ssize_t read_by(reading real, int file, void *bytes, size_t count, int flags) {
     static size_t passed;
+    static int has_failed;
     if (file != named("READ_FILE", STDIN_FILENO)) {
         return real(file, bytes, count, flags);
     }
-    ssize_t room = left("READ_FAILS", passed);
+    ssize_t room = left("READ_FAILS", passed, has_failed);
     if (room == 0) {
+        has_failed = 1;
         errno = EIO;
         return -1;
     }
@@ -69,11 +72,13 @@ static ssize_t read_by(reading real, int file, void *bytes, size_t count, int fl
 
 static ssize_t write_by(writing real, int file, const void *bytes, size_t count, int flags) {
     static size_t passed;
+    static int has_failed;
     if (file != named("WRITE_FILE", STDOUT_FILENO)) {
         return real(file, bytes, count, flags);
     }
-    ssize_t room = left("WRITE_FAILS", passed);
+    ssize_t room = left("WRITE_FAILS", passed, has_failed);
     if (room == 0) {
+        has_failed = 1;
         errno = EIO;
         return getenv("WRITE_TAKES_NONE") == NULL ? -1 : 0;
     }
