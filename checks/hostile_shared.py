@@ -38,7 +38,7 @@ expect, expect_same, post, get, whole = server.expect, server.expect_same, serve
 PROGRAM, CONVERSATIONS = server.PROGRAM, server.CONVERSATIONS
 CHECKS = TOP / "checks"
 UNAVAILABLE = server.reply("503 Service Unavailable", '{"no":27,"word":"unavailable"}')
-LIMIT = 32768  # the kilobytes of data that `replay` may have
+LIMIT = 32768  # the kilobytes of data that the program may have, as docs/OPERATIONS.md says
 SECOND = 1.0  # the processor's time that a run may take, a start included
 WORK = pathlib.Path(tempfile.mkdtemp(dir="/dev/shm" if os.access("/dev/shm", os.W_OK) else None))
 folders = (WORK / str(number) for number in itertools.count(1))
@@ -47,12 +47,16 @@ tried = collections.Counter()
 faults = []
 longest = collections.Counter()  # of each kind of run, the most seconds of the processor
 lock = threading.Lock()
+trying = threading.local()  # what this thread has made for the thing that it tries
 
 
 def folder():
+    """A new folder, which is there until what is tried has ended."""
     with lock:
         made = next(folders)
     made.mkdir()
+    if hasattr(trying, "folders"):
+        trying.folders.append(made)
     return made
 
 
@@ -82,10 +86,13 @@ def told(fault):
 
 def attempt(group, name, function, *arguments):
     """Tries one thing; a fault is one line."""
+    trying.folders = []
     try:
         function(*arguments)
     except (Wrong, OSError, ValueError, sqlite3.Error) as fault:
         told(f"{group}: {name}: {fault}")
+    for made in trying.folders:
+        shutil.rmtree(made, ignore_errors=True)
     with lock:
         tried[group] += 1
 
@@ -108,14 +115,18 @@ def preload(names, **settings):
     return ["env", f"LD_PRELOAD={libraries}", *(f"{name}={value}" for name, value in settings.items())]
 
 
+def limited(kilobytes):
+    """The words before a program that may have so many kilobytes of data, and 20 seconds of the processor."""
+    return ["sh", "-c", f'ulimit -c 0; ulimit -t 20; ulimit -d {kilobytes}; exec "$@"', "sh"]
+
+
 def replay(data, *words, before=(), limit=LIMIT, kind="replay"):
     """A run of `replay` on these bytes, which may take so many kilobytes and 20 seconds of the processor."""
     files = [os.memfd_create(name) for name in ("input", "output", "error")]
     try:
         os.write(files[0], data)
         os.lseek(files[0], 0, os.SEEK_SET)
-        limits = ["sh", "-c", f'ulimit -c 0; ulimit -t 20; ulimit -d {limit}; exec "$@"', "sh"]
-        process = subprocess.Popen([*limits, *before, PROGRAM, "replay", *words],
+        process = subprocess.Popen([*limited(limit), *before, PROGRAM, "replay", *words],
                                    stdin=files[0], stdout=files[1], stderr=files[2])
         _, ended, usage = os.wait4(process.pid, 0)
         process.returncode = os.waitstatus_to_exitcode(ended)
@@ -129,9 +140,16 @@ def replay(data, *words, before=(), limit=LIMIT, kind="replay"):
             os.close(file)
 
 
-def serving(file, *words, before=()):
-    """A server on this file, with a port of its own."""
-    return Server(file, "--timeout", "5", *words, port=port(), before=before)
+def serving(file, *words, before=(), limit=LIMIT):
+    """A server on this file, with a port of its own, which may have so many kilobytes of data."""
+    return Server(file, "--timeout", "5", *words, port=port(), before=[*limited(limit), *before])
+
+
+def words_of(name):
+    """The setup and the controls that the program has for a conversation."""
+    setup, controls = (CONVERSATIONS / f"{name}.{kind}" for kind in ("setup", "controls"))
+    words = ("--setup", setup if setup.exists() else CONVERSATIONS / "office.setup")
+    return words + (("--controls", controls) if controls.exists() else ())
 
 
 def tables(file):
@@ -140,6 +158,12 @@ def tables(file):
         database.text_factory = bytes
         return {name: sorted(database.execute(f"SELECT * FROM {name}").fetchall(), key=repr)
                 for name in ("jobs", "grants", "holds", "down", "replies", "meta")}
+
+
+def expect_rows(got, wanted, what):
+    """These tables have these rows."""
+    for name, rows in wanted.items():
+        expect(got[name] == rows, f"the rows of {name} {what}: {got[name]!r} in place of {rows!r}")
 
 
 def copied(file):
@@ -190,6 +214,18 @@ def replies(data):
             number = number_in(status, head[3], body)
         found.append(Reply(status, number, body, bool(head[5])))
         at = end + len(body)
+    return found
+
+
+def reply_bytes(data):
+    """The bytes of each of these replies, of which none is to HEAD."""
+    found, at = [], 0
+    while at < len(data):
+        head = HEAD.match(data, at)
+        expect(head, f"no head of a reply: {data[at:at + 200]!r}")
+        end = head.end() + int(head[4])
+        found.append(data[at:end])
+        at = end
     return found
 
 
