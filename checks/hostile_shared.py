@@ -65,8 +65,14 @@ def port():
     while True:
         with lock:
             number = next(ports)
-        with contextlib.suppress(OSError), socket.create_server(("127.0.0.1", number)):
+        if is_free(number):
             return number
+
+
+def is_free(number):
+    with contextlib.suppress(OSError), socket.create_server(("127.0.0.1", number)):
+        return True
+    return False
 
 
 def chosen(things, most):
@@ -142,7 +148,13 @@ def replay(data, *words, before=(), limit=LIMIT, kind="replay"):
 
 def serving(file, *words, before=(), limit=LIMIT):
     """A server on this file, with a port of its own, which may have so many kilobytes of data."""
-    return Server(file, "--timeout", "5", *words, port=port(), before=[*limited(limit), *before])
+    while True:
+        number = port()
+        try:
+            return Server(file, "--timeout", "5", *words, port=number, before=[*limited(limit), *before])
+        except NotServing:
+            if is_free(number):
+                raise  # else another program has taken the port meanwhile
 
 
 def words_of(name):
