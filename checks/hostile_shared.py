@@ -121,9 +121,9 @@ def preload(names, **settings):
     return ["env", f"LD_PRELOAD={libraries}", *(f"{name}={value}" for name, value in settings.items())]
 
 
-def limited(kilobytes):
-    """The words before a program that may have so many kilobytes of data, and 20 seconds of the processor."""
-    return ["sh", "-c", f'ulimit -c 0; ulimit -t 20; ulimit -d {kilobytes}; exec "$@"', "sh"]
+def limited(kilobytes, seconds=20):
+    """The words before a program that may have so many kilobytes of data, and so many seconds of the processor."""
+    return ["sh", "-c", f'ulimit -c 0; ulimit -t {seconds}; ulimit -d {kilobytes}; exec "$@"', "sh"]
 
 
 def replay(data, *words, before=(), limit=LIMIT, kind="replay"):
