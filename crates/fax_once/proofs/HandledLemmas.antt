@@ -117,10 +117,6 @@ module _ (s : Settings) (start : Start) (arrivals : List Arrival) (replies : Lis
 pub run_sound : (s : Settings) (start : Start) (arrivals : List Arrival) (replies : List Response) (store : State) → Sound start.queue → (ran : HasRun s start arrivals replies store) → Sound (end_of s start ran.heard).queue
 run_sound s start arrivals replies store sound ran = sound_after s start.queue (taken s start ran.heard) sound ran.are_taken
 
--- before the first
-pub no_run : (s : Settings) (start : Start) (store : State) → Means store start.queue start.kept → HasRun s start [] [] store
-no_run s start store means = record { heard = []; answered = refl; means = means; are_taken = tt }
-
 -- what holds of each run
 pub runs_well : (s : Settings) (start : Start) (arrivals : List Arrival) (replies : List Response) (store : State) → Sound start.queue → HasRun s start arrivals replies store → RunsWell s start arrivals replies store
 runs_well s start arrivals replies store sound ran =

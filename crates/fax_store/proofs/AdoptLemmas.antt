@@ -23,8 +23,8 @@ use Rattle.fax_tables.proofs.StopLemmas.{nothing_then}
 use Rattle.fax_tables.proofs.TablesLemmas.{rows_mean, same_database}
 use Rattle.fax_tables.specs.Stop.{HoldsBack}
 use Rattle.fax_tables.proofs.SelectLemmas.{answers}
-use Rattle.fax_store.specs.Adopt.{AreIndexed, HasIndexed, HasVersion, IsOurs, MayMake, TakesTables, versions}
-use Rattle.fax_store.specs.Store.{CommitsNothing, GoesBack, RowsFound, Serves}
+use Rattle.fax_store.specs.Adopt.{AreIndexed, HasIndexed, HasVersion, IsOurs, TakesTables, versions}
+use Rattle.fax_store.specs.Store.{CommitsNothing, GoesBack, MayMake, RowsFound, Serves}
 use Rattle.fax_store.proofs.ControlLemmas.{begins, commits}
 use Rattle.fax_store.proofs.StatementTexts.{select_version, version_project}
 use Rattle.fax_store.proofs.StopLemmas.{begin_nothing, commit_makes}
@@ -178,15 +178,9 @@ module _ (old new : State) (six : old.now.schema ≡ six_tables) (rows : List Ro
 pub makes_none : (old new : State) (Made : Trees → Type 0) → CommitsNothing old new → MayMake old new Made
 makes_none old new Made nothing found may = inl (nothing found may)
 
--- the same after a call that commits nothing
-pub then_makes : (a b c : State) (Made : Trees → Type 0) → CommitsNothing a b → MayMake b c Made → MayMake a c Made
-then_makes a b c Made first next found may = elim (next found may) [ inl before ↦ inl (first found before) | inr made ↦ inr made ]
-
+-- the same where a call behind it commits nothing
 pub makes_then : (a b c : State) (Made : Trees → Type 0) → MayMake a b Made → CommitsNothing b c → MayMake a c Made
 makes_then a b c Made first next found may = first found (next found may)
-
-pub makes_as : (a b : State) (Made Named : Trees → Type 0) → ((found : Trees) → Made found → Named found) → MayMake a b Made → MayMake a b Named
-makes_as a b Made Named named makes found may = elim (makes found may) [ inl before ↦ inl before | inr made ↦ inr (named found made) ]
 
 module _ (s0 s1 : State) (none : s0.now.schema ≡ no_tables) (n : ℕ) (survives : Survives s0 s1 (CommitsBy BEGIN.now [] s0)) (began : HasCleanDisk s1 → Executes BEGIN.now [] s0 s1 (Ok n)) (s2 : State) (made : HoldsBack (HasEmptyTables no_tables) s1 s2) where
   -- making the tables commits nothing before its commit

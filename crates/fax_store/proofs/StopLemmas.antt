@@ -161,12 +161,3 @@ withholds_then a b c h first next active =
 pub withholds_err : {A : Type 0} (a b : State) (result : Result A StoreFault) (P : StoreFault → Type 0) → IsErrAnd result P → Withholds a false b true → Withholds a false b (is_err result)
 withholds_err a b (Ok x) P is h = absurd is
 withholds_err a b (Err e) P is h = h
-
--- a refusal that comes before any call of the database
-pub withholds_refused : {A : Type 0} (s : State) (result : Result A StoreFault) (P : StoreFault → Type 0) → IsErrAnd result P → Withholds s false s (is_err result)
-withholds_refused s (Ok a) P is active = absurd is
-withholds_refused s (Err e) P is active = (λ clean on. absurd cc, λ found may. may)
-
--- a call of a work that was refused before
-pub failed_withholds : (s : State) → Withholds s true s true
-failed_withholds s active = (active, λ found may. may)

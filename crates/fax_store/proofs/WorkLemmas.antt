@@ -133,18 +133,6 @@ pub holds_err : {A : Type 0} (a b : State) (result : Result A StoreFault) (P : S
 holds_err a b (Ok x) P is h = absurd is
 holds_err a b (Err e) P is h = h
 
--- a refusal that comes before any call of the database
-pub holds_refused : {A : Type 0} (s : State) (result : Result A StoreFault) (P : StoreFault → Type 0) → IsErrAnd result P → Holds s false s (is_err result)
-holds_refused s (Ok a) P is db over serves = absurd is
-holds_refused s (Err e) P is db over serves = record { began = (over serves).began; goes_on = λ on. absurd cc }
-
--- a call of a work that was refused before
-pub failed_holds : (s : State) → Holds s true s true
-failed_holds s db over serves = record { began = (over serves).began; goes_on = λ on. absurd cc }
-
-pub failed_keeps : (s : State) (f : Queue → Queue) (g : List Entry → List Entry) → Changes s true s true f g
-failed_keeps s f g m₀ m k₀ k works serves = record { began = (works serves).began; goes_on = λ on. absurd cc }
-
 -- A statement that writes rows of one table moves a work on. Where it was refused, the last commit stands.
 pub move_by : (old new : State) (sql : List ℕ) (params : Row) (tree : ℕ) (result : Result (Unit {0}) StoreFault) (m₀ m after : Queue) (k₀ k kept : List Entry) → (Serves new → Serves old) → Works old false m₀ k₀ m k → Serves new
     → OnOk result (HasRun sql params old new) → OnErr result (LeavesCommit old new) → (TablesMean old.now m k → HasRun sql params old new → TablesMean new.now after kept × KeepsOthers six_tables tree old new) → Moves new result m₀ k₀ after kept

@@ -10,7 +10,7 @@ use Rattle.fax_tables.specs.Row.{number}
 use Rattle.fax_tables.specs.Schema.{no_tables, bare_tables, six_tables, meta_tree}
 use Rattle.fax_tables.specs.Tables.{IsAtRest, IsIndexed}
 use Rattle.sqlite_trees.specs.Tree.{Trees}
-use Rattle.fax_store.specs.Store.{HasRows, MayFind, RowsFound}
+use Rattle.fax_store.specs.Store.{HasRows, RowsFound}
 
 -- the version in each row of meta
 abbrev pub versions : Database → List Value
@@ -63,7 +63,3 @@ AreIndexed db found = (after : Database) × (after.trees ≡ found) × IsOurs db
 -- what adopting makes of a database: the rows of an empty store where it had no tables, or those that it had with the indexes
 abbrev pub AreAdopted : Database → Trees → Type 0
 AreAdopted db found = ((db.schema ≡ no_tables) × RowsFound found empty_queue []) ⊎ AreIndexed db found
-
--- A crash leaves what a crash before could leave, or rows of which this holds.
-abbrev pub MayMake : State → State → (Trees → Type 0) → Type 0
-MayMake old new Made = (found : Trees) → MayFind new found → MayFind old found ⊎ Made found

@@ -58,6 +58,10 @@ StaysOpen old new = HasCleanDisk new → Serves old → Serves new
 abbrev pub RowsFound : Trees → Queue → List Entry → Type 0
 RowsFound found m k = (db : Database) × (db.trees ≡ found) × TablesMean db m k
 
+-- A crash leaves what a crash before could leave, or rows of which this holds.
+abbrev pub MayMake : State → State → (Trees → Type 0) → Type 0
+MayMake old new Made = (found : Trees) → MayFind new found → MayFind old found ⊎ Made found
+
 -- a crash leaves just this
 abbrev pub LeavesAlone : State → Trees → Type 0
 LeavesAlone s db = (found : Trees) → s.may_leave found → found ≡ db

@@ -1,5 +1,5 @@
 -- What a work shows.
-use Rattle.std.specs.Prelude.{◌≡◌, ◌⊎◌, Bool, false, List, Result, MatchResult, IfErr, IsTrue}
+use Rattle.std.specs.Prelude.{◌≡◌, Bool, false, List, Result, MatchResult, IfErr, IsTrue}
 use Rattle.sqlite.specs.Effect.{Database}
 use Rattle.sqlite.specs.State.{State, HasCleanDisk}
 use Rattle.fax_tables.specs.declared.fault.StoreFault.{StoreFault}
@@ -8,8 +8,7 @@ use Rattle.fax_tables.specs.Fault.{OrUnavailable}
 use Rattle.fax_core.specs.Queue.{Queue, Entry}
 use Rattle.fax_tables.specs.Schema.{six_tables}
 use Rattle.fax_tables.specs.Tables.{TablesMean}
-use Rattle.sqlite_trees.specs.Tree.{Trees}
-use Rattle.fax_store.specs.Store.{Serves, Means, Rests, HasTables, MayFind, CommitsNothing}
+use Rattle.fax_store.specs.Store.{Serves, Means, Rests, HasTables, CommitsNothing, MayMake}
 
 -- ---- the rows, whatever they say
 
@@ -52,7 +51,7 @@ Withholds old failed new failed_after = IsActive old failed → IsActive new fai
 
 -- A crash behind a commit leaves what a crash before could leave, or the tables of the work.
 abbrev pub MayCommit : State → Bool → State → Type 0
-MayCommit old failed new = IsActive old failed → (found : Trees) → MayFind new found → MayFind old found ⊎ ((failed ≡ false) × IsOn old × (found ≡ old.now.trees))
+MayCommit old failed new = IsActive old failed → MayMake old new (λ found. (failed ≡ false) × IsOn old × (found ≡ old.now.trees))
 
 -- ---- what they mean
 

@@ -5,8 +5,8 @@ ghost use Rattle.sqlite.specs.Effect.{IsDatabase};
 ghost use Rattle.sqlite.specs.Held.{state};
 ghost use Rattle.sqlite.specs.State.{HasCleanDisk, IsUnchanged, KeepsCommit};
 ghost use Rattle.fax_core.specs.Queue.{Queue, Entry, empty_queue};
-ghost use Rattle.fax_store.specs.Adopt.{Adopts, AreAdopted, AreIndexed, HasIndexed, HasVersion, IsAdoptable, IsOurs, MayMake, TakesTables};
-ghost use Rattle.fax_store.specs.Store.{CommitsNothing, GoesBack, LeavesAlone, Means, RowsFound, Serves};
+ghost use Rattle.fax_store.specs.Adopt.{Adopts, AreAdopted, AreIndexed, HasIndexed, HasVersion, IsAdoptable, IsOurs, TakesTables};
+ghost use Rattle.fax_store.specs.Store.{CommitsNothing, GoesBack, LeavesAlone, MayMake, Means, RowsFound, Serves};
 ghost use Rattle.fax_tables.specs.Schema.{bare_tables, no_tables};
 ghost use Rattle.fax_tables.specs.Tables.{IsAtRest, RowsMean};
 

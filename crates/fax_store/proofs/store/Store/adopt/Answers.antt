@@ -1,8 +1,8 @@
 use Rattle.std.proofs.Common.{ap, not, subst, sym, ◌∙◌}
 use Rattle.sqlite.specs.Held.{state}
-use Rattle.fax_store.specs.Store.{GoesBack}
+use Rattle.fax_store.specs.Store.{GoesBack, MayMake}
 use Rattle.fax_store.proofs.AdoptLemmas.{alone_means, back_over, makes_then, reopened, rows_reopened}
-use Rattle.fax_store.specs.Adopt.{AreAdopted, MayMake}
+use Rattle.fax_store.specs.Adopt.{AreAdopted}
 use Rattle.fax_store.proofs.store.Store.adopt.Goals as goal
 
 pub returns-in-Err-clause-back : goal.returns-in-Err-clause-back
