@@ -70,7 +70,11 @@ def port():
 
 
 def is_free(number):
-    with contextlib.suppress(OSError), socket.create_server(("127.0.0.1", number)):
+    """Whether nobody listens there. This doesn't listen itself: what another thread starts meanwhile would have the
+    socket too, and the port would be taken for as long."""
+    try:
+        socket.create_connection(("127.0.0.1", number)).close()
+    except ConnectionRefusedError:
         return True
     return False
 
