@@ -6,6 +6,8 @@ mod adopt;
 #[cfg(test)]
 mod loopback;
 #[cfg(test)]
+mod one_fax;
+#[cfg(test)]
 mod queues;
 #[cfg(test)]
 mod rows;
@@ -13,6 +15,8 @@ mod rows;
 mod runs;
 #[cfg(test)]
 mod serving;
+#[cfg(test)]
+mod stops;
 #[cfg(test)]
 mod store;
 #[cfg(test)]
