@@ -173,7 +173,7 @@ def tables(file):
     with contextlib.closing(sqlite3.connect(file)) as database:
         database.text_factory = bytes
         return {name: sorted(database.execute(f"SELECT * FROM {name}").fetchall(), key=repr)
-                for name in ("jobs", "grants", "holds", "down", "replies", "meta")}
+                for name in ("jobs", "grants", "holds", "down", "replies", "meta", "calls")}
 
 
 def expect_rows(got, wanted, what):

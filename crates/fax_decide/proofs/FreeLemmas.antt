@@ -97,6 +97,10 @@ keys_free t Nothing m sound still within = tt
 keys_free t (NewJob f) m sound still within = job_free t (job_of f) m sound still.jobs
 keys_free t (ChangedJob f) m sound still within = tt
 keys_free t (Marked modem down) m sound still within = tt
-keys_free t (NewGrant f g) m sound still within = let free = grant_free m (accepted t (NewGrant f g) m) g sound still refl within.0.is_open in record { number = free.number; modem = free.modem; job = free.job }
+keys_free t (NewGrant f g) m sound still within =
+    let after = accepted t (NewGrant f g) m in
+    let free = grant_free m after g sound still refl within.0.is_open in
+    let held = still.held g.number g (new_open m after g sound still refl within.0.is_open) in
+    (record { number = free.number; modem = free.modem; job = free.job }, (held.0, held.1))
 keys_free t (Reported f g) m sound still within = tt
 keys_free t (Closed f g) m sound still within = tt

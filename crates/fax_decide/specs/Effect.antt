@@ -8,6 +8,7 @@ use Rattle.fax_store.specs.Grant.{IsNewGrant, IsReport, with_closed, with_one_mo
 use Rattle.fax_store.specs.Job.{IsChange, IsNewJob, with_expired, with_one_more_job}
 use Rattle.fax_store.specs.Meta.{with_clock}
 use Rattle.fax_tables.specs.Grant.{IsOpenGrant}
+use Rattle.fax_tables.specs.Tables.{HasJob}
 use Rattle.fax_decide.specs.declared.effect.Effect.{Effect}
 use Rattle.fax_decide.specs.declared.effect.Effect.TheVariants.{Nothing, NewJob, ChangedJob, Marked, NewGrant, Reported, Closed}
 
@@ -31,13 +32,13 @@ Suits (NewGrant job grant) m = IsChange (job_of job) m
 Suits (Reported job grant) m = IsChange (job_of job) m × IsReport grant (with_change (job_of job) m)
 Suits (Closed job grant) m = IsChange (job_of job) m
 
--- a new job or grant has a number that none has, and neither the modem nor the job of a new grant holds one
+-- A new job or grant has a number that none has. Neither the modem nor the job of a new grant holds one, and its job is there.
 abbrev pub IsFree : Effect → Queue → Type 0
 IsFree Nothing m = ⊤
 IsFree (NewJob job) m = IsNewJob (job_of job) m
 IsFree (ChangedJob job) m = ⊤
 IsFree (Marked modem down) m = ⊤
-IsFree (NewGrant job grant) m = IsNewGrant grant (with_change (job_of job) m)
+IsFree (NewGrant job grant) m = IsNewGrant grant (with_change (job_of job) m) × HasJob (with_change (job_of job) m) grant
 IsFree (Reported job grant) m = ⊤
 IsFree (Closed job grant) m = ⊤
 

@@ -1,5 +1,5 @@
 -- What the statements do by which a store comes to a database.
-use Rattle.std.proofs.Common.{◌≡◌, ◌≤◌, inl, inr, ℕ, List, [], ◌∷◌, codes, length, map, filter, true, IsTrue, false, Ok, Err, IsErrAnd, Result, refl, sym, subst, ap, ◌∙◌, arith}
+use Rattle.std.proofs.Common.{◌≡◌, ◌≤◌, inl, inr, ℕ, List, [], ◌∷◌, codes, map, filter, true, Ok, Err, IsErrAnd, Result, refl, sym, subst, ap, ◌∙◌}
 use Rattle.std.specs.List.Sorted.{IsPermutation}
 use Rattle.std.proofs.lemmas.List.Sorted.{IsPermutation-sym}
 use Rattle.sqlite.specs.Effect.{Database, IsDatabase}
@@ -9,21 +9,22 @@ use Rattle.sqlite.specs.declared.error.Error.{Error}
 use Rattle.sqlite.specs.State.{State, HasCleanDisk, IsUnchanged, KeepsCommit, Shown, Executes, CommitsBy, Survives}
 use Rattle.sqlite_trees.specs.Tree.{Trees}
 use Rattle.sqlite.proofs.Callers.{one_permutation, reads_as}
-use Rattle.sqlite_schema.specs.declared.schema.Schema.{Schema}
+use Rattle.sqlite_catalog.specs.Change.{KeepsRows}
+use Rattle.sqlite_rules.specs.Lists.{Has}
 use Rattle.fax_core.specs.Queue.{Queue, Entry, empty_queue}
 use Rattle.fax_store.specs.declared.adopt.TheConstants.{SELECT_VERSION}
 use Rattle.fax_store.specs.declared.store.TheConstants.{BEGIN, COMMIT}
 use Rattle.fax_tables.specs.declared.fault.StoreFault.{StoreFault}
 use Rattle.fax_tables.specs.declared.fault.StoreFault.TheVariants.{Strange}
 use Rattle.fax_tables.specs.Row.{number}
-use Rattle.fax_tables.specs.Schema.{no_tables, bare_tables, six_tables, meta_tree}
-use Rattle.fax_tables.specs.Tables.{GoesOn, HasEmptyTables, HasTablesAlone, IsAtRest, IsIndexed, RowsMean, TablesMean}
+use Rattle.fax_tables.specs.Schema.{AreOurs, no_tables, seven_tables, six_tables, calls_tree, meta_tree}
+use Rattle.fax_tables.specs.Tables.{GoesOn, HasEmptyTables, HasNewCalls, IsAtRest, RowsMean, TablesMean}
 use Rattle.fax_tables.proofs.CreateLemmas.{commit_kept, goes_on, kept_rows, none_at_first, refused_keeps}
 use Rattle.fax_tables.proofs.StopLemmas.{nothing_then}
-use Rattle.fax_tables.proofs.TablesLemmas.{rows_mean, same_database}
+use Rattle.fax_tables.proofs.TablesLemmas.{same_database}
 use Rattle.fax_tables.specs.Stop.{HoldsBack}
 use Rattle.fax_tables.proofs.SelectLemmas.{answers}
-use Rattle.fax_store.specs.Adopt.{AreIndexed, HasIndexed, HasVersion, IsOurs, TakesTables, versions}
+use Rattle.fax_store.specs.Adopt.{AreWhole, HasNone, HasWhole, IsFilled, IsIn, IsOurs, IsTold, IsWhole, versions}
 use Rattle.fax_store.specs.Store.{CommitsNothing, GoesBack, MayMake, RowsFound, Serves}
 use Rattle.fax_store.proofs.ControlLemmas.{begins, commits}
 use Rattle.fax_store.proofs.StatementTexts.{select_version, version_project}
@@ -65,80 +66,83 @@ module _ (s0 s1 : State) (none : s0.now.schema ≡ no_tables) (n : ℕ) (began :
           let done = commits s2 s3 k committed in
           record { autocommit = done.mode; settled = done.now_is ∙ sym done.committed_is; means = same_tables empty_queue [] done.now_is (created starts_empty).1 }
 
--- ---- making the indexes
+-- ---- taking a database with our tables
 
-module _ (s0 s1 : State) (alone : s0.now.schema ≡ bare_tables) (n : ℕ) (began : Executes BEGIN.now [] s0 s1 (Ok n)) where
-  pub starts_alone : HasTablesAlone s1
-  starts_alone =
+-- a call that only reads leaves the tables without a call counted
+pub none_still : (a b : State) → HasNone a → IsUnchanged a b → HasNone b
+none_still a b has same = record {
+  is_open = same.0.is_open;
+  inside = same.0.mode ∙ has.inside;
+  schema_is = ap (λ (d : Database). d.schema) same.0.now_is ∙ has.schema_is;
+  sound = subst IsDatabase (sym same.0.now_is) has.sound;
+  none = ap (λ (d : Database). d.trees calls_tree) same.0.now_is ∙ has.none;
+}
+
+-- rows that are kept in six tables mean what they meant
+pub kept_means : (a b : Database) (m : Queue) (k : List Entry) → KeepsRows six_tables.tables a.trees b.trees → RowsMean a m k → RowsMean b m k
+kept_means a b m k kept mean = (mean.0, mean.1, kept_rows six_tables.tables (mean.0).trees a.trees b.trees mean.2 kept)
+
+module _ (s0 s1 : State) (ours : AreOurs s0.now.schema) (n : ℕ) (began : Executes BEGIN.now [] s0 s1 (Ok n)) where
+  pub starts_ours : IsIn AreOurs s1
+  starts_ours =
       let shown = (begins s0 s1 n began).1 in
-      record { inside = shown.mode; schema_is = ap (λ (d : Database). d.schema) shown.now_is ∙ alone }
+      record { is_open = shown.is_open; inside = shown.mode; schema_is = subst (λ (d : Database). AreOurs d.schema) (sym shown.now_is) ours }
 
   module _ (s2 : State) where
-    pub indexing_kept : (HasTablesAlone s1 → KeepsCommit s1 s2) → KeepsCommit s0 s2
-    indexing_kept kept = commit_kept s0 s1 s2 (starts s0 s1 n began) (kept starts_alone)
+    pub renewing_kept : (IsIn AreOurs s1 → KeepsCommit s1 s2) → KeepsCommit s0 s2
+    renewing_kept kept = commit_kept s0 s1 s2 (starts s0 s1 n began) (kept starts_ours)
 
-    module _ (made : HasTablesAlone s1 → GoesOn s1 s2 × IsIndexed s1.now s2.now) where
-      pub goes_on_indexed : GoesOn s0 s2
-      goes_on_indexed = goes_on s0 s1 s2 (starts s0 s1 n began) (made starts_alone).0
+    module _ (made : IsIn AreOurs s1 → GoesOn s1 s2 × HasNewCalls s1.now s2.now) where
+      pub goes_on_renewed : GoesOn s0 s2
+      goes_on_renewed = goes_on s0 s1 s2 (starts s0 s1 n began) (made starts_ours).0
 
-      pub is_indexed : IsIndexed s0.now s2.now
-      is_indexed = subst (λ (d : Database). IsIndexed d s2.now) (begins s0 s1 n began).1.now_is (made starts_alone).1
+      renewed : HasNewCalls s0.now s2.now
+      renewed = subst (λ (d : Database). HasNewCalls d s2.now) (begins s0 s1 n began).1.now_is (made starts_ours).1
+
+      pub has_none : HasNone s2
+      has_none = record { is_open = goes_on_renewed.is_open; inside = goes_on_renewed.mode; schema_is = renewed.schema_is; sound = renewed.sound; none = renewed.none }
 
       same_versions : versions s2.now ≡ versions s0.now
-      same_versions = ap (map (λ r. column r 5)) is_indexed.rows.1.1.1.1.1.0
+      same_versions = ap (map (λ r. column r 5)) renewed.rows.1.1.1.1.1.0
 
-      pub was_ours : HasVersion s2.now → IsOurs s0.now
-      was_ours has = record { schema_is = inr alone; version = sym same_versions ∙ has.version }
+      pub told_version : IsTold s0.now → versions s2.now ≡ number 1 ∷ []
+      told_version told = same_versions ∙ told.version
 
-      pub has_version : IsOurs s0.now → HasVersion s2.now
-      has_version ours = record { schema_is = is_indexed.schema_is; version = same_versions ∙ ours.version }
+      pub told_means : (m : Queue) (k : List Entry) → RowsMean s0.now m k → RowsMean s2.now m k
+      told_means m k = kept_means s0.now s2.now m k renewed.rows
 
-      pub test_kept : (s3 : State) → KeepsCommit s2 s3 → KeepsCommit s0 s3
-      test_kept s3 kept = commit_kept s0 s2 s3 goes_on_indexed kept
+      pub filling_kept : (s3 : State) → KeepsCommit s2 s3 → KeepsCommit s0 s3
+      filling_kept s3 kept = commit_kept s0 s2 s3 goes_on_renewed kept
 
-      module _ (s3 s4 : State) (same : IsUnchanged s2 s3) where
-        pub indexes_not_committed : (e : Error) → Executes COMMIT.now [] s3 s4 (Err e) → KeepsCommit s0 s4
-        indexes_not_committed e failed =
-            let on : GoesOn s0 s3 = record {
-              was_open = goes_on_indexed.was_open;
-              is_open = same.0.is_open;
-              now_is = refl;
-              committed_is = same.0.committed_is ∙ goes_on_indexed.committed_is;
-              mode = same.0.mode ∙ goes_on_indexed.mode;
-            } in
-            commit_kept s0 s3 s4 on (refused_keeps s3 s4 COMMIT.now e failed)
+      module _ (s3 : State) (filled : GoesOn s2 s3 × IsFilled s2.now s3.now) where
+        pub was_ours : IsOurs s0.now
+        was_ours = record {
+          schema_is = ours;
+          version = sym same_versions ∙ filled.1.version;
+          held = λ hold there. let it = filled.1.held hold (subst (λ rows. Has rows hold) (sym renewed.rows.1.1.0) there) in (it.0, subst (λ rows. Has rows it.0) renewed.rows.0 it.1, it.2);
+        }
 
-        pub indexes_made : (k : ℕ) → Executes COMMIT.now [] s3 s4 (Ok k) → HasIndexed s4 s0.now
-        indexes_made k committed =
-            let done = commits s3 s4 k committed in
-            record {
-              autocommit = done.mode;
-              settled = done.now_is ∙ sym done.committed_is;
-              indexed = subst (λ (d : Database). IsIndexed s0.now d) (sym (done.now_is ∙ same.0.now_is)) is_indexed;
-            }
+        pub is_whole : IsWhole s0.now s3.now
+        is_whole = let whole = filled.1.whole in record { schema_is = whole.schema_is; sound = whole.sound; rows = kept_rows six_tables.tables s0.now.trees s2.now.trees s3.now.trees renewed.rows whole.rows }
+
+        pub not_taken : (s4 : State) (e : Error) → Executes COMMIT.now [] s3 s4 (Err e) → KeepsCommit s0 s4
+        not_taken s4 e failed = commit_kept s0 s3 s4 (goes_on s0 s2 s3 goes_on_renewed filled.0) (refused_keeps s3 s4 COMMIT.now e failed)
+
+        module _ (s4 : State) (k : ℕ) (committed : Executes COMMIT.now [] s3 s4 (Ok k)) where
+          pub has_whole : HasWhole s4 s0.now
+          has_whole =
+              let done = commits s3 s4 k committed in
+              record { autocommit = done.mode; settled = done.now_is ∙ sym done.committed_is; whole = subst (λ (d : Database). IsWhole s0.now d) (sym done.now_is) is_whole }
+
+          pub whole_means : (m : Queue) (kept : List Entry) → TablesMean s3.now m kept → IsAtRest s4 m kept
+          whole_means m kept means =
+              let done = commits s3 s4 k committed in
+              record { autocommit = done.mode; settled = done.now_is ∙ sym done.committed_is; means = same_tables m kept done.now_is means }
 
 -- a fault that is passed on is the one that was told
 pub told_strange : (r : Result (Unit {0}) StoreFault) (fault : StoreFault) → IsErrAnd r (λ e. e ≡ fault) → r ≡ Err Strange → ◌≡◌ {A = Result (Unit {0}) StoreFault} (Err fault) (Err Strange)
 told_strange (Ok x) fault told is = absurd told
 told_strange (Err e) fault told is = ap Err (sym told) ∙ is
-
--- rows that mean this mean it in a store that has the indexes, too
-pub indexed_means : (s : State) (db : Database) (m : Queue) (k : List Entry) → HasIndexed s db → RowsMean db m k → IsAtRest s m k
-indexed_means s db m k has rows = record {
-  autocommit = has.autocommit;
-  settled = has.settled;
-  means = rows_mean rows.0 s.now m k has.indexed.schema_is has.indexed.sound (kept_rows six_tables.tables rows.0.trees db.trees s.now.trees rows.2 has.indexed.rows) rows.1;
-}
-
--- and so do the tables alone, once they are taken
-pub alone_means : (old new : State) (m : Queue) (k : List Entry) → old.now.schema ≡ bare_tables → TakesTables old new → RowsMean old.now m k → IsAtRest new m k
-alone_means old new m k alone (inl made) rows =
-    let sizes : 0 ≡ 6 = ap (λ (s : Schema). length s.tables) (sym made.0 ∙ alone) in
-    absurd (omega (arith, sizes))
-alone_means old new m k alone (inr (ours, inl kept)) rows =
-    let sizes : 7 ≡ 5 = ap (λ (s : Schema). length s.indexes) (sym kept.0 ∙ alone) in
-    absurd (omega (arith, sizes))
-alone_means old new m k alone (inr (ours, inr got)) rows = indexed_means new old.now m k got.1 rows
 
 -- ---- reading the version
 
@@ -157,10 +161,10 @@ in_one_row [] e = absurd cc
 in_one_row (r ∷ []) e = let head : column r 5 ≡ number 1 = cc in ap (λ v. (v ∷ []) ∷ []) head
 in_one_row (r ∷ s ∷ rows) e = absurd cc
 
-module _ (old new : State) (six : old.now.schema ≡ six_tables) (rows : List Row) (shown : Shown SELECT_VERSION.now [] old new rows) where
+module _ (old new : State) (six : old.now.schema ≡ seven_tables) (rows : List Row) (shown : Shown SELECT_VERSION.now [] old new rows) where
   shown_versions : IsPermutation (map (λ r. column r 5 ∷ []) (old.now.trees meta_tree)) rows
   shown_versions =
-      let read = reads_as SELECT_VERSION.now [] old new six_tables six _ select_version.command select_version.plain select_version.unlisted rows shown in
+      let read = reads_as SELECT_VERSION.now [] old new seven_tables six _ select_version.command select_version.plain select_version.unlisted rows shown in
       subst (λ t. IsPermutation (map (λ r. column r 5 ∷ []) t) rows) (every (old.now.trees meta_tree))
       (answers meta_tree [] version_project [] old.now (old.now.trees meta_tree) refl (codes "version" ∷ []) rows read)
 
@@ -196,37 +200,32 @@ module _ (s0 s1 : State) (none : s0.now.schema ≡ no_tables) (n : ℕ) (survive
         | inr it ↦ inr (s2.now, sym it.1, (here it.0).1)
       ]
 
-module _ (s0 s1 : State) (alone : s0.now.schema ≡ bare_tables) (n : ℕ) (survives : Survives s0 s1 (CommitsBy BEGIN.now [] s0)) (began : HasCleanDisk s1 → Executes BEGIN.now [] s0 s1 (Ok n)) (s2 : State) (made : HoldsBack HasTablesAlone s1 s2) where
-  -- nor does making the indexes
-  pub indexes_hold_back : CommitsNothing s0 s2
-  indexes_hold_back = nothing_then s0 s1 s2 (begin_nothing s0 s1 survives) (made (λ clean. starts_alone s0 s1 alone n (began clean)))
+module _ (s0 s1 : State) (ours : AreOurs s0.now.schema) (n : ℕ) (survives : Survives s0 s1 (CommitsBy BEGIN.now [] s0)) (began : HasCleanDisk s1 → Executes BEGIN.now [] s0 s1 (Ok n)) (s2 : State) (made : HoldsBack (IsIn AreOurs) s1 s2) where
+  -- nor does making what is missing
+  pub renewing_holds_back : CommitsNothing s0 s2
+  renewing_holds_back = nothing_then s0 s1 s2 (begin_nothing s0 s1 survives) (made (λ clean. starts_ours s0 s1 ours n (began clean)))
 
-  pub indexes_stop : (HasCleanDisk s2 → HasCleanDisk s1) → (HasCleanDisk s2 → HasTablesAlone s1 → GoesOn s1 s2 × IsIndexed s1.now s2.now)
-      → (s3 : State) → (HasCleanDisk s3 → HasCleanDisk s2) → CommitsNothing s2 s3 → (HasCleanDisk s3 → HasVersion s2.now × IsUnchanged s2 s3)
-      → (s4 : State) → Survives s3 s4 (CommitsBy COMMIT.now [] s3) → MayMake s0 s4 (AreIndexed s0.now)
-  indexes_stop cleaner done s3 cleaned tests tested s4 committing found may =
-      let on : HasCleanDisk s3 → GoesOn s0 s2 = λ clean. goes_on_indexed s0 s1 alone n (began (cleaner (cleaned clean))) s2 (done (cleaned clean)) in
-      elim (commit_makes s3 s4 committing (λ clean. (tested clean).1.0.mode ∙ (on clean).mode) found may) [
-        | inl before ↦ inl (indexes_hold_back found (tests found before))
-        | inr it ↦
-            (let clean = it.0 in
-            let test = tested clean in
-            let starting = began (cleaner (cleaned clean)) in
-            inr (s2.now, sym (it.1 ∙ ap (λ (d : Database). d.trees) test.1.0.now_is), was_ours s0 s1 alone n starting s2 (done (cleaned clean)) test.0, is_indexed s0 s1 alone n starting s2 (done (cleaned clean))))
-      ]
+  module _ (cleaner : HasCleanDisk s2 → HasCleanDisk s1) (done : HasCleanDisk s2 → IsIn AreOurs s1 → GoesOn s1 s2 × HasNewCalls s1.now s2.now) (s3 : State) (fills : HoldsBack HasNone s2 s3) where
+    -- nor counting the calls
+    pub filling_holds_back : CommitsNothing s0 s3
+    filling_holds_back = nothing_then s0 s2 s3 renewing_holds_back (fills (λ clean. has_none s0 s1 ours n (began (cleaner clean)) s2 (done clean)))
+
+    pub taking_stops : (HasCleanDisk s3 → HasCleanDisk s2) → (HasCleanDisk s3 → HasNone s2 → GoesOn s2 s3 × IsFilled s2.now s3.now)
+        → (s4 : State) → Survives s3 s4 (CommitsBy COMMIT.now [] s3) → MayMake s0 s4 (AreWhole s0.now)
+    taking_stops cleaned filled s4 committing found may =
+        let start : (clean : HasCleanDisk s3) → Executes BEGIN.now [] s0 s1 (Ok n) = λ clean. began (cleaner (cleaned clean)) in
+        let fill : HasCleanDisk s3 → GoesOn s2 s3 × IsFilled s2.now s3.now = λ clean. filled clean (has_none s0 s1 ours n (start clean) s2 (done (cleaned clean))) in
+        elim (commit_makes s3 s4 committing (λ clean. (fill clean).0.mode) found may) [
+          | inl before ↦ inl (filling_holds_back found before)
+          | inr it ↦
+              (let clean = it.0 in
+              inr (s3.now, sym it.1, was_ours s0 s1 ours n (start clean) s2 (done (cleaned clean)) s3 (fill clean), is_whole s0 s1 ours n (start clean) s2 (done (cleaned clean)) s3 (fill clean)))
+        ]
 
 -- Rows have one meaning: the tables of any database that has them are ours, where those of one are.
 pub rows_reopened : (db : Database) (m : Queue) (k : List Entry) → RowsFound db.trees m k → IsDatabase db → TablesMean db m k
 rows_reopened db m k rows sound = same_tables m k (same_database db rows.0 (sym rows.1) sound rows.2.sound) rows.2
 
--- so a store that takes a database with such rows means what they mean
-pub reopened : (old new : State) (m : Queue) (k : List Entry) → old.in_transaction ≡ false → (IsTrue old.is_open → old.now ≡ old.committed) → TablesMean old.now m k → TakesTables old new → IsAtRest new m k
-reopened old new m k autocommit settled means (inl made) =
-    let sizes : 0 ≡ 6 = ap (λ (s : Schema). length s.tables) (sym made.0 ∙ means.schema) in
-    absurd (omega (arith, sizes))
-reopened old new m k autocommit settled means (inr (ours, inl kept)) =
-    let same = kept.1.0 in
-    record { autocommit = same.mode ∙ autocommit; settled = same.now_is ∙ settled same.was_open ∙ sym same.committed_is; means = same_tables m k same.now_is means }
-reopened old new m k autocommit settled means (inr (ours, inr got)) =
-    let sizes : 5 ≡ 7 = ap (λ (s : Schema). length s.indexes) (sym got.0 ∙ means.schema) in
-    absurd (omega (arith, sizes))
+-- and it has our tables, whose rows mean this
+pub means_rows : (db : Database) (m : Queue) (k : List Entry) → TablesMean db m k → AreOurs db.schema × RowsMean db m k
+means_rows db m k means = (inl (inl means.schema), (db, means, (refl, (refl, (refl, (refl, (refl, (refl, tt))))))))

@@ -1,147 +1,241 @@
--- How many rows the text on calls shows.
-use Rattle.std.proofs.Common.{◌≡◌, ◌+◌, ℕ, List, [], ◌∷◌, map, filter, flat_map, drop, length, length-append, Bool, true, false, ◌&&◌, cond, if◌then◌else◌, Some, refl, sym, ap, ap₂, subst, ◌∙◌, arith, inl, inr}
-use Rattle.std.specs.Prelude.{find, ◌==◌, codes}
-use Rattle.std.specs.List.{list_all, sum_by}
+-- What the texts on calls read and write.
+use Rattle.std.proofs.Common.{◌≡◌, ◌⊎◌, inl, inr, ◌≤◌, ℕ, zero, suc, pos, List, [], ◌∷◌, ◌++◌, map, filter, drop, Bool, true, false, not, ◌&&◌, if◌then◌else◌, Option, Some, None, MatchOption, IsTrue, refl, sym, ap, ap₂, subst, ◌∙◌, arith}
 use Rattle.std.specs.Str.{bytes_eq}
-use Rattle.std.specs.declared.cmp.Ordering.TheVariants.{Less}
-use Rattle.std.proofs.lemmas.Bool.{cases_Bool, eqb-true}
-use Rattle.std.proofs.lemmas.List.Sums.{sum_by-cons}
-use Rattle.std.proofs.lemmas.List.Sorted.{length_permutation, sum_by-IsPermutation}
-use Rattle.sqlite.specs.Effect.{Reads}
-use Rattle.sqlite.specs.Command.TheVariants.{Select}
+use Rattle.std.specs.List.Sorted.{IsPermutation}
+use Rattle.std.proofs.lemmas.Bool.{cases_Bool}
+use Rattle.std.proofs.lemmas.Slice.Eq.{bytes_eq-Decides}
+use Rattle.sqlite.specs.Cast.{cast_row}
+use Rattle.sqlite.specs.Edit.{with_rowid, next_rowid}
 use Rattle.sqlite.specs.Order.{Row, column}
-use Rattle.sqlite.specs.Program.{overlay}
-use Rattle.sqlite.specs.Query.{IsAnswer, output, Output}
-use Rattle.sqlite.specs.State.{State, Shown}
-use Rattle.sqlite.specs.Tree.{rowid, IsTable}
-use Rattle.sqlite.specs.declared.types.Value.TheVariants.{Null, Text}
-use Rattle.sqlite.proofs.Callers.{reads_as}
-use Rattle.sqlite_rules.proofs.ListLemmas.{all_has}
+use Rattle.sqlite.specs.Rowids.TheVariants.{Chosen}
+use Rattle.sqlite.specs.Effect.{Database, IsDatabase}
+use Rattle.sqlite.specs.State.{State, IsUnchanged}
+use Rattle.sqlite.specs.declared.types.Value.TheVariants.{Null, Int, Text}
+use Rattle.sqlite.proofs.Callers.{runs_as, reads_as}
+use Rattle.sqlite_catalog.specs.Change.{KeepsRows}
+use Rattle.sqlite_rules.specs.Lists.{Has}
+use Rattle.sqlite_rules.proofs.ListLemmas.{has_either, has_filtered, has_kept, has_left, has_right}
 use Rattle.sqlite_rules.proofs.ProbeLemmas.{mapped_has}
-use Rattle.sqlite_sql.specs.Term.{holds, Env}
-use Rattle.sqlite_trees.proofs.ListLemmas.{filter-map, filter_same, filter_none, all_of}
-use Rattle.sqlite_rules.proofs.ListLemmas.{all_from}
-use Rattle.sqlite_value.specs.Order.{value_cmp}
-use Rattle.fax_core.specs.Job.{Job}
-use Rattle.fax_core.specs.Queue.{Queue, Entry, open_grants, job_numbered}
-use Rattle.fax_core.specs.State.{calls_to, is_of_number}
-use Rattle.fax_core.specs.declared.grants.Grant.{Grant}
-use Rattle.fax_store.specs.declared.grants.TheConstants.{SELECT_CALLS}
-use Rattle.fax_tables.specs.Row.{number, hold_columns}
-use Rattle.fax_tables.specs.Schema.{six_tables, holds_tree, jobs_tree}
-use Rattle.fax_tables.specs.Tables.{TablesMean}
-use Rattle.fax_tables.proofs.CompareLemmas.{are_equal, equal_texts, is_number}
-use Rattle.fax_store.proofs.GrantTexts.{call_tests, calls_query, select_calls}
-use Rattle.fax_tables.proofs.IndexLemmas.{length_map}
-use Rattle.fax_tables.proofs.KeyLemmas.{apart}
-use Rattle.fax_tables.proofs.SelectLemmas.{each_passing}
-use Rattle.fax_tables.proofs.TablesLemmas.{row_of}
+use Rattle.sqlite_trees.proofs.ListLemmas.{all_of, filter-map, filter_same}
+use Rattle.fax_store.specs.declared.grants.TheConstants.{SELECT_OPEN, DELETE_CALLS, INSERT_CALLS}
+use Rattle.fax_store.specs.Adopt.{HasNone, IsWhole}
+use Rattle.fax_store.specs.Grant.{HasCalls, SetsCalls, with_count}
+use Rattle.fax_store.specs.Store.{FindsRow, HasRun}
+use Rattle.fax_tables.specs.Row.{number, call_columns}
+use Rattle.fax_tables.specs.Schema as schema
+use Rattle.fax_tables.specs.Schema.{six_tables, seven_tables, calls_tree}
+use Rattle.fax_tables.specs.Tables.{AreCalls, AreCounted, IsByRowid}
+use Rattle.fax_tables.proofs.AppendLemmas.{appended}
+use Rattle.fax_tables.proofs.CompareLemmas.{are_equal, cast_int, cast_null, equal_texts, same_row}
+use Rattle.fax_tables.proofs.CreateLemmas.{goes_on, inside_shown, kept_rows}
+use Rattle.fax_tables.proofs.EditLemmas.{has_mapped, none_shown, shown_one}
+use Rattle.fax_tables.proofs.SelectLemmas.{passes, show, answers}
+use Rattle.fax_tables.proofs.TablesLemmas.{by_rowid_put, counted_as}
+use Rattle.fax_tables.proofs.UpdateLemmas.{gone_project, deleted}
+use Rattle.fax_tables.proofs.WriteLemmas.{KeepsOthers, unreferred, inserts}
+use Rattle.fax_store.proofs.GrantTexts.{call_tests, call_project, call_terms, select_open, delete_calls, insert_calls}
 
--- ---- sums
+and_true : (b : Bool) → (b && true) ≡ b
+and_true true = refl
+and_true false = refl
 
-total : {A B : Type 0} (f : A → List B) (xs : List A) → length (flat_map f xs) ≡ sum_by (λ x. length (f x)) xs
-total f [] = refl
-total f (x ∷ xs) = length-append (f x) (flat_map f xs) ∙ ap (λ n. length (f x) + n) (total f xs) ∙ sym (sum_by-cons (λ x. length (f x)) x xs)
+-- ---- counts
 
-sum_same : {A : Type 0} (f g : A → ℕ) (xs : List A) → ((x : A) → f x ≡ g x) → sum_by f xs ≡ sum_by g xs
-sum_same f g [] same = refl
-sum_same f g (x ∷ xs) same = sum_by-cons f x xs ∙ ap₂ ◌+◌ (same x) (sum_same f g xs same) ∙ sym (sum_by-cons g x xs)
+module _ (dial : List ℕ) (count : List ℕ → ℕ) where
+  of_this : (n : ℕ) (d : List ℕ) → bytes_eq d dial ≡ true → with_count dial n count d ≡ n
+  of_this n d on = ap (λ b. if b then n else count d) on
 
-sum_mapped : {A B : Type 0} (f : B → ℕ) (h : A → B) (xs : List A) → sum_by f (map h xs) ≡ sum_by (λ x. f (h x)) xs
-sum_mapped f h [] = refl
-sum_mapped f h (x ∷ xs) = sum_by-cons f (h x) (map h xs) ∙ ap (λ n. f (h x) + n) (sum_mapped f h xs) ∙ sym (sum_by-cons (λ x. f (h x)) x xs)
+  of_other : (n : ℕ) (d : List ℕ) → bytes_eq d dial ≡ false → with_count dial n count d ≡ count d
+  of_other n d off = ap (λ b. if b then n else count d) off
 
-counted : {A : Type 0} (p : A → Bool) (xs : List A) → sum_by (λ x. if p x then 1 else 0) xs ≡ length (filter p xs)
-counted p [] = refl
-counted p (x ∷ xs) = sum_by-cons (λ x. if p x then 1 else 0) x xs ∙ ap (λ n. (if p x then 1 else 0) + n) (counted p xs) ∙ by (p x)
-  where
-    by : (b : Bool) → (if b then 1 else 0) + length (filter p xs) ≡ length (if b then x ∷ filter p xs else filter p xs)
-    by true = omega arith
-    by false = omega arith
+  -- the columns are of another number
+  abbrev pub others : Row → Bool
+  others columns = not (are_equal (column columns 0) (Text dial) && true)
 
--- ---- one job at most has a number
+  is_other : (d : List ℕ) (n : ℕ) → others (call_columns d n) ≡ not (bytes_eq d dial)
+  is_other d n = ap not (and_true (are_equal (Text d) (Text dial)) ∙ equal_texts d dial)
 
-module _ (dial : List ℕ) (n : ℕ) where
-  abbrev is_it : Job → Bool
-  is_it j = (j.number == n) && bytes_eq j.dial dial
-
-  count_of : (jobs : List Job) → IsTable (map row_of jobs) → length (filter is_it jobs) ≡ (if is_of_number dial (find (λ j. j.number == n) jobs) then 1 else 0)
-  count_of [] rise = refl
-  count_of (x ∷ xs) rise = elim (cases_Bool (x.number == n)) [
-    | inl here ↦ first here (none here)
-    | inr off ↦ (ap (λ b. length (if b && bytes_eq x.dial dial then x ∷ filter is_it xs else filter is_it xs)) off ∙ count_of xs rise.1
-        ∙ sym (ap (λ b. (if is_of_number dial (if b then Some x else find (λ j. j.number == n) xs) then 1 else 0)) off))
-  ]
+  -- without the row of the number
+  pub without : (columns : List Row) → AreCounted count columns → AreCounted (with_count dial 0 count) (filter others columns)
+  without columns was = record { each = each; all = all }
     where
-      none : (x.number == n) ≡ true → filter is_it xs ≡ []
-      none here = filter_none is_it xs (all_from (λ y. is_it y ≡ false) xs (λ y has.
-          let less = all_has (λ r. value_cmp (rowid (row_of x)) (rowid r) ≡ Less) (map row_of xs) (row_of y) rise.0 (mapped_has row_of xs y has) in
-          let other : (x.number == y.number) ≡ false = apart row_of (λ (j : Job). j.number) (λ j. refl) x y less in
-          ap (λ b. b && bytes_eq y.dial dial) (not_it y other here)))
-        where
-          not_it : (y : Job) → (x.number == y.number) ≡ false → (x.number == n) ≡ true → (y.number == n) ≡ false
-          not_it y other here = elim (cases_Bool (y.number == n)) [
-            | inl same ↦ absurd (let e = sym (ap (λ i. x.number == i) (eqb-true y.number n same)) ∙ other in let no = sym here ∙ e in cc)
-            | inr off ↦ off
+      each : (row : Row) → Has (filter others columns) row → (d : List ℕ) × (row ≡ call_columns d (with_count dial 0 count d)) × (1 ≤ with_count dial 0 count d)
+      each row has =
+          let kept = has_filtered others columns row has in
+          let it = was.each row kept.0 in
+          elim (cases_Bool (bytes_eq it.0 dial)) [
+            | inl on ↦ absurd (let e = sym (ap others it.1 ∙ is_other it.0 (count it.0) ∙ ap not on) ∙ kept.1 in cc)
+            | inr off ↦ (it.0, it.1 ∙ ap (call_columns it.0) (sym (of_other 0 it.0 off)), subst (λ n. 1 ≤ n) (sym (of_other 0 it.0 off)) it.2)
           ]
 
-      first : (x.number == n) ≡ true → filter is_it xs ≡ [] → length (filter is_it (x ∷ xs)) ≡ (if is_of_number dial (find (λ j. j.number == n) (x ∷ xs)) then 1 else 0)
-      first here rest =
-          ap (λ b. length (if b && bytes_eq x.dial dial then x ∷ filter is_it xs else filter is_it xs)) here
-          ∙ ap (λ l. length (if bytes_eq x.dial dial then x ∷ l else l)) rest
-          ∙ one (bytes_eq x.dial dial)
-          ∙ sym (ap (λ b. (if is_of_number dial (if b then Some x else find (λ j. j.number == n) xs) then 1 else 0)) here)
-        where
-          one : (b : Bool) → length (if b then x ∷ [] else []) ≡ (if b then 1 else 0)
-          one true = refl
-          one false = refl
+      all : (d : List ℕ) → 1 ≤ with_count dial 0 count d → Has (filter others columns) (call_columns d (with_count dial 0 count d))
+      all d some = elim (cases_Bool (bytes_eq d dial)) [
+        | inl on ↦ absurd (omega (arith, of_this 0 d on, some))
+        | inr off ↦ subst (λ n. Has (filter others columns) (call_columns d n)) (sym (of_other 0 d off))
+            (has_kept others columns (call_columns d (count d)) (was.all d (subst (λ n. 1 ≤ n) (of_other 0 d off) some)) (is_other d (count d) ∙ ap not off))
+      ]
 
--- ---- the rows of the join
+  -- and with another
+  pub beside : (n : ℕ) (columns : List Row) → 1 ≤ n → AreCounted (with_count dial 0 count) columns → AreCounted (with_count dial n count) (columns ++ call_columns dial n ∷ [])
+  beside n columns some was = record { each = λ row has. by row (has_either columns (call_columns dial n ∷ []) row has); all = all }
+    where
+      itself : bytes_eq dial dial ≡ true
+      itself = (bytes_eq-Decides dial dial).1 refl
+
+      by : (row : Row) → Has columns row ⊎ Has (call_columns dial n ∷ []) row → (d : List ℕ) × (row ≡ call_columns d (with_count dial n count d)) × (1 ≤ with_count dial n count d)
+      by row (inl has) =
+          let it = was.each row has in
+          elim (cases_Bool (bytes_eq it.0 dial)) [
+            | inl on ↦ absurd (omega (arith, of_this 0 it.0 on, it.2))
+            | inr off ↦ (it.0, it.1 ∙ ap (call_columns it.0) (of_other 0 it.0 off ∙ sym (of_other n it.0 off)), subst (λ c. 1 ≤ c) (of_other 0 it.0 off ∙ sym (of_other n it.0 off)) it.2)
+          ]
+      by row (inr (inl is)) = (dial, is ∙ ap (call_columns dial) (sym (of_this n dial itself)), subst (λ c. 1 ≤ c) (sym (of_this n dial itself)) some)
+      by row (inr (inr none)) = absurd none
+
+      all : (d : List ℕ) → 1 ≤ with_count dial n count d → Has (columns ++ call_columns dial n ∷ []) (call_columns d (with_count dial n count d))
+      all d more = elim (cases_Bool (bytes_eq d dial)) [
+        | inl on ↦ has_right columns (call_columns dial n ∷ []) (call_columns d (with_count dial n count d)) (inl (ap₂ call_columns ((bytes_eq-Decides d dial).0 on) (of_this n d on)))
+        | inr off ↦ has_left columns (call_columns dial n ∷ []) (call_columns d (with_count dial n count d))
+            (subst (λ c. Has columns (call_columns d c)) (of_other 0 d off ∙ sym (of_other n d off)) (was.all d (subst (λ c. 1 ≤ c) (of_other n d off ∙ sym (of_other 0 d off)) more)))
+      ]
+
+-- ---- reading
 
 module _ (dial : List ℕ) where
   abbrev pub params : Row
   params = Text dial ∷ []
 
-  -- how many jobs go with the columns of a hold
-  abbrev count_with : List Job → Row → ℕ
-  count_with jobs columns = length (filter (λ j. are_equal (number j.number) (column columns 1) && (are_equal (Text j.dial) (Text dial) && true)) jobs)
+  is_asked : (project : List _) (r : Row) → passes calls_tree call_tests project params r ≡ (are_equal (column (drop 1 r) 0) (Text dial) && true)
+  is_asked project [] = refl
+  is_asked project (i ∷ r) = refl
 
-  and_true : (b : Bool) → (b && true) ≡ b
-  and_true true = refl
-  and_true false = refl
+  of_number : (project : List _) (r : Row) (d : List ℕ) (n : ℕ) → drop 1 r ≡ call_columns d n → passes calls_tree call_tests project params r ≡ bytes_eq d dial
+  of_number project r d n is = is_asked project r ∙ ap (λ columns. are_equal (column columns 0) (Text dial) && true) is ∙ and_true (are_equal (Text d) (Text dial)) ∙ equal_texts d dial
 
-  count_held : (m : Queue) → IsTable (map row_of m.jobs) → (g : Grant) → count_with m.jobs (hold_columns g) ≡ (if is_of_number dial (job_numbered g.job m) then 1 else 0)
-  count_held m rise g =
-      ap length (filter_same (λ j. are_equal (number j.number) (number g.job) && (are_equal (Text j.dial) (Text dial) && true)) (is_it dial g.job) m.jobs
-      (all_of (λ j. (are_equal (number j.number) (number g.job) && (are_equal (Text j.dial) (Text dial) && true)) ≡ is_it dial g.job j)
-      (λ j. ap₂ ◌&&◌ (is_number j.number g.job) (and_true (are_equal (Text j.dial) (Text dial)) ∙ equal_texts j.dial dial)) m.jobs))
-      ∙ count_of dial g.job m.jobs rise
+  shown_as : (r : Row) (d : List ℕ) (n : ℕ) → drop 1 r ≡ call_columns d n → show calls_tree call_tests call_project params r ≡ number n ∷ []
+  shown_as [] d n is = absurd cc
+  shown_as (i ∷ r) d n is = ap (λ rest. show calls_tree call_tests call_project params (i ∷ rest)) is
 
-  module _ (old new : State) (m : Queue) (k : List Entry) (means : TablesMean old.now m k) where
-    abbrev with_jobs : Row → List Env
-    with_jobs r = flat_map (λ s. cond (list_all (holds (params ∷ r ∷ s ∷ [])) call_tests) ((params ∷ r ∷ s ∷ []) ∷ []) []) (old.now.trees jobs_tree)
+  abbrev pass : Row → Bool
+  pass = passes calls_tree call_tests call_project params
 
-    by_columns : (r : Row) → length (with_jobs r) ≡ count_with m.jobs (drop 1 r)
-    by_columns r =
-        let pair = λ (s : Row). list_all (holds (params ∷ r ∷ s ∷ [])) call_tests in
-        ap length (each_passing pair (λ s. params ∷ r ∷ s ∷ []) (old.now.trees jobs_tree)) ∙ length_map (λ s. params ∷ r ∷ s ∷ []) (filter pair (old.now.trees jobs_tree))
-        ∙ ap (λ rows. length (filter pair rows)) means.jobs ∙ ap length (filter-map pair row_of m.jobs) ∙ length_map row_of (filter (λ j. pair (row_of j)) m.jobs) ∙ columns_of r
-      where
-        columns_of : (r : Row) → length (filter (λ j. list_all (holds (params ∷ r ∷ row_of j ∷ [])) call_tests) m.jobs) ≡ count_with m.jobs (drop 1 r)
-        columns_of [] = refl
-        columns_of (v ∷ r) = refl
+  abbrev shows : Row → Row
+  shows = show calls_tree call_tests call_project params
 
-    shown_count : (rows : List Row) → Reads (Select (record { lets = []; body = calls_query }) (codes "id" ∷ [])) old.now params rows → length rows ≡ length (flat_map with_jobs (old.now.trees holds_tree))
-    shown_count rows h =
-        let a : IsAnswer calls_query (overlay old.now.trees []) params rows = h.answer Null in
-        ap length a.shown ∙ length_map (λ (o : Output). o.1) a.ordered ∙ length_permutation a.kept a.ordered a.same ∙ ap length a.distinct ∙ length_map (output calls_query) a.staged ∙ ap length a.grouped
+  -- what is found is the count, or nothing where that is 0
+  pub calls_found : (old new : State) (count : List ℕ → ℕ) → old.now.schema ≡ seven_tables → AreCounted count (map (drop 1) (old.now.trees calls_tree)) → (found : Option Row) → FindsRow SELECT_OPEN.now params old new found
+      → MatchOption found (count dial ≡ 0) (λ row. row ≡ number (count dial) ∷ [])
+  calls_found old new count has counted found h = tells found h.2
+    where
+      shown : IsPermutation (map shows (filter pass (old.now.trees calls_tree))) h.0
+      shown = answers calls_tree call_tests call_project params old.now (old.now.trees calls_tree) refl [] h.0 (reads_as SELECT_OPEN.now params old new seven_tables has _ select_open.command select_open.plain select_open.unlisted h.0 h.1)
 
-    pub calls_found : (rows : List Row) → Shown SELECT_CALLS.now params old new rows → length rows ≡ calls_to dial m
-    calls_found rows h =
-        let read = reads_as SELECT_CALLS.now params old new six_tables means.schema _ select_calls.command select_calls.plain select_calls.unlisted rows h in
-        let count = count_with m.jobs in
-        let held = open_grants m in
-        shown_count rows read ∙ total with_jobs (old.now.trees holds_tree) ∙ sum_same (λ r. length (with_jobs r)) (λ r. count (drop 1 r)) (old.now.trees holds_tree) by_columns
-        ∙ sym (sum_mapped count (drop 1) (old.now.trees holds_tree)) ∙ sum_by-IsPermutation count (map hold_columns held) (map (drop 1) (old.now.trees holds_tree)) means.holds ∙ sum_mapped count hold_columns held
-        ∙ sum_same (λ g. count (hold_columns g)) (λ g. if is_of_number dial (job_numbered g.job m) then 1 else 0) held (count_held m (subst IsTable means.jobs means.ordered.jobs.rise))
-        ∙ counted (λ g. is_of_number dial (job_numbered g.job m)) held
+      tells : (found : Option Row) → MatchOption found (h.0 ≡ []) (Has h.0) → MatchOption found (count dial ≡ 0) (λ row. row ≡ number (count dial) ∷ [])
+      tells None empty = none (count dial) refl
+        where
+          none : (n : ℕ) → count dial ≡ n → count dial ≡ 0
+          none zero e = e
+          none (suc n) e =
+              let there = has_mapped (drop 1) (old.now.trees calls_tree) (call_columns dial (count dial)) (counted.all dial (omega (arith, e))) in
+              absurd (let off = sym (of_number call_project there.0 dial (count dial) (sym there.2)) ∙ none_shown pass shows (old.now.trees calls_tree) h.0 shown empty there.0 there.1 in
+              let on = (bytes_eq-Decides dial dial).1 refl in cc)
+      tells (Some row) there =
+          let one = shown_one pass shows (old.now.trees calls_tree) h.0 shown row there in
+          let it = counted.each (drop 1 one.0) (mapped_has (drop 1) (old.now.trees calls_tree) one.0 one.1) in
+          let same : it.0 ≡ dial = (bytes_eq-Decides it.0 dial).0 (sym (of_number call_project one.0 it.0 (count it.0) it.1) ∙ one.2) in
+          one.3 ∙ shown_as one.0 it.0 (count it.0) it.1 ∙ ap (λ d. number (count d) ∷ []) same
+
+-- ---- writing
+
+-- the six tables beside it keep their rows
+kept_six : (old new : State) → KeepsOthers seven_tables calls_tree old new → KeepsRows six_tables.tables old.now.trees new.now.trees
+kept_six old new keeps = let o = keeps.others in
+    (o.0 (λ e. absurd (omega arith)), (o.1.0 (λ e. absurd (omega arith)), (o.1.1.0 (λ e. absurd (omega arith)), (o.1.1.1.0 (λ e. absurd (omega arith)), (o.1.1.1.1.0 (λ e. absurd (omega arith)), (o.1.1.1.1.1.0 (λ e. absurd (omega arith)), tt))))))
+
+as_set : (old new : State) (count : List ℕ → ℕ) → IsTrue old.in_transaction → KeepsOthers seven_tables calls_tree old new → AreCalls count (new.now.trees calls_tree) → SetsCalls old new count
+as_set old new count inside keeps now = record { goes_on = inside_shown old new _ inside keeps.shown; schema_is = keeps.schema_is; sound = keeps.sound; rows = kept_six old new keeps; calls = now }
+
+-- no call is counted yet
+pub no_calls : (s : State) → HasNone s → HasCalls s (λ _. 0)
+no_calls s has = record {
+  is_open = has.is_open;
+  inside = has.inside;
+  tables = has.schema_is;
+  sound = has.sound;
+  calls = record {
+    is = record { each = λ row there. absurd (subst (λ rows. Has (map (drop 1) rows) row) has.none there); all = λ dial some. absurd (omega (arith, some)) };
+    ordered = subst IsByRowid (sym has.none) (record { rise = tt; integers = tt });
+  };
+}
+
+pub whole_of : (a b : State) (count : List ℕ → ℕ) → SetsCalls a b count → IsWhole a.now b.now
+whole_of a b count set = record { schema_is = set.schema_is; sound = set.sound; rows = set.rows }
+
+-- none is set yet
+pub set_none : (s : State) (count : List ℕ → ℕ) → HasCalls s count → SetsCalls s s count
+set_none s count has = record {
+  goes_on = record { was_open = has.is_open; is_open = has.is_open; now_is = refl; committed_is = refl; mode = has.inside };
+  schema_is = has.tables;
+  sound = has.sound;
+  rows = (refl, (refl, (refl, (refl, (refl, (refl, tt))))));
+  calls = has.calls;
+}
+
+-- nor by a call that only reads
+pub set_still : (a b : State) (count : List ℕ → ℕ) → HasCalls a count → IsUnchanged a b → SetsCalls a b count
+set_still a b count has same = record {
+  goes_on = record { was_open = has.is_open; is_open = same.0.is_open; now_is = refl; committed_is = same.0.committed_is; mode = same.0.mode ∙ has.inside };
+  schema_is = ap (λ (d : Database). d.schema) same.0.now_is ∙ has.tables;
+  sound = subst IsDatabase (sym same.0.now_is) has.sound;
+  rows = subst (λ (d : Database). KeepsRows six_tables.tables a.now.trees d.trees) (sym same.0.now_is) (refl, (refl, (refl, (refl, (refl, (refl, tt))))));
+  calls = subst (λ (d : Database). AreCalls count (d.trees calls_tree)) (sym same.0.now_is) has.calls;
+}
+
+-- one after the other
+pub set_then : (a b c : State) (count other : List ℕ → ℕ) → SetsCalls a b count → SetsCalls b c other → SetsCalls a c other
+set_then a b c count other first next = record {
+  goes_on = goes_on a b c first.goes_on next.goes_on;
+  schema_is = next.schema_is;
+  sound = next.sound;
+  rows = kept_rows six_tables.tables a.now.trees b.now.trees c.now.trees first.rows next.rows;
+  calls = next.calls;
+}
+
+-- the same counts, number by number
+pub sets_as : (a b : State) (count other : List ℕ → ℕ) → ((dial : List ℕ) → count dial ≡ other dial) → SetsCalls a b count → SetsCalls a b other
+sets_as a b count other same set = record {
+  goes_on = set.goes_on;
+  schema_is = set.schema_is;
+  sound = set.sound;
+  rows = set.rows;
+  calls = record { is = counted_as count other (map (drop 1) (b.now.trees calls_tree)) same set.calls.is; ordered = set.calls.ordered };
+}
+
+pub has_calls : (a b : State) (count : List ℕ → ℕ) → SetsCalls a b count → HasCalls b count
+has_calls a b count set = record { is_open = set.goes_on.is_open; inside = set.goes_on.mode; tables = set.schema_is; sound = set.sound; calls = set.calls }
+
+module _ (dial : List ℕ) (count : List ℕ → ℕ) where
+  pub calls_gone : (old new : State) → HasCalls old count → HasRun DELETE_CALLS.now (params dial) old new → SetsCalls old new (with_count dial 0 count)
+  calls_gone old new was h =
+      let rows = old.now.trees calls_tree in
+      let pass = passes calls_tree call_tests gone_project (params dial) in
+      let ran = runs_as DELETE_CALLS.now (params dial) old new seven_tables was.tables _ delete_calls.is delete_calls.plain h.0 h.1 in
+      let done = deleted schema.calls.name 13 schema.calls.columns schema.calls.key schema.calls.primary schema.calls.uniques schema.calls.orders schema.calls.checks 6 refl old new was.tables refl was.calls.ordered
+      call_tests gone_project (params dial) (λ r. refl) _ h.0 ran in
+      let left : map (drop 1) (filter (λ r. not (pass r)) rows) ≡ filter (others dial count) (map (drop 1) rows) =
+      ap (map (drop 1)) (filter_same (λ r. not (pass r)) (λ r. others dial count (drop 1 r)) rows (all_of (λ r. not (pass r) ≡ others dial count (drop 1 r)) (λ r. ap not (is_asked dial gone_project r)) rows)) ∙ sym (filter-map (others dial count) (drop 1) rows) in
+      as_set old new (with_count dial 0 count) was.inside done.0 (record { is = subst (AreCounted (with_count dial 0 count)) (sym (ap (map (drop 1)) done.1 ∙ left)) (without dial count (map (drop 1) rows) was.calls.is); ordered = done.2 })
+
+  pub calls_put : (n : ℕ) (old new : State) → 1 ≤ n → HasCalls old (with_count dial 0 count) → HasRun INSERT_CALLS.now (Text dial ∷ number n ∷ []) old new → SetsCalls old new (with_count dial n count)
+  calls_put n old new some was h =
+      let rows = old.now.trees calls_tree in
+      let row = Int (next_rowid rows) ∷ call_columns dial n in
+      let stored : cast_row schema.calls (Null ∷ call_columns dial n) ≡ Null ∷ call_columns dial n = same_row cast_null (same_row refl (same_row (cast_int (pos n)) refl)) in
+      let ran = runs_as INSERT_CALLS.now (Text dial ∷ number n ∷ []) old new seven_tables was.tables _ insert_calls.is insert_calls.plain h.0 h.1 in
+      let done = inserts seven_tables unreferred schema.calls.name 13 schema.calls.columns schema.calls.key schema.calls.primary schema.calls.uniques schema.calls.orders schema.calls.checks 6 refl old new was.tables (Text dial ∷ number n ∷ []) _ h.0
+      call_terms 3 (Null ∷ call_columns dial n) row refl (ap (with_rowid Chosen rows) stored) ran in
+      let by = was.calls.ordered in
+      as_set old new (with_count dial n count) was.inside done.keeps (record {
+        is = subst (AreCounted (with_count dial n count)) (sym (ap (map (drop 1)) done.rows ∙ appended rows (call_columns dial n) by.integers by.rise)) (beside dial count n (map (drop 1) rows) some was.calls.is);
+        ordered = subst IsByRowid (sym done.rows) (by_rowid_put row rows refl by);
+      })

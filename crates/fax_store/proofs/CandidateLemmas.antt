@@ -35,7 +35,7 @@ use Rattle.fax_store.specs.Job.{AreWaiting, IsWaiting}
 use Rattle.fax_store.specs.declared.candidates.TheConstants.{SELECT_PAGE}
 use Rattle.fax_tables.specs.Job.{IsLawfulJob, job_shown}
 use Rattle.fax_tables.specs.Row.{number}
-use Rattle.fax_tables.specs.Schema.{six_tables, jobs_tree}
+use Rattle.fax_tables.specs.Schema.{seven_tables, jobs_tree}
 use Rattle.fax_tables.specs.Tables.{TablesMean}
 use Rattle.fax_tables.proofs.ColumnLemmas.{all_kept}
 use Rattle.fax_tables.proofs.IndexLemmas.{length_map}
@@ -88,7 +88,7 @@ few b a (j ∷ js) up low high =
     let more = few b (j.number + 1) js up.1 (all_weaker (Below number_of j) (λ (k : Job). j.number + 1 ≤ k.number) (λ k less. omega (arith, less)) js up.0) high.1 in
     omega (arith, more, low.0, high.0)
 
-within : (j : Job) → IsLawfulJob j → j.number ≤ last_job
+pub within : (j : Job) → IsLawfulJob j → j.number ≤ last_job
 within j lawful = let up = (and_parts (leb 1 j.number) (leb j.number last_job) (within_limits_of (fields_of j) lawful.limits).number).1 in leb-true j.number last_job up
 
 module _ (db : Database) (m : Queue) (k : List Entry) (means : TablesMean db m k) (t : ℕ) where
@@ -134,7 +134,7 @@ module _ (t most skip : ℕ) where
     pub page_found : (rows : List Row) → Shown SELECT_PAGE.now params old new rows
         → (jobs : List Job) × (rows ≡ map (λ j. job_shown (fields_of j)) jobs) × All IsLawfulJob jobs × IsPage t m most skip (map fields_of jobs)
     page_found rows h =
-        let read = reads_as SELECT_PAGE.now params old new six_tables means.schema _ select_page.command select_page.plain select_page.unlisted rows h in
+        let read = reads_as SELECT_PAGE.now params old new seven_tables means.schema _ select_page.command select_page.plain select_page.unlisted rows h in
         let shown = in_page old.now rows read in
         let it = waiting.are_waiting t old.now m k means shown.0 shown.1 shown.3 in (
           take most (drop skip it.0),

@@ -29,7 +29,7 @@ use Rattle.fax_tables.specs.Job.{IsText, IsLawfulJob}
 use Rattle.fax_store.specs.Job.{IsSameOrder, IsChange, expired_in, with_expired, with_expired_in}
 use Rattle.fax_tables.specs.Row.{number, job_row, phase_number}
 use Rattle.fax_tables.specs.Schema as schema
-use Rattle.fax_tables.specs.Schema.{six_tables, jobs_tree}
+use Rattle.fax_tables.specs.Schema.{seven_tables, jobs_tree}
 use Rattle.fax_store.specs.Store.{HasRun}
 use Rattle.fax_tables.specs.Tables.{TablesMean}
 use Rattle.fax_tables.proofs.CompareLemmas.{at_most, at_least, is_number}
@@ -38,7 +38,8 @@ use Rattle.fax_tables.proofs.KeyLemmas.{only_numbered, asked_is, not_asked}
 use Rattle.fax_tables.proofs.RowLemmas.{change_params}
 use Rattle.fax_tables.proofs.SelectLemmas.{passes, show}
 use Rattle.fax_store.proofs.StatementTexts.{job_tests, change_project, update_job, expired_tests, expired_project, expire_jobs}
-use Rattle.fax_tables.proofs.TablesLemmas.{AreRecords, row_of, parts_of, means_of, jobs_changed}
+use Rattle.fax_tables.proofs.TablesLemmas.{AreRecords, row_of, parts_of, means_of, calls_as, calls_of, jobs_changed}
+use Rattle.fax_store.proofs.CountLemmas.{calls_mapped, jobs_mapped}
 use Rattle.fax_tables.proofs.UpdateLemmas.{updated}
 use Rattle.fax_tables.proofs.WriteLemmas.{KeepsOthers}
 
@@ -81,6 +82,18 @@ module _ (f : JobFields) where
     | inr off ↦ ap (λ b. rowid (row_of (if b then job_of f else x))) off
   ]
 
+  same_number : (x : Job) → (put x).number ≡ x.number
+  same_number x = elim (cases_Bool (x.number == f.job)) [
+    | inl same ↦ ap (λ b. (if b then job_of f else x).number) same ∙ sym (eqb-true x.number f.job same)
+    | inr off ↦ ap (λ b. (if b then job_of f else x).number) off
+  ]
+
+  same_dial : (x : Job) → (x.number ≡ f.job → IsSameOrder x (job_of f)) → (put x).dial ≡ x.dial
+  same_dial x same = elim (cases_Bool (x.number == f.job)) [
+    | inl here ↦ ap (λ b. (if b then job_of f else x).dial) here ∙ sym (same (eqb-true x.number f.job here)).dial
+    | inr off ↦ ap (λ b. (if b then job_of f else x).dial) off
+  ]
+
   change_lawful : IsFormedChange f → (x : Job) → IsSameOrder x (job_of f) → IsLawfulJob x → IsLawfulJob (job_of f)
   change_lawful lawful x same was = lawful_of_fields f lawful.limits (record {
     dial = subst (IsText IsCanonical) same.dial was.formed.dial;
@@ -104,18 +117,23 @@ module _ (f : JobFields) where
     same_order change x has is =
         change x (subst (λ n. find (λ (j : Job). j.number == n) m.jobs ≡ Some x) is (only_numbered row_of (λ (j : Job). j.number) (λ j. refl) m.jobs x (subst IsTable means.jobs means.ordered.jobs.rise) has))
 
-    pub job_changed : IsChange (job_of f) m → IsFormedChange f → HasRun UPDATE_JOB.now (change_params f) old new → TablesMean new.now (with_change (job_of f) m) k × KeepsOthers six_tables jobs_tree old new
+    pub job_changed : IsChange (job_of f) m → IsFormedChange f → HasRun UPDATE_JOB.now (change_params f) old new → TablesMean new.now (with_change (job_of f) m) k × KeepsOthers seven_tables jobs_tree old new
     job_changed change lawful h =
         let is_number = asked_is row_of (λ (j : Job). j.number) (λ j. refl) f.job (passes jobs_tree job_tests change_project (change_params f)) (λ r. refl) in
         let is_other = not_asked row_of (λ (j : Job). j.number) (λ j. refl) f.job (passes jobs_tree job_tests change_project (change_params f)) (λ r. refl) in
-        let ran = runs_as UPDATE_JOB.now (change_params f) old new six_tables means.schema _ update_job.is update_job.plain h.0 h.1 in
+        let ran = runs_as UPDATE_JOB.now (change_params f) old new seven_tables means.schema _ update_job.is update_job.plain h.0 h.1 in
         let done = updated schema.jobs.name 0 schema.jobs.columns schema.jobs.key schema.jobs.primary schema.jobs.uniques schema.jobs.orders schema.jobs.checks 0 refl old new means.schema refl means.ordered.jobs
         job_tests change_project (change_params f) (λ r. refl) _ h.0 row_of put m.jobs means.jobs put_number
         (λ x has on. let is = is_number x on in written x is (same_order change x has is) ∙ sym (put_there x is))
         (λ x has off. sym (ap (λ b. row_of (if b then job_of f else x)) (is_other x off)))
         ran in
         let now : AreRecords row_of IsLawfulJob (new.now.trees jobs_tree) (map put m.jobs) = record { is = done.1; ordered = done.2; lawful = all_mapped IsLawfulJob put m.jobs (λ x has. put_lawful lawful x (same_order change x has)) means.lawful.jobs } in
-        (means_of new.now (with_change (job_of f) m) k (jobs_changed old new m (open_grants m) k (parts_of old.now m k means) done.0 (map put m.jobs) now), done.0)
+        let after = with_change (job_of f) m in
+        let moved = jobs_changed old new m (open_grants m) (calls_of m) k (parts_of old.now m k means) done.0 (map put m.jobs) now in (
+          means_of new.now after k (jobs_mapped put m same_number means.held)
+              (calls_as new.now after (open_grants after) (calls_of m) (calls_of after) k (λ dial. calls_mapped put m same_number dial (λ x has. same_dial x (same_order change x has))) moved),
+          done.0,
+        )
 
 -- ---- all jobs of a phase whose kill time is past
 
@@ -149,6 +167,12 @@ module _ (phase : Phase) (t : ℕ) where
   expired_number : (j : Job) → rowid (row_of (expired_in phase t j)) ≡ rowid (row_of j)
   expired_number j = elim (cases_Bool (expires_here j)) [ inl on ↦ ap (λ i. rowid (row_of i)) (expired_by j true on) | inr off ↦ ap (λ i. rowid (row_of i)) (expired_by j false off) ]
 
+  number_kept : (j : Job) → (expired_in phase t j).number ≡ j.number
+  number_kept j = elim (cases_Bool (expires_here j)) [ inl on ↦ ap (λ (i : Job). i.number) (expired_by j true on) | inr off ↦ ap (λ (i : Job). i.number) (expired_by j false off) ]
+
+  dial_kept : (j : Job) → (expired_in phase t j).dial ≡ j.dial
+  dial_kept j = elim (cases_Bool (expires_here j)) [ inl on ↦ ap (λ (i : Job). i.dial) (expired_by j true on) | inr off ↦ ap (λ (i : Job). i.dial) (expired_by j false off) ]
+
   expired_text : IsUtf8 kill_time_expired
   unfolding lib.Utf8.encode
   expired_text = (kill_time_expired, (refl, refl))
@@ -173,16 +197,21 @@ module _ (phase : Phase) (t : ℕ) where
   ]
 
   module _ (old new : State) (m : Queue) (k : List Entry) (means : TablesMean old.now m k) where
-    pub jobs_expired : HasRun EXPIRE_JOBS.now expired_params old new → TablesMean new.now (with_expired_in phase t m) k × KeepsOthers six_tables jobs_tree old new
+    pub jobs_expired : HasRun EXPIRE_JOBS.now expired_params old new → TablesMean new.now (with_expired_in phase t m) k × KeepsOthers seven_tables jobs_tree old new
     jobs_expired h =
-        let ran = runs_as EXPIRE_JOBS.now expired_params old new six_tables means.schema _ expire_jobs.is expire_jobs.plain h.0 h.1 in
+        let ran = runs_as EXPIRE_JOBS.now expired_params old new seven_tables means.schema _ expire_jobs.is expire_jobs.plain h.0 h.1 in
         let done = updated schema.jobs.name 0 schema.jobs.columns schema.jobs.key schema.jobs.primary schema.jobs.uniques schema.jobs.orders schema.jobs.checks 0 refl old new means.schema refl means.ordered.jobs
         expired_tests expired_project expired_params (λ r. refl) _ h.0 row_of (expired_in phase t) m.jobs means.jobs expired_number
         (λ j has on. stored_job (fields_of (expired j)) ∙ sym (ap row_of (expired_by j true (sym (expiring j) ∙ on))))
         (λ j has off. sym (ap row_of (expired_by j false (sym (expiring j) ∙ off))))
         ran in
         let now : AreRecords row_of IsLawfulJob (new.now.trees jobs_tree) (map (expired_in phase t) m.jobs) = record { is = done.1; ordered = done.2; lawful = all_mapped IsLawfulJob (expired_in phase t) m.jobs (λ j has. expired_lawful j) means.lawful.jobs } in
-        (means_of new.now (with_expired_in phase t m) k (jobs_changed old new m (open_grants m) k (parts_of old.now m k means) done.0 (map (expired_in phase t) m.jobs) now), done.0)
+        let after = with_expired_in phase t m in
+        let moved = jobs_changed old new m (open_grants m) (calls_of m) k (parts_of old.now m k means) done.0 (map (expired_in phase t) m.jobs) now in (
+          means_of new.now after k (jobs_mapped (expired_in phase t) m number_kept means.held)
+              (calls_as new.now after (open_grants after) (calls_of m) (calls_of after) k (λ dial. calls_mapped (expired_in phase t) m number_kept dial (λ j has. dial_kept j)) moved),
+          done.0,
+        )
 
 -- ---- the jobs that are held, and then those that wait, are all that expire
 

@@ -1,16 +1,15 @@
 -- What the texts on grants and holds mean.
-use Rattle.std.proofs.Common.{List, [], ◌∷◌, ℕ, pos, negsuc, false, None, codes, refl}
+use Rattle.std.proofs.Common.{List, [], ◌∷◌, ℕ, pos, codes, refl}
 use Rattle.sqlite.specs.Command.TheVariants.{Insert, Update, Delete}
 use Rattle.sqlite.specs.Listing.{understood}
-use Rattle.sqlite.specs.Query.{Query, inner, end}
 use Rattle.sqlite.specs.Source.TheVariants.{Values}
 use Rattle.sqlite.specs.declared.types.Value.TheVariants.{Null, Int}
 use Rattle.sqlite_sql.specs.Term.{Term, lit, col}
 use Rattle.sqlite_tied.specs.Compute.{everything}
-use Rattle.fax_store.specs.declared.grants.TheConstants.{SELECT_GRANT, INSERT_GRANT, UPDATE_REPORT, SHUT_GRANT, SELECT_HOLD, INSERT_HOLD, DELETE_HOLD, SELECT_CALLS}
-use Rattle.fax_tables.proofs.StatementForms.{equals, Selects, SelectsAll, Commands}
+use Rattle.fax_store.specs.declared.grants.TheConstants.{SELECT_GRANT, INSERT_GRANT, UPDATE_REPORT, SHUT_GRANT, SELECT_HOLD, INSERT_HOLD, DELETE_HOLD, SELECT_OPEN, DELETE_CALLS, INSERT_CALLS}
+use Rattle.fax_tables.proofs.StatementForms.{equals, Selects, Commands}
 use Rattle.fax_tables.proofs.UpdateLemmas.{program_of, gone_project}
-use Rattle.fax_tables.specs.Schema.{grants_tree, holds_tree, jobs_tree}
+use Rattle.fax_tables.specs.Schema.{calls_tree, grants_tree, holds_tree}
 
 abbrev pub grant_tests : List Term
 grant_tests = equals (col 1 0) (col 0 0) ∷ []
@@ -71,21 +70,22 @@ unfolding understood everything
 delete_hold = record { is = refl; plain = (refl, refl) }
 
 abbrev pub call_tests : List Term
-call_tests = equals (col 2 0) (col 1 2) ∷ equals (col 2 2) (col 0 0) ∷ []
+call_tests = equals (col 1 1) (col 0 0) ∷ []
 
-abbrev pub calls_query : Query
-calls_query = record {
-  from = inner holds_tree (inner jobs_tree end);
-  filter = call_tests;
-  group = None;
-  project = col 1 3 ∷ [];
-  distinct = false;
-  collations = [];
-  order = [];
-  limit = lit (Int (negsuc 0));
-  offset = lit (Int (pos 0));
-}
+abbrev pub call_project : List Term
+call_project = col 1 2 ∷ []
 
-pub select_calls : SelectsAll SELECT_CALLS.now calls_query (codes "id" ∷ [])
+pub select_open : Selects SELECT_OPEN.now calls_tree call_tests call_project (codes "open" ∷ [])
 unfolding understood everything
-select_calls = record { command = refl; plain = (refl, refl); unlisted = refl }
+select_open = record { command = refl; plain = (refl, refl); unlisted = refl }
+
+pub delete_calls : Commands DELETE_CALLS.now (Delete 6 (program_of calls_tree call_tests gone_project))
+unfolding understood everything
+delete_calls = record { is = refl; plain = (refl, refl) }
+
+abbrev pub call_terms : List Term
+call_terms = lit Null ∷ col 0 0 ∷ col 0 1 ∷ []
+
+pub insert_calls : Commands INSERT_CALLS.now (Insert 6 (Values call_terms 3))
+unfolding understood everything
+insert_calls = record { is = refl; plain = (refl, refl) }

@@ -1,5 +1,5 @@
 -- What the texts on grants and holds write.
-use Rattle.std.proofs.Common.{◌≡◌, ◌≤◌, inl, inr, ℕ, ℤ, pos, List, [], ◌∷◌, ◌++◌, map, filter, drop, Bool, true, false, not, ◌&&◌, Option, Some, None, Err, if◌then◌else◌, IsTrue, refl, sym, ap, ap₂, subst, ◌∙◌}
+use Rattle.std.proofs.Common.{◌≡◌, ◌≤◌, inl, inr, ℕ, ℤ, pos, List, [], ◌∷◌, ◌++◌, map, filter, drop, Bool, true, false, not, ◌&&◌, Option, Some, None, Err, if◌then◌else◌, IsTrue, refl, sym, ap, ap₂, subst, ◌∙◌, ◌+◌, ◌-◌, arith}
 use Rattle.std.specs.Prelude.{find, ◌==◌}
 use Rattle.std.specs.List.Sorted.{IsPermutation}
 use Rattle.std.proofs.lemmas.Bool.{cases_Bool, eqb-true, eq-eqb, false_from_ne_true}
@@ -13,22 +13,26 @@ use Rattle.sqlite.specs.Tree.{rowid, put_row, IsTable}
 use Rattle.sqlite.specs.declared.types.Value.TheVariants.{Null, Int, Text}
 use Rattle.sqlite.proofs.Callers.{runs_as}
 use Rattle.sqlite_rules.specs.Lists.{Has}
-use Rattle.sqlite_rules.proofs.ListLemmas.{has_filtered, has_found}
+use Rattle.sqlite_rules.proofs.ListLemmas.{has_filtered, has_found, has_kept}
 use Rattle.sqlite_trees.proofs.ListLemmas.{IsPermutation-filter, filter_same, all_of}
 use Rattle.fax_core.specs.Machine.{with_grant}
-use Rattle.fax_core.specs.Queue.{Queue, Entry, open_grants, grant_numbered}
+use Rattle.fax_core.specs.Job.{Job}
+use Rattle.fax_core.specs.Queue.{Queue, Entry, open_grants, grant_numbered, job_numbered}
+use Rattle.fax_core.specs.State.{is_of_number}
 use Rattle.fax_core.specs.declared.grants.Grant.{Grant}
 use Rattle.fax_job.specs.Name.{IsName}
 use Rattle.fax_store.specs.declared.grants.TheConstants.{INSERT_GRANT, INSERT_HOLD, UPDATE_REPORT, SHUT_GRANT, DELETE_HOLD}
-use Rattle.fax_store.specs.Grant.{IsNewGrant, IsSameGrant, IsReport, with_placed, with_shut, with_closed}
+use Rattle.fax_store.specs.Grant.{IsNewGrant, IsSameGrant, IsReport, SetsCalls, with_count, with_placed, with_shut, with_closed}
 use Rattle.fax_tables.specs.Place.{placed}
 use Rattle.fax_tables.specs.Row.{number, call_number, grant_row, hold_columns}
 use Rattle.fax_tables.specs.Schema as schema
-use Rattle.fax_tables.specs.Schema.{six_tables, grants_tree, holds_tree}
+use Rattle.fax_tables.specs.Schema.{seven_tables, grants_tree, holds_tree}
 use Rattle.fax_store.specs.Store.{HasRun}
-use Rattle.fax_tables.specs.Tables.{TablesMean, IsLawfulGrant, IsByRowid}
+use Rattle.fax_tables.specs.Tables.{TablesMean, HaveJobs, IsLawfulGrant, IsByRowid}
 use Rattle.fax_tables.proofs.AppendLemmas.{appended}
 use Rattle.fax_store.proofs.ChangeLemmas.{all_mapped}
+use Rattle.fax_store.proofs.CountLemmas.{calls_reported, closed_count, has_placed, jobs_reported, jobs_shut, one, placed_count, turned}
+use Rattle.fax_store.proofs.CountLemmas.{shut as shut_at}
 use Rattle.fax_tables.proofs.ColumnLemmas.{kept_permuted, record_of}
 use Rattle.fax_tables.proofs.CompareLemmas.{are_equal, equal_texts, is_number, same_row, cast_int, cast_null}
 use Rattle.fax_store.proofs.GrantTexts.{grant_tests, grant_terms, report_project, shut_project, held_tests, hold_terms, insert_grant, insert_hold, update_report, shut_grant, delete_hold}
@@ -41,9 +45,10 @@ use Rattle.sqlite.specs.declared.error.Error.{Error}
 use Rattle.sqlite_schema.specs.Rules.{agree}
 use Rattle.sqlite_value.specs.Keys.{first_key, plain}
 use Rattle.std.specs.Str.{bytes_eq}
+use Rattle.std.proofs.lemmas.Slice.Eq.{bytes_eq-Decides}
 use Rattle.fax_tables.proofs.KeyLemmas.{only_numbered, asked_is, not_asked, row_placed, all_placed, placed_permuted, free_of}
 use Rattle.fax_tables.proofs.SelectLemmas.{passes, show}
-use Rattle.fax_tables.proofs.TablesLemmas.{AreRecords, AreHeld, Parts, parts_of, means_of, held_as, grants_changed, holds_changed, by_rowid_put}
+use Rattle.fax_tables.proofs.TablesLemmas.{AreRecords, AreHeld, Parts, parts_of, means_of, calls_as, calls_changed, calls_of, held_as, grants_changed, holds_changed, by_rowid_put}
 use Rattle.fax_tables.proofs.UpdateLemmas.{gone_project, updated, deleted}
 use Rattle.fax_tables.proofs.WriteLemmas.{KeepsOthers, InsertsRow, unreferred, inserts}
 
@@ -78,17 +83,17 @@ module _ (g : Grant) where
   open_row is_open = ap (λ (b : Bool). number g.number ∷ Null ∷ number g.job ∷ Text g.modem ∷ number g.first_page ∷ number g.last_page ∷ number (call_number g.call) ∷ number g.confirmed ∷ number (if b then 0 else 1) ∷ []) is_open
 
   module _ (old mid new : State) (m : Queue) (k : List Entry) (means : TablesMean old.now m k) where
-    hold_inserted : HasRun INSERT_HOLD.now hold_params old mid → InsertsRow six_tables holds_tree old mid (Int (next_rowid (old.now.trees holds_tree)) ∷ hold_columns g)
+    hold_inserted : HasRun INSERT_HOLD.now hold_params old mid → InsertsRow seven_tables holds_tree old mid (Int (next_rowid (old.now.trees holds_tree)) ∷ hold_columns g)
     hold_inserted h =
-        let ran = runs_as INSERT_HOLD.now hold_params old mid six_tables means.schema _ insert_hold.is insert_hold.plain h.0 h.1 in
-        inserts six_tables unreferred schema.holds.name 2 schema.holds.columns schema.holds.key schema.holds.primary schema.holds.uniques schema.holds.orders schema.holds.checks 2 refl old mid means.schema hold_params _ h.0
+        let ran = runs_as INSERT_HOLD.now hold_params old mid seven_tables means.schema _ insert_hold.is insert_hold.plain h.0 h.1 in
+        inserts seven_tables unreferred schema.holds.name 2 schema.holds.columns schema.holds.key schema.holds.primary schema.holds.uniques schema.holds.orders schema.holds.checks 2 refl old mid means.schema hold_params _ h.0
         hold_terms 4 (Null ∷ hold_columns g) (Int (next_rowid (old.now.trees holds_tree)) ∷ hold_columns g) refl (ap (with_rowid Chosen (old.now.trees holds_tree)) stored_hold) ran
 
-    pub hold_keeps : HasRun INSERT_HOLD.now hold_params old mid → KeepsOthers six_tables holds_tree old mid
+    pub hold_keeps : HasRun INSERT_HOLD.now hold_params old mid → KeepsOthers seven_tables holds_tree old mid
     hold_keeps h = (hold_inserted h).keeps
 
     -- its modem and its job hold it, and it is to be put yet
-    held : HasRun INSERT_HOLD.now hold_params old mid → Parts mid.now m (g ∷ open_grants m) k
+    held : HasRun INSERT_HOLD.now hold_params old mid → Parts mid.now m (g ∷ open_grants m) (calls_of m) k
     held h =
         let done = hold_inserted h in
         let by = means.ordered.holds in
@@ -100,14 +105,15 @@ module _ (g : Grant) where
           is = subst (IsPermutation (hold_columns g ∷ map hold_columns (open_grants m))) (sym (ap (map (drop 1)) done.rows ∙ appended (old.now.trees holds_tree) (hold_columns g) by.integers by.rise)) more;
           ordered = subst IsByRowid (sym done.rows) (by_rowid_put (Int (next_rowid (old.now.trees holds_tree)) ∷ hold_columns g) (old.now.trees holds_tree) refl by);
         } in
-        holds_changed old mid m (open_grants m) k (parts_of old.now m k means) done.keeps (g ∷ open_grants m) now
+        holds_changed old mid m (open_grants m) (calls_of m) k (parts_of old.now m k means) done.keeps (g ∷ open_grants m) now
 
-    pub grant_put : IsTrue g.is_open → IsLawfulGrant g → HasRun INSERT_HOLD.now hold_params old mid → HasRun INSERT_GRANT.now grant_params mid new → TablesMean new.now (with_placed g m) k × KeepsOthers six_tables grants_tree mid new
+    -- the grant too, and its call is to be counted yet
+    pub grant_put : IsTrue g.is_open → IsLawfulGrant g → HasRun INSERT_HOLD.now hold_params old mid → HasRun INSERT_GRANT.now grant_params mid new → Parts new.now (with_placed g m) (open_grants (with_placed g m)) (calls_of m) k
     grant_put is_open lawful h more =
         let was = held h in
         let row = open_row is_open in
-        let ran = runs_as INSERT_GRANT.now grant_params mid new six_tables was.schema _ insert_grant.is insert_grant.plain more.0 more.1 in
-        let done = inserts six_tables unreferred schema.grants.name 1 schema.grants.columns schema.grants.key schema.grants.primary schema.grants.uniques schema.grants.orders schema.grants.checks 1 refl mid new was.schema grant_params _ more.0
+        let ran = runs_as INSERT_GRANT.now grant_params mid new seven_tables was.schema _ insert_grant.is insert_grant.plain more.0 more.1 in
+        let done = inserts seven_tables unreferred schema.grants.name 1 schema.grants.columns schema.grants.key schema.grants.primary schema.grants.uniques schema.grants.orders schema.grants.checks 1 refl mid new was.schema grant_params _ more.0
         grant_terms 9 (grant_row g) (grant_row g) (ap (λ r. r ∷ []) (sym row)) (ap (with_rowid Chosen (mid.now.trees grants_tree)) (stored_grant g)) ran in
         let free = subst (λ rows. is_taken rows (grant_row g) ≡ false) was.grants.is (free_of (mid.now.trees grants_tree) (grant_row g) done.fresh) in
         let now : AreRecords grant_row IsLawfulGrant (new.now.trees grants_tree) (placed (λ (x : Grant). x.number) g m.grants) = record {
@@ -115,13 +121,51 @@ module _ (g : Grant) where
           ordered = subst IsByRowid (sym done.rows) (by_rowid_put (grant_row g) (mid.now.trees grants_tree) refl was.grants.ordered);
           lawful = all_placed grant_row (λ (x : Grant). x.number) (λ x. refl) IsLawfulGrant g m.grants lawful was.grants.lawful;
         } in
-        let after = grants_changed mid new m (g ∷ open_grants m) k was done.keeps (placed (λ (x : Grant). x.number) g m.grants) now in
+        let after = grants_changed mid new m (g ∷ open_grants m) (calls_of m) k was done.keeps (placed (λ (x : Grant). x.number) g m.grants) now in
         let holds : AreHeld (new.now.trees holds_tree) (open_grants (with_placed g m)) = record {
           is = IsPermutation-trans (map hold_columns (open_grants (with_placed g m))) (map hold_columns (g ∷ open_grants m)) (map (drop 1) (new.now.trees holds_tree))
               (IsPermutation-map hold_columns (open_grants (with_placed g m)) (g ∷ open_grants m) (IsPermutation-sym (g ∷ open_grants m) (open_grants (with_placed g m)) (open_placed m.grants is_open))) after.holds.is;
           ordered = after.holds.ordered;
         } in
-        (means_of new.now (with_placed g m) k (held_as new.now (with_placed g m) (g ∷ open_grants m) (open_grants (with_placed g m)) k holds after), done.keeps)
+        held_as new.now (with_placed g m) (g ∷ open_grants m) (open_grants (with_placed g m)) (calls_of m) k holds after
+
+    -- the calls to each number with this one
+    counts_placed : (j : Job) → job_numbered g.job m ≡ Some j → IsTrue g.is_open → (dial : List ℕ) → with_count j.dial (calls_of m j.dial + 1) (calls_of m) dial ≡ calls_of (with_placed g m) dial
+    counts_placed j there is_open dial = by (bytes_eq dial j.dial) refl
+      where
+        of : Grant → Bool
+        of x = is_of_number dial (job_numbered x.job m)
+
+        more : calls_of (with_placed g m) dial ≡ one (bytes_eq j.dial dial) + calls_of m dial
+        more = placed_count of g m.grants ∙ ap₂ (λ b o. one (b && is_of_number dial o) + calls_of m dial) is_open there
+
+        by : (b : Bool) → bytes_eq dial j.dial ≡ b → with_count j.dial (calls_of m j.dial + 1) (calls_of m) dial ≡ calls_of (with_placed g m) dial
+        by true on =
+            let same : dial ≡ j.dial = (bytes_eq-Decides dial j.dial).0 on in
+            let back : bytes_eq j.dial dial ≡ true = (bytes_eq-Decides j.dial dial).1 (sym same) in
+            let total : calls_of (with_placed g m) dial ≡ 1 + calls_of m dial = more ∙ ap (λ b. one b + calls_of m dial) back in
+            ap (λ b. if b then calls_of m j.dial + 1 else calls_of m dial) on ∙ ap (λ d. calls_of m d + 1) (sym same) ∙ omega (arith, total)
+        by false off =
+            let back : bytes_eq j.dial dial ≡ false = turned j.dial dial ∙ off in
+            let total : calls_of (with_placed g m) dial ≡ 0 + calls_of m dial = more ∙ ap (λ b. one b + calls_of m dial) back in
+            ap (λ b. if b then calls_of m j.dial + 1 else calls_of m dial) off ∙ omega (arith, total)
+
+    -- once that is counted, the tables mean the queue with the grant
+    pub grant_counted : (j : Job) → job_numbered g.job m ≡ Some j → IsTrue g.is_open → Parts new.now (with_placed g m) (open_grants (with_placed g m)) (calls_of m) k → (last : State) → SetsCalls new last (with_count j.dial (calls_of m j.dial + 1) (calls_of m))
+        → TablesMean last.now (with_placed g m) k
+    grant_counted j there is_open was last set =
+        let after = with_placed g m in
+        means_of last.now after k jobs
+        (calls_as last.now after (open_grants after) (with_count j.dial (calls_of m j.dial + 1) (calls_of m)) (calls_of after) k (counts_placed j there is_open)
+        (calls_changed new last after (open_grants after) (calls_of m) k was set.schema_is set.sound set.rows (with_count j.dial (calls_of m j.dial + 1) (calls_of m)) set.calls))
+      where
+        jobs : HaveJobs (with_placed g m)
+        jobs h has =
+            let kept = has_filtered (λ (x : Grant). x.is_open) (placed (λ (x : Grant). x.number) g m.grants) h has in
+            elim (has_placed g h m.grants kept.0) [
+              | inl is ↦ (j, ap (λ (x : Grant). job_numbered x.job m) is ∙ there)
+              | inr among ↦ means.held h (has_kept (λ (x : Grant). x.is_open) m.grants h among kept.1)
+            ]
 
     -- the row of a hold agrees with the new one where modem, job or grant is the same
     modem_agrees : (r : Row) (h : Grant) (id : ℤ) → drop 1 r ≡ hold_columns h → agree plain (1 ∷ []) r (1 ∷ []) (Int id ∷ hold_columns g) ≡ bytes_eq h.modem g.modem
@@ -230,28 +274,39 @@ module _ (g : Grant) where
     | inr off ↦ (ap (λ (y : Grant). y.is_open) (put_by x false off), ap hold_columns (put_by x false off))
   ]
 
+  same_held : (x : Grant) → (x.number ≡ g.number → IsSameGrant x g) → ((put x).is_open ≡ x.is_open) × ((put x).job ≡ x.job)
+  same_held x same = elim (cases_Bool (x.number == g.number)) [
+    | inl here ↦ (let as_it = same (eqb-true x.number g.number here) in (ap (λ (y : Grant). y.is_open) (put_by x true here) ∙ sym as_it.is_open, ap (λ (y : Grant). y.job) (put_by x true here) ∙ sym as_it.job))
+    | inr off ↦ (ap (λ (y : Grant). y.is_open) (put_by x false off), ap (λ (y : Grant). y.job) (put_by x false off))
+  ]
+
   module _ (old new : State) (m : Queue) (k : List Entry) (means : TablesMean old.now m k) where
     same_grant : IsReport g m → (x : Grant) → Has m.grants x → x.number ≡ g.number → IsSameGrant x g
     same_grant report x has is =
         report x (subst (λ n. find (λ (y : Grant). y.number == n) m.grants ≡ Some x) is (only_numbered grant_row (λ (y : Grant). y.number) (λ y. refl) m.grants x (subst IsTable means.grants means.ordered.grants.rise) has))
 
-    pub grant_reported : IsReport g m → g.confirmed ≤ 9999 → HasRun UPDATE_REPORT.now report_params old new → TablesMean new.now (with_grant g m) k × KeepsOthers six_tables grants_tree old new
+    pub grant_reported : IsReport g m → g.confirmed ≤ 9999 → HasRun UPDATE_REPORT.now report_params old new → TablesMean new.now (with_grant g m) k × KeepsOthers seven_tables grants_tree old new
     grant_reported report few h =
         let is_number = asked_is grant_row (λ (y : Grant). y.number) (λ y. refl) g.number (passes grants_tree grant_tests report_project report_params) (λ r. refl) in
         let is_other = not_asked grant_row (λ (y : Grant). y.number) (λ y. refl) g.number (passes grants_tree grant_tests report_project report_params) (λ r. refl) in
-        let ran = runs_as UPDATE_REPORT.now report_params old new six_tables means.schema _ update_report.is update_report.plain h.0 h.1 in
+        let ran = runs_as UPDATE_REPORT.now report_params old new seven_tables means.schema _ update_report.is update_report.plain h.0 h.1 in
         let done = updated schema.grants.name 1 schema.grants.columns schema.grants.key schema.grants.primary schema.grants.uniques schema.grants.orders schema.grants.checks 1 refl old new means.schema refl means.ordered.grants
         grant_tests report_project report_params (λ r. refl) _ h.0 grant_row put m.grants means.grants put_number
         (λ x has on. let is = is_number x on in reported x is (same_grant report x has is) ∙ sym (ap grant_row (put_by x true (eq-eqb x.number g.number is))))
         (λ x has off. sym (ap grant_row (put_by x false (is_other x off))))
         ran in
         let now : AreRecords grant_row IsLawfulGrant (new.now.trees grants_tree) (map put m.grants) = record { is = done.1; ordered = done.2; lawful = all_mapped IsLawfulGrant put m.grants (λ x has. put_lawful few x (same_grant report x has)) means.lawful.grants } in
-        let after = grants_changed old new m (open_grants m) k (parts_of old.now m k means) done.0 (map put m.grants) now in
+        let after = grants_changed old new m (open_grants m) (calls_of m) k (parts_of old.now m k means) done.0 (map put m.grants) now in
         let holds : AreHeld (new.now.trees holds_tree) (open_grants (with_grant g m)) = record {
           is = subst (λ columns. IsPermutation columns (map (drop 1) (new.now.trees holds_tree))) (sym (held_mapped put m.grants (λ x has. put_held x (same_grant report x has)))) after.holds.is;
           ordered = after.holds.ordered;
         } in
-        (means_of new.now (with_grant g m) k (held_as new.now (with_grant g m) (open_grants m) (open_grants (with_grant g m)) k holds after), done.0)
+        let as_it = λ (x : Grant) (has : Has m.grants x). same_held x (same_grant report x has) in
+        let moved = with_grant g m in (
+          means_of new.now moved k (jobs_reported put m as_it means.held)
+              (calls_as new.now moved (open_grants moved) (calls_of m) (calls_of moved) k (calls_reported put m as_it) (held_as new.now moved (open_grants m) (open_grants moved) (calls_of m) k holds after)),
+          done.0,
+        )
 
 -- ---- a grant that is closed
 
@@ -271,7 +326,7 @@ module _ (n : ℕ) where
   closed x = record x { is_open = false }
 
   abbrev shut : Grant → Grant
-  shut x = if x.number == n then closed x else x
+  shut = shut_at n
 
   shut_by : (x : Grant) (b : Bool) → (x.number == n) ≡ b → shut x ≡ (if b then closed x else x)
   shut_by x b is = ap (λ c. if c then closed x else x) is
@@ -332,18 +387,18 @@ module _ (n : ℕ) where
     as_closed None = refl
     as_closed (Some g) = refl
 
-    closed_is : record m { grants = map shut m.grants } ≡ with_closed n m
+    pub closed_is : record m { grants = map shut m.grants } ≡ with_closed n m
     closed_is = ap (λ gs. record m { grants = gs }) (closed_by (grant_numbered n m) refl) ∙ as_closed (grant_numbered n m)
 
   module _ (old mid new : State) (m : Queue) (k : List Entry) (means : TablesMean old.now m k) where
     abbrev after : Queue
     after = record m { grants = map shut m.grants }
 
-    grants_shut : HasRun SHUT_GRANT.now close_params old mid → KeepsOthers six_tables grants_tree old mid × AreRecords grant_row IsLawfulGrant (mid.now.trees grants_tree) (map shut m.grants)
+    grants_shut : HasRun SHUT_GRANT.now close_params old mid → KeepsOthers seven_tables grants_tree old mid × AreRecords grant_row IsLawfulGrant (mid.now.trees grants_tree) (map shut m.grants)
     grants_shut h =
         let is_one = asked_is grant_row (λ (y : Grant). y.number) (λ y. refl) n (passes grants_tree grant_tests shut_project close_params) (λ r. refl) in
         let is_other = not_asked grant_row (λ (y : Grant). y.number) (λ y. refl) n (passes grants_tree grant_tests shut_project close_params) (λ r. refl) in
-        let ran = runs_as SHUT_GRANT.now close_params old mid six_tables means.schema _ shut_grant.is shut_grant.plain h.0 h.1 in
+        let ran = runs_as SHUT_GRANT.now close_params old mid seven_tables means.schema _ shut_grant.is shut_grant.plain h.0 h.1 in
         let done = updated schema.grants.name 1 schema.grants.columns schema.grants.key schema.grants.primary schema.grants.uniques schema.grants.orders schema.grants.checks 1 refl old mid means.schema refl means.ordered.grants
         grant_tests shut_project close_params (λ r. refl) _ h.0 grant_row shut m.grants means.grants shut_id
         (λ x has on. stored_grant (closed x) ∙ sym (ap grant_row (shut_by x true (eq-eqb x.number n (is_one x on)))))
@@ -351,18 +406,19 @@ module _ (n : ℕ) where
         ran in
         (done.0, record { is = done.1; ordered = done.2; lawful = all_mapped IsLawfulGrant shut m.grants (λ x has. shut_lawful x) means.lawful.grants })
 
-    pub shut_keeps : HasRun SHUT_GRANT.now close_params old mid → KeepsOthers six_tables grants_tree old mid
+    pub shut_keeps : HasRun SHUT_GRANT.now close_params old mid → KeepsOthers seven_tables grants_tree old mid
     shut_keeps h = (grants_shut h).0
 
     is_held : (r : Row) → passes holds_tree held_tests gone_project close_params r ≡ (are_equal (column (drop 1 r) 2) (number n) && true)
     is_held [] = refl
     is_held (v ∷ r) = refl
 
-    pub grant_closed : HasRun SHUT_GRANT.now close_params old mid → HasRun DELETE_HOLD.now close_params mid new → TablesMean new.now (with_closed n m) k × KeepsOthers six_tables holds_tree mid new
+    -- the grant is shut and held no more, and its call is to be taken off yet
+    pub grant_closed : HasRun SHUT_GRANT.now close_params old mid → HasRun DELETE_HOLD.now close_params mid new → Parts new.now after (open_grants after) (calls_of m) k
     grant_closed h more =
         let first = grants_shut h in
-        let was = grants_changed old mid m (open_grants m) k (parts_of old.now m k means) first.0 (map shut m.grants) first.1 in
-        let ran = runs_as DELETE_HOLD.now close_params mid new six_tables was.schema _ delete_hold.is delete_hold.plain more.0 more.1 in
+        let was = grants_changed old mid m (open_grants m) (calls_of m) k (parts_of old.now m k means) first.0 (map shut m.grants) first.1 in
+        let ran = runs_as DELETE_HOLD.now close_params mid new seven_tables was.schema _ delete_hold.is delete_hold.plain more.0 more.1 in
         let done = deleted schema.holds.name 2 schema.holds.columns schema.holds.key schema.holds.primary schema.holds.uniques schema.holds.orders schema.holds.checks 2 refl mid new was.schema refl was.holds.ordered
         held_tests gone_project close_params (λ r. refl) _ more.0 ran in
         let others = λ (columns : Row). not (are_equal (column columns 2) (number n) && true) in
@@ -374,5 +430,46 @@ module _ (n : ℕ) where
           is = subst (λ rows. IsPermutation (map hold_columns (open_grants after)) (map (drop 1) rows)) (sym done.1) (subst (λ gs. IsPermutation (map hold_columns gs) (map (drop 1) (filter (λ r. not (passes holds_tree held_tests gone_project close_params r)) (mid.now.trees holds_tree)))) left kept);
           ordered = done.2;
         } in
-        let both = holds_changed mid new after (open_grants m) k was done.0 (open_grants after) now in
-        (subst (λ it. TablesMean new.now it k) (closed_is m (subst IsTable means.grants means.ordered.grants.rise)) (means_of new.now after k both), done.0)
+        holds_changed mid new after (open_grants m) (calls_of m) k was done.0 (open_grants after) now
+
+    -- the calls to each number without this one
+    counts_closed : (g : Grant) (j : Job) → grant_numbered n m ≡ Some g → g.is_open ≡ true → job_numbered g.job m ≡ Some j → (dial : List ℕ) → with_count j.dial (calls_of m j.dial - 1) (calls_of m) dial ≡ calls_of after dial
+    counts_closed g j found on there dial = by (bytes_eq dial j.dial) refl
+      where
+        of : Grant → Bool
+        of x = is_of_number dial (job_numbered x.job m)
+
+        less : calls_of after dial + one (bytes_eq j.dial dial) ≡ calls_of m dial
+        less = ap (λ o. calls_of after dial + one (is_of_number dial o)) (sym there) ∙ closed_count n of g m.grants (subst IsTable means.grants means.ordered.grants.rise) found on
+
+        by : (b : Bool) → bytes_eq dial j.dial ≡ b → with_count j.dial (calls_of m j.dial - 1) (calls_of m) dial ≡ calls_of after dial
+        by true here =
+            let same : dial ≡ j.dial = (bytes_eq-Decides dial j.dial).0 here in
+            let back : bytes_eq j.dial dial ≡ true = (bytes_eq-Decides j.dial dial).1 (sym same) in
+            let total : calls_of after dial + 1 ≡ calls_of m dial = ap (λ b. calls_of after dial + one b) (sym back) ∙ less in
+            ap (λ b. if b then calls_of m j.dial - 1 else calls_of m dial) here ∙ ap (λ d. calls_of m d - 1) (sym same) ∙ omega (arith, total)
+        by false off =
+            let back : bytes_eq j.dial dial ≡ false = turned j.dial dial ∙ off in
+            let total : calls_of after dial + 0 ≡ calls_of m dial = ap (λ b. calls_of after dial + one b) (sym back) ∙ less in
+            ap (λ b. if b then calls_of m j.dial - 1 else calls_of m dial) off ∙ omega (arith, total)
+
+    -- once it is taken off, the tables mean the queue without the hold
+    pub close_counted : (g : Grant) (j : Job) → grant_numbered n m ≡ Some g → g.is_open ≡ true → job_numbered g.job m ≡ Some j → Parts new.now after (open_grants after) (calls_of m) k → (last : State)
+        → SetsCalls new last (with_count j.dial (calls_of m j.dial - 1) (calls_of m)) → TablesMean last.now (with_closed n m) k
+    close_counted g j found on there was last set =
+        subst (λ it. TablesMean last.now it k) (closed_is m (subst IsTable means.grants means.ordered.grants.rise))
+        (means_of last.now after k (jobs_shut n m means.held)
+        (calls_as last.now after (open_grants after) (with_count j.dial (calls_of m j.dial - 1) (calls_of m)) (calls_of after) k (counts_closed g j found on there)
+        (calls_changed new last after (open_grants after) (calls_of m) k was set.schema_is set.sound set.rows (with_count j.dial (calls_of m j.dial - 1) (calls_of m)) set.calls)))
+
+-- a grant that is open no more changes nothing where it is closed
+pub closed_already : (n : ℕ) (g : Grant) (m : Queue) → IsTable (map grant_row m.grants) → grant_numbered n m ≡ Some g → g.is_open ≡ false → with_closed n m ≡ m
+closed_already n g m rise found off = sym (closed_is n m rise) ∙ ap (λ gs. record m { grants = gs }) (map_same (shut_at n) (λ x. x) m.grants each ∙ map_none m.grants)
+  where
+    each : (x : Grant) → Has m.grants x → shut_at n x ≡ x
+    each x has = elim (cases_Bool (x.number == n)) [
+      | inl here ↦
+          (let it : x ≡ g = same_some n m rise x g (sym (only n m rise x has (eqb-true x.number n here)) ∙ found) in
+          ap (λ b. if b then record x { is_open = false } else x) here ∙ ap (λ b. record x { is_open = b }) (sym (ap (λ (y : Grant). y.is_open) it ∙ off)))
+      | inr other ↦ ap (λ b. if b then record x { is_open = false } else x) other
+    ]

@@ -10,13 +10,14 @@ use Rattle.sqlite.specs.Cast.{cast_row}
 use Rattle.sqlite.specs.Edit.{is_taken, with_rowid}
 use Rattle.sqlite.specs.Rowids.TheVariants.{Chosen}
 use Rattle.sqlite.proofs.Callers.{runs_as, reads_as}
+use Rattle.sqlite_rules.specs.Lists.{Has}
 use Rattle.fax_core.specs.Job.{Job, job_of, fields_of, pages_to, HasPages}
 use Rattle.fax_core.specs.Queue.{Queue, Entry, job_numbered, open_grants}
 use Rattle.fax_job.specs.Job.{IsLawful}
 use Rattle.fax_job.specs.declared.job.JobFields.{JobFields}
 use Rattle.fax_store.specs.declared.jobs.TheConstants.{SELECT_JOB, INSERT_JOB}
 use Rattle.fax_tables.specs.Schema as schema
-use Rattle.fax_tables.specs.Schema.{six_tables, jobs_tree}
+use Rattle.fax_tables.specs.Schema.{seven_tables, jobs_tree}
 use Rattle.fax_tables.specs.Place.{placed}
 use Rattle.fax_tables.specs.Row.{number, job_row}
 use Rattle.fax_tables.specs.Job.{IsFormed, IsLawfulJob, job_shown}
@@ -24,14 +25,15 @@ use Rattle.fax_store.specs.Job.{IsNewJob, with_placed}
 use Rattle.fax_tables.specs.Tables.{TablesMean, IsByRowid}
 use Rattle.fax_store.specs.Store.{FindsRow, HasRun}
 use Rattle.fax_tables.proofs.CompareLemmas.{same_row, cast_int, cast_null}
-use Rattle.fax_tables.proofs.FreeLemmas.{free_row}
+use Rattle.fax_tables.proofs.FreeLemmas.{free_row, untaken}
 use Rattle.fax_tables.proofs.RefusalLemmas.{no_rule_broken}
 use Rattle.fax_tables.proofs.StandLemmas.{job_may}
 use Rattle.fax_tables.specs.Fault.{fault_of}
 use Rattle.fax_tables.specs.declared.fault.StoreFault.TheVariants.{Unavailable}
 use Rattle.sqlite.specs.declared.error.Error.{Error}
 use Rattle.fax_tables.proofs.KeyLemmas.{numbered_found, free_of, row_placed, all_placed}
-use Rattle.fax_tables.proofs.TablesLemmas.{AreRecords, row_of, parts_of, means_of, jobs_changed, by_rowid_put}
+use Rattle.fax_tables.proofs.TablesLemmas.{AreRecords, row_of, parts_of, means_of, calls_as, calls_of, jobs_changed, by_rowid_put}
+use Rattle.fax_store.proofs.CountLemmas.{calls_placed, jobs_placed}
 use Rattle.fax_tables.proofs.RowLemmas.{sent_low}
 use Rattle.fax_tables.proofs.WriteLemmas.{KeepsOthers, InsertsRow, unreferred, inserts}
 use Rattle.fax_tables.proofs.SelectLemmas.{passes, show, answers}
@@ -49,7 +51,7 @@ module _ (n : ℕ) where
     pub job_found : (found : Option Row) → FindsRow SELECT_JOB.now params old new found → found ≡ option_map (λ j. job_shown (fields_of j)) (job_numbered n m)
     job_found found h =
         numbered_found row_of (λ j. j.number) (λ j. refl) n is_asked (λ r. refl) m.jobs (old.now.trees jobs_tree) h.0 means.jobs means.ordered.jobs.rise (show jobs_tree job_tests job_project params)
-        (answers jobs_tree job_tests job_project params old.now (old.now.trees jobs_tree) refl [] h.0 (reads_as SELECT_JOB.now params old new six_tables means.schema _ select_job.command select_job.plain select_job.unlisted h.0 h.1))
+        (answers jobs_tree job_tests job_project params old.now (old.now.trees jobs_tree) refl [] h.0 (reads_as SELECT_JOB.now params old new seven_tables means.schema _ select_job.command select_job.plain select_job.unlisted h.0 h.1))
         found h.2
 
 -- ---- one more row
@@ -81,13 +83,13 @@ stored_job f =
     (same_row (n _) (same_row (n _) (same_row (n _) (same_row (n _) (same_row (n _) (same_row (n _) refl))))))))))))))))))))
 
 module _ (old new : State) (m : Queue) (k : List Entry) (means : TablesMean old.now m k) (f : JobFields) where
-  inserted : HasRun INSERT_JOB.now (job_shown f) old new → InsertsRow six_tables jobs_tree old new (job_row f)
+  inserted : HasRun INSERT_JOB.now (job_shown f) old new → InsertsRow seven_tables jobs_tree old new (job_row f)
   inserted h =
-      let ran = runs_as INSERT_JOB.now (job_shown f) old new six_tables means.schema _ insert_job.is insert_job.plain h.0 h.1 in
-      inserts six_tables unreferred schema.jobs.name 0 schema.jobs.columns schema.jobs.key schema.jobs.primary schema.jobs.uniques schema.jobs.orders schema.jobs.checks 0 refl old new means.schema (job_shown f) _ h.0
+      let ran = runs_as INSERT_JOB.now (job_shown f) old new seven_tables means.schema _ insert_job.is insert_job.plain h.0 h.1 in
+      inserts seven_tables unreferred schema.jobs.name 0 schema.jobs.columns schema.jobs.key schema.jobs.primary schema.jobs.uniques schema.jobs.orders schema.jobs.checks 0 refl old new means.schema (job_shown f) _ h.0
       job_terms 21 (job_row f) (job_row f) refl (ap (with_rowid Chosen (old.now.trees jobs_tree)) (stored_job f)) ran
 
-  pub job_put : IsLawfulJob (job_of f) → HasRun INSERT_JOB.now (job_shown f) old new → TablesMean new.now (with_placed (job_of f) m) k × KeepsOthers six_tables jobs_tree old new
+  pub job_put : IsLawfulJob (job_of f) → HasRun INSERT_JOB.now (job_shown f) old new → TablesMean new.now (with_placed (job_of f) m) k × KeepsOthers seven_tables jobs_tree old new
   job_put lawful h =
       let done = inserted h in
       let order = means.ordered.jobs in
@@ -99,14 +101,20 @@ module _ (old new : State) (m : Queue) (k : List Entry) (means : TablesMean old.
         ordered = subst IsByRowid (sym done.rows) (by_rowid_put (job_row f) (old.now.trees jobs_tree) refl order);
         lawful = all_placed row_of (λ (j : Job). j.number) (λ j. refl) IsLawfulJob (job_of f) m.jobs lawful means.lawful.jobs;
       } in
-      (means_of new.now (with_placed (job_of f) m) k (jobs_changed old new m (open_grants m) k (parts_of old.now m k means) done.keeps (placed (λ (j : Job). j.number) (job_of f) m.jobs) now), done.keeps)
+      let apart = λ (y : Job) (has : Has m.jobs y). untaken row_of (λ (j : Job). j.number) (λ j. refl) (job_of f) m.jobs free y has in
+      let put = jobs_changed old new m (open_grants m) (calls_of m) k (parts_of old.now m k means) done.keeps (placed (λ (j : Job). j.number) (job_of f) m.jobs) now in
+      let after = with_placed (job_of f) m in (
+        means_of new.now after k (jobs_placed (job_of f) m means.held apart)
+            (calls_as new.now after (open_grants after) (calls_of m) (calls_of after) k (λ dial. calls_placed (job_of f) m means.held apart dial) put),
+        done.keeps,
+      )
 
   -- a job of a number that none has breaks no rule
   pub job_goes : IsNewJob (job_of f) m → (e : Error) → Executes INSERT_JOB.now (job_shown f) old new (Err e) → fault_of e ≡ Unavailable
   job_goes free =
       let row : row_of (job_of f) ≡ job_row f = ap job_row (fields_back f) in
-      let untaken : is_taken (map row_of m.jobs) (row_of (job_of f)) ≡ false = free_row row_of (λ (j : Job). j.number) (λ j. refl) (job_of f) m.jobs free in
-      let may = job_may old.now means.schema means.sound f (subst (λ rows. is_taken rows (job_row f) ≡ false) (sym means.jobs) (subst (λ r. is_taken (map row_of m.jobs) r ≡ false) row untaken)) in
+      let unused : is_taken (map row_of m.jobs) (row_of (job_of f)) ≡ false = free_row row_of (λ (j : Job). j.number) (λ j. refl) (job_of f) m.jobs free in
+      let may = job_may old.now means.schema means.sound f (subst (λ rows. is_taken rows (job_row f) ≡ false) (sym means.jobs) (subst (λ r. is_taken (map row_of m.jobs) r ≡ false) row unused)) in
       no_rule_broken schema.jobs.name 0 schema.jobs.columns schema.jobs.key schema.jobs.primary schema.jobs.uniques schema.jobs.orders schema.jobs.checks 0 refl old means.schema (job_shown f) job_terms 21 (job_row f) (job_row f) refl
       (ap (with_rowid Chosen (old.now.trees jobs_tree)) (stored_job f)) may INSERT_JOB.now insert_job new
 

@@ -1,6 +1,7 @@
 pub mod StatementTexts
 pub mod ControlLemmas
 pub mod StoreLemmas
+pub mod CountLemmas
 pub mod StatementLemmas
 pub mod ShownLemmas
 pub mod StopLemmas
@@ -22,4 +23,5 @@ pub mod JobsLemmas
 pub mod CandidateLemmas
 pub mod CallLemmas
 pub mod Rows
+pub mod HeldLemmas
 pub mod AdoptLemmas

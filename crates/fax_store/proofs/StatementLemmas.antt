@@ -15,8 +15,8 @@ use Rattle.sqlite.specs.Command.TheVariants.{Select, Insert, InsertOr, Update, D
 use Rattle.std.proofs.lemmas.Bool.{cases_Bool}
 use Rattle.sqlite.specs.Clock.{timed}
 use Rattle.sqlite.proofs.Callers.{IsPlain, command_of}
-use Rattle.fax_store.specs.Store.{EditsRows, HasTables, IsEdit, IsEditText, IsUpdateOrDelete, LeavesCommit, PutsNone, UpdatesOrDeletes}
-use Rattle.fax_tables.specs.Schema.{six_tables}
+use Rattle.fax_store.specs.Store.{EditsRows, HasTables, IsEdit, IsEditText, LeavesCommit}
+use Rattle.fax_tables.specs.Schema.{seven_tables}
 use Rattle.fax_tables.proofs.StatementForms.{Commands}
 use Rattle.fax_tables.proofs.WriteLemmas.{went}
 use Rattle.sqlite_resolve.specs.declared.error.CompileError.{CompileError}
@@ -136,16 +136,8 @@ module _ (old new : State) (sql : List ℕ) (params : Row) where
 
 -- a text that is known as a command that changes rows
 pub edit_text : (sql : List ℕ) (command : Command) → IsEdit command → Commands sql command → IsEditText sql
-edit_text sql command is text = by (understood six_tables sql) text.is text.plain
+edit_text sql command is text = by (understood seven_tables sql) text.is text.plain
   where
     by : (known : Result Compiled CompileError) → command_of known ≡ command → IsPlain known → EditsRows known
     by (Ok c) e plain = (subst IsEdit (sym e) is, plain.0)
-    by (Err fault) e plain = absurd plain
-
--- and as one that updates or deletes them
-pub change_text : (sql : List ℕ) (command : Command) → PutsNone command → Commands sql command → IsUpdateOrDelete sql
-change_text sql command is text = by (understood six_tables sql) text.is text.plain
-  where
-    by : (known : Result Compiled CompileError) → command_of known ≡ command → IsPlain known → UpdatesOrDeletes known
-    by (Ok c) e plain = subst PutsNone (sym e) is
     by (Err fault) e plain = absurd plain

@@ -3,9 +3,9 @@ use Rattle.std.proofs.Common.{ℕ, pos, List, [], ◌∷◌, codes, refl}
 use Rattle.sqlite.specs.Collation.TheVariants.{Binary}
 use Rattle.sqlite.specs.declared.types.Value.TheVariants.{Null, Int, Text}
 use Rattle.sqlite_sql.specs.Term.{Term, lit, col, op2}
-use Rattle.sqlite_sql.specs.declared.ops.BinaryOp.TheVariants.{Compare, Or}
+use Rattle.sqlite_sql.specs.declared.ops.BinaryOp.TheVariants.{Compare, Is, Or}
 use Rattle.sqlite_sql.specs.declared.ops.CompareOp.TheVariants.{Ne, Le, Ge, Gt}
-use Rattle.sqlite.specs.Query.{Query}
+use Rattle.sqlite.specs.Query.{Query, end, inner, left}
 use Rattle.sqlite.specs.Source.TheVariants.{Values}
 use Rattle.sqlite.specs.Command.TheVariants.{Insert, Update}
 use Rattle.sqlite.specs.Listing.{understood}
@@ -13,7 +13,7 @@ use Rattle.sqlite_tied.specs.Compute.{everything}
 use Rattle.sqlite_value.specs.Keys.{ascending}
 use Rattle.sqlite_value.specs.declared.keys.Key.{Key}
 use Rattle.fax_job.specs.Status.{kill_time_expired}
-use Rattle.fax_store.specs.declared.adopt.TheConstants.{SELECT_VERSION}
+use Rattle.fax_store.specs.declared.adopt.TheConstants.{SELECT_DIAL, SELECT_HELD, SELECT_LOST, SELECT_VERSION}
 use Rattle.fax_store.specs.declared.meta.TheConstants.{SELECT_META, UPDATE_CLOCK, UPDATE_META}
 use Rattle.fax_store.specs.declared.replies.TheConstants.{SELECT_REPLY, INSERT_REPLY}
 use Rattle.fax_store.specs.declared.candidates.TheConstants.{SELECT_PAGE}
@@ -21,7 +21,7 @@ use Rattle.fax_store.specs.declared.jobs.TheConstants.{SELECT_JOB, INSERT_JOB, U
 use Rattle.fax_tables.proofs.SelectLemmas.{rows_by, rows_where}
 use Rattle.fax_tables.proofs.UpdateLemmas.{program_of}
 use Rattle.fax_tables.proofs.StatementForms.{equals, Selects, SelectsAll, SelectsBy, Commands}
-use Rattle.fax_tables.specs.Schema.{jobs_tree, meta_tree, replies_tree}
+use Rattle.fax_tables.specs.Schema.{holds_tree, jobs_tree, meta_tree, replies_tree}
 
 abbrev pub meta_tests : List Term
 meta_tests = equals (col 1 0) (lit (Int (pos 1))) ∷ []
@@ -39,6 +39,36 @@ version_project = col 1 5 ∷ []
 pub select_version : Selects SELECT_VERSION.now meta_tree [] version_project (codes "version" ∷ [])
 unfolding understood everything
 select_version = record { command = refl; plain = (refl, refl); unlisted = refl }
+
+abbrev pub job_tests : List Term
+job_tests = equals (col 1 0) (col 0 0) ∷ []
+
+abbrev pub lost_on : List Term
+lost_on = equals (col 2 0) (col 1 2) ∷ []
+
+abbrev pub lost_tests : List Term
+lost_tests = op2 (Is Binary) (col 2 0) (lit Null) ∷ []
+
+abbrev pub lost_query : Query
+lost_query = record (rows_by holds_tree lost_tests (col 1 3 ∷ []) []) { from = inner holds_tree (left jobs_tree lost_on end) }
+
+pub select_lost : SelectsAll SELECT_LOST.now lost_query (codes "id" ∷ [])
+unfolding understood everything
+select_lost = record { command = refl; plain = (refl, refl); unlisted = refl }
+
+abbrev pub held_project : List Term
+held_project = col 1 2 ∷ []
+
+pub select_held : Selects SELECT_HELD.now holds_tree [] held_project (codes "job" ∷ [])
+unfolding understood everything
+select_held = record { command = refl; plain = (refl, refl); unlisted = refl }
+
+abbrev pub dial_project : List Term
+dial_project = col 1 2 ∷ []
+
+pub select_dial : Selects SELECT_DIAL.now jobs_tree job_tests dial_project (codes "dial" ∷ [])
+unfolding understood everything
+select_dial = record { command = refl; plain = (refl, refl); unlisted = refl }
 
 abbrev pub update_project : List Term
 update_project = col 1 0 ∷ col 1 0 ∷ lit Null ∷ col 0 0 ∷ col 0 1 ∷ col 0 2 ∷ col 1 5 ∷ []
@@ -82,9 +112,6 @@ abbrev pub job_names : List (List ℕ)
 job_names =
     codes "job" ∷ codes "dial" ∷ codes "modem" ∷ codes "jobtag" ∷ codes "status" ∷ codes "extra" ∷ codes "tts" ∷ codes "killtime" ∷ codes "priority" ∷ codes "npages"
     ∷ codes "totpages" ∷ codes "ntries" ∷ codes "tottries" ∷ codes "maxtries" ∷ codes "ndials" ∷ codes "totdials" ∷ codes "maxdials" ∷ codes "phase" ∷ codes "wish" ∷ codes "next" ∷ []
-
-abbrev pub job_tests : List Term
-job_tests = equals (col 1 0) (col 0 0) ∷ []
 
 pub select_job : Selects SELECT_JOB.now jobs_tree job_tests job_project job_names
 unfolding understood everything

@@ -23,7 +23,7 @@ use Rattle.fax_store.specs.declared.jobs.TheConstants.{SELECT_WAITING}
 use Rattle.fax_tables.specs.Job.{IsLawfulJob, job_shown}
 use Rattle.fax_store.specs.Job.{AreWaiting}
 use Rattle.fax_tables.specs.Row.{number, phase_number}
-use Rattle.fax_tables.specs.Schema.{six_tables, jobs_tree}
+use Rattle.fax_tables.specs.Schema.{seven_tables, jobs_tree}
 use Rattle.fax_tables.specs.Tables.{TablesMean}
 use Rattle.std.proofs.lemmas.List.Sorted.{All-permutation}
 use Rattle.fax_tables.proofs.ColumnLemmas.{all_kept}
@@ -121,7 +121,7 @@ module _ (t : ℕ) where
   module _ (old new : State) (m : Queue) (k : List Entry) (means : TablesMean old.now m k) where
     pub waiting_found : (rows : List Row) → Shown SELECT_WAITING.now params old new rows → (jobs : List Job) × (rows ≡ map (λ j. job_shown (fields_of j)) jobs) × AreWaiting t m jobs
     waiting_found rows h =
-        let read = reads_as SELECT_WAITING.now params old new six_tables means.schema _ select_waiting.command select_waiting.plain select_waiting.unlisted rows h in
+        let read = reads_as SELECT_WAITING.now params old new seven_tables means.schema _ select_waiting.command select_waiting.plain select_waiting.unlisted rows h in
         let shown = in_order jobs_tree waiting_tests job_project params old.now (old.now.trees jobs_tree) refl waiting_order job_names rows read in
         let it = are_waiting old.now m k means shown.0 shown.1 shown.3 in
         (it.0, shown.2 ∙ it.1, it.2)

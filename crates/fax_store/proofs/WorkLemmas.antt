@@ -1,20 +1,81 @@
 -- What a work means across its calls.
-use Rattle.std.proofs.Common.{◌≡◌, inl, inr, ℕ, List, true, false, Ok, Err, Result, MatchResult, OnOk, OnErr, IfErr, IsErrAnd, is_err, if◌then◌else◌, ap, refl, ◌∙◌, Bool}
+use Rattle.std.proofs.Common.{◌≡◌, inl, inr, ℕ, List, true, false, Ok, Err, Result, MatchResult, OnOk, OnErr, IfErr, IsErrAnd, is_err, if◌then◌else◌, ap, refl, sym, ◌∙◌, Bool, IsTrue, Option, Some, None}
+use Rattle.std.specs.Option.{option_map}
 use Rattle.sqlite.specs.Effect.{Database}
 use Rattle.sqlite.specs.Order.{Row}
 use Rattle.sqlite.specs.State.{State, HasCleanDisk, IsUnchanged, Executes}
 use Rattle.fax_tables.specs.declared.fault.StoreFault.{StoreFault}
-use Rattle.fax_tables.specs.declared.fault.StoreFault.TheVariants.{Unavailable}
+use Rattle.fax_tables.specs.declared.fault.StoreFault.TheVariants.{Strange, Unavailable}
 use Rattle.sqlite.specs.declared.error.Error.{Error}
 use Rattle.fax_tables.specs.Fault.{OrUnavailable, fault_of}
 use Rattle.fax_core.specs.Queue.{Queue, Entry}
 use Rattle.fax_tables.specs.Tables.{TablesMean}
 use Rattle.fax_store.specs.Store.{Serves, Means, MeansNow, HasRows, HasTables, IsEditText, Stays, IsRefusedFor, LeavesCommit, Reads, HasRun}
 use Rattle.fax_store.specs.Work.{IsOver, Holds, IsUnderWay, Works, Changes, ChangesWhere, Keeps, AnswersIn, IsOnlyUnavailable, Steps, Moves}
-use Rattle.fax_tables.specs.Schema.{six_tables}
+use Rattle.fax_tables.specs.Schema.{seven_tables}
 use Rattle.fax_store.proofs.StatementLemmas.{edit_shows}
 use Rattle.fax_store.proofs.StoreLemmas.{same_tables}
 use Rattle.fax_tables.proofs.WriteLemmas.{KeepsOthers}
+
+-- what is found is made of what is there
+pub there_as : {X Y : Type 0} (f : X → Y) (o : Option X) (y : Y) → Some y ≡ option_map f o → (x : X) × (o ≡ Some x) × (y ≡ f x)
+there_as f None y e = absurd cc
+there_as f (Some x) y e = (x, refl, same e)
+  where
+    same : {A : Type 0} {a b : A} → ◌≡◌ {A = Option A} (Some a) (Some b) → a ≡ b
+    same e = cc
+
+-- what holds where a call is done, or where it is refused, says more
+pub ok_as : {A : Type 0} {P Q : Type 0} (result : Result A StoreFault) → (P → Q) → OnOk result P → OnOk result Q
+ok_as (Ok a) more h = more h
+ok_as (Err e) more h = tt
+
+pub err_as : {A : Type 0} {P Q : Type 0} (result : Result A StoreFault) → (P → Q) → OnErr result P → OnErr result Q
+err_as (Ok a) more h = tt
+err_as (Err e) more h = more h
+
+-- A call of a work that holds moves it on, where what its tables mean then is known.
+pub moves_by : {A : Type 0} (old new : State) (result : Result A StoreFault) (m₀ m after : Queue) (k₀ k kept : List Entry) → (Serves new → Serves old) → Holds old false new (is_err result) → Works old false m₀ k₀ m k → Serves new
+    → (TablesMean old.now m k → IsTrue old.in_transaction → OnOk result (TablesMean new.now after kept)) → Moves new result m₀ k₀ after kept
+moves_by old new (Ok a) m₀ m after k₀ k kept served holds works s means =
+    let was = works (served s) in
+    let inside = was.goes_on refl in
+    let over : IsOver old false old.committed = record { began = refl; goes_on = λ _. (inside.inside, inside.means.schema) } in
+    let now = holds old.committed (λ _. over) s in
+    record { began = same_tables m₀ k₀ now.began was.began; goes_on = λ _. record { inside = (now.goes_on refl).0; means = means inside.means inside.inside } }
+moves_by old new (Err e) m₀ m after k₀ k kept served holds works s means =
+    let was = works (served s) in
+    let inside = was.goes_on refl in
+    let over : IsOver old false old.committed = record { began = refl; goes_on = λ _. (inside.inside, inside.means.schema) } in
+    same_tables m₀ k₀ (holds old.committed (λ _. over) s).began was.began
+
+pub both_as : {A : Type 0} {P Q R S : Type 0} (result : Result A StoreFault) → (P → R) → (Q → S) → MatchResult result (λ _. P) (λ _. Q) → MatchResult result (λ _. R) (λ _. S)
+both_as (Ok a) done refused h = done h
+both_as (Err e) done refused h = refused h
+
+-- what a call tells where X holds
+pub given_ok : {A : Type 0} (X Y : Type 0) (result : Result A StoreFault) → (X → OrUnavailable result (λ _. Y)) → OnOk result (X → Y)
+given_ok X Y (Ok a) told = told
+given_ok X Y (Err e) told = tt
+
+-- what is only unavailable isn't strange
+pub not_strange : {A : Type 0} (P : A → Type 0) (result : Result A StoreFault) → OrUnavailable result P → result ≡ Err Strange → ⊥
+not_strange P (Ok a) told is = absurd cc
+not_strange P (Err e) told is = let same : e ≡ Strange = cc in let no = sym told ∙ same in absurd cc
+
+-- what is refused isn't done
+pub never_ok : {A : Type 0} (X : Type 0) (result : Result A StoreFault) (P : StoreFault → Type 0) → IsErrAnd result P → OnOk result X
+never_ok X (Ok a) P is = absurd is
+never_ok X (Err e) P is = tt
+
+-- where it was refused, the last commit stands
+pub refused_by : {A : Type 0} (old new : State) (result : Result A StoreFault) (P : StoreFault → Type 0) (m₀ m after : Queue) (k₀ k kept : List Entry) → IsErrAnd result P → (Serves new → Serves old) → Holds old false new (is_err result) → Works old false m₀ k₀ m k → Serves new
+    → Moves new result m₀ k₀ after kept
+refused_by old new result P m₀ m after k₀ k kept is served holds works s = moves_by old new result m₀ m after k₀ k kept served holds works s (λ means inside. never_ok _ result P is)
+
+-- a transaction that a call leaves goes on over the tables
+pub inside_by : (old new : State) → Holds old false new false → Serves new → IsTrue old.in_transaction → HasTables old → IsTrue new.in_transaction × HasTables new
+inside_by old new holds s inside tables = (holds old.committed (λ _. record { began = refl; goes_on = λ _. (inside, tables) }) s).goes_on refl
 
 -- an answer after which all is as it was, whatever it is
 pub reads_same : {A : Type 0} (old new : State) (result : Result A StoreFault) → IsUnchanged old new → Reads old new result
@@ -135,7 +196,7 @@ holds_err a b (Err e) P is h = h
 
 -- A statement that writes rows of one table moves a work on. Where it was refused, the last commit stands.
 pub move_by : (old new : State) (sql : List ℕ) (params : Row) (tree : ℕ) (result : Result (Unit {0}) StoreFault) (m₀ m after : Queue) (k₀ k kept : List Entry) → (Serves new → Serves old) → Works old false m₀ k₀ m k → Serves new
-    → OnOk result (HasRun sql params old new) → OnErr result (LeavesCommit old new) → (TablesMean old.now m k → HasRun sql params old new → TablesMean new.now after kept × KeepsOthers six_tables tree old new) → Moves new result m₀ k₀ after kept
+    → OnOk result (HasRun sql params old new) → OnErr result (LeavesCommit old new) → (TablesMean old.now m k → HasRun sql params old new → TablesMean new.now after kept × KeepsOthers seven_tables tree old new) → Moves new result m₀ k₀ after kept
 move_by old new sql params tree (Ok done) m₀ m after k₀ k kept served works s ran left does =
     let was = works (served s) in
     let inside = was.goes_on refl in
@@ -158,7 +219,7 @@ step_of new (Err e) m₀ m k₀ k cause h = (cause, h)
 -- A statement that writes rows of one table is a step of a work.
 pub step_by : (old new : State) (sql : List ℕ) (params : Row) (tree : ℕ) (result : Result (Unit {0}) StoreFault) (m₀ m after : Queue) (k₀ k kept : List Entry) → (Serves new → Serves old) → Works old false m₀ k₀ m k → Serves new
     → OnOk result (HasRun sql params old new) → OnErr result (LeavesCommit old new) → IfErr result (λ fault. fault ≡ Unavailable)
-    → (TablesMean old.now m k → HasRun sql params old new → TablesMean new.now after kept × KeepsOthers six_tables tree old new) → Steps new result m₀ k₀ after kept
+    → (TablesMean old.now m k → HasRun sql params old new → TablesMean new.now after kept × KeepsOthers seven_tables tree old new) → Steps new result m₀ k₀ after kept
 step_by old new sql params tree result m₀ m after k₀ k kept served works s ran left cause does =
     step_of new result m₀ after k₀ kept cause (move_by old new sql params tree result m₀ m after k₀ k kept served works s ran left does)
 
@@ -226,7 +287,7 @@ refused_move old new (Err e) fault m₀ m after k₀ k kept served works s left 
 -- Two statements that write rows of one table each move a work on.
 pub two_moves : (old mid new : State) (first second : List ℕ) (params others : Row) (tree other : ℕ) (result : Result (Unit {0}) StoreFault) (m₀ m after : Queue) (k₀ k kept : List Entry) → (Serves mid → Serves old) → (Serves new → Serves mid)
     → Works old false m₀ k₀ m k → Serves new → HasRun first params old mid → OnOk result (HasRun second others mid new) → OnErr result (LeavesCommit mid new)
-    → (TablesMean old.now m k → KeepsOthers six_tables tree old mid) → (TablesMean old.now m k → HasRun second others mid new → TablesMean new.now after kept × KeepsOthers six_tables other mid new) → Moves new result m₀ k₀ after kept
+    → (TablesMean old.now m k → KeepsOthers seven_tables tree old mid) → (TablesMean old.now m k → HasRun second others mid new → TablesMean new.now after kept × KeepsOthers seven_tables other mid new) → Moves new result m₀ k₀ after kept
 two_moves old mid new first second params others tree other (Ok done) m₀ m after k₀ k kept was_mid was_new works s has ran left keeps does =
     let was = works (was_mid (was_new s)) in
     let inside = was.goes_on refl in
@@ -252,6 +313,6 @@ two_moves old mid new first second params others tree other (Err e) m₀ m after
 -- Two statements that write rows of one table each are a step of a work.
 pub two_steps : (old mid new : State) (first second : List ℕ) (params others : Row) (tree other : ℕ) (result : Result (Unit {0}) StoreFault) (m₀ m after : Queue) (k₀ k kept : List Entry) → (Serves mid → Serves old) → (Serves new → Serves mid)
     → Works old false m₀ k₀ m k → Serves new → HasRun first params old mid → OnOk result (HasRun second others mid new) → OnErr result (LeavesCommit mid new) → IfErr result (λ fault. fault ≡ Unavailable)
-    → (TablesMean old.now m k → KeepsOthers six_tables tree old mid) → (TablesMean old.now m k → HasRun second others mid new → TablesMean new.now after kept × KeepsOthers six_tables other mid new) → Steps new result m₀ k₀ after kept
+    → (TablesMean old.now m k → KeepsOthers seven_tables tree old mid) → (TablesMean old.now m k → HasRun second others mid new → TablesMean new.now after kept × KeepsOthers seven_tables other mid new) → Steps new result m₀ k₀ after kept
 two_steps old mid new first second params others tree other result m₀ m after k₀ k kept was_mid was_new works s has ran left cause keeps does =
     step_of new result m₀ after k₀ kept cause (two_moves old mid new first second params others tree other result m₀ m after k₀ k kept was_mid was_new works s has ran left keeps does)

@@ -1,65 +1,137 @@
 -- What becomes of a database that a store adopts.
-use Rattle.std.specs.Prelude.{◌≡◌, ◌⊎◌, false, List, [], ◌∷◌, map}
-use Rattle.sqlite.specs.Effect.{Database}
-use Rattle.sqlite.specs.Order.{column}
-use Rattle.sqlite.specs.State.{State, IsUnchanged}
+use Rattle.std.specs.Prelude.{◌≡◌, ◌⊎◌, ℕ, pos, Bool, true, false, List, [], ◌∷◌, map, filter, length, Some, Result, MatchResult, IsTrue}
+use Rattle.sqlite.specs.Collation.TheVariants.{Binary}
+use Rattle.sqlite.specs.Effect.{Database, IsDatabase}
+use Rattle.sqlite.specs.Order.{Row, column}
+use Rattle.sqlite.specs.State.{State, HasCleanDisk, KeepsCommit}
+use Rattle.sqlite.specs.Tree.{rowid}
 use Rattle.sqlite.specs.declared.types.Value.{Value}
+use Rattle.sqlite.specs.declared.types.Value.TheVariants.{Int}
+use Rattle.sqlite_catalog.specs.Change.{KeepsRows}
+use Rattle.sqlite_rules.specs.Lists.{Has}
 use Rattle.sqlite_schema.specs.declared.schema.Schema.{Schema}
-use Rattle.fax_core.specs.Queue.{empty_queue}
+use Rattle.sqlite_sql.specs.Ops.{binary, is_true}
+use Rattle.sqlite_sql.specs.declared.ops.BinaryOp.TheVariants.{Compare}
+use Rattle.sqlite_sql.specs.declared.ops.CompareOp.TheVariants.{Eq}
+use Rattle.fax_core.specs.Job.{Job}
+use Rattle.fax_core.specs.Queue.{Queue, Entry, empty_queue, job_numbered}
+use Rattle.fax_core.specs.State.{is_of_number}
 use Rattle.fax_tables.specs.Row.{number}
-use Rattle.fax_tables.specs.Schema.{no_tables, bare_tables, six_tables, meta_tree}
-use Rattle.fax_tables.specs.Tables.{IsAtRest, IsIndexed}
+use Rattle.fax_tables.specs.Schema.{AreOurs, no_tables, bare_tables, seven_tables, six_tables, calls_tree, holds_tree, jobs_tree, meta_tree}
+use Rattle.fax_tables.specs.Tables.{GoesOn, IsAtRest, RowsMean}
 use Rattle.sqlite_trees.specs.Tree.{Trees}
-use Rattle.fax_store.specs.Store.{HasRows, RowsFound}
+use Rattle.fax_store.specs.Grant.{SetsCalls}
+use Rattle.fax_store.specs.Store.{RowsFound}
 
 -- the version in each row of meta
 abbrev pub versions : Database → List Value
 versions db = map (λ r. column r 5) (db.trees meta_tree)
 
--- the schema is that of the six tables, with the indexes by which jobs are found or without them
-abbrev pub AreOurs : Schema → Type 0
-AreOurs schema = (schema ≡ six_tables) ⊎ (schema ≡ bare_tables)
+-- the hold is of this job, as SQL compares their numbers
+abbrev pub IsOf : Row → Row → Type 0
+IsOf hold job = is_true (binary (Compare Eq Binary) (rowid job) (column hold 2)) ≡ true
 
--- the database has the six tables, and meta has one row, of version 1
+-- each hold is of a job that is there
+abbrev pub HoldJobs : Database → Type 0
+HoldJobs db = (hold : Row) → Has (db.trees holds_tree) hold → (job : Row) × Has (db.trees jobs_tree) job × IsOf hold job
+
+-- the database has our tables, meta has one row, of version 1, and each hold its job
 pub record IsOurs (db : Database) : Type 0 where
   pub schema_is : AreOurs db.schema
   pub version : versions db ≡ number 1 ∷ []
+  pub held : HoldJobs db
 
--- the same, with the indexes
-pub record HasVersion (db : Database) : Type 0 where
-  pub schema_is : db.schema ≡ six_tables
-  pub version : versions db ≡ number 1 ∷ []
+-- all seven tables, with the rows that the other has in six of them
+pub record IsWhole (db after : Database) : Type 0 where
+  pub schema_is : after.schema ≡ seven_tables
+  pub sound : IsDatabase after
+  pub rows : KeepsRows six_tables.tables db.trees after.trees
 
--- it has no tables, or ours
-abbrev pub IsAdoptable : Database → Type 0
-IsAdoptable db = (db.schema ≡ no_tables) ⊎ IsOurs db
-
--- no work is under way, and the database has got the indexes, with the rows that it had
-pub record HasIndexed (s : State) (db : Database) : Type 0 where
+-- no work is under way, and the database has got all of them
+pub record HasWhole (s : State) (db : Database) : Type 0 where
   pub autocommit : s.in_transaction ≡ false
   pub settled : s.now ≡ s.committed
-  pub indexed : IsIndexed db s.now
+  pub whole : IsWhole db s.now
 
--- one with the indexes has the rows that it had, and one without has got them
-abbrev pub TakesRows : Database → State → Type 0
-TakesRows db new = ((db.schema ≡ six_tables) × HasRows new db) ⊎ ((db.schema ≡ bare_tables) × HasIndexed new db)
-
--- a database with no tables has become an empty store, and one with ours has the rows that it had
+-- a database with no tables has become an empty store, and one with ours has all tables, and the rows that it had
 abbrev pub Adopts : State → State → Type 0
-Adopts old new = ((old.now.schema ≡ no_tables) × IsAtRest new empty_queue []) ⊎ (IsOurs old.now × TakesRows old.now new)
+Adopts old new = ((old.now.schema ≡ no_tables) × IsAtRest new empty_queue []) ⊎ (IsOurs old.now × HasWhole new old.now)
 
--- the same, where what has the indexes isn't touched
-abbrev pub TakesTables : State → State → Type 0
-TakesTables old new =
-    ((old.now.schema ≡ no_tables) × IsAtRest new empty_queue [])
-    ⊎ (IsOurs old.now × (((old.now.schema ≡ six_tables) × IsUnchanged old new) ⊎ ((old.now.schema ≡ bare_tables) × HasIndexed new old.now)))
+-- the rows of our tables mean a queue and kept replies, whatever `calls` says, and the version is 1
+pub record IsTold (db : Database) : Type 0 where
+  pub schema_is : AreOurs db.schema
+  pub version : versions db ≡ number 1 ∷ []
+  pub queue : Queue
+  pub kept : List Entry
+  pub means : RowsMean db queue kept
+
+-- it has no tables, or ours, which mean something
+abbrev pub IsAdoptable : Database → Type 0
+IsAdoptable db = (db.schema ≡ no_tables) ⊎ IsTold db
+
+-- ---- the steps of it
+
+-- A step from a state of which P holds. Where it is done the transaction goes on, and Q tells of the databases before and behind it; where it is refused the last commit stands.
+abbrev pub Goes : {A E : Type 0} → (State → Type 0) → (Database → Database → Type 0) → State → State → Result A E → Type 0
+Goes P Q old new result = HasCleanDisk new → P old → MatchResult result (λ _. GoesOn old new × Q old.now new.now) (λ _. KeepsCommit old new)
+
+-- a transaction is under way in an open database, over these tables
+pub record IsIn (Ours : Schema → Type 0) (s : State) : Type 0 where
+  pub is_open : IsTrue s.is_open
+  pub inside : IsTrue s.in_transaction
+  pub schema_is : Ours s.now.schema
+
+-- the six tables, with the indexes of jobs or without
+abbrev pub AreSix : Schema → Type 0
+AreSix schema = (schema ≡ six_tables) ⊎ (schema ≡ bare_tables)
+
+-- those tables, and the rows of the six
+abbrev pub Leaves : (Schema → Type 0) → Database → Database → Type 0
+Leaves Ours db after = Ours after.schema × KeepsRows six_tables.tables db.trees after.trees
+
+-- a transaction is under way over all tables, and no call is counted yet
+pub record HasNone (s : State) : Type 0 where
+  pub is_open : IsTrue s.is_open
+  pub inside : IsTrue s.in_transaction
+  pub schema_is : s.now.schema ≡ seven_tables
+  pub sound : IsDatabase s.now
+  pub none : s.now.trees calls_tree ≡ []
+
+-- it was of version 1, with a job for each hold, and has all tables
+pub record IsFilled (db after : Database) : Type 0 where
+  pub version : versions db ≡ number 1 ∷ []
+  pub held : HoldJobs db
+  pub whole : IsWhole db after
+
+-- ---- the calls, counted anew
+
+-- some counts are set
+abbrev pub HasSet : State → State → Type 0
+HasSet old new = (count : List ℕ → ℕ) × SetsCalls old new count
+
+-- the number that a value is
+abbrev pub number_of : Value → ℕ
+number_of (Int (pos n)) = n
+number_of other = 0
+
+-- the row has the number of a job to this canonical number
+abbrev pub is_to : Queue → List ℕ → Row → Bool
+is_to m dial row = is_of_number dial (job_numbered (number_of (column row 0)) m)
+
+-- how many of these rows have
+abbrev pub held_to : Queue → List Row → List ℕ → ℕ
+held_to m rows dial = length (filter (is_to m dial) rows)
+
+-- each of these rows has the number of a job
+abbrev pub AreOfJobs : Queue → List Row → Type 0
+AreOfJobs m rows = (row : Row) → Has rows row → (j : Job) × (row ≡ number j.number ∷ []) × (job_numbered j.number m ≡ Some j)
 
 -- ---- a stop
 
--- these are the rows that the database had, with the indexes
-abbrev pub AreIndexed : Database → Trees → Type 0
-AreIndexed db found = (after : Database) × (after.trees ≡ found) × IsOurs db × IsIndexed db after
+-- these are the rows that the database had in six tables, beside `calls`
+abbrev pub AreWhole : Database → Trees → Type 0
+AreWhole db found = (after : Database) × (after.trees ≡ found) × IsOurs db × IsWhole db after
 
--- what adopting makes of a database: the rows of an empty store where it had no tables, or those that it had with the indexes
+-- what adopting makes of a database: the rows of an empty store where it had no tables, or those that it had
 abbrev pub AreAdopted : Database → Trees → Type 0
-AreAdopted db found = ((db.schema ≡ no_tables) × RowsFound found empty_queue []) ⊎ AreIndexed db found
+AreAdopted db found = ((db.schema ≡ no_tables) × RowsFound found empty_queue []) ⊎ AreWhole db found

@@ -1,10 +1,18 @@
 -- What is made of the grants of a queue.
-use Rattle.std.specs.Prelude.{◌≡◌, ◌≢◌, ℕ, ◌+◌, false, Option, Some, None}
+use Rattle.std.specs.Prelude.{◌≡◌, ◌≢◌, ℕ, ◌+◌, true, false, List, Option, Some, None, IsTrue, if◌then◌else◌}
+use Rattle.std.specs.Str.{bytes_eq}
+use Rattle.sqlite.specs.Effect.{IsDatabase}
+use Rattle.sqlite.specs.State.{State}
+use Rattle.sqlite_catalog.specs.Change.{KeepsRows}
 use Rattle.sqlite_rules.specs.Lists.{Has}
 use Rattle.fax_core.specs.Machine.{held_by, with_grant}
-use Rattle.fax_core.specs.Queue.{Queue, grant_numbered, open_grants}
+use Rattle.fax_core.specs.Job.{Job}
+use Rattle.fax_core.specs.Queue.{Queue, grant_numbered, job_numbered, open_grants}
 use Rattle.fax_core.specs.declared.grants.Grant.{Grant}
 use Rattle.fax_tables.specs.Place.{placed}
+use Rattle.fax_tables.specs.Schema.{calls_tree, seven_tables, six_tables}
+use Rattle.fax_tables.specs.Tables.{AreCalls, GoesOn}
+use Rattle.fax_store.specs.Store.{HasTables}
 
 -- the queue with one more grant
 abbrev pub with_placed : Grant → Queue → Queue
@@ -40,3 +48,37 @@ with_shut (Some g) m = with_grant (record g { is_open = false }) m
 -- the queue without the hold of the grant of this number
 abbrev pub with_closed : ℕ → Queue → Queue
 with_closed n m = with_shut (grant_numbered n m) m
+
+-- ---- the calls to each number
+
+-- the job of that number is to this canonical number
+abbrev pub IsCalled : ℕ → List ℕ → Queue → Type 0
+IsCalled n dial m = (j : Job) × (job_numbered n m ≡ Some j) × (j.dial ≡ dial)
+
+-- the grant of that number is open, and of that job
+abbrev pub IsHeldBy : ℕ → ℕ → Queue → Type 0
+IsHeldBy number job m = (g : Grant) × (grant_numbered number m ≡ Some g) × (g.is_open ≡ true) × (g.job ≡ job)
+
+-- it is of a job to this canonical number
+abbrev pub IsHeld : ℕ → List ℕ → Queue → Type 0
+IsHeld number dial m = (g : Grant) × (grant_numbered number m ≡ Some g) × (g.is_open ≡ true) × IsCalled g.job dial m
+
+-- the counts, with this one for this number
+abbrev pub with_count : List ℕ → ℕ → (List ℕ → ℕ) → List ℕ → ℕ
+with_count dial n count other = if bytes_eq other dial then n else count other
+
+-- the transaction goes on, the six tables have the rows that they had, and the counts are these
+pub record SetsCalls (old new : State) (count : List ℕ → ℕ) : Type 0 where
+  pub goes_on : GoesOn old new
+  pub schema_is : new.now.schema ≡ seven_tables
+  pub sound : IsDatabase new.now
+  pub rows : KeepsRows six_tables.tables old.now.trees new.now.trees
+  pub calls : AreCalls count (new.now.trees calls_tree)
+
+-- a transaction is under way in an open database over the seven tables, and the counts are these
+pub record HasCalls (s : State) (count : List ℕ → ℕ) : Type 0 where
+  pub is_open : IsTrue s.is_open
+  pub inside : IsTrue s.in_transaction
+  pub tables : HasTables s
+  pub sound : IsDatabase s.now
+  pub calls : AreCalls count (s.now.trees calls_tree)

@@ -15,7 +15,7 @@ use Rattle.sqlite.specs.declared.error.Error.{Error}
 use Rattle.fax_tables.specs.declared.fault.StoreFault.{StoreFault}
 use Rattle.fax_tables.specs.Fault.{fault_of}
 use Rattle.fax_core.specs.Queue.{Queue, Entry}
-use Rattle.fax_tables.specs.Schema.{six_tables}
+use Rattle.fax_tables.specs.Schema.{seven_tables}
 pub use Rattle.fax_tables.specs.Stop.{MayFind, CommitsNothing}
 use Rattle.fax_tables.specs.Tables.{TablesMean, IsAtRest}
 
@@ -40,9 +40,9 @@ pub record HasRows (s : State) (db : Database) : Type 0 where
 abbrev pub Rests : State → Database → Type 0
 Rests s db = Serves s → HasRows s db
 
--- the rows of the six tables stay as they are, whatever they say
+-- the rows of the seven tables stay as they are, whatever they say
 abbrev pub Stays : State → State → Type 0
-Stays old new = (db : Database) → db.schema ≡ six_tables → Rests old db → Rests new db
+Stays old new = (db : Database) → db.schema ≡ seven_tables → Rests old db → Rests new db
 
 -- what is not committed is undone
 abbrev pub GoesBack : State → State → Type 0
@@ -84,13 +84,13 @@ LeavesCommit old new = IsUnchanged old new ⊎ IsRolledBack old new
 abbrev pub Reads : {A : Type 0} → State → State → Result A StoreFault → Type 0
 Reads old new result = MatchResult result (λ _. IsUnchanged old new) (λ _. LeavesCommit old new)
 
--- the database has the six tables
+-- the database has the seven tables
 abbrev pub HasTables : State → Type 0
-HasTables s = s.now.schema ≡ six_tables
+HasTables s = s.now.schema ≡ seven_tables
 
--- over the six tables, the text shows rows and writes none
+-- over the seven tables, the text shows rows and writes none
 abbrev pub IsQueryText : List ℕ → Type 0
-IsQueryText sql = IsPlain (understood six_tables sql)
+IsQueryText sql = IsPlain (understood seven_tables sql)
 
 -- a command that changes rows and no table
 abbrev pub IsEdit : Command → Type 0
@@ -104,23 +104,9 @@ abbrev pub EditsRows : Result Compiled CompileError → Type 0
 EditsRows (Ok c) = IsEdit c.command × (c.returning ≡ None)
 EditsRows (Err fault) = ⊥
 
--- over the six tables, the text is one
+-- over the seven tables, the text is one
 abbrev pub IsEditText : List ℕ → Type 0
-IsEditText sql = EditsRows (understood six_tables sql)
-
--- a command that puts no row in, and so needs no free key
-abbrev pub PutsNone : Command → Type 0
-PutsNone (Update at query) = ⊤
-PutsNone (Delete at query) = ⊤
-PutsNone other = ⊥
-
-abbrev pub UpdatesOrDeletes : Result Compiled CompileError → Type 0
-UpdatesOrDeletes (Ok c) = PutsNone c.command
-UpdatesOrDeletes (Err fault) = ⊥
-
--- over the six tables, the text updates or deletes rows
-abbrev pub IsUpdateOrDelete : List ℕ → Type 0
-IsUpdateOrDelete sql = UpdatesOrDeletes (understood six_tables sql)
+IsEditText sql = EditsRows (understood seven_tables sql)
 
 -- one of the rows that a query shows, or none where it shows none
 abbrev pub FindsRow : List ℕ → Row → State → State → Option Row → Type 0

@@ -1,34 +1,50 @@
 //! How a store comes to a database, and how it gives it back.
 
-ghost use Rattle.std.specs.Prelude.{◌≡◌, false, [], Err, IfErr, IfOk, List, OnErr, OnOk};
+ghost use Rattle.std.specs.Prelude.{◌≡◌, ◌+◌, ◌<◌, ◌^◌, ℕ, false, [], ◌∷◌, length, Err, IfErr, IfOk, is_err, List, MatchResult, OnErr, OnOk, Some};
 ghost use Rattle.sqlite.specs.Effect.{IsDatabase};
 ghost use Rattle.sqlite.specs.Held.{state};
 ghost use Rattle.sqlite.specs.State.{HasCleanDisk, IsUnchanged, KeepsCommit};
-ghost use Rattle.fax_core.specs.Queue.{Queue, Entry, empty_queue};
-ghost use Rattle.fax_store.specs.Adopt.{Adopts, AreAdopted, AreIndexed, HasIndexed, HasVersion, IsAdoptable, IsOurs, TakesTables};
-ghost use Rattle.fax_store.specs.Store.{CommitsNothing, GoesBack, LeavesAlone, MayMake, Means, RowsFound, Serves};
-ghost use Rattle.fax_tables.specs.Schema.{bare_tables, no_tables};
-ghost use Rattle.fax_tables.specs.Tables.{IsAtRest, RowsMean};
+ghost use Rattle.fax_core.specs.Job.{Job as OneJob};
+ghost use Rattle.fax_core.specs.Queue.{Queue, Entry, empty_queue, job_numbered};
+ghost use Rattle.fax_store.specs.Adopt.{Adopts, AreAdopted, AreOfJobs, AreSix, AreWhole, Goes, HasNone, HasSet, HasWhole, HoldJobs, IsAdoptable, IsFilled, IsIn, IsOurs, IsTold, IsWhole, Leaves, held_to, versions};
+ghost use Rattle.fax_store.specs.Grant.{HasCalls, SetsCalls, with_count};
+ghost use Rattle.fax_store.specs.Store.{CommitsNothing, GoesBack, HasTables, LeavesAlone, MayMake, Means, Reads, RowsFound, Serves};
+ghost use Rattle.fax_store.specs.Work.{Withholds};
+ghost use Rattle.fax_tables.specs.Fault.{OrUnavailable};
+ghost use Rattle.fax_tables.specs.Row.{number};
+ghost use Rattle.fax_tables.specs.Schema.{AreInOrder, AreOurs, no_tables, six_tables};
+ghost use Rattle.fax_tables.specs.Stop.{HoldsBack};
+ghost use Rattle.fax_tables.specs.Tables.{HasNewCalls, IsAtRest, RowsMean, TablesMean};
 
 use crate::store::{BEGIN, COMMIT, Store};
+use fax_job::Dial;
 use fax_tables::{
-    StoreFault, create_indexes, create_tables, has_bare_tables, has_no_tables, has_six_tables,
-    is_version,
+    StoreFault, create_calls, create_indexes, create_tables, dial_in, drop_calls, drop_indexes,
+    has_bare_tables, has_calls, has_no_tables, has_ours, held_job_in, is_vacuumed, is_version,
 };
-use sqlite::{Alter, Connection};
+use sqlite::{Alter, Connection, Row, params};
 use std::alloc::Global;
 
 const SELECT_VERSION: &str = "SELECT version FROM meta";
 
+const SELECT_LOST: &str =
+    "SELECT holds.id FROM holds LEFT JOIN jobs ON jobs.job = holds.job WHERE jobs.job IS NULL";
+
+const SELECT_HELD: &str = "SELECT job FROM holds";
+
+const SELECT_DIAL: &str = "SELECT dial FROM jobs WHERE job = ?1";
+
 impl<S: Alter> Store<S> {
-    /// The store over a database. One with no tables gets the six of an empty store, with their indexes.
-    /// One that has exactly these tables, of version 1, keeps its rows, and gets the indexes by which
-    /// jobs are found where it has none. Either is done in one transaction.
+    /// The store over a database. One with no tables gets the seven of an empty store, with their
+    /// indexes. One with exactly the tables of a queue, of version 1, keeps the rows of all but
+    /// `calls`, which is counted anew by what is held, whether it was there or not. The indexes by
+    /// which jobs are found are made where there are none, or where VACUUM moved them. Either is done
+    /// in one transaction.
     ///
     /// # Errors
     ///
-    /// `Strange` where the database is neither, or `Unavailable`. The connection comes back with its
-    /// tables as they were, and with no transaction open.
+    /// `Strange` where the database is neither, or a hold has no job, or `Unavailable`. The connection
+    /// comes back with its tables as they were, and with no transaction open.
     pub fn adopt(
         alloc: Global,
         conn: Connection<S>,
@@ -38,8 +54,8 @@ impl<S: Alter> Store<S> {
             → Adopts (state S.Store conn) (state S.Store store.conn)) }
         ensures means { IfOk result (λ store. (m : Queue) (k : List Entry)
             → Means (state S.Store conn) m k → Means (state S.Store store.conn) m k) }
-        ensures means_alone { IfOk result (λ store. (m : Queue) (k : List Entry)
-            → (state S.Store conn).now.schema ≡ bare_tables
+        ensures means_rows { IfOk result (λ store. (m : Queue) (k : List Entry)
+            → AreOurs (state S.Store conn).now.schema
             → RowsMean (state S.Store conn).now m k → Means (state S.Store store.conn) m k) }
         ensures served { IfOk result (λ store. Serves (state S.Store store.conn) → Serves (state S.Store conn)) }
         ensures clean { IfOk result (λ store.
@@ -85,11 +101,13 @@ impl<S: Alter> Store<S> {
         conn
     }
 
-    /// Makes the tables in a database with none, and the indexes in one without them, and tests the
-    /// tables of any other.
+    /// Makes the tables in a database with none, and takes one with ours.
     fn take_tables(&mut self) -> Result<(), StoreFault>
         ensures taken { HasCleanDisk (state S.Store self.new.conn) → OnOk result
-            (TakesTables (state S.Store self.old.conn) (state S.Store self.new.conn)) }
+            (Adopts (state S.Store self.old.conn) (state S.Store self.new.conn)) }
+        ensures means { (m : Queue) (k : List Entry) → HasCleanDisk (state S.Store self.new.conn) → OnOk result
+            (AreOurs (state S.Store self.old.conn).now.schema → RowsMean (state S.Store self.old.conn).now m k
+            → IsAtRest (state S.Store self.new.conn) m k) }
         ensures kept { HasCleanDisk (state S.Store self.new.conn) → OnErr result
             (KeepsCommit (state S.Store self.old.conn) (state S.Store self.new.conn)) }
         ensures served { Serves (state S.Store self.new.conn) → Serves (state S.Store self.old.conn) }
@@ -102,10 +120,10 @@ impl<S: Alter> Store<S> {
     {
         if has_no_tables(self.conn.schema()) {
             self.make_tables()
-        } else if has_bare_tables(self.alloc, self.conn.schema())? {
-            self.make_indexes()
+        } else if has_ours(self.alloc, self.conn.schema())? {
+            self.take_ours()
         } else {
-            self.test_tables()
+            Err(StoreFault::Strange)
         }
     }
 
@@ -128,52 +146,228 @@ impl<S: Alter> Store<S> {
         Ok(())
     }
 
-    /// Makes the indexes in a database that has the tables without them, of version 1, or leaves it as
-    /// it is.
-    fn make_indexes(&mut self) -> Result<(), StoreFault>
-        requires { (state S.Store self.old.conn).now.schema ≡ bare_tables }
+    /// Takes a database with our tables: it gets what it lacks, and its calls are counted anew.
+    fn take_ours(&mut self) -> Result<(), StoreFault>
+        requires { AreOurs (state S.Store self.old.conn).now.schema }
         ensures made { HasCleanDisk (state S.Store self.new.conn) → OnOk result
             (IsOurs (state S.Store self.old.conn).now
-            × HasIndexed (state S.Store self.new.conn) (state S.Store self.old.conn).now) }
+            × HasWhole (state S.Store self.new.conn) (state S.Store self.old.conn).now) }
+        ensures means { (m : Queue) (k : List Entry) → HasCleanDisk (state S.Store self.new.conn) → OnOk result
+            (RowsMean (state S.Store self.old.conn).now m k → IsAtRest (state S.Store self.new.conn) m k) }
         ensures kept { HasCleanDisk (state S.Store self.new.conn) → OnErr result
             (KeepsCommit (state S.Store self.old.conn) (state S.Store self.new.conn)) }
         ensures served { Serves (state S.Store self.new.conn) → Serves (state S.Store self.old.conn) }
         ensures clean { HasCleanDisk (state S.Store self.new.conn) → HasCleanDisk (state S.Store self.old.conn) }
         ensures opens { OnOk result (HasCleanDisk (state S.Store self.new.conn) → Serves (state S.Store self.new.conn)) }
-        ensures crash { MayMake (state S.Store self.old.conn) (state S.Store self.new.conn) (AreIndexed (state S.Store self.old.conn).now) }
+        ensures crash { MayMake (state S.Store self.old.conn) (state S.Store self.new.conn) (AreWhole (state S.Store self.old.conn).now) }
         ensures nothing { result ≡ Err StoreFault.Strange → CommitsNothing (state S.Store self.old.conn) (state S.Store self.new.conn) }
         ensures strange { HasCleanDisk (state S.Store self.new.conn) → result ≡ Err StoreFault.Strange
-            → ¬ IsOurs (state S.Store self.old.conn).now }
+            → ¬ IsTold (state S.Store self.old.conn).now }
     {
         self.conn.execute(BEGIN, &[])?;
-        create_indexes(&mut self.conn)?;
-        self.test_tables()?;
+        self.renew()?;
+        self.fill()?;
         self.conn.execute(COMMIT, &[])?;
         Ok(())
     }
 
-    /// Tests whether the database has the six tables with their indexes, of version 1.
-    fn test_tables(&mut self) -> Result<(), StoreFault>
-        ensures ours { HasCleanDisk (state S.Store self.new.conn) → OnOk result
-            (HasVersion (state S.Store self.old.conn).now
-            × IsUnchanged (state S.Store self.old.conn) (state S.Store self.new.conn)) }
-        ensures kept { HasCleanDisk (state S.Store self.new.conn) → OnErr result
-            (KeepsCommit (state S.Store self.old.conn) (state S.Store self.new.conn)) }
-        ensures served { Serves (state S.Store self.new.conn) → Serves (state S.Store self.old.conn) }
+    /// Makes `calls` anew, with no rows, and the indexes of jobs where there are none.
+    fn renew(&mut self) -> Result<(), StoreFault>
+        ensures goes { Goes (IsIn AreOurs) HasNewCalls (state S.Store self.old.conn) (state S.Store self.new.conn) result }
+        ensures crash { HoldsBack (IsIn AreOurs) (state S.Store self.old.conn) (state S.Store self.new.conn) }
         ensures clean { HasCleanDisk (state S.Store self.new.conn) → HasCleanDisk (state S.Store self.old.conn) }
-        ensures opens { OnOk result (HasCleanDisk (state S.Store self.new.conn) → Serves (state S.Store self.new.conn)) }
-        ensures crash { CommitsNothing (state S.Store self.old.conn) (state S.Store self.new.conn) }
-        ensures strange { HasCleanDisk (state S.Store self.new.conn) → result ≡ Err StoreFault.Strange
-            → ¬ HasVersion (state S.Store self.old.conn).now }
+        ensures cause { IfErr result (λ fault. fault ≡ StoreFault.Unavailable) }
     {
-        if !has_six_tables(self.alloc, self.conn.schema())? {
-            return Err(StoreFault::Strange);
+        self.lose_indexes()?;
+        self.lose_calls()?;
+        self.get_indexes()?;
+        create_calls(&mut self.conn)?;
+        Ok(())
+    }
+
+    /// Takes the indexes of jobs away where they are the last. They are made again before `calls`.
+    fn lose_indexes(&mut self) -> Result<(), StoreFault>
+        ensures goes { Goes (IsIn AreOurs) (Leaves AreInOrder) (state S.Store self.old.conn) (state S.Store self.new.conn) result }
+        ensures crash { HoldsBack (IsIn AreOurs) (state S.Store self.old.conn) (state S.Store self.new.conn) }
+        ensures clean { HasCleanDisk (state S.Store self.new.conn) → HasCleanDisk (state S.Store self.old.conn) }
+        ensures cause { IfErr result (λ fault. fault ≡ StoreFault.Unavailable) }
+    {
+        if !is_vacuumed(self.alloc, self.conn.schema())? {
+            return Ok(());
         }
+        drop_indexes(&mut self.conn)?;
+        Ok(())
+    }
+
+    /// Takes `calls` away where it is there.
+    fn lose_calls(&mut self) -> Result<(), StoreFault>
+        ensures goes { Goes (IsIn AreInOrder) (Leaves AreSix) (state S.Store self.old.conn) (state S.Store self.new.conn) result }
+        ensures crash { HoldsBack (IsIn AreInOrder) (state S.Store self.old.conn) (state S.Store self.new.conn) }
+        ensures clean { HasCleanDisk (state S.Store self.new.conn) → HasCleanDisk (state S.Store self.old.conn) }
+        ensures cause { IfErr result (λ fault. fault ≡ StoreFault.Unavailable) }
+    {
+        if !has_calls(self.alloc, self.conn.schema())? {
+            return Ok(());
+        }
+        drop_calls(&mut self.conn)?;
+        Ok(())
+    }
+
+    /// Makes the indexes of jobs where there are none.
+    fn get_indexes(&mut self) -> Result<(), StoreFault>
+        ensures goes { Goes (IsIn AreSix) (Leaves (λ schema. schema ≡ six_tables)) (state S.Store self.old.conn) (state S.Store self.new.conn) result }
+        ensures crash { HoldsBack (IsIn AreSix) (state S.Store self.old.conn) (state S.Store self.new.conn) }
+        ensures clean { HasCleanDisk (state S.Store self.new.conn) → HasCleanDisk (state S.Store self.old.conn) }
+        ensures cause { IfErr result (λ fault. fault ≡ StoreFault.Unavailable) }
+    {
+        if !has_bare_tables(self.alloc, self.conn.schema())? {
+            return Ok(());
+        }
+        create_indexes(&mut self.conn)?;
+        Ok(())
+    }
+
+    /// Tests whether the version is 1 and each hold has its job, and counts the calls.
+    fn fill(&mut self) -> Result<(), StoreFault>
+        ensures goes { Goes HasNone IsFilled (state S.Store self.old.conn) (state S.Store self.new.conn) result }
+        ensures counted { (m : Queue) (k : List Entry) → HasNone (state S.Store self.old.conn)
+            → HasCleanDisk (state S.Store self.new.conn) → OnOk result
+            (RowsMean (state S.Store self.old.conn).now m k → TablesMean (state S.Store self.new.conn).now m k) }
+        ensures crash { HoldsBack HasNone (state S.Store self.old.conn) (state S.Store self.new.conn) }
+        ensures clean { HasCleanDisk (state S.Store self.new.conn) → HasCleanDisk (state S.Store self.old.conn) }
+        ensures strange { HasCleanDisk (state S.Store self.new.conn) → result ≡ Err StoreFault.Strange
+            → HasNone (state S.Store self.old.conn) → versions (state S.Store self.old.conn).now ≡ number 1 ∷ []
+            → (m : Queue) (k : List Entry) → ¬ RowsMean (state S.Store self.old.conn).now m k }
+    {
+        self.test_version()?;
+        self.test_holds()?;
+        self.count_holds()
+    }
+
+    /// Tests whether meta has one row, of version 1.
+    fn test_version(&mut self) -> Result<(), StoreFault>
+        ensures ours { HasTables (state S.Store self.old.conn) → HasCleanDisk (state S.Store self.new.conn) → OnOk result
+            ((versions (state S.Store self.old.conn).now ≡ number 1 ∷ [])
+            × IsUnchanged (state S.Store self.old.conn) (state S.Store self.new.conn)) }
+        ensures left { HasCleanDisk (state S.Store self.new.conn) → HasTables (state S.Store self.old.conn) → OnErr result
+            (KeepsCommit (state S.Store self.old.conn) (state S.Store self.new.conn)) }
+        ensures clean { HasCleanDisk (state S.Store self.new.conn) → HasCleanDisk (state S.Store self.old.conn) }
+        ensures crash { CommitsNothing (state S.Store self.old.conn) (state S.Store self.new.conn) }
+        ensures strange { HasTables (state S.Store self.old.conn) → HasCleanDisk (state S.Store self.new.conn)
+            → result ≡ Err StoreFault.Strange → ¬ (versions (state S.Store self.old.conn).now ≡ number 1 ∷ []) }
+    {
         let rows = self.show(SELECT_VERSION, &[])?;
         if is_version(rows.as_slice()) {
             Ok(())
         } else {
             Err(StoreFault::Strange)
         }
+    }
+
+    /// Tests whether each hold is of a job that is there.
+    fn test_holds(&mut self) -> Result<(), StoreFault>
+        ensures ours { HasTables (state S.Store self.old.conn) → HasCleanDisk (state S.Store self.new.conn) → OnOk result
+            (HoldJobs (state S.Store self.old.conn).now
+            × IsUnchanged (state S.Store self.old.conn) (state S.Store self.new.conn)) }
+        ensures left { HasCleanDisk (state S.Store self.new.conn) → HasTables (state S.Store self.old.conn) → OnErr result
+            (KeepsCommit (state S.Store self.old.conn) (state S.Store self.new.conn)) }
+        ensures clean { HasCleanDisk (state S.Store self.new.conn) → HasCleanDisk (state S.Store self.old.conn) }
+        ensures crash { CommitsNothing (state S.Store self.old.conn) (state S.Store self.new.conn) }
+        ensures strange { HasTables (state S.Store self.old.conn) → HasCleanDisk (state S.Store self.new.conn)
+            → result ≡ Err StoreFault.Strange → ¬ HoldJobs (state S.Store self.old.conn).now }
+    {
+        let lost = self.show(SELECT_LOST, &[])?;
+        if lost.len() > 0 {
+            return Err(StoreFault::Strange);
+        }
+        Ok(())
+    }
+
+    /// Counts the calls by what is held.
+    fn count_holds(&mut self) -> Result<(), StoreFault>
+        ensures goes { Goes HasNone IsWhole (state S.Store self.old.conn) (state S.Store self.new.conn) result }
+        ensures counted { (m : Queue) (k : List Entry) → HasNone (state S.Store self.old.conn)
+            → HasCleanDisk (state S.Store self.new.conn) → RowsMean (state S.Store self.old.conn).now m k
+            → OrUnavailable result (λ _. TablesMean (state S.Store self.new.conn).now m k) }
+        ensures crash { HoldsBack HasNone (state S.Store self.old.conn) (state S.Store self.new.conn) }
+        ensures clean { HasCleanDisk (state S.Store self.new.conn) → HasCleanDisk (state S.Store self.old.conn) }
+    {
+        let held = self.show(SELECT_HELD, &[])?;
+        self.count_rows(held.as_slice())
+    }
+
+    /// Counts a call for each of these rows, which has the number of a job.
+    fn count_rows(&mut self, rows: &[Row]) -> Result<(), StoreFault>
+        ensures set { (count : List ℕ → ℕ) → HasCalls (state S.Store self.old.conn) count
+            → HasCleanDisk (state S.Store self.new.conn) → MatchResult result
+            (λ _. HasSet (state S.Store self.old.conn) (state S.Store self.new.conn))
+            (λ _. KeepsCommit (state S.Store self.old.conn) (state S.Store self.new.conn)) }
+        ensures counted { (m : Queue) (k : List Entry) → RowsMean (state S.Store self.old.conn).now m k
+            → AreOfJobs m rows.now → length rows.now < 2 ^ 32 → HasCalls (state S.Store self.old.conn) (λ _. 0)
+            → HasCleanDisk (state S.Store self.new.conn)
+            → OrUnavailable result (λ _. SetsCalls (state S.Store self.old.conn) (state S.Store self.new.conn) (held_to m rows.now)) }
+        ensures crash { Withholds (state S.Store self.old.conn) false (state S.Store self.new.conn) (is_err result) }
+        ensures clean { HasCleanDisk (state S.Store self.new.conn) → HasCleanDisk (state S.Store self.old.conn) }
+    {
+        for row in rows {
+            self.count_hold(row)?;
+        }
+        Ok(())
+    }
+
+    /// Counts a call to the number of the job that a row has.
+    fn count_hold(&mut self, row: &Row) -> Result<(), StoreFault>
+        ensures set { (count : List ℕ → ℕ) → HasCalls (state S.Store self.old.conn) count
+            → HasCleanDisk (state S.Store self.new.conn) → MatchResult result
+            (λ _. HasSet (state S.Store self.old.conn) (state S.Store self.new.conn))
+            (λ _. KeepsCommit (state S.Store self.old.conn) (state S.Store self.new.conn)) }
+        ensures counted { (m : Queue) (k : List Entry) (j : OneJob) (count : List ℕ → ℕ)
+            → RowsMean (state S.Store self.old.conn).now m k → row.now ≡ number j.number ∷ []
+            → job_numbered j.number m ≡ Some j → count j.dial + 1 < 2 ^ 32 → HasCalls (state S.Store self.old.conn) count
+            → HasCleanDisk (state S.Store self.new.conn)
+            → OrUnavailable result (λ _. SetsCalls (state S.Store self.old.conn) (state S.Store self.new.conn)
+            (with_count j.dial (count j.dial + 1) count)) }
+        ensures crash { Withholds (state S.Store self.old.conn) false (state S.Store self.new.conn) (is_err result) }
+        ensures clean { HasCleanDisk (state S.Store self.new.conn) → HasCleanDisk (state S.Store self.old.conn) }
+    {
+        let job = held_job_in(row)?;
+        let dial = self.dial_of(job)?;
+        self.add_call(&dial)
+    }
+
+    /// The number to dial of a job.
+    fn dial_of(&mut self, job: u32) -> Result<Dial, StoreFault>
+        ensures reads { HasTables (state S.Store self.old.conn) → HasCleanDisk (state S.Store self.new.conn)
+            → Reads (state S.Store self.old.conn) (state S.Store self.new.conn) result }
+        ensures answers { (m : Queue) (k : List Entry) (j : OneJob) → HasTables (state S.Store self.old.conn)
+            → RowsMean (state S.Store self.old.conn).now m k → job_numbered job m ≡ Some j
+            → HasCleanDisk (state S.Store self.new.conn) → OrUnavailable result (λ dial. dial ≡ j.dial) }
+        ensures crash { CommitsNothing (state S.Store self.old.conn) (state S.Store self.new.conn) }
+        ensures clean { HasCleanDisk (state S.Store self.new.conn) → HasCleanDisk (state S.Store self.old.conn) }
+    {
+        match self.find(SELECT_DIAL, params![job])? {
+            Some(found) => dial_in(self.alloc, &found),
+            None => Err(StoreFault::Strange),
+        }
+    }
+
+    /// Counts one more call to a number.
+    fn add_call(&mut self, dial: &Dial) -> Result<(), StoreFault>
+        ensures set { (count : List ℕ → ℕ) → HasCalls (state S.Store self.old.conn) count
+            → HasCleanDisk (state S.Store self.new.conn) → MatchResult result
+            (λ _. HasSet (state S.Store self.old.conn) (state S.Store self.new.conn))
+            (λ _. KeepsCommit (state S.Store self.old.conn) (state S.Store self.new.conn)) }
+        ensures counted { (count : List ℕ → ℕ) → HasCalls (state S.Store self.old.conn) count
+            → count dial.now + 1 < 2 ^ 32 → HasCleanDisk (state S.Store self.new.conn)
+            → OrUnavailable result (λ _. SetsCalls (state S.Store self.old.conn) (state S.Store self.new.conn)
+            (with_count dial.now (count dial.now + 1) count)) }
+        ensures crash { Withholds (state S.Store self.old.conn) false (state S.Store self.new.conn) (is_err result) }
+        ensures clean { HasCleanDisk (state S.Store self.new.conn) → HasCleanDisk (state S.Store self.old.conn) }
+    {
+        let calls = self.read_calls(dial)?;
+        let Some(more) = calls.checked_add(1) else {
+            return Err(StoreFault::Strange);
+        };
+        self.set_calls(dial, more)
     }
 }

@@ -1,25 +1,29 @@
 //! The grants, and what modems and jobs hold of those that are open.
 
-ghost use Rattle.std.specs.Prelude.{◌≡◌, ◌<◌, ◌≤◌, List, false, Err, IfErr, IfOk, IfSome, is_err, IsTrue, OnOk};
+ghost use Rattle.std.specs.Prelude.{◌≡◌, ◌<◌, ◌≤◌, ◌+◌, ◌-◌, ◌^◌, ⊤, ℕ, List, false, Err, IfErr, IfOk, IfSome, is_err, IsTrue, OnErr, OnOk};
 ghost use Rattle.std.specs.Option.{option_map};
 ghost use Rattle.sqlite.specs.Held.{state};
-ghost use Rattle.sqlite.specs.State.{HasCleanDisk};
+ghost use Rattle.sqlite.specs.State.{HasCleanDisk, KeepsCommit};
 ghost use Rattle.fax_core.specs.Machine.{held_by, with_grant};
 ghost use Rattle.fax_core.specs.Queue.{Queue, Entry, grant_numbered};
 ghost use Rattle.fax_core.specs.State.{calls_to};
 ghost use Rattle.fax_job.specs.Limits.{most_pages};
-ghost use Rattle.fax_store.specs.Grant.{IsNewGrant, IsReport, with_placed, with_one_more_grant, with_closed};
+ghost use Rattle.fax_store.specs.Grant.{HasCalls, IsCalled, IsHeld, IsHeldBy, IsNewGrant, IsReport, SetsCalls, with_count, with_placed, with_one_more_grant, with_closed};
 ghost use Rattle.fax_store.specs.Store.{CommitsNothing, Serves, Means, MeansNow, HasTables, Reads, Stays};
 ghost use Rattle.fax_store.specs.Work.{Holds, Works, Keeps, Changes, ChangesWhere, AnswersIn, IsOnlyUnavailable, Moves, Steps, Withholds};
 ghost use Rattle.fax_tables.specs.Fault.{OrUnavailable};
 ghost use Rattle.fax_tables.specs.Grant.{as_hold, IsWithinLimits, IsLawfulHold, IsOpenGrant};
+ghost use Rattle.fax_tables.specs.Schema.{calls_tree};
+ghost use Rattle.fax_tables.specs.Tables.{AreCalls, HasJob};
 
 use crate::store::Store;
 use crate::work::Work;
 use fax_core::Grant;
 use fax_job::Dial;
 use fax_job::limits::MOST_PAGES;
-use fax_tables::{Hold, Meta, PAST_GRANTS, StoreFault, call_number, grant_in, is_open_grant};
+use fax_tables::{
+    Hold, Meta, PAST_GRANTS, StoreFault, call_number, calls_in, grant_in, is_open_grant,
+};
 use sqlite::{Alter, params};
 
 const SELECT_GRANT: &str = "SELECT id, job, modem, first_page, last_page, call, pages, shut \
@@ -33,14 +37,17 @@ const UPDATE_REPORT: &str = "UPDATE grants SET call = ?2, pages = ?3 WHERE id = 
 
 const SHUT_GRANT: &str = "UPDATE grants SET shut = 1 WHERE id = ?1";
 
-const SELECT_CALLS: &str =
-    "SELECT holds.id FROM holds JOIN jobs ON jobs.job = holds.job WHERE jobs.dial = ?1";
-
 const INSERT_HOLD: &str = "INSERT INTO holds (modem, job, id) VALUES (?1, ?2, ?3)";
 
 const DELETE_HOLD: &str = "DELETE FROM holds WHERE id = ?1";
 
 const SELECT_HOLD: &str = "SELECT id, job FROM holds WHERE modem = ?1";
+
+const SELECT_OPEN: &str = "SELECT open FROM calls WHERE dial = ?1";
+
+const DELETE_CALLS: &str = "DELETE FROM calls WHERE dial = ?1";
+
+const INSERT_CALLS: &str = "INSERT INTO calls (dial, open) VALUES (?1, ?2)";
 
 impl<S: Alter> Store<S> {
     /// What the modem holds, or none.
@@ -117,7 +124,7 @@ impl<S: Alter> Store<S> {
     ///
     /// # Errors
     ///
-    /// `Unavailable`.
+    /// `Unavailable`, or `Strange` where its row is no lawful record.
     pub fn active_to(&mut self, dial: &Dial) -> Result<u64, StoreFault>
         ensures served { Serves (state S.Store self.new.conn) → Serves (state S.Store self.old.conn) }
         ensures clean { HasCleanDisk (state S.Store self.new.conn) → HasCleanDisk (state S.Store self.old.conn) }
@@ -127,10 +134,10 @@ impl<S: Alter> Store<S> {
         ensures found { (m : Queue) (k : List Entry) → Means (state S.Store self.old.conn) m k
             → Serves (state S.Store self.new.conn) → OrUnavailable result (λ calls. calls ≡ calls_to dial.now m) }
     {
-        self.read_calls(dial)
+        self.count_calls(dial)
     }
 
-    fn read_calls(&mut self, dial: &Dial) -> Result<u64, StoreFault>
+    fn count_calls(&mut self, dial: &Dial) -> Result<u64, StoreFault>
         ensures served { Serves (state S.Store self.new.conn) → Serves (state S.Store self.old.conn) }
         ensures clean { HasCleanDisk (state S.Store self.new.conn) → HasCleanDisk (state S.Store self.old.conn) }
         ensures opens { OnOk result (HasCleanDisk (state S.Store self.new.conn) → Serves (state S.Store self.new.conn)) }
@@ -139,19 +146,59 @@ impl<S: Alter> Store<S> {
         ensures crash { CommitsNothing (state S.Store self.old.conn) (state S.Store self.new.conn) }
         ensures answers { (m : Queue) (k : List Entry) → MeansNow (state S.Store self.old.conn) m k
             → Serves (state S.Store self.new.conn) → OrUnavailable result (λ calls. calls ≡ calls_to dial.now m) }
-        ensures cause { IfErr result (λ fault. fault ≡ StoreFault.Unavailable) }
     {
-        let rows = self.show(SELECT_CALLS, params![dial.text()])?;
-        Ok(rows.len() as u64)
+        Ok(u64::from(self.read_calls(dial)?))
     }
 
-    fn insert_grant(&mut self, grant: &Grant) -> Result<(), StoreFault>
+    pub(crate) fn read_calls(&mut self, dial: &Dial) -> Result<u32, StoreFault>
+        ensures served { Serves (state S.Store self.new.conn) → Serves (state S.Store self.old.conn) }
+        ensures clean { HasCleanDisk (state S.Store self.new.conn) → HasCleanDisk (state S.Store self.old.conn) }
+        ensures opens { OnOk result (HasCleanDisk (state S.Store self.new.conn) → Serves (state S.Store self.new.conn)) }
+        ensures reads { HasTables (state S.Store self.old.conn) → HasCleanDisk (state S.Store self.new.conn)
+            → Reads (state S.Store self.old.conn) (state S.Store self.new.conn) result }
+        ensures crash { CommitsNothing (state S.Store self.old.conn) (state S.Store self.new.conn) }
+        ensures answers { (m : Queue) (k : List Entry) → MeansNow (state S.Store self.old.conn) m k
+            → Serves (state S.Store self.new.conn) → OrUnavailable result (λ calls. calls ≡ calls_to dial.now m) }
+        ensures counted { (count : List ℕ → ℕ) → HasTables (state S.Store self.old.conn)
+            → AreCalls count ((state S.Store self.old.conn).now.trees calls_tree) → count dial.now < 2 ^ 32
+            → HasCleanDisk (state S.Store self.new.conn) → OrUnavailable result (λ calls. calls ≡ count dial.now) }
+    {
+        match self.find(SELECT_OPEN, params![dial.text()])? {
+            Some(row) => calls_in(&row),
+            None => Ok(0),
+        }
+    }
+
+    /// Has `calls` count so many grants as open to a number.
+    pub(crate) fn set_calls(&mut self, dial: &Dial, calls: u32) -> Result<(), StoreFault>
+        ensures served { Serves (state S.Store self.new.conn) → Serves (state S.Store self.old.conn) }
+        ensures clean { HasCleanDisk (state S.Store self.new.conn) → HasCleanDisk (state S.Store self.old.conn) }
+        ensures holds { Holds (state S.Store self.old.conn) false (state S.Store self.new.conn) (is_err result) }
+        ensures crash { Withholds (state S.Store self.old.conn) false (state S.Store self.new.conn) (is_err result) }
+        ensures set { (count : List ℕ → ℕ) → HasCalls (state S.Store self.old.conn) count
+            → HasCleanDisk (state S.Store self.new.conn) → OnOk result
+            (SetsCalls (state S.Store self.old.conn) (state S.Store self.new.conn) (with_count dial.now calls count)) }
+        ensures left { (count : List ℕ → ℕ) → HasCalls (state S.Store self.old.conn) count
+            → HasCleanDisk (state S.Store self.new.conn) → OnErr result
+            (KeepsCommit (state S.Store self.old.conn) (state S.Store self.new.conn)) }
+        ensures cause { IfErr result (λ fault. fault ≡ StoreFault.Unavailable) }
+    {
+        self.run(DELETE_CALLS, params![dial.text()])?;
+        if calls == 0 {
+            return Ok(());
+        }
+        self.run(INSERT_CALLS, params![dial.text(), calls])
+    }
+
+    /// Adds an open grant of a job to this number, which has so many calls with it.
+    fn place_grant(&mut self, grant: &Grant, dial: &Dial, calls: u32) -> Result<(), StoreFault>
         ensures served { Serves (state S.Store self.new.conn) → Serves (state S.Store self.old.conn) }
         ensures clean { HasCleanDisk (state S.Store self.new.conn) → HasCleanDisk (state S.Store self.old.conn) }
         ensures holds { Holds (state S.Store self.old.conn) false (state S.Store self.new.conn) (is_err result) }
         ensures crash { Withholds (state S.Store self.old.conn) false (state S.Store self.new.conn) (is_err result) }
         ensures written { (m₀ m : Queue) (k₀ k : List Entry) → Works (state S.Store self.old.conn) false m₀ k₀ m k
             → Serves (state S.Store self.new.conn) → IsOpenGrant grant.now
+            → IsCalled grant.now.job dial.now m → calls ≡ calls_to dial.now m + 1
             → Moves (state S.Store self.new.conn) result m₀ k₀ (with_placed grant.now m) k }
         ensures cause { IsOnlyUnavailable (state S.Store self.old.conn) false (state S.Store self.new.conn) result
             (λ m k. IsOpenGrant grant.now × IsNewGrant grant.now m) }
@@ -171,7 +218,29 @@ impl<S: Alter> Store<S> {
                 call_number(grant.call),
                 u32::from(grant.confirmed),
             ],
-        )
+        )?;
+        self.set_calls(dial, calls)
+    }
+
+    fn insert_grant(&mut self, grant: &Grant) -> Result<(), StoreFault>
+        ensures served { Serves (state S.Store self.new.conn) → Serves (state S.Store self.old.conn) }
+        ensures clean { HasCleanDisk (state S.Store self.new.conn) → HasCleanDisk (state S.Store self.old.conn) }
+        ensures holds { Holds (state S.Store self.old.conn) false (state S.Store self.new.conn) (is_err result) }
+        ensures crash { Withholds (state S.Store self.old.conn) false (state S.Store self.new.conn) (is_err result) }
+        ensures written { (m₀ m : Queue) (k₀ k : List Entry) → Works (state S.Store self.old.conn) false m₀ k₀ m k
+            → Serves (state S.Store self.new.conn) → IsOpenGrant grant.now
+            → Moves (state S.Store self.new.conn) result m₀ k₀ (with_placed grant.now m) k }
+        ensures cause { IsOnlyUnavailable (state S.Store self.old.conn) false (state S.Store self.new.conn) result
+            (λ m k. IsOpenGrant grant.now × IsNewGrant grant.now m × HasJob m grant.now) }
+    {
+        let Some(job) = self.read_job(grant.job)? else {
+            return Err(StoreFault::Strange);
+        };
+        let calls = self.read_calls(&job.fields().dial)?;
+        let Some(more) = calls.checked_add(1) else {
+            return Err(StoreFault::Strange);
+        };
+        self.place_grant(grant, &job.fields().dial, more)
     }
 
     fn add_grant(&mut self, grant: &Grant) -> Result<(), StoreFault>
@@ -183,7 +252,7 @@ impl<S: Alter> Store<S> {
             → Serves (state S.Store self.new.conn)
             → Moves (state S.Store self.new.conn) result m₀ k₀ (with_one_more_grant grant.now m) k }
         ensures cause { IsOnlyUnavailable (state S.Store self.old.conn) false (state S.Store self.new.conn) result
-            (λ m k. IsOpenGrant grant.now × IsNewGrant grant.now m × m.next_grant < 1000000000) }
+            (λ m k. IsOpenGrant grant.now × IsNewGrant grant.now m × HasJob m grant.now × m.next_grant < 1000000000) }
     {
         if !is_open_grant(grant) {
             return Err(StoreFault::Strange);
@@ -222,6 +291,22 @@ impl<S: Alter> Store<S> {
         )
     }
 
+    /// Closes an open grant of a job to this number, which has so many calls without it.
+    fn close_open(&mut self, number: u32, dial: &Dial, calls: u32) -> Result<(), StoreFault>
+        ensures served { Serves (state S.Store self.new.conn) → Serves (state S.Store self.old.conn) }
+        ensures clean { HasCleanDisk (state S.Store self.new.conn) → HasCleanDisk (state S.Store self.old.conn) }
+        ensures holds { Holds (state S.Store self.old.conn) false (state S.Store self.new.conn) (is_err result) }
+        ensures crash { Withholds (state S.Store self.old.conn) false (state S.Store self.new.conn) (is_err result) }
+        ensures written { (m₀ m : Queue) (k₀ k : List Entry) → Works (state S.Store self.old.conn) false m₀ k₀ m k
+            → Serves (state S.Store self.new.conn) → IsHeld number dial.now m → calls ≡ calls_to dial.now m - 1
+            → Moves (state S.Store self.new.conn) result m₀ k₀ (with_closed number m) k }
+        ensures cause { IfErr result (λ fault. fault ≡ StoreFault.Unavailable) }
+    {
+        self.run(SHUT_GRANT, params![number])?;
+        self.run(DELETE_HOLD, params![number])?;
+        self.set_calls(dial, calls)
+    }
+
     fn shut_grant(&mut self, number: u32) -> Result<(), StoreFault>
         ensures served { Serves (state S.Store self.new.conn) → Serves (state S.Store self.old.conn) }
         ensures clean { HasCleanDisk (state S.Store self.new.conn) → HasCleanDisk (state S.Store self.old.conn) }
@@ -230,10 +315,31 @@ impl<S: Alter> Store<S> {
         ensures written { (m₀ m : Queue) (k₀ k : List Entry) → Works (state S.Store self.old.conn) false m₀ k₀ m k
             → Serves (state S.Store self.new.conn)
             → Steps (state S.Store self.new.conn) result m₀ k₀ (with_closed number m) k }
-        ensures cause { IfErr result (λ fault. fault ≡ StoreFault.Unavailable) }
     {
-        self.run(SHUT_GRANT, params![number])?;
-        self.run(DELETE_HOLD, params![number])
+        let Some(grant) = self.read_grant(number)? else {
+            return Ok(());
+        };
+        if !grant.is_open {
+            return Ok(());
+        }
+        self.end_call(number, grant.job)
+    }
+
+    /// Closes an open grant of the job of this number.
+    fn end_call(&mut self, number: u32, job: u32) -> Result<(), StoreFault>
+        ensures served { Serves (state S.Store self.new.conn) → Serves (state S.Store self.old.conn) }
+        ensures clean { HasCleanDisk (state S.Store self.new.conn) → HasCleanDisk (state S.Store self.old.conn) }
+        ensures holds { Holds (state S.Store self.old.conn) false (state S.Store self.new.conn) (is_err result) }
+        ensures crash { Withholds (state S.Store self.old.conn) false (state S.Store self.new.conn) (is_err result) }
+        ensures written { (m₀ m : Queue) (k₀ k : List Entry) → Works (state S.Store self.old.conn) false m₀ k₀ m k
+            → Serves (state S.Store self.new.conn) → IsHeldBy number job m
+            → Steps (state S.Store self.new.conn) result m₀ k₀ (with_closed number m) k }
+    {
+        let Some(job) = self.read_job(job)? else {
+            return Err(StoreFault::Strange);
+        };
+        let calls = self.read_calls(&job.fields().dial)?;
+        self.close_open(number, &job.fields().dial, calls.saturating_sub(1))
     }
 }
 
@@ -299,7 +405,7 @@ impl<S: Alter> Work<'_, S> {
     ///
     /// # Errors
     ///
-    /// `Unavailable`.
+    /// `Unavailable`, or `Strange` where its row is no lawful record.
     pub fn active_to(&mut self, dial: &Dial) -> Result<u64, StoreFault>
         ensures same_reference { self.new.store.ghost_name ≡ self.old.store.ghost_name }
         ensures holds { Holds (state S.Store self.old.store.now.conn) self.old.failed
@@ -317,7 +423,7 @@ impl<S: Alter> Work<'_, S> {
         if self.failed {
             return Err(StoreFault::Unavailable);
         }
-        let found = self.store.read_calls(dial);
+        let found = self.store.count_calls(dial);
         self.failed = found.is_err();
         found
     }
@@ -328,7 +434,8 @@ impl<S: Alter> Work<'_, S> {
     /// # Errors
     ///
     /// `Unavailable`, or `Strange` where a grant has the number, the modem or the job holds one, the
-    /// grant is not open, its numbers are past their limits or no next number is left.
+    /// job isn't there, the grant is not open, its numbers are past their limits or no next number is
+    /// left.
     pub fn put_grant(&mut self, grant: &Grant) -> Result<(), StoreFault>
         ensures same_reference { self.new.store.ghost_name ≡ self.old.store.ghost_name }
         ensures holds { Holds (state S.Store self.old.store.now.conn) self.old.failed
@@ -339,7 +446,7 @@ impl<S: Alter> Work<'_, S> {
             (state S.Store self.new.store.now.conn) self.new.failed (with_one_more_grant grant.now) (λ k. k) }
         ensures cause { IsOnlyUnavailable (state S.Store self.old.store.now.conn) self.old.failed
             (state S.Store self.new.store.now.conn) result
-            (λ m k. IsOpenGrant grant.now × IsNewGrant grant.now m × m.next_grant < 1000000000) }
+            (λ m k. IsOpenGrant grant.now × IsNewGrant grant.now m × HasJob m grant.now × m.next_grant < 1000000000) }
         ensures served { Serves (state S.Store self.new.store.now.conn) → Serves (state S.Store self.old.store.now.conn) }
         ensures clean { HasCleanDisk (state S.Store self.new.store.now.conn) → HasCleanDisk (state S.Store self.old.store.now.conn) }
         ensures fails { self.new.failed ≡ is_err result }
@@ -386,7 +493,7 @@ impl<S: Alter> Work<'_, S> {
     ///
     /// # Errors
     ///
-    /// `Unavailable`.
+    /// `Unavailable`, or `Strange` where its row or that of its job is no lawful record.
     pub fn close_grant(&mut self, number: u32) -> Result<(), StoreFault>
         ensures same_reference { self.new.store.ghost_name ≡ self.old.store.ghost_name }
         ensures holds { Holds (state S.Store self.old.store.now.conn) self.old.failed
@@ -395,7 +502,8 @@ impl<S: Alter> Work<'_, S> {
             (state S.Store self.new.store.now.conn) self.new.failed }
         ensures changes { Changes (state S.Store self.old.store.now.conn) self.old.failed
             (state S.Store self.new.store.now.conn) self.new.failed (with_closed number) (λ k. k) }
-        ensures cause { IfErr result (λ fault. fault ≡ StoreFault.Unavailable) }
+        ensures cause { IsOnlyUnavailable (state S.Store self.old.store.now.conn) self.old.failed
+            (state S.Store self.new.store.now.conn) result (λ m k. ⊤) }
         ensures served { Serves (state S.Store self.new.store.now.conn) → Serves (state S.Store self.old.store.now.conn) }
         ensures clean { HasCleanDisk (state S.Store self.new.store.now.conn) → HasCleanDisk (state S.Store self.old.store.now.conn) }
         ensures fails { self.new.failed ≡ is_err result }

@@ -68,7 +68,7 @@ impl<S: Alter> Store<S> {
         self.read_job(job)
     }
 
-    fn read_job(&mut self, job: u32) -> Result<Option<Job>, StoreFault>
+    pub(crate) fn read_job(&mut self, job: u32) -> Result<Option<Job>, StoreFault>
         ensures served { Serves (state S.Store self.new.conn) → Serves (state S.Store self.old.conn) }
         ensures clean { HasCleanDisk (state S.Store self.new.conn) → HasCleanDisk (state S.Store self.old.conn) }
         ensures opens { OnOk result (HasCleanDisk (state S.Store self.new.conn) → Serves (state S.Store self.new.conn)) }

@@ -1,4 +1,4 @@
-//! A database with the six tables.
+//! A database with the seven tables.
 
 ghost use Rattle.std.specs.Prelude.{◌≡◌, false, [], IfOk, IfErr, OnOk, OnErr, is_err};
 ghost use Rattle.std.specs.Borrow.{sem, RestsIfErr};
@@ -8,7 +8,7 @@ ghost use Rattle.sqlite.specs.Values.{bound};
 ghost use Rattle.sqlite.specs.State.{HasCleanDisk, Shown};
 ghost use Rattle.sqlite.specs.Steps.{over_memory};
 ghost use Rattle.fax_core.specs.Queue.{empty_queue};
-ghost use Rattle.fax_store.specs.Store.{Serves, StaysAsItWas, CommitsNothing, GoesBack, LeavesCommit, FindsRow, HasRun, HasTables, IsEditText, IsQueryText, IsRefusedFor, IsUpdateOrDelete, Reads};
+ghost use Rattle.fax_store.specs.Store.{Serves, StaysAsItWas, CommitsNothing, GoesBack, LeavesCommit, FindsRow, HasRun, HasTables, IsEditText, IsQueryText, IsRefusedFor, Reads};
 ghost use Rattle.fax_store.specs.Work.{Begins, BeginsAt, Holds, Opens, Withholds};
 ghost use Rattle.fax_tables.specs.Tables.{IsAtRest};
 
@@ -161,7 +161,7 @@ impl<S: Alter> Store<S> {
         }
     }
 
-    /// Runs a statement that updates or deletes rows.
+    /// Runs a statement that updates or deletes rows, or puts in one whose key is free.
     pub(crate) fn run(&mut self, sql: &str, params: &[ValueRef<'_>]) -> Result<(), StoreFault>
         requires { IsEditText sql.now }
         ensures served { Serves (state S.Store self.new.conn) → Serves (state S.Store self.old.conn) }
@@ -172,7 +172,7 @@ impl<S: Alter> Store<S> {
             (HasRun sql.now (bound params.now) (state S.Store self.old.conn) (state S.Store self.new.conn)) }
         ensures left { HasCleanDisk (state S.Store self.new.conn) → OnErr result
             (LeavesCommit (state S.Store self.old.conn) (state S.Store self.new.conn)) }
-        ensures cause { IsUpdateOrDelete sql.now → IfErr result (λ fault. fault ≡ StoreFault.Unavailable) }
+        ensures cause { IfErr result (λ fault. fault ≡ StoreFault.Unavailable) }
     {
         self.conn.execute(sql, params)?;
         Ok(())

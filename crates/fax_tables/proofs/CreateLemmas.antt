@@ -8,29 +8,33 @@ use Rattle.sqlite.specs.Cast.{cast_row}
 use Rattle.sqlite.specs.Edit.{with_rowid}
 use Rattle.sqlite.specs.Rowids.TheVariants.{Chosen}
 use Rattle.sqlite.specs.View.{doubt}
-use Rattle.sqlite.specs.Effect.{Database, IsDatabase}
+use Rattle.sqlite.specs.Effect.{Database, IsDatabase, RefusesToAlter}
 use Rattle.sqlite.specs.Listing.{understood}
 use Rattle.sqlite.specs.State.{State, HasCleanDisk, Executes, KeepsCommit, Shows, mode_of}
 use Rattle.sqlite.specs.declared.error.Error.{Error}
 use Rattle.std.specs.Bool.{MatchBool}
 use Rattle.sqlite.specs.Order.{Row}
-use Rattle.sqlite.specs.Rows.{Outcome}
-use Rattle.sqlite.specs.Does.{AtPlace, Defines, Does, MakesIndex, MakesTable, Tally, lacks_sequence, sequence_text}
+use Rattle.sqlite.specs.Rows.{Outcome, Task}
+use Rattle.sqlite.specs.Does.{AtPlace, Defines, Does, Drops, Empties, Leaves, MakesIndex, MakesTable, Tally, Uncounts, is_acted_on, lacks_sequence, sequence_text}
 use Rattle.sqlite.specs.Compile.{table_defined_by, index_defined_by}
-use Rattle.sqlite.specs.Command.TheVariants.{CreateTable, CreateIndex}
+use Rattle.sqlite.specs.Command.TheVariants.{CreateTable, CreateIndex, DropIndex, DropTable}
 use Rattle.sqlite.proofs.Callers.{runs_as, statement_of}
 use Rattle.sqlite.proofs.InsideLemmas.{fails_whole, unchanged_keeps}
 use Rattle.sqlite_schema.specs.declared.schema.Index.{Index}
 use Rattle.sqlite_schema.specs.declared.schema.Table.{Table}
 use Rattle.sqlite_schema.specs.declared.schema.Schema.{Schema}
-use Rattle.sqlite_catalog.specs.Change.{created, indexed, next_tree, KeepsRows}
+use Rattle.sqlite_catalog.specs.Calls.{RefusesToDropIndex}
+use Rattle.sqlite_catalog.specs.Change.{created, indexed, next_tree, without_index, without_table, KeepsRows}
+use Rattle.sqlite_schema.specs.declared.schema.Keys.TheVariants.{Enforced}
 use Rattle.fax_tables.specs.declared.schema.TheConstants.{INSERT_META}
 use Rattle.fax_core.specs.Queue.{empty_queue}
+use Rattle.fax_core.specs.State.{calls_to}
+use Rattle.sqlite_rules.specs.Lists.{Has}
 use Rattle.fax_tables.specs.Schema as schema
-use Rattle.fax_tables.specs.Schema.{no_tables, bare_tables, six_tables, meta_tree}
+use Rattle.fax_tables.specs.Schema.{no_tables, bare_tables, six_tables, seven_tables, calls_tree, meta_tree}
 use Rattle.fax_tables.specs.Row.{meta_row}
-use Rattle.fax_tables.specs.Tables.{GoesOn, HasEmptyTables, IsByRowid, IsIndexed, TablesMean}
-use Rattle.fax_tables.proofs.CreateTexts.{Makes, MakesIndexOf}
+use Rattle.fax_tables.specs.Tables.{GoesOn, HasEmptyTables, AreCounted, HasNewCalls, IsByRowid, IsIndexed, TablesMean}
+use Rattle.fax_tables.proofs.CreateTexts.{LosesIndex, Makes, MakesIndexOf, TakesAway}
 use Rattle.fax_tables.proofs.CompareLemmas.{same_row, cast_int, cast_null}
 use Rattle.fax_tables.proofs.CreateTexts.{insert_meta}
 use Rattle.fax_tables.proofs.WriteLemmas.{went, unreferred, inserts}
@@ -61,7 +65,7 @@ commit_kept a b c first next = record { was_open = λ _. first.was_open; committ
 pub refused_keeps : (old new : State) (sql : List ℕ) (e : Error) → Executes sql [] old new (Err e) → KeepsCommit old new
 refused_keeps old new sql e h = unchanged_keeps old new (fails_whole old new false sql [] e h)
 
-inside_shown : (old new : State) (now : Database) → IsTrue old.in_transaction → Shows old new now (if old.in_transaction then old.committed else new.now) old.in_transaction → GoesOn old new
+pub inside_shown : (old new : State) (now : Database) → IsTrue old.in_transaction → Shows old new now (if old.in_transaction then old.committed else new.now) old.in_transaction → GoesOn old new
 inside_shown old new now inside h = record {
   was_open = h.was_open;
   is_open = h.is_open;
@@ -70,29 +74,85 @@ inside_shown old new now inside h = record {
   mode = h.mode ∙ inside;
 }
 
--- one more table, with no rows
-pub made : (old new : State) (before after : Schema) (sql : List ℕ) (table : Table) (count : ℕ) → Makes before sql table → created before table ≡ after → lacks_sequence after ≡ false
-    → Executes sql [] old new (Ok count) → HasEmptyTables before old → GoesOn old new × HasEmptyTables after new
-made old new before after sql table count makes is none h was =
-    let ran = runs_as sql [] old new before was.schema_is CreateTable makes.command makes.plain count h in
+-- one more table, with no rows, beside the rows that there were
+pub added : (old new : State) (before after : Schema) (sql : List ℕ) (table : Table) (count : ℕ) → Makes before sql table → created before table ≡ after → lacks_sequence after ≡ false
+    → Executes sql [] old new (Ok count) → IsTrue old.in_transaction → old.now.schema ≡ before
+    → GoesOn old new × (new.now.schema ≡ after) × IsDatabase new.now × KeepsRows before.tables old.now.trees new.now.trees × (new.now.trees (next_tree before) ≡ [])
+added old new before after sql table count makes is none h inside has =
+    let ran = runs_as sql [] old new before has CreateTable makes.command makes.plain count h in
     let on = went ran.changed in
     let it = went on.1 in
     let now : new.now ≡ on.0 = ap (λ p. p.1) (same_ok on.2) in
     let text = ap table_defined_by makes.statement ∙ makes.defined in
     let defined : it.1.table ≡ record table { tree = 0 } = same_ok (sym it.1.defined ∙ text) in
-    let schema_is : it.0.schema ≡ after = it.1.is ∙ ap₂ created was.schema_is defined ∙ is in
+    let schema_is : it.0.schema ≡ after = it.1.is ∙ ap₂ created has defined ∙ is in
     let rest : on.0 ≡ it.0 = same_ok (subst (λ b. MatchBool b (MakesTable sequence_text it.0 (Ok on.0)) (◌≡◌ {A = Outcome Database} (Ok on.0) (Ok it.0))) (ap lacks_sequence schema_is ∙ none) it.2) in
     let made_is : new.now ≡ it.0 = now ∙ rest in
-    let fresh : new.now.trees (next_tree before) ≡ [] = ap (λ d. d.trees (next_tree before)) made_is ∙ ap it.0.trees (ap next_tree (sym was.schema_is)) ∙ it.1.empty in
-    let kept : KeepsRows before.tables old.now.trees new.now.trees = subst₂ (λ ts d. KeepsRows ts old.now.trees d.trees) (ap (λ s. s.tables) was.schema_is) (sym made_is) it.1.others in
-    let all = one_more before.tables new.now.trees (record table { tree = next_tree before }) fresh (still_empty before.tables old.now.trees new.now.trees kept was.empty) in (
-      inside_shown old new _ was.inside ran.shown,
-      record {
-        inside = ran.shown.mode ∙ was.inside;
-        schema_is = ap (λ d. d.schema) made_is ∙ schema_is;
-        empty = subst (λ s. AllByRecursion (λ t. new.now.trees t.tree ≡ []) s.tables) is all;
-      },
+    let fresh : new.now.trees (next_tree before) ≡ [] = ap (λ d. d.trees (next_tree before)) made_is ∙ ap it.0.trees (ap next_tree (sym has)) ∙ it.1.empty in
+    let kept : KeepsRows before.tables old.now.trees new.now.trees = subst₂ (λ ts d. KeepsRows ts old.now.trees d.trees) (ap (λ s. s.tables) has) (sym made_is) it.1.others in
+    (inside_shown old new _ inside ran.shown, ap (λ d. d.schema) made_is ∙ schema_is, ran.sound, kept, fresh)
+
+-- one more table, where none has rows
+pub made : (old new : State) (before after : Schema) (sql : List ℕ) (table : Table) (count : ℕ) → Makes before sql table → created before table ≡ after → lacks_sequence after ≡ false
+    → Executes sql [] old new (Ok count) → HasEmptyTables before old → GoesOn old new × HasEmptyTables after new
+made old new before after sql table count makes is none h was =
+    let it = added old new before after sql table count makes is none h was.inside was.schema_is in
+    let all = one_more before.tables new.now.trees (record table { tree = next_tree before }) it.4 (still_empty before.tables old.now.trees new.now.trees it.3 was.empty) in
+    (it.0, record { inside = it.0.mode; schema_is = it.1; empty = subst (λ s. AllByRecursion (λ t. new.now.trees t.tree ≡ []) s.tables) is all })
+
+-- the last of seven tables is gone, to which no other refers, and the rows of the others stay
+pub dropped : (old new : State) (before after : Schema) (sql : List ℕ) (table : Table) (count : ℕ) → TakesAway before sql → slice_get before.tables 6 ≡ Some table → is_acted_on before Enforced table ≡ false → table.is_counted ≡ false
+    → without_table before table.tree ≡ after → Executes sql [] old new (Ok count) → IsTrue old.in_transaction → old.now.schema ≡ before
+    → GoesOn old new × (new.now.schema ≡ after) × IsDatabase new.now × KeepsRows after.tables old.now.trees new.now.trees
+dropped old new before after sql table count takes last unacted uncounted is h inside has =
+    let ran = runs_as sql [] old new before has (DropTable 6) takes.command takes.plain count h in
+    let out = Ok (ran.tally, new.now) in
+    let task = λ (t : Table). the_task t in
+    let does = subst (λ s. Does old.step_limit (mode_of old) [] (record old.now { schema = s }) (statement_of sql (understood before sql)) None (DropTable 6) out) has ran.changed in
+    let on = subst (λ t. AtPlace (λ (u : Table). Drops (task u) (mode_of old) old.now.trees) t out) last does in
+    let emptied = went on in
+    let first : emptied.0 ≡ old.now.trees = same_ok (emptied_as emptied.0 emptied.1) in
+    let lessened = went emptied.2 in
+    let second : lessened.0 ≡ emptied.0 = same_ok (uncounted_as emptied.0 lessened.0 lessened.1) in
+    let tested = went lessened.2 in
+    let left = went tested.2 in
+    let now : new.now ≡ left.0 = ap (λ (p : Tally × Database). p.1) (same_ok left.2) in (
+      inside_shown old new _ inside ran.shown,
+      ap (λ (d : Database). d.schema) now ∙ left.1.0 ∙ is,
+      ran.sound,
+      subst₂ (λ (ts : Trees) (d : Database). KeepsRows after.tables ts d.trees) (second ∙ first) (sym now) (subst (λ (s : Schema). KeepsRows s.tables lessened.0 left.0.trees) is left.1.1),
     )
+  where
+    the_task : Table → Task
+    the_task t = record { limit = old.step_limit; keys = Enforced; schema = before; table = t; params = [] }
+
+    emptied_as : (e : Trees) → Empties (the_task table) old.now.trees (Ok e) → ◌≡◌ {A = Outcome Trees} (Ok e) (Ok old.now.trees)
+    emptied_as e h = rw unacted at h
+
+    uncounted_as : (e l : Trees) → Uncounts (the_task table) e (Ok l) → ◌≡◌ {A = Outcome Trees} (Ok l) (Ok e)
+    uncounted_as e l h = rw uncounted at h
+
+-- an index is gone, and the rows stay
+pub lost_index : (old new : State) (before after : Schema) (sql : List ℕ) (at : ℕ) (index : Index) (count : ℕ) → LosesIndex before sql at → slice_get before.indexes at ≡ Some index → without_index before index.tree ≡ after
+    → Executes sql [] old new (Ok count) → IsTrue old.in_transaction → old.now.schema ≡ before
+    → GoesOn old new × (new.now.schema ≡ after) × IsDatabase new.now × KeepsRows after.tables old.now.trees new.now.trees
+lost_index old new before after sql at index count loses there is h inside has =
+    let ran = runs_as sql [] old new before has (DropIndex at) loses.command loses.plain count h in
+    let out = Ok (ran.tally, new.now) in
+    let does = subst (λ s. Does old.step_limit (mode_of old) [] (record old.now { schema = s }) (statement_of sql (understood before sql)) None (DropIndex at) out) has ran.changed in
+    let on = subst (λ i. AtPlace (λ (x : Index). Defines (mode_of old) (Leaves (without_index before x.tree) old.now.trees (RefusesToAlter (RefusesToDropIndex x)))) i out) there does in
+    let left = went on in
+    let now : new.now ≡ left.0 = ap (λ (p : Tally × Database). p.1) (same_ok left.2) in (
+      inside_shown old new _ inside ran.shown,
+      ap (λ (d : Database). d.schema) now ∙ left.1.0 ∙ is,
+      ran.sound,
+      subst (λ (d : Database). KeepsRows after.tables old.now.trees d.trees) (sym now) (subst (λ (s : Schema). KeepsRows s.tables old.now.trees left.0.trees) is left.1.1),
+    )
+
+-- rows that were kept in more tables were kept in these
+pub kept_but_last : (tables : List Table) (t : Table) (a b : Trees) → KeepsRows (tables ++ t ∷ []) a b → KeepsRows tables a b
+kept_but_last [] t a b kept = tt
+kept_but_last (x ∷ xs) t a b kept = (kept.0, kept_but_last xs t a b kept.1)
 
 -- one more index of jobs, and the rows that there were
 pub made_index : (old new : State) (before after : Schema) (sql : List ℕ) (index : Index) (count : ℕ) → MakesIndexOf before sql index → slice_get before.tables 0 ≡ Some schema.jobs → indexed before schema.jobs index ≡ after
@@ -117,6 +177,14 @@ pub kept_rows : (tables : List Table) (a b c : Trees) → KeepsRows tables a b �
 kept_rows [] a b c first next = tt
 kept_rows (t ∷ ts) a b c first next = (next.0 ∙ first.0, kept_rows ts a b c first.1 next.1)
 
+-- and with `calls`
+pub beside_empty : (old new : State) → HasEmptyTables six_tables old → GoesOn old new → HasNewCalls old.now new.now → HasEmptyTables seven_tables new
+beside_empty old new was on is = record {
+  inside = on.mode;
+  schema_is = is.schema_is;
+  empty = one_more six_tables.tables new.now.trees schema.calls is.none (still_empty six_tables.tables old.now.trees new.now.trees is.rows was.empty);
+}
+
 -- tables with no rows have none with the indexes
 pub indexed_empty : (old new : State) → HasEmptyTables bare_tables old → GoesOn old new → IsIndexed old.now new.now → HasEmptyTables six_tables new
 indexed_empty old new was on is = record { inside = on.mode; schema_is = is.schema_is; empty = still_empty six_tables.tables old.now.trees new.now.trees is.rows was.empty }
@@ -125,17 +193,18 @@ stored_meta : cast_row schema.meta (meta_row empty_queue) ≡ meta_row empty_que
 stored_meta = same_row (cast_int (pos 1)) (same_row cast_null (same_row (cast_int (pos 0)) (same_row (cast_int (pos 1)) (same_row (cast_int (pos 1)) (same_row (cast_int (pos 1)) refl)))))
 
 -- the one row of meta makes the empty store of empty tables
-pub filled : (old new : State) (count : ℕ) → Executes INSERT_META.now [] old new (Ok count) → HasEmptyTables six_tables old → GoesOn old new × TablesMean new.now empty_queue []
+pub filled : (old new : State) (count : ℕ) → Executes INSERT_META.now [] old new (Ok count) → HasEmptyTables seven_tables old → GoesOn old new × TablesMean new.now empty_queue []
 filled old new count h was =
-    let ran = runs_as INSERT_META.now [] old new six_tables was.schema_is _ insert_meta.is insert_meta.plain count h in
-    let done = inserts six_tables unreferred schema.meta.name 10 schema.meta.columns schema.meta.key schema.meta.primary schema.meta.uniques schema.meta.orders schema.meta.checks 5 refl old new was.schema_is [] _ count
+    let ran = runs_as INSERT_META.now [] old new seven_tables was.schema_is _ insert_meta.is insert_meta.plain count h in
+    let done = inserts seven_tables unreferred schema.meta.name 10 schema.meta.columns schema.meta.key schema.meta.primary schema.meta.uniques schema.meta.orders schema.meta.checks 5 refl old new was.schema_is [] _ count
     _ 6 (meta_row empty_queue) (meta_row empty_queue) refl (ap (with_rowid Chosen (old.now.trees meta_tree)) stored_meta) ran in
     let others = done.keeps.others in
     let jobs = others.0 (λ e. absurd (omega arith)) ∙ was.empty.0 in
     let grants = others.1.0 (λ e. absurd (omega arith)) ∙ was.empty.1.0 in
     let holds = others.1.1.0 (λ e. absurd (omega arith)) ∙ was.empty.1.1.0 in
     let down = others.1.1.1.0 (λ e. absurd (omega arith)) ∙ was.empty.1.1.1.0 in
-    let replies = others.1.1.1.1.0 (λ e. absurd (omega arith)) ∙ was.empty.1.1.1.1.0 in (
+    let replies = others.1.1.1.1.0 (λ e. absurd (omega arith)) ∙ was.empty.1.1.1.1.0 in
+    let calls = others.1.1.1.1.1.1.0 (λ e. absurd (omega arith)) ∙ was.empty.1.1.1.1.1.1.0 in (
       inside_shown old new _ was.inside done.keeps.shown,
       record {
         schema = done.keeps.schema_is;
@@ -146,7 +215,9 @@ filled old new count h was =
         down = ap (map (drop 1)) down;
         replies = ap (map (drop 1)) replies;
         meta = done.rows ∙ ap (put_row (meta_row empty_queue)) was.empty.1.1.1.1.1.0;
-        ordered = record { jobs = rows_none _ jobs; grants = rows_none _ grants; holds = rows_none _ holds; down = rows_none _ down; replies = rows_none _ replies };
+        held = λ g none. absurd none;
+        calls = none_counted calls;
+        ordered = record { jobs = rows_none _ jobs; grants = rows_none _ grants; holds = rows_none _ holds; down = rows_none _ down; replies = rows_none _ replies; calls = rows_none _ calls };
         lawful = record {
           jobs = λ i d low. absurd (omega arith);
           grants = λ i d low. absurd (omega arith);
@@ -159,6 +230,9 @@ filled old new count h was =
   where
     rows_none : (rows : List Row) → rows ≡ [] → IsByRowid rows
     rows_none rows none = subst IsByRowid (sym none) (record { rise = tt; integers = tt })
+
+    none_counted : new.now.trees calls_tree ≡ [] → AreCounted (λ dial. calls_to dial empty_queue) (map (drop 1) (new.now.trees calls_tree))
+    none_counted none = record { each = λ row has. absurd (subst (λ rows. Has (map (drop 1) rows) row) none has); all = λ dial some. absurd (omega arith) }
 
 -- a database with no tables has none with rows
 pub none_at_first : (s : State) → IsTrue s.in_transaction → s.now.schema ≡ no_tables → HasEmptyTables no_tables s

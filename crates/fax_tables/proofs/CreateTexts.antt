@@ -1,6 +1,6 @@
 -- What the texts that make the tables mean.
 use Rattle.std.proofs.Common.{◌≡◌, List, ℕ, pos, [], ◌∷◌, Ok, refl}
-use Rattle.sqlite.specs.Command.TheVariants.{CreateTable, CreateIndex, Insert}
+use Rattle.sqlite.specs.Command.TheVariants.{CreateTable, CreateIndex, DropIndex, DropTable, Insert}
 use Rattle.sqlite.specs.Compile.{table_defined_by, index_defined_by}
 use Rattle.sqlite.specs.Listing.{understood}
 use Rattle.sqlite.specs.Source.TheVariants.{Values}
@@ -10,11 +10,11 @@ use Rattle.sqlite.proofs.Callers.{IsPlain, command_of, statement_of}
 use Rattle.sqlite_schema.specs.declared.schema.Index.{Index}
 use Rattle.sqlite_schema.specs.declared.schema.Table.{Table}
 use Rattle.sqlite_schema.specs.declared.schema.Schema.{Schema}
-use Rattle.sqlite_catalog.specs.Change.{created, indexed}
+use Rattle.sqlite_catalog.specs.Change.{created, indexed, without_table, without_index}
 use Rattle.sqlite_tied.specs.Compute.{everything}
-use Rattle.fax_tables.specs.declared.schema.TheConstants.{CREATE_JOBS, CREATE_GRANTS, CREATE_HOLDS, CREATE_DOWN, CREATE_REPLIES, CREATE_META, CREATE_KILLTIME_INDEX, CREATE_CHOICE_INDEX, INSERT_META}
+use Rattle.fax_tables.specs.declared.schema.TheConstants.{CREATE_JOBS, CREATE_GRANTS, CREATE_HOLDS, CREATE_DOWN, CREATE_REPLIES, CREATE_META, CREATE_KILLTIME_INDEX, CREATE_CHOICE_INDEX, CREATE_CALLS, DROP_CALLS, DROP_CHOICE_INDEX, DROP_KILLTIME_INDEX, INSERT_META}
 use Rattle.fax_tables.proofs.StatementForms.{Commands}
-use Rattle.fax_tables.specs.Schema.{no_tables, with_jobs, with_grants, with_holds, four_tables, with_replies, bare_tables, with_killtime_index, six_tables, jobs, grants, holds, down, replies, meta, killtime_index, choice_index}
+use Rattle.fax_tables.specs.Schema.{no_tables, with_jobs, with_grants, with_holds, four_tables, with_replies, bare_tables, with_killtime_index, six_tables, seven_tables, bare_with_calls, vacuumed_tables, vacuumed_with_killtime, jobs, grants, holds, down, replies, meta, calls, killtime_index, choice_index}
 
 -- the text makes this table in any database with this schema
 pub record Makes (schema : Schema) (sql : List ℕ) (table : Table) : Type 0 where
@@ -93,6 +93,56 @@ makes_choice_index = record { command = refl; statement = refl; defined = refl; 
 pub indexed_choice : indexed with_killtime_index jobs choice_index ≡ six_tables
 unfolding everything
 indexed_choice = refl
+
+pub makes_calls : Makes six_tables CREATE_CALLS.now calls
+unfolding understood everything
+makes_calls = record { command = refl; statement = refl; defined = refl; plain = (refl, refl) }
+
+pub created_calls : created six_tables calls ≡ seven_tables
+unfolding everything
+created_calls = refl
+
+-- the text takes the last table away from any database with this schema
+pub record TakesAway (schema : Schema) (sql : List ℕ) : Type 0 where
+  pub command : command_of (understood schema sql) ≡ DropTable 6
+  pub plain : IsPlain (understood schema sql)
+
+pub drops_calls : TakesAway seven_tables DROP_CALLS.now
+unfolding understood everything
+drops_calls = record { command = refl; plain = (refl, refl) }
+
+pub drops_bare_calls : TakesAway bare_with_calls DROP_CALLS.now
+unfolding understood everything
+drops_bare_calls = record { command = refl; plain = (refl, refl) }
+
+pub left_six : without_table seven_tables 13 ≡ six_tables
+unfolding everything
+left_six = refl
+
+pub left_bare : without_table bare_with_calls 11 ≡ bare_tables
+unfolding everything
+left_bare = refl
+
+-- the text takes this index away from any database with this schema
+pub record LosesIndex (schema : Schema) (sql : List ℕ) (at : ℕ) : Type 0 where
+  pub command : command_of (understood schema sql) ≡ DropIndex at
+  pub plain : IsPlain (understood schema sql)
+
+pub drops_choice : LosesIndex vacuumed_tables DROP_CHOICE_INDEX.now 7
+unfolding understood everything
+drops_choice = record { command = refl; plain = (refl, refl) }
+
+pub drops_killtime : LosesIndex vacuumed_with_killtime DROP_KILLTIME_INDEX.now 6
+unfolding understood everything
+drops_killtime = record { command = refl; plain = (refl, refl) }
+
+pub left_killtime : without_index vacuumed_tables 14 ≡ vacuumed_with_killtime
+unfolding everything
+left_killtime = refl
+
+pub left_bare_calls : without_index vacuumed_with_killtime 13 ≡ bare_with_calls
+unfolding everything
+left_bare_calls = refl
 
 pub insert_meta : Commands INSERT_META.now
     (Insert 5 (Values (lit (Int (pos 1)) ∷ lit Null ∷ lit (Int (pos 0)) ∷ lit (Int (pos 1)) ∷ lit (Int (pos 1)) ∷ lit (Int (pos 1)) ∷ []) 6))

@@ -14,6 +14,7 @@ use Rattle.sqlite.specs.View.{is_int}
 use Rattle.sqlite.specs.declared.types.Value.TheVariants.{Int}
 use Rattle.sqlite_rules.specs.Lists.{Has}
 use Rattle.sqlite_rules.proofs.KeyLemmas.{agree_back}
+use Rattle.sqlite_rules.proofs.ProbeLemmas.{mapped_has}
 use Rattle.sqlite_rules.proofs.ListLemmas.{all_has, some_from, test_has, test_from}
 use Rattle.sqlite_rules.proofs.RuleLemmas.{keeps_at, keeps_from}
 use Rattle.sqlite_rules.proofs.TableLemmas.{put_has}
@@ -127,6 +128,10 @@ none_found q (y ∷ ys) x none has = elim (cases_Bool (q y)) [
 module _ {X : Type 0} (row : X → Row) (num : X → ℕ) (ids : (x : X) → rowid (row x) ≡ number (num x)) where
   same_id : (x y : X) → is_eq (value_cmp (rowid (row y)) (rowid (row x))) ≡ (num y == num x)
   same_id x y = ap is_eq (ap₂ value_cmp (ids y) (ids x) ∙ value_cmp-Int (pos (num y)) (pos (num x))) ∙ grind (arith, nat_tests)
+
+  -- where its rowid isn't taken
+  pub untaken : (x : X) (xs : List X) → is_taken (map row xs) (row x) ≡ false → (y : X) → Has xs y → (num y == num x) ≡ false
+  untaken x xs free y has = sym (same_id x y) ∙ none_of (λ r. is_eq (value_cmp (rowid r) (rowid (row x)))) (map row xs) (row y) free (mapped_has row xs y has)
 
   pub free_row : (x : X) (xs : List X) → find (λ y. num y == num x) xs ≡ None → is_taken (map row xs) (row x) ≡ false
   free_row x xs none =

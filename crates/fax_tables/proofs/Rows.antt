@@ -1,4 +1,4 @@
--- Worked rows: records as they stand in the six tables.
+-- Worked rows: records as they stand in the tables.
 use Rattle.std.specs.Prelude.{◌≡◌, refl, true, false, pos, [], ◌∷◌, ◌++◌, map, codes, Some, None}
 use Rattle.sqlite.specs.declared.types.Value.TheVariants.{Null, Int, Text, Blob}
 use Rattle.fax_core.specs.Queue.{empty_queue}
@@ -9,7 +9,7 @@ use Rattle.fax_job.specs.declared.job.Phase.TheVariants.{Held, Waiting, Granted,
 use Rattle.fax_job.specs.declared.job.Wish.TheVariants.{Go, Hold, Kill}
 use Rattle.fax_job.specs.declared.job.Call.TheVariants.{Connected, Busy, NoAnswer, NoCarrier, Other}
 use Rattle.fax_tables.specs.Kept.{entry}
-use Rattle.fax_tables.specs.Row.{phase_number, wish_number, call_number, job_row, grant_row, hold_columns, down_columns, entry_columns, meta_row}
+use Rattle.fax_tables.specs.Row.{phase_number, wish_number, call_number, job_row, grant_row, hold_columns, down_columns, entry_columns, call_columns, meta_row}
 
 -- ---- numbers that stand for words
 
@@ -76,3 +76,6 @@ reply_stands = refl
 
 meta_stands : meta_row (record empty_queue { clock = 5; next_job = 8; next_grant = 3 }) ≡ Int (pos 1) ∷ Null ∷ Int (pos 5) ∷ Int (pos 8) ∷ Int (pos 3) ∷ Int (pos 1) ∷ []
 meta_stands = refl
+
+call_stands : call_columns (codes "5550111") 2 ≡ Text (codes "5550111") ∷ Int (pos 2) ∷ []
+call_stands = refl

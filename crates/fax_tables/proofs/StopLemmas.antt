@@ -43,17 +43,20 @@ inside_commits_nothing s sql params never inside found h =
 known_command : (r : Result Compiled CompileError) (c : Compiled) → r ≡ Ok c → command_of r ≡ c.command
 known_command r c is = ap command_of is
 
--- one that makes a table or an index, or puts a row in
-pub step_holds_back : (old new : State) (P : State → Type 0) (before : Schema) (sql : List ℕ) (command : Command) → command_of (understood before sql) ≡ command → (Ends command → ⊥)
-    → (P old → IsTrue old.in_transaction × (old.now.schema ≡ before)) → Survives old new (CommitsBy sql [] old) → HoldsBack P old new
-step_holds_back old new P before sql command is never known survives was = nothing_by old new (CommitsBy sql [] old) survives by
+-- one that makes a table or an index, takes a table away, or puts a row in
+pub command_holds_back : (old new : State) (P : State → Type 0) (sql : List ℕ) (command : Command) → (Ends command → ⊥) → (P old → IsTrue old.in_transaction × (command_of (understood old.now.schema sql) ≡ command))
+    → Survives old new (CommitsBy sql [] old) → HoldsBack P old new
+command_holds_back old new P sql command never known survives was = nothing_by old new (CommitsBy sql [] old) survives by
   where
     by : (found : Trees) → HasCleanDisk old → CommitsBy sql [] old found → ⊥
     by found clean =
         let on = known (was clean) in
-        inside_commits_nothing old sql []
-        (λ c understood_as ends. never (subst Ends (sym (known_command (understood old.now.schema sql) c understood_as) ∙ ap (λ s. command_of (understood s sql)) on.1 ∙ is) ends))
-        on.0 found
+        inside_commits_nothing old sql [] (λ c understood_as ends. never (subst Ends (sym (known_command (understood old.now.schema sql) c understood_as) ∙ on.1) ends)) on.0 found
+
+-- the same over tables that are known
+pub step_holds_back : (old new : State) (P : State → Type 0) (before : Schema) (sql : List ℕ) (command : Command) → command_of (understood before sql) ≡ command → (Ends command → ⊥)
+    → (P old → IsTrue old.in_transaction × (old.now.schema ≡ before)) → Survives old new (CommitsBy sql [] old) → HoldsBack P old new
+step_holds_back old new P before sql command is never known = command_holds_back old new P sql command never (λ was. let on = known was in (on.0, ap (λ s. command_of (understood s sql)) on.1 ∙ is))
 
 -- and then another, where the first leaves what the next begins with
 pub holds_back_then : (a b c : State) (P Q : State → Type 0) → (HasCleanDisk b → HasCleanDisk a) → HoldsBack P a b → (HasCleanDisk b → P a → Q b) → HoldsBack Q b c → HoldsBack P a c

@@ -67,7 +67,7 @@ abbrev pub grant_row : Grant → Row
 grant_row g =
     number g.number ∷ Null ∷ number g.job ∷ Text g.modem ∷ number g.first_page ∷ number g.last_page ∷ number (call_number g.call) ∷ number g.confirmed ∷ number (shut_number g) ∷ []
 
--- the next three are without the rowid, which says nothing
+-- the next four are without the rowid, which says nothing
 abbrev pub hold_columns : Grant → Row
 hold_columns g = Text g.modem ∷ number g.job ∷ number g.number ∷ []
 
@@ -76,6 +76,10 @@ down_columns modem = Text modem ∷ []
 
 abbrev pub entry_columns : Entry → Row
 entry_columns e = Text e.client ∷ number e.number ∷ Blob e.said ∷ number e.status ∷ Blob e.body ∷ []
+
+-- a number to dial, and how many grants are open to it
+abbrev pub call_columns : List ℕ → ℕ → Row
+call_columns dial open_calls = Text dial ∷ number open_calls ∷ []
 
 abbrev pub meta_row : Queue → Row
 meta_row m = number 1 ∷ Null ∷ number m.clock ∷ number m.next_job ∷ number m.next_grant ∷ number 1 ∷ []

@@ -1,5 +1,5 @@
--- The six tables and their indexes as the database knows them.
-use Rattle.std.specs.Prelude.{ℕ, true, false, List, [], ◌∷◌, ◌++◌, codes, Option, Some, None, pos}
+-- The seven tables and their indexes as the database knows them.
+use Rattle.std.specs.Prelude.{◌≡◌, ◌⊎◌, ℕ, true, false, List, [], ◌∷◌, ◌++◌, codes, Option, Some, None, pos}
 use Rattle.sqlite.specs.Collation.TheVariants.{Binary}
 use Rattle.sqlite.specs.declared.types.Value.TheVariants.{Null, Int}
 use Rattle.sqlite_schema.specs.declared.schema.Column.{Column}
@@ -62,6 +62,9 @@ replies_tree = 8
 abbrev pub meta_tree : ℕ
 meta_tree = 10
 
+abbrev pub calls_tree : ℕ
+calls_tree = 13
+
 abbrev pub job_columns : List Column
 job_columns =
     integer (codes "job") ∷ text (codes "dial") ∷ text (codes "modem") ∷ text (codes "jobtag") ∷ text (codes "status") ∷ text (codes "extra")
@@ -97,6 +100,14 @@ meta =
     (integer (codes "one") ∷ integer (codes "clock") ∷ integer (codes "next_job") ∷ integer (codes "next_grant") ∷ integer (codes "version") ∷ []) (Some 0) (0 ∷ []) [] []
     (op2 (Compare Eq Binary) (col 1 0) (lit (Int (pos 1))) ∷ [])
 
+-- how many grants are open to each number, in a tree that depends on when the table was made
+abbrev pub calls_at : ℕ → Table
+calls_at tree = table_of (codes "calls") tree (text (codes "dial") ∷ integer (codes "open") ∷ []) None (1 ∷ []) ((1 ∷ []) ∷ []) (plain ∷ []) []
+
+-- where it stands behind the indexes
+abbrev pub calls : Table
+calls = calls_at calls_tree
+
 -- the index that a key of a table with hidden rowids has
 abbrev pub key_index : List ℕ → ℕ → ℕ → List ℕ → Index
 key_index name tree table places = record { name = name; tree = tree; table = table; columns = places; order = plain; is_unique = true }
@@ -111,17 +122,29 @@ down_index = key_index (codes "sqlite_autoindex_down_1") 7 down_tree (1 ∷ [])
 abbrev pub replies_index : Index
 replies_index = key_index (codes "sqlite_autoindex_replies_1") 9 replies_tree (1 ∷ 2 ∷ [])
 
+abbrev pub calls_index_at : ℕ → ℕ → Index
+calls_index_at tree table = key_index (codes "sqlite_autoindex_calls_1") tree table (1 ∷ [])
+
+abbrev pub calls_index : Index
+calls_index = calls_index_at 14 calls_tree
+
 -- an index by which jobs are found without reading the others. It holds no rule.
 abbrev pub jobs_index : List ℕ → ℕ → List ℕ → Index
 jobs_index name tree places = record { name = name; tree = tree; table = jobs_tree; columns = places; order = plain; is_unique = false }
 
 -- by phase and kill time, for those that expire
+abbrev pub killtime_index_at : ℕ → Index
+killtime_index_at tree = jobs_index (codes "jobs_by_killtime") tree (18 ∷ 8 ∷ [])
+
 abbrev pub killtime_index : Index
-killtime_index = jobs_index (codes "jobs_by_killtime") 11 (18 ∷ 8 ∷ [])
+killtime_index = killtime_index_at 11
 
 -- by phase, priority and time to send, for those that wait, in the order of the choice
+abbrev pub choice_index_at : ℕ → Index
+choice_index_at tree = jobs_index (codes "jobs_by_choice") tree (18 ∷ 9 ∷ 7 ∷ [])
+
 abbrev pub choice_index : Index
-choice_index = jobs_index (codes "jobs_by_choice") 12 (18 ∷ 9 ∷ 7 ∷ [])
+choice_index = choice_index_at 12
 
 -- a database with no tables
 abbrev pub no_tables : Schema
@@ -143,7 +166,7 @@ four_tables = record { tables = jobs ∷ grants ∷ holds ∷ down ∷ []; index
 abbrev pub with_replies : Schema
 with_replies = record { tables = jobs ∷ grants ∷ holds ∷ down ∷ replies ∷ []; indexes = holds_indexes ++ down_index ∷ replies_index ∷ []; views = [] }
 
--- The six tables with the indexes of their keys, each with a tree, and no other index.
+-- The six tables that say all of a queue, with the indexes of their keys, each with a tree, and no other index.
 abbrev pub bare_tables : Schema
 bare_tables = record {
   tables = jobs ∷ grants ∷ holds ∷ down ∷ replies ∷ meta ∷ [];
@@ -154,6 +177,38 @@ bare_tables = record {
 abbrev pub with_killtime_index : Schema
 with_killtime_index = record bare_tables { indexes = holds_indexes ++ down_index ∷ replies_index ∷ killtime_index ∷ [] }
 
--- The six tables with all indexes.
+-- The six tables with the indexes by which jobs are found.
 abbrev pub six_tables : Schema
 six_tables = record bare_tables { indexes = holds_indexes ++ down_index ∷ replies_index ∷ killtime_index ∷ choice_index ∷ [] }
+
+-- All seven tables with all indexes: those of a store.
+abbrev pub seven_tables : Schema
+seven_tables = record {
+  tables = jobs ∷ grants ∷ holds ∷ down ∷ replies ∷ meta ∷ calls ∷ [];
+  indexes = holds_indexes ++ down_index ∷ replies_index ∷ killtime_index ∷ choice_index ∷ calls_index ∷ [];
+  views = [];
+}
+
+-- All seven with the indexes of their keys alone, as another program may make them.
+abbrev pub bare_with_calls : Schema
+bare_with_calls = record {
+  tables = jobs ∷ grants ∷ holds ∷ down ∷ replies ∷ meta ∷ calls_at 11 ∷ [];
+  indexes = holds_indexes ++ down_index ∷ replies_index ∷ calls_index_at 12 11 ∷ [];
+  views = [];
+}
+
+-- All seven with all indexes, those of jobs last, as VACUUM leaves them.
+abbrev pub vacuumed_tables : Schema
+vacuumed_tables = record bare_with_calls { indexes = holds_indexes ++ down_index ∷ replies_index ∷ calls_index_at 12 11 ∷ killtime_index_at 13 ∷ choice_index_at 14 ∷ [] }
+
+-- The same with the first of the two.
+abbrev pub vacuumed_with_killtime : Schema
+vacuumed_with_killtime = record bare_with_calls { indexes = holds_indexes ++ down_index ∷ replies_index ∷ calls_index_at 12 11 ∷ killtime_index_at 13 ∷ [] }
+
+-- the tables of a queue in the order of a store: with `calls` or without, with the indexes of jobs or without
+abbrev pub AreInOrder : Schema → Type 0
+AreInOrder schema = (schema ≡ seven_tables) ⊎ ((schema ≡ bare_with_calls) ⊎ ((schema ≡ six_tables) ⊎ (schema ≡ bare_tables)))
+
+-- the tables of a queue
+abbrev pub AreOurs : Schema → Type 0
+AreOurs schema = AreInOrder schema ⊎ (schema ≡ vacuumed_tables)

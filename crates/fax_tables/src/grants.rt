@@ -1,11 +1,11 @@
 //! The grants in rows, and what modems and jobs hold of those that are open.
 
-ghost use Rattle.std.specs.Prelude.{◌≡◌, Option, IfOk, IsTrue};
+ghost use Rattle.std.specs.Prelude.{◌≡◌, ◌<◌, ◌^◌, ℕ, [], ◌∷◌, Option, IfOk, IsTrue};
 ghost use Rattle.fax_core.specs.declared.grants.Grant.{Grant as Granted};
 ghost use Rattle.fax_job.specs.declared.job.Call.{Call as HowItWent};
 ghost use Rattle.fax_tables.specs.Fault.{OrUnavailable};
 ghost use Rattle.fax_tables.specs.Grant.{as_hold, hold_shown, grant_shown, IsWithinLimits, IsLawfulHold, IsOpenGrant};
-ghost use Rattle.fax_tables.specs.Row.{HasNumber, call_number, shut_number};
+ghost use Rattle.fax_tables.specs.Row.{HasNumber, call_number, number, shut_number};
 ghost use Rattle.fax_tables.specs.Tables.{IsLawfulGrant};
 
 use crate::fault::StoreFault;
@@ -109,6 +109,20 @@ pub fn grant_in(alloc: Global, row: &Row) -> Result<Grant, StoreFault>
     } else {
         Err(StoreFault::Strange)
     }
+}
+
+/// How many grants are open, in a row of that number.
+pub fn calls_in(row: &Row) -> Result<u32, StoreFault>
+    ensures { (n : ℕ) → row.now ≡ number n ∷ [] → n < 2 ^ 32 → OrUnavailable result (λ calls. calls ≡ n) }
+{
+    number_at(row, 0)
+}
+
+/// The number of the job that a hold is of, in a row of it.
+pub fn held_job_in(row: &Row) -> Result<u32, StoreFault>
+    ensures { (n : ℕ) → row.now ≡ number n ∷ [] → n < 2 ^ 32 → OrUnavailable result (λ job. job ≡ n) }
+{
+    number_at(row, 0)
 }
 
 impl Hold {

@@ -1,6 +1,6 @@
 //! The jobs in rows.
 
-ghost use Rattle.std.specs.Prelude.{◌≡◌, ℕ, ◌≤◌, List, All, map, Option, IsTrue, unwrap_or};
+ghost use Rattle.std.specs.Prelude.{◌≡◌, ℕ, ◌≤◌, List, [], ◌∷◌, All, map, Option, IsTrue, unwrap_or};
 ghost use Rattle.std.specs.Str.{IsUtf8};
 ghost use Rattle.std.specs.String.{string_bytes};
 ghost use Rattle.sqlite.specs.declared.types.Value.TheVariants.{Text};
@@ -111,6 +111,14 @@ fn dial_at(alloc: Global, row: &Row, at: usize) -> Result<Dial, StoreFault>
 {
     let text = text_at(row, at)?;
     canonical(alloc, text.as_str())
+}
+
+/// The number to dial in a row of it.
+pub fn dial_in(alloc: Global, row: &Row) -> Result<Dial, StoreFault>
+    ensures { (text : List ℕ) → row.now ≡ Text text ∷ [] → IsText IsCanonical text
+        → OrUnavailable result (λ found. found ≡ text) }
+{
+    dial_at(alloc, row, 0)
 }
 
 /// The number that a text in canonical form is.

@@ -1,4 +1,4 @@
-//! The six tables of the fax queue in a database of `sqlite`: how they are made, and how each record stands in its row.
+//! The seven tables of the fax queue in a database of `sqlite`: how they are made, and how each record stands in its row.
 //!
 //! What reads and writes the rows is above, in `fax_store`.
 #![tactic(auto)]
@@ -14,9 +14,9 @@ mod schema;
 mod shape;
 
 pub use fault::{StoreFault, insert_fault};
-pub use grants::{Hold, call_number, grant_in, is_open_grant};
-pub use jobs::{job_in, jobs_in, killtime_number, phase_number, spelling, wish_number};
+pub use grants::{Hold, call_number, calls_in, grant_in, held_job_in, is_open_grant};
+pub use jobs::{dial_in, job_in, jobs_in, killtime_number, phase_number, spelling, wish_number};
 pub use meta::{Meta, PAST_GRANTS, PAST_JOBS, is_version};
-pub use recognize::{has_bare_tables, has_no_tables, has_six_tables};
+pub use recognize::{has_bare_tables, has_calls, has_no_tables, has_ours, is_vacuumed};
 pub use replies::{Kept, is_kept_status, number_value};
-pub use schema::{create_indexes, create_tables};
+pub use schema::{create_calls, create_indexes, create_tables, drop_calls, drop_indexes};

@@ -1,15 +1,17 @@
-//! Which databases have no tables, and which have exactly the six, with their indexes or without.
+//! Which databases have no tables, and which have exactly ours: with `calls` or without, with the indexes of jobs or
+//! without.
 
-ghost use Rattle.std.specs.Prelude.{◌≡◌, ◌↔◌, [], ◌∷◌, map, pos, IsTrue, IfOk};
+ghost use Rattle.std.specs.Prelude.{◌≡◌, ◌⊎◌, ◌↔◌, [], ◌∷◌, ◌++◌, map, pos, IsTrue, IfOk};
 ghost use Rattle.sqlite.specs.declared.types.Value.TheVariants.{Int};
 ghost use Rattle.sqlite_sql.specs.Syntax.{term_of, term_at};
 ghost use Rattle.sqlite_sql.specs.Term.{lit, col};
 ghost use Rattle.sqlite_value.specs.Keys.{plain};
-ghost use Rattle.fax_tables.specs.Schema.{bare_tables, column_of, meta, no_tables, six_tables};
+ghost use Rattle.fax_tables.specs.Schema.{AreInOrder, AreOurs, bare_tables, bare_with_calls, column_of, meta, no_tables, seven_tables, six_tables, vacuumed_tables};
 ghost use Rattle.fax_tables.specs.Shape.{AreKeptTables, AreWorkTables, HasColumns, HasRules, first_is_one, indexed_as, no_stamps, shaped};
 
 use crate::shape::{
-    DOWN, GRANTS, HOLDS, INDEXES, IndexShape, JOBS, KEY_INDEXES, META, PLAIN, REPLIES, Shape,
+    ALL_INDEXES, ALL_KEY_INDEXES, BARE_CALLS, CALLS, DOWN, GRANTS, HOLDS, INDEXES, IndexShape,
+    JOBS, KEY_INDEXES, META, PLAIN, REPLIES, Shape, VACUUMED_INDEXES,
 };
 use sqlite_items::Items;
 use sqlite_schema::code::Terms;
@@ -260,6 +262,19 @@ fn are_tables(alloc: Global, tables: &[Table]) -> Result<bool, AllocError>
     Ok(work && kept)
 }
 
+/// Whether these are the six tables and the calls, in this shape.
+fn are_all_tables(alloc: Global, tables: &[Table], calls: &Shape) -> Result<bool, AllocError>
+    ensures { IfOk result (λ same. IsTrue same ↔ (tables.now ≡ six_tables.tables ++ shaped calls.now [] ∷ [])) }
+{
+    let [jobs, grants, holds, down, replies, meta, last] = tables else {
+        return Ok(false);
+    };
+    let work = are_work_tables(alloc, jobs, grants, holds)?;
+    let kept = are_kept_tables(alloc, down, replies, meta)?;
+    let counted = is_unchecked(alloc, last, calls)?;
+    Ok(work && kept && counted)
+}
+
 /// Whether a database has no tables.
 pub fn has_no_tables(schema: &Schema) -> bool
     ensures { IsTrue result ↔ (schema.now ≡ no_tables) }
@@ -281,4 +296,57 @@ pub fn has_six_tables(alloc: Global, schema: &Schema) -> Result<bool, AllocError
 {
     let same = are_tables(alloc, schema.tables.as_slice())?;
     Ok(same && are_indexes(schema.indexes.as_slice(), INDEXES) && schema.views.is_empty())
+}
+
+/// Whether a database has exactly the seven tables and all indexes.
+fn has_seven_tables(alloc: Global, schema: &Schema) -> Result<bool, AllocError>
+    ensures { IfOk result (λ same. IsTrue same ↔ (schema.now ≡ seven_tables)) }
+{
+    let same = are_all_tables(alloc, schema.tables.as_slice(), &CALLS)?;
+    Ok(same && are_indexes(schema.indexes.as_slice(), ALL_INDEXES) && schema.views.is_empty())
+}
+
+/// Whether a database has exactly the seven tables, with no index but those of their keys.
+fn has_bare_calls(alloc: Global, schema: &Schema) -> Result<bool, AllocError>
+    ensures { IfOk result (λ same. IsTrue same ↔ (schema.now ≡ bare_with_calls)) }
+{
+    let same = are_all_tables(alloc, schema.tables.as_slice(), &BARE_CALLS)?;
+    Ok(same && are_indexes(schema.indexes.as_slice(), ALL_KEY_INDEXES) && schema.views.is_empty())
+}
+
+/// Whether a database has exactly the seven tables, with the indexes of jobs or without.
+pub fn has_calls(alloc: Global, schema: &Schema) -> Result<bool, AllocError>
+    ensures { IfOk result (λ same. IsTrue same ↔ ((schema.now ≡ seven_tables) ⊎ (schema.now ≡ bare_with_calls))) }
+{
+    let indexed = has_seven_tables(alloc, schema)?;
+    let bare = has_bare_calls(alloc, schema)?;
+    Ok(indexed || bare)
+}
+
+/// Whether a database has exactly the seven tables and all indexes, with those of jobs last, as VACUUM orders them.
+pub fn is_vacuumed(alloc: Global, schema: &Schema) -> Result<bool, AllocError>
+    ensures { IfOk result (λ same. IsTrue same ↔ (schema.now ≡ vacuumed_tables)) }
+{
+    let same = are_all_tables(alloc, schema.tables.as_slice(), &BARE_CALLS)?;
+    Ok(same && are_indexes(schema.indexes.as_slice(), VACUUMED_INDEXES) && schema.views.is_empty())
+}
+
+/// Whether a database has the tables of a queue in the order of a store: with `calls` or without, with the indexes of
+/// jobs or without.
+fn are_in_order(alloc: Global, schema: &Schema) -> Result<bool, AllocError>
+    ensures { IfOk result (λ same. IsTrue same ↔ AreInOrder schema.now) }
+{
+    let with_calls = has_calls(alloc, schema)?;
+    let six = has_six_tables(alloc, schema)?;
+    let bare = has_bare_tables(alloc, schema)?;
+    Ok(with_calls || six || bare)
+}
+
+/// Whether a database has the tables of a queue.
+pub fn has_ours(alloc: Global, schema: &Schema) -> Result<bool, AllocError>
+    ensures { IfOk result (λ same. IsTrue same ↔ AreOurs schema.now) }
+{
+    let in_order = are_in_order(alloc, schema)?;
+    let vacuumed = is_vacuumed(alloc, schema)?;
+    Ok(in_order || vacuumed)
 }

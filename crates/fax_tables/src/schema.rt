@@ -1,13 +1,13 @@
-//! The six tables and their indexes.
+//! The seven tables and their indexes.
 
 ghost use Rattle.std.specs.Prelude.{[], ◌≤◌, OnErr, OnOk};
 ghost use Rattle.sqlite.specs.Held.{state};
 ghost use Rattle.sqlite.specs.View.{doubt};
 ghost use Rattle.sqlite.specs.State.{HasCleanDisk, KeepsCommit};
 ghost use Rattle.fax_core.specs.Queue.{empty_queue};
-ghost use Rattle.fax_tables.specs.Schema.{no_tables, four_tables, bare_tables, six_tables};
+ghost use Rattle.fax_tables.specs.Schema.{no_tables, four_tables, bare_tables, seven_tables};
 ghost use Rattle.fax_tables.specs.Stop.{HoldsBack};
-ghost use Rattle.fax_tables.specs.Tables.{GoesOn, HasEmptyTables, HasTablesAlone, IsIndexed, TablesMean};
+ghost use Rattle.fax_tables.specs.Tables.{GoesOn, HasCallsBeside, HasEmptyTables, HasNewCalls, HasSixTables, HasTablesAlone, IsIndexed, LacksCalls, TablesMean, IsVacuumed, LosesIndexes};
 
 use sqlite::{Alter, Connection, Error};
 
@@ -41,10 +41,19 @@ const CREATE_KILLTIME_INDEX: &str = "CREATE INDEX jobs_by_killtime ON jobs (phas
 
 const CREATE_CHOICE_INDEX: &str = "CREATE INDEX jobs_by_choice ON jobs (phase, priority, tts)";
 
+const CREATE_CALLS: &str =
+    "CREATE TABLE calls (dial TEXT PRIMARY KEY NOT NULL, open INTEGER NOT NULL) STRICT";
+
+const DROP_CALLS: &str = "DROP TABLE calls";
+
+const DROP_CHOICE_INDEX: &str = "DROP INDEX jobs_by_choice";
+
+const DROP_KILLTIME_INDEX: &str = "DROP INDEX jobs_by_killtime";
+
 const INSERT_META: &str =
     "INSERT INTO meta (one, clock, next_job, next_grant, version) VALUES (1, 0, 1, 1, 1)";
 
-/// Makes the six tables and their indexes in a database without any, with no rows but the one of meta. Inside a
+/// Makes the seven tables and their indexes in a database without any, with no rows but the one of meta. Inside a
 /// transaction nothing is committed.
 pub fn create_tables<S: Alter>(conn: &mut Connection<S>) -> Result<(), Error>
     ensures made { HasCleanDisk (state S.Store conn.new) → OnOk result
@@ -58,6 +67,7 @@ pub fn create_tables<S: Alter>(conn: &mut Connection<S>) -> Result<(), Error>
     create_work_tables(conn)?;
     create_kept_tables(conn)?;
     create_indexes(conn)?;
+    create_calls(conn)?;
     fill_meta(conn)
 }
 
@@ -108,14 +118,60 @@ pub fn create_indexes<S: Alter>(conn: &mut Connection<S>) -> Result<(), Error>
     Ok(())
 }
 
+/// Makes the table of calls, with no rows. Those of the six tables stay as they are, and inside a transaction nothing is
+/// committed.
+pub fn create_calls<S: Alter>(conn: &mut Connection<S>) -> Result<(), Error>
+    ensures made { HasCleanDisk (state S.Store conn.new) → OnOk result
+        (HasSixTables (state S.Store conn.old) → GoesOn (state S.Store conn.old) (state S.Store conn.new)
+        × HasNewCalls (state S.Store conn.old).now (state S.Store conn.new).now) }
+    ensures kept { HasCleanDisk (state S.Store conn.new) → OnErr result
+        (KeepsCommit (state S.Store conn.old) (state S.Store conn.new)) }
+    ensures crash { HoldsBack HasSixTables (state S.Store conn.old) (state S.Store conn.new) }
+    ensures doubt { doubt (state S.Store conn.old).is_clean ≤ doubt (state S.Store conn.new).is_clean }
+{
+    conn.execute(CREATE_CALLS, &[])?;
+    Ok(())
+}
+
+/// Takes the table of calls away, whatever its rows are. Those of the six tables stay as they are, and inside a
+/// transaction nothing is committed.
+pub fn drop_calls<S: Alter>(conn: &mut Connection<S>) -> Result<(), Error>
+    ensures made { HasCleanDisk (state S.Store conn.new) → OnOk result
+        (HasCallsBeside (state S.Store conn.old) → GoesOn (state S.Store conn.old) (state S.Store conn.new)
+        × LacksCalls (state S.Store conn.old).now (state S.Store conn.new).now) }
+    ensures kept { HasCleanDisk (state S.Store conn.new) → OnErr result
+        (KeepsCommit (state S.Store conn.old) (state S.Store conn.new)) }
+    ensures crash { HoldsBack HasCallsBeside (state S.Store conn.old) (state S.Store conn.new) }
+    ensures doubt { doubt (state S.Store conn.old).is_clean ≤ doubt (state S.Store conn.new).is_clean }
+{
+    conn.execute(DROP_CALLS, &[])?;
+    Ok(())
+}
+
+/// Takes the indexes by which jobs are found away, where they are the last. The rows stay as they are, and inside a
+/// transaction nothing is committed.
+pub fn drop_indexes<S: Alter>(conn: &mut Connection<S>) -> Result<(), Error>
+    ensures made { HasCleanDisk (state S.Store conn.new) → OnOk result
+        (IsVacuumed (state S.Store conn.old) → GoesOn (state S.Store conn.old) (state S.Store conn.new)
+        × LosesIndexes (state S.Store conn.old).now (state S.Store conn.new).now) }
+    ensures kept { HasCleanDisk (state S.Store conn.new) → OnErr result
+        (IsVacuumed (state S.Store conn.old) → KeepsCommit (state S.Store conn.old) (state S.Store conn.new)) }
+    ensures crash { HoldsBack IsVacuumed (state S.Store conn.old) (state S.Store conn.new) }
+    ensures doubt { doubt (state S.Store conn.old).is_clean ≤ doubt (state S.Store conn.new).is_clean }
+{
+    conn.execute(DROP_CHOICE_INDEX, &[])?;
+    conn.execute(DROP_KILLTIME_INDEX, &[])?;
+    Ok(())
+}
+
 /// Puts in the row of the clock and next numbers, as an empty store has it.
 fn fill_meta<S: Alter>(conn: &mut Connection<S>) -> Result<(), Error>
     ensures made { HasCleanDisk (state S.Store conn.new) → OnOk result
-        (HasEmptyTables six_tables (state S.Store conn.old) → GoesOn (state S.Store conn.old) (state S.Store conn.new)
+        (HasEmptyTables seven_tables (state S.Store conn.old) → GoesOn (state S.Store conn.old) (state S.Store conn.new)
         × TablesMean (state S.Store conn.new).now empty_queue []) }
     ensures kept { HasCleanDisk (state S.Store conn.new) → OnErr result
         (KeepsCommit (state S.Store conn.old) (state S.Store conn.new)) }
-    ensures crash { HoldsBack (HasEmptyTables six_tables) (state S.Store conn.old) (state S.Store conn.new) }
+    ensures crash { HoldsBack (HasEmptyTables seven_tables) (state S.Store conn.old) (state S.Store conn.new) }
     ensures doubt { doubt (state S.Store conn.old).is_clean ≤ doubt (state S.Store conn.new).is_clean }
 {
     conn.execute(INSERT_META, &[])?;

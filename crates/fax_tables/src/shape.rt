@@ -1,4 +1,4 @@
-//! The shapes of the six tables and of their indexes.
+//! The shapes of the tables and of their indexes.
 
 use sqlite_schema::schema::Kind;
 use sqlite_value::keys::Order;
@@ -116,6 +116,26 @@ pub(crate) const META: Shape = Shape {
     uniques: &[],
 };
 
+/// The calls, where the table was made behind the indexes.
+pub(crate) const CALLS: Shape = Shape {
+    name: "calls",
+    tree: 13,
+    columns: &[("dial", Kind::Text), ("open", Kind::Integer)],
+    key: None,
+    primary: &[1],
+    uniques: &[&[1]],
+};
+
+/// The same, where there are no indexes but those of keys.
+pub(crate) const BARE_CALLS: Shape = Shape {
+    name: "calls",
+    tree: 11,
+    columns: &[("dial", Kind::Text), ("open", Kind::Integer)],
+    key: None,
+    primary: &[1],
+    uniques: &[&[1]],
+};
+
 /// The index that a key of a table has, or one that a table has beside its keys.
 pub(crate) struct IndexShape {
     pub(crate) name: &'static str,
@@ -181,7 +201,39 @@ const JOBS_BY_CHOICE: IndexShape = IndexShape {
     is_unique: false,
 };
 
-/// The indexes of the keys.
+const VACUUMED_BY_KILLTIME: IndexShape = IndexShape {
+    name: "jobs_by_killtime",
+    tree: 13,
+    table: 0,
+    places: &[18, 8],
+    is_unique: false,
+};
+
+const VACUUMED_BY_CHOICE: IndexShape = IndexShape {
+    name: "jobs_by_choice",
+    tree: 14,
+    table: 0,
+    places: &[18, 9, 7],
+    is_unique: false,
+};
+
+const CALLS_DIAL: IndexShape = IndexShape {
+    name: "sqlite_autoindex_calls_1",
+    tree: 14,
+    table: 13,
+    places: &[1],
+    is_unique: true,
+};
+
+const BARE_CALLS_DIAL: IndexShape = IndexShape {
+    name: "sqlite_autoindex_calls_1",
+    tree: 12,
+    table: 11,
+    places: &[1],
+    is_unique: true,
+};
+
+/// The indexes of the keys of the six tables.
 pub(crate) const KEY_INDEXES: &[IndexShape] = &[
     HOLDS_MODEM,
     HOLDS_JOB,
@@ -199,4 +251,38 @@ pub(crate) const INDEXES: &[IndexShape] = &[
     REPLIES_KEY,
     JOBS_BY_KILLTIME,
     JOBS_BY_CHOICE,
+];
+
+/// These and the one of the key of the calls.
+pub(crate) const ALL_INDEXES: &[IndexShape] = &[
+    HOLDS_MODEM,
+    HOLDS_JOB,
+    HOLDS_ID,
+    DOWN_MODEM,
+    REPLIES_KEY,
+    JOBS_BY_KILLTIME,
+    JOBS_BY_CHOICE,
+    CALLS_DIAL,
+];
+
+/// The indexes of the keys of all seven.
+pub(crate) const ALL_KEY_INDEXES: &[IndexShape] = &[
+    HOLDS_MODEM,
+    HOLDS_JOB,
+    HOLDS_ID,
+    DOWN_MODEM,
+    REPLIES_KEY,
+    BARE_CALLS_DIAL,
+];
+
+/// These and those by which jobs are found, as VACUUM orders them.
+pub(crate) const VACUUMED_INDEXES: &[IndexShape] = &[
+    HOLDS_MODEM,
+    HOLDS_JOB,
+    HOLDS_ID,
+    DOWN_MODEM,
+    REPLIES_KEY,
+    BARE_CALLS_DIAL,
+    VACUUMED_BY_KILLTIME,
+    VACUUMED_BY_CHOICE,
 ];

@@ -6,7 +6,7 @@ use Rattle.sqlite.specs.State.{State}
 use Rattle.sqlite_trees.specs.Tree.{Trees}
 use Rattle.sqlite_wal.specs.Recovery.{Image}
 use Rattle.fax_core.specs.Queue.{empty_queue}
-use Rattle.fax_store.specs.Adopt.{IsOurs, TakesRows}
+use Rattle.fax_store.specs.Adopt.{HasWhole, IsOurs}
 use Rattle.fax_tables.specs.Schema.{no_tables}
 use Rattle.fax_tables.specs.Tables.{IsAtRest}
 
@@ -15,9 +15,9 @@ pub record AreHeld (image : Image) (trees : Trees) : Type 0 where
   pub holds : (held : Trees) → HoldsDatabase image held → trees ≡ held
   pub reads : AreFoundIn image trees
 
--- a database with no tables has become an empty queue's, and one with ours has the rows that it had, with the indexes
+-- a database with no tables has become an empty queue's, and one with ours has all tables, and the rows that it had
 abbrev pub IsTaken : Database → State → Type 0
-IsTaken found new = ((found.schema ≡ no_tables) × IsAtRest new empty_queue []) ⊎ (IsOurs found × TakesRows found new)
+IsTaken found new = ((found.schema ≡ no_tables) × IsAtRest new empty_queue []) ⊎ (IsOurs found × HasWhole new found)
 
 -- the database was found in the files, and was taken
 pub record IsFound (image : Image) (new : State) : Type 0 where

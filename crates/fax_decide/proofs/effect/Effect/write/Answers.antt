@@ -71,7 +71,7 @@ returns-in-Marked-clause-cause g c m₀ m k₀ k works s fits = c.set_down.ensur
 pub returns-in_ok-put_change-in-NewGrant-clause-cause : goal.returns-in_ok-put_change-in-NewGrant-clause-cause
 returns-in_ok-put_change-in-NewGrant-clause-cause g c m₀ m k₀ k works s fits =
     let fit = subst (λ e. IsWritable e m) c.in-NewGrant.is fits in
-    c.put_grant.ensures.cause m₀ _ k₀ _ (c.put_change-in-NewGrant.ensures.changes m₀ m k₀ k fit.suits works) s (fit.within.0, fit.free, fit.within.1)
+    c.put_grant.ensures.cause m₀ _ k₀ _ (c.put_change-in-NewGrant.ensures.changes m₀ m k₀ k fit.suits works) s (fit.within.0, fit.free.0, fit.free.1, fit.within.1)
 
 pub returns-in_ok-put_change-in-Reported-clause-cause : goal.returns-in_ok-put_change-in-Reported-clause-cause
 returns-in_ok-put_change-in-Reported-clause-cause g c m₀ m k₀ k works s fits = c.put_report.ensures.cause (subst (λ e. IsWithin e m) c.in-Reported.is fits.within)
@@ -87,3 +87,8 @@ returns-in_ok-put_change-in-Reported-clause-crash g c =
 pub returns-in_ok-put_change-in-Closed-clause-crash : goal.returns-in_ok-put_change-in-Closed-clause-crash
 returns-in_ok-put_change-in-Closed-clause-crash g c =
     withholds_then (state g.S.Store c.args.work.now.store.now.conn) (state g.S.Store c.put_change-in-Closed.new.self.store.now.conn) (state g.S.Store c.close_grant.new.self.store.now.conn) _ c.put_change-in-Closed.ensures.crash c.close_grant.ensures.crash
+
+pub returns-in_ok-put_change-in-Closed-clause-cause : goal.returns-in_ok-put_change-in-Closed-clause-cause
+returns-in_ok-put_change-in-Closed-clause-cause g c m₀ m k₀ k works s fits =
+    let fit = subst (λ e. IsWritable e m) c.in-Closed.is fits in
+    c.close_grant.ensures.cause m₀ _ k₀ _ (c.put_change-in-Closed.ensures.changes m₀ m k₀ k fit.suits works) s tt

@@ -6,8 +6,8 @@ use Rattle.fax_store.proofs.store.Store.active_to.Goals as goal
 
 pub returns-clause-stays : goal.returns-clause-stays
 returns-clause-stays g c =
-    stays_by (state g.S.Store c.args.self.now.conn) (state g.S.Store c.read_calls.new.self.conn) c.read_calls.ensures.served c.read_calls.result c.read_calls.ensures.reads
+    stays_by (state g.S.Store c.args.self.now.conn) (state g.S.Store c.count_calls.new.self.conn) c.count_calls.ensures.served c.count_calls.result c.count_calls.ensures.reads
 
 pub returns-clause-found : goal.returns-clause-found
 returns-clause-found g c =
-    found_by (state g.S.Store c.args.self.now.conn) (state g.S.Store c.read_calls.new.self.conn) c.read_calls.ensures.served c.read_calls.result c.read_calls.ensures.reads (λ m k calls. calls ≡ calls_to c.args.dial.now m) c.read_calls.ensures.answers
+    found_by (state g.S.Store c.args.self.now.conn) (state g.S.Store c.count_calls.new.self.conn) c.count_calls.ensures.served c.count_calls.result c.count_calls.ensures.reads (λ m k calls. calls ≡ calls_to c.args.dial.now m) c.count_calls.ensures.answers

@@ -63,7 +63,7 @@ returns-in_err-insert_grant-clause-cause g c m₀ m k₀ k works s fits =
     let old = state g.S.Store c.args.self.now.conn in
     let read = state g.S.Store c.read_meta.new.self.conn in
     let first = goes_on old read c.read_meta.ensures.served (Ok c.in_ok-meta.meta) c.in_ok-meta.ensures.reads (λ m k meta. meta ≡ meta_of m) c.in_ok-meta.ensures.answers m₀ m k₀ k works (c.insert_grant.ensures.served s) in
-    refused_as c.from_residual-in_err-insert_grant.result c.in_err-insert_grant.field-0.0 c.from_residual-in_err-insert_grant.ensures.1 (c.in_err-insert_grant.ensures.cause m₀ m k₀ k (λ _. first.1) s (fits.0, fits.1))
+    refused_as c.from_residual-in_err-insert_grant.result c.in_err-insert_grant.field-0.0 c.from_residual-in_err-insert_grant.ensures.1 (c.in_err-insert_grant.ensures.cause m₀ m k₀ k (λ _. first.1) s (fits.0, fits.1, fits.2))
 
 pub returns-in_err-insert_grant-clause-holds : goal.returns-in_err-insert_grant-clause-holds
 returns-in_err-insert_grant-clause-holds g c =

@@ -6,7 +6,7 @@ use Rattle.fax_tables.specs.Row.{number}
 use Rattle.fax_store.specs.Store.{HasRun}
 use Rattle.fax_store.proofs.MetaLemmas.{meta_written, meta_shows}
 use Rattle.fax_store.proofs.WorkLemmas.{step_by}
-use Rattle.fax_store.proofs.StatementLemmas.{change_text, edit_text}
+use Rattle.fax_store.proofs.StatementLemmas.{edit_text}
 use Rattle.fax_store.proofs.StatementTexts as texts
 use Rattle.fax_store.proofs.store.Store.write_meta.Goals as goal
 
@@ -17,7 +17,7 @@ returns-clause-written g c m₀ m k₀ k works s lawful =
     let meta = c.args.meta in
     let params = number meta.clock ∷ number meta.next_job ∷ number meta.next_grant ∷ [] in
     let ran : OnOk c.run.result (HasRun UPDATE_META.now params old new) = subst (λ p. OnOk c.run.result (HasRun UPDATE_META.now p old new)) (search rules) (c.run.ensures.ran s.clean) in
-    step_by old new UPDATE_META.now params 10 c.run.result m₀ m (with_meta meta m) k₀ k k c.run.ensures.served works s ran (c.run.ensures.left s.clean) (c.run.ensures.cause (change_text UPDATE_META.now _ tt texts.update_meta))
+    step_by old new UPDATE_META.now params 10 c.run.result m₀ m (with_meta meta m) k₀ k k c.run.ensures.served works s ran (c.run.ensures.left s.clean) (c.run.ensures.cause)
     (λ means has. (meta_written old new m k means meta.clock meta.next_job meta.next_grant lawful has, meta_shows old new m k means meta.clock meta.next_job meta.next_grant has))
 
 pub run-requires : goal.run-requires

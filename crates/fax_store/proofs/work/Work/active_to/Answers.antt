@@ -8,19 +8,19 @@ use Rattle.fax_store.proofs.work.Work.active_to.Goals as goal
 pub returns-clause-keeps : goal.returns-clause-keeps
 returns-clause-keeps g c =
     rw (c.if-self.false, c.is_err-self.ensures.value)
-    (keeps_by (state g.S.Store c.args.self.now.store.now.conn) (state g.S.Store c.read_calls-found.new.self.conn) c.read_calls-found.ensures.served c.read_calls-found.result c.read_calls-found.ensures.reads (λ m k calls. calls ≡ calls_to c.args.dial.now m) c.read_calls-found.ensures.answers)
+    (keeps_by (state g.S.Store c.args.self.now.store.now.conn) (state g.S.Store c.count_calls-found.new.self.conn) c.count_calls-found.ensures.served c.count_calls-found.result c.count_calls-found.ensures.reads (λ m k calls. calls ≡ calls_to c.args.dial.now m) c.count_calls-found.ensures.answers)
 
 pub returns-clause-found : goal.returns-clause-found
 returns-clause-found g c =
     rw c.if-self.false
-    (found_in (state g.S.Store c.args.self.now.store.now.conn) (state g.S.Store c.read_calls-found.new.self.conn) c.read_calls-found.ensures.served c.read_calls-found.result c.read_calls-found.ensures.reads (λ m k calls. calls ≡ calls_to c.args.dial.now m) c.read_calls-found.ensures.answers)
+    (found_in (state g.S.Store c.args.self.now.store.now.conn) (state g.S.Store c.count_calls-found.new.self.conn) c.count_calls-found.ensures.served c.count_calls-found.result c.count_calls-found.ensures.reads (λ m k calls. calls ≡ calls_to c.args.dial.now m) c.count_calls-found.ensures.answers)
 
 pub returns-clause-holds : goal.returns-clause-holds
 returns-clause-holds g c =
     rw (c.if-self.false, c.is_err-self.ensures.value)
-    (holds_by (state g.S.Store c.args.self.now.store.now.conn) (state g.S.Store c.read_calls-found.new.self.conn) c.read_calls-found.ensures.served c.read_calls-found.result c.read_calls-found.ensures.reads)
+    (holds_by (state g.S.Store c.args.self.now.store.now.conn) (state g.S.Store c.count_calls-found.new.self.conn) c.count_calls-found.ensures.served c.count_calls-found.result c.count_calls-found.ensures.reads)
 
 pub returns-clause-crash : goal.returns-clause-crash
 returns-clause-crash g c =
     rw (c.if-self.false, c.is_err-self.ensures.value)
-    (withholds_by (state g.S.Store c.args.self.now.store.now.conn) (state g.S.Store c.read_calls-found.new.self.conn) c.read_calls-found.ensures.clean c.read_calls-found.result c.read_calls-found.ensures.reads c.read_calls-found.ensures.crash)
+    (withholds_by (state g.S.Store c.args.self.now.store.now.conn) (state g.S.Store c.count_calls-found.new.self.conn) c.count_calls-found.ensures.clean c.count_calls-found.result c.count_calls-found.ensures.reads c.count_calls-found.ensures.crash)

@@ -1,8 +1,9 @@
-use Rattle.std.proofs.Common.{List}
+use Rattle.std.proofs.Common.{List, subst}
 use Rattle.sqlite.specs.Held.{state}
 use Rattle.fax_core.specs.Queue.{Entry}
 use Rattle.fax_store.specs.Grant.{with_closed}
-use Rattle.fax_store.proofs.WorkLemmas.{changes_by}
+use Rattle.fax_store.specs.Work.{Works}
+use Rattle.fax_store.proofs.WorkLemmas.{changes_by, steps_fault}
 use Rattle.fax_store.proofs.work.Work.close_grant.Goals as goal
 
 pub returns-clause-changes : goal.returns-clause-changes
@@ -15,3 +16,8 @@ returns-clause-holds g c = rw (c.if-self.false, c.is_err-self.ensures.value) c.s
 
 pub returns-clause-crash : goal.returns-clause-crash
 returns-clause-crash g c = rw (c.if-self.false, c.is_err-self.ensures.value) c.shut_grant-done.ensures.crash
+
+pub returns-clause-cause : goal.returns-clause-cause
+returns-clause-cause g c m₀ m k₀ k works s fits =
+    steps_fault (state g.S.Store c.shut_grant-done.new.self.conn) c.shut_grant-done.result m₀ (with_closed c.args.number m) k₀ k
+    (c.shut_grant-done.ensures.written m₀ m k₀ k (subst (λ b. Works (state g.S.Store c.args.self.now.store.now.conn) b m₀ k₀ m k) c.if-self.false works) s)

@@ -1,10 +1,12 @@
 //! Rows that no call of ours writes: what reads them refuses each as strange.
-use fax_tables::{Hold, Kept, Meta, StoreFault, create_tables, grant_in, job_in};
+use fax_tables::{
+    Hold, Kept, Meta, StoreFault, calls_in, create_tables, dial_in, grant_in, held_job_in, job_in,
+};
 use sqlite::{Connection, Row};
 use std::alloc::Global;
 use std::test::Fail;
 
-const RECORDS: [&str; 4] = [
+const RECORDS: [&str; 5] = [
     "INSERT INTO jobs (job, dial, modem, jobtag, status, extra, tts, killtime, priority, npages, \
         totpages, ntries, tottries, maxtries, ndials, totdials, maxdials, phase, wish, next) \
         VALUES (1, '5550111', 'any', 'memo', 'Busy', 'x-note:a b\n', 1000, 5000, 127, 1, \
@@ -13,6 +15,7 @@ const RECORDS: [&str; 4] = [
         VALUES (1, 1, 'ttyS0', 2, 3, 0, 0, 0)",
     "INSERT INTO holds (modem, job, id) VALUES ('ttyS0', 1, 1)",
     "INSERT INTO replies (client, number, said, status, body) VALUES ('ann', 1, x'2f', 200, x'')",
+    "INSERT INTO calls (dial, open) VALUES ('5550111', 1)",
 ];
 
 /// A record of one of the tables.
@@ -23,6 +26,9 @@ enum Record {
     Hold,
     Numbers,
     Reply,
+    Calls,
+    HeldJob,
+    Dial,
 }
 
 /// The query for a record's row.
@@ -39,6 +45,9 @@ fn query_of(record: Record) -> &'static str {
         Record::Hold => "SELECT id, job FROM holds",
         Record::Numbers => "SELECT clock, next_job, next_grant FROM meta",
         Record::Reply => "SELECT said, status, body FROM replies",
+        Record::Calls => "SELECT open FROM calls",
+        Record::HeldJob => "SELECT job FROM holds",
+        Record::Dial => "SELECT dial FROM jobs",
     }
 }
 
@@ -62,6 +71,9 @@ fn read_after(alloc: Global, change: &str, record: Record) -> Result<Option<Stor
         Record::Hold => Hold::in_row(&row).err(),
         Record::Numbers => Meta::in_row(&row).err(),
         Record::Reply => Kept::in_row(&row).err(),
+        Record::Calls => calls_in(&row).err(),
+        Record::HeldJob => held_job_in(&row).err(),
+        Record::Dial => dial_in(alloc, &row).err(),
     })
 }
 
@@ -77,6 +89,9 @@ fn rows_within_their_limits_are_read(rt: HostRuntime) -> Result<(), Fail> {
         ("UPDATE holds SET job = 999999", Record::Hold),
         ("UPDATE meta SET next_job = 1000000", Record::Numbers),
         ("UPDATE replies SET status = 201", Record::Reply),
+        ("UPDATE calls SET open = 4294967295", Record::Calls),
+        ("UPDATE holds SET job = 999999", Record::HeldJob),
+        ("UPDATE jobs SET dial = '+14155550100'", Record::Dial),
     ] {
         let fault = read_after(rt.alloc(), change, record)?;
         assert_eq!(rt; fault, None, "{change}");
@@ -108,6 +123,10 @@ fn rows_past_their_limits_are_strange(rt: HostRuntime) -> Result<(), Fail> {
         ("UPDATE meta SET next_job = 1000001", Record::Numbers),
         ("UPDATE meta SET clock = -1", Record::Numbers),
         ("UPDATE replies SET status = 202", Record::Reply),
+        ("UPDATE calls SET open = 4294967296", Record::Calls),
+        ("UPDATE calls SET open = -1", Record::Calls),
+        ("UPDATE holds SET job = 4294967296", Record::HeldJob),
+        ("UPDATE jobs SET dial = '555 0111'", Record::Dial),
     ] {
         let fault = read_after(rt.alloc(), change, record)?;
         assert_eq!(rt; fault, Some(StoreFault::Strange), "{change}");

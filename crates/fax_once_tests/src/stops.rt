@@ -45,13 +45,14 @@ const ENOUGH: u64 = 1000;
 const HALVINGS: u32 = 10;
 
 /// Each table's rows, in their order.
-const TABLES: [&str; 6] = [
+const TABLES: [&str; 7] = [
     "SELECT * FROM jobs",
     "SELECT * FROM grants",
     "SELECT * FROM holds",
     "SELECT * FROM down",
     "SELECT * FROM meta",
     "SELECT * FROM replies",
+    "SELECT * FROM calls",
 ];
 
 /// A file that holds these bytes.

@@ -1,0 +1,9 @@
+//! Tests of messages on the line, whose reads and writes the tests choose.
+#![tactic(auto)]
+
+#[cfg(test)]
+mod loopback;
+#[cfg(test)]
+mod queues;
+#[cfg(test)]
+mod serving;

@@ -1,0 +1,295 @@
+-- What the texts show by which a store counts what is held.
+use Rattle.std.proofs.Common.{◌≡◌, inl, inr, ◌<◌, ◌≤◌, ◌^◌, ◌+◌, ℕ, zero, suc, List, [], ◌∷◌, ◌++◌, map, filter, flat_map, drop, take, length, Bool, true, false, cond, ◌&&◌, if◌then◌else◌, Option, Some, codes, refl, sym, ap, ap₂, subst, ◌∙◌, arith}
+use Rattle.std.specs.Prelude.{◌==◌}
+use Rattle.std.specs.List.{list_all}
+use Rattle.std.specs.Option.{option_map}
+use Rattle.std.specs.Str.{bytes_eq}
+use Rattle.std.specs.List.Sorted.{IsPermutation}
+use Rattle.std.proofs.lemmas.Bool.{cases_Bool, eqb-true}
+use Rattle.std.proofs.lemmas.Slice.Eq.{bytes_eq-Decides}
+use Rattle.std.proofs.lemmas.List.Sorted.{IsPermutation-map, IsPermutation-sym, IsPermutation-trans, length_permutation}
+use Rattle.sqlite.specs.Effect.{Database}
+use Rattle.sqlite.specs.Order.{Row, column}
+use Rattle.sqlite.specs.Program.{overlay}
+use Rattle.sqlite.specs.Query.{IsAnswer, output, Output, or_nulls}
+use Rattle.sqlite.specs.State.{State, Shown}
+use Rattle.sqlite.specs.Tree.{IsTable}
+use Rattle.sqlite.specs.declared.types.Value.{Value}
+use Rattle.sqlite.specs.declared.types.Value.TheVariants.{Null, Int, Real, Text, Blob}
+use Rattle.sqlite.proofs.Callers.{reads_as}
+use Rattle.sqlite_rules.specs.Lists.{Has}
+use Rattle.sqlite_rules.proofs.ProbeLemmas.{mapped_has}
+use Rattle.sqlite_rules.proofs.ListLemmas.{has_filtered, has_found, has_kept}
+use Rattle.sqlite_catalog.specs.Change.{KeepsRows}
+use Rattle.sqlite_sql.specs.Ops.{binary, is_null, is_true}
+use Rattle.sqlite_sql.specs.declared.ops.BinaryOp.TheVariants.{Is}
+use Rattle.sqlite.specs.Collation.TheVariants.{Binary}
+use Rattle.sqlite_sql.specs.Term.{Env, holds}
+use Rattle.sqlite_value.specs.Order.{value_cmp}
+use Rattle.sqlite_trees.proofs.ListLemmas.{IsPermutation-filter, filter-map, map-map}
+use Rattle.fax_core.specs.Job.{Job}
+use Rattle.fax_core.specs.Queue.{Queue, Entry, job_numbered, open_grants}
+use Rattle.fax_core.specs.State.{calls_to, is_of_number}
+use Rattle.fax_core.specs.declared.grants.Grant.{Grant}
+use Rattle.fax_store.specs.Adopt.{AreOfJobs, HoldJobs, IsOf, held_to, is_to}
+use Rattle.fax_store.specs.Grant.{SetsCalls, with_count}
+use Rattle.fax_store.specs.Store.{FindsRow}
+use Rattle.fax_store.specs.declared.adopt.TheConstants.{SELECT_DIAL, SELECT_HELD, SELECT_LOST}
+use Rattle.fax_job.specs.Dial.{IsCanonical}
+use Rattle.fax_tables.specs.Job.{IsLawfulJob, IsText}
+use Rattle.fax_tables.specs.Row.{number, hold_columns}
+use Rattle.fax_tables.specs.Schema.{calls_tree, holds_tree, jobs_tree, seven_tables, six_tables}
+use Rattle.fax_tables.specs.Tables.{RowsMean, TablesMean}
+use Rattle.fax_tables.proofs.ColumnLemmas.{record_of}
+use Rattle.fax_tables.proofs.CompareLemmas.{are_equal, number_same}
+use Rattle.fax_tables.proofs.CreateLemmas.{kept_rows}
+use Rattle.fax_tables.proofs.EditLemmas.{has_mapped, has_permuted}
+use Rattle.fax_tables.proofs.IndexLemmas.{length_map}
+use Rattle.fax_tables.proofs.KeyLemmas.{found_holds, numbered_found}
+use Rattle.fax_tables.proofs.SelectLemmas.{answers, passes, show}
+use Rattle.fax_tables.proofs.TablesLemmas.{counted_as, row_of, rows_mean}
+use Rattle.fax_store.proofs.CandidateLemmas.{within}
+use Rattle.fax_store.proofs.CountLemmas.{at_most_all, grants_few, one, turned}
+use Rattle.fax_store.proofs.StatementTexts.{dial_project, held_project, job_tests, lost_on, lost_query, lost_tests, select_dial, select_held, select_lost}
+
+every : {A : Type 0} (xs : List A) → filter (λ _. true) xs ≡ xs
+every [] = refl
+every (x ∷ xs) = ap (λ ys. x ∷ ys) (every xs)
+
+-- ---- a hold whose job isn't there
+
+no_parts : {A : Type 0} (xs ys : List A) → xs ++ ys ≡ [] → (xs ≡ []) × (ys ≡ [])
+no_parts [] ys e = (refl, e)
+no_parts (x ∷ xs) ys e = absurd cc
+
+none_each : {A B : Type 0} (f : A → List B) (xs : List A) (x : A) → flat_map f xs ≡ [] → Has xs x → f x ≡ []
+none_each f [] x none has = absurd has
+none_each f (y ∷ xs) x none (inl is) = ap f is ∙ (no_parts (f y) (flat_map f xs) none).0
+none_each f (y ∷ xs) x none (inr more) = none_each f xs x (no_parts (f y) (flat_map f xs) none).1 more
+
+each_none : {A B : Type 0} (f : A → List B) (xs : List A) → ((x : A) → Has xs x → f x ≡ []) → flat_map f xs ≡ []
+each_none f [] none = refl
+each_none f (x ∷ xs) none = ap₂ ◌++◌ (none x (inl refl)) (each_none f xs (λ y has. none y (inr has)))
+
+no_length : {A : Type 0} (xs : List A) → length xs ≡ 0 → xs ≡ []
+no_length [] e = refl
+no_length (x ∷ xs) e = absurd (omega (arith, e))
+
+-- SQL's v IS NULL
+abbrev lost_value : Value → Bool
+lost_value v = is_true (binary (Is Binary) v Null)
+
+is_lost : (v : Value) → lost_value v ≡ is_null v
+unfolding binary value_cmp lib.Ieee.is_nan lib.Ieee.lt
+is_lost Null = refl
+is_lost (Int n) = refl
+is_lost (Real x) = refl
+is_lost (Text t) = refl
+is_lost (Blob b) = refl
+
+-- what SQL finds equal to a value is not NULL
+not_lost : (a b : Value) → are_equal a b ≡ true → is_null a ≡ false
+unfolding binary
+not_lost a b h = elim (cases_Bool (is_null a)) [
+  | inl on ↦ absurd (let no = rw on at h in cc)
+  | inr off ↦ off
+]
+
+first_of : (b : Bool) → (b && true) ≡ true → b ≡ true
+first_of true e = refl
+first_of false e = absurd cc
+
+-- with the jobs that a hold is of, or with none
+module _ (jobs : List Row) (r : Row) where
+  abbrev its : List Row
+  its = filter (λ s. list_all (holds ([] ∷ r ∷ s ∷ [])) lost_on) jobs
+
+  abbrev lost : List Row → List Env
+  lost found = flat_map (λ s. cond (list_all (holds ([] ∷ r ∷ s ∷ [])) lost_tests) (([] ∷ r ∷ s ∷ []) ∷ []) []) (or_nulls found)
+
+  there : (found : List Row) → its ≡ found → lost found ≡ [] → (job : Row) × Has jobs job × IsOf r job
+  there [] is none =
+      let on : (lost_value Null && true) ≡ true = ap (λ b. b && true) (is_lost Null) in
+      absurd (let e = rw on at none in cc)
+  there (s ∷ more) is none =
+      let one = has_filtered (λ s. list_all (holds ([] ∷ r ∷ s ∷ [])) lost_on) jobs s (subst (λ rows. Has rows s) (sym is) (inl refl)) in
+      (s, one.0, first_of _ one.1)
+
+  not_there : (found : List Row) → its ≡ found → (job : Row) → Has jobs job → IsOf r job → lost found ≡ []
+  not_there [] is job has of = absurd (subst (λ rows. Has rows job) is (has_kept (λ s. list_all (holds ([] ∷ r ∷ s ∷ [])) lost_on) jobs job has (ap (λ b. b && true) of)))
+  not_there (s ∷ more) is job has of =
+      each_none (λ s. cond (list_all (holds ([] ∷ r ∷ s ∷ [])) lost_tests) (([] ∷ r ∷ s ∷ []) ∷ []) []) (s ∷ more)
+      (λ x among.
+      let one = has_filtered (λ s. list_all (holds ([] ∷ r ∷ s ∷ [])) lost_on) jobs x (subst (λ rows. Has rows x) (sym is) among) in
+      let off : (lost_value (column x 0) && true) ≡ false = ap (λ b. b && true) (is_lost (column x 0) ∙ not_lost (column x 0) (column r 2) (first_of _ one.1)) in
+      ap (λ b. cond b (([] ∷ r ∷ x ∷ []) ∷ []) []) off)
+
+module _ (old new : State) (has : old.now.schema ≡ seven_tables) (rows : List Row) (shown : Shown SELECT_LOST.now [] old new rows) where
+  abbrev all_lost : List Env
+  all_lost = flat_map (λ r. lost (old.now.trees jobs_tree) r (its (old.now.trees jobs_tree) r)) (old.now.trees holds_tree)
+
+  lost_count : length rows ≡ length all_lost
+  lost_count =
+      let read = reads_as SELECT_LOST.now [] old new seven_tables has _ select_lost.command select_lost.plain select_lost.unlisted rows shown in
+      let a : IsAnswer lost_query (overlay old.now.trees []) [] rows = read.answer Null in
+      ap length a.shown ∙ length_map (λ (o : Output). o.1) a.ordered ∙ length_permutation a.kept a.ordered a.same ∙ ap length a.distinct ∙ length_map (output lost_query) a.staged ∙ ap length a.grouped
+
+  pub none_lost : rows ≡ [] → HoldJobs old.now
+  none_lost empty hold there_is =
+      let none = no_length all_lost (sym lost_count ∙ ap length empty) in
+      there (old.now.trees jobs_tree) hold (its (old.now.trees jobs_tree) hold) refl (none_each (λ r. lost (old.now.trees jobs_tree) r (its (old.now.trees jobs_tree) r)) (old.now.trees holds_tree) hold none there_is)
+
+  pub lost_none : HoldJobs old.now → rows ≡ []
+  lost_none have =
+      no_length rows (lost_count ∙ ap length (each_none (λ r. lost (old.now.trees jobs_tree) r (its (old.now.trees jobs_tree) r)) (old.now.trees holds_tree)
+      (λ r is. let it = have r is in not_there (old.now.trees jobs_tree) r (its (old.now.trees jobs_tree) r) refl it.0 it.1 it.2)))
+
+-- ---- the number that a job is to
+
+pub dial_found : (n : ℕ) (old new : State) (m : Queue) (k : List Entry) → old.now.schema ≡ seven_tables → RowsMean old.now m k → (found : Option Row) → FindsRow SELECT_DIAL.now (number n ∷ []) old new found
+    → found ≡ option_map (λ (j : Job). Text j.dial ∷ []) (job_numbered n m)
+dial_found n old new m k has rows found h =
+    let params = number n ∷ [] in
+    numbered_found row_of (λ (j : Job). j.number) (λ j. refl) n (passes jobs_tree job_tests dial_project params) (λ r. refl) m.jobs (old.now.trees jobs_tree) h.0 (rows.2.0 ∙ rows.1.jobs) (subst IsTable (sym rows.2.0) rows.1.ordered.jobs.rise)
+    (show jobs_tree job_tests dial_project params)
+    (answers jobs_tree job_tests dial_project params old.now (old.now.trees jobs_tree) refl [] h.0 (reads_as SELECT_DIAL.now params old new seven_tables has _ select_dial.command select_dial.plain select_dial.unlisted h.0 h.1))
+    found h.2
+
+-- ---- what is held
+
+second : (r : Row) → column r 2 ≡ column (drop 1 r) 1
+second [] = refl
+second (v ∷ r) = refl
+
+map_same : {A B : Type 0} (f g : A → B) (xs : List A) → ((x : A) → f x ≡ g x) → map f xs ≡ map g xs
+map_same f g [] same = refl
+map_same f g (x ∷ xs) same = ap₂ ◌∷◌ (same x) (map_same f g xs same)
+
+module _ (old new : State) (m : Queue) (k : List Entry) (has : old.now.schema ≡ seven_tables) (mean : RowsMean old.now m k) (rows : List Row) (shown : Shown SELECT_HELD.now [] old new rows) where
+  abbrev held : List Row
+  held = old.now.trees holds_tree
+
+  same : IsPermutation (map hold_columns (open_grants m)) (map (drop 1) held)
+  same = subst (λ rs. IsPermutation (map hold_columns (open_grants m)) (map (drop 1) rs)) (sym mean.2.1.1.0) mean.1.holds
+
+  shows : IsPermutation (map (λ r. column r 2 ∷ []) held) rows
+  shows =
+      subst (λ t. IsPermutation (map (λ r. column r 2 ∷ []) t) rows) (every held)
+      (answers holds_tree [] held_project [] old.now held refl (codes "job" ∷ []) rows (reads_as SELECT_HELD.now [] old new seven_tables has _ select_held.command select_held.plain select_held.unlisted rows shown))
+
+  -- each is of a job
+  pub held_jobs : AreOfJobs m rows
+  held_jobs row there_is =
+      let hold = has_mapped (λ r. column r 2 ∷ []) held row (has_permuted rows (map (λ r. column r 2 ∷ []) held) row (IsPermutation-sym (map (λ r. column r 2 ∷ []) held) rows shows) there_is) in
+      let g = record_of hold_columns held (open_grants m) same hold.0 hold.1 in
+      let j = mean.1.held g.0 g.1 in
+      let of : (j.0).number ≡ (g.0).job = eqb-true (j.0).number (g.0).job (has_found (λ (x : Job). x.number == (g.0).job) m.jobs j.0 j.1).1 in
+      (j.0, hold.2 ∙ ap (λ v. v ∷ []) (second hold.0 ∙ ap (λ columns. column columns 1) g.2 ∙ ap number (sym of)), subst (λ n. job_numbered n m ≡ Some j.0) (sym of) j.1)
+
+  -- there are as many rows as open grants
+  permuted : IsPermutation (map (λ (g : Grant). number g.job ∷ []) (open_grants m)) rows
+  permuted =
+      let by_columns = IsPermutation-map (λ columns. column columns 1 ∷ []) (map hold_columns (open_grants m)) (map (drop 1) held) same in
+      let left = map-map (λ columns. column columns 1 ∷ []) hold_columns (open_grants m) in
+      let right = map-map (λ columns. column columns 1 ∷ []) (drop 1) held ∙ map_same (λ r. column (drop 1 r) 1 ∷ []) (λ r. column r 2 ∷ []) held (λ r. ap (λ v. v ∷ []) (sym (second r))) in
+      IsPermutation-trans (map (λ (g : Grant). number g.job ∷ []) (open_grants m)) (map (λ r. column r 2 ∷ []) held) rows
+      (subst (λ xs. IsPermutation xs (map (λ r. column r 2 ∷ []) held)) left (subst (IsPermutation (map (λ columns. column columns 1 ∷ []) (map hold_columns (open_grants m)))) right by_columns)) shows
+
+  pub held_few : length rows < 2 ^ 32
+  held_few =
+      let count : length rows ≡ length (open_grants m) = length_permutation (map (λ (g : Grant). number g.job ∷ []) (open_grants m)) rows permuted ∙ length_map (λ (g : Grant). number g.job ∷ []) (open_grants m) in
+      let all = at_most_all (λ _. true) m.grants in
+      let whole : length (filter (λ _. true) (open_grants m)) ≡ length (open_grants m) = ap length (every (open_grants m)) in
+      let low : length rows < 4294967296 = omega (arith, count, all, whole, grants_few mean.0 m k mean.1) in
+      low
+
+  -- so many of them are of jobs to a number as there are calls to it
+  pub held_counts : (dial : List ℕ) → held_to m rows dial ≡ calls_to dial m
+  held_counts dial =
+      length_permutation (filter (is_to m dial) (map (λ (g : Grant). number g.job ∷ []) (open_grants m))) (filter (is_to m dial) rows) (IsPermutation-filter (is_to m dial) (map (λ (g : Grant). number g.job ∷ []) (open_grants m)) rows permuted)
+      ∙ ap length (filter-map (is_to m dial) (λ (g : Grant). number g.job ∷ []) (open_grants m)) ∙ length_map (λ (g : Grant). number g.job ∷ []) (filter (λ (g : Grant). is_of_number dial (job_numbered g.job m)) (open_grants m))
+
+  -- so the tables mean it once they are counted
+  pub held_counted : (mid last : State) → mid.now ≡ old.now → SetsCalls mid last (held_to m rows) → TablesMean last.now m k
+  held_counted mid last still set =
+      let kept = subst (λ d. KeepsRows six_tables.tables d.trees last.now.trees) still set.rows in
+      rows_mean mean.0 last.now m k set.schema_is set.sound (kept_rows six_tables.tables (mean.0).trees old.now.trees last.now.trees mean.2 kept)
+      (record { is = counted_as (held_to m rows) (λ dial. calls_to dial m) (map (drop 1) (last.now.trees calls_tree)) held_counts set.calls.is; ordered = set.calls.ordered }) mean.1
+
+-- ---- one more row
+
+pub held_more : (m : Queue) (rows : List Row) (row : Row) (j : Job) → row ≡ number j.number ∷ [] → job_numbered j.number m ≡ Some j → (dial : List ℕ)
+    → with_count j.dial (held_to m rows j.dial + 1) (held_to m rows) dial ≡ held_to m (rows ++ row ∷ []) dial
+held_more m rows row j is found dial = by (bytes_eq dial j.dial) refl
+  where
+    more : (xs : List Row) → held_to m (xs ++ row ∷ []) dial ≡ held_to m xs dial + one (is_to m dial row)
+    more [] = alone (is_to m dial row)
+      where
+        alone : (b : Bool) → length (cond b (row ∷ []) []) ≡ 0 + one b
+        alone true = refl
+        alone false = refl
+    more (x ∷ xs) = next (is_to m dial x) (more xs)
+      where
+        next : (b : Bool) → held_to m (xs ++ row ∷ []) dial ≡ held_to m xs dial + one (is_to m dial row)
+            → length (cond b (x ∷ filter (is_to m dial) (xs ++ row ∷ [])) (filter (is_to m dial) (xs ++ row ∷ []))) ≡ length (cond b (x ∷ filter (is_to m dial) xs) (filter (is_to m dial) xs)) + one (is_to m dial row)
+        next true e = omega (arith, e)
+        next false e = e
+
+    to : is_to m dial row ≡ bytes_eq j.dial dial
+    to = ap (is_to m dial) is ∙ ap (is_of_number dial) found
+
+    by : (b : Bool) → bytes_eq dial j.dial ≡ b → with_count j.dial (held_to m rows j.dial + 1) (held_to m rows) dial ≡ held_to m (rows ++ row ∷ []) dial
+    by true on =
+        let at : dial ≡ j.dial = (bytes_eq-Decides dial j.dial).0 on in
+        let back : bytes_eq j.dial dial ≡ true = (bytes_eq-Decides j.dial dial).1 (sym at) in
+        let total : held_to m (rows ++ row ∷ []) dial ≡ held_to m rows dial + 1 = more rows ∙ ap (λ b. held_to m rows dial + one b) (to ∙ back) in
+        ap (λ b. if b then held_to m rows j.dial + 1 else held_to m rows dial) on ∙ ap (λ d. held_to m rows d + 1) (sym at) ∙ sym total
+    by false off =
+        let back : bytes_eq j.dial dial ≡ false = turned j.dial dial ∙ off in
+        let total : held_to m (rows ++ row ∷ []) dial ≡ held_to m rows dial + 0 = more rows ∙ ap (λ b. held_to m rows dial + one b) (to ∙ back) in
+        ap (λ b. if b then held_to m rows j.dial + 1 else held_to m rows dial) off ∙ omega (arith, total)
+
+pub held_within : (m : Queue) (rows : List Row) (dial : List ℕ) → held_to m rows dial ≤ length rows
+held_within m [] dial = omega arith
+held_within m (x ∷ xs) dial = by (is_to m dial x) (held_within m xs dial)
+  where
+    by : (b : Bool) → held_to m xs dial ≤ length xs → length (cond b (x ∷ filter (is_to m dial) xs) (filter (is_to m dial) xs)) ≤ length (x ∷ xs)
+    by true e = omega (arith, e)
+    by false e = omega (arith, e)
+
+taken : {A : Type 0} (n : ℕ) (xs : List A) → length (take n xs) ≤ n
+taken zero xs = omega arith
+taken (suc n) [] = omega arith
+taken (suc n) (x ∷ xs) = omega (arith, taken n xs)
+
+-- of the first so many, no more are of jobs to a number
+pub held_first : (m : Queue) (rows : List Row) (i : ℕ) (dial : List ℕ) → i < length rows → length rows < 2 ^ 32 → held_to m (take i rows) dial + 1 < 2 ^ 32
+held_first m rows i dial low few =
+    let all : length rows < 4294967296 = few in
+    let sum : held_to m (take i rows) dial + 1 < 4294967296 = omega (arith, low, all, held_within m (take i rows) dial, taken i rows) in
+    sum
+
+-- what rows mean, they mean where the calls alone were set
+pub rows_still : (a b : State) (m : Queue) (k : List Entry) (count : List ℕ → ℕ) → SetsCalls a b count → RowsMean a.now m k → RowsMean b.now m k
+rows_still a b m k count set mean = (mean.0, mean.1, kept_rows six_tables.tables (mean.0).trees a.now.trees b.now.trees mean.2 set.rows)
+
+-- what a job that is there has for a number to dial, and for its own
+pub dial_formed : (db : Database) (m : Queue) (k : List Entry) → TablesMean db m k → (n : ℕ) (j : Job) → job_numbered n m ≡ Some j → IsText IsCanonical j.dial
+dial_formed db m k means n j found = (found_holds IsLawfulJob (λ (x : Job). x.number == n) m.jobs j means.lawful.jobs found).formed.dial
+
+pub job_low : (db : Database) (m : Queue) (k : List Entry) → TablesMean db m k → (n : ℕ) (j : Job) → job_numbered n m ≡ Some j → j.number < 2 ^ 32
+job_low db m k means n j found =
+    let most = within j (found_holds IsLawfulJob (λ (x : Job). x.number == n) m.jobs j means.lawful.jobs found) in
+    let low : j.number < 4294967296 = omega (arith, most) in
+    low
+
+-- rows that mean a queue have a job for each hold
+pub rows_hold : (db : Database) (m : Queue) (k : List Entry) → RowsMean db m k → HoldJobs db
+rows_hold db m k mean hold there_is =
+    let same = subst (λ rs. IsPermutation (map hold_columns (open_grants m)) (map (drop 1) rs)) (sym mean.2.1.1.0) mean.1.holds in
+    let g = record_of hold_columns (db.trees holds_tree) (open_grants m) same hold there_is in
+    let j = mean.1.held g.0 g.1 in
+    let one = has_found (λ (x : Job). x.number == (g.0).job) m.jobs j.0 j.1 in
+    let of : (j.0).number ≡ (g.0).job = eqb-true (j.0).number (g.0).job one.1 in
+    let is : column hold 2 ≡ number (j.0).number = second hold ∙ ap (λ columns. column columns 1) g.2 ∙ ap number (sym of) in
+    (row_of j.0, subst (λ rs. Has rs (row_of j.0)) (sym (mean.2.0 ∙ mean.1.jobs)) (mapped_has row_of m.jobs j.0 one.0), ap (are_equal (number (j.0).number)) is ∙ number_same (j.0).number)

@@ -1,0 +1,32 @@
+use Rattle.std.proofs.Common.{◌≡◌, ◌+◌, ◌<◌, ◌^◌, subst, sym, ap, ◌∙◌}
+use Rattle.sqlite.specs.Held.{state}
+use Rattle.fax_core.specs.Queue.{job_numbered}
+use Rattle.fax_store.specs.Grant.{SetsCalls, with_count}
+use Rattle.fax_tables.specs.Fault.{OrUnavailable}
+use Rattle.fax_tables.proofs.ResultLemmas.{or_weaker, passes_on}
+use Rattle.fax_store.proofs.CallLemmas.{has_calls, set_still, set_then}
+use Rattle.fax_store.proofs.HeldLemmas.{job_low}
+use Rattle.fax_store.proofs.store.Store.count_hold.Goals as goal
+
+pub returns-in_err-job-clause-counted : goal.returns-in_err-job-clause-counted
+returns-in_err-job-clause-counted g c m k j count rows is found few has clean =
+    passes_on c.from_residual.result c.in_err-job.field-0.0 _ c.from_residual.ensures.1 (c.in_err-job.ensures j.number is (job_low rows.0 m k rows.1 j.number j found))
+
+pub returns-in_err-dial-clause-counted : goal.returns-in_err-dial-clause-counted
+returns-in_err-dial-clause-counted g c m k j count rows is found few has clean =
+    let job : c.in_ok-job.job ≡ j.number = c.in_ok-job.ensures j.number is (job_low rows.0 m k rows.1 j.number j found) in
+    passes_on c.from_residual-in_err-dial.result c.in_err-dial.field-0.0 _ c.from_residual-in_err-dial.ensures.1 (c.in_err-dial.ensures.answers m k j has.tables rows (ap (λ n. job_numbered n m) job ∙ found) clean)
+
+pub returns-clause-counted : goal.returns-clause-counted
+returns-clause-counted g c m k j count rows is found few has clean =
+    let old = state g.S.Store c.args.self.now.conn in
+    let mid = state g.S.Store c.dial_of.new.self.conn in
+    let new = state g.S.Store c.add_call.new.self.conn in
+    let at_mid = c.add_call.ensures.clean clean in
+    let job : c.in_ok-job.job ≡ j.number = c.in_ok-job.ensures j.number is (job_low rows.0 m k rows.1 j.number j found) in
+    let dial = c.in_ok-dial.ensures.answers m k j has.tables rows (ap (λ n. job_numbered n m) job ∙ found) at_mid in
+    let first = set_still old mid count has (c.in_ok-dial.ensures.reads has.tables at_mid) in
+    let low = subst (λ d. count d + 1 < 2 ^ 32) (sym dial) few in
+    let added = c.add_call.ensures.counted count (has_calls old mid count first) low clean in
+    or_weaker c.add_call.result _ _ (λ a set. set_then old mid new count (with_count j.dial (count j.dial + 1) count) first set)
+    (subst (λ d. OrUnavailable c.add_call.result (λ _. SetsCalls mid new (with_count d (count d + 1) count))) dial added)

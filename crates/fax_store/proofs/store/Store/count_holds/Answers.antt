@@ -1,0 +1,41 @@
+use Rattle.std.proofs.Common.{◌<◌, ◌^◌, length, sym, subst}
+use Rattle.sqlite.specs.Held.{state}
+use Rattle.fax_store.specs.Adopt.{AreOfJobs, held_to}
+use Rattle.fax_store.specs.Grant.{SetsCalls}
+use Rattle.fax_tables.proofs.CreateLemmas.{commit_kept}
+use Rattle.fax_tables.proofs.ResultLemmas.{or_weaker}
+use Rattle.fax_store.proofs.CallLemmas.{has_calls, no_calls, set_still, set_then, whole_of}
+use Rattle.fax_store.proofs.HeldLemmas.{held_counted, held_few, held_jobs, rows_still}
+use Rattle.fax_store.proofs.StatementTexts.{select_held}
+use Rattle.fax_store.proofs.WorkLemmas.{both_as}
+use Rattle.fax_store.proofs.store.Store.count_holds.Goals as goal
+
+pub show-requires : goal.show-requires
+show-requires g c = select_held.plain
+
+pub returns-clause-goes : goal.returns-clause-goes
+returns-clause-goes g c clean has =
+    let old = state g.S.Store c.args.self.now.conn in
+    let mid = state g.S.Store c.show.new.self.conn in
+    let new = state g.S.Store c.count_rows.new.self.conn in
+    let first = set_still old mid (λ _. 0) (no_calls old has) (c.in_ok-held.ensures.reads has.schema_is (c.count_rows.ensures.clean clean)) in
+    both_as c.count_rows.result
+    (λ set. let whole = set_then old mid new (λ _. 0) set.0 first set.1 in (whole.goes_on, whole_of old new set.0 whole))
+    (λ kept. commit_kept old mid new first.goes_on kept)
+    (c.count_rows.ensures.set (λ _. 0) (has_calls old mid (λ _. 0) first) clean)
+
+pub returns-clause-counted : goal.returns-clause-counted
+returns-clause-counted g c m k has clean mean =
+    let old = state g.S.Store c.args.self.now.conn in
+    let mid = state g.S.Store c.show.new.self.conn in
+    let new = state g.S.Store c.count_rows.new.self.conn in
+    let at_mid = c.count_rows.ensures.clean clean in
+    let same = c.in_ok-held.ensures.reads has.schema_is at_mid in
+    let first = set_still old mid (λ _. 0) (no_calls old has) same in
+    let rows = c.in_ok-held.held.items in
+    let shown = c.in_ok-held.ensures.shown at_mid in
+    let jobs = subst (AreOfJobs m) (sym c.as_slice.ensures.value) (held_jobs old mid m k has.schema_is mean rows shown) in
+    let few = subst (λ rs. length rs < 2 ^ 32) (sym c.as_slice.ensures.value) (held_few old mid m k has.schema_is mean rows shown) in
+    or_weaker c.count_rows.result _ _
+    (λ a set. held_counted old mid m k has.schema_is mean rows shown mid new same.0.now_is (subst (λ rs. SetsCalls mid new (held_to m rs)) c.as_slice.ensures.value set))
+    (c.count_rows.ensures.counted m k (rows_still old mid m k (λ _. 0) first mean) jobs few (has_calls old mid (λ _. 0) first) clean)

@@ -1,0 +1,48 @@
+use Rattle.std.proofs.Common.{◌≡◌, ◌-◌, Ok, Some, None, Option, refl, sym, ap, ◌∙◌}
+use Rattle.std.specs.Option.{option_map}
+use Rattle.sqlite.specs.Held.{state}
+use Rattle.fax_core.specs.Job.{fields_of}
+use Rattle.fax_core.specs.Queue.{job_numbered}
+use Rattle.fax_core.specs.State.{calls_to}
+use Rattle.fax_job.specs.declared.job.JobFields.{JobFields}
+use Rattle.fax_store.specs.Grant.{IsCalled, with_closed}
+use Rattle.fax_store.proofs.CountLemmas.{held_job}
+use Rattle.fax_store.proofs.WorkLemmas.{goes_on, holds_by, holds_then, step_of, there_as}
+use Rattle.std.specs.Prelude.{is_err, false}
+use Rattle.fax_store.proofs.store.Store.end_call.Goals as goal
+
+pub returns-in_default-clause-written : goal.returns-in_default-clause-written
+returns-in_default-clause-written g c m₀ m k₀ k works s held =
+    let means = ((works (c.in_ok-job.ensures.served s)).goes_on refl).means in
+    let found = c.in_ok-job.ensures.answers m k (λ _. means) s in
+    let there = held_job m means.held c.args.number held.0 held.1 held.2 in
+    let none : ◌≡◌ {A = Option JobFields} None (Some (fields_of there.0)) = sym c.in_default.is ∙ found ∙ ap (λ n. option_map fields_of (job_numbered n m)) (sym held.3) ∙ ap (option_map fields_of) there.1 in
+    absurd cc
+
+pub returns-clause-holds : goal.returns-clause-holds
+returns-clause-holds g c =
+    let old = state g.S.Store c.args.self.now.conn in
+    let read = state g.S.Store c.read_job.new.self.conn in
+    let then = state g.S.Store c.read_calls.new.self.conn in
+    holds_then old then (state g.S.Store c.close_open.new.self.conn) (is_err c.close_open.result) c.close_open.ensures.served
+    (holds_then old read then false c.read_calls.ensures.served (holds_by old read c.read_job.ensures.served (Ok c.in_ok-job.field-0) c.in_ok-job.ensures.reads) (holds_by read then c.read_calls.ensures.served (Ok c.in_ok-calls.calls) c.in_ok-calls.ensures.reads))
+    c.close_open.ensures.holds
+
+pub returns-clause-written : goal.returns-clause-written
+returns-clause-written g c m₀ m k₀ k works s held =
+    let old = state g.S.Store c.args.self.now.conn in
+    let read = state g.S.Store c.read_job.new.self.conn in
+    let then = state g.S.Store c.read_calls.new.self.conn in
+    let new = state g.S.Store c.close_open.new.self.conn in
+    let at_then = c.close_open.ensures.served s in
+    let at_read = c.read_calls.ensures.served at_then in
+    let first = goes_on old read c.read_job.ensures.served (Ok c.in_ok-job.field-0) c.in_ok-job.ensures.reads (λ m k found. found ≡ option_map fields_of (job_numbered c.args.job m)) c.in_ok-job.ensures.answers m₀ m k₀ k works at_read in
+    let second = goes_on read then c.read_calls.ensures.served (Ok c.in_ok-calls.calls) c.in_ok-calls.ensures.reads (λ m k calls. calls ≡ calls_to c.fields.result.now.dial m) c.in_ok-calls.ensures.answers m₀ m k₀ k (λ _. first.1) at_then in
+    let it = there_as fields_of (job_numbered c.args.job m) c.in-Some.job (sym c.in-Some.is ∙ first.0) in
+    let dial : c.in-Some.job.dial ≡ it.0.dial = ap (λ (f : JobFields). f.dial) it.2 in
+    let of_first : c.fields.result.now.dial ≡ c.in-Some.job.dial = ap (λ (f : JobFields). f.dial) c.fields.ensures.fields in
+    let of_second : c.fields-2.result.now.dial ≡ c.in-Some.job.dial = ap (λ (f : JobFields). f.dial) c.fields-2.ensures.fields in
+    let called : IsCalled held.0.job c.fields-2.result.now.dial m = (it.0, ap (λ n. job_numbered n m) held.3 ∙ it.1, sym dial ∙ sym of_second) in
+    step_of new c.close_open.result m₀ (with_closed c.args.number m) k₀ k c.close_open.ensures.cause
+    (c.close_open.ensures.written m₀ m k₀ k (λ _. second.1) s (held.0, held.1, held.2, called)
+    (c.saturating_sub.ensures ∙ ap (λ n. n - 1) second.0 ∙ ap (λ d. calls_to d m - 1) (of_first ∙ sym of_second)))

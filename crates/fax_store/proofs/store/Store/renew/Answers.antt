@@ -1,0 +1,28 @@
+use Rattle.sqlite.specs.Held.{state}
+use Rattle.fax_tables.specs.Schema.{six_tables}
+use Rattle.fax_tables.proofs.CreateLemmas.{clean_before, goes_on, kept_rows}
+use Rattle.fax_store.proofs.store.Store.renew.Goals as goal
+
+pub returns-clause-goes : goal.returns-clause-goes
+returns-clause-goes g c clean was =
+    let s0 = state g.S.Store c.args.self.now.conn in
+    let s1 = state g.S.Store c.lose_indexes.new.self.conn in
+    let s2 = state g.S.Store c.lose_calls.new.self.conn in
+    let s3 = state g.S.Store c.get_indexes.new.self.conn in
+    let s4 = state g.S.Store c.create_calls.new.conn in
+    let clean3 = clean_before s3 s4 c.create_calls.ensures.doubt clean in
+    let clean2 = c.get_indexes.ensures.clean clean3 in
+    let ordered = c.in_ok-lose_indexes.ensures.goes (c.lose_calls.ensures.clean clean2) was in
+    let lost = c.in_ok-lose_calls.ensures.goes clean2 (record { is_open = ordered.0.is_open; inside = ordered.0.mode; schema_is = ordered.1.0 }) in
+    let six = c.in_ok-get_indexes.ensures.goes clean3 (record { is_open = lost.0.is_open; inside = lost.0.mode; schema_is = lost.1.0 }) in
+    let made = c.in_ok-create_calls.ensures.made clean (record { inside = six.0.mode; schema_is = six.1.0 }) in
+    let tables = six_tables.tables in
+    let before = kept_rows tables s0.now.trees s1.now.trees s2.now.trees ordered.1.1 lost.1.1 in (
+      goes_on s0 s3 s4 (goes_on s0 s2 s3 (goes_on s0 s1 s2 ordered.0 lost.0) six.0) made.0,
+      record {
+        schema_is = made.1.schema_is;
+        sound = made.1.sound;
+        rows = kept_rows tables s0.now.trees s3.now.trees s4.now.trees (kept_rows tables s0.now.trees s2.now.trees s3.now.trees before six.1.1) made.1.rows;
+        none = made.1.none;
+      },
+    )

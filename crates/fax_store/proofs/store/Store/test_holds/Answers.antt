@@ -1,0 +1,25 @@
+use Rattle.std.proofs.Common.{◌≡◌, [], length, ap, arith}
+use Rattle.std.proofs.lemmas.List.{nil_from_length}
+use Rattle.sqlite.specs.Held.{state}
+use Rattle.fax_store.proofs.HeldLemmas.{lost_none, none_lost}
+use Rattle.fax_store.proofs.StatementTexts.{select_lost}
+use Rattle.fax_store.proofs.store.Store.test_holds.Goals as goal
+
+pub show-requires : goal.show-requires
+show-requires g c = select_lost.plain
+
+pub returns-clause-ours : goal.returns-clause-ours
+returns-clause-ours g c tables clean =
+    let old = state g.S.Store c.args.self.now.conn in
+    let new = state g.S.Store c.show.new.self.conn in
+    let few = c.if-len-gt0.false in
+    let none : c.in_ok-lost.lost.items ≡ [] = nil_from_length c.in_ok-lost.lost.items (omega (arith, few, c.len.ensures)) in
+    (none_lost old new tables c.in_ok-lost.lost.items (c.in_ok-lost.ensures.shown clean) none, c.in_ok-lost.ensures.reads tables clean)
+
+pub returns-then-len-gt0-clause-strange : goal.returns-then-len-gt0-clause-strange
+returns-then-len-gt0-clause-strange g c tables clean is held =
+    let old = state g.S.Store c.args.self.now.conn in
+    let new = state g.S.Store c.show.new.self.conn in
+    let none = ap length (lost_none old new tables c.in_ok-lost.lost.items (c.in_ok-lost.ensures.shown clean) held) in
+    let some = c.if-len-gt0.true in
+    omega (arith, none, some, c.len.ensures)
