@@ -7,7 +7,7 @@ ghost use Rattle.sqlite.specs.State.{HasCleanDisk, KeepsCommit};
 ghost use Rattle.fax_core.specs.Queue.{empty_queue};
 ghost use Rattle.fax_tables.specs.Schema.{no_tables, four_tables, bare_tables, seven_tables};
 ghost use Rattle.fax_tables.specs.Stop.{HoldsBack};
-ghost use Rattle.fax_tables.specs.Tables.{GoesOn, HasCallsBeside, HasEmptyTables, HasNewCalls, HasSixTables, HasTablesAlone, IsIndexed, LacksCalls, TablesMean, IsVacuumed, LosesIndexes};
+ghost use Rattle.fax_tables.specs.Tables.{GoesOn, HasCallsBeside, HasEmptyTables, HasNewCalls, HasSixTables, HasTablesAlone, IsIndexed, IsVacuumed, LacksCalls, LosesIndexes, TablesMean};
 
 use sqlite::{Alter, Connection, Error};
 
