@@ -43,8 +43,9 @@ impl<S: Alter> Store<S> {
     ///
     /// # Errors
     ///
-    /// `Strange` where the database is neither, or a hold has no job, or `Unavailable`. The connection
-    /// comes back with its tables as they were, and with no transaction open.
+    /// `Strange` where the database is neither, or a hold has no job with a lawful number to dial, or
+    /// `Unavailable`. The connection comes back with its tables as they were, and with no transaction
+    /// open.
     pub fn adopt(
         alloc: Global,
         conn: Connection<S>,
