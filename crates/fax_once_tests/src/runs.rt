@@ -1,7 +1,7 @@
 //! Runs of arrivals: what is repeated gets its first reply, in whichever order it comes again.
-use crate::one_fax::{Exchange, ONE_FAX, TWO_MODEMS, arrival_of, is_reply};
 use crate::queues::empty_queue;
 use fax_ask::{Method, Reply};
+use fax_example::{Exchange, ONE_FAX, TWO_MODEMS, arrival_of, is_reply};
 use fax_job::Moment;
 use fax_once::{Arrival, Queue};
 use sqlite::MemStore;

@@ -24,9 +24,10 @@ use Rattle.fax_tables.proofs.StopLemmas.{nothing_then}
 use Rattle.fax_tables.proofs.TablesLemmas.{same_database}
 use Rattle.fax_tables.specs.Stop.{HoldsBack}
 use Rattle.fax_tables.proofs.SelectLemmas.{answers}
-use Rattle.fax_store.specs.Adopt.{AreWhole, HasNone, HasWhole, IsFilled, IsIn, IsOurs, IsTold, IsWhole, versions}
+use Rattle.fax_store.specs.Adopt.{AreWhole, HasNone, HasWhole, HoldsCanBeCalled, IsFilled, IsIn, IsOurs, IsWhole, QueuesAreTakeable, versions}
 use Rattle.fax_store.specs.Store.{CommitsNothing, GoesBack, MayMake, RowsFound, Serves}
 use Rattle.fax_store.proofs.ControlLemmas.{begins, commits}
+use Rattle.fax_store.proofs.HeldLemmas.{held_still, rows_callable}
 use Rattle.fax_store.proofs.StatementTexts.{select_version, version_project}
 use Rattle.fax_store.proofs.StopLemmas.{begin_nothing, commit_makes}
 use Rattle.fax_store.proofs.StoreLemmas.{same_tables, served}
@@ -105,11 +106,14 @@ module _ (s0 s1 : State) (ours : AreOurs s0.now.schema) (n : ℕ) (began : Execu
       same_versions : versions s2.now ≡ versions s0.now
       same_versions = ap (map (λ r. column r 5)) renewed.rows.1.1.1.1.1.0
 
-      pub told_version : IsTold s0.now → versions s2.now ≡ number 1 ∷ []
-      told_version told = same_versions ∙ told.version
+      pub still_version : versions s0.now ≡ number 1 ∷ [] → versions s2.now ≡ number 1 ∷ []
+      still_version version = same_versions ∙ version
 
-      pub told_means : (m : Queue) (k : List Entry) → RowsMean s0.now m k → RowsMean s2.now m k
-      told_means m k = kept_means s0.now s2.now m k renewed.rows
+      pub still_callable : HoldsCanBeCalled s0.now → HoldsCanBeCalled s2.now
+      still_callable = held_still s0.now s2.now renewed.rows
+
+      pub still_means : (m : Queue) (k : List Entry) → RowsMean s0.now m k → RowsMean s2.now m k
+      still_means m k = kept_means s0.now s2.now m k renewed.rows
 
       pub filling_kept : (s3 : State) → KeepsCommit s2 s3 → KeepsCommit s0 s3
       filling_kept s3 kept = commit_kept s0 s2 s3 goes_on_renewed kept
@@ -229,3 +233,7 @@ rows_reopened db m k rows sound = same_tables m k (same_database db rows.0 (sym 
 -- and it has our tables, whose rows mean this
 pub means_rows : (db : Database) (m : Queue) (k : List Entry) → TablesMean db m k → AreOurs db.schema × RowsMean db m k
 means_rows db m k means = (inl (inl means.schema), (db, means, (refl, (refl, (refl, (refl, (refl, (refl, tt))))))))
+
+-- meta tells the version, and each hold has its job
+pub queues_are_takeable : QueuesAreTakeable
+queues_are_takeable db m k ours mean = record { schema_is = ours; version = ap (map (λ r. column r 5)) (mean.2.1.1.1.1.1.0 ∙ mean.1.meta); held = rows_callable db m k mean }

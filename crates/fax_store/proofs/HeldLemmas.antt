@@ -7,6 +7,7 @@ use Rattle.std.specs.Str.{bytes_eq}
 use Rattle.std.specs.List.Sorted.{IsPermutation}
 use Rattle.std.proofs.lemmas.Bool.{cases_Bool, eqb-true}
 use Rattle.std.proofs.lemmas.Slice.Eq.{bytes_eq-Decides}
+use Rattle.std.proofs.lemmas.List.Elements.{recursion_from_All}
 use Rattle.std.proofs.lemmas.List.Sorted.{IsPermutation-map, IsPermutation-sym, IsPermutation-trans, length_permutation}
 use Rattle.sqlite.specs.Effect.{Database}
 use Rattle.sqlite.specs.Order.{Row, column}
@@ -19,7 +20,7 @@ use Rattle.sqlite.specs.declared.types.Value.TheVariants.{Null, Int, Real, Text,
 use Rattle.sqlite.proofs.Callers.{reads_as}
 use Rattle.sqlite_rules.specs.Lists.{Has}
 use Rattle.sqlite_rules.proofs.ProbeLemmas.{mapped_has}
-use Rattle.sqlite_rules.proofs.ListLemmas.{has_filtered, has_found, has_kept}
+use Rattle.sqlite_rules.proofs.ListLemmas.{all_has, has_filtered, has_found, has_kept}
 use Rattle.sqlite_catalog.specs.Change.{KeepsRows}
 use Rattle.sqlite_sql.specs.Ops.{binary, is_null, is_true}
 use Rattle.sqlite_sql.specs.declared.ops.BinaryOp.TheVariants.{Is}
@@ -31,7 +32,7 @@ use Rattle.fax_core.specs.Job.{Job}
 use Rattle.fax_core.specs.Queue.{Queue, Entry, job_numbered, open_grants}
 use Rattle.fax_core.specs.State.{calls_to, is_of_number}
 use Rattle.fax_core.specs.declared.grants.Grant.{Grant}
-use Rattle.fax_store.specs.Adopt.{AreOfJobs, HoldJobs, IsOf, held_to, is_to}
+use Rattle.fax_store.specs.Adopt.{AreCallable, AreOfJobs, AreSmall, CanBeCalled, HoldJobs, HoldsCanBeCalled, IsOf, held_to, is_to}
 use Rattle.fax_store.specs.Grant.{SetsCalls, with_count}
 use Rattle.fax_store.specs.Store.{FindsRow}
 use Rattle.fax_store.specs.declared.adopt.TheConstants.{SELECT_DIAL, SELECT_HELD, SELECT_LOST}
@@ -43,7 +44,7 @@ use Rattle.fax_tables.specs.Tables.{RowsMean, TablesMean}
 use Rattle.fax_tables.proofs.ColumnLemmas.{record_of}
 use Rattle.fax_tables.proofs.CompareLemmas.{are_equal, number_same}
 use Rattle.fax_tables.proofs.CreateLemmas.{kept_rows}
-use Rattle.fax_tables.proofs.EditLemmas.{has_mapped, has_permuted}
+use Rattle.fax_tables.proofs.EditLemmas.{has_mapped, has_permuted, none_shown, shown_one}
 use Rattle.fax_tables.proofs.IndexLemmas.{length_map}
 use Rattle.fax_tables.proofs.KeyLemmas.{found_holds, numbered_found}
 use Rattle.fax_tables.proofs.SelectLemmas.{answers, passes, show}
@@ -107,7 +108,7 @@ module _ (jobs : List Row) (r : Row) where
   abbrev lost : List Row → List Env
   lost found = flat_map (λ s. cond (list_all (holds ([] ∷ r ∷ s ∷ [])) lost_tests) (([] ∷ r ∷ s ∷ []) ∷ []) []) (or_nulls found)
 
-  there : (found : List Row) → its ≡ found → lost found ≡ [] → (job : Row) × Has jobs job × IsOf r job
+  there : (found : List Row) → its ≡ found → lost found ≡ [] → (job : Row) × Has jobs job × IsOf (column r 2) job
   there [] is none =
       let on : (lost_value Null && true) ≡ true = ap (λ b. b && true) (is_lost Null) in
       absurd (let e = rw on at none in cc)
@@ -115,7 +116,7 @@ module _ (jobs : List Row) (r : Row) where
       let one = has_filtered (λ s. list_all (holds ([] ∷ r ∷ s ∷ [])) lost_on) jobs s (subst (λ rows. Has rows s) (sym is) (inl refl)) in
       (s, one.0, first_of _ one.1)
 
-  not_there : (found : List Row) → its ≡ found → (job : Row) → Has jobs job → IsOf r job → lost found ≡ []
+  not_there : (found : List Row) → its ≡ found → (job : Row) → Has jobs job → IsOf (column r 2) job → lost found ≡ []
   not_there [] is job has of = absurd (subst (λ rows. Has rows job) is (has_kept (λ s. list_all (holds ([] ∷ r ∷ s ∷ [])) lost_on) jobs job has (ap (λ b. b && true) of)))
   not_there (s ∷ more) is job has of =
       each_none (λ s. cond (list_all (holds ([] ∷ r ∷ s ∷ [])) lost_tests) (([] ∷ r ∷ s ∷ []) ∷ []) []) (s ∷ more)
@@ -155,6 +156,28 @@ dial_found n old new m k has rows found h =
     (answers jobs_tree job_tests dial_project params old.now (old.now.trees jobs_tree) refl [] h.0 (reads_as SELECT_DIAL.now params old new seven_tables has _ select_dial.command select_dial.plain select_dial.unlisted h.0 h.1))
     found h.2
 
+-- a job that can be called has one that is canonical
+module _ (n : ℕ) (old new : State) (has : old.now.schema ≡ seven_tables) (can : CanBeCalled old.now n) (rows : List Row) (shown : Shown SELECT_DIAL.now (number n ∷ []) old new rows) where
+  abbrev asked : Row → Bool
+  asked = passes jobs_tree job_tests dial_project (number n ∷ [])
+
+  dials_shown : IsPermutation (map (show jobs_tree job_tests dial_project (number n ∷ [])) (filter asked (old.now.trees jobs_tree))) rows
+  dials_shown =
+      answers jobs_tree job_tests dial_project (number n ∷ []) old.now (old.now.trees jobs_tree) refl (codes "dial" ∷ []) rows
+      (reads_as SELECT_DIAL.now (number n ∷ []) old new seven_tables has _ select_dial.command select_dial.plain select_dial.unlisted rows shown)
+
+  pub dial_told : (row : Row) → Has rows row → (dial : List ℕ) × (row ≡ Text dial ∷ []) × IsText IsCanonical dial
+  dial_told row there_is =
+      let job = shown_one asked (show jobs_tree job_tests dial_project (number n ∷ [])) (old.now.trees jobs_tree) rows dials_shown row there_is in
+      let dial = can.dials job.0 job.1 (first_of _ job.2) in
+      (dial.0, job.3 ∙ ap (λ v. v ∷ []) dial.1, dial.2)
+
+  pub dial_there : rows ≡ [] → ⊥
+  dial_there empty =
+      let off = none_shown asked (show jobs_tree job_tests dial_project (number n ∷ [])) (old.now.trees jobs_tree) rows dials_shown empty can.job can.there in
+      let on : asked can.job ≡ true = ap (λ b. b && true) can.is in
+      absurd (let e = sym on ∙ off in cc)
+
 -- ---- what is held
 
 second : (r : Row) → column r 2 ≡ column (drop 1 r) 1
@@ -165,6 +188,25 @@ map_same : {A B : Type 0} (f g : A → B) (xs : List A) → ((x : A) → f x ≡
 map_same f g [] same = refl
 map_same f g (x ∷ xs) same = ap₂ ◌∷◌ (same x) (map_same f g xs same)
 
+module _ (old new : State) (has : old.now.schema ≡ seven_tables) (rows : List Row) (shown : Shown SELECT_HELD.now [] old new rows) where
+  held_shown : IsPermutation (map (λ r. column r 2 ∷ []) (old.now.trees holds_tree)) rows
+  held_shown =
+      subst (λ t. IsPermutation (map (λ r. column r 2 ∷ []) t) rows) (every (old.now.trees holds_tree))
+      (answers holds_tree [] held_project [] old.now (old.now.trees holds_tree) refl (codes "job" ∷ []) rows (reads_as SELECT_HELD.now [] old new seven_tables has _ select_held.command select_held.plain select_held.unlisted rows shown))
+
+  -- each row is of a hold
+  held_of : (row : Row) → Has rows row → (hold : Row) × Has (old.now.trees holds_tree) hold × (row ≡ column hold 2 ∷ [])
+  held_of row there_is =
+      has_mapped (λ r. column r 2 ∷ []) (old.now.trees holds_tree) row
+      (has_permuted rows (map (λ r. column r 2 ∷ []) (old.now.trees holds_tree)) row (IsPermutation-sym (map (λ r. column r 2 ∷ []) (old.now.trees holds_tree)) rows held_shown) there_is)
+
+  -- where what is held can be called, each has the number of such a job
+  pub held_callable : HoldsCanBeCalled old.now → AreCallable old.now rows
+  held_callable can row there_is =
+      let hold = held_of row there_is in
+      let it = can hold.0 hold.1 in
+      (it.0, hold.2 ∙ ap (λ v. v ∷ []) it.1, it.2)
+
 module _ (old new : State) (m : Queue) (k : List Entry) (has : old.now.schema ≡ seven_tables) (mean : RowsMean old.now m k) (rows : List Row) (shown : Shown SELECT_HELD.now [] old new rows) where
   abbrev held : List Row
   held = old.now.trees holds_tree
@@ -172,15 +214,10 @@ module _ (old new : State) (m : Queue) (k : List Entry) (has : old.now.schema �
   same : IsPermutation (map hold_columns (open_grants m)) (map (drop 1) held)
   same = subst (λ rs. IsPermutation (map hold_columns (open_grants m)) (map (drop 1) rs)) (sym mean.2.1.1.0) mean.1.holds
 
-  shows : IsPermutation (map (λ r. column r 2 ∷ []) held) rows
-  shows =
-      subst (λ t. IsPermutation (map (λ r. column r 2 ∷ []) t) rows) (every held)
-      (answers holds_tree [] held_project [] old.now held refl (codes "job" ∷ []) rows (reads_as SELECT_HELD.now [] old new seven_tables has _ select_held.command select_held.plain select_held.unlisted rows shown))
-
   -- each is of a job
   pub held_jobs : AreOfJobs m rows
   held_jobs row there_is =
-      let hold = has_mapped (λ r. column r 2 ∷ []) held row (has_permuted rows (map (λ r. column r 2 ∷ []) held) row (IsPermutation-sym (map (λ r. column r 2 ∷ []) held) rows shows) there_is) in
+      let hold = held_of old new has rows shown row there_is in
       let g = record_of hold_columns held (open_grants m) same hold.0 hold.1 in
       let j = mean.1.held g.0 g.1 in
       let of : (j.0).number ≡ (g.0).job = eqb-true (j.0).number (g.0).job (has_found (λ (x : Job). x.number == (g.0).job) m.jobs j.0 j.1).1 in
@@ -193,7 +230,7 @@ module _ (old new : State) (m : Queue) (k : List Entry) (has : old.now.schema �
       let left = map-map (λ columns. column columns 1 ∷ []) hold_columns (open_grants m) in
       let right = map-map (λ columns. column columns 1 ∷ []) (drop 1) held ∙ map_same (λ r. column (drop 1 r) 1 ∷ []) (λ r. column r 2 ∷ []) held (λ r. ap (λ v. v ∷ []) (sym (second r))) in
       IsPermutation-trans (map (λ (g : Grant). number g.job ∷ []) (open_grants m)) (map (λ r. column r 2 ∷ []) held) rows
-      (subst (λ xs. IsPermutation xs (map (λ r. column r 2 ∷ []) held)) left (subst (IsPermutation (map (λ columns. column columns 1 ∷ []) (map hold_columns (open_grants m)))) right by_columns)) shows
+      (subst (λ xs. IsPermutation xs (map (λ r. column r 2 ∷ []) held)) left (subst (IsPermutation (map (λ columns. column columns 1 ∷ []) (map hold_columns (open_grants m)))) right by_columns)) (held_shown old new has rows shown)
 
   pub held_few : length rows < 2 ^ 32
   held_few =
@@ -283,13 +320,56 @@ job_low db m k means n j found =
     let low : j.number < 4294967296 = omega (arith, most) in
     low
 
--- rows that mean a queue have a job for each hold
-pub rows_hold : (db : Database) (m : Queue) (k : List Entry) → RowsMean db m k → HoldJobs db
-rows_hold db m k mean hold there_is =
+-- ---- what can be called
+
+-- where the jobs stay, those that can be called can be still
+pub called_still : (a b : Database) → b.trees jobs_tree ≡ a.trees jobs_tree → (n : ℕ) → CanBeCalled a n → CanBeCalled b n
+called_still a b same n can = record {
+  low = can.low;
+  job = can.job;
+  there = subst (λ rows. Has rows can.job) (sym same) can.there;
+  is = can.is;
+  dials = λ other has of. can.dials other (subst (λ rows. Has rows other) same has) of;
+}
+
+pub held_still : (a b : Database) → KeepsRows six_tables.tables a.trees b.trees → HoldsCanBeCalled a → HoldsCanBeCalled b
+held_still a b kept can hold has = let it = can hold (subst (λ rows. Has rows hold) kept.1.1.0 has) in (it.0, it.1, called_still a b kept.0 it.0 it.2)
+
+-- what can be called has its job
+pub called_jobs : (db : Database) → HoldsCanBeCalled db → HoldJobs db
+called_jobs db can hold has = let it = can hold has in ((it.2).job, (it.2).there, subst (λ v. IsOf v (it.2).job) (sym it.1) (it.2).is)
+
+-- in rows that mean a queue all that is held can be
+pub rows_callable : (db : Database) (m : Queue) (k : List Entry) → RowsMean db m k → HoldsCanBeCalled db
+rows_callable db m k mean hold there_is =
     let same = subst (λ rs. IsPermutation (map hold_columns (open_grants m)) (map (drop 1) rs)) (sym mean.2.1.1.0) mean.1.holds in
     let g = record_of hold_columns (db.trees holds_tree) (open_grants m) same hold there_is in
     let j = mean.1.held g.0 g.1 in
     let one = has_found (λ (x : Job). x.number == (g.0).job) m.jobs j.0 j.1 in
     let of : (j.0).number ≡ (g.0).job = eqb-true (j.0).number (g.0).job one.1 in
     let is : column hold 2 ≡ number (j.0).number = second hold ∙ ap (λ columns. column columns 1) g.2 ∙ ap number (sym of) in
-    (row_of j.0, subst (λ rs. Has rs (row_of j.0)) (sym (mean.2.0 ∙ mean.1.jobs)) (mapped_has row_of m.jobs j.0 one.0), ap (are_equal (number (j.0).number)) is ∙ number_same (j.0).number)
+    let rows : db.trees jobs_tree ≡ map row_of m.jobs = mean.2.0 ∙ mean.1.jobs in (
+      (j.0).number,
+      is,
+      record {
+        low = job_low mean.0 m k mean.1 (g.0).job j.0 j.1;
+        job = row_of j.0;
+        there = subst (λ rs. Has rs (row_of j.0)) (sym rows) (mapped_has row_of m.jobs j.0 one.0);
+        is = number_same (j.0).number;
+        dials = λ other has of.
+            let it = has_mapped row_of m.jobs other (subst (λ rs. Has rs other) rows has) in
+            ((it.0).dial, ap (λ r. column r 2) it.2, (all_has IsLawfulJob m.jobs it.0 (recursion_from_All IsLawfulJob m.jobs mean.1.lawful.jobs) it.1).formed.dial);
+      },
+    )
+
+-- ---- counts of 32 bits
+
+pub none_small : AreSmall (λ _. 0)
+none_small dial = let low : 0 < 4294967296 = omega arith in low
+
+pub count_small : (dial : List ℕ) (n : ℕ) (count : List ℕ → ℕ) → n < 2 ^ 32 → AreSmall count → AreSmall (with_count dial n count)
+count_small dial n count low small other = by (bytes_eq other dial)
+  where
+    by : (b : Bool) → (if b then n else count other) < 2 ^ 32
+    by true = low
+    by false = small other

@@ -1,5 +1,5 @@
 -- What a work means across its calls.
-use Rattle.std.proofs.Common.{◌≡◌, inl, inr, ℕ, List, true, false, Ok, Err, Result, MatchResult, OnOk, OnErr, IfErr, IsErrAnd, is_err, if◌then◌else◌, ap, refl, sym, ◌∙◌, Bool, IsTrue, Option, Some, None}
+use Rattle.std.proofs.Common.{◌≡◌, inl, inr, ℕ, List, true, false, Ok, Err, Result, MatchResult, OnOk, OnErr, IfErr, IfOk, IsErrAnd, is_err, if◌then◌else◌, ap, refl, sym, ◌∙◌, Bool, IsTrue, Option, Some, None}
 use Rattle.std.specs.Option.{option_map}
 use Rattle.sqlite.specs.Effect.{Database}
 use Rattle.sqlite.specs.Order.{Row}
@@ -54,14 +54,23 @@ both_as (Ok a) done refused h = done h
 both_as (Err e) done refused h = refused h
 
 -- what a call tells where X holds
-pub given_ok : {A : Type 0} (X Y : Type 0) (result : Result A StoreFault) → (X → OrUnavailable result (λ _. Y)) → OnOk result (X → Y)
+pub given_ok : {A : Type 0} (X Y : Type 0) (result : Result A StoreFault) → (X → OnOk result Y) → OnOk result (X → Y)
 given_ok X Y (Ok a) told = told
 given_ok X Y (Err e) told = tt
 
+-- what is told of an answer alone, and of a refusal alone
+pub told_ok : {A : Type 0} (P : A → Type 0) (result : Result A StoreFault) → OrUnavailable result P → IfOk result P
+told_ok P (Ok a) told = told
+told_ok P (Err e) told = tt
+
+pub told_cause : {A : Type 0} (P : A → Type 0) (result : Result A StoreFault) → OrUnavailable result P → IfErr result (λ e. e ≡ Unavailable)
+told_cause P (Ok a) told = tt
+told_cause P (Err e) told = told
+
 -- what is only unavailable isn't strange
-pub not_strange : {A : Type 0} (P : A → Type 0) (result : Result A StoreFault) → OrUnavailable result P → result ≡ Err Strange → ⊥
-not_strange P (Ok a) told is = absurd cc
-not_strange P (Err e) told is = let same : e ≡ Strange = cc in let no = sym told ∙ same in absurd cc
+pub not_strange : {A : Type 0} (result : Result A StoreFault) → IfErr result (λ e. e ≡ Unavailable) → result ≡ Err Strange → ⊥
+not_strange (Ok a) told is = absurd cc
+not_strange (Err e) told is = let same : e ≡ Strange = cc in let no = sym told ∙ same in absurd cc
 
 -- what is refused isn't done
 pub never_ok : {A : Type 0} (X : Type 0) (result : Result A StoreFault) (P : StoreFault → Type 0) → IsErrAnd result P → OnOk result X

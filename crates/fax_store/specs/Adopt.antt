@@ -1,12 +1,12 @@
 -- What becomes of a database that a store adopts.
-use Rattle.std.specs.Prelude.{◌≡◌, ◌⊎◌, ℕ, pos, Bool, true, false, List, [], ◌∷◌, map, filter, length, Some, Result, MatchResult, IsTrue}
+use Rattle.std.specs.Prelude.{◌≡◌, ◌⊎◌, ◌<◌, ◌^◌, ℕ, pos, Bool, true, false, List, [], ◌∷◌, map, filter, length, Some, Result, MatchResult, IsTrue}
 use Rattle.sqlite.specs.Collation.TheVariants.{Binary}
 use Rattle.sqlite.specs.Effect.{Database, IsDatabase}
 use Rattle.sqlite.specs.Order.{Row, column}
 use Rattle.sqlite.specs.State.{State, HasCleanDisk, KeepsCommit}
 use Rattle.sqlite.specs.Tree.{rowid}
 use Rattle.sqlite.specs.declared.types.Value.{Value}
-use Rattle.sqlite.specs.declared.types.Value.TheVariants.{Int}
+use Rattle.sqlite.specs.declared.types.Value.TheVariants.{Int, Text}
 use Rattle.sqlite_catalog.specs.Change.{KeepsRows}
 use Rattle.sqlite_rules.specs.Lists.{Has}
 use Rattle.sqlite_schema.specs.declared.schema.Schema.{Schema}
@@ -16,6 +16,8 @@ use Rattle.sqlite_sql.specs.declared.ops.CompareOp.TheVariants.{Eq}
 use Rattle.fax_core.specs.Job.{Job}
 use Rattle.fax_core.specs.Queue.{Queue, Entry, empty_queue, job_numbered}
 use Rattle.fax_core.specs.State.{is_of_number}
+use Rattle.fax_job.specs.Dial.{IsCanonical}
+use Rattle.fax_tables.specs.Job.{IsText}
 use Rattle.fax_tables.specs.Row.{number}
 use Rattle.fax_tables.specs.Schema.{AreOurs, no_tables, bare_tables, seven_tables, six_tables, calls_tree, holds_tree, jobs_tree, meta_tree}
 use Rattle.fax_tables.specs.Tables.{GoesOn, IsAtRest, RowsMean}
@@ -27,13 +29,13 @@ use Rattle.fax_store.specs.Store.{RowsFound}
 abbrev pub versions : Database → List Value
 versions db = map (λ r. column r 5) (db.trees meta_tree)
 
--- the hold is of this job, as SQL compares their numbers
-abbrev pub IsOf : Row → Row → Type 0
-IsOf hold job = is_true (binary (Compare Eq Binary) (rowid job) (column hold 2)) ≡ true
+-- this value is the number of the job, as SQL compares them
+abbrev pub IsOf : Value → Row → Type 0
+IsOf value job = is_true (binary (Compare Eq Binary) (rowid job) value) ≡ true
 
 -- each hold is of a job that is there
 abbrev pub HoldJobs : Database → Type 0
-HoldJobs db = (hold : Row) → Has (db.trees holds_tree) hold → (job : Row) × Has (db.trees jobs_tree) job × IsOf hold job
+HoldJobs db = (hold : Row) → Has (db.trees holds_tree) hold → (job : Row) × Has (db.trees jobs_tree) job × IsOf (column hold 2) job
 
 -- the database has our tables, meta has one row, of version 1, and each hold its job
 pub record IsOurs (db : Database) : Type 0 where
@@ -54,20 +56,38 @@ pub record HasWhole (s : State) (db : Database) : Type 0 where
   pub whole : IsWhole db s.now
 
 -- a database with no tables has become an empty store, and one with ours has all tables, and the rows that it had
-abbrev pub Adopts : State → State → Type 0
-Adopts old new = ((old.now.schema ≡ no_tables) × IsAtRest new empty_queue []) ⊎ (IsOurs old.now × HasWhole new old.now)
+abbrev pub Adopts : Database → State → Type 0
+Adopts db new = ((db.schema ≡ no_tables) × IsAtRest new empty_queue []) ⊎ (IsOurs db × HasWhole new db)
 
--- the rows of our tables mean a queue and kept replies, whatever `calls` says, and the version is 1
-pub record IsTold (db : Database) : Type 0 where
+-- the job has a canonical number to dial
+abbrev pub HasDial : Row → Type 0
+HasDial job = (dial : List ℕ) × (column job 2 ≡ Text dial) × IsText IsCanonical dial
+
+-- A job of this number, of 32 bits, is there. Whichever job has it has a canonical number to dial.
+pub record CanBeCalled (db : Database) (n : ℕ) : Type 0 where
+  pub low : n < 2 ^ 32
+  pub job : Row
+  pub there : Has (db.trees jobs_tree) job
+  pub is : IsOf (number n) job
+  pub dials : (other : Row) → Has (db.trees jobs_tree) other → IsOf (number n) other → HasDial other
+
+-- each hold is of such a job
+abbrev pub HoldsCanBeCalled : Database → Type 0
+HoldsCanBeCalled db = (hold : Row) → Has (db.trees holds_tree) hold → (n : ℕ) × (column hold 2 ≡ number n) × CanBeCalled db n
+
+-- Our tables, of version 1. What is held can be called, whatever else the rows say.
+pub record IsTakeable (db : Database) : Type 0 where
   pub schema_is : AreOurs db.schema
   pub version : versions db ≡ number 1 ∷ []
-  pub queue : Queue
-  pub kept : List Entry
-  pub means : RowsMean db queue kept
+  pub held : HoldsCanBeCalled db
 
--- it has no tables, or ours, which mean something
+-- it has no tables, or is such a database
 abbrev pub IsAdoptable : Database → Type 0
-IsAdoptable db = (db.schema ≡ no_tables) ⊎ IsTold db
+IsAdoptable db = (db.schema ≡ no_tables) ⊎ IsTakeable db
+
+-- So is each with our tables whose rows mean a queue and kept replies, whatever `calls` says.
+abbrev pub QueuesAreTakeable : Type 0
+QueuesAreTakeable = (db : Database) (m : Queue) (k : List Entry) → AreOurs db.schema → RowsMean db m k → IsTakeable db
 
 -- ---- the steps of it
 
@@ -105,9 +125,13 @@ pub record IsFilled (db after : Database) : Type 0 where
 
 -- ---- the calls, counted anew
 
--- some counts are set
+-- each count has 32 bits
+abbrev pub AreSmall : (List ℕ → ℕ) → Type 0
+AreSmall count = (dial : List ℕ) → count dial < 2 ^ 32
+
+-- some such counts are set
 abbrev pub HasSet : State → State → Type 0
-HasSet old new = (count : List ℕ → ℕ) × SetsCalls old new count
+HasSet old new = (count : List ℕ → ℕ) × SetsCalls old new count × AreSmall count
 
 -- the number that a value is
 abbrev pub number_of : Value → ℕ
@@ -125,6 +149,10 @@ held_to m rows dial = length (filter (is_to m dial) rows)
 -- each of these rows has the number of a job
 abbrev pub AreOfJobs : Queue → List Row → Type 0
 AreOfJobs m rows = (row : Row) → Has rows row → (j : Job) × (row ≡ number j.number ∷ []) × (job_numbered j.number m ≡ Some j)
+
+-- each of these rows has the number of a job that can be called
+abbrev pub AreCallable : Database → List Row → Type 0
+AreCallable db rows = (row : Row) → Has rows row → (n : ℕ) × (row ≡ number n ∷ []) × CanBeCalled db n
 
 -- ---- a stop
 

@@ -6,11 +6,10 @@ ghost use Rattle.sqlite.specs.Held.{state};
 ghost use Rattle.sqlite.specs.State.{HasCleanDisk, IsUnchanged, KeepsCommit};
 ghost use Rattle.fax_core.specs.Job.{Job as OneJob};
 ghost use Rattle.fax_core.specs.Queue.{Queue, Entry, empty_queue, job_numbered};
-ghost use Rattle.fax_store.specs.Adopt.{Adopts, AreAdopted, AreOfJobs, AreSix, AreWhole, Goes, HasNone, HasSet, HasWhole, HoldJobs, IsAdoptable, IsFilled, IsIn, IsOurs, IsTold, IsWhole, Leaves, held_to, versions};
+ghost use Rattle.fax_store.specs.Adopt.{Adopts, AreAdopted, AreCallable, AreOfJobs, AreSix, AreSmall, AreWhole, CanBeCalled, Goes, HasNone, HasSet, HasWhole, HoldJobs, HoldsCanBeCalled, IsAdoptable, IsFilled, IsIn, IsOurs, IsTakeable, IsWhole, Leaves, held_to, versions};
 ghost use Rattle.fax_store.specs.Grant.{HasCalls, SetsCalls, with_count};
 ghost use Rattle.fax_store.specs.Store.{CommitsNothing, GoesBack, HasTables, LeavesAlone, MayMake, Means, Reads, RowsFound, Serves};
 ghost use Rattle.fax_store.specs.Work.{Withholds};
-ghost use Rattle.fax_tables.specs.Fault.{OrUnavailable};
 ghost use Rattle.fax_tables.specs.Row.{number};
 ghost use Rattle.fax_tables.specs.Schema.{AreInOrder, AreOurs, no_tables, six_tables};
 ghost use Rattle.fax_tables.specs.Stop.{HoldsBack};
@@ -52,7 +51,7 @@ impl<S: Alter> Store<S> {
     ) -> Result<Store<S>, (StoreFault, Connection<S>)>
         requires { (state S.Store conn).in_transaction ≡ false }
         ensures adopts { IfOk result (λ store. HasCleanDisk (state S.Store store.conn)
-            → Adopts (state S.Store conn) (state S.Store store.conn)) }
+            → Adopts (state S.Store conn).now (state S.Store store.conn)) }
         ensures means { IfOk result (λ store. (m : Queue) (k : List Entry)
             → Means (state S.Store conn) m k → Means (state S.Store store.conn) m k) }
         ensures means_rows { IfOk result (λ store. (m : Queue) (k : List Entry)
@@ -105,7 +104,7 @@ impl<S: Alter> Store<S> {
     /// Makes the tables in a database with none, and takes one with ours.
     fn take_tables(&mut self) -> Result<(), StoreFault>
         ensures taken { HasCleanDisk (state S.Store self.new.conn) → OnOk result
-            (Adopts (state S.Store self.old.conn) (state S.Store self.new.conn)) }
+            (Adopts (state S.Store self.old.conn).now (state S.Store self.new.conn)) }
         ensures means { (m : Queue) (k : List Entry) → HasCleanDisk (state S.Store self.new.conn) → OnOk result
             (AreOurs (state S.Store self.old.conn).now.schema → RowsMean (state S.Store self.old.conn).now m k
             → IsAtRest (state S.Store self.new.conn) m k) }
@@ -163,7 +162,7 @@ impl<S: Alter> Store<S> {
         ensures crash { MayMake (state S.Store self.old.conn) (state S.Store self.new.conn) (AreWhole (state S.Store self.old.conn).now) }
         ensures nothing { result ≡ Err StoreFault.Strange → CommitsNothing (state S.Store self.old.conn) (state S.Store self.new.conn) }
         ensures strange { HasCleanDisk (state S.Store self.new.conn) → result ≡ Err StoreFault.Strange
-            → ¬ IsTold (state S.Store self.old.conn).now }
+            → ¬ IsTakeable (state S.Store self.old.conn).now }
     {
         self.conn.execute(BEGIN, &[])?;
         self.renew()?;
@@ -238,7 +237,7 @@ impl<S: Alter> Store<S> {
         ensures clean { HasCleanDisk (state S.Store self.new.conn) → HasCleanDisk (state S.Store self.old.conn) }
         ensures strange { HasCleanDisk (state S.Store self.new.conn) → result ≡ Err StoreFault.Strange
             → HasNone (state S.Store self.old.conn) → versions (state S.Store self.old.conn).now ≡ number 1 ∷ []
-            → (m : Queue) (k : List Entry) → ¬ RowsMean (state S.Store self.old.conn).now m k }
+            → ¬ HoldsCanBeCalled (state S.Store self.old.conn).now }
     {
         self.test_version()?;
         self.test_holds()?;
@@ -289,9 +288,11 @@ impl<S: Alter> Store<S> {
         ensures goes { Goes HasNone IsWhole (state S.Store self.old.conn) (state S.Store self.new.conn) result }
         ensures counted { (m : Queue) (k : List Entry) → HasNone (state S.Store self.old.conn)
             → HasCleanDisk (state S.Store self.new.conn) → RowsMean (state S.Store self.old.conn).now m k
-            → OrUnavailable result (λ _. TablesMean (state S.Store self.new.conn).now m k) }
+            → OnOk result (TablesMean (state S.Store self.new.conn).now m k) }
         ensures crash { HoldsBack HasNone (state S.Store self.old.conn) (state S.Store self.new.conn) }
         ensures clean { HasCleanDisk (state S.Store self.new.conn) → HasCleanDisk (state S.Store self.old.conn) }
+        ensures cause { HasNone (state S.Store self.old.conn) → HasCleanDisk (state S.Store self.new.conn)
+            → HoldsCanBeCalled (state S.Store self.old.conn).now → IfErr result (λ fault. fault ≡ StoreFault.Unavailable) }
     {
         let held = self.show(SELECT_HELD, &[])?;
         self.count_rows(held.as_slice())
@@ -299,16 +300,19 @@ impl<S: Alter> Store<S> {
 
     /// Counts a call for each of these rows, which has the number of a job.
     fn count_rows(&mut self, rows: &[Row]) -> Result<(), StoreFault>
-        ensures set { (count : List ℕ → ℕ) → HasCalls (state S.Store self.old.conn) count
+        ensures set { (count : List ℕ → ℕ) → HasCalls (state S.Store self.old.conn) count → AreSmall count
             → HasCleanDisk (state S.Store self.new.conn) → MatchResult result
             (λ _. HasSet (state S.Store self.old.conn) (state S.Store self.new.conn))
             (λ _. KeepsCommit (state S.Store self.old.conn) (state S.Store self.new.conn)) }
         ensures counted { (m : Queue) (k : List Entry) → RowsMean (state S.Store self.old.conn).now m k
             → AreOfJobs m rows.now → length rows.now < 2 ^ 32 → HasCalls (state S.Store self.old.conn) (λ _. 0)
             → HasCleanDisk (state S.Store self.new.conn)
-            → OrUnavailable result (λ _. SetsCalls (state S.Store self.old.conn) (state S.Store self.new.conn) (held_to m rows.now)) }
+            → OnOk result (SetsCalls (state S.Store self.old.conn) (state S.Store self.new.conn) (held_to m rows.now)) }
         ensures crash { Withholds (state S.Store self.old.conn) false (state S.Store self.new.conn) (is_err result) }
         ensures clean { HasCleanDisk (state S.Store self.new.conn) → HasCleanDisk (state S.Store self.old.conn) }
+        ensures cause { (count : List ℕ → ℕ) → AreCallable (state S.Store self.old.conn).now rows.now
+            → HasCalls (state S.Store self.old.conn) count → AreSmall count
+            → HasCleanDisk (state S.Store self.new.conn) → IfErr result (λ fault. fault ≡ StoreFault.Unavailable) }
     {
         for row in rows {
             self.count_hold(row)?;
@@ -318,7 +322,7 @@ impl<S: Alter> Store<S> {
 
     /// Counts a call to the number of the job that a row has.
     fn count_hold(&mut self, row: &Row) -> Result<(), StoreFault>
-        ensures set { (count : List ℕ → ℕ) → HasCalls (state S.Store self.old.conn) count
+        ensures set { (count : List ℕ → ℕ) → HasCalls (state S.Store self.old.conn) count → AreSmall count
             → HasCleanDisk (state S.Store self.new.conn) → MatchResult result
             (λ _. HasSet (state S.Store self.old.conn) (state S.Store self.new.conn))
             (λ _. KeepsCommit (state S.Store self.old.conn) (state S.Store self.new.conn)) }
@@ -326,10 +330,13 @@ impl<S: Alter> Store<S> {
             → RowsMean (state S.Store self.old.conn).now m k → row.now ≡ number j.number ∷ []
             → job_numbered j.number m ≡ Some j → count j.dial + 1 < 2 ^ 32 → HasCalls (state S.Store self.old.conn) count
             → HasCleanDisk (state S.Store self.new.conn)
-            → OrUnavailable result (λ _. SetsCalls (state S.Store self.old.conn) (state S.Store self.new.conn)
+            → OnOk result (SetsCalls (state S.Store self.old.conn) (state S.Store self.new.conn)
             (with_count j.dial (count j.dial + 1) count)) }
         ensures crash { Withholds (state S.Store self.old.conn) false (state S.Store self.new.conn) (is_err result) }
         ensures clean { HasCleanDisk (state S.Store self.new.conn) → HasCleanDisk (state S.Store self.old.conn) }
+        ensures cause { (n : ℕ) (count : List ℕ → ℕ) → row.now ≡ number n ∷ [] → CanBeCalled (state S.Store self.old.conn).now n
+            → HasCalls (state S.Store self.old.conn) count → AreSmall count
+            → HasCleanDisk (state S.Store self.new.conn) → IfErr result (λ fault. fault ≡ StoreFault.Unavailable) }
     {
         let job = held_job_in(row)?;
         let dial = self.dial_of(job)?;
@@ -342,9 +349,11 @@ impl<S: Alter> Store<S> {
             → Reads (state S.Store self.old.conn) (state S.Store self.new.conn) result }
         ensures answers { (m : Queue) (k : List Entry) (j : OneJob) → HasTables (state S.Store self.old.conn)
             → RowsMean (state S.Store self.old.conn).now m k → job_numbered job m ≡ Some j
-            → HasCleanDisk (state S.Store self.new.conn) → OrUnavailable result (λ dial. dial ≡ j.dial) }
+            → HasCleanDisk (state S.Store self.new.conn) → IfOk result (λ dial. dial ≡ j.dial) }
         ensures crash { CommitsNothing (state S.Store self.old.conn) (state S.Store self.new.conn) }
         ensures clean { HasCleanDisk (state S.Store self.new.conn) → HasCleanDisk (state S.Store self.old.conn) }
+        ensures cause { HasTables (state S.Store self.old.conn) → CanBeCalled (state S.Store self.old.conn).now job
+            → HasCleanDisk (state S.Store self.new.conn) → IfErr result (λ fault. fault ≡ StoreFault.Unavailable) }
     {
         match self.find(SELECT_DIAL, params![job])? {
             Some(found) => dial_in(self.alloc, &found),
@@ -354,21 +363,21 @@ impl<S: Alter> Store<S> {
 
     /// Counts one more call to a number.
     fn add_call(&mut self, dial: &Dial) -> Result<(), StoreFault>
-        ensures set { (count : List ℕ → ℕ) → HasCalls (state S.Store self.old.conn) count
+        ensures set { (count : List ℕ → ℕ) → HasCalls (state S.Store self.old.conn) count → AreSmall count
             → HasCleanDisk (state S.Store self.new.conn) → MatchResult result
             (λ _. HasSet (state S.Store self.old.conn) (state S.Store self.new.conn))
             (λ _. KeepsCommit (state S.Store self.old.conn) (state S.Store self.new.conn)) }
         ensures counted { (count : List ℕ → ℕ) → HasCalls (state S.Store self.old.conn) count
             → count dial.now + 1 < 2 ^ 32 → HasCleanDisk (state S.Store self.new.conn)
-            → OrUnavailable result (λ _. SetsCalls (state S.Store self.old.conn) (state S.Store self.new.conn)
+            → OnOk result (SetsCalls (state S.Store self.old.conn) (state S.Store self.new.conn)
             (with_count dial.now (count dial.now + 1) count)) }
         ensures crash { Withholds (state S.Store self.old.conn) false (state S.Store self.new.conn) (is_err result) }
         ensures clean { HasCleanDisk (state S.Store self.new.conn) → HasCleanDisk (state S.Store self.old.conn) }
+        ensures cause { (count : List ℕ → ℕ) → HasCalls (state S.Store self.old.conn) count → AreSmall count
+            → HasCleanDisk (state S.Store self.new.conn) → IfErr result (λ fault. fault ≡ StoreFault.Unavailable) }
     {
         let calls = self.read_calls(dial)?;
-        let Some(more) = calls.checked_add(1) else {
-            return Err(StoreFault::Strange);
-        };
-        self.set_calls(dial, more)
+        // A number has fewer calls than there are grants, so the sum fits.
+        self.set_calls(dial, calls.saturating_add(1))
     }
 }

@@ -1,10 +1,18 @@
 //! Laws of what the tables mean.
 //!
-//! Such a function does nothing: its contract is the law. The statement stands in `specs/Kept.antt`.
+//! Such a function does nothing: its contract is the law. The statements stand in `specs/Kept.antt` and
+//! `specs/Adopt.antt`.
 
+ghost use Rattle.fax_store.specs.Adopt.{QueuesAreTakeable};
 ghost use Rattle.fax_store.specs.Kept.{TablesKeepOnce};
 
 /// Whatever the tables mean, a request number of a client has one kept reply at most.
 pub fn tables_keep_once()
     ensures { TablesKeepOnce }
+{}
+
+/// A database with the tables of a queue isn't strange to a store where its rows mean one, whatever
+/// its `calls` says.
+pub fn queues_are_takeable()
+    ensures { QueuesAreTakeable }
 {}

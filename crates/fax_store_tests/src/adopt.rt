@@ -172,6 +172,8 @@ fn calls_are_counted_by_what_is_held(rt: HostRuntime) -> Result<(), Fail> {
             1,
         ),
         ("DELETE FROM holds WHERE id = 2", "5550111", 1),
+        ("UPDATE jobs SET priority = 300", "5550111", 2),
+        ("UPDATE meta SET clock = 5000000000", "5550111", 2),
     ] {
         let counted = calls_after(rt.alloc(), change, number)?;
         assert_eq!(rt; counted, Ok(calls), "{change}");
@@ -180,8 +182,15 @@ fn calls_are_counted_by_what_is_held(rt: HostRuntime) -> Result<(), Fail> {
 }
 
 #[test]
-fn a_hold_without_its_job_is_strange(rt: HostRuntime) -> Result<(), Fail> {
-    let counted = calls_after(rt.alloc(), "DELETE FROM jobs WHERE job = 1", "5550111")?;
-    assert_eq!(rt; counted, Err(StoreFault::Strange));
+fn a_hold_that_calls_no_number_is_strange(rt: HostRuntime) -> Result<(), Fail> {
+    for change in [
+        "DELETE FROM jobs WHERE job = 1",
+        "UPDATE jobs SET dial = '555 0111' WHERE job = 2",
+        "UPDATE jobs SET job = -1 WHERE job = 1; UPDATE holds SET job = -1 WHERE job = 1",
+        "UPDATE jobs SET job = 4294967296 WHERE job = 1; UPDATE holds SET job = 4294967296 WHERE job = 1",
+    ] {
+        let counted = calls_after(rt.alloc(), change, "5550111")?;
+        assert_eq!(rt; counted, Err(StoreFault::Strange), "{change}");
+    }
     Ok(())
 }

@@ -8,7 +8,7 @@ use Rattle.sqlite_wal.specs.Recovery.{Image}
 use Rattle.fax_store.specs.Adopt.{Adopts}
 use Rattle.faxqd.specs.Database.{IsFound}
 
-pub found_by : (image : Image) (opened new : State) → FindsIn image opened → Opens opened → Adopts opened new → IsFound image new
+pub found_by : (image : Image) (opened new : State) → FindsIn image opened → Opens opened → Adopts opened.now new → IsFound image new
 found_by image opened new finds opens adopts =
     let same = ap (λ (db : Database). db.trees) opens.clean in
     record {

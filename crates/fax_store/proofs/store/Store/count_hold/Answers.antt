@@ -1,21 +1,28 @@
-use Rattle.std.proofs.Common.{◌≡◌, ◌+◌, ◌<◌, ◌^◌, subst, sym, ap, ◌∙◌}
+use Rattle.std.proofs.Common.{◌≡◌, ◌+◌, ◌<◌, ◌^◌, OnOk, subst, sym, ap, ◌∙◌}
 use Rattle.sqlite.specs.Held.{state}
 use Rattle.fax_core.specs.Queue.{job_numbered}
+use Rattle.fax_store.specs.Adopt.{CanBeCalled}
 use Rattle.fax_store.specs.Grant.{SetsCalls, with_count}
-use Rattle.fax_tables.specs.Fault.{OrUnavailable}
-use Rattle.fax_tables.proofs.ResultLemmas.{or_weaker, passes_on}
 use Rattle.fax_store.proofs.CallLemmas.{has_calls, set_still, set_then}
 use Rattle.fax_store.proofs.HeldLemmas.{job_low}
+use Rattle.fax_store.proofs.WorkLemmas.{ok_as, refused_as}
 use Rattle.fax_store.proofs.store.Store.count_hold.Goals as goal
 
-pub returns-in_err-job-clause-counted : goal.returns-in_err-job-clause-counted
-returns-in_err-job-clause-counted g c m k j count rows is found few has clean =
-    passes_on c.from_residual.result c.in_err-job.field-0.0 _ c.from_residual.ensures.1 (c.in_err-job.ensures j.number is (job_low rows.0 m k rows.1 j.number j found))
+pub returns-in_err-job-clause-cause : goal.returns-in_err-job-clause-cause
+returns-in_err-job-clause-cause g c n count is can has small clean = refused_as c.from_residual.result c.in_err-job.field-0.0 c.from_residual.ensures.1 (c.in_err-job.ensures n is can.low)
 
-pub returns-in_err-dial-clause-counted : goal.returns-in_err-dial-clause-counted
-returns-in_err-dial-clause-counted g c m k j count rows is found few has clean =
-    let job : c.in_ok-job.job ≡ j.number = c.in_ok-job.ensures j.number is (job_low rows.0 m k rows.1 j.number j found) in
-    passes_on c.from_residual-in_err-dial.result c.in_err-dial.field-0.0 _ c.from_residual-in_err-dial.ensures.1 (c.in_err-dial.ensures.answers m k j has.tables rows (ap (λ n. job_numbered n m) job ∙ found) clean)
+pub returns-in_err-dial-clause-cause : goal.returns-in_err-dial-clause-cause
+returns-in_err-dial-clause-cause g c n count is can has small clean =
+    let old = state g.S.Store c.args.self.now.conn in
+    let job : c.in_ok-job.job ≡ n = c.in_ok-job.ensures n is can.low in
+    refused_as c.from_residual-in_err-dial.result c.in_err-dial.field-0.0 c.from_residual-in_err-dial.ensures.1 (c.in_err-dial.ensures.cause has.tables (subst (CanBeCalled old.now) (sym job) can) clean)
+
+pub returns-clause-cause : goal.returns-clause-cause
+returns-clause-cause g c n count is can has small clean =
+    let old = state g.S.Store c.args.self.now.conn in
+    let mid = state g.S.Store c.dial_of.new.self.conn in
+    let first = set_still old mid count has (c.in_ok-dial.ensures.reads has.tables (c.add_call.ensures.clean clean)) in
+    c.add_call.ensures.cause count (has_calls old mid count first) small clean
 
 pub returns-clause-counted : goal.returns-clause-counted
 returns-clause-counted g c m k j count rows is found few has clean =
@@ -28,5 +35,5 @@ returns-clause-counted g c m k j count rows is found few has clean =
     let first = set_still old mid count has (c.in_ok-dial.ensures.reads has.tables at_mid) in
     let low = subst (λ d. count d + 1 < 2 ^ 32) (sym dial) few in
     let added = c.add_call.ensures.counted count (has_calls old mid count first) low clean in
-    or_weaker c.add_call.result _ _ (λ a set. set_then old mid new count (with_count j.dial (count j.dial + 1) count) first set)
-    (subst (λ d. OrUnavailable c.add_call.result (λ _. SetsCalls mid new (with_count d (count d + 1) count))) dial added)
+    ok_as c.add_call.result (λ set. set_then old mid new count (with_count j.dial (count j.dial + 1) count) first set)
+    (subst (λ d. OnOk c.add_call.result (SetsCalls mid new (with_count d (count d + 1) count))) dial added)

@@ -1,13 +1,13 @@
 use Rattle.std.proofs.Common.{◌<◌, ◌^◌, length, sym, subst}
+use Rattle.sqlite.specs.Effect.{Database}
 use Rattle.sqlite.specs.Held.{state}
-use Rattle.fax_store.specs.Adopt.{AreOfJobs, held_to}
+use Rattle.fax_store.specs.Adopt.{AreCallable, AreOfJobs, held_to}
 use Rattle.fax_store.specs.Grant.{SetsCalls}
 use Rattle.fax_tables.proofs.CreateLemmas.{commit_kept}
-use Rattle.fax_tables.proofs.ResultLemmas.{or_weaker}
 use Rattle.fax_store.proofs.CallLemmas.{has_calls, no_calls, set_still, set_then, whole_of}
-use Rattle.fax_store.proofs.HeldLemmas.{held_counted, held_few, held_jobs, rows_still}
+use Rattle.fax_store.proofs.HeldLemmas.{held_callable, held_counted, held_few, held_jobs, none_small, rows_still}
 use Rattle.fax_store.proofs.StatementTexts.{select_held}
-use Rattle.fax_store.proofs.WorkLemmas.{both_as}
+use Rattle.fax_store.proofs.WorkLemmas.{both_as, ok_as}
 use Rattle.fax_store.proofs.store.Store.count_holds.Goals as goal
 
 pub show-requires : goal.show-requires
@@ -22,7 +22,7 @@ returns-clause-goes g c clean has =
     both_as c.count_rows.result
     (λ set. let whole = set_then old mid new (λ _. 0) set.0 first set.1 in (whole.goes_on, whole_of old new set.0 whole))
     (λ kept. commit_kept old mid new first.goes_on kept)
-    (c.count_rows.ensures.set (λ _. 0) (has_calls old mid (λ _. 0) first) clean)
+    (c.count_rows.ensures.set (λ _. 0) (has_calls old mid (λ _. 0) first) none_small clean)
 
 pub returns-clause-counted : goal.returns-clause-counted
 returns-clause-counted g c m k has clean mean =
@@ -36,6 +36,16 @@ returns-clause-counted g c m k has clean mean =
     let shown = c.in_ok-held.ensures.shown at_mid in
     let jobs = subst (AreOfJobs m) (sym c.as_slice.ensures.value) (held_jobs old mid m k has.schema_is mean rows shown) in
     let few = subst (λ rs. length rs < 2 ^ 32) (sym c.as_slice.ensures.value) (held_few old mid m k has.schema_is mean rows shown) in
-    or_weaker c.count_rows.result _ _
-    (λ a set. held_counted old mid m k has.schema_is mean rows shown mid new same.0.now_is (subst (λ rs. SetsCalls mid new (held_to m rs)) c.as_slice.ensures.value set))
+    ok_as c.count_rows.result (λ set. held_counted old mid m k has.schema_is mean rows shown mid new same.0.now_is (subst (λ rs. SetsCalls mid new (held_to m rs)) c.as_slice.ensures.value set))
     (c.count_rows.ensures.counted m k (rows_still old mid m k (λ _. 0) first mean) jobs few (has_calls old mid (λ _. 0) first) clean)
+
+pub returns-clause-cause : goal.returns-clause-cause
+returns-clause-cause g c has clean can =
+    let old = state g.S.Store c.args.self.now.conn in
+    let mid = state g.S.Store c.show.new.self.conn in
+    let at_mid = c.count_rows.ensures.clean clean in
+    let same = c.in_ok-held.ensures.reads has.schema_is at_mid in
+    let first = set_still old mid (λ _. 0) (no_calls old has) same in
+    let rows = c.in_ok-held.held.items in
+    let callable = held_callable old mid has.schema_is rows (c.in_ok-held.ensures.shown at_mid) can in
+    c.count_rows.ensures.cause (λ _. 0) (subst (AreCallable mid.now) (sym c.as_slice.ensures.value) (subst (λ (d : Database). AreCallable d rows) (sym same.0.now_is) callable)) (has_calls old mid (λ _. 0) first) none_small clean

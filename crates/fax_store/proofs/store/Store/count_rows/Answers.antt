@@ -5,24 +5,23 @@ use Rattle.sqlite.specs.Order.{Row}
 use Rattle.sqlite_rules.proofs.ListLemmas.{has_at}
 use Rattle.fax_store.specs.Adopt.{held_to}
 use Rattle.fax_store.specs.Grant.{SetsCalls, with_count}
-use Rattle.fax_tables.proofs.ResultLemmas.{passes_on}
 use Rattle.fax_store.proofs.CallLemmas.{has_calls, sets_as, set_then}
-use Rattle.fax_store.proofs.HeldLemmas.{held_first, held_more, rows_still}
+use Rattle.fax_store.proofs.HeldLemmas.{called_still, held_first, held_more, rows_still}
 use Rattle.fax_store.proofs.StopLemmas.{withholds_then}
+use Rattle.fax_store.proofs.WorkLemmas.{refused_as}
 use Rattle.std.specs.Prelude.{false}
 use Rattle.fax_store.proofs.store.Store.count_rows.Goals as goal
 
-pub returns-in_err-count_hold-clause-counted : goal.returns-in_err-count_hold-clause-counted
-returns-in_err-count_hold-clause-counted g c m k rows jobs few has clean =
+pub returns-in_err-count_hold-clause-cause : goal.returns-in_err-count_hold-clause-cause
+returns-in_err-count_hold-clause-cause g c count callable has small clean =
     let init = state g.S.Store c.args.self.now.conn in
     let cur = state g.S.Store c.loop-row.self.conn in
     let i = c.loop-row.row-index in
     let low : i < length c.args.rows.now = search rules in
-    let counts = held_to m (take i c.args.rows.now) in
-    let set = c.loop-row.invariant.counted m k rows jobs few has (c.count_hold.ensures.clean clean) in
-    let job = jobs c.row-item.result (has_at c.args.rows.now i c.row-item.result low c.row-item.is) in
-    passes_on c.from_residual.result c.in_err-count_hold.field-0.0 _ c.from_residual.ensures.1
-    (c.in_err-count_hold.ensures.counted m k job.0 counts (rows_still init cur m k counts set rows) job.1 job.2 (held_first m c.args.rows.now i (job.0).dial low few) (has_calls init cur counts set) clean)
+    let set = c.loop-row.invariant.set count has small (c.count_hold.ensures.clean clean) in
+    let it = callable c.row-item.result (has_at c.args.rows.now i c.row-item.result low c.row-item.is) in
+    refused_as c.from_residual.result c.in_err-count_hold.field-0.0 c.from_residual.ensures.1
+    (c.in_err-count_hold.ensures.cause it.0 set.0 it.1 (called_still init.now cur.now set.1.rows.0 it.0 it.2) (has_calls init cur set.0 set.1) set.2 clean)
 
 pub loop-row-preserved : goal.loop-row-preserved
 loop-row-preserved g c =
@@ -33,10 +32,10 @@ loop-row-preserved g c =
     record {
       clean = λ now. c.loop-row.invariant.clean (c.count_hold.ensures.clean now);
       crash = withholds_then init cur new false c.loop-row.invariant.crash c.in_ok-count_hold.ensures.crash;
-      set = λ count has clean.
-          let before = c.loop-row.invariant.set count has (c.count_hold.ensures.clean clean) in
-          let after = c.in_ok-count_hold.ensures.set before.0 (has_calls init cur before.0 before.1) clean in
-          (after.0, set_then init cur new before.0 after.0 before.1 after.1);
+      set = λ count has small clean.
+          let before = c.loop-row.invariant.set count has small (c.count_hold.ensures.clean clean) in
+          let after = c.in_ok-count_hold.ensures.set before.0 (has_calls init cur before.0 before.1) before.2 clean in
+          (after.0, set_then init cur new before.0 after.0 before.1 after.1, after.2);
       counted = λ m k rows jobs few has clean.
           let low : i < length c.args.rows.now = search rules in
           let counts = held_to m (take i c.args.rows.now) in

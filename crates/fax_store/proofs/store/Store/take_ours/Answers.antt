@@ -2,7 +2,7 @@ use Rattle.sqlite.specs.Held.{state}
 use Rattle.fax_tables.proofs.CreateLemmas.{refused_keeps}
 use Rattle.fax_tables.proofs.ResultLemmas.{on_err}
 use Rattle.fax_store.specs.declared.store.TheConstants.{BEGIN}
-use Rattle.fax_store.proofs.AdoptLemmas.{filling_holds_back, filling_kept, has_none, has_whole, kept_served, makes_none, not_taken, renewing_holds_back, renewing_kept, starts, taking_stops, told_means, told_strange, told_version, was_ours, whole_means}
+use Rattle.fax_store.proofs.AdoptLemmas.{filling_holds_back, filling_kept, has_none, has_whole, kept_served, makes_none, not_taken, renewing_holds_back, renewing_kept, starts, still_callable, still_means, still_version, taking_stops, told_strange, was_ours, whole_means}
 use Rattle.fax_store.proofs.StoreLemmas.{cleaner, commit_opens}
 use Rattle.fax_store.proofs.StopLemmas.{begin_nothing}
 use Rattle.fax_store.proofs.store.Store.take_ours.Goals as goal
@@ -89,7 +89,7 @@ returns-in_err-fill-clause-crash g c =
     (filling_holds_back s0 s1 c.requires c.in_ok-execute.field-0 c.execute.ensures.survives c.in_ok-execute.ensures.runs s2 c.renew.ensures.crash c.renew.ensures.clean c.in_ok-renew.ensures.goes s3 c.fill.ensures.crash)
 
 pub returns-in_err-fill-clause-strange : goal.returns-in_err-fill-clause-strange
-returns-in_err-fill-clause-strange g c clean is told =
+returns-in_err-fill-clause-strange g c clean is ours =
     let s0 = state g.S.Store c.args.self.now.conn in
     let s1 = state g.S.Store c.execute.new.self in
     let s2 = state g.S.Store c.renew.new.self.conn in
@@ -97,7 +97,7 @@ returns-in_err-fill-clause-strange g c clean is told =
     let began = c.in_ok-execute.ensures.runs (c.renew.ensures.clean clean2) in
     let made = c.in_ok-renew.ensures.goes clean2 in
     c.in_err-fill.ensures.strange clean (told_strange c.from_residual-in_err-fill.result c.in_err-fill.field-0.0 c.from_residual-in_err-fill.ensures.1 is) (has_none s0 s1 c.requires c.in_ok-execute.field-0 began s2 made)
-    (told_version s0 s1 c.requires c.in_ok-execute.field-0 began s2 made told) told.queue told.kept (told_means s0 s1 c.requires c.in_ok-execute.field-0 began s2 made told.queue told.kept told.means)
+    (still_version s0 s1 c.requires c.in_ok-execute.field-0 began s2 made ours.version) (still_callable s0 s1 c.requires c.in_ok-execute.field-0 began s2 made ours.held)
 
 pub returns-in_err-execute-2-clause-kept : goal.returns-in_err-execute-2-clause-kept
 returns-in_err-execute-2-clause-kept g c clean =
@@ -167,7 +167,7 @@ returns-clause-means g c m k clean mean =
     let none = has_none s0 s1 c.requires c.in_ok-execute.field-0 began s2 made in
     let filled = c.in_ok-fill.ensures.goes clean3 none in
     whole_means s0 s1 c.requires c.in_ok-execute.field-0 began s2 made s3 filled s4 c.in_ok-execute-2.field-0 (c.in_ok-execute-2.ensures.runs clean) m k
-    (c.in_ok-fill.ensures.counted m k none clean3 (told_means s0 s1 c.requires c.in_ok-execute.field-0 began s2 made m k mean))
+    (c.in_ok-fill.ensures.counted m k none clean3 (still_means s0 s1 c.requires c.in_ok-execute.field-0 began s2 made m k mean))
 
 pub returns-clause-served : goal.returns-clause-served
 returns-clause-served g c s =

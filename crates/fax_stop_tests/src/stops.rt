@@ -3,8 +3,8 @@
 //! The log and the database file are disks in memory, which keep at a crash what was synced. One of the two passes so
 //! many calls on and is then frozen: for each number of calls, until a message is answered on files that are opened for
 //! it.
-use crate::one_fax::{Exchange, ONE_FAX, TWO_MODEMS, arrival_of, is_reply};
 use fax_dest::{Controls, Setup};
+use fax_example::{Exchange, ONE_FAX, TWO_MODEMS, arrival_of, is_reply};
 use fax_job::Moment;
 use fax_once::Queue;
 use fax_store::Store;
