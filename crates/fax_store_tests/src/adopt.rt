@@ -6,7 +6,7 @@ use std::alloc::Global;
 use std::test::Fail;
 
 /// The store over a database, or why it isn't taken.
-fn adopt(alloc: Global, conn: Connection<MemStore>) -> Result<MemoryStore, StoreFault> {
+pub(crate) fn adopt(alloc: Global, conn: Connection<MemStore>) -> Result<MemoryStore, StoreFault> {
     if !conn.is_autocommit() {
         return Err(StoreFault::Unavailable);
     }
@@ -17,7 +17,7 @@ fn adopt(alloc: Global, conn: Connection<MemStore>) -> Result<MemoryStore, Store
 }
 
 /// A database with the tables of an empty store.
-fn database(alloc: Global) -> Result<Connection<MemStore>, Fail> {
+pub(crate) fn database(alloc: Global) -> Result<Connection<MemStore>, Fail> {
     let store = adopt(alloc, Connection::open_in_memory(alloc)?)?;
     Ok(store.close())
 }

@@ -7,3 +7,5 @@ mod adopt;
 mod rows;
 #[cfg(test)]
 mod store;
+#[cfg(test)]
+mod waiting;
