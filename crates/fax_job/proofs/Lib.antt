@@ -5,6 +5,8 @@ pub mod LineLemmas
 pub mod BlankLemmas
 mod CommaLemmas
 pub mod PairLemmas
+pub mod ListLemmas
+pub mod LineTextLemmas
 pub mod StatusLemmas
 pub mod ReadLemmas
 pub mod JobLemmas

@@ -10,6 +10,7 @@ pub mod Value
 pub mod JobTag
 pub mod Tag
 pub mod Pair
+pub mod LineText
 pub mod Spelling
 pub mod Reading
 pub mod Spells

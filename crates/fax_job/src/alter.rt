@@ -149,9 +149,12 @@ impl Lines {
     fn is_alterable(&self) -> bool
         ensures { result ≡ list_all (λ p. is_alterable p.tag) self.now }
     {
-        self.as_slice()
-            .iter()
-            .all(|line| is_alterable_tag(line.tag()))
+        for index in 0..self.len() {
+            if !is_alterable_tag(self.line(index).tag()) {
+                return false;
+            }
+        }
+        true
     }
 }
 

@@ -11,7 +11,8 @@ ghost use Rattle.fax_job.specs.Pair.{pair, IsPair, are_unknown};
 use crate::dial::Dial;
 use crate::job_tag::JobTag;
 use crate::limits::{LAST_JOB, LAST_NEXT, MOST_ATTEMPTS, MOST_PAGES};
-use crate::lines::{Line, Lines};
+use crate::line_text::LineText;
+use crate::lines::Lines;
 use crate::moment::Moment;
 use crate::name::Name;
 use crate::status::Status;
@@ -183,13 +184,13 @@ impl Job {
         ensures { IfOk result (λ lines. lines ≡ job_lines self.now state) }
     {
         let fields = &self.fields;
-        let mut items = Vec::new(alloc);
-        push_order(alloc, &mut items, fields)?;
-        push_counters(alloc, &mut items, fields)?;
-        push_number(alloc, &mut items, "state", u32::from(state))?;
-        push_text(alloc, &mut items, "status", fields.status.text())?;
-        push_copies(alloc, &mut items, fields.extra.as_slice())?;
-        Ok(Lines::from_items(items))
+        let mut lines = LineText::new(alloc);
+        push_order(alloc, &mut lines, fields)?;
+        push_counters(alloc, &mut lines, fields)?;
+        push_number(alloc, &mut lines, "state", u32::from(state))?;
+        lines.push("status", fields.status.text())?;
+        push_copies(&mut lines, fields.extra.as_text())?;
+        Ok(Lines::from_text(lines))
     }
 }
 
@@ -205,20 +206,25 @@ fn is_lawful_killtime(killtime: Option<Moment>) -> bool
 fn has_unknown_tags(lines: &Lines) -> bool
     ensures { result ≡ are_unknown lines.now }
 {
-    lines.as_slice().iter().all(|line| !is_known(line.tag()))
+    for index in 0..lines.len() {
+        if is_known(lines.line(index).tag()) {
+            return false;
+        }
+    }
+    true
 }
 
-fn push_order(alloc: Global, items: &mut Vec<Line>, fields: &JobFields) -> Result<(), AllocError>
-    ensures pushed { OnOk result (items.new.items ≡ items.old.items ++ order_lines fields.now) }
+fn push_order(alloc: Global, text: &mut LineText, fields: &JobFields) -> Result<(), AllocError>
+    ensures pushed { OnOk result (text.new ≡ text.old ++ order_lines fields.now) }
     ensures formed { OnOk result (AllByRecursion IsPair (order_lines fields.now)) }
 {
-    push_number(alloc, items, "jobid", fields.job)?;
-    push_text(alloc, items, "number", fields.dial.text())?;
-    push_text(alloc, items, "modem", fields.modem.as_str())?;
-    push_text(alloc, items, "jobtag", fields.jobtag.as_str())?;
-    push_number(alloc, items, "tts", fields.tts.seconds())?;
-    push_number(alloc, items, "killtime", seconds(fields.killtime))?;
-    push_number(alloc, items, "priority", u32::from(fields.priority))?;
+    push_number(alloc, text, "jobid", fields.job)?;
+    text.push("number", fields.dial.text())?;
+    text.push("modem", fields.modem.as_str())?;
+    text.push("jobtag", fields.jobtag.as_str())?;
+    push_number(alloc, text, "tts", fields.tts.seconds())?;
+    push_number(alloc, text, "killtime", seconds(fields.killtime))?;
+    push_number(alloc, text, "priority", u32::from(fields.priority))?;
     Ok(())
 }
 
@@ -232,47 +238,36 @@ fn seconds(moment: Option<Moment>) -> u32
     }
 }
 
-fn push_counters(alloc: Global, items: &mut Vec<Line>, fields: &JobFields) -> Result<(), AllocError>
-    ensures pushed { OnOk result (items.new.items ≡ items.old.items ++ counter_lines fields.now) }
+fn push_counters(alloc: Global, text: &mut LineText, fields: &JobFields) -> Result<(), AllocError>
+    ensures pushed { OnOk result (text.new ≡ text.old ++ counter_lines fields.now) }
     ensures formed { OnOk result (AllByRecursion IsPair (counter_lines fields.now)) }
 {
-    push_number(alloc, items, "npages", u32::from(fields.npages))?;
-    push_number(alloc, items, "totpages", u32::from(fields.totpages))?;
-    push_number(alloc, items, "ntries", u32::from(fields.ntries))?;
-    push_number(alloc, items, "tottries", u32::from(fields.tottries))?;
-    push_number(alloc, items, "maxtries", u32::from(fields.maxtries))?;
-    push_number(alloc, items, "ndials", u32::from(fields.ndials))?;
-    push_number(alloc, items, "totdials", u32::from(fields.totdials))?;
-    push_number(alloc, items, "maxdials", u32::from(fields.maxdials))?;
+    push_number(alloc, text, "npages", u32::from(fields.npages))?;
+    push_number(alloc, text, "totpages", u32::from(fields.totpages))?;
+    push_number(alloc, text, "ntries", u32::from(fields.ntries))?;
+    push_number(alloc, text, "tottries", u32::from(fields.tottries))?;
+    push_number(alloc, text, "maxtries", u32::from(fields.maxtries))?;
+    push_number(alloc, text, "ndials", u32::from(fields.ndials))?;
+    push_number(alloc, text, "totdials", u32::from(fields.totdials))?;
+    push_number(alloc, text, "maxdials", u32::from(fields.maxdials))?;
     Ok(())
 }
 
-fn push_number(
-    alloc: Global,
-    items: &mut Vec<Line>,
-    tag: &str,
-    number: u32,
-) -> Result<(), AllocError>
-    ensures pushed { OnOk result (items.new.items ≡ items.old.items ++ pair tag.now (decimal number) ∷ []) }
+fn push_number(alloc: Global, text: &mut LineText, tag: &str, number: u32) -> Result<(), AllocError>
+    ensures pushed { OnOk result (text.new ≡ text.old ++ pair tag.now (decimal number) ∷ []) }
     ensures bound { number < 2 ^ 32 }
 {
     let value = number.to_string(alloc)?;
-    push_text(alloc, items, tag, value.as_str())
+    text.push(tag, value.as_str())
 }
 
-fn push_text(alloc: Global, items: &mut Vec<Line>, tag: &str, value: &str) -> Result<(), AllocError>
-    ensures pushed { OnOk result (items.new.items ≡ items.old.items ++ pair tag.now value.now ∷ []) }
-    ensures utf8 { IsUtf8 value.now }
+#[tactic(auto, using(crate::proofs::ListLemmas::copied_next))]
+fn push_copies(text: &mut LineText, extra: &LineText) -> Result<(), AllocError>
+    ensures { OnOk result (text.new ≡ text.old ++ extra.now) }
 {
-    items.push(Line::new(alloc, tag, value)?)?;
-    Ok(())
-}
-
-fn push_copies(alloc: Global, items: &mut Vec<Line>, lines: &[Line]) -> Result<(), AllocError>
-    ensures { OnOk result (items.new.items ≡ items.old.items ++ lines.now) }
-{
-    for line in lines {
-        items.push(line.copy(alloc)?)?;
+    for index in 0..extra.len() {
+        let line = extra.line(index);
+        text.push(line.tag(), line.value())?;
     }
     Ok(())
 }

@@ -1,35 +1,17 @@
 //! Key lines: lists of (tag, value).
 
-ghost use Rattle.std.specs.Prelude.{◌≡◌, ◌++◌, ◌∷◌, ◌&&◌, ◌==◌, [], true, false, length, IfOk, OnOk, OnErr};
-ghost use Rattle.std.specs.Option.{option_copied};
-ghost use Rattle.fax_job.specs.Pair.{pair, is_pair, ArePairs, has_tag, value_of};
-ghost use Rattle.fax_job.specs.Tag.{is_known};
+ghost use Rattle.std.specs.Prelude.{◌≡◌};
 ghost use Rattle.fax_job.specs.declared.lines.LineKind.TheVariants.{NoMemory};
 
+use crate::line_text::{Line, LineText};
 use std::alloc::{AllocError, AllocFailed, Global};
 use std::marker::Model;
 use thiserror::Error;
 
-/// A tag and its value.
-#[derive(Debug, Drop)]
-pub struct Line {
-    tag: String,
-    value: String,
-}
-
-impl Model for Line {
-    ghost use Rattle.std.specs.String.{string_bytes};
-    ghost use Rattle.fax_job.specs.Pair.{Pair, pair};
-
-    ghost Value = { Pair };
-
-    ghost view = { λ line. pair (string_bytes line.tag) (string_bytes line.value) };
-}
-
 /// A list of tags with their values.
 #[derive(Debug, Drop)]
 pub struct Lines {
-    items: Vec<Line>,
+    text: LineText,
 }
 
 impl Model for Lines {
@@ -38,9 +20,9 @@ impl Model for Lines {
 
     ghost Value = { List Pair };
 
-    ghost view = { λ lines. lines.items.items };
+    ghost view = { λ lines. lines.text };
 
-    ghost invariant = { λ lines. ArePairs lines.items.items };
+    ghost invariant = { λ lines. ArePairs lines.text };
 }
 
 /// What is wrong with a line.
@@ -120,96 +102,93 @@ impl<T: Drop> From<AllocFailed<T>> for LineFault {
     }
 }
 
-impl Line {
-    pub(crate) fn new(alloc: Global, tag: &str, value: &str) -> Result<Line, AllocError>
-        ensures { IfOk result (λ line. line ≡ pair tag.now value.now) }
-    {
-        let tag = String::from_str(alloc, tag)?;
-        let value = String::from_str(alloc, value)?;
-        Ok(Line { tag, value })
-    }
-
-    /// The same line.
-    pub(crate) fn copy(&self, alloc: Global) -> Result<Line, AllocError>
-        ensures { IfOk result (λ line. line ≡ self.now) }
-    {
-        Line::new(alloc, self.tag(), self.value())
-    }
-
-    pub fn tag(&self) -> &str
-        ensures { result.now ≡ self.now.tag }
-    {
-        self.tag.as_str()
-    }
-
-    pub fn value(&self) -> &str
-        ensures { result.now ≡ self.now.value }
-    {
-        self.value.as_str()
-    }
-}
-
 impl Lines {
+    ghost use Rattle.std.specs.Prelude.{◌≡◌, ◌<◌, ◌++◌, ◌∷◌, ◌&&◌, ◌==◌, [], true, false, Some, length, find, slice_get, OnOk, OnErr};
+    ghost use Rattle.std.specs.Option.{option_copied};
+    ghost use Rattle.std.specs.Str.{bytes_eq};
+    ghost use Rattle.fax_job.specs.Pair.{pair, is_pair, ArePairs, has_tag, value_of};
+    ghost use Rattle.fax_job.specs.Tag.{is_known};
+
     /// No lines.
     pub fn new(alloc: Global) -> Lines
         ensures { result ≡ [] }
     {
         Lines {
-            items: Vec::new(alloc),
+            text: LineText::new(alloc),
         }
     }
 
-    /// The lines of a list.
-    pub(crate) fn from_items(items: Vec<Line>) -> Lines
-        requires { ArePairs items.items }
-        ensures { result ≡ items.items }
+    /// The lines of a text.
+    pub(crate) fn from_text(text: LineText) -> Lines
+        requires { ArePairs text }
+        ensures { result ≡ text }
     {
-        Lines { items }
+        Lines { text }
+    }
+
+    /// The text that the lines stand in.
+    pub(crate) fn as_text(&self) -> &LineText
+        ensures lines { result.now ≡ self.now }
+        ensures lawful { ArePairs self.now }
+    {
+        &self.text
     }
 
     pub fn len(&self) -> usize
         ensures { result ≡ length self.now }
     {
-        self.items.len()
+        self.text.len()
     }
 
     pub fn is_empty(&self) -> bool
         ensures { result ≡ (length self.now == 0) }
     {
-        self.items.is_empty()
+        self.text.is_empty()
     }
 
-    /// The lines in their order.
-    pub fn as_slice(&self) -> &[Line]
-        ensures lines { result.now ≡ self.now }
-        ensures lawful { ArePairs self.now }
+    /// The line at an index, counted from 0.
+    pub fn line(&self, index: usize) -> Line<'_>
+        requires { index < length self.now }
+        ensures { slice_get self.now index ≡ Some result }
     {
-        self.items.as_slice()
+        self.text.line(index)
     }
 
     /// Adds a line at the end. A known tag may stand once.
-    pub(crate) fn push(&mut self, line: Line) -> Result<(), AllocError>
-        requires formed { is_pair line ≡ true }
-        requires once { (is_known line.tag && has_tag line.tag self.old) ≡ false }
-        ensures ok { OnOk result (self.new ≡ self.old ++ line ∷ []) }
+    pub(crate) fn push(&mut self, tag: &str, value: &str) -> Result<(), AllocError>
+        requires formed { is_pair (pair tag.now value.now) ≡ true }
+        requires once { (is_known tag.now && has_tag tag.now self.old) ≡ false }
+        ensures ok { OnOk result (self.new ≡ self.old ++ pair tag.now value.now ∷ []) }
         ensures err { OnErr result (self.new ≡ self.old) }
     {
-        let _ = &line.value;
-        self.items.push(line)?;
+        self.text.push(tag, value)?;
         Ok(())
     }
 
     pub(crate) fn has_tag(&self, tag: &str) -> bool
         ensures { result ≡ has_tag tag.now self.now }
     {
-        self.items.iter().any(|line| line.tag() == tag)
+        self.find(tag).is_some()
     }
 
     /// The value of the first line with that tag.
     pub fn get(&self, tag: &str) -> Option<&str>
         ensures { option_copied result ≡ value_of tag.now self.now }
     {
-        let line = self.items.iter().find(|line| line.tag() == tag)?;
+        let line = self.find(tag)?;
         Some(line.value())
+    }
+
+    /// The first line with that tag.
+    fn find(&self, tag: &str) -> Option<Line<'_>>
+        ensures { result ≡ find (λ p. bytes_eq p.tag tag.now) self.now }
+    {
+        for index in 0..self.len() {
+            let line = self.line(index);
+            if line.tag() == tag {
+                return Some(line);
+            }
+        }
+        None
     }
 }

@@ -151,13 +151,16 @@ impl Lines {
     }
 
     /// The lines whose tags aren't known, in their order.
+    #[tactic(auto, using(crate::proofs::ListLemmas::extra_next, crate::proofs::ListLemmas::extra_over))]
     fn extra(&self, alloc: Global) -> Result<Lines, AllocError>
         ensures { IfOk result (λ extra. extra ≡ extra_of self.now) }
     {
         let mut extra = Lines::new(alloc);
-        for line in self.as_slice() {
+        let text = self.as_text();
+        for index in 0..text.len() {
+            let line = text.line(index);
             if !is_known(line.tag()) {
-                extra.push(line.copy(alloc)?)?;
+                extra.push(line.tag(), line.value())?;
             }
         }
         Ok(extra)

@@ -11,7 +11,7 @@ ghost use Rattle.fax_job.specs.Reading.{lines, is_skipped, at_colon, before_back
 ghost use Rattle.fax_job.specs.Tag.{is_known};
 
 use crate::blank::{is_of_blanks, without_blanks};
-use crate::lines::{Line, LineFault, LineKind, Lines};
+use crate::lines::{LineFault, LineKind, Lines};
 use crate::tag::{is_known, is_tag};
 use crate::value::is_plain;
 use std::alloc::{AllocError, Global};
@@ -136,7 +136,7 @@ fn take(
     match begun_part(tag, value) {
         Some(part) => Ok(Some(joined(alloc, "", part, "\n")?)),
         None => {
-            lines.push(Line::new(alloc, tag, value)?)?;
+            lines.push(tag, value)?;
             Ok(None)
         }
     }
@@ -178,7 +178,7 @@ fn go_on(
         None => {
             let mut value = begun;
             value.push_str(line)?;
-            lines.push(Line::new(alloc, "status", value.as_str())?)?;
+            lines.push("status", value.as_str())?;
             Ok(None)
         }
     }

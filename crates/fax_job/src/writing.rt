@@ -5,18 +5,21 @@ ghost use Rattle.fax_job.specs.Pair.{Pair, ArePairs};
 ghost use Rattle.fax_job.specs.Spells.{Spells};
 ghost use Rattle.fax_job.specs.Spelling.{escaped, printed_pair, printed};
 
-use crate::lines::{Line, Lines};
+use crate::line_text::Line;
+use crate::lines::Lines;
 use std::alloc::{AllocError, Global};
 
 /// The printed spelling: for each line its tag, `:`, its value and LF, with `\` before an LF of a
 /// status.
+#[tactic(auto, using(crate::proofs::ListLemmas::printed_next))]
 pub fn write_lines(alloc: Global, lines: &Lines) -> Result<Vec<u8>, AllocError>
     ensures printed { IfOk result (λ text. text.items ≡ printed lines.now) }
     ensures lawful { ArePairs lines.now }
 {
     let mut out = Vec::new(alloc);
-    for line in lines.as_slice() {
-        write_line(&mut out, line)?;
+    let text = lines.as_text();
+    for index in 0..text.len() {
+        write_line(&mut out, &text.line(index))?;
     }
     Ok(out)
 }

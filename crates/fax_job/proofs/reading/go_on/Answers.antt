@@ -13,7 +13,7 @@ pub push-requires-clause-formed : goal.push-requires-clause-formed
 push-requires-clause-formed c =
     let plain : is_plain c.args.line.now ≡ true = cc in
     let value : c.as_str-in-None.result.now ≡ string_bytes c.args.begun ++ c.args.line.now = c.as_str-in-None.ensures.value ∙ c.in_ok-push_str-in-None.ensures.bytes in
-    rw (c.in_ok-new-in-None.ensures, value) (pair_of_parts c.args.lines.now (string_bytes c.args.begun) c.args.line.now c.requires plain (sym c.in-None.ensures))
+    rw value (pair_of_parts c.args.lines.now (string_bytes c.args.begun) c.args.line.now c.requires plain (sym c.in-None.ensures))
 
 pub push-requires-clause-once : goal.push-requires-clause-once
-push-requires-clause-once c = rw c.in_ok-new-in-None.ensures (once_of_parts c.args.lines.now (string_bytes c.args.begun) c.requires)
+push-requires-clause-once c = (once_of_parts c.args.lines.now (string_bytes c.args.begun) c.requires)

@@ -11,4 +11,4 @@ returns-in_ok-joined-in-Some-clause-opened c =
 pub push-requires-clause-formed : goal.push-requires-clause-formed
 push-requires-clause-formed c =
     let p : Pair = pair c.args.tag.now c.args.value.now in
-    rw c.in_ok-new-in-None.ensures (pair_of_entry c.args.lines.now p (sym c.in-None.ensures) c.requires)
+    pair_of_entry c.args.lines.now p (sym c.in-None.ensures) c.requires
