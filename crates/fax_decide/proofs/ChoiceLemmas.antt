@@ -1,28 +1,35 @@
 -- Which job is the best: the first that may go among the waiting jobs in the order of the choice.
-use Rattle.std.proofs.Common.{◌≡◌, ◌⊎◌, inl, inr, ℕ, zero, suc, ◌+◌, ◌<◌, Bool, true, false, cond, ◌&&◌, ◌||◌, eqb, leb, ltb, All, List, [], ◌∷◌, ◌++◌, map, get_or, refl, sym, ap, ap₂, subst, ◌∙◌, arith, append_assoc, drop, take-append-drop}
-use Rattle.std.specs.Prelude.{Option, Some, None, Result, Ok, Err, IfOk, find, filter}
+use Rattle.std.proofs.Common.{◌≡◌, ◌⊎◌, inl, inr, ℕ, zero, suc, ◌+◌, ◌<◌, Bool, true, false, not, cond, ◌&&◌, ◌||◌, eqb, leb, ltb, All, List, [], ◌∷◌, ◌++◌, map, get_or, refl, sym, ap, ap₂, subst, ◌∙◌, arith, append_assoc, drop, take-append-drop}
+use Rattle.std.specs.Prelude.{Option, Some, None, find, filter, nat_lt}
 use Rattle.std.specs.List.Sorted.{IsPermutation, IsSortedBy}
 use Rattle.std.specs.Option.{option_map}
 use Rattle.std.proofs.lemmas.Bool.{and_parts, eqb-true, not-true, true≢false}
+use Rattle.std.proofs.lemmas.Option.{none-some, same_Some}
 use Rattle.std.proofs.lemmas.Bool.Decides.{nat_tests}
 use Rattle.std.proofs.lemmas.List.Sorted.{IsPermutation-sym, All-permutation}
 use Rattle.fax_job.specs.Status.{kill_time_expired}
 use Rattle.fax_job.specs.declared.job.JobFields.{JobFields}
-use Rattle.fax_job.specs.declared.job.Phase.TheVariants.{Failed}
+use Rattle.fax_job.specs.declared.job.Phase.{Phase}
+use Rattle.fax_job.specs.declared.job.Phase.TheVariants.{Held, Waiting, Granted, Done, Failed}
 use Rattle.fax_core.specs.Ageing.{aged, aged_job, expires, is_past}
 use Rattle.fax_core.specs.Best.{better, may_go, best, Precedes, MayGo, IsBest}
 use Rattle.fax_core.specs.Job.{Job, job_of, fields_of}
-use Rattle.fax_core.specs.Queue.{Queue}
+use Rattle.fax_core.specs.Queue.{Queue, job_numbered}
 use Rattle.fax_core.specs.Settings.{Settings}
 use Rattle.fax_core.specs.Sound.{Sound}
-use Rattle.fax_core.specs.State.{is_due, is_waiting, state}
+use Rattle.fax_core.specs.State.{calls_to, is_due, is_waiting, state, state_in}
 use Rattle.fax_core.proofs.BestLemmas.{best_is, best_alone, none_goes, ready_due}
 use Rattle.fax_core.proofs.FitsLemmas.{job_again}
 use Rattle.fax_core.proofs.PlaceLemmas.{In, found, found_in, none_passes, in_filter, of_filter, in_found}
 use Rattle.fax_core.proofs.StepLemmas.{aged_sound}
 use Rattle.fax_tables.specs.Job.{IsLawfulJob}
-use Rattle.fax_store.specs.Candidates.{Gives, StandsAt}
-use Rattle.fax_store.specs.Job.{AreWaiting, IsWaiting}
+use Rattle.sqlite.specs.Order.{Row}
+use Rattle.fax_tables.specs.declared.prospect.Prospect.{Prospect}
+use Rattle.fax_store.specs.Candidates.{Gives, IsProspect, StandsAt, is_behind}
+use Rattle.fax_store.specs.declared.candidates.Front.{Front}
+use Rattle.fax_store.specs.Job.{AreWaiting}
+use Rattle.fax_decide.specs.Choice.{IsFirst}
+use Rattle.fax_decide.specs.State.{may_call}
 use Rattle.fax_decide.proofs.CallLemmas.{state_aged}
 
 -- ---- what ageing leaves alone
@@ -182,75 +189,115 @@ module _ (s : Settings) (m : Queue) (t : ℕ) (modem : List ℕ) (jobs : List Jo
   first_waiting : find goes jobs ≡ best s (aged t m) t modem
   first_waiting = by_cases (find goes jobs) (best s (aged t m) t modem) refl refl
 
--- ---- records
+-- ---- a job that is due
+
+-- it may go where a call to its number may begin and its modem value admits the modem
+ready_in : (phase : Phase) (j : Job) (hours : Bool) (calls limit t : ℕ) → is_waiting phase ≡ true → is_past j.killtime t ≡ false → leb j.tts t ≡ true → leb j.next t ≡ true
+    → eqb (state_in phase j hours calls limit t) 5 ≡ (hours && nat_lt calls limit)
+ready_in Held j hours calls limit t waits past tts next = absurd cc
+ready_in Granted j hours calls limit t waits past tts next = absurd cc
+ready_in Done j hours calls limit t waits past tts next = absurd cc
+ready_in Failed j hours calls limit t waits past tts next = absurd cc
+ready_in Waiting j hours calls limit t waits past tts next =
+    let sent : nat_lt t j.tts ≡ false = grind (arith, nat_tests) in
+    let tried : nat_lt t j.next ≡ false = grind (arith, nat_tests) in
+    let full : nat_lt calls limit ≡ not (leb limit calls) = grind (arith, nat_tests) in
+    rw (past, sent, tried, full) (by hours (leb limit calls))
+  where
+    by : (a b : Bool) → eqb (cond (not a) 2 (cond b 4 5)) 5 ≡ (a && not b)
+    by true true = refl
+    by true false = refl
+    by false true = refl
+    by false false = refl
+
+pub goes_due : (s : Settings) (m : Queue) (t : ℕ) (modem : List ℕ) (j : Job) → is_due j t ≡ true → may_go s m t modem j ≡ (may_call s j.dial (calls_to j.dial m) t && s.admits j.modem modem)
+goes_due s m t modem j due =
+    let a = and_parts _ (leb j.next t) due in
+    let b = and_parts _ (leb j.tts t) a.0 in
+    let parts = due_parts j t due in
+    ap (λ b. b && s.admits j.modem modem) (ready_in j.phase j ((s.rule j.dial).hours t) (calls_to j.dial m) (s.rule j.dial).calls t parts.0 parts.1 b.1 a.1)
+
+-- ---- the first that may go
+
+abbrev pub number_of : Job → ℕ
+number_of j = j.number
+
+-- one after those that don't pass
+found_next : (p : Job → Bool) (before rest : List Job) (j : Job) → find p before ≡ None → p j ≡ true → find p (before ++ j ∷ rest) ≡ Some j
+found_next p [] rest j none passes = ap (λ b. cond b (Some j) (find p rest)) passes
+found_next p (x ∷ xs) rest j none passes = by (p x) none (found_next p xs rest j)
+  where
+    by : (b : Bool) → cond b (Some x) (find p xs) ≡ None → (find p xs ≡ None → p j ≡ true → find p (xs ++ j ∷ rest) ≡ Some j) → cond b (Some x) (find p (xs ++ j ∷ rest)) ≡ Some j
+    by true e ih = cc
+    by false e ih = ih e passes
+
+-- one more that doesn't pass
+pub none_more : (p : Job → Bool) (before : List Job) (j : Job) → find p before ≡ None → p j ≡ false → find p (before ++ j ∷ []) ≡ None
+none_more p [] j none fails = ap (λ b. cond b (Some j) None) fails
+none_more p (x ∷ xs) j none fails = by (p x) none (none_more p xs j)
+  where
+    by : (b : Bool) → cond b (Some x) (find p xs) ≡ None → (find p xs ≡ None → p j ≡ false → find p (xs ++ j ∷ []) ≡ None) → cond b (Some x) (find p (xs ++ j ∷ [])) ≡ None
+    by true e ih = cc
+    by false e ih = ih e fails
 
 abbrev pub jobs_of : List JobFields → List Job
 jobs_of fs = map (λ f. job_of f) fs
-
--- one after those that don't pass
-found_next : (p : Job → Bool) (all before rest : List JobFields) (f : JobFields) → all ≡ before ++ f ∷ rest
-    → find p (jobs_of before) ≡ None → p (job_of f) ≡ true → Some (job_of f) ≡ find p (jobs_of all)
-found_next p all before rest f is none passes =
-    sym (ap (λ (xs : List JobFields). find p (jobs_of xs)) is ∙ walk before none)
-  where
-    by : (x : JobFields) (xs : List JobFields) (b : Bool) → cond b (Some (job_of x)) (find p (jobs_of xs)) ≡ None
-        → (find p (jobs_of xs) ≡ None → find p (jobs_of (xs ++ f ∷ rest)) ≡ Some (job_of f))
-        → cond b (Some (job_of x)) (find p (jobs_of (xs ++ f ∷ rest))) ≡ Some (job_of f)
-    by x xs true e ih = cc
-    by x xs false e ih = ih e
-
-    walk : (xs : List JobFields) → find p (jobs_of xs) ≡ None → find p (jobs_of (xs ++ f ∷ rest)) ≡ Some (job_of f)
-    walk [] e = ap (λ b. cond b (Some (job_of f)) (find p (jobs_of rest))) passes
-    walk (x ∷ xs) e = by x xs (p (job_of x)) e (walk xs)
-
--- one more that doesn't pass
-pub none_more : (p : Job → Bool) (before : List JobFields) (f : JobFields) → find p (jobs_of before) ≡ None → p (job_of f) ≡ false
-    → find p (jobs_of (before ++ f ∷ [])) ≡ None
-none_more p [] f none fails = ap (λ b. cond b (Some (job_of f)) None) fails
-none_more p (x ∷ xs) f none fails = by (p (job_of x)) none (none_more p xs f)
-  where
-    by : (b : Bool) → cond b (Some (job_of x)) (find p (jobs_of xs)) ≡ None
-        → (find p (jobs_of xs) ≡ None → p (job_of f) ≡ false → find p (jobs_of (xs ++ f ∷ [])) ≡ None)
-        → cond b (Some (job_of x)) (find p (jobs_of (xs ++ f ∷ []))) ≡ None
-    by true e ih = cc
-    by false e ih = ih e fails
 
 pub jobs_again : (js : List Job) → All (λ j. job_of (fields_of j) ≡ j) js → jobs_of (map fields_of js) ≡ js
 jobs_again [] all = refl
 jobs_again (j ∷ js) all = ap₂ ◌∷◌ (all 0 j (omega arith)) (jobs_again js (λ k d h. all (suc k) d (omega arith)))
 
--- the first of the waiting records that may go is that of the best job
-best_waiting : (s : Settings) (m : Queue) (t : ℕ) (modem : List ℕ) (found : List JobFields) → Sound m → All IsLawfulJob m.jobs → IsWaiting t m found
-    → find (may_go s m t modem) (jobs_of found) ≡ best s (aged t m) t modem
-best_waiting s m t modem found sound lawful w =
-    let is_lawful : (j : Job) → In j w.0 → IsLawfulJob j = λ j i. in_all IsLawfulJob m.jobs j lawful (waiting_due m t w.0 w.2 j i).0 in
-    let again : All (λ j. job_of (fields_of j) ≡ j) w.0 = all_in (λ (j : Job). job_of (fields_of j) ≡ j) w.0 (λ j i. job_again j (is_lawful j i).pages) in
-    let same : jobs_of found ≡ w.0 = ap jobs_of w.1 ∙ jobs_again w.0 again in
-    ap (find (may_go s m t modem)) same ∙ first_waiting s m t modem w.0 sound w.2
+module _ (s : Settings) (m : Queue) (t : ℕ) (modem : List ℕ) (sound : Sound m) (lawful : All IsLawfulJob m.jobs) where
+  -- where the first has a number, the job that is read by it is the best
+  pub best_read : (n : ℕ) (whole : JobFields) → IsFirst s m t modem (Some n) → Some whole ≡ option_map fields_of (job_numbered n m) → Some (job_of whole) ≡ best s (aged t m) t modem
+  best_read n whole first read = by (find (may_go s m t modem) first.0) refl
+    where
+      by : (o : Option Job) → find (may_go s m t modem) first.0 ≡ o → Some (job_of whole) ≡ best s (aged t m) t modem
+      by None e = absurd (none-some n (sym (first.2 ∙ ap (option_map number_of) e)))
+      by (Some j) e =
+          let there = (waiting_due m t first.0 first.1 j (found_in (may_go s m t modem) first.0 j e)).0 in
+          let numbered : n ≡ j.number = same_Some n j.number (first.2 ∙ ap (option_map number_of) e) in
+          let found : job_numbered n m ≡ Some j = ap (λ (i : ℕ). job_numbered i m) numbered ∙ in_found number_of 1 m.jobs j sound.jobs there in
+          let same : whole ≡ fields_of j = same_Some whole (fields_of j) (read ∙ ap (option_map fields_of) found) in
+          ap (λ (f : JobFields). Some (job_of f)) same ∙ ap (λ (x : Job). Some x) (job_again j (in_all IsLawfulJob m.jobs j lawful there).pages)
+          ∙ sym e ∙ first_waiting s m t modem first.0 sound first.1
 
--- so the first of them that is found is that of the best
-pub best_found : {E : Type 0} (r : Result (Option JobFields) E) (s : Settings) (m : Queue) (t : ℕ) (modem : List ℕ) → Sound m → All IsLawfulJob m.jobs
-    → IfOk r (λ o. (waiting : List JobFields) × IsWaiting t m waiting × (option_map (λ f. job_of f) o ≡ find (may_go s m t modem) (jobs_of waiting)))
-    → IfOk r (λ o. option_map (λ f. job_of f) o ≡ best s (aged t m) t modem)
-best_found (Ok o) s m t modem sound lawful is = is.2 ∙ best_waiting s m t modem is.0 sound lawful is.1
-best_found (Err e) s m t modem sound lawful is = is
+  -- where there is none, no job may go
+  pub none_best : IsFirst s m t modem None → None ≡ best s (aged t m) t modem
+  none_best first = by (find (may_go s m t modem) first.0) refl
+    where
+      by : (o : Option Job) → find (may_go s m t modem) first.0 ≡ o → None ≡ best s (aged t m) t modem
+      by None e = sym e ∙ first_waiting s m t modem first.0 sound first.1
+      by (Some j) e = absurd (none-some j.number (first.2 ∙ ap (option_map number_of) e))
 
 -- ---- candidates
 
 -- the candidates that were given so far, none of which may go
-abbrev pub NoneWent : (Job → Bool) → ℕ → Queue → List JobFields → ℕ → Type 0
-NoneWent p t m page read = (given : List JobFields) × StandsAt t m given page read × (find p (jobs_of given) ≡ None)
+abbrev pub NoneWent : (Job → Bool) → ℕ → Queue → List Row → Front → ℕ → Type 0
+NoneWent p t m page front most = (given : List Job) × StandsAt t m given page front most × (find p given ≡ None)
 
 -- what is given next
-pub next_given : (p : Job → Bool) (t s : ℕ) (m : Queue) (page after : List JobFields) (read more : ℕ) (o : Option (JobFields × ℕ)) → s ≡ t → NoneWent p t m page read
-    → ((given : List JobFields) → StandsAt s m given page read → Gives s m given after more o) → (given : List JobFields) × Gives t m given after more o × (find p (jobs_of given) ≡ None)
-next_given p t s m page after read more o same none next =
-    (none.0, subst (λ (x : ℕ). Gives x m none.0 after more o) same (next none.0 (subst (λ (x : ℕ). StandsAt x m none.0 page read) (sym same) none.1)), none.2)
+pub next_given : (p : Job → Bool) (t s : ℕ) (m : Queue) (page after : List Row) (front then : Front) (most more : ℕ) (o : Option Prospect) → s ≡ t → NoneWent p t m page front most
+    → ((given : List Job) → StandsAt s m given page front most → Gives IsProspect s m given after then more o) → (given : List Job) × Gives IsProspect t m given after then more o × (find p given ≡ None)
+next_given p t s m page after front then most more o same none next =
+    (none.0, subst (λ (x : ℕ). Gives IsProspect x m none.0 after then more o) same (next none.0 (subst (λ (x : ℕ). StandsAt x m none.0 page front most) (sym same) none.1)), none.2)
 
--- the next of them may go, and is the first that may
-pub went : (p : Job → Bool) (t : ℕ) (m : Queue) (given page : List JobFields) (f : JobFields) (read : ℕ) → StandsAt t m (given ++ f ∷ []) page read
-    → find p (jobs_of given) ≡ None → p (job_of f) ≡ true → (waiting : List JobFields) × IsWaiting t m waiting × (Some (job_of f) ≡ find p (jobs_of waiting))
-went p t m given page f read h none passes =
-    let rest = page ++ drop read h.all in
-    let is : h.all ≡ given ++ f ∷ rest = sym (take-append-drop read h.all) ∙ ap (λ (xs : List JobFields). xs ++ drop read h.all) (sym h.reads) ∙ append_assoc (given ++ f ∷ []) page (drop read h.all) ∙ append_assoc given (f ∷ []) rest in
-    (h.all, h.waiting, found_next p h.all given rest f is none passes)
+module _ (t : ℕ) (m : Queue) (given : List Job) (j : Job) (page : List Row) (front : Front) (most : ℕ) (h : StandsAt t m (given ++ j ∷ []) page front most) where
+  abbrev rest : List Job
+  rest = h.read ++ filter (is_behind front) h.all
+
+  amid : h.all ≡ given ++ j ∷ rest
+  amid = h.parts ∙ append_assoc given (j ∷ []) rest
+
+  in_amid : (xs : List Job) → In j (xs ++ j ∷ rest)
+  in_amid [] = inl refl
+  in_amid (x ∷ xs) = inr (in_amid xs)
+
+  -- the one that is given is due
+  pub given_due : is_due j t ≡ true
+  given_due = (waiting_due m t h.all h.waiting j (subst (In j) (sym amid) (in_amid given))).1
+
+  -- where it may go, and none before it may, it is the first that may
+  pub went : (s : Settings) (modem : List ℕ) → find (may_go s m t modem) given ≡ None → may_go s m t modem j ≡ true → IsFirst s m t modem (Some j.number)
+  went s modem none passes =
+      (h.all, h.waiting, ap (option_map number_of) (sym (ap (find (may_go s m t modem)) amid ∙ found_next (may_go s m t modem) given rest j none passes)))

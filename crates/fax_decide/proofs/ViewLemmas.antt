@@ -1,5 +1,5 @@
 -- What is shown of a job, and of all jobs.
-use Rattle.std.proofs.Common.{◌≡◌, ℕ, List, [], ◌∷◌, ◌++◌, All, length, map, Option, Some, refl, sym, ap, ap₂, ◌∙◌}
+use Rattle.std.proofs.Common.{◌≡◌, ℕ, List, [], ◌∷◌, ◌++◌, All, Bool, true, false, cond, ◌&&◌, flat_map, length, map, Option, Some, refl, sym, ap, ap₂, ◌∙◌}
 use Rattle.std.specs.List.{range_with_len}
 use Rattle.std.specs.List.Sorted.{IsStrictlyIncreasing}
 use Rattle.std.proofs.lemmas.List.{length-map, map-append}
@@ -10,16 +10,19 @@ use Rattle.fax_job.specs.declared.job.JobFields.{JobFields}
 use Rattle.fax_ask.specs.Answer.{Shown}
 use Rattle.fax_ask.specs.Response.{accepted_response}
 use Rattle.fax_ask.specs.declared.view.View.TheVariants as sight
-use Rattle.fax_core.specs.Ageing.{aged, aged_job}
+use Rattle.fax_core.specs.Ageing.{aged, aged_job, expires, is_past}
 use Rattle.fax_core.specs.Job.{Job, fields_of, job_of}
 use Rattle.fax_core.specs.Queue.{Queue, job_numbered}
 use Rattle.fax_core.specs.Settings.{Settings}
 use Rattle.fax_core.specs.Sound.{Sound}
-use Rattle.fax_core.specs.State.{state}
+use Rattle.fax_core.specs.State.{calls_to, state, state_in}
 use Rattle.fax_core.proofs.DecisionLemmas.{aged_number}
 use Rattle.fax_core.proofs.FitsLemmas.{job_again, record_again}
-use Rattle.fax_tables.specs.Job.{IsLawfulJob}
-use Rattle.fax_text.specs.Listing.{Listed, number_of}
+use Rattle.fax_job.specs.Status.{kill_time_expired}
+use Rattle.fax_job.specs.declared.job.Phase.{Phase}
+use Rattle.fax_job.specs.declared.job.Phase.TheVariants.{Held, Waiting, Granted, Done, Failed}
+use Rattle.fax_tables.specs.Job.{IsLawfulJob, brief}
+use Rattle.fax_text.specs.Listing.{Listed, heading, line_of, listing_of, number_of}
 use Rattle.fax_text.proofs.OrderLemmas.{numbered}
 use Rattle.fax_decide.specs.View.{viewed, view, with_state}
 use Rattle.fax_decide.proofs.CallLemmas.{state_aged}
@@ -77,3 +80,49 @@ rows_ascend s m t sound =
   where
     as_many : length (map (with_state s (aged t m) t) (map (aged_job t) m.jobs)) ≡ length m.jobs
     as_many = length-map (map (aged_job t) m.jobs) (with_state s (aged t m) t) ∙ length-map m.jobs (aged_job t)
+
+-- ---- without the extra lines
+
+abbrev thin : Listed → Listed
+thin row = (brief row.0, row.1)
+
+-- its state doesn't tell them
+state_thin : (phase : Phase) (f : JobFields) (hours : Bool) (calls limit t : ℕ) → state_in phase (job_of (brief f)) hours calls limit t ≡ state_in phase (job_of f) hours calls limit t
+state_thin Held f hours calls limit t = refl
+state_thin Waiting f hours calls limit t = refl
+state_thin Granted f hours calls limit t = refl
+state_thin Done f hours calls limit t = refl
+state_thin Failed f hours calls limit t = refl
+
+aged_thin : (s : Settings) (m : Queue) (t : ℕ) (f : JobFields) → with_state s m t (aged_job t (job_of (brief f))) ≡ thin (with_state s m t (aged_job t (job_of f)))
+aged_thin s m t f = by (expires f.phase && is_past f.killtime t)
+  where
+    by : (b : Bool) → with_state s m t (cond b (record (job_of (brief f)) { phase = Failed; status = kill_time_expired }) (job_of (brief f)))
+        ≡ thin (with_state s m t (cond b (record (job_of f) { phase = Failed; status = kill_time_expired }) (job_of f)))
+    by true = refl
+    by false = ap (λ (n : ℕ). (brief (fields_of (job_of f)), n)) (state_thin f.phase f ((s.rule f.dial).hours t) (calls_to f.dial m) (s.rule f.dial).calls t)
+
+all_thin : (s : Settings) (m : Queue) (t : ℕ) (jobs : List Job) → map (λ f. with_state s m t (aged_job t (job_of f))) (map (λ j. brief (fields_of j)) jobs)
+    ≡ map thin (map (λ f. with_state s m t (aged_job t (job_of f))) (map fields_of jobs))
+all_thin s m t [] = refl
+all_thin s m t (j ∷ js) = ap₂ ◌∷◌ (aged_thin s m t (fields_of j)) (all_thin s m t js)
+
+-- the records of all jobs but their extra lines, aged, are the rows of the listing but these
+pub briefs_seen : (s : Settings) (m : Queue) (t : ℕ) (records : List JobFields) → All IsLawfulJob m.jobs → records ≡ map (λ j. brief (fields_of j)) m.jobs
+    → map (λ f. with_state s m t (aged_job t (job_of f))) records ≡ map thin (map (with_state s (aged t m) t) (aged t m).jobs)
+briefs_seen s m t records lawful is =
+    ap (map (λ f. with_state s m t (aged_job t (job_of f)))) is ∙ all_thin s m t m.jobs
+    ∙ ap (map thin) (rows_seen s m t (map fields_of m.jobs) lawful refl)
+
+-- of which the listing shows the same
+lines_thin : (shows : ℕ → List ℕ) (rows : List Listed) → flat_map (line_of shows) (map thin rows) ≡ flat_map (line_of shows) rows
+lines_thin shows [] = refl
+lines_thin shows (row ∷ rows) = ap (λ more. line_of shows row ++ more) (lines_thin shows rows)
+
+pub listing_thin : (shows : ℕ → List ℕ) (rows : List Listed) → listing_of shows (map thin rows) ≡ listing_of shows rows
+unfolding listing_of
+listing_thin shows rows = ap (λ more. heading ++ more) (lines_thin shows rows)
+
+pub numbers_thin : (rows : List Listed) → map number_of (map thin rows) ≡ map number_of rows
+numbers_thin [] = refl
+numbers_thin (row ∷ rows) = ap (λ more. number_of row ∷ more) (numbers_thin rows)

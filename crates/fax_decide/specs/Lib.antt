@@ -1,3 +1,4 @@
+pub mod Choice
 pub mod Settings
 pub mod State
 pub mod Effect

@@ -1,6 +1,6 @@
 //! Which job a modem is given: a modem asks for work.
 
-ghost use Rattle.std.specs.Prelude.{◌≡◌, ℕ, List, [], false, IfOk, IsErr, Ok, None, Some, find, is_some, map, OnOk};
+ghost use Rattle.std.specs.Prelude.{◌≡◌, ◌&&◌, ℕ, List, [], false, IfOk, IsErr, IsTrue, Ok, None, Some, is_some, OnOk};
 ghost use Rattle.std.specs.Option.{option_map};
 ghost use Rattle.std.specs.Vec.Iter.{into_iter_items};
 ghost use Rattle.sqlite.specs.Held.{state};
@@ -8,7 +8,7 @@ ghost use Rattle.sqlite.specs.State.{HasCleanDisk};
 ghost use Rattle.fax_ask.specs.Answer.{grant_told};
 ghost use Rattle.fax_ask.specs.Response.{refused_response};
 ghost use Rattle.fax_core.specs.Ageing.{aged};
-ghost use Rattle.fax_core.specs.Best.{best, may_go};
+ghost use Rattle.fax_core.specs.Best.{best};
 ghost use Rattle.fax_core.specs.Change.{decided_with};
 ghost use Rattle.fax_core.specs.Decisions.{grant as granted_if};
 ghost use Rattle.fax_core.specs.Job.{job_of};
@@ -19,24 +19,26 @@ ghost use Rattle.fax_core.specs.Reply.{HeldGrant};
 ghost use Rattle.fax_core.specs.Sound.{Sound};
 ghost use Rattle.fax_core.specs.State.{calls_to};
 ghost use Rattle.fax_core.specs.declared.grants.Grant.{Grant as OneGrant};
-ghost use Rattle.fax_job.specs.declared.job.JobFields.{JobFields};
 ghost use Rattle.fax_job.specs.declared.refusal.Refusal.TheVariants.{ModemBusy};
 ghost use Rattle.fax_tables.specs.Grant.{as_hold};
 ghost use Rattle.fax_store.specs.Candidates.{StandsAt};
-ghost use Rattle.fax_store.specs.Job.{IsWaiting};
 ghost use Rattle.fax_store.specs.Store.{CommitsNothing, Means, Serves, Stays, StaysOpen};
+ghost use Rattle.fax_dest.specs.Setup.{admits};
+ghost use Rattle.fax_decide.specs.Choice.{IsBusy, IsFirst};
 ghost use Rattle.fax_decide.specs.Decision.{Decides};
 ghost use Rattle.fax_decide.specs.Settings.{settings_of};
+ghost use Rattle.fax_decide.specs.State.{may_call};
 
 use crate::decision::{Decision, answered, refuse, take};
 use crate::effect::Effect;
 use crate::fault::Unavailable;
 use crate::office::Office;
 use fax_ask::{Answer, Detail, Handed, Reply};
-use fax_core::{Change, Grant, State, fits, grant};
+use fax_core::{Change, Grant, fits, grant};
 use fax_job::limits::LAST_JOB;
-use fax_job::{Job, Moment, Name, Refusal};
+use fax_job::{Dial, Job, Moment, Name, Refusal};
 use fax_store::{Candidates, Hold, Store};
+use fax_tables::Prospect;
 use sqlite::Alter;
 use std::alloc::Global;
 
@@ -150,18 +152,44 @@ fn best<S: Alter>(
         → IfOk result (λ found. option_map (λ f. job_of f) found
         ≡ best (settings_of office.now.setup office.now.controls) (aged t m) t modem.now) }
 {
-    let mut candidates = store.candidates(t)?;
+    let Some(number) = first(store, office, alloc, modem, t)? else {
+        return Ok(None);
+    };
+    match store.job(number)? {
+        Some(job) => Ok(Some(job)),
+        None => Err(Unavailable),
+    }
+}
+
+/// The number of the first of the waiting jobs, in the order of the choice, that may go to the modem at `t`.
+fn first<S: Alter>(
+    store: &mut Store<S>,
+    office: &Office,
+    alloc: Global,
+    modem: &Name,
+    t: Moment,
+) -> Result<Option<u32>, Unavailable>
+    ensures served { Serves (state S.Store store.new.conn) → Serves (state S.Store store.old.conn) }
+    ensures clean { HasCleanDisk (state S.Store store.new.conn) → HasCleanDisk (state S.Store store.old.conn) }
+    ensures opens { OnOk result (StaysOpen (state S.Store store.old.conn) (state S.Store store.new.conn)) }
+    ensures stays { Stays (state S.Store store.old.conn) (state S.Store store.new.conn) }
+    ensures crash { CommitsNothing (state S.Store store.old.conn) (state S.Store store.new.conn) }
+    ensures found { (m : Queue) (k : List Entry) → Means (state S.Store store.old.conn) m k
+        → Serves (state S.Store store.new.conn)
+        → IfOk result (IsFirst (settings_of office.now.setup office.now.controls) m t modem.now) }
+{
+    let mut candidates = store.candidates(t);
     first_of(&mut candidates, office, alloc, modem, t)
 }
 
-/// The first of the candidates that may go to the modem at `t`, the moment that they were asked for, if one may.
+/// The number of the first of the candidates that may go to the modem at `t`, the moment that they were asked for.
 fn first_of<S: Alter>(
     candidates: &mut Candidates<'_, S>,
     office: &Office,
     alloc: Global,
     modem: &Name,
     t: Moment,
-) -> Result<Option<Job>, Unavailable>
+) -> Result<Option<u32>, Unavailable>
     ensures same_reference { candidates.new.store.ghost_name ≡ candidates.old.store.ghost_name }
     ensures served { Serves (state S.Store candidates.new.store.now.conn) → Serves (state S.Store candidates.old.store.now.conn) }
     ensures clean { HasCleanDisk (state S.Store candidates.new.store.now.conn)
@@ -171,40 +199,77 @@ fn first_of<S: Alter>(
     ensures crash { CommitsNothing (state S.Store candidates.old.store.now.conn) (state S.Store candidates.new.store.now.conn) }
     ensures found { (m : Queue) (k : List Entry) → Means (state S.Store candidates.old.store.now.conn) m k
         → Serves (state S.Store candidates.new.store.now.conn) → candidates.old.t ≡ t
-        → StandsAt t m [] (into_iter_items candidates.old.page) candidates.old.read
-        → IfOk result (λ found. (jobs : List JobFields) × IsWaiting t m jobs × (option_map (λ f. job_of f) found
-        ≡ find (may_go (settings_of office.now.setup office.now.controls) m t modem.now) (map (λ f. job_of f) jobs))) }
+        → StandsAt t m [] (into_iter_items candidates.old.page) candidates.old.front candidates.old.most
+        → IfOk result (IsFirst (settings_of office.now.setup office.now.controls) m t modem.now) }
 {
+    let mut busy = None;
     // Each job has a number of its own, so no queue has more.
     for _ in 0..LAST_JOB + 1 {
-        let Some((job, calls)) = candidates.next()? else {
+        let Some(prospect) = candidates.prospect()? else {
             return Ok(None);
         };
-        if may_go(office, alloc, &job, calls, modem, t)? {
+        let job = prospect.job;
+        if goes(candidates, office, alloc, prospect, &mut busy, modem, t)? {
             return Ok(Some(job));
         }
     }
     Err(Unavailable)
 }
 
-/// Whether the modem value of a job admits the modem, and the job is ready at `t` where that many calls are open to
-/// its number.
-fn may_go(
+/// Whether a job that is due may go to the modem at `t`: a call to its number may begin, and its modem value admits the
+/// modem. `busy` is a number to which none may, if one is known. So jobs to one busy number that follow one another cost
+/// one look at it.
+fn goes<S: Alter>(
+    candidates: &mut Candidates<'_, S>,
     office: &Office,
     alloc: Global,
-    job: &Job,
-    calls: u64,
+    prospect: Prospect,
+    busy: &mut Option<Dial>,
     modem: &Name,
     t: Moment,
 ) -> Result<bool, Unavailable>
-    ensures { (m : Queue) → calls ≡ calls_to job.now.dial m → IfOk result (λ goes. goes
-        ≡ may_go (settings_of office.now.setup office.now.controls) m t modem.now (job_of job.now)) }
+    ensures same_reference { candidates.new.store.ghost_name ≡ candidates.old.store.ghost_name }
+    ensures served { Serves (state S.Store candidates.new.store.now.conn) → Serves (state S.Store candidates.old.store.now.conn) }
+    ensures clean { HasCleanDisk (state S.Store candidates.new.store.now.conn)
+        → HasCleanDisk (state S.Store candidates.old.store.now.conn) }
+    ensures opens { OnOk result (StaysOpen (state S.Store candidates.old.store.now.conn) (state S.Store candidates.new.store.now.conn)) }
+    ensures stays { Stays (state S.Store candidates.old.store.now.conn) (state S.Store candidates.new.store.now.conn) }
+    ensures crash { CommitsNothing (state S.Store candidates.old.store.now.conn) (state S.Store candidates.new.store.now.conn) }
+    ensures same { (candidates.new.t ≡ candidates.old.t) × (candidates.new.page ≡ candidates.old.page)
+        × (candidates.new.front ≡ candidates.old.front) × (candidates.new.most ≡ candidates.old.most) }
+    ensures told { (m : Queue) (k : List Entry) → Means (state S.Store candidates.old.store.now.conn) m k
+        → Serves (state S.Store candidates.new.store.now.conn)
+        → IsBusy (settings_of office.now.setup office.now.controls) m t busy.old
+        → IfOk result (λ goes. (goes ≡ (may_call (settings_of office.now.setup office.now.controls) prospect.dial
+        (calls_to prospect.dial m) t && admits office.now.setup prospect.modem modem.now))
+        × IsBusy (settings_of office.now.setup office.now.controls) m t busy.new) }
 {
-    let value = &job.fields().modem;
-    if !office.setup.admits(alloc, value.as_str(), modem.as_str())? {
+    let Prospect {
+        job: _,
+        dial,
+        modem: value,
+        priority: _,
+        tts: _,
+    } = prospect;
+    if is_to(busy, &dial) {
         return Ok(false);
     }
-    Ok(office.state_with(alloc, job, calls, t)? == State::Ready.number())
+    let calls = candidates.active_to(&dial)?;
+    if !office.may_call(alloc, &dial, calls, t)? {
+        *busy = Some(dial);
+        return Ok(false);
+    }
+    Ok(office.setup.admits(alloc, value.as_str(), modem.as_str())?)
+}
+
+/// Whether there is a number, and it is this one.
+fn is_to(number: &Option<Dial>, dial: &Dial) -> bool
+    ensures { IsTrue result → number.now ≡ Some dial.now }
+{
+    match number {
+        Some(number) => number.text() == dial.text(),
+        None => false,
+    }
 }
 
 /// The job goes to the modem with the pages that it has left. Where it doesn't fit to be granted, as in no sound

@@ -115,7 +115,8 @@ fn shown_with(alloc: Global, job: &Job, state: u8) -> Result<Reply, AllocError>
 
 // ---- the listing
 
-/// The listing of all jobs, by copies aged at `t`, with their states there. Nothing is stored.
+/// The listing of all jobs, by copies aged at `t`, with their states there. Nothing is stored, and their extra lines, which
+/// it doesn't show, aren't read.
 fn show_jobs<S: Alter>(
     store: &mut Store<S>,
     office: &Office,
@@ -131,7 +132,7 @@ fn show_jobs<S: Alter>(
         → Serves (state S.Store store.new.conn) → IfOk result (λ reply.
         reply ≡ view (settings_of office.now.setup office.now.controls) m t AllJobs) }
 {
-    let jobs = store.jobs()?;
+    let jobs = store.briefs()?;
     let rows = with_states(store, office, alloc, jobs, t)?;
     Ok(listed(office, alloc, rows.as_slice())?)
 }

@@ -1,5 +1,5 @@
 -- What the statements do by which a store comes to a database.
-use Rattle.std.proofs.Common.{◌≡◌, ◌≤◌, inl, inr, ℕ, List, [], ◌∷◌, codes, map, filter, true, Ok, Err, IsErrAnd, Result, refl, sym, subst, ap, ◌∙◌}
+use Rattle.std.proofs.Common.{◌≡◌, ◌≤◌, inl, inr, ℕ, List, [], ◌∷◌, codes, map, filter, true, Ok, Err, IsErr, IsErrAnd, MatchResult, Result, refl, sym, subst, ap, ◌∙◌}
 use Rattle.std.specs.List.Sorted.{IsPermutation}
 use Rattle.std.proofs.lemmas.List.Sorted.{IsPermutation-sym}
 use Rattle.sqlite.specs.Effect.{Database, IsDatabase}
@@ -24,7 +24,8 @@ use Rattle.fax_tables.proofs.StopLemmas.{nothing_then}
 use Rattle.fax_tables.proofs.TablesLemmas.{same_database}
 use Rattle.fax_tables.specs.Stop.{HoldsBack}
 use Rattle.fax_tables.proofs.SelectLemmas.{answers}
-use Rattle.fax_store.specs.Adopt.{AreWhole, HasNone, HasWhole, HoldsCanBeCalled, IsFilled, IsIn, IsOurs, IsWhole, QueuesAreTakeable, versions}
+use Rattle.sqlite_schema.specs.declared.schema.Schema.{Schema}
+use Rattle.fax_store.specs.Adopt.{AreWhole, Goes, HasNone, HasWhole, HoldsCanBeCalled, IsFilled, IsIn, IsOurs, IsWhole, Leaves, QueuesAreTakeable, versions}
 use Rattle.fax_store.specs.Store.{CommitsNothing, GoesBack, MayMake, RowsFound, Serves}
 use Rattle.fax_store.proofs.ControlLemmas.{begins, commits}
 use Rattle.fax_store.proofs.HeldLemmas.{held_still, rows_callable}
@@ -66,6 +67,24 @@ module _ (s0 s1 : State) (none : s0.now.schema ≡ no_tables) (n : ℕ) (began :
       tables_made k committed =
           let done = commits s2 s3 k committed in
           record { autocommit = done.mode; settled = done.now_is ∙ sym done.committed_is; means = same_tables empty_queue [] done.now_is (created starts_empty).1 }
+
+-- ---- one step after the other
+
+-- a step that was done, and then one from what it leaves
+pub goes_then : (a b c : State) (Before Between After : Schema → Type 0) → (HasCleanDisk b → IsIn Before a → GoesOn a b × Leaves Between a.now b.now) → (HasCleanDisk c → HasCleanDisk b)
+    → (r : Result Unit StoreFault) → Goes (IsIn Between) (Leaves After) b c r → Goes (IsIn Before) (Leaves After) a c r
+goes_then a b c Before Between After first cleaner (Ok x) next clean was =
+    let one = first (cleaner clean) was in
+    let two = next clean (record { is_open = one.0.is_open; inside = one.0.mode; schema_is = one.1.0 }) in
+    (goes_on a b c one.0 two.0, (two.1.0, kept_rows six_tables.tables a.now.trees b.now.trees c.now.trees one.1.1 two.1.1))
+goes_then a b c Before Between After first cleaner (Err e) next clean was =
+    let one = first (cleaner clean) was in
+    commit_kept a b c one.0 (next clean (record { is_open = one.0.is_open; inside = one.0.mode; schema_is = one.1.0 }))
+
+-- a step that is known to be refused
+pub refused_step : {A E : Type 0} (r : Result A E) (P : A → Type 0) (Q : Type 0) → IsErr r → Q → MatchResult r P (λ _. Q)
+refused_step (Ok x) P Q is q = absurd (let e = is in cc)
+refused_step (Err e) P Q is q = q
 
 -- ---- taking a database with our tables
 
@@ -232,7 +251,7 @@ rows_reopened db m k rows sound = same_tables m k (same_database db rows.0 (sym 
 
 -- and it has our tables, whose rows mean this
 pub means_rows : (db : Database) (m : Queue) (k : List Entry) → TablesMean db m k → AreOurs db.schema × RowsMean db m k
-means_rows db m k means = (inl (inl means.schema), (db, means, (refl, (refl, (refl, (refl, (refl, (refl, tt))))))))
+means_rows db m k means = (inl (inl (inl means.schema)), (db, means, (refl, (refl, (refl, (refl, (refl, (refl, tt))))))))
 
 -- meta tells the version, and each hold has its job
 pub queues_are_takeable : QueuesAreTakeable

@@ -1,52 +1,57 @@
 -- The jobs that wait, read a page at a time.
-use Rattle.std.proofs.Common.{◌≡◌, ◌<◌, ◌≤◌, ◌+◌, ◌-◌, ◌^◌, ℕ, suc, zero, List, [], ◌∷◌, ◌++◌, map, filter, take, drop, length, All, Bool, true, false, ◌&&◌, ◌||◌, leb, refl, sym, ap, ap₂, subst, ◌∙◌, arith, append_assoc, append-nil, take-append-drop, take-take, take_all, Ordering, is_lt, is_eq}
-use Rattle.std.specs.Prelude.{◌==◌, nat_lt, min}
+use Rattle.std.proofs.Common.{◌≡◌, ◌<◌, ◌≤◌, ◌+◌, ◌-◌, ◌⊎◌, inl, inr, ℕ, suc, zero, List, [], ◌∷◌, ◌++◌, map, filter, take, drop, length, length-append, All, Bool, true, false, cond, not, ◌&&◌, ◌||◌, leb, refl, sym, ap, ap₂, subst, ◌∙◌, arith, append_assoc, append-nil, take-append-drop, get_or, Ordering, Less, Equal, Greater, is_lt, is_gt, is_eq, true≢false}
+use Rattle.std.specs.Prelude.{◌==◌, nat_lt, Option, Some, None, find, slice_get}
 use Rattle.std.specs.Cmp.{IsTotalOrder}
 use Rattle.std.specs.List.{AllByRecursion}
-use Rattle.std.specs.List.Sorted.{IsPermutation, IsSorted}
-use Rattle.std.specs.Ordering.{nat_cmp, on, ordering_then, then_cmp}
+use Rattle.std.specs.List.Sorted.{IsPermutation, IsSorted, IsSortedBy}
+use Rattle.std.specs.Ordering.{nat_cmp, on, ordering_reverse, ordering_then, then_cmp}
 use Rattle.std.proofs.lemmas.Bool.{and_parts, leb-true}
 use Rattle.std.proofs.lemmas.Bool.Decides.{nat_tests}
 use Rattle.std.proofs.lemmas.Cmp.{nat_cmp_total, on_total, then_total}
-use Rattle.std.proofs.lemmas.List.{drop-map, drop-take, take-map, take_min}
-use Rattle.std.proofs.lemmas.List.Elements.{All-drop, All-take, recursion_from_All}
-use Rattle.std.proofs.lemmas.List.Sorted.{length_permutation}
+use Rattle.std.proofs.lemmas.List.{map-append, take-map}
+use Rattle.std.proofs.lemmas.Option.{none-some, same_Some}
+use Rattle.std.proofs.lemmas.List.Elements.{All-take, recursion_from_All, All-from_recursion}
+use Rattle.std.proofs.lemmas.List.Sorted.{All-permutation, IsPermutation-sym, IsPermutation-trans}
 use Rattle.sqlite.specs.Command.TheVariants.{Select}
 use Rattle.sqlite.specs.Effect.{Database, Reads}
 use Rattle.sqlite.specs.Order.{Row}
 use Rattle.sqlite.specs.Program.{overlay}
-use Rattle.sqlite.specs.Query.{IsAnswer, Output, output, output_cmp, page}
+use Rattle.sqlite.specs.Query.{IsAnswer, Output, output, output_cmp}
 use Rattle.sqlite.specs.State.{State, Shown}
 use Rattle.sqlite.specs.Tree.{IsTable}
 use Rattle.sqlite.specs.declared.types.Value.TheVariants.{Null}
 use Rattle.sqlite.proofs.Callers.{reads_as}
-use Rattle.sqlite_keyed.specs.Lists.{sort_by}
-use Rattle.sqlite_keyed.proofs.SortLemmas.{sorted_is-sort_by}
+use Rattle.sqlite_keyed.specs.Lists.{insert_sorted, sort_by}
+use Rattle.sqlite_keyed.proofs.SortLemmas.{sorted_is-sort_by, sorted_unique, IsPermutation-sort_by}
+use Rattle.sqlite_sql.specs.Term.{Term}
 use Rattle.sqlite_trees.specs.Tree.{IsAscending}
-use Rattle.sqlite_trees.proofs.ListLemmas.{all_weaker, ascending-filter, ascending_weaker, map-map, pull_back}
+use Rattle.sqlite_trees.proofs.ListLemmas.{all_of, all_both, all_weaker, all-filter, all-append, ascending-filter, ascending-get_or, ascending_weaker, filter_all, filter_none, filter_same, filter-filter, IsPermutation-filter, map-map, pull_back}
 use Rattle.fax_core.specs.Job.{Job, fields_of}
-use Rattle.fax_core.specs.Queue.{Queue, Entry}
+use Rattle.fax_core.specs.Best.{better}
+use Rattle.fax_core.specs.Queue.{Queue, Entry, job_numbered}
 use Rattle.fax_core.specs.State.{is_due}
 use Rattle.fax_core.proofs.RecordLemmas.{within_limits_of}
 use Rattle.fax_job.specs.Limits.{last_job}
-use Rattle.fax_job.specs.declared.job.JobFields.{JobFields}
-use Rattle.fax_store.specs.Candidates.{IsPage, StandsAt}
-use Rattle.fax_store.specs.Job.{AreWaiting, IsWaiting}
-use Rattle.fax_store.specs.declared.candidates.TheConstants.{SELECT_PAGE}
-use Rattle.fax_tables.specs.Job.{IsLawfulJob, job_shown}
+use Rattle.fax_store.specs.Candidates.{IsPage, StandsAt, front_of, is_behind, is_beyond, is_last, is_near, next_front}
+use Rattle.fax_store.specs.Job.{AreWaiting}
+use Rattle.fax_store.specs.declared.candidates.Front.{Front}
+use Rattle.fax_store.specs.declared.candidates.TheConstants.{SELECT_FIRST, SELECT_BEHIND_NUMBER, SELECT_BEHIND_TIME, SELECT_BEHIND_PRIORITY}
+use Rattle.fax_store.specs.declared.candidates.Front.TheVariants.{First, Number, Time, Priority}
+use Rattle.fax_tables.specs.Job.{IsLawfulJob, prospect, prospect_shown}
 use Rattle.fax_tables.specs.Row.{number}
 use Rattle.fax_tables.specs.Schema.{seven_tables, jobs_tree}
 use Rattle.fax_tables.specs.Tables.{TablesMean}
 use Rattle.fax_tables.proofs.ColumnLemmas.{all_kept}
-use Rattle.fax_tables.proofs.IndexLemmas.{length_map}
+use Rattle.fax_tables.proofs.CompareLemmas.{is_number, more_than}
 use Rattle.fax_tables.proofs.SelectLemmas.{each_passing}
+use Rattle.fax_tables.proofs.TablesLemmas.{row_of}
 use Rattle.fax_store.proofs.JobsLemmas.{number_of, ascend}
 use Rattle.fax_store.proofs.OrderLemmas.{Below}
-use Rattle.fax_store.proofs.StatementTexts.{job_names, page_query, select_page}
+use Rattle.fax_store.proofs.StatementTexts.{SelectsPage, number_tests, page_query, priority_tests, prospect_names, prospect_project, select_behind_number, select_behind_priority, select_behind_time, select_first, time_tests}
 use Rattle.fax_store.proofs.WaitingLemmas as waiting
 use Rattle.fax_store.proofs.WaitingLemmas.{all_waiting}
 
--- ---- the jobs that wait stand in one order
+-- ---- the order of the choice
 
 abbrev order : Job → Job → Ordering
 order = then_cmp (on (λ (j : Job). j.priority) nat_cmp) (then_cmp (on (λ (j : Job). j.tts) nat_cmp) (on (λ (j : Job). j.number) nat_cmp))
@@ -57,134 +62,495 @@ is_total = then_total (on_total (λ (j : Job). j.priority) nat_cmp_total) (then_
 less : (p q s u n k : ℕ) → is_lt (ordering_then (nat_cmp p q) (ordering_then (nat_cmp s u) (nat_cmp n k))) ≡ (nat_lt p q || ((p == q) && (nat_lt s u || ((s == u) && nat_lt n k))))
 less p q s u n k = grind (arith, nat_tests)
 
+by_less : (a b : Job) → is_lt (order a b) ≡ better a b
+by_less a b = less a.priority b.priority a.tts b.tts a.number b.number
+
 apart : (p q s u n k : ℕ) → n < k → is_eq (ordering_then (nat_cmp p q) (ordering_then (nat_cmp s u) (nat_cmp n k))) ≡ false
 apart p q s u n k low = grind (arith, nat_tests)
 
-module _ (m : Queue) (rise : IsAscending (Below number_of) m.jobs) (t : ℕ) where
+-- each goes before every later one
+abbrev Goes : Job → Job → Type 0
+Goes a b = better a b ≡ true
+
+abbrev Comes : Job → Job → Type 0
+Comes a b = order a b ≡ Less
+
+abbrev HasNoTies : List Job → Type 0
+HasNoTies = IsAscending (λ (a b : Job). is_eq (order a b) ≡ false)
+
+all_inserted : (P : Job → Type 0) (new : Job) (xs : List Job) → P new → AllByRecursion P xs → AllByRecursion P (insert_sorted order new xs)
+all_inserted P new [] h all = (h, tt)
+all_inserted P new (x ∷ xs) h all =
+    elim (is_gt (order new x)) as (λ b. AllByRecursion P (cond b (x ∷ insert_sorted order new xs) (new ∷ x ∷ xs))) [ true ↦ (all.0, all_inserted P new xs h all.1) | false ↦ (h, all) ]
+
+all_sorted : (P : Job → Type 0) (xs : List Job) → AllByRecursion P xs → AllByRecursion P (sort_by order xs)
+all_sorted P [] all = tt
+all_sorted P (x ∷ xs) all = all_inserted P x _ all.0 (all_sorted P xs all.1)
+
+rises_inserted : (new : Job) (xs : List Job) → AllByRecursion (λ y. is_eq (order new y) ≡ false) xs → IsAscending Comes xs → IsAscending Comes (insert_sorted order new xs)
+rises_inserted new [] free up = (tt, tt)
+rises_inserted new (x ∷ xs) free up = go (order new x) refl (rises_inserted new xs free.1 up.1)
+  where
+    go : (o : Ordering) → order new x ≡ o → IsAscending Comes (insert_sorted order new xs) → IsAscending Comes (cond (is_gt o) (x ∷ insert_sorted order new xs) (new ∷ x ∷ xs))
+    go Less e more = ((e, all_weaker _ (Comes new) (λ y. is_total.trans new x y e) xs up.0), up)
+    go Equal e more = absurd (true≢false (sym (ap is_eq e) ∙ free.0))
+    go Greater e more = (all_inserted (Comes x) new xs (is_total.antisymm x new ∙ ap ordering_reverse e) up.0, more)
+
+rises_sorted : (xs : List Job) → HasNoTies xs → IsAscending Comes (sort_by order xs)
+rises_sorted [] free = tt
+rises_sorted (x ∷ xs) free = rises_inserted x _ (all_sorted _ xs free.0) (rises_sorted xs free.1)
+
+not_after : (a b : Job) → Comes a b → better b a ≡ false
+not_after a b e = sym (by_less b a) ∙ ap is_lt (is_total.antisymm b a ∙ ap ordering_reverse e)
+
+-- ---- all jobs that wait
+
+module _ (db : Database) (m : Queue) (k : List Entry) (means : TablesMean db m k) (t : ℕ) where
   abbrev all_due : List Job
   all_due = filter (λ (j : Job). is_due j t) m.jobs
 
-  due_rise : IsAscending (Below number_of) all_due
-  due_rise = ascending-filter (Below number_of) (λ (j : Job). is_due j t) m.jobs rise
-
-  one_order : (jobs : List Job) → AreWaiting t m jobs → jobs ≡ sort_by order all_due
-  one_order jobs w =
-      let no_ties = ascending_weaker (Below number_of) (λ (a b : Job). is_eq (order a b) ≡ false) (λ a b low. apart a.priority b.priority a.tts b.tts a.number b.number low) all_due due_rise in
-      let sorted : IsSorted order jobs = λ i d from low.
-      (let a = Rattle.std.proofs.Common.get_or jobs (i + 1) d in
-      let b = Rattle.std.proofs.Common.get_or jobs i d in
-      less a.priority b.priority a.tts b.tts a.number b.number ∙ w.ordered i d from low) in
-      sorted_is-sort_by order is_total all_due jobs no_ties w.due sorted
-
-  pub one_list : (xs ys : List JobFields) → IsWaiting t m xs → IsWaiting t m ys → xs ≡ ys
-  one_list xs ys v w = v.1 ∙ ap (map fields_of) (one_order v.0 v.2 ∙ sym (one_order w.0 w.2)) ∙ sym w.1
-
--- ---- and there are at most as many as numbers
-
--- from 0 up to a bound there is room for one more than the bound
-few : (b a : ℕ) (js : List Job) → IsAscending (Below number_of) js → AllByRecursion (λ (j : Job). a ≤ j.number) js → AllByRecursion (λ (j : Job). j.number ≤ b) js → length js ≤ b + 1 - a
-few b a [] up low high = omega arith
-few b a (j ∷ js) up low high =
-    let more = few b (j.number + 1) js up.1 (all_weaker (Below number_of j) (λ (k : Job). j.number + 1 ≤ k.number) (λ k less. omega (arith, less)) js up.0) high.1 in
-    omega (arith, more, low.0, high.0)
-
-pub within : (j : Job) → IsLawfulJob j → j.number ≤ last_job
-within j lawful = let up = (and_parts (leb 1 j.number) (leb j.number last_job) (within_limits_of (fields_of j) lawful.limits).number).1 in leb-true j.number last_job up
-
-module _ (db : Database) (m : Queue) (k : List Entry) (means : TablesMean db m k) (t : ℕ) where
   rises : IsAscending (Below number_of) m.jobs
   rises = ascend m.jobs (subst IsTable means.jobs means.ordered.jobs.rise)
 
-  pub same_list : (xs ys : List JobFields) → IsWaiting t m xs → IsWaiting t m ys → xs ≡ ys
-  same_list = one_list m rises t
+  no_ties : HasNoTies all_due
+  no_ties = ascending_weaker (Below number_of) (λ (a b : Job). is_eq (order a b) ≡ false) (λ a b low. apart a.priority b.priority a.tts b.tts a.number b.number low) all_due
+      (ascending-filter (Below number_of) (λ (j : Job). is_due j t) m.jobs rises)
 
-  pub few_wait : (xs : List JobFields) → IsWaiting t m xs → length xs ≤ last_job + 1
-  few_wait xs w =
-      let all_due = filter (λ (j : Job). is_due j t) m.jobs in
-      let lawful = recursion_from_All IsLawfulJob all_due (all_kept IsLawfulJob (λ (j : Job). is_due j t) m.jobs means.lawful.jobs) in
-      let high = all_weaker IsLawfulJob (λ (j : Job). j.number ≤ last_job) within all_due lawful in
-      let low = all_weaker IsLawfulJob (λ (j : Job). 0 ≤ j.number) (λ j h. omega arith) all_due lawful in
-      let bound = few last_job 0 all_due (due_rise m rises t) low high in
-      let long = length_permutation all_due w.0 w.2.due in
-      omega (arith, bound, long, ap length w.1, length_map fields_of w.0)
+  -- in the order of the choice
+  abbrev pub all_wait : List Job
+  all_wait = sort_by order all_due
+
+  come : IsAscending Comes all_wait
+  come = rises_sorted all_due no_ties
+
+  pub go_in_order : IsAscending Goes all_wait
+  go_in_order = ascending_weaker Comes Goes (λ a b e. sym (by_less a b) ∙ ap is_lt e) all_wait come
+
+  pub they_wait : AreWaiting t m all_wait
+  they_wait = record {
+    due = IsPermutation-sym all_wait all_due (IsPermutation-sort_by order is_total all_due);
+    ordered = λ i d from low. not_after (get_or all_wait i d) (get_or all_wait (i + 1) d) (ascending-get_or Comes all_wait i (i + 1) d come (omega arith) (omega (arith, low)));
+  }
+
+  one_order : (jobs : List Job) → AreWaiting t m jobs → jobs ≡ all_wait
+  one_order jobs w =
+      let sorted : IsSorted order jobs = λ i d from low. by_less (get_or jobs (i + 1) d) (get_or jobs i d) ∙ w.ordered i d from low in
+      sorted_is-sort_by order is_total all_due jobs no_ties w.due sorted
+
+  filter_both : (near : Job → Bool) (xs : List Job) → filter near (filter (λ (j : Job). is_due j t) xs) ≡ filter (λ j. is_due j t && near j) xs
+  filter_both near [] = refl
+  filter_both near (x ∷ xs) = by (is_due x t) (near x) refl refl (filter_both near xs)
+    where
+      by : (a b : Bool) → is_due x t ≡ a → near x ≡ b → filter near (filter (λ (j : Job). is_due j t) xs) ≡ filter (λ j. is_due j t && near j) xs
+          → filter near (cond a (x ∷ filter (λ (j : Job). is_due j t) xs) (filter (λ (j : Job). is_due j t) xs)) ≡ cond (a && near x) (x ∷ filter (λ j. is_due j t && near j) xs) (filter (λ j. is_due j t && near j) xs)
+      by true true e f more = rw f (ap (λ l. x ∷ l) more)
+      by true false e f more = rw f more
+      by false b e f more = more
+
+  -- those that are near, in order, are those of all that wait
+  near_order : (near : Job → Bool) (jobs : List Job) → IsPermutation (filter (λ j. is_due j t && near j) m.jobs) jobs → IsSortedBy better jobs → jobs ≡ filter near all_wait
+  near_order near jobs same ordered =
+      let sorted : IsSorted order jobs = λ i d from low. by_less (get_or jobs (i + 1) d) (get_or jobs i d) ∙ ordered i d from low in
+      let due = IsPermutation-filter near all_wait all_due (IsPermutation-sort_by order is_total all_due) in
+      let perm : IsPermutation (filter near all_wait) jobs =
+      IsPermutation-trans (filter near all_wait) (filter near all_due) jobs due (subst (λ xs. IsPermutation xs jobs) (sym (filter_both near m.jobs)) same) in
+      sorted_unique order is_total (filter near all_wait) jobs (ascending-filter Comes near all_wait come) perm sorted
 
 -- ---- a page
 
-module _ (t most skip : ℕ) where
+module _ (t most : ℕ) (more : Row) (tests : List Term) where
   abbrev pub params : Row
-  params = number t ∷ number most ∷ number skip ∷ []
+  params = number t ∷ number most ∷ more
+
+  abbrev asked : Row → Bool
+  asked = waiting.is_asked t (number most ∷ more) tests prospect_project
+
+  abbrev shown_of : Row → Row
+  shown_of = waiting.shown_of t (number most ∷ more) tests prospect_project
+
+  abbrev out : Row → Output
+  out = waiting.out t (number most ∷ more) tests prospect_project
 
   -- rows that pass are put in order, and those of the page are shown
-  in_page : (db : Database) (rows : List Row) → Reads (Select (record { lets = []; body = page_query }) job_names) db params rows
-      → (to : List Row) × IsPermutation (filter (waiting.is_asked t) (db.trees jobs_tree)) to × (rows ≡ take most (drop skip (map (waiting.shown_of t) to))) × IsSorted (output_cmp (waiting.query t)) (map (waiting.out t) to)
+  in_page : (db : Database) (rows : List Row) → Reads (Select (record { lets = []; body = page_query tests }) prospect_names) db params rows
+      → (to : List Row) × IsPermutation (filter asked (db.trees jobs_tree)) to × (rows ≡ take most (map shown_of to)) × IsSorted (output_cmp (waiting.query t (number most ∷ more) tests prospect_project)) (map out to)
   in_page db rows h =
       let table = db.trees jobs_tree in
-      let a : IsAnswer page_query (overlay db.trees []) params rows = h.answer Null in
-      let staged = a.grouped ∙ each_passing (waiting.is_asked t) (λ (r : Row). params ∷ r ∷ []) table in
-      let kept : a.kept ≡ map (waiting.out t) (filter (waiting.is_asked t) table) = a.distinct ∙ ap (map (output page_query)) staged ∙ map-map _ _ _ in
-      let back = pull_back (waiting.out t) a.kept a.ordered a.same (filter (waiting.is_asked t) table) kept in (
+      let a : IsAnswer (page_query tests) (overlay db.trees []) params rows = h.answer Null in
+      let staged = a.grouped ∙ each_passing asked (λ (r : Row). params ∷ r ∷ []) table in
+      let kept : a.kept ≡ map out (filter asked table) = a.distinct ∙ ap (map (output (page_query tests))) staged ∙ map-map _ _ _ in
+      let back = pull_back out a.kept a.ordered a.same (filter asked table) kept in (
         back.0,
         back.1,
-        a.shown ∙ ap (λ rows. take most (drop skip rows)) (ap (map (λ (o : Output). o.1)) back.2 ∙ map-map _ _ _),
-        subst (IsSorted (output_cmp (waiting.query t))) back.2 a.sorted,
+        a.shown ∙ ap (take most) (ap (map (λ (o : Output). o.1)) back.2 ∙ map-map _ _ _),
+        subst (IsSorted (output_cmp (waiting.query t (number most ∷ more) tests prospect_project))) back.2 a.sorted,
       )
 
-  module _ (old new : State) (m : Queue) (k : List Entry) (means : TablesMean old.now m k) where
-    -- its rows are those of jobs that are a page of those that wait
-    pub page_found : (rows : List Row) → Shown SELECT_PAGE.now params old new rows
-        → (jobs : List Job) × (rows ≡ map (λ j. job_shown (fields_of j)) jobs) × All IsLawfulJob jobs × IsPage t m most skip (map fields_of jobs)
+  module _ (old new : State) (m : Queue) (k : List Entry) (means : TablesMean old.now m k) (front : Front) (sql : List ℕ) (selects : SelectsPage sql tests)
+      (near : (j : Job) → waiting.is_further t (number most ∷ more) tests prospect_project (row_of j) ≡ is_near front j) where
+    -- what it shows is a page behind the front
+    page_found : (rows : List Row) → Shown sql params old new rows → IsPage t m front most rows
     page_found rows h =
-        let read = reads_as SELECT_PAGE.now params old new seven_tables means.schema _ select_page.command select_page.plain select_page.unlisted rows h in
+        let read = reads_as sql params old new seven_tables means.schema _ selects.command selects.plain selects.unlisted rows h in
         let shown = in_page old.now rows read in
-        let it = waiting.are_waiting t old.now m k means shown.0 shown.1 shown.3 in (
-          take most (drop skip it.0),
-          shown.2 ∙ ap (λ (rows : List Row). take most (drop skip rows)) it.1 ∙ (ap (take most) (drop-map (λ (j : Job). job_shown (fields_of j)) skip it.0) ∙ take-map (λ (j : Job). job_shown (fields_of j)) most (drop skip it.0)),
-          All-take IsLawfulJob most (drop skip it.0) (All-drop IsLawfulJob skip it.0 (all_waiting t m it.0 it.2 means.lawful.jobs)),
-          (map fields_of it.0, (it.0, refl, it.2), sym (ap (take most) (drop-map fields_of skip it.0) ∙ take-map fields_of most (drop skip it.0))),
-        )
+        let it = waiting.are_near t (number most ∷ more) tests prospect_project old.now m k means (is_near front) near shown.0 shown.1 shown.3 in
+        let all = all_wait old.now m k means t in
+        let is : it.0 ≡ filter (is_near front) all = near_order old.now m k means t (is_near front) it.0 it.2 it.3 in
+        record {
+          all = all;
+          waiting = they_wait old.now m k means t;
+          is =
+              shown.2 ∙ ap (take most) it.1 ∙ take-map (λ (j : Job). prospect_shown (fields_of j)) most it.0
+              ∙ ap (λ (js : List Job). map (λ (j : Job). prospect_shown (fields_of j)) (take most js)) is;
+        }
+
+and_true : (b : Bool) → (b && true) ≡ b
+and_true true = refl
+and_true false = refl
+
+module _ (t most : ℕ) (old new : State) (m : Queue) (k : List Entry) (means : TablesMean old.now m k) (rows : List Row) where
+  pub first_found : Shown SELECT_FIRST.now (params t most [] []) old new rows → IsPage t m First most rows
+  first_found = page_found t most [] [] old new m k means First SELECT_FIRST.now select_first (λ j. refl) rows
+
+  pub number_found : (p s n : ℕ) → Shown SELECT_BEHIND_NUMBER.now (params t most (number p ∷ number s ∷ number n ∷ []) number_tests) old new rows → IsPage t m (Number p s n) most rows
+  number_found p s n =
+      page_found t most (number p ∷ number s ∷ number n ∷ []) number_tests old new m k means (Number p s n) SELECT_BEHIND_NUMBER.now select_behind_number
+      (λ j. ap₂ ◌&&◌ (is_number j.priority p) (ap₂ ◌&&◌ (is_number j.tts s) (ap (λ b. b && true) (more_than j.number n) ∙ and_true (nat_lt n j.number)))) rows
+
+  pub time_found : (p s : ℕ) → Shown SELECT_BEHIND_TIME.now (params t most (number p ∷ number s ∷ []) time_tests) old new rows → IsPage t m (Time p s) most rows
+  time_found p s =
+      page_found t most (number p ∷ number s ∷ []) time_tests old new m k means (Time p s) SELECT_BEHIND_TIME.now select_behind_time
+      (λ j. ap₂ ◌&&◌ (is_number j.priority p) (ap (λ b. b && true) (more_than j.tts s) ∙ and_true (nat_lt s j.tts))) rows
+
+  pub priority_found : (p : ℕ) → Shown SELECT_BEHIND_PRIORITY.now (params t most (number p ∷ []) priority_tests) old new rows → IsPage t m (Priority p) most rows
+  priority_found p =
+      page_found t most (number p ∷ []) priority_tests old new m k means (Priority p) SELECT_BEHIND_PRIORITY.now select_behind_priority
+      (λ j. ap (λ b. b && true) (more_than j.priority p) ∙ and_true (nat_lt p j.priority)) rows
+
+-- ---- what one statement finds, and what comes after
+
+abbrev lex : ℕ → ℕ → ℕ → ℕ → ℕ → ℕ → Bool
+lex p t n q u k = nat_lt p q || ((p == q) && (nat_lt t u || ((t == u) && nat_lt n k)))
+
+not_itself : (p t n : ℕ) → lex p t n p t n ≡ false
+not_itself p t n = grind (arith, nat_tests)
+
+not_back : (p t n q u k : ℕ) → lex p t n q u k ≡ true → lex q u k p t n ≡ false
+not_back p t n q u k h = grind (arith, nat_tests)
+
+through : (p t n q u k r v l : ℕ) → lex p t n q u k ≡ true → lex q u k r v l ≡ true → lex p t n r v l ≡ true
+through p t n q u k r v l a b = grind (arith, nat_tests)
+
+same_front : (p t n q u k : ℕ) → (((q == p) && ((u == t) && nat_lt n k)) || (nat_lt p q || ((q == p) && nat_lt t u))) ≡ lex p t n q u k
+same_front p t n q u k = grind (arith, nat_tests)
+
+past_time : (p t q u k r v l n : ℕ) → lex q u k r v l ≡ true → (nat_lt p q || ((q == p) && nat_lt t u)) ≡ true → ((r == p) && ((v == t) && nat_lt n l)) ≡ false
+past_time p t q u k r v l n goes past = grind (arith, nat_tests)
+
+past_priority : (p t q u k r v l : ℕ) → lex q u k r v l ≡ true → nat_lt p q ≡ true → ((r == p) && nat_lt t v) ≡ false
+past_priority p t q u k r v l goes past = grind (arith, nat_tests)
+
+or_turned : (a b : Bool) → (a || b) ≡ (b || a)
+or_turned true true = refl
+or_turned true false = refl
+or_turned false true = refl
+or_turned false false = refl
+
+-- behind what comes after nothing is near
+after : (f : Front) (a b : Job) → Goes a b → is_beyond f a ≡ true → is_near f b ≡ false
+after First a b goes past = absurd (true≢false (sym past))
+after (Number p t n) a b goes past = past_time p t a.priority a.tts a.number b.priority b.tts b.number n goes past
+after (Time p t) a b goes past = past_priority p t a.priority a.tts a.number b.priority b.tts b.number goes past
+after (Priority p) a b goes past = absurd (true≢false (sym past))
+
+not_both : (f : Front) (a : Job) → is_beyond f a ≡ true → is_near f a ≡ false
+not_both First a past = absurd (true≢false (sym past))
+not_both (Number p t n) a past = let e : (nat_lt p a.priority || ((a.priority == p) && nat_lt t a.tts)) ≡ true = past in grind (arith, nat_tests)
+not_both (Time p t) a past = let e : nat_lt p a.priority ≡ true = past in grind (arith, nat_tests)
+not_both (Priority p) a past = absurd (true≢false (sym past))
+
+-- what is behind the next front comes after
+next_is : (f : Front) → is_last f ≡ false → (j : Job) → is_beyond f j ≡ is_behind (next_front f) j
+next_is First last j = absurd (true≢false last)
+next_is (Number p t n) last j = or_turned (nat_lt p j.priority) ((j.priority == p) && nat_lt t j.tts)
+next_is (Time p t) last j = or_turned false (nat_lt p j.priority)
+next_is (Priority p) last j = absurd (true≢false last)
+
+last_is : (f : Front) → is_last f ≡ true → (j : Job) → is_beyond f j ≡ false
+last_is First last j = refl
+last_is (Number p t n) last j = absurd (true≢false (sym last))
+last_is (Time p t) last j = absurd (true≢false (sym last))
+last_is (Priority p) last j = refl
+
+-- behind a job is what goes after it
+front_is : (x j : Job) → is_behind (front_of (prospect (fields_of x))) j ≡ better x j
+front_is x j = same_front x.priority x.tts x.number j.priority j.tts j.number
+
+cut : (f : Front) (xs : List Job) → IsAscending Goes xs → filter (is_behind f) xs ≡ filter (is_near f) xs ++ filter (is_beyond f) xs
+cut f [] up = refl
+cut f (x ∷ xs) up = by (is_near f x) (is_beyond f x) refl refl (cut f xs up.1)
+  where
+    near : List Job
+    near = filter (is_near f) xs
+
+    beyond : List Job
+    beyond = filter (is_beyond f) xs
+
+    by : (a b : Bool) → is_near f x ≡ a → is_beyond f x ≡ b → filter (is_behind f) xs ≡ near ++ beyond
+        → cond (a || b) (x ∷ filter (is_behind f) xs) (filter (is_behind f) xs) ≡ cond a (x ∷ near) near ++ cond b (x ∷ beyond) beyond
+    by true true e g more = absurd (true≢false (sym e ∙ not_both f x g))
+    by true false e g more = ap (λ l. x ∷ l) more
+    by false true e g more =
+        let none : near ≡ [] = filter_none (is_near f) xs (all_weaker (Goes x) (λ b. is_near f b ≡ false) (λ b goes. after f x b goes g) xs up.0) in
+        ap (λ l. x ∷ l) (more ∙ ap (λ l. l ++ beyond) none) ∙ sym (ap (λ l. l ++ x ∷ beyond) none)
+    by false false e g more = more
+
+-- ---- behind the last job of a page
+
+all_pass : {X : Type 0} (p : X → Bool) (xs : List X) → AllByRecursion (λ x. p x ≡ true) (filter p xs)
+all_pass p [] = tt
+all_pass p (x ∷ xs) = by (p x) refl (all_pass p xs)
+  where
+    by : (b : Bool) → p x ≡ b → AllByRecursion (λ y. p y ≡ true) (filter p xs) → AllByRecursion (λ y. p y ≡ true) (cond b (x ∷ filter p xs) (filter p xs))
+    by true e more = (e, more)
+    by false e more = more
+
+amid : {X : Type 0} (P : X → Type 0) (ys : List X) (x : X) (zs : List X) → AllByRecursion P (ys ++ x ∷ zs) → P x
+amid P [] x zs all = all.0
+amid P (y ∷ ys) x zs all = amid P ys x zs all.1
+
+behind_it : (ys : List Job) (x : Job) (zs : List Job) → IsAscending Goes (ys ++ x ∷ zs) → filter (better x) (ys ++ x ∷ zs) ≡ zs
+behind_it [] x zs up = rw (not_itself x.priority x.tts x.number) (filter_all (better x) zs up.0)
+behind_it (y ∷ ys) x zs up =
+    let goes = amid (Goes y) ys x zs up.0 in
+    rw (not_back y.priority y.tts y.number x.priority x.tts x.number goes) (behind_it ys x zs up.1)
+
+rest_behind : (f : Front) (all ys : List Job) (x : Job) (rest : List Job) → IsAscending Goes all → filter (is_behind f) all ≡ (ys ++ x ∷ []) ++ rest → filter (is_behind (front_of (prospect (fields_of x)))) all ≡ rest
+rest_behind f all ys x rest up is =
+    let whole : filter (is_behind f) all ≡ ys ++ x ∷ rest = is ∙ append_assoc ys (x ∷ []) rest in
+    let rises = subst (IsAscending Goes) whole (ascending-filter Goes (is_behind f) all up) in
+    let here : is_behind f x ≡ true = amid (λ (j : Job). is_behind f j ≡ true) ys x rest (subst (AllByRecursion (λ (j : Job). is_behind f j ≡ true)) whole (all_pass (is_behind f) all)) in
+    filter_same (is_behind (front_of (prospect (fields_of x)))) (better x) all (all_of (λ (j : Job). is_behind (front_of (prospect (fields_of x))) j ≡ better x j) (front_is x) all)
+    ∙ sym (filter-filter (better x) (is_behind f) (λ b goes. still_behind f x b here goes) all)
+    ∙ ap (filter (better x)) whole ∙ behind_it ys x rest rises
+  where
+    still_number : (p t n q u k r v l : ℕ) → (((q == p) && ((u == t) && nat_lt n k)) || (nat_lt p q || ((q == p) && nat_lt t u))) ≡ true → lex q u k r v l ≡ true
+        → (((r == p) && ((v == t) && nat_lt n l)) || (nat_lt p r || ((r == p) && nat_lt t v))) ≡ true
+    still_number p t n q u k r v l here goes = same_front p t n r v l ∙ through p t n q u k r v l (sym (same_front p t n q u k) ∙ here) goes
+
+    still_time : (p t q u k r v l : ℕ) → (((q == p) && nat_lt t u) || nat_lt p q) ≡ true → lex q u k r v l ≡ true → (((r == p) && nat_lt t v) || nat_lt p r) ≡ true
+    still_time p t q u k r v l here goes = grind (arith, nat_tests)
+
+    still_priority : (p q u k r v l : ℕ) → (nat_lt p q || false) ≡ true → lex q u k r v l ≡ true → (nat_lt p r || false) ≡ true
+    still_priority p q u k r v l here goes = grind (arith, nat_tests)
+
+    still_behind : (f : Front) (a b : Job) → is_behind f a ≡ true → Goes a b → is_behind f b ≡ true
+    still_behind First a b here goes = refl
+    still_behind (Number p t n) a b here goes = still_number p t n a.priority a.tts a.number b.priority b.tts b.number here goes
+    still_behind (Time p t) a b here goes = still_time p t a.priority a.tts a.number b.priority b.tts b.number here goes
+    still_behind (Priority p) a b here goes = still_priority p a.priority a.tts a.number b.priority b.tts b.number here goes
 
 -- ---- where a reading stands
 
-take_both : {X : Type 0} (n m : ℕ) (xs : List X) → take (n + m) xs ≡ take n xs ++ take m (drop n xs)
-take_both n m xs = sym (take-append-drop n (take (n + m) xs)) ∙ ap₂ ◌++◌ (take-take n (n + m) xs (omega arith)) (drop-take n m xs)
-
--- a bound that no list reaches
-take_bounded : {X : Type 0} (n b : ℕ) (xs : List X) → length xs ≤ b → take (min n b) xs ≡ take n xs
-take_bounded n b xs short =
-    let same : min (min n b) (length xs) ≡ min n (length xs) = omega (arith, short) in
-    sym (take_min (min n b) xs) ∙ ap (λ k. take k xs) same ∙ take_min n xs
+none_shown : {X Y : Type 0} (f : X → Y) (xs : List X) → [] ≡ map f xs → xs ≡ []
+none_shown f [] is = refl
+none_shown f (x ∷ xs) is = absurd (let e = is in cc)
 
 nothing_taken : {X : Type 0} (n : ℕ) (xs : List X) → 0 < n → take n xs ≡ [] → xs ≡ []
 nothing_taken zero xs some none = absurd (omega (arith, some))
 nothing_taken (suc n) [] some none = refl
 nothing_taken (suc n) (x ∷ xs) some none = absurd (let e = none in cc)
 
--- one of the page is given
-pub stands_given : (t : ℕ) (m : Queue) (given page : List JobFields) (job : JobFields) (read : ℕ) → StandsAt t m given (job ∷ page) read → StandsAt t m (given ++ job ∷ []) page read
-stands_given t m given page job read h = record { all = h.all; waiting = h.waiting; reads = append_assoc given (job ∷ []) page ∙ h.reads; some = h.some }
+abbrev shown : Job → Row
+shown j = prospect_shown (fields_of j)
 
-module _ (db : Database) (m : Queue) (k : List Entry) (means : TablesMean db m k) (t : ℕ) (given page : List JobFields) (read : ℕ) (h : StandsAt t m given [] read) (next : IsPage t m read read page) where
-  next_is : page ≡ take read (drop read h.all)
-  next_is = next.2 ∙ ap (λ xs. take read (drop read xs)) (same_list db m k means t next.0 h.all next.1 h.waiting)
+module _ (db : Database) (m : Queue) (k : List Entry) (means : TablesMean db m k) (t : ℕ) where
+  -- nothing was read
+  pub stands_first : (most : ℕ) → 0 < most → StandsAt t m [] [] First most
+  stands_first most some = record {
+    all = all_wait db m k means t;
+    waiting = they_wait db m k means t;
+    read = [];
+    parts = sym (filter_all (is_behind First) (all_wait db m k means t) (all_of (λ (j : Job). is_behind First j ≡ true) (λ j. refl) (all_wait db m k means t)));
+    shown = refl;
+    some = some;
+  }
 
-  given_is : given ≡ take read h.all
-  given_is = sym (append-nil given) ∙ h.reads
+  module _ (given : List Job) (f : Front) (most : ℕ) (h : StandsAt t m given [] f most) (rows : List Row) (next : IsPage t m f most rows) where
+    all_is : next.all ≡ h.all
+    all_is = one_order db m k means t next.all next.waiting ∙ sym (one_order db m k means t h.all h.waiting)
 
-  -- the next page
-  pub stands_next : (after : ℕ) → after ≡ min (read + read) (2 ^ 32 - 1) → StandsAt t m given page after
-  stands_next after is =
-      let bound = few_wait db m k means t h.all h.waiting in
-      let doubled = ap₂ ◌++◌ given_is next_is ∙ sym (take_both read read h.all) in
-      record {
-        all = h.all;
-        waiting = h.waiting;
-        reads = doubled ∙ sym (take_bounded (read + read) (2 ^ 32 - 1) h.all (omega (arith, bound))) ∙ ap (λ n. take n h.all) (sym is);
-        some = let some = h.some in omega (arith, is, some);
-      }
+    up : IsAscending Goes h.all
+    up = subst (IsAscending Goes) (sym (one_order db m k means t h.all h.waiting)) (go_in_order db m k means t)
 
-  -- behind the last page nothing is left
-  pub all_given : page ≡ [] → IsWaiting t m given
-  all_given none =
-      let rest : drop read h.all ≡ [] = nothing_taken read (drop read h.all) h.some (sym next_is ∙ none) in
-      let whole : h.all ≡ given = sym (take-append-drop read h.all) ∙ ap₂ ◌++◌ (sym given_is) rest ∙ append-nil given in
-      subst (IsWaiting t m) whole h.waiting
+    left : h.all ≡ given ++ filter (is_behind f) h.all
+    left = h.parts ∙ ap (λ (read : List Job). given ++ (read ++ filter (is_behind f) h.all)) (none_shown shown h.read h.shown)
+
+    -- the jobs of the page
+    abbrev pub paged : List Job
+    paged = take most (filter (is_near f) next.all)
+
+    -- it ends with a job
+    pub stands_page : (ys : List Job) (x : Job) → paged ≡ ys ++ x ∷ [] → (then : ℕ) → 0 < then → StandsAt t m given rows (front_of (prospect (fields_of x))) then
+    stands_page ys x is then some =
+        let near = filter (is_near f) h.all in
+        let front : take most near ≡ ys ++ x ∷ [] = ap (λ (all : List Job). take most (filter (is_near f) all)) (sym all_is) ∙ is in
+        let rest = drop most near ++ filter (is_beyond f) h.all in
+        let whole : filter (is_behind f) h.all ≡ (ys ++ x ∷ []) ++ rest =
+        cut f h.all up ∙ ap (λ (xs : List Job). xs ++ filter (is_beyond f) h.all) (sym (take-append-drop most near) ∙ ap (λ (xs : List Job). xs ++ drop most near) front)
+        ∙ append_assoc (ys ++ x ∷ []) (drop most near) (filter (is_beyond f) h.all) in
+        record {
+          all = h.all;
+          waiting = h.waiting;
+          read = ys ++ x ∷ [];
+          parts = left ∙ ap (λ (xs : List Job). given ++ xs) (whole ∙ ap (λ (xs : List Job). (ys ++ x ∷ []) ++ xs) (sym (rest_behind f h.all ys x rest up whole)));
+          shown = next.is ∙ ap (map shown) is;
+          some = some;
+        }
+
+    nothing_near : rows ≡ [] → filter (is_near f) h.all ≡ []
+    nothing_near none =
+        nothing_taken most (filter (is_near f) h.all) h.some
+        (ap (λ (all : List Job). take most (filter (is_near f) all)) (sym all_is) ∙ none_shown shown paged (sym none ∙ next.is))
+
+    -- it has no job
+    pub stands_on : rows ≡ [] → (then : ℕ) → 0 < then → StandsAt t m given rows (next_front f) then
+    stands_on none then some = by (is_last f) refl
+      where
+        same : (g : Front) → filter (is_behind f) h.all ≡ filter (is_behind g) h.all → StandsAt t m given rows g then
+        same g e = record {
+          all = h.all;
+          waiting = h.waiting;
+          read = [];
+          parts = left ∙ ap (λ (xs : List Job). given ++ xs) e;
+          shown = none;
+          some = some;
+        }
+
+        stays : (g : Front) → is_last g ≡ true → next_front g ≡ g
+        stays First e = refl
+        stays (Number p s n) e = absurd (true≢false (sym e))
+        stays (Time p s) e = absurd (true≢false (sym e))
+        stays (Priority p) e = refl
+
+        by : (b : Bool) → is_last f ≡ b → StandsAt t m given rows (next_front f) then
+        by true e = same (next_front f) (ap (λ (g : Front). filter (is_behind g) h.all) (sym (stays f e)))
+        by false e =
+            same (next_front f)
+            (cut f h.all up ∙ ap (λ (xs : List Job). xs ++ filter (is_beyond f) h.all) (nothing_near none)
+            ∙ filter_same (is_beyond f) (is_behind (next_front f)) h.all (all_of (λ (j : Job). is_beyond f j ≡ is_behind (next_front f) j) (next_is f e) h.all))
+
+    -- and none comes after it
+    pub all_given : rows ≡ [] → is_last f ≡ true → AreWaiting t m given
+    all_given none last =
+        let nothing : filter (is_beyond f) h.all ≡ [] = filter_none (is_beyond f) h.all (all_of (λ (j : Job). is_beyond f j ≡ false) (last_is f last) h.all) in
+        let whole : h.all ≡ given =
+        left ∙ ap (λ (xs : List Job). given ++ xs) (cut f h.all up ∙ ap₂ ◌++◌ (nothing_near none) nothing) ∙ append-nil given in
+        subst (AreWaiting t m) whole h.waiting
+
+-- ---- the end of a page
+
+ends : {X : Type 0} (xs : List X) → (xs ≡ []) ⊎ ((ys : List X) × (x : X) × (xs ≡ ys ++ x ∷ []))
+ends [] = inl refl
+ends (x ∷ xs) = elim (ends xs) [ inl none ↦ inr ([], x, ap (λ l. x ∷ l) none) | inr more ↦ inr (x ∷ more.0, more.1, ap (λ l. x ∷ l) more.2) ]
+
+get_last : {X : Type 0} (xs : List X) (x : X) → slice_get (xs ++ x ∷ []) (length xs) ≡ Some x
+get_last [] x = refl
+get_last (y ∷ ys) x = get_last ys x
+
+last_of : {X : Type 0} (xs : List X) (x : X) → slice_get (xs ++ x ∷ []) (length (xs ++ x ∷ []) - 1) ≡ Some x
+last_of xs x = let e : length (xs ++ x ∷ []) - 1 ≡ length xs = omega (arith, length-append xs (x ∷ [])) in ap (slice_get (xs ++ x ∷ [])) e ∙ get_last xs x
+
+pub page_empty : (rows : List Row) → None ≡ slice_get rows (length rows - 1) → rows ≡ []
+page_empty rows none = elim (ends rows) [
+  | inl empty ↦ empty
+  | inr it ↦ absurd (none-some it.1 (none ∙ ap (λ (xs : List Row). slice_get xs (length xs - 1)) it.2 ∙ last_of it.0 it.1))
+]
+
+pub page_ends : (rows : List Row) (jobs : List Job) (row : Row) → rows ≡ map shown jobs → Some row ≡ slice_get rows (length rows - 1) → (ys : List Job) × (x : Job) × (jobs ≡ ys ++ x ∷ []) × (row ≡ shown x)
+page_ends rows jobs row is last = elim (ends jobs) [
+  | inl empty ↦ absurd (none-some row (sym (last ∙ ap (λ (xs : List Row). slice_get xs (length xs - 1)) (is ∙ ap (map shown) empty))))
+  | inr it ↦ (
+    it.0,
+    it.1,
+    it.2,
+    same_Some row (shown it.1) (last ∙ ap (λ (xs : List Row). slice_get xs (length xs - 1)) (is ∙ ap (map shown) it.2 ∙ map-append shown it.0 (it.1 ∷ [])) ∙ last_of (map shown it.0) (shown it.1)),
+  )
+]
+
+-- a job of it is lawful
+pub page_lawful : (t : ℕ) (m : Queue) (f : Front) (most : ℕ) (all ys : List Job) (x : Job) → All IsLawfulJob m.jobs → AreWaiting t m all → take most (filter (is_near f) all) ≡ ys ++ x ∷ [] → IsLawfulJob x
+page_lawful t m f most all ys x lawful waits is =
+    let near = all_kept IsLawfulJob (is_near f) all (all_waiting t m all waits lawful) in
+    amid IsLawfulJob ys x [] (subst (AllByRecursion IsLawfulJob) is (recursion_from_All IsLawfulJob (take most (filter (is_near f) all)) (All-take IsLawfulJob most (filter (is_near f) all) near)))
+
+-- ---- how often there is more to be read until a page has a job
+
+abbrev pub rank : Front → ℕ
+rank First = 0
+rank (Number p t n) = 2
+rank (Time p t) = 1
+rank (Priority p) = 0
+
+abbrev pub turns_left : List Row → Front → ℕ
+turns_left [] f = rank f + 1
+turns_left (row ∷ rows) f = 0
+
+lower : (f : Front) → is_last f ≡ false → rank (next_front f) < rank f
+lower First last = absurd (true≢false last)
+lower (Number p t n) last = omega arith
+lower (Time p t) last = omega arith
+lower (Priority p) last = absurd (true≢false last)
+
+pub fewer_turns : (rows : List Row) (f g : Front) → is_last f ≡ false → (rows ≡ [] → g ≡ next_front f) → turns_left rows g < rank f + 1
+fewer_turns [] f g last next = let low = lower f last in let is = next refl in rw is (omega (arith, low))
+fewer_turns (row ∷ rows) f g last next = omega arith
+
+-- ---- what is given
+
+-- the first of the page is given
+pub one_given : (t : ℕ) (m : Queue) (given : List Job) (row : Row) (page : List Row) (f : Front) (most : ℕ) → StandsAt t m given (row ∷ page) f most
+    → (j : Job) × (row ≡ shown j) × StandsAt t m (given ++ j ∷ []) page f most
+one_given t m given row page f most h = by h.read h.parts h.shown
+  where
+    by : (read : List Job) → h.all ≡ given ++ (read ++ filter (is_behind f) h.all) → row ∷ page ≡ map shown read → (j : Job) × (row ≡ shown j) × StandsAt t m (given ++ j ∷ []) page f most
+    by [] parts is = absurd (let e = is in cc)
+    by (j ∷ read) parts is = (
+      j,
+      (let e = is in cc),
+      record { all = h.all; waiting = h.waiting; read = read; parts = parts ∙ sym (append_assoc given (j ∷ []) (read ++ filter (is_behind f) h.all)); shown = (let e = is in cc); some = h.some },
+    )
+
+-- ---- a job that is given
+
+pub within : (j : Job) → IsLawfulJob j → j.number ≤ last_job
+within j lawful = let up = (and_parts (leb 1 j.number) (leb j.number last_job) (within_limits_of (fields_of j) lawful.limits).number).1 in leb-true j.number last_job up
+
+find_first : (n : ℕ) (x : Job) (xs : List Job) → n ≡ x.number → find (λ (j : Job). j.number == n) (x ∷ xs) ≡ Some x
+find_first n x xs is = let e : (x.number == n) ≡ true = grind (arith, nat_tests) in rw e
+
+each_found : (xs : List Job) → IsAscending (Below number_of) xs → AllByRecursion (λ (j : Job). find (λ (k : Job). k.number == j.number) xs ≡ Some j) xs
+each_found [] up = tt
+each_found (x ∷ xs) up = (
+  find_first x.number x xs refl,
+  all_both (Below number_of x) (λ (j : Job). find (λ (k : Job). k.number == j.number) xs ≡ Some j) (λ (j : Job). find (λ (k : Job). k.number == j.number) (x ∷ xs) ≡ Some j)
+      (λ j low found. let e : (x.number == j.number) ≡ false = grind (arith, nat_tests) in rw (e, found)) xs up.0 (each_found xs up.1),
+)
+
+module _ (db : Database) (m : Queue) (k : List Entry) (means : TablesMean db m k) (t : ℕ) (given : List Job) (j : Job) (page : List Row) (f : Front) (most : ℕ) (h : StandsAt t m (given ++ j ∷ []) page f most) where
+  of_all : (P : Job → Type 0) → All P m.jobs → P j
+  of_all P all =
+      let due = all_kept P (λ (j : Job). is_due j t) m.jobs all in
+      let waits = recursion_from_All P h.all (All-permutation P (filter (λ (j : Job). is_due j t) m.jobs) h.all h.waiting.due due) in
+      let rest = h.read ++ filter (is_behind f) h.all in
+      amid P given j rest (subst (AllByRecursion P) (h.parts ∙ append_assoc given (j ∷ []) rest) waits)
+
+  -- it is lawful
+  pub given_lawful : IsLawfulJob j
+  given_lawful = of_all IsLawfulJob means.lawful.jobs
+
+  -- its number finds it
+  pub given_there : job_numbered j.number m ≡ Some j
+  given_there =
+      of_all (λ (j : Job). job_numbered j.number m ≡ Some j)
+      (All-from_recursion (λ (j : Job). job_numbered j.number m ≡ Some j) m.jobs (each_found m.jobs (rises db m k means t)))

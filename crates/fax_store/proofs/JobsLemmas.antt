@@ -1,4 +1,4 @@
--- What the text on all jobs reads.
+-- What the texts on all jobs read.
 use Rattle.std.proofs.Common.{◌≡◌, ◌<◌, ◌+◌, ℕ, pos, List, [], map, filter, true, false, nat_lt, get_or, refl, sym, ap, ap₂, subst, ◌∙◌, arith}
 use Rattle.std.specs.Ordering.{is_lt, int_cmp, ordering_then}
 use Rattle.std.specs.declared.cmp.Ordering.TheVariants.{Less, Equal}
@@ -17,38 +17,41 @@ use Rattle.sqlite_value.specs.Order.{value_cmp}
 use Rattle.sqlite_value.proofs.OrderLemmas.{value_cmp-Int}
 use Rattle.fax_core.specs.Job.{Job, fields_of}
 use Rattle.fax_core.specs.Queue.{Queue, Entry}
-use Rattle.fax_store.specs.declared.jobs.TheConstants.{SELECT_JOBS}
-use Rattle.fax_tables.specs.Job.{job_shown}
+use Rattle.fax_store.specs.declared.jobs.TheConstants.{SELECT_JOBS, SELECT_BRIEFS}
+use Rattle.fax_tables.specs.Job.{brief_shown, job_shown}
 use Rattle.fax_tables.specs.Schema.{seven_tables, jobs_tree}
 use Rattle.fax_tables.specs.Tables.{TablesMean}
 use Rattle.fax_tables.proofs.IndexLemmas.{length_map}
+use Rattle.sqlite_sql.specs.Term.{Term}
 use Rattle.fax_tables.proofs.SelectLemmas.{rows_by, passes, show, put_out, in_order}
+use Rattle.fax_tables.proofs.StatementForms.{SelectsBy}
 use Rattle.fax_tables.proofs.TablesLemmas.{row_of}
 use Rattle.fax_store.proofs.OrderLemmas.{Below, only_order}
-use Rattle.fax_store.proofs.StatementTexts.{job_names, job_project, jobs_order, select_jobs}
+use Rattle.fax_store.proofs.StatementTexts.{brief_names, brief_project, job_names, job_project, jobs_order, select_briefs, select_jobs}
 
 abbrev pub number_of : Job → ℕ
 number_of j = j.number
 
--- what a job is sorted by, and what is shown of it
-abbrev out : Job → Output
-out j = put_out jobs_tree [] job_project [] jobs_order (row_of j)
-
 by_number : (n k : ℕ) → is_lt (ordering_then (int_cmp (pos n) (pos k)) Equal) ≡ nat_lt n k
 by_number n k = grind (arith, nat_tests)
 
-same_order : (a b : Job) → is_lt (output_cmp (rows_by jobs_tree [] job_project jobs_order) (out a) (out b)) ≡ nat_lt a.number b.number
-same_order a b = ap is_lt (ap (λ o. ordering_then o Equal) (value_cmp-Int (pos a.number) (pos b.number))) ∙ by_number a.number b.number
+module _ (project : List Term) where
+  -- what a job is sorted by, and what is shown of it
+  abbrev out : Job → Output
+  out j = put_out jobs_tree [] project [] jobs_order (row_of j)
 
--- jobs that are shown in order don't fall
-in_numbers : (jobs : List Job) → IsSorted (output_cmp (rows_by jobs_tree [] job_project jobs_order)) (map out jobs) → IsNonDecreasingBy number_of jobs
-in_numbers jobs sorted = IsNonDecreasingBy-from_all_adjacent number_of jobs (λ i d low.
-    let by = λ (a b : Output). is_lt (output_cmp (rows_by jobs_tree [] job_project jobs_order) a b) in
-    let first = get_or jobs i d in
-    let next = get_or jobs (i + 1) d in
-    let apart : nat_lt next.number first.number ≡ false =
-    sym (same_order next first) ∙ sym (ap₂ by (get_or-map out jobs (i + 1) d (out d) low) (get_or-map out jobs i d (out d) (omega arith))) ∙ sorted i (out d) (omega arith) (omega (arith, length_map out jobs)) in
-    grind (arith, nat_tests))
+  same_order : (a b : Job) → is_lt (output_cmp (rows_by jobs_tree [] project jobs_order) (out a) (out b)) ≡ nat_lt a.number b.number
+  same_order a b = ap is_lt (ap (λ o. ordering_then o Equal) (value_cmp-Int (pos a.number) (pos b.number))) ∙ by_number a.number b.number
+
+  -- jobs that are shown in order don't fall
+  in_numbers : (jobs : List Job) → IsSorted (output_cmp (rows_by jobs_tree [] project jobs_order)) (map out jobs) → IsNonDecreasingBy number_of jobs
+  in_numbers jobs sorted = IsNonDecreasingBy-from_all_adjacent number_of jobs (λ i d low.
+      let by = λ (a b : Output). is_lt (output_cmp (rows_by jobs_tree [] project jobs_order) a b) in
+      let first = get_or jobs i d in
+      let next = get_or jobs (i + 1) d in
+      let apart : nat_lt next.number first.number ≡ false =
+      sym (same_order next first) ∙ sym (ap₂ by (get_or-map out jobs (i + 1) d (out d) low) (get_or-map out jobs i d (out d) (omega arith))) ∙ sorted i (out d) (omega arith) (omega (arith, length_map out jobs)) in
+      grind (arith, nat_tests))
 
 below : (a b : Job) → value_cmp (rowid (row_of a)) (rowid (row_of b)) ≡ Less → a.number < b.number
 below a b less = let e : int_cmp (pos a.number) (pos b.number) ≡ Less = sym (value_cmp-Int (pos a.number) (pos b.number)) ∙ less in grind (arith, nat_tests)
@@ -58,17 +61,28 @@ pub ascend : (jobs : List Job) → IsTable (map row_of jobs) → IsAscending (Be
 ascend jobs rise =
     ascending_weaker (λ a b. value_cmp (rowid (row_of a)) (rowid (row_of b)) ≡ Less) (Below number_of) below jobs (ascending_from_map (λ a b. value_cmp (rowid a) (rowid b) ≡ Less) row_of jobs rise)
 
-module _ (old new : State) (m : Queue) (k : List Entry) (means : TablesMean old.now m k) where
-  pub jobs_found : (rows : List Row) → Shown SELECT_JOBS.now [] old new rows → rows ≡ map (λ j. job_shown (fields_of j)) m.jobs
-  jobs_found rows h =
-      let query = rows_by jobs_tree [] job_project jobs_order in
+module _ (old new : State) (m : Queue) (k : List Entry) (means : TablesMean old.now m k) (sql : List ℕ) (project : List Term) (names : List (List ℕ)) (selects : SelectsBy sql jobs_tree [] project jobs_order names) where
+  abbrev of : Job → Row
+  of j = show jobs_tree [] project [] (row_of j)
+
+  -- what is shown of all jobs
+  all_found : (rows : List Row) → Shown sql [] old new rows → rows ≡ map of m.jobs
+  all_found rows h =
+      let query = rows_by jobs_tree [] project jobs_order in
       let table = old.now.trees jobs_tree in
-      let is_asked = passes jobs_tree [] job_project [] in
-      let read = reads_as SELECT_JOBS.now [] old new seven_tables means.schema _ select_jobs.command select_jobs.plain select_jobs.unlisted rows h in
-      let shown = in_order jobs_tree [] job_project [] old.now table refl jobs_order job_names rows read in
+      let is_asked = passes jobs_tree [] project [] in
+      let read = reads_as sql [] old new seven_tables means.schema _ selects.command selects.plain selects.unlisted rows h in
+      let shown = in_order jobs_tree [] project [] old.now table refl jobs_order names rows read in
       let all : filter is_asked table ≡ map row_of m.jobs = filter_all is_asked table (all_of (λ r. is_asked r ≡ true) (λ r. refl) table) ∙ means.jobs in
       let back = pull_back row_of (filter is_asked table) shown.0 shown.1 m.jobs all in
       let jobs = back.0 in
-      let sorted : IsSorted (output_cmp query) (map out jobs) = subst (IsSorted (output_cmp query)) (ap (map (put_out jobs_tree [] job_project [] jobs_order)) back.2 ∙ map-map _ _ jobs) shown.3 in
-      let same = only_order number_of m.jobs jobs (ascend m.jobs (subst IsTable means.jobs means.ordered.jobs.rise)) back.1 (in_numbers jobs sorted) in
-      shown.2 ∙ ap (map (show jobs_tree [] job_project [])) back.2 ∙ map-map _ _ jobs ∙ ap (map (λ j. job_shown (fields_of j))) same
+      let sorted : IsSorted (output_cmp query) (map (out project) jobs) = subst (IsSorted (output_cmp query)) (ap (map (put_out jobs_tree [] project [] jobs_order)) back.2 ∙ map-map _ _ jobs) shown.3 in
+      let same = only_order number_of m.jobs jobs (ascend m.jobs (subst IsTable means.jobs means.ordered.jobs.rise)) back.1 (in_numbers project jobs sorted) in
+      shown.2 ∙ ap (map (show jobs_tree [] project [])) back.2 ∙ map-map _ _ jobs ∙ ap (map of) same
+
+module _ (old new : State) (m : Queue) (k : List Entry) (means : TablesMean old.now m k) (rows : List Row) where
+  pub jobs_found : Shown SELECT_JOBS.now [] old new rows → rows ≡ map (λ j. job_shown (fields_of j)) m.jobs
+  jobs_found = all_found old new m k means SELECT_JOBS.now job_project job_names select_jobs rows
+
+  pub briefs_found : Shown SELECT_BRIEFS.now [] old new rows → rows ≡ map (λ j. brief_shown (fields_of j)) m.jobs
+  briefs_found = all_found old new m k means SELECT_BRIEFS.now brief_project brief_names select_briefs rows

@@ -25,3 +25,4 @@ pub mod CallLemmas
 pub mod Rows
 pub mod HeldLemmas
 pub mod AdoptLemmas
+mod ShutLemmas

@@ -1,5 +1,5 @@
 -- What the texts that read and write the six tables mean.
-use Rattle.std.proofs.Common.{ℕ, pos, List, [], ◌∷◌, codes, refl}
+use Rattle.std.proofs.Common.{ℕ, pos, List, [], ◌∷◌, ◌++◌, codes, refl}
 use Rattle.sqlite.specs.Collation.TheVariants.{Binary}
 use Rattle.sqlite.specs.declared.types.Value.TheVariants.{Null, Int, Text}
 use Rattle.sqlite_sql.specs.Term.{Term, lit, col, op2}
@@ -16,8 +16,8 @@ use Rattle.fax_job.specs.Status.{kill_time_expired}
 use Rattle.fax_store.specs.declared.adopt.TheConstants.{SELECT_DIAL, SELECT_HELD, SELECT_LOST, SELECT_VERSION}
 use Rattle.fax_store.specs.declared.meta.TheConstants.{SELECT_META, UPDATE_CLOCK, UPDATE_META}
 use Rattle.fax_store.specs.declared.replies.TheConstants.{SELECT_REPLY, INSERT_REPLY}
-use Rattle.fax_store.specs.declared.candidates.TheConstants.{SELECT_PAGE}
-use Rattle.fax_store.specs.declared.jobs.TheConstants.{SELECT_JOB, INSERT_JOB, UPDATE_JOB, EXPIRE_JOBS, SELECT_WAITING, SELECT_JOBS}
+use Rattle.fax_store.specs.declared.candidates.TheConstants.{SELECT_FIRST, SELECT_BEHIND_NUMBER, SELECT_BEHIND_TIME, SELECT_BEHIND_PRIORITY}
+use Rattle.fax_store.specs.declared.jobs.TheConstants.{SELECT_JOB, INSERT_JOB, UPDATE_JOB, EXPIRE_JOBS, SELECT_WAITING, SELECT_JOBS, SELECT_BRIEFS}
 use Rattle.fax_tables.proofs.SelectLemmas.{rows_by, rows_where}
 use Rattle.fax_tables.proofs.UpdateLemmas.{program_of}
 use Rattle.fax_tables.proofs.StatementForms.{equals, Selects, SelectsAll, SelectsBy, Commands}
@@ -104,14 +104,20 @@ pub insert_reply : Commands INSERT_REPLY.now (Insert 4 (Values reply_terms 6))
 unfolding understood everything
 insert_reply = record { is = refl; plain = (refl, refl) }
 
+abbrev pub brief_project : List Term
+brief_project =
+    col 1 0 ∷ col 1 2 ∷ col 1 3 ∷ col 1 4 ∷ col 1 5 ∷ col 1 7 ∷ col 1 8 ∷ col 1 9 ∷ col 1 10 ∷ col 1 11 ∷ col 1 12 ∷ col 1 13 ∷ col 1 14 ∷ col 1 15 ∷ col 1 16 ∷ col 1 17 ∷ col 1 18 ∷ col 1 19 ∷ col 1 20 ∷ []
+
 abbrev pub job_project : List Term
-job_project =
-    col 1 0 ∷ col 1 2 ∷ col 1 3 ∷ col 1 4 ∷ col 1 5 ∷ col 1 6 ∷ col 1 7 ∷ col 1 8 ∷ col 1 9 ∷ col 1 10 ∷ col 1 11 ∷ col 1 12 ∷ col 1 13 ∷ col 1 14 ∷ col 1 15 ∷ col 1 16 ∷ col 1 17 ∷ col 1 18 ∷ col 1 19 ∷ col 1 20 ∷ []
+job_project = brief_project ++ col 1 6 ∷ []
+
+abbrev pub brief_names : List (List ℕ)
+brief_names =
+    codes "job" ∷ codes "dial" ∷ codes "modem" ∷ codes "jobtag" ∷ codes "status" ∷ codes "tts" ∷ codes "killtime" ∷ codes "priority" ∷ codes "npages"
+    ∷ codes "totpages" ∷ codes "ntries" ∷ codes "tottries" ∷ codes "maxtries" ∷ codes "ndials" ∷ codes "totdials" ∷ codes "maxdials" ∷ codes "phase" ∷ codes "wish" ∷ codes "next" ∷ []
 
 abbrev pub job_names : List (List ℕ)
-job_names =
-    codes "job" ∷ codes "dial" ∷ codes "modem" ∷ codes "jobtag" ∷ codes "status" ∷ codes "extra" ∷ codes "tts" ∷ codes "killtime" ∷ codes "priority" ∷ codes "npages"
-    ∷ codes "totpages" ∷ codes "ntries" ∷ codes "tottries" ∷ codes "maxtries" ∷ codes "ndials" ∷ codes "totdials" ∷ codes "maxdials" ∷ codes "phase" ∷ codes "wish" ∷ codes "next" ∷ []
+job_names = brief_names ++ codes "extra" ∷ []
 
 pub select_job : Selects SELECT_JOB.now jobs_tree job_tests job_project job_names
 unfolding understood everything
@@ -119,7 +125,7 @@ select_job = record { command = refl; plain = (refl, refl); unlisted = refl }
 
 abbrev pub job_terms : List Term
 job_terms =
-    col 0 0 ∷ lit Null ∷ col 0 1 ∷ col 0 2 ∷ col 0 3 ∷ col 0 4 ∷ col 0 5 ∷ col 0 6 ∷ col 0 7 ∷ col 0 8 ∷ col 0 9 ∷ col 0 10 ∷ col 0 11 ∷ col 0 12 ∷ col 0 13 ∷ col 0 14 ∷ col 0 15 ∷ col 0 16 ∷ col 0 17 ∷ col 0 18 ∷ col 0 19 ∷ []
+    col 0 0 ∷ lit Null ∷ col 0 1 ∷ col 0 2 ∷ col 0 3 ∷ col 0 4 ∷ col 0 19 ∷ col 0 5 ∷ col 0 6 ∷ col 0 7 ∷ col 0 8 ∷ col 0 9 ∷ col 0 10 ∷ col 0 11 ∷ col 0 12 ∷ col 0 13 ∷ col 0 14 ∷ col 0 15 ∷ col 0 16 ∷ col 0 17 ∷ col 0 18 ∷ []
 
 pub insert_job : Commands INSERT_JOB.now (Insert 0 (Values job_terms 21))
 unfolding understood everything
@@ -156,13 +162,44 @@ pub select_waiting : SelectsBy SELECT_WAITING.now jobs_tree waiting_tests job_pr
 unfolding understood everything
 select_waiting = record { command = refl; plain = (refl, refl); unlisted = refl }
 
--- the second parameter is the most rows, and the third how many are left out before them
-abbrev pub page_query : Query
-page_query = record (rows_by jobs_tree waiting_tests job_project waiting_order) { limit = col 0 1; offset = col 0 2 }
+-- what the choice asks of a job that waits
+abbrev pub prospect_project : List Term
+prospect_project = col 1 0 ∷ col 1 2 ∷ col 1 3 ∷ col 1 9 ∷ col 1 7 ∷ []
 
-pub select_page : SelectsAll SELECT_PAGE.now page_query job_names
+abbrev pub prospect_names : List (List ℕ)
+prospect_names = codes "job" ∷ codes "dial" ∷ codes "modem" ∷ codes "priority" ∷ codes "tts" ∷ []
+
+-- the jobs that wait and pass these tests; the second parameter is the most rows
+abbrev pub page_query : List Term → Query
+page_query tests = record (rows_by jobs_tree (waiting_tests ++ tests) prospect_project waiting_order) { limit = col 0 1 }
+
+abbrev pub SelectsPage : List ℕ → List Term → Type 0
+SelectsPage sql tests = SelectsAll sql (page_query tests) prospect_names
+
+pub select_first : SelectsPage SELECT_FIRST.now []
 unfolding understood everything
-select_page = record { command = refl; plain = (refl, refl); unlisted = refl }
+select_first = record { command = refl; plain = (refl, refl); unlisted = refl }
+
+abbrev pub number_tests : List Term
+number_tests = equals (col 1 9) (col 0 2) ∷ equals (col 1 7) (col 0 3) ∷ op2 (Compare Gt Binary) (col 1 0) (col 0 4) ∷ []
+
+pub select_behind_number : SelectsPage SELECT_BEHIND_NUMBER.now number_tests
+unfolding understood everything
+select_behind_number = record { command = refl; plain = (refl, refl); unlisted = refl }
+
+abbrev pub time_tests : List Term
+time_tests = equals (col 1 9) (col 0 2) ∷ op2 (Compare Gt Binary) (col 1 7) (col 0 3) ∷ []
+
+pub select_behind_time : SelectsPage SELECT_BEHIND_TIME.now time_tests
+unfolding understood everything
+select_behind_time = record { command = refl; plain = (refl, refl); unlisted = refl }
+
+abbrev pub priority_tests : List Term
+priority_tests = op2 (Compare Gt Binary) (col 1 9) (col 0 2) ∷ []
+
+pub select_behind_priority : SelectsPage SELECT_BEHIND_PRIORITY.now priority_tests
+unfolding understood everything
+select_behind_priority = record { command = refl; plain = (refl, refl); unlisted = refl }
 
 abbrev pub jobs_order : List (Term × Key)
 jobs_order = (col 1 0, ascending Binary) ∷ []
@@ -170,3 +207,7 @@ jobs_order = (col 1 0, ascending Binary) ∷ []
 pub select_jobs : SelectsBy SELECT_JOBS.now jobs_tree [] job_project jobs_order job_names
 unfolding understood everything
 select_jobs = record { command = refl; plain = (refl, refl); unlisted = refl }
+
+pub select_briefs : SelectsBy SELECT_BRIEFS.now jobs_tree [] brief_project jobs_order brief_names
+unfolding understood everything
+select_briefs = record { command = refl; plain = (refl, refl); unlisted = refl }

@@ -19,7 +19,7 @@ use Rattle.fax_core.specs.State.{is_of_number}
 use Rattle.fax_job.specs.Dial.{IsCanonical}
 use Rattle.fax_tables.specs.Job.{IsText}
 use Rattle.fax_tables.specs.Row.{number}
-use Rattle.fax_tables.specs.Schema.{AreOurs, no_tables, bare_tables, seven_tables, six_tables, calls_tree, holds_tree, jobs_tree, meta_tree}
+use Rattle.fax_tables.specs.Schema.{AreOurs, no_tables, bare_tables, older_six_tables, seven_tables, six_tables, calls_tree, holds_tree, jobs_tree, meta_tree}
 use Rattle.fax_tables.specs.Tables.{GoesOn, IsAtRest, RowsMean}
 use Rattle.sqlite_trees.specs.Tree.{Trees}
 use Rattle.fax_store.specs.Grant.{SetsCalls}
@@ -101,9 +101,13 @@ pub record IsIn (Ours : Schema → Type 0) (s : State) : Type 0 where
   pub inside : IsTrue s.in_transaction
   pub schema_is : Ours s.now.schema
 
--- the six tables, with the indexes of jobs or without
+-- the six tables, with the indexes of jobs or without, or with those that stores made before
 abbrev pub AreSix : Schema → Type 0
-AreSix schema = (schema ≡ six_tables) ⊎ (schema ≡ bare_tables)
+AreSix schema = (schema ≡ six_tables) ⊎ ((schema ≡ bare_tables) ⊎ (schema ≡ older_six_tables))
+
+-- not with these
+abbrev pub AreStores : Schema → Type 0
+AreStores schema = (schema ≡ six_tables) ⊎ (schema ≡ bare_tables)
 
 -- those tables, and the rows of the six
 abbrev pub Leaves : (Schema → Type 0) → Database → Database → Type 0

@@ -1,22 +1,77 @@
 -- Where a reading of the jobs that wait stands.
-use Rattle.std.specs.Prelude.{◌≡◌, ◌<◌, ℕ, List, [], ◌∷◌, ◌++◌, take, drop, Option, MatchOption}
+use Rattle.std.specs.Prelude.{◌≡◌, ◌<◌, ℕ, ◌==◌, Bool, true, false, ◌&&◌, ◌||◌, List, [], ◌∷◌, ◌++◌, filter, map, nat_lt, take, Option, MatchOption}
+use Rattle.sqlite.specs.Order.{Row}
+use Rattle.fax_core.specs.Job.{Job, fields_of}
 use Rattle.fax_core.specs.Queue.{Queue}
 use Rattle.fax_core.specs.State.{calls_to}
 use Rattle.fax_job.specs.declared.job.JobFields.{JobFields}
-use Rattle.fax_store.specs.Job.{IsWaiting}
+use Rattle.fax_store.specs.Job.{AreWaiting}
+use Rattle.fax_store.specs.declared.candidates.Front.{Front}
+use Rattle.fax_store.specs.declared.candidates.Front.TheVariants.{First, Number, Time, Priority}
+use Rattle.fax_tables.specs.Job.{prospect, prospect_shown}
+use Rattle.fax_tables.specs.declared.prospect.Prospect.{Prospect}
 
--- of the jobs that wait, the first `most` behind the first `skip`
-abbrev pub IsPage : ℕ → Queue → ℕ → ℕ → List JobFields → Type 0
-IsPage t m most skip found = (all : List JobFields) × IsWaiting t m all × (found ≡ take most (drop skip all))
+-- ---- what stands behind a front, in the order of the choice
 
--- The first `read` of the jobs that wait were read. They are those given, and behind them those of the page.
-pub record StandsAt (t : ℕ) (m : Queue) (given page : List JobFields) (read : ℕ) : Type 0 where
-  pub all : List JobFields
-  pub waiting : IsWaiting t m all
-  pub reads : given ++ page ≡ take read all
-  pub some : 0 < read
+-- what one statement finds: all; or behind a job those of the same priority and time to send, behind these those of the same priority, and behind these all others
+abbrev pub is_near : Front → Job → Bool
+is_near First j = true
+is_near (Number p t n) j = j.priority == p && (j.tts == t && nat_lt n j.number)
+is_near (Time p t) j = j.priority == p && nat_lt t j.tts
+is_near (Priority p) j = nat_lt p j.priority
 
--- The next job is given, with the calls that are open to its number. None is, where those given are all that wait.
-abbrev pub Gives : ℕ → Queue → List JobFields → List JobFields → ℕ → Option (JobFields × ℕ) → Type 0
-Gives t m given page read found =
-    MatchOption found (IsWaiting t m given × StandsAt t m given page read) (λ next. StandsAt t m (given ++ next.0 ∷ []) page read × (next.1 ≡ calls_to next.0.dial m))
+-- what comes after these
+abbrev pub is_beyond : Front → Job → Bool
+is_beyond (Number p t n) j = nat_lt p j.priority || (j.priority == p && nat_lt t j.tts)
+is_beyond (Time p t) j = nat_lt p j.priority
+is_beyond other j = false
+
+abbrev pub is_behind : Front → Job → Bool
+is_behind front j = is_near front j || is_beyond front j
+
+-- behind this job
+abbrev pub front_of : Prospect → Front
+front_of last = Number last.priority last.tts last.job
+
+-- where there are no more that one statement finds
+abbrev pub next_front : Front → Front
+next_front (Number p t n) = Time p t
+next_front (Time p t) = Priority p
+next_front other = other
+
+-- one statement finds all
+abbrev pub is_last : Front → Bool
+is_last First = true
+is_last (Number p t n) = false
+is_last (Time p t) = false
+is_last (Priority p) = true
+
+-- ---- what is read and given
+
+-- the rows of the first of them that one statement finds
+pub record IsPage (t : ℕ) (m : Queue) (front : Front) (most : ℕ) (rows : List Row) : Type 0 where
+  pub all : List Job
+  pub waiting : AreWaiting t m all
+  pub is : rows ≡ map (λ j. prospect_shown (fields_of j)) (take most (filter (is_near front) all))
+
+-- The jobs that wait are those given, then those of the page, then those behind the front. The next page may have jobs.
+pub record StandsAt (t : ℕ) (m : Queue) (given : List Job) (page : List Row) (front : Front) (most : ℕ) : Type 0 where
+  pub all : List Job
+  pub waiting : AreWaiting t m all
+  pub read : List Job
+  pub parts : all ≡ given ++ (read ++ filter (is_behind front) all)
+  pub shown : page ≡ map (λ j. prospect_shown (fields_of j)) read
+  pub some : 0 < most
+
+-- The next job is given, or none is, where those given are all that wait.
+abbrev pub Gives : {A : Type 0} → (Job → A → Type 0) → ℕ → Queue → List Job → List Row → Front → ℕ → Option A → Type 0
+Gives Of t m given page front most found =
+    MatchOption found (AreWaiting t m given × StandsAt t m given page front most) (λ next. (j : Job) × Of j next × StandsAt t m (given ++ j ∷ []) page front most)
+
+-- as the choice looks at it
+abbrev pub IsProspect : Job → Prospect → Type 0
+IsProspect j found = found ≡ prospect (fields_of j)
+
+-- whole, with the calls that are open to its number
+abbrev pub IsCounted : Queue → Job → JobFields × ℕ → Type 0
+IsCounted m j found = (found.0 ≡ fields_of j) × (found.1 ≡ calls_to j.dial m)

@@ -6,7 +6,7 @@ ghost use Rattle.sqlite.specs.Held.{state};
 ghost use Rattle.sqlite.specs.State.{HasCleanDisk, IsUnchanged, KeepsCommit};
 ghost use Rattle.fax_core.specs.Job.{Job as OneJob};
 ghost use Rattle.fax_core.specs.Queue.{Queue, Entry, empty_queue, job_numbered};
-ghost use Rattle.fax_store.specs.Adopt.{Adopts, AreAdopted, AreCallable, AreOfJobs, AreSix, AreSmall, AreWhole, CanBeCalled, Goes, HasNone, HasSet, HasWhole, HoldJobs, HoldsCanBeCalled, IsAdoptable, IsFilled, IsIn, IsOurs, IsTakeable, IsWhole, Leaves, held_to, versions};
+ghost use Rattle.fax_store.specs.Adopt.{Adopts, AreAdopted, AreCallable, AreOfJobs, AreSix, AreSmall, AreStores, AreWhole, CanBeCalled, Goes, HasNone, HasSet, HasWhole, HoldJobs, HoldsCanBeCalled, IsAdoptable, IsFilled, IsIn, IsOurs, IsTakeable, IsWhole, Leaves, held_to, versions};
 ghost use Rattle.fax_store.specs.Grant.{HasCalls, SetsCalls, with_count};
 ghost use Rattle.fax_store.specs.Store.{CommitsNothing, GoesBack, HasTables, LeavesAlone, MayMake, Means, Reads, RowsFound, Serves};
 ghost use Rattle.fax_store.specs.Work.{Withholds};
@@ -19,7 +19,8 @@ use crate::store::{BEGIN, COMMIT, Store};
 use fax_job::Dial;
 use fax_tables::{
     StoreFault, create_calls, create_indexes, create_tables, dial_in, drop_calls, drop_indexes,
-    has_bare_tables, has_calls, has_no_tables, has_ours, held_job_in, is_vacuumed, is_version,
+    has_bare_tables, has_calls, has_indexes_last, has_no_tables, has_older_six, has_ours,
+    held_job_in, is_version,
 };
 use sqlite::{Alter, Connection, Row, params};
 use std::alloc::Global;
@@ -37,8 +38,8 @@ impl<S: Alter> Store<S> {
     /// The store over a database. One with no tables gets the seven of an empty store, with their
     /// indexes. One with exactly the tables of a queue, of version 1, keeps the rows of all but
     /// `calls`, which is counted anew by what is held, whether it was there or not. The indexes by
-    /// which jobs are found are made where there are none, or where VACUUM moved them. Either is done
-    /// in one transaction.
+    /// which jobs are found are made where there are none, where VACUUM moved them, or where a store
+    /// made others before. Either is done in one transaction.
     ///
     /// # Errors
     ///
@@ -185,14 +186,28 @@ impl<S: Alter> Store<S> {
         Ok(())
     }
 
-    /// Takes the indexes of jobs away where they are the last. They are made again before `calls`.
+    /// Takes the indexes of jobs away where they are the last and not a store's. They are made again before `calls`.
     fn lose_indexes(&mut self) -> Result<(), StoreFault>
         ensures goes { Goes (IsIn AreOurs) (Leaves AreInOrder) (state S.Store self.old.conn) (state S.Store self.new.conn) result }
         ensures crash { HoldsBack (IsIn AreOurs) (state S.Store self.old.conn) (state S.Store self.new.conn) }
         ensures clean { HasCleanDisk (state S.Store self.new.conn) → HasCleanDisk (state S.Store self.old.conn) }
         ensures cause { IfErr result (λ fault. fault ≡ StoreFault.Unavailable) }
     {
-        if !is_vacuumed(self.alloc, self.conn.schema())? {
+        if !has_indexes_last(self.alloc, self.conn.schema())? {
+            return Ok(());
+        }
+        drop_indexes(&mut self.conn)?;
+        Ok(())
+    }
+
+    /// Takes the indexes of jobs away that stores made before, where only `calls` stood behind them.
+    fn lose_older(&mut self) -> Result<(), StoreFault>
+        ensures goes { Goes (IsIn AreSix) (Leaves AreStores) (state S.Store self.old.conn) (state S.Store self.new.conn) result }
+        ensures crash { HoldsBack (IsIn AreSix) (state S.Store self.old.conn) (state S.Store self.new.conn) }
+        ensures clean { HasCleanDisk (state S.Store self.new.conn) → HasCleanDisk (state S.Store self.old.conn) }
+        ensures cause { IfErr result (λ fault. fault ≡ StoreFault.Unavailable) }
+    {
+        if !has_older_six(self.alloc, self.conn.schema())? {
             return Ok(());
         }
         drop_indexes(&mut self.conn)?;
@@ -213,10 +228,21 @@ impl<S: Alter> Store<S> {
         Ok(())
     }
 
-    /// Makes the indexes of jobs where there are none.
+    /// Makes the indexes of jobs where a store's aren't there.
     fn get_indexes(&mut self) -> Result<(), StoreFault>
         ensures goes { Goes (IsIn AreSix) (Leaves (λ schema. schema ≡ six_tables)) (state S.Store self.old.conn) (state S.Store self.new.conn) result }
         ensures crash { HoldsBack (IsIn AreSix) (state S.Store self.old.conn) (state S.Store self.new.conn) }
+        ensures clean { HasCleanDisk (state S.Store self.new.conn) → HasCleanDisk (state S.Store self.old.conn) }
+        ensures cause { IfErr result (λ fault. fault ≡ StoreFault.Unavailable) }
+    {
+        self.lose_older()?;
+        self.make_indexes()
+    }
+
+    /// Makes the indexes of jobs where there are none.
+    fn make_indexes(&mut self) -> Result<(), StoreFault>
+        ensures goes { Goes (IsIn AreStores) (Leaves (λ schema. schema ≡ six_tables)) (state S.Store self.old.conn) (state S.Store self.new.conn) result }
+        ensures crash { HoldsBack (IsIn AreStores) (state S.Store self.old.conn) (state S.Store self.new.conn) }
         ensures clean { HasCleanDisk (state S.Store self.new.conn) → HasCleanDisk (state S.Store self.old.conn) }
         ensures cause { IfErr result (λ fault. fault ≡ StoreFault.Unavailable) }
     {

@@ -1,94 +1,138 @@
 //! The jobs that wait, read a few at a time.
 
-ghost use Rattle.std.specs.Prelude.{◌≡◌, List, [], IfOk, IfErr, OnOk};
-ghost use Rattle.std.specs.Borrow.{sem, RestsIfErr};
+ghost use Rattle.std.specs.Prelude.{◌≡◌, List, [], true, None, IfOk, OnOk};
 ghost use Rattle.std.specs.Vec.Iter.{into_iter_items};
 ghost use Rattle.sqlite.specs.Held.{state};
 ghost use Rattle.sqlite.specs.State.{HasCleanDisk};
+ghost use Rattle.fax_core.specs.Job.{Job as OneJob};
 ghost use Rattle.fax_core.specs.Queue.{Queue, Entry};
-ghost use Rattle.fax_job.specs.declared.job.JobFields.{JobFields};
-ghost use Rattle.fax_store.specs.contracts.store.Store.{the_row};
-ghost use Rattle.fax_store.specs.Candidates.{Gives, IsPage, StandsAt};
-ghost use Rattle.fax_store.specs.Job.{IsWaiting};
-ghost use Rattle.fax_store.specs.Store.{CommitsNothing, Serves, Means, MeansNow, HasTables, Reads, Stays, StaysAsItWas};
+ghost use Rattle.fax_core.specs.State.{calls_to};
+ghost use Rattle.fax_store.specs.Candidates.{Gives, IsCounted, IsPage, IsProspect, StandsAt, is_last, next_front};
+ghost use Rattle.fax_store.specs.Job.{AreWaiting};
+ghost use Rattle.fax_store.specs.Store.{CommitsNothing, Serves, Means, MeansNow, HasTables, Reads, Stays, StaysOpen};
 ghost use Rattle.fax_tables.specs.Fault.{OrUnavailable};
 
 use crate::store::Store;
-use fax_job::{Job, Moment};
-use fax_tables::{StoreFault, jobs_in};
-use sqlite::{Alter, params};
+use fax_job::{Dial, Job, Moment};
+use fax_tables::{Prospect, StoreFault, prospect_in};
+use sqlite::{Alter, Row, params};
 use std::vec::IntoIter;
 
-const SELECT_PAGE: &str =
-    "SELECT job, dial, modem, jobtag, status, extra, tts, killtime, priority, \
-    npages, totpages, ntries, tottries, maxtries, ndials, totdials, maxdials, phase, wish, next \
-    FROM jobs WHERE phase = 1 AND tts <= ?1 AND next <= ?1 AND (killtime = 0 OR killtime > ?1) \
-    ORDER BY priority, tts, job LIMIT ?2 OFFSET ?3";
+const SELECT_FIRST: &str = "SELECT job, dial, modem, priority, tts FROM jobs \
+    WHERE phase = 1 AND tts <= ?1 AND next <= ?1 AND (killtime = 0 OR killtime > ?1) \
+    ORDER BY priority, tts, job LIMIT ?2";
 
+const SELECT_BEHIND_NUMBER: &str = "SELECT job, dial, modem, priority, tts FROM jobs \
+    WHERE phase = 1 AND tts <= ?1 AND next <= ?1 AND (killtime = 0 OR killtime > ?1) \
+    AND priority = ?3 AND tts = ?4 AND job > ?5 ORDER BY priority, tts, job LIMIT ?2";
+
+const SELECT_BEHIND_TIME: &str = "SELECT job, dial, modem, priority, tts FROM jobs \
+    WHERE phase = 1 AND tts <= ?1 AND next <= ?1 AND (killtime = 0 OR killtime > ?1) \
+    AND priority = ?3 AND tts > ?4 ORDER BY priority, tts, job LIMIT ?2";
+
+const SELECT_BEHIND_PRIORITY: &str = "SELECT job, dial, modem, priority, tts FROM jobs \
+    WHERE phase = 1 AND tts <= ?1 AND next <= ?1 AND (killtime = 0 OR killtime > ?1) \
+    AND priority > ?3 ORDER BY priority, tts, job LIMIT ?2";
+
+/// How many jobs the first page has at most.
 const FIRST_PAGE: u32 = 16;
 
+/// How many jobs any page has at most. A job of a page takes a few hundred bytes.
+const LONGEST_PAGE: u32 = 4_096;
+
+/// Behind which of the jobs that wait those stand that are still to be read, in the order of the choice.
+#[derive(Clone, Copy, Debug)]
+pub enum Front {
+    /// Behind none: all are left.
+    First,
+    /// Behind the job of this priority, this time to send and this number.
+    Number(u32, u32, u32),
+    /// Behind all jobs of this priority and this time to send.
+    Time(u32, u32),
+    /// Behind all jobs of this priority.
+    Priority(u32),
+}
+
+impl Front {
+    ghost use Rattle.std.specs.Prelude.{◌≡◌};
+    ghost use Rattle.fax_store.specs.Candidates.{front_of, is_last, next_front};
+    ghost use Rattle.fax_tables.specs.declared.prospect.Prospect.{Prospect};
+
+    /// Behind that job.
+    fn of(last: &Prospect) -> Front
+        ensures { result ≡ front_of last.now }
+    {
+        Front::Number(u32::from(last.priority), last.tts.seconds(), last.job)
+    }
+
+    /// The next one, where one statement finds no more jobs behind this one.
+    fn next(self) -> Front
+        ensures { result ≡ next_front self }
+    {
+        match self {
+            Front::Number(priority, tts, _) => Front::Time(priority, tts),
+            Front::Time(priority, _) => Front::Priority(priority),
+            Front::First | Front::Priority(_) => self,
+        }
+    }
+
+    /// Whether one statement finds all jobs behind it.
+    fn is_last(self) -> bool
+        ensures { result ≡ is_last self }
+    {
+        match self {
+            Front::First | Front::Priority(_) => true,
+            Front::Number(..) | Front::Time(..) => false,
+        }
+    }
+}
+
 /// The jobs that wait and may be tried at a moment, one after the other in the order of the choice:
-/// by priority, then time to send, then number. They are read in pages, of 16 jobs at first, then
-/// each of as many as were read before. It may be dropped at any job.
-pub struct Candidates<'s, S: Alter, P: Drop = IntoIter<Job>> {
+/// by priority, then time to send, then number. They are read in pages, of 16 jobs at first, then of
+/// twice as many each, and of 4096 at most. It may be dropped at any job.
+pub struct Candidates<'s, S: Alter, P: Drop = IntoIter<Row>> {
     pub(crate) store: &'s mut Store<S>,
     t: Moment,
     // What was read and not given yet. Its type is a parameter, so that a drop shows what it leaves behind `store`.
     page: P,
-    // The first so many of the jobs that wait were read.
-    read: u32,
+    front: Front,
+    // How many jobs the next page has at most.
+    most: u32,
 }
 
 impl<S: Alter> Store<S> {
-    /// The jobs that wait and may be tried at `t`, to be read one at a time.
-    ///
-    /// # Errors
-    ///
-    /// `Unavailable`, or `Strange` where the row of one of the first 16 is no lawful record.
-    pub fn candidates(&mut self, t: Moment) -> Result<Candidates<'_, S>, StoreFault>
-        ensures* refused { sem 𝓛 (RestsIfErr (the_row S.row S.Store) self.entry (λ found. found.store.ghost_name)
-            result (λ last. StaysAsItWas (state S.Store self.old.conn) (state S.Store last.conn)
-            × ((m : Queue) (k : List Entry) → Means (state S.Store self.old.conn) m k → Serves (state S.Store last.conn)
-            → IfErr result (λ fault. fault ≡ StoreFault.Unavailable)))) }
-        ensures same_reference { IfOk result (λ found. found.store.ghost_name ≡ self.entry.ghost_name) }
-        ensures served { IfOk result (λ found.
-            Serves (state S.Store found.store.now.conn) → Serves (state S.Store self.old.conn)) }
-        ensures clean { IfOk result (λ found.
-            HasCleanDisk (state S.Store found.store.now.conn) → HasCleanDisk (state S.Store self.old.conn)) }
-        ensures opens { IfOk result (λ found.
-            HasCleanDisk (state S.Store found.store.now.conn) → Serves (state S.Store found.store.now.conn)) }
-        ensures stays { IfOk result (λ found.
-            Stays (state S.Store self.old.conn) (state S.Store found.store.now.conn)) }
-        ensures crash { IfOk result (λ found.
-            CommitsNothing (state S.Store self.old.conn) (state S.Store found.store.now.conn)) }
-        ensures moment { IfOk result (λ found. found.t ≡ t) }
+    /// The jobs that wait and may be tried at `t`, to be read one at a time. None is read yet.
+    pub fn candidates(&mut self, t: Moment) -> Candidates<'_, S>
+        ensures same_reference { result.store.ghost_name ≡ self.entry.ghost_name }
+        ensures same { result.store.now ≡ self.old }
+        ensures moment { result.t ≡ t }
         ensures stands { (m : Queue) (k : List Entry) → Means (state S.Store self.old.conn) m k
-            → IfOk result (λ found. Serves (state S.Store found.store.now.conn)
-            → StandsAt t m [] (into_iter_items found.page) found.read) }
+            → Serves (state S.Store self.old.conn) → StandsAt t m [] (into_iter_items result.page) result.front result.most }
     {
-        let page = self.page(t, FIRST_PAGE, 0)?;
-        Ok(Candidates {
+        let page = Vec::new(self.alloc);
+        Candidates {
             store: self,
             t,
             page: page.into_iter(),
-            read: FIRST_PAGE,
-        })
+            front: Front::First,
+            most: FIRST_PAGE,
+        }
     }
 
-    /// Of the jobs that wait at `t`, at most `most` behind the first `skip`.
-    fn page(&mut self, t: Moment, most: u32, skip: u32) -> Result<Vec<Job>, StoreFault>
+    /// Of the jobs that wait at `t`, the rows of the first that one statement reads behind a front, at most `most`.
+    fn page(&mut self, t: Moment, front: Front, most: u32) -> Result<Vec<Row>, StoreFault>
         ensures served { Serves (state S.Store self.new.conn) → Serves (state S.Store self.old.conn) }
         ensures clean { HasCleanDisk (state S.Store self.new.conn) → HasCleanDisk (state S.Store self.old.conn) }
         ensures opens { OnOk result (HasCleanDisk (state S.Store self.new.conn) → Serves (state S.Store self.new.conn)) }
         ensures stays { Stays (state S.Store self.old.conn) (state S.Store self.new.conn) }
         ensures crash { CommitsNothing (state S.Store self.old.conn) (state S.Store self.new.conn) }
         ensures found { (m : Queue) (k : List Entry) → Means (state S.Store self.old.conn) m k
-            → Serves (state S.Store self.new.conn) → OrUnavailable result (λ found. IsPage t m most skip found.items) }
+            → Serves (state S.Store self.new.conn) → OrUnavailable result (λ rows. IsPage t m front most rows.items) }
     {
-        self.read_page(t, most, skip)
+        self.read_page(t, front, most)
     }
 
-    fn read_page(&mut self, t: Moment, most: u32, skip: u32) -> Result<Vec<Job>, StoreFault>
+    fn read_page(&mut self, t: Moment, front: Front, most: u32) -> Result<Vec<Row>, StoreFault>
         ensures served { Serves (state S.Store self.new.conn) → Serves (state S.Store self.old.conn) }
         ensures clean { HasCleanDisk (state S.Store self.new.conn) → HasCleanDisk (state S.Store self.old.conn) }
         ensures opens { OnOk result (HasCleanDisk (state S.Store self.new.conn) → Serves (state S.Store self.new.conn)) }
@@ -96,10 +140,21 @@ impl<S: Alter> Store<S> {
             → Reads (state S.Store self.old.conn) (state S.Store self.new.conn) result }
         ensures crash { CommitsNothing (state S.Store self.old.conn) (state S.Store self.new.conn) }
         ensures answers { (m : Queue) (k : List Entry) → MeansNow (state S.Store self.old.conn) m k
-            → Serves (state S.Store self.new.conn) → OrUnavailable result (λ found. IsPage t m most skip found.items) }
+            → Serves (state S.Store self.new.conn) → OrUnavailable result (λ rows. IsPage t m front most rows.items) }
     {
-        let rows = self.show(SELECT_PAGE, params![t.seconds(), most, skip])?;
-        jobs_in(self.alloc, rows.as_slice())
+        let t = t.seconds();
+        match front {
+            Front::First => self.show(SELECT_FIRST, params![t, most]),
+            Front::Number(priority, tts, job) => {
+                self.show(SELECT_BEHIND_NUMBER, params![t, most, priority, tts, job])
+            }
+            Front::Time(priority, tts) => {
+                self.show(SELECT_BEHIND_TIME, params![t, most, priority, tts])
+            }
+            Front::Priority(priority) => {
+                self.show(SELECT_BEHIND_PRIORITY, params![t, most, priority])
+            }
+        }
     }
 }
 
@@ -118,42 +173,118 @@ impl<S: Alter> Candidates<'_, S> {
         ensures stays { Stays (state S.Store self.old.store.now.conn) (state S.Store self.new.store.now.conn) }
         ensures crash { CommitsNothing (state S.Store self.old.store.now.conn) (state S.Store self.new.store.now.conn) }
         ensures moment { self.new.t ≡ self.old.t }
-        ensures found { (m : Queue) (k : List Entry) (given : List JobFields) → Means (state S.Store self.old.store.now.conn) m k
+        ensures found { (m : Queue) (k : List Entry) (given : List OneJob) → Means (state S.Store self.old.store.now.conn) m k
             → Serves (state S.Store self.new.store.now.conn)
-            → StandsAt self.old.t m given (into_iter_items self.old.page) self.old.read
-            → OrUnavailable result (Gives self.old.t m given (into_iter_items self.new.page) self.new.read) }
+            → StandsAt self.old.t m given (into_iter_items self.old.page) self.old.front self.old.most
+            → OrUnavailable result (Gives (IsCounted m) self.old.t m given (into_iter_items self.new.page) self.new.front self.new.most) }
     {
-        self.refill()?;
-        let Some(job) = self.page.next() else {
+        let Some(prospect) = self.prospect()? else {
             return Ok(None);
         };
-        let calls = self.store.active_to(&job.fields().dial)?;
+        let Some(job) = self.store.job(prospect.job)? else {
+            return Err(StoreFault::Strange);
+        };
+        let calls = self.store.active_to(&prospect.dial)?;
         Ok(Some((job, calls)))
     }
 
-    /// Reads the next page, where the last one is given.
+    /// The next job as the choice looks at it, or none behind the last. After an error it isn't to be asked again.
+    ///
+    /// # Errors
+    ///
+    /// `Unavailable`, or `Strange` where what the choice asks of a job is no part of a lawful record.
+    pub fn prospect(&mut self) -> Result<Option<Prospect>, StoreFault>
+        ensures same_reference { self.new.store.ghost_name ≡ self.old.store.ghost_name }
+        ensures served { Serves (state S.Store self.new.store.now.conn) → Serves (state S.Store self.old.store.now.conn) }
+        ensures clean { HasCleanDisk (state S.Store self.new.store.now.conn) → HasCleanDisk (state S.Store self.old.store.now.conn) }
+        ensures opens { OnOk result (StaysOpen (state S.Store self.old.store.now.conn) (state S.Store self.new.store.now.conn)) }
+        ensures none { IfOk result (λ found. found ≡ None → HasCleanDisk (state S.Store self.new.store.now.conn)
+            → Serves (state S.Store self.new.store.now.conn)) }
+        ensures stays { Stays (state S.Store self.old.store.now.conn) (state S.Store self.new.store.now.conn) }
+        ensures crash { CommitsNothing (state S.Store self.old.store.now.conn) (state S.Store self.new.store.now.conn) }
+        ensures moment { self.new.t ≡ self.old.t }
+        ensures found { (m : Queue) (k : List Entry) (given : List OneJob) → Means (state S.Store self.old.store.now.conn) m k
+            → Serves (state S.Store self.new.store.now.conn)
+            → StandsAt self.old.t m given (into_iter_items self.old.page) self.old.front self.old.most
+            → OrUnavailable result (Gives IsProspect self.old.t m given (into_iter_items self.new.page) self.new.front self.new.most) }
+    {
+        self.refill()?;
+        match self.page.next() {
+            Some(row) => Ok(Some(prospect_in(self.store.alloc, &row)?)),
+            None => Ok(None),
+        }
+    }
+
+    /// How many grants are open of jobs to that number.
+    ///
+    /// # Errors
+    ///
+    /// As those of [`Store::active_to`].
+    pub fn active_to(&mut self, dial: &Dial) -> Result<u64, StoreFault>
+        ensures same_reference { self.new.store.ghost_name ≡ self.old.store.ghost_name }
+        ensures served { Serves (state S.Store self.new.store.now.conn) → Serves (state S.Store self.old.store.now.conn) }
+        ensures clean { HasCleanDisk (state S.Store self.new.store.now.conn) → HasCleanDisk (state S.Store self.old.store.now.conn) }
+        ensures opens { OnOk result (HasCleanDisk (state S.Store self.new.store.now.conn) → Serves (state S.Store self.new.store.now.conn)) }
+        ensures stays { Stays (state S.Store self.old.store.now.conn) (state S.Store self.new.store.now.conn) }
+        ensures crash { CommitsNothing (state S.Store self.old.store.now.conn) (state S.Store self.new.store.now.conn) }
+        ensures same { (self.new.t ≡ self.old.t) × (self.new.page ≡ self.old.page) × (self.new.front ≡ self.old.front) × (self.new.most ≡ self.old.most) }
+        ensures found { (m : Queue) (k : List Entry) → Means (state S.Store self.old.store.now.conn) m k
+            → Serves (state S.Store self.new.store.now.conn) → OrUnavailable result (λ calls. calls ≡ calls_to dial.now m) }
+    {
+        self.store.active_to(dial)
+    }
+
+    /// Reads on, where all that was read is given, until there is a job or none is left.
     fn refill(&mut self) -> Result<(), StoreFault>
         ensures same_reference { self.new.store.ghost_name ≡ self.old.store.ghost_name }
         ensures served { Serves (state S.Store self.new.store.now.conn) → Serves (state S.Store self.old.store.now.conn) }
         ensures clean { HasCleanDisk (state S.Store self.new.store.now.conn) → HasCleanDisk (state S.Store self.old.store.now.conn) }
-        ensures opens { OnOk result (into_iter_items self.new.page ≡ []
+        ensures opens { OnOk result (StaysOpen (state S.Store self.old.store.now.conn) (state S.Store self.new.store.now.conn)) }
+        ensures none { OnOk result (into_iter_items self.new.page ≡ []
             → HasCleanDisk (state S.Store self.new.store.now.conn) → Serves (state S.Store self.new.store.now.conn)) }
         ensures stays { Stays (state S.Store self.old.store.now.conn) (state S.Store self.new.store.now.conn) }
         ensures crash { CommitsNothing (state S.Store self.old.store.now.conn) (state S.Store self.new.store.now.conn) }
         ensures moment { self.new.t ≡ self.old.t }
-        ensures found { (m : Queue) (k : List Entry) (given : List JobFields) → Means (state S.Store self.old.store.now.conn) m k
+        ensures found { (m : Queue) (k : List Entry) (given : List OneJob) → Means (state S.Store self.old.store.now.conn) m k
             → Serves (state S.Store self.new.store.now.conn)
-            → StandsAt self.old.t m given (into_iter_items self.old.page) self.old.read
-            → OrUnavailable result (λ _. StandsAt self.old.t m given (into_iter_items self.new.page) self.new.read
-            × (into_iter_items self.new.page ≡ [] → IsWaiting self.old.t m given)) }
+            → StandsAt self.old.t m given (into_iter_items self.old.page) self.old.front self.old.most
+            → OrUnavailable result (λ _. StandsAt self.old.t m given (into_iter_items self.new.page) self.new.front self.new.most
+            × (into_iter_items self.new.page ≡ [] → AreWaiting self.old.t m given)) }
     {
-        if self.page.len() > 0 {
-            return Ok(());
+        while self.page.len() == 0 {
+            if self.read_on()? {
+                break;
+            }
         }
-        let page = self.store.page(self.t, self.read, self.read)?;
-        self.page = page.into_iter();
-        self.read = self.read.saturating_add(self.read);
         Ok(())
+    }
+
+    /// Reads the next page, where all of the last one is given. Gives whether none is left where it has no job.
+    fn read_on(&mut self) -> Result<bool, StoreFault>
+        ensures same_reference { self.new.store.ghost_name ≡ self.old.store.ghost_name }
+        ensures served { Serves (state S.Store self.new.store.now.conn) → Serves (state S.Store self.old.store.now.conn) }
+        ensures clean { HasCleanDisk (state S.Store self.new.store.now.conn) → HasCleanDisk (state S.Store self.old.store.now.conn) }
+        ensures opens { OnOk result (HasCleanDisk (state S.Store self.new.store.now.conn) → Serves (state S.Store self.new.store.now.conn)) }
+        ensures stays { Stays (state S.Store self.old.store.now.conn) (state S.Store self.new.store.now.conn) }
+        ensures crash { CommitsNothing (state S.Store self.old.store.now.conn) (state S.Store self.new.store.now.conn) }
+        ensures moment { self.new.t ≡ self.old.t }
+        ensures told { IfOk result (λ last. last ≡ is_last self.old.front) }
+        ensures next { OnOk result (into_iter_items self.new.page ≡ [] → self.new.front ≡ next_front self.old.front) }
+        ensures found { (m : Queue) (k : List Entry) (given : List OneJob) → Means (state S.Store self.old.store.now.conn) m k
+            → Serves (state S.Store self.new.store.now.conn)
+            → StandsAt self.old.t m given [] self.old.front self.old.most
+            → OrUnavailable result (λ last. StandsAt self.old.t m given (into_iter_items self.new.page) self.new.front self.new.most
+            × (into_iter_items self.new.page ≡ [] → last ≡ true → AreWaiting self.old.t m given)) }
+    {
+        let is_last = self.front.is_last();
+        let page = self.store.page(self.t, self.front, self.most)?;
+        self.front = match page.last() {
+            Some(row) => Front::of(&prospect_in(self.store.alloc, row)?),
+            None => self.front.next(),
+        };
+        self.page = page.into_iter();
+        self.most = self.most.saturating_add(self.most).min(LONGEST_PAGE);
+        Ok(is_last)
     }
 }
 
@@ -165,7 +296,8 @@ impl<S: Alter, P: Drop> Drop for Candidates<'_, S, P> {
             store: _,
             t: _,
             page: _,
-            read: _,
+            front: _,
+            most: _,
         } = self;
     }
 }

@@ -11,28 +11,31 @@ ghost use Rattle.fax_store.specs.Job.{IsChange, IsNewJob, IsWaiting, with_placed
 ghost use Rattle.fax_store.specs.Store.{CommitsNothing, Serves, Means, MeansNow, HasTables, Reads, Stays};
 ghost use Rattle.fax_store.specs.Work.{Holds, Works, Keeps, Changes, ChangesWhere, AnswersIn, IsOnlyUnavailable, Moves, Steps, Withholds};
 ghost use Rattle.fax_tables.specs.Fault.{OrUnavailable};
+ghost use Rattle.fax_tables.specs.Job.{brief};
 
 use crate::store::Store;
 use crate::work::Work;
 use fax_job::{Job, Moment, Phase};
 use fax_tables::{
-    Meta, PAST_JOBS, StoreFault, job_in, jobs_in, killtime_number, phase_number, spelling,
-    wish_number,
+    Meta, PAST_JOBS, StoreFault, briefs_in, job_in, jobs_in, killtime_number, phase_number,
+    spelling, wish_number,
 };
 use sqlite::{Alter, params};
 
-const SELECT_JOB: &str = "SELECT job, dial, modem, jobtag, status, extra, tts, killtime, priority, \
-    npages, totpages, ntries, tottries, maxtries, ndials, totdials, maxdials, phase, wish, next \
+const SELECT_JOB: &str = "SELECT job, dial, modem, jobtag, status, tts, killtime, priority, \
+    npages, totpages, ntries, tottries, maxtries, ndials, totdials, maxdials, phase, wish, next, extra \
     FROM jobs WHERE job = ?1";
 
-const SELECT_WAITING: &str =
-    "SELECT job, dial, modem, jobtag, status, extra, tts, killtime, priority, \
-    npages, totpages, ntries, tottries, maxtries, ndials, totdials, maxdials, phase, wish, next \
+const SELECT_WAITING: &str = "SELECT job, dial, modem, jobtag, status, tts, killtime, priority, \
+    npages, totpages, ntries, tottries, maxtries, ndials, totdials, maxdials, phase, wish, next, extra \
     FROM jobs WHERE phase = 1 AND tts <= ?1 AND next <= ?1 AND (killtime = 0 OR killtime > ?1) \
     ORDER BY priority, tts, job";
 
-const SELECT_JOBS: &str =
-    "SELECT job, dial, modem, jobtag, status, extra, tts, killtime, priority, \
+const SELECT_JOBS: &str = "SELECT job, dial, modem, jobtag, status, tts, killtime, priority, \
+    npages, totpages, ntries, tottries, maxtries, ndials, totdials, maxdials, phase, wish, next, extra \
+    FROM jobs ORDER BY job";
+
+const SELECT_BRIEFS: &str = "SELECT job, dial, modem, jobtag, status, tts, killtime, priority, \
     npages, totpages, ntries, tottries, maxtries, ndials, totdials, maxdials, phase, wish, next \
     FROM jobs ORDER BY job";
 
@@ -44,10 +47,9 @@ const UPDATE_JOB: &str = "UPDATE jobs SET modem = ?2, jobtag = ?3, status = ?4, 
 const EXPIRE_JOBS: &str = "UPDATE jobs SET phase = 4, status = 'Kill time expired' \
     WHERE phase = ?2 AND killtime BETWEEN 1 AND ?1";
 
-const INSERT_JOB: &str =
-    "INSERT INTO jobs (job, dial, modem, jobtag, status, extra, tts, killtime, \
+const INSERT_JOB: &str = "INSERT INTO jobs (job, dial, modem, jobtag, status, tts, killtime, \
     priority, npages, totpages, ntries, tottries, maxtries, ndials, totdials, maxdials, phase, \
-    wish, next) VALUES (?1, ?2, ?3, ?4, ?5, ?6, ?7, ?8, ?9, ?10, ?11, ?12, ?13, ?14, ?15, ?16, \
+    wish, next, extra) VALUES (?1, ?2, ?3, ?4, ?5, ?6, ?7, ?8, ?9, ?10, ?11, ?12, ?13, ?14, ?15, ?16, \
     ?17, ?18, ?19, ?20)";
 
 impl<S: Alter> Store<S> {
@@ -147,6 +149,39 @@ impl<S: Alter> Store<S> {
         jobs_in(self.alloc, shown.as_slice())
     }
 
+    /// The jobs of the queue without their extra lines, which aren't read, in ascending order of their numbers.
+    ///
+    /// # Errors
+    ///
+    /// `Unavailable`, or `Strange` where the rest of a row is no part of a lawful record.
+    pub fn briefs(&mut self) -> Result<Vec<Job>, StoreFault>
+        ensures served { Serves (state S.Store self.new.conn) → Serves (state S.Store self.old.conn) }
+        ensures clean { HasCleanDisk (state S.Store self.new.conn) → HasCleanDisk (state S.Store self.old.conn) }
+        ensures opens { OnOk result (HasCleanDisk (state S.Store self.new.conn) → Serves (state S.Store self.new.conn)) }
+        ensures stays { Stays (state S.Store self.old.conn) (state S.Store self.new.conn) }
+        ensures crash { CommitsNothing (state S.Store self.old.conn) (state S.Store self.new.conn) }
+        ensures found { (m : Queue) (k : List Entry) → Means (state S.Store self.old.conn) m k
+            → Serves (state S.Store self.new.conn)
+            → OrUnavailable result (λ found. found.items ≡ map (λ j. brief (fields_of j)) m.jobs) }
+    {
+        self.read_briefs()
+    }
+
+    fn read_briefs(&mut self) -> Result<Vec<Job>, StoreFault>
+        ensures served { Serves (state S.Store self.new.conn) → Serves (state S.Store self.old.conn) }
+        ensures clean { HasCleanDisk (state S.Store self.new.conn) → HasCleanDisk (state S.Store self.old.conn) }
+        ensures opens { OnOk result (HasCleanDisk (state S.Store self.new.conn) → Serves (state S.Store self.new.conn)) }
+        ensures reads { HasTables (state S.Store self.old.conn) → HasCleanDisk (state S.Store self.new.conn)
+            → Reads (state S.Store self.old.conn) (state S.Store self.new.conn) result }
+        ensures crash { CommitsNothing (state S.Store self.old.conn) (state S.Store self.new.conn) }
+        ensures answers { (m : Queue) (k : List Entry) → MeansNow (state S.Store self.old.conn) m k
+            → Serves (state S.Store self.new.conn)
+            → OrUnavailable result (λ found. found.items ≡ map (λ j. brief (fields_of j)) m.jobs) }
+    {
+        let shown = self.show(SELECT_BRIEFS, &[])?;
+        briefs_in(self.alloc, shown.as_slice())
+    }
+
     fn insert_job(&mut self, job: &Job) -> Result<(), StoreFault>
         ensures served { Serves (state S.Store self.new.conn) → Serves (state S.Store self.old.conn) }
         ensures clean { HasCleanDisk (state S.Store self.new.conn) → HasCleanDisk (state S.Store self.old.conn) }
@@ -168,7 +203,6 @@ impl<S: Alter> Store<S> {
                 job.modem.as_str(),
                 job.jobtag.as_str(),
                 job.status.text(),
-                &extra,
                 job.tts.seconds(),
                 killtime_number(job.killtime),
                 u32::from(job.priority),
@@ -183,6 +217,7 @@ impl<S: Alter> Store<S> {
                 phase_number(job.phase),
                 wish_number(job.wish),
                 job.next,
+                &extra,
             ],
         )
     }

@@ -12,6 +12,7 @@ pub mod laws;
 mod meta;
 mod modems;
 mod replies;
+mod shut;
 mod store;
 mod work;
 

@@ -1,6 +1,7 @@
 //! Rows that no call of ours writes: what reads them refuses each as strange.
 use fax_tables::{
     Hold, Kept, Meta, StoreFault, calls_in, create_tables, dial_in, grant_in, held_job_in, job_in,
+    prospect_in,
 };
 use sqlite::{Connection, Row};
 use std::alloc::Global;
@@ -22,6 +23,7 @@ const RECORDS: [&str; 5] = [
 #[derive(Clone, Copy)]
 enum Record {
     Job,
+    Prospect,
     Grant,
     Hold,
     Numbers,
@@ -35,10 +37,11 @@ enum Record {
 fn query_of(record: Record) -> &'static str {
     match record {
         Record::Job => {
-            "SELECT job, dial, modem, jobtag, status, extra, tts, killtime, priority, npages, \
-            totpages, ntries, tottries, maxtries, ndials, totdials, maxdials, phase, wish, next \
+            "SELECT job, dial, modem, jobtag, status, tts, killtime, priority, npages, totpages, \
+            ntries, tottries, maxtries, ndials, totdials, maxdials, phase, wish, next, extra \
             FROM jobs"
         }
+        Record::Prospect => "SELECT job, dial, modem, priority, tts FROM jobs",
         Record::Grant => {
             "SELECT id, job, modem, first_page, last_page, call, pages, shut FROM grants"
         }
@@ -67,6 +70,7 @@ fn read_after(alloc: Global, change: &str, record: Record) -> Result<Option<Stor
     let row = row_after(alloc, change, record)?;
     Ok(match record {
         Record::Job => job_in(alloc, &row).err(),
+        Record::Prospect => prospect_in(alloc, &row).err(),
         Record::Grant => grant_in(alloc, &row).err(),
         Record::Hold => Hold::in_row(&row).err(),
         Record::Numbers => Meta::in_row(&row).err(),
@@ -83,6 +87,7 @@ fn rows_within_their_limits_are_read(rt: HostRuntime) -> Result<(), Fail> {
         ("UPDATE jobs SET tts = 4102444800", Record::Job),
         ("UPDATE jobs SET priority = 255", Record::Job),
         ("UPDATE jobs SET next = 4102531200", Record::Job),
+        ("UPDATE jobs SET priority = 255", Record::Prospect),
         ("UPDATE grants SET job = 999999", Record::Grant),
         ("UPDATE grants SET last_page = 9999", Record::Grant),
         ("UPDATE grants SET call = 5", Record::Grant),
@@ -114,6 +119,8 @@ fn rows_past_their_limits_are_strange(rt: HostRuntime) -> Result<(), Fail> {
         ("UPDATE jobs SET phase = 5", Record::Job),
         ("UPDATE jobs SET wish = 3", Record::Job),
         ("UPDATE jobs SET next = 4102531201", Record::Job),
+        ("UPDATE jobs SET modem = 'a b'", Record::Prospect),
+        ("UPDATE jobs SET priority = 256", Record::Prospect),
         ("UPDATE grants SET job = 1000000", Record::Grant),
         ("UPDATE grants SET modem = ''", Record::Grant),
         ("UPDATE grants SET last_page = 10000", Record::Grant),

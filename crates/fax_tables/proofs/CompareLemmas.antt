@@ -1,6 +1,6 @@
 -- When a comparison of SQL holds between numbers and between texts, and what a column of their type makes of them.
 use Rattle.std.proofs.Common.{◌≡◌, ℕ, ℤ, pos, List, ◌∷◌, Bool, true, false, cond, ◌||◌, Some, refl, sym, ap, ap₂, ◌∙◌, arith}
-use Rattle.std.specs.Prelude.{nat_le, ◌==◌}
+use Rattle.std.specs.Prelude.{nat_le, nat_lt, ◌==◌}
 use Rattle.std.specs.Ordering.{is_eq, is_le, is_ge, is_gt, int_cmp}
 use Rattle.std.specs.Str.{bytes_eq}
 use Rattle.std.proofs.lemmas.Map.Text.{is_eq-slice_cmp}
@@ -37,6 +37,9 @@ at_most a b = compared Le (Int (pos a)) (Int (pos b)) refl refl ∙ ap is_le (va
 
 pub at_least : (a b : ℕ) → is_true (binary (Compare Ge Binary) (Int (pos a)) (Int (pos b))) ≡ nat_le b a
 at_least a b = compared Ge (Int (pos a)) (Int (pos b)) refl refl ∙ ap is_ge (value_cmp-Int (pos a) (pos b)) ∙ grind (arith, nat_tests)
+
+pub more_than : (a b : ℕ) → is_true (binary (Compare Gt Binary) (Int (pos a)) (Int (pos b))) ≡ nat_lt b a
+more_than a b = compared Gt (Int (pos a)) (Int (pos b)) refl refl ∙ ap is_gt (value_cmp-Int (pos a) (pos b)) ∙ grind (arith, nat_tests)
 
 pub equal_numbers : (a b : ℕ) → are_equal (Int (pos a)) (Int (pos b)) ≡ is_eq (int_cmp (pos a) (pos b))
 equal_numbers a b = equal_by (Int (pos a)) (Int (pos b)) refl refl ∙ ap is_eq (value_cmp-Int (pos a) (pos b))

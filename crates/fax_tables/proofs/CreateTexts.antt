@@ -14,7 +14,7 @@ use Rattle.sqlite_catalog.specs.Change.{created, indexed, without_table, without
 use Rattle.sqlite_tied.specs.Compute.{everything}
 use Rattle.fax_tables.specs.declared.schema.TheConstants.{CREATE_JOBS, CREATE_GRANTS, CREATE_HOLDS, CREATE_DOWN, CREATE_REPLIES, CREATE_META, CREATE_KILLTIME_INDEX, CREATE_CHOICE_INDEX, CREATE_CALLS, DROP_CALLS, DROP_CHOICE_INDEX, DROP_KILLTIME_INDEX, INSERT_META}
 use Rattle.fax_tables.proofs.StatementForms.{Commands}
-use Rattle.fax_tables.specs.Schema.{no_tables, with_jobs, with_grants, with_holds, four_tables, with_replies, bare_tables, with_killtime_index, six_tables, seven_tables, bare_with_calls, vacuumed_tables, vacuumed_with_killtime, jobs, grants, holds, down, replies, meta, calls, killtime_index, choice_index}
+use Rattle.fax_tables.specs.Schema.{no_tables, with_jobs, with_grants, with_holds, four_tables, with_replies, bare_tables, with_killtime_index, six_tables, seven_tables, bare_with_calls, older_six_tables, older_tables, older_vacuumed_tables, vacuumed_tables, vacuumed_with_killtime, jobs, grants, holds, down, replies, meta, calls, killtime_index, choice_index}
 
 -- the text makes this table in any database with this schema
 pub record Makes (schema : Schema) (sql : List ℕ) (table : Table) : Type 0 where
@@ -115,6 +115,14 @@ pub drops_bare_calls : TakesAway bare_with_calls DROP_CALLS.now
 unfolding understood everything
 drops_bare_calls = record { command = refl; plain = (refl, refl) }
 
+pub drops_older_calls : TakesAway older_tables DROP_CALLS.now
+unfolding understood everything
+drops_older_calls = record { command = refl; plain = (refl, refl) }
+
+pub left_older_six : without_table older_tables 13 ≡ older_six_tables
+unfolding everything
+left_older_six = refl
+
 pub left_six : without_table seven_tables 13 ≡ six_tables
 unfolding everything
 left_six = refl
@@ -143,6 +151,30 @@ left_killtime = refl
 pub left_bare_calls : without_index vacuumed_with_killtime 13 ≡ bare_with_calls
 unfolding everything
 left_bare_calls = refl
+
+pub drops_older_choice : LosesIndex older_vacuumed_tables DROP_CHOICE_INDEX.now 7
+unfolding understood everything
+drops_older_choice = record { command = refl; plain = (refl, refl) }
+
+pub left_older_killtime : without_index older_vacuumed_tables 14 ≡ vacuumed_with_killtime
+unfolding everything
+left_older_killtime = refl
+
+pub drops_last_choice : LosesIndex older_six_tables DROP_CHOICE_INDEX.now 6
+unfolding understood everything
+drops_last_choice = record { command = refl; plain = (refl, refl) }
+
+pub left_last_killtime : without_index older_six_tables 12 ≡ with_killtime_index
+unfolding everything
+left_last_killtime = refl
+
+pub drops_last_killtime : LosesIndex with_killtime_index DROP_KILLTIME_INDEX.now 5
+unfolding understood everything
+drops_last_killtime = record { command = refl; plain = (refl, refl) }
+
+pub left_last_bare : without_index with_killtime_index 11 ≡ bare_tables
+unfolding everything
+left_last_bare = refl
 
 pub insert_meta : Commands INSERT_META.now
     (Insert 5 (Values (lit (Int (pos 1)) ∷ lit Null ∷ lit (Int (pos 0)) ∷ lit (Int (pos 1)) ∷ lit (Int (pos 1)) ∷ lit (Int (pos 1)) ∷ []) 6))

@@ -1,5 +1,5 @@
 -- What is said of a result that is known to be an error.
-use Rattle.std.proofs.Common.{◌≡◌, inl, inr, ℕ, List, [], ◌∷◌, ◌++◌, length, Option, Some, None, MatchOption, option_to_list, Ok, Err, Result, IsErr, IsErrAnd, OnOk, OnErr, refl, ◌∙◌, arith}
+use Rattle.std.proofs.Common.{◌≡◌, inl, inr, ℕ, List, [], ◌∷◌, ◌++◌, length, Option, Some, None, MatchOption, option_to_list, Ok, Err, Result, IfErr, IfOk, IsErr, IsErrAnd, OnOk, OnErr, refl, ◌∙◌, arith}
 use Rattle.sqlite_rules.specs.Lists.{Has}
 use Rattle.fax_tables.specs.declared.fault.StoreFault.{StoreFault}
 use Rattle.fax_tables.specs.declared.fault.StoreFault.TheVariants.{Unavailable}
@@ -36,3 +36,8 @@ passes_on (Err e) fault Q is why = is ∙ why
 pub or_weaker : {A : Type 0} (r : Result A StoreFault) (P Q : A → Type 0) → ((a : A) → P a → Q a) → OrUnavailable r P → OrUnavailable r Q
 or_weaker (Ok a) P Q so h = so a h
 or_weaker (Err e) P Q so h = h
+
+-- an answer of which something is known, and a refusal for want of the store alone
+pub answered : {A : Type 0} (r : Result A StoreFault) (P Q : A → Type 0) → IfOk r P → IfErr r (λ fault. fault ≡ Unavailable) → ((a : A) → P a → Q a) → OrUnavailable r Q
+answered (Ok a) P Q ok err so = so a ok
+answered (Err e) P Q ok err so = err

@@ -1,14 +1,16 @@
 -- What a row of a job's columns has in each place.
-use Rattle.std.proofs.Common.{◌≡◌, ℕ, [], ◌∷◌, unwrap_or, ◌<◌, ◌≤◌, ◌^◌, true, List, Option, length, leb, refl, sym, ap, subst, ◌∙◌, arith}
+use Rattle.std.proofs.Common.{◌≡◌, ℕ, [], ◌∷◌, ◌++◌, unwrap_or, ◌<◌, ◌≤◌, ◌^◌, true, ◌&&◌, if◌then◌else◌, List, Option, Some, None, length, length-append, leb, refl, sym, ap, subst, ◌∙◌, arith}
 use Rattle.std.proofs.lemmas.Bool.{and_parts, leb-true}
+use Rattle.std.proofs.lemmas.Option.{none-some, same_Some}
 use Rattle.sqlite.specs.Order.{Row, column}
 use Rattle.sqlite.specs.declared.types.Value.{Value}
 use Rattle.fax_job.specs.declared.job.JobFields.{JobFields}
-use Rattle.fax_job.specs.Job.{is_lawful_killtime, IsLawful}
+use Rattle.fax_job.specs.Job.{is_lawful, is_lawful_killtime, IsLawful}
 use Rattle.fax_job.specs.Pair.{Pair}
 use Rattle.fax_job.specs.declared.job.Phase.{Phase}
 use Rattle.fax_job.specs.declared.job.Wish.{Wish}
-use Rattle.fax_tables.specs.Job.{job_shown}
+use Rattle.fax_tables.specs.Job.{brief, brief_shown, job_shown, prospect}
+use Rattle.fax_tables.specs.declared.prospect.Prospect.{Prospect}
 use Rattle.fax_tables.specs.Row.{HasValue, HasNumber, number, phase_number, wish_number}
 use Rattle.fax_job.specs.Spelling.{printed}
 use Rattle.sqlite.specs.declared.types.Value.TheVariants.{Text}
@@ -18,6 +20,28 @@ has_value row shown at v is within there = record { within = subst (λ r. at < l
 
 pub has_number : (row shown : Row) (at n : ℕ) → row ≡ shown → at < length shown → column shown at ≡ number n → HasNumber row at n
 has_number row shown at n is within there = has_value row shown at (number n) is within there
+
+-- the same of a row that begins with all columns of a job but its extra lines
+pub brief_value : (row : Row) (job : JobFields) (behind : Row) (at : ℕ) (v : Value) → row ≡ brief_shown job ++ behind → at < 19 → column (brief_shown job ++ behind) at ≡ v → HasValue row at v
+brief_value row job behind at v is low there = has_value row (brief_shown job ++ behind) at v is (omega (arith, low, length-append (brief_shown job) behind)) there
+
+pub brief_number : (row : Row) (job : JobFields) (behind : Row) (at n : ℕ) → row ≡ brief_shown job ++ behind → at < 19 → column (brief_shown job ++ behind) at ≡ number n → HasNumber row at n
+brief_number row job behind at n is low there = brief_value row job behind at (number n) is low there
+
+-- a lawful job is lawful without its extra lines
+pub brief_lawful : (job : JobFields) → IsLawful job → IsLawful (brief job)
+brief_lawful job h = ap (λ b. b && true) (and_parts _ _ h).0
+
+-- what is made of fields that are those of a lawful job
+pub made : (f g : JobFields) (r : Option JobFields) (j : JobFields) → r ≡ (if is_lawful f then Some f else None) → f ≡ g → IsLawful g → r ≡ Some j → j ≡ g
+made f g r j new same lawful is = let yes : is_lawful f ≡ true = ap is_lawful same ∙ lawful in let some : Some j ≡ Some f = sym is ∙ new ∙ ap (λ b. if b then Some f else None) yes in same_Some j f some ∙ same
+
+pub not_none : (f g : JobFields) (r : Option JobFields) → r ≡ (if is_lawful f then Some f else None) → f ≡ g → IsLawful g → r ≡ None → ⊥
+not_none f g r new same lawful is = let yes : is_lawful f ≡ true = ap is_lawful same ∙ lawful in none-some f (sym is ∙ new ∙ ap (λ b. if b then Some f else None) yes)
+
+pub same_prospect : (job : JobFields) (number : ℕ) (dial modem : List ℕ) (priority tts : ℕ) → number ≡ job.job → dial ≡ job.dial → modem ≡ job.modem → priority ≡ job.priority → tts ≡ job.tts
+    → ◌≡◌ {A = Prospect} (record { job = number; dial = dial; modem = modem; priority = priority; tts = tts }) (prospect job)
+same_prospect job number dial modem priority tts e0 e1 e2 e3 e4 = rw (e0, e1, e2, e3, e4) refl
 
 -- the numbers of a lawful job fit their columns
 pub record Fits (job : JobFields) : Type 0 where
@@ -79,7 +103,7 @@ change_params f =
 -- values that are those of a job are its row
 pub shown_by : (j : JobFields) (dial modem jobtag status extra : List ℕ) (tts killtime priority npages totpages ntries tottries maxtries ndials totdials maxdials phase wish : ℕ)
     → dial ≡ j.dial → modem ≡ j.modem → jobtag ≡ j.jobtag → status ≡ j.status → extra ≡ printed j.extra → tts ≡ j.tts → killtime ≡ unwrap_or j.killtime 0 → priority ≡ j.priority → npages ≡ j.npages → totpages ≡ j.totpages → ntries ≡ j.ntries → tottries ≡ j.tottries → maxtries ≡ j.maxtries → ndials ≡ j.ndials → totdials ≡ j.totdials → maxdials ≡ j.maxdials → phase ≡ phase_number j.phase → wish ≡ wish_number j.wish
-    → number j.job ∷ Text dial ∷ Text modem ∷ Text jobtag ∷ Text status ∷ Text extra ∷ number tts ∷ number killtime ∷ number priority ∷ number npages ∷ number totpages ∷ number ntries ∷ number tottries ∷ number maxtries ∷ number ndials ∷ number totdials ∷ number maxdials ∷ number phase ∷ number wish ∷ number j.next ∷ [] ≡ job_shown j
+    → number j.job ∷ Text dial ∷ Text modem ∷ Text jobtag ∷ Text status ∷ number tts ∷ number killtime ∷ number priority ∷ number npages ∷ number totpages ∷ number ntries ∷ number tottries ∷ number maxtries ∷ number ndials ∷ number totdials ∷ number maxdials ∷ number phase ∷ number wish ∷ number j.next ∷ Text extra ∷ [] ≡ job_shown j
 shown_by j dial modem jobtag status extra tts killtime priority npages totpages ntries tottries maxtries ndials totdials maxdials phase wish e0 e1 e2 e3 e4 e5 e6 e7 e8 e9 e10 e11 e12 e13 e14 e15 e16 e17 = rw (e0, e1, e2, e3, e4, e5, e6, e7, e8, e9, e10, e11, e12, e13, e14, e15, e16, e17) refl
 
 -- values that are those of a job are what a change of it is told

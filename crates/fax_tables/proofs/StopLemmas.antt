@@ -43,15 +43,19 @@ inside_commits_nothing s sql params never inside found h =
 known_command : (r : Result Compiled CompileError) (c : Compiled) → r ≡ Ok c → command_of r ≡ c.command
 known_command r c is = ap command_of is
 
--- one that makes a table or an index, takes a table away, or puts a row in
-pub command_holds_back : (old new : State) (P : State → Type 0) (sql : List ℕ) (command : Command) → (Ends command → ⊥) → (P old → IsTrue old.in_transaction × (command_of (understood old.now.schema sql) ≡ command))
-    → Survives old new (CommitsBy sql [] old) → HoldsBack P old new
-command_holds_back old new P sql command never known survives was = nothing_by old new (CommitsBy sql [] old) survives by
+-- one that makes a table or an index, takes one away, or puts a row in
+pub any_holds_back : (old new : State) (P : State → Type 0) (sql : List ℕ)
+    → (P old → IsTrue old.in_transaction × (command : Command) × (command_of (understood old.now.schema sql) ≡ command) × (Ends command → ⊥)) → Survives old new (CommitsBy sql [] old) → HoldsBack P old new
+any_holds_back old new P sql known survives was = nothing_by old new (CommitsBy sql [] old) survives by
   where
     by : (found : Trees) → HasCleanDisk old → CommitsBy sql [] old found → ⊥
     by found clean =
         let on = known (was clean) in
-        inside_commits_nothing old sql [] (λ c understood_as ends. never (subst Ends (sym (known_command (understood old.now.schema sql) c understood_as) ∙ on.1) ends)) on.0 found
+        inside_commits_nothing old sql [] (λ c understood_as ends. on.3 (subst Ends (sym (known_command (understood old.now.schema sql) c understood_as) ∙ on.2) ends)) on.0 found
+
+pub command_holds_back : (old new : State) (P : State → Type 0) (sql : List ℕ) (command : Command) → (Ends command → ⊥) → (P old → IsTrue old.in_transaction × (command_of (understood old.now.schema sql) ≡ command))
+    → Survives old new (CommitsBy sql [] old) → HoldsBack P old new
+command_holds_back old new P sql command never known = any_holds_back old new P sql (λ was. let on = known was in (on.0, command, on.1, never))
 
 -- the same over tables that are known
 pub step_holds_back : (old new : State) (P : State → Type 0) (before : Schema) (sql : List ℕ) (command : Command) → command_of (understood before sql) ≡ command → (Ends command → ⊥)

@@ -1,7 +1,8 @@
--- Lawful jobs, and the row of a query for a job.
-use Rattle.std.specs.Prelude.{ℕ, List, ◌∷◌, ◌≤◌, ◌<◌, unwrap_or}
+-- Lawful jobs, and the rows of queries for a job.
+use Rattle.std.specs.Prelude.{ℕ, List, [], ◌∷◌, ◌++◌, ◌≤◌, ◌<◌, unwrap_or}
 use Rattle.std.specs.Str.{IsUtf8}
 use Rattle.sqlite.specs.Order.{Row}
+use Rattle.sqlite.specs.declared.types.Value.TheVariants.{Text}
 use Rattle.fax_core.specs.Job.{Job, fields_of, HasPages}
 use Rattle.fax_job.specs.Dial.{IsCanonical}
 use Rattle.fax_job.specs.Job.{IsLawful}
@@ -9,9 +10,11 @@ use Rattle.fax_job.specs.JobTag.{IsJobTag}
 use Rattle.fax_job.specs.Limits.{last_moment}
 use Rattle.fax_job.specs.Name.{IsName}
 use Rattle.fax_job.specs.Pair.{ArePairs}
+use Rattle.fax_job.specs.Spelling.{printed}
 use Rattle.fax_job.specs.Value.{IsStatus}
 use Rattle.fax_job.specs.declared.job.JobFields.{JobFields}
-use Rattle.fax_tables.specs.Row.{number, job_columns}
+use Rattle.fax_tables.specs.Row.{number, counter_columns, phase_number, wish_number}
+use Rattle.fax_tables.specs.declared.prospect.Prospect.{Prospect}
 
 -- a text of a form
 pub record IsText (Form : List ℕ → Type 0) (text : List ℕ) : Type 0 where
@@ -35,6 +38,24 @@ pub record IsLawfulJob (j : Job) : Type 0 where
   pub limits : IsLawful (fields_of j)
   pub pages : HasPages j
 
--- the row of a query for a job
+-- ---- what a query asks of a job, and its row
+
+-- all but its extra lines, which may weigh more than all else
+abbrev pub brief : JobFields → JobFields
+brief job = record job { extra = [] }
+
+abbrev pub brief_shown : JobFields → Row
+brief_shown job =
+    number job.job ∷ Text job.dial ∷ Text job.modem ∷ Text job.jobtag ∷ Text job.status ∷ number job.tts ∷ number (unwrap_or job.killtime 0) ∷ number job.priority
+    ∷ (counter_columns job ++ number (phase_number job.phase) ∷ number (wish_number job.wish) ∷ number job.next ∷ [])
+
+-- the whole job
 abbrev pub job_shown : JobFields → Row
-job_shown job = number job.job ∷ job_columns job
+job_shown job = brief_shown job ++ Text (printed job.extra) ∷ []
+
+-- which job waits, where it stands in the order of the choice, and where it may go
+abbrev pub prospect : JobFields → Prospect
+prospect job = record { job = job.job; dial = job.dial; modem = job.modem; priority = job.priority; tts = job.tts }
+
+abbrev pub prospect_shown : JobFields → Row
+prospect_shown job = number job.job ∷ Text job.dial ∷ Text job.modem ∷ number job.priority ∷ number job.tts ∷ []

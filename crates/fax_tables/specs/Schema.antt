@@ -139,9 +139,13 @@ killtime_index_at tree = jobs_index (codes "jobs_by_killtime") tree (18 ∷ 8 �
 abbrev pub killtime_index : Index
 killtime_index = killtime_index_at 11
 
--- by phase, priority and time to send, for those that wait, in the order of the choice
+-- by phase, priority, time to send and number, for those that wait, in the order of the choice. It has all else that the choice asks of a job: next time, kill time, number to dial, modem value.
 abbrev pub choice_index_at : ℕ → Index
-choice_index_at tree = jobs_index (codes "jobs_by_choice") tree (18 ∷ 9 ∷ 7 ∷ [])
+choice_index_at tree = jobs_index (codes "jobs_by_choice") tree (18 ∷ 9 ∷ 7 ∷ 0 ∷ 20 ∷ 8 ∷ 2 ∷ 3 ∷ [])
+
+-- as stores made it before: by phase, priority and time to send alone
+abbrev pub older_choice_index_at : ℕ → Index
+older_choice_index_at tree = jobs_index (codes "jobs_by_choice") tree (18 ∷ 9 ∷ 7 ∷ [])
 
 abbrev pub choice_index : Index
 choice_index = choice_index_at 12
@@ -205,10 +209,34 @@ vacuumed_tables = record bare_with_calls { indexes = holds_indexes ++ down_index
 abbrev pub vacuumed_with_killtime : Schema
 vacuumed_with_killtime = record bare_with_calls { indexes = holds_indexes ++ down_index ∷ replies_index ∷ calls_index_at 12 11 ∷ killtime_index_at 13 ∷ [] }
 
--- the tables of a queue in the order of a store: with `calls` or without, with the indexes of jobs or without
+-- ---- as stores made them before
+
+-- the six tables
+abbrev pub older_six_tables : Schema
+older_six_tables = record bare_tables { indexes = holds_indexes ++ down_index ∷ replies_index ∷ killtime_index ∷ older_choice_index_at 12 ∷ [] }
+
+-- all seven
+abbrev pub older_tables : Schema
+older_tables = record seven_tables { indexes = holds_indexes ++ down_index ∷ replies_index ∷ killtime_index ∷ older_choice_index_at 12 ∷ calls_index ∷ [] }
+
+-- all seven, as VACUUM leaves them
+abbrev pub older_vacuumed_tables : Schema
+older_vacuumed_tables = record bare_with_calls { indexes = holds_indexes ++ down_index ∷ replies_index ∷ calls_index_at 12 11 ∷ killtime_index_at 13 ∷ older_choice_index_at 14 ∷ [] }
+
+-- ---- the tables of a queue
+
+-- with `calls`: behind the indexes of jobs, or without these
+abbrev pub HaveCalls : Schema → Type 0
+HaveCalls schema = (schema ≡ seven_tables) ⊎ ((schema ≡ bare_with_calls) ⊎ (schema ≡ older_tables))
+
+-- in the order of a store: with `calls` or without, with the indexes of jobs or without
 abbrev pub AreInOrder : Schema → Type 0
-AreInOrder schema = (schema ≡ seven_tables) ⊎ ((schema ≡ bare_with_calls) ⊎ ((schema ≡ six_tables) ⊎ (schema ≡ bare_tables)))
+AreInOrder schema = HaveCalls schema ⊎ ((schema ≡ six_tables) ⊎ (schema ≡ bare_tables))
+
+-- with the indexes of jobs last, where these are to be made anew
+abbrev pub AreIndexedLast : Schema → Type 0
+AreIndexedLast schema = (schema ≡ vacuumed_tables) ⊎ ((schema ≡ older_vacuumed_tables) ⊎ (schema ≡ older_six_tables))
 
 -- the tables of a queue
 abbrev pub AreOurs : Schema → Type 0
-AreOurs schema = AreInOrder schema ⊎ (schema ≡ vacuumed_tables)
+AreOurs schema = AreInOrder schema ⊎ AreIndexedLast schema

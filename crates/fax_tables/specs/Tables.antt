@@ -17,7 +17,7 @@ use Rattle.fax_core.specs.declared.grants.Grant.{Grant}
 use Rattle.fax_job.specs.Limits.{last_grant, last_job, last_moment}
 use Rattle.fax_job.specs.Name.{IsName}
 use Rattle.fax_tables.specs.Grant.{IsWithinLimits}
-use Rattle.fax_tables.specs.Schema.{six_tables, bare_tables, seven_tables, bare_with_calls, vacuumed_tables, calls_tree, down_tree, grants_tree, holds_tree, jobs_tree, meta_tree, replies_tree}
+use Rattle.fax_tables.specs.Schema.{AreIndexedLast, HaveCalls, six_tables, bare_tables, seven_tables, bare_with_calls, older_six_tables, calls_tree, down_tree, grants_tree, holds_tree, jobs_tree, meta_tree, replies_tree}
 use Rattle.fax_tables.specs.Job.{IsLawfulJob}
 use Rattle.fax_tables.specs.Row.{job_row, grant_row, hold_columns, down_columns, entry_columns, call_columns, meta_row}
 
@@ -128,16 +128,17 @@ pub record HasSixTables (s : State) : Type 0 where
 -- a transaction is under way over the seven tables
 pub record HasCallsBeside (s : State) : Type 0 where
   pub inside : IsTrue s.in_transaction
-  pub schema_is : (s.now.schema ≡ seven_tables) ⊎ (s.now.schema ≡ bare_with_calls)
+  pub schema_is : HaveCalls s.now.schema
 
--- a transaction is under way over the seven tables, with the indexes of jobs last
-pub record IsVacuumed (s : State) : Type 0 where
+-- a transaction is under way over the tables with the indexes of jobs last
+pub record HasIndexesLast (s : State) : Type 0 where
   pub inside : IsTrue s.in_transaction
-  pub schema_is : s.now.schema ≡ vacuumed_tables
+  pub schema_is : AreIndexedLast s.now.schema
 
--- it has the seven tables without the indexes of jobs, and the rows of the other in six of them
+-- it has the tables without the indexes of jobs, with `calls` where the other has it, and the rows of the other in the six
 pub record LosesIndexes (db after : Database) : Type 0 where
-  pub schema_is : after.schema ≡ bare_with_calls
+  pub schema_is : (after.schema ≡ bare_with_calls) ⊎ (after.schema ≡ bare_tables)
+  pub alone : db.schema ≡ older_six_tables → after.schema ≡ bare_tables
   pub sound : IsDatabase after
   pub rows : KeepsRows six_tables.tables db.trees after.trees
 
@@ -156,6 +157,6 @@ pub record HasNewCalls (db after : Database) : Type 0 where
 
 -- it has `calls` no more, and the rows of the other in the six tables
 pub record LacksCalls (db after : Database) : Type 0 where
-  pub schema_is : ((db.schema ≡ seven_tables) × (after.schema ≡ six_tables)) ⊎ ((db.schema ≡ bare_with_calls) × (after.schema ≡ bare_tables))
+  pub schema_is : (after.schema ≡ six_tables) ⊎ ((after.schema ≡ bare_tables) ⊎ (after.schema ≡ older_six_tables))
   pub sound : IsDatabase after
   pub rows : KeepsRows six_tables.tables db.trees after.trees

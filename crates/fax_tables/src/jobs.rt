@@ -1,8 +1,9 @@
 //! The jobs in rows.
 
-ghost use Rattle.std.specs.Prelude.{◌≡◌, ℕ, ◌≤◌, List, [], ◌∷◌, All, map, Option, IsTrue, unwrap_or};
+ghost use Rattle.std.specs.Prelude.{◌≡◌, ℕ, ◌≤◌, ◌<◌, List, [], ◌∷◌, ◌++◌, All, map, Option, IsTrue, unwrap_or};
 ghost use Rattle.std.specs.Str.{IsUtf8};
 ghost use Rattle.std.specs.String.{string_bytes};
+ghost use Rattle.sqlite.specs.Order.{Row as Values};
 ghost use Rattle.sqlite.specs.declared.types.Value.TheVariants.{Text};
 ghost use Rattle.fax_core.specs.Job.{Job as OneJob, fields_of};
 ghost use Rattle.fax_job.specs.Dial.{IsCanonical};
@@ -16,7 +17,7 @@ ghost use Rattle.fax_job.specs.declared.job.JobFields.{JobFields as Fields};
 ghost use Rattle.fax_job.specs.declared.job.Phase.{Phase as JobPhase};
 ghost use Rattle.fax_job.specs.declared.job.Wish.{Wish as JobWish};
 ghost use Rattle.fax_tables.specs.Fault.{OrUnavailable};
-ghost use Rattle.fax_tables.specs.Job.{IsText, IsFormed, IsLawfulJob, job_shown};
+ghost use Rattle.fax_tables.specs.Job.{IsText, IsFormed, IsLawfulJob, brief, brief_shown, job_shown};
 ghost use Rattle.fax_tables.specs.Row.{HasValue, HasNumber, phase_number, wish_number};
 
 use crate::fault::StoreFault;
@@ -105,7 +106,7 @@ fn killtime_at(row: &Row, at: usize) -> Result<Option<Moment>, StoreFault>
 }
 
 /// The number to dial in a column, which has it in canonical form.
-fn dial_at(alloc: Global, row: &Row, at: usize) -> Result<Dial, StoreFault>
+pub(crate) fn dial_at(alloc: Global, row: &Row, at: usize) -> Result<Dial, StoreFault>
     ensures { (text : List ℕ) → HasValue row.now at (Text text) → IsText IsCanonical text
         → OrUnavailable result (λ found. found ≡ text) }
 {
@@ -197,12 +198,36 @@ pub fn spelling(alloc: Global, lines: &Lines) -> Result<String, StoreFault>
     }
 }
 
-/// The job in a row of all columns.
+/// The priority in a column.
+pub(crate) fn priority_at(row: &Row, at: usize) -> Result<u8, StoreFault>
+    ensures { (n : ℕ) → HasNumber row.now at n → n < 256 → OrUnavailable result (λ priority. priority ≡ n) }
+{
+    let number = number_at(row, at)?;
+    match u8::try_from(number) {
+        Ok(priority) => Ok(priority),
+        Err(_) => Err(StoreFault::Strange),
+    }
+}
+
+/// The job in a row of all columns, the extra lines last.
 pub fn job_in(alloc: Global, row: &Row) -> Result<Job, StoreFault>
     ensures { (job : Fields) → row.now ≡ job_shown job → IsLawful job → IsFormed job
         → OrUnavailable result (λ found. found ≡ job) }
 {
-    let fields = fields_in(alloc, row)?;
+    let extra = lines_at(alloc, row, 19)?;
+    let fields = fields_in(alloc, row, extra)?;
+    match Job::new(fields) {
+        Some(job) => Ok(job),
+        None => Err(StoreFault::Strange),
+    }
+}
+
+/// The job in a row of all columns but the extra lines, without any.
+fn brief_in(alloc: Global, row: &Row) -> Result<Job, StoreFault>
+    ensures { (job : Fields) → row.now ≡ brief_shown job → IsLawful job → IsFormed job
+        → OrUnavailable result (λ found. found ≡ brief job) }
+{
+    let fields = fields_in(alloc, row, Lines::new(alloc))?;
     match Job::new(fields) {
         Some(job) => Ok(job),
         None => Err(StoreFault::Strange),
@@ -224,35 +249,46 @@ pub fn jobs_in(alloc: Global, rows: &[Row]) -> Result<Vec<Job>, StoreFault>
     Ok(jobs)
 }
 
-/// The fields in a row of all columns.
-fn fields_in(alloc: Global, row: &Row) -> Result<JobFields, StoreFault>
-    ensures { (job : Fields) → row.now ≡ job_shown job → IsLawful job → IsFormed job
-        → OrUnavailable result (λ found. found ≡ job) }
+/// The jobs in rows of all columns but the extra lines, without any, in their order.
+pub fn briefs_in(alloc: Global, rows: &[Row]) -> Result<Vec<Job>, StoreFault>
+    ensures { (jobs : List OneJob) → rows.now ≡ map (λ j. brief_shown (fields_of j)) jobs → All IsLawfulJob jobs
+        → OrUnavailable result (λ found. found.items ≡ map (λ j. brief (fields_of j)) jobs) }
 {
-    let priority = number_at(row, 8)?;
-    let Ok(priority) = u8::try_from(priority) else {
-        return Err(StoreFault::Strange);
-    };
+    let mut jobs = Vec::new(alloc);
+    for row in rows {
+        let job = brief_in(alloc, row)?;
+        if jobs.push(job).is_err() {
+            return Err(StoreFault::Unavailable);
+        }
+    }
+    Ok(jobs)
+}
+
+/// The fields in a row that begins with all columns but the extra lines, with these extra lines.
+fn fields_in(alloc: Global, row: &Row, extra: Lines) -> Result<JobFields, StoreFault>
+    ensures { (job : Fields) (behind : Values) → row.now ≡ brief_shown job ++ behind → IsLawful job → IsFormed job
+        → OrUnavailable result (λ found. found ≡ record job { extra = extra }) }
+{
     Ok(JobFields {
         job: number_at(row, 0)?,
         dial: dial_at(alloc, row, 1)?,
         modem: name_at(alloc, row, 2)?,
         jobtag: jobtag_at(alloc, row, 3)?,
         status: status_at(alloc, row, 4)?,
-        extra: lines_at(alloc, row, 5)?,
-        tts: moment_at(row, 6)?,
-        killtime: killtime_at(row, 7)?,
-        priority,
-        npages: small_at(row, 9)?,
-        totpages: small_at(row, 10)?,
-        ntries: small_at(row, 11)?,
-        tottries: small_at(row, 12)?,
-        maxtries: small_at(row, 13)?,
-        ndials: small_at(row, 14)?,
-        totdials: small_at(row, 15)?,
-        maxdials: small_at(row, 16)?,
-        phase: phase_at(row, 17)?,
-        wish: wish_at(row, 18)?,
-        next: number_at(row, 19)?,
+        tts: moment_at(row, 5)?,
+        killtime: killtime_at(row, 6)?,
+        priority: priority_at(row, 7)?,
+        npages: small_at(row, 8)?,
+        totpages: small_at(row, 9)?,
+        ntries: small_at(row, 10)?,
+        tottries: small_at(row, 11)?,
+        maxtries: small_at(row, 12)?,
+        ndials: small_at(row, 13)?,
+        totdials: small_at(row, 14)?,
+        maxdials: small_at(row, 15)?,
+        phase: phase_at(row, 16)?,
+        wish: wish_at(row, 17)?,
+        next: number_at(row, 18)?,
+        extra,
     })
 }

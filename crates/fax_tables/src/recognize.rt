@@ -6,12 +6,13 @@ ghost use Rattle.sqlite.specs.declared.types.Value.TheVariants.{Int};
 ghost use Rattle.sqlite_sql.specs.Syntax.{term_of, term_at};
 ghost use Rattle.sqlite_sql.specs.Term.{lit, col};
 ghost use Rattle.sqlite_value.specs.Keys.{plain};
-ghost use Rattle.fax_tables.specs.Schema.{AreInOrder, AreOurs, bare_tables, bare_with_calls, column_of, meta, no_tables, seven_tables, six_tables, vacuumed_tables};
+ghost use Rattle.fax_tables.specs.Schema.{AreInOrder, AreIndexedLast, AreOurs, HaveCalls, bare_tables, bare_with_calls, column_of, meta, no_tables, older_six_tables, older_tables, older_vacuumed_tables, seven_tables, six_tables, vacuumed_tables};
 ghost use Rattle.fax_tables.specs.Shape.{AreKeptTables, AreWorkTables, HasColumns, HasRules, first_is_one, indexed_as, no_stamps, shaped};
 
 use crate::shape::{
-    ALL_INDEXES, ALL_KEY_INDEXES, BARE_CALLS, CALLS, DOWN, GRANTS, HOLDS, INDEXES, IndexShape,
-    JOBS, KEY_INDEXES, META, PLAIN, REPLIES, Shape, VACUUMED_INDEXES,
+    ALL_INDEXES, ALL_KEY_INDEXES, ALL_OLDER_INDEXES, BARE_CALLS, CALLS, DOWN, GRANTS, HOLDS,
+    INDEXES, IndexShape, JOBS, KEY_INDEXES, META, OLDER_INDEXES, PLAIN, REPLIES, Shape,
+    VACUUMED_INDEXES, VACUUMED_OLDER_INDEXES,
 };
 use sqlite_items::Items;
 use sqlite_schema::code::Terms;
@@ -314,21 +315,60 @@ fn has_bare_calls(alloc: Global, schema: &Schema) -> Result<bool, AllocError>
     Ok(same && are_indexes(schema.indexes.as_slice(), ALL_KEY_INDEXES) && schema.views.is_empty())
 }
 
-/// Whether a database has exactly the seven tables, with the indexes of jobs or without.
+/// Whether a database has exactly the seven tables and all indexes, as stores made them before.
+fn has_older_tables(alloc: Global, schema: &Schema) -> Result<bool, AllocError>
+    ensures { IfOk result (λ same. IsTrue same ↔ (schema.now ≡ older_tables)) }
+{
+    let same = are_all_tables(alloc, schema.tables.as_slice(), &CALLS)?;
+    Ok(same && are_indexes(schema.indexes.as_slice(), ALL_OLDER_INDEXES) && schema.views.is_empty())
+}
+
+/// Whether a database has exactly the seven tables, with the indexes of jobs before `calls`, or without them.
 pub fn has_calls(alloc: Global, schema: &Schema) -> Result<bool, AllocError>
-    ensures { IfOk result (λ same. IsTrue same ↔ ((schema.now ≡ seven_tables) ⊎ (schema.now ≡ bare_with_calls))) }
+    ensures { IfOk result (λ same. IsTrue same ↔ HaveCalls schema.now) }
 {
     let indexed = has_seven_tables(alloc, schema)?;
     let bare = has_bare_calls(alloc, schema)?;
-    Ok(indexed || bare)
+    let older = has_older_tables(alloc, schema)?;
+    Ok(indexed || bare || older)
 }
 
 /// Whether a database has exactly the seven tables and all indexes, with those of jobs last, as VACUUM orders them.
-pub fn is_vacuumed(alloc: Global, schema: &Schema) -> Result<bool, AllocError>
+fn is_vacuumed(alloc: Global, schema: &Schema) -> Result<bool, AllocError>
     ensures { IfOk result (λ same. IsTrue same ↔ (schema.now ≡ vacuumed_tables)) }
 {
     let same = are_all_tables(alloc, schema.tables.as_slice(), &BARE_CALLS)?;
     Ok(same && are_indexes(schema.indexes.as_slice(), VACUUMED_INDEXES) && schema.views.is_empty())
+}
+
+/// The same of the indexes that stores made before.
+fn is_older_vacuumed(alloc: Global, schema: &Schema) -> Result<bool, AllocError>
+    ensures { IfOk result (λ same. IsTrue same ↔ (schema.now ≡ older_vacuumed_tables)) }
+{
+    let same = are_all_tables(alloc, schema.tables.as_slice(), &BARE_CALLS)?;
+    Ok(
+        same && are_indexes(schema.indexes.as_slice(), VACUUMED_OLDER_INDEXES)
+            && schema.views.is_empty(),
+    )
+}
+
+/// Whether a database has exactly the six tables and their indexes, as stores made them before.
+pub fn has_older_six(alloc: Global, schema: &Schema) -> Result<bool, AllocError>
+    ensures { IfOk result (λ same. IsTrue same ↔ (schema.now ≡ older_six_tables)) }
+{
+    let same = are_tables(alloc, schema.tables.as_slice())?;
+    Ok(same && are_indexes(schema.indexes.as_slice(), OLDER_INDEXES) && schema.views.is_empty())
+}
+
+/// Whether a database has the tables of a queue, with the indexes of jobs last, where these are to be made anew: since
+/// VACUUM moved them, or since stores made them otherwise before.
+pub fn has_indexes_last(alloc: Global, schema: &Schema) -> Result<bool, AllocError>
+    ensures { IfOk result (λ same. IsTrue same ↔ AreIndexedLast schema.now) }
+{
+    let vacuumed = is_vacuumed(alloc, schema)?;
+    let older_vacuumed = is_older_vacuumed(alloc, schema)?;
+    let older_six = has_older_six(alloc, schema)?;
+    Ok(vacuumed || older_vacuumed || older_six)
 }
 
 /// Whether a database has the tables of a queue in the order of a store: with `calls` or without, with the indexes of
@@ -347,6 +387,6 @@ pub fn has_ours(alloc: Global, schema: &Schema) -> Result<bool, AllocError>
     ensures { IfOk result (λ same. IsTrue same ↔ AreOurs schema.now) }
 {
     let in_order = are_in_order(alloc, schema)?;
-    let vacuumed = is_vacuumed(alloc, schema)?;
-    Ok(in_order || vacuumed)
+    let indexed_last = has_indexes_last(alloc, schema)?;
+    Ok(in_order || indexed_last)
 }

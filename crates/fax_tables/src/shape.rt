@@ -197,6 +197,15 @@ const JOBS_BY_CHOICE: IndexShape = IndexShape {
     name: "jobs_by_choice",
     tree: 12,
     table: 0,
+    places: &[18, 9, 7, 0, 20, 8, 2, 3],
+    is_unique: false,
+};
+
+/// As stores made it before.
+const OLDER_BY_CHOICE: IndexShape = IndexShape {
+    name: "jobs_by_choice",
+    tree: 12,
+    table: 0,
     places: &[18, 9, 7],
     is_unique: false,
 };
@@ -210,6 +219,14 @@ const VACUUMED_BY_KILLTIME: IndexShape = IndexShape {
 };
 
 const VACUUMED_BY_CHOICE: IndexShape = IndexShape {
+    name: "jobs_by_choice",
+    tree: 14,
+    table: 0,
+    places: &[18, 9, 7, 0, 20, 8, 2, 3],
+    is_unique: false,
+};
+
+const VACUUMED_OLDER_BY_CHOICE: IndexShape = IndexShape {
     name: "jobs_by_choice",
     tree: 14,
     table: 0,
@@ -285,4 +302,39 @@ pub(crate) const VACUUMED_INDEXES: &[IndexShape] = &[
     BARE_CALLS_DIAL,
     VACUUMED_BY_KILLTIME,
     VACUUMED_BY_CHOICE,
+];
+
+/// The indexes of the six tables, as stores made them before.
+pub(crate) const OLDER_INDEXES: &[IndexShape] = &[
+    HOLDS_MODEM,
+    HOLDS_JOB,
+    HOLDS_ID,
+    DOWN_MODEM,
+    REPLIES_KEY,
+    JOBS_BY_KILLTIME,
+    OLDER_BY_CHOICE,
+];
+
+/// These and the one of the key of the calls.
+pub(crate) const ALL_OLDER_INDEXES: &[IndexShape] = &[
+    HOLDS_MODEM,
+    HOLDS_JOB,
+    HOLDS_ID,
+    DOWN_MODEM,
+    REPLIES_KEY,
+    JOBS_BY_KILLTIME,
+    OLDER_BY_CHOICE,
+    CALLS_DIAL,
+];
+
+/// The same, as VACUUM orders them.
+pub(crate) const VACUUMED_OLDER_INDEXES: &[IndexShape] = &[
+    HOLDS_MODEM,
+    HOLDS_JOB,
+    HOLDS_ID,
+    DOWN_MODEM,
+    REPLIES_KEY,
+    BARE_CALLS_DIAL,
+    VACUUMED_BY_KILLTIME,
+    VACUUMED_OLDER_BY_CHOICE,
 ];

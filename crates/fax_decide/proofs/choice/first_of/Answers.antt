@@ -1,73 +1,99 @@
-use Rattle.std.proofs.Common.{◌∷◌, [], ◌++◌, sym, subst, ◌∙◌}
+use Rattle.std.proofs.Common.{◌≡◌, ◌∷◌, [], ◌++◌, ◌&&◌, ℕ, Some, true, false, sym, subst, ap, ◌∙◌}
+use Rattle.std.specs.Option.{option_map}
 use Rattle.std.specs.Vec.Iter.{into_iter_items}
 use Rattle.fax_core.specs.Best.{may_go}
-use Rattle.fax_store.specs.Candidates.{Gives}
+use Rattle.fax_core.specs.State.{calls_to}
+use Rattle.fax_store.specs.Candidates.{Gives, IsProspect, StandsAt}
+use Rattle.fax_store.specs.declared.candidates.Front.{Front}
 use Rattle.fax_store.proofs.StoreLemmas.{means_stay}
+use Rattle.fax_tables.specs.declared.prospect.Prospect.{Prospect}
+use Rattle.fax_decide.specs.Choice.{IsFirst}
 use Rattle.fax_decide.specs.Settings.{settings_of}
-use Rattle.fax_decide.proofs.ChoiceLemmas.{next_given, none_more, went}
+use Rattle.fax_decide.specs.State.{may_call}
+use Rattle.fax_decide.proofs.ChoiceLemmas.{NoneWent, given_due, goes_due, next_given, none_more, number_of, went}
 use Rattle.fax_decide.proofs.choice.first_of.Goals as goal
 
-pub returns-in_err-job-clause-stays : goal.returns-in_err-job-clause-stays
-returns-in_err-job-clause-stays g c db six rests = c.next.ensures.stays db six (c.loop.invariant.stays db six rests)
+pub returns-in_err-prospect-clause-stays : goal.returns-in_err-prospect-clause-stays
+returns-in_err-prospect-clause-stays g c db six rests = c.prospect.ensures.stays db six (c.loop.invariant.stays db six rests)
 
 pub returns-in_default-clause-stays : goal.returns-in_default-clause-stays
-returns-in_default-clause-stays g c db six rests = c.next.ensures.stays db six (c.loop.invariant.stays db six rests)
+returns-in_default-clause-stays g c db six rests = c.prospect.ensures.stays db six (c.loop.invariant.stays db six rests)
 
 pub returns-in_default-clause-found : goal.returns-in_default-clause-found
 returns-in_default-clause-found g c m k means serves same stands =
-    let goes = may_go (settings_of c.args.office.now.setup c.args.office.now.controls) m c.args.t c.args.modem.now in
-    let page = into_iter_items c.next.new.self.page in
-    let read = c.next.new.self.read in
-    let next = next_given goes c.args.t c.loop.candidates.t m (into_iter_items c.loop.candidates.page) page c.loop.candidates.read read c.in_ok-job.field-0 (c.loop.invariant.moment ∙ same)
-    (c.loop.invariant.none m k means (c.next.ensures.served serves) same stands)
-    (λ given stood. c.in_ok-job.ensures.found m k given (means_stay c.loop.invariant.served c.loop.invariant.stays m k means) serves stood) in
-    (next.0, (subst (Gives c.args.t m next.0 page read) c.in_default.is next.1).0, sym next.2)
+    let s = settings_of c.args.office.now.setup c.args.office.now.controls in
+    let t = c.args.t in
+    let page = into_iter_items c.prospect.new.self.page in
+    let front = c.prospect.new.self.front in
+    let most = c.prospect.new.self.most in
+    let next = next_given (may_go s m t c.args.modem.now) t c.loop.candidates.t m (into_iter_items c.loop.candidates.page) page c.loop.candidates.front front c.loop.candidates.most most c.in_ok-prospect.field-0
+    (c.loop.invariant.moment ∙ same) (c.loop.invariant.none m k means (c.prospect.ensures.served serves) same stands)
+    (λ given stood. c.in_ok-prospect.ensures.found m k given (means_stay c.loop.invariant.served c.loop.invariant.stays m k means) serves stood) in
+    (next.0, (subst (Gives IsProspect t m next.0 page front most) c.in_default.is next.1).0, ap (option_map number_of) (sym next.2))
 
-pub returns-in_err-may_go-clause-stays : goal.returns-in_err-may_go-clause-stays
-returns-in_err-may_go-clause-stays g c db six rests = c.next.ensures.stays db six (c.loop.invariant.stays db six rests)
+pub returns-in_err-goes-clause-stays : goal.returns-in_err-goes-clause-stays
+returns-in_err-goes-clause-stays g c db six rests = c.goes.ensures.stays db six (c.prospect.ensures.stays db six (c.loop.invariant.stays db six rests))
 
 pub returns-then-branch-clause-stays : goal.returns-then-branch-clause-stays
-returns-then-branch-clause-stays g c db six rests = c.next.ensures.stays db six (c.loop.invariant.stays db six rests)
+returns-then-branch-clause-stays g c db six rests = c.goes.ensures.stays db six (c.prospect.ensures.stays db six (c.loop.invariant.stays db six rests))
 
 pub returns-then-branch-clause-found : goal.returns-then-branch-clause-found
 returns-then-branch-clause-found g c m k means serves same stands =
-    let goes = may_go (settings_of c.args.office.now.setup c.args.office.now.controls) m c.args.t c.args.modem.now in
-    let page = into_iter_items c.next.new.self.page in
-    let read = c.next.new.self.read in
-    let next = next_given goes c.args.t c.loop.candidates.t m (into_iter_items c.loop.candidates.page) page c.loop.candidates.read read c.in_ok-job.field-0 (c.loop.invariant.moment ∙ same)
-    (c.loop.invariant.none m k means (c.next.ensures.served serves) same stands)
-    (λ given stood. c.in_ok-job.ensures.found m k given (means_stay c.loop.invariant.served c.loop.invariant.stays m k means) serves stood) in
-    let it = subst (Gives c.args.t m next.0 page read) c.in-Some.is next.1 in
-    went goes c.args.t m next.0 page c.in-Some.job read it.0 next.2 (sym (c.in_ok-may_go.ensures m it.1) ∙ c.if-branch.true)
+    let s = settings_of c.args.office.now.setup c.args.office.now.controls in
+    let t = c.args.t in
+    let modem = c.args.modem.now in
+    let page = into_iter_items c.prospect.new.self.page in
+    let front = c.prospect.new.self.front in
+    let most = c.prospect.new.self.most in
+    let between = c.goes.ensures.served serves in
+    let before = c.prospect.ensures.served between in
+    let at = means_stay c.loop.invariant.served c.loop.invariant.stays m k means in
+    let looked = means_stay c.prospect.ensures.served c.prospect.ensures.stays m k at in
+    let next = next_given (may_go s m t modem) t c.loop.candidates.t m (into_iter_items c.loop.candidates.page) page c.loop.candidates.front front c.loop.candidates.most most c.in_ok-prospect.field-0
+    (c.loop.invariant.moment ∙ same) (c.loop.invariant.none m k means before same stands)
+    (λ given stood. c.in_ok-prospect.ensures.found m k given at between stood) in
+    let it = subst (Gives IsProspect t m next.0 page front most) c.in-Some.is next.1 in
+    let told = c.in_ok-goes.ensures.told m k looked serves (c.loop.invariant.busy m k means before) in
+    let passes : may_go s m t modem it.0 ≡ true =
+    goes_due s m t modem it.0 (given_due t m next.0 it.0 page front most it.2)
+    ∙ sym (ap (λ (p : Prospect). may_call s p.dial (calls_to p.dial m) t && s.admits p.modem modem) it.1) ∙ sym told.0 ∙ c.if-branch.true in
+    subst (λ (n : ℕ). IsFirst s m t modem (Some n)) (sym (ap (λ (p : Prospect). p.job) it.1)) (went t m next.0 it.0 page front most it.2 s modem next.2 passes)
 
 pub loop-preserved : goal.loop-preserved
 loop-preserved g c = record {
-  same_reference = c.next.ensures.same_reference ∙ c.loop.invariant.same_reference;
-  moment = c.next.ensures.moment ∙ c.loop.invariant.moment;
-  served = λ serves. c.loop.invariant.served (c.next.ensures.served serves);
-  clean = λ clean. c.loop.invariant.clean (c.next.ensures.clean clean);
-  opens = λ clean serves. c.in_ok-job.ensures.opens clean;
-  stays = λ db six rests. c.next.ensures.stays db six (c.loop.invariant.stays db six rests);
-  crash = λ found may. c.loop.invariant.crash found (c.next.ensures.crash found may);
+  same_reference = c.goes.ensures.same_reference ∙ c.prospect.ensures.same_reference ∙ c.loop.invariant.same_reference;
+  moment = c.goes.ensures.same.0 ∙ c.prospect.ensures.moment ∙ c.loop.invariant.moment;
+  served = λ serves. c.loop.invariant.served (c.prospect.ensures.served (c.goes.ensures.served serves));
+  clean = λ clean. c.loop.invariant.clean (c.prospect.ensures.clean (c.goes.ensures.clean clean));
+  opens = λ clean serves. c.in_ok-goes.ensures.opens clean (c.in_ok-prospect.ensures.opens (c.goes.ensures.clean clean) (c.loop.invariant.opens (c.prospect.ensures.clean (c.goes.ensures.clean clean)) serves));
+  stays = λ db six rests. c.goes.ensures.stays db six (c.prospect.ensures.stays db six (c.loop.invariant.stays db six rests));
+  crash = λ found may. c.loop.invariant.crash found (c.prospect.ensures.crash found (c.goes.ensures.crash found may));
+  busy = λ m k means serves.
+      let before = c.prospect.ensures.served (c.goes.ensures.served serves) in
+      let looked = means_stay c.prospect.ensures.served c.prospect.ensures.stays m k (means_stay c.loop.invariant.served c.loop.invariant.stays m k means) in
+      (c.in_ok-goes.ensures.told m k looked serves (c.loop.invariant.busy m k means before)).1;
   none = λ m k means serves same stands.
-      let goes = may_go (settings_of c.args.office.now.setup c.args.office.now.controls) m c.args.t c.args.modem.now in
-      let page = into_iter_items c.next.new.self.page in
-      let read = c.next.new.self.read in
-      let next = next_given goes c.args.t c.loop.candidates.t m (into_iter_items c.loop.candidates.page) page c.loop.candidates.read read c.in_ok-job.field-0 (c.loop.invariant.moment ∙ same)
-      (c.loop.invariant.none m k means (c.next.ensures.served serves) same stands)
-      (λ given stood. c.in_ok-job.ensures.found m k given (means_stay c.loop.invariant.served c.loop.invariant.stays m k means) serves stood) in
-      let it = subst (Gives c.args.t m next.0 page read) c.in-Some.is next.1 in
-      (next.0 ++ c.in-Some.job ∷ [], it.0, none_more goes next.0 c.in-Some.job next.2 (sym (c.in_ok-may_go.ensures m it.1) ∙ c.if-branch.false));
+      let s = settings_of c.args.office.now.setup c.args.office.now.controls in
+      let t = c.args.t in
+      let modem = c.args.modem.now in
+      let page = into_iter_items c.prospect.new.self.page in
+      let front = c.prospect.new.self.front in
+      let most = c.prospect.new.self.most in
+      let between = c.goes.ensures.served serves in
+      let before = c.prospect.ensures.served between in
+      let at = means_stay c.loop.invariant.served c.loop.invariant.stays m k means in
+      let looked = means_stay c.prospect.ensures.served c.prospect.ensures.stays m k at in
+      let next = next_given (may_go s m t modem) t c.loop.candidates.t m (into_iter_items c.loop.candidates.page) page c.loop.candidates.front front c.loop.candidates.most most c.in_ok-prospect.field-0
+      (c.loop.invariant.moment ∙ same) (c.loop.invariant.none m k means before same stands)
+      (λ given stood. c.in_ok-prospect.ensures.found m k given at between stood) in
+      let it = subst (Gives IsProspect t m next.0 page front most) c.in-Some.is next.1 in
+      let told = c.in_ok-goes.ensures.told m k looked serves (c.loop.invariant.busy m k means before) in
+      let fails : may_go s m t modem it.0 ≡ false =
+      goes_due s m t modem it.0 (given_due t m next.0 it.0 page front most it.2)
+      ∙ sym (ap (λ (p : Prospect). may_call s p.dial (calls_to p.dial m) t && s.admits p.modem modem) it.1) ∙ sym told.0 ∙ c.if-branch.false in
+      let stood = c.goes.ensures.same in
+      subst (λ (x : ℕ). NoneWent (may_go s m t modem) t m (into_iter_items c.goes.new.candidates.page) c.goes.new.candidates.front x) (sym stood.3)
+      (subst (λ (x : Front). NoneWent (may_go s m t modem) t m (into_iter_items c.goes.new.candidates.page) x most) (sym stood.2)
+      (subst (λ x. NoneWent (may_go s m t modem) t m (into_iter_items x) front most) (sym stood.1)
+      (next.0 ++ it.0 ∷ [], it.2, none_more (may_go s m t modem) next.0 it.0 next.2 fails)));
 }
-
-pub returns-in_err-job-clause-crash : goal.returns-in_err-job-clause-crash
-returns-in_err-job-clause-crash g c found may = c.loop.invariant.crash found (c.next.ensures.crash found may)
-
-pub returns-in_default-clause-crash : goal.returns-in_default-clause-crash
-returns-in_default-clause-crash g c found may = c.loop.invariant.crash found (c.next.ensures.crash found may)
-
-pub returns-in_err-may_go-clause-crash : goal.returns-in_err-may_go-clause-crash
-returns-in_err-may_go-clause-crash g c found may = c.loop.invariant.crash found (c.next.ensures.crash found may)
-
-pub returns-then-branch-clause-crash : goal.returns-then-branch-clause-crash
-returns-then-branch-clause-crash g c found may = c.loop.invariant.crash found (c.next.ensures.crash found may)

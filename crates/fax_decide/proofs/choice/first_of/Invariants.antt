@@ -6,6 +6,7 @@ use Rattle.fax_core.specs.Best.{may_go}
 use Rattle.fax_core.specs.Queue.{Queue, Entry}
 use Rattle.fax_store.specs.Candidates.{StandsAt}
 use Rattle.fax_store.specs.Store.{CommitsNothing, Means, Serves, Stays, StaysOpen}
+use Rattle.fax_decide.specs.Choice.{IsBusy}
 use Rattle.fax_decide.specs.Settings.{settings_of}
 use Rattle.fax_decide.proofs.ChoiceLemmas.{NoneWent}
 use Rattle.fax_decide.proofs.choice.first_of.Given as goal
@@ -19,7 +20,9 @@ invariant-loop g l = record {
   opens : StaysOpen (state g.S.Store l.initial.candidates.store.now.conn) (state g.S.Store l.candidates.store.now.conn);
   stays : Stays (state g.S.Store l.initial.candidates.store.now.conn) (state g.S.Store l.candidates.store.now.conn);
   crash : CommitsNothing (state g.S.Store l.initial.candidates.store.now.conn) (state g.S.Store l.candidates.store.now.conn);
+  busy : (m : Queue) (k : List Entry) → Means (state g.S.Store l.initial.candidates.store.now.conn) m k → Serves (state g.S.Store l.candidates.store.now.conn)
+      → IsBusy (settings_of l.office.setup l.office.controls) m l.t l.busy;
   none : (m : Queue) (k : List Entry) → Means (state g.S.Store l.initial.candidates.store.now.conn) m k → Serves (state g.S.Store l.candidates.store.now.conn) → l.initial.candidates.t ≡ l.t
-      → StandsAt l.t m [] (into_iter_items l.initial.candidates.page) l.initial.candidates.read
-      → NoneWent (may_go (settings_of l.office.setup l.office.controls) m l.t l.modem) l.t m (into_iter_items l.candidates.page) l.candidates.read;
+      → StandsAt l.t m [] (into_iter_items l.initial.candidates.page) l.initial.candidates.front l.initial.candidates.most
+      → NoneWent (may_go (settings_of l.office.setup l.office.controls) m l.t l.modem) l.t m (into_iter_items l.candidates.page) l.candidates.front l.candidates.most;
 }

@@ -5,11 +5,11 @@ use Rattle.sqlite.specs.Listing.{understood}
 use Rattle.sqlite.specs.State.{State, CommitsBy, Executes, Survives}
 use Rattle.sqlite.proofs.Callers.{command_of}
 use Rattle.fax_tables.specs.declared.schema.TheConstants.{DROP_CALLS}
-use Rattle.fax_tables.specs.Schema.{bare_tables, bare_with_calls, calls, calls_at, seven_tables, six_tables}
+use Rattle.fax_tables.specs.Schema.{bare_tables, bare_with_calls, calls, calls_at, older_six_tables, older_tables, seven_tables, six_tables}
 use Rattle.fax_tables.specs.Stop.{HoldsBack}
 use Rattle.fax_tables.specs.Tables.{GoesOn, HasCallsBeside, LacksCalls}
 use Rattle.fax_tables.proofs.CreateLemmas.{dropped, refused_keeps}
-use Rattle.fax_tables.proofs.CreateTexts.{drops_bare_calls, drops_calls, left_bare, left_six}
+use Rattle.fax_tables.proofs.CreateTexts.{drops_bare_calls, drops_calls, drops_older_calls, left_bare, left_older_six, left_six}
 use Rattle.fax_tables.proofs.ResultLemmas.{on_err}
 use Rattle.fax_tables.proofs.StopLemmas.{command_holds_back}
 use Rattle.fax_tables.proofs.schema.drop_calls.Goals as goal
@@ -18,15 +18,18 @@ pub returns-in_err-execute-clause-kept : goal.returns-in_err-execute-clause-kept
 returns-in_err-execute-clause-kept g c clean =
     on_err c.from_residual.result (refused_keeps (state g.S.Store c.args.conn.now) (state g.S.Store c.execute.new.self) DROP_CALLS.now c.in_err-execute.field-0.0 (c.in_err-execute.ensures.runs clean))
 
--- either of the two that have them
+-- each of the three that have them
 taken : (old new : State) (count : ℕ) → Executes DROP_CALLS.now [] old new (Ok count) → HasCallsBeside old → GoesOn old new × LacksCalls old.now new.now
 taken old new count h was = elim was.schema_is [
   | inl seven ↦
       (let it = dropped old new seven_tables six_tables DROP_CALLS.now calls count drops_calls refl refl refl left_six h was.inside seven in
-      (it.0, record { schema_is = inl (seven, it.1); sound = it.2; rows = it.3 }))
-  | inr bare ↦
+      (it.0, record { schema_is = inl it.1; sound = it.2; rows = it.3 }))
+  | inr (inl bare) ↦
       (let it = dropped old new bare_with_calls bare_tables DROP_CALLS.now (calls_at 11) count drops_bare_calls refl refl refl left_bare h was.inside bare in
-      (it.0, record { schema_is = inr (bare, it.1); sound = it.2; rows = it.3 }))
+      (it.0, record { schema_is = inr (inl it.1); sound = it.2; rows = it.3 }))
+  | inr (inr older) ↦
+      (let it = dropped old new older_tables older_six_tables DROP_CALLS.now calls count drops_older_calls refl refl refl left_older_six h was.inside older in
+      (it.0, record { schema_is = inr (inr it.1); sound = it.2; rows = it.3 }))
 ]
 
 pub returns-clause-made : goal.returns-clause-made
@@ -37,7 +40,8 @@ withheld old new = command_holds_back old new HasCallsBeside DROP_CALLS.now (Dro
   was.inside,
   elim was.schema_is [
     | inl seven ↦ ap (λ s. command_of (understood s DROP_CALLS.now)) seven ∙ drops_calls.command
-    | inr bare ↦ ap (λ s. command_of (understood s DROP_CALLS.now)) bare ∙ drops_bare_calls.command
+    | inr (inl bare) ↦ ap (λ s. command_of (understood s DROP_CALLS.now)) bare ∙ drops_bare_calls.command
+    | inr (inr older) ↦ ap (λ s. command_of (understood s DROP_CALLS.now)) older ∙ drops_older_calls.command
   ],
 ))
 

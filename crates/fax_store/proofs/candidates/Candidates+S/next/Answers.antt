@@ -1,49 +1,73 @@
-use Rattle.std.proofs.Common.{◌≡◌, [], sym, subst, ap, ◌∙◌}
+use Rattle.std.proofs.Common.{◌≡◌, ℕ, List, sym, subst, ap, ◌∙◌}
+use Rattle.std.proofs.lemmas.Option.{none-some, same_Some}
+use Rattle.std.specs.Option.{option_map}
 use Rattle.std.specs.Vec.Iter.{into_iter_items}
-use Rattle.std.proofs.lemmas.List.{nil_from_length}
+use Rattle.fax_core.specs.Job.{Job, fields_of}
+use Rattle.fax_core.specs.Queue.{job_numbered}
 use Rattle.fax_core.specs.State.{calls_to}
-use Rattle.fax_job.specs.declared.job.JobFields.{JobFields}
-use Rattle.fax_store.specs.Candidates.{Gives, StandsAt}
-use Rattle.fax_store.proofs.CandidateLemmas.{stands_given}
-use Rattle.fax_store.proofs.StoreLemmas.{means_stay}
+use Rattle.fax_store.specs.Candidates.{Gives, IsProspect}
+use Rattle.fax_tables.specs.declared.prospect.Prospect.{Prospect}
 use Rattle.fax_tables.proofs.ResultLemmas.{passes_on}
+use Rattle.fax_store.proofs.CandidateLemmas.{given_there}
+use Rattle.fax_store.proofs.StoreLemmas.{means_stay}
 use Rattle.fax_store.proofs.candidates.Candidates+S.next.Goals as goal
 
-pub returns-in_err-refill-clause-found : goal.returns-in_err-refill-clause-found
-returns-in_err-refill-clause-found g c m k given means serves stands =
-    passes_on c.from_residual.result c.in_err-refill.field-0.0 (Gives c.args.self.now.t m given (into_iter_items c.refill.new.self.page) c.refill.new.self.read) c.from_residual.ensures.1
-    (c.in_err-refill.ensures.found m k given means serves stands)
+pub returns-in_err-prospect-clause-found : goal.returns-in_err-prospect-clause-found
+returns-in_err-prospect-clause-found g c m k given means serves stands =
+    passes_on c.from_residual.result c.in_err-prospect.field-0.0 _ c.from_residual.ensures.1 (c.in_err-prospect.ensures.found m k given means serves stands)
 
 pub returns-in_default-clause-found : goal.returns-in_default-clause-found
 returns-in_default-clause-found g c m k given means serves stands =
-    let page = into_iter_items c.refill.new.self.page in
-    let empty : page ≡ [] = nil_from_length page (sym c.refill.new.self.page.rest.ok.0 ∙ c.in_default.ensures.cases.0) in
-    let found = c.in_ok-refill.ensures.found m k given means serves stands in
-    (found.1 empty, subst (λ xs. StandsAt c.args.self.now.t m given xs c.refill.new.self.read) c.in_default.ensures.items found.0)
+    subst (λ o. Gives IsProspect c.args.self.now.t m given (into_iter_items c.prospect.new.self.page) c.prospect.new.self.front c.prospect.new.self.most o) c.in_default.is
+    (c.in_ok-prospect.ensures.found m k given means serves stands)
+
+pub returns-in_err-job-clause-stays : goal.returns-in_err-job-clause-stays
+returns-in_err-job-clause-stays g c db six rests = c.job.ensures.stays db six (c.prospect.ensures.stays db six rests)
+
+pub returns-in_err-job-clause-found : goal.returns-in_err-job-clause-found
+returns-in_err-job-clause-found g c m k given means serves stands =
+    passes_on c.from_residual-in_err-job.result c.in_err-job.field-0.0 _ c.from_residual-in_err-job.ensures.1
+    (c.in_err-job.ensures.found m k (means_stay c.prospect.ensures.served c.prospect.ensures.stays m k means) serves)
+
+pub returns-in_default-2-clause-stays : goal.returns-in_default-2-clause-stays
+returns-in_default-2-clause-stays g c db six rests = c.job.ensures.stays db six (c.prospect.ensures.stays db six rests)
+
+pub returns-in_default-2-clause-found : goal.returns-in_default-2-clause-found
+returns-in_default-2-clause-found g c m k given means serves stands =
+    let t = c.args.self.now.t in
+    let page = into_iter_items c.prospect.new.self.page in
+    let front = c.prospect.new.self.front in
+    let most = c.prospect.new.self.most in
+    let between = c.job.ensures.served serves in
+    let it = subst (λ o. Gives IsProspect t m given page front most o) c.in-Some.is (c.in_ok-prospect.ensures.found m k given means between stands) in
+    let there = given_there _ m k (means (c.prospect.ensures.served between)).means t given it.0 page front most it.2 in
+    let job = c.in_ok-job.ensures.found m k (means_stay c.prospect.ensures.served c.prospect.ensures.stays m k means) serves in
+    absurd (none-some (fields_of it.0) (sym c.in_default-2.is ∙ job ∙ ap (λ (n : ℕ). option_map fields_of (job_numbered n m)) (ap (λ (p : Prospect). p.job) it.1) ∙ ap (option_map fields_of) there))
 
 pub returns-in_err-calls-clause-stays : goal.returns-in_err-calls-clause-stays
-returns-in_err-calls-clause-stays g c db six rests = c.active_to.ensures.stays db six (c.refill.ensures.stays db six rests)
+returns-in_err-calls-clause-stays g c db six rests = c.active_to.ensures.stays db six (c.job.ensures.stays db six (c.prospect.ensures.stays db six rests))
 
 pub returns-in_err-calls-clause-found : goal.returns-in_err-calls-clause-found
 returns-in_err-calls-clause-found g c m k given means serves stands =
-    passes_on c.from_residual-in_err-calls.result c.in_err-calls.field-0.0 (Gives c.args.self.now.t m given (into_iter_items c.next.new.self) c.refill.new.self.read) c.from_residual-in_err-calls.ensures.1
-    (c.in_err-calls.ensures.found m k (means_stay c.refill.ensures.served c.refill.ensures.stays m k means) serves)
+    let looked = means_stay c.prospect.ensures.served c.prospect.ensures.stays m k means in
+    passes_on c.from_residual-in_err-calls.result c.in_err-calls.field-0.0 _ c.from_residual-in_err-calls.ensures.1
+    (c.in_err-calls.ensures.found m k (means_stay c.job.ensures.served c.job.ensures.stays m k looked) serves)
 
 pub returns-clause-stays : goal.returns-clause-stays
-returns-clause-stays g c db six rests = c.active_to.ensures.stays db six (c.refill.ensures.stays db six rests)
+returns-clause-stays g c db six rests = c.active_to.ensures.stays db six (c.job.ensures.stays db six (c.prospect.ensures.stays db six rests))
 
 pub returns-clause-found : goal.returns-clause-found
 returns-clause-found g c m k given means serves stands =
-    let found = c.in_ok-refill.ensures.found m k given means (c.active_to.ensures.served serves) stands in
-    let page = into_iter_items c.next.new.self in (
-      stands_given c.args.self.now.t m given page c.in-Some.job c.refill.new.self.read
-          (subst (λ xs. StandsAt c.args.self.now.t m given xs c.refill.new.self.read) c.in-Some.ensures.items found.0),
-      c.in_ok-calls.ensures.found m k (means_stay c.refill.ensures.served c.refill.ensures.stays m k means) serves
-          ∙ ap (λ (job : JobFields). calls_to job.dial m) c.fields.ensures.fields,
-    )
-
-pub returns-in_err-calls-clause-crash : goal.returns-in_err-calls-clause-crash
-returns-in_err-calls-clause-crash g c found may = c.refill.ensures.crash found (c.active_to.ensures.crash found may)
-
-pub returns-clause-crash : goal.returns-clause-crash
-returns-clause-crash g c found may = c.refill.ensures.crash found (c.active_to.ensures.crash found may)
+    let t = c.args.self.now.t in
+    let page = into_iter_items c.prospect.new.self.page in
+    let front = c.prospect.new.self.front in
+    let most = c.prospect.new.self.most in
+    let at_job = c.active_to.ensures.served serves in
+    let between = c.job.ensures.served at_job in
+    let looked = means_stay c.prospect.ensures.served c.prospect.ensures.stays m k means in
+    let it = subst (λ o. Gives IsProspect t m given page front most o) c.in-Some.is (c.in_ok-prospect.ensures.found m k given means between stands) in
+    let there = given_there _ m k (means (c.prospect.ensures.served between)).means t given it.0 page front most it.2 in
+    let job = c.in_ok-job.ensures.found m k looked at_job in
+    let whole = same_Some c.in-Some-2.job (fields_of it.0) (sym c.in-Some-2.is ∙ job ∙ ap (λ (n : ℕ). option_map fields_of (job_numbered n m)) (ap (λ (p : Prospect). p.job) it.1) ∙ ap (option_map fields_of) there) in
+    let calls = c.in_ok-calls.ensures.found m k (means_stay c.job.ensures.served c.job.ensures.stays m k looked) serves in
+    (it.0, (whole, calls ∙ ap (λ (dial : List ℕ). calls_to dial m) (ap (λ (p : Prospect). p.dial) it.1)), it.2)

@@ -1,23 +1,64 @@
-use Rattle.std.proofs.Common.{◌≡◌, [], sym, subst, arith}
+use Rattle.std.proofs.Common.{◌≡◌, ◌∙◌, ℕ, [], sym, subst, arith}
 use Rattle.std.specs.Vec.Iter.{into_iter_items}
 use Rattle.std.proofs.lemmas.List.{nil_from_length}
-use Rattle.fax_store.specs.Candidates.{IsPage, StandsAt}
-use Rattle.fax_store.proofs.CandidateLemmas.{stands_next, all_given}
+use Rattle.fax_store.specs.Candidates.{StandsAt}
+use Rattle.fax_store.specs.Job.{AreWaiting}
+use Rattle.fax_tables.proofs.ResultLemmas.{passes_on}
+use Rattle.fax_store.proofs.StoreLemmas.{means_stay}
 use Rattle.fax_store.proofs.candidates.Candidates+S.refill.Goals as goal
 
-pub returns-clause-found : goal.returns-clause-found
-returns-clause-found g c m k given means serves stands =
-    let t = c.args.self.now.t in
-    let read = c.args.self.now.read in
-    let now = c.args.self.now.store.now.conn in
-    let before = into_iter_items c.args.self.now.page in
-    let page = into_iter_items c.into_iter.result in
-    let none = c.if-len-gt0.false in
-    let long = c.args.self.now.page.rest.ok.0 in
+pub returns-in_err-read_on-clause-stays : goal.returns-in_err-read_on-clause-stays
+returns-in_err-read_on-clause-stays g c db six rests = c.read_on.ensures.stays db six (c.loop-self.invariant.stays db six rests)
+
+pub returns-in_err-read_on-clause-found : goal.returns-in_err-read_on-clause-found
+returns-in_err-read_on-clause-found g c m k given means serves stands =
+    let before = into_iter_items c.loop-self.self.page in
+    let front = c.loop-self.self.front in
+    let most = c.loop-self.self.most in
+    let none = c.loop-self-test.true in
+    let long = c.loop-self.self.page.rest.ok.0 in
     let empty : before ≡ [] = nil_from_length before (omega (arith, none, long, c.len.ensures)) in
-    let stood = subst (λ xs. StandsAt t m given xs read) empty stands in
-    let next = subst (IsPage t m read read) (sym c.into_iter.ensures.rest) (c.in_ok-page.ensures.found m k means serves) in
-    let meaning = (means (c.page.ensures.served serves)).means in (
-      stands_next _ m k meaning t given page read stood next c.saturating_add-self.result c.saturating_add-self.ensures,
-      all_given _ m k meaning t given page read stood next,
+    let at = c.loop-self.invariant.found m k given means (c.read_on.ensures.served serves) stands in
+    let stood = subst (λ (t : ℕ). StandsAt t m given [] front most) (sym c.loop-self.invariant.moment) (subst (λ rows. StandsAt c.args.self.now.t m given rows front most) empty at) in
+    passes_on c.from_residual.result c.in_err-read_on.field-0.0 _ c.from_residual.ensures.1
+    (c.in_err-read_on.ensures.found m k given (means_stay c.loop-self.invariant.served c.loop-self.invariant.stays m k means) serves stood)
+
+pub loop-self-preserved : goal.loop-self-preserved
+loop-self-preserved g c = record {
+  same_reference = c.read_on.ensures.same_reference ∙ c.loop-self.invariant.same_reference;
+  moment = c.read_on.ensures.moment ∙ c.loop-self.invariant.moment;
+  served = λ serves. c.loop-self.invariant.served (c.read_on.ensures.served serves);
+  clean = λ clean. c.loop-self.invariant.clean (c.read_on.ensures.clean clean);
+  opens = λ clean serves. c.in_ok-read_on.ensures.opens clean;
+  stays = λ db six rests. c.read_on.ensures.stays db six (c.loop-self.invariant.stays db six rests);
+  crash = λ found may. c.loop-self.invariant.crash found (c.read_on.ensures.crash found may);
+  found = λ m k given means serves stands.
+      let before = into_iter_items c.loop-self.self.page in
+      let front = c.loop-self.self.front in
+      let most = c.loop-self.self.most in
+      let none = c.loop-self-test.true in
+      let long = c.loop-self.self.page.rest.ok.0 in
+      let empty : before ≡ [] = nil_from_length before (omega (arith, none, long, c.len.ensures)) in
+      let at = c.loop-self.invariant.found m k given means (c.read_on.ensures.served serves) stands in
+      let stood = subst (λ (t : ℕ). StandsAt t m given [] front most) (sym c.loop-self.invariant.moment) (subst (λ rows. StandsAt c.args.self.now.t m given rows front most) empty at) in
+      subst (λ (t : ℕ). StandsAt t m given (into_iter_items c.read_on.new.self.page) c.read_on.new.self.front c.read_on.new.self.most) c.loop-self.invariant.moment
+      (c.in_ok-read_on.ensures.found m k given (means_stay c.loop-self.invariant.served c.loop-self.invariant.stays m k means) serves stood).0;
+}
+
+pub returns-then-branch-clause-stays : goal.returns-then-branch-clause-stays
+returns-then-branch-clause-stays g c db six rests = c.read_on.ensures.stays db six (c.loop-self.invariant.stays db six rests)
+
+pub returns-then-branch-clause-found : goal.returns-then-branch-clause-found
+returns-then-branch-clause-found g c m k given means serves stands =
+    let before = into_iter_items c.loop-self.self.page in
+    let front = c.loop-self.self.front in
+    let most = c.loop-self.self.most in
+    let none = c.loop-self-test.true in
+    let long = c.loop-self.self.page.rest.ok.0 in
+    let empty : before ≡ [] = nil_from_length before (omega (arith, none, long, c.len.ensures)) in
+    let at = c.loop-self.invariant.found m k given means (c.read_on.ensures.served serves) stands in
+    let stood = subst (λ (t : ℕ). StandsAt t m given [] front most) (sym c.loop-self.invariant.moment) (subst (λ rows. StandsAt c.args.self.now.t m given rows front most) empty at) in
+    let found = c.in_ok-read_on.ensures.found m k given (means_stay c.loop-self.invariant.served c.loop-self.invariant.stays m k means) serves stood in (
+      subst (λ (t : ℕ). StandsAt t m given (into_iter_items c.read_on.new.self.page) c.read_on.new.self.front c.read_on.new.self.most) c.loop-self.invariant.moment found.0,
+      λ empty. subst (λ (t : ℕ). AreWaiting t m given) c.loop-self.invariant.moment (found.1 empty c.if-branch.true),
     )

@@ -24,7 +24,7 @@ returns-clause-written g c m₀ m k₀ k works s =
     let new = state g.S.Store c.insert.new.self.conn in
     let j = c.fields-job.result.now in
     let same : j ≡ c.args.job.now = c.fields-job.ensures.fields in
-    let params : Row = number j.job ∷ Text c.text.result.now ∷ Text c.as_str.result.now ∷ Text c.as_str-2.result.now ∷ Text c.text-2.result.now ∷ Text (string_bytes c.in_ok-extra.extra) ∷ number c.seconds.result ∷ number c.killtime_number.result ∷ number c.from.result ∷ number c.from-2.result ∷ number c.from-3.result ∷ number c.from-4.result ∷ number c.from-5.result ∷ number c.from-6.result ∷ number c.from-7.result ∷ number c.from-8.result ∷ number c.from-9.result ∷ number c.phase_number.result ∷ number c.wish_number.result ∷ number j.next ∷ [] in
+    let params : Row = number j.job ∷ Text c.text.result.now ∷ Text c.as_str.result.now ∷ Text c.as_str-2.result.now ∷ Text c.text-2.result.now ∷ number c.seconds.result ∷ number c.killtime_number.result ∷ number c.from.result ∷ number c.from-2.result ∷ number c.from-3.result ∷ number c.from-4.result ∷ number c.from-5.result ∷ number c.from-6.result ∷ number c.from-7.result ∷ number c.from-8.result ∷ number c.from-9.result ∷ number c.phase_number.result ∷ number c.wish_number.result ∷ number j.next ∷ Text (string_bytes c.in_ok-extra.extra) ∷ [] in
     let ran : OnOk c.insert.result (HasRun INSERT_JOB.now params old new) = subst (λ p. OnOk c.insert.result (HasRun INSERT_JOB.now p old new)) (search rules) (c.insert.ensures.ran s.clean) in
     let shown : params ≡ job_shown j = shown_by j _ _ _ _ _ _ _ _ _ _ _ _ _ _ _ _ _ _
     c.text.ensures.text c.as_str.ensures.text c.as_str-2.ensures.text c.text-2.ensures.text c.in_ok-extra.ensures.spelled c.seconds.ensures.seconds c.killtime_number.ensures.number
@@ -50,7 +50,7 @@ returns-clause-cause g c m₀ m k₀ k works s free =
     let new = state g.S.Store c.insert.new.self.conn in
     let j = c.fields-job.result.now in
     let same : j ≡ c.args.job.now = c.fields-job.ensures.fields in
-    let params : Row = number j.job ∷ Text c.text.result.now ∷ Text c.as_str.result.now ∷ Text c.as_str-2.result.now ∷ Text c.text-2.result.now ∷ Text (string_bytes c.in_ok-extra.extra) ∷ number c.seconds.result ∷ number c.killtime_number.result ∷ number c.from.result ∷ number c.from-2.result ∷ number c.from-3.result ∷ number c.from-4.result ∷ number c.from-5.result ∷ number c.from-6.result ∷ number c.from-7.result ∷ number c.from-8.result ∷ number c.from-9.result ∷ number c.phase_number.result ∷ number c.wish_number.result ∷ number j.next ∷ [] in
+    let params : Row = number j.job ∷ Text c.text.result.now ∷ Text c.as_str.result.now ∷ Text c.as_str-2.result.now ∷ Text c.text-2.result.now ∷ number c.seconds.result ∷ number c.killtime_number.result ∷ number c.from.result ∷ number c.from-2.result ∷ number c.from-3.result ∷ number c.from-4.result ∷ number c.from-5.result ∷ number c.from-6.result ∷ number c.from-7.result ∷ number c.from-8.result ∷ number c.from-9.result ∷ number c.phase_number.result ∷ number c.wish_number.result ∷ number j.next ∷ Text (string_bytes c.in_ok-extra.extra) ∷ [] in
     let shown : params ≡ job_shown j = shown_by j _ _ _ _ _ _ _ _ _ _ _ _ _ _ _ _ _ _
     c.text.ensures.text c.as_str.ensures.text c.as_str-2.ensures.text c.text-2.ensures.text c.in_ok-extra.ensures.spelled c.seconds.ensures.seconds c.killtime_number.ensures.number
     c.from.ensures c.from-2.ensures c.from-3.ensures c.from-4.ensures c.from-5.ensures c.from-6.ensures c.from-7.ensures c.from-8.ensures c.from-9.ensures c.phase_number.ensures c.wish_number.ensures in

@@ -1,28 +1,64 @@
-use Rattle.std.proofs.Common.{◌≡◌, map, subst, rules}
+use Rattle.std.proofs.Common.{◌≡◌, [], ◌∷◌, IfOk, sym, subst, rules}
 use Rattle.sqlite.specs.Held.{state}
 use Rattle.sqlite.specs.State.{Shown}
-use Rattle.fax_core.specs.Job.{fields_of}
 use Rattle.fax_store.specs.Candidates.{IsPage}
-use Rattle.fax_store.specs.declared.candidates.TheConstants.{SELECT_PAGE}
-use Rattle.fax_tables.proofs.ResultLemmas.{or_weaker}
-use Rattle.fax_store.proofs.CandidateLemmas as candidates
-use Rattle.fax_store.proofs.StatementTexts.{select_page}
-use Rattle.fax_store.proofs.WorkLemmas.{reads_same}
+use Rattle.fax_store.specs.declared.candidates.Front.TheVariants.{First, Number, Time, Priority}
+use Rattle.fax_store.specs.declared.candidates.TheConstants.{SELECT_FIRST, SELECT_BEHIND_NUMBER, SELECT_BEHIND_TIME, SELECT_BEHIND_PRIORITY}
+use Rattle.fax_tables.specs.Fault.{OrUnavailable}
+use Rattle.fax_tables.specs.Row.{number}
+use Rattle.fax_tables.proofs.ResultLemmas.{answered}
+use Rattle.fax_store.proofs.CandidateLemmas.{params, first_found, number_found, time_found, priority_found}
+use Rattle.fax_store.proofs.StatementTexts.{number_tests, priority_tests, time_tests, select_first, select_behind_number, select_behind_time, select_behind_priority}
 use Rattle.fax_store.proofs.store.Store.read_page.Goals as goal
 
-pub returns-clause-answers : goal.returns-clause-answers
-returns-clause-answers g c m k means s =
+pub returns-in-First-clause-answers : goal.returns-in-First-clause-answers
+returns-in-First-clause-answers g c m k means s =
     let old = state g.S.Store c.args.self.now.conn in
     let new = state g.S.Store c.show.new.self.conn in
-    let means_now = means (c.in_ok-rows.ensures.served s) in
-    let rows = c.in_ok-rows.rows.items in
-    let shown : Shown SELECT_PAGE.now (candidates.params c.args.t c.args.most c.args.skip) old new rows = subst (λ p. Shown SELECT_PAGE.now p old new rows) (search rules) (c.in_ok-rows.ensures.shown s.clean) in
-    let it = candidates.page_found c.args.t c.args.most c.args.skip old new m k means_now rows shown in
-    or_weaker c.jobs_in.result (λ found. found.items ≡ map fields_of it.0) (λ found. IsPage c.args.t m c.args.most c.args.skip found.items) (λ found is. subst (IsPage c.args.t m c.args.most c.args.skip) (Rattle.std.proofs.Common.sym is) it.3) (c.jobs_in.ensures it.0 (search rules) it.2)
+    let shown : IfOk c.show.result (λ rows. Shown SELECT_FIRST.now (params c.args.t c.args.most [] []) old new rows.items) =
+    subst (λ p. IfOk c.show.result (λ rows. Shown SELECT_FIRST.now p old new rows.items)) (search rules) (c.show.ensures.shown s.clean) in
+    subst (λ front. OrUnavailable c.show.result (λ rows. IsPage c.args.t m front c.args.most rows.items)) (sym c.in-First.is)
+    (answered c.show.result (λ rows. Shown SELECT_FIRST.now (params c.args.t c.args.most [] []) old new rows.items) (λ rows. IsPage c.args.t m First c.args.most rows.items) shown c.show.ensures.cause
+    (λ rows h. first_found c.args.t c.args.most old new m k (means (c.show.ensures.served s)) rows.items h))
 
-pub returns-clause-reads : goal.returns-clause-reads
-returns-clause-reads g c tables clean =
-    reads_same (state g.S.Store c.args.self.now.conn) (state g.S.Store c.show.new.self.conn) c.jobs_in.result (c.in_ok-rows.ensures.reads tables clean)
+pub returns-in-Number-clause-answers : goal.returns-in-Number-clause-answers
+returns-in-Number-clause-answers g c m k means s =
+    let old = state g.S.Store c.args.self.now.conn in
+    let new = state g.S.Store c.show-in-Number.new.self.conn in
+    let shown : IfOk c.show-in-Number.result (λ rows. Shown SELECT_BEHIND_NUMBER.now (params c.args.t c.args.most (number c.in-Number.priority ∷ number c.in-Number.tts ∷ number c.in-Number.job ∷ []) number_tests) old new rows.items) =
+    subst (λ p. IfOk c.show-in-Number.result (λ rows. Shown SELECT_BEHIND_NUMBER.now p old new rows.items)) (search rules) (c.show-in-Number.ensures.shown s.clean) in
+    subst (λ front. OrUnavailable c.show-in-Number.result (λ rows. IsPage c.args.t m front c.args.most rows.items)) (sym c.in-Number.is)
+    (answered c.show-in-Number.result (λ rows. Shown SELECT_BEHIND_NUMBER.now (params c.args.t c.args.most (number c.in-Number.priority ∷ number c.in-Number.tts ∷ number c.in-Number.job ∷ []) number_tests) old new rows.items) (λ rows. IsPage c.args.t m (Number c.in-Number.priority c.in-Number.tts c.in-Number.job) c.args.most rows.items) shown c.show-in-Number.ensures.cause
+    (λ rows h. number_found c.args.t c.args.most old new m k (means (c.show-in-Number.ensures.served s)) rows.items c.in-Number.priority c.in-Number.tts c.in-Number.job h))
+
+pub returns-in-Time-clause-answers : goal.returns-in-Time-clause-answers
+returns-in-Time-clause-answers g c m k means s =
+    let old = state g.S.Store c.args.self.now.conn in
+    let new = state g.S.Store c.show-in-Time.new.self.conn in
+    let shown : IfOk c.show-in-Time.result (λ rows. Shown SELECT_BEHIND_TIME.now (params c.args.t c.args.most (number c.in-Time.priority ∷ number c.in-Time.tts ∷ []) time_tests) old new rows.items) =
+    subst (λ p. IfOk c.show-in-Time.result (λ rows. Shown SELECT_BEHIND_TIME.now p old new rows.items)) (search rules) (c.show-in-Time.ensures.shown s.clean) in
+    subst (λ front. OrUnavailable c.show-in-Time.result (λ rows. IsPage c.args.t m front c.args.most rows.items)) (sym c.in-Time.is)
+    (answered c.show-in-Time.result (λ rows. Shown SELECT_BEHIND_TIME.now (params c.args.t c.args.most (number c.in-Time.priority ∷ number c.in-Time.tts ∷ []) time_tests) old new rows.items) (λ rows. IsPage c.args.t m (Time c.in-Time.priority c.in-Time.tts) c.args.most rows.items) shown c.show-in-Time.ensures.cause
+    (λ rows h. time_found c.args.t c.args.most old new m k (means (c.show-in-Time.ensures.served s)) rows.items c.in-Time.priority c.in-Time.tts h))
+
+pub returns-in-Priority-clause-answers : goal.returns-in-Priority-clause-answers
+returns-in-Priority-clause-answers g c m k means s =
+    let old = state g.S.Store c.args.self.now.conn in
+    let new = state g.S.Store c.show-in-Priority.new.self.conn in
+    let shown : IfOk c.show-in-Priority.result (λ rows. Shown SELECT_BEHIND_PRIORITY.now (params c.args.t c.args.most (number c.in-Priority.priority ∷ []) priority_tests) old new rows.items) =
+    subst (λ p. IfOk c.show-in-Priority.result (λ rows. Shown SELECT_BEHIND_PRIORITY.now p old new rows.items)) (search rules) (c.show-in-Priority.ensures.shown s.clean) in
+    subst (λ front. OrUnavailable c.show-in-Priority.result (λ rows. IsPage c.args.t m front c.args.most rows.items)) (sym c.in-Priority.is)
+    (answered c.show-in-Priority.result (λ rows. Shown SELECT_BEHIND_PRIORITY.now (params c.args.t c.args.most (number c.in-Priority.priority ∷ []) priority_tests) old new rows.items) (λ rows. IsPage c.args.t m (Priority c.in-Priority.priority) c.args.most rows.items) shown c.show-in-Priority.ensures.cause
+    (λ rows h. priority_found c.args.t c.args.most old new m k (means (c.show-in-Priority.ensures.served s)) rows.items c.in-Priority.priority h))
 
 pub show-requires : goal.show-requires
-show-requires g c = select_page.plain
+show-requires g c = select_first.plain
+
+pub show-requires-in-Number : goal.show-requires-in-Number
+show-requires-in-Number g c = select_behind_number.plain
+
+pub show-requires-in-Time : goal.show-requires-in-Time
+show-requires-in-Time g c = select_behind_time.plain
+
+pub show-requires-in-Priority : goal.show-requires-in-Priority
+show-requires-in-Priority g c = select_behind_priority.plain

@@ -1,0 +1,25 @@
+use Rattle.std.proofs.Common.{[], rules}
+use Rattle.sqlite.specs.Held.{state}
+use Rattle.fax_store.specs.declared.store.TheConstants.{COMMIT}
+use Rattle.fax_store.proofs.ShutLemmas.{is_closed, still_rests, was_served}
+use Rattle.fax_store.proofs.store.Store.is_shut.Goals as goal
+
+pub returns-then-eq-clause-told : goal.returns-then-eq-clause-told
+returns-then-eq-clause-told g c clean =
+    is_closed (state g.S.Store c.args.self.now.conn) (state g.S.Store c.prepare.new.self) COMMIT.now c.in-Err.error (search rules) (c.in-Err.ensures.err clean [])
+
+pub returns-then-eq-clause-served : goal.returns-then-eq-clause-served
+returns-then-eq-clause-served g c =
+    was_served (state g.S.Store c.args.self.now.conn) (state g.S.Store c.prepare.new.self) c.prepare.ensures.survives.clean COMMIT.now c.in-Err.error (λ clean. c.in-Err.ensures.err clean [])
+
+pub returns-then-eq-clause-stays : goal.returns-then-eq-clause-stays
+returns-then-eq-clause-stays g c =
+    still_rests (state g.S.Store c.args.self.now.conn) (state g.S.Store c.prepare.new.self) c.prepare.ensures.survives.clean COMMIT.now c.in-Err.error (λ clean. c.in-Err.ensures.err clean [])
+
+pub returns-clause-served : goal.returns-clause-served
+returns-clause-served g c =
+    was_served (state g.S.Store c.args.self.now.conn) (state g.S.Store c.prepare.new.self) c.prepare.ensures.survives.clean COMMIT.now c.in-Err.error (λ clean. c.in-Err.ensures.err clean [])
+
+pub returns-clause-stays : goal.returns-clause-stays
+returns-clause-stays g c =
+    still_rests (state g.S.Store c.args.self.now.conn) (state g.S.Store c.prepare.new.self) c.prepare.ensures.survives.clean COMMIT.now c.in-Err.error (λ clean. c.in-Err.ensures.err clean [])

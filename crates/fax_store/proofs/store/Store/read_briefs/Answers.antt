@@ -1,0 +1,21 @@
+use Rattle.std.proofs.Common.{rules}
+use Rattle.sqlite.specs.Held.{state}
+use Rattle.fax_store.proofs.JobsLemmas.{briefs_found}
+use Rattle.fax_store.proofs.StatementTexts.{select_briefs}
+use Rattle.fax_store.proofs.WorkLemmas.{reads_same}
+use Rattle.fax_store.proofs.store.Store.read_briefs.Goals as goal
+
+pub returns-clause-answers : goal.returns-clause-answers
+returns-clause-answers g c m k means s =
+    let old = state g.S.Store c.args.self.now.conn in
+    let new = state g.S.Store c.show.new.self.conn in
+    let means_now = means (c.in_ok-shown.ensures.served s) in
+    let rows = briefs_found old new m k means_now c.in_ok-shown.shown.items (c.in_ok-shown.ensures.shown s.clean) in
+    c.briefs_in.ensures m.jobs (search rules) means_now.lawful.jobs
+
+pub returns-clause-reads : goal.returns-clause-reads
+returns-clause-reads g c tables clean =
+    reads_same (state g.S.Store c.args.self.now.conn) (state g.S.Store c.show.new.self.conn) c.briefs_in.result (c.in_ok-shown.ensures.reads tables clean)
+
+pub show-requires : goal.show-requires
+show-requires g c = select_briefs.plain

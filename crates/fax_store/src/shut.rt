@@ -1,0 +1,37 @@
+//! Whether a fault of the disk has shut a store.
+
+ghost use Rattle.std.specs.Prelude.{◌≡◌, not, IfErr, IfOk};
+ghost use Rattle.sqlite.specs.Held.{state};
+ghost use Rattle.sqlite.specs.State.{HasCleanDisk};
+ghost use Rattle.fax_store.specs.Store.{CommitsNothing, Serves, Stays};
+
+use crate::store::{COMMIT, Store};
+use fax_tables::StoreFault;
+use sqlite::{Alter, Error, ErrorCode};
+
+impl<S: Alter> Store<S> {
+    /// Whether a fault of the disk has shut the database. Then it answers nothing until it is opened again. The disk isn't
+    /// asked.
+    ///
+    /// # Errors
+    ///
+    /// `Unavailable`, where it can't be told.
+    pub fn is_shut(&mut self) -> Result<bool, StoreFault>
+        ensures served { Serves (state S.Store self.new.conn) → Serves (state S.Store self.old.conn) }
+        ensures clean { HasCleanDisk (state S.Store self.new.conn) → HasCleanDisk (state S.Store self.old.conn) }
+        ensures stays { Stays (state S.Store self.old.conn) (state S.Store self.new.conn) }
+        ensures crash { CommitsNothing (state S.Store self.old.conn) (state S.Store self.new.conn) }
+        ensures told { HasCleanDisk (state S.Store self.new.conn)
+            → IfOk result (λ shut. (state S.Store self.new.conn).is_open ≡ not shut) }
+        ensures cause { IfErr result (λ fault. fault ≡ StoreFault.Unavailable) }
+    {
+        // A shut database refuses whatever it is to compile, before it does anything else.
+        let Err(error) = self.conn.prepare(COMMIT) else {
+            return Ok(false);
+        };
+        if error == Error::SqliteFailure(ErrorCode::Closed) {
+            return Ok(true);
+        }
+        Err(error.into())
+    }
+}
