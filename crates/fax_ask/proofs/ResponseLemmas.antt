@@ -1,4 +1,4 @@
-use Rattle.std.proofs.Common.{◌≡◌, ◌≤◌, false, length, lit≤, refl, inl, inr, arith}
+use Rattle.std.proofs.Common.{◌≡◌, ℕ, ◌≤◌, false, length, lit≤, lit<, refl, inl, inr, arith}
 use Rattle.fax_job.specs.declared.lines.LineKind.{LineKind}
 use Rattle.fax_job.specs.declared.lines.LineKind.TheVariants as line
 use Rattle.fax_job.specs.declared.order.OrderFault.{OrderFault}
@@ -7,9 +7,10 @@ use Rattle.fax_job.specs.declared.refusal.BodyFault.{BodyFault}
 use Rattle.fax_job.specs.declared.refusal.BodyFault.TheVariants.{Line, Order, BadJson, BadField}
 use Rattle.fax_job.specs.declared.refusal.Refusal.{Refusal}
 use Rattle.fax_job.specs.declared.refusal.Refusal.TheVariants.{BadHttp, TooLarge, NoRoute, BadClient, BadNumber, BadBody, NumberReused, NoJob, NoModem, NoGrant, Rejected, TooManyPages, JobOver, JobActive, NotSuspended, LimitReached, ModemDown, ModemBusy, GrantClosed, CallKnown, NotConnected, PageOrder, CallMissing, PagesMismatch, PagesLeft, Full, Unavailable}
-use Rattle.fax_job.specs.Refusal.{body_word, line_word, order_word, refusal_word}
+use Rattle.fax_job.specs.Refusal.{body_word, line_word, order_word, refusal_status, refusal_word}
 use Rattle.fax_ask.specs.Detail.{has_detail}
-use Rattle.fax_ask.specs.Response.{plain_body, refusal_bytes}
+use Rattle.fax_ask.specs.Response.{IsAcceptedStatus, plain_body, refusal_bytes}
+use Rattle.http.specs.StatusCode.{IsStatusCode}
 use Rattle.fax_core.specs.Reply.{Submitted}
 use Rattle.fax_ask.specs.Answer.{Replied, Shown, Listed}
 use Rattle.fax_ask.specs.Laws.{AcceptedAre200Or201, OnlyUnavailableIs503}
@@ -91,3 +92,36 @@ accepted_statuses (Listed text) = inl refl
 pub unavailable_alone : OnlyUnavailableIs503
 unavailable_alone Unavailable keys e = refl
 unavailable_alone other keys e = absurd (omega arith)
+
+pub accepted_status : (status : ℕ) → IsAcceptedStatus status → IsStatusCode status
+accepted_status status (inl is) = (omega arith, omega arith)
+accepted_status status (inr is) = (omega arith, omega arith)
+
+pub refused_status : (refusal : Refusal) → IsStatusCode (refusal_status refusal)
+refused_status BadHttp = (lit≤ tt, lit< tt)
+refused_status TooLarge = (lit≤ tt, lit< tt)
+refused_status NoRoute = (lit≤ tt, lit< tt)
+refused_status BadClient = (lit≤ tt, lit< tt)
+refused_status BadNumber = (lit≤ tt, lit< tt)
+refused_status (BadBody fault) = (lit≤ tt, lit< tt)
+refused_status NumberReused = (lit≤ tt, lit< tt)
+refused_status NoJob = (lit≤ tt, lit< tt)
+refused_status NoModem = (lit≤ tt, lit< tt)
+refused_status NoGrant = (lit≤ tt, lit< tt)
+refused_status Rejected = (lit≤ tt, lit< tt)
+refused_status TooManyPages = (lit≤ tt, lit< tt)
+refused_status JobOver = (lit≤ tt, lit< tt)
+refused_status JobActive = (lit≤ tt, lit< tt)
+refused_status NotSuspended = (lit≤ tt, lit< tt)
+refused_status LimitReached = (lit≤ tt, lit< tt)
+refused_status ModemDown = (lit≤ tt, lit< tt)
+refused_status ModemBusy = (lit≤ tt, lit< tt)
+refused_status GrantClosed = (lit≤ tt, lit< tt)
+refused_status CallKnown = (lit≤ tt, lit< tt)
+refused_status NotConnected = (lit≤ tt, lit< tt)
+refused_status PageOrder = (lit≤ tt, lit< tt)
+refused_status CallMissing = (lit≤ tt, lit< tt)
+refused_status PagesMismatch = (lit≤ tt, lit< tt)
+refused_status PagesLeft = (lit≤ tt, lit< tt)
+refused_status Full = (lit≤ tt, lit< tt)
+refused_status Unavailable = (lit≤ tt, lit< tt)

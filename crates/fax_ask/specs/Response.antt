@@ -1,6 +1,6 @@
 -- What a client sees of a reply, and what the replies to requests are. The keys of each object stand in
 -- ascending order of their bytes.
-use Rattle.std.specs.Prelude.{ℕ, Bool, true, false, List, [], ◌++◌, Option, Some, None, codes, decimal}
+use Rattle.std.specs.Prelude.{◌≡◌, ◌⊎◌, ℕ, Bool, true, false, List, [], ◌++◌, Option, Some, None, codes, decimal}
 use Rattle.json.specs.Print.{quoted}
 use Rattle.fax_job.specs.declared.refusal.BodyFault.{BodyFault}
 use Rattle.fax_job.specs.declared.refusal.Refusal.{Refusal}
@@ -38,6 +38,10 @@ reply_body (Confirmed npages stop) = codes "{\"npages\":" ++ decimal npages ++ c
 abbrev pub reply_status : Reply → ℕ
 reply_status (Submitted job) = 201
 reply_status other = 200
+
+-- OK or Created: the statuses of accepted requests
+abbrev pub IsAcceptedStatus : ℕ → Type 0
+IsAcceptedStatus status = (status ≡ 200) ⊎ (status ≡ 201)
 
 -- what an accepted request is answered with
 abbrev pub accepted_response : Told → Response

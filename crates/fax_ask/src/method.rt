@@ -16,9 +16,9 @@ impl Method {
     pub fn of(name: &[u8]) -> Method
         ensures { result ≡ method_of name.now }
     {
-        if name == b"GET".as_slice() {
+        if name == http::Method::GET.as_str().as_bytes() {
             Method::Get
-        } else if name == b"POST".as_slice() {
+        } else if name == http::Method::POST.as_str().as_bytes() {
             Method::Post
         } else {
             Method::Another

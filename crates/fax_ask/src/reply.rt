@@ -4,9 +4,10 @@ ghost use Rattle.std.specs.Prelude.{◌≡◌, IfOk, IsOk, false, true};
 ghost use Rattle.fax_ask.specs.Answer.{told};
 ghost use Rattle.fax_ask.specs.Detail.{has_detail, keys_in, refusal_in};
 ghost use Rattle.fax_ask.specs.ReplyBody.{body_bytes, body_is_json};
-ghost use Rattle.fax_ask.specs.Response.{accepted_response, kept_response, refused_body, refused_response};
+ghost use Rattle.fax_ask.specs.Response.{IsAcceptedStatus, accepted_response, kept_response, refused_body, refused_response};
 ghost use Rattle.fax_ask.specs.declared.detail.Detail.TheVariants.{Body as OfBody};
 ghost use Rattle.fax_core.specs.Reply.{NoKeys};
+ghost use Rattle.fax_job.specs.Refusal.{refusal_status};
 ghost use Rattle.fax_job.specs.declared.refusal.BodyFault.{BodyFault};
 
 use crate::answer::Answer;
@@ -16,13 +17,14 @@ use crate::spelling::{
     page_order_text, refusal_text, rejected_text, stands_text, submitted_text,
 };
 use fax_job::Refusal;
+use http::StatusCode;
 use std::alloc::{AllocError, Global};
 use std::marker::Model;
 
 /// The answer to one request.
 #[derive(Debug, Drop)]
 pub struct Reply {
-    status: u16,
+    status: StatusCode,
     body: Body,
 }
 
@@ -77,7 +79,7 @@ impl Reply {
         ensures { result ≡ refused_response refusal NoKeys }
     {
         Reply {
-            status: refusal.status(),
+            status: refused_status(refusal),
             body: Body::Short(refusal_text(refusal)),
         }
     }
@@ -91,24 +93,33 @@ impl Reply {
     {
         let body = refused_body(alloc, detail)?;
         Ok(Reply {
-            status: refusal_of(detail).status(),
+            status: refused_status(refusal_of(detail)),
             body,
         })
     }
 
     /// The reply that was kept with an accepted request that changes something: its body is JSON. It
     /// takes no memory.
+    #[tactic(auto, using(crate::proofs::ResponseLemmas::accepted_status))]
     pub fn kept(status: u16, body: Vec<u8>) -> Reply
+        requires { IsAcceptedStatus status }
         ensures { result ≡ kept_response status body.items }
     {
         Reply {
-            status,
+            status: StatusCode::from_u16(status).unwrap(),
             body: Body::Kept(body),
         }
     }
 
     /// The status code (RFC 9110, section 15).
     pub fn status(&self) -> u16
+        ensures { result ≡ self.now.status }
+    {
+        self.status.as_u16()
+    }
+
+    /// The same, as `http` has it.
+    pub fn status_code(&self) -> StatusCode
         ensures { result ≡ self.now.status }
     {
         self.status
@@ -137,12 +148,12 @@ impl Reply {
     }
 }
 
-fn accepted_status(answer: &Answer<'_>) -> u16
+fn accepted_status(answer: &Answer<'_>) -> StatusCode
     ensures { result ≡ (accepted_response (told answer.now)).status }
 {
     match answer {
-        Answer::Submitted { job: _ } => 201,
-        _ => 200,
+        Answer::Submitted { job: _ } => StatusCode::CREATED,
+        _ => StatusCode::OK,
     }
 }
 
@@ -165,6 +176,13 @@ fn accepted_body(alloc: Global, answer: &Answer<'_>) -> Result<Body, AllocError>
         }
     };
     Ok(Body::Made(text))
+}
+
+#[tactic(auto, using(crate::proofs::ResponseLemmas::refused_status))]
+fn refused_status(refusal: Refusal) -> StatusCode
+    ensures { result ≡ refusal_status refusal }
+{
+    StatusCode::from_u16(refusal.status()).unwrap()
 }
 
 fn refusal_of(detail: &Detail<'_>) -> Refusal

@@ -1,5 +1,5 @@
 -- An input is divided into messages in one way at most.
-use Rattle.std.proofs.Common.{◌≡◌, ◌⊎◌, inl, inr, ℕ, ◌-◌, ◌<◌, ◌≤◌, Bool, true, false, List, [], ◌∷◌, ◌++◌, length, take, drop, map, Ok, Err, refl, ap, sym, ◌∙◌, subst, arith, length-append}
+use Rattle.std.proofs.Common.{◌≡◌, ◌⊎◌, inl, inr, ℕ, ◌-◌, ◌≤◌, true, false, List, [], ◌∷◌, ◌++◌, length, take, drop, map, Ok, refl, ap, sym, ◌∙◌, subst, arith, length-append}
 use Rattle.std.proofs.Math.Seq.{take-append_seam, drop-append_seam}
 use Rattle.httparse.specs.Grammar.{RequestHead, print_request}
 use Rattle.httparse.proofs.GrammarLemmas.{request_unique, print_request-append}
@@ -7,7 +7,7 @@ use Rattle.fax_http.specs.declared.message.Broken.{Broken}
 use Rattle.fax_http.specs.declared.message.Broken.TheVariants.{BadHttp, TooLarge}
 use Rattle.fax_http.specs.Conversation.{EndWithLast, Fails, GoOn, Reads, Stop, AtBound, AtEnd, AtFailure, AtLast, StopsBy, Turn}
 use Rattle.fax_http.specs.Laws.{OneDivision, OneMessage, message_of}
-use Rattle.fax_http.specs.Message.{BeginsWith, IsTooLarge, fields_of, framed, is_last}
+use Rattle.fax_http.specs.Message.{BeginsWith, fields_of, framed, is_last}
 
 -- of bytes that are divided twice at one place the parts are the same
 same_parts : (front back other more : List ℕ) → length front ≡ length other → front ++ back ≡ other ++ more

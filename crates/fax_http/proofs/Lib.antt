@@ -4,5 +4,6 @@ pub mod DivisionLemmas
 mod ExchangeLemmas
 mod FieldLemmas
 mod MessageLemmas
+mod PhraseLemmas
 mod ServingLemmas
 mod WholeLemmas

@@ -1,20 +1,18 @@
 -- How far serving has come, and how it goes on and ends.
 use Rattle.std.proofs.Common.{◌≡◌, ℕ, ◌+◌, ◌<◌, List, [], ◌∷◌, ◌++◌, length, Bool, true, false, Option, refl, ap, subst, sym, ◌∙◌, inl, inr, append_assoc, append-nil, arith, length-append}
-use Rattle.std.specs.List.{AllByRecursion}
-use Rattle.std.specs.Io.KnownBytes.{IsAtEnd}
 use Rattle.std.proofs.lemmas.Grind.{flat_map-append}
 use Rattle.httparse.specs.Grammar.{RequestHead, print_request}
 use Rattle.fax_http.specs.declared.device.Watched.{Watched}
 use Rattle.fax_http.specs.declared.exchange.Exchange.{Exchange}
-use Rattle.fax_http.specs.declared.exchange.Exchange.TheVariants.{Answered, Last, Missing}
+use Rattle.fax_http.specs.declared.exchange.Exchange.TheVariants.{Answered, Last}
 use Rattle.fax_http.specs.declared.message.Broken.{Broken}
 use Rattle.fax_http.specs.declared.serving.End.{End}
 use Rattle.fax_http.specs.declared.serving.End.TheVariants.{Closed, Bad, Bound, ReadFailed, WriteFailed, NoMemory}
 use Rattle.fax_http.specs.Conversation.{EndWithLast, GoOn, Reads, Turn, failure_of, spelled_turn, spelled_turns}
 use Rattle.fax_http.specs.Device.{BrokeOff, IsFresh, Put, Took}
-use Rattle.fax_http.specs.Exchange.{Exchanges, HasTurned, HasRead, IsMissing, Replies, WritesTo}
+use Rattle.fax_http.specs.Exchange.{HasTurned, HasRead, IsMissing}
 use Rattle.fax_http.specs.Message.{BeginsWith, is_last}
-use Rattle.fax_http.specs.Serving.{Answering, Answers, EndsBy, FailedBehind, FailedInReply, FailsHere, IsRefused, Serves, failed_to_read}
+use Rattle.fax_http.specs.Serving.{Answering, Answers, EndOver, EndsBy, FailedInReply, FailsHere, IsRefused, Serves, failed_to_read}
 use Rattle.fax_http.proofs.DeviceLemmas.{put_both, put_none, took_both, took_none}
 
 -- ---- lists of turns
@@ -53,7 +51,7 @@ spelled_one_more turns turn =
 length_one_more : (turns : List Turn) (turn : Turn) → length (turns ++ turn ∷ []) ≡ length turns + 1
 length_one_more turns turn = omega (arith, length-append turns (turn ∷ []))
 
-module _ {R W H : Type 0} (remaining : R → Option (List ℕ)) (contents : W → Option (List ℕ)) (answers : Answering H)
+module _ {R W H : Type 0} (remaining : R → Option (List ℕ)) (contents : W → Option (List ℕ)) (answers : Answering H) (over : H → Bool)
     (reader reader₁ : Watched R) (writer writer₁ : Watched W) (old now : H) where
   -- so many messages were answered, another may follow, and their replies were written
   pub record Progress (rest : List ℕ) (count : ℕ) : Type 0 where
@@ -63,28 +61,30 @@ module _ {R W H : Type 0} (remaining : R → Option (List ℕ)) (contents : W �
     pub reads : Reads taken turns rest
     pub going : GoOn turns
     pub answered : Answers answers old turns now
+    pub goes_on : over now ≡ false
     pub count_is : count ≡ length turns
     pub put : Put contents writer writer₁ (spelled_turns turns) false
 
 -- nothing was answered yet
-pub progress_begins : {R W H : Type 0} (remaining : R → Option (List ℕ)) (contents : W → Option (List ℕ)) (answers : Answering H) (reader : Watched R) (writer : Watched W) (handler : H) (buffer : List ℕ)
-    → IsFresh reader → IsFresh writer → buffer ≡ [] → Progress remaining contents answers reader reader writer writer handler handler buffer 0
-progress_begins remaining contents answers reader writer handler buffer r w empty = record {
+pub progress_begins : {R W H : Type 0} (remaining : R → Option (List ℕ)) (contents : W → Option (List ℕ)) (answers : Answering H) (over : H → Bool) (reader : Watched R) (writer : Watched W) (handler : H) (buffer : List ℕ)
+    → IsFresh reader → IsFresh writer → over handler ≡ false → buffer ≡ [] → Progress remaining contents answers over reader reader writer writer handler handler buffer 0
+progress_begins remaining contents answers over reader writer handler buffer r w on empty = record {
   taken = [];
   turns = [];
   took = took_none remaining reader r.failed;
   reads = sym empty;
   going = tt;
   answered = refl;
+  goes_on = on;
   count_is = refl;
   put = put_none contents writer w.failed;
 }
 
-module _ {R W H : Type 0} (remaining : R → Option (List ℕ)) (contents : W → Option (List ℕ)) (answers : Answering H)
+module _ {R W H : Type 0} (remaining : R → Option (List ℕ)) (contents : W → Option (List ℕ)) (answers : Answering H) (over : H → Bool)
     (reader reader₁ reader₂ : Watched R) (writer writer₁ writer₂ : Watched W) (old now next : H) (before after : List ℕ) (count bound : ℕ)
-    (p : Progress remaining contents answers reader reader₁ writer writer₁ old now before count) (below : count < bound) where
+    (p : Progress remaining contents answers over reader reader₁ writer writer₁ old now before count) (below : count < bound) where
   -- one message more was answered
-  module _ (exchange : Exchange) (t : HasTurned remaining contents answers reader₁ reader₂ writer₁ writer₂ now next before after exchange) where
+  module _ (exchange : Exchange) (t : HasTurned remaining contents answers over reader₁ reader₂ writer₁ writer₂ now next before after exchange) where
     all_read : Reads (p.taken ++ t.more) (p.turns ++ t.turn ∷ []) after
     all_read = reads_one_more (p.taken ++ t.more) p.turns t.turn (before ++ t.more) after (reads_more p.taken p.turns before t.more p.reads) t.begins
 
@@ -102,8 +102,8 @@ module _ {R W H : Type 0} (remaining : R → Option (List ℕ)) (contents : W �
     counted_one_more : count + 1 ≡ length (p.turns ++ t.turn ∷ [])
     counted_one_more = ap (λ n. n + 1) p.count_is ∙ sym (length_one_more p.turns t.turn)
 
-    served_by : (end : End) → failed_to_read end ≡ false → EndsBy contents writer writer₂ bound (p.turns ++ t.turn ∷ []) after (remaining reader₂.device) end
-        → Serves remaining contents answers bound reader reader₂ writer writer₂ old next (record { messages = count + 1; end = end })
+    served_by : (end : End) → failed_to_read end ≡ false → EndsBy contents writer writer₂ bound (p.turns ++ t.turn ∷ []) after (remaining reader₂.device) (over next) end
+        → Serves remaining contents answers over bound reader reader₂ writer writer₂ old next (record { messages = count + 1; end = end })
     served_by end e ends = record {
       taken = p.taken ++ t.more;
       turns = p.turns ++ t.turn ∷ [];
@@ -115,6 +115,9 @@ module _ {R W H : Type 0} (remaining : R → Option (List ℕ)) (contents : W �
       within = omega (arith, below, counted_one_more);
       ends = ends;
     }
+
+    ends_over : over next ≡ true → EndOver (p.turns ++ t.turn ∷ []) (over next)
+    ends_over e = record { earlier = p.turns; last = t.turn; parts = refl; going = p.going; over_is = e }
 
     ends_with_last : is_last t.turn.head ≡ true → EndWithLast (p.turns ++ t.turn ∷ [])
     ends_with_last e = record { earlier = p.turns; last = t.turn; parts = refl; going = p.going; is_last = e }
@@ -135,8 +138,8 @@ module _ {R W H : Type 0} (remaining : R → Option (List ℕ)) (contents : W �
     }
 
   -- and another may follow
-  pub progress_next : HasTurned remaining contents answers reader₁ reader₂ writer₁ writer₂ now next before after Answered
-      → Progress remaining contents answers reader reader₂ writer writer₂ old next after (count + 1)
+  pub progress_next : HasTurned remaining contents answers over reader₁ reader₂ writer₁ writer₂ now next before after Answered
+      → Progress remaining contents answers over reader reader₂ writer writer₂ old next after (count + 1)
   progress_next t = record {
     taken = p.taken ++ t.more;
     turns = p.turns ++ t.turn ∷ [];
@@ -144,14 +147,20 @@ module _ {R W H : Type 0} (remaining : R → Option (List ℕ)) (contents : W �
     reads = all_read Answered t;
     going = go_on_one_more p.turns t.turn p.going t.replies.1;
     answered = all_answered Answered t;
+    goes_on = t.replies.2;
     count_is = counted_one_more Answered t;
     put = all_put Answered t t.replies.0;
   }
 
   -- and none follows
-  pub ends_last : (end : End) → HasTurned remaining contents answers reader₁ reader₂ writer₁ writer₂ now next before after (Last end)
-      → Serves remaining contents answers bound reader reader₂ writer writer₂ old next (record { messages = count + 1; end = end })
-  ends_last Closed t = served_by (Last Closed) t Closed refl (inr (ends_with_last (Last Closed) t t.replies.1), all_put (Last Closed) t t.replies.0)
+  pub ends_last : (end : End) → HasTurned remaining contents answers over reader₁ reader₂ writer₁ writer₂ now next before after (Last end)
+      → Serves remaining contents answers over bound reader reader₂ writer writer₂ old next (record { messages = count + 1; end = end })
+  ends_last Closed t =
+      let put = all_put (Last Closed) t t.replies.0 in
+      elim t.replies.1 [
+        | inl last ↦ served_by (Last Closed) t Closed refl (inr (inl (ends_with_last (Last Closed) t last)), put)
+        | inr over ↦ served_by (Last Closed) t Closed refl (inr (inr (ends_over (Last Closed) t over)), put)
+      ]
   ends_last (WriteFailed sent) t =
       served_by (Last (WriteFailed sent)) t (WriteFailed sent) refl (t.replies.1, inl (failed_in_reply (Last (WriteFailed sent)) t t.replies.0))
   ends_last Bad t = absurd t.replies
@@ -164,9 +173,9 @@ module _ {R W H : Type 0} (remaining : R → Option (List ℕ)) (contents : W �
     turns_below : length p.turns < bound
     turns_below = subst (λ n. n < bound) p.count_is below
 
-    missing_by : (end : End) (failed : Bool) → failed_to_read end ≡ failed → HasRead remaining contents answers reader₁ reader₂ writer₁ writer₂ now next before after failed
-        → EndsBy contents writer writer₂ bound p.turns after (remaining reader₂.device) end
-        → Serves remaining contents answers bound reader reader₂ writer writer₂ old next (record { messages = count; end = end })
+    missing_by : (end : End) (failed : Bool) → failed_to_read end ≡ failed → HasRead remaining contents answers over reader₁ reader₂ writer₁ writer₂ now next before after failed
+        → EndsBy contents writer writer₂ bound p.turns after (remaining reader₂.device) (over next) end
+        → Serves remaining contents answers over bound reader reader₂ writer writer₂ old next (record { messages = count; end = end })
     missing_by end failed e read ends = record {
       taken = p.taken ++ read.0;
       turns = p.turns;
@@ -185,8 +194,8 @@ module _ {R W H : Type 0} (remaining : R → Option (List ℕ)) (contents : W �
     refused : (broken : Broken) → 0 < length after → FailsHere after (remaining reader₂.device) broken → IsRefused bound p.turns after (remaining reader₂.device) broken
     refused broken some fails = record { going = p.going; below = turns_below; some = some; fails = fails }
 
-    pub ends_missing : (end : End) → IsMissing remaining contents answers reader₁ reader₂ writer₁ writer₂ now next before after end
-        → Serves remaining contents answers bound reader reader₂ writer writer₂ old next (record { messages = count; end = end })
+    pub ends_missing : (end : End) → IsMissing remaining contents answers over reader₁ reader₂ writer₁ writer₂ now next before after end
+        → Serves remaining contents answers over bound reader reader₂ writer writer₂ old next (record { messages = count; end = end })
     ends_missing Closed m = missing_by Closed false refl m.0 (inl (p.going, turns_below, m.1, m.2), still_put m.3)
     ends_missing ReadFailed m = missing_by ReadFailed true refl m.0 (record { going = p.going; below = turns_below; unfinished = m.1 }, still_put m.2)
     ends_missing Bad m =
@@ -211,11 +220,11 @@ module _ {R W H : Type 0} (remaining : R → Option (List ℕ)) (contents : W �
     ends_missing NoMemory m = absurd (let e = m.4.1 in cc)
 
 -- the bound is reached
-pub ends_bound : {R W H : Type 0} (remaining : R → Option (List ℕ)) (contents : W → Option (List ℕ)) (answers : Answering H)
+pub ends_bound : {R W H : Type 0} (remaining : R → Option (List ℕ)) (contents : W → Option (List ℕ)) (answers : Answering H) (over : H → Bool)
     (reader reader₁ : Watched R) (writer writer₁ : Watched W) (old now : H) (rest : List ℕ) (count bound : ℕ)
-    → Progress remaining contents answers reader reader₁ writer writer₁ old now rest count → count ≡ bound
-    → Serves remaining contents answers bound reader reader₁ writer writer₁ old now (record { messages = bound; end = Bound })
-ends_bound remaining contents answers reader reader₁ writer writer₁ old now rest count bound p at = record {
+    → Progress remaining contents answers over reader reader₁ writer writer₁ old now rest count → count ≡ bound
+    → Serves remaining contents answers over bound reader reader₁ writer writer₁ old now (record { messages = bound; end = Bound })
+ends_bound remaining contents answers over reader reader₁ writer writer₁ old now rest count bound p at = record {
   taken = p.taken;
   turns = p.turns;
   rest = rest;
@@ -228,10 +237,10 @@ ends_bound remaining contents answers reader reader₁ writer writer₁ old now 
 }
 
 -- there was no memory
-pub gives_out : {R W H : Type 0} (remaining : R → Option (List ℕ)) (contents : W → Option (List ℕ)) (answers : Answering H)
+pub gives_out : {R W H : Type 0} (remaining : R → Option (List ℕ)) (contents : W → Option (List ℕ)) (answers : Answering H) (over : H → Bool)
     (reader : Watched R) (writer : Watched W) (handler : H) (bound : ℕ) → IsFresh reader
-    → Serves remaining contents answers bound reader reader writer writer handler handler (record { messages = 0; end = NoMemory })
-gives_out remaining contents answers reader writer handler bound r = record {
+    → Serves remaining contents answers over bound reader reader writer writer handler handler (record { messages = 0; end = NoMemory })
+gives_out remaining contents answers over reader writer handler bound r = record {
   taken = [];
   turns = [];
   rest = [];

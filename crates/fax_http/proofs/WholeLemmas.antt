@@ -1,17 +1,16 @@
 -- What is served of a stream is what its whole input divides into.
-use Rattle.std.proofs.Common.{◌≡◌, ℕ, ◌<◌, ◌≤◌, true, false, List, [], ◌++◌, length, Option, None, Some, inl, inr, refl, ap, subst, sym, ◌∙◌, append_assoc, append-nil, arith, length-append}
-use Rattle.std.specs.Io.KnownBytes.{Appends, Consumes, IsAtEnd}
+use Rattle.std.proofs.Common.{◌≡◌, ℕ, ◌≤◌, Bool, false, List, [], ◌++◌, length, Option, None, Some, inl, inr, refl, ap, subst, sym, ◌∙◌, append_assoc, append-nil, arith, length-append}
+use Rattle.std.specs.Io.KnownBytes.{Appends, Consumes}
 use Rattle.httparse.specs.Grammar.{print_request}
 use Rattle.fax_http.specs.declared.device.Watched.{Watched}
 use Rattle.fax_http.specs.declared.message.Broken.{Broken}
 use Rattle.fax_http.specs.declared.message.Broken.TheVariants.{BadHttp, TooLarge}
 use Rattle.fax_http.specs.declared.serving.End.{End}
 use Rattle.fax_http.specs.declared.serving.End.TheVariants.{Closed, Bad, Bound, ReadFailed, WriteFailed, NoMemory}
-use Rattle.fax_http.specs.declared.serving.Served.{Served}
-use Rattle.fax_http.specs.Conversation.{Divides, Fails, Reads, Stop, AtBound, AtEnd, AtFailure, AtLast, StopsBy, Turn, failure_of, spelled_stop, spelled_turns}
-use Rattle.fax_http.specs.Laws.{ServesWhole, ServesWholeInputs, end_of}
+use Rattle.fax_http.specs.Conversation.{Divides, Fails, Reads, Stop, AtBound, AtEnd, AtFailure, AtLast, StopsBy, Turn}
+use Rattle.fax_http.specs.Laws.{ServesWhole, ServesWholeInputs}
 use Rattle.fax_http.specs.Message.{IsBad, IsTooLarge}
-use Rattle.fax_http.specs.Serving.{Answering, EndsBy, FailsHere, Serves, failed_to_read}
+use Rattle.fax_http.specs.Serving.{Answering, EndsBy, FailsHere, failed_to_read}
 use Rattle.fax_http.proofs.ServingLemmas.{reads_more}
 
 too_large_more : (input more : List ℕ) → IsTooLarge input → IsTooLarge (input ++ more)
@@ -32,7 +31,7 @@ fails_whole rest left TooLarge t = too_large_more rest left t
 no_stop : (bytes all : List ℕ) (before after : Option (List ℕ)) → all ≡ bytes → Appends before after bytes → Appends before after (all ++ [])
 no_stop bytes all before after e a = subst (λ v. Appends before after v) (sym (append-nil all ∙ e)) a
 
-module _ {R W H : Type 0} (remaining : R → Option (List ℕ)) (contents : W → Option (List ℕ)) (answers : Answering H)
+module _ {R W H : Type 0} (remaining : R → Option (List ℕ)) (contents : W → Option (List ℕ)) (answers : Answering H) (over : H → Bool)
     (bound : ℕ) (input left taken : List ℕ) (reader₂ : Watched R) (writer writer₂ : Watched W) (turns : List Turn) (rest : List ℕ)
     (reads : Reads taken turns rest) (within : length turns ≤ bound) (whole : input ≡ taken ++ left) where
   divides_by : (stop : Stop) → StopsBy bound turns (rest ++ left) stop → Divides bound input turns stop
@@ -43,7 +42,7 @@ module _ {R W H : Type 0} (remaining : R → Option (List ℕ)) (contents : W �
     stops = s;
   }
 
-  whole_by : (end : End) → EndsBy contents writer writer₂ bound turns rest (Some left) end → failed_to_read end ≡ false → writer₂.failed ≡ false → ¬ (end ≡ NoMemory)
+  whole_by : (end : End) → EndsBy contents writer writer₂ bound turns rest (Some left) false end → failed_to_read end ≡ false → writer₂.failed ≡ false → ¬ (end ≡ NoMemory)
       → ServesWhole bound input (contents writer.device) (contents writer₂.device) turns end
   whole_by Closed (inl (going, below, none, at_end), put) r w m = record {
     stop = AtEnd;
@@ -51,7 +50,8 @@ module _ {R W H : Type 0} (remaining : R → Option (List ℕ)) (contents : W �
     wrote = no_stop _ _ _ _ refl put.appended;
     ends = refl;
   }
-  whole_by Closed (inr last, put) r w m = record {
+  whole_by Closed (inr (inr over), put) r w m = absurd (let no = over.over_is in cc)
+  whole_by Closed (inr (inl last), put) r w m = record {
     stop = AtLast;
     divides = divides_by AtLast last;
     wrote = no_stop _ _ _ _ refl put.appended;
@@ -80,8 +80,9 @@ split_input : (input taken : List ℕ) (after : Option (List ℕ)) → Consumes 
 split_input input taken None c = absurd c
 split_input input taken (Some left) c = (left, refl, c)
 
-pub serves_whole_inputs : {R W H : Type 0} (remaining : R → Option (List ℕ)) (contents : W → Option (List ℕ)) (answers : Answering H) → ServesWholeInputs remaining contents answers
-serves_whole_inputs remaining contents answers bound input reader reader₂ writer writer₂ old new served s known r w m =
+pub serves_whole_inputs : {R W H : Type 0} (remaining : R → Option (List ℕ)) (contents : W → Option (List ℕ)) (answers : Answering H) (over : H → Bool) → ServesWholeInputs remaining contents answers over
+serves_whole_inputs remaining contents answers over bound input reader reader₂ writer writer₂ old new served s known r w on m =
     let parts = split_input input s.taken (remaining reader₂.device) (subst (λ k. Consumes k (remaining reader₂.device) s.taken) known s.took.consumed) in
-    whole_by remaining contents answers bound input parts.0 s.taken reader₂ writer writer₂ s.turns s.rest s.reads s.within parts.2 served.end
-    (subst (λ u. EndsBy contents writer writer₂ bound s.turns s.rest u served.end) parts.1 s.ends) (sym s.took.failed_is ∙ r) w m
+    whole_by remaining contents answers over bound input parts.0 s.taken reader₂ writer writer₂ s.turns s.rest s.reads s.within parts.2 served.end
+    (subst (λ b. EndsBy contents writer writer₂ bound s.turns s.rest (Some parts.0) b served.end) on
+    (subst (λ u. EndsBy contents writer writer₂ bound s.turns s.rest u (over new) served.end) parts.1 s.ends)) (sym s.took.failed_is ∙ r) w m

@@ -1,6 +1,6 @@
 -- What happens to a device that is watched: what goes through it, and that it fails.
 use Rattle.std.specs.Prelude.{◌≡◌, ℕ, ◌+◌, ◌-◌, ◌^◌, ◌<◌, min, Bool, true, false, List, ◌++◌, length, Option}
-use Rattle.std.specs.Io.KnownBytes.{Appends, Consumes, Keeps}
+use Rattle.std.specs.Io.KnownBytes.{Appends, Consumes}
 use Rattle.fax_http.specs.declared.device.Watched.{Watched}
 
 -- a count of bytes, which stays at its greatest value

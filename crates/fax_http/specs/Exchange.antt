@@ -1,5 +1,5 @@
 -- One message that is looked for, and its reply.
-use Rattle.std.specs.Prelude.{◌≡◌, ℕ, ◌<◌, Bool, true, false, List, [], ◌++◌, length, Option}
+use Rattle.std.specs.Prelude.{◌≡◌, ◌⊎◌, ℕ, ◌<◌, Bool, true, false, List, [], ◌++◌, length, Option}
 use Rattle.std.specs.Io.KnownBytes.{IsAtEnd}
 use Rattle.httparse.specs.Grammar.{RequestHead}
 use Rattle.fax_ask.specs.Response.{Response}
@@ -20,23 +20,23 @@ module _ {W : Type 0} (contents : W → Option (List ℕ)) (writer writer₂ : W
   WritesTo bytes end (WriteFailed sent) = BrokeOff contents writer writer₂ bytes × (sent ≡ writer₂.passed)
   WritesTo bytes end other = Put contents writer writer₂ bytes false × (other ≡ end)
 
-  -- the reply of a turn was written, and another message may follow or none does; or the writer failed in it
-  abbrev pub Replies : Turn → Exchange → Type 0
-  Replies turn Answered = Put contents writer writer₂ (spelled_turn turn) false × (is_last turn.head ≡ false)
-  Replies turn (Last Closed) = Put contents writer writer₂ (spelled_turn turn) false × (is_last turn.head ≡ true)
-  Replies turn (Last (WriteFailed sent)) = BrokeOff contents writer writer₂ (spelled_turn turn) × (sent ≡ writer₂.passed)
-  Replies turn (Last Bad) = ⊥
-  Replies turn (Last Bound) = ⊥
-  Replies turn (Last ReadFailed) = ⊥
-  Replies turn (Last NoMemory) = ⊥
-  Replies turn (Missing end) = ⊥
+  -- The reply of a turn was written, and another message may follow; or none does, by the message or since who answers is over. Or the writer failed in it.
+  abbrev pub Replies : Bool → Turn → Exchange → Type 0
+  Replies over turn Answered = Put contents writer writer₂ (spelled_turn turn) false × (is_last turn.head ≡ false) × (over ≡ false)
+  Replies over turn (Last Closed) = Put contents writer writer₂ (spelled_turn turn) false × ((is_last turn.head ≡ true) ⊎ (over ≡ true))
+  Replies over turn (Last (WriteFailed sent)) = BrokeOff contents writer writer₂ (spelled_turn turn) × (sent ≡ writer₂.passed)
+  Replies over turn (Last Bad) = ⊥
+  Replies over turn (Last Bound) = ⊥
+  Replies over turn (Last ReadFailed) = ⊥
+  Replies over turn (Last NoMemory) = ⊥
+  Replies over turn (Missing end) = ⊥
 
   -- a message with that head and body was handed over, and its reply written
-  abbrev pub HandsOver : {H : Type 0} → Answering H → H → H → RequestHead → List ℕ → Exchange → Type 0
-  HandsOver answers old new head body exchange =
-      (reply : Response) × answers old head body reply new × Replies (record { head = head; body = body; reply = reply }) exchange
+  abbrev pub HandsOver : {H : Type 0} → Answering H → (H → Bool) → H → H → RequestHead → List ℕ → Exchange → Type 0
+  HandsOver answers over old new head body exchange =
+      (reply : Response) × answers old head body reply new × Replies (over new) (record { head = head; body = body; reply = reply }) exchange
 
-module _ {R W H : Type 0} (remaining : R → Option (List ℕ)) (contents : W → Option (List ℕ)) (answers : Answering H)
+module _ {R W H : Type 0} (remaining : R → Option (List ℕ)) (contents : W → Option (List ℕ)) (answers : Answering H) (over : H → Bool)
     (reader reader₂ : Watched R) (writer writer₂ : Watched W) (old new : H) (before after : List ℕ) where
   -- bytes were read, and stand behind those that were there
   abbrev pub HasRead : Bool → Type 0
@@ -57,7 +57,7 @@ module _ {R W H : Type 0} (remaining : R → Option (List ℕ)) (contents : W �
     pub took : Took remaining reader reader₂ more false
     pub begins : BeginsWith (before ++ more) turn.head turn.body after
     pub step : answers old turn.head turn.body turn.reply new
-    pub replies : Replies contents writer writer₂ turn exchange
+    pub replies : Replies contents writer writer₂ (over new) turn exchange
 
   abbrev pub Exchanges : Exchange → Type 0
   Exchanges (Missing end) = (new ≡ old) × IsMissing end

@@ -1,5 +1,5 @@
 -- What is proved of the definitions. Each is the contract of a function in `src/laws.rt`.
-use Rattle.std.specs.Prelude.{◌≡◌, ℕ, List, ◌++◌, map, Option, Some, false}
+use Rattle.std.specs.Prelude.{◌≡◌, ℕ, Bool, List, ◌++◌, map, Option, Some, false}
 use Rattle.std.specs.Io.KnownBytes.{Appends}
 use Rattle.httparse.specs.Grammar.{RequestHead}
 use Rattle.fax_http.specs.declared.device.Watched.{Watched}
@@ -38,10 +38,10 @@ pub record ServesWhole (bound : ℕ) (input : List ℕ) (before after : Option (
   pub wrote : Appends before after (spelled_turns turns ++ spelled_stop stop)
   pub ends : end ≡ end_of stop
 
--- where neither the reader nor the writer failed, and there was memory for the buffer, the whole input was served
-abbrev pub ServesWholeInputs : {R W H : Type 0} → (R → Option (List ℕ)) → (W → Option (List ℕ)) → Answering H → Type 0
-ServesWholeInputs {R} {W} {H} remaining contents answers =
+-- where neither the reader nor the writer failed, who answers isn't over, and there was memory for the buffer, the whole input was served
+abbrev pub ServesWholeInputs : {R W H : Type 0} → (R → Option (List ℕ)) → (W → Option (List ℕ)) → Answering H → (H → Bool) → Type 0
+ServesWholeInputs {R} {W} {H} remaining contents answers over =
     (bound : ℕ) (input : List ℕ) (reader reader₂ : Watched R) (writer writer₂ : Watched W) (old new : H) (served : Served)
-    → (s : Serves remaining contents answers bound reader reader₂ writer writer₂ old new served)
-    → remaining reader.device ≡ Some input → reader₂.failed ≡ false → writer₂.failed ≡ false → ¬ (served.end ≡ NoMemory)
+    → (s : Serves remaining contents answers over bound reader reader₂ writer writer₂ old new served)
+    → remaining reader.device ≡ Some input → reader₂.failed ≡ false → writer₂.failed ≡ false → over new ≡ false → ¬ (served.end ≡ NoMemory)
     → ServesWhole bound input (contents writer.device) (contents writer₂.device) s.turns served.end

@@ -1,18 +1,9 @@
-use Rattle.std.specs.Prelude.{ℕ, List, [], ◌++◌, Bool, codes, decimal, if◌then◌else◌, ◌==◌}
+use Rattle.std.specs.Prelude.{ℕ, List, [], ◌++◌, Bool, codes, decimal, unwrap_or, if◌then◌else◌}
+use Rattle.http.specs.StatusCode.{reason_phrase}
 
 -- the phrase of a status (RFC 9110, section 15)
-abbrev pub phrase_of : ℕ → List ℕ
-phrase_of status =
-    if status == 200 then codes "OK" else (
-    if status == 201 then codes "Created" else (
-    if status == 400 then codes "Bad Request" else (
-    if status == 403 then codes "Forbidden" else (
-    if status == 404 then codes "Not Found" else (
-    if status == 409 then codes "Conflict" else (
-    if status == 410 then codes "Gone" else (
-    if status == 413 then codes "Payload Too Large" else (
-    if status == 503 then codes "Service Unavailable" else (
-    if status == 507 then codes "Insufficient Storage" else [])))))))))
+unfoldable pub phrase_of : ℕ → List ℕ
+phrase_of status = unwrap_or (reason_phrase status) []
 
 -- the media type of a body (RFC 9110, section 8.3)
 abbrev pub media_type : Bool → List ℕ

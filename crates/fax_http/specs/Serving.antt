@@ -41,9 +41,17 @@ pub record IsAwaited (bound : ℕ) (turns : List Turn) (rest : List ℕ) : Type 
   pub below : length turns < bound
   pub unfinished : IsUnfinished rest
 
--- the messages are all there are: the input has ended, or the last of them says so
-abbrev pub AreAll : ℕ → List Turn → List ℕ → Option (List ℕ) → Type 0
-AreAll bound turns rest unread = (GoOn turns × (length turns < bound) × (rest ≡ []) × IsAtEnd unread) ⊎ EndWithLast turns
+-- who answers is over behind the last of them, and no earlier one was the last
+pub record EndOver (turns : List Turn) (over : Bool) : Type 0 where
+  pub earlier : List Turn
+  pub last : Turn
+  pub parts : turns ≡ earlier ++ last ∷ []
+  pub going : GoOn earlier
+  pub over_is : over ≡ true
+
+-- the messages are all there are: the input has ended, the last of them says so, or who answers is over
+abbrev pub AreAll : ℕ → List Turn → List ℕ → Option (List ℕ) → Bool → Type 0
+AreAll bound turns rest unread over = (GoOn turns × (length turns < bound) × (rest ≡ []) × IsAtEnd unread) ⊎ (EndWithLast turns ⊎ EndOver turns over)
 
 module _ {W : Type 0} (contents : W → Option (List ℕ)) (old new : Watched W) where
   -- the front was written, and of the other bytes not all, and then the writer failed
@@ -63,17 +71,17 @@ module _ {W : Type 0} (contents : W → Option (List ℕ)) (old new : Watched W)
     pub failed : FailedBehind (spelled_turns earlier) (spelled_turn last)
 
   -- What was written, by the end: all replies, or those and the refusal of the rest, or what comes before the writer failed.
-  abbrev pub EndsBy : ℕ → List Turn → List ℕ → Option (List ℕ) → End → Type 0
-  EndsBy bound turns rest unread Closed = AreAll bound turns rest unread × Put contents old new (spelled_turns turns) false
-  EndsBy bound turns rest unread Bound = GoOn turns × (length turns ≡ bound) × Put contents old new (spelled_turns turns) false
-  EndsBy bound turns rest unread Bad =
+  abbrev pub EndsBy : ℕ → List Turn → List ℕ → Option (List ℕ) → Bool → End → Type 0
+  EndsBy bound turns rest unread over Closed = AreAll bound turns rest unread over × Put contents old new (spelled_turns turns) false
+  EndsBy bound turns rest unread over Bound = GoOn turns × (length turns ≡ bound) × Put contents old new (spelled_turns turns) false
+  EndsBy bound turns rest unread over Bad =
       (broken : Broken) × IsRefused bound turns rest unread broken × Put contents old new (spelled_turns turns ++ failure_of broken) false
-  EndsBy bound turns rest unread ReadFailed = IsAwaited bound turns rest × Put contents old new (spelled_turns turns) false
-  EndsBy bound turns rest unread (WriteFailed sent) =
+  EndsBy bound turns rest unread over ReadFailed = IsAwaited bound turns rest × Put contents old new (spelled_turns turns) false
+  EndsBy bound turns rest unread over (WriteFailed sent) =
       (sent ≡ new.passed)
       × (FailedInReply turns
       ⊎ ((broken : Broken) × IsRefused bound turns rest unread broken × FailedBehind (spelled_turns turns) (failure_of broken)))
-  EndsBy bound turns rest unread NoMemory = (turns ≡ []) × (rest ≡ []) × (new ≡ old)
+  EndsBy bound turns rest unread over NoMemory = (turns ≡ []) × (rest ≡ []) × (new ≡ old)
 
 -- only this end says that the reader failed
 abbrev pub failed_to_read : End → Bool
@@ -81,7 +89,7 @@ failed_to_read ReadFailed = true
 failed_to_read other = false
 
 -- The bytes that were read are messages and a rest. Each message was answered in turn, and it ended by these rules.
-pub record Serves {R W H : Type 0} (remaining : R → Option (List ℕ)) (contents : W → Option (List ℕ)) (answers : Answering H) (bound : ℕ)
+pub record Serves {R W H : Type 0} (remaining : R → Option (List ℕ)) (contents : W → Option (List ℕ)) (answers : Answering H) (over : H → Bool) (bound : ℕ)
     (reader reader₂ : Watched R) (writer writer₂ : Watched W) (old new : H) (served : Served) : Type 0 where
   pub taken : List ℕ
   pub turns : List Turn
@@ -91,4 +99,4 @@ pub record Serves {R W H : Type 0} (remaining : R → Option (List ℕ)) (conten
   pub answered : Answers answers old turns new
   pub handed : served.messages ≡ length turns
   pub within : length turns ≤ bound
-  pub ends : EndsBy contents writer writer₂ bound turns rest (remaining reader₂.device) served.end
+  pub ends : EndsBy contents writer writer₂ bound turns rest (remaining reader₂.device) (over new) served.end

@@ -4,7 +4,7 @@ ghost use Rattle.fax_http.specs.Answer.{BeginsWithAnswer, Gives, IfAnswer};
 
 use crate::buffer::Buffer;
 use crate::device::{ReadFailed, Watched};
-use crate::message::{FIELD_LIMIT, HEAD_LIMIT, Occurrence, body_length, find_field};
+use crate::message::{FIELD_LIMIT, HEAD_LIMIT, Occurrence, body_length, content_length};
 use httparse::Status;
 use httparse::spans::{EMPTY_HEADER_SPAN, parse_response};
 use std::alloc::{AllocError, Global};
@@ -93,10 +93,7 @@ fn split_answer(input: &[u8]) -> AnswerRead<'_>
         _ => return AnswerRead::Never,
     };
     let fields = &room[..head.headers];
-    let says_length = matches!(
-        find_field(input, fields, b"Content-Length"),
-        Occurrence::Once(_)
-    );
+    let says_length = matches!(content_length(input, fields), Occurrence::Once(_));
     if head.code < FINAL_STATUS || !says_length {
         return AnswerRead::Never;
     }

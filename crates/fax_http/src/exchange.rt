@@ -14,6 +14,7 @@ use crate::message::{Broken, Front, Message, split_message};
 use crate::serving::{End, Handler};
 use fax_ask::Reply;
 use fax_job::Refusal;
+use http::Method;
 use std::io::{Read, Write};
 
 /// What came of looking for a message.
@@ -37,7 +38,8 @@ pub(crate) fn serve_one<R: Read + Drop, W: Write + Drop, H: Handler>(
 ) -> Exchange
     requires reading { reader.old.failed ≡ false }
     requires writing { writer.old.failed ≡ false }
-    ensures { Exchanges R.remaining W.contents H.answers reader.old reader.new writer.old writer.new handler.old handler.new buffer.old buffer.new result }
+    requires going { H.over handler.old ≡ false }
+    ensures { Exchanges R.remaining W.contents H.answers H.over reader.old reader.new writer.old writer.new handler.old handler.new buffer.old buffer.new result }
 {
     loop {
         let input = buffer.bytes();
@@ -67,17 +69,19 @@ fn answer<W: Write + Drop, H: Handler>(
     writer: &mut Watched<W>,
     handler: &mut H,
 ) -> Exchange
-    requires { writer.old.failed ≡ false }
+    requires writing { writer.old.failed ≡ false }
+    requires going { H.over handler.old ≡ false }
     ensures { (head : RequestHead) (body : List ℕ) → ArePartsOf message.now head body
-        → HandsOver W.contents writer.old writer.new H.answers handler.old handler.new head body result }
+        → HandsOver W.contents writer.old writer.new H.answers H.over handler.old handler.new head body result }
 {
     let reply = handler.answer(message);
     let form = Form {
-        has_body: message.method != b"HEAD".as_slice(),
+        has_body: message.method != Method::HEAD.as_str().as_bytes(),
         is_last: message.is_last,
     };
     match write_reply(writer, &reply, form) {
         Ok(()) if message.is_last => Exchange::Last(End::Closed),
+        Ok(()) if handler.is_over() => Exchange::Last(End::Closed),
         Ok(()) => Exchange::Answered,
         Err(WriteFailed) => Exchange::Last(End::WriteFailed {
             sent: writer.passed(),
@@ -137,7 +141,12 @@ fn write_reply<W: Write + Drop>(
     ensures err { OnErr result (BrokeOff W.contents writer.old writer.new (spelled reply.now form.has_body form.is_last)) }
 {
     let body = reply.body();
-    let head = reply_head(reply.status(), reply.is_json(), body.len(), form.is_last);
+    let head = reply_head(
+        reply.status_code(),
+        reply.is_json(),
+        body.len(),
+        form.is_last,
+    );
     put_both(writer, head.as_str().as_bytes(), body_part(body, form))
 }
 

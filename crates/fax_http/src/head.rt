@@ -3,6 +3,7 @@ ghost use Rattle.std.specs.Prelude.{◌≡◌, ◌≤◌, length};
 ghost use Rattle.fax_http.specs.Reply.{head_bytes, phrase_of, media_type as media_type_of, closing_field as closing_field_of};
 
 use arrayvec::ArrayString;
+use http::StatusCode;
 
 /// Room for the longest head.
 pub const HEAD_ROOM: usize = 200;
@@ -10,13 +11,13 @@ pub const HEAD_ROOM: usize = 200;
 pub type Head = ArrayString<HEAD_ROOM>;
 
 #[tactic(auto, unfolding(crate::specs::Reply::head_bytes))]
-pub fn reply_head(status: u16, is_json: bool, body_length: usize, is_last: bool) -> Head
+pub fn reply_head(status: StatusCode, is_json: bool, body_length: usize, is_last: bool) -> Head
     ensures { result.bytes ≡ head_bytes status is_json body_length is_last }
 {
     let mut number = itoa::Buffer::new();
     let mut head = ArrayString::new();
     head.push_str("HTTP/1.1 ");
-    head.push_str(number.format(status));
+    head.push_str(number.format(status.as_u16()));
     head.push_str(" ");
     head.push_str(phrase(status));
     head.push_str("\r\nContent-Type: ");
@@ -29,24 +30,13 @@ pub fn reply_head(status: u16, is_json: bool, body_length: usize, is_last: bool)
     head
 }
 
-/// The phrase of a status that the queue answers with (RFC 9110, section 15), empty for any other.
-fn phrase(status: u16) -> &'static str
+/// The phrase of a status, empty where it has none.
+#[tactic(auto, unfolding(crate::specs::Reply::phrase_of))]
+fn phrase(status: StatusCode) -> &'static str
     ensures text { result.now ≡ phrase_of status }
-    ensures short { length result.now ≤ 20 }
+    ensures short { length result.now ≤ 31 }
 {
-    match status {
-        200 => "OK",
-        201 => "Created",
-        400 => "Bad Request",
-        403 => "Forbidden",
-        404 => "Not Found",
-        409 => "Conflict",
-        410 => "Gone",
-        413 => "Payload Too Large",
-        503 => "Service Unavailable",
-        507 => "Insufficient Storage",
-        _ => "",
-    }
+    status.canonical_reason().unwrap_or("")
 }
 
 /// The media type of a body (RFC 9110, section 8.3).

@@ -14,8 +14,8 @@ pub fn one_division()
     ensures division { OneDivision }
 {}
 
-/// Whoever answers, and whatever pieces the input comes in: where neither the reader nor the writer fails, the messages of
-/// the whole input are handed over, and what is written are their replies, with the refusal of what begins no message.
+/// Whoever answers to the end, and whatever pieces the input comes in: where neither the reader nor the writer fails, the
+/// messages of the whole input are handed over, and what is written are their replies, with the refusal of what begins no message.
 pub fn whole_inputs<R: Read, W: Write, H: Handler>()
-    ensures { ServesWholeInputs R.remaining W.contents H.answers }
+    ensures { ServesWholeInputs R.remaining W.contents H.answers H.over }
 {}

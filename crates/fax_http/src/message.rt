@@ -1,6 +1,6 @@
 //! One message of a stream: the head of a request by the grammar of `httparse` (RFC 9112, sections
 //! 2 to 5), and a body of as many bytes as its `Content-Length` says.
-ghost use Rattle.std.specs.Prelude.{◌≡◌, ℕ, List, [], ◌∷◌, ◌++◌, length, map, All, IfOk};
+ghost use Rattle.std.specs.Prelude.{◌≡◌, ℕ, List, [], ◌∷◌, ◌++◌, length, map, codes, All, IfOk};
 ghost use Rattle.httparse.specs.Spans.{IsHeaderWithin, IsRequestWithin, header_bytes};
 ghost use Rattle.fax_http.specs.Cut.{HoldsHead, HoldsMessage, IfHead, IfWhole};
 ghost use Rattle.fax_http.specs.Field.{Shows};
@@ -8,6 +8,7 @@ ghost use Rattle.std.specs.List.{list_any};
 ghost use Rattle.fax_http.specs.Message.{IsTooLarge, IsUnfinished, IsUnfinishedHead, NeverHasHead, StaysBad, closes, values_of, framed, lists, sole};
 
 use fax_job::{at_comma, read_number, trimmed};
+use http::header::{CONNECTION, CONTENT_LENGTH, TRANSFER_ENCODING};
 use httparse::Status;
 use httparse::spans::{EMPTY_HEADER_SPAN, HeaderSpan, RequestSpans, Span, parse_request};
 use std::str;
@@ -150,13 +151,10 @@ pub(crate) fn body_length(input: &[u8], fields: &[HeaderSpan]) -> Result<usize, 
     requires { All (IsHeaderWithin (length input.now)) fields.now }
     ensures { result ≡ framed (map (header_bytes input.now) fields.now) }
 {
-    if !matches!(
-        find_field(input, fields, b"Transfer-Encoding"),
-        Occurrence::Missing
-    ) {
+    if !matches!(transfer_encoding(input, fields), Occurrence::Missing) {
         return Err(Broken::BadHttp);
     }
-    let length = match find_field(input, fields, b"Content-Length") {
+    let length = match content_length(input, fields) {
         Occurrence::Missing => 0,
         Occurrence::Once(value) => read_number(value).ok_or(Broken::BadHttp)?,
         Occurrence::Repeated => return Err(Broken::BadHttp),
@@ -165,6 +163,22 @@ pub(crate) fn body_length(input: &[u8], fields: &[HeaderSpan]) -> Result<usize, 
         return Err(Broken::TooLarge);
     }
     Ok(length as usize)
+}
+
+/// The field that says how long a body is.
+pub(crate) fn content_length<'b>(input: &'b [u8], fields: &[HeaderSpan]) -> Occurrence<'b>
+    requires { All (IsHeaderWithin (length input.now)) fields.now }
+    ensures { Shows result (values_of (codes "Content-Length") (map (header_bytes input.now) fields.now)) }
+{
+    find_field(input, fields, CONTENT_LENGTH.as_str().as_bytes())
+}
+
+/// The field that says how a body is coded for its transfer.
+fn transfer_encoding<'b>(input: &'b [u8], fields: &[HeaderSpan]) -> Occurrence<'b>
+    requires { All (IsHeaderWithin (length input.now)) fields.now }
+    ensures { Shows result (values_of (codes "Transfer-Encoding") (map (header_bytes input.now) fields.now)) }
+{
+    find_field(input, fields, TRANSFER_ENCODING.as_str().as_bytes())
 }
 
 /// The field of that name among the fields of a head; letter case doesn't matter.
@@ -186,7 +200,7 @@ fn is_last(input: &[u8], version: u8, fields: &[HeaderSpan]) -> bool
     requires { All (IsHeaderWithin (length input.now)) fields.now }
     ensures { result ≡ closes version (map (header_bytes input.now) fields.now) }
 {
-    version == 0 || has_word(input, fields, b"Connection", b"close")
+    version == 0 || has_word(input, fields, CONNECTION.as_str().as_bytes(), b"close")
 }
 
 /// Whether a field of that name lists the word, between commas; letter case doesn't matter.

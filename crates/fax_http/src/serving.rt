@@ -1,5 +1,5 @@
 //! A stream is served: its messages are answered in order, each before the next is read to its end.
-ghost use Rattle.std.specs.Prelude.{ℕ, List};
+ghost use Rattle.std.specs.Prelude.{◌≡◌, ℕ, List, Bool, false};
 ghost use Rattle.httparse.specs.Grammar.{RequestHead};
 ghost use Rattle.fax_ask.specs.Response.{Response};
 
@@ -21,7 +21,8 @@ pub struct Bounds {
 /// Why serving ended.
 #[derive(Clone, Copy, Debug, PartialEq, Eq)]
 pub enum End {
-    /// The input ended where a message would begin, or the last message was one that none follows.
+    /// The input ended where a message would begin, the last message was one that none follows, or the handler answers no
+    /// more.
     Closed,
     /// Bytes that begin no message.
     Bad,
@@ -49,16 +50,24 @@ pub trait Handler {
     // What may come of a message, by its head and body: its reply, and the handler after it.
     ghost answers: { Self → RequestHead → List ℕ → Response → Self → Type 0 };
 
+    // Whether it answers no more.
+    ghost over: { Self → Bool };
+
     fn answer(&mut self, message: &Message<'_>) -> Reply
+        requires { over self.old ≡ false }
         ensures { (head : RequestHead) (body : List ℕ) → ArePartsOf message.now head body → answers self.old head body result self.new };
+
+    /// Whether it answers no more.
+    fn is_over(&self) -> bool
+        ensures { result ≡ over self.now };
 }
 
 ghost use Rattle.fax_http.specs.Device.{IsFresh};
 ghost use Rattle.fax_http.specs.Serving.{Serves};
 
 /// Reads messages, has each answered, and writes its reply before it reads on, until the stream ends, a message says
-/// that none follows, or the bound is reached. Bytes that begin no message are refused, and nothing behind them is read.
-/// All memory is taken before the first read.
+/// that none follows, the handler answers no more, or the bound is reached. Bytes that begin no message are refused, and
+/// nothing behind them is read. All memory is taken before the first read.
 pub fn serve<R: Read + Drop, W: Write + Drop, H: Handler>(
     alloc: Global,
     reader: &mut Watched<R>,
@@ -68,7 +77,8 @@ pub fn serve<R: Read + Drop, W: Write + Drop, H: Handler>(
 ) -> Served
     requires reading { IsFresh reader.old }
     requires writing { IsFresh writer.old }
-    ensures { Serves R.remaining W.contents H.answers bounds.messages reader.old reader.new writer.old writer.new handler.old handler.new result }
+    requires going { H.over handler.old ≡ false }
+    ensures { Serves R.remaining W.contents H.answers H.over bounds.messages reader.old reader.new writer.old writer.new handler.old handler.new result }
 {
     let Ok(mut buffer) = Buffer::new(alloc) else {
         return Served {

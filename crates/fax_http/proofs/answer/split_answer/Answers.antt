@@ -20,7 +20,7 @@ returns-clause-answer c =
         fields = omega (arith, room, few_fields _ _ _ _ h.1);
         final = omega (arith, h.1.code);
         says_length = elim c.match-matches.branch [
-          | in-Once w ↦ sym (ap (λ f. length (values_of (codes "Content-Length") f)) h.1.fields) ∙ ap length (shows_as _ _ _ w.in-Once.is c.find_field.ensures)
+          | in-Once w ↦ sym (ap (λ f. length (values_of (codes "Content-Length") f)) h.1.fields) ∙ ap length (shows_as _ _ _ w.in-Once.is c.content_length.ensures)
           | in_default-matches w ↦ let no = w.matches-is in let yes = c.if-not-says_length.false in cc
         ];
         frames = sym (c.body_length.ensures ∙ ap framed h.1.fields) ∙ c.in-Ok.is ∙ ap Ok (search (rules, length-drop, length-take));
