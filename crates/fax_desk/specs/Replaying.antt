@@ -1,5 +1,5 @@
 -- What a replay did.
-use Rattle.std.specs.Prelude.{◌≡◌, ◌⊎◌, ℕ, ◌≤◌, List, [], ◌∷◌, length, Option, codes, ⊤}
+use Rattle.std.specs.Prelude.{◌≡◌, ◌⊎◌, ℕ, ◌≤◌, false, List, [], ◌∷◌, length, Option, codes, ⊤}
 use Rattle.sqlite.specs.Held.{Held, state}
 use Rattle.sqlite.specs.Steps.{over_memory}
 use Rattle.sqlite_trees.specs.declared.memory.MemStore.{MemStore}
@@ -50,7 +50,7 @@ module _ {R W : Type 0} (remaining : R → Option (List ℕ)) (contents : W → 
     pub reads : Reads taken turns rest
     pub within : length turns ≤ 1000
     pub replies : AreOfEmptyQueue office turns
-    pub ends : EndsBy contents out out₂ 1000 turns rest (remaining reader₂.device) end
+    pub ends : EndsBy contents out out₂ 1000 turns rest (remaining reader₂.device) false end
 
   -- there was no memory for the tables, and nothing was read or written
   pub record HasNoQueue (end : End) : Type 0 where

@@ -48,25 +48,33 @@ impl<C: Clock + Drop, S: Alter> Desk<C, S> {
 }
 
 impl<C: Clock + Drop, S: Alter> Handler for Desk<C, S> {
-    ghost use Rattle.std.specs.Prelude.{◌≡◌};
+    ghost use Rattle.std.specs.Prelude.{◌≡◌, false, IsTrue};
     ghost use Rattle.sqlite.specs.Held.{state};
     ghost use Rattle.sqlite.specs.State.{HasCleanDisk};
     ghost use Rattle.fax_decide.specs.Settings.{settings_of};
     ghost use Rattle.fax_desk.specs.Desk.{IsHandled};
 
     // The queue handles the message's arrival at the clock's moment, by the same setup and controls as ever. Where the disk
-    // has returned what was written, it had before.
+    // has returned what was written, it had before. The queue says that its store is shut only where it is.
     ghost answers = { λ old head body reply new.
         (new.queue.office ≡ old.queue.office)
         × (HasCleanDisk (state S.Store new.queue.store.conn) → HasCleanDisk (state S.Store old.queue.store.conn))
+        × (IsTrue new.queue.is_shut → HasCleanDisk (state S.Store new.queue.store.conn)
+        → (state S.Store new.queue.store.conn).is_open ≡ false)
         × IsHandled (λ said moment. C.gives old.clock said moment new.clock)
         (settings_of old.queue.office.setup old.queue.office.controls)
         (state S.Store old.queue.store.conn) head body reply (state S.Store new.queue.store.conn) };
+
+    ghost over = { λ desk. desk.queue.is_shut };
 
     fn answer(&mut self, message: &Message<'_>) -> Reply {
         let moment = self.clock.moment(message.moment);
         let arrival = arrival_of(message, moment);
         self.queue.handle(self.alloc, &arrival)
+    }
+
+    fn is_over(&self) -> bool {
+        self.queue.is_shut()
     }
 }
 

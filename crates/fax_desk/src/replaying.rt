@@ -1,6 +1,6 @@
 //! One input, answered from empty tables on.
 
-ghost use Rattle.std.specs.Prelude.{◌≡◌, [], IfErr, IfOk};
+ghost use Rattle.std.specs.Prelude.{◌≡◌, false, [], IfErr, IfOk};
 ghost use Rattle.sqlite.specs.Held.{state};
 ghost use Rattle.sqlite.specs.Steps.{over_memory};
 ghost use Rattle.fax_core.specs.Queue.{empty_queue as no_records};
@@ -46,6 +46,7 @@ pub fn replay<R: Read + Drop, W: Write + Drop>(
 fn empty_queue(alloc: Global, office: Office) -> Result<Queue<MemStore>, StoreFault>
     ensures empty { IfOk result (λ queue. IsAtRest (state over_memory queue.store.conn) no_records []) }
     ensures office { IfOk result (λ queue. queue.office ≡ office) }
+    ensures open { IfOk result (λ queue. queue.is_shut ≡ false) }
     ensures cause { IfErr result (λ fault. fault ≡ StoreFault.Unavailable) }
 {
     let store = Store::new_in_memory(alloc)?;

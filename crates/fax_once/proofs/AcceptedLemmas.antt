@@ -22,6 +22,7 @@ use Rattle.fax_once.specs.Laws.{AcceptedOnce, IsSoundWith}
 use Rattle.fax_once.specs.Reading.{Post, Reading, Faulty, Sees, Posts, IsReading, post_of}
 use Rattle.fax_once.specs.Verdict.{Verdict, IsVerdict, Told, Repeated, Accepted, denied, kept_with, stepped, taken_once, verdict, Handles, Leaves}
 use Rattle.fax_once.specs.declared.arrival.Arrival.{Arrival}
+use Rattle.fax_once.proofs.VerdictLemmas.{still_means}
 
 -- ---- what is accepted
 
@@ -127,4 +128,4 @@ module _ (settings : Settings) (a : Arrival) (m : Queue) (k : List Entry) (reply
   -- whatever an arrival comes to, the store has a sound queue afterwards, and no kept reply is lost
   pub stays_sound : Handles settings a m k reply s → IsSoundWith k s
   stays_sound (inl (v, is, leaves)) = left_by v is leaves
-  stays_sound (inr (same, rest)) = unchanged rest
+  stays_sound (inr (same, left)) = unchanged (still_means s m k left)

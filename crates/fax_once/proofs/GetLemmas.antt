@@ -1,5 +1,5 @@
 -- A GET asks for a view.
-use Rattle.std.proofs.Common.{◌≡◌, ℕ, Bool, true, false, List, [], ◌∷◌, Option, Some, None, refl, subst, if◌then◌else◌}
+use Rattle.std.proofs.Common.{◌≡◌, ◌∙◌, ℕ, Bool, true, false, List, [], ◌∷◌, Option, Some, None, refl, sym, subst, if◌then◌else◌}
 use Rattle.std.specs.Prelude.{MatchOption, codes, length, option_and_then, ◌==◌}
 use Rattle.std.specs.Str.{bytes_eq}
 use Rattle.fax_core.specs.declared.ask.Ask.{Ask}
@@ -13,6 +13,9 @@ use Rattle.fax_ask.specs.declared.view.View.TheVariants as view
 use Rattle.fax_ask.specs.Ask.{Asks, IsAsk}
 use Rattle.fax_ask.specs.declared.ask.Ask.TheVariants.{Step}
 use Rattle.fax_ask.specs.Path.{parts}
+use Rattle.fax_job.specs.declared.refusal.Refusal.TheVariants.{NoRoute}
+use Rattle.fax_once.specs.Reading.{IsForRoute, IsReading, Post, Reading, Faulty, Posts}
+use Rattle.fax_once.specs.declared.arrival.Arrival.{Arrival}
 use Rattle.fax_ask.specs.Request.{grants_request, job_request, jobs_request, modems_request, path_request, request_of, root_request}
 
 IsShow : Request → Type 0
@@ -63,3 +66,14 @@ no_step method path body ask get is = by (request_of Get path) refl (subst (λ (
     by (Some r) e h =
         let shown = get_shows path r e in
         let no = subst (λ (q : Request). Asks q body (Step ask)) shown.1 h in cc
+
+-- and nothing is posted by it
+pub no_post : (a : Arrival) (r : Reading) (p : Post) → a.method ≡ Get → IsReading a r → r ≡ Posts p → ⊥
+unfolding IsShow
+no_post a r p get reads is = by (request_of Get a.path.now) refl (subst (λ (m : Method). MatchOption (request_of m a.path.now) (r ≡ Faulty NoRoute) (IsForRoute a r)) get reads)
+  where
+    by : (o : Option Request) → request_of Get a.path.now ≡ o → MatchOption o (r ≡ Faulty NoRoute) (IsForRoute a r) → ⊥
+    by None e h = let no = sym h ∙ is in cc
+    by (Some route) e h =
+        let shown = get_shows a.path.now route e in
+        let no = sym (subst (IsForRoute a r) shown.1 h) ∙ is in cc

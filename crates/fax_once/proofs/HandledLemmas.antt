@@ -28,6 +28,7 @@ use Rattle.fax_once.specs.Run.{Start, IsRun, end_of, is_new, is_taken, queue_aft
 use Rattle.fax_once.specs.Verdict.{Verdict, Told, Repeated, Accepted, Handles, Leaves, reply_of, verdict}
 use Rattle.fax_once.specs.declared.arrival.Arrival.{Arrival}
 use Rattle.fax_store.specs.Store.{Means}
+use Rattle.fax_once.proofs.VerdictLemmas.{still_means}
 
 -- ---- what is posted is lawful
 
@@ -106,10 +107,10 @@ module _ (s : Settings) (start : Start) (arrivals : List Arrival) (replies : Lis
 
   pub runs_on : Handles s a here.queue here.kept reply new → HasRun s start (arrivals ++ a ∷ []) (replies ++ reply ∷ []) new
   runs_on (inl (v, (r, reads, is), leaves)) = handled r reads (leaves_at here reply new (verdict s here.queue here.kept r) (subst (λ (w : Verdict). Leaves here.queue here.kept reply new w) is leaves))
-  runs_on (inr (gone, rests)) = record {
+  runs_on (inr (gone, left)) = record {
     heard = ran.heard;
     answered = unheard_more s start [] arrivals replies ran.heard a reply ran.answered gone;
-    means = rests;
+    means = still_means new here.queue here.kept left;
     are_taken = ran.are_taken;
   }
 

@@ -1,5 +1,5 @@
 -- What a crash may leave behind an arrival.
-use Rattle.std.proofs.Common.{◌≡◌, inl, inr, Bool, List, ◌++◌, [], ◌∷◌, None, sym, ap, subst, ◌∙◌}
+use Rattle.std.proofs.Common.{◌≡◌, inl, inr, Bool, List, ◌++◌, [], ◌∷◌, None, refl, sym, ap, subst, ◌∙◌}
 use Rattle.std.specs.Prelude.{ℕ}
 use Rattle.sqlite.specs.State.{State, HasCleanDisk}
 use Rattle.fax_ask.specs.Response.{Response}
@@ -19,11 +19,14 @@ use Rattle.fax_store.specs.Store.{CommitsNothing, HasTables, Means, RowsFound, S
 use Rattle.fax_store.specs.Work.{MayCommit, Opens, Withholds, Works}
 use Rattle.fax_tables.specs.Kept.{entry}
 use Rattle.fax_once.specs.Arrival.{IsSender, said_of}
-use Rattle.fax_once.specs.Reading.{post_of}
+use Rattle.fax_once.specs.Reading.{IsReading, Reading, Faulty, Sees, Posts, post_of}
 use Rattle.fax_once.specs.Stop.{AreMadeBy, MayLeave, Stops, StopsBy}
-use Rattle.fax_once.specs.Verdict.{asked_for, kept_with, stepped}
+use Rattle.fax_once.specs.Verdict.{asked_for, kept_with, stepped, verdict}
 use Rattle.fax_once.specs.declared.arrival.Arrival.{Arrival}
 use Rattle.fax_once.specs.declared.sender.Sender.{Sender}
+use Rattle.fax_ask.specs.declared.method.Method.TheVariants.{Get}
+use Rattle.sqlite_trees.specs.Tree.{Trees}
+use Rattle.fax_once.proofs.GetLemmas.{no_post}
 use Rattle.fax_once.proofs.RequestLemmas.{is_post}
 use Rattle.fax_once.proofs.VerdictLemmas.{unused_is}
 
@@ -77,3 +80,17 @@ asked_stops s a m k sender x ask old new is asked from stops found may =
       | inl before ↦ inl before
       | inr made ↦ inr (asked_for s m k (post_of a sender.number ask), is_post s a m k sender x ask is asked from, made)
     ]
+
+-- ---- a GET
+
+none_made : (s : Settings) (a : Arrival) (m : Queue) (k : List Entry) (found : Trees) → a.method ≡ Get → (r : Reading) → IsReading a r → AreMadeBy (verdict s m k r) found → ⊥
+none_made s a m k found get (Faulty refusal) reads made = made
+none_made s a m k found get (Sees moment what) reads made = made
+none_made s a m k found get (Posts p) reads made = no_post a (Posts p) p get reads refl
+
+-- it makes no rows
+pub gets_nothing : (s : Settings) (a : Arrival) (m : Queue) (k : List Entry) (old new : State) → a.method ≡ Get → Stops s a m k old new → CommitsNothing old new
+gets_nothing s a m k old new get stops found may = elim (stops found may) [
+  | inl before ↦ before
+  | inr (v, (r, reads, is), made) ↦ absurd (none_made s a m k found get r reads (subst (λ w. AreMadeBy w found) is made))
+]

@@ -1,5 +1,5 @@
 -- What comes of an arrival.
-use Rattle.std.proofs.Common.{◌≡◌, ℕ, Bool, true, false, List, [], ◌∷◌, ◌++◌, Some, None, Ok, Err, refl, sym, ap, subst, ◌∙◌, if◌then◌else◌}
+use Rattle.std.proofs.Common.{◌≡◌, ◌⊎◌, inl, inr, ℕ, Bool, true, false, List, [], ◌∷◌, ◌++◌, Some, None, Ok, Err, refl, sym, ap, subst, ◌∙◌, if◌then◌else◌}
 use Rattle.std.specs.Prelude.{Result, OnOk, MatchResult}
 use Rattle.std.specs.Str.{bytes_eq}
 use Rattle.sqlite.specs.State.{State, HasCleanDisk}
@@ -25,7 +25,7 @@ use Rattle.fax_once.specs.Arrival.{IsSender, said_of}
 use Rattle.fax_decide.specs.Decision.{IsTaken, IsRefused as IsRefusedBy}
 use Rattle.fax_decide.specs.Effect.{accepted}
 use Rattle.fax_once.specs.Reading.{post_of}
-use Rattle.fax_once.specs.Verdict.{Verdict, kept_with, repeated, stepped, taken_once, asked_for, Leaves, LeavesBy}
+use Rattle.fax_once.specs.Verdict.{Verdict, Told, Repeated, Accepted, Handles, kept_with, repeated, stepped, taken_once, asked_for, Leaves, LeavesBy}
 use Rattle.fax_once.specs.declared.arrival.Arrival.{Arrival}
 use Rattle.fax_decide.specs.declared.effect.Effect.{Effect}
 use Rattle.fax_once.specs.declared.sender.Sender.{Sender}
@@ -33,6 +33,33 @@ use Rattle.fax_once.specs.declared.sender.Sender.{Sender}
 -- what is asked for by an arrival under this number
 abbrev pub asked_by : Settings → Arrival → Queue → List Entry → ℕ → Ask → Verdict
 asked_by s a m k number ask = asked_for s m k (post_of a number ask)
+
+-- ---- a store that gives out
+
+-- the store serves and has what it means, or it is shut
+pub gives_out : (s : State) (m : Queue) (k : List Entry) → HasCleanDisk s → Means s m k → (Serves s × IsAtRest s m k) ⊎ (s.is_open ≡ false)
+gives_out s m k clean means = by s.is_open refl
+  where
+    by : (b : Bool) → s.is_open ≡ b → (Serves s × IsAtRest s m k) ⊎ (s.is_open ≡ false)
+    by true is_open =
+        let serves : Serves s = record { clean = clean; is_open = is_open } in
+        inl (serves, means serves)
+    by false shut = inr shut
+
+-- either way it means that as long as it serves
+pub still_means : (s : State) (m : Queue) (k : List Entry) → (Serves s × IsAtRest s m k) ⊎ (s.is_open ≡ false) → Means s m k
+still_means s m k (inl (serves, rests)) _ = rests
+still_means s m k (inr shut) serves = absurd (let no = sym serves.is_open ∙ shut in cc)
+
+-- no work is under way in a store that serves
+pub idle_by : (s : Settings) (a : Arrival) (m : Queue) (k : List Entry) (reply : Response) (store : State) → Handles s a m k reply store → Serves store → store.in_transaction ≡ false
+idle_by s a m k reply store (inl (v, is, leaves)) serves = by v leaves
+  where
+    by : (v : Verdict) → Leaves m k reply store v → store.in_transaction ≡ false
+    by (Told told) left = (left.1 serves).autocommit
+    by (Repeated told) left = left.2.autocommit
+    by (Accepted after kept told) left = left.2.autocommit
+idle_by s a m k reply store (inr gone) serves = (still_means store m k gone.1 serves).autocommit
 
 -- ---- repeats
 

@@ -1,5 +1,5 @@
 -- What comes of an arrival: what is answered to it, and what it makes of the queue and of the kept replies.
-use Rattle.std.specs.Prelude.{◌≡◌, ◌⊎◌, ⊤, ℕ, List, [], ◌∷◌, ◌++◌, Option, Some, None, Result, Ok, MatchResult, if◌then◌else◌}
+use Rattle.std.specs.Prelude.{◌≡◌, ◌⊎◌, ⊤, ℕ, false, List, [], ◌∷◌, ◌++◌, Option, Some, None, Result, Ok, MatchResult, if◌then◌else◌}
 use Rattle.std.specs.Str.{bytes_eq}
 use Rattle.sqlite.specs.Effect.{Database}
 use Rattle.sqlite.specs.State.{State}
@@ -98,9 +98,9 @@ LeavesBy m k result s v = MatchResult result (λ reply. Leaves m k reply s v) (�
 abbrev pub Answers : {E : Type 0} → Settings → Arrival → Queue → List Entry → Result Response E → State → Type 0
 Answers settings a m k result s = MatchResult result (λ reply. (v : Verdict) × IsVerdict settings a m k v × Leaves m k reply s v) (λ _. Means s m k)
 
--- memory or the store gave out, or rows don't fit together: nothing has changed
+-- Memory or the store gave out, or rows don't fit together. The store serves, and nothing has changed; or a fault of the disk has shut it, and what the next start finds is told by `Stops` alone.
 abbrev pub GivesOut : Queue → List Entry → Response → State → Type 0
-GivesOut m k reply s = (reply ≡ refused_response Unavailable NoKeys) × Means s m k
+GivesOut m k reply s = (reply ≡ refused_response Unavailable NoKeys) × ((Serves s × IsAtRest s m k) ⊎ (s.is_open ≡ false))
 
 -- there is no reply, or one that refuses
 abbrev pub IsNotAccepted : {E : Type 0} → Result Response E → Type 0
@@ -112,6 +112,6 @@ pub record IsUsed (a : Arrival) (db : Database) : Type 0 where
   pub its : number_of a ≡ Ok number
   pub kept : HasReply db a.client.now number
 
--- an arrival is handled
+-- an arrival is answered by its verdict, or 503
 abbrev pub Handles : Settings → Arrival → Queue → List Entry → Response → State → Type 0
 Handles settings a m k reply s = ((v : Verdict) × IsVerdict settings a m k v × Leaves m k reply s v) ⊎ GivesOut m k reply s

@@ -4,7 +4,7 @@
 //! bytes are made before its commit. A refused request changes nothing, and neither does a repeat of an
 //! accepted one, which gets the kept reply.
 
-ghost use Rattle.std.specs.Prelude.{◌≡◌, ◌∷◌, ◌++◌, [], List, IfOk, IsErr, None, OnErr, OnOk, MatchResult, if◌then◌else◌};
+ghost use Rattle.std.specs.Prelude.{◌≡◌, ◌∷◌, ◌++◌, [], false, List, IfOk, IsErr, IsTrue, None, OnErr, OnOk, MatchResult, if◌then◌else◌};
 ghost use Rattle.std.specs.Str.{bytes_eq};
 ghost use Rattle.sqlite.specs.Effect.{Database};
 ghost use Rattle.sqlite.specs.Held.{state};
@@ -53,6 +53,8 @@ pub struct Queue<S: Alter> {
     store: Store<S>,
     office: Office,
     routes: Routes,
+    /// Whether the last request was answered 503 and found that a fault of the disk has shut the store.
+    is_shut: bool,
 }
 
 impl<S: Alter + Drop> Queue<S> {
@@ -69,17 +71,27 @@ impl<S: Alter + Drop> Queue<S> {
     ) -> Result<Queue<S>, AllocError>
         ensures store { IfOk result (λ queue. queue.store ≡ store) }
         ensures office { IfOk result (λ queue. queue.office ≡ record { setup = setup; controls = controls }) }
+        ensures open { IfOk result (λ queue. queue.is_shut ≡ false) }
     {
         let routes = Routes::new(alloc)?;
         Ok(Queue {
             store,
             office: Office { setup, controls },
             routes,
+            is_shut: false,
         })
     }
 }
 
 impl<S: Alter> Queue<S> {
+    /// Whether the last request found that a fault of the disk has shut the store. Then each further one is answered 503,
+    /// until the files are opened again.
+    pub fn is_shut(&self) -> bool
+        ensures { result ≡ self.now.is_shut }
+    {
+        self.is_shut
+    }
+
     /// Answers the request, after its effect where it is accepted.
     pub fn handle(&mut self, alloc: Global, arrival: &Arrival<'_>) -> Reply
         ensures office { self.new.office ≡ self.old.office }
@@ -109,10 +121,22 @@ impl<S: Alter> Queue<S> {
             → Stays (state S.Store self.old.store.conn) (state S.Store self.new.store.conn) }
         ensures repeated { (db : Database) → db.schema ≡ seven_tables → Rests (state S.Store self.old.store.conn) db
             → IsUsed arrival.now db → Rests (state S.Store self.new.store.conn) db }
+        // So what `close` gives back is what `Store::adopt` takes.
+        ensures idle { (m : QueueOf) (k : List Entry) → Sound m
+            → Means (state S.Store self.old.store.conn) m k
+            → Serves (state S.Store self.new.store.conn) → (state S.Store self.new.store.conn).in_transaction ≡ false }
+        ensures shut { IsTrue self.new.is_shut → HasCleanDisk (state S.Store self.new.store.conn)
+            → (state S.Store self.new.store.conn).is_open ≡ false }
     {
         match self.answer(alloc, arrival) {
-            Ok(reply) => reply,
-            Err(Unavailable) => Reply::refused(Refusal::Unavailable),
+            Ok(reply) => {
+                self.is_shut = false;
+                reply
+            }
+            Err(Unavailable) => {
+                self.is_shut = self.store.is_shut() == Ok(true);
+                Reply::refused(Refusal::Unavailable)
+            }
         }
     }
 
@@ -122,6 +146,9 @@ impl<S: Alter> Queue<S> {
         ensures clean { HasCleanDisk (state S.Store self.new.store.conn)
             → HasCleanDisk (state S.Store self.old.store.conn) }
         ensures stays { Stays (state S.Store self.old.store.conn) (state S.Store self.new.store.conn) }
+        ensures crash { (m : QueueOf) (k : List Entry) → Sound m
+            → Means (state S.Store self.old.store.conn) m k
+            → CommitsNothing (state S.Store self.old.store.conn) (state S.Store self.new.store.conn) }
         ensures viewed { (m : QueueOf) (k : List Entry) → Sound m
             → Means (state S.Store self.old.store.conn) m k
             → HasCleanDisk (state S.Store self.new.store.conn)
@@ -141,6 +168,7 @@ impl<S: Alter> Queue<S> {
             store,
             office: _,
             routes: _,
+            is_shut: _,
         } = self;
         store.close()
     }
@@ -402,6 +430,7 @@ impl<S: Alter> Queue<S> {
 /// The reply to a request whose number has a kept reply: that reply where the client says the same bytes, and a
 /// refusal else. It takes no memory.
 fn repeat(arrival: &Arrival<'_>, kept: Kept) -> Reply
+    requires { IsKeptStatus kept.status }
     ensures { result ≡ (if bytes_eq kept.said.items (said_of arrival.now)
         then kept_response kept.status kept.body.items else refused_response Refusal.NumberReused NoKeys) }
 {

@@ -1,23 +1,35 @@
 -- What connections show.
-use Rattle.std.proofs.Common.{◌≡◌, ◌⊎◌, ℕ, List, [], ◌∷◌, ◌++◌, Option, Ok, ap, ◌∙◌, refl, subst, sym, inl, inr}
+use Rattle.std.proofs.Common.{◌≡◌, ℕ, ◌+◌, ◌≤◌, Bool, false, List, [], ◌∷◌, ◌++◌, length, Option, Some, None, Ok, ap, ◌∙◌, refl, subst, sym, inl, inr, append_assoc, append-nil, arith, length-append}
+use Rattle.std.specs.Prelude.{MatchOption}
+use Rattle.std.specs.declared.net.tcp.TcpListener.{TcpListener}
+use Rattle.std.specs.declared.net.tcp.TcpStream.{TcpStream}
 use Rattle.sqlite.specs.State.{State, HasCleanDisk}
-use Rattle.fax_core.specs.Queue.{Queue, Entry}
+use Rattle.sqlite_wal.specs.Recovery.{Image}
+use Rattle.fax_core.specs.Queue.{Queue, Entry, empty_queue}
+use Rattle.fax_core.proofs.StepLemmas.{empty_sound}
 use Rattle.fax_core.specs.Settings.{Settings}
 use Rattle.fax_core.specs.Sound.{Sound}
 use Rattle.fax_desk.specs.Desk.{HandlesAt, IsArrival}
+use Rattle.fax_desk.specs.Replaying.{settings_in}
 use Rattle.fax_http.specs.Conversation.{Turn}
 use Rattle.fax_http.specs.Serving.{Answering, Answers}
+use Rattle.fax_once.proofs.VerdictLemmas.{still_means}
 use Rattle.fax_once.specs.Run.{Start}
 use Rattle.fax_once.specs.Verdict.{Handles, IsVerdict, Leaves, Told, Repeated, Accepted, Verdict}
 use Rattle.fax_once.specs.declared.arrival.Arrival.{Arrival}
 use Rattle.fax_store.specs.Store.{Means}
 use Rattle.fax_decide.specs.declared.office.Office.{Office}
 use Rattle.fax_http.specs.declared.device.Watched.{Watched}
+use Rattle.faxqd.specs.Connection.{AreServed, Come, Comes}
+use Rattle.faxqd.specs.Database.{IsFound}
 use Rattle.faxqd.specs.Office.{ComesOf}
-use Rattle.faxqd.specs.Serve.{AreTurns, HasServed, IsTurn, Listens, Serves, ServesFrom}
+use Rattle.faxqd.specs.Serve.{AreTurns, Ends, HasServed, IsTurn, Listens, ServesBy, ServesFrom, ServesHeld, said_in}
 use Rattle.faxqd.specs.declared.status.Status.{Status}
 use Rattle.faxqd.specs.declared.status.Status.TheVariants.{Success, Fault, Usage}
+use Rattle.faxqd.specs.declared.timed.Timed.{Timed}
 use Rattle.fax_text.specs.declared.server.ServePlan.{ServePlan}
+
+-- ---- connections
 
 -- the turns of one connection stand behind those of the others
 pub more_turns : {H : Type 0} (answers : Answering H) (first : H) (turns : List Turn) (next : H) (others : List Turn) (last : H)
@@ -25,49 +37,105 @@ pub more_turns : {H : Type 0} (answers : Answering H) (first : H) (turns : List 
 more_turns answers first [] next others last e more = subst (λ h. Answers answers h others last) e more
 more_turns answers first (turn ∷ turns) next others last (behind, here, rest) more = (behind, here, more_turns answers behind turns next others last rest more)
 
+module _ (read written : Timed → Option (List ℕ)) {D : Type 0} (opens : D → Option TcpStream → D → Type 0) where
+  -- and so does the connection behind the others
+  one_more : (streams : List (Option TcpStream)) (one : Option TcpStream) (door : D) (over : Bool) (turns : List Turn) (last : D) (end : Bool) (more : List Turn) (next : D) (now : Bool)
+      → Come read written opens streams door over turns last end → Comes read written opens one last end more next now
+      → Come read written opens (streams ++ one ∷ []) door over (turns ++ more) next now
+  one_more [] one door over turns last end more next now (none, same, is) comes =
+      let here = subst (λ d. Comes read written opens one d over more next now) same (subst (λ b. Comes read written opens one last b more next now) is comes) in
+      (next, now, more, [], here, ap (λ ts. ts ++ more) none ∙ sym (append-nil more), (refl, refl, refl))
+  one_more (s ∷ ss) one door over turns last end more next now (behind, b, first, others, came, are, rest) comes = (
+    behind,
+    b,
+    first,
+    others ++ more,
+    came,
+    ap (λ ts. ts ++ more) are ∙ append_assoc first others more,
+    one_more ss one behind b others last end more next now rest comes,
+  )
+
+  -- so many came so far, and were answered
+  pub record SoFar {H : Type 0} (answers : Answering H) (over : H → Bool) (door : D) (old : H) (count : ℕ) (last : D) (new : H) : Type 0 where
+    pub turns : List Turn
+    pub streams : List (Option TcpStream)
+    pub come : Come read written opens streams door (over old) turns last (over new)
+    pub count_is : length streams ≡ count
+    pub answered : Answers answers old turns new
+
+  pub none_yet : {H : Type 0} (answers : Answering H) (over : H → Bool) (door : D) (old : H) → SoFar answers over door old 0 door old
+  none_yet answers over door old = record { turns = []; streams = []; come = (refl, refl, refl); count_is = refl; answered = refl }
+
+  module _ {H : Type 0} (answers : Answering H) (over : H → Bool) (door : D) (old : H) (count : ℕ) (last : D) (now : H)
+      (far : SoFar answers over door old count last now) where
+    -- one connection more
+    pub next_served : (one : Option TcpStream) (next : D) (new : H) (more : List Turn) → Comes read written opens one last (over now) more next (over new)
+        → Answers answers now more new → SoFar answers over door old (count + 1) next new
+    next_served one next new more comes answered = record {
+      turns = far.turns ++ more;
+      streams = far.streams ++ one ∷ [];
+      come = one_more far.streams one door (over old) far.turns last (over now) more next (over new) far.come comes;
+      count_is = omega (arith, far.count_is, length-append far.streams (one ∷ []));
+      answered = more_turns answers old far.turns now more new far.answered answered;
+    }
+
+    -- these are all
+    pub all_served : (wanted : ℕ) → count ≤ wanted → (over now ≡ false → count ≡ wanted)
+        → (turns : List Turn) × AreServed read written opens wanted door (over old) turns last (over now) × Answers answers old turns now
+    all_served wanted within all = (
+      far.turns,
+      record {
+        streams = far.streams;
+        come = far.come;
+        within = omega (arith, within, far.count_is);
+        all = λ on. far.count_is ∙ all on;
+      },
+      far.answered,
+    )
+
 -- ---- one message
 
 -- a message was answered, and what it leaves is a sound queue, which the store means
-record IsOne (settings : Settings) (m : Queue) (k : List Entry) (turn : Turn) (new : State) : Type 0 where
+record IsOne {C : Type 0} (gives : C → List ℕ → ℕ → C → Type 0) (settings : Settings) (m : Queue) (k : List Entry) (clock : C) (turn : Turn) (later : C) (new : State) : Type 0 where
   next : Start
-  turned : IsTurn settings (record { queue = m; kept = k }) turn next
+  turned : IsTurn gives settings (record { queue = m; kept = k }) clock turn next later
   sound : Sound next.queue
   means : Means new next.queue next.kept
 
-module _ (settings : Settings) (m : Queue) (k : List Entry) (turn : Turn) (new : State) (moment : ℕ) (a : Arrival)
-    (comes : IsArrival turn.head turn.body moment a) (sound : Sound m) where
+module _ {C : Type 0} (gives : C → List ℕ → ℕ → C → Type 0) (settings : Settings) (m : Queue) (k : List Entry) (clock : C) (turn : Turn) (later : C) (new : State)
+    (moment : ℕ) (given : gives clock (said_in turn) moment later) (a : Arrival) (comes : IsArrival turn.head turn.body moment a) (sound : Sound m) where
   start : Start
   start = record { queue = m; kept = k }
 
-  by_verdict : (v : Verdict) → IsVerdict settings a m k v → Leaves m k turn.reply new v → IsOne settings m k turn new
+  by_verdict : (v : Verdict) → IsVerdict settings a m k v → Leaves m k turn.reply new v → IsOne gives settings m k clock turn later new
   unfolding start
   by_verdict (Told told) is leaves = record {
     next = start;
-    turned = record { moment = moment; arrival = a; comes = comes; answered = inl (Told told, is, leaves.0, refl) };
+    turned = record { moment = moment; given = given; arrival = a; comes = comes; answered = inl (Told told, is, leaves.0, refl) };
     sound = sound;
     means = leaves.1;
   }
   by_verdict (Repeated told) is leaves = record {
     next = start;
-    turned = record { moment = moment; arrival = a; comes = comes; answered = inl (Repeated told, is, leaves.0, refl) };
+    turned = record { moment = moment; given = given; arrival = a; comes = comes; answered = inl (Repeated told, is, leaves.0, refl) };
     sound = sound;
     means = λ serves. leaves.2;
   }
   by_verdict (Accepted after kept told) is leaves = record {
     next = record { queue = after; kept = kept };
-    turned = record { moment = moment; arrival = a; comes = comes; answered = inl (Accepted after kept told, is, leaves.0, refl) };
+    turned = record { moment = moment; given = given; arrival = a; comes = comes; answered = inl (Accepted after kept told, is, leaves.0, refl) };
     sound = leaves.3;
     means = λ serves. leaves.2;
   }
 
-  one_of : Handles settings a m k turn.reply new → IsOne settings m k turn new
+  one_of : Handles settings a m k turn.reply new → IsOne gives settings m k clock turn later new
   unfolding start
   one_of (inl (v, is, leaves)) = by_verdict v is leaves
   one_of (inr gone) = record {
     next = start;
-    turned = record { moment = moment; arrival = a; comes = comes; answered = inr (gone.0, refl) };
+    turned = record { moment = moment; given = given; arrival = a; comes = comes; answered = inr (gone.0, refl) };
     sound = sound;
-    means = gone.1;
+    means = still_means new m k gone.1;
   }
 
 -- ---- all messages
@@ -79,40 +147,86 @@ pub stays : {H X : Type 0} (answers : Answering H) (what : H → X)
 stays answers what same old [] new e = ap what e
 stays answers what same old (turn ∷ turns) new (next, here, behind) = stays answers what same next turns new behind ∙ same old turn next here
 
-module _ {H : Type 0} (answers : Answering H) (of : H → State) (settings : H → Settings)
+module _ {H C : Type 0} (answers : Answering H) (gives : C → List ℕ → ℕ → C → Type 0) (of : H → State) (settings : H → Settings) (clock_of : H → C)
     (clean : (old : H) (turn : Turn) (new : H) → answers old turn.head turn.body turn.reply new → HasCleanDisk (of new) → HasCleanDisk (of old))
     (same : (old : H) (turn : Turn) (new : H) → answers old turn.head turn.body turn.reply new → settings new ≡ settings old)
     (handled : (old : H) (turn : Turn) (new : H) → answers old turn.head turn.body turn.reply new
-    → (moment : ℕ) × HandlesAt moment (settings old) (of old) turn.head turn.body turn.reply (of new)) where
+    → (moment : ℕ) × gives (clock_of old) (said_in turn) moment (clock_of new) × HandlesAt moment (settings old) (of old) turn.head turn.body turn.reply (of new)) where
   clean_before : (old : H) (turns : List Turn) (new : H) → Answers answers old turns new → HasCleanDisk (of new) → HasCleanDisk (of old)
   clean_before old [] new e now = subst (λ h. HasCleanDisk (of h)) e now
   clean_before old (turn ∷ turns) new (next, here, behind) now = clean old turn next here (clean_before next turns new behind now)
 
-  pub served_of : (old : H) (turns : List Turn) (new : H) → Answers answers old turns new → ServesFrom (settings old) (of old) (of new)
-  served_of old [] new e now m k sound means = record {
-    turns = [];
+  served_from : (old : H) (turns : List Turn) (new : H) → Answers answers old turns new → (m : Queue) (k : List Entry) → Sound m → Means (of old) m k → HasCleanDisk (of new)
+      → HasServed gives (settings old) m k (clock_of old) turns (of new)
+  served_from old [] new e m k sound means now = record {
     end = record { queue = m; kept = k };
     answered = refl;
     sound = sound;
     means = subst (λ h. Means (of h) m k) (sym e) means;
   }
-  served_of old (turn ∷ turns) new (next, here, behind) now m k sound means =
+  served_from old (turn ∷ turns) new (next, here, behind) m k sound means now =
       let it = handled old turn next here in
-      let comes = it.1 m k sound means (clean_before next turns new behind now) in
-      let one = one_of (settings old) m k turn (of next) it.0 comes.0 comes.1 sound comes.2 in
-      let rest = served_of next turns new behind now one.next.queue one.next.kept one.sound one.means in
+      let comes = it.2 m k sound means (clean_before next turns new behind now) in
+      let one = one_of gives (settings old) m k (clock_of old) turn (clock_of next) (of next) it.0 it.1 comes.0 comes.1 sound comes.2 in
+      let rest = served_from next turns new behind one.next.queue one.next.kept one.sound one.means now in
       record {
-        turns = turn ∷ rest.turns;
         end = rest.end;
-        answered = (one.next, one.turned, subst (λ s. AreTurns s one.next rest.turns rest.end) (same old turn next here) rest.answered);
+        answered = (one.next, clock_of next, one.turned, subst (λ s. AreTurns gives s one.next (clock_of next) turns rest.end) (same old turn next here) rest.answered);
         sound = rest.sound;
         means = rest.means;
       }
 
+  pub serves_from : (old : H) (turns : List Turn) (new : H) → Answers answers old turns new → ServesFrom gives (settings old) (clock_of old) (of old) turns (of new)
+  serves_from old turns new answered = record {
+    clean = clean_before old turns new answered;
+    served = λ m k sound means now. served_from old turns new answered m k sound means now;
+  }
+
+-- the queue of what the files held is the one that was served
+pub held_by : {C : Type 0} (gives : C → List ℕ → ℕ → C → Type 0) (settings : Settings) (image : Image) (clock : C) (turns : List Turn) (opened new : State)
+    → (HasCleanDisk opened → IsFound image opened) → ServesFrom gives settings clock opened turns new → HasCleanDisk new → ServesHeld gives settings image clock turns new
+held_by gives settings image clock turns opened new found from clean =
+    let it = found (from.clean clean) in
+    record {
+      found = it.found;
+      held = it.held;
+      sound = it.sound;
+      served = elim it.taken [
+        | inl (none, rest) ↦ inl (none, from.served empty_queue [] empty_sound (λ serves. rest) clean)
+        | inr (ours, whole) ↦ inr (ours, λ m k sound rows. from.served m k sound (it.means m k rows) clean)
+      ];
+    }
+
 -- ---- the end
 
-pub ends_with : {W : Type 0} (contents : W → Option (List ℕ)) (out out₂ : Watched W) (plan : ServePlan) (office : Office) → ComesOf plan.files (Ok office)
-    → (status : Status) → Listens contents out out₂ status → Serves contents out out₂ plan status
-ends_with contents out out₂ plan office comes Success told = ((office, comes), told)
-ends_with contents out out₂ plan office comes Fault told = told
-ends_with contents out out₂ plan office comes Usage told = told
+module _ {W : Type 0} (contents : W → Option (List ℕ)) (out out₂ : Watched W) (read written : Timed → Option (List ℕ)) (opens : TcpListener → Option TcpStream → TcpListener → Type 0)
+    {C : Type 0} (gives : C → List ℕ → ℕ → C → Type 0) (image : Image) (plan : ServePlan) (clock : C) where
+  -- what the files say, what was found and what was served are of one office and one database
+  pub serves_by : (status : Status) (said held left : Office) (opened new : State) (shut : Bool) → ComesOf plan.files (Ok said) → held ≡ said → left ≡ held
+      → ((turns : List Turn) × Listens contents out out₂ read written opens plan.connections turns shut status × ServesFrom gives (settings_in held) clock opened turns new)
+      → (HasCleanDisk opened → IsFound image opened) → ServesBy contents out out₂ read written opens gives image plan clock status left new shut
+  serves_by status said held left opened new shut comes is same served found = record {
+    comes = subst (λ (o : Office). ComesOf plan.files (Ok o)) (sym (same ∙ is)) comes;
+    turns = served.0;
+    told = served.1;
+    served = λ clean. subst (λ o. ServesHeld gives (settings_in o) image clock served.0 new) (sym same)
+        (held_by gives (settings_in held) image clock served.0 opened new found served.2 clean);
+  }
+
+  ends_by : (status : Status) (office : Office) (new : State) (shut : Bool) → ServesBy contents out out₂ read written opens gives image plan clock status office new shut → Ends contents out out₂ plan status
+  ends_by Success office new shut by = ((office, by.comes), by.told.0.said)
+  ends_by Fault office new shut by = elim by.told [
+    | inl (none, nothing) ↦ inl nothing
+    | inr (listened, is) ↦ inr listened.said
+  ]
+  ends_by Usage office new shut by = absurd by.told
+
+  no_queue : (status : Status) → status ≡ Fault → out₂ ≡ out → Ends contents out out₂ plan status
+  no_queue status fault same = subst (Ends contents out out₂ plan) (sym fault) (inl (inl same))
+
+  -- however it ends, that is its end
+  pub ends_with : {Q : Type 0} (office_of : Q → Office) (state_of : Q → State) (is_shut : Q → Bool) (status : Status) (left : Option Q)
+      → MatchOption left ((status ≡ Fault) × (out₂ ≡ out)) (λ queue. ServesBy contents out out₂ read written opens gives image plan clock status (office_of queue) (state_of queue) (is_shut queue))
+      → Ends contents out out₂ plan status
+  ends_with office_of state_of is_shut status (Some queue) by = ends_by status (office_of queue) (state_of queue) (is_shut queue) by
+  ends_with office_of state_of is_shut status None (fault, same) = no_queue status fault same

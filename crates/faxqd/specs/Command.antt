@@ -5,7 +5,7 @@ use Rattle.fax_http.specs.declared.device.Watched.{Watched}
 use Rattle.faxqd.specs.List.{Lists}
 use Rattle.faxqd.specs.Replay.{Ends}
 use Rattle.faxqd.specs.Sendfax.{Hands}
-use Rattle.faxqd.specs.Serve.{Serves}
+use Rattle.faxqd.specs.Serve.{Ends as EndsServing}
 use Rattle.fax_text.specs.CommandLine.{IsFixed}
 use Rattle.fax_text.specs.Words.{Reads}
 use Rattle.faxqd.specs.declared.status.Status.{Status}
@@ -33,7 +33,7 @@ module _ {R W : Type 0} (remaining : R → Option (List ℕ)) (contents : W → 
   -- what a plan comes to; only `replay` reads of the input
   abbrev pub CarriesOut : Plan → Status → Type 0
   CarriesOut (Replay files) status = Ends remaining contents reader reader₂ out out₂ files status
-  CarriesOut (Serve plan) status = (reader₂ ≡ reader) × Serves contents out out₂ plan status
+  CarriesOut (Serve plan) status = (reader₂ ≡ reader) × EndsServing contents out out₂ plan status
   CarriesOut (ListJobs plan) status = (reader₂ ≡ reader) × Lists contents out out₂ plan status
   CarriesOut (Sendfax plan) status = (reader₂ ≡ reader) × Hands contents out out₂ plan status
 

@@ -1,4 +1,5 @@
 pub mod Command
+pub mod Connection
 pub mod Database
 pub mod List
 pub mod Moment

@@ -1,54 +1,80 @@
 -- How the command `serve` ends, and what it answers.
-use Rattle.std.specs.Prelude.{◌≡◌, ◌⊎◌, ℕ, false, List, [], ◌∷◌, Option, Ok, codes, ⊤}
+use Rattle.std.specs.Prelude.{◌≡◌, ◌⊎◌, ℕ, Bool, true, false, List, [], ◌∷◌, Option, Ok, codes}
+use Rattle.std.specs.declared.net.tcp.TcpListener.{TcpListener}
+use Rattle.std.specs.declared.net.tcp.TcpStream.{TcpStream}
+use Rattle.sqlite.specs.Effect.{Database, IsDatabase}
 use Rattle.sqlite.specs.State.{State, HasCleanDisk}
+use Rattle.sqlite_wal.specs.Recovery.{Image}
 use Rattle.fax_job.specs.declared.refusal.Refusal.TheVariants.{Unavailable}
 use Rattle.fax_ask.specs.Response.{refused_response}
-use Rattle.fax_core.specs.Queue.{Queue, Entry}
+use Rattle.fax_core.specs.Queue.{Queue, Entry, empty_queue}
 use Rattle.fax_core.specs.Reply.{NoKeys}
 use Rattle.fax_core.specs.Settings.{Settings}
 use Rattle.fax_core.specs.Sound.{Sound}
 use Rattle.fax_decide.specs.declared.office.Office.{Office}
 use Rattle.fax_desk.specs.Desk.{IsArrival}
+use Rattle.fax_desk.specs.Replaying.{settings_in}
 use Rattle.fax_http.specs.Conversation.{Turn}
 use Rattle.fax_http.specs.Device.{BrokeOff, Put}
+use Rattle.fax_http.specs.Message.{fields_of, sole, values_of}
 use Rattle.fax_http.specs.declared.device.Watched.{Watched}
 use Rattle.fax_once.specs.Laws.{left_of}
 use Rattle.fax_once.specs.Run.{Start}
 use Rattle.fax_once.specs.Verdict.{Verdict, IsVerdict, reply_of}
 use Rattle.fax_once.specs.declared.arrival.Arrival.{Arrival}
-use Rattle.fax_store.specs.Store.{Means}
+use Rattle.fax_store.specs.Adopt.{IsOurs}
+use Rattle.fax_store.specs.Store.{Means, RowsFound}
+use Rattle.fax_tables.specs.Schema.{no_tables}
+use Rattle.faxqd.specs.Connection.{AreServed}
+use Rattle.faxqd.specs.Database.{AreHeld}
 use Rattle.faxqd.specs.Office.{ComesOf}
 use Rattle.faxqd.specs.declared.status.Status.{Status}
 use Rattle.faxqd.specs.declared.status.Status.TheVariants.{Success, Fault, Usage}
+use Rattle.faxqd.specs.declared.timed.Timed.{Timed}
 use Rattle.fax_text.specs.declared.server.ServePlan.{ServePlan}
 
--- ---- the connections
+-- ---- messages
 
--- A message is answered as an arrival at some moment: by its verdict, which leads on; or memory or the store gave out, and nothing changes.
-pub record IsTurn (settings : Settings) (start : Start) (turn : Turn) (next : Start) : Type 0 where
-  pub moment : ℕ
-  pub arrival : Arrival
-  pub comes : IsArrival turn.head turn.body moment arrival
-  pub answered :
-      ((v : Verdict) × IsVerdict settings arrival start.queue start.kept v × (turn.reply ≡ reply_of v) × (next ≡ left_of start v))
-      ⊎ ((turn.reply ≡ refused_response Unavailable NoKeys) × (next ≡ start))
+-- what a message says of its moment
+abbrev pub said_in : Turn → List ℕ
+said_in turn = sole (values_of (codes "Fax-Moment") (fields_of turn.head))
 
--- the messages are answered one after the other, and this is what they leave
-abbrev pub AreTurns : Settings → Start → List Turn → Start → Type 0
-AreTurns settings start [] end = end ≡ start
-AreTurns settings start (turn ∷ turns) end = (next : Start) × IsTurn settings start turn next × AreTurns settings next turns end
+module _ {C : Type 0} (gives : C → List ℕ → ℕ → C → Type 0) (settings : Settings) where
+  -- A message is answered as an arrival at the moment that the clock gives: by its verdict, which leads on; or memory or the store gave out, and nothing changes.
+  pub record IsTurn (start : Start) (clock : C) (turn : Turn) (next : Start) (later : C) : Type 0 where
+    pub moment : ℕ
+    pub given : gives clock (said_in turn) moment later
+    pub arrival : Arrival
+    pub comes : IsArrival turn.head turn.body moment arrival
+    pub answered :
+        ((v : Verdict) × IsVerdict settings arrival start.queue start.kept v × (turn.reply ≡ reply_of v) × (next ≡ left_of start v))
+        ⊎ ((turn.reply ≡ refused_response Unavailable NoKeys) × (next ≡ start))
 
--- the messages of all connections were answered one after the other, from this queue and these kept replies on
-pub record HasServed (settings : Settings) (m : Queue) (k : List Entry) (new : State) : Type 0 where
-  pub turns : List Turn
-  pub end : Start
-  pub answered : AreTurns settings (record { queue = m; kept = k }) turns end
-  pub sound : Sound end.queue
-  pub means : Means new end.queue end.kept
+  -- the messages are answered one after the other, and this is what they leave
+  abbrev pub AreTurns : Start → C → List Turn → Start → Type 0
+  AreTurns start clock [] end = end ≡ start
+  AreTurns start clock (turn ∷ turns) end = (next : Start) × (later : C) × IsTurn start clock turn next later × AreTurns next later turns end
 
--- from a store that means a sound queue
-abbrev pub ServesFrom : Settings → State → State → Type 0
-ServesFrom settings old new = HasCleanDisk new → (m : Queue) (k : List Entry) → Sound m → Means old m k → HasServed settings m k new
+  -- these messages were answered one after the other, from this queue and these kept replies on
+  pub record HasServed (m : Queue) (k : List Entry) (clock : C) (turns : List Turn) (new : State) : Type 0 where
+    pub end : Start
+    pub answered : AreTurns (record { queue = m; kept = k }) clock turns end
+    pub sound : Sound end.queue
+    pub means : Means new end.queue end.kept
+
+  -- From a store that means a sound queue they were. Where the disk has returned what was written, it had before.
+  pub record ServesFrom (clock : C) (old : State) (turns : List Turn) (new : State) : Type 0 where
+    pub clean : HasCleanDisk new → HasCleanDisk old
+    pub served : (m : Queue) (k : List Entry) → Sound m → Means old m k → HasCleanDisk new → HasServed m k clock turns new
+
+  -- So they were from what a database's files held: from an empty queue where that had no tables, or from the one that its rows mean.
+  pub record ServesHeld (image : Image) (clock : C) (turns : List Turn) (new : State) : Type 0 where
+    pub found : Database
+    pub held : AreHeld image found.trees
+    pub sound : IsDatabase found
+    pub served :
+        ((found.schema ≡ no_tables) × HasServed empty_queue [] clock turns new)
+        ⊎ (IsOurs found × ((m : Queue) (k : List Entry) → Sound m → RowsFound found.trees m k → HasServed m k clock turns new))
 
 -- ---- the end
 
@@ -57,14 +83,35 @@ abbrev pub listening : List ℕ
 listening = codes "faxqd: listening\n"
 
 module _ {W : Type 0} (contents : W → Option (List ℕ)) (out out₂ : Watched W) where
-  -- it says that it listens and succeeds; or it doesn't listen, or the output failed
-  abbrev pub Listens : Status → Type 0
-  Listens Success = Put contents out out₂ listening false
-  Listens Fault = (out₂ ≡ out) ⊎ BrokeOff contents out out₂ listening
-  Listens Usage = ⊥
+  -- it said nothing
+  abbrev pub SaidNothing : Type 0
+  SaidNothing = (out₂ ≡ out) ⊎ BrokeOff contents out out₂ listening
 
-  -- where it succeeds, the files say an office
-  abbrev pub Serves : ServePlan → Status → Type 0
-  Serves plan Success = ((office : Office) × ComesOf plan.files (Ok office)) × Listens Success
-  Serves plan Fault = Listens Fault
-  Serves plan Usage = ⊥
+  -- where it succeeds, the files say an office, and it said that it listens
+  abbrev pub Ends : ServePlan → Status → Type 0
+  Ends plan Success = ((office : Office) × ComesOf plan.files (Ok office)) × Put contents out out₂ listening false
+  Ends plan Fault = SaidNothing ⊎ Put contents out out₂ listening false
+  Ends plan Usage = ⊥
+
+  module _ (read written : Timed → Option (List ℕ)) (opens : TcpListener → Option TcpStream → TcpListener → Type 0) where
+    -- it said that it listens, and so many connections were served, or as many as came before the store was shut
+    pub record HasListened (count : ℕ) (turns : List Turn) (shut : Bool) : Type 0 where
+      pub said : Put contents out out₂ listening false
+      pub door : TcpListener
+      pub last : TcpListener
+      pub before : Bool
+      pub served : AreServed read written opens count door before turns last shut
+
+    -- it succeeds where all connections were served; else it doesn't listen, or the output failed, or the store was shut
+    abbrev pub Listens : ℕ → List Turn → Bool → Status → Type 0
+    Listens count turns shut Success = HasListened count turns shut × (shut ≡ false)
+    Listens count turns shut Fault = ((turns ≡ []) × SaidNothing) ⊎ (HasListened count turns shut × (shut ≡ true))
+    Listens count turns shut Usage = ⊥
+
+    module _ {C : Type 0} (gives : C → List ℕ → ℕ → C → Type 0) (image : Image) (plan : ServePlan) (clock : C) (status : Status) where
+      -- It served by the office that the files say, from what the database's files held on, each message at the moment that the clock gave.
+      pub record ServesBy (office : Office) (new : State) (shut : Bool) : Type 0 where
+        pub comes : ComesOf plan.files (Ok office)
+        pub turns : List Turn
+        pub told : Listens plan.connections turns shut status
+        pub served : HasCleanDisk new → ServesHeld gives (settings_in office) image clock turns new

@@ -8,7 +8,7 @@ use crate::replay::replay;
 use crate::sendfax::sendfax;
 use crate::serve::serve;
 use crate::status::{Status, fail};
-use fax_http::Watched;
+use fax_http::{MachineClock, Watched};
 use fax_text::{Plan, WordsFault, read_words};
 use sqlite::Start;
 use std::io::{ErrorKind, Read, Write};
@@ -49,7 +49,7 @@ fn carry_out<S: Start, R: Read + Drop, W: Write + Drop, E: Write>(
 {
     match plan {
         Plan::Replay(files) => replay(rt, files, reader, out, err),
-        Plan::Serve(plan) => serve(rt, plan, start, out, err),
+        Plan::Serve(plan) => serve(rt, plan, MachineClock::new(rt), start, out, err).0,
         Plan::List(plan) => list(rt, plan, start, out, err),
         Plan::Sendfax(plan) => sendfax(rt, &plan, out, err),
     }

@@ -1,11 +1,12 @@
 //! One connection, whose peer has only so much time.
 ghost use Rattle.fax_http.specs.Conversation.{Turn};
 ghost use Rattle.fax_http.specs.Serving.{Answers};
-ghost use Rattle.std.specs.Prelude.{◌≡◌, List};
+ghost use Rattle.std.specs.Prelude.{◌≡◌, false, List};
+ghost use Rattle.faxqd.specs.Connection.{Carries};
 
 use crate::timed::Timed;
 use fax_http::{Bounds, End, Handler, Watched};
-use std::io::Read;
+use std::io::{Read, Write};
 use std::net::{Shutdown, TcpStream};
 use std::time::Duration;
 
@@ -21,36 +22,29 @@ const LEAVE_LIMIT: u64 = 1;
 /// The most reads meanwhile.
 const LEAVE_READS: u32 = 64;
 
-/// Serves one connection to its end, or until its time is over. A read or a write waits `timeout` seconds at most, and the
-/// connection has six times as long.
+/// Serves one connection to its end, until its time is over or the handler is. A read or a write waits `timeout` seconds at
+/// most, and the connection has six times as long.
 pub fn serve_connection<H: Handler>(
     rt: &HostRuntime,
     stream: &TcpStream,
     timeout: u64,
     handler: &mut H,
 )
-    ensures { (turns : List Turn) × Answers H.answers handler.old turns handler.new }
+    requires { H.over handler.old ≡ false }
+    ensures { (turns : List Turn)
+        × Carries ⟦<Timed<'static> as Read>⟧.remaining ⟦<Timed<'static> as Write>⟧.contents stream.now turns (H.over handler.new)
+        × Answers H.answers handler.old turns handler.new }
 {
     // A reply's head and body go out at once.
     let _ = stream.set_nodelay(true);
     let wait = Duration::from_secs(timeout);
     let whole = Duration::from_secs(timeout.saturating_mul(WHOLE_FACTOR));
-    let Ok(reader) = Timed::new(rt, stream, wait, whole) else {
-        return;
-    };
-    let Ok(writer) = Timed::new(rt, stream, wait, whole) else {
-        return;
-    };
+    let mut reader = Watched::new(Timed::new(rt, stream, wait, whole));
+    let mut writer = Watched::new(Timed::new(rt, stream, wait, whole));
     let bounds = Bounds {
         messages: MESSAGE_LIMIT,
     };
-    let served = fax_http::serve(
-        rt.alloc(),
-        &mut Watched::new(reader),
-        &mut Watched::new(writer),
-        handler,
-        bounds,
-    );
+    let served = fax_http::serve(rt.alloc(), &mut reader, &mut writer, handler, bounds);
     match served.end {
         End::ReadFailed | End::WriteFailed { .. } => {}
         End::Closed | End::Bad | End::Bound | End::NoMemory => take_leave(rt, stream),
@@ -62,9 +56,7 @@ pub fn serve_connection<H: Handler>(
 fn take_leave(rt: &HostRuntime, stream: &TcpStream) {
     let _ = stream.shutdown(Shutdown::Write);
     let wait = Duration::from_secs(LEAVE_LIMIT);
-    let Ok(mut end) = Timed::new(rt, stream, wait, wait) else {
-        return;
-    };
+    let mut end = Timed::new(rt, stream, wait, wait);
     let mut piece = [0; 4_096];
     for _ in 0..LEAVE_READS {
         let Ok(count) = end.read(&mut piece) else {

@@ -1,5 +1,5 @@
 //! The queue in a file.
-ghost use Rattle.std.specs.Prelude.{◌≡◌, IfOk};
+ghost use Rattle.std.specs.Prelude.{◌≡◌, false, IfOk};
 ghost use Rattle.sqlite.specs.Files.{file_state};
 ghost use Rattle.sqlite.specs.State.{HasCleanDisk};
 ghost use Rattle.sqlite_wal.specs.Files.{image_at};
@@ -35,7 +35,8 @@ impl From<Error> for OpenFault {
     }
 }
 
-/// The queue in the file of this name, by that office. Where the file has no tables yet, it gets those of an empty queue.
+/// The queue in the file of this name, by that office. Where the file has no tables yet, it gets those of an empty queue;
+/// else it keeps its rows, and the queue is the one that they mean.
 pub fn open_queue<S: Start>(
     rt: &HostRuntime,
     name: &str,
@@ -43,6 +44,7 @@ pub fn open_queue<S: Start>(
     office: Office,
 ) -> Result<Queue<FileStore<FileFrom<S>>>, OpenFault>
     ensures office { IfOk result (λ queue. queue.office ≡ office) }
+    ensures open { IfOk result (λ queue. queue.is_shut ≡ false) }
     ensures found { IfOk result (λ queue. HasCleanDisk (file_state queue.store.conn)
         → IsFound (image_at S.Start) (file_state queue.store.conn)) }
 {

@@ -4,6 +4,7 @@
 mod command;
 mod connection;
 mod database;
+mod door;
 mod list;
 mod moment;
 mod office;

@@ -127,12 +127,8 @@ fn send(rt: &HostRuntime, address: &str, text: &[u8]) -> Result<Answer, AnswerFa
     };
     let wait = Duration::from_secs(WAIT_LIMIT);
     let whole = Duration::from_secs(WHOLE_LIMIT);
-    let Ok(mut writer) = Timed::new(rt, &stream, wait, whole) else {
-        return Err(AnswerFault::NoReply);
-    };
-    let Ok(reader) = Timed::new(rt, &stream, wait, whole) else {
-        return Err(AnswerFault::NoReply);
-    };
+    let mut writer = Timed::new(rt, &stream, wait, whole);
+    let reader = Timed::new(rt, &stream, wait, whole);
     let _ = writer.write_all(text);
     read_answer(rt.alloc(), &mut Watched::new(reader))
 }

@@ -1,4 +1,5 @@
 //! One end of a connection, whose peer has only so much time.
+ghost use Rattle.std.specs.Prelude.{◌≡◌};
 
 use std::io::{self, ErrorKind, Read, Write};
 use std::net::TcpStream;
@@ -12,40 +13,41 @@ pub struct Timed<'c> {
     stream: &'c TcpStream,
     /// How long one read or write may wait.
     wait: Duration,
-    begun: Instant,
+    /// When the connection began, where the machine's clock could be read.
+    begun: Option<Instant>,
     /// How long the connection may take, from when it was begun.
     whole: Duration,
 }
 
 impl<'c> Timed<'c> {
     /// The end of a connection that begins now.
-    ///
-    /// # Errors
-    ///
-    /// The clock's own.
     pub fn new(
         rt: &'c HostRuntime,
         stream: &'c TcpStream,
         wait: Duration,
         whole: Duration,
-    ) -> io::Result<Timed<'c>> {
-        let begun = Instant::now(rt)?;
-        Ok(Timed {
+    ) -> Timed<'c>
+        ensures { result.stream.now ≡ stream.now }
+    {
+        Timed {
             rt,
             stream,
             wait,
-            begun,
+            begun: Instant::now(rt).ok(),
             whole,
-        })
+        }
     }
 
     /// How long the next read or write may wait.
     ///
     /// # Errors
     ///
-    /// `TimedOut` where the connection's time is over, or the clock's own error.
+    /// `TimedOut` where the connection's time is over, or there is no clock to tell it.
     fn time_left(&self) -> io::Result<Duration> {
-        let taken = self.begun.elapsed(self.rt)?;
+        let Some(begun) = self.begun else {
+            return Err(ErrorKind::TimedOut.into());
+        };
+        let taken = begun.elapsed(self.rt)?;
         match self.whole.checked_sub(taken) {
             Some(left) if !left.is_zero() => Ok(left.min(self.wait)),
             _ => Err(ErrorKind::TimedOut.into()),

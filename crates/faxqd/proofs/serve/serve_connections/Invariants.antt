@@ -1,8 +1,10 @@
-use Rattle.std.proofs.Common.{List}
-use Rattle.fax_http.specs.Conversation.{Turn}
-use Rattle.fax_http.specs.Serving.{Answers}
+use Rattle.std.specs.declared.io.traits.Read.{remaining-default}
+use Rattle.std.specs.declared.io.traits.Write.{contents-default}
+use Rattle.faxqd.specs.declared.timed.Timed.{Timed}
+use Rattle.faxqd.proofs.ServeLemmas.{SoFar}
 use Rattle.faxqd.proofs.serve.serve_connections.Given as goal
 
--- the connections so far were answered
+-- the connections so far were served
 abbrev pub invariant-loop : goal.invariant-loop
-invariant-loop g l = (turns : List Turn) × Answers g.H.Handler.answers l.initial.handler turns l.handler
+invariant-loop g l =
+    SoFar (remaining-default Timed) (contents-default Timed) g.D.Door.opens g.H.Handler.answers g.H.Handler.over l.initial.door l.initial.handler l.counter l.door l.handler

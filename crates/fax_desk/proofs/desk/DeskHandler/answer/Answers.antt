@@ -6,6 +6,7 @@ pub returns : goal.returns
 returns g c head body parts = (
   c.handle.ensures.office,
   c.handle.ensures.clean,
+  c.handle.ensures.shut,
   (
     c.moment-moment.result,
     subst (λ (said : List ℕ). g.C.Clock.gives c.args.self.now.clock said c.moment-moment.result c.moment-moment.new.self) parts.moment c.moment-moment.ensures,

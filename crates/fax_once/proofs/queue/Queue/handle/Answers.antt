@@ -1,14 +1,21 @@
 use Rattle.std.proofs.Common.{inl, inr}
 use Rattle.sqlite.specs.Held.{state}
 use Rattle.fax_decide.specs.Settings.{settings_of}
+use Rattle.fax_store.proofs.StoreLemmas.{means_stay}
 use Rattle.fax_once.proofs.AcceptedLemmas.{stays_sound}
+use Rattle.fax_once.proofs.VerdictLemmas.{gives_out, idle_by}
 use Rattle.fax_once.proofs.queue.Queue.handle.Goals as goal
 
 pub returns-in-Ok-clause-handled : goal.returns-in-Ok-clause-handled
 returns-in-Ok-clause-handled g c m k sound means clean = inl (c.in-Ok.ensures.answered m k sound means clean)
 
 pub returns-in-Err-clause-handled : goal.returns-in-Err-clause-handled
-returns-in-Err-clause-handled g c m k sound means clean = inr (c.refused.ensures, c.in-Err.ensures.answered m k sound means clean)
+returns-in-Err-clause-handled g c m k sound means clean =
+    inr (
+      c.refused.ensures,
+      gives_out (state g.S.Store c.is_shut.new.self.conn) m k clean
+          (means_stay c.is_shut.ensures.served c.is_shut.ensures.stays m k (c.in-Err.ensures.answered m k sound means (c.is_shut.ensures.clean clean))),
+    )
 
 pub returns-in-Ok-clause-sound : goal.returns-in-Ok-clause-sound
 returns-in-Ok-clause-sound g c m k sound means clean =
@@ -17,14 +24,33 @@ returns-in-Ok-clause-sound g c m k sound means clean =
 
 pub returns-in-Err-clause-sound : goal.returns-in-Err-clause-sound
 returns-in-Err-clause-sound g c m k sound means clean =
-    stays_sound (settings_of c.args.self.now.office.setup c.args.self.now.office.controls) c.args.arrival.now m k c.refused.result (state g.S.Store c.answer.new.self.store.conn) sound
-    (inr (c.refused.ensures, c.in-Err.ensures.answered m k sound means clean))
+    stays_sound (settings_of c.args.self.now.office.setup c.args.self.now.office.controls) c.args.arrival.now m k c.refused.result (state g.S.Store c.is_shut.new.self.conn) sound
+    (returns-in-Err-clause-handled g c m k sound means clean)
 
 pub returns-in-Err-clause-refused : goal.returns-in-Err-clause-refused
-returns-in-Err-clause-refused g c refused = c.in-Err.ensures.unchanged tt
+returns-in-Err-clause-refused g c refused db six rests = c.is_shut.ensures.stays db six (c.in-Err.ensures.unchanged tt db six rests)
+
+pub returns-in-Err-clause-seen : goal.returns-in-Err-clause-seen
+returns-in-Err-clause-seen g c get db six rests = c.is_shut.ensures.stays db six (c.in-Err.ensures.seen get db six rests)
+
+pub returns-in-Err-clause-repeated : goal.returns-in-Err-clause-repeated
+returns-in-Err-clause-repeated g c db six rests used = c.is_shut.ensures.stays db six (c.in-Err.ensures.repeated db six rests used)
+
+pub returns-in-Err-clause-crash : goal.returns-in-Err-clause-crash
+returns-in-Err-clause-crash g c m k sound means found may = c.in-Err.ensures.crash m k sound means found (c.is_shut.ensures.crash found may)
+
+pub returns-in-Ok-clause-idle : goal.returns-in-Ok-clause-idle
+returns-in-Ok-clause-idle g c m k sound means serves =
+    idle_by (settings_of c.args.self.now.office.setup c.args.self.now.office.controls) c.args.arrival.now m k c.in-Ok.reply (state g.S.Store c.answer.new.self.store.conn)
+    (inl (c.in-Ok.ensures.answered m k sound means serves.clean)) serves
+
+pub returns-in-Err-clause-idle : goal.returns-in-Err-clause-idle
+returns-in-Err-clause-idle g c m k sound means serves =
+    idle_by (settings_of c.args.self.now.office.setup c.args.self.now.office.controls) c.args.arrival.now m k c.refused.result (state g.S.Store c.is_shut.new.self.conn)
+    (returns-in-Err-clause-handled g c m k sound means serves.clean) serves
 
 pub returns-in-Ok-clause-alone : goal.returns-in-Ok-clause-alone
 returns-in-Ok-clause-alone g c serves found leaves = g.met.S.Store.settled c.answer.new.self.store.conn.store found serves.is_open leaves
 
 pub returns-in-Err-clause-alone : goal.returns-in-Err-clause-alone
-returns-in-Err-clause-alone g c serves found leaves = g.met.S.Store.settled c.answer.new.self.store.conn.store found serves.is_open leaves
+returns-in-Err-clause-alone g c serves found leaves = g.met.S.Store.settled c.is_shut.new.self.conn.store found serves.is_open leaves

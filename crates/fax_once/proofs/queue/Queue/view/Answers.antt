@@ -1,3 +1,6 @@
+use Rattle.sqlite.specs.Held.{state}
+use Rattle.fax_decide.specs.Settings.{settings_of}
+use Rattle.fax_once.proofs.StopLemmas.{gets_nothing}
 use Rattle.fax_once.proofs.queue.Queue.view.Goals as goal
 
 pub returns-clause-viewed : goal.returns-clause-viewed
@@ -5,3 +8,8 @@ returns-clause-viewed g c m k sound means clean = (c.get-arrival.result, c.get-a
 
 pub returns-clause-stays : goal.returns-clause-stays
 returns-clause-stays g c = c.handle.ensures.seen c.get-arrival.ensures.method
+
+pub returns-clause-crash : goal.returns-clause-crash
+returns-clause-crash g c m k sound means =
+    gets_nothing (settings_of c.args.self.now.office.setup c.args.self.now.office.controls) c.get-arrival.result m k (state g.S.Store c.args.self.now.store.conn) (state g.S.Store c.handle.new.self.store.conn)
+    c.get-arrival.ensures.method (c.handle.ensures.crash m k sound means)
