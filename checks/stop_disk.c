@@ -1,8 +1,9 @@
 /* Preloaded into the program. Each call that makes, changes or syncs a file of the folder DISK_FOLDER, or syncs the
  * folder itself, is told in the file DISK_JOURNAL before it is made: a line with its kind, the file's name, a place and
  * a count, and so many bytes behind it. A line with its result follows. At call number DISK_STOP the process ends with
- * status 77, and the call is told and not made. Calls count from when the file DISK_ARMED is there. No sync is made,
- * and what is drawn at random is the same each time. */
+ * status 77, and the call is told and not made. Where DISK_ERROR is set, that call fails with this error instead, and so
+ * do those behind it, DISK_TIMES of them in all or one. Calls count from when the file DISK_ARMED is there; where
+ * DISK_KIND is set, only those of this kind count. No sync is made, and what is drawn at random is the same each time. */
 #define _GNU_SOURCE
 #include <errno.h>
 #include <fcntl.h>
@@ -56,17 +57,38 @@ static const char *opened(int file) {
     return within(path);
 }
 
-static void begin(const char *kind, const char *name, off_t place, const void *bytes, size_t count) {
+/* The number that a setting says, or another where it isn't set. */
+static long number_in(const char *name, long otherwise) {
+    const char *text = getenv(name);
+    return text == NULL ? otherwise : atol(text);
+}
+
+/* Whether this call is one that fails, or at which the process ends. */
+static int is_chosen(const char *kind) {
     static long calls;
+    const char *counted = getenv("DISK_KIND");
+    if ((counted != NULL && strcmp(counted, kind) != 0) || access(setting("DISK_ARMED"), F_OK) != 0) {
+        return 0;
+    }
+    long place = ++calls - atol(setting("DISK_STOP"));
+    return place >= 0 && place < number_in("DISK_TIMES", 1);
+}
+
+/* Tells the call; gives whether it is to fail. */
+static int begin(const char *kind, const char *name, off_t place, const void *bytes, size_t count) {
     char line[4200];
     int length = snprintf(line, sizeof line, "%s %s %lld %zu\n", kind, name, (long long)place, count);
     tell(line, (size_t)length);
     if (count > 0) {
         tell(bytes, count);
     }
-    if (access(setting("DISK_ARMED"), F_OK) == 0 && ++calls == atol(setting("DISK_STOP"))) {
+    if (!is_chosen(kind)) {
+        return 0;
+    }
+    if (getenv("DISK_ERROR") == NULL) {
         _exit(STOPPED);
     }
+    return 1;
 }
 
 static long end(long result) {
@@ -77,12 +99,19 @@ static long end(long result) {
     return result;
 }
 
+static long fail(void) {
+    errno = (int)number_in("DISK_ERROR", EIO);
+    return end(-1);
+}
+
 ssize_t pwrite(int file, const void *bytes, size_t count, off_t place) {
     const char *name = opened(file);
     if (name == NULL) {
         return syscall(SYS_pwrite64, file, bytes, count, place);
     }
-    begin("write", name, place, bytes, count);
+    if (begin("write", name, place, bytes, count)) {
+        return fail();
+    }
     return end(syscall(SYS_pwrite64, file, bytes, count, place));
 }
 
@@ -93,7 +122,9 @@ ssize_t write(int file, const void *bytes, size_t count) {
     if (name == NULL) {
         return syscall(SYS_write, file, bytes, count);
     }
-    begin("write", name, lseek(file, 0, SEEK_CUR), bytes, count);
+    if (begin("write", name, lseek(file, 0, SEEK_CUR), bytes, count)) {
+        return fail();
+    }
     return end(syscall(SYS_write, file, bytes, count));
 }
 
@@ -102,7 +133,9 @@ int ftruncate(int file, off_t length) {
     if (name == NULL) {
         return (int)syscall(SYS_ftruncate, file, length);
     }
-    begin("cut", name, length, NULL, 0);
+    if (begin("cut", name, length, NULL, 0)) {
+        return (int)fail();
+    }
     return (int)end(syscall(SYS_ftruncate, file, length));
 }
 
@@ -113,7 +146,9 @@ int fsync(int file) {
     if (name == NULL) {
         return (int)syscall(SYS_fsync, file);
     }
-    begin("sync", name, 0, NULL, 0);
+    if (begin("sync", name, 0, NULL, 0)) {
+        return (int)fail();
+    }
     return (int)end(0);
 }
 
@@ -131,7 +166,9 @@ int open(const char *path, int flags, ...) {
     if (name == NULL || !(flags & O_CREAT) || access(path, F_OK) == 0) {
         return (int)syscall(SYS_openat, AT_FDCWD, path, flags, mode);
     }
-    begin("make", name, 0, NULL, 0);
+    if (begin("make", name, 0, NULL, 0)) {
+        return (int)fail();
+    }
     return (int)end(syscall(SYS_openat, AT_FDCWD, path, flags, mode));
 }
 
@@ -142,7 +179,9 @@ int unlink(const char *path) {
     if (name == NULL) {
         return (int)syscall(SYS_unlinkat, AT_FDCWD, path, 0);
     }
-    begin("unlink", name, 0, NULL, 0);
+    if (begin("unlink", name, 0, NULL, 0)) {
+        return (int)fail();
+    }
     return (int)end(syscall(SYS_unlinkat, AT_FDCWD, path, 0));
 }
 
@@ -151,7 +190,9 @@ int rename(const char *from, const char *to) {
     if (name == NULL) {
         return (int)syscall(SYS_renameat2, AT_FDCWD, from, AT_FDCWD, to, 0);
     }
-    begin("rename", name, 0, NULL, 0);
+    if (begin("rename", name, 0, NULL, 0)) {
+        return (int)fail();
+    }
     return (int)end(syscall(SYS_renameat2, AT_FDCWD, from, AT_FDCWD, to, 0));
 }
 

@@ -2,13 +2,13 @@
 # client.sh FOLDER [FILE]: hands in a fax, and says the number of its job. FILE has the key lines, as `number:5550111`
 # and `totpages:3`. FOLDER keeps the client's request numbers and what isn't answered yet: one folder for each client.
 #
-#   FAXQD=http://127.0.0.1:4560 CLIENT=desk examples/client.sh /var/spool/desk fax.txt
+#   FAXQD=http://127.0.0.1:4559 CLIENT=desk examples/client.sh /var/spool/desk fax.txt
 #
 # It asks until there is an answer, however often the line fails, and the fax is taken once. Where it was stopped
 # before, `client.sh FOLDER` alone goes on with what is left.
 set -eu
 folder=$1
-server=${FAXQD:-http://127.0.0.1:4560}
+server=${FAXQD:-http://127.0.0.1:4559}
 client=${CLIENT:-desk}
 limit=${LIMIT:-10} # seconds until a request without a reply counts as lost
 pause=${PAUSE:-2}  # seconds before it is sent again

@@ -1,7 +1,7 @@
 #!/bin/sh
 # worker.sh MODEM FOLDER COMMAND: sends the faxes of one modem, for ever. FOLDER keeps the worker's last request.
 #
-#   FAXQD=http://127.0.0.1:4560 examples/worker.sh ttyS0 /var/spool/ttyS0 ./modem
+#   FAXQD=http://127.0.0.1:4559 examples/worker.sh ttyS0 /var/spool/ttyS0 ./modem
 #
 # The command is yours, and is called in these ways:
 #
@@ -10,7 +10,7 @@
 #   COMMAND hangup          ends the call, where there is one
 set -eu
 modem=$1 folder=$2 command=$3
-server=${FAXQD:-http://127.0.0.1:4560}
+server=${FAXQD:-http://127.0.0.1:4559}
 limit=${LIMIT:-10} # seconds until a request without a reply counts as lost
 pause=${PAUSE:-2}  # seconds before it is sent again
 wait=${WAIT:-15}   # seconds between two questions for work: the queue keeps the answer to each

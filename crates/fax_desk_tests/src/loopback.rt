@@ -1,9 +1,9 @@
 //! Both ends of connections over loopback, in one process.
 use crate::queues::empty_queue;
 use fax_desk::Desk;
-use fax_http::{Bounds, End, SaidClock, Served, Watched, serve};
+use fax_http::{Bounds, End, Handler, SaidClock, Served, Watched, serve};
 use sqlite::MemStore;
-use std::io::{self, Read, Write};
+use std::io::{self, ErrorKind, Read, Write};
 use std::net::{TcpListener, TcpStream};
 use std::test::Fail;
 
@@ -41,6 +41,9 @@ fn serve_next(
     let mut reader = Watched::new(Side { stream: &stream });
     let mut writer = Watched::new(Side { stream: &stream });
     let bounds = Bounds { messages: 1_000 };
+    if desk.is_over() {
+        return Err(ErrorKind::Other.into());
+    }
     Ok(serve(rt.alloc(), &mut reader, &mut writer, desk, bounds))
 }
 

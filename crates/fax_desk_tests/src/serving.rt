@@ -1,7 +1,7 @@
 //! Streams that come in pieces, readers and writers that fail.
 use crate::queues::empty_queue;
 use fax_desk::Desk;
-use fax_http::{Bounds, End, SaidClock, Served, Watched, serve};
+use fax_http::{Bounds, End, Handler, SaidClock, Served, Watched, serve};
 use sqlite::MemStore;
 use std::alloc::Global;
 use std::io::{self, ErrorKind, Read, Write};
@@ -73,6 +73,9 @@ fn ends(
         left: room,
     });
     let bounds = Bounds { messages: 1_000 };
+    if desk.is_over() {
+        return false;
+    }
     serve(alloc, &mut reader, &mut writer, desk, bounds) == served
         && writer.device().bytes.as_slice() == written.as_bytes()
         && writer.passed() == written.len() as u128
