@@ -1,12 +1,14 @@
 -- Which job is the best: the first that may go among the waiting jobs in the order of the choice.
 use Rattle.std.proofs.Common.{◌≡◌, ◌⊎◌, inl, inr, ℕ, zero, suc, ◌+◌, ◌<◌, Bool, true, false, not, cond, ◌&&◌, ◌||◌, eqb, leb, ltb, All, List, [], ◌∷◌, ◌++◌, map, get_or, refl, sym, ap, ap₂, subst, ◌∙◌, arith, append_assoc, drop, take-append-drop}
-use Rattle.std.specs.Prelude.{Option, Some, None, find, filter, nat_lt}
+use Rattle.std.specs.Prelude.{Option, Some, None, IsTrue, find, filter, is_some, nat_lt}
+use Rattle.std.specs.Str.{bytes_eq}
 use Rattle.std.specs.List.Sorted.{IsPermutation, IsSortedBy}
 use Rattle.std.specs.Option.{option_map}
-use Rattle.std.proofs.lemmas.Bool.{and_parts, eqb-true, not-true, true≢false}
+use Rattle.std.proofs.lemmas.Bool.{and_parts, eqb-true, not-false, not-true, true≢false}
 use Rattle.std.proofs.lemmas.Option.{none-some, same_Some}
 use Rattle.std.proofs.lemmas.Bool.Decides.{nat_tests}
 use Rattle.std.proofs.lemmas.List.Sorted.{IsPermutation-sym, All-permutation}
+use Rattle.std.proofs.lemmas.Slice.Eq.{bytes_eq-Decides}
 use Rattle.fax_job.specs.Status.{kill_time_expired}
 use Rattle.fax_job.specs.declared.job.JobFields.{JobFields}
 use Rattle.fax_job.specs.declared.job.Phase.{Phase}
@@ -25,10 +27,11 @@ use Rattle.fax_core.proofs.StepLemmas.{aged_sound}
 use Rattle.fax_tables.specs.Job.{IsLawfulJob}
 use Rattle.sqlite.specs.Order.{Row}
 use Rattle.fax_tables.specs.declared.prospect.Prospect.{Prospect}
-use Rattle.fax_store.specs.Candidates.{Gives, IsProspect, StandsAt, is_behind}
+use Rattle.fax_store.specs.Candidates.{AreAsked, Gives, IsProspect, StandsAt, is_behind, is_other}
+use Rattle.fax_store.specs.declared.candidates.Asked.{Asked}
 use Rattle.fax_store.specs.declared.candidates.Front.{Front}
 use Rattle.fax_store.specs.Job.{AreWaiting}
-use Rattle.fax_decide.specs.Choice.{IsFirst}
+use Rattle.fax_decide.specs.Choice.{IsBusy, IsFirst, IsFirstAsked}
 use Rattle.fax_decide.specs.State.{may_call}
 use Rattle.fax_decide.proofs.CallLemmas.{state_aged}
 
@@ -273,16 +276,20 @@ module _ (s : Settings) (m : Queue) (t : ℕ) (modem : List ℕ) (sound : Sound 
 -- ---- candidates
 
 -- the candidates that were given so far, none of which may go
-abbrev pub NoneWent : (Job → Bool) → ℕ → Queue → List Row → Front → ℕ → Type 0
-NoneWent p t m page front most = (given : List Job) × StandsAt t m given page front most × (find p given ≡ None)
+abbrev pub NoneWent : (Job → Bool) → Asked → Queue → List Row → Front → ℕ → Type 0
+NoneWent p asked m page front most = (given : List Job) × StandsAt asked m given page front most × (find p given ≡ None)
 
 -- what is given next
-pub next_given : (p : Job → Bool) (t s : ℕ) (m : Queue) (page after : List Row) (front then : Front) (most more : ℕ) (o : Option Prospect) → s ≡ t → NoneWent p t m page front most
-    → ((given : List Job) → StandsAt s m given page front most → Gives IsProspect s m given after then more o) → (given : List Job) × Gives IsProspect t m given after then more o × (find p given ≡ None)
-next_given p t s m page after front then most more o same none next =
-    (none.0, subst (λ (x : ℕ). Gives IsProspect x m none.0 after then more o) same (next none.0 (subst (λ (x : ℕ). StandsAt x m none.0 page front most) (sym same) none.1)), none.2)
+pub next_given : (p : Job → Bool) (asked now : Asked) (m : Queue) (page after : List Row) (front then : Front) (most more : ℕ) (o : Option Prospect) → now ≡ asked → NoneWent p asked m page front most
+    → ((given : List Job) → StandsAt now m given page front most → Gives IsProspect now m given after then more o) → (given : List Job) × Gives IsProspect asked m given after then more o × (find p given ≡ None)
+next_given p asked now m page after front then most more o same none next =
+    (none.0, subst (λ (x : Asked). Gives IsProspect x m none.0 after then more o) same (next none.0 (subst (λ (x : Asked). StandsAt x m none.0 page front most) (sym same) none.1)), none.2)
 
-module _ (t : ℕ) (m : Queue) (given : List Job) (j : Job) (page : List Row) (front : Front) (most : ℕ) (h : StandsAt t m (given ++ j ∷ []) page front most) where
+-- each that is asked for waits, so it is due
+asked_due : (asked : Asked) (m : Queue) (jobs : List Job) (j : Job) → AreAsked asked m jobs → In j jobs → is_due j asked.t ≡ true
+asked_due asked m jobs j w i = (waiting_due m asked.t w.all w.waiting j (of_filter (is_other asked.but) w.all j (subst (In j) w.is i)).0).1
+
+module _ (asked : Asked) (m : Queue) (given : List Job) (j : Job) (page : List Row) (front : Front) (most : ℕ) (h : StandsAt asked m (given ++ j ∷ []) page front most) where
   abbrev rest : List Job
   rest = h.read ++ filter (is_behind front) h.all
 
@@ -294,10 +301,48 @@ module _ (t : ℕ) (m : Queue) (given : List Job) (j : Job) (page : List Row) (f
   in_amid (x ∷ xs) = inr (in_amid xs)
 
   -- the one that is given is due
-  pub given_due : is_due j t ≡ true
-  given_due = (waiting_due m t h.all h.waiting j (subst (In j) (sym amid) (in_amid given))).1
+  pub given_due : is_due j asked.t ≡ true
+  given_due = asked_due asked m h.all j h.waiting (subst (In j) (sym amid) (in_amid given))
 
   -- where it may go, and none before it may, it is the first that may
-  pub went : (s : Settings) (modem : List ℕ) → find (may_go s m t modem) given ≡ None → may_go s m t modem j ≡ true → IsFirst s m t modem (Some j.number)
+  pub went : (s : Settings) (modem : List ℕ) → find (may_go s m asked.t modem) given ≡ None → may_go s m asked.t modem j ≡ true → IsFirstAsked s asked m modem (Some j.number)
   went s modem none passes =
-      (h.all, h.waiting, ap (option_map number_of) (sym (ap (find (may_go s m t modem)) amid ∙ found_next (may_go s m t modem) given rest j none passes)))
+      (h.all, h.waiting, ap (option_map number_of) (sym (ap (find (may_go s m asked.t modem)) amid ∙ found_next (may_go s m asked.t modem) given rest j none passes)))
+
+-- ---- those to a busy number are passed over
+
+find_others : (p q : Job → Bool) (xs : List Job) → ((j : Job) → In j xs → q j ≡ false → p j ≡ false) → find p (filter q xs) ≡ find p xs
+find_others p q [] h = refl
+find_others p q (x ∷ xs) h = by (q x) refl (find_others p q xs (λ j i. h j (inr i)))
+  where
+    by : (b : Bool) → q x ≡ b → find p (filter q xs) ≡ find p xs → find p (cond b (x ∷ filter q xs) (filter q xs)) ≡ cond (p x) (Some x) (find p xs)
+    by true e more = ap (λ o. cond (p x) (Some x) o) more
+    by false e more = more ∙ sym (ap (λ b. cond b (Some x) (find p xs)) (h x (inl refl) e))
+
+-- none to a number to which no call may begin may go
+busy_stays : (s : Settings) (m : Queue) (t : ℕ) (modem : List ℕ) (but : Option (List ℕ)) (j : Job) → IsBusy s m t but → is_due j t ≡ true → is_other but j ≡ false → may_go s m t modem j ≡ false
+busy_stays s m t modem None j busy due to = absurd (true≢false to)
+busy_stays s m t modem (Some dial) j busy due to =
+    let same : j.dial ≡ dial = (bytes_eq-Decides j.dial dial).0 (not-false (bytes_eq j.dial dial) to) in
+    goes_due s m t modem j due ∙ ap (λ b. b && s.admits j.modem modem) (ap (λ (d : List ℕ). may_call s d (calls_to d m) t) same ∙ busy)
+
+-- so the first of the others is the first of all
+pub first_of_all : (s : Settings) (m : Queue) (asked : Asked) (modem : List ℕ) (found : Option ℕ) → IsBusy s m asked.t asked.but → IsFirstAsked s asked m modem found → IsFirst s m asked.t modem found
+first_of_all s m asked modem found busy first =
+    let w = first.1 in
+    let p = may_go s m asked.t modem in
+    let same : find p first.0 ≡ find p w.all =
+    ap (find p) w.is ∙ find_others p (is_other asked.but) w.all (λ j i to. busy_stays s m asked.t modem asked.but j busy (waiting_due m asked.t w.all w.waiting j i).1 to) in
+    (w.all, w.waiting, first.2 ∙ ap (option_map number_of) same)
+
+-- so is what a look at those that are asked for tells
+pub first_known : (s : Settings) (m : Queue) (t : ℕ) (modem : List ℕ) (asked : Asked) (ends : Bool) (busy : Option (List ℕ)) (found : Option ℕ) → asked.t ≡ t → IsBusy s m t asked.but
+    → IsBusy s m t busy × ((IsTrue ends → busy ≡ None) → IsFirstAsked s asked m modem found) → IsBusy s m t busy × ((IsTrue ends → busy ≡ None) → IsFirst s m t modem found)
+first_known s m t modem asked ends busy found same but (is, first) = (
+  is,
+  λ free. subst (λ (x : ℕ). IsFirst s m x modem found) same (first_of_all s m asked modem found (subst (λ (x : ℕ). IsBusy s m x asked.but) (sym same) but) (first free)),
+)
+
+pub none_is_one : {X : Type 0} (o : Option X) → o ≡ None → is_some o ≡ true → ⊥
+none_is_one None none one = true≢false (sym one)
+none_is_one (Some x) none one = none-some x (sym none)

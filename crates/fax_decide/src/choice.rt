@@ -24,7 +24,7 @@ ghost use Rattle.fax_tables.specs.Grant.{as_hold};
 ghost use Rattle.fax_store.specs.Candidates.{StandsAt};
 ghost use Rattle.fax_store.specs.Store.{CommitsNothing, Means, Serves, Stays, StaysOpen};
 ghost use Rattle.fax_dest.specs.Setup.{admits};
-ghost use Rattle.fax_decide.specs.Choice.{IsBusy, IsFirst};
+ghost use Rattle.fax_decide.specs.Choice.{IsBusy, IsFirst, IsFirstAsked};
 ghost use Rattle.fax_decide.specs.Decision.{Decides};
 ghost use Rattle.fax_decide.specs.Settings.{settings_of};
 ghost use Rattle.fax_decide.specs.State.{may_call};
@@ -161,7 +161,8 @@ fn best<S: Alter>(
     }
 }
 
-/// The number of the first of the waiting jobs, in the order of the choice, that may go to the modem at `t`.
+/// The number of the first of the waiting jobs, in the order of the choice, that may go to the modem at `t`. Where one
+/// of them is to a number to which no call may begin, the store passes over all others to that number.
 fn first<S: Alter>(
     store: &mut Store<S>,
     office: &Office,
@@ -178,15 +179,71 @@ fn first<S: Alter>(
         → Serves (state S.Store store.new.conn)
         → IfOk result (IsFirst (settings_of office.now.setup office.now.controls) m t modem.now) }
 {
+    let mut busy = None;
+    let found = first_or_busy(store, office, alloc, &mut busy, modem, t)?;
+    match busy {
+        None => Ok(found),
+        Some(dial) => first_but(store, office, alloc, dial, modem, t),
+    }
+}
+
+/// The number of the first of the waiting jobs that may go to the modem at `t`; or `busy` becomes the first number that
+/// is found to which no call may begin.
+fn first_or_busy<S: Alter>(
+    store: &mut Store<S>,
+    office: &Office,
+    alloc: Global,
+    busy: &mut Option<Dial>,
+    modem: &Name,
+    t: Moment,
+) -> Result<Option<u32>, Unavailable>
+    ensures served { Serves (state S.Store store.new.conn) → Serves (state S.Store store.old.conn) }
+    ensures clean { HasCleanDisk (state S.Store store.new.conn) → HasCleanDisk (state S.Store store.old.conn) }
+    ensures opens { OnOk result (StaysOpen (state S.Store store.old.conn) (state S.Store store.new.conn)) }
+    ensures stays { Stays (state S.Store store.old.conn) (state S.Store store.new.conn) }
+    ensures crash { CommitsNothing (state S.Store store.old.conn) (state S.Store store.new.conn) }
+    ensures found { (m : Queue) (k : List Entry) → Means (state S.Store store.old.conn) m k
+        → Serves (state S.Store store.new.conn)
+        → IsBusy (settings_of office.now.setup office.now.controls) m t busy.old
+        → IfOk result (λ found. IsBusy (settings_of office.now.setup office.now.controls) m t busy.new
+        × (busy.new ≡ None → IsFirst (settings_of office.now.setup office.now.controls) m t modem.now found)) }
+{
     let mut candidates = store.candidates(t);
-    first_of(&mut candidates, office, alloc, modem, t)
+    first_of(&mut candidates, office, alloc, busy, true, modem, t)
+}
+
+/// The number of the first of the waiting jobs that may go to the modem at `t`, where no call to that number may begin.
+fn first_but<S: Alter>(
+    store: &mut Store<S>,
+    office: &Office,
+    alloc: Global,
+    busy: Dial,
+    modem: &Name,
+    t: Moment,
+) -> Result<Option<u32>, Unavailable>
+    ensures served { Serves (state S.Store store.new.conn) → Serves (state S.Store store.old.conn) }
+    ensures clean { HasCleanDisk (state S.Store store.new.conn) → HasCleanDisk (state S.Store store.old.conn) }
+    ensures opens { OnOk result (StaysOpen (state S.Store store.old.conn) (state S.Store store.new.conn)) }
+    ensures stays { Stays (state S.Store store.old.conn) (state S.Store store.new.conn) }
+    ensures crash { CommitsNothing (state S.Store store.old.conn) (state S.Store store.new.conn) }
+    ensures found { (m : Queue) (k : List Entry) → Means (state S.Store store.old.conn) m k
+        → Serves (state S.Store store.new.conn)
+        → IsBusy (settings_of office.now.setup office.now.controls) m t (Some busy)
+        → IfOk result (IsFirst (settings_of office.now.setup office.now.controls) m t modem.now) }
+{
+    let mut other = None;
+    let mut candidates = store.candidates_but(t, busy);
+    first_of(&mut candidates, office, alloc, &mut other, false, modem, t)
 }
 
 /// The number of the first of the candidates that may go to the modem at `t`, the moment that they were asked for.
+/// `busy` is a number to which none may, if one is known. Where it is said, the look ends as soon as one is.
 fn first_of<S: Alter>(
     candidates: &mut Candidates<'_, S>,
     office: &Office,
     alloc: Global,
+    busy: &mut Option<Dial>,
+    ends_at_busy: bool,
     modem: &Name,
     t: Moment,
 ) -> Result<Option<u32>, Unavailable>
@@ -198,19 +255,24 @@ fn first_of<S: Alter>(
     ensures stays { Stays (state S.Store candidates.old.store.now.conn) (state S.Store candidates.new.store.now.conn) }
     ensures crash { CommitsNothing (state S.Store candidates.old.store.now.conn) (state S.Store candidates.new.store.now.conn) }
     ensures found { (m : Queue) (k : List Entry) → Means (state S.Store candidates.old.store.now.conn) m k
-        → Serves (state S.Store candidates.new.store.now.conn) → candidates.old.t ≡ t
-        → StandsAt t m [] (into_iter_items candidates.old.page) candidates.old.front candidates.old.most
-        → IfOk result (IsFirst (settings_of office.now.setup office.now.controls) m t modem.now) }
+        → Serves (state S.Store candidates.new.store.now.conn) → candidates.old.asked.t ≡ t
+        → StandsAt candidates.old.asked m [] (into_iter_items candidates.old.page) candidates.old.front candidates.old.most
+        → IsBusy (settings_of office.now.setup office.now.controls) m t busy.old
+        → IfOk result (λ found. IsBusy (settings_of office.now.setup office.now.controls) m t busy.new
+        × ((IsTrue ends_at_busy → busy.new ≡ None)
+        → IsFirstAsked (settings_of office.now.setup office.now.controls) candidates.old.asked m modem.now found)) }
 {
-    let mut busy = None;
     // Each job has a number of its own, so no queue has more.
     for _ in 0..LAST_JOB + 1 {
         let Some(prospect) = candidates.prospect()? else {
             return Ok(None);
         };
         let job = prospect.job;
-        if goes(candidates, office, alloc, prospect, &mut busy, modem, t)? {
+        if goes(candidates, office, alloc, prospect, busy, modem, t)? {
             return Ok(Some(job));
+        }
+        if ends_at_busy && busy.is_some() {
+            return Ok(None);
         }
     }
     Err(Unavailable)
@@ -235,7 +297,7 @@ fn goes<S: Alter>(
     ensures opens { OnOk result (StaysOpen (state S.Store candidates.old.store.now.conn) (state S.Store candidates.new.store.now.conn)) }
     ensures stays { Stays (state S.Store candidates.old.store.now.conn) (state S.Store candidates.new.store.now.conn) }
     ensures crash { CommitsNothing (state S.Store candidates.old.store.now.conn) (state S.Store candidates.new.store.now.conn) }
-    ensures same { (candidates.new.t ≡ candidates.old.t) × (candidates.new.page ≡ candidates.old.page)
+    ensures same { (candidates.new.asked ≡ candidates.old.asked) × (candidates.new.page ≡ candidates.old.page)
         × (candidates.new.front ≡ candidates.old.front) × (candidates.new.most ≡ candidates.old.most) }
     ensures told { (m : Queue) (k : List Entry) → Means (state S.Store candidates.old.store.now.conn) m k
         → Serves (state S.Store candidates.new.store.now.conn)

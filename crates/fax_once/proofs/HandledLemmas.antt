@@ -1,5 +1,5 @@
 -- A run goes on by one arrival that is handled.
-use Rattle.std.proofs.Common.{◌≡◌, inl, inr, ℕ, Bool, true, false, List, [], ◌∷◌, ◌++◌, refl, sym, ap, subst, ◌∙◌, if◌then◌else◌}
+use Rattle.std.proofs.Common.{◌≡◌, inl, inr, ℕ, Bool, true, false, List, [], ◌∷◌, ◌++◌, refl, sym, ap, subst, ◌∙◌, append_assoc, if◌then◌else◌}
 use Rattle.std.specs.Prelude.{⊤}
 use Rattle.std.proofs.lemmas.Bool.{and_parts}
 use Rattle.sqlite.specs.State.{State}
@@ -27,7 +27,8 @@ use Rattle.fax_once.specs.Reading.{Post, Reading, Faulty, Sees, Posts, IsReading
 use Rattle.fax_once.specs.Run.{Start, IsRun, end_of, is_new, is_taken, queue_after, reply_at, taken, takes}
 use Rattle.fax_once.specs.Verdict.{Verdict, Told, Repeated, Accepted, Handles, Leaves, reply_of, verdict}
 use Rattle.fax_once.specs.declared.arrival.Arrival.{Arrival}
-use Rattle.fax_store.specs.Store.{Means}
+use Rattle.fax_once.specs.Stop.{IsMadeIn, Stops}
+use Rattle.fax_store.specs.Store.{MayMake, Means}
 use Rattle.fax_once.proofs.VerdictLemmas.{still_means}
 
 -- ---- what is posted is lawful
@@ -113,6 +114,38 @@ module _ (s : Settings) (start : Start) (arrivals : List Arrival) (replies : Lis
     means = still_means new here.queue here.kept left;
     are_taken = ran.are_taken;
   }
+
+  -- what is heard then goes on from what was heard before
+  heard_on : (h : Handles s a here.queue here.kept reply new) → (later : List Reading) × ((runs_on h).heard ≡ later ++ ran.heard)
+  unfolding runs_on handled
+  heard_on (inl (v, (r, reads, is), leaves)) = (r ∷ [], refl)
+  heard_on (inr (gone, left)) = ([], refl)
+
+  -- a crash leaves what one of the arrivals makes, this one among them
+  pub stops_on : (first : State) → MayMake first old (IsMadeIn s start arrivals ran.heard) → Stops s a here.queue here.kept old new → (h : Handles s a here.queue here.kept reply new)
+      → MayMake first new (IsMadeIn s start (arrivals ++ a ∷ []) (runs_on h).heard)
+  stops_on first before stops h found may =
+      let on = heard_on h in
+      elim (stops found may) [
+        | inl may_old ↦
+            elim (before found may_old) [
+              | inl may_first ↦ inl may_first
+              | inr it ↦
+                  inr (record {
+                    before = it.before;
+                    arrival = it.arrival;
+                    behind = it.behind ++ a ∷ [];
+                    one = ap (λ (xs : List Arrival). xs ++ a ∷ []) it.one ∙ append_assoc it.before (it.arrival ∷ it.behind) (a ∷ []);
+                    later = on.0 ++ it.later;
+                    earlier = it.earlier;
+                    then = on.1 ∙ ap (λ (xs : List Reading). on.0 ++ xs) it.then ∙ sym (append_assoc on.0 it.later it.earlier);
+                    verdict = it.verdict;
+                    is = it.is;
+                    made = it.made;
+                  })
+            ]
+        | inr it ↦ inr (record { before = arrivals; arrival = a; behind = []; one = refl; later = on.0; earlier = ran.heard; then = on.1; verdict = it.0; is = it.1; made = it.2 })
+      ]
 
 -- where a run leads is sound
 pub run_sound : (s : Settings) (start : Start) (arrivals : List Arrival) (replies : List Response) (store : State) → Sound start.queue → (ran : HasRun s start arrivals replies store) → Sound (end_of s start ran.heard).queue

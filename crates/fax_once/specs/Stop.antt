@@ -1,10 +1,14 @@
 -- What a crash may leave behind an arrival.
-use Rattle.std.specs.Prelude.{List}
+use Rattle.std.specs.Prelude.{◌≡◌, List, ◌∷◌, ◌++◌}
 use Rattle.sqlite.specs.State.{State}
 use Rattle.sqlite_trees.specs.Tree.{Trees}
 use Rattle.fax_core.specs.Queue.{Queue, Entry}
 use Rattle.fax_core.specs.Settings.{Settings}
+use Rattle.fax_ask.specs.Response.{Response}
 use Rattle.fax_store.specs.Store.{MayMake, RowsFound, Serves}
+use Rattle.fax_once.specs.Laws.{HasRun}
+use Rattle.fax_once.specs.Reading.{Reading}
+use Rattle.fax_once.specs.Run.{Start, end_of}
 use Rattle.fax_once.specs.Verdict.{Verdict, Accepted, IsVerdict}
 use Rattle.fax_once.specs.declared.arrival.Arrival.{Arrival}
 
@@ -24,3 +28,20 @@ Stops s a m k old new = MayMake old new (λ found. (v : Verdict) × IsVerdict s 
 -- A crash leaves what a crash before could leave, or, where the store served, rows that mean this.
 abbrev pub MayLeave : State → State → Queue → List Entry → Type 0
 MayLeave old new m k = MayMake old new (λ found. Serves old × RowsFound found m k)
+
+-- These are the rows that one of the arrivals makes, by its verdict behind what was heard before it.
+pub record IsMadeIn (s : Settings) (start : Start) (arrivals : List Arrival) (heard : List Reading) (found : Trees) : Type 0 where
+  pub before : List Arrival
+  pub arrival : Arrival
+  pub behind : List Arrival
+  pub one : arrivals ≡ before ++ arrival ∷ behind
+  pub later : List Reading
+  pub earlier : List Reading
+  pub then : heard ≡ later ++ earlier
+  pub verdict : Verdict
+  pub is : IsVerdict s arrival (end_of s start earlier).queue (end_of s start earlier).kept verdict
+  pub made : AreMadeBy verdict found
+
+-- A run is done. A crash behind it leaves what a crash before it could leave, or what one of its arrivals makes.
+abbrev pub StopsIn : Settings → Start → List Arrival → List Response → State → State → Type 0
+StopsIn s start arrivals replies old new = (ran : HasRun s start arrivals replies new) × MayMake old new (IsMadeIn s start arrivals ran.heard)

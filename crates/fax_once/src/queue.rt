@@ -31,7 +31,7 @@ ghost use Rattle.fax_decide.specs.Settings.{settings_of};
 ghost use Rattle.fax_decide.specs.View.{view};
 ghost use Rattle.fax_once.specs.Arrival.{IsSender, number_of, said_of};
 ghost use Rattle.fax_once.specs.Reading.{post_of};
-ghost use Rattle.fax_once.specs.Stop.{MayLeave, Stops, StopsBy};
+ghost use Rattle.fax_once.specs.Stop.{MayLeave, Stops, StopsBy, StopsIn};
 ghost use Rattle.fax_once.specs.Verdict.{Answers, Handles, IsDecided, IsNotAccepted, IsUsed, IsVerdict, LeavesBy, Told, asked_for};
 ghost use Rattle.fax_once.specs.declared.arrival.Arrival.{Arrival as ArrivalOf};
 
@@ -188,6 +188,12 @@ impl<S: Alter> Queue<S> {
             → HasCleanDisk (state S.Store self.new.store.conn)
             → IfOk result (λ replies. RunsWell (settings_of self.old.office.setup self.old.office.controls)
             (record { queue = m; kept = k }) arrivals.now replies.items (state S.Store self.new.store.conn)) }
+        ensures crash { (m : QueueOf) (k : List Entry) → Sound m
+            → Means (state S.Store self.old.store.conn) m k
+            → HasCleanDisk (state S.Store self.new.store.conn)
+            → IfOk result (λ replies. StopsIn (settings_of self.old.office.setup self.old.office.controls)
+            (record { queue = m; kept = k }) arrivals.now replies.items
+            (state S.Store self.old.store.conn) (state S.Store self.new.store.conn)) }
     {
         let mut replies = Vec::with_capacity(alloc, arrivals.len())?;
         for arrival in arrivals {

@@ -7,6 +7,7 @@ use Rattle.std.specs.List.Sorted.{IsPermutation, IsSorted, IsSortedBy}
 use Rattle.std.specs.Ordering.{nat_cmp, on, ordering_reverse, ordering_then, then_cmp}
 use Rattle.std.proofs.lemmas.Bool.{and_parts, leb-true}
 use Rattle.std.proofs.lemmas.Bool.Decides.{nat_tests}
+use Rattle.std.proofs.lemmas.Map.Text.{is_eq-slice_cmp}
 use Rattle.std.proofs.lemmas.Cmp.{nat_cmp_total, on_total, then_total}
 use Rattle.std.proofs.lemmas.List.{map-append, take-map}
 use Rattle.std.proofs.lemmas.Option.{none-some, same_Some}
@@ -19,11 +20,17 @@ use Rattle.sqlite.specs.Program.{overlay}
 use Rattle.sqlite.specs.Query.{IsAnswer, Output, output, output_cmp}
 use Rattle.sqlite.specs.State.{State, Shown}
 use Rattle.sqlite.specs.Tree.{IsTable}
-use Rattle.sqlite.specs.declared.types.Value.TheVariants.{Null}
+use Rattle.sqlite.specs.declared.types.Value.TheVariants.{Null, Text}
 use Rattle.sqlite.proofs.Callers.{reads_as}
 use Rattle.sqlite_keyed.specs.Lists.{insert_sorted, sort_by}
 use Rattle.sqlite_keyed.proofs.SortLemmas.{sorted_is-sort_by, sorted_unique, IsPermutation-sort_by}
+use Rattle.sqlite.specs.Collation.TheVariants.{Binary}
+use Rattle.sqlite_sql.specs.Ops.{binary, unary, is_true, from_truth}
+use Rattle.sqlite_sql.specs.declared.ops.BinaryOp.TheVariants.{Is}
+use Rattle.sqlite_sql.specs.declared.ops.UnaryOp.TheVariants.{Not}
 use Rattle.sqlite_sql.specs.Term.{Term}
+use Rattle.sqlite_value.specs.Order.{value_cmp}
+use Rattle.sqlite_value.proofs.OrderLemmas.{value_cmp-Text}
 use Rattle.sqlite_trees.specs.Tree.{IsAscending}
 use Rattle.sqlite_trees.proofs.ListLemmas.{all_of, all_both, all_weaker, all-filter, all-append, ascending-filter, ascending-get_or, ascending_weaker, filter_all, filter_none, filter_same, filter-filter, IsPermutation-filter, map-map, pull_back}
 use Rattle.fax_core.specs.Job.{Job, fields_of}
@@ -32,7 +39,8 @@ use Rattle.fax_core.specs.Queue.{Queue, Entry, job_numbered}
 use Rattle.fax_core.specs.State.{is_due}
 use Rattle.fax_core.proofs.RecordLemmas.{within_limits_of}
 use Rattle.fax_job.specs.Limits.{last_job}
-use Rattle.fax_store.specs.Candidates.{IsPage, StandsAt, front_of, is_behind, is_beyond, is_last, is_near, next_front}
+use Rattle.fax_store.specs.Candidates.{AreAsked, IsPage, StandsAt, front_of, is_behind, is_beyond, is_last, is_near, is_other, next_front, value_of}
+use Rattle.fax_store.specs.declared.candidates.Asked.{Asked}
 use Rattle.fax_store.specs.Job.{AreWaiting}
 use Rattle.fax_store.specs.declared.candidates.Front.{Front}
 use Rattle.fax_store.specs.declared.candidates.TheConstants.{SELECT_FIRST, SELECT_BEHIND_NUMBER, SELECT_BEHIND_TIME, SELECT_BEHIND_PRIORITY}
@@ -47,9 +55,8 @@ use Rattle.fax_tables.proofs.SelectLemmas.{each_passing}
 use Rattle.fax_tables.proofs.TablesLemmas.{row_of}
 use Rattle.fax_store.proofs.JobsLemmas.{number_of, ascend}
 use Rattle.fax_store.proofs.OrderLemmas.{Below}
-use Rattle.fax_store.proofs.StatementTexts.{SelectsPage, number_tests, page_query, priority_tests, prospect_names, prospect_project, select_behind_number, select_behind_priority, select_behind_time, select_first, time_tests}
+use Rattle.fax_store.proofs.StatementTexts.{SelectsPage, number_tests, other_tests, page_query, priority_tests, prospect_names, prospect_project, select_behind_number, select_behind_priority, select_behind_time, select_first, time_tests}
 use Rattle.fax_store.proofs.WaitingLemmas as waiting
-use Rattle.fax_store.proofs.WaitingLemmas.{all_waiting}
 
 -- ---- the order of the choice
 
@@ -105,6 +112,15 @@ not_after a b e = sym (by_less b a) ∙ ap is_lt (is_total.antisymm b a ∙ ap o
 
 -- ---- all jobs that wait
 
+filter_two : (p q : Job → Bool) (xs : List Job) → filter q (filter p xs) ≡ filter (λ j. p j && q j) xs
+filter_two p q [] = refl
+filter_two p q (x ∷ xs) = by (p x) (q x) refl refl (filter_two p q xs)
+  where
+    by : (a b : Bool) → p x ≡ a → q x ≡ b → filter q (filter p xs) ≡ filter (λ j. p j && q j) xs → filter q (cond a (x ∷ filter p xs) (filter p xs)) ≡ cond (a && q x) (x ∷ filter (λ j. p j && q j) xs) (filter (λ j. p j && q j) xs)
+    by true true e f more = rw f (ap (λ l. x ∷ l) more)
+    by true false e f more = rw f more
+    by false b e f more = more
+
 module _ (db : Database) (m : Queue) (k : List Entry) (means : TablesMean db m k) (t : ℕ) where
   abbrev all_due : List Job
   all_due = filter (λ (j : Job). is_due j t) m.jobs
@@ -137,68 +153,84 @@ module _ (db : Database) (m : Queue) (k : List Entry) (means : TablesMean db m k
       let sorted : IsSorted order jobs = λ i d from low. by_less (get_or jobs (i + 1) d) (get_or jobs i d) ∙ w.ordered i d from low in
       sorted_is-sort_by order is_total all_due jobs no_ties w.due sorted
 
-  filter_both : (near : Job → Bool) (xs : List Job) → filter near (filter (λ (j : Job). is_due j t) xs) ≡ filter (λ j. is_due j t && near j) xs
-  filter_both near [] = refl
-  filter_both near (x ∷ xs) = by (is_due x t) (near x) refl refl (filter_both near xs)
-    where
-      by : (a b : Bool) → is_due x t ≡ a → near x ≡ b → filter near (filter (λ (j : Job). is_due j t) xs) ≡ filter (λ j. is_due j t && near j) xs
-          → filter near (cond a (x ∷ filter (λ (j : Job). is_due j t) xs) (filter (λ (j : Job). is_due j t) xs)) ≡ cond (a && near x) (x ∷ filter (λ j. is_due j t && near j) xs) (filter (λ j. is_due j t && near j) xs)
-      by true true e f more = rw f (ap (λ l. x ∷ l) more)
-      by true false e f more = rw f more
-      by false b e f more = more
-
   -- those that are near, in order, are those of all that wait
   near_order : (near : Job → Bool) (jobs : List Job) → IsPermutation (filter (λ j. is_due j t && near j) m.jobs) jobs → IsSortedBy better jobs → jobs ≡ filter near all_wait
   near_order near jobs same ordered =
       let sorted : IsSorted order jobs = λ i d from low. by_less (get_or jobs (i + 1) d) (get_or jobs i d) ∙ ordered i d from low in
       let due = IsPermutation-filter near all_wait all_due (IsPermutation-sort_by order is_total all_due) in
       let perm : IsPermutation (filter near all_wait) jobs =
-      IsPermutation-trans (filter near all_wait) (filter near all_due) jobs due (subst (λ xs. IsPermutation xs jobs) (sym (filter_both near m.jobs)) same) in
+      IsPermutation-trans (filter near all_wait) (filter near all_due) jobs due (subst (λ xs. IsPermutation xs jobs) (sym (filter_two (λ (j : Job). is_due j t) near m.jobs)) same) in
       sorted_unique order is_total (filter near all_wait) jobs (ascending-filter Comes near all_wait come) perm sorted
+
+-- ---- all that are asked for
+
+module _ (db : Database) (m : Queue) (k : List Entry) (means : TablesMean db m k) (asked : Asked) where
+  abbrev pub all_asked : List Job
+  all_asked = filter (is_other asked.but) (all_wait db m k means asked.t)
+
+  pub they_are_asked : AreAsked asked m all_asked
+  they_are_asked = record { all = all_wait db m k means asked.t; waiting = they_wait db m k means asked.t; is = refl }
+
+  one_asked : (jobs : List Job) → AreAsked asked m jobs → jobs ≡ all_asked
+  one_asked jobs w = w.is ∙ ap (filter (is_other asked.but)) (one_order db m k means asked.t w.all w.waiting)
+
+  asked_in_order : IsAscending Goes all_asked
+  asked_in_order = ascending-filter Goes (is_other asked.but) (all_wait db m k means asked.t) (go_in_order db m k means asked.t)
+
+-- what holds of each job of the queue holds of each that is asked for
+pub all_hold : (P : Job → Type 0) (asked : Asked) (m : Queue) (jobs : List Job) → AreAsked asked m jobs → All P m.jobs → All P jobs
+all_hold P asked m jobs w all =
+    let due = all_kept P (λ (j : Job). is_due j asked.t) m.jobs all in
+    let wait = All-permutation P (filter (λ (j : Job). is_due j asked.t) m.jobs) w.all w.waiting.due due in
+    subst (All P) (sym w.is) (all_kept P (is_other asked.but) w.all wait)
 
 -- ---- a page
 
-module _ (t most : ℕ) (more : Row) (tests : List Term) where
-  abbrev pub params : Row
-  params = number t ∷ number most ∷ more
+module _ (asked : Asked) (most : ℕ) (more : Row) (tests : List Term) where
+  abbrev rest : Row
+  rest = number most ∷ value_of asked.but ∷ more
 
-  abbrev asked : Row → Bool
-  asked = waiting.is_asked t (number most ∷ more) tests prospect_project
+  abbrev pub params : Row
+  params = number asked.t ∷ rest
+
+  abbrev passing : Row → Bool
+  passing = waiting.is_asked asked.t rest tests prospect_project
 
   abbrev shown_of : Row → Row
-  shown_of = waiting.shown_of t (number most ∷ more) tests prospect_project
+  shown_of = waiting.shown_of asked.t rest tests prospect_project
 
   abbrev out : Row → Output
-  out = waiting.out t (number most ∷ more) tests prospect_project
+  out = waiting.out asked.t rest tests prospect_project
 
   -- rows that pass are put in order, and those of the page are shown
   in_page : (db : Database) (rows : List Row) → Reads (Select (record { lets = []; body = page_query tests }) prospect_names) db params rows
-      → (to : List Row) × IsPermutation (filter asked (db.trees jobs_tree)) to × (rows ≡ take most (map shown_of to)) × IsSorted (output_cmp (waiting.query t (number most ∷ more) tests prospect_project)) (map out to)
+      → (to : List Row) × IsPermutation (filter passing (db.trees jobs_tree)) to × (rows ≡ take most (map shown_of to)) × IsSorted (output_cmp (waiting.query asked.t rest tests prospect_project)) (map out to)
   in_page db rows h =
       let table = db.trees jobs_tree in
       let a : IsAnswer (page_query tests) (overlay db.trees []) params rows = h.answer Null in
-      let staged = a.grouped ∙ each_passing asked (λ (r : Row). params ∷ r ∷ []) table in
-      let kept : a.kept ≡ map out (filter asked table) = a.distinct ∙ ap (map (output (page_query tests))) staged ∙ map-map _ _ _ in
-      let back = pull_back out a.kept a.ordered a.same (filter asked table) kept in (
+      let staged = a.grouped ∙ each_passing passing (λ (r : Row). params ∷ r ∷ []) table in
+      let kept : a.kept ≡ map out (filter passing table) = a.distinct ∙ ap (map (output (page_query tests))) staged ∙ map-map _ _ _ in
+      let back = pull_back out a.kept a.ordered a.same (filter passing table) kept in (
         back.0,
         back.1,
         a.shown ∙ ap (take most) (ap (map (λ (o : Output). o.1)) back.2 ∙ map-map _ _ _),
-        subst (IsSorted (output_cmp (waiting.query t (number most ∷ more) tests prospect_project))) back.2 a.sorted,
+        subst (IsSorted (output_cmp (waiting.query asked.t rest tests prospect_project))) back.2 a.sorted,
       )
 
   module _ (old new : State) (m : Queue) (k : List Entry) (means : TablesMean old.now m k) (front : Front) (sql : List ℕ) (selects : SelectsPage sql tests)
-      (near : (j : Job) → waiting.is_further t (number most ∷ more) tests prospect_project (row_of j) ≡ is_near front j) where
+      (near : (j : Job) → waiting.is_further asked.t rest tests prospect_project (row_of j) ≡ (is_other asked.but j && is_near front j)) where
     -- what it shows is a page behind the front
-    page_found : (rows : List Row) → Shown sql params old new rows → IsPage t m front most rows
+    page_found : (rows : List Row) → Shown sql params old new rows → IsPage asked m front most rows
     page_found rows h =
         let read = reads_as sql params old new seven_tables means.schema _ selects.command selects.plain selects.unlisted rows h in
         let shown = in_page old.now rows read in
-        let it = waiting.are_near t (number most ∷ more) tests prospect_project old.now m k means (is_near front) near shown.0 shown.1 shown.3 in
-        let all = all_wait old.now m k means t in
-        let is : it.0 ≡ filter (is_near front) all = near_order old.now m k means t (is_near front) it.0 it.2 it.3 in
+        let is_wanted = λ (j : Job). is_other asked.but j && is_near front j in
+        let it = waiting.are_near asked.t rest tests prospect_project old.now m k means is_wanted near shown.0 shown.1 shown.3 in
+        let all = all_wait old.now m k means asked.t in
+        let is : it.0 ≡ filter (is_near front) (filter (is_other asked.but) all) = near_order old.now m k means asked.t is_wanted it.0 it.2 it.3 ∙ sym (filter_two (is_other asked.but) (is_near front) all) in
         record {
-          all = all;
-          waiting = they_wait old.now m k means t;
+          all = all_asked old.now m k means asked;
+          waiting = they_are_asked old.now m k means asked;
           is =
               shown.2 ∙ ap (take most) it.1 ∙ take-map (λ (j : Job). prospect_shown (fields_of j)) most it.0
               ∙ ap (λ (js : List Job). map (λ (j : Job). prospect_shown (fields_of j)) (take most js)) is;
@@ -208,24 +240,39 @@ and_true : (b : Bool) → (b && true) ≡ b
 and_true true = refl
 and_true false = refl
 
-module _ (t most : ℕ) (old new : State) (m : Queue) (k : List Entry) (means : TablesMean old.now m k) (rows : List Row) where
-  pub first_found : Shown SELECT_FIRST.now (params t most [] []) old new rows → IsPage t m First most rows
-  first_found = page_found t most [] [] old new m k means First SELECT_FIRST.now select_first (λ j. refl) rows
+not_is : (b : Bool) → is_true (unary Not (from_truth (Some b))) ≡ not b
+unfolding unary
+not_is true = refl
+not_is false = refl
 
-  pub number_found : (p s n : ℕ) → Shown SELECT_BEHIND_NUMBER.now (params t most (number p ∷ number s ∷ number n ∷ []) number_tests) old new rows → IsPage t m (Number p s n) most rows
+-- IS NOT, of a text and a number that may be named
+is_not_null : (text : List ℕ) → is_true (unary Not (binary (Is Binary) (Text text) Null)) ≡ true
+unfolding unary binary value_cmp
+is_not_null text = refl
+
+is_not : (but : Option (List ℕ)) (j : Job) → is_true (unary Not (binary (Is Binary) (Text j.dial) (value_of but))) ≡ is_other but j
+unfolding binary
+is_not None j = is_not_null j.dial
+is_not (Some dial) j = not_is (is_eq (value_cmp (Text j.dial) (Text dial))) ∙ ap not (ap is_eq (value_cmp-Text j.dial dial) ∙ is_eq-slice_cmp j.dial dial)
+
+module _ (asked : Asked) (most : ℕ) (old new : State) (m : Queue) (k : List Entry) (means : TablesMean old.now m k) (rows : List Row) where
+  pub first_found : Shown SELECT_FIRST.now (params asked most [] other_tests) old new rows → IsPage asked m First most rows
+  first_found = page_found asked most [] other_tests old new m k means First SELECT_FIRST.now select_first (λ j. ap (λ b. b && true) (is_not asked.but j)) rows
+
+  pub number_found : (p s n : ℕ) → Shown SELECT_BEHIND_NUMBER.now (params asked most (number p ∷ number s ∷ number n ∷ []) number_tests) old new rows → IsPage asked m (Number p s n) most rows
   number_found p s n =
-      page_found t most (number p ∷ number s ∷ number n ∷ []) number_tests old new m k means (Number p s n) SELECT_BEHIND_NUMBER.now select_behind_number
-      (λ j. ap₂ ◌&&◌ (is_number j.priority p) (ap₂ ◌&&◌ (is_number j.tts s) (ap (λ b. b && true) (more_than j.number n) ∙ and_true (nat_lt n j.number)))) rows
+      page_found asked most (number p ∷ number s ∷ number n ∷ []) number_tests old new m k means (Number p s n) SELECT_BEHIND_NUMBER.now select_behind_number
+      (λ j. ap₂ ◌&&◌ (is_not asked.but j) (ap₂ ◌&&◌ (is_number j.priority p) (ap₂ ◌&&◌ (is_number j.tts s) (ap (λ b. b && true) (more_than j.number n) ∙ and_true (nat_lt n j.number))))) rows
 
-  pub time_found : (p s : ℕ) → Shown SELECT_BEHIND_TIME.now (params t most (number p ∷ number s ∷ []) time_tests) old new rows → IsPage t m (Time p s) most rows
+  pub time_found : (p s : ℕ) → Shown SELECT_BEHIND_TIME.now (params asked most (number p ∷ number s ∷ []) time_tests) old new rows → IsPage asked m (Time p s) most rows
   time_found p s =
-      page_found t most (number p ∷ number s ∷ []) time_tests old new m k means (Time p s) SELECT_BEHIND_TIME.now select_behind_time
-      (λ j. ap₂ ◌&&◌ (is_number j.priority p) (ap (λ b. b && true) (more_than j.tts s) ∙ and_true (nat_lt s j.tts))) rows
+      page_found asked most (number p ∷ number s ∷ []) time_tests old new m k means (Time p s) SELECT_BEHIND_TIME.now select_behind_time
+      (λ j. ap₂ ◌&&◌ (is_not asked.but j) (ap₂ ◌&&◌ (is_number j.priority p) (ap (λ b. b && true) (more_than j.tts s) ∙ and_true (nat_lt s j.tts)))) rows
 
-  pub priority_found : (p : ℕ) → Shown SELECT_BEHIND_PRIORITY.now (params t most (number p ∷ []) priority_tests) old new rows → IsPage t m (Priority p) most rows
+  pub priority_found : (p : ℕ) → Shown SELECT_BEHIND_PRIORITY.now (params asked most (number p ∷ []) priority_tests) old new rows → IsPage asked m (Priority p) most rows
   priority_found p =
-      page_found t most (number p ∷ []) priority_tests old new m k means (Priority p) SELECT_BEHIND_PRIORITY.now select_behind_priority
-      (λ j. ap (λ b. b && true) (more_than j.priority p) ∙ and_true (nat_lt p j.priority)) rows
+      page_found asked most (number p ∷ []) priority_tests old new m k means (Priority p) SELECT_BEHIND_PRIORITY.now select_behind_priority
+      (λ j. ap₂ ◌&&◌ (is_not asked.but j) (ap (λ b. b && true) (more_than j.priority p) ∙ and_true (nat_lt p j.priority))) rows
 
 -- ---- what one statement finds, and what comes after
 
@@ -364,24 +411,24 @@ nothing_taken (suc n) (x ∷ xs) some none = absurd (let e = none in cc)
 abbrev shown : Job → Row
 shown j = prospect_shown (fields_of j)
 
-module _ (db : Database) (m : Queue) (k : List Entry) (means : TablesMean db m k) (t : ℕ) where
+module _ (db : Database) (m : Queue) (k : List Entry) (means : TablesMean db m k) (asked : Asked) where
   -- nothing was read
-  pub stands_first : (most : ℕ) → 0 < most → StandsAt t m [] [] First most
+  pub stands_first : (most : ℕ) → 0 < most → StandsAt asked m [] [] First most
   stands_first most some = record {
-    all = all_wait db m k means t;
-    waiting = they_wait db m k means t;
+    all = all_asked db m k means asked;
+    waiting = they_are_asked db m k means asked;
     read = [];
-    parts = sym (filter_all (is_behind First) (all_wait db m k means t) (all_of (λ (j : Job). is_behind First j ≡ true) (λ j. refl) (all_wait db m k means t)));
+    parts = sym (filter_all (is_behind First) (all_asked db m k means asked) (all_of (λ (j : Job). is_behind First j ≡ true) (λ j. refl) (all_asked db m k means asked)));
     shown = refl;
     some = some;
   }
 
-  module _ (given : List Job) (f : Front) (most : ℕ) (h : StandsAt t m given [] f most) (rows : List Row) (next : IsPage t m f most rows) where
+  module _ (given : List Job) (f : Front) (most : ℕ) (h : StandsAt asked m given [] f most) (rows : List Row) (next : IsPage asked m f most rows) where
     all_is : next.all ≡ h.all
-    all_is = one_order db m k means t next.all next.waiting ∙ sym (one_order db m k means t h.all h.waiting)
+    all_is = one_asked db m k means asked next.all next.waiting ∙ sym (one_asked db m k means asked h.all h.waiting)
 
     up : IsAscending Goes h.all
-    up = subst (IsAscending Goes) (sym (one_order db m k means t h.all h.waiting)) (go_in_order db m k means t)
+    up = subst (IsAscending Goes) (sym (one_asked db m k means asked h.all h.waiting)) (asked_in_order db m k means asked)
 
     left : h.all ≡ given ++ filter (is_behind f) h.all
     left = h.parts ∙ ap (λ (read : List Job). given ++ (read ++ filter (is_behind f) h.all)) (none_shown shown h.read h.shown)
@@ -391,7 +438,7 @@ module _ (db : Database) (m : Queue) (k : List Entry) (means : TablesMean db m k
     paged = take most (filter (is_near f) next.all)
 
     -- it ends with a job
-    pub stands_page : (ys : List Job) (x : Job) → paged ≡ ys ++ x ∷ [] → (then : ℕ) → 0 < then → StandsAt t m given rows (front_of (prospect (fields_of x))) then
+    pub stands_page : (ys : List Job) (x : Job) → paged ≡ ys ++ x ∷ [] → (then : ℕ) → 0 < then → StandsAt asked m given rows (front_of (prospect (fields_of x))) then
     stands_page ys x is then some =
         let near = filter (is_near f) h.all in
         let front : take most near ≡ ys ++ x ∷ [] = ap (λ (all : List Job). take most (filter (is_near f) all)) (sym all_is) ∙ is in
@@ -414,10 +461,10 @@ module _ (db : Database) (m : Queue) (k : List Entry) (means : TablesMean db m k
         (ap (λ (all : List Job). take most (filter (is_near f) all)) (sym all_is) ∙ none_shown shown paged (sym none ∙ next.is))
 
     -- it has no job
-    pub stands_on : rows ≡ [] → (then : ℕ) → 0 < then → StandsAt t m given rows (next_front f) then
+    pub stands_on : rows ≡ [] → (then : ℕ) → 0 < then → StandsAt asked m given rows (next_front f) then
     stands_on none then some = by (is_last f) refl
       where
-        same : (g : Front) → filter (is_behind f) h.all ≡ filter (is_behind g) h.all → StandsAt t m given rows g then
+        same : (g : Front) → filter (is_behind f) h.all ≡ filter (is_behind g) h.all → StandsAt asked m given rows g then
         same g e = record {
           all = h.all;
           waiting = h.waiting;
@@ -433,7 +480,7 @@ module _ (db : Database) (m : Queue) (k : List Entry) (means : TablesMean db m k
         stays (Time p s) e = absurd (true≢false (sym e))
         stays (Priority p) e = refl
 
-        by : (b : Bool) → is_last f ≡ b → StandsAt t m given rows (next_front f) then
+        by : (b : Bool) → is_last f ≡ b → StandsAt asked m given rows (next_front f) then
         by true e = same (next_front f) (ap (λ (g : Front). filter (is_behind g) h.all) (sym (stays f e)))
         by false e =
             same (next_front f)
@@ -441,12 +488,12 @@ module _ (db : Database) (m : Queue) (k : List Entry) (means : TablesMean db m k
             ∙ filter_same (is_beyond f) (is_behind (next_front f)) h.all (all_of (λ (j : Job). is_beyond f j ≡ is_behind (next_front f) j) (next_is f e) h.all))
 
     -- and none comes after it
-    pub all_given : rows ≡ [] → is_last f ≡ true → AreWaiting t m given
+    pub all_given : rows ≡ [] → is_last f ≡ true → AreAsked asked m given
     all_given none last =
         let nothing : filter (is_beyond f) h.all ≡ [] = filter_none (is_beyond f) h.all (all_of (λ (j : Job). is_beyond f j ≡ false) (last_is f last) h.all) in
         let whole : h.all ≡ given =
         left ∙ ap (λ (xs : List Job). given ++ xs) (cut f h.all up ∙ ap₂ ◌++◌ (nothing_near none) nothing) ∙ append-nil given in
-        subst (AreWaiting t m) whole h.waiting
+        subst (AreAsked asked m) whole h.waiting
 
 -- ---- the end of a page
 
@@ -479,9 +526,9 @@ page_ends rows jobs row is last = elim (ends jobs) [
 ]
 
 -- a job of it is lawful
-pub page_lawful : (t : ℕ) (m : Queue) (f : Front) (most : ℕ) (all ys : List Job) (x : Job) → All IsLawfulJob m.jobs → AreWaiting t m all → take most (filter (is_near f) all) ≡ ys ++ x ∷ [] → IsLawfulJob x
-page_lawful t m f most all ys x lawful waits is =
-    let near = all_kept IsLawfulJob (is_near f) all (all_waiting t m all waits lawful) in
+pub page_lawful : (asked : Asked) (m : Queue) (f : Front) (most : ℕ) (all ys : List Job) (x : Job) → All IsLawfulJob m.jobs → AreAsked asked m all → take most (filter (is_near f) all) ≡ ys ++ x ∷ [] → IsLawfulJob x
+page_lawful asked m f most all ys x lawful waits is =
+    let near = all_kept IsLawfulJob (is_near f) all (all_hold IsLawfulJob asked m all waits lawful) in
     amid IsLawfulJob ys x [] (subst (AllByRecursion IsLawfulJob) is (recursion_from_All IsLawfulJob (take most (filter (is_near f) all)) (All-take IsLawfulJob most (filter (is_near f) all) near)))
 
 -- ---- how often there is more to be read until a page has a job
@@ -509,11 +556,11 @@ fewer_turns (row ∷ rows) f g last next = omega arith
 -- ---- what is given
 
 -- the first of the page is given
-pub one_given : (t : ℕ) (m : Queue) (given : List Job) (row : Row) (page : List Row) (f : Front) (most : ℕ) → StandsAt t m given (row ∷ page) f most
-    → (j : Job) × (row ≡ shown j) × StandsAt t m (given ++ j ∷ []) page f most
-one_given t m given row page f most h = by h.read h.parts h.shown
+pub one_given : (asked : Asked) (m : Queue) (given : List Job) (row : Row) (page : List Row) (f : Front) (most : ℕ) → StandsAt asked m given (row ∷ page) f most
+    → (j : Job) × (row ≡ shown j) × StandsAt asked m (given ++ j ∷ []) page f most
+one_given asked m given row page f most h = by h.read h.parts h.shown
   where
-    by : (read : List Job) → h.all ≡ given ++ (read ++ filter (is_behind f) h.all) → row ∷ page ≡ map shown read → (j : Job) × (row ≡ shown j) × StandsAt t m (given ++ j ∷ []) page f most
+    by : (read : List Job) → h.all ≡ given ++ (read ++ filter (is_behind f) h.all) → row ∷ page ≡ map shown read → (j : Job) × (row ≡ shown j) × StandsAt asked m (given ++ j ∷ []) page f most
     by [] parts is = absurd (let e = is in cc)
     by (j ∷ read) parts is = (
       j,
@@ -537,11 +584,10 @@ each_found (x ∷ xs) up = (
       (λ j low found. let e : (x.number == j.number) ≡ false = grind (arith, nat_tests) in rw (e, found)) xs up.0 (each_found xs up.1),
 )
 
-module _ (db : Database) (m : Queue) (k : List Entry) (means : TablesMean db m k) (t : ℕ) (given : List Job) (j : Job) (page : List Row) (f : Front) (most : ℕ) (h : StandsAt t m (given ++ j ∷ []) page f most) where
+module _ (db : Database) (m : Queue) (k : List Entry) (means : TablesMean db m k) (asked : Asked) (given : List Job) (j : Job) (page : List Row) (f : Front) (most : ℕ) (h : StandsAt asked m (given ++ j ∷ []) page f most) where
   of_all : (P : Job → Type 0) → All P m.jobs → P j
   of_all P all =
-      let due = all_kept P (λ (j : Job). is_due j t) m.jobs all in
-      let waits = recursion_from_All P h.all (All-permutation P (filter (λ (j : Job). is_due j t) m.jobs) h.all h.waiting.due due) in
+      let waits = recursion_from_All P h.all (all_hold P asked m h.all h.waiting all) in
       let rest = h.read ++ filter (is_behind f) h.all in
       amid P given j rest (subst (AllByRecursion P) (h.parts ∙ append_assoc given (j ∷ []) rest) waits)
 
@@ -553,4 +599,4 @@ module _ (db : Database) (m : Queue) (k : List Entry) (means : TablesMean db m k
   pub given_there : job_numbered j.number m ≡ Some j
   given_there =
       of_all (λ (j : Job). job_numbered j.number m ≡ Some j)
-      (All-from_recursion (λ (j : Job). job_numbered j.number m ≡ Some j) m.jobs (each_found m.jobs (rises db m k means t)))
+      (All-from_recursion (λ (j : Job). job_numbered j.number m ≡ Some j) m.jobs (each_found m.jobs (rises db m k means asked.t)))

@@ -2,7 +2,8 @@
 use Rattle.std.proofs.Common.{ℕ, pos, List, [], ◌∷◌, ◌++◌, codes, refl}
 use Rattle.sqlite.specs.Collation.TheVariants.{Binary}
 use Rattle.sqlite.specs.declared.types.Value.TheVariants.{Null, Int, Text}
-use Rattle.sqlite_sql.specs.Term.{Term, lit, col, op2}
+use Rattle.sqlite_sql.specs.Term.{Term, lit, col, op1, op2}
+use Rattle.sqlite_sql.specs.declared.ops.UnaryOp.TheVariants.{Not}
 use Rattle.sqlite_sql.specs.declared.ops.BinaryOp.TheVariants.{Compare, Is, Or}
 use Rattle.sqlite_sql.specs.declared.ops.CompareOp.TheVariants.{Ne, Le, Ge, Gt}
 use Rattle.sqlite.specs.Query.{Query, end, inner, left}
@@ -169,6 +170,10 @@ prospect_project = col 1 0 ∷ col 1 2 ∷ col 1 3 ∷ col 1 9 ∷ col 1 7 ∷ [
 abbrev pub prospect_names : List (List ℕ)
 prospect_names = codes "job" ∷ codes "dial" ∷ codes "modem" ∷ codes "priority" ∷ codes "tts" ∷ []
 
+-- to another number than the third parameter
+abbrev pub other_tests : List Term
+other_tests = op1 Not (op2 (Is Binary) (col 1 2) (col 0 2)) ∷ []
+
 -- the jobs that wait and pass these tests; the second parameter is the most rows
 abbrev pub page_query : List Term → Query
 page_query tests = record (rows_by jobs_tree (waiting_tests ++ tests) prospect_project waiting_order) { limit = col 0 1 }
@@ -176,26 +181,26 @@ page_query tests = record (rows_by jobs_tree (waiting_tests ++ tests) prospect_p
 abbrev pub SelectsPage : List ℕ → List Term → Type 0
 SelectsPage sql tests = SelectsAll sql (page_query tests) prospect_names
 
-pub select_first : SelectsPage SELECT_FIRST.now []
+pub select_first : SelectsPage SELECT_FIRST.now other_tests
 unfolding understood everything
 select_first = record { command = refl; plain = (refl, refl); unlisted = refl }
 
 abbrev pub number_tests : List Term
-number_tests = equals (col 1 9) (col 0 2) ∷ equals (col 1 7) (col 0 3) ∷ op2 (Compare Gt Binary) (col 1 0) (col 0 4) ∷ []
+number_tests = other_tests ++ equals (col 1 9) (col 0 3) ∷ equals (col 1 7) (col 0 4) ∷ op2 (Compare Gt Binary) (col 1 0) (col 0 5) ∷ []
 
 pub select_behind_number : SelectsPage SELECT_BEHIND_NUMBER.now number_tests
 unfolding understood everything
 select_behind_number = record { command = refl; plain = (refl, refl); unlisted = refl }
 
 abbrev pub time_tests : List Term
-time_tests = equals (col 1 9) (col 0 2) ∷ op2 (Compare Gt Binary) (col 1 7) (col 0 3) ∷ []
+time_tests = other_tests ++ equals (col 1 9) (col 0 3) ∷ op2 (Compare Gt Binary) (col 1 7) (col 0 4) ∷ []
 
 pub select_behind_time : SelectsPage SELECT_BEHIND_TIME.now time_tests
 unfolding understood everything
 select_behind_time = record { command = refl; plain = (refl, refl); unlisted = refl }
 
 abbrev pub priority_tests : List Term
-priority_tests = op2 (Compare Gt Binary) (col 1 9) (col 0 2) ∷ []
+priority_tests = other_tests ++ op2 (Compare Gt Binary) (col 1 9) (col 0 3) ∷ []
 
 pub select_behind_priority : SelectsPage SELECT_BEHIND_PRIORITY.now priority_tests
 unfolding understood everything

@@ -1,15 +1,37 @@
--- Where a reading of the jobs that wait stands.
-use Rattle.std.specs.Prelude.{◌≡◌, ◌<◌, ℕ, ◌==◌, Bool, true, false, ◌&&◌, ◌||◌, List, [], ◌∷◌, ◌++◌, filter, map, nat_lt, take, Option, MatchOption}
+-- Which of the jobs that wait are asked for, and where a reading of them stands.
+use Rattle.std.specs.Prelude.{◌≡◌, ◌<◌, ℕ, ◌==◌, Bool, true, false, ◌&&◌, ◌||◌, List, [], ◌∷◌, ◌++◌, filter, map, nat_lt, not, take, Option, Some, None, MatchOption}
+use Rattle.std.specs.Str.{bytes_eq}
 use Rattle.sqlite.specs.Order.{Row}
+use Rattle.sqlite.specs.declared.types.Value.{Value}
+use Rattle.sqlite.specs.declared.types.Value.TheVariants.{Null, Text}
 use Rattle.fax_core.specs.Job.{Job, fields_of}
 use Rattle.fax_core.specs.Queue.{Queue}
 use Rattle.fax_core.specs.State.{calls_to}
 use Rattle.fax_job.specs.declared.job.JobFields.{JobFields}
 use Rattle.fax_store.specs.Job.{AreWaiting}
+use Rattle.fax_store.specs.declared.candidates.Asked.{Asked}
 use Rattle.fax_store.specs.declared.candidates.Front.{Front}
 use Rattle.fax_store.specs.declared.candidates.Front.TheVariants.{First, Number, Time, Priority}
 use Rattle.fax_tables.specs.Job.{prospect, prospect_shown}
 use Rattle.fax_tables.specs.declared.prospect.Prospect.{Prospect}
+
+-- ---- what is asked for
+
+-- it is to another number than the one that is named
+abbrev pub is_other : Option (List ℕ) → Job → Bool
+is_other None j = true
+is_other (Some dial) j = not (bytes_eq j.dial dial)
+
+-- the number that is named, for SQL
+abbrev pub value_of : Option (List ℕ) → Value
+value_of None = Null
+value_of (Some dial) = Text dial
+
+-- the jobs that wait, but for those to that number
+pub record AreAsked (asked : Asked) (m : Queue) (jobs : List Job) : Type 0 where
+  pub all : List Job
+  pub waiting : AreWaiting asked.t m all
+  pub is : jobs ≡ filter (is_other asked.but) all
 
 -- ---- what stands behind a front, in the order of the choice
 
@@ -49,24 +71,24 @@ is_last (Priority p) = true
 -- ---- what is read and given
 
 -- the rows of the first of them that one statement finds
-pub record IsPage (t : ℕ) (m : Queue) (front : Front) (most : ℕ) (rows : List Row) : Type 0 where
+pub record IsPage (asked : Asked) (m : Queue) (front : Front) (most : ℕ) (rows : List Row) : Type 0 where
   pub all : List Job
-  pub waiting : AreWaiting t m all
+  pub waiting : AreAsked asked m all
   pub is : rows ≡ map (λ j. prospect_shown (fields_of j)) (take most (filter (is_near front) all))
 
--- The jobs that wait are those given, then those of the page, then those behind the front. The next page may have jobs.
-pub record StandsAt (t : ℕ) (m : Queue) (given : List Job) (page : List Row) (front : Front) (most : ℕ) : Type 0 where
+-- The jobs that are asked for are those given, then those of the page, then those behind the front. The next page may have jobs.
+pub record StandsAt (asked : Asked) (m : Queue) (given : List Job) (page : List Row) (front : Front) (most : ℕ) : Type 0 where
   pub all : List Job
-  pub waiting : AreWaiting t m all
+  pub waiting : AreAsked asked m all
   pub read : List Job
   pub parts : all ≡ given ++ (read ++ filter (is_behind front) all)
   pub shown : page ≡ map (λ j. prospect_shown (fields_of j)) read
   pub some : 0 < most
 
--- The next job is given, or none is, where those given are all that wait.
-abbrev pub Gives : {A : Type 0} → (Job → A → Type 0) → ℕ → Queue → List Job → List Row → Front → ℕ → Option A → Type 0
-Gives Of t m given page front most found =
-    MatchOption found (AreWaiting t m given × StandsAt t m given page front most) (λ next. (j : Job) × Of j next × StandsAt t m (given ++ j ∷ []) page front most)
+-- The next job is given, or none is, where those given are all that are asked for.
+abbrev pub Gives : {A : Type 0} → (Job → A → Type 0) → Asked → Queue → List Job → List Row → Front → ℕ → Option A → Type 0
+Gives Of asked m given page front most found =
+    MatchOption found (AreAsked asked m given × StandsAt asked m given page front most) (λ next. (j : Job) × Of j next × StandsAt asked m (given ++ j ∷ []) page front most)
 
 -- as the choice looks at it
 abbrev pub IsProspect : Job → Prospect → Type 0

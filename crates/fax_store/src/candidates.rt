@@ -1,14 +1,13 @@
 //! The jobs that wait, read a few at a time.
 
-ghost use Rattle.std.specs.Prelude.{◌≡◌, List, [], true, None, IfOk, OnOk};
+ghost use Rattle.std.specs.Prelude.{◌≡◌, List, [], true, None, Some, IfOk, OnOk};
 ghost use Rattle.std.specs.Vec.Iter.{into_iter_items};
 ghost use Rattle.sqlite.specs.Held.{state};
 ghost use Rattle.sqlite.specs.State.{HasCleanDisk};
 ghost use Rattle.fax_core.specs.Job.{Job as OneJob};
 ghost use Rattle.fax_core.specs.Queue.{Queue, Entry};
 ghost use Rattle.fax_core.specs.State.{calls_to};
-ghost use Rattle.fax_store.specs.Candidates.{Gives, IsCounted, IsPage, IsProspect, StandsAt, is_last, next_front};
-ghost use Rattle.fax_store.specs.Job.{AreWaiting};
+ghost use Rattle.fax_store.specs.Candidates.{AreAsked, Gives, IsCounted, IsPage, IsProspect, StandsAt, is_last, next_front};
 ghost use Rattle.fax_store.specs.Store.{CommitsNothing, Serves, Means, MeansNow, HasTables, Reads, Stays, StaysOpen};
 ghost use Rattle.fax_tables.specs.Fault.{OrUnavailable};
 
@@ -20,25 +19,50 @@ use std::vec::IntoIter;
 
 const SELECT_FIRST: &str = "SELECT job, dial, modem, priority, tts FROM jobs \
     WHERE phase = 1 AND tts <= ?1 AND next <= ?1 AND (killtime = 0 OR killtime > ?1) \
-    ORDER BY priority, tts, job LIMIT ?2";
+    AND dial IS NOT ?3 ORDER BY priority, tts, job LIMIT ?2";
 
 const SELECT_BEHIND_NUMBER: &str = "SELECT job, dial, modem, priority, tts FROM jobs \
     WHERE phase = 1 AND tts <= ?1 AND next <= ?1 AND (killtime = 0 OR killtime > ?1) \
-    AND priority = ?3 AND tts = ?4 AND job > ?5 ORDER BY priority, tts, job LIMIT ?2";
+    AND dial IS NOT ?3 AND priority = ?4 AND tts = ?5 AND job > ?6 ORDER BY priority, tts, job LIMIT ?2";
 
 const SELECT_BEHIND_TIME: &str = "SELECT job, dial, modem, priority, tts FROM jobs \
     WHERE phase = 1 AND tts <= ?1 AND next <= ?1 AND (killtime = 0 OR killtime > ?1) \
-    AND priority = ?3 AND tts > ?4 ORDER BY priority, tts, job LIMIT ?2";
+    AND dial IS NOT ?3 AND priority = ?4 AND tts > ?5 ORDER BY priority, tts, job LIMIT ?2";
 
 const SELECT_BEHIND_PRIORITY: &str = "SELECT job, dial, modem, priority, tts FROM jobs \
     WHERE phase = 1 AND tts <= ?1 AND next <= ?1 AND (killtime = 0 OR killtime > ?1) \
-    AND priority > ?3 ORDER BY priority, tts, job LIMIT ?2";
+    AND dial IS NOT ?3 AND priority > ?4 ORDER BY priority, tts, job LIMIT ?2";
 
 /// How many jobs the first page has at most.
 const FIRST_PAGE: u32 = 16;
 
 /// How many jobs any page has at most. A job of a page takes a few hundred bytes.
 const LONGEST_PAGE: u32 = 4_096;
+
+/// Which of the jobs that wait are asked for: those that may be tried at a moment, but for those to a number, where one
+/// is named.
+#[derive(Debug, Drop)]
+pub struct Asked {
+    t: Moment,
+    but: Option<Dial>,
+}
+
+impl Asked {
+    ghost use Rattle.std.specs.Prelude.{◌≡◌};
+    ghost use Rattle.sqlite.specs.Values.{or_null};
+    ghost use Rattle.sqlite.specs.declared.types.Value.TheVariants.{Text};
+    ghost use Rattle.fax_store.specs.Candidates.{value_of};
+
+    /// The number that is named, for SQL.
+    fn but(&self) -> Option<&str>
+        ensures { or_null (λ s. Text s.now) result ≡ value_of self.now.but }
+    {
+        match &self.but {
+            Some(dial) => Some(dial.text()),
+            None => None,
+        }
+    }
+}
 
 /// Behind which of the jobs that wait those stand that are still to be read, in the order of the choice.
 #[derive(Clone, Copy, Debug)]
@@ -87,13 +111,14 @@ impl Front {
     }
 }
 
-/// The jobs that wait and may be tried at a moment, one after the other in the order of the choice:
+/// The jobs that wait and are asked for, one after the other in the order of the choice:
 /// by priority, then time to send, then number. They are read in pages, of 16 jobs at first, then of
 /// twice as many each, and of 4096 at most. It may be dropped at any job.
-pub struct Candidates<'s, S: Alter, P: Drop = IntoIter<Row>> {
+pub struct Candidates<'s, S: Alter, P: Drop = IntoIter<Row>, A: Drop = Asked> {
     pub(crate) store: &'s mut Store<S>,
-    t: Moment,
-    // What was read and not given yet. Its type is a parameter, so that a drop shows what it leaves behind `store`.
+    asked: A,
+    // What was read and not given yet. Its type and that of `asked` are parameters, so that a drop shows what it leaves
+    // behind `store`.
     page: P,
     front: Front,
     // How many jobs the next page has at most.
@@ -105,34 +130,55 @@ impl<S: Alter> Store<S> {
     pub fn candidates(&mut self, t: Moment) -> Candidates<'_, S>
         ensures same_reference { result.store.ghost_name ≡ self.entry.ghost_name }
         ensures same { result.store.now ≡ self.old }
-        ensures moment { result.t ≡ t }
+        ensures asked { (result.asked.t ≡ t) × (result.asked.but ≡ None) }
         ensures stands { (m : Queue) (k : List Entry) → Means (state S.Store self.old.conn) m k
-            → Serves (state S.Store self.old.conn) → StandsAt t m [] (into_iter_items result.page) result.front result.most }
+            → Serves (state S.Store self.old.conn) → StandsAt result.asked m [] (into_iter_items result.page) result.front result.most }
+    {
+        self.asked_for(Asked { t, but: None })
+    }
+
+    /// The jobs that wait and may be tried at `t`, but for those to `dial`, to be read one at a time. None is read yet.
+    pub fn candidates_but(&mut self, t: Moment, dial: Dial) -> Candidates<'_, S>
+        ensures same_reference { result.store.ghost_name ≡ self.entry.ghost_name }
+        ensures same { result.store.now ≡ self.old }
+        ensures asked { (result.asked.t ≡ t) × (result.asked.but ≡ Some dial) }
+        ensures stands { (m : Queue) (k : List Entry) → Means (state S.Store self.old.conn) m k
+            → Serves (state S.Store self.old.conn) → StandsAt result.asked m [] (into_iter_items result.page) result.front result.most }
+    {
+        self.asked_for(Asked { t, but: Some(dial) })
+    }
+
+    fn asked_for(&mut self, asked: Asked) -> Candidates<'_, S>
+        ensures same_reference { result.store.ghost_name ≡ self.entry.ghost_name }
+        ensures same { result.store.now ≡ self.old }
+        ensures asked { result.asked ≡ asked }
+        ensures stands { (m : Queue) (k : List Entry) → Means (state S.Store self.old.conn) m k
+            → Serves (state S.Store self.old.conn) → StandsAt asked m [] (into_iter_items result.page) result.front result.most }
     {
         let page = Vec::new(self.alloc);
         Candidates {
             store: self,
-            t,
+            asked,
             page: page.into_iter(),
             front: Front::First,
             most: FIRST_PAGE,
         }
     }
 
-    /// Of the jobs that wait at `t`, the rows of the first that one statement reads behind a front, at most `most`.
-    fn page(&mut self, t: Moment, front: Front, most: u32) -> Result<Vec<Row>, StoreFault>
+    /// Of the jobs that are asked for, the rows of the first that one statement reads behind a front, at most `most`.
+    fn page(&mut self, asked: &Asked, front: Front, most: u32) -> Result<Vec<Row>, StoreFault>
         ensures served { Serves (state S.Store self.new.conn) → Serves (state S.Store self.old.conn) }
         ensures clean { HasCleanDisk (state S.Store self.new.conn) → HasCleanDisk (state S.Store self.old.conn) }
         ensures opens { OnOk result (HasCleanDisk (state S.Store self.new.conn) → Serves (state S.Store self.new.conn)) }
         ensures stays { Stays (state S.Store self.old.conn) (state S.Store self.new.conn) }
         ensures crash { CommitsNothing (state S.Store self.old.conn) (state S.Store self.new.conn) }
         ensures found { (m : Queue) (k : List Entry) → Means (state S.Store self.old.conn) m k
-            → Serves (state S.Store self.new.conn) → OrUnavailable result (λ rows. IsPage t m front most rows.items) }
+            → Serves (state S.Store self.new.conn) → OrUnavailable result (λ rows. IsPage asked.now m front most rows.items) }
     {
-        self.read_page(t, front, most)
+        self.read_page(asked, front, most)
     }
 
-    fn read_page(&mut self, t: Moment, front: Front, most: u32) -> Result<Vec<Row>, StoreFault>
+    fn read_page(&mut self, asked: &Asked, front: Front, most: u32) -> Result<Vec<Row>, StoreFault>
         ensures served { Serves (state S.Store self.new.conn) → Serves (state S.Store self.old.conn) }
         ensures clean { HasCleanDisk (state S.Store self.new.conn) → HasCleanDisk (state S.Store self.old.conn) }
         ensures opens { OnOk result (HasCleanDisk (state S.Store self.new.conn) → Serves (state S.Store self.new.conn)) }
@@ -140,19 +186,20 @@ impl<S: Alter> Store<S> {
             → Reads (state S.Store self.old.conn) (state S.Store self.new.conn) result }
         ensures crash { CommitsNothing (state S.Store self.old.conn) (state S.Store self.new.conn) }
         ensures answers { (m : Queue) (k : List Entry) → MeansNow (state S.Store self.old.conn) m k
-            → Serves (state S.Store self.new.conn) → OrUnavailable result (λ rows. IsPage t m front most rows.items) }
+            → Serves (state S.Store self.new.conn) → OrUnavailable result (λ rows. IsPage asked.now m front most rows.items) }
     {
-        let t = t.seconds();
+        let (t, but) = (asked.t.seconds(), asked.but());
         match front {
-            Front::First => self.show(SELECT_FIRST, params![t, most]),
+            Front::First => self.show(SELECT_FIRST, params![t, most, but]),
             Front::Number(priority, tts, job) => {
-                self.show(SELECT_BEHIND_NUMBER, params![t, most, priority, tts, job])
+                let params = params![t, most, but, priority, tts, job];
+                self.show(SELECT_BEHIND_NUMBER, params)
             }
             Front::Time(priority, tts) => {
-                self.show(SELECT_BEHIND_TIME, params![t, most, priority, tts])
+                self.show(SELECT_BEHIND_TIME, params![t, most, but, priority, tts])
             }
             Front::Priority(priority) => {
-                self.show(SELECT_BEHIND_PRIORITY, params![t, most, priority])
+                self.show(SELECT_BEHIND_PRIORITY, params![t, most, but, priority])
             }
         }
     }
@@ -172,11 +219,11 @@ impl<S: Alter> Candidates<'_, S> {
         ensures opens { OnOk result (HasCleanDisk (state S.Store self.new.store.now.conn) → Serves (state S.Store self.new.store.now.conn)) }
         ensures stays { Stays (state S.Store self.old.store.now.conn) (state S.Store self.new.store.now.conn) }
         ensures crash { CommitsNothing (state S.Store self.old.store.now.conn) (state S.Store self.new.store.now.conn) }
-        ensures moment { self.new.t ≡ self.old.t }
+        ensures asked { self.new.asked ≡ self.old.asked }
         ensures found { (m : Queue) (k : List Entry) (given : List OneJob) → Means (state S.Store self.old.store.now.conn) m k
             → Serves (state S.Store self.new.store.now.conn)
-            → StandsAt self.old.t m given (into_iter_items self.old.page) self.old.front self.old.most
-            → OrUnavailable result (Gives (IsCounted m) self.old.t m given (into_iter_items self.new.page) self.new.front self.new.most) }
+            → StandsAt self.old.asked m given (into_iter_items self.old.page) self.old.front self.old.most
+            → OrUnavailable result (Gives (IsCounted m) self.old.asked m given (into_iter_items self.new.page) self.new.front self.new.most) }
     {
         let Some(prospect) = self.prospect()? else {
             return Ok(None);
@@ -202,11 +249,11 @@ impl<S: Alter> Candidates<'_, S> {
             → Serves (state S.Store self.new.store.now.conn)) }
         ensures stays { Stays (state S.Store self.old.store.now.conn) (state S.Store self.new.store.now.conn) }
         ensures crash { CommitsNothing (state S.Store self.old.store.now.conn) (state S.Store self.new.store.now.conn) }
-        ensures moment { self.new.t ≡ self.old.t }
+        ensures asked { self.new.asked ≡ self.old.asked }
         ensures found { (m : Queue) (k : List Entry) (given : List OneJob) → Means (state S.Store self.old.store.now.conn) m k
             → Serves (state S.Store self.new.store.now.conn)
-            → StandsAt self.old.t m given (into_iter_items self.old.page) self.old.front self.old.most
-            → OrUnavailable result (Gives IsProspect self.old.t m given (into_iter_items self.new.page) self.new.front self.new.most) }
+            → StandsAt self.old.asked m given (into_iter_items self.old.page) self.old.front self.old.most
+            → OrUnavailable result (Gives IsProspect self.old.asked m given (into_iter_items self.new.page) self.new.front self.new.most) }
     {
         self.refill()?;
         match self.page.next() {
@@ -227,7 +274,7 @@ impl<S: Alter> Candidates<'_, S> {
         ensures opens { OnOk result (HasCleanDisk (state S.Store self.new.store.now.conn) → Serves (state S.Store self.new.store.now.conn)) }
         ensures stays { Stays (state S.Store self.old.store.now.conn) (state S.Store self.new.store.now.conn) }
         ensures crash { CommitsNothing (state S.Store self.old.store.now.conn) (state S.Store self.new.store.now.conn) }
-        ensures same { (self.new.t ≡ self.old.t) × (self.new.page ≡ self.old.page) × (self.new.front ≡ self.old.front) × (self.new.most ≡ self.old.most) }
+        ensures same { (self.new.asked ≡ self.old.asked) × (self.new.page ≡ self.old.page) × (self.new.front ≡ self.old.front) × (self.new.most ≡ self.old.most) }
         ensures found { (m : Queue) (k : List Entry) → Means (state S.Store self.old.store.now.conn) m k
             → Serves (state S.Store self.new.store.now.conn) → OrUnavailable result (λ calls. calls ≡ calls_to dial.now m) }
     {
@@ -244,12 +291,12 @@ impl<S: Alter> Candidates<'_, S> {
             → HasCleanDisk (state S.Store self.new.store.now.conn) → Serves (state S.Store self.new.store.now.conn)) }
         ensures stays { Stays (state S.Store self.old.store.now.conn) (state S.Store self.new.store.now.conn) }
         ensures crash { CommitsNothing (state S.Store self.old.store.now.conn) (state S.Store self.new.store.now.conn) }
-        ensures moment { self.new.t ≡ self.old.t }
+        ensures asked { self.new.asked ≡ self.old.asked }
         ensures found { (m : Queue) (k : List Entry) (given : List OneJob) → Means (state S.Store self.old.store.now.conn) m k
             → Serves (state S.Store self.new.store.now.conn)
-            → StandsAt self.old.t m given (into_iter_items self.old.page) self.old.front self.old.most
-            → OrUnavailable result (λ _. StandsAt self.old.t m given (into_iter_items self.new.page) self.new.front self.new.most
-            × (into_iter_items self.new.page ≡ [] → AreWaiting self.old.t m given)) }
+            → StandsAt self.old.asked m given (into_iter_items self.old.page) self.old.front self.old.most
+            → OrUnavailable result (λ _. StandsAt self.old.asked m given (into_iter_items self.new.page) self.new.front self.new.most
+            × (into_iter_items self.new.page ≡ [] → AreAsked self.old.asked m given)) }
     {
         while self.page.len() == 0 {
             if self.read_on()? {
@@ -267,17 +314,17 @@ impl<S: Alter> Candidates<'_, S> {
         ensures opens { OnOk result (HasCleanDisk (state S.Store self.new.store.now.conn) → Serves (state S.Store self.new.store.now.conn)) }
         ensures stays { Stays (state S.Store self.old.store.now.conn) (state S.Store self.new.store.now.conn) }
         ensures crash { CommitsNothing (state S.Store self.old.store.now.conn) (state S.Store self.new.store.now.conn) }
-        ensures moment { self.new.t ≡ self.old.t }
+        ensures asked { self.new.asked ≡ self.old.asked }
         ensures told { IfOk result (λ last. last ≡ is_last self.old.front) }
         ensures next { OnOk result (into_iter_items self.new.page ≡ [] → self.new.front ≡ next_front self.old.front) }
         ensures found { (m : Queue) (k : List Entry) (given : List OneJob) → Means (state S.Store self.old.store.now.conn) m k
             → Serves (state S.Store self.new.store.now.conn)
-            → StandsAt self.old.t m given [] self.old.front self.old.most
-            → OrUnavailable result (λ last. StandsAt self.old.t m given (into_iter_items self.new.page) self.new.front self.new.most
-            × (into_iter_items self.new.page ≡ [] → last ≡ true → AreWaiting self.old.t m given)) }
+            → StandsAt self.old.asked m given [] self.old.front self.old.most
+            → OrUnavailable result (λ last. StandsAt self.old.asked m given (into_iter_items self.new.page) self.new.front self.new.most
+            × (into_iter_items self.new.page ≡ [] → last ≡ true → AreAsked self.old.asked m given)) }
     {
         let is_last = self.front.is_last();
-        let page = self.store.page(self.t, self.front, self.most)?;
+        let page = self.store.page(&self.asked, self.front, self.most)?;
         self.front = match page.last() {
             Some(row) => Front::of(&prospect_in(self.store.alloc, row)?),
             None => self.front.next(),
@@ -288,13 +335,13 @@ impl<S: Alter> Candidates<'_, S> {
     }
 }
 
-impl<S: Alter, P: Drop> Drop for Candidates<'_, S, P> {
+impl<S: Alter, P: Drop, A: Drop> Drop for Candidates<'_, S, P, A> {
     fn drop(self)
         ensures { self.exit.0.now ≡ self.entry.store.now }
     {
         let Candidates {
             store: _,
-            t: _,
+            asked: _,
             page: _,
             front: _,
             most: _,

@@ -1,10 +1,14 @@
-use Rattle.std.proofs.Common.{◌≡◌, rules, subst, sym}
-use Rattle.sqlite.specs.Held.{state}
-use Rattle.fax_store.specs.Store.{Rests}
+use Rattle.std.proofs.Common.{subst}
+use Rattle.fax_decide.specs.Choice.{IsBusy}
+use Rattle.fax_decide.specs.Settings.{settings_of}
+use Rattle.fax_store.proofs.StoreLemmas.{means_stay}
 use Rattle.fax_decide.proofs.choice.first.Goals as goal
 
-pub returns-clause-stays : goal.returns-clause-stays
-returns-clause-stays g c db six rests =
-    let same : c.first_of.new.candidates.store.now ≡ c.store-1.given.0 = search rules in
-    let begun : Rests (state g.S.Store c.candidates-candidates.result.store.now.conn) db = subst (λ v. Rests (state g.S.Store v.conn) db) (sym c.candidates-candidates.ensures.same) rests in
-    subst (λ v. Rests (state g.S.Store v.conn) db) same (c.first_of.ensures.stays db six begun)
+pub returns-in-Some-clause-stays : goal.returns-in-Some-clause-stays
+returns-in-Some-clause-stays g c db six rests = c.first_but.ensures.stays db six (c.first_or_busy.ensures.stays db six rests)
+
+pub returns-in-Some-clause-found : goal.returns-in-Some-clause-found
+returns-in-Some-clause-found g c m k means serves =
+    let s = settings_of c.args.office.now.setup c.args.office.now.controls in
+    let told = c.in_ok-found.ensures.found m k means (c.first_but.ensures.served serves) tt in
+    c.first_but.ensures.found m k (means_stay c.first_or_busy.ensures.served c.first_or_busy.ensures.stays m k means) serves (subst (IsBusy s m c.args.t) c.in-Some.is told.0)

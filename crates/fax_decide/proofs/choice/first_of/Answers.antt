@@ -1,4 +1,5 @@
-use Rattle.std.proofs.Common.{◌≡◌, ◌∷◌, [], ◌++◌, ◌&&◌, ℕ, Some, true, false, sym, subst, ap, ◌∙◌}
+use Rattle.std.proofs.Common.{rules, ◌≡◌, ◌∷◌, [], ◌++◌, ◌&&◌, ℕ, Some, true, false, sym, subst, ap, ◌∙◌}
+use Rattle.std.specs.Prelude.{is_some}
 use Rattle.std.specs.Option.{option_map}
 use Rattle.std.specs.Vec.Iter.{into_iter_items}
 use Rattle.fax_core.specs.Best.{may_go}
@@ -7,10 +8,10 @@ use Rattle.fax_store.specs.Candidates.{Gives, IsProspect, StandsAt}
 use Rattle.fax_store.specs.declared.candidates.Front.{Front}
 use Rattle.fax_store.proofs.StoreLemmas.{means_stay}
 use Rattle.fax_tables.specs.declared.prospect.Prospect.{Prospect}
-use Rattle.fax_decide.specs.Choice.{IsFirst}
+use Rattle.fax_decide.specs.Choice.{IsFirstAsked}
 use Rattle.fax_decide.specs.Settings.{settings_of}
 use Rattle.fax_decide.specs.State.{may_call}
-use Rattle.fax_decide.proofs.ChoiceLemmas.{NoneWent, given_due, goes_due, next_given, none_more, number_of, went}
+use Rattle.fax_decide.proofs.ChoiceLemmas.{NoneWent, given_due, goes_due, next_given, none_is_one, none_more, number_of, went}
 use Rattle.fax_decide.proofs.choice.first_of.Goals as goal
 
 pub returns-in_err-prospect-clause-stays : goal.returns-in_err-prospect-clause-stays
@@ -20,16 +21,19 @@ pub returns-in_default-clause-stays : goal.returns-in_default-clause-stays
 returns-in_default-clause-stays g c db six rests = c.prospect.ensures.stays db six (c.loop.invariant.stays db six rests)
 
 pub returns-in_default-clause-found : goal.returns-in_default-clause-found
-returns-in_default-clause-found g c m k means serves same stands =
+returns-in_default-clause-found g c m k means serves same stands busy =
     let s = settings_of c.args.office.now.setup c.args.office.now.controls in
     let t = c.args.t in
+    let asked = c.args.candidates.now.asked in
     let page = into_iter_items c.prospect.new.self.page in
     let front = c.prospect.new.self.front in
     let most = c.prospect.new.self.most in
-    let next = next_given (may_go s m t c.args.modem.now) t c.loop.candidates.t m (into_iter_items c.loop.candidates.page) page c.loop.candidates.front front c.loop.candidates.most most c.in_ok-prospect.field-0
-    (c.loop.invariant.moment ∙ same) (c.loop.invariant.none m k means (c.prospect.ensures.served serves) same stands)
-    (λ given stood. c.in_ok-prospect.ensures.found m k given (means_stay c.loop.invariant.served c.loop.invariant.stays m k means) serves stood) in
-    (next.0, (subst (Gives IsProspect t m next.0 page front most) c.in_default.is next.1).0, ap (option_map number_of) (sym next.2))
+    let next = next_given (may_go s m asked.t c.args.modem.now) asked c.loop.candidates.asked m (into_iter_items c.loop.candidates.page) page c.loop.candidates.front front c.loop.candidates.most most c.in_ok-prospect.field-0
+    c.loop.invariant.asked (c.loop.invariant.none m k means (c.prospect.ensures.served serves) same stands busy)
+    (λ given stood. c.in_ok-prospect.ensures.found m k given (means_stay c.loop.invariant.served c.loop.invariant.stays m k means) serves stood) in (
+      c.loop.invariant.busy m k means (c.prospect.ensures.served serves) busy,
+      λ free. (next.0, (subst (Gives IsProspect asked m next.0 page front most) c.in_default.is next.1).0, ap (option_map number_of) (sym next.2)),
+    )
 
 pub returns-in_err-goes-clause-stays : goal.returns-in_err-goes-clause-stays
 returns-in_err-goes-clause-stays g c db six rests = c.goes.ensures.stays db six (c.prospect.ensures.stays db six (c.loop.invariant.stays db six rests))
@@ -38,9 +42,10 @@ pub returns-then-branch-clause-stays : goal.returns-then-branch-clause-stays
 returns-then-branch-clause-stays g c db six rests = c.goes.ensures.stays db six (c.prospect.ensures.stays db six (c.loop.invariant.stays db six rests))
 
 pub returns-then-branch-clause-found : goal.returns-then-branch-clause-found
-returns-then-branch-clause-found g c m k means serves same stands =
+returns-then-branch-clause-found g c m k means serves same stands busy =
     let s = settings_of c.args.office.now.setup c.args.office.now.controls in
     let t = c.args.t in
+    let asked = c.args.candidates.now.asked in
     let modem = c.args.modem.now in
     let page = into_iter_items c.prospect.new.self.page in
     let front = c.prospect.new.self.front in
@@ -49,32 +54,33 @@ returns-then-branch-clause-found g c m k means serves same stands =
     let before = c.prospect.ensures.served between in
     let at = means_stay c.loop.invariant.served c.loop.invariant.stays m k means in
     let looked = means_stay c.prospect.ensures.served c.prospect.ensures.stays m k at in
-    let next = next_given (may_go s m t modem) t c.loop.candidates.t m (into_iter_items c.loop.candidates.page) page c.loop.candidates.front front c.loop.candidates.most most c.in_ok-prospect.field-0
-    (c.loop.invariant.moment ∙ same) (c.loop.invariant.none m k means before same stands)
+    let next = next_given (may_go s m asked.t modem) asked c.loop.candidates.asked m (into_iter_items c.loop.candidates.page) page c.loop.candidates.front front c.loop.candidates.most most c.in_ok-prospect.field-0
+    c.loop.invariant.asked (c.loop.invariant.none m k means before same stands busy)
     (λ given stood. c.in_ok-prospect.ensures.found m k given at between stood) in
-    let it = subst (Gives IsProspect t m next.0 page front most) c.in-Some.is next.1 in
-    let told = c.in_ok-goes.ensures.told m k looked serves (c.loop.invariant.busy m k means before) in
-    let passes : may_go s m t modem it.0 ≡ true =
-    goes_due s m t modem it.0 (given_due t m next.0 it.0 page front most it.2)
-    ∙ sym (ap (λ (p : Prospect). may_call s p.dial (calls_to p.dial m) t && s.admits p.modem modem) it.1) ∙ sym told.0 ∙ c.if-branch.true in
-    subst (λ (n : ℕ). IsFirst s m t modem (Some n)) (sym (ap (λ (p : Prospect). p.job) it.1)) (went t m next.0 it.0 page front most it.2 s modem next.2 passes)
+    let it = subst (Gives IsProspect asked m next.0 page front most) c.in-Some.is next.1 in
+    let told = c.in_ok-goes.ensures.told m k looked serves (c.loop.invariant.busy m k means before busy) in
+    let passes : may_go s m asked.t modem it.0 ≡ true =
+    goes_due s m asked.t modem it.0 (given_due asked m next.0 it.0 page front most it.2) ∙ sym (ap (λ (p : Prospect). may_call s p.dial (calls_to p.dial m) asked.t && s.admits p.modem modem) it.1)
+    ∙ ap (λ (now : ℕ). may_call s c.in-Some.prospect.dial (calls_to c.in-Some.prospect.dial m) now && s.admits c.in-Some.prospect.modem modem) same ∙ sym told.0 ∙ c.if-branch.true in
+    (told.1, λ free. subst (λ (n : ℕ). IsFirstAsked s asked m modem (Some n)) (sym (ap (λ (p : Prospect). p.job) it.1)) (went asked m next.0 it.0 page front most it.2 s modem next.2 passes))
 
 pub loop-preserved : goal.loop-preserved
 loop-preserved g c = record {
   same_reference = c.goes.ensures.same_reference ∙ c.prospect.ensures.same_reference ∙ c.loop.invariant.same_reference;
-  moment = c.goes.ensures.same.0 ∙ c.prospect.ensures.moment ∙ c.loop.invariant.moment;
+  asked = c.goes.ensures.same.0 ∙ c.prospect.ensures.asked ∙ c.loop.invariant.asked;
   served = λ serves. c.loop.invariant.served (c.prospect.ensures.served (c.goes.ensures.served serves));
   clean = λ clean. c.loop.invariant.clean (c.prospect.ensures.clean (c.goes.ensures.clean clean));
   opens = λ clean serves. c.in_ok-goes.ensures.opens clean (c.in_ok-prospect.ensures.opens (c.goes.ensures.clean clean) (c.loop.invariant.opens (c.prospect.ensures.clean (c.goes.ensures.clean clean)) serves));
   stays = λ db six rests. c.goes.ensures.stays db six (c.prospect.ensures.stays db six (c.loop.invariant.stays db six rests));
   crash = λ found may. c.loop.invariant.crash found (c.prospect.ensures.crash found (c.goes.ensures.crash found may));
-  busy = λ m k means serves.
+  busy = λ m k means serves busy.
       let before = c.prospect.ensures.served (c.goes.ensures.served serves) in
       let looked = means_stay c.prospect.ensures.served c.prospect.ensures.stays m k (means_stay c.loop.invariant.served c.loop.invariant.stays m k means) in
-      (c.in_ok-goes.ensures.told m k looked serves (c.loop.invariant.busy m k means before)).1;
-  none = λ m k means serves same stands.
+      (c.in_ok-goes.ensures.told m k looked serves (c.loop.invariant.busy m k means before busy)).1;
+  none = λ m k means serves same stands busy.
       let s = settings_of c.args.office.now.setup c.args.office.now.controls in
       let t = c.args.t in
+      let asked = c.args.candidates.now.asked in
       let modem = c.args.modem.now in
       let page = into_iter_items c.prospect.new.self.page in
       let front = c.prospect.new.self.front in
@@ -83,17 +89,28 @@ loop-preserved g c = record {
       let before = c.prospect.ensures.served between in
       let at = means_stay c.loop.invariant.served c.loop.invariant.stays m k means in
       let looked = means_stay c.prospect.ensures.served c.prospect.ensures.stays m k at in
-      let next = next_given (may_go s m t modem) t c.loop.candidates.t m (into_iter_items c.loop.candidates.page) page c.loop.candidates.front front c.loop.candidates.most most c.in_ok-prospect.field-0
-      (c.loop.invariant.moment ∙ same) (c.loop.invariant.none m k means before same stands)
+      let next = next_given (may_go s m asked.t modem) asked c.loop.candidates.asked m (into_iter_items c.loop.candidates.page) page c.loop.candidates.front front c.loop.candidates.most most c.in_ok-prospect.field-0
+      c.loop.invariant.asked (c.loop.invariant.none m k means before same stands busy)
       (λ given stood. c.in_ok-prospect.ensures.found m k given at between stood) in
-      let it = subst (Gives IsProspect t m next.0 page front most) c.in-Some.is next.1 in
-      let told = c.in_ok-goes.ensures.told m k looked serves (c.loop.invariant.busy m k means before) in
-      let fails : may_go s m t modem it.0 ≡ false =
-      goes_due s m t modem it.0 (given_due t m next.0 it.0 page front most it.2)
-      ∙ sym (ap (λ (p : Prospect). may_call s p.dial (calls_to p.dial m) t && s.admits p.modem modem) it.1) ∙ sym told.0 ∙ c.if-branch.false in
+      let it = subst (Gives IsProspect asked m next.0 page front most) c.in-Some.is next.1 in
+      let told = c.in_ok-goes.ensures.told m k looked serves (c.loop.invariant.busy m k means before busy) in
+      let fails : may_go s m asked.t modem it.0 ≡ false =
+      goes_due s m asked.t modem it.0 (given_due asked m next.0 it.0 page front most it.2) ∙ sym (ap (λ (p : Prospect). may_call s p.dial (calls_to p.dial m) asked.t && s.admits p.modem modem) it.1)
+      ∙ ap (λ (now : ℕ). may_call s c.in-Some.prospect.dial (calls_to c.in-Some.prospect.dial m) now && s.admits c.in-Some.prospect.modem modem) same ∙ sym told.0 ∙ c.if-branch.false in
       let stood = c.goes.ensures.same in
-      subst (λ (x : ℕ). NoneWent (may_go s m t modem) t m (into_iter_items c.goes.new.candidates.page) c.goes.new.candidates.front x) (sym stood.3)
-      (subst (λ (x : Front). NoneWent (may_go s m t modem) t m (into_iter_items c.goes.new.candidates.page) x most) (sym stood.2)
-      (subst (λ x. NoneWent (may_go s m t modem) t m (into_iter_items x) front most) (sym stood.1)
-      (next.0 ++ it.0 ∷ [], it.2, none_more (may_go s m t modem) next.0 it.0 next.2 fails)));
+      subst (λ (x : ℕ). NoneWent (may_go s m asked.t modem) asked m (into_iter_items c.goes.new.candidates.page) c.goes.new.candidates.front x) (sym stood.3)
+      (subst (λ (x : Front). NoneWent (may_go s m asked.t modem) asked m (into_iter_items c.goes.new.candidates.page) x most) (sym stood.2)
+      (subst (λ x. NoneWent (may_go s m asked.t modem) asked m (into_iter_items x) front most) (sym stood.1)
+      (next.0 ++ it.0 ∷ [], it.2, none_more (may_go s m asked.t modem) next.0 it.0 next.2 fails)));
 }
+
+pub returns-then-is_some-clause-stays : goal.returns-then-is_some-clause-stays
+returns-then-is_some-clause-stays g c db six rests = c.goes.ensures.stays db six (c.prospect.ensures.stays db six (c.loop.invariant.stays db six rests))
+
+pub returns-then-is_some-clause-found : goal.returns-then-is_some-clause-found
+returns-then-is_some-clause-found g c m k means serves same stands busy =
+    let before = c.prospect.ensures.served (c.goes.ensures.served serves) in
+    let looked = means_stay c.prospect.ensures.served c.prospect.ensures.stays m k (means_stay c.loop.invariant.served c.loop.invariant.stays m k means) in
+    let told = c.in_ok-goes.ensures.told m k looked serves (c.loop.invariant.busy m k means before busy) in
+    let one : is_some c.goes.new.busy ≡ true = search rules in
+    (told.1, λ free. absurd (none_is_one c.goes.new.busy (free c.if-ends_at_busy.true) one))

@@ -14,15 +14,15 @@ use Rattle.fax_decide.proofs.choice.first_of.Given as goal
 abbrev pub invariant-loop : goal.invariant-loop
 invariant-loop g l = record {
   same_reference : l.candidates.store.ghost_name ≡ l.initial.candidates.store.ghost_name;
-  moment : l.candidates.t ≡ l.initial.candidates.t;
+  asked : l.candidates.asked ≡ l.initial.candidates.asked;
   served : Serves (state g.S.Store l.candidates.store.now.conn) → Serves (state g.S.Store l.initial.candidates.store.now.conn);
   clean : HasCleanDisk (state g.S.Store l.candidates.store.now.conn) → HasCleanDisk (state g.S.Store l.initial.candidates.store.now.conn);
   opens : StaysOpen (state g.S.Store l.initial.candidates.store.now.conn) (state g.S.Store l.candidates.store.now.conn);
   stays : Stays (state g.S.Store l.initial.candidates.store.now.conn) (state g.S.Store l.candidates.store.now.conn);
   crash : CommitsNothing (state g.S.Store l.initial.candidates.store.now.conn) (state g.S.Store l.candidates.store.now.conn);
   busy : (m : Queue) (k : List Entry) → Means (state g.S.Store l.initial.candidates.store.now.conn) m k → Serves (state g.S.Store l.candidates.store.now.conn)
-      → IsBusy (settings_of l.office.setup l.office.controls) m l.t l.busy;
-  none : (m : Queue) (k : List Entry) → Means (state g.S.Store l.initial.candidates.store.now.conn) m k → Serves (state g.S.Store l.candidates.store.now.conn) → l.initial.candidates.t ≡ l.t
-      → StandsAt l.t m [] (into_iter_items l.initial.candidates.page) l.initial.candidates.front l.initial.candidates.most
-      → NoneWent (may_go (settings_of l.office.setup l.office.controls) m l.t l.modem) l.t m (into_iter_items l.candidates.page) l.candidates.front l.candidates.most;
+      → IsBusy (settings_of l.office.setup l.office.controls) m l.t l.initial.busy → IsBusy (settings_of l.office.setup l.office.controls) m l.t l.busy;
+  none : (m : Queue) (k : List Entry) → Means (state g.S.Store l.initial.candidates.store.now.conn) m k → Serves (state g.S.Store l.candidates.store.now.conn) → l.initial.candidates.asked.t ≡ l.t
+      → StandsAt l.initial.candidates.asked m [] (into_iter_items l.initial.candidates.page) l.initial.candidates.front l.initial.candidates.most → IsBusy (settings_of l.office.setup l.office.controls) m l.t l.initial.busy
+      → NoneWent (may_go (settings_of l.office.setup l.office.controls) m l.initial.candidates.asked.t l.modem) l.initial.candidates.asked m (into_iter_items l.candidates.page) l.candidates.front l.candidates.most;
 }

@@ -5,9 +5,10 @@ use Rattle.sqlite.specs.Held.{state}
 use Rattle.fax_ask.specs.Response.{Response}
 use Rattle.fax_decide.specs.Settings.{settings_of}
 use Rattle.fax_decide.specs.declared.office.Office.{Office}
-use Rattle.fax_once.proofs.HandledLemmas.{run_sound, runs_on, runs_well}
+use Rattle.fax_once.proofs.HandledLemmas.{run_sound, runs_on, runs_well, stops_on}
 use Rattle.fax_once.proofs.queue.Queue.run.Goals as goal
 use Rattle.fax_once.specs.Laws.{HasRun}
+use Rattle.fax_once.specs.Stop.{Stops, StopsIn}
 use Rattle.fax_once.specs.Run.{Start, end_of}
 use Rattle.fax_once.specs.Verdict.{Handles}
 use Rattle.fax_once.specs.declared.arrival.Arrival.{Arrival}
@@ -30,16 +31,23 @@ loop-arrival-preserved g c =
           let start : Start = record { queue = m; kept = k } in
           let front = take i c.args.arrivals.now in
           let replies = c.loop-arrival.replies.items in
-          let before : HasRun s start front replies old = c.loop-arrival.invariant.ran m k sound means (c.handle-reply.ensures.clean clean) in
-          let here = end_of s start before.heard in
+          let initial = state g.S.Store c.args.self.now.store.conn in
+          let before : StopsIn s start front replies initial old = c.loop-arrival.invariant.ran m k sound means (c.handle-reply.ensures.clean clean) in
+          let here = end_of s start before.0.heard in
+          let here_sound = run_sound s start front replies old sound before.0 in
           let handled = subst (λ (o : Office). Handles (settings_of o.setup o.controls) c.arrival-item.result here.queue here.kept c.handle-reply.result new) c.loop-arrival.invariant.office
-          (c.handle-reply.ensures.handled here.queue here.kept (run_sound s start front replies old sound before) before.means clean) in
-          let on = runs_on s start front replies c.arrival-item.result c.handle-reply.result old new before handled in
+          (c.handle-reply.ensures.handled here.queue here.kept here_sound before.0.means clean) in
+          let stops = subst (λ (o : Office). Stops (settings_of o.setup o.controls) c.arrival-item.result here.queue here.kept old new) c.loop-arrival.invariant.office
+          (c.handle-reply.ensures.crash here.queue here.kept here_sound before.0.means) in
+          let on : StopsIn s start (front ++ c.arrival-item.result ∷ []) (replies ++ c.handle-reply.result ∷ []) initial new = (
+            runs_on s start front replies c.arrival-item.result c.handle-reply.result old new before.0 handled,
+            stops_on s start front replies c.arrival-item.result c.handle-reply.result old new before.0 initial before.1 stops handled,
+          ) in
           let low : i < length c.args.arrivals.now = search rules in
           let seen : take (i + 1) c.args.arrivals.now ≡ front ++ c.arrival-item.result ∷ [] = take_more c.args.arrivals.now i c.arrival-item.result low ∙ ap (λ (a : Arrival). front ++ a ∷ []) (sym c.arrival-item.is) in
           let told : c.push.new.self.items ≡ replies ++ c.handle-reply.result ∷ [] = c.push.ensures.items ∙ ap (λ b. if b then replies ++ c.handle-reply.result ∷ [] else replies) put in
-          subst (λ (arrivals : List Arrival). HasRun s start arrivals c.push.new.self.items new) (sym seen)
-          (subst (λ (rs : List Response). HasRun s start (front ++ c.arrival-item.result ∷ []) rs new) (sym told) on);
+          subst (λ (arrivals : List Arrival). StopsIn s start arrivals c.push.new.self.items initial new) (sym seen)
+          (subst (λ (rs : List Response). StopsIn s start (front ++ c.arrival-item.result ∷ []) rs initial new) (sym told) on);
     }
 
 pub returns-clause-ran : goal.returns-clause-ran
@@ -49,4 +57,13 @@ returns-clause-ran g c m k sound means clean =
     let start : Start = record { queue = m; kept = k } in
     let store = state g.S.Store c.loop-arrival.self.store.conn in
     runs_well s start c.args.arrivals.now c.loop-arrival.replies.items store sound
-    (subst (λ (arrivals : List Arrival). HasRun s start arrivals c.loop-arrival.replies.items store) (take_all c.loop-arrival.arrival-index c.args.arrivals.now all) (c.loop-arrival.invariant.ran m k sound means clean))
+    (subst (λ (arrivals : List Arrival). HasRun s start arrivals c.loop-arrival.replies.items store) (take_all c.loop-arrival.arrival-index c.args.arrivals.now all) (c.loop-arrival.invariant.ran m k sound means clean).0)
+
+pub returns-clause-crash : goal.returns-clause-crash
+returns-clause-crash g c m k sound means clean =
+    let all : length c.args.arrivals.now ≤ c.loop-arrival.arrival-index = search rules in
+    let s = settings_of c.args.self.now.office.setup c.args.self.now.office.controls in
+    let start : Start = record { queue = m; kept = k } in
+    let store = state g.S.Store c.loop-arrival.self.store.conn in
+    subst (λ (arrivals : List Arrival). StopsIn s start arrivals c.loop-arrival.replies.items (state g.S.Store c.args.self.now.store.conn) store)
+    (take_all c.loop-arrival.arrival-index c.args.arrivals.now all) (c.loop-arrival.invariant.ran m k sound means clean)

@@ -6,7 +6,7 @@ use Rattle.fax_core.specs.Queue.{Queue, Entry}
 use Rattle.fax_core.specs.Sound.{Sound}
 use Rattle.fax_decide.specs.Settings.{settings_of}
 use Rattle.fax_store.specs.Store.{Means}
-use Rattle.fax_once.specs.Laws.{HasRun}
+use Rattle.fax_once.specs.Stop.{StopsIn}
 use Rattle.fax_once.proofs.queue.Queue.run.Given as goal
 
 -- the arrivals so far have run
@@ -17,5 +17,6 @@ invariant-loop-arrival g l = record {
   office : l.self.office ≡ l.initial.self.office;
   clean : HasCleanDisk (state g.S.Store l.self.store.conn) → HasCleanDisk (state g.S.Store l.initial.self.store.conn);
   ran : (m : Queue) (k : List Entry) → Sound m → Means (state g.S.Store l.initial.self.store.conn) m k → HasCleanDisk (state g.S.Store l.self.store.conn)
-      → HasRun (settings_of l.initial.self.office.setup l.initial.self.office.controls) (record { queue = m; kept = k }) (take l.arrival-index l.arrivals) l.replies.items (state g.S.Store l.self.store.conn);
+      → StopsIn (settings_of l.initial.self.office.setup l.initial.self.office.controls) (record { queue = m; kept = k }) (take l.arrival-index l.arrivals) l.replies.items
+      (state g.S.Store l.initial.self.store.conn) (state g.S.Store l.self.store.conn);
 }

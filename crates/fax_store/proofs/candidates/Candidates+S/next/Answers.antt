@@ -18,7 +18,7 @@ returns-in_err-prospect-clause-found g c m k given means serves stands =
 
 pub returns-in_default-clause-found : goal.returns-in_default-clause-found
 returns-in_default-clause-found g c m k given means serves stands =
-    subst (λ o. Gives IsProspect c.args.self.now.t m given (into_iter_items c.prospect.new.self.page) c.prospect.new.self.front c.prospect.new.self.most o) c.in_default.is
+    subst (λ o. Gives IsProspect c.args.self.now.asked m given (into_iter_items c.prospect.new.self.page) c.prospect.new.self.front c.prospect.new.self.most o) c.in_default.is
     (c.in_ok-prospect.ensures.found m k given means serves stands)
 
 pub returns-in_err-job-clause-stays : goal.returns-in_err-job-clause-stays
@@ -34,13 +34,13 @@ returns-in_default-2-clause-stays g c db six rests = c.job.ensures.stays db six 
 
 pub returns-in_default-2-clause-found : goal.returns-in_default-2-clause-found
 returns-in_default-2-clause-found g c m k given means serves stands =
-    let t = c.args.self.now.t in
+    let asked = c.args.self.now.asked in
     let page = into_iter_items c.prospect.new.self.page in
     let front = c.prospect.new.self.front in
     let most = c.prospect.new.self.most in
     let between = c.job.ensures.served serves in
-    let it = subst (λ o. Gives IsProspect t m given page front most o) c.in-Some.is (c.in_ok-prospect.ensures.found m k given means between stands) in
-    let there = given_there _ m k (means (c.prospect.ensures.served between)).means t given it.0 page front most it.2 in
+    let it = subst (λ o. Gives IsProspect asked m given page front most o) c.in-Some.is (c.in_ok-prospect.ensures.found m k given means between stands) in
+    let there = given_there _ m k (means (c.prospect.ensures.served between)).means asked given it.0 page front most it.2 in
     let job = c.in_ok-job.ensures.found m k (means_stay c.prospect.ensures.served c.prospect.ensures.stays m k means) serves in
     absurd (none-some (fields_of it.0) (sym c.in_default-2.is ∙ job ∙ ap (λ (n : ℕ). option_map fields_of (job_numbered n m)) (ap (λ (p : Prospect). p.job) it.1) ∙ ap (option_map fields_of) there))
 
@@ -58,15 +58,15 @@ returns-clause-stays g c db six rests = c.active_to.ensures.stays db six (c.job.
 
 pub returns-clause-found : goal.returns-clause-found
 returns-clause-found g c m k given means serves stands =
-    let t = c.args.self.now.t in
+    let asked = c.args.self.now.asked in
     let page = into_iter_items c.prospect.new.self.page in
     let front = c.prospect.new.self.front in
     let most = c.prospect.new.self.most in
     let at_job = c.active_to.ensures.served serves in
     let between = c.job.ensures.served at_job in
     let looked = means_stay c.prospect.ensures.served c.prospect.ensures.stays m k means in
-    let it = subst (λ o. Gives IsProspect t m given page front most o) c.in-Some.is (c.in_ok-prospect.ensures.found m k given means between stands) in
-    let there = given_there _ m k (means (c.prospect.ensures.served between)).means t given it.0 page front most it.2 in
+    let it = subst (λ o. Gives IsProspect asked m given page front most o) c.in-Some.is (c.in_ok-prospect.ensures.found m k given means between stands) in
+    let there = given_there _ m k (means (c.prospect.ensures.served between)).means asked given it.0 page front most it.2 in
     let job = c.in_ok-job.ensures.found m k looked at_job in
     let whole = same_Some c.in-Some-2.job (fields_of it.0) (sym c.in-Some-2.is ∙ job ∙ ap (λ (n : ℕ). option_map fields_of (job_numbered n m)) (ap (λ (p : Prospect). p.job) it.1) ∙ ap (option_map fields_of) there) in
     let calls = c.in_ok-calls.ensures.found m k (means_stay c.job.ensures.served c.job.ensures.stays m k looked) serves in

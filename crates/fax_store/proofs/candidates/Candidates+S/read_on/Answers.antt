@@ -4,7 +4,6 @@ use Rattle.std.specs.Vec.Iter.{into_iter_items}
 use Rattle.sqlite.specs.Order.{Row}
 use Rattle.fax_core.specs.Job.{fields_of}
 use Rattle.fax_store.specs.Candidates.{StandsAt, front_of, is_last, next_front}
-use Rattle.fax_store.specs.Job.{AreWaiting}
 use Rattle.fax_tables.proofs.ResultLemmas.{passes_on}
 use Rattle.fax_store.proofs.CandidateLemmas.{all_given, page_empty, page_ends, page_lawful, stands_on, stands_page}
 use Rattle.fax_store.proofs.candidates.Candidates+S.read_on.Goals as goal
@@ -16,13 +15,13 @@ returns-in_err-prospect_in-in-Some-clause-found g c m k given means serves stand
     let rows = c.in_ok-page.page.items in
     let last : Some c.in-Some.row.now ≡ slice_get rows (length rows - 1) = subst (λ (xs : List Row). Some c.in-Some.row.now ≡ slice_get xs (length xs - 1)) c.deref.ensures.value c.in-Some.ensures.value in
     let it = page_ends rows _ c.in-Some.row.now next.is last in
-    let lawful = page_lawful c.args.self.now.t m c.args.self.now.front c.args.self.now.most next.all it.0 it.1 (means (c.page.ensures.served serves)).means.lawful.jobs next.waiting it.2 in
+    let lawful = page_lawful c.args.self.now.asked m c.args.self.now.front c.args.self.now.most next.all it.0 it.1 (means (c.page.ensures.served serves)).means.lawful.jobs next.waiting it.2 in
     passes_on c.from_residual-in_err-prospect_in-in-Some.result c.in_err-prospect_in-in-Some.field-0.0 _ c.from_residual-in_err-prospect_in-in-Some.ensures.1
     (c.in_err-prospect_in-in-Some.ensures (fields_of it.1) it.3 lawful.limits lawful.formed)
 
 pub returns-clause-found : goal.returns-clause-found
 returns-clause-found g c m k given means serves stands =
-    let t = c.args.self.now.t in
+    let asked = c.args.self.now.asked in
     let front = c.args.self.now.front in
     let most = c.args.self.now.most in
     let next = c.in_ok-page.ensures.found m k means serves in
@@ -31,17 +30,17 @@ returns-clause-found g c m k given means serves stands =
     let some = stands.some in
     let more : 0 < c.min-self.result = omega (arith, some, c.saturating_add.ensures, c.min-self.ensures) in
     let page : into_iter_items c.into_iter.result ≡ rows = c.into_iter.ensures.rest in (
-      subst (λ xs. StandsAt t m given xs c.match-last.self c.min-self.result) (sym page)
+      subst (λ xs. StandsAt asked m given xs c.match-last.self c.min-self.result) (sym page)
           (elim c.match-last.branch [
             | in-Some+in_ok-prospect_in-in-Some w ↦
                 let last : Some w.in-Some.row.now ≡ slice_get rows (length rows - 1) = subst (λ (xs : List Row). Some w.in-Some.row.now ≡ slice_get xs (length xs - 1)) c.deref.ensures.value w.in-Some.ensures.value in
                 let it = page_ends rows _ w.in-Some.row.now next.is last in
-                let lawful = page_lawful t m front most next.all it.0 it.1 means_now.lawful.jobs next.waiting it.2 in
+                let lawful = page_lawful asked m front most next.all it.0 it.1 means_now.lawful.jobs next.waiting it.2 in
                 let prospect = w.in_ok-prospect_in-in-Some.ensures (fields_of it.1) it.3 lawful.limits lawful.formed in
-                subst (λ f. StandsAt t m given rows f c.min-self.result) (sym (w.self-is ∙ w.of-self.ensures ∙ ap front_of prospect)) (stands_page _ m k means_now t given front most stands rows next it.0 it.1 it.2 c.min-self.result more)
+                subst (λ f. StandsAt asked m given rows f c.min-self.result) (sym (w.self-is ∙ w.of-self.ensures ∙ ap front_of prospect)) (stands_page _ m k means_now asked given front most stands rows next it.0 it.1 it.2 c.min-self.result more)
             | in-None w ↦
                 let empty = page_empty rows (subst (λ (xs : List Row). None ≡ slice_get xs (length xs - 1)) c.deref.ensures.value w.in-None.ensures.value) in
-                subst (λ f. StandsAt t m given rows f c.min-self.result) (sym (w.self-is ∙ w.next-self.ensures)) (stands_on _ m k means_now t given front most stands rows next empty c.min-self.result more)
+                subst (λ f. StandsAt asked m given rows f c.min-self.result) (sym (w.self-is ∙ w.next-self.ensures)) (stands_on _ m k means_now asked given front most stands rows next empty c.min-self.result more)
           ]),
-      λ none last. all_given _ m k means_now t given front most stands rows next (sym page ∙ none) (sym c.is_last-is_last.ensures ∙ last),
+      λ none last. all_given _ m k means_now asked given front most stands rows next (sym page ∙ none) (sym c.is_last-is_last.ensures ∙ last),
     )

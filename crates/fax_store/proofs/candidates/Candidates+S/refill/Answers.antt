@@ -1,8 +1,8 @@
-use Rattle.std.proofs.Common.{◌≡◌, ◌∙◌, ℕ, [], sym, subst, arith}
+use Rattle.std.proofs.Common.{◌≡◌, ◌∙◌, [], sym, subst, arith}
 use Rattle.std.specs.Vec.Iter.{into_iter_items}
 use Rattle.std.proofs.lemmas.List.{nil_from_length}
-use Rattle.fax_store.specs.Candidates.{StandsAt}
-use Rattle.fax_store.specs.Job.{AreWaiting}
+use Rattle.fax_store.specs.Candidates.{AreAsked, StandsAt}
+use Rattle.fax_store.specs.declared.candidates.Asked.{Asked}
 use Rattle.fax_tables.proofs.ResultLemmas.{passes_on}
 use Rattle.fax_store.proofs.StoreLemmas.{means_stay}
 use Rattle.fax_store.proofs.candidates.Candidates+S.refill.Goals as goal
@@ -19,14 +19,14 @@ returns-in_err-read_on-clause-found g c m k given means serves stands =
     let long = c.loop-self.self.page.rest.ok.0 in
     let empty : before ≡ [] = nil_from_length before (omega (arith, none, long, c.len.ensures)) in
     let at = c.loop-self.invariant.found m k given means (c.read_on.ensures.served serves) stands in
-    let stood = subst (λ (t : ℕ). StandsAt t m given [] front most) (sym c.loop-self.invariant.moment) (subst (λ rows. StandsAt c.args.self.now.t m given rows front most) empty at) in
+    let stood = subst (λ (asked : Asked). StandsAt asked m given [] front most) (sym c.loop-self.invariant.asked) (subst (λ rows. StandsAt c.args.self.now.asked m given rows front most) empty at) in
     passes_on c.from_residual.result c.in_err-read_on.field-0.0 _ c.from_residual.ensures.1
     (c.in_err-read_on.ensures.found m k given (means_stay c.loop-self.invariant.served c.loop-self.invariant.stays m k means) serves stood)
 
 pub loop-self-preserved : goal.loop-self-preserved
 loop-self-preserved g c = record {
   same_reference = c.read_on.ensures.same_reference ∙ c.loop-self.invariant.same_reference;
-  moment = c.read_on.ensures.moment ∙ c.loop-self.invariant.moment;
+  asked = c.read_on.ensures.asked ∙ c.loop-self.invariant.asked;
   served = λ serves. c.loop-self.invariant.served (c.read_on.ensures.served serves);
   clean = λ clean. c.loop-self.invariant.clean (c.read_on.ensures.clean clean);
   opens = λ clean serves. c.in_ok-read_on.ensures.opens clean;
@@ -40,8 +40,8 @@ loop-self-preserved g c = record {
       let long = c.loop-self.self.page.rest.ok.0 in
       let empty : before ≡ [] = nil_from_length before (omega (arith, none, long, c.len.ensures)) in
       let at = c.loop-self.invariant.found m k given means (c.read_on.ensures.served serves) stands in
-      let stood = subst (λ (t : ℕ). StandsAt t m given [] front most) (sym c.loop-self.invariant.moment) (subst (λ rows. StandsAt c.args.self.now.t m given rows front most) empty at) in
-      subst (λ (t : ℕ). StandsAt t m given (into_iter_items c.read_on.new.self.page) c.read_on.new.self.front c.read_on.new.self.most) c.loop-self.invariant.moment
+      let stood = subst (λ (asked : Asked). StandsAt asked m given [] front most) (sym c.loop-self.invariant.asked) (subst (λ rows. StandsAt c.args.self.now.asked m given rows front most) empty at) in
+      subst (λ (asked : Asked). StandsAt asked m given (into_iter_items c.read_on.new.self.page) c.read_on.new.self.front c.read_on.new.self.most) c.loop-self.invariant.asked
       (c.in_ok-read_on.ensures.found m k given (means_stay c.loop-self.invariant.served c.loop-self.invariant.stays m k means) serves stood).0;
 }
 
@@ -57,8 +57,8 @@ returns-then-branch-clause-found g c m k given means serves stands =
     let long = c.loop-self.self.page.rest.ok.0 in
     let empty : before ≡ [] = nil_from_length before (omega (arith, none, long, c.len.ensures)) in
     let at = c.loop-self.invariant.found m k given means (c.read_on.ensures.served serves) stands in
-    let stood = subst (λ (t : ℕ). StandsAt t m given [] front most) (sym c.loop-self.invariant.moment) (subst (λ rows. StandsAt c.args.self.now.t m given rows front most) empty at) in
+    let stood = subst (λ (asked : Asked). StandsAt asked m given [] front most) (sym c.loop-self.invariant.asked) (subst (λ rows. StandsAt c.args.self.now.asked m given rows front most) empty at) in
     let found = c.in_ok-read_on.ensures.found m k given (means_stay c.loop-self.invariant.served c.loop-self.invariant.stays m k means) serves stood in (
-      subst (λ (t : ℕ). StandsAt t m given (into_iter_items c.read_on.new.self.page) c.read_on.new.self.front c.read_on.new.self.most) c.loop-self.invariant.moment found.0,
-      λ empty. subst (λ (t : ℕ). AreWaiting t m given) c.loop-self.invariant.moment (found.1 empty c.if-branch.true),
+      subst (λ (asked : Asked). StandsAt asked m given (into_iter_items c.read_on.new.self.page) c.read_on.new.self.front c.read_on.new.self.most) c.loop-self.invariant.asked found.0,
+      λ empty. subst (λ (asked : Asked). AreAsked asked m given) c.loop-self.invariant.asked (found.1 empty c.if-branch.true),
     )

@@ -12,15 +12,15 @@ use Rattle.fax_store.proofs.candidates.Candidates+S.refill.Given as goal
 abbrev pub invariant-loop-self : goal.invariant-loop-self
 invariant-loop-self g l = record {
   same_reference : l.self.store.ghost_name ≡ l.initial.self.store.ghost_name;
-  moment : l.self.t ≡ l.initial.self.t;
+  asked : l.self.asked ≡ l.initial.self.asked;
   served : Serves (state g.S.Store l.self.store.now.conn) → Serves (state g.S.Store l.initial.self.store.now.conn);
   clean : HasCleanDisk (state g.S.Store l.self.store.now.conn) → HasCleanDisk (state g.S.Store l.initial.self.store.now.conn);
   opens : StaysOpen (state g.S.Store l.initial.self.store.now.conn) (state g.S.Store l.self.store.now.conn);
   stays : Stays (state g.S.Store l.initial.self.store.now.conn) (state g.S.Store l.self.store.now.conn);
   crash : CommitsNothing (state g.S.Store l.initial.self.store.now.conn) (state g.S.Store l.self.store.now.conn);
   found : (m : Queue) (k : List Entry) (given : List OneJob) → Means (state g.S.Store l.initial.self.store.now.conn) m k → Serves (state g.S.Store l.self.store.now.conn)
-      → StandsAt l.initial.self.t m given (into_iter_items l.initial.self.page) l.initial.self.front l.initial.self.most
-      → StandsAt l.initial.self.t m given (into_iter_items l.self.page) l.self.front l.self.most;
+      → StandsAt l.initial.self.asked m given (into_iter_items l.initial.self.page) l.initial.self.front l.initial.self.most
+      → StandsAt l.initial.self.asked m given (into_iter_items l.self.page) l.self.front l.self.most;
 }
 
 abbrev pub decreases-loop-self : goal.decreases-loop-self

@@ -9,4 +9,4 @@ returns-clause-stays g c =
 
 pub returns-clause-found : goal.returns-clause-found
 returns-clause-found g c =
-    found_by (state g.S.Store c.args.self.now.conn) (state g.S.Store c.read_page.new.self.conn) c.read_page.ensures.served c.read_page.result c.read_page.ensures.reads (λ m k rows. IsPage c.args.t m c.args.front c.args.most rows.items) c.read_page.ensures.answers
+    found_by (state g.S.Store c.args.self.now.conn) (state g.S.Store c.read_page.new.self.conn) c.read_page.ensures.served c.read_page.result c.read_page.ensures.reads (λ m k rows. IsPage c.args.asked.now m c.args.front c.args.most rows.items) c.read_page.ensures.answers

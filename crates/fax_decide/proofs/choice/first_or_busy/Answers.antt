@@ -1,0 +1,33 @@
+use Rattle.std.proofs.Common.{◌≡◌, true, rules, subst, sym}
+use Rattle.std.specs.Prelude.{None, IsTrue}
+use Rattle.std.proofs.lemmas.Result.{IfOk-weaker}
+use Rattle.sqlite.specs.Held.{state}
+use Rattle.fax_store.specs.Store.{Means, Rests, Serves}
+use Rattle.fax_decide.specs.Choice.{IsBusy, IsFirst, IsFirstAsked}
+use Rattle.fax_decide.specs.Settings.{settings_of}
+use Rattle.fax_decide.proofs.ChoiceLemmas.{first_known}
+use Rattle.fax_decide.proofs.choice.first_or_busy.Goals as goal
+
+pub returns-clause-stays : goal.returns-clause-stays
+returns-clause-stays g c db six rests =
+    let same : c.first_of.new.candidates.store.now ≡ c.store-1.given.0 = search rules in
+    let begun : Rests (state g.S.Store c.candidates-candidates.result.store.now.conn) db = subst (λ v. Rests (state g.S.Store v.conn) db) (sym c.candidates-candidates.ensures.same) rests in
+    subst (λ v. Rests (state g.S.Store v.conn) db) same (c.first_of.ensures.stays db six begun)
+
+pub returns-clause-found : goal.returns-clause-found
+returns-clause-found g c m k means serves busy =
+    let s = settings_of c.args.office.now.setup c.args.office.now.controls in
+    let modem = c.args.modem.now in
+    let asked = c.candidates-candidates.result.asked in
+    let moment = c.candidates-candidates.ensures.asked.0 in
+    let is = c.candidates-candidates.ensures.same in
+    let same : c.first_of.new.candidates.store.now ≡ c.store-1.given.0 = search rules in
+    let begun : Means (state g.S.Store c.candidates-candidates.result.store.now.conn) m k = subst (λ v. Means (state g.S.Store v.conn) m k) (sym is) means in
+    let served : Serves (state g.S.Store c.first_of.new.candidates.store.now.conn) = subst (λ v. Serves (state g.S.Store v.conn)) (sym same) serves in
+    let before : Serves (state g.S.Store c.args.store.now.conn) = subst (λ v. Serves (state g.S.Store v.conn)) is (c.first_of.ensures.served served) in
+    let stands = c.candidates-candidates.ensures.stands m k means before in
+    let but : IsBusy s m c.args.t asked.but = subst (IsBusy s m c.args.t) (sym c.candidates-candidates.ensures.asked.1) tt in
+    IfOk-weaker c.first_of.result (λ found. IsBusy s m c.args.t c.first_of.new.busy × ((IsTrue true → c.first_of.new.busy ≡ None) → IsFirstAsked s asked m modem found))
+    (λ found. IsBusy s m c.args.t c.first_of.new.busy × (c.first_of.new.busy ≡ None → IsFirst s m c.args.t modem found))
+    (λ found told. let known = first_known s m c.args.t modem asked true c.first_of.new.busy found moment but told in (known.0, λ none. known.1 (λ _. none)))
+    (c.first_of.ensures.found m k begun served moment stands busy)
