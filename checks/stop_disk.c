@@ -1,9 +1,10 @@
-/* Preloaded into the program. Each call that makes, changes or syncs a file of the folder DISK_FOLDER, or syncs the
- * folder itself, is told in the file DISK_JOURNAL before it is made: a line with its kind, the file's name, a place and
- * a count, and so many bytes behind it. A line with its result follows. At call number DISK_STOP the process ends with
- * status 77, and the call is told and not made. Where DISK_ERROR is set, that call fails with this error instead, and so
- * do those behind it, DISK_TIMES of them in all or one. Calls count from when the file DISK_ARMED is there; where
- * DISK_KIND is set, only those of this kind count. No sync is made, and what is drawn at random is the same each time. */
+/* Preloaded into the program. Each call that makes, renames, changes or syncs a file of the folder DISK_FOLDER, or syncs
+ * the folder itself, is told in the file DISK_JOURNAL before it is made: a line with its kind, the file's name, a place
+ * and a count, and so many bytes behind it, of a rename the new name. A line with its result follows. At call number
+ * DISK_STOP the process ends with status 77, and the call is told and not made. Where DISK_ERROR is set, that call fails
+ * with this error instead, and so do those behind it, DISK_TIMES of them in all or one. Calls count from when the file
+ * DISK_ARMED is there; where DISK_KIND is set, only those of this kind count. No sync is made, and what is drawn at
+ * random is the same each time. */
 #define _GNU_SOURCE
 #include <errno.h>
 #include <fcntl.h>
@@ -190,7 +191,8 @@ int rename(const char *from, const char *to) {
     if (name == NULL) {
         return (int)syscall(SYS_renameat2, AT_FDCWD, from, AT_FDCWD, to, 0);
     }
-    if (begin("rename", name, 0, NULL, 0)) {
+    const char *behind = within(to);
+    if (begin("rename", name, 0, behind, strlen(behind))) {
         return (int)fail();
     }
     return (int)end(syscall(SYS_renameat2, AT_FDCWD, from, AT_FDCWD, to, 0));

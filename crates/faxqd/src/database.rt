@@ -5,12 +5,13 @@ ghost use Rattle.sqlite.specs.State.{HasCleanDisk};
 ghost use Rattle.sqlite_wal.specs.Files.{image_at};
 ghost use Rattle.faxqd.specs.Database.{IsFound};
 
+use crate::new_file::make_file;
 use crate::status::{Status, fail};
 use fax_once::{Office, Queue};
 use fax_store::Store;
 use sqlite::{Connection, Error, ErrorCode, FileFrom, FileStore, Start};
 use std::alloc::AllocError;
-use std::io::Write;
+use std::io::{self, ErrorKind, Write};
 
 /// Why there is no queue over a file.
 #[derive(Clone, Copy, Debug, PartialEq, Eq)]
@@ -26,6 +27,15 @@ impl From<AllocError> for OpenFault {
     }
 }
 
+impl From<io::Error> for OpenFault {
+    fn from(error: io::Error) -> OpenFault {
+        match error.kind() {
+            ErrorKind::OutOfMemory => OpenFault::NoMemory,
+            _ => OpenFault::Database,
+        }
+    }
+}
+
 impl From<Error> for OpenFault {
     fn from(error: Error) -> OpenFault {
         match error {
@@ -35,8 +45,8 @@ impl From<Error> for OpenFault {
     }
 }
 
-/// The queue in the file of this name, by that office. Where the file has no tables yet, it gets those of an empty queue;
-/// else it keeps its rows, and the queue is the one that they mean.
+/// The queue in the file of this name, by that office. A file that isn't there is made. Where it has no tables yet, it
+/// gets those of an empty queue; else it keeps its rows, and the queue is the one that they mean.
 pub fn open_queue<S: Start>(
     rt: &HostRuntime,
     name: &str,
@@ -48,6 +58,7 @@ pub fn open_queue<S: Start>(
     ensures found { IfOk result (λ queue. HasCleanDisk (file_state queue.store.conn)
         → IsFound (image_at S.Start) (file_state queue.store.conn)) }
 {
+    make_file(rt, name)?;
     let conn = match Connection::open_from(rt, name, false, start) {
         Ok(conn) => conn,
         Err((error, _)) => return Err(error.into()),

@@ -7,6 +7,7 @@ mod database;
 mod door;
 mod list;
 mod moment;
+mod new_file;
 mod office;
 mod replay;
 mod sendfax;
