@@ -1,52 +1,86 @@
 //! The call that shows a job to the process that has the queue.
-use crate::queues::empty_queue;
-use fax_ask::Method;
+use crate::example::Exchange;
+use crate::queues::{is_answered, queue_over};
 use fax_job::Moment;
-use fax_once::{Arrival, Queue};
-use sqlite::MemStore;
+use fax_once::Queue;
+use fax_store::Store;
+use sqlite::Alter;
 use std::alloc::Global;
 use std::test::Fail;
 
-/// The status of the reply to a submission with a kill time.
-fn submit(alloc: Global, queue: &mut Queue<MemStore>) -> u16 {
-    let submission = Arrival {
-        client: b"desk",
-        number: b"1",
-        moment: Moment::new(1000),
-        method: Method::Post,
-        path: "/jobs",
-        body: b"number:5550111\ntotpages:1\nkilltime:1500\n",
-    };
-    queue.handle(alloc, &submission).status()
-}
+const EXPIRING: Exchange = Exchange {
+    client: b"desk",
+    number: b"1",
+    moment: 1000,
+    path: "/jobs",
+    body: "number:5550111\ntotpages:1\nkilltime:1500\n",
+    status: 201,
+    reply: r#"{"job":1}"#,
+};
 
-/// Whether what is shown at that moment has this status, and a body with this end.
-fn shows(
-    alloc: Global,
-    queue: &mut Queue<MemStore>,
-    path: &str,
+/// What is shown of a path at a moment: a status, and a body with this end.
+#[derive(Clone, Copy)]
+struct View {
+    path: &'static str,
     moment: u64,
     status: u16,
-    end: &str,
-) -> bool {
-    let reply = queue.view(alloc, path, Moment::new(moment));
-    reply.status() == status && reply.body().ends_with(end.as_bytes())
+    end: &'static str,
+}
+
+/// The second moment is before the first, so the first changes nothing.
+const VIEWS: [View; 4] = [
+    View {
+        path: "/jobs/1",
+        moment: 1500,
+        status: 200,
+        end: "state:8\nstatus:Kill time expired\n",
+    },
+    View {
+        path: "/jobs/1",
+        moment: 0,
+        status: 200,
+        end: "state:5\nstatus:\n",
+    },
+    View {
+        path: "/jobs/2",
+        moment: 1500,
+        status: 404,
+        end: r#"{"no":8,"word":"no-job"}"#,
+    },
+    View {
+        path: "/job",
+        moment: 1500,
+        status: 404,
+        end: r#"{"no":3,"word":"no-route"}"#,
+    },
+];
+
+fn shows<S: Alter>(alloc: Global, queue: &mut Queue<S>, view: &View) -> bool {
+    let reply = queue.view(alloc, view.path, Moment::new(view.moment));
+    reply.status() == view.status && reply.body().ends_with(view.end.as_bytes())
+}
+
+/// How many of these views are shown over this store, until one isn't.
+fn shows_over<S: Alter + Drop>(
+    alloc: Global,
+    store: Store<S>,
+    views: &[View],
+) -> Result<usize, Fail> {
+    let mut queue = queue_over(alloc, store)?;
+    if !is_answered(alloc, &mut queue, &EXPIRING)? {
+        return Err("the submission isn't taken".into());
+    }
+    for (count, view) in views.iter().enumerate() {
+        if !shows(alloc, &mut queue, view) {
+            return Ok(count);
+        }
+    }
+    Ok(views.len())
 }
 
 #[test]
 fn a_view_shows_a_later_moment_and_changes_nothing(rt: HostRuntime) -> Result<(), Fail> {
-    let alloc = rt.alloc();
-    let mut queue = empty_queue(alloc, b"")?;
-    let taken = submit(alloc, &mut queue);
-    assert_eq!(rt; taken, 201);
-    for (path, moment, status, end) in [
-        ("/jobs/1", 1500, 200, "state:8\nstatus:Kill time expired\n"),
-        ("/jobs/1", 0, 200, "state:5\nstatus:\n"),
-        ("/jobs/2", 1500, 404, r#"{"no":8,"word":"no-job"}"#),
-        ("/job", 1500, 404, r#"{"no":3,"word":"no-route"}"#),
-    ] {
-        let is_shown = shows(alloc, &mut queue, path, moment, status, end);
-        assert_eq!(rt; is_shown, true, "{path} {moment}");
-    }
+    let store = Store::new_in_memory(rt.alloc())?;
+    assert_eq!(rt; shows_over(rt.alloc(), store, &VIEWS)?, VIEWS.len());
     Ok(())
 }

@@ -3,7 +3,7 @@ use fax_tables::{
     Hold, Kept, Meta, StoreFault, calls_in, create_tables, dial_in, grant_in, held_job_in, job_in,
     prospect_in,
 };
-use sqlite::{Connection, Row};
+use sqlite::{Alter, Connection, Row};
 use std::alloc::Global;
 use std::test::Fail;
 
@@ -54,31 +54,61 @@ fn query_of(record: Record) -> &'static str {
     }
 }
 
-/// The row of a record, once the change has run on tables with one of each.
-fn row_after(alloc: Global, change: &str, record: Record) -> Result<Row, Fail> {
-    let mut conn = Connection::open_in_memory(alloc)?;
-    create_tables(&mut conn)?;
-    for made in RECORDS {
-        conn.execute(made, &[])?;
+/// Runs a statement.
+fn run<S: Alter>(conn: &mut Connection<S>, statement: &str) -> Result<(), Fail> {
+    conn.execute(statement, &[])?;
+    Ok(())
+}
+
+/// Runs statements one after the other.
+fn run_all<S: Alter>(conn: &mut Connection<S>, statements: &[&str]) -> Result<(), Fail> {
+    for statement in statements {
+        run(conn, statement)?;
     }
-    conn.execute(change, &[])?;
-    Ok(conn.query_row(query_of(record), &[])?)
+    Ok(())
+}
+
+/// Makes the tables, with one record of each.
+fn fill<S: Alter>(conn: &mut Connection<S>) -> Result<(), Fail> {
+    create_tables(conn)?;
+    run_all(conn, &RECORDS)
+}
+
+/// The row that a query finds.
+fn row_of<S: Alter>(conn: &mut Connection<S>, query: &str) -> Result<Row, Fail> {
+    Ok(conn.query_row(query, &[])?)
+}
+
+/// The row of a record, once the change has run on tables with one of each.
+fn row_after<S: Alter + Drop>(
+    mut conn: Connection<S>,
+    change: &str,
+    record: Record,
+) -> Result<Row, Fail> {
+    fill(&mut conn)?;
+    run(&mut conn, change)?;
+    row_of(&mut conn, query_of(record))
 }
 
 /// Why the record isn't read from that row, or none where it is.
-fn read_after(alloc: Global, change: &str, record: Record) -> Result<Option<StoreFault>, Fail> {
-    let row = row_after(alloc, change, record)?;
-    Ok(match record {
-        Record::Job => job_in(alloc, &row).err(),
-        Record::Prospect => prospect_in(alloc, &row).err(),
-        Record::Grant => grant_in(alloc, &row).err(),
-        Record::Hold => Hold::in_row(&row).err(),
-        Record::Numbers => Meta::in_row(&row).err(),
-        Record::Reply => Kept::in_row(&row).err(),
-        Record::Calls => calls_in(&row).err(),
-        Record::HeldJob => held_job_in(&row).err(),
-        Record::Dial => dial_in(alloc, &row).err(),
-    })
+fn fault_in(alloc: Global, row: &Row, record: Record) -> Option<StoreFault> {
+    match record {
+        Record::Job => job_in(alloc, row).err(),
+        Record::Prospect => prospect_in(alloc, row).err(),
+        Record::Grant => grant_in(alloc, row).err(),
+        Record::Hold => Hold::in_row(row).err(),
+        Record::Numbers => Meta::in_row(row).err(),
+        Record::Reply => Kept::in_row(row).err(),
+        Record::Calls => calls_in(row).err(),
+        Record::HeldJob => held_job_in(row).err(),
+        Record::Dial => dial_in(alloc, row).err(),
+    }
+}
+
+/// The same once the change has run.
+fn fault_after(alloc: Global, change: &str, record: Record) -> Result<Option<StoreFault>, Fail> {
+    let row = row_after(Connection::open_in_memory(alloc)?, change, record)?;
+    Ok(fault_in(alloc, &row, record))
 }
 
 #[test]
@@ -98,7 +128,7 @@ fn rows_within_their_limits_are_read(rt: HostRuntime) -> Result<(), Fail> {
         ("UPDATE holds SET job = 999999", Record::HeldJob),
         ("UPDATE jobs SET dial = '+14155550100'", Record::Dial),
     ] {
-        let fault = read_after(rt.alloc(), change, record)?;
+        let fault = fault_after(rt.alloc(), change, record)?;
         assert_eq!(rt; fault, None, "{change}");
     }
     Ok(())
@@ -135,7 +165,7 @@ fn rows_past_their_limits_are_strange(rt: HostRuntime) -> Result<(), Fail> {
         ("UPDATE holds SET job = 4294967296", Record::HeldJob),
         ("UPDATE jobs SET dial = '555 0111'", Record::Dial),
     ] {
-        let fault = read_after(rt.alloc(), change, record)?;
+        let fault = fault_after(rt.alloc(), change, record)?;
         assert_eq!(rt; fault, Some(StoreFault::Strange), "{change}");
     }
     Ok(())

@@ -1,33 +1,39 @@
 //! Works that come to nothing.
 use fax_job::{Moment, RequestNumber};
-use fax_store::{MemoryStore, Store, StoreFault};
+use fax_store::{Store, StoreFault};
+use sqlite::Alter;
 use std::test::Fail;
 
 /// The clock of the store, and whether it keeps a reply to that number of that client.
-fn holds(store: &mut MemoryStore, number: RequestNumber) -> Result<(Moment, bool), Fail> {
+fn holds<S: Alter>(store: &mut Store<S>, number: RequestNumber) -> Result<(Moment, bool), Fail> {
     let meta = store.meta()?;
     let kept = store.kept("ann", number)?;
     Ok((meta.clock, kept.is_some()))
 }
 
 /// Sets the clock and keeps a reply, and lets the work go.
-fn drop_work(store: &mut MemoryStore, number: RequestNumber) -> Result<(), StoreFault> {
+fn drop_work<S: Alter>(store: &mut Store<S>, number: RequestNumber) -> Result<(), StoreFault> {
     let mut work = store.begin()?;
     work.set_clock(Moment::new(9))?;
     work.keep("ann", number, b"/", 200, b"")
 }
 
-#[test]
-fn dropped_work_leaves_the_rows_before_it(rt: HostRuntime) -> Result<(), Fail> {
-    let mut store = Store::new_in_memory(rt.alloc())?;
+/// What is there behind a work that was let go.
+fn behind_dropped<S: Alter + Drop>(mut store: Store<S>) -> Result<(Moment, bool), Fail> {
     let number = RequestNumber::read(b"1").ok_or("a number")?;
     drop_work(&mut store, number)?;
-    assert_eq!(rt; holds(&mut store, number)?, (Moment::new(0), false));
+    holds(&mut store, number)
+}
+
+#[test]
+fn dropped_work_leaves_the_rows_before_it(rt: HostRuntime) -> Result<(), Fail> {
+    let found = behind_dropped(Store::new_in_memory(rt.alloc())?)?;
+    assert_eq!(rt; found, (Moment::new(0), false));
     Ok(())
 }
 
 /// Keeps two replies to one number, and commits.
-fn keep_twice(store: &mut MemoryStore, number: RequestNumber) -> Result<(), StoreFault> {
+fn keep_twice<S: Alter>(store: &mut Store<S>, number: RequestNumber) -> Result<(), StoreFault> {
     let mut work = store.begin()?;
     work.set_clock(Moment::new(9))?;
     work.keep("ann", number, b"/", 200, b"")?;
@@ -35,12 +41,22 @@ fn keep_twice(store: &mut MemoryStore, number: RequestNumber) -> Result<(), Stor
     work.commit()
 }
 
-#[test]
-fn refused_call_refuses_the_commit(rt: HostRuntime) -> Result<(), Fail> {
-    let mut store = Store::new_in_memory(rt.alloc())?;
+/// What comes of that, and what is there then.
+fn behind_refused<S: Alter + Drop>(
+    mut store: Store<S>,
+) -> Result<(Result<(), StoreFault>, Moment, bool), Fail> {
     let number = RequestNumber::read(b"1").ok_or("a number")?;
     let refused = keep_twice(&mut store, number);
-    assert_eq!(rt; refused, Err(StoreFault::Unavailable));
-    assert_eq!(rt; holds(&mut store, number)?, (Moment::new(0), false));
+    let (clock, is_kept) = holds(&mut store, number)?;
+    Ok((refused, clock, is_kept))
+}
+
+#[test]
+fn refused_call_refuses_the_commit(rt: HostRuntime) -> Result<(), Fail> {
+    let found = behind_refused(Store::new_in_memory(rt.alloc())?)?;
+    assert_eq!(rt;
+        found,
+        (Err(StoreFault::Unavailable), Moment::new(0), false)
+    );
     Ok(())
 }

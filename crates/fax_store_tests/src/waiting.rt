@@ -1,8 +1,7 @@
 //! The jobs that wait come one at a time as they come all at once, each with the calls to its number.
-use crate::adopt::{adopt, database};
 use fax_job::Moment;
-use fax_store::MemoryStore;
-use sqlite::params;
+use fax_store::Store;
+use sqlite::{Alter, Connection, params};
 use std::alloc::Global;
 use std::test::Fail;
 
@@ -119,24 +118,54 @@ const HOLD_GRANTED: &str =
         SELECT job, job, 'ttyS' || job, 1, 1, 0, 0, 0 FROM jobs WHERE phase = 2; \
     INSERT INTO holds (modem, job, id) SELECT modem, job, id FROM grants";
 
-/// A store with these jobs.
-fn store_of(alloc: Global, jobs: &[Stored]) -> Result<MemoryStore, Fail> {
-    let mut conn = database(alloc)?;
+/// Adds a job of that number.
+fn insert<S: Alter>(conn: &mut Connection<S>, number: u32, job: Stored) -> Result<(), Fail> {
+    let (dial, tts, priority, phase, next) = job;
+    conn.execute(
+        INSERT_JOB,
+        params![number, dial, tts, priority, phase, next],
+    )?;
+    Ok(())
+}
+
+/// Adds these jobs, numbered from 1 on, and grants and holds of those that are granted.
+fn fill<S: Alter>(conn: &mut Connection<S>, jobs: &[Stored]) -> Result<(), Fail> {
     let mut number = 0_u32;
     for job in jobs {
         number = number.saturating_add(1);
-        let (dial, tts, priority, phase, next) = *job;
-        conn.execute(
-            INSERT_JOB,
-            params![number, dial, tts, priority, phase, next],
-        )?;
+        insert(conn, number, *job)?;
     }
-    conn.execute_batch(HOLD_GRANTED)?;
-    Ok(adopt(alloc, conn)?)
+    Ok(conn.execute_batch(HOLD_GRANTED)?)
+}
+
+/// The store over a database that was there before.
+fn adopted<S: Alter + Drop>(alloc: Global, conn: Connection<S>) -> Result<Store<S>, Fail> {
+    if !conn.is_autocommit() {
+        return Err("a transaction is open".into());
+    }
+    match Store::adopt(alloc, conn) {
+        Ok(store) => Ok(store),
+        Err((fault, _)) => Err(fault.into()),
+    }
+}
+
+/// An empty store with these jobs.
+fn with_jobs<S: Alter + Drop>(
+    alloc: Global,
+    store: Store<S>,
+    jobs: &[Stored],
+) -> Result<Store<S>, Fail> {
+    let mut conn = store.close();
+    fill(&mut conn, jobs)?;
+    adopted(alloc, conn)
 }
 
 /// The jobs that wait, each with the calls to its number.
-fn all_at_once(alloc: Global, store: &mut MemoryStore, t: Moment) -> Result<Vec<(u32, u64)>, Fail> {
+fn all_at_once<S: Alter>(
+    alloc: Global,
+    store: &mut Store<S>,
+    t: Moment,
+) -> Result<Vec<(u32, u64)>, Fail> {
     let mut all = Vec::new(alloc);
     let jobs = store.waiting(t)?;
     for job in &jobs {
@@ -147,9 +176,9 @@ fn all_at_once(alloc: Global, store: &mut MemoryStore, t: Moment) -> Result<Vec<
 }
 
 /// The candidates, to the last.
-fn one_at_a_time(
+fn one_at_a_time<S: Alter>(
     alloc: Global,
-    store: &mut MemoryStore,
+    store: &mut Store<S>,
     t: Moment,
 ) -> Result<Vec<(u32, u64)>, Fail> {
     let mut all = Vec::new(alloc);
@@ -163,14 +192,25 @@ fn one_at_a_time(
     Err("no last candidate".into())
 }
 
+/// Both, over an empty store that gets these jobs.
+fn waiting<S: Alter + Drop>(
+    alloc: Global,
+    store: Store<S>,
+    jobs: &[Stored],
+    t: u64,
+) -> Result<(Vec<(u32, u64)>, Vec<(u32, u64)>), Fail> {
+    let mut store = with_jobs(alloc, store, jobs)?;
+    let t = Moment::new(t);
+    let all = all_at_once(alloc, &mut store, t)?;
+    Ok((all, one_at_a_time(alloc, &mut store, t)?))
+}
+
 #[test]
 fn candidates_are_the_jobs_that_wait(rt: HostRuntime) -> Result<(), Fail> {
     for queue in &QUEUES {
-        let t = Moment::new(queue.t);
-        let mut store = store_of(rt.alloc(), queue.jobs)?;
-        let all = all_at_once(rt.alloc(), &mut store, t)?;
+        let store = Store::new_in_memory(rt.alloc())?;
+        let (all, candidates) = waiting(rt.alloc(), store, queue.jobs, queue.t)?;
         assert_eq!(rt; all.as_slice(), queue.waiting);
-        let candidates = one_at_a_time(rt.alloc(), &mut store, t)?;
         assert_eq!(rt; candidates.as_slice(), queue.waiting);
     }
     Ok(())
@@ -182,9 +222,8 @@ const MANY: usize = 60;
 #[test]
 fn candidates_go_on_behind_a_page(rt: HostRuntime) -> Result<(), Fail> {
     let jobs = [("5550111", 1000, 127, WAITING, 0); MANY];
-    let mut store = store_of(rt.alloc(), &jobs)?;
-    let all = all_at_once(rt.alloc(), &mut store, Moment::new(1000))?;
-    let candidates = one_at_a_time(rt.alloc(), &mut store, Moment::new(1000))?;
+    let store = Store::new_in_memory(rt.alloc())?;
+    let (all, candidates) = waiting(rt.alloc(), store, &jobs, 1000)?;
     assert_eq!(rt; all.len(), MANY);
     assert_eq!(rt; candidates, all);
     Ok(())

@@ -1,15 +1,12 @@
-//! Tests of texts that no message to the program shows: listings and requests at their edges, hours, records, limits.
+//! Tests of texts and values that nothing shows which the program writes: hours, dates, jobs and a status; and of replies
+//! that a client reads, from memory.
 #![tactic(auto)]
 
+#[cfg(test)]
+mod answers;
 #[cfg(test)]
 mod hours;
 #[cfg(test)]
 mod jobs;
 #[cfg(test)]
 mod lines;
-#[cfg(test)]
-mod replies;
-#[cfg(test)]
-mod setup;
-#[cfg(test)]
-mod text;

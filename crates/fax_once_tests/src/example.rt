@@ -1,30 +1,23 @@
 //! One fax of three pages over a bad line, as messages and the replies that are wanted.
-//!
-//! The tests of several crates send it.
-#![tactic(auto)]
-
 use fax_ask::{Method, Reply};
 use fax_job::Moment;
 use fax_once::Arrival;
 
-/// The setup of an office with two modems.
-pub const TWO_MODEMS: &[u8] = b"Modem: ttyS0\nModem: ttyS1\n";
-
 /// A request, and the reply that is wanted.
 #[derive(Clone, Copy)]
-pub struct Exchange {
-    pub client: &'static [u8],
-    pub number: &'static [u8],
-    pub moment: u64,
-    pub path: &'static str,
-    pub body: &'static str,
-    pub status: u16,
-    pub reply: &'static str,
+pub(crate) struct Exchange {
+    pub(crate) client: &'static [u8],
+    pub(crate) number: &'static [u8],
+    pub(crate) moment: u64,
+    pub(crate) path: &'static str,
+    pub(crate) body: &'static str,
+    pub(crate) status: u16,
+    pub(crate) reply: &'static str,
 }
 
 /// One fax over a bad line: a page comes before its call, an outcome before a page, and the second try goes on behind
 /// the pages that were sent.
-pub const ONE_FAX: [Exchange; 15] = [
+pub(crate) const ONE_FAX: [Exchange; 15] = [
     Exchange {
         client: b"desk",
         number: b"1",
@@ -163,7 +156,7 @@ pub const ONE_FAX: [Exchange; 15] = [
 ];
 
 /// The request of an exchange, as the queue gets it.
-pub fn arrival_of(exchange: &Exchange) -> Arrival<'static> {
+pub(crate) fn arrival_of(exchange: &Exchange) -> Arrival<'static> {
     Arrival {
         client: exchange.client,
         number: exchange.number,
@@ -175,6 +168,6 @@ pub fn arrival_of(exchange: &Exchange) -> Arrival<'static> {
 }
 
 /// Whether this is the reply that is wanted.
-pub fn is_reply(reply: &Reply, exchange: &Exchange) -> bool {
+pub(crate) fn is_reply(reply: &Reply, exchange: &Exchange) -> bool {
     reply.status() == exchange.status && reply.body() == exchange.reply.as_bytes()
 }
