@@ -29,7 +29,7 @@ Stops s a m k old new = MayMake old new (λ found. (v : Verdict) × IsVerdict s 
 abbrev pub MayLeave : State → State → Queue → List Entry → Type 0
 MayLeave old new m k = MayMake old new (λ found. Serves old × RowsFound found m k)
 
--- These are the rows that one of the arrivals makes, by its verdict behind what was heard before it.
+-- These are the rows that one of the arrivals makes, by its verdict behind some of what was heard.
 pub record IsMadeIn (s : Settings) (start : Start) (arrivals : List Arrival) (heard : List Reading) (found : Trees) : Type 0 where
   pub before : List Arrival
   pub arrival : Arrival
