@@ -331,7 +331,7 @@ def rows(sound, wanted):
     """Files with rows that no request of ours makes."""
     changes = [(3, column, value) for column, values in JOB_ROWS.items() for value in values] + [(1, "priority", 300)]
     for job, column, value in changes:
-        meets = [f"job {job}", "a kill" if column == "extra" else "all jobs"]  # a listing reads no extra lines
+        meets = [f"job {job}"] if column == "extra" else [f"job {job}", "all jobs"]  # no other request reads extra lines
         yield (f"job {job} with {column} {value}", strange_row, sound, wanted, meets, False,
                f"UPDATE jobs SET {column} = {value} WHERE job = {job}")
     for meets, statement in OTHER_ROWS:

@@ -94,7 +94,7 @@ module _ (m after : Queue) (g : Grant) (sound : Sound m) (still : Sound after) (
 -- so what is accepted takes no key that is taken
 pub keys_free : (t : ℕ) (effect : Effect) (m : Queue) → Sound m → Sound (accepted t effect m) → IsWithin effect (with_expired t m) → IsFree effect (with_expired t m)
 keys_free t Nothing m sound still within = tt
-keys_free t (NewJob f) m sound still within = job_free t (job_of f) m sound still.jobs
+keys_free t (NewJob f meta) m sound still within = job_free t (job_of f) m sound still.jobs
 keys_free t (ChangedJob f) m sound still within = tt
 keys_free t (Marked modem down) m sound still within = tt
 keys_free t (NewGrant f g) m sound still within =

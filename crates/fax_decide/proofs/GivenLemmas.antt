@@ -29,12 +29,15 @@ use Rattle.fax_core.proofs.PlaceLemmas.{found_in, in_found, of_filter, placed_he
 use Rattle.fax_core.proofs.StepLemmas.{aged_sound}
 use Rattle.fax_tables.specs.declared.grants.Hold.{Hold}
 use Rattle.fax_tables.specs.Grant.{as_hold}
-use Rattle.fax_store.specs.Job.{IsChange, IsSameOrder, with_expired}
+use Rattle.fax_tables.specs.Job.{brief}
+use Rattle.fax_store.specs.Job.{IsChange, IsSameOrder, lines_of, with_expired, with_its_lines}
+use Rattle.fax_decide.specs.Records.{job_in}
 use Rattle.fax_decide.specs.Decision.{Decides, IsRefused, IsTaken}
 use Rattle.fax_decide.specs.Effect.{accepted}
 use Rattle.fax_decide.specs.declared.effect.Effect.TheVariants.{NewGrant, Nothing}
 use Rattle.fax_decide.specs.declared.decision.Decision.TheVariants.{Taken}
 use Rattle.fax_decide.proofs.CallLemmas.{aged_dial}
+use Rattle.fax_decide.proofs.LinesLemmas.{lined}
 use Rattle.fax_decide.proofs.RecordLemmas.{aged_numbered}
 use Rattle.fax_decide.proofs.PlacedLemmas.{grant_placed}
 
@@ -53,14 +56,14 @@ is_recorded f j r ok is = by (is_lawful (fields_of j)) (ap submitted (sym ok) �
 change_suits : (m : Queue) (t : ℕ) (c : Change) (j : Job) → job_numbered j.number (aged t m) ≡ Some j → IsChange (changed c j) (with_expired t m)
 change_suits m t c j there k is =
     let same : j ≡ k = cc (there, is) in
-    subst (λ (x : Job). IsSameOrder x (changed c j)) same (record { dial = refl; totpages = refl; extra = refl })
+    subst (λ (x : Job). IsSameOrder x (changed c j)) same (record { dial = refl; totpages = refl })
 
 -- the grant comes at the end, as the machine puts it
-queue_is : (m : Queue) (t : ℕ) (f : JobFields) (j : Job) (g : Grant) → Sound m → job_of f ≡ j → g.number ≡ m.next_grant
+queue_is : (m : Queue) (t : ℕ) (f : JobFields) (j : Job) (g : Grant) → Sound m → job_in (aged t m) f ≡ j → g.number ≡ m.next_grant
     → with_new_grant (both j g) (aged t m) ≡ accepted t (NewGrant f g) m
 queue_is m t f j g sound is n =
     ap (λ (k : Job). with_new_grant (both k g) (aged t m)) (sym is)
-    ∙ ap (λ (gs : List Grant). record (with_job (job_of f) (aged t m)) { grants = gs; next_grant = m.next_grant + 1 }) (sym (grant_placed m g sound n))
+    ∙ ap (λ (gs : List Grant). record (with_job (job_in (aged t m) f) (aged t m)) { grants = gs; next_grant = m.next_grant + 1 }) (sym (grant_placed m g sound n))
 
 dial_there : (m : Queue) (c : Change) (j : Job) (f : JobFields) (g : Grant) → job_numbered j.number m ≡ Some j → g.job ≡ j.number → job_of f ≡ changed c j
     → dial_of (job_numbered g.job (with_new_grant (both (changed c j) g) m)) ≡ f.dial
@@ -77,11 +80,12 @@ pub given_new : (m : Queue) (t : ℕ) (c : Change) (old f : JobFields) (g : Gran
     → Decides (given (aged t m) (decided_with g (job_of old) (Ok c))) m t (Taken (NewGrant f g) reply)
 given_new m t c old f g reply h sound there of n is is_reply told =
     let j = job_of old in
+    let whole : job_in (aged t m) f ≡ changed c j = ap (with_its_lines (aged t m)) is ∙ ap (λ (o : Option Job). lined (lines_of o) (changed c j)) there in
     let after = with_new_grant (both (changed c j) g) (aged t m) in
     record {
       suits = subst (λ (k : Job). IsChange k (with_expired t m)) (sym is) (change_suits m t c j there);
       told = machine.Given (handed g after);
-      taken = ap (λ (q : Queue). machine.Taken q (machine.Given (handed g after))) (queue_is m t f (changed c j) g sound is n);
+      taken = ap (λ (q : Queue). machine.Taken q (machine.Given (handed g after))) (queue_is m t f (changed c j) g sound whole n);
       replied = is_reply ∙ ap (λ (x : machine.Handed). accepted_response (Replied (machine.Given x))) (told after (dial_there (aged t m) c j f g there of is));
     }
 
@@ -129,14 +133,14 @@ held_there m modem g sound is =
     in_found (λ (x : Grant). x.number) 1 m.grants g sound.grants (of_filter (λ (x : Grant). x.is_open) m.grants g open').0
 
 -- the number that is dialed doesn't age
-dialed : (t : ℕ) (f : JobFields) (o : Option Job) → Some f ≡ option_map fields_of o → dial_of (option_map (aged_job t) o) ≡ f.dial
+dialed : (t : ℕ) (f : JobFields) (o : Option Job) → Some f ≡ option_map (λ j. brief (fields_of j)) o → dial_of (option_map (aged_job t) o) ≡ f.dial
 dialed t f None e = absurd (none-some f (sym e))
-dialed t f (Some j) e = aged_dial t j ∙ sym (ap (λ (x : JobFields). x.dial) (same_Some f (fields_of j) e))
+dialed t f (Some j) e = aged_dial t j ∙ sym (ap (λ (x : JobFields). x.dial) (same_Some f (brief (fields_of j)) e))
 
 -- what is told of the grant of a hold, where it and its job are found, is what the machine tells
 pub held_told : (P : Response → Type 0) (m : Queue) (t : ℕ) (modem : List ℕ) (g one : Grant) (hold : Hold) (f : JobFields)
     → Sound m → held_by modem m ≡ Some g → hold ≡ as_hold g
-    → Some one ≡ grant_numbered hold.grant m → Some f ≡ option_map fields_of (job_numbered hold.job m)
+    → Some one ≡ grant_numbered hold.grant m → Some f ≡ option_map (λ j. brief (fields_of j)) (job_numbered hold.job m)
     → ((n : Queue) → dial_of (job_numbered one.job n) ≡ f.dial → P (refused_response ModemBusy (machine.HeldGrant (is_some one.call) (handed one n))))
     → P (refused_response ModemBusy (machine.HeldGrant (is_some g.call) (handed g (aged t m))))
 held_told P m t modem g one hold f sound held is_hold is_one is_job told =

@@ -17,14 +17,16 @@ use Rattle.fax_core.specs.Machine.{with_job}
 use Rattle.fax_core.specs.Queue.{Queue, job_numbered}
 use Rattle.fax_core.specs.Reply.{Stands, Taken}
 use Rattle.fax_core.specs.Settings.{Settings}
-use Rattle.fax_core.specs.State.{state}
+use Rattle.fax_core.specs.State.{calls_to, state}
 use Rattle.fax_core.specs.Submission.{recorded}
-use Rattle.fax_store.specs.Job.{IsChange, IsSameOrder, with_expired}
+use Rattle.fax_store.specs.Job.{IsChange, IsSameOrder, lines_of, with_expired, with_its_lines}
 use Rattle.fax_decide.specs.Decision.{IsTaken}
 use Rattle.fax_decide.specs.JobAsk.{decision_on}
+use Rattle.fax_decide.specs.Records.{job_in}
 use Rattle.fax_decide.specs.declared.jobs.JobAsk.{JobAsk}
 use Rattle.fax_decide.specs.declared.effect.Effect.TheVariants.{ChangedJob}
 use Rattle.fax_decide.proofs.CallLemmas.{state_changed}
+use Rattle.fax_decide.proofs.LinesLemmas.{decision_lined, job_lined, state_lined}
 
 -- what is recorded is the job
 pub recorded_is : (x j : Job) → Ok x ≡ recorded (Ok j) → x ≡ j
@@ -34,21 +36,35 @@ recorded_is x j is = by (is_lawful (fields_of j)) is
     by true e = cc
     by false e = absurd cc
 
+-- what is said of a job with its lines is said without them
+pub of_order : (m : Queue) (f : JobFields) → IsChange (job_in m f) m → IsChange (job_of f) m
+of_order m f change k of = let same = change k of in record { dial = same.dial; totpages = same.totpages }
+
+-- what a change leaves of a job without its lines, it leaves of the job with them
+pub with_lines : (m : Queue) (c : Change) (f g : JobFields) → Ok (job_of g) ≡ recorded (Ok (changed c (job_of f))) → job_in m g ≡ changed c (job_in m f)
+with_lines m c f g is = ap (with_its_lines m) (recorded_is (job_of g) (changed c (job_of f)) is)
+
 -- a changed job keeps its order
 pub same_order : (m : Queue) (t : ℕ) (c : Change) (j : Job) → job_numbered j.number (aged t m) ≡ Some j → IsChange (changed c j) (with_expired t m)
-same_order m t c j is k of = let one : k ≡ j = (let both = sym of ∙ is in cc) in subst (λ (x : Job). IsSameOrder x (changed c j)) (sym one) (record { dial = refl; totpages = refl; extra = refl })
+same_order m t c j is k of = let one : k ≡ j = (let both = sym of ∙ is in cc) in subst (λ (x : Job). IsSameOrder x (changed c j)) (sym one) (record { dial = refl; totpages = refl })
 
 taken_of : (s : Settings) (m : Queue) (t : ℕ) (c : Change) (j : Job) (g : JobFields) (st : ℕ) (reply : Response)
-    → job_numbered j.number (aged t m) ≡ Some j → job_of g ≡ changed c j → st ≡ state s m t (job_of g) → reply ≡ accepted_response (Replied (Stands g.job st))
+    → job_numbered j.number (aged t m) ≡ Some j → job_in (aged t m) g ≡ changed c j → st ≡ state s m t (job_of g) → reply ≡ accepted_response (Replied (Stands g.job st))
     → IsTaken (machine.changed s (aged t m) t (Ok (changed c j))) m t (ChangedJob g) reply
 taken_of s m t c j g st reply is one st_is replied = record {
-  suits = subst (λ (x : Job). IsChange x (with_expired t m)) (sym one) (same_order m t c j is);
+  suits = of_order (with_expired t m) g (subst (λ (x : Job). IsChange x (with_expired t m)) (sym one) (same_order m t c j is));
   told = Stands g.job st;
   taken = ap (λ (x : Job). Taken (with_job x (aged t m)) (Stands x.number (state s (with_job x (aged t m)) t x))) (sym one)
-      ∙ ap (λ (n : ℕ). Taken (with_job (job_of g) (aged t m)) (Stands g.job n)) (state_changed s m t (job_of g) j there dial ∙ sym st_is);
+      ∙ ap (λ (n : ℕ). Taken (with_job whole (aged t m)) (Stands g.job n)) (state_changed s m t whole j there dial ∙ alike ∙ sym st_is);
   replied = replied;
 }
   where
+    whole : Job
+    whole = job_in (aged t m) g
+
+    alike : state s m t whole ≡ state s m t (job_of g)
+    alike = state_lined (lines_of (job_numbered g.job (aged t m))) g.phase (job_of g) ((s.rule g.dial).hours t) (calls_to g.dial m) (s.rule g.dial).calls t
+
     there : job_numbered g.job (aged t m) ≡ Some j
     there = subst (λ (x : Job). job_numbered x.number (aged t m) ≡ Some j) (sym one) is
 
@@ -57,13 +73,15 @@ taken_of s m t c j g st reply is one st_is replied = record {
 
 -- the changed job is taken for what the machine makes of it
 pub job_taken : (s : Settings) (m : Queue) (t : ℕ) (c : Change) (f g : JobFields) (st : ℕ) (reply : Response)
-    → job_numbered f.job (aged t m) ≡ Some (job_of f) → Ok (job_of g) ≡ recorded (Ok (changed c (job_of f))) → st ≡ state s m t (job_of g) → reply ≡ accepted_response (Replied (Stands g.job st))
-    → IsTaken (machine.changed s (aged t m) t (Ok (changed c (job_of f)))) m t (ChangedJob g) reply
-job_taken s m t c f g st reply is one st_is replied = taken_of s m t c (job_of f) g st reply is (recorded_is (job_of g) (changed c (job_of f)) one) st_is replied
+    → job_numbered f.job (aged t m) ≡ Some (job_in (aged t m) f) → Ok (job_of g) ≡ recorded (Ok (changed c (job_of f))) → st ≡ state s m t (job_of g) → reply ≡ accepted_response (Replied (Stands g.job st))
+    → IsTaken (machine.changed s (aged t m) t (Ok (changed c (job_in (aged t m) f)))) m t (ChangedJob g) reply
+job_taken s m t c f g st reply is one st_is replied = taken_of s m t c (job_in (aged t m) f) g st reply is (with_lines (aged t m) c f g one) st_is replied
 
 -- the job that is there is decided on
 pub on_job_is : (s : Settings) (m : Queue) (t : ℕ) (ask : JobAsk) (n : ℕ) (r : Result Job Refusal) (f : JobFields) (found : Option JobFields)
-    → option_map (λ x. job_of x) found ≡ job_numbered n (aged t m) → found ≡ Some f → r ≡ decision_on ask t (job_of f)
-    → machine.changed s (aged t m) t r ≡ machine.on_job s (aged t m) t (decision_on ask t) (job_numbered n (aged t m))
+    → option_map (job_in (aged t m)) found ≡ job_numbered n (aged t m) → found ≡ Some f → r ≡ decision_on ask t (job_of f)
+    → machine.changed s (aged t m) t (job_lined (lines_of (job_numbered f.job (aged t m))) r) ≡ machine.on_job s (aged t m) t (decision_on ask t) (job_numbered n (aged t m))
 on_job_is s m t ask n r f found is one decided =
-    ap (machine.changed s (aged t m) t) decided ∙ ap (machine.on_job s (aged t m) t (decision_on ask t)) (ap (λ o. option_map (λ (x : JobFields). job_of x) o) (sym one) ∙ is)
+    let lines = lines_of (job_numbered f.job (aged t m)) in
+    ap (machine.changed s (aged t m) t) (ap (job_lined lines) decided ∙ decision_lined lines ask t (job_of f))
+    ∙ ap (machine.on_job s (aged t m) t (decision_on ask t)) (ap (option_map (job_in (aged t m))) (sym one) ∙ is)

@@ -1,5 +1,6 @@
 pub mod WorkLemmas
 mod DecisionLemmas
+mod LinesLemmas
 mod RecordLemmas
 mod CallLemmas
 mod JobLemmas

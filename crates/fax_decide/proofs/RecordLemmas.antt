@@ -1,18 +1,22 @@
 -- Jobs and grants of a queue, as the store finds them.
-use Rattle.std.proofs.Common.{◌≡◌, inl, inr, ℕ, suc, ◌<◌, ◌≤◌, ◌==◌, All, List, [], ◌∷◌, Option, Some, None, find, refl, sym, ap, subst, ◌∙◌, arith}
+use Rattle.std.proofs.Common.{◌≡◌, inl, inr, ℕ, suc, ◌<◌, ◌≤◌, ◌==◌, ◌&&◌, Bool, true, false, All, List, [], ◌∷◌, Option, Some, None, find, refl, sym, ap, subst, ◌∙◌, arith}
 use Rattle.std.specs.Option.{option_map}
 use Rattle.std.specs.Prelude.{Result, Ok, Err, MatchResult, IfOk}
 use Rattle.std.proofs.lemmas.Bool.{cases_Bool, and_parts, leb-true, eqb-true}
+use Rattle.fax_job.specs.Pair.{Pair}
 use Rattle.fax_job.specs.declared.job.JobFields.{JobFields}
-use Rattle.fax_core.specs.Ageing.{aged, aged_job}
+use Rattle.fax_core.specs.Ageing.{aged, aged_job, expires, is_past}
 use Rattle.fax_core.specs.Job.{Job, job_of, fields_of}
 use Rattle.fax_core.specs.Queue.{Queue, job_numbered, grant_numbered}
 use Rattle.fax_core.specs.declared.grants.Grant.{Grant}
 use Rattle.fax_core.proofs.DecisionLemmas.{aged_number}
 use Rattle.fax_core.proofs.FitsLemmas.{job_again}
 use Rattle.fax_core.proofs.KeepLemmas.{looked_up, numbered_job}
-use Rattle.fax_tables.specs.Job.{IsLawfulJob}
+use Rattle.fax_tables.specs.Job.{IsLawfulJob, brief}
 use Rattle.fax_tables.specs.Tables.{IsLawfulGrant}
+use Rattle.fax_store.specs.Job.{lines_of}
+use Rattle.fax_decide.specs.Records.{job_in}
+use Rattle.fax_decide.proofs.LinesLemmas.{aged_lined, lined}
 
 -- ---- numbers past the last
 
@@ -66,18 +70,44 @@ aged_one t (Some j) f g row lawful is one old =
 pub found_job : (m : Queue) (t n : ℕ) (f g : JobFields) (row : Option JobFields) → All IsLawfulJob m.jobs → row ≡ option_map fields_of (job_numbered n m) → row ≡ Some f → job_of g ≡ aged_job t (job_of f) → Some (job_of g) ≡ job_numbered n (aged t m)
 found_job m t n f g row all is one old = aged_one t (job_numbered n m) f g row (λ j is_j. lawful_numbered m.jobs n j all is_j) is one old ∙ sym (aged_numbered m t n)
 
-aged_none : (t : ℕ) (o : Option Job) (row : Option JobFields) → row ≡ option_map fields_of o → row ≡ None → None ≡ option_map (aged_job t) o
-aged_none t None row is none = refl
-aged_none t (Some j) row is none = absurd (let no = sym none ∙ is in cc)
+aged_none : (t : ℕ) (o : Option Job) (of : Job → JobFields) (row : Option JobFields) → row ≡ option_map of o → row ≡ None → None ≡ option_map (aged_job t) o
+aged_none t None of row is none = refl
+aged_none t (Some j) of row is none = absurd (let no = sym none ∙ is in cc)
 
-pub found_no_job : (m : Queue) (t n : ℕ) (row : Option JobFields) → row ≡ option_map fields_of (job_numbered n m) → row ≡ None → None ≡ job_numbered n (aged t m)
-found_no_job m t n row is none = aged_none t (job_numbered n m) row is none ∙ sym (aged_numbered m t n)
+pub found_no_job : (m : Queue) (t n : ℕ) (of : Job → JobFields) (row : Option JobFields) → row ≡ option_map of (job_numbered n m) → row ≡ None → None ≡ job_numbered n (aged t m)
+found_no_job m t n of row is none = aged_none t (job_numbered n m) of row is none ∙ sym (aged_numbered m t n)
+
+-- ---- jobs without their extra lines
+
+lines_aged : (t : ℕ) (j : Job) → (aged_job t j).extra ≡ j.extra
+lines_aged t j = by (expires j.phase && is_past j.killtime t) refl
+  where
+    by : (b : Bool) → (expires j.phase && is_past j.killtime t) ≡ b → (aged_job t j).extra ≡ j.extra
+    by true e = rw e refl
+    by false e = rw e refl
+
+-- a job that is found without its lines is there, with them
+brief_one : (m : Queue) (t n : ℕ) (o : Option Job) (f g : JobFields) (row : Option JobFields) → job_numbered n m ≡ o → ((j : Job) → o ≡ Some j → IsLawfulJob j)
+    → row ≡ option_map (λ j. brief (fields_of j)) o → row ≡ Some f → job_of g ≡ aged_job t (job_of f) → Some (job_in (aged t m) g) ≡ option_map (aged_job t) o
+brief_one m t n None f g row there lawful is one old = absurd (let no = sym one ∙ is in cc)
+brief_one m t n (Some j) f g row there lawful is one old =
+    let fields : f ≡ brief (fields_of j) = (let both = sym one ∙ is in cc) in
+    let bare : job_of f ≡ lined [] j = ap job_of fields ∙ ap (lined []) (job_again j (lawful j refl).pages) in
+    let now : job_of g ≡ aged_job t (lined [] j) = old ∙ ap (aged_job t) bare in
+    let number : g.job ≡ n = ap (λ (k : Job). k.number) now ∙ aged_number t (lined [] j) ∙ numbered_job m n j there in
+    let found : job_numbered g.job (aged t m) ≡ Some (aged_job t j) = ap (λ (i : ℕ). job_numbered i (aged t m)) number ∙ aged_numbered m t n ∙ ap (option_map (aged_job t)) there in
+    let lines : lines_of (job_numbered g.job (aged t m)) ≡ j.extra = ap lines_of found ∙ lines_aged t j in
+    ap (λ (k : Job). Some k) (ap (λ (e : List Pair). lined e (job_of g)) lines ∙ ap (lined j.extra) now ∙ aged_lined j.extra t (lined [] j))
+
+pub found_brief : (m : Queue) (t n : ℕ) (f g : JobFields) (row : Option JobFields) → All IsLawfulJob m.jobs → row ≡ option_map (λ j. brief (fields_of j)) (job_numbered n m) → row ≡ Some f
+    → job_of g ≡ aged_job t (job_of f) → Some (job_in (aged t m) g) ≡ job_numbered n (aged t m)
+found_brief m t n f g row all is one old = brief_one m t n (job_numbered n m) f g row refl (λ j is_j. lawful_numbered m.jobs n j all is_j) is one old ∙ sym (aged_numbered m t n)
 
 -- a job that is found stands under its own number
-pub found_itself : (m : Queue) (n : ℕ) (f : JobFields) (found : Option JobFields) → option_map (λ x. job_of x) found ≡ job_numbered n m → found ≡ Some f → job_numbered f.job m ≡ Some (job_of f)
+pub found_itself : (m : Queue) (n : ℕ) (f : JobFields) (found : Option JobFields) → option_map (job_in m) found ≡ job_numbered n m → found ≡ Some f → job_numbered f.job m ≡ Some (job_in m f)
 found_itself m n f found is one =
-    let there : job_numbered n m ≡ Some (job_of f) = sym is ∙ ap (λ o. option_map (λ (x : JobFields). job_of x) o) one in
-    subst (λ (a : ℕ). job_numbered a m ≡ Some (job_of f)) (sym (numbered_job m n (job_of f) there)) there
+    let there : job_numbered n m ≡ Some (job_in m f) = sym is ∙ ap (option_map (job_in m)) one in
+    subst (λ (a : ℕ). job_numbered a m ≡ Some (job_in m f)) (sym (numbered_job m n (job_in m f) there)) there
 
 -- ---- what is had where a call succeeds
 

@@ -3,7 +3,9 @@ use Rattle.std.proofs.Common.{◌≡◌, ℕ, ◌-◌, Bool, true, false, Some, 
 use Rattle.std.specs.Option.{option_map}
 use Rattle.std.specs.Prelude.{Option, Result}
 use Rattle.std.proofs.lemmas.Bool.{cases_Bool}
+use Rattle.fax_job.specs.Pair.{Pair}
 use Rattle.fax_job.specs.declared.job.JobFields.{JobFields}
+use Rattle.fax_job.specs.declared.job.Call.{Call as CallResult}
 use Rattle.fax_job.specs.declared.refusal.Refusal.{Refusal}
 use Rattle.fax_job.specs.declared.refusal.Refusal.TheVariants.{GrantClosed, PageOrder}
 use Rattle.fax_ask.specs.Answer.{Replied}
@@ -12,12 +14,13 @@ use Rattle.fax_core.specs.Ageing.{aged}
 use Rattle.fax_core.specs.Change.{changed}
 use Rattle.fax_core.specs.declared.change.Change.{Change}
 use Rattle.fax_core.specs.declared.grants.Grant.{Grant}
+use Rattle.fax_core.specs.declared.report.Outcome.{Outcome as OutcomeSaid}
 use Rattle.fax_core.specs.Decisions.{JobAndGrant, call, page, outcome, stops}
 use Rattle.fax_core.specs.Job.{Job, job_of}
-use Rattle.fax_core.specs.Machine.{with_job, with_grant, with_both, reported, on_grant, on_both, without_job, keys_of_job, call_reply, page_reply, outcome_reply}
+use Rattle.fax_core.specs.Machine.{with_grant, with_both, reported, on_grant, on_both, without_job, keys_of_job, call_reply, page_reply, outcome_reply}
 use Rattle.fax_core.specs.Queue.{Queue, job_numbered, grant_numbered}
 use Rattle.fax_core.specs.Reply as machine
-use Rattle.fax_core.specs.Reply.{Reply, Called, Confirmed, Stands, Taken}
+use Rattle.fax_core.specs.Reply.{Reply, Called, Confirmed, Stands, Step, Taken}
 use Rattle.fax_core.specs.Settings.{Settings}
 use Rattle.fax_core.specs.Sound.{Sound}
 use Rattle.fax_core.specs.State.{calls_to, state}
@@ -25,17 +28,19 @@ use Rattle.fax_core.specs.Submission.{recorded}
 use Rattle.fax_core.proofs.FitsLemmas.{record_again}
 use Rattle.fax_core.proofs.KeepLemmas.{numbered_job, numbered_grant}
 use Rattle.fax_store.specs.Grant.{IsReport, IsSameGrant, with_closed, with_shut}
-use Rattle.fax_store.specs.Job.{IsChange, with_expired}
+use Rattle.fax_store.specs.Job.{IsChange, lines_of, with_change, with_expired}
 use Rattle.fax_store.specs.Meta.{with_clock}
 use Rattle.fax_tables.specs.Tables.{IsLawfulGrant}
 use Rattle.fax_decide.specs.Decision.{IsTaken, IsRefused}
+use Rattle.fax_decide.specs.Records.{job_in}
 use Rattle.fax_decide.specs.Report.{AreThere, report_both, report_step}
 use Rattle.fax_decide.specs.State.{state_with}
 use Rattle.fax_decide.specs.declared.reports.Report.{Report}
 use Rattle.fax_decide.specs.declared.reports.Report.TheVariants.{Call, Page, Outcome}
 use Rattle.fax_decide.specs.declared.effect.Effect.TheVariants.{Reported, Closed}
 use Rattle.fax_decide.proofs.CallLemmas.{state_ended}
-use Rattle.fax_decide.proofs.JobLemmas.{recorded_is, same_order}
+use Rattle.fax_decide.proofs.JobLemmas.{of_order, same_order, with_lines}
+use Rattle.fax_decide.proofs.LinesLemmas.{both_lined, keys_lined, lined, state_lined}
 use Rattle.fax_decide.proofs.RecordLemmas.{found_itself}
 
 -- ---- reports that leave the grant open
@@ -48,33 +53,33 @@ reports_on m n before grant grants there same number h is =
 
 -- job and grant are put in their places
 report_taken : (m : Queue) (t : ℕ) (c : Change) (f g : JobFields) (before grant : Grant) (reply_to : Queue → JobAndGrant → Reply) (told : Reply) (reply : Response)
-    → AreThere m t f before → IsSameGrant before grant → grant.number ≡ before.number → job_of g ≡ changed c (job_of f)
-    → ((n : Queue) → reply_to n (record { job = job_of g; grant = grant }) ≡ told) → reply ≡ accepted_response (Replied told)
-    → IsTaken (reported (aged t m) reply_to (job_of f) (Ok (record { job = changed c (job_of f); grant = grant }))) m t (Reported g grant) reply
+    → AreThere m t f before → IsSameGrant before grant → grant.number ≡ before.number → job_in (aged t m) g ≡ changed c (job_in (aged t m) f)
+    → ((n : Queue) → reply_to n (record { job = job_in (aged t m) g; grant = grant }) ≡ told) → reply ≡ accepted_response (Replied told)
+    → IsTaken (reported (aged t m) reply_to (job_in (aged t m) f) (Ok (record { job = changed c (job_in (aged t m) f); grant = grant }))) m t (Reported g grant) reply
 report_taken m t c f g before grant reply_to told reply there same number one says replied = record {
   suits = (
-    subst (λ (x : Job). IsChange x (with_expired t m)) (sym one) (same_order m t c (job_of f) there.job_there),
-    reports_on m (with_job (job_of g) (with_expired t m)) before grant refl there.grant_there same number,
+    of_order (with_expired t m) g (subst (λ (x : Job). IsChange x (with_expired t m)) (sym one) (same_order m t c (job_in (aged t m) f) there.job_there)),
+    reports_on m (with_change (job_of g) (with_expired t m)) before grant refl there.grant_there same number,
   );
   told = told;
   taken = ap (λ (x : Job). Taken (with_both (record { job = x; grant = grant }) (aged t m)) (reply_to (with_both (record { job = x; grant = grant }) (aged t m)) (record { job = x; grant = grant }))) (sym one)
-      ∙ ap (λ (r : Reply). Taken (with_both (record { job = job_of g; grant = grant }) (aged t m)) r) (says (with_both (record { job = job_of g; grant = grant }) (aged t m)));
+      ∙ ap (λ (r : Reply). Taken (with_both (record { job = job_in (aged t m) g; grant = grant }) (aged t m)) r) (says (with_both (record { job = job_in (aged t m) g; grant = grant }) (aged t m)));
   replied = replied;
 }
 
 pub call_taken : (m : Queue) (t : ℕ) (c : Change) (f g : JobFields) (before grant : Grant) (stop : Bool) (reply : Response)
     → AreThere m t f before → IsSameGrant before grant → grant.number ≡ before.number → Ok (job_of g) ≡ recorded (Ok (changed c (job_of f)))
     → stop ≡ stops (job_of g) t → reply ≡ accepted_response (Replied (Called stop))
-    → IsTaken (reported (aged t m) (call_reply t) (job_of f) (Ok (record { job = changed c (job_of f); grant = grant }))) m t (Reported g grant) reply
+    → IsTaken (reported (aged t m) (call_reply t) (job_in (aged t m) f) (Ok (record { job = changed c (job_in (aged t m) f); grant = grant }))) m t (Reported g grant) reply
 call_taken m t c f g before grant stop reply there same number one stop_is replied =
-    report_taken m t c f g before grant (call_reply t) (Called stop) reply there same number (recorded_is (job_of g) (changed c (job_of f)) one) (λ n. ap (λ (b : Bool). Called b) (sym stop_is)) replied
+    report_taken m t c f g before grant (call_reply t) (Called stop) reply there same number (with_lines (aged t m) c f g one) (λ n. ap (λ (b : Bool). Called b) (sym stop_is)) replied
 
 pub page_taken : (m : Queue) (t : ℕ) (c : Change) (f g : JobFields) (before grant : Grant) (stop : Bool) (reply : Response)
     → AreThere m t f before → IsSameGrant before grant → grant.number ≡ before.number → Ok (job_of g) ≡ recorded (Ok (changed c (job_of f)))
     → stop ≡ stops (job_of g) t → reply ≡ accepted_response (Replied (Confirmed g.npages stop))
-    → IsTaken (reported (aged t m) (page_reply t) (job_of f) (Ok (record { job = changed c (job_of f); grant = grant }))) m t (Reported g grant) reply
+    → IsTaken (reported (aged t m) (page_reply t) (job_in (aged t m) f) (Ok (record { job = changed c (job_in (aged t m) f); grant = grant }))) m t (Reported g grant) reply
 page_taken m t c f g before grant stop reply there same number one stop_is replied =
-    report_taken m t c f g before grant (page_reply t) (Confirmed g.npages stop) reply there same number (recorded_is (job_of g) (changed c (job_of f)) one)
+    report_taken m t c f g before grant (page_reply t) (Confirmed g.npages stop) reply there same number (with_lines (aged t m) c f g one)
     (λ n. ap₂ (λ (a : ℕ) (b : Bool). Confirmed a b) (ap (λ (x : JobFields). x.npages) (record_again g)) (sym stop_is)) replied
 
 -- ---- outcomes
@@ -83,26 +88,32 @@ closed_is : (m n : Queue) (g : Grant) → n.grants ≡ m.grants → grant_number
 closed_is m n g grants there = ap (λ (o : Option Grant). with_shut o n) (ap (λ gs. find (λ (x : Grant). x.number == g.number) gs) grants ∙ there)
 
 ended_taken : (s : Settings) (m : Queue) (t : ℕ) (c : Change) (f g : JobFields) (grant : Grant) (calls st : ℕ) (reply : Response)
-    → Sound m → AreThere m t f grant → grant.is_open ≡ true → job_of g ≡ changed c (job_of f)
+    → Sound m → AreThere m t f grant → grant.is_open ≡ true → job_in (aged t m) g ≡ changed c (job_in (aged t m) f)
     → calls ≡ calls_to g.dial m - 1 → st ≡ state_with s (job_of g) calls t → reply ≡ accepted_response (Replied (Stands g.job st))
-    → IsTaken (reported (aged t m) (outcome_reply s t) (job_of f) (Ok (record { job = changed c (job_of f); grant = record grant { is_open = false } }))) m t (Closed g grant.number) reply
+    → IsTaken (reported (aged t m) (outcome_reply s t) (job_in (aged t m) f) (Ok (record { job = changed c (job_in (aged t m) f); grant = record grant { is_open = false } }))) m t (Closed g grant.number) reply
 ended_taken s m t c f g grant calls st reply sound there open' one calls_is st_is replied = record {
-  suits = subst (λ (x : Job). IsChange x (with_expired t m)) (sym one) (same_order m t c (job_of f) there.job_there);
+  suits = of_order (with_expired t m) g (subst (λ (x : Job). IsChange x (with_expired t m)) (sym one) (same_order m t c (job_in (aged t m) f) there.job_there));
   told = Stands g.job st;
   taken = ap (λ (x : Job). Taken (both x) (Stands x.number (state s (both x) t x))) (sym one)
-      ∙ ap (λ (n : ℕ). Taken (both (job_of g)) (Stands g.job n)) (state_ended s m t (job_of g) (job_of f) grant calls sound job_there dial of there.grant_there open' calls_is ∙ sym st_is)
-      ∙ ap (λ (n : Queue). Taken (with_clock t n) (Stands g.job st)) (sym (closed_is m (with_job (job_of g) (with_expired t m)) grant refl there.grant_there));
+      ∙ ap (λ (n : ℕ). Taken (both whole) (Stands g.job n)) (state_ended s m t whole (job_in (aged t m) f) grant calls sound job_there dial of there.grant_there open' calls_is ∙ alike ∙ sym st_is)
+      ∙ ap (λ (n : Queue). Taken (with_clock t n) (Stands g.job st)) (sym (closed_is m (with_change (job_of g) (with_expired t m)) grant refl there.grant_there));
   replied = replied;
 }
   where
     both : Job → Queue
     both x = with_both (record { job = x; grant = record grant { is_open = false } }) (aged t m)
 
+    whole : Job
+    whole = job_in (aged t m) g
+
+    alike : state_with s whole calls t ≡ state_with s (job_of g) calls t
+    alike = state_lined (lines_of (job_numbered g.job (aged t m))) g.phase (job_of g) ((s.rule g.dial).hours t) calls (s.rule g.dial).calls t
+
     number : g.job ≡ f.job
     number = ap (λ (x : Job). x.number) one
 
-    job_there : job_numbered g.job (aged t m) ≡ Some (job_of f)
-    job_there = subst (λ (n : ℕ). job_numbered n (aged t m) ≡ Some (job_of f)) (sym number) there.job_there
+    job_there : job_numbered g.job (aged t m) ≡ Some (job_in (aged t m) f)
+    job_there = subst (λ (n : ℕ). job_numbered n (aged t m) ≡ Some (job_in (aged t m) f)) (sym number) there.job_there
 
     dial : g.dial ≡ f.dial
     dial = ap (λ (x : Job). x.dial) one
@@ -113,9 +124,9 @@ ended_taken s m t c f g grant calls st reply sound there open' one calls_is st_i
 pub outcome_taken : (s : Settings) (m : Queue) (t : ℕ) (c : Change) (f g : JobFields) (grant : Grant) (calls st : ℕ) (reply : Response)
     → Sound m → AreThere m t f grant → grant.is_open ≡ true → Ok (job_of g) ≡ recorded (Ok (changed c (job_of f)))
     → calls ≡ calls_to g.dial m - 1 → st ≡ state_with s (job_of g) calls t → reply ≡ accepted_response (Replied (Stands g.job st))
-    → IsTaken (reported (aged t m) (outcome_reply s t) (job_of f) (Ok (record { job = changed c (job_of f); grant = record grant { is_open = false } }))) m t (Closed g grant.number) reply
+    → IsTaken (reported (aged t m) (outcome_reply s t) (job_in (aged t m) f) (Ok (record { job = changed c (job_in (aged t m) f); grant = record grant { is_open = false } }))) m t (Closed g grant.number) reply
 outcome_taken s m t c f g grant calls st reply sound there open' one calls_is st_is replied =
-    ended_taken s m t c f g grant calls st reply sound there open' (recorded_is (job_of g) (changed c (job_of f)) one) calls_is st_is replied
+    ended_taken s m t c f g grant calls st reply sound there open' (with_lines (aged t m) c f g one) calls_is st_is replied
 
 -- the state is told with one call less
 pub state_told : (s : Settings) (m : Queue) (t : ℕ) (f g h : JobFields) (calls st : ℕ) → g ≡ f → h ≡ f → calls ≡ calls_to g.dial m - 1 → st ≡ state_with s (job_of f) calls t
@@ -137,10 +148,10 @@ lawful_grant (x ∷ xs) n g all h = elim (cases_Bool (x.number == n)) [
     same h = cc
 
 pub are_there : (m : Queue) (t n : ℕ) (g : Grant) (f : JobFields) (found_grant : Option Grant) (found_job : Option JobFields)
-    → found_grant ≡ grant_numbered n m → found_grant ≡ Some g → option_map (λ x. job_of x) found_job ≡ job_numbered g.job (aged t m) → found_job ≡ Some f
+    → found_grant ≡ grant_numbered n m → found_grant ≡ Some g → option_map (job_in (aged t m)) found_job ≡ job_numbered g.job (aged t m) → found_job ≡ Some f
     → AreThere m t f g
 are_there m t n g f found_grant found_job is_grant one_grant is_job one_job = record {
-  of_job = sym (numbered_job (aged t m) g.job (job_of f) (sym is_job ∙ ap (λ o. option_map (λ (x : JobFields). job_of x) o) one_job));
+  of_job = sym (numbered_job (aged t m) g.job (job_in (aged t m) f) (sym is_job ∙ ap (option_map (job_in (aged t m))) one_job));
   job_there = found_itself (aged t m) g.job f found_job is_job one_job;
   grant_there =
       let there : grant_numbered n m ≡ Some g = sym is_grant ∙ one_grant in
@@ -156,10 +167,10 @@ both_step s m t (Outcome said) o g j is job_is =
     sym (ap (on_grant m (λ j g. outcome said j g (s.delay g.call) t) (outcome_reply s t)) is ∙ ap (on_both m (λ j g. outcome said j g (s.delay g.call) t) (outcome_reply s t) g) job_is)
 
 pub on_grant_is : (s : Settings) (m : Queue) (t n : ℕ) (report : Report) (g : Grant) (f : JobFields) (found_grant : Option Grant) (found_job : Option JobFields)
-    → found_grant ≡ grant_numbered n m → found_grant ≡ Some g → option_map (λ x. job_of x) found_job ≡ job_numbered g.job (aged t m) → found_job ≡ Some f
-    → report_both s (aged t m) t report (job_of f) g ≡ report_step s (aged t m) t report (grant_numbered n m)
+    → found_grant ≡ grant_numbered n m → found_grant ≡ Some g → option_map (job_in (aged t m)) found_job ≡ job_numbered g.job (aged t m) → found_job ≡ Some f
+    → report_both s (aged t m) t report (job_in (aged t m) f) g ≡ report_step s (aged t m) t report (grant_numbered n m)
 on_grant_is s m t n report g f found_grant found_job is_grant one_grant is_job one_job =
-    both_step s (aged t m) t report (grant_numbered n m) g (job_of f) (sym is_grant ∙ one_grant) (sym is_job ∙ ap (λ o. option_map (λ (x : JobFields). job_of x) o) one_job)
+    both_step s (aged t m) t report (grant_numbered n m) g (job_in (aged t m) f) (sym is_grant ∙ one_grant) (sym is_job ∙ ap (option_map (job_in (aged t m))) one_job)
 
 alone_step : (s : Settings) (m : Queue) (t : ℕ) (report : Report) (o : Option Grant) (g : Grant) → o ≡ Some g → job_numbered g.job m ≡ None → machine.Refused (without_job g.is_open) machine.NoKeys ≡ report_step s m t report o
 alone_step s m t (Call said) o g is job_is = sym (ap (on_grant m (call said) (call_reply t)) is ∙ ap (on_both m (call said) (call_reply t) g) job_is)
@@ -168,10 +179,34 @@ alone_step s m t (Outcome said) o g is job_is =
     sym (ap (on_grant m (λ j g. outcome said j g (s.delay g.call) t) (outcome_reply s t)) is ∙ ap (on_both m (λ j g. outcome said j g (s.delay g.call) t) (outcome_reply s t) g) job_is)
 
 pub without_job_is : (s : Settings) (m : Queue) (t n : ℕ) (report : Report) (g : Grant) (found_grant : Option Grant) (found_job : Option JobFields)
-    → found_grant ≡ grant_numbered n m → found_grant ≡ Some g → option_map (λ x. job_of x) found_job ≡ job_numbered g.job (aged t m) → found_job ≡ None
+    → found_grant ≡ grant_numbered n m → found_grant ≡ Some g → option_map (job_in (aged t m)) found_job ≡ job_numbered g.job (aged t m) → found_job ≡ None
     → machine.Refused (without_job g.is_open) machine.NoKeys ≡ report_step s (aged t m) t report (grant_numbered n m)
 without_job_is s m t n report g found_grant found_job is_grant one_grant is_job one_job =
-    alone_step s (aged t m) t report (grant_numbered n m) g (sym is_grant ∙ one_grant) (sym is_job ∙ ap (λ o. option_map (λ (x : JobFields). job_of x) o) one_job)
+    alone_step s (aged t m) t report (grant_numbered n m) g (sym is_grant ∙ one_grant) (sym is_job ∙ ap (option_map (job_in (aged t m))) one_job)
+
+-- ---- what is decided without the extra lines
+
+pub same_call : (g : Grant) (call : Option CallResult) → IsSameGrant g (record g { call = call })
+same_call g call = record { job = refl; modem = refl; first_page = refl; last_page = refl; is_open = refl }
+
+pub same_page : (g : Grant) (confirmed : ℕ) → IsSameGrant g (record g { confirmed = confirmed })
+same_page g confirmed = record { job = refl; modem = refl; first_page = refl; last_page = refl; is_open = refl }
+
+-- what holds of the job with its lines and the grant holds of what the machine decides
+pub reported_on : (P : Step → Type 0) (m : Queue) (reply_to : Queue → JobAndGrant → Reply) (lines : List Pair) (j : Job) (c : Change) (g h : Grant) (r whole : Result JobAndGrant Refusal)
+    → h ≡ g → Ok (record { job = changed c j; grant = g }) ≡ r → both_lined lines r ≡ whole
+    → P (reported m reply_to (lined lines j) (Ok (record { job = changed c (lined lines j); grant = h }))) → P (reported m reply_to (lined lines j) whole)
+reported_on P m reply_to lines j c g h r whole same decided is holds =
+    subst (λ (x : Result JobAndGrant Refusal). P (reported m reply_to (lined lines j) x))
+    (ap (λ (x : Grant). Ok (record { job = changed c (lined lines j); grant = x })) same ∙ ap (both_lined lines) decided ∙ is) holds
+
+-- an outcome is taken of an open grant alone
+pub open_outcome : (o : OutcomeSaid) (j : Job) (g : Grant) (delay t : ℕ) (b : JobAndGrant) → Ok b ≡ outcome o j g delay t → g.is_open ≡ true
+open_outcome o j g delay t b is = by g.is_open refl
+  where
+    by : (b : Bool) → g.is_open ≡ b → g.is_open ≡ true
+    by true e = e
+    by false e = absurd (let no = (rw e at is) in cc)
 
 -- ---- closed grants
 
@@ -181,8 +216,15 @@ closed_page r e is closed named = let same : e ≡ GrantClosed = (let both = is 
 
 -- ---- a page that is refused
 
-pub page_refused_is : (m : Queue) (t : ℕ) (j : Job) (r : Result JobAndGrant Refusal) (e : Refusal) → Err e ≡ r → IsRefused (reported m (page_reply t) j r) (refused_response e (keys_of_job e j))
-page_refused_is m t j r e is = record { refusal = e; keys = keys_of_job e j; refused = ap (reported m (page_reply t) j) (sym is); replied = refl }
+-- how many pages are sent doesn't depend on the extra lines
+pub page_refused_is : (m : Queue) (t : ℕ) (lines : List Pair) (j : Job) (r : Result JobAndGrant Refusal) (e : Refusal) → Err e ≡ r
+    → IsRefused (reported m (page_reply t) (lined lines j) r) (refused_response e (keys_of_job e j))
+page_refused_is m t lines j r e is = record {
+  refusal = e;
+  keys = keys_of_job e (lined lines j);
+  refused = ap (reported m (page_reply t) (lined lines j)) (sym is);
+  replied = ap (refused_response e) (sym (keys_lined lines e j));
+}
 
 -- how many pages are confirmed, by the record
 pub order_keys : (f : JobFields) (e : Refusal) → e ≡ PageOrder → refused_response PageOrder (machine.Pages f.npages) ≡ refused_response e (keys_of_job e (job_of f))

@@ -19,15 +19,17 @@ use Rattle.fax_core.specs.Settings.{Rule}
 use Rattle.fax_core.specs.Sound.{Sound}
 use Rattle.fax_core.specs.Submission.{recorded}
 use Rattle.fax_core.proofs.DecisionLemmas.{not_refused, ok_same}
+use Rattle.fax_tables.specs.Meta.{meta_of}
+use Rattle.fax_tables.specs.declared.meta.Meta.{Meta}
 use Rattle.fax_decide.specs.Decision.{IsTaken, IsRefused}
 use Rattle.fax_decide.proofs.PlacedLemmas.{aged_job_placed}
 use Rattle.fax_decide.specs.declared.effect.Effect.TheVariants.{NewJob}
 
 -- a new job that is next is taken
-pub job_new : (m : Queue) (t : ℕ) (rule : Rule) (f : JobFields) (reply : Response) → Sound m → f.job ≡ m.next_job → reply ≡ accepted_response (Replied (Submitted f.job))
-    → IsTaken (machine.submitted (aged t m) rule (Ok (job_of f))) m t (NewJob f) reply
-job_new m t rule f reply sound next replied = record {
-  suits = _;
+pub job_new : (m : Queue) (t : ℕ) (rule : Rule) (f : JobFields) (meta : Meta) (reply : Response) → Sound m → meta ≡ meta_of m → f.job ≡ m.next_job → reply ≡ accepted_response (Replied (Submitted f.job))
+    → IsTaken (machine.submitted (aged t m) rule (Ok (job_of f))) m t (NewJob f meta) reply
+job_new m t rule f meta reply sound these next replied = record {
+  suits = these;
   told = Submitted f.job;
   taken = ap (λ (js : List Job). Taken (record (aged t m) { jobs = js; next_job = m.next_job + 1 }) (Submitted f.job)) (sym (aged_job_placed t m (job_of f) sound next));
   replied = replied;

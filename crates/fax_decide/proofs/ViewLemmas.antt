@@ -25,6 +25,7 @@ use Rattle.fax_tables.specs.Job.{IsLawfulJob, brief}
 use Rattle.fax_text.specs.Listing.{Listed, heading, line_of, listing_of, number_of}
 use Rattle.fax_text.proofs.OrderLemmas.{numbered}
 use Rattle.fax_decide.specs.View.{viewed, view, with_state}
+use Rattle.fax_decide.proofs.LinesLemmas.{state_lined}
 use Rattle.fax_decide.proofs.CallLemmas.{state_aged}
 use Rattle.fax_decide.proofs.ChoiceLemmas.{jobs_again, jobs_of}
 
@@ -86,21 +87,13 @@ rows_ascend s m t sound =
 abbrev thin : Listed → Listed
 thin row = (brief row.0, row.1)
 
--- its state doesn't tell them
-state_thin : (phase : Phase) (f : JobFields) (hours : Bool) (calls limit t : ℕ) → state_in phase (job_of (brief f)) hours calls limit t ≡ state_in phase (job_of f) hours calls limit t
-state_thin Held f hours calls limit t = refl
-state_thin Waiting f hours calls limit t = refl
-state_thin Granted f hours calls limit t = refl
-state_thin Done f hours calls limit t = refl
-state_thin Failed f hours calls limit t = refl
-
 aged_thin : (s : Settings) (m : Queue) (t : ℕ) (f : JobFields) → with_state s m t (aged_job t (job_of (brief f))) ≡ thin (with_state s m t (aged_job t (job_of f)))
 aged_thin s m t f = by (expires f.phase && is_past f.killtime t)
   where
     by : (b : Bool) → with_state s m t (cond b (record (job_of (brief f)) { phase = Failed; status = kill_time_expired }) (job_of (brief f)))
         ≡ thin (with_state s m t (cond b (record (job_of f) { phase = Failed; status = kill_time_expired }) (job_of f)))
     by true = refl
-    by false = ap (λ (n : ℕ). (brief (fields_of (job_of f)), n)) (state_thin f.phase f ((s.rule f.dial).hours t) (calls_to f.dial m) (s.rule f.dial).calls t)
+    by false = ap (λ (n : ℕ). (brief (fields_of (job_of f)), n)) (state_lined [] f.phase (job_of f) ((s.rule f.dial).hours t) (calls_to f.dial m) (s.rule f.dial).calls t)
 
 all_thin : (s : Settings) (m : Queue) (t : ℕ) (jobs : List Job) → map (λ f. with_state s m t (aged_job t (job_of f))) (map (λ j. brief (fields_of j)) jobs)
     ≡ map thin (map (λ f. with_state s m t (aged_job t (job_of f))) (map fields_of jobs))

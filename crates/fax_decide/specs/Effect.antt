@@ -1,31 +1,32 @@
 -- What an accepted request changes in the queue, beside ageing it and setting the clock.
-use Rattle.std.specs.Prelude.{◌<◌, ◌≤◌, ℕ, ⊤}
+use Rattle.std.specs.Prelude.{◌≡◌, ◌<◌, ◌≤◌, ℕ, ⊤}
 use Rattle.fax_core.specs.Job.{job_of}
-use Rattle.fax_core.specs.Machine.{with_grant, with_mark, with_job as with_change}
+use Rattle.fax_core.specs.Machine.{with_grant, with_mark}
 use Rattle.fax_core.specs.Queue.{Queue}
 use Rattle.fax_job.specs.Limits.{most_pages}
 use Rattle.fax_store.specs.Grant.{IsNewGrant, IsReport, with_closed, with_one_more_grant}
-use Rattle.fax_store.specs.Job.{IsChange, IsNewJob, with_expired, with_one_more_job}
+use Rattle.fax_store.specs.Job.{IsChange, IsNewJob, with_change, with_expired, with_one_more_job}
 use Rattle.fax_store.specs.Meta.{with_clock}
 use Rattle.fax_tables.specs.Grant.{IsOpenGrant}
+use Rattle.fax_tables.specs.Meta.{meta_of}
 use Rattle.fax_tables.specs.Tables.{HasJob}
 use Rattle.fax_decide.specs.declared.effect.Effect.{Effect}
 use Rattle.fax_decide.specs.declared.effect.Effect.TheVariants.{Nothing, NewJob, ChangedJob, Marked, NewGrant, Reported, Closed}
 
--- the queue afterwards
+-- The queue afterwards. The extra lines of a job that was there stay as they are.
 abbrev pub effected : Effect → Queue → Queue
 effected Nothing m = m
-effected (NewJob job) m = with_one_more_job (job_of job) m
+effected (NewJob job meta) m = with_one_more_job (job_of job) m
 effected (ChangedJob job) m = with_change (job_of job) m
 effected (Marked modem down) m = with_mark modem down m
 effected (NewGrant job grant) m = with_one_more_grant grant (with_change (job_of job) m)
 effected (Reported job grant) m = with_grant grant (with_change (job_of job) m)
 effected (Closed job grant) m = with_closed grant (with_change (job_of job) m)
 
--- a changed job keeps its order, and a grant that was reported on what it was given
+-- a new job knows the clock and the next numbers, a changed one keeps its order, and a grant that was reported on what it was given
 abbrev pub Suits : Effect → Queue → Type 0
 Suits Nothing m = ⊤
-Suits (NewJob job) m = ⊤
+Suits (NewJob job meta) m = meta ≡ meta_of m
 Suits (ChangedJob job) m = IsChange (job_of job) m
 Suits (Marked modem down) m = ⊤
 Suits (NewGrant job grant) m = IsChange (job_of job) m
@@ -35,7 +36,7 @@ Suits (Closed job grant) m = IsChange (job_of job) m
 -- A new job or grant has a number that none has. Neither the modem nor the job of a new grant holds one, and its job is there.
 abbrev pub IsFree : Effect → Queue → Type 0
 IsFree Nothing m = ⊤
-IsFree (NewJob job) m = IsNewJob (job_of job) m
+IsFree (NewJob job meta) m = IsNewJob (job_of job) m
 IsFree (ChangedJob job) m = ⊤
 IsFree (Marked modem down) m = ⊤
 IsFree (NewGrant job grant) m = IsNewGrant grant (with_change (job_of job) m) × HasJob (with_change (job_of job) m) grant
@@ -45,7 +46,7 @@ IsFree (Closed job grant) m = ⊤
 -- a new grant is open, a next number is left, and what is written is within its limits
 abbrev pub IsWithin : Effect → Queue → Type 0
 IsWithin Nothing m = ⊤
-IsWithin (NewJob job) m = m.next_job < 1000000
+IsWithin (NewJob job meta) m = m.next_job < 1000000
 IsWithin (ChangedJob job) m = ⊤
 IsWithin (Marked modem down) m = ⊤
 IsWithin (NewGrant job grant) m = IsOpenGrant grant × m.next_grant < 1000000000

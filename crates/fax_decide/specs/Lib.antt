@@ -5,4 +5,5 @@ pub mod Effect
 pub mod Decision
 pub mod JobAsk
 pub mod View
+pub mod Records
 pub mod Report

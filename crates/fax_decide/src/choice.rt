@@ -90,7 +90,7 @@ fn busy<S: Alter>(store: &mut Store<S>, alloc: Global, hold: Hold) -> Result<Rep
     let Some(grant) = store.grant(hold.grant)? else {
         return Err(Unavailable);
     };
-    let Some(job) = store.job(hold.job)? else {
+    let Some(job) = store.brief(hold.job)? else {
         return Err(Unavailable);
     };
     held(alloc, &grant, &job)

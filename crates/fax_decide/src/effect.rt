@@ -3,20 +3,23 @@
 ghost use Rattle.std.specs.Prelude.{◌≡◌, true, OnErr};
 ghost use Rattle.sqlite.specs.Held.{state};
 ghost use Rattle.sqlite.specs.State.{HasCleanDisk};
+ghost use Rattle.fax_store.specs.Meta.{with_clock};
 ghost use Rattle.fax_store.specs.Store.{Serves};
 ghost use Rattle.fax_store.specs.Work.{ChangesWhere, Holds, IsOnlyUnavailable, Withholds};
 ghost use Rattle.fax_decide.specs.Effect.{IsWritable, Suits, effected};
 
 use fax_core::Grant;
-use fax_job::{Job, Name};
-use fax_store::{StoreFault, Work};
+use fax_job::{Job, Moment, Name};
+use fax_store::{Meta, StoreFault, Work};
 use sqlite::Alter;
 
-/// What an accepted request changes in the queue, beside ageing it and setting the clock.
+/// What an accepted request changes in the queue, beside ageing it and setting the clock. A job that was there keeps its
+/// extra lines, whatever those of its record are.
 #[derive(Drop)]
 pub enum Effect {
     Nothing,
-    NewJob(Job),
+    /// The job is new. These are the clock and the next numbers before it.
+    NewJob { job: Job, meta: Meta },
     /// The job of that number is now this one.
     ChangedJob(Job),
     /// The modem is marked as down, or as up.
@@ -30,13 +33,37 @@ pub enum Effect {
 }
 
 impl Effect {
-    /// Makes the change, by at most two calls of the work.
+    /// Makes the change and sets the clock. For a new job the two are one statement.
     ///
     /// # Errors
     ///
     /// `Unavailable`, or `Strange` where what is new has a key that is taken, or what is written is
     /// past its limits.
-    pub fn write<S: Alter>(&self, work: &mut Work<'_, S>) -> Result<(), StoreFault>
+    pub fn write<S: Alter>(&self, work: &mut Work<'_, S>, clock: Moment) -> Result<(), StoreFault>
+        ensures same_reference { work.new.store.ghost_name ≡ work.old.store.ghost_name }
+        ensures served { Serves (state S.Store work.new.store.now.conn)
+            → Serves (state S.Store work.old.store.now.conn) }
+        ensures clean { HasCleanDisk (state S.Store work.new.store.now.conn)
+            → HasCleanDisk (state S.Store work.old.store.now.conn) }
+        ensures holds { Holds (state S.Store work.old.store.now.conn) work.old.failed
+            (state S.Store work.new.store.now.conn) work.new.failed }
+        ensures crash { Withholds (state S.Store work.old.store.now.conn) work.old.failed
+            (state S.Store work.new.store.now.conn) work.new.failed }
+        ensures fails { OnErr result (work.new.failed ≡ true) }
+        ensures changes { ChangesWhere (Suits self.now) (state S.Store work.old.store.now.conn) work.old.failed
+            (state S.Store work.new.store.now.conn) work.new.failed (λ m. with_clock clock (effected self.now m)) (λ k. k) }
+        ensures cause { IsOnlyUnavailable (state S.Store work.old.store.now.conn) work.old.failed
+            (state S.Store work.new.store.now.conn) result (λ m k. IsWritable self.now m) }
+    {
+        if let Effect::NewJob { job, meta } = self {
+            return work.put_next_job(job, *meta, clock);
+        }
+        self.change(work)?;
+        work.set_clock(clock)
+    }
+
+    /// Makes the change, by at most two calls of the work.
+    fn change<S: Alter>(&self, work: &mut Work<'_, S>) -> Result<(), StoreFault>
         ensures same_reference { work.new.store.ghost_name ≡ work.old.store.ghost_name }
         ensures served { Serves (state S.Store work.new.store.now.conn)
             → Serves (state S.Store work.old.store.now.conn) }
@@ -54,7 +81,7 @@ impl Effect {
     {
         match self {
             Effect::Nothing => Ok(()),
-            Effect::NewJob(job) => work.put_job(job),
+            Effect::NewJob { job, meta: _ } => work.put_job(job),
             Effect::ChangedJob(job) => work.put_change(job),
             Effect::Marked { modem, down } => work.set_down(modem.as_str(), *down),
             Effect::NewGrant { job, grant } => {

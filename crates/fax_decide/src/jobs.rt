@@ -15,13 +15,14 @@ ghost use Rattle.fax_core.specs.State.{state as job_state};
 ghost use Rattle.fax_store.specs.Store.{CommitsNothing, Means, Serves, Stays, StaysOpen};
 ghost use Rattle.fax_decide.specs.Decision.{Decides};
 ghost use Rattle.fax_decide.specs.JobAsk.{decision_on};
+ghost use Rattle.fax_decide.specs.Records.{job_in};
 ghost use Rattle.fax_decide.specs.Settings.{settings_of};
 
 use crate::decision::{Decision, answered, refuse, take};
 use crate::effect::Effect;
 use crate::fault::Unavailable;
 use crate::office::Office;
-use crate::records::job_at;
+use crate::records::brief_at;
 use crate::state::state_of;
 use fax_ask::{Answer, Reply};
 use fax_core::{Change, alter, kill, resume, suspend};
@@ -72,7 +73,7 @@ pub(crate) fn decide_on_job<S: Alter>(
         → IfOk result (Decides (on_job (settings_of office.now.setup office.now.controls) (aged t m) t
         (decision_on ask t) (job_numbered number (aged t m))) m t) }
 {
-    let Some(job) = job_at(store, number, t)? else {
+    let Some(job) = brief_at(store, number, t)? else {
         return Ok(Decision::Refused(Reply::refused(Refusal::NoJob)));
     };
     match ask.decide(&job, t) {
@@ -96,9 +97,9 @@ fn changed<S: Alter>(
     ensures stays { Stays (state S.Store store.old.conn) (state S.Store store.new.conn) }
     ensures crash { CommitsNothing (state S.Store store.old.conn) (state S.Store store.new.conn) }
     ensures decided { (m : Queue) (k : List Entry) → Means (state S.Store store.old.conn) m k
-        → Serves (state S.Store store.new.conn) → job_numbered job.job (aged t m) ≡ Some (job_of job)
+        → Serves (state S.Store store.new.conn) → job_numbered job.job (aged t m) ≡ Some (job_in (aged t m) job)
         → IfOk result (Decides (change_step (settings_of office.now.setup office.now.controls) (aged t m) t
-        (Ok (changed_by change (job_of job)))) m t) }
+        (Ok (changed_by change (job_in (aged t m) job)))) m t) }
 {
     let Ok(job) = change.applied_to(job) else {
         return Err(Unavailable);

@@ -1,6 +1,6 @@
 //! Jobs and grants by the numbers that requests name.
 
-ghost use Rattle.std.specs.Prelude.{◌≡◌, ◌<◌, List, IfOk, OnOk};
+ghost use Rattle.std.specs.Prelude.{◌≡◌, ◌<◌, ◌≤◌, List, MatchOption, IfOk, OnOk};
 ghost use Rattle.std.specs.Option.{option_map};
 ghost use Rattle.sqlite.specs.Held.{state};
 ghost use Rattle.sqlite.specs.State.{HasCleanDisk};
@@ -9,12 +9,23 @@ ghost use Rattle.fax_core.specs.Job.{job_of};
 ghost use Rattle.fax_core.specs.Queue.{Queue, Entry, job_numbered, grant_numbered};
 ghost use Rattle.fax_job.specs.Limits.{last_grant, last_job};
 ghost use Rattle.fax_store.specs.Store.{CommitsNothing, Means, Serves, Stays, StaysOpen};
+ghost use Rattle.fax_decide.specs.Records.{job_in};
 
 use fax_core::{Grant, aged_job};
 use fax_job::limits::{LAST_GRANT, LAST_JOB};
 use fax_job::{Job, Moment};
 use fax_store::{Store, StoreFault};
 use sqlite::Alter;
+
+/// The number, where a job may have it.
+fn job_number(number: u64) -> Option<u32>
+    ensures { MatchOption result (last_job < number) (λ found. (found ≡ number) × number ≤ last_job) }
+{
+    if number > u64::from(LAST_JOB) {
+        return None;
+    }
+    Some(number as u32)
+}
 
 /// The job of that number, as it is at `t`, if there is one.
 pub(crate) fn job_at<S: Alter>(
@@ -32,11 +43,36 @@ pub(crate) fn job_at<S: Alter>(
         → IfOk result (λ found. option_map (λ f. job_of f) found ≡ job_numbered number (aged t m)) }
     ensures past { last_job < number → result ≡ Ok None }
 {
-    if number > u64::from(LAST_JOB) {
+    let Some(number) = job_number(number) else {
         return Ok(None);
-    }
-    match store.job(number as u32)? {
+    };
+    match store.job(number)? {
         Some(job) => Ok(Some(aged_job(job, t))),
+        None => Ok(None),
+    }
+}
+
+/// The job of that number without its extra lines, as it is at `t`, if there is one.
+pub(crate) fn brief_at<S: Alter>(
+    store: &mut Store<S>,
+    number: u64,
+    t: Moment,
+) -> Result<Option<Job>, StoreFault>
+    ensures served { Serves (state S.Store store.new.conn) → Serves (state S.Store store.old.conn) }
+    ensures clean { HasCleanDisk (state S.Store store.new.conn) → HasCleanDisk (state S.Store store.old.conn) }
+    ensures opens { OnOk result (StaysOpen (state S.Store store.old.conn) (state S.Store store.new.conn)) }
+    ensures stays { Stays (state S.Store store.old.conn) (state S.Store store.new.conn) }
+    ensures crash { CommitsNothing (state S.Store store.old.conn) (state S.Store store.new.conn) }
+    ensures found { (m : Queue) (k : List Entry) → Means (state S.Store store.old.conn) m k
+        → Serves (state S.Store store.new.conn)
+        → IfOk result (λ found. option_map (job_in (aged t m)) found ≡ job_numbered number (aged t m)) }
+    ensures past { last_job < number → result ≡ Ok None }
+{
+    let Some(number) = job_number(number) else {
+        return Ok(None);
+    };
+    match store.brief(number)? {
+        Some(brief) => Ok(Some(aged_job(brief, t))),
         None => Ok(None),
     }
 }

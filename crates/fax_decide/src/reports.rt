@@ -22,6 +22,7 @@ ghost use Rattle.fax_job.specs.Limits.{most_pages};
 ghost use Rattle.fax_store.specs.Grant.{IsSameGrant};
 ghost use Rattle.fax_store.specs.Store.{CommitsNothing, Means, Serves, Stays, StaysOpen};
 ghost use Rattle.fax_decide.specs.Decision.{Decides};
+ghost use Rattle.fax_decide.specs.Records.{job_in};
 ghost use Rattle.fax_decide.specs.Report.{AreThere, report_both, report_step};
 ghost use Rattle.fax_decide.specs.Settings.{settings_of};
 ghost use Rattle.fax_decide.specs.State.{state_with};
@@ -30,7 +31,7 @@ use crate::decision::{Decision, answered, refuse, take};
 use crate::effect::Effect;
 use crate::fault::Unavailable;
 use crate::office::Office;
-use crate::records::{grant_at, job_at};
+use crate::records::{brief_at, grant_at};
 use fax_ask::{Answer, Detail, Reply};
 use fax_core::{Change, Grant, Outcome, call, fits, outcome, page, stops};
 use fax_job::{Call, Job, Moment, Refusal};
@@ -68,7 +69,7 @@ pub(crate) fn decide_report<S: Alter>(
     let Some(grant) = grant_at(store, number)? else {
         return Ok(Decision::Refused(Reply::refused(Refusal::NoGrant)));
     };
-    match job_at(store, u64::from(grant.job), t)? {
+    match brief_at(store, u64::from(grant.job), t)? {
         Some(job) => report_on(store, office, alloc, job, grant, report, t),
         None => without_job(&grant),
     }
@@ -93,7 +94,7 @@ fn report_on<S: Alter>(
     ensures decided { (m : Queue) (k : List Entry) → Sound m → Means (state S.Store store.old.conn) m k
         → Serves (state S.Store store.new.conn) → AreThere m t job grant → grant.confirmed ≤ most_pages
         → IfOk result (Decides (report_both (settings_of office.now.setup office.now.controls) (aged t m) t
-        report (job_of job) grant) m t) }
+        report (job_in (aged t m) job) grant) m t) }
     ensures closed { grant.is_open ≡ false → IsOk result }
     ensures misfit { grant.is_open ≡ true → fits job (Some grant) ≡ false → IsErr result }
 {
@@ -127,8 +128,8 @@ fn decide_call(
     t: Moment,
 ) -> Result<Decision, Unavailable>
     ensures decided { (m : Queue) → AreThere m t job grant
-        → IfOk result (Decides (reported (aged t m) (call_reply t) (job_of job)
-        (call_of said (job_of job) grant)) m t) }
+        → IfOk result (Decides (reported (aged t m) (call_reply t) (job_in (aged t m) job)
+        (call_of said (job_in (aged t m) job) grant)) m t) }
     ensures closed { grant.is_open ≡ false → IsOk result }
 {
     match call(&job, &grant, said) {
@@ -146,8 +147,8 @@ fn called(
 ) -> Result<Decision, Unavailable>
     ensures { (m : Queue) (before : GrantOf) → AreThere m t job before → IsSameGrant before grant
         → grant.number ≡ before.number
-        → IfOk result (Decides (reported (aged t m) (call_reply t) (job_of job)
-        (Ok (record { job = changed change (job_of job); grant = grant }))) m t) }
+        → IfOk result (Decides (reported (aged t m) (call_reply t) (job_in (aged t m) job)
+        (Ok (record { job = changed change (job_in (aged t m) job); grant = grant }))) m t) }
 {
     let Ok(job) = change.applied_to(job) else {
         return Err(Unavailable);
@@ -166,8 +167,8 @@ fn decide_page(
     t: Moment,
 ) -> Result<Decision, Unavailable>
     ensures decided { (m : Queue) → AreThere m t job grant → grant.confirmed ≤ most_pages
-        → IfOk result (Decides (reported (aged t m) (page_reply t) (job_of job)
-        (page_of said (job_of job) grant)) m t) }
+        → IfOk result (Decides (reported (aged t m) (page_reply t) (job_in (aged t m) job)
+        (page_of said (job_in (aged t m) job) grant)) m t) }
     ensures closed { grant.is_open ≡ false → IsOk result }
 {
     match page(&job, &grant, said) {
@@ -208,8 +209,8 @@ fn confirmed(
 ) -> Result<Decision, Unavailable>
     ensures { (m : Queue) (before : GrantOf) → AreThere m t job before → IsSameGrant before grant
         → grant.number ≡ before.number
-        → IfOk result (Decides (reported (aged t m) (page_reply t) (job_of job)
-        (Ok (record { job = changed change (job_of job); grant = grant }))) m t) }
+        → IfOk result (Decides (reported (aged t m) (page_reply t) (job_in (aged t m) job)
+        (Ok (record { job = changed change (job_in (aged t m) job); grant = grant }))) m t) }
 {
     let Ok(job) = change.applied_to(job) else {
         return Err(Unavailable);
@@ -238,8 +239,8 @@ fn decide_outcome<S: Alter>(
     ensures decided { (m : Queue) (k : List Entry) → Sound m → Means (state S.Store store.old.conn) m k
         → Serves (state S.Store store.new.conn) → AreThere m t job grant
         → IfOk result (Decides (reported (aged t m)
-        (outcome_reply (settings_of office.now.setup office.now.controls) t) (job_of job)
-        (outcome_of said (job_of job) grant (delay_of office.now.setup grant.call) t)) m t) }
+        (outcome_reply (settings_of office.now.setup office.now.controls) t) (job_in (aged t m) job)
+        (outcome_of said (job_in (aged t m) job) grant (delay_of office.now.setup grant.call) t)) m t) }
     ensures closed { grant.is_open ≡ false → IsOk result }
 {
     let delay = office.setup.delay(grant.call);
@@ -267,8 +268,8 @@ fn ended<S: Alter>(
     ensures decided { (m : Queue) (k : List Entry) → Sound m → Means (state S.Store store.old.conn) m k
         → Serves (state S.Store store.new.conn) → AreThere m t job grant.now → grant.now.is_open ≡ true
         → IfOk result (Decides (reported (aged t m)
-        (outcome_reply (settings_of office.now.setup office.now.controls) t) (job_of job)
-        (Ok (record { job = changed change (job_of job); grant = record grant.now { is_open = false } }))) m t) }
+        (outcome_reply (settings_of office.now.setup office.now.controls) t) (job_in (aged t m) job)
+        (Ok (record { job = changed change (job_in (aged t m) job); grant = record grant.now { is_open = false } }))) m t) }
 {
     let Ok(job) = change.applied_to(job) else {
         return Err(Unavailable);

@@ -45,7 +45,7 @@ pub fn decide<S: Alter>(
         → IfOk result (Decides (step_of (settings_of office.now.setup office.now.controls) m t ask) m t) }
 {
     match ask {
-        Ask::Submission(order) => decide_submission(office, alloc, order, meta.next_job, t),
+        Ask::Submission(order) => decide_submission(office, alloc, order, meta, t),
         Ask::Suspend { job } => decide_on_job(store, office, alloc, job, JobAsk::Suspend, t),
         Ask::Resume { job } => decide_on_job(store, office, alloc, job, JobAsk::Resume, t),
         Ask::Kill { job } => decide_on_job(store, office, alloc, job, JobAsk::Kill, t),

@@ -11,6 +11,7 @@ ghost use Rattle.fax_core.specs.Settings.{Rule as MachineRule};
 ghost use Rattle.fax_core.specs.Job.{job_of};
 ghost use Rattle.fax_core.specs.Sound.{Sound};
 ghost use Rattle.fax_core.specs.Submission.{rule_of};
+ghost use Rattle.fax_tables.specs.Meta.{meta_of};
 ghost use Rattle.fax_decide.specs.Decision.{Decides};
 ghost use Rattle.fax_decide.specs.Settings.{machine_rule, rule_for};
 
@@ -22,37 +23,38 @@ use fax_ask::{Answer, Detail, Reply};
 use fax_core::submit;
 use fax_dest::Rule;
 use fax_job::{Job, Moment, Order, Refusal};
+use fax_store::Meta;
 use std::alloc::Global;
 
-/// Decides a submission at `t`, by the rule of its number. `next_job` is the number of its job.
+/// Decides a submission at `t`, by the rule of its number. `meta` has the number of its job.
 pub(crate) fn decide_submission(
     office: &Office,
     alloc: Global,
     order: Order,
-    next_job: u32,
+    meta: &Meta,
     t: Moment,
 ) -> Result<Decision, Unavailable>
-    ensures { (m : Queue) → Sound m → next_job ≡ m.next_job → IfOk result (Decides
+    ensures { (m : Queue) → Sound m → meta.now ≡ meta_of m → IfOk result (Decides
         (submitted (aged t m) (machine_rule office.now.setup (rule_for office.now.controls order.dial))
         (submit order (machine_rule office.now.setup (rule_for office.now.controls order.dial))
         m.next_job office.now.setup.max_jobs t)) m t) }
 {
     let rule = office.rule_of(alloc, &order.dial)?;
-    match submit(order, rule, next_job, office.setup.max_jobs(), t) {
-        Ok(job) => taken(alloc, job),
+    match submit(order, rule, meta.next_job, office.setup.max_jobs(), t) {
+        Ok(job) => taken(alloc, job, *meta),
         Err(refusal) => refuse(refused(alloc, refusal, rule)),
     }
 }
 
 /// The job is new, and its number is told.
-fn taken(alloc: Global, job: Job) -> Result<Decision, Unavailable>
-    ensures { (m : Queue) (t : ℕ) (rule : MachineRule) → Sound m → job.job ≡ m.next_job
+fn taken(alloc: Global, job: Job, meta: Meta) -> Result<Decision, Unavailable>
+    ensures { (m : Queue) (t : ℕ) (rule : MachineRule) → Sound m → meta ≡ meta_of m → job.job ≡ m.next_job
         → IfOk result (Decides (submitted (aged t m) rule (Ok (job_of job))) m t) }
 {
     let answer = Answer::Submitted {
         job: job.fields().job,
     };
-    take(Effect::NewJob(job), answered(alloc, &answer))
+    take(Effect::NewJob { job, meta }, answered(alloc, &answer))
 }
 
 /// The reply to a refused submission: a rejected one is told the notice of its rule. Where the job would be no

@@ -95,8 +95,7 @@ fn write<S: Alter>(
         × IsUnkept sender.now.client.now sender.now.number k) }
 {
     work.expire_all(decided_at)?;
-    effect.write(work)?;
-    work.set_clock(decided_at)?;
+    effect.write(work, decided_at)?;
     work.keep(
         sender.client,
         sender.number,

@@ -23,7 +23,7 @@ ghost use Rattle.fax_store.specs.Job.{with_expired};
 ghost use Rattle.fax_store.specs.Kept.{HasReply, kept_for};
 ghost use Rattle.fax_tables.specs.Kept.{entry};
 ghost use Rattle.fax_store.specs.Store.{CommitsNothing, LeavesAlone, Means, Rests, Serves, Stays};
-ghost use Rattle.fax_tables.specs.Schema.{seven_tables};
+ghost use Rattle.fax_tables.specs.Schema.{our_tables};
 ghost use Rattle.fax_tables.specs.Tables.{IsKeptStatus};
 ghost use Rattle.fax_once.specs.Laws.{IsSoundWith, RunsWell};
 ghost use Rattle.fax_decide.specs.Effect.{Suits, accepted};
@@ -119,7 +119,7 @@ impl<S: Alter> Queue<S> {
             → Stays (state S.Store self.old.store.conn) (state S.Store self.new.store.conn) }
         ensures seen { arrival.now.method ≡ Get
             → Stays (state S.Store self.old.store.conn) (state S.Store self.new.store.conn) }
-        ensures repeated { (db : Database) → db.schema ≡ seven_tables → Rests (state S.Store self.old.store.conn) db
+        ensures repeated { (db : Database) → db.schema ≡ our_tables → Rests (state S.Store self.old.store.conn) db
             → IsUsed arrival.now db → Rests (state S.Store self.new.store.conn) db }
         // So what `close` gives back is what `Store::adopt` takes.
         ensures idle { (m : QueueOf) (k : List Entry) → Sound m
@@ -211,7 +211,7 @@ impl<S: Alter> Queue<S> {
             → Stays (state S.Store self.old.store.conn) (state S.Store self.new.store.conn) }
         ensures seen { arrival.now.method ≡ Get
             → Stays (state S.Store self.old.store.conn) (state S.Store self.new.store.conn) }
-        ensures repeated { (db : Database) → db.schema ≡ seven_tables → Rests (state S.Store self.old.store.conn) db
+        ensures repeated { (db : Database) → db.schema ≡ our_tables → Rests (state S.Store self.old.store.conn) db
             → IsUsed arrival.now db → Rests (state S.Store self.new.store.conn) db }
         ensures crash { (m : QueueOf) (k : List Entry) → Sound m
             → Means (state S.Store self.old.store.conn) m k
@@ -246,7 +246,7 @@ impl<S: Alter> Queue<S> {
         ensures seen { arrival.now.method ≡ Get
             → IsAsk arrival.now.method arrival.now.path.now arrival.now.body.now ask
             → Stays (state S.Store self.old.store.conn) (state S.Store self.new.store.conn) }
-        ensures repeated { (db : Database) → db.schema ≡ seven_tables → Rests (state S.Store self.old.store.conn) db
+        ensures repeated { (db : Database) → db.schema ≡ our_tables → Rests (state S.Store self.old.store.conn) db
             → IsUsed arrival.now db → Rests (state S.Store self.new.store.conn) db }
         ensures crash { (m : QueueOf) (k : List Entry) → Sound m
             → Means (state S.Store self.old.store.conn) m k
@@ -304,7 +304,7 @@ impl<S: Alter> Queue<S> {
             → HasCleanDisk (state S.Store self.old.store.conn) }
         ensures unchanged { IsNotAccepted result
             → Stays (state S.Store self.old.store.conn) (state S.Store self.new.store.conn) }
-        ensures repeated { (db : Database) → db.schema ≡ seven_tables → Rests (state S.Store self.old.store.conn) db
+        ensures repeated { (db : Database) → db.schema ≡ our_tables → Rests (state S.Store self.old.store.conn) db
             → HasReply db sender.now.client.now sender.now.number → Rests (state S.Store self.new.store.conn) db }
         ensures crash { (m : QueueOf) (k : List Entry) → Sound m
             → Means (state S.Store self.old.store.conn) m k → IsSender arrival.now sender.now

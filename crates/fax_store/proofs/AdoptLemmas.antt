@@ -17,7 +17,7 @@ use Rattle.fax_store.specs.declared.store.TheConstants.{BEGIN, COMMIT}
 use Rattle.fax_tables.specs.declared.fault.StoreFault.{StoreFault}
 use Rattle.fax_tables.specs.declared.fault.StoreFault.TheVariants.{Strange}
 use Rattle.fax_tables.specs.Row.{number}
-use Rattle.fax_tables.specs.Schema.{AreOurs, no_tables, seven_tables, six_tables, calls_tree, meta_tree}
+use Rattle.fax_tables.specs.Schema.{AreOurs, no_tables, our_tables, core_tables, calls_tree, meta_tree}
 use Rattle.fax_tables.specs.Tables.{GoesOn, HasEmptyTables, HasNewCalls, IsAtRest, RowsMean, TablesMean}
 use Rattle.fax_tables.proofs.CreateLemmas.{commit_kept, goes_on, kept_rows, none_at_first, refused_keeps}
 use Rattle.fax_tables.proofs.StopLemmas.{nothing_then}
@@ -76,7 +76,7 @@ pub goes_then : (a b c : State) (Before Between After : Schema → Type 0) → (
 goes_then a b c Before Between After first cleaner (Ok x) next clean was =
     let one = first (cleaner clean) was in
     let two = next clean (record { is_open = one.0.is_open; inside = one.0.mode; schema_is = one.1.0 }) in
-    (goes_on a b c one.0 two.0, (two.1.0, kept_rows six_tables.tables a.now.trees b.now.trees c.now.trees one.1.1 two.1.1))
+    (goes_on a b c one.0 two.0, (two.1.0, kept_rows core_tables.tables a.now.trees b.now.trees c.now.trees one.1.1 two.1.1))
 goes_then a b c Before Between After first cleaner (Err e) next clean was =
     let one = first (cleaner clean) was in
     commit_kept a b c one.0 (next clean (record { is_open = one.0.is_open; inside = one.0.mode; schema_is = one.1.0 }))
@@ -99,8 +99,8 @@ none_still a b has same = record {
 }
 
 -- rows that are kept in six tables mean what they meant
-pub kept_means : (a b : Database) (m : Queue) (k : List Entry) → KeepsRows six_tables.tables a.trees b.trees → RowsMean a m k → RowsMean b m k
-kept_means a b m k kept mean = (mean.0, mean.1, kept_rows six_tables.tables (mean.0).trees a.trees b.trees mean.2 kept)
+pub kept_means : (a b : Database) (m : Queue) (k : List Entry) → KeepsRows core_tables.tables a.trees b.trees → RowsMean a m k → RowsMean b m k
+kept_means a b m k kept mean = (mean.0, mean.1, kept_rows core_tables.tables (mean.0).trees a.trees b.trees mean.2 kept)
 
 module _ (s0 s1 : State) (ours : AreOurs s0.now.schema) (n : ℕ) (began : Executes BEGIN.now [] s0 s1 (Ok n)) where
   pub starts_ours : IsIn AreOurs s1
@@ -146,7 +146,7 @@ module _ (s0 s1 : State) (ours : AreOurs s0.now.schema) (n : ℕ) (began : Execu
         }
 
         pub is_whole : IsWhole s0.now s3.now
-        is_whole = let whole = filled.1.whole in record { schema_is = whole.schema_is; sound = whole.sound; rows = kept_rows six_tables.tables s0.now.trees s2.now.trees s3.now.trees renewed.rows whole.rows }
+        is_whole = let whole = filled.1.whole in record { schema_is = whole.schema_is; sound = whole.sound; rows = kept_rows core_tables.tables s0.now.trees s2.now.trees s3.now.trees renewed.rows whole.rows }
 
         pub not_taken : (s4 : State) (e : Error) → Executes COMMIT.now [] s3 s4 (Err e) → KeepsCommit s0 s4
         not_taken s4 e failed = commit_kept s0 s3 s4 (goes_on s0 s2 s3 goes_on_renewed filled.0) (refused_keeps s3 s4 COMMIT.now e failed)
@@ -184,10 +184,10 @@ in_one_row [] e = absurd cc
 in_one_row (r ∷ []) e = let head : column r 5 ≡ number 1 = cc in ap (λ v. (v ∷ []) ∷ []) head
 in_one_row (r ∷ s ∷ rows) e = absurd cc
 
-module _ (old new : State) (six : old.now.schema ≡ seven_tables) (rows : List Row) (shown : Shown SELECT_VERSION.now [] old new rows) where
+module _ (old new : State) (ours : old.now.schema ≡ our_tables) (rows : List Row) (shown : Shown SELECT_VERSION.now [] old new rows) where
   shown_versions : IsPermutation (map (λ r. column r 5 ∷ []) (old.now.trees meta_tree)) rows
   shown_versions =
-      let read = reads_as SELECT_VERSION.now [] old new seven_tables six _ select_version.command select_version.plain select_version.unlisted rows shown in
+      let read = reads_as SELECT_VERSION.now [] old new our_tables ours _ select_version.command select_version.plain select_version.unlisted rows shown in
       subst (λ t. IsPermutation (map (λ r. column r 5 ∷ []) t) rows) (every (old.now.trees meta_tree))
       (answers meta_tree [] version_project [] old.now (old.now.trees meta_tree) refl (codes "version" ∷ []) rows read)
 

@@ -23,7 +23,7 @@ use Rattle.fax_store.specs.Grant.{HasCalls, SetsCalls, with_count}
 use Rattle.fax_store.specs.Store.{FindsRow, HasRun}
 use Rattle.fax_tables.specs.Row.{number, call_columns}
 use Rattle.fax_tables.specs.Schema as schema
-use Rattle.fax_tables.specs.Schema.{six_tables, seven_tables, calls_tree}
+use Rattle.fax_tables.specs.Schema.{core_tables, our_tables, calls_tree}
 use Rattle.fax_tables.specs.Tables.{AreCalls, AreCounted, IsByRowid}
 use Rattle.fax_tables.proofs.AppendLemmas.{appended}
 use Rattle.fax_tables.proofs.CompareLemmas.{are_equal, cast_int, cast_null, equal_texts, same_row}
@@ -123,12 +123,12 @@ module _ (dial : List ℕ) where
   shows = show calls_tree call_tests call_project params
 
   -- what is found is the count, or nothing where that is 0
-  pub calls_found : (old new : State) (count : List ℕ → ℕ) → old.now.schema ≡ seven_tables → AreCounted count (map (drop 1) (old.now.trees calls_tree)) → (found : Option Row) → FindsRow SELECT_OPEN.now params old new found
+  pub calls_found : (old new : State) (count : List ℕ → ℕ) → old.now.schema ≡ our_tables → AreCounted count (map (drop 1) (old.now.trees calls_tree)) → (found : Option Row) → FindsRow SELECT_OPEN.now params old new found
       → MatchOption found (count dial ≡ 0) (λ row. row ≡ number (count dial) ∷ [])
   calls_found old new count has counted found h = tells found h.2
     where
       shown : IsPermutation (map shows (filter pass (old.now.trees calls_tree))) h.0
-      shown = answers calls_tree call_tests call_project params old.now (old.now.trees calls_tree) refl [] h.0 (reads_as SELECT_OPEN.now params old new seven_tables has _ select_open.command select_open.plain select_open.unlisted h.0 h.1)
+      shown = answers calls_tree call_tests call_project params old.now (old.now.trees calls_tree) refl [] h.0 (reads_as SELECT_OPEN.now params old new our_tables has _ select_open.command select_open.plain select_open.unlisted h.0 h.1)
 
       tells : (found : Option Row) → MatchOption found (h.0 ≡ []) (Has h.0) → MatchOption found (count dial ≡ 0) (λ row. row ≡ number (count dial) ∷ [])
       tells None empty = none (count dial) refl
@@ -148,11 +148,11 @@ module _ (dial : List ℕ) where
 -- ---- writing
 
 -- the six tables beside it keep their rows
-kept_six : (old new : State) → KeepsOthers seven_tables calls_tree old new → KeepsRows six_tables.tables old.now.trees new.now.trees
+kept_six : (old new : State) → KeepsOthers our_tables calls_tree old new → KeepsRows core_tables.tables old.now.trees new.now.trees
 kept_six old new keeps = let o = keeps.others in
     (o.0 (λ e. absurd (omega arith)), (o.1.0 (λ e. absurd (omega arith)), (o.1.1.0 (λ e. absurd (omega arith)), (o.1.1.1.0 (λ e. absurd (omega arith)), (o.1.1.1.1.0 (λ e. absurd (omega arith)), (o.1.1.1.1.1.0 (λ e. absurd (omega arith)), tt))))))
 
-as_set : (old new : State) (count : List ℕ → ℕ) → IsTrue old.in_transaction → KeepsOthers seven_tables calls_tree old new → AreCalls count (new.now.trees calls_tree) → SetsCalls old new count
+as_set : (old new : State) (count : List ℕ → ℕ) → IsTrue old.in_transaction → KeepsOthers our_tables calls_tree old new → AreCalls count (new.now.trees calls_tree) → SetsCalls old new count
 as_set old new count inside keeps now = record { goes_on = inside_shown old new _ inside keeps.shown; schema_is = keeps.schema_is; sound = keeps.sound; rows = kept_six old new keeps; calls = now }
 
 -- no call is counted yet
@@ -187,7 +187,7 @@ set_still a b count has same = record {
   goes_on = record { was_open = has.is_open; is_open = same.0.is_open; now_is = refl; committed_is = same.0.committed_is; mode = same.0.mode ∙ has.inside };
   schema_is = ap (λ (d : Database). d.schema) same.0.now_is ∙ has.tables;
   sound = subst IsDatabase (sym same.0.now_is) has.sound;
-  rows = subst (λ (d : Database). KeepsRows six_tables.tables a.now.trees d.trees) (sym same.0.now_is) (refl, (refl, (refl, (refl, (refl, (refl, tt))))));
+  rows = subst (λ (d : Database). KeepsRows core_tables.tables a.now.trees d.trees) (sym same.0.now_is) (refl, (refl, (refl, (refl, (refl, (refl, tt))))));
   calls = subst (λ (d : Database). AreCalls count (d.trees calls_tree)) (sym same.0.now_is) has.calls;
 }
 
@@ -197,7 +197,7 @@ set_then a b c count other first next = record {
   goes_on = goes_on a b c first.goes_on next.goes_on;
   schema_is = next.schema_is;
   sound = next.sound;
-  rows = kept_rows six_tables.tables a.now.trees b.now.trees c.now.trees first.rows next.rows;
+  rows = kept_rows core_tables.tables a.now.trees b.now.trees c.now.trees first.rows next.rows;
   calls = next.calls;
 }
 
@@ -219,7 +219,7 @@ module _ (dial : List ℕ) (count : List ℕ → ℕ) where
   calls_gone old new was h =
       let rows = old.now.trees calls_tree in
       let pass = passes calls_tree call_tests gone_project (params dial) in
-      let ran = runs_as DELETE_CALLS.now (params dial) old new seven_tables was.tables _ delete_calls.is delete_calls.plain h.0 h.1 in
+      let ran = runs_as DELETE_CALLS.now (params dial) old new our_tables was.tables _ delete_calls.is delete_calls.plain h.0 h.1 in
       let done = deleted schema.calls.name 13 schema.calls.columns schema.calls.key schema.calls.primary schema.calls.uniques schema.calls.orders schema.calls.checks 6 refl old new was.tables refl was.calls.ordered
       call_tests gone_project (params dial) (λ r. refl) _ h.0 ran in
       let left : map (drop 1) (filter (λ r. not (pass r)) rows) ≡ filter (others dial count) (map (drop 1) rows) =
@@ -231,8 +231,8 @@ module _ (dial : List ℕ) (count : List ℕ → ℕ) where
       let rows = old.now.trees calls_tree in
       let row = Int (next_rowid rows) ∷ call_columns dial n in
       let stored : cast_row schema.calls (Null ∷ call_columns dial n) ≡ Null ∷ call_columns dial n = same_row cast_null (same_row refl (same_row (cast_int (pos n)) refl)) in
-      let ran = runs_as INSERT_CALLS.now (Text dial ∷ number n ∷ []) old new seven_tables was.tables _ insert_calls.is insert_calls.plain h.0 h.1 in
-      let done = inserts seven_tables unreferred schema.calls.name 13 schema.calls.columns schema.calls.key schema.calls.primary schema.calls.uniques schema.calls.orders schema.calls.checks 6 refl old new was.tables (Text dial ∷ number n ∷ []) _ h.0
+      let ran = runs_as INSERT_CALLS.now (Text dial ∷ number n ∷ []) old new our_tables was.tables _ insert_calls.is insert_calls.plain h.0 h.1 in
+      let done = inserts our_tables unreferred schema.calls.name 13 schema.calls.columns schema.calls.key schema.calls.primary schema.calls.uniques schema.calls.orders schema.calls.checks 6 refl old new was.tables (Text dial ∷ number n ∷ []) _ h.0
       call_terms 3 (Null ∷ call_columns dial n) row refl (ap (with_rowid Chosen rows) stored) ran in
       let by = was.calls.ordered in
       as_set old new (with_count dial n count) was.inside done.keeps (record {

@@ -47,7 +47,7 @@ use Rattle.fax_store.specs.declared.candidates.TheConstants.{SELECT_FIRST, SELEC
 use Rattle.fax_store.specs.declared.candidates.Front.TheVariants.{First, Number, Time, Priority}
 use Rattle.fax_tables.specs.Job.{IsLawfulJob, prospect, prospect_shown}
 use Rattle.fax_tables.specs.Row.{number}
-use Rattle.fax_tables.specs.Schema.{seven_tables, jobs_tree}
+use Rattle.fax_tables.specs.Schema.{our_tables, jobs_tree}
 use Rattle.fax_tables.specs.Tables.{TablesMean}
 use Rattle.fax_tables.proofs.ColumnLemmas.{all_kept}
 use Rattle.fax_tables.proofs.CompareLemmas.{is_number, more_than}
@@ -222,7 +222,7 @@ module _ (asked : Asked) (most : ℕ) (more : Row) (tests : List Term) where
     -- what it shows is a page behind the front
     page_found : (rows : List Row) → Shown sql params old new rows → IsPage asked m front most rows
     page_found rows h =
-        let read = reads_as sql params old new seven_tables means.schema _ selects.command selects.plain selects.unlisted rows h in
+        let read = reads_as sql params old new our_tables means.schema _ selects.command selects.plain selects.unlisted rows h in
         let shown = in_page old.now rows read in
         let is_wanted = λ (j : Job). is_other asked.but j && is_near front j in
         let it = waiting.are_near asked.t rest tests prospect_project old.now m k means is_wanted near shown.0 shown.1 shown.3 in

@@ -1,8 +1,8 @@
 -- What the texts that change jobs write.
 use Rattle.std.proofs.Common.{◌≡◌, ◌≤◌, ◌<◌, inl, inr, ℕ, suc, List, [], ◌∷◌, map, drop, All, Bool, true, false, ◌&&◌, ◌||◌, Option, Some, None, unwrap_or, if◌then◌else◌, refl, sym, ap, ap₂, subst, ◌∙◌, arith}
-use Rattle.std.specs.Prelude.{find, ◌==◌, nat_le}
+use Rattle.std.specs.Prelude.{IsTrue, find, ◌==◌, nat_le}
 use Rattle.std.specs.Str.{IsUtf8}
-use Rattle.std.proofs.lemmas.Bool.{cases_Bool, eqb-true, eq-eqb}
+use Rattle.std.proofs.lemmas.Bool.{and_parts, cases_Bool, eqb-true, eq-eqb}
 use Rattle.std.proofs.lemmas.List.Elements.{All-cons}
 use Rattle.sqlite.specs.Cast.{cast_row}
 use Rattle.sqlite.specs.Order.{Row}
@@ -12,8 +12,7 @@ use Rattle.sqlite.proofs.Callers.{runs_as}
 use Rattle.sqlite_rules.specs.Lists.{Has}
 use Rattle.fax_core.specs.Ageing.{aged_job, expires, is_past}
 use Rattle.fax_core.specs.Job.{Job, job_of, fields_of}
-use Rattle.fax_core.specs.Machine.{with_job as with_change}
-use Rattle.fax_core.specs.Queue.{Queue, Entry, open_grants}
+use Rattle.fax_core.specs.Queue.{Queue, Entry, job_numbered, open_grants}
 use Rattle.fax_job.specs.Status.{kill_time_expired}
 use Rattle.fax_job.specs.declared.job.JobFields.{JobFields}
 use Rattle.fax_job.specs.declared.job.Phase.{Phase}
@@ -23,13 +22,13 @@ use Rattle.fax_job.specs.Dial.{IsCanonical}
 use Rattle.fax_job.specs.Job.{IsLawful}
 use Rattle.fax_job.specs.JobTag.{IsJobTag}
 use Rattle.fax_job.specs.Name.{IsName}
-use Rattle.fax_job.specs.Pair.{ArePairs}
+use Rattle.fax_job.specs.Pair.{Pair, ArePairs, are_unknown}
 use Rattle.fax_job.specs.Value.{IsStatus}
 use Rattle.fax_tables.specs.Job.{IsText, IsLawfulJob}
-use Rattle.fax_store.specs.Job.{IsSameOrder, IsChange, expired_in, with_expired, with_expired_in}
+use Rattle.fax_store.specs.Job.{IsSameOrder, IsChange, expired_in, lines_of, with_change, with_expired, with_expired_in}
 use Rattle.fax_tables.specs.Row.{number, job_row, phase_number}
 use Rattle.fax_tables.specs.Schema as schema
-use Rattle.fax_tables.specs.Schema.{seven_tables, jobs_tree}
+use Rattle.fax_tables.specs.Schema.{our_tables, jobs_tree}
 use Rattle.fax_store.specs.Store.{HasRun}
 use Rattle.fax_tables.specs.Tables.{TablesMean}
 use Rattle.fax_tables.proofs.CompareLemmas.{at_most, at_least, is_number}
@@ -60,43 +59,54 @@ pub record IsFormedChange (f : JobFields) : Type 0 where
   pub priority : f.priority < 256
   pub limits : IsLawful f
 
-module _ (f : JobFields) where
+-- The job of these fields and lines: in the place of the one with its number, which is of the same order.
+module _ (f : JobFields) (lines : List Pair) where
+  abbrev whole : JobFields
+  whole = record f { extra = lines }
+
   abbrev put : Job → Job
-  put x = if x.number == f.job then job_of f else x
+  put x = if x.number == f.job then job_of whole else x
+
+  record KeepsOrder (x : Job) : Type 0 where
+    pub order : IsSameOrder x (job_of f)
+    pub extra : x.extra ≡ lines
 
   -- the row of a job of the same order, as it is written
-  written : (x : Job) → x.number ≡ f.job → IsSameOrder x (job_of f) → cast_row schema.jobs (drop 1 (show jobs_tree job_tests change_project (change_params f) (row_of x))) ≡ job_row f
+  written : (x : Job) → x.number ≡ f.job → KeepsOrder x → cast_row schema.jobs (drop 1 (show jobs_tree job_tests change_project (change_params f) (row_of x))) ≡ job_row whole
   written x is same =
       stored_job (record f { job = x.number; dial = x.dial; totpages = x.totpages; extra = x.extra })
       ∙ ap (λ n. job_row (record f { job = n; dial = x.dial; totpages = x.totpages; extra = x.extra })) is
-      ∙ ap (λ d. job_row (record f { dial = d; totpages = x.totpages; extra = x.extra })) same.dial
-      ∙ ap (λ p. job_row (record f { totpages = p; extra = x.extra })) same.totpages
+      ∙ ap (λ d. job_row (record f { dial = d; totpages = x.totpages; extra = x.extra })) same.order.dial
+      ∙ ap (λ p. job_row (record f { totpages = p; extra = x.extra })) same.order.totpages
       ∙ ap (λ e. job_row (record f { extra = e })) same.extra
 
-  put_there : (x : Job) → x.number ≡ f.job → row_of (put x) ≡ job_row f
-  put_there x is = ap (λ b. row_of (if b then job_of f else x)) (eq-eqb x.number f.job is) ∙ ap job_row (fields_back f)
+  put_there : (x : Job) → x.number ≡ f.job → row_of (put x) ≡ job_row whole
+  put_there x is = ap (λ b. row_of (if b then job_of whole else x)) (eq-eqb x.number f.job is) ∙ ap job_row (fields_back whole)
 
   put_number : (x : Job) → rowid (row_of (put x)) ≡ rowid (row_of x)
   put_number x = elim (cases_Bool (x.number == f.job)) [
-    | inl same ↦ ap (λ b. rowid (row_of (if b then job_of f else x))) same ∙ ap number (sym (eqb-true x.number f.job same))
-    | inr off ↦ ap (λ b. rowid (row_of (if b then job_of f else x))) off
+    | inl same ↦ ap (λ b. rowid (row_of (if b then job_of whole else x))) same ∙ ap number (sym (eqb-true x.number f.job same))
+    | inr off ↦ ap (λ b. rowid (row_of (if b then job_of whole else x))) off
   ]
 
   same_number : (x : Job) → (put x).number ≡ x.number
   same_number x = elim (cases_Bool (x.number == f.job)) [
-    | inl same ↦ ap (λ b. (if b then job_of f else x).number) same ∙ sym (eqb-true x.number f.job same)
-    | inr off ↦ ap (λ b. (if b then job_of f else x).number) off
+    | inl same ↦ ap (λ b. (if b then job_of whole else x).number) same ∙ sym (eqb-true x.number f.job same)
+    | inr off ↦ ap (λ b. (if b then job_of whole else x).number) off
   ]
 
-  same_dial : (x : Job) → (x.number ≡ f.job → IsSameOrder x (job_of f)) → (put x).dial ≡ x.dial
+  same_dial : (x : Job) → (x.number ≡ f.job → KeepsOrder x) → (put x).dial ≡ x.dial
   same_dial x same = elim (cases_Bool (x.number == f.job)) [
-    | inl here ↦ ap (λ b. (if b then job_of f else x).dial) here ∙ sym (same (eqb-true x.number f.job here)).dial
-    | inr off ↦ ap (λ b. (if b then job_of f else x).dial) off
+    | inl here ↦ ap (λ b. (if b then job_of whole else x).dial) here ∙ sym (same (eqb-true x.number f.job here)).order.dial
+    | inr off ↦ ap (λ b. (if b then job_of whole else x).dial) off
   ]
 
-  change_lawful : IsFormedChange f → (x : Job) → IsSameOrder x (job_of f) → IsLawfulJob x → IsLawfulJob (job_of f)
-  change_lawful lawful x same was = lawful_of_fields f lawful.limits (record {
-    dial = subst (IsText IsCanonical) same.dial was.formed.dial;
+  change_limits : IsLawful f → (x : Job) → KeepsOrder x → IsLawful (fields_of x) → IsLawful whole
+  change_limits now x same was = ap₂ ◌&&◌ (and_parts _ _ now).0 (subst (λ e. IsTrue (are_unknown e)) same.extra (and_parts _ _ was).1)
+
+  change_lawful : IsFormedChange f → (x : Job) → KeepsOrder x → IsLawfulJob x → IsLawfulJob (job_of whole)
+  change_lawful lawful x same was = lawful_of_fields whole (change_limits lawful.limits x same was.limits) (record {
+    dial = subst (IsText IsCanonical) same.order.dial was.formed.dial;
     modem = lawful.modem;
     jobtag = lawful.jobtag;
     status = lawful.status;
@@ -106,34 +116,40 @@ module _ (f : JobFields) where
     priority = lawful.priority;
   })
 
-  put_lawful : IsFormedChange f → (x : Job) → (x.number ≡ f.job → IsSameOrder x (job_of f)) → IsLawfulJob x → IsLawfulJob (put x)
+  put_lawful : IsFormedChange f → (x : Job) → (x.number ≡ f.job → KeepsOrder x) → IsLawfulJob x → IsLawfulJob (put x)
   put_lawful lawful x same was = elim (cases_Bool (x.number == f.job)) [
-    | inl here ↦ subst (λ b. IsLawfulJob (if b then job_of f else x)) (sym here) (change_lawful lawful x (same (eqb-true x.number f.job here)) was)
-    | inr off ↦ subst (λ b. IsLawfulJob (if b then job_of f else x)) (sym off) was
+    | inl here ↦ subst (λ b. IsLawfulJob (if b then job_of whole else x)) (sym here) (change_lawful lawful x (same (eqb-true x.number f.job here)) was)
+    | inr off ↦ subst (λ b. IsLawfulJob (if b then job_of whole else x)) (sym off) was
   ]
 
-  module _ (old new : State) (m : Queue) (k : List Entry) (means : TablesMean old.now m k) where
-    same_order : IsChange (job_of f) m → (x : Job) → Has m.jobs x → x.number ≡ f.job → IsSameOrder x (job_of f)
-    same_order change x has is =
-        change x (subst (λ n. find (λ (j : Job). j.number == n) m.jobs ≡ Some x) is (only_numbered row_of (λ (j : Job). j.number) (λ j. refl) m.jobs x (subst IsTable means.jobs means.ordered.jobs.rise) has))
+module _ (f : JobFields) (old new : State) (m : Queue) (k : List Entry) (means : TablesMean old.now m k) where
+  abbrev its_lines : List Pair
+  its_lines = lines_of (job_numbered f.job m)
 
-    pub job_changed : IsChange (job_of f) m → IsFormedChange f → HasRun UPDATE_JOB.now (change_params f) old new → TablesMean new.now (with_change (job_of f) m) k × KeepsOthers seven_tables jobs_tree old new
-    job_changed change lawful h =
-        let is_number = asked_is row_of (λ (j : Job). j.number) (λ j. refl) f.job (passes jobs_tree job_tests change_project (change_params f)) (λ r. refl) in
-        let is_other = not_asked row_of (λ (j : Job). j.number) (λ j. refl) f.job (passes jobs_tree job_tests change_project (change_params f)) (λ r. refl) in
-        let ran = runs_as UPDATE_JOB.now (change_params f) old new seven_tables means.schema _ update_job.is update_job.plain h.0 h.1 in
-        let done = updated schema.jobs.name 0 schema.jobs.columns schema.jobs.key schema.jobs.primary schema.jobs.uniques schema.jobs.orders schema.jobs.checks 0 refl old new means.schema refl means.ordered.jobs
-        job_tests change_project (change_params f) (λ r. refl) _ h.0 row_of put m.jobs means.jobs put_number
-        (λ x has on. let is = is_number x on in written x is (same_order change x has is) ∙ sym (put_there x is))
-        (λ x has off. sym (ap (λ b. row_of (if b then job_of f else x)) (is_other x off)))
-        ran in
-        let now : AreRecords row_of IsLawfulJob (new.now.trees jobs_tree) (map put m.jobs) = record { is = done.1; ordered = done.2; lawful = all_mapped IsLawfulJob put m.jobs (λ x has. put_lawful lawful x (same_order change x has)) means.lawful.jobs } in
-        let after = with_change (job_of f) m in
-        let moved = jobs_changed old new m (open_grants m) (calls_of m) k (parts_of old.now m k means) done.0 (map put m.jobs) now in (
-          means_of new.now after k (jobs_mapped put m same_number means.held)
-              (calls_as new.now after (open_grants after) (calls_of m) (calls_of after) k (λ dial. calls_mapped put m same_number dial (λ x has. same_dial x (same_order change x has))) moved),
-          done.0,
-        )
+  keeps_order : IsChange (job_of f) m → (x : Job) → Has m.jobs x → x.number ≡ f.job → KeepsOrder f its_lines x
+  keeps_order change x has is =
+      let there = subst (λ n. find (λ (j : Job). j.number == n) m.jobs ≡ Some x) is (only_numbered row_of (λ (j : Job). j.number) (λ j. refl) m.jobs x (subst IsTable means.jobs means.ordered.jobs.rise) has) in
+      record { order = change x there; extra = sym (ap lines_of there) }
+
+  pub job_changed : IsChange (job_of f) m → IsFormedChange f → HasRun UPDATE_JOB.now (change_params f) old new → TablesMean new.now (with_change (job_of f) m) k × KeepsOthers our_tables jobs_tree old new
+  job_changed change lawful h =
+      let same = keeps_order change in
+      let placed = put f its_lines in
+      let is_number = asked_is row_of (λ (j : Job). j.number) (λ j. refl) f.job (passes jobs_tree job_tests change_project (change_params f)) (λ r. refl) in
+      let is_other = not_asked row_of (λ (j : Job). j.number) (λ j. refl) f.job (passes jobs_tree job_tests change_project (change_params f)) (λ r. refl) in
+      let ran = runs_as UPDATE_JOB.now (change_params f) old new our_tables means.schema _ update_job.is update_job.plain h.0 h.1 in
+      let done = updated schema.jobs.name 0 schema.jobs.columns schema.jobs.key schema.jobs.primary schema.jobs.uniques schema.jobs.orders schema.jobs.checks 0 refl old new means.schema refl means.ordered.jobs
+      job_tests change_project (change_params f) (λ r. refl) _ h.0 row_of placed m.jobs means.jobs (put_number f its_lines)
+      (λ x has on. let is = is_number x on in written f its_lines x is (same x has is) ∙ sym (put_there f its_lines x is))
+      (λ x has off. sym (ap (λ b. row_of (if b then job_of (whole f its_lines) else x)) (is_other x off)))
+      ran in
+      let now : AreRecords row_of IsLawfulJob (new.now.trees jobs_tree) (map placed m.jobs) = record { is = done.1; ordered = done.2; lawful = all_mapped IsLawfulJob placed m.jobs (λ x has. put_lawful f its_lines lawful x (same x has)) means.lawful.jobs } in
+      let after = with_change (job_of f) m in
+      let moved = jobs_changed old new m (open_grants m) (calls_of m) k (parts_of old.now m k means) done.0 (map placed m.jobs) now in (
+        means_of new.now after k (jobs_mapped placed m (same_number f its_lines) means.held)
+            (calls_as new.now after (open_grants after) (calls_of m) (calls_of after) k (λ dial. calls_mapped placed m (same_number f its_lines) dial (λ x has. same_dial f its_lines x (same x has))) moved),
+        done.0,
+      )
 
 -- ---- all jobs of a phase whose kill time is past
 
@@ -197,9 +213,9 @@ module _ (phase : Phase) (t : ℕ) where
   ]
 
   module _ (old new : State) (m : Queue) (k : List Entry) (means : TablesMean old.now m k) where
-    pub jobs_expired : HasRun EXPIRE_JOBS.now expired_params old new → TablesMean new.now (with_expired_in phase t m) k × KeepsOthers seven_tables jobs_tree old new
+    pub jobs_expired : HasRun EXPIRE_JOBS.now expired_params old new → TablesMean new.now (with_expired_in phase t m) k × KeepsOthers our_tables jobs_tree old new
     jobs_expired h =
-        let ran = runs_as EXPIRE_JOBS.now expired_params old new seven_tables means.schema _ expire_jobs.is expire_jobs.plain h.0 h.1 in
+        let ran = runs_as EXPIRE_JOBS.now expired_params old new our_tables means.schema _ expire_jobs.is expire_jobs.plain h.0 h.1 in
         let done = updated schema.jobs.name 0 schema.jobs.columns schema.jobs.key schema.jobs.primary schema.jobs.uniques schema.jobs.orders schema.jobs.checks 0 refl old new means.schema refl means.ordered.jobs
         expired_tests expired_project expired_params (λ r. refl) _ h.0 row_of (expired_in phase t) m.jobs means.jobs expired_number
         (λ j has on. stored_job (fields_of (expired j)) ∙ sym (ap row_of (expired_by j true (sym (expiring j) ∙ on))))

@@ -9,7 +9,7 @@ use Rattle.fax_core.specs.declared.grants.Grant.{Grant}
 use Rattle.fax_store.specs.declared.grants.TheConstants.{SELECT_GRANT}
 use Rattle.fax_tables.specs.Grant.{grant_shown}
 use Rattle.fax_tables.specs.Row.{number, grant_row}
-use Rattle.fax_tables.specs.Schema.{seven_tables, grants_tree}
+use Rattle.fax_tables.specs.Schema.{our_tables, grants_tree}
 use Rattle.fax_store.specs.Store.{FindsRow}
 use Rattle.fax_tables.specs.Tables.{TablesMean}
 use Rattle.fax_store.proofs.GrantTexts.{grant_tests, grant_project, select_grant}
@@ -24,5 +24,5 @@ module _ (n : ℕ) where
     pub grant_found : (found : Option Row) → FindsRow SELECT_GRANT.now params old new found → found ≡ option_map grant_shown (grant_numbered n m)
     grant_found found h =
         numbered_found grant_row (λ (g : Grant). g.number) (λ g. refl) n (passes grants_tree grant_tests grant_project params) (λ r. refl) m.grants (old.now.trees grants_tree) h.0 means.grants means.ordered.grants.rise (show grants_tree grant_tests grant_project params)
-        (answers grants_tree grant_tests grant_project params old.now (old.now.trees grants_tree) refl [] h.0 (reads_as SELECT_GRANT.now params old new seven_tables means.schema _ select_grant.command select_grant.plain select_grant.unlisted h.0 h.1))
+        (answers grants_tree grant_tests grant_project params old.now (old.now.trees grants_tree) refl [] h.0 (reads_as SELECT_GRANT.now params old new our_tables means.schema _ select_grant.command select_grant.plain select_grant.unlisted h.0 h.1))
         found h.2

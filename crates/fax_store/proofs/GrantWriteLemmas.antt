@@ -26,7 +26,7 @@ use Rattle.fax_store.specs.Grant.{IsNewGrant, IsSameGrant, IsReport, SetsCalls, 
 use Rattle.fax_tables.specs.Place.{placed}
 use Rattle.fax_tables.specs.Row.{number, call_number, grant_row, hold_columns}
 use Rattle.fax_tables.specs.Schema as schema
-use Rattle.fax_tables.specs.Schema.{seven_tables, grants_tree, holds_tree}
+use Rattle.fax_tables.specs.Schema.{our_tables, grants_tree, holds_tree}
 use Rattle.fax_store.specs.Store.{HasRun}
 use Rattle.fax_tables.specs.Tables.{TablesMean, HaveJobs, IsLawfulGrant, IsByRowid}
 use Rattle.fax_tables.proofs.AppendLemmas.{appended}
@@ -83,13 +83,13 @@ module _ (g : Grant) where
   open_row is_open = ap (λ (b : Bool). number g.number ∷ Null ∷ number g.job ∷ Text g.modem ∷ number g.first_page ∷ number g.last_page ∷ number (call_number g.call) ∷ number g.confirmed ∷ number (if b then 0 else 1) ∷ []) is_open
 
   module _ (old mid new : State) (m : Queue) (k : List Entry) (means : TablesMean old.now m k) where
-    hold_inserted : HasRun INSERT_HOLD.now hold_params old mid → InsertsRow seven_tables holds_tree old mid (Int (next_rowid (old.now.trees holds_tree)) ∷ hold_columns g)
+    hold_inserted : HasRun INSERT_HOLD.now hold_params old mid → InsertsRow our_tables holds_tree old mid (Int (next_rowid (old.now.trees holds_tree)) ∷ hold_columns g)
     hold_inserted h =
-        let ran = runs_as INSERT_HOLD.now hold_params old mid seven_tables means.schema _ insert_hold.is insert_hold.plain h.0 h.1 in
-        inserts seven_tables unreferred schema.holds.name 2 schema.holds.columns schema.holds.key schema.holds.primary schema.holds.uniques schema.holds.orders schema.holds.checks 2 refl old mid means.schema hold_params _ h.0
+        let ran = runs_as INSERT_HOLD.now hold_params old mid our_tables means.schema _ insert_hold.is insert_hold.plain h.0 h.1 in
+        inserts our_tables unreferred schema.holds.name 2 schema.holds.columns schema.holds.key schema.holds.primary schema.holds.uniques schema.holds.orders schema.holds.checks 2 refl old mid means.schema hold_params _ h.0
         hold_terms 4 (Null ∷ hold_columns g) (Int (next_rowid (old.now.trees holds_tree)) ∷ hold_columns g) refl (ap (with_rowid Chosen (old.now.trees holds_tree)) stored_hold) ran
 
-    pub hold_keeps : HasRun INSERT_HOLD.now hold_params old mid → KeepsOthers seven_tables holds_tree old mid
+    pub hold_keeps : HasRun INSERT_HOLD.now hold_params old mid → KeepsOthers our_tables holds_tree old mid
     hold_keeps h = (hold_inserted h).keeps
 
     -- its modem and its job hold it, and it is to be put yet
@@ -112,8 +112,8 @@ module _ (g : Grant) where
     grant_put is_open lawful h more =
         let was = held h in
         let row = open_row is_open in
-        let ran = runs_as INSERT_GRANT.now grant_params mid new seven_tables was.schema _ insert_grant.is insert_grant.plain more.0 more.1 in
-        let done = inserts seven_tables unreferred schema.grants.name 1 schema.grants.columns schema.grants.key schema.grants.primary schema.grants.uniques schema.grants.orders schema.grants.checks 1 refl mid new was.schema grant_params _ more.0
+        let ran = runs_as INSERT_GRANT.now grant_params mid new our_tables was.schema _ insert_grant.is insert_grant.plain more.0 more.1 in
+        let done = inserts our_tables unreferred schema.grants.name 1 schema.grants.columns schema.grants.key schema.grants.primary schema.grants.uniques schema.grants.orders schema.grants.checks 1 refl mid new was.schema grant_params _ more.0
         grant_terms 9 (grant_row g) (grant_row g) (ap (λ r. r ∷ []) (sym row)) (ap (with_rowid Chosen (mid.now.trees grants_tree)) (stored_grant g)) ran in
         let free = subst (λ rows. is_taken rows (grant_row g) ≡ false) was.grants.is (free_of (mid.now.trees grants_tree) (grant_row g) done.fresh) in
         let now : AreRecords grant_row IsLawfulGrant (new.now.trees grants_tree) (placed (λ (x : Grant). x.number) g m.grants) = record {
@@ -285,11 +285,11 @@ module _ (g : Grant) where
     same_grant report x has is =
         report x (subst (λ n. find (λ (y : Grant). y.number == n) m.grants ≡ Some x) is (only_numbered grant_row (λ (y : Grant). y.number) (λ y. refl) m.grants x (subst IsTable means.grants means.ordered.grants.rise) has))
 
-    pub grant_reported : IsReport g m → g.confirmed ≤ 9999 → HasRun UPDATE_REPORT.now report_params old new → TablesMean new.now (with_grant g m) k × KeepsOthers seven_tables grants_tree old new
+    pub grant_reported : IsReport g m → g.confirmed ≤ 9999 → HasRun UPDATE_REPORT.now report_params old new → TablesMean new.now (with_grant g m) k × KeepsOthers our_tables grants_tree old new
     grant_reported report few h =
         let is_number = asked_is grant_row (λ (y : Grant). y.number) (λ y. refl) g.number (passes grants_tree grant_tests report_project report_params) (λ r. refl) in
         let is_other = not_asked grant_row (λ (y : Grant). y.number) (λ y. refl) g.number (passes grants_tree grant_tests report_project report_params) (λ r. refl) in
-        let ran = runs_as UPDATE_REPORT.now report_params old new seven_tables means.schema _ update_report.is update_report.plain h.0 h.1 in
+        let ran = runs_as UPDATE_REPORT.now report_params old new our_tables means.schema _ update_report.is update_report.plain h.0 h.1 in
         let done = updated schema.grants.name 1 schema.grants.columns schema.grants.key schema.grants.primary schema.grants.uniques schema.grants.orders schema.grants.checks 1 refl old new means.schema refl means.ordered.grants
         grant_tests report_project report_params (λ r. refl) _ h.0 grant_row put m.grants means.grants put_number
         (λ x has on. let is = is_number x on in reported x is (same_grant report x has is) ∙ sym (ap grant_row (put_by x true (eq-eqb x.number g.number is))))
@@ -394,11 +394,11 @@ module _ (n : ℕ) where
     abbrev after : Queue
     after = record m { grants = map shut m.grants }
 
-    grants_shut : HasRun SHUT_GRANT.now close_params old mid → KeepsOthers seven_tables grants_tree old mid × AreRecords grant_row IsLawfulGrant (mid.now.trees grants_tree) (map shut m.grants)
+    grants_shut : HasRun SHUT_GRANT.now close_params old mid → KeepsOthers our_tables grants_tree old mid × AreRecords grant_row IsLawfulGrant (mid.now.trees grants_tree) (map shut m.grants)
     grants_shut h =
         let is_one = asked_is grant_row (λ (y : Grant). y.number) (λ y. refl) n (passes grants_tree grant_tests shut_project close_params) (λ r. refl) in
         let is_other = not_asked grant_row (λ (y : Grant). y.number) (λ y. refl) n (passes grants_tree grant_tests shut_project close_params) (λ r. refl) in
-        let ran = runs_as SHUT_GRANT.now close_params old mid seven_tables means.schema _ shut_grant.is shut_grant.plain h.0 h.1 in
+        let ran = runs_as SHUT_GRANT.now close_params old mid our_tables means.schema _ shut_grant.is shut_grant.plain h.0 h.1 in
         let done = updated schema.grants.name 1 schema.grants.columns schema.grants.key schema.grants.primary schema.grants.uniques schema.grants.orders schema.grants.checks 1 refl old mid means.schema refl means.ordered.grants
         grant_tests shut_project close_params (λ r. refl) _ h.0 grant_row shut m.grants means.grants shut_id
         (λ x has on. stored_grant (closed x) ∙ sym (ap grant_row (shut_by x true (eq-eqb x.number n (is_one x on)))))
@@ -406,7 +406,7 @@ module _ (n : ℕ) where
         ran in
         (done.0, record { is = done.1; ordered = done.2; lawful = all_mapped IsLawfulGrant shut m.grants (λ x has. shut_lawful x) means.lawful.grants })
 
-    pub shut_keeps : HasRun SHUT_GRANT.now close_params old mid → KeepsOthers seven_tables grants_tree old mid
+    pub shut_keeps : HasRun SHUT_GRANT.now close_params old mid → KeepsOthers our_tables grants_tree old mid
     shut_keeps h = (grants_shut h).0
 
     is_held : (r : Row) → passes holds_tree held_tests gone_project close_params r ≡ (are_equal (column (drop 1 r) 2) (number n) && true)
@@ -418,7 +418,7 @@ module _ (n : ℕ) where
     grant_closed h more =
         let first = grants_shut h in
         let was = grants_changed old mid m (open_grants m) (calls_of m) k (parts_of old.now m k means) first.0 (map shut m.grants) first.1 in
-        let ran = runs_as DELETE_HOLD.now close_params mid new seven_tables was.schema _ delete_hold.is delete_hold.plain more.0 more.1 in
+        let ran = runs_as DELETE_HOLD.now close_params mid new our_tables was.schema _ delete_hold.is delete_hold.plain more.0 more.1 in
         let done = deleted schema.holds.name 2 schema.holds.columns schema.holds.key schema.holds.primary schema.holds.uniques schema.holds.orders schema.holds.checks 2 refl mid new was.schema refl was.holds.ordered
         held_tests gone_project close_params (λ r. refl) _ more.0 ran in
         let others = λ (columns : Row). not (are_equal (column columns 2) (number n) && true) in

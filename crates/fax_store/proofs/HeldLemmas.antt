@@ -39,7 +39,7 @@ use Rattle.fax_store.specs.declared.adopt.TheConstants.{SELECT_DIAL, SELECT_HELD
 use Rattle.fax_job.specs.Dial.{IsCanonical}
 use Rattle.fax_tables.specs.Job.{IsLawfulJob, IsText}
 use Rattle.fax_tables.specs.Row.{number, hold_columns}
-use Rattle.fax_tables.specs.Schema.{calls_tree, holds_tree, jobs_tree, seven_tables, six_tables}
+use Rattle.fax_tables.specs.Schema.{calls_tree, holds_tree, jobs_tree, our_tables, core_tables}
 use Rattle.fax_tables.specs.Tables.{RowsMean, TablesMean}
 use Rattle.fax_tables.proofs.ColumnLemmas.{record_of}
 use Rattle.fax_tables.proofs.CompareLemmas.{are_equal, number_same}
@@ -125,13 +125,13 @@ module _ (jobs : List Row) (r : Row) where
       let off : (lost_value (column x 0) && true) ≡ false = ap (λ b. b && true) (is_lost (column x 0) ∙ not_lost (column x 0) (column r 2) (first_of _ one.1)) in
       ap (λ b. cond b (([] ∷ r ∷ x ∷ []) ∷ []) []) off)
 
-module _ (old new : State) (has : old.now.schema ≡ seven_tables) (rows : List Row) (shown : Shown SELECT_LOST.now [] old new rows) where
+module _ (old new : State) (has : old.now.schema ≡ our_tables) (rows : List Row) (shown : Shown SELECT_LOST.now [] old new rows) where
   abbrev all_lost : List Env
   all_lost = flat_map (λ r. lost (old.now.trees jobs_tree) r (its (old.now.trees jobs_tree) r)) (old.now.trees holds_tree)
 
   lost_count : length rows ≡ length all_lost
   lost_count =
-      let read = reads_as SELECT_LOST.now [] old new seven_tables has _ select_lost.command select_lost.plain select_lost.unlisted rows shown in
+      let read = reads_as SELECT_LOST.now [] old new our_tables has _ select_lost.command select_lost.plain select_lost.unlisted rows shown in
       let a : IsAnswer lost_query (overlay old.now.trees []) [] rows = read.answer Null in
       ap length a.shown ∙ length_map (λ (o : Output). o.1) a.ordered ∙ length_permutation a.kept a.ordered a.same ∙ ap length a.distinct ∙ length_map (output lost_query) a.staged ∙ ap length a.grouped
 
@@ -147,24 +147,24 @@ module _ (old new : State) (has : old.now.schema ≡ seven_tables) (rows : List 
 
 -- ---- the number that a job is to
 
-pub dial_found : (n : ℕ) (old new : State) (m : Queue) (k : List Entry) → old.now.schema ≡ seven_tables → RowsMean old.now m k → (found : Option Row) → FindsRow SELECT_DIAL.now (number n ∷ []) old new found
+pub dial_found : (n : ℕ) (old new : State) (m : Queue) (k : List Entry) → old.now.schema ≡ our_tables → RowsMean old.now m k → (found : Option Row) → FindsRow SELECT_DIAL.now (number n ∷ []) old new found
     → found ≡ option_map (λ (j : Job). Text j.dial ∷ []) (job_numbered n m)
 dial_found n old new m k has rows found h =
     let params = number n ∷ [] in
     numbered_found row_of (λ (j : Job). j.number) (λ j. refl) n (passes jobs_tree job_tests dial_project params) (λ r. refl) m.jobs (old.now.trees jobs_tree) h.0 (rows.2.0 ∙ rows.1.jobs) (subst IsTable (sym rows.2.0) rows.1.ordered.jobs.rise)
     (show jobs_tree job_tests dial_project params)
-    (answers jobs_tree job_tests dial_project params old.now (old.now.trees jobs_tree) refl [] h.0 (reads_as SELECT_DIAL.now params old new seven_tables has _ select_dial.command select_dial.plain select_dial.unlisted h.0 h.1))
+    (answers jobs_tree job_tests dial_project params old.now (old.now.trees jobs_tree) refl [] h.0 (reads_as SELECT_DIAL.now params old new our_tables has _ select_dial.command select_dial.plain select_dial.unlisted h.0 h.1))
     found h.2
 
 -- a job that can be called has one that is canonical
-module _ (n : ℕ) (old new : State) (has : old.now.schema ≡ seven_tables) (can : CanBeCalled old.now n) (rows : List Row) (shown : Shown SELECT_DIAL.now (number n ∷ []) old new rows) where
+module _ (n : ℕ) (old new : State) (has : old.now.schema ≡ our_tables) (can : CanBeCalled old.now n) (rows : List Row) (shown : Shown SELECT_DIAL.now (number n ∷ []) old new rows) where
   abbrev asked : Row → Bool
   asked = passes jobs_tree job_tests dial_project (number n ∷ [])
 
   dials_shown : IsPermutation (map (show jobs_tree job_tests dial_project (number n ∷ [])) (filter asked (old.now.trees jobs_tree))) rows
   dials_shown =
       answers jobs_tree job_tests dial_project (number n ∷ []) old.now (old.now.trees jobs_tree) refl (codes "dial" ∷ []) rows
-      (reads_as SELECT_DIAL.now (number n ∷ []) old new seven_tables has _ select_dial.command select_dial.plain select_dial.unlisted rows shown)
+      (reads_as SELECT_DIAL.now (number n ∷ []) old new our_tables has _ select_dial.command select_dial.plain select_dial.unlisted rows shown)
 
   pub dial_told : (row : Row) → Has rows row → (dial : List ℕ) × (row ≡ Text dial ∷ []) × IsText IsCanonical dial
   dial_told row there_is =
@@ -188,11 +188,11 @@ map_same : {A B : Type 0} (f g : A → B) (xs : List A) → ((x : A) → f x ≡
 map_same f g [] same = refl
 map_same f g (x ∷ xs) same = ap₂ ◌∷◌ (same x) (map_same f g xs same)
 
-module _ (old new : State) (has : old.now.schema ≡ seven_tables) (rows : List Row) (shown : Shown SELECT_HELD.now [] old new rows) where
+module _ (old new : State) (has : old.now.schema ≡ our_tables) (rows : List Row) (shown : Shown SELECT_HELD.now [] old new rows) where
   held_shown : IsPermutation (map (λ r. column r 2 ∷ []) (old.now.trees holds_tree)) rows
   held_shown =
       subst (λ t. IsPermutation (map (λ r. column r 2 ∷ []) t) rows) (every (old.now.trees holds_tree))
-      (answers holds_tree [] held_project [] old.now (old.now.trees holds_tree) refl (codes "job" ∷ []) rows (reads_as SELECT_HELD.now [] old new seven_tables has _ select_held.command select_held.plain select_held.unlisted rows shown))
+      (answers holds_tree [] held_project [] old.now (old.now.trees holds_tree) refl (codes "job" ∷ []) rows (reads_as SELECT_HELD.now [] old new our_tables has _ select_held.command select_held.plain select_held.unlisted rows shown))
 
   -- each row is of a hold
   held_of : (row : Row) → Has rows row → (hold : Row) × Has (old.now.trees holds_tree) hold × (row ≡ column hold 2 ∷ [])
@@ -207,7 +207,7 @@ module _ (old new : State) (has : old.now.schema ≡ seven_tables) (rows : List 
       let it = can hold.0 hold.1 in
       (it.0, hold.2 ∙ ap (λ v. v ∷ []) it.1, it.2)
 
-module _ (old new : State) (m : Queue) (k : List Entry) (has : old.now.schema ≡ seven_tables) (mean : RowsMean old.now m k) (rows : List Row) (shown : Shown SELECT_HELD.now [] old new rows) where
+module _ (old new : State) (m : Queue) (k : List Entry) (has : old.now.schema ≡ our_tables) (mean : RowsMean old.now m k) (rows : List Row) (shown : Shown SELECT_HELD.now [] old new rows) where
   abbrev held : List Row
   held = old.now.trees holds_tree
 
@@ -249,8 +249,8 @@ module _ (old new : State) (m : Queue) (k : List Entry) (has : old.now.schema �
   -- so the tables mean it once they are counted
   pub held_counted : (mid last : State) → mid.now ≡ old.now → SetsCalls mid last (held_to m rows) → TablesMean last.now m k
   held_counted mid last still set =
-      let kept = subst (λ d. KeepsRows six_tables.tables d.trees last.now.trees) still set.rows in
-      rows_mean mean.0 last.now m k set.schema_is set.sound (kept_rows six_tables.tables (mean.0).trees old.now.trees last.now.trees mean.2 kept)
+      let kept = subst (λ d. KeepsRows core_tables.tables d.trees last.now.trees) still set.rows in
+      rows_mean mean.0 last.now m k set.schema_is set.sound (kept_rows core_tables.tables (mean.0).trees old.now.trees last.now.trees mean.2 kept)
       (record { is = counted_as (held_to m rows) (λ dial. calls_to dial m) (map (drop 1) (last.now.trees calls_tree)) held_counts set.calls.is; ordered = set.calls.ordered }) mean.1
 
 -- ---- one more row
@@ -308,7 +308,7 @@ held_first m rows i dial low few =
 
 -- what rows mean, they mean where the calls alone were set
 pub rows_still : (a b : State) (m : Queue) (k : List Entry) (count : List ℕ → ℕ) → SetsCalls a b count → RowsMean a.now m k → RowsMean b.now m k
-rows_still a b m k count set mean = (mean.0, mean.1, kept_rows six_tables.tables (mean.0).trees a.now.trees b.now.trees mean.2 set.rows)
+rows_still a b m k count set mean = (mean.0, mean.1, kept_rows core_tables.tables (mean.0).trees a.now.trees b.now.trees mean.2 set.rows)
 
 -- what a job that is there has for a number to dial, and for its own
 pub dial_formed : (db : Database) (m : Queue) (k : List Entry) → TablesMean db m k → (n : ℕ) (j : Job) → job_numbered n m ≡ Some j → IsText IsCanonical j.dial
@@ -332,7 +332,7 @@ called_still a b same n can = record {
   dials = λ other has of. can.dials other (subst (λ rows. Has rows other) same has) of;
 }
 
-pub held_still : (a b : Database) → KeepsRows six_tables.tables a.trees b.trees → HoldsCanBeCalled a → HoldsCanBeCalled b
+pub held_still : (a b : Database) → KeepsRows core_tables.tables a.trees b.trees → HoldsCanBeCalled a → HoldsCanBeCalled b
 held_still a b kept can hold has = let it = can hold (subst (λ rows. Has rows hold) kept.1.1.0 has) in (it.0, it.1, called_still a b kept.0 it.0 it.2)
 
 -- what can be called has its job

@@ -34,7 +34,7 @@ use Rattle.fax_core.specs.declared.grants.Grant.{Grant}
 use Rattle.fax_store.specs.declared.grants.TheConstants.{SELECT_HOLD}
 use Rattle.fax_tables.specs.Grant.{hold_shown}
 use Rattle.fax_tables.specs.Row.{hold_columns}
-use Rattle.fax_tables.specs.Schema.{seven_tables, holds_tree}
+use Rattle.fax_tables.specs.Schema.{our_tables, holds_tree}
 use Rattle.fax_store.specs.Store.{FindsRow}
 use Rattle.fax_tables.specs.Tables.{TablesMean, IsByRowid}
 use Rattle.fax_tables.proofs.ColumnLemmas.{record_of, row_of}
@@ -45,8 +45,8 @@ use Rattle.fax_tables.proofs.SelectLemmas.{passes, show, answers}
 
 -- ---- a modem stands in one row
 
-module _ (db : Database) (has : db.schema ≡ seven_tables) (sound : IsDatabase db) (by : IsByRowid (db.trees holds_tree)) where
-  keeps : Keeps Unique seven_tables db.trees
+module _ (db : Database) (has : db.schema ≡ our_tables) (sound : IsDatabase db) (by : IsByRowid (db.trees holds_tree)) where
+  keeps : Keeps Unique our_tables db.trees
   keeps = subst (λ s. Keeps Unique s db.trees) has (sound.obeys.rules Unique)
 
   no_clash : (r : Row) → Has (db.trees holds_tree) r → clashes plain (1 ∷ []) (db.trees holds_tree) r ≡ false
@@ -126,7 +126,7 @@ module _ (modem : List ℕ) where
     hold_found found h = tells found h.2
       where
         shows : IsPermutation (map (show holds_tree hold_tests hold_project params) (filter (passes holds_tree hold_tests hold_project params) (old.now.trees holds_tree))) h.0
-        shows = answers holds_tree hold_tests hold_project params old.now (old.now.trees holds_tree) refl [] h.0 (reads_as SELECT_HOLD.now params old new seven_tables means.schema _ select_hold.command select_hold.plain select_hold.unlisted h.0 h.1)
+        shows = answers holds_tree hold_tests hold_project params old.now (old.now.trees holds_tree) refl [] h.0 (reads_as SELECT_HOLD.now params old new our_tables means.schema _ select_hold.command select_hold.plain select_hold.unlisted h.0 h.1)
 
         tells : (found : Option Row) → MatchOption found (h.0 ≡ []) (Has h.0) → found ≡ option_map hold_shown (held_by modem m)
         tells None empty = sym (ap (option_map hold_shown) (find_none (λ (g : Grant). bytes_eq g.modem modem) (open_grants m) (λ g has.

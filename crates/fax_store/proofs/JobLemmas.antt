@@ -15,12 +15,12 @@ use Rattle.fax_core.specs.Job.{Job, job_of, fields_of, pages_to, HasPages}
 use Rattle.fax_core.specs.Queue.{Queue, Entry, job_numbered, open_grants}
 use Rattle.fax_job.specs.Job.{IsLawful}
 use Rattle.fax_job.specs.declared.job.JobFields.{JobFields}
-use Rattle.fax_store.specs.declared.jobs.TheConstants.{SELECT_JOB, INSERT_JOB}
+use Rattle.fax_store.specs.declared.jobs.TheConstants.{SELECT_JOB, SELECT_BRIEF, INSERT_JOB}
 use Rattle.fax_tables.specs.Schema as schema
-use Rattle.fax_tables.specs.Schema.{seven_tables, jobs_tree}
+use Rattle.fax_tables.specs.Schema.{our_tables, jobs_tree}
 use Rattle.fax_tables.specs.Place.{placed}
 use Rattle.fax_tables.specs.Row.{number, job_row}
-use Rattle.fax_tables.specs.Job.{IsFormed, IsLawfulJob, job_shown}
+use Rattle.fax_tables.specs.Job.{IsFormed, IsLawfulJob, brief_shown, job_shown}
 use Rattle.fax_store.specs.Job.{IsNewJob, with_placed}
 use Rattle.fax_tables.specs.Tables.{TablesMean, IsByRowid}
 use Rattle.fax_store.specs.Store.{FindsRow, HasRun}
@@ -37,22 +37,28 @@ use Rattle.fax_store.proofs.CountLemmas.{calls_placed, jobs_placed}
 use Rattle.fax_tables.proofs.RowLemmas.{sent_low}
 use Rattle.fax_tables.proofs.WriteLemmas.{KeepsOthers, InsertsRow, unreferred, inserts}
 use Rattle.fax_tables.proofs.SelectLemmas.{passes, show, answers}
-use Rattle.fax_store.proofs.StatementTexts.{job_tests, job_project, job_terms, select_job, insert_job}
+use Rattle.fax_tables.proofs.StatementForms.{Selects}
+use Rattle.sqlite_sql.specs.Term.{Term}
+use Rattle.fax_store.proofs.StatementTexts.{brief_names, brief_project, job_names, job_project, job_terms, job_tests, select_brief, select_job, insert_job}
 
 module _ (n : ℕ) where
   abbrev pub params : Row
   params = number n ∷ []
 
-  -- the row that passes is that of the job of this number
-  abbrev pub is_asked : Row → Bool
-  is_asked r = passes jobs_tree job_tests job_project params r
-
   module _ (old new : State) (m : Queue) (k : List Entry) (means : TablesMean old.now m k) where
-    pub job_found : (found : Option Row) → FindsRow SELECT_JOB.now params old new found → found ≡ option_map (λ j. job_shown (fields_of j)) (job_numbered n m)
-    job_found found h =
-        numbered_found row_of (λ j. j.number) (λ j. refl) n is_asked (λ r. refl) m.jobs (old.now.trees jobs_tree) h.0 means.jobs means.ordered.jobs.rise (show jobs_tree job_tests job_project params)
-        (answers jobs_tree job_tests job_project params old.now (old.now.trees jobs_tree) refl [] h.0 (reads_as SELECT_JOB.now params old new seven_tables means.schema _ select_job.command select_job.plain select_job.unlisted h.0 h.1))
+    -- the row that passes is that of the job of this number
+    row_found : (sql : List ℕ) (project : List Term) (names : List (List ℕ)) → Selects sql jobs_tree job_tests project names
+        → (found : Option Row) → FindsRow sql params old new found → found ≡ option_map (λ j. show jobs_tree job_tests project params (row_of j)) (job_numbered n m)
+    row_found sql project names selects found h =
+        numbered_found row_of (λ j. j.number) (λ j. refl) n (passes jobs_tree job_tests project params) (λ r. refl) m.jobs (old.now.trees jobs_tree) h.0 means.jobs means.ordered.jobs.rise (show jobs_tree job_tests project params)
+        (answers jobs_tree job_tests project params old.now (old.now.trees jobs_tree) refl names h.0 (reads_as sql params old new our_tables means.schema _ selects.command selects.plain selects.unlisted h.0 h.1))
         found h.2
+
+    pub job_found : (found : Option Row) → FindsRow SELECT_JOB.now params old new found → found ≡ option_map (λ j. job_shown (fields_of j)) (job_numbered n m)
+    job_found = row_found SELECT_JOB.now job_project job_names select_job
+
+    pub brief_found : (found : Option Row) → FindsRow SELECT_BRIEF.now params old new found → found ≡ option_map (λ j. brief_shown (fields_of j)) (job_numbered n m)
+    brief_found = row_found SELECT_BRIEF.now brief_project brief_names select_brief
 
 -- ---- one more row
 
@@ -83,13 +89,13 @@ stored_job f =
     (same_row (n _) (same_row (n _) (same_row (n _) (same_row (n _) (same_row (n _) (same_row (n _) refl))))))))))))))))))))
 
 module _ (old new : State) (m : Queue) (k : List Entry) (means : TablesMean old.now m k) (f : JobFields) where
-  inserted : HasRun INSERT_JOB.now (job_shown f) old new → InsertsRow seven_tables jobs_tree old new (job_row f)
+  inserted : HasRun INSERT_JOB.now (job_shown f) old new → InsertsRow our_tables jobs_tree old new (job_row f)
   inserted h =
-      let ran = runs_as INSERT_JOB.now (job_shown f) old new seven_tables means.schema _ insert_job.is insert_job.plain h.0 h.1 in
-      inserts seven_tables unreferred schema.jobs.name 0 schema.jobs.columns schema.jobs.key schema.jobs.primary schema.jobs.uniques schema.jobs.orders schema.jobs.checks 0 refl old new means.schema (job_shown f) _ h.0
+      let ran = runs_as INSERT_JOB.now (job_shown f) old new our_tables means.schema _ insert_job.is insert_job.plain h.0 h.1 in
+      inserts our_tables unreferred schema.jobs.name 0 schema.jobs.columns schema.jobs.key schema.jobs.primary schema.jobs.uniques schema.jobs.orders schema.jobs.checks 0 refl old new means.schema (job_shown f) _ h.0
       job_terms 21 (job_row f) (job_row f) refl (ap (with_rowid Chosen (old.now.trees jobs_tree)) (stored_job f)) ran
 
-  pub job_put : IsLawfulJob (job_of f) → HasRun INSERT_JOB.now (job_shown f) old new → TablesMean new.now (with_placed (job_of f) m) k × KeepsOthers seven_tables jobs_tree old new
+  pub job_put : IsLawfulJob (job_of f) → HasRun INSERT_JOB.now (job_shown f) old new → TablesMean new.now (with_placed (job_of f) m) k × KeepsOthers our_tables jobs_tree old new
   job_put lawful h =
       let done = inserted h in
       let order = means.ordered.jobs in

@@ -19,7 +19,7 @@ use Rattle.fax_core.specs.Job.{Job, fields_of}
 use Rattle.fax_core.specs.Queue.{Queue, Entry}
 use Rattle.fax_store.specs.declared.jobs.TheConstants.{SELECT_JOBS, SELECT_BRIEFS}
 use Rattle.fax_tables.specs.Job.{brief_shown, job_shown}
-use Rattle.fax_tables.specs.Schema.{seven_tables, jobs_tree}
+use Rattle.fax_tables.specs.Schema.{our_tables, jobs_tree}
 use Rattle.fax_tables.specs.Tables.{TablesMean}
 use Rattle.fax_tables.proofs.IndexLemmas.{length_map}
 use Rattle.sqlite_sql.specs.Term.{Term}
@@ -71,7 +71,7 @@ module _ (old new : State) (m : Queue) (k : List Entry) (means : TablesMean old.
       let query = rows_by jobs_tree [] project jobs_order in
       let table = old.now.trees jobs_tree in
       let is_asked = passes jobs_tree [] project [] in
-      let read = reads_as sql [] old new seven_tables means.schema _ selects.command selects.plain selects.unlisted rows h in
+      let read = reads_as sql [] old new our_tables means.schema _ selects.command selects.plain selects.unlisted rows h in
       let shown = in_order jobs_tree [] project [] old.now table refl jobs_order names rows read in
       let all : filter is_asked table ≡ map row_of m.jobs = filter_all is_asked table (all_of (λ r. is_asked r ≡ true) (λ r. refl) table) ∙ means.jobs in
       let back = pull_back row_of (filter is_asked table) shown.0 shown.1 m.jobs all in

@@ -26,14 +26,14 @@ use Rattle.sqlite_value.proofs.KeyLemmas.{first_key-plain}
 use Rattle.fax_core.specs.Queue.{Entry}
 use Rattle.fax_store.specs.Kept.{IsOf, AreKeptOnce, TablesKeepOnce, kept_for}
 use Rattle.fax_tables.specs.Row.{number, entry_columns}
-use Rattle.fax_tables.specs.Schema.{seven_tables, replies_tree}
+use Rattle.fax_tables.specs.Schema.{our_tables, replies_tree}
 use Rattle.fax_tables.specs.Tables.{IsByRowid}
 use Rattle.fax_tables.proofs.CompareLemmas.{compared, equal_texts, number_same}
 
 -- ---- a number of a client stands in one row
 
-module _ (db : Database) (has : db.schema ≡ seven_tables) (sound : IsDatabase db) (by : IsByRowid (db.trees replies_tree)) where
-  keeps : Keeps Unique seven_tables db.trees
+module _ (db : Database) (has : db.schema ≡ our_tables) (sound : IsDatabase db) (by : IsByRowid (db.trees replies_tree)) where
+  keeps : Keeps Unique our_tables db.trees
   keeps = subst (λ s. Keeps Unique s db.trees) has (sound.obeys.rules Unique)
 
   no_clash : (r : Row) → Has (db.trees replies_tree) r → clashes plain (1 ∷ 2 ∷ []) (db.trees replies_tree) r ≡ false

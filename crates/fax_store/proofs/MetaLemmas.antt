@@ -15,7 +15,7 @@ use Rattle.sqlite_sql.specs.declared.ops.CompareOp.TheVariants.{Ne}
 use Rattle.sqlite_value.proofs.OrderLemmas.{value_cmp-Int}
 use Rattle.fax_store.specs.declared.meta.TheConstants.{SELECT_META, UPDATE_CLOCK, UPDATE_META}
 use Rattle.fax_tables.specs.Schema as schema
-use Rattle.fax_tables.specs.Schema.{seven_tables, meta_tree}
+use Rattle.fax_tables.specs.Schema.{our_tables, meta_tree}
 use Rattle.fax_core.specs.Queue.{Queue, Entry, open_grants}
 use Rattle.fax_tables.specs.Row.{number, meta_row}
 use Rattle.fax_store.specs.Meta.{with_clock}
@@ -55,7 +55,7 @@ alone m = record { rise = (tt, tt); integers = (refl, tt) }
 module _ (old new : State) (m : Queue) (k : List Entry) (means : TablesMean old.now m k) where
   pub meta_found : (found : Option Row) → FindsRow SELECT_META.now [] old new found → found ≡ Some (meta_shown m)
   meta_found found h =
-      let read = reads_as SELECT_META.now [] old new seven_tables means.schema _ select_meta.command select_meta.plain select_meta.unlisted h.0 h.1 in
+      let read = reads_as SELECT_META.now [] old new our_tables means.schema _ select_meta.command select_meta.plain select_meta.unlisted h.0 h.1 in
       let same = answers meta_tree meta_tests meta_project [] old.now (meta_row m ∷ []) means.meta [] h.0 read in
       only_found (meta_shown m) h.0 found (only_row meta_tree meta_tests meta_project [] (meta_row m) h.0 (meta_passes m []) same) h.2
 
@@ -66,9 +66,9 @@ module _ (old new : State) (m : Queue) (k : List Entry) (means : TablesMean old.
     abbrev put : Queue → Queue
     put it = record it { clock = clock; next_job = next_job; next_grant = next_grant }
 
-    written : HasRun UPDATE_META.now params old new → KeepsOthers seven_tables meta_tree old new × (new.now.trees meta_tree ≡ meta_row (put m) ∷ []) × IsByRowid (new.now.trees meta_tree)
+    written : HasRun UPDATE_META.now params old new → KeepsOthers our_tables meta_tree old new × (new.now.trees meta_tree ≡ meta_row (put m) ∷ []) × IsByRowid (new.now.trees meta_tree)
     written h =
-        let ran = runs_as UPDATE_META.now params old new seven_tables means.schema _ update_meta.is update_meta.plain h.0 h.1 in
+        let ran = runs_as UPDATE_META.now params old new our_tables means.schema _ update_meta.is update_meta.plain h.0 h.1 in
         updated schema.meta.name 10 schema.meta.columns schema.meta.key schema.meta.primary schema.meta.uniques schema.meta.orders schema.meta.checks 5 refl old new means.schema refl (subst IsByRowid (sym means.meta) (alone m))
         meta_tests update_project params (λ r. refl) _ h.0 meta_row put (m ∷ []) means.meta (λ it. refl) (λ it has on. stored (put it)) (λ it has off. absurd (both_ways _ off (meta_passes it params))) ran
 
@@ -79,18 +79,18 @@ module _ (old new : State) (m : Queue) (k : List Entry) (means : TablesMean old.
         let done = written h in
         means_of new.now (put m) k means.held (meta_changed old new m (open_grants m) (calls_of m) k (parts_of old.now m k means) done.0 clock next_job next_grant done.1 lawful)
 
-    pub meta_shows : HasRun UPDATE_META.now params old new → KeepsOthers seven_tables meta_tree old new
+    pub meta_shows : HasRun UPDATE_META.now params old new → KeepsOthers our_tables meta_tree old new
     meta_shows h = (written h).0
 
   module _ (clock : ℕ) where
-    clocked : HasRun UPDATE_CLOCK.now (clock_params clock) old new → KeepsOthers seven_tables meta_tree old new × (new.now.trees meta_tree ≡ meta_row (with_clock clock m) ∷ []) × IsByRowid (new.now.trees meta_tree)
+    clocked : HasRun UPDATE_CLOCK.now (clock_params clock) old new → KeepsOthers our_tables meta_tree old new × (new.now.trees meta_tree ≡ meta_row (with_clock clock m) ∷ []) × IsByRowid (new.now.trees meta_tree)
     clocked h =
-        let ran = runs_as UPDATE_CLOCK.now (clock_params clock) old new seven_tables means.schema _ update_clock.is update_clock.plain h.0 h.1 in
+        let ran = runs_as UPDATE_CLOCK.now (clock_params clock) old new our_tables means.schema _ update_clock.is update_clock.plain h.0 h.1 in
         updated schema.meta.name meta_tree schema.meta.columns schema.meta.key schema.meta.primary schema.meta.uniques schema.meta.orders schema.meta.checks 5 refl old new means.schema refl (subst IsByRowid (sym means.meta) (alone m))
         clock_tests clock_project (clock_params clock) (λ r. refl) _ h.0 meta_row (with_clock clock) (m ∷ []) means.meta (λ it. refl) (λ it has on. stored (with_clock clock it)) (λ it has off. clock_kept clock it off) ran
 
     -- the tables mean the queue with this clock
-    pub clock_written : clock ≤ 4102444800 → HasRun UPDATE_CLOCK.now (clock_params clock) old new → TablesMean new.now (with_clock clock m) k × KeepsOthers seven_tables meta_tree old new
+    pub clock_written : clock ≤ 4102444800 → HasRun UPDATE_CLOCK.now (clock_params clock) old new → TablesMean new.now (with_clock clock m) k × KeepsOthers our_tables meta_tree old new
     clock_written within h =
         let done = clocked h in
         let lawful : IsLawfulMeta (with_clock clock m) = record { clock = within; next_job = means.lawful.meta.next_job; next_grant = means.lawful.meta.next_grant } in

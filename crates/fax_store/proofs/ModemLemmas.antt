@@ -20,7 +20,7 @@ use Rattle.fax_job.specs.Name.{IsName}
 use Rattle.fax_store.specs.declared.modems.TheConstants.{SELECT_DOWN, INSERT_DOWN, DELETE_DOWN}
 use Rattle.fax_tables.specs.Row.{down_columns}
 use Rattle.fax_tables.specs.Schema as schema
-use Rattle.fax_tables.specs.Schema.{seven_tables, down_tree}
+use Rattle.fax_tables.specs.Schema.{our_tables, down_tree}
 use Rattle.fax_store.specs.Store.{FindsRow, HasRun}
 use Rattle.fax_tables.specs.Tables.{TablesMean}
 use Rattle.fax_tables.proofs.ColumnLemmas.{record_of, row_of, kept_columns, all_kept, none_holds}
@@ -64,7 +64,7 @@ module _ (modem : List ℕ) where
     mark_found found h = tells found h.2
       where
         shows : IsPermutation (map (show down_tree down_tests down_project params) (filter (passes down_tree down_tests down_project params) (old.now.trees down_tree))) h.0
-        shows = answers down_tree down_tests down_project params old.now (old.now.trees down_tree) refl [] h.0 (reads_as SELECT_DOWN.now params old new seven_tables means.schema _ select_down.command select_down.plain select_down.unlisted h.0 h.1)
+        shows = answers down_tree down_tests down_project params old.now (old.now.trees down_tree) refl [] h.0 (reads_as SELECT_DOWN.now params old new our_tables means.schema _ select_down.command select_down.plain select_down.unlisted h.0 h.1)
 
         tells : (found : Option Row) → MatchOption found (h.0 ≡ []) (Has h.0) → is_some found ≡ is_down modem m
         tells None empty = sym (none_holds (bytes_eq modem) m.down (λ name has.
@@ -75,9 +75,9 @@ module _ (modem : List ℕ) where
             let it = record_of down_columns (old.now.trees down_tree) m.down same shown.0 shown.1 in
             sym (some_from (bytes_eq modem) m.down it.0 it.1 (sym (is_asked down_project shown.0 it.0 it.2) ∙ shown.2))
 
-    pub mark_cleared : HasRun DELETE_DOWN.now params old new → TablesMean new.now (with_mark modem false m) k × KeepsOthers seven_tables down_tree old new
+    pub mark_cleared : HasRun DELETE_DOWN.now params old new → TablesMean new.now (with_mark modem false m) k × KeepsOthers our_tables down_tree old new
     mark_cleared h =
-        let ran = runs_as DELETE_DOWN.now params old new seven_tables means.schema _ delete_down.is delete_down.plain h.0 h.1 in
+        let ran = runs_as DELETE_DOWN.now params old new our_tables means.schema _ delete_down.is delete_down.plain h.0 h.1 in
         let done = deleted schema.down.name 6 schema.down.columns schema.down.key schema.down.primary schema.down.uniques schema.down.orders schema.down.checks 3 refl old new means.schema refl means.ordered.down
         down_tests gone_project params (λ r. refl) _ h.0 ran in
         let others = λ (name : List ℕ). not (bytes_eq modem name) in
@@ -88,11 +88,11 @@ module _ (modem : List ℕ) where
         } in
         (means_of new.now (with_mark modem false m) k means.held (down_changed old new m (open_grants m) (calls_of m) k (parts_of old.now m k means) done.0 (filter others m.down) now), done.0)
 
-    pub mark_added : IsName modem → is_down modem m ≡ false → HasRun INSERT_DOWN.now params old new → TablesMean new.now (with_mark modem true m) k × KeepsOthers seven_tables down_tree old new
+    pub mark_added : IsName modem → is_down modem m ≡ false → HasRun INSERT_DOWN.now params old new → TablesMean new.now (with_mark modem true m) k × KeepsOthers our_tables down_tree old new
     mark_added lawful free h =
         let stored : cast_row schema.down (Null ∷ down_columns modem) ≡ Null ∷ down_columns modem = same_row cast_null (same_row refl refl) in
-        let ran = runs_as INSERT_DOWN.now params old new seven_tables means.schema _ insert_down.is insert_down.plain h.0 h.1 in
-        let done = inserts seven_tables unreferred schema.down.name 6 schema.down.columns schema.down.key schema.down.primary schema.down.uniques schema.down.orders schema.down.checks 3 refl old new means.schema params _ h.0
+        let ran = runs_as INSERT_DOWN.now params old new our_tables means.schema _ insert_down.is insert_down.plain h.0 h.1 in
+        let done = inserts our_tables unreferred schema.down.name 6 schema.down.columns schema.down.key schema.down.primary schema.down.uniques schema.down.orders schema.down.checks 3 refl old new means.schema params _ h.0
         down_terms 2 (Null ∷ down_columns modem) (Int (next_rowid (old.now.trees down_tree)) ∷ down_columns modem) refl (ap (with_rowid Chosen (old.now.trees down_tree)) stored) ran in
         let was = parts_of old.now m k means in
         let marked = m.down ++ modem ∷ [] in

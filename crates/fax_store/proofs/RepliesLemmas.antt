@@ -12,7 +12,7 @@ use Rattle.sqlite.proofs.Callers.{runs_as, reads_as}
 use Rattle.sqlite_rules.specs.Lists.{Has}
 use Rattle.fax_store.specs.declared.replies.TheConstants.{SELECT_REPLY, INSERT_REPLY}
 use Rattle.fax_tables.specs.Schema as schema
-use Rattle.fax_tables.specs.Schema.{seven_tables, replies_tree}
+use Rattle.fax_tables.specs.Schema.{our_tables, replies_tree}
 use Rattle.fax_core.specs.Queue.{Queue, Entry, open_grants}
 use Rattle.fax_tables.specs.Row.{number, entry_columns}
 use Rattle.fax_tables.specs.Kept.{entry_shown}
@@ -87,7 +87,7 @@ module _ (client : List ℕ) (n : ℕ) where
     reply_found found h = tells found h.2
       where
         same : IsPermutation (map (show replies_tree reply_tests reply_project params) (filter (passes replies_tree reply_tests reply_project params) (old.now.trees replies_tree))) h.0
-        same = answers replies_tree reply_tests reply_project params old.now (old.now.trees replies_tree) refl [] h.0 (reads_as SELECT_REPLY.now params old new seven_tables means.schema _ select_reply.command select_reply.plain select_reply.unlisted h.0 h.1)
+        same = answers replies_tree reply_tests reply_project params old.now (old.now.trees replies_tree) refl [] h.0 (reads_as SELECT_REPLY.now params old new our_tables means.schema _ select_reply.command select_reply.plain select_reply.unlisted h.0 h.1)
 
         tells : (found : Option Row) → MatchOption found (h.0 ≡ []) (Has h.0) → MatchOption found ((e : Entry) → Has k e → ¬ IsOf client n e) (λ row. (e : Entry) × Has k e × IsOf client n e × (row ≡ entry_shown e))
         tells None empty = λ e has of.
@@ -108,10 +108,10 @@ module _ (client : List ℕ) (n : ℕ) where
       q
 
   -- so where none is found there is no such row
-  pub none_found : (old new : State) (db : Database) → db.schema ≡ seven_tables → old.now ≡ db → FindsRow SELECT_REPLY.now params old new None → ¬ HasReply db client n
+  pub none_found : (old new : State) (db : Database) → db.schema ≡ our_tables → old.now ≡ db → FindsRow SELECT_REPLY.now params old new None → ¬ HasReply db client n
   none_found old new db six now h row =
       let same : IsPermutation (map (show replies_tree reply_tests reply_project params) (filter (passes replies_tree reply_tests reply_project params) (old.now.trees replies_tree))) h.0 =
-      answers replies_tree reply_tests reply_project params old.now (old.now.trees replies_tree) refl [] h.0 (reads_as SELECT_REPLY.now params old new seven_tables (ap (λ (d : Database). d.schema) now ∙ six) _ select_reply.command select_reply.plain select_reply.unlisted h.0 h.1) in
+      answers replies_tree reply_tests reply_project params old.now (old.now.trees replies_tree) refl [] h.0 (reads_as SELECT_REPLY.now params old new our_tables (ap (λ (d : Database). d.schema) now ∙ six) _ select_reply.command select_reply.plain select_reply.unlisted h.0 h.1) in
       let there = subst (λ (d : Database). Has (d.trees replies_tree) (row.id ∷ Text client ∷ number n ∷ row.said ∷ row.status ∷ row.body ∷ [])) (sym now) row.has in
       both_ways _ (none_shown is_asked (show replies_tree reply_tests reply_project params) (old.now.trees replies_tree) h.0 same h.2 _ there) (key_passes row.id row.said row.status row.body)
 
@@ -131,13 +131,13 @@ module _ (old new : State) (m : Queue) (k : List Entry) (means : TablesMean old.
   abbrev new_reply : Row
   new_reply = Int (next_rowid (old.now.trees replies_tree)) ∷ entry_columns e
 
-  inserted : HasRun INSERT_REPLY.now reply_params old new → InsertsRow seven_tables replies_tree old new new_reply
+  inserted : HasRun INSERT_REPLY.now reply_params old new → InsertsRow our_tables replies_tree old new new_reply
   inserted h =
-      let ran = runs_as INSERT_REPLY.now reply_params old new seven_tables means.schema _ insert_reply.is insert_reply.plain h.0 h.1 in
-      inserts seven_tables unreferred schema.replies.name 8 schema.replies.columns schema.replies.key schema.replies.primary schema.replies.uniques schema.replies.orders schema.replies.checks 4 refl old new means.schema reply_params _ h.0
+      let ran = runs_as INSERT_REPLY.now reply_params old new our_tables means.schema _ insert_reply.is insert_reply.plain h.0 h.1 in
+      inserts our_tables unreferred schema.replies.name 8 schema.replies.columns schema.replies.key schema.replies.primary schema.replies.uniques schema.replies.orders schema.replies.checks 4 refl old new means.schema reply_params _ h.0
       reply_terms 6 (Null ∷ entry_columns e) new_reply refl (ap (with_rowid Chosen (old.now.trees replies_tree)) (stored_reply e)) ran
 
-  pub reply_kept : IsLawfulEntry e → HasRun INSERT_REPLY.now reply_params old new → TablesMean new.now m (k ++ e ∷ []) × KeepsOthers seven_tables replies_tree old new
+  pub reply_kept : IsLawfulEntry e → HasRun INSERT_REPLY.now reply_params old new → TablesMean new.now m (k ++ e ∷ []) × KeepsOthers our_tables replies_tree old new
   reply_kept lawful h =
       let done = inserted h in
       let was = parts_of old.now m k means in

@@ -16,7 +16,7 @@ use Rattle.std.proofs.lemmas.Bool.{cases_Bool}
 use Rattle.sqlite.specs.Clock.{timed}
 use Rattle.sqlite.proofs.Callers.{IsPlain, command_of}
 use Rattle.fax_store.specs.Store.{EditsRows, HasTables, IsEdit, IsEditText, LeavesCommit}
-use Rattle.fax_tables.specs.Schema.{seven_tables}
+use Rattle.fax_tables.specs.Schema.{our_tables}
 use Rattle.fax_tables.proofs.StatementForms.{Commands}
 use Rattle.fax_tables.proofs.WriteLemmas.{went}
 use Rattle.sqlite_resolve.specs.declared.error.CompileError.{CompileError}
@@ -136,7 +136,7 @@ module _ (old new : State) (sql : List ℕ) (params : Row) where
 
 -- a text that is known as a command that changes rows
 pub edit_text : (sql : List ℕ) (command : Command) → IsEdit command → Commands sql command → IsEditText sql
-edit_text sql command is text = by (understood seven_tables sql) text.is text.plain
+edit_text sql command is text = by (understood our_tables sql) text.is text.plain
   where
     by : (known : Result Compiled CompileError) → command_of known ≡ command → IsPlain known → EditsRows known
     by (Ok c) e plain = (subst IsEdit (sym e) is, plain.0)

@@ -18,7 +18,7 @@ use Rattle.fax_store.specs.declared.adopt.TheConstants.{SELECT_DIAL, SELECT_HELD
 use Rattle.fax_store.specs.declared.meta.TheConstants.{SELECT_META, UPDATE_CLOCK, UPDATE_META}
 use Rattle.fax_store.specs.declared.replies.TheConstants.{SELECT_REPLY, INSERT_REPLY}
 use Rattle.fax_store.specs.declared.candidates.TheConstants.{SELECT_FIRST, SELECT_BEHIND_NUMBER, SELECT_BEHIND_TIME, SELECT_BEHIND_PRIORITY}
-use Rattle.fax_store.specs.declared.jobs.TheConstants.{SELECT_JOB, INSERT_JOB, UPDATE_JOB, EXPIRE_JOBS, SELECT_WAITING, SELECT_JOBS, SELECT_BRIEFS}
+use Rattle.fax_store.specs.declared.jobs.TheConstants.{SELECT_JOB, SELECT_BRIEF, INSERT_JOB, UPDATE_JOB, EXPIRE_JOBS, SELECT_WAITING, SELECT_JOBS, SELECT_BRIEFS}
 use Rattle.fax_tables.proofs.SelectLemmas.{rows_by, rows_where}
 use Rattle.fax_tables.proofs.UpdateLemmas.{program_of}
 use Rattle.fax_tables.proofs.StatementForms.{equals, Selects, SelectsAll, SelectsBy, Commands}
@@ -123,6 +123,10 @@ job_names = brief_names ++ codes "extra" ∷ []
 pub select_job : Selects SELECT_JOB.now jobs_tree job_tests job_project job_names
 unfolding understood everything
 select_job = record { command = refl; plain = (refl, refl); unlisted = refl }
+
+pub select_brief : Selects SELECT_BRIEF.now jobs_tree job_tests brief_project brief_names
+unfolding understood everything
+select_brief = record { command = refl; plain = (refl, refl); unlisted = refl }
 
 abbrev pub job_terms : List Term
 job_terms =

@@ -15,7 +15,7 @@ use Rattle.sqlite_resolve.specs.declared.error.CompileError.{CompileError}
 use Rattle.sqlite.specs.Given.{IsPlain}
 use Rattle.sqlite_schema.specs.declared.command.Returning.{Returning}
 use Rattle.sqlite_schema.specs.declared.schema.Schema.{Schema}
-use Rattle.fax_tables.specs.Schema.{seven_tables}
+use Rattle.fax_tables.specs.Schema.{our_tables}
 use Rattle.fax_tables.specs.declared.fault.StoreFault.{StoreFault}
 use Rattle.fax_tables.proofs.StopLemmas.{Ends, inside_commits_nothing, nothing_by, nothing_then}
 use Rattle.fax_store.specs.declared.store.TheConstants.{BEGIN, COMMIT, ROLLBACK}
@@ -29,8 +29,8 @@ use Rattle.fax_store.proofs.StoreLemmas.{cleaner}
 -- ---- reading
 
 -- a text that shows rows over the seven tables shows none of a write, whatever the tables are
-shows_none : (sql : List ℕ) (c : Compiled) (known : Result Compiled CompileError) → understood seven_tables sql ≡ known → IsPlain known → (s : Schema) → understood s sql ≡ Ok c → c.returning ≡ None
-shows_none sql c (Ok e) is plain s at = shows_nothing seven_tables s sql e c is plain.0 at
+shows_none : (sql : List ℕ) (c : Compiled) (known : Result Compiled CompileError) → understood our_tables sql ≡ known → IsPlain known → (s : Schema) → understood s sql ≡ Ok c → c.returning ≡ None
+shows_none sql c (Ok e) is plain s at = shows_nothing our_tables s sql e c is plain.0 at
 shows_none sql c (Err f) is plain s at = absurd plain
 
 none_is_none : (o : Option Returning) → o ≡ None → IsSome o → ⊥
@@ -39,7 +39,7 @@ none_is_none (Some r) e h = absurd cc
 
 pub query_commits_nothing : (s : State) (sql : List ℕ) (params : Row) → IsQueryText sql → (found : Trees) → CommitsShowing sql params s found → ⊥
 unfolding CommitsShowing
-query_commits_nothing s sql params query found h = none_is_none h.0.returning (shows_none sql h.0 (understood seven_tables sql) refl query s.now.schema h.1.is) h.2
+query_commits_nothing s sql params query found h = none_is_none h.0.returning (shows_none sql h.0 (understood our_tables sql) refl query s.now.schema h.1.is) h.2
 
 pub queries_nothing : (old new : State) (sql : List ℕ) (params : Row) → IsQueryText sql → Survives old new (CommitsShowing sql params old) → CommitsNothing old new
 queries_nothing old new sql params query survives = nothing_by old new (CommitsShowing sql params old) survives (λ found clean. query_commits_nothing old sql params query found)

@@ -23,7 +23,7 @@ use Rattle.fax_store.specs.declared.jobs.TheConstants.{SELECT_WAITING}
 use Rattle.fax_tables.specs.Job.{IsLawfulJob, job_shown}
 use Rattle.fax_store.specs.Job.{AreWaiting}
 use Rattle.fax_tables.specs.Row.{number, phase_number}
-use Rattle.fax_tables.specs.Schema.{seven_tables, jobs_tree}
+use Rattle.fax_tables.specs.Schema.{our_tables, jobs_tree}
 use Rattle.fax_tables.specs.Tables.{TablesMean}
 use Rattle.std.proofs.lemmas.List.Sorted.{All-permutation}
 use Rattle.fax_tables.proofs.ColumnLemmas.{all_kept}
@@ -134,7 +134,7 @@ and_true false = refl
 module _ (t : ℕ) (old new : State) (m : Queue) (k : List Entry) (means : TablesMean old.now m k) where
   pub waiting_found : (rows : List Row) → Shown SELECT_WAITING.now (params t [] [] job_project) old new rows → (jobs : List Job) × (rows ≡ map (λ j. job_shown (fields_of j)) jobs) × AreWaiting t m jobs
   waiting_found rows h =
-      let read = reads_as SELECT_WAITING.now (params t [] [] job_project) old new seven_tables means.schema _ select_waiting.command select_waiting.plain select_waiting.unlisted rows h in
+      let read = reads_as SELECT_WAITING.now (params t [] [] job_project) old new our_tables means.schema _ select_waiting.command select_waiting.plain select_waiting.unlisted rows h in
       let shown = in_order jobs_tree waiting_tests job_project (params t [] [] job_project) old.now (old.now.trees jobs_tree) refl waiting_order job_names rows read in
       let it = are_near t [] [] job_project old.now m k means (λ j. true) (λ j. refl) shown.0 shown.1 shown.3 in
       let same = filter_same (λ j. is_due j t && true) (λ j. is_due j t) m.jobs (all_of (λ (j : Job). (is_due j t && true) ≡ is_due j t) (λ j. and_true (is_due j t)) m.jobs) in

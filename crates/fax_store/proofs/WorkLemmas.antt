@@ -12,7 +12,7 @@ use Rattle.fax_core.specs.Queue.{Queue, Entry}
 use Rattle.fax_tables.specs.Tables.{TablesMean}
 use Rattle.fax_store.specs.Store.{Serves, Means, MeansNow, HasRows, HasTables, IsEditText, Stays, IsRefusedFor, LeavesCommit, Reads, HasRun}
 use Rattle.fax_store.specs.Work.{IsOver, Holds, IsUnderWay, Works, Changes, ChangesWhere, Keeps, AnswersIn, IsOnlyUnavailable, Steps, Moves}
-use Rattle.fax_tables.specs.Schema.{seven_tables}
+use Rattle.fax_tables.specs.Schema.{our_tables}
 use Rattle.fax_store.proofs.StatementLemmas.{edit_shows}
 use Rattle.fax_store.proofs.StoreLemmas.{same_tables}
 use Rattle.fax_tables.proofs.WriteLemmas.{KeepsOthers}
@@ -125,9 +125,9 @@ module _ (old new : State) (served : Serves new → Serves old) {A : Type 0} (re
       record { autocommit = undone.autocommit; now = back.0 ∙ was.committed; committed = back.1 ∙ was.committed }
 
   pub stays_by : Stays old new
-  stays_by db six has s =
+  stays_by db ours has s =
       let was = has (served s) in
-      rests_after db s (left_by old new result (read (ap (λ (d : Database). d.schema) was.now ∙ six) s.clean)) was
+      rests_after db s (left_by old new result (read (ap (λ (d : Database). d.schema) was.now ∙ ours) s.clean)) was
 
   -- and inside a work
   pub holds_by : Holds old false new (is_err result)
@@ -205,7 +205,7 @@ holds_err a b (Err e) P is h = h
 
 -- A statement that writes rows of one table moves a work on. Where it was refused, the last commit stands.
 pub move_by : (old new : State) (sql : List ℕ) (params : Row) (tree : ℕ) (result : Result (Unit {0}) StoreFault) (m₀ m after : Queue) (k₀ k kept : List Entry) → (Serves new → Serves old) → Works old false m₀ k₀ m k → Serves new
-    → OnOk result (HasRun sql params old new) → OnErr result (LeavesCommit old new) → (TablesMean old.now m k → HasRun sql params old new → TablesMean new.now after kept × KeepsOthers seven_tables tree old new) → Moves new result m₀ k₀ after kept
+    → OnOk result (HasRun sql params old new) → OnErr result (LeavesCommit old new) → (TablesMean old.now m k → HasRun sql params old new → TablesMean new.now after kept × KeepsOthers our_tables tree old new) → Moves new result m₀ k₀ after kept
 move_by old new sql params tree (Ok done) m₀ m after k₀ k kept served works s ran left does =
     let was = works (served s) in
     let inside = was.goes_on refl in
@@ -228,7 +228,7 @@ step_of new (Err e) m₀ m k₀ k cause h = (cause, h)
 -- A statement that writes rows of one table is a step of a work.
 pub step_by : (old new : State) (sql : List ℕ) (params : Row) (tree : ℕ) (result : Result (Unit {0}) StoreFault) (m₀ m after : Queue) (k₀ k kept : List Entry) → (Serves new → Serves old) → Works old false m₀ k₀ m k → Serves new
     → OnOk result (HasRun sql params old new) → OnErr result (LeavesCommit old new) → IfErr result (λ fault. fault ≡ Unavailable)
-    → (TablesMean old.now m k → HasRun sql params old new → TablesMean new.now after kept × KeepsOthers seven_tables tree old new) → Steps new result m₀ k₀ after kept
+    → (TablesMean old.now m k → HasRun sql params old new → TablesMean new.now after kept × KeepsOthers our_tables tree old new) → Steps new result m₀ k₀ after kept
 step_by old new sql params tree result m₀ m after k₀ k kept served works s ran left cause does =
     step_of new result m₀ after k₀ kept cause (move_by old new sql params tree result m₀ m after k₀ k kept served works s ran left does)
 
@@ -296,7 +296,7 @@ refused_move old new (Err e) fault m₀ m after k₀ k kept served works s left 
 -- Two statements that write rows of one table each move a work on.
 pub two_moves : (old mid new : State) (first second : List ℕ) (params others : Row) (tree other : ℕ) (result : Result (Unit {0}) StoreFault) (m₀ m after : Queue) (k₀ k kept : List Entry) → (Serves mid → Serves old) → (Serves new → Serves mid)
     → Works old false m₀ k₀ m k → Serves new → HasRun first params old mid → OnOk result (HasRun second others mid new) → OnErr result (LeavesCommit mid new)
-    → (TablesMean old.now m k → KeepsOthers seven_tables tree old mid) → (TablesMean old.now m k → HasRun second others mid new → TablesMean new.now after kept × KeepsOthers seven_tables other mid new) → Moves new result m₀ k₀ after kept
+    → (TablesMean old.now m k → KeepsOthers our_tables tree old mid) → (TablesMean old.now m k → HasRun second others mid new → TablesMean new.now after kept × KeepsOthers our_tables other mid new) → Moves new result m₀ k₀ after kept
 two_moves old mid new first second params others tree other (Ok done) m₀ m after k₀ k kept was_mid was_new works s has ran left keeps does =
     let was = works (was_mid (was_new s)) in
     let inside = was.goes_on refl in
@@ -322,6 +322,6 @@ two_moves old mid new first second params others tree other (Err e) m₀ m after
 -- Two statements that write rows of one table each are a step of a work.
 pub two_steps : (old mid new : State) (first second : List ℕ) (params others : Row) (tree other : ℕ) (result : Result (Unit {0}) StoreFault) (m₀ m after : Queue) (k₀ k kept : List Entry) → (Serves mid → Serves old) → (Serves new → Serves mid)
     → Works old false m₀ k₀ m k → Serves new → HasRun first params old mid → OnOk result (HasRun second others mid new) → OnErr result (LeavesCommit mid new) → IfErr result (λ fault. fault ≡ Unavailable)
-    → (TablesMean old.now m k → KeepsOthers seven_tables tree old mid) → (TablesMean old.now m k → HasRun second others mid new → TablesMean new.now after kept × KeepsOthers seven_tables other mid new) → Steps new result m₀ k₀ after kept
+    → (TablesMean old.now m k → KeepsOthers our_tables tree old mid) → (TablesMean old.now m k → HasRun second others mid new → TablesMean new.now after kept × KeepsOthers our_tables other mid new) → Steps new result m₀ k₀ after kept
 two_steps old mid new first second params others tree other result m₀ m after k₀ k kept was_mid was_new works s has ran left cause keeps does =
     step_of new result m₀ after k₀ kept cause (two_moves old mid new first second params others tree other result m₀ m after k₀ k kept was_mid was_new works s has ran left keeps does)

@@ -19,7 +19,7 @@ use Rattle.fax_core.specs.State.{is_of_number}
 use Rattle.fax_job.specs.Dial.{IsCanonical}
 use Rattle.fax_tables.specs.Job.{IsText}
 use Rattle.fax_tables.specs.Row.{number}
-use Rattle.fax_tables.specs.Schema.{AreOurs, no_tables, bare_tables, older_six_tables, seven_tables, six_tables, calls_tree, holds_tree, jobs_tree, meta_tree}
+use Rattle.fax_tables.specs.Schema.{AreOurs, no_tables, bare_tables, older_core_tables, our_tables, core_tables, calls_tree, holds_tree, jobs_tree, meta_tree}
 use Rattle.fax_tables.specs.Tables.{GoesOn, IsAtRest, RowsMean}
 use Rattle.sqlite_trees.specs.Tree.{Trees}
 use Rattle.fax_store.specs.Grant.{SetsCalls}
@@ -45,9 +45,9 @@ pub record IsOurs (db : Database) : Type 0 where
 
 -- all seven tables, with the rows that the other has in six of them
 pub record IsWhole (db after : Database) : Type 0 where
-  pub schema_is : after.schema ≡ seven_tables
+  pub schema_is : after.schema ≡ our_tables
   pub sound : IsDatabase after
-  pub rows : KeepsRows six_tables.tables db.trees after.trees
+  pub rows : KeepsRows core_tables.tables db.trees after.trees
 
 -- no work is under way, and the database has got all of them
 pub record HasWhole (s : State) (db : Database) : Type 0 where
@@ -102,22 +102,22 @@ pub record IsIn (Ours : Schema → Type 0) (s : State) : Type 0 where
   pub schema_is : Ours s.now.schema
 
 -- the six tables, with the indexes of jobs or without, or with those that stores made before
-abbrev pub AreSix : Schema → Type 0
-AreSix schema = (schema ≡ six_tables) ⊎ ((schema ≡ bare_tables) ⊎ (schema ≡ older_six_tables))
+abbrev pub AreCore : Schema → Type 0
+AreCore schema = (schema ≡ core_tables) ⊎ ((schema ≡ bare_tables) ⊎ (schema ≡ older_core_tables))
 
 -- not with these
 abbrev pub AreStores : Schema → Type 0
-AreStores schema = (schema ≡ six_tables) ⊎ (schema ≡ bare_tables)
+AreStores schema = (schema ≡ core_tables) ⊎ (schema ≡ bare_tables)
 
 -- those tables, and the rows of the six
 abbrev pub Leaves : (Schema → Type 0) → Database → Database → Type 0
-Leaves Ours db after = Ours after.schema × KeepsRows six_tables.tables db.trees after.trees
+Leaves Ours db after = Ours after.schema × KeepsRows core_tables.tables db.trees after.trees
 
 -- a transaction is under way over all tables, and no call is counted yet
 pub record HasNone (s : State) : Type 0 where
   pub is_open : IsTrue s.is_open
   pub inside : IsTrue s.in_transaction
-  pub schema_is : s.now.schema ≡ seven_tables
+  pub schema_is : s.now.schema ≡ our_tables
   pub sound : IsDatabase s.now
   pub none : s.now.trees calls_tree ≡ []
 

@@ -10,7 +10,7 @@ use Rattle.fax_core.specs.Job.{Job}
 use Rattle.fax_core.specs.Queue.{Queue, grant_numbered, job_numbered, open_grants}
 use Rattle.fax_core.specs.declared.grants.Grant.{Grant}
 use Rattle.fax_tables.specs.Place.{placed}
-use Rattle.fax_tables.specs.Schema.{calls_tree, seven_tables, six_tables}
+use Rattle.fax_tables.specs.Schema.{calls_tree, our_tables, core_tables}
 use Rattle.fax_tables.specs.Tables.{AreCalls, GoesOn}
 use Rattle.fax_store.specs.Store.{HasTables}
 
@@ -70,9 +70,9 @@ with_count dial n count other = if bytes_eq other dial then n else count other
 -- the transaction goes on, the six tables have the rows that they had, and the counts are these
 pub record SetsCalls (old new : State) (count : List ℕ → ℕ) : Type 0 where
   pub goes_on : GoesOn old new
-  pub schema_is : new.now.schema ≡ seven_tables
+  pub schema_is : new.now.schema ≡ our_tables
   pub sound : IsDatabase new.now
-  pub rows : KeepsRows six_tables.tables old.now.trees new.now.trees
+  pub rows : KeepsRows core_tables.tables old.now.trees new.now.trees
   pub calls : AreCalls count (new.now.trees calls_tree)
 
 -- a transaction is under way in an open database over the seven tables, and the counts are these

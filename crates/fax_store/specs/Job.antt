@@ -1,11 +1,13 @@
 -- What is made of the jobs of a queue, and which of them wait.
-use Rattle.std.specs.Prelude.{◌≡◌, ℕ, List, ◌+◌, ◌==◌, ◌&&◌, map, filter, Some, None, if◌then◌else◌}
+use Rattle.std.specs.Prelude.{◌≡◌, ℕ, List, [], ◌+◌, ◌==◌, ◌&&◌, map, filter, Option, Some, None, if◌then◌else◌}
 use Rattle.std.specs.List.Sorted.{IsPermutation, IsSortedBy}
 use Rattle.fax_core.specs.Job.{Job, fields_of}
 use Rattle.fax_core.specs.Ageing.{aged_job, is_past}
 use Rattle.fax_core.specs.Best.{better}
 use Rattle.fax_core.specs.State.{is_due}
+use Rattle.fax_core.specs.Machine.{with_job}
 use Rattle.fax_core.specs.Queue.{Queue, job_numbered}
+use Rattle.fax_job.specs.Pair.{Pair}
 use Rattle.fax_job.specs.Status.{kill_time_expired}
 use Rattle.fax_job.specs.declared.job.JobFields.{JobFields}
 use Rattle.fax_job.specs.declared.job.Phase.{Phase}
@@ -25,11 +27,23 @@ with_one_more_job j m = record m { jobs = placed (λ k. k.number) j m.jobs; next
 abbrev pub IsNewJob : Job → Queue → Type 0
 IsNewJob j m = job_numbered j.number m ≡ None
 
--- what no change of a job touches
+-- what no change of a job may set
 pub record IsSameOrder (j k : Job) : Type 0 where
   pub dial : j.dial ≡ k.dial
   pub totpages : j.totpages ≡ k.totpages
-  pub extra : j.extra ≡ k.extra
+
+-- the extra lines of a job, if there is one
+abbrev pub lines_of : Option Job → List Pair
+lines_of None = []
+lines_of (Some j) = j.extra
+
+-- the job with the extra lines that the one of its number has in the queue
+abbrev pub with_its_lines : Queue → Job → Job
+with_its_lines m j = record j { extra = lines_of (job_numbered j.number m) }
+
+-- the queue with the job changed, whose extra lines stay as they are there
+abbrev pub with_change : Job → Queue → Queue
+with_change j m = with_job (with_its_lines m j) m
 
 -- the job of that number, where there is one, is of the same order
 abbrev pub IsChange : Job → Queue → Type 0

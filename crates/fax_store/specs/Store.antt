@@ -15,7 +15,7 @@ use Rattle.sqlite.specs.declared.error.Error.{Error}
 use Rattle.fax_tables.specs.declared.fault.StoreFault.{StoreFault}
 use Rattle.fax_tables.specs.Fault.{fault_of}
 use Rattle.fax_core.specs.Queue.{Queue, Entry}
-use Rattle.fax_tables.specs.Schema.{seven_tables}
+use Rattle.fax_tables.specs.Schema.{our_tables}
 pub use Rattle.fax_tables.specs.Stop.{MayFind, CommitsNothing}
 use Rattle.fax_tables.specs.Tables.{TablesMean, IsAtRest}
 
@@ -42,7 +42,7 @@ Rests s db = Serves s → HasRows s db
 
 -- the rows of the seven tables stay as they are, whatever they say
 abbrev pub Stays : State → State → Type 0
-Stays old new = (db : Database) → db.schema ≡ seven_tables → Rests old db → Rests new db
+Stays old new = (db : Database) → db.schema ≡ our_tables → Rests old db → Rests new db
 
 -- what is not committed is undone
 abbrev pub GoesBack : State → State → Type 0
@@ -86,11 +86,11 @@ Reads old new result = MatchResult result (λ _. IsUnchanged old new) (λ _. Lea
 
 -- the database has the seven tables
 abbrev pub HasTables : State → Type 0
-HasTables s = s.now.schema ≡ seven_tables
+HasTables s = s.now.schema ≡ our_tables
 
 -- over the seven tables, the text shows rows and writes none
 abbrev pub IsQueryText : List ℕ → Type 0
-IsQueryText sql = IsPlain (understood seven_tables sql)
+IsQueryText sql = IsPlain (understood our_tables sql)
 
 -- a command that changes rows and no table
 abbrev pub IsEdit : Command → Type 0
@@ -106,7 +106,7 @@ EditsRows (Err fault) = ⊥
 
 -- over the seven tables, the text is one
 abbrev pub IsEditText : List ℕ → Type 0
-IsEditText sql = EditsRows (understood seven_tables sql)
+IsEditText sql = EditsRows (understood our_tables sql)
 
 -- one of the rows that a query shows, or none where it shows none
 abbrev pub FindsRow : List ℕ → Row → State → State → Option Row → Type 0

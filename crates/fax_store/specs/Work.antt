@@ -6,7 +6,7 @@ use Rattle.fax_tables.specs.declared.fault.StoreFault.{StoreFault}
 use Rattle.fax_tables.specs.declared.fault.StoreFault.TheVariants.{Unavailable}
 use Rattle.fax_tables.specs.Fault.{OrUnavailable}
 use Rattle.fax_core.specs.Queue.{Queue, Entry}
-use Rattle.fax_tables.specs.Schema.{seven_tables}
+use Rattle.fax_tables.specs.Schema.{our_tables}
 use Rattle.fax_tables.specs.Tables.{TablesMean}
 use Rattle.fax_store.specs.Store.{Serves, Means, Rests, HasTables, CommitsNothing, MayMake}
 
@@ -15,11 +15,11 @@ use Rattle.fax_store.specs.Store.{Serves, Means, Rests, HasTables, CommitsNothin
 -- The work began at these rows, which a drop goes back to. Unless a call of it was refused, it is under way.
 pub record IsOver (s : State) (failed : Bool) (db : Database) : Type 0 where
   pub began : s.committed ≡ db
-  pub goes_on : failed ≡ false → IsTrue s.in_transaction × (s.now.schema ≡ seven_tables)
+  pub goes_on : failed ≡ false → IsTrue s.in_transaction × (s.now.schema ≡ our_tables)
 
 -- a work begins at the rows of the store
 abbrev pub BeginsAt : State → State → Bool → Type 0
-BeginsAt old new failed = (db : Database) → db.schema ≡ seven_tables → Rests old db → Serves new → IsOver new failed db
+BeginsAt old new failed = (db : Database) → db.schema ≡ our_tables → Rests old db → Serves new → IsOver new failed db
 
 -- a call of a work commits nothing
 abbrev pub Holds : State → Bool → State → Bool → Type 0
@@ -35,7 +35,7 @@ Forgets old failed new = (db : Database) → (Serves old → IsOver old failed d
 pub record IsOn (s : State) : Type 0 where
   pub is_open : IsTrue s.is_open
   pub inside : IsTrue s.in_transaction
-  pub schema_is : s.now.schema ≡ seven_tables
+  pub schema_is : s.now.schema ≡ our_tables
 
 -- so it is unless a call of it was refused, as long as the disk is clean
 abbrev pub IsActive : State → Bool → Type 0

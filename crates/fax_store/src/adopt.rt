@@ -6,12 +6,12 @@ ghost use Rattle.sqlite.specs.Held.{state};
 ghost use Rattle.sqlite.specs.State.{HasCleanDisk, IsUnchanged, KeepsCommit};
 ghost use Rattle.fax_core.specs.Job.{Job as OneJob};
 ghost use Rattle.fax_core.specs.Queue.{Queue, Entry, empty_queue, job_numbered};
-ghost use Rattle.fax_store.specs.Adopt.{Adopts, AreAdopted, AreCallable, AreOfJobs, AreSix, AreSmall, AreStores, AreWhole, CanBeCalled, Goes, HasNone, HasSet, HasWhole, HoldJobs, HoldsCanBeCalled, IsAdoptable, IsFilled, IsIn, IsOurs, IsTakeable, IsWhole, Leaves, held_to, versions};
+ghost use Rattle.fax_store.specs.Adopt.{Adopts, AreAdopted, AreCallable, AreOfJobs, AreCore, AreSmall, AreStores, AreWhole, CanBeCalled, Goes, HasNone, HasSet, HasWhole, HoldJobs, HoldsCanBeCalled, IsAdoptable, IsFilled, IsIn, IsOurs, IsTakeable, IsWhole, Leaves, held_to, versions};
 ghost use Rattle.fax_store.specs.Grant.{HasCalls, SetsCalls, with_count};
 ghost use Rattle.fax_store.specs.Store.{CommitsNothing, GoesBack, HasTables, LeavesAlone, MayMake, Means, Reads, RowsFound, Serves};
 ghost use Rattle.fax_store.specs.Work.{Withholds};
 ghost use Rattle.fax_tables.specs.Row.{number};
-ghost use Rattle.fax_tables.specs.Schema.{AreInOrder, AreOurs, no_tables, six_tables};
+ghost use Rattle.fax_tables.specs.Schema.{AreInOrder, AreOurs, no_tables, core_tables};
 ghost use Rattle.fax_tables.specs.Stop.{HoldsBack};
 ghost use Rattle.fax_tables.specs.Tables.{HasNewCalls, IsAtRest, RowsMean, TablesMean};
 
@@ -19,7 +19,7 @@ use crate::store::{BEGIN, COMMIT, Store};
 use fax_job::Dial;
 use fax_tables::{
     StoreFault, create_calls, create_indexes, create_tables, dial_in, drop_calls, drop_indexes,
-    has_bare_tables, has_calls, has_indexes_last, has_no_tables, has_older_six, has_ours,
+    has_bare_tables, has_calls, has_indexes_last, has_no_tables, has_older_core, has_ours,
     held_job_in, is_version,
 };
 use sqlite::{Alter, Connection, Row, params};
@@ -202,12 +202,12 @@ impl<S: Alter> Store<S> {
 
     /// Takes the indexes of jobs away that stores made before, where only `calls` stood behind them.
     fn lose_older(&mut self) -> Result<(), StoreFault>
-        ensures goes { Goes (IsIn AreSix) (Leaves AreStores) (state S.Store self.old.conn) (state S.Store self.new.conn) result }
-        ensures crash { HoldsBack (IsIn AreSix) (state S.Store self.old.conn) (state S.Store self.new.conn) }
+        ensures goes { Goes (IsIn AreCore) (Leaves AreStores) (state S.Store self.old.conn) (state S.Store self.new.conn) result }
+        ensures crash { HoldsBack (IsIn AreCore) (state S.Store self.old.conn) (state S.Store self.new.conn) }
         ensures clean { HasCleanDisk (state S.Store self.new.conn) → HasCleanDisk (state S.Store self.old.conn) }
         ensures cause { IfErr result (λ fault. fault ≡ StoreFault.Unavailable) }
     {
-        if !has_older_six(self.alloc, self.conn.schema())? {
+        if !has_older_core(self.alloc, self.conn.schema())? {
             return Ok(());
         }
         drop_indexes(&mut self.conn)?;
@@ -216,7 +216,7 @@ impl<S: Alter> Store<S> {
 
     /// Takes `calls` away where it is there.
     fn lose_calls(&mut self) -> Result<(), StoreFault>
-        ensures goes { Goes (IsIn AreInOrder) (Leaves AreSix) (state S.Store self.old.conn) (state S.Store self.new.conn) result }
+        ensures goes { Goes (IsIn AreInOrder) (Leaves AreCore) (state S.Store self.old.conn) (state S.Store self.new.conn) result }
         ensures crash { HoldsBack (IsIn AreInOrder) (state S.Store self.old.conn) (state S.Store self.new.conn) }
         ensures clean { HasCleanDisk (state S.Store self.new.conn) → HasCleanDisk (state S.Store self.old.conn) }
         ensures cause { IfErr result (λ fault. fault ≡ StoreFault.Unavailable) }
@@ -230,8 +230,8 @@ impl<S: Alter> Store<S> {
 
     /// Makes the indexes of jobs where a store's aren't there.
     fn get_indexes(&mut self) -> Result<(), StoreFault>
-        ensures goes { Goes (IsIn AreSix) (Leaves (λ schema. schema ≡ six_tables)) (state S.Store self.old.conn) (state S.Store self.new.conn) result }
-        ensures crash { HoldsBack (IsIn AreSix) (state S.Store self.old.conn) (state S.Store self.new.conn) }
+        ensures goes { Goes (IsIn AreCore) (Leaves (λ schema. schema ≡ core_tables)) (state S.Store self.old.conn) (state S.Store self.new.conn) result }
+        ensures crash { HoldsBack (IsIn AreCore) (state S.Store self.old.conn) (state S.Store self.new.conn) }
         ensures clean { HasCleanDisk (state S.Store self.new.conn) → HasCleanDisk (state S.Store self.old.conn) }
         ensures cause { IfErr result (λ fault. fault ≡ StoreFault.Unavailable) }
     {
@@ -241,7 +241,7 @@ impl<S: Alter> Store<S> {
 
     /// Makes the indexes of jobs where there are none.
     fn make_indexes(&mut self) -> Result<(), StoreFault>
-        ensures goes { Goes (IsIn AreStores) (Leaves (λ schema. schema ≡ six_tables)) (state S.Store self.old.conn) (state S.Store self.new.conn) result }
+        ensures goes { Goes (IsIn AreStores) (Leaves (λ schema. schema ≡ core_tables)) (state S.Store self.old.conn) (state S.Store self.new.conn) result }
         ensures crash { HoldsBack (IsIn AreStores) (state S.Store self.old.conn) (state S.Store self.new.conn) }
         ensures clean { HasCleanDisk (state S.Store self.new.conn) → HasCleanDisk (state S.Store self.old.conn) }
         ensures cause { IfErr result (λ fault. fault ≡ StoreFault.Unavailable) }

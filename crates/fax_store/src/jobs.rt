@@ -5,25 +5,30 @@ ghost use Rattle.std.specs.Option.{option_map};
 ghost use Rattle.sqlite.specs.Held.{state};
 ghost use Rattle.sqlite.specs.State.{HasCleanDisk};
 ghost use Rattle.fax_core.specs.Job.{job_of, fields_of};
-ghost use Rattle.fax_core.specs.Machine.{with_job as with_change};
 ghost use Rattle.fax_core.specs.Queue.{Queue, Entry, job_numbered};
-ghost use Rattle.fax_store.specs.Job.{IsChange, IsNewJob, IsWaiting, with_placed, with_one_more_job, with_expired, with_expired_in};
+ghost use Rattle.fax_store.specs.Job.{IsChange, IsNewJob, IsWaiting, with_change, with_placed, with_one_more_job, with_expired, with_expired_in};
+ghost use Rattle.fax_store.specs.Meta.{with_clock};
 ghost use Rattle.fax_store.specs.Store.{CommitsNothing, Serves, Means, MeansNow, HasTables, Reads, Stays};
 ghost use Rattle.fax_store.specs.Work.{Holds, Works, Keeps, Changes, ChangesWhere, AnswersIn, IsOnlyUnavailable, Moves, Steps, Withholds};
 ghost use Rattle.fax_tables.specs.Fault.{OrUnavailable};
 ghost use Rattle.fax_tables.specs.Job.{brief};
+ghost use Rattle.fax_tables.specs.Meta.{meta_of};
 
 use crate::store::Store;
 use crate::work::Work;
 use fax_job::{Job, Moment, Phase};
 use fax_tables::{
-    Meta, PAST_JOBS, StoreFault, briefs_in, job_in, jobs_in, killtime_number, phase_number,
-    spelling, wish_number,
+    Meta, PAST_JOBS, StoreFault, brief_in, briefs_in, job_in, jobs_in, killtime_number,
+    phase_number, spelling, wish_number,
 };
 use sqlite::{Alter, params};
 
 const SELECT_JOB: &str = "SELECT job, dial, modem, jobtag, status, tts, killtime, priority, \
     npages, totpages, ntries, tottries, maxtries, ndials, totdials, maxdials, phase, wish, next, extra \
+    FROM jobs WHERE job = ?1";
+
+const SELECT_BRIEF: &str = "SELECT job, dial, modem, jobtag, status, tts, killtime, priority, \
+    npages, totpages, ntries, tottries, maxtries, ndials, totdials, maxdials, phase, wish, next \
     FROM jobs WHERE job = ?1";
 
 const SELECT_WAITING: &str = "SELECT job, dial, modem, jobtag, status, tts, killtime, priority, \
@@ -82,6 +87,41 @@ impl<S: Alter> Store<S> {
     {
         match self.find(SELECT_JOB, params![job])? {
             Some(row) => Ok(Some(job_in(self.alloc, &row)?)),
+            None => Ok(None),
+        }
+    }
+
+    /// The job of this number without its extra lines, which aren't read.
+    ///
+    /// # Errors
+    ///
+    /// `Unavailable`, or `Strange` where the rest of its row is no part of a lawful record.
+    pub fn brief(&mut self, job: u32) -> Result<Option<Job>, StoreFault>
+        ensures served { Serves (state S.Store self.new.conn) → Serves (state S.Store self.old.conn) }
+        ensures clean { HasCleanDisk (state S.Store self.new.conn) → HasCleanDisk (state S.Store self.old.conn) }
+        ensures opens { OnOk result (HasCleanDisk (state S.Store self.new.conn) → Serves (state S.Store self.new.conn)) }
+        ensures stays { Stays (state S.Store self.old.conn) (state S.Store self.new.conn) }
+        ensures crash { CommitsNothing (state S.Store self.old.conn) (state S.Store self.new.conn) }
+        ensures found { (m : Queue) (k : List Entry) → Means (state S.Store self.old.conn) m k
+            → Serves (state S.Store self.new.conn)
+            → OrUnavailable result (λ found. found ≡ option_map (λ j. brief (fields_of j)) (job_numbered job m)) }
+    {
+        self.read_brief(job)
+    }
+
+    fn read_brief(&mut self, job: u32) -> Result<Option<Job>, StoreFault>
+        ensures served { Serves (state S.Store self.new.conn) → Serves (state S.Store self.old.conn) }
+        ensures clean { HasCleanDisk (state S.Store self.new.conn) → HasCleanDisk (state S.Store self.old.conn) }
+        ensures opens { OnOk result (HasCleanDisk (state S.Store self.new.conn) → Serves (state S.Store self.new.conn)) }
+        ensures reads { HasTables (state S.Store self.old.conn) → HasCleanDisk (state S.Store self.new.conn)
+            → Reads (state S.Store self.old.conn) (state S.Store self.new.conn) result }
+        ensures crash { CommitsNothing (state S.Store self.old.conn) (state S.Store self.new.conn) }
+        ensures answers { (m : Queue) (k : List Entry) → MeansNow (state S.Store self.old.conn) m k
+            → Serves (state S.Store self.new.conn)
+            → OrUnavailable result (λ found. found ≡ option_map (λ j. brief (fields_of j)) (job_numbered job m)) }
+    {
+        match self.find(SELECT_BRIEF, params![job])? {
+            Some(row) => Ok(Some(brief_in(self.alloc, &row)?)),
             None => Ok(None),
         }
     }
@@ -298,13 +338,28 @@ impl<S: Alter> Store<S> {
             (λ m k. IsNewJob (job_of job.now) m × m.next_job < 1000000) }
     {
         let meta = self.read_meta()?;
+        self.add_next_job(job, meta, meta.clock)
+    }
+
+    fn add_next_job(&mut self, job: &Job, meta: Meta, clock: Moment) -> Result<(), StoreFault>
+        ensures served { Serves (state S.Store self.new.conn) → Serves (state S.Store self.old.conn) }
+        ensures clean { HasCleanDisk (state S.Store self.new.conn) → HasCleanDisk (state S.Store self.old.conn) }
+        ensures holds { Holds (state S.Store self.old.conn) false (state S.Store self.new.conn) (is_err result) }
+        ensures crash { Withholds (state S.Store self.old.conn) false (state S.Store self.new.conn) (is_err result) }
+        ensures written { (m₀ m : Queue) (k₀ k : List Entry) → meta ≡ meta_of m
+            → Works (state S.Store self.old.conn) false m₀ k₀ m k → Serves (state S.Store self.new.conn)
+            → Moves (state S.Store self.new.conn) result m₀ k₀ (with_clock clock (with_one_more_job (job_of job.now) m)) k }
+        ensures cause { IsOnlyUnavailable (state S.Store self.old.conn) false (state S.Store self.new.conn) result
+            (λ m k. (meta ≡ meta_of m) × IsNewJob (job_of job.now) m × m.next_job < 1000000) }
+    {
         if meta.next_job >= PAST_JOBS {
             return Err(StoreFault::Strange);
         }
         self.insert_job(job)?;
         self.write_meta(Meta {
+            clock,
             next_job: meta.next_job + 1,
-            ..meta
+            next_grant: meta.next_grant,
         })
     }
 }
@@ -422,10 +477,41 @@ impl<S: Alter> Work<'_, S> {
         done
     }
 
+    /// Adds a job of a number that no job has, makes the next number one greater and sets the clock. `meta` has the
+    /// clock and the next numbers before, which aren't read again.
+    ///
+    /// # Errors
+    ///
+    /// `Unavailable`, or `Strange` where a job has the number or no next number is left.
+    pub fn put_next_job(&mut self, job: &Job, meta: Meta, clock: Moment) -> Result<(), StoreFault>
+        ensures same_reference { self.new.store.ghost_name ≡ self.old.store.ghost_name }
+        ensures holds { Holds (state S.Store self.old.store.now.conn) self.old.failed
+            (state S.Store self.new.store.now.conn) self.new.failed }
+        ensures crash { Withholds (state S.Store self.old.store.now.conn) self.old.failed
+            (state S.Store self.new.store.now.conn) self.new.failed }
+        ensures changes { ChangesWhere (λ m. meta ≡ meta_of m) (state S.Store self.old.store.now.conn) self.old.failed
+            (state S.Store self.new.store.now.conn) self.new.failed
+            (λ m. with_clock clock (with_one_more_job (job_of job.now) m)) (λ k. k) }
+        ensures cause { IsOnlyUnavailable (state S.Store self.old.store.now.conn) self.old.failed
+            (state S.Store self.new.store.now.conn) result
+            (λ m k. (meta ≡ meta_of m) × IsNewJob (job_of job.now) m × m.next_job < 1000000) }
+        ensures served { Serves (state S.Store self.new.store.now.conn) → Serves (state S.Store self.old.store.now.conn) }
+        ensures clean { HasCleanDisk (state S.Store self.new.store.now.conn) → HasCleanDisk (state S.Store self.old.store.now.conn) }
+        ensures fails { self.new.failed ≡ is_err result }
+        ensures refused { IsTrue self.old.failed → result ≡ Err StoreFault.Unavailable }
+    {
+        if self.failed {
+            return Err(StoreFault::Unavailable);
+        }
+        let done = self.store.add_next_job(job, meta, clock);
+        self.failed = done.is_err();
+        done
+    }
+
     /// Sets what a change may set of the job of this number: the modem, the tag, the times, the
     /// priority, the pages sent, the tries and dials with their limits, the status, and where it
-    /// stands. The number to dial, the pages and the extra lines stay as they are there. Where no job
-    /// has the number, nothing changes.
+    /// stands. The number to dial, the pages and the extra lines stay as they are there, so that a job
+    /// without its lines will do. Where no job has the number, nothing changes.
     ///
     /// # Errors
     ///

@@ -11,7 +11,7 @@ ghost use Rattle.fax_store.specs.Store.{CommitsNothing, Serves, Means, MeansNow,
 ghost use Rattle.fax_store.specs.Work.{Holds, Works, Keeps, Changes, AnswersIn, IsOnlyUnavailable, Moves, Withholds};
 ghost use Rattle.fax_tables.specs.Fault.{OrUnavailable};
 ghost use Rattle.fax_tables.specs.Kept.{entry};
-ghost use Rattle.fax_tables.specs.Schema.{seven_tables};
+ghost use Rattle.fax_tables.specs.Schema.{our_tables};
 ghost use Rattle.fax_tables.specs.Tables.{IsKeptStatus};
 
 use crate::store::Store;
@@ -41,7 +41,7 @@ impl<S: Alter> Store<S> {
         ensures found { (m : Queue) (k : List Entry) → Means (state S.Store self.old.conn) m k
             → Serves (state S.Store self.new.conn) → OrUnavailable result (IsKeptFor k client.now number) }
         // Whatever the rows say, where none is found there is none.
-        ensures unkept { (db : Database) → db.schema ≡ seven_tables → Rests (state S.Store self.old.conn) db
+        ensures unkept { (db : Database) → db.schema ≡ our_tables → Rests (state S.Store self.old.conn) db
             → Serves (state S.Store self.new.conn) → IfOk result (MissesNone db client.now number) }
         ensures lawful { IfOk result (λ found. IfSome found (λ kept. IsKeptStatus kept.status)) }
     {
@@ -61,7 +61,7 @@ impl<S: Alter> Store<S> {
         ensures crash { CommitsNothing (state S.Store self.old.conn) (state S.Store self.new.conn) }
         ensures answers { (m : Queue) (k : List Entry) → MeansNow (state S.Store self.old.conn) m k
             → Serves (state S.Store self.new.conn) → OrUnavailable result (IsKeptFor k client.now number) }
-        ensures unkept { (db : Database) → db.schema ≡ seven_tables → (state S.Store self.old.conn).now ≡ db
+        ensures unkept { (db : Database) → db.schema ≡ our_tables → (state S.Store self.old.conn).now ≡ db
             → HasCleanDisk (state S.Store self.new.conn) → IfOk result (MissesNone db client.now number) }
         ensures lawful { IfOk result (λ found. IfSome found (λ kept. IsKeptStatus kept.status)) }
     {

@@ -1,7 +1,10 @@
-//! Works that come to nothing.
-use fax_job::{Moment, RequestNumber};
+//! Works that come to nothing, and one that adds a job without knowing the next number.
+use fax_job::{
+    Dial, Job, JobFields, JobTag, Moment, Name, Phase, RequestNumber, Status, Wish, read_lines,
+};
 use fax_store::{Store, StoreFault};
 use sqlite::Alter;
+use std::alloc::Global;
 use std::test::Fail;
 
 /// The clock of the store, and whether it keeps a reply to that number of that client.
@@ -58,5 +61,54 @@ fn refused_call_refuses_the_commit(rt: HostRuntime) -> Result<(), Fail> {
         found,
         (Err(StoreFault::Unavailable), Moment::new(0), false)
     );
+    Ok(())
+}
+
+/// A first job, that waits.
+fn first_job(alloc: Global) -> Result<Option<Job>, Fail> {
+    Ok(Job::new(JobFields {
+        job: 1,
+        dial: Dial::read(alloc, "5550111")?,
+        modem: Name::read(alloc, "any")?,
+        jobtag: JobTag::read(alloc, "")?,
+        tts: Moment::new(1000),
+        killtime: None,
+        priority: 127,
+        npages: 0,
+        totpages: 1,
+        ntries: 0,
+        tottries: 0,
+        maxtries: 3,
+        ndials: 0,
+        totdials: 0,
+        maxdials: 12,
+        phase: Phase::Waiting,
+        wish: Wish::Go,
+        next: 0,
+        status: Status::empty(),
+        extra: read_lines(alloc, b"")?,
+    }))
+}
+
+/// Adds a job, and commits.
+fn add<S: Alter>(store: &mut Store<S>, job: &Job) -> Result<(), StoreFault> {
+    let mut work = store.begin()?;
+    work.put_job(job)?;
+    work.commit()
+}
+
+/// Whether a job that was added is there, and the number of the next.
+fn behind_added<S: Alter + Drop>(alloc: Global, mut store: Store<S>) -> Result<(bool, u32), Fail> {
+    let job = first_job(alloc)?.ok_or("a job")?;
+    add(&mut store, &job)?;
+    let found = store.job(1)?;
+    let meta = store.meta()?;
+    Ok((found.is_some(), meta.next_job))
+}
+
+#[test]
+fn added_job_is_there(rt: HostRuntime) -> Result<(), Fail> {
+    let found = behind_added(rt.alloc(), Store::new_in_memory(rt.alloc())?)?;
+    assert_eq!(rt; found, (true, 2));
     Ok(())
 }

@@ -31,7 +31,7 @@ use Rattle.fax_core.specs.Queue.{empty_queue}
 use Rattle.fax_core.specs.State.{calls_to}
 use Rattle.sqlite_rules.specs.Lists.{Has}
 use Rattle.fax_tables.specs.Schema as schema
-use Rattle.fax_tables.specs.Schema.{no_tables, bare_tables, six_tables, seven_tables, calls_tree, meta_tree}
+use Rattle.fax_tables.specs.Schema.{no_tables, bare_tables, core_tables, our_tables, calls_tree, meta_tree}
 use Rattle.fax_tables.specs.Row.{meta_row}
 use Rattle.fax_tables.specs.Tables.{GoesOn, HasEmptyTables, AreCounted, HasNewCalls, IsByRowid, IsIndexed, TablesMean}
 use Rattle.fax_tables.proofs.CreateTexts.{LosesIndex, Makes, MakesIndexOf, TakesAway}
@@ -178,25 +178,25 @@ kept_rows [] a b c first next = tt
 kept_rows (t ∷ ts) a b c first next = (next.0 ∙ first.0, kept_rows ts a b c first.1 next.1)
 
 -- and with `calls`
-pub beside_empty : (old new : State) → HasEmptyTables six_tables old → GoesOn old new → HasNewCalls old.now new.now → HasEmptyTables seven_tables new
+pub beside_empty : (old new : State) → HasEmptyTables core_tables old → GoesOn old new → HasNewCalls old.now new.now → HasEmptyTables our_tables new
 beside_empty old new was on is = record {
   inside = on.mode;
   schema_is = is.schema_is;
-  empty = one_more six_tables.tables new.now.trees schema.calls is.none (still_empty six_tables.tables old.now.trees new.now.trees is.rows was.empty);
+  empty = one_more core_tables.tables new.now.trees schema.calls is.none (still_empty core_tables.tables old.now.trees new.now.trees is.rows was.empty);
 }
 
 -- tables with no rows have none with the indexes
-pub indexed_empty : (old new : State) → HasEmptyTables bare_tables old → GoesOn old new → IsIndexed old.now new.now → HasEmptyTables six_tables new
-indexed_empty old new was on is = record { inside = on.mode; schema_is = is.schema_is; empty = still_empty six_tables.tables old.now.trees new.now.trees is.rows was.empty }
+pub indexed_empty : (old new : State) → HasEmptyTables bare_tables old → GoesOn old new → IsIndexed old.now new.now → HasEmptyTables core_tables new
+indexed_empty old new was on is = record { inside = on.mode; schema_is = is.schema_is; empty = still_empty core_tables.tables old.now.trees new.now.trees is.rows was.empty }
 
 stored_meta : cast_row schema.meta (meta_row empty_queue) ≡ meta_row empty_queue
 stored_meta = same_row (cast_int (pos 1)) (same_row cast_null (same_row (cast_int (pos 0)) (same_row (cast_int (pos 1)) (same_row (cast_int (pos 1)) (same_row (cast_int (pos 1)) refl)))))
 
 -- the one row of meta makes the empty store of empty tables
-pub filled : (old new : State) (count : ℕ) → Executes INSERT_META.now [] old new (Ok count) → HasEmptyTables seven_tables old → GoesOn old new × TablesMean new.now empty_queue []
+pub filled : (old new : State) (count : ℕ) → Executes INSERT_META.now [] old new (Ok count) → HasEmptyTables our_tables old → GoesOn old new × TablesMean new.now empty_queue []
 filled old new count h was =
-    let ran = runs_as INSERT_META.now [] old new seven_tables was.schema_is _ insert_meta.is insert_meta.plain count h in
-    let done = inserts seven_tables unreferred schema.meta.name 10 schema.meta.columns schema.meta.key schema.meta.primary schema.meta.uniques schema.meta.orders schema.meta.checks 5 refl old new was.schema_is [] _ count
+    let ran = runs_as INSERT_META.now [] old new our_tables was.schema_is _ insert_meta.is insert_meta.plain count h in
+    let done = inserts our_tables unreferred schema.meta.name 10 schema.meta.columns schema.meta.key schema.meta.primary schema.meta.uniques schema.meta.orders schema.meta.checks 5 refl old new was.schema_is [] _ count
     _ 6 (meta_row empty_queue) (meta_row empty_queue) refl (ap (with_rowid Chosen (old.now.trees meta_tree)) stored_meta) ran in
     let others = done.keeps.others in
     let jobs = others.0 (λ e. absurd (omega arith)) ∙ was.empty.0 in

@@ -14,7 +14,7 @@ use Rattle.sqlite_catalog.specs.Change.{created, indexed, without_table, without
 use Rattle.sqlite_tied.specs.Compute.{everything}
 use Rattle.fax_tables.specs.declared.schema.TheConstants.{CREATE_JOBS, CREATE_GRANTS, CREATE_HOLDS, CREATE_DOWN, CREATE_REPLIES, CREATE_META, CREATE_KILLTIME_INDEX, CREATE_CHOICE_INDEX, CREATE_CALLS, DROP_CALLS, DROP_CHOICE_INDEX, DROP_KILLTIME_INDEX, INSERT_META}
 use Rattle.fax_tables.proofs.StatementForms.{Commands}
-use Rattle.fax_tables.specs.Schema.{no_tables, with_jobs, with_grants, with_holds, four_tables, with_replies, bare_tables, with_killtime_index, six_tables, seven_tables, bare_with_calls, older_six_tables, older_tables, older_vacuumed_tables, vacuumed_tables, vacuumed_with_killtime, jobs, grants, holds, down, replies, meta, calls, killtime_index, choice_index}
+use Rattle.fax_tables.specs.Schema.{no_tables, with_jobs, with_grants, with_holds, with_down, with_replies, bare_tables, with_killtime_index, core_tables, our_tables, bare_with_calls, older_core_tables, older_tables, older_vacuumed_tables, vacuumed_tables, vacuumed_with_killtime, jobs, grants, holds, down, replies, meta, calls, killtime_index, choice_index}
 
 -- the text makes this table in any database with this schema
 pub record Makes (schema : Schema) (sql : List ℕ) (table : Table) : Type 0 where
@@ -51,15 +51,15 @@ pub makes_down : Makes with_holds CREATE_DOWN.now down
 unfolding understood everything
 makes_down = record { command = refl; statement = refl; defined = refl; plain = (refl, refl) }
 
-pub created_down : created with_holds down ≡ four_tables
+pub created_down : created with_holds down ≡ with_down
 unfolding everything
 created_down = refl
 
-pub makes_replies : Makes four_tables CREATE_REPLIES.now replies
+pub makes_replies : Makes with_down CREATE_REPLIES.now replies
 unfolding understood everything
 makes_replies = record { command = refl; statement = refl; defined = refl; plain = (refl, refl) }
 
-pub created_replies : created four_tables replies ≡ with_replies
+pub created_replies : created with_down replies ≡ with_replies
 unfolding everything
 created_replies = refl
 
@@ -90,15 +90,15 @@ pub makes_choice_index : MakesIndexOf with_killtime_index CREATE_CHOICE_INDEX.no
 unfolding understood everything
 makes_choice_index = record { command = refl; statement = refl; defined = refl; plain = (refl, refl) }
 
-pub indexed_choice : indexed with_killtime_index jobs choice_index ≡ six_tables
+pub indexed_choice : indexed with_killtime_index jobs choice_index ≡ core_tables
 unfolding everything
 indexed_choice = refl
 
-pub makes_calls : Makes six_tables CREATE_CALLS.now calls
+pub makes_calls : Makes core_tables CREATE_CALLS.now calls
 unfolding understood everything
 makes_calls = record { command = refl; statement = refl; defined = refl; plain = (refl, refl) }
 
-pub created_calls : created six_tables calls ≡ seven_tables
+pub created_calls : created core_tables calls ≡ our_tables
 unfolding everything
 created_calls = refl
 
@@ -107,7 +107,7 @@ pub record TakesAway (schema : Schema) (sql : List ℕ) : Type 0 where
   pub command : command_of (understood schema sql) ≡ DropTable 6
   pub plain : IsPlain (understood schema sql)
 
-pub drops_calls : TakesAway seven_tables DROP_CALLS.now
+pub drops_calls : TakesAway our_tables DROP_CALLS.now
 unfolding understood everything
 drops_calls = record { command = refl; plain = (refl, refl) }
 
@@ -119,11 +119,11 @@ pub drops_older_calls : TakesAway older_tables DROP_CALLS.now
 unfolding understood everything
 drops_older_calls = record { command = refl; plain = (refl, refl) }
 
-pub left_older_six : without_table older_tables 13 ≡ older_six_tables
+pub left_older_six : without_table older_tables 13 ≡ older_core_tables
 unfolding everything
 left_older_six = refl
 
-pub left_six : without_table seven_tables 13 ≡ six_tables
+pub left_six : without_table our_tables 13 ≡ core_tables
 unfolding everything
 left_six = refl
 
@@ -160,11 +160,11 @@ pub left_older_killtime : without_index older_vacuumed_tables 14 ≡ vacuumed_wi
 unfolding everything
 left_older_killtime = refl
 
-pub drops_last_choice : LosesIndex older_six_tables DROP_CHOICE_INDEX.now 6
+pub drops_last_choice : LosesIndex older_core_tables DROP_CHOICE_INDEX.now 6
 unfolding understood everything
 drops_last_choice = record { command = refl; plain = (refl, refl) }
 
-pub left_last_killtime : without_index older_six_tables 12 ≡ with_killtime_index
+pub left_last_killtime : without_index older_core_tables 12 ≡ with_killtime_index
 unfolding everything
 left_last_killtime = refl
 

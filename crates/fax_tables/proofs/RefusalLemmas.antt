@@ -35,13 +35,13 @@ use Rattle.sqlite_trees.specs.declared.error.StoreError.TheVariants.{OutOfMemory
 use Rattle.sqlite_trees.proofs.ListLemmas.{all_of}
 use Rattle.sqlite_value.specs.declared.keys.Order.{Order}
 use Rattle.fax_tables.specs.Fault.{fault_of}
-use Rattle.fax_tables.specs.Schema.{table_of, seven_tables}
+use Rattle.fax_tables.specs.Schema.{table_of, our_tables}
 use Rattle.fax_tables.specs.declared.fault.StoreFault.TheVariants.{Unavailable}
 use Rattle.fax_tables.proofs.StatementForms.{Commands}
 use Rattle.fax_tables.proofs.WriteLemmas.{unreferred}
 
 -- no row refers to another
-pub unasked : (among : Among) (trees : Trees) → Refers among seven_tables trees
+pub unasked : (among : Among) (trees : Trees) → Refers among our_tables trees
 unasked among trees = (all_of _ (λ r. refl) (trees 0), (all_of _ (λ r. refl) (trees 1), (all_of _ (λ r. refl) (trees 2), (all_of _ (λ r. refl) (trees 6), (all_of _ (λ r. refl) (trees 8), (all_of _ (λ r. refl) (trees 10), (all_of _ (λ r. refl) (trees 13), tt)))))))
 
 -- the row may stand in the table: each column has a value of its type, and no key of it is taken
@@ -137,34 +137,34 @@ module _ (sql : List ℕ) (params : Row) (old new : State) (schema : Schema) (ha
 
 -- ---- one row
 
-module _ (name : List ℕ) (tree : ℕ) (columns : List Column) (key : Option ℕ) (primary : List ℕ) (uniques : List (List ℕ)) (orders : List Order) (checks : List Term) (at : ℕ) (found : slice_get seven_tables.tables at ≡ Some (table_of name tree columns key primary uniques orders checks)) (old : State)
-    (has : old.now.schema ≡ seven_tables) (params : Row) (terms : List Term) (width : ℕ) (source row : Row) (is_source : value_rows params width (length terms / width) terms ≡ source ∷ [])
+module _ (name : List ℕ) (tree : ℕ) (columns : List Column) (key : Option ℕ) (primary : List ℕ) (uniques : List (List ℕ)) (orders : List Order) (checks : List Term) (at : ℕ) (found : slice_get our_tables.tables at ≡ Some (table_of name tree columns key primary uniques orders checks)) (old : State)
+    (has : old.now.schema ≡ our_tables) (params : Row) (terms : List Term) (width : ℕ) (source row : Row) (is_source : value_rows params width (length terms / width) terms ≡ source ∷ [])
     (is_row : with_rowid Chosen (old.now.trees tree) (cast_row (table_of name tree columns key primary uniques orders checks) source) ≡ row)
-    (may : MayStand seven_tables old.now.trees (table_of name tree columns key primary uniques orders checks) row) where
+    (may : MayStand our_tables old.now.trees (table_of name tree columns key primary uniques orders checks) row) where
   abbrev table : Table
   table = table_of name tree columns key primary uniques orders checks
 
   abbrev task : Task
-  task = record { limit = old.step_limit; keys = Enforced; schema = seven_tables; table = table; params = params }
+  task = record { limit = old.step_limit; keys = Enforced; schema = our_tables; table = table; params = params }
 
   abbrev command : Command
   command = Insert at (Values terms width)
 
-  sourced : (stop : Option Error) → Sourced old.step_limit (record { schema = seven_tables; trees = old.now.trees }) (params ++ []) (Values terms width) (Err stop) → IsExcused stop
+  sourced : (stop : Option Error) → Sourced old.step_limit (record { schema = our_tables; trees = old.now.trees }) (params ++ []) (Values terms width) (Err stop) → IsExcused stop
   sourced None h = absurd h
   sourced (Some e) (inl h) = ap fault_of h.0
   sourced (Some e) (inr h) = ap fault_of h.0
 
-  edited : (rows : List Row) → rows ≡ source ∷ [] → (stop : Option Error) (why : Option Refusal) → Writes seven_tables Enforced old.now.trees (edit_of old.now.trees table [] Chosen 0 rows) (Err why)
+  edited : (rows : List Row) → rows ≡ source ∷ [] → (stop : Option Error) (why : Option Refusal) → Writes our_tables Enforced old.now.trees (edit_of old.now.trees table [] Chosen 0 rows) (Err why)
       → stop ≡ option_map edit_error why → IsExcused stop
   edited rows is stop why h named =
       let edit = edit_of old.now.trees table [] Chosen 0 rows in
       let news : edit.news ≡ row ∷ [] = ap (λ all. (edit_of old.now.trees table [] Chosen 0 all).news) is ∙ ap (λ r. r ∷ []) is_row in
-      elim (stopped seven_tables old.now.trees edit (unreferred tree (taken_by old.now.trees edit) edit.news) why h) [
+      elim (stopped our_tables old.now.trees edit (unreferred tree (taken_by old.now.trees edit) edit.news) why h) [
         | inl none ↦ subst IsExcused (sym (named ∙ ap (option_map edit_error) none)) tt
         | inr refused ↦
             subst IsExcused (sym (named ∙ ap (option_map edit_error) refused.1))
-            (unbroken seven_tables old.now.trees table row may refused.0 (subst (λ n. IsRefused seven_tables Enforced old.now.trees (record { table = table; gone = []; news = n }) refused.0) news refused.2))
+            (unbroken our_tables old.now.trees table row may refused.0 (subst (λ n. IsRefused our_tables Enforced old.now.trees (record { table = table; gone = []; news = n }) refused.0) news refused.2))
       ]
 
   inserting : (stop : Option Error) → Inserts task (Values terms width) old.now.trees (Err stop) → IsExcused stop
@@ -196,4 +196,4 @@ module _ (name : List ℕ) (tree : ℕ) (columns : List Column) (key : Option �
 
   -- the text that puts the row in is refused for want of an answer alone
   pub no_rule_broken : (sql : List ℕ) → Commands sql command → (new : State) (e : Error) → Executes sql params old new (Err e) → fault_of e ≡ Unavailable
-  no_rule_broken sql text new e h = elim (refused_as sql params old new seven_tables has command text.is text.plain e h) [ inl other ↦ other | inr refused ↦ does (statement_of sql (understood seven_tables sql)) e refused ]
+  no_rule_broken sql text new e h = elim (refused_as sql params old new our_tables has command text.is text.plain e h) [ inl other ↦ other | inr refused ↦ does (statement_of sql (understood our_tables sql)) e refused ]

@@ -10,7 +10,7 @@ use Rattle.sqlite.specs.Command.TheVariants.{Select}
 use Rattle.sqlite.specs.Listing.{understood, reads_listing}
 use Rattle.sqlite.proofs.Callers.{IsPlain, command_of}
 use Rattle.sqlite_value.specs.declared.keys.Key.{Key}
-use Rattle.fax_tables.specs.Schema.{seven_tables}
+use Rattle.fax_tables.specs.Schema.{our_tables}
 use Rattle.fax_tables.proofs.SelectLemmas.{rows_by, rows_where}
 
 abbrev pub equals : Term → Term → Term
@@ -18,9 +18,9 @@ equals = op2 (Compare Eq Binary)
 
 -- the text is this query
 pub record SelectsAll (sql : List ℕ) (query : Query) (names : List (List ℕ)) : Type 0 where
-  pub command : command_of (understood seven_tables sql) ≡ Select (record { lets = []; body = query }) names
-  pub plain : IsPlain (understood seven_tables sql)
-  pub unlisted : reads_listing seven_tables sql ≡ false
+  pub command : command_of (understood our_tables sql) ≡ Select (record { lets = []; body = query }) names
+  pub plain : IsPlain (understood our_tables sql)
+  pub unlisted : reads_listing our_tables sql ≡ false
 
 -- it is of one table
 abbrev pub Selects : List ℕ → ℕ → List Term → List Term → List (List ℕ) → Type 0
@@ -32,5 +32,5 @@ SelectsBy sql tree tests project order = SelectsAll sql (rows_by tree tests proj
 
 -- the text is this command, which shows no rows
 pub record Commands (sql : List ℕ) (command : Command) : Type 0 where
-  pub is : command_of (understood seven_tables sql) ≡ command
-  pub plain : IsPlain (understood seven_tables sql)
+  pub is : command_of (understood our_tables sql) ≡ command
+  pub plain : IsPlain (understood our_tables sql)

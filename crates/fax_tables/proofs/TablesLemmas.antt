@@ -22,7 +22,7 @@ use Rattle.fax_core.specs.Queue.{Queue, Entry, open_grants}
 use Rattle.fax_core.specs.State.{calls_to}
 use Rattle.fax_core.specs.declared.grants.Grant.{Grant}
 use Rattle.fax_job.specs.Name.{IsName}
-use Rattle.fax_tables.specs.Schema.{six_tables, seven_tables, calls_tree, down_tree, grants_tree, holds_tree, jobs_tree, meta_tree, replies_tree}
+use Rattle.fax_tables.specs.Schema.{core_tables, our_tables, calls_tree, down_tree, grants_tree, holds_tree, jobs_tree, meta_tree, replies_tree}
 use Rattle.fax_tables.specs.Job.{IsLawfulJob}
 use Rattle.fax_tables.specs.Row.{job_row, grant_row, hold_columns, down_columns, entry_columns, call_columns, meta_row}
 use Rattle.fax_tables.specs.Tables.{TablesMean, AreCalls, AreCounted, HaveJobs, IsLawfulGrant, IsLawfulMeta, IsLawfulEntry, IsByRowid}
@@ -74,7 +74,7 @@ one_more columns Lawful x xs rows after is lawful was = record {
 
 -- What `TablesMean` says, table by table. The open grants and the counts of calls stand for themselves, for the time between two statements.
 pub record Parts (db : Database) (m : Queue) (held : List Grant) (count : List ℕ → ℕ) (k : List Entry) : Type 0 where
-  pub schema : db.schema ≡ seven_tables
+  pub schema : db.schema ≡ our_tables
   pub sound : IsDatabase db
   pub jobs : AreRecords row_of IsLawfulJob (db.trees jobs_tree) m.jobs
   pub grants : AreRecords grant_row IsLawfulGrant (db.trees grants_tree) m.grants
@@ -159,7 +159,7 @@ lawful_as m after clock next_job next_grant lawful = record {
 
 -- one table changed, and what its rows mean now is known
 module _ (old new : State) (m : Queue) (held : List Grant) (count : List ℕ → ℕ) (k : List Entry) (was : Parts old.now m held count k) where
-  pub jobs_changed : KeepsOthers seven_tables jobs_tree old new → (jobs : List Job) → AreRecords row_of IsLawfulJob (new.now.trees jobs_tree) jobs → Parts new.now (record m { jobs = jobs }) held count k
+  pub jobs_changed : KeepsOthers our_tables jobs_tree old new → (jobs : List Job) → AreRecords row_of IsLawfulJob (new.now.trees jobs_tree) jobs → Parts new.now (record m { jobs = jobs }) held count k
   jobs_changed keeps jobs now = let same = keeps.others in record {
     schema = keeps.schema_is;
     sound = keeps.sound;
@@ -173,7 +173,7 @@ module _ (old new : State) (m : Queue) (held : List Grant) (count : List ℕ →
     lawful = lawful_as m (record m { jobs = jobs }) refl refl refl was.lawful;
   }
 
-  pub grants_changed : KeepsOthers seven_tables grants_tree old new → (grants : List Grant) → AreRecords grant_row IsLawfulGrant (new.now.trees grants_tree) grants → Parts new.now (record m { grants = grants }) held count k
+  pub grants_changed : KeepsOthers our_tables grants_tree old new → (grants : List Grant) → AreRecords grant_row IsLawfulGrant (new.now.trees grants_tree) grants → Parts new.now (record m { grants = grants }) held count k
   grants_changed keeps grants now = let same = keeps.others in record {
     schema = keeps.schema_is;
     sound = keeps.sound;
@@ -187,7 +187,7 @@ module _ (old new : State) (m : Queue) (held : List Grant) (count : List ℕ →
     lawful = lawful_as m (record m { grants = grants }) refl refl refl was.lawful;
   }
 
-  pub holds_changed : KeepsOthers seven_tables holds_tree old new → (now_held : List Grant) → AreHeld (new.now.trees holds_tree) now_held → Parts new.now m now_held count k
+  pub holds_changed : KeepsOthers our_tables holds_tree old new → (now_held : List Grant) → AreHeld (new.now.trees holds_tree) now_held → Parts new.now m now_held count k
   holds_changed keeps now_held now = let same = keeps.others in record {
     schema = keeps.schema_is;
     sound = keeps.sound;
@@ -201,7 +201,7 @@ module _ (old new : State) (m : Queue) (held : List Grant) (count : List ℕ →
     lawful = was.lawful;
   }
 
-  pub down_changed : KeepsOthers seven_tables down_tree old new → (down : List (List ℕ)) → AreColumns down_columns IsName (new.now.trees down_tree) down → Parts new.now (record m { down = down }) held count k
+  pub down_changed : KeepsOthers our_tables down_tree old new → (down : List (List ℕ)) → AreColumns down_columns IsName (new.now.trees down_tree) down → Parts new.now (record m { down = down }) held count k
   down_changed keeps down now = let same = keeps.others in record {
     schema = keeps.schema_is;
     sound = keeps.sound;
@@ -215,7 +215,7 @@ module _ (old new : State) (m : Queue) (held : List Grant) (count : List ℕ →
     lawful = lawful_as m (record m { down = down }) refl refl refl was.lawful;
   }
 
-  pub replies_changed : KeepsOthers seven_tables replies_tree old new → (kept : List Entry) → AreColumns entry_columns IsLawfulEntry (new.now.trees replies_tree) kept → Parts new.now m held count kept
+  pub replies_changed : KeepsOthers our_tables replies_tree old new → (kept : List Entry) → AreColumns entry_columns IsLawfulEntry (new.now.trees replies_tree) kept → Parts new.now m held count kept
   replies_changed keeps kept now = let same = keeps.others in record {
     schema = keeps.schema_is;
     sound = keeps.sound;
@@ -229,7 +229,7 @@ module _ (old new : State) (m : Queue) (held : List Grant) (count : List ℕ →
     lawful = was.lawful;
   }
 
-  pub meta_changed : KeepsOthers seven_tables meta_tree old new → (clock next_job next_grant : ℕ) → new.now.trees meta_tree ≡ meta_row (record m { clock = clock; next_job = next_job; next_grant = next_grant }) ∷ []
+  pub meta_changed : KeepsOthers our_tables meta_tree old new → (clock next_job next_grant : ℕ) → new.now.trees meta_tree ≡ meta_row (record m { clock = clock; next_job = next_job; next_grant = next_grant }) ∷ []
       → IsLawfulMeta (record m { clock = clock; next_job = next_job; next_grant = next_grant }) → Parts new.now (record m { clock = clock; next_job = next_job; next_grant = next_grant }) held count k
   meta_changed keeps clock next_job next_grant now lawful = let same = keeps.others in record {
     schema = keeps.schema_is;
@@ -244,7 +244,7 @@ module _ (old new : State) (m : Queue) (held : List Grant) (count : List ℕ →
     lawful = lawful;
   }
 
-  pub calls_changed : new.now.schema ≡ seven_tables → IsDatabase new.now → KeepsRows six_tables.tables old.now.trees new.now.trees → (counted : List ℕ → ℕ) → AreCalls counted (new.now.trees calls_tree) → Parts new.now m held counted k
+  pub calls_changed : new.now.schema ≡ our_tables → IsDatabase new.now → KeepsRows core_tables.tables old.now.trees new.now.trees → (counted : List ℕ → ℕ) → AreCalls counted (new.now.trees calls_tree) → Parts new.now m held counted k
   calls_changed schema_is sound rows counted now = record {
     schema = schema_is;
     sound = sound;
@@ -259,7 +259,7 @@ module _ (old new : State) (m : Queue) (held : List Grant) (count : List ℕ →
   }
 
 -- what rows mean, they mean in another database that has them in the six tables, and the calls
-pub rows_mean : (full db : Database) (m : Queue) (k : List Entry) → db.schema ≡ seven_tables → IsDatabase db → KeepsRows six_tables.tables full.trees db.trees → AreCalls (calls_of m) (db.trees calls_tree) → TablesMean full m k → TablesMean db m k
+pub rows_mean : (full db : Database) (m : Queue) (k : List Entry) → db.schema ≡ our_tables → IsDatabase db → KeepsRows core_tables.tables full.trees db.trees → AreCalls (calls_of m) (db.trees calls_tree) → TablesMean full m k → TablesMean db m k
 rows_mean full db m k schema sound rows calls means =
     let jobs = rows.0 in
     let grants = rows.1.0 in

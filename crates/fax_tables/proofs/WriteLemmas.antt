@@ -23,10 +23,10 @@ use Rattle.sqlite_rules.specs.Action.{works}
 use Rattle.sqlite_rules.specs.Calls.{ids_of}
 use Rattle.sqlite_rules.proofs.PlaceLemmas.{given}
 use Rattle.sqlite.proofs.Callers.{one_step}
-use Rattle.fax_tables.specs.Schema.{table_of, seven_tables}
+use Rattle.fax_tables.specs.Schema.{table_of, our_tables}
 
 -- no table refers to another
-pub unreferred : (tree : ℕ) (olds news : List Row) → works seven_tables Enforced 0 tree olds news ≡ []
+pub unreferred : (tree : ℕ) (olds news : List Row) → works our_tables Enforced 0 tree olds news ≡ []
 unreferred tree olds news = refl
 
 -- a part that gave a value did not stop on the way

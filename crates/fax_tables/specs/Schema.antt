@@ -164,8 +164,8 @@ with_grants = record { tables = jobs ∷ grants ∷ []; indexes = []; views = []
 abbrev pub with_holds : Schema
 with_holds = record { tables = jobs ∷ grants ∷ holds ∷ []; indexes = holds_indexes; views = [] }
 
-abbrev pub four_tables : Schema
-four_tables = record { tables = jobs ∷ grants ∷ holds ∷ down ∷ []; indexes = holds_indexes ++ down_index ∷ []; views = [] }
+abbrev pub with_down : Schema
+with_down = record { tables = jobs ∷ grants ∷ holds ∷ down ∷ []; indexes = holds_indexes ++ down_index ∷ []; views = [] }
 
 abbrev pub with_replies : Schema
 with_replies = record { tables = jobs ∷ grants ∷ holds ∷ down ∷ replies ∷ []; indexes = holds_indexes ++ down_index ∷ replies_index ∷ []; views = [] }
@@ -182,12 +182,12 @@ abbrev pub with_killtime_index : Schema
 with_killtime_index = record bare_tables { indexes = holds_indexes ++ down_index ∷ replies_index ∷ killtime_index ∷ [] }
 
 -- The six tables with the indexes by which jobs are found.
-abbrev pub six_tables : Schema
-six_tables = record bare_tables { indexes = holds_indexes ++ down_index ∷ replies_index ∷ killtime_index ∷ choice_index ∷ [] }
+abbrev pub core_tables : Schema
+core_tables = record bare_tables { indexes = holds_indexes ++ down_index ∷ replies_index ∷ killtime_index ∷ choice_index ∷ [] }
 
 -- All seven tables with all indexes: those of a store.
-abbrev pub seven_tables : Schema
-seven_tables = record {
+abbrev pub our_tables : Schema
+our_tables = record {
   tables = jobs ∷ grants ∷ holds ∷ down ∷ replies ∷ meta ∷ calls ∷ [];
   indexes = holds_indexes ++ down_index ∷ replies_index ∷ killtime_index ∷ choice_index ∷ calls_index ∷ [];
   views = [];
@@ -212,12 +212,12 @@ vacuumed_with_killtime = record bare_with_calls { indexes = holds_indexes ++ dow
 -- ---- as stores made them before
 
 -- the six tables
-abbrev pub older_six_tables : Schema
-older_six_tables = record bare_tables { indexes = holds_indexes ++ down_index ∷ replies_index ∷ killtime_index ∷ older_choice_index_at 12 ∷ [] }
+abbrev pub older_core_tables : Schema
+older_core_tables = record bare_tables { indexes = holds_indexes ++ down_index ∷ replies_index ∷ killtime_index ∷ older_choice_index_at 12 ∷ [] }
 
 -- all seven
 abbrev pub older_tables : Schema
-older_tables = record seven_tables { indexes = holds_indexes ++ down_index ∷ replies_index ∷ killtime_index ∷ older_choice_index_at 12 ∷ calls_index ∷ [] }
+older_tables = record our_tables { indexes = holds_indexes ++ down_index ∷ replies_index ∷ killtime_index ∷ older_choice_index_at 12 ∷ calls_index ∷ [] }
 
 -- all seven, as VACUUM leaves them
 abbrev pub older_vacuumed_tables : Schema
@@ -227,15 +227,15 @@ older_vacuumed_tables = record bare_with_calls { indexes = holds_indexes ++ down
 
 -- with `calls`: behind the indexes of jobs, or without these
 abbrev pub HaveCalls : Schema → Type 0
-HaveCalls schema = (schema ≡ seven_tables) ⊎ ((schema ≡ bare_with_calls) ⊎ (schema ≡ older_tables))
+HaveCalls schema = (schema ≡ our_tables) ⊎ ((schema ≡ bare_with_calls) ⊎ (schema ≡ older_tables))
 
 -- in the order of a store: with `calls` or without, with the indexes of jobs or without
 abbrev pub AreInOrder : Schema → Type 0
-AreInOrder schema = HaveCalls schema ⊎ ((schema ≡ six_tables) ⊎ (schema ≡ bare_tables))
+AreInOrder schema = HaveCalls schema ⊎ ((schema ≡ core_tables) ⊎ (schema ≡ bare_tables))
 
 -- with the indexes of jobs last, where these are to be made anew
 abbrev pub AreIndexedLast : Schema → Type 0
-AreIndexedLast schema = (schema ≡ vacuumed_tables) ⊎ ((schema ≡ older_vacuumed_tables) ⊎ (schema ≡ older_six_tables))
+AreIndexedLast schema = (schema ≡ vacuumed_tables) ⊎ ((schema ≡ older_vacuumed_tables) ⊎ (schema ≡ older_core_tables))
 
 -- the tables of a queue
 abbrev pub AreOurs : Schema → Type 0

@@ -17,7 +17,7 @@ use Rattle.fax_core.specs.declared.grants.Grant.{Grant}
 use Rattle.fax_job.specs.Limits.{last_grant, last_job, last_moment}
 use Rattle.fax_job.specs.Name.{IsName}
 use Rattle.fax_tables.specs.Grant.{IsWithinLimits}
-use Rattle.fax_tables.specs.Schema.{AreIndexedLast, HaveCalls, six_tables, bare_tables, seven_tables, bare_with_calls, older_six_tables, calls_tree, down_tree, grants_tree, holds_tree, jobs_tree, meta_tree, replies_tree}
+use Rattle.fax_tables.specs.Schema.{AreIndexedLast, HaveCalls, core_tables, bare_tables, our_tables, bare_with_calls, older_core_tables, calls_tree, down_tree, grants_tree, holds_tree, jobs_tree, meta_tree, replies_tree}
 use Rattle.fax_tables.specs.Job.{IsLawfulJob}
 use Rattle.fax_tables.specs.Row.{job_row, grant_row, hold_columns, down_columns, entry_columns, call_columns, meta_row}
 
@@ -82,7 +82,7 @@ HaveJobs m = (g : Grant) → Has (open_grants m) g → HasJob m g
 
 -- The database has the seven tables with their indexes and obeys their rules. The rows of six are the records of the queue and of the kept replies, each of them lawful, and no other row stands in them: `holds` has the open grants, in any order, each of a job that is there, and `shut` is 0 for just these. `calls` has each number with an open grant, and how many are open to it.
 pub record TablesMean (db : Database) (m : Queue) (k : List Entry) : Type 0 where
-  pub schema : db.schema ≡ seven_tables
+  pub schema : db.schema ≡ our_tables
   pub sound : IsDatabase db
   pub jobs : db.trees jobs_tree ≡ map (λ j. job_row (fields_of j)) m.jobs
   pub grants : db.trees grants_tree ≡ map grant_row m.grants
@@ -97,7 +97,7 @@ pub record TablesMean (db : Database) (m : Queue) (k : List Entry) : Type 0 wher
 
 -- Its rows in the six tables are those of a database that means this, which has `calls` and the indexes.
 abbrev pub RowsMean : Database → Queue → List Entry → Type 0
-RowsMean db m k = (full : Database) × TablesMean full m k × KeepsRows six_tables.tables full.trees db.trees
+RowsMean db m k = (full : Database) × TablesMean full m k × KeepsRows core_tables.tables full.trees db.trees
 
 -- no work is under way, and the tables mean this
 pub record IsAtRest (s : State) (m : Queue) (k : List Entry) : Type 0 where
@@ -121,9 +121,9 @@ pub record HasTablesAlone (s : State) : Type 0 where
   pub schema_is : s.now.schema ≡ bare_tables
 
 -- a transaction is under way over the six tables and the indexes of jobs, whatever their rows are
-pub record HasSixTables (s : State) : Type 0 where
+pub record HasCoreTables (s : State) : Type 0 where
   pub inside : IsTrue s.in_transaction
-  pub schema_is : s.now.schema ≡ six_tables
+  pub schema_is : s.now.schema ≡ core_tables
 
 -- a transaction is under way over the seven tables
 pub record HasCallsBeside (s : State) : Type 0 where
@@ -138,25 +138,25 @@ pub record HasIndexesLast (s : State) : Type 0 where
 -- it has the tables without the indexes of jobs, with `calls` where the other has it, and the rows of the other in the six
 pub record LosesIndexes (db after : Database) : Type 0 where
   pub schema_is : (after.schema ≡ bare_with_calls) ⊎ (after.schema ≡ bare_tables)
-  pub alone : db.schema ≡ older_six_tables → after.schema ≡ bare_tables
+  pub alone : db.schema ≡ older_core_tables → after.schema ≡ bare_tables
   pub sound : IsDatabase after
-  pub rows : KeepsRows six_tables.tables db.trees after.trees
+  pub rows : KeepsRows core_tables.tables db.trees after.trees
 
 -- it has the indexes, and the rows of the other in each table
 pub record IsIndexed (db after : Database) : Type 0 where
-  pub schema_is : after.schema ≡ six_tables
+  pub schema_is : after.schema ≡ core_tables
   pub sound : IsDatabase after
-  pub rows : KeepsRows six_tables.tables db.trees after.trees
+  pub rows : KeepsRows core_tables.tables db.trees after.trees
 
 -- it has `calls` too, with no rows, and the rows of the other in the six tables
 pub record HasNewCalls (db after : Database) : Type 0 where
-  pub schema_is : after.schema ≡ seven_tables
+  pub schema_is : after.schema ≡ our_tables
   pub sound : IsDatabase after
-  pub rows : KeepsRows six_tables.tables db.trees after.trees
+  pub rows : KeepsRows core_tables.tables db.trees after.trees
   pub none : after.trees calls_tree ≡ []
 
 -- it has `calls` no more, and the rows of the other in the six tables
 pub record LacksCalls (db after : Database) : Type 0 where
-  pub schema_is : (after.schema ≡ six_tables) ⊎ ((after.schema ≡ bare_tables) ⊎ (after.schema ≡ older_six_tables))
+  pub schema_is : (after.schema ≡ core_tables) ⊎ ((after.schema ≡ bare_tables) ⊎ (after.schema ≡ older_core_tables))
   pub sound : IsDatabase after
-  pub rows : KeepsRows six_tables.tables db.trees after.trees
+  pub rows : KeepsRows core_tables.tables db.trees after.trees

@@ -223,7 +223,7 @@ pub fn job_in(alloc: Global, row: &Row) -> Result<Job, StoreFault>
 }
 
 /// The job in a row of all columns but the extra lines, without any.
-fn brief_in(alloc: Global, row: &Row) -> Result<Job, StoreFault>
+pub fn brief_in(alloc: Global, row: &Row) -> Result<Job, StoreFault>
     ensures { (job : Fields) → row.now ≡ brief_shown job → IsLawful job → IsFormed job
         → OrUnavailable result (λ found. found ≡ brief job) }
 {

@@ -17,12 +17,13 @@ mod shape;
 pub use fault::{StoreFault, insert_fault};
 pub use grants::{Hold, call_number, calls_in, grant_in, held_job_in, is_open_grant};
 pub use jobs::{
-    briefs_in, dial_in, job_in, jobs_in, killtime_number, phase_number, spelling, wish_number,
+    brief_in, briefs_in, dial_in, job_in, jobs_in, killtime_number, phase_number, spelling,
+    wish_number,
 };
 pub use meta::{Meta, PAST_GRANTS, PAST_JOBS, is_version};
 pub use prospect::{Prospect, prospect_in};
 pub use recognize::{
-    has_bare_tables, has_calls, has_indexes_last, has_no_tables, has_older_six, has_ours,
+    has_bare_tables, has_calls, has_indexes_last, has_no_tables, has_older_core, has_ours,
 };
 pub use replies::{Kept, is_kept_status, number_value};
 pub use schema::{create_calls, create_indexes, create_tables, drop_calls, drop_indexes};

@@ -6,7 +6,7 @@ ghost use Rattle.sqlite.specs.declared.types.Value.TheVariants.{Int};
 ghost use Rattle.sqlite_sql.specs.Syntax.{term_of, term_at};
 ghost use Rattle.sqlite_sql.specs.Term.{lit, col};
 ghost use Rattle.sqlite_value.specs.Keys.{plain};
-ghost use Rattle.fax_tables.specs.Schema.{AreInOrder, AreIndexedLast, AreOurs, HaveCalls, bare_tables, bare_with_calls, column_of, meta, no_tables, older_six_tables, older_tables, older_vacuumed_tables, seven_tables, six_tables, vacuumed_tables};
+ghost use Rattle.fax_tables.specs.Schema.{AreInOrder, AreIndexedLast, AreOurs, HaveCalls, bare_tables, bare_with_calls, column_of, meta, no_tables, older_core_tables, older_tables, older_vacuumed_tables, our_tables, core_tables, vacuumed_tables};
 ghost use Rattle.fax_tables.specs.Shape.{AreKeptTables, AreWorkTables, HasColumns, HasRules, first_is_one, indexed_as, no_stamps, shaped};
 
 use crate::shape::{
@@ -253,7 +253,7 @@ fn are_kept_tables(
 
 /// Whether these are the six tables.
 fn are_tables(alloc: Global, tables: &[Table]) -> Result<bool, AllocError>
-    ensures { IfOk result (λ same. IsTrue same ↔ (tables.now ≡ six_tables.tables)) }
+    ensures { IfOk result (λ same. IsTrue same ↔ (tables.now ≡ core_tables.tables)) }
 {
     let [jobs, grants, holds, down, replies, meta] = tables else {
         return Ok(false);
@@ -265,7 +265,7 @@ fn are_tables(alloc: Global, tables: &[Table]) -> Result<bool, AllocError>
 
 /// Whether these are the six tables and the calls, in this shape.
 fn are_all_tables(alloc: Global, tables: &[Table], calls: &Shape) -> Result<bool, AllocError>
-    ensures { IfOk result (λ same. IsTrue same ↔ (tables.now ≡ six_tables.tables ++ shaped calls.now [] ∷ [])) }
+    ensures { IfOk result (λ same. IsTrue same ↔ (tables.now ≡ core_tables.tables ++ shaped calls.now [] ∷ [])) }
 {
     let [jobs, grants, holds, down, replies, meta, last] = tables else {
         return Ok(false);
@@ -292,16 +292,16 @@ pub fn has_bare_tables(alloc: Global, schema: &Schema) -> Result<bool, AllocErro
 }
 
 /// Whether a database has exactly the six tables and their indexes.
-pub fn has_six_tables(alloc: Global, schema: &Schema) -> Result<bool, AllocError>
-    ensures { IfOk result (λ same. IsTrue same ↔ (schema.now ≡ six_tables)) }
+pub fn has_core_tables(alloc: Global, schema: &Schema) -> Result<bool, AllocError>
+    ensures { IfOk result (λ same. IsTrue same ↔ (schema.now ≡ core_tables)) }
 {
     let same = are_tables(alloc, schema.tables.as_slice())?;
     Ok(same && are_indexes(schema.indexes.as_slice(), INDEXES) && schema.views.is_empty())
 }
 
 /// Whether a database has exactly the seven tables and all indexes.
-fn has_seven_tables(alloc: Global, schema: &Schema) -> Result<bool, AllocError>
-    ensures { IfOk result (λ same. IsTrue same ↔ (schema.now ≡ seven_tables)) }
+fn has_our_tables(alloc: Global, schema: &Schema) -> Result<bool, AllocError>
+    ensures { IfOk result (λ same. IsTrue same ↔ (schema.now ≡ our_tables)) }
 {
     let same = are_all_tables(alloc, schema.tables.as_slice(), &CALLS)?;
     Ok(same && are_indexes(schema.indexes.as_slice(), ALL_INDEXES) && schema.views.is_empty())
@@ -327,7 +327,7 @@ fn has_older_tables(alloc: Global, schema: &Schema) -> Result<bool, AllocError>
 pub fn has_calls(alloc: Global, schema: &Schema) -> Result<bool, AllocError>
     ensures { IfOk result (λ same. IsTrue same ↔ HaveCalls schema.now) }
 {
-    let indexed = has_seven_tables(alloc, schema)?;
+    let indexed = has_our_tables(alloc, schema)?;
     let bare = has_bare_calls(alloc, schema)?;
     let older = has_older_tables(alloc, schema)?;
     Ok(indexed || bare || older)
@@ -353,8 +353,8 @@ fn is_older_vacuumed(alloc: Global, schema: &Schema) -> Result<bool, AllocError>
 }
 
 /// Whether a database has exactly the six tables and their indexes, as stores made them before.
-pub fn has_older_six(alloc: Global, schema: &Schema) -> Result<bool, AllocError>
-    ensures { IfOk result (λ same. IsTrue same ↔ (schema.now ≡ older_six_tables)) }
+pub fn has_older_core(alloc: Global, schema: &Schema) -> Result<bool, AllocError>
+    ensures { IfOk result (λ same. IsTrue same ↔ (schema.now ≡ older_core_tables)) }
 {
     let same = are_tables(alloc, schema.tables.as_slice())?;
     Ok(same && are_indexes(schema.indexes.as_slice(), OLDER_INDEXES) && schema.views.is_empty())
@@ -367,7 +367,7 @@ pub fn has_indexes_last(alloc: Global, schema: &Schema) -> Result<bool, AllocErr
 {
     let vacuumed = is_vacuumed(alloc, schema)?;
     let older_vacuumed = is_older_vacuumed(alloc, schema)?;
-    let older_six = has_older_six(alloc, schema)?;
+    let older_six = has_older_core(alloc, schema)?;
     Ok(vacuumed || older_vacuumed || older_six)
 }
 
@@ -377,7 +377,7 @@ fn are_in_order(alloc: Global, schema: &Schema) -> Result<bool, AllocError>
     ensures { IfOk result (λ same. IsTrue same ↔ AreInOrder schema.now) }
 {
     let with_calls = has_calls(alloc, schema)?;
-    let six = has_six_tables(alloc, schema)?;
+    let six = has_core_tables(alloc, schema)?;
     let bare = has_bare_tables(alloc, schema)?;
     Ok(with_calls || six || bare)
 }

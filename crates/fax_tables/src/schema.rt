@@ -5,9 +5,9 @@ ghost use Rattle.sqlite.specs.Held.{state};
 ghost use Rattle.sqlite.specs.View.{doubt};
 ghost use Rattle.sqlite.specs.State.{HasCleanDisk, KeepsCommit};
 ghost use Rattle.fax_core.specs.Queue.{empty_queue};
-ghost use Rattle.fax_tables.specs.Schema.{no_tables, four_tables, bare_tables, seven_tables};
+ghost use Rattle.fax_tables.specs.Schema.{no_tables, with_down, bare_tables, our_tables};
 ghost use Rattle.fax_tables.specs.Stop.{HoldsBack};
-ghost use Rattle.fax_tables.specs.Tables.{GoesOn, HasCallsBeside, HasEmptyTables, HasIndexesLast, HasNewCalls, HasSixTables, HasTablesAlone, IsIndexed, LacksCalls, LosesIndexes, TablesMean};
+ghost use Rattle.fax_tables.specs.Tables.{GoesOn, HasCallsBeside, HasEmptyTables, HasIndexesLast, HasNewCalls, HasCoreTables, HasTablesAlone, IsIndexed, LacksCalls, LosesIndexes, TablesMean};
 
 use sqlite::{Alter, Connection, Error};
 
@@ -77,7 +77,7 @@ pub fn create_tables<S: Alter>(conn: &mut Connection<S>) -> Result<(), Error>
 fn create_work_tables<S: Alter>(conn: &mut Connection<S>) -> Result<(), Error>
     ensures made { HasCleanDisk (state S.Store conn.new) → OnOk result
         (HasEmptyTables no_tables (state S.Store conn.old) → GoesOn (state S.Store conn.old) (state S.Store conn.new)
-        × HasEmptyTables four_tables (state S.Store conn.new)) }
+        × HasEmptyTables with_down (state S.Store conn.new)) }
     ensures kept { HasCleanDisk (state S.Store conn.new) → OnErr result
         (HasEmptyTables no_tables (state S.Store conn.old) → KeepsCommit (state S.Store conn.old) (state S.Store conn.new)) }
     ensures crash { HoldsBack (HasEmptyTables no_tables) (state S.Store conn.old) (state S.Store conn.new) }
@@ -93,11 +93,11 @@ fn create_work_tables<S: Alter>(conn: &mut Connection<S>) -> Result<(), Error>
 /// Makes the tables of replies and of the clock and next numbers.
 fn create_kept_tables<S: Alter>(conn: &mut Connection<S>) -> Result<(), Error>
     ensures made { HasCleanDisk (state S.Store conn.new) → OnOk result
-        (HasEmptyTables four_tables (state S.Store conn.old) → GoesOn (state S.Store conn.old) (state S.Store conn.new)
+        (HasEmptyTables with_down (state S.Store conn.old) → GoesOn (state S.Store conn.old) (state S.Store conn.new)
         × HasEmptyTables bare_tables (state S.Store conn.new)) }
     ensures kept { HasCleanDisk (state S.Store conn.new) → OnErr result
-        (HasEmptyTables four_tables (state S.Store conn.old) → KeepsCommit (state S.Store conn.old) (state S.Store conn.new)) }
-    ensures crash { HoldsBack (HasEmptyTables four_tables) (state S.Store conn.old) (state S.Store conn.new) }
+        (HasEmptyTables with_down (state S.Store conn.old) → KeepsCommit (state S.Store conn.old) (state S.Store conn.new)) }
+    ensures crash { HoldsBack (HasEmptyTables with_down) (state S.Store conn.old) (state S.Store conn.new) }
     ensures doubt { doubt (state S.Store conn.old).is_clean ≤ doubt (state S.Store conn.new).is_clean }
 {
     conn.execute(CREATE_REPLIES, &[])?;
@@ -124,11 +124,11 @@ pub fn create_indexes<S: Alter>(conn: &mut Connection<S>) -> Result<(), Error>
 /// committed.
 pub fn create_calls<S: Alter>(conn: &mut Connection<S>) -> Result<(), Error>
     ensures made { HasCleanDisk (state S.Store conn.new) → OnOk result
-        (HasSixTables (state S.Store conn.old) → GoesOn (state S.Store conn.old) (state S.Store conn.new)
+        (HasCoreTables (state S.Store conn.old) → GoesOn (state S.Store conn.old) (state S.Store conn.new)
         × HasNewCalls (state S.Store conn.old).now (state S.Store conn.new).now) }
     ensures kept { HasCleanDisk (state S.Store conn.new) → OnErr result
         (KeepsCommit (state S.Store conn.old) (state S.Store conn.new)) }
-    ensures crash { HoldsBack HasSixTables (state S.Store conn.old) (state S.Store conn.new) }
+    ensures crash { HoldsBack HasCoreTables (state S.Store conn.old) (state S.Store conn.new) }
     ensures doubt { doubt (state S.Store conn.old).is_clean ≤ doubt (state S.Store conn.new).is_clean }
 {
     conn.execute(CREATE_CALLS, &[])?;
@@ -169,11 +169,11 @@ pub fn drop_indexes<S: Alter>(conn: &mut Connection<S>) -> Result<(), Error>
 /// Puts in the row of the clock and next numbers, as an empty store has it.
 fn fill_meta<S: Alter>(conn: &mut Connection<S>) -> Result<(), Error>
     ensures made { HasCleanDisk (state S.Store conn.new) → OnOk result
-        (HasEmptyTables seven_tables (state S.Store conn.old) → GoesOn (state S.Store conn.old) (state S.Store conn.new)
+        (HasEmptyTables our_tables (state S.Store conn.old) → GoesOn (state S.Store conn.old) (state S.Store conn.new)
         × TablesMean (state S.Store conn.new).now empty_queue []) }
     ensures kept { HasCleanDisk (state S.Store conn.new) → OnErr result
         (KeepsCommit (state S.Store conn.old) (state S.Store conn.new)) }
-    ensures crash { HoldsBack (HasEmptyTables seven_tables) (state S.Store conn.old) (state S.Store conn.new) }
+    ensures crash { HoldsBack (HasEmptyTables our_tables) (state S.Store conn.old) (state S.Store conn.new) }
     ensures doubt { doubt (state S.Store conn.old).is_clean ≤ doubt (state S.Store conn.new).is_clean }
 {
     conn.execute(INSERT_META, &[])?;

@@ -19,10 +19,10 @@ returns-in-Some-2-clause-found g c m k sound means serves =
     (sym c.in-Some-2.is ∙ c.in_ok-job.ensures.found m k (means_stay c.first.ensures.served c.first.ensures.stays m k means) serves)
 
 pub returns-in_err-job-clause-stays : goal.returns-in_err-job-clause-stays
-returns-in_err-job-clause-stays g c db six rests = c.job.ensures.stays db six (c.first.ensures.stays db six rests)
+returns-in_err-job-clause-stays g c db ours rests = c.job.ensures.stays db ours (c.first.ensures.stays db ours rests)
 
 pub returns-in-Some-2-clause-stays : goal.returns-in-Some-2-clause-stays
-returns-in-Some-2-clause-stays g c db six rests = c.job.ensures.stays db six (c.first.ensures.stays db six rests)
+returns-in-Some-2-clause-stays g c db ours rests = c.job.ensures.stays db ours (c.first.ensures.stays db ours rests)
 
 pub returns-in-None-clause-stays : goal.returns-in-None-clause-stays
-returns-in-None-clause-stays g c db six rests = c.job.ensures.stays db six (c.first.ensures.stays db six rests)
+returns-in-None-clause-stays g c db ours rests = c.job.ensures.stays db ours (c.first.ensures.stays db ours rests)

@@ -44,13 +44,13 @@ returns-in-None-clause-decided g c m k sound means serves next =
     (c.decide_free.ensures.decided m k sound held serves next)
 
 pub returns-in_err-hold-clause-stays : goal.returns-in_err-hold-clause-stays
-returns-in_err-hold-clause-stays g c db six rests = c.hold_of.ensures.stays db six (c.is_down.ensures.stays db six rests)
+returns-in_err-hold-clause-stays g c db ours rests = c.hold_of.ensures.stays db ours (c.is_down.ensures.stays db ours rests)
 
 pub returns-in-Some-clause-stays : goal.returns-in-Some-clause-stays
-returns-in-Some-clause-stays g c db six rests = c.busy.ensures.stays db six (c.hold_of.ensures.stays db six (c.is_down.ensures.stays db six rests))
+returns-in-Some-clause-stays g c db ours rests = c.busy.ensures.stays db ours (c.hold_of.ensures.stays db ours (c.is_down.ensures.stays db ours rests))
 
 pub returns-in-None-clause-stays : goal.returns-in-None-clause-stays
-returns-in-None-clause-stays g c db six rests = c.decide_free.ensures.stays db six (c.hold_of.ensures.stays db six (c.is_down.ensures.stays db six rests))
+returns-in-None-clause-stays g c db ours rests = c.decide_free.ensures.stays db ours (c.hold_of.ensures.stays db ours (c.is_down.ensures.stays db ours rests))
 
 pub returns-in_err-hold-clause-crash : goal.returns-in_err-hold-clause-crash
 returns-in_err-hold-clause-crash g c found may = c.is_down.ensures.crash found (c.hold_of.ensures.crash found may)

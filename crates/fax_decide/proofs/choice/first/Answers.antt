@@ -5,7 +5,7 @@ use Rattle.fax_store.proofs.StoreLemmas.{means_stay}
 use Rattle.fax_decide.proofs.choice.first.Goals as goal
 
 pub returns-in-Some-clause-stays : goal.returns-in-Some-clause-stays
-returns-in-Some-clause-stays g c db six rests = c.first_but.ensures.stays db six (c.first_or_busy.ensures.stays db six rests)
+returns-in-Some-clause-stays g c db ours rests = c.first_but.ensures.stays db ours (c.first_or_busy.ensures.stays db ours rests)
 
 pub returns-in-Some-clause-found : goal.returns-in-Some-clause-found
 returns-in-Some-clause-found g c m k means serves =

@@ -15,10 +15,10 @@ use Rattle.fax_decide.proofs.ChoiceLemmas.{NoneWent, given_due, goes_due, next_g
 use Rattle.fax_decide.proofs.choice.first_of.Goals as goal
 
 pub returns-in_err-prospect-clause-stays : goal.returns-in_err-prospect-clause-stays
-returns-in_err-prospect-clause-stays g c db six rests = c.prospect.ensures.stays db six (c.loop.invariant.stays db six rests)
+returns-in_err-prospect-clause-stays g c db ours rests = c.prospect.ensures.stays db ours (c.loop.invariant.stays db ours rests)
 
 pub returns-in_default-clause-stays : goal.returns-in_default-clause-stays
-returns-in_default-clause-stays g c db six rests = c.prospect.ensures.stays db six (c.loop.invariant.stays db six rests)
+returns-in_default-clause-stays g c db ours rests = c.prospect.ensures.stays db ours (c.loop.invariant.stays db ours rests)
 
 pub returns-in_default-clause-found : goal.returns-in_default-clause-found
 returns-in_default-clause-found g c m k means serves same stands busy =
@@ -36,10 +36,10 @@ returns-in_default-clause-found g c m k means serves same stands busy =
     )
 
 pub returns-in_err-goes-clause-stays : goal.returns-in_err-goes-clause-stays
-returns-in_err-goes-clause-stays g c db six rests = c.goes.ensures.stays db six (c.prospect.ensures.stays db six (c.loop.invariant.stays db six rests))
+returns-in_err-goes-clause-stays g c db ours rests = c.goes.ensures.stays db ours (c.prospect.ensures.stays db ours (c.loop.invariant.stays db ours rests))
 
 pub returns-then-branch-clause-stays : goal.returns-then-branch-clause-stays
-returns-then-branch-clause-stays g c db six rests = c.goes.ensures.stays db six (c.prospect.ensures.stays db six (c.loop.invariant.stays db six rests))
+returns-then-branch-clause-stays g c db ours rests = c.goes.ensures.stays db ours (c.prospect.ensures.stays db ours (c.loop.invariant.stays db ours rests))
 
 pub returns-then-branch-clause-found : goal.returns-then-branch-clause-found
 returns-then-branch-clause-found g c m k means serves same stands busy =
@@ -71,7 +71,7 @@ loop-preserved g c = record {
   served = λ serves. c.loop.invariant.served (c.prospect.ensures.served (c.goes.ensures.served serves));
   clean = λ clean. c.loop.invariant.clean (c.prospect.ensures.clean (c.goes.ensures.clean clean));
   opens = λ clean serves. c.in_ok-goes.ensures.opens clean (c.in_ok-prospect.ensures.opens (c.goes.ensures.clean clean) (c.loop.invariant.opens (c.prospect.ensures.clean (c.goes.ensures.clean clean)) serves));
-  stays = λ db six rests. c.goes.ensures.stays db six (c.prospect.ensures.stays db six (c.loop.invariant.stays db six rests));
+  stays = λ db ours rests. c.goes.ensures.stays db ours (c.prospect.ensures.stays db ours (c.loop.invariant.stays db ours rests));
   crash = λ found may. c.loop.invariant.crash found (c.prospect.ensures.crash found (c.goes.ensures.crash found may));
   busy = λ m k means serves busy.
       let before = c.prospect.ensures.served (c.goes.ensures.served serves) in
@@ -105,7 +105,7 @@ loop-preserved g c = record {
 }
 
 pub returns-then-is_some-clause-stays : goal.returns-then-is_some-clause-stays
-returns-then-is_some-clause-stays g c db six rests = c.goes.ensures.stays db six (c.prospect.ensures.stays db six (c.loop.invariant.stays db six rests))
+returns-then-is_some-clause-stays g c db ours rests = c.goes.ensures.stays db ours (c.prospect.ensures.stays db ours (c.loop.invariant.stays db ours rests))
 
 pub returns-then-is_some-clause-found : goal.returns-then-is_some-clause-found
 returns-then-is_some-clause-found g c m k means serves same stands busy =

@@ -9,10 +9,10 @@ use Rattle.fax_decide.proofs.ChoiceLemmas.{first_known}
 use Rattle.fax_decide.proofs.choice.first_or_busy.Goals as goal
 
 pub returns-clause-stays : goal.returns-clause-stays
-returns-clause-stays g c db six rests =
+returns-clause-stays g c db ours rests =
     let same : c.first_of.new.candidates.store.now ≡ c.store-1.given.0 = search rules in
     let begun : Rests (state g.S.Store c.candidates-candidates.result.store.now.conn) db = subst (λ v. Rests (state g.S.Store v.conn) db) (sym c.candidates-candidates.ensures.same) rests in
-    subst (λ v. Rests (state g.S.Store v.conn) db) same (c.first_of.ensures.stays db six begun)
+    subst (λ v. Rests (state g.S.Store v.conn) db) same (c.first_of.ensures.stays db ours begun)
 
 pub returns-clause-found : goal.returns-clause-found
 returns-clause-found g c m k means serves busy =

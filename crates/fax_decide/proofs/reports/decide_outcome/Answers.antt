@@ -1,18 +1,36 @@
-use Rattle.std.proofs.Common.{ℕ, sym, ap, ◌∙◌}
+use Rattle.std.proofs.Common.{◌≡◌, ℕ, true, refl, sym, ap, ◌∙◌, rules}
+use Rattle.std.specs.Prelude.{IfOk}
 use Rattle.fax_core.specs.Ageing.{aged}
 use Rattle.fax_core.specs.Decisions.{outcome}
 use Rattle.fax_core.specs.Job.{job_of}
 use Rattle.fax_core.specs.Machine.{outcome_reply}
+use Rattle.fax_core.specs.Queue.{job_numbered}
+use Rattle.fax_store.specs.Job.{lines_of}
+use Rattle.fax_decide.specs.Decision.{Decides}
+use Rattle.fax_decide.specs.Records.{job_in}
 use Rattle.fax_decide.specs.Settings.{settings_of}
 use Rattle.fax_decide.proofs.DecisionLemmas.{report_refused}
+use Rattle.fax_decide.proofs.LinesLemmas.{both_lined, outcome_lined}
 use Rattle.fax_decide.proofs.PlainLemmas.{outcome_plain}
+use Rattle.fax_decide.proofs.ReportLemmas.{open_outcome, reported_on}
 use Rattle.fax_decide.proofs.reports.decide_outcome.Goals as goal
 
 pub refused-requires : goal.refused-requires
 refused-requires g c = outcome_plain c.args.said (job_of c.args.job) _ c.delay-delay.result c.args.t c.in-Err.refusal (sym c.in-Err.ensures)
 
+pub returns-in-Ok-clause-decided : goal.returns-in-Ok-clause-decided
+returns-in-Ok-clause-decided g c m k sound means serves there =
+    let s = settings_of c.args.office.now.setup c.args.office.now.controls in
+    let lines = lines_of (job_numbered c.args.job.job (aged c.args.t m)) in
+    let delayed = λ (delay : ℕ). outcome c.args.said (job_in (aged c.args.t m) c.args.job) c.args.grant delay c.args.t in
+    reported_on (λ step. IfOk c.ended.result (Decides step m c.args.t)) (aged c.args.t m) (outcome_reply s c.args.t) lines (job_of c.args.job) c.in-Ok.change _ _ _ _
+    refl c.in-Ok.ensures (outcome_lined lines c.args.said (job_of c.args.job) c.args.grant c.delay-delay.result c.args.t ∙ ap delayed c.delay-delay.ensures.seconds)
+    (c.ended.ensures.decided m k sound means serves there (open_outcome c.args.said (job_of c.args.job) c.args.grant c.delay-delay.result c.args.t _ c.in-Ok.ensures))
+
 pub returns-in-Err-clause-decided : goal.returns-in-Err-clause-decided
 returns-in-Err-clause-decided g c m k sound means serves there =
-    report_refused (aged c.args.t m) (outcome_reply (settings_of c.args.office.now.setup c.args.office.now.controls) c.args.t) (job_of c.args.job) _ c.in-Err.refusal m c.args.t c.refused.result
+    let lines = lines_of (job_numbered c.args.job.job (aged c.args.t m)) in
+    report_refused (aged c.args.t m) (outcome_reply (settings_of c.args.office.now.setup c.args.office.now.controls) c.args.t) (job_in (aged c.args.t m) c.args.job) _ c.in-Err.refusal m c.args.t c.refused.result
     (outcome_plain c.args.said (job_of c.args.job) _ c.delay-delay.result c.args.t c.in-Err.refusal (sym c.in-Err.ensures)) c.refused.ensures
-    (c.in-Err.ensures ∙ ap (λ (delay : ℕ). outcome c.args.said (job_of c.args.job) c.args.grant delay c.args.t) c.delay-delay.ensures.seconds)
+    (ap (both_lined lines) c.in-Err.ensures ∙ outcome_lined lines c.args.said (job_of c.args.job) c.args.grant c.delay-delay.result c.args.t
+    ∙ ap (λ (delay : ℕ). outcome c.args.said (job_in (aged c.args.t m) c.args.job) c.args.grant delay c.args.t) c.delay-delay.ensures.seconds)

@@ -1,19 +1,37 @@
-use Rattle.std.proofs.Common.{refl, sym}
+use Rattle.std.proofs.Common.{◌≡◌, ◌+◌, ℕ, min, refl, sym, ap, subst, ◌∙◌, arith}
+use Rattle.std.specs.Prelude.{IfOk}
 use Rattle.fax_core.specs.Ageing.{aged}
 use Rattle.fax_core.specs.Job.{job_of}
+use Rattle.fax_core.specs.Queue.{job_numbered}
+use Rattle.fax_core.specs.Machine.{page_reply}
+use Rattle.fax_core.specs.declared.grants.Grant.{Grant}
+use Rattle.fax_store.specs.Grant.{IsSameGrant}
+use Rattle.fax_store.specs.Job.{lines_of}
+use Rattle.fax_decide.specs.Decision.{Decides}
 use Rattle.fax_decide.specs.declared.decision.Decision.TheVariants.{Refused}
 use Rattle.fax_decide.proofs.DecisionLemmas.{decided_by, decided_where}
+use Rattle.fax_decide.proofs.LinesLemmas.{both_lined, page_lined}
 use Rattle.fax_decide.proofs.PlainLemmas.{page_plain}
-use Rattle.fax_decide.proofs.ReportLemmas.{closed_page, page_refused_is}
+use Rattle.fax_decide.proofs.ReportLemmas.{closed_page, page_refused_is, reported_on, same_page}
 use Rattle.fax_decide.proofs.reports.decide_page.Goals as goal
 
 pub page_refused-requires : goal.page_refused-requires
 page_refused-requires c = page_plain c.args.said (job_of c.args.job) _ c.in-Err.refusal (sym c.in-Err.ensures)
 
+pub returns-in-Ok-clause-decided : goal.returns-in-Ok-clause-decided
+returns-in-Ok-clause-decided c m there few =
+    let lines = lines_of (job_numbered c.args.job.job (aged c.args.t m)) in
+    let one : min (c.args.grant.confirmed + 1) 65535 ≡ c.args.grant.confirmed + 1 = omega (arith, few) in
+    let next : c.with_page.result ≡ record c.args.grant { confirmed = c.args.grant.confirmed + 1 } = c.with_page.ensures ∙ ap (λ (n : ℕ). record c.args.grant { confirmed = n }) one in
+    reported_on (λ step. IfOk c.confirmed.result (Decides step m c.args.t)) (aged c.args.t m) (page_reply c.args.t) lines (job_of c.args.job) c.in-Ok.change _ c.with_page.result _ _
+    next c.in-Ok.ensures (page_lined lines c.args.said (job_of c.args.job) c.args.grant)
+    (c.confirmed.ensures m c.args.grant there (subst (IsSameGrant c.args.grant) (sym next) (same_page c.args.grant (c.args.grant.confirmed + 1))) (ap (λ (g : Grant). g.number) next))
+
 pub returns-in-Err-clause-decided : goal.returns-in-Err-clause-decided
 returns-in-Err-clause-decided c m there few =
+    let lines = lines_of (job_numbered c.args.job.job (aged c.args.t m)) in
     decided_by (λ reply. Refused reply) _ _ m c.args.t c.page_refused.result _ c.refuse.ensures c.page_refused.ensures.reply
-    (λ _. page_refused_is (aged c.args.t m) c.args.t (job_of c.args.job) _ c.in-Err.refusal c.in-Err.ensures)
+    (λ _. page_refused_is (aged c.args.t m) c.args.t lines (job_of c.args.job) _ c.in-Err.refusal (ap (both_lined lines) c.in-Err.ensures ∙ page_lined lines c.args.said (job_of c.args.job) c.args.grant))
 
 pub returns-in-Err-clause-closed : goal.returns-in-Err-clause-closed
 returns-in-Err-clause-closed c off =

@@ -9,6 +9,6 @@ use Rattle.fax_decide.proofs.SubmissionLemmas.{job_new}
 use Rattle.fax_decide.proofs.submission.taken.Goals as goal
 
 pub returns : goal.returns
-returns c m t rule sound next =
-    decided_by (Taken (NewJob c.args.job)) _ _ m t c.answered.result _ c.take.ensures c.answered.ensures
-    (λ _. job_new m t rule c.args.job _ sound next (ap (λ f. accepted_response (Replied (Submitted f.job))) c.fields.ensures.fields))
+returns c m t rule sound these next =
+    decided_by (Taken (NewJob c.args.job c.args.meta)) _ _ m t c.answered.result _ c.take.ensures c.answered.ensures
+    (λ _. job_new m t rule c.args.job c.args.meta _ sound these next (ap (λ f. accepted_response (Replied (Submitted f.job))) c.fields.ensures.fields))

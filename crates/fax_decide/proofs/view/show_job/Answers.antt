@@ -19,7 +19,7 @@ pub returns-in-Some-clause-opens : goal.returns-in-Some-clause-opens
 returns-in-Some-clause-opens g c = opens_then (state g.S.Store c.args.store.now.conn) (state g.S.Store c.job_at.new.store.conn) (state g.S.Store c.shown.new.store.conn) c.shown.result c.in_ok-job.ensures.opens c.shown.ensures.clean c.shown.ensures.opens
 
 pub returns-in-Some-clause-stays : goal.returns-in-Some-clause-stays
-returns-in-Some-clause-stays g c db six rests = c.shown.ensures.stays db six (c.job_at.ensures.stays db six rests)
+returns-in-Some-clause-stays g c db ours rests = c.shown.ensures.stays db ours (c.job_at.ensures.stays db ours rests)
 
 pub returns-in-Some-clause-crash : goal.returns-in-Some-clause-crash
 returns-in-Some-clause-crash g c found may = c.job_at.ensures.crash found (c.shown.ensures.crash found may)

@@ -23,13 +23,13 @@ returns-clause-viewed g c m k sound means serves =
     ∙ ap (λ (text : List ℕ). accepted_response (Listed text)) (ap (listing_of s.shows) rows ∙ listing_thin s.shows seen)
 
 pub returns-clause-stays : goal.returns-clause-stays
-returns-clause-stays g c db six rests = c.with_states.ensures.stays db six (c.briefs.ensures.stays db six rests)
+returns-clause-stays g c db ours rests = c.with_states.ensures.stays db ours (c.briefs.ensures.stays db ours rests)
 
 pub returns-in_err-rows-clause-stays : goal.returns-in_err-rows-clause-stays
-returns-in_err-rows-clause-stays g c db six rests = c.with_states.ensures.stays db six (c.briefs.ensures.stays db six rests)
+returns-in_err-rows-clause-stays g c db ours rests = c.with_states.ensures.stays db ours (c.briefs.ensures.stays db ours rests)
 
 pub returns-in_err-listed-clause-stays : goal.returns-in_err-listed-clause-stays
-returns-in_err-listed-clause-stays g c db six rests = c.with_states.ensures.stays db six (c.briefs.ensures.stays db six rests)
+returns-in_err-listed-clause-stays g c db ours rests = c.with_states.ensures.stays db ours (c.briefs.ensures.stays db ours rests)
 
 pub returns-clause-crash : goal.returns-clause-crash
 returns-clause-crash g c found may = c.briefs.ensures.crash found (c.with_states.ensures.crash found may)

@@ -6,10 +6,10 @@ use Rattle.fax_decide.proofs.ViewLemmas.{all_rows, one_more_row}
 use Rattle.fax_decide.proofs.view.with_states.Goals as goal
 
 pub returns-in_err-state-clause-stays : goal.returns-in_err-state-clause-stays
-returns-in_err-state-clause-stays g c db six rests = c.state_of.ensures.stays db six (c.loop-job.invariant.stays db six rests)
+returns-in_err-state-clause-stays g c db ours rests = c.state_of.ensures.stays db ours (c.loop-job.invariant.stays db ours rests)
 
 pub returns-in_err-add_row-clause-stays : goal.returns-in_err-add_row-clause-stays
-returns-in_err-add_row-clause-stays g c db six rests = c.state_of.ensures.stays db six (c.loop-job.invariant.stays db six rests)
+returns-in_err-add_row-clause-stays g c db ours rests = c.state_of.ensures.stays db ours (c.loop-job.invariant.stays db ours rests)
 
 pub loop-job-preserved : goal.loop-job-preserved
 loop-job-preserved g c = record {
@@ -19,7 +19,7 @@ loop-job-preserved g c = record {
   served = λ serves. c.loop-job.invariant.served (c.state_of.ensures.served serves);
   clean = λ clean. c.loop-job.invariant.clean (c.state_of.ensures.clean clean);
   opens = λ clean serves. c.in_ok-state.ensures.opens clean (c.loop-job.invariant.opens (c.state_of.ensures.clean clean) serves);
-  stays = λ db six rests. c.state_of.ensures.stays db six (c.loop-job.invariant.stays db six rests);
+  stays = λ db ours rests. c.state_of.ensures.stays db ours (c.loop-job.invariant.stays db ours rests);
   crash = λ found may. c.loop-job.invariant.crash found (c.state_of.ensures.crash found may);
   rows = λ m k means serves.
       one_more_row (settings_of c.args.office.now.setup c.args.office.now.controls) m c.args.t c.loop-job.yielded c.in-Some.job c.aged_job-job.result c.in_ok-state.state c.loop-job.rows.items _

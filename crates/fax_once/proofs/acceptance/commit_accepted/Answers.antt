@@ -39,13 +39,13 @@ returns-clause-taken g c m k means suits =
 pub returns-in_err-write-clause-unchanged : goal.returns-in_err-write-clause-unchanged
 returns-in_err-write-clause-unchanged g c =
     let same : c.drop-work.new.self.0 ≡ c.store-in_err-write-1.given.0 = search rules in
-    let stays : Stays (state g.S.Store c.args.store.now.conn) (state g.S.Store c.drop-work.new.self.0.conn) = λ db six rests. c.drop-work.ensures.forgets db (c.write.ensures.holds db (c.in_ok-work.ensures.at db six rests)) in
+    let stays : Stays (state g.S.Store c.args.store.now.conn) (state g.S.Store c.drop-work.new.self.0.conn) = λ db ours rests. c.drop-work.ensures.forgets db (c.write.ensures.holds db (c.in_ok-work.ensures.at db ours rests)) in
     on_err c.from_residual-in_err-write.result (subst (λ v. Stays (state g.S.Store c.args.store.now.conn) (state g.S.Store v.conn)) same stays)
 
 pub returns-in_err-commit-clause-unchanged : goal.returns-in_err-commit-clause-unchanged
 returns-in_err-commit-clause-unchanged g c =
     let same : c.commit.new.self.0 ≡ c.store-2-1.given.0 = search rules in
-    let stays : Stays (state g.S.Store c.args.store.now.conn) (state g.S.Store c.commit.new.self.0.conn) = λ db six rests. c.in_err-commit.ensures.forgets db (c.write.ensures.holds db (c.in_ok-work.ensures.at db six rests)) in
+    let stays : Stays (state g.S.Store c.args.store.now.conn) (state g.S.Store c.commit.new.self.0.conn) = λ db ours rests. c.in_err-commit.ensures.forgets db (c.write.ensures.holds db (c.in_ok-work.ensures.at db ours rests)) in
     on_err c.from_residual-in_err-commit.result (subst (λ v. Stays (state g.S.Store c.args.store.now.conn) (state g.S.Store v.conn)) same stays)
 
 pub returns-in_err-work-clause-clean : goal.returns-in_err-work-clause-clean

@@ -3,8 +3,8 @@ use Rattle.sqlite.specs.Held.{state}
 use Rattle.sqlite.specs.Command.TheVariants.{CreateTable}
 use Rattle.fax_tables.specs.declared.schema.TheConstants.{CREATE_CALLS}
 use Rattle.fax_tables.specs.Schema as schema
-use Rattle.fax_tables.specs.Schema.{seven_tables, six_tables}
-use Rattle.fax_tables.specs.Tables.{HasSixTables}
+use Rattle.fax_tables.specs.Schema.{our_tables, core_tables}
+use Rattle.fax_tables.specs.Tables.{HasCoreTables}
 use Rattle.fax_tables.proofs.CreateLemmas.{added, refused_keeps}
 use Rattle.fax_tables.proofs.CreateTexts.{created_calls, makes_calls}
 use Rattle.fax_tables.proofs.ResultLemmas.{on_err}
@@ -17,13 +17,13 @@ returns-in_err-execute-clause-kept g c clean =
 
 pub returns-clause-made : goal.returns-clause-made
 returns-clause-made g c clean was =
-    let it = added (state g.S.Store c.args.conn.now) (state g.S.Store c.execute.new.self) six_tables seven_tables CREATE_CALLS.now schema.calls c.in_ok-execute.field-0 makes_calls created_calls refl (c.in_ok-execute.ensures.runs clean) was.inside was.schema_is in
+    let it = added (state g.S.Store c.args.conn.now) (state g.S.Store c.execute.new.self) core_tables our_tables CREATE_CALLS.now schema.calls c.in_ok-execute.field-0 makes_calls created_calls refl (c.in_ok-execute.ensures.runs clean) was.inside was.schema_is in
     (it.0, record { schema_is = it.1; sound = it.2; rows = it.3; none = it.4 })
 
 pub returns-in_err-execute-clause-crash : goal.returns-in_err-execute-clause-crash
 returns-in_err-execute-clause-crash g c =
-    step_holds_back (state g.S.Store c.args.conn.now) (state g.S.Store c.execute.new.self) HasSixTables six_tables CREATE_CALLS.now CreateTable makes_calls.command (λ e. e) (λ was. (was.inside, was.schema_is)) c.execute.ensures.survives
+    step_holds_back (state g.S.Store c.args.conn.now) (state g.S.Store c.execute.new.self) HasCoreTables core_tables CREATE_CALLS.now CreateTable makes_calls.command (λ e. e) (λ was. (was.inside, was.schema_is)) c.execute.ensures.survives
 
 pub returns-clause-crash : goal.returns-clause-crash
 returns-clause-crash g c =
-    step_holds_back (state g.S.Store c.args.conn.now) (state g.S.Store c.execute.new.self) HasSixTables six_tables CREATE_CALLS.now CreateTable makes_calls.command (λ e. e) (λ was. (was.inside, was.schema_is)) c.execute.ensures.survives
+    step_holds_back (state g.S.Store c.args.conn.now) (state g.S.Store c.execute.new.self) HasCoreTables core_tables CREATE_CALLS.now CreateTable makes_calls.command (λ e. e) (λ was. (was.inside, was.schema_is)) c.execute.ensures.survives

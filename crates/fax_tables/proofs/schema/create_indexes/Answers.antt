@@ -1,7 +1,7 @@
 use Rattle.std.proofs.Common.{◌≡◌, ℕ, [], Ok, IsTrue, refl}
 use Rattle.sqlite.specs.Held.{state}
 use Rattle.fax_tables.specs.declared.schema.TheConstants.{CREATE_KILLTIME_INDEX, CREATE_CHOICE_INDEX}
-use Rattle.fax_tables.specs.Schema.{bare_tables, choice_index, killtime_index, six_tables, with_killtime_index}
+use Rattle.fax_tables.specs.Schema.{bare_tables, choice_index, killtime_index, core_tables, with_killtime_index}
 use Rattle.fax_tables.proofs.CreateLemmas.{clean_before, commit_kept, goes_on, kept_rows, made_index, refused_keeps}
 use Rattle.fax_tables.proofs.CreateTexts.{indexed_choice, indexed_killtime, makes_choice_index, makes_killtime_index}
 use Rattle.fax_tables.proofs.ResultLemmas.{on_err}
@@ -38,8 +38,8 @@ returns-clause-made g c clean was =
     let s2 = state g.S.Store c.execute-2.new.self in
     let clean1 = clean_before s1 s2 c.execute-2.ensures.survives.clean clean in
     let m1 = made_index s0 s1 bare_tables with_killtime_index CREATE_KILLTIME_INDEX.now killtime_index c.in_ok-execute.field-0 makes_killtime_index refl indexed_killtime (c.in_ok-execute.ensures.runs clean1) was.inside was.schema_is in
-    let m2 = made_index s1 s2 with_killtime_index six_tables CREATE_CHOICE_INDEX.now choice_index c.in_ok-execute-2.field-0 makes_choice_index refl indexed_choice (c.in_ok-execute-2.ensures.runs clean) m1.0.mode m1.1 in
-    (goes_on s0 s1 s2 m1.0 m2.0, record { schema_is = m2.1; sound = m2.2; rows = kept_rows six_tables.tables s0.now.trees s1.now.trees s2.now.trees m1.3 m2.3 })
+    let m2 = made_index s1 s2 with_killtime_index core_tables CREATE_CHOICE_INDEX.now choice_index c.in_ok-execute-2.field-0 makes_choice_index refl indexed_choice (c.in_ok-execute-2.ensures.runs clean) m1.0.mode m1.1 in
+    (goes_on s0 s1 s2 m1.0 m2.0, record { schema_is = m2.1; sound = m2.2; rows = kept_rows core_tables.tables s0.now.trees s1.now.trees s2.now.trees m1.3 m2.3 })
 
 -- inside a transaction, with the first index
 abbrev HasFirstIndex : State → Type 0

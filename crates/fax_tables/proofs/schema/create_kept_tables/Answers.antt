@@ -2,7 +2,7 @@ use Rattle.std.proofs.Common.{refl}
 use Rattle.sqlite.specs.Held.{state}
 use Rattle.fax_tables.specs.declared.schema.TheConstants.{CREATE_REPLIES, CREATE_META}
 use Rattle.fax_tables.specs.Schema as schema
-use Rattle.fax_tables.specs.Schema.{bare_tables, four_tables, with_replies}
+use Rattle.fax_tables.specs.Schema.{bare_tables, with_down, with_replies}
 use Rattle.fax_tables.proofs.CreateLemmas.{clean_before, commit_kept, goes_on, made, refused_keeps}
 use Rattle.fax_tables.proofs.CreateTexts.{makes_replies, created_replies, makes_meta, created_meta}
 use Rattle.fax_tables.proofs.ResultLemmas.{on_err}
@@ -27,7 +27,7 @@ returns-in_err-execute-2-clause-kept g c clean =
     let clean1 = clean_before s1 s2 c.execute-2.ensures.survives.clean clean in
     on_err c.from_residual-in_err-execute-2.result
     (λ was.
-    let m1 = made s0 s1 four_tables with_replies CREATE_REPLIES.now schema.replies c.in_ok-execute.field-0 makes_replies created_replies refl (c.in_ok-execute.ensures.runs clean1) was in
+    let m1 = made s0 s1 with_down with_replies CREATE_REPLIES.now schema.replies c.in_ok-execute.field-0 makes_replies created_replies refl (c.in_ok-execute.ensures.runs clean1) was in
     commit_kept s0 s1 s2 m1.0 (refused_keeps s1 s2 CREATE_META.now c.in_err-execute-2.field-0.0 (c.in_err-execute-2.ensures.runs clean)))
 
 pub returns-clause-made : goal.returns-clause-made
@@ -36,7 +36,7 @@ returns-clause-made g c clean was =
     let s1 = state g.S.Store c.execute.new.self in
     let s2 = state g.S.Store c.execute-2.new.self in
     let clean1 = clean_before s1 s2 c.execute-2.ensures.survives.clean clean in
-    let m1 = made s0 s1 four_tables with_replies CREATE_REPLIES.now schema.replies c.in_ok-execute.field-0 makes_replies created_replies refl (c.in_ok-execute.ensures.runs clean1) was in
+    let m1 = made s0 s1 with_down with_replies CREATE_REPLIES.now schema.replies c.in_ok-execute.field-0 makes_replies created_replies refl (c.in_ok-execute.ensures.runs clean1) was in
     let m2 = made s1 s2 with_replies bare_tables CREATE_META.now schema.meta c.in_ok-execute-2.field-0 makes_meta created_meta refl (c.in_ok-execute-2.ensures.runs clean) m1.1 in
     (goes_on s0 s1 s2 m1.0 m2.0, m2.1)
 
@@ -44,7 +44,7 @@ pub returns-in_err-execute-clause-crash : goal.returns-in_err-execute-clause-cra
 returns-in_err-execute-clause-crash g c =
     let s0 = state g.S.Store c.args.conn.now in
     let s1 = state g.S.Store c.execute.new.self in
-    let h1 = step_holds_back s0 s1 (HasEmptyTables four_tables) four_tables CREATE_REPLIES.now CreateTable makes_replies.command (λ e. e) (λ was. (was.inside, was.schema_is)) c.execute.ensures.survives in
+    let h1 = step_holds_back s0 s1 (HasEmptyTables with_down) with_down CREATE_REPLIES.now CreateTable makes_replies.command (λ e. e) (λ was. (was.inside, was.schema_is)) c.execute.ensures.survives in
     h1
 
 pub returns-in_err-execute-2-clause-crash : goal.returns-in_err-execute-2-clause-crash
@@ -52,15 +52,15 @@ returns-in_err-execute-2-clause-crash g c =
     let s0 = state g.S.Store c.args.conn.now in
     let s1 = state g.S.Store c.execute.new.self in
     let s2 = state g.S.Store c.execute-2.new.self in
-    let h1 = step_holds_back s0 s1 (HasEmptyTables four_tables) four_tables CREATE_REPLIES.now CreateTable makes_replies.command (λ e. e) (λ was. (was.inside, was.schema_is)) c.execute.ensures.survives in
+    let h1 = step_holds_back s0 s1 (HasEmptyTables with_down) with_down CREATE_REPLIES.now CreateTable makes_replies.command (λ e. e) (λ was. (was.inside, was.schema_is)) c.execute.ensures.survives in
     let h2 = step_holds_back s1 s2 (HasEmptyTables with_replies) with_replies CREATE_META.now CreateTable makes_meta.command (λ e. e) (λ was. (was.inside, was.schema_is)) c.execute-2.ensures.survives in
-    holds_back_then s0 s1 s2 (HasEmptyTables four_tables) (HasEmptyTables with_replies) (clean_before s0 s1 c.execute.ensures.survives.clean) h1 (λ clean was. (made s0 s1 four_tables with_replies CREATE_REPLIES.now schema.replies c.in_ok-execute.field-0 makes_replies created_replies refl (c.in_ok-execute.ensures.runs clean) was).1) h2
+    holds_back_then s0 s1 s2 (HasEmptyTables with_down) (HasEmptyTables with_replies) (clean_before s0 s1 c.execute.ensures.survives.clean) h1 (λ clean was. (made s0 s1 with_down with_replies CREATE_REPLIES.now schema.replies c.in_ok-execute.field-0 makes_replies created_replies refl (c.in_ok-execute.ensures.runs clean) was).1) h2
 
 pub returns-clause-crash : goal.returns-clause-crash
 returns-clause-crash g c =
     let s0 = state g.S.Store c.args.conn.now in
     let s1 = state g.S.Store c.execute.new.self in
     let s2 = state g.S.Store c.execute-2.new.self in
-    let h1 = step_holds_back s0 s1 (HasEmptyTables four_tables) four_tables CREATE_REPLIES.now CreateTable makes_replies.command (λ e. e) (λ was. (was.inside, was.schema_is)) c.execute.ensures.survives in
+    let h1 = step_holds_back s0 s1 (HasEmptyTables with_down) with_down CREATE_REPLIES.now CreateTable makes_replies.command (λ e. e) (λ was. (was.inside, was.schema_is)) c.execute.ensures.survives in
     let h2 = step_holds_back s1 s2 (HasEmptyTables with_replies) with_replies CREATE_META.now CreateTable makes_meta.command (λ e. e) (λ was. (was.inside, was.schema_is)) c.execute-2.ensures.survives in
-    holds_back_then s0 s1 s2 (HasEmptyTables four_tables) (HasEmptyTables with_replies) (clean_before s0 s1 c.execute.ensures.survives.clean) h1 (λ clean was. (made s0 s1 four_tables with_replies CREATE_REPLIES.now schema.replies c.in_ok-execute.field-0 makes_replies created_replies refl (c.in_ok-execute.ensures.runs clean) was).1) h2
+    holds_back_then s0 s1 s2 (HasEmptyTables with_down) (HasEmptyTables with_replies) (clean_before s0 s1 c.execute.ensures.survives.clean) h1 (λ clean was. (made s0 s1 with_down with_replies CREATE_REPLIES.now schema.replies c.in_ok-execute.field-0 makes_replies created_replies refl (c.in_ok-execute.ensures.runs clean) was).1) h2

@@ -2,7 +2,7 @@ use Rattle.std.proofs.Common.{refl}
 use Rattle.sqlite.specs.Held.{state}
 use Rattle.fax_tables.specs.declared.schema.TheConstants.{CREATE_JOBS, CREATE_GRANTS, CREATE_HOLDS, CREATE_DOWN}
 use Rattle.fax_tables.specs.Schema as schema
-use Rattle.fax_tables.specs.Schema.{four_tables, no_tables, with_grants, with_holds, with_jobs}
+use Rattle.fax_tables.specs.Schema.{with_down, no_tables, with_grants, with_holds, with_jobs}
 use Rattle.fax_tables.proofs.CreateLemmas.{clean_before, commit_kept, goes_on, made, refused_keeps}
 use Rattle.fax_tables.proofs.CreateTexts.{makes_jobs, created_jobs, makes_grants, created_grants, makes_holds, created_holds, makes_down, created_down}
 use Rattle.fax_tables.proofs.ResultLemmas.{on_err}
@@ -74,7 +74,7 @@ returns-clause-made g c clean was =
     let m1 = made s0 s1 no_tables with_jobs CREATE_JOBS.now schema.jobs c.in_ok-execute.field-0 makes_jobs created_jobs refl (c.in_ok-execute.ensures.runs clean1) was in
     let m2 = made s1 s2 with_jobs with_grants CREATE_GRANTS.now schema.grants c.in_ok-execute-2.field-0 makes_grants created_grants refl (c.in_ok-execute-2.ensures.runs clean2) m1.1 in
     let m3 = made s2 s3 with_grants with_holds CREATE_HOLDS.now schema.holds c.in_ok-execute-3.field-0 makes_holds created_holds refl (c.in_ok-execute-3.ensures.runs clean3) m2.1 in
-    let m4 = made s3 s4 with_holds four_tables CREATE_DOWN.now schema.down c.in_ok-execute-4.field-0 makes_down created_down refl (c.in_ok-execute-4.ensures.runs clean) m3.1 in
+    let m4 = made s3 s4 with_holds with_down CREATE_DOWN.now schema.down c.in_ok-execute-4.field-0 makes_down created_down refl (c.in_ok-execute-4.ensures.runs clean) m3.1 in
     (goes_on s0 s1 s4 m1.0 (goes_on s1 s2 s4 m2.0 (goes_on s2 s3 s4 m3.0 m4.0)), m4.1)
 
 pub returns-in_err-execute-clause-crash : goal.returns-in_err-execute-clause-crash

@@ -5,7 +5,7 @@ use Rattle.sqlite.specs.Listing.{understood}
 use Rattle.sqlite.specs.State.{State, CommitsBy, Executes, Survives}
 use Rattle.sqlite.proofs.Callers.{command_of}
 use Rattle.fax_tables.specs.declared.schema.TheConstants.{DROP_CALLS}
-use Rattle.fax_tables.specs.Schema.{bare_tables, bare_with_calls, calls, calls_at, older_six_tables, older_tables, seven_tables, six_tables}
+use Rattle.fax_tables.specs.Schema.{bare_tables, bare_with_calls, calls, calls_at, older_core_tables, older_tables, our_tables, core_tables}
 use Rattle.fax_tables.specs.Stop.{HoldsBack}
 use Rattle.fax_tables.specs.Tables.{GoesOn, HasCallsBeside, LacksCalls}
 use Rattle.fax_tables.proofs.CreateLemmas.{dropped, refused_keeps}
@@ -22,13 +22,13 @@ returns-in_err-execute-clause-kept g c clean =
 taken : (old new : State) (count : ℕ) → Executes DROP_CALLS.now [] old new (Ok count) → HasCallsBeside old → GoesOn old new × LacksCalls old.now new.now
 taken old new count h was = elim was.schema_is [
   | inl seven ↦
-      (let it = dropped old new seven_tables six_tables DROP_CALLS.now calls count drops_calls refl refl refl left_six h was.inside seven in
+      (let it = dropped old new our_tables core_tables DROP_CALLS.now calls count drops_calls refl refl refl left_six h was.inside seven in
       (it.0, record { schema_is = inl it.1; sound = it.2; rows = it.3 }))
   | inr (inl bare) ↦
       (let it = dropped old new bare_with_calls bare_tables DROP_CALLS.now (calls_at 11) count drops_bare_calls refl refl refl left_bare h was.inside bare in
       (it.0, record { schema_is = inr (inl it.1); sound = it.2; rows = it.3 }))
   | inr (inr older) ↦
-      (let it = dropped old new older_tables older_six_tables DROP_CALLS.now calls count drops_older_calls refl refl refl left_older_six h was.inside older in
+      (let it = dropped old new older_tables older_core_tables DROP_CALLS.now calls count drops_older_calls refl refl refl left_older_six h was.inside older in
       (it.0, record { schema_is = inr (inr it.1); sound = it.2; rows = it.3 }))
 ]
 

@@ -8,7 +8,7 @@ use Rattle.sqlite.proofs.Callers.{command_of}
 use Rattle.sqlite_catalog.specs.Change.{KeepsRows}
 use Rattle.sqlite_schema.specs.declared.schema.Schema.{Schema}
 use Rattle.fax_tables.specs.declared.schema.TheConstants.{DROP_CHOICE_INDEX, DROP_KILLTIME_INDEX}
-use Rattle.fax_tables.specs.Schema.{AreIndexedLast, bare_tables, bare_with_calls, calls_at, choice_index_at, killtime_index_at, older_choice_index_at, older_six_tables, older_vacuumed_tables, six_tables, vacuumed_tables, vacuumed_with_killtime, with_killtime_index}
+use Rattle.fax_tables.specs.Schema.{AreIndexedLast, bare_tables, bare_with_calls, calls_at, choice_index_at, killtime_index_at, older_choice_index_at, older_core_tables, older_vacuumed_tables, core_tables, vacuumed_tables, vacuumed_with_killtime, with_killtime_index}
 use Rattle.fax_tables.specs.Stop.{HoldsBack}
 use Rattle.fax_tables.specs.Tables.{GoesOn, HasIndexesLast, LosesIndexes}
 use Rattle.fax_tables.proofs.CreateLemmas.{clean_before, commit_kept, goes_on, kept_but_last, kept_rows, lost_index, refused_keeps}
@@ -25,22 +25,22 @@ AreWithFirst schema = (schema ≡ vacuumed_with_killtime) ⊎ (schema ≡ with_k
 pub record LosesFirst (s0 s1 : State) : Type 0 where
   pub on : GoesOn s0 s1
   pub schema_is : AreWithFirst s1.now.schema
-  pub alone : s0.now.schema ≡ older_six_tables → s1.now.schema ≡ with_killtime_index
-  pub rows : KeepsRows six_tables.tables s0.now.trees s1.now.trees
+  pub alone : s0.now.schema ≡ older_core_tables → s1.now.schema ≡ with_killtime_index
+  pub rows : KeepsRows core_tables.tables s0.now.trees s1.now.trees
 
-six_and_seven : {schema : Schema} → schema ≡ older_six_tables → length schema.tables ≡ 7 → {X : Type 0} → X
+six_and_seven : {schema : Schema} → schema ≡ older_core_tables → length schema.tables ≡ 7 → {X : Type 0} → X
 six_and_seven six seven = absurd (let e : 6 ≡ 7 = sym (ap (λ (s : Schema). length s.tables) six) ∙ seven in omega arith)
 
 first_lost : (s0 s1 : State) (n : ℕ) → Executes DROP_CHOICE_INDEX.now [] s0 s1 (Ok n) → HasIndexesLast s0 → LosesFirst s0 s1
 first_lost s0 s1 n ran was = elim was.schema_is [
   | inl vacuumed ↦
       (let m = lost_index s0 s1 vacuumed_tables vacuumed_with_killtime DROP_CHOICE_INDEX.now 7 (choice_index_at 14) n drops_choice refl left_killtime ran was.inside vacuumed in
-      record { on = m.0; schema_is = inl m.1; alone = λ six. six_and_seven six (ap (λ (s : Schema). length s.tables) vacuumed); rows = kept_but_last six_tables.tables (calls_at 11) s0.now.trees s1.now.trees m.3 })
+      record { on = m.0; schema_is = inl m.1; alone = λ six. six_and_seven six (ap (λ (s : Schema). length s.tables) vacuumed); rows = kept_but_last core_tables.tables (calls_at 11) s0.now.trees s1.now.trees m.3 })
   | inr (inl older) ↦
       (let m = lost_index s0 s1 older_vacuumed_tables vacuumed_with_killtime DROP_CHOICE_INDEX.now 7 (older_choice_index_at 14) n drops_older_choice refl left_older_killtime ran was.inside older in
-      record { on = m.0; schema_is = inl m.1; alone = λ six. six_and_seven six (ap (λ (s : Schema). length s.tables) older); rows = kept_but_last six_tables.tables (calls_at 11) s0.now.trees s1.now.trees m.3 })
+      record { on = m.0; schema_is = inl m.1; alone = λ six. six_and_seven six (ap (λ (s : Schema). length s.tables) older); rows = kept_but_last core_tables.tables (calls_at 11) s0.now.trees s1.now.trees m.3 })
   | inr (inr six) ↦
-      (let m = lost_index s0 s1 older_six_tables with_killtime_index DROP_CHOICE_INDEX.now 6 (older_choice_index_at 12) n drops_last_choice refl left_last_killtime ran was.inside six in
+      (let m = lost_index s0 s1 older_core_tables with_killtime_index DROP_CHOICE_INDEX.now 6 (older_choice_index_at 12) n drops_last_choice refl left_last_killtime ran was.inside six in
       record { on = m.0; schema_is = inr m.1; alone = λ _. m.1; rows = m.3 })
 ]
 
@@ -49,19 +49,19 @@ both_lost : (s0 s1 s2 : State) (n : ℕ) → Executes DROP_KILLTIME_INDEX.now []
 both_lost s0 s1 s2 n ran m1 = elim m1.schema_is [
   | inl seven ↦
       (let m2 = lost_index s1 s2 vacuumed_with_killtime bare_with_calls DROP_KILLTIME_INDEX.now 6 (killtime_index_at 13) n drops_killtime refl left_bare_calls ran m1.on.mode seven in
-      let rows = kept_but_last six_tables.tables (calls_at 11) s1.now.trees s2.now.trees m2.3 in (
+      let rows = kept_but_last core_tables.tables (calls_at 11) s1.now.trees s2.now.trees m2.3 in (
         goes_on s0 s1 s2 m1.on m2.0,
         record {
           schema_is = inl m2.1;
           alone = λ six. absurd (let e : 6 ≡ 7 = sym (ap (λ (s : Schema). length s.tables) (m1.alone six)) ∙ ap (λ (s : Schema). length s.tables) seven in omega arith);
           sound = m2.2;
-          rows = kept_rows six_tables.tables s0.now.trees s1.now.trees s2.now.trees m1.rows rows;
+          rows = kept_rows core_tables.tables s0.now.trees s1.now.trees s2.now.trees m1.rows rows;
         },
       ))
   | inr six ↦
       (let m2 = lost_index s1 s2 with_killtime_index bare_tables DROP_KILLTIME_INDEX.now 5 (killtime_index_at 11) n drops_last_killtime refl left_last_bare ran m1.on.mode six in (
         goes_on s0 s1 s2 m1.on m2.0,
-        record { schema_is = inr m2.1; alone = λ _. m2.1; sound = m2.2; rows = kept_rows six_tables.tables s0.now.trees s1.now.trees s2.now.trees m1.rows m2.3 },
+        record { schema_is = inr m2.1; alone = λ _. m2.1; sound = m2.2; rows = kept_rows core_tables.tables s0.now.trees s1.now.trees s2.now.trees m1.rows m2.3 },
       ))
 ]
 

@@ -2,7 +2,7 @@ use Rattle.sqlite.specs.Held.{state}
 use Rattle.fax_tables.specs.declared.schema.TheConstants.{INSERT_META}
 use Rattle.fax_tables.proofs.CreateLemmas.{filled, refused_keeps}
 use Rattle.fax_tables.proofs.ResultLemmas.{on_err}
-use Rattle.fax_tables.specs.Schema.{seven_tables}
+use Rattle.fax_tables.specs.Schema.{our_tables}
 use Rattle.fax_tables.specs.Tables.{HasEmptyTables}
 use Rattle.fax_tables.proofs.CreateTexts.{insert_meta}
 use Rattle.fax_tables.proofs.StopLemmas.{step_holds_back}
@@ -17,8 +17,8 @@ returns-clause-made g c clean was = filled (state g.S.Store c.args.conn.now) (st
 
 pub returns-in_err-execute-clause-crash : goal.returns-in_err-execute-clause-crash
 returns-in_err-execute-clause-crash g c =
-    step_holds_back (state g.S.Store c.args.conn.now) (state g.S.Store c.execute.new.self) (HasEmptyTables seven_tables) seven_tables INSERT_META.now _ insert_meta.is (λ e. e) (λ was. (was.inside, was.schema_is)) c.execute.ensures.survives
+    step_holds_back (state g.S.Store c.args.conn.now) (state g.S.Store c.execute.new.self) (HasEmptyTables our_tables) our_tables INSERT_META.now _ insert_meta.is (λ e. e) (λ was. (was.inside, was.schema_is)) c.execute.ensures.survives
 
 pub returns-clause-crash : goal.returns-clause-crash
 returns-clause-crash g c =
-    step_holds_back (state g.S.Store c.args.conn.now) (state g.S.Store c.execute.new.self) (HasEmptyTables seven_tables) seven_tables INSERT_META.now _ insert_meta.is (λ e. e) (λ was. (was.inside, was.schema_is)) c.execute.ensures.survives
+    step_holds_back (state g.S.Store c.args.conn.now) (state g.S.Store c.execute.new.self) (HasEmptyTables our_tables) our_tables INSERT_META.now _ insert_meta.is (λ e. e) (λ was. (was.inside, was.schema_is)) c.execute.ensures.survives

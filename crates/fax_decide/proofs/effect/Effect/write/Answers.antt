@@ -1,94 +1,37 @@
-use Rattle.std.proofs.Common.{sym, subst, rules}
+use Rattle.std.proofs.Common.{sym, subst}
 use Rattle.sqlite.specs.Held.{state}
-use Rattle.fax_core.specs.Machine.{with_mark}
+use Rattle.fax_store.specs.Meta.{with_clock}
 use Rattle.fax_store.specs.Work.{Works}
-use Rattle.fax_decide.specs.Effect.{IsWithin, IsWritable, Suits, effected}
+use Rattle.fax_decide.specs.Effect.{IsWritable, Suits, effected}
 use Rattle.fax_decide.proofs.WorkLemmas.{refused_any}
 use Rattle.fax_store.proofs.StopLemmas.{withholds_then}
+use Rattle.fax_store.proofs.WorkLemmas.{refused_as}
 use Rattle.fax_decide.proofs.effect.Effect.write.Goals as goal
 
 pub returns-in-NewJob-clause-changes : goal.returns-in-NewJob-clause-changes
 returns-in-NewJob-clause-changes g c m₀ m k₀ k suits works =
-    subst (λ e. Works (state g.S.Store c.put_job.new.self.store.now.conn) c.put_job.new.self.failed m₀ k₀ (effected e m) k) (sym c.in-NewJob.is) (c.put_job.ensures.changes m₀ m k₀ k works)
-
-pub returns-in-ChangedJob-clause-changes : goal.returns-in-ChangedJob-clause-changes
-returns-in-ChangedJob-clause-changes g c m₀ m k₀ k suits works =
-    let suited = subst (λ e. Suits e m) c.in-ChangedJob.is suits in
-    subst (λ e. Works (state g.S.Store c.put_change.new.self.store.now.conn) c.put_change.new.self.failed m₀ k₀ (effected e m) k) (sym c.in-ChangedJob.is) (c.put_change.ensures.changes m₀ m k₀ k suited works)
-
-pub returns-in-Marked-clause-changes : goal.returns-in-Marked-clause-changes
-returns-in-Marked-clause-changes g c m₀ m k₀ k suits works =
-    let named = subst (λ text. Works (state g.S.Store c.set_down.new.self.store.now.conn) c.set_down.new.self.failed m₀ k₀ (with_mark text c.in-Marked.down m) k) c.as_str.ensures.text (c.set_down.ensures.changes m₀ m k₀ k works) in
-    subst (λ e. Works (state g.S.Store c.set_down.new.self.store.now.conn) c.set_down.new.self.failed m₀ k₀ (effected e m) k) (sym c.in-Marked.is) named
-
-pub returns-in_err-put_change-in-NewGrant-clause-changes : goal.returns-in_err-put_change-in-NewGrant-clause-changes
-returns-in_err-put_change-in-NewGrant-clause-changes g c m₀ m k₀ k suits works =
-    let suited = subst (λ e. Suits e m) c.in-NewGrant.is suits in
-    refused_any (state g.S.Store c.put_change-in-NewGrant.new.self.store.now.conn) c.put_change-in-NewGrant.new.self.failed m₀ _ _ k₀ _ _ c.in_err-put_change-in-NewGrant.ensures.fails (c.put_change-in-NewGrant.ensures.changes m₀ m k₀ k suited works)
-
-pub returns-in_ok-put_change-in-NewGrant-clause-changes : goal.returns-in_ok-put_change-in-NewGrant-clause-changes
-returns-in_ok-put_change-in-NewGrant-clause-changes g c m₀ m k₀ k suits works =
-    let suited = subst (λ e. Suits e m) c.in-NewGrant.is suits in
-    subst (λ e. Works (state g.S.Store c.put_grant.new.self.store.now.conn) c.put_grant.new.self.failed m₀ k₀ (effected e m) k) (sym c.in-NewGrant.is) (c.put_grant.ensures.changes m₀ _ k₀ _ (c.put_change-in-NewGrant.ensures.changes m₀ m k₀ k suited works))
-
-pub returns-in_err-put_change-in-Reported-clause-changes : goal.returns-in_err-put_change-in-Reported-clause-changes
-returns-in_err-put_change-in-Reported-clause-changes g c m₀ m k₀ k suits works =
-    let suited = subst (λ e. Suits e m) c.in-Reported.is suits in
-    refused_any (state g.S.Store c.put_change-in-Reported.new.self.store.now.conn) c.put_change-in-Reported.new.self.failed m₀ _ _ k₀ _ _ c.in_err-put_change-in-Reported.ensures.fails (c.put_change-in-Reported.ensures.changes m₀ m k₀ k suited.0 works)
-
-pub returns-in_ok-put_change-in-Reported-clause-changes : goal.returns-in_ok-put_change-in-Reported-clause-changes
-returns-in_ok-put_change-in-Reported-clause-changes g c m₀ m k₀ k suits works =
-    let suited = subst (λ e. Suits e m) c.in-Reported.is suits in
-    subst (λ e. Works (state g.S.Store c.put_report.new.self.store.now.conn) c.put_report.new.self.failed m₀ k₀ (effected e m) k) (sym c.in-Reported.is) (c.put_report.ensures.changes m₀ _ k₀ _ suited.1 (c.put_change-in-Reported.ensures.changes m₀ m k₀ k suited.0 works))
-
-pub returns-in_err-put_change-in-Closed-clause-changes : goal.returns-in_err-put_change-in-Closed-clause-changes
-returns-in_err-put_change-in-Closed-clause-changes g c m₀ m k₀ k suits works =
-    let suited = subst (λ e. Suits e m) c.in-Closed.is suits in
-    refused_any (state g.S.Store c.put_change-in-Closed.new.self.store.now.conn) c.put_change-in-Closed.new.self.failed m₀ _ _ k₀ _ _ c.in_err-put_change-in-Closed.ensures.fails (c.put_change-in-Closed.ensures.changes m₀ m k₀ k suited works)
-
-pub returns-in_ok-put_change-in-Closed-clause-changes : goal.returns-in_ok-put_change-in-Closed-clause-changes
-returns-in_ok-put_change-in-Closed-clause-changes g c m₀ m k₀ k suits works =
-    let suited = subst (λ e. Suits e m) c.in-Closed.is suits in
-    subst (λ e. Works (state g.S.Store c.close_grant.new.self.store.now.conn) c.close_grant.new.self.failed m₀ k₀ (effected e m) k) (sym c.in-Closed.is) (c.close_grant.ensures.changes m₀ _ k₀ _ (c.put_change-in-Closed.ensures.changes m₀ m k₀ k suited works))
-
-pub returns-in_ok-put_change-in-NewGrant-clause-holds : goal.returns-in_ok-put_change-in-NewGrant-clause-holds
-returns-in_ok-put_change-in-NewGrant-clause-holds g c db over = c.put_grant.ensures.holds db (c.put_change-in-NewGrant.ensures.holds db over)
-
-pub returns-in_ok-put_change-in-Reported-clause-holds : goal.returns-in_ok-put_change-in-Reported-clause-holds
-returns-in_ok-put_change-in-Reported-clause-holds g c db over = c.put_report.ensures.holds db (c.put_change-in-Reported.ensures.holds db over)
-
-pub returns-in_ok-put_change-in-Closed-clause-holds : goal.returns-in_ok-put_change-in-Closed-clause-holds
-returns-in_ok-put_change-in-Closed-clause-holds g c db over = c.close_grant.ensures.holds db (c.put_change-in-Closed.ensures.holds db over)
+    subst (λ e. Works (state g.S.Store c.put_next_job.new.self.store.now.conn) c.put_next_job.new.self.failed m₀ k₀ (with_clock c.args.clock (effected e m)) k) (sym c.in-NewJob.is)
+    (c.put_next_job.ensures.changes m₀ m k₀ k (subst (λ e. Suits e m) c.in-NewJob.is suits) works)
 
 pub returns-in-NewJob-clause-cause : goal.returns-in-NewJob-clause-cause
 returns-in-NewJob-clause-cause g c m₀ m k₀ k works s fits =
     let fit = subst (λ e. IsWritable e m) c.in-NewJob.is fits in
-    c.put_job.ensures.cause m₀ m k₀ k works s (fit.free, fit.within)
+    c.put_next_job.ensures.cause m₀ m k₀ k works s (fit.suits, fit.free, fit.within)
 
-pub returns-in-Marked-clause-cause : goal.returns-in-Marked-clause-cause
-returns-in-Marked-clause-cause g c m₀ m k₀ k works s fits = c.set_down.ensures.cause m₀ m k₀ k works s (λ down. search rules)
+pub returns-in_err-change-clause-changes : goal.returns-in_err-change-clause-changes
+returns-in_err-change-clause-changes g c m₀ m k₀ k suits works =
+    refused_any (state g.S.Store c.change.new.work.store.now.conn) c.change.new.work.failed m₀ _ _ k₀ _ _ c.in_err-change.ensures.fails (c.change.ensures.changes m₀ m k₀ k suits works)
 
-pub returns-in_ok-put_change-in-NewGrant-clause-cause : goal.returns-in_ok-put_change-in-NewGrant-clause-cause
-returns-in_ok-put_change-in-NewGrant-clause-cause g c m₀ m k₀ k works s fits =
-    let fit = subst (λ e. IsWritable e m) c.in-NewGrant.is fits in
-    c.put_grant.ensures.cause m₀ _ k₀ _ (c.put_change-in-NewGrant.ensures.changes m₀ m k₀ k fit.suits works) s (fit.within.0, fit.free.0, fit.free.1, fit.within.1)
+pub returns-clause-changes : goal.returns-clause-changes
+returns-clause-changes g c m₀ m k₀ k suits works = c.set_clock.ensures.changes m₀ _ k₀ _ (c.change.ensures.changes m₀ m k₀ k suits works)
 
-pub returns-in_ok-put_change-in-Reported-clause-cause : goal.returns-in_ok-put_change-in-Reported-clause-cause
-returns-in_ok-put_change-in-Reported-clause-cause g c m₀ m k₀ k works s fits = c.put_report.ensures.cause (subst (λ e. IsWithin e m) c.in-Reported.is fits.within)
+pub returns-clause-holds : goal.returns-clause-holds
+returns-clause-holds g c db over = c.set_clock.ensures.holds db (c.change.ensures.holds db over)
 
-pub returns-in_ok-put_change-in-NewGrant-clause-crash : goal.returns-in_ok-put_change-in-NewGrant-clause-crash
-returns-in_ok-put_change-in-NewGrant-clause-crash g c =
-    withholds_then (state g.S.Store c.args.work.now.store.now.conn) (state g.S.Store c.put_change-in-NewGrant.new.self.store.now.conn) (state g.S.Store c.put_grant.new.self.store.now.conn) _ c.put_change-in-NewGrant.ensures.crash c.put_grant.ensures.crash
+pub returns-clause-crash : goal.returns-clause-crash
+returns-clause-crash g c =
+    withholds_then (state g.S.Store c.args.work.now.store.now.conn) (state g.S.Store c.change.new.work.store.now.conn) (state g.S.Store c.set_clock.new.self.store.now.conn) _ c.change.ensures.crash c.set_clock.ensures.crash
 
-pub returns-in_ok-put_change-in-Reported-clause-crash : goal.returns-in_ok-put_change-in-Reported-clause-crash
-returns-in_ok-put_change-in-Reported-clause-crash g c =
-    withholds_then (state g.S.Store c.args.work.now.store.now.conn) (state g.S.Store c.put_change-in-Reported.new.self.store.now.conn) (state g.S.Store c.put_report.new.self.store.now.conn) _ c.put_change-in-Reported.ensures.crash c.put_report.ensures.crash
-
-pub returns-in_ok-put_change-in-Closed-clause-crash : goal.returns-in_ok-put_change-in-Closed-clause-crash
-returns-in_ok-put_change-in-Closed-clause-crash g c =
-    withholds_then (state g.S.Store c.args.work.now.store.now.conn) (state g.S.Store c.put_change-in-Closed.new.self.store.now.conn) (state g.S.Store c.close_grant.new.self.store.now.conn) _ c.put_change-in-Closed.ensures.crash c.close_grant.ensures.crash
-
-pub returns-in_ok-put_change-in-Closed-clause-cause : goal.returns-in_ok-put_change-in-Closed-clause-cause
-returns-in_ok-put_change-in-Closed-clause-cause g c m₀ m k₀ k works s fits =
-    let fit = subst (λ e. IsWritable e m) c.in-Closed.is fits in
-    c.close_grant.ensures.cause m₀ _ k₀ _ (c.put_change-in-Closed.ensures.changes m₀ m k₀ k fit.suits works) s tt
+pub returns-in_err-change-clause-cause : goal.returns-in_err-change-clause-cause
+returns-in_err-change-clause-cause g c m₀ m k₀ k works s fits =
+    refused_as c.from_residual.result c.in_err-change.field-0.0 c.from_residual.ensures.1 (c.in_err-change.ensures.cause m₀ m k₀ k works s fits)

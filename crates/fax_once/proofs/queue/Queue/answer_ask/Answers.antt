@@ -37,11 +37,11 @@ returns-in-Ok-clause-seen g c get is =
     (subst (IsAsk c.args.arrival.now.method c.args.arrival.now.path.now c.args.arrival.now.body.now) c.in-Step.is is))
 
 pub returns-in-Ok-clause-repeated : goal.returns-in-Ok-clause-repeated
-returns-in-Ok-clause-repeated g c db six rests used =
-    c.step.ensures.repeated db six rests (its_reply c.args.arrival.now c.in-Ok.sender db c.in-Ok.ensures.sender used)
+returns-in-Ok-clause-repeated g c db ours rests used =
+    c.step.ensures.repeated db ours rests (its_reply c.args.arrival.now c.in-Ok.sender db c.in-Ok.ensures.sender used)
 
 pub returns-in-View-clause-repeated : goal.returns-in-View-clause-repeated
-returns-in-View-clause-repeated g c db six rests used = c.show.ensures.stays db six rests
+returns-in-View-clause-repeated g c db ours rests used = c.show.ensures.stays db ours rests
 
 pub returns-in-View-clause-crash : goal.returns-in-View-clause-crash
 returns-in-View-clause-crash g c m k sound means is lawful found may = inl (c.show.ensures.crash found may)

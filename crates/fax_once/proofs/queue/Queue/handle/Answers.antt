@@ -28,13 +28,13 @@ returns-in-Err-clause-sound g c m k sound means clean =
     (returns-in-Err-clause-handled g c m k sound means clean)
 
 pub returns-in-Err-clause-refused : goal.returns-in-Err-clause-refused
-returns-in-Err-clause-refused g c refused db six rests = c.is_shut.ensures.stays db six (c.in-Err.ensures.unchanged tt db six rests)
+returns-in-Err-clause-refused g c refused db ours rests = c.is_shut.ensures.stays db ours (c.in-Err.ensures.unchanged tt db ours rests)
 
 pub returns-in-Err-clause-seen : goal.returns-in-Err-clause-seen
-returns-in-Err-clause-seen g c get db six rests = c.is_shut.ensures.stays db six (c.in-Err.ensures.seen get db six rests)
+returns-in-Err-clause-seen g c get db ours rests = c.is_shut.ensures.stays db ours (c.in-Err.ensures.seen get db ours rests)
 
 pub returns-in-Err-clause-repeated : goal.returns-in-Err-clause-repeated
-returns-in-Err-clause-repeated g c db six rests used = c.is_shut.ensures.stays db six (c.in-Err.ensures.repeated db six rests used)
+returns-in-Err-clause-repeated g c db ours rests used = c.is_shut.ensures.stays db ours (c.in-Err.ensures.repeated db ours rests used)
 
 pub returns-in-Err-clause-crash : goal.returns-in-Err-clause-crash
 returns-in-Err-clause-crash g c m k sound means found may = c.in-Err.ensures.crash m k sound means found (c.is_shut.ensures.crash found may)

@@ -13,7 +13,7 @@ returns-clause-viewed g c m k sound means serves =
     (c.moment_at-t.ensures ∙ ap (λ meta. decided_at meta.clock c.args.moment) same) (c.show.ensures.viewed m k sound (means_stay c.meta.ensures.served c.meta.ensures.stays m k means) serves)
 
 pub returns-clause-stays : goal.returns-clause-stays
-returns-clause-stays g c db six rests = c.show.ensures.stays db six (c.meta.ensures.stays db six rests)
+returns-clause-stays g c db ours rests = c.show.ensures.stays db ours (c.meta.ensures.stays db ours rests)
 
 pub returns-clause-crash : goal.returns-clause-crash
 returns-clause-crash g c found may = c.meta.ensures.crash found (c.show.ensures.crash found may)

@@ -22,22 +22,22 @@ returns-in-None-clause-stepped g c m k sound means clean from lawful =
     (λ serves. subst (IsKeptFor k c.args.sender.now.client.now c.args.sender.now.number) c.in-None.is (c.in_ok-kept.ensures.found m k means serves))
 
 pub returns-in-None-clause-unchanged : goal.returns-in-None-clause-unchanged
-returns-in-None-clause-unchanged g c refused db six rests = c.step_once.ensures.unchanged refused db six (c.kept.ensures.stays db six rests)
+returns-in-None-clause-unchanged g c refused db ours rests = c.step_once.ensures.unchanged refused db ours (c.kept.ensures.stays db ours rests)
 
 pub returns-in_err-kept-clause-stepped : goal.returns-in_err-kept-clause-stepped
 returns-in_err-kept-clause-stepped g c m k sound means clean from lawful =
     refused_with c.from_residual.result _ _ c.from_residual.ensures.0 (means_stay c.kept.ensures.served c.kept.ensures.stays m k means)
 
 pub returns-in-None-clause-repeated : goal.returns-in-None-clause-repeated
-returns-in-None-clause-repeated g c db six rests used serves =
+returns-in-None-clause-repeated g c db ours rests used serves =
     let read = c.in_ok-kept.ensures.opens (c.step_once.ensures.clean serves.clean) in
-    absurd (subst (MissesNone db c.args.sender.now.client.now c.args.sender.now.number) c.in-None.is (c.in_ok-kept.ensures.unkept db six rests read) used)
+    absurd (subst (MissesNone db c.args.sender.now.client.now c.args.sender.now.number) c.in-None.is (c.in_ok-kept.ensures.unkept db ours rests read) used)
 
 pub returns-in-Some-clause-repeated : goal.returns-in-Some-clause-repeated
-returns-in-Some-clause-repeated g c db six rests used = c.kept.ensures.stays db six rests
+returns-in-Some-clause-repeated g c db ours rests used = c.kept.ensures.stays db ours rests
 
 pub returns-in_err-kept-clause-repeated : goal.returns-in_err-kept-clause-repeated
-returns-in_err-kept-clause-repeated g c db six rests used = c.kept.ensures.stays db six rests
+returns-in_err-kept-clause-repeated g c db ours rests used = c.kept.ensures.stays db ours rests
 
 pub returns-in-None-clause-crash : goal.returns-in-None-clause-crash
 returns-in-None-clause-crash g c m k sound means from =

@@ -36,11 +36,11 @@ returns-in_err-decision-clause-stepped g c m k sound means opens clean from lawf
     refused_with c.from_residual-in_err-decision.result _ _ c.from_residual-in_err-decision.ensures.0 (means_stay c.decide.ensures.served c.decide.ensures.stays m k read)
 
 pub returns-in_err-decision-clause-unchanged : goal.returns-in_err-decision-clause-unchanged
-returns-in_err-decision-clause-unchanged g c refused db six rests = c.decide.ensures.stays db six (c.meta.ensures.stays db six rests)
+returns-in_err-decision-clause-unchanged g c refused db ours rests = c.decide.ensures.stays db ours (c.meta.ensures.stays db ours rests)
 
 pub returns-clause-unchanged : goal.returns-clause-unchanged
-returns-clause-unchanged g c refused db six rests =
-    c.settle.ensures.unchanged refused db six (c.decide.ensures.stays db six (c.meta.ensures.stays db six rests))
+returns-clause-unchanged g c refused db ours rests =
+    c.settle.ensures.unchanged refused db ours (c.decide.ensures.stays db ours (c.meta.ensures.stays db ours rests))
 
 pub returns-clause-crash : goal.returns-clause-crash
 returns-clause-crash g c m k sound means from unused =

@@ -1,96 +1,41 @@
-use Rattle.std.proofs.Common.{◌≡◌, ◌+◌, ◌<◌, true, false, Ok, subst, ap, arith, rules}
+use Rattle.std.proofs.Common.{◌≡◌, Ok, ap, subst}
+use Rattle.std.specs.Prelude.{is_err}
 use Rattle.sqlite.specs.Held.{state}
 use Rattle.fax_core.specs.Job.{job_of}
-use Rattle.fax_store.specs.Job.{with_placed, with_one_more_job}
-use Rattle.fax_tables.specs.Meta.{meta_of, with_meta}
-use Rattle.fax_tables.specs.Tables.{IsLawfulMeta}
-use Rattle.fax_store.specs.Work.{Steps}
-use Rattle.fax_store.proofs.WorkLemmas.{goes_on, holds_by, holds_err, holds_then, moves_of, refused_as, steps_fault}
-use Rattle.std.specs.Prelude.{is_err}
-use Rattle.fax_store.proofs.StopLemmas.{withholds_by, withholds_err, withholds_then}
+use Rattle.fax_tables.specs.Meta.{meta_of}
+use Rattle.fax_tables.specs.declared.meta.Meta.{Meta}
+use Rattle.fax_store.specs.Job.{with_one_more_job}
+use Rattle.fax_store.specs.Meta.{with_clock}
+use Rattle.fax_store.specs.Work.{Moves}
+use Rattle.fax_store.proofs.WorkLemmas.{goes_on, holds_by, holds_then}
+use Rattle.fax_store.proofs.StopLemmas.{withholds_by, withholds_then}
 use Rattle.fax_store.proofs.store.Store.add_job.Goals as goal
 
 pub returns-clause-written : goal.returns-clause-written
 returns-clause-written g c m₀ m k₀ k works s =
     let old = state g.S.Store c.args.self.now.conn in
     let read = state g.S.Store c.read_meta.new.self.conn in
-    let put = state g.S.Store c.insert_job.new.self.conn in
-    let new = state g.S.Store c.write_meta.new.self.conn in
-    let j = job_of c.args.job.now in
-    let at_put = c.write_meta.ensures.served s in
-    let at_read = c.insert_job.ensures.served at_put in
-    let first = goes_on old read c.read_meta.ensures.served (Ok c.in_ok-meta.meta) c.in_ok-meta.ensures.reads (λ m k meta. meta ≡ meta_of m) c.in_ok-meta.ensures.answers m₀ m k₀ k works at_read in
-    let second = c.in_ok-insert_job.ensures.written m₀ m k₀ k (λ _. first.1) at_put in
-    let went : false ≡ false = λ i. false in
-    let was = (((works (c.read_meta.ensures.served at_read)).goes_on went).means).lawful.meta in
-    let meta = c.in_ok-meta.meta in
-    let same : meta ≡ meta_of m = first.0 in
-    let low : meta.next_job < 1000000 = search rules in
-    let next : meta.next_job ≡ m.next_job = ap (λ it. it.next_job) same in
-    let lawful : IsLawfulMeta (with_one_more_job j m) = record { clock = was.clock; next_job = (omega arith, omega (arith, low, next)); next_grant = was.next_grant } in
-    let done : Steps new c.write_meta.result m₀ k₀ (with_one_more_job j m) k = subst (λ it. IsLawfulMeta (with_meta (record it { next_job = it.next_job + 1 }) (with_placed j m)) → Steps new c.write_meta.result m₀ k₀ (with_meta (record it { next_job = it.next_job + 1 }) (with_placed j m)) k) same
-    (c.write_meta.ensures.written m₀ (with_placed j m) k₀ k (λ _. second) s) lawful in
-    moves_of new c.write_meta.result m₀ (with_one_more_job j m) k₀ k done
+    let first = goes_on old read c.read_meta.ensures.served (Ok c.in_ok-meta.meta) c.in_ok-meta.ensures.reads (λ m k meta. meta ≡ meta_of m) c.in_ok-meta.ensures.answers m₀ m k₀ k works (c.add_next_job.ensures.served s) in
+    subst (λ n. Moves (state g.S.Store c.add_next_job.new.self.conn) c.add_next_job.result m₀ k₀ (with_clock n (with_one_more_job (job_of c.args.job.now) m)) k) (ap (λ (x : Meta). x.clock) first.0)
+    (c.add_next_job.ensures.written m₀ m k₀ k first.0 (λ _. first.1) s)
 
 pub returns-clause-cause : goal.returns-clause-cause
 returns-clause-cause g c m₀ m k₀ k works s fits =
     let old = state g.S.Store c.args.self.now.conn in
     let read = state g.S.Store c.read_meta.new.self.conn in
-    let put = state g.S.Store c.insert_job.new.self.conn in
-    let new = state g.S.Store c.write_meta.new.self.conn in
-    let j = job_of c.args.job.now in
-    let at_put = c.write_meta.ensures.served s in
-    let at_read = c.insert_job.ensures.served at_put in
-    let first = goes_on old read c.read_meta.ensures.served (Ok c.in_ok-meta.meta) c.in_ok-meta.ensures.reads (λ m k meta. meta ≡ meta_of m) c.in_ok-meta.ensures.answers m₀ m k₀ k works at_read in
-    let second = c.in_ok-insert_job.ensures.written m₀ m k₀ k (λ _. first.1) at_put in
-    let went : false ≡ false = λ i. false in
-    let was = (((works (c.read_meta.ensures.served at_read)).goes_on went).means).lawful.meta in
-    let meta = c.in_ok-meta.meta in
-    let same : meta ≡ meta_of m = first.0 in
-    let low : meta.next_job < 1000000 = search rules in
-    let next : meta.next_job ≡ m.next_job = ap (λ it. it.next_job) same in
-    let lawful : IsLawfulMeta (with_one_more_job j m) = record { clock = was.clock; next_job = (omega arith, omega (arith, low, next)); next_grant = was.next_grant } in
-    let done : Steps new c.write_meta.result m₀ k₀ (with_one_more_job j m) k = subst (λ it. IsLawfulMeta (with_meta (record it { next_job = it.next_job + 1 }) (with_placed j m)) → Steps new c.write_meta.result m₀ k₀ (with_meta (record it { next_job = it.next_job + 1 }) (with_placed j m)) k) same
-    (c.write_meta.ensures.written m₀ (with_placed j m) k₀ k (λ _. second) s) lawful in
-    steps_fault new c.write_meta.result m₀ (with_one_more_job j m) k₀ k done
-
-pub returns-in_err-insert_job-clause-cause : goal.returns-in_err-insert_job-clause-cause
-returns-in_err-insert_job-clause-cause g c m₀ m k₀ k works s fits =
-    let old = state g.S.Store c.args.self.now.conn in
-    let read = state g.S.Store c.read_meta.new.self.conn in
-    let first = goes_on old read c.read_meta.ensures.served (Ok c.in_ok-meta.meta) c.in_ok-meta.ensures.reads (λ m k meta. meta ≡ meta_of m) c.in_ok-meta.ensures.answers m₀ m k₀ k works (c.insert_job.ensures.served s) in
-    refused_as c.from_residual-in_err-insert_job.result c.in_err-insert_job.field-0.0 c.from_residual-in_err-insert_job.ensures.1 (c.in_err-insert_job.ensures.cause m₀ m k₀ k (λ _. first.1) s fits.0)
-
-pub returns-in_err-insert_job-clause-holds : goal.returns-in_err-insert_job-clause-holds
-returns-in_err-insert_job-clause-holds g c =
-    let old = state g.S.Store c.args.self.now.conn in
-    let read = state g.S.Store c.read_meta.new.self.conn in
-    let put = state g.S.Store c.insert_job.new.self.conn in
-    holds_err old put c.from_residual-in_err-insert_job.result _ c.from_residual-in_err-insert_job.ensures.1
-    (holds_then old read put true c.insert_job.ensures.served (holds_by old read c.read_meta.ensures.served (Ok c.in_ok-meta.meta) c.in_ok-meta.ensures.reads) c.in_err-insert_job.ensures.holds)
+    let first = goes_on old read c.read_meta.ensures.served (Ok c.in_ok-meta.meta) c.in_ok-meta.ensures.reads (λ m k meta. meta ≡ meta_of m) c.in_ok-meta.ensures.answers m₀ m k₀ k works (c.add_next_job.ensures.served s) in
+    c.add_next_job.ensures.cause m₀ m k₀ k (λ _. first.1) s (first.0, fits.0, fits.1)
 
 pub returns-clause-holds : goal.returns-clause-holds
 returns-clause-holds g c =
     let old = state g.S.Store c.args.self.now.conn in
     let read = state g.S.Store c.read_meta.new.self.conn in
-    let put = state g.S.Store c.insert_job.new.self.conn in
-    let first = holds_by old read c.read_meta.ensures.served (Ok c.in_ok-meta.meta) c.in_ok-meta.ensures.reads in
-    holds_then old put (state g.S.Store c.write_meta.new.self.conn) (is_err c.write_meta.result) c.write_meta.ensures.served
-    (holds_then old read put false c.insert_job.ensures.served first c.in_ok-insert_job.ensures.holds) c.write_meta.ensures.holds
-
-pub returns-in_err-insert_job-clause-crash : goal.returns-in_err-insert_job-clause-crash
-returns-in_err-insert_job-clause-crash g c =
-    let old = state g.S.Store c.args.self.now.conn in
-    let read = state g.S.Store c.read_meta.new.self.conn in
-    let put = state g.S.Store c.insert_job.new.self.conn in
-    withholds_err old put c.from_residual-in_err-insert_job.result _ c.from_residual-in_err-insert_job.ensures.1
-    (withholds_then old read put true (withholds_by old read c.read_meta.ensures.clean (Ok c.in_ok-meta.meta) c.in_ok-meta.ensures.reads c.read_meta.ensures.crash) c.in_err-insert_job.ensures.crash)
+    holds_then old read (state g.S.Store c.add_next_job.new.self.conn) (is_err c.add_next_job.result) c.add_next_job.ensures.served
+    (holds_by old read c.read_meta.ensures.served (Ok c.in_ok-meta.meta) c.in_ok-meta.ensures.reads) c.add_next_job.ensures.holds
 
 pub returns-clause-crash : goal.returns-clause-crash
 returns-clause-crash g c =
     let old = state g.S.Store c.args.self.now.conn in
     let read = state g.S.Store c.read_meta.new.self.conn in
-    let put = state g.S.Store c.insert_job.new.self.conn in
-    let first = withholds_by old read c.read_meta.ensures.clean (Ok c.in_ok-meta.meta) c.in_ok-meta.ensures.reads c.read_meta.ensures.crash in
-    withholds_then old put (state g.S.Store c.write_meta.new.self.conn) (is_err c.write_meta.result)
-    (withholds_then old read put false first c.in_ok-insert_job.ensures.crash) c.write_meta.ensures.crash
+    withholds_then old read (state g.S.Store c.add_next_job.new.self.conn) (is_err c.add_next_job.result)
+    (withholds_by old read c.read_meta.ensures.clean (Ok c.in_ok-meta.meta) c.in_ok-meta.ensures.reads c.read_meta.ensures.crash) c.add_next_job.ensures.crash

@@ -1,10 +1,10 @@
 use Rattle.std.proofs.Common.{◌≡◌}
 use Rattle.sqlite.specs.Held.{state}
-use Rattle.fax_tables.specs.Schema.{six_tables}
-use Rattle.fax_store.specs.Adopt.{AreSix, AreStores}
+use Rattle.fax_tables.specs.Schema.{core_tables}
+use Rattle.fax_store.specs.Adopt.{AreCore, AreStores}
 use Rattle.fax_store.proofs.AdoptLemmas.{goes_then}
 use Rattle.fax_store.proofs.store.Store.get_indexes.Goals as goal
 
 pub returns-clause-goes : goal.returns-clause-goes
 returns-clause-goes g c =
-    goes_then (state g.S.Store c.args.self.now.conn) (state g.S.Store c.lose_older.new.self.conn) (state g.S.Store c.make_indexes.new.self.conn) AreSix AreStores (λ schema. schema ≡ six_tables) c.in_ok-lose_older.ensures.goes c.make_indexes.ensures.clean c.make_indexes.result c.make_indexes.ensures.goes
+    goes_then (state g.S.Store c.args.self.now.conn) (state g.S.Store c.lose_older.new.self.conn) (state g.S.Store c.make_indexes.new.self.conn) AreCore AreStores (λ schema. schema ≡ core_tables) c.in_ok-lose_older.ensures.goes c.make_indexes.ensures.clean c.make_indexes.result c.make_indexes.ensures.goes

@@ -1,5 +1,5 @@
 use Rattle.sqlite.specs.Held.{state}
-use Rattle.fax_tables.specs.Schema.{six_tables}
+use Rattle.fax_tables.specs.Schema.{core_tables}
 use Rattle.fax_tables.proofs.CreateLemmas.{clean_before, commit_kept, goes_on, kept_rows}
 use Rattle.fax_store.proofs.AdoptLemmas.{refused_step}
 use Rattle.fax_store.proofs.store.Store.renew.Goals as goal
@@ -17,7 +17,7 @@ returns-clause-goes g c clean was =
     let lost = c.in_ok-lose_calls.ensures.goes clean2 (record { is_open = ordered.0.is_open; inside = ordered.0.mode; schema_is = ordered.1.0 }) in
     let six = c.in_ok-get_indexes.ensures.goes clean3 (record { is_open = lost.0.is_open; inside = lost.0.mode; schema_is = lost.1.0 }) in
     let made = c.in_ok-create_calls.ensures.made clean (record { inside = six.0.mode; schema_is = six.1.0 }) in
-    let tables = six_tables.tables in
+    let tables = core_tables.tables in
     let before = kept_rows tables s0.now.trees s1.now.trees s2.now.trees ordered.1.1 lost.1.1 in (
       goes_on s0 s3 s4 (goes_on s0 s2 s3 (goes_on s0 s1 s2 ordered.0 lost.0) six.0) made.0,
       record {

@@ -3,9 +3,8 @@ use Rattle.sqlite.specs.Held.{state}
 use Rattle.sqlite.specs.Order.{Row}
 use Rattle.sqlite.specs.declared.types.Value.TheVariants.{Text}
 use Rattle.fax_core.specs.Job.{job_of}
-use Rattle.fax_core.specs.Machine.{with_job as with_change}
 use Rattle.fax_store.specs.declared.jobs.TheConstants.{UPDATE_JOB}
-use Rattle.fax_store.specs.Job.{IsChange}
+use Rattle.fax_store.specs.Job.{IsChange, with_change}
 use Rattle.fax_tables.specs.Row.{number}
 use Rattle.fax_store.specs.Store.{HasRun}
 use Rattle.fax_store.specs.Work.{Steps}

@@ -1,9 +1,8 @@
 use Rattle.std.proofs.Common.{List}
 use Rattle.sqlite.specs.Held.{state}
 use Rattle.fax_core.specs.Job.{job_of}
-use Rattle.fax_core.specs.Machine.{with_job as with_change}
 use Rattle.fax_core.specs.Queue.{Entry}
-use Rattle.fax_store.specs.Job.{IsChange}
+use Rattle.fax_store.specs.Job.{IsChange, with_change}
 use Rattle.fax_store.proofs.WorkLemmas.{steps_where, moves_of}
 use Rattle.fax_store.proofs.work.Work.put_change.Goals as goal
 

@@ -1,0 +1,153 @@
+-- What is decided of a job doesn't depend on its extra lines, which stay as they are.
+use Rattle.std.proofs.Common.{◌≡◌, ℕ, Bool, true, false, cond, not, ◌&&◌, ◌||◌, ◌==◌, List, [], ◌∷◌, Option, Some, None, Result, Ok, Err, refl, sym, ap, ◌∙◌}
+use Rattle.std.specs.Prelude.{is_none, is_some, nat_le}
+use Rattle.fax_job.specs.Pair.{Pair}
+use Rattle.fax_job.specs.Status.{kill_time_expired, killed, too_many_dials, too_many_tries, unable_to_transmit}
+use Rattle.fax_job.specs.declared.alter.Alter.{Alter}
+use Rattle.fax_job.specs.declared.job.Call.{Call}
+use Rattle.fax_job.specs.declared.job.Call.TheVariants as calls
+use Rattle.fax_job.specs.declared.job.Phase.{Phase}
+use Rattle.fax_job.specs.declared.job.Phase.TheVariants.{Held, Waiting, Granted, Done, Failed}
+use Rattle.fax_job.specs.declared.job.Wish.{Wish}
+use Rattle.fax_job.specs.declared.job.Wish.TheVariants as wish
+use Rattle.fax_job.specs.declared.refusal.Refusal.{Refusal}
+use Rattle.fax_job.specs.declared.refusal.Refusal.TheVariants.{CallKnown, CallMissing, GrantClosed, LimitReached, NotConnected, PageOrder, PagesLeft, PagesMismatch}
+use Rattle.fax_core.specs.declared.grants.Grant.{Grant}
+use Rattle.fax_core.specs.declared.report.Ending.{Ending}
+use Rattle.fax_core.specs.declared.report.Ending.TheVariants as ending
+use Rattle.fax_core.specs.declared.report.Outcome.{Outcome}
+use Rattle.fax_core.specs.Ageing.{aged_job, expires, is_past}
+use Rattle.fax_core.specs.Decisions.{JobAndGrant, after_call, altered, alter_in, call, ended, ended_by, failed, is_connected, is_done, is_empty, is_kill, kill_in, outcome, page, page_of, phase_after, resume_in, retried, suspend_in, within_limits}
+use Rattle.fax_core.specs.Job.{Job}
+use Rattle.fax_core.specs.Machine.{keys_of_job}
+use Rattle.fax_core.specs.State.{state_in}
+use Rattle.fax_decide.specs.JobAsk.{decision_on}
+use Rattle.fax_decide.specs.declared.jobs.JobAsk.{JobAsk}
+use Rattle.fax_decide.specs.declared.jobs.JobAsk.TheVariants.{Suspend, Resume, Kill, Alter as Alteration}
+
+module _ (lines : List Pair) where
+  -- the job with these lines
+  abbrev pub lined : Job → Job
+  lined j = record j { extra = lines }
+
+  either : (b : Bool) (x y i j : Job) → lined x ≡ i → lined y ≡ j → lined (cond b x y) ≡ cond b i j
+  either true x y i j first second = first
+  either false x y i j first second = second
+
+  -- ---- its state, and what time does to it
+
+  pub state_lined : (phase : Phase) (j : Job) (hours : Bool) (calls limit t : ℕ) → state_in phase (lined j) hours calls limit t ≡ state_in phase j hours calls limit t
+  state_lined Held j hours calls limit t = refl
+  state_lined Waiting j hours calls limit t = refl
+  state_lined Granted j hours calls limit t = refl
+  state_lined Done j hours calls limit t = refl
+  state_lined Failed j hours calls limit t = refl
+
+  pub aged_lined : (t : ℕ) (j : Job) → lined (aged_job t j) ≡ aged_job t (lined j)
+  aged_lined t j = either (expires j.phase && is_past j.killtime t) (record j { phase = Failed; status = kill_time_expired }) j _ _ refl refl
+
+  -- ---- a client's requests
+
+  abbrev pub job_lined : Result Job Refusal → Result Job Refusal
+  job_lined (Ok j) = Ok (lined j)
+  job_lined (Err e) = Err e
+
+  suspend_lined : (phase : Phase) (w : Wish) (j : Job) → job_lined (suspend_in phase w j) ≡ suspend_in phase w (lined j)
+  suspend_lined Held w j = refl
+  suspend_lined Waiting w j = refl
+  suspend_lined Granted wish.Go j = refl
+  suspend_lined Granted wish.Hold j = refl
+  suspend_lined Granted wish.Kill j = refl
+  suspend_lined Done w j = refl
+  suspend_lined Failed w j = refl
+
+  resume_lined : (phase : Phase) (w : Wish) (j : Job) → job_lined (resume_in phase w j) ≡ resume_in phase w (lined j)
+  resume_lined Held w j = refl
+  resume_lined Waiting w j = refl
+  resume_lined Granted wish.Go j = refl
+  resume_lined Granted wish.Hold j = refl
+  resume_lined Granted wish.Kill j = refl
+  resume_lined Done w j = refl
+  resume_lined Failed w j = refl
+
+  kill_lined : (phase : Phase) (j : Job) → job_lined (kill_in phase j) ≡ kill_in phase (lined j)
+  kill_lined Held j = refl
+  kill_lined Waiting j = refl
+  kill_lined Granted j = refl
+  kill_lined Done j = refl
+  kill_lined Failed j = refl
+
+  limits_lined : (b : Bool) (j : Job) → job_lined (cond b (Err LimitReached) (Ok j)) ≡ cond b (Err LimitReached) (Ok (lined j))
+  limits_lined true j = refl
+  limits_lined false j = refl
+
+  alter_lined : (phase : Phase) (changes : Alter) (j : Job) (t : ℕ) → job_lined (alter_in phase changes j t) ≡ alter_in phase changes (lined j) t
+  alter_lined Held changes j t =
+      let k = altered changes j t in
+      limits_lined (nat_le k.maxdials k.totdials || nat_le k.maxtries k.tottries) k
+  alter_lined Waiting changes j t = refl
+  alter_lined Granted changes j t = refl
+  alter_lined Done changes j t = refl
+  alter_lined Failed changes j t = refl
+
+  pub decision_lined : (ask : JobAsk) (t : ℕ) (j : Job) → job_lined (decision_on ask t j) ≡ decision_on ask t (lined j)
+  decision_lined Suspend t j = suspend_lined j.phase j.wish j
+  decision_lined Resume t j = resume_lined j.phase j.wish j
+  decision_lined Kill t j = kill_lined j.phase j
+  decision_lined (Alteration changes) t j = alter_lined j.phase changes j t
+
+  -- ---- a worker's reports
+
+  abbrev pub both_lined : Result JobAndGrant Refusal → Result JobAndGrant Refusal
+  both_lined (Ok b) = Ok (record b { job = lined b.job })
+  both_lined (Err e) = Err e
+
+  unless : (b : Bool) (e : Refusal) (x y : Result JobAndGrant Refusal) → both_lined x ≡ y → both_lined (cond b (Err e) x) ≡ cond b (Err e) y
+  unless true e x y same = refl
+  unless false e x y same = same
+
+  called : (c : Call) (j : Job) → lined (after_call c j) ≡ after_call c (lined j)
+  called calls.Connected j = refl
+  called calls.Busy j = refl
+  called calls.NoAnswer j = refl
+  called calls.NoCarrier j = refl
+  called calls.Other j = refl
+
+  pub call_lined : (c : Call) (j : Job) (g : Grant) → both_lined (call c j g) ≡ call c (lined j) g
+  call_lined c j g =
+      unless (not g.is_open) GrantClosed _ _
+      (unless (is_some g.call) CallKnown _ _ (ap (λ (k : Job). Ok (record { job = k; grant = record g { call = Some c } })) (called c j)))
+
+  paged : (left : List ℕ) (n : ℕ) (j : Job) (g : Grant) → both_lined (page_of left n j g) ≡ page_of left n (lined j) g
+  paged [] n j g = refl
+  paged (p ∷ rest) n j g = unless (not (p == n)) PageOrder _ _ refl
+
+  pub page_lined : (n : ℕ) (j : Job) (g : Grant) → both_lined (page n j g) ≡ page n (lined j) g
+  page_lined n j g = unless (not g.is_open) GrantClosed _ _ (unless (not (is_connected g.call)) NotConnected _ _ (paged j.left n j g))
+
+  retry_lined : (j : Job) (reason : List ℕ) (delay t : ℕ) → lined (retried j reason delay t) ≡ retried (lined j) reason delay t
+  retry_lined j reason delay t =
+      either (is_kill j.wish) (failed j killed) _ _ _ refl
+      (either (is_past j.killtime t) (failed j kill_time_expired) _ _ _ refl
+      (either (nat_le j.maxdials j.totdials) (failed j too_many_dials) _ _ _ refl
+      (either (nat_le j.maxtries j.tottries) (failed j too_many_tries) _ _ _ refl
+      (either (nat_le 3 j.ntries) (failed j unable_to_transmit) _ _ _ refl refl))))
+
+  ended_lined : (left : List ℕ) (e : Ending) (o : Outcome) (j : Job) (delay t : ℕ) → o.ending ≡ e → lined (ended left o j delay t) ≡ ended left o (lined j) delay t
+  ended_lined [] e o j delay t is = refl
+  ended_lined (p ∷ rest) ending.Done o j delay t is = rw is refl
+  ended_lined (p ∷ rest) ending.Fail o j delay t is = rw is refl
+  ended_lined (p ∷ rest) ending.Retry o j delay t is = rw is (retry_lined j o.reason delay t)
+
+  pub outcome_lined : (o : Outcome) (j : Job) (g : Grant) (delay t : ℕ) → both_lined (outcome o j g delay t) ≡ outcome o (lined j) g delay t
+  outcome_lined o j g delay t =
+      unless (not g.is_open) GrantClosed _ _
+      (unless (not o.dialed && is_some g.call) CallKnown _ _
+      (unless (o.dialed && is_none g.call) CallMissing _ _
+      (unless (not (o.pages == g.confirmed)) PagesMismatch _ _
+      (unless (is_done o.ending && not (is_empty j.left)) PagesLeft _ _
+      (ap (λ (k : Job). Ok (record { job = k; grant = record g { is_open = false } })) (ended_lined j.left o.ending o j delay t refl))))))
+
+  pub keys_lined : (e : Refusal) (j : Job) → keys_of_job e (lined j) ≡ keys_of_job e j
+  keys_lined PageOrder j = refl
+  keys_lined e j = refl

@@ -1,0 +1,76 @@
+use Rattle.std.proofs.Common.{◌≡◌, ◌+◌, ◌<◌, ◌≤◌, false, subst, ap, arith, rules}
+use Rattle.std.specs.Prelude.{is_err}
+use Rattle.sqlite.specs.Held.{state}
+use Rattle.fax_core.specs.Job.{job_of}
+use Rattle.fax_store.specs.Job.{with_placed, with_one_more_job}
+use Rattle.fax_store.specs.Meta.{with_clock}
+use Rattle.fax_tables.specs.Meta.{with_meta}
+use Rattle.fax_tables.specs.declared.meta.Meta.{Meta}
+use Rattle.fax_tables.specs.Tables.{IsLawfulMeta}
+use Rattle.fax_store.specs.Work.{Steps}
+use Rattle.fax_store.proofs.WorkLemmas.{holds_then, holds_err, moves_of, refused_as, steps_fault}
+use Rattle.fax_store.proofs.StopLemmas.{withholds_err, withholds_then}
+use Rattle.fax_store.proofs.store.Store.add_next_job.Goals as goal
+
+pub returns-clause-written : goal.returns-clause-written
+returns-clause-written g c m₀ m k₀ k same works s =
+    let old = state g.S.Store c.args.self.now.conn in
+    let put = state g.S.Store c.insert_job.new.self.conn in
+    let new = state g.S.Store c.write_meta.new.self.conn in
+    let j = job_of c.args.job.now in
+    let clock = c.args.clock in
+    let at_put = c.write_meta.ensures.served s in
+    let second = c.in_ok-insert_job.ensures.written m₀ m k₀ k works at_put in
+    let went : false ≡ false = λ i. false in
+    let was = (((works (c.insert_job.ensures.served at_put)).goes_on went).means).lawful.meta in
+    let low : c.args.meta.next_job < 1000000 = search rules in
+    let next : c.args.meta.next_job ≡ m.next_job = ap (λ (it : Meta). it.next_job) same in
+    let within : clock ≤ 4102444800 = search rules in
+    let lawful : IsLawfulMeta (with_clock clock (with_one_more_job j m)) = record { clock = within; next_job = (omega arith, omega (arith, low, next)); next_grant = was.next_grant } in
+    let done : Steps new c.write_meta.result m₀ k₀ (with_clock clock (with_one_more_job j m)) k = subst (λ it. IsLawfulMeta (with_meta (record it { clock = clock; next_job = it.next_job + 1 }) (with_placed j m)) → Steps new c.write_meta.result m₀ k₀ (with_meta (record it { clock = clock; next_job = it.next_job + 1 }) (with_placed j m)) k) same
+    (c.write_meta.ensures.written m₀ (with_placed j m) k₀ k (λ _. second) s) lawful in
+    moves_of new c.write_meta.result m₀ (with_clock clock (with_one_more_job j m)) k₀ k done
+
+pub returns-clause-cause : goal.returns-clause-cause
+returns-clause-cause g c m₀ m k₀ k works s fits =
+    let same = fits.0 in
+    let old = state g.S.Store c.args.self.now.conn in
+    let put = state g.S.Store c.insert_job.new.self.conn in
+    let new = state g.S.Store c.write_meta.new.self.conn in
+    let j = job_of c.args.job.now in
+    let clock = c.args.clock in
+    let at_put = c.write_meta.ensures.served s in
+    let second = c.in_ok-insert_job.ensures.written m₀ m k₀ k works at_put in
+    let went : false ≡ false = λ i. false in
+    let was = (((works (c.insert_job.ensures.served at_put)).goes_on went).means).lawful.meta in
+    let low : c.args.meta.next_job < 1000000 = search rules in
+    let next : c.args.meta.next_job ≡ m.next_job = ap (λ (it : Meta). it.next_job) same in
+    let within : clock ≤ 4102444800 = search rules in
+    let lawful : IsLawfulMeta (with_clock clock (with_one_more_job j m)) = record { clock = within; next_job = (omega arith, omega (arith, low, next)); next_grant = was.next_grant } in
+    let done : Steps new c.write_meta.result m₀ k₀ (with_clock clock (with_one_more_job j m)) k = subst (λ it. IsLawfulMeta (with_meta (record it { clock = clock; next_job = it.next_job + 1 }) (with_placed j m)) → Steps new c.write_meta.result m₀ k₀ (with_meta (record it { clock = clock; next_job = it.next_job + 1 }) (with_placed j m)) k) same
+    (c.write_meta.ensures.written m₀ (with_placed j m) k₀ k (λ _. second) s) lawful in
+    steps_fault new c.write_meta.result m₀ (with_clock clock (with_one_more_job j m)) k₀ k done
+
+pub returns-in_err-insert_job-clause-cause : goal.returns-in_err-insert_job-clause-cause
+returns-in_err-insert_job-clause-cause g c m₀ m k₀ k works s fits =
+    refused_as c.from_residual.result c.in_err-insert_job.field-0.0 c.from_residual.ensures.1 (c.in_err-insert_job.ensures.cause m₀ m k₀ k works s fits.1)
+
+pub returns-in_err-insert_job-clause-holds : goal.returns-in_err-insert_job-clause-holds
+returns-in_err-insert_job-clause-holds g c =
+    holds_err (state g.S.Store c.args.self.now.conn) (state g.S.Store c.insert_job.new.self.conn) c.from_residual.result _ c.from_residual.ensures.1 c.in_err-insert_job.ensures.holds
+
+pub returns-in_err-insert_job-clause-crash : goal.returns-in_err-insert_job-clause-crash
+returns-in_err-insert_job-clause-crash g c =
+    withholds_err (state g.S.Store c.args.self.now.conn) (state g.S.Store c.insert_job.new.self.conn) c.from_residual.result _ c.from_residual.ensures.1 c.in_err-insert_job.ensures.crash
+
+pub returns-clause-holds : goal.returns-clause-holds
+returns-clause-holds g c =
+    let old = state g.S.Store c.args.self.now.conn in
+    let put = state g.S.Store c.insert_job.new.self.conn in
+    holds_then old put (state g.S.Store c.write_meta.new.self.conn) (is_err c.write_meta.result) c.write_meta.ensures.served c.in_ok-insert_job.ensures.holds c.write_meta.ensures.holds
+
+pub returns-clause-crash : goal.returns-clause-crash
+returns-clause-crash g c =
+    let old = state g.S.Store c.args.self.now.conn in
+    let put = state g.S.Store c.insert_job.new.self.conn in
+    withholds_then old put (state g.S.Store c.write_meta.new.self.conn) (is_err c.write_meta.result) c.in_ok-insert_job.ensures.crash c.write_meta.ensures.crash
