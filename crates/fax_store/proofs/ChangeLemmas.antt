@@ -1,6 +1,6 @@
 -- What the texts that change jobs write.
 use Rattle.std.proofs.Common.{◌≡◌, ◌≤◌, ◌<◌, inl, inr, ℕ, suc, List, [], ◌∷◌, map, drop, All, Bool, true, false, ◌&&◌, ◌||◌, Option, Some, None, unwrap_or, if◌then◌else◌, refl, sym, ap, ap₂, subst, ◌∙◌, arith}
-use Rattle.std.specs.Prelude.{IsTrue, find, ◌==◌, nat_le}
+use Rattle.std.specs.Prelude.{IsTrue, is_some, find, ◌==◌, nat_le}
 use Rattle.std.specs.Str.{IsUtf8}
 use Rattle.std.proofs.lemmas.Bool.{and_parts, cases_Bool, eqb-true, eq-eqb}
 use Rattle.std.proofs.lemmas.List.Elements.{All-cons}
@@ -8,8 +8,9 @@ use Rattle.sqlite.specs.Cast.{cast_row}
 use Rattle.sqlite.specs.Order.{Row}
 use Rattle.sqlite.specs.State.{State}
 use Rattle.sqlite.specs.Tree.{rowid, IsTable}
-use Rattle.sqlite.proofs.Callers.{runs_as}
+use Rattle.sqlite.proofs.Callers.{runs_as, reads_as}
 use Rattle.sqlite_rules.specs.Lists.{Has}
+use Rattle.sqlite_rules.proofs.ProbeLemmas.{mapped_has}
 use Rattle.fax_core.specs.Ageing.{aged_job, expires, is_past}
 use Rattle.fax_core.specs.Job.{Job, job_of, fields_of}
 use Rattle.fax_core.specs.Queue.{Queue, Entry, job_numbered, open_grants}
@@ -17,7 +18,7 @@ use Rattle.fax_job.specs.Status.{kill_time_expired}
 use Rattle.fax_job.specs.declared.job.JobFields.{JobFields}
 use Rattle.fax_job.specs.declared.job.Phase.{Phase}
 use Rattle.fax_job.specs.declared.job.Phase.TheVariants.{Held, Waiting, Granted, Done, Failed}
-use Rattle.fax_store.specs.declared.jobs.TheConstants.{UPDATE_JOB, EXPIRE_JOBS}
+use Rattle.fax_store.specs.declared.jobs.TheConstants.{UPDATE_JOB, SELECT_EXPIRED, EXPIRE_JOBS}
 use Rattle.fax_job.specs.Dial.{IsCanonical}
 use Rattle.fax_job.specs.Job.{IsLawful}
 use Rattle.fax_job.specs.JobTag.{IsJobTag}
@@ -29,14 +30,15 @@ use Rattle.fax_store.specs.Job.{IsSameOrder, IsChange, expired_in, lines_of, wit
 use Rattle.fax_tables.specs.Row.{number, job_row, phase_number}
 use Rattle.fax_tables.specs.Schema as schema
 use Rattle.fax_tables.specs.Schema.{our_tables, jobs_tree}
-use Rattle.fax_store.specs.Store.{HasRun}
+use Rattle.fax_store.specs.Store.{FindsRow, HasRun}
 use Rattle.fax_tables.specs.Tables.{TablesMean}
 use Rattle.fax_tables.proofs.CompareLemmas.{at_most, at_least, is_number}
 use Rattle.fax_store.proofs.JobLemmas.{fields_back, lawful_of_fields, stored_job}
 use Rattle.fax_tables.proofs.KeyLemmas.{only_numbered, asked_is, not_asked}
 use Rattle.fax_tables.proofs.RowLemmas.{change_params}
-use Rattle.fax_tables.proofs.SelectLemmas.{passes, show}
-use Rattle.fax_store.proofs.StatementTexts.{job_tests, change_project, update_job, expired_tests, expired_project, expire_jobs}
+use Rattle.fax_tables.proofs.EditLemmas.{none_shown}
+use Rattle.fax_tables.proofs.SelectLemmas.{passes, show, answers}
+use Rattle.fax_store.proofs.StatementTexts.{job_tests, change_project, update_job, expired_tests, expired_project, expire_jobs, killtime_project, select_expired}
 use Rattle.fax_tables.proofs.TablesLemmas.{AreRecords, row_of, parts_of, means_of, calls_as, calls_of, jobs_changed}
 use Rattle.fax_store.proofs.CountLemmas.{calls_mapped, jobs_mapped}
 use Rattle.fax_tables.proofs.UpdateLemmas.{updated}
@@ -212,7 +214,22 @@ module _ (phase : Phase) (t : ℕ) where
     | inr off ↦ subst IsLawfulJob (sym (expired_by j false off)) was
   ]
 
+  unmoved : (xs : List Job) → ((x : Job) → Has xs x → expires_here x ≡ false) → map (expired_in phase t) xs ≡ xs
+  unmoved [] none = refl
+  unmoved (x ∷ xs) none = ap₂ ◌∷◌ (expired_by x false (none x (inl refl))) (unmoved xs (λ y has. none y (inr has)))
+
   module _ (old new : State) (m : Queue) (k : List Entry) (means : TablesMean old.now m k) where
+    -- where no row is shown, no job expires
+    pub none_expired : (found : Option Row) → FindsRow SELECT_EXPIRED.now expired_params old new found → is_some found ≡ false → with_expired_in phase t m ≡ m
+    none_expired None h e =
+        let is_asked = passes jobs_tree expired_tests killtime_project expired_params in
+        let shown = show jobs_tree expired_tests killtime_project expired_params in
+        let rows = answers jobs_tree expired_tests killtime_project expired_params old.now (old.now.trees jobs_tree) refl [] h.0
+        (reads_as SELECT_EXPIRED.now expired_params old new our_tables means.schema _ select_expired.command select_expired.plain select_expired.unlisted h.0 h.1) in
+        ap (λ jobs. record m { jobs = jobs }) (unmoved m.jobs (λ x has.
+        sym (expiring x) ∙ none_shown is_asked shown (old.now.trees jobs_tree) h.0 rows h.2 (row_of x) (subst (λ table. Has table (row_of x)) (sym means.jobs) (mapped_has row_of m.jobs x has))))
+    none_expired (Some row) h e = absurd cc
+
     pub jobs_expired : HasRun EXPIRE_JOBS.now expired_params old new → TablesMean new.now (with_expired_in phase t m) k × KeepsOthers our_tables jobs_tree old new
     jobs_expired h =
         let ran = runs_as EXPIRE_JOBS.now expired_params old new our_tables means.schema _ expire_jobs.is expire_jobs.plain h.0 h.1 in

@@ -18,7 +18,7 @@ use Rattle.fax_store.specs.declared.adopt.TheConstants.{SELECT_DIAL, SELECT_HELD
 use Rattle.fax_store.specs.declared.meta.TheConstants.{SELECT_META, UPDATE_CLOCK, UPDATE_META}
 use Rattle.fax_store.specs.declared.replies.TheConstants.{SELECT_REPLY, INSERT_REPLY}
 use Rattle.fax_store.specs.declared.candidates.TheConstants.{SELECT_FIRST, SELECT_BEHIND_NUMBER, SELECT_BEHIND_TIME, SELECT_BEHIND_PRIORITY}
-use Rattle.fax_store.specs.declared.jobs.TheConstants.{SELECT_JOB, SELECT_BRIEF, INSERT_JOB, UPDATE_JOB, EXPIRE_JOBS, SELECT_WAITING, SELECT_JOBS, SELECT_BRIEFS}
+use Rattle.fax_store.specs.declared.jobs.TheConstants.{SELECT_JOB, SELECT_BRIEF, INSERT_JOB, UPDATE_JOB, SELECT_EXPIRED, EXPIRE_JOBS, SELECT_WAITING, SELECT_JOBS, SELECT_BRIEFS}
 use Rattle.fax_tables.proofs.SelectLemmas.{rows_by, rows_where}
 use Rattle.fax_tables.proofs.UpdateLemmas.{program_of}
 use Rattle.fax_tables.proofs.StatementForms.{equals, Selects, SelectsAll, SelectsBy, Commands}
@@ -146,6 +146,13 @@ update_job = record { is = refl; plain = (refl, refl) }
 
 abbrev pub expired_tests : List Term
 expired_tests = equals (col 1 18) (col 0 1) ∷ op2 (Compare Ge Binary) (col 1 8) (lit (Int (pos 1))) ∷ op2 (Compare Le Binary) (col 1 8) (col 0 0) ∷ []
+
+abbrev pub killtime_project : List Term
+killtime_project = col 1 8 ∷ []
+
+pub select_expired : Selects SELECT_EXPIRED.now jobs_tree expired_tests killtime_project (codes "killtime" ∷ [])
+unfolding understood everything
+select_expired = record { command = refl; plain = (refl, refl); unlisted = refl }
 
 abbrev pub expired_project : List Term
 expired_project =

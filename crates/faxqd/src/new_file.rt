@@ -4,7 +4,7 @@ use std::io::{self, ErrorKind, Write};
 use std::os::unix::fs::{MetadataExt, OpenOptionsExt};
 
 /// How many bytes a page of a new queue has. A commit writes whole pages, and changes little in each.
-const PAGE: usize = 1024;
+const PAGE: usize = 512;
 
 /// Makes the file of this name an empty database, where nothing has that name. It appears whole or not at all.
 ///
