@@ -101,8 +101,8 @@ module _ (s : Settings) (start : Start) (arrivals : List Arrival) (replies : Lis
       let thread = runs_thread s start ran.heard r in
       record {
         heard = r ∷ ran.heard;
-        answered = heard_more s start [] arrivals replies ran.heard a reply r ran.answered reads (told ∙ thread.0);
-        means = subst (λ (e : Start). Means new e.queue e.kept) (sym thread.1) rests;
+        answered = heard_more s start [] arrivals replies ran.heard a reply r ran.answered reads told;
+        means = subst (λ (e : Start). Means new e.queue e.kept) (sym thread) rests;
         are_taken = one_taken s start (taken s start ran.heard) r (lawful_by a r (says a r reads)) ran.are_taken;
       }
 

@@ -13,8 +13,8 @@ use Rattle.fax_once.proofs.RepeatLemmas.{kept_since}
 use Rattle.fax_once.proofs.RunLemmas.{new_is_unkept, runs_thread}
 use Rattle.fax_once.specs.Laws.{CopiesLeaveNoTrace, IsTakenAt, NumbersHaveOneReply, RunsSplit, UntakenLeaveNoTrace, left_of}
 use Rattle.fax_once.specs.Reading.{Post, Reading, Faulty, Sees, Posts}
-use Rattle.fax_once.specs.Run.{Start, end_of, is_new, is_taken, kept_after, once_reply, queue_after, reply_at, reply_behind, step_reply, taken, takes, with_taken}
-use Rattle.fax_once.specs.Verdict.{reply_of, verdict}
+use Rattle.fax_once.specs.Run.{Start, end_of, is_new, is_taken, kept_after, queue_after, reply_at, taken, takes, with_taken}
+use Rattle.fax_once.specs.Verdict.{Repeated, denied, reply_of, step_reply, stepped, taken_once, verdict}
 use Rattle.fax_store.specs.Kept.{kept_for}
 use Rattle.fax_tables.specs.Kept.{entry}
 use Rattle.fax_tables.specs.Tables.{IsKeptStatus}
@@ -30,15 +30,12 @@ module _ (s : Settings) (start : Start) (beginning : List Reading) where
   ends_split [] = refl
   ends_split (r ∷ rest) =
       let same = ends_split rest in
-      (runs_thread s start (rest ++ beginning) r).1
+      runs_thread s start (rest ++ beginning) r
       ∙ ap (λ (e : Start). left_of e (verdict s e.queue e.kept r)) same
-      ∙ sym (runs_thread s later rest r).1
+      ∙ sym (runs_thread s later rest r)
 
   replies_split : (rest : List Reading) (r : Reading) → reply_at s start (rest ++ beginning) r ≡ reply_at s later rest r
-  replies_split rest r =
-      sym (runs_thread s start (rest ++ beginning) r).0
-      ∙ ap (λ (e : Start). reply_of (verdict s e.queue e.kept r)) (ends_split rest)
-      ∙ (runs_thread s later rest r).0
+  replies_split rest r = ap (λ (e : Start). reply_of (verdict s e.queue e.kept r)) (ends_split rest)
 
   -- a post is taken by where the run has led
   taken_by : (first : Start) (past : List Reading) (p : Post) → is_taken s first (taken s first past) p ≡ (is_none (kept_for p.client p.number (end_of s first past).kept) && takes (decided s (end_of s first past).queue p.request))
@@ -78,7 +75,7 @@ no_trace s start (x ∷ later) past r is = ap (λ ps. with_taken s start ps x) (
 pub untaken_leave_no_trace : UntakenLeaveNoTrace
 untaken_leave_no_trace s start later past r is =
     let same = no_trace s start later past r is in
-    (ap (λ ps. record { queue = queue_after s start.queue ps; kept = kept_after s start ps }) same, λ x. ap (λ ps. reply_behind s start ps x) same)
+    (ap (λ ps. record { queue = queue_after s start.queue ps; kept = kept_after s start ps }) same, λ x. ap (λ ps. reply_of (verdict s (queue_after s start.queue ps) (kept_after s start ps) x)) same)
 
 -- ---- numbers that were taken
 
@@ -105,6 +102,14 @@ kept_grows s start earlier (p ∷ more) =
     let reply = step_reply (decided s (queue_after s start.queue (more ++ earlier)) p.request) in
     let e = entry p.client p.number p.said reply.status reply.body in
     (it.0 ++ e ∷ [], ap (λ k. k ++ e ∷ []) it.1 ∙ append_assoc (kept_after s start earlier) it.0 (e ∷ []))
+
+told : (p : Post) (k : List Entry) (x : Step) → reply_of (stepped p k x) ≡ step_reply x
+told p k (Taken after reply) = refl
+told p k (Refused refusal keys) = refl
+
+again : (b : Bool) (reply : Response) → reply_of (if b then Repeated reply else denied NumberReused) ≡ (if b then reply else refused_response NumberReused NoKeys)
+again true reply = refl
+again false reply = refl
 
 module _ (s : Settings) (start : Start) (later past : List Reading) (p : Post) (at : IsTakenAt s start past p) where
   abbrev earlier : List Post
@@ -150,7 +155,10 @@ module _ (s : Settings) (start : Start) (later past : List Reading) (p : Post) (
     whole (Refused refusal keys) is = absurd cc
 
     its_reply : reply_at s start past (Posts p) ≡ reply
-    its_reply = ap (λ o. once_reply o p.said reply) unused
+    its_reply =
+        let step = decided s (queue_after s start.queue earlier) p.request in
+        let k = kept_after s start earlier in
+        ap (λ o. reply_of (taken_once o p.said (stepped p k step))) unused ∙ told p k step
 
     by : (b : Bool) → IsKeptStatus (if b then kept_response reply.status reply.body else refused_response NumberReused NoKeys).status
         → (if b then kept_response reply.status reply.body else refused_response NumberReused NoKeys) ≡ reply
@@ -158,11 +166,10 @@ module _ (s : Settings) (start : Start) (later past : List Reading) (p : Post) (
     by false (inl status) = absurd (true≢false (sym (ap (λ n. eqb n 200) status)))
     by false (inr status) = absurd (true≢false (sym (ap (λ n. eqb n 201) status)))
 
-    abbrev new_reply : Response
-    new_reply = step_reply (decided s (queue_after s start.queue there) q.request)
-
     looked_up : reply_at s start (later ++ Posts p ∷ past) (Posts q) ≡ (if bytes_eq p.said q.said then kept_response reply.status reply.body else refused_response NumberReused NoKeys)
-    looked_up = ap (λ o. once_reply o q.said new_reply) found_for
+    looked_up =
+        ap (λ o. reply_of (taken_once o q.said (stepped q (kept_after s start there) (decided s (queue_after s start.queue there) q.request)))) found_for
+        ∙ again (bytes_eq p.said q.said) (kept_response reply.status reply.body)
 
     pub one_reply : IsKeptStatus (reply_at s start (later ++ Posts p ∷ past) (Posts q)).status → reply_at s start (later ++ Posts p ∷ past) (Posts q) ≡ reply_at s start past (Posts p)
     one_reply status = looked_up ∙ by (bytes_eq p.said q.said) (subst (λ (r : Response). IsKeptStatus r.status) looked_up status) ∙ sym its_reply

@@ -9,8 +9,8 @@ use Rattle.fax_core.specs.Run.{decided}
 use Rattle.fax_core.specs.Settings.{Settings}
 use Rattle.fax_once.specs.Laws.{RunsThread, left_of}
 use Rattle.fax_once.specs.Reading.{Post, Reading, Faulty, Sees, Posts}
-use Rattle.fax_once.specs.Run.{Start, is_new, is_of, kept_after, once_reply, queue_after, reply_behind, step_reply, taken, takes, with_taken}
-use Rattle.fax_once.specs.Verdict.{repeated, reply_of, stepped, taken_once, verdict}
+use Rattle.fax_once.specs.Run.{Start, is_new, is_of, kept_after, queue_after, taken, takes, with_taken}
+use Rattle.fax_once.specs.Verdict.{repeated, step_reply, stepped, taken_once, verdict}
 use Rattle.fax_store.specs.Kept.{kept_for}
 
 -- ---- a number is new where nothing is kept for it
@@ -62,36 +62,31 @@ module _ (s : Settings) (start : Start) (earlier : List Post) where
   abbrev after : List Post → Start
   after posts = record { queue = queue_after s start.queue posts; kept = kept_after s start posts }
 
-  abbrev ThreadsBehind : Reading → Type 0
-  ThreadsBehind r = (reply_of (verdict s m k r) ≡ reply_behind s start earlier r) × (after (with_taken s start earlier r) ≡ left_of here (verdict s m k r))
-
   module _ (p : Post) where
-    by_bytes : (e : Entry) (b : Bool) → bytes_eq e.said p.said ≡ b → (reply_of (repeated p.said e) ≡ once_reply (Some e) p.said (step_reply (decided s m p.request))) × (here ≡ left_of here (repeated p.said e))
-    by_bytes e true is = rw is (refl, refl)
-    by_bytes e false is = rw is (refl, refl)
+    by_bytes : (e : Entry) (b : Bool) → bytes_eq e.said p.said ≡ b → here ≡ left_of here (repeated p.said e)
+    by_bytes e true is = rw is refl
+    by_bytes e false is = rw is refl
 
     unused : (o : Option Entry) → kept_for p.client p.number k ≡ o → is_new start earlier p ≡ is_none o
     unused o is = sym (new_is_unkept s start earlier p) ∙ ap is_none is
 
-    by_step : (x : Step) → decided s m p.request ≡ x
-        → (reply_of (stepped p k x) ≡ step_reply x) × (after (if takes x then p ∷ earlier else earlier) ≡ left_of here (stepped p k x))
-    by_step (Taken q told) is = (refl, rw is refl)
-    by_step (Refused refusal keys) is = (refl, refl)
+    by_step : (x : Step) → decided s m p.request ≡ x → after (if takes x then p ∷ earlier else earlier) ≡ left_of here (stepped p k x)
+    by_step (Taken q told) is = rw is refl
+    by_step (Refused refusal keys) is = refl
 
     by_entry : (o : Option Entry) → kept_for p.client p.number k ≡ o
-        → (reply_of (taken_once o p.said (stepped p k (decided s m p.request))) ≡ once_reply o p.said (step_reply (decided s m p.request)))
-        × (after (if is_none o && takes (decided s m p.request) then p ∷ earlier else earlier) ≡ left_of here (taken_once o p.said (stepped p k (decided s m p.request))))
+        → after (if is_none o && takes (decided s m p.request) then p ∷ earlier else earlier) ≡ left_of here (taken_once o p.said (stepped p k (decided s m p.request)))
     by_entry None is = by_step (decided s m p.request) refl
     by_entry (Some e) is = by_bytes e (bytes_eq e.said p.said) refl
 
-    posted : ThreadsBehind (Posts p)
+    posted : after (with_taken s start earlier (Posts p)) ≡ left_of here (verdict s m k (Posts p))
     posted =
-        let it = by_entry (kept_for p.client p.number k) refl in
-        (it.0, subst (λ b. after (if b && takes (decided s m p.request) then p ∷ earlier else earlier) ≡ left_of here (verdict s m k (Posts p))) (sym (unused (kept_for p.client p.number k) refl)) it.1)
+        subst (λ b. after (if b && takes (decided s m p.request) then p ∷ earlier else earlier) ≡ left_of here (verdict s m k (Posts p)))
+        (sym (unused (kept_for p.client p.number k) refl)) (by_entry (kept_for p.client p.number k) refl)
 
-  pub behind : (r : Reading) → ThreadsBehind r
-  behind (Faulty refusal) = (refl, refl)
-  behind (Sees moment what) = (refl, refl)
+  pub behind : (r : Reading) → after (with_taken s start earlier r) ≡ left_of here (verdict s m k r)
+  behind (Faulty refusal) = refl
+  behind (Sees moment what) = refl
   behind (Posts p) = posted p
 
 pub runs_thread : RunsThread

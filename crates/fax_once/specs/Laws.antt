@@ -76,15 +76,11 @@ left_of start (Told reply) = start
 left_of start (Repeated reply) = start
 left_of start (Accepted after kept reply) = record { queue = after; kept = kept }
 
--- looking back gives what taking one arrival after the other gives: the reply, and where it leads
-abbrev pub Threads : Settings → Start → List Reading → Reading → Type 0
-Threads s start past r =
-    let here = end_of s start past in
-    (reply_of (verdict s here.queue here.kept r) ≡ reply_at s start past r)
-    × (end_of s start (r ∷ past) ≡ left_of here (verdict s here.queue here.kept r))
-
+-- looking back leads where taking one arrival after the other leads
 abbrev pub RunsThread : Type 0
-RunsThread = (s : Settings) (start : Start) (past : List Reading) (r : Reading) → Threads s start past r
+RunsThread = (s : Settings) (start : Start) (past : List Reading) (r : Reading) →
+    let here = end_of s start past in
+    end_of s start (r ∷ past) ≡ left_of here (verdict s here.queue here.kept r)
 
 -- What is taken, answered and left of a run is that of its beginning, and then that of the rest from where the beginning leads.
 abbrev pub RunsSplit : Type 0

@@ -3,17 +3,14 @@
 use Rattle.std.specs.Prelude.{◌≡◌, ◌⊎◌, ℕ, ◌==◌, ◌&&◌, Bool, true, false, not, is_none, List, [], ◌∷◌, Option, Some, None, if◌then◌else◌}
 use Rattle.std.specs.List.{list_any}
 use Rattle.std.specs.Str.{bytes_eq}
-use Rattle.fax_job.specs.declared.refusal.Refusal.TheVariants.{NumberReused, Unavailable}
-use Rattle.fax_ask.specs.Answer.{Replied}
-use Rattle.fax_ask.specs.Response.{Response, accepted_response, kept_response, refused_response}
-use Rattle.fax_core.specs.Clock.{decided_at}
+use Rattle.fax_job.specs.declared.refusal.Refusal.TheVariants.{Unavailable}
+use Rattle.fax_ask.specs.Response.{Response, refused_response}
 use Rattle.fax_core.specs.Queue.{Queue, Entry}
 use Rattle.fax_core.specs.Reply.{NoKeys, Step, Taken, Refused}
 use Rattle.fax_core.specs.Run.{decided, left_by}
 use Rattle.fax_core.specs.Settings.{Settings}
-use Rattle.fax_decide.specs.View.{view}
 use Rattle.fax_once.specs.Reading.{Post, Reading, Faulty, Sees, Posts, IsReading}
-use Rattle.fax_once.specs.Verdict.{kept_with}
+use Rattle.fax_once.specs.Verdict.{kept_with, reply_of, step_reply, verdict}
 use Rattle.fax_once.specs.declared.arrival.Arrival.{Arrival}
 use Rattle.fax_store.specs.Kept.{kept_for}
 
@@ -58,34 +55,18 @@ taken s start (r ∷ past) = with_taken s start (taken s start past) r
 
 -- ---- what is answered
 
--- the reply to a step
-abbrev pub step_reply : Step → Response
-step_reply (Taken after reply) = accepted_response (Replied reply)
-step_reply (Refused refusal keys) = refused_response refusal keys
-
 -- what is kept after these posts: where the run begins, and one entry for each, with the reply to its step
 abbrev pub kept_after : Settings → Start → List Post → List Entry
 kept_after s start [] = start.kept
 kept_after s start (p ∷ earlier) = kept_with p (kept_after s start earlier) (step_reply (decided s (queue_after s start.queue earlier) p.request))
 
--- a number that has a kept reply gets it where the same bytes are said, and a refusal else
-abbrev pub once_reply : Option Entry → List ℕ → Response → Response
-once_reply None said new = new
-once_reply (Some e) said new = if bytes_eq e.said said then kept_response e.status e.body else refused_response NumberReused NoKeys
-
--- the reply where these were taken before
-abbrev pub reply_behind : Settings → Start → List Post → Reading → Response
-reply_behind s start earlier (Faulty refusal) = refused_response refusal NoKeys
-reply_behind s start earlier (Sees moment what) = view s (queue_after s start.queue earlier) (decided_at (queue_after s start.queue earlier).clock moment) what
-reply_behind s start earlier (Posts p) = once_reply (kept_for p.client p.number (kept_after s start earlier)) p.said (step_reply (decided s (queue_after s start.queue earlier) p.request))
-
--- the reply at a position, with what was heard before it
-abbrev pub reply_at : Settings → Start → List Reading → Reading → Response
-reply_at s start past r = reply_behind s start (taken s start past) r
-
--- what a run from there leaves
+-- where a run leads that begins there
 abbrev pub end_of : Settings → Start → List Reading → Start
 end_of s start past = record { queue = queue_after s start.queue (taken s start past); kept = kept_after s start (taken s start past) }
+
+-- the reply at a position, with what was heard before it: that of its verdict where this leads
+abbrev pub reply_at : Settings → Start → List Reading → Reading → Response
+reply_at s start past r = reply_of (verdict s (end_of s start past).queue (end_of s start past).kept r)
 
 -- ---- what is heard
 

@@ -49,10 +49,15 @@ denied refusal = Told (refused_response refusal NoKeys)
 abbrev pub kept_with : Post → List Entry → Response → List Entry
 kept_with p k reply = k ++ entry p.client p.number p.said reply.status reply.body ∷ []
 
+-- the reply to a step
+abbrev pub step_reply : Step → Response
+step_reply (Taken after reply) = accepted_response (Replied reply)
+step_reply (Refused refusal keys) = refused_response refusal keys
+
 -- what the step takes is accepted, and its reply is kept
 abbrev pub stepped : Post → List Entry → Step → Verdict
-stepped p k (Taken after reply) = Accepted after (kept_with p k (accepted_response (Replied reply))) (accepted_response (Replied reply))
-stepped p k (Refused refusal keys) = Told (refused_response refusal keys)
+stepped p k (Taken after reply) = Accepted after (kept_with p k (step_reply (Taken after reply))) (step_reply (Taken after reply))
+stepped p k (Refused refusal keys) = Told (step_reply (Refused refusal keys))
 
 -- the same bytes under a number with a kept reply get that reply, whatever the moment; other bytes are refused
 abbrev pub repeated : List ℕ → Entry → Verdict

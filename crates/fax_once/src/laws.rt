@@ -47,7 +47,7 @@ pub fn repeats_get_their_reply()
 {}
 
 /// A run in two parts is the first part, and then the second from where the first leads. And looking back over what
-/// was heard gives what taking one arrival after the other gives.
+/// was heard leads where taking one arrival after the other leads.
 pub fn split()
     ensures thread { RunsThread }
     ensures split { RunsSplit }

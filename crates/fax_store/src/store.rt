@@ -114,7 +114,7 @@ impl<S: Alter> Store<S> {
         Ok(rows)
     }
 
-    /// Runs a query that shows at most one row.
+    /// Runs a query, and gives one of the rows that it shows, if there is one.
     pub(crate) fn find(
         &mut self,
         sql: &str,
