@@ -1,6 +1,6 @@
 -- A whole run: what is taken, what the queue is after it and what is answered, by looking back over what was heard before.
 -- Of what was heard and of what was taken the newest comes first.
-use Rattle.std.specs.Prelude.{◌≡◌, ◌⊎◌, ℕ, ◌==◌, ◌&&◌, Bool, true, false, not, is_none, List, [], ◌∷◌, Option, Some, None, if◌then◌else◌}
+use Rattle.std.specs.Prelude.{◌≡◌, ◌⊎◌, ℕ, ◌==◌, ◌&&◌, Bool, true, false, not, is_none, List, [], ◌∷◌, if◌then◌else◌}
 use Rattle.std.specs.List.{list_any}
 use Rattle.std.specs.Str.{bytes_eq}
 use Rattle.fax_job.specs.declared.refusal.Refusal.TheVariants.{Unavailable}
@@ -9,7 +9,7 @@ use Rattle.fax_core.specs.Queue.{Queue, Entry}
 use Rattle.fax_core.specs.Reply.{NoKeys, Step, Taken, Refused}
 use Rattle.fax_core.specs.Run.{decided, left_by}
 use Rattle.fax_core.specs.Settings.{Settings}
-use Rattle.fax_once.specs.Reading.{Post, Reading, Faulty, Sees, Posts, IsReading}
+use Rattle.fax_once.specs.Reading.{Post, Reading, Posts, IsReading}
 use Rattle.fax_once.specs.Verdict.{kept_with, reply_of, step_reply, verdict}
 use Rattle.fax_once.specs.declared.arrival.Arrival.{Arrival}
 use Rattle.fax_store.specs.Kept.{kept_for}
