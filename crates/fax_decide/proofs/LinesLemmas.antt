@@ -1,5 +1,5 @@
 -- What is decided of a job doesn't depend on its extra lines, which stay as they are.
-use Rattle.std.proofs.Common.{◌≡◌, ℕ, Bool, true, false, cond, not, ◌&&◌, ◌||◌, ◌==◌, List, [], ◌∷◌, Option, Some, None, Result, Ok, Err, refl, sym, ap, ◌∙◌}
+use Rattle.std.proofs.Common.{◌≡◌, ℕ, Bool, true, false, cond, not, ◌&&◌, ◌||◌, ◌==◌, List, [], ◌∷◌, Some, Result, Ok, Err, refl, ap}
 use Rattle.std.specs.Prelude.{is_none, is_some, nat_le}
 use Rattle.fax_job.specs.Pair.{Pair}
 use Rattle.fax_job.specs.Status.{kill_time_expired, killed, too_many_dials, too_many_tries, unable_to_transmit}
@@ -17,7 +17,7 @@ use Rattle.fax_core.specs.declared.report.Ending.{Ending}
 use Rattle.fax_core.specs.declared.report.Ending.TheVariants as ending
 use Rattle.fax_core.specs.declared.report.Outcome.{Outcome}
 use Rattle.fax_core.specs.Ageing.{aged_job, expires, is_past}
-use Rattle.fax_core.specs.Decisions.{JobAndGrant, after_call, altered, alter_in, call, ended, ended_by, failed, is_connected, is_done, is_empty, is_kill, kill_in, outcome, page, page_of, phase_after, resume_in, retried, suspend_in, within_limits}
+use Rattle.fax_core.specs.Decisions.{JobAndGrant, after_call, altered, alter_in, call, ended, failed, is_connected, is_done, is_empty, is_kill, kill_in, outcome, page, page_of, resume_in, retried, suspend_in}
 use Rattle.fax_core.specs.Job.{Job}
 use Rattle.fax_core.specs.Machine.{keys_of_job}
 use Rattle.fax_core.specs.State.{state_in}

@@ -15,12 +15,11 @@ use Rattle.fax_core.specs.Job.{Job, fields_of, job_of}
 use Rattle.fax_core.specs.Queue.{Queue, job_numbered}
 use Rattle.fax_core.specs.Settings.{Settings}
 use Rattle.fax_core.specs.Sound.{Sound}
-use Rattle.fax_core.specs.State.{calls_to, state, state_in}
+use Rattle.fax_core.specs.State.{calls_to, state}
 use Rattle.fax_core.proofs.DecisionLemmas.{aged_number}
 use Rattle.fax_core.proofs.FitsLemmas.{job_again, record_again}
 use Rattle.fax_job.specs.Status.{kill_time_expired}
-use Rattle.fax_job.specs.declared.job.Phase.{Phase}
-use Rattle.fax_job.specs.declared.job.Phase.TheVariants.{Held, Waiting, Granted, Done, Failed}
+use Rattle.fax_job.specs.declared.job.Phase.TheVariants.{Failed}
 use Rattle.fax_tables.specs.Job.{IsLawfulJob, brief}
 use Rattle.fax_text.specs.Listing.{Listed, heading, line_of, listing_of, number_of}
 use Rattle.fax_text.proofs.OrderLemmas.{numbered}

@@ -4,7 +4,7 @@ use Rattle.std.specs.Option.{option_map}
 use Rattle.std.specs.Vec.Iter.{into_iter_items}
 use Rattle.fax_core.specs.Best.{may_go}
 use Rattle.fax_core.specs.State.{calls_to}
-use Rattle.fax_store.specs.Candidates.{Gives, IsProspect, StandsAt}
+use Rattle.fax_store.specs.Candidates.{Gives, IsProspect}
 use Rattle.fax_store.specs.declared.candidates.Front.{Front}
 use Rattle.fax_store.proofs.StoreLemmas.{means_stay}
 use Rattle.fax_tables.specs.declared.prospect.Prospect.{Prospect}
