@@ -32,7 +32,7 @@ use Rattle.sqlite_sql.specs.Term.{Term}
 use Rattle.sqlite_value.specs.Order.{value_cmp}
 use Rattle.sqlite_value.proofs.OrderLemmas.{value_cmp-Text}
 use Rattle.sqlite_trees.specs.Tree.{IsAscending}
-use Rattle.sqlite_trees.proofs.ListLemmas.{all_of, all_both, all_weaker, all-filter, all-append, ascending-filter, ascending-get_or, ascending_weaker, filter_all, filter_none, filter_same, filter-filter, IsPermutation-filter, map-map, pull_back}
+use Rattle.sqlite_trees.proofs.ListLemmas.{all_of, all_both, all_weaker, ascending-filter, ascending-get_or, ascending_weaker, filter_all, filter_none, filter_same, filter-filter, IsPermutation-filter, map-map, pull_back}
 use Rattle.fax_core.specs.Job.{Job, fields_of}
 use Rattle.fax_core.specs.Best.{better}
 use Rattle.fax_core.specs.Queue.{Queue, Entry, job_numbered}

@@ -1,9 +1,9 @@
-use Rattle.std.proofs.Common.{◌≡◌, ◌∙◌, ◌<◌, ◌-◌, [], List, length, ap, sym, subst, arith, rules}
+use Rattle.std.proofs.Common.{◌≡◌, ◌∙◌, ◌<◌, ◌-◌, List, length, ap, sym, subst, arith}
 use Rattle.std.specs.Prelude.{Some, None, slice_get}
 use Rattle.std.specs.Vec.Iter.{into_iter_items}
 use Rattle.sqlite.specs.Order.{Row}
 use Rattle.fax_core.specs.Job.{fields_of}
-use Rattle.fax_store.specs.Candidates.{StandsAt, front_of, is_last, next_front}
+use Rattle.fax_store.specs.Candidates.{StandsAt, front_of}
 use Rattle.fax_tables.proofs.ResultLemmas.{passes_on}
 use Rattle.fax_store.proofs.CandidateLemmas.{all_given, page_empty, page_ends, page_lawful, stands_on, stands_page}
 use Rattle.fax_store.proofs.candidates.Candidates+S.read_on.Goals as goal

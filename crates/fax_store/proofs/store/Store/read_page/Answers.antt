@@ -1,4 +1,4 @@
-use Rattle.std.proofs.Common.{◌≡◌, [], ◌∷◌, IfOk, sym, subst, rules}
+use Rattle.std.proofs.Common.{[], ◌∷◌, IfOk, sym, subst, rules}
 use Rattle.sqlite.specs.Held.{state}
 use Rattle.sqlite.specs.State.{Shown}
 use Rattle.fax_store.specs.Candidates.{IsPage}

@@ -1,7 +1,7 @@
 use Rattle.std.proofs.Common.{◌≡◌, List, subst}
 use Rattle.sqlite.specs.Held.{state}
 use Rattle.fax_core.specs.Job.{job_of}
-use Rattle.fax_core.specs.Queue.{Queue, Entry}
+use Rattle.fax_core.specs.Queue.{Entry}
 use Rattle.fax_store.specs.Job.{with_one_more_job}
 use Rattle.fax_store.specs.Meta.{with_clock}
 use Rattle.fax_store.specs.Work.{Works}
