@@ -12,9 +12,9 @@ use Rattle.fax_job.specs.declared.refusal.Refusal.TheVariants.{NoRoute, BadBody,
 use Rattle.fax_job.specs.Alter.{alter_of}
 use Rattle.fax_job.specs.Order.{order_of}
 use Rattle.fax_job.specs.Pair.{Pair}
-use Rattle.fax_job.specs.Reading.{fault_at}
-use Rattle.fax_job.proofs.FaultLemmas.{fault_or_list, first_fault_alone}
-use Rattle.fax_job.proofs.TextLemmas.{spelled_alone}
+use Rattle.fax_lines.specs.Reading.{fault_at}
+use Rattle.fax_lines.proofs.FaultLemmas.{fault_or_list, first_fault_alone}
+use Rattle.fax_lines.proofs.TextLemmas.{spelled_alone}
 use Rattle.fax_core.specs.declared.ask.Ask.TheVariants as machine
 use Rattle.fax_ask.specs.declared.request.Request.{Request}
 use Rattle.fax_ask.specs.declared.request.Request.TheVariants.{Submit, Suspend, Resume, Kill, Alter, Show, Ready, Down, Next, Call, Page, Outcome}

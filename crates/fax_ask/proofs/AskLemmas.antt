@@ -8,9 +8,9 @@ use Rattle.fax_job.specs.declared.order.OrderFault.{OrderFault}
 use Rattle.fax_job.specs.declared.order.OrderFault.TheVariants as fault
 use Rattle.fax_job.specs.Order.{is_no_memory}
 use Rattle.fax_job.specs.Pair.{Pair}
-use Rattle.fax_job.specs.Reading.{fault_at, is_memory}
+use Rattle.fax_lines.specs.Reading.{fault_at, is_memory}
 use Rattle.fax_job.specs.Refusal.{line_refusal, order_refusal}
-use Rattle.fax_job.specs.Spells.{Spells, IsFirstFault}
+use Rattle.fax_lines.specs.Spells.{Spells, IsFirstFault}
 use Rattle.fax_ask.specs.Ask.{IsLinesRefusal}
 
 module _ {T : Type 0} (value_of : List Pair → Result T OrderFault) (body : List ℕ) where

@@ -5,7 +5,7 @@ use Rattle.std.proofs.lemmas.Bool.{and_parts, eqb-true, ltb-true}
 use Rattle.std.proofs.lemmas.Str.{IsCharBoundary-before_ascii, IsCharBoundary-after_ascii, IsUtf8-take, IsUtf8-drop}
 use lib.Utf8.{scalar, scalars, encode, encodes, next, scalar_cases}
 use Rattle.matchit.specs.Seek.{has_slash}
-use Rattle.fax_job.specs.Reading.{onto}
+use Rattle.fax_lines.specs.Reading.{onto}
 use Rattle.fax_ask.specs.Path.{parts}
 use Rattle.fax_ask.proofs.WalkLemmas.{joined, joined_more}
 

@@ -13,9 +13,9 @@ use Rattle.fax_job.specs.declared.refusal.Refusal.TheVariants.{BadBody}
 use Rattle.fax_job.specs.Alter.{alter_of}
 use Rattle.fax_job.specs.Order.{order_of}
 use Rattle.fax_job.specs.Pair.{Pair}
-use Rattle.fax_job.specs.Reading.{lines, read_on}
-use Rattle.fax_job.specs.Spells.{Spells, IsFaultBehind}
-use Rattle.fax_job.proofs.FoundLemmas.{found}
+use Rattle.fax_lines.specs.Reading.{lines, read_on}
+use Rattle.fax_lines.specs.Spells.{Spells, IsFaultBehind}
+use Rattle.fax_lines.proofs.FoundLemmas.{found}
 use Rattle.fax_core.specs.declared.ask.Ask.TheVariants as machine
 use Rattle.fax_ask.specs.declared.request.Request.TheVariants.{Submit, Suspend, Resume, Kill, Alter, Show, Ready, Down, Next, Call, Page, Outcome}
 use Rattle.fax_ask.specs.declared.ask.Ask.TheVariants.{Step, View}

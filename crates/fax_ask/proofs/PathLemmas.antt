@@ -2,8 +2,8 @@
 use Rattle.std.proofs.Common.{◌≡◌, ℕ, Bool, true, false, cond, eqb, ◌||◌, List, [], ◌∷◌, refl, sym, ap, ◌∙◌}
 use Rattle.std.specs.List.{list_any}
 use Rattle.std.proofs.lemmas.Bool.{eqb-true}
-use Rattle.fax_job.specs.Reading.{onto}
-use Rattle.fax_job.specs.Spells.{has_byte}
+use Rattle.fax_lines.specs.Reading.{onto}
+use Rattle.fax_lines.specs.Spells.{has_byte}
 use Rattle.fax_ask.specs.Path.{parts}
 
 -- ---- a path has an LF where one of its texts has one

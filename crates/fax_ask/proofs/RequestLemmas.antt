@@ -12,7 +12,7 @@ use Rattle.std.proofs.lemmas.Bool.{false≢true}
 use Rattle.std.proofs.lemmas.Option.{same_Some}
 use Rattle.fax_job.specs.Name.{is_name, is_name_byte}
 use Rattle.fax_job.specs.Number.{begins_with_zero, is_number, number_of, request_number_of}
-use Rattle.fax_job.specs.Spells.{has_byte}
+use Rattle.fax_lines.specs.Spells.{has_byte}
 use Rattle.fax_ask.specs.Laws.{RoutedPathsLackLf}
 use Rattle.fax_ask.specs.declared.method.Method.{Method}
 use Rattle.fax_ask.specs.declared.method.Method.TheVariants.{Get, Post, Another}

@@ -12,8 +12,8 @@ use Rattle.fax_job.specs.Alter.{alter_of}
 use Rattle.fax_job.specs.Limits.{most_attempts}
 use Rattle.fax_job.specs.Order.{order_of}
 use Rattle.fax_job.specs.Pair.{Pair}
-use Rattle.fax_job.specs.Reading.{fault_at}
-use Rattle.fax_job.specs.Spells.{Spells, IsFirstFault}
+use Rattle.fax_lines.specs.Reading.{fault_at}
+use Rattle.fax_lines.specs.Spells.{Spells, IsFirstFault}
 use Rattle.fax_core.specs.Ask.{IsLawfulAsk}
 use Rattle.fax_core.specs.declared.ask.Ask as asked
 use Rattle.fax_core.specs.declared.ask.Ask.TheVariants as machine

@@ -1,6 +1,6 @@
 -- Paths, and the texts between their slashes.
 use Rattle.std.specs.Prelude.{ℕ, List, [], ◌∷◌, ◌==◌, Option, Some, None, if◌then◌else◌}
-use Rattle.fax_job.specs.Reading.{onto}
+use Rattle.fax_lines.specs.Reading.{onto}
 
 -- RFC 3986, section 3.3: `/` divides a path into texts, which may be empty
 abbrev pub parts : List ℕ → List (List ℕ)

@@ -12,7 +12,8 @@ use crate::request::Request;
 use crate::routes::Routes;
 use crate::view::View;
 use fax_core::Ask as Step;
-use fax_job::{Alter, Order, Refusal, read_lines};
+use fax_job::{Alter, Order, Refusal};
+use fax_lines::read_lines;
 use std::alloc::Global;
 
 /// What is asked for.

@@ -5,7 +5,7 @@ use Rattle.std.proofs.Common.{zero, nat_eq, get_or, ◌≡◌, ℕ, suc, ◌+◌
 use Rattle.std.specs.Prelude.{Result, Ok, Err}
 use Rattle.std.proofs.Math.Bool.{or-false}
 use Rattle.std.proofs.lemmas.List.{append-nil}
-use Rattle.fax_job.specs.Reading.{lines}
+use Rattle.fax_lines.specs.Reading.{lines}
 use Rattle.fax_dest.specs.Controls.{Line, Skipped, Begins, Adds, Spelled, spelled, Groups, groups_of, is_beginning, onto, then_lines, lines_from, lines_of, line_of}
 use Rattle.fax_dest.specs.ControlsStep.{rules_of, has_rule, with_last, taken, IsTaken}
 use Rattle.fax_dest.specs.Fault.{at_line, fault_at, is_big, compiled_on}

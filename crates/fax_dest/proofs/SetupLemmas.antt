@@ -4,7 +4,7 @@ use Rattle.std.specs.Prelude.{Option, Some, None, unwrap_or, Result, Ok, Err}
 use Rattle.std.proofs.lemmas.Bool.{ne_eqb, eq-eqb}
 use Rattle.std.proofs.lemmas.List.{append-nil}
 use Rattle.jiff.specs.Types.{TimeZone as JiffZone}
-use Rattle.fax_job.specs.Reading.{lines}
+use Rattle.fax_lines.specs.Reading.{lines}
 use Rattle.fax_job.specs.declared.job.Call.TheVariants.{Connected, Busy, NoAnswer, NoCarrier, Other}
 use Rattle.fax_dest.specs.Fault.{at_line, fault_at, is_big, compiled_on}
 use Rattle.fax_dest.specs.Pattern.{compiled}

@@ -2,7 +2,7 @@
 use Rattle.std.specs.Prelude.{◌≡◌, ℕ, ◌+◌, Bool, true, false, ◌||◌, List, [], ◌∷◌, ◌++◌, map, slice_get, Option, Some, None, Result, Ok, Err, if◌then◌else◌}
 use Rattle.std.specs.List.{position_or_len}
 use Rattle.regex.specs.Strings.{regex_source}
-use Rattle.fax_job.specs.Reading.{lines}
+use Rattle.fax_lines.specs.Reading.{lines}
 use Rattle.fax_dest.specs.Fault.{at_line}
 use Rattle.fax_dest.specs.Line.{is_skipped, at_blank}
 use Rattle.fax_job.specs.Blank.{begins_with_blank}

@@ -10,7 +10,8 @@ use crate::pattern::{is_found, pattern};
 use crate::setting::{SettingName, is_line_name, name_of, zone_of};
 use fax_hours::Zone;
 use fax_job::limits::{LAST_GRANT, LAST_JOB, LONGEST_DELAY};
-use fax_job::{Call, Name, cut_line};
+use fax_job::{Call, Name};
+use fax_lines::cut_line;
 use regex::Regex;
 use std::alloc::{AllocError, Global};
 

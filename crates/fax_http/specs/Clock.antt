@@ -1,5 +1,5 @@
 -- The moment of a message, by what it says of it.
-use Rattle.std.specs.Prelude.{ℕ, List, Option, Some, None, min}
+use Rattle.std.specs.Prelude.{◌≡◌, ℕ, List, Option, Some, None, min, IfSome}
 use Rattle.fax_job.specs.Limits.{last_moment}
 use Rattle.fax_job.specs.Number.{number_of}
 
@@ -11,3 +11,7 @@ said_or last (Some seconds) = min seconds last_moment
 -- what the bytes say, or the last answer where they write no number
 abbrev pub moment_said : ℕ → List ℕ → ℕ
 moment_said last said = said_or last (number_of said)
+
+-- the moment at which a command asks is the one that is said, of which a later one than the last counts as that; or it is any
+abbrev pub IsMoment : Option ℕ → ℕ → Type 0
+IsMoment said moment = IfSome said (λ seconds. moment ≡ min seconds last_moment)

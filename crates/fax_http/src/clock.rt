@@ -1,5 +1,6 @@
 //! Where the moment of a message comes from.
 ghost use Rattle.std.specs.Prelude.{◌≡◌};
+ghost use Rattle.fax_http.specs.Clock.{IsMoment};
 
 use fax_job::{Moment, read_number};
 use std::time::{SystemTime, UNIX_EPOCH};
@@ -78,5 +79,15 @@ impl Clock for MachineClock<'_> {
             self.last = Moment::new(since.as_secs());
         }
         self.last
+    }
+}
+
+/// The moment that is said, or else that of the machine's clock.
+pub fn moment_of(rt: &HostRuntime, said: Option<u64>) -> Moment
+    ensures { IsMoment said result }
+{
+    match said {
+        Some(seconds) => Moment::new(seconds),
+        None => MachineClock::new(rt).moment(b""),
     }
 }

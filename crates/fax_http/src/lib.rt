@@ -18,7 +18,7 @@ mod message;
 mod serving;
 
 pub use answer::{Answer, AnswerFault, read_answer};
-pub use clock::{Clock, MachineClock, SaidClock};
+pub use clock::{Clock, MachineClock, SaidClock, moment_of};
 pub use device::{ReadFailed, Watched, WriteFailed};
 pub use message::{Broken, Front, Message, split_message};
 pub use serving::{Bounds, End, Handler, Served, serve};

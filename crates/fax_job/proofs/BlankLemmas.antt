@@ -1,11 +1,23 @@
--- Texts without the blanks at their end.
-use Rattle.std.proofs.Common.{◌≡◌, ◌≢◌, ℕ, true, List, [], ◌∷◌, ◌++◌, reverse, refl, sym, ap, ◌∙◌}
+-- Texts without the blanks at their ends.
+use Rattle.std.proofs.Common.{◌≡◌, ◌≢◌, ℕ, true, eqb, List, [], ◌∷◌, ◌++◌, reverse, refl, sym, ap, ◌∙◌}
 use Rattle.std.specs.Prelude.{Option, Some, None}
 use Rattle.std.specs.Option.{MatchOption, IfSome, IfNone}
+use Rattle.std.proofs.lemmas.Bool.{ne_eqb, or_from}
 use Rattle.std.proofs.lemmas.List.{reverse-append, reverse-reverse}
 use denote.Ref.{Bor}
 use Rattle.fax_job.specs.Blank.{is_blank, without_blanks, before_blanks}
-use Rattle.fax_job.proofs.LineLemmas.{without_blanks_none}
+
+pub without_blanks_none : (x : List ℕ) → ((rest : List ℕ) → x ≢ 32 ∷ rest) → ((rest : List ℕ) → x ≢ 9 ∷ rest) → without_blanks x ≡ x
+without_blanks_none [] space tab = refl
+without_blanks_none (b ∷ x) space tab =
+    rw (or_from (eqb b 32) (eqb b 9) (ne_eqb b 32 (λ e. space x (ap (λ (n : ℕ). n ∷ x) e))) (ne_eqb b 9 (λ e. tab x (ap (λ (n : ℕ). n ∷ x) e)))) refl
+
+-- what `strip_prefix` gives at a tab
+pub without_blanks_is : (bs : List ℕ) (r : Option (Bor (List ℕ))) (Q : Bor (List ℕ) → Type 0) → ((rest : List ℕ) → bs ≢ 32 ∷ rest) → MatchOption r ((rest : List ℕ) → bs ≢ 9 ∷ rest) Q → IfNone r (without_blanks bs ≡ bs)
+without_blanks_is bs None Q space tab = without_blanks_none bs space tab
+without_blanks_is bs (Some x) Q space h = tt
+
+-- ---- at the end
 
 last_first : (c : ℕ) (front : List ℕ) → reverse (front ++ c ∷ []) ≡ c ∷ reverse front
 last_first c front = reverse-append front (c ∷ [])

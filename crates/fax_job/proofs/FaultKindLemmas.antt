@@ -1,27 +1,15 @@
 -- Only want of memory excuses a call: no other fault of any kind counts as that.
 use Rattle.std.proofs.Common.{◌≡◌, true, refl}
 use Rattle.fax_job.specs.Order as order
-use Rattle.fax_job.specs.Reading as reading
 use Rattle.fax_job.specs.TextFault as text
 use Rattle.fax_job.specs.declared.text_fault.TextFault.{TextFault}
 use Rattle.fax_job.specs.declared.text_fault.TextFault.TheVariants as text_fault
-use Rattle.fax_job.specs.declared.lines.LineKind.{LineKind}
-use Rattle.fax_job.specs.declared.lines.LineKind.TheVariants as kind
 use Rattle.fax_job.specs.declared.order.OrderFault.{OrderFault}
 use Rattle.fax_job.specs.declared.order.OrderFault.TheVariants as order_fault
 
 pub memory_of_text : (fault : TextFault) → text.is_no_memory fault ≡ true → fault ≡ text_fault.NoMemory
 memory_of_text text_fault.NoMemory h = refl
 memory_of_text text_fault.Bad h = cc
-
-pub memory_of_line : (fault : LineKind) → reading.is_memory fault ≡ true → fault ≡ kind.NoMemory
-memory_of_line kind.NoMemory h = refl
-memory_of_line kind.NotText h = cc
-memory_of_line kind.NoColon h = cc
-memory_of_line kind.BadTag h = cc
-memory_of_line kind.Twice h = cc
-memory_of_line kind.BadValue h = cc
-memory_of_line kind.OpenEnd h = cc
 
 pub memory_of_order : (fault : OrderFault) → order.is_no_memory fault ≡ true → fault ≡ order_fault.NoMemory
 memory_of_order order_fault.NoMemory h = refl

@@ -12,8 +12,6 @@ pub mod Tag
 pub mod Pair
 pub mod LineText
 pub mod Spelling
-pub mod Reading
-pub mod Spells
 pub mod Status
 pub mod Job
 pub mod JobLines

@@ -1,6 +1,6 @@
 //! Jobs of a fax queue, and the key lines that state them, in the tags of HylaFAX's sendq(5).
 //!
-//! A text is read into [`Lines`], a list of (tag, value), and from these comes an [`Order`], what a
+//! [`Lines`] are a list of (tag, value), which `fax_lines` reads from a text. From these comes an [`Order`], what a
 //! submission asks for, or an [`Alter`], what changes a held job. A [`Job`] is a record whose numbers
 //! are within their limits, and it is written as key lines again.
 #![tactic(auto)]
@@ -18,7 +18,6 @@ mod moment;
 mod name;
 mod number;
 mod order;
-mod reading;
 mod refusal;
 mod request_number;
 mod status;
@@ -40,10 +39,10 @@ pub use moment::Moment;
 pub use name::{Name, is_name};
 pub use number::number as read_number;
 pub use order::{Order, OrderFault};
-pub use reading::{cut_line, one_fault_or_one_list, read_lines};
 pub use refusal::{BodyFault, Refusal};
 pub use request_number::RequestNumber;
 pub use status::Status;
+pub use tag::{is_known, is_tag};
 pub use text_fault::TextFault;
-pub use value::ends_with_backslash;
-pub use writing::{write_lines, written_is_read};
+pub use value::{ends_with_backslash, is_plain};
+pub use writing::write_lines;

@@ -155,7 +155,7 @@ impl Lines {
     }
 
     /// Adds a line at the end. A known tag may stand once.
-    pub(crate) fn push(&mut self, tag: &str, value: &str) -> Result<(), AllocError>
+    pub fn push(&mut self, tag: &str, value: &str) -> Result<(), AllocError>
         requires formed { is_pair (pair tag.now value.now) ≡ true }
         requires once { (is_known tag.now && has_tag tag.now self.old) ≡ false }
         ensures ok { OnOk result (self.new ≡ self.old ++ pair tag.now value.now ∷ []) }
@@ -165,7 +165,8 @@ impl Lines {
         Ok(())
     }
 
-    pub(crate) fn has_tag(&self, tag: &str) -> bool
+    /// Whether a line has that tag.
+    pub fn has_tag(&self, tag: &str) -> bool
         ensures { result ≡ has_tag tag.now self.now }
     {
         self.find(tag).is_some()

@@ -12,7 +12,7 @@ pub(crate) static KNOWN_TAGS: [&str; 17] = [
 ];
 
 /// Whether a tag is one of the seventeen known ones.
-pub(crate) fn is_known(tag: &str) -> bool
+pub fn is_known(tag: &str) -> bool
     ensures { result ≡ is_known tag.now }
 {
     is_among(&KNOWN_TAGS, tag)
@@ -26,7 +26,7 @@ pub(crate) fn is_among(tags: &[&str], tag: &str) -> bool
 }
 
 /// Whether a text is a tag: 1 to 64 bytes of 33 to 126 without `:`.
-pub(crate) fn is_tag(text: &[u8]) -> bool
+pub fn is_tag(text: &[u8]) -> bool
     ensures { result ≡ is_tag text.now }
 {
     !text.is_empty() && text.len() <= 64 && is_of_tag_bytes(text)

@@ -7,7 +7,7 @@ ghost use Rattle.fax_job.specs.Value.{ends_with_backslash, is_plain_byte, is_pla
 use crate::blank::begins_with_blank;
 
 /// Whether no byte is a control character other than a tab.
-pub(crate) fn is_plain(text: &[u8]) -> bool
+pub fn is_plain(text: &[u8]) -> bool
     ensures { result ≡ is_plain text.now }
 {
     text.iter().all(|byte| is_plain_byte(*byte))

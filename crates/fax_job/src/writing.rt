@@ -1,8 +1,7 @@
 //! Key lines as text.
 
-ghost use Rattle.std.specs.Prelude.{◌≡◌, ◌++◌, ℕ, List, IfOk, OnOk};
-ghost use Rattle.fax_job.specs.Pair.{Pair, ArePairs};
-ghost use Rattle.fax_job.specs.Spells.{Spells};
+ghost use Rattle.std.specs.Prelude.{◌≡◌, ◌++◌, IfOk, OnOk};
+ghost use Rattle.fax_job.specs.Pair.{ArePairs};
 ghost use Rattle.fax_job.specs.Spelling.{escaped, printed_pair, printed};
 
 use crate::line_text::Line;
@@ -23,14 +22,6 @@ pub fn write_lines(alloc: Global, lines: &Lines) -> Result<Vec<u8>, AllocError>
     }
     Ok(out)
 }
-
-/// What is written of a list spells that list, and reading what a text spells gives it: so
-/// [`read_lines`](crate::read_lines) of what [`write_lines`] gave is the same list, unless memory runs
-/// out.
-pub fn written_is_read()
-    ensures spells { (ps : List Pair) → ArePairs ps → Spells (printed ps) ps }
-    ensures alone { (text : List ℕ) (ps qs : List Pair) → Spells text ps → Spells text qs → ps ≡ qs }
-{}
 
 fn write_line(out: &mut Vec<u8>, line: &Line) -> Result<(), AllocError>
     ensures { OnOk result (out.new.items ≡ out.old.items ++ printed_pair line.now) }

@@ -23,7 +23,7 @@ ghost use Rattle.fax_store.specs.Job.{with_expired};
 ghost use Rattle.fax_store.specs.Kept.{HasReply, kept_for};
 ghost use Rattle.fax_tables.specs.Kept.{entry};
 ghost use Rattle.fax_store.specs.Store.{CommitsNothing, LeavesAlone, Means, Rests, Serves, Stays};
-ghost use Rattle.fax_tables.specs.Schema.{our_tables};
+ghost use Rattle.fax_schema.specs.Schema.{our_tables};
 ghost use Rattle.fax_tables.specs.Tables.{IsKeptStatus};
 ghost use Rattle.fax_once.specs.Laws.{IsSoundWith, RunsWell};
 ghost use Rattle.fax_decide.specs.Effect.{Suits, accepted};

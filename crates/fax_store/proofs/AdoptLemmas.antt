@@ -12,24 +12,24 @@ use Rattle.sqlite.proofs.Callers.{one_permutation, reads_as}
 use Rattle.sqlite_catalog.specs.Change.{KeepsRows}
 use Rattle.sqlite_rules.specs.Lists.{Has}
 use Rattle.fax_core.specs.Queue.{Queue, Entry, empty_queue}
-use Rattle.fax_store.specs.declared.adopt.TheConstants.{SELECT_VERSION}
+use Rattle.fax_schema.specs.declared.statements.TheConstants.{SELECT_VERSION}
 use Rattle.fax_store.specs.declared.store.TheConstants.{BEGIN, COMMIT}
 use Rattle.fax_tables.specs.declared.fault.StoreFault.{StoreFault}
 use Rattle.fax_tables.specs.declared.fault.StoreFault.TheVariants.{Strange}
 use Rattle.fax_tables.specs.Row.{number}
-use Rattle.fax_tables.specs.Schema.{AreOurs, no_tables, our_tables, core_tables, calls_tree, meta_tree}
+use Rattle.fax_schema.specs.Schema.{AreOurs, no_tables, our_tables, core_tables, calls_tree, meta_tree}
 use Rattle.fax_tables.specs.Tables.{GoesOn, HasEmptyTables, HasNewCalls, IsAtRest, RowsMean, TablesMean}
 use Rattle.fax_tables.proofs.CreateLemmas.{commit_kept, goes_on, kept_rows, none_at_first, refused_keeps}
 use Rattle.fax_tables.proofs.StopLemmas.{nothing_then}
 use Rattle.fax_tables.proofs.TablesLemmas.{same_database}
 use Rattle.fax_tables.specs.Stop.{HoldsBack}
-use Rattle.fax_tables.proofs.SelectLemmas.{answers}
+use Rattle.fax_schema.proofs.SelectLemmas.{answers}
 use Rattle.sqlite_schema.specs.declared.schema.Schema.{Schema}
 use Rattle.fax_store.specs.Adopt.{AreWhole, Goes, HasNone, HasWhole, HoldsCanBeCalled, IsFilled, IsIn, IsOurs, IsWhole, Leaves, QueuesAreTakeable, versions}
 use Rattle.fax_store.specs.Store.{CommitsNothing, GoesBack, MayMake, RowsFound, Serves}
 use Rattle.fax_store.proofs.ControlLemmas.{begins, commits}
 use Rattle.fax_store.proofs.HeldLemmas.{held_still, rows_callable}
-use Rattle.fax_store.proofs.StatementTexts.{select_version, version_project}
+use Rattle.fax_schema.proofs.StatementTexts.{select_version, version_project}
 use Rattle.fax_store.proofs.StopLemmas.{begin_nothing, commit_makes}
 use Rattle.fax_store.proofs.StoreLemmas.{same_tables, served}
 

@@ -17,23 +17,24 @@ use Rattle.sqlite_rules.specs.Lists.{Has}
 use Rattle.sqlite_rules.proofs.ListLemmas.{has_either, has_filtered, has_kept, has_left, has_right}
 use Rattle.sqlite_rules.proofs.ProbeLemmas.{mapped_has}
 use Rattle.sqlite_trees.proofs.ListLemmas.{all_of, filter-map, filter_same}
-use Rattle.fax_store.specs.declared.grants.TheConstants.{SELECT_OPEN, DELETE_CALLS, INSERT_CALLS}
+use Rattle.fax_schema.specs.declared.statements.TheConstants.{SELECT_OPEN, DELETE_CALLS, INSERT_CALLS}
 use Rattle.fax_store.specs.Adopt.{HasNone, IsWhole}
 use Rattle.fax_store.specs.Grant.{HasCalls, SetsCalls, with_count}
 use Rattle.fax_store.specs.Store.{FindsRow, HasRun}
 use Rattle.fax_tables.specs.Row.{number, call_columns}
-use Rattle.fax_tables.specs.Schema as schema
-use Rattle.fax_tables.specs.Schema.{core_tables, our_tables, calls_tree}
-use Rattle.fax_tables.specs.Tables.{AreCalls, AreCounted, IsByRowid}
-use Rattle.fax_tables.proofs.AppendLemmas.{appended}
-use Rattle.fax_tables.proofs.CompareLemmas.{are_equal, cast_int, cast_null, equal_texts, same_row}
+use Rattle.fax_schema.specs.Schema as schema
+use Rattle.fax_schema.specs.Schema.{core_tables, our_tables, calls_tree}
+use Rattle.fax_tables.specs.Tables.{AreCalls, AreCounted}
+use Rattle.fax_schema.specs.ByRowid.{IsByRowid}
+use Rattle.fax_schema.proofs.AppendLemmas.{appended}
+use Rattle.fax_schema.proofs.CompareLemmas.{are_equal, cast_int, cast_null, equal_texts, same_row}
 use Rattle.fax_tables.proofs.CreateLemmas.{goes_on, inside_shown, kept_rows}
-use Rattle.fax_tables.proofs.EditLemmas.{has_mapped, none_shown, shown_one}
-use Rattle.fax_tables.proofs.SelectLemmas.{passes, show, answers}
+use Rattle.fax_schema.proofs.EditLemmas.{has_mapped, none_shown, shown_one}
+use Rattle.fax_schema.proofs.SelectLemmas.{passes, show, answers}
 use Rattle.fax_tables.proofs.TablesLemmas.{by_rowid_put, counted_as}
-use Rattle.fax_tables.proofs.UpdateLemmas.{gone_project, deleted}
-use Rattle.fax_tables.proofs.WriteLemmas.{KeepsOthers, unreferred, inserts}
-use Rattle.fax_store.proofs.GrantTexts.{call_tests, call_project, call_terms, select_open, delete_calls, insert_calls}
+use Rattle.fax_schema.proofs.UpdateLemmas.{gone_project, deleted}
+use Rattle.fax_schema.proofs.WriteLemmas.{KeepsOthers, unreferred, inserts}
+use Rattle.fax_schema.proofs.GrantTexts.{call_tests, call_project, call_terms, select_open, delete_calls, insert_calls}
 
 and_true : (b : Bool) → (b && true) ≡ b
 and_true true = refl

@@ -43,19 +43,19 @@ use Rattle.fax_store.specs.Candidates.{AreAsked, IsPage, StandsAt, front_of, is_
 use Rattle.fax_store.specs.declared.candidates.Asked.{Asked}
 use Rattle.fax_store.specs.Job.{AreWaiting}
 use Rattle.fax_store.specs.declared.candidates.Front.{Front}
-use Rattle.fax_store.specs.declared.candidates.TheConstants.{SELECT_FIRST, SELECT_BEHIND_NUMBER, SELECT_BEHIND_TIME, SELECT_BEHIND_PRIORITY}
+use Rattle.fax_schema.specs.declared.statements.TheConstants.{SELECT_FIRST, SELECT_BEHIND_NUMBER, SELECT_BEHIND_TIME, SELECT_BEHIND_PRIORITY}
 use Rattle.fax_store.specs.declared.candidates.Front.TheVariants.{First, Number, Time, Priority}
 use Rattle.fax_tables.specs.Job.{IsLawfulJob, prospect, prospect_shown}
 use Rattle.fax_tables.specs.Row.{number}
-use Rattle.fax_tables.specs.Schema.{our_tables, jobs_tree}
+use Rattle.fax_schema.specs.Schema.{our_tables, jobs_tree}
 use Rattle.fax_tables.specs.Tables.{TablesMean}
-use Rattle.fax_tables.proofs.ColumnLemmas.{all_kept}
-use Rattle.fax_tables.proofs.CompareLemmas.{is_number, more_than}
-use Rattle.fax_tables.proofs.SelectLemmas.{each_passing}
+use Rattle.fax_schema.proofs.ColumnLemmas.{all_kept}
+use Rattle.fax_schema.proofs.CompareLemmas.{is_number, more_than}
+use Rattle.fax_schema.proofs.SelectLemmas.{each_passing}
 use Rattle.fax_tables.proofs.TablesLemmas.{row_of}
 use Rattle.fax_store.proofs.JobsLemmas.{number_of, ascend}
 use Rattle.fax_store.proofs.OrderLemmas.{Below}
-use Rattle.fax_store.proofs.StatementTexts.{SelectsPage, number_tests, other_tests, page_query, priority_tests, prospect_names, prospect_project, select_behind_number, select_behind_priority, select_behind_time, select_first, time_tests}
+use Rattle.fax_schema.proofs.StatementTexts.{SelectsPage, number_tests, other_tests, page_query, priority_tests, prospect_names, prospect_project, select_behind_number, select_behind_priority, select_behind_time, select_first, time_tests}
 use Rattle.fax_store.proofs.WaitingLemmas as waiting
 
 -- ---- the order of the choice

@@ -18,7 +18,7 @@ use Rattle.fax_job.specs.Status.{kill_time_expired}
 use Rattle.fax_job.specs.declared.job.JobFields.{JobFields}
 use Rattle.fax_job.specs.declared.job.Phase.{Phase}
 use Rattle.fax_job.specs.declared.job.Phase.TheVariants.{Held, Waiting, Granted, Done, Failed}
-use Rattle.fax_store.specs.declared.jobs.TheConstants.{UPDATE_JOB, SELECT_EXPIRED, EXPIRE_JOBS}
+use Rattle.fax_schema.specs.declared.statements.TheConstants.{UPDATE_JOB, SELECT_EXPIRED, EXPIRE_JOBS}
 use Rattle.fax_job.specs.Dial.{IsCanonical}
 use Rattle.fax_job.specs.Job.{IsLawful}
 use Rattle.fax_job.specs.JobTag.{IsJobTag}
@@ -28,21 +28,21 @@ use Rattle.fax_job.specs.Value.{IsStatus}
 use Rattle.fax_tables.specs.Job.{IsText, IsLawfulJob}
 use Rattle.fax_store.specs.Job.{IsSameOrder, IsChange, expired_in, lines_of, with_change, with_expired, with_expired_in}
 use Rattle.fax_tables.specs.Row.{number, job_row, phase_number}
-use Rattle.fax_tables.specs.Schema as schema
-use Rattle.fax_tables.specs.Schema.{our_tables, jobs_tree}
+use Rattle.fax_schema.specs.Schema as schema
+use Rattle.fax_schema.specs.Schema.{our_tables, jobs_tree}
 use Rattle.fax_store.specs.Store.{FindsRow, HasRun}
 use Rattle.fax_tables.specs.Tables.{TablesMean}
-use Rattle.fax_tables.proofs.CompareLemmas.{at_most, at_least, is_number}
+use Rattle.fax_schema.proofs.CompareLemmas.{at_most, at_least, is_number}
 use Rattle.fax_store.proofs.JobLemmas.{fields_back, lawful_of_fields, stored_job}
 use Rattle.fax_tables.proofs.KeyLemmas.{only_numbered, asked_is, not_asked}
 use Rattle.fax_tables.proofs.RowLemmas.{change_params}
-use Rattle.fax_tables.proofs.EditLemmas.{none_shown}
-use Rattle.fax_tables.proofs.SelectLemmas.{passes, show, answers}
-use Rattle.fax_store.proofs.StatementTexts.{job_tests, change_project, update_job, expired_tests, expired_project, expire_jobs, killtime_project, select_expired}
+use Rattle.fax_schema.proofs.EditLemmas.{none_shown}
+use Rattle.fax_schema.proofs.SelectLemmas.{passes, show, answers}
+use Rattle.fax_schema.proofs.StatementTexts.{job_tests, change_project, update_job, expired_tests, expired_project, expire_jobs, killtime_project, select_expired}
 use Rattle.fax_tables.proofs.TablesLemmas.{AreRecords, row_of, parts_of, means_of, calls_as, calls_of, jobs_changed}
 use Rattle.fax_store.proofs.CountLemmas.{calls_mapped, jobs_mapped}
-use Rattle.fax_tables.proofs.UpdateLemmas.{updated}
-use Rattle.fax_tables.proofs.WriteLemmas.{KeepsOthers}
+use Rattle.fax_schema.proofs.UpdateLemmas.{updated}
+use Rattle.fax_schema.proofs.WriteLemmas.{KeepsOthers}
 
 pub all_mapped : {X : Type 0} (P : X → Type 0) (f : X → X) (xs : List X) → ((x : X) → Has xs x → P x → P (f x)) → All P xs → All P (map f xs)
 all_mapped P f [] keeps all = λ i d low. absurd (omega arith)

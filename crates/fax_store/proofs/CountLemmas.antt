@@ -26,7 +26,7 @@ use Rattle.fax_core.proofs.PlaceLemmas.{find_map}
 use Rattle.fax_tables.specs.Place.{placed}
 use Rattle.fax_tables.specs.Row.{grant_row}
 use Rattle.fax_tables.specs.Tables.{HasJob, HaveJobs, IsLawfulGrant, TablesMean}
-use Rattle.fax_tables.proofs.EditLemmas.{has_mapped}
+use Rattle.fax_schema.proofs.EditLemmas.{has_mapped}
 use Rattle.fax_tables.proofs.KeyLemmas.{apart}
 use Rattle.fax_store.specs.Job.{with_placed}
 

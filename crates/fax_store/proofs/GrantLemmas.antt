@@ -6,15 +6,15 @@ use Rattle.sqlite.specs.State.{State}
 use Rattle.sqlite.proofs.Callers.{reads_as}
 use Rattle.fax_core.specs.Queue.{Queue, Entry, grant_numbered}
 use Rattle.fax_core.specs.declared.grants.Grant.{Grant}
-use Rattle.fax_store.specs.declared.grants.TheConstants.{SELECT_GRANT}
+use Rattle.fax_schema.specs.declared.statements.TheConstants.{SELECT_GRANT}
 use Rattle.fax_tables.specs.Grant.{grant_shown}
 use Rattle.fax_tables.specs.Row.{number, grant_row}
-use Rattle.fax_tables.specs.Schema.{our_tables, grants_tree}
+use Rattle.fax_schema.specs.Schema.{our_tables, grants_tree}
 use Rattle.fax_store.specs.Store.{FindsRow}
 use Rattle.fax_tables.specs.Tables.{TablesMean}
-use Rattle.fax_store.proofs.GrantTexts.{grant_tests, grant_project, select_grant}
+use Rattle.fax_schema.proofs.GrantTexts.{grant_tests, grant_project, select_grant}
 use Rattle.fax_tables.proofs.KeyLemmas.{numbered_found}
-use Rattle.fax_tables.proofs.SelectLemmas.{passes, show, answers}
+use Rattle.fax_schema.proofs.SelectLemmas.{passes, show, answers}
 
 module _ (n : ℕ) where
   abbrev pub params : Row

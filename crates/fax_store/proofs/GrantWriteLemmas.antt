@@ -21,21 +21,22 @@ use Rattle.fax_core.specs.Queue.{Queue, Entry, open_grants, grant_numbered, job_
 use Rattle.fax_core.specs.State.{is_of_number}
 use Rattle.fax_core.specs.declared.grants.Grant.{Grant}
 use Rattle.fax_job.specs.Name.{IsName}
-use Rattle.fax_store.specs.declared.grants.TheConstants.{INSERT_GRANT, INSERT_HOLD, UPDATE_REPORT, SHUT_GRANT, DELETE_HOLD}
+use Rattle.fax_schema.specs.declared.statements.TheConstants.{INSERT_GRANT, INSERT_HOLD, UPDATE_REPORT, SHUT_GRANT, DELETE_HOLD}
 use Rattle.fax_store.specs.Grant.{IsNewGrant, IsSameGrant, IsReport, SetsCalls, with_count, with_placed, with_shut, with_closed}
 use Rattle.fax_tables.specs.Place.{placed}
 use Rattle.fax_tables.specs.Row.{number, call_number, grant_row, hold_columns}
-use Rattle.fax_tables.specs.Schema as schema
-use Rattle.fax_tables.specs.Schema.{our_tables, grants_tree, holds_tree}
+use Rattle.fax_schema.specs.Schema as schema
+use Rattle.fax_schema.specs.Schema.{our_tables, grants_tree, holds_tree}
 use Rattle.fax_store.specs.Store.{HasRun}
-use Rattle.fax_tables.specs.Tables.{TablesMean, HaveJobs, IsLawfulGrant, IsByRowid}
-use Rattle.fax_tables.proofs.AppendLemmas.{appended}
+use Rattle.fax_tables.specs.Tables.{TablesMean, HaveJobs, IsLawfulGrant}
+use Rattle.fax_schema.specs.ByRowid.{IsByRowid}
+use Rattle.fax_schema.proofs.AppendLemmas.{appended}
 use Rattle.fax_store.proofs.ChangeLemmas.{all_mapped}
 use Rattle.fax_store.proofs.CountLemmas.{calls_reported, closed_count, has_placed, jobs_reported, jobs_shut, one, placed_count, turned}
 use Rattle.fax_store.proofs.CountLemmas.{shut as shut_at}
-use Rattle.fax_tables.proofs.ColumnLemmas.{kept_permuted, record_of}
-use Rattle.fax_tables.proofs.CompareLemmas.{are_equal, equal_texts, is_number, same_row, cast_int, cast_null}
-use Rattle.fax_store.proofs.GrantTexts.{grant_tests, grant_terms, report_project, shut_project, held_tests, hold_terms, insert_grant, insert_hold, update_report, shut_grant, delete_hold}
+use Rattle.fax_schema.proofs.ColumnLemmas.{kept_permuted, record_of}
+use Rattle.fax_schema.proofs.CompareLemmas.{are_equal, equal_texts, is_number, same_row, cast_int, cast_null}
+use Rattle.fax_schema.proofs.GrantTexts.{grant_tests, grant_terms, report_project, shut_project, held_tests, hold_terms, insert_grant, insert_hold, update_report, shut_grant, delete_hold}
 use Rattle.fax_tables.proofs.FreeLemmas.{free_row, none_found}
 use Rattle.fax_tables.proofs.RefusalLemmas.{no_rule_broken}
 use Rattle.fax_tables.proofs.StandLemmas.{hold_may, grant_may}
@@ -47,10 +48,10 @@ use Rattle.sqlite_value.specs.Keys.{first_key, plain}
 use Rattle.std.specs.Str.{bytes_eq}
 use Rattle.std.proofs.lemmas.Slice.Eq.{bytes_eq-Decides}
 use Rattle.fax_tables.proofs.KeyLemmas.{only_numbered, asked_is, not_asked, row_placed, all_placed, placed_permuted, free_of}
-use Rattle.fax_tables.proofs.SelectLemmas.{passes, show}
+use Rattle.fax_schema.proofs.SelectLemmas.{passes, show}
 use Rattle.fax_tables.proofs.TablesLemmas.{AreRecords, AreHeld, Parts, parts_of, means_of, calls_as, calls_changed, calls_of, held_as, grants_changed, holds_changed, by_rowid_put}
-use Rattle.fax_tables.proofs.UpdateLemmas.{gone_project, updated, deleted}
-use Rattle.fax_tables.proofs.WriteLemmas.{KeepsOthers, InsertsRow, unreferred, inserts}
+use Rattle.fax_schema.proofs.UpdateLemmas.{gone_project, updated, deleted}
+use Rattle.fax_schema.proofs.WriteLemmas.{KeepsOthers, InsertsRow, unreferred, inserts}
 
 and_true : (b : Bool) → (b && true) ≡ b
 and_true true = refl

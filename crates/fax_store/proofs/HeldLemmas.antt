@@ -35,23 +35,23 @@ use Rattle.fax_core.specs.declared.grants.Grant.{Grant}
 use Rattle.fax_store.specs.Adopt.{AreCallable, AreOfJobs, AreSmall, CanBeCalled, HoldJobs, HoldsCanBeCalled, IsOf, held_to, is_to}
 use Rattle.fax_store.specs.Grant.{SetsCalls, with_count}
 use Rattle.fax_store.specs.Store.{FindsRow}
-use Rattle.fax_store.specs.declared.adopt.TheConstants.{SELECT_DIAL, SELECT_HELD, SELECT_LOST}
+use Rattle.fax_schema.specs.declared.statements.TheConstants.{SELECT_DIAL, SELECT_HELD, SELECT_LOST}
 use Rattle.fax_job.specs.Dial.{IsCanonical}
 use Rattle.fax_tables.specs.Job.{IsLawfulJob, IsText}
 use Rattle.fax_tables.specs.Row.{number, hold_columns}
-use Rattle.fax_tables.specs.Schema.{calls_tree, holds_tree, jobs_tree, our_tables, core_tables}
+use Rattle.fax_schema.specs.Schema.{calls_tree, holds_tree, jobs_tree, our_tables, core_tables}
 use Rattle.fax_tables.specs.Tables.{RowsMean, TablesMean}
-use Rattle.fax_tables.proofs.ColumnLemmas.{record_of}
-use Rattle.fax_tables.proofs.CompareLemmas.{are_equal, number_same}
+use Rattle.fax_schema.proofs.ColumnLemmas.{record_of}
+use Rattle.fax_schema.proofs.CompareLemmas.{are_equal, number_same}
 use Rattle.fax_tables.proofs.CreateLemmas.{kept_rows}
-use Rattle.fax_tables.proofs.EditLemmas.{has_mapped, has_permuted, none_shown, shown_one}
+use Rattle.fax_schema.proofs.EditLemmas.{has_mapped, has_permuted, none_shown, shown_one}
 use Rattle.fax_tables.proofs.IndexLemmas.{length_map}
 use Rattle.fax_tables.proofs.KeyLemmas.{found_holds, numbered_found}
-use Rattle.fax_tables.proofs.SelectLemmas.{answers, passes, show}
+use Rattle.fax_schema.proofs.SelectLemmas.{answers, passes, show}
 use Rattle.fax_tables.proofs.TablesLemmas.{counted_as, row_of, rows_mean}
 use Rattle.fax_store.proofs.CandidateLemmas.{within}
 use Rattle.fax_store.proofs.CountLemmas.{at_most_all, grants_few, one, turned}
-use Rattle.fax_store.proofs.StatementTexts.{dial_project, held_project, job_tests, lost_on, lost_query, lost_tests, select_dial, select_held, select_lost}
+use Rattle.fax_schema.proofs.StatementTexts.{dial_project, held_project, job_tests, lost_on, lost_query, lost_tests, select_dial, select_held, select_lost}
 
 every : {A : Type 0} (xs : List A) → filter (λ _. true) xs ≡ xs
 every [] = refl

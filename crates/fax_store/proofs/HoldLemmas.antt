@@ -31,17 +31,18 @@ use Rattle.sqlite_value.proofs.KeyLemmas.{first_key-plain}
 use Rattle.fax_core.specs.Machine.{held_by}
 use Rattle.fax_core.specs.Queue.{Queue, Entry, open_grants}
 use Rattle.fax_core.specs.declared.grants.Grant.{Grant}
-use Rattle.fax_store.specs.declared.grants.TheConstants.{SELECT_HOLD}
+use Rattle.fax_schema.specs.declared.statements.TheConstants.{SELECT_HOLD}
 use Rattle.fax_tables.specs.Grant.{hold_shown}
 use Rattle.fax_tables.specs.Row.{hold_columns}
-use Rattle.fax_tables.specs.Schema.{our_tables, holds_tree}
+use Rattle.fax_schema.specs.Schema.{our_tables, holds_tree}
 use Rattle.fax_store.specs.Store.{FindsRow}
-use Rattle.fax_tables.specs.Tables.{TablesMean, IsByRowid}
-use Rattle.fax_tables.proofs.ColumnLemmas.{record_of, row_of}
-use Rattle.fax_tables.proofs.CompareLemmas.{are_equal, compared, equal_texts}
-use Rattle.fax_tables.proofs.EditLemmas.{shown_one, none_shown}
-use Rattle.fax_store.proofs.GrantTexts.{hold_tests, hold_project, select_hold}
-use Rattle.fax_tables.proofs.SelectLemmas.{passes, show, answers}
+use Rattle.fax_tables.specs.Tables.{TablesMean}
+use Rattle.fax_schema.specs.ByRowid.{IsByRowid}
+use Rattle.fax_schema.proofs.ColumnLemmas.{record_of, row_of}
+use Rattle.fax_schema.proofs.CompareLemmas.{are_equal, compared, equal_texts}
+use Rattle.fax_schema.proofs.EditLemmas.{shown_one, none_shown}
+use Rattle.fax_schema.proofs.GrantTexts.{hold_tests, hold_project, select_hold}
+use Rattle.fax_schema.proofs.SelectLemmas.{passes, show, answers}
 
 -- ---- a modem stands in one row
 

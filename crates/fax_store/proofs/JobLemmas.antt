@@ -15,16 +15,17 @@ use Rattle.fax_core.specs.Job.{Job, job_of, fields_of, pages_to, HasPages}
 use Rattle.fax_core.specs.Queue.{Queue, Entry, job_numbered, open_grants}
 use Rattle.fax_job.specs.Job.{IsLawful}
 use Rattle.fax_job.specs.declared.job.JobFields.{JobFields}
-use Rattle.fax_store.specs.declared.jobs.TheConstants.{SELECT_JOB, SELECT_BRIEF, INSERT_JOB}
-use Rattle.fax_tables.specs.Schema as schema
-use Rattle.fax_tables.specs.Schema.{our_tables, jobs_tree}
+use Rattle.fax_schema.specs.declared.statements.TheConstants.{SELECT_JOB, SELECT_BRIEF, INSERT_JOB}
+use Rattle.fax_schema.specs.Schema as schema
+use Rattle.fax_schema.specs.Schema.{our_tables, jobs_tree}
 use Rattle.fax_tables.specs.Place.{placed}
 use Rattle.fax_tables.specs.Row.{number, job_row}
 use Rattle.fax_tables.specs.Job.{IsFormed, IsLawfulJob, brief_shown, job_shown}
 use Rattle.fax_store.specs.Job.{IsNewJob, with_placed}
-use Rattle.fax_tables.specs.Tables.{TablesMean, IsByRowid}
+use Rattle.fax_tables.specs.Tables.{TablesMean}
+use Rattle.fax_schema.specs.ByRowid.{IsByRowid}
 use Rattle.fax_store.specs.Store.{FindsRow, HasRun}
-use Rattle.fax_tables.proofs.CompareLemmas.{same_row, cast_int, cast_null}
+use Rattle.fax_schema.proofs.CompareLemmas.{same_row, cast_int, cast_null}
 use Rattle.fax_tables.proofs.FreeLemmas.{free_row, untaken}
 use Rattle.fax_tables.proofs.RefusalLemmas.{no_rule_broken}
 use Rattle.fax_tables.proofs.StandLemmas.{job_may}
@@ -35,11 +36,11 @@ use Rattle.fax_tables.proofs.KeyLemmas.{numbered_found, free_of, row_placed, all
 use Rattle.fax_tables.proofs.TablesLemmas.{AreRecords, row_of, parts_of, means_of, calls_as, calls_of, jobs_changed, by_rowid_put}
 use Rattle.fax_store.proofs.CountLemmas.{calls_placed, jobs_placed}
 use Rattle.fax_tables.proofs.RowLemmas.{sent_low}
-use Rattle.fax_tables.proofs.WriteLemmas.{KeepsOthers, InsertsRow, unreferred, inserts}
-use Rattle.fax_tables.proofs.SelectLemmas.{passes, show, answers}
-use Rattle.fax_tables.proofs.StatementForms.{Selects}
+use Rattle.fax_schema.proofs.WriteLemmas.{KeepsOthers, InsertsRow, unreferred, inserts}
+use Rattle.fax_schema.proofs.SelectLemmas.{passes, show, answers}
+use Rattle.fax_schema.proofs.StatementForms.{Selects}
 use Rattle.sqlite_sql.specs.Term.{Term}
-use Rattle.fax_store.proofs.StatementTexts.{brief_names, brief_project, job_names, job_project, job_terms, job_tests, select_brief, select_job, insert_job}
+use Rattle.fax_schema.proofs.StatementTexts.{brief_names, brief_project, job_names, job_project, job_terms, job_tests, select_brief, select_job, insert_job}
 
 module _ (n : ℕ) where
   abbrev pub params : Row

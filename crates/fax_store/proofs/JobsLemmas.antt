@@ -17,17 +17,17 @@ use Rattle.sqlite_value.specs.Order.{value_cmp}
 use Rattle.sqlite_value.proofs.OrderLemmas.{value_cmp-Int}
 use Rattle.fax_core.specs.Job.{Job, fields_of}
 use Rattle.fax_core.specs.Queue.{Queue, Entry}
-use Rattle.fax_store.specs.declared.jobs.TheConstants.{SELECT_JOBS, SELECT_BRIEFS}
+use Rattle.fax_schema.specs.declared.statements.TheConstants.{SELECT_JOBS, SELECT_BRIEFS}
 use Rattle.fax_tables.specs.Job.{brief_shown, job_shown}
-use Rattle.fax_tables.specs.Schema.{our_tables, jobs_tree}
+use Rattle.fax_schema.specs.Schema.{our_tables, jobs_tree}
 use Rattle.fax_tables.specs.Tables.{TablesMean}
 use Rattle.fax_tables.proofs.IndexLemmas.{length_map}
 use Rattle.sqlite_sql.specs.Term.{Term}
-use Rattle.fax_tables.proofs.SelectLemmas.{rows_by, passes, show, put_out, in_order}
-use Rattle.fax_tables.proofs.StatementForms.{SelectsBy}
+use Rattle.fax_schema.proofs.SelectLemmas.{rows_by, passes, show, put_out, in_order}
+use Rattle.fax_schema.proofs.StatementForms.{SelectsBy}
 use Rattle.fax_tables.proofs.TablesLemmas.{row_of}
 use Rattle.fax_store.proofs.OrderLemmas.{Below, only_order}
-use Rattle.fax_store.proofs.StatementTexts.{brief_names, brief_project, job_names, job_project, jobs_order, select_briefs, select_jobs}
+use Rattle.fax_schema.proofs.StatementTexts.{brief_names, brief_project, job_names, job_project, jobs_order, select_briefs, select_jobs}
 
 abbrev pub number_of : Job → ℕ
 number_of j = j.number

@@ -26,9 +26,9 @@ use Rattle.sqlite_value.proofs.KeyLemmas.{first_key-plain}
 use Rattle.fax_core.specs.Queue.{Entry}
 use Rattle.fax_store.specs.Kept.{IsOf, AreKeptOnce, TablesKeepOnce, kept_for}
 use Rattle.fax_tables.specs.Row.{number, entry_columns}
-use Rattle.fax_tables.specs.Schema.{our_tables, replies_tree}
-use Rattle.fax_tables.specs.Tables.{IsByRowid}
-use Rattle.fax_tables.proofs.CompareLemmas.{compared, equal_texts, number_same}
+use Rattle.fax_schema.specs.Schema.{our_tables, replies_tree}
+use Rattle.fax_schema.specs.ByRowid.{IsByRowid}
+use Rattle.fax_schema.proofs.CompareLemmas.{compared, equal_texts, number_same}
 
 -- ---- a number of a client stands in one row
 

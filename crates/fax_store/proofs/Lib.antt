@@ -1,4 +1,3 @@
-pub mod StatementTexts
 pub mod ControlLemmas
 pub mod StoreLemmas
 pub mod CountLemmas
@@ -11,9 +10,7 @@ pub mod KeptLemmas
 pub mod RepliesLemmas
 pub mod JobLemmas
 pub mod ChangeLemmas
-pub mod ModemTexts
 pub mod ModemLemmas
-pub mod GrantTexts
 pub mod GrantLemmas
 pub mod HoldLemmas
 pub mod GrantWriteLemmas

@@ -13,21 +13,22 @@ use Rattle.sqlite_sql.specs.Ops.{binary, is_true}
 use Rattle.sqlite_sql.specs.declared.ops.BinaryOp.TheVariants.{Compare}
 use Rattle.sqlite_sql.specs.declared.ops.CompareOp.TheVariants.{Ne}
 use Rattle.sqlite_value.proofs.OrderLemmas.{value_cmp-Int}
-use Rattle.fax_store.specs.declared.meta.TheConstants.{SELECT_META, UPDATE_CLOCK, UPDATE_META}
-use Rattle.fax_tables.specs.Schema as schema
-use Rattle.fax_tables.specs.Schema.{our_tables, meta_tree}
+use Rattle.fax_schema.specs.declared.statements.TheConstants.{SELECT_META, UPDATE_CLOCK, UPDATE_META}
+use Rattle.fax_schema.specs.Schema as schema
+use Rattle.fax_schema.specs.Schema.{our_tables, meta_tree}
 use Rattle.fax_core.specs.Queue.{Queue, Entry, open_grants}
 use Rattle.fax_tables.specs.Row.{number, meta_row}
 use Rattle.fax_store.specs.Meta.{with_clock}
 use Rattle.fax_tables.specs.Meta.{meta_shown}
-use Rattle.fax_tables.specs.Tables.{TablesMean, IsLawfulMeta, IsByRowid}
+use Rattle.fax_tables.specs.Tables.{TablesMean, IsLawfulMeta}
+use Rattle.fax_schema.specs.ByRowid.{IsByRowid}
 use Rattle.fax_store.specs.Store.{FindsRow, HasRun}
-use Rattle.fax_tables.proofs.CompareLemmas.{compared, number_same, same_row, cast_int, cast_null}
-use Rattle.fax_tables.proofs.SelectLemmas.{passes, answers, only_row, only_found}
-use Rattle.fax_store.proofs.StatementTexts.{meta_tests, meta_project, select_meta, update_meta, update_project, update_clock, clock_project, clock_tests}
+use Rattle.fax_schema.proofs.CompareLemmas.{compared, number_same, same_row, cast_int, cast_null}
+use Rattle.fax_schema.proofs.SelectLemmas.{passes, answers, only_row, only_found}
+use Rattle.fax_schema.proofs.StatementTexts.{meta_tests, meta_project, select_meta, update_meta, update_project, update_clock, clock_project, clock_tests}
 use Rattle.fax_tables.proofs.TablesLemmas.{parts_of, means_of, calls_of, meta_changed}
-use Rattle.fax_tables.proofs.UpdateLemmas.{updated}
-use Rattle.fax_tables.proofs.WriteLemmas.{KeepsOthers}
+use Rattle.fax_schema.proofs.UpdateLemmas.{updated}
+use Rattle.fax_schema.proofs.WriteLemmas.{KeepsOthers}
 
 meta_passes : (m : Queue) (params : Row) → passes meta_tree meta_tests [] params (meta_row m) ≡ true
 meta_passes m params = rw number_same refl

@@ -17,15 +17,15 @@ use Rattle.sqlite_trees.proofs.ListLemmas.{IsPermutation-same}
 use Rattle.fax_core.specs.Machine.{is_down, with_mark}
 use Rattle.fax_core.specs.Queue.{Queue, Entry, open_grants}
 use Rattle.fax_job.specs.Name.{IsName}
-use Rattle.fax_store.specs.declared.modems.TheConstants.{SELECT_DOWN, INSERT_DOWN, DELETE_DOWN}
+use Rattle.fax_schema.specs.declared.statements.TheConstants.{SELECT_DOWN, INSERT_DOWN, DELETE_DOWN}
 use Rattle.fax_tables.specs.Row.{down_columns}
-use Rattle.fax_tables.specs.Schema as schema
-use Rattle.fax_tables.specs.Schema.{our_tables, down_tree}
+use Rattle.fax_schema.specs.Schema as schema
+use Rattle.fax_schema.specs.Schema.{our_tables, down_tree}
 use Rattle.fax_store.specs.Store.{FindsRow, HasRun}
 use Rattle.fax_tables.specs.Tables.{TablesMean}
-use Rattle.fax_tables.proofs.ColumnLemmas.{record_of, row_of, kept_columns, all_kept, none_holds}
-use Rattle.fax_tables.proofs.CompareLemmas.{are_equal, equal_texts, same_row, cast_null}
-use Rattle.fax_tables.proofs.EditLemmas.{shown_one, none_shown}
+use Rattle.fax_schema.proofs.ColumnLemmas.{record_of, row_of, kept_columns, all_kept, none_holds}
+use Rattle.fax_schema.proofs.CompareLemmas.{are_equal, equal_texts, same_row, cast_null}
+use Rattle.fax_schema.proofs.EditLemmas.{shown_one, none_shown}
 use Rattle.fax_tables.proofs.FreeLemmas.{none_of}
 use Rattle.fax_tables.proofs.RefusalLemmas.{no_rule_broken}
 use Rattle.fax_tables.proofs.StandLemmas.{down_may}
@@ -34,11 +34,11 @@ use Rattle.fax_tables.specs.declared.fault.StoreFault.TheVariants.{Unavailable}
 use Rattle.sqlite.specs.declared.error.Error.{Error}
 use Rattle.sqlite_schema.specs.Rules.{agree}
 use Rattle.sqlite_value.specs.Keys.{first_key, plain}
-use Rattle.fax_store.proofs.ModemTexts.{down_tests, down_project, down_terms, select_down, insert_down, delete_down}
-use Rattle.fax_tables.proofs.SelectLemmas.{passes, show, answers}
+use Rattle.fax_schema.proofs.ModemTexts.{down_tests, down_project, down_terms, select_down, insert_down, delete_down}
+use Rattle.fax_schema.proofs.SelectLemmas.{passes, show, answers}
 use Rattle.fax_tables.proofs.TablesLemmas.{AreColumns, parts_of, means_of, calls_of, down_changed, one_more}
-use Rattle.fax_tables.proofs.UpdateLemmas.{gone_project, deleted}
-use Rattle.fax_tables.proofs.WriteLemmas.{KeepsOthers, unreferred, inserts}
+use Rattle.fax_schema.proofs.UpdateLemmas.{gone_project, deleted}
+use Rattle.fax_schema.proofs.WriteLemmas.{KeepsOthers, unreferred, inserts}
 
 turned : (s t : List ℕ) → bytes_eq s t ≡ bytes_eq t s
 turned s t = cmp.both_ways (bytes_eq s t) (bytes_eq t s) (λ h. (bytes_eq-Decides t s).1 (sym ((bytes_eq-Decides s t).0 h))) (λ h. (bytes_eq-Decides s t).1 (sym ((bytes_eq-Decides t s).0 h)))

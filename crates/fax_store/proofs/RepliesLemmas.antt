@@ -10,17 +10,17 @@ use Rattle.sqlite.specs.declared.types.Value.{Value}
 use Rattle.sqlite.specs.declared.types.Value.TheVariants.{Null, Int, Text, Blob}
 use Rattle.sqlite.proofs.Callers.{runs_as, reads_as}
 use Rattle.sqlite_rules.specs.Lists.{Has}
-use Rattle.fax_store.specs.declared.replies.TheConstants.{SELECT_REPLY, INSERT_REPLY}
-use Rattle.fax_tables.specs.Schema as schema
-use Rattle.fax_tables.specs.Schema.{our_tables, replies_tree}
+use Rattle.fax_schema.specs.declared.statements.TheConstants.{SELECT_REPLY, INSERT_REPLY}
+use Rattle.fax_schema.specs.Schema as schema
+use Rattle.fax_schema.specs.Schema.{our_tables, replies_tree}
 use Rattle.fax_core.specs.Queue.{Queue, Entry, open_grants}
 use Rattle.fax_tables.specs.Row.{number, entry_columns}
 use Rattle.fax_tables.specs.Kept.{entry_shown}
 use Rattle.fax_store.specs.Kept.{HasReply, IsOf, IsUnkept}
 use Rattle.fax_tables.specs.Tables.{TablesMean, IsLawfulEntry}
 use Rattle.fax_store.specs.Store.{FindsRow, HasRun}
-use Rattle.fax_tables.proofs.CompareLemmas.{are_equal, equal_texts, same_number, number_same, same_row, cast_int, cast_null}
-use Rattle.fax_tables.proofs.EditLemmas.{shown_one, none_shown}
+use Rattle.fax_schema.proofs.CompareLemmas.{are_equal, equal_texts, same_number, number_same, same_row, cast_int, cast_null}
+use Rattle.fax_schema.proofs.EditLemmas.{shown_one, none_shown}
 use Rattle.fax_tables.proofs.RefusalLemmas.{no_rule_broken}
 use Rattle.fax_tables.proofs.StandLemmas.{reply_may}
 use Rattle.fax_tables.specs.Fault.{fault_of}
@@ -28,10 +28,10 @@ use Rattle.fax_tables.specs.declared.fault.StoreFault.TheVariants.{Unavailable}
 use Rattle.sqlite.specs.declared.error.Error.{Error}
 use Rattle.sqlite_schema.specs.Rules.{agree}
 use Rattle.sqlite_value.specs.Keys.{first_key, plain}
-use Rattle.fax_tables.proofs.SelectLemmas.{passes, show, answers}
+use Rattle.fax_schema.proofs.SelectLemmas.{passes, show, answers}
 use Rattle.fax_store.proofs.KeptLemmas.{row_of}
-use Rattle.fax_store.proofs.StatementTexts.{reply_tests, reply_project, reply_terms, select_reply, insert_reply}
-use Rattle.fax_tables.proofs.WriteLemmas.{KeepsOthers, InsertsRow, unreferred, inserts}
+use Rattle.fax_schema.proofs.StatementTexts.{reply_tests, reply_project, reply_terms, select_reply, insert_reply}
+use Rattle.fax_schema.proofs.WriteLemmas.{KeepsOthers, InsertsRow, unreferred, inserts}
 use Rattle.fax_tables.proofs.TablesLemmas.{parts_of, means_of, calls_of, replies_changed, one_more}
 use Rattle.sqlite.specs.Cast.{cast_row}
 use Rattle.sqlite.specs.Edit.{with_rowid, next_rowid}

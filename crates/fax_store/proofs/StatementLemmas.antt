@@ -16,9 +16,9 @@ use Rattle.std.proofs.lemmas.Bool.{cases_Bool}
 use Rattle.sqlite.specs.Clock.{timed}
 use Rattle.sqlite.proofs.Callers.{IsPlain, command_of}
 use Rattle.fax_store.specs.Store.{EditsRows, HasTables, IsEdit, IsEditText, LeavesCommit}
-use Rattle.fax_tables.specs.Schema.{our_tables}
-use Rattle.fax_tables.proofs.StatementForms.{Commands}
-use Rattle.fax_tables.proofs.WriteLemmas.{went}
+use Rattle.fax_schema.specs.Schema.{our_tables}
+use Rattle.fax_schema.proofs.StatementForms.{Commands}
+use Rattle.fax_schema.proofs.WriteLemmas.{went}
 use Rattle.sqlite_resolve.specs.declared.error.CompileError.{CompileError}
 
 same_value : {B E : Type 0} {a b : B} → ◌≡◌ {A = Result B E} (Ok a) (Ok b) → a ≡ b

@@ -19,19 +19,19 @@ use Rattle.fax_core.specs.Queue.{Queue, Entry}
 use Rattle.fax_core.specs.State.{is_due, is_waiting}
 use Rattle.fax_job.specs.declared.job.Phase.{Phase}
 use Rattle.fax_job.specs.declared.job.Phase.TheVariants.{Held, Waiting, Granted, Done, Failed}
-use Rattle.fax_store.specs.declared.jobs.TheConstants.{SELECT_WAITING}
+use Rattle.fax_schema.specs.declared.statements.TheConstants.{SELECT_WAITING}
 use Rattle.fax_tables.specs.Job.{IsLawfulJob, job_shown}
 use Rattle.fax_store.specs.Job.{AreWaiting}
 use Rattle.fax_tables.specs.Row.{number, phase_number}
-use Rattle.fax_tables.specs.Schema.{our_tables, jobs_tree}
+use Rattle.fax_schema.specs.Schema.{our_tables, jobs_tree}
 use Rattle.fax_tables.specs.Tables.{TablesMean}
 use Rattle.std.proofs.lemmas.List.Sorted.{All-permutation}
-use Rattle.fax_tables.proofs.ColumnLemmas.{all_kept}
-use Rattle.fax_tables.proofs.CompareLemmas.{are_equal, equal_numbers, at_most, or_else}
+use Rattle.fax_schema.proofs.ColumnLemmas.{all_kept}
+use Rattle.fax_schema.proofs.CompareLemmas.{are_equal, equal_numbers, at_most, or_else}
 use Rattle.fax_tables.proofs.IndexLemmas.{length_map}
-use Rattle.fax_tables.proofs.SelectLemmas.{rows_by, passes, show, put_out, in_order}
+use Rattle.fax_schema.proofs.SelectLemmas.{rows_by, passes, show, put_out, in_order}
 use Rattle.sqlite_sql.specs.Term.{Term}
-use Rattle.fax_store.proofs.StatementTexts.{job_names, job_project, waiting_tests, waiting_order, select_waiting}
+use Rattle.fax_schema.proofs.StatementTexts.{job_names, job_project, waiting_tests, waiting_order, select_waiting}
 use Rattle.fax_tables.proofs.TablesLemmas.{row_of}
 
 -- ---- which jobs

@@ -12,10 +12,10 @@ use Rattle.fax_core.specs.Queue.{Queue, Entry}
 use Rattle.fax_tables.specs.Tables.{TablesMean}
 use Rattle.fax_store.specs.Store.{Serves, Means, MeansNow, HasRows, HasTables, IsEditText, Stays, IsRefusedFor, LeavesCommit, Reads, HasRun}
 use Rattle.fax_store.specs.Work.{IsOver, Holds, IsUnderWay, Works, Changes, ChangesWhere, Keeps, AnswersIn, IsOnlyUnavailable, Steps, Moves}
-use Rattle.fax_tables.specs.Schema.{our_tables}
+use Rattle.fax_schema.specs.Schema.{our_tables}
 use Rattle.fax_store.proofs.StatementLemmas.{edit_shows}
 use Rattle.fax_store.proofs.StoreLemmas.{same_tables}
-use Rattle.fax_tables.proofs.WriteLemmas.{KeepsOthers}
+use Rattle.fax_schema.proofs.WriteLemmas.{KeepsOthers}
 
 -- what is found is made of what is there
 pub there_as : {X Y : Type 0} (f : X → Y) (o : Option X) (y : Y) → Some y ≡ option_map f o → (x : X) × (o ≡ Some x) × (y ≡ f x)

@@ -19,7 +19,7 @@ use Rattle.fax_core.specs.State.{is_of_number}
 use Rattle.fax_job.specs.Dial.{IsCanonical}
 use Rattle.fax_tables.specs.Job.{IsText}
 use Rattle.fax_tables.specs.Row.{number}
-use Rattle.fax_tables.specs.Schema.{AreOurs, no_tables, bare_tables, older_core_tables, our_tables, core_tables, calls_tree, holds_tree, jobs_tree, meta_tree}
+use Rattle.fax_schema.specs.Schema.{AreOurs, no_tables, bare_tables, older_core_tables, our_tables, core_tables, calls_tree, holds_tree, jobs_tree, meta_tree}
 use Rattle.fax_tables.specs.Tables.{GoesOn, IsAtRest, RowsMean}
 use Rattle.sqlite_trees.specs.Tree.{Trees}
 use Rattle.fax_store.specs.Grant.{SetsCalls}

@@ -10,7 +10,7 @@ use Rattle.fax_core.specs.Job.{Job}
 use Rattle.fax_core.specs.Queue.{Queue, grant_numbered, job_numbered, open_grants}
 use Rattle.fax_core.specs.declared.grants.Grant.{Grant}
 use Rattle.fax_tables.specs.Place.{placed}
-use Rattle.fax_tables.specs.Schema.{calls_tree, our_tables, core_tables}
+use Rattle.fax_schema.specs.Schema.{calls_tree, our_tables, core_tables}
 use Rattle.fax_tables.specs.Tables.{AreCalls, GoesOn}
 use Rattle.fax_store.specs.Store.{HasTables}
 

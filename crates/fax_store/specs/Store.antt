@@ -15,7 +15,7 @@ use Rattle.sqlite.specs.declared.error.Error.{Error}
 use Rattle.fax_tables.specs.declared.fault.StoreFault.{StoreFault}
 use Rattle.fax_tables.specs.Fault.{fault_of}
 use Rattle.fax_core.specs.Queue.{Queue, Entry}
-use Rattle.fax_tables.specs.Schema.{our_tables}
+use Rattle.fax_schema.specs.Schema.{our_tables}
 pub use Rattle.fax_tables.specs.Stop.{MayFind, CommitsNothing}
 use Rattle.fax_tables.specs.Tables.{TablesMean, IsAtRest}
 

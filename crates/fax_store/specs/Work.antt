@@ -6,7 +6,7 @@ use Rattle.fax_tables.specs.declared.fault.StoreFault.{StoreFault}
 use Rattle.fax_tables.specs.declared.fault.StoreFault.TheVariants.{Unavailable}
 use Rattle.fax_tables.specs.Fault.{OrUnavailable}
 use Rattle.fax_core.specs.Queue.{Queue, Entry}
-use Rattle.fax_tables.specs.Schema.{our_tables}
+use Rattle.fax_schema.specs.Schema.{our_tables}
 use Rattle.fax_tables.specs.Tables.{TablesMean}
 use Rattle.fax_store.specs.Store.{Serves, Means, Rests, HasTables, CommitsNothing, MayMake}
 

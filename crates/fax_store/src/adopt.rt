@@ -11,28 +11,22 @@ ghost use Rattle.fax_store.specs.Grant.{HasCalls, SetsCalls, with_count};
 ghost use Rattle.fax_store.specs.Store.{CommitsNothing, GoesBack, HasTables, LeavesAlone, MayMake, Means, Reads, RowsFound, Serves};
 ghost use Rattle.fax_store.specs.Work.{Withholds};
 ghost use Rattle.fax_tables.specs.Row.{number};
-ghost use Rattle.fax_tables.specs.Schema.{AreInOrder, AreOurs, no_tables, core_tables};
+ghost use Rattle.fax_schema.specs.Schema.{AreInOrder, AreOurs, no_tables, core_tables};
 ghost use Rattle.fax_tables.specs.Stop.{HoldsBack};
 ghost use Rattle.fax_tables.specs.Tables.{HasNewCalls, IsAtRest, RowsMean, TablesMean};
 
 use crate::store::{BEGIN, COMMIT, Store};
 use fax_job::Dial;
+use fax_schema::statements::{SELECT_DIAL, SELECT_HELD, SELECT_LOST, SELECT_VERSION};
+use fax_schema::{
+    has_bare_tables, has_calls, has_indexes_last, has_no_tables, has_older_core, has_ours,
+};
 use fax_tables::{
     StoreFault, create_calls, create_indexes, create_tables, dial_in, drop_calls, drop_indexes,
-    has_bare_tables, has_calls, has_indexes_last, has_no_tables, has_older_core, has_ours,
     held_job_in, is_version,
 };
 use sqlite::{Alter, Connection, Row, params};
 use std::alloc::Global;
-
-const SELECT_VERSION: &str = "SELECT version FROM meta";
-
-const SELECT_LOST: &str =
-    "SELECT holds.id FROM holds LEFT JOIN jobs ON jobs.job = holds.job WHERE jobs.job IS NULL";
-
-const SELECT_HELD: &str = "SELECT job FROM holds";
-
-const SELECT_DIAL: &str = "SELECT dial FROM jobs WHERE job = ?1";
 
 impl<S: Alter> Store<S> {
     /// The store over a database. One with no tables gets the seven of an empty store, with their

@@ -13,25 +13,12 @@ ghost use Rattle.fax_tables.specs.Fault.{OrUnavailable};
 
 use crate::store::Store;
 use fax_job::{Dial, Job, Moment};
+use fax_schema::statements::{
+    SELECT_BEHIND_NUMBER, SELECT_BEHIND_PRIORITY, SELECT_BEHIND_TIME, SELECT_FIRST,
+};
 use fax_tables::{Prospect, StoreFault, prospect_in};
 use sqlite::{Alter, Row, params};
 use std::vec::IntoIter;
-
-const SELECT_FIRST: &str = "SELECT job, dial, modem, priority, tts FROM jobs \
-    WHERE phase = 1 AND tts <= ?1 AND next <= ?1 AND (killtime = 0 OR killtime > ?1) \
-    AND dial IS NOT ?3 ORDER BY priority, tts, job LIMIT ?2";
-
-const SELECT_BEHIND_NUMBER: &str = "SELECT job, dial, modem, priority, tts FROM jobs \
-    WHERE phase = 1 AND tts <= ?1 AND next <= ?1 AND (killtime = 0 OR killtime > ?1) \
-    AND dial IS NOT ?3 AND priority = ?4 AND tts = ?5 AND job > ?6 ORDER BY priority, tts, job LIMIT ?2";
-
-const SELECT_BEHIND_TIME: &str = "SELECT job, dial, modem, priority, tts FROM jobs \
-    WHERE phase = 1 AND tts <= ?1 AND next <= ?1 AND (killtime = 0 OR killtime > ?1) \
-    AND dial IS NOT ?3 AND priority = ?4 AND tts > ?5 ORDER BY priority, tts, job LIMIT ?2";
-
-const SELECT_BEHIND_PRIORITY: &str = "SELECT job, dial, modem, priority, tts FROM jobs \
-    WHERE phase = 1 AND tts <= ?1 AND next <= ?1 AND (killtime = 0 OR killtime > ?1) \
-    AND dial IS NOT ?3 AND priority > ?4 ORDER BY priority, tts, job LIMIT ?2";
 
 /// How many jobs the first page has at most.
 const FIRST_PAGE: u32 = 16;

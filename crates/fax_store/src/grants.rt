@@ -13,7 +13,7 @@ ghost use Rattle.fax_store.specs.Store.{CommitsNothing, Serves, Means, MeansNow,
 ghost use Rattle.fax_store.specs.Work.{Holds, Works, Keeps, Changes, ChangesWhere, AnswersIn, IsOnlyUnavailable, Moves, Steps, Withholds};
 ghost use Rattle.fax_tables.specs.Fault.{OrUnavailable};
 ghost use Rattle.fax_tables.specs.Grant.{as_hold, IsWithinLimits, IsLawfulHold, IsOpenGrant};
-ghost use Rattle.fax_tables.specs.Schema.{calls_tree};
+ghost use Rattle.fax_schema.specs.Schema.{calls_tree};
 ghost use Rattle.fax_tables.specs.Tables.{AreCalls, HasJob};
 
 use crate::store::Store;
@@ -21,33 +21,14 @@ use crate::work::Work;
 use fax_core::Grant;
 use fax_job::Dial;
 use fax_job::limits::MOST_PAGES;
+use fax_schema::statements::{
+    DELETE_CALLS, DELETE_HOLD, INSERT_CALLS, INSERT_GRANT, INSERT_HOLD, SELECT_GRANT, SELECT_HOLD,
+    SELECT_OPEN, SHUT_GRANT, UPDATE_REPORT,
+};
 use fax_tables::{
     Hold, Meta, PAST_GRANTS, StoreFault, call_number, calls_in, grant_in, is_open_grant,
 };
 use sqlite::{Alter, params};
-
-const SELECT_GRANT: &str = "SELECT id, job, modem, first_page, last_page, call, pages, shut \
-    FROM grants WHERE id = ?1";
-
-const INSERT_GRANT: &str =
-    "INSERT INTO grants (id, job, modem, first_page, last_page, call, pages, shut) \
-    VALUES (?1, ?2, ?3, ?4, ?5, ?6, ?7, 0)";
-
-const UPDATE_REPORT: &str = "UPDATE grants SET call = ?2, pages = ?3 WHERE id = ?1";
-
-const SHUT_GRANT: &str = "UPDATE grants SET shut = 1 WHERE id = ?1";
-
-const INSERT_HOLD: &str = "INSERT INTO holds (modem, job, id) VALUES (?1, ?2, ?3)";
-
-const DELETE_HOLD: &str = "DELETE FROM holds WHERE id = ?1";
-
-const SELECT_HOLD: &str = "SELECT id, job FROM holds WHERE modem = ?1";
-
-const SELECT_OPEN: &str = "SELECT open FROM calls WHERE dial = ?1";
-
-const DELETE_CALLS: &str = "DELETE FROM calls WHERE dial = ?1";
-
-const INSERT_CALLS: &str = "INSERT INTO calls (dial, open) VALUES (?1, ?2)";
 
 impl<S: Alter> Store<S> {
     /// What the modem holds, or none.

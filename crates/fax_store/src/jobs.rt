@@ -17,48 +17,15 @@ ghost use Rattle.fax_tables.specs.Meta.{meta_of};
 use crate::store::Store;
 use crate::work::Work;
 use fax_job::{Job, Moment, Phase};
+use fax_schema::statements::{
+    EXPIRE_JOBS, INSERT_JOB, SELECT_BRIEF, SELECT_BRIEFS, SELECT_EXPIRED, SELECT_JOB, SELECT_JOBS,
+    SELECT_WAITING, UPDATE_JOB,
+};
 use fax_tables::{
     Meta, PAST_JOBS, StoreFault, brief_in, briefs_in, job_in, jobs_in, killtime_number,
     phase_number, spelling, wish_number,
 };
 use sqlite::{Alter, params};
-
-const SELECT_JOB: &str = "SELECT job, dial, modem, jobtag, status, tts, killtime, priority, \
-    npages, totpages, ntries, tottries, maxtries, ndials, totdials, maxdials, phase, wish, next, extra \
-    FROM jobs WHERE job = ?1";
-
-const SELECT_BRIEF: &str = "SELECT job, dial, modem, jobtag, status, tts, killtime, priority, \
-    npages, totpages, ntries, tottries, maxtries, ndials, totdials, maxdials, phase, wish, next \
-    FROM jobs WHERE job = ?1";
-
-const SELECT_WAITING: &str = "SELECT job, dial, modem, jobtag, status, tts, killtime, priority, \
-    npages, totpages, ntries, tottries, maxtries, ndials, totdials, maxdials, phase, wish, next, extra \
-    FROM jobs WHERE phase = 1 AND tts <= ?1 AND next <= ?1 AND (killtime = 0 OR killtime > ?1) \
-    ORDER BY priority, tts, job";
-
-const SELECT_JOBS: &str = "SELECT job, dial, modem, jobtag, status, tts, killtime, priority, \
-    npages, totpages, ntries, tottries, maxtries, ndials, totdials, maxdials, phase, wish, next, extra \
-    FROM jobs ORDER BY job";
-
-const SELECT_BRIEFS: &str = "SELECT job, dial, modem, jobtag, status, tts, killtime, priority, \
-    npages, totpages, ntries, tottries, maxtries, ndials, totdials, maxdials, phase, wish, next \
-    FROM jobs ORDER BY job";
-
-const UPDATE_JOB: &str = "UPDATE jobs SET modem = ?2, jobtag = ?3, status = ?4, tts = ?5, \
-    killtime = ?6, priority = ?7, npages = ?8, ntries = ?9, tottries = ?10, maxtries = ?11, \
-    ndials = ?12, totdials = ?13, maxdials = ?14, phase = ?15, wish = ?16, next = ?17 \
-    WHERE job = ?1";
-
-const SELECT_EXPIRED: &str =
-    "SELECT killtime FROM jobs WHERE phase = ?2 AND killtime BETWEEN 1 AND ?1";
-
-const EXPIRE_JOBS: &str = "UPDATE jobs SET phase = 4, status = 'Kill time expired' \
-    WHERE phase = ?2 AND killtime BETWEEN 1 AND ?1";
-
-const INSERT_JOB: &str = "INSERT INTO jobs (job, dial, modem, jobtag, status, tts, killtime, \
-    priority, npages, totpages, ntries, tottries, maxtries, ndials, totdials, maxdials, phase, \
-    wish, next, extra) VALUES (?1, ?2, ?3, ?4, ?5, ?6, ?7, ?8, ?9, ?10, ?11, ?12, ?13, ?14, ?15, ?16, \
-    ?17, ?18, ?19, ?20)";
 
 impl<S: Alter> Store<S> {
     /// The job of this number.

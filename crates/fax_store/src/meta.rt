@@ -14,16 +14,9 @@ ghost use Rattle.fax_tables.specs.Tables.{IsLawfulMeta};
 use crate::store::Store;
 use crate::work::Work;
 use fax_job::Moment;
+use fax_schema::statements::{SELECT_META, UPDATE_CLOCK, UPDATE_META};
 use fax_tables::{Meta, StoreFault};
 use sqlite::{Alter, params};
-
-const SELECT_META: &str = "SELECT clock, next_job, next_grant FROM meta WHERE one = 1";
-
-/// No row is written where the clock stands there already.
-const UPDATE_CLOCK: &str = "UPDATE meta SET clock = ?1 WHERE one = 1 AND clock <> ?1";
-
-const UPDATE_META: &str =
-    "UPDATE meta SET clock = ?1, next_job = ?2, next_grant = ?3 WHERE one = 1";
 
 impl<S: Alter> Store<S> {
     /// The clock and the next numbers.

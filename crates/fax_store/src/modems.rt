@@ -13,14 +13,9 @@ ghost use Rattle.fax_tables.specs.Fault.{OrUnavailable};
 use crate::store::Store;
 use crate::work::Work;
 use fax_job::is_name;
+use fax_schema::statements::{DELETE_DOWN, INSERT_DOWN, SELECT_DOWN};
 use fax_tables::StoreFault;
 use sqlite::{Alter, params};
-
-const SELECT_DOWN: &str = "SELECT modem FROM down WHERE modem = ?1";
-
-const INSERT_DOWN: &str = "INSERT INTO down (modem) VALUES (?1)";
-
-const DELETE_DOWN: &str = "DELETE FROM down WHERE modem = ?1";
 
 impl<S: Alter> Store<S> {
     /// Whether the modem is down.

@@ -11,20 +11,15 @@ ghost use Rattle.fax_store.specs.Store.{CommitsNothing, Serves, Means, MeansNow,
 ghost use Rattle.fax_store.specs.Work.{Holds, Works, Keeps, Changes, AnswersIn, IsOnlyUnavailable, Moves, Withholds};
 ghost use Rattle.fax_tables.specs.Fault.{OrUnavailable};
 ghost use Rattle.fax_tables.specs.Kept.{entry};
-ghost use Rattle.fax_tables.specs.Schema.{our_tables};
+ghost use Rattle.fax_schema.specs.Schema.{our_tables};
 ghost use Rattle.fax_tables.specs.Tables.{IsKeptStatus};
 
 use crate::store::Store;
 use crate::work::Work;
 use fax_job::{RequestNumber, is_name};
+use fax_schema::statements::{INSERT_REPLY, SELECT_REPLY};
 use fax_tables::{Kept, StoreFault, is_kept_status, number_value};
 use sqlite::{Alter, params};
-
-const SELECT_REPLY: &str =
-    "SELECT said, status, body FROM replies WHERE client = ?1 AND number = ?2";
-
-const INSERT_REPLY: &str =
-    "INSERT INTO replies (client, number, said, status, body) VALUES (?1, ?2, ?3, ?4, ?5)";
 
 impl<S: Alter> Store<S> {
     /// The reply that is kept for this number of this client.

@@ -1,7 +1,6 @@
 //! Works that come to nothing, and one that adds a job without knowing the next number.
-use fax_job::{
-    Dial, Job, JobFields, JobTag, Moment, Name, Phase, RequestNumber, Status, Wish, read_lines,
-};
+use fax_job::{Dial, Job, JobFields, JobTag, Moment, Name, Phase, RequestNumber, Status, Wish};
+use fax_lines::read_lines;
 use fax_store::{Store, StoreFault};
 use sqlite::Alter;
 use std::alloc::Global;

@@ -26,18 +26,19 @@ use Rattle.sqlite_schema.specs.declared.schema.Schema.{Schema}
 use Rattle.sqlite_catalog.specs.Calls.{RefusesToDropIndex}
 use Rattle.sqlite_catalog.specs.Change.{created, indexed, next_tree, without_index, without_table, KeepsRows}
 use Rattle.sqlite_schema.specs.declared.schema.Keys.TheVariants.{Enforced}
-use Rattle.fax_tables.specs.declared.schema.TheConstants.{INSERT_META}
+use Rattle.fax_schema.specs.declared.statements.TheConstants.{INSERT_META}
 use Rattle.fax_core.specs.Queue.{empty_queue}
 use Rattle.fax_core.specs.State.{calls_to}
 use Rattle.sqlite_rules.specs.Lists.{Has}
-use Rattle.fax_tables.specs.Schema as schema
-use Rattle.fax_tables.specs.Schema.{no_tables, bare_tables, core_tables, our_tables, calls_tree, meta_tree}
+use Rattle.fax_schema.specs.Schema as schema
+use Rattle.fax_schema.specs.Schema.{no_tables, bare_tables, core_tables, our_tables, calls_tree, meta_tree}
 use Rattle.fax_tables.specs.Row.{meta_row}
-use Rattle.fax_tables.specs.Tables.{GoesOn, HasEmptyTables, AreCounted, HasNewCalls, IsByRowid, IsIndexed, TablesMean}
-use Rattle.fax_tables.proofs.CreateTexts.{LosesIndex, Makes, MakesIndexOf, TakesAway}
-use Rattle.fax_tables.proofs.CompareLemmas.{same_row, cast_int, cast_null}
-use Rattle.fax_tables.proofs.CreateTexts.{insert_meta}
-use Rattle.fax_tables.proofs.WriteLemmas.{went, unreferred, inserts}
+use Rattle.fax_tables.specs.Tables.{GoesOn, HasEmptyTables, AreCounted, HasNewCalls, IsIndexed, TablesMean}
+use Rattle.fax_schema.specs.ByRowid.{IsByRowid}
+use Rattle.fax_schema.proofs.CreateTexts.{LosesIndex, Makes, MakesIndexOf, TakesAway}
+use Rattle.fax_schema.proofs.CompareLemmas.{same_row, cast_int, cast_null}
+use Rattle.fax_schema.proofs.CreateTexts.{insert_meta}
+use Rattle.fax_schema.proofs.WriteLemmas.{went, unreferred, inserts}
 
 -- a disk that is clean at the end was clean before
 pub clean_before : (old new : State) → doubt old.is_clean ≤ doubt new.is_clean → HasCleanDisk new → HasCleanDisk old

@@ -1,10 +1,3 @@
-pub mod CompareLemmas
-pub mod SelectLemmas
-pub mod WriteLemmas
-pub mod EditLemmas
-pub mod UpdateLemmas
-pub mod AppendLemmas
-pub mod ColumnLemmas
 pub mod FreeLemmas
 pub mod KeyLemmas
 pub mod IndexLemmas
@@ -13,11 +6,8 @@ pub mod GrantRowLemmas
 pub mod TextLemmas
 pub mod ResultLemmas
 pub mod TablesLemmas
-pub mod StatementForms
 pub mod RefusalLemmas
 pub mod StandLemmas
-pub mod CreateTexts
 pub mod CreateLemmas
 pub mod StopLemmas
 pub mod Rows
-pub mod ShapeLemmas

@@ -13,9 +13,9 @@ use Rattle.fax_core.specs.Queue.{Entry}
 use Rattle.fax_core.specs.declared.grants.Grant.{Grant}
 use Rattle.fax_job.specs.declared.job.JobFields.{JobFields}
 use Rattle.fax_tables.specs.Row.{job_row, grant_row, hold_columns, down_columns, entry_columns, call_columns}
-use Rattle.fax_tables.specs.Schema as schema
-use Rattle.fax_tables.specs.Schema.{our_tables, jobs_tree, grants_tree, holds_tree, down_tree, replies_tree, calls_tree}
-use Rattle.fax_tables.specs.Tables.{IsByRowid}
+use Rattle.fax_schema.specs.Schema as schema
+use Rattle.fax_schema.specs.Schema.{our_tables, jobs_tree, grants_tree, holds_tree, down_tree, replies_tree, calls_tree}
+use Rattle.fax_schema.specs.ByRowid.{IsByRowid}
 use Rattle.fax_tables.proofs.FreeLemmas.{no_other, chosen_free, unique_still}
 use Rattle.fax_tables.proofs.RefusalLemmas.{MayStand}
 

@@ -22,12 +22,13 @@ use Rattle.fax_core.specs.Queue.{Queue, Entry, open_grants}
 use Rattle.fax_core.specs.State.{calls_to}
 use Rattle.fax_core.specs.declared.grants.Grant.{Grant}
 use Rattle.fax_job.specs.Name.{IsName}
-use Rattle.fax_tables.specs.Schema.{core_tables, our_tables, calls_tree, down_tree, grants_tree, holds_tree, jobs_tree, meta_tree, replies_tree}
+use Rattle.fax_schema.specs.Schema.{core_tables, our_tables, calls_tree, down_tree, grants_tree, holds_tree, jobs_tree, meta_tree, replies_tree}
 use Rattle.fax_tables.specs.Job.{IsLawfulJob}
 use Rattle.fax_tables.specs.Row.{job_row, grant_row, hold_columns, down_columns, entry_columns, call_columns, meta_row}
-use Rattle.fax_tables.specs.Tables.{TablesMean, AreCalls, AreCounted, HaveJobs, IsLawfulGrant, IsLawfulMeta, IsLawfulEntry, IsByRowid}
-use Rattle.fax_tables.proofs.AppendLemmas.{appended}
-use Rattle.fax_tables.proofs.WriteLemmas.{KeepsOthers}
+use Rattle.fax_tables.specs.Tables.{TablesMean, AreCalls, AreCounted, HaveJobs, IsLawfulGrant, IsLawfulMeta, IsLawfulEntry}
+use Rattle.fax_schema.specs.ByRowid.{IsByRowid}
+use Rattle.fax_schema.proofs.AppendLemmas.{appended}
+use Rattle.fax_schema.proofs.WriteLemmas.{KeepsOthers}
 
 abbrev pub row_of : Job → Row
 row_of j = job_row (fields_of j)

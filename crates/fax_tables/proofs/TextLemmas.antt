@@ -13,10 +13,10 @@ use Rattle.fax_tables.specs.Job.{IsText}
 use Rattle.std.specs.Str.{IsAscii}
 use Rattle.std.proofs.lemmas.Str.{IsUtf8-from_ascii}
 use Rattle.fax_job.specs.Spelling.{printed}
-use Rattle.fax_job.specs.Reading.{is_no_memory}
-use Rattle.fax_job.specs.Spells.{Spells}
+use Rattle.fax_lines.specs.Reading.{is_no_memory}
+use Rattle.fax_lines.specs.Spells.{Spells}
 use Rattle.fax_job.specs.declared.lines.LineFault.{LineFault}
-use Rattle.fax_job.proofs.PrintedLemmas.{printed_spells}
+use Rattle.fax_lines.proofs.PrintedLemmas.{printed_spells}
 
 -- a key is no separator
 key_stays : (b : ℕ) → is_key b ≡ true → not (is_separator b) ≡ true

@@ -1,5 +1,3 @@
-pub mod Schema
-pub mod Shape
 pub mod Fault
 pub mod Row
 pub mod Job

@@ -3,8 +3,6 @@ use Rattle.std.specs.Prelude.{◌≡◌, ◌⊎◌, ℕ, ◌+◌, ◌≤◌, ◌
 use Rattle.std.specs.List.{AllByRecursion}
 use Rattle.std.specs.List.Sorted.{IsPermutation}
 use Rattle.sqlite.specs.Order.{Row}
-use Rattle.sqlite.specs.Tree.{rowid, IsTable}
-use Rattle.sqlite.specs.View.{is_int}
 use Rattle.sqlite.specs.Effect.{Database, IsDatabase}
 use Rattle.sqlite.specs.State.{State, Shows}
 use Rattle.sqlite_schema.specs.declared.schema.Schema.{Schema}
@@ -17,7 +15,8 @@ use Rattle.fax_core.specs.declared.grants.Grant.{Grant}
 use Rattle.fax_job.specs.Limits.{last_grant, last_job, last_moment}
 use Rattle.fax_job.specs.Name.{IsName}
 use Rattle.fax_tables.specs.Grant.{IsWithinLimits}
-use Rattle.fax_tables.specs.Schema.{AreIndexedLast, HaveCalls, core_tables, bare_tables, our_tables, bare_with_calls, older_core_tables, calls_tree, down_tree, grants_tree, holds_tree, jobs_tree, meta_tree, replies_tree}
+use Rattle.fax_schema.specs.ByRowid.{IsByRowid}
+use Rattle.fax_schema.specs.Schema.{AreIndexedLast, HaveCalls, core_tables, bare_tables, our_tables, bare_with_calls, older_core_tables, calls_tree, down_tree, grants_tree, holds_tree, jobs_tree, meta_tree, replies_tree}
 use Rattle.fax_tables.specs.Job.{IsLawfulJob}
 use Rattle.fax_tables.specs.Row.{job_row, grant_row, hold_columns, down_columns, entry_columns, call_columns, meta_row}
 
@@ -47,11 +46,6 @@ pub record AreLawful (m : Queue) (k : List Entry) : Type 0 where
   pub down : All IsName m.down
   pub replies : All IsLawfulEntry k
   pub meta : IsLawfulMeta m
-
--- the rowids rise, and are integers
-pub record IsByRowid (rows : List Row) : Type 0 where
-  pub rise : IsTable rows
-  pub integers : AllByRecursion (λ r. IsTrue (is_int (rowid r))) rows
 
 -- jobs and grants stand by number, and the others, whose rowids say nothing, as they came
 pub record AreByRowid (db : Database) : Type 0 where

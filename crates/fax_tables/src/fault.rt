@@ -67,7 +67,7 @@ impl From<TextFault> for StoreFault {
 
 impl From<LineFault> for StoreFault {
     ghost use Rattle.std.specs.Prelude.{◌≡◌};
-    ghost use Rattle.fax_job.specs.Reading.{is_no_memory};
+    ghost use Rattle.fax_lines.specs.Reading.{is_no_memory};
     ghost use Rattle.fax_tables.specs.Fault.{fault_by};
 
     ghost from_gives = { λ given fault. fault ≡ fault_by (is_no_memory given) };

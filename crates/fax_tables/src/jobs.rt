@@ -22,9 +22,8 @@ ghost use Rattle.fax_tables.specs.Row.{HasValue, HasNumber, phase_number, wish_n
 
 use crate::fault::StoreFault;
 use crate::row::{moment_at, name_at, number_at, small_at, text_at};
-use fax_job::{
-    Dial, Job, JobFields, JobTag, Lines, Moment, Phase, Status, Wish, read_lines, write_lines,
-};
+use fax_job::{Dial, Job, JobFields, JobTag, Lines, Moment, Phase, Status, Wish, write_lines};
+use fax_lines::read_lines;
 use sqlite::Row;
 use std::alloc::Global;
 

@@ -1,4 +1,4 @@
-//! The seven tables of the fax queue in a database of `sqlite`: how they are made, and how each record stands in its row.
+//! What the seven tables of the fax queue mean: how they are made, and how each record stands in its row.
 //!
 //! What reads and writes the rows is above, in `fax_store`.
 #![tactic(auto)]
@@ -8,11 +8,9 @@ mod grants;
 mod jobs;
 mod meta;
 mod prospect;
-mod recognize;
 mod replies;
 mod row;
 mod schema;
-mod shape;
 
 pub use fault::{StoreFault, insert_fault};
 pub use grants::{Hold, call_number, calls_in, grant_in, held_job_in, is_open_grant};
@@ -22,8 +20,5 @@ pub use jobs::{
 };
 pub use meta::{Meta, PAST_GRANTS, PAST_JOBS, is_version};
 pub use prospect::{Prospect, prospect_in};
-pub use recognize::{
-    has_bare_tables, has_calls, has_indexes_last, has_no_tables, has_older_core, has_ours,
-};
 pub use replies::{Kept, is_kept_status, number_value};
 pub use schema::{create_calls, create_indexes, create_tables, drop_calls, drop_indexes};

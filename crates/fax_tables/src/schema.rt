@@ -5,55 +5,16 @@ ghost use Rattle.sqlite.specs.Held.{state};
 ghost use Rattle.sqlite.specs.View.{doubt};
 ghost use Rattle.sqlite.specs.State.{HasCleanDisk, KeepsCommit};
 ghost use Rattle.fax_core.specs.Queue.{empty_queue};
-ghost use Rattle.fax_tables.specs.Schema.{no_tables, with_down, bare_tables, our_tables};
+ghost use Rattle.fax_schema.specs.Schema.{no_tables, with_down, bare_tables, our_tables};
 ghost use Rattle.fax_tables.specs.Stop.{HoldsBack};
 ghost use Rattle.fax_tables.specs.Tables.{GoesOn, HasCallsBeside, HasEmptyTables, HasIndexesLast, HasNewCalls, HasCoreTables, HasTablesAlone, IsIndexed, LacksCalls, LosesIndexes, TablesMean};
 
+use fax_schema::statements::{
+    CREATE_CALLS, CREATE_CHOICE_INDEX, CREATE_DOWN, CREATE_GRANTS, CREATE_HOLDS, CREATE_JOBS,
+    CREATE_KILLTIME_INDEX, CREATE_META, CREATE_REPLIES, DROP_CALLS, DROP_CHOICE_INDEX,
+    DROP_KILLTIME_INDEX, INSERT_META,
+};
 use sqlite::{Alter, Connection, Error};
-
-const CREATE_JOBS: &str = "CREATE TABLE jobs (job INTEGER PRIMARY KEY NOT NULL, \
-    dial TEXT NOT NULL, modem TEXT NOT NULL, jobtag TEXT NOT NULL, \
-    status TEXT NOT NULL, extra TEXT NOT NULL, tts INTEGER NOT NULL, killtime INTEGER NOT NULL, \
-    priority INTEGER NOT NULL, npages INTEGER NOT NULL, totpages INTEGER NOT NULL, \
-    ntries INTEGER NOT NULL, tottries INTEGER NOT NULL, maxtries INTEGER NOT NULL, \
-    ndials INTEGER NOT NULL, totdials INTEGER NOT NULL, maxdials INTEGER NOT NULL, \
-    phase INTEGER NOT NULL, wish INTEGER NOT NULL, next INTEGER NOT NULL) STRICT";
-
-const CREATE_GRANTS: &str = "CREATE TABLE grants (id INTEGER PRIMARY KEY NOT NULL, \
-    job INTEGER NOT NULL, modem TEXT NOT NULL, first_page INTEGER NOT NULL, \
-    last_page INTEGER NOT NULL, call INTEGER NOT NULL, pages INTEGER NOT NULL, \
-    shut INTEGER NOT NULL) STRICT";
-
-const CREATE_HOLDS: &str = "CREATE TABLE holds (modem TEXT PRIMARY KEY NOT NULL, \
-    job INTEGER NOT NULL UNIQUE, id INTEGER NOT NULL UNIQUE) STRICT";
-
-const CREATE_DOWN: &str = "CREATE TABLE down (modem TEXT PRIMARY KEY NOT NULL) STRICT";
-
-const CREATE_REPLIES: &str = "CREATE TABLE replies (client TEXT NOT NULL, \
-    number INTEGER NOT NULL, said BLOB NOT NULL, status INTEGER NOT NULL, \
-    body BLOB NOT NULL, PRIMARY KEY (client, number)) STRICT";
-
-const CREATE_META: &str = "CREATE TABLE meta (one INTEGER PRIMARY KEY NOT NULL, \
-    clock INTEGER NOT NULL, next_job INTEGER NOT NULL, next_grant INTEGER NOT NULL, \
-    version INTEGER NOT NULL, CHECK (one = 1)) STRICT";
-
-const CREATE_KILLTIME_INDEX: &str = "CREATE INDEX jobs_by_killtime ON jobs (phase, killtime)";
-
-// It has all that the choice asks of a job, so the choice reads no row of the table.
-const CREATE_CHOICE_INDEX: &str =
-    "CREATE INDEX jobs_by_choice ON jobs (phase, priority, tts, job, next, killtime, dial, modem)";
-
-const CREATE_CALLS: &str =
-    "CREATE TABLE calls (dial TEXT PRIMARY KEY NOT NULL, open INTEGER NOT NULL) STRICT";
-
-const DROP_CALLS: &str = "DROP TABLE calls";
-
-const DROP_CHOICE_INDEX: &str = "DROP INDEX jobs_by_choice";
-
-const DROP_KILLTIME_INDEX: &str = "DROP INDEX jobs_by_killtime";
-
-const INSERT_META: &str =
-    "INSERT INTO meta (one, clock, next_job, next_grant, version) VALUES (1, 0, 1, 1, 1)";
 
 /// Makes the seven tables and their indexes in a database without any, with no rows but the one of meta. Inside a
 /// transaction nothing is committed.

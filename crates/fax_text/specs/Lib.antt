@@ -6,5 +6,6 @@ pub mod Listing
 pub mod Option
 pub mod Sendfax
 pub mod Server
+pub mod Status
 pub mod Time
 pub mod Words

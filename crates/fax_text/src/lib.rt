@@ -1,6 +1,6 @@
 //! Texts for people at a terminal: the listing of a queue's jobs, after HylaFAX's faxstat(1), and the
 //! request that hands in a job, by the options of its sendfax(1). The words of the command line are read
-//! into a [`Plan`].
+//! into a [`Plan`], and a command ends with a [`Status`].
 #![tactic(auto)]
 
 mod column;
@@ -8,6 +8,7 @@ mod list_words;
 mod listing;
 mod sendfax;
 mod server;
+mod status;
 mod time;
 mod words;
 
@@ -15,4 +16,5 @@ pub use list_words::ListPlan;
 pub use listing::{ListFault, list};
 pub use sendfax::{SendFault, SendPlan, request};
 pub use server::{OfficeFiles, ServePlan};
+pub use status::{Status, fail};
 pub use words::{Plan, WordsFault, read_words};

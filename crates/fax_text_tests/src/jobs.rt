@@ -1,5 +1,6 @@
 //! Jobs that are none.
-use fax_job::{Dial, Job, JobFields, JobTag, Moment, Name, Phase, Status, Wish, read_lines};
+use fax_job::{Dial, Job, JobFields, JobTag, Moment, Name, Phase, Status, Wish};
+use fax_lines::read_lines;
 use std::alloc::Global;
 use std::test::Fail;
 

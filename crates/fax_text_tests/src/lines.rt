@@ -1,5 +1,6 @@
 //! A status of several lines, which no job of the queue has.
-use fax_job::{Status, read_lines, write_lines};
+use fax_job::{Status, write_lines};
+use fax_lines::read_lines;
 use std::alloc::Global;
 use std::test::Fail;
 

@@ -6,8 +6,8 @@ use Rattle.fax_http.specs.declared.device.Watched.{Watched}
 use Rattle.fax_http.specs.declared.serving.End.{End}
 use Rattle.fax_http.specs.declared.serving.End.TheVariants.{Closed, Bad, Bound, ReadFailed, WriteFailed, NoMemory}
 use Rattle.faxqd.specs.Replay.{EndsWith}
-use Rattle.faxqd.specs.declared.status.Status.{Status}
-use Rattle.faxqd.specs.declared.status.Status.TheVariants.{Success, Fault}
+use Rattle.fax_text.specs.declared.status.Status.{Status}
+use Rattle.fax_text.specs.declared.status.Status.TheVariants.{Success, Fault}
 
 module _ {R W : Type 0} (remaining : R → Option (List ℕ)) (contents : W → Option (List ℕ)) (reader reader₂ : Watched R) (out out₂ : Watched W)
     (office : Office) (status : Status) where

@@ -1,5 +1,3 @@
-mod DatabaseLemmas
 mod EndsLemmas
 mod ListLemmas
 mod ServeLemmas
-mod SendfaxLemmas

@@ -10,9 +10,9 @@ use Rattle.fax_http.specs.declared.device.Watched.{Watched}
 use Rattle.fax_store.specs.Store.{Means, Stays}
 use Rattle.fax_text.specs.declared.list_words.ListPlan.{ListPlan}
 use Rattle.faxqd.specs.List.{IsReply, IsSeen, Lists, Shows}
-use Rattle.faxqd.specs.Office.{ComesOf}
-use Rattle.faxqd.specs.declared.status.Status.{Status}
-use Rattle.faxqd.specs.declared.status.Status.TheVariants.{Success, Fault, Usage}
+use Rattle.fax_files.specs.Office.{ComesOf}
+use Rattle.fax_text.specs.declared.status.Status.{Status}
+use Rattle.fax_text.specs.declared.status.Status.TheVariants.{Success, Fault, Usage}
 
 pub is_seen : (s : Settings) (moment : ℕ) (old new : State) (reply : Response) → Stays old new → (HasCleanDisk new → HasCleanDisk old)
     → ((m : Queue) (k : List Entry) → Sound m → Means old m k → HasCleanDisk new → IsReply s moment m k new reply) → IsSeen s moment old new reply

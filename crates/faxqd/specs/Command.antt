@@ -4,12 +4,12 @@ use Rattle.fax_http.specs.Device.{BrokeOff, Put}
 use Rattle.fax_http.specs.declared.device.Watched.{Watched}
 use Rattle.faxqd.specs.List.{Lists}
 use Rattle.faxqd.specs.Replay.{Ends}
-use Rattle.faxqd.specs.Sendfax.{Hands}
+use Rattle.fax_net.specs.Sendfax.{Hands}
 use Rattle.faxqd.specs.Serve.{Ends as EndsServing}
 use Rattle.fax_text.specs.CommandLine.{IsFixed}
 use Rattle.fax_text.specs.Words.{Reads}
-use Rattle.faxqd.specs.declared.status.Status.{Status}
-use Rattle.faxqd.specs.declared.status.Status.TheVariants.{Success, Fault, Usage as Misused}
+use Rattle.fax_text.specs.declared.status.Status.{Status}
+use Rattle.fax_text.specs.declared.status.Status.TheVariants.{Success, Fault, Usage as Misused}
 use Rattle.fax_text.specs.declared.words.Plan.{Plan}
 use Rattle.fax_text.specs.declared.words.Plan.TheVariants.{Replay, Serve, List as ListJobs, Sendfax}
 use Rattle.fax_text.specs.declared.words.WordsFault.{WordsFault}

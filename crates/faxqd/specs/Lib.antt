@@ -1,10 +1,4 @@
 pub mod Command
-pub mod Connection
-pub mod Database
 pub mod List
-pub mod Moment
-pub mod Office
 pub mod Replay
-pub mod Sendfax
 pub mod Serve
-pub mod Status

@@ -12,9 +12,9 @@ use Rattle.fax_http.specs.declared.device.Watched.{Watched}
 use Rattle.fax_once.specs.Verdict.{Handles}
 use Rattle.fax_once.specs.declared.arrival.Arrival.{Arrival}
 use Rattle.fax_store.specs.Store.{Means, Stays}
-use Rattle.faxqd.specs.Office.{ComesOf}
-use Rattle.faxqd.specs.declared.status.Status.{Status}
-use Rattle.faxqd.specs.declared.status.Status.TheVariants.{Success, Fault, Usage}
+use Rattle.fax_files.specs.Office.{ComesOf}
+use Rattle.fax_text.specs.declared.status.Status.{Status}
+use Rattle.fax_text.specs.declared.status.Status.TheVariants.{Success, Fault, Usage}
 use Rattle.fax_text.specs.declared.list_words.ListPlan.{ListPlan}
 
 -- the queue's reply to GET of /jobs at that moment

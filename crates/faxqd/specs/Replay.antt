@@ -5,11 +5,11 @@ use Rattle.fax_desk.specs.Replaying.{IsReplayed}
 use Rattle.fax_http.specs.declared.device.Watched.{Watched}
 use Rattle.fax_http.specs.declared.serving.End.{End}
 use Rattle.fax_http.specs.declared.serving.End.TheVariants.{Closed}
-use Rattle.faxqd.specs.Office.{ComesOf}
-use Rattle.faxqd.specs.declared.office.OfficeFault.{OfficeFault}
+use Rattle.fax_files.specs.Office.{ComesOf}
+use Rattle.fax_files.specs.declared.office.OfficeFault.{OfficeFault}
 use Rattle.fax_text.specs.declared.server.OfficeFiles.{OfficeFiles}
-use Rattle.faxqd.specs.declared.status.Status.{Status}
-use Rattle.faxqd.specs.declared.status.Status.TheVariants.{Success, Fault, Usage}
+use Rattle.fax_text.specs.declared.status.Status.{Status}
+use Rattle.fax_text.specs.declared.status.Status.TheVariants.{Success, Fault, Usage}
 
 module _ {R W : Type 0} (remaining : R → Option (List ℕ)) (contents : W → Option (List ℕ)) (reader reader₂ : Watched R) (out out₂ : Watched W) where
   -- the office replayed the input, and that didn't end as it should

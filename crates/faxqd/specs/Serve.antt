@@ -15,7 +15,7 @@ use Rattle.fax_decide.specs.declared.office.Office.{Office}
 use Rattle.fax_desk.specs.Desk.{IsArrival}
 use Rattle.fax_desk.specs.Replaying.{settings_in}
 use Rattle.fax_http.specs.Conversation.{Turn}
-use Rattle.fax_http.specs.Device.{BrokeOff, Put}
+use Rattle.fax_http.specs.Device.{Put}
 use Rattle.fax_http.specs.Message.{fields_of, sole, values_of}
 use Rattle.fax_http.specs.declared.device.Watched.{Watched}
 use Rattle.fax_once.specs.Laws.{left_of}
@@ -24,13 +24,13 @@ use Rattle.fax_once.specs.Verdict.{Verdict, IsVerdict, reply_of}
 use Rattle.fax_once.specs.declared.arrival.Arrival.{Arrival}
 use Rattle.fax_store.specs.Adopt.{IsOurs}
 use Rattle.fax_store.specs.Store.{Means, RowsFound}
-use Rattle.fax_tables.specs.Schema.{no_tables}
-use Rattle.faxqd.specs.Connection.{AreServed}
-use Rattle.faxqd.specs.Database.{AreHeld}
-use Rattle.faxqd.specs.Office.{ComesOf}
-use Rattle.faxqd.specs.declared.status.Status.{Status}
-use Rattle.faxqd.specs.declared.status.Status.TheVariants.{Success, Fault, Usage}
-use Rattle.faxqd.specs.declared.timed.Timed.{Timed}
+use Rattle.fax_schema.specs.Schema.{no_tables}
+use Rattle.fax_net.specs.Listening.{Listens, SaidNothing, listening}
+use Rattle.fax_files.specs.Database.{AreHeld}
+use Rattle.fax_files.specs.Office.{ComesOf}
+use Rattle.fax_text.specs.declared.status.Status.{Status}
+use Rattle.fax_text.specs.declared.status.Status.TheVariants.{Success, Fault, Usage}
+use Rattle.fax_net.specs.declared.timed.Timed.{Timed}
 use Rattle.fax_text.specs.declared.server.ServePlan.{ServePlan}
 
 -- ---- messages
@@ -78,40 +78,18 @@ module _ {C : Type 0} (gives : C → List ℕ → ℕ → C → Type 0) (setting
 
 -- ---- the end
 
--- what it says once it listens
-abbrev pub listening : List ℕ
-listening = codes "faxqd: listening\n"
-
 module _ {W : Type 0} (contents : W → Option (List ℕ)) (out out₂ : Watched W) where
-  -- it said nothing
-  abbrev pub SaidNothing : Type 0
-  SaidNothing = (out₂ ≡ out) ⊎ BrokeOff contents out out₂ listening
-
   -- where it succeeds, the files say an office, and it said that it listens
   abbrev pub Ends : ServePlan → Status → Type 0
   Ends plan Success = ((office : Office) × ComesOf plan.files (Ok office)) × Put contents out out₂ listening false
-  Ends plan Fault = SaidNothing ⊎ Put contents out out₂ listening false
+  Ends plan Fault = SaidNothing contents out out₂ ⊎ Put contents out out₂ listening false
   Ends plan Usage = ⊥
 
   module _ (read written : Timed → Option (List ℕ)) (opens : TcpListener → Option TcpStream → TcpListener → Type 0) where
-    -- it said that it listens, and so many connections were served, or as many as came before the store was shut
-    pub record HasListened (count : ℕ) (turns : List Turn) (shut : Bool) : Type 0 where
-      pub said : Put contents out out₂ listening false
-      pub door : TcpListener
-      pub last : TcpListener
-      pub before : Bool
-      pub served : AreServed read written opens count door before turns last shut
-
-    -- it succeeds where all connections were served; else it doesn't listen, or the output failed, or the store was shut
-    abbrev pub Listens : ℕ → List Turn → Bool → Status → Type 0
-    Listens count turns shut Success = HasListened count turns shut × (shut ≡ false)
-    Listens count turns shut Fault = ((turns ≡ []) × SaidNothing) ⊎ (HasListened count turns shut × (shut ≡ true))
-    Listens count turns shut Usage = ⊥
-
     module _ {C : Type 0} (gives : C → List ℕ → ℕ → C → Type 0) (image : Image) (plan : ServePlan) (clock : C) (status : Status) where
       -- It served by the office that the files say, from what the database's files held on, each message at the moment that the clock gave.
       pub record ServesBy (office : Office) (new : State) (shut : Bool) : Type 0 where
         pub comes : ComesOf plan.files (Ok office)
         pub turns : List Turn
-        pub told : Listens plan.connections turns shut status
+        pub told : Listens contents out out₂ read written opens plan.connections turns shut status
         pub served : HasCleanDisk new → ServesHeld gives (settings_in office) image clock turns new

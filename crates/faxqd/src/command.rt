@@ -5,11 +5,10 @@ ghost use Rattle.faxqd.specs.Command.{CarriesOut, Runs, Tells};
 
 use crate::list::list;
 use crate::replay::replay;
-use crate::sendfax::sendfax;
 use crate::serve::serve;
-use crate::status::{Status, fail};
 use fax_http::{MachineClock, Watched};
-use fax_text::{Plan, WordsFault, read_words};
+use fax_net::sendfax::sendfax;
+use fax_text::{Plan, Status, WordsFault, fail, read_words};
 use sqlite::Start;
 use std::io::{ErrorKind, Read, Write};
 

@@ -4,14 +4,11 @@ ghost use Rattle.sqlite.specs.Held.{state};
 ghost use Rattle.fax_desk.specs.Replaying.{settings_in};
 ghost use Rattle.faxqd.specs.List.{Lists, Prints, Shows};
 
-use crate::database::{open_queue, tell_fault};
-use crate::moment::moment_of;
-use crate::office::{read_office, report};
-use crate::status::{Status, fail};
-use fax_http::Watched;
+use fax_files::{open_found_queue, read_office, report, tell_fault};
+use fax_http::{Watched, moment_of};
 use fax_job::Moment;
 use fax_once::Queue;
-use fax_text::ListPlan;
+use fax_text::{ListPlan, Status, fail};
 use sqlite::{Alter, Start};
 use std::alloc::Global;
 use std::io::Write;
@@ -34,7 +31,7 @@ pub fn list<S: Start, W: Write + Drop, E: Write>(
         Err(fault) => return report(err, fault),
     };
     let moment = moment_of(rt, plan.moment);
-    match open_queue(rt, plan.database, start, office) {
+    match open_found_queue(rt, plan.database, start, office) {
         Ok(queue) => list_queue(rt.alloc(), queue, moment, out, err).0,
         Err(fault) => tell_fault(err, fault),
     }

@@ -2,18 +2,9 @@
 #![tactic(auto)]
 
 mod command;
-mod connection;
-mod database;
-mod door;
 mod list;
-mod moment;
-mod new_file;
-mod office;
 mod replay;
-mod sendfax;
 mod serve;
-mod status;
-mod timed;
 
 use fax_http::Watched;
 use sqlite::Unknown;

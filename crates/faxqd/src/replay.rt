@@ -3,11 +3,10 @@ ghost use Rattle.std.specs.Prelude.{◌≡◌};
 ghost use Rattle.fax_http.specs.Device.{IsFresh};
 ghost use Rattle.faxqd.specs.Replay.{Ends, EndsWith};
 
-use crate::office::{read_office, report};
-use crate::status::{Status, fail};
+use fax_files::{read_office, report};
 use fax_http::{End, Watched};
 use fax_once::Office;
-use fax_text::OfficeFiles;
+use fax_text::{OfficeFiles, Status, fail};
 use std::alloc::Global;
 use std::io::{Read, Write};
 

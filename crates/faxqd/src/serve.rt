@@ -6,20 +6,15 @@ ghost use Rattle.sqlite_wal.specs.Files.{image_at};
 ghost use Rattle.fax_desk.specs.Replaying.{settings_in};
 ghost use Rattle.fax_http.specs.Conversation.{Turn};
 ghost use Rattle.fax_http.specs.Device.{IsFresh};
-ghost use Rattle.fax_http.specs.Serving.{Answers};
-ghost use Rattle.faxqd.specs.Connection.{AreServed};
-ghost use Rattle.faxqd.specs.Serve.{Listens, ServesBy, ServesFrom};
+ghost use Rattle.fax_net.specs.Listening.{Listens};
+ghost use Rattle.faxqd.specs.Serve.{ServesBy, ServesFrom};
 
-use crate::connection::serve_connection;
-use crate::database::{OpenFault, open_queue, tell_fault};
-use crate::door::Door;
-use crate::office::{read_office, report};
-use crate::status::{Status, fail};
-use crate::timed::Timed;
 use fax_desk::Desk;
-use fax_http::{Clock, Handler, Watched};
+use fax_files::{make_file, open_queue, read_office, report, tell_fault};
+use fax_http::{Clock, Watched};
+use fax_net::{Door, Timed, listen};
 use fax_once::Queue;
-use fax_text::ServePlan;
+use fax_text::{ServePlan, Status};
 use sqlite::{Alter, FileFrom, FileStore, Start};
 use std::io::{Read, Write};
 use std::net::TcpListener;
@@ -45,6 +40,9 @@ pub fn serve<S: Start, C: Clock + Drop, W: Write + Drop, E: Write>(
         Ok(office) => office,
         Err(fault) => return (report(err, fault), None),
     };
+    if let Err(fault) = make_file(rt, plan.database) {
+        return (tell_fault(err, fault), None);
+    }
     let queue = match open_queue(rt, plan.database, start, office) {
         Ok(queue) => queue,
         Err(fault) => return (tell_fault(err, fault), None),
@@ -73,57 +71,4 @@ fn serve_queue<S: Alter + Drop, C: Clock + Drop, W: Write + Drop, E: Write>(
     let mut desk = Desk::new(rt.alloc(), clock, queue);
     let status = listen(rt, plan, &mut desk, out, err);
     (status, desk.close())
-}
-
-/// Listens, says so, and serves the connections.
-fn listen<H: Handler, W: Write + Drop, E: Write>(
-    rt: &HostRuntime,
-    plan: ServePlan<'_>,
-    handler: &mut H,
-    out: &mut Watched<W>,
-    err: &mut E,
-) -> Status
-    requires { IsFresh out.old }
-    ensures served { (turns : List Turn)
-        × Listens W.contents out.old out.new ⟦<Timed<'static> as Read>⟧.remaining ⟦<Timed<'static> as Write>⟧.contents ⟦<TcpListener as Door>⟧.opens
-        plan.entry.connections turns (H.over handler.new) result
-        × Answers H.answers handler.old turns handler.new }
-    ensures silent { result ≡ Status.Success → err.new ≡ err.old }
-{
-    let Ok(mut listener) = TcpListener::bind(rt, plan.address) else {
-        return fail(err, "faxqd: cannot listen\n");
-    };
-    let Ok(()) = out.put(b"faxqd: listening\n") else {
-        return fail(err, "faxqd: ended write-failed\n");
-    };
-    serve_connections(rt, &mut listener, plan, handler);
-    if handler.is_over() {
-        return tell_fault(err, OpenFault::Database);
-    }
-    Status::Success
-}
-
-/// Serves the connections one after the other, until the handler is over. One that can't be accepted counts as served.
-fn serve_connections<D: Door, H: Handler>(
-    rt: &HostRuntime,
-    door: &mut D,
-    plan: ServePlan<'_>,
-    handler: &mut H,
-)
-    ensures { (turns : List Turn)
-        × AreServed ⟦<Timed<'static> as Read>⟧.remaining ⟦<Timed<'static> as Write>⟧.contents D.opens plan.entry.connections
-        door.old (H.over handler.old) turns door.new (H.over handler.new)
-        × Answers H.answers handler.old turns handler.new }
-{
-    for _ in 0..plan.connections {
-        if handler.is_over() {
-            return;
-        }
-        match door.next() {
-            Some(stream) => {
-                serve_connection(rt, &stream, plan.timeout, handler);
-            }
-            None => {}
-        }
-    }
 }

@@ -1,7 +1,7 @@
 use Rattle.std.proofs.Common.{arith}
 use Rattle.std.specs.Prelude.{None}
 use Rattle.std.proofs.lemmas.Str.Pattern.{strip_prefix_char}
-use Rattle.fax_job.proofs.LineLemmas.{without_blanks_is}
+use Rattle.fax_job.proofs.BlankLemmas.{without_blanks_is}
 use Rattle.fax_job.proofs.blank.after_blank.Goals as goal
 
 pub returns-in-None-clause-none : goal.returns-in-None-clause-none

@@ -4,7 +4,7 @@ use Rattle.std.proofs.lemmas.Slice.Eq.{bytes_eq-Decides}
 use Rattle.fax_job.specs.Spelling.{printed}
 use Rattle.fax_tables.specs.Fault.{fault_by}
 use Rattle.fax_tables.proofs.ResultLemmas.{passes_on}
-use Rattle.fax_job.specs.Spells.{Spells}
+use Rattle.fax_lines.specs.Spells.{Spells}
 use Rattle.fax_tables.proofs.TextLemmas.{lines_kept, wants_memory}
 use Rattle.fax_tables.proofs.jobs.spelled.Goals as goal
 

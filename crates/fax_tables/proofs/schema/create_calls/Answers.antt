@@ -1,12 +1,12 @@
 use Rattle.std.proofs.Common.{refl}
 use Rattle.sqlite.specs.Held.{state}
 use Rattle.sqlite.specs.Command.TheVariants.{CreateTable}
-use Rattle.fax_tables.specs.declared.schema.TheConstants.{CREATE_CALLS}
-use Rattle.fax_tables.specs.Schema as schema
-use Rattle.fax_tables.specs.Schema.{our_tables, core_tables}
+use Rattle.fax_schema.specs.declared.statements.TheConstants.{CREATE_CALLS}
+use Rattle.fax_schema.specs.Schema as schema
+use Rattle.fax_schema.specs.Schema.{our_tables, core_tables}
 use Rattle.fax_tables.specs.Tables.{HasCoreTables}
 use Rattle.fax_tables.proofs.CreateLemmas.{added, refused_keeps}
-use Rattle.fax_tables.proofs.CreateTexts.{created_calls, makes_calls}
+use Rattle.fax_schema.proofs.CreateTexts.{created_calls, makes_calls}
 use Rattle.fax_tables.proofs.ResultLemmas.{on_err}
 use Rattle.fax_tables.proofs.StopLemmas.{step_holds_back}
 use Rattle.fax_tables.proofs.schema.create_calls.Goals as goal

@@ -1,9 +1,9 @@
 use Rattle.std.proofs.Common.{◌≡◌, ℕ, [], Ok, IsTrue, refl}
 use Rattle.sqlite.specs.Held.{state}
-use Rattle.fax_tables.specs.declared.schema.TheConstants.{CREATE_KILLTIME_INDEX, CREATE_CHOICE_INDEX}
-use Rattle.fax_tables.specs.Schema.{bare_tables, choice_index, killtime_index, core_tables, with_killtime_index}
+use Rattle.fax_schema.specs.declared.statements.TheConstants.{CREATE_KILLTIME_INDEX, CREATE_CHOICE_INDEX}
+use Rattle.fax_schema.specs.Schema.{bare_tables, choice_index, killtime_index, core_tables, with_killtime_index}
 use Rattle.fax_tables.proofs.CreateLemmas.{clean_before, commit_kept, goes_on, kept_rows, made_index, refused_keeps}
-use Rattle.fax_tables.proofs.CreateTexts.{indexed_choice, indexed_killtime, makes_choice_index, makes_killtime_index}
+use Rattle.fax_schema.proofs.CreateTexts.{indexed_choice, indexed_killtime, makes_choice_index, makes_killtime_index}
 use Rattle.fax_tables.proofs.ResultLemmas.{on_err}
 use Rattle.sqlite.specs.Command.TheVariants.{CreateIndex}
 use Rattle.sqlite.specs.State.{State, HasCleanDisk, CommitsBy, Executes, Survives}

@@ -1,10 +1,10 @@
 use Rattle.std.proofs.Common.{refl}
 use Rattle.sqlite.specs.Held.{state}
-use Rattle.fax_tables.specs.declared.schema.TheConstants.{CREATE_REPLIES, CREATE_META}
-use Rattle.fax_tables.specs.Schema as schema
-use Rattle.fax_tables.specs.Schema.{bare_tables, with_down, with_replies}
+use Rattle.fax_schema.specs.declared.statements.TheConstants.{CREATE_REPLIES, CREATE_META}
+use Rattle.fax_schema.specs.Schema as schema
+use Rattle.fax_schema.specs.Schema.{bare_tables, with_down, with_replies}
 use Rattle.fax_tables.proofs.CreateLemmas.{clean_before, commit_kept, goes_on, made, refused_keeps}
-use Rattle.fax_tables.proofs.CreateTexts.{makes_replies, created_replies, makes_meta, created_meta}
+use Rattle.fax_schema.proofs.CreateTexts.{makes_replies, created_replies, makes_meta, created_meta}
 use Rattle.fax_tables.proofs.ResultLemmas.{on_err}
 use Rattle.sqlite.specs.Command.TheVariants.{CreateTable}
 use Rattle.fax_tables.specs.Tables.{HasEmptyTables}

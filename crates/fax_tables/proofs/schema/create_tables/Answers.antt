@@ -1,6 +1,6 @@
 use Rattle.sqlite.specs.Held.{state}
 use Rattle.sqlite.specs.State.{State}
-use Rattle.fax_tables.specs.Schema.{bare_tables, with_down, no_tables, our_tables, core_tables}
+use Rattle.fax_schema.specs.Schema.{bare_tables, with_down, no_tables, our_tables, core_tables}
 use Rattle.fax_tables.specs.Stop.{HoldsBack}
 use Rattle.fax_tables.specs.Tables.{GoesOn, HasEmptyTables, HasNewCalls, HasCoreTables, HasTablesAlone, IsIndexed}
 use Rattle.fax_tables.proofs.CreateLemmas.{beside_empty, clean_before, indexed_empty}

@@ -1,10 +1,10 @@
 use Rattle.std.proofs.Common.{refl}
 use Rattle.sqlite.specs.Held.{state}
-use Rattle.fax_tables.specs.declared.schema.TheConstants.{CREATE_JOBS, CREATE_GRANTS, CREATE_HOLDS, CREATE_DOWN}
-use Rattle.fax_tables.specs.Schema as schema
-use Rattle.fax_tables.specs.Schema.{with_down, no_tables, with_grants, with_holds, with_jobs}
+use Rattle.fax_schema.specs.declared.statements.TheConstants.{CREATE_JOBS, CREATE_GRANTS, CREATE_HOLDS, CREATE_DOWN}
+use Rattle.fax_schema.specs.Schema as schema
+use Rattle.fax_schema.specs.Schema.{with_down, no_tables, with_grants, with_holds, with_jobs}
 use Rattle.fax_tables.proofs.CreateLemmas.{clean_before, commit_kept, goes_on, made, refused_keeps}
-use Rattle.fax_tables.proofs.CreateTexts.{makes_jobs, created_jobs, makes_grants, created_grants, makes_holds, created_holds, makes_down, created_down}
+use Rattle.fax_schema.proofs.CreateTexts.{makes_jobs, created_jobs, makes_grants, created_grants, makes_holds, created_holds, makes_down, created_down}
 use Rattle.fax_tables.proofs.ResultLemmas.{on_err}
 use Rattle.sqlite.specs.Command.TheVariants.{CreateTable}
 use Rattle.fax_tables.specs.Tables.{HasEmptyTables}

@@ -4,12 +4,12 @@ use Rattle.sqlite.specs.Command.TheVariants.{DropTable}
 use Rattle.sqlite.specs.Listing.{understood}
 use Rattle.sqlite.specs.State.{State, CommitsBy, Executes, Survives}
 use Rattle.sqlite.proofs.Callers.{command_of}
-use Rattle.fax_tables.specs.declared.schema.TheConstants.{DROP_CALLS}
-use Rattle.fax_tables.specs.Schema.{bare_tables, bare_with_calls, calls, calls_at, older_core_tables, older_tables, our_tables, core_tables}
+use Rattle.fax_schema.specs.declared.statements.TheConstants.{DROP_CALLS}
+use Rattle.fax_schema.specs.Schema.{bare_tables, bare_with_calls, calls, calls_at, older_core_tables, older_tables, our_tables, core_tables}
 use Rattle.fax_tables.specs.Stop.{HoldsBack}
 use Rattle.fax_tables.specs.Tables.{GoesOn, HasCallsBeside, LacksCalls}
 use Rattle.fax_tables.proofs.CreateLemmas.{dropped, refused_keeps}
-use Rattle.fax_tables.proofs.CreateTexts.{drops_bare_calls, drops_calls, drops_older_calls, left_bare, left_older_six, left_six}
+use Rattle.fax_schema.proofs.CreateTexts.{drops_bare_calls, drops_calls, drops_older_calls, left_bare, left_older_six, left_six}
 use Rattle.fax_tables.proofs.ResultLemmas.{on_err}
 use Rattle.fax_tables.proofs.StopLemmas.{command_holds_back}
 use Rattle.fax_tables.proofs.schema.drop_calls.Goals as goal

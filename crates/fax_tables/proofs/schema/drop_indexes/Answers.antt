@@ -7,12 +7,12 @@ use Rattle.sqlite.specs.State.{State, HasCleanDisk, CommitsBy, Executes, Survive
 use Rattle.sqlite.proofs.Callers.{command_of}
 use Rattle.sqlite_catalog.specs.Change.{KeepsRows}
 use Rattle.sqlite_schema.specs.declared.schema.Schema.{Schema}
-use Rattle.fax_tables.specs.declared.schema.TheConstants.{DROP_CHOICE_INDEX, DROP_KILLTIME_INDEX}
-use Rattle.fax_tables.specs.Schema.{AreIndexedLast, bare_tables, bare_with_calls, calls_at, choice_index_at, killtime_index_at, older_choice_index_at, older_core_tables, older_vacuumed_tables, core_tables, vacuumed_tables, vacuumed_with_killtime, with_killtime_index}
+use Rattle.fax_schema.specs.declared.statements.TheConstants.{DROP_CHOICE_INDEX, DROP_KILLTIME_INDEX}
+use Rattle.fax_schema.specs.Schema.{AreIndexedLast, bare_tables, bare_with_calls, calls_at, choice_index_at, killtime_index_at, older_choice_index_at, older_core_tables, older_vacuumed_tables, core_tables, vacuumed_tables, vacuumed_with_killtime, with_killtime_index}
 use Rattle.fax_tables.specs.Stop.{HoldsBack}
 use Rattle.fax_tables.specs.Tables.{GoesOn, HasIndexesLast, LosesIndexes}
 use Rattle.fax_tables.proofs.CreateLemmas.{clean_before, commit_kept, goes_on, kept_but_last, kept_rows, lost_index, refused_keeps}
-use Rattle.fax_tables.proofs.CreateTexts.{drops_choice, drops_killtime, drops_last_choice, drops_last_killtime, drops_older_choice, left_bare_calls, left_killtime, left_last_bare, left_last_killtime, left_older_killtime}
+use Rattle.fax_schema.proofs.CreateTexts.{drops_choice, drops_killtime, drops_last_choice, drops_last_killtime, drops_older_choice, left_bare_calls, left_killtime, left_last_bare, left_last_killtime, left_older_killtime}
 use Rattle.fax_tables.proofs.ResultLemmas.{on_err}
 use Rattle.fax_tables.proofs.StopLemmas.{any_holds_back, holds_back_then}
 use Rattle.fax_tables.proofs.schema.drop_indexes.Goals as goal

@@ -1,10 +1,10 @@
 use Rattle.sqlite.specs.Held.{state}
-use Rattle.fax_tables.specs.declared.schema.TheConstants.{INSERT_META}
+use Rattle.fax_schema.specs.declared.statements.TheConstants.{INSERT_META}
 use Rattle.fax_tables.proofs.CreateLemmas.{filled, refused_keeps}
 use Rattle.fax_tables.proofs.ResultLemmas.{on_err}
-use Rattle.fax_tables.specs.Schema.{our_tables}
+use Rattle.fax_schema.specs.Schema.{our_tables}
 use Rattle.fax_tables.specs.Tables.{HasEmptyTables}
-use Rattle.fax_tables.proofs.CreateTexts.{insert_meta}
+use Rattle.fax_schema.proofs.CreateTexts.{insert_meta}
 use Rattle.fax_tables.proofs.StopLemmas.{step_holds_back}
 use Rattle.fax_tables.proofs.schema.fill_meta.Goals as goal
 

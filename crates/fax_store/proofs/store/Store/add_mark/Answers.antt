@@ -3,13 +3,13 @@ use Rattle.sqlite.specs.Held.{state}
 use Rattle.sqlite.specs.State.{HasCleanDisk}
 use Rattle.fax_core.specs.Machine.{is_down, with_mark}
 use Rattle.fax_job.specs.Name.{IsName}
-use Rattle.fax_store.specs.declared.modems.TheConstants.{INSERT_DOWN}
+use Rattle.fax_schema.specs.declared.statements.TheConstants.{INSERT_DOWN}
 use Rattle.fax_store.specs.Store.{HasRun, IsRefusedFor}
 use Rattle.fax_store.specs.Work.{IsUnderWay}
 use Rattle.fax_store.proofs.ModemLemmas as modems
 use Rattle.fax_store.proofs.WorkLemmas.{goes_on, holds_by, holds_then, move_by, only_unavailable}
 use Rattle.fax_store.proofs.StatementLemmas.{edit_text}
-use Rattle.fax_store.proofs.ModemTexts as texts
+use Rattle.fax_schema.proofs.ModemTexts as texts
 use Rattle.std.specs.Prelude.{is_err}
 use Rattle.fax_store.proofs.StopLemmas.{withholds_by, withholds_then}
 use Rattle.fax_store.proofs.store.Store.add_mark.Goals as goal

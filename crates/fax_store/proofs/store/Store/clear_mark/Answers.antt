@@ -1,12 +1,12 @@
 use Rattle.std.proofs.Common.{OnOk, false, subst, rules}
 use Rattle.sqlite.specs.Held.{state}
 use Rattle.fax_core.specs.Machine.{with_mark}
-use Rattle.fax_store.specs.declared.modems.TheConstants.{DELETE_DOWN}
+use Rattle.fax_schema.specs.declared.statements.TheConstants.{DELETE_DOWN}
 use Rattle.fax_store.specs.Store.{HasRun}
 use Rattle.fax_store.proofs.ModemLemmas as modems
 use Rattle.fax_store.proofs.WorkLemmas.{step_by}
 use Rattle.fax_store.proofs.StatementLemmas.{edit_text}
-use Rattle.fax_store.proofs.ModemTexts as texts
+use Rattle.fax_schema.proofs.ModemTexts as texts
 use Rattle.fax_store.proofs.store.Store.clear_mark.Goals as goal
 
 pub returns-clause-written : goal.returns-clause-written

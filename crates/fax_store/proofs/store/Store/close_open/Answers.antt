@@ -1,13 +1,13 @@
 use Rattle.std.proofs.Common.{◌-◌, sym, subst, rules}
 use Rattle.sqlite.specs.Held.{state}
-use Rattle.fax_store.specs.declared.grants.TheConstants.{SHUT_GRANT, DELETE_HOLD}
+use Rattle.fax_schema.specs.declared.statements.TheConstants.{SHUT_GRANT, DELETE_HOLD}
 use Rattle.fax_store.specs.Grant.{SetsCalls, with_closed, with_count}
 use Rattle.fax_store.specs.Store.{HasRun}
 use Rattle.fax_tables.proofs.TablesLemmas.{calls_of}
 use Rattle.fax_store.proofs.GrantWriteLemmas.{close_counted, close_params, grant_closed}
 use Rattle.fax_store.proofs.WorkLemmas.{holds_err, holds_then, inside_by, moves_by, ok_as, refused_as, refused_by, refused_move}
 use Rattle.std.specs.Prelude.{is_err, false, true}
-use Rattle.fax_store.proofs.GrantTexts as texts
+use Rattle.fax_schema.proofs.GrantTexts as texts
 use Rattle.fax_store.proofs.StatementLemmas.{edit_text}
 use Rattle.fax_store.proofs.StopLemmas.{withholds_err, withholds_then}
 use Rattle.fax_store.proofs.store.Store.close_open.Goals as goal

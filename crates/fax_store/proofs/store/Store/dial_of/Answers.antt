@@ -5,11 +5,11 @@ use Rattle.sqlite.specs.Order.{Row}
 use Rattle.sqlite.specs.declared.types.Value.TheVariants.{Text}
 use Rattle.sqlite_rules.specs.Lists.{Has}
 use Rattle.fax_core.specs.Job.{Job}
-use Rattle.fax_store.specs.declared.adopt.TheConstants.{SELECT_DIAL}
+use Rattle.fax_schema.specs.declared.statements.TheConstants.{SELECT_DIAL}
 use Rattle.fax_store.specs.Store.{FindsRow}
 use Rattle.fax_tables.specs.Row.{number}
 use Rattle.fax_store.proofs.HeldLemmas.{dial_formed, dial_found, dial_there, dial_told}
-use Rattle.fax_store.proofs.StatementTexts.{select_dial}
+use Rattle.fax_schema.proofs.StatementTexts.{select_dial}
 use Rattle.fax_store.proofs.WorkLemmas.{told_cause, told_ok}
 use Rattle.fax_store.proofs.store.Store.dial_of.Goals as goal
 

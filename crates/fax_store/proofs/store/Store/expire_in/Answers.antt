@@ -1,7 +1,7 @@
 use Rattle.std.proofs.Common.{◌≡◌, false, Ok, OnOk, sym, subst, rules}
 use Rattle.std.specs.Prelude.{is_err}
 use Rattle.sqlite.specs.Held.{state}
-use Rattle.fax_store.specs.declared.jobs.TheConstants.{EXPIRE_JOBS}
+use Rattle.fax_schema.specs.declared.statements.TheConstants.{EXPIRE_JOBS}
 use Rattle.fax_store.specs.Job.{with_expired_in}
 use Rattle.fax_store.specs.Store.{HasRun}
 use Rattle.fax_store.specs.Work.{IsUnderWay}
@@ -9,7 +9,7 @@ use Rattle.fax_store.proofs.ChangeLemmas.{expired_params, jobs_expired}
 use Rattle.fax_store.proofs.WorkLemmas.{goes_on, holds_by, holds_then, step_by}
 use Rattle.fax_store.proofs.StopLemmas.{withholds_by, withholds_then}
 use Rattle.fax_store.proofs.StatementLemmas.{edit_text}
-use Rattle.fax_store.proofs.StatementTexts as texts
+use Rattle.fax_schema.proofs.StatementTexts as texts
 use Rattle.fax_store.proofs.store.Store.expire_in.Goals as goal
 
 pub returns-then-branch-clause-written : goal.returns-then-branch-clause-written

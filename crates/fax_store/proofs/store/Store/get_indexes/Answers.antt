@@ -1,6 +1,6 @@
 use Rattle.std.proofs.Common.{◌≡◌}
 use Rattle.sqlite.specs.Held.{state}
-use Rattle.fax_tables.specs.Schema.{core_tables}
+use Rattle.fax_schema.specs.Schema.{core_tables}
 use Rattle.fax_store.specs.Adopt.{AreCore, AreStores}
 use Rattle.fax_store.proofs.AdoptLemmas.{goes_then}
 use Rattle.fax_store.proofs.store.Store.get_indexes.Goals as goal

@@ -5,7 +5,7 @@ use Rattle.sqlite.specs.State.{HasCleanDisk}
 use Rattle.sqlite.specs.Order.{Row}
 use Rattle.sqlite.specs.declared.types.Value.TheVariants.{Text}
 use Rattle.fax_core.specs.Job.{job_of}
-use Rattle.fax_store.specs.declared.jobs.TheConstants.{INSERT_JOB}
+use Rattle.fax_schema.specs.declared.statements.TheConstants.{INSERT_JOB}
 use Rattle.fax_tables.specs.Job.{IsFormed, IsLawfulJob, job_shown}
 use Rattle.fax_store.specs.Job.{IsNewJob, with_placed}
 use Rattle.fax_tables.specs.Row.{number}
@@ -15,7 +15,7 @@ use Rattle.fax_store.proofs.JobLemmas.{job_put, job_goes, lawful_of_fields}
 use Rattle.fax_tables.proofs.RowLemmas.{shown_by}
 use Rattle.fax_store.proofs.WorkLemmas.{move_by, only_unavailable}
 use Rattle.fax_store.proofs.StatementLemmas.{edit_text}
-use Rattle.fax_store.proofs.StatementTexts as texts
+use Rattle.fax_schema.proofs.StatementTexts as texts
 use Rattle.fax_store.proofs.store.Store.insert_job.Goals as goal
 
 pub returns-clause-written : goal.returns-clause-written

@@ -1,6 +1,6 @@
 use Rattle.std.proofs.Common.{◌+◌, refl, sym, subst, ◌∙◌, rules}
 use Rattle.sqlite.specs.Held.{state}
-use Rattle.fax_store.specs.declared.grants.TheConstants.{INSERT_GRANT, INSERT_HOLD}
+use Rattle.fax_schema.specs.declared.statements.TheConstants.{INSERT_GRANT, INSERT_HOLD}
 use Rattle.fax_store.specs.Grant.{SetsCalls, with_count, with_placed}
 use Rattle.fax_store.specs.Store.{HasRun, IsRefusedFor}
 use Rattle.fax_tables.specs.Tables.{IsLawfulGrant}
@@ -8,7 +8,7 @@ use Rattle.fax_tables.proofs.TablesLemmas.{calls_of}
 use Rattle.fax_store.proofs.GrantWriteLemmas.{hold_params, grant_params, hold_goes, grant_counted, grant_put, grant_goes}
 use Rattle.fax_store.proofs.WorkLemmas.{holds_err, holds_then, inside_by, moves_by, ok_as, refused_as, refused_by, refused_move}
 use Rattle.std.specs.Prelude.{is_err, false, true}
-use Rattle.fax_store.proofs.GrantTexts as texts
+use Rattle.fax_schema.proofs.GrantTexts as texts
 use Rattle.fax_store.proofs.StatementLemmas.{edit_text}
 use Rattle.fax_store.proofs.StopLemmas.{withholds_err, withholds_then}
 use Rattle.fax_store.proofs.store.Store.place_grant.Goals as goal

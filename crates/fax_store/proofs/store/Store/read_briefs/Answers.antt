@@ -1,7 +1,7 @@
 use Rattle.std.proofs.Common.{rules}
 use Rattle.sqlite.specs.Held.{state}
 use Rattle.fax_store.proofs.JobsLemmas.{briefs_found}
-use Rattle.fax_store.proofs.StatementTexts.{select_briefs}
+use Rattle.fax_schema.proofs.StatementTexts.{select_briefs}
 use Rattle.fax_store.proofs.WorkLemmas.{reads_same}
 use Rattle.fax_store.proofs.store.Store.read_briefs.Goals as goal
 

@@ -1,12 +1,12 @@
 use Rattle.std.proofs.Common.{◌≡◌, [], ◌∷◌, MatchOption, sym, subst, rules}
 use Rattle.sqlite.specs.Held.{state}
 use Rattle.fax_core.specs.State.{calls_to}
-use Rattle.fax_store.specs.declared.grants.TheConstants.{SELECT_OPEN}
+use Rattle.fax_schema.specs.declared.statements.TheConstants.{SELECT_OPEN}
 use Rattle.fax_store.specs.Store.{FindsRow}
 use Rattle.fax_tables.specs.Row.{number}
 use Rattle.fax_store.proofs.CallLemmas as calls
 use Rattle.fax_store.proofs.CountLemmas.{calls_fit}
-use Rattle.fax_store.proofs.GrantTexts.{select_open}
+use Rattle.fax_schema.proofs.GrantTexts.{select_open}
 use Rattle.fax_store.proofs.store.Store.read_calls.Goals as goal
 
 pub find-requires : goal.find-requires

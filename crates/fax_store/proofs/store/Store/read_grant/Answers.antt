@@ -5,13 +5,13 @@ use Rattle.fax_core.specs.Queue.{grant_numbered}
 use Rattle.fax_core.specs.declared.grants.Grant.{Grant}
 use Rattle.fax_tables.specs.Grant.{grant_shown}
 use Rattle.fax_tables.specs.declared.fault.StoreFault.TheVariants.{Unavailable}
-use Rattle.fax_store.specs.declared.grants.TheConstants.{SELECT_GRANT}
+use Rattle.fax_schema.specs.declared.statements.TheConstants.{SELECT_GRANT}
 use Rattle.fax_store.specs.Store.{FindsRow}
 use Rattle.fax_tables.specs.Tables.{IsLawfulGrant}
 use Rattle.fax_store.proofs.GrantLemmas as texts
 use Rattle.fax_tables.proofs.KeyLemmas.{is_there, is_none, found_holds}
 use Rattle.fax_tables.proofs.ResultLemmas.{passes_on}
-use Rattle.fax_store.proofs.GrantTexts.{select_grant}
+use Rattle.fax_schema.proofs.GrantTexts.{select_grant}
 use Rattle.fax_store.proofs.WorkLemmas.{reads_same}
 use Rattle.fax_store.proofs.store.Store.read_grant.Goals as goal
 

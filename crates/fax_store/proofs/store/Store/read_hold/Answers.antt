@@ -6,15 +6,15 @@ use Rattle.fax_core.specs.Machine.{held_by}
 use Rattle.fax_core.specs.Queue.{open_grants}
 use Rattle.fax_core.specs.declared.grants.Grant.{Grant}
 use Rattle.fax_tables.specs.Grant.{as_hold, hold_shown}
-use Rattle.fax_tables.proofs.ColumnLemmas.{all_kept}
+use Rattle.fax_schema.proofs.ColumnLemmas.{all_kept}
 use Rattle.fax_tables.specs.declared.fault.StoreFault.TheVariants.{Unavailable}
-use Rattle.fax_store.specs.declared.grants.TheConstants.{SELECT_HOLD}
+use Rattle.fax_schema.specs.declared.statements.TheConstants.{SELECT_HOLD}
 use Rattle.fax_store.specs.Store.{FindsRow}
 use Rattle.fax_tables.specs.Tables.{IsLawfulGrant}
 use Rattle.fax_store.proofs.HoldLemmas as texts
 use Rattle.fax_tables.proofs.KeyLemmas.{is_there, is_none, found_holds}
 use Rattle.fax_tables.proofs.ResultLemmas.{passes_on}
-use Rattle.fax_store.proofs.GrantTexts.{select_hold}
+use Rattle.fax_schema.proofs.GrantTexts.{select_hold}
 use Rattle.fax_store.proofs.WorkLemmas.{reads_same}
 use Rattle.fax_store.proofs.store.Store.read_hold.Goals as goal
 

@@ -5,13 +5,13 @@ use Rattle.std.specs.Prelude.{◌==◌}
 use Rattle.fax_core.specs.Job.{Job, fields_of}
 use Rattle.fax_core.specs.Queue.{job_numbered}
 use Rattle.fax_tables.specs.declared.fault.StoreFault.TheVariants.{Unavailable}
-use Rattle.fax_store.specs.declared.jobs.TheConstants.{SELECT_JOB}
+use Rattle.fax_schema.specs.declared.statements.TheConstants.{SELECT_JOB}
 use Rattle.fax_tables.specs.Job.{IsLawfulJob, job_shown}
 use Rattle.fax_store.specs.Store.{FindsRow}
 use Rattle.fax_store.proofs.JobLemmas.{params, job_found}
 use Rattle.fax_tables.proofs.KeyLemmas.{is_there, is_none, found_holds}
 use Rattle.fax_tables.proofs.ResultLemmas.{passes_on}
-use Rattle.fax_store.proofs.StatementTexts.{select_job}
+use Rattle.fax_schema.proofs.StatementTexts.{select_job}
 use Rattle.fax_store.proofs.WorkLemmas.{reads_same}
 use Rattle.fax_store.proofs.store.Store.read_job.Goals as goal
 

@@ -1,9 +1,9 @@
 use Rattle.std.proofs.Common.{subst, ◌∙◌, rules}
 use Rattle.sqlite.specs.Held.{state}
-use Rattle.fax_store.specs.declared.modems.TheConstants.{SELECT_DOWN}
+use Rattle.fax_schema.specs.declared.statements.TheConstants.{SELECT_DOWN}
 use Rattle.fax_store.specs.Store.{FindsRow}
 use Rattle.fax_store.proofs.ModemLemmas as modems
-use Rattle.fax_store.proofs.ModemTexts.{select_down}
+use Rattle.fax_schema.proofs.ModemTexts.{select_down}
 use Rattle.fax_store.proofs.store.Store.read_mark.Goals as goal
 
 pub returns-clause-answers : goal.returns-clause-answers

@@ -1,7 +1,7 @@
 use Rattle.std.proofs.Common.{inl, sym, ◌∙◌}
 use Rattle.sqlite.specs.Held.{state}
 use Rattle.fax_store.proofs.MetaLemmas.{meta_found}
-use Rattle.fax_store.proofs.StatementTexts.{select_meta}
+use Rattle.fax_schema.proofs.StatementTexts.{select_meta}
 use Rattle.fax_store.proofs.WorkLemmas.{reads_same}
 use Rattle.fax_store.proofs.store.Store.read_meta.Goals as goal
 

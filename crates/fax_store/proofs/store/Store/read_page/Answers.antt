@@ -3,12 +3,12 @@ use Rattle.sqlite.specs.Held.{state}
 use Rattle.sqlite.specs.State.{Shown}
 use Rattle.fax_store.specs.Candidates.{IsPage}
 use Rattle.fax_store.specs.declared.candidates.Front.TheVariants.{First, Number, Time, Priority}
-use Rattle.fax_store.specs.declared.candidates.TheConstants.{SELECT_FIRST, SELECT_BEHIND_NUMBER, SELECT_BEHIND_TIME, SELECT_BEHIND_PRIORITY}
+use Rattle.fax_schema.specs.declared.statements.TheConstants.{SELECT_FIRST, SELECT_BEHIND_NUMBER, SELECT_BEHIND_TIME, SELECT_BEHIND_PRIORITY}
 use Rattle.fax_tables.specs.Fault.{OrUnavailable}
 use Rattle.fax_tables.specs.Row.{number}
 use Rattle.fax_tables.proofs.ResultLemmas.{answered}
 use Rattle.fax_store.proofs.CandidateLemmas.{params, first_found, number_found, time_found, priority_found}
-use Rattle.fax_store.proofs.StatementTexts.{number_tests, other_tests, priority_tests, time_tests, select_first, select_behind_number, select_behind_time, select_behind_priority}
+use Rattle.fax_schema.proofs.StatementTexts.{number_tests, other_tests, priority_tests, time_tests, select_first, select_behind_number, select_behind_time, select_behind_priority}
 use Rattle.fax_store.proofs.store.Store.read_page.Goals as goal
 
 pub returns-in-First-clause-answers : goal.returns-in-First-clause-answers

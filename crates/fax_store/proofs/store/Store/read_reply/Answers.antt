@@ -1,13 +1,13 @@
 use Rattle.std.proofs.Common.{◌≡◌, subst, rules}
 use Rattle.sqlite.specs.Held.{state}
 use Rattle.fax_tables.specs.declared.fault.StoreFault.TheVariants.{Unavailable}
-use Rattle.fax_store.specs.declared.replies.TheConstants.{SELECT_REPLY}
+use Rattle.fax_schema.specs.declared.statements.TheConstants.{SELECT_REPLY}
 use Rattle.fax_store.specs.Store.{FindsRow}
 use Rattle.fax_store.specs.Kept.{IsKeptFor}
 use Rattle.fax_store.proofs.KeptLemmas.{none_kept, one_kept, tables_keep_once}
 use Rattle.fax_store.proofs.RepliesLemmas.{params, reply_found, lawful_of, none_found}
 use Rattle.fax_tables.proofs.ResultLemmas.{passes_on}
-use Rattle.fax_store.proofs.StatementTexts.{select_reply}
+use Rattle.fax_schema.proofs.StatementTexts.{select_reply}
 use Rattle.fax_store.proofs.WorkLemmas.{reads_same}
 use Rattle.fax_store.proofs.store.Store.read_reply.Goals as goal
 

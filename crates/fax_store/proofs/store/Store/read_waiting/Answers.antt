@@ -2,11 +2,11 @@ use Rattle.std.proofs.Common.{◌≡◌, [], map, subst, rules}
 use Rattle.sqlite.specs.Held.{state}
 use Rattle.sqlite.specs.State.{Shown}
 use Rattle.fax_core.specs.Job.{fields_of}
-use Rattle.fax_store.specs.declared.jobs.TheConstants.{SELECT_WAITING}
+use Rattle.fax_schema.specs.declared.statements.TheConstants.{SELECT_WAITING}
 use Rattle.fax_store.specs.Job.{IsWaiting}
 use Rattle.fax_tables.proofs.ResultLemmas.{or_weaker}
 use Rattle.fax_store.proofs.WaitingLemmas as waiting
-use Rattle.fax_store.proofs.StatementTexts.{job_project, select_waiting}
+use Rattle.fax_schema.proofs.StatementTexts.{job_project, select_waiting}
 use Rattle.fax_store.proofs.WorkLemmas.{reads_same}
 use Rattle.fax_store.proofs.store.Store.read_waiting.Goals as goal
 

@@ -1,5 +1,5 @@
 use Rattle.sqlite.specs.Held.{state}
-use Rattle.fax_tables.specs.Schema.{core_tables}
+use Rattle.fax_schema.specs.Schema.{core_tables}
 use Rattle.fax_tables.proofs.CreateLemmas.{clean_before, commit_kept, goes_on, kept_rows}
 use Rattle.fax_store.proofs.AdoptLemmas.{refused_step}
 use Rattle.fax_store.proofs.store.Store.renew.Goals as goal

@@ -3,7 +3,7 @@ use Rattle.sqlite.specs.Held.{state}
 use Rattle.sqlite.specs.Order.{Row}
 use Rattle.sqlite.specs.declared.types.Value.TheVariants.{Text}
 use Rattle.fax_core.specs.Job.{job_of}
-use Rattle.fax_store.specs.declared.jobs.TheConstants.{UPDATE_JOB}
+use Rattle.fax_schema.specs.declared.statements.TheConstants.{UPDATE_JOB}
 use Rattle.fax_store.specs.Job.{IsChange, with_change}
 use Rattle.fax_tables.specs.Row.{number}
 use Rattle.fax_store.specs.Store.{HasRun}
@@ -12,7 +12,7 @@ use Rattle.fax_store.proofs.ChangeLemmas.{IsFormedChange, job_changed}
 use Rattle.fax_tables.proofs.RowLemmas.{change_params, changed_by}
 use Rattle.fax_store.proofs.WorkLemmas.{step_by}
 use Rattle.fax_store.proofs.StatementLemmas.{edit_text}
-use Rattle.fax_store.proofs.StatementTexts as texts
+use Rattle.fax_schema.proofs.StatementTexts as texts
 use Rattle.fax_store.proofs.store.Store.write_change.Goals as goal
 
 pub returns-clause-written : goal.returns-clause-written

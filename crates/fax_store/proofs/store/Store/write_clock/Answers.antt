@@ -1,12 +1,12 @@
 use Rattle.std.proofs.Common.{◌≤◌, OnOk, subst, rules}
 use Rattle.sqlite.specs.Held.{state}
-use Rattle.fax_store.specs.declared.meta.TheConstants.{UPDATE_CLOCK}
+use Rattle.fax_schema.specs.declared.statements.TheConstants.{UPDATE_CLOCK}
 use Rattle.fax_store.specs.Meta.{with_clock}
 use Rattle.fax_store.specs.Store.{HasRun}
 use Rattle.fax_store.proofs.MetaLemmas.{clock_params, clock_written}
 use Rattle.fax_store.proofs.WorkLemmas.{step_by}
 use Rattle.fax_store.proofs.StatementLemmas.{edit_text}
-use Rattle.fax_store.proofs.StatementTexts as texts
+use Rattle.fax_schema.proofs.StatementTexts as texts
 use Rattle.fax_store.proofs.store.Store.write_clock.Goals as goal
 
 pub returns-clause-written : goal.returns-clause-written

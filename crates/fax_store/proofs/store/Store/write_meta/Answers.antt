@@ -1,13 +1,13 @@
 use Rattle.std.proofs.Common.{[], ◌∷◌, OnOk, subst, rules}
 use Rattle.sqlite.specs.Held.{state}
-use Rattle.fax_store.specs.declared.meta.TheConstants.{UPDATE_META}
+use Rattle.fax_schema.specs.declared.statements.TheConstants.{UPDATE_META}
 use Rattle.fax_tables.specs.Meta.{with_meta}
 use Rattle.fax_tables.specs.Row.{number}
 use Rattle.fax_store.specs.Store.{HasRun}
 use Rattle.fax_store.proofs.MetaLemmas.{meta_written, meta_shows}
 use Rattle.fax_store.proofs.WorkLemmas.{step_by}
 use Rattle.fax_store.proofs.StatementLemmas.{edit_text}
-use Rattle.fax_store.proofs.StatementTexts as texts
+use Rattle.fax_schema.proofs.StatementTexts as texts
 use Rattle.fax_store.proofs.store.Store.write_meta.Goals as goal
 
 pub returns-clause-written : goal.returns-clause-written

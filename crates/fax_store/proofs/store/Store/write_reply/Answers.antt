@@ -3,7 +3,7 @@ use Rattle.sqlite.specs.Held.{state}
 use Rattle.sqlite.specs.State.{HasCleanDisk}
 use Rattle.fax_store.specs.Kept.{IsUnkept}
 use Rattle.sqlite.specs.declared.types.Value.TheVariants.{Text, Blob}
-use Rattle.fax_store.specs.declared.replies.TheConstants.{INSERT_REPLY}
+use Rattle.fax_schema.specs.declared.statements.TheConstants.{INSERT_REPLY}
 use Rattle.fax_tables.specs.Kept.{entry}
 use Rattle.fax_tables.specs.Row.{number}
 use Rattle.fax_store.specs.Store.{HasRun, IsRefusedFor}
@@ -11,7 +11,7 @@ use Rattle.fax_tables.specs.Tables.{IsLawfulEntry}
 use Rattle.fax_store.proofs.RepliesLemmas.{reply_kept, reply_goes}
 use Rattle.fax_store.proofs.WorkLemmas.{move_by, only_unavailable}
 use Rattle.fax_store.proofs.StatementLemmas.{edit_text}
-use Rattle.fax_store.proofs.StatementTexts as texts
+use Rattle.fax_schema.proofs.StatementTexts as texts
 use Rattle.fax_store.proofs.store.Store.write_reply.Goals as goal
 
 pub returns-clause-written : goal.returns-clause-written

@@ -1,12 +1,12 @@
 use Rattle.std.proofs.Common.{◌≤◌, OnOk, subst, rules}
 use Rattle.sqlite.specs.Held.{state}
 use Rattle.fax_core.specs.Machine.{with_grant}
-use Rattle.fax_store.specs.declared.grants.TheConstants.{UPDATE_REPORT}
+use Rattle.fax_schema.specs.declared.statements.TheConstants.{UPDATE_REPORT}
 use Rattle.fax_store.specs.Store.{HasRun}
 use Rattle.fax_store.proofs.GrantWriteLemmas.{report_params, grant_reported}
 use Rattle.fax_store.proofs.WorkLemmas.{step_by, moves_of}
 use Rattle.fax_store.proofs.StatementLemmas.{edit_text}
-use Rattle.fax_store.proofs.GrantTexts as texts
+use Rattle.fax_schema.proofs.GrantTexts as texts
 use Rattle.fax_store.proofs.store.Store.write_report.Goals as goal
 
 pub returns-clause-written : goal.returns-clause-written

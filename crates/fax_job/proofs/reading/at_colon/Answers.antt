@@ -1,5 +1,0 @@
-use Rattle.fax_job.proofs.LineLemmas.{at_colon_is}
-use Rattle.fax_job.proofs.reading.at_colon.Goals as goal
-
-pub returns : goal.returns
-returns c = at_colon_is c.args.line.now c.split_once.result c.split_once.ensures.cases

@@ -1,0 +1,10 @@
+pub mod LineLemmas
+pub mod StatusLemmas
+pub mod ReadLemmas
+pub mod EntryLemmas
+pub mod FoundLemmas
+pub mod SpelledLemmas
+pub mod TextLemmas
+pub mod PrintedLemmas
+pub mod FaultLemmas
+pub mod FaultKindLemmas

@@ -1,0 +1,2 @@
+mod ConnectionLemmas
+mod SendfaxLemmas

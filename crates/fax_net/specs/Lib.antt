@@ -1,0 +1,3 @@
+pub mod Connection
+pub mod Listening
+pub mod Sendfax

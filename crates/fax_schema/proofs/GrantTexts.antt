@@ -1,0 +1,91 @@
+-- What the texts on grants and holds mean.
+use Rattle.std.proofs.Common.{List, [], ◌∷◌, ℕ, pos, codes, refl}
+use Rattle.sqlite.specs.Command.TheVariants.{Insert, Update, Delete}
+use Rattle.sqlite.specs.Listing.{understood}
+use Rattle.sqlite.specs.Source.TheVariants.{Values}
+use Rattle.sqlite.specs.declared.types.Value.TheVariants.{Null, Int}
+use Rattle.sqlite_sql.specs.Term.{Term, lit, col}
+use Rattle.sqlite_tied.specs.Compute.{everything}
+use Rattle.fax_schema.specs.declared.statements.TheConstants.{SELECT_GRANT, INSERT_GRANT, UPDATE_REPORT, SHUT_GRANT, SELECT_HOLD, INSERT_HOLD, DELETE_HOLD, SELECT_OPEN, DELETE_CALLS, INSERT_CALLS}
+use Rattle.fax_schema.proofs.StatementForms.{equals, Selects, Commands}
+use Rattle.fax_schema.proofs.UpdateLemmas.{program_of, gone_project}
+use Rattle.fax_schema.specs.Schema.{calls_tree, grants_tree, holds_tree}
+
+abbrev pub grant_tests : List Term
+grant_tests = equals (col 1 0) (col 0 0) ∷ []
+
+abbrev pub grant_project : List Term
+grant_project = col 1 0 ∷ col 1 2 ∷ col 1 3 ∷ col 1 4 ∷ col 1 5 ∷ col 1 6 ∷ col 1 7 ∷ col 1 8 ∷ []
+
+abbrev pub grant_names : List (List ℕ)
+grant_names = codes "id" ∷ codes "job" ∷ codes "modem" ∷ codes "first_page" ∷ codes "last_page" ∷ codes "call" ∷ codes "pages" ∷ codes "shut" ∷ []
+
+pub select_grant : Selects SELECT_GRANT.now grants_tree grant_tests grant_project grant_names
+unfolding understood everything
+select_grant = record { command = refl; plain = (refl, refl); unlisted = refl }
+
+abbrev pub hold_tests : List Term
+hold_tests = equals (col 1 1) (col 0 0) ∷ []
+
+abbrev pub hold_project : List Term
+hold_project = col 1 3 ∷ col 1 2 ∷ []
+
+pub select_hold : Selects SELECT_HOLD.now holds_tree hold_tests hold_project (codes "id" ∷ codes "job" ∷ [])
+unfolding understood everything
+select_hold = record { command = refl; plain = (refl, refl); unlisted = refl }
+
+abbrev pub grant_terms : List Term
+grant_terms = col 0 0 ∷ lit Null ∷ col 0 1 ∷ col 0 2 ∷ col 0 3 ∷ col 0 4 ∷ col 0 5 ∷ col 0 6 ∷ lit (Int (pos 0)) ∷ []
+
+pub insert_grant : Commands INSERT_GRANT.now (Insert 1 (Values grant_terms 9))
+unfolding understood everything
+insert_grant = record { is = refl; plain = (refl, refl) }
+
+abbrev pub hold_terms : List Term
+hold_terms = lit Null ∷ col 0 0 ∷ col 0 1 ∷ col 0 2 ∷ []
+
+pub insert_hold : Commands INSERT_HOLD.now (Insert 2 (Values hold_terms 4))
+unfolding understood everything
+insert_hold = record { is = refl; plain = (refl, refl) }
+
+abbrev pub report_project : List Term
+report_project = col 1 0 ∷ col 1 0 ∷ lit Null ∷ col 1 2 ∷ col 1 3 ∷ col 1 4 ∷ col 1 5 ∷ col 0 1 ∷ col 0 2 ∷ col 1 8 ∷ []
+
+pub update_report : Commands UPDATE_REPORT.now (Update 1 (program_of grants_tree grant_tests report_project))
+unfolding understood everything
+update_report = record { is = refl; plain = (refl, refl) }
+
+abbrev pub shut_project : List Term
+shut_project = col 1 0 ∷ col 1 0 ∷ lit Null ∷ col 1 2 ∷ col 1 3 ∷ col 1 4 ∷ col 1 5 ∷ col 1 6 ∷ col 1 7 ∷ lit (Int (pos 1)) ∷ []
+
+pub shut_grant : Commands SHUT_GRANT.now (Update 1 (program_of grants_tree grant_tests shut_project))
+unfolding understood everything
+shut_grant = record { is = refl; plain = (refl, refl) }
+
+abbrev pub held_tests : List Term
+held_tests = equals (col 1 3) (col 0 0) ∷ []
+
+pub delete_hold : Commands DELETE_HOLD.now (Delete 2 (program_of holds_tree held_tests gone_project))
+unfolding understood everything
+delete_hold = record { is = refl; plain = (refl, refl) }
+
+abbrev pub call_tests : List Term
+call_tests = equals (col 1 1) (col 0 0) ∷ []
+
+abbrev pub call_project : List Term
+call_project = col 1 2 ∷ []
+
+pub select_open : Selects SELECT_OPEN.now calls_tree call_tests call_project (codes "open" ∷ [])
+unfolding understood everything
+select_open = record { command = refl; plain = (refl, refl); unlisted = refl }
+
+pub delete_calls : Commands DELETE_CALLS.now (Delete 6 (program_of calls_tree call_tests gone_project))
+unfolding understood everything
+delete_calls = record { is = refl; plain = (refl, refl) }
+
+abbrev pub call_terms : List Term
+call_terms = lit Null ∷ col 0 0 ∷ col 0 1 ∷ []
+
+pub insert_calls : Commands INSERT_CALLS.now (Insert 6 (Values call_terms 3))
+unfolding understood everything
+insert_calls = record { is = refl; plain = (refl, refl) }

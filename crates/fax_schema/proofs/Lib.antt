@@ -1,0 +1,13 @@
+pub mod CompareLemmas
+pub mod SelectLemmas
+pub mod WriteLemmas
+pub mod EditLemmas
+pub mod UpdateLemmas
+pub mod AppendLemmas
+pub mod ColumnLemmas
+pub mod StatementForms
+pub mod CreateTexts
+pub mod StatementTexts
+pub mod GrantTexts
+pub mod ModemTexts
+pub mod ShapeLemmas

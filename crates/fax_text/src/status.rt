@@ -1,0 +1,32 @@
+//! How a command ends.
+ghost use Rattle.std.specs.Prelude.{◌≡◌};
+
+use std::io::Write;
+use std::process::ExitCode;
+
+/// The exit status of a command.
+#[derive(Clone, Copy, Debug, PartialEq, Eq)]
+pub enum Status {
+    Success = 0,
+    Fault = 1,
+    Usage = 2,
+}
+
+impl From<Status> for ExitCode {
+    ghost use Rattle.std.specs.Process.{exit_status};
+    ghost use Rattle.fax_text.specs.Status.{status_number};
+
+    ghost from_gives = { λ status code. exit_status code ≡ status_number status };
+
+    fn from(status: Status) -> ExitCode {
+        ExitCode::from(status as u8)
+    }
+}
+
+/// Says on one line what went wrong, as far as `err` takes it.
+pub fn fail<E: Write>(err: &mut E, line: &str) -> Status
+    ensures { result ≡ Status.Fault }
+{
+    let _ = err.write_all(line.as_bytes());
+    Status::Fault
+}

@@ -1,5 +1,0 @@
-use Rattle.std.proofs.Common.{inr}
-use Rattle.faxqd.proofs.office.office_of.Goals as goal
-
-pub returns-in-Err : goal.returns-in-Err
-returns-in-Err c = inr (c.in_ok-setup.setup, c.in_ok-setup.ensures, c.in-Err.ensures)

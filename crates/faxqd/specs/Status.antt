@@ -1,9 +1,0 @@
--- The numbers of exit statuses.
-use Rattle.std.specs.Prelude.{ℕ}
-use Rattle.faxqd.specs.declared.status.Status.{Status}
-use Rattle.faxqd.specs.declared.status.Status.TheVariants.{Success, Fault, Usage}
-
-abbrev pub status_number : Status → ℕ
-status_number Success = 0
-status_number Fault = 1
-status_number Usage = 2
