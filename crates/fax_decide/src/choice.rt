@@ -3,8 +3,6 @@
 ghost use Rattle.std.specs.Prelude.{◌≡◌, ◌&&◌, ℕ, List, [], false, IfOk, IsErr, IsTrue, Ok, None, Some, is_some, OnOk};
 ghost use Rattle.std.specs.Option.{option_map};
 ghost use Rattle.std.specs.Vec.Iter.{into_iter_items};
-ghost use Rattle.sqlite.specs.Held.{state};
-ghost use Rattle.sqlite.specs.State.{HasCleanDisk};
 ghost use Rattle.fax_ask.specs.Answer.{grant_told};
 ghost use Rattle.fax_ask.specs.Response.{refused_response};
 ghost use Rattle.fax_core.specs.Ageing.{aged};
@@ -21,8 +19,9 @@ ghost use Rattle.fax_core.specs.State.{calls_to};
 ghost use Rattle.fax_core.specs.declared.grants.Grant.{Grant as OneGrant};
 ghost use Rattle.fax_job.specs.declared.refusal.Refusal.TheVariants.{ModemBusy};
 ghost use Rattle.fax_tables.specs.Grant.{as_hold};
+ghost use Rattle.fax_store.specs.Calls.{Looks, shown};
 ghost use Rattle.fax_store.specs.Candidates.{StandsAt};
-ghost use Rattle.fax_store.specs.Store.{CommitsNothing, Means, Serves, Stays, StaysOpen};
+ghost use Rattle.fax_store.specs.Store.{Means, Serves, StaysOpen};
 ghost use Rattle.fax_dest.specs.Setup.{admits};
 ghost use Rattle.fax_decide.specs.Choice.{IsBusy, IsFirst, IsFirstAsked};
 ghost use Rattle.fax_decide.specs.Decision.{Decides};
@@ -51,13 +50,10 @@ pub(crate) fn decide_next<S: Alter>(
     next_grant: u32,
     t: Moment,
 ) -> Result<Decision, Unavailable>
-    ensures served { Serves (state S.Store store.new.conn) → Serves (state S.Store store.old.conn) }
-    ensures clean { HasCleanDisk (state S.Store store.new.conn) → HasCleanDisk (state S.Store store.old.conn) }
-    ensures opens { OnOk result (StaysOpen (state S.Store store.old.conn) (state S.Store store.new.conn)) }
-    ensures stays { Stays (state S.Store store.old.conn) (state S.Store store.new.conn) }
-    ensures crash { CommitsNothing (state S.Store store.old.conn) (state S.Store store.new.conn) }
-    ensures decided { (m : Queue) (k : List Entry) → Sound m → Means (state S.Store store.old.conn) m k
-        → Serves (state S.Store store.new.conn) → next_grant ≡ m.next_grant
+    ensures leaves { Looks S.Store store.old store.new }
+    ensures opens { OnOk result (StaysOpen (shown S.Store store.old) (shown S.Store store.new)) }
+    ensures decided { (m : Queue) (k : List Entry) → Sound m → Means (shown S.Store store.old) m k
+        → Serves (shown S.Store store.new) → next_grant ≡ m.next_grant
         → IfOk result (Decides
         (given_to (settings_of office.now.setup office.now.controls) (aged t m) t modem) m t) }
 {
@@ -76,13 +72,10 @@ pub(crate) fn decide_next<S: Alter>(
 /// The reply to a modem that holds a grant: it is told which. Where the grant or its job isn't there, as in no
 /// sound queue, there is none.
 fn busy<S: Alter>(store: &mut Store<S>, alloc: Global, hold: Hold) -> Result<Reply, Unavailable>
-    ensures served { Serves (state S.Store store.new.conn) → Serves (state S.Store store.old.conn) }
-    ensures clean { HasCleanDisk (state S.Store store.new.conn) → HasCleanDisk (state S.Store store.old.conn) }
-    ensures opens { OnOk result (StaysOpen (state S.Store store.old.conn) (state S.Store store.new.conn)) }
-    ensures stays { Stays (state S.Store store.old.conn) (state S.Store store.new.conn) }
-    ensures crash { CommitsNothing (state S.Store store.old.conn) (state S.Store store.new.conn) }
+    ensures leaves { Looks S.Store store.old store.new }
+    ensures opens { OnOk result (StaysOpen (shown S.Store store.old) (shown S.Store store.new)) }
     ensures decided { (m : Queue) (k : List Entry) (t : ℕ) (modem : List ℕ) (g : OneGrant) → Sound m
-        → Means (state S.Store store.old.conn) m k → Serves (state S.Store store.new.conn)
+        → Means (shown S.Store store.old) m k → Serves (shown S.Store store.new)
         → held_by modem m ≡ Some g → hold ≡ as_hold g
         → IfOk result (λ reply. reply
         ≡ refused_response ModemBusy (HeldGrant (is_some g.call) (handed g (aged t m)))) }
@@ -118,13 +111,10 @@ fn decide_free<S: Alter>(
     next_grant: u32,
     t: Moment,
 ) -> Result<Decision, Unavailable>
-    ensures served { Serves (state S.Store store.new.conn) → Serves (state S.Store store.old.conn) }
-    ensures clean { HasCleanDisk (state S.Store store.new.conn) → HasCleanDisk (state S.Store store.old.conn) }
-    ensures opens { OnOk result (StaysOpen (state S.Store store.old.conn) (state S.Store store.new.conn)) }
-    ensures stays { Stays (state S.Store store.old.conn) (state S.Store store.new.conn) }
-    ensures crash { CommitsNothing (state S.Store store.old.conn) (state S.Store store.new.conn) }
-    ensures decided { (m : Queue) (k : List Entry) → Sound m → Means (state S.Store store.old.conn) m k
-        → Serves (state S.Store store.new.conn) → next_grant ≡ m.next_grant
+    ensures leaves { Looks S.Store store.old store.new }
+    ensures opens { OnOk result (StaysOpen (shown S.Store store.old) (shown S.Store store.new)) }
+    ensures decided { (m : Queue) (k : List Entry) → Sound m → Means (shown S.Store store.old) m k
+        → Serves (shown S.Store store.new) → next_grant ≡ m.next_grant
         → IfOk result (Decides (given_best (settings_of office.now.setup office.now.controls) (aged t m) modem
         (best (settings_of office.now.setup office.now.controls) (aged t m) t modem)) m t) }
 {
@@ -142,13 +132,10 @@ fn best<S: Alter>(
     modem: &Name,
     t: Moment,
 ) -> Result<Option<Job>, Unavailable>
-    ensures served { Serves (state S.Store store.new.conn) → Serves (state S.Store store.old.conn) }
-    ensures clean { HasCleanDisk (state S.Store store.new.conn) → HasCleanDisk (state S.Store store.old.conn) }
-    ensures opens { OnOk result (StaysOpen (state S.Store store.old.conn) (state S.Store store.new.conn)) }
-    ensures stays { Stays (state S.Store store.old.conn) (state S.Store store.new.conn) }
-    ensures crash { CommitsNothing (state S.Store store.old.conn) (state S.Store store.new.conn) }
-    ensures found { (m : Queue) (k : List Entry) → Sound m → Means (state S.Store store.old.conn) m k
-        → Serves (state S.Store store.new.conn)
+    ensures leaves { Looks S.Store store.old store.new }
+    ensures opens { OnOk result (StaysOpen (shown S.Store store.old) (shown S.Store store.new)) }
+    ensures found { (m : Queue) (k : List Entry) → Sound m → Means (shown S.Store store.old) m k
+        → Serves (shown S.Store store.new)
         → IfOk result (λ found. option_map (λ f. job_of f) found
         ≡ best (settings_of office.now.setup office.now.controls) (aged t m) t modem.now) }
 {
@@ -170,13 +157,10 @@ fn first<S: Alter>(
     modem: &Name,
     t: Moment,
 ) -> Result<Option<u32>, Unavailable>
-    ensures served { Serves (state S.Store store.new.conn) → Serves (state S.Store store.old.conn) }
-    ensures clean { HasCleanDisk (state S.Store store.new.conn) → HasCleanDisk (state S.Store store.old.conn) }
-    ensures opens { OnOk result (StaysOpen (state S.Store store.old.conn) (state S.Store store.new.conn)) }
-    ensures stays { Stays (state S.Store store.old.conn) (state S.Store store.new.conn) }
-    ensures crash { CommitsNothing (state S.Store store.old.conn) (state S.Store store.new.conn) }
-    ensures found { (m : Queue) (k : List Entry) → Means (state S.Store store.old.conn) m k
-        → Serves (state S.Store store.new.conn)
+    ensures leaves { Looks S.Store store.old store.new }
+    ensures opens { OnOk result (StaysOpen (shown S.Store store.old) (shown S.Store store.new)) }
+    ensures found { (m : Queue) (k : List Entry) → Means (shown S.Store store.old) m k
+        → Serves (shown S.Store store.new)
         → IfOk result (IsFirst (settings_of office.now.setup office.now.controls) m t modem.now) }
 {
     let mut busy = None;
@@ -197,13 +181,10 @@ fn first_or_busy<S: Alter>(
     modem: &Name,
     t: Moment,
 ) -> Result<Option<u32>, Unavailable>
-    ensures served { Serves (state S.Store store.new.conn) → Serves (state S.Store store.old.conn) }
-    ensures clean { HasCleanDisk (state S.Store store.new.conn) → HasCleanDisk (state S.Store store.old.conn) }
-    ensures opens { OnOk result (StaysOpen (state S.Store store.old.conn) (state S.Store store.new.conn)) }
-    ensures stays { Stays (state S.Store store.old.conn) (state S.Store store.new.conn) }
-    ensures crash { CommitsNothing (state S.Store store.old.conn) (state S.Store store.new.conn) }
-    ensures found { (m : Queue) (k : List Entry) → Means (state S.Store store.old.conn) m k
-        → Serves (state S.Store store.new.conn)
+    ensures leaves { Looks S.Store store.old store.new }
+    ensures opens { OnOk result (StaysOpen (shown S.Store store.old) (shown S.Store store.new)) }
+    ensures found { (m : Queue) (k : List Entry) → Means (shown S.Store store.old) m k
+        → Serves (shown S.Store store.new)
         → IsBusy (settings_of office.now.setup office.now.controls) m t busy.old
         → IfOk result (λ found. IsBusy (settings_of office.now.setup office.now.controls) m t busy.new
         × (busy.new ≡ None → IsFirst (settings_of office.now.setup office.now.controls) m t modem.now found)) }
@@ -221,13 +202,10 @@ fn first_but<S: Alter>(
     modem: &Name,
     t: Moment,
 ) -> Result<Option<u32>, Unavailable>
-    ensures served { Serves (state S.Store store.new.conn) → Serves (state S.Store store.old.conn) }
-    ensures clean { HasCleanDisk (state S.Store store.new.conn) → HasCleanDisk (state S.Store store.old.conn) }
-    ensures opens { OnOk result (StaysOpen (state S.Store store.old.conn) (state S.Store store.new.conn)) }
-    ensures stays { Stays (state S.Store store.old.conn) (state S.Store store.new.conn) }
-    ensures crash { CommitsNothing (state S.Store store.old.conn) (state S.Store store.new.conn) }
-    ensures found { (m : Queue) (k : List Entry) → Means (state S.Store store.old.conn) m k
-        → Serves (state S.Store store.new.conn)
+    ensures leaves { Looks S.Store store.old store.new }
+    ensures opens { OnOk result (StaysOpen (shown S.Store store.old) (shown S.Store store.new)) }
+    ensures found { (m : Queue) (k : List Entry) → Means (shown S.Store store.old) m k
+        → Serves (shown S.Store store.new)
         → IsBusy (settings_of office.now.setup office.now.controls) m t (Some busy)
         → IfOk result (IsFirst (settings_of office.now.setup office.now.controls) m t modem.now) }
 {
@@ -248,14 +226,10 @@ fn first_of<S: Alter>(
     t: Moment,
 ) -> Result<Option<u32>, Unavailable>
     ensures same_reference { candidates.new.store.ghost_name ≡ candidates.old.store.ghost_name }
-    ensures served { Serves (state S.Store candidates.new.store.now.conn) → Serves (state S.Store candidates.old.store.now.conn) }
-    ensures clean { HasCleanDisk (state S.Store candidates.new.store.now.conn)
-        → HasCleanDisk (state S.Store candidates.old.store.now.conn) }
-    ensures opens { OnOk result (StaysOpen (state S.Store candidates.old.store.now.conn) (state S.Store candidates.new.store.now.conn)) }
-    ensures stays { Stays (state S.Store candidates.old.store.now.conn) (state S.Store candidates.new.store.now.conn) }
-    ensures crash { CommitsNothing (state S.Store candidates.old.store.now.conn) (state S.Store candidates.new.store.now.conn) }
-    ensures found { (m : Queue) (k : List Entry) → Means (state S.Store candidates.old.store.now.conn) m k
-        → Serves (state S.Store candidates.new.store.now.conn) → candidates.old.asked.t ≡ t
+    ensures leaves { Looks S.Store candidates.old.store.now candidates.new.store.now }
+    ensures opens { OnOk result (StaysOpen (shown S.Store candidates.old.store.now) (shown S.Store candidates.new.store.now)) }
+    ensures found { (m : Queue) (k : List Entry) → Means (shown S.Store candidates.old.store.now) m k
+        → Serves (shown S.Store candidates.new.store.now) → candidates.old.asked.t ≡ t
         → StandsAt candidates.old.asked m [] (into_iter_items candidates.old.page) candidates.old.front candidates.old.most
         → IsBusy (settings_of office.now.setup office.now.controls) m t busy.old
         → IfOk result (λ found. IsBusy (settings_of office.now.setup office.now.controls) m t busy.new
@@ -291,16 +265,12 @@ fn goes<S: Alter>(
     t: Moment,
 ) -> Result<bool, Unavailable>
     ensures same_reference { candidates.new.store.ghost_name ≡ candidates.old.store.ghost_name }
-    ensures served { Serves (state S.Store candidates.new.store.now.conn) → Serves (state S.Store candidates.old.store.now.conn) }
-    ensures clean { HasCleanDisk (state S.Store candidates.new.store.now.conn)
-        → HasCleanDisk (state S.Store candidates.old.store.now.conn) }
-    ensures opens { OnOk result (StaysOpen (state S.Store candidates.old.store.now.conn) (state S.Store candidates.new.store.now.conn)) }
-    ensures stays { Stays (state S.Store candidates.old.store.now.conn) (state S.Store candidates.new.store.now.conn) }
-    ensures crash { CommitsNothing (state S.Store candidates.old.store.now.conn) (state S.Store candidates.new.store.now.conn) }
+    ensures leaves { Looks S.Store candidates.old.store.now candidates.new.store.now }
+    ensures opens { OnOk result (StaysOpen (shown S.Store candidates.old.store.now) (shown S.Store candidates.new.store.now)) }
     ensures same { (candidates.new.asked ≡ candidates.old.asked) × (candidates.new.page ≡ candidates.old.page)
         × (candidates.new.front ≡ candidates.old.front) × (candidates.new.most ≡ candidates.old.most) }
-    ensures told { (m : Queue) (k : List Entry) → Means (state S.Store candidates.old.store.now.conn) m k
-        → Serves (state S.Store candidates.new.store.now.conn)
+    ensures told { (m : Queue) (k : List Entry) → Means (shown S.Store candidates.old.store.now) m k
+        → Serves (shown S.Store candidates.new.store.now)
         → IsBusy (settings_of office.now.setup office.now.controls) m t busy.old
         → IfOk result (λ goes. (goes ≡ (may_call (settings_of office.now.setup office.now.controls) prospect.dial
         (calls_to prospect.dial m) t && admits office.now.setup prospect.modem modem.now))

@@ -1,11 +1,8 @@
 //! What an accepted request changes in the tables.
 
 ghost use Rattle.std.specs.Prelude.{◌≡◌, true, OnErr};
-ghost use Rattle.sqlite.specs.Held.{state};
-ghost use Rattle.sqlite.specs.State.{HasCleanDisk};
+ghost use Rattle.fax_store.specs.Calls.{FailsOnly, Follows, MakesWhere};
 ghost use Rattle.fax_store.specs.Meta.{with_clock};
-ghost use Rattle.fax_store.specs.Store.{Serves};
-ghost use Rattle.fax_store.specs.Work.{ChangesWhere, Holds, IsOnlyUnavailable, Withholds};
 ghost use Rattle.fax_decide.specs.Effect.{IsWritable, Suits, effected};
 
 use fax_core::Grant;
@@ -40,20 +37,11 @@ impl Effect {
     /// `Unavailable`, or `Strange` where what is new has a key that is taken, or what is written is
     /// past its limits.
     pub fn write<S: Alter>(&self, work: &mut Work<'_, S>, clock: Moment) -> Result<(), StoreFault>
-        ensures same_reference { work.new.store.ghost_name ≡ work.old.store.ghost_name }
-        ensures served { Serves (state S.Store work.new.store.now.conn)
-            → Serves (state S.Store work.old.store.now.conn) }
-        ensures clean { HasCleanDisk (state S.Store work.new.store.now.conn)
-            → HasCleanDisk (state S.Store work.old.store.now.conn) }
-        ensures holds { Holds (state S.Store work.old.store.now.conn) work.old.failed
-            (state S.Store work.new.store.now.conn) work.new.failed }
-        ensures crash { Withholds (state S.Store work.old.store.now.conn) work.old.failed
-            (state S.Store work.new.store.now.conn) work.new.failed }
+        ensures leaves { Follows S.Store work.old work.new }
         ensures fails { OnErr result (work.new.failed ≡ true) }
-        ensures changes { ChangesWhere (Suits self.now) (state S.Store work.old.store.now.conn) work.old.failed
-            (state S.Store work.new.store.now.conn) work.new.failed (λ m. with_clock clock (effected self.now m)) (λ k. k) }
-        ensures cause { IsOnlyUnavailable (state S.Store work.old.store.now.conn) work.old.failed
-            (state S.Store work.new.store.now.conn) result (λ m k. IsWritable self.now m) }
+        ensures changes { MakesWhere S.Store work.old work.new (Suits self.now)
+            (λ m. with_clock clock (effected self.now m)) (λ k. k) }
+        ensures cause { FailsOnly S.Store work.old work.new result (λ m k. IsWritable self.now m) }
     {
         if let Effect::NewJob { job, meta } = self {
             return work.put_next_job(job, *meta, clock);
@@ -64,20 +52,10 @@ impl Effect {
 
     /// Makes the change, by at most two calls of the work.
     fn change<S: Alter>(&self, work: &mut Work<'_, S>) -> Result<(), StoreFault>
-        ensures same_reference { work.new.store.ghost_name ≡ work.old.store.ghost_name }
-        ensures served { Serves (state S.Store work.new.store.now.conn)
-            → Serves (state S.Store work.old.store.now.conn) }
-        ensures clean { HasCleanDisk (state S.Store work.new.store.now.conn)
-            → HasCleanDisk (state S.Store work.old.store.now.conn) }
-        ensures holds { Holds (state S.Store work.old.store.now.conn) work.old.failed
-            (state S.Store work.new.store.now.conn) work.new.failed }
-        ensures crash { Withholds (state S.Store work.old.store.now.conn) work.old.failed
-            (state S.Store work.new.store.now.conn) work.new.failed }
+        ensures leaves { Follows S.Store work.old work.new }
         ensures fails { OnErr result (work.new.failed ≡ true) }
-        ensures changes { ChangesWhere (Suits self.now) (state S.Store work.old.store.now.conn) work.old.failed
-            (state S.Store work.new.store.now.conn) work.new.failed (effected self.now) (λ k. k) }
-        ensures cause { IsOnlyUnavailable (state S.Store work.old.store.now.conn) work.old.failed
-            (state S.Store work.new.store.now.conn) result (λ m k. IsWritable self.now m) }
+        ensures changes { MakesWhere S.Store work.old work.new (Suits self.now) (effected self.now) (λ k. k) }
+        ensures cause { FailsOnly S.Store work.old work.new result (λ m k. IsWritable self.now m) }
     {
         match self {
             Effect::Nothing => Ok(()),

@@ -1,5 +1,7 @@
 //! Why a request gets no answer of the queue.
 
+ghost use Rattle.fax_store.specs.Calls.{within};
+
 use fax_hours::MomentFault;
 use fax_store::StoreFault;
 use std::alloc::AllocError;

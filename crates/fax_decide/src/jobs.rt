@@ -2,7 +2,6 @@
 
 ghost use Rattle.std.specs.Prelude.{◌≡◌, List, Some, Ok, IfOk, OnOk};
 ghost use Rattle.sqlite.specs.Held.{state};
-ghost use Rattle.sqlite.specs.State.{HasCleanDisk};
 ghost use Rattle.fax_ask.specs.Answer.{Replied};
 ghost use Rattle.fax_ask.specs.Response.{accepted_response};
 ghost use Rattle.fax_core.specs.Ageing.{aged};
@@ -12,7 +11,8 @@ ghost use Rattle.fax_core.specs.Machine.{changed as change_step, on_job};
 ghost use Rattle.fax_core.specs.Queue.{Queue, Entry, job_numbered};
 ghost use Rattle.fax_core.specs.Reply.{Stands};
 ghost use Rattle.fax_core.specs.State.{state as job_state};
-ghost use Rattle.fax_store.specs.Store.{CommitsNothing, Means, Serves, Stays, StaysOpen};
+ghost use Rattle.fax_store.specs.Calls.{Looks, shown};
+ghost use Rattle.fax_store.specs.Store.{Means, Serves, StaysOpen};
 ghost use Rattle.fax_decide.specs.Decision.{Decides};
 ghost use Rattle.fax_decide.specs.JobAsk.{decision_on};
 ghost use Rattle.fax_decide.specs.Records.{job_in};
@@ -63,13 +63,10 @@ pub(crate) fn decide_on_job<S: Alter>(
     ask: JobAsk,
     t: Moment,
 ) -> Result<Decision, Unavailable>
-    ensures served { Serves (state S.Store store.new.conn) → Serves (state S.Store store.old.conn) }
-    ensures clean { HasCleanDisk (state S.Store store.new.conn) → HasCleanDisk (state S.Store store.old.conn) }
-    ensures opens { OnOk result (StaysOpen (state S.Store store.old.conn) (state S.Store store.new.conn)) }
-    ensures stays { Stays (state S.Store store.old.conn) (state S.Store store.new.conn) }
-    ensures crash { CommitsNothing (state S.Store store.old.conn) (state S.Store store.new.conn) }
-    ensures decided { (m : Queue) (k : List Entry) → Means (state S.Store store.old.conn) m k
-        → Serves (state S.Store store.new.conn)
+    ensures leaves { Looks S.Store store.old store.new }
+    ensures opens { OnOk result (StaysOpen (shown S.Store store.old) (shown S.Store store.new)) }
+    ensures decided { (m : Queue) (k : List Entry) → Means (shown S.Store store.old) m k
+        → Serves (shown S.Store store.new)
         → IfOk result (Decides (on_job (settings_of office.now.setup office.now.controls) (aged t m) t
         (decision_on ask t) (job_numbered number (aged t m))) m t) }
 {
@@ -91,13 +88,10 @@ fn changed<S: Alter>(
     change: Change,
     t: Moment,
 ) -> Result<Decision, Unavailable>
-    ensures served { Serves (state S.Store store.new.conn) → Serves (state S.Store store.old.conn) }
-    ensures clean { HasCleanDisk (state S.Store store.new.conn) → HasCleanDisk (state S.Store store.old.conn) }
-    ensures opens { OnOk result (StaysOpen (state S.Store store.old.conn) (state S.Store store.new.conn)) }
-    ensures stays { Stays (state S.Store store.old.conn) (state S.Store store.new.conn) }
-    ensures crash { CommitsNothing (state S.Store store.old.conn) (state S.Store store.new.conn) }
-    ensures decided { (m : Queue) (k : List Entry) → Means (state S.Store store.old.conn) m k
-        → Serves (state S.Store store.new.conn) → job_numbered job.job (aged t m) ≡ Some (job_in (aged t m) job)
+    ensures leaves { Looks S.Store store.old store.new }
+    ensures opens { OnOk result (StaysOpen (shown S.Store store.old) (shown S.Store store.new)) }
+    ensures decided { (m : Queue) (k : List Entry) → Means (shown S.Store store.old) m k
+        → Serves (shown S.Store store.new) → job_numbered job.job (aged t m) ≡ Some (job_in (aged t m) job)
         → IfOk result (Decides (change_step (settings_of office.now.setup office.now.controls) (aged t m) t
         (Ok (changed_by change (job_in (aged t m) job)))) m t) }
 {
@@ -116,13 +110,10 @@ fn stands<S: Alter>(
     job: &Job,
     t: Moment,
 ) -> Result<Reply, Unavailable>
-    ensures served { Serves (state S.Store store.new.conn) → Serves (state S.Store store.old.conn) }
-    ensures clean { HasCleanDisk (state S.Store store.new.conn) → HasCleanDisk (state S.Store store.old.conn) }
-    ensures opens { OnOk result (StaysOpen (state S.Store store.old.conn) (state S.Store store.new.conn)) }
-    ensures stays { Stays (state S.Store store.old.conn) (state S.Store store.new.conn) }
-    ensures crash { CommitsNothing (state S.Store store.old.conn) (state S.Store store.new.conn) }
-    ensures told { (m : Queue) (k : List Entry) → Means (state S.Store store.old.conn) m k
-        → Serves (state S.Store store.new.conn) → IfOk result (λ reply. reply ≡ accepted_response
+    ensures leaves { Looks S.Store store.old store.new }
+    ensures opens { OnOk result (StaysOpen (shown S.Store store.old) (shown S.Store store.new)) }
+    ensures told { (m : Queue) (k : List Entry) → Means (shown S.Store store.old) m k
+        → Serves (shown S.Store store.new) → IfOk result (λ reply. reply ≡ accepted_response
         (Replied (Stands job.now.job
         (job_state (settings_of office.now.setup office.now.controls) m t (job_of job.now))))) }
 {

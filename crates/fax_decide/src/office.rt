@@ -2,6 +2,7 @@
 
 ghost use Rattle.std.specs.Prelude.{◌≡◌, Ok, IfOk};
 ghost use Rattle.fax_decide.specs.Settings.{have_moment, rule_for};
+ghost use Rattle.fax_store.specs.Calls.{within};
 
 use fax_core::state_at;
 use fax_dest::{Controls, Rule, Setup};

@@ -2,7 +2,6 @@
 
 ghost use Rattle.std.specs.Prelude.{◌≡◌, ◌≤◌, ◌-◌, ◌↔◌, ℕ, List, Some, true, false, Ok, IfOk, IsErr, IsOk, OnOk};
 ghost use Rattle.sqlite.specs.Held.{state};
-ghost use Rattle.sqlite.specs.State.{HasCleanDisk};
 ghost use Rattle.fax_ask.specs.Answer.{Replied};
 ghost use Rattle.fax_ask.specs.Response.{accepted_response, refused_response};
 ghost use Rattle.fax_core.specs.Ageing.{aged};
@@ -19,8 +18,9 @@ ghost use Rattle.fax_core.specs.State.{calls_to};
 ghost use Rattle.fax_core.specs.declared.grants.Grant.{Grant as GrantOf};
 ghost use Rattle.fax_dest.specs.Setup.{delay_of};
 ghost use Rattle.fax_job.specs.Limits.{most_pages};
+ghost use Rattle.fax_store.specs.Calls.{Looks, shown};
 ghost use Rattle.fax_store.specs.Grant.{IsSameGrant};
-ghost use Rattle.fax_store.specs.Store.{CommitsNothing, Means, Serves, Stays, StaysOpen};
+ghost use Rattle.fax_store.specs.Store.{Means, Serves, StaysOpen};
 ghost use Rattle.fax_decide.specs.Decision.{Decides};
 ghost use Rattle.fax_decide.specs.Records.{job_in};
 ghost use Rattle.fax_decide.specs.Report.{AreThere, report_both, report_step};
@@ -56,13 +56,10 @@ pub(crate) fn decide_report<S: Alter>(
     report: Report,
     t: Moment,
 ) -> Result<Decision, Unavailable>
-    ensures served { Serves (state S.Store store.new.conn) → Serves (state S.Store store.old.conn) }
-    ensures clean { HasCleanDisk (state S.Store store.new.conn) → HasCleanDisk (state S.Store store.old.conn) }
-    ensures opens { OnOk result (StaysOpen (state S.Store store.old.conn) (state S.Store store.new.conn)) }
-    ensures stays { Stays (state S.Store store.old.conn) (state S.Store store.new.conn) }
-    ensures crash { CommitsNothing (state S.Store store.old.conn) (state S.Store store.new.conn) }
-    ensures decided { (m : Queue) (k : List Entry) → Sound m → Means (state S.Store store.old.conn) m k
-        → Serves (state S.Store store.new.conn)
+    ensures leaves { Looks S.Store store.old store.new }
+    ensures opens { OnOk result (StaysOpen (shown S.Store store.old) (shown S.Store store.new)) }
+    ensures decided { (m : Queue) (k : List Entry) → Sound m → Means (shown S.Store store.old) m k
+        → Serves (shown S.Store store.new)
         → IfOk result (Decides (report_step (settings_of office.now.setup office.now.controls) (aged t m) t
         report (grant_numbered number m)) m t) }
 {
@@ -86,13 +83,10 @@ fn report_on<S: Alter>(
     report: Report,
     t: Moment,
 ) -> Result<Decision, Unavailable>
-    ensures served { Serves (state S.Store store.new.conn) → Serves (state S.Store store.old.conn) }
-    ensures clean { HasCleanDisk (state S.Store store.new.conn) → HasCleanDisk (state S.Store store.old.conn) }
-    ensures opens { OnOk result (StaysOpen (state S.Store store.old.conn) (state S.Store store.new.conn)) }
-    ensures stays { Stays (state S.Store store.old.conn) (state S.Store store.new.conn) }
-    ensures crash { CommitsNothing (state S.Store store.old.conn) (state S.Store store.new.conn) }
-    ensures decided { (m : Queue) (k : List Entry) → Sound m → Means (state S.Store store.old.conn) m k
-        → Serves (state S.Store store.new.conn) → AreThere m t job grant → grant.confirmed ≤ most_pages
+    ensures leaves { Looks S.Store store.old store.new }
+    ensures opens { OnOk result (StaysOpen (shown S.Store store.old) (shown S.Store store.new)) }
+    ensures decided { (m : Queue) (k : List Entry) → Sound m → Means (shown S.Store store.old) m k
+        → Serves (shown S.Store store.new) → AreThere m t job grant → grant.confirmed ≤ most_pages
         → IfOk result (Decides (report_both (settings_of office.now.setup office.now.controls) (aged t m) t
         report (job_in (aged t m) job) grant) m t) }
     ensures closed { grant.is_open ≡ false → IsOk result }
@@ -231,13 +225,10 @@ fn decide_outcome<S: Alter>(
     said: Outcome,
     t: Moment,
 ) -> Result<Decision, Unavailable>
-    ensures served { Serves (state S.Store store.new.conn) → Serves (state S.Store store.old.conn) }
-    ensures clean { HasCleanDisk (state S.Store store.new.conn) → HasCleanDisk (state S.Store store.old.conn) }
-    ensures opens { OnOk result (StaysOpen (state S.Store store.old.conn) (state S.Store store.new.conn)) }
-    ensures stays { Stays (state S.Store store.old.conn) (state S.Store store.new.conn) }
-    ensures crash { CommitsNothing (state S.Store store.old.conn) (state S.Store store.new.conn) }
-    ensures decided { (m : Queue) (k : List Entry) → Sound m → Means (state S.Store store.old.conn) m k
-        → Serves (state S.Store store.new.conn) → AreThere m t job grant
+    ensures leaves { Looks S.Store store.old store.new }
+    ensures opens { OnOk result (StaysOpen (shown S.Store store.old) (shown S.Store store.new)) }
+    ensures decided { (m : Queue) (k : List Entry) → Sound m → Means (shown S.Store store.old) m k
+        → Serves (shown S.Store store.new) → AreThere m t job grant
         → IfOk result (Decides (reported (aged t m)
         (outcome_reply (settings_of office.now.setup office.now.controls) t) (job_in (aged t m) job)
         (outcome_of said (job_in (aged t m) job) grant (delay_of office.now.setup grant.call) t)) m t) }
@@ -260,13 +251,10 @@ fn ended<S: Alter>(
     grant: &Grant,
     t: Moment,
 ) -> Result<Decision, Unavailable>
-    ensures served { Serves (state S.Store store.new.conn) → Serves (state S.Store store.old.conn) }
-    ensures clean { HasCleanDisk (state S.Store store.new.conn) → HasCleanDisk (state S.Store store.old.conn) }
-    ensures opens { OnOk result (StaysOpen (state S.Store store.old.conn) (state S.Store store.new.conn)) }
-    ensures stays { Stays (state S.Store store.old.conn) (state S.Store store.new.conn) }
-    ensures crash { CommitsNothing (state S.Store store.old.conn) (state S.Store store.new.conn) }
-    ensures decided { (m : Queue) (k : List Entry) → Sound m → Means (state S.Store store.old.conn) m k
-        → Serves (state S.Store store.new.conn) → AreThere m t job grant.now → grant.now.is_open ≡ true
+    ensures leaves { Looks S.Store store.old store.new }
+    ensures opens { OnOk result (StaysOpen (shown S.Store store.old) (shown S.Store store.new)) }
+    ensures decided { (m : Queue) (k : List Entry) → Sound m → Means (shown S.Store store.old) m k
+        → Serves (shown S.Store store.new) → AreThere m t job grant.now → grant.now.is_open ≡ true
         → IfOk result (Decides (reported (aged t m)
         (outcome_reply (settings_of office.now.setup office.now.controls) t) (job_in (aged t m) job)
         (Ok (record { job = changed change (job_in (aged t m) job); grant = record grant.now { is_open = false } }))) m t) }
@@ -290,13 +278,10 @@ fn stands<S: Alter>(
     job: &Job,
     t: Moment,
 ) -> Result<Reply, Unavailable>
-    ensures served { Serves (state S.Store store.new.conn) → Serves (state S.Store store.old.conn) }
-    ensures clean { HasCleanDisk (state S.Store store.new.conn) → HasCleanDisk (state S.Store store.old.conn) }
-    ensures opens { OnOk result (StaysOpen (state S.Store store.old.conn) (state S.Store store.new.conn)) }
-    ensures stays { Stays (state S.Store store.old.conn) (state S.Store store.new.conn) }
-    ensures crash { CommitsNothing (state S.Store store.old.conn) (state S.Store store.new.conn) }
-    ensures told { (m : Queue) (k : List Entry) → Means (state S.Store store.old.conn) m k
-        → Serves (state S.Store store.new.conn) → IfOk result (λ reply. reply ≡ accepted_response
+    ensures leaves { Looks S.Store store.old store.new }
+    ensures opens { OnOk result (StaysOpen (shown S.Store store.old) (shown S.Store store.new)) }
+    ensures told { (m : Queue) (k : List Entry) → Means (shown S.Store store.old) m k
+        → Serves (shown S.Store store.new) → IfOk result (λ reply. reply ≡ accepted_response
         (Replied (Stands job.now.job (state_with (settings_of office.now.setup office.now.controls)
         (job_of job.now) (calls_to job.now.dial m - 1) t)))) }
 {

@@ -1,13 +1,12 @@
 //! Any request: what is decided of it.
 
 ghost use Rattle.std.specs.Prelude.{◌≡◌, List, IfOk, OnOk};
-ghost use Rattle.sqlite.specs.Held.{state};
-ghost use Rattle.sqlite.specs.State.{HasCleanDisk};
 ghost use Rattle.fax_core.specs.Machine.{step as step_of};
 ghost use Rattle.fax_core.specs.Queue.{Queue, Entry};
 ghost use Rattle.fax_core.specs.Sound.{Sound};
 ghost use Rattle.fax_tables.specs.Meta.{meta_of};
-ghost use Rattle.fax_store.specs.Store.{CommitsNothing, Means, Serves, Stays, StaysOpen};
+ghost use Rattle.fax_store.specs.Calls.{Looks, shown};
+ghost use Rattle.fax_store.specs.Store.{Means, Serves, StaysOpen};
 ghost use Rattle.fax_decide.specs.Decision.{Decides};
 ghost use Rattle.fax_decide.specs.Settings.{settings_of};
 
@@ -34,13 +33,10 @@ pub fn decide<S: Alter>(
     meta: &Meta,
     t: Moment,
 ) -> Result<Decision, Unavailable>
-    ensures served { Serves (state S.Store store.new.conn) → Serves (state S.Store store.old.conn) }
-    ensures clean { HasCleanDisk (state S.Store store.new.conn) → HasCleanDisk (state S.Store store.old.conn) }
-    ensures opens { OnOk result (StaysOpen (state S.Store store.old.conn) (state S.Store store.new.conn)) }
-    ensures stays { Stays (state S.Store store.old.conn) (state S.Store store.new.conn) }
-    ensures crash { CommitsNothing (state S.Store store.old.conn) (state S.Store store.new.conn) }
+    ensures leaves { Looks S.Store store.old store.new }
+    ensures opens { OnOk result (StaysOpen (shown S.Store store.old) (shown S.Store store.new)) }
     ensures decided { (m : Queue) (k : List Entry) → Sound m
-        → Means (state S.Store store.old.conn) m k → Serves (state S.Store store.new.conn)
+        → Means (shown S.Store store.old) m k → Serves (shown S.Store store.new)
         → meta.now ≡ meta_of m
         → IfOk result (Decides (step_of (settings_of office.now.setup office.now.controls) m t ask) m t) }
 {

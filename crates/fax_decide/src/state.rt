@@ -2,11 +2,11 @@
 
 ghost use Rattle.std.specs.Prelude.{◌≡◌, List, IfOk, OnOk};
 ghost use Rattle.sqlite.specs.Held.{state};
-ghost use Rattle.sqlite.specs.State.{HasCleanDisk};
 ghost use Rattle.fax_core.specs.Job.{job_of};
 ghost use Rattle.fax_core.specs.Queue.{Queue, Entry};
 ghost use Rattle.fax_core.specs.State.{state as job_state};
-ghost use Rattle.fax_store.specs.Store.{CommitsNothing, Means, Serves, Stays, StaysOpen};
+ghost use Rattle.fax_store.specs.Calls.{Looks, shown};
+ghost use Rattle.fax_store.specs.Store.{Means, Serves, StaysOpen};
 ghost use Rattle.fax_decide.specs.Settings.{settings_of};
 ghost use Rattle.fax_decide.specs.State.{may_call, state_with};
 
@@ -60,13 +60,10 @@ pub(crate) fn state_of<S: Alter>(
     job: &Job,
     t: Moment,
 ) -> Result<u8, Unavailable>
-    ensures served { Serves (state S.Store store.new.conn) → Serves (state S.Store store.old.conn) }
-    ensures clean { HasCleanDisk (state S.Store store.new.conn) → HasCleanDisk (state S.Store store.old.conn) }
-    ensures opens { OnOk result (StaysOpen (state S.Store store.old.conn) (state S.Store store.new.conn)) }
-    ensures stays { Stays (state S.Store store.old.conn) (state S.Store store.new.conn) }
-    ensures crash { CommitsNothing (state S.Store store.old.conn) (state S.Store store.new.conn) }
-    ensures found { (m : Queue) (k : List Entry) → Means (state S.Store store.old.conn) m k
-        → Serves (state S.Store store.new.conn) → IfOk result (λ found.
+    ensures leaves { Looks S.Store store.old store.new }
+    ensures opens { OnOk result (StaysOpen (shown S.Store store.old) (shown S.Store store.new)) }
+    ensures found { (m : Queue) (k : List Entry) → Means (shown S.Store store.old) m k
+        → Serves (shown S.Store store.new) → IfOk result (λ found.
         found ≡ job_state (settings_of office.now.setup office.now.controls) m t (job_of job.now)) }
 {
     let calls = store.active_to(&job.fields().dial)?;

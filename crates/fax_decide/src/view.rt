@@ -3,7 +3,6 @@
 ghost use Rattle.std.specs.Prelude.{◌≡◌, List, [], ◌∷◌, ◌++◌, IfOk, OnOk, map};
 ghost use Rattle.std.specs.List.Sorted.{IsStrictlyIncreasing};
 ghost use Rattle.sqlite.specs.Held.{state};
-ghost use Rattle.sqlite.specs.State.{HasCleanDisk};
 ghost use Rattle.fax_ask.specs.Answer.{Listed, Shown};
 ghost use Rattle.fax_ask.specs.Response.{accepted_response};
 ghost use Rattle.fax_ask.specs.declared.view.View.TheVariants.{Job as OneJob, Jobs as AllJobs};
@@ -14,7 +13,8 @@ ghost use Rattle.fax_core.specs.Sound.{Sound};
 ghost use Rattle.fax_core.specs.State.{state as job_state};
 ghost use Rattle.fax_job.specs.JobLines.{job_lines};
 ghost use Rattle.fax_job.specs.Spelling.{printed};
-ghost use Rattle.fax_store.specs.Store.{CommitsNothing, Means, Serves, Stays, StaysOpen};
+ghost use Rattle.fax_store.specs.Calls.{Looks, shown};
+ghost use Rattle.fax_store.specs.Store.{Means, Serves, StaysOpen};
 ghost use Rattle.fax_text.specs.Listing.{listing_of, number_of};
 ghost use Rattle.fax_decide.specs.Settings.{settings_of};
 ghost use Rattle.fax_decide.specs.View.{view, with_state};
@@ -43,13 +43,10 @@ pub fn show<S: Alter>(
     asked: View,
     t: Moment,
 ) -> Result<Reply, Unavailable>
-    ensures served { Serves (state S.Store store.new.conn) → Serves (state S.Store store.old.conn) }
-    ensures clean { HasCleanDisk (state S.Store store.new.conn) → HasCleanDisk (state S.Store store.old.conn) }
-    ensures opens { OnOk result (StaysOpen (state S.Store store.old.conn) (state S.Store store.new.conn)) }
-    ensures stays { Stays (state S.Store store.old.conn) (state S.Store store.new.conn) }
-    ensures crash { CommitsNothing (state S.Store store.old.conn) (state S.Store store.new.conn) }
-    ensures viewed { (m : Queue) (k : List Entry) → Sound m → Means (state S.Store store.old.conn) m k
-        → Serves (state S.Store store.new.conn) → IfOk result (λ reply.
+    ensures leaves { Looks S.Store store.old store.new }
+    ensures opens { OnOk result (StaysOpen (shown S.Store store.old) (shown S.Store store.new)) }
+    ensures viewed { (m : Queue) (k : List Entry) → Sound m → Means (shown S.Store store.old) m k
+        → Serves (shown S.Store store.new) → IfOk result (λ reply.
         reply ≡ view (settings_of office.now.setup office.now.controls) m t asked) }
 {
     match asked {
@@ -67,13 +64,10 @@ fn show_job<S: Alter>(
     number: u64,
     t: Moment,
 ) -> Result<Reply, Unavailable>
-    ensures served { Serves (state S.Store store.new.conn) → Serves (state S.Store store.old.conn) }
-    ensures clean { HasCleanDisk (state S.Store store.new.conn) → HasCleanDisk (state S.Store store.old.conn) }
-    ensures opens { OnOk result (StaysOpen (state S.Store store.old.conn) (state S.Store store.new.conn)) }
-    ensures stays { Stays (state S.Store store.old.conn) (state S.Store store.new.conn) }
-    ensures crash { CommitsNothing (state S.Store store.old.conn) (state S.Store store.new.conn) }
-    ensures viewed { (m : Queue) (k : List Entry) → Means (state S.Store store.old.conn) m k
-        → Serves (state S.Store store.new.conn) → IfOk result (λ reply.
+    ensures leaves { Looks S.Store store.old store.new }
+    ensures opens { OnOk result (StaysOpen (shown S.Store store.old) (shown S.Store store.new)) }
+    ensures viewed { (m : Queue) (k : List Entry) → Means (shown S.Store store.old) m k
+        → Serves (shown S.Store store.new) → IfOk result (λ reply.
         reply ≡ view (settings_of office.now.setup office.now.controls) m t (OneJob number)) }
 {
     match job_at(store, number, t)? {
@@ -90,13 +84,10 @@ fn shown<S: Alter>(
     job: &Job,
     t: Moment,
 ) -> Result<Reply, Unavailable>
-    ensures served { Serves (state S.Store store.new.conn) → Serves (state S.Store store.old.conn) }
-    ensures clean { HasCleanDisk (state S.Store store.new.conn) → HasCleanDisk (state S.Store store.old.conn) }
-    ensures opens { OnOk result (StaysOpen (state S.Store store.old.conn) (state S.Store store.new.conn)) }
-    ensures stays { Stays (state S.Store store.old.conn) (state S.Store store.new.conn) }
-    ensures crash { CommitsNothing (state S.Store store.old.conn) (state S.Store store.new.conn) }
-    ensures told { (m : Queue) (k : List Entry) → Means (state S.Store store.old.conn) m k
-        → Serves (state S.Store store.new.conn) → IfOk result (λ reply.
+    ensures leaves { Looks S.Store store.old store.new }
+    ensures opens { OnOk result (StaysOpen (shown S.Store store.old) (shown S.Store store.new)) }
+    ensures told { (m : Queue) (k : List Entry) → Means (shown S.Store store.old) m k
+        → Serves (shown S.Store store.new) → IfOk result (λ reply.
         reply ≡ accepted_response (Shown (printed (job_lines job.now
         (job_state (settings_of office.now.setup office.now.controls) m t (job_of job.now)))))) }
 {
@@ -123,13 +114,10 @@ fn show_jobs<S: Alter>(
     alloc: Global,
     t: Moment,
 ) -> Result<Reply, Unavailable>
-    ensures served { Serves (state S.Store store.new.conn) → Serves (state S.Store store.old.conn) }
-    ensures clean { HasCleanDisk (state S.Store store.new.conn) → HasCleanDisk (state S.Store store.old.conn) }
-    ensures opens { OnOk result (StaysOpen (state S.Store store.old.conn) (state S.Store store.new.conn)) }
-    ensures stays { Stays (state S.Store store.old.conn) (state S.Store store.new.conn) }
-    ensures crash { CommitsNothing (state S.Store store.old.conn) (state S.Store store.new.conn) }
-    ensures viewed { (m : Queue) (k : List Entry) → Sound m → Means (state S.Store store.old.conn) m k
-        → Serves (state S.Store store.new.conn) → IfOk result (λ reply.
+    ensures leaves { Looks S.Store store.old store.new }
+    ensures opens { OnOk result (StaysOpen (shown S.Store store.old) (shown S.Store store.new)) }
+    ensures viewed { (m : Queue) (k : List Entry) → Sound m → Means (shown S.Store store.old) m k
+        → Serves (shown S.Store store.new) → IfOk result (λ reply.
         reply ≡ view (settings_of office.now.setup office.now.controls) m t AllJobs) }
 {
     let jobs = store.briefs()?;
@@ -145,13 +133,10 @@ fn with_states<S: Alter>(
     jobs: Vec<Job>,
     t: Moment,
 ) -> Result<Vec<(Job, u8)>, Unavailable>
-    ensures served { Serves (state S.Store store.new.conn) → Serves (state S.Store store.old.conn) }
-    ensures clean { HasCleanDisk (state S.Store store.new.conn) → HasCleanDisk (state S.Store store.old.conn) }
-    ensures opens { OnOk result (StaysOpen (state S.Store store.old.conn) (state S.Store store.new.conn)) }
-    ensures stays { Stays (state S.Store store.old.conn) (state S.Store store.new.conn) }
-    ensures crash { CommitsNothing (state S.Store store.old.conn) (state S.Store store.new.conn) }
-    ensures rows { (m : Queue) (k : List Entry) → Means (state S.Store store.old.conn) m k
-        → Serves (state S.Store store.new.conn) → IfOk result (λ rows. rows.items
+    ensures leaves { Looks S.Store store.old store.new }
+    ensures opens { OnOk result (StaysOpen (shown S.Store store.old) (shown S.Store store.new)) }
+    ensures rows { (m : Queue) (k : List Entry) → Means (shown S.Store store.old) m k
+        → Serves (shown S.Store store.new) → IfOk result (λ rows. rows.items
         ≡ map (λ job. with_state (settings_of office.now.setup office.now.controls) m t (aged_job t (job_of job))) jobs.items) }
 {
     let mut rows = Vec::with_capacity(alloc, jobs.len())?;

@@ -7,3 +7,4 @@ pub mod Stop
 pub mod Run
 pub mod Counts
 pub mod Laws
+pub mod Queue

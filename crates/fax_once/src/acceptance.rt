@@ -1,16 +1,15 @@
 //! Accepting a request: its effect and its kept reply, in one transaction.
 
 ghost use Rattle.std.specs.Prelude.{◌≡◌, ◌++◌, ◌∷◌, [], IfErr, List, MatchResult, OnErr, OnOk};
-ghost use Rattle.sqlite.specs.Held.{state};
 ghost use Rattle.sqlite.specs.State.{HasCleanDisk};
 ghost use Rattle.fax_core.specs.Queue.{Queue, Entry};
+ghost use Rattle.fax_store.specs.Calls.{FailsOnly, Follows, MakesWhere, shown};
 ghost use Rattle.fax_store.specs.Job.{with_expired};
 ghost use Rattle.fax_job.specs.Name.{IsName};
 ghost use Rattle.fax_store.specs.Kept.{IsUnkept};
 ghost use Rattle.fax_tables.specs.Kept.{entry};
 ghost use Rattle.fax_tables.specs.Tables.{IsKeptStatus};
 ghost use Rattle.fax_store.specs.Store.{Means, Serves, Stays};
-ghost use Rattle.fax_store.specs.Work.{ChangesWhere, Holds, IsOnlyUnavailable, Withholds};
 ghost use Rattle.fax_decide.specs.Effect.{IsWritable, Suits, accepted};
 ghost use Rattle.fax_once.specs.Stop.{MayLeave};
 
@@ -35,28 +34,25 @@ pub(crate) fn commit_accepted<S: Alter>(
     said: &[u8],
     reply: &Reply,
 ) -> Result<(), StoreFault>
-    ensures served { OnOk result (Serves (state S.Store store.new.conn)
-        → Serves (state S.Store store.old.conn)) }
-    ensures clean { HasCleanDisk (state S.Store store.new.conn) → HasCleanDisk (state S.Store store.old.conn) }
-    ensures opens { OnOk result (HasCleanDisk (state S.Store store.new.conn)
-        → Serves (state S.Store store.new.conn)) }
-    ensures unchanged { OnErr result (Stays (state S.Store store.old.conn) (state S.Store store.new.conn)) }
+    ensures served { OnOk result (Serves (shown S.Store store.new) → Serves (shown S.Store store.old)) }
+    ensures clean { HasCleanDisk (shown S.Store store.new) → HasCleanDisk (shown S.Store store.old) }
+    ensures opens { OnOk result (HasCleanDisk (shown S.Store store.new) → Serves (shown S.Store store.new)) }
+    ensures unchanged { OnErr result (Stays (shown S.Store store.old) (shown S.Store store.new)) }
     ensures kept { OnOk result (IsKeptStatus reply.now.status) }
-    ensures taken { (m : Queue) (k : List Entry) → Means (state S.Store store.old.conn) m k
-        → (Serves (state S.Store store.old.conn) → Suits effect.now (with_expired decided_at m))
-        → MatchResult result
-        (λ _. Means (state S.Store store.new.conn) (accepted decided_at effect.now m)
-        (k ++ entry sender.now.client.now sender.now.number said.now reply.now.status reply.now.body ∷ []))
-        (λ _. Means (state S.Store store.new.conn) m k) }
-    ensures crash { (m : Queue) (k : List Entry) → Means (state S.Store store.old.conn) m k
-        → (Serves (state S.Store store.old.conn) → Suits effect.now (with_expired decided_at m))
-        → MayLeave (state S.Store store.old.conn) (state S.Store store.new.conn) (accepted decided_at effect.now m)
+    ensures taken { (m : Queue) (k : List Entry) → Means (shown S.Store store.old) m k
+        → (Serves (shown S.Store store.old) → Suits effect.now (with_expired decided_at m))
+        → MatchResult result (λ _. Means (shown S.Store store.new) (accepted decided_at effect.now m)
+        (k ++ entry sender.now.client.now sender.now.number said.now reply.now.status reply.now.body ∷ [])) (λ _. Means
+        (shown S.Store store.new) m k) }
+    ensures crash { (m : Queue) (k : List Entry) → Means (shown S.Store store.old) m k
+        → (Serves (shown S.Store store.old) → Suits effect.now (with_expired decided_at m))
+        → MayLeave (shown S.Store store.old) (shown S.Store store.new) (accepted decided_at effect.now m)
         (k ++ entry sender.now.client.now sender.now.number said.now reply.now.status reply.now.body ∷ []) }
-    ensures cause { (m : Queue) (k : List Entry) → Means (state S.Store store.old.conn) m k
-        → (Serves (state S.Store store.old.conn) → IsWritable effect.now (with_expired decided_at m)
+    ensures cause { (m : Queue) (k : List Entry) → Means (shown S.Store store.old) m k
+        → (Serves (shown S.Store store.old) → IsWritable effect.now (with_expired decided_at m)
         × IsName sender.now.client.now × IsKeptStatus reply.now.status
-        × IsUnkept sender.now.client.now sender.now.number k)
-        → Serves (state S.Store store.new.conn) → IfErr result (λ fault. fault ≡ StoreFault.Unavailable) }
+        × IsUnkept sender.now.client.now sender.now.number k) → Serves (shown S.Store store.new)
+        → IfErr result (λ fault. fault ≡ StoreFault.Unavailable) }
 {
     let mut work = store.begin()?;
     write(&mut work, decided_at, effect, sender, said, reply)?;
@@ -73,24 +69,12 @@ fn write<S: Alter>(
     said: &[u8],
     reply: &Reply,
 ) -> Result<(), StoreFault>
-    ensures same_reference { work.new.store.ghost_name ≡ work.old.store.ghost_name }
-    ensures served { Serves (state S.Store work.new.store.now.conn)
-        → Serves (state S.Store work.old.store.now.conn) }
-    ensures clean { HasCleanDisk (state S.Store work.new.store.now.conn)
-        → HasCleanDisk (state S.Store work.old.store.now.conn) }
-    ensures holds { Holds (state S.Store work.old.store.now.conn) work.old.failed
-        (state S.Store work.new.store.now.conn) work.new.failed }
-    ensures crash { Withholds (state S.Store work.old.store.now.conn) work.old.failed
-        (state S.Store work.new.store.now.conn) work.new.failed }
+    ensures leaves { Follows S.Store work.old work.new }
     ensures kept { OnOk result (IsKeptStatus reply.now.status) }
-    ensures changes { ChangesWhere (λ m. Suits effect.now (with_expired decided_at m))
-        (state S.Store work.old.store.now.conn) work.old.failed
-        (state S.Store work.new.store.now.conn) work.new.failed
+    ensures changes { MakesWhere S.Store work.old work.new (λ m. Suits effect.now (with_expired decided_at m))
         (accepted decided_at effect.now)
         (λ k. k ++ entry sender.now.client.now sender.now.number said.now reply.now.status reply.now.body ∷ []) }
-    ensures cause { IsOnlyUnavailable (state S.Store work.old.store.now.conn) work.old.failed
-        (state S.Store work.new.store.now.conn) result
-        (λ m k. IsWritable effect.now (with_expired decided_at m)
+    ensures cause { FailsOnly S.Store work.old work.new result (λ m k. IsWritable effect.now (with_expired decided_at m)
         × IsName sender.now.client.now × IsKeptStatus reply.now.status
         × IsUnkept sender.now.client.now sender.now.number k) }
 {

@@ -7,7 +7,6 @@
 ghost use Rattle.std.specs.Prelude.{◌≡◌, ◌∷◌, ◌++◌, [], false, List, IfOk, IsErr, IsTrue, None, OnErr, OnOk, MatchResult, if◌then◌else◌};
 ghost use Rattle.std.specs.Str.{bytes_eq};
 ghost use Rattle.sqlite.specs.Effect.{Database};
-ghost use Rattle.sqlite.specs.Held.{state};
 ghost use Rattle.sqlite.specs.State.{HasCleanDisk};
 ghost use Rattle.fax_ask.specs.Ask.{IsAsk, IsLawful, IsLawfulStep, IsRefused};
 ghost use Rattle.fax_core.specs.Ask.{IsLawfulAsk};
@@ -19,6 +18,7 @@ ghost use Rattle.fax_core.specs.Queue.{Queue as QueueOf, Entry};
 ghost use Rattle.fax_core.specs.Reply.{NoKeys};
 ghost use Rattle.fax_core.specs.Settings.{Settings};
 ghost use Rattle.fax_core.specs.Sound.{Sound};
+ghost use Rattle.fax_store.specs.Calls.{Looks};
 ghost use Rattle.fax_store.specs.Job.{with_expired};
 ghost use Rattle.fax_store.specs.Kept.{HasReply, kept_for};
 ghost use Rattle.fax_tables.specs.Kept.{entry};
@@ -27,12 +27,12 @@ ghost use Rattle.fax_schema.specs.Schema.{our_tables};
 ghost use Rattle.fax_tables.specs.Tables.{IsKeptStatus};
 ghost use Rattle.fax_once.specs.Laws.{IsSoundWith, RunsWell};
 ghost use Rattle.fax_decide.specs.Effect.{Suits, accepted};
-ghost use Rattle.fax_decide.specs.Settings.{settings_of};
 ghost use Rattle.fax_decide.specs.View.{view};
 ghost use Rattle.fax_once.specs.Arrival.{IsSender, number_of, said_of};
+ghost use Rattle.fax_once.specs.Queue.{Replies, settings, tables};
 ghost use Rattle.fax_once.specs.Reading.{post_of};
 ghost use Rattle.fax_once.specs.Stop.{MayLeave, Stops, StopsBy, StopsIn};
-ghost use Rattle.fax_once.specs.Verdict.{Answers, Handles, IsDecided, IsNotAccepted, IsUsed, IsVerdict, LeavesBy, Told, asked_for};
+ghost use Rattle.fax_once.specs.Verdict.{Answers, Handles, IsDecided, IsUsed, IsVerdict, LeavesBy, Told, asked_for};
 ghost use Rattle.fax_once.specs.declared.arrival.Arrival.{Arrival as ArrivalOf};
 
 use crate::acceptance::commit_accepted;
@@ -95,38 +95,29 @@ impl<S: Alter> Queue<S> {
     /// Answers the request, after its effect where it is accepted.
     pub fn handle(&mut self, alloc: Global, arrival: &Arrival<'_>) -> Reply
         ensures office { self.new.office ≡ self.old.office }
-        ensures clean { HasCleanDisk (state S.Store self.new.store.conn)
-            → HasCleanDisk (state S.Store self.old.store.conn) }
-        ensures handled { (m : QueueOf) (k : List Entry) → Sound m
-            → Means (state S.Store self.old.store.conn) m k
-            → HasCleanDisk (state S.Store self.new.store.conn)
-            → Handles (settings_of self.old.office.setup self.old.office.controls) arrival.now m k result
-            (state S.Store self.new.store.conn) }
-        ensures sound { (m : QueueOf) (k : List Entry) → Sound m
-            → Means (state S.Store self.old.store.conn) m k
-            → HasCleanDisk (state S.Store self.new.store.conn) → IsSoundWith k (state S.Store self.new.store.conn) }
+        ensures clean { HasCleanDisk (tables S.Store self.new) → HasCleanDisk (tables S.Store self.old) }
+        ensures handled { (m : QueueOf) (k : List Entry) → Sound m → Means (tables S.Store self.old) m k
+            → HasCleanDisk (tables S.Store self.new)
+            → Handles (settings self.old) arrival.now m k result (tables S.Store self.new) }
+        ensures sound { (m : QueueOf) (k : List Entry) → Sound m → Means (tables S.Store self.old) m k
+            → HasCleanDisk (tables S.Store self.new) → IsSoundWith k (tables S.Store self.new) }
         // A crash leaves what a crash before could leave, or what the request makes, with its reply kept. While the
         // store is open it leaves the last commit alone.
-        ensures crash { (m : QueueOf) (k : List Entry) → Sound m
-            → Means (state S.Store self.old.store.conn) m k
-            → Stops (settings_of self.old.office.setup self.old.office.controls) arrival.now m k
-            (state S.Store self.old.store.conn) (state S.Store self.new.store.conn) }
-        ensures alone { Serves (state S.Store self.new.store.conn)
-            → LeavesAlone (state S.Store self.new.store.conn) (state S.Store self.new.store.conn).committed.trees }
+        ensures crash { (m : QueueOf) (k : List Entry) → Sound m → Means (tables S.Store self.old) m k
+            → Stops (settings self.old) arrival.now m k (tables S.Store self.old) (tables S.Store self.new) }
+        ensures alone { Serves (tables S.Store self.new)
+            → LeavesAlone (tables S.Store self.new) (tables S.Store self.new).committed.trees }
         // Whatever the rows say, a refusal changes nothing, a GET doesn't either, and nor does what comes under a used
         // number.
-        ensures refused { ¬ IsKeptStatus result.status
-            → Stays (state S.Store self.old.store.conn) (state S.Store self.new.store.conn) }
-        ensures seen { arrival.now.method ≡ Get
-            → Stays (state S.Store self.old.store.conn) (state S.Store self.new.store.conn) }
-        ensures repeated { (db : Database) → db.schema ≡ our_tables → Rests (state S.Store self.old.store.conn) db
-            → IsUsed arrival.now db → Rests (state S.Store self.new.store.conn) db }
+        ensures refused { ¬ IsKeptStatus result.status → Stays (tables S.Store self.old) (tables S.Store self.new) }
+        ensures seen { arrival.now.method ≡ Get → Stays (tables S.Store self.old) (tables S.Store self.new) }
+        ensures repeated { (db : Database) → db.schema ≡ our_tables → Rests (tables S.Store self.old) db
+            → IsUsed arrival.now db → Rests (tables S.Store self.new) db }
         // So what `close` gives back is what `Store::adopt` takes.
-        ensures idle { (m : QueueOf) (k : List Entry) → Sound m
-            → Means (state S.Store self.old.store.conn) m k
-            → Serves (state S.Store self.new.store.conn) → (state S.Store self.new.store.conn).in_transaction ≡ false }
-        ensures shut { IsTrue self.new.is_shut → HasCleanDisk (state S.Store self.new.store.conn)
-            → (state S.Store self.new.store.conn).is_open ≡ false }
+        ensures idle { (m : QueueOf) (k : List Entry) → Sound m → Means (tables S.Store self.old) m k
+            → Serves (tables S.Store self.new) → (tables S.Store self.new).in_transaction ≡ false }
+        ensures shut { IsTrue self.new.is_shut → HasCleanDisk (tables S.Store self.new)
+            → (tables S.Store self.new).is_open ≡ false }
     {
         match self.answer(alloc, arrival) {
             Ok(reply) => {
@@ -143,18 +134,13 @@ impl<S: Alter> Queue<S> {
     /// Answers `GET` of that path at that moment, as [`Queue::handle`] does. Nothing changes.
     pub fn view(&mut self, alloc: Global, path: &str, moment: Moment) -> Reply
         ensures office { self.new.office ≡ self.old.office }
-        ensures clean { HasCleanDisk (state S.Store self.new.store.conn)
-            → HasCleanDisk (state S.Store self.old.store.conn) }
-        ensures stays { Stays (state S.Store self.old.store.conn) (state S.Store self.new.store.conn) }
-        ensures crash { (m : QueueOf) (k : List Entry) → Sound m
-            → Means (state S.Store self.old.store.conn) m k
-            → CommitsNothing (state S.Store self.old.store.conn) (state S.Store self.new.store.conn) }
-        ensures viewed { (m : QueueOf) (k : List Entry) → Sound m
-            → Means (state S.Store self.old.store.conn) m k
-            → HasCleanDisk (state S.Store self.new.store.conn)
-            → (a : ArrivalOf) × (a.method ≡ Get) × (a.path.now ≡ path.now) × (a.moment ≡ moment)
-            × Handles (settings_of self.old.office.setup self.old.office.controls) a m k result
-            (state S.Store self.new.store.conn) }
+        ensures clean { HasCleanDisk (tables S.Store self.new) → HasCleanDisk (tables S.Store self.old) }
+        ensures stays { Stays (tables S.Store self.old) (tables S.Store self.new) }
+        ensures crash { (m : QueueOf) (k : List Entry) → Sound m → Means (tables S.Store self.old) m k
+            → CommitsNothing (tables S.Store self.old) (tables S.Store self.new) }
+        ensures viewed { (m : QueueOf) (k : List Entry) → Sound m → Means (tables S.Store self.old) m k
+            → HasCleanDisk (tables S.Store self.new) → (a : ArrivalOf) × (a.method ≡ Get) × (a.path.now ≡ path.now)
+            × (a.moment ≡ moment) × Handles (settings self.old) a m k result (tables S.Store self.new) }
     {
         let arrival = Arrival::get(path, moment);
         self.handle(alloc, &arrival)
@@ -181,19 +167,16 @@ impl<S: Alter> Queue<S> {
     pub fn run(&mut self, alloc: Global, arrivals: &[Arrival<'_>]) -> Result<Vec<Reply>, AllocError>
         ensures office { self.new.office ≡ self.old.office }
         ensures none { OnErr result (self.new ≡ self.old) }
-        ensures clean { HasCleanDisk (state S.Store self.new.store.conn)
-            → HasCleanDisk (state S.Store self.old.store.conn) }
-        ensures ran { (m : QueueOf) (k : List Entry) → Sound m
-            → Means (state S.Store self.old.store.conn) m k
-            → HasCleanDisk (state S.Store self.new.store.conn)
-            → IfOk result (λ replies. RunsWell (settings_of self.old.office.setup self.old.office.controls)
-            (record { queue = m; kept = k }) arrivals.now replies.items (state S.Store self.new.store.conn)) }
-        ensures crash { (m : QueueOf) (k : List Entry) → Sound m
-            → Means (state S.Store self.old.store.conn) m k
-            → HasCleanDisk (state S.Store self.new.store.conn)
-            → IfOk result (λ replies. StopsIn (settings_of self.old.office.setup self.old.office.controls)
-            (record { queue = m; kept = k }) arrivals.now replies.items
-            (state S.Store self.old.store.conn) (state S.Store self.new.store.conn)) }
+        ensures clean { HasCleanDisk (tables S.Store self.new) → HasCleanDisk (tables S.Store self.old) }
+        ensures ran { (m : QueueOf) (k : List Entry) → Sound m → Means (tables S.Store self.old) m k
+            → HasCleanDisk (tables S.Store self.new)
+            → IfOk result (λ replies. RunsWell (settings self.old)
+            (record { queue = m; kept = k }) arrivals.now replies.items (tables S.Store self.new)) }
+        ensures crash { (m : QueueOf) (k : List Entry) → Sound m → Means (tables S.Store self.old) m k
+            → HasCleanDisk (tables S.Store self.new)
+            → IfOk result (λ replies. StopsIn (settings self.old)
+            (record { queue = m; kept = k }) arrivals.now replies.items (tables S.Store self.old)
+            (tables S.Store self.new)) }
     {
         let mut replies = Vec::with_capacity(alloc, arrivals.len())?;
         for arrival in arrivals {
@@ -204,24 +187,15 @@ impl<S: Alter> Queue<S> {
     }
 
     fn answer(&mut self, alloc: Global, arrival: &Arrival<'_>) -> Result<Reply, Unavailable>
-        ensures office { self.new.office ≡ self.old.office }
-        ensures clean { HasCleanDisk (state S.Store self.new.store.conn)
-            → HasCleanDisk (state S.Store self.old.store.conn) }
-        ensures unchanged { IsNotAccepted result
-            → Stays (state S.Store self.old.store.conn) (state S.Store self.new.store.conn) }
-        ensures seen { arrival.now.method ≡ Get
-            → Stays (state S.Store self.old.store.conn) (state S.Store self.new.store.conn) }
-        ensures repeated { (db : Database) → db.schema ≡ our_tables → Rests (state S.Store self.old.store.conn) db
-            → IsUsed arrival.now db → Rests (state S.Store self.new.store.conn) db }
-        ensures crash { (m : QueueOf) (k : List Entry) → Sound m
-            → Means (state S.Store self.old.store.conn) m k
-            → Stops (settings_of self.old.office.setup self.old.office.controls) arrival.now m k
-            (state S.Store self.old.store.conn) (state S.Store self.new.store.conn) }
-        ensures answered { (m : QueueOf) (k : List Entry) → Sound m
-            → Means (state S.Store self.old.store.conn) m k
-            → HasCleanDisk (state S.Store self.new.store.conn)
-            → Answers (settings_of self.old.office.setup self.old.office.controls) arrival.now m k result
-            (state S.Store self.new.store.conn) }
+        ensures leaves { Replies S.Store self.old self.new result }
+        ensures seen { arrival.now.method ≡ Get → Stays (tables S.Store self.old) (tables S.Store self.new) }
+        ensures repeated { (db : Database) → db.schema ≡ our_tables → Rests (tables S.Store self.old) db
+            → IsUsed arrival.now db → Rests (tables S.Store self.new) db }
+        ensures crash { (m : QueueOf) (k : List Entry) → Sound m → Means (tables S.Store self.old) m k
+            → Stops (settings self.old) arrival.now m k (tables S.Store self.old) (tables S.Store self.new) }
+        ensures answered { (m : QueueOf) (k : List Entry) → Sound m → Means (tables S.Store self.old) m k
+            → HasCleanDisk (tables S.Store self.new)
+            → Answers (settings self.old) arrival.now m k result (tables S.Store self.new) }
     {
         let asked = self
             .routes
@@ -238,29 +212,18 @@ impl<S: Alter> Queue<S> {
         arrival: &Arrival<'_>,
         ask: Ask,
     ) -> Result<Reply, Unavailable>
-        ensures office { self.new.office ≡ self.old.office }
-        ensures clean { HasCleanDisk (state S.Store self.new.store.conn)
-            → HasCleanDisk (state S.Store self.old.store.conn) }
-        ensures unchanged { IsNotAccepted result
-            → Stays (state S.Store self.old.store.conn) (state S.Store self.new.store.conn) }
-        ensures seen { arrival.now.method ≡ Get
-            → IsAsk arrival.now.method arrival.now.path.now arrival.now.body.now ask
-            → Stays (state S.Store self.old.store.conn) (state S.Store self.new.store.conn) }
-        ensures repeated { (db : Database) → db.schema ≡ our_tables → Rests (state S.Store self.old.store.conn) db
-            → IsUsed arrival.now db → Rests (state S.Store self.new.store.conn) db }
-        ensures crash { (m : QueueOf) (k : List Entry) → Sound m
-            → Means (state S.Store self.old.store.conn) m k
-            → IsAsk arrival.now.method arrival.now.path.now arrival.now.body.now ask
-            → IsLawful ask
-            → Stops (settings_of self.old.office.setup self.old.office.controls) arrival.now m k
-            (state S.Store self.old.store.conn) (state S.Store self.new.store.conn) }
-        ensures answered { (m : QueueOf) (k : List Entry) → Sound m
-            → Means (state S.Store self.old.store.conn) m k
-            → HasCleanDisk (state S.Store self.new.store.conn)
-            → IsAsk arrival.now.method arrival.now.path.now arrival.now.body.now ask
-            → IsLawful ask
-            → Answers (settings_of self.old.office.setup self.old.office.controls) arrival.now m k result
-            (state S.Store self.new.store.conn) }
+        ensures leaves { Replies S.Store self.old self.new result }
+        ensures seen { arrival.now.method ≡ Get → IsAsk arrival.now.method arrival.now.path.now arrival.now.body.now ask
+            → Stays (tables S.Store self.old) (tables S.Store self.new) }
+        ensures repeated { (db : Database) → db.schema ≡ our_tables → Rests (tables S.Store self.old) db
+            → IsUsed arrival.now db → Rests (tables S.Store self.new) db }
+        ensures crash { (m : QueueOf) (k : List Entry) → Sound m → Means (tables S.Store self.old) m k
+            → IsAsk arrival.now.method arrival.now.path.now arrival.now.body.now ask → IsLawful ask
+            → Stops (settings self.old) arrival.now m k (tables S.Store self.old) (tables S.Store self.new) }
+        ensures answered { (m : QueueOf) (k : List Entry) → Sound m → Means (tables S.Store self.old) m k
+            → HasCleanDisk (tables S.Store self.new)
+            → IsAsk arrival.now.method arrival.now.path.now arrival.now.body.now ask → IsLawful ask
+            → Answers (settings self.old) arrival.now m k result (tables S.Store self.new) }
     {
         match ask {
             Ask::View(asked) => self.show(alloc, asked, arrival.moment),
@@ -274,17 +237,11 @@ impl<S: Alter> Queue<S> {
     /// Shows what a client asks to see, at the later of that moment and the clock. Nothing changes.
     fn show(&mut self, alloc: Global, asked: View, moment: Moment) -> Result<Reply, Unavailable>
         ensures office { self.new.office ≡ self.old.office }
-        ensures clean { HasCleanDisk (state S.Store self.new.store.conn)
-            → HasCleanDisk (state S.Store self.old.store.conn) }
-        ensures served { Serves (state S.Store self.new.store.conn)
-            → Serves (state S.Store self.old.store.conn) }
-        ensures opens { OnOk result (HasCleanDisk (state S.Store self.new.store.conn)
-            → Serves (state S.Store self.new.store.conn)) }
-        ensures stays { Stays (state S.Store self.old.store.conn) (state S.Store self.new.store.conn) }
-        ensures crash { CommitsNothing (state S.Store self.old.store.conn) (state S.Store self.new.store.conn) }
-        ensures viewed { (m : QueueOf) (k : List Entry) → Sound m → Means (state S.Store self.old.store.conn) m k
-            → Serves (state S.Store self.new.store.conn) → IfOk result (λ reply. reply
-            ≡ view (settings_of self.old.office.setup self.old.office.controls) m (decided_at m.clock moment) asked) }
+        ensures leaves { Looks S.Store self.old.store self.new.store }
+        ensures opens { OnOk result (HasCleanDisk (tables S.Store self.new) → Serves (tables S.Store self.new)) }
+        ensures viewed { (m : QueueOf) (k : List Entry) → Sound m → Means (tables S.Store self.old) m k
+            → Serves (tables S.Store self.new)
+            → IfOk result (λ reply. reply ≡ view (settings self.old) m (decided_at m.clock moment) asked) }
     {
         let meta = self.store.meta()?;
         let t = moment_at(&meta, moment);
@@ -299,23 +256,16 @@ impl<S: Alter> Queue<S> {
         sender: &Sender<'_>,
         ask: Step,
     ) -> Result<Reply, Unavailable>
-        ensures office { self.new.office ≡ self.old.office }
-        ensures clean { HasCleanDisk (state S.Store self.new.store.conn)
-            → HasCleanDisk (state S.Store self.old.store.conn) }
-        ensures unchanged { IsNotAccepted result
-            → Stays (state S.Store self.old.store.conn) (state S.Store self.new.store.conn) }
-        ensures repeated { (db : Database) → db.schema ≡ our_tables → Rests (state S.Store self.old.store.conn) db
-            → HasReply db sender.now.client.now sender.now.number → Rests (state S.Store self.new.store.conn) db }
-        ensures crash { (m : QueueOf) (k : List Entry) → Sound m
-            → Means (state S.Store self.old.store.conn) m k → IsSender arrival.now sender.now
-            → StopsBy (state S.Store self.old.store.conn) (state S.Store self.new.store.conn)
-            (asked_for (settings_of self.old.office.setup self.old.office.controls) m k
+        ensures leaves { Replies S.Store self.old self.new result }
+        ensures repeated { (db : Database) → db.schema ≡ our_tables → Rests (tables S.Store self.old) db
+            → HasReply db sender.now.client.now sender.now.number → Rests (tables S.Store self.new) db }
+        ensures crash { (m : QueueOf) (k : List Entry) → Sound m → Means (tables S.Store self.old) m k
+            → IsSender arrival.now sender.now
+            → StopsBy (tables S.Store self.old) (tables S.Store self.new) (asked_for (settings self.old) m k
             (post_of arrival.now sender.now.number ask)) }
-        ensures stepped { (m : QueueOf) (k : List Entry) → Sound m
-            → Means (state S.Store self.old.store.conn) m k → HasCleanDisk (state S.Store self.new.store.conn)
-            → IsSender arrival.now sender.now → IsLawfulStep ask
-            → LeavesBy m k result (state S.Store self.new.store.conn)
-            (asked_for (settings_of self.old.office.setup self.old.office.controls) m k
+        ensures stepped { (m : QueueOf) (k : List Entry) → Sound m → Means (tables S.Store self.old) m k
+            → HasCleanDisk (tables S.Store self.new) → IsSender arrival.now sender.now → IsLawfulStep ask
+            → LeavesBy m k result (tables S.Store self.new) (asked_for (settings self.old) m k
             (post_of arrival.now sender.now.number ask)) }
     {
         match self.store.kept(sender.client, sender.number)? {
@@ -333,25 +283,17 @@ impl<S: Alter> Queue<S> {
         sender: &Sender<'_>,
         ask: Step,
     ) -> Result<Reply, Unavailable>
-        ensures office { self.new.office ≡ self.old.office }
-        ensures clean { HasCleanDisk (state S.Store self.new.store.conn)
-            → HasCleanDisk (state S.Store self.old.store.conn) }
-        ensures unchanged { IsNotAccepted result
-            → Stays (state S.Store self.old.store.conn) (state S.Store self.new.store.conn) }
-        ensures crash { (m : QueueOf) (k : List Entry) → Sound m
-            → Means (state S.Store self.old.store.conn) m k → IsSender arrival.now sender.now
-            → (Serves (state S.Store self.old.store.conn) → kept_for sender.now.client.now sender.now.number k ≡ None)
-            → StopsBy (state S.Store self.old.store.conn) (state S.Store self.new.store.conn)
-            (asked_for (settings_of self.old.office.setup self.old.office.controls) m k
+        ensures leaves { Replies S.Store self.old self.new result }
+        ensures crash { (m : QueueOf) (k : List Entry) → Sound m → Means (tables S.Store self.old) m k
+            → IsSender arrival.now sender.now → (Serves (tables S.Store self.old)
+            → kept_for sender.now.client.now sender.now.number k ≡ None)
+            → StopsBy (tables S.Store self.old) (tables S.Store self.new) (asked_for (settings self.old) m k
             (post_of arrival.now sender.now.number ask)) }
-        ensures stepped { (m : QueueOf) (k : List Entry) → Sound m
-            → Means (state S.Store self.old.store.conn) m k
-            → (HasCleanDisk (state S.Store self.old.store.conn) → Serves (state S.Store self.old.store.conn))
-            → HasCleanDisk (state S.Store self.new.store.conn)
-            → IsSender arrival.now sender.now → IsLawfulStep ask
-            → (Serves (state S.Store self.old.store.conn) → kept_for sender.now.client.now sender.now.number k ≡ None)
-            → LeavesBy m k result (state S.Store self.new.store.conn)
-            (asked_for (settings_of self.old.office.setup self.old.office.controls) m k
+        ensures stepped { (m : QueueOf) (k : List Entry) → Sound m → Means (tables S.Store self.old) m k
+            → (HasCleanDisk (tables S.Store self.old) → Serves (tables S.Store self.old))
+            → HasCleanDisk (tables S.Store self.new) → IsSender arrival.now sender.now → IsLawfulStep ask
+            → (Serves (tables S.Store self.old) → kept_for sender.now.client.now sender.now.number k ≡ None)
+            → LeavesBy m k result (tables S.Store self.new) (asked_for (settings self.old) m k
             (post_of arrival.now sender.now.number ask)) }
     {
         let meta = self.store.meta()?;
@@ -369,25 +311,19 @@ impl<S: Alter> Queue<S> {
         t: Moment,
         decision: Decision,
     ) -> Result<Reply, Unavailable>
-        ensures office { self.new.office ≡ self.old.office }
-        ensures clean { HasCleanDisk (state S.Store self.new.store.conn)
-            → HasCleanDisk (state S.Store self.old.store.conn) }
-        ensures unchanged { IsNotAccepted result
-            → Stays (state S.Store self.old.store.conn) (state S.Store self.new.store.conn) }
+        ensures leaves { Replies S.Store self.old self.new result }
         ensures crash { (s : Settings) (m : QueueOf) (k : List Entry) (want : MachineAsk)
-            → Means (state S.Store self.old.store.conn) m k → IsSender arrival.now sender.now
-            → (Serves (state S.Store self.old.store.conn)
+            → Means (tables S.Store self.old) m k → IsSender arrival.now sender.now → (Serves (tables S.Store self.old)
             → IsDecided s arrival.now m k sender.now t want decision)
-            → StopsBy (state S.Store self.old.store.conn) (state S.Store self.new.store.conn)
-            (asked_for s m k (post_of arrival.now sender.now.number want)) }
+            → StopsBy (tables S.Store self.old) (tables S.Store self.new) (asked_for s m k
+            (post_of arrival.now sender.now.number want)) }
         ensures settled { (s : Settings) (m : QueueOf) (k : List Entry) (want : MachineAsk) → Sound m
-            → Means (state S.Store self.old.store.conn) m k
-            → (HasCleanDisk (state S.Store self.old.store.conn) → Serves (state S.Store self.old.store.conn))
-            → HasCleanDisk (state S.Store self.new.store.conn) → IsSender arrival.now sender.now → IsLawfulAsk want
-            → (Serves (state S.Store self.old.store.conn)
+            → Means (tables S.Store self.old) m k → (HasCleanDisk (tables S.Store self.old)
+            → Serves (tables S.Store self.old)) → HasCleanDisk (tables S.Store self.new)
+            → IsSender arrival.now sender.now → IsLawfulAsk want → (Serves (tables S.Store self.old)
             → IsDecided s arrival.now m k sender.now t want decision)
-            → LeavesBy m k result (state S.Store self.new.store.conn)
-            (asked_for s m k (post_of arrival.now sender.now.number want)) }
+            → LeavesBy m k result (tables S.Store self.new) (asked_for s m k
+            (post_of arrival.now sender.now.number want)) }
     {
         match decision {
             Decision::Taken { effect, reply } => {
@@ -407,25 +343,19 @@ impl<S: Alter> Queue<S> {
         effect: &Effect,
         reply: Reply,
     ) -> Result<Reply, Unavailable>
-        ensures office { self.new.office ≡ self.old.office }
-        ensures clean { HasCleanDisk (state S.Store self.new.store.conn)
-            → HasCleanDisk (state S.Store self.old.store.conn) }
-        ensures served { OnOk result (Serves (state S.Store self.new.store.conn)
-            → Serves (state S.Store self.old.store.conn)) }
-        ensures opens { OnOk result (HasCleanDisk (state S.Store self.new.store.conn)
-            → Serves (state S.Store self.new.store.conn)) }
-        ensures unchanged { IsNotAccepted result
-            → Stays (state S.Store self.old.store.conn) (state S.Store self.new.store.conn) }
-        ensures crash { (m : QueueOf) (k : List Entry) → Means (state S.Store self.old.store.conn) m k
-            → (Serves (state S.Store self.old.store.conn) → Suits effect.now (with_expired t m))
-            → MayLeave (state S.Store self.old.store.conn) (state S.Store self.new.store.conn) (accepted t effect.now m)
+        ensures leaves { Replies S.Store self.old self.new result }
+        ensures served { OnOk result (Serves (tables S.Store self.new) → Serves (tables S.Store self.old)) }
+        ensures opens { OnOk result (HasCleanDisk (tables S.Store self.new) → Serves (tables S.Store self.new)) }
+        ensures crash { (m : QueueOf) (k : List Entry) → Means (tables S.Store self.old) m k
+            → (Serves (tables S.Store self.old) → Suits effect.now (with_expired t m))
+            → MayLeave (tables S.Store self.old) (tables S.Store self.new) (accepted t effect.now m)
             (k ++ entry sender.now.client.now sender.now.number (said_of arrival.now) reply.status reply.body ∷ []) }
-        ensures accepted { (m : QueueOf) (k : List Entry) → Means (state S.Store self.old.store.conn) m k
-            → (Serves (state S.Store self.old.store.conn) → Suits effect.now (with_expired t m))
-            → MatchResult result
-            (λ told. (told ≡ reply) × Means (state S.Store self.new.store.conn) (accepted t effect.now m)
+        ensures accepted { (m : QueueOf) (k : List Entry) → Means (tables S.Store self.old) m k
+            → (Serves (tables S.Store self.old) → Suits effect.now (with_expired t m))
+            → MatchResult result (λ told. (told ≡ reply)
+            × Means (tables S.Store self.new) (accepted t effect.now m)
             (k ++ entry sender.now.client.now sender.now.number (said_of arrival.now) reply.status reply.body ∷ []))
-            (λ _. Means (state S.Store self.new.store.conn) m k) }
+            (λ _. Means (tables S.Store self.new) m k) }
     {
         let said = arrival.said(alloc)?;
         commit_accepted(&mut self.store, t, effect, sender, &said, &reply)?;
@@ -437,8 +367,8 @@ impl<S: Alter> Queue<S> {
 /// refusal else. It takes no memory.
 fn repeat(arrival: &Arrival<'_>, kept: Kept) -> Reply
     requires { IsKeptStatus kept.status }
-    ensures { result ≡ (if bytes_eq kept.said.items (said_of arrival.now)
-        then kept_response kept.status kept.body.items else refused_response Refusal.NumberReused NoKeys) }
+    ensures { result ≡ (if bytes_eq kept.said.items
+        (said_of arrival.now) then kept_response kept.status kept.body.items else refused_response Refusal.NumberReused NoKeys) }
 {
     if arrival.says(&kept.said) {
         Reply::kept(kept.status, kept.body)
@@ -460,8 +390,8 @@ fn refuse_ask(alloc: Global, arrival: &Arrival<'_>, refusal: Refusal) -> Result<
     ensures verdict { (s : Settings) (m : QueueOf) (k : List Entry)
         → IsRefused arrival.now.method arrival.now.path.now arrival.now.body.now refusal
         → IfOk result (λ reply. IsVerdict s arrival.now m k (Told reply)) }
-    ensures cause { IsRefused arrival.now.method arrival.now.path.now arrival.now.body.now refusal
-        → IsErr result → refusal ≡ Refusal.Unavailable }
+    ensures cause { IsRefused arrival.now.method arrival.now.path.now arrival.now.body.now refusal → IsErr result
+        → refusal ≡ Refusal.Unavailable }
 {
     match refusal {
         Refusal::NoRoute => Ok(Reply::refused(Refusal::NoRoute)),
@@ -473,8 +403,7 @@ fn refuse_ask(alloc: Global, arrival: &Arrival<'_>, refusal: Refusal) -> Result<
 /// The reply to a body at fault, with the kind of the fault and its line, unless the client or the number is at fault.
 /// It takes no memory.
 fn refuse_body(alloc: Global, arrival: &Arrival<'_>, fault: BodyFault) -> Reply
-    ensures { MatchResult (number_of arrival.now)
-        (λ _. result ≡ refused_response (Refusal.BadBody fault) NoKeys)
+    ensures { MatchResult (number_of arrival.now) (λ _. result ≡ refused_response (Refusal.BadBody fault) NoKeys)
         (λ refusal. result ≡ refused_response refusal NoKeys) }
 {
     match Sender::of(arrival) {

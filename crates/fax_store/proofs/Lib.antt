@@ -6,6 +6,7 @@ pub mod ShownLemmas
 pub mod StopLemmas
 pub mod MetaLemmas
 pub mod WorkLemmas
+pub mod FrameLemmas
 pub mod KeptLemmas
 pub mod RepliesLemmas
 pub mod JobLemmas

@@ -1,5 +1,6 @@
 pub mod Store
 pub mod Work
+pub mod Calls
 pub mod Job
 pub mod Candidates
 pub mod Grant

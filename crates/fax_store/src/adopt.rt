@@ -6,6 +6,7 @@ ghost use Rattle.sqlite.specs.Held.{state};
 ghost use Rattle.sqlite.specs.State.{HasCleanDisk, IsUnchanged, KeepsCommit};
 ghost use Rattle.fax_core.specs.Job.{Job as OneJob};
 ghost use Rattle.fax_core.specs.Queue.{Queue, Entry, empty_queue, job_numbered};
+ghost use Rattle.fax_store.specs.Calls.{Makes, shown};
 ghost use Rattle.fax_store.specs.Adopt.{Adopts, AreAdopted, AreCallable, AreOfJobs, AreCore, AreSmall, AreStores, AreWhole, CanBeCalled, Goes, HasNone, HasSet, HasWhole, HoldJobs, HoldsCanBeCalled, IsAdoptable, IsFilled, IsIn, IsOurs, IsTakeable, IsWhole, Leaves, held_to, versions};
 ghost use Rattle.fax_store.specs.Grant.{HasCalls, SetsCalls, with_count};
 ghost use Rattle.fax_store.specs.Store.{CommitsNothing, GoesBack, HasTables, LeavesAlone, MayMake, Means, Reads, RowsFound, Serves};
@@ -98,20 +99,20 @@ impl<S: Alter> Store<S> {
 
     /// Makes the tables in a database with none, and takes one with ours.
     fn take_tables(&mut self) -> Result<(), StoreFault>
-        ensures taken { HasCleanDisk (state S.Store self.new.conn) → OnOk result
-            (Adopts (state S.Store self.old.conn).now (state S.Store self.new.conn)) }
-        ensures means { (m : Queue) (k : List Entry) → HasCleanDisk (state S.Store self.new.conn) → OnOk result
-            (AreOurs (state S.Store self.old.conn).now.schema → RowsMean (state S.Store self.old.conn).now m k
-            → IsAtRest (state S.Store self.new.conn) m k) }
-        ensures kept { HasCleanDisk (state S.Store self.new.conn) → OnErr result
-            (KeepsCommit (state S.Store self.old.conn) (state S.Store self.new.conn)) }
-        ensures served { Serves (state S.Store self.new.conn) → Serves (state S.Store self.old.conn) }
-        ensures clean { HasCleanDisk (state S.Store self.new.conn) → HasCleanDisk (state S.Store self.old.conn) }
-        ensures opens { OnOk result (HasCleanDisk (state S.Store self.new.conn) → Serves (state S.Store self.new.conn)) }
-        ensures crash { MayMake (state S.Store self.old.conn) (state S.Store self.new.conn) (AreAdopted (state S.Store self.old.conn).now) }
-        ensures nothing { result ≡ Err StoreFault.Strange → CommitsNothing (state S.Store self.old.conn) (state S.Store self.new.conn) }
-        ensures strange { HasCleanDisk (state S.Store self.new.conn) → result ≡ Err StoreFault.Strange
-            → ¬ IsAdoptable (state S.Store self.old.conn).now }
+        ensures taken { HasCleanDisk (shown S.Store self.new) → OnOk result
+            (Adopts (shown S.Store self.old).now (shown S.Store self.new)) }
+        ensures means { (m : Queue) (k : List Entry) → HasCleanDisk (shown S.Store self.new) → OnOk result
+            (AreOurs (shown S.Store self.old).now.schema → RowsMean (shown S.Store self.old).now m k
+            → IsAtRest (shown S.Store self.new) m k) }
+        ensures kept { HasCleanDisk (shown S.Store self.new) → OnErr result
+            (KeepsCommit (shown S.Store self.old) (shown S.Store self.new)) }
+        ensures served { Serves (shown S.Store self.new) → Serves (shown S.Store self.old) }
+        ensures clean { HasCleanDisk (shown S.Store self.new) → HasCleanDisk (shown S.Store self.old) }
+        ensures opens { OnOk result (HasCleanDisk (shown S.Store self.new) → Serves (shown S.Store self.new)) }
+        ensures crash { MayMake (shown S.Store self.old) (shown S.Store self.new) (AreAdopted (shown S.Store self.old).now) }
+        ensures nothing { result ≡ Err StoreFault.Strange → CommitsNothing (shown S.Store self.old) (shown S.Store self.new) }
+        ensures strange { HasCleanDisk (shown S.Store self.new) → result ≡ Err StoreFault.Strange
+            → ¬ IsAdoptable (shown S.Store self.old).now }
     {
         if has_no_tables(self.conn.schema()) {
             self.make_tables()
@@ -124,15 +125,15 @@ impl<S: Alter> Store<S> {
 
     /// Makes the tables of an empty store, all of them or none.
     pub(crate) fn make_tables(&mut self) -> Result<(), StoreFault>
-        requires { (state S.Store self.old.conn).now.schema ≡ no_tables }
-        ensures made { HasCleanDisk (state S.Store self.new.conn) → OnOk result
-            (IsAtRest (state S.Store self.new.conn) empty_queue []) }
-        ensures kept { HasCleanDisk (state S.Store self.new.conn) → OnErr result
-            (KeepsCommit (state S.Store self.old.conn) (state S.Store self.new.conn)) }
-        ensures served { Serves (state S.Store self.new.conn) → Serves (state S.Store self.old.conn) }
-        ensures clean { HasCleanDisk (state S.Store self.new.conn) → HasCleanDisk (state S.Store self.old.conn) }
-        ensures opens { OnOk result (HasCleanDisk (state S.Store self.new.conn) → Serves (state S.Store self.new.conn)) }
-        ensures crash { MayMake (state S.Store self.old.conn) (state S.Store self.new.conn) (λ found. RowsFound found empty_queue []) }
+        requires { (shown S.Store self.old).now.schema ≡ no_tables }
+        ensures made { HasCleanDisk (shown S.Store self.new) → OnOk result
+            (IsAtRest (shown S.Store self.new) empty_queue []) }
+        ensures kept { HasCleanDisk (shown S.Store self.new) → OnErr result
+            (KeepsCommit (shown S.Store self.old) (shown S.Store self.new)) }
+        ensures served { Serves (shown S.Store self.new) → Serves (shown S.Store self.old) }
+        ensures clean { HasCleanDisk (shown S.Store self.new) → HasCleanDisk (shown S.Store self.old) }
+        ensures opens { OnOk result (HasCleanDisk (shown S.Store self.new) → Serves (shown S.Store self.new)) }
+        ensures crash { MayMake (shown S.Store self.old) (shown S.Store self.new) (λ found. RowsFound found empty_queue []) }
         ensures cause { IfErr result (λ fault. fault ≡ StoreFault.Unavailable) }
     {
         self.conn.execute(BEGIN, &[])?;
@@ -143,21 +144,21 @@ impl<S: Alter> Store<S> {
 
     /// Takes a database with our tables: it gets what it lacks, and its calls are counted anew.
     fn take_ours(&mut self) -> Result<(), StoreFault>
-        requires { AreOurs (state S.Store self.old.conn).now.schema }
-        ensures made { HasCleanDisk (state S.Store self.new.conn) → OnOk result
-            (IsOurs (state S.Store self.old.conn).now
-            × HasWhole (state S.Store self.new.conn) (state S.Store self.old.conn).now) }
-        ensures means { (m : Queue) (k : List Entry) → HasCleanDisk (state S.Store self.new.conn) → OnOk result
-            (RowsMean (state S.Store self.old.conn).now m k → IsAtRest (state S.Store self.new.conn) m k) }
-        ensures kept { HasCleanDisk (state S.Store self.new.conn) → OnErr result
-            (KeepsCommit (state S.Store self.old.conn) (state S.Store self.new.conn)) }
-        ensures served { Serves (state S.Store self.new.conn) → Serves (state S.Store self.old.conn) }
-        ensures clean { HasCleanDisk (state S.Store self.new.conn) → HasCleanDisk (state S.Store self.old.conn) }
-        ensures opens { OnOk result (HasCleanDisk (state S.Store self.new.conn) → Serves (state S.Store self.new.conn)) }
-        ensures crash { MayMake (state S.Store self.old.conn) (state S.Store self.new.conn) (AreWhole (state S.Store self.old.conn).now) }
-        ensures nothing { result ≡ Err StoreFault.Strange → CommitsNothing (state S.Store self.old.conn) (state S.Store self.new.conn) }
-        ensures strange { HasCleanDisk (state S.Store self.new.conn) → result ≡ Err StoreFault.Strange
-            → ¬ IsTakeable (state S.Store self.old.conn).now }
+        requires { AreOurs (shown S.Store self.old).now.schema }
+        ensures made { HasCleanDisk (shown S.Store self.new) → OnOk result
+            (IsOurs (shown S.Store self.old).now
+            × HasWhole (shown S.Store self.new) (shown S.Store self.old).now) }
+        ensures means { (m : Queue) (k : List Entry) → HasCleanDisk (shown S.Store self.new) → OnOk result
+            (RowsMean (shown S.Store self.old).now m k → IsAtRest (shown S.Store self.new) m k) }
+        ensures kept { HasCleanDisk (shown S.Store self.new) → OnErr result
+            (KeepsCommit (shown S.Store self.old) (shown S.Store self.new)) }
+        ensures served { Serves (shown S.Store self.new) → Serves (shown S.Store self.old) }
+        ensures clean { HasCleanDisk (shown S.Store self.new) → HasCleanDisk (shown S.Store self.old) }
+        ensures opens { OnOk result (HasCleanDisk (shown S.Store self.new) → Serves (shown S.Store self.new)) }
+        ensures crash { MayMake (shown S.Store self.old) (shown S.Store self.new) (AreWhole (shown S.Store self.old).now) }
+        ensures nothing { result ≡ Err StoreFault.Strange → CommitsNothing (shown S.Store self.old) (shown S.Store self.new) }
+        ensures strange { HasCleanDisk (shown S.Store self.new) → result ≡ Err StoreFault.Strange
+            → ¬ IsTakeable (shown S.Store self.old).now }
     {
         self.conn.execute(BEGIN, &[])?;
         self.renew()?;
@@ -168,9 +169,9 @@ impl<S: Alter> Store<S> {
 
     /// Makes `calls` anew, with no rows, and the indexes of jobs where there are none.
     fn renew(&mut self) -> Result<(), StoreFault>
-        ensures goes { Goes (IsIn AreOurs) HasNewCalls (state S.Store self.old.conn) (state S.Store self.new.conn) result }
-        ensures crash { HoldsBack (IsIn AreOurs) (state S.Store self.old.conn) (state S.Store self.new.conn) }
-        ensures clean { HasCleanDisk (state S.Store self.new.conn) → HasCleanDisk (state S.Store self.old.conn) }
+        ensures goes { Goes (IsIn AreOurs) HasNewCalls (shown S.Store self.old) (shown S.Store self.new) result }
+        ensures crash { HoldsBack (IsIn AreOurs) (shown S.Store self.old) (shown S.Store self.new) }
+        ensures clean { HasCleanDisk (shown S.Store self.new) → HasCleanDisk (shown S.Store self.old) }
         ensures cause { IfErr result (λ fault. fault ≡ StoreFault.Unavailable) }
     {
         self.lose_indexes()?;
@@ -182,9 +183,9 @@ impl<S: Alter> Store<S> {
 
     /// Takes the indexes of jobs away where they are the last and not a store's. They are made again before `calls`.
     fn lose_indexes(&mut self) -> Result<(), StoreFault>
-        ensures goes { Goes (IsIn AreOurs) (Leaves AreInOrder) (state S.Store self.old.conn) (state S.Store self.new.conn) result }
-        ensures crash { HoldsBack (IsIn AreOurs) (state S.Store self.old.conn) (state S.Store self.new.conn) }
-        ensures clean { HasCleanDisk (state S.Store self.new.conn) → HasCleanDisk (state S.Store self.old.conn) }
+        ensures goes { Goes (IsIn AreOurs) (Leaves AreInOrder) (shown S.Store self.old) (shown S.Store self.new) result }
+        ensures crash { HoldsBack (IsIn AreOurs) (shown S.Store self.old) (shown S.Store self.new) }
+        ensures clean { HasCleanDisk (shown S.Store self.new) → HasCleanDisk (shown S.Store self.old) }
         ensures cause { IfErr result (λ fault. fault ≡ StoreFault.Unavailable) }
     {
         if !has_indexes_last(self.alloc, self.conn.schema())? {
@@ -196,9 +197,9 @@ impl<S: Alter> Store<S> {
 
     /// Takes the indexes of jobs away that stores made before, where only `calls` stood behind them.
     fn lose_older(&mut self) -> Result<(), StoreFault>
-        ensures goes { Goes (IsIn AreCore) (Leaves AreStores) (state S.Store self.old.conn) (state S.Store self.new.conn) result }
-        ensures crash { HoldsBack (IsIn AreCore) (state S.Store self.old.conn) (state S.Store self.new.conn) }
-        ensures clean { HasCleanDisk (state S.Store self.new.conn) → HasCleanDisk (state S.Store self.old.conn) }
+        ensures goes { Goes (IsIn AreCore) (Leaves AreStores) (shown S.Store self.old) (shown S.Store self.new) result }
+        ensures crash { HoldsBack (IsIn AreCore) (shown S.Store self.old) (shown S.Store self.new) }
+        ensures clean { HasCleanDisk (shown S.Store self.new) → HasCleanDisk (shown S.Store self.old) }
         ensures cause { IfErr result (λ fault. fault ≡ StoreFault.Unavailable) }
     {
         if !has_older_core(self.alloc, self.conn.schema())? {
@@ -210,9 +211,9 @@ impl<S: Alter> Store<S> {
 
     /// Takes `calls` away where it is there.
     fn lose_calls(&mut self) -> Result<(), StoreFault>
-        ensures goes { Goes (IsIn AreInOrder) (Leaves AreCore) (state S.Store self.old.conn) (state S.Store self.new.conn) result }
-        ensures crash { HoldsBack (IsIn AreInOrder) (state S.Store self.old.conn) (state S.Store self.new.conn) }
-        ensures clean { HasCleanDisk (state S.Store self.new.conn) → HasCleanDisk (state S.Store self.old.conn) }
+        ensures goes { Goes (IsIn AreInOrder) (Leaves AreCore) (shown S.Store self.old) (shown S.Store self.new) result }
+        ensures crash { HoldsBack (IsIn AreInOrder) (shown S.Store self.old) (shown S.Store self.new) }
+        ensures clean { HasCleanDisk (shown S.Store self.new) → HasCleanDisk (shown S.Store self.old) }
         ensures cause { IfErr result (λ fault. fault ≡ StoreFault.Unavailable) }
     {
         if !has_calls(self.alloc, self.conn.schema())? {
@@ -224,9 +225,9 @@ impl<S: Alter> Store<S> {
 
     /// Makes the indexes of jobs where a store's aren't there.
     fn get_indexes(&mut self) -> Result<(), StoreFault>
-        ensures goes { Goes (IsIn AreCore) (Leaves (λ schema. schema ≡ core_tables)) (state S.Store self.old.conn) (state S.Store self.new.conn) result }
-        ensures crash { HoldsBack (IsIn AreCore) (state S.Store self.old.conn) (state S.Store self.new.conn) }
-        ensures clean { HasCleanDisk (state S.Store self.new.conn) → HasCleanDisk (state S.Store self.old.conn) }
+        ensures goes { Goes (IsIn AreCore) (Leaves (λ schema. schema ≡ core_tables)) (shown S.Store self.old) (shown S.Store self.new) result }
+        ensures crash { HoldsBack (IsIn AreCore) (shown S.Store self.old) (shown S.Store self.new) }
+        ensures clean { HasCleanDisk (shown S.Store self.new) → HasCleanDisk (shown S.Store self.old) }
         ensures cause { IfErr result (λ fault. fault ≡ StoreFault.Unavailable) }
     {
         self.lose_older()?;
@@ -235,9 +236,9 @@ impl<S: Alter> Store<S> {
 
     /// Makes the indexes of jobs where there are none.
     fn make_indexes(&mut self) -> Result<(), StoreFault>
-        ensures goes { Goes (IsIn AreStores) (Leaves (λ schema. schema ≡ core_tables)) (state S.Store self.old.conn) (state S.Store self.new.conn) result }
-        ensures crash { HoldsBack (IsIn AreStores) (state S.Store self.old.conn) (state S.Store self.new.conn) }
-        ensures clean { HasCleanDisk (state S.Store self.new.conn) → HasCleanDisk (state S.Store self.old.conn) }
+        ensures goes { Goes (IsIn AreStores) (Leaves (λ schema. schema ≡ core_tables)) (shown S.Store self.old) (shown S.Store self.new) result }
+        ensures crash { HoldsBack (IsIn AreStores) (shown S.Store self.old) (shown S.Store self.new) }
+        ensures clean { HasCleanDisk (shown S.Store self.new) → HasCleanDisk (shown S.Store self.old) }
         ensures cause { IfErr result (λ fault. fault ≡ StoreFault.Unavailable) }
     {
         if !has_bare_tables(self.alloc, self.conn.schema())? {
@@ -249,15 +250,15 @@ impl<S: Alter> Store<S> {
 
     /// Tests whether the version is 1 and each hold has its job, and counts the calls.
     fn fill(&mut self) -> Result<(), StoreFault>
-        ensures goes { Goes HasNone IsFilled (state S.Store self.old.conn) (state S.Store self.new.conn) result }
-        ensures counted { (m : Queue) (k : List Entry) → HasNone (state S.Store self.old.conn)
-            → HasCleanDisk (state S.Store self.new.conn) → OnOk result
-            (RowsMean (state S.Store self.old.conn).now m k → TablesMean (state S.Store self.new.conn).now m k) }
-        ensures crash { HoldsBack HasNone (state S.Store self.old.conn) (state S.Store self.new.conn) }
-        ensures clean { HasCleanDisk (state S.Store self.new.conn) → HasCleanDisk (state S.Store self.old.conn) }
-        ensures strange { HasCleanDisk (state S.Store self.new.conn) → result ≡ Err StoreFault.Strange
-            → HasNone (state S.Store self.old.conn) → versions (state S.Store self.old.conn).now ≡ number 1 ∷ []
-            → ¬ HoldsCanBeCalled (state S.Store self.old.conn).now }
+        ensures goes { Goes HasNone IsFilled (shown S.Store self.old) (shown S.Store self.new) result }
+        ensures counted { (m : Queue) (k : List Entry) → HasNone (shown S.Store self.old)
+            → HasCleanDisk (shown S.Store self.new) → OnOk result
+            (RowsMean (shown S.Store self.old).now m k → TablesMean (shown S.Store self.new).now m k) }
+        ensures crash { HoldsBack HasNone (shown S.Store self.old) (shown S.Store self.new) }
+        ensures clean { HasCleanDisk (shown S.Store self.new) → HasCleanDisk (shown S.Store self.old) }
+        ensures strange { HasCleanDisk (shown S.Store self.new) → result ≡ Err StoreFault.Strange
+            → HasNone (shown S.Store self.old) → versions (shown S.Store self.old).now ≡ number 1 ∷ []
+            → ¬ HoldsCanBeCalled (shown S.Store self.old).now }
     {
         self.test_version()?;
         self.test_holds()?;
@@ -266,15 +267,15 @@ impl<S: Alter> Store<S> {
 
     /// Tests whether meta has one row, of version 1.
     fn test_version(&mut self) -> Result<(), StoreFault>
-        ensures ours { HasTables (state S.Store self.old.conn) → HasCleanDisk (state S.Store self.new.conn) → OnOk result
-            ((versions (state S.Store self.old.conn).now ≡ number 1 ∷ [])
-            × IsUnchanged (state S.Store self.old.conn) (state S.Store self.new.conn)) }
-        ensures left { HasCleanDisk (state S.Store self.new.conn) → HasTables (state S.Store self.old.conn) → OnErr result
-            (KeepsCommit (state S.Store self.old.conn) (state S.Store self.new.conn)) }
-        ensures clean { HasCleanDisk (state S.Store self.new.conn) → HasCleanDisk (state S.Store self.old.conn) }
-        ensures crash { CommitsNothing (state S.Store self.old.conn) (state S.Store self.new.conn) }
-        ensures strange { HasTables (state S.Store self.old.conn) → HasCleanDisk (state S.Store self.new.conn)
-            → result ≡ Err StoreFault.Strange → ¬ (versions (state S.Store self.old.conn).now ≡ number 1 ∷ []) }
+        ensures ours { HasTables (shown S.Store self.old) → HasCleanDisk (shown S.Store self.new) → OnOk result
+            ((versions (shown S.Store self.old).now ≡ number 1 ∷ [])
+            × IsUnchanged (shown S.Store self.old) (shown S.Store self.new)) }
+        ensures left { HasCleanDisk (shown S.Store self.new) → HasTables (shown S.Store self.old) → OnErr result
+            (KeepsCommit (shown S.Store self.old) (shown S.Store self.new)) }
+        ensures clean { HasCleanDisk (shown S.Store self.new) → HasCleanDisk (shown S.Store self.old) }
+        ensures crash { CommitsNothing (shown S.Store self.old) (shown S.Store self.new) }
+        ensures strange { HasTables (shown S.Store self.old) → HasCleanDisk (shown S.Store self.new)
+            → result ≡ Err StoreFault.Strange → ¬ (versions (shown S.Store self.old).now ≡ number 1 ∷ []) }
     {
         let rows = self.show(SELECT_VERSION, &[])?;
         if is_version(rows.as_slice()) {
@@ -286,15 +287,15 @@ impl<S: Alter> Store<S> {
 
     /// Tests whether each hold is of a job that is there.
     fn test_holds(&mut self) -> Result<(), StoreFault>
-        ensures ours { HasTables (state S.Store self.old.conn) → HasCleanDisk (state S.Store self.new.conn) → OnOk result
-            (HoldJobs (state S.Store self.old.conn).now
-            × IsUnchanged (state S.Store self.old.conn) (state S.Store self.new.conn)) }
-        ensures left { HasCleanDisk (state S.Store self.new.conn) → HasTables (state S.Store self.old.conn) → OnErr result
-            (KeepsCommit (state S.Store self.old.conn) (state S.Store self.new.conn)) }
-        ensures clean { HasCleanDisk (state S.Store self.new.conn) → HasCleanDisk (state S.Store self.old.conn) }
-        ensures crash { CommitsNothing (state S.Store self.old.conn) (state S.Store self.new.conn) }
-        ensures strange { HasTables (state S.Store self.old.conn) → HasCleanDisk (state S.Store self.new.conn)
-            → result ≡ Err StoreFault.Strange → ¬ HoldJobs (state S.Store self.old.conn).now }
+        ensures ours { HasTables (shown S.Store self.old) → HasCleanDisk (shown S.Store self.new) → OnOk result
+            (HoldJobs (shown S.Store self.old).now
+            × IsUnchanged (shown S.Store self.old) (shown S.Store self.new)) }
+        ensures left { HasCleanDisk (shown S.Store self.new) → HasTables (shown S.Store self.old) → OnErr result
+            (KeepsCommit (shown S.Store self.old) (shown S.Store self.new)) }
+        ensures clean { HasCleanDisk (shown S.Store self.new) → HasCleanDisk (shown S.Store self.old) }
+        ensures crash { CommitsNothing (shown S.Store self.old) (shown S.Store self.new) }
+        ensures strange { HasTables (shown S.Store self.old) → HasCleanDisk (shown S.Store self.new)
+            → result ≡ Err StoreFault.Strange → ¬ HoldJobs (shown S.Store self.old).now }
     {
         let lost = self.show(SELECT_LOST, &[])?;
         if lost.len() > 0 {
@@ -305,14 +306,14 @@ impl<S: Alter> Store<S> {
 
     /// Counts the calls by what is held.
     fn count_holds(&mut self) -> Result<(), StoreFault>
-        ensures goes { Goes HasNone IsWhole (state S.Store self.old.conn) (state S.Store self.new.conn) result }
-        ensures counted { (m : Queue) (k : List Entry) → HasNone (state S.Store self.old.conn)
-            → HasCleanDisk (state S.Store self.new.conn) → RowsMean (state S.Store self.old.conn).now m k
-            → OnOk result (TablesMean (state S.Store self.new.conn).now m k) }
-        ensures crash { HoldsBack HasNone (state S.Store self.old.conn) (state S.Store self.new.conn) }
-        ensures clean { HasCleanDisk (state S.Store self.new.conn) → HasCleanDisk (state S.Store self.old.conn) }
-        ensures cause { HasNone (state S.Store self.old.conn) → HasCleanDisk (state S.Store self.new.conn)
-            → HoldsCanBeCalled (state S.Store self.old.conn).now → IfErr result (λ fault. fault ≡ StoreFault.Unavailable) }
+        ensures goes { Goes HasNone IsWhole (shown S.Store self.old) (shown S.Store self.new) result }
+        ensures counted { (m : Queue) (k : List Entry) → HasNone (shown S.Store self.old)
+            → HasCleanDisk (shown S.Store self.new) → RowsMean (shown S.Store self.old).now m k
+            → OnOk result (TablesMean (shown S.Store self.new).now m k) }
+        ensures crash { HoldsBack HasNone (shown S.Store self.old) (shown S.Store self.new) }
+        ensures clean { HasCleanDisk (shown S.Store self.new) → HasCleanDisk (shown S.Store self.old) }
+        ensures cause { HasNone (shown S.Store self.old) → HasCleanDisk (shown S.Store self.new)
+            → HoldsCanBeCalled (shown S.Store self.old).now → IfErr result (λ fault. fault ≡ StoreFault.Unavailable) }
     {
         let held = self.show(SELECT_HELD, &[])?;
         self.count_rows(held.as_slice())
@@ -320,19 +321,19 @@ impl<S: Alter> Store<S> {
 
     /// Counts a call for each of these rows, which has the number of a job.
     fn count_rows(&mut self, rows: &[Row]) -> Result<(), StoreFault>
-        ensures set { (count : List ℕ → ℕ) → HasCalls (state S.Store self.old.conn) count → AreSmall count
-            → HasCleanDisk (state S.Store self.new.conn) → MatchResult result
-            (λ _. HasSet (state S.Store self.old.conn) (state S.Store self.new.conn))
-            (λ _. KeepsCommit (state S.Store self.old.conn) (state S.Store self.new.conn)) }
-        ensures counted { (m : Queue) (k : List Entry) → RowsMean (state S.Store self.old.conn).now m k
-            → AreOfJobs m rows.now → length rows.now < 2 ^ 32 → HasCalls (state S.Store self.old.conn) (λ _. 0)
-            → HasCleanDisk (state S.Store self.new.conn)
-            → OnOk result (SetsCalls (state S.Store self.old.conn) (state S.Store self.new.conn) (held_to m rows.now)) }
-        ensures crash { Withholds (state S.Store self.old.conn) false (state S.Store self.new.conn) (is_err result) }
-        ensures clean { HasCleanDisk (state S.Store self.new.conn) → HasCleanDisk (state S.Store self.old.conn) }
-        ensures cause { (count : List ℕ → ℕ) → AreCallable (state S.Store self.old.conn).now rows.now
-            → HasCalls (state S.Store self.old.conn) count → AreSmall count
-            → HasCleanDisk (state S.Store self.new.conn) → IfErr result (λ fault. fault ≡ StoreFault.Unavailable) }
+        ensures set { (count : List ℕ → ℕ) → HasCalls (shown S.Store self.old) count → AreSmall count
+            → HasCleanDisk (shown S.Store self.new) → MatchResult result
+            (λ _. HasSet (shown S.Store self.old) (shown S.Store self.new))
+            (λ _. KeepsCommit (shown S.Store self.old) (shown S.Store self.new)) }
+        ensures counted { (m : Queue) (k : List Entry) → RowsMean (shown S.Store self.old).now m k
+            → AreOfJobs m rows.now → length rows.now < 2 ^ 32 → HasCalls (shown S.Store self.old) (λ _. 0)
+            → HasCleanDisk (shown S.Store self.new)
+            → OnOk result (SetsCalls (shown S.Store self.old) (shown S.Store self.new) (held_to m rows.now)) }
+        ensures crash { Withholds (shown S.Store self.old) false (shown S.Store self.new) (is_err result) }
+        ensures clean { HasCleanDisk (shown S.Store self.new) → HasCleanDisk (shown S.Store self.old) }
+        ensures cause { (count : List ℕ → ℕ) → AreCallable (shown S.Store self.old).now rows.now
+            → HasCalls (shown S.Store self.old) count → AreSmall count
+            → HasCleanDisk (shown S.Store self.new) → IfErr result (λ fault. fault ≡ StoreFault.Unavailable) }
     {
         for row in rows {
             self.count_hold(row)?;
@@ -342,21 +343,21 @@ impl<S: Alter> Store<S> {
 
     /// Counts a call to the number of the job that a row has.
     fn count_hold(&mut self, row: &Row) -> Result<(), StoreFault>
-        ensures set { (count : List ℕ → ℕ) → HasCalls (state S.Store self.old.conn) count → AreSmall count
-            → HasCleanDisk (state S.Store self.new.conn) → MatchResult result
-            (λ _. HasSet (state S.Store self.old.conn) (state S.Store self.new.conn))
-            (λ _. KeepsCommit (state S.Store self.old.conn) (state S.Store self.new.conn)) }
+        ensures set { (count : List ℕ → ℕ) → HasCalls (shown S.Store self.old) count → AreSmall count
+            → HasCleanDisk (shown S.Store self.new) → MatchResult result
+            (λ _. HasSet (shown S.Store self.old) (shown S.Store self.new))
+            (λ _. KeepsCommit (shown S.Store self.old) (shown S.Store self.new)) }
         ensures counted { (m : Queue) (k : List Entry) (j : OneJob) (count : List ℕ → ℕ)
-            → RowsMean (state S.Store self.old.conn).now m k → row.now ≡ number j.number ∷ []
-            → job_numbered j.number m ≡ Some j → count j.dial + 1 < 2 ^ 32 → HasCalls (state S.Store self.old.conn) count
-            → HasCleanDisk (state S.Store self.new.conn)
-            → OnOk result (SetsCalls (state S.Store self.old.conn) (state S.Store self.new.conn)
+            → RowsMean (shown S.Store self.old).now m k → row.now ≡ number j.number ∷ []
+            → job_numbered j.number m ≡ Some j → count j.dial + 1 < 2 ^ 32 → HasCalls (shown S.Store self.old) count
+            → HasCleanDisk (shown S.Store self.new)
+            → OnOk result (SetsCalls (shown S.Store self.old) (shown S.Store self.new)
             (with_count j.dial (count j.dial + 1) count)) }
-        ensures crash { Withholds (state S.Store self.old.conn) false (state S.Store self.new.conn) (is_err result) }
-        ensures clean { HasCleanDisk (state S.Store self.new.conn) → HasCleanDisk (state S.Store self.old.conn) }
-        ensures cause { (n : ℕ) (count : List ℕ → ℕ) → row.now ≡ number n ∷ [] → CanBeCalled (state S.Store self.old.conn).now n
-            → HasCalls (state S.Store self.old.conn) count → AreSmall count
-            → HasCleanDisk (state S.Store self.new.conn) → IfErr result (λ fault. fault ≡ StoreFault.Unavailable) }
+        ensures crash { Withholds (shown S.Store self.old) false (shown S.Store self.new) (is_err result) }
+        ensures clean { HasCleanDisk (shown S.Store self.new) → HasCleanDisk (shown S.Store self.old) }
+        ensures cause { (n : ℕ) (count : List ℕ → ℕ) → row.now ≡ number n ∷ [] → CanBeCalled (shown S.Store self.old).now n
+            → HasCalls (shown S.Store self.old) count → AreSmall count
+            → HasCleanDisk (shown S.Store self.new) → IfErr result (λ fault. fault ≡ StoreFault.Unavailable) }
     {
         let job = held_job_in(row)?;
         let dial = self.dial_of(job)?;
@@ -365,15 +366,15 @@ impl<S: Alter> Store<S> {
 
     /// The number to dial of a job.
     fn dial_of(&mut self, job: u32) -> Result<Dial, StoreFault>
-        ensures reads { HasTables (state S.Store self.old.conn) → HasCleanDisk (state S.Store self.new.conn)
-            → Reads (state S.Store self.old.conn) (state S.Store self.new.conn) result }
-        ensures answers { (m : Queue) (k : List Entry) (j : OneJob) → HasTables (state S.Store self.old.conn)
-            → RowsMean (state S.Store self.old.conn).now m k → job_numbered job m ≡ Some j
-            → HasCleanDisk (state S.Store self.new.conn) → IfOk result (λ dial. dial ≡ j.dial) }
-        ensures crash { CommitsNothing (state S.Store self.old.conn) (state S.Store self.new.conn) }
-        ensures clean { HasCleanDisk (state S.Store self.new.conn) → HasCleanDisk (state S.Store self.old.conn) }
-        ensures cause { HasTables (state S.Store self.old.conn) → CanBeCalled (state S.Store self.old.conn).now job
-            → HasCleanDisk (state S.Store self.new.conn) → IfErr result (λ fault. fault ≡ StoreFault.Unavailable) }
+        ensures reads { HasTables (shown S.Store self.old) → HasCleanDisk (shown S.Store self.new)
+            → Reads (shown S.Store self.old) (shown S.Store self.new) result }
+        ensures answers { (m : Queue) (k : List Entry) (j : OneJob) → HasTables (shown S.Store self.old)
+            → RowsMean (shown S.Store self.old).now m k → job_numbered job m ≡ Some j
+            → HasCleanDisk (shown S.Store self.new) → IfOk result (λ dial. dial ≡ j.dial) }
+        ensures crash { CommitsNothing (shown S.Store self.old) (shown S.Store self.new) }
+        ensures clean { HasCleanDisk (shown S.Store self.new) → HasCleanDisk (shown S.Store self.old) }
+        ensures cause { HasTables (shown S.Store self.old) → CanBeCalled (shown S.Store self.old).now job
+            → HasCleanDisk (shown S.Store self.new) → IfErr result (λ fault. fault ≡ StoreFault.Unavailable) }
     {
         match self.find(SELECT_DIAL, params![job])? {
             Some(found) => dial_in(self.alloc, &found),
@@ -383,18 +384,18 @@ impl<S: Alter> Store<S> {
 
     /// Counts one more call to a number.
     fn add_call(&mut self, dial: &Dial) -> Result<(), StoreFault>
-        ensures set { (count : List ℕ → ℕ) → HasCalls (state S.Store self.old.conn) count → AreSmall count
-            → HasCleanDisk (state S.Store self.new.conn) → MatchResult result
-            (λ _. HasSet (state S.Store self.old.conn) (state S.Store self.new.conn))
-            (λ _. KeepsCommit (state S.Store self.old.conn) (state S.Store self.new.conn)) }
-        ensures counted { (count : List ℕ → ℕ) → HasCalls (state S.Store self.old.conn) count
-            → count dial.now + 1 < 2 ^ 32 → HasCleanDisk (state S.Store self.new.conn)
-            → OnOk result (SetsCalls (state S.Store self.old.conn) (state S.Store self.new.conn)
+        ensures set { (count : List ℕ → ℕ) → HasCalls (shown S.Store self.old) count → AreSmall count
+            → HasCleanDisk (shown S.Store self.new) → MatchResult result
+            (λ _. HasSet (shown S.Store self.old) (shown S.Store self.new))
+            (λ _. KeepsCommit (shown S.Store self.old) (shown S.Store self.new)) }
+        ensures counted { (count : List ℕ → ℕ) → HasCalls (shown S.Store self.old) count
+            → count dial.now + 1 < 2 ^ 32 → HasCleanDisk (shown S.Store self.new)
+            → OnOk result (SetsCalls (shown S.Store self.old) (shown S.Store self.new)
             (with_count dial.now (count dial.now + 1) count)) }
-        ensures crash { Withholds (state S.Store self.old.conn) false (state S.Store self.new.conn) (is_err result) }
-        ensures clean { HasCleanDisk (state S.Store self.new.conn) → HasCleanDisk (state S.Store self.old.conn) }
-        ensures cause { (count : List ℕ → ℕ) → HasCalls (state S.Store self.old.conn) count → AreSmall count
-            → HasCleanDisk (state S.Store self.new.conn) → IfErr result (λ fault. fault ≡ StoreFault.Unavailable) }
+        ensures crash { Withholds (shown S.Store self.old) false (shown S.Store self.new) (is_err result) }
+        ensures clean { HasCleanDisk (shown S.Store self.new) → HasCleanDisk (shown S.Store self.old) }
+        ensures cause { (count : List ℕ → ℕ) → HasCalls (shown S.Store self.old) count → AreSmall count
+            → HasCleanDisk (shown S.Store self.new) → IfErr result (λ fault. fault ≡ StoreFault.Unavailable) }
     {
         let calls = self.read_calls(dial)?;
         // A number has fewer calls than there are grants, so the sum fits.

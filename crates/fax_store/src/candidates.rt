@@ -2,13 +2,13 @@
 
 ghost use Rattle.std.specs.Prelude.{◌≡◌, List, [], true, None, Some, IfOk, OnOk};
 ghost use Rattle.std.specs.Vec.Iter.{into_iter_items};
-ghost use Rattle.sqlite.specs.Held.{state};
 ghost use Rattle.sqlite.specs.State.{HasCleanDisk};
 ghost use Rattle.fax_core.specs.Job.{Job as OneJob};
 ghost use Rattle.fax_core.specs.Queue.{Queue, Entry};
 ghost use Rattle.fax_core.specs.State.{calls_to};
+ghost use Rattle.fax_store.specs.Calls.{Answers, Finds, Looks, shown};
 ghost use Rattle.fax_store.specs.Candidates.{AreAsked, Gives, IsCounted, IsPage, IsProspect, StandsAt, is_last, next_front};
-ghost use Rattle.fax_store.specs.Store.{CommitsNothing, Serves, Means, MeansNow, HasTables, Reads, Stays, StaysOpen};
+ghost use Rattle.fax_store.specs.Store.{Means, Serves, StaysOpen};
 ghost use Rattle.fax_tables.specs.Fault.{OrUnavailable};
 
 use crate::store::Store;
@@ -118,8 +118,8 @@ impl<S: Alter> Store<S> {
         ensures same_reference { result.store.ghost_name ≡ self.entry.ghost_name }
         ensures same { result.store.now ≡ self.old }
         ensures asked { (result.asked.t ≡ t) × (result.asked.but ≡ None) }
-        ensures stands { (m : Queue) (k : List Entry) → Means (state S.Store self.old.conn) m k
-            → Serves (state S.Store self.old.conn) → StandsAt result.asked m [] (into_iter_items result.page) result.front result.most }
+        ensures stands { (m : Queue) (k : List Entry) → Means (shown S.Store self.old) m k
+            → Serves (shown S.Store self.old) → StandsAt result.asked m [] (into_iter_items result.page) result.front result.most }
     {
         self.asked_for(Asked { t, but: None })
     }
@@ -129,8 +129,8 @@ impl<S: Alter> Store<S> {
         ensures same_reference { result.store.ghost_name ≡ self.entry.ghost_name }
         ensures same { result.store.now ≡ self.old }
         ensures asked { (result.asked.t ≡ t) × (result.asked.but ≡ Some dial) }
-        ensures stands { (m : Queue) (k : List Entry) → Means (state S.Store self.old.conn) m k
-            → Serves (state S.Store self.old.conn) → StandsAt result.asked m [] (into_iter_items result.page) result.front result.most }
+        ensures stands { (m : Queue) (k : List Entry) → Means (shown S.Store self.old) m k
+            → Serves (shown S.Store self.old) → StandsAt result.asked m [] (into_iter_items result.page) result.front result.most }
     {
         self.asked_for(Asked { t, but: Some(dial) })
     }
@@ -139,8 +139,8 @@ impl<S: Alter> Store<S> {
         ensures same_reference { result.store.ghost_name ≡ self.entry.ghost_name }
         ensures same { result.store.now ≡ self.old }
         ensures asked { result.asked ≡ asked }
-        ensures stands { (m : Queue) (k : List Entry) → Means (state S.Store self.old.conn) m k
-            → Serves (state S.Store self.old.conn) → StandsAt asked m [] (into_iter_items result.page) result.front result.most }
+        ensures stands { (m : Queue) (k : List Entry) → Means (shown S.Store self.old) m k
+            → Serves (shown S.Store self.old) → StandsAt asked m [] (into_iter_items result.page) result.front result.most }
     {
         let page = Vec::new(self.alloc);
         Candidates {
@@ -154,26 +154,8 @@ impl<S: Alter> Store<S> {
 
     /// Of the jobs that are asked for, the rows of the first that one statement reads behind a front, at most `most`.
     fn page(&mut self, asked: &Asked, front: Front, most: u32) -> Result<Vec<Row>, StoreFault>
-        ensures served { Serves (state S.Store self.new.conn) → Serves (state S.Store self.old.conn) }
-        ensures clean { HasCleanDisk (state S.Store self.new.conn) → HasCleanDisk (state S.Store self.old.conn) }
-        ensures opens { OnOk result (HasCleanDisk (state S.Store self.new.conn) → Serves (state S.Store self.new.conn)) }
-        ensures stays { Stays (state S.Store self.old.conn) (state S.Store self.new.conn) }
-        ensures crash { CommitsNothing (state S.Store self.old.conn) (state S.Store self.new.conn) }
-        ensures found { (m : Queue) (k : List Entry) → Means (state S.Store self.old.conn) m k
-            → Serves (state S.Store self.new.conn) → OrUnavailable result (λ rows. IsPage asked.now m front most rows.items) }
-    {
-        self.read_page(asked, front, most)
-    }
-
-    fn read_page(&mut self, asked: &Asked, front: Front, most: u32) -> Result<Vec<Row>, StoreFault>
-        ensures served { Serves (state S.Store self.new.conn) → Serves (state S.Store self.old.conn) }
-        ensures clean { HasCleanDisk (state S.Store self.new.conn) → HasCleanDisk (state S.Store self.old.conn) }
-        ensures opens { OnOk result (HasCleanDisk (state S.Store self.new.conn) → Serves (state S.Store self.new.conn)) }
-        ensures reads { HasTables (state S.Store self.old.conn) → HasCleanDisk (state S.Store self.new.conn)
-            → Reads (state S.Store self.old.conn) (state S.Store self.new.conn) result }
-        ensures crash { CommitsNothing (state S.Store self.old.conn) (state S.Store self.new.conn) }
-        ensures answers { (m : Queue) (k : List Entry) → MeansNow (state S.Store self.old.conn) m k
-            → Serves (state S.Store self.new.conn) → OrUnavailable result (λ rows. IsPage asked.now m front most rows.items) }
+        ensures leaves { Finds S.Store self.old self.new result }
+        ensures answers { Answers S.Store self.old self.new result (λ m k rows. IsPage asked.now m front most rows.items) }
     {
         let (t, but) = (asked.t.seconds(), asked.but());
         match front {
@@ -201,14 +183,11 @@ impl<S: Alter> Candidates<'_, S> {
     /// `Unavailable`, or `Strange` where the row of a job is no lawful record.
     pub fn next(&mut self) -> Result<Option<(Job, u64)>, StoreFault>
         ensures same_reference { self.new.store.ghost_name ≡ self.old.store.ghost_name }
-        ensures served { Serves (state S.Store self.new.store.now.conn) → Serves (state S.Store self.old.store.now.conn) }
-        ensures clean { HasCleanDisk (state S.Store self.new.store.now.conn) → HasCleanDisk (state S.Store self.old.store.now.conn) }
-        ensures opens { OnOk result (HasCleanDisk (state S.Store self.new.store.now.conn) → Serves (state S.Store self.new.store.now.conn)) }
-        ensures stays { Stays (state S.Store self.old.store.now.conn) (state S.Store self.new.store.now.conn) }
-        ensures crash { CommitsNothing (state S.Store self.old.store.now.conn) (state S.Store self.new.store.now.conn) }
+        ensures leaves { Looks S.Store self.old.store.now self.new.store.now }
+        ensures opens { OnOk result (HasCleanDisk (shown S.Store self.new.store.now) → Serves (shown S.Store self.new.store.now)) }
         ensures asked { self.new.asked ≡ self.old.asked }
-        ensures found { (m : Queue) (k : List Entry) (given : List OneJob) → Means (state S.Store self.old.store.now.conn) m k
-            → Serves (state S.Store self.new.store.now.conn)
+        ensures found { (m : Queue) (k : List Entry) (given : List OneJob) → Means (shown S.Store self.old.store.now) m k
+            → Serves (shown S.Store self.new.store.now)
             → StandsAt self.old.asked m given (into_iter_items self.old.page) self.old.front self.old.most
             → OrUnavailable result (Gives (IsCounted m) self.old.asked m given (into_iter_items self.new.page) self.new.front self.new.most) }
     {
@@ -229,16 +208,13 @@ impl<S: Alter> Candidates<'_, S> {
     /// `Unavailable`, or `Strange` where what the choice asks of a job is no part of a lawful record.
     pub fn prospect(&mut self) -> Result<Option<Prospect>, StoreFault>
         ensures same_reference { self.new.store.ghost_name ≡ self.old.store.ghost_name }
-        ensures served { Serves (state S.Store self.new.store.now.conn) → Serves (state S.Store self.old.store.now.conn) }
-        ensures clean { HasCleanDisk (state S.Store self.new.store.now.conn) → HasCleanDisk (state S.Store self.old.store.now.conn) }
-        ensures opens { OnOk result (StaysOpen (state S.Store self.old.store.now.conn) (state S.Store self.new.store.now.conn)) }
-        ensures none { IfOk result (λ found. found ≡ None → HasCleanDisk (state S.Store self.new.store.now.conn)
-            → Serves (state S.Store self.new.store.now.conn)) }
-        ensures stays { Stays (state S.Store self.old.store.now.conn) (state S.Store self.new.store.now.conn) }
-        ensures crash { CommitsNothing (state S.Store self.old.store.now.conn) (state S.Store self.new.store.now.conn) }
+        ensures leaves { Looks S.Store self.old.store.now self.new.store.now }
+        ensures opens { OnOk result (StaysOpen (shown S.Store self.old.store.now) (shown S.Store self.new.store.now)) }
+        ensures none { IfOk result (λ found. found ≡ None → HasCleanDisk (shown S.Store self.new.store.now)
+            → Serves (shown S.Store self.new.store.now)) }
         ensures asked { self.new.asked ≡ self.old.asked }
-        ensures found { (m : Queue) (k : List Entry) (given : List OneJob) → Means (state S.Store self.old.store.now.conn) m k
-            → Serves (state S.Store self.new.store.now.conn)
+        ensures found { (m : Queue) (k : List Entry) (given : List OneJob) → Means (shown S.Store self.old.store.now) m k
+            → Serves (shown S.Store self.new.store.now)
             → StandsAt self.old.asked m given (into_iter_items self.old.page) self.old.front self.old.most
             → OrUnavailable result (Gives IsProspect self.old.asked m given (into_iter_items self.new.page) self.new.front self.new.most) }
     {
@@ -256,14 +232,11 @@ impl<S: Alter> Candidates<'_, S> {
     /// As those of [`Store::active_to`].
     pub fn active_to(&mut self, dial: &Dial) -> Result<u64, StoreFault>
         ensures same_reference { self.new.store.ghost_name ≡ self.old.store.ghost_name }
-        ensures served { Serves (state S.Store self.new.store.now.conn) → Serves (state S.Store self.old.store.now.conn) }
-        ensures clean { HasCleanDisk (state S.Store self.new.store.now.conn) → HasCleanDisk (state S.Store self.old.store.now.conn) }
-        ensures opens { OnOk result (HasCleanDisk (state S.Store self.new.store.now.conn) → Serves (state S.Store self.new.store.now.conn)) }
-        ensures stays { Stays (state S.Store self.old.store.now.conn) (state S.Store self.new.store.now.conn) }
-        ensures crash { CommitsNothing (state S.Store self.old.store.now.conn) (state S.Store self.new.store.now.conn) }
+        ensures leaves { Looks S.Store self.old.store.now self.new.store.now }
+        ensures opens { OnOk result (HasCleanDisk (shown S.Store self.new.store.now) → Serves (shown S.Store self.new.store.now)) }
         ensures same { (self.new.asked ≡ self.old.asked) × (self.new.page ≡ self.old.page) × (self.new.front ≡ self.old.front) × (self.new.most ≡ self.old.most) }
-        ensures found { (m : Queue) (k : List Entry) → Means (state S.Store self.old.store.now.conn) m k
-            → Serves (state S.Store self.new.store.now.conn) → OrUnavailable result (λ calls. calls ≡ calls_to dial.now m) }
+        ensures found { (m : Queue) (k : List Entry) → Means (shown S.Store self.old.store.now) m k
+            → Serves (shown S.Store self.new.store.now) → OrUnavailable result (λ calls. calls ≡ calls_to dial.now m) }
     {
         self.store.active_to(dial)
     }
@@ -271,16 +244,13 @@ impl<S: Alter> Candidates<'_, S> {
     /// Reads on, where all that was read is given, until there is a job or none is left.
     fn refill(&mut self) -> Result<(), StoreFault>
         ensures same_reference { self.new.store.ghost_name ≡ self.old.store.ghost_name }
-        ensures served { Serves (state S.Store self.new.store.now.conn) → Serves (state S.Store self.old.store.now.conn) }
-        ensures clean { HasCleanDisk (state S.Store self.new.store.now.conn) → HasCleanDisk (state S.Store self.old.store.now.conn) }
-        ensures opens { OnOk result (StaysOpen (state S.Store self.old.store.now.conn) (state S.Store self.new.store.now.conn)) }
+        ensures leaves { Looks S.Store self.old.store.now self.new.store.now }
+        ensures opens { OnOk result (StaysOpen (shown S.Store self.old.store.now) (shown S.Store self.new.store.now)) }
         ensures none { OnOk result (into_iter_items self.new.page ≡ []
-            → HasCleanDisk (state S.Store self.new.store.now.conn) → Serves (state S.Store self.new.store.now.conn)) }
-        ensures stays { Stays (state S.Store self.old.store.now.conn) (state S.Store self.new.store.now.conn) }
-        ensures crash { CommitsNothing (state S.Store self.old.store.now.conn) (state S.Store self.new.store.now.conn) }
+            → HasCleanDisk (shown S.Store self.new.store.now) → Serves (shown S.Store self.new.store.now)) }
         ensures asked { self.new.asked ≡ self.old.asked }
-        ensures found { (m : Queue) (k : List Entry) (given : List OneJob) → Means (state S.Store self.old.store.now.conn) m k
-            → Serves (state S.Store self.new.store.now.conn)
+        ensures found { (m : Queue) (k : List Entry) (given : List OneJob) → Means (shown S.Store self.old.store.now) m k
+            → Serves (shown S.Store self.new.store.now)
             → StandsAt self.old.asked m given (into_iter_items self.old.page) self.old.front self.old.most
             → OrUnavailable result (λ _. StandsAt self.old.asked m given (into_iter_items self.new.page) self.new.front self.new.most
             × (into_iter_items self.new.page ≡ [] → AreAsked self.old.asked m given)) }
@@ -296,16 +266,13 @@ impl<S: Alter> Candidates<'_, S> {
     /// Reads the next page, where all of the last one is given. Gives whether none is left where it has no job.
     fn read_on(&mut self) -> Result<bool, StoreFault>
         ensures same_reference { self.new.store.ghost_name ≡ self.old.store.ghost_name }
-        ensures served { Serves (state S.Store self.new.store.now.conn) → Serves (state S.Store self.old.store.now.conn) }
-        ensures clean { HasCleanDisk (state S.Store self.new.store.now.conn) → HasCleanDisk (state S.Store self.old.store.now.conn) }
-        ensures opens { OnOk result (HasCleanDisk (state S.Store self.new.store.now.conn) → Serves (state S.Store self.new.store.now.conn)) }
-        ensures stays { Stays (state S.Store self.old.store.now.conn) (state S.Store self.new.store.now.conn) }
-        ensures crash { CommitsNothing (state S.Store self.old.store.now.conn) (state S.Store self.new.store.now.conn) }
+        ensures leaves { Looks S.Store self.old.store.now self.new.store.now }
+        ensures opens { OnOk result (HasCleanDisk (shown S.Store self.new.store.now) → Serves (shown S.Store self.new.store.now)) }
         ensures asked { self.new.asked ≡ self.old.asked }
         ensures told { IfOk result (λ last. last ≡ is_last self.old.front) }
         ensures next { OnOk result (into_iter_items self.new.page ≡ [] → self.new.front ≡ next_front self.old.front) }
-        ensures found { (m : Queue) (k : List Entry) (given : List OneJob) → Means (state S.Store self.old.store.now.conn) m k
-            → Serves (state S.Store self.new.store.now.conn)
+        ensures found { (m : Queue) (k : List Entry) (given : List OneJob) → Means (shown S.Store self.old.store.now) m k
+            → Serves (shown S.Store self.new.store.now)
             → StandsAt self.old.asked m given [] self.old.front self.old.most
             → OrUnavailable result (λ last. StandsAt self.old.asked m given (into_iter_items self.new.page) self.new.front self.new.most
             × (into_iter_items self.new.page ≡ [] → last ≡ true → AreAsked self.old.asked m given)) }

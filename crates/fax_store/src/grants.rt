@@ -1,16 +1,16 @@
 //! The grants, and what modems and jobs hold of those that are open.
 
-ghost use Rattle.std.specs.Prelude.{◌≡◌, ◌<◌, ◌≤◌, ◌+◌, ◌-◌, ◌^◌, ⊤, ℕ, List, false, Err, IfErr, IfOk, IfSome, is_err, IsTrue, OnErr, OnOk};
+ghost use Rattle.std.specs.Prelude.{◌≡◌, ◌<◌, ◌≤◌, ◌+◌, ◌-◌, ◌^◌, ⊤, ℕ, List, false, Err, IfErr, IfOk, IfSome, is_err, OnErr, OnOk};
 ghost use Rattle.std.specs.Option.{option_map};
-ghost use Rattle.sqlite.specs.Held.{state};
 ghost use Rattle.sqlite.specs.State.{HasCleanDisk, KeepsCommit};
 ghost use Rattle.fax_core.specs.Machine.{held_by, with_grant};
 ghost use Rattle.fax_core.specs.Queue.{Queue, Entry, grant_numbered};
 ghost use Rattle.fax_core.specs.State.{calls_to};
 ghost use Rattle.fax_job.specs.Limits.{most_pages};
+ghost use Rattle.fax_store.specs.Calls.{Answers, Calls, FailsOnly, Finds, Makes, MakesWhere, Runs, Tells, shown};
 ghost use Rattle.fax_store.specs.Grant.{HasCalls, IsCalled, IsHeld, IsHeldBy, IsNewGrant, IsReport, SetsCalls, with_count, with_placed, with_one_more_grant, with_closed};
-ghost use Rattle.fax_store.specs.Store.{CommitsNothing, Serves, Means, MeansNow, HasTables, Reads, Stays};
-ghost use Rattle.fax_store.specs.Work.{Holds, Works, Keeps, Changes, ChangesWhere, AnswersIn, IsOnlyUnavailable, Moves, Steps, Withholds};
+ghost use Rattle.fax_store.specs.Store.{Serves, HasTables};
+ghost use Rattle.fax_store.specs.Work.{Works, IsOnlyUnavailable, Moves, Steps};
 ghost use Rattle.fax_tables.specs.Fault.{OrUnavailable};
 ghost use Rattle.fax_tables.specs.Grant.{as_hold, IsWithinLimits, IsLawfulHold, IsOpenGrant};
 ghost use Rattle.fax_schema.specs.Schema.{calls_tree};
@@ -37,27 +37,8 @@ impl<S: Alter> Store<S> {
     ///
     /// `Unavailable`, or `Strange` where its row is no lawful record.
     pub fn hold_of(&mut self, modem: &str) -> Result<Option<Hold>, StoreFault>
-        ensures served { Serves (state S.Store self.new.conn) → Serves (state S.Store self.old.conn) }
-        ensures clean { HasCleanDisk (state S.Store self.new.conn) → HasCleanDisk (state S.Store self.old.conn) }
-        ensures opens { OnOk result (HasCleanDisk (state S.Store self.new.conn) → Serves (state S.Store self.new.conn)) }
-        ensures stays { Stays (state S.Store self.old.conn) (state S.Store self.new.conn) }
-        ensures crash { CommitsNothing (state S.Store self.old.conn) (state S.Store self.new.conn) }
-        ensures found { (m : Queue) (k : List Entry) → Means (state S.Store self.old.conn) m k
-            → Serves (state S.Store self.new.conn) → OrUnavailable result (λ found. found ≡ option_map as_hold (held_by modem.now m)) }
-        ensures lawful { IfOk result (λ found. IfSome found IsLawfulHold) }
-    {
-        self.read_hold(modem)
-    }
-
-    fn read_hold(&mut self, modem: &str) -> Result<Option<Hold>, StoreFault>
-        ensures served { Serves (state S.Store self.new.conn) → Serves (state S.Store self.old.conn) }
-        ensures clean { HasCleanDisk (state S.Store self.new.conn) → HasCleanDisk (state S.Store self.old.conn) }
-        ensures opens { OnOk result (HasCleanDisk (state S.Store self.new.conn) → Serves (state S.Store self.new.conn)) }
-        ensures reads { HasTables (state S.Store self.old.conn) → HasCleanDisk (state S.Store self.new.conn)
-            → Reads (state S.Store self.old.conn) (state S.Store self.new.conn) result }
-        ensures crash { CommitsNothing (state S.Store self.old.conn) (state S.Store self.new.conn) }
-        ensures answers { (m : Queue) (k : List Entry) → MeansNow (state S.Store self.old.conn) m k
-            → Serves (state S.Store self.new.conn) → OrUnavailable result (λ found. found ≡ option_map as_hold (held_by modem.now m)) }
+        ensures leaves { Finds S.Store self.old self.new result }
+        ensures answers { Answers S.Store self.old self.new result (λ m k found. found ≡ option_map as_hold (held_by modem.now m)) }
         ensures lawful { IfOk result (λ found. IfSome found IsLawfulHold) }
     {
         match self.find(SELECT_HOLD, params![modem])? {
@@ -72,27 +53,8 @@ impl<S: Alter> Store<S> {
     ///
     /// `Unavailable`, or `Strange` where its row is no lawful record.
     pub fn grant(&mut self, number: u32) -> Result<Option<Grant>, StoreFault>
-        ensures served { Serves (state S.Store self.new.conn) → Serves (state S.Store self.old.conn) }
-        ensures clean { HasCleanDisk (state S.Store self.new.conn) → HasCleanDisk (state S.Store self.old.conn) }
-        ensures opens { OnOk result (HasCleanDisk (state S.Store self.new.conn) → Serves (state S.Store self.new.conn)) }
-        ensures stays { Stays (state S.Store self.old.conn) (state S.Store self.new.conn) }
-        ensures crash { CommitsNothing (state S.Store self.old.conn) (state S.Store self.new.conn) }
-        ensures found { (m : Queue) (k : List Entry) → Means (state S.Store self.old.conn) m k
-            → Serves (state S.Store self.new.conn) → OrUnavailable result (λ found. found ≡ grant_numbered number m) }
-        ensures lawful { IfOk result (λ found. IfSome found IsWithinLimits) }
-    {
-        self.read_grant(number)
-    }
-
-    fn read_grant(&mut self, number: u32) -> Result<Option<Grant>, StoreFault>
-        ensures served { Serves (state S.Store self.new.conn) → Serves (state S.Store self.old.conn) }
-        ensures clean { HasCleanDisk (state S.Store self.new.conn) → HasCleanDisk (state S.Store self.old.conn) }
-        ensures opens { OnOk result (HasCleanDisk (state S.Store self.new.conn) → Serves (state S.Store self.new.conn)) }
-        ensures reads { HasTables (state S.Store self.old.conn) → HasCleanDisk (state S.Store self.new.conn)
-            → Reads (state S.Store self.old.conn) (state S.Store self.new.conn) result }
-        ensures crash { CommitsNothing (state S.Store self.old.conn) (state S.Store self.new.conn) }
-        ensures answers { (m : Queue) (k : List Entry) → MeansNow (state S.Store self.old.conn) m k
-            → Serves (state S.Store self.new.conn) → OrUnavailable result (λ found. found ≡ grant_numbered number m) }
+        ensures leaves { Finds S.Store self.old self.new result }
+        ensures answers { Answers S.Store self.old self.new result (λ m k found. found ≡ grant_numbered number m) }
         ensures lawful { IfOk result (λ found. IfSome found IsWithinLimits) }
     {
         match self.find(SELECT_GRANT, params![number])? {
@@ -107,42 +69,18 @@ impl<S: Alter> Store<S> {
     ///
     /// `Unavailable`, or `Strange` where its row is no lawful record.
     pub fn active_to(&mut self, dial: &Dial) -> Result<u64, StoreFault>
-        ensures served { Serves (state S.Store self.new.conn) → Serves (state S.Store self.old.conn) }
-        ensures clean { HasCleanDisk (state S.Store self.new.conn) → HasCleanDisk (state S.Store self.old.conn) }
-        ensures opens { OnOk result (HasCleanDisk (state S.Store self.new.conn) → Serves (state S.Store self.new.conn)) }
-        ensures stays { Stays (state S.Store self.old.conn) (state S.Store self.new.conn) }
-        ensures crash { CommitsNothing (state S.Store self.old.conn) (state S.Store self.new.conn) }
-        ensures found { (m : Queue) (k : List Entry) → Means (state S.Store self.old.conn) m k
-            → Serves (state S.Store self.new.conn) → OrUnavailable result (λ calls. calls ≡ calls_to dial.now m) }
-    {
-        self.count_calls(dial)
-    }
-
-    fn count_calls(&mut self, dial: &Dial) -> Result<u64, StoreFault>
-        ensures served { Serves (state S.Store self.new.conn) → Serves (state S.Store self.old.conn) }
-        ensures clean { HasCleanDisk (state S.Store self.new.conn) → HasCleanDisk (state S.Store self.old.conn) }
-        ensures opens { OnOk result (HasCleanDisk (state S.Store self.new.conn) → Serves (state S.Store self.new.conn)) }
-        ensures reads { HasTables (state S.Store self.old.conn) → HasCleanDisk (state S.Store self.new.conn)
-            → Reads (state S.Store self.old.conn) (state S.Store self.new.conn) result }
-        ensures crash { CommitsNothing (state S.Store self.old.conn) (state S.Store self.new.conn) }
-        ensures answers { (m : Queue) (k : List Entry) → MeansNow (state S.Store self.old.conn) m k
-            → Serves (state S.Store self.new.conn) → OrUnavailable result (λ calls. calls ≡ calls_to dial.now m) }
+        ensures leaves { Finds S.Store self.old self.new result }
+        ensures answers { Answers S.Store self.old self.new result (λ m k calls. calls ≡ calls_to dial.now m) }
     {
         Ok(u64::from(self.read_calls(dial)?))
     }
 
     pub(crate) fn read_calls(&mut self, dial: &Dial) -> Result<u32, StoreFault>
-        ensures served { Serves (state S.Store self.new.conn) → Serves (state S.Store self.old.conn) }
-        ensures clean { HasCleanDisk (state S.Store self.new.conn) → HasCleanDisk (state S.Store self.old.conn) }
-        ensures opens { OnOk result (HasCleanDisk (state S.Store self.new.conn) → Serves (state S.Store self.new.conn)) }
-        ensures reads { HasTables (state S.Store self.old.conn) → HasCleanDisk (state S.Store self.new.conn)
-            → Reads (state S.Store self.old.conn) (state S.Store self.new.conn) result }
-        ensures crash { CommitsNothing (state S.Store self.old.conn) (state S.Store self.new.conn) }
-        ensures answers { (m : Queue) (k : List Entry) → MeansNow (state S.Store self.old.conn) m k
-            → Serves (state S.Store self.new.conn) → OrUnavailable result (λ calls. calls ≡ calls_to dial.now m) }
-        ensures counted { (count : List ℕ → ℕ) → HasTables (state S.Store self.old.conn)
-            → AreCalls count ((state S.Store self.old.conn).now.trees calls_tree) → count dial.now < 2 ^ 32
-            → HasCleanDisk (state S.Store self.new.conn) → OrUnavailable result (λ calls. calls ≡ count dial.now) }
+        ensures leaves { Finds S.Store self.old self.new result }
+        ensures answers { Answers S.Store self.old self.new result (λ m k calls. calls ≡ calls_to dial.now m) }
+        ensures counted { (count : List ℕ → ℕ) → HasTables (shown S.Store self.old)
+            → AreCalls count ((shown S.Store self.old).now.trees calls_tree) → count dial.now < 2 ^ 32
+            → HasCleanDisk (shown S.Store self.new) → OrUnavailable result (λ calls. calls ≡ count dial.now) }
     {
         match self.find(SELECT_OPEN, params![dial.text()])? {
             Some(row) => calls_in(&row),
@@ -152,16 +90,13 @@ impl<S: Alter> Store<S> {
 
     /// Has `calls` count so many grants as open to a number.
     pub(crate) fn set_calls(&mut self, dial: &Dial, calls: u32) -> Result<(), StoreFault>
-        ensures served { Serves (state S.Store self.new.conn) → Serves (state S.Store self.old.conn) }
-        ensures clean { HasCleanDisk (state S.Store self.new.conn) → HasCleanDisk (state S.Store self.old.conn) }
-        ensures holds { Holds (state S.Store self.old.conn) false (state S.Store self.new.conn) (is_err result) }
-        ensures crash { Withholds (state S.Store self.old.conn) false (state S.Store self.new.conn) (is_err result) }
-        ensures set { (count : List ℕ → ℕ) → HasCalls (state S.Store self.old.conn) count
-            → HasCleanDisk (state S.Store self.new.conn) → OnOk result
-            (SetsCalls (state S.Store self.old.conn) (state S.Store self.new.conn) (with_count dial.now calls count)) }
-        ensures left { (count : List ℕ → ℕ) → HasCalls (state S.Store self.old.conn) count
-            → HasCleanDisk (state S.Store self.new.conn) → OnErr result
-            (KeepsCommit (state S.Store self.old.conn) (state S.Store self.new.conn)) }
+        ensures leaves { Runs S.Store self.old self.new result }
+        ensures set { (count : List ℕ → ℕ) → HasCalls (shown S.Store self.old) count
+            → HasCleanDisk (shown S.Store self.new) → OnOk result
+            (SetsCalls (shown S.Store self.old) (shown S.Store self.new) (with_count dial.now calls count)) }
+        ensures left { (count : List ℕ → ℕ) → HasCalls (shown S.Store self.old) count
+            → HasCleanDisk (shown S.Store self.new) → OnErr result
+            (KeepsCommit (shown S.Store self.old) (shown S.Store self.new)) }
         ensures cause { IfErr result (λ fault. fault ≡ StoreFault.Unavailable) }
     {
         self.run(DELETE_CALLS, params![dial.text()])?;
@@ -173,16 +108,9 @@ impl<S: Alter> Store<S> {
 
     /// Adds an open grant of a job to this number, which has so many calls with it.
     fn place_grant(&mut self, grant: &Grant, dial: &Dial, calls: u32) -> Result<(), StoreFault>
-        ensures served { Serves (state S.Store self.new.conn) → Serves (state S.Store self.old.conn) }
-        ensures clean { HasCleanDisk (state S.Store self.new.conn) → HasCleanDisk (state S.Store self.old.conn) }
-        ensures holds { Holds (state S.Store self.old.conn) false (state S.Store self.new.conn) (is_err result) }
-        ensures crash { Withholds (state S.Store self.old.conn) false (state S.Store self.new.conn) (is_err result) }
-        ensures written { (m₀ m : Queue) (k₀ k : List Entry) → Works (state S.Store self.old.conn) false m₀ k₀ m k
-            → Serves (state S.Store self.new.conn) → IsOpenGrant grant.now
-            → IsCalled grant.now.job dial.now m → calls ≡ calls_to dial.now m + 1
-            → Moves (state S.Store self.new.conn) result m₀ k₀ (with_placed grant.now m) k }
-        ensures cause { IsOnlyUnavailable (state S.Store self.old.conn) false (state S.Store self.new.conn) result
-            (λ m k. IsOpenGrant grant.now × IsNewGrant grant.now m) }
+        ensures leaves { Runs S.Store self.old self.new result }
+        ensures written { (m₀ m : Queue) (k₀ k : List Entry) → Works (shown S.Store self.old) false m₀ k₀ m k → Serves (shown S.Store self.new) → IsOpenGrant grant.now → IsCalled grant.now.job dial.now m → calls ≡ calls_to dial.now m + 1 → Moves (shown S.Store self.new) result m₀ k₀ (with_placed grant.now m) k }
+        ensures cause { IsOnlyUnavailable (shown S.Store self.old) false (shown S.Store self.new) result (λ m k. IsOpenGrant grant.now × IsNewGrant grant.now m) }
     {
         self.insert(
             INSERT_HOLD,
@@ -204,17 +132,11 @@ impl<S: Alter> Store<S> {
     }
 
     fn insert_grant(&mut self, grant: &Grant) -> Result<(), StoreFault>
-        ensures served { Serves (state S.Store self.new.conn) → Serves (state S.Store self.old.conn) }
-        ensures clean { HasCleanDisk (state S.Store self.new.conn) → HasCleanDisk (state S.Store self.old.conn) }
-        ensures holds { Holds (state S.Store self.old.conn) false (state S.Store self.new.conn) (is_err result) }
-        ensures crash { Withholds (state S.Store self.old.conn) false (state S.Store self.new.conn) (is_err result) }
-        ensures written { (m₀ m : Queue) (k₀ k : List Entry) → Works (state S.Store self.old.conn) false m₀ k₀ m k
-            → Serves (state S.Store self.new.conn) → IsOpenGrant grant.now
-            → Moves (state S.Store self.new.conn) result m₀ k₀ (with_placed grant.now m) k }
-        ensures cause { IsOnlyUnavailable (state S.Store self.old.conn) false (state S.Store self.new.conn) result
-            (λ m k. IsOpenGrant grant.now × IsNewGrant grant.now m × HasJob m grant.now) }
+        ensures leaves { Runs S.Store self.old self.new result }
+        ensures written { (m₀ m : Queue) (k₀ k : List Entry) → Works (shown S.Store self.old) false m₀ k₀ m k → Serves (shown S.Store self.new) → IsOpenGrant grant.now → Moves (shown S.Store self.new) result m₀ k₀ (with_placed grant.now m) k }
+        ensures cause { IsOnlyUnavailable (shown S.Store self.old) false (shown S.Store self.new) result (λ m k. IsOpenGrant grant.now × IsNewGrant grant.now m × HasJob m grant.now) }
     {
-        let Some(job) = self.read_job(grant.job)? else {
+        let Some(job) = self.job(grant.job)? else {
             return Err(StoreFault::Strange);
         };
         let calls = self.read_calls(&job.fields().dial)?;
@@ -225,20 +147,14 @@ impl<S: Alter> Store<S> {
     }
 
     fn add_grant(&mut self, grant: &Grant) -> Result<(), StoreFault>
-        ensures served { Serves (state S.Store self.new.conn) → Serves (state S.Store self.old.conn) }
-        ensures clean { HasCleanDisk (state S.Store self.new.conn) → HasCleanDisk (state S.Store self.old.conn) }
-        ensures holds { Holds (state S.Store self.old.conn) false (state S.Store self.new.conn) (is_err result) }
-        ensures crash { Withholds (state S.Store self.old.conn) false (state S.Store self.new.conn) (is_err result) }
-        ensures written { (m₀ m : Queue) (k₀ k : List Entry) → Works (state S.Store self.old.conn) false m₀ k₀ m k
-            → Serves (state S.Store self.new.conn)
-            → Moves (state S.Store self.new.conn) result m₀ k₀ (with_one_more_grant grant.now m) k }
-        ensures cause { IsOnlyUnavailable (state S.Store self.old.conn) false (state S.Store self.new.conn) result
-            (λ m k. IsOpenGrant grant.now × IsNewGrant grant.now m × HasJob m grant.now × m.next_grant < 1000000000) }
+        ensures leaves { Runs S.Store self.old self.new result }
+        ensures written { (m₀ m : Queue) (k₀ k : List Entry) → Works (shown S.Store self.old) false m₀ k₀ m k → Serves (shown S.Store self.new) → Moves (shown S.Store self.new) result m₀ k₀ (with_one_more_grant grant.now m) k }
+        ensures cause { IsOnlyUnavailable (shown S.Store self.old) false (shown S.Store self.new) result (λ m k. IsOpenGrant grant.now × IsNewGrant grant.now m × HasJob m grant.now × m.next_grant < 1000000000) }
     {
         if !is_open_grant(grant) {
             return Err(StoreFault::Strange);
         }
-        let meta = self.read_meta()?;
+        let meta = self.meta()?;
         if meta.next_grant >= PAST_GRANTS {
             return Err(StoreFault::Strange);
         }
@@ -250,13 +166,8 @@ impl<S: Alter> Store<S> {
     }
 
     fn write_report(&mut self, grant: &Grant) -> Result<(), StoreFault>
-        ensures served { Serves (state S.Store self.new.conn) → Serves (state S.Store self.old.conn) }
-        ensures clean { HasCleanDisk (state S.Store self.new.conn) → HasCleanDisk (state S.Store self.old.conn) }
-        ensures holds { Holds (state S.Store self.old.conn) false (state S.Store self.new.conn) (is_err result) }
-        ensures crash { Withholds (state S.Store self.old.conn) false (state S.Store self.new.conn) (is_err result) }
-        ensures written { (m₀ m : Queue) (k₀ k : List Entry) → IsReport grant.now m
-            → Works (state S.Store self.old.conn) false m₀ k₀ m k → Serves (state S.Store self.new.conn)
-            → Moves (state S.Store self.new.conn) result m₀ k₀ (with_grant grant.now m) k }
+        ensures leaves { Runs S.Store self.old self.new result }
+        ensures written { (m₀ m : Queue) (k₀ k : List Entry) → IsReport grant.now m → Works (shown S.Store self.old) false m₀ k₀ m k → Serves (shown S.Store self.new) → Moves (shown S.Store self.new) result m₀ k₀ (with_grant grant.now m) k }
         ensures cause { grant.now.confirmed ≤ most_pages → IfErr result (λ fault. fault ≡ StoreFault.Unavailable) }
     {
         if grant.confirmed > MOST_PAGES {
@@ -274,13 +185,8 @@ impl<S: Alter> Store<S> {
 
     /// Closes an open grant of a job to this number, which has so many calls without it.
     fn close_open(&mut self, number: u32, dial: &Dial, calls: u32) -> Result<(), StoreFault>
-        ensures served { Serves (state S.Store self.new.conn) → Serves (state S.Store self.old.conn) }
-        ensures clean { HasCleanDisk (state S.Store self.new.conn) → HasCleanDisk (state S.Store self.old.conn) }
-        ensures holds { Holds (state S.Store self.old.conn) false (state S.Store self.new.conn) (is_err result) }
-        ensures crash { Withholds (state S.Store self.old.conn) false (state S.Store self.new.conn) (is_err result) }
-        ensures written { (m₀ m : Queue) (k₀ k : List Entry) → Works (state S.Store self.old.conn) false m₀ k₀ m k
-            → Serves (state S.Store self.new.conn) → IsHeld number dial.now m → calls ≡ calls_to dial.now m - 1
-            → Moves (state S.Store self.new.conn) result m₀ k₀ (with_closed number m) k }
+        ensures leaves { Runs S.Store self.old self.new result }
+        ensures written { (m₀ m : Queue) (k₀ k : List Entry) → Works (shown S.Store self.old) false m₀ k₀ m k → Serves (shown S.Store self.new) → IsHeld number dial.now m → calls ≡ calls_to dial.now m - 1 → Moves (shown S.Store self.new) result m₀ k₀ (with_closed number m) k }
         ensures cause { IfErr result (λ fault. fault ≡ StoreFault.Unavailable) }
     {
         self.run(SHUT_GRANT, params![number])?;
@@ -289,15 +195,10 @@ impl<S: Alter> Store<S> {
     }
 
     fn shut_grant(&mut self, number: u32) -> Result<(), StoreFault>
-        ensures served { Serves (state S.Store self.new.conn) → Serves (state S.Store self.old.conn) }
-        ensures clean { HasCleanDisk (state S.Store self.new.conn) → HasCleanDisk (state S.Store self.old.conn) }
-        ensures holds { Holds (state S.Store self.old.conn) false (state S.Store self.new.conn) (is_err result) }
-        ensures crash { Withholds (state S.Store self.old.conn) false (state S.Store self.new.conn) (is_err result) }
-        ensures written { (m₀ m : Queue) (k₀ k : List Entry) → Works (state S.Store self.old.conn) false m₀ k₀ m k
-            → Serves (state S.Store self.new.conn)
-            → Steps (state S.Store self.new.conn) result m₀ k₀ (with_closed number m) k }
+        ensures leaves { Runs S.Store self.old self.new result }
+        ensures written { (m₀ m : Queue) (k₀ k : List Entry) → Works (shown S.Store self.old) false m₀ k₀ m k → Serves (shown S.Store self.new) → Steps (shown S.Store self.new) result m₀ k₀ (with_closed number m) k }
     {
-        let Some(grant) = self.read_grant(number)? else {
+        let Some(grant) = self.grant(number)? else {
             return Ok(());
         };
         if !grant.is_open {
@@ -308,15 +209,10 @@ impl<S: Alter> Store<S> {
 
     /// Closes an open grant of the job of this number.
     fn end_call(&mut self, number: u32, job: u32) -> Result<(), StoreFault>
-        ensures served { Serves (state S.Store self.new.conn) → Serves (state S.Store self.old.conn) }
-        ensures clean { HasCleanDisk (state S.Store self.new.conn) → HasCleanDisk (state S.Store self.old.conn) }
-        ensures holds { Holds (state S.Store self.old.conn) false (state S.Store self.new.conn) (is_err result) }
-        ensures crash { Withholds (state S.Store self.old.conn) false (state S.Store self.new.conn) (is_err result) }
-        ensures written { (m₀ m : Queue) (k₀ k : List Entry) → Works (state S.Store self.old.conn) false m₀ k₀ m k
-            → Serves (state S.Store self.new.conn) → IsHeldBy number job m
-            → Steps (state S.Store self.new.conn) result m₀ k₀ (with_closed number m) k }
+        ensures leaves { Runs S.Store self.old self.new result }
+        ensures written { (m₀ m : Queue) (k₀ k : List Entry) → Works (shown S.Store self.old) false m₀ k₀ m k → Serves (shown S.Store self.new) → IsHeldBy number job m → Steps (shown S.Store self.new) result m₀ k₀ (with_closed number m) k }
     {
-        let Some(job) = self.read_job(job)? else {
+        let Some(job) = self.job(job)? else {
             return Err(StoreFault::Strange);
         };
         let calls = self.read_calls(&job.fields().dial)?;
@@ -331,25 +227,14 @@ impl<S: Alter> Work<'_, S> {
     ///
     /// `Unavailable`, or `Strange` where its row is no lawful record.
     pub fn hold_of(&mut self, modem: &str) -> Result<Option<Hold>, StoreFault>
-        ensures same_reference { self.new.store.ghost_name ≡ self.old.store.ghost_name }
-        ensures holds { Holds (state S.Store self.old.store.now.conn) self.old.failed
-            (state S.Store self.new.store.now.conn) self.new.failed }
-        ensures crash { Withholds (state S.Store self.old.store.now.conn) self.old.failed
-            (state S.Store self.new.store.now.conn) self.new.failed }
-        ensures keeps { Keeps (state S.Store self.old.store.now.conn) self.old.failed
-            (state S.Store self.new.store.now.conn) self.new.failed }
-        ensures found { AnswersIn (state S.Store self.old.store.now.conn) self.old.failed
-            (state S.Store self.new.store.now.conn) result
-            (λ m k found. found ≡ option_map as_hold (held_by modem.now m)) }
+        ensures leaves { Calls S.Store self.old self.new result }
+        ensures answers { Tells S.Store self.old self.new result (λ m k found. found ≡ option_map as_hold (held_by modem.now m)) }
         ensures lawful { IfOk result (λ found. IfSome found IsLawfulHold) }
-        ensures served { Serves (state S.Store self.new.store.now.conn) → Serves (state S.Store self.old.store.now.conn) }
-        ensures fails { self.new.failed ≡ is_err result }
-        ensures refused { IsTrue self.old.failed → result ≡ Err StoreFault.Unavailable }
     {
         if self.failed {
             return Err(StoreFault::Unavailable);
         }
-        let found = self.store.read_hold(modem);
+        let found = self.store.hold_of(modem);
         self.failed = found.is_err();
         found
     }
@@ -360,24 +245,14 @@ impl<S: Alter> Work<'_, S> {
     ///
     /// `Unavailable`, or `Strange` where its row is no lawful record.
     pub fn grant(&mut self, number: u32) -> Result<Option<Grant>, StoreFault>
-        ensures same_reference { self.new.store.ghost_name ≡ self.old.store.ghost_name }
-        ensures holds { Holds (state S.Store self.old.store.now.conn) self.old.failed
-            (state S.Store self.new.store.now.conn) self.new.failed }
-        ensures crash { Withholds (state S.Store self.old.store.now.conn) self.old.failed
-            (state S.Store self.new.store.now.conn) self.new.failed }
-        ensures keeps { Keeps (state S.Store self.old.store.now.conn) self.old.failed
-            (state S.Store self.new.store.now.conn) self.new.failed }
-        ensures found { AnswersIn (state S.Store self.old.store.now.conn) self.old.failed
-            (state S.Store self.new.store.now.conn) result (λ m k found. found ≡ grant_numbered number m) }
+        ensures leaves { Calls S.Store self.old self.new result }
+        ensures answers { Tells S.Store self.old self.new result (λ m k found. found ≡ grant_numbered number m) }
         ensures lawful { IfOk result (λ found. IfSome found IsWithinLimits) }
-        ensures served { Serves (state S.Store self.new.store.now.conn) → Serves (state S.Store self.old.store.now.conn) }
-        ensures fails { self.new.failed ≡ is_err result }
-        ensures refused { IsTrue self.old.failed → result ≡ Err StoreFault.Unavailable }
     {
         if self.failed {
             return Err(StoreFault::Unavailable);
         }
-        let found = self.store.read_grant(number);
+        let found = self.store.grant(number);
         self.failed = found.is_err();
         found
     }
@@ -388,23 +263,13 @@ impl<S: Alter> Work<'_, S> {
     ///
     /// `Unavailable`, or `Strange` where its row is no lawful record.
     pub fn active_to(&mut self, dial: &Dial) -> Result<u64, StoreFault>
-        ensures same_reference { self.new.store.ghost_name ≡ self.old.store.ghost_name }
-        ensures holds { Holds (state S.Store self.old.store.now.conn) self.old.failed
-            (state S.Store self.new.store.now.conn) self.new.failed }
-        ensures crash { Withholds (state S.Store self.old.store.now.conn) self.old.failed
-            (state S.Store self.new.store.now.conn) self.new.failed }
-        ensures keeps { Keeps (state S.Store self.old.store.now.conn) self.old.failed
-            (state S.Store self.new.store.now.conn) self.new.failed }
-        ensures found { AnswersIn (state S.Store self.old.store.now.conn) self.old.failed
-            (state S.Store self.new.store.now.conn) result (λ m k calls. calls ≡ calls_to dial.now m) }
-        ensures served { Serves (state S.Store self.new.store.now.conn) → Serves (state S.Store self.old.store.now.conn) }
-        ensures fails { self.new.failed ≡ is_err result }
-        ensures refused { IsTrue self.old.failed → result ≡ Err StoreFault.Unavailable }
+        ensures leaves { Calls S.Store self.old self.new result }
+        ensures answers { Tells S.Store self.old self.new result (λ m k calls. calls ≡ calls_to dial.now m) }
     {
         if self.failed {
             return Err(StoreFault::Unavailable);
         }
-        let found = self.store.count_calls(dial);
+        let found = self.store.active_to(dial);
         self.failed = found.is_err();
         found
     }
@@ -418,20 +283,9 @@ impl<S: Alter> Work<'_, S> {
     /// job isn't there, the grant is not open, its numbers are past their limits or no next number is
     /// left.
     pub fn put_grant(&mut self, grant: &Grant) -> Result<(), StoreFault>
-        ensures same_reference { self.new.store.ghost_name ≡ self.old.store.ghost_name }
-        ensures holds { Holds (state S.Store self.old.store.now.conn) self.old.failed
-            (state S.Store self.new.store.now.conn) self.new.failed }
-        ensures crash { Withholds (state S.Store self.old.store.now.conn) self.old.failed
-            (state S.Store self.new.store.now.conn) self.new.failed }
-        ensures changes { Changes (state S.Store self.old.store.now.conn) self.old.failed
-            (state S.Store self.new.store.now.conn) self.new.failed (with_one_more_grant grant.now) (λ k. k) }
-        ensures cause { IsOnlyUnavailable (state S.Store self.old.store.now.conn) self.old.failed
-            (state S.Store self.new.store.now.conn) result
-            (λ m k. IsOpenGrant grant.now × IsNewGrant grant.now m × HasJob m grant.now × m.next_grant < 1000000000) }
-        ensures served { Serves (state S.Store self.new.store.now.conn) → Serves (state S.Store self.old.store.now.conn) }
-        ensures clean { HasCleanDisk (state S.Store self.new.store.now.conn) → HasCleanDisk (state S.Store self.old.store.now.conn) }
-        ensures fails { self.new.failed ≡ is_err result }
-        ensures refused { IsTrue self.old.failed → result ≡ Err StoreFault.Unavailable }
+        ensures leaves { Calls S.Store self.old self.new result }
+        ensures changes { Makes S.Store self.old self.new (with_one_more_grant grant.now) (λ k. k) }
+        ensures cause { FailsOnly S.Store self.old self.new result (λ m k. IsOpenGrant grant.now × IsNewGrant grant.now m × HasJob m grant.now × m.next_grant < 1000000000) }
     {
         if self.failed {
             return Err(StoreFault::Unavailable);
@@ -448,18 +302,9 @@ impl<S: Alter> Work<'_, S> {
     ///
     /// `Unavailable`, or `Strange` where more pages are confirmed than a grant can have.
     pub fn put_report(&mut self, grant: &Grant) -> Result<(), StoreFault>
-        ensures same_reference { self.new.store.ghost_name ≡ self.old.store.ghost_name }
-        ensures holds { Holds (state S.Store self.old.store.now.conn) self.old.failed
-            (state S.Store self.new.store.now.conn) self.new.failed }
-        ensures crash { Withholds (state S.Store self.old.store.now.conn) self.old.failed
-            (state S.Store self.new.store.now.conn) self.new.failed }
-        ensures changes { ChangesWhere (IsReport grant.now) (state S.Store self.old.store.now.conn) self.old.failed
-            (state S.Store self.new.store.now.conn) self.new.failed (with_grant grant.now) (λ k. k) }
+        ensures leaves { Calls S.Store self.old self.new result }
+        ensures changes { MakesWhere S.Store self.old self.new (IsReport grant.now) (with_grant grant.now) (λ k. k) }
         ensures cause { grant.now.confirmed ≤ most_pages → IfErr result (λ fault. fault ≡ StoreFault.Unavailable) }
-        ensures served { Serves (state S.Store self.new.store.now.conn) → Serves (state S.Store self.old.store.now.conn) }
-        ensures clean { HasCleanDisk (state S.Store self.new.store.now.conn) → HasCleanDisk (state S.Store self.old.store.now.conn) }
-        ensures fails { self.new.failed ≡ is_err result }
-        ensures refused { IsTrue self.old.failed → result ≡ Err StoreFault.Unavailable }
     {
         if self.failed {
             return Err(StoreFault::Unavailable);
@@ -476,19 +321,9 @@ impl<S: Alter> Work<'_, S> {
     ///
     /// `Unavailable`, or `Strange` where its row or that of its job is no lawful record.
     pub fn close_grant(&mut self, number: u32) -> Result<(), StoreFault>
-        ensures same_reference { self.new.store.ghost_name ≡ self.old.store.ghost_name }
-        ensures holds { Holds (state S.Store self.old.store.now.conn) self.old.failed
-            (state S.Store self.new.store.now.conn) self.new.failed }
-        ensures crash { Withholds (state S.Store self.old.store.now.conn) self.old.failed
-            (state S.Store self.new.store.now.conn) self.new.failed }
-        ensures changes { Changes (state S.Store self.old.store.now.conn) self.old.failed
-            (state S.Store self.new.store.now.conn) self.new.failed (with_closed number) (λ k. k) }
-        ensures cause { IsOnlyUnavailable (state S.Store self.old.store.now.conn) self.old.failed
-            (state S.Store self.new.store.now.conn) result (λ m k. ⊤) }
-        ensures served { Serves (state S.Store self.new.store.now.conn) → Serves (state S.Store self.old.store.now.conn) }
-        ensures clean { HasCleanDisk (state S.Store self.new.store.now.conn) → HasCleanDisk (state S.Store self.old.store.now.conn) }
-        ensures fails { self.new.failed ≡ is_err result }
-        ensures refused { IsTrue self.old.failed → result ≡ Err StoreFault.Unavailable }
+        ensures leaves { Calls S.Store self.old self.new result }
+        ensures changes { Makes S.Store self.old self.new (with_closed number) (λ k. k) }
+        ensures cause { FailsOnly S.Store self.old self.new result (λ m k. ⊤) }
     {
         if self.failed {
             return Err(StoreFault::Unavailable);

@@ -1,16 +1,14 @@
 //! The jobs.
 
-ghost use Rattle.std.specs.Prelude.{◌≡◌, ◌<◌, List, map, false, Err, IfErr, is_err, IsTrue, OnOk};
+ghost use Rattle.std.specs.Prelude.{◌≡◌, ◌<◌, List, map, false, Err, IfErr, is_err};
 ghost use Rattle.std.specs.Option.{option_map};
-ghost use Rattle.sqlite.specs.Held.{state};
-ghost use Rattle.sqlite.specs.State.{HasCleanDisk};
 ghost use Rattle.fax_core.specs.Job.{job_of, fields_of};
 ghost use Rattle.fax_core.specs.Queue.{Queue, Entry, job_numbered};
+ghost use Rattle.fax_store.specs.Calls.{Answers, Calls, FailsOnly, Finds, Makes, MakesWhere, Runs, Tells, shown};
 ghost use Rattle.fax_store.specs.Job.{IsChange, IsNewJob, IsWaiting, with_change, with_placed, with_one_more_job, with_expired, with_expired_in};
 ghost use Rattle.fax_store.specs.Meta.{with_clock};
-ghost use Rattle.fax_store.specs.Store.{CommitsNothing, Serves, Means, MeansNow, HasTables, Reads, Stays};
-ghost use Rattle.fax_store.specs.Work.{Holds, Works, Keeps, Changes, ChangesWhere, AnswersIn, IsOnlyUnavailable, Moves, Steps, Withholds};
-ghost use Rattle.fax_tables.specs.Fault.{OrUnavailable};
+ghost use Rattle.fax_store.specs.Store.{Serves};
+ghost use Rattle.fax_store.specs.Work.{Works, IsOnlyUnavailable, Moves, Steps};
 ghost use Rattle.fax_tables.specs.Job.{brief};
 ghost use Rattle.fax_tables.specs.Meta.{meta_of};
 
@@ -34,26 +32,8 @@ impl<S: Alter> Store<S> {
     ///
     /// `Unavailable`, or `Strange` where its row is no lawful record.
     pub fn job(&mut self, job: u32) -> Result<Option<Job>, StoreFault>
-        ensures served { Serves (state S.Store self.new.conn) → Serves (state S.Store self.old.conn) }
-        ensures clean { HasCleanDisk (state S.Store self.new.conn) → HasCleanDisk (state S.Store self.old.conn) }
-        ensures opens { OnOk result (HasCleanDisk (state S.Store self.new.conn) → Serves (state S.Store self.new.conn)) }
-        ensures stays { Stays (state S.Store self.old.conn) (state S.Store self.new.conn) }
-        ensures crash { CommitsNothing (state S.Store self.old.conn) (state S.Store self.new.conn) }
-        ensures found { (m : Queue) (k : List Entry) → Means (state S.Store self.old.conn) m k
-            → Serves (state S.Store self.new.conn) → OrUnavailable result (λ found. found ≡ option_map fields_of (job_numbered job m)) }
-    {
-        self.read_job(job)
-    }
-
-    pub(crate) fn read_job(&mut self, job: u32) -> Result<Option<Job>, StoreFault>
-        ensures served { Serves (state S.Store self.new.conn) → Serves (state S.Store self.old.conn) }
-        ensures clean { HasCleanDisk (state S.Store self.new.conn) → HasCleanDisk (state S.Store self.old.conn) }
-        ensures opens { OnOk result (HasCleanDisk (state S.Store self.new.conn) → Serves (state S.Store self.new.conn)) }
-        ensures reads { HasTables (state S.Store self.old.conn) → HasCleanDisk (state S.Store self.new.conn)
-            → Reads (state S.Store self.old.conn) (state S.Store self.new.conn) result }
-        ensures crash { CommitsNothing (state S.Store self.old.conn) (state S.Store self.new.conn) }
-        ensures answers { (m : Queue) (k : List Entry) → MeansNow (state S.Store self.old.conn) m k
-            → Serves (state S.Store self.new.conn) → OrUnavailable result (λ found. found ≡ option_map fields_of (job_numbered job m)) }
+        ensures leaves { Finds S.Store self.old self.new result }
+        ensures answers { Answers S.Store self.old self.new result (λ m k found. found ≡ option_map fields_of (job_numbered job m)) }
     {
         match self.find(SELECT_JOB, params![job])? {
             Some(row) => Ok(Some(job_in(self.alloc, &row)?)),
@@ -67,28 +47,8 @@ impl<S: Alter> Store<S> {
     ///
     /// `Unavailable`, or `Strange` where the rest of its row is no part of a lawful record.
     pub fn brief(&mut self, job: u32) -> Result<Option<Job>, StoreFault>
-        ensures served { Serves (state S.Store self.new.conn) → Serves (state S.Store self.old.conn) }
-        ensures clean { HasCleanDisk (state S.Store self.new.conn) → HasCleanDisk (state S.Store self.old.conn) }
-        ensures opens { OnOk result (HasCleanDisk (state S.Store self.new.conn) → Serves (state S.Store self.new.conn)) }
-        ensures stays { Stays (state S.Store self.old.conn) (state S.Store self.new.conn) }
-        ensures crash { CommitsNothing (state S.Store self.old.conn) (state S.Store self.new.conn) }
-        ensures found { (m : Queue) (k : List Entry) → Means (state S.Store self.old.conn) m k
-            → Serves (state S.Store self.new.conn)
-            → OrUnavailable result (λ found. found ≡ option_map (λ j. brief (fields_of j)) (job_numbered job m)) }
-    {
-        self.read_brief(job)
-    }
-
-    fn read_brief(&mut self, job: u32) -> Result<Option<Job>, StoreFault>
-        ensures served { Serves (state S.Store self.new.conn) → Serves (state S.Store self.old.conn) }
-        ensures clean { HasCleanDisk (state S.Store self.new.conn) → HasCleanDisk (state S.Store self.old.conn) }
-        ensures opens { OnOk result (HasCleanDisk (state S.Store self.new.conn) → Serves (state S.Store self.new.conn)) }
-        ensures reads { HasTables (state S.Store self.old.conn) → HasCleanDisk (state S.Store self.new.conn)
-            → Reads (state S.Store self.old.conn) (state S.Store self.new.conn) result }
-        ensures crash { CommitsNothing (state S.Store self.old.conn) (state S.Store self.new.conn) }
-        ensures answers { (m : Queue) (k : List Entry) → MeansNow (state S.Store self.old.conn) m k
-            → Serves (state S.Store self.new.conn)
-            → OrUnavailable result (λ found. found ≡ option_map (λ j. brief (fields_of j)) (job_numbered job m)) }
+        ensures leaves { Finds S.Store self.old self.new result }
+        ensures answers { Answers S.Store self.old self.new result (λ m k found. found ≡ option_map (λ j. brief (fields_of j)) (job_numbered job m)) }
     {
         match self.find(SELECT_BRIEF, params![job])? {
             Some(row) => Ok(Some(brief_in(self.alloc, &row)?)),
@@ -103,26 +63,8 @@ impl<S: Alter> Store<S> {
     ///
     /// `Unavailable`, or `Strange` where the row of one is no lawful record.
     pub fn waiting(&mut self, t: Moment) -> Result<Vec<Job>, StoreFault>
-        ensures served { Serves (state S.Store self.new.conn) → Serves (state S.Store self.old.conn) }
-        ensures clean { HasCleanDisk (state S.Store self.new.conn) → HasCleanDisk (state S.Store self.old.conn) }
-        ensures opens { OnOk result (HasCleanDisk (state S.Store self.new.conn) → Serves (state S.Store self.new.conn)) }
-        ensures stays { Stays (state S.Store self.old.conn) (state S.Store self.new.conn) }
-        ensures crash { CommitsNothing (state S.Store self.old.conn) (state S.Store self.new.conn) }
-        ensures found { (m : Queue) (k : List Entry) → Means (state S.Store self.old.conn) m k
-            → Serves (state S.Store self.new.conn) → OrUnavailable result (λ found. IsWaiting t m found.items) }
-    {
-        self.read_waiting(t)
-    }
-
-    fn read_waiting(&mut self, t: Moment) -> Result<Vec<Job>, StoreFault>
-        ensures served { Serves (state S.Store self.new.conn) → Serves (state S.Store self.old.conn) }
-        ensures clean { HasCleanDisk (state S.Store self.new.conn) → HasCleanDisk (state S.Store self.old.conn) }
-        ensures opens { OnOk result (HasCleanDisk (state S.Store self.new.conn) → Serves (state S.Store self.new.conn)) }
-        ensures reads { HasTables (state S.Store self.old.conn) → HasCleanDisk (state S.Store self.new.conn)
-            → Reads (state S.Store self.old.conn) (state S.Store self.new.conn) result }
-        ensures crash { CommitsNothing (state S.Store self.old.conn) (state S.Store self.new.conn) }
-        ensures answers { (m : Queue) (k : List Entry) → MeansNow (state S.Store self.old.conn) m k
-            → Serves (state S.Store self.new.conn) → OrUnavailable result (λ found. IsWaiting t m found.items) }
+        ensures leaves { Finds S.Store self.old self.new result }
+        ensures answers { Answers S.Store self.old self.new result (λ m k found. IsWaiting t m found.items) }
     {
         let rows = self.show(SELECT_WAITING, params![t.seconds()])?;
         jobs_in(self.alloc, rows.as_slice())
@@ -134,26 +76,8 @@ impl<S: Alter> Store<S> {
     ///
     /// `Unavailable`, or `Strange` where the row of one is no lawful record.
     pub fn jobs(&mut self) -> Result<Vec<Job>, StoreFault>
-        ensures served { Serves (state S.Store self.new.conn) → Serves (state S.Store self.old.conn) }
-        ensures clean { HasCleanDisk (state S.Store self.new.conn) → HasCleanDisk (state S.Store self.old.conn) }
-        ensures opens { OnOk result (HasCleanDisk (state S.Store self.new.conn) → Serves (state S.Store self.new.conn)) }
-        ensures stays { Stays (state S.Store self.old.conn) (state S.Store self.new.conn) }
-        ensures crash { CommitsNothing (state S.Store self.old.conn) (state S.Store self.new.conn) }
-        ensures found { (m : Queue) (k : List Entry) → Means (state S.Store self.old.conn) m k
-            → Serves (state S.Store self.new.conn) → OrUnavailable result (λ found. found.items ≡ map fields_of m.jobs) }
-    {
-        self.read_jobs()
-    }
-
-    fn read_jobs(&mut self) -> Result<Vec<Job>, StoreFault>
-        ensures served { Serves (state S.Store self.new.conn) → Serves (state S.Store self.old.conn) }
-        ensures clean { HasCleanDisk (state S.Store self.new.conn) → HasCleanDisk (state S.Store self.old.conn) }
-        ensures opens { OnOk result (HasCleanDisk (state S.Store self.new.conn) → Serves (state S.Store self.new.conn)) }
-        ensures reads { HasTables (state S.Store self.old.conn) → HasCleanDisk (state S.Store self.new.conn)
-            → Reads (state S.Store self.old.conn) (state S.Store self.new.conn) result }
-        ensures crash { CommitsNothing (state S.Store self.old.conn) (state S.Store self.new.conn) }
-        ensures answers { (m : Queue) (k : List Entry) → MeansNow (state S.Store self.old.conn) m k
-            → Serves (state S.Store self.new.conn) → OrUnavailable result (λ found. found.items ≡ map fields_of m.jobs) }
+        ensures leaves { Finds S.Store self.old self.new result }
+        ensures answers { Answers S.Store self.old self.new result (λ m k found. found.items ≡ map fields_of m.jobs) }
     {
         let shown = self.show(SELECT_JOBS, &[])?;
         jobs_in(self.alloc, shown.as_slice())
@@ -165,43 +89,17 @@ impl<S: Alter> Store<S> {
     ///
     /// `Unavailable`, or `Strange` where the rest of a row is no part of a lawful record.
     pub fn briefs(&mut self) -> Result<Vec<Job>, StoreFault>
-        ensures served { Serves (state S.Store self.new.conn) → Serves (state S.Store self.old.conn) }
-        ensures clean { HasCleanDisk (state S.Store self.new.conn) → HasCleanDisk (state S.Store self.old.conn) }
-        ensures opens { OnOk result (HasCleanDisk (state S.Store self.new.conn) → Serves (state S.Store self.new.conn)) }
-        ensures stays { Stays (state S.Store self.old.conn) (state S.Store self.new.conn) }
-        ensures crash { CommitsNothing (state S.Store self.old.conn) (state S.Store self.new.conn) }
-        ensures found { (m : Queue) (k : List Entry) → Means (state S.Store self.old.conn) m k
-            → Serves (state S.Store self.new.conn)
-            → OrUnavailable result (λ found. found.items ≡ map (λ j. brief (fields_of j)) m.jobs) }
-    {
-        self.read_briefs()
-    }
-
-    fn read_briefs(&mut self) -> Result<Vec<Job>, StoreFault>
-        ensures served { Serves (state S.Store self.new.conn) → Serves (state S.Store self.old.conn) }
-        ensures clean { HasCleanDisk (state S.Store self.new.conn) → HasCleanDisk (state S.Store self.old.conn) }
-        ensures opens { OnOk result (HasCleanDisk (state S.Store self.new.conn) → Serves (state S.Store self.new.conn)) }
-        ensures reads { HasTables (state S.Store self.old.conn) → HasCleanDisk (state S.Store self.new.conn)
-            → Reads (state S.Store self.old.conn) (state S.Store self.new.conn) result }
-        ensures crash { CommitsNothing (state S.Store self.old.conn) (state S.Store self.new.conn) }
-        ensures answers { (m : Queue) (k : List Entry) → MeansNow (state S.Store self.old.conn) m k
-            → Serves (state S.Store self.new.conn)
-            → OrUnavailable result (λ found. found.items ≡ map (λ j. brief (fields_of j)) m.jobs) }
+        ensures leaves { Finds S.Store self.old self.new result }
+        ensures answers { Answers S.Store self.old self.new result (λ m k found. found.items ≡ map (λ j. brief (fields_of j)) m.jobs) }
     {
         let shown = self.show(SELECT_BRIEFS, &[])?;
         briefs_in(self.alloc, shown.as_slice())
     }
 
     fn insert_job(&mut self, job: &Job) -> Result<(), StoreFault>
-        ensures served { Serves (state S.Store self.new.conn) → Serves (state S.Store self.old.conn) }
-        ensures clean { HasCleanDisk (state S.Store self.new.conn) → HasCleanDisk (state S.Store self.old.conn) }
-        ensures holds { Holds (state S.Store self.old.conn) false (state S.Store self.new.conn) (is_err result) }
-        ensures crash { Withholds (state S.Store self.old.conn) false (state S.Store self.new.conn) (is_err result) }
-        ensures written { (m₀ m : Queue) (k₀ k : List Entry) → Works (state S.Store self.old.conn) false m₀ k₀ m k
-            → Serves (state S.Store self.new.conn)
-            → Moves (state S.Store self.new.conn) result m₀ k₀ (with_placed (job_of job.now) m) k }
-        ensures cause { IsOnlyUnavailable (state S.Store self.old.conn) false (state S.Store self.new.conn) result
-            (λ m k. IsNewJob (job_of job.now) m) }
+        ensures leaves { Runs S.Store self.old self.new result }
+        ensures written { (m₀ m : Queue) (k₀ k : List Entry) → Works (shown S.Store self.old) false m₀ k₀ m k → Serves (shown S.Store self.new) → Moves (shown S.Store self.new) result m₀ k₀ (with_placed (job_of job.now) m) k }
+        ensures cause { IsOnlyUnavailable (shown S.Store self.old) false (shown S.Store self.new) result (λ m k. IsNewJob (job_of job.now) m) }
     {
         let job = job.fields();
         let extra = spelling(self.alloc, &job.extra)?;
@@ -233,13 +131,8 @@ impl<S: Alter> Store<S> {
     }
 
     fn write_change(&mut self, job: &Job) -> Result<(), StoreFault>
-        ensures served { Serves (state S.Store self.new.conn) → Serves (state S.Store self.old.conn) }
-        ensures clean { HasCleanDisk (state S.Store self.new.conn) → HasCleanDisk (state S.Store self.old.conn) }
-        ensures holds { Holds (state S.Store self.old.conn) false (state S.Store self.new.conn) (is_err result) }
-        ensures crash { Withholds (state S.Store self.old.conn) false (state S.Store self.new.conn) (is_err result) }
-        ensures written { (m₀ m : Queue) (k₀ k : List Entry) → IsChange (job_of job.now) m
-            → Works (state S.Store self.old.conn) false m₀ k₀ m k → Serves (state S.Store self.new.conn)
-            → Steps (state S.Store self.new.conn) result m₀ k₀ (with_change (job_of job.now) m) k }
+        ensures leaves { Runs S.Store self.old self.new result }
+        ensures written { (m₀ m : Queue) (k₀ k : List Entry) → IsChange (job_of job.now) m → Works (shown S.Store self.old) false m₀ k₀ m k → Serves (shown S.Store self.new) → Steps (shown S.Store self.new) result m₀ k₀ (with_change (job_of job.now) m) k }
         ensures cause { IfErr result (λ fault. fault ≡ StoreFault.Unavailable) }
     {
         let job = job.fields();
@@ -268,13 +161,8 @@ impl<S: Alter> Store<S> {
     }
 
     fn write_expired(&mut self, t: Moment) -> Result<(), StoreFault>
-        ensures served { Serves (state S.Store self.new.conn) → Serves (state S.Store self.old.conn) }
-        ensures clean { HasCleanDisk (state S.Store self.new.conn) → HasCleanDisk (state S.Store self.old.conn) }
-        ensures holds { Holds (state S.Store self.old.conn) false (state S.Store self.new.conn) (is_err result) }
-        ensures crash { Withholds (state S.Store self.old.conn) false (state S.Store self.new.conn) (is_err result) }
-        ensures written { (m₀ m : Queue) (k₀ k : List Entry) → Works (state S.Store self.old.conn) false m₀ k₀ m k
-            → Serves (state S.Store self.new.conn)
-            → Steps (state S.Store self.new.conn) result m₀ k₀ (with_expired t m) k }
+        ensures leaves { Runs S.Store self.old self.new result }
+        ensures written { (m₀ m : Queue) (k₀ k : List Entry) → Works (shown S.Store self.old) false m₀ k₀ m k → Serves (shown S.Store self.new) → Steps (shown S.Store self.new) result m₀ k₀ (with_expired t m) k }
         ensures cause { IfErr result (λ fault. fault ≡ StoreFault.Unavailable) }
     {
         self.expire_in(Phase::Held, t)?;
@@ -283,14 +171,8 @@ impl<S: Alter> Store<S> {
 
     /// Whether a job of this phase has a kill time from 1 to `t`. An index has the answer.
     fn has_expired(&mut self, phase: Phase, t: Moment) -> Result<bool, StoreFault>
-        ensures served { Serves (state S.Store self.new.conn) → Serves (state S.Store self.old.conn) }
-        ensures clean { HasCleanDisk (state S.Store self.new.conn) → HasCleanDisk (state S.Store self.old.conn) }
-        ensures reads { HasTables (state S.Store self.old.conn) → HasCleanDisk (state S.Store self.new.conn)
-            → Reads (state S.Store self.old.conn) (state S.Store self.new.conn) result }
-        ensures crash { CommitsNothing (state S.Store self.old.conn) (state S.Store self.new.conn) }
-        ensures answers { (m : Queue) (k : List Entry) → MeansNow (state S.Store self.old.conn) m k
-            → Serves (state S.Store self.new.conn)
-            → OrUnavailable result (λ found. found ≡ false → with_expired_in phase t m ≡ m) }
+        ensures leaves { Finds S.Store self.old self.new result }
+        ensures answers { Answers S.Store self.old self.new result (λ m k found. found ≡ false → with_expired_in phase t m ≡ m) }
         ensures cause { IfErr result (λ fault. fault ≡ StoreFault.Unavailable) }
     {
         let row = self.find(SELECT_EXPIRED, params![t.seconds(), phase_number(phase)])?;
@@ -300,13 +182,8 @@ impl<S: Alter> Store<S> {
     /// Lets each job of this phase fail whose kill time is from 1 to `t`. One phase at a time, since
     /// the index that finds them is by phase first. Where there is none, a question costs less than the change.
     fn expire_in(&mut self, phase: Phase, t: Moment) -> Result<(), StoreFault>
-        ensures served { Serves (state S.Store self.new.conn) → Serves (state S.Store self.old.conn) }
-        ensures clean { HasCleanDisk (state S.Store self.new.conn) → HasCleanDisk (state S.Store self.old.conn) }
-        ensures holds { Holds (state S.Store self.old.conn) false (state S.Store self.new.conn) (is_err result) }
-        ensures crash { Withholds (state S.Store self.old.conn) false (state S.Store self.new.conn) (is_err result) }
-        ensures written { (m₀ m : Queue) (k₀ k : List Entry) → Works (state S.Store self.old.conn) false m₀ k₀ m k
-            → Serves (state S.Store self.new.conn)
-            → Steps (state S.Store self.new.conn) result m₀ k₀ (with_expired_in phase t m) k }
+        ensures leaves { Runs S.Store self.old self.new result }
+        ensures written { (m₀ m : Queue) (k₀ k : List Entry) → Works (shown S.Store self.old) false m₀ k₀ m k → Serves (shown S.Store self.new) → Steps (shown S.Store self.new) result m₀ k₀ (with_expired_in phase t m) k }
         ensures cause { IfErr result (λ fault. fault ≡ StoreFault.Unavailable) }
     {
         if self.has_expired(phase, t)? {
@@ -316,30 +193,18 @@ impl<S: Alter> Store<S> {
     }
 
     fn add_job(&mut self, job: &Job) -> Result<(), StoreFault>
-        ensures served { Serves (state S.Store self.new.conn) → Serves (state S.Store self.old.conn) }
-        ensures clean { HasCleanDisk (state S.Store self.new.conn) → HasCleanDisk (state S.Store self.old.conn) }
-        ensures holds { Holds (state S.Store self.old.conn) false (state S.Store self.new.conn) (is_err result) }
-        ensures crash { Withholds (state S.Store self.old.conn) false (state S.Store self.new.conn) (is_err result) }
-        ensures written { (m₀ m : Queue) (k₀ k : List Entry) → Works (state S.Store self.old.conn) false m₀ k₀ m k
-            → Serves (state S.Store self.new.conn)
-            → Moves (state S.Store self.new.conn) result m₀ k₀ (with_one_more_job (job_of job.now) m) k }
-        ensures cause { IsOnlyUnavailable (state S.Store self.old.conn) false (state S.Store self.new.conn) result
-            (λ m k. IsNewJob (job_of job.now) m × m.next_job < 1000000) }
+        ensures leaves { Runs S.Store self.old self.new result }
+        ensures written { (m₀ m : Queue) (k₀ k : List Entry) → Works (shown S.Store self.old) false m₀ k₀ m k → Serves (shown S.Store self.new) → Moves (shown S.Store self.new) result m₀ k₀ (with_one_more_job (job_of job.now) m) k }
+        ensures cause { IsOnlyUnavailable (shown S.Store self.old) false (shown S.Store self.new) result (λ m k. IsNewJob (job_of job.now) m × m.next_job < 1000000) }
     {
-        let meta = self.read_meta()?;
+        let meta = self.meta()?;
         self.add_next_job(job, meta, meta.clock)
     }
 
     fn add_next_job(&mut self, job: &Job, meta: Meta, clock: Moment) -> Result<(), StoreFault>
-        ensures served { Serves (state S.Store self.new.conn) → Serves (state S.Store self.old.conn) }
-        ensures clean { HasCleanDisk (state S.Store self.new.conn) → HasCleanDisk (state S.Store self.old.conn) }
-        ensures holds { Holds (state S.Store self.old.conn) false (state S.Store self.new.conn) (is_err result) }
-        ensures crash { Withholds (state S.Store self.old.conn) false (state S.Store self.new.conn) (is_err result) }
-        ensures written { (m₀ m : Queue) (k₀ k : List Entry) → meta ≡ meta_of m
-            → Works (state S.Store self.old.conn) false m₀ k₀ m k → Serves (state S.Store self.new.conn)
-            → Moves (state S.Store self.new.conn) result m₀ k₀ (with_clock clock (with_one_more_job (job_of job.now) m)) k }
-        ensures cause { IsOnlyUnavailable (state S.Store self.old.conn) false (state S.Store self.new.conn) result
-            (λ m k. (meta ≡ meta_of m) × IsNewJob (job_of job.now) m × m.next_job < 1000000) }
+        ensures leaves { Runs S.Store self.old self.new result }
+        ensures written { (m₀ m : Queue) (k₀ k : List Entry) → meta ≡ meta_of m → Works (shown S.Store self.old) false m₀ k₀ m k → Serves (shown S.Store self.new) → Moves (shown S.Store self.new) result m₀ k₀ (with_clock clock (with_one_more_job (job_of job.now) m)) k }
+        ensures cause { IsOnlyUnavailable (shown S.Store self.old) false (shown S.Store self.new) result (λ m k. (meta ≡ meta_of m) × IsNewJob (job_of job.now) m × m.next_job < 1000000) }
     {
         if meta.next_job >= PAST_JOBS {
             return Err(StoreFault::Strange);
@@ -360,24 +225,13 @@ impl<S: Alter> Work<'_, S> {
     ///
     /// `Unavailable`, or `Strange` where its row is no lawful record.
     pub fn job(&mut self, job: u32) -> Result<Option<Job>, StoreFault>
-        ensures same_reference { self.new.store.ghost_name ≡ self.old.store.ghost_name }
-        ensures holds { Holds (state S.Store self.old.store.now.conn) self.old.failed
-            (state S.Store self.new.store.now.conn) self.new.failed }
-        ensures crash { Withholds (state S.Store self.old.store.now.conn) self.old.failed
-            (state S.Store self.new.store.now.conn) self.new.failed }
-        ensures keeps { Keeps (state S.Store self.old.store.now.conn) self.old.failed
-            (state S.Store self.new.store.now.conn) self.new.failed }
-        ensures found { AnswersIn (state S.Store self.old.store.now.conn) self.old.failed
-            (state S.Store self.new.store.now.conn) result
-            (λ m k found. found ≡ option_map fields_of (job_numbered job m)) }
-        ensures served { Serves (state S.Store self.new.store.now.conn) → Serves (state S.Store self.old.store.now.conn) }
-        ensures fails { self.new.failed ≡ is_err result }
-        ensures refused { IsTrue self.old.failed → result ≡ Err StoreFault.Unavailable }
+        ensures leaves { Calls S.Store self.old self.new result }
+        ensures answers { Tells S.Store self.old self.new result (λ m k found. found ≡ option_map fields_of (job_numbered job m)) }
     {
         if self.failed {
             return Err(StoreFault::Unavailable);
         }
-        let found = self.store.read_job(job);
+        let found = self.store.job(job);
         self.failed = found.is_err();
         found
     }
@@ -389,23 +243,13 @@ impl<S: Alter> Work<'_, S> {
     ///
     /// `Unavailable`, or `Strange` where the row of one is no lawful record.
     pub fn waiting(&mut self, t: Moment) -> Result<Vec<Job>, StoreFault>
-        ensures same_reference { self.new.store.ghost_name ≡ self.old.store.ghost_name }
-        ensures holds { Holds (state S.Store self.old.store.now.conn) self.old.failed
-            (state S.Store self.new.store.now.conn) self.new.failed }
-        ensures crash { Withholds (state S.Store self.old.store.now.conn) self.old.failed
-            (state S.Store self.new.store.now.conn) self.new.failed }
-        ensures keeps { Keeps (state S.Store self.old.store.now.conn) self.old.failed
-            (state S.Store self.new.store.now.conn) self.new.failed }
-        ensures found { AnswersIn (state S.Store self.old.store.now.conn) self.old.failed
-            (state S.Store self.new.store.now.conn) result (λ m k found. IsWaiting t m found.items) }
-        ensures served { Serves (state S.Store self.new.store.now.conn) → Serves (state S.Store self.old.store.now.conn) }
-        ensures fails { self.new.failed ≡ is_err result }
-        ensures refused { IsTrue self.old.failed → result ≡ Err StoreFault.Unavailable }
+        ensures leaves { Calls S.Store self.old self.new result }
+        ensures answers { Tells S.Store self.old self.new result (λ m k found. IsWaiting t m found.items) }
     {
         if self.failed {
             return Err(StoreFault::Unavailable);
         }
-        let found = self.store.read_waiting(t);
+        let found = self.store.waiting(t);
         self.failed = found.is_err();
         found
     }
@@ -416,23 +260,13 @@ impl<S: Alter> Work<'_, S> {
     ///
     /// `Unavailable`, or `Strange` where the row of one is no lawful record.
     pub fn jobs(&mut self) -> Result<Vec<Job>, StoreFault>
-        ensures same_reference { self.new.store.ghost_name ≡ self.old.store.ghost_name }
-        ensures holds { Holds (state S.Store self.old.store.now.conn) self.old.failed
-            (state S.Store self.new.store.now.conn) self.new.failed }
-        ensures crash { Withholds (state S.Store self.old.store.now.conn) self.old.failed
-            (state S.Store self.new.store.now.conn) self.new.failed }
-        ensures keeps { Keeps (state S.Store self.old.store.now.conn) self.old.failed
-            (state S.Store self.new.store.now.conn) self.new.failed }
-        ensures found { AnswersIn (state S.Store self.old.store.now.conn) self.old.failed
-            (state S.Store self.new.store.now.conn) result (λ m k found. found.items ≡ map fields_of m.jobs) }
-        ensures served { Serves (state S.Store self.new.store.now.conn) → Serves (state S.Store self.old.store.now.conn) }
-        ensures fails { self.new.failed ≡ is_err result }
-        ensures refused { IsTrue self.old.failed → result ≡ Err StoreFault.Unavailable }
+        ensures leaves { Calls S.Store self.old self.new result }
+        ensures answers { Tells S.Store self.old self.new result (λ m k found. found.items ≡ map fields_of m.jobs) }
     {
         if self.failed {
             return Err(StoreFault::Unavailable);
         }
-        let found = self.store.read_jobs();
+        let found = self.store.jobs();
         self.failed = found.is_err();
         found
     }
@@ -443,20 +277,9 @@ impl<S: Alter> Work<'_, S> {
     ///
     /// `Unavailable`, or `Strange` where a job has the number or no next number is left.
     pub fn put_job(&mut self, job: &Job) -> Result<(), StoreFault>
-        ensures same_reference { self.new.store.ghost_name ≡ self.old.store.ghost_name }
-        ensures holds { Holds (state S.Store self.old.store.now.conn) self.old.failed
-            (state S.Store self.new.store.now.conn) self.new.failed }
-        ensures crash { Withholds (state S.Store self.old.store.now.conn) self.old.failed
-            (state S.Store self.new.store.now.conn) self.new.failed }
-        ensures changes { Changes (state S.Store self.old.store.now.conn) self.old.failed
-            (state S.Store self.new.store.now.conn) self.new.failed (with_one_more_job (job_of job.now)) (λ k. k) }
-        ensures cause { IsOnlyUnavailable (state S.Store self.old.store.now.conn) self.old.failed
-            (state S.Store self.new.store.now.conn) result
-            (λ m k. IsNewJob (job_of job.now) m × m.next_job < 1000000) }
-        ensures served { Serves (state S.Store self.new.store.now.conn) → Serves (state S.Store self.old.store.now.conn) }
-        ensures clean { HasCleanDisk (state S.Store self.new.store.now.conn) → HasCleanDisk (state S.Store self.old.store.now.conn) }
-        ensures fails { self.new.failed ≡ is_err result }
-        ensures refused { IsTrue self.old.failed → result ≡ Err StoreFault.Unavailable }
+        ensures leaves { Calls S.Store self.old self.new result }
+        ensures changes { Makes S.Store self.old self.new (with_one_more_job (job_of job.now)) (λ k. k) }
+        ensures cause { FailsOnly S.Store self.old self.new result (λ m k. IsNewJob (job_of job.now) m × m.next_job < 1000000) }
     {
         if self.failed {
             return Err(StoreFault::Unavailable);
@@ -473,21 +296,9 @@ impl<S: Alter> Work<'_, S> {
     ///
     /// `Unavailable`, or `Strange` where a job has the number or no next number is left.
     pub fn put_next_job(&mut self, job: &Job, meta: Meta, clock: Moment) -> Result<(), StoreFault>
-        ensures same_reference { self.new.store.ghost_name ≡ self.old.store.ghost_name }
-        ensures holds { Holds (state S.Store self.old.store.now.conn) self.old.failed
-            (state S.Store self.new.store.now.conn) self.new.failed }
-        ensures crash { Withholds (state S.Store self.old.store.now.conn) self.old.failed
-            (state S.Store self.new.store.now.conn) self.new.failed }
-        ensures changes { ChangesWhere (λ m. meta ≡ meta_of m) (state S.Store self.old.store.now.conn) self.old.failed
-            (state S.Store self.new.store.now.conn) self.new.failed
-            (λ m. with_clock clock (with_one_more_job (job_of job.now) m)) (λ k. k) }
-        ensures cause { IsOnlyUnavailable (state S.Store self.old.store.now.conn) self.old.failed
-            (state S.Store self.new.store.now.conn) result
-            (λ m k. (meta ≡ meta_of m) × IsNewJob (job_of job.now) m × m.next_job < 1000000) }
-        ensures served { Serves (state S.Store self.new.store.now.conn) → Serves (state S.Store self.old.store.now.conn) }
-        ensures clean { HasCleanDisk (state S.Store self.new.store.now.conn) → HasCleanDisk (state S.Store self.old.store.now.conn) }
-        ensures fails { self.new.failed ≡ is_err result }
-        ensures refused { IsTrue self.old.failed → result ≡ Err StoreFault.Unavailable }
+        ensures leaves { Calls S.Store self.old self.new result }
+        ensures changes { MakesWhere S.Store self.old self.new (λ m. meta ≡ meta_of m) (λ m. with_clock clock (with_one_more_job (job_of job.now) m)) (λ k. k) }
+        ensures cause { FailsOnly S.Store self.old self.new result (λ m k. (meta ≡ meta_of m) × IsNewJob (job_of job.now) m × m.next_job < 1000000) }
     {
         if self.failed {
             return Err(StoreFault::Unavailable);
@@ -506,19 +317,9 @@ impl<S: Alter> Work<'_, S> {
     ///
     /// `Unavailable`.
     pub fn put_change(&mut self, job: &Job) -> Result<(), StoreFault>
-        ensures same_reference { self.new.store.ghost_name ≡ self.old.store.ghost_name }
-        ensures holds { Holds (state S.Store self.old.store.now.conn) self.old.failed
-            (state S.Store self.new.store.now.conn) self.new.failed }
-        ensures crash { Withholds (state S.Store self.old.store.now.conn) self.old.failed
-            (state S.Store self.new.store.now.conn) self.new.failed }
-        ensures changes { ChangesWhere (IsChange (job_of job.now)) (state S.Store self.old.store.now.conn)
-            self.old.failed (state S.Store self.new.store.now.conn) self.new.failed
-            (with_change (job_of job.now)) (λ k. k) }
+        ensures leaves { Calls S.Store self.old self.new result }
+        ensures changes { MakesWhere S.Store self.old self.new (IsChange (job_of job.now)) (with_change (job_of job.now)) (λ k. k) }
         ensures cause { IfErr result (λ fault. fault ≡ StoreFault.Unavailable) }
-        ensures served { Serves (state S.Store self.new.store.now.conn) → Serves (state S.Store self.old.store.now.conn) }
-        ensures clean { HasCleanDisk (state S.Store self.new.store.now.conn) → HasCleanDisk (state S.Store self.old.store.now.conn) }
-        ensures fails { self.new.failed ≡ is_err result }
-        ensures refused { IsTrue self.old.failed → result ≡ Err StoreFault.Unavailable }
     {
         if self.failed {
             return Err(StoreFault::Unavailable);
@@ -534,18 +335,9 @@ impl<S: Alter> Work<'_, S> {
     ///
     /// `Unavailable`.
     pub fn expire_all(&mut self, t: Moment) -> Result<(), StoreFault>
-        ensures same_reference { self.new.store.ghost_name ≡ self.old.store.ghost_name }
-        ensures holds { Holds (state S.Store self.old.store.now.conn) self.old.failed
-            (state S.Store self.new.store.now.conn) self.new.failed }
-        ensures crash { Withholds (state S.Store self.old.store.now.conn) self.old.failed
-            (state S.Store self.new.store.now.conn) self.new.failed }
-        ensures changes { Changes (state S.Store self.old.store.now.conn) self.old.failed
-            (state S.Store self.new.store.now.conn) self.new.failed (with_expired t) (λ k. k) }
+        ensures leaves { Calls S.Store self.old self.new result }
+        ensures changes { Makes S.Store self.old self.new (with_expired t) (λ k. k) }
         ensures cause { IfErr result (λ fault. fault ≡ StoreFault.Unavailable) }
-        ensures served { Serves (state S.Store self.new.store.now.conn) → Serves (state S.Store self.old.store.now.conn) }
-        ensures clean { HasCleanDisk (state S.Store self.new.store.now.conn) → HasCleanDisk (state S.Store self.old.store.now.conn) }
-        ensures fails { self.new.failed ≡ is_err result }
-        ensures refused { IsTrue self.old.failed → result ≡ Err StoreFault.Unavailable }
     {
         if self.failed {
             return Err(StoreFault::Unavailable);

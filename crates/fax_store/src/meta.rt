@@ -1,13 +1,11 @@
 //! The clock and the next numbers.
 
-ghost use Rattle.std.specs.Prelude.{◌≡◌, List, false, Err, IfErr, IfOk, is_err, IsTrue, OnOk};
-ghost use Rattle.sqlite.specs.Held.{state};
-ghost use Rattle.sqlite.specs.State.{HasCleanDisk};
+ghost use Rattle.std.specs.Prelude.{◌≡◌, List, false, Err, IfErr, IfOk, is_err};
 ghost use Rattle.fax_core.specs.Queue.{Queue, Entry};
+ghost use Rattle.fax_store.specs.Calls.{Answers, Calls, Finds, Makes, Runs, Tells, shown};
 ghost use Rattle.fax_store.specs.Meta.{with_clock};
-ghost use Rattle.fax_store.specs.Store.{CommitsNothing, Serves, Means, MeansNow, HasTables, Reads, Stays};
-ghost use Rattle.fax_store.specs.Work.{Holds, Works, Keeps, Changes, AnswersIn, Steps, Withholds};
-ghost use Rattle.fax_tables.specs.Fault.{OrUnavailable};
+ghost use Rattle.fax_store.specs.Store.{Serves};
+ghost use Rattle.fax_store.specs.Work.{Works, Steps};
 ghost use Rattle.fax_tables.specs.Meta.{meta_of, with_meta};
 ghost use Rattle.fax_tables.specs.Tables.{IsLawfulMeta};
 
@@ -25,27 +23,8 @@ impl<S: Alter> Store<S> {
     ///
     /// `Unavailable`, or `Strange` where their row is no lawful record.
     pub fn meta(&mut self) -> Result<Meta, StoreFault>
-        ensures served { Serves (state S.Store self.new.conn) → Serves (state S.Store self.old.conn) }
-        ensures clean { HasCleanDisk (state S.Store self.new.conn) → HasCleanDisk (state S.Store self.old.conn) }
-        ensures opens { OnOk result (HasCleanDisk (state S.Store self.new.conn) → Serves (state S.Store self.new.conn)) }
-        ensures stays { Stays (state S.Store self.old.conn) (state S.Store self.new.conn) }
-        ensures crash { CommitsNothing (state S.Store self.old.conn) (state S.Store self.new.conn) }
-        ensures found { (m : Queue) (k : List Entry) → Means (state S.Store self.old.conn) m k
-            → Serves (state S.Store self.new.conn) → OrUnavailable result (λ meta. meta ≡ meta_of m) }
-        ensures lawful { IfOk result (λ meta. (m : Queue) → IsLawfulMeta (with_meta meta m)) }
-    {
-        self.read_meta()
-    }
-
-    pub(crate) fn read_meta(&mut self) -> Result<Meta, StoreFault>
-        ensures served { Serves (state S.Store self.new.conn) → Serves (state S.Store self.old.conn) }
-        ensures clean { HasCleanDisk (state S.Store self.new.conn) → HasCleanDisk (state S.Store self.old.conn) }
-        ensures opens { OnOk result (HasCleanDisk (state S.Store self.new.conn) → Serves (state S.Store self.new.conn)) }
-        ensures reads { HasTables (state S.Store self.old.conn) → HasCleanDisk (state S.Store self.new.conn)
-            → Reads (state S.Store self.old.conn) (state S.Store self.new.conn) result }
-        ensures crash { CommitsNothing (state S.Store self.old.conn) (state S.Store self.new.conn) }
-        ensures answers { (m : Queue) (k : List Entry) → MeansNow (state S.Store self.old.conn) m k
-            → Serves (state S.Store self.new.conn) → OrUnavailable result (λ meta. meta ≡ meta_of m) }
+        ensures leaves { Finds S.Store self.old self.new result }
+        ensures answers { Answers S.Store self.old self.new result (λ m k meta. meta ≡ meta_of m) }
         ensures lawful { IfOk result (λ meta. (m : Queue) → IsLawfulMeta (with_meta meta m)) }
     {
         match self.find(SELECT_META, &[])? {
@@ -55,13 +34,8 @@ impl<S: Alter> Store<S> {
     }
 
     pub(crate) fn write_meta(&mut self, meta: Meta) -> Result<(), StoreFault>
-        ensures served { Serves (state S.Store self.new.conn) → Serves (state S.Store self.old.conn) }
-        ensures clean { HasCleanDisk (state S.Store self.new.conn) → HasCleanDisk (state S.Store self.old.conn) }
-        ensures holds { Holds (state S.Store self.old.conn) false (state S.Store self.new.conn) (is_err result) }
-        ensures crash { Withholds (state S.Store self.old.conn) false (state S.Store self.new.conn) (is_err result) }
-        ensures written { (m₀ m : Queue) (k₀ k : List Entry) → Works (state S.Store self.old.conn) false m₀ k₀ m k
-            → Serves (state S.Store self.new.conn) → IsLawfulMeta (with_meta meta m)
-            → Steps (state S.Store self.new.conn) result m₀ k₀ (with_meta meta m) k }
+        ensures leaves { Runs S.Store self.old self.new result }
+        ensures written { (m₀ m : Queue) (k₀ k : List Entry) → Works (shown S.Store self.old) false m₀ k₀ m k → Serves (shown S.Store self.new) → IsLawfulMeta (with_meta meta m) → Steps (shown S.Store self.new) result m₀ k₀ (with_meta meta m) k }
     {
         self.run(
             UPDATE_META,
@@ -70,13 +44,8 @@ impl<S: Alter> Store<S> {
     }
 
     fn write_clock(&mut self, clock: Moment) -> Result<(), StoreFault>
-        ensures served { Serves (state S.Store self.new.conn) → Serves (state S.Store self.old.conn) }
-        ensures clean { HasCleanDisk (state S.Store self.new.conn) → HasCleanDisk (state S.Store self.old.conn) }
-        ensures holds { Holds (state S.Store self.old.conn) false (state S.Store self.new.conn) (is_err result) }
-        ensures crash { Withholds (state S.Store self.old.conn) false (state S.Store self.new.conn) (is_err result) }
-        ensures written { (m₀ m : Queue) (k₀ k : List Entry) → Works (state S.Store self.old.conn) false m₀ k₀ m k
-            → Serves (state S.Store self.new.conn)
-            → Steps (state S.Store self.new.conn) result m₀ k₀ (with_clock clock m) k }
+        ensures leaves { Runs S.Store self.old self.new result }
+        ensures written { (m₀ m : Queue) (k₀ k : List Entry) → Works (shown S.Store self.old) false m₀ k₀ m k → Serves (shown S.Store self.new) → Steps (shown S.Store self.new) result m₀ k₀ (with_clock clock m) k }
         ensures cause { IfErr result (λ fault. fault ≡ StoreFault.Unavailable) }
     {
         self.run(UPDATE_CLOCK, params![clock.seconds()])
@@ -90,24 +59,14 @@ impl<S: Alter> Work<'_, S> {
     ///
     /// `Unavailable`, or `Strange` where their row is no lawful record.
     pub fn meta(&mut self) -> Result<Meta, StoreFault>
-        ensures same_reference { self.new.store.ghost_name ≡ self.old.store.ghost_name }
-        ensures holds { Holds (state S.Store self.old.store.now.conn) self.old.failed
-            (state S.Store self.new.store.now.conn) self.new.failed }
-        ensures crash { Withholds (state S.Store self.old.store.now.conn) self.old.failed
-            (state S.Store self.new.store.now.conn) self.new.failed }
-        ensures keeps { Keeps (state S.Store self.old.store.now.conn) self.old.failed
-            (state S.Store self.new.store.now.conn) self.new.failed }
-        ensures found { AnswersIn (state S.Store self.old.store.now.conn) self.old.failed
-            (state S.Store self.new.store.now.conn) result (λ m k meta. meta ≡ meta_of m) }
+        ensures leaves { Calls S.Store self.old self.new result }
+        ensures answers { Tells S.Store self.old self.new result (λ m k meta. meta ≡ meta_of m) }
         ensures lawful { IfOk result (λ meta. (m : Queue) → IsLawfulMeta (with_meta meta m)) }
-        ensures served { Serves (state S.Store self.new.store.now.conn) → Serves (state S.Store self.old.store.now.conn) }
-        ensures fails { self.new.failed ≡ is_err result }
-        ensures refused { IsTrue self.old.failed → result ≡ Err StoreFault.Unavailable }
     {
         if self.failed {
             return Err(StoreFault::Unavailable);
         }
-        let found = self.store.read_meta();
+        let found = self.store.meta();
         self.failed = found.is_err();
         found
     }
@@ -118,18 +77,9 @@ impl<S: Alter> Work<'_, S> {
     ///
     /// `Unavailable`.
     pub fn set_clock(&mut self, clock: Moment) -> Result<(), StoreFault>
-        ensures same_reference { self.new.store.ghost_name ≡ self.old.store.ghost_name }
-        ensures holds { Holds (state S.Store self.old.store.now.conn) self.old.failed
-            (state S.Store self.new.store.now.conn) self.new.failed }
-        ensures crash { Withholds (state S.Store self.old.store.now.conn) self.old.failed
-            (state S.Store self.new.store.now.conn) self.new.failed }
-        ensures changes { Changes (state S.Store self.old.store.now.conn) self.old.failed
-            (state S.Store self.new.store.now.conn) self.new.failed (with_clock clock) (λ k. k) }
+        ensures leaves { Calls S.Store self.old self.new result }
+        ensures changes { Makes S.Store self.old self.new (with_clock clock) (λ k. k) }
         ensures cause { IfErr result (λ fault. fault ≡ StoreFault.Unavailable) }
-        ensures served { Serves (state S.Store self.new.store.now.conn) → Serves (state S.Store self.old.store.now.conn) }
-        ensures clean { HasCleanDisk (state S.Store self.new.store.now.conn) → HasCleanDisk (state S.Store self.old.store.now.conn) }
-        ensures fails { self.new.failed ≡ is_err result }
-        ensures refused { IsTrue self.old.failed → result ≡ Err StoreFault.Unavailable }
     {
         if self.failed {
             return Err(StoreFault::Unavailable);

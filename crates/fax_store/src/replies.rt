@@ -1,15 +1,14 @@
 //! The kept replies.
 
-ghost use Rattle.std.specs.Prelude.{◌≡◌, ◌∷◌, ◌++◌, [], false, List, Err, IfErr, IfOk, IfSome, is_err, IsTrue, OnOk};
+ghost use Rattle.std.specs.Prelude.{◌≡◌, ◌∷◌, ◌++◌, [], false, List, Err, IfOk, IfSome, is_err, OnOk};
 ghost use Rattle.sqlite.specs.Effect.{Database};
-ghost use Rattle.sqlite.specs.Held.{state};
 ghost use Rattle.sqlite.specs.State.{HasCleanDisk};
 ghost use Rattle.fax_core.specs.Queue.{Queue, Entry};
 ghost use Rattle.fax_job.specs.Name.{IsName};
+ghost use Rattle.fax_store.specs.Calls.{Answers, Calls, FailsOnly, Finds, Makes, Runs, Tells, shown};
 ghost use Rattle.fax_store.specs.Kept.{IsKeptFor, IsUnkept, MissesNone};
-ghost use Rattle.fax_store.specs.Store.{CommitsNothing, Serves, Means, MeansNow, HasTables, Reads, Rests, Stays};
-ghost use Rattle.fax_store.specs.Work.{Holds, Works, Keeps, Changes, AnswersIn, IsOnlyUnavailable, Moves, Withholds};
-ghost use Rattle.fax_tables.specs.Fault.{OrUnavailable};
+ghost use Rattle.fax_store.specs.Store.{Serves};
+ghost use Rattle.fax_store.specs.Work.{Works, Keeps, IsOnlyUnavailable, Moves};
 ghost use Rattle.fax_tables.specs.Kept.{entry};
 ghost use Rattle.fax_schema.specs.Schema.{our_tables};
 ghost use Rattle.fax_tables.specs.Tables.{IsKeptStatus};
@@ -28,36 +27,10 @@ impl<S: Alter> Store<S> {
     ///
     /// `Unavailable`, or `Strange` where its row is no lawful record.
     pub fn kept(&mut self, client: &str, number: RequestNumber) -> Result<Option<Kept>, StoreFault>
-        ensures served { Serves (state S.Store self.new.conn) → Serves (state S.Store self.old.conn) }
-        ensures clean { HasCleanDisk (state S.Store self.new.conn) → HasCleanDisk (state S.Store self.old.conn) }
-        ensures opens { OnOk result (HasCleanDisk (state S.Store self.new.conn) → Serves (state S.Store self.new.conn)) }
-        ensures stays { Stays (state S.Store self.old.conn) (state S.Store self.new.conn) }
-        ensures crash { CommitsNothing (state S.Store self.old.conn) (state S.Store self.new.conn) }
-        ensures found { (m : Queue) (k : List Entry) → Means (state S.Store self.old.conn) m k
-            → Serves (state S.Store self.new.conn) → OrUnavailable result (IsKeptFor k client.now number) }
-        // Whatever the rows say, where none is found there is none.
-        ensures unkept { (db : Database) → db.schema ≡ our_tables → Rests (state S.Store self.old.conn) db
-            → Serves (state S.Store self.new.conn) → IfOk result (MissesNone db client.now number) }
-        ensures lawful { IfOk result (λ found. IfSome found (λ kept. IsKeptStatus kept.status)) }
-    {
-        self.read_reply(client, number)
-    }
-
-    fn read_reply(
-        &mut self,
-        client: &str,
-        number: RequestNumber,
-    ) -> Result<Option<Kept>, StoreFault>
-        ensures served { Serves (state S.Store self.new.conn) → Serves (state S.Store self.old.conn) }
-        ensures clean { HasCleanDisk (state S.Store self.new.conn) → HasCleanDisk (state S.Store self.old.conn) }
-        ensures opens { OnOk result (HasCleanDisk (state S.Store self.new.conn) → Serves (state S.Store self.new.conn)) }
-        ensures reads { HasTables (state S.Store self.old.conn) → HasCleanDisk (state S.Store self.new.conn)
-            → Reads (state S.Store self.old.conn) (state S.Store self.new.conn) result }
-        ensures crash { CommitsNothing (state S.Store self.old.conn) (state S.Store self.new.conn) }
-        ensures answers { (m : Queue) (k : List Entry) → MeansNow (state S.Store self.old.conn) m k
-            → Serves (state S.Store self.new.conn) → OrUnavailable result (IsKeptFor k client.now number) }
-        ensures unkept { (db : Database) → db.schema ≡ our_tables → (state S.Store self.old.conn).now ≡ db
-            → HasCleanDisk (state S.Store self.new.conn) → IfOk result (MissesNone db client.now number) }
+        ensures leaves { Finds S.Store self.old self.new result }
+        ensures answers { Answers S.Store self.old self.new result (λ m k. IsKeptFor k client.now number) }
+        ensures unkept { (db : Database) → db.schema ≡ our_tables → (shown S.Store self.old).now ≡ db
+            → HasCleanDisk (shown S.Store self.new) → IfOk result (MissesNone db client.now number) }
         ensures lawful { IfOk result (λ found. IfSome found (λ kept. IsKeptStatus kept.status)) }
     {
         let number = number_value(number);
@@ -75,16 +48,9 @@ impl<S: Alter> Store<S> {
         status: u16,
         body: &[u8],
     ) -> Result<(), StoreFault>
-        ensures served { Serves (state S.Store self.new.conn) → Serves (state S.Store self.old.conn) }
-        ensures clean { HasCleanDisk (state S.Store self.new.conn) → HasCleanDisk (state S.Store self.old.conn) }
-        ensures holds { Holds (state S.Store self.old.conn) false (state S.Store self.new.conn) (is_err result) }
-        ensures crash { Withholds (state S.Store self.old.conn) false (state S.Store self.new.conn) (is_err result) }
-        ensures written { (m₀ m : Queue) (k₀ k : List Entry) → Works (state S.Store self.old.conn) false m₀ k₀ m k
-            → Serves (state S.Store self.new.conn)
-            → Moves (state S.Store self.new.conn) result m₀ k₀ m
-            (k ++ entry client.now number said.now status body.now ∷ []) }
-        ensures cause { IsOnlyUnavailable (state S.Store self.old.conn) false (state S.Store self.new.conn) result
-            (λ m k. IsName client.now × IsKeptStatus status × IsUnkept client.now number k) }
+        ensures leaves { Runs S.Store self.old self.new result }
+        ensures written { (m₀ m : Queue) (k₀ k : List Entry) → Works (shown S.Store self.old) false m₀ k₀ m k → Serves (shown S.Store self.new) → Moves (shown S.Store self.new) result m₀ k₀ m (k ++ entry client.now number said.now status body.now ∷ []) }
+        ensures cause { IsOnlyUnavailable (shown S.Store self.old) false (shown S.Store self.new) result (λ m k. IsName client.now × IsKeptStatus status × IsUnkept client.now number k) }
         ensures status { OnOk result (IsKeptStatus status) }
     {
         let number = number_value(number);
@@ -105,24 +71,14 @@ impl<S: Alter> Work<'_, S> {
     ///
     /// `Unavailable`, or `Strange` where its row is no lawful record.
     pub fn kept(&mut self, client: &str, number: RequestNumber) -> Result<Option<Kept>, StoreFault>
-        ensures same_reference { self.new.store.ghost_name ≡ self.old.store.ghost_name }
-        ensures holds { Holds (state S.Store self.old.store.now.conn) self.old.failed
-            (state S.Store self.new.store.now.conn) self.new.failed }
-        ensures crash { Withholds (state S.Store self.old.store.now.conn) self.old.failed
-            (state S.Store self.new.store.now.conn) self.new.failed }
-        ensures keeps { Keeps (state S.Store self.old.store.now.conn) self.old.failed
-            (state S.Store self.new.store.now.conn) self.new.failed }
-        ensures found { AnswersIn (state S.Store self.old.store.now.conn) self.old.failed
-            (state S.Store self.new.store.now.conn) result (λ m k found. IsKeptFor k client.now number found) }
+        ensures leaves { Calls S.Store self.old self.new result }
+        ensures answers { Tells S.Store self.old self.new result (λ m k found. IsKeptFor k client.now number found) }
         ensures lawful { IfOk result (λ found. IfSome found (λ kept. IsKeptStatus kept.status)) }
-        ensures served { Serves (state S.Store self.new.store.now.conn) → Serves (state S.Store self.old.store.now.conn) }
-        ensures fails { self.new.failed ≡ is_err result }
-        ensures refused { IsTrue self.old.failed → result ≡ Err StoreFault.Unavailable }
     {
         if self.failed {
             return Err(StoreFault::Unavailable);
         }
-        let found = self.store.read_reply(client, number);
+        let found = self.store.kept(client, number);
         self.failed = found.is_err();
         found
     }
@@ -141,22 +97,10 @@ impl<S: Alter> Work<'_, S> {
         status: u16,
         body: &[u8],
     ) -> Result<(), StoreFault>
-        ensures same_reference { self.new.store.ghost_name ≡ self.old.store.ghost_name }
-        ensures holds { Holds (state S.Store self.old.store.now.conn) self.old.failed
-            (state S.Store self.new.store.now.conn) self.new.failed }
-        ensures crash { Withholds (state S.Store self.old.store.now.conn) self.old.failed
-            (state S.Store self.new.store.now.conn) self.new.failed }
-        ensures changes { Changes (state S.Store self.old.store.now.conn) self.old.failed
-            (state S.Store self.new.store.now.conn) self.new.failed (λ m. m)
-            (λ k. k ++ entry client.now number said.now status body.now ∷ []) }
-        ensures cause { IsOnlyUnavailable (state S.Store self.old.store.now.conn) self.old.failed
-            (state S.Store self.new.store.now.conn) result
-            (λ m k. IsName client.now × IsKeptStatus status × IsUnkept client.now number k) }
+        ensures leaves { Calls S.Store self.old self.new result }
+        ensures changes { Makes S.Store self.old self.new (λ m. m) (λ k. k ++ entry client.now number said.now status body.now ∷ []) }
+        ensures cause { FailsOnly S.Store self.old self.new result (λ m k. IsName client.now × IsKeptStatus status × IsUnkept client.now number k) }
         ensures status { OnOk result (IsKeptStatus status) }
-        ensures served { Serves (state S.Store self.new.store.now.conn) → Serves (state S.Store self.old.store.now.conn) }
-        ensures clean { HasCleanDisk (state S.Store self.new.store.now.conn) → HasCleanDisk (state S.Store self.old.store.now.conn) }
-        ensures fails { self.new.failed ≡ is_err result }
-        ensures refused { IsTrue self.old.failed → result ≡ Err StoreFault.Unavailable }
     {
         if self.failed {
             return Err(StoreFault::Unavailable);

@@ -1,8 +1,8 @@
 //! Whether a fault of the disk has shut a store.
 
 ghost use Rattle.std.specs.Prelude.{◌≡◌, not, IfErr, IfOk};
-ghost use Rattle.sqlite.specs.Held.{state};
 ghost use Rattle.sqlite.specs.State.{HasCleanDisk};
+ghost use Rattle.fax_store.specs.Calls.{shown};
 ghost use Rattle.fax_store.specs.Store.{CommitsNothing, Serves, Stays};
 
 use crate::store::{COMMIT, Store};
@@ -17,12 +17,12 @@ impl<S: Alter> Store<S> {
     ///
     /// `Unavailable`, where it can't be told.
     pub fn is_shut(&mut self) -> Result<bool, StoreFault>
-        ensures served { Serves (state S.Store self.new.conn) → Serves (state S.Store self.old.conn) }
-        ensures clean { HasCleanDisk (state S.Store self.new.conn) → HasCleanDisk (state S.Store self.old.conn) }
-        ensures stays { Stays (state S.Store self.old.conn) (state S.Store self.new.conn) }
-        ensures crash { CommitsNothing (state S.Store self.old.conn) (state S.Store self.new.conn) }
-        ensures told { HasCleanDisk (state S.Store self.new.conn)
-            → IfOk result (λ shut. (state S.Store self.new.conn).is_open ≡ not shut) }
+        ensures served { Serves (shown S.Store self.new) → Serves (shown S.Store self.old) }
+        ensures clean { HasCleanDisk (shown S.Store self.new) → HasCleanDisk (shown S.Store self.old) }
+        ensures stays { Stays (shown S.Store self.old) (shown S.Store self.new) }
+        ensures crash { CommitsNothing (shown S.Store self.old) (shown S.Store self.new) }
+        ensures told { HasCleanDisk (shown S.Store self.new)
+            → IfOk result (λ shut. (shown S.Store self.new).is_open ≡ not shut) }
         ensures cause { IfErr result (λ fault. fault ≡ StoreFault.Unavailable) }
     {
         // A shut database refuses whatever it is to compile, before it does anything else.

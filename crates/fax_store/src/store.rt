@@ -1,15 +1,16 @@
 //! A database with the seven tables.
 
-ghost use Rattle.std.specs.Prelude.{◌≡◌, false, [], IfOk, IfErr, OnOk, OnErr, is_err};
+ghost use Rattle.std.specs.Prelude.{◌≡◌, false, [], IfOk, IfErr, OnOk, OnErr};
 ghost use Rattle.std.specs.Borrow.{sem, RestsIfErr};
 ghost use Rattle.sqlite.specs.Held.{state};
+ghost use Rattle.fax_store.specs.Calls.{Finds, Runs, shown, within};
 ghost use Rattle.fax_store.specs.contracts.store.Store.{the_row};
 ghost use Rattle.sqlite.specs.Values.{bound};
 ghost use Rattle.sqlite.specs.State.{HasCleanDisk, Shown};
 ghost use Rattle.sqlite.specs.Steps.{over_memory};
 ghost use Rattle.fax_core.specs.Queue.{empty_queue};
-ghost use Rattle.fax_store.specs.Store.{Serves, StaysAsItWas, CommitsNothing, GoesBack, LeavesCommit, FindsRow, HasRun, HasTables, IsEditText, IsQueryText, IsRefusedFor, Reads};
-ghost use Rattle.fax_store.specs.Work.{Begins, BeginsAt, Holds, Opens, Withholds};
+ghost use Rattle.fax_store.specs.Store.{Serves, StaysAsItWas, CommitsNothing, GoesBack, LeavesCommit, FindsRow, HasRun, IsEditText, IsQueryText, IsRefusedFor};
+ghost use Rattle.fax_store.specs.Work.{Begins, BeginsAt, Opens};
 ghost use Rattle.fax_tables.specs.Tables.{IsAtRest};
 
 use crate::work::Work;
@@ -60,18 +61,18 @@ impl<S: Alter> Store<S> {
     /// `Unavailable`; the tables are as they were.
     pub fn begin(&mut self) -> Result<Work<'_, S>, StoreFault>
         ensures* refused { sem 𝓛 (RestsIfErr (the_row S.row S.Store) self.entry (λ work. work.store.ghost_name)
-            result (λ last. StaysAsItWas (state S.Store self.old.conn) (state S.Store last.conn))) }
+            result (λ last. StaysAsItWas (shown S.Store self.old) (shown S.Store last))) }
         ensures same_reference { IfOk result (λ work. work.store.ghost_name ≡ self.entry.ghost_name) }
         ensures begun { IfOk result (λ work.
-            Begins (state S.Store self.old.conn) (state S.Store work.store.now.conn) work.failed) }
+            Begins (shown S.Store self.old) (within S.Store work) work.failed) }
         ensures at { IfOk result (λ work.
-            BeginsAt (state S.Store self.old.conn) (state S.Store work.store.now.conn) work.failed) }
+            BeginsAt (shown S.Store self.old) (within S.Store work) work.failed) }
         ensures opens { IfOk result (λ work.
-            Opens (state S.Store self.old.conn) (state S.Store work.store.now.conn) work.failed) }
+            Opens (shown S.Store self.old) (within S.Store work) work.failed) }
         ensures served { IfOk result (λ work.
-            Serves (state S.Store work.store.now.conn) → Serves (state S.Store self.old.conn)) }
+            Serves (within S.Store work) → Serves (shown S.Store self.old)) }
         ensures clean { IfOk result (λ work.
-            HasCleanDisk (state S.Store work.store.now.conn) → HasCleanDisk (state S.Store self.old.conn)) }
+            HasCleanDisk (within S.Store work) → HasCleanDisk (shown S.Store self.old)) }
         ensures goes_on { IfOk result (λ work. work.failed ≡ false) }
         ensures cause { IfErr result (λ fault. fault ≡ StoreFault.Unavailable) }
     {
@@ -81,10 +82,10 @@ impl<S: Alter> Store<S> {
 
     /// Undoes what was not committed.
     pub(crate) fn roll_back(&mut self)
-        ensures back { GoesBack (state S.Store self.old.conn) (state S.Store self.new.conn) }
-        ensures crash { CommitsNothing (state S.Store self.old.conn) (state S.Store self.new.conn) }
-        ensures served { Serves (state S.Store self.new.conn) → Serves (state S.Store self.old.conn) }
-        ensures clean { HasCleanDisk (state S.Store self.new.conn) → HasCleanDisk (state S.Store self.old.conn) }
+        ensures back { GoesBack (shown S.Store self.old) (shown S.Store self.new) }
+        ensures crash { CommitsNothing (shown S.Store self.old) (shown S.Store self.new) }
+        ensures served { Serves (shown S.Store self.new) → Serves (shown S.Store self.old) }
+        ensures clean { HasCleanDisk (shown S.Store self.new) → HasCleanDisk (shown S.Store self.old) }
     {
         if !self.conn.is_autocommit() {
             let _ = self.conn.execute(ROLLBACK, &[]);
@@ -98,16 +99,11 @@ impl<S: Alter> Store<S> {
         params: &[ValueRef<'_>],
     ) -> Result<Vec<Row>, StoreFault>
         requires { IsQueryText sql.now }
-        ensures served { Serves (state S.Store self.new.conn) → Serves (state S.Store self.old.conn) }
-        ensures clean { HasCleanDisk (state S.Store self.new.conn) → HasCleanDisk (state S.Store self.old.conn) }
-        ensures opens { OnOk result (HasCleanDisk (state S.Store self.new.conn) → Serves (state S.Store self.new.conn)) }
-        ensures reads { HasTables (state S.Store self.old.conn) → HasCleanDisk (state S.Store self.new.conn)
-            → Reads (state S.Store self.old.conn) (state S.Store self.new.conn) result }
-        ensures crash { CommitsNothing (state S.Store self.old.conn) (state S.Store self.new.conn) }
-        ensures shown { HasCleanDisk (state S.Store self.new.conn) → IfOk result
-            (λ rows. Shown sql.now (bound params.now) (state S.Store self.old.conn) (state S.Store self.new.conn) rows.items) }
-        ensures left { HasCleanDisk (state S.Store self.new.conn) → OnErr result
-            (LeavesCommit (state S.Store self.old.conn) (state S.Store self.new.conn)) }
+        ensures leaves { Finds S.Store self.old self.new result }
+        ensures shown { HasCleanDisk (shown S.Store self.new) → IfOk result
+            (λ rows. Shown sql.now (bound params.now) (shown S.Store self.old) (shown S.Store self.new) rows.items) }
+        ensures left { HasCleanDisk (shown S.Store self.new) → OnErr result
+            (LeavesCommit (shown S.Store self.old) (shown S.Store self.new)) }
         ensures cause { IfErr result (λ fault. fault ≡ StoreFault.Unavailable) }
     {
         let rows = self.conn.query_all(sql, params)?;
@@ -121,16 +117,11 @@ impl<S: Alter> Store<S> {
         params: &[ValueRef<'_>],
     ) -> Result<Option<Row>, StoreFault>
         requires { IsQueryText sql.now }
-        ensures served { Serves (state S.Store self.new.conn) → Serves (state S.Store self.old.conn) }
-        ensures clean { HasCleanDisk (state S.Store self.new.conn) → HasCleanDisk (state S.Store self.old.conn) }
-        ensures opens { OnOk result (HasCleanDisk (state S.Store self.new.conn) → Serves (state S.Store self.new.conn)) }
-        ensures reads { HasTables (state S.Store self.old.conn) → HasCleanDisk (state S.Store self.new.conn)
-            → Reads (state S.Store self.old.conn) (state S.Store self.new.conn) result }
-        ensures crash { CommitsNothing (state S.Store self.old.conn) (state S.Store self.new.conn) }
-        ensures found { HasCleanDisk (state S.Store self.new.conn) → IfOk result
-            (FindsRow sql.now (bound params.now) (state S.Store self.old.conn) (state S.Store self.new.conn)) }
-        ensures left { HasCleanDisk (state S.Store self.new.conn) → OnErr result
-            (LeavesCommit (state S.Store self.old.conn) (state S.Store self.new.conn)) }
+        ensures leaves { Finds S.Store self.old self.new result }
+        ensures found { HasCleanDisk (shown S.Store self.new) → IfOk result
+            (FindsRow sql.now (bound params.now) (shown S.Store self.old) (shown S.Store self.new)) }
+        ensures left { HasCleanDisk (shown S.Store self.new) → OnErr result
+            (LeavesCommit (shown S.Store self.old) (shown S.Store self.new)) }
         ensures cause { IfErr result (λ fault. fault ≡ StoreFault.Unavailable) }
     {
         let mut rows = self.show(sql, params)?;
@@ -144,16 +135,13 @@ impl<S: Alter> Store<S> {
     /// `Unavailable`, or `Strange` where the row breaks a rule of its table, as a key that is taken.
     pub(crate) fn insert(&mut self, sql: &str, params: &[ValueRef<'_>]) -> Result<(), StoreFault>
         requires { IsEditText sql.now }
-        ensures served { Serves (state S.Store self.new.conn) → Serves (state S.Store self.old.conn) }
-        ensures clean { HasCleanDisk (state S.Store self.new.conn) → HasCleanDisk (state S.Store self.old.conn) }
-        ensures holds { Holds (state S.Store self.old.conn) false (state S.Store self.new.conn) (is_err result) }
-        ensures crash { Withholds (state S.Store self.old.conn) false (state S.Store self.new.conn) (is_err result) }
-        ensures ran { HasCleanDisk (state S.Store self.new.conn) → OnOk result
-            (HasRun sql.now (bound params.now) (state S.Store self.old.conn) (state S.Store self.new.conn)) }
-        ensures left { HasCleanDisk (state S.Store self.new.conn) → OnErr result
-            (LeavesCommit (state S.Store self.old.conn) (state S.Store self.new.conn)) }
-        ensures told { HasCleanDisk (state S.Store self.new.conn) → IfErr result
-            (IsRefusedFor sql.now (bound params.now) (state S.Store self.old.conn) (state S.Store self.new.conn)) }
+        ensures leaves { Runs S.Store self.old self.new result }
+        ensures ran { HasCleanDisk (shown S.Store self.new) → OnOk result
+            (HasRun sql.now (bound params.now) (shown S.Store self.old) (shown S.Store self.new)) }
+        ensures left { HasCleanDisk (shown S.Store self.new) → OnErr result
+            (LeavesCommit (shown S.Store self.old) (shown S.Store self.new)) }
+        ensures told { HasCleanDisk (shown S.Store self.new) → IfErr result
+            (IsRefusedFor sql.now (bound params.now) (shown S.Store self.old) (shown S.Store self.new)) }
     {
         match self.conn.execute(sql, params) {
             Ok(_) => Ok(()),
@@ -164,14 +152,11 @@ impl<S: Alter> Store<S> {
     /// Runs a statement that updates or deletes rows, or puts in one whose key is free.
     pub(crate) fn run(&mut self, sql: &str, params: &[ValueRef<'_>]) -> Result<(), StoreFault>
         requires { IsEditText sql.now }
-        ensures served { Serves (state S.Store self.new.conn) → Serves (state S.Store self.old.conn) }
-        ensures clean { HasCleanDisk (state S.Store self.new.conn) → HasCleanDisk (state S.Store self.old.conn) }
-        ensures holds { Holds (state S.Store self.old.conn) false (state S.Store self.new.conn) (is_err result) }
-        ensures crash { Withholds (state S.Store self.old.conn) false (state S.Store self.new.conn) (is_err result) }
-        ensures ran { HasCleanDisk (state S.Store self.new.conn) → OnOk result
-            (HasRun sql.now (bound params.now) (state S.Store self.old.conn) (state S.Store self.new.conn)) }
-        ensures left { HasCleanDisk (state S.Store self.new.conn) → OnErr result
-            (LeavesCommit (state S.Store self.old.conn) (state S.Store self.new.conn)) }
+        ensures leaves { Runs S.Store self.old self.new result }
+        ensures ran { HasCleanDisk (shown S.Store self.new) → OnOk result
+            (HasRun sql.now (bound params.now) (shown S.Store self.old) (shown S.Store self.new)) }
+        ensures left { HasCleanDisk (shown S.Store self.new) → OnErr result
+            (LeavesCommit (shown S.Store self.old) (shown S.Store self.new)) }
         ensures cause { IfErr result (λ fault. fault ≡ StoreFault.Unavailable) }
     {
         self.conn.execute(sql, params)?;

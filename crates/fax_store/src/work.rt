@@ -1,8 +1,8 @@
 //! Changes that are made together.
 
 ghost use Rattle.std.specs.Prelude.{◌≡◌, false, IsTrue, IfErr, OnOk, OnErr};
-ghost use Rattle.sqlite.specs.Held.{state};
 ghost use Rattle.sqlite.specs.State.{HasCleanDisk};
+ghost use Rattle.fax_store.specs.Calls.{shown, within};
 ghost use Rattle.fax_store.specs.Store.{CommitsNothing, LeavesAlone, Serves};
 ghost use Rattle.fax_store.specs.Work.{Commits, Forgets, MayCommit, Undoes};
 
@@ -36,22 +36,22 @@ impl<'s, S: Alter> Work<'s, S> {
     ///
     /// `Unavailable`; the tables are as they were at `begin`.
     pub fn commit(self) -> Result<(), StoreFault>
-        ensures committed { OnOk result (Commits (state S.Store self.entry.store.now.conn)
-            self.entry.failed (state S.Store self.exit.0.now.conn)) }
-        ensures served { OnOk result (Serves (state S.Store self.exit.0.now.conn)
-            → Serves (state S.Store self.entry.store.now.conn)) }
-        ensures clean { HasCleanDisk (state S.Store self.exit.0.now.conn)
-            → HasCleanDisk (state S.Store self.entry.store.now.conn) }
-        ensures opens { OnOk result (HasCleanDisk (state S.Store self.exit.0.now.conn)
-            → Serves (state S.Store self.exit.0.now.conn)) }
-        ensures forgets { OnErr result (Forgets (state S.Store self.entry.store.now.conn)
-            self.entry.failed (state S.Store self.exit.0.now.conn)) }
-        ensures undone { OnErr result (Undoes (state S.Store self.entry.store.now.conn)
-            self.entry.failed (state S.Store self.exit.0.now.conn)) }
-        ensures crash { MayCommit (state S.Store self.entry.store.now.conn) self.entry.failed
-            (state S.Store self.exit.0.now.conn) }
-        ensures alone { OnOk result (Serves (state S.Store self.exit.0.now.conn)
-            → LeavesAlone (state S.Store self.exit.0.now.conn) (state S.Store self.entry.store.now.conn).now.trees) }
+        ensures committed { OnOk result (Commits (within S.Store self.entry)
+            self.entry.failed (shown S.Store self.exit.0.now)) }
+        ensures served { OnOk result (Serves (shown S.Store self.exit.0.now)
+            → Serves (within S.Store self.entry)) }
+        ensures clean { HasCleanDisk (shown S.Store self.exit.0.now)
+            → HasCleanDisk (within S.Store self.entry) }
+        ensures opens { OnOk result (HasCleanDisk (shown S.Store self.exit.0.now)
+            → Serves (shown S.Store self.exit.0.now)) }
+        ensures forgets { OnErr result (Forgets (within S.Store self.entry)
+            self.entry.failed (shown S.Store self.exit.0.now)) }
+        ensures undone { OnErr result (Undoes (within S.Store self.entry)
+            self.entry.failed (shown S.Store self.exit.0.now)) }
+        ensures crash { MayCommit (within S.Store self.entry) self.entry.failed
+            (shown S.Store self.exit.0.now) }
+        ensures alone { OnOk result (Serves (shown S.Store self.exit.0.now)
+            → LeavesAlone (shown S.Store self.exit.0.now) (within S.Store self.entry).now.trees) }
         ensures refused { IsTrue self.entry.failed → result ≡ Err StoreFault.Unavailable }
         ensures cause { IfErr result (λ fault. fault ≡ StoreFault.Unavailable) }
     {
@@ -67,16 +67,16 @@ impl<'s, S: Alter> Work<'s, S> {
 
 impl<S: Alter> Drop for Work<'_, S> {
     fn drop(self)
-        ensures forgets { Forgets (state S.Store self.entry.store.now.conn) self.entry.failed
-            (state S.Store self.exit.0.now.conn) }
-        ensures undone { Undoes (state S.Store self.entry.store.now.conn) self.entry.failed
-            (state S.Store self.exit.0.now.conn) }
-        ensures crash { CommitsNothing (state S.Store self.entry.store.now.conn)
-            (state S.Store self.exit.0.now.conn) }
-        ensures clean { HasCleanDisk (state S.Store self.exit.0.now.conn)
-            → HasCleanDisk (state S.Store self.entry.store.now.conn) }
-        ensures served { Serves (state S.Store self.exit.0.now.conn)
-            → Serves (state S.Store self.entry.store.now.conn) }
+        ensures forgets { Forgets (within S.Store self.entry) self.entry.failed
+            (shown S.Store self.exit.0.now) }
+        ensures undone { Undoes (within S.Store self.entry) self.entry.failed
+            (shown S.Store self.exit.0.now) }
+        ensures crash { CommitsNothing (within S.Store self.entry)
+            (shown S.Store self.exit.0.now) }
+        ensures clean { HasCleanDisk (shown S.Store self.exit.0.now)
+            → HasCleanDisk (within S.Store self.entry) }
+        ensures served { Serves (shown S.Store self.exit.0.now)
+            → Serves (within S.Store self.entry) }
     {
         let Work { store, failed: _ } = self;
         store.roll_back();

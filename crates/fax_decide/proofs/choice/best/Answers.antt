@@ -2,27 +2,28 @@ use Rattle.fax_decide.specs.Choice.{IsFirst}
 use Rattle.std.proofs.Common.{sym, subst, ◌∙◌}
 use Rattle.fax_store.proofs.StoreLemmas.{means_stay}
 use Rattle.fax_decide.specs.Settings.{settings_of}
+use Rattle.fax_store.proofs.FrameLemmas.{looks_of, looks_then, means_now}
 use Rattle.fax_decide.proofs.ChoiceLemmas.{best_read, none_best}
 use Rattle.fax_decide.proofs.choice.best.Goals as goal
 
 pub returns-in_default-clause-found : goal.returns-in_default-clause-found
 returns-in_default-clause-found g c m k sound means serves =
     let s = settings_of c.args.office.now.setup c.args.office.now.controls in
-    none_best s m c.args.t c.args.modem.now sound (means (c.first.ensures.served serves)).means.lawful.jobs (subst (IsFirst s m c.args.t c.args.modem.now) c.in_default.is (c.in_ok-number.ensures.found m k means serves))
+    none_best s m c.args.t c.args.modem.now sound (means (c.first.ensures.leaves.served serves)).means.lawful.jobs (subst (IsFirst s m c.args.t c.args.modem.now) c.in_default.is (c.in_ok-number.ensures.found m k means serves))
 
 pub returns-in-Some-2-clause-found : goal.returns-in-Some-2-clause-found
 returns-in-Some-2-clause-found g c m k sound means serves =
     let s = settings_of c.args.office.now.setup c.args.office.now.controls in
-    let between = c.job.ensures.served serves in
-    best_read s m c.args.t c.args.modem.now sound (means (c.first.ensures.served between)).means.lawful.jobs c.in-Some.number c.in-Some-2.job
+    let between = c.job.ensures.leaves.served serves in
+    best_read s m c.args.t c.args.modem.now sound (means (c.first.ensures.leaves.served between)).means.lawful.jobs c.in-Some.number c.in-Some-2.job
     (subst (IsFirst s m c.args.t c.args.modem.now) c.in-Some.is (c.in_ok-number.ensures.found m k means between))
-    (sym c.in-Some-2.is ∙ c.in_ok-job.ensures.found m k (means_stay c.first.ensures.served c.first.ensures.stays m k means) serves)
+    (sym c.in-Some-2.is ∙ c.in_ok-job.ensures.answers m k (means_now (means_stay c.first.ensures.leaves.served c.first.ensures.leaves.stays m k means)) serves)
 
-pub returns-in_err-job-clause-stays : goal.returns-in_err-job-clause-stays
-returns-in_err-job-clause-stays g c db ours rests = c.job.ensures.stays db ours (c.first.ensures.stays db ours rests)
+pub returns-in_err-job-clause-leaves : goal.returns-in_err-job-clause-leaves
+returns-in_err-job-clause-leaves g c = looks_then g.S.Store _ _ _ c.first.ensures.leaves (looks_of g.S.Store _ _ _ c.job.ensures.leaves)
 
-pub returns-in-Some-2-clause-stays : goal.returns-in-Some-2-clause-stays
-returns-in-Some-2-clause-stays g c db ours rests = c.job.ensures.stays db ours (c.first.ensures.stays db ours rests)
+pub returns-in-Some-2-clause-leaves : goal.returns-in-Some-2-clause-leaves
+returns-in-Some-2-clause-leaves g c = looks_then g.S.Store _ _ _ c.first.ensures.leaves (looks_of g.S.Store _ _ _ c.job.ensures.leaves)
 
-pub returns-in-None-clause-stays : goal.returns-in-None-clause-stays
-returns-in-None-clause-stays g c db ours rests = c.job.ensures.stays db ours (c.first.ensures.stays db ours rests)
+pub returns-in-None-clause-leaves : goal.returns-in-None-clause-leaves
+returns-in-None-clause-leaves g c = looks_then g.S.Store _ _ _ c.first.ensures.leaves (looks_of g.S.Store _ _ _ c.job.ensures.leaves)

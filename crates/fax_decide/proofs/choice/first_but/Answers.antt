@@ -2,17 +2,18 @@ use Rattle.std.proofs.Common.{◌≡◌, false, true≢false, rules, subst, sym}
 use Rattle.std.specs.Prelude.{None, IsTrue, OnOk}
 use Rattle.std.proofs.lemmas.Result.{IfOk-weaker}
 use Rattle.sqlite.specs.Held.{state}
-use Rattle.fax_store.specs.Store.{Means, Rests, Serves, StaysOpen}
+use Rattle.fax_store.specs.Calls.{Looks}
+use Rattle.fax_store.specs.Store.{Means, Serves, StaysOpen}
 use Rattle.fax_decide.specs.Choice.{IsBusy, IsFirst, IsFirstAsked}
 use Rattle.fax_decide.specs.Settings.{settings_of}
 use Rattle.fax_decide.proofs.ChoiceLemmas.{first_known}
 use Rattle.fax_decide.proofs.choice.first_but.Goals as goal
 
-pub returns-clause-stays : goal.returns-clause-stays
-returns-clause-stays g c db ours rests =
+pub returns-clause-leaves : goal.returns-clause-leaves
+returns-clause-leaves g c =
     let same : c.first_of.new.candidates.store.now ≡ c.store-1.given.0 = search rules in
-    let begun : Rests (state g.S.Store c.candidates_but-candidates.result.store.now.conn) db = subst (λ v. Rests (state g.S.Store v.conn) db) (sym c.candidates_but-candidates.ensures.same) rests in
-    subst (λ v. Rests (state g.S.Store v.conn) db) same (c.first_of.ensures.stays db ours begun)
+    subst (λ v. Looks g.S.Store c.args.store.now v) same
+    (subst (λ v. Looks g.S.Store v c.first_of.new.candidates.store.now) c.candidates_but-candidates.ensures.same c.first_of.ensures.leaves)
 
 pub returns-clause-found : goal.returns-clause-found
 returns-clause-found g c m k means serves busy =
@@ -24,7 +25,7 @@ returns-clause-found g c m k means serves busy =
     let same : c.first_of.new.candidates.store.now ≡ c.store-1.given.0 = search rules in
     let begun : Means (state g.S.Store c.candidates_but-candidates.result.store.now.conn) m k = subst (λ v. Means (state g.S.Store v.conn) m k) (sym is) means in
     let served : Serves (state g.S.Store c.first_of.new.candidates.store.now.conn) = subst (λ v. Serves (state g.S.Store v.conn)) (sym same) serves in
-    let before : Serves (state g.S.Store c.args.store.now.conn) = subst (λ v. Serves (state g.S.Store v.conn)) is (c.first_of.ensures.served served) in
+    let before : Serves (state g.S.Store c.args.store.now.conn) = subst (λ v. Serves (state g.S.Store v.conn)) is (c.first_of.ensures.leaves.served served) in
     let stands = c.candidates_but-candidates.ensures.stands m k means before in
     let but : IsBusy s m c.args.t asked.but = subst (IsBusy s m c.args.t) (sym c.candidates_but-candidates.ensures.asked.1) busy in
     IfOk-weaker c.first_of.result (λ found. IsBusy s m c.args.t c.first_of.new.busy × ((IsTrue false → c.first_of.new.busy ≡ None) → IsFirstAsked s asked m modem found)) (λ found. IsFirst s m c.args.t modem found)

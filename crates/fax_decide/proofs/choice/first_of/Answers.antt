@@ -11,14 +11,15 @@ use Rattle.fax_tables.specs.declared.prospect.Prospect.{Prospect}
 use Rattle.fax_decide.specs.Choice.{IsFirstAsked}
 use Rattle.fax_decide.specs.Settings.{settings_of}
 use Rattle.fax_decide.specs.State.{may_call}
+use Rattle.fax_store.proofs.FrameLemmas.{looks_then}
 use Rattle.fax_decide.proofs.ChoiceLemmas.{NoneWent, given_due, goes_due, next_given, none_is_one, none_more, number_of, went}
 use Rattle.fax_decide.proofs.choice.first_of.Goals as goal
 
-pub returns-in_err-prospect-clause-stays : goal.returns-in_err-prospect-clause-stays
-returns-in_err-prospect-clause-stays g c db ours rests = c.prospect.ensures.stays db ours (c.loop.invariant.stays db ours rests)
+pub returns-in_err-prospect-clause-leaves : goal.returns-in_err-prospect-clause-leaves
+returns-in_err-prospect-clause-leaves g c = looks_then g.S.Store _ _ _ c.loop.invariant.leaves c.prospect.ensures.leaves
 
-pub returns-in_default-clause-stays : goal.returns-in_default-clause-stays
-returns-in_default-clause-stays g c db ours rests = c.prospect.ensures.stays db ours (c.loop.invariant.stays db ours rests)
+pub returns-in_default-clause-leaves : goal.returns-in_default-clause-leaves
+returns-in_default-clause-leaves g c = looks_then g.S.Store _ _ _ c.loop.invariant.leaves c.prospect.ensures.leaves
 
 pub returns-in_default-clause-found : goal.returns-in_default-clause-found
 returns-in_default-clause-found g c m k means serves same stands busy =
@@ -29,17 +30,17 @@ returns-in_default-clause-found g c m k means serves same stands busy =
     let front = c.prospect.new.self.front in
     let most = c.prospect.new.self.most in
     let next = next_given (may_go s m asked.t c.args.modem.now) asked c.loop.candidates.asked m (into_iter_items c.loop.candidates.page) page c.loop.candidates.front front c.loop.candidates.most most c.in_ok-prospect.field-0
-    c.loop.invariant.asked (c.loop.invariant.none m k means (c.prospect.ensures.served serves) same stands busy)
-    (λ given stood. c.in_ok-prospect.ensures.found m k given (means_stay c.loop.invariant.served c.loop.invariant.stays m k means) serves stood) in (
-      c.loop.invariant.busy m k means (c.prospect.ensures.served serves) busy,
+    c.loop.invariant.asked (c.loop.invariant.none m k means (c.prospect.ensures.leaves.served serves) same stands busy)
+    (λ given stood. c.in_ok-prospect.ensures.found m k given (means_stay c.loop.invariant.leaves.served c.loop.invariant.leaves.stays m k means) serves stood) in (
+      c.loop.invariant.busy m k means (c.prospect.ensures.leaves.served serves) busy,
       λ free. (next.0, (subst (Gives IsProspect asked m next.0 page front most) c.in_default.is next.1).0, ap (option_map number_of) (sym next.2)),
     )
 
-pub returns-in_err-goes-clause-stays : goal.returns-in_err-goes-clause-stays
-returns-in_err-goes-clause-stays g c db ours rests = c.goes.ensures.stays db ours (c.prospect.ensures.stays db ours (c.loop.invariant.stays db ours rests))
+pub returns-in_err-goes-clause-leaves : goal.returns-in_err-goes-clause-leaves
+returns-in_err-goes-clause-leaves g c = looks_then g.S.Store _ _ _ (looks_then g.S.Store _ _ _ c.loop.invariant.leaves c.prospect.ensures.leaves) c.goes.ensures.leaves
 
-pub returns-then-branch-clause-stays : goal.returns-then-branch-clause-stays
-returns-then-branch-clause-stays g c db ours rests = c.goes.ensures.stays db ours (c.prospect.ensures.stays db ours (c.loop.invariant.stays db ours rests))
+pub returns-then-branch-clause-leaves : goal.returns-then-branch-clause-leaves
+returns-then-branch-clause-leaves g c = looks_then g.S.Store _ _ _ (looks_then g.S.Store _ _ _ c.loop.invariant.leaves c.prospect.ensures.leaves) c.goes.ensures.leaves
 
 pub returns-then-branch-clause-found : goal.returns-then-branch-clause-found
 returns-then-branch-clause-found g c m k means serves same stands busy =
@@ -50,10 +51,10 @@ returns-then-branch-clause-found g c m k means serves same stands busy =
     let page = into_iter_items c.prospect.new.self.page in
     let front = c.prospect.new.self.front in
     let most = c.prospect.new.self.most in
-    let between = c.goes.ensures.served serves in
-    let before = c.prospect.ensures.served between in
-    let at = means_stay c.loop.invariant.served c.loop.invariant.stays m k means in
-    let looked = means_stay c.prospect.ensures.served c.prospect.ensures.stays m k at in
+    let between = c.goes.ensures.leaves.served serves in
+    let before = c.prospect.ensures.leaves.served between in
+    let at = means_stay c.loop.invariant.leaves.served c.loop.invariant.leaves.stays m k means in
+    let looked = means_stay c.prospect.ensures.leaves.served c.prospect.ensures.leaves.stays m k at in
     let next = next_given (may_go s m asked.t modem) asked c.loop.candidates.asked m (into_iter_items c.loop.candidates.page) page c.loop.candidates.front front c.loop.candidates.most most c.in_ok-prospect.field-0
     c.loop.invariant.asked (c.loop.invariant.none m k means before same stands busy)
     (λ given stood. c.in_ok-prospect.ensures.found m k given at between stood) in
@@ -68,14 +69,11 @@ pub loop-preserved : goal.loop-preserved
 loop-preserved g c = record {
   same_reference = c.goes.ensures.same_reference ∙ c.prospect.ensures.same_reference ∙ c.loop.invariant.same_reference;
   asked = c.goes.ensures.same.0 ∙ c.prospect.ensures.asked ∙ c.loop.invariant.asked;
-  served = λ serves. c.loop.invariant.served (c.prospect.ensures.served (c.goes.ensures.served serves));
-  clean = λ clean. c.loop.invariant.clean (c.prospect.ensures.clean (c.goes.ensures.clean clean));
-  opens = λ clean serves. c.in_ok-goes.ensures.opens clean (c.in_ok-prospect.ensures.opens (c.goes.ensures.clean clean) (c.loop.invariant.opens (c.prospect.ensures.clean (c.goes.ensures.clean clean)) serves));
-  stays = λ db ours rests. c.goes.ensures.stays db ours (c.prospect.ensures.stays db ours (c.loop.invariant.stays db ours rests));
-  crash = λ found may. c.loop.invariant.crash found (c.prospect.ensures.crash found (c.goes.ensures.crash found may));
+  leaves = looks_then g.S.Store _ _ _ (looks_then g.S.Store _ _ _ c.loop.invariant.leaves c.prospect.ensures.leaves) c.goes.ensures.leaves;
+  opens = λ clean serves. c.in_ok-goes.ensures.opens clean (c.in_ok-prospect.ensures.opens (c.goes.ensures.leaves.clean clean) (c.loop.invariant.opens (c.prospect.ensures.leaves.clean (c.goes.ensures.leaves.clean clean)) serves));
   busy = λ m k means serves busy.
-      let before = c.prospect.ensures.served (c.goes.ensures.served serves) in
-      let looked = means_stay c.prospect.ensures.served c.prospect.ensures.stays m k (means_stay c.loop.invariant.served c.loop.invariant.stays m k means) in
+      let before = c.prospect.ensures.leaves.served (c.goes.ensures.leaves.served serves) in
+      let looked = means_stay c.prospect.ensures.leaves.served c.prospect.ensures.leaves.stays m k (means_stay c.loop.invariant.leaves.served c.loop.invariant.leaves.stays m k means) in
       (c.in_ok-goes.ensures.told m k looked serves (c.loop.invariant.busy m k means before busy)).1;
   none = λ m k means serves same stands busy.
       let s = settings_of c.args.office.now.setup c.args.office.now.controls in
@@ -85,10 +83,10 @@ loop-preserved g c = record {
       let page = into_iter_items c.prospect.new.self.page in
       let front = c.prospect.new.self.front in
       let most = c.prospect.new.self.most in
-      let between = c.goes.ensures.served serves in
-      let before = c.prospect.ensures.served between in
-      let at = means_stay c.loop.invariant.served c.loop.invariant.stays m k means in
-      let looked = means_stay c.prospect.ensures.served c.prospect.ensures.stays m k at in
+      let between = c.goes.ensures.leaves.served serves in
+      let before = c.prospect.ensures.leaves.served between in
+      let at = means_stay c.loop.invariant.leaves.served c.loop.invariant.leaves.stays m k means in
+      let looked = means_stay c.prospect.ensures.leaves.served c.prospect.ensures.leaves.stays m k at in
       let next = next_given (may_go s m asked.t modem) asked c.loop.candidates.asked m (into_iter_items c.loop.candidates.page) page c.loop.candidates.front front c.loop.candidates.most most c.in_ok-prospect.field-0
       c.loop.invariant.asked (c.loop.invariant.none m k means before same stands busy)
       (λ given stood. c.in_ok-prospect.ensures.found m k given at between stood) in
@@ -104,13 +102,13 @@ loop-preserved g c = record {
       (next.0 ++ it.0 ∷ [], it.2, none_more (may_go s m asked.t modem) next.0 it.0 next.2 fails)));
 }
 
-pub returns-then-is_some-clause-stays : goal.returns-then-is_some-clause-stays
-returns-then-is_some-clause-stays g c db ours rests = c.goes.ensures.stays db ours (c.prospect.ensures.stays db ours (c.loop.invariant.stays db ours rests))
+pub returns-then-is_some-clause-leaves : goal.returns-then-is_some-clause-leaves
+returns-then-is_some-clause-leaves g c = looks_then g.S.Store _ _ _ (looks_then g.S.Store _ _ _ c.loop.invariant.leaves c.prospect.ensures.leaves) c.goes.ensures.leaves
 
 pub returns-then-is_some-clause-found : goal.returns-then-is_some-clause-found
 returns-then-is_some-clause-found g c m k means serves same stands busy =
-    let before = c.prospect.ensures.served (c.goes.ensures.served serves) in
-    let looked = means_stay c.prospect.ensures.served c.prospect.ensures.stays m k (means_stay c.loop.invariant.served c.loop.invariant.stays m k means) in
+    let before = c.prospect.ensures.leaves.served (c.goes.ensures.leaves.served serves) in
+    let looked = means_stay c.prospect.ensures.leaves.served c.prospect.ensures.leaves.stays m k (means_stay c.loop.invariant.leaves.served c.loop.invariant.leaves.stays m k means) in
     let told = c.in_ok-goes.ensures.told m k looked serves (c.loop.invariant.busy m k means before busy) in
     let one : is_some c.goes.new.busy ≡ true = search rules in
     (told.1, λ free. absurd (none_is_one c.goes.new.busy (free c.if-ends_at_busy.true) one))

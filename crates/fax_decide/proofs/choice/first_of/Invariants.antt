@@ -1,11 +1,11 @@
 use Rattle.std.proofs.Common.{◌≡◌, List, []}
 use Rattle.std.specs.Vec.Iter.{into_iter_items}
 use Rattle.sqlite.specs.Held.{state}
-use Rattle.sqlite.specs.State.{HasCleanDisk}
 use Rattle.fax_core.specs.Best.{may_go}
 use Rattle.fax_core.specs.Queue.{Queue, Entry}
 use Rattle.fax_store.specs.Candidates.{StandsAt}
-use Rattle.fax_store.specs.Store.{CommitsNothing, Means, Serves, Stays, StaysOpen}
+use Rattle.fax_store.specs.Calls.{Looks}
+use Rattle.fax_store.specs.Store.{Means, Serves, StaysOpen}
 use Rattle.fax_decide.specs.Choice.{IsBusy}
 use Rattle.fax_decide.specs.Settings.{settings_of}
 use Rattle.fax_decide.proofs.ChoiceLemmas.{NoneWent}
@@ -15,11 +15,8 @@ abbrev pub invariant-loop : goal.invariant-loop
 invariant-loop g l = record {
   same_reference : l.candidates.store.ghost_name ≡ l.initial.candidates.store.ghost_name;
   asked : l.candidates.asked ≡ l.initial.candidates.asked;
-  served : Serves (state g.S.Store l.candidates.store.now.conn) → Serves (state g.S.Store l.initial.candidates.store.now.conn);
-  clean : HasCleanDisk (state g.S.Store l.candidates.store.now.conn) → HasCleanDisk (state g.S.Store l.initial.candidates.store.now.conn);
+  leaves : Looks g.S.Store l.initial.candidates.store.now l.candidates.store.now;
   opens : StaysOpen (state g.S.Store l.initial.candidates.store.now.conn) (state g.S.Store l.candidates.store.now.conn);
-  stays : Stays (state g.S.Store l.initial.candidates.store.now.conn) (state g.S.Store l.candidates.store.now.conn);
-  crash : CommitsNothing (state g.S.Store l.initial.candidates.store.now.conn) (state g.S.Store l.candidates.store.now.conn);
   busy : (m : Queue) (k : List Entry) → Means (state g.S.Store l.initial.candidates.store.now.conn) m k → Serves (state g.S.Store l.candidates.store.now.conn)
       → IsBusy (settings_of l.office.setup l.office.controls) m l.t l.initial.busy → IsBusy (settings_of l.office.setup l.office.controls) m l.t l.busy;
   none : (m : Queue) (k : List Entry) → Means (state g.S.Store l.initial.candidates.store.now.conn) m k → Serves (state g.S.Store l.candidates.store.now.conn) → l.initial.candidates.asked.t ≡ l.t

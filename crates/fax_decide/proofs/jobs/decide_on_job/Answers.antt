@@ -7,6 +7,7 @@ use Rattle.fax_decide.specs.declared.decision.Decision.TheVariants.{Refused}
 use Rattle.fax_decide.specs.Settings.{settings_of}
 use Rattle.fax_core.specs.Ageing.{aged}
 use Rattle.fax_store.proofs.StoreLemmas.{means_stay}
+use Rattle.fax_store.proofs.FrameLemmas.{looks_then}
 use Rattle.fax_decide.proofs.DecisionLemmas.{refused_like}
 use Rattle.fax_decide.proofs.JobLemmas.{on_job_is}
 use Rattle.fax_decide.proofs.OpenLemmas.{opens_then}
@@ -15,11 +16,11 @@ use Rattle.fax_decide.proofs.jobs.decide_on_job.Goals as goal
 
 pub returns-in-Ok-clause-decided : goal.returns-in-Ok-clause-decided
 returns-in-Ok-clause-decided g c m k means serves =
-    let found = c.in_ok-job.ensures.found m k means (c.changed.ensures.served serves) in
+    let found = c.in_ok-job.ensures.found m k means (c.changed.ensures.leaves.served serves) in
     let there = found_itself (aged c.args.t m) c.args.number c.in-Some.job _ found c.in-Some.is in
     subst (λ step. IfOk c.changed.result (Decides step m c.args.t))
     (on_job_is (settings_of c.args.office.now.setup c.args.office.now.controls) m c.args.t c.args.ask c.args.number _ c.in-Some.job _ found c.in-Some.is c.in-Ok.ensures)
-    (c.changed.ensures.decided m k (means_stay c.brief_at.ensures.served c.brief_at.ensures.stays m k means) serves there)
+    (c.changed.ensures.decided m k (means_stay c.brief_at.ensures.leaves.served c.brief_at.ensures.leaves.stays m k means) serves there)
 
 pub returns-in-Err-clause-decided : goal.returns-in-Err-clause-decided
 returns-in-Err-clause-decided g c m k means serves =
@@ -28,10 +29,7 @@ returns-in-Err-clause-decided g c m k means serves =
     (refused_like c.in-Err.refusal NoKeys c.refused-in-Err.result c.refused-in-Err.ensures)
 
 pub returns-in-Ok-clause-opens : goal.returns-in-Ok-clause-opens
-returns-in-Ok-clause-opens g c = opens_then (state g.S.Store c.args.store.now.conn) (state g.S.Store c.brief_at.new.store.conn) (state g.S.Store c.changed.new.store.conn) c.changed.result c.in_ok-job.ensures.opens c.changed.ensures.clean c.changed.ensures.opens
+returns-in-Ok-clause-opens g c = opens_then (state g.S.Store c.args.store.now.conn) (state g.S.Store c.brief_at.new.store.conn) (state g.S.Store c.changed.new.store.conn) c.changed.result c.in_ok-job.ensures.opens c.changed.ensures.leaves.clean c.changed.ensures.opens
 
-pub returns-in-Ok-clause-stays : goal.returns-in-Ok-clause-stays
-returns-in-Ok-clause-stays g c db ours rests = c.changed.ensures.stays db ours (c.brief_at.ensures.stays db ours rests)
-
-pub returns-in-Ok-clause-crash : goal.returns-in-Ok-clause-crash
-returns-in-Ok-clause-crash g c found may = c.brief_at.ensures.crash found (c.changed.ensures.crash found may)
+pub returns-in-Ok-clause-leaves : goal.returns-in-Ok-clause-leaves
+returns-in-Ok-clause-leaves g c = looks_then g.S.Store _ _ _ c.brief_at.ensures.leaves c.changed.ensures.leaves

@@ -4,6 +4,7 @@ use Rattle.fax_core.specs.Job.{fields_of}
 use Rattle.fax_core.specs.Queue.{job_numbered}
 use Rattle.fax_job.specs.Limits.{last_job}
 use Rattle.fax_tables.specs.Job.{brief}
+use Rattle.fax_store.proofs.FrameLemmas.{means_now}
 use Rattle.fax_decide.proofs.RecordLemmas.{no_job, found_brief, found_no_job}
 use Rattle.fax_decide.proofs.records.brief_at.Goals as goal
 
@@ -14,13 +15,13 @@ returns-in_default-clause-found g c m k means serves =
 
 pub returns-in-Some-2-clause-found : goal.returns-in-Some-2-clause-found
 returns-in-Some-2-clause-found g c m k means serves =
-    let at_rest = means (c.brief.ensures.served serves) in
+    let at_rest = means (c.brief.ensures.leaves.served serves) in
     let same : c.in-Some.number ≡ c.args.number = search rules in
     found_brief m c.args.t c.args.number c.in-Some-2.brief c.aged_job.result _ at_rest.means.lawful.jobs
-    (subst (λ n. c.in_ok-brief.field-0 ≡ option_map (λ j. brief (fields_of j)) (job_numbered n m)) same (c.in_ok-brief.ensures.found m k means serves)) c.in-Some-2.is c.aged_job.ensures
+    (subst (λ n. c.in_ok-brief.field-0 ≡ option_map (λ j. brief (fields_of j)) (job_numbered n m)) same (c.in_ok-brief.ensures.answers m k (means_now means) serves)) c.in-Some-2.is c.aged_job.ensures
 
 pub returns-in-None-clause-found : goal.returns-in-None-clause-found
 returns-in-None-clause-found g c m k means serves =
     let same : c.in-Some.number ≡ c.args.number = search rules in
     found_no_job m c.args.t c.args.number (λ j. brief (fields_of j)) _
-    (subst (λ n. c.in_ok-brief.field-0 ≡ option_map (λ j. brief (fields_of j)) (job_numbered n m)) same (c.in_ok-brief.ensures.found m k means serves)) c.in-None.is
+    (subst (λ n. c.in_ok-brief.field-0 ≡ option_map (λ j. brief (fields_of j)) (job_numbered n m)) same (c.in_ok-brief.ensures.answers m k (means_now means) serves)) c.in-None.is

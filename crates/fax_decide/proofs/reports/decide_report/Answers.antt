@@ -8,53 +8,45 @@ use Rattle.fax_decide.specs.Decision.{Decides}
 use Rattle.fax_decide.specs.Records.{job_in}
 use Rattle.fax_decide.specs.Settings.{settings_of}
 use Rattle.fax_store.proofs.StoreLemmas.{means_stay}
+use Rattle.fax_store.proofs.FrameLemmas.{looks_then}
 use Rattle.fax_decide.proofs.ReportLemmas.{are_there, on_grant_is, without_job_is, lawful_grant}
 use Rattle.fax_decide.proofs.OpenLemmas.{always, opens_then}
 use Rattle.fax_decide.proofs.reports.decide_report.Goals as goal
 
 pub returns-in-Some-2-clause-decided : goal.returns-in-Some-2-clause-decided
 returns-in-Some-2-clause-decided g c m k sound means serves =
-    let serves_job = c.report_on.ensures.served serves in
-    let serves_grant = c.brief_at.ensures.served serves_job in
-    let looked = means_stay c.grant_at.ensures.served c.grant_at.ensures.stays m k means in
+    let serves_job = c.report_on.ensures.leaves.served serves in
+    let serves_grant = c.brief_at.ensures.leaves.served serves_job in
+    let looked = means_stay c.grant_at.ensures.leaves.served c.grant_at.ensures.leaves.stays m k means in
     let grant = c.in_ok-grant.ensures.found m k means serves_grant in
     let job = subst (λ n. option_map (job_in (aged c.args.t m)) c.in_ok-job.field-0 ≡ job_numbered n (aged c.args.t m)) c.from.ensures (c.in_ok-job.ensures.found m k looked serves_job) in
     let there = are_there m c.args.t c.args.number c.in-Some.grant c.in-Some-2.job _ _ grant c.in-Some.is job c.in-Some-2.is in
     let few = (lawful_grant m.grants c.in-Some.grant.number c.in-Some.grant (looked serves_grant).means.lawful.grants there.grant_there).limits.pages in
     subst (λ step. IfOk c.report_on.result (Decides step m c.args.t))
     (on_grant_is (settings_of c.args.office.now.setup c.args.office.now.controls) m c.args.t c.args.number c.args.report c.in-Some.grant c.in-Some-2.job _ _ grant c.in-Some.is job c.in-Some-2.is)
-    (c.report_on.ensures.decided m k sound (means_stay c.brief_at.ensures.served c.brief_at.ensures.stays m k looked) serves there few.2)
+    (c.report_on.ensures.decided m k sound (means_stay c.brief_at.ensures.leaves.served c.brief_at.ensures.leaves.stays m k looked) serves there few.2)
 
 pub returns-in-None-clause-decided : goal.returns-in-None-clause-decided
 returns-in-None-clause-decided g c m k sound means serves =
-    let serves_grant = c.brief_at.ensures.served serves in
-    let looked = means_stay c.grant_at.ensures.served c.grant_at.ensures.stays m k means in
+    let serves_grant = c.brief_at.ensures.leaves.served serves in
+    let looked = means_stay c.grant_at.ensures.leaves.served c.grant_at.ensures.leaves.stays m k means in
     let job = subst (λ n. option_map (job_in (aged c.args.t m)) c.in_ok-job.field-0 ≡ job_numbered n (aged c.args.t m)) c.from.ensures (c.in_ok-job.ensures.found m k looked serves) in
     subst (λ step. IfOk c.without_job.result (Decides step m c.args.t))
     (without_job_is (settings_of c.args.office.now.setup c.args.office.now.controls) m c.args.t c.args.number c.args.report c.in-Some.grant _ _ (c.in_ok-grant.ensures.found m k means serves_grant) c.in-Some.is job c.in-None.is)
     (c.without_job.ensures.decided m c.args.t)
 
-pub returns-in_err-job-clause-stays : goal.returns-in_err-job-clause-stays
-returns-in_err-job-clause-stays g c db ours rests = c.brief_at.ensures.stays db ours (c.grant_at.ensures.stays db ours rests)
+pub returns-in_err-job-clause-leaves : goal.returns-in_err-job-clause-leaves
+returns-in_err-job-clause-leaves g c = looks_then g.S.Store _ _ _ c.grant_at.ensures.leaves c.brief_at.ensures.leaves
 
 pub returns-in-Some-2-clause-opens : goal.returns-in-Some-2-clause-opens
 returns-in-Some-2-clause-opens g c =
-    opens_then (state g.S.Store c.args.store.now.conn) (state g.S.Store c.brief_at.new.store.conn) (state g.S.Store c.report_on.new.store.conn) c.report_on.result (λ clean serves. c.in_ok-job.ensures.opens clean (c.in_ok-grant.ensures.opens (c.brief_at.ensures.clean clean) serves)) c.report_on.ensures.clean c.report_on.ensures.opens
+    opens_then (state g.S.Store c.args.store.now.conn) (state g.S.Store c.brief_at.new.store.conn) (state g.S.Store c.report_on.new.store.conn) c.report_on.result (λ clean serves. c.in_ok-job.ensures.opens clean (c.in_ok-grant.ensures.opens (c.brief_at.ensures.leaves.clean clean) serves)) c.report_on.ensures.leaves.clean c.report_on.ensures.opens
 
-pub returns-in-Some-2-clause-stays : goal.returns-in-Some-2-clause-stays
-returns-in-Some-2-clause-stays g c db ours rests = c.report_on.ensures.stays db ours (c.brief_at.ensures.stays db ours (c.grant_at.ensures.stays db ours rests))
+pub returns-in-Some-2-clause-leaves : goal.returns-in-Some-2-clause-leaves
+returns-in-Some-2-clause-leaves g c = looks_then g.S.Store _ _ _ (looks_then g.S.Store _ _ _ c.grant_at.ensures.leaves c.brief_at.ensures.leaves) c.report_on.ensures.leaves
 
 pub returns-in-None-clause-opens : goal.returns-in-None-clause-opens
-returns-in-None-clause-opens g c = always c.without_job.result (λ clean serves. c.in_ok-job.ensures.opens clean (c.in_ok-grant.ensures.opens (c.brief_at.ensures.clean clean) serves))
+returns-in-None-clause-opens g c = always c.without_job.result (λ clean serves. c.in_ok-job.ensures.opens clean (c.in_ok-grant.ensures.opens (c.brief_at.ensures.leaves.clean clean) serves))
 
-pub returns-in-None-clause-stays : goal.returns-in-None-clause-stays
-returns-in-None-clause-stays g c db ours rests = c.brief_at.ensures.stays db ours (c.grant_at.ensures.stays db ours rests)
-
-pub returns-in_err-job-clause-crash : goal.returns-in_err-job-clause-crash
-returns-in_err-job-clause-crash g c found may = c.grant_at.ensures.crash found (c.brief_at.ensures.crash found may)
-
-pub returns-in-Some-2-clause-crash : goal.returns-in-Some-2-clause-crash
-returns-in-Some-2-clause-crash g c found may = c.grant_at.ensures.crash found (c.brief_at.ensures.crash found (c.report_on.ensures.crash found may))
-
-pub returns-in-None-clause-crash : goal.returns-in-None-clause-crash
-returns-in-None-clause-crash g c found may = c.grant_at.ensures.crash found (c.brief_at.ensures.crash found may)
+pub returns-in-None-clause-leaves : goal.returns-in-None-clause-leaves
+returns-in-None-clause-leaves g c = looks_then g.S.Store _ _ _ c.grant_at.ensures.leaves c.brief_at.ensures.leaves

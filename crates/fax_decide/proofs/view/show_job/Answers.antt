@@ -4,22 +4,20 @@ use Rattle.std.specs.Prelude.{IfOk}
 use Rattle.fax_ask.specs.Response.{Response}
 use Rattle.fax_decide.specs.Settings.{settings_of}
 use Rattle.fax_store.proofs.StoreLemmas.{means_stay}
+use Rattle.fax_store.proofs.FrameLemmas.{looks_then}
 use Rattle.fax_decide.proofs.ViewLemmas.{job_viewed}
 use Rattle.fax_decide.proofs.OpenLemmas.{opens_then}
 use Rattle.fax_decide.proofs.view.show_job.Goals as goal
 
 pub returns-in-Some-clause-viewed : goal.returns-in-Some-clause-viewed
 returns-in-Some-clause-viewed g c m k means serves =
-    let found = c.in_ok-job.ensures.found m k means (c.shown.ensures.served serves) in
+    let found = c.in_ok-job.ensures.found m k means (c.shown.ensures.leaves.served serves) in
     subst (λ (told : Response). IfOk c.shown.result (λ reply. reply ≡ told))
     (job_viewed (settings_of c.args.office.now.setup c.args.office.now.controls) m c.args.t c.args.number c.in-Some.job _ found c.in-Some.is)
-    (c.shown.ensures.told m k (means_stay c.job_at.ensures.served c.job_at.ensures.stays m k means) serves)
+    (c.shown.ensures.told m k (means_stay c.job_at.ensures.leaves.served c.job_at.ensures.leaves.stays m k means) serves)
 
 pub returns-in-Some-clause-opens : goal.returns-in-Some-clause-opens
-returns-in-Some-clause-opens g c = opens_then (state g.S.Store c.args.store.now.conn) (state g.S.Store c.job_at.new.store.conn) (state g.S.Store c.shown.new.store.conn) c.shown.result c.in_ok-job.ensures.opens c.shown.ensures.clean c.shown.ensures.opens
+returns-in-Some-clause-opens g c = opens_then (state g.S.Store c.args.store.now.conn) (state g.S.Store c.job_at.new.store.conn) (state g.S.Store c.shown.new.store.conn) c.shown.result c.in_ok-job.ensures.opens c.shown.ensures.leaves.clean c.shown.ensures.opens
 
-pub returns-in-Some-clause-stays : goal.returns-in-Some-clause-stays
-returns-in-Some-clause-stays g c db ours rests = c.shown.ensures.stays db ours (c.job_at.ensures.stays db ours rests)
-
-pub returns-in-Some-clause-crash : goal.returns-in-Some-clause-crash
-returns-in-Some-clause-crash g c found may = c.job_at.ensures.crash found (c.shown.ensures.crash found may)
+pub returns-in-Some-clause-leaves : goal.returns-in-Some-clause-leaves
+returns-in-Some-clause-leaves g c = looks_then g.S.Store _ _ _ c.job_at.ensures.leaves c.shown.ensures.leaves

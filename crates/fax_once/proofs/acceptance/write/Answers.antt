@@ -6,12 +6,12 @@ use Rattle.fax_store.specs.Work.{Works}
 use Rattle.fax_store.proofs.WorkLemmas.{refused_as}
 use Rattle.fax_decide.specs.Effect.{accepted}
 use Rattle.fax_decide.proofs.WorkLemmas.{refused_any}
-use Rattle.fax_store.proofs.StopLemmas.{withholds_then}
+use Rattle.fax_store.proofs.FrameLemmas.{follows_of, follows_then}
 use Rattle.fax_once.proofs.acceptance.write.Goals as goal
 
 pub returns-in_err-expire_all-clause-changes : goal.returns-in_err-expire_all-clause-changes
 returns-in_err-expire_all-clause-changes g c m₀ m k₀ k suits works =
-    refused_any (state g.S.Store c.expire_all.new.self.store.now.conn) c.expire_all.new.self.failed m₀ _ _ k₀ _ _ c.in_err-expire_all.ensures.fails (c.expire_all.ensures.changes m₀ m k₀ k works)
+    refused_any (state g.S.Store c.expire_all.new.self.store.now.conn) c.expire_all.new.self.failed m₀ _ _ k₀ _ _ c.in_err-expire_all.ensures.leaves.fails (c.expire_all.ensures.changes m₀ m k₀ k works)
 
 pub returns-in_err-write-clause-changes : goal.returns-in_err-write-clause-changes
 returns-in_err-write-clause-changes g c m₀ m k₀ k suits works =
@@ -23,11 +23,12 @@ returns-clause-changes g c m₀ m k₀ k suits works =
     (k ++ entry c.args.sender.now.client.now c.args.sender.now.number c.args.said.now status body ∷ []))
     c.status.ensures c.body.ensures (c.keep.ensures.changes m₀ _ k₀ _ (c.write.ensures.changes m₀ _ k₀ _ suits (c.expire_all.ensures.changes m₀ m k₀ k works)))
 
-pub returns-in_err-write-clause-holds : goal.returns-in_err-write-clause-holds
-returns-in_err-write-clause-holds g c db over = c.write.ensures.holds db (c.expire_all.ensures.holds db over)
+pub returns-in_err-write-clause-leaves : goal.returns-in_err-write-clause-leaves
+returns-in_err-write-clause-leaves g c = follows_then g.S.Store _ _ _ (follows_of g.S.Store _ _ _ c.expire_all.ensures.leaves) c.write.ensures.leaves
 
-pub returns-clause-holds : goal.returns-clause-holds
-returns-clause-holds g c db over = c.keep.ensures.holds db (c.write.ensures.holds db (c.expire_all.ensures.holds db over))
+pub returns-clause-leaves : goal.returns-clause-leaves
+returns-clause-leaves g c =
+    follows_then g.S.Store _ _ _ (follows_then g.S.Store _ _ _ (follows_of g.S.Store _ _ _ c.expire_all.ensures.leaves) c.write.ensures.leaves) (follows_of g.S.Store _ _ _ c.keep.ensures.leaves)
 
 pub returns-in_err-write-clause-cause : goal.returns-in_err-write-clause-cause
 returns-in_err-write-clause-cause g c m₀ m k₀ k works s fits =
@@ -37,14 +38,3 @@ pub returns-clause-cause : goal.returns-clause-cause
 returns-clause-cause g c m₀ m k₀ k works s fits =
     c.keep.ensures.cause m₀ _ k₀ _ (c.write.ensures.changes m₀ _ k₀ _ fits.0.suits (c.expire_all.ensures.changes m₀ m k₀ k works)) s
     (fits.1, subst IsKeptStatus (sym c.status.ensures) fits.2, fits.3)
-
-pub returns-in_err-write-clause-crash : goal.returns-in_err-write-clause-crash
-returns-in_err-write-clause-crash g c =
-    withholds_then (state g.S.Store c.args.work.now.store.now.conn) (state g.S.Store c.expire_all.new.self.store.now.conn) (state g.S.Store c.write.new.work.store.now.conn) _ c.expire_all.ensures.crash c.write.ensures.crash
-
-pub returns-clause-crash : goal.returns-clause-crash
-returns-clause-crash g c =
-    let old = state g.S.Store c.args.work.now.store.now.conn in
-    let aged = state g.S.Store c.expire_all.new.self.store.now.conn in
-    let wrote = state g.S.Store c.write.new.work.store.now.conn in
-    withholds_then old wrote (state g.S.Store c.keep.new.self.store.now.conn) _ (withholds_then old aged wrote _ c.expire_all.ensures.crash c.write.ensures.crash) c.keep.ensures.crash

@@ -3,6 +3,7 @@ use Rattle.sqlite.specs.Held.{state}
 use Rattle.fax_core.specs.Machine.{with_mark}
 use Rattle.fax_store.specs.Work.{Works}
 use Rattle.fax_decide.specs.Effect.{IsWithin, IsWritable, Suits, effected}
+use Rattle.fax_store.proofs.FrameLemmas.{follows_of, follows_then}
 use Rattle.fax_decide.proofs.WorkLemmas.{refused_any}
 use Rattle.fax_store.proofs.StopLemmas.{withholds_then}
 use Rattle.fax_decide.proofs.effect.Effect.change.Goals as goal
@@ -24,7 +25,7 @@ returns-in-Marked-clause-changes g c m₀ m k₀ k suits works =
 pub returns-in_err-put_change-in-NewGrant-clause-changes : goal.returns-in_err-put_change-in-NewGrant-clause-changes
 returns-in_err-put_change-in-NewGrant-clause-changes g c m₀ m k₀ k suits works =
     let suited = subst (λ e. Suits e m) c.in-NewGrant.is suits in
-    refused_any (state g.S.Store c.put_change-in-NewGrant.new.self.store.now.conn) c.put_change-in-NewGrant.new.self.failed m₀ _ _ k₀ _ _ c.in_err-put_change-in-NewGrant.ensures.fails (c.put_change-in-NewGrant.ensures.changes m₀ m k₀ k suited works)
+    refused_any (state g.S.Store c.put_change-in-NewGrant.new.self.store.now.conn) c.put_change-in-NewGrant.new.self.failed m₀ _ _ k₀ _ _ c.in_err-put_change-in-NewGrant.ensures.leaves.fails (c.put_change-in-NewGrant.ensures.changes m₀ m k₀ k suited works)
 
 pub returns-in_ok-put_change-in-NewGrant-clause-changes : goal.returns-in_ok-put_change-in-NewGrant-clause-changes
 returns-in_ok-put_change-in-NewGrant-clause-changes g c m₀ m k₀ k suits works =
@@ -34,7 +35,7 @@ returns-in_ok-put_change-in-NewGrant-clause-changes g c m₀ m k₀ k suits work
 pub returns-in_err-put_change-in-Reported-clause-changes : goal.returns-in_err-put_change-in-Reported-clause-changes
 returns-in_err-put_change-in-Reported-clause-changes g c m₀ m k₀ k suits works =
     let suited = subst (λ e. Suits e m) c.in-Reported.is suits in
-    refused_any (state g.S.Store c.put_change-in-Reported.new.self.store.now.conn) c.put_change-in-Reported.new.self.failed m₀ _ _ k₀ _ _ c.in_err-put_change-in-Reported.ensures.fails (c.put_change-in-Reported.ensures.changes m₀ m k₀ k suited.0 works)
+    refused_any (state g.S.Store c.put_change-in-Reported.new.self.store.now.conn) c.put_change-in-Reported.new.self.failed m₀ _ _ k₀ _ _ c.in_err-put_change-in-Reported.ensures.leaves.fails (c.put_change-in-Reported.ensures.changes m₀ m k₀ k suited.0 works)
 
 pub returns-in_ok-put_change-in-Reported-clause-changes : goal.returns-in_ok-put_change-in-Reported-clause-changes
 returns-in_ok-put_change-in-Reported-clause-changes g c m₀ m k₀ k suits works =
@@ -44,21 +45,21 @@ returns-in_ok-put_change-in-Reported-clause-changes g c m₀ m k₀ k suits work
 pub returns-in_err-put_change-in-Closed-clause-changes : goal.returns-in_err-put_change-in-Closed-clause-changes
 returns-in_err-put_change-in-Closed-clause-changes g c m₀ m k₀ k suits works =
     let suited = subst (λ e. Suits e m) c.in-Closed.is suits in
-    refused_any (state g.S.Store c.put_change-in-Closed.new.self.store.now.conn) c.put_change-in-Closed.new.self.failed m₀ _ _ k₀ _ _ c.in_err-put_change-in-Closed.ensures.fails (c.put_change-in-Closed.ensures.changes m₀ m k₀ k suited works)
+    refused_any (state g.S.Store c.put_change-in-Closed.new.self.store.now.conn) c.put_change-in-Closed.new.self.failed m₀ _ _ k₀ _ _ c.in_err-put_change-in-Closed.ensures.leaves.fails (c.put_change-in-Closed.ensures.changes m₀ m k₀ k suited works)
 
 pub returns-in_ok-put_change-in-Closed-clause-changes : goal.returns-in_ok-put_change-in-Closed-clause-changes
 returns-in_ok-put_change-in-Closed-clause-changes g c m₀ m k₀ k suits works =
     let suited = subst (λ e. Suits e m) c.in-Closed.is suits in
     subst (λ e. Works (state g.S.Store c.close_grant.new.self.store.now.conn) c.close_grant.new.self.failed m₀ k₀ (effected e m) k) (sym c.in-Closed.is) (c.close_grant.ensures.changes m₀ _ k₀ _ (c.put_change-in-Closed.ensures.changes m₀ m k₀ k suited works))
 
-pub returns-in_ok-put_change-in-NewGrant-clause-holds : goal.returns-in_ok-put_change-in-NewGrant-clause-holds
-returns-in_ok-put_change-in-NewGrant-clause-holds g c db over = c.put_grant.ensures.holds db (c.put_change-in-NewGrant.ensures.holds db over)
+pub returns-in_ok-put_change-in-NewGrant-clause-leaves : goal.returns-in_ok-put_change-in-NewGrant-clause-leaves
+returns-in_ok-put_change-in-NewGrant-clause-leaves g c = follows_then g.S.Store _ _ _ (follows_of g.S.Store _ _ _ c.put_change-in-NewGrant.ensures.leaves) (follows_of g.S.Store _ _ _ c.put_grant.ensures.leaves)
 
-pub returns-in_ok-put_change-in-Reported-clause-holds : goal.returns-in_ok-put_change-in-Reported-clause-holds
-returns-in_ok-put_change-in-Reported-clause-holds g c db over = c.put_report.ensures.holds db (c.put_change-in-Reported.ensures.holds db over)
+pub returns-in_ok-put_change-in-Reported-clause-leaves : goal.returns-in_ok-put_change-in-Reported-clause-leaves
+returns-in_ok-put_change-in-Reported-clause-leaves g c = follows_then g.S.Store _ _ _ (follows_of g.S.Store _ _ _ c.put_change-in-Reported.ensures.leaves) (follows_of g.S.Store _ _ _ c.put_report.ensures.leaves)
 
-pub returns-in_ok-put_change-in-Closed-clause-holds : goal.returns-in_ok-put_change-in-Closed-clause-holds
-returns-in_ok-put_change-in-Closed-clause-holds g c db over = c.close_grant.ensures.holds db (c.put_change-in-Closed.ensures.holds db over)
+pub returns-in_ok-put_change-in-Closed-clause-leaves : goal.returns-in_ok-put_change-in-Closed-clause-leaves
+returns-in_ok-put_change-in-Closed-clause-leaves g c = follows_then g.S.Store _ _ _ (follows_of g.S.Store _ _ _ c.put_change-in-Closed.ensures.leaves) (follows_of g.S.Store _ _ _ c.close_grant.ensures.leaves)
 
 pub returns-in-NewJob-clause-cause : goal.returns-in-NewJob-clause-cause
 returns-in-NewJob-clause-cause g c m₀ m k₀ k works s fits =
@@ -75,18 +76,6 @@ returns-in_ok-put_change-in-NewGrant-clause-cause g c m₀ m k₀ k works s fits
 
 pub returns-in_ok-put_change-in-Reported-clause-cause : goal.returns-in_ok-put_change-in-Reported-clause-cause
 returns-in_ok-put_change-in-Reported-clause-cause g c m₀ m k₀ k works s fits = c.put_report.ensures.cause (subst (λ e. IsWithin e m) c.in-Reported.is fits.within)
-
-pub returns-in_ok-put_change-in-NewGrant-clause-crash : goal.returns-in_ok-put_change-in-NewGrant-clause-crash
-returns-in_ok-put_change-in-NewGrant-clause-crash g c =
-    withholds_then (state g.S.Store c.args.work.now.store.now.conn) (state g.S.Store c.put_change-in-NewGrant.new.self.store.now.conn) (state g.S.Store c.put_grant.new.self.store.now.conn) _ c.put_change-in-NewGrant.ensures.crash c.put_grant.ensures.crash
-
-pub returns-in_ok-put_change-in-Reported-clause-crash : goal.returns-in_ok-put_change-in-Reported-clause-crash
-returns-in_ok-put_change-in-Reported-clause-crash g c =
-    withholds_then (state g.S.Store c.args.work.now.store.now.conn) (state g.S.Store c.put_change-in-Reported.new.self.store.now.conn) (state g.S.Store c.put_report.new.self.store.now.conn) _ c.put_change-in-Reported.ensures.crash c.put_report.ensures.crash
-
-pub returns-in_ok-put_change-in-Closed-clause-crash : goal.returns-in_ok-put_change-in-Closed-clause-crash
-returns-in_ok-put_change-in-Closed-clause-crash g c =
-    withholds_then (state g.S.Store c.args.work.now.store.now.conn) (state g.S.Store c.put_change-in-Closed.new.self.store.now.conn) (state g.S.Store c.close_grant.new.self.store.now.conn) _ c.put_change-in-Closed.ensures.crash c.close_grant.ensures.crash
 
 pub returns-in_ok-put_change-in-Closed-clause-cause : goal.returns-in_ok-put_change-in-Closed-clause-cause
 returns-in_ok-put_change-in-Closed-clause-cause g c m₀ m k₀ k works s fits =

@@ -3,6 +3,7 @@ use Rattle.sqlite.specs.Held.{state}
 use Rattle.fax_store.specs.Meta.{with_clock}
 use Rattle.fax_store.specs.Work.{Works}
 use Rattle.fax_decide.specs.Effect.{IsWritable, Suits, effected}
+use Rattle.fax_store.proofs.FrameLemmas.{follows_of, follows_then}
 use Rattle.fax_decide.proofs.WorkLemmas.{refused_any}
 use Rattle.fax_store.proofs.StopLemmas.{withholds_then}
 use Rattle.fax_store.proofs.WorkLemmas.{refused_as}
@@ -25,12 +26,8 @@ returns-in_err-change-clause-changes g c m₀ m k₀ k suits works =
 pub returns-clause-changes : goal.returns-clause-changes
 returns-clause-changes g c m₀ m k₀ k suits works = c.set_clock.ensures.changes m₀ _ k₀ _ (c.change.ensures.changes m₀ m k₀ k suits works)
 
-pub returns-clause-holds : goal.returns-clause-holds
-returns-clause-holds g c db over = c.set_clock.ensures.holds db (c.change.ensures.holds db over)
-
-pub returns-clause-crash : goal.returns-clause-crash
-returns-clause-crash g c =
-    withholds_then (state g.S.Store c.args.work.now.store.now.conn) (state g.S.Store c.change.new.work.store.now.conn) (state g.S.Store c.set_clock.new.self.store.now.conn) _ c.change.ensures.crash c.set_clock.ensures.crash
+pub returns-clause-leaves : goal.returns-clause-leaves
+returns-clause-leaves g c = follows_then g.S.Store _ _ _ c.change.ensures.leaves (follows_of g.S.Store _ _ _ c.set_clock.ensures.leaves)
 
 pub returns-in_err-change-clause-cause : goal.returns-in_err-change-clause-cause
 returns-in_err-change-clause-cause g c m₀ m k₀ k works s fits =

@@ -16,7 +16,7 @@ pub returns-in-View-clause-answered : goal.returns-in-View-clause-answered
 returns-in-View-clause-answered g c m k sound means clean is lawful =
     view_answers c.show.result (settings_of c.args.self.now.office.setup c.args.self.now.office.controls) c.args.arrival.now m k c.args.ask c.in-View.asked (state g.S.Store c.show.new.self.store.conn)
     is c.in-View.is (where_open c.show.result (HasCleanDisk (state g.S.Store c.show.new.self.store.conn)) (Serves (state g.S.Store c.show.new.self.store.conn)) _ c.show.ensures.opens clean (c.show.ensures.viewed m k sound means))
-    (means_stay c.show.ensures.served c.show.ensures.stays m k means)
+    (means_stay c.show.ensures.leaves.served c.show.ensures.leaves.stays m k means)
 
 pub returns-in-Ok-clause-answered : goal.returns-in-Ok-clause-answered
 returns-in-Ok-clause-answered g c m k sound means clean is lawful =
@@ -41,10 +41,10 @@ returns-in-Ok-clause-repeated g c db ours rests used =
     c.step.ensures.repeated db ours rests (its_reply c.args.arrival.now c.in-Ok.sender db c.in-Ok.ensures.sender used)
 
 pub returns-in-View-clause-repeated : goal.returns-in-View-clause-repeated
-returns-in-View-clause-repeated g c db ours rests used = c.show.ensures.stays db ours rests
+returns-in-View-clause-repeated g c db ours rests used = c.show.ensures.leaves.stays db ours rests
 
 pub returns-in-View-clause-crash : goal.returns-in-View-clause-crash
-returns-in-View-clause-crash g c m k sound means is lawful found may = inl (c.show.ensures.crash found may)
+returns-in-View-clause-crash g c m k sound means is lawful found may = inl (c.show.ensures.leaves.crash found may)
 
 pub returns-in-Ok-clause-crash : goal.returns-in-Ok-clause-crash
 returns-in-Ok-clause-crash g c m k sound means is lawful =

@@ -28,7 +28,7 @@ returns-in-Err-clause-sound g c m k sound means clean =
     (returns-in-Err-clause-handled g c m k sound means clean)
 
 pub returns-in-Err-clause-refused : goal.returns-in-Err-clause-refused
-returns-in-Err-clause-refused g c refused db ours rests = c.is_shut.ensures.stays db ours (c.in-Err.ensures.unchanged tt db ours rests)
+returns-in-Err-clause-refused g c refused db ours rests = c.is_shut.ensures.stays db ours (c.in-Err.ensures.leaves.unchanged tt db ours rests)
 
 pub returns-in-Err-clause-seen : goal.returns-in-Err-clause-seen
 returns-in-Err-clause-seen g c get db ours rests = c.is_shut.ensures.stays db ours (c.in-Err.ensures.seen get db ours rests)

@@ -1,4 +1,4 @@
-use Rattle.std.proofs.Common.{inl, subst}
+use Rattle.std.proofs.Common.{rules, inl, subst}
 use Rattle.sqlite.specs.Held.{state}
 use Rattle.fax_decide.specs.Settings.{settings_of}
 use Rattle.fax_decide.proofs.WorkLemmas.{refused_with}
@@ -6,47 +6,52 @@ use Rattle.fax_store.proofs.StoreLemmas.{means_stay}
 use Rattle.fax_store.specs.Kept.{IsKeptFor, MissesNone}
 use Rattle.fax_once.proofs.VerdictLemmas.{repeated_leaves}
 use Rattle.fax_once.proofs.StopLemmas.{then_stops}
+use Rattle.fax_store.proofs.FrameLemmas.{means_now}
 use Rattle.fax_once.proofs.queue.Queue.step.Goals as goal
 
 pub returns-in-Some-clause-stepped : goal.returns-in-Some-clause-stepped
 returns-in-Some-clause-stepped g c m k sound means clean from lawful =
     let settings = settings_of c.args.self.now.office.setup c.args.self.now.office.controls in
-    let serves = c.in_ok-kept.ensures.opens clean in
-    let found = subst (IsKeptFor k c.args.sender.now.client.now c.args.sender.now.number) c.in-Some.is (c.in_ok-kept.ensures.found m k means serves) in
+    let serves = c.in_ok-kept.ensures.leaves.opens clean in
+    let found = subst (IsKeptFor k c.args.sender.now.client.now c.args.sender.now.number) c.in-Some.is (c.in_ok-kept.ensures.answers m k (means_now means) serves) in
     repeated_leaves settings c.args.arrival.now m k c.args.sender.now c.args.ask c.in-Some.kept found.0 c.repeat.result (state g.S.Store c.kept.new.self.conn)
-    from found.1 found.2 serves (means_stay c.kept.ensures.served c.kept.ensures.stays m k means serves) c.repeat.ensures
+    from found.1 found.2 serves (means_stay c.kept.ensures.leaves.served c.kept.ensures.leaves.stays m k means serves) c.repeat.ensures
 
 pub returns-in-None-clause-stepped : goal.returns-in-None-clause-stepped
 returns-in-None-clause-stepped g c m k sound means clean from lawful =
-    c.step_once.ensures.stepped m k sound (means_stay c.kept.ensures.served c.kept.ensures.stays m k means) c.in_ok-kept.ensures.opens clean from lawful
-    (λ serves. subst (IsKeptFor k c.args.sender.now.client.now c.args.sender.now.number) c.in-None.is (c.in_ok-kept.ensures.found m k means serves))
+    c.step_once.ensures.stepped m k sound (means_stay c.kept.ensures.leaves.served c.kept.ensures.leaves.stays m k means) c.in_ok-kept.ensures.leaves.opens clean from lawful
+    (λ serves. subst (IsKeptFor k c.args.sender.now.client.now c.args.sender.now.number) c.in-None.is (c.in_ok-kept.ensures.answers m k (means_now means) serves))
 
-pub returns-in-None-clause-unchanged : goal.returns-in-None-clause-unchanged
-returns-in-None-clause-unchanged g c refused db ours rests = c.step_once.ensures.unchanged refused db ours (c.kept.ensures.stays db ours rests)
+pub returns-in-None-clause-leaves : goal.returns-in-None-clause-leaves
+returns-in-None-clause-leaves g c = record {
+  office = search rules;
+  clean = search rules;
+  unchanged = λ refused db ours rests. c.step_once.ensures.leaves.unchanged refused db ours (c.kept.ensures.leaves.stays db ours rests);
+}
 
 pub returns-in_err-kept-clause-stepped : goal.returns-in_err-kept-clause-stepped
 returns-in_err-kept-clause-stepped g c m k sound means clean from lawful =
-    refused_with c.from_residual.result _ _ c.from_residual.ensures.0 (means_stay c.kept.ensures.served c.kept.ensures.stays m k means)
+    refused_with c.from_residual.result _ _ c.from_residual.ensures.0 (means_stay c.kept.ensures.leaves.served c.kept.ensures.leaves.stays m k means)
 
 pub returns-in-None-clause-repeated : goal.returns-in-None-clause-repeated
 returns-in-None-clause-repeated g c db ours rests used serves =
-    let read = c.in_ok-kept.ensures.opens (c.step_once.ensures.clean serves.clean) in
-    absurd (subst (MissesNone db c.args.sender.now.client.now c.args.sender.now.number) c.in-None.is (c.in_ok-kept.ensures.unkept db ours rests read) used)
+    let read = c.in_ok-kept.ensures.leaves.opens (c.step_once.ensures.leaves.clean serves.clean) in
+    absurd (subst (MissesNone db c.args.sender.now.client.now c.args.sender.now.number) c.in-None.is (c.in_ok-kept.ensures.unkept db ours (rests (c.kept.ensures.leaves.served read)).now read.clean) used)
 
 pub returns-in-Some-clause-repeated : goal.returns-in-Some-clause-repeated
-returns-in-Some-clause-repeated g c db ours rests used = c.kept.ensures.stays db ours rests
+returns-in-Some-clause-repeated g c db ours rests used = c.kept.ensures.leaves.stays db ours rests
 
 pub returns-in_err-kept-clause-repeated : goal.returns-in_err-kept-clause-repeated
-returns-in_err-kept-clause-repeated g c db ours rests used = c.kept.ensures.stays db ours rests
+returns-in_err-kept-clause-repeated g c db ours rests used = c.kept.ensures.leaves.stays db ours rests
 
 pub returns-in-None-clause-crash : goal.returns-in-None-clause-crash
 returns-in-None-clause-crash g c m k sound means from =
-    then_stops (state g.S.Store c.args.self.now.store.conn) (state g.S.Store c.kept.new.self.conn) (state g.S.Store c.step_once.new.self.store.conn) _ c.kept.ensures.crash
-    (c.step_once.ensures.crash m k sound (means_stay c.kept.ensures.served c.kept.ensures.stays m k means) from
-    (λ serves. subst (IsKeptFor k c.args.sender.now.client.now c.args.sender.now.number) c.in-None.is (c.in_ok-kept.ensures.found m k means serves)))
+    then_stops (state g.S.Store c.args.self.now.store.conn) (state g.S.Store c.kept.new.self.conn) (state g.S.Store c.step_once.new.self.store.conn) _ c.kept.ensures.leaves.crash
+    (c.step_once.ensures.crash m k sound (means_stay c.kept.ensures.leaves.served c.kept.ensures.leaves.stays m k means) from
+    (λ serves. subst (IsKeptFor k c.args.sender.now.client.now c.args.sender.now.number) c.in-None.is (c.in_ok-kept.ensures.answers m k (means_now means) serves)))
 
 pub returns-in-Some-clause-crash : goal.returns-in-Some-clause-crash
-returns-in-Some-clause-crash g c m k sound means from found may = inl (c.kept.ensures.crash found may)
+returns-in-Some-clause-crash g c m k sound means from found may = inl (c.kept.ensures.leaves.crash found may)
 
 pub returns-in_err-kept-clause-crash : goal.returns-in_err-kept-clause-crash
-returns-in_err-kept-clause-crash g c m k sound means from found may = inl (c.kept.ensures.crash found may)
+returns-in_err-kept-clause-crash g c m k sound means from found may = inl (c.kept.ensures.leaves.crash found may)

@@ -10,6 +10,7 @@ use Rattle.fax_tables.specs.declared.prospect.Prospect.{Prospect}
 use Rattle.fax_tables.proofs.ResultLemmas.{passes_on}
 use Rattle.fax_store.proofs.CandidateLemmas.{given_there}
 use Rattle.fax_store.proofs.StoreLemmas.{means_stay}
+use Rattle.fax_store.proofs.FrameLemmas.{looks_of, looks_then, means_now}
 use Rattle.fax_store.proofs.candidates.Candidates+S.next.Goals as goal
 
 pub returns-in_err-prospect-clause-found : goal.returns-in_err-prospect-clause-found
@@ -21,16 +22,16 @@ returns-in_default-clause-found g c m k given means serves stands =
     subst (λ o. Gives IsProspect c.args.self.now.asked m given (into_iter_items c.prospect.new.self.page) c.prospect.new.self.front c.prospect.new.self.most o) c.in_default.is
     (c.in_ok-prospect.ensures.found m k given means serves stands)
 
-pub returns-in_err-job-clause-stays : goal.returns-in_err-job-clause-stays
-returns-in_err-job-clause-stays g c db six rests = c.job.ensures.stays db six (c.prospect.ensures.stays db six rests)
+pub returns-in_err-job-clause-leaves : goal.returns-in_err-job-clause-leaves
+returns-in_err-job-clause-leaves g c = looks_then g.S.Store _ _ _ c.prospect.ensures.leaves (looks_of g.S.Store _ _ _ c.job.ensures.leaves)
 
 pub returns-in_err-job-clause-found : goal.returns-in_err-job-clause-found
 returns-in_err-job-clause-found g c m k given means serves stands =
     passes_on c.from_residual-in_err-job.result c.in_err-job.field-0.0 _ c.from_residual-in_err-job.ensures.1
-    (c.in_err-job.ensures.found m k (means_stay c.prospect.ensures.served c.prospect.ensures.stays m k means) serves)
+    (c.in_err-job.ensures.answers m k (means_now (means_stay c.prospect.ensures.leaves.served c.prospect.ensures.leaves.stays m k means)) serves)
 
-pub returns-in_default-2-clause-stays : goal.returns-in_default-2-clause-stays
-returns-in_default-2-clause-stays g c db six rests = c.job.ensures.stays db six (c.prospect.ensures.stays db six rests)
+pub returns-in_default-2-clause-leaves : goal.returns-in_default-2-clause-leaves
+returns-in_default-2-clause-leaves g c = looks_then g.S.Store _ _ _ c.prospect.ensures.leaves (looks_of g.S.Store _ _ _ c.job.ensures.leaves)
 
 pub returns-in_default-2-clause-found : goal.returns-in_default-2-clause-found
 returns-in_default-2-clause-found g c m k given means serves stands =
@@ -38,23 +39,23 @@ returns-in_default-2-clause-found g c m k given means serves stands =
     let page = into_iter_items c.prospect.new.self.page in
     let front = c.prospect.new.self.front in
     let most = c.prospect.new.self.most in
-    let between = c.job.ensures.served serves in
+    let between = c.job.ensures.leaves.served serves in
     let it = subst (λ o. Gives IsProspect asked m given page front most o) c.in-Some.is (c.in_ok-prospect.ensures.found m k given means between stands) in
-    let there = given_there _ m k (means (c.prospect.ensures.served between)).means asked given it.0 page front most it.2 in
-    let job = c.in_ok-job.ensures.found m k (means_stay c.prospect.ensures.served c.prospect.ensures.stays m k means) serves in
+    let there = given_there _ m k (means (c.prospect.ensures.leaves.served between)).means asked given it.0 page front most it.2 in
+    let job = c.in_ok-job.ensures.answers m k (means_now (means_stay c.prospect.ensures.leaves.served c.prospect.ensures.leaves.stays m k means)) serves in
     absurd (none-some (fields_of it.0) (sym c.in_default-2.is ∙ job ∙ ap (λ (n : ℕ). option_map fields_of (job_numbered n m)) (ap (λ (p : Prospect). p.job) it.1) ∙ ap (option_map fields_of) there))
 
-pub returns-in_err-calls-clause-stays : goal.returns-in_err-calls-clause-stays
-returns-in_err-calls-clause-stays g c db six rests = c.active_to.ensures.stays db six (c.job.ensures.stays db six (c.prospect.ensures.stays db six rests))
+pub returns-in_err-calls-clause-leaves : goal.returns-in_err-calls-clause-leaves
+returns-in_err-calls-clause-leaves g c = looks_then g.S.Store _ _ _ (looks_then g.S.Store _ _ _ c.prospect.ensures.leaves (looks_of g.S.Store _ _ _ c.job.ensures.leaves)) (looks_of g.S.Store _ _ _ c.active_to.ensures.leaves)
 
 pub returns-in_err-calls-clause-found : goal.returns-in_err-calls-clause-found
 returns-in_err-calls-clause-found g c m k given means serves stands =
-    let looked = means_stay c.prospect.ensures.served c.prospect.ensures.stays m k means in
+    let looked = means_stay c.prospect.ensures.leaves.served c.prospect.ensures.leaves.stays m k means in
     passes_on c.from_residual-in_err-calls.result c.in_err-calls.field-0.0 _ c.from_residual-in_err-calls.ensures.1
-    (c.in_err-calls.ensures.found m k (means_stay c.job.ensures.served c.job.ensures.stays m k looked) serves)
+    (c.in_err-calls.ensures.answers m k (means_now (means_stay c.job.ensures.leaves.served c.job.ensures.leaves.stays m k looked)) serves)
 
-pub returns-clause-stays : goal.returns-clause-stays
-returns-clause-stays g c db six rests = c.active_to.ensures.stays db six (c.job.ensures.stays db six (c.prospect.ensures.stays db six rests))
+pub returns-clause-leaves : goal.returns-clause-leaves
+returns-clause-leaves g c = looks_then g.S.Store _ _ _ (looks_then g.S.Store _ _ _ c.prospect.ensures.leaves (looks_of g.S.Store _ _ _ c.job.ensures.leaves)) (looks_of g.S.Store _ _ _ c.active_to.ensures.leaves)
 
 pub returns-clause-found : goal.returns-clause-found
 returns-clause-found g c m k given means serves stands =
@@ -62,12 +63,12 @@ returns-clause-found g c m k given means serves stands =
     let page = into_iter_items c.prospect.new.self.page in
     let front = c.prospect.new.self.front in
     let most = c.prospect.new.self.most in
-    let at_job = c.active_to.ensures.served serves in
-    let between = c.job.ensures.served at_job in
-    let looked = means_stay c.prospect.ensures.served c.prospect.ensures.stays m k means in
+    let at_job = c.active_to.ensures.leaves.served serves in
+    let between = c.job.ensures.leaves.served at_job in
+    let looked = means_stay c.prospect.ensures.leaves.served c.prospect.ensures.leaves.stays m k means in
     let it = subst (λ o. Gives IsProspect asked m given page front most o) c.in-Some.is (c.in_ok-prospect.ensures.found m k given means between stands) in
-    let there = given_there _ m k (means (c.prospect.ensures.served between)).means asked given it.0 page front most it.2 in
-    let job = c.in_ok-job.ensures.found m k looked at_job in
+    let there = given_there _ m k (means (c.prospect.ensures.leaves.served between)).means asked given it.0 page front most it.2 in
+    let job = c.in_ok-job.ensures.answers m k (means_now looked) at_job in
     let whole = same_Some c.in-Some-2.job (fields_of it.0) (sym c.in-Some-2.is ∙ job ∙ ap (λ (n : ℕ). option_map fields_of (job_numbered n m)) (ap (λ (p : Prospect). p.job) it.1) ∙ ap (option_map fields_of) there) in
-    let calls = c.in_ok-calls.ensures.found m k (means_stay c.job.ensures.served c.job.ensures.stays m k looked) serves in
+    let calls = c.in_ok-calls.ensures.answers m k (means_now (means_stay c.job.ensures.leaves.served c.job.ensures.leaves.stays m k looked)) serves in
     (it.0, (whole, calls ∙ ap (λ (dial : List ℕ). calls_to dial m) (ap (λ (p : Prospect). p.dial) it.1)), it.2)

@@ -6,16 +6,17 @@ use Rattle.fax_core.specs.Job.{fields_of}
 use Rattle.fax_store.specs.Candidates.{StandsAt, front_of}
 use Rattle.fax_tables.proofs.ResultLemmas.{passes_on}
 use Rattle.fax_store.proofs.CandidateLemmas.{all_given, page_empty, page_ends, page_lawful, stands_on, stands_page}
+use Rattle.fax_store.proofs.FrameLemmas.{means_now}
 use Rattle.fax_store.proofs.candidates.Candidates+S.read_on.Goals as goal
 use Rattle.fax_store.proofs.candidates.Candidates+S.read_on.Goals.{in-Some+in_ok-prospect_in-in-Some, in-None}
 
 pub returns-in_err-prospect_in-in-Some-clause-found : goal.returns-in_err-prospect_in-in-Some-clause-found
 returns-in_err-prospect_in-in-Some-clause-found g c m k given means serves stands =
-    let next = c.in_ok-page.ensures.found m k means serves in
+    let next = c.in_ok-page.ensures.answers m k (means_now means) serves in
     let rows = c.in_ok-page.page.items in
     let last : Some c.in-Some.row.now ≡ slice_get rows (length rows - 1) = subst (λ (xs : List Row). Some c.in-Some.row.now ≡ slice_get xs (length xs - 1)) c.deref.ensures.value c.in-Some.ensures.value in
     let it = page_ends rows _ c.in-Some.row.now next.is last in
-    let lawful = page_lawful c.args.self.now.asked m c.args.self.now.front c.args.self.now.most next.all it.0 it.1 (means (c.page.ensures.served serves)).means.lawful.jobs next.waiting it.2 in
+    let lawful = page_lawful c.args.self.now.asked m c.args.self.now.front c.args.self.now.most next.all it.0 it.1 (means (c.page.ensures.leaves.served serves)).means.lawful.jobs next.waiting it.2 in
     passes_on c.from_residual-in_err-prospect_in-in-Some.result c.in_err-prospect_in-in-Some.field-0.0 _ c.from_residual-in_err-prospect_in-in-Some.ensures.1
     (c.in_err-prospect_in-in-Some.ensures (fields_of it.1) it.3 lawful.limits lawful.formed)
 
@@ -24,9 +25,9 @@ returns-clause-found g c m k given means serves stands =
     let asked = c.args.self.now.asked in
     let front = c.args.self.now.front in
     let most = c.args.self.now.most in
-    let next = c.in_ok-page.ensures.found m k means serves in
+    let next = c.in_ok-page.ensures.answers m k (means_now means) serves in
     let rows = c.in_ok-page.page.items in
-    let means_now = (means (c.page.ensures.served serves)).means in
+    let means_now = (means (c.page.ensures.leaves.served serves)).means in
     let some = stands.some in
     let more : 0 < c.min-self.result = omega (arith, some, c.saturating_add.ensures, c.min-self.ensures) in
     let page : into_iter_items c.into_iter.result ≡ rows = c.into_iter.ensures.rest in (

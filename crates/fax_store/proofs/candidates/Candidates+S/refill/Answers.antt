@@ -4,11 +4,12 @@ use Rattle.std.proofs.lemmas.List.{nil_from_length}
 use Rattle.fax_store.specs.Candidates.{AreAsked, StandsAt}
 use Rattle.fax_store.specs.declared.candidates.Asked.{Asked}
 use Rattle.fax_tables.proofs.ResultLemmas.{passes_on}
+use Rattle.fax_store.proofs.FrameLemmas.{looks_then}
 use Rattle.fax_store.proofs.StoreLemmas.{means_stay}
 use Rattle.fax_store.proofs.candidates.Candidates+S.refill.Goals as goal
 
-pub returns-in_err-read_on-clause-stays : goal.returns-in_err-read_on-clause-stays
-returns-in_err-read_on-clause-stays g c db six rests = c.read_on.ensures.stays db six (c.loop-self.invariant.stays db six rests)
+pub returns-in_err-read_on-clause-leaves : goal.returns-in_err-read_on-clause-leaves
+returns-in_err-read_on-clause-leaves g c = looks_then g.S.Store _ _ _ c.loop-self.invariant.leaves c.read_on.ensures.leaves
 
 pub returns-in_err-read_on-clause-found : goal.returns-in_err-read_on-clause-found
 returns-in_err-read_on-clause-found g c m k given means serves stands =
@@ -18,20 +19,17 @@ returns-in_err-read_on-clause-found g c m k given means serves stands =
     let none = c.loop-self-test.true in
     let long = c.loop-self.self.page.rest.ok.0 in
     let empty : before ≡ [] = nil_from_length before (omega (arith, none, long, c.len.ensures)) in
-    let at = c.loop-self.invariant.found m k given means (c.read_on.ensures.served serves) stands in
+    let at = c.loop-self.invariant.found m k given means (c.read_on.ensures.leaves.served serves) stands in
     let stood = subst (λ (asked : Asked). StandsAt asked m given [] front most) (sym c.loop-self.invariant.asked) (subst (λ rows. StandsAt c.args.self.now.asked m given rows front most) empty at) in
     passes_on c.from_residual.result c.in_err-read_on.field-0.0 _ c.from_residual.ensures.1
-    (c.in_err-read_on.ensures.found m k given (means_stay c.loop-self.invariant.served c.loop-self.invariant.stays m k means) serves stood)
+    (c.in_err-read_on.ensures.found m k given (means_stay c.loop-self.invariant.leaves.served c.loop-self.invariant.leaves.stays m k means) serves stood)
 
 pub loop-self-preserved : goal.loop-self-preserved
 loop-self-preserved g c = record {
   same_reference = c.read_on.ensures.same_reference ∙ c.loop-self.invariant.same_reference;
   asked = c.read_on.ensures.asked ∙ c.loop-self.invariant.asked;
-  served = λ serves. c.loop-self.invariant.served (c.read_on.ensures.served serves);
-  clean = λ clean. c.loop-self.invariant.clean (c.read_on.ensures.clean clean);
+  leaves = looks_then g.S.Store _ _ _ c.loop-self.invariant.leaves c.read_on.ensures.leaves;
   opens = λ clean serves. c.in_ok-read_on.ensures.opens clean;
-  stays = λ db six rests. c.read_on.ensures.stays db six (c.loop-self.invariant.stays db six rests);
-  crash = λ found may. c.loop-self.invariant.crash found (c.read_on.ensures.crash found may);
   found = λ m k given means serves stands.
       let before = into_iter_items c.loop-self.self.page in
       let front = c.loop-self.self.front in
@@ -39,14 +37,14 @@ loop-self-preserved g c = record {
       let none = c.loop-self-test.true in
       let long = c.loop-self.self.page.rest.ok.0 in
       let empty : before ≡ [] = nil_from_length before (omega (arith, none, long, c.len.ensures)) in
-      let at = c.loop-self.invariant.found m k given means (c.read_on.ensures.served serves) stands in
+      let at = c.loop-self.invariant.found m k given means (c.read_on.ensures.leaves.served serves) stands in
       let stood = subst (λ (asked : Asked). StandsAt asked m given [] front most) (sym c.loop-self.invariant.asked) (subst (λ rows. StandsAt c.args.self.now.asked m given rows front most) empty at) in
       subst (λ (asked : Asked). StandsAt asked m given (into_iter_items c.read_on.new.self.page) c.read_on.new.self.front c.read_on.new.self.most) c.loop-self.invariant.asked
-      (c.in_ok-read_on.ensures.found m k given (means_stay c.loop-self.invariant.served c.loop-self.invariant.stays m k means) serves stood).0;
+      (c.in_ok-read_on.ensures.found m k given (means_stay c.loop-self.invariant.leaves.served c.loop-self.invariant.leaves.stays m k means) serves stood).0;
 }
 
-pub returns-then-branch-clause-stays : goal.returns-then-branch-clause-stays
-returns-then-branch-clause-stays g c db six rests = c.read_on.ensures.stays db six (c.loop-self.invariant.stays db six rests)
+pub returns-then-branch-clause-leaves : goal.returns-then-branch-clause-leaves
+returns-then-branch-clause-leaves g c = looks_then g.S.Store _ _ _ c.loop-self.invariant.leaves c.read_on.ensures.leaves
 
 pub returns-then-branch-clause-found : goal.returns-then-branch-clause-found
 returns-then-branch-clause-found g c m k given means serves stands =
@@ -56,9 +54,9 @@ returns-then-branch-clause-found g c m k given means serves stands =
     let none = c.loop-self-test.true in
     let long = c.loop-self.self.page.rest.ok.0 in
     let empty : before ≡ [] = nil_from_length before (omega (arith, none, long, c.len.ensures)) in
-    let at = c.loop-self.invariant.found m k given means (c.read_on.ensures.served serves) stands in
+    let at = c.loop-self.invariant.found m k given means (c.read_on.ensures.leaves.served serves) stands in
     let stood = subst (λ (asked : Asked). StandsAt asked m given [] front most) (sym c.loop-self.invariant.asked) (subst (λ rows. StandsAt c.args.self.now.asked m given rows front most) empty at) in
-    let found = c.in_ok-read_on.ensures.found m k given (means_stay c.loop-self.invariant.served c.loop-self.invariant.stays m k means) serves stood in (
+    let found = c.in_ok-read_on.ensures.found m k given (means_stay c.loop-self.invariant.leaves.served c.loop-self.invariant.leaves.stays m k means) serves stood in (
       subst (λ (asked : Asked). StandsAt asked m given (into_iter_items c.read_on.new.self.page) c.read_on.new.self.front c.read_on.new.self.most) c.loop-self.invariant.asked found.0,
       λ empty. subst (λ (asked : Asked). AreAsked asked m given) c.loop-self.invariant.asked (found.1 empty c.if-branch.true),
     )

@@ -1,11 +1,11 @@
 use Rattle.std.proofs.Common.{◌≡◌, List}
 use Rattle.std.specs.Vec.Iter.{into_iter_items}
 use Rattle.sqlite.specs.Held.{state}
-use Rattle.sqlite.specs.State.{HasCleanDisk}
 use Rattle.fax_core.specs.Job.{Job as OneJob}
 use Rattle.fax_core.specs.Queue.{Queue, Entry}
 use Rattle.fax_store.specs.Candidates.{StandsAt}
-use Rattle.fax_store.specs.Store.{CommitsNothing, Serves, Means, Stays, StaysOpen}
+use Rattle.fax_store.specs.Calls.{Looks}
+use Rattle.fax_store.specs.Store.{Serves, Means, StaysOpen}
 use Rattle.fax_store.proofs.CandidateLemmas.{turns_left}
 use Rattle.fax_store.proofs.candidates.Candidates+S.refill.Given as goal
 
@@ -13,11 +13,8 @@ abbrev pub invariant-loop-self : goal.invariant-loop-self
 invariant-loop-self g l = record {
   same_reference : l.self.store.ghost_name ≡ l.initial.self.store.ghost_name;
   asked : l.self.asked ≡ l.initial.self.asked;
-  served : Serves (state g.S.Store l.self.store.now.conn) → Serves (state g.S.Store l.initial.self.store.now.conn);
-  clean : HasCleanDisk (state g.S.Store l.self.store.now.conn) → HasCleanDisk (state g.S.Store l.initial.self.store.now.conn);
+  leaves : Looks g.S.Store l.initial.self.store.now l.self.store.now;
   opens : StaysOpen (state g.S.Store l.initial.self.store.now.conn) (state g.S.Store l.self.store.now.conn);
-  stays : Stays (state g.S.Store l.initial.self.store.now.conn) (state g.S.Store l.self.store.now.conn);
-  crash : CommitsNothing (state g.S.Store l.initial.self.store.now.conn) (state g.S.Store l.self.store.now.conn);
   found : (m : Queue) (k : List Entry) (given : List OneJob) → Means (state g.S.Store l.initial.self.store.now.conn) m k → Serves (state g.S.Store l.self.store.now.conn)
       → StandsAt l.initial.self.asked m given (into_iter_items l.initial.self.page) l.initial.self.front l.initial.self.most
       → StandsAt l.initial.self.asked m given (into_iter_items l.self.page) l.self.front l.self.most;

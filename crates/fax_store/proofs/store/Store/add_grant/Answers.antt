@@ -13,17 +13,17 @@ use Rattle.fax_store.proofs.store.Store.add_grant.Goals as goal
 pub returns-clause-written : goal.returns-clause-written
 returns-clause-written g c m₀ m k₀ k works s =
     let old = state g.S.Store c.args.self.now.conn in
-    let read = state g.S.Store c.read_meta.new.self.conn in
+    let read = state g.S.Store c.meta.new.self.conn in
     let put = state g.S.Store c.insert_grant.new.self.conn in
     let new = state g.S.Store c.write_meta.new.self.conn in
     let grant = c.args.grant.now in
-    let at_put = c.write_meta.ensures.served s in
-    let at_read = c.insert_grant.ensures.served at_put in
-    let first = goes_on old read c.read_meta.ensures.served (Ok c.in_ok-meta.meta) c.in_ok-meta.ensures.reads (λ m k meta. meta ≡ meta_of m) c.in_ok-meta.ensures.answers m₀ m k₀ k works at_read in
+    let at_put = c.write_meta.ensures.leaves.served s in
+    let at_read = c.insert_grant.ensures.leaves.served at_put in
+    let first = goes_on old read c.meta.ensures.leaves.served (Ok c.in_ok-meta.meta) c.in_ok-meta.ensures.leaves.reads (λ m k meta. meta ≡ meta_of m) c.in_ok-meta.ensures.answers m₀ m k₀ k works at_read in
     let fit : IsOpenGrant grant = search rules in
     let second = c.in_ok-insert_grant.ensures.written m₀ m k₀ k (λ _. first.1) at_put fit in
     let went : false ≡ false = λ i. false in
-    let was = (((works (c.read_meta.ensures.served at_read)).goes_on went).means).lawful.meta in
+    let was = (((works (c.meta.ensures.leaves.served at_read)).goes_on went).means).lawful.meta in
     let meta = c.in_ok-meta.meta in
     let same : meta ≡ meta_of m = first.0 in
     let low : meta.next_grant < 1000000000 = search rules in
@@ -37,17 +37,17 @@ returns-clause-written g c m₀ m k₀ k works s =
 pub returns-clause-cause : goal.returns-clause-cause
 returns-clause-cause g c m₀ m k₀ k works s fits =
     let old = state g.S.Store c.args.self.now.conn in
-    let read = state g.S.Store c.read_meta.new.self.conn in
+    let read = state g.S.Store c.meta.new.self.conn in
     let put = state g.S.Store c.insert_grant.new.self.conn in
     let new = state g.S.Store c.write_meta.new.self.conn in
     let grant = c.args.grant.now in
-    let at_put = c.write_meta.ensures.served s in
-    let at_read = c.insert_grant.ensures.served at_put in
-    let first = goes_on old read c.read_meta.ensures.served (Ok c.in_ok-meta.meta) c.in_ok-meta.ensures.reads (λ m k meta. meta ≡ meta_of m) c.in_ok-meta.ensures.answers m₀ m k₀ k works at_read in
+    let at_put = c.write_meta.ensures.leaves.served s in
+    let at_read = c.insert_grant.ensures.leaves.served at_put in
+    let first = goes_on old read c.meta.ensures.leaves.served (Ok c.in_ok-meta.meta) c.in_ok-meta.ensures.leaves.reads (λ m k meta. meta ≡ meta_of m) c.in_ok-meta.ensures.answers m₀ m k₀ k works at_read in
     let fit : IsOpenGrant grant = search rules in
     let second = c.in_ok-insert_grant.ensures.written m₀ m k₀ k (λ _. first.1) at_put fit in
     let went : false ≡ false = λ i. false in
-    let was = (((works (c.read_meta.ensures.served at_read)).goes_on went).means).lawful.meta in
+    let was = (((works (c.meta.ensures.leaves.served at_read)).goes_on went).means).lawful.meta in
     let meta = c.in_ok-meta.meta in
     let same : meta ≡ meta_of m = first.0 in
     let low : meta.next_grant < 1000000000 = search rules in
@@ -61,40 +61,40 @@ returns-clause-cause g c m₀ m k₀ k works s fits =
 pub returns-in_err-insert_grant-clause-cause : goal.returns-in_err-insert_grant-clause-cause
 returns-in_err-insert_grant-clause-cause g c m₀ m k₀ k works s fits =
     let old = state g.S.Store c.args.self.now.conn in
-    let read = state g.S.Store c.read_meta.new.self.conn in
-    let first = goes_on old read c.read_meta.ensures.served (Ok c.in_ok-meta.meta) c.in_ok-meta.ensures.reads (λ m k meta. meta ≡ meta_of m) c.in_ok-meta.ensures.answers m₀ m k₀ k works (c.insert_grant.ensures.served s) in
+    let read = state g.S.Store c.meta.new.self.conn in
+    let first = goes_on old read c.meta.ensures.leaves.served (Ok c.in_ok-meta.meta) c.in_ok-meta.ensures.leaves.reads (λ m k meta. meta ≡ meta_of m) c.in_ok-meta.ensures.answers m₀ m k₀ k works (c.insert_grant.ensures.leaves.served s) in
     refused_as c.from_residual-in_err-insert_grant.result c.in_err-insert_grant.field-0.0 c.from_residual-in_err-insert_grant.ensures.1 (c.in_err-insert_grant.ensures.cause m₀ m k₀ k (λ _. first.1) s (fits.0, fits.1, fits.2))
 
-pub returns-in_err-insert_grant-clause-holds : goal.returns-in_err-insert_grant-clause-holds
-returns-in_err-insert_grant-clause-holds g c =
-    let old = state g.S.Store c.args.self.now.conn in
-    let read = state g.S.Store c.read_meta.new.self.conn in
-    let put = state g.S.Store c.insert_grant.new.self.conn in
-    holds_err old put c.from_residual-in_err-insert_grant.result _ c.from_residual-in_err-insert_grant.ensures.1
-    (holds_then old read put true c.insert_grant.ensures.served (holds_by old read c.read_meta.ensures.served (Ok c.in_ok-meta.meta) c.in_ok-meta.ensures.reads) c.in_err-insert_grant.ensures.holds)
+pub returns-in_err-insert_grant-clause-leaves : goal.returns-in_err-insert_grant-clause-leaves
+returns-in_err-insert_grant-clause-leaves g c = record {
+  served = search rules;
+  clean = search rules;
+  holds = let old = state g.S.Store c.args.self.now.conn in
+      let read = state g.S.Store c.meta.new.self.conn in
+      let put = state g.S.Store c.insert_grant.new.self.conn in
+      holds_err old put c.from_residual-in_err-insert_grant.result _ c.from_residual-in_err-insert_grant.ensures.1
+      (holds_then old read put true c.insert_grant.ensures.leaves.served (holds_by old read c.meta.ensures.leaves.served (Ok c.in_ok-meta.meta) c.in_ok-meta.ensures.leaves.reads) c.in_err-insert_grant.ensures.leaves.holds);
+  crash = let old = state g.S.Store c.args.self.now.conn in
+      let read = state g.S.Store c.meta.new.self.conn in
+      let put = state g.S.Store c.insert_grant.new.self.conn in
+      withholds_err old put c.from_residual-in_err-insert_grant.result _ c.from_residual-in_err-insert_grant.ensures.1
+      (withholds_then old read put true (withholds_by old read c.meta.ensures.leaves.clean (Ok c.in_ok-meta.meta) c.in_ok-meta.ensures.leaves.reads c.meta.ensures.leaves.crash) c.in_err-insert_grant.ensures.leaves.crash);
+}
 
-pub returns-clause-holds : goal.returns-clause-holds
-returns-clause-holds g c =
-    let old = state g.S.Store c.args.self.now.conn in
-    let read = state g.S.Store c.read_meta.new.self.conn in
-    let put = state g.S.Store c.insert_grant.new.self.conn in
-    let first = holds_by old read c.read_meta.ensures.served (Ok c.in_ok-meta.meta) c.in_ok-meta.ensures.reads in
-    holds_then old put (state g.S.Store c.write_meta.new.self.conn) (is_err c.write_meta.result) c.write_meta.ensures.served
-    (holds_then old read put false c.insert_grant.ensures.served first c.in_ok-insert_grant.ensures.holds) c.write_meta.ensures.holds
-
-pub returns-in_err-insert_grant-clause-crash : goal.returns-in_err-insert_grant-clause-crash
-returns-in_err-insert_grant-clause-crash g c =
-    let old = state g.S.Store c.args.self.now.conn in
-    let read = state g.S.Store c.read_meta.new.self.conn in
-    let put = state g.S.Store c.insert_grant.new.self.conn in
-    withholds_err old put c.from_residual-in_err-insert_grant.result _ c.from_residual-in_err-insert_grant.ensures.1
-    (withholds_then old read put true (withholds_by old read c.read_meta.ensures.clean (Ok c.in_ok-meta.meta) c.in_ok-meta.ensures.reads c.read_meta.ensures.crash) c.in_err-insert_grant.ensures.crash)
-
-pub returns-clause-crash : goal.returns-clause-crash
-returns-clause-crash g c =
-    let old = state g.S.Store c.args.self.now.conn in
-    let read = state g.S.Store c.read_meta.new.self.conn in
-    let put = state g.S.Store c.insert_grant.new.self.conn in
-    let first = withholds_by old read c.read_meta.ensures.clean (Ok c.in_ok-meta.meta) c.in_ok-meta.ensures.reads c.read_meta.ensures.crash in
-    withholds_then old put (state g.S.Store c.write_meta.new.self.conn) (is_err c.write_meta.result)
-    (withholds_then old read put false first c.in_ok-insert_grant.ensures.crash) c.write_meta.ensures.crash
+pub returns-clause-leaves : goal.returns-clause-leaves
+returns-clause-leaves g c = record {
+  served = search rules;
+  clean = search rules;
+  holds = let old = state g.S.Store c.args.self.now.conn in
+      let read = state g.S.Store c.meta.new.self.conn in
+      let put = state g.S.Store c.insert_grant.new.self.conn in
+      let first = holds_by old read c.meta.ensures.leaves.served (Ok c.in_ok-meta.meta) c.in_ok-meta.ensures.leaves.reads in
+      holds_then old put (state g.S.Store c.write_meta.new.self.conn) (is_err c.write_meta.result) c.write_meta.ensures.leaves.served
+      (holds_then old read put false c.insert_grant.ensures.leaves.served first c.in_ok-insert_grant.ensures.leaves.holds) c.write_meta.ensures.leaves.holds;
+  crash = let old = state g.S.Store c.args.self.now.conn in
+      let read = state g.S.Store c.meta.new.self.conn in
+      let put = state g.S.Store c.insert_grant.new.self.conn in
+      let first = withholds_by old read c.meta.ensures.leaves.clean (Ok c.in_ok-meta.meta) c.in_ok-meta.ensures.leaves.reads c.meta.ensures.leaves.crash in
+      withholds_then old put (state g.S.Store c.write_meta.new.self.conn) (is_err c.write_meta.result)
+      (withholds_then old read put false first c.in_ok-insert_grant.ensures.leaves.crash) c.write_meta.ensures.leaves.crash;
+}

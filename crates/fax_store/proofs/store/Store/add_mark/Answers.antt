@@ -17,49 +17,49 @@ use Rattle.fax_store.proofs.store.Store.add_mark.Goals as goal
 pub returns-then-branch-clause-written : goal.returns-then-branch-clause-written
 returns-then-branch-clause-written g c m₀ m k₀ k works s =
     let old = state g.S.Store c.args.self.now.conn in
-    let read = state g.S.Store c.read_mark.new.self.conn in
+    let read = state g.S.Store c.is_down.new.self.conn in
     let modem = c.args.modem.now in
-    let first = goes_on old read c.read_mark.ensures.served (Ok c.in_ok-read_mark.field-0) c.in_ok-read_mark.ensures.reads (λ m k down. down ≡ is_down modem m) c.in_ok-read_mark.ensures.answers m₀ m k₀ k works s in
+    let first = goes_on old read c.is_down.ensures.leaves.served (Ok c.in_ok-is_down.field-0) c.in_ok-is_down.ensures.leaves.reads (λ m k down. down ≡ is_down modem m) c.in_ok-is_down.ensures.answers m₀ m k₀ k works s in
     subst (λ it. IsUnderWay read false m₀ k₀ it k) (sym (modems.marked_already modem m (sym first.0 ∙ c.if-branch.true))) first.1
 
 pub returns-clause-written : goal.returns-clause-written
 returns-clause-written g c m₀ m k₀ k works s =
     let old = state g.S.Store c.args.self.now.conn in
-    let read = state g.S.Store c.read_mark.new.self.conn in
+    let read = state g.S.Store c.is_down.new.self.conn in
     let new = state g.S.Store c.insert.new.self.conn in
     let modem = c.args.modem.now in
     let params = modems.params modem in
-    let first = goes_on old read c.read_mark.ensures.served (Ok c.in_ok-read_mark.field-0) c.in_ok-read_mark.ensures.reads (λ m k down. down ≡ is_down modem m) c.in_ok-read_mark.ensures.answers m₀ m k₀ k works (c.insert.ensures.served s) in
+    let first = goes_on old read c.is_down.ensures.leaves.served (Ok c.in_ok-is_down.field-0) c.in_ok-is_down.ensures.leaves.reads (λ m k down. down ≡ is_down modem m) c.in_ok-is_down.ensures.answers m₀ m k₀ k works (c.insert.ensures.leaves.served s) in
     let ran : OnOk c.insert.result (HasRun INSERT_DOWN.now params read new) = subst (λ p. OnOk c.insert.result (HasRun INSERT_DOWN.now p read new)) (search rules) (c.insert.ensures.ran s.clean) in
     let lawful : IsName modem = search rules in
     let free : is_down modem m ≡ false = sym first.0 ∙ c.if-branch.false in
-    move_by read new INSERT_DOWN.now params 6 c.insert.result m₀ m (with_mark modem true m) k₀ k k c.insert.ensures.served (λ _. first.1) s ran (c.insert.ensures.left s.clean) (λ means has. modems.mark_added modem read new m k means lawful free has)
+    move_by read new INSERT_DOWN.now params 6 c.insert.result m₀ m (with_mark modem true m) k₀ k k c.insert.ensures.leaves.served (λ _. first.1) s ran (c.insert.ensures.left s.clean) (λ means has. modems.mark_added modem read new m k means lawful free has)
 
 pub returns-clause-cause : goal.returns-clause-cause
 returns-clause-cause g c m₀ m k₀ k works s named =
     let old = state g.S.Store c.args.self.now.conn in
-    let read = state g.S.Store c.read_mark.new.self.conn in
+    let read = state g.S.Store c.is_down.new.self.conn in
     let new = state g.S.Store c.insert.new.self.conn in
     let modem = c.args.modem.now in
     let params = modems.params modem in
-    let first = goes_on old read c.read_mark.ensures.served (Ok c.in_ok-read_mark.field-0) c.in_ok-read_mark.ensures.reads (λ m k down. down ≡ is_down modem m) c.in_ok-read_mark.ensures.answers m₀ m k₀ k works (c.insert.ensures.served s) in
+    let first = goes_on old read c.is_down.ensures.leaves.served (Ok c.in_ok-is_down.field-0) c.in_ok-is_down.ensures.leaves.reads (λ m k down. down ≡ is_down modem m) c.in_ok-is_down.ensures.answers m₀ m k₀ k works (c.insert.ensures.leaves.served s) in
     let told : HasCleanDisk new → IfErr c.insert.result (IsRefusedFor INSERT_DOWN.now params read new) = λ clean. subst (λ p. IfErr c.insert.result (IsRefusedFor INSERT_DOWN.now p read new)) (search rules) (c.insert.ensures.told clean) in
-    only_unavailable read new INSERT_DOWN.now params c.insert.result (λ m k. is_down modem m ≡ false) c.insert.ensures.served told (λ m k means free e h. modems.mark_goes modem read new m k means free e h) m₀ m k₀ k (λ _. first.1) s
+    only_unavailable read new INSERT_DOWN.now params c.insert.result (λ m k. is_down modem m ≡ false) c.insert.ensures.leaves.served told (λ m k means free e h. modems.mark_goes modem read new m k means free e h) m₀ m k₀ k (λ _. first.1) s
     (sym first.0 ∙ c.if-branch.false)
 
-pub returns-clause-holds : goal.returns-clause-holds
-returns-clause-holds g c =
-    let old = state g.S.Store c.args.self.now.conn in
-    let read = state g.S.Store c.read_mark.new.self.conn in
-    holds_then old read (state g.S.Store c.insert.new.self.conn) (is_err c.insert.result) c.insert.ensures.served
-    (holds_by old read c.read_mark.ensures.served (Ok c.in_ok-read_mark.field-0) c.in_ok-read_mark.ensures.reads) (c.insert.ensures.holds)
+pub returns-clause-leaves : goal.returns-clause-leaves
+returns-clause-leaves g c = record {
+  served = search rules;
+  clean = search rules;
+  holds = let old = state g.S.Store c.args.self.now.conn in
+      let read = state g.S.Store c.is_down.new.self.conn in
+      holds_then old read (state g.S.Store c.insert.new.self.conn) (is_err c.insert.result) c.insert.ensures.leaves.served
+      (holds_by old read c.is_down.ensures.leaves.served (Ok c.in_ok-is_down.field-0) c.in_ok-is_down.ensures.leaves.reads) (c.insert.ensures.leaves.holds);
+  crash = let old = state g.S.Store c.args.self.now.conn in
+      let read = state g.S.Store c.is_down.new.self.conn in
+      withholds_then old read (state g.S.Store c.insert.new.self.conn) (is_err c.insert.result)
+      (withholds_by old read c.is_down.ensures.leaves.clean (Ok c.in_ok-is_down.field-0) c.in_ok-is_down.ensures.leaves.reads c.is_down.ensures.leaves.crash) (c.insert.ensures.leaves.crash);
+}
 
 pub insert-requires : goal.insert-requires
 insert-requires g c = edit_text INSERT_DOWN.now _ tt texts.insert_down
-
-pub returns-clause-crash : goal.returns-clause-crash
-returns-clause-crash g c =
-    let old = state g.S.Store c.args.self.now.conn in
-    let read = state g.S.Store c.read_mark.new.self.conn in
-    withholds_then old read (state g.S.Store c.insert.new.self.conn) (is_err c.insert.result)
-    (withholds_by old read c.read_mark.ensures.clean (Ok c.in_ok-read_mark.field-0) c.in_ok-read_mark.ensures.reads c.read_mark.ensures.crash) (c.insert.ensures.crash)

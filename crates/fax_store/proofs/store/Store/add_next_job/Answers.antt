@@ -19,10 +19,10 @@ returns-clause-written g c m₀ m k₀ k same works s =
     let new = state g.S.Store c.write_meta.new.self.conn in
     let j = job_of c.args.job.now in
     let clock = c.args.clock in
-    let at_put = c.write_meta.ensures.served s in
+    let at_put = c.write_meta.ensures.leaves.served s in
     let second = c.in_ok-insert_job.ensures.written m₀ m k₀ k works at_put in
     let went : false ≡ false = λ i. false in
-    let was = (((works (c.insert_job.ensures.served at_put)).goes_on went).means).lawful.meta in
+    let was = (((works (c.insert_job.ensures.leaves.served at_put)).goes_on went).means).lawful.meta in
     let low : c.args.meta.next_job < 1000000 = search rules in
     let next : c.args.meta.next_job ≡ m.next_job = ap (λ (it : Meta). it.next_job) same in
     let within : clock ≤ 4102444800 = search rules in
@@ -39,10 +39,10 @@ returns-clause-cause g c m₀ m k₀ k works s fits =
     let new = state g.S.Store c.write_meta.new.self.conn in
     let j = job_of c.args.job.now in
     let clock = c.args.clock in
-    let at_put = c.write_meta.ensures.served s in
+    let at_put = c.write_meta.ensures.leaves.served s in
     let second = c.in_ok-insert_job.ensures.written m₀ m k₀ k works at_put in
     let went : false ≡ false = λ i. false in
-    let was = (((works (c.insert_job.ensures.served at_put)).goes_on went).means).lawful.meta in
+    let was = (((works (c.insert_job.ensures.leaves.served at_put)).goes_on went).means).lawful.meta in
     let low : c.args.meta.next_job < 1000000 = search rules in
     let next : c.args.meta.next_job ≡ m.next_job = ap (λ (it : Meta). it.next_job) same in
     let within : clock ≤ 4102444800 = search rules in
@@ -55,22 +55,22 @@ pub returns-in_err-insert_job-clause-cause : goal.returns-in_err-insert_job-clau
 returns-in_err-insert_job-clause-cause g c m₀ m k₀ k works s fits =
     refused_as c.from_residual.result c.in_err-insert_job.field-0.0 c.from_residual.ensures.1 (c.in_err-insert_job.ensures.cause m₀ m k₀ k works s fits.1)
 
-pub returns-in_err-insert_job-clause-holds : goal.returns-in_err-insert_job-clause-holds
-returns-in_err-insert_job-clause-holds g c =
-    holds_err (state g.S.Store c.args.self.now.conn) (state g.S.Store c.insert_job.new.self.conn) c.from_residual.result _ c.from_residual.ensures.1 c.in_err-insert_job.ensures.holds
+pub returns-in_err-insert_job-clause-leaves : goal.returns-in_err-insert_job-clause-leaves
+returns-in_err-insert_job-clause-leaves g c = record {
+  served = search rules;
+  clean = search rules;
+  holds = holds_err (state g.S.Store c.args.self.now.conn) (state g.S.Store c.insert_job.new.self.conn) c.from_residual.result _ c.from_residual.ensures.1 c.in_err-insert_job.ensures.leaves.holds;
+  crash = withholds_err (state g.S.Store c.args.self.now.conn) (state g.S.Store c.insert_job.new.self.conn) c.from_residual.result _ c.from_residual.ensures.1 c.in_err-insert_job.ensures.leaves.crash;
+}
 
-pub returns-in_err-insert_job-clause-crash : goal.returns-in_err-insert_job-clause-crash
-returns-in_err-insert_job-clause-crash g c =
-    withholds_err (state g.S.Store c.args.self.now.conn) (state g.S.Store c.insert_job.new.self.conn) c.from_residual.result _ c.from_residual.ensures.1 c.in_err-insert_job.ensures.crash
-
-pub returns-clause-holds : goal.returns-clause-holds
-returns-clause-holds g c =
-    let old = state g.S.Store c.args.self.now.conn in
-    let put = state g.S.Store c.insert_job.new.self.conn in
-    holds_then old put (state g.S.Store c.write_meta.new.self.conn) (is_err c.write_meta.result) c.write_meta.ensures.served c.in_ok-insert_job.ensures.holds c.write_meta.ensures.holds
-
-pub returns-clause-crash : goal.returns-clause-crash
-returns-clause-crash g c =
-    let old = state g.S.Store c.args.self.now.conn in
-    let put = state g.S.Store c.insert_job.new.self.conn in
-    withholds_then old put (state g.S.Store c.write_meta.new.self.conn) (is_err c.write_meta.result) c.in_ok-insert_job.ensures.crash c.write_meta.ensures.crash
+pub returns-clause-leaves : goal.returns-clause-leaves
+returns-clause-leaves g c = record {
+  served = search rules;
+  clean = search rules;
+  holds = let old = state g.S.Store c.args.self.now.conn in
+      let put = state g.S.Store c.insert_job.new.self.conn in
+      holds_then old put (state g.S.Store c.write_meta.new.self.conn) (is_err c.write_meta.result) c.write_meta.ensures.leaves.served c.in_ok-insert_job.ensures.leaves.holds c.write_meta.ensures.leaves.holds;
+  crash = let old = state g.S.Store c.args.self.now.conn in
+      let put = state g.S.Store c.insert_job.new.self.conn in
+      withholds_then old put (state g.S.Store c.write_meta.new.self.conn) (is_err c.write_meta.result) c.in_ok-insert_job.ensures.leaves.crash c.write_meta.ensures.leaves.crash;
+}

@@ -1,13 +1,20 @@
-use Rattle.std.proofs.Common.{◌≡◌, map}
+use Rattle.std.proofs.Common.{rules}
 use Rattle.sqlite.specs.Held.{state}
-use Rattle.fax_core.specs.Job.{fields_of}
-use Rattle.fax_tables.specs.Job.{brief}
-use Rattle.fax_store.proofs.WorkLemmas.{stays_by, found_by}
+use Rattle.fax_store.proofs.JobsLemmas.{briefs_found}
+use Rattle.fax_schema.proofs.StatementTexts.{select_briefs}
+use Rattle.fax_store.proofs.FrameLemmas.{finds_as}
 use Rattle.fax_store.proofs.store.Store.briefs.Goals as goal
 
-pub returns-clause-stays : goal.returns-clause-stays
-returns-clause-stays g c = stays_by (state g.S.Store c.args.self.now.conn) (state g.S.Store c.read_briefs.new.self.conn) c.read_briefs.ensures.served c.read_briefs.result c.read_briefs.ensures.reads
+pub returns-clause-answers : goal.returns-clause-answers
+returns-clause-answers g c m k means s =
+    let old = state g.S.Store c.args.self.now.conn in
+    let new = state g.S.Store c.show.new.self.conn in
+    let means_now = means (c.in_ok-shown.ensures.leaves.served s) in
+    let rows = briefs_found old new m k means_now c.in_ok-shown.shown.items (c.in_ok-shown.ensures.shown s.clean) in
+    c.briefs_in.ensures m.jobs (search rules) means_now.lawful.jobs
 
-pub returns-clause-found : goal.returns-clause-found
-returns-clause-found g c =
-    found_by (state g.S.Store c.args.self.now.conn) (state g.S.Store c.read_briefs.new.self.conn) c.read_briefs.ensures.served c.read_briefs.result c.read_briefs.ensures.reads (λ m k found. found.items ≡ map (λ j. brief (fields_of j)) m.jobs) c.read_briefs.ensures.answers
+pub returns-clause-leaves : goal.returns-clause-leaves
+returns-clause-leaves g c = finds_as g.S.Store _ _ _ _ c.in_ok-shown.ensures.leaves
+
+pub show-requires : goal.show-requires
+show-requires g c = select_briefs.plain

@@ -16,7 +16,7 @@ returns-clause-written g c m₀ m k₀ k works s =
     let modem = c.args.modem.now in
     let params = modems.params modem in
     let ran : OnOk c.run.result (HasRun DELETE_DOWN.now params old new) = subst (λ p. OnOk c.run.result (HasRun DELETE_DOWN.now p old new)) (search rules) (c.run.ensures.ran s.clean) in
-    step_by old new DELETE_DOWN.now params 6 c.run.result m₀ m (with_mark modem false m) k₀ k k c.run.ensures.served works s ran (c.run.ensures.left s.clean) (c.run.ensures.cause) (λ means has. modems.mark_cleared modem old new m k means has)
+    step_by old new DELETE_DOWN.now params 6 c.run.result m₀ m (with_mark modem false m) k₀ k k c.run.ensures.leaves.served works s ran (c.run.ensures.left s.clean) (c.run.ensures.cause) (λ means has. modems.mark_cleared modem old new m k means has)
 
 pub returns-clause-cause : goal.returns-clause-cause
 returns-clause-cause g c = c.run.ensures.cause

@@ -20,7 +20,7 @@ run-requires-2 g c = edit_text DELETE_HOLD.now _ tt texts.delete_hold
 
 pub returns-in_err-run-clause-written : goal.returns-in_err-run-clause-written
 returns-in_err-run-clause-written g c m₀ m k₀ k works s held counted =
-    refused_move (state g.S.Store c.args.self.now.conn) (state g.S.Store c.run.new.self.conn) c.from_residual.result c.in_err-run.field-0.0 m₀ m (with_closed c.args.number m) k₀ k k c.run.ensures.served works s
+    refused_move (state g.S.Store c.args.self.now.conn) (state g.S.Store c.run.new.self.conn) c.from_residual.result c.in_err-run.field-0.0 m₀ m (with_closed c.args.number m) k₀ k k c.run.ensures.leaves.served works s
     (c.in_err-run.ensures.left s.clean) c.from_residual.ensures.1
 
 pub returns-in_err-run-clause-cause : goal.returns-in_err-run-clause-cause
@@ -29,38 +29,38 @@ returns-in_err-run-clause-cause g c = refused_as c.from_residual.result c.in_err
 pub returns-in_err-run-2-clause-cause : goal.returns-in_err-run-2-clause-cause
 returns-in_err-run-2-clause-cause g c = refused_as c.from_residual-in_err-run-2.result c.in_err-run-2.field-0.0 c.from_residual-in_err-run-2.ensures.1 c.in_err-run-2.ensures.cause
 
-pub returns-in_err-run-2-clause-holds : goal.returns-in_err-run-2-clause-holds
-returns-in_err-run-2-clause-holds g c =
-    let old = state g.S.Store c.args.self.now.conn in
-    let mid = state g.S.Store c.run.new.self.conn in
-    let new = state g.S.Store c.run-2.new.self.conn in
-    holds_err old new c.from_residual-in_err-run-2.result _ c.from_residual-in_err-run-2.ensures.1 (holds_then old mid new true c.run-2.ensures.served c.in_ok-run.ensures.holds c.in_err-run-2.ensures.holds)
-
-pub returns-in_err-run-2-clause-crash : goal.returns-in_err-run-2-clause-crash
-returns-in_err-run-2-clause-crash g c =
-    let old = state g.S.Store c.args.self.now.conn in
-    let mid = state g.S.Store c.run.new.self.conn in
-    let new = state g.S.Store c.run-2.new.self.conn in
-    withholds_err old new c.from_residual-in_err-run-2.result _ c.from_residual-in_err-run-2.ensures.1 (withholds_then old mid new true c.in_ok-run.ensures.crash c.in_err-run-2.ensures.crash)
+pub returns-in_err-run-2-clause-leaves : goal.returns-in_err-run-2-clause-leaves
+returns-in_err-run-2-clause-leaves g c = record {
+  served = search rules;
+  clean = search rules;
+  holds = let old = state g.S.Store c.args.self.now.conn in
+      let mid = state g.S.Store c.run.new.self.conn in
+      let new = state g.S.Store c.run-2.new.self.conn in
+      holds_err old new c.from_residual-in_err-run-2.result _ c.from_residual-in_err-run-2.ensures.1 (holds_then old mid new true c.run-2.ensures.leaves.served c.in_ok-run.ensures.leaves.holds c.in_err-run-2.ensures.leaves.holds);
+  crash = let old = state g.S.Store c.args.self.now.conn in
+      let mid = state g.S.Store c.run.new.self.conn in
+      let new = state g.S.Store c.run-2.new.self.conn in
+      withholds_err old new c.from_residual-in_err-run-2.result _ c.from_residual-in_err-run-2.ensures.1 (withholds_then old mid new true c.in_ok-run.ensures.leaves.crash c.in_err-run-2.ensures.leaves.crash);
+}
 
 pub returns-in_err-run-2-clause-written : goal.returns-in_err-run-2-clause-written
 returns-in_err-run-2-clause-written g c m₀ m k₀ k works s held counted =
     refused_by (state g.S.Store c.args.self.now.conn) (state g.S.Store c.run-2.new.self.conn) c.from_residual-in_err-run-2.result _ m₀ m (with_closed c.args.number m) k₀ k k c.from_residual-in_err-run-2.ensures.1
-    (λ at. c.run.ensures.served (c.run-2.ensures.served at)) (returns-in_err-run-2-clause-holds g c) works s
+    (λ at. c.run.ensures.leaves.served (c.run-2.ensures.leaves.served at)) (returns-in_err-run-2-clause-leaves g c).holds works s
 
-pub returns-clause-holds : goal.returns-clause-holds
-returns-clause-holds g c =
-    let old = state g.S.Store c.args.self.now.conn in
-    let mid = state g.S.Store c.run.new.self.conn in
-    let shut = state g.S.Store c.run-2.new.self.conn in
-    holds_then old shut (state g.S.Store c.set_calls.new.self.conn) (is_err c.set_calls.result) c.set_calls.ensures.served (holds_then old mid shut false c.run-2.ensures.served c.in_ok-run.ensures.holds c.in_ok-run-2.ensures.holds) c.set_calls.ensures.holds
-
-pub returns-clause-crash : goal.returns-clause-crash
-returns-clause-crash g c =
-    let old = state g.S.Store c.args.self.now.conn in
-    let mid = state g.S.Store c.run.new.self.conn in
-    let shut = state g.S.Store c.run-2.new.self.conn in
-    withholds_then old shut (state g.S.Store c.set_calls.new.self.conn) (is_err c.set_calls.result) (withholds_then old mid shut false c.in_ok-run.ensures.crash c.in_ok-run-2.ensures.crash) c.set_calls.ensures.crash
+pub returns-clause-leaves : goal.returns-clause-leaves
+returns-clause-leaves g c = record {
+  served = search rules;
+  clean = search rules;
+  holds = let old = state g.S.Store c.args.self.now.conn in
+      let mid = state g.S.Store c.run.new.self.conn in
+      let shut = state g.S.Store c.run-2.new.self.conn in
+      holds_then old shut (state g.S.Store c.set_calls.new.self.conn) (is_err c.set_calls.result) c.set_calls.ensures.leaves.served (holds_then old mid shut false c.run-2.ensures.leaves.served c.in_ok-run.ensures.leaves.holds c.in_ok-run-2.ensures.leaves.holds) c.set_calls.ensures.leaves.holds;
+  crash = let old = state g.S.Store c.args.self.now.conn in
+      let mid = state g.S.Store c.run.new.self.conn in
+      let shut = state g.S.Store c.run-2.new.self.conn in
+      withholds_then old shut (state g.S.Store c.set_calls.new.self.conn) (is_err c.set_calls.result) (withholds_then old mid shut false c.in_ok-run.ensures.leaves.crash c.in_ok-run-2.ensures.leaves.crash) c.set_calls.ensures.leaves.crash;
+}
 
 pub returns-clause-written : goal.returns-clause-written
 returns-clause-written g c m₀ m k₀ k works s held counted =
@@ -70,15 +70,15 @@ returns-clause-written g c m₀ m k₀ k works s held counted =
     let new = state g.S.Store c.set_calls.new.self.conn in
     let n = c.args.number in
     let params = close_params n in
-    let at_shut = c.set_calls.ensures.served s in
-    let at_mid = c.run-2.ensures.served at_shut in
+    let at_shut = c.set_calls.ensures.leaves.served s in
+    let at_mid = c.run-2.ensures.leaves.served at_shut in
     let first : HasRun SHUT_GRANT.now params old mid = subst (λ p. HasRun SHUT_GRANT.now p old mid) (search rules) (c.in_ok-run.ensures.ran at_mid.clean) in
     let second : HasRun DELETE_HOLD.now params mid shut = subst (λ p. HasRun DELETE_HOLD.now p mid shut) (search rules) (c.in_ok-run-2.ensures.ran at_shut.clean) in
     let called = held.3 in
-    moves_by old new c.set_calls.result m₀ m (with_closed n m) k₀ k k (λ at. c.run.ensures.served (c.run-2.ensures.served (c.set_calls.ensures.served at))) (returns-clause-holds g c) works s
+    moves_by old new c.set_calls.result m₀ m (with_closed n m) k₀ k k (λ at. c.run.ensures.leaves.served (c.run-2.ensures.leaves.served (c.set_calls.ensures.leaves.served at))) (returns-clause-leaves g c).holds works s
     (λ means inside.
     let parts = grant_closed n old mid shut m k means first second in
-    let on = inside_by old shut (holds_then old mid shut false c.run-2.ensures.served c.in_ok-run.ensures.holds c.in_ok-run-2.ensures.holds) at_shut inside means.schema in
+    let on = inside_by old shut (holds_then old mid shut false c.run-2.ensures.leaves.served c.in_ok-run.ensures.leaves.holds c.in_ok-run-2.ensures.leaves.holds) at_shut inside means.schema in
     ok_as c.set_calls.result
     (λ set.
     let by_count = subst (λ x. SetsCalls shut new (with_count c.args.dial.now x (calls_of m))) counted set in

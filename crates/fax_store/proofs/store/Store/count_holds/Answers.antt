@@ -18,7 +18,7 @@ returns-clause-goes g c clean has =
     let old = state g.S.Store c.args.self.now.conn in
     let mid = state g.S.Store c.show.new.self.conn in
     let new = state g.S.Store c.count_rows.new.self.conn in
-    let first = set_still old mid (λ _. 0) (no_calls old has) (c.in_ok-held.ensures.reads has.schema_is (c.count_rows.ensures.clean clean)) in
+    let first = set_still old mid (λ _. 0) (no_calls old has) (c.in_ok-held.ensures.leaves.reads has.schema_is (c.count_rows.ensures.clean clean)) in
     both_as c.count_rows.result
     (λ set. let whole = set_then old mid new (λ _. 0) set.0 first set.1 in (whole.goes_on, whole_of old new set.0 whole))
     (λ kept. commit_kept old mid new first.goes_on kept)
@@ -30,7 +30,7 @@ returns-clause-counted g c m k has clean mean =
     let mid = state g.S.Store c.show.new.self.conn in
     let new = state g.S.Store c.count_rows.new.self.conn in
     let at_mid = c.count_rows.ensures.clean clean in
-    let same = c.in_ok-held.ensures.reads has.schema_is at_mid in
+    let same = c.in_ok-held.ensures.leaves.reads has.schema_is at_mid in
     let first = set_still old mid (λ _. 0) (no_calls old has) same in
     let rows = c.in_ok-held.held.items in
     let shown = c.in_ok-held.ensures.shown at_mid in
@@ -44,7 +44,7 @@ returns-clause-cause g c has clean can =
     let old = state g.S.Store c.args.self.now.conn in
     let mid = state g.S.Store c.show.new.self.conn in
     let at_mid = c.count_rows.ensures.clean clean in
-    let same = c.in_ok-held.ensures.reads has.schema_is at_mid in
+    let same = c.in_ok-held.ensures.leaves.reads has.schema_is at_mid in
     let first = set_still old mid (λ _. 0) (no_calls old has) same in
     let rows = c.in_ok-held.held.items in
     let callable = held_callable old mid has.schema_is rows (c.in_ok-held.ensures.shown at_mid) can in

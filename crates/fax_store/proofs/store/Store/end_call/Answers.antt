@@ -1,4 +1,4 @@
-use Rattle.std.proofs.Common.{◌≡◌, ◌-◌, Ok, Some, None, Option, refl, sym, ap, ◌∙◌}
+use Rattle.std.proofs.Common.{rules, ◌≡◌, ◌-◌, Ok, Some, None, Option, refl, sym, ap, ◌∙◌}
 use Rattle.std.specs.Option.{option_map}
 use Rattle.sqlite.specs.Held.{state}
 use Rattle.fax_core.specs.Job.{fields_of}
@@ -13,31 +13,35 @@ use Rattle.fax_store.proofs.store.Store.end_call.Goals as goal
 
 pub returns-in_default-clause-written : goal.returns-in_default-clause-written
 returns-in_default-clause-written g c m₀ m k₀ k works s held =
-    let means = ((works (c.in_ok-job.ensures.served s)).goes_on refl).means in
+    let means = ((works (c.in_ok-job.ensures.leaves.served s)).goes_on refl).means in
     let found = c.in_ok-job.ensures.answers m k (λ _. means) s in
     let there = held_job m means.held c.args.number held.0 held.1 held.2 in
     let none : ◌≡◌ {A = Option JobFields} None (Some (fields_of there.0)) = sym c.in_default.is ∙ found ∙ ap (λ n. option_map fields_of (job_numbered n m)) (sym held.3) ∙ ap (option_map fields_of) there.1 in
     absurd cc
 
-pub returns-clause-holds : goal.returns-clause-holds
-returns-clause-holds g c =
-    let old = state g.S.Store c.args.self.now.conn in
-    let read = state g.S.Store c.read_job.new.self.conn in
-    let then = state g.S.Store c.read_calls.new.self.conn in
-    holds_then old then (state g.S.Store c.close_open.new.self.conn) (is_err c.close_open.result) c.close_open.ensures.served
-    (holds_then old read then false c.read_calls.ensures.served (holds_by old read c.read_job.ensures.served (Ok c.in_ok-job.field-0) c.in_ok-job.ensures.reads) (holds_by read then c.read_calls.ensures.served (Ok c.in_ok-calls.calls) c.in_ok-calls.ensures.reads))
-    c.close_open.ensures.holds
+pub returns-clause-leaves : goal.returns-clause-leaves
+returns-clause-leaves g c = record {
+  served = search rules;
+  clean = search rules;
+  holds = let old = state g.S.Store c.args.self.now.conn in
+      let read = state g.S.Store c.job.new.self.conn in
+      let then = state g.S.Store c.read_calls.new.self.conn in
+      holds_then old then (state g.S.Store c.close_open.new.self.conn) (is_err c.close_open.result) c.close_open.ensures.leaves.served
+      (holds_then old read then false c.read_calls.ensures.leaves.served (holds_by old read c.job.ensures.leaves.served (Ok c.in_ok-job.field-0) c.in_ok-job.ensures.leaves.reads) (holds_by read then c.read_calls.ensures.leaves.served (Ok c.in_ok-calls.calls) c.in_ok-calls.ensures.leaves.reads))
+      c.close_open.ensures.leaves.holds;
+  crash = search rules;
+}
 
 pub returns-clause-written : goal.returns-clause-written
 returns-clause-written g c m₀ m k₀ k works s held =
     let old = state g.S.Store c.args.self.now.conn in
-    let read = state g.S.Store c.read_job.new.self.conn in
+    let read = state g.S.Store c.job.new.self.conn in
     let then = state g.S.Store c.read_calls.new.self.conn in
     let new = state g.S.Store c.close_open.new.self.conn in
-    let at_then = c.close_open.ensures.served s in
-    let at_read = c.read_calls.ensures.served at_then in
-    let first = goes_on old read c.read_job.ensures.served (Ok c.in_ok-job.field-0) c.in_ok-job.ensures.reads (λ m k found. found ≡ option_map fields_of (job_numbered c.args.job m)) c.in_ok-job.ensures.answers m₀ m k₀ k works at_read in
-    let second = goes_on read then c.read_calls.ensures.served (Ok c.in_ok-calls.calls) c.in_ok-calls.ensures.reads (λ m k calls. calls ≡ calls_to c.fields.result.now.dial m) c.in_ok-calls.ensures.answers m₀ m k₀ k (λ _. first.1) at_then in
+    let at_then = c.close_open.ensures.leaves.served s in
+    let at_read = c.read_calls.ensures.leaves.served at_then in
+    let first = goes_on old read c.job.ensures.leaves.served (Ok c.in_ok-job.field-0) c.in_ok-job.ensures.leaves.reads (λ m k found. found ≡ option_map fields_of (job_numbered c.args.job m)) c.in_ok-job.ensures.answers m₀ m k₀ k works at_read in
+    let second = goes_on read then c.read_calls.ensures.leaves.served (Ok c.in_ok-calls.calls) c.in_ok-calls.ensures.leaves.reads (λ m k calls. calls ≡ calls_to c.fields.result.now.dial m) c.in_ok-calls.ensures.answers m₀ m k₀ k (λ _. first.1) at_then in
     let it = there_as fields_of (job_numbered c.args.job m) c.in-Some.job (sym c.in-Some.is ∙ first.0) in
     let dial : c.in-Some.job.dial ≡ it.0.dial = ap (λ (f : JobFields). f.dial) it.2 in
     let of_first : c.fields.result.now.dial ≡ c.in-Some.job.dial = ap (λ (f : JobFields). f.dial) c.fields.ensures.fields in

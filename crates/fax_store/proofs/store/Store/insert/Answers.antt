@@ -1,4 +1,4 @@
-use Rattle.std.proofs.Common.{false}
+use Rattle.std.proofs.Common.{rules, false}
 use Rattle.sqlite.specs.Held.{state}
 use Rattle.sqlite.specs.State.{HasCleanDisk}
 use Rattle.sqlite.specs.Values.{bound}
@@ -14,37 +14,30 @@ pub returns-in-Err-clause-left : goal.returns-in-Err-clause-left
 returns-in-Err-clause-left g c clean =
     fails_whole (state g.S.Store c.args.self.now.conn) (state g.S.Store c.execute.new.self) false c.args.sql.now (bound c.args.params.now) c.in-Err.error (c.in-Err.ensures.runs clean)
 
-pub returns-in-Err-clause-served : goal.returns-in-Err-clause-served
-returns-in-Err-clause-served g c s =
-    let old = state g.S.Store c.args.self.now.conn in
-    let new = state g.S.Store c.execute.new.self in
-    served old new c.execute.ensures.survives.clean s
-    (left_open old new c.args.sql.now (bound c.args.params.now) (fails_whole old new false c.args.sql.now (bound c.args.params.now) c.in-Err.error (c.in-Err.ensures.runs s.clean)) s.is_open)
+pub returns-in-Err-clause-leaves : goal.returns-in-Err-clause-leaves
+returns-in-Err-clause-leaves g c = record {
+  served = λ s. let old = state g.S.Store c.args.self.now.conn in
+      let new = state g.S.Store c.execute.new.self in
+      served old new c.execute.ensures.survives.clean s
+      (left_open old new c.args.sql.now (bound c.args.params.now) (fails_whole old new false c.args.sql.now (bound c.args.params.now) c.in-Err.error (c.in-Err.ensures.runs s.clean)) s.is_open);
+  clean = search rules;
+  holds = let old = state g.S.Store c.args.self.now.conn in
+      let new = state g.S.Store c.execute.new.self in
+      let left : HasCleanDisk new → LeavesCommit old new = λ clean. fails_whole old new false c.args.sql.now (bound c.args.params.now) c.in-Err.error (c.in-Err.ensures.runs clean) in
+      left_holds old new (λ s. served old new c.execute.ensures.survives.clean s (left_open old new c.args.sql.now (bound c.args.params.now) (left s.clean) s.is_open)) left;
+  crash = refused_withholds (state g.S.Store c.args.self.now.conn) (state g.S.Store c.execute.new.self) c.args.sql.now (bound c.args.params.now) c.requires c.execute.ensures.survives;
+}
 
-pub returns-in-Ok-clause-served : goal.returns-in-Ok-clause-served
-returns-in-Ok-clause-served g c s =
-    let old = state g.S.Store c.args.self.now.conn in
-    let new = state g.S.Store c.execute.new.self in
-    served old new c.execute.ensures.survives.clean s (run_open old new c.args.sql.now (bound c.args.params.now) c.in-Ok.field-0 (c.in-Ok.ensures.runs s.clean) s.is_open)
-
-pub returns-in-Ok-clause-holds : goal.returns-in-Ok-clause-holds
-returns-in-Ok-clause-holds g c =
-    let old = state g.S.Store c.args.self.now.conn in
-    let new = state g.S.Store c.execute.new.self in
-    edit_holds old new c.args.sql.now (bound c.args.params.now)
-    (λ s. served old new c.execute.ensures.survives.clean s (run_open old new c.args.sql.now (bound c.args.params.now) c.in-Ok.field-0 (c.in-Ok.ensures.runs s.clean) s.is_open))
-    c.requires c.in-Ok.field-0 c.in-Ok.ensures.runs
-
-pub returns-in-Err-clause-holds : goal.returns-in-Err-clause-holds
-returns-in-Err-clause-holds g c =
-    let old = state g.S.Store c.args.self.now.conn in
-    let new = state g.S.Store c.execute.new.self in
-    let left : HasCleanDisk new → LeavesCommit old new = λ clean. fails_whole old new false c.args.sql.now (bound c.args.params.now) c.in-Err.error (c.in-Err.ensures.runs clean) in
-    left_holds old new (λ s. served old new c.execute.ensures.survives.clean s (left_open old new c.args.sql.now (bound c.args.params.now) (left s.clean) s.is_open)) left
-
-pub returns-in-Ok-clause-crash : goal.returns-in-Ok-clause-crash
-returns-in-Ok-clause-crash g c =
-    edit_withholds (state g.S.Store c.args.self.now.conn) (state g.S.Store c.execute.new.self) c.args.sql.now (bound c.args.params.now) c.requires c.execute.ensures.survives c.in-Ok.field-0 c.in-Ok.ensures.runs
-
-pub returns-in-Err-clause-crash : goal.returns-in-Err-clause-crash
-returns-in-Err-clause-crash g c = refused_withholds (state g.S.Store c.args.self.now.conn) (state g.S.Store c.execute.new.self) c.args.sql.now (bound c.args.params.now) c.requires c.execute.ensures.survives
+pub returns-in-Ok-clause-leaves : goal.returns-in-Ok-clause-leaves
+returns-in-Ok-clause-leaves g c = record {
+  served = λ s. let old = state g.S.Store c.args.self.now.conn in
+      let new = state g.S.Store c.execute.new.self in
+      served old new c.execute.ensures.survives.clean s (run_open old new c.args.sql.now (bound c.args.params.now) c.in-Ok.field-0 (c.in-Ok.ensures.runs s.clean) s.is_open);
+  clean = search rules;
+  holds = let old = state g.S.Store c.args.self.now.conn in
+      let new = state g.S.Store c.execute.new.self in
+      edit_holds old new c.args.sql.now (bound c.args.params.now)
+      (λ s. served old new c.execute.ensures.survives.clean s (run_open old new c.args.sql.now (bound c.args.params.now) c.in-Ok.field-0 (c.in-Ok.ensures.runs s.clean) s.is_open))
+      c.requires c.in-Ok.field-0 c.in-Ok.ensures.runs;
+  crash = edit_withholds (state g.S.Store c.args.self.now.conn) (state g.S.Store c.execute.new.self) c.args.sql.now (bound c.args.params.now) c.requires c.execute.ensures.survives c.in-Ok.field-0 c.in-Ok.ensures.runs;
+}

@@ -19,32 +19,36 @@ returns-in_default-clause-cause g c m₀ m k₀ k works s fit =
 pub returns-in_default-checked_add-clause-cause : goal.returns-in_default-checked_add-clause-cause
 returns-in_default-checked_add-clause-cause g c m₀ m k₀ k works s fit =
     let old = state g.S.Store c.args.self.now.conn in
-    let read = state g.S.Store c.read_job.new.self.conn in
-    let at_read = c.read_calls.ensures.served s in
-    let first = goes_on old read c.read_job.ensures.served (Ok c.in_ok-job.field-0) c.in_ok-job.ensures.reads (λ m k found. found ≡ option_map fields_of (job_numbered c.args.grant.now.job m)) c.in_ok-job.ensures.answers m₀ m k₀ k works at_read in
+    let read = state g.S.Store c.job.new.self.conn in
+    let at_read = c.read_calls.ensures.leaves.served s in
+    let first = goes_on old read c.job.ensures.leaves.served (Ok c.in_ok-job.field-0) c.in_ok-job.ensures.leaves.reads (λ m k found. found ≡ option_map fields_of (job_numbered c.args.grant.now.job m)) c.in_ok-job.ensures.answers m₀ m k₀ k works at_read in
     let means = (first.1.goes_on refl).means in
     let counted = c.in_ok-calls.ensures.answers m k (λ _. means) s in
     let low : c.in_ok-calls.calls + 1 < 4294967296 = omega (arith, counted, calls_few read.now m k means c.fields.result.now.dial) in
     absurd (c.in_default-checked_add.ensures low)
 
-pub returns-clause-holds : goal.returns-clause-holds
-returns-clause-holds g c =
-    let old = state g.S.Store c.args.self.now.conn in
-    let read = state g.S.Store c.read_job.new.self.conn in
-    let then = state g.S.Store c.read_calls.new.self.conn in
-    holds_then old then (state g.S.Store c.place_grant.new.self.conn) (is_err c.place_grant.result) c.place_grant.ensures.served
-    (holds_then old read then false c.read_calls.ensures.served (holds_by old read c.read_job.ensures.served (Ok c.in_ok-job.field-0) c.in_ok-job.ensures.reads) (holds_by read then c.read_calls.ensures.served (Ok c.in_ok-calls.calls) c.in_ok-calls.ensures.reads))
-    c.place_grant.ensures.holds
+pub returns-clause-leaves : goal.returns-clause-leaves
+returns-clause-leaves g c = record {
+  served = search rules;
+  clean = search rules;
+  holds = let old = state g.S.Store c.args.self.now.conn in
+      let read = state g.S.Store c.job.new.self.conn in
+      let then = state g.S.Store c.read_calls.new.self.conn in
+      holds_then old then (state g.S.Store c.place_grant.new.self.conn) (is_err c.place_grant.result) c.place_grant.ensures.leaves.served
+      (holds_then old read then false c.read_calls.ensures.leaves.served (holds_by old read c.job.ensures.leaves.served (Ok c.in_ok-job.field-0) c.in_ok-job.ensures.leaves.reads) (holds_by read then c.read_calls.ensures.leaves.served (Ok c.in_ok-calls.calls) c.in_ok-calls.ensures.leaves.reads))
+      c.place_grant.ensures.leaves.holds;
+  crash = search rules;
+}
 
 pub returns-clause-written : goal.returns-clause-written
 returns-clause-written g c m₀ m k₀ k works s fit =
     let old = state g.S.Store c.args.self.now.conn in
-    let read = state g.S.Store c.read_job.new.self.conn in
+    let read = state g.S.Store c.job.new.self.conn in
     let then = state g.S.Store c.read_calls.new.self.conn in
-    let at_then = c.place_grant.ensures.served s in
-    let at_read = c.read_calls.ensures.served at_then in
-    let first = goes_on old read c.read_job.ensures.served (Ok c.in_ok-job.field-0) c.in_ok-job.ensures.reads (λ m k found. found ≡ option_map fields_of (job_numbered c.args.grant.now.job m)) c.in_ok-job.ensures.answers m₀ m k₀ k works at_read in
-    let second = goes_on read then c.read_calls.ensures.served (Ok c.in_ok-calls.calls) c.in_ok-calls.ensures.reads (λ m k calls. calls ≡ calls_to c.fields.result.now.dial m) c.in_ok-calls.ensures.answers m₀ m k₀ k (λ _. first.1) at_then in
+    let at_then = c.place_grant.ensures.leaves.served s in
+    let at_read = c.read_calls.ensures.leaves.served at_then in
+    let first = goes_on old read c.job.ensures.leaves.served (Ok c.in_ok-job.field-0) c.in_ok-job.ensures.leaves.reads (λ m k found. found ≡ option_map fields_of (job_numbered c.args.grant.now.job m)) c.in_ok-job.ensures.answers m₀ m k₀ k works at_read in
+    let second = goes_on read then c.read_calls.ensures.leaves.served (Ok c.in_ok-calls.calls) c.in_ok-calls.ensures.leaves.reads (λ m k calls. calls ≡ calls_to c.fields.result.now.dial m) c.in_ok-calls.ensures.answers m₀ m k₀ k (λ _. first.1) at_then in
     let it = there_as fields_of (job_numbered c.args.grant.now.job m) c.in-Some.job (sym c.in-Some.is ∙ first.0) in
     let dial : c.in-Some.job.dial ≡ it.0.dial = ap (λ (f : JobFields). f.dial) it.2 in
     let of_first : c.fields.result.now.dial ≡ c.in-Some.job.dial = ap (λ (f : JobFields). f.dial) c.fields.ensures.fields in

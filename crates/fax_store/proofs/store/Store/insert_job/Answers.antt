@@ -42,7 +42,7 @@ returns-clause-written g c m₀ m k₀ k works s =
     let lawful : IsLawfulJob (job_of j) = lawful_of_fields j (search rules) formed in
     let done : OnOk c.insert.result (HasRun INSERT_JOB.now (job_shown j) old new) = subst (λ p. OnOk c.insert.result (HasRun INSERT_JOB.now p old new)) shown ran in
     subst (λ f. Moves new c.insert.result m₀ k₀ (with_placed (job_of f) m) k) same
-    (move_by old new INSERT_JOB.now (job_shown j) 0 c.insert.result m₀ m (with_placed (job_of j) m) k₀ k k c.insert.ensures.served works s done (c.insert.ensures.left s.clean) (λ means has. job_put old new m k means j lawful has))
+    (move_by old new INSERT_JOB.now (job_shown j) 0 c.insert.result m₀ m (with_placed (job_of j) m) k₀ k k c.insert.ensures.leaves.served works s done (c.insert.ensures.left s.clean) (λ means has. job_put old new m k means j lawful has))
 
 pub returns-clause-cause : goal.returns-clause-cause
 returns-clause-cause g c m₀ m k₀ k works s free =
@@ -55,7 +55,7 @@ returns-clause-cause g c m₀ m k₀ k works s free =
     c.text.ensures.text c.as_str.ensures.text c.as_str-2.ensures.text c.text-2.ensures.text c.in_ok-extra.ensures.spelled c.seconds.ensures.seconds c.killtime_number.ensures.number
     c.from.ensures c.from-2.ensures c.from-3.ensures c.from-4.ensures c.from-5.ensures c.from-6.ensures c.from-7.ensures c.from-8.ensures c.from-9.ensures c.phase_number.ensures c.wish_number.ensures in
     let told : HasCleanDisk new → IfErr c.insert.result (IsRefusedFor INSERT_JOB.now params old new) = λ clean. subst (λ p. IfErr c.insert.result (IsRefusedFor INSERT_JOB.now p old new)) (search rules) (c.insert.ensures.told clean) in
-    only_unavailable old new INSERT_JOB.now (job_shown j) c.insert.result (λ m k. IsNewJob (job_of j) m) c.insert.ensures.served (subst (λ p. HasCleanDisk new → IfErr c.insert.result (IsRefusedFor INSERT_JOB.now p old new)) shown told)
+    only_unavailable old new INSERT_JOB.now (job_shown j) c.insert.result (λ m k. IsNewJob (job_of j) m) c.insert.ensures.leaves.served (subst (λ p. HasCleanDisk new → IfErr c.insert.result (IsRefusedFor INSERT_JOB.now p old new)) shown told)
     (λ m k means free e h. job_goes old new m k means j free e h) m₀ m k₀ k works s (subst (λ f. IsNewJob (job_of f) m) (sym same) free)
 
 pub insert-requires : goal.insert-requires

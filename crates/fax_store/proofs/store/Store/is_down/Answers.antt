@@ -1,13 +1,23 @@
-use Rattle.std.proofs.Common.{◌≡◌}
+use Rattle.std.proofs.Common.{subst, ◌∙◌, rules}
 use Rattle.sqlite.specs.Held.{state}
-use Rattle.fax_core.specs.Machine.{is_down}
-use Rattle.fax_store.proofs.WorkLemmas.{stays_by, found_by}
+use Rattle.fax_schema.specs.declared.statements.TheConstants.{SELECT_DOWN}
+use Rattle.fax_store.specs.Store.{FindsRow}
+use Rattle.fax_store.proofs.ModemLemmas as modems
+use Rattle.fax_schema.proofs.ModemTexts.{select_down}
+use Rattle.fax_store.proofs.FrameLemmas.{finds_as}
 use Rattle.fax_store.proofs.store.Store.is_down.Goals as goal
 
-pub returns-clause-stays : goal.returns-clause-stays
-returns-clause-stays g c =
-    stays_by (state g.S.Store c.args.self.now.conn) (state g.S.Store c.read_mark.new.self.conn) c.read_mark.ensures.served c.read_mark.result c.read_mark.ensures.reads
+pub returns-clause-answers : goal.returns-clause-answers
+returns-clause-answers g c m k means s =
+    let old = state g.S.Store c.args.self.now.conn in
+    let new = state g.S.Store c.find.new.self.conn in
+    let modem = c.args.modem.now in
+    let means_now = means (c.in_ok-row.ensures.leaves.served s) in
+    let found : FindsRow SELECT_DOWN.now (modems.params modem) old new c.in_ok-row.row = subst (λ p. FindsRow SELECT_DOWN.now p old new c.in_ok-row.row) (search rules) (c.in_ok-row.ensures.found s.clean) in
+    c.is_some.ensures ∙ modems.mark_found modem old new m k means_now c.in_ok-row.row found
 
-pub returns-clause-found : goal.returns-clause-found
-returns-clause-found g c =
-    found_by (state g.S.Store c.args.self.now.conn) (state g.S.Store c.read_mark.new.self.conn) c.read_mark.ensures.served c.read_mark.result c.read_mark.ensures.reads (λ m k down. down ≡ is_down c.args.modem.now m) c.read_mark.ensures.answers
+pub returns-clause-leaves : goal.returns-clause-leaves
+returns-clause-leaves g c = finds_as g.S.Store _ _ _ _ c.in_ok-row.ensures.leaves
+
+pub find-requires : goal.find-requires
+find-requires g c = select_down.plain

@@ -1,13 +1,26 @@
-use Rattle.std.proofs.Common.{◌≡◌}
+use Rattle.std.proofs.Common.{sym, ◌∙◌}
 use Rattle.sqlite.specs.Held.{state}
-use Rattle.fax_tables.specs.Meta.{meta_of}
-use Rattle.fax_store.proofs.WorkLemmas.{stays_by, found_by}
+use Rattle.fax_store.proofs.MetaLemmas.{meta_found}
+use Rattle.fax_schema.proofs.StatementTexts.{select_meta}
+use Rattle.fax_store.proofs.FrameLemmas.{finds_as}
 use Rattle.fax_store.proofs.store.Store.meta.Goals as goal
 
-pub returns-clause-stays : goal.returns-clause-stays
-returns-clause-stays g c =
-    stays_by (state g.S.Store c.args.self.now.conn) (state g.S.Store c.read_meta.new.self.conn) c.read_meta.ensures.served c.read_meta.result c.read_meta.ensures.reads
+pub returns-in-Some-clause-answers : goal.returns-in-Some-clause-answers
+returns-in-Some-clause-answers g c m k means s =
+    let means_now = means (c.in_ok-row.ensures.leaves.served s) in
+    let is = sym c.in-Some.is ∙ meta_found (state g.S.Store c.args.self.now.conn) (state g.S.Store c.find.new.self.conn) m k means_now c.in_ok-row.field-0 (c.in_ok-row.ensures.found s.clean) in
+    c.in_row.ensures.found m (let it = is in cc) means_now.lawful.meta
 
-pub returns-clause-found : goal.returns-clause-found
-returns-clause-found g c =
-    found_by (state g.S.Store c.args.self.now.conn) (state g.S.Store c.read_meta.new.self.conn) c.read_meta.ensures.served c.read_meta.result c.read_meta.ensures.reads (λ m k meta. meta ≡ meta_of m) c.read_meta.ensures.answers
+pub returns-in-None-clause-answers : goal.returns-in-None-clause-answers
+returns-in-None-clause-answers g c m k means s =
+    let is = sym c.in-None.is ∙ meta_found (state g.S.Store c.args.self.now.conn) (state g.S.Store c.find.new.self.conn) m k (means (c.in_ok-row.ensures.leaves.served s)) c.in_ok-row.field-0 (c.in_ok-row.ensures.found s.clean) in
+    absurd (let it = is in cc)
+
+pub returns-in-Some-clause-leaves : goal.returns-in-Some-clause-leaves
+returns-in-Some-clause-leaves g c = finds_as g.S.Store _ _ _ _ c.in_ok-row.ensures.leaves
+
+pub returns-in-None-clause-leaves : goal.returns-in-None-clause-leaves
+returns-in-None-clause-leaves g c = finds_as g.S.Store _ _ _ _ c.in_ok-row.ensures.leaves
+
+pub find-requires : goal.find-requires
+find-requires g c = select_meta.plain

@@ -21,7 +21,7 @@ insert-requires-2 g c = edit_text INSERT_GRANT.now _ tt texts.insert_grant
 
 pub returns-in_err-insert-clause-written : goal.returns-in_err-insert-clause-written
 returns-in_err-insert-clause-written g c m₀ m k₀ k works s fit called counted =
-    refused_move (state g.S.Store c.args.self.now.conn) (state g.S.Store c.insert.new.self.conn) c.from_residual.result c.in_err-insert.field-0.0 m₀ m (with_placed c.args.grant.now m) k₀ k k c.insert.ensures.served works s
+    refused_move (state g.S.Store c.args.self.now.conn) (state g.S.Store c.insert.new.self.conn) c.from_residual.result c.in_err-insert.field-0.0 m₀ m (with_placed c.args.grant.now m) k₀ k k c.insert.ensures.leaves.served works s
     (c.in_err-insert.ensures.left s.clean) c.from_residual.ensures.1
 
 pub returns-in_err-insert-clause-cause : goal.returns-in_err-insert-clause-cause
@@ -30,28 +30,28 @@ returns-in_err-insert-clause-cause g c m₀ m k₀ k works s fit =
     let mid = state g.S.Store c.insert.new.self.conn in
     let grant = c.args.grant.now in
     let fault = c.in_err-insert.field-0.0 in
-    let means = ((works (c.insert.ensures.served s)).goes_on refl).means in
+    let means = ((works (c.insert.ensures.leaves.served s)).goes_on refl).means in
     let told : IsRefusedFor INSERT_HOLD.now (hold_params grant) old mid fault = subst (λ p. IsRefusedFor INSERT_HOLD.now p old mid fault) (search rules) (c.in_err-insert.ensures.told s.clean) in
     refused_as c.from_residual.result fault c.from_residual.ensures.1 (told.2 ∙ hold_goes grant old mid mid m k means fit.1 told.0 told.1)
 
-pub returns-in_err-insert-2-clause-holds : goal.returns-in_err-insert-2-clause-holds
-returns-in_err-insert-2-clause-holds g c =
-    let old = state g.S.Store c.args.self.now.conn in
-    let mid = state g.S.Store c.insert.new.self.conn in
-    let new = state g.S.Store c.insert-2.new.self.conn in
-    holds_err old new c.from_residual-in_err-insert-2.result _ c.from_residual-in_err-insert-2.ensures.1 (holds_then old mid new true c.insert-2.ensures.served c.in_ok-insert.ensures.holds c.in_err-insert-2.ensures.holds)
-
-pub returns-in_err-insert-2-clause-crash : goal.returns-in_err-insert-2-clause-crash
-returns-in_err-insert-2-clause-crash g c =
-    let old = state g.S.Store c.args.self.now.conn in
-    let mid = state g.S.Store c.insert.new.self.conn in
-    let new = state g.S.Store c.insert-2.new.self.conn in
-    withholds_err old new c.from_residual-in_err-insert-2.result _ c.from_residual-in_err-insert-2.ensures.1 (withholds_then old mid new true c.in_ok-insert.ensures.crash c.in_err-insert-2.ensures.crash)
+pub returns-in_err-insert-2-clause-leaves : goal.returns-in_err-insert-2-clause-leaves
+returns-in_err-insert-2-clause-leaves g c = record {
+  served = search rules;
+  clean = search rules;
+  holds = let old = state g.S.Store c.args.self.now.conn in
+      let mid = state g.S.Store c.insert.new.self.conn in
+      let new = state g.S.Store c.insert-2.new.self.conn in
+      holds_err old new c.from_residual-in_err-insert-2.result _ c.from_residual-in_err-insert-2.ensures.1 (holds_then old mid new true c.insert-2.ensures.leaves.served c.in_ok-insert.ensures.leaves.holds c.in_err-insert-2.ensures.leaves.holds);
+  crash = let old = state g.S.Store c.args.self.now.conn in
+      let mid = state g.S.Store c.insert.new.self.conn in
+      let new = state g.S.Store c.insert-2.new.self.conn in
+      withholds_err old new c.from_residual-in_err-insert-2.result _ c.from_residual-in_err-insert-2.ensures.1 (withholds_then old mid new true c.in_ok-insert.ensures.leaves.crash c.in_err-insert-2.ensures.leaves.crash);
+}
 
 pub returns-in_err-insert-2-clause-written : goal.returns-in_err-insert-2-clause-written
 returns-in_err-insert-2-clause-written g c m₀ m k₀ k works s fit called counted =
     refused_by (state g.S.Store c.args.self.now.conn) (state g.S.Store c.insert-2.new.self.conn) c.from_residual-in_err-insert-2.result _ m₀ m (with_placed c.args.grant.now m) k₀ k k c.from_residual-in_err-insert-2.ensures.1
-    (λ at. c.insert.ensures.served (c.insert-2.ensures.served at)) (returns-in_err-insert-2-clause-holds g c) works s
+    (λ at. c.insert.ensures.leaves.served (c.insert-2.ensures.leaves.served at)) (returns-in_err-insert-2-clause-leaves g c).holds works s
 
 pub returns-in_err-insert-2-clause-cause : goal.returns-in_err-insert-2-clause-cause
 returns-in_err-insert-2-clause-cause g c m₀ m k₀ k works s fit =
@@ -62,25 +62,25 @@ returns-in_err-insert-2-clause-cause g c m₀ m k₀ k works s fit =
     let params = hold_params grant in
     let others = grant_params grant in
     let fault = c.in_err-insert-2.field-0.0 in
-    let at_mid = c.insert-2.ensures.served s in
-    let means = ((works (c.insert.ensures.served at_mid)).goes_on refl).means in
+    let at_mid = c.insert-2.ensures.leaves.served s in
+    let means = ((works (c.insert.ensures.leaves.served at_mid)).goes_on refl).means in
     let held : HasRun INSERT_HOLD.now params old mid = subst (λ p. HasRun INSERT_HOLD.now p old mid) (search rules) (c.in_ok-insert.ensures.ran at_mid.clean) in
     let told : IsRefusedFor INSERT_GRANT.now others mid new fault = subst (λ p. IsRefusedFor INSERT_GRANT.now p mid new fault) (search rules) (c.in_err-insert-2.ensures.told s.clean) in
     refused_as c.from_residual-in_err-insert-2.result fault c.from_residual-in_err-insert-2.ensures.1 (told.2 ∙ grant_goes grant old mid new m k means fit.0.is_open fit.1 held told.0 told.1)
 
-pub returns-clause-holds : goal.returns-clause-holds
-returns-clause-holds g c =
-    let old = state g.S.Store c.args.self.now.conn in
-    let mid = state g.S.Store c.insert.new.self.conn in
-    let put = state g.S.Store c.insert-2.new.self.conn in
-    holds_then old put (state g.S.Store c.set_calls.new.self.conn) (is_err c.set_calls.result) c.set_calls.ensures.served (holds_then old mid put false c.insert-2.ensures.served c.in_ok-insert.ensures.holds c.in_ok-insert-2.ensures.holds) c.set_calls.ensures.holds
-
-pub returns-clause-crash : goal.returns-clause-crash
-returns-clause-crash g c =
-    let old = state g.S.Store c.args.self.now.conn in
-    let mid = state g.S.Store c.insert.new.self.conn in
-    let put = state g.S.Store c.insert-2.new.self.conn in
-    withholds_then old put (state g.S.Store c.set_calls.new.self.conn) (is_err c.set_calls.result) (withholds_then old mid put false c.in_ok-insert.ensures.crash c.in_ok-insert-2.ensures.crash) c.set_calls.ensures.crash
+pub returns-clause-leaves : goal.returns-clause-leaves
+returns-clause-leaves g c = record {
+  served = search rules;
+  clean = search rules;
+  holds = let old = state g.S.Store c.args.self.now.conn in
+      let mid = state g.S.Store c.insert.new.self.conn in
+      let put = state g.S.Store c.insert-2.new.self.conn in
+      holds_then old put (state g.S.Store c.set_calls.new.self.conn) (is_err c.set_calls.result) c.set_calls.ensures.leaves.served (holds_then old mid put false c.insert-2.ensures.leaves.served c.in_ok-insert.ensures.leaves.holds c.in_ok-insert-2.ensures.leaves.holds) c.set_calls.ensures.leaves.holds;
+  crash = let old = state g.S.Store c.args.self.now.conn in
+      let mid = state g.S.Store c.insert.new.self.conn in
+      let put = state g.S.Store c.insert-2.new.self.conn in
+      withholds_then old put (state g.S.Store c.set_calls.new.self.conn) (is_err c.set_calls.result) (withholds_then old mid put false c.in_ok-insert.ensures.leaves.crash c.in_ok-insert-2.ensures.leaves.crash) c.set_calls.ensures.leaves.crash;
+}
 
 pub returns-clause-written : goal.returns-clause-written
 returns-clause-written g c m₀ m k₀ k works s fit called counted =
@@ -91,15 +91,15 @@ returns-clause-written g c m₀ m k₀ k works s fit called counted =
     let grant = c.args.grant.now in
     let params = hold_params grant in
     let others = grant_params grant in
-    let at_put = c.set_calls.ensures.served s in
-    let at_mid = c.insert-2.ensures.served at_put in
+    let at_put = c.set_calls.ensures.leaves.served s in
+    let at_mid = c.insert-2.ensures.leaves.served at_put in
     let lawful : IsLawfulGrant grant = record { limits = fit.limits; modem = search rules } in
     let held : HasRun INSERT_HOLD.now params old mid = subst (λ p. HasRun INSERT_HOLD.now p old mid) (search rules) (c.in_ok-insert.ensures.ran at_mid.clean) in
     let granted : HasRun INSERT_GRANT.now others mid put = subst (λ p. HasRun INSERT_GRANT.now p mid put) (search rules) (c.in_ok-insert-2.ensures.ran at_put.clean) in
-    moves_by old new c.set_calls.result m₀ m (with_placed grant m) k₀ k k (λ at. c.insert.ensures.served (c.insert-2.ensures.served (c.set_calls.ensures.served at))) (returns-clause-holds g c) works s
+    moves_by old new c.set_calls.result m₀ m (with_placed grant m) k₀ k k (λ at. c.insert.ensures.leaves.served (c.insert-2.ensures.leaves.served (c.set_calls.ensures.leaves.served at))) (returns-clause-leaves g c).holds works s
     (λ means inside.
     let parts = grant_put grant old mid put m k means fit.is_open lawful held granted in
-    let on = inside_by old put (holds_then old mid put false c.insert-2.ensures.served c.in_ok-insert.ensures.holds c.in_ok-insert-2.ensures.holds) at_put inside means.schema in
+    let on = inside_by old put (holds_then old mid put false c.insert-2.ensures.leaves.served c.in_ok-insert.ensures.leaves.holds c.in_ok-insert-2.ensures.leaves.holds) at_put inside means.schema in
     ok_as c.set_calls.result
     (λ set.
     let by_count = subst (λ n. SetsCalls put new (with_count c.args.dial.now n (calls_of m))) counted set in

@@ -32,11 +32,11 @@ returns-in-None-clause-counted g c count tables counted low clean =
 pub returns-in-Some-clause-answers : goal.returns-in-Some-clause-answers
 returns-in-Some-clause-answers g c m k means s =
     let old = state g.S.Store c.args.self.now.conn in
-    let means_now = means (c.in_ok-row.ensures.served s) in
+    let means_now = means (c.in_ok-row.ensures.leaves.served s) in
     returns-in-Some-clause-counted g c (λ d. calls_to d m) means_now.schema (record { is = means_now.calls; ordered = means_now.ordered.calls }) (calls_fit old.now m k means_now c.args.dial.now) s.clean
 
 pub returns-in-None-clause-answers : goal.returns-in-None-clause-answers
 returns-in-None-clause-answers g c m k means s =
     let old = state g.S.Store c.args.self.now.conn in
-    let means_now = means (c.in_ok-row.ensures.served s) in
+    let means_now = means (c.in_ok-row.ensures.leaves.served s) in
     returns-in-None-clause-counted g c (λ d. calls_to d m) means_now.schema (record { is = means_now.calls; ordered = means_now.ordered.calls }) (calls_fit old.now m k means_now c.args.dial.now) s.clean

@@ -29,10 +29,14 @@ returns-then-calls-eq0-clause-set g c count was clean =
     let ran : HasRun DELETE_CALLS.now (params dial) old new = subst (λ p. HasRun DELETE_CALLS.now p old new) (search rules) (c.in_ok-run.ensures.ran clean) in
     subst (λ n. SetsCalls old new (with_count dial n count)) (sym none) (calls_gone dial count old new was ran)
 
-pub returns-clause-holds : goal.returns-clause-holds
-returns-clause-holds g c =
-    holds_then (state g.S.Store c.args.self.now.conn) (state g.S.Store c.run.new.self.conn) (state g.S.Store c.run-2.new.self.conn) (is_err c.run-2.result) c.run-2.ensures.served
-    (c.in_ok-run.ensures.holds) (c.run-2.ensures.holds)
+pub returns-clause-leaves : goal.returns-clause-leaves
+returns-clause-leaves g c = record {
+  served = search rules;
+  clean = search rules;
+  holds = holds_then (state g.S.Store c.args.self.now.conn) (state g.S.Store c.run.new.self.conn) (state g.S.Store c.run-2.new.self.conn) (is_err c.run-2.result) c.run-2.ensures.leaves.served
+      (c.in_ok-run.ensures.leaves.holds) (c.run-2.ensures.leaves.holds);
+  crash = search rules;
+}
 
 pub returns-clause-set : goal.returns-clause-set
 returns-clause-set g c count was clean =
@@ -42,7 +46,7 @@ returns-clause-set g c count was clean =
     let dial = c.args.dial.now in
     let n = c.args.calls in
     let some : 1 ≤ c.args.calls = search rules in
-    let gone : HasRun DELETE_CALLS.now (params dial) old mid = subst (λ p. HasRun DELETE_CALLS.now p old mid) (search rules) (c.in_ok-run.ensures.ran (c.run-2.ensures.clean clean)) in
+    let gone : HasRun DELETE_CALLS.now (params dial) old mid = subst (λ p. HasRun DELETE_CALLS.now p old mid) (search rules) (c.in_ok-run.ensures.ran (c.run-2.ensures.leaves.clean clean)) in
     let first = calls_gone dial count old mid was gone in
     let ran : OnOk c.run-2.result (HasRun INSERT_CALLS.now (Text dial ∷ number n ∷ []) mid new) = subst (λ p. OnOk c.run-2.result (HasRun INSERT_CALLS.now p mid new)) (search rules) (c.run-2.ensures.ran clean) in
     ok_as c.run-2.result (λ has. set_then old mid new (with_count dial 0 count) (with_count dial n count) first (calls_put dial count n mid new some (has_calls old mid (with_count dial 0 count) first) has)) ran
@@ -53,6 +57,6 @@ returns-clause-left g c count was clean =
     let mid = state g.S.Store c.run.new.self.conn in
     let new = state g.S.Store c.run-2.new.self.conn in
     let dial = c.args.dial.now in
-    let gone : HasRun DELETE_CALLS.now (params dial) old mid = subst (λ p. HasRun DELETE_CALLS.now p old mid) (search rules) (c.in_ok-run.ensures.ran (c.run-2.ensures.clean clean)) in
+    let gone : HasRun DELETE_CALLS.now (params dial) old mid = subst (λ p. HasRun DELETE_CALLS.now p old mid) (search rules) (c.in_ok-run.ensures.ran (c.run-2.ensures.leaves.clean clean)) in
     let first = calls_gone dial count old mid was gone in
     err_as c.run-2.result (λ left. commit_kept old mid new first.goes_on (unchanged_keeps mid new left)) (c.run-2.ensures.left clean)

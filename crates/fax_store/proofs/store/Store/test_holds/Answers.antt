@@ -14,7 +14,7 @@ returns-clause-ours g c tables clean =
     let new = state g.S.Store c.show.new.self.conn in
     let few = c.if-len-gt0.false in
     let none : c.in_ok-lost.lost.items ≡ [] = nil_from_length c.in_ok-lost.lost.items (omega (arith, few, c.len.ensures)) in
-    (none_lost old new tables c.in_ok-lost.lost.items (c.in_ok-lost.ensures.shown clean) none, c.in_ok-lost.ensures.reads tables clean)
+    (none_lost old new tables c.in_ok-lost.lost.items (c.in_ok-lost.ensures.shown clean) none, c.in_ok-lost.ensures.leaves.reads tables clean)
 
 pub returns-then-len-gt0-clause-strange : goal.returns-then-len-gt0-clause-strange
 returns-then-len-gt0-clause-strange g c tables clean is held =

@@ -1,12 +1,28 @@
+use Rattle.std.proofs.Common.{◌≡◌, [], map, subst, rules}
 use Rattle.sqlite.specs.Held.{state}
+use Rattle.sqlite.specs.State.{Shown}
+use Rattle.fax_core.specs.Job.{fields_of}
+use Rattle.fax_schema.specs.declared.statements.TheConstants.{SELECT_WAITING}
 use Rattle.fax_store.specs.Job.{IsWaiting}
-use Rattle.fax_store.proofs.WorkLemmas.{stays_by, found_by}
+use Rattle.fax_tables.proofs.ResultLemmas.{or_weaker}
+use Rattle.fax_store.proofs.WaitingLemmas as waiting
+use Rattle.fax_schema.proofs.StatementTexts.{job_project, select_waiting}
+use Rattle.fax_store.proofs.FrameLemmas.{finds_as}
 use Rattle.fax_store.proofs.store.Store.waiting.Goals as goal
 
-pub returns-clause-stays : goal.returns-clause-stays
-returns-clause-stays g c =
-    stays_by (state g.S.Store c.args.self.now.conn) (state g.S.Store c.read_waiting.new.self.conn) c.read_waiting.ensures.served c.read_waiting.result c.read_waiting.ensures.reads
+pub returns-clause-answers : goal.returns-clause-answers
+returns-clause-answers g c m k means s =
+    let old = state g.S.Store c.args.self.now.conn in
+    let new = state g.S.Store c.show.new.self.conn in
+    let t = c.args.t in
+    let means_now = means (c.in_ok-rows.ensures.leaves.served s) in
+    let shown : Shown SELECT_WAITING.now (waiting.params t [] [] job_project) old new c.in_ok-rows.rows.items = subst (λ p. Shown SELECT_WAITING.now p old new c.in_ok-rows.rows.items) (search rules) (c.in_ok-rows.ensures.shown s.clean) in
+    let it = waiting.waiting_found t old new m k means_now c.in_ok-rows.rows.items shown in
+    let lawful = waiting.all_waiting t m it.0 it.2 means_now.lawful.jobs in
+    or_weaker c.jobs_in.result (λ found. found.items ≡ map fields_of it.0) (λ found. IsWaiting t m found.items) (λ found is. (it.0, is, it.2)) (c.jobs_in.ensures it.0 (search rules) lawful)
 
-pub returns-clause-found : goal.returns-clause-found
-returns-clause-found g c =
-    found_by (state g.S.Store c.args.self.now.conn) (state g.S.Store c.read_waiting.new.self.conn) c.read_waiting.ensures.served c.read_waiting.result c.read_waiting.ensures.reads (λ m k found. IsWaiting c.args.t m found.items) c.read_waiting.ensures.answers
+pub returns-clause-leaves : goal.returns-clause-leaves
+returns-clause-leaves g c = finds_as g.S.Store _ _ _ _ c.in_ok-rows.ensures.leaves
+
+pub show-requires : goal.show-requires
+show-requires g c = select_waiting.plain

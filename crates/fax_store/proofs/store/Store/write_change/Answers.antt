@@ -38,7 +38,7 @@ returns-clause-written g c m₀ m k₀ k change works s =
     let done : OnOk c.run.result (HasRun UPDATE_JOB.now (change_params j) old new) = subst (λ p. OnOk c.run.result (HasRun UPDATE_JOB.now p old new)) shown ran in
     let fits : IsChange (job_of j) m = subst (λ f. IsChange (job_of f) m) (sym same) change in
     subst (λ f. Steps new c.run.result m₀ k₀ (with_change (job_of f) m) k) same
-    (step_by old new UPDATE_JOB.now (change_params j) 0 c.run.result m₀ m (with_change (job_of j) m) k₀ k k c.run.ensures.served works s done (c.run.ensures.left s.clean) (c.run.ensures.cause) (λ means has. job_changed j old new m k means fits lawful has))
+    (step_by old new UPDATE_JOB.now (change_params j) 0 c.run.result m₀ m (with_change (job_of j) m) k₀ k k c.run.ensures.leaves.served works s done (c.run.ensures.left s.clean) (c.run.ensures.cause) (λ means has. job_changed j old new m k means fits lawful has))
 
 pub returns-clause-cause : goal.returns-clause-cause
 returns-clause-cause g c = c.run.ensures.cause

@@ -1,4 +1,4 @@
-use Rattle.std.proofs.Common.{◌≡◌, subst}
+use Rattle.std.proofs.Common.{rules, ◌≡◌, subst}
 use Rattle.std.specs.Prelude.{is_err}
 use Rattle.sqlite.specs.Held.{state}
 use Rattle.fax_store.specs.Job.{with_expired_in}
@@ -12,24 +12,24 @@ use Rattle.fax_store.proofs.store.Store.write_expired.Goals as goal
 pub returns-clause-written : goal.returns-clause-written
 returns-clause-written g c m₀ m k₀ k works s =
     let new = state g.S.Store c.expire_in-2.new.self.conn in
-    let mid = c.expire_in-2.ensures.served s in
+    let mid = c.expire_in-2.ensures.leaves.served s in
     let first = c.in_ok-expire_in.ensures.written m₀ m k₀ k works mid in
     subst (λ after. Steps new c.expire_in-2.result m₀ k₀ after k) (expired_in_turn c.args.t m) (c.expire_in-2.ensures.written m₀ (with_expired_in Held c.args.t m) k₀ k (λ _. first) s)
 
-pub returns-clause-holds : goal.returns-clause-holds
-returns-clause-holds g c =
-    holds_then (state g.S.Store c.args.self.now.conn) (state g.S.Store c.expire_in.new.self.conn) (state g.S.Store c.expire_in-2.new.self.conn) (is_err c.expire_in-2.result) c.expire_in-2.ensures.served
-    c.in_ok-expire_in.ensures.holds c.expire_in-2.ensures.holds
+pub returns-clause-leaves : goal.returns-clause-leaves
+returns-clause-leaves g c = record {
+  served = search rules;
+  clean = search rules;
+  holds = holds_then (state g.S.Store c.args.self.now.conn) (state g.S.Store c.expire_in.new.self.conn) (state g.S.Store c.expire_in-2.new.self.conn) (is_err c.expire_in-2.result) c.expire_in-2.ensures.leaves.served
+      c.in_ok-expire_in.ensures.leaves.holds c.expire_in-2.ensures.leaves.holds;
+  crash = withholds_then (state g.S.Store c.args.self.now.conn) (state g.S.Store c.expire_in.new.self.conn) (state g.S.Store c.expire_in-2.new.self.conn) (is_err c.expire_in-2.result)
+      c.in_ok-expire_in.ensures.leaves.crash c.expire_in-2.ensures.leaves.crash;
+}
 
-pub returns-in_err-expire_in-clause-holds : goal.returns-in_err-expire_in-clause-holds
-returns-in_err-expire_in-clause-holds g c =
-    holds_err (state g.S.Store c.args.self.now.conn) (state g.S.Store c.expire_in.new.self.conn) c.from_residual.result (λ e. e ≡ c.in_err-expire_in.field-0.0) c.from_residual.ensures.1 c.in_err-expire_in.ensures.holds
-
-pub returns-clause-crash : goal.returns-clause-crash
-returns-clause-crash g c =
-    withholds_then (state g.S.Store c.args.self.now.conn) (state g.S.Store c.expire_in.new.self.conn) (state g.S.Store c.expire_in-2.new.self.conn) (is_err c.expire_in-2.result)
-    c.in_ok-expire_in.ensures.crash c.expire_in-2.ensures.crash
-
-pub returns-in_err-expire_in-clause-crash : goal.returns-in_err-expire_in-clause-crash
-returns-in_err-expire_in-clause-crash g c =
-    withholds_err (state g.S.Store c.args.self.now.conn) (state g.S.Store c.expire_in.new.self.conn) c.from_residual.result (λ e. e ≡ c.in_err-expire_in.field-0.0) c.from_residual.ensures.1 c.in_err-expire_in.ensures.crash
+pub returns-in_err-expire_in-clause-leaves : goal.returns-in_err-expire_in-clause-leaves
+returns-in_err-expire_in-clause-leaves g c = record {
+  served = search rules;
+  clean = search rules;
+  holds = holds_err (state g.S.Store c.args.self.now.conn) (state g.S.Store c.expire_in.new.self.conn) c.from_residual.result (λ e. e ≡ c.in_err-expire_in.field-0.0) c.from_residual.ensures.1 c.in_err-expire_in.ensures.leaves.holds;
+  crash = withholds_err (state g.S.Store c.args.self.now.conn) (state g.S.Store c.expire_in.new.self.conn) c.from_residual.result (λ e. e ≡ c.in_err-expire_in.field-0.0) c.from_residual.ensures.1 c.in_err-expire_in.ensures.leaves.crash;
+}

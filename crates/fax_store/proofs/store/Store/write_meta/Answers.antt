@@ -17,7 +17,7 @@ returns-clause-written g c m₀ m k₀ k works s lawful =
     let meta = c.args.meta in
     let params = number meta.clock ∷ number meta.next_job ∷ number meta.next_grant ∷ [] in
     let ran : OnOk c.run.result (HasRun UPDATE_META.now params old new) = subst (λ p. OnOk c.run.result (HasRun UPDATE_META.now p old new)) (search rules) (c.run.ensures.ran s.clean) in
-    step_by old new UPDATE_META.now params 10 c.run.result m₀ m (with_meta meta m) k₀ k k c.run.ensures.served works s ran (c.run.ensures.left s.clean) (c.run.ensures.cause)
+    step_by old new UPDATE_META.now params 10 c.run.result m₀ m (with_meta meta m) k₀ k k c.run.ensures.leaves.served works s ran (c.run.ensures.left s.clean) (c.run.ensures.cause)
     (λ means has. (meta_written old new m k means meta.clock meta.next_job meta.next_grant lawful has, meta_shows old new m k means meta.clock meta.next_job meta.next_grant has))
 
 pub run-requires : goal.run-requires

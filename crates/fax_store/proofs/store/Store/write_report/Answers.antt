@@ -18,7 +18,7 @@ returns-clause-written g c m₀ m k₀ k report works s =
     let few : grant.confirmed ≤ 9999 = search rules in
     let ran : OnOk c.run.result (HasRun UPDATE_REPORT.now params old new) = subst (λ p. OnOk c.run.result (HasRun UPDATE_REPORT.now p old new)) (search rules) (c.run.ensures.ran s.clean) in
     moves_of new c.run.result m₀ (with_grant grant m) k₀ k
-    (step_by old new UPDATE_REPORT.now params 1 c.run.result m₀ m (with_grant grant m) k₀ k k c.run.ensures.served works s ran (c.run.ensures.left s.clean) (c.run.ensures.cause) (λ means has. grant_reported grant old new m k means report few has))
+    (step_by old new UPDATE_REPORT.now params 1 c.run.result m₀ m (with_grant grant m) k₀ k k c.run.ensures.leaves.served works s ran (c.run.ensures.left s.clean) (c.run.ensures.cause) (λ means has. grant_reported grant old new m k means report few has))
 
 pub returns-clause-cause : goal.returns-clause-cause
 returns-clause-cause g c fits = c.run.ensures.cause

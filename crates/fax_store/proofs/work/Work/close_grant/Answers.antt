@@ -1,9 +1,10 @@
-use Rattle.std.proofs.Common.{List, subst}
+use Rattle.std.proofs.Common.{refl, List, subst}
 use Rattle.sqlite.specs.Held.{state}
 use Rattle.fax_core.specs.Queue.{Entry}
 use Rattle.fax_store.specs.Grant.{with_closed}
 use Rattle.fax_store.specs.Work.{Works}
 use Rattle.fax_store.proofs.WorkLemmas.{changes_by, steps_fault}
+use Rattle.fax_store.proofs.FrameLemmas.{calls_by}
 use Rattle.fax_store.proofs.work.Work.close_grant.Goals as goal
 
 pub returns-clause-changes : goal.returns-clause-changes
@@ -11,11 +12,8 @@ returns-clause-changes g c =
     rw (c.if-self.false, c.is_err-self.ensures.value)
     (changes_by (state g.S.Store c.args.self.now.store.now.conn) (state g.S.Store c.shut_grant-done.new.self.conn) c.shut_grant-done.result (with_closed c.args.number) (λ (k : List Entry). k) c.shut_grant-done.ensures.written)
 
-pub returns-clause-holds : goal.returns-clause-holds
-returns-clause-holds g c = rw (c.if-self.false, c.is_err-self.ensures.value) c.shut_grant-done.ensures.holds
-
-pub returns-clause-crash : goal.returns-clause-crash
-returns-clause-crash g c = rw (c.if-self.false, c.is_err-self.ensures.value) c.shut_grant-done.ensures.crash
+pub returns-clause-leaves : goal.returns-clause-leaves
+returns-clause-leaves g c = calls_by g.S.Store _ _ _ c.if-self.false c.is_err-self.ensures.value refl c.shut_grant-done.ensures.leaves
 
 pub returns-clause-cause : goal.returns-clause-cause
 returns-clause-cause g c m₀ m k₀ k works s fits =

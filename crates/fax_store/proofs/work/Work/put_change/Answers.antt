@@ -1,9 +1,10 @@
-use Rattle.std.proofs.Common.{List}
+use Rattle.std.proofs.Common.{refl, List}
 use Rattle.sqlite.specs.Held.{state}
 use Rattle.fax_core.specs.Job.{job_of}
 use Rattle.fax_core.specs.Queue.{Entry}
 use Rattle.fax_store.specs.Job.{IsChange, with_change}
 use Rattle.fax_store.proofs.WorkLemmas.{steps_where, moves_of}
+use Rattle.fax_store.proofs.FrameLemmas.{calls_by}
 use Rattle.fax_store.proofs.work.Work.put_change.Goals as goal
 
 pub returns-clause-changes : goal.returns-clause-changes
@@ -14,8 +15,5 @@ returns-clause-changes g c =
     (steps_where (state g.S.Store c.args.self.now.store.now.conn) new (IsChange (job_of c.args.job.now)) c.write_change-done.result put (λ (k : List Entry). k)
     (λ m₀ m k₀ k change works s. moves_of new c.write_change-done.result m₀ (put m) k₀ k (c.write_change-done.ensures.written m₀ m k₀ k change works s)))
 
-pub returns-clause-holds : goal.returns-clause-holds
-returns-clause-holds g c = rw (c.if-self.false, c.is_err-self.ensures.value) c.write_change-done.ensures.holds
-
-pub returns-clause-crash : goal.returns-clause-crash
-returns-clause-crash g c = rw (c.if-self.false, c.is_err-self.ensures.value) c.write_change-done.ensures.crash
+pub returns-clause-leaves : goal.returns-clause-leaves
+returns-clause-leaves g c = calls_by g.S.Store _ _ _ c.if-self.false c.is_err-self.ensures.value refl c.write_change-done.ensures.leaves

@@ -1,10 +1,11 @@
-use Rattle.std.proofs.Common.{List, subst}
+use Rattle.std.proofs.Common.{refl, List, subst}
 use Rattle.sqlite.specs.Held.{state}
 use Rattle.fax_core.specs.Job.{job_of}
 use Rattle.fax_core.specs.Queue.{Entry}
 use Rattle.fax_store.specs.Job.{with_one_more_job}
 use Rattle.fax_store.specs.Work.{Works}
 use Rattle.fax_store.proofs.WorkLemmas.{moved_by}
+use Rattle.fax_store.proofs.FrameLemmas.{calls_by}
 use Rattle.fax_store.proofs.work.Work.put_job.Goals as goal
 
 pub returns-clause-changes : goal.returns-clause-changes
@@ -16,8 +17,5 @@ pub returns-clause-cause : goal.returns-clause-cause
 returns-clause-cause g c m₀ m k₀ k works s fits =
     c.add_job-done.ensures.cause m₀ m k₀ k (subst (λ b. Works (state g.S.Store c.args.self.now.store.now.conn) b m₀ k₀ m k) c.if-self.false works) s fits
 
-pub returns-clause-holds : goal.returns-clause-holds
-returns-clause-holds g c = rw (c.if-self.false, c.is_err-self.ensures.value) c.add_job-done.ensures.holds
-
-pub returns-clause-crash : goal.returns-clause-crash
-returns-clause-crash g c = rw (c.if-self.false, c.is_err-self.ensures.value) c.add_job-done.ensures.crash
+pub returns-clause-leaves : goal.returns-clause-leaves
+returns-clause-leaves g c = calls_by g.S.Store _ _ _ c.if-self.false c.is_err-self.ensures.value refl c.add_job-done.ensures.leaves
