@@ -14,6 +14,7 @@ server=${FAXQD:-http://127.0.0.1:4559}
 limit=${LIMIT:-10} # seconds until a request without a reply counts as lost
 pause=${PAUSE:-2}  # seconds before it is sent again
 wait=${WAIT:-15}   # seconds between two questions for work: the queue keeps the answer to each
+log=${LOG:-/dev/null} # gets a line for each call, in the form of HylaFAX's xferfaxlog(5)
 
 mkdir -p "$folder"
 exec 9> "$folder/lock"
@@ -72,15 +73,25 @@ key() {
     echo "$reply" | sed -n "s/.*\"$1\":\"*\([^,}\"]*\).*/\1/p"
 }
 
-# outcome WORD PAGES REASON: ends the grant. The pages are those that were reported on it.
+# lasted SECONDS: as hours, minutes and seconds
+lasted() {
+    printf '%d:%02d:%02d' $(($1 / 3600)) $(($1 / 60 % 60)) $(($1 % 60))
+}
+
+# outcome WORD PAGES REASON: ends the grant. The pages are those that were reported on it. The line of the call says
+# when it began, the grant, the modem, the job, its number, the pages, the times of it all and on the line, and the reason.
 outcome() {
     hangup
+    now=$(date +%s)
+    printf '%s\tSEND\t%09d\t%s\t%s\t""\t\t"%s"\t""\t0\t%d\t%s\t%s\t"%s"\n' "$(date -d "@$began" '+%D %H:%M')" "$grant" \
+        "$modem" "$job" "$dial" "$2" "$(lasted $((now - began)))" "$(lasted $((now - online)))" "$3" >> "$log"
     report "/grants/$grant/outcome" "{\"dialed\":true,\"outcome\":\"$1\",\"pages\":$2,\"reason\":\"$3\"}"
 }
 
 # call: calls for the grant, and sends its pages one by one. Each is reported before the next is sent.
 call() {
     result=$("$command" dial "$dial") || result=other
+    online=$(date +%s)
     report "/grants/$grant/call" "{\"result\":\"$result\"}"
     if [ "$result" != connected ]; then
         outcome retry 0 "$result"
@@ -112,6 +123,7 @@ while true; do
         *) echo "worker.sh: the modem gets no work: $reply" >&2; exit 1 ;;
     esac
     grant=$(key grant) job=$(key job) dial=$(key number) from=$(key from) to=$(key to)
+    began=$(date +%s) online=$(date +%s)
     if [ -z "$grant" ] || [ "$grant" = 0 ]; then
         sleep "$wait" # no job, or the modem is marked as down
     elif [ "$(key called)" = true ]; then
