@@ -21,23 +21,23 @@
 #include <tiffio.h>
 #include <spandsp.h>
 
-#define STEP 160    /* samples at a time: 20 ms of 8,000 a second */
-#define DELAY 4     /* steps until the other side hears something; an answer without a delay comes too early */
-#define RINGING 50  /* steps until a call is answered, or the caller hears that the number is busy */
-#define UNANSWERED 1500
-#define CONFIRMED 0xff138c /* the frame MCF of T.30 as the terminal sends it: the page is received */
+#define STEP 160           /* samples at a time: 20 ms of 8,000 a second */
+#define DELAY 4            /* steps on the line: what is heard at once is answered too early */
+#define RINGING 50         /* steps until a call is answered, or the caller hears that the number is busy */
+#define UNANSWERED 1500    /* steps until nobody answers */
+#define CONFIRMED 0xff138c /* T.30's frame MCF as a terminal sends it: a page was received */
 
 struct modem {
     const char *name;
     t31_state_t *state;
     int terminal, off_hook, answers, takes_data;
-    uint32_t last; /* the three bytes that came last from the terminal */
-    int16_t sound[DELAY][STEP]; /* what it said last, the oldest at the line's place */
+    uint32_t last;              /* the three bytes that came last from the terminal */
+    int16_t sound[DELAY][STEP]; /* what it said last, the newest at the line's place and the oldest behind it */
 };
 
 static struct modem caller = {.name = "caller"}, answerer = {.name = "answerer"};
-static int dials;     /* steps since the caller dialed, or 0 */
-static int fades; /* steps until the line is free: what was said before a modem hung up is still heard */
+static int dials; /* steps since the caller dialed, or 0 */
+static int fades; /* steps until a call is over: what was said before a modem hung up is still heard */
 static int connected, busy, cut, deaf, place;
 
 static void tell(const char *format, ...) {
