@@ -26,6 +26,7 @@
 #define RINGING 50         /* steps until a call is answered, or the caller hears that the number is busy */
 #define UNANSWERED 1500    /* steps until nobody answers */
 #define CONFIRMED 0xff138c /* T.30's frame MCF as a terminal sends it: a page was received */
+#define MIDST 8000         /* bytes from the caller, of which a check of the line has 2,700: a page is under way */
 
 struct modem {
     const char *name;
@@ -38,6 +39,7 @@ struct modem {
 static struct modem caller = {.name = "caller"}, answerer = {.name = "answerer"};
 static int dials; /* steps since the caller dialed, or 0 */
 static int fades; /* steps until a call is over: what was said before a modem hung up is still heard */
+static ssize_t sent; /* bytes from the caller since the call began, or since a page was confirmed */
 static int connected, busy, cut, deaf, place;
 
 static void tell(const char *format, ...) {
@@ -128,6 +130,24 @@ static int is_ready(const struct modem *modem) {
     return !(state.revents & POLLHUP) && tcgetattr(modem->terminal, &how) == 0 && cfgetospeed(&how) != B0;
 }
 
+/* Tells how far a fax is. */
+static void watch(struct modem *modem, const char *bytes, ssize_t count) {
+    if (modem == &caller) {
+        if (sent < MIDST && sent + count >= MIDST) {
+            tell("a page is under way\n");
+        }
+        sent += count;
+        return;
+    }
+    for (ssize_t byte = 0; byte < count; byte++) {
+        modem->last = (modem->last << 8 | (unsigned char)bytes[byte]) & 0xffffff;
+        if (modem->last == CONFIRMED) {
+            tell("a page is confirmed\n");
+            sent = 0;
+        }
+    }
+}
+
 /* Takes what came on the terminal. A modem that nobody wants to use becomes as one that was just switched on. */
 static void from_terminal(struct modem *modem) {
     char bytes[256];
@@ -139,13 +159,8 @@ static void from_terminal(struct modem *modem) {
         tcflush(modem->terminal, TCIOFLUSH);
     } else if (modem->takes_data) {
         ssize_t count = read(modem->terminal, bytes, sizeof bytes);
-        for (ssize_t byte = 0; byte < count; byte++) {
-            modem->last = (modem->last << 8 | (unsigned char)bytes[byte]) & 0xffffff;
-            if (modem->last == CONFIRMED) {
-                tell("%s confirms a page\n", modem->name);
-            }
-        }
         if (count > 0) {
+            watch(modem, bytes, count);
             t31_at_rx(modem->state, bytes, (int)count);
         }
     }
@@ -175,6 +190,7 @@ static void ring(void) {
         tell("the call is connected\n");
         dials = fades = cut = deaf = answerer.answers = 0;
         connected = 1;
+        sent = 0;
         memset(caller.sound, 0, sizeof caller.sound);
         memset(answerer.sound, 0, sizeof answerer.sound);
         t31_call_event(caller.state, AT_CALL_EVENT_CONNECTED);
