@@ -24,7 +24,7 @@
 #define STEP 160           /* samples at a time: 20 ms of 8,000 a second */
 #define DELAY 4            /* steps on the line: what is heard at once is answered too early */
 #define RINGING 50         /* steps until a call is answered, or the caller hears that the number is busy */
-#define UNANSWERED 1500    /* steps until nobody answers */
+#define UNANSWERED 5000    /* steps until nobody answers */
 #define CONFIRMED 0xff138c /* T.30's frame MCF as a terminal sends it: a page was received */
 #define MIDST 8000         /* bytes from the caller, of which a check of the line has 2,700: a page is under way */
 
