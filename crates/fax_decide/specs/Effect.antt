@@ -1,12 +1,12 @@
 -- What an accepted request changes in the queue, beside ageing it and setting the clock.
-use Rattle.std.specs.Prelude.{◌≡◌, ◌<◌, ◌≤◌, ℕ, ⊤}
+use Rattle.std.specs.Prelude.{◌≡◌, ◌≤◌, ℕ, ⊤}
 use Rattle.fax_core.specs.Job.{job_of}
 use Rattle.fax_core.specs.Machine.{with_grant, with_mark}
 use Rattle.fax_core.specs.Queue.{Queue}
 use Rattle.fax_job.specs.Limits.{most_pages}
 use Rattle.fax_store.specs.Grant.{IsNewGrant, IsReport, with_closed, with_one_more_grant}
 use Rattle.fax_store.specs.Job.{IsChange, IsNewJob, with_change, with_expired, with_one_more_job}
-use Rattle.fax_store.specs.Meta.{with_clock}
+use Rattle.fax_store.specs.Meta.{IsGrantLeft, IsJobLeft, with_clock}
 use Rattle.fax_tables.specs.Grant.{IsOpenGrant}
 use Rattle.fax_tables.specs.Meta.{meta_of}
 use Rattle.fax_tables.specs.Tables.{HasJob}
@@ -46,10 +46,10 @@ IsFree (Closed job grant) m = ⊤
 -- a new grant is open, a next number is left, and what is written is within its limits
 abbrev pub IsWithin : Effect → Queue → Type 0
 IsWithin Nothing m = ⊤
-IsWithin (NewJob job meta) m = m.next_job < 1000000
+IsWithin (NewJob job meta) m = IsJobLeft m
 IsWithin (ChangedJob job) m = ⊤
 IsWithin (Marked modem down) m = ⊤
-IsWithin (NewGrant job grant) m = IsOpenGrant grant × m.next_grant < 1000000000
+IsWithin (NewGrant job grant) m = IsOpenGrant grant × IsGrantLeft m
 IsWithin (Reported job grant) m = grant.confirmed ≤ most_pages
 IsWithin (Closed job grant) m = ⊤
 

@@ -11,14 +11,52 @@ ghost use Rattle.fax_tables.specs.Kept.{entry};
 ghost use Rattle.fax_tables.specs.Tables.{IsKeptStatus};
 ghost use Rattle.fax_store.specs.Store.{Means, Serves, Stays};
 ghost use Rattle.fax_decide.specs.Effect.{IsWritable, Suits, accepted};
+ghost use Rattle.fax_once.specs.Arrival.{said_of};
 ghost use Rattle.fax_once.specs.Stop.{MayLeave};
+ghost use Rattle.fax_once.specs.Verdict.{IsNotAccepted};
 
+use crate::arrival::Arrival;
 use crate::sender::Sender;
 use fax_ask::Reply;
-use fax_decide::Effect;
+use fax_decide::{Effect, Unavailable};
 use fax_job::Moment;
 use fax_store::{Store, StoreFault, Work};
 use sqlite::Alter;
+use std::alloc::Global;
+
+/// Accepts a request that is taken: its effect and its reply are stored together.
+///
+/// # Errors
+///
+/// Want of memory and the faults of the store; the tables are as they were.
+pub(crate) fn accept<S: Alter>(
+    store: &mut Store<S>,
+    alloc: Global,
+    arrival: &Arrival<'_>,
+    sender: &Sender<'_>,
+    t: Moment,
+    effect: &Effect,
+    reply: Reply,
+) -> Result<Reply, Unavailable>
+    ensures served { OnOk result (Serves (shown S.Store store.new) → Serves (shown S.Store store.old)) }
+    ensures clean { HasCleanDisk (shown S.Store store.new) → HasCleanDisk (shown S.Store store.old) }
+    ensures opens { OnOk result (HasCleanDisk (shown S.Store store.new) → Serves (shown S.Store store.new)) }
+    ensures unchanged { IsNotAccepted result → Stays (shown S.Store store.old) (shown S.Store store.new) }
+    ensures accepted { (m : Queue) (k : List Entry) → Means (shown S.Store store.old) m k
+        → (Serves (shown S.Store store.old) → Suits effect.now (with_expired t m))
+        → MatchResult result
+        (λ told. (told ≡ reply) × Means (shown S.Store store.new) (accepted t effect.now m)
+        (k ++ entry sender.now.client.now sender.now.number (said_of arrival.now) reply.status reply.body ∷ []))
+        (λ _. Means (shown S.Store store.new) m k) }
+    ensures crash { (m : Queue) (k : List Entry) → Means (shown S.Store store.old) m k
+        → (Serves (shown S.Store store.old) → Suits effect.now (with_expired t m))
+        → MayLeave (shown S.Store store.old) (shown S.Store store.new) (accepted t effect.now m)
+        (k ++ entry sender.now.client.now sender.now.number (said_of arrival.now) reply.status reply.body ∷ []) }
+{
+    let said = arrival.said(alloc)?;
+    commit_accepted(store, t, effect, sender, &said, &reply)?;
+    Ok(reply)
+}
 
 /// Ages the queue at `decided_at`, makes the change, sets the clock and keeps the reply, all in one
 /// transaction.
@@ -26,7 +64,7 @@ use sqlite::Alter;
 /// # Errors
 ///
 /// Those of the store; the tables are as they were.
-pub(crate) fn commit_accepted<S: Alter>(
+fn commit_accepted<S: Alter>(
     store: &mut Store<S>,
     decided_at: Moment,
     effect: &Effect,
@@ -41,9 +79,10 @@ pub(crate) fn commit_accepted<S: Alter>(
     ensures kept { OnOk result (IsKeptStatus reply.now.status) }
     ensures taken { (m : Queue) (k : List Entry) → Means (shown S.Store store.old) m k
         → (Serves (shown S.Store store.old) → Suits effect.now (with_expired decided_at m))
-        → MatchResult result (λ _. Means (shown S.Store store.new) (accepted decided_at effect.now m)
-        (k ++ entry sender.now.client.now sender.now.number said.now reply.now.status reply.now.body ∷ [])) (λ _. Means
-        (shown S.Store store.new) m k) }
+        → MatchResult result
+        (λ _. Means (shown S.Store store.new) (accepted decided_at effect.now m)
+        (k ++ entry sender.now.client.now sender.now.number said.now reply.now.status reply.now.body ∷ []))
+        (λ _. Means (shown S.Store store.new) m k) }
     ensures crash { (m : Queue) (k : List Entry) → Means (shown S.Store store.old) m k
         → (Serves (shown S.Store store.old) → Suits effect.now (with_expired decided_at m))
         → MayLeave (shown S.Store store.old) (shown S.Store store.new) (accepted decided_at effect.now m)

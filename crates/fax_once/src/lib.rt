@@ -5,6 +5,7 @@ mod acceptance;
 mod arrival;
 pub mod laws;
 mod queue;
+mod refusing;
 mod sender;
 
 pub use arrival::Arrival;

@@ -4,45 +4,38 @@
 //! bytes are made before its commit. A refused request changes nothing, and neither does a repeat of an
 //! accepted one, which gets the kept reply.
 
-ghost use Rattle.std.specs.Prelude.{◌≡◌, ◌∷◌, ◌++◌, [], false, List, IfOk, IsErr, IsTrue, None, OnErr, OnOk, MatchResult, if◌then◌else◌};
+ghost use Rattle.std.specs.Prelude.{◌≡◌, false, IfOk, IsTrue, None, OnErr, OnOk, if◌then◌else◌};
 ghost use Rattle.std.specs.Str.{bytes_eq};
 ghost use Rattle.sqlite.specs.Effect.{Database};
 ghost use Rattle.sqlite.specs.State.{HasCleanDisk};
-ghost use Rattle.fax_ask.specs.Ask.{IsAsk, IsLawful, IsLawfulStep, IsRefused};
-ghost use Rattle.fax_core.specs.Ask.{IsLawfulAsk};
-ghost use Rattle.fax_core.specs.declared.ask.Ask.{Ask as MachineAsk};
+ghost use Rattle.fax_ask.specs.Ask.{IsAsk, IsLawful, IsLawfulStep};
 ghost use Rattle.fax_ask.specs.Response.{kept_response, refused_response};
 ghost use Rattle.fax_ask.specs.declared.method.Method.TheVariants.{Get};
 ghost use Rattle.fax_core.specs.Clock.{decided_at};
-ghost use Rattle.fax_core.specs.Queue.{Queue as QueueOf, Entry};
 ghost use Rattle.fax_core.specs.Reply.{NoKeys};
-ghost use Rattle.fax_core.specs.Settings.{Settings};
-ghost use Rattle.fax_core.specs.Sound.{Sound};
 ghost use Rattle.fax_store.specs.Calls.{Looks};
-ghost use Rattle.fax_store.specs.Job.{with_expired};
 ghost use Rattle.fax_store.specs.Kept.{HasReply, kept_for};
-ghost use Rattle.fax_tables.specs.Kept.{entry};
-ghost use Rattle.fax_store.specs.Store.{CommitsNothing, LeavesAlone, Means, Rests, Serves, Stays};
+ghost use Rattle.fax_store.specs.Store.{CommitsNothing, LeavesAlone, Rests, Serves, Stays};
 ghost use Rattle.fax_schema.specs.Schema.{our_tables};
 ghost use Rattle.fax_tables.specs.Tables.{IsKeptStatus};
 ghost use Rattle.fax_once.specs.Laws.{IsSoundWith, RunsWell};
-ghost use Rattle.fax_decide.specs.Effect.{Suits, accepted};
 ghost use Rattle.fax_decide.specs.View.{view};
-ghost use Rattle.fax_once.specs.Arrival.{IsSender, number_of, said_of};
-ghost use Rattle.fax_once.specs.Queue.{Replies, settings, tables};
+ghost use Rattle.fax_once.specs.Arrival.{IsSender, said_of};
+ghost use Rattle.fax_once.specs.Queue.{From, Replies, settings, tables};
 ghost use Rattle.fax_once.specs.Reading.{post_of};
-ghost use Rattle.fax_once.specs.Stop.{MayLeave, Stops, StopsBy, StopsIn};
-ghost use Rattle.fax_once.specs.Verdict.{Answers, Handles, IsDecided, IsUsed, IsVerdict, LeavesBy, Told, asked_for};
+ghost use Rattle.fax_once.specs.Stop.{Stops, StopsBy, StopsIn};
+ghost use Rattle.fax_once.specs.Verdict.{Answers, Handles, IsUsed, LeavesBy, asked_for};
 ghost use Rattle.fax_once.specs.declared.arrival.Arrival.{Arrival as ArrivalOf};
 
-use crate::acceptance::commit_accepted;
+use crate::acceptance::accept;
 use crate::arrival::Arrival;
+use crate::refusing::refuse_ask;
 use crate::sender::Sender;
-use fax_ask::{Ask, Detail, Reply, Routes, View};
+use fax_ask::{Ask, Reply, Routes, View};
 use fax_core::Ask as Step;
-use fax_decide::{Decision, Effect, Office, Unavailable, decide, show};
+use fax_decide::{Decision, Office, Unavailable, decide, show};
 use fax_dest::{Controls, Setup};
-use fax_job::{BodyFault, Moment, Refusal};
+use fax_job::{Moment, Refusal};
 use fax_store::{Kept, Meta, Store};
 use sqlite::{Alter, Connection};
 use std::alloc::{AllocError, Global};
@@ -96,15 +89,14 @@ impl<S: Alter> Queue<S> {
     pub fn handle(&mut self, alloc: Global, arrival: &Arrival<'_>) -> Reply
         ensures office { self.new.office ≡ self.old.office }
         ensures clean { HasCleanDisk (tables S.Store self.new) → HasCleanDisk (tables S.Store self.old) }
-        ensures handled { (m : QueueOf) (k : List Entry) → Sound m → Means (tables S.Store self.old) m k
-            → HasCleanDisk (tables S.Store self.new)
-            → Handles (settings self.old) arrival.now m k result (tables S.Store self.new) }
-        ensures sound { (m : QueueOf) (k : List Entry) → Sound m → Means (tables S.Store self.old) m k
-            → HasCleanDisk (tables S.Store self.new) → IsSoundWith k (tables S.Store self.new) }
+        ensures handled { From S.Store self.old (λ m k. HasCleanDisk (tables S.Store self.new)
+            → Handles (settings self.old) arrival.now m k result (tables S.Store self.new)) }
+        ensures sound { From S.Store self.old (λ m k. HasCleanDisk (tables S.Store self.new)
+            → IsSoundWith k (tables S.Store self.new)) }
         // A crash leaves what a crash before could leave, or what the request makes, with its reply kept. While the
         // store is open it leaves the last commit alone.
-        ensures crash { (m : QueueOf) (k : List Entry) → Sound m → Means (tables S.Store self.old) m k
-            → Stops (settings self.old) arrival.now m k (tables S.Store self.old) (tables S.Store self.new) }
+        ensures crash { From S.Store self.old (λ m k. Stops (settings self.old) arrival.now m k
+            (tables S.Store self.old) (tables S.Store self.new)) }
         ensures alone { Serves (tables S.Store self.new)
             → LeavesAlone (tables S.Store self.new) (tables S.Store self.new).committed.trees }
         // Whatever the rows say, a refusal changes nothing, a GET doesn't either, and nor does what comes under a used
@@ -114,8 +106,8 @@ impl<S: Alter> Queue<S> {
         ensures repeated { (db : Database) → db.schema ≡ our_tables → Rests (tables S.Store self.old) db
             → IsUsed arrival.now db → Rests (tables S.Store self.new) db }
         // So what `close` gives back is what `Store::adopt` takes.
-        ensures idle { (m : QueueOf) (k : List Entry) → Sound m → Means (tables S.Store self.old) m k
-            → Serves (tables S.Store self.new) → (tables S.Store self.new).in_transaction ≡ false }
+        ensures idle { From S.Store self.old (λ m k. Serves (tables S.Store self.new)
+            → (tables S.Store self.new).in_transaction ≡ false) }
         ensures shut { IsTrue self.new.is_shut → HasCleanDisk (tables S.Store self.new)
             → (tables S.Store self.new).is_open ≡ false }
     {
@@ -136,11 +128,11 @@ impl<S: Alter> Queue<S> {
         ensures office { self.new.office ≡ self.old.office }
         ensures clean { HasCleanDisk (tables S.Store self.new) → HasCleanDisk (tables S.Store self.old) }
         ensures stays { Stays (tables S.Store self.old) (tables S.Store self.new) }
-        ensures crash { (m : QueueOf) (k : List Entry) → Sound m → Means (tables S.Store self.old) m k
-            → CommitsNothing (tables S.Store self.old) (tables S.Store self.new) }
-        ensures viewed { (m : QueueOf) (k : List Entry) → Sound m → Means (tables S.Store self.old) m k
-            → HasCleanDisk (tables S.Store self.new) → (a : ArrivalOf) × (a.method ≡ Get) × (a.path.now ≡ path.now)
-            × (a.moment ≡ moment) × Handles (settings self.old) a m k result (tables S.Store self.new) }
+        ensures crash { From S.Store self.old (λ m k. CommitsNothing (tables S.Store self.old)
+            (tables S.Store self.new)) }
+        ensures viewed { From S.Store self.old (λ m k. HasCleanDisk (tables S.Store self.new) → (a : ArrivalOf)
+            × (a.method ≡ Get) × (a.path.now ≡ path.now) × (a.moment ≡ moment)
+            × Handles (settings self.old) a m k result (tables S.Store self.new)) }
     {
         let arrival = Arrival::get(path, moment);
         self.handle(alloc, &arrival)
@@ -168,15 +160,13 @@ impl<S: Alter> Queue<S> {
         ensures office { self.new.office ≡ self.old.office }
         ensures none { OnErr result (self.new ≡ self.old) }
         ensures clean { HasCleanDisk (tables S.Store self.new) → HasCleanDisk (tables S.Store self.old) }
-        ensures ran { (m : QueueOf) (k : List Entry) → Sound m → Means (tables S.Store self.old) m k
-            → HasCleanDisk (tables S.Store self.new)
+        ensures ran { From S.Store self.old (λ m k. HasCleanDisk (tables S.Store self.new)
             → IfOk result (λ replies. RunsWell (settings self.old)
-            (record { queue = m; kept = k }) arrivals.now replies.items (tables S.Store self.new)) }
-        ensures crash { (m : QueueOf) (k : List Entry) → Sound m → Means (tables S.Store self.old) m k
-            → HasCleanDisk (tables S.Store self.new)
+            (record { queue = m; kept = k }) arrivals.now replies.items (tables S.Store self.new))) }
+        ensures crash { From S.Store self.old (λ m k. HasCleanDisk (tables S.Store self.new)
             → IfOk result (λ replies. StopsIn (settings self.old)
             (record { queue = m; kept = k }) arrivals.now replies.items (tables S.Store self.old)
-            (tables S.Store self.new)) }
+            (tables S.Store self.new))) }
     {
         let mut replies = Vec::with_capacity(alloc, arrivals.len())?;
         for arrival in arrivals {
@@ -191,11 +181,10 @@ impl<S: Alter> Queue<S> {
         ensures seen { arrival.now.method ≡ Get → Stays (tables S.Store self.old) (tables S.Store self.new) }
         ensures repeated { (db : Database) → db.schema ≡ our_tables → Rests (tables S.Store self.old) db
             → IsUsed arrival.now db → Rests (tables S.Store self.new) db }
-        ensures crash { (m : QueueOf) (k : List Entry) → Sound m → Means (tables S.Store self.old) m k
-            → Stops (settings self.old) arrival.now m k (tables S.Store self.old) (tables S.Store self.new) }
-        ensures answered { (m : QueueOf) (k : List Entry) → Sound m → Means (tables S.Store self.old) m k
-            → HasCleanDisk (tables S.Store self.new)
-            → Answers (settings self.old) arrival.now m k result (tables S.Store self.new) }
+        ensures crash { From S.Store self.old (λ m k. Stops (settings self.old) arrival.now m k
+            (tables S.Store self.old) (tables S.Store self.new)) }
+        ensures answered { From S.Store self.old (λ m k. HasCleanDisk (tables S.Store self.new)
+            → Answers (settings self.old) arrival.now m k result (tables S.Store self.new)) }
     {
         let asked = self
             .routes
@@ -217,13 +206,12 @@ impl<S: Alter> Queue<S> {
             → Stays (tables S.Store self.old) (tables S.Store self.new) }
         ensures repeated { (db : Database) → db.schema ≡ our_tables → Rests (tables S.Store self.old) db
             → IsUsed arrival.now db → Rests (tables S.Store self.new) db }
-        ensures crash { (m : QueueOf) (k : List Entry) → Sound m → Means (tables S.Store self.old) m k
+        ensures crash { From S.Store self.old
+            (λ m k. IsAsk arrival.now.method arrival.now.path.now arrival.now.body.now ask → IsLawful ask
+            → Stops (settings self.old) arrival.now m k (tables S.Store self.old) (tables S.Store self.new)) }
+        ensures answered { From S.Store self.old (λ m k. HasCleanDisk (tables S.Store self.new)
             → IsAsk arrival.now.method arrival.now.path.now arrival.now.body.now ask → IsLawful ask
-            → Stops (settings self.old) arrival.now m k (tables S.Store self.old) (tables S.Store self.new) }
-        ensures answered { (m : QueueOf) (k : List Entry) → Sound m → Means (tables S.Store self.old) m k
-            → HasCleanDisk (tables S.Store self.new)
-            → IsAsk arrival.now.method arrival.now.path.now arrival.now.body.now ask → IsLawful ask
-            → Answers (settings self.old) arrival.now m k result (tables S.Store self.new) }
+            → Answers (settings self.old) arrival.now m k result (tables S.Store self.new)) }
     {
         match ask {
             Ask::View(asked) => self.show(alloc, asked, arrival.moment),
@@ -239,9 +227,8 @@ impl<S: Alter> Queue<S> {
         ensures office { self.new.office ≡ self.old.office }
         ensures leaves { Looks S.Store self.old.store self.new.store }
         ensures opens { OnOk result (HasCleanDisk (tables S.Store self.new) → Serves (tables S.Store self.new)) }
-        ensures viewed { (m : QueueOf) (k : List Entry) → Sound m → Means (tables S.Store self.old) m k
-            → Serves (tables S.Store self.new)
-            → IfOk result (λ reply. reply ≡ view (settings self.old) m (decided_at m.clock moment) asked) }
+        ensures viewed { From S.Store self.old (λ m k. Serves (tables S.Store self.new)
+            → IfOk result (λ reply. reply ≡ view (settings self.old) m (decided_at m.clock moment) asked)) }
     {
         let meta = self.store.meta()?;
         let t = moment_at(&meta, moment);
@@ -259,14 +246,13 @@ impl<S: Alter> Queue<S> {
         ensures leaves { Replies S.Store self.old self.new result }
         ensures repeated { (db : Database) → db.schema ≡ our_tables → Rests (tables S.Store self.old) db
             → HasReply db sender.now.client.now sender.now.number → Rests (tables S.Store self.new) db }
-        ensures crash { (m : QueueOf) (k : List Entry) → Sound m → Means (tables S.Store self.old) m k
-            → IsSender arrival.now sender.now
+        ensures crash { From S.Store self.old (λ m k. IsSender arrival.now sender.now
             → StopsBy (tables S.Store self.old) (tables S.Store self.new) (asked_for (settings self.old) m k
-            (post_of arrival.now sender.now.number ask)) }
-        ensures stepped { (m : QueueOf) (k : List Entry) → Sound m → Means (tables S.Store self.old) m k
-            → HasCleanDisk (tables S.Store self.new) → IsSender arrival.now sender.now → IsLawfulStep ask
+            (post_of arrival.now sender.now.number ask))) }
+        ensures stepped { From S.Store self.old (λ m k. HasCleanDisk (tables S.Store self.new)
+            → IsSender arrival.now sender.now → IsLawfulStep ask
             → LeavesBy m k result (tables S.Store self.new) (asked_for (settings self.old) m k
-            (post_of arrival.now sender.now.number ask)) }
+            (post_of arrival.now sender.now.number ask))) }
     {
         match self.store.kept(sender.client, sender.number)? {
             Some(kept) => Ok(repeat(arrival, kept)),
@@ -274,8 +260,8 @@ impl<S: Alter> Queue<S> {
         }
     }
 
-    /// Decides a request whose number is new at the later of its moment and the clock, and accepts it where it is
-    /// taken.
+    /// Decides a request whose number is new at the later of its moment and the clock. It is accepted where it is taken, and
+    /// changes nothing where it is refused.
     fn step_once(
         &mut self,
         alloc: Global,
@@ -284,82 +270,26 @@ impl<S: Alter> Queue<S> {
         ask: Step,
     ) -> Result<Reply, Unavailable>
         ensures leaves { Replies S.Store self.old self.new result }
-        ensures crash { (m : QueueOf) (k : List Entry) → Sound m → Means (tables S.Store self.old) m k
-            → IsSender arrival.now sender.now → (Serves (tables S.Store self.old)
-            → kept_for sender.now.client.now sender.now.number k ≡ None)
-            → StopsBy (tables S.Store self.old) (tables S.Store self.new) (asked_for (settings self.old) m k
-            (post_of arrival.now sender.now.number ask)) }
-        ensures stepped { (m : QueueOf) (k : List Entry) → Sound m → Means (tables S.Store self.old) m k
-            → (HasCleanDisk (tables S.Store self.old) → Serves (tables S.Store self.old))
-            → HasCleanDisk (tables S.Store self.new) → IsSender arrival.now sender.now → IsLawfulStep ask
+        ensures crash { From S.Store self.old (λ m k. IsSender arrival.now sender.now
             → (Serves (tables S.Store self.old) → kept_for sender.now.client.now sender.now.number k ≡ None)
+            → StopsBy (tables S.Store self.old) (tables S.Store self.new) (asked_for (settings self.old) m k
+            (post_of arrival.now sender.now.number ask))) }
+        ensures stepped { From S.Store self.old (λ m k. (HasCleanDisk (tables S.Store self.old)
+            → Serves (tables S.Store self.old)) → HasCleanDisk (tables S.Store self.new)
+            → IsSender arrival.now sender.now → IsLawfulStep ask → (Serves (tables S.Store self.old)
+            → kept_for sender.now.client.now sender.now.number k ≡ None)
             → LeavesBy m k result (tables S.Store self.new) (asked_for (settings self.old) m k
-            (post_of arrival.now sender.now.number ask)) }
+            (post_of arrival.now sender.now.number ask))) }
     {
         let meta = self.store.meta()?;
         let t = moment_at(&meta, arrival.moment);
         let decision = decide(&mut self.store, &self.office, alloc, ask, &meta, t)?;
-        self.settle(alloc, arrival, sender, t, decision)
-    }
-
-    /// Accepts a request that is taken, and answers one that is refused, which changes nothing.
-    fn settle(
-        &mut self,
-        alloc: Global,
-        arrival: &Arrival<'_>,
-        sender: &Sender<'_>,
-        t: Moment,
-        decision: Decision,
-    ) -> Result<Reply, Unavailable>
-        ensures leaves { Replies S.Store self.old self.new result }
-        ensures crash { (s : Settings) (m : QueueOf) (k : List Entry) (want : MachineAsk)
-            → Means (tables S.Store self.old) m k → IsSender arrival.now sender.now → (Serves (tables S.Store self.old)
-            → IsDecided s arrival.now m k sender.now t want decision)
-            → StopsBy (tables S.Store self.old) (tables S.Store self.new) (asked_for s m k
-            (post_of arrival.now sender.now.number want)) }
-        ensures settled { (s : Settings) (m : QueueOf) (k : List Entry) (want : MachineAsk) → Sound m
-            → Means (tables S.Store self.old) m k → (HasCleanDisk (tables S.Store self.old)
-            → Serves (tables S.Store self.old)) → HasCleanDisk (tables S.Store self.new)
-            → IsSender arrival.now sender.now → IsLawfulAsk want → (Serves (tables S.Store self.old)
-            → IsDecided s arrival.now m k sender.now t want decision)
-            → LeavesBy m k result (tables S.Store self.new) (asked_for s m k
-            (post_of arrival.now sender.now.number want)) }
-    {
         match decision {
             Decision::Taken { effect, reply } => {
-                self.accept(alloc, arrival, sender, t, &effect, reply)
+                accept(&mut self.store, alloc, arrival, sender, t, &effect, reply)
             }
             Decision::Refused(reply) => Ok(reply),
         }
-    }
-
-    /// Accepts a request that is taken: its effect and its reply are stored together.
-    fn accept(
-        &mut self,
-        alloc: Global,
-        arrival: &Arrival<'_>,
-        sender: &Sender<'_>,
-        t: Moment,
-        effect: &Effect,
-        reply: Reply,
-    ) -> Result<Reply, Unavailable>
-        ensures leaves { Replies S.Store self.old self.new result }
-        ensures served { OnOk result (Serves (tables S.Store self.new) → Serves (tables S.Store self.old)) }
-        ensures opens { OnOk result (HasCleanDisk (tables S.Store self.new) → Serves (tables S.Store self.new)) }
-        ensures crash { (m : QueueOf) (k : List Entry) → Means (tables S.Store self.old) m k
-            → (Serves (tables S.Store self.old) → Suits effect.now (with_expired t m))
-            → MayLeave (tables S.Store self.old) (tables S.Store self.new) (accepted t effect.now m)
-            (k ++ entry sender.now.client.now sender.now.number (said_of arrival.now) reply.status reply.body ∷ []) }
-        ensures accepted { (m : QueueOf) (k : List Entry) → Means (tables S.Store self.old) m k
-            → (Serves (tables S.Store self.old) → Suits effect.now (with_expired t m))
-            → MatchResult result (λ told. (told ≡ reply)
-            × Means (tables S.Store self.new) (accepted t effect.now m)
-            (k ++ entry sender.now.client.now sender.now.number (said_of arrival.now) reply.status reply.body ∷ []))
-            (λ _. Means (tables S.Store self.new) m k) }
-    {
-        let said = arrival.said(alloc)?;
-        commit_accepted(&mut self.store, t, effect, sender, &said, &reply)?;
-        Ok(reply)
     }
 }
 
@@ -382,32 +312,4 @@ fn moment_at(meta: &Meta, moment: Moment) -> Moment
     ensures { result ≡ decided_at meta.now.clock moment }
 {
     meta.clock.later(moment)
-}
-
-/// The reply to an arrival that asks for nothing: a path that names no request comes first, and then the client, the
-/// number and the body. There is none where memory ran out as the body was read.
-fn refuse_ask(alloc: Global, arrival: &Arrival<'_>, refusal: Refusal) -> Result<Reply, Unavailable>
-    ensures verdict { (s : Settings) (m : QueueOf) (k : List Entry)
-        → IsRefused arrival.now.method arrival.now.path.now arrival.now.body.now refusal
-        → IfOk result (λ reply. IsVerdict s arrival.now m k (Told reply)) }
-    ensures cause { IsRefused arrival.now.method arrival.now.path.now arrival.now.body.now refusal → IsErr result
-        → refusal ≡ Refusal.Unavailable }
-{
-    match refusal {
-        Refusal::NoRoute => Ok(Reply::refused(Refusal::NoRoute)),
-        Refusal::BadBody(fault) => Ok(refuse_body(alloc, arrival, fault)),
-        _ => Err(Unavailable),
-    }
-}
-
-/// The reply to a body at fault, with the kind of the fault and its line, unless the client or the number is at fault.
-/// It takes no memory.
-fn refuse_body(alloc: Global, arrival: &Arrival<'_>, fault: BodyFault) -> Reply
-    ensures { MatchResult (number_of arrival.now) (λ _. result ≡ refused_response (Refusal.BadBody fault) NoKeys)
-        (λ refusal. result ≡ refused_response refusal NoKeys) }
-{
-    match Sender::of(arrival) {
-        Ok(_) => Reply::refused_with(alloc, &Detail::Body(fault)).unwrap(),
-        Err(refusal) => Reply::refused(refusal),
-    }
 }

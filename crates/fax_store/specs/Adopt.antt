@@ -24,6 +24,7 @@ use Rattle.fax_tables.specs.Tables.{GoesOn, IsAtRest, RowsMean}
 use Rattle.sqlite_trees.specs.Tree.{Trees}
 use Rattle.fax_store.specs.Grant.{SetsCalls}
 use Rattle.fax_store.specs.Store.{RowsFound}
+use Rattle.fax_tables.specs.Stop.{HoldsBack}
 
 -- the version in each row of meta
 abbrev pub versions : Database → List Value
@@ -94,6 +95,12 @@ QueuesAreTakeable = (db : Database) (m : Queue) (k : List Entry) → AreOurs db.
 -- A step from a state of which P holds. Where it is done the transaction goes on, and Q tells of the databases before and behind it; where it is refused the last commit stands.
 abbrev pub Goes : {A E : Type 0} → (State → Type 0) → (Database → Database → Type 0) → State → State → Result A E → Type 0
 Goes P Q old new result = HasCleanDisk new → P old → MatchResult result (λ _. GoesOn old new × Q old.now new.now) (λ _. KeepsCommit old new)
+
+-- So does a step from there, of which nothing is committed. A disk that is clean was before.
+pub record Turns {A E : Type 0} (P : State → Type 0) (Q : Database → Database → Type 0) (old new : State) (result : Result A E) : Type 0 where
+  pub goes : Goes P Q old new result
+  pub crash : HoldsBack P old new
+  pub clean : HasCleanDisk new → HasCleanDisk old
 
 -- a transaction is under way in an open database, over these tables
 pub record IsIn (Ours : Schema → Type 0) (s : State) : Type 0 where

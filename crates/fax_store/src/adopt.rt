@@ -6,14 +6,13 @@ ghost use Rattle.sqlite.specs.Held.{state};
 ghost use Rattle.sqlite.specs.State.{HasCleanDisk, IsUnchanged, KeepsCommit};
 ghost use Rattle.fax_core.specs.Job.{Job as OneJob};
 ghost use Rattle.fax_core.specs.Queue.{Queue, Entry, empty_queue, job_numbered};
-ghost use Rattle.fax_store.specs.Calls.{Makes, shown};
-ghost use Rattle.fax_store.specs.Adopt.{Adopts, AreAdopted, AreCallable, AreOfJobs, AreCore, AreSmall, AreStores, AreWhole, CanBeCalled, Goes, HasNone, HasSet, HasWhole, HoldJobs, HoldsCanBeCalled, IsAdoptable, IsFilled, IsIn, IsOurs, IsTakeable, IsWhole, Leaves, held_to, versions};
+ghost use Rattle.fax_store.specs.Calls.{shown};
+ghost use Rattle.fax_store.specs.Adopt.{Adopts, AreAdopted, AreCallable, AreOfJobs, AreCore, AreSmall, AreStores, AreWhole, CanBeCalled, HasNone, HasSet, HasWhole, HoldJobs, HoldsCanBeCalled, IsAdoptable, IsFilled, IsIn, IsOurs, IsTakeable, IsWhole, Leaves, Turns, held_to, versions};
 ghost use Rattle.fax_store.specs.Grant.{HasCalls, SetsCalls, with_count};
 ghost use Rattle.fax_store.specs.Store.{CommitsNothing, GoesBack, HasTables, LeavesAlone, MayMake, Means, Reads, RowsFound, Serves};
 ghost use Rattle.fax_store.specs.Work.{Withholds};
 ghost use Rattle.fax_tables.specs.Row.{number};
 ghost use Rattle.fax_schema.specs.Schema.{AreInOrder, AreOurs, no_tables, core_tables};
-ghost use Rattle.fax_tables.specs.Stop.{HoldsBack};
 ghost use Rattle.fax_tables.specs.Tables.{HasNewCalls, IsAtRest, RowsMean, TablesMean};
 
 use crate::store::{BEGIN, COMMIT, Store};
@@ -48,33 +47,33 @@ impl<S: Alter> Store<S> {
         requires { (state S.Store conn).in_transaction ≡ false }
         ensures adopts { IfOk result (λ store. HasCleanDisk (state S.Store store.conn)
             → Adopts (state S.Store conn).now (state S.Store store.conn)) }
-        ensures means { IfOk result (λ store. (m : Queue) (k : List Entry)
-            → Means (state S.Store conn) m k → Means (state S.Store store.conn) m k) }
+        ensures means { IfOk result (λ store. (m : Queue) (k : List Entry) → Means (state S.Store conn) m k
+            → Means (state S.Store store.conn) m k) }
         ensures means_rows { IfOk result (λ store. (m : Queue) (k : List Entry)
-            → AreOurs (state S.Store conn).now.schema
-            → RowsMean (state S.Store conn).now m k → Means (state S.Store store.conn) m k) }
+            → AreOurs (state S.Store conn).now.schema → RowsMean (state S.Store conn).now m k
+            → Means (state S.Store store.conn) m k) }
         ensures served { IfOk result (λ store. Serves (state S.Store store.conn) → Serves (state S.Store conn)) }
-        ensures clean { IfOk result (λ store.
-            HasCleanDisk (state S.Store store.conn) → HasCleanDisk (state S.Store conn)) }
-        ensures opens { IfOk result (λ store.
-            HasCleanDisk (state S.Store store.conn) → Serves (state S.Store store.conn)) }
+        ensures clean { IfOk result (λ store. HasCleanDisk (state S.Store store.conn)
+            → HasCleanDisk (state S.Store conn)) }
+        ensures opens { IfOk result (λ store. HasCleanDisk (state S.Store store.conn)
+            → Serves (state S.Store store.conn)) }
         ensures reopens { IfOk result (λ store. (m : Queue) (k : List Entry)
             → RowsFound (state S.Store conn).now.trees m k → IsDatabase (state S.Store conn).now
             → Means (state S.Store store.conn) m k) }
-        ensures crash { IfOk result (λ store.
-            MayMake (state S.Store conn) (state S.Store store.conn) (AreAdopted (state S.Store conn).now)) }
+        ensures crash { IfOk result (λ store. MayMake (state S.Store conn) (state S.Store store.conn) (AreAdopted
+            (state S.Store conn).now)) }
         ensures alone { IfOk result (λ store. Serves (state S.Store store.conn)
             → LeavesAlone (state S.Store store.conn) (state S.Store store.conn).committed.trees) }
-        ensures crash_before { IfErr result (λ e.
-            MayMake (state S.Store conn) (state S.Store e.1) (AreAdopted (state S.Store conn).now)) }
+        ensures crash_before { IfErr result (λ e. MayMake (state S.Store conn) (state S.Store e.1) (AreAdopted
+            (state S.Store conn).now)) }
         ensures nothing { IfErr result (λ e. e.0 ≡ StoreFault.Strange
             → CommitsNothing (state S.Store conn) (state S.Store e.1)) }
         ensures back { IfErr result (λ e. GoesBack (state S.Store conn) (state S.Store e.1)) }
         ensures served_before { IfErr result (λ e. Serves (state S.Store e.1) → Serves (state S.Store conn)) }
-        ensures clean_before { IfErr result (λ e.
-            HasCleanDisk (state S.Store e.1) → HasCleanDisk (state S.Store conn)) }
-        ensures strange { IfErr result (λ e. HasCleanDisk (state S.Store e.1)
-            → e.0 ≡ StoreFault.Strange → ¬ IsAdoptable (state S.Store conn).now) }
+        ensures clean_before { IfErr result (λ e. HasCleanDisk (state S.Store e.1)
+            → HasCleanDisk (state S.Store conn)) }
+        ensures strange { IfErr result (λ e. HasCleanDisk (state S.Store e.1) → e.0 ≡ StoreFault.Strange
+            → ¬ IsAdoptable (state S.Store conn).now) }
     {
         // So what it shows is committed.
         let is_idle = conn.is_autocommit();
@@ -99,18 +98,20 @@ impl<S: Alter> Store<S> {
 
     /// Makes the tables in a database with none, and takes one with ours.
     fn take_tables(&mut self) -> Result<(), StoreFault>
-        ensures taken { HasCleanDisk (shown S.Store self.new) → OnOk result
-            (Adopts (shown S.Store self.old).now (shown S.Store self.new)) }
-        ensures means { (m : Queue) (k : List Entry) → HasCleanDisk (shown S.Store self.new) → OnOk result
-            (AreOurs (shown S.Store self.old).now.schema → RowsMean (shown S.Store self.old).now m k
+        ensures taken { HasCleanDisk (shown S.Store self.new)
+            → OnOk result (Adopts (shown S.Store self.old).now (shown S.Store self.new)) }
+        ensures means { (m : Queue) (k : List Entry) → HasCleanDisk (shown S.Store self.new)
+            → OnOk result (AreOurs (shown S.Store self.old).now.schema → RowsMean (shown S.Store self.old).now m k
             → IsAtRest (shown S.Store self.new) m k) }
-        ensures kept { HasCleanDisk (shown S.Store self.new) → OnErr result
-            (KeepsCommit (shown S.Store self.old) (shown S.Store self.new)) }
+        ensures kept { HasCleanDisk (shown S.Store self.new)
+            → OnErr result (KeepsCommit (shown S.Store self.old) (shown S.Store self.new)) }
         ensures served { Serves (shown S.Store self.new) → Serves (shown S.Store self.old) }
         ensures clean { HasCleanDisk (shown S.Store self.new) → HasCleanDisk (shown S.Store self.old) }
         ensures opens { OnOk result (HasCleanDisk (shown S.Store self.new) → Serves (shown S.Store self.new)) }
-        ensures crash { MayMake (shown S.Store self.old) (shown S.Store self.new) (AreAdopted (shown S.Store self.old).now) }
-        ensures nothing { result ≡ Err StoreFault.Strange → CommitsNothing (shown S.Store self.old) (shown S.Store self.new) }
+        ensures crash { MayMake (shown S.Store self.old) (shown S.Store self.new) (AreAdopted
+            (shown S.Store self.old).now) }
+        ensures nothing { result ≡ Err StoreFault.Strange
+            → CommitsNothing (shown S.Store self.old) (shown S.Store self.new) }
         ensures strange { HasCleanDisk (shown S.Store self.new) → result ≡ Err StoreFault.Strange
             → ¬ IsAdoptable (shown S.Store self.old).now }
     {
@@ -126,14 +127,15 @@ impl<S: Alter> Store<S> {
     /// Makes the tables of an empty store, all of them or none.
     pub(crate) fn make_tables(&mut self) -> Result<(), StoreFault>
         requires { (shown S.Store self.old).now.schema ≡ no_tables }
-        ensures made { HasCleanDisk (shown S.Store self.new) → OnOk result
-            (IsAtRest (shown S.Store self.new) empty_queue []) }
-        ensures kept { HasCleanDisk (shown S.Store self.new) → OnErr result
-            (KeepsCommit (shown S.Store self.old) (shown S.Store self.new)) }
+        ensures made { HasCleanDisk (shown S.Store self.new)
+            → OnOk result (IsAtRest (shown S.Store self.new) empty_queue []) }
+        ensures kept { HasCleanDisk (shown S.Store self.new)
+            → OnErr result (KeepsCommit (shown S.Store self.old) (shown S.Store self.new)) }
         ensures served { Serves (shown S.Store self.new) → Serves (shown S.Store self.old) }
         ensures clean { HasCleanDisk (shown S.Store self.new) → HasCleanDisk (shown S.Store self.old) }
         ensures opens { OnOk result (HasCleanDisk (shown S.Store self.new) → Serves (shown S.Store self.new)) }
-        ensures crash { MayMake (shown S.Store self.old) (shown S.Store self.new) (λ found. RowsFound found empty_queue []) }
+        ensures crash { MayMake (shown S.Store self.old) (shown S.Store self.new)
+            (λ found. RowsFound found empty_queue []) }
         ensures cause { IfErr result (λ fault. fault ≡ StoreFault.Unavailable) }
     {
         self.conn.execute(BEGIN, &[])?;
@@ -145,18 +147,19 @@ impl<S: Alter> Store<S> {
     /// Takes a database with our tables: it gets what it lacks, and its calls are counted anew.
     fn take_ours(&mut self) -> Result<(), StoreFault>
         requires { AreOurs (shown S.Store self.old).now.schema }
-        ensures made { HasCleanDisk (shown S.Store self.new) → OnOk result
-            (IsOurs (shown S.Store self.old).now
+        ensures made { HasCleanDisk (shown S.Store self.new) → OnOk result (IsOurs (shown S.Store self.old).now
             × HasWhole (shown S.Store self.new) (shown S.Store self.old).now) }
-        ensures means { (m : Queue) (k : List Entry) → HasCleanDisk (shown S.Store self.new) → OnOk result
-            (RowsMean (shown S.Store self.old).now m k → IsAtRest (shown S.Store self.new) m k) }
-        ensures kept { HasCleanDisk (shown S.Store self.new) → OnErr result
-            (KeepsCommit (shown S.Store self.old) (shown S.Store self.new)) }
+        ensures means { (m : Queue) (k : List Entry) → HasCleanDisk (shown S.Store self.new)
+            → OnOk result (RowsMean (shown S.Store self.old).now m k → IsAtRest (shown S.Store self.new) m k) }
+        ensures kept { HasCleanDisk (shown S.Store self.new)
+            → OnErr result (KeepsCommit (shown S.Store self.old) (shown S.Store self.new)) }
         ensures served { Serves (shown S.Store self.new) → Serves (shown S.Store self.old) }
         ensures clean { HasCleanDisk (shown S.Store self.new) → HasCleanDisk (shown S.Store self.old) }
         ensures opens { OnOk result (HasCleanDisk (shown S.Store self.new) → Serves (shown S.Store self.new)) }
-        ensures crash { MayMake (shown S.Store self.old) (shown S.Store self.new) (AreWhole (shown S.Store self.old).now) }
-        ensures nothing { result ≡ Err StoreFault.Strange → CommitsNothing (shown S.Store self.old) (shown S.Store self.new) }
+        ensures crash { MayMake (shown S.Store self.old) (shown S.Store self.new) (AreWhole
+            (shown S.Store self.old).now) }
+        ensures nothing { result ≡ Err StoreFault.Strange
+            → CommitsNothing (shown S.Store self.old) (shown S.Store self.new) }
         ensures strange { HasCleanDisk (shown S.Store self.new) → result ≡ Err StoreFault.Strange
             → ¬ IsTakeable (shown S.Store self.old).now }
     {
@@ -169,9 +172,7 @@ impl<S: Alter> Store<S> {
 
     /// Makes `calls` anew, with no rows, and the indexes of jobs where there are none.
     fn renew(&mut self) -> Result<(), StoreFault>
-        ensures goes { Goes (IsIn AreOurs) HasNewCalls (shown S.Store self.old) (shown S.Store self.new) result }
-        ensures crash { HoldsBack (IsIn AreOurs) (shown S.Store self.old) (shown S.Store self.new) }
-        ensures clean { HasCleanDisk (shown S.Store self.new) → HasCleanDisk (shown S.Store self.old) }
+        ensures leaves { Turns (IsIn AreOurs) HasNewCalls (shown S.Store self.old) (shown S.Store self.new) result }
         ensures cause { IfErr result (λ fault. fault ≡ StoreFault.Unavailable) }
     {
         self.lose_indexes()?;
@@ -183,9 +184,8 @@ impl<S: Alter> Store<S> {
 
     /// Takes the indexes of jobs away where they are the last and not a store's. They are made again before `calls`.
     fn lose_indexes(&mut self) -> Result<(), StoreFault>
-        ensures goes { Goes (IsIn AreOurs) (Leaves AreInOrder) (shown S.Store self.old) (shown S.Store self.new) result }
-        ensures crash { HoldsBack (IsIn AreOurs) (shown S.Store self.old) (shown S.Store self.new) }
-        ensures clean { HasCleanDisk (shown S.Store self.new) → HasCleanDisk (shown S.Store self.old) }
+        ensures leaves { Turns (IsIn AreOurs) (Leaves AreInOrder) (shown S.Store self.old)
+            (shown S.Store self.new) result }
         ensures cause { IfErr result (λ fault. fault ≡ StoreFault.Unavailable) }
     {
         if !has_indexes_last(self.alloc, self.conn.schema())? {
@@ -197,9 +197,8 @@ impl<S: Alter> Store<S> {
 
     /// Takes the indexes of jobs away that stores made before, where only `calls` stood behind them.
     fn lose_older(&mut self) -> Result<(), StoreFault>
-        ensures goes { Goes (IsIn AreCore) (Leaves AreStores) (shown S.Store self.old) (shown S.Store self.new) result }
-        ensures crash { HoldsBack (IsIn AreCore) (shown S.Store self.old) (shown S.Store self.new) }
-        ensures clean { HasCleanDisk (shown S.Store self.new) → HasCleanDisk (shown S.Store self.old) }
+        ensures leaves { Turns (IsIn AreCore) (Leaves AreStores) (shown S.Store self.old)
+            (shown S.Store self.new) result }
         ensures cause { IfErr result (λ fault. fault ≡ StoreFault.Unavailable) }
     {
         if !has_older_core(self.alloc, self.conn.schema())? {
@@ -211,9 +210,8 @@ impl<S: Alter> Store<S> {
 
     /// Takes `calls` away where it is there.
     fn lose_calls(&mut self) -> Result<(), StoreFault>
-        ensures goes { Goes (IsIn AreInOrder) (Leaves AreCore) (shown S.Store self.old) (shown S.Store self.new) result }
-        ensures crash { HoldsBack (IsIn AreInOrder) (shown S.Store self.old) (shown S.Store self.new) }
-        ensures clean { HasCleanDisk (shown S.Store self.new) → HasCleanDisk (shown S.Store self.old) }
+        ensures leaves { Turns (IsIn AreInOrder) (Leaves AreCore) (shown S.Store self.old)
+            (shown S.Store self.new) result }
         ensures cause { IfErr result (λ fault. fault ≡ StoreFault.Unavailable) }
     {
         if !has_calls(self.alloc, self.conn.schema())? {
@@ -225,9 +223,8 @@ impl<S: Alter> Store<S> {
 
     /// Makes the indexes of jobs where a store's aren't there.
     fn get_indexes(&mut self) -> Result<(), StoreFault>
-        ensures goes { Goes (IsIn AreCore) (Leaves (λ schema. schema ≡ core_tables)) (shown S.Store self.old) (shown S.Store self.new) result }
-        ensures crash { HoldsBack (IsIn AreCore) (shown S.Store self.old) (shown S.Store self.new) }
-        ensures clean { HasCleanDisk (shown S.Store self.new) → HasCleanDisk (shown S.Store self.old) }
+        ensures leaves { Turns (IsIn AreCore) (Leaves (λ schema. schema ≡ core_tables)) (shown S.Store self.old)
+            (shown S.Store self.new) result }
         ensures cause { IfErr result (λ fault. fault ≡ StoreFault.Unavailable) }
     {
         self.lose_older()?;
@@ -236,9 +233,8 @@ impl<S: Alter> Store<S> {
 
     /// Makes the indexes of jobs where there are none.
     fn make_indexes(&mut self) -> Result<(), StoreFault>
-        ensures goes { Goes (IsIn AreStores) (Leaves (λ schema. schema ≡ core_tables)) (shown S.Store self.old) (shown S.Store self.new) result }
-        ensures crash { HoldsBack (IsIn AreStores) (shown S.Store self.old) (shown S.Store self.new) }
-        ensures clean { HasCleanDisk (shown S.Store self.new) → HasCleanDisk (shown S.Store self.old) }
+        ensures leaves { Turns (IsIn AreStores) (Leaves (λ schema. schema ≡ core_tables)) (shown S.Store self.old)
+            (shown S.Store self.new) result }
         ensures cause { IfErr result (λ fault. fault ≡ StoreFault.Unavailable) }
     {
         if !has_bare_tables(self.alloc, self.conn.schema())? {
@@ -250,12 +246,10 @@ impl<S: Alter> Store<S> {
 
     /// Tests whether the version is 1 and each hold has its job, and counts the calls.
     fn fill(&mut self) -> Result<(), StoreFault>
-        ensures goes { Goes HasNone IsFilled (shown S.Store self.old) (shown S.Store self.new) result }
+        ensures leaves { Turns HasNone IsFilled (shown S.Store self.old) (shown S.Store self.new) result }
         ensures counted { (m : Queue) (k : List Entry) → HasNone (shown S.Store self.old)
-            → HasCleanDisk (shown S.Store self.new) → OnOk result
-            (RowsMean (shown S.Store self.old).now m k → TablesMean (shown S.Store self.new).now m k) }
-        ensures crash { HoldsBack HasNone (shown S.Store self.old) (shown S.Store self.new) }
-        ensures clean { HasCleanDisk (shown S.Store self.new) → HasCleanDisk (shown S.Store self.old) }
+            → HasCleanDisk (shown S.Store self.new) → OnOk result (RowsMean (shown S.Store self.old).now m k
+            → TablesMean (shown S.Store self.new).now m k) }
         ensures strange { HasCleanDisk (shown S.Store self.new) → result ≡ Err StoreFault.Strange
             → HasNone (shown S.Store self.old) → versions (shown S.Store self.old).now ≡ number 1 ∷ []
             → ¬ HoldsCanBeCalled (shown S.Store self.old).now }
@@ -267,11 +261,11 @@ impl<S: Alter> Store<S> {
 
     /// Tests whether meta has one row, of version 1.
     fn test_version(&mut self) -> Result<(), StoreFault>
-        ensures ours { HasTables (shown S.Store self.old) → HasCleanDisk (shown S.Store self.new) → OnOk result
-            ((versions (shown S.Store self.old).now ≡ number 1 ∷ [])
+        ensures ours { HasTables (shown S.Store self.old) → HasCleanDisk (shown S.Store self.new)
+            → OnOk result ((versions (shown S.Store self.old).now ≡ number 1 ∷ [])
             × IsUnchanged (shown S.Store self.old) (shown S.Store self.new)) }
-        ensures left { HasCleanDisk (shown S.Store self.new) → HasTables (shown S.Store self.old) → OnErr result
-            (KeepsCommit (shown S.Store self.old) (shown S.Store self.new)) }
+        ensures left { HasCleanDisk (shown S.Store self.new) → HasTables (shown S.Store self.old)
+            → OnErr result (KeepsCommit (shown S.Store self.old) (shown S.Store self.new)) }
         ensures clean { HasCleanDisk (shown S.Store self.new) → HasCleanDisk (shown S.Store self.old) }
         ensures crash { CommitsNothing (shown S.Store self.old) (shown S.Store self.new) }
         ensures strange { HasTables (shown S.Store self.old) → HasCleanDisk (shown S.Store self.new)
@@ -287,11 +281,11 @@ impl<S: Alter> Store<S> {
 
     /// Tests whether each hold is of a job that is there.
     fn test_holds(&mut self) -> Result<(), StoreFault>
-        ensures ours { HasTables (shown S.Store self.old) → HasCleanDisk (shown S.Store self.new) → OnOk result
-            (HoldJobs (shown S.Store self.old).now
+        ensures ours { HasTables (shown S.Store self.old) → HasCleanDisk (shown S.Store self.new)
+            → OnOk result (HoldJobs (shown S.Store self.old).now
             × IsUnchanged (shown S.Store self.old) (shown S.Store self.new)) }
-        ensures left { HasCleanDisk (shown S.Store self.new) → HasTables (shown S.Store self.old) → OnErr result
-            (KeepsCommit (shown S.Store self.old) (shown S.Store self.new)) }
+        ensures left { HasCleanDisk (shown S.Store self.new) → HasTables (shown S.Store self.old)
+            → OnErr result (KeepsCommit (shown S.Store self.old) (shown S.Store self.new)) }
         ensures clean { HasCleanDisk (shown S.Store self.new) → HasCleanDisk (shown S.Store self.old) }
         ensures crash { CommitsNothing (shown S.Store self.old) (shown S.Store self.new) }
         ensures strange { HasTables (shown S.Store self.old) → HasCleanDisk (shown S.Store self.new)
@@ -306,12 +300,10 @@ impl<S: Alter> Store<S> {
 
     /// Counts the calls by what is held.
     fn count_holds(&mut self) -> Result<(), StoreFault>
-        ensures goes { Goes HasNone IsWhole (shown S.Store self.old) (shown S.Store self.new) result }
+        ensures leaves { Turns HasNone IsWhole (shown S.Store self.old) (shown S.Store self.new) result }
         ensures counted { (m : Queue) (k : List Entry) → HasNone (shown S.Store self.old)
             → HasCleanDisk (shown S.Store self.new) → RowsMean (shown S.Store self.old).now m k
             → OnOk result (TablesMean (shown S.Store self.new).now m k) }
-        ensures crash { HoldsBack HasNone (shown S.Store self.old) (shown S.Store self.new) }
-        ensures clean { HasCleanDisk (shown S.Store self.new) → HasCleanDisk (shown S.Store self.old) }
         ensures cause { HasNone (shown S.Store self.old) → HasCleanDisk (shown S.Store self.new)
             → HoldsCanBeCalled (shown S.Store self.old).now → IfErr result (λ fault. fault ≡ StoreFault.Unavailable) }
     {
@@ -322,9 +314,9 @@ impl<S: Alter> Store<S> {
     /// Counts a call for each of these rows, which has the number of a job.
     fn count_rows(&mut self, rows: &[Row]) -> Result<(), StoreFault>
         ensures set { (count : List ℕ → ℕ) → HasCalls (shown S.Store self.old) count → AreSmall count
-            → HasCleanDisk (shown S.Store self.new) → MatchResult result
-            (λ _. HasSet (shown S.Store self.old) (shown S.Store self.new))
-            (λ _. KeepsCommit (shown S.Store self.old) (shown S.Store self.new)) }
+            → HasCleanDisk (shown S.Store self.new)
+            → MatchResult result (λ _. HasSet (shown S.Store self.old) (shown S.Store self.new)) (λ _. KeepsCommit
+            (shown S.Store self.old) (shown S.Store self.new)) }
         ensures counted { (m : Queue) (k : List Entry) → RowsMean (shown S.Store self.old).now m k
             → AreOfJobs m rows.now → length rows.now < 2 ^ 32 → HasCalls (shown S.Store self.old) (λ _. 0)
             → HasCleanDisk (shown S.Store self.new)
@@ -332,8 +324,8 @@ impl<S: Alter> Store<S> {
         ensures crash { Withholds (shown S.Store self.old) false (shown S.Store self.new) (is_err result) }
         ensures clean { HasCleanDisk (shown S.Store self.new) → HasCleanDisk (shown S.Store self.old) }
         ensures cause { (count : List ℕ → ℕ) → AreCallable (shown S.Store self.old).now rows.now
-            → HasCalls (shown S.Store self.old) count → AreSmall count
-            → HasCleanDisk (shown S.Store self.new) → IfErr result (λ fault. fault ≡ StoreFault.Unavailable) }
+            → HasCalls (shown S.Store self.old) count → AreSmall count → HasCleanDisk (shown S.Store self.new)
+            → IfErr result (λ fault. fault ≡ StoreFault.Unavailable) }
     {
         for row in rows {
             self.count_hold(row)?;
@@ -344,19 +336,19 @@ impl<S: Alter> Store<S> {
     /// Counts a call to the number of the job that a row has.
     fn count_hold(&mut self, row: &Row) -> Result<(), StoreFault>
         ensures set { (count : List ℕ → ℕ) → HasCalls (shown S.Store self.old) count → AreSmall count
-            → HasCleanDisk (shown S.Store self.new) → MatchResult result
-            (λ _. HasSet (shown S.Store self.old) (shown S.Store self.new))
-            (λ _. KeepsCommit (shown S.Store self.old) (shown S.Store self.new)) }
+            → HasCleanDisk (shown S.Store self.new)
+            → MatchResult result (λ _. HasSet (shown S.Store self.old) (shown S.Store self.new)) (λ _. KeepsCommit
+            (shown S.Store self.old) (shown S.Store self.new)) }
         ensures counted { (m : Queue) (k : List Entry) (j : OneJob) (count : List ℕ → ℕ)
             → RowsMean (shown S.Store self.old).now m k → row.now ≡ number j.number ∷ []
             → job_numbered j.number m ≡ Some j → count j.dial + 1 < 2 ^ 32 → HasCalls (shown S.Store self.old) count
             → HasCleanDisk (shown S.Store self.new)
-            → OnOk result (SetsCalls (shown S.Store self.old) (shown S.Store self.new)
-            (with_count j.dial (count j.dial + 1) count)) }
+            → OnOk result (SetsCalls (shown S.Store self.old) (shown S.Store self.new) (with_count j.dial
+            (count j.dial + 1) count)) }
         ensures crash { Withholds (shown S.Store self.old) false (shown S.Store self.new) (is_err result) }
         ensures clean { HasCleanDisk (shown S.Store self.new) → HasCleanDisk (shown S.Store self.old) }
-        ensures cause { (n : ℕ) (count : List ℕ → ℕ) → row.now ≡ number n ∷ [] → CanBeCalled (shown S.Store self.old).now n
-            → HasCalls (shown S.Store self.old) count → AreSmall count
+        ensures cause { (n : ℕ) (count : List ℕ → ℕ) → row.now ≡ number n ∷ []
+            → CanBeCalled (shown S.Store self.old).now n → HasCalls (shown S.Store self.old) count → AreSmall count
             → HasCleanDisk (shown S.Store self.new) → IfErr result (λ fault. fault ≡ StoreFault.Unavailable) }
     {
         let job = held_job_in(row)?;
@@ -385,13 +377,13 @@ impl<S: Alter> Store<S> {
     /// Counts one more call to a number.
     fn add_call(&mut self, dial: &Dial) -> Result<(), StoreFault>
         ensures set { (count : List ℕ → ℕ) → HasCalls (shown S.Store self.old) count → AreSmall count
-            → HasCleanDisk (shown S.Store self.new) → MatchResult result
-            (λ _. HasSet (shown S.Store self.old) (shown S.Store self.new))
-            (λ _. KeepsCommit (shown S.Store self.old) (shown S.Store self.new)) }
-        ensures counted { (count : List ℕ → ℕ) → HasCalls (shown S.Store self.old) count
-            → count dial.now + 1 < 2 ^ 32 → HasCleanDisk (shown S.Store self.new)
-            → OnOk result (SetsCalls (shown S.Store self.old) (shown S.Store self.new)
-            (with_count dial.now (count dial.now + 1) count)) }
+            → HasCleanDisk (shown S.Store self.new)
+            → MatchResult result (λ _. HasSet (shown S.Store self.old) (shown S.Store self.new)) (λ _. KeepsCommit
+            (shown S.Store self.old) (shown S.Store self.new)) }
+        ensures counted { (count : List ℕ → ℕ) → HasCalls (shown S.Store self.old) count → count dial.now + 1 < 2 ^ 32
+            → HasCleanDisk (shown S.Store self.new)
+            → OnOk result (SetsCalls (shown S.Store self.old) (shown S.Store self.new) (with_count dial.now
+            (count dial.now + 1) count)) }
         ensures crash { Withholds (shown S.Store self.old) false (shown S.Store self.new) (is_err result) }
         ensures clean { HasCleanDisk (shown S.Store self.new) → HasCleanDisk (shown S.Store self.old) }
         ensures cause { (count : List ℕ → ℕ) → HasCalls (shown S.Store self.old) count → AreSmall count

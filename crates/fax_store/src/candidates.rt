@@ -119,7 +119,8 @@ impl<S: Alter> Store<S> {
         ensures same { result.store.now ≡ self.old }
         ensures asked { (result.asked.t ≡ t) × (result.asked.but ≡ None) }
         ensures stands { (m : Queue) (k : List Entry) → Means (shown S.Store self.old) m k
-            → Serves (shown S.Store self.old) → StandsAt result.asked m [] (into_iter_items result.page) result.front result.most }
+            → Serves (shown S.Store self.old)
+            → StandsAt result.asked m [] (into_iter_items result.page) result.front result.most }
     {
         self.asked_for(Asked { t, but: None })
     }
@@ -130,7 +131,8 @@ impl<S: Alter> Store<S> {
         ensures same { result.store.now ≡ self.old }
         ensures asked { (result.asked.t ≡ t) × (result.asked.but ≡ Some dial) }
         ensures stands { (m : Queue) (k : List Entry) → Means (shown S.Store self.old) m k
-            → Serves (shown S.Store self.old) → StandsAt result.asked m [] (into_iter_items result.page) result.front result.most }
+            → Serves (shown S.Store self.old)
+            → StandsAt result.asked m [] (into_iter_items result.page) result.front result.most }
     {
         self.asked_for(Asked { t, but: Some(dial) })
     }
@@ -140,7 +142,8 @@ impl<S: Alter> Store<S> {
         ensures same { result.store.now ≡ self.old }
         ensures asked { result.asked ≡ asked }
         ensures stands { (m : Queue) (k : List Entry) → Means (shown S.Store self.old) m k
-            → Serves (shown S.Store self.old) → StandsAt asked m [] (into_iter_items result.page) result.front result.most }
+            → Serves (shown S.Store self.old)
+            → StandsAt asked m [] (into_iter_items result.page) result.front result.most }
     {
         let page = Vec::new(self.alloc);
         Candidates {
@@ -155,7 +158,8 @@ impl<S: Alter> Store<S> {
     /// Of the jobs that are asked for, the rows of the first that one statement reads behind a front, at most `most`.
     fn page(&mut self, asked: &Asked, front: Front, most: u32) -> Result<Vec<Row>, StoreFault>
         ensures leaves { Finds S.Store self.old self.new result }
-        ensures answers { Answers S.Store self.old self.new result (λ m k rows. IsPage asked.now m front most rows.items) }
+        ensures answers { Answers S.Store self.old self.new result
+            (λ m k rows. IsPage asked.now m front most rows.items) }
     {
         let (t, but) = (asked.t.seconds(), asked.but());
         match front {
@@ -184,12 +188,14 @@ impl<S: Alter> Candidates<'_, S> {
     pub fn next(&mut self) -> Result<Option<(Job, u64)>, StoreFault>
         ensures same_reference { self.new.store.ghost_name ≡ self.old.store.ghost_name }
         ensures leaves { Looks S.Store self.old.store.now self.new.store.now }
-        ensures opens { OnOk result (HasCleanDisk (shown S.Store self.new.store.now) → Serves (shown S.Store self.new.store.now)) }
+        ensures opens { OnOk result (HasCleanDisk (shown S.Store self.new.store.now)
+            → Serves (shown S.Store self.new.store.now)) }
         ensures asked { self.new.asked ≡ self.old.asked }
-        ensures found { (m : Queue) (k : List Entry) (given : List OneJob) → Means (shown S.Store self.old.store.now) m k
-            → Serves (shown S.Store self.new.store.now)
+        ensures found { (m : Queue) (k : List Entry) (given : List OneJob)
+            → Means (shown S.Store self.old.store.now) m k → Serves (shown S.Store self.new.store.now)
             → StandsAt self.old.asked m given (into_iter_items self.old.page) self.old.front self.old.most
-            → OrUnavailable result (Gives (IsCounted m) self.old.asked m given (into_iter_items self.new.page) self.new.front self.new.most) }
+            → OrUnavailable result (Gives (IsCounted m) self.old.asked m given
+            (into_iter_items self.new.page) self.new.front self.new.most) }
     {
         let Some(prospect) = self.prospect()? else {
             return Ok(None);
@@ -213,10 +219,11 @@ impl<S: Alter> Candidates<'_, S> {
         ensures none { IfOk result (λ found. found ≡ None → HasCleanDisk (shown S.Store self.new.store.now)
             → Serves (shown S.Store self.new.store.now)) }
         ensures asked { self.new.asked ≡ self.old.asked }
-        ensures found { (m : Queue) (k : List Entry) (given : List OneJob) → Means (shown S.Store self.old.store.now) m k
-            → Serves (shown S.Store self.new.store.now)
+        ensures found { (m : Queue) (k : List Entry) (given : List OneJob)
+            → Means (shown S.Store self.old.store.now) m k → Serves (shown S.Store self.new.store.now)
             → StandsAt self.old.asked m given (into_iter_items self.old.page) self.old.front self.old.most
-            → OrUnavailable result (Gives IsProspect self.old.asked m given (into_iter_items self.new.page) self.new.front self.new.most) }
+            → OrUnavailable result (Gives IsProspect self.old.asked m given
+            (into_iter_items self.new.page) self.new.front self.new.most) }
     {
         self.refill()?;
         match self.page.next() {
@@ -233,8 +240,10 @@ impl<S: Alter> Candidates<'_, S> {
     pub fn active_to(&mut self, dial: &Dial) -> Result<u64, StoreFault>
         ensures same_reference { self.new.store.ghost_name ≡ self.old.store.ghost_name }
         ensures leaves { Looks S.Store self.old.store.now self.new.store.now }
-        ensures opens { OnOk result (HasCleanDisk (shown S.Store self.new.store.now) → Serves (shown S.Store self.new.store.now)) }
-        ensures same { (self.new.asked ≡ self.old.asked) × (self.new.page ≡ self.old.page) × (self.new.front ≡ self.old.front) × (self.new.most ≡ self.old.most) }
+        ensures opens { OnOk result (HasCleanDisk (shown S.Store self.new.store.now)
+            → Serves (shown S.Store self.new.store.now)) }
+        ensures same { (self.new.asked ≡ self.old.asked) × (self.new.page ≡ self.old.page)
+            × (self.new.front ≡ self.old.front) × (self.new.most ≡ self.old.most) }
         ensures found { (m : Queue) (k : List Entry) → Means (shown S.Store self.old.store.now) m k
             → Serves (shown S.Store self.new.store.now) → OrUnavailable result (λ calls. calls ≡ calls_to dial.now m) }
     {
@@ -246,14 +255,15 @@ impl<S: Alter> Candidates<'_, S> {
         ensures same_reference { self.new.store.ghost_name ≡ self.old.store.ghost_name }
         ensures leaves { Looks S.Store self.old.store.now self.new.store.now }
         ensures opens { OnOk result (StaysOpen (shown S.Store self.old.store.now) (shown S.Store self.new.store.now)) }
-        ensures none { OnOk result (into_iter_items self.new.page ≡ []
-            → HasCleanDisk (shown S.Store self.new.store.now) → Serves (shown S.Store self.new.store.now)) }
+        ensures none { OnOk result (into_iter_items self.new.page ≡ [] → HasCleanDisk (shown S.Store self.new.store.now)
+            → Serves (shown S.Store self.new.store.now)) }
         ensures asked { self.new.asked ≡ self.old.asked }
-        ensures found { (m : Queue) (k : List Entry) (given : List OneJob) → Means (shown S.Store self.old.store.now) m k
-            → Serves (shown S.Store self.new.store.now)
+        ensures found { (m : Queue) (k : List Entry) (given : List OneJob)
+            → Means (shown S.Store self.old.store.now) m k → Serves (shown S.Store self.new.store.now)
             → StandsAt self.old.asked m given (into_iter_items self.old.page) self.old.front self.old.most
-            → OrUnavailable result (λ _. StandsAt self.old.asked m given (into_iter_items self.new.page) self.new.front self.new.most
-            × (into_iter_items self.new.page ≡ [] → AreAsked self.old.asked m given)) }
+            → OrUnavailable result (λ _. StandsAt self.old.asked m given
+            (into_iter_items self.new.page) self.new.front self.new.most × (into_iter_items self.new.page ≡ []
+            → AreAsked self.old.asked m given)) }
     {
         while self.page.len() == 0 {
             if self.read_on()? {
@@ -267,15 +277,17 @@ impl<S: Alter> Candidates<'_, S> {
     fn read_on(&mut self) -> Result<bool, StoreFault>
         ensures same_reference { self.new.store.ghost_name ≡ self.old.store.ghost_name }
         ensures leaves { Looks S.Store self.old.store.now self.new.store.now }
-        ensures opens { OnOk result (HasCleanDisk (shown S.Store self.new.store.now) → Serves (shown S.Store self.new.store.now)) }
+        ensures opens { OnOk result (HasCleanDisk (shown S.Store self.new.store.now)
+            → Serves (shown S.Store self.new.store.now)) }
         ensures asked { self.new.asked ≡ self.old.asked }
         ensures told { IfOk result (λ last. last ≡ is_last self.old.front) }
         ensures next { OnOk result (into_iter_items self.new.page ≡ [] → self.new.front ≡ next_front self.old.front) }
-        ensures found { (m : Queue) (k : List Entry) (given : List OneJob) → Means (shown S.Store self.old.store.now) m k
-            → Serves (shown S.Store self.new.store.now)
+        ensures found { (m : Queue) (k : List Entry) (given : List OneJob)
+            → Means (shown S.Store self.old.store.now) m k → Serves (shown S.Store self.new.store.now)
             → StandsAt self.old.asked m given [] self.old.front self.old.most
-            → OrUnavailable result (λ last. StandsAt self.old.asked m given (into_iter_items self.new.page) self.new.front self.new.most
-            × (into_iter_items self.new.page ≡ [] → last ≡ true → AreAsked self.old.asked m given)) }
+            → OrUnavailable result (λ last. StandsAt self.old.asked m given
+            (into_iter_items self.new.page) self.new.front self.new.most × (into_iter_items self.new.page ≡ []
+            → last ≡ true → AreAsked self.old.asked m given)) }
     {
         let is_last = self.front.is_last();
         let page = self.store.page(&self.asked, self.front, self.most)?;

@@ -9,6 +9,7 @@ ghost use Rattle.fax_core.specs.State.{calls_to};
 ghost use Rattle.fax_job.specs.Limits.{most_pages};
 ghost use Rattle.fax_store.specs.Calls.{Answers, Calls, FailsOnly, Finds, Makes, MakesWhere, Runs, Tells, shown};
 ghost use Rattle.fax_store.specs.Grant.{HasCalls, IsCalled, IsHeld, IsHeldBy, IsNewGrant, IsReport, SetsCalls, with_count, with_placed, with_one_more_grant, with_closed};
+ghost use Rattle.fax_store.specs.Meta.{IsGrantLeft};
 ghost use Rattle.fax_store.specs.Store.{Serves, HasTables};
 ghost use Rattle.fax_store.specs.Work.{Works, IsOnlyUnavailable, Moves, Steps};
 ghost use Rattle.fax_tables.specs.Fault.{OrUnavailable};
@@ -38,7 +39,8 @@ impl<S: Alter> Store<S> {
     /// `Unavailable`, or `Strange` where its row is no lawful record.
     pub fn hold_of(&mut self, modem: &str) -> Result<Option<Hold>, StoreFault>
         ensures leaves { Finds S.Store self.old self.new result }
-        ensures answers { Answers S.Store self.old self.new result (λ m k found. found ≡ option_map as_hold (held_by modem.now m)) }
+        ensures answers { Answers S.Store self.old self.new result (λ m k found. found ≡ option_map as_hold
+            (held_by modem.now m)) }
         ensures lawful { IfOk result (λ found. IfSome found IsLawfulHold) }
     {
         match self.find(SELECT_HOLD, params![modem])? {
@@ -92,11 +94,12 @@ impl<S: Alter> Store<S> {
     pub(crate) fn set_calls(&mut self, dial: &Dial, calls: u32) -> Result<(), StoreFault>
         ensures leaves { Runs S.Store self.old self.new result }
         ensures set { (count : List ℕ → ℕ) → HasCalls (shown S.Store self.old) count
-            → HasCleanDisk (shown S.Store self.new) → OnOk result
-            (SetsCalls (shown S.Store self.old) (shown S.Store self.new) (with_count dial.now calls count)) }
+            → HasCleanDisk (shown S.Store self.new)
+            → OnOk result (SetsCalls (shown S.Store self.old) (shown S.Store self.new)
+            (with_count dial.now calls count)) }
         ensures left { (count : List ℕ → ℕ) → HasCalls (shown S.Store self.old) count
-            → HasCleanDisk (shown S.Store self.new) → OnErr result
-            (KeepsCommit (shown S.Store self.old) (shown S.Store self.new)) }
+            → HasCleanDisk (shown S.Store self.new)
+            → OnErr result (KeepsCommit (shown S.Store self.old) (shown S.Store self.new)) }
         ensures cause { IfErr result (λ fault. fault ≡ StoreFault.Unavailable) }
     {
         self.run(DELETE_CALLS, params![dial.text()])?;
@@ -109,8 +112,12 @@ impl<S: Alter> Store<S> {
     /// Adds an open grant of a job to this number, which has so many calls with it.
     fn place_grant(&mut self, grant: &Grant, dial: &Dial, calls: u32) -> Result<(), StoreFault>
         ensures leaves { Runs S.Store self.old self.new result }
-        ensures written { (m₀ m : Queue) (k₀ k : List Entry) → Works (shown S.Store self.old) false m₀ k₀ m k → Serves (shown S.Store self.new) → IsOpenGrant grant.now → IsCalled grant.now.job dial.now m → calls ≡ calls_to dial.now m + 1 → Moves (shown S.Store self.new) result m₀ k₀ (with_placed grant.now m) k }
-        ensures cause { IsOnlyUnavailable (shown S.Store self.old) false (shown S.Store self.new) result (λ m k. IsOpenGrant grant.now × IsNewGrant grant.now m) }
+        ensures written { (m₀ m : Queue) (k₀ k : List Entry) → Works (shown S.Store self.old) false m₀ k₀ m k
+            → Serves (shown S.Store self.new) → IsOpenGrant grant.now → IsCalled grant.now.job dial.now m
+            → calls ≡ calls_to dial.now m + 1
+            → Moves (shown S.Store self.new) result m₀ k₀ (with_placed grant.now m) k }
+        ensures cause { IsOnlyUnavailable (shown S.Store self.old) false (shown S.Store self.new) result
+            (λ m k. IsOpenGrant grant.now × IsNewGrant grant.now m) }
     {
         self.insert(
             INSERT_HOLD,
@@ -133,8 +140,11 @@ impl<S: Alter> Store<S> {
 
     fn insert_grant(&mut self, grant: &Grant) -> Result<(), StoreFault>
         ensures leaves { Runs S.Store self.old self.new result }
-        ensures written { (m₀ m : Queue) (k₀ k : List Entry) → Works (shown S.Store self.old) false m₀ k₀ m k → Serves (shown S.Store self.new) → IsOpenGrant grant.now → Moves (shown S.Store self.new) result m₀ k₀ (with_placed grant.now m) k }
-        ensures cause { IsOnlyUnavailable (shown S.Store self.old) false (shown S.Store self.new) result (λ m k. IsOpenGrant grant.now × IsNewGrant grant.now m × HasJob m grant.now) }
+        ensures written { (m₀ m : Queue) (k₀ k : List Entry) → Works (shown S.Store self.old) false m₀ k₀ m k
+            → Serves (shown S.Store self.new) → IsOpenGrant grant.now
+            → Moves (shown S.Store self.new) result m₀ k₀ (with_placed grant.now m) k }
+        ensures cause { IsOnlyUnavailable (shown S.Store self.old) false (shown S.Store self.new) result
+            (λ m k. IsOpenGrant grant.now × IsNewGrant grant.now m × HasJob m grant.now) }
     {
         let Some(job) = self.job(grant.job)? else {
             return Err(StoreFault::Strange);
@@ -148,8 +158,11 @@ impl<S: Alter> Store<S> {
 
     fn add_grant(&mut self, grant: &Grant) -> Result<(), StoreFault>
         ensures leaves { Runs S.Store self.old self.new result }
-        ensures written { (m₀ m : Queue) (k₀ k : List Entry) → Works (shown S.Store self.old) false m₀ k₀ m k → Serves (shown S.Store self.new) → Moves (shown S.Store self.new) result m₀ k₀ (with_one_more_grant grant.now m) k }
-        ensures cause { IsOnlyUnavailable (shown S.Store self.old) false (shown S.Store self.new) result (λ m k. IsOpenGrant grant.now × IsNewGrant grant.now m × HasJob m grant.now × m.next_grant < 1000000000) }
+        ensures written { (m₀ m : Queue) (k₀ k : List Entry) → Works (shown S.Store self.old) false m₀ k₀ m k
+            → Serves (shown S.Store self.new)
+            → Moves (shown S.Store self.new) result m₀ k₀ (with_one_more_grant grant.now m) k }
+        ensures cause { IsOnlyUnavailable (shown S.Store self.old) false (shown S.Store self.new) result
+            (λ m k. IsOpenGrant grant.now × IsNewGrant grant.now m × HasJob m grant.now × IsGrantLeft m) }
     {
         if !is_open_grant(grant) {
             return Err(StoreFault::Strange);
@@ -167,7 +180,9 @@ impl<S: Alter> Store<S> {
 
     fn write_report(&mut self, grant: &Grant) -> Result<(), StoreFault>
         ensures leaves { Runs S.Store self.old self.new result }
-        ensures written { (m₀ m : Queue) (k₀ k : List Entry) → IsReport grant.now m → Works (shown S.Store self.old) false m₀ k₀ m k → Serves (shown S.Store self.new) → Moves (shown S.Store self.new) result m₀ k₀ (with_grant grant.now m) k }
+        ensures written { (m₀ m : Queue) (k₀ k : List Entry) → IsReport grant.now m
+            → Works (shown S.Store self.old) false m₀ k₀ m k → Serves (shown S.Store self.new)
+            → Moves (shown S.Store self.new) result m₀ k₀ (with_grant grant.now m) k }
         ensures cause { grant.now.confirmed ≤ most_pages → IfErr result (λ fault. fault ≡ StoreFault.Unavailable) }
     {
         if grant.confirmed > MOST_PAGES {
@@ -186,7 +201,9 @@ impl<S: Alter> Store<S> {
     /// Closes an open grant of a job to this number, which has so many calls without it.
     fn close_open(&mut self, number: u32, dial: &Dial, calls: u32) -> Result<(), StoreFault>
         ensures leaves { Runs S.Store self.old self.new result }
-        ensures written { (m₀ m : Queue) (k₀ k : List Entry) → Works (shown S.Store self.old) false m₀ k₀ m k → Serves (shown S.Store self.new) → IsHeld number dial.now m → calls ≡ calls_to dial.now m - 1 → Moves (shown S.Store self.new) result m₀ k₀ (with_closed number m) k }
+        ensures written { (m₀ m : Queue) (k₀ k : List Entry) → Works (shown S.Store self.old) false m₀ k₀ m k
+            → Serves (shown S.Store self.new) → IsHeld number dial.now m → calls ≡ calls_to dial.now m - 1
+            → Moves (shown S.Store self.new) result m₀ k₀ (with_closed number m) k }
         ensures cause { IfErr result (λ fault. fault ≡ StoreFault.Unavailable) }
     {
         self.run(SHUT_GRANT, params![number])?;
@@ -196,7 +213,8 @@ impl<S: Alter> Store<S> {
 
     fn shut_grant(&mut self, number: u32) -> Result<(), StoreFault>
         ensures leaves { Runs S.Store self.old self.new result }
-        ensures written { (m₀ m : Queue) (k₀ k : List Entry) → Works (shown S.Store self.old) false m₀ k₀ m k → Serves (shown S.Store self.new) → Steps (shown S.Store self.new) result m₀ k₀ (with_closed number m) k }
+        ensures written { (m₀ m : Queue) (k₀ k : List Entry) → Works (shown S.Store self.old) false m₀ k₀ m k
+            → Serves (shown S.Store self.new) → Steps (shown S.Store self.new) result m₀ k₀ (with_closed number m) k }
     {
         let Some(grant) = self.grant(number)? else {
             return Ok(());
@@ -210,7 +228,9 @@ impl<S: Alter> Store<S> {
     /// Closes an open grant of the job of this number.
     fn end_call(&mut self, number: u32, job: u32) -> Result<(), StoreFault>
         ensures leaves { Runs S.Store self.old self.new result }
-        ensures written { (m₀ m : Queue) (k₀ k : List Entry) → Works (shown S.Store self.old) false m₀ k₀ m k → Serves (shown S.Store self.new) → IsHeldBy number job m → Steps (shown S.Store self.new) result m₀ k₀ (with_closed number m) k }
+        ensures written { (m₀ m : Queue) (k₀ k : List Entry) → Works (shown S.Store self.old) false m₀ k₀ m k
+            → Serves (shown S.Store self.new) → IsHeldBy number job m
+            → Steps (shown S.Store self.new) result m₀ k₀ (with_closed number m) k }
     {
         let Some(job) = self.job(job)? else {
             return Err(StoreFault::Strange);
@@ -228,7 +248,8 @@ impl<S: Alter> Work<'_, S> {
     /// `Unavailable`, or `Strange` where its row is no lawful record.
     pub fn hold_of(&mut self, modem: &str) -> Result<Option<Hold>, StoreFault>
         ensures leaves { Calls S.Store self.old self.new result }
-        ensures answers { Tells S.Store self.old self.new result (λ m k found. found ≡ option_map as_hold (held_by modem.now m)) }
+        ensures answers { Tells S.Store self.old self.new result (λ m k found. found ≡ option_map as_hold
+            (held_by modem.now m)) }
         ensures lawful { IfOk result (λ found. IfSome found IsLawfulHold) }
     {
         if self.failed {
@@ -285,7 +306,8 @@ impl<S: Alter> Work<'_, S> {
     pub fn put_grant(&mut self, grant: &Grant) -> Result<(), StoreFault>
         ensures leaves { Calls S.Store self.old self.new result }
         ensures changes { Makes S.Store self.old self.new (with_one_more_grant grant.now) (λ k. k) }
-        ensures cause { FailsOnly S.Store self.old self.new result (λ m k. IsOpenGrant grant.now × IsNewGrant grant.now m × HasJob m grant.now × m.next_grant < 1000000000) }
+        ensures cause { FailsOnly S.Store self.old self.new result (λ m k. IsOpenGrant grant.now
+            × IsNewGrant grant.now m × HasJob m grant.now × IsGrantLeft m) }
     {
         if self.failed {
             return Err(StoreFault::Unavailable);

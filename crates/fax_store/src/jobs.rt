@@ -6,7 +6,7 @@ ghost use Rattle.fax_core.specs.Job.{job_of, fields_of};
 ghost use Rattle.fax_core.specs.Queue.{Queue, Entry, job_numbered};
 ghost use Rattle.fax_store.specs.Calls.{Answers, Calls, FailsOnly, Finds, Makes, MakesWhere, Runs, Tells, shown};
 ghost use Rattle.fax_store.specs.Job.{IsChange, IsNewJob, IsWaiting, with_change, with_placed, with_one_more_job, with_expired, with_expired_in};
-ghost use Rattle.fax_store.specs.Meta.{with_clock};
+ghost use Rattle.fax_store.specs.Meta.{IsJobLeft, with_clock};
 ghost use Rattle.fax_store.specs.Store.{Serves};
 ghost use Rattle.fax_store.specs.Work.{Works, IsOnlyUnavailable, Moves, Steps};
 ghost use Rattle.fax_tables.specs.Job.{brief};
@@ -33,7 +33,8 @@ impl<S: Alter> Store<S> {
     /// `Unavailable`, or `Strange` where its row is no lawful record.
     pub fn job(&mut self, job: u32) -> Result<Option<Job>, StoreFault>
         ensures leaves { Finds S.Store self.old self.new result }
-        ensures answers { Answers S.Store self.old self.new result (λ m k found. found ≡ option_map fields_of (job_numbered job m)) }
+        ensures answers { Answers S.Store self.old self.new result (λ m k found. found ≡ option_map fields_of
+            (job_numbered job m)) }
     {
         match self.find(SELECT_JOB, params![job])? {
             Some(row) => Ok(Some(job_in(self.alloc, &row)?)),
@@ -48,7 +49,8 @@ impl<S: Alter> Store<S> {
     /// `Unavailable`, or `Strange` where the rest of its row is no part of a lawful record.
     pub fn brief(&mut self, job: u32) -> Result<Option<Job>, StoreFault>
         ensures leaves { Finds S.Store self.old self.new result }
-        ensures answers { Answers S.Store self.old self.new result (λ m k found. found ≡ option_map (λ j. brief (fields_of j)) (job_numbered job m)) }
+        ensures answers { Answers S.Store self.old self.new result (λ m k found. found ≡ option_map (λ j. brief
+            (fields_of j)) (job_numbered job m)) }
     {
         match self.find(SELECT_BRIEF, params![job])? {
             Some(row) => Ok(Some(brief_in(self.alloc, &row)?)),
@@ -90,7 +92,8 @@ impl<S: Alter> Store<S> {
     /// `Unavailable`, or `Strange` where the rest of a row is no part of a lawful record.
     pub fn briefs(&mut self) -> Result<Vec<Job>, StoreFault>
         ensures leaves { Finds S.Store self.old self.new result }
-        ensures answers { Answers S.Store self.old self.new result (λ m k found. found.items ≡ map (λ j. brief (fields_of j)) m.jobs) }
+        ensures answers { Answers S.Store self.old self.new result (λ m k found. found.items ≡ map (λ j. brief
+            (fields_of j)) m.jobs) }
     {
         let shown = self.show(SELECT_BRIEFS, &[])?;
         briefs_in(self.alloc, shown.as_slice())
@@ -98,8 +101,11 @@ impl<S: Alter> Store<S> {
 
     fn insert_job(&mut self, job: &Job) -> Result<(), StoreFault>
         ensures leaves { Runs S.Store self.old self.new result }
-        ensures written { (m₀ m : Queue) (k₀ k : List Entry) → Works (shown S.Store self.old) false m₀ k₀ m k → Serves (shown S.Store self.new) → Moves (shown S.Store self.new) result m₀ k₀ (with_placed (job_of job.now) m) k }
-        ensures cause { IsOnlyUnavailable (shown S.Store self.old) false (shown S.Store self.new) result (λ m k. IsNewJob (job_of job.now) m) }
+        ensures written { (m₀ m : Queue) (k₀ k : List Entry) → Works (shown S.Store self.old) false m₀ k₀ m k
+            → Serves (shown S.Store self.new)
+            → Moves (shown S.Store self.new) result m₀ k₀ (with_placed (job_of job.now) m) k }
+        ensures cause { IsOnlyUnavailable (shown S.Store self.old) false (shown S.Store self.new) result
+            (λ m k. IsNewJob (job_of job.now) m) }
     {
         let job = job.fields();
         let extra = spelling(self.alloc, &job.extra)?;
@@ -132,7 +138,9 @@ impl<S: Alter> Store<S> {
 
     fn write_change(&mut self, job: &Job) -> Result<(), StoreFault>
         ensures leaves { Runs S.Store self.old self.new result }
-        ensures written { (m₀ m : Queue) (k₀ k : List Entry) → IsChange (job_of job.now) m → Works (shown S.Store self.old) false m₀ k₀ m k → Serves (shown S.Store self.new) → Steps (shown S.Store self.new) result m₀ k₀ (with_change (job_of job.now) m) k }
+        ensures written { (m₀ m : Queue) (k₀ k : List Entry) → IsChange (job_of job.now) m
+            → Works (shown S.Store self.old) false m₀ k₀ m k → Serves (shown S.Store self.new)
+            → Steps (shown S.Store self.new) result m₀ k₀ (with_change (job_of job.now) m) k }
         ensures cause { IfErr result (λ fault. fault ≡ StoreFault.Unavailable) }
     {
         let job = job.fields();
@@ -162,7 +170,8 @@ impl<S: Alter> Store<S> {
 
     fn write_expired(&mut self, t: Moment) -> Result<(), StoreFault>
         ensures leaves { Runs S.Store self.old self.new result }
-        ensures written { (m₀ m : Queue) (k₀ k : List Entry) → Works (shown S.Store self.old) false m₀ k₀ m k → Serves (shown S.Store self.new) → Steps (shown S.Store self.new) result m₀ k₀ (with_expired t m) k }
+        ensures written { (m₀ m : Queue) (k₀ k : List Entry) → Works (shown S.Store self.old) false m₀ k₀ m k
+            → Serves (shown S.Store self.new) → Steps (shown S.Store self.new) result m₀ k₀ (with_expired t m) k }
         ensures cause { IfErr result (λ fault. fault ≡ StoreFault.Unavailable) }
     {
         self.expire_in(Phase::Held, t)?;
@@ -172,7 +181,8 @@ impl<S: Alter> Store<S> {
     /// Whether a job of this phase has a kill time from 1 to `t`. An index has the answer.
     fn has_expired(&mut self, phase: Phase, t: Moment) -> Result<bool, StoreFault>
         ensures leaves { Finds S.Store self.old self.new result }
-        ensures answers { Answers S.Store self.old self.new result (λ m k found. found ≡ false → with_expired_in phase t m ≡ m) }
+        ensures answers { Answers S.Store self.old self.new result (λ m k found. found ≡ false
+            → with_expired_in phase t m ≡ m) }
         ensures cause { IfErr result (λ fault. fault ≡ StoreFault.Unavailable) }
     {
         let row = self.find(SELECT_EXPIRED, params![t.seconds(), phase_number(phase)])?;
@@ -183,7 +193,9 @@ impl<S: Alter> Store<S> {
     /// the index that finds them is by phase first. Where there is none, a question costs less than the change.
     fn expire_in(&mut self, phase: Phase, t: Moment) -> Result<(), StoreFault>
         ensures leaves { Runs S.Store self.old self.new result }
-        ensures written { (m₀ m : Queue) (k₀ k : List Entry) → Works (shown S.Store self.old) false m₀ k₀ m k → Serves (shown S.Store self.new) → Steps (shown S.Store self.new) result m₀ k₀ (with_expired_in phase t m) k }
+        ensures written { (m₀ m : Queue) (k₀ k : List Entry) → Works (shown S.Store self.old) false m₀ k₀ m k
+            → Serves (shown S.Store self.new)
+            → Steps (shown S.Store self.new) result m₀ k₀ (with_expired_in phase t m) k }
         ensures cause { IfErr result (λ fault. fault ≡ StoreFault.Unavailable) }
     {
         if self.has_expired(phase, t)? {
@@ -194,8 +206,11 @@ impl<S: Alter> Store<S> {
 
     fn add_job(&mut self, job: &Job) -> Result<(), StoreFault>
         ensures leaves { Runs S.Store self.old self.new result }
-        ensures written { (m₀ m : Queue) (k₀ k : List Entry) → Works (shown S.Store self.old) false m₀ k₀ m k → Serves (shown S.Store self.new) → Moves (shown S.Store self.new) result m₀ k₀ (with_one_more_job (job_of job.now) m) k }
-        ensures cause { IsOnlyUnavailable (shown S.Store self.old) false (shown S.Store self.new) result (λ m k. IsNewJob (job_of job.now) m × m.next_job < 1000000) }
+        ensures written { (m₀ m : Queue) (k₀ k : List Entry) → Works (shown S.Store self.old) false m₀ k₀ m k
+            → Serves (shown S.Store self.new)
+            → Moves (shown S.Store self.new) result m₀ k₀ (with_one_more_job (job_of job.now) m) k }
+        ensures cause { IsOnlyUnavailable (shown S.Store self.old) false (shown S.Store self.new) result
+            (λ m k. IsNewJob (job_of job.now) m × IsJobLeft m) }
     {
         let meta = self.meta()?;
         self.add_next_job(job, meta, meta.clock)
@@ -203,8 +218,11 @@ impl<S: Alter> Store<S> {
 
     fn add_next_job(&mut self, job: &Job, meta: Meta, clock: Moment) -> Result<(), StoreFault>
         ensures leaves { Runs S.Store self.old self.new result }
-        ensures written { (m₀ m : Queue) (k₀ k : List Entry) → meta ≡ meta_of m → Works (shown S.Store self.old) false m₀ k₀ m k → Serves (shown S.Store self.new) → Moves (shown S.Store self.new) result m₀ k₀ (with_clock clock (with_one_more_job (job_of job.now) m)) k }
-        ensures cause { IsOnlyUnavailable (shown S.Store self.old) false (shown S.Store self.new) result (λ m k. (meta ≡ meta_of m) × IsNewJob (job_of job.now) m × m.next_job < 1000000) }
+        ensures written { (m₀ m : Queue) (k₀ k : List Entry) → meta ≡ meta_of m
+            → Works (shown S.Store self.old) false m₀ k₀ m k → Serves (shown S.Store self.new)
+            → Moves (shown S.Store self.new) result m₀ k₀ (with_clock clock (with_one_more_job (job_of job.now) m)) k }
+        ensures cause { IsOnlyUnavailable (shown S.Store self.old) false (shown S.Store self.new) result (λ m k.
+            (meta ≡ meta_of m) × IsNewJob (job_of job.now) m × IsJobLeft m) }
     {
         if meta.next_job >= PAST_JOBS {
             return Err(StoreFault::Strange);
@@ -226,7 +244,8 @@ impl<S: Alter> Work<'_, S> {
     /// `Unavailable`, or `Strange` where its row is no lawful record.
     pub fn job(&mut self, job: u32) -> Result<Option<Job>, StoreFault>
         ensures leaves { Calls S.Store self.old self.new result }
-        ensures answers { Tells S.Store self.old self.new result (λ m k found. found ≡ option_map fields_of (job_numbered job m)) }
+        ensures answers { Tells S.Store self.old self.new result (λ m k found. found ≡ option_map fields_of
+            (job_numbered job m)) }
     {
         if self.failed {
             return Err(StoreFault::Unavailable);
@@ -279,7 +298,8 @@ impl<S: Alter> Work<'_, S> {
     pub fn put_job(&mut self, job: &Job) -> Result<(), StoreFault>
         ensures leaves { Calls S.Store self.old self.new result }
         ensures changes { Makes S.Store self.old self.new (with_one_more_job (job_of job.now)) (λ k. k) }
-        ensures cause { FailsOnly S.Store self.old self.new result (λ m k. IsNewJob (job_of job.now) m × m.next_job < 1000000) }
+        ensures cause { FailsOnly S.Store self.old self.new result (λ m k. IsNewJob (job_of job.now) m
+            × IsJobLeft m) }
     {
         if self.failed {
             return Err(StoreFault::Unavailable);
@@ -297,8 +317,10 @@ impl<S: Alter> Work<'_, S> {
     /// `Unavailable`, or `Strange` where a job has the number or no next number is left.
     pub fn put_next_job(&mut self, job: &Job, meta: Meta, clock: Moment) -> Result<(), StoreFault>
         ensures leaves { Calls S.Store self.old self.new result }
-        ensures changes { MakesWhere S.Store self.old self.new (λ m. meta ≡ meta_of m) (λ m. with_clock clock (with_one_more_job (job_of job.now) m)) (λ k. k) }
-        ensures cause { FailsOnly S.Store self.old self.new result (λ m k. (meta ≡ meta_of m) × IsNewJob (job_of job.now) m × m.next_job < 1000000) }
+        ensures changes { MakesWhere S.Store self.old self.new (λ m. meta ≡ meta_of m) (λ m. with_clock clock
+            (with_one_more_job (job_of job.now) m)) (λ k. k) }
+        ensures cause { FailsOnly S.Store self.old self.new result (λ m k. (meta ≡ meta_of m)
+            × IsNewJob (job_of job.now) m × IsJobLeft m) }
     {
         if self.failed {
             return Err(StoreFault::Unavailable);
@@ -318,7 +340,8 @@ impl<S: Alter> Work<'_, S> {
     /// `Unavailable`.
     pub fn put_change(&mut self, job: &Job) -> Result<(), StoreFault>
         ensures leaves { Calls S.Store self.old self.new result }
-        ensures changes { MakesWhere S.Store self.old self.new (IsChange (job_of job.now)) (with_change (job_of job.now)) (λ k. k) }
+        ensures changes { MakesWhere S.Store self.old self.new (IsChange (job_of job.now)) (with_change
+            (job_of job.now)) (λ k. k) }
         ensures cause { IfErr result (λ fault. fault ≡ StoreFault.Unavailable) }
     {
         if self.failed {

@@ -35,7 +35,9 @@ impl<S: Alter> Store<S> {
 
     pub(crate) fn write_meta(&mut self, meta: Meta) -> Result<(), StoreFault>
         ensures leaves { Runs S.Store self.old self.new result }
-        ensures written { (m₀ m : Queue) (k₀ k : List Entry) → Works (shown S.Store self.old) false m₀ k₀ m k → Serves (shown S.Store self.new) → IsLawfulMeta (with_meta meta m) → Steps (shown S.Store self.new) result m₀ k₀ (with_meta meta m) k }
+        ensures written { (m₀ m : Queue) (k₀ k : List Entry) → Works (shown S.Store self.old) false m₀ k₀ m k
+            → Serves (shown S.Store self.new) → IsLawfulMeta (with_meta meta m)
+            → Steps (shown S.Store self.new) result m₀ k₀ (with_meta meta m) k }
     {
         self.run(
             UPDATE_META,
@@ -45,7 +47,8 @@ impl<S: Alter> Store<S> {
 
     fn write_clock(&mut self, clock: Moment) -> Result<(), StoreFault>
         ensures leaves { Runs S.Store self.old self.new result }
-        ensures written { (m₀ m : Queue) (k₀ k : List Entry) → Works (shown S.Store self.old) false m₀ k₀ m k → Serves (shown S.Store self.new) → Steps (shown S.Store self.new) result m₀ k₀ (with_clock clock m) k }
+        ensures written { (m₀ m : Queue) (k₀ k : List Entry) → Works (shown S.Store self.old) false m₀ k₀ m k
+            → Serves (shown S.Store self.new) → Steps (shown S.Store self.new) result m₀ k₀ (with_clock clock m) k }
         ensures cause { IfErr result (λ fault. fault ≡ StoreFault.Unavailable) }
     {
         self.run(UPDATE_CLOCK, params![clock.seconds()])

@@ -32,7 +32,9 @@ impl<S: Alter> Store<S> {
 
     fn clear_mark(&mut self, modem: &str) -> Result<(), StoreFault>
         ensures leaves { Runs S.Store self.old self.new result }
-        ensures written { (m₀ m : Queue) (k₀ k : List Entry) → Works (shown S.Store self.old) false m₀ k₀ m k → Serves (shown S.Store self.new) → Steps (shown S.Store self.new) result m₀ k₀ (with_mark modem.now false m) k }
+        ensures written { (m₀ m : Queue) (k₀ k : List Entry) → Works (shown S.Store self.old) false m₀ k₀ m k
+            → Serves (shown S.Store self.new)
+            → Steps (shown S.Store self.new) result m₀ k₀ (with_mark modem.now false m) k }
         ensures cause { IfErr result (λ fault. fault ≡ StoreFault.Unavailable) }
     {
         self.run(DELETE_DOWN, params![modem])
@@ -40,8 +42,11 @@ impl<S: Alter> Store<S> {
 
     fn add_mark(&mut self, modem: &str) -> Result<(), StoreFault>
         ensures leaves { Runs S.Store self.old self.new result }
-        ensures written { (m₀ m : Queue) (k₀ k : List Entry) → Works (shown S.Store self.old) false m₀ k₀ m k → Serves (shown S.Store self.new) → Moves (shown S.Store self.new) result m₀ k₀ (with_mark modem.now true m) k }
-        ensures cause { IsOnlyUnavailable (shown S.Store self.old) false (shown S.Store self.new) result (λ m k. IsName modem.now) }
+        ensures written { (m₀ m : Queue) (k₀ k : List Entry) → Works (shown S.Store self.old) false m₀ k₀ m k
+            → Serves (shown S.Store self.new)
+            → Moves (shown S.Store self.new) result m₀ k₀ (with_mark modem.now true m) k }
+        ensures cause { IsOnlyUnavailable (shown S.Store self.old) false (shown S.Store self.new) result
+            (λ m k. IsName modem.now) }
     {
         if !is_name(modem.as_bytes()) {
             return Err(StoreFault::Strange);
@@ -54,8 +59,11 @@ impl<S: Alter> Store<S> {
 
     fn write_mark(&mut self, modem: &str, down: bool) -> Result<(), StoreFault>
         ensures leaves { Runs S.Store self.old self.new result }
-        ensures written { (m₀ m : Queue) (k₀ k : List Entry) → Works (shown S.Store self.old) false m₀ k₀ m k → Serves (shown S.Store self.new) → Moves (shown S.Store self.new) result m₀ k₀ (with_mark modem.now down m) k }
-        ensures cause { IsOnlyUnavailable (shown S.Store self.old) false (shown S.Store self.new) result (λ m k. IsTrue down → IsName modem.now) }
+        ensures written { (m₀ m : Queue) (k₀ k : List Entry) → Works (shown S.Store self.old) false m₀ k₀ m k
+            → Serves (shown S.Store self.new)
+            → Moves (shown S.Store self.new) result m₀ k₀ (with_mark modem.now down m) k }
+        ensures cause { IsOnlyUnavailable (shown S.Store self.old) false (shown S.Store self.new) result
+            (λ m k. IsTrue down → IsName modem.now) }
         ensures clears { down ≡ false → IfErr result (λ fault. fault ≡ StoreFault.Unavailable) }
     {
         if down {

@@ -49,8 +49,12 @@ impl<S: Alter> Store<S> {
         body: &[u8],
     ) -> Result<(), StoreFault>
         ensures leaves { Runs S.Store self.old self.new result }
-        ensures written { (m₀ m : Queue) (k₀ k : List Entry) → Works (shown S.Store self.old) false m₀ k₀ m k → Serves (shown S.Store self.new) → Moves (shown S.Store self.new) result m₀ k₀ m (k ++ entry client.now number said.now status body.now ∷ []) }
-        ensures cause { IsOnlyUnavailable (shown S.Store self.old) false (shown S.Store self.new) result (λ m k. IsName client.now × IsKeptStatus status × IsUnkept client.now number k) }
+        ensures written { (m₀ m : Queue) (k₀ k : List Entry) → Works (shown S.Store self.old) false m₀ k₀ m k
+            → Serves (shown S.Store self.new)
+            → Moves (shown S.Store self.new) result m₀ k₀ m
+            (k ++ entry client.now number said.now status body.now ∷ []) }
+        ensures cause { IsOnlyUnavailable (shown S.Store self.old) false (shown S.Store self.new) result
+            (λ m k. IsName client.now × IsKeptStatus status × IsUnkept client.now number k) }
         ensures status { OnOk result (IsKeptStatus status) }
     {
         let number = number_value(number);
@@ -98,8 +102,10 @@ impl<S: Alter> Work<'_, S> {
         body: &[u8],
     ) -> Result<(), StoreFault>
         ensures leaves { Calls S.Store self.old self.new result }
-        ensures changes { Makes S.Store self.old self.new (λ m. m) (λ k. k ++ entry client.now number said.now status body.now ∷ []) }
-        ensures cause { FailsOnly S.Store self.old self.new result (λ m k. IsName client.now × IsKeptStatus status × IsUnkept client.now number k) }
+        ensures changes { Makes S.Store self.old self.new (λ m. m)
+            (λ k. k ++ entry client.now number said.now status body.now ∷ []) }
+        ensures cause { FailsOnly S.Store self.old self.new result (λ m k. IsName client.now × IsKeptStatus status
+            × IsUnkept client.now number k) }
         ensures status { OnOk result (IsKeptStatus status) }
     {
         if self.failed {

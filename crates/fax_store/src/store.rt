@@ -60,19 +60,15 @@ impl<S: Alter> Store<S> {
     ///
     /// `Unavailable`; the tables are as they were.
     pub fn begin(&mut self) -> Result<Work<'_, S>, StoreFault>
-        ensures* refused { sem 𝓛 (RestsIfErr (the_row S.row S.Store) self.entry (λ work. work.store.ghost_name)
-            result (λ last. StaysAsItWas (shown S.Store self.old) (shown S.Store last))) }
+        ensures* refused { sem 𝓛 (RestsIfErr (the_row S.row S.Store) self.entry (λ work. work.store.ghost_name) result
+            (λ last. StaysAsItWas (shown S.Store self.old) (shown S.Store last))) }
         ensures same_reference { IfOk result (λ work. work.store.ghost_name ≡ self.entry.ghost_name) }
-        ensures begun { IfOk result (λ work.
-            Begins (shown S.Store self.old) (within S.Store work) work.failed) }
-        ensures at { IfOk result (λ work.
-            BeginsAt (shown S.Store self.old) (within S.Store work) work.failed) }
-        ensures opens { IfOk result (λ work.
-            Opens (shown S.Store self.old) (within S.Store work) work.failed) }
-        ensures served { IfOk result (λ work.
-            Serves (within S.Store work) → Serves (shown S.Store self.old)) }
-        ensures clean { IfOk result (λ work.
-            HasCleanDisk (within S.Store work) → HasCleanDisk (shown S.Store self.old)) }
+        ensures begun { IfOk result (λ work. Begins (shown S.Store self.old) (within S.Store work) work.failed) }
+        ensures at { IfOk result (λ work. BeginsAt (shown S.Store self.old) (within S.Store work) work.failed) }
+        ensures opens { IfOk result (λ work. Opens (shown S.Store self.old) (within S.Store work) work.failed) }
+        ensures served { IfOk result (λ work. Serves (within S.Store work) → Serves (shown S.Store self.old)) }
+        ensures clean { IfOk result (λ work. HasCleanDisk (within S.Store work)
+            → HasCleanDisk (shown S.Store self.old)) }
         ensures goes_on { IfOk result (λ work. work.failed ≡ false) }
         ensures cause { IfErr result (λ fault. fault ≡ StoreFault.Unavailable) }
     {
@@ -100,10 +96,11 @@ impl<S: Alter> Store<S> {
     ) -> Result<Vec<Row>, StoreFault>
         requires { IsQueryText sql.now }
         ensures leaves { Finds S.Store self.old self.new result }
-        ensures shown { HasCleanDisk (shown S.Store self.new) → IfOk result
-            (λ rows. Shown sql.now (bound params.now) (shown S.Store self.old) (shown S.Store self.new) rows.items) }
-        ensures left { HasCleanDisk (shown S.Store self.new) → OnErr result
-            (LeavesCommit (shown S.Store self.old) (shown S.Store self.new)) }
+        ensures shown { HasCleanDisk (shown S.Store self.new)
+            → IfOk result (λ rows. Shown sql.now (bound params.now) (shown S.Store self.old)
+            (shown S.Store self.new) rows.items) }
+        ensures left { HasCleanDisk (shown S.Store self.new)
+            → OnErr result (LeavesCommit (shown S.Store self.old) (shown S.Store self.new)) }
         ensures cause { IfErr result (λ fault. fault ≡ StoreFault.Unavailable) }
     {
         let rows = self.conn.query_all(sql, params)?;
@@ -118,10 +115,10 @@ impl<S: Alter> Store<S> {
     ) -> Result<Option<Row>, StoreFault>
         requires { IsQueryText sql.now }
         ensures leaves { Finds S.Store self.old self.new result }
-        ensures found { HasCleanDisk (shown S.Store self.new) → IfOk result
-            (FindsRow sql.now (bound params.now) (shown S.Store self.old) (shown S.Store self.new)) }
-        ensures left { HasCleanDisk (shown S.Store self.new) → OnErr result
-            (LeavesCommit (shown S.Store self.old) (shown S.Store self.new)) }
+        ensures found { HasCleanDisk (shown S.Store self.new)
+            → IfOk result (FindsRow sql.now (bound params.now) (shown S.Store self.old) (shown S.Store self.new)) }
+        ensures left { HasCleanDisk (shown S.Store self.new)
+            → OnErr result (LeavesCommit (shown S.Store self.old) (shown S.Store self.new)) }
         ensures cause { IfErr result (λ fault. fault ≡ StoreFault.Unavailable) }
     {
         let mut rows = self.show(sql, params)?;
@@ -136,12 +133,12 @@ impl<S: Alter> Store<S> {
     pub(crate) fn insert(&mut self, sql: &str, params: &[ValueRef<'_>]) -> Result<(), StoreFault>
         requires { IsEditText sql.now }
         ensures leaves { Runs S.Store self.old self.new result }
-        ensures ran { HasCleanDisk (shown S.Store self.new) → OnOk result
-            (HasRun sql.now (bound params.now) (shown S.Store self.old) (shown S.Store self.new)) }
-        ensures left { HasCleanDisk (shown S.Store self.new) → OnErr result
-            (LeavesCommit (shown S.Store self.old) (shown S.Store self.new)) }
-        ensures told { HasCleanDisk (shown S.Store self.new) → IfErr result
-            (IsRefusedFor sql.now (bound params.now) (shown S.Store self.old) (shown S.Store self.new)) }
+        ensures ran { HasCleanDisk (shown S.Store self.new)
+            → OnOk result (HasRun sql.now (bound params.now) (shown S.Store self.old) (shown S.Store self.new)) }
+        ensures left { HasCleanDisk (shown S.Store self.new)
+            → OnErr result (LeavesCommit (shown S.Store self.old) (shown S.Store self.new)) }
+        ensures told { HasCleanDisk (shown S.Store self.new)
+            → IfErr result (IsRefusedFor sql.now (bound params.now) (shown S.Store self.old) (shown S.Store self.new)) }
     {
         match self.conn.execute(sql, params) {
             Ok(_) => Ok(()),
@@ -153,10 +150,10 @@ impl<S: Alter> Store<S> {
     pub(crate) fn run(&mut self, sql: &str, params: &[ValueRef<'_>]) -> Result<(), StoreFault>
         requires { IsEditText sql.now }
         ensures leaves { Runs S.Store self.old self.new result }
-        ensures ran { HasCleanDisk (shown S.Store self.new) → OnOk result
-            (HasRun sql.now (bound params.now) (shown S.Store self.old) (shown S.Store self.new)) }
-        ensures left { HasCleanDisk (shown S.Store self.new) → OnErr result
-            (LeavesCommit (shown S.Store self.old) (shown S.Store self.new)) }
+        ensures ran { HasCleanDisk (shown S.Store self.new)
+            → OnOk result (HasRun sql.now (bound params.now) (shown S.Store self.old) (shown S.Store self.new)) }
+        ensures left { HasCleanDisk (shown S.Store self.new)
+            → OnErr result (LeavesCommit (shown S.Store self.old) (shown S.Store self.new)) }
         ensures cause { IfErr result (λ fault. fault ≡ StoreFault.Unavailable) }
     {
         self.conn.execute(sql, params)?;

@@ -36,20 +36,17 @@ impl<'s, S: Alter> Work<'s, S> {
     ///
     /// `Unavailable`; the tables are as they were at `begin`.
     pub fn commit(self) -> Result<(), StoreFault>
-        ensures committed { OnOk result (Commits (within S.Store self.entry)
-            self.entry.failed (shown S.Store self.exit.0.now)) }
-        ensures served { OnOk result (Serves (shown S.Store self.exit.0.now)
-            → Serves (within S.Store self.entry)) }
-        ensures clean { HasCleanDisk (shown S.Store self.exit.0.now)
-            → HasCleanDisk (within S.Store self.entry) }
+        ensures committed { OnOk result (Commits (within S.Store self.entry) self.entry.failed
+            (shown S.Store self.exit.0.now)) }
+        ensures served { OnOk result (Serves (shown S.Store self.exit.0.now) → Serves (within S.Store self.entry)) }
+        ensures clean { HasCleanDisk (shown S.Store self.exit.0.now) → HasCleanDisk (within S.Store self.entry) }
         ensures opens { OnOk result (HasCleanDisk (shown S.Store self.exit.0.now)
             → Serves (shown S.Store self.exit.0.now)) }
-        ensures forgets { OnErr result (Forgets (within S.Store self.entry)
-            self.entry.failed (shown S.Store self.exit.0.now)) }
-        ensures undone { OnErr result (Undoes (within S.Store self.entry)
-            self.entry.failed (shown S.Store self.exit.0.now)) }
-        ensures crash { MayCommit (within S.Store self.entry) self.entry.failed
-            (shown S.Store self.exit.0.now) }
+        ensures forgets { OnErr result (Forgets (within S.Store self.entry) self.entry.failed
+            (shown S.Store self.exit.0.now)) }
+        ensures undone { OnErr result (Undoes (within S.Store self.entry) self.entry.failed
+            (shown S.Store self.exit.0.now)) }
+        ensures crash { MayCommit (within S.Store self.entry) self.entry.failed (shown S.Store self.exit.0.now) }
         ensures alone { OnOk result (Serves (shown S.Store self.exit.0.now)
             → LeavesAlone (shown S.Store self.exit.0.now) (within S.Store self.entry).now.trees) }
         ensures refused { IsTrue self.entry.failed → result ≡ Err StoreFault.Unavailable }
@@ -67,16 +64,11 @@ impl<'s, S: Alter> Work<'s, S> {
 
 impl<S: Alter> Drop for Work<'_, S> {
     fn drop(self)
-        ensures forgets { Forgets (within S.Store self.entry) self.entry.failed
-            (shown S.Store self.exit.0.now) }
-        ensures undone { Undoes (within S.Store self.entry) self.entry.failed
-            (shown S.Store self.exit.0.now) }
-        ensures crash { CommitsNothing (within S.Store self.entry)
-            (shown S.Store self.exit.0.now) }
-        ensures clean { HasCleanDisk (shown S.Store self.exit.0.now)
-            → HasCleanDisk (within S.Store self.entry) }
-        ensures served { Serves (shown S.Store self.exit.0.now)
-            → Serves (within S.Store self.entry) }
+        ensures forgets { Forgets (within S.Store self.entry) self.entry.failed (shown S.Store self.exit.0.now) }
+        ensures undone { Undoes (within S.Store self.entry) self.entry.failed (shown S.Store self.exit.0.now) }
+        ensures crash { CommitsNothing (within S.Store self.entry) (shown S.Store self.exit.0.now) }
+        ensures clean { HasCleanDisk (shown S.Store self.exit.0.now) → HasCleanDisk (within S.Store self.entry) }
+        ensures served { Serves (shown S.Store self.exit.0.now) → Serves (within S.Store self.entry) }
     {
         let Work { store, failed: _ } = self;
         store.roll_back();

@@ -7,3 +7,4 @@ pub mod Meta
 pub mod Tables
 pub mod Place
 pub mod Stop
+pub mod Making

@@ -6,6 +6,7 @@ ghost use Rattle.sqlite.specs.View.{doubt};
 ghost use Rattle.sqlite.specs.State.{HasCleanDisk, KeepsCommit};
 ghost use Rattle.fax_core.specs.Queue.{empty_queue};
 ghost use Rattle.fax_schema.specs.Schema.{no_tables, with_down, bare_tables, our_tables};
+ghost use Rattle.fax_tables.specs.Making.{Alters, Always};
 ghost use Rattle.fax_tables.specs.Stop.{HoldsBack};
 ghost use Rattle.fax_tables.specs.Tables.{GoesOn, HasCallsBeside, HasEmptyTables, HasIndexesLast, HasNewCalls, HasCoreTables, HasTablesAlone, IsIndexed, LacksCalls, LosesIndexes, TablesMean};
 
@@ -36,13 +37,8 @@ pub fn create_tables<S: Alter>(conn: &mut Connection<S>) -> Result<(), Error>
 
 /// Makes the tables of jobs, grants, holds and modems down.
 fn create_work_tables<S: Alter>(conn: &mut Connection<S>) -> Result<(), Error>
-    ensures made { HasCleanDisk (state S.Store conn.new) → OnOk result
-        (HasEmptyTables no_tables (state S.Store conn.old) → GoesOn (state S.Store conn.old) (state S.Store conn.new)
-        × HasEmptyTables with_down (state S.Store conn.new)) }
-    ensures kept { HasCleanDisk (state S.Store conn.new) → OnErr result
-        (HasEmptyTables no_tables (state S.Store conn.old) → KeepsCommit (state S.Store conn.old) (state S.Store conn.new)) }
-    ensures crash { HoldsBack (HasEmptyTables no_tables) (state S.Store conn.old) (state S.Store conn.new) }
-    ensures doubt { doubt (state S.Store conn.old).is_clean ≤ doubt (state S.Store conn.new).is_clean }
+    ensures { Alters S.Store (HasEmptyTables no_tables) (HasEmptyTables no_tables)
+        (λ old new. HasEmptyTables with_down new) conn.old conn.new result }
 {
     conn.execute(CREATE_JOBS, &[])?;
     conn.execute(CREATE_GRANTS, &[])?;
@@ -53,13 +49,8 @@ fn create_work_tables<S: Alter>(conn: &mut Connection<S>) -> Result<(), Error>
 
 /// Makes the tables of replies and of the clock and next numbers.
 fn create_kept_tables<S: Alter>(conn: &mut Connection<S>) -> Result<(), Error>
-    ensures made { HasCleanDisk (state S.Store conn.new) → OnOk result
-        (HasEmptyTables with_down (state S.Store conn.old) → GoesOn (state S.Store conn.old) (state S.Store conn.new)
-        × HasEmptyTables bare_tables (state S.Store conn.new)) }
-    ensures kept { HasCleanDisk (state S.Store conn.new) → OnErr result
-        (HasEmptyTables with_down (state S.Store conn.old) → KeepsCommit (state S.Store conn.old) (state S.Store conn.new)) }
-    ensures crash { HoldsBack (HasEmptyTables with_down) (state S.Store conn.old) (state S.Store conn.new) }
-    ensures doubt { doubt (state S.Store conn.old).is_clean ≤ doubt (state S.Store conn.new).is_clean }
+    ensures { Alters S.Store (HasEmptyTables with_down) (HasEmptyTables with_down)
+        (λ old new. HasEmptyTables bare_tables new) conn.old conn.new result }
 {
     conn.execute(CREATE_REPLIES, &[])?;
     conn.execute(CREATE_META, &[])?;
@@ -68,13 +59,8 @@ fn create_kept_tables<S: Alter>(conn: &mut Connection<S>) -> Result<(), Error>
 
 /// Makes the indexes by which jobs are found. The rows stay as they are, and inside a transaction nothing is committed.
 pub fn create_indexes<S: Alter>(conn: &mut Connection<S>) -> Result<(), Error>
-    ensures made { HasCleanDisk (state S.Store conn.new) → OnOk result
-        (HasTablesAlone (state S.Store conn.old) → GoesOn (state S.Store conn.old) (state S.Store conn.new)
-        × IsIndexed (state S.Store conn.old).now (state S.Store conn.new).now) }
-    ensures kept { HasCleanDisk (state S.Store conn.new) → OnErr result
-        (HasTablesAlone (state S.Store conn.old) → KeepsCommit (state S.Store conn.old) (state S.Store conn.new)) }
-    ensures crash { HoldsBack HasTablesAlone (state S.Store conn.old) (state S.Store conn.new) }
-    ensures doubt { doubt (state S.Store conn.old).is_clean ≤ doubt (state S.Store conn.new).is_clean }
+    ensures { Alters S.Store HasTablesAlone HasTablesAlone
+        (λ old new. IsIndexed old.now new.now) conn.old conn.new result }
 {
     conn.execute(CREATE_KILLTIME_INDEX, &[])?;
     conn.execute(CREATE_CHOICE_INDEX, &[])?;
@@ -84,13 +70,8 @@ pub fn create_indexes<S: Alter>(conn: &mut Connection<S>) -> Result<(), Error>
 /// Makes the table of calls, with no rows. Those of the six tables stay as they are, and inside a transaction nothing is
 /// committed.
 pub fn create_calls<S: Alter>(conn: &mut Connection<S>) -> Result<(), Error>
-    ensures made { HasCleanDisk (state S.Store conn.new) → OnOk result
-        (HasCoreTables (state S.Store conn.old) → GoesOn (state S.Store conn.old) (state S.Store conn.new)
-        × HasNewCalls (state S.Store conn.old).now (state S.Store conn.new).now) }
-    ensures kept { HasCleanDisk (state S.Store conn.new) → OnErr result
-        (KeepsCommit (state S.Store conn.old) (state S.Store conn.new)) }
-    ensures crash { HoldsBack HasCoreTables (state S.Store conn.old) (state S.Store conn.new) }
-    ensures doubt { doubt (state S.Store conn.old).is_clean ≤ doubt (state S.Store conn.new).is_clean }
+    ensures { Alters S.Store HasCoreTables Always
+        (λ old new. HasNewCalls old.now new.now) conn.old conn.new result }
 {
     conn.execute(CREATE_CALLS, &[])?;
     Ok(())
@@ -99,13 +80,8 @@ pub fn create_calls<S: Alter>(conn: &mut Connection<S>) -> Result<(), Error>
 /// Takes the table of calls away, whatever its rows are. Those of the six tables stay as they are, and inside a
 /// transaction nothing is committed.
 pub fn drop_calls<S: Alter>(conn: &mut Connection<S>) -> Result<(), Error>
-    ensures made { HasCleanDisk (state S.Store conn.new) → OnOk result
-        (HasCallsBeside (state S.Store conn.old) → GoesOn (state S.Store conn.old) (state S.Store conn.new)
-        × LacksCalls (state S.Store conn.old).now (state S.Store conn.new).now) }
-    ensures kept { HasCleanDisk (state S.Store conn.new) → OnErr result
-        (KeepsCommit (state S.Store conn.old) (state S.Store conn.new)) }
-    ensures crash { HoldsBack HasCallsBeside (state S.Store conn.old) (state S.Store conn.new) }
-    ensures doubt { doubt (state S.Store conn.old).is_clean ≤ doubt (state S.Store conn.new).is_clean }
+    ensures { Alters S.Store HasCallsBeside Always
+        (λ old new. LacksCalls old.now new.now) conn.old conn.new result }
 {
     conn.execute(DROP_CALLS, &[])?;
     Ok(())
@@ -114,13 +90,8 @@ pub fn drop_calls<S: Alter>(conn: &mut Connection<S>) -> Result<(), Error>
 /// Takes the indexes by which jobs are found away, where they are the last. The rows stay as they are, and inside a
 /// transaction nothing is committed.
 pub fn drop_indexes<S: Alter>(conn: &mut Connection<S>) -> Result<(), Error>
-    ensures made { HasCleanDisk (state S.Store conn.new) → OnOk result
-        (HasIndexesLast (state S.Store conn.old) → GoesOn (state S.Store conn.old) (state S.Store conn.new)
-        × LosesIndexes (state S.Store conn.old).now (state S.Store conn.new).now) }
-    ensures kept { HasCleanDisk (state S.Store conn.new) → OnErr result
-        (HasIndexesLast (state S.Store conn.old) → KeepsCommit (state S.Store conn.old) (state S.Store conn.new)) }
-    ensures crash { HoldsBack HasIndexesLast (state S.Store conn.old) (state S.Store conn.new) }
-    ensures doubt { doubt (state S.Store conn.old).is_clean ≤ doubt (state S.Store conn.new).is_clean }
+    ensures { Alters S.Store HasIndexesLast HasIndexesLast
+        (λ old new. LosesIndexes old.now new.now) conn.old conn.new result }
 {
     conn.execute(DROP_CHOICE_INDEX, &[])?;
     conn.execute(DROP_KILLTIME_INDEX, &[])?;
@@ -129,13 +100,8 @@ pub fn drop_indexes<S: Alter>(conn: &mut Connection<S>) -> Result<(), Error>
 
 /// Puts in the row of the clock and next numbers, as an empty store has it.
 fn fill_meta<S: Alter>(conn: &mut Connection<S>) -> Result<(), Error>
-    ensures made { HasCleanDisk (state S.Store conn.new) → OnOk result
-        (HasEmptyTables our_tables (state S.Store conn.old) → GoesOn (state S.Store conn.old) (state S.Store conn.new)
-        × TablesMean (state S.Store conn.new).now empty_queue []) }
-    ensures kept { HasCleanDisk (state S.Store conn.new) → OnErr result
-        (KeepsCommit (state S.Store conn.old) (state S.Store conn.new)) }
-    ensures crash { HoldsBack (HasEmptyTables our_tables) (state S.Store conn.old) (state S.Store conn.new) }
-    ensures doubt { doubt (state S.Store conn.old).is_clean ≤ doubt (state S.Store conn.new).is_clean }
+    ensures { Alters S.Store (HasEmptyTables our_tables) Always
+        (λ old new. TablesMean new.now empty_queue []) conn.old conn.new result }
 {
     conn.execute(INSERT_META, &[])?;
     Ok(())

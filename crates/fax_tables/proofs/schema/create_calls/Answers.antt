@@ -1,4 +1,4 @@
-use Rattle.std.proofs.Common.{refl}
+use Rattle.std.proofs.Common.{rules, refl}
 use Rattle.sqlite.specs.Held.{state}
 use Rattle.sqlite.specs.Command.TheVariants.{CreateTable}
 use Rattle.fax_schema.specs.declared.statements.TheConstants.{CREATE_CALLS}
@@ -11,19 +11,19 @@ use Rattle.fax_tables.proofs.ResultLemmas.{on_err}
 use Rattle.fax_tables.proofs.StopLemmas.{step_holds_back}
 use Rattle.fax_tables.proofs.schema.create_calls.Goals as goal
 
-pub returns-in_err-execute-clause-kept : goal.returns-in_err-execute-clause-kept
-returns-in_err-execute-clause-kept g c clean =
-    on_err c.from_residual.result (refused_keeps (state g.S.Store c.args.conn.now) (state g.S.Store c.execute.new.self) CREATE_CALLS.now c.in_err-execute.field-0.0 (c.in_err-execute.ensures.runs clean))
+pub returns-in_err-execute : goal.returns-in_err-execute
+returns-in_err-execute g c = record {
+  made = search rules;
+  kept = λ clean. on_err c.from_residual.result (λ _. refused_keeps (state g.S.Store c.args.conn.now) (state g.S.Store c.execute.new.self) CREATE_CALLS.now c.in_err-execute.field-0.0 (c.in_err-execute.ensures.runs clean));
+  crash = step_holds_back (state g.S.Store c.args.conn.now) (state g.S.Store c.execute.new.self) HasCoreTables core_tables CREATE_CALLS.now CreateTable makes_calls.command (λ e. e) (λ was. (was.inside, was.schema_is)) c.execute.ensures.survives;
+  doubt = search rules;
+}
 
-pub returns-clause-made : goal.returns-clause-made
-returns-clause-made g c clean was =
-    let it = added (state g.S.Store c.args.conn.now) (state g.S.Store c.execute.new.self) core_tables our_tables CREATE_CALLS.now schema.calls c.in_ok-execute.field-0 makes_calls created_calls refl (c.in_ok-execute.ensures.runs clean) was.inside was.schema_is in
-    (it.0, record { schema_is = it.1; sound = it.2; rows = it.3; none = it.4 })
-
-pub returns-in_err-execute-clause-crash : goal.returns-in_err-execute-clause-crash
-returns-in_err-execute-clause-crash g c =
-    step_holds_back (state g.S.Store c.args.conn.now) (state g.S.Store c.execute.new.self) HasCoreTables core_tables CREATE_CALLS.now CreateTable makes_calls.command (λ e. e) (λ was. (was.inside, was.schema_is)) c.execute.ensures.survives
-
-pub returns-clause-crash : goal.returns-clause-crash
-returns-clause-crash g c =
-    step_holds_back (state g.S.Store c.args.conn.now) (state g.S.Store c.execute.new.self) HasCoreTables core_tables CREATE_CALLS.now CreateTable makes_calls.command (λ e. e) (λ was. (was.inside, was.schema_is)) c.execute.ensures.survives
+pub returns : goal.returns
+returns g c = record {
+  made = λ clean was. let it = added (state g.S.Store c.args.conn.now) (state g.S.Store c.execute.new.self) core_tables our_tables CREATE_CALLS.now schema.calls c.in_ok-execute.field-0 makes_calls created_calls refl (c.in_ok-execute.ensures.runs clean) was.inside was.schema_is in
+      (it.0, record { schema_is = it.1; sound = it.2; rows = it.3; none = it.4 });
+  kept = search rules;
+  crash = step_holds_back (state g.S.Store c.args.conn.now) (state g.S.Store c.execute.new.self) HasCoreTables core_tables CREATE_CALLS.now CreateTable makes_calls.command (λ e. e) (λ was. (was.inside, was.schema_is)) c.execute.ensures.survives;
+  doubt = search rules;
+}

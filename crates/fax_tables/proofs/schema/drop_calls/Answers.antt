@@ -1,4 +1,4 @@
-use Rattle.std.proofs.Common.{inl, inr, ℕ, [], Ok, refl, ap, ◌∙◌}
+use Rattle.std.proofs.Common.{rules, inl, inr, ℕ, [], Ok, refl, ap, ◌∙◌}
 use Rattle.sqlite.specs.Held.{state}
 use Rattle.sqlite.specs.Command.TheVariants.{DropTable}
 use Rattle.sqlite.specs.Listing.{understood}
@@ -14,10 +14,6 @@ use Rattle.fax_tables.proofs.ResultLemmas.{on_err}
 use Rattle.fax_tables.proofs.StopLemmas.{command_holds_back}
 use Rattle.fax_tables.proofs.schema.drop_calls.Goals as goal
 
-pub returns-in_err-execute-clause-kept : goal.returns-in_err-execute-clause-kept
-returns-in_err-execute-clause-kept g c clean =
-    on_err c.from_residual.result (refused_keeps (state g.S.Store c.args.conn.now) (state g.S.Store c.execute.new.self) DROP_CALLS.now c.in_err-execute.field-0.0 (c.in_err-execute.ensures.runs clean))
-
 -- each of the three that have them
 taken : (old new : State) (count : ℕ) → Executes DROP_CALLS.now [] old new (Ok count) → HasCallsBeside old → GoesOn old new × LacksCalls old.now new.now
 taken old new count h was = elim was.schema_is [
@@ -32,9 +28,6 @@ taken old new count h was = elim was.schema_is [
       (it.0, record { schema_is = inr (inr it.1); sound = it.2; rows = it.3 }))
 ]
 
-pub returns-clause-made : goal.returns-clause-made
-returns-clause-made g c clean was = taken (state g.S.Store c.args.conn.now) (state g.S.Store c.execute.new.self) c.in_ok-execute.field-0 (c.in_ok-execute.ensures.runs clean) was
-
 withheld : (old new : State) → Survives old new (CommitsBy DROP_CALLS.now [] old) → HoldsBack HasCallsBeside old new
 withheld old new = command_holds_back old new HasCallsBeside DROP_CALLS.now (DropTable 6) (λ e. e) (λ was. (
   was.inside,
@@ -45,8 +38,18 @@ withheld old new = command_holds_back old new HasCallsBeside DROP_CALLS.now (Dro
   ],
 ))
 
-pub returns-in_err-execute-clause-crash : goal.returns-in_err-execute-clause-crash
-returns-in_err-execute-clause-crash g c = withheld (state g.S.Store c.args.conn.now) (state g.S.Store c.execute.new.self) c.execute.ensures.survives
+pub returns-in_err-execute : goal.returns-in_err-execute
+returns-in_err-execute g c = record {
+  made = search rules;
+  kept = λ clean. on_err c.from_residual.result (λ _. refused_keeps (state g.S.Store c.args.conn.now) (state g.S.Store c.execute.new.self) DROP_CALLS.now c.in_err-execute.field-0.0 (c.in_err-execute.ensures.runs clean));
+  crash = withheld (state g.S.Store c.args.conn.now) (state g.S.Store c.execute.new.self) c.execute.ensures.survives;
+  doubt = search rules;
+}
 
-pub returns-clause-crash : goal.returns-clause-crash
-returns-clause-crash g c = withheld (state g.S.Store c.args.conn.now) (state g.S.Store c.execute.new.self) c.execute.ensures.survives
+pub returns : goal.returns
+returns g c = record {
+  made = λ clean was. taken (state g.S.Store c.args.conn.now) (state g.S.Store c.execute.new.self) c.in_ok-execute.field-0 (c.in_ok-execute.ensures.runs clean) was;
+  kept = search rules;
+  crash = withheld (state g.S.Store c.args.conn.now) (state g.S.Store c.execute.new.self) c.execute.ensures.survives;
+  doubt = search rules;
+}

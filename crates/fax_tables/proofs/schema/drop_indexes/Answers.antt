@@ -1,4 +1,4 @@
-use Rattle.std.proofs.Common.{◌≡◌, ◌⊎◌, inl, inr, ℕ, List, [], Ok, IsTrue, length, refl, sym, ap, ◌∙◌, arith}
+use Rattle.std.proofs.Common.{rules, ◌≡◌, ◌⊎◌, inl, inr, ℕ, List, [], Ok, IsTrue, length, refl, sym, ap, ◌∙◌, arith}
 use Rattle.sqlite.specs.Command.TheVariants.{DropIndex}
 use Rattle.sqlite.specs.Effect.{IsDatabase}
 use Rattle.sqlite.specs.Held.{state}
@@ -65,29 +65,6 @@ both_lost s0 s1 s2 n ran m1 = elim m1.schema_is [
       ))
 ]
 
-pub returns-in_err-execute-clause-kept : goal.returns-in_err-execute-clause-kept
-returns-in_err-execute-clause-kept g c clean =
-    on_err c.from_residual.result
-    (λ was. refused_keeps (state g.S.Store c.args.conn.now) (state g.S.Store c.execute.new.self) DROP_CHOICE_INDEX.now c.in_err-execute.field-0.0 (c.in_err-execute.ensures.runs clean))
-
-pub returns-in_err-execute-2-clause-kept : goal.returns-in_err-execute-2-clause-kept
-returns-in_err-execute-2-clause-kept g c clean =
-    let s0 = state g.S.Store c.args.conn.now in
-    let s1 = state g.S.Store c.execute.new.self in
-    let s2 = state g.S.Store c.execute-2.new.self in
-    let clean1 = clean_before s1 s2 c.execute-2.ensures.survives.clean clean in
-    on_err c.from_residual-in_err-execute-2.result
-    (λ was. commit_kept s0 s1 s2 (first_lost s0 s1 c.in_ok-execute.field-0 (c.in_ok-execute.ensures.runs clean1) was).on
-    (refused_keeps s1 s2 DROP_KILLTIME_INDEX.now c.in_err-execute-2.field-0.0 (c.in_err-execute-2.ensures.runs clean)))
-
-pub returns-clause-made : goal.returns-clause-made
-returns-clause-made g c clean was =
-    let s0 = state g.S.Store c.args.conn.now in
-    let s1 = state g.S.Store c.execute.new.self in
-    let s2 = state g.S.Store c.execute-2.new.self in
-    let clean1 = clean_before s1 s2 c.execute-2.ensures.survives.clean clean in
-    both_lost s0 s1 s2 c.in_ok-execute-2.field-0 (c.in_ok-execute-2.ensures.runs clean) (first_lost s0 s1 c.in_ok-execute.field-0 (c.in_ok-execute.ensures.runs clean1) was)
-
 -- ---- a stop
 
 -- inside a transaction, with the first index
@@ -113,13 +90,37 @@ both s0 s1 s2 n first next ran =
     holds_back_then s0 s1 s2 HasIndexesLast HasFirstIndex (clean_before s0 s1 first.clean) (first_withheld s0 s1 first)
     (λ clean was. let m1 = first_lost s0 s1 n (ran clean) was in (m1.on.mode, m1.schema_is)) (next_withheld s1 s2 next)
 
-pub returns-in_err-execute-clause-crash : goal.returns-in_err-execute-clause-crash
-returns-in_err-execute-clause-crash g c = first_withheld (state g.S.Store c.args.conn.now) (state g.S.Store c.execute.new.self) c.execute.ensures.survives
+pub returns-in_err-execute : goal.returns-in_err-execute
+returns-in_err-execute g c = record {
+  made = search rules;
+  kept = λ clean. on_err c.from_residual.result
+      (λ was. refused_keeps (state g.S.Store c.args.conn.now) (state g.S.Store c.execute.new.self) DROP_CHOICE_INDEX.now c.in_err-execute.field-0.0 (c.in_err-execute.ensures.runs clean));
+  crash = first_withheld (state g.S.Store c.args.conn.now) (state g.S.Store c.execute.new.self) c.execute.ensures.survives;
+  doubt = search rules;
+}
 
-pub returns-in_err-execute-2-clause-crash : goal.returns-in_err-execute-2-clause-crash
-returns-in_err-execute-2-clause-crash g c =
-    both (state g.S.Store c.args.conn.now) (state g.S.Store c.execute.new.self) (state g.S.Store c.execute-2.new.self) c.in_ok-execute.field-0 c.execute.ensures.survives c.execute-2.ensures.survives c.in_ok-execute.ensures.runs
+pub returns-in_err-execute-2 : goal.returns-in_err-execute-2
+returns-in_err-execute-2 g c = record {
+  made = search rules;
+  kept = λ clean. let s0 = state g.S.Store c.args.conn.now in
+      let s1 = state g.S.Store c.execute.new.self in
+      let s2 = state g.S.Store c.execute-2.new.self in
+      let clean1 = clean_before s1 s2 c.execute-2.ensures.survives.clean clean in
+      on_err c.from_residual-in_err-execute-2.result
+      (λ was. commit_kept s0 s1 s2 (first_lost s0 s1 c.in_ok-execute.field-0 (c.in_ok-execute.ensures.runs clean1) was).on
+      (refused_keeps s1 s2 DROP_KILLTIME_INDEX.now c.in_err-execute-2.field-0.0 (c.in_err-execute-2.ensures.runs clean)));
+  crash = both (state g.S.Store c.args.conn.now) (state g.S.Store c.execute.new.self) (state g.S.Store c.execute-2.new.self) c.in_ok-execute.field-0 c.execute.ensures.survives c.execute-2.ensures.survives c.in_ok-execute.ensures.runs;
+  doubt = search rules;
+}
 
-pub returns-clause-crash : goal.returns-clause-crash
-returns-clause-crash g c =
-    both (state g.S.Store c.args.conn.now) (state g.S.Store c.execute.new.self) (state g.S.Store c.execute-2.new.self) c.in_ok-execute.field-0 c.execute.ensures.survives c.execute-2.ensures.survives c.in_ok-execute.ensures.runs
+pub returns : goal.returns
+returns g c = record {
+  made = λ clean was. let s0 = state g.S.Store c.args.conn.now in
+      let s1 = state g.S.Store c.execute.new.self in
+      let s2 = state g.S.Store c.execute-2.new.self in
+      let clean1 = clean_before s1 s2 c.execute-2.ensures.survives.clean clean in
+      both_lost s0 s1 s2 c.in_ok-execute-2.field-0 (c.in_ok-execute-2.ensures.runs clean) (first_lost s0 s1 c.in_ok-execute.field-0 (c.in_ok-execute.ensures.runs clean1) was);
+  kept = search rules;
+  crash = both (state g.S.Store c.args.conn.now) (state g.S.Store c.execute.new.self) (state g.S.Store c.execute-2.new.self) c.in_ok-execute.field-0 c.execute.ensures.survives c.execute-2.ensures.survives c.in_ok-execute.ensures.runs;
+  doubt = search rules;
+}

@@ -4,28 +4,45 @@ use Rattle.fax_core.specs.Clock.{decided_at}
 use Rattle.fax_core.specs.Machine.{step}
 use Rattle.fax_decide.specs.Decision.{Decides}
 use Rattle.fax_decide.specs.Settings.{settings_of}
-use Rattle.fax_once.proofs.VerdictLemmas.{lawful_ask}
+use Rattle.fax_once.proofs.VerdictLemmas.{accepted_leaves, lawful_ask, refused_leaves}
 use Rattle.fax_decide.proofs.WorkLemmas.{refused_with}
 use Rattle.fax_store.proofs.StoreLemmas.{means_stay}
 use Rattle.sqlite.specs.Held.{state}
+use Rattle.fax_store.specs.Store.{Serves}
 use Rattle.fax_tables.proofs.StopLemmas.{nothing_then}
-use Rattle.fax_once.proofs.StopLemmas.{then_stops}
+use Rattle.fax_once.proofs.StopLemmas.{taken_stops, then_stops}
 use Rattle.fax_store.proofs.FrameLemmas.{means_now}
 use Rattle.fax_once.proofs.queue.Queue.step_once.Goals as goal
 
-pub returns-clause-stepped : goal.returns-clause-stepped
-returns-clause-stepped g c m k sound means opens clean from lawful unused =
+pub returns-in-Taken-clause-stepped : goal.returns-in-Taken-clause-stepped
+returns-in-Taken-clause-stepped g c m k sound means opens clean from lawful unused =
     let settings = settings_of c.args.self.now.office.setup c.args.self.now.office.controls in
+    let t = c.moment_at-t.result in
     let read = means_stay c.meta.ensures.leaves.served c.meta.ensures.leaves.stays m k means in
-    c.settle.ensures.settled settings m k c.args.ask sound (means_stay c.decide.ensures.leaves.served c.decide.ensures.leaves.stays m k read)
-    (λ decided. c.in_ok-decision.ensures.opens decided (c.in_ok-meta.ensures.leaves.opens (c.decide.ensures.leaves.clean decided))) clean from (lawful_ask c.args.ask lawful)
-    (λ at.
-    let meta = c.in_ok-meta.ensures.answers m k (means_now means) (c.decide.ensures.leaves.served at) in
-    record {
-      unused = unused (c.meta.ensures.leaves.served (c.decide.ensures.leaves.served at));
-      now = c.moment_at-t.ensures ∙ ap (λ meta. decided_at meta.clock c.args.arrival.now.moment) meta;
-      decides = subst (λ r. IfOk r (Decides (step settings m c.moment_at-t.result c.args.ask) m c.moment_at-t.result)) c.in_ok-decision.was (c.decide.ensures.decided m k sound read at meta);
-    })
+    let looked = means_stay c.decide.ensures.leaves.served c.decide.ensures.leaves.stays m k read in
+    let between = state g.S.Store c.decide.new.store.conn in
+    let meta = λ (at : Serves between). c.in_ok-meta.ensures.answers m k (means_now means) (c.decide.ensures.leaves.served at) in
+    let fresh = λ (at : Serves between). unused (c.meta.ensures.leaves.served (c.decide.ensures.leaves.served at)) in
+    let now = λ (at : Serves between). c.moment_at-t.ensures ∙ ap (λ meta. decided_at meta.clock c.args.arrival.now.moment) (meta at) in
+    let decides = λ (at : Serves between). subst (Decides (step settings m t c.args.ask) m t) c.in-Taken.is
+    (subst (λ r. IfOk r (Decides (step settings m t c.args.ask) m t)) c.in_ok-decision.was (c.decide.ensures.decided m k sound read at (meta at))) in
+    accepted_leaves c.accept.result settings c.args.arrival.now m k c.args.sender.now t c.args.ask c.in-Taken.effect c.in-Taken.reply between (state g.S.Store c.accept.new.store.conn)
+    sound (lawful_ask c.args.ask lawful) from fresh now decides c.accept.ensures.served c.accept.ensures.opens (c.accept.ensures.accepted m k looked (λ at. (decides at).suits)) clean
+
+pub returns-in-Refused-clause-stepped : goal.returns-in-Refused-clause-stepped
+returns-in-Refused-clause-stepped g c m k sound means opens clean from lawful unused =
+    let settings = settings_of c.args.self.now.office.setup c.args.self.now.office.controls in
+    let t = c.moment_at-t.result in
+    let read = means_stay c.meta.ensures.leaves.served c.meta.ensures.leaves.stays m k means in
+    let looked = means_stay c.decide.ensures.leaves.served c.decide.ensures.leaves.stays m k read in
+    let between = state g.S.Store c.decide.new.store.conn in
+    let meta = λ (at : Serves between). c.in_ok-meta.ensures.answers m k (means_now means) (c.decide.ensures.leaves.served at) in
+    let fresh = λ (at : Serves between). unused (c.meta.ensures.leaves.served (c.decide.ensures.leaves.served at)) in
+    let now = λ (at : Serves between). c.moment_at-t.ensures ∙ ap (λ meta. decided_at meta.clock c.args.arrival.now.moment) (meta at) in
+    let decides = λ (at : Serves between). subst (Decides (step settings m t c.args.ask) m t) c.in-Refused.is
+    (subst (λ r. IfOk r (Decides (step settings m t c.args.ask) m t)) c.in_ok-decision.was (c.decide.ensures.decided m k sound read at (meta at))) in
+    let at = c.in_ok-decision.ensures.opens clean (c.in_ok-meta.ensures.leaves.opens (c.decide.ensures.leaves.clean clean)) in
+    refused_leaves settings c.args.arrival.now m k c.args.sender.now t c.args.ask c.in-Refused.reply between from (fresh at) (now at) (decides at) looked
 
 pub returns-in_err-meta-clause-stepped : goal.returns-in_err-meta-clause-stepped
 returns-in_err-meta-clause-stepped g c m k sound means opens clean from lawful unused =
@@ -43,29 +60,40 @@ returns-in_err-decision-clause-leaves g c = record {
   unchanged = λ refused db ours rests. c.decide.ensures.leaves.stays db ours (c.meta.ensures.leaves.stays db ours rests);
 }
 
-pub returns-clause-leaves : goal.returns-clause-leaves
-returns-clause-leaves g c = record {
+pub returns-in-Taken-clause-leaves : goal.returns-in-Taken-clause-leaves
+returns-in-Taken-clause-leaves g c = record {
   office = search rules;
   clean = search rules;
-  unchanged = λ refused db ours rests. c.settle.ensures.leaves.unchanged refused db ours (c.decide.ensures.leaves.stays db ours (c.meta.ensures.leaves.stays db ours rests));
+  unchanged = λ refused db ours rests. c.accept.ensures.unchanged refused db ours (c.decide.ensures.leaves.stays db ours (c.meta.ensures.leaves.stays db ours rests));
 }
 
-pub returns-clause-crash : goal.returns-clause-crash
-returns-clause-crash g c m k sound means from unused =
+pub returns-in-Refused-clause-leaves : goal.returns-in-Refused-clause-leaves
+returns-in-Refused-clause-leaves g c = record {
+  office = search rules;
+  clean = search rules;
+  unchanged = λ refused db ours rests. c.decide.ensures.leaves.stays db ours (c.meta.ensures.leaves.stays db ours rests);
+}
+
+pub returns-in-Taken-clause-crash : goal.returns-in-Taken-clause-crash
+returns-in-Taken-clause-crash g c m k sound means from unused =
     let settings = settings_of c.args.self.now.office.setup c.args.self.now.office.controls in
+    let t = c.moment_at-t.result in
     let read = means_stay c.meta.ensures.leaves.served c.meta.ensures.leaves.stays m k means in
-    let old = state g.S.Store c.args.self.now.store.conn in
+    let looked = means_stay c.decide.ensures.leaves.served c.decide.ensures.leaves.stays m k read in
     let between = state g.S.Store c.decide.new.store.conn in
-    then_stops old between (state g.S.Store c.settle.new.self.store.conn) _
-    (nothing_then old (state g.S.Store c.meta.new.self.conn) between c.meta.ensures.leaves.crash c.decide.ensures.leaves.crash)
-    (c.settle.ensures.crash settings m k c.args.ask (means_stay c.decide.ensures.leaves.served c.decide.ensures.leaves.stays m k read) from
-    (λ at.
-    let meta = c.in_ok-meta.ensures.answers m k (means_now means) (c.decide.ensures.leaves.served at) in
-    record {
-      unused = unused (c.meta.ensures.leaves.served (c.decide.ensures.leaves.served at));
-      now = c.moment_at-t.ensures ∙ ap (λ meta. decided_at meta.clock c.args.arrival.now.moment) meta;
-      decides = subst (λ r. IfOk r (Decides (step settings m c.moment_at-t.result c.args.ask) m c.moment_at-t.result)) c.in_ok-decision.was (c.decide.ensures.decided m k sound read at meta);
-    }))
+    let meta = λ (at : Serves between). c.in_ok-meta.ensures.answers m k (means_now means) (c.decide.ensures.leaves.served at) in
+    let fresh = λ (at : Serves between). unused (c.meta.ensures.leaves.served (c.decide.ensures.leaves.served at)) in
+    let now = λ (at : Serves between). c.moment_at-t.ensures ∙ ap (λ meta. decided_at meta.clock c.args.arrival.now.moment) (meta at) in
+    let decides = λ (at : Serves between). subst (Decides (step settings m t c.args.ask) m t) c.in-Taken.is
+    (subst (λ r. IfOk r (Decides (step settings m t c.args.ask) m t)) c.in_ok-decision.was (c.decide.ensures.decided m k sound read at (meta at))) in
+    let old = state g.S.Store c.args.self.now.store.conn in
+    let new = state g.S.Store c.accept.new.store.conn in
+    then_stops old between new _ (nothing_then old (state g.S.Store c.meta.new.self.conn) between c.meta.ensures.leaves.crash c.decide.ensures.leaves.crash)
+    (taken_stops settings c.args.arrival.now m k c.args.sender.now t c.args.ask c.in-Taken.effect c.in-Taken.reply between new from fresh now decides
+    (c.accept.ensures.crash m k looked (λ at. (decides at).suits)))
+
+pub returns-in-Refused-clause-crash : goal.returns-in-Refused-clause-crash
+returns-in-Refused-clause-crash g c m k sound means from unused found may = inl (c.meta.ensures.leaves.crash found (c.decide.ensures.leaves.crash found may))
 
 pub returns-in_err-meta-clause-crash : goal.returns-in_err-meta-clause-crash
 returns-in_err-meta-clause-crash g c m k sound means from unused found may = inl (c.meta.ensures.leaves.crash found may)

@@ -1,4 +1,4 @@
-use Rattle.std.proofs.Common.{◌<◌, ◌^◌, length, sym, subst}
+use Rattle.std.proofs.Common.{rules, ◌<◌, ◌^◌, length, sym, subst}
 use Rattle.sqlite.specs.Effect.{Database}
 use Rattle.sqlite.specs.Held.{state}
 use Rattle.fax_store.specs.Adopt.{AreCallable, AreOfJobs, held_to}
@@ -13,16 +13,19 @@ use Rattle.fax_store.proofs.store.Store.count_holds.Goals as goal
 pub show-requires : goal.show-requires
 show-requires g c = select_held.plain
 
-pub returns-clause-goes : goal.returns-clause-goes
-returns-clause-goes g c clean has =
-    let old = state g.S.Store c.args.self.now.conn in
-    let mid = state g.S.Store c.show.new.self.conn in
-    let new = state g.S.Store c.count_rows.new.self.conn in
-    let first = set_still old mid (λ _. 0) (no_calls old has) (c.in_ok-held.ensures.leaves.reads has.schema_is (c.count_rows.ensures.clean clean)) in
-    both_as c.count_rows.result
-    (λ set. let whole = set_then old mid new (λ _. 0) set.0 first set.1 in (whole.goes_on, whole_of old new set.0 whole))
-    (λ kept. commit_kept old mid new first.goes_on kept)
-    (c.count_rows.ensures.set (λ _. 0) (has_calls old mid (λ _. 0) first) none_small clean)
+pub returns-clause-leaves : goal.returns-clause-leaves
+returns-clause-leaves g c = record {
+  goes = λ clean has. let old = state g.S.Store c.args.self.now.conn in
+      let mid = state g.S.Store c.show.new.self.conn in
+      let new = state g.S.Store c.count_rows.new.self.conn in
+      let first = set_still old mid (λ _. 0) (no_calls old has) (c.in_ok-held.ensures.leaves.reads has.schema_is (c.count_rows.ensures.clean clean)) in
+      both_as c.count_rows.result
+      (λ set. let whole = set_then old mid new (λ _. 0) set.0 first set.1 in (whole.goes_on, whole_of old new set.0 whole))
+      (λ kept. commit_kept old mid new first.goes_on kept)
+      (c.count_rows.ensures.set (λ _. 0) (has_calls old mid (λ _. 0) first) none_small clean);
+  crash = search rules;
+  clean = search rules;
+}
 
 pub returns-clause-counted : goal.returns-clause-counted
 returns-clause-counted g c m k has clean mean =

@@ -28,16 +28,16 @@ returns-in_err-renew-clause-kept g c clean =
     let s0 = state g.S.Store c.args.self.now.conn in
     let s1 = state g.S.Store c.execute.new.self in
     let s2 = state g.S.Store c.renew.new.self.conn in
-    let began = c.in_ok-execute.ensures.runs (c.renew.ensures.clean clean) in
-    on_err c.from_residual-in_err-renew.result (renewing_kept s0 s1 c.requires c.in_ok-execute.field-0 began s2 (c.in_err-renew.ensures.goes clean))
+    let began = c.in_ok-execute.ensures.runs (c.renew.ensures.leaves.clean clean) in
+    on_err c.from_residual-in_err-renew.result (renewing_kept s0 s1 c.requires c.in_ok-execute.field-0 began s2 (c.in_err-renew.ensures.leaves.goes clean))
 
 pub returns-in_err-renew-clause-served : goal.returns-in_err-renew-clause-served
 returns-in_err-renew-clause-served g c s =
     let s0 = state g.S.Store c.args.self.now.conn in
     let s1 = state g.S.Store c.execute.new.self in
     let s2 = state g.S.Store c.renew.new.self.conn in
-    let clean1 = c.renew.ensures.clean s.clean in
-    let kept = renewing_kept s0 s1 c.requires c.in_ok-execute.field-0 (c.in_ok-execute.ensures.runs clean1) s2 (c.in_err-renew.ensures.goes s.clean) in
+    let clean1 = c.renew.ensures.leaves.clean s.clean in
+    let kept = renewing_kept s0 s1 c.requires c.in_ok-execute.field-0 (c.in_ok-execute.ensures.runs clean1) s2 (c.in_err-renew.ensures.leaves.goes s.clean) in
     record { clean = cleaner s0 s1 c.execute.ensures.survives.clean clean1; is_open = kept.was_open s.is_open }
 
 pub returns-in_err-renew-clause-crash : goal.returns-in_err-renew-clause-crash
@@ -45,7 +45,7 @@ returns-in_err-renew-clause-crash g c =
     let s0 = state g.S.Store c.args.self.now.conn in
     let s1 = state g.S.Store c.execute.new.self in
     let s2 = state g.S.Store c.renew.new.self.conn in
-    makes_none s0 s2 _ (renewing_holds_back s0 s1 c.requires c.in_ok-execute.field-0 c.execute.ensures.survives c.in_ok-execute.ensures.runs s2 c.renew.ensures.crash)
+    makes_none s0 s2 _ (renewing_holds_back s0 s1 c.requires c.in_ok-execute.field-0 c.execute.ensures.survives c.in_ok-execute.ensures.runs s2 c.renew.ensures.leaves.crash)
 
 pub returns-in_err-fill-clause-kept : goal.returns-in_err-fill-clause-kept
 returns-in_err-fill-clause-kept g c clean =
@@ -53,11 +53,11 @@ returns-in_err-fill-clause-kept g c clean =
     let s1 = state g.S.Store c.execute.new.self in
     let s2 = state g.S.Store c.renew.new.self.conn in
     let s3 = state g.S.Store c.fill.new.self.conn in
-    let clean2 = c.fill.ensures.clean clean in
-    let began = c.in_ok-execute.ensures.runs (c.renew.ensures.clean clean2) in
-    let made = c.in_ok-renew.ensures.goes clean2 in
+    let clean2 = c.fill.ensures.leaves.clean clean in
+    let began = c.in_ok-execute.ensures.runs (c.renew.ensures.leaves.clean clean2) in
+    let made = c.in_ok-renew.ensures.leaves.goes clean2 in
     on_err c.from_residual-in_err-fill.result
-    (filling_kept s0 s1 c.requires c.in_ok-execute.field-0 began s2 made s3 (c.in_err-fill.ensures.goes clean (has_none s0 s1 c.requires c.in_ok-execute.field-0 began s2 made)))
+    (filling_kept s0 s1 c.requires c.in_ok-execute.field-0 began s2 made s3 (c.in_err-fill.ensures.leaves.goes clean (has_none s0 s1 c.requires c.in_ok-execute.field-0 began s2 made)))
 
 pub returns-in_err-fill-clause-served : goal.returns-in_err-fill-clause-served
 returns-in_err-fill-clause-served g c s =
@@ -65,11 +65,11 @@ returns-in_err-fill-clause-served g c s =
     let s1 = state g.S.Store c.execute.new.self in
     let s2 = state g.S.Store c.renew.new.self.conn in
     let s3 = state g.S.Store c.fill.new.self.conn in
-    let clean2 = c.fill.ensures.clean s.clean in
-    let clean1 = c.renew.ensures.clean clean2 in
+    let clean2 = c.fill.ensures.leaves.clean s.clean in
+    let clean1 = c.renew.ensures.leaves.clean clean2 in
     let began = c.in_ok-execute.ensures.runs clean1 in
-    let made = c.in_ok-renew.ensures.goes clean2 in
-    let kept = filling_kept s0 s1 c.requires c.in_ok-execute.field-0 began s2 made s3 (c.in_err-fill.ensures.goes s.clean (has_none s0 s1 c.requires c.in_ok-execute.field-0 began s2 made)) in
+    let made = c.in_ok-renew.ensures.leaves.goes clean2 in
+    let kept = filling_kept s0 s1 c.requires c.in_ok-execute.field-0 began s2 made s3 (c.in_err-fill.ensures.leaves.goes s.clean (has_none s0 s1 c.requires c.in_ok-execute.field-0 began s2 made)) in
     record { clean = cleaner s0 s1 c.execute.ensures.survives.clean clean1; is_open = kept.was_open s.is_open }
 
 pub returns-in_err-fill-clause-nothing : goal.returns-in_err-fill-clause-nothing
@@ -77,7 +77,7 @@ returns-in_err-fill-clause-nothing g c is =
     let s0 = state g.S.Store c.args.self.now.conn in
     let s1 = state g.S.Store c.execute.new.self in
     let s2 = state g.S.Store c.renew.new.self.conn in
-    filling_holds_back s0 s1 c.requires c.in_ok-execute.field-0 c.execute.ensures.survives c.in_ok-execute.ensures.runs s2 c.renew.ensures.crash c.renew.ensures.clean c.in_ok-renew.ensures.goes (state g.S.Store c.fill.new.self.conn) c.fill.ensures.crash
+    filling_holds_back s0 s1 c.requires c.in_ok-execute.field-0 c.execute.ensures.survives c.in_ok-execute.ensures.runs s2 c.renew.ensures.leaves.crash c.renew.ensures.leaves.clean c.in_ok-renew.ensures.leaves.goes (state g.S.Store c.fill.new.self.conn) c.fill.ensures.leaves.crash
 
 pub returns-in_err-fill-clause-crash : goal.returns-in_err-fill-clause-crash
 returns-in_err-fill-clause-crash g c =
@@ -86,16 +86,16 @@ returns-in_err-fill-clause-crash g c =
     let s2 = state g.S.Store c.renew.new.self.conn in
     let s3 = state g.S.Store c.fill.new.self.conn in
     makes_none s0 s3 _
-    (filling_holds_back s0 s1 c.requires c.in_ok-execute.field-0 c.execute.ensures.survives c.in_ok-execute.ensures.runs s2 c.renew.ensures.crash c.renew.ensures.clean c.in_ok-renew.ensures.goes s3 c.fill.ensures.crash)
+    (filling_holds_back s0 s1 c.requires c.in_ok-execute.field-0 c.execute.ensures.survives c.in_ok-execute.ensures.runs s2 c.renew.ensures.leaves.crash c.renew.ensures.leaves.clean c.in_ok-renew.ensures.leaves.goes s3 c.fill.ensures.leaves.crash)
 
 pub returns-in_err-fill-clause-strange : goal.returns-in_err-fill-clause-strange
 returns-in_err-fill-clause-strange g c clean is ours =
     let s0 = state g.S.Store c.args.self.now.conn in
     let s1 = state g.S.Store c.execute.new.self in
     let s2 = state g.S.Store c.renew.new.self.conn in
-    let clean2 = c.fill.ensures.clean clean in
-    let began = c.in_ok-execute.ensures.runs (c.renew.ensures.clean clean2) in
-    let made = c.in_ok-renew.ensures.goes clean2 in
+    let clean2 = c.fill.ensures.leaves.clean clean in
+    let began = c.in_ok-execute.ensures.runs (c.renew.ensures.leaves.clean clean2) in
+    let made = c.in_ok-renew.ensures.leaves.goes clean2 in
     c.in_err-fill.ensures.strange clean (told_strange c.from_residual-in_err-fill.result c.in_err-fill.field-0.0 c.from_residual-in_err-fill.ensures.1 is) (has_none s0 s1 c.requires c.in_ok-execute.field-0 began s2 made)
     (still_version s0 s1 c.requires c.in_ok-execute.field-0 began s2 made ours.version) (still_callable s0 s1 c.requires c.in_ok-execute.field-0 began s2 made ours.held)
 
@@ -107,10 +107,10 @@ returns-in_err-execute-2-clause-kept g c clean =
     let s3 = state g.S.Store c.fill.new.self.conn in
     let s4 = state g.S.Store c.execute-2.new.self in
     let clean3 = cleaner s3 s4 c.execute-2.ensures.survives.clean clean in
-    let clean2 = c.fill.ensures.clean clean3 in
-    let began = c.in_ok-execute.ensures.runs (c.renew.ensures.clean clean2) in
-    let made = c.in_ok-renew.ensures.goes clean2 in
-    let filled = c.in_ok-fill.ensures.goes clean3 (has_none s0 s1 c.requires c.in_ok-execute.field-0 began s2 made) in
+    let clean2 = c.fill.ensures.leaves.clean clean3 in
+    let began = c.in_ok-execute.ensures.runs (c.renew.ensures.leaves.clean clean2) in
+    let made = c.in_ok-renew.ensures.leaves.goes clean2 in
+    let filled = c.in_ok-fill.ensures.leaves.goes clean3 (has_none s0 s1 c.requires c.in_ok-execute.field-0 began s2 made) in
     on_err c.from_residual-in_err-execute-2.result (not_taken s0 s1 c.requires c.in_ok-execute.field-0 began s2 made s3 filled s4 c.in_err-execute-2.field-0.0 (c.in_err-execute-2.ensures.runs clean))
 
 pub returns-in_err-execute-2-clause-served : goal.returns-in_err-execute-2-clause-served
@@ -121,11 +121,11 @@ returns-in_err-execute-2-clause-served g c s =
     let s3 = state g.S.Store c.fill.new.self.conn in
     let s4 = state g.S.Store c.execute-2.new.self in
     let clean3 = cleaner s3 s4 c.execute-2.ensures.survives.clean s.clean in
-    let clean2 = c.fill.ensures.clean clean3 in
-    let clean1 = c.renew.ensures.clean clean2 in
+    let clean2 = c.fill.ensures.leaves.clean clean3 in
+    let clean1 = c.renew.ensures.leaves.clean clean2 in
     let began = c.in_ok-execute.ensures.runs clean1 in
-    let made = c.in_ok-renew.ensures.goes clean2 in
-    let filled = c.in_ok-fill.ensures.goes clean3 (has_none s0 s1 c.requires c.in_ok-execute.field-0 began s2 made) in
+    let made = c.in_ok-renew.ensures.leaves.goes clean2 in
+    let filled = c.in_ok-fill.ensures.leaves.goes clean3 (has_none s0 s1 c.requires c.in_ok-execute.field-0 began s2 made) in
     let kept = not_taken s0 s1 c.requires c.in_ok-execute.field-0 began s2 made s3 filled s4 c.in_err-execute-2.field-0.0 (c.in_err-execute-2.ensures.runs s.clean) in
     record { clean = cleaner s0 s1 c.execute.ensures.survives.clean clean1; is_open = kept.was_open s.is_open }
 
@@ -134,8 +134,8 @@ returns-in_err-execute-2-clause-crash g c =
     let s0 = state g.S.Store c.args.self.now.conn in
     let s1 = state g.S.Store c.execute.new.self in
     let s2 = state g.S.Store c.renew.new.self.conn in
-    taking_stops s0 s1 c.requires c.in_ok-execute.field-0 c.execute.ensures.survives c.in_ok-execute.ensures.runs s2 c.renew.ensures.crash c.renew.ensures.clean c.in_ok-renew.ensures.goes (state g.S.Store c.fill.new.self.conn) c.fill.ensures.crash c.fill.ensures.clean
-    c.in_ok-fill.ensures.goes (state g.S.Store c.execute-2.new.self) c.execute-2.ensures.survives
+    taking_stops s0 s1 c.requires c.in_ok-execute.field-0 c.execute.ensures.survives c.in_ok-execute.ensures.runs s2 c.renew.ensures.leaves.crash c.renew.ensures.leaves.clean c.in_ok-renew.ensures.leaves.goes (state g.S.Store c.fill.new.self.conn) c.fill.ensures.leaves.crash c.fill.ensures.leaves.clean
+    c.in_ok-fill.ensures.leaves.goes (state g.S.Store c.execute-2.new.self) c.execute-2.ensures.survives
 
 pub returns-clause-made : goal.returns-clause-made
 returns-clause-made g c clean =
@@ -145,10 +145,10 @@ returns-clause-made g c clean =
     let s3 = state g.S.Store c.fill.new.self.conn in
     let s4 = state g.S.Store c.execute-2.new.self in
     let clean3 = cleaner s3 s4 c.execute-2.ensures.survives.clean clean in
-    let clean2 = c.fill.ensures.clean clean3 in
-    let began = c.in_ok-execute.ensures.runs (c.renew.ensures.clean clean2) in
-    let made = c.in_ok-renew.ensures.goes clean2 in
-    let filled = c.in_ok-fill.ensures.goes clean3 (has_none s0 s1 c.requires c.in_ok-execute.field-0 began s2 made) in (
+    let clean2 = c.fill.ensures.leaves.clean clean3 in
+    let began = c.in_ok-execute.ensures.runs (c.renew.ensures.leaves.clean clean2) in
+    let made = c.in_ok-renew.ensures.leaves.goes clean2 in
+    let filled = c.in_ok-fill.ensures.leaves.goes clean3 (has_none s0 s1 c.requires c.in_ok-execute.field-0 began s2 made) in (
       was_ours s0 s1 c.requires c.in_ok-execute.field-0 began s2 made s3 filled,
       has_whole s0 s1 c.requires c.in_ok-execute.field-0 began s2 made s3 filled s4 c.in_ok-execute-2.field-0 (c.in_ok-execute-2.ensures.runs clean),
     )
@@ -161,11 +161,11 @@ returns-clause-means g c m k clean mean =
     let s3 = state g.S.Store c.fill.new.self.conn in
     let s4 = state g.S.Store c.execute-2.new.self in
     let clean3 = cleaner s3 s4 c.execute-2.ensures.survives.clean clean in
-    let clean2 = c.fill.ensures.clean clean3 in
-    let began = c.in_ok-execute.ensures.runs (c.renew.ensures.clean clean2) in
-    let made = c.in_ok-renew.ensures.goes clean2 in
+    let clean2 = c.fill.ensures.leaves.clean clean3 in
+    let began = c.in_ok-execute.ensures.runs (c.renew.ensures.leaves.clean clean2) in
+    let made = c.in_ok-renew.ensures.leaves.goes clean2 in
     let none = has_none s0 s1 c.requires c.in_ok-execute.field-0 began s2 made in
-    let filled = c.in_ok-fill.ensures.goes clean3 none in
+    let filled = c.in_ok-fill.ensures.leaves.goes clean3 none in
     whole_means s0 s1 c.requires c.in_ok-execute.field-0 began s2 made s3 filled s4 c.in_ok-execute-2.field-0 (c.in_ok-execute-2.ensures.runs clean) m k
     (c.in_ok-fill.ensures.counted m k none clean3 (still_means s0 s1 c.requires c.in_ok-execute.field-0 began s2 made m k mean))
 
@@ -173,7 +173,7 @@ pub returns-clause-served : goal.returns-clause-served
 returns-clause-served g c s =
     let s0 = state g.S.Store c.args.self.now.conn in
     let s1 = state g.S.Store c.execute.new.self in
-    let clean1 = c.renew.ensures.clean (c.fill.ensures.clean (cleaner (state g.S.Store c.fill.new.self.conn) (state g.S.Store c.execute-2.new.self) c.execute-2.ensures.survives.clean s.clean)) in
+    let clean1 = c.renew.ensures.leaves.clean (c.fill.ensures.leaves.clean (cleaner (state g.S.Store c.fill.new.self.conn) (state g.S.Store c.execute-2.new.self) c.execute-2.ensures.survives.clean s.clean)) in
     record { clean = cleaner s0 s1 c.execute.ensures.survives.clean clean1; is_open = (starts s0 s1 c.in_ok-execute.field-0 (c.in_ok-execute.ensures.runs clean1)).was_open }
 
 pub returns-clause-opens : goal.returns-clause-opens
@@ -184,5 +184,5 @@ returns-clause-crash g c =
     let s0 = state g.S.Store c.args.self.now.conn in
     let s1 = state g.S.Store c.execute.new.self in
     let s2 = state g.S.Store c.renew.new.self.conn in
-    taking_stops s0 s1 c.requires c.in_ok-execute.field-0 c.execute.ensures.survives c.in_ok-execute.ensures.runs s2 c.renew.ensures.crash c.renew.ensures.clean c.in_ok-renew.ensures.goes (state g.S.Store c.fill.new.self.conn) c.fill.ensures.crash c.fill.ensures.clean
-    c.in_ok-fill.ensures.goes (state g.S.Store c.execute-2.new.self) c.execute-2.ensures.survives
+    taking_stops s0 s1 c.requires c.in_ok-execute.field-0 c.execute.ensures.survives c.in_ok-execute.ensures.runs s2 c.renew.ensures.leaves.crash c.renew.ensures.leaves.clean c.in_ok-renew.ensures.leaves.goes (state g.S.Store c.fill.new.self.conn) c.fill.ensures.leaves.crash c.fill.ensures.leaves.clean
+    c.in_ok-fill.ensures.leaves.goes (state g.S.Store c.execute-2.new.self) c.execute-2.ensures.survives

@@ -5,7 +5,7 @@ use Rattle.fax_store.specs.Store.{Means}
 use Rattle.fax_decide.specs.Effect.{accepted}
 use Rattle.fax_decide.proofs.WorkLemmas.{refused_with}
 use Rattle.fax_once.specs.Stop.{MayLeave}
-use Rattle.fax_once.proofs.queue.Queue.accept.Goals as goal
+use Rattle.fax_once.proofs.acceptance.accept.Goals as goal
 
 pub returns-in_err-commit_accepted-clause-accepted : goal.returns-in_err-commit_accepted-clause-accepted
 returns-in_err-commit_accepted-clause-accepted g c m k means suits =
@@ -24,12 +24,12 @@ returns-in_err-said-clause-crash g c m k means suits found may = inl may
 
 pub returns-in_err-commit_accepted-clause-crash : goal.returns-in_err-commit_accepted-clause-crash
 returns-in_err-commit_accepted-clause-crash g c m k means suits =
-    subst (λ said. MayLeave (state g.S.Store c.args.self.now.store.conn) (state g.S.Store c.commit_accepted.new.store.conn) (accepted c.args.t c.args.effect.now m)
+    subst (λ said. MayLeave (state g.S.Store c.args.store.now.conn) (state g.S.Store c.commit_accepted.new.store.conn) (accepted c.args.t c.args.effect.now m)
     (k ++ entry c.args.sender.now.client.now c.args.sender.now.number said c.args.reply.status c.args.reply.body ∷ []))
     (c.deref.ensures.value ∙ c.in_ok-said.ensures) (c.commit_accepted.ensures.crash m k means suits)
 
 pub returns-clause-crash : goal.returns-clause-crash
 returns-clause-crash g c m k means suits =
-    subst (λ said. MayLeave (state g.S.Store c.args.self.now.store.conn) (state g.S.Store c.commit_accepted.new.store.conn) (accepted c.args.t c.args.effect.now m)
+    subst (λ said. MayLeave (state g.S.Store c.args.store.now.conn) (state g.S.Store c.commit_accepted.new.store.conn) (accepted c.args.t c.args.effect.now m)
     (k ++ entry c.args.sender.now.client.now c.args.sender.now.number said c.args.reply.status c.args.reply.body ∷ []))
     (c.deref.ensures.value ∙ c.in_ok-said.ensures) (c.commit_accepted.ensures.crash m k means suits)

@@ -1,7 +1,7 @@
 use Rattle.std.proofs.Common.{subst}
 use Rattle.fax_ask.specs.Ask.{IsRefused}
 use Rattle.fax_once.proofs.RequestLemmas.{body_told, unrouted}
-use Rattle.fax_once.proofs.queue.refuse_ask.Goals as goal
+use Rattle.fax_once.proofs.refusing.refuse_ask.Goals as goal
 
 pub returns-in-BadBody-clause-verdict : goal.returns-in-BadBody-clause-verdict
 returns-in-BadBody-clause-verdict c s m k refused =

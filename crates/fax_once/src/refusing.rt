@@ -1,0 +1,49 @@
+//! Arrivals that ask for nothing, since their path names no request or their body is at fault.
+
+ghost use Rattle.std.specs.Prelude.{◌≡◌, List, IfOk, IsErr, MatchResult};
+ghost use Rattle.fax_ask.specs.Ask.{IsRefused};
+ghost use Rattle.fax_ask.specs.Response.{refused_response};
+ghost use Rattle.fax_core.specs.Queue.{Queue, Entry};
+ghost use Rattle.fax_core.specs.Reply.{NoKeys};
+ghost use Rattle.fax_core.specs.Settings.{Settings};
+ghost use Rattle.fax_once.specs.Arrival.{number_of};
+ghost use Rattle.fax_once.specs.Verdict.{IsVerdict, Told};
+
+use crate::arrival::Arrival;
+use crate::sender::Sender;
+use fax_ask::{Detail, Reply};
+use fax_decide::Unavailable;
+use fax_job::{BodyFault, Refusal};
+use std::alloc::Global;
+
+/// The reply to an arrival that asks for nothing: a path that names no request comes first, and then the client, the
+/// number and the body. There is none where memory ran out as the body was read.
+pub(crate) fn refuse_ask(
+    alloc: Global,
+    arrival: &Arrival<'_>,
+    refusal: Refusal,
+) -> Result<Reply, Unavailable>
+    ensures verdict { (s : Settings) (m : Queue) (k : List Entry)
+        → IsRefused arrival.now.method arrival.now.path.now arrival.now.body.now refusal
+        → IfOk result (λ reply. IsVerdict s arrival.now m k (Told reply)) }
+    ensures cause { IsRefused arrival.now.method arrival.now.path.now arrival.now.body.now refusal → IsErr result
+        → refusal ≡ Refusal.Unavailable }
+{
+    match refusal {
+        Refusal::NoRoute => Ok(Reply::refused(Refusal::NoRoute)),
+        Refusal::BadBody(fault) => Ok(refuse_body(alloc, arrival, fault)),
+        _ => Err(Unavailable),
+    }
+}
+
+/// The reply to a body at fault, with the kind of the fault and its line, unless the client or the number is at fault.
+/// It takes no memory.
+fn refuse_body(alloc: Global, arrival: &Arrival<'_>, fault: BodyFault) -> Reply
+    ensures { MatchResult (number_of arrival.now) (λ _. result ≡ refused_response (Refusal.BadBody fault) NoKeys)
+        (λ refusal. result ≡ refused_response refusal NoKeys) }
+{
+    match Sender::of(arrival) {
+        Ok(_) => Reply::refused_with(alloc, &Detail::Body(fault)).unwrap(),
+        Err(refusal) => Reply::refused(refusal),
+    }
+}
