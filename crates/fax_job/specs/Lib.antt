@@ -18,3 +18,4 @@ pub mod JobLines
 pub mod Refusal
 pub mod Order
 pub mod Alter
+pub mod Import

@@ -5,7 +5,7 @@ use Rattle.fax_job.specs.declared.order.Order.{Order}
 use Rattle.fax_job.specs.declared.order.OrderFault.{OrderFault}
 use Rattle.fax_job.specs.declared.text_fault.TextFault.{TextFault}
 use Rattle.fax_job.specs.declared.text_fault.TextFault.TheVariants as text
-use Rattle.fax_job.specs.declared.order.OrderFault.TheVariants.{NoNumber, BadDial, BadModem, BadJobtag, BadTts, BadKilltime, BadPriority, NoPages, BadPages, BadMaxtries, BadMaxdials, NotAlterable, NoMemory}
+use Rattle.fax_job.specs.declared.order.OrderFault.TheVariants.{NoNumber, BadDial, BadModem, BadJobtag, BadTts, BadKilltime, BadPriority, NoPages, BadPages, BadMaxtries, BadMaxdials, NotAlterable, BadNpages, BadNtries, BadTottries, BadNdials, BadTotdials, BadState, NoMemory}
 use Rattle.fax_job.specs.Dial.{is_canonical, without_separators}
 use Rattle.fax_job.specs.JobTag.{is_job_tag}
 use Rattle.fax_job.specs.Limits.{last_moment, most_attempts, most_pages}
@@ -27,6 +27,12 @@ is_no_memory BadPages = false
 is_no_memory BadMaxtries = false
 is_no_memory BadMaxdials = false
 is_no_memory NotAlterable = false
+is_no_memory BadNpages = false
+is_no_memory BadNtries = false
+is_no_memory BadTottries = false
+is_no_memory BadNdials = false
+is_no_memory BadTotdials = false
+is_no_memory BadState = false
 
 -- a bad text is this fault, and want of memory stays what it is
 abbrev pub fault_of : OrderFault → TextFault → OrderFault

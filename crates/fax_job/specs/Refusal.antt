@@ -32,6 +32,12 @@ order_word order.BadPages = codes "bad-pages"
 order_word order.BadMaxtries = codes "bad-maxtries"
 order_word order.BadMaxdials = codes "bad-maxdials"
 order_word order.NotAlterable = codes "not-alterable"
+order_word order.BadNpages = codes "bad-npages"
+order_word order.BadNtries = codes "bad-ntries"
+order_word order.BadTottries = codes "bad-tottries"
+order_word order.BadNdials = codes "bad-ndials"
+order_word order.BadTotdials = codes "bad-totdials"
+order_word order.BadState = codes "bad-state"
 order_word order.NoMemory = codes "no-memory"
 
 abbrev pub body_word : BodyFault → List ℕ

@@ -1,14 +1,15 @@
 //! Jobs of a fax queue, and the key lines that state them, in the tags of HylaFAX's sendq(5).
 //!
 //! [`Lines`] are a list of (tag, value), which `fax_lines` reads from a text. From these comes an [`Order`], what a
-//! submission asks for, or an [`Alter`], what changes a held job. A [`Job`] is a record whose numbers
-//! are within their limits, and it is written as key lines again.
+//! submission asks for, an [`Alter`], what changes a held job, or an [`Import`], what an older queue recorded
+//! of a job. A [`Job`] is a record whose numbers are within their limits, and it is written as key lines again.
 #![tactic(auto)]
 
 mod alter;
 mod blank;
 mod comma;
 mod dial;
+mod import;
 mod job;
 mod job_tag;
 pub mod limits;
@@ -31,6 +32,7 @@ pub use alter::Alter;
 pub use blank::{before_blanks, begins_with_blank, is_blank, is_of_blanks, without_blanks};
 pub use comma::{at_comma, trimmed};
 pub use dial::{Dial, DialFault};
+pub use import::Import;
 pub use job::{Call, Job, JobFields, Phase, Wish};
 pub use job_tag::JobTag;
 pub use line_text::Line;

@@ -103,11 +103,12 @@ impl<T: Drop> From<AllocFailed<T>> for LineFault {
 }
 
 impl Lines {
-    ghost use Rattle.std.specs.Prelude.{◌≡◌, ◌<◌, ◌++◌, ◌∷◌, ◌&&◌, ◌==◌, [], true, false, Some, length, find, slice_get, OnOk, OnErr};
+    ghost use Rattle.std.specs.Prelude.{◌≡◌, ◌<◌, ◌++◌, ◌∷◌, ◌&&◌, ◌==◌, [], true, false, Some, codes, length, find, slice_get, unwrap_or, OnOk, OnErr};
     ghost use Rattle.std.specs.Option.{option_copied};
     ghost use Rattle.std.specs.Str.{bytes_eq};
     ghost use Rattle.fax_job.specs.Pair.{pair, is_pair, ArePairs, has_tag, value_of};
     ghost use Rattle.fax_job.specs.Tag.{is_known};
+    ghost use Rattle.fax_job.specs.Value.{IsStatus};
 
     /// No lines.
     pub fn new(alloc: Global) -> Lines
@@ -178,6 +179,16 @@ impl Lines {
     {
         let line = self.find(tag)?;
         Some(line.value())
+    }
+
+    /// The status, which is the empty text where no line has it.
+    pub(crate) fn status(&self) -> &str
+        ensures text { result.now ≡ unwrap_or (value_of (codes "status") self.now) [] }
+        ensures formed { IsStatus result.now }
+    {
+        // What holds of every list is known where a field is used.
+        let _ = &self.text;
+        self.get("status").unwrap_or("")
     }
 
     /// The first line with that tag.

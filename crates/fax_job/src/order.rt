@@ -35,7 +35,7 @@ pub struct Order {
     pub extra: Lines,
 }
 
-/// What is wrong with the values of an order or of an alteration.
+/// What is wrong with the values of an order, of an alteration or of an import.
 #[derive(Clone, Copy, Debug, PartialEq, Eq, Error)]
 pub enum OrderFault {
     #[error("no number")]
@@ -62,6 +62,18 @@ pub enum OrderFault {
     BadMaxdials,
     #[error("a tag that can't be altered")]
     NotAlterable,
+    #[error("a bad number of pages sent")]
+    BadNpages,
+    #[error("a bad number of tries in a row")]
+    BadNtries,
+    #[error("a bad number of tries")]
+    BadTottries,
+    #[error("a bad number of dials in a row")]
+    BadNdials,
+    #[error("a bad number of dials")]
+    BadTotdials,
+    #[error("a bad state")]
+    BadState,
     #[error("out of memory")]
     NoMemory,
 }
@@ -87,6 +99,12 @@ impl OrderFault {
             OrderFault::BadMaxtries => "bad-maxtries",
             OrderFault::BadMaxdials => "bad-maxdials",
             OrderFault::NotAlterable => "not-alterable",
+            OrderFault::BadNpages => "bad-npages",
+            OrderFault::BadNtries => "bad-ntries",
+            OrderFault::BadTottries => "bad-tottries",
+            OrderFault::BadNdials => "bad-ndials",
+            OrderFault::BadTotdials => "bad-totdials",
+            OrderFault::BadState => "bad-state",
             OrderFault::NoMemory => "no-memory",
         }
     }
@@ -144,7 +162,7 @@ impl Lines {
     }
 
     /// The value of a tag; the empty text where it doesn't occur.
-    fn value(&self, tag: &str) -> &str
+    pub(crate) fn value(&self, tag: &str) -> &str
         ensures { result.now ≡ value_or_none self.now tag.now }
     {
         self.get(tag).unwrap_or("")

@@ -1,13 +1,13 @@
 //! Statuses of jobs.
 
-ghost use Rattle.std.specs.Prelude.{◌≡◌, []};
+ghost use Rattle.std.specs.Prelude.{◌≡◌, [], IfOk};
 ghost use Rattle.fax_job.specs.Gives.{Gives, Tells};
 ghost use Rattle.fax_job.specs.TextFault.{is_no_memory};
 ghost use Rattle.fax_job.specs.Value.{IsStatus};
 
 use crate::text_fault::TextFault;
 use crate::value::is_status;
-use std::alloc::Global;
+use std::alloc::{AllocError, Global};
 use std::marker::Model;
 
 /// What a job's status line says. The texts that the queue itself gives take no memory.
@@ -106,6 +106,14 @@ impl Status {
         if !is_status(text.as_bytes()) {
             return Err(TextFault::Bad);
         }
+        Ok(Status::given(alloc, text)?)
+    }
+
+    /// The status of a text that is one.
+    pub(crate) fn given(alloc: Global, text: &str) -> Result<Status, AllocError>
+        requires { IsStatus text.now }
+        ensures { IfOk result (λ status. status ≡ text.now) }
+    {
         let text = String::from_str(alloc, text)?;
         Ok(Status {
             text: StatusText::Given(text),

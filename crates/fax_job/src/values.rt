@@ -152,7 +152,7 @@ fn limit_of(value: &str, default: u16) -> Option<u16>
 
 /// The number that the value writes, where it is at most the greatest.
 #[tactic(auto, unfolding(crate::specs::Order::number_within))]
-fn number_within(value: &str, greatest: u64) -> Option<u64>
+pub(crate) fn number_within(value: &str, greatest: u64) -> Option<u64>
     ensures value { result ≡ number_within value.now greatest }
     ensures bound { IfSome result (λ number. number ≤ greatest) }
 {
