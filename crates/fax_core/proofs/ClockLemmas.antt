@@ -6,11 +6,12 @@ use Rattle.fax_job.specs.declared.refusal.Refusal.TheVariants as refusal
 use Rattle.fax_core.specs.declared.grants.Grant.{Grant}
 use Rattle.fax_core.specs.Ageing.{aged}
 use Rattle.fax_core.specs.declared.ask.Ask.{Ask}
-use Rattle.fax_core.specs.declared.ask.Ask.TheVariants.{Submission, Suspend, Resume, Kill, Alteration, Ready, Down, Next, CallReport, PageReport, OutcomeReport}
+use Rattle.fax_core.specs.declared.ask.Ask.TheVariants.{Submission, Bring, Suspend, Resume, Kill, Alteration, Ready, Down, Next, CallReport, PageReport, OutcomeReport}
 use Rattle.fax_core.specs.Best.{best}
 use Rattle.fax_core.specs.Decisions.{JobAndGrant, submit, suspend, resume, kill, alter, grant, call, page, outcome}
+use Rattle.fax_core.specs.Import.{bring}
 use Rattle.fax_core.specs.Job.{Job}
-use Rattle.fax_core.specs.Machine.{with_mark, is_down, held_by, submitted, changed, on_job, reported, on_both, on_grant, given, given_best, given_free, call_reply, page_reply, outcome_reply, act, step}
+use Rattle.fax_core.specs.Machine.{with_mark, is_down, held_by, submitted, brought_in, changed, on_job, reported, on_both, on_grant, given, given_best, given_free, call_reply, page_reply, outcome_reply, act, step}
 use Rattle.fax_core.specs.Queue.{Queue, job_numbered, grant_numbered}
 use Rattle.fax_core.specs.Reply.{Reply, Marked, NoKeys, Step, Taken, Refused}
 use Rattle.fax_core.specs.Run.{Request, left_by, decided, queue_after}
@@ -23,6 +24,10 @@ clock_left m x = (left_by m x).clock
 submitted_clock : (m : Queue) (rule : Rule) (d : Result Job Refusal) → clock_left m (submitted m rule d) ≡ m.clock
 submitted_clock m rule (Ok j) = refl
 submitted_clock m rule (Err e) = refl
+
+import_clock : (s : Settings) (m : Queue) (t : ℕ) (rule : Rule) (d : Result Job Refusal) → clock_left m (brought_in s m t rule d) ≡ m.clock
+import_clock s m t rule (Ok j) = refl
+import_clock s m t rule (Err e) = refl
 
 changed_clock : (s : Settings) (m : Queue) (t : ℕ) (d : Result Job Refusal) → clock_left m (changed s m t d) ≡ m.clock
 changed_clock s m t (Ok j) = refl
@@ -69,6 +74,7 @@ next_clock s m t modem false false = free_clock s m t modem (held_by modem m)
 
 act_clock : (s : Settings) (m : Queue) (t : ℕ) (ask : Ask) → clock_left m (act s m t ask) ≡ m.clock
 act_clock s m t (Submission o) = submitted_clock m (s.rule o.dial) (submit o (s.rule o.dial) m.next_job s.max_jobs t)
+act_clock s m t (Bring i) = import_clock s m t (s.rule i.order.dial) (bring i (s.rule i.order.dial) m.next_job s.max_jobs t)
 act_clock s m t (Suspend n) = on_job_clock s m t suspend (job_numbered n m)
 act_clock s m t (Resume n) = on_job_clock s m t resume (job_numbered n m)
 act_clock s m t (Kill n) = on_job_clock s m t kill (job_numbered n m)

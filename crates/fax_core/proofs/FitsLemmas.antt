@@ -1,5 +1,5 @@
 -- Records of code and jobs, and the test of what fits.
-use Rattle.std.proofs.Common.{◌≡◌, ℕ, zero, suc, ◌+◌, ◌-◌, ◌<◌, ◌≤◌, Bool, true, ◌&&◌, ◌||◌, eqb, leb, ltb, List, ◌∷◌, ◌++◌, length, refl, sym, ap, ◌∙◌, arith}
+use Rattle.std.proofs.Common.{◌≡◌, ℕ, ◌+◌, ◌-◌, ◌<◌, ◌≤◌, Bool, true, ◌&&◌, ◌||◌, eqb, leb, ltb, List, ◌++◌, length, refl, sym, ap, ◌∙◌, arith}
 use Rattle.std.specs.Prelude.{Option, Some, None, is_some, Decides}
 use Rattle.std.specs.List.{range_with_len}
 use Rattle.std.proofs.lemmas.Bool.{and_parts, and_from, leb-true, ltb-true, eqb-true, le-leb, lt-ltb, eq-eqb}
@@ -16,6 +16,7 @@ use Rattle.fax_core.specs.Fits.{is_counted, has_call_left, can_go_on, fits_phase
 use Rattle.fax_core.specs.Job.{Job, HasPages, job_of, fields_of}
 use Rattle.fax_core.specs.Sound.{IsCounted, HasCallLeft, CanGoOn, FitsPhase, FitsFree, FitsGrant, Fits}
 use Rattle.fax_core.proofs.PageLemmas.{tail_is, front_is}
+use Rattle.fax_core.proofs.RangeLemmas.{has_pages}
 
 -- ---- records and jobs
 
@@ -30,22 +31,6 @@ job_again j h =
     ap (λ (ps : List ℕ). record j { sent = ps; left = range_with_len (length j.sent + 1) (j.totpages - length j.sent) }) front ∙ ap (λ (ps : List ℕ). record j { left = ps }) rest
 
 -- ---- pages
-
-pub joined : (a n k : ℕ) → range_with_len a n ++ range_with_len (a + n) k ≡ range_with_len a (n + k)
-joined a zero k =
-    let start : a + 0 ≡ a = omega arith in
-    let len : 0 + k ≡ k = omega arith in
-    ap (λ (i : ℕ). range_with_len i k) start ∙ ap (λ (i : ℕ). range_with_len a i) (sym len)
-joined a (suc n) k =
-    let start : a + suc n ≡ (a + 1) + n = omega arith in
-    let len : suc n + k ≡ suc (n + k) = omega arith in
-    ap (λ (ps : List ℕ). a ∷ ps) (ap (λ (i : ℕ). range_with_len (a + 1) n ++ range_with_len i k) start ∙ joined (a + 1) n k) ∙ ap (λ (i : ℕ). range_with_len a i) (sym len)
-
-has_pages : (n all : ℕ) → n ≤ all → range_with_len 1 n ++ range_with_len (n + 1) (all - n) ≡ range_with_len 1 all
-has_pages n all h =
-    let start : n + 1 ≡ 1 + n = omega arith in
-    let len : n + (all - n) ≡ all = omega arith in
-    ap (λ (i : ℕ). range_with_len 1 n ++ range_with_len i (all - n)) start ∙ joined 1 n (all - n) ∙ ap (λ (i : ℕ). range_with_len 1 i) len
 
 within : (n all : ℕ) → range_with_len 1 n ++ range_with_len (n + 1) (all - n) ≡ range_with_len 1 all → n ≤ all
 within n all h =

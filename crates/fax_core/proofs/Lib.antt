@@ -8,10 +8,13 @@ pub mod RowsFields
 pub mod RowsListed
 pub mod PlaceLemmas
 pub mod KeepLemmas
+pub mod RangeLemmas
 pub mod DecisionLemmas
+pub mod ImportLemmas
 pub mod BestLemmas
 pub mod StepLemmas
 pub mod PageLemmas
+pub mod BroughtLemmas
 pub mod ClockLemmas
 pub mod FitsLemmas
 pub mod RefusalLemmas
@@ -20,3 +23,5 @@ pub mod ChangeLemmas
 pub mod RecordLemmas
 pub mod NewJobLemmas
 pub mod LawfulLemmas
+pub mod OldJobLemmas
+pub mod ReadImportLemmas

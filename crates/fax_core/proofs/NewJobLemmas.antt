@@ -108,7 +108,7 @@ fit (Ok d) (Ok m) (Ok j) (Ok t) (Ok k) (Ok p) (Ok g) (Err e) b extra hk hg ha hb
 fit (Ok d) (Ok m) (Ok j) (Ok t) (Ok k) (Ok p) (Ok g) (Ok a) (Err e) extra hk hg ha hb he = tt
 fit (Ok d) (Ok m) (Ok j) (Ok t) (Ok k) (Ok p) (Ok g) (Ok a) (Ok b) extra hk hg ha hb he = record { killtime = hk; totpages = hg; maxtries = ha; maxdials = hb; extra = he }
 
-read_fit : (ps : List Pair) → IfOk (order_of ps) IsFit
+pub read_fit : (ps : List Pair) → IfOk (order_of ps) IsFit
 unfolding order_of
 read_fit ps = fit (dial_in (value_or_none ps (codes "number"))) (modem_in (value_or_none ps (codes "modem"))) (jobtag_in (value_or_none ps (codes "jobtag"))) (tts_in (value_or_none ps (codes "tts"))) (killtime_in (value_or_none ps (codes "killtime"))) (priority_in (value_or_none ps (codes "priority"))) (totpages_in (value_or_none ps (codes "totpages"))) (maxtries_in (value_or_none ps (codes "maxtries"))) (maxdials_in (value_or_none ps (codes "maxdials"))) (extra_of ps)
     (killtime_is (value_or_none ps (codes "killtime"))) (totpages_is (value_or_none ps (codes "totpages"))) (maxtries_is (value_or_none ps (codes "maxtries"))) (maxdials_is (value_or_none ps (codes "maxdials"))) (unknown ps)

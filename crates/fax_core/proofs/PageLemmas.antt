@@ -10,11 +10,12 @@ use Rattle.fax_job.specs.declared.refusal.Refusal.TheVariants as refusal
 use Rattle.fax_core.specs.declared.grants.Grant.{Grant}
 use Rattle.fax_core.specs.Ageing.{aged, aged_job}
 use Rattle.fax_core.specs.declared.ask.Ask.{Ask}
-use Rattle.fax_core.specs.declared.ask.Ask.TheVariants.{Submission, Suspend, Resume, Kill, Alteration, Ready, Down, Next, CallReport, PageReport, OutcomeReport}
+use Rattle.fax_core.specs.declared.ask.Ask.TheVariants.{Submission, Bring, Suspend, Resume, Kill, Alteration, Ready, Down, Next, CallReport, PageReport, OutcomeReport}
 use Rattle.fax_core.specs.Decisions.{JobAndGrant, submit, suspend, resume, kill, alter, granted, call, page, outcome}
+use Rattle.fax_core.specs.Import.{bring}
 use Rattle.fax_core.specs.Job.{Job, HasPages, pages_to}
 use Rattle.fax_core.specs.Laws.{HasSent, ConfirmsPage, GivesJob}
-use Rattle.fax_core.specs.Machine.{with_job, with_both, with_new_job, with_new_grant, with_mark, dial_of, handed, submitted, changed, on_job, reported, on_both, on_grant, call_reply, page_reply, outcome_reply, act, step}
+use Rattle.fax_core.specs.Machine.{with_job, with_both, with_new_job, with_new_grant, with_mark, dial_of, handed, submitted, brought_in, changed, on_job, reported, on_both, on_grant, call_reply, page_reply, outcome_reply, act, step}
 use Rattle.fax_core.specs.Queue.{Queue, job_numbered, grant_numbered}
 use Rattle.fax_core.specs.Reply.{Reply, Marked, Handed, Given, NoKeys, Step, Taken, Refused}
 use Rattle.fax_core.specs.Run.{Request, left_by, decided, queue_after, AreLawful}
@@ -33,13 +34,13 @@ KeepsSent m n = (a : ℕ) (j : Job) → IsJob m a j → HasSent n a j.sent
 same_sent : (m n : Queue) → n.jobs ≡ m.jobs → KeepsSent m n
 same_sent m n e a j is = record { job = j; there = subst (λ (js : List Job). find (λ k. eqb k.number a) js ≡ Some j) (sym e) is; more = []; begins = sym (append-nil j.sent) }
 
-through : (l m n : Queue) → KeepsSent l m → KeepsSent m n → KeepsSent l n
+pub through : (l m n : Queue) → KeepsSent l m → KeepsSent m n → KeepsSent l n
 through l m n f g a j is =
     let x = f a j is in
     let y = g a x.job x.there in
     record { job = y.job; there = y.there; more = x.more ++ y.more; begins = y.begins ∙ ap (λ (ps : List ℕ). ps ++ y.more) x.begins ∙ append_assoc j.sent x.more y.more }
 
-aged_keeps : (t : ℕ) (m : Queue) → KeepsSent m (aged t m)
+pub aged_keeps : (t : ℕ) (m : Queue) → KeepsSent m (aged t m)
 aged_keeps t m a j is = record { job = aged_job t j; there = looked_up m (aged_job t) (aged_number t) a ∙ ap (option_map (aged_job t)) is; more = []; begins = aged_sent t j ∙ sym (append-nil j.sent) }
 
 -- a job in its place
@@ -102,6 +103,10 @@ submission_keeps : (m : Queue) (rule : Rule) (d : Result Job Refusal) (n : Queue
 submission_keeps m rule (Ok k) n r e = subst (KeepsSent m) (taken_same (with_new_job k m) n _ r e).0 (λ a j is. record { job = j; there = stays (λ (x : Job). eqb x.number a) m.jobs k j is; more = []; begins = sym (append-nil j.sent) })
 submission_keeps m rule (Err x) n r e = cc
 
+import_keeps : (s : Settings) (m : Queue) (t : ℕ) (rule : Rule) (d : Result Job Refusal) (n : Queue) (r : Reply) → brought_in s m t rule d ≡ Taken n r → KeepsSent m n
+import_keeps s m t rule (Ok k) n r e = subst (KeepsSent m) (taken_same (with_new_job k m) n _ r e).0 (λ a j is. record { job = j; there = stays (λ (x : Job). eqb x.number a) m.jobs k j is; more = []; begins = sym (append-nil j.sent) })
+import_keeps s m t rule (Err x) n r e = cc
+
 mark_jobs : (m : Queue) (modem : List ℕ) (down : Bool) → (with_mark modem down m).jobs ≡ m.jobs
 mark_jobs m modem true = refl
 mark_jobs m modem false = refl
@@ -112,6 +117,7 @@ mark_keeps m modem down false n r e = cc
 
 act_keeps : (s : Settings) (m n : Queue) (t : ℕ) (ask : Ask) (r : Reply) → Sound m → act s m t ask ≡ Taken n r → KeepsSent m n
 act_keeps s m n t (Submission o) r h e = submission_keeps m (s.rule o.dial) (submit o (s.rule o.dial) m.next_job s.max_jobs t) n r e
+act_keeps s m n t (Bring i) r h e = import_keeps s m t (s.rule i.order.dial) (bring i (s.rule i.order.dial) m.next_job s.max_jobs t) n r e
 act_keeps s m n t (Suspend a) r h e = on_job_keeps s m t a suspend (job_numbered a m) n r refl (λ j k. suspended_in j.phase j.wish j k refl) e
 act_keeps s m n t (Resume a) r h e = on_job_keeps s m t a resume (job_numbered a m) n r refl (λ j k. resumed_in j.phase j.wish j k refl) e
 act_keeps s m n t (Kill a) r h e = on_job_keeps s m t a kill (job_numbered a m) n r refl (λ j k. killed_in j.phase j k refl) e
@@ -247,7 +253,7 @@ page_counted m n a p c h =
     let long : length c.new.sent ≡ length c.old.sent + 1 = ap length c.sent_now ∙ length-append c.old.sent (p ∷ []) in
     omega arith
 
-sent_before : (m : Queue) (a : ℕ) (pages : List ℕ) (j : Job) → HasSent m a pages → IsJob m a j → length pages ≤ length j.sent
+pub sent_before : (m : Queue) (a : ℕ) (pages : List ℕ) (j : Job) → HasSent m a pages → IsJob m a j → length pages ≤ length j.sent
 sent_before m a pages j x is =
     let same : x.job.sent ≡ j.sent = ap (λ (k : Job). k.sent) (same_job m a x.job j x.there is) in
     let long : length x.job.sent ≡ length pages + length x.more = ap length x.begins ∙ length-append pages x.more in

@@ -2,6 +2,7 @@
 use Rattle.std.proofs.Common.{◌≡◌, ℕ, Bool, true, false, cond, not, ◌&&◌, ◌||◌, eqb, leb, List, [], ◌∷◌, refl, ap, subst}
 use Rattle.std.specs.Prelude.{Option, Some, None, Result, Ok, Err, is_some, is_none, nat_lt}
 use Rattle.fax_job.specs.declared.alter.Alter.{Alter}
+use Rattle.fax_job.specs.declared.import.Import.{Import}
 use Rattle.fax_job.specs.declared.job.Call.{Call}
 use Rattle.fax_job.specs.declared.job.Phase.{Phase}
 use Rattle.fax_job.specs.declared.job.Phase.TheVariants as phase
@@ -14,13 +15,14 @@ use Rattle.fax_job.specs.Refusal.{refusal_number}
 use Rattle.fax_core.specs.declared.grants.Grant.{Grant}
 use Rattle.fax_core.specs.Ageing.{aged}
 use Rattle.fax_core.specs.declared.ask.Ask.{Ask}
-use Rattle.fax_core.specs.declared.ask.Ask.TheVariants.{Submission, Suspend, Resume, Kill, Alteration, Ready, Down, Next, CallReport, PageReport, OutcomeReport}
+use Rattle.fax_core.specs.declared.ask.Ask.TheVariants.{Submission, Bring, Suspend, Resume, Kill, Alteration, Ready, Down, Next, CallReport, PageReport, OutcomeReport}
 use Rattle.fax_core.specs.declared.report.Outcome.{Outcome}
 use Rattle.fax_core.specs.Best.{best}
 use Rattle.fax_core.specs.Decisions.{JobAndGrant, is_over, new_job, submit, suspend_in, suspend, resume_in, resume, kill_in, kill, altered, alter_in, alter, granted, grant, after_call, call, is_connected, page_of, page, ended, is_done, is_empty, outcome}
+use Rattle.fax_core.specs.Import.{old_job, is_ended, brought, bring}
 use Rattle.fax_core.specs.Job.{Job}
 use Rattle.fax_core.specs.Laws.{TellsHeld}
-use Rattle.fax_core.specs.Machine.{with_mark, is_down, held_by, dial_of, handed, keys_of_rule, keys_of_job, submitted, changed, on_job, reported, without_job, on_both, on_grant, given, given_best, given_free, given_to, call_reply, page_reply, outcome_reply, act, step}
+use Rattle.fax_core.specs.Machine.{with_mark, is_down, held_by, dial_of, handed, keys_of_rule, keys_of_job, submitted, brought_in, changed, on_job, reported, without_job, on_both, on_grant, given, given_best, given_free, given_to, call_reply, page_reply, outcome_reply, act, step}
 use Rattle.fax_core.specs.Queue.{Queue, open_grants, job_numbered, grant_numbered}
 use Rattle.fax_core.specs.Refusals.{may_meet, goes_with}
 use Rattle.fax_core.specs.Reply.{Handed, Reply, Marked, Keys, NoKeys, HeldGrant, Step, Taken, Refused}
@@ -62,6 +64,10 @@ module _ (P : Refusal → Keys → Type 0) where
   submitted_refused : (m : Queue) (rule : Rule) (d : Result Job Refusal) (e : Refusal) (k : Keys) → ((x : Refusal) → d ≡ Err x → P x (keys_of_rule x rule)) → submitted m rule d ≡ Refused e k → P e k
   submitted_refused m rule (Ok j) e k f h = cc
   submitted_refused m rule (Err x) e k f h = refused_is P x e (keys_of_rule x rule) k h (f x refl)
+
+  import_refused : (s : Settings) (m : Queue) (t : ℕ) (rule : Rule) (d : Result Job Refusal) (e : Refusal) (k : Keys) → ((x : Refusal) → d ≡ Err x → P x (keys_of_rule x rule)) → brought_in s m t rule d ≡ Refused e k → P e k
+  import_refused s m t rule (Ok j) e k f h = cc
+  import_refused s m t rule (Err x) e k f h = refused_is P x e (keys_of_rule x rule) k h (f x refl)
 
   changed_refused : (s : Settings) (m : Queue) (t : ℕ) (d : Result Job Refusal) (e : Refusal) (k : Keys) → ((x : Refusal) → d ≡ Err x → P x NoKeys) → changed s m t d ≡ Refused e k → P e k
   changed_refused s m t (Ok j) e k f h = cc
@@ -133,6 +139,12 @@ module _ (P : Refusal → Type 0) where
       refused_or P (is_over o.totpages rule.pages) TooManyPages e _ h b (λ h.
       refused_or P (nat_lt max n) Full e (Ok (new_job o n t)) h c (λ x. cc x)))
 
+  pub bring_refused : P Rejected → P TooManyPages → P Full → (i : Import) (rule : Rule) (n max t : ℕ) (e : Refusal) → bring i rule n max t ≡ Err e → P e
+  bring_refused a b c i rule n max t e h =
+      refused_or P (not (is_ended i.state) && is_some rule.notice) Rejected e _ h a (λ h.
+      refused_or P (not (is_ended i.state) && is_over i.order.totpages rule.pages) TooManyPages e _ h b (λ h.
+      refused_or P (nat_lt max n) Full e (Ok (brought i.state (old_job i n t))) h c (λ x. cc x)))
+
   pub call_refused : P GrantClosed → P CallKnown → (c : Call) (j : Job) (g : Grant) (e : Refusal) → call c j g ≡ Err e → P e
   call_refused a b c j g e h =
       refused_or P (not g.is_open) GrantClosed e _ h a (λ h.
@@ -183,6 +195,10 @@ act_refused s m t (Submission o) e k h x =
     let P = λ (y : Refusal). IsOf (Submission o) y (keys_of_rule y (s.rule o.dial)) in
     submitted_refused (IsOf (Submission o)) m (s.rule o.dial) (submit o (s.rule o.dial) m.next_job s.max_jobs t) e k
     (submit_refused P (record { met = refl; keys = refl }) (record { met = refl; keys = refl }) (record { met = refl; keys = refl }) o (s.rule o.dial) m.next_job s.max_jobs t) x
+act_refused s m t (Bring i) e k h x =
+    let P = λ (y : Refusal). IsOf (Bring i) y (keys_of_rule y (s.rule i.order.dial)) in
+    import_refused (IsOf (Bring i)) s m t (s.rule i.order.dial) (bring i (s.rule i.order.dial) m.next_job s.max_jobs t) e k
+    (bring_refused P (record { met = refl; keys = refl }) (record { met = refl; keys = refl }) (record { met = refl; keys = refl }) i (s.rule i.order.dial) m.next_job s.max_jobs t) x
 act_refused s m t (Suspend n) e k h x =
     on_job_refused (IsOf (Suspend n)) s m t suspend (job_numbered n m) e k (record { met = refl; keys = refl })
     (λ j. suspend_refused (λ y. IsOf (Suspend n) y NoKeys) (record { met = refl; keys = refl }) (record { met = refl; keys = refl }) j.phase j.wish j) x

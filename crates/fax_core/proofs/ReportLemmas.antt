@@ -11,7 +11,7 @@ use Rattle.fax_core.specs.declared.grants.Grant.{Grant}
 use Rattle.fax_core.specs.Change.{changed, unchanged}
 use Rattle.fax_core.specs.Decisions.{JobAndGrant, granted, page_of, is_empty}
 use Rattle.fax_core.specs.Job.{job_of, pages_to}
-use Rattle.fax_core.proofs.FitsLemmas.{joined}
+use Rattle.fax_core.proofs.RangeLemmas.{joined}
 
 -- ---- pages that are left
 

@@ -10,11 +10,12 @@ use Rattle.fax_core.specs.declared.grants.Grant.{Grant}
 use Rattle.fax_core.specs.Ageing.{aged, aged_job}
 use Rattle.fax_core.specs.Ask.{IsLawfulAsk}
 use Rattle.fax_core.specs.declared.ask.Ask.{Ask}
-use Rattle.fax_core.specs.declared.ask.Ask.TheVariants.{Submission, Suspend, Resume, Kill, Alteration, Ready, Down, Next, CallReport, PageReport, OutcomeReport}
+use Rattle.fax_core.specs.declared.ask.Ask.TheVariants.{Submission, Bring, Suspend, Resume, Kill, Alteration, Ready, Down, Next, CallReport, PageReport, OutcomeReport}
 use Rattle.fax_core.specs.Best.{best, MayGo, IsBest}
 use Rattle.fax_core.specs.Decisions.{JobAndGrant, submit, suspend, resume, kill, alter, grant, granted, call, page, outcome}
+use Rattle.fax_core.specs.Import.{bring}
 use Rattle.fax_core.specs.Job.{Job}
-use Rattle.fax_core.specs.Machine.{with_job, with_both, with_new_job, with_new_grant, with_mark, is_down, held_by, handed, submitted, changed, on_job, reported, on_both, on_grant, given, given_best, given_free, given_to, call_reply, page_reply, outcome_reply, act, step}
+use Rattle.fax_core.specs.Machine.{with_job, with_both, with_new_job, with_new_grant, with_mark, is_down, held_by, handed, submitted, brought_in, changed, on_job, reported, on_both, on_grant, given, given_best, given_free, given_to, call_reply, page_reply, outcome_reply, act, step}
 use Rattle.fax_core.specs.Queue.{Queue, open_grants, job_numbered, grant_numbered}
 use Rattle.fax_core.specs.Reply.{Reply, Handed, Marked, NoneToSend, Given, Keys, NoKeys, Step, Taken, Refused}
 use Rattle.fax_core.specs.Run.{Request, left_by, decided, queue_after, AreLawful}
@@ -23,6 +24,7 @@ use Rattle.fax_core.specs.Sound.{FitsFree, FitsGrant, IsJob, IsOpen, Sound}
 use Rattle.fax_core.proofs.BestLemmas.{best_is, none_goes, ready_waits}
 use Rattle.fax_core.proofs.DecisionLemmas as decision
 use Rattle.fax_core.proofs.DecisionLemmas.{Keeps, IsReport, aged_number, aged_free, aged_held, suspended_in, resumed_in, killed_in, altered_in, called, paged, outcome_is, granted_fits, not_refused, ok_same}
+use Rattle.fax_core.proofs.ImportLemmas.{bring_counts, bring_fits}
 use Rattle.fax_core.proofs.KeepLemmas.{same_job, numbered_job, keeps_mapped, keeps_job, keeps_both, keeps_new_job, Grants, keeps_new_grant}
 use Rattle.fax_core.proofs.PlaceLemmas.{In, found_in, none_passes, in_filter}
 
@@ -43,6 +45,10 @@ aged_sound t m h = keeps_mapped m (aged_job t) t (aged_number t) (λ n j is. age
 submission_sound : (m : Queue) (rule : Rule) (d : Result Job Refusal) (n : Queue) (r : Reply) → ((j : Job) → d ≡ Ok j → (j.number ≡ m.next_job) × FitsFree j) → Sound m → submitted m rule d ≡ Taken n r → Sound n
 submission_sound m rule (Ok j) n r of h e = let f = of j refl in subst Sound (taken_same (with_new_job j m) n _ r e).0 (keeps_new_job m j f.0 f.1 h)
 submission_sound m rule (Err x) n r of h e = cc
+
+import_sound : (s : Settings) (m : Queue) (t : ℕ) (rule : Rule) (d : Result Job Refusal) (n : Queue) (r : Reply) → ((j : Job) → d ≡ Ok j → (j.number ≡ m.next_job) × FitsFree j) → Sound m → brought_in s m t rule d ≡ Taken n r → Sound n
+import_sound s m t rule (Ok j) n r of h e = let f = of j refl in subst Sound (taken_same (with_new_job j m) n _ r e).0 (keeps_new_job m j f.0 f.1 h)
+import_sound s m t rule (Err x) n r of h e = cc
 
 -- ---- requests on a job
 
@@ -151,6 +157,7 @@ given_sound s m t modem n r h (Best_to j b none same told) = subst Sound same (k
 
 act_sound : (s : Settings) (m n : Queue) (t : ℕ) (ask : Ask) (r : Reply) → Sound m → IsLawfulAsk ask → act s m t ask ≡ Taken n r → Sound n
 act_sound s m n t (Submission o) r h lawful e = submission_sound m (s.rule o.dial) (submit o (s.rule o.dial) m.next_job s.max_jobs t) n r (λ j. decision.submitted o (s.rule o.dial) m.next_job s.max_jobs t j lawful) h e
+act_sound s m n t (Bring i) r h lawful e = import_sound s m t (s.rule i.order.dial) (bring i (s.rule i.order.dial) m.next_job s.max_jobs t) n r (λ j is. ((bring_counts i (s.rule i.order.dial) m.next_job s.max_jobs t j is).number, bring_fits i (s.rule i.order.dial) m.next_job s.max_jobs t j lawful is)) h e
 act_sound s m n t (Suspend a) r h lawful e = on_job_sound s m t a suspend (job_numbered a m) n r refl (λ j k. suspended_in j.phase j.wish j k refl) h e
 act_sound s m n t (Resume a) r h lawful e = on_job_sound s m t a resume (job_numbered a m) n r refl (λ j k. resumed_in j.phase j.wish j k refl) h e
 act_sound s m n t (Kill a) r h lawful e = on_job_sound s m t a kill (job_numbered a m) n r refl (λ j k. killed_in j.phase j k refl) h e

@@ -6,6 +6,7 @@ use Rattle.fax_job.specs.Job.{is_lawful}
 use Rattle.fax_job.specs.Limits.{last_next}
 use Rattle.fax_job.specs.Pair.{Pair}
 use Rattle.fax_job.specs.declared.alter.Alter.{Alter}
+use Rattle.fax_job.specs.declared.import.Import.{Import}
 use Rattle.fax_job.specs.declared.job.Call.{Call}
 use Rattle.fax_job.specs.declared.job.JobFields.{JobFields}
 use Rattle.fax_job.specs.declared.refusal.Refusal.{Refusal}
@@ -15,7 +16,7 @@ use Rattle.fax_core.specs.declared.report.Outcome.{Outcome}
 use Rattle.fax_core.specs.Ageing.{aged}
 use Rattle.fax_core.specs.Ask.{IsLawfulAsk}
 use Rattle.fax_core.specs.declared.ask.Ask.{Ask}
-use Rattle.fax_core.specs.declared.ask.Ask.TheVariants.{Next, PageReport}
+use Rattle.fax_core.specs.declared.ask.Ask.TheVariants.{Bring, Next, PageReport}
 use Rattle.fax_core.specs.Best.{MayGo, IsBest}
 use Rattle.fax_core.specs.Clock.{decided_at}
 use Rattle.fax_core.specs.Decisions.{JobAndGrant, suspend, resume, kill, alter, grant, call, page, outcome}
@@ -24,7 +25,7 @@ use Rattle.fax_core.specs.Job.{Job, HasPages, job_of, fields_of}
 use Rattle.fax_core.specs.Machine.{step}
 use Rattle.fax_core.specs.Queue.{Queue, grant_numbered}
 use Rattle.fax_core.specs.Refusals.{may_meet, goes_with}
-use Rattle.fax_core.specs.Reply.{Reply, Handed, NoneToSend, Given, Keys, HeldGrant, Taken, Refused}
+use Rattle.fax_core.specs.Reply.{Reply, Handed, Brought, NoneToSend, Given, Keys, HeldGrant, Taken, Refused}
 use Rattle.fax_core.specs.Run.{Request, decided, queue_after, AreLawful}
 use Rattle.fax_core.specs.Settings.{Settings}
 use Rattle.fax_core.specs.Sound.{Fits, IsJob, IsOpen, Sound}
@@ -132,6 +133,16 @@ PagesAreGrantedNoMore =
     → step s (queue_after s n rs) u (Next modem) ≡ Taken l (Given h)
     → grant_numbered grant m ≡ Some g → h.job ≡ g.job
     → page < h.from
+
+-- nor is a page in one that came in as sent with its job
+abbrev pub BroughtPagesAreNotGranted : Type 0
+BroughtPagesAreNotGranted =
+    (s : Settings) (m n : Queue) (t : ℕ) (i : Import) (job state : ℕ) (rs : List Request) (u : ℕ) (modem : List ℕ) (l : Queue) (h : Handed)
+    → Sound m → IsLawfulAsk (Bring i) → AreLawful rs
+    → step s m t (Bring i) ≡ Taken n (Brought job state)
+    → step s (queue_after s n rs) u (Next modem) ≡ Taken l (Given h)
+    → h.job ≡ job
+    → i.npages < h.from
 
 -- a page that is confirmed after it, on whichever grant of the job, comes after it
 abbrev pub PagesRise : Type 0

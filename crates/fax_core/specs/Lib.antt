@@ -8,6 +8,7 @@ pub mod Ageing
 pub mod State
 pub mod Best
 pub mod Decisions
+pub mod Import
 pub mod Machine
 pub mod Sound
 pub mod Fits

@@ -7,12 +7,13 @@ use Rattle.fax_job.specs.declared.refusal.Refusal.TheVariants as refusal
 use Rattle.fax_core.specs.declared.grants.Grant.{Grant}
 use Rattle.fax_core.specs.Ageing.{aged}
 use Rattle.fax_core.specs.declared.ask.Ask.{Ask}
-use Rattle.fax_core.specs.declared.ask.Ask.TheVariants.{Submission, Suspend, Resume, Kill, Alteration, Ready, Down, Next, CallReport, PageReport, OutcomeReport}
+use Rattle.fax_core.specs.declared.ask.Ask.TheVariants.{Submission, Bring, Suspend, Resume, Kill, Alteration, Ready, Down, Next, CallReport, PageReport, OutcomeReport}
 use Rattle.fax_core.specs.Best.{best}
 use Rattle.fax_core.specs.Decisions.{JobAndGrant, submit, suspend, resume, kill, alter, grant, call, page, outcome, stops}
+use Rattle.fax_core.specs.Import.{bring}
 use Rattle.fax_core.specs.Job.{Job}
 use Rattle.fax_core.specs.Queue.{Queue, open_grants, job_numbered, grant_numbered}
-use Rattle.fax_core.specs.Reply.{Handed, Reply, Submitted, Stands, Marked, NoneToSend, Given, Called, Confirmed, Keys, NoKeys, Notice, HeldGrant, Pages, Step, Taken, Refused}
+use Rattle.fax_core.specs.Reply.{Handed, Reply, Submitted, Brought, Stands, Marked, NoneToSend, Given, Called, Confirmed, Keys, NoKeys, Notice, HeldGrant, Pages, Step, Taken, Refused}
 use Rattle.fax_core.specs.Settings.{Rule, Settings}
 use Rattle.fax_core.specs.State.{state}
 
@@ -78,6 +79,11 @@ keys_of_job e j = NoKeys
 abbrev pub submitted : Queue → Rule → Result Job Refusal → Step
 submitted m rule (Ok j) = Taken (with_new_job j m) (Submitted j.number)
 submitted m rule (Err e) = Refused e (keys_of_rule e rule)
+
+-- the job that is brought in is put at the end, and its state is told
+abbrev pub brought_in : Settings → Queue → ℕ → Rule → Result Job Refusal → Step
+brought_in s m t rule (Ok j) = Taken (with_new_job j m) (Brought j.number (state s (with_new_job j m) t j))
+brought_in s m t rule (Err e) = Refused e (keys_of_rule e rule)
 
 -- the changed job is put in its place, and its state is told
 abbrev pub changed : Settings → Queue → ℕ → Result Job Refusal → Step
@@ -150,6 +156,7 @@ outcome_reply s t m b = Stands b.job.number (state s m t b.job)
 -- by cases on what is asked, over the aged queue
 abbrev pub act : Settings → Queue → ℕ → Ask → Step
 act s m t (Submission order) = submitted m (s.rule order.dial) (submit order (s.rule order.dial) m.next_job s.max_jobs t)
+act s m t (Bring i) = brought_in s m t (s.rule i.order.dial) (bring i (s.rule i.order.dial) m.next_job s.max_jobs t)
 act s m t (Suspend n) = on_job s m t suspend (job_numbered n m)
 act s m t (Resume n) = on_job s m t resume (job_numbered n m)
 act s m t (Kill n) = on_job s m t kill (job_numbered n m)

@@ -4,12 +4,13 @@ use Rattle.std.specs.List.{list_any}
 use Rattle.fax_job.specs.declared.refusal.Refusal.{Refusal}
 use Rattle.fax_job.specs.Refusal.{refusal_number}
 use Rattle.fax_core.specs.declared.ask.Ask.{Ask}
-use Rattle.fax_core.specs.declared.ask.Ask.TheVariants.{Submission, Suspend, Resume, Kill, Alteration, Ready, Down, Next, CallReport, PageReport, OutcomeReport}
+use Rattle.fax_core.specs.declared.ask.Ask.TheVariants.{Submission, Bring, Suspend, Resume, Kill, Alteration, Ready, Down, Next, CallReport, PageReport, OutcomeReport}
 use Rattle.fax_core.specs.Reply.{Keys, NoKeys, Notice, HeldGrant, Pages}
 
 -- in the order in which they are looked for
 abbrev pub refusals_of : Ask → List ℕ
 refusals_of (Submission order) = 11 ∷ 12 ∷ 26 ∷ []
+refusals_of (Bring i) = 11 ∷ 12 ∷ 26 ∷ []
 refusals_of (Suspend job) = 8 ∷ 13 ∷ 14 ∷ []
 refusals_of (Resume job) = 8 ∷ 13 ∷ 14 ∷ 15 ∷ []
 refusals_of (Kill job) = 8 ∷ 13 ∷ []

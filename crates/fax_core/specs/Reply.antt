@@ -15,6 +15,8 @@ pub record Handed : Type 0 where
 pub data Reply : Type 0 where
   -- the new job's number
   Submitted : (job : ℕ) → Reply
+  -- the number of the job that was brought in, and its state
+  Brought : (job state : ℕ) → Reply
   -- the job's state from now on
   Stands : (job state : ℕ) → Reply
   -- whether the modem is down

@@ -1,13 +1,15 @@
 //! What is asked of the queue.
 
 use crate::report::Outcome;
-use fax_job::{Alter, Call, Name, Order};
+use fax_job::{Alter, Call, Import, Name, Order};
 
 /// What is asked of the queue: a client's requests, with the job's number, and a worker's, with the
 /// modem's name or the grant's number. Numbers of jobs and grants are as they were written.
 #[derive(Debug, Drop)]
 pub enum Ask {
     Submission(Order),
+    /// A job of an older queue.
+    Bring(Import),
     Suspend { job: u64 },
     Resume { job: u64 },
     Kill { job: u64 },

@@ -3,13 +3,15 @@
 //! Each function here does nothing: its contract is the law, for all settings, queues, moments and
 //! requests. The statements stand in `specs/Laws.antt`.
 
-ghost use Rattle.fax_core.specs.Laws.{StepsStaySound, RunsStaySound, RunsHoldOnce, GivenJobsAreFree, PageReportsConfirm, StepsKeepSent, RunsKeepSent, PagesAreGrantedNoMore, PagesRise, RefusalsAreMet, KeysGoWithRefusals, BusyModemsAreTold, BestIsGiven, OneIsBest, NothingIsLeftOut, ReadyJobsAreDue, TakenStepsSetTheClock, RequestsSetTheClock, ClocksGoForward, RecordsAreJobs, JobsAreRecords, FitsIsDecided, RequestsKeepRecords, AlterationsKeepRecords, GrantsKeepRecords, ReportsKeepRecords};
+ghost use Rattle.fax_core.specs.Laws.{StepsStaySound, RunsStaySound, RunsHoldOnce, GivenJobsAreFree, PageReportsConfirm, StepsKeepSent, RunsKeepSent, PagesAreGrantedNoMore, BroughtPagesAreNotGranted, PagesRise, RefusalsAreMet, KeysGoWithRefusals, BusyModemsAreTold, BestIsGiven, OneIsBest, NothingIsLeftOut, ReadyJobsAreDue, TakenStepsSetTheClock, RequestsSetTheClock, ClocksGoForward, RecordsAreJobs, JobsAreRecords, FitsIsDecided, RequestsKeepRecords, AlterationsKeepRecords, GrantsKeepRecords, ReportsKeepRecords};
+ghost use Rattle.fax_core.specs.Import.{ReadImportsAreLawful};
 ghost use Rattle.fax_core.specs.Queue.{empty_queue};
 ghost use Rattle.fax_core.specs.Sound.{Sound};
 ghost use Rattle.fax_core.specs.Submission.{ReadOrdersAreLawful};
 
 /// The empty queue is sound. A taken step from a sound queue leaves a sound queue, and so does every
-/// run, where what is asked is lawful: each order has a page, a try and a dial.
+/// run, where what is asked is lawful: each order has a page, a try and a dial, and no number of an import
+/// is over its limit.
 pub fn soundness()
     ensures empty { Sound empty_queue }
     ensures step { StepsStaySound }
@@ -26,12 +28,14 @@ pub fn one_modem_one_job()
 
 /// A page report that is taken moves the first page that is left to the end of those sent, and no step
 /// takes a page from those sent. So a page that was confirmed is in no grant that its job gets later,
-/// whatever was asked in between, and isn't confirmed again.
+/// whatever was asked in between, and isn't confirmed again. A page that came in as sent with its job is in
+/// no grant either.
 pub fn no_page_twice()
     ensures confirmed { PageReportsConfirm }
     ensures step { StepsKeepSent }
     ensures run { RunsKeepSent }
     ensures granted { PagesAreGrantedNoMore }
+    ensures brought { BroughtPagesAreNotGranted }
     ensures rise { PagesRise }
 {}
 
@@ -72,6 +76,11 @@ pub fn records()
 /// lawful record.
 pub fn read_orders()
     ensures { ReadOrdersAreLawful }
+{}
+
+/// Nor is an import refused that was read.
+pub fn read_imports()
+    ensures { ReadImportsAreLawful }
 {}
 
 /// What is decided of a job that a lawful record holds makes a job that one holds, so no such change is

@@ -41,7 +41,7 @@ pub fn submit(
 }
 
 /// Whether there are more pages than the rule allows.
-fn is_over(pages: u16, limit: Option<u16>) -> bool
+pub(crate) fn is_over(pages: u16, limit: Option<u16>) -> bool
     ensures { result ≡ is_over pages limit }
 {
     match limit {
@@ -60,7 +60,7 @@ fn new_job(order: Order, job: u32, t: Moment) -> Result<Job, Refusal>
     }
 }
 
-fn new_fields(order: Order, job: u32, t: Moment) -> JobFields
+pub(crate) fn new_fields(order: Order, job: u32, t: Moment) -> JobFields
     ensures { result ≡ fields_of (new_job order job t) }
 {
     JobFields {

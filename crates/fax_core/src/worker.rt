@@ -154,7 +154,7 @@ fn is_done(ending: Ending) -> bool
     }
 }
 
-fn has_pages_left(fields: &JobFields) -> bool
+pub(crate) fn has_pages_left(fields: &JobFields) -> bool
     ensures { result ≡ not (is_empty (job_of fields.now).left) }
 {
     fields.npages < fields.totpages

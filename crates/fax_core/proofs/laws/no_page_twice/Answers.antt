@@ -1,3 +1,4 @@
+use Rattle.fax_core.proofs.BroughtLemmas.{not_granted}
 use Rattle.fax_core.proofs.PageLemmas.{confirmed, step_keeps, run_keeps, not_again, rises}
 use Rattle.fax_core.proofs.laws.no_page_twice.Goals as goal
 
@@ -12,6 +13,9 @@ returns-clause-run c = λ s m rs number j sound lawful. run_keeps s m rs sound l
 
 pub returns-clause-granted : goal.returns-clause-granted
 returns-clause-granted c = not_again
+
+pub returns-clause-brought : goal.returns-clause-brought
+returns-clause-brought c = not_granted
 
 pub returns-clause-rise : goal.returns-clause-rise
 returns-clause-rise c = rises
