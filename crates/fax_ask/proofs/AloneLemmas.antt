@@ -10,6 +10,7 @@ use Rattle.fax_job.specs.declared.refusal.BodyFault.TheVariants.{Line, Order, Ba
 use Rattle.fax_job.specs.declared.refusal.Refusal.{Refusal}
 use Rattle.fax_job.specs.declared.refusal.Refusal.TheVariants.{NoRoute, BadBody, Unavailable}
 use Rattle.fax_job.specs.Alter.{alter_of}
+use Rattle.fax_job.specs.Import.{import_of}
 use Rattle.fax_job.specs.Order.{order_of}
 use Rattle.fax_job.specs.Pair.{Pair}
 use Rattle.fax_lines.specs.Reading.{fault_at}
@@ -17,7 +18,7 @@ use Rattle.fax_lines.proofs.FaultLemmas.{fault_or_list, first_fault_alone}
 use Rattle.fax_lines.proofs.TextLemmas.{spelled_alone}
 use Rattle.fax_core.specs.declared.ask.Ask.TheVariants as machine
 use Rattle.fax_ask.specs.declared.request.Request.{Request}
-use Rattle.fax_ask.specs.declared.request.Request.TheVariants.{Submit, Suspend, Resume, Kill, Alter, Show, Ready, Down, Next, Call, Page, Outcome}
+use Rattle.fax_ask.specs.declared.request.Request.TheVariants.{Submit, Import, Suspend, Resume, Kill, Alter, Show, Ready, Down, Next, Call, Page, Outcome}
 use Rattle.fax_ask.specs.declared.ask.Ask.{Ask}
 use Rattle.fax_ask.specs.declared.ask.Ask.TheVariants.{Step}
 use Rattle.fax_ask.specs.Ask.{States, HasFault, IsLinesFault, IsLinesRefusal, Asks, IsBodyRefusal}
@@ -74,6 +75,7 @@ module _ {T : Type 0} (report_in : Data → Option T) (body : List ℕ) where
 
 asks_alone : (request : Request) (body : List ℕ) (a b : Ask) → Asks request body a → Asks request body b → a ≡ b
 asks_alone Submit body a b h g = h.2 ∙ (ap (λ o. Step (machine.Submission o)) (states_alone order_of body h.0 g.0 h.1 g.1) ∙ sym g.2)
+asks_alone Import body a b h g = h.2 ∙ (ap (λ i. Step (machine.Bring i)) (states_alone import_of body h.0 g.0 h.1 g.1) ∙ sym g.2)
 asks_alone (Alter job) body a b h g = h.2 ∙ (ap (λ o. Step (machine.Alteration job o)) (states_alone alter_of body h.0 g.0 h.1 g.1) ∙ sym g.2)
 asks_alone (Call grant) body a b h g = h.2 ∙ (ap (λ o. Step (machine.CallReport grant o)) (reports_alone call_in body h.0 g.0 h.1 g.1) ∙ sym g.2)
 asks_alone (Page grant) body a b h g = h.2 ∙ (ap (λ o. Step (machine.PageReport grant o)) (reports_alone page_in body h.0 g.0 h.1 g.1) ∙ sym g.2)
@@ -88,6 +90,7 @@ asks_alone (Next modem) body a b h g = h ∙ sym g
 
 ask_or_refusal : (request : Request) (body : List ℕ) (a : Ask) (refusal : Refusal) → Asks request body a → IsBodyRefusal request body refusal → refusal ≡ Unavailable
 ask_or_refusal Submit body a refusal h r = states_or_refusal order_of body h.0 refusal h.1 r
+ask_or_refusal Import body a refusal h r = states_or_refusal import_of body h.0 refusal h.1 r
 ask_or_refusal (Alter job) body a refusal h r = states_or_refusal alter_of body h.0 refusal h.1 r
 ask_or_refusal (Call grant) body a refusal h r = reports_or_refusal call_in body h.0 refusal h.1 r
 ask_or_refusal (Page grant) body a refusal h r = reports_or_refusal page_in body h.0 refusal h.1 r
@@ -152,6 +155,7 @@ module _ {T : Type 0} (report_in : Data → Option T) (body : List ℕ) where
 
 fault_alone : (request : Request) (body : List ℕ) (f g : BodyFault) → IsBodyRefusal request body (BadBody f) → IsBodyRefusal request body (BadBody g) → f ≡ g
 fault_alone Submit body f g h r = one_lines_fault order_of body f g h r
+fault_alone Import body f g h r = one_lines_fault import_of body f g h r
 fault_alone (Alter job) body f g h r = one_lines_fault alter_of body f g h r
 fault_alone (Call grant) body f g h r = one_report_fault call_in body f g h r
 fault_alone (Page grant) body f g h r = one_report_fault page_in body f g h r

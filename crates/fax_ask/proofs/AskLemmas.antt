@@ -36,4 +36,10 @@ module _ {T : Type 0} (value_of : List Pair → Result T OrderFault) (body : Lis
   order_refused lines fault.BadMaxtries s h = record { lines = lines; spelled = s; faulty = h }
   order_refused lines fault.BadMaxdials s h = record { lines = lines; spelled = s; faulty = h }
   order_refused lines fault.NotAlterable s h = record { lines = lines; spelled = s; faulty = h }
+  order_refused lines fault.BadNpages s h = record { lines = lines; spelled = s; faulty = h }
+  order_refused lines fault.BadNtries s h = record { lines = lines; spelled = s; faulty = h }
+  order_refused lines fault.BadTottries s h = record { lines = lines; spelled = s; faulty = h }
+  order_refused lines fault.BadNdials s h = record { lines = lines; spelled = s; faulty = h }
+  order_refused lines fault.BadTotdials s h = record { lines = lines; spelled = s; faulty = h }
+  order_refused lines fault.BadState s h = record { lines = lines; spelled = s; faulty = h }
   order_refused lines fault.NoMemory s h = tt

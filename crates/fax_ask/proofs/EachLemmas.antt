@@ -11,13 +11,14 @@ use Rattle.fax_job.specs.declared.refusal.BodyFault.{BodyFault}
 use Rattle.fax_job.specs.declared.refusal.BodyFault.TheVariants.{Line, Order, BadJson, BadField}
 use Rattle.fax_job.specs.declared.refusal.Refusal.TheVariants.{BadBody}
 use Rattle.fax_job.specs.Alter.{alter_of}
+use Rattle.fax_job.specs.Import.{import_of}
 use Rattle.fax_job.specs.Order.{order_of}
 use Rattle.fax_job.specs.Pair.{Pair}
 use Rattle.fax_lines.specs.Reading.{lines, read_on}
 use Rattle.fax_lines.specs.Spells.{Spells, IsFaultBehind}
 use Rattle.fax_lines.proofs.FoundLemmas.{found}
 use Rattle.fax_core.specs.declared.ask.Ask.TheVariants as machine
-use Rattle.fax_ask.specs.declared.request.Request.TheVariants.{Submit, Suspend, Resume, Kill, Alter, Show, Ready, Down, Next, Call, Page, Outcome}
+use Rattle.fax_ask.specs.declared.request.Request.TheVariants.{Submit, Import, Suspend, Resume, Kill, Alter, Show, Ready, Down, Next, Call, Page, Outcome}
 use Rattle.fax_ask.specs.declared.ask.Ask.TheVariants.{Step, View}
 use Rattle.fax_ask.specs.Ask.{States, IsLinesRefusal}
 use Rattle.fax_ask.specs.Laws.{AsksOrHasFault}
@@ -65,6 +66,7 @@ text_or_none (Err fault) P Q body h = inr h.0
 
 pub each_of : (body : List ℕ) → IsUtf8 body ⊎ (¬ (IsUtf8 body)) → AsksOrHasFault body
 each_of body utf8 Submit = elim (states_or_fault order_of body utf8) [ inl x ↦ inl (Step (machine.Submission x.0), (x.0, x.1, refl)) | inr f ↦ inr f ]
+each_of body utf8 Import = elim (states_or_fault import_of body utf8) [ inl x ↦ inl (Step (machine.Bring x.0), (x.0, x.1, refl)) | inr f ↦ inr f ]
 each_of body utf8 (Alter job) = elim (states_or_fault alter_of body utf8) [ inl x ↦ inl (Step (machine.Alteration job x.0), (x.0, x.1, refl)) | inr f ↦ inr f ]
 each_of body utf8 (Call grant) = elim (says_or_fault call_in body utf8) [ inl x ↦ inl (Step (machine.CallReport grant x.0), (x.0, x.1, refl)) | inr f ↦ inr f ]
 each_of body utf8 (Page grant) = elim (says_or_fault page_in body utf8) [ inl x ↦ inl (Step (machine.PageReport grant x.0), (x.0, x.1, refl)) | inr f ↦ inr f ]

@@ -19,7 +19,7 @@ use Rattle.fax_ask.specs.declared.method.Method.TheVariants.{Get, Post, Another}
 use Rattle.fax_ask.specs.declared.request.Request.{Request}
 use Rattle.fax_ask.specs.declared.request.Request.TheVariants.{Suspend, Resume, Kill, Alter, Ready, Down, Next, Call, Page, Outcome}
 use Rattle.fax_ask.specs.Path.{parts, two_texts}
-use Rattle.fax_ask.specs.Request.{job_request, jobs_request, modem_action, modem_request, modems_request, grant_report, grant_request, grants_request, root_request, path_request, request_of}
+use Rattle.fax_ask.specs.Request.{job_request, jobs_request, modem_action, modem_request, modems_request, grant_report, grant_request, grants_request, imports_request, root_request, path_request, request_of}
 use Rattle.fax_ask.proofs.PathLemmas.{byte_of_parts}
 
 -- no text has an LF
@@ -152,6 +152,14 @@ in_grant : (rest : List (List ℕ)) (request : Request) (o : Option (List ℕ ×
 in_grant rest request None e is = absurd cc
 in_grant rest request (Some texts) e is = in_numbered rest texts request (request_number_of texts.0) e refl is
 
+-- ---- imports
+
+in_imports : (method : Method) (rest : List (List ℕ)) (request : Request) → imports_request method rest ≡ Some request → lacks_lf rest
+in_imports Get rest request is = absurd cc
+in_imports Post [] request is = refl
+in_imports Post (text ∷ rest) request is = absurd cc
+in_imports Another rest request is = absurd cc
+
 in_grants : (method : Method) (rest : List (List ℕ)) (request : Request) → grants_request method rest ≡ Some request → lacks_lf rest
 in_grants Get rest request is = absurd cc
 in_grants Post rest request is = in_grant rest request (two_texts rest) refl is
@@ -159,18 +167,19 @@ in_grants Another rest request is = absurd cc
 
 -- ---- the whole
 
-in_collection : (method : Method) (collection : List ℕ) (rest : List (List ℕ)) (request : Request) (jobs modems grants : Bool)
-    → bytes_eq collection (codes "jobs") ≡ jobs → bytes_eq collection (codes "modems") ≡ modems → bytes_eq collection (codes "grants") ≡ grants
-    → cond jobs (jobs_request method rest) (cond modems (modems_request method rest) (cond grants (grants_request method rest) None)) ≡ Some request
+in_collection : (method : Method) (collection : List ℕ) (rest : List (List ℕ)) (request : Request) (jobs modems grants imports : Bool)
+    → bytes_eq collection (codes "jobs") ≡ jobs → bytes_eq collection (codes "modems") ≡ modems → bytes_eq collection (codes "grants") ≡ grants → bytes_eq collection (codes "imports") ≡ imports
+    → cond jobs (jobs_request method rest) (cond modems (modems_request method rest) (cond grants (grants_request method rest) (cond imports (imports_request method rest) None))) ≡ Some request
     → lacks_lf (collection ∷ rest)
-in_collection method collection rest request true modems grants e f g is = one_more collection rest (same_text collection (codes "jobs") e refl) (in_jobs method rest request is)
-in_collection method collection rest request false true grants e f g is = one_more collection rest (same_text collection (codes "modems") f refl) (in_modems method rest request is)
-in_collection method collection rest request false false true e f g is = one_more collection rest (same_text collection (codes "grants") g refl) (in_grants method rest request is)
-in_collection method collection rest request false false false e f g is = absurd cc
+in_collection method collection rest request true modems grants imports e f g h is = one_more collection rest (same_text collection (codes "jobs") e refl) (in_jobs method rest request is)
+in_collection method collection rest request false true grants imports e f g h is = one_more collection rest (same_text collection (codes "modems") f refl) (in_modems method rest request is)
+in_collection method collection rest request false false true imports e f g h is = one_more collection rest (same_text collection (codes "grants") g refl) (in_grants method rest request is)
+in_collection method collection rest request false false false true e f g h is = one_more collection rest (same_text collection (codes "imports") h refl) (in_imports method rest request is)
+in_collection method collection rest request false false false false e f g h is = absurd cc
 
 in_root : (method : Method) (rest : List (List ℕ)) (request : Request) → root_request method rest ≡ Some request → lacks_lf rest
 in_root method [] request is = refl
-in_root method (collection ∷ rest) request is = in_collection method collection rest request _ _ _ refl refl refl is
+in_root method (collection ∷ rest) request is = in_collection method collection rest request _ _ _ _ refl refl refl refl is
 
 in_lead : (method : Method) (lead : List ℕ) (rest : List (List ℕ)) (request : Request) (empty : Bool) → eqb (length lead) 0 ≡ empty
     → cond empty (root_request method rest) None ≡ Some request → lacks_lf (lead ∷ rest)

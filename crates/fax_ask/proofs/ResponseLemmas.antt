@@ -11,7 +11,7 @@ use Rattle.fax_job.specs.Refusal.{body_word, line_word, order_word, refusal_stat
 use Rattle.fax_ask.specs.Detail.{has_detail}
 use Rattle.fax_ask.specs.Response.{IsAcceptedStatus, plain_body, refusal_bytes}
 use Rattle.http.specs.StatusCode.{IsStatusCode}
-use Rattle.fax_core.specs.Reply.{Submitted}
+use Rattle.fax_core.specs.Reply.{Submitted, Brought}
 use Rattle.fax_ask.specs.Answer.{Replied, Shown, Listed}
 use Rattle.fax_ask.specs.Laws.{AcceptedAre200Or201, OnlyUnavailableIs503}
 
@@ -67,6 +67,12 @@ short_order_word order.BadPages = lit≤ tt
 short_order_word order.BadMaxtries = lit≤ tt
 short_order_word order.BadMaxdials = lit≤ tt
 short_order_word order.NotAlterable = lit≤ tt
+short_order_word order.BadNpages = lit≤ tt
+short_order_word order.BadNtries = lit≤ tt
+short_order_word order.BadTottries = lit≤ tt
+short_order_word order.BadNdials = lit≤ tt
+short_order_word order.BadTotdials = lit≤ tt
+short_order_word order.BadState = lit≤ tt
 short_order_word order.NoMemory = lit≤ tt
 
 -- the kinds of faults are short
@@ -85,6 +91,7 @@ plain other h = refl
 
 pub accepted_statuses : AcceptedAre200Or201
 accepted_statuses (Replied (Submitted job)) = inr refl
+accepted_statuses (Replied (Brought job state)) = inr refl
 accepted_statuses (Replied other) = inl refl
 accepted_statuses (Shown lines) = inl refl
 accepted_statuses (Listed text) = inl refl

@@ -14,13 +14,14 @@ use Rattle.fax_ask.specs.declared.method.Method.TheVariants.{Get, Post, Another}
 use Rattle.fax_ask.specs.declared.request.Request.{Request}
 use Rattle.fax_ask.specs.declared.request.Request.TheVariants as request
 use Rattle.fax_ask.specs.declared.routes.Route.{Route}
-use Rattle.fax_ask.specs.declared.routes.Route.TheVariants.{Jobs, Job, Suspend, Resume, Kill, Alter, Ready, Down, Next, Call, Page, Outcome}
+use Rattle.fax_ask.specs.declared.routes.Route.TheVariants.{Jobs, Job, Suspend, Resume, Kill, Alter, Ready, Down, Next, Call, Page, Outcome, Imports}
 use Rattle.fax_ask.specs.Path.{parts, two_texts}
-use Rattle.fax_ask.specs.Request.{grant_report, grant_request, job_action, job_request, jobs_request, modem_action, modem_request, modems_request, grants_request, root_request, path_request, request_of}
+use Rattle.fax_ask.specs.Request.{grant_report, grant_request, job_action, job_request, jobs_request, modem_action, modem_request, modems_request, grants_request, imports_request, root_request, path_request, request_of}
 use Rattle.fax_ask.specs.Routes.{posted, route_request, shown, table}
 use Rattle.fax_ask.proofs.CutLemmas.{IsTextIfSome, parts_left, both_texts, cut, same_bytes}
+use Rattle.fax_ask.proofs.PathLemmas.{filled}
 use Rattle.fax_ask.proofs.TakenLemmas.{are_bytes, taken_last, taken_middle}
-use Rattle.fax_ask.proofs.WalkLemmas.{IsPlain, behind, branch, ends_of, joined, led_by, or_none, word}
+use Rattle.fax_ask.proofs.WalkLemmas.{IsPlain, behind, branch, ends_of, joined, led_by, or_none, seek_empty, word}
 use Rattle.fax_ask.proofs.CollectionLemmas.{Entry, IsCollection, NoneIs, Says, below, in_collection, says_as, says_by, taken_says}
 
 -- ---- the rows
@@ -54,6 +55,9 @@ of_grants =
 abbrev jobs_end : Option Entry
 jobs_end = Some (plain_route (codes "/jobs") Jobs)
 
+abbrev imports_end : Option Entry
+imports_end = Some (plain_route (codes "/imports") Imports)
+
 abbrev job_end : Option Entry
 job_end = Some (id_route (codes "/jobs/") [] Job)
 
@@ -69,6 +73,9 @@ grants_below = below None of_grants
 abbrev grants_rows : RowsOf Entry
 grants_rows = led_by (codes "grants") (led_by (47 ∷ []) grants_below ++ ends_of None)
 
+abbrev imports_rows : RowsOf Entry
+imports_rows = led_by (codes "imports") (led_by (47 ∷ []) [] ++ ends_of imports_end)
+
 abbrev jobs_rows : RowsOf Entry
 jobs_rows = led_by (codes "jobs") (led_by (47 ∷ []) jobs_below ++ ends_of jobs_end)
 
@@ -76,7 +83,7 @@ abbrev modems_rows : RowsOf Entry
 modems_rows = led_by (codes "modems") (led_by (47 ∷ []) modems_below ++ ends_of None)
 
 abbrev collections : RowsOf Entry
-collections = grants_rows ++ (jobs_rows ++ modems_rows)
+collections = grants_rows ++ (imports_rows ++ (jobs_rows ++ modems_rows))
 
 rows_are : table ≡ led_by [] (led_by (47 ∷ []) collections ++ ends_of None)
 unfolding matchit_on_literals table plain_route id_route
@@ -242,6 +249,18 @@ in_grants : (more : Option (List ℕ)) → IsTextIfSome more
 in_grants None u = λ method. elim method as (λ m. grants_request m [] ≡ None) [ Get ↦ refl | Post ↦ refl | Another ↦ refl ]
 in_grants (Some path) u = in_collection (codes "/grants/") grants_request None of_grants grants_are path u
 
+no_import : (texts : List (List ℕ)) (text : List ℕ) (more : List (List ℕ)) → texts ≡ text ∷ more → (method : Method) → imports_request method texts ≡ None
+no_import texts text more e method =
+    ap (imports_request method) e ∙ (elim method as (λ m. imports_request m (text ∷ more) ≡ None) [ Get ↦ refl | Post ↦ refl | Another ↦ refl ])
+
+in_imports : (more : Option (List ℕ)) → IsTextIfSome more
+    → Says (λ method. root_request method (codes "imports" ∷ parts_left more)) (47 ∷ joined (codes "imports") more) (behind imports_end [] more)
+unfolding plain_route
+in_imports None u = (tt, λ method. elim method as (λ m. imports_request m [] ≡ route_request m Imports None) [ Get ↦ refl | Post ↦ refl | Another ↦ refl ])
+in_imports (Some path) u =
+    says_by (λ method. root_request method (codes "imports" ∷ parts path)) (47 ∷ joined (codes "imports") (Some path)) (first {K = Entry} [] path) None (seek_empty 0 path)
+    (λ method. let texts = filled path in no_import (parts path) texts.0 texts.1 texts.2 method)
+
 in_modems : (more : Option (List ℕ)) → IsTextIfSome more
     → Says (λ method. root_request method (codes "modems" ∷ parts_left more)) (47 ∷ joined (codes "modems") more) (behind None modems_below more)
 in_modems None u = λ method. elim method as (λ m. modems_request m [] ≡ None) [ Get ↦ refl | Post ↦ refl | Another ↦ refl ]
@@ -258,23 +277,26 @@ in_jobs (Some path) u = in_collection (codes "/jobs/") jobs_request job_end of_j
 abbrev by_name : List ℕ → Option (List ℕ) → Option Entry
 by_name text more =
     or_else (cond (bytes_eq text (codes "grants")) (behind None grants_below more) None)
+    (or_else (cond (bytes_eq text (codes "imports")) (behind imports_end [] more) None)
     (or_else (cond (bytes_eq text (codes "jobs")) (behind jobs_end jobs_below more) None)
-    (cond (bytes_eq text (codes "modems")) (behind None modems_below more) None))
+    (cond (bytes_eq text (codes "modems")) (behind None modems_below more) None)))
 
 name_found : (text : List ℕ) (more : Option (List ℕ)) → has_slash text ≡ false → first collections (joined text more) ≡ by_name text more
 name_found text more f =
-    branch 103 (codes "rants") (led_by (47 ∷ []) grants_below ++ ends_of None) (jobs_rows ++ modems_rows) (joined text more) (omega arith) refl (plain refl refl)
+    branch 103 (codes "rants") (led_by (47 ∷ []) grants_below ++ ends_of None) (imports_rows ++ (jobs_rows ++ modems_rows)) (joined text more) (omega arith) refl (plain refl refl)
     ∙ ap₂ or_else (word (codes "grants") text grants_below None more refl f)
+    (branch 105 (codes "mports") (led_by (47 ∷ []) [] ++ ends_of imports_end) (jobs_rows ++ modems_rows) (joined text more) (omega arith) refl (plain refl refl)
+    ∙ ap₂ or_else (word (codes "imports") text [] imports_end more refl f)
     (branch 106 (codes "obs") (led_by (47 ∷ []) jobs_below ++ ends_of jobs_end) modems_rows (joined text more) (omega arith) refl (plain refl refl)
     ∙ ap₂ or_else (word (codes "jobs") text jobs_below jobs_end more refl f)
-    (word (codes "modems") text modems_below None more refl f))
+    (word (codes "modems") text modems_below None more refl f)))
 
-other_name : (text : List ℕ) (rest : List (List ℕ)) → bytes_eq text (codes "grants") ≡ false → bytes_eq text (codes "jobs") ≡ false → bytes_eq text (codes "modems") ≡ false
+other_name : (text : List ℕ) (rest : List (List ℕ)) → bytes_eq text (codes "grants") ≡ false → bytes_eq text (codes "imports") ≡ false → bytes_eq text (codes "jobs") ≡ false → bytes_eq text (codes "modems") ≡ false
     → (method : Method) → root_request method (text ∷ rest) ≡ None
-other_name text rest grants jobs modems method = rw (jobs, modems, grants)
+other_name text rest grants imports jobs modems method = rw (jobs, modems, grants, imports)
 
 name_says : (text : List ℕ) (more : Option (List ℕ)) → IsTextIfSome more → Says (λ method. root_request method (text ∷ parts_left more)) (47 ∷ joined text more) (by_name text more)
-name_says text more u = by (bytes_eq text (codes "grants")) refl (bytes_eq text (codes "jobs")) refl (bytes_eq text (codes "modems")) refl
+name_says text more u = by (bytes_eq text (codes "grants")) refl (bytes_eq text (codes "imports")) refl (bytes_eq text (codes "jobs")) refl (bytes_eq text (codes "modems")) refl
   where
     at : List ℕ → Type 0
     at name = Says (λ method. root_request method (name ∷ parts_left more)) (47 ∷ joined name more) (by_name name more)
@@ -282,17 +304,21 @@ name_says text more u = by (bytes_eq text (codes "grants")) refl (bytes_eq text 
     named_so : (name : List ℕ) → bytes_eq text name ≡ true → at name → at text
     named_so name e s = subst at (sym (same_bytes text name e)) s
 
-    by : (grants : Bool) → bytes_eq text (codes "grants") ≡ grants → (jobs : Bool) → bytes_eq text (codes "jobs") ≡ jobs → (modems : Bool) → bytes_eq text (codes "modems") ≡ modems → at text
-    by true e jobs f modems g = named_so (codes "grants") e
+    by : (grants : Bool) → bytes_eq text (codes "grants") ≡ grants → (imports : Bool) → bytes_eq text (codes "imports") ≡ imports → (jobs : Bool) → bytes_eq text (codes "jobs") ≡ jobs → (modems : Bool) → bytes_eq text (codes "modems") ≡ modems → at text
+    by true e imports i jobs f modems g = named_so (codes "grants") e
         (says_by (λ method. root_request method (codes "grants" ∷ parts_left more)) (47 ∷ joined (codes "grants") more) (by_name (codes "grants") more) (behind None grants_below more)
         (or_none (behind None grants_below more)) (in_grants more u))
-    by false e true f modems g = named_so (codes "jobs") f
+    by false e true i jobs f modems g = named_so (codes "imports") i
+        (says_by (λ method. root_request method (codes "imports" ∷ parts_left more)) (47 ∷ joined (codes "imports") more) (by_name (codes "imports") more)
+        (behind imports_end [] more)
+        (or_none (behind imports_end [] more)) (in_imports more u))
+    by false e false i true f modems g = named_so (codes "jobs") f
         (says_by (λ method. root_request method (codes "jobs" ∷ parts_left more)) (47 ∷ joined (codes "jobs") more) (by_name (codes "jobs") more)
         (behind jobs_end jobs_below more)
         (or_none (behind jobs_end jobs_below more)) (in_jobs more u))
-    by false e false f true g = named_so (codes "modems") g (in_modems more u)
-    by false e false f false g =
-        says_by (λ method. root_request method (text ∷ parts_left more)) (47 ∷ joined text more) (by_name text more) None (rw (e, f, g)) (other_name text (parts_left more) e f g)
+    by false e false i false f true g = named_so (codes "modems") g (in_modems more u)
+    by false e false i false f false g =
+        says_by (λ method. root_request method (text ∷ parts_left more)) (47 ∷ joined text more) (by_name text more) None (rw (e, i, f, g)) (other_name text (parts_left more) e i f g)
 
 in_collections : (path : List ℕ) → IsUtf8 path → Says (λ method. root_request method (parts path)) (47 ∷ path) (first collections path)
 in_collections path u =

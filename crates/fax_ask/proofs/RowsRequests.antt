@@ -1,13 +1,17 @@
 -- Worked rows: which method and path name which request.
 use Rattle.std.specs.Prelude.{◌≡◌, refl, codes, Some, None}
 use Rattle.fax_ask.specs.declared.method.Method.TheVariants.{Get, Post, Another}
-use Rattle.fax_ask.specs.declared.request.Request.TheVariants.{Submit, Kill, Alter, Show, Next, Call}
+use Rattle.fax_ask.specs.declared.request.Request.TheVariants.{Submit, Import, Kill, Alter, Show, Next, Call}
 use Rattle.fax_ask.specs.declared.view.View.TheVariants as view
 use Rattle.fax_ask.specs.Request.{request_of}
 
 submit : request_of Post (codes "/jobs") ≡ Some Submit
 unfolding request_of
 submit = refl
+
+import : request_of Post (codes "/imports") ≡ Some Import
+unfolding request_of
+import = refl
 
 kill : request_of Post (codes "/jobs/9/kill") ≡ Some (Kill 9)
 unfolding request_of
@@ -38,6 +42,14 @@ call = refl
 another_path : request_of Get (codes "/job") ≡ None
 unfolding request_of
 another_path = refl
+
+no_list_of_imports : request_of Get (codes "/imports") ≡ None
+unfolding request_of
+no_list_of_imports = refl
+
+no_import_of_a_number : request_of Post (codes "/imports/1") ≡ None
+unfolding request_of
+no_import_of_a_number = refl
 
 another_method : request_of Another (codes "/jobs") ≡ None
 unfolding request_of

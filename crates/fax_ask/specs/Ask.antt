@@ -1,6 +1,7 @@
 -- What is asked for: by method, path and body.
 use Rattle.std.specs.Prelude.{◌≡◌, ◌≤◌, ℕ, List, Result, Ok, Err, ⊤, IfSome, MatchOption}
 use Rattle.fax_job.specs.declared.alter.Alter as alter
+use Rattle.fax_job.specs.declared.import.Import.{Import as ImportFields}
 use Rattle.fax_job.specs.declared.job.Call.{Call as CallEnd}
 use Rattle.fax_job.specs.declared.order.Order.{Order as OrderFields}
 use Rattle.fax_job.specs.declared.order.OrderFault.{OrderFault}
@@ -9,6 +10,7 @@ use Rattle.fax_job.specs.declared.refusal.BodyFault.TheVariants.{Line, Order, Ba
 use Rattle.fax_job.specs.declared.refusal.Refusal.{Refusal}
 use Rattle.fax_job.specs.declared.refusal.Refusal.TheVariants.{NoRoute, BadBody, Unavailable}
 use Rattle.fax_job.specs.Alter.{alter_of}
+use Rattle.fax_job.specs.Import.{import_of}
 use Rattle.fax_job.specs.Limits.{most_attempts}
 use Rattle.fax_job.specs.Order.{order_of}
 use Rattle.fax_job.specs.Pair.{Pair}
@@ -22,7 +24,7 @@ use Rattle.fax_ask.specs.declared.ask.Ask.{Ask}
 use Rattle.fax_ask.specs.declared.ask.Ask.TheVariants.{Step, View}
 use Rattle.fax_ask.specs.declared.method.Method.{Method}
 use Rattle.fax_ask.specs.declared.request.Request.{Request}
-use Rattle.fax_ask.specs.declared.request.Request.TheVariants.{Submit, Suspend, Resume, Kill, Alter, Show, Ready, Down, Next, Call, Page, Outcome}
+use Rattle.fax_ask.specs.declared.request.Request.TheVariants.{Submit, Import, Suspend, Resume, Kill, Alter, Show, Ready, Down, Next, Call, Page, Outcome}
 use Rattle.fax_ask.specs.Report.{IsReportRefusal, Reports, call_in, outcome_in, page_in}
 use Rattle.fax_ask.specs.Request.{request_of}
 
@@ -58,6 +60,7 @@ IsLinesRefusal value_of body other = ⊥
 -- what a request with this body asks for
 abbrev pub Asks : Request → List ℕ → Ask → Type 0
 Asks Submit body ask = (order : OrderFields) × States order_of body order × (ask ≡ Step (machine.Submission order))
+Asks Import body ask = (import : ImportFields) × States import_of body import × (ask ≡ Step (machine.Bring import))
 Asks (Suspend job) body ask = ask ≡ Step (machine.Suspend job)
 Asks (Resume job) body ask = ask ≡ Step (machine.Resume job)
 Asks (Kill job) body ask = ask ≡ Step (machine.Kill job)
@@ -73,6 +76,7 @@ Asks (Outcome grant) body ask = (outcome : Said) × Reports outcome_in body outc
 -- why a request with this body is refused: a body that isn't read has no fault
 abbrev pub IsBodyRefusal : Request → List ℕ → Refusal → Type 0
 IsBodyRefusal Submit body refusal = IsLinesRefusal order_of body refusal
+IsBodyRefusal Import body refusal = IsLinesRefusal import_of body refusal
 IsBodyRefusal (Alter job) body refusal = IsLinesRefusal alter_of body refusal
 IsBodyRefusal (Call grant) body refusal = IsReportRefusal call_in body refusal
 IsBodyRefusal (Page grant) body refusal = IsReportRefusal page_in body refusal

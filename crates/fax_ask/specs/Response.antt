@@ -6,7 +6,7 @@ use Rattle.fax_job.specs.declared.refusal.BodyFault.{BodyFault}
 use Rattle.fax_job.specs.declared.refusal.Refusal.{Refusal}
 use Rattle.fax_job.specs.declared.refusal.Refusal.TheVariants.{BadBody}
 use Rattle.fax_job.specs.Refusal.{body_line, body_word, refusal_number, refusal_status, refusal_word}
-use Rattle.fax_core.specs.Reply.{Handed, Reply, Submitted, Stands, Marked, NoneToSend, Given, Called, Confirmed, Keys, NoKeys, Notice, HeldGrant, Pages}
+use Rattle.fax_core.specs.Reply.{Handed, Reply, Submitted, Brought, Stands, Marked, NoneToSend, Given, Called, Confirmed, Keys, NoKeys, Notice, HeldGrant, Pages}
 use Rattle.fax_ask.specs.Answer.{Told, Replied, Shown, Listed}
 
 -- a status (RFC 9110, section 15), whether the body is JSON (RFC 8259), and the body's bytes
@@ -27,6 +27,7 @@ handed_keys handed = codes "\"from\":" ++ decimal handed.from ++ codes ",\"grant
 
 abbrev pub reply_body : Reply → List ℕ
 reply_body (Submitted job) = codes "{\"job\":" ++ decimal job ++ codes "}"
+reply_body (Brought job state) = codes "{\"job\":" ++ decimal job ++ codes ",\"state\":" ++ decimal state ++ codes "}"
 reply_body (Stands job state) = codes "{\"job\":" ++ decimal job ++ codes ",\"state\":" ++ decimal state ++ codes "}"
 reply_body (Marked down) = codes "{\"down\":" ++ bool_text down ++ codes "}"
 reply_body NoneToSend = codes "{\"grant\":0}"
@@ -34,9 +35,10 @@ reply_body (Given handed) = codes "{" ++ handed_keys handed ++ codes "}"
 reply_body (Called stop) = codes "{\"stop\":" ++ bool_text stop ++ codes "}"
 reply_body (Confirmed npages stop) = codes "{\"npages\":" ++ decimal npages ++ codes ",\"stop\":" ++ bool_text stop ++ codes "}"
 
--- a submission makes a job
+-- a submission makes a job, and so does an import
 abbrev pub reply_status : Reply → ℕ
 reply_status (Submitted job) = 201
+reply_status (Brought job state) = 201
 reply_status other = 200
 
 -- OK or Created: the statuses of accepted requests

@@ -18,6 +18,8 @@ pub struct Handed<'a> {
 pub enum Answer<'a> {
     /// The number of the job that a submission made.
     Submitted { job: u32 },
+    /// The number of the job that was brought in, and its state, from 1 to 8 (sendq(5)).
+    Brought { job: u32, state: u8 },
     /// The state of a job, from 1 to 8 (sendq(5)).
     Stands { job: u32, state: u8 },
     /// Whether a modem is down.

@@ -2,8 +2,9 @@
 
 ghost use Rattle.std.specs.Prelude.{◌≡◌, IfOk, IfErr};
 ghost use Rattle.fax_job.specs.Alter.{alter_of};
+ghost use Rattle.fax_job.specs.Import.{import_of};
 ghost use Rattle.fax_job.specs.Order.{order_of};
-ghost use Rattle.fax_core.specs.Ask.{HasLimits as HasOrderLimits};
+ghost use Rattle.fax_core.specs.Ask.{HasCounts, HasLimits as HasOrderLimits};
 ghost use Rattle.fax_ask.specs.Ask.{Asks, HasLimits, States, IsAsk, IsBodyRefusal, IsLawful, IsLinesRefusal, IsRefused};
 
 use crate::method::Method;
@@ -12,7 +13,7 @@ use crate::request::Request;
 use crate::routes::Routes;
 use crate::view::View;
 use fax_core::Ask as Step;
-use fax_job::{Alter, Order, Refusal};
+use fax_job::{Alter, Import, Order, Refusal};
 use fax_lines::read_lines;
 use std::alloc::Global;
 
@@ -62,6 +63,7 @@ fn read_body(alloc: Global, request: Request<'_>, body: &[u8]) -> Result<Ask, Re
     let step = match request {
         Request::Show(view) => return Ok(Ask::View(view)),
         Request::Submit => Step::Submission(read_order(alloc, body)?),
+        Request::Import => Step::Bring(read_import(alloc, body)?),
         Request::Suspend { job } => Step::Suspend { job },
         Request::Resume { job } => Step::Resume { job },
         Request::Kill { job } => Step::Kill { job },
@@ -102,6 +104,16 @@ fn read_order(alloc: Global, body: &[u8]) -> Result<Order, Refusal>
 {
     let lines = read_lines(alloc, body)?;
     Ok(lines.to_order(alloc)?)
+}
+
+/// The import that a body of key lines states.
+fn read_import(alloc: Global, body: &[u8]) -> Result<Import, Refusal>
+    ensures import { IfOk result (States import_of body.now) }
+    ensures refused { IfErr result (IsLinesRefusal import_of body.now) }
+    ensures counts { IfOk result HasCounts }
+{
+    let lines = read_lines(alloc, body)?;
+    Ok(lines.to_import(alloc)?)
 }
 
 /// The alteration that a body of key lines states.

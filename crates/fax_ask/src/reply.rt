@@ -152,7 +152,7 @@ fn accepted_status(answer: &Answer<'_>) -> StatusCode
     ensures { result ≡ (accepted_response (told answer.now)).status }
 {
     match answer {
-        Answer::Submitted { job: _ } => StatusCode::CREATED,
+        Answer::Submitted { job: _ } | Answer::Brought { job: _, state: _ } => StatusCode::CREATED,
         _ => StatusCode::OK,
     }
 }
@@ -165,6 +165,7 @@ fn accepted_body(alloc: Global, answer: &Answer<'_>) -> Result<Body, AllocError>
 {
     let text = match answer {
         Answer::Submitted { job } => submitted_text(alloc, *job)?,
+        Answer::Brought { job, state } => stands_text(alloc, *job, *state)?,
         Answer::Stands { job, state } => stands_text(alloc, *job, *state)?,
         Answer::Marked { down } => marked_text(alloc, *down)?,
         Answer::NoneToSend => String::from_str(alloc, "{\"grant\":0}")?,

@@ -13,6 +13,7 @@ use fax_job::RequestNumber;
 #[derive(Debug, Drop)]
 pub enum Request<'a> {
     Submit,
+    Import,
     Suspend { job: u64 },
     Resume { job: u64 },
     Kill { job: u64 },
@@ -58,6 +59,7 @@ fn posted(route: Route, id: Option<&str>) -> Option<Request<'_>>
     match route {
         Route::Jobs => Some(Request::Submit),
         Route::Job => None,
+        Route::Imports => Some(Request::Import),
         Route::Suspend => Some(Request::Suspend { job: number(id)? }),
         Route::Resume => Some(Request::Resume { job: number(id)? }),
         Route::Kill => Some(Request::Kill { job: number(id)? }),

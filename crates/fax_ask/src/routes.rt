@@ -24,10 +24,11 @@ pub(crate) enum Route {
     Call,
     Page,
     Outcome,
+    Imports,
 }
 
 /// The pattern of each route: `{id}` is the number of a job or a grant, or the name of a modem.
-static ROUTES: [(&str, Route); 12] = [
+static ROUTES: [(&str, Route); 13] = [
     ("/jobs", Route::Jobs),
     ("/jobs/{id}", Route::Job),
     ("/jobs/{id}/suspend", Route::Suspend),
@@ -40,6 +41,7 @@ static ROUTES: [(&str, Route); 12] = [
     ("/grants/{id}/call", Route::Call),
     ("/grants/{id}/page", Route::Page),
     ("/grants/{id}/outcome", Route::Outcome),
+    ("/imports", Route::Imports),
 ];
 
 /// The routes of requests, in a router.
