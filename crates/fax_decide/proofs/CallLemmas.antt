@@ -19,7 +19,7 @@ use Rattle.fax_decide.specs.State.{state_with}
 use Rattle.fax_decide.proofs.RecordLemmas.{aged_numbered}
 
 -- the same pass
-more : {X : Type 0} (x : X) (xs ys : List X) (b c : Bool) → b ≡ c → xs ≡ ys → cond b (x ∷ xs) xs ≡ cond c (x ∷ ys) ys
+pub more : {X : Type 0} (x : X) (xs ys : List X) (b c : Bool) → b ≡ c → xs ≡ ys → cond b (x ∷ xs) xs ≡ cond c (x ∷ ys) ys
 more x xs ys true true e same = ap (λ zs. x ∷ zs) same
 more x xs ys true false e same = absurd cc
 more x xs ys false true e same = absurd cc

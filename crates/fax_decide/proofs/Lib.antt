@@ -12,5 +12,6 @@ mod PlacedLemmas
 mod ChoiceLemmas
 mod GivenLemmas
 mod PlainLemmas
+mod ImportLemmas
 pub mod OpenLemmas
 pub mod FreeLemmas

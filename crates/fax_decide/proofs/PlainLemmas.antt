@@ -44,7 +44,7 @@ grant_plain j modem next max e h = refused_or IsPlain (nat_lt max next) Full e (
 -- ---- submissions
 
 -- what is refused of a job that a record could hold, or could not
-recorded_or : (r : Result Job Refusal) (e : Refusal) → recorded r ≡ Err e → (r ≡ Err e) ⊎ (e ≡ Unavailable)
+pub recorded_or : (r : Result Job Refusal) (e : Refusal) → recorded r ≡ Err e → (r ≡ Err e) ⊎ (e ≡ Unavailable)
 recorded_or (Err x) e h = inl h
 recorded_or (Ok j) e h = by (is_lawful (fields_of j)) h
   where

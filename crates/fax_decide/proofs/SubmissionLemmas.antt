@@ -37,7 +37,7 @@ job_new m t rule f meta reply sound these next replied = record {
 
 -- ---- what is decided
 
-recorded_ok : (r : Result Job Refusal) (x : Job) → Ok x ≡ recorded r → r ≡ Ok x
+pub recorded_ok : (r : Result Job Refusal) (x : Job) → Ok x ≡ recorded r → r ≡ Ok x
 recorded_ok (Ok j) x is = by (is_lawful (fields_of j)) is
   where
     by : (b : Bool) → ◌≡◌ {A = Result Job Refusal} (Ok x) (cond b (Ok j) (Err Unavailable)) → ◌≡◌ {A = Result Job Refusal} (Ok j) (Ok x)
@@ -45,7 +45,7 @@ recorded_ok (Ok j) x is = by (is_lawful (fields_of j)) is
     by false e = absurd cc
 recorded_ok (Err e) x is = absurd cc
 
-recorded_err : (r : Result Job Refusal) (e : Refusal) → Err e ≡ recorded r → (e ≡ Unavailable → ⊥) → r ≡ Err e
+pub recorded_err : (r : Result Job Refusal) (e : Refusal) → Err e ≡ recorded r → (e ≡ Unavailable → ⊥) → r ≡ Err e
 recorded_err (Ok j) e is never = absurd (by (is_lawful (fields_of j)) is)
   where
     by : (b : Bool) → ◌≡◌ {A = Result Job Refusal} (Err e) (cond b (Ok j) (Err Unavailable)) → ⊥

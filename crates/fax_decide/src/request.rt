@@ -13,6 +13,7 @@ ghost use Rattle.fax_decide.specs.Settings.{settings_of};
 use crate::choice::decide_next;
 use crate::decision::Decision;
 use crate::fault::Unavailable;
+use crate::import::decide_import;
 use crate::jobs::{JobAsk, decide_on_job};
 use crate::modems::decide_mark;
 use crate::office::Office;
@@ -42,6 +43,7 @@ pub fn decide<S: Alter>(
 {
     match ask {
         Ask::Submission(order) => decide_submission(office, alloc, order, meta, t),
+        Ask::Bring(import) => decide_import(store, office, alloc, import, meta, t),
         Ask::Suspend { job } => decide_on_job(store, office, alloc, job, JobAsk::Suspend, t),
         Ask::Resume { job } => decide_on_job(store, office, alloc, job, JobAsk::Resume, t),
         Ask::Kill { job } => decide_on_job(store, office, alloc, job, JobAsk::Kill, t),

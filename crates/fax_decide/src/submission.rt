@@ -57,9 +57,9 @@ fn taken(alloc: Global, job: Job, meta: Meta) -> Result<Decision, Unavailable>
     take(Effect::NewJob { job, meta }, answered(alloc, &answer))
 }
 
-/// The reply to a refused submission: a rejected one is told the notice of its rule. Where the job would be no
-/// lawful record, which an order that was read never gives, there is none.
-fn refused(alloc: Global, refusal: Refusal, rule: &Rule) -> Result<Reply, Unavailable>
+/// The reply to a refused submission or import: a rejected one is told the notice of its rule. Where the job
+/// would be no lawful record, which what was read never gives, there is none.
+pub(crate) fn refused(alloc: Global, refusal: Refusal, rule: &Rule) -> Result<Reply, Unavailable>
     requires notice { refusal ≡ Refusal.Rejected → IsSome rule.now.notice }
     requires plain { ¬ (refusal ≡ Refusal.Rejected) → has_detail refusal ≡ false }
     ensures reply { (hours : ℕ → Bool) → IfOk result (λ reply.

@@ -1,5 +1,5 @@
 -- The words of `replay` give the plan with its files.
-use Rattle.std.proofs.Common.{◌≡◌, ◌∙◌, List, [], ◌∷◌, codes, Option, Some, None, Result, Ok, Err, refl, sym, ap, subst, inl, inr}
+use Rattle.std.proofs.Common.{◌≡◌, ◌∙◌, List, [], ◌∷◌, codes, Option, Some, None, Result, Ok, Err, refl, sym, ap, subst, inl, inr, arith, slice_index_or}
 use Rattle.clap.proofs.OnLiterals.{clap_on_literals}
 use Rattle.clap.specs.Faults.{fault_of}
 use Rattle.clap.specs.Kinds.{IsAmong, or_else}
@@ -10,7 +10,7 @@ use Rattle.fax_text.specs.CommandLine.{AskForReplay, GivesReplay, IsPlainWord}
 use Rattle.fax_text.specs.Server.{files_in}
 use Rattle.fax_text.specs.Words.{Reads, program}
 use Rattle.fax_text.specs.declared.words.Plan.{Plan}
-use Rattle.fax_text.specs.declared.words.Plan.TheVariants.{List as ListJobs, Replay, Serve, Sendfax}
+use Rattle.fax_text.specs.declared.words.Plan.TheVariants.{List as ListJobs, Replay, Serve, Sendfax, Import}
 use Rattle.fax_text.specs.declared.words.WordsFault.{WordsFault}
 use Rattle.fax_text.specs.declared.words.WordsFault.TheVariants.{Help, Usage, NoMemory}
 
@@ -110,11 +110,16 @@ no_sendfax : (rows other : List Row) → ¬ (Some (codes "sendfax", rows) ≡ en
 unfolding name_in
 no_sendfax rows other e = let no : codes "sendfax" ≡ codes "replay" = ap name_in e in cc
 
+no_import : (rows other : List Row) → ¬ (Some (codes "import", rows) ≡ entered other)
+unfolding name_in
+no_import rows other e = let no : slice_index_or (codes "import") 0 0 ≡ slice_index_or (codes "replay") 0 0 = ap (λ found. slice_index_or (name_in found) 0 0) e in absurd (omega (arith, no))
+
 given : (words : List Text) (setup controls : Option Text) (result : Result Plan WordsFault) → IsReplay words setup controls
     → Reads words result → GivesReplay setup controls result
 given words setup controls (Ok (Serve plan)) is reads = no_serve reads.0.0 is.rows (sym reads.0.1 ∙ is.command)
 given words setup controls (Ok (ListJobs plan)) is reads = no_list reads.0.0 is.rows (sym reads.0.1 ∙ is.command)
 given words setup controls (Ok (Sendfax plan)) is reads = no_sendfax reads.0.0 is.rows (sym reads.0.1 ∙ is.command)
+given words setup controls (Ok (Import plan)) is reads = no_import reads.0.0 is.rows (sym reads.0.1 ∙ is.command)
 given words setup controls (Ok (Replay files)) is reads =
     reads.0.2 ∙ ap files_in (same_rows reads.0.0 is.rows (sym reads.0.1 ∙ is.command)) ∙ is.files
 given words setup controls (Err (Help text)) is reads = subst (IsAmong reads.0) is.faults reads.1

@@ -1,12 +1,12 @@
 -- What the words of the command line come to.
-use Rattle.std.proofs.Common.{◌≡◌, ◌⊎◌, ◌∙◌, Bool, true, false, not, ◌&&◌, List, Option, Some, None, refl, sym, ap, subst, inl, inr, Bor, Err}
+use Rattle.std.proofs.Common.{◌≡◌, ◌⊎◌, ◌∙◌, Bool, true, false, not, ◌&&◌, List, [], Option, Some, None, refl, sym, ap, subst, inl, inr, Bor, Err}
 use Rattle.std.specs.Option.{option_copied}
 use Rattle.std.specs.Prelude.{unwrap_or}
 use Rattle.std.proofs.lemmas.Bool.{and_parts}
 use Rattle.clap.proofs.OnLiterals.{clap_on_literals}
 use Rattle.clap.specs.Faults.{fault_of, is_simple_and_free}
 use Rattle.clap.specs.Kinds.{IsAmong}
-use Rattle.clap.specs.Simple.{is_simple}
+use Rattle.clap.specs.Simple.{is_simple, subcommand_of}
 use Rattle.clap.specs.Walk.{Text}
 use Rattle.clap.specs.declared.error.kind.ErrorKind.{ErrorKind}
 use Rattle.clap.specs.declared.error.kind.ErrorKind.TheVariants.{OutOfMemory}
@@ -14,7 +14,9 @@ use Rattle.std.proofs.Common.{◌∷◌, Result}
 use Rattle.fax_text.proofs.RefusedWords.{gives_help, gives_usage}
 use Rattle.fax_text.proofs.ReplayWords.{gives_replay}
 use Rattle.fax_text.specs.CommandLine.{IsFixed}
-use Rattle.fax_text.specs.Words.{Reads, TellsKind, program}
+use Rattle.fax_text.specs.Words.{IsNoPlan, Reads, TellsKind, TellsMisuse, program}
+use Rattle.fax_text.specs.declared.words.Misuse.{Misuse}
+use Rattle.fax_text.specs.declared.words.Misuse.TheVariants as misuse
 use Rattle.fax_text.specs.declared.words.Plan.{Plan}
 use Rattle.fax_text.specs.declared.words.WordsFault.{WordsFault}
 use Rattle.fax_text.specs.declared.words.WordsFault.TheVariants.{Help, Usage, NoMemory}
@@ -44,6 +46,12 @@ reads_fault words kind (Help text) (inr among) tells = (kind, among, tells)
 reads_fault words kind (Usage text) (inl memory) tells = absurd (tells.0 memory)
 reads_fault words kind (Usage text) (inr among) tells = inl (kind, among, tells.1)
 reads_fault words kind NoMemory has tells = tt
+
+-- so does a fault of options, where no rule of the command line is broken
+pub reads_misuse : (words : List Text) (m : Misuse) (fault : WordsFault) → fault_of program words ≡ [] → (¬ (m ≡ misuse.NoMemory) → IsNoPlan (subcommand_of program words)) → TellsMisuse m fault → Reads words (Err fault)
+reads_misuse words m (Help text) whole none tells = absurd tells
+reads_misuse words m (Usage text) whole none tells = inr (whole, none tells)
+reads_misuse words m NoMemory whole none tells = tt
 
 -- the text of an option, or another text where it is missing
 pub or_else_text : (option : Option (Bor Text)) (found : Option Text) (other result : Bor Text)

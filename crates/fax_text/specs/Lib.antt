@@ -1,6 +1,8 @@
 pub mod Civil
 pub mod Column
 pub mod CommandLine
+pub mod Import
+pub mod ImportWords
 pub mod ListWords
 pub mod Listing
 pub mod Option

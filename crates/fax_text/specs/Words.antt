@@ -7,14 +7,18 @@ use Rattle.clap.specs.Simple.{App, new_app, on_top, subcommand_of, with_rule, wi
 use Rattle.clap.specs.Walk.{Row, Text, first_of}
 use Rattle.clap.specs.declared.error.kind.ErrorKind.{ErrorKind}
 use Rattle.clap.specs.declared.error.kind.ErrorKind.TheVariants.{DisplayHelp, DisplayVersion, OutOfMemory}
+use Rattle.fax_text.specs.declared.import_words.ImportPlan.{ImportPlan}
 use Rattle.fax_text.specs.declared.list_words.ListPlan.{ListPlan}
 use Rattle.fax_text.specs.declared.sendfax.SendPlan.{SendPlan}
 use Rattle.fax_text.specs.declared.server.ServePlan.{ServePlan}
+use Rattle.fax_text.specs.ImportWords.{IsImportPlan, import_command}
 use Rattle.fax_text.specs.ListWords.{IsListPlan, list_command}
 use Rattle.fax_text.specs.Option.{long_option, moment_or_none, number_from, number_or, required, short_option}
 use Rattle.fax_text.specs.Server.{IsServePlan, file_names, files_in, replay_command, serve_command}
+use Rattle.fax_text.specs.declared.words.Misuse.{Misuse}
+use Rattle.fax_text.specs.declared.words.Misuse.TheVariants as misuse
 use Rattle.fax_text.specs.declared.words.Plan.{Plan}
-use Rattle.fax_text.specs.declared.words.Plan.TheVariants.{List as ListJobs, Replay, Serve, Sendfax}
+use Rattle.fax_text.specs.declared.words.Plan.TheVariants.{List as ListJobs, Replay, Serve, Sendfax, Import}
 use Rattle.fax_text.specs.declared.words.WordsFault.{WordsFault}
 use Rattle.fax_text.specs.declared.words.WordsFault.TheVariants.{Help, Usage, NoMemory}
 
@@ -42,8 +46,8 @@ sendfax_command = with_request (with_times (with_limits (with_fax (new_app (code
 -- `faxqd COMMAND`
 abbrev pub program : App
 program =
-    with_subcommand (with_subcommand (with_subcommand (with_subcommand (on_top (λ s. record s { subcommand_required = true }) (new_app (codes "faxqd")))
-    replay_command.top) serve_command.top) list_command.top) sendfax_command.top
+    with_subcommand (with_subcommand (with_subcommand (with_subcommand (with_subcommand (on_top (λ s. record s { subcommand_required = true }) (new_app (codes "faxqd")))
+    replay_command.top) serve_command.top) list_command.top) sendfax_command.top) import_command.top
 
 -- ---- what the words ask for
 
@@ -68,6 +72,7 @@ IsPlanOf found (Replay files) = (rows : List Row) × (found ≡ Some (codes "rep
 IsPlanOf found (Serve plan) = (rows : List Row) × (found ≡ Some (codes "serve", rows)) × IsServePlan rows plan
 IsPlanOf found (ListJobs plan) = (rows : List Row) × (found ≡ Some (codes "list", rows)) × IsListPlan rows plan
 IsPlanOf found (Sendfax plan) = (rows : List Row) × (found ≡ Some (codes "sendfax", rows)) × IsSendPlan rows plan
+IsPlanOf found (Import plan) = (rows : List Row) × (found ≡ Some (codes "import", rows)) × IsImportPlan rows plan
 
 -- No plan has what they say. Whatever the options of `replay` say, there is one.
 pub record IsNoPlan (found : Option (Text × List Row)) : Type 0 where
@@ -75,6 +80,7 @@ pub record IsNoPlan (found : Option (Text × List Row)) : Type 0 where
   pub serve : (plan : ServePlan) → ¬ (IsPlanOf found (Serve plan))
   pub list : (plan : ListPlan) → ¬ (IsPlanOf found (ListJobs plan))
   pub sendfax : (plan : SendPlan) → ¬ (IsPlanOf found (Sendfax plan))
+  pub import : (plan : ImportPlan) → ¬ (IsPlanOf found (Import plan))
 
 -- text that is asked for, and no fault
 abbrev pub IsAsked : ErrorKind → Type 0
@@ -95,3 +101,9 @@ abbrev pub TellsKind : ErrorKind → WordsFault → Type 0
 TellsKind kind (Help text) = IsAsked kind
 TellsKind kind (Usage text) = ¬ (kind ≡ OutOfMemory) × ¬ (IsAsked kind)
 TellsKind kind NoMemory = kind ≡ OutOfMemory
+
+-- the fault of options that are wrong
+abbrev pub TellsMisuse : Misuse → WordsFault → Type 0
+TellsMisuse m (Help text) = ⊥
+TellsMisuse m (Usage text) = ¬ (m ≡ misuse.NoMemory)
+TellsMisuse m NoMemory = ⊤

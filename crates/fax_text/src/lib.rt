@@ -1,9 +1,11 @@
 //! Texts for people at a terminal: the listing of a queue's jobs, after HylaFAX's faxstat(1), and the
-//! request that hands in a job, by the options of its sendfax(1). The words of the command line are read
-//! into a [`Plan`], and a command ends with a [`Status`].
+//! request that hands in a job, by the options of its sendfax(1), or brings one in from its queue. The words of
+//! the command line are read into a [`Plan`], and a command ends with a [`Status`].
 #![tactic(auto)]
 
 mod column;
+mod import;
+mod import_words;
 mod list_words;
 mod listing;
 mod sendfax;
@@ -12,6 +14,8 @@ mod status;
 mod time;
 mod words;
 
+pub use import::{ImportFault, first_number, import_request};
+pub use import_words::ImportPlan;
 pub use list_words::ListPlan;
 pub use listing::{ListFault, list};
 pub use sendfax::{SendFault, SendPlan, request};

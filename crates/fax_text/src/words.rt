@@ -1,13 +1,14 @@
 //! The words of the command line, read by `clap`.
 
-ghost use Rattle.std.specs.Prelude.{◌≡◌, ◌≤◌, ℕ, List, ◌∷◌, false, codes, IfOk, IfSome, IsErr, Some, map, option_and_then, string_bytes};
+ghost use Rattle.std.specs.Prelude.{◌≡◌, ◌≤◌, ℕ, List, ◌∷◌, false, codes, IfErr, IfOk, IfSome, IsErr, Some, map, option_and_then, string_bytes};
 ghost use Rattle.std.specs.Option.{option_copied};
 ghost use Rattle.clap.specs.Words.{app_of, first_of, found_of, kind_of, rows_of, rule_of, subcommand_rows_of};
 ghost use Rattle.fax_text.specs.declared.sendfax.SendPlan.{SendPlan};
 ghost use Rattle.fax_text.specs.CommandLine.{IsFixed};
 ghost use Rattle.fax_text.specs.Option.{long_option, moment_or_none, number_from, number_or, short_option};
-ghost use Rattle.fax_text.specs.Words.{IsNoPlan, IsPlanOf, IsSendPlan, Reads, TellsKind, program, sendfax_command, with_fax, with_limits, with_request, with_times};
+ghost use Rattle.fax_text.specs.Words.{IsNoPlan, IsPlanOf, IsSendPlan, Reads, TellsKind, TellsMisuse, program, sendfax_command, with_fax, with_limits, with_request, with_times};
 
+use crate::import_words::{IMPORT, ImportPlan, import_command, import_plan_in};
 use crate::list_words::{LIST, ListPlan, list_command, list_plan_in};
 use crate::sendfax::SendPlan;
 use crate::server::{
@@ -22,7 +23,7 @@ use std::alloc::{AllocError, Global};
 const SENDFAX: &str = "sendfax";
 
 /// What the words ask for.
-#[derive(Clone, Copy, Debug)]
+#[derive(Debug, Drop)]
 pub enum Plan<'a> {
     /// Serve the input over a store in memory, by these files.
     Replay(OfficeFiles<'a>),
@@ -32,6 +33,8 @@ pub enum Plan<'a> {
     List(ListPlan<'a>),
     /// Hand in a job, or print the request that does.
     Sendfax(SendPlan<'a>),
+    /// Print the requests that bring the jobs of an older queue in.
+    Import(ImportPlan<'a>),
 }
 
 /// Why words ask for no command.
@@ -70,6 +73,20 @@ pub(crate) enum Misuse {
     Tries,
     Dials,
     Moment,
+    Client,
+    File,
+    NoMemory,
+}
+
+impl From<AllocError> for Misuse {
+    ghost use Rattle.std.specs.Prelude.{◌≡◌};
+    ghost use Rattle.fax_text.specs.declared.words.Misuse.TheVariants.{NoMemory};
+
+    ghost from_gives = { λ _ misuse. misuse ≡ NoMemory };
+
+    fn from(_: AllocError) -> Misuse {
+        Misuse::NoMemory
+    }
 }
 
 impl Misuse {
@@ -87,6 +104,9 @@ impl Misuse {
             Misuse::Tries => "-t wants a number from 1 to 1000",
             Misuse::Dials => "-T wants a number from 1 to 1000",
             Misuse::Moment => "--moment wants a number of 1 to 18 digits",
+            Misuse::Client => "--client is missing",
+            Misuse::File => "FILE is missing",
+            Misuse::NoMemory => "no memory",
         }
     }
 }
@@ -104,19 +124,16 @@ pub fn read_words<'a>(alloc: Global, words: &'a [String]) -> Result<Plan<'a>, Wo
         Ok(matches) => matches,
         Err(error) => return Err(explain(alloc, &error)?),
     };
-    match plan_in(&matches) {
+    match plan_in(alloc, &matches) {
         Ok(plan) => Ok(plan),
-        Err(misuse) => {
-            let text = misuse.text();
-            Err(WordsFault::Usage(format!(in alloc; "error: {text}\n")?))
-        }
+        Err(misuse) => Err(tell(alloc, misuse)?),
     }
 }
 
 /// What the command that was named is to do, by its own options.
-fn plan_in<'a>(matches: &ArgMatches<'a>) -> Result<Plan<'a>, Misuse>
+fn plan_in<'a>(alloc: Global, matches: &ArgMatches<'a>) -> Result<Plan<'a>, Misuse>
     ensures ok { IfOk result (IsPlanOf (subcommand_rows_of matches.now)) }
-    ensures err { IsErr result → IsNoPlan (subcommand_rows_of matches.now) }
+    ensures err { IfErr result (λ misuse. ¬ (misuse ≡ Misuse.NoMemory) → IsNoPlan (subcommand_rows_of matches.now)) }
 {
     if let Some(options) = matches.subcommand_matches(REPLAY) {
         return Ok(Plan::Replay(files_in(options)));
@@ -129,6 +146,9 @@ fn plan_in<'a>(matches: &ArgMatches<'a>) -> Result<Plan<'a>, Misuse>
     }
     if let Some(options) = matches.subcommand_matches(SENDFAX) {
         return Ok(Plan::Sendfax(send_plan_in(options)?));
+    }
+    if let Some(options) = matches.subcommand_matches(IMPORT) {
+        return Ok(Plan::Import(import_plan_in(alloc, options)?));
     }
     Err(Misuse::Command)
 }
@@ -246,7 +266,8 @@ fn command<'a>(alloc: Global) -> Result<Command<'a>, AllocError>
         .subcommand(replay_command(alloc)?)?
         .subcommand(serve_command(alloc)?)?
         .subcommand(list_command(alloc)?)?
-        .subcommand(sendfax_command(alloc)?)
+        .subcommand(sendfax_command(alloc)?)?
+        .subcommand(import_command(alloc)?)
 }
 
 /// The command that hands in a job.
@@ -372,6 +393,17 @@ fn short_option<'a>(
         .short(letter)
         .value_name(value)
         .help(help)
+}
+
+/// What is wrong with the options, unless memory ran out.
+fn tell(alloc: Global, misuse: Misuse) -> Result<WordsFault, AllocError>
+    ensures { IfOk result (TellsMisuse misuse) }
+{
+    if misuse == Misuse::NoMemory {
+        return Ok(WordsFault::NoMemory);
+    }
+    let text = misuse.text();
+    Ok(WordsFault::Usage(format!(in alloc; "error: {text}\n")?))
 }
 
 /// What `clap` has to say, and whether it is help.

@@ -4,9 +4,8 @@ use Rattle.clap.specs.Kinds.{IsAmong}
 use Rattle.clap.specs.Simple.{is_simple, subcommand_of, subcommand_rows_of}
 use Rattle.clap.specs.Values.{kind_of}
 use Rattle.clap.specs.declared.error.kind.ErrorKind.TheVariants.{OutOfMemory}
-use Rattle.fax_text.proofs.WordsLemmas.{fixed_of, is_free, is_plain, reads_fault}
+use Rattle.fax_text.proofs.WordsLemmas.{fixed_of, is_free, is_plain, reads_fault, reads_misuse}
 use Rattle.fax_text.specs.Words.{IsNoPlan, IsPlanOf, Reads, program}
-use Rattle.fax_text.specs.declared.words.WordsFault.TheVariants.{Usage}
 use Rattle.fax_text.proofs.words.read_words.Goals as goal
 
 pub returns-in-Err : goal.returns-in-Err
@@ -39,9 +38,8 @@ returns c =
     let words = map string_bytes c.args.words.now in
     let found : subcommand_rows_of c.in-Ok.matches ≡ subcommand_of program words =
     (c.in-Ok.ensures.matches (ap is_simple is_program ∙ is_plain)).1 ∙ ap (λ a. subcommand_of a words) is_program in
-    let fault = Usage c.in_ok-format-in-Err-plan_in.field-0 in
-    let reads : Reads words (Err fault) = inr (
-      ap (λ a. fault_of a words) (sym is_program) ∙ c.in-Ok.ensures.kinds (ap is_simple_and_free is_program ∙ is_free),
-      subst IsNoPlan found (c.in-Err-plan_in.ensures.err refl),
-    ) in
+    let fault = c.in_ok-tell-in-Err-plan_in.field-0 in
+    let reads : Reads words (Err fault) = reads_misuse words c.in-Err-plan_in.misuse fault
+    (ap (λ a. fault_of a words) (sym is_program) ∙ c.in-Ok.ensures.kinds (ap is_simple_and_free is_program ∙ is_free))
+    (λ other. subst IsNoPlan found (c.in-Err-plan_in.ensures.err other)) c.in_ok-tell-in-Err-plan_in.ensures in
     record { reads = reads; fixed = fixed_of words (Err fault) reads }

@@ -1,0 +1,101 @@
+//! Imports.
+
+ghost use Rattle.std.specs.Prelude.{◌≡◌, List, Ok, IfOk, OnOk};
+ghost use Rattle.sqlite.specs.Held.{state};
+ghost use Rattle.fax_ask.specs.Answer.{Replied};
+ghost use Rattle.fax_ask.specs.Response.{accepted_response};
+ghost use Rattle.fax_core.specs.Ageing.{aged};
+ghost use Rattle.fax_core.specs.Import.{bring};
+ghost use Rattle.fax_core.specs.Job.{job_of};
+ghost use Rattle.fax_core.specs.Machine.{brought_in};
+ghost use Rattle.fax_core.specs.Queue.{Queue, Entry};
+ghost use Rattle.fax_core.specs.Reply.{Brought};
+ghost use Rattle.fax_core.specs.Settings.{Rule as MachineRule};
+ghost use Rattle.fax_core.specs.Sound.{Sound};
+ghost use Rattle.fax_core.specs.State.{state as job_state};
+ghost use Rattle.fax_tables.specs.Meta.{meta_of};
+ghost use Rattle.fax_store.specs.Calls.{Looks, shown};
+ghost use Rattle.fax_store.specs.Store.{Means, Serves, StaysOpen};
+ghost use Rattle.fax_decide.specs.Decision.{Decides};
+ghost use Rattle.fax_decide.specs.Settings.{machine_rule, rule_for, settings_of};
+
+use crate::decision::{Decision, answered, refuse, take};
+use crate::effect::Effect;
+use crate::fault::Unavailable;
+use crate::office::Office;
+use crate::state::state_of;
+use crate::submission::refused;
+use fax_ask::{Answer, Reply};
+use fax_core::bring;
+use fax_job::{Import, Job, Moment};
+use fax_store::{Meta, Store};
+use sqlite::Alter;
+use std::alloc::Global;
+
+/// Decides an import at `t`, by the rule of its number. `meta` has the number of its job.
+pub(crate) fn decide_import<S: Alter>(
+    store: &mut Store<S>,
+    office: &Office,
+    alloc: Global,
+    import: Import,
+    meta: &Meta,
+    t: Moment,
+) -> Result<Decision, Unavailable>
+    ensures leaves { Looks S.Store store.old store.new }
+    ensures opens { OnOk result (StaysOpen (shown S.Store store.old) (shown S.Store store.new)) }
+    ensures decided { (m : Queue) (k : List Entry) → Sound m → Means (shown S.Store store.old) m k
+        → Serves (shown S.Store store.new) → meta.now ≡ meta_of m → IfOk result (Decides
+        (brought_in (settings_of office.now.setup office.now.controls) (aged t m) t
+        (machine_rule office.now.setup (rule_for office.now.controls import.order.dial))
+        (bring import (machine_rule office.now.setup (rule_for office.now.controls import.order.dial))
+        m.next_job office.now.setup.max_jobs t)) m t) }
+{
+    let rule = office.rule_of(alloc, &import.order.dial)?;
+    match bring(import, rule, meta.next_job, office.setup.max_jobs(), t) {
+        Ok(job) => brought(store, office, alloc, job, *meta, t),
+        Err(refusal) => refuse(refused(alloc, refusal, rule)),
+    }
+}
+
+/// The job is new, and its number and its state are told.
+fn brought<S: Alter>(
+    store: &mut Store<S>,
+    office: &Office,
+    alloc: Global,
+    job: Job,
+    meta: Meta,
+    t: Moment,
+) -> Result<Decision, Unavailable>
+    ensures leaves { Looks S.Store store.old store.new }
+    ensures opens { OnOk result (StaysOpen (shown S.Store store.old) (shown S.Store store.new)) }
+    ensures decided { (m : Queue) (k : List Entry) (rule : MachineRule) → Sound m
+        → Means (shown S.Store store.old) m k → Serves (shown S.Store store.new)
+        → meta ≡ meta_of m → job.job ≡ m.next_job → IfOk result (Decides
+        (brought_in (settings_of office.now.setup office.now.controls) (aged t m) t rule (Ok (job_of job))) m t) }
+{
+    let reply = told(store, office, alloc, &job, t);
+    take(Effect::NewJob { job, meta }, reply)
+}
+
+/// The reply that tells a new job and its state at `t`.
+fn told<S: Alter>(
+    store: &mut Store<S>,
+    office: &Office,
+    alloc: Global,
+    job: &Job,
+    t: Moment,
+) -> Result<Reply, Unavailable>
+    ensures leaves { Looks S.Store store.old store.new }
+    ensures opens { OnOk result (StaysOpen (shown S.Store store.old) (shown S.Store store.new)) }
+    ensures told { (m : Queue) (k : List Entry) → Means (shown S.Store store.old) m k
+        → Serves (shown S.Store store.new) → IfOk result (λ reply. reply ≡ accepted_response
+        (Replied (Brought job.now.job
+        (job_state (settings_of office.now.setup office.now.controls) m t (job_of job.now))))) }
+{
+    let state = state_of(store, office, alloc, job, t)?;
+    let answer = Answer::Brought {
+        job: job.fields().job,
+        state,
+    };
+    answered(alloc, &answer)
+}
