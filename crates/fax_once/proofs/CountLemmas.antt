@@ -6,6 +6,7 @@ use Rattle.std.specs.Option.{option_map}
 use Rattle.std.proofs.lemmas.Bool.{cond_both}
 use Rattle.std.proofs.lemmas.List.{length-append}
 use Rattle.fax_job.specs.declared.alter.Alter.{Alter}
+use Rattle.fax_job.specs.declared.import.Import.{Import}
 use Rattle.fax_job.specs.declared.job.Call.{Call}
 use Rattle.fax_job.specs.declared.job.Call.TheVariants.{Connected, Busy, NoAnswer, NoCarrier, Other}
 use Rattle.fax_job.specs.declared.job.Phase.{Phase}
@@ -20,10 +21,13 @@ use Rattle.fax_core.specs.declared.report.Ending.TheVariants as ending
 use Rattle.fax_core.specs.declared.report.Outcome.{Outcome}
 use Rattle.fax_core.specs.Ageing.{aged_job, expires, is_past}
 use Rattle.fax_core.specs.Decisions.{JobAndGrant, after_call, alter, alter_in, altered, call, ended, ended_by, failed, granted, is_kill, is_over, kill, kill_in, new_job, outcome, page, page_of, resume, resume_in, retried, submit, suspend, suspend_in}
+use Rattle.fax_core.specs.declared.ask.Ask.TheVariants.{Bring}
+use Rattle.fax_core.specs.Import.{bring}
 use Rattle.fax_core.specs.Job.{Job}
 use Rattle.fax_core.specs.Settings.{Rule}
 use Rattle.fax_core.proofs.DecisionLemmas.{IsPage, not_refused, ok_same, paged}
-use Rattle.fax_once.specs.Counts.{Called, Confirmed, Counters, Report, counters_of, counts, is_connection}
+use Rattle.fax_core.proofs.ImportLemmas.{bring_counts}
+use Rattle.fax_once.specs.Counts.{Called, Confirmed, Counters, Report, came_in, counters_of, counts, is_call, is_connected, is_connection, is_page, no_counters, number_of, since, unless_any}
 
 -- ---- one more report
 
@@ -37,29 +41,58 @@ abbrev pub counted_all : List Report → Counters → Counters
 counted_all [] c = c
 counted_all (r ∷ rs) c = counted r (counted_all rs c)
 
-more : (n : ℕ) → suc n ≡ n + 1
-more n = omega arith
+more : (n brought : ℕ) → suc n + brought ≡ n + brought + 1
+more n brought = omega arith
 
-unconnected : (c : Call) (rs : List Report) → is_connection c ≡ false
-    → counts (Called c ∷ rs) ≡ record (counts rs) { totdials = (counts rs).totdials + 1; ndials = (counts rs).ndials + 1 }
-unconnected c rs other = rw other (
-    ap (λ n. record (counts rs) { totdials = n; ndials = suc (counts rs).ndials }) (more (counts rs).totdials)
-    ∙ ap (λ n. record (counts rs) { totdials = (counts rs).totdials + 1; ndials = n }) (more (counts rs).ndials))
+nothing : (n : ℕ) → 0 + n ≡ n
+nothing n = omega arith
 
-pub counts_more : (r : Report) (rs : List Report) → counts (r ∷ rs) ≡ counted r (counts rs)
-counts_more (Called Connected) rs =
-    ap (λ n. record (counts rs) { totdials = n; tottries = suc (counts rs).tottries; ndials = 0; ntries = suc (counts rs).ntries }) (more (counts rs).totdials)
-    ∙ ap (λ n. record (counts rs) { totdials = (counts rs).totdials + 1; tottries = n; ndials = 0; ntries = suc (counts rs).ntries }) (more (counts rs).tottries)
-    ∙ ap (λ n. record (counts rs) { totdials = (counts rs).totdials + 1; tottries = (counts rs).tottries + 1; ndials = 0; ntries = n }) (more (counts rs).ntries)
-counts_more (Called Busy) rs = unconnected Busy rs refl
-counts_more (Called NoAnswer) rs = unconnected NoAnswer rs refl
-counts_more (Called NoCarrier) rs = unconnected NoCarrier rs refl
-counts_more (Called Other) rs = unconnected Other rs refl
-counts_more Confirmed rs = ap (λ n. record (counts rs) { npages = n; ntries = 0 }) (more (counts rs).npages)
+abbrev made : (totdials tottries ndials npages ntries : ℕ) → Counters
+made totdials tottries ndials npages ntries = record { totdials = totdials; tottries = tottries; ndials = ndials; npages = npages; ntries = ntries }
 
-pub counts_all : (front rs : List Report) → counts (front ++ rs) ≡ counted_all front (counts rs)
-counts_all [] rs = refl
-counts_all (r ∷ front) rs = counts_more r (front ++ rs) ∙ ap (counted r) (counts_all front rs)
+module _ (b : Counters) where
+  -- how many dials and tries were reported since the last that came further, and what of those that came in still counts
+  abbrev dials : List Report → ℕ
+  dials rs = number_of is_call (since is_connected rs)
+
+  abbrev tries : List Report → ℕ
+  tries rs = number_of is_connected (since is_page rs)
+
+  abbrev old_dials : List Report → ℕ
+  old_dials rs = unless_any is_connected rs b.ndials
+
+  abbrev old_tries : List Report → ℕ
+  old_tries rs = unless_any is_page rs b.ntries
+
+  unconnected : (c : Call) (rs : List Report) → is_connection c ≡ false
+      → counts b (Called c ∷ rs) ≡ record (counts b rs) { totdials = (counts b rs).totdials + 1; ndials = (counts b rs).ndials + 1 }
+  unconnected c rs other = rw other (
+      ap (λ n. record (counts b rs) { totdials = n; ndials = suc (dials rs) + old_dials rs }) (more (number_of is_call rs) b.totdials)
+      ∙ ap (λ n. record (counts b rs) { totdials = (counts b rs).totdials + 1; ndials = n }) (more (dials rs) (old_dials rs)))
+
+  pub counts_more : (r : Report) (rs : List Report) → counts b (r ∷ rs) ≡ counted r (counts b rs)
+  counts_more (Called Connected) rs =
+      ap (λ n. record (counts b rs) { totdials = n; tottries = suc (number_of is_connected rs) + b.tottries; ndials = 0; ntries = suc (tries rs) + old_tries rs }) (more (number_of is_call rs) b.totdials)
+      ∙ ap (λ n. record (counts b rs) { totdials = (counts b rs).totdials + 1; tottries = n; ndials = 0; ntries = suc (tries rs) + old_tries rs }) (more (number_of is_connected rs) b.tottries)
+      ∙ ap (λ n. record (counts b rs) { totdials = (counts b rs).totdials + 1; tottries = (counts b rs).tottries + 1; ndials = 0; ntries = n }) (more (tries rs) (old_tries rs))
+  counts_more (Called Busy) rs = unconnected Busy rs refl
+  counts_more (Called NoAnswer) rs = unconnected NoAnswer rs refl
+  counts_more (Called NoCarrier) rs = unconnected NoCarrier rs refl
+  counts_more (Called Other) rs = unconnected Other rs refl
+  counts_more Confirmed rs = ap (λ n. record (counts b rs) { npages = n; ntries = 0 }) (more (number_of is_page rs) b.npages)
+
+  -- where nothing is reported there is what came in
+  pub counts_none : counts b [] ≡ b
+  counts_none =
+      ap (λ n. made n (0 + b.tottries) (0 + b.ndials) (0 + b.npages) (0 + b.ntries)) (nothing b.totdials)
+      ∙ ap (λ n. made b.totdials n (0 + b.ndials) (0 + b.npages) (0 + b.ntries)) (nothing b.tottries)
+      ∙ ap (λ n. made b.totdials b.tottries n (0 + b.npages) (0 + b.ntries)) (nothing b.ndials)
+      ∙ ap (λ n. made b.totdials b.tottries b.ndials n (0 + b.ntries)) (nothing b.npages)
+      ∙ ap (λ n. made b.totdials b.tottries b.ndials b.npages n) (nothing b.ntries)
+
+  pub counts_all : (front rs : List Report) → counts b (front ++ rs) ≡ counted_all front (counts b rs)
+  counts_all [] rs = refl
+  counts_all (r ∷ front) rs = counts_more r (front ++ rs) ∙ ap (counted r) (counts_all front rs)
 
 -- ---- what each decision makes of them
 
@@ -104,15 +137,18 @@ altered_same phase.Granted a j k t e = cc
 altered_same phase.Done a j k t e = cc
 altered_same phase.Failed a j k t e = cc
 
-abbrev pub none_counted : Counters
-none_counted = counts []
-
-pub submitted_none : (o : Order) (rule : Rule) (n most t : ℕ) (j : Job) → submit o rule n most t ≡ Ok j → (j.number ≡ n) × (counters_of j ≡ none_counted)
+pub submitted_none : (o : Order) (rule : Rule) (n most t : ℕ) (j : Job) → submit o rule n most t ≡ Ok j → (j.number ≡ n) × (counters_of j ≡ no_counters)
 submitted_none o rule n most t j e =
     let a = not_refused (is_some rule.notice) _ _ j e in
     let b = not_refused (is_over o.totpages rule.pages) _ _ j a.1 in
     let c = not_refused (nat_lt most n) _ (Ok (new_job o n t)) j b.1 in
-    subst (λ (k : Job). (k.number ≡ n) × (counters_of k ≡ none_counted)) (ok_same (new_job o n t) j c.1) (refl, refl)
+    subst (λ (k : Job). (k.number ≡ n) × (counters_of k ≡ no_counters)) (ok_same (new_job o n t) j c.1) (refl, refl)
+
+-- a job that is brought in has the counters that came with it
+pub brought_counters : (i : Import) (rule : Rule) (n most t : ℕ) (j : Job) → bring i rule n most t ≡ Ok j → (j.number ≡ n) × (counters_of j ≡ came_in (Bring i))
+brought_counters i rule n most t j e =
+    let f = bring_counts i rule n most t j e in
+    (f.number, rw (f.totdials, f.tottries, f.ndials, f.npages, f.ntries) refl)
 
 -- a report leaves the grant's number and job
 pub record Reported (j : Job) (g : Grant) (b : JobAndGrant) (reports : List Report) : Type 0 where

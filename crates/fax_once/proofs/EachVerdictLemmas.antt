@@ -6,7 +6,7 @@ use Rattle.fax_job.specs.declared.refusal.Refusal.TheVariants.{BadBody, BadClien
 use Rattle.fax_job.specs.Name.{is_name}
 use Rattle.fax_job.specs.Number.{request_number_of}
 use Rattle.fax_ask.specs.declared.request.Request.{Request}
-use Rattle.fax_ask.specs.declared.request.Request.TheVariants.{Submit, Suspend, Resume, Kill, Alter, Show, Ready, Down, Next, Call, Page, Outcome}
+use Rattle.fax_ask.specs.declared.request.Request.TheVariants.{Submit, Import, Suspend, Resume, Kill, Alter, Show, Ready, Down, Next, Call, Page, Outcome}
 use Rattle.fax_ask.specs.declared.view.View.{View}
 use Rattle.fax_ask.specs.declared.view.View.TheVariants as sight
 use Rattle.fax_ask.specs.Ask.{Asks}
@@ -45,6 +45,7 @@ use Rattle.fax_once.specs.declared.arrival.Arrival.{Arrival}
 -- what isn't seen is a step
 step_of : (request : Request) (body : List ℕ) (asked : Asked) → seen_by request ≡ None → Asks request body asked → (ask : Ask) × (asked ≡ Step ask)
 step_of Submit body asked is h = (machine.Submission h.0, h.2)
+step_of Import body asked is h = (machine.Bring h.0, h.2)
 step_of (Alter job) body asked is h = (machine.Alteration job h.0, h.2)
 step_of (Call grant) body asked is h = (machine.CallReport grant h.0, h.2)
 step_of (Page grant) body asked is h = (machine.PageReport grant h.0, h.2)
@@ -87,6 +88,7 @@ each_verdict a each s m k = let one = for_route a each (request_of a.method a.pa
 
 never_met : (ask : Ask) → may_meet ask Unavailable ≡ true → ⊥
 never_met (machine.Submission order) met = absurd cc
+never_met (machine.Bring i) met = absurd cc
 never_met (machine.Suspend job) met = absurd cc
 never_met (machine.Resume job) met = absurd cc
 never_met (machine.Kill job) met = absurd cc

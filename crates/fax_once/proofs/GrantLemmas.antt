@@ -10,10 +10,11 @@ use Rattle.fax_core.specs.declared.report.Outcome.{Outcome}
 use Rattle.fax_core.specs.Ageing.{aged}
 use Rattle.fax_core.specs.Clock.{decided_at}
 use Rattle.fax_core.specs.declared.ask.Ask.{Ask}
-use Rattle.fax_core.specs.declared.ask.Ask.TheVariants.{Submission, Suspend, Resume, Kill, Alteration, Ready, Down, Next, CallReport, PageReport, OutcomeReport}
+use Rattle.fax_core.specs.declared.ask.Ask.TheVariants.{Submission, Bring, Suspend, Resume, Kill, Alteration, Ready, Down, Next, CallReport, PageReport, OutcomeReport}
 use Rattle.fax_core.specs.Decisions.{JobAndGrant, after_call, alter, call, ended, granted, is_connected, kill, outcome, page, page_of, resume, submit, suspend}
+use Rattle.fax_core.specs.Import.{bring}
 use Rattle.fax_core.specs.Job.{Job}
-use Rattle.fax_core.specs.Machine.{act, call_reply, changed, on_job, outcome_reply, page_reply, step, submitted, with_both, with_job, with_mark, with_new_job}
+use Rattle.fax_core.specs.Machine.{act, brought_in, call_reply, changed, on_job, outcome_reply, page_reply, step, submitted, with_both, with_job, with_mark, with_new_job}
 use Rattle.fax_core.specs.Queue.{Queue, grant_numbered, job_numbered}
 use Rattle.fax_core.specs.Reply.{Marked, NoKeys, Refused, Reply, Step, Taken}
 use Rattle.fax_core.specs.Run.{decided, left_by}
@@ -66,6 +67,10 @@ on_job_grants s m n t decide (Some j) r e = kept_all m n (changed_grants s m n t
 submission_grants : (m n : Queue) (rule : Rule) (d : Result Job Refusal) (r : Reply) → submitted m rule d ≡ Taken n r → KeepsGrants m n
 submission_grants m n rule (Ok k) r e = kept_all m n (ap (λ (q : Queue). q.grants) (sym (taken_same (with_new_job k m) n _ r e).0))
 submission_grants m n rule (Err x) r e = cc
+
+import_grants : (s : Settings) (m n : Queue) (t : ℕ) (rule : Rule) (d : Result Job Refusal) (r : Reply) → brought_in s m t rule d ≡ Taken n r → KeepsGrants m n
+import_grants s m n t rule (Ok k) r e = kept_all m n (ap (λ (q : Queue). q.grants) (sym (taken_same (with_new_job k m) n _ r e).0))
+import_grants s m n t rule (Err x) r e = cc
 
 mark_same : (m : Queue) (modem : List ℕ) (down : Bool) → (with_mark modem down m).grants ≡ m.grants
 mark_same m modem true = refl
@@ -142,6 +147,7 @@ given_grants s m n t modem r (Best_to j best none same told) =
 
 act_grants : (s : Settings) (m n : Queue) (t : ℕ) (ask : Ask) (r : Reply) → Sound m → act s m t ask ≡ Taken n r → KeepsGrants m n
 act_grants s m n t (Submission o) r h e = submission_grants m n (s.rule o.dial) (submit o (s.rule o.dial) m.next_job s.max_jobs t) r e
+act_grants s m n t (Bring i) r h e = import_grants s m n t (s.rule i.order.dial) (bring i (s.rule i.order.dial) m.next_job s.max_jobs t) r e
 act_grants s m n t (Suspend a) r h e = on_job_grants s m n t suspend (job_numbered a m) r e
 act_grants s m n t (Resume a) r h e = on_job_grants s m n t resume (job_numbered a m) r e
 act_grants s m n t (Kill a) r h e = on_job_grants s m n t kill (job_numbered a m) r e

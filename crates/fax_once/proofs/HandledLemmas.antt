@@ -7,7 +7,7 @@ use Rattle.fax_job.specs.declared.refusal.Refusal.TheVariants.{Unavailable}
 use Rattle.fax_ask.specs.Ask.{Asks}
 use Rattle.fax_ask.specs.declared.ask.Ask.TheVariants.{Step}
 use Rattle.fax_ask.specs.declared.request.Request.{Request as Route}
-use Rattle.fax_ask.specs.declared.request.Request.TheVariants.{Submit, Suspend, Resume, Kill, Alter, Show, Ready, Down, Next, Call, Page, Outcome}
+use Rattle.fax_ask.specs.declared.request.Request.TheVariants.{Submit, Import, Suspend, Resume, Kill, Alter, Show, Ready, Down, Next, Call, Page, Outcome}
 use Rattle.fax_ask.specs.Response.{Response, refused_response}
 use Rattle.fax_ask.proofs.LimitLemmas.{order_limits}
 use Rattle.fax_core.specs.Ask.{IsLawfulAsk}
@@ -15,6 +15,7 @@ use Rattle.fax_core.specs.declared.ask.Ask.{Ask}
 use Rattle.fax_core.specs.Reply.{NoKeys}
 use Rattle.fax_core.specs.Run.{decided}
 use Rattle.fax_core.specs.Settings.{Settings}
+use Rattle.fax_core.proofs.ReadImportLemmas.{read_counts}
 use Rattle.fax_core.specs.Queue.{Queue}
 use Rattle.fax_core.specs.Sound.{IsJob, Sound}
 use Rattle.fax_once.proofs.GrantLemmas.{runs_keep_grants}
@@ -35,6 +36,7 @@ use Rattle.fax_once.proofs.VerdictLemmas.{still_means}
 
 lawful_ask : (route : Route) (body : List ℕ) (ask : Ask) → Asks route body (Step ask) → IsLawfulAsk ask
 lawful_ask Submit body ask h = subst IsLawfulAsk (sym (same_ask h.2)) (order_limits h.1.lines h.0 h.1.stated)
+lawful_ask Import body ask h = subst IsLawfulAsk (sym (same_ask h.2)) (read_counts h.1.lines h.0 h.1.stated)
 lawful_ask (Alter job) body ask h = subst IsLawfulAsk (sym (same_ask h.2)) tt
 lawful_ask (Call grant) body ask h = subst IsLawfulAsk (sym (same_ask h.2)) tt
 lawful_ask (Page grant) body ask h = subst IsLawfulAsk (sym (same_ask h.2)) tt

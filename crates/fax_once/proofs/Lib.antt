@@ -12,6 +12,7 @@ mod RunLemmas
 mod PastLemmas
 mod CountLemmas
 mod MoveLemmas
+mod BroughtLemmas
 mod SumLemmas
 mod OnceLemmas
 mod GrantLemmas

@@ -4,29 +4,32 @@ use Rattle.std.specs.Prelude.{Result, find, nat_lt}
 use Rattle.std.specs.Option.{option_map, option_or}
 use Rattle.std.proofs.lemmas.Bool.{and_parts, cases_Bool, eqb-true, eq-eqb, ltb-false, ltb-true}
 use Rattle.std.proofs.lemmas.List.Folds.{find-append}
+use Rattle.fax_job.specs.declared.import.Import.{Import}
 use Rattle.fax_job.specs.declared.order.Order.{Order}
 use Rattle.fax_job.specs.declared.refusal.Refusal.{Refusal}
 use Rattle.fax_job.specs.declared.refusal.Refusal.TheVariants as refusal
 use Rattle.fax_core.specs.declared.grants.Grant.{Grant}
 use Rattle.fax_core.specs.Ageing.{aged, aged_job}
 use Rattle.fax_core.specs.declared.ask.Ask.{Ask}
-use Rattle.fax_core.specs.declared.ask.Ask.TheVariants.{Submission, Suspend, Resume, Kill, Alteration, Ready, Down, Next, CallReport, PageReport, OutcomeReport}
+use Rattle.fax_core.specs.declared.ask.Ask.TheVariants.{Submission, Bring, Suspend, Resume, Kill, Alteration, Ready, Down, Next, CallReport, PageReport, OutcomeReport}
 use Rattle.fax_core.specs.Decisions.{JobAndGrant, alter, call, granted, kill, outcome, page, resume, submit, suspend}
+use Rattle.fax_core.specs.Import.{bring}
 use Rattle.fax_core.specs.Job.{Job}
 use Rattle.fax_core.specs.Machine as machine
-use Rattle.fax_core.specs.Machine.{act, call_reply, changed, handed, on_job, outcome_reply, page_reply, step, submitted, with_both, with_job, with_mark, with_new_grant, with_new_job}
+use Rattle.fax_core.specs.Machine.{act, brought_in, call_reply, changed, handed, on_job, outcome_reply, page_reply, step, submitted, with_both, with_job, with_mark, with_new_grant, with_new_job}
 use Rattle.fax_core.specs.Queue.{Queue, grant_numbered, job_numbered}
-use Rattle.fax_core.specs.Reply.{Given, Marked, NoKeys, NoneToSend, Refused, Reply, Stands, Submitted, Taken}
+use Rattle.fax_core.specs.Reply.{Brought, Given, Marked, NoKeys, NoneToSend, Refused, Reply, Stands, Submitted, Taken}
 use Rattle.fax_core.specs.Settings.{Rule, Settings}
 use Rattle.fax_core.specs.Sound.{IsJob, Sound}
+use Rattle.fax_core.specs.State.{state}
 use Rattle.fax_core.proofs.DecisionLemmas.{aged_number, altered_in, killed_in, resumed_in, suspended_in}
 use Rattle.fax_core.proofs.KeepLemmas.{looked_up, numbered_grant, numbered_job, same_job}
 use Rattle.fax_core.proofs.PageLemmas.{on_grant_is}
 use Rattle.fax_core.proofs.PlaceLemmas.{absent, comes, either, find_placed, in_place, mapped, placed, stays}
 use Rattle.fax_core.proofs.StepLemmas.{Best_to, GivenTo, None_to, aged_sound, given_is, taken_same}
-use Rattle.fax_once.proofs.CountLemmas.{Same, aged_same, altered_same, called_counted, counted_all, killed_same, none_counted, outcome_counted, paged_counted, resumed_same, submitted_none, suspended_same}
+use Rattle.fax_once.proofs.CountLemmas.{Same, aged_same, altered_same, brought_counters, called_counted, counted_all, killed_same, outcome_counted, paged_counted, resumed_same, submitted_none, suspended_same}
 use Rattle.fax_once.proofs.CountLemmas as count
-use Rattle.fax_once.specs.Counts.{Called, Confirmed, Report, counters_of, hands, reported}
+use Rattle.fax_once.specs.Counts.{Called, Confirmed, Report, came_in, counters_of, hands, no_counters, reported}
 
 -- the grant that is found is of that job
 abbrev pub has_job : ℕ → Option Grant → Bool
@@ -37,10 +40,10 @@ has_job x (Some g) = eqb g.job x
 abbrev pub fresh : Queue → Ask → ℕ → List Report
 fresh m ask x = reported (λ a. has_job x (grant_numbered a m)) ask
 
--- a job was there and is counted with what is reported of it, or is new and has no counts
+-- a job was there and is counted with what is reported of it, or is new and has what came in with it
 pub data Became (m : Queue) (ask : Ask) (x : ℕ) (j : Job) : Type 0 where
   Was : (i : Job) → IsJob m x i → counters_of j ≡ counted_all (fresh m ask x) (counters_of i) → Became m ask x j
-  Is_new : x ≡ m.next_job → counters_of j ≡ none_counted → Became m ask x j
+  Is_new : x ≡ m.next_job → counters_of j ≡ came_in ask → Became m ask x j
 
 -- what a step that is taken makes of a queue
 pub record Moved (m n : Queue) (ask : Ask) (r : Reply) : Type 0 where
@@ -122,10 +125,26 @@ submission_moves m n o rule most t (Ok k) r is e =
       given = λ a x no. absurd cc;
     }))
   where
-    by : (x : ℕ) (y : Job) → (job_numbered x m ≡ Some y) ⊎ ((eqb k.number x ≡ true) × (k ≡ y)) → (k.number ≡ m.next_job) × (counters_of k ≡ none_counted) → Became m (Submission o) x y
+    by : (x : ℕ) (y : Job) → (job_numbered x m ≡ Some y) ⊎ ((eqb k.number x ≡ true) × (k ≡ y)) → (k.number ≡ m.next_job) × (counters_of k ≡ no_counters) → Became m (Submission o) x y
     by x y (inl old) f = Was y old refl
     by x y (inr (here, same)) f = Is_new (sym (eqb-true k.number x here) ∙ f.0) (ap counters_of (sym same) ∙ f.1)
 submission_moves m n o rule most t (Err x) r is e = cc
+
+import_moves : (s : Settings) (m n : Queue) (i : Import) (rule : Rule) (most t : ℕ) (d : Result Job Refusal) (r : Reply) → bring i rule m.next_job most t ≡ d → brought_in s m t rule d ≡ Taken n r → Moved m n (Bring i) r
+import_moves s m n i rule most t (Ok k) r is e =
+    let f = brought_counters i rule m.next_job most t k is in
+    subst (λ (q : Reply). Moved m n (Bring i) q) (taken_same (with_new_job k m) n _ r e).1
+    (subst (λ (q : Queue). Moved m q (Bring i) (Brought k.number (state s (with_new_job k m) t k))) (taken_same (with_new_job k m) n _ r e).0 (record {
+      jobs = λ x y found. by x y (either (λ (z : Job). eqb z.number x) m.jobs k y found) f;
+      numbers = omega arith;
+      grants = λ a x. refl;
+      given = λ a x no. absurd cc;
+    }))
+  where
+    by : (x : ℕ) (y : Job) → (job_numbered x m ≡ Some y) ⊎ ((eqb k.number x ≡ true) × (k ≡ y)) → (k.number ≡ m.next_job) × (counters_of k ≡ came_in (Bring i)) → Became m (Bring i) x y
+    by x y (inl old) f = Was y old refl
+    by x y (inr (here, same)) f = Is_new (sym (eqb-true k.number x here) ∙ f.0) (ap counters_of (sym same) ∙ f.1)
+import_moves s m n i rule most t (Err x) r is e = cc
 
 mark_same : (m : Queue) (modem : List ℕ) (down : Bool) → ((with_mark modem down m).jobs ≡ m.jobs) × ((with_mark modem down m).grants ≡ m.grants) × ((with_mark modem down m).next_job ≡ m.next_job)
 mark_same m modem true = (refl, refl, refl)
@@ -188,7 +207,7 @@ on_both_told : (m n : Queue) (decide : Job → Grant → Result JobAndGrant Refu
 on_both_told m n decide reply g None r e = cc
 on_both_told m n decide reply g (Some j) r e = reported_told m n reply j (decide j g) r e
 
-on_grant_told : (m n : Queue) (decide : Job → Grant → Result JobAndGrant Refusal) (reply : Queue → JobAndGrant → Reply) (o : Option Grant) (r : Reply) → machine.on_grant m decide reply o ≡ Taken n r → (b : JobAndGrant) × (reply (with_both b m) b ≡ r)
+pub on_grant_told : (m n : Queue) (decide : Job → Grant → Result JobAndGrant Refusal) (reply : Queue → JobAndGrant → Reply) (o : Option Grant) (r : Reply) → machine.on_grant m decide reply o ≡ Taken n r → (b : JobAndGrant) × (reply (with_both b m) b ≡ r)
 on_grant_told m n decide reply None r e = cc
 on_grant_told m n decide reply (Some g) r e = on_both_told m n decide reply g (job_numbered g.job m) r e
 
@@ -255,6 +274,7 @@ given_moves s m n t modem r h (Best_to j best none same told) =
 
 act_moves : (s : Settings) (m n : Queue) (t : ℕ) (ask : Ask) (r : Reply) → Sound m → act s m t ask ≡ Taken n r → Moved m n ask r
 act_moves s m n t (Submission o) r h e = submission_moves m n o (s.rule o.dial) s.max_jobs t (submit o (s.rule o.dial) m.next_job s.max_jobs t) r refl e
+act_moves s m n t (Bring i) r h e = import_moves s m n i (s.rule i.order.dial) s.max_jobs t (bring i (s.rule i.order.dial) m.next_job s.max_jobs t) r refl e
 act_moves s m n t (Suspend a) r h e = on_job_moves s m n t (Suspend a) a suspend (job_numbered a m) r refl (λ x. refl) (λ j k d. (suspended_same j.phase j.wish j k d, (suspended_in j.phase j.wish j k refl d).number)) e
 act_moves s m n t (Resume a) r h e = on_job_moves s m n t (Resume a) a resume (job_numbered a m) r refl (λ x. refl) (λ j k d. (resumed_same j.phase j.wish j k d, (resumed_in j.phase j.wish j k refl d).number)) e
 act_moves s m n t (Kill a) r h e = on_job_moves s m n t (Kill a) a kill (job_numbered a m) r refl (λ x. refl) (λ j k d. (killed_same j.phase j k d, (killed_in j.phase j k refl d).number)) e

@@ -6,7 +6,7 @@ use Rattle.fax_job.specs.declared.refusal.Refusal.{Refusal}
 use Rattle.fax_job.specs.declared.refusal.Refusal.TheVariants.{BadBody, NoRoute}
 use Rattle.fax_job.specs.declared.refusal.BodyFault.{BodyFault}
 use Rattle.fax_ask.specs.declared.request.Request.{Request}
-use Rattle.fax_ask.specs.declared.request.Request.TheVariants.{Submit, Suspend, Resume, Kill, Alter, Show, Ready, Down, Next, Call, Page, Outcome}
+use Rattle.fax_ask.specs.declared.request.Request.TheVariants.{Submit, Import, Suspend, Resume, Kill, Alter, Show, Ready, Down, Next, Call, Page, Outcome}
 use Rattle.fax_ask.specs.Ask.{Asks, IsAsk, IsBodyRefusal, IsRefused}
 use Rattle.fax_ask.specs.declared.ask.Ask.{Ask as Asked}
 use Rattle.fax_ask.specs.declared.ask.Ask.TheVariants.{Step, View}
@@ -30,6 +30,7 @@ use Rattle.fax_once.specs.declared.sender.Sender.{Sender}
 
 seen : (r : Request) (body : List ℕ) (what : Sight) → Asks r body (View what) → seen_by r ≡ Some what
 seen Submit body what is = absurd (let e = is.2 in cc)
+seen Import body what is = absurd (let e = is.2 in cc)
 seen (Suspend n) body what is = absurd cc
 seen (Resume n) body what is = absurd cc
 seen (Kill n) body what is = absurd cc
@@ -44,6 +45,7 @@ seen (Outcome n) body what is = absurd (let e = is.2 in cc)
 
 unseen : (r : Request) (body : List ℕ) (ask : Ask) → Asks r body (Step ask) → seen_by r ≡ None
 unseen Submit body ask is = refl
+unseen Import body ask is = refl
 unseen (Suspend n) body ask is = refl
 unseen (Resume n) body ask is = refl
 unseen (Kill n) body ask is = refl
@@ -142,6 +144,7 @@ told_answers (Err e) s a m k store is rests = rests
 unseen_fault : (r : Request) (body : List ℕ) (fault : BodyFault) → IsBodyRefusal r body (BadBody fault) → seen_by r ≡ None
 unseen_fault (Show n) body fault is = absurd is
 unseen_fault Submit body fault is = refl
+unseen_fault Import body fault is = refl
 unseen_fault (Suspend n) body fault is = refl
 unseen_fault (Resume n) body fault is = refl
 unseen_fault (Kill n) body fault is = refl
@@ -173,6 +176,7 @@ body_told s a m k fault reply refused told = sent (number_of a) refl told
 -- a body has no such fault
 no_body_fault : (r : Request) (body : List ℕ) → IsBodyRefusal r body NoRoute → ⊥
 no_body_fault Submit body is = is
+no_body_fault Import body is = is
 no_body_fault (Alter n) body is = is
 no_body_fault (Call n) body is = is
 no_body_fault (Page n) body is = is

@@ -1,10 +1,10 @@
--- Over a run from the empty queue the counters of a job are the counts of its reports.
-use Rattle.std.proofs.Common.{◌≡◌, ◌⊎◌, inl, inr, ℕ, ◌<◌, ◌≤◌, Bool, true, false, ◌||◌, List, [], ◌∷◌, ◌++◌, refl, sym, ap, ap₂, ◌∙◌, arith, if◌then◌else◌}
-use Rattle.std.proofs.lemmas.Bool.{cases_Bool, or_cases}
+-- Over a run from the empty queue the counters of a job are what it came in with and the counts of its reports.
+use Rattle.std.proofs.Common.{◌≡◌, ◌⊎◌, inl, inr, ℕ, ◌<◌, ◌≤◌, ◌==◌, Bool, true, false, ◌&&◌, ◌||◌, List, [], ◌∷◌, ◌++◌, refl, sym, ap, ap₂, ◌∙◌, arith, if◌then◌else◌}
+use Rattle.std.proofs.lemmas.Bool.{cases_Bool, eq-eqb, ne_eqb, or_cases}
 use Rattle.fax_core.specs.Ask.{IsLawfulAsk}
 use Rattle.fax_core.specs.Clock.{decided_at}
 use Rattle.fax_core.specs.declared.ask.Ask.{Ask}
-use Rattle.fax_core.specs.declared.ask.Ask.TheVariants.{Submission, Suspend, Resume, Kill, Alteration, Ready, Down, Next, CallReport, PageReport, OutcomeReport}
+use Rattle.fax_core.specs.declared.ask.Ask.TheVariants.{Submission, Bring, Suspend, Resume, Kill, Alteration, Ready, Down, Next, CallReport, PageReport, OutcomeReport}
 use Rattle.fax_core.specs.Job.{Job}
 use Rattle.fax_core.specs.Queue.{Queue, empty_queue, grant_numbered}
 use Rattle.fax_core.specs.Reply.{Reply, Step, Taken, Refused}
@@ -12,9 +12,10 @@ use Rattle.fax_core.specs.Run.{decided, left_by}
 use Rattle.fax_core.specs.Settings.{Settings}
 use Rattle.fax_core.specs.Sound.{IsJob, Sound}
 use Rattle.fax_core.proofs.StepLemmas.{empty_sound, step_sound}
-use Rattle.fax_once.proofs.CountLemmas.{counted_all, counts_all}
-use Rattle.fax_once.proofs.MoveLemmas.{Became, Is_new, Moved, Was, fresh, has_job, step_moves}
-use Rattle.fax_once.specs.Counts.{Called, Confirmed, Report, counters_of, counts, gives, hands, reported, reports_of, was_given}
+use Rattle.fax_once.proofs.BroughtLemmas.{is_import, none_came, step_brings, step_numbers}
+use Rattle.fax_once.proofs.CountLemmas.{counted_all, counts_all, counts_none}
+use Rattle.fax_once.proofs.MoveLemmas.{Became, Is_new, Moved, Was, below, fresh, has_job, step_moves}
+use Rattle.fax_once.specs.Counts.{Called, Confirmed, Counters, Report, brings, brought_with, came_in, counters_of, counts, gives, hands, no_counters, reported, reports_of, takes_in, was_given}
 use Rattle.fax_once.specs.Laws.{AreTaken, CountersAreCounts}
 use Rattle.fax_once.specs.Reading.{Post}
 use Rattle.fax_once.specs.Run.{queue_after, takes}
@@ -26,6 +27,7 @@ reported_same f g same (CallReport a c) = ap (λ b. if b then Called c ∷ [] el
 reported_same f g same (PageReport a p) = ap (λ b. if b then Confirmed ∷ [] else []) (same a)
 reported_same f g same (OutcomeReport a o) = refl
 reported_same f g same (Submission o) = refl
+reported_same f g same (Bring i) = refl
 reported_same f g same (Suspend a) = refl
 reported_same f g same (Resume a) = refl
 reported_same f g same (Kill a) = refl
@@ -39,6 +41,7 @@ reported_none (CallReport a c) = refl
 reported_none (PageReport a p) = refl
 reported_none (OutcomeReport a o) = refl
 reported_none (Submission o) = refl
+reported_none (Bring i) = refl
 reported_none (Suspend a) = refl
 reported_none (Resume a) = refl
 reported_none (Kill a) = refl
@@ -52,9 +55,10 @@ reported_none (Next modem) = refl
 record Sums (s : Settings) (posts : List Post) (m : Queue) : Type 0 where
   sound : Sound m
   grants : (a x : ℕ) → has_job x (grant_numbered a m) ≡ was_given s empty_queue posts a x
-  jobs : (x : ℕ) (j : Job) → IsJob m x j → counters_of j ≡ counts (reports_of s empty_queue x posts)
+  jobs : (x : ℕ) (j : Job) → IsJob m x j → counters_of j ≡ counts (brought_with s empty_queue x posts) (reports_of s empty_queue x posts)
   known : (a x : ℕ) → has_job x (grant_numbered a m) ≡ true → x < m.next_job
   none : (x : ℕ) → m.next_job ≤ x → reports_of s empty_queue x posts ≡ []
+  none_in : (x : ℕ) → m.next_job ≤ x → brought_with s empty_queue x posts ≡ no_counters
 
 no_sums : (s : Settings) → Sums s [] empty_queue
 no_sums s = record {
@@ -63,7 +67,17 @@ no_sums s = record {
   jobs = λ x j is. absurd cc;
   known = λ a x on. absurd cc;
   none = λ x high. refl;
+  none_in = λ x high. refl;
 }
+
+-- what came in with a job, by whether a request is an import and its job this one
+other_job : (is here : Bool) (came before : Counters) → here ≡ false → (if is && here then came else before) ≡ before
+other_job true here came before off = ap (λ (b : Bool). if b then came else before) off
+other_job false here came before off = refl
+
+its_job : (is here : Bool) (came before : Counters) → here ≡ true → (is ≡ false → came ≡ before) → (if is && here then came else before) ≡ came
+its_job true here came before on none = ap (λ (b : Bool). if b then came else before) on
+its_job false here came before on none = sym (none refl)
 
 module _ (s : Settings) (p : Post) (earlier : List Post) (lawful : IsLawfulAsk p.request.ask) (n : Queue) (r : Reply) where
   abbrev m : Queue
@@ -89,18 +103,48 @@ module _ (s : Settings) (p : Post) (earlier : List Post) (lawful : IsLawfulAsk p
         none_fresh : fresh m p.request.ask x ≡ []
         none_fresh = reported_same (λ a. has_job x (grant_numbered a m)) (λ a. false) not_its p.request.ask ∙ reported_none p.request.ask
 
-    became : (x : ℕ) (j : Job) → Became m p.request.ask x j → counters_of j ≡ counts (reports_of s empty_queue x (p ∷ earlier))
+    -- what came in with a job, this request aside and with it
+    brought_more : (x : ℕ) → brought_with s empty_queue x (p ∷ earlier) ≡ (if is_import p.request.ask && (m.next_job == x) then came_in p.request.ask else brought_with s empty_queue x earlier)
+    brought_more x =
+        ap (λ (y : Step). if takes_in y x then came_in p.request.ask else brought_with s empty_queue x earlier) is
+        ∙ ap (λ (b : Bool). if b then came_in p.request.ask else brought_with s empty_queue x earlier) (step_brings s m n (decided_at m.clock p.request.moment) p.request.ask r sums.sound is x)
+
+    brought_before : (x : ℕ) → (m.next_job == x) ≡ false → brought_with s empty_queue x (p ∷ earlier) ≡ brought_with s empty_queue x earlier
+    brought_before x off = brought_more x ∙ other_job (is_import p.request.ask) (m.next_job == x) (came_in p.request.ask) (brought_with s empty_queue x earlier) off
+
+    brought_now : (x : ℕ) → x ≡ m.next_job → brought_with s empty_queue x (p ∷ earlier) ≡ came_in p.request.ask
+    brought_now x new =
+        let high : m.next_job ≤ x = omega (arith, new) in
+        brought_more x
+        ∙ its_job (is_import p.request.ask) (m.next_job == x) (came_in p.request.ask) (brought_with s empty_queue x earlier) (eq-eqb m.next_job x (sym new))
+        (λ no. none_came p.request.ask no ∙ sym (sums.none_in x high))
+
+    became : (x : ℕ) (j : Job) → Became m p.request.ask x j → counters_of j ≡ counts (brought_with s empty_queue x (p ∷ earlier)) (reports_of s empty_queue x (p ∷ earlier))
     became x j (Was i there counted) =
+        let low = below m x i sums.sound there in
         counted ∙ ap (counted_all (fresh m p.request.ask x)) (sums.jobs x i there)
-        ∙ sym (counts_all (fresh m p.request.ask x) (reports_of s empty_queue x earlier))
-        ∙ ap (λ (front : List Report). counts (front ++ reports_of s empty_queue x earlier)) (sym (its x))
+        ∙ sym (counts_all (brought_with s empty_queue x earlier) (fresh m p.request.ask x) (reports_of s empty_queue x earlier))
+        ∙ ap (λ (front : List Report). counts (brought_with s empty_queue x earlier) (front ++ reports_of s empty_queue x earlier)) (sym (its x))
+        ∙ ap (λ (b : Counters). counts b (reports_of s empty_queue x (p ∷ earlier))) (sym (brought_before x (ne_eqb m.next_job x (λ q. omega (arith, low, q)))))
     became x j (Is_new new none) =
         let high : m.next_job ≤ x = omega (arith, new) in
-        none ∙ ap counts (sym (unknown x high))
+        none ∙ sym (brought_now x new) ∙ sym (counts_none (brought_with s empty_queue x (p ∷ earlier)))
+        ∙ ap (λ (rs : List Report). counts (brought_with s empty_queue x (p ∷ earlier)) rs) (sym (unknown x high))
 
     known_by : (a x : ℕ) → (hands r a x ≡ true) ⊎ (has_job x (grant_numbered a m) ≡ true) → x < n.next_job
     known_by a x (inl new) = let low = moved.given a x new in let more = moved.numbers in omega (arith, low, more)
     known_by a x (inr old) = let low = sums.known a x old in let more = moved.numbers in omega (arith, low, more)
+
+    -- a number that isn't given afterwards wasn't given to what came in either
+    none_now : (x : ℕ) → n.next_job ≤ x → brought_with s empty_queue x (p ∷ earlier) ≡ no_counters
+    none_now x high = elim (cases_Bool (is_import p.request.ask)) [
+      | inl on ↦
+          let beyond = step_numbers s m n (decided_at m.clock p.request.moment) p.request.ask r on is in
+          brought_before x (ne_eqb m.next_job x (λ q. omega (arith, beyond, high, q))) ∙ sums.none_in x (omega (arith, beyond, high))
+      | inr off ↦
+          let more = moved.numbers in
+          brought_more x ∙ ap (λ (b : Bool). if b && (m.next_job == x) then came_in p.request.ask else brought_with s empty_queue x earlier) off ∙ sums.none_in x (omega (arith, more, high))
+    ]
 
     sums_more : Sums s (p ∷ earlier) n
     sums_more = record {
@@ -111,6 +155,7 @@ module _ (s : Settings) (p : Post) (earlier : List Post) (lawful : IsLawfulAsk p
       jobs = λ x j found. became x j (moved.jobs x j found);
       known = λ a x on. known_by a x (or_cases (hands r a x) (has_job x (grant_numbered a m)) (sym (moved.grants a x) ∙ on));
       none = λ x high. unknown x (let more = moved.numbers in omega (arith, more, high));
+      none_in = λ x high. none_now x high;
     }
 
 sums_by : (s : Settings) (p : Post) (earlier : List Post) (x : Step) → IsLawfulAsk p.request.ask → decided s (queue_after s empty_queue earlier) p.request ≡ x → takes x ≡ true

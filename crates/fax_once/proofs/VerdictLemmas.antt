@@ -127,6 +127,7 @@ accepted_leaves (Err e) s a m k sender t ask effect reply old new sound lawful f
 -- what is lawful to ask
 pub lawful_ask : (ask : Ask) → IsLawfulStep ask → IsLawfulAsk ask
 lawful_ask (machine.Submission order) is = is
+lawful_ask (machine.Bring i) is = is
 lawful_ask (machine.Suspend job) is = _
 lawful_ask (machine.Resume job) is = _
 lawful_ask (machine.Kill job) is = _

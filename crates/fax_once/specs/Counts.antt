@@ -1,12 +1,13 @@
--- The counters of a job are sums over the reports on its grants that were taken. Of posts and of reports the newest comes first.
-use Rattle.std.specs.Prelude.{ℕ, ◌==◌, Bool, true, false, ◌&&◌, ◌||◌, List, [], ◌∷◌, ◌++◌, length, filter, if◌then◌else◌}
+-- The counters of a job are what it came in with, and sums over the reports on its grants that were taken. Of posts and of reports the newest comes first.
+use Rattle.std.specs.Prelude.{ℕ, ◌+◌, ◌==◌, Bool, true, false, ◌&&◌, ◌||◌, List, [], ◌∷◌, ◌++◌, length, filter, if◌then◌else◌}
+use Rattle.std.specs.List.{list_any}
 use Rattle.fax_job.specs.declared.job.Call.{Call}
 use Rattle.fax_job.specs.declared.job.Call.TheVariants.{Connected}
 use Rattle.fax_core.specs.declared.ask.Ask.{Ask}
-use Rattle.fax_core.specs.declared.ask.Ask.TheVariants.{CallReport, PageReport}
+use Rattle.fax_core.specs.declared.ask.Ask.TheVariants.{Bring, CallReport, PageReport}
 use Rattle.fax_core.specs.Job.{Job}
 use Rattle.fax_core.specs.Queue.{Queue}
-use Rattle.fax_core.specs.Reply.{Reply, Given, Step, Taken, Refused}
+use Rattle.fax_core.specs.Reply.{Reply, Brought, Given, Step, Taken, Refused}
 use Rattle.fax_core.specs.Run.{decided}
 use Rattle.fax_core.specs.Settings.{Settings}
 use Rattle.fax_once.specs.Reading.{Post}
@@ -74,14 +75,44 @@ pub record Counters : Type 0 where
   pub npages : ℕ
   pub ntries : ℕ
 
--- dials are calls, and tries are connected ones, each in all and since the last that came further
-abbrev pub counts : List Report → Counters
-counts rs = record {
-  totdials = number_of is_call rs;
-  tottries = number_of is_connected rs;
-  ndials = number_of is_call (since is_connected rs);
-  npages = number_of is_page rs;
-  ntries = number_of is_connected (since is_page rs);
+-- ---- what came in with a job
+
+abbrev pub no_counters : Counters
+no_counters = record { totdials = 0; tottries = 0; ndials = 0; npages = 0; ntries = 0 }
+
+-- an import brings its counters in, and a submission none
+abbrev pub came_in : Ask → Counters
+came_in (Bring i) = record { totdials = i.totdials; tottries = i.tottries; ndials = i.ndials; npages = i.npages; ntries = i.ntries }
+came_in other = no_counters
+
+-- the reply says that this job was brought in
+abbrev pub brings : Reply → ℕ → Bool
+brings (Brought number state) job = number == job
+brings other job = false
+
+abbrev pub takes_in : Step → ℕ → Bool
+takes_in (Taken after reply) job = brings reply job
+takes_in (Refused refusal keys) job = false
+
+-- the counters with which a job came in, which are none where no import made it
+abbrev pub brought_with : Settings → Queue → ℕ → List Post → Counters
+brought_with s m job [] = no_counters
+brought_with s m job (p ∷ earlier) = if takes_in (decided s (queue_after s m earlier) p.request) job then came_in p.request.ask else brought_with s m job earlier
+
+-- ---- what is counted
+
+-- what came in counts as long as nothing of a kind was reported
+abbrev pub unless_any : (Report → Bool) → List Report → ℕ → ℕ
+unless_any ends rs brought = if list_any ends rs then 0 else brought
+
+-- dials are calls, and tries are connected ones, each in all and since the last that came further, on top of what came in
+abbrev pub counts : Counters → List Report → Counters
+counts brought rs = record {
+  totdials = number_of is_call rs + brought.totdials;
+  tottries = number_of is_connected rs + brought.tottries;
+  ndials = number_of is_call (since is_connected rs) + unless_any is_connected rs brought.ndials;
+  npages = number_of is_page rs + brought.npages;
+  ntries = number_of is_connected (since is_page rs) + unless_any is_page rs brought.ntries;
 }
 
 abbrev pub counters_of : Job → Counters

@@ -18,7 +18,7 @@ use Rattle.fax_tables.specs.Kept.{entry}
 use Rattle.fax_tables.specs.Tables.{IsKeptStatus, IsLawfulEntry}
 use Rattle.fax_once.specs.Arrival.{number_of, said_of}
 use Rattle.fax_once.specs.Reading.{Post, Reading, Posts, IsReading}
-use Rattle.fax_once.specs.Counts.{counters_of, counts, reports_of}
+use Rattle.fax_once.specs.Counts.{brought_with, counters_of, counts, reports_of}
 use Rattle.fax_once.specs.Run.{Start, IsRun, end_of, is_taken, queue_after, reply_at, taken, takes}
 use Rattle.fax_once.specs.Verdict.{Verdict, Told, Repeated, Accepted, IsVerdict, reply_of, verdict}
 use Rattle.fax_once.specs.declared.arrival.Arrival.{Arrival}
@@ -124,10 +124,10 @@ abbrev pub AreTaken : Settings → Queue → List Post → Type 0
 AreTaken s m [] = ⊤
 AreTaken s m (p ∷ earlier) = IsLawfulAsk p.request.ask × (takes (decided s (queue_after s m earlier) p.request) ≡ true) × AreTaken s m earlier
 
--- from the empty queue the counters of each job are the counts of its reports
+-- from the empty queue the counters of each job are what it came in with and the counts of its reports
 abbrev pub CountersAreCounts : Type 0
 CountersAreCounts = (s : Settings) (posts : List Post) → AreTaken s empty_queue posts
-    → (number : ℕ) (j : Job) → IsJob (queue_after s empty_queue posts) number j → counters_of j ≡ counts (reports_of s empty_queue number posts)
+    → (number : ℕ) (j : Job) → IsJob (queue_after s empty_queue posts) number j → counters_of j ≡ counts (brought_with s empty_queue number posts) (reports_of s empty_queue number posts)
 
 -- ---- modems, jobs and pages
 
@@ -188,4 +188,4 @@ pub record RunsWell (s : Settings) (start : Start) (arrivals : List Arrival) (re
   pub sent_once : NoPageTwice s start.queue (taken s start run.heard)
   pub grants_stay : (later earlier : List Post) → taken s start run.heard ≡ later ++ earlier → KeepsGrants (queue_after s start.queue earlier) (end_of s start run.heard).queue
   pub counted : start.queue ≡ empty_queue → (number : ℕ) (j : Job) → IsJob (end_of s start run.heard).queue number j
-      → counters_of j ≡ counts (reports_of s empty_queue number (taken s start run.heard))
+      → counters_of j ≡ counts (brought_with s empty_queue number (taken s start run.heard)) (reports_of s empty_queue number (taken s start run.heard))

@@ -62,8 +62,8 @@ pub fn repeats()
     ensures reply { NumbersHaveOneReply }
 {}
 
-/// From the empty queue the five counters of every job are the counts of its reports: dials, tries and pages, in all
-/// and since the last that came further.
+/// From the empty queue the five counters of every job are what it came in with and the counts of its reports: dials,
+/// tries and pages, in all and since the last that came further. A submission comes in with none.
 pub fn counters()
     ensures { CountersAreCounts }
 {}

@@ -1,0 +1,112 @@
+-- Which requests bring a job in: an import, and its job has the next number.
+use Rattle.std.proofs.Common.{◌≡◌, ℕ, ◌<◌, Bool, true, false, cond, ◌&&◌, eqb, List, Option, Some, None, Ok, Err, refl, sym, ap, ◌∙◌, arith}
+use Rattle.std.specs.Prelude.{Result}
+use Rattle.fax_job.specs.declared.import.Import.{Import}
+use Rattle.fax_job.specs.declared.refusal.Refusal.{Refusal}
+use Rattle.fax_job.specs.declared.refusal.Refusal.TheVariants as refusal
+use Rattle.fax_core.specs.declared.grants.Grant.{Grant}
+use Rattle.fax_core.specs.Ageing.{aged}
+use Rattle.fax_core.specs.declared.ask.Ask.{Ask}
+use Rattle.fax_core.specs.declared.ask.Ask.TheVariants.{Submission, Bring, Suspend, Resume, Kill, Alteration, Ready, Down, Next, CallReport, PageReport, OutcomeReport}
+use Rattle.fax_core.specs.Decisions.{JobAndGrant, alter, call, kill, outcome, page, resume, submit, suspend}
+use Rattle.fax_core.specs.Import.{bring}
+use Rattle.fax_core.specs.Job.{Job}
+use Rattle.fax_core.specs.Machine.{act, brought_in, call_reply, changed, on_grant, on_job, outcome_reply, page_reply, step, submitted, with_both, with_job, with_mark, with_new_job}
+use Rattle.fax_core.specs.Queue.{Queue, grant_numbered, job_numbered}
+use Rattle.fax_core.specs.Reply.{Marked, NoKeys, Refused, Reply, Taken}
+use Rattle.fax_core.specs.Settings.{Rule, Settings}
+use Rattle.fax_core.specs.Sound.{Sound}
+use Rattle.fax_core.proofs.ImportLemmas.{bring_counts}
+use Rattle.fax_core.proofs.StepLemmas.{Best_to, GivenTo, None_to, aged_sound, given_is, taken_same}
+use Rattle.fax_once.proofs.MoveLemmas.{on_grant_told}
+use Rattle.fax_once.specs.Counts.{brings, came_in, no_counters}
+
+-- the request is an import
+abbrev pub is_import : Ask → Bool
+is_import (Bring i) = true
+is_import other = false
+
+-- what is none brings no counters
+pub none_came : (ask : Ask) → is_import ask ≡ false → came_in ask ≡ no_counters
+none_came (Bring i) e = absurd cc
+none_came (Submission o) e = refl
+none_came (Suspend a) e = refl
+none_came (Resume a) e = refl
+none_came (Kill a) e = refl
+none_came (Alteration a c) e = refl
+none_came (Ready modem) e = refl
+none_came (Down modem) e = refl
+none_came (Next modem) e = refl
+none_came (CallReport a c) e = refl
+none_came (PageReport a p) e = refl
+none_came (OutcomeReport a o) e = refl
+
+-- the reply brings no job in
+abbrev BringsNone : Reply → Type 0
+BringsNone r = (x : ℕ) → brings r x ≡ false
+
+changed_brings : (s : Settings) (m n : Queue) (t : ℕ) (d : Result Job Refusal) (r : Reply) → changed s m t d ≡ Taken n r → BringsNone r
+changed_brings s m n t (Ok k) r e x = ap (λ (q : Reply). brings q x) (sym (taken_same (with_job k m) n _ r e).1)
+changed_brings s m n t (Err y) r e x = cc
+
+on_job_brings : (s : Settings) (m n : Queue) (t : ℕ) (decide : Job → Result Job Refusal) (o : Option Job) (r : Reply) → on_job s m t decide o ≡ Taken n r → BringsNone r
+on_job_brings s m n t decide None r e x = cc
+on_job_brings s m n t decide (Some j) r e x = changed_brings s m n t (decide j) r e x
+
+submission_brings : (m n : Queue) (rule : Rule) (d : Result Job Refusal) (r : Reply) → submitted m rule d ≡ Taken n r → BringsNone r
+submission_brings m n rule (Ok k) r e x = ap (λ (q : Reply). brings q x) (sym (taken_same (with_new_job k m) n _ r e).1)
+submission_brings m n rule (Err y) r e x = cc
+
+mark_brings : (m n : Queue) (modem : List ℕ) (down b : Bool) (r : Reply) → cond b (Taken (with_mark modem down m) (Marked down)) (Refused refusal.NoModem NoKeys) ≡ Taken n r → BringsNone r
+mark_brings m n modem down true r e x = ap (λ (q : Reply). brings q x) (sym (taken_same (with_mark modem down m) n _ r e).1)
+mark_brings m n modem down false r e x = cc
+
+given_brings : (s : Settings) (m n : Queue) (t : ℕ) (modem : List ℕ) (r : Reply) → GivenTo s m t modem n r → BringsNone r
+given_brings s m n t modem r (None_to none same told) x = ap (λ (q : Reply). brings q x) (sym told)
+given_brings s m n t modem r (Best_to j best none same told) x = ap (λ (q : Reply). brings q x) (sym told)
+
+report_brings : (m n : Queue) (decide : Job → Grant → Result JobAndGrant Refusal) (reply : Queue → JobAndGrant → Reply) (o : Option Grant) (r : Reply) → ((q : Queue) (b : JobAndGrant) (x : ℕ) → brings (reply q b) x ≡ false) → on_grant m decide reply o ≡ Taken n r → BringsNone r
+report_brings m n decide reply o r none e x =
+    let told = on_grant_told m n decide reply o r e in
+    ap (λ (q : Reply). brings q x) (sym told.1) ∙ none (with_both told.0 m) told.0 x
+
+import_brings : (s : Settings) (m n : Queue) (t : ℕ) (rule : Rule) (d : Result Job Refusal) (r : Reply) → ((k : Job) → d ≡ Ok k → k.number ≡ m.next_job) → brought_in s m t rule d ≡ Taken n r → (x : ℕ) → brings r x ≡ eqb m.next_job x
+import_brings s m n t rule (Ok k) r is e x = ap (λ (q : Reply). brings q x) (sym (taken_same (with_new_job k m) n _ r e).1) ∙ ap (λ (a : ℕ). eqb a x) (is k refl)
+import_brings s m n t rule (Err y) r is e x = cc
+
+act_brings : (s : Settings) (m n : Queue) (t : ℕ) (ask : Ask) (r : Reply) → Sound m → act s m t ask ≡ Taken n r → (x : ℕ) → brings r x ≡ (is_import ask && eqb m.next_job x)
+act_brings s m n t (Submission o) r h e x = submission_brings m n (s.rule o.dial) (submit o (s.rule o.dial) m.next_job s.max_jobs t) r e x
+act_brings s m n t (Bring i) r h e x = import_brings s m n t (s.rule i.order.dial) (bring i (s.rule i.order.dial) m.next_job s.max_jobs t) r (λ k is. (bring_counts i (s.rule i.order.dial) m.next_job s.max_jobs t k is).number) e x
+act_brings s m n t (Suspend a) r h e x = on_job_brings s m n t suspend (job_numbered a m) r e x
+act_brings s m n t (Resume a) r h e x = on_job_brings s m n t resume (job_numbered a m) r e x
+act_brings s m n t (Kill a) r h e x = on_job_brings s m n t kill (job_numbered a m) r e x
+act_brings s m n t (Alteration a c) r h e x = on_job_brings s m n t (λ j. alter c j t) (job_numbered a m) r e x
+act_brings s m n t (Ready modem) r h e x = mark_brings m n modem false (s.has_modem modem) r e x
+act_brings s m n t (Down modem) r h e x = mark_brings m n modem true (s.has_modem modem) r e x
+act_brings s m n t (Next modem) r h e x = given_brings s m n t modem r (given_is s m t modem n r h e) x
+act_brings s m n t (CallReport a c) r h e x = report_brings m n (call c) (call_reply t) (grant_numbered a m) r (λ q b y. refl) e x
+act_brings s m n t (PageReport a p) r h e x = report_brings m n (page p) (page_reply t) (grant_numbered a m) r (λ q b y. refl) e x
+act_brings s m n t (OutcomeReport a o) r h e x = report_brings m n (λ j g. outcome o j g (s.delay g.call) t) (outcome_reply s t) (grant_numbered a m) r (λ q b y. refl) e x
+
+pub step_brings : (s : Settings) (m n : Queue) (t : ℕ) (ask : Ask) (r : Reply) → Sound m → step s m t ask ≡ Taken n r → (x : ℕ) → brings r x ≡ (is_import ask && eqb m.next_job x)
+step_brings s m n t ask r h e x = act_brings s (aged t m) n t ask r (aged_sound t m h) e x
+
+-- ---- and its number is used up
+
+import_numbers : (s : Settings) (m n : Queue) (t : ℕ) (rule : Rule) (d : Result Job Refusal) (r : Reply) → brought_in s m t rule d ≡ Taken n r → m.next_job < n.next_job
+import_numbers s m n t rule (Ok k) r e = let same = ap (λ (q : Queue). q.next_job) (taken_same (with_new_job k m) n _ r e).0 in omega (arith, same)
+import_numbers s m n t rule (Err y) r e = cc
+
+pub step_numbers : (s : Settings) (m n : Queue) (t : ℕ) (ask : Ask) (r : Reply) → is_import ask ≡ true → step s m t ask ≡ Taken n r → m.next_job < n.next_job
+step_numbers s m n t (Bring i) r on e = import_numbers s (aged t m) n t (s.rule i.order.dial) (bring i (s.rule i.order.dial) m.next_job s.max_jobs t) r e
+step_numbers s m n t (Submission o) r on e = absurd cc
+step_numbers s m n t (Suspend a) r on e = absurd cc
+step_numbers s m n t (Resume a) r on e = absurd cc
+step_numbers s m n t (Kill a) r on e = absurd cc
+step_numbers s m n t (Alteration a c) r on e = absurd cc
+step_numbers s m n t (Ready modem) r on e = absurd cc
+step_numbers s m n t (Down modem) r on e = absurd cc
+step_numbers s m n t (Next modem) r on e = absurd cc
+step_numbers s m n t (CallReport a c) r on e = absurd cc
+step_numbers s m n t (PageReport a p) r on e = absurd cc
+step_numbers s m n t (OutcomeReport a o) r on e = absurd cc
