@@ -1,5 +1,5 @@
 -- What the words of the command `import` ask for.
-use Rattle.std.specs.Prelude.{◌≡◌, List, codes, map, true, Some}
+use Rattle.std.specs.Prelude.{◌≡◌, List, codes, map, Some}
 use Rattle.clap.specs.Lexer.{usize_max}
 use Rattle.clap.specs.Simple.{App, new_app, new_rule, with_rule}
 use Rattle.clap.specs.Walk.{Row, Rule, all_of, first_of}

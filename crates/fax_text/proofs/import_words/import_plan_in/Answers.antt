@@ -1,5 +1,4 @@
-use Rattle.std.proofs.Common.{◌≡◌, ◌∙◌, sym, ap, map, List, codes, Option, Some, None}
-use Rattle.std.specs.Option.{option_map}
+use Rattle.std.proofs.Common.{◌∙◌, sym, ap, map, codes, Some}
 use Rattle.clap.specs.Matches.{found_of}
 use Rattle.clap.proofs.WalkLemmas.{raw_values-rows}
 use Rattle.fax_text.proofs.import_words.import_plan_in.Goals as goal

@@ -5,7 +5,6 @@ use Rattle.fax_store.specs.Work.{Works}
 use Rattle.fax_decide.specs.Effect.{IsWithin, IsWritable, Suits, effected}
 use Rattle.fax_store.proofs.FrameLemmas.{follows_of, follows_then}
 use Rattle.fax_decide.proofs.WorkLemmas.{refused_any}
-use Rattle.fax_store.proofs.StopLemmas.{withholds_then}
 use Rattle.fax_decide.proofs.effect.Effect.change.Goals as goal
 
 pub returns-in-NewJob-clause-changes : goal.returns-in-NewJob-clause-changes

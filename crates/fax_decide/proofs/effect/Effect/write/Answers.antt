@@ -5,7 +5,6 @@ use Rattle.fax_store.specs.Work.{Works}
 use Rattle.fax_decide.specs.Effect.{IsWritable, Suits, effected}
 use Rattle.fax_store.proofs.FrameLemmas.{follows_of, follows_then}
 use Rattle.fax_decide.proofs.WorkLemmas.{refused_any}
-use Rattle.fax_store.proofs.StopLemmas.{withholds_then}
 use Rattle.fax_store.proofs.WorkLemmas.{refused_as}
 use Rattle.fax_decide.proofs.effect.Effect.write.Goals as goal
 
