@@ -1,7 +1,6 @@
 -- Which requests bring a job in: an import, and its job has the next number.
 use Rattle.std.proofs.Common.{◌≡◌, ℕ, ◌<◌, Bool, true, false, cond, ◌&&◌, eqb, List, Option, Some, None, Ok, Err, refl, sym, ap, ◌∙◌, arith}
 use Rattle.std.specs.Prelude.{Result}
-use Rattle.fax_job.specs.declared.import.Import.{Import}
 use Rattle.fax_job.specs.declared.refusal.Refusal.{Refusal}
 use Rattle.fax_job.specs.declared.refusal.Refusal.TheVariants as refusal
 use Rattle.fax_core.specs.declared.grants.Grant.{Grant}

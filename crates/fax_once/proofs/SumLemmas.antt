@@ -15,7 +15,7 @@ use Rattle.fax_core.proofs.StepLemmas.{empty_sound, step_sound}
 use Rattle.fax_once.proofs.BroughtLemmas.{is_import, none_came, step_brings, step_numbers}
 use Rattle.fax_once.proofs.CountLemmas.{counted_all, counts_all, counts_none}
 use Rattle.fax_once.proofs.MoveLemmas.{Became, Is_new, Moved, Was, below, fresh, has_job, step_moves}
-use Rattle.fax_once.specs.Counts.{Called, Confirmed, Counters, Report, brings, brought_with, came_in, counters_of, counts, gives, hands, no_counters, reported, reports_of, takes_in, was_given}
+use Rattle.fax_once.specs.Counts.{Called, Confirmed, Counters, Report, brought_with, came_in, counters_of, counts, gives, hands, no_counters, reported, reports_of, takes_in, was_given}
 use Rattle.fax_once.specs.Laws.{AreTaken, CountersAreCounts}
 use Rattle.fax_once.specs.Reading.{Post}
 use Rattle.fax_once.specs.Run.{queue_after, takes}
