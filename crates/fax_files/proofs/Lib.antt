@@ -1,1 +1,2 @@
 mod DatabaseLemmas
+mod SpoolLemmas

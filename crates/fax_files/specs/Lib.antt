@@ -1,2 +1,3 @@
 pub mod Database
 pub mod Office
+pub mod Spool
