@@ -2,6 +2,7 @@
 use Rattle.std.specs.Prelude.{◌≡◌, ℕ, false, List, ◌∷◌, Option, Result, Ok, Err, string_bytes}
 use Rattle.fax_http.specs.Device.{BrokeOff, Put}
 use Rattle.fax_http.specs.declared.device.Watched.{Watched}
+use Rattle.faxqd.specs.Import.{Imports}
 use Rattle.faxqd.specs.List.{Lists}
 use Rattle.faxqd.specs.Replay.{Ends}
 use Rattle.fax_net.specs.Sendfax.{Hands}
@@ -11,7 +12,7 @@ use Rattle.fax_text.specs.Words.{Reads}
 use Rattle.fax_text.specs.declared.status.Status.{Status}
 use Rattle.fax_text.specs.declared.status.Status.TheVariants.{Success, Fault, Usage as Misused}
 use Rattle.fax_text.specs.declared.words.Plan.{Plan}
-use Rattle.fax_text.specs.declared.words.Plan.TheVariants.{Replay, Serve, List as ListJobs, Sendfax}
+use Rattle.fax_text.specs.declared.words.Plan.TheVariants.{Replay, Serve, List as ListJobs, Sendfax, Import}
 use Rattle.fax_text.specs.declared.words.WordsFault.{WordsFault}
 use Rattle.fax_text.specs.declared.words.WordsFault.TheVariants.{Help, Usage, NoMemory}
 
@@ -36,6 +37,7 @@ module _ {R W : Type 0} (remaining : R → Option (List ℕ)) (contents : W → 
   CarriesOut (Serve plan) status = (reader₂ ≡ reader) × EndsServing contents out out₂ plan status
   CarriesOut (ListJobs plan) status = (reader₂ ≡ reader) × Lists contents out out₂ plan status
   CarriesOut (Sendfax plan) status = (reader₂ ≡ reader) × Hands contents out out₂ plan status
+  CarriesOut (Import plan) status = (reader₂ ≡ reader) × Imports contents out out₂ plan status
 
   module _ {E : Type 0} (err err₂ : E) where
     -- what a plan or a fault of words comes to

@@ -1,4 +1,5 @@
 pub mod Command
+pub mod Import
 pub mod List
 pub mod Replay
 pub mod Serve

@@ -3,6 +3,7 @@ ghost use Rattle.std.specs.Prelude.{◌≡◌, false, map, string_bytes};
 ghost use Rattle.fax_http.specs.Device.{IsFresh};
 ghost use Rattle.faxqd.specs.Command.{CarriesOut, Runs, Tells};
 
+use crate::import::import;
 use crate::list::list;
 use crate::replay::replay;
 use crate::serve::serve;
@@ -51,6 +52,7 @@ fn carry_out<S: Start, R: Read + Drop, W: Write + Drop, E: Write>(
         Plan::Serve(plan) => serve(rt, plan, MachineClock::new(rt), start, out, err).0,
         Plan::List(plan) => list(rt, plan, start, out, err),
         Plan::Sendfax(plan) => sendfax(rt, &plan, out, err),
+        Plan::Import(plan) => import(rt, &plan, out, err),
     }
 }
 

@@ -2,6 +2,7 @@
 #![tactic(auto)]
 
 mod command;
+mod import;
 mod list;
 mod replay;
 mod serve;
