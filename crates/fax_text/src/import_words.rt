@@ -62,7 +62,7 @@ pub(crate) fn import_command<'a>(alloc: Global) -> Result<Command<'a>, AllocErro
         alloc,
         "request",
         "NUMBER",
-        "The number of the first request; each file has the next",
+        "The first request's number; each file has the next",
     )
     .required(true);
     Command::new(alloc, IMPORT)

@@ -1,5 +1,5 @@
 -- How a listing ends the command `list`.
-use Rattle.std.proofs.Common.{◌≡◌, ◌⊎◌, inl, inr, ℕ, List, Option, Ok}
+use Rattle.std.proofs.Common.{inl, inr, ℕ, List, Option, Ok}
 use Rattle.sqlite.specs.State.{State, HasCleanDisk}
 use Rattle.fax_ask.specs.Response.{Response}
 use Rattle.fax_core.specs.Queue.{Queue, Entry}
