@@ -7,3 +7,4 @@ mod MessageLemmas
 mod PhraseLemmas
 mod ServingLemmas
 mod WholeLemmas
+mod TurnLemmas

@@ -1,5 +1,5 @@
 //! Bytes that were read and aren't answered yet.
-ghost use Rattle.std.specs.Prelude.{◌≡◌, ◌≤◌, ◌<◌, [], drop, length, true, false, IfOk, OnErr};
+ghost use Rattle.std.specs.Prelude.{◌≡◌, ◌+◌, ◌≤◌, ◌<◌, [], ◌++◌, drop, length, true, false, IfOk, OnErr};
 ghost use Rattle.fax_http.specs.Buffer.{ReadMore};
 ghost use Rattle.fax_http.specs.Device.{Took};
 
@@ -45,6 +45,21 @@ impl Buffer {
         self.bytes.as_slice()
     }
 
+    /// Puts bytes behind those that are there.
+    pub fn put(&mut self, bytes: &[u8])
+        requires { length self.old + length bytes.now ≤ BUFFER_LIMIT }
+        ensures { self.new ≡ self.old ++ bytes.now }
+    {
+        self.bytes.extend_from_slice(bytes).unwrap();
+    }
+
+    /// Takes everything out.
+    pub fn clear(&mut self)
+        ensures { self.new ≡ [] }
+    {
+        self.bytes.clear();
+    }
+
     /// Takes the first bytes out.
     pub fn drop_front(&mut self, count: usize)
         requires { count ≤ length self.old }
@@ -66,7 +81,7 @@ impl Buffer {
         let mut piece = [0; PIECE_LIMIT];
         let room = PIECE_LIMIT.min(BUFFER_LIMIT - self.bytes.len());
         let count = reader.fetch(&mut piece[..room])?;
-        self.bytes.extend_from_slice(&piece[..count]).unwrap();
+        self.put(&piece[..count]);
         Ok(count)
     }
 }
