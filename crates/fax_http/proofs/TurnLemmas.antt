@@ -1,5 +1,5 @@
 -- What the front of some bytes comes to.
-use Rattle.std.proofs.Common.{◌≡◌, ℕ, ◌-◌, ◌<◌, Bool, true, false, codes, List, [], ◌∷◌, ◌++◌, length, drop, Result, Err, refl, ap, subst, sym, ◌∙◌, append_assoc, arith, length-append}
+use Rattle.std.proofs.Common.{◌≡◌, ℕ, ◌-◌, ◌<◌, Bool, codes, List, [], ◌∷◌, ◌++◌, length, drop, Result, Err, refl, ap, subst, sym, ◌∙◌, append_assoc, arith, length-append}
 use Rattle.std.proofs.Math.Seq.{drop-append_seam}
 use Rattle.std.proofs.lemmas.List.Sums.{AllPass-from_list_all}
 use Rattle.httparse.specs.Grammar.{AllPass, RequestHead, IsRequestHead, crlf, is_token_byte, is_uri_byte, print_request}
@@ -8,7 +8,6 @@ use Rattle.fax_http.specs.declared.message.Broken.TheVariants.{BadHttp, TooLarge
 use Rattle.fax_http.specs.declared.message.Message.{Message}
 use Rattle.fax_http.specs.declared.turn.Found.{Found}
 use Rattle.fax_http.specs.declared.turn.Found.TheVariants.{Answered, Last, Refused, NotYet}
-use Rattle.fax_http.specs.Conversation.{failure_of}
 use Rattle.fax_http.specs.Cut.{ArePartsOf, HoldsMessage}
 use Rattle.fax_http.specs.Found.{Finds, HandsOver, NeverBegins}
 use Rattle.fax_http.specs.Message.{BeginsWith, IsMessage, IsTooLarge, StaysBad}

@@ -1,24 +1,24 @@
 -- What becomes of one connection, as its messages are answered.
-use Rattle.std.proofs.Common.{◌≡◌, ◌⊎◌, ℕ, ◌+◌, ◌<◌, ◌≤◌, Bool, true, false, ◌||◌, List, [], ◌∷◌, ◌++◌, length, None, Some, Option, refl, ap, sym, ◌∙◌, subst, inl, inr, append_assoc, append-nil, arith}
+use Rattle.std.proofs.Common.{◌≡◌, ◌⊎◌, ℕ, ◌+◌, ◌<◌, Bool, true, false, ◌||◌, List, [], ◌∷◌, ◌++◌, length, None, refl, ap, sym, ◌∙◌, subst, inl, inr, append-nil, arith}
 use Rattle.std.specs.Prelude.{⊤}
 use Rattle.fax_http.specs.declared.message.Broken.{Broken}
 use Rattle.fax_http.specs.declared.message.Broken.TheVariants.{BadHttp, TooLarge}
 use Rattle.fax_http.specs.declared.turn.Found.{Found}
 use Rattle.fax_http.specs.declared.turn.Found.TheVariants as found
-use Rattle.fax_http.specs.Conversation.{EndWithLast, GoOn, Reads, Turn, failure_of, spelled_turn, spelled_turns}
-use Rattle.fax_http.specs.Found.{Finds, HasAnswered as HasTurned, HasRefused, NeverBegins, Stays}
-use Rattle.fax_http.specs.Message.{BeginsWith, IsBad, IsUnfinished, is_last}
+use Rattle.fax_http.specs.Conversation.{Turn, failure_of, spelled_turn, spelled_turns}
+use Rattle.fax_http.specs.Found.{Finds, HasAnswered as HasTurned, NeverBegins}
+use Rattle.fax_http.specs.Message.{IsUnfinished, is_last}
 use Rattle.fax_http.specs.Serving.{Answering}
 use Rattle.fax_http.proofs.ServingLemmas.{go_on_one_more, length_one_more, reads_one_more, spelled_one_more}
-use Rattle.fax_net.specs.Deeds.{Admits, Does, TakesIn}
-use Rattle.fax_net.specs.History.{Act, Answered, AreAnswered, At, Came, FailsIn, GoesOn, Happens, IsAttended, IsBroken, IsDone, IsNext, IsQuiet, Missed, Refused, Step, Talk, Waits, acted, owed, refusal, talk}
-use Rattle.fax_net.specs.Link.{EndsAt, HasAnswered, HasEnded, HasSaidAll, Holds, HoldsAt, IsEnding, IsGoing, IsUnused, Keeps, Owes, awaits, is_done, is_due}
-use Rattle.fax_net.specs.Many.{GoesFrom, Moves, Runs}
+use Rattle.fax_net.specs.Deeds.{Admits}
+use Rattle.fax_net.specs.History.{Answered, AreAnswered, Came, FailsIn, GoesOn, IsAttended, IsDone, IsNext, IsQuiet, Missed, Refused, Step, Talk, Waits, acted, owed, refusal, talk}
+use Rattle.fax_net.specs.Link.{EndsAt, HasAnswered, HasEnded, HasSaidAll, Holds, IsGoing, IsUnused, Keeps, awaits, is_done, is_due}
+use Rattle.fax_net.specs.Many.{GoesFrom, Runs}
 use Rattle.fax_net.specs.declared.link.Link.{Link}
 use Rattle.fax_net.specs.declared.link.Stage.{Stage}
 use Rattle.fax_net.specs.declared.link.Stage.TheVariants.{Free, Open, Ended, Ending}
-use Rattle.fax_net.proofs.HistoryLemmas.{goes_both, goes_by, goes_does, goes_still, goes_takes}
-use Rattle.fax_net.proofs.LinkLemmas.{done_parts, due_parts, held, holds, quiet}
+use Rattle.fax_net.proofs.HistoryLemmas.{goes_by, goes_still}
+use Rattle.fax_net.proofs.LinkLemmas.{due_parts, held, holds, quiet}
 
 -- ---- what is owed
 

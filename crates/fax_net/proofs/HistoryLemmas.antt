@@ -1,12 +1,10 @@
 -- A history that goes on at one place.
-use Rattle.std.proofs.Common.{◌≡◌, ◌⊎◌, ℕ, ◌+◌, ◌<◌, ◌≤◌, Bool, true, false, ◌||◌, List, [], ◌∷◌, ◌++◌, length, nat_eq, None, Some, refl, ap, sym, ◌∙◌, subst, inl, inr, append_assoc, append-nil, arith}
+use Rattle.std.proofs.Common.{◌≡◌, ◌⊎◌, ℕ, ◌+◌, ◌<◌, Bool, true, false, ◌||◌, List, ◌∷◌, refl, ap, sym, ◌∙◌, subst, inl, inr}
 use Rattle.std.proofs.lemmas.Bool.{eq-eqb}
 use Rattle.std.specs.Prelude.{⊤, if◌then◌else◌}
-use Rattle.fax_http.specs.declared.message.Broken.{Broken}
-use Rattle.fax_http.specs.declared.message.Broken.TheVariants.{BadHttp, TooLarge}
 use Rattle.fax_http.specs.Serving.{Answering}
-use Rattle.fax_net.specs.Deeds.{Acts, Does, Rests, TakesIn, is_deed, moves}
-use Rattle.fax_net.specs.History.{Act, Answered, AreAnswered, At, Came, Dry, Ended, Failed, Fits, Happens, IsRight, Left, Looked, Missed, Refused, Said, Step, Talk, Took, Waits, acted, comings, looks, talk}
+use Rattle.fax_net.specs.Deeds.{Acts, Does, TakesIn, is_deed, moves}
+use Rattle.fax_net.specs.History.{Act, Answered, AreAnswered, At, Came, Dry, Ended, Failed, Fits, Happens, IsRight, Left, Refused, Said, Step, Talk, Took, Waits, acted, comings, talk}
 use Rattle.fax_net.specs.Link.{Holds, awaits}
 use Rattle.fax_net.specs.Many.{GoesFrom, Runs}
 use Rattle.fax_net.specs.declared.link.Link.{Link}

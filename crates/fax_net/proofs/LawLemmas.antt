@@ -1,12 +1,11 @@
 -- What each connection gets is its own.
-use Rattle.std.proofs.Common.{◌≡◌, ◌⊎◌, ℕ, ◌+◌, ◌<◌, ◌≤◌, Bool, true, false, List, [], ◌∷◌, ◌++◌, length, nat_eq, None, Some, refl, ap, sym, ◌∙◌, subst, inl, inr, append_assoc, append-nil, arith}
+use Rattle.std.proofs.Common.{◌≡◌, ℕ, Bool, true, false, List, [], ◌∷◌, ◌++◌, nat_eq, refl, ap, sym, ◌∙◌, subst, inl, inr, append_assoc, arith}
 use Rattle.std.proofs.lemmas.Bool.{eqb-true}
 use Rattle.std.specs.Prelude.{if◌then◌else◌}
-use Rattle.fax_http.specs.declared.message.Broken.{Broken}
-use Rattle.fax_http.specs.Conversation.{GoOn, Reads, Turn, failure_of, spelled_turn, spelled_turns}
+use Rattle.fax_http.specs.Conversation.{failure_of, spelled_turn}
 use Rattle.fax_http.proofs.ServingLemmas.{length_one_more, reads_more, reads_one_more}
-use Rattle.fax_net.specs.History.{Act, Answered, At, Came, Dry, Ended, Failed, Fits, IsNext, IsRight, Left, Looked, Missed, Refused, Said, Step, Talk, Took, Waits, acted, nobody, owed, talk}
-use Rattle.fax_net.specs.Laws.{EachItsOwn, GoOnToLast, IsItsOwn}
+use Rattle.fax_net.specs.History.{Act, Answered, At, Came, Dry, Ended, Failed, Fits, Left, Looked, Missed, Refused, Said, Step, Talk, Took, Waits, acted, talk}
+use Rattle.fax_net.specs.Laws.{EachItsOwn, IsItsOwn}
 use Rattle.fax_net.proofs.ConversingLemmas.{owed_more, owed_refused}
 
 -- an act that fits leaves each its own

@@ -1,11 +1,10 @@
 -- What is kept of a connection, by its tests.
-use Rattle.std.proofs.Common.{◌≡◌, ◌⊎◌, ℕ, ◌<◌, ◌≤◌, Bool, true, false, not, ◌&&◌, List, [], ◌∷◌, ◌++◌, length, take, drop, refl, ap, sym, ◌∙◌, subst, inl, inr, append_assoc, append-nil, arith}
+use Rattle.std.proofs.Common.{◌≡◌, ℕ, Bool, true, false, not, ◌&&◌, List, [], ◌++◌, take, drop, refl, ap, sym, ◌∙◌, subst, inl, inr, append_assoc}
 use Rattle.std.proofs.lemmas.List.{take-append-drop}
 use Rattle.fax_http.specs.Conversation.{Reads}
 use Rattle.fax_http.proofs.ServingLemmas.{reads_more}
-use Rattle.fax_net.specs.Deeds.{Acts}
-use Rattle.fax_net.specs.History.{Act, Dry, Ended as HasEnded, Failed, Fits, IsDone, IsOwing, IsQuiet, Left, Said, Talk, Took, Waits, acted, owed}
-use Rattle.fax_net.specs.Link.{Holds, HoldsAt, IsEnding, IsGoing, IsUnused, HasSaidAll, awaits, is_done, is_due, is_ending, is_open, is_owing, is_taken}
+use Rattle.fax_net.specs.History.{Fits, IsDone, IsQuiet, Said, Talk, Took, acted, owed}
+use Rattle.fax_net.specs.Link.{Holds, HoldsAt, IsEnding, IsGoing, HasSaidAll, awaits, is_done, is_due, is_ending, is_open, is_owing, is_taken}
 use Rattle.fax_net.specs.Lists.{is_none}
 use Rattle.fax_net.specs.declared.link.Link.{Link}
 use Rattle.fax_net.specs.declared.link.Stage.{Stage}

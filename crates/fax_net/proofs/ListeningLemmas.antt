@@ -1,11 +1,10 @@
 -- What a history answers.
-use Rattle.std.proofs.Common.{◌≡◌, ℕ, Bool, false, List, [], ◌∷◌, Option, refl, ◌∙◌, sym}
-use Rattle.fax_http.specs.Conversation.{Turn}
+use Rattle.std.proofs.Common.{◌≡◌, ℕ, Bool, false, List, [], ◌∷◌, Option, refl, ◌∙◌}
 use Rattle.fax_http.specs.Device.{Put}
 use Rattle.fax_http.specs.declared.device.Watched.{Watched}
 use Rattle.fax_http.specs.Serving.{Answering, Answers}
 use Rattle.fax_http.proofs.ServingLemmas.{answers_one_more}
-use Rattle.fax_net.specs.History.{Act, Answered, AreAnswered, At, Came, Dry, Ended, Failed, IsNeverOver, IsOverAtLast, Left, Looked, Missed, Refused, Said, Step, Took, Waits, turns_of}
+use Rattle.fax_net.specs.History.{Answered, AreAnswered, At, Came, Dry, Ended, Failed, IsNeverOver, IsOverAtLast, Left, Looked, Missed, Refused, Said, Step, Took, Waits, turns_of}
 use Rattle.fax_net.specs.Listening.{HasListened, listening}
 use Rattle.fax_net.specs.Many.{ServesMany}
 use Rattle.fax_net.specs.declared.sockets.Sockets.{Sockets}

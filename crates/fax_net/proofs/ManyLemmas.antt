@@ -1,10 +1,10 @@
 -- All places, one after the other.
 use Rattle.std.proofs.Common.{◌≡◌, ◌⊎◌, ℕ, ◌+◌, ◌-◌, ◌^◌, ◌<◌, ◌≤◌, Bool, true, false, ◌||◌, List, [], ◌∷◌, length, get_or, set, refl, ap, sym, ◌∙◌, subst, inl, inr, arith, length-set, get_or-set_same, get_or-set_other}
 use Rattle.std.proofs.lemmas.Bool.{eq-eqb, eqb-true}
-use Rattle.std.specs.Prelude.{⊤, nat_eq}
+use Rattle.std.specs.Prelude.{nat_eq}
 use Rattle.fax_http.specs.Serving.{Answering}
-use Rattle.fax_net.specs.History.{AreAnswered, GoesOn, Happens, IsAttended, IsDone, IsRight, Looked, Step, Talk, comings, looked, looks, talk}
-use Rattle.fax_net.specs.Link.{HasSaidAll, Holds, HoldsAt, IsEnding, IsGoing}
+use Rattle.fax_net.specs.History.{GoesOn, IsAttended, IsDone, Looked, Step, Talk, comings, looked, looks, talk}
+use Rattle.fax_net.specs.Link.{HasSaidAll, Holds, IsEnding, IsGoing}
 use Rattle.fax_net.specs.Many.{AllHold, GoesFrom, GoesRound, Moves, Rounds, Runs, ServesMany}
 use Rattle.fax_net.specs.declared.link.Link.{Link}
 use Rattle.fax_net.specs.declared.link.Stage.{Stage}

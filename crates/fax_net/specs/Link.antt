@@ -1,5 +1,5 @@
 -- What a server keeps of one connection is what became of it.
-use Rattle.std.specs.Prelude.{◌≡◌, ◌⊎◌, ℕ, ◌+◌, ◌<◌, ◌≤◌, Bool, ◌&&◌, true, false, not, List, [], ◌∷◌, ◌++◌, length, None}
+use Rattle.std.specs.Prelude.{◌≡◌, ◌⊎◌, ℕ, ◌+◌, ◌<◌, ◌≤◌, Bool, ◌&&◌, true, false, not, List, [], ◌++◌, length}
 use Rattle.fax_http.specs.declared.message.Broken.TheVariants.{BadHttp}
 use Rattle.fax_http.specs.declared.turn.Found.{Found}
 use Rattle.fax_http.specs.declared.turn.Found.TheVariants.{Answered, Last, Refused, NotYet}

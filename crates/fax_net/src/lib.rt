@@ -18,4 +18,3 @@ mod timed;
 pub use listening::listen;
 pub use peers::{Coming, Moved, Peers};
 pub use sockets::Sockets;
-pub use timed::Timed;

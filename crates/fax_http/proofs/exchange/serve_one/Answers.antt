@@ -1,6 +1,6 @@
 use Rattle.std.proofs.Common.{subst, sym}
 use Rattle.fax_http.specs.Message.{IsUnfinished}
-use Rattle.fax_http.proofs.ExchangeLemmas.{broke, ended, ends_here, goes_on, reading_begins, reading_more, reading_stays, refused}
+use Rattle.fax_http.proofs.ExchangeLemmas.{ended, reading_stays}
 use Rattle.fax_http.proofs.exchange.serve_one.Goals as goal
 
 pub returns-then-count-eq0 : goal.returns-then-count-eq0

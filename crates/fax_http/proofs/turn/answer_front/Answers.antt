@@ -1,6 +1,6 @@
-use Rattle.std.proofs.Common.{◌≡◌, ◌-◌, drop, length, rules, subst, refl}
+use Rattle.std.proofs.Common.{◌≡◌, ◌-◌, drop, length, subst, refl}
 use Rattle.fax_http.specs.Cut.{HoldsMessage, IfWhole}
-use Rattle.fax_http.specs.Message.{IsTooLarge, IsUnfinished, StaysBad}
+use Rattle.fax_http.specs.Message.{IsTooLarge, StaysBad}
 use Rattle.fax_http.proofs.TurnLemmas.{answered, never_begins}
 use Rattle.fax_http.proofs.turn.answer_front.Goals as goal
 

@@ -1,4 +1,4 @@
-use Rattle.std.proofs.Common.{◌≡◌, ◌++◌, true, false, take, rules, arith, refl, inl}
+use Rattle.std.proofs.Common.{◌≡◌, ◌++◌, true, take, rules, arith, refl, inl}
 use Rattle.std.proofs.lemmas.Grind.{common_steps}
 use Rattle.fax_net.specs.History.{Said}
 use Rattle.fax_net.specs.Link.{awaits}

@@ -1,4 +1,4 @@
-use Rattle.std.proofs.Common.{◌≡◌, true, false, take, rules, refl, inl, subst}
+use Rattle.std.proofs.Common.{◌≡◌, true, take, rules, refl, inl, subst}
 use Rattle.fax_net.specs.History.{At, Took}
 use Rattle.fax_net.specs.Link.{is_owing}
 use Rattle.fax_net.proofs.LinkLemmas.{took_fits}

@@ -1,4 +1,4 @@
-use Rattle.std.proofs.Common.{◌≡◌, ◌∙◌, true, false, inr, subst, sym}
+use Rattle.std.proofs.Common.{◌∙◌, inr, subst, sym}
 use Rattle.fax_net.specs.History.{turns_of}
 use Rattle.fax_net.specs.Listening.{Listens}
 use Rattle.fax_net.proofs.ListeningLemmas.{answers_of, has_listened}

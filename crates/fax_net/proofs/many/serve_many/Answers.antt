@@ -1,5 +1,5 @@
 use Rattle.std.proofs.Common.{◌∙◌, sym}
-use Rattle.fax_net.proofs.ManyLemmas.{serves_all, serves_long, serves_over, serving_begins, serving_next}
+use Rattle.fax_net.proofs.ManyLemmas.{serves_all, serving_next}
 use Rattle.fax_net.proofs.many.serve_many.Goals as goal
 
 pub returns-then-are_free : goal.returns-then-are_free

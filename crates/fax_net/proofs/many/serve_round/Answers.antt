@@ -1,5 +1,5 @@
-use Rattle.std.proofs.Common.{◌≡◌, ◌∙◌, ◌≤◌, ◌<◌, true, length, sym, rules, arith}
-use Rattle.fax_net.proofs.ManyLemmas.{round_begins, round_ends, round_next, round_over}
+use Rattle.std.proofs.Common.{◌∙◌, true, sym, arith}
+use Rattle.fax_net.proofs.ManyLemmas.{round_ends, round_next, round_over}
 use Rattle.fax_net.proofs.many.serve_round.Goals as goal
 
 pub returns-then-is_over : goal.returns-then-is_over

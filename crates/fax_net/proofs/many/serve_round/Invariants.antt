@@ -1,4 +1,3 @@
-use Rattle.std.proofs.Common.{◌≡◌, length}
 use Rattle.fax_net.proofs.ManyLemmas.{RoundsTo}
 use Rattle.fax_net.proofs.many.serve_round.Given as goal
 

@@ -1,4 +1,4 @@
-use Rattle.std.proofs.Common.{◌∙◌, ap, sym}
+use Rattle.std.proofs.Common.{◌∙◌, sym}
 use Rattle.fax_net.proofs.ListLemmas.{some_in_front}
 use Rattle.fax_net.proofs.pending.Pending.is_empty.Goals as goal
 
