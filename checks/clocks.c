@@ -1,9 +1,10 @@
 /* Preloaded into the program. Where FIXED_MOMENT is set, the machine's clock stands at that second since 1970, and where
  * MOMENT_FILE is set, at the second that stands in this file at each look. Where FASTER is set, all other time runs so
- * many times as fast: the clocks that measure it, and the limits of reads and writes on sockets. */
+ * many times as fast: the clocks that measure it, the limits of reads and writes on sockets, and the waits for them. */
 #define _GNU_SOURCE
 #include <fcntl.h>
 #include <stdlib.h>
+#include <sys/epoll.h>
 #include <sys/socket.h>
 #include <sys/syscall.h>
 #include <sys/time.h>
@@ -53,4 +54,10 @@ int setsockopt(int file, int level, int option, const void *value, socklen_t siz
         return syscall(SYS_setsockopt, file, level, option, &shorter, sizeof shorter);
     }
     return syscall(SYS_setsockopt, file, level, option, value, size);
+}
+
+int epoll_wait(int poll, struct epoll_event *events, int most, int timeout) {
+    long long faster = setting("FASTER", 1);
+    int shorter = timeout > 0 ? (int)((timeout + faster - 1) / faster) : timeout;
+    return (int)syscall(SYS_epoll_pwait, poll, events, most, shorter, NULL, 0);
 }

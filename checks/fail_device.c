@@ -100,3 +100,13 @@ ssize_t recv(int file, void *bytes, size_t count, int flags) {
 ssize_t send(int file, const void *bytes, size_t count, int flags) {
     return write_by((writing)dlsym(RTLD_NEXT, "send"), file, bytes, count, flags);
 }
+
+/* Of a message in parts the named file is handed the first part that isn't empty. */
+ssize_t sendmsg(int file, const struct msghdr *message, int flags) {
+    for (size_t part = 0; file == named("WRITE_FILE", STDOUT_FILENO) && part < message->msg_iovlen; part++) {
+        if (message->msg_iov[part].iov_len > 0) {
+            return send(file, message->msg_iov[part].iov_base, message->msg_iov[part].iov_len, flags);
+        }
+    }
+    return ((ssize_t (*)(int, const struct msghdr *, int))dlsym(RTLD_NEXT, "sendmsg"))(file, message, flags);
+}

@@ -128,6 +128,7 @@ ASKED = {  # of each file, in this order
     "a submission": post("/jobs", 9, "number:5550114\ntotpages:1\ntts:700\n"), "a kill": post("/jobs/3/kill", 10)}
 Answers = collections.namedtuple("Answers", "got err")
 PAGES = 2200  # so many pages of its file a server may have in memory
+PLACES = 6000  # and so many kilobytes for the connections that may come
 
 
 def asked_of(file, has_sound_replies=True, limit=LIMIT):
@@ -185,7 +186,7 @@ def another_way(sound, wanted, *statements):
     """A file that the system's sqlite keeps otherwise is answered as ever, or isn't taken. Large pages take memory."""
     file = changed_file(sound, *statements)
     size = int.from_bytes(file.read_bytes()[16:18], "big")  # 1 stands for 65536
-    answers = asked_of(file, limit=max(LIMIT, PAGES * (64 if size == 1 else size // 1024)))
+    answers = asked_of(file, limit=max(LIMIT, PLACES + PAGES * (64 if size == 1 else size // 1024)))
     expect(answers.err or answers.got == wanted, f"it is answered {answers.got!r}")
 
 

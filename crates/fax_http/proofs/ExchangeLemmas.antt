@@ -1,58 +1,20 @@
 -- What comes of looking for a message.
-use Rattle.std.proofs.Common.{◌≡◌, ℕ, ◌-◌, ◌<◌, Bool, true, false, codes, List, [], ◌∷◌, ◌++◌, length, drop, Option, Result, Err, inl, inr, refl, ap, subst, sym, ◌∙◌, append-nil, append_assoc, arith, length-append}
-use Rattle.std.proofs.Math.Seq.{drop-append_seam}
-use Rattle.std.proofs.lemmas.List.Sums.{AllPass-from_list_all}
-use Rattle.httparse.specs.Grammar.{AllPass, RequestHead, IsRequestHead, crlf, is_token_byte, is_uri_byte, print_request}
+use Rattle.std.proofs.Common.{◌≡◌, ◌⊎◌, ℕ, ◌<◌, Bool, true, false, List, [], ◌∷◌, ◌++◌, length, Option, inl, inr, refl, ap, subst, sym, ◌∙◌, append-nil, append_assoc, arith}
 use Rattle.fax_http.specs.declared.device.Watched.{Watched}
 use Rattle.fax_http.specs.declared.exchange.Exchange.{Exchange}
 use Rattle.fax_http.specs.declared.exchange.Exchange.TheVariants.{Answered, Last, Missing}
 use Rattle.fax_http.specs.declared.message.Broken.{Broken}
 use Rattle.fax_http.specs.declared.message.Broken.TheVariants.{BadHttp, TooLarge}
-use Rattle.fax_http.specs.declared.message.Message.{Message}
 use Rattle.fax_http.specs.declared.serving.End.{End}
 use Rattle.fax_http.specs.declared.serving.End.TheVariants.{Closed, Bad, Bound, ReadFailed, WriteFailed, NoMemory}
 use Rattle.fax_http.specs.Buffer.{ReadMore}
 use Rattle.fax_http.specs.Conversation.{failure_of}
-use Rattle.fax_http.specs.Cut.{ArePartsOf, HoldsMessage}
-use Rattle.fax_http.specs.Device.{Took}
-use Rattle.fax_http.specs.Exchange.{Exchanges, HandsOver, IsMissing, WritesTo}
-use Rattle.fax_http.specs.Message.{BeginsWith, IsBad, IsMessage, IsTooLarge, IsUnfinished, StaysBad}
+use Rattle.fax_http.specs.Device.{BrokeOff, Put, Took}
+use Rattle.fax_http.specs.Exchange.{Exchanges, IsMissing, Replies, RepliesTo, WritesTo}
+use Rattle.fax_http.specs.Found.{HasAnswered, HasRefused, NeverBegins, Stays}
+use Rattle.fax_http.specs.Message.{BeginsWith, IsBad, IsUnfinished, is_last}
 use Rattle.fax_http.specs.Serving.{Answering, FailsHere}
 use Rattle.fax_http.proofs.DeviceLemmas.{took_both, took_none}
-use Rattle.fax_http.proofs.DivisionLemmas.{some_head}
-
--- ---- no bytes at all are no failure
-
-abbrev least : RequestHead
-least = record { blank = []; method = codes "G"; target = codes "/"; minor = 1; line_end = crlf; fields = []; last = crlf }
-
-least_method : AllPass is_token_byte (codes "G")
-unfolding is_token_byte
-least_method = AllPass-from_list_all is_token_byte (codes "G") refl
-
-least_is : IsRequestHead least
-unfolding lib.Utf8.encode
-least_is = record {
-  method = (omega arith, least_method);
-  target = (omega arith, AllPass-from_list_all is_uri_byte (codes "/") refl);
-  target_text = (47 ∷ [], (refl, refl));
-  minor = omega arith;
-  fields = λ k d h. absurd (omega (arith, h));
-}
-
-least_size : length (print_request least) ≡ 16
-unfolding print_request
-least_size = refl
-
-least_message : IsMessage least []
-least_message = record { is_head = record { grammar = least_is; bytes = omega (arith, least_size); fields = omega arith }; frames = refl }
-
-pub none_stays : ¬ (StaysBad [])
-none_stays bad = (bad (print_request least ++ ([] ++ []))).none least [] [] (record { message = least_message; bytes = refl })
-
-some_bytes : (input : List ℕ) → ¬ (input ≡ []) → 0 < length input
-some_bytes [] n = absurd (n refl)
-some_bytes (x ∷ xs) n = omega arith
 
 -- ---- reading
 
@@ -84,52 +46,64 @@ reading_more remaining a b c w w₁ h h₁ before between after n r m = record {
   same_handler = r.same_handler;
 }
 
+-- no message was there yet
+pub reading_stays : {R W H : Type 0} (remaining : R → Option (List ℕ)) (answers : Answering H) (over : H → Bool) (a b : Watched R) (w w₁ : Watched W) (h h₁ h₂ : H) (before between after : List ℕ)
+    → Reading remaining a b w w₁ h h₁ before between → Stays answers over h₁ h₂ between after → Reading remaining a b w w₁ h h₂ before after
+reading_stays remaining answers over a b w w₁ h h₁ h₂ before between after r stays = record {
+  more = r.more;
+  took = r.took;
+  behind = stays.same_bytes ∙ r.behind;
+  same_writer = r.same_writer;
+  same_handler = stays.same_handler ∙ r.same_handler;
+}
+
 -- ---- a message
 
--- what stands behind the front of bytes
-behind_front : (input front rest : List ℕ) → input ≡ front ++ rest → drop (length input - length rest) input ≡ rest
-behind_front input front rest e =
-    let size : length input - length rest ≡ length front = omega (arith, ap length e, length-append front rest) in
-    ap (λ n. drop n input) size ∙ ap (drop (length front)) e ∙ drop-append_seam front rest
-
 module _ {R W H : Type 0} (remaining : R → Option (List ℕ)) (contents : W → Option (List ℕ)) (answers : Answering H) (over : H → Bool)
-    (a b : Watched R) (w w₁ w₂ : Watched W) (h h₁ h₂ : H) (before between after : List ℕ) (r : Reading remaining a b w w₁ h h₁ before between) where
-  module _ (message : Message) (rest : List ℕ) (holds : HoldsMessage between message rest) (left : after ≡ drop (length between - length rest) between) where
-    begins : BeginsWith (before ++ r.more) holds.head message.body.now after
-    begins =
-        let front = print_request holds.head ++ message.body.now in
-        let cut : between ≡ front ++ rest = holds.begins.bytes ∙ sym (append_assoc (print_request holds.head) message.body.now rest) in
-        subst (λ v. BeginsWith v holds.head message.body.now after) r.behind
-        (subst (λ v. BeginsWith between holds.head message.body.now v) (sym (left ∙ behind_front between front rest cut)) holds.begins)
+    (a b : Watched R) (w w₁ w₂ : Watched W) (h h₁ h₂ : H) (before between after : List ℕ) (r : Reading remaining a b w w₁ h h₁ before between)
+    (bytes : List ℕ) (t : HasAnswered answers over h₁ h₂ between after bytes) where
+  turned : (exchange : Exchange) → Replies contents w₁ w₂ (over h₂) t.turn exchange → Exchanges remaining contents answers over a b w w₂ h h₂ before after exchange
+  turned Answered replies = record {
+    turn = t.turn;
+    more = r.more;
+    took = r.took;
+    begins = subst (λ v. BeginsWith v t.turn.head t.turn.body after) r.behind t.begins;
+    step = subst (λ v. answers v t.turn.head t.turn.body t.turn.reply h₂) r.same_handler t.step;
+    replies = subst (λ v. Replies contents v w₂ (over h₂) t.turn Answered) r.same_writer replies;
+  }
+  turned (Last end) replies = record {
+    turn = t.turn;
+    more = r.more;
+    took = r.took;
+    begins = subst (λ v. BeginsWith v t.turn.head t.turn.body after) r.behind t.begins;
+    step = subst (λ v. answers v t.turn.head t.turn.body t.turn.reply h₂) r.same_handler t.step;
+    replies = subst (λ v. Replies contents v w₂ (over h₂) t.turn (Last end)) r.same_writer replies;
+  }
+  turned (Missing end) replies = absurd replies
 
-    turned_by : (exchange : Exchange) → HandsOver contents w w₂ answers over h h₂ holds.head message.body.now exchange
-        → Exchanges remaining contents answers over a b w w₂ h h₂ before after exchange
-    turned_by Answered o = record {
-      turn = record { head = holds.head; body = message.body.now; reply = o.0 };
-      more = r.more;
-      took = r.took;
-      begins = begins;
-      step = o.1;
-      replies = o.2;
-    }
-    turned_by (Last end) o = record {
-      turn = record { head = holds.head; body = message.body.now; reply = o.0 };
-      more = r.more;
-      took = r.took;
-      begins = begins;
-      step = o.1;
-      replies = o.2;
-    }
-    turned_by (Missing end) o = absurd o.2
+  -- another message may follow
+  pub goes_on : is_last t.turn.head ≡ false → over h₂ ≡ false → (exchange : Exchange) → RepliesTo contents w₁ w₂ bytes false exchange
+      → Exchanges remaining contents answers over a b w w₂ h h₂ before after exchange
+  goes_on going on Answered (put, same) = turned Answered (subst (λ v. Put contents w₁ w₂ v false) t.spelled put, going, on)
+  goes_on going on (Last Closed) (put, same) = absurd cc
+  goes_on going on (Last (WriteFailed sent)) (broke, is) = turned (Last (WriteFailed sent)) (subst (λ v. BrokeOff contents w₁ w₂ v) t.spelled broke, is)
+  goes_on going on (Last Bad) none = absurd none
+  goes_on going on (Last Bound) none = absurd none
+  goes_on going on (Last ReadFailed) none = absurd none
+  goes_on going on (Last NoMemory) none = absurd none
+  goes_on going on (Missing end) none = absurd none
 
-    pub turned : (exchange : Exchange)
-        → ((head : RequestHead) (body : List ℕ) → ArePartsOf message head body → HandsOver contents w₁ w₂ answers over h₁ h₂ head body exchange)
-        → Exchanges remaining contents answers over a b w w₂ h h₂ before after exchange
-    turned exchange o =
-        let here = o holds.head message.body.now holds.parts in
-        turned_by exchange
-        (subst (λ v. HandsOver contents v w₂ answers over h h₂ holds.head message.body.now exchange) r.same_writer
-        (subst (λ v. HandsOver contents w₁ w₂ answers over v h₂ holds.head message.body.now exchange) r.same_handler here))
+  -- and none follows
+  pub ends_here : (is_last t.turn.head ≡ true) ⊎ (over h₂ ≡ true) → (exchange : Exchange) → RepliesTo contents w₁ w₂ bytes true exchange
+      → Exchanges remaining contents answers over a b w w₂ h h₂ before after exchange
+  ends_here ends Answered (put, same) = absurd cc
+  ends_here ends (Last Closed) (put, same) = turned (Last Closed) (subst (λ v. Put contents w₁ w₂ v false) t.spelled put, ends)
+  ends_here ends (Last (WriteFailed sent)) (broke, is) = turned (Last (WriteFailed sent)) (subst (λ v. BrokeOff contents w₁ w₂ v) t.spelled broke, is)
+  ends_here ends (Last Bad) none = absurd none
+  ends_here ends (Last Bound) none = absurd none
+  ends_here ends (Last ReadFailed) none = absurd none
+  ends_here ends (Last NoMemory) none = absurd none
+  ends_here ends (Missing end) none = absurd none
 
 -- ---- no message
 
@@ -144,20 +118,24 @@ module _ {R W H : Type 0} (remaining : R → Option (List ℕ)) (contents : W �
   refused_by NoMemory broken some fails writes = ((r.more, r.took, r.behind), some, broken, fails, writes)
   refused_by (WriteFailed sent) broken some fails writes = ((r.more, r.took, r.behind), some, broken, fails, writes)
 
+fails_here : (rest : List ℕ) (unread : Option (List ℕ)) (broken : Broken) → NeverBegins rest broken → FailsHere rest unread broken
+fails_here rest unread BadHttp never = inl never
+fails_here rest unread TooLarge never = never
+
+module _ {R W H : Type 0} (remaining : R → Option (List ℕ)) (contents : W → Option (List ℕ)) (answers : Answering H) (over : H → Bool)
+    (a b : Watched R) (w w₁ w₂ : Watched W) (h h₁ h₂ : H) (before between after : List ℕ) (r : Reading remaining a b w w₁ h h₁ before between)
+    (bytes : List ℕ) (f : HasRefused answers over h₁ h₂ between after bytes) where
   -- the bytes begin no message, and that was answered
-  pub refused : {T : Type 0} (result : Result T Broken) (end : End) (broken : Broken) → result ≡ Err broken → (result ≡ Err TooLarge → IsTooLarge after) → (result ≡ Err BadHttp → StaysBad after)
-      → WritesTo contents w₁ w₂ (failure_of broken) Bad end
-      → Exchanges remaining contents answers over a b w w₂ h h₁ before after (Missing end)
-  refused result end BadHttp e large bad writes = (
-    r.same_handler,
-    refused_by end BadHttp (some_bytes after (λ none. none_stays (subst StaysBad none (bad e)))) (inl (bad e))
-        (subst (λ v. WritesTo contents v w₂ (failure_of BadHttp) Bad end) r.same_writer writes),
-  )
-  refused result end TooLarge e large bad writes = (
-    r.same_handler,
-    refused_by end TooLarge (some_bytes after (λ none. some_head (large e).head (large e).rest (sym none ∙ (large e).bytes))) (large e)
-        (subst (λ v. WritesTo contents v w₂ (failure_of TooLarge) Bad end) r.same_writer writes),
-  )
+  pub refused : (end : End) → WritesTo contents w₁ w₂ bytes Bad end → Exchanges remaining contents answers over a b w w₂ h h₂ before after (Missing end)
+  refused end writes =
+      let now = reading_stays remaining answers over a b w w₁ h h₁ h₂ before between after r f.stays in
+      let same = sym f.stays.same_bytes in (
+        now.same_handler,
+        refused_by remaining contents answers over a b w w₁ w₂ h h₂ before after now end f.broken (subst (λ v. 0 < length v) same f.some)
+            (fails_here after (remaining b.device) f.broken (subst (λ v. NeverBegins v f.broken) same f.never))
+            (subst (λ v. WritesTo contents v w₂ (failure_of f.broken) Bad end) now.same_writer
+            (subst (λ v. WritesTo contents w₁ w₂ v Bad end) f.spelled writes)),
+      )
 
 -- the reader failed
 pub broke : {R W H : Type 0} (remaining : R → Option (List ℕ)) (contents : W → Option (List ℕ)) (answers : Answering H) (over : H → Bool) (a b c : Watched R) (w w₁ : Watched W) (h h₁ : H) (before between after : List ℕ)

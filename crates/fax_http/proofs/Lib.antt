@@ -5,5 +5,6 @@ mod ExchangeLemmas
 mod FieldLemmas
 mod MessageLemmas
 mod PhraseLemmas
-mod ServingLemmas
+pub mod ServingLemmas
 mod WholeLemmas
+mod TurnLemmas

@@ -17,7 +17,7 @@ use Rattle.fax_http.proofs.DeviceLemmas.{put_both, put_none, took_both, took_non
 
 -- ---- lists of turns
 
-reads_one_more : (input : List ℕ) (turns : List Turn) (turn : Turn) (rest next : List ℕ) → Reads input turns rest
+pub reads_one_more : (input : List ℕ) (turns : List Turn) (turn : Turn) (rest next : List ℕ) → Reads input turns rest
     → BeginsWith rest turn.head turn.body next → Reads input (turns ++ turn ∷ []) next
 reads_one_more input [] turn rest next e begins = (next, subst (λ i. BeginsWith i turn.head turn.body next) (sym e) begins, refl)
 reads_one_more input (t ∷ ts) turn rest next r begins = (r.0, r.1, reads_one_more r.0 ts turn rest next r.2 begins)
@@ -35,20 +35,20 @@ pub reads_more : (input : List ℕ) (turns : List Turn) (rest more : List ℕ) �
 reads_more input [] rest more e = ap (λ i. i ++ more) e
 reads_more input (t ∷ ts) rest more r = (r.0 ++ more, begins_more input t.head t.body r.0 more r.1, reads_more r.0 ts rest more r.2)
 
-answers_one_more : {H : Type 0} (answers : Answering H) (old : H) (turns : List Turn) (turn : Turn) (now next : H) → Answers answers old turns now
+pub answers_one_more : {H : Type 0} (answers : Answering H) (old : H) (turns : List Turn) (turn : Turn) (now next : H) → Answers answers old turns now
     → answers now turn.head turn.body turn.reply next → Answers answers old (turns ++ turn ∷ []) next
 answers_one_more answers old [] turn now next e step = (next, subst (λ h. answers h turn.head turn.body turn.reply next) e step, refl)
 answers_one_more answers old (t ∷ ts) turn now next a step = (a.0, a.1, answers_one_more answers a.0 ts turn now next a.2 step)
 
-go_on_one_more : (turns : List Turn) (turn : Turn) → GoOn turns → is_last turn.head ≡ false → GoOn (turns ++ turn ∷ [])
+pub go_on_one_more : (turns : List Turn) (turn : Turn) → GoOn turns → is_last turn.head ≡ false → GoOn (turns ++ turn ∷ [])
 go_on_one_more [] turn g e = (e, tt)
 go_on_one_more (t ∷ ts) turn g e = (g.0, go_on_one_more ts turn g.1 e)
 
-spelled_one_more : (turns : List Turn) (turn : Turn) → spelled_turns (turns ++ turn ∷ []) ≡ spelled_turns turns ++ spelled_turn turn
+pub spelled_one_more : (turns : List Turn) (turn : Turn) → spelled_turns (turns ++ turn ∷ []) ≡ spelled_turns turns ++ spelled_turn turn
 spelled_one_more turns turn =
     flat_map-append spelled_turn turns (turn ∷ []) ∙ ap (λ bs. spelled_turns turns ++ bs) (append-nil (spelled_turn turn))
 
-length_one_more : (turns : List Turn) (turn : Turn) → length (turns ++ turn ∷ []) ≡ length turns + 1
+pub length_one_more : (turns : List Turn) (turn : Turn) → length (turns ++ turn ∷ []) ≡ length turns + 1
 length_one_more turns turn = omega (arith, length-append turns (turn ∷ []))
 
 module _ {R W H : Type 0} (remaining : R → Option (List ℕ)) (contents : W → Option (List ℕ)) (answers : Answering H) (over : H → Bool)

@@ -1,8 +1,6 @@
 -- One message that is looked for, and its reply.
 use Rattle.std.specs.Prelude.{◌≡◌, ◌⊎◌, ℕ, ◌<◌, Bool, true, false, List, [], ◌++◌, length, Option}
 use Rattle.std.specs.Io.KnownBytes.{IsAtEnd}
-use Rattle.httparse.specs.Grammar.{RequestHead}
-use Rattle.fax_ask.specs.Response.{Response}
 use Rattle.fax_http.specs.declared.device.Watched.{Watched}
 use Rattle.fax_http.specs.declared.exchange.Exchange.{Exchange}
 use Rattle.fax_http.specs.declared.exchange.Exchange.TheVariants.{Answered, Last, Missing}
@@ -31,10 +29,16 @@ module _ {W : Type 0} (contents : W → Option (List ℕ)) (writer writer₂ : W
   Replies over turn (Last NoMemory) = ⊥
   Replies over turn (Missing end) = ⊥
 
-  -- a message with that head and body was handed over, and its reply written
-  abbrev pub HandsOver : {H : Type 0} → Answering H → (H → Bool) → H → H → RequestHead → List ℕ → Exchange → Type 0
-  HandsOver answers over old new head body exchange =
-      (reply : Response) × answers old head body reply new × Replies (over new) (record { head = head; body = body; reply = reply }) exchange
+  -- These bytes were written as the reply to a message, which is the last one or not. Or the writer failed in them.
+  abbrev pub RepliesTo : List ℕ → Bool → Exchange → Type 0
+  RepliesTo bytes last Answered = Put contents writer writer₂ bytes false × (last ≡ false)
+  RepliesTo bytes last (Last Closed) = Put contents writer writer₂ bytes false × (last ≡ true)
+  RepliesTo bytes last (Last (WriteFailed sent)) = BrokeOff contents writer writer₂ bytes × (sent ≡ writer₂.passed)
+  RepliesTo bytes last (Last Bad) = ⊥
+  RepliesTo bytes last (Last Bound) = ⊥
+  RepliesTo bytes last (Last ReadFailed) = ⊥
+  RepliesTo bytes last (Last NoMemory) = ⊥
+  RepliesTo bytes last (Missing end) = ⊥
 
 module _ {R W H : Type 0} (remaining : R → Option (List ℕ)) (contents : W → Option (List ℕ)) (answers : Answering H) (over : H → Bool)
     (reader reader₂ : Watched R) (writer writer₂ : Watched W) (old new : H) (before after : List ℕ) where

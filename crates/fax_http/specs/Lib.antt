@@ -6,6 +6,7 @@ pub mod Cut
 pub mod Device
 pub mod Exchange
 pub mod Field
+pub mod Found
 pub mod Laws
 pub mod Message
 pub mod Reply

@@ -1,5 +1,5 @@
 //! Bytes that were read and aren't answered yet.
-ghost use Rattle.std.specs.Prelude.{◌≡◌, ◌≤◌, ◌<◌, [], drop, length, true, false, IfOk, OnErr};
+ghost use Rattle.std.specs.Prelude.{◌≡◌, ◌+◌, ◌≤◌, ◌<◌, [], ◌++◌, drop, length, true, false, IfOk, OnErr};
 ghost use Rattle.fax_http.specs.Buffer.{ReadMore};
 ghost use Rattle.fax_http.specs.Device.{Took};
 
@@ -21,13 +21,13 @@ pub struct Buffer {
 }
 
 impl Model for Buffer {
-    ghost use Rattle.std.specs.Prelude.{ℕ, List, ◌≤◌, vec_capacity};
+    ghost use Rattle.std.specs.Prelude.{ℕ, List, ◌≤◌, length, vec_capacity};
 
     ghost Value = { List ℕ };
 
     ghost view = { λ buffer. buffer.bytes.items };
 
-    ghost invariant = { λ buffer. 81920 ≤ vec_capacity buffer.bytes };
+    ghost invariant = { λ buffer. (81920 ≤ vec_capacity buffer.bytes) × (length buffer.bytes.items ≤ 81920) };
 }
 
 impl Buffer {
@@ -43,6 +43,28 @@ impl Buffer {
         ensures { result.now ≡ self.now }
     {
         self.bytes.as_slice()
+    }
+
+    /// How many bytes more it can hold.
+    pub fn room(&self) -> usize
+        ensures { result + length self.now ≡ BUFFER_LIMIT }
+    {
+        BUFFER_LIMIT - self.bytes.len()
+    }
+
+    /// Puts bytes behind those that are there.
+    pub fn put(&mut self, bytes: &[u8])
+        requires { length self.old + length bytes.now ≤ BUFFER_LIMIT }
+        ensures { self.new ≡ self.old ++ bytes.now }
+    {
+        self.bytes.extend_from_slice(bytes).unwrap();
+    }
+
+    /// Takes everything out.
+    pub fn clear(&mut self)
+        ensures { self.new ≡ [] }
+    {
+        self.bytes.clear();
     }
 
     /// Takes the first bytes out.
@@ -64,9 +86,9 @@ impl Buffer {
         ensures err { OnErr result ((self.new ≡ self.old) × Took R.remaining reader.old reader.new [] true) }
     {
         let mut piece = [0; PIECE_LIMIT];
-        let room = PIECE_LIMIT.min(BUFFER_LIMIT - self.bytes.len());
+        let room = PIECE_LIMIT.min(self.room());
         let count = reader.fetch(&mut piece[..room])?;
-        self.bytes.extend_from_slice(&piece[..count]).unwrap();
+        self.put(&piece[..count]);
         Ok(count)
     }
 }

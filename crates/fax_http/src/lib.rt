@@ -15,10 +15,15 @@ mod exchange;
 mod head;
 pub mod laws;
 mod message;
+mod outgoing;
 mod serving;
+mod turn;
 
 pub use answer::{Answer, AnswerFault, read_answer};
+pub use buffer::{BUFFER_LIMIT, Buffer};
 pub use clock::{Clock, MachineClock, SaidClock, moment_of};
 pub use device::{ReadFailed, Watched, WriteFailed};
 pub use message::{Broken, Front, Message, split_message};
+pub use outgoing::Outgoing;
 pub use serving::{Bounds, End, Handler, Served, serve};
+pub use turn::{Found, answer_front};

@@ -1,2 +1,8 @@
-mod ConnectionLemmas
+mod ConversingLemmas
+mod HistoryLemmas
+mod LawLemmas
+mod LinkLemmas
+mod ListLemmas
+mod ListeningLemmas
+mod ManyLemmas
 mod SendfaxLemmas

@@ -1,3 +1,9 @@
-pub mod Connection
+pub mod Deeds
+pub mod History
+pub mod Laws
+pub mod Link
 pub mod Listening
+pub mod Lists
+pub mod Many
+pub mod Peers
 pub mod Sendfax

@@ -1,12 +1,10 @@
 -- How listening ends, and what it answers.
-use Rattle.std.specs.Prelude.{◌≡◌, ◌⊎◌, ℕ, Bool, true, false, List, [], Option, codes}
-use Rattle.std.specs.declared.net.tcp.TcpListener.{TcpListener}
-use Rattle.std.specs.declared.net.tcp.TcpStream.{TcpStream}
+use Rattle.std.specs.Prelude.{◌≡◌, ◌⊎◌, ℕ, ◌-◌, ◌^◌, ◌<◌, ◌≤◌, Bool, true, false, List, [], Option, codes}
 use Rattle.fax_http.specs.Conversation.{Turn}
 use Rattle.fax_http.specs.Device.{BrokeOff, Put}
 use Rattle.fax_http.specs.declared.device.Watched.{Watched}
-use Rattle.fax_net.specs.Connection.{AreServed}
-use Rattle.fax_net.specs.declared.timed.Timed.{Timed}
+use Rattle.fax_net.specs.History.{Happens, IsOverAtLast, IsRight, Step, comings, looks, talk, turns_of}
+use Rattle.fax_net.specs.declared.sockets.Sockets.{Sockets}
 use Rattle.fax_text.specs.declared.status.Status.{Status}
 use Rattle.fax_text.specs.declared.status.Status.TheVariants.{Success, Fault, Usage}
 
@@ -19,14 +17,20 @@ module _ {W : Type 0} (contents : W → Option (List ℕ)) (out out₂ : Watched
   abbrev pub SaidNothing : Type 0
   SaidNothing = (out₂ ≡ out) ⊎ BrokeOff contents out out₂ listening
 
-  module _ (read written : Timed → Option (List ℕ)) (opens : TcpListener → Option TcpStream → TcpListener → Type 0) where
-    -- it said that it listens, and so many connections were served, or as many as came before the store was shut
+  module _ (did : Sockets → Step → Sockets → Type 0) where
+    -- It said that it listens. So many connections came then, and each was served to its end; unless the store was shut, or it has looked at them 2 ^ 64 - 1 times. These are the messages of all, as they were answered.
     pub record HasListened (count : ℕ) (turns : List Turn) (shut : Bool) : Type 0 where
       pub said : Put contents out out₂ listening false
-      pub door : TcpListener
-      pub last : TcpListener
-      pub before : Bool
-      pub served : AreServed read written opens count door before turns last shut
+      pub start : Sockets
+      pub last : Sockets
+      pub history : List Step
+      pub happens : Happens did start history last
+      pub right : IsRight history
+      pub turns_are : turns ≡ turns_of history
+      pub over : IsOverAtLast history shut
+      pub within : comings history ≤ count
+      pub all : shut ≡ false → looks history < 2 ^ 64 - 1
+          → (comings history ≡ count) × ((place : ℕ) → place < 64 → (talk place history).is_open ≡ false)
 
     -- it succeeds where all connections were served; else it doesn't listen, or the output failed, or the store was shut
     abbrev pub Listens : ℕ → List Turn → Bool → Status → Type 0

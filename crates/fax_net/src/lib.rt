@@ -1,14 +1,20 @@
-//! Sockets: connections that are served one after the other, and the request of `sendfax` sent to a server.
+//! Sockets: many connections that are served side by side by one queue, and the request of `sendfax` sent to a server.
 //!
-//! A peer has only so much time ([`Timed`]). No other crate reads or writes a socket.
+//! A peer has only so much time. No other crate reads or writes a socket.
 #![tactic(auto)]
 
-mod connection;
-mod door;
+mod conversing;
+pub mod laws;
+mod link;
 mod listening;
+mod many;
+mod peers;
+mod pending;
+mod seat;
 pub mod sendfax;
+mod sockets;
 mod timed;
 
-pub use door::Door;
 pub use listening::listen;
-pub use timed::Timed;
+pub use peers::{Coming, Moved, Peers};
+pub use sockets::Sockets;

@@ -1,20 +1,18 @@
-//! Listens for connections, and serves them one after the other.
+//! Listens for connections, and serves them.
 ghost use Rattle.std.specs.Prelude.{◌≡◌, List};
 ghost use Rattle.fax_http.specs.Conversation.{Turn};
 ghost use Rattle.fax_http.specs.Device.{IsFresh};
 ghost use Rattle.fax_http.specs.Serving.{Answers};
-ghost use Rattle.fax_net.specs.Connection.{AreServed};
 ghost use Rattle.fax_net.specs.Listening.{Listens};
 
-use crate::connection::serve_connection;
-use crate::door::Door;
-use crate::timed::Timed;
+use crate::many::{free_places, serve_many};
+use crate::peers::Peers;
+use crate::sockets::{BindFault, Sockets};
 use fax_http::{Handler, Watched};
 use fax_text::{ServePlan, Status, fail};
-use std::io::{Read, Write};
-use std::net::TcpListener;
+use std::io::Write;
 
-/// Listens, says so, and serves the connections.
+/// Listens, says so, and serves the connections. All memory for them is taken before.
 pub fn listen<H: Handler, W: Write + Drop, E: Write>(
     rt: &HostRuntime,
     plan: ServePlan<'_>,
@@ -24,45 +22,30 @@ pub fn listen<H: Handler, W: Write + Drop, E: Write>(
 ) -> Status
     requires { IsFresh out.old }
     ensures served { (turns : List Turn)
-        × Listens W.contents out.old out.new ⟦<Timed<'static> as Read>⟧.remaining ⟦<Timed<'static> as Write>⟧.contents ⟦<TcpListener as Door>⟧.opens
-        plan.entry.connections turns (H.over handler.new) result
+        × Listens W.contents out.old out.new ⟦<Sockets<'static> as Peers>⟧.did plan.entry.connections turns (H.over handler.new) result
         × Answers H.answers handler.old turns handler.new }
     ensures silent { result ≡ Status.Success → err.new ≡ err.old }
 {
-    let Ok(mut listener) = TcpListener::bind(rt, plan.address) else {
-        return fail(err, "faxqd: cannot listen\n");
+    let mut sockets = match Sockets::bind(rt, plan.address, plan.timeout) {
+        Ok(sockets) => sockets,
+        Err(BindFault::Refused) => return fail(err, "faxqd: cannot listen\n"),
+        Err(BindFault::NoMemory) => return fail(err, "faxqd: no memory\n"),
+    };
+    let Ok(mut links) = free_places(rt.alloc()) else {
+        return fail(err, "faxqd: no memory\n");
     };
     let Ok(()) = out.put(b"faxqd: listening\n") else {
         return fail(err, "faxqd: ended write-failed\n");
     };
-    serve_connections(rt, &mut listener, plan, handler);
+    serve_many(
+        &mut sockets,
+        links.as_mut_slice(),
+        plan.connections,
+        handler,
+    );
+    sockets.finish();
     if handler.is_over() {
         return fail(err, "faxqd: database\n");
     }
     Status::Success
-}
-
-/// Serves the connections one after the other, until the handler is over. One that can't be accepted counts as served.
-fn serve_connections<D: Door, H: Handler>(
-    rt: &HostRuntime,
-    door: &mut D,
-    plan: ServePlan<'_>,
-    handler: &mut H,
-)
-    ensures { (turns : List Turn)
-        × AreServed ⟦<Timed<'static> as Read>⟧.remaining ⟦<Timed<'static> as Write>⟧.contents D.opens plan.entry.connections
-        door.old (H.over handler.old) turns door.new (H.over handler.new)
-        × Answers H.answers handler.old turns handler.new }
-{
-    for _ in 0..plan.connections {
-        if handler.is_over() {
-            return;
-        }
-        match door.next() {
-            Some(stream) => {
-                serve_connection(rt, &stream, plan.timeout, handler);
-            }
-            None => {}
-        }
-    }
 }

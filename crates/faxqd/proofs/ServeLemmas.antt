@@ -1,8 +1,6 @@
 -- What serving shows.
 use Rattle.std.proofs.Common.{◌≡◌, ℕ, Bool, List, [], ◌∷◌, Option, Some, None, Ok, ap, ◌∙◌, refl, subst, sym, inl, inr}
 use Rattle.std.specs.Prelude.{MatchOption}
-use Rattle.std.specs.declared.net.tcp.TcpListener.{TcpListener}
-use Rattle.std.specs.declared.net.tcp.TcpStream.{TcpStream}
 use Rattle.sqlite.specs.State.{State, HasCleanDisk}
 use Rattle.sqlite_wal.specs.Recovery.{Image}
 use Rattle.fax_core.specs.Queue.{Queue, Entry, empty_queue}
@@ -22,11 +20,12 @@ use Rattle.fax_decide.specs.declared.office.Office.{Office}
 use Rattle.fax_http.specs.declared.device.Watched.{Watched}
 use Rattle.fax_files.specs.Database.{IsFound}
 use Rattle.fax_files.specs.Office.{ComesOf}
+use Rattle.fax_net.specs.History.{Step}
 use Rattle.fax_net.specs.Listening.{Listens}
+use Rattle.fax_net.specs.declared.sockets.Sockets.{Sockets}
 use Rattle.faxqd.specs.Serve.{AreTurns, Ends, HasServed, IsTurn, ServesBy, ServesFrom, ServesHeld, said_in}
 use Rattle.fax_text.specs.declared.status.Status.{Status}
 use Rattle.fax_text.specs.declared.status.Status.TheVariants.{Success, Fault, Usage}
-use Rattle.fax_net.specs.declared.timed.Timed.{Timed}
 use Rattle.fax_text.specs.declared.server.ServePlan.{ServePlan}
 
 -- ---- one message
@@ -135,12 +134,12 @@ held_by gives settings image clock turns opened new found from clean =
 
 -- ---- the end
 
-module _ {W : Type 0} (contents : W → Option (List ℕ)) (out out₂ : Watched W) (read written : Timed → Option (List ℕ)) (opens : TcpListener → Option TcpStream → TcpListener → Type 0)
+module _ {W : Type 0} (contents : W → Option (List ℕ)) (out out₂ : Watched W) (did : Sockets → Step → Sockets → Type 0)
     {C : Type 0} (gives : C → List ℕ → ℕ → C → Type 0) (image : Image) (plan : ServePlan) (clock : C) where
   -- what the files say, what was found and what was served are of one office and one database
   pub serves_by : (status : Status) (said held left : Office) (opened new : State) (shut : Bool) → ComesOf plan.files (Ok said) → held ≡ said → left ≡ held
-      → ((turns : List Turn) × Listens contents out out₂ read written opens plan.connections turns shut status × ServesFrom gives (settings_in held) clock opened turns new)
-      → (HasCleanDisk opened → IsFound image opened) → ServesBy contents out out₂ read written opens gives image plan clock status left new shut
+      → ((turns : List Turn) × Listens contents out out₂ did plan.connections turns shut status × ServesFrom gives (settings_in held) clock opened turns new)
+      → (HasCleanDisk opened → IsFound image opened) → ServesBy contents out out₂ did gives image plan clock status left new shut
   serves_by status said held left opened new shut comes is same served found = record {
     comes = subst (λ (o : Office). ComesOf plan.files (Ok o)) (sym (same ∙ is)) comes;
     turns = served.0;
@@ -149,7 +148,7 @@ module _ {W : Type 0} (contents : W → Option (List ℕ)) (out out₂ : Watched
         (held_by gives (settings_in held) image clock served.0 opened new found served.2 clean);
   }
 
-  ends_by : (status : Status) (office : Office) (new : State) (shut : Bool) → ServesBy contents out out₂ read written opens gives image plan clock status office new shut → Ends contents out out₂ plan status
+  ends_by : (status : Status) (office : Office) (new : State) (shut : Bool) → ServesBy contents out out₂ did gives image plan clock status office new shut → Ends contents out out₂ plan status
   ends_by Success office new shut by = ((office, by.comes), by.told.0.said)
   ends_by Fault office new shut by = elim by.told [
     | inl (none, nothing) ↦ inl nothing
@@ -162,7 +161,7 @@ module _ {W : Type 0} (contents : W → Option (List ℕ)) (out out₂ : Watched
 
   -- however it ends, that is its end
   pub ends_with : {Q : Type 0} (office_of : Q → Office) (state_of : Q → State) (is_shut : Q → Bool) (status : Status) (left : Option Q)
-      → MatchOption left ((status ≡ Fault) × (out₂ ≡ out)) (λ queue. ServesBy contents out out₂ read written opens gives image plan clock status (office_of queue) (state_of queue) (is_shut queue))
+      → MatchOption left ((status ≡ Fault) × (out₂ ≡ out)) (λ queue. ServesBy contents out out₂ did gives image plan clock status (office_of queue) (state_of queue) (is_shut queue))
       → Ends contents out out₂ plan status
   ends_with office_of state_of is_shut status (Some queue) by = ends_by status (office_of queue) (state_of queue) (is_shut queue) by
   ends_with office_of state_of is_shut status None (fault, same) = no_queue status fault same

@@ -1,7 +1,5 @@
 -- How the command `serve` ends, and what it answers.
-use Rattle.std.specs.Prelude.{◌≡◌, ◌⊎◌, ℕ, Bool, false, List, [], ◌∷◌, Option, Ok, codes}
-use Rattle.std.specs.declared.net.tcp.TcpListener.{TcpListener}
-use Rattle.std.specs.declared.net.tcp.TcpStream.{TcpStream}
+use Rattle.std.specs.Prelude.{◌≡◌, ◌⊎◌, ℕ, Bool, true, false, List, [], ◌∷◌, Option, Ok, codes}
 use Rattle.sqlite.specs.Effect.{Database, IsDatabase}
 use Rattle.sqlite.specs.State.{State, HasCleanDisk}
 use Rattle.sqlite_wal.specs.Recovery.{Image}
@@ -30,7 +28,8 @@ use Rattle.fax_files.specs.Database.{AreHeld}
 use Rattle.fax_files.specs.Office.{ComesOf}
 use Rattle.fax_text.specs.declared.status.Status.{Status}
 use Rattle.fax_text.specs.declared.status.Status.TheVariants.{Success, Fault, Usage}
-use Rattle.fax_net.specs.declared.timed.Timed.{Timed}
+use Rattle.fax_net.specs.History.{Step}
+use Rattle.fax_net.specs.declared.sockets.Sockets.{Sockets}
 use Rattle.fax_text.specs.declared.server.ServePlan.{ServePlan}
 
 -- ---- messages
@@ -85,11 +84,11 @@ module _ {W : Type 0} (contents : W → Option (List ℕ)) (out out₂ : Watched
   Ends plan Fault = SaidNothing contents out out₂ ⊎ Put contents out out₂ listening false
   Ends plan Usage = ⊥
 
-  module _ (read written : Timed → Option (List ℕ)) (opens : TcpListener → Option TcpStream → TcpListener → Type 0) where
+  module _ (did : Sockets → Step → Sockets → Type 0) where
     module _ {C : Type 0} (gives : C → List ℕ → ℕ → C → Type 0) (image : Image) (plan : ServePlan) (clock : C) (status : Status) where
       -- It served by the office that the files say, from what the database's files held on, each message at the moment that the clock gave.
       pub record ServesBy (office : Office) (new : State) (shut : Bool) : Type 0 where
         pub comes : ComesOf plan.files (Ok office)
         pub turns : List Turn
-        pub told : Listens contents out out₂ read written opens plan.connections turns shut status
+        pub told : Listens contents out out₂ did plan.connections turns shut status
         pub served : HasCleanDisk new → ServesHeld gives (settings_in office) image clock turns new

@@ -12,15 +12,14 @@ ghost use Rattle.faxqd.specs.Serve.{ServesBy, ServesFrom};
 use fax_desk::Desk;
 use fax_files::{make_file, open_queue, read_office, report, tell_fault};
 use fax_http::{Clock, Watched};
-use fax_net::{Door, Timed, listen};
+use fax_net::{Peers, Sockets, listen};
 use fax_once::Queue;
 use fax_text::{ServePlan, Status};
 use sqlite::{Alter, FileFrom, FileStore, Start};
-use std::io::{Read, Write};
-use std::net::TcpListener;
+use std::io::Write;
 
-/// Reads the files, opens the database, listens, says so on `out`, and serves the connections one after the other, each
-/// message at the moment that `clock` gives. The queue is given back as it is then, if there is one. A fault is one line
+/// Reads the files, opens the database, listens, says so on `out`, and serves the connections, each message at the moment
+/// that `clock` gives. The queue is given back as it is then, if there is one. A fault is one line
 /// to `err`. `start` stands for what the database's files hold.
 pub fn serve<S: Start, C: Clock + Drop, W: Write + Drop, E: Write>(
     rt: &HostRuntime,
@@ -32,7 +31,7 @@ pub fn serve<S: Start, C: Clock + Drop, W: Write + Drop, E: Write>(
 ) -> (Status, Option<Queue<FileStore<FileFrom<S>>>>)
     requires { IsFresh out.old }
     ensures serves { MatchOption result.1 ((result.0 ≡ Status.Fault) × (out.new ≡ out.old))
-        (λ queue. ServesBy W.contents out.old out.new ⟦<Timed<'static> as Read>⟧.remaining ⟦<Timed<'static> as Write>⟧.contents ⟦<TcpListener as Door>⟧.opens
+        (λ queue. ServesBy W.contents out.old out.new ⟦<Sockets<'static> as Peers>⟧.did
         C.gives (image_at S.Start) plan.entry clock result.0 queue.office (file_state queue.store.conn) queue.is_shut) }
     ensures silent { result.0 ≡ Status.Success → err.new ≡ err.old }
 {
@@ -63,7 +62,7 @@ fn serve_queue<S: Alter + Drop, C: Clock + Drop, W: Write + Drop, E: Write>(
     requires { IsFresh out.old }
     ensures office { result.1.office ≡ queue.office }
     ensures served { (turns : List Turn)
-        × Listens W.contents out.old out.new ⟦<Timed<'static> as Read>⟧.remaining ⟦<Timed<'static> as Write>⟧.contents ⟦<TcpListener as Door>⟧.opens
+        × Listens W.contents out.old out.new ⟦<Sockets<'static> as Peers>⟧.did
         plan.entry.connections turns result.1.is_shut result.0
         × ServesFrom C.gives (settings_in queue.office) clock (state S.Store queue.store.conn) turns (state S.Store result.1.store.conn) }
     ensures silent { result.0 ≡ Status.Success → err.new ≡ err.old }

@@ -7,4 +7,4 @@ use Rattle.faxqd.proofs.command.carry_out.Goals as goal
 pub returns-in-Serve-clause-done : goal.returns-in-Serve-clause-done
 returns-in-Serve-clause-done g c =
     subst (λ plan. CarriesOut g.R.Read.remaining g.W.Write.contents c.args.reader.now c.args.reader.now c.args.out.now c.serve.new.out plan c.serve.result.0) (sym c.in-Serve.is)
-    (refl, ends_with _ _ _ _ _ _ _ _ c.in-Serve.plan _ (λ queue. queue.office) (λ queue. file_state queue.store.conn) (λ queue. queue.is_shut) c.serve.result.0 c.serve.result.1 c.serve.ensures.serves)
+    (refl, ends_with _ _ _ _ _ _ c.in-Serve.plan _ (λ queue. queue.office) (λ queue. file_state queue.store.conn) (λ queue. queue.is_shut) c.serve.result.0 c.serve.result.1 c.serve.ensures.serves)

@@ -1,0 +1,320 @@
+-- What becomes of one connection, as its messages are answered.
+use Rattle.std.proofs.Common.{◌≡◌, ◌⊎◌, ℕ, ◌+◌, ◌<◌, Bool, true, false, ◌||◌, List, [], ◌∷◌, ◌++◌, length, None, refl, ap, sym, ◌∙◌, subst, inl, inr, append-nil, arith}
+use Rattle.std.specs.Prelude.{⊤}
+use Rattle.fax_http.specs.declared.message.Broken.{Broken}
+use Rattle.fax_http.specs.declared.message.Broken.TheVariants.{BadHttp, TooLarge}
+use Rattle.fax_http.specs.declared.turn.Found.{Found}
+use Rattle.fax_http.specs.declared.turn.Found.TheVariants as found
+use Rattle.fax_http.specs.Conversation.{Turn, failure_of, spelled_turn, spelled_turns}
+use Rattle.fax_http.specs.Found.{Finds, HasAnswered as HasTurned, NeverBegins}
+use Rattle.fax_http.specs.Message.{IsUnfinished, is_last}
+use Rattle.fax_http.specs.Serving.{Answering}
+use Rattle.fax_http.proofs.ServingLemmas.{go_on_one_more, length_one_more, reads_one_more, spelled_one_more}
+use Rattle.fax_net.specs.Deeds.{Admits}
+use Rattle.fax_net.specs.History.{Answered, AreAnswered, Came, FailsIn, GoesOn, IsAttended, IsDone, IsNext, IsQuiet, Missed, Refused, Step, Talk, Waits, acted, owed, refusal, talk}
+use Rattle.fax_net.specs.Link.{EndsAt, HasAnswered, HasEnded, HasSaidAll, Holds, IsGoing, IsUnused, Keeps, awaits, is_done, is_due}
+use Rattle.fax_net.specs.Many.{GoesFrom, Runs}
+use Rattle.fax_net.specs.declared.link.Link.{Link}
+use Rattle.fax_net.specs.declared.link.Stage.{Stage}
+use Rattle.fax_net.specs.declared.link.Stage.TheVariants.{Free, Open, Ended, Ending}
+use Rattle.fax_net.proofs.HistoryLemmas.{goes_by, goes_still}
+use Rattle.fax_net.proofs.LinkLemmas.{due_parts, held, holds, quiet}
+
+-- ---- what is owed
+
+-- where nothing was refused, all that is owed are the replies
+module _ (t : Talk) (none : t.refused ≡ None) where
+  owed_replies : owed t ≡ spelled_turns t.turns
+  owed_replies = ap (λ r. spelled_turns t.turns ++ refusal r) none ∙ append-nil (spelled_turns t.turns)
+
+  pub owed_more : (turn : Turn) (over : Bool) → owed (acted (Answered turn over) t) ≡ owed t ++ spelled_turn turn
+  owed_more turn over =
+      ap (λ r. spelled_turns (t.turns ++ turn ∷ []) ++ refusal r) none ∙ append-nil (spelled_turns (t.turns ++ turn ∷ []))
+      ∙ spelled_one_more t.turns turn ∙ ap (λ v. v ++ spelled_turn turn) (sym owed_replies)
+
+  pub owed_refused : (broken : Broken) → owed (acted (Refused broken) t) ≡ owed t ++ failure_of broken
+  owed_refused broken = ap (λ v. v ++ failure_of broken) (sym owed_replies)
+
+paid_by : (t : Talk) (pending : List ℕ) → owed t ≡ t.took ++ pending → pending ≡ [] → owed t ≡ t.took
+paid_by t pending owes none = owes ∙ ap (λ v. t.took ++ v) none ∙ append-nil t.took
+
+some_bytes : (input : List ℕ) → ¬ (input ≡ []) → 0 < length input
+some_bytes [] n = absurd (n refl)
+some_bytes (x ∷ xs) n = omega arith
+
+fails_in : (t : Talk) (rest : List ℕ) (broken : Broken) → NeverBegins rest broken → FailsIn t rest broken
+fails_in t rest BadHttp never = inl never
+fails_in t rest TooLarge never = never
+
+-- ---- a message is answered
+
+module _ {H : Type 0} (answers : Answering H) (over : H → Bool) (h h₂ : H) (link link₂ : Link) (t : Talk) (bytes : List ℕ)
+    (g : IsGoing t link) (none : link.pending ≡ []) (it : HasTurned answers over h h₂ link.said link₂.said bytes) where
+  next_is : t.replies ≡ 0 → IsNext t it.turn
+  next_is fresh = record {
+    rest = link.said;
+    next = link₂.said;
+    goes_on = g.goes_on;
+    begins = it.begins;
+    paid = paid_by t link.pending g.owes none;
+    first = fresh;
+  }
+
+  owes_now : link₂.pending ≡ bytes → owed (acted (Answered it.turn (over h₂)) t) ≡ t.took ++ link₂.pending
+  owes_now is =
+      owed_more t g.goes_on.unrefused it.turn (over h₂) ∙ ap (λ v. v ++ spelled_turn it.turn) (paid_by t link.pending g.owes none)
+      ∙ ap (λ v. t.took ++ v) (sym (is ∙ it.spelled))
+
+  counted_now : link₂.messages ≡ link.messages + 1 → length (t.turns ++ it.turn ∷ []) ≡ link₂.messages
+  counted_now more = omega (arith, more, g.counted, length_one_more t.turns it.turn)
+
+  answered_holds : is_last it.turn.head ≡ false → link.is_awaited ≡ false → Keeps (found.Answered bytes) link link₂ true → Holds (acted (Answered it.turn (over h₂)) t) link₂
+  answered_holds going unseen (has, is, more, same, ends) = elim ends [
+    | inl (going_on, under) ↦ held (acted (Answered it.turn (over h₂)) t) link₂ Open going_on (record {
+      is_open = g.is_open;
+      goes_on = record {
+        reads = reads_one_more t.said t.turns it.turn link.said link₂.said g.goes_on.reads it.begins;
+        going = go_on_one_more t.turns it.turn g.goes_on.going going;
+        below = omega (arith, counted_now (more few), under);
+        unrefused = g.goes_on.unrefused;
+      };
+      counted = counted_now (more few);
+      owes = owes_now is;
+      awaited = λ waits. absurd (let unmoved = sym (same ∙ unseen) ∙ waits in cc);
+    })
+    | inr (ending, all) ↦ held (acted (Answered it.turn (over h₂)) t) link₂ Ending ending (record {
+      is_open = g.is_open;
+      done = inr (inr (inr (inr (omega (arith, counted_now (more few), all, more few, few)))));
+      owes = owes_now is;
+    })
+  ]
+    where
+      few : link.messages < 1000
+      few = omega (arith, g.goes_on.below, g.counted)
+
+  last_holds : (is_last it.turn.head ≡ true) ⊎ (over h₂ ≡ true) → Keeps (found.Last bytes) link link₂ true → Holds (acted (Answered it.turn (over h₂)) t) link₂
+  last_holds why (has, is, ending) = held (acted (Answered it.turn (over h₂)) t) link₂ Ending ending (record {
+    is_open = g.is_open;
+    done = done why;
+    owes = owes_now is;
+  })
+    where
+      done : (is_last it.turn.head ≡ true) ⊎ (over h₂ ≡ true) → IsDone (acted (Answered it.turn (over h₂)) t)
+      done (inl last) = inr (inr (inl (record { earlier = t.turns; last = it.turn; parts = refl; going = g.goes_on.going; is_last = last })))
+      done (inr o) = inr (inr (inr (inl o)))
+
+-- what begins unmoved message is refused
+refused_holds : (link link₂ : Link) (t : Talk) (broken : Broken) → IsGoing t link → link.pending ≡ [] → link₂.stage ≡ Ending → link₂.pending ≡ failure_of broken
+    → Holds (acted (Refused broken) t) link₂
+refused_holds link link₂ t broken g none ending is = held (acted (Refused broken) t) link₂ Ending ending (record {
+  is_open = g.is_open;
+  done = inl (broken, refl);
+  owes = owed_refused t g.goes_on.unrefused broken ∙ ap (λ v. v ++ failure_of broken) (paid_by t link.pending g.owes none) ∙ ap (λ v. t.took ++ v) (sym is);
+})
+
+-- ---- its place in the history
+
+module _ {P H : Type 0} (did : P → Step → P → Type 0) (answers : Answering H) (over : H → Bool) (place : ℕ) (below : place < 64) (start : P) (first : H) (earlier : List Step)
+    (p : P) (h : H) (runs : Runs did answers over start first earlier p h) (link : Link) (kept : Holds (talk place earlier) link) where
+  module _ (h₂ : H) (link₂ : Link) (on₁ : over h ≡ false) where
+    found_goes : (f : Found) (moved : Bool) → is_due link ≡ true → (talk place earlier).replies ≡ 0 → Finds answers over h h₂ link.said link₂.said f → Keeps f link link₂ moved
+        → GoesFrom did answers over place p h₂ link₂ 0 0 moved (λ t. ⊤) start first earlier
+    found_goes (found.Answered bytes) moved due fresh (it, going, on) keeps =
+        let parts = due_parts link due in
+        let g : IsGoing (talk place earlier) link = holds (talk place earlier) link Open parts.0 kept in
+        goes_by did answers over place below start first earlier (Answered it.turn (over h₂)) p h₂ link₂ 0 0 moved (λ t. ⊤) runs.right runs.happens
+        (h, runs.answered, on₁, it.step, refl) (next_is answers over h h₂ link link₂ (talk place earlier) bytes g parts.1 it fresh)
+        (answered_holds answers over h h₂ link link₂ (talk place earlier) bytes g parts.1 it going parts.2 (refl, keeps.1, keeps.2, keeps.3, keeps.4)) refl keeps.0 tt
+    found_goes (found.Last bytes) moved due fresh (it, why) keeps =
+        let parts = due_parts link due in
+        let g : IsGoing (talk place earlier) link = holds (talk place earlier) link Open parts.0 kept in
+        goes_by did answers over place below start first earlier (Answered it.turn (over h₂)) p h₂ link₂ 0 0 moved (λ t. ⊤) runs.right runs.happens
+        (h, runs.answered, on₁, it.step, refl) (next_is answers over h h₂ link link₂ (talk place earlier) bytes g parts.1 it fresh)
+        (last_holds answers over h h₂ link link₂ (talk place earlier) bytes g parts.1 it why (refl, keeps.1, keeps.2)) refl keeps.0 tt
+    found_goes (found.Refused bytes) moved due fresh f keeps =
+        let parts = due_parts link due in
+        let g : IsGoing (talk place earlier) link = holds (talk place earlier) link Open parts.0 kept in
+        goes_by did answers over place below start first earlier (Refused f.broken) p h₂ link₂ 0 0 moved (λ t. ⊤) runs.right runs.happens
+        (subst (λ v. AreAnswered answers over first earlier v) (sym f.stays.same_handler) runs.answered)
+        (record { rest = link.said; goes_on = g.goes_on; some = f.some; fails = fails_in (talk place earlier) link.said f.broken f.never })
+        (refused_holds link link₂ (talk place earlier) f.broken g parts.1 keeps.2 (keeps.1 ∙ f.spelled)) refl keeps.0 tt
+    found_goes found.NotYet moved due fresh (stays, unfinished) keeps =
+        let parts = due_parts link due in
+        let g : IsGoing (talk place earlier) link = holds (talk place earlier) link Open parts.0 kept in
+        subst (λ v. GoesFrom did answers over place p v link₂ 0 0 moved (λ t. ⊤) start first earlier) (sym stays.same_handler)
+        (goes_still did answers over place below start first earlier p h runs link₂ 0 moved (λ t. ⊤)
+        (held (talk place earlier) link₂ Open (keeps.4 ∙ parts.0) (record {
+          is_open = g.is_open;
+          goes_on = subst (λ v. GoesOn (talk place earlier) v) (sym stays.same_bytes) g.goes_on;
+          counted = g.counted ∙ sym keeps.2;
+          owes = g.owes ∙ ap (λ v. (talk place earlier).took ++ v) (sym keeps.1);
+          awaited = λ has. subst IsUnfinished (sym stays.same_bytes) unfinished;
+        })) keeps.0 tt)
+
+    pub goes_answered : (moved : Bool) → (talk place earlier).replies ≡ 0 → HasAnswered answers over h h₂ link link₂ moved
+        → GoesFrom did answers over place p h₂ link₂ 0 0 moved (λ t. ⊤) start first earlier
+    goes_answered moved fresh (inr (due, f, finds, keeps)) = found_goes f moved due fresh finds keeps
+    goes_answered moved fresh (inl (none, still, same, unmoved)) =
+        subst (λ v. GoesFrom did answers over place p v link₂ 0 0 moved (λ t. ⊤) start first earlier) (sym same)
+        (goes_still did answers over place below start first earlier p h runs link₂ 0 moved (λ t. ⊤) (subst (λ l. Holds (talk place earlier) l) (sym still) kept) unmoved tt)
+
+  module _ (link₂ : Link) (moved : Bool) where
+    same_goes : link₂ ≡ link → moved ≡ false → GoesFrom did answers over place p h link₂ 0 0 moved (λ t. ⊤) start first earlier
+    same_goes still unmoved =
+        goes_still did answers over place below start first earlier p h runs link₂ 0 moved (λ t. ⊤) (subst (λ l. Holds (talk place earlier) l) (sym still) kept) unmoved tt
+
+    ended_goes : (s : Stage) → link.stage ≡ s → EndsAt s link link₂ moved → GoesFrom did answers over place p h link₂ 0 0 moved (λ t. ⊤) start first earlier
+    ended_goes Free is (unmoved, still) = same_goes still unmoved
+    ended_goes Open is (unmoved, still) = same_goes still unmoved
+    ended_goes Ending is (unmoved, still) = same_goes still unmoved
+    ended_goes Ended is (inl (unmoved, none, still)) =
+        let s : HasSaidAll (talk place earlier) link = holds (talk place earlier) link Ended is kept in
+        let after : Link = record link { stage = Ending } in
+        goes_still did answers over place below start first earlier p h runs link₂ 0 moved (λ t. ⊤)
+        (subst (λ l. Holds (talk place earlier) l) (sym still)
+        (record {
+          is_open = s.going.is_open;
+          done = inr (inl (subst (λ v. GoesOn (talk place earlier) v) none s.going.goes_on, s.ended));
+          owes = s.going.owes;
+        })) unmoved tt
+    ended_goes Ended is (inr (has, some, owes)) =
+        let s : HasSaidAll (talk place earlier) link = holds (talk place earlier) link Ended is kept in
+        goes_by did answers over place below start first earlier (Refused BadHttp) p h link₂ 0 0 moved (λ t. ⊤) runs.right runs.happens runs.answered
+        (record { rest = link.said; goes_on = s.going.goes_on; some = some_bytes link.said some; fails = inr (s.part.none, s.ended) })
+        (refused_holds link link₂ (talk place earlier) BadHttp s.going s.nothing owes.stage_is owes.pending) refl has tt
+
+    pub goes_ended : HasEnded link link₂ moved → GoesFrom did answers over place p h link₂ 0 0 moved (λ t. ⊤) start first earlier
+    goes_ended ends = ended_goes link.stage refl ends
+
+-- ---- all that is done for a connection at its turn
+
+neither : (a b : Bool) → (a || b) ≡ false → (a ≡ false) × (b ≡ false)
+neither true b e = absurd cc
+neither false b e = (refl, e)
+
+awaited_not_due : (link : Link) → link.is_awaited ≡ true → is_due link ≡ false
+awaited_not_due link e = by (is_due link) refl
+  where
+    by : (b : Bool) → is_due link ≡ b → is_due link ≡ false
+    by true is = absurd (let never = sym (due_parts link is).2 ∙ e in cc)
+    by false is = is
+
+ending_not_due : (link : Link) → link.stage ≡ Ending → is_due link ≡ false
+ending_not_due link e = by (is_due link) refl
+  where
+    by : (b : Bool) → is_due link ≡ b → is_due link ≡ false
+    by true is = absurd (let never = sym (due_parts link is).0 ∙ e in cc)
+    by false is = is
+
+-- where nothing was answered, nothing is due
+answered_none : {H : Type 0} (answers : Answering H) (over : H → Bool) (h h₂ : H) (link link₂ : Link) (moved : Bool) → HasAnswered answers over h h₂ link link₂ moved
+    → moved ≡ false → is_due link₂ ≡ false
+answered_none answers over h h₂ link link₂ moved (inl (none, still, same, is)) unmoved = ap is_due still ∙ none
+answered_none answers over h h₂ link link₂ moved (inr (due, found.Answered bytes, finds, keeps)) unmoved = absurd (let never = sym keeps.0 ∙ unmoved in cc)
+answered_none answers over h h₂ link link₂ moved (inr (due, found.Last bytes, finds, keeps)) unmoved = absurd (let never = sym keeps.0 ∙ unmoved in cc)
+answered_none answers over h h₂ link link₂ moved (inr (due, found.Refused bytes, finds, keeps)) unmoved = absurd (let never = sym keeps.0 ∙ unmoved in cc)
+answered_none answers over h h₂ link link₂ moved (inr (due, found.NotYet, finds, keeps)) unmoved = awaited_not_due link₂ keeps.3
+
+-- where nothing was refused, what has ended is told as ending, and nothing more is due
+ended_none : (s : Stage) (link link₂ : Link) (moved : Bool) → link.stage ≡ s → EndsAt s link link₂ moved → moved ≡ false → is_due link ≡ false
+    → ¬ (link₂.stage ≡ Ended) × (is_due link₂ ≡ false)
+ended_none Free link link₂ moved is (n, still) unmoved none =
+    ((λ e. absurd (let never = sym is ∙ (sym (ap (λ l. l.stage) still) ∙ e) in cc)), ap is_due still ∙ none)
+ended_none Open link link₂ moved is (n, still) unmoved none =
+    ((λ e. absurd (let never = sym is ∙ (sym (ap (λ l. l.stage) still) ∙ e) in cc)), ap is_due still ∙ none)
+ended_none Ending link link₂ moved is (n, still) unmoved none =
+    ((λ e. absurd (let never = sym is ∙ (sym (ap (λ l. l.stage) still) ∙ e) in cc)), ap is_due still ∙ none)
+ended_none Ended link link₂ moved is (inl (n, all, still)) unmoved none =
+    ((λ e. absurd (let never = sym (ap (λ l. l.stage) still) ∙ e in cc)), ending_not_due link₂ (ap (λ l. l.stage) still))
+ended_none Ended link link₂ moved is (inr (has, some, owes)) unmoved none = absurd (let never = sym has ∙ unmoved in cc)
+
+module _ {P H : Type 0} (did : P → Step → P → Type 0) (answers : Answering H) (over : H → Bool) (place : ℕ) (start : P) (first : H) (earlier : List Step)
+    (p : P) (h h₂ : H) (l₀ l₁ l₂ l₃ l₄ l₅ : Link) (a r w e d : Bool)
+    (answered : HasAnswered answers over h h₂ l₀ l₁ a) (refused : HasEnded l₁ l₂ r) (written : w ≡ false → l₃ ≡ l₂) (left : e ≡ false → l₄ ≡ l₃)
+    (gone : e ≡ false → is_done l₃ ≡ false) (read : d ≡ false → l₅ ≡ l₄)
+    (g : GoesFrom did answers over place p h₂ l₅ 0 0 ((((a || r) || w) || e) || d) (λ t. d ≡ false → awaits l₄ ≡ true → t.is_dry ≡ true) start first earlier) where
+  quietly : ((((a || r) || w) || e) || d) ≡ false → IsQuiet (talk place g.later)
+  quietly none =
+      let four = neither (((a || r) || w) || e) d none in
+      let three = neither ((a || r) || w) e four.0 in
+      let two = neither (a || r) w three.0 in
+      let one = neither a r two.0 in
+      let settled = ended_none l₁.stage l₁ l₂ r refl refused one.1 (answered_none answers over h h₂ l₀ l₁ a answered one.0) in
+      let as_left : l₅ ≡ l₃ = read four.1 ∙ left three.1 in
+      let as_ended : l₅ ≡ l₂ = as_left ∙ written two.1 in
+      quiet (talk place g.later) l₅ g.holds (λ is. settled.0 (sym (ap (λ l. l.stage) as_ended) ∙ is)) (ap is_due as_ended ∙ settled.1)
+      (ap is_done as_left ∙ gone three.1) (λ waits. g.also four.1 (sym (ap awaits (read four.1)) ∙ waits))
+
+  attended_by : (m : Bool) → ((((a || r) || w) || e) || d) ≡ m → IsAttended m (talk place g.later)
+  attended_by true is = inl (refl, g.has_moved is)
+  attended_by false is = inr (quietly is)
+
+  pub attended : GoesFrom did answers over place p h₂ l₅ 0 0 ((((a || r) || w) || e) || d) (IsAttended ((((a || r) || w) || e) || d)) start first earlier
+  attended = record {
+    later = g.later;
+    runs = g.runs;
+    holds = g.holds;
+    others = g.others;
+    left_is = g.left_is;
+    looks_are = g.looks_are;
+    stays_moved = g.stays_moved;
+    has_moved = g.has_moved;
+    also = attended_by ((((a || r) || w) || e) || d) refl;
+  }
+
+-- ---- a free place
+
+admitted_holds : (t : Talk) (link₂ : Link) → IsUnused link₂ Open → Holds (acted Came t) link₂
+admitted_holds t link₂ unused = held (acted Came t) link₂ Open unused.stage_is (record {
+  is_open = refl;
+  goes_on = record { reads = sym unused.said; going = tt; below = omega arith; unrefused = refl };
+  counted = sym unused.messages;
+  owes = sym unused.pending;
+  awaited = λ waits. absurd (let never = sym unused.unseen ∙ waits in cc);
+})
+
+module _ {P H : Type 0} (did : P → Step → P → Type 0) (answers : Answering H) (over : H → Bool) (place : ℕ) (below : place < 64) (start : P) (first : H) (earlier : List Step)
+    (p p₂ : P) (h : H) (runs : Runs did answers over start first earlier p h) (link link₂ : Link) (free : link.stage ≡ Free) (kept : Holds (talk place earlier) link)
+    (left left₂ : ℕ) (moved : Bool) where
+  closed : (talk place earlier).is_open ≡ false
+  closed = holds (talk place earlier) link Free free kept
+
+  pub admitted : Admits did place p p₂ link link₂ left left₂ moved → GoesFrom did answers over place p₂ h link₂ left left₂ moved (IsAttended moved) start first earlier
+  admitted (inl (happens, unused, one, has)) =
+      goes_by did answers over place below start first earlier Came p₂ h link₂ left left₂ moved (IsAttended moved) runs.right (p, runs.happens, happens) runs.answered closed
+      (admitted_holds (talk place earlier) link₂ unused) (omega (arith, one)) has (inl (has, refl))
+  admitted (inr (inl (happens, still, one, is))) = record {
+    later = Missed ∷ earlier;
+    runs = record { happens = (p, runs.happens, happens); answered = runs.answered; right = runs.right };
+    holds = subst (λ l. Holds (talk place earlier) l) (sym still) kept;
+    others = λ k n. refl;
+    left_is = omega (arith, one);
+    looks_are = refl;
+    stays_moved = λ e. e;
+    has_moved = λ e. absurd (let never = sym is ∙ e in cc);
+    also = inr (inl closed);
+  }
+  admitted (inr (inr (inl (happens, still, same, is)))) =
+      goes_by did answers over place below start first earlier Waits p₂ h link₂ left left₂ moved (IsAttended moved) runs.right (p, runs.happens, happens) runs.answered tt
+      (subst (λ l. Holds (talk place earlier) l) (sym still) kept) (omega (arith, same)) is (inr (inl closed))
+  admitted (inr (inr (inr ((same_peers, still, is), same)))) =
+      subst (λ n. GoesFrom did answers over place p₂ h link₂ left n moved (IsAttended moved) start first earlier) (sym same)
+      (subst (λ v. GoesFrom did answers over place v h link₂ left left moved (IsAttended moved) start first earlier) (sym same_peers)
+      (goes_still did answers over place below start first earlier p h runs link₂ left moved (IsAttended moved)
+      (subst (λ l. Holds (talk place earlier) l) (sym still) kept) is (inr (inl closed))))
+
+-- where nobody came, as many are still to come
+pub goes_with : {P H : Type 0} (did : P → Step → P → Type 0) (answers : Answering H) (over : H → Bool) (place : ℕ) (start : P) (first : H) (earlier : List Step)
+    (p : P) (h : H) (link : Link) (left : ℕ) (moved : Bool) (Wanted : Talk → Type 0) → GoesFrom did answers over place p h link 0 0 moved Wanted start first earlier
+    → GoesFrom did answers over place p h link left left moved Wanted start first earlier
+goes_with did answers over place start first earlier p h link left moved Wanted g = record {
+  later = g.later;
+  runs = g.runs;
+  holds = g.holds;
+  others = g.others;
+  left_is = omega (arith, g.left_is);
+  looks_are = g.looks_are;
+  stays_moved = g.stays_moved;
+  has_moved = g.has_moved;
+  also = g.also;
+}

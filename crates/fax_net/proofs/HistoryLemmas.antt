@@ -1,0 +1,174 @@
+-- A history that goes on at one place.
+use Rattle.std.proofs.Common.{◌≡◌, ◌⊎◌, ℕ, ◌+◌, ◌<◌, Bool, true, false, ◌||◌, List, ◌∷◌, refl, ap, sym, ◌∙◌, subst, inl, inr}
+use Rattle.std.proofs.lemmas.Bool.{eq-eqb}
+use Rattle.std.specs.Prelude.{⊤, if◌then◌else◌}
+use Rattle.fax_http.specs.Serving.{Answering}
+use Rattle.fax_net.specs.Deeds.{Acts, Does, TakesIn, is_deed, moves}
+use Rattle.fax_net.specs.History.{Act, Answered, AreAnswered, At, Came, Dry, Ended, Failed, Fits, Happens, IsRight, Left, Refused, Said, Step, Talk, Took, Waits, acted, comings, talk}
+use Rattle.fax_net.specs.Link.{Holds, awaits}
+use Rattle.fax_net.specs.Many.{GoesFrom, Runs}
+use Rattle.fax_net.specs.declared.link.Link.{Link}
+use Rattle.fax_net.proofs.ListLemmas.{unlike}
+
+-- ---- what an act tells of its place and of others
+
+pub talk_here : (place : ℕ) (act : Act) (earlier : List Step) → talk place (At place act ∷ earlier) ≡ acted act (talk place earlier)
+talk_here place act earlier =
+    ap (λ (b : Bool). if b then acted act (talk place earlier) else talk place earlier) (eq-eqb place place refl)
+
+pub talk_there : (place k : ℕ) (act : Act) (earlier : List Step) → ¬ (place ≡ k) → talk k (At place act ∷ earlier) ≡ talk k earlier
+talk_there place k act earlier n =
+    ap (λ (b : Bool). if b then acted act (talk k earlier) else talk k earlier) (unlike place k n)
+
+pub still_moved : (act : Act) (t : Talk) → t.is_moved ≡ true → (acted act t).is_moved ≡ true
+still_moved Came t e = refl
+still_moved (Said bytes) t e = refl
+still_moved Dry t e = e
+still_moved Ended t e = refl
+still_moved (Took bytes) t e = refl
+still_moved Waits t e = e
+still_moved Failed t e = refl
+still_moved Left t e = refl
+still_moved (Answered turn is_over) t e = refl
+still_moved (Refused broken) t e = refl
+
+pub has_moved : (act : Act) (t : Talk) → moves act ≡ true → (acted act t).is_moved ≡ true
+has_moved Came t e = refl
+has_moved (Said bytes) t e = refl
+has_moved Dry t e = absurd cc
+has_moved Ended t e = refl
+has_moved (Took bytes) t e = refl
+has_moved Waits t e = absurd cc
+has_moved Failed t e = refl
+has_moved Left t e = refl
+has_moved (Answered turn is_over) t e = refl
+has_moved (Refused broken) t e = refl
+
+-- ---- deeds
+
+module _ {P : Type 0} (did : P → Step → P → Type 0) (start p p₂ : P) (earlier : List Step) (place : ℕ) where
+  pub happens_deed : (act : Act) → is_deed act ≡ true → Happens did start earlier p → did p (At place act) p₂ → Happens did start (At place act ∷ earlier) p₂
+  happens_deed Came e h d = (p, h, d)
+  happens_deed (Said bytes) e h d = (p, h, d)
+  happens_deed Dry e h d = (p, h, d)
+  happens_deed Ended e h d = (p, h, d)
+  happens_deed (Took bytes) e h d = (p, h, d)
+  happens_deed Waits e h d = (p, h, d)
+  happens_deed Failed e h d = (p, h, d)
+  happens_deed Left e h d = (p, h, d)
+  happens_deed (Answered turn is_over) e h d = absurd cc
+  happens_deed (Refused broken) e h d = absurd cc
+
+pub answered_deed : {H : Type 0} (answers : Answering H) (over : H → Bool) (first h : H) (earlier : List Step) (place : ℕ) (act : Act) → is_deed act ≡ true
+    → AreAnswered answers over first earlier h → AreAnswered answers over first (At place act ∷ earlier) h
+answered_deed answers over first h earlier place Came e a = a
+answered_deed answers over first h earlier place (Said bytes) e a = a
+answered_deed answers over first h earlier place Dry e a = a
+answered_deed answers over first h earlier place Ended e a = a
+answered_deed answers over first h earlier place (Took bytes) e a = a
+answered_deed answers over first h earlier place Waits e a = a
+answered_deed answers over first h earlier place Failed e a = a
+answered_deed answers over first h earlier place Left e a = a
+answered_deed answers over first h earlier place (Answered turn is_over) e a = absurd cc
+answered_deed answers over first h earlier place (Refused broken) e a = absurd cc
+
+pub comings_deed : (earlier : List Step) (place : ℕ) (act : Act) → is_deed act ≡ true → comings (At place act ∷ earlier) ≡ comings earlier
+comings_deed earlier place Came e = absurd cc
+comings_deed earlier place (Said bytes) e = refl
+comings_deed earlier place Dry e = refl
+comings_deed earlier place Ended e = refl
+comings_deed earlier place (Took bytes) e = refl
+comings_deed earlier place Waits e = refl
+comings_deed earlier place Failed e = refl
+comings_deed earlier place Left e = refl
+comings_deed earlier place (Answered turn is_over) e = absurd cc
+comings_deed earlier place (Refused broken) e = absurd cc
+
+-- ---- one place
+
+module _ {P H : Type 0} (did : P → Step → P → Type 0) (answers : Answering H) (over : H → Bool) (place : ℕ) (below : place < 64) (start : P) (first : H) (earlier : List Step) where
+  -- one act more
+  pub goes_by : (act : Act) (p₂ : P) (h₂ : H) (link₂ : Link) (left left₂ : ℕ) (moved : Bool) (Wanted : Talk → Type 0)
+      → IsRight earlier → Happens did start (At place act ∷ earlier) p₂ → AreAnswered answers over first (At place act ∷ earlier) h₂
+      → Fits act (talk place earlier) → Holds (acted act (talk place earlier)) link₂ → comings (At place act ∷ earlier) + left₂ ≡ comings earlier + left
+      → moved ≡ moves act → Wanted (acted act (talk place earlier))
+      → GoesFrom did answers over place p₂ h₂ link₂ left left₂ moved Wanted start first earlier
+  goes_by act p₂ h₂ link₂ left left₂ moved Wanted right happens answered fits holds came moved_is wanted = record {
+    later = At place act ∷ earlier;
+    runs = record { happens = happens; answered = answered; right = (right, below, fits) };
+    holds = subst (λ t. Holds t link₂) (sym (talk_here place act earlier)) holds;
+    others = λ k n. talk_there place k act earlier n;
+    left_is = came;
+    looks_are = refl;
+    stays_moved = λ e. ap (λ t. t.is_moved) (talk_here place act earlier) ∙ still_moved act (talk place earlier) e;
+    has_moved = λ e. ap (λ t. t.is_moved) (talk_here place act earlier) ∙ has_moved act (talk place earlier) (sym moved_is ∙ e);
+    also = subst Wanted (sym (talk_here place act earlier)) wanted;
+  }
+
+  module _ (p : P) (h : H) (runs : Runs did answers over start first earlier p h) where
+    -- nothing more
+    pub goes_still : (link₂ : Link) (left : ℕ) (moved : Bool) (Wanted : Talk → Type 0) → Holds (talk place earlier) link₂ → moved ≡ false → Wanted (talk place earlier)
+        → GoesFrom did answers over place p h link₂ left left moved Wanted start first earlier
+    goes_still link₂ left moved Wanted holds unmoved wanted = record {
+      later = earlier;
+      runs = runs;
+      holds = holds;
+      others = λ k n. refl;
+      left_is = refl;
+      looks_are = refl;
+      stays_moved = λ e. e;
+      has_moved = λ e. absurd (let b = sym unmoved ∙ e in cc);
+      also = wanted;
+    }
+
+    -- a deed
+    pub goes_deed : (p₂ : P) (link link₂ : Link) (act : Act) (moved : Bool) (Wanted : Talk → Type 0) → Acts did place p p₂ link link₂ act moved → Holds (talk place earlier) link
+        → Wanted (acted act (talk place earlier)) → GoesFrom did answers over place p₂ h link₂ 0 0 moved Wanted start first earlier
+    goes_deed p₂ link link₂ act moved Wanted acts holds wanted =
+        let fits = acts.fits (talk place earlier) holds in
+        goes_by act p₂ h link₂ 0 0 moved Wanted runs.right (happens_deed did start p p₂ earlier place act acts.is_deed runs.happens acts.happens)
+        (answered_deed answers over first h earlier place act acts.is_deed runs.answered) fits.0 fits.1
+        (ap (λ n. n + 0) (comings_deed earlier place act acts.is_deed)) acts.moved_is wanted
+
+    pub goes_does : (p₂ : P) (link link₂ : Link) (moved : Bool) → Does did place p p₂ link link₂ moved → Holds (talk place earlier) link
+        → GoesFrom did answers over place p₂ h link₂ 0 0 moved (λ t. ⊤) start first earlier
+    goes_does p₂ link link₂ moved (inl (act, acts)) holds = goes_deed p₂ link link₂ act moved (λ t. ⊤) acts holds tt
+    goes_does p₂ link link₂ moved (inr (same, still, unmoved)) holds =
+        subst (λ v. GoesFrom did answers over place v h link₂ 0 0 moved (λ t. ⊤) start first earlier) (sym same)
+        (goes_still link₂ 0 moved (λ t. ⊤) (subst (λ l. Holds (talk place earlier) l) (sym still) holds) unmoved tt)
+
+    pub goes_takes : (p₂ : P) (link link₂ : Link) (moved : Bool) → TakesIn did place p p₂ link link₂ moved → Holds (talk place earlier) link
+        → GoesFrom did answers over place p₂ h link₂ 0 0 moved (λ t. moved ≡ false → awaits link ≡ true → t.is_dry ≡ true) start first earlier
+    goes_takes p₂ link link₂ moved (inl (act, acts, dry)) holds =
+        goes_deed p₂ link link₂ act moved (λ t. moved ≡ false → awaits link ≡ true → t.is_dry ≡ true) acts holds
+        (λ unmoved waits. ap (λ a. (acted a (talk place earlier)).is_dry) (dry unmoved))
+    goes_takes p₂ link link₂ moved (inr (none, (same, still, unmoved))) holds =
+        subst (λ v. GoesFrom did answers over place v h link₂ 0 0 moved (λ t. moved ≡ false → awaits link ≡ true → t.is_dry ≡ true) start first earlier) (sym same)
+        (goes_still link₂ 0 moved (λ t. moved ≡ false → awaits link ≡ true → t.is_dry ≡ true) (subst (λ l. Holds (talk place earlier) l) (sym still) holds) unmoved
+        (λ b waits. absurd (let c = sym none ∙ waits in cc)))
+
+-- ---- one after the other
+
+either : (a b : Bool) → (a || b) ≡ true → (a ≡ true) ⊎ (b ≡ true)
+either true b e = inl refl
+either false b e = inr e
+
+module _ {P H : Type 0} (did : P → Step → P → Type 0) (answers : Answering H) (over : H → Bool) (place : ℕ) (start : P) (first : H) (earlier : List Step)
+    (p₁ p₂ : P) (h₁ h₂ : H) (link₁ link₂ : Link) (moved₁ moved₂ : Bool) (Wanted₁ Wanted₂ : Talk → Type 0) where
+  pub goes_both : (g : GoesFrom did answers over place p₁ h₁ link₁ 0 0 moved₁ Wanted₁ start first earlier)
+      → GoesFrom did answers over place p₂ h₂ link₂ 0 0 moved₂ Wanted₂ start first g.later
+      → GoesFrom did answers over place p₂ h₂ link₂ 0 0 (moved₁ || moved₂) Wanted₂ start first earlier
+  goes_both g f = record {
+    later = f.later;
+    runs = f.runs;
+    holds = f.holds;
+    others = λ k n. f.others k n ∙ g.others k n;
+    left_is = f.left_is ∙ g.left_is;
+    looks_are = f.looks_are ∙ g.looks_are;
+    stays_moved = λ e. f.stays_moved (g.stays_moved e);
+    has_moved = λ e. elim (either moved₁ moved₂ e) [
+      | inl one ↦ f.stays_moved (g.has_moved one)
+      | inr two ↦ f.has_moved two
+    ];
+    also = f.also;
+  }

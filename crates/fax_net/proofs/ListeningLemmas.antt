@@ -1,0 +1,74 @@
+-- What a history answers.
+use Rattle.std.proofs.Common.{◌≡◌, ℕ, Bool, false, List, [], ◌∷◌, Option, refl, ◌∙◌}
+use Rattle.fax_http.specs.Device.{Put}
+use Rattle.fax_http.specs.declared.device.Watched.{Watched}
+use Rattle.fax_http.specs.Serving.{Answering, Answers}
+use Rattle.fax_http.proofs.ServingLemmas.{answers_one_more}
+use Rattle.fax_net.specs.History.{Answered, AreAnswered, At, Came, Dry, Ended, Failed, IsNeverOver, IsOverAtLast, Left, Looked, Missed, Refused, Said, Step, Took, Waits, turns_of}
+use Rattle.fax_net.specs.Listening.{HasListened, listening}
+use Rattle.fax_net.specs.Many.{ServesMany}
+use Rattle.fax_net.specs.declared.sockets.Sockets.{Sockets}
+
+module _ {H : Type 0} (answers : Answering H) (over : H → Bool) (old : H) where
+  pub answers_of : (history : List Step) (new : H) → AreAnswered answers over old history new → Answers answers old (turns_of history) new
+  answers_of [] new e = e
+  answers_of (At place (Answered turn is_over) ∷ earlier) new (between, a, on, step, is) =
+      answers_one_more answers old (turns_of earlier) turn between new (answers_of earlier between a) step
+  answers_of (At place Came ∷ earlier) new a = answers_of earlier new a
+  answers_of (At place (Said bytes) ∷ earlier) new a = answers_of earlier new a
+  answers_of (At place Dry ∷ earlier) new a = answers_of earlier new a
+  answers_of (At place Ended ∷ earlier) new a = answers_of earlier new a
+  answers_of (At place (Took bytes) ∷ earlier) new a = answers_of earlier new a
+  answers_of (At place Waits ∷ earlier) new a = answers_of earlier new a
+  answers_of (At place Failed ∷ earlier) new a = answers_of earlier new a
+  answers_of (At place Left ∷ earlier) new a = answers_of earlier new a
+  answers_of (At place (Refused broken) ∷ earlier) new a = answers_of earlier new a
+  answers_of (Missed ∷ earlier) new a = answers_of earlier new a
+  answers_of (Looked is_busy ∷ earlier) new a = answers_of earlier new a
+
+  never_over : (history : List Step) (new : H) → AreAnswered answers over old history new → over new ≡ false → IsNeverOver history
+  never_over [] new e none = tt
+  never_over (At place (Answered turn is_over) ∷ earlier) new (between, a, on, step, is) none = (is ∙ none, never_over earlier between a on)
+  never_over (At place Came ∷ earlier) new a none = never_over earlier new a none
+  never_over (At place (Said bytes) ∷ earlier) new a none = never_over earlier new a none
+  never_over (At place Dry ∷ earlier) new a none = never_over earlier new a none
+  never_over (At place Ended ∷ earlier) new a none = never_over earlier new a none
+  never_over (At place (Took bytes) ∷ earlier) new a none = never_over earlier new a none
+  never_over (At place Waits ∷ earlier) new a none = never_over earlier new a none
+  never_over (At place Failed ∷ earlier) new a none = never_over earlier new a none
+  never_over (At place Left ∷ earlier) new a none = never_over earlier new a none
+  never_over (At place (Refused broken) ∷ earlier) new a none = never_over earlier new a none
+  never_over (Missed ∷ earlier) new a none = never_over earlier new a none
+  never_over (Looked is_busy ∷ earlier) new a none = never_over earlier new a none
+
+  over_at_last : (history : List Step) (new : H) → AreAnswered answers over old history new → IsOverAtLast history (over new)
+  over_at_last [] new e = tt
+  over_at_last (At place (Answered turn is_over) ∷ earlier) new (between, a, on, step, is) = (is, never_over earlier between a on)
+  over_at_last (At place Came ∷ earlier) new a = over_at_last earlier new a
+  over_at_last (At place (Said bytes) ∷ earlier) new a = over_at_last earlier new a
+  over_at_last (At place Dry ∷ earlier) new a = over_at_last earlier new a
+  over_at_last (At place Ended ∷ earlier) new a = over_at_last earlier new a
+  over_at_last (At place (Took bytes) ∷ earlier) new a = over_at_last earlier new a
+  over_at_last (At place Waits ∷ earlier) new a = over_at_last earlier new a
+  over_at_last (At place Failed ∷ earlier) new a = over_at_last earlier new a
+  over_at_last (At place Left ∷ earlier) new a = over_at_last earlier new a
+  over_at_last (At place (Refused broken) ∷ earlier) new a = over_at_last earlier new a
+  over_at_last (Missed ∷ earlier) new a = over_at_last earlier new a
+  over_at_last (Looked is_busy ∷ earlier) new a = over_at_last earlier new a
+
+-- what was served is what it listened to
+pub has_listened : {W H : Type 0} (contents : W → Option (List ℕ)) (out out₂ : Watched W) (did : Sockets → Step → Sockets → Type 0) (answers : Answering H) (over : H → Bool)
+    (count : ℕ) (peers peers₂ : Sockets) (handler handler₂ : H) → Put contents out out₂ listening false → (s : ServesMany did answers over count peers handler peers₂ handler₂)
+    → HasListened contents out out₂ did count (turns_of s.history) (over handler₂)
+has_listened contents out out₂ did answers over count peers peers₂ handler handler₂ said s = record {
+  said = said;
+  start = peers;
+  last = peers₂;
+  history = s.history;
+  happens = s.runs.happens;
+  right = s.runs.right;
+  turns_are = refl;
+  over = over_at_last answers over handler s.history handler₂ s.runs.answered;
+  within = s.within;
+  all = s.all;
+}

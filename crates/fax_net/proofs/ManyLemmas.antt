@@ -1,0 +1,197 @@
+-- All places, one after the other.
+use Rattle.std.proofs.Common.{◌≡◌, ◌⊎◌, ℕ, ◌+◌, ◌-◌, ◌^◌, ◌<◌, ◌≤◌, Bool, true, false, ◌||◌, List, [], ◌∷◌, length, get_or, set, refl, ap, sym, ◌∙◌, subst, inl, inr, arith, length-set, get_or-set_same, get_or-set_other}
+use Rattle.std.proofs.lemmas.Bool.{eq-eqb, eqb-true}
+use Rattle.std.specs.Prelude.{nat_eq}
+use Rattle.fax_http.specs.Serving.{Answering}
+use Rattle.fax_net.specs.History.{GoesOn, IsAttended, IsDone, Looked, Step, Talk, comings, looked, looks, talk}
+use Rattle.fax_net.specs.Link.{HasSaidAll, Holds, IsEnding, IsGoing}
+use Rattle.fax_net.specs.Many.{AllHold, GoesFrom, GoesRound, Moves, Rounds, Runs, ServesMany}
+use Rattle.fax_net.specs.declared.link.Link.{Link}
+use Rattle.fax_net.specs.declared.link.Stage.{Stage}
+use Rattle.fax_net.specs.declared.link.Stage.TheVariants.{Free, Open, Ended, Ending}
+use Rattle.fax_net.proofs.LinkLemmas.{held, holds}
+
+-- ---- a round
+
+attended_or : (a b : Bool) (t : Talk) → IsAttended a t → IsAttended (a || b) t
+attended_or true b t at = at
+attended_or false b t (inl (is, moved)) = absurd cc
+attended_or false b t (inr quiet) = inr quiet
+
+attended_behind : (a b : Bool) (t : Talk) → IsAttended b t → IsAttended (a || b) t
+attended_behind true b t (inl (is, moved)) = inl (refl, moved)
+attended_behind true b t (inr quiet) = inr quiet
+attended_behind false b t at = at
+
+same_or : (a b : ℕ) → (a ≡ b) ⊎ ¬ (a ≡ b)
+same_or a b = by (nat_eq a b) refl
+  where
+    by : (t : Bool) → nat_eq a b ≡ t → (a ≡ b) ⊎ ¬ (a ≡ b)
+    by true e = inl (eqb-true a b e)
+    by false e = inr (λ is. absurd (let never = sym e ∙ ap (nat_eq a) (sym is) in let again = eq-eqb a a refl in cc))
+
+below_next : (k place : ℕ) → k < place + 1 → ¬ (place ≡ k) → k < place
+below_next k place under unlike = omega (arith, under, unlike)
+
+-- one place had its turn
+hold_set : (earlier later : List Step) (links : List Link) (place : ℕ) (link : Link) → AllHold earlier links → ((k : ℕ) → ¬ (place ≡ k) → talk k later ≡ talk k earlier)
+    → place < length links → Holds (talk place later) link → AllHold later (set links place link)
+hold_set earlier later links place link all others within here k d below = elim (same_or place k) [
+  | inl is ↦ subst (λ j. Holds (talk j later) (get_or (set links place link) j d)) is (subst (λ v. Holds (talk place later) v) (sym (get_or-set_same links place link d within)) here)
+  | inr unlike ↦ subst (λ t. Holds t (get_or (set links place link) k d)) (sym (others k unlike))
+      (subst (λ v. Holds (talk k earlier) v) (sym (get_or-set_other links place k link d (λ e. unlike (sym e)))) (all k d (omega (arith, below, length-set {A = Link}))))
+]
+
+module _ {P H : Type 0} (did : P → Step → P → Type 0) (answers : Answering H) (over : H → Bool) where
+  -- the places in front had their turn
+  pub record RoundTo (place : ℕ) (peers : P) (handler : H) (links : List Link) (left₀ left : ℕ) (is_busy : Bool) (start : P) (first : H) (earlier : List Step) : Type 0 where
+    pub later : List Step
+    pub runs : Runs did answers over start first later peers handler
+    pub holds : AllHold later links
+    pub left_is : comings later + left ≡ comings earlier + left₀
+    pub looks_are : looks later ≡ looks earlier
+    pub fresh : (k : ℕ) → place ≤ k → (talk k later).replies ≡ 0
+    pub attended : (k : ℕ) → k < place → IsAttended is_busy (talk k later)
+
+  abbrev pub RoundsTo : ℕ → P → P → H → H → List Link → List Link → ℕ → ℕ → Bool → Type 0
+  RoundsTo place peers₀ peers handler₀ handler links₀ links left₀ left is_busy =
+      (start : P) (first : H) (earlier : List Step) → Runs did answers over start first earlier peers₀ handler₀ → AllHold earlier links₀
+      → ((k : ℕ) → (talk k earlier).replies ≡ 0) → RoundTo place peers handler links left₀ left is_busy start first earlier
+
+  pub round_begins : (peers : P) (handler : H) (links : List Link) (left : ℕ) → RoundsTo 0 peers peers handler handler links links left left false
+  round_begins peers handler links left start first earlier runs all fresh = record {
+    later = earlier;
+    runs = runs;
+    holds = all;
+    left_is = refl;
+    looks_are = refl;
+    fresh = λ k within. fresh k;
+    attended = λ k below. absurd (omega (arith, below));
+  }
+
+  module _ (place : ℕ) (peers₀ peers peers₂ : P) (handler₀ handler handler₂ : H) (links₀ links : List Link) (link₂ : Link) (left₀ left left₂ : ℕ) (is_busy moved : Bool) (d : Link) where
+    pub round_next : RoundsTo place peers₀ peers handler₀ handler links₀ links left₀ left is_busy → place < 64 → length links ≡ 64
+        → Moves did answers over place peers peers₂ handler handler₂ (get_or links place d) link₂ left left₂ moved (IsAttended moved)
+        → RoundsTo (place + 1) peers₀ peers₂ handler₀ handler₂ links₀ (set links place link₂) left₀ left₂ (is_busy || moved)
+    round_next far below size moves start first earlier runs all fresh =
+        let r = far start first earlier runs all fresh in
+        let g : GoesFrom did answers over place peers₂ handler₂ link₂ left left₂ moved (IsAttended moved) start first r.later =
+        moves start first r.later r.runs below (r.holds place d (omega (arith, below, size))) (r.fresh place (omega arith)) in
+        record {
+          later = g.later;
+          runs = g.runs;
+          holds = hold_set r.later g.later links place link₂ r.holds g.others (omega (arith, below, size)) g.holds;
+          left_is = omega (arith, g.left_is, r.left_is);
+          looks_are = g.looks_are ∙ r.looks_are;
+          fresh = λ k within. ap (λ t. t.replies) (g.others k (λ e. omega (arith, e, within))) ∙ r.fresh k (omega (arith, within));
+          attended = λ k under. elim (same_or place k) [
+            | inl is ↦ subst (λ j. IsAttended (is_busy || moved) (talk j g.later)) is (attended_behind is_busy moved (talk place g.later) g.also)
+            | inr unlike ↦ subst (λ t. IsAttended (is_busy || moved) t) (sym (g.others k unlike))
+                (attended_or is_busy moved (talk k r.later) (r.attended k (below_next k place under unlike)))
+          ];
+        }
+
+  module _ (place : ℕ) (peers₀ peers : P) (handler₀ handler : H) (links₀ links : List Link) (left₀ left : ℕ) (is_busy : Bool)
+      (far : RoundsTo place peers₀ peers handler₀ handler links₀ links left₀ left is_busy) where
+    pub round_over : (busy : Bool) → over handler ≡ true → Rounds did answers over peers₀ peers handler₀ handler links₀ links left₀ left busy
+    round_over busy is start first earlier runs all fresh =
+        let r = far start first earlier runs all fresh in
+        record { later = r.later; runs = r.runs; holds = r.holds; left_is = r.left_is; looks_are = r.looks_are; attended = λ on. absurd (let never = sym is ∙ on in cc) }
+
+    pub round_ends : 64 ≤ place → Rounds did answers over peers₀ peers handler₀ handler links₀ links left₀ left is_busy
+    round_ends all_of start first earlier runs all fresh =
+        let r = far start first earlier runs all fresh in
+        record { later = r.later; runs = r.runs; holds = r.holds; left_is = r.left_is; looks_are = r.looks_are; attended = λ on k below. r.attended k (omega (arith, below, all_of)) }
+
+-- one of them
+some_link : (links : List Link) → 0 < length links → Link
+some_link [] some = absurd (omega (arith, some))
+some_link (link ∷ links) some = link
+
+-- ---- looks
+
+goes_looked : (t : Talk) (rest : List ℕ) → GoesOn t rest → GoesOn (looked t) rest
+goes_looked t rest g = record { reads = g.reads; going = g.going; below = g.below; unrefused = g.unrefused }
+
+going_looked : (t : Talk) (link : Link) → IsGoing t link → IsGoing (looked t) link
+going_looked t link g = record { is_open = g.is_open; goes_on = goes_looked t link.said g.goes_on; counted = g.counted; owes = g.owes; awaited = g.awaited }
+
+done_looked : (t : Talk) → IsDone t → IsDone (looked t)
+done_looked t (inl refused) = inl refused
+done_looked t (inr (inl (g, ended))) = inr (inl (goes_looked t [] g, ended))
+done_looked t (inr (inr other)) = inr (inr other)
+
+holds_looked : (t : Talk) (link : Link) → Holds t link → Holds (looked t) link
+holds_looked t link h = by link.stage refl
+  where
+    by : (s : Stage) → link.stage ≡ s → Holds (looked t) link
+    by Free is = held (looked t) link Free is (holds t link Free is h)
+    by Open is = held (looked t) link Open is (going_looked t link (holds t link Open is h))
+    by Ended is =
+        let s : HasSaidAll t link = holds t link Ended is h in
+        held (looked t) link Ended is (record { going = going_looked t link s.going; ended = s.ended; nothing = s.nothing; part = s.part })
+    by Ending is =
+        let e : IsEnding t link = holds t link Ending is h in
+        held (looked t) link Ending is (record { is_open = e.is_open; done = done_looked t e.done; owes = e.owes })
+
+module _ {P H : Type 0} (did : P → Step → P → Type 0) (answers : Answering H) (over : H → Bool) (peers : P) (handler : H) (count : ℕ) where
+  -- so often it looked, and so many are still to come
+  pub record Serving (now : P) (handler₁ : H) (links : List Link) (left : ℕ) (is_busy : Bool) (rounds : ℕ) : Type 0 where
+    pub history : List Step
+    pub runs : Runs did answers over peers handler history now handler₁
+    pub holds : AllHold history links
+    pub left_is : comings history + left ≡ count
+    pub looks_are : looks history ≡ rounds
+    pub attended : over handler₁ ≡ false → (k : ℕ) → k < 64 → IsAttended is_busy (talk k history)
+
+  pub serving_begins : (links : List Link) → ((k : ℕ) (d : Link) → k < length links → (get_or links k d).stage ≡ Free) → Serving peers handler links count true 0
+  serving_begins links free = record {
+    history = [];
+    runs = record { happens = refl; answered = refl; right = tt };
+    holds = λ k d below. held (talk k []) (get_or links k d) Free (free k d below) refl;
+    left_is = omega arith;
+    looks_are = refl;
+    attended = λ on k below. inr (inl refl);
+  }
+
+  module _ (now : P) (handler₁ : H) (links : List Link) (left : ℕ) (is_busy : Bool) (rounds : ℕ) (s : Serving now handler₁ links left is_busy rounds) where
+    pub serving_next : (then next : P) (handler₂ : H) (links₂ : List Link) (left₂ : ℕ) (busy : Bool) → over handler₁ ≡ false → did now (Looked is_busy) then
+        → Rounds did answers over then next handler₁ handler₂ links links₂ left left₂ busy → Serving next handler₂ links₂ left₂ busy (rounds + 1)
+    serving_next then next handler₂ links₂ left₂ busy on looks_now round =
+        let r : GoesRound did answers over next handler₂ links₂ left left₂ busy peers handler (Looked is_busy ∷ s.history) =
+        round peers handler (Looked is_busy ∷ s.history)
+        (record { happens = (now, s.runs.happens, looks_now); answered = s.runs.answered; right = (s.runs.right, s.attended on) })
+        (λ k d below. holds_looked (talk k s.history) (get_or links k d) (s.holds k d below))
+        (λ k. refl) in
+        record {
+          history = r.later;
+          runs = r.runs;
+          holds = r.holds;
+          left_is = omega (arith, r.left_is, s.left_is);
+          looks_are = r.looks_are ∙ ap (λ n. n + 1) s.looks_are;
+          attended = r.attended;
+        }
+
+    within_count : comings s.history ≤ count
+    within_count = omega (arith, s.left_is)
+
+    pub serves_over : over handler₁ ≡ true → ServesMany did answers over count peers handler now handler₁
+    serves_over is = record { history = s.history; runs = s.runs; within = within_count; all = λ on. absurd (let never = sym is ∙ on in cc) }
+
+    pub serves_all : left ≡ 0 → length links ≡ 64 → ((k : ℕ) (d : Link) → k < length links → (get_or links k d).stage ≡ Free)
+        → ServesMany did answers over count peers handler now handler₁
+    serves_all none size free = record {
+      history = s.history;
+      runs = s.runs;
+      within = within_count;
+      all = λ on below. (
+        omega (arith, s.left_is, none),
+        λ place under.
+            let d = some_link links (omega (arith, size)) in
+            let is = free place d (omega (arith, under, size)) in
+            holds (talk place s.history) (get_or links place d) Free is (s.holds place d (omega (arith, under, size))),
+      );
+    }
+
+    pub serves_long : 2 ^ 64 - 1 ≤ rounds → ServesMany did answers over count peers handler now handler₁
+    serves_long long = record { history = s.history; runs = s.runs; within = within_count; all = λ on below. absurd (omega (arith, long, below, s.looks_are)) }

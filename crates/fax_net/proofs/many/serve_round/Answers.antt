@@ -1,0 +1,14 @@
+use Rattle.std.proofs.Common.{◌∙◌, true, sym, arith}
+use Rattle.fax_net.proofs.ManyLemmas.{round_ends, round_next, round_over}
+use Rattle.fax_net.proofs.many.serve_round.Goals as goal
+
+pub returns-then-is_over : goal.returns-then-is_over
+returns-then-is_over g c =
+    round_over g.P.Peers.did g.H.Handler.answers g.H.Handler.over _ _ _ _ _ _ _ _ _ _ c.loop-place.invariant true (sym c.is_over.ensures ∙ c.if-is_over.true)
+
+pub returns : goal.returns
+returns g c = round_ends g.P.Peers.did g.H.Handler.answers g.H.Handler.over _ _ _ _ _ _ _ _ _ _ c.loop-place.invariant (omega arith)
+
+pub loop-place-preserved : goal.loop-place-preserved
+loop-place-preserved g c =
+    round_next g.P.Peers.did g.H.Handler.answers g.H.Handler.over _ _ _ _ _ _ _ _ _ _ _ _ _ _ _ _ c.loop-place.invariant (omega arith) (c.loop-place.auto.links ∙ c.requires) c.serve_place-is_busy.ensures

@@ -1,0 +1,216 @@
+-- What a server of many connections did: its history, the newest step first. Each connection has a place, and what became of it is told by the steps at its place alone.
+use Rattle.std.specs.Prelude.{◌≡◌, ◌⊎◌, ℕ, ◌+◌, ◌<◌, Bool, true, false, List, [], ◌∷◌, ◌++◌, length, Option, Some, None, if◌then◌else◌, nat_eq, ⊤}
+use Rattle.fax_http.specs.declared.message.Broken.{Broken}
+use Rattle.fax_http.specs.declared.message.Broken.TheVariants.{BadHttp, TooLarge}
+use Rattle.fax_http.specs.Conversation.{EndWithLast, GoOn, Reads, Turn, failure_of, spelled_turns}
+use Rattle.fax_http.specs.Message.{BeginsWith, IsBad, IsTooLarge, IsUnfinished, StaysBad}
+use Rattle.fax_http.specs.Serving.{Answering}
+
+-- ---- steps
+
+-- what happens at a place: a connection comes, says these bytes, says nothing yet, says no more, takes these bytes, takes nothing yet, fails, or is ended; its next message is answered, or what begins none
+pub data Act : Type 0 where
+  Came : Act
+  Said : (bytes : List ℕ) → Act
+  Dry : Act
+  Ended : Act
+  Took : (bytes : List ℕ) → Act
+  Waits : Act
+  Failed : Act
+  Left : Act
+  Answered : (turn : Turn) → (is_over : Bool) → Act
+  Refused : (broken : Broken) → Act
+
+-- an act at a place; a connection that can't be accepted; or a look at all connections, for which the server waits where it has nothing to do
+pub data Step : Type 0 where
+  At : (place : ℕ) → (act : Act) → Step
+  Missed : Step
+  Looked : (is_busy : Bool) → Step
+
+-- ---- what became of one connection
+
+-- what is known of the connection at a place: what it said and took, its messages with their replies, and what moved since the last look
+pub record Talk : Type 0 where
+  pub is_open : Bool
+  pub said : List ℕ
+  pub turns : List Turn
+  pub refused : Option Broken
+  pub took : List ℕ
+  pub has_ended : Bool
+  pub is_over : Bool
+  pub is_dry : Bool
+  pub is_moved : Bool
+  pub replies : ℕ
+
+-- a place where nobody came
+abbrev pub nobody : Talk
+nobody = record {
+  is_open = false;
+  said = [];
+  turns = [];
+  refused = None;
+  took = [];
+  has_ended = false;
+  is_over = false;
+  is_dry = false;
+  is_moved = false;
+  replies = 0;
+}
+
+-- an act at the place itself
+abbrev pub acted : Act → Talk → Talk
+acted Came t = record nobody { is_open = true; is_moved = true; replies = t.replies }
+acted (Said bytes) t = record t { said = t.said ++ bytes; is_dry = false; is_moved = true }
+acted Dry t = record t { is_dry = true }
+acted Ended t = record t { has_ended = true; is_moved = true }
+acted (Took bytes) t = record t { took = t.took ++ bytes; is_moved = true }
+acted Waits t = t
+acted Failed t = record t { is_open = false; is_moved = true }
+acted Left t = record t { is_open = false; is_moved = true }
+acted (Answered turn is_over) t = record t { turns = t.turns ++ turn ∷ []; is_over = is_over; is_moved = true; replies = t.replies + 1 }
+acted (Refused broken) t = record t { refused = Some broken; is_moved = true }
+
+-- since a look nothing moved yet
+abbrev pub looked : Talk → Talk
+looked t = record t { is_moved = false; replies = 0 }
+
+-- the connection that came last to a place
+abbrev pub talk : ℕ → List Step → Talk
+talk place [] = nobody
+talk place (At other act ∷ earlier) = if nat_eq other place then acted act (talk place earlier) else talk place earlier
+talk place (Missed ∷ earlier) = talk place earlier
+talk place (Looked is_busy ∷ earlier) = looked (talk place earlier)
+
+-- the bytes of a refusal, where there is one
+abbrev pub refusal : Option Broken → List ℕ
+refusal None = []
+refusal (Some broken) = failure_of broken
+
+-- what is to be written to a connection: the replies to its messages in order, and behind them the refusal
+abbrev pub owed : Talk → List ℕ
+owed t = spelled_turns t.turns ++ refusal t.refused
+
+-- ---- what each act has to fit
+
+-- its messages are those of what it said, another may follow, and these bytes stand behind them
+pub record GoesOn (t : Talk) (rest : List ℕ) : Type 0 where
+  pub reads : Reads t.said t.turns rest
+  pub going : GoOn t.turns
+  pub below : length t.turns < 1000
+  pub unrefused : t.refused ≡ None
+
+-- a message is looked for, and isn't there to its end
+abbrev pub Awaits : Talk → Type 0
+Awaits t = (rest : List ℕ) × GoesOn t rest × IsUnfinished rest
+
+-- the next message of what it said is that of the turn, it was answered before with all that was owed, and not since the last look
+pub record IsNext (t : Talk) (turn : Turn) : Type 0 where
+  pub rest : List ℕ
+  pub next : List ℕ
+  pub goes_on : GoesOn t rest
+  pub begins : BeginsWith rest turn.head turn.body next
+  pub paid : owed t ≡ t.took
+  pub first : t.replies ≡ 0
+
+-- no message begins the rest: whatever follows, or since nothing does
+abbrev pub FailsIn : Talk → List ℕ → Broken → Type 0
+FailsIn t rest BadHttp = StaysBad rest ⊎ (IsBad rest × (t.has_ended ≡ true))
+FailsIn t rest TooLarge = IsTooLarge rest
+
+-- what it said behind its messages begins none
+pub record IsBroken (t : Talk) (broken : Broken) : Type 0 where
+  pub rest : List ℕ
+  pub goes_on : GoesOn t rest
+  pub some : 0 < length rest
+  pub fails : FailsIn t rest broken
+
+-- why nothing more is answered: the refusal, the end of what it says, its last message, who answers, or the bound
+abbrev pub IsDone : Talk → Type 0
+IsDone t =
+    ((broken : Broken) × (t.refused ≡ Some broken))
+    ⊎ ((GoesOn t [] × (t.has_ended ≡ true))
+    ⊎ (EndWithLast t.turns ⊎ ((t.is_over ≡ true) ⊎ (length t.turns ≡ 1000))))
+
+-- bytes go to it that stand next in what is owed to it; it is read from where a message is awaited; and it is ended where it is done and has everything
+abbrev pub Fits : Act → Talk → Type 0
+Fits Came t = t.is_open ≡ false
+Fits (Said bytes) t = Awaits t
+Fits Dry t = ⊤
+Fits Ended t = Awaits t
+Fits (Took bytes) t = (left : List ℕ) × (owed t ≡ t.took ++ (bytes ++ left))
+Fits Waits t = ⊤
+Fits Failed t = t.is_open ≡ true
+Fits Left t = IsDone t × (owed t ≡ t.took)
+Fits (Answered turn is_over) t = IsNext t turn
+Fits (Refused broken) t = IsBroken t broken
+
+-- ---- looks
+
+-- something is owed to it that it doesn't take yet
+pub record IsOwing (t : Talk) : Type 0 where
+  pub left : List ℕ
+  pub some : 0 < length left
+  pub owes : owed t ≡ t.took ++ left
+
+-- there is nothing to do for it: it is closed, or doesn't take what is owed to it, or has no whole message there, and has said no more
+abbrev pub IsQuiet : Talk → Type 0
+IsQuiet t = (t.is_open ≡ false) ⊎ (IsOwing t ⊎ (Awaits t × (t.is_dry ≡ true)))
+
+-- before a busy look something moved there since the last one, or there is nothing to do; before the server waits there is nothing to do
+abbrev pub IsAttended : Bool → Talk → Type 0
+IsAttended is_busy t = ((is_busy ≡ true) × (t.is_moved ≡ true)) ⊎ IsQuiet t
+
+-- each step fits what came before; there are 64 places
+abbrev pub IsRight : List Step → Type 0
+IsRight [] = ⊤
+IsRight (At place act ∷ earlier) = IsRight earlier × (place < 64) × Fits act (talk place earlier)
+IsRight (Missed ∷ earlier) = IsRight earlier
+IsRight (Looked is_busy ∷ earlier) = IsRight earlier × ((place : ℕ) → place < 64 → IsAttended is_busy (talk place earlier))
+
+-- ---- all connections
+
+-- all messages, as they were answered one after the other
+abbrev pub turns_of : List Step → List Turn
+turns_of [] = []
+turns_of (At place (Answered turn is_over) ∷ earlier) = turns_of earlier ++ turn ∷ []
+turns_of (step ∷ earlier) = turns_of earlier
+
+-- how many connections came, with those that couldn't be accepted
+abbrev pub comings : List Step → ℕ
+comings [] = 0
+comings (At place Came ∷ earlier) = comings earlier + 1
+comings (Missed ∷ earlier) = comings earlier + 1
+comings (step ∷ earlier) = comings earlier
+
+-- how often it looked
+abbrev pub looks : List Step → ℕ
+looks [] = 0
+looks (Looked is_busy ∷ earlier) = looks earlier + 1
+looks (step ∷ earlier) = looks earlier
+
+-- each message is answered from the state that the one before it left
+abbrev pub AreAnswered : {H : Type 0} → Answering H → (H → Bool) → H → List Step → H → Type 0
+AreAnswered answers over old [] new = new ≡ old
+AreAnswered {H} answers over old (At place (Answered turn is_over) ∷ earlier) new =
+    (between : H) × AreAnswered answers over old earlier between × (over between ≡ false)
+    × answers between turn.head turn.body turn.reply new × (is_over ≡ over new)
+AreAnswered answers over old (step ∷ earlier) new = AreAnswered answers over old earlier new
+
+-- the connections do what the history tells; answering is no deed of theirs
+abbrev pub Happens : {P : Type 0} → (P → Step → P → Type 0) → P → List Step → P → Type 0
+Happens did old [] new = new ≡ old
+Happens did old (At place (Answered turn is_over) ∷ earlier) new = Happens did old earlier new
+Happens did old (At place (Refused broken) ∷ earlier) new = Happens did old earlier new
+Happens {P} did old (step ∷ earlier) new = (between : P) × Happens did old earlier between × did between step new
+
+-- who answers was not over
+abbrev pub IsNeverOver : List Step → Type 0
+IsNeverOver [] = ⊤
+IsNeverOver (At place (Answered turn is_over) ∷ earlier) = (is_over ≡ false) × IsNeverOver earlier
+IsNeverOver (step ∷ earlier) = IsNeverOver earlier
+
+-- nothing is answered once who answers is over
+abbrev pub IsOverAtLast : List Step → Bool → Type 0
+IsOverAtLast [] over = ⊤
+IsOverAtLast (At place (Answered turn is_over) ∷ earlier) over = (is_over ≡ over) × IsNeverOver earlier
+IsOverAtLast (step ∷ earlier) over = IsOverAtLast earlier over

@@ -1,0 +1,125 @@
+-- What a server keeps of one connection is what became of it.
+use Rattle.std.specs.Prelude.{◌≡◌, ◌⊎◌, ℕ, ◌+◌, ◌<◌, ◌≤◌, Bool, ◌&&◌, true, false, not, List, [], ◌++◌, length}
+use Rattle.fax_http.specs.declared.message.Broken.TheVariants.{BadHttp}
+use Rattle.fax_http.specs.declared.turn.Found.{Found}
+use Rattle.fax_http.specs.declared.turn.Found.TheVariants.{Answered, Last, Refused, NotYet}
+use Rattle.fax_http.specs.Conversation.{failure_of}
+use Rattle.fax_http.specs.Found.{Finds}
+use Rattle.fax_http.specs.Serving.{Answering}
+use Rattle.fax_http.specs.Message.{IsUnfinished}
+use Rattle.fax_net.specs.declared.link.Link.{Link}
+use Rattle.fax_net.specs.declared.link.Stage.{Stage}
+use Rattle.fax_net.specs.declared.link.Stage.TheVariants.{Free, Open, Ended, Ending}
+use Rattle.fax_net.specs.History.{GoesOn, IsDone, Talk, owed}
+use Rattle.fax_net.specs.Lists.{is_none}
+
+abbrev pub is_open : Stage → Bool
+is_open Free = false
+is_open Open = true
+is_open Ended = false
+is_open Ending = false
+
+abbrev pub is_taken : Stage → Bool
+is_taken Free = false
+is_taken Open = true
+is_taken Ended = true
+is_taken Ending = true
+
+abbrev pub is_ending : Stage → Bool
+is_ending Free = false
+is_ending Open = false
+is_ending Ended = false
+is_ending Ending = true
+
+-- its next message is to be looked for
+abbrev pub is_due : Link → Bool
+is_due link = (is_open link.stage && is_none link.pending) && not link.is_awaited
+
+-- more of its next message is to be read
+abbrev pub awaits : Link → Bool
+awaits link = (is_open link.stage && is_none link.pending) && link.is_awaited
+
+-- all is said and written
+abbrev pub is_done : Link → Bool
+is_done link = is_ending link.stage && is_none link.pending
+
+-- something is to be written
+abbrev pub is_owing : Link → Bool
+is_owing link = is_taken link.stage && not (is_none link.pending)
+
+-- nothing was said or written yet
+pub record IsUnused (link : Link) (stage : Stage) : Type 0 where
+  pub stage_is : link.stage ≡ stage
+  pub said : link.said ≡ []
+  pub pending : link.pending ≡ []
+  pub messages : link.messages ≡ 0
+  pub unseen : link.is_awaited ≡ false
+
+-- the conversation goes on: the bytes that it said and that aren't answered stand behind its messages, and what is owed to it was taken or is pending
+pub record IsGoing (t : Talk) (link : Link) : Type 0 where
+  pub is_open : t.is_open ≡ true
+  pub goes_on : GoesOn t link.said
+  pub counted : length t.turns ≡ link.messages
+  pub owes : owed t ≡ t.took ++ link.pending
+  pub awaited : link.is_awaited ≡ true → IsUnfinished link.said
+
+-- it says no more, and that isn't answered yet
+pub record HasSaidAll (t : Talk) (link : Link) : Type 0 where
+  pub going : IsGoing t link
+  pub ended : t.has_ended ≡ true
+  pub nothing : link.pending ≡ []
+  pub part : IsUnfinished link.said
+
+-- nothing more is answered
+pub record IsEnding (t : Talk) (link : Link) : Type 0 where
+  pub is_open : t.is_open ≡ true
+  pub done : IsDone t
+  pub owes : owed t ≡ t.took ++ link.pending
+
+abbrev pub HoldsAt : Stage → Talk → Link → Type 0
+HoldsAt Free t link = t.is_open ≡ false
+HoldsAt Open t link = IsGoing t link
+HoldsAt Ended t link = HasSaidAll t link
+HoldsAt Ending t link = IsEnding t link
+
+-- what is kept is what became of it
+abbrev pub Holds : Talk → Link → Type 0
+Holds t link = HoldsAt link.stage t link
+
+-- ---- what changes
+
+-- a reply is to be written
+pub record Owes (link link₂ : Link) (bytes : List ℕ) (stage : Stage) : Type 0 where
+  pub stage_is : link₂.stage ≡ stage
+  pub said : link₂.said ≡ link.said
+  pub pending : link₂.pending ≡ bytes
+  pub messages : link₂.messages ≡ link.messages
+  pub is_awaited : link₂.is_awaited ≡ link.is_awaited
+
+-- what is left where nothing more is said: nothing, or bytes that begin no message
+abbrev pub EndsAt : Stage → Link → Link → Bool → Type 0
+EndsAt Free link link₂ moved = (moved ≡ false) × (link₂ ≡ link)
+EndsAt Open link link₂ moved = (moved ≡ false) × (link₂ ≡ link)
+EndsAt Ended link link₂ moved =
+    ((moved ≡ false) × (link.said ≡ []) × (link₂ ≡ record link { stage = Ending }))
+    ⊎ ((moved ≡ true) × ¬ (link.said ≡ []) × Owes link link₂ (failure_of BadHttp) Ending)
+EndsAt Ending link link₂ moved = (moved ≡ false) × (link₂ ≡ link)
+
+abbrev pub HasEnded : Link → Link → Bool → Type 0
+HasEnded link link₂ moved = EndsAt link.stage link link₂ moved
+
+-- what is kept of what was found
+abbrev pub Keeps : Found → Link → Link → Bool → Type 0
+Keeps (Answered bytes) link link₂ moved =
+    (moved ≡ true) × (link₂.pending ≡ bytes) × (link.messages < 1000 → link₂.messages ≡ link.messages + 1) × (link₂.is_awaited ≡ link.is_awaited)
+    × (((link₂.stage ≡ Open) × (link₂.messages < 1000)) ⊎ ((link₂.stage ≡ Ending) × (1000 ≤ link₂.messages)))
+Keeps (Last bytes) link link₂ moved = (moved ≡ true) × (link₂.pending ≡ bytes) × (link₂.stage ≡ Ending)
+Keeps (Refused bytes) link link₂ moved = (moved ≡ true) × (link₂.pending ≡ bytes) × (link₂.stage ≡ Ending)
+Keeps NotYet link link₂ moved =
+    (moved ≡ false) × (link₂.pending ≡ link.pending) × (link₂.messages ≡ link.messages) × (link₂.is_awaited ≡ true) × (link₂.stage ≡ link.stage)
+
+-- where its next message is due, it is looked for
+abbrev pub HasAnswered : {H : Type 0} → Answering H → (H → Bool) → H → H → Link → Link → Bool → Type 0
+HasAnswered answers over old new link link₂ moved =
+    ((is_due link ≡ false) × (link₂ ≡ link) × (new ≡ old) × (moved ≡ false))
+    ⊎ ((is_due link ≡ true) × (found : Found) × Finds answers over old new link.said link₂.said found × Keeps found link link₂ moved)

@@ -1,0 +1,164 @@
+//! One connection of many: what is done for it at its turn, none of which waits for its peer.
+ghost use Rattle.std.specs.Prelude.{◌≡◌, true, false};
+ghost use Rattle.fax_net.specs.History.{IsAttended};
+ghost use Rattle.fax_net.specs.Link.{HasAnswered, is_done};
+ghost use Rattle.fax_net.specs.Deeds.{Admits, Does, TakesIn};
+ghost use Rattle.fax_net.specs.Many.{Moves};
+
+use crate::link::{Link, Stage, stage_behind};
+use crate::peers::{Coming, Moved, Peers};
+use fax_http::{Found, Handler, answer_front};
+
+/// The most bytes of one read.
+const PIECE_LIMIT: usize = 4_096;
+
+/// Does what there is to do at a place, and gives whether anything moved there.
+pub(crate) fn serve_place<P: Peers, H: Handler>(
+    peers: &mut P,
+    place: usize,
+    link: &mut Link,
+    left: &mut u64,
+    handler: &mut H,
+) -> bool
+    requires { H.over handler.old ≡ false }
+    ensures { Moves P.did H.answers H.over place peers.old peers.new handler.old handler.new link.old link.new left.old left.new result (IsAttended result) }
+{
+    if link.is_free() {
+        admit(peers, place, link, left)
+    } else {
+        converse(peers, place, link, handler)
+    }
+}
+
+/// Gives a free place to a connection that waits, where more are to come.
+fn admit<P: Peers>(peers: &mut P, place: usize, link: &mut Link, left: &mut u64) -> bool
+    requires { link.old.stage ≡ Stage.Free }
+    ensures { Admits P.did place peers.old peers.new link.old link.new left.old left.new result }
+{
+    if *left == 0 {
+        return false;
+    }
+    match peers.admit(place) {
+        Coming::One => {
+            *left -= 1;
+            link.clear(Stage::Open);
+            true
+        }
+        Coming::Missed => {
+            *left -= 1;
+            false
+        }
+        Coming::Nobody => false,
+    }
+}
+
+/// Answers a message that is there, writes what is owed, ends what is done, and reads where a message is awaited.
+fn converse<P: Peers, H: Handler>(
+    peers: &mut P,
+    place: usize,
+    link: &mut Link,
+    handler: &mut H,
+) -> bool
+    requires { H.over handler.old ≡ false }
+    ensures { Moves P.did H.answers H.over place peers.old peers.new handler.old handler.new link.old link.new 0 0 result (IsAttended result) }
+{
+    let answered = answer(link, handler);
+    let refused = link.end_input();
+    let written = write(peers, place, link);
+    let ended = leave(peers, place, link);
+    let read = take_in(peers, place, link);
+    answered | refused | written | ended | read
+}
+
+/// Looks for the next message, and has it answered.
+fn answer<H: Handler>(link: &mut Link, handler: &mut H) -> bool
+    requires { H.over handler.old ≡ false }
+    ensures { HasAnswered H.answers H.over handler.old handler.new link.old link.new result }
+{
+    if !link.is_due() {
+        return false;
+    }
+    match answer_front(&mut link.said, handler) {
+        Found::Answered(reply) => {
+            link.messages = link.messages.saturating_add(1);
+            link.owe(reply, stage_behind(link.messages));
+            true
+        }
+        Found::Last(reply) => {
+            link.owe(reply, Stage::Ending);
+            true
+        }
+        Found::Refused(reply) => {
+            link.owe(reply, Stage::Ending);
+            true
+        }
+        Found::NotYet => {
+            link.is_awaited = true;
+            false
+        }
+    }
+}
+
+/// Writes once of what is owed.
+fn write<P: Peers>(peers: &mut P, place: usize, link: &mut Link) -> bool
+    ensures does { Does P.did place peers.old peers.new link.old link.new result }
+    ensures still { result ≡ false → link.new ≡ link.old }
+{
+    if !link.is_owing() {
+        return false;
+    }
+    let (front, back) = link.pending.parts();
+    match peers.write(place, front, back) {
+        Moved::Bytes(count) => {
+            link.pending.advance(count);
+            true
+        }
+        Moved::Nothing => false,
+        Moved::End | Moved::Failed => {
+            link.clear(Stage::Free);
+            true
+        }
+    }
+}
+
+/// Ends a connection for which all is written.
+fn leave<P: Peers>(peers: &mut P, place: usize, link: &mut Link) -> bool
+    ensures does { Does P.did place peers.old peers.new link.old link.new result }
+    ensures still { result ≡ false → link.new ≡ link.old }
+    ensures left { result ≡ false → is_done link.old ≡ false }
+{
+    if !link.is_done() {
+        return false;
+    }
+    peers.leave(place);
+    link.clear(Stage::Free);
+    true
+}
+
+/// Reads once where a message is awaited.
+fn take_in<P: Peers>(peers: &mut P, place: usize, link: &mut Link) -> bool
+    ensures does { TakesIn P.did place peers.old peers.new link.old link.new result }
+    ensures still { result ≡ false → link.new ≡ link.old }
+{
+    if !link.awaits() {
+        return false;
+    }
+    let mut piece = [0; PIECE_LIMIT];
+    let room = link.said.room().min(PIECE_LIMIT);
+    match peers.read(place, &mut piece[..room]) {
+        Moved::Bytes(count) => {
+            link.said.put(&piece[..count]);
+            link.is_awaited = false;
+            true
+        }
+        Moved::Nothing => false,
+        Moved::End => {
+            link.stage = Stage::Ended;
+            true
+        }
+        Moved::Failed => {
+            link.clear(Stage::Free);
+            true
+        }
+    }
+}

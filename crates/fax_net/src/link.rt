@@ -1,0 +1,131 @@
+//! What a server keeps of one connection: what it said and isn't answered yet, and what is still to be written to it.
+ghost use Rattle.std.specs.Prelude.{◌≡◌, ◌≤◌, ◌<◌, ◌⊎◌, IsTrue, ◌↔◌, IfOk};
+ghost use Rattle.fax_net.specs.Link.{HasEnded, IsUnused, Owes, awaits, is_done, is_due, is_owing};
+
+use crate::pending::Pending;
+use fax_http::{Broken, Buffer, Outgoing};
+use std::alloc::{AllocError, Global};
+
+/// The most messages of one connection.
+const MESSAGE_LIMIT: u32 = 1_000;
+
+/// How far a conversation has come.
+#[derive(Clone, Copy, Debug, PartialEq, Eq)]
+pub(crate) enum Stage {
+    /// There is none.
+    Free,
+    /// It goes on.
+    Open,
+    /// The peer says no more.
+    Ended,
+    /// Nothing more is answered.
+    Ending,
+}
+
+/// A place for a connection.
+#[derive(Drop)]
+pub(crate) struct Link {
+    pub(crate) stage: Stage,
+    /// What was said and isn't answered yet.
+    pub(crate) said: Buffer,
+    /// What is still to be written.
+    pub(crate) pending: Pending,
+    /// How many messages were answered.
+    pub(crate) messages: u32,
+    /// Whether it is known that no message is there to its end.
+    pub(crate) is_awaited: bool,
+}
+
+impl Link {
+    /// A place where nobody is yet. All memory is taken now.
+    pub(crate) fn new(alloc: Global) -> Result<Link, AllocError>
+        ensures { IfOk result (λ link. link.stage ≡ Stage.Free) }
+    {
+        Ok(Link {
+            stage: Stage::Free,
+            said: Buffer::new(alloc)?,
+            pending: Pending::nothing(),
+            messages: 0,
+            is_awaited: false,
+        })
+    }
+
+    /// Forgets the connection that was here; another one may have come.
+    pub(crate) fn clear(&mut self, stage: Stage)
+        ensures { IsUnused self.new stage }
+    {
+        self.stage = stage;
+        self.said.clear();
+        self.pending = Pending::nothing();
+        self.messages = 0;
+        self.is_awaited = false;
+    }
+
+    /// Has a reply written, behind which the conversation goes on or ends.
+    pub(crate) fn owe(&mut self, reply: Outgoing, stage: Stage)
+        ensures { Owes self.old self.new reply stage }
+    {
+        self.pending = Pending::all_of(reply);
+        self.stage = stage;
+    }
+
+    /// Refuses what is left where the peer has ended within a message. Gives whether that was so.
+    pub(crate) fn end_input(&mut self) -> bool
+        ensures { HasEnded self.old self.new result }
+    {
+        if self.stage != Stage::Ended {
+            return false;
+        }
+        if self.said.bytes().is_empty() {
+            self.stage = Stage::Ending;
+            return false;
+        }
+        self.owe(Outgoing::refusal(Broken::BadHttp), Stage::Ending);
+        true
+    }
+
+    pub(crate) fn is_free(&self) -> bool
+        ensures { IsTrue result ↔ self.now.stage ≡ Stage.Free }
+    {
+        self.stage == Stage::Free
+    }
+
+    /// Whether its next message is to be looked for.
+    pub(crate) fn is_due(&self) -> bool
+        ensures { result ≡ is_due self.now }
+    {
+        self.stage == Stage::Open && self.pending.is_empty() && !self.is_awaited
+    }
+
+    /// Whether more of its next message is to be read.
+    pub(crate) fn awaits(&self) -> bool
+        ensures { result ≡ awaits self.now }
+    {
+        self.stage == Stage::Open && self.pending.is_empty() && self.is_awaited
+    }
+
+    /// Whether something is to be written.
+    pub(crate) fn is_owing(&self) -> bool
+        ensures { result ≡ is_owing self.now }
+    {
+        self.stage != Stage::Free && !self.pending.is_empty()
+    }
+
+    /// Whether all is said and written.
+    pub(crate) fn is_done(&self) -> bool
+        ensures { result ≡ is_done self.now }
+    {
+        self.stage == Stage::Ending && self.pending.is_empty()
+    }
+}
+
+/// How a conversation goes on behind so many messages.
+pub(crate) fn stage_behind(messages: u32) -> Stage
+    ensures { ((result ≡ Stage.Open) × (messages < 1000)) ⊎ ((result ≡ Stage.Ending) × (1000 ≤ messages)) }
+{
+    if messages < MESSAGE_LIMIT {
+        Stage::Open
+    } else {
+        Stage::Ending
+    }
+}

@@ -1,0 +1,83 @@
+//! Many connections are served side by side: each has its turn, and none waits for another's peer.
+ghost use Rattle.std.specs.Prelude.{◌≡◌, ◌<◌, ℕ, true, length, get_or, IfOk};
+ghost use Rattle.fax_net.specs.declared.link.Link.{Link as KeptLink};
+ghost use Rattle.fax_net.specs.Many.{Rounds, ServesMany};
+
+use crate::conversing::serve_place;
+use crate::link::{Link, Stage};
+use crate::peers::Peers;
+use fax_http::Handler;
+use std::alloc::{AllocError, Global};
+
+/// How many connections are served at once.
+pub(crate) const PLACES: usize = 64;
+
+/// Serves connections until so many have come and are served to their end, or the handler is over. One that can't be
+/// accepted counts as served. The server waits only where it has nothing to do for any of them.
+pub(crate) fn serve_many<P: Peers, H: Handler>(
+    peers: &mut P,
+    links: &mut [Link],
+    count: u64,
+    handler: &mut H,
+)
+    requires places { length links.old ≡ PLACES }
+    requires free { (k : ℕ) (d : KeptLink) → k < length links.old → (get_or links.old k d).stage ≡ Stage.Free }
+    ensures { ServesMany P.did H.answers H.over count peers.old handler.old peers.new handler.new }
+{
+    let mut left = count;
+    let mut is_busy = true;
+    for _ in 0..u64::MAX {
+        if handler.is_over() {
+            return;
+        }
+        if left == 0 && are_free(links) {
+            return;
+        }
+        peers.look(is_busy, left > 0);
+        is_busy = serve_round(peers, links, &mut left, handler);
+    }
+}
+
+/// Gives each place its turn, until the handler is over. Gives whether anything moved.
+fn serve_round<P: Peers, H: Handler>(
+    peers: &mut P,
+    links: &mut [Link],
+    left: &mut u64,
+    handler: &mut H,
+) -> bool
+    requires { length links.old ≡ PLACES }
+    ensures { Rounds P.did H.answers H.over peers.old peers.new handler.old handler.new links.old links.new left.old left.new result }
+{
+    let mut is_busy = false;
+    for place in 0..links.len() {
+        if handler.is_over() {
+            return true;
+        }
+        is_busy |= serve_place(peers, place, &mut links[place], left, handler);
+    }
+    is_busy
+}
+
+/// Whether nobody is there.
+fn are_free(links: &[Link]) -> bool
+    ensures { result ≡ true → (k : ℕ) (d : KeptLink) → k < length links.now → (get_or links.now k d).stage ≡ Stage.Free }
+{
+    for link in links {
+        if !link.is_free() {
+            return false;
+        }
+    }
+    true
+}
+
+/// The places. All memory for them is taken now.
+pub(crate) fn free_places(alloc: Global) -> Result<Vec<Link>, AllocError>
+    ensures places { IfOk result (λ links. length links.items ≡ PLACES) }
+    ensures free { IfOk result (λ links. (k : ℕ) (d : KeptLink) → k < length links.items → (get_or links.items k d).stage ≡ Stage.Free) }
+{
+    let mut links = Vec::with_capacity(alloc, PLACES)?;
+    for _ in 0..PLACES {
+        links.push(Link::new(alloc)?)?;
+    }
+    Ok(links)
+}

@@ -1,0 +1,57 @@
+//! Connections that are served side by side, as their server sees them.
+
+/// What came of a read or a write.
+#[derive(Clone, Copy, Debug, PartialEq, Eq)]
+pub enum Moved {
+    /// So many bytes were moved.
+    Bytes(usize),
+    /// None yet.
+    Nothing,
+    /// Nothing more comes.
+    End,
+    /// The connection failed, or its time is over, and it is closed.
+    Failed,
+}
+
+/// What came of asking for a new connection.
+#[derive(Clone, Copy, Debug, PartialEq, Eq)]
+pub enum Coming {
+    /// One, which has the place now.
+    One,
+    /// One that can't be accepted.
+    Missed,
+    /// Nobody waits.
+    Nobody,
+}
+
+/// Connections by their places. No call but `look` waits.
+pub trait Peers {
+    ghost use Rattle.std.specs.Prelude.{◌++◌, length};
+    ghost use Rattle.fax_net.specs.History.{Step, Looked, At, Left};
+    ghost use Rattle.fax_net.specs.Peers.{IsWithin, step_of_coming, step_of_read, step_of_write};
+
+    // What may happen, and the connections after it.
+    ghost did: { Self → Step → Self → Type 0 };
+
+    /// Looks which connections are ready. Where nothing is to be done, it waits until one is.
+    fn look(&mut self, is_busy: bool, is_admitting: bool)
+        ensures { did self.old (Looked is_busy) self.new };
+
+    /// Gives the place, which is free, to a connection that waits to be accepted.
+    fn admit(&mut self, place: usize) -> Coming
+        ensures { did self.old (step_of_coming place result) self.new };
+
+    /// Reads once into the front of `room`.
+    fn read(&mut self, place: usize, room: &mut [u8]) -> Moved
+        ensures within { IsWithin result (length room.new) }
+        ensures step { did self.old (step_of_read place room.new result) self.new };
+
+    /// Writes once of the front and of what stands behind it.
+    fn write(&mut self, place: usize, front: &[u8], back: &[u8]) -> Moved
+        ensures within { IsWithin result (length (front.now ++ back.now)) }
+        ensures step { did self.old (step_of_write place (front.now ++ back.now) result) self.new };
+
+    /// Ends the connection, once its peer has what was written.
+    fn leave(&mut self, place: usize)
+        ensures { did self.old (At place Left) self.new };
+}

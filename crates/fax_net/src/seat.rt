@@ -1,0 +1,184 @@
+//! One connection's socket, which never waits, and how long its peer may go on.
+ghost use Rattle.std.specs.Prelude.{◌++◌, length};
+ghost use Rattle.fax_net.specs.Peers.{IsWithin};
+
+use crate::peers::Moved;
+use mio::net::TcpStream;
+use std::io::{ErrorKind, IoSlice, Read};
+use std::net::Shutdown;
+use std::time::{Duration, Instant};
+
+/// How many seconds the peer has to close, once it gets nothing more.
+const LEAVE_LIMIT: u64 = 1;
+
+/// The most reads meanwhile, and the most bytes of one.
+const LEAVE_READS: u32 = 64;
+
+const LEAVE_PIECE: usize = 4_096;
+
+/// How long a peer may move nothing, and how long it may go on in all.
+#[derive(Clone, Copy, Debug)]
+pub(crate) struct Patience {
+    pub(crate) silent: Duration,
+    pub(crate) whole: Duration,
+}
+
+/// A connection's socket. The system says when it may be read or written again; until then it isn't tried.
+#[derive(Drop)]
+pub(crate) struct Seat {
+    pub(crate) stream: TcpStream,
+    patience: Patience,
+    begun: Instant,
+    /// When bytes moved last.
+    moved: Instant,
+    pub(crate) may_read: bool,
+    pub(crate) may_write: bool,
+    /// Whether the peer says no more.
+    has_ended: bool,
+    /// Whether it gets nothing more, and is only waited for.
+    pub(crate) is_leaving: bool,
+    /// Whether it has to leave for another one.
+    is_sent_away: bool,
+}
+
+impl Seat {
+    pub(crate) fn new(stream: TcpStream, patience: Patience, now: Instant) -> Seat {
+        Seat {
+            stream,
+            patience,
+            begun: now,
+            moved: now,
+            may_read: true,
+            may_write: true,
+            has_ended: false,
+            is_leaving: false,
+            is_sent_away: false,
+        }
+    }
+
+    /// How long it may go on without moving anything.
+    pub(crate) fn time_left(&self, now: Instant) -> Duration {
+        let silent = self.patience.silent.saturating_sub(self.silence(now));
+        let whole = self
+            .patience
+            .whole
+            .saturating_sub(now.saturating_duration_since(self.begun));
+        silent.min(whole)
+    }
+
+    /// How long nothing has moved.
+    pub(crate) fn silence(&self, now: Instant) -> Duration {
+        now.saturating_duration_since(self.moved)
+    }
+
+    /// Whether its time is over, or its place is wanted.
+    pub(crate) fn is_late(&self, now: Instant) -> bool {
+        self.is_sent_away || self.time_left(now).is_zero()
+    }
+
+    /// Whether the time of the whole connection is over.
+    fn is_over(&self, now: Instant) -> bool {
+        self.is_sent_away || now.saturating_duration_since(self.begun) >= self.patience.whole
+    }
+
+    /// Has it leave.
+    pub(crate) fn send_away(&mut self) {
+        self.is_sent_away = true;
+    }
+
+    /// What a read or a write that moves nothing yet comes to.
+    fn stay(&self, now: Instant) -> Moved
+        ensures { IsWithin result 0 }
+    {
+        if self.is_late(now) {
+            Moved::Failed
+        } else {
+            Moved::Nothing
+        }
+    }
+
+    /// Reads once, where there is something to read.
+    pub(crate) fn read(&mut self, room: &mut [u8], now: Instant) -> Moved
+        ensures { IsWithin result (length room.new) }
+    {
+        if self.is_over(now) {
+            return Moved::Failed;
+        }
+        if !self.may_read {
+            return self.stay(now);
+        }
+        let mut stream = &self.stream;
+        match stream.read(room) {
+            Ok(0) => {
+                self.has_ended = true;
+                Moved::End
+            }
+            Ok(count) => {
+                self.moved = now;
+                Moved::Bytes(count)
+            }
+            Err(error) if error.kind() == ErrorKind::WouldBlock => {
+                self.may_read = false;
+                self.stay(now)
+            }
+            Err(_) => Moved::Failed,
+        }
+    }
+
+    /// Writes once, where the system takes something.
+    pub(crate) fn write(&mut self, front: &[u8], back: &[u8], now: Instant) -> Moved
+        ensures { IsWithin result (length (front.now ++ back.now)) }
+    {
+        if self.is_over(now) {
+            return Moved::Failed;
+        }
+        if !self.may_write {
+            return self.stay(now);
+        }
+        match self
+            .stream
+            .write_vectored(&[IoSlice::new(front), IoSlice::new(back)])
+        {
+            Ok(0) => Moved::Failed,
+            Ok(count) => {
+                self.moved = now;
+                Moved::Bytes(count)
+            }
+            Err(error) if error.kind() == ErrorKind::WouldBlock => {
+                self.may_write = false;
+                self.stay(now)
+            }
+            Err(_) => Moved::Failed,
+        }
+    }
+
+    /// Says that nothing more is written, and gives whether the peer is to be waited for. Where bytes were left unread, the
+    /// system might drop a reply that the peer hasn't read yet (RFC 9112, section 9.6).
+    pub(crate) fn leave(&mut self, now: Instant) -> bool {
+        if self.has_ended || self.stream.shutdown(Shutdown::Write).is_err() {
+            return false;
+        }
+        let wait = Duration::from_secs(LEAVE_LIMIT);
+        self.is_leaving = true;
+        self.begun = now;
+        self.moved = now;
+        self.patience = Patience {
+            silent: wait,
+            whole: wait,
+        };
+        true
+    }
+
+    /// Drops what comes from a peer that is leaving, and gives whether it is to be waited for longer.
+    pub(crate) fn drain(&mut self, now: Instant) -> bool {
+        let mut piece = [0; LEAVE_PIECE];
+        for _ in 0..LEAVE_READS {
+            match self.read(&mut piece, now) {
+                Moved::Bytes(_) => {}
+                Moved::Nothing => return true,
+                Moved::End | Moved::Failed => return false,
+            }
+        }
+        false
+    }
+}

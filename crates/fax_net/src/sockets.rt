@@ -1,0 +1,390 @@
+//! The sockets of a server: where connections come from, which of them are ready, and who has to leave.
+
+use crate::many::PLACES;
+use crate::peers::{Coming, Moved, Peers};
+use crate::seat::{Patience, Seat};
+use mio::net::{TcpListener, TcpStream};
+use mio::{Events, Interest, Poll, Token};
+use std::alloc::{AllocError, Global};
+use std::io::{self, ErrorKind};
+use std::net::ToSocketAddrs;
+use std::time::{Duration, Instant};
+
+/// The token of the listening socket; those of connections are their places.
+const DOOR: usize = PLACES;
+
+/// The most events of one look.
+const EVENT_LIMIT: usize = PLACES + 1;
+
+/// How much longer a whole connection may take than a peer may move nothing.
+const WHOLE_FACTOR: u64 = 6;
+
+/// How many milliseconds a peer may move nothing where all places are taken and another one waits.
+const CROWD_LIMIT: u64 = 500;
+
+/// How many milliseconds nobody is accepted behind one that couldn't be.
+const RETRY_LIMIT: u64 = 50;
+
+/// How many milliseconds longer it waits, since the system counts whole ones.
+const ROUNDING: u64 = 1;
+
+/// The most looks while the last peers leave.
+const LAST_LOOKS: u32 = 100_000;
+
+/// Why there are no sockets.
+#[derive(Clone, Copy, Debug)]
+pub(crate) enum BindFault {
+    /// The address can't be listened on, or the system gives no means to wait.
+    Refused,
+    NoMemory,
+}
+
+impl From<io::Error> for BindFault {
+    fn from(_error: io::Error) -> BindFault {
+        BindFault::Refused
+    }
+}
+
+impl From<AllocError> for BindFault {
+    fn from(_error: AllocError) -> BindFault {
+        BindFault::NoMemory
+    }
+}
+
+/// A listening socket, and the connections that came, each at its place.
+#[derive(Drop)]
+pub struct Sockets<'r> {
+    rt: &'r HostRuntime,
+    poll: Poll,
+    events: Events,
+    door: TcpListener,
+    seats: Vec<Option<Seat>>,
+    patience: Patience,
+    now: Instant,
+    /// Whether somebody may wait to be accepted.
+    may_accept: bool,
+    /// Whether that was asked anew since all places are taken, so that it is so.
+    is_asked: bool,
+    /// Until when nobody is accepted.
+    retry: Option<Instant>,
+}
+
+impl<'r> Sockets<'r> {
+    /// Listens on the address. A peer may move nothing for so many seconds.
+    pub(crate) fn bind(
+        rt: &'r HostRuntime,
+        address: &str,
+        timeout: u64,
+    ) -> Result<Sockets<'r>, BindFault> {
+        let poll = Poll::new(rt)?;
+        let mut door = listener(rt, address)?;
+        poll.registry()
+            .register(&mut door, Token(DOOR), Interest::READABLE)?;
+        Ok(Sockets {
+            rt,
+            poll,
+            events: Events::with_capacity(rt.alloc(), EVENT_LIMIT)?,
+            door,
+            seats: empty_seats(rt.alloc())?,
+            patience: Patience {
+                silent: Duration::from_secs(timeout),
+                whole: Duration::from_secs(timeout.saturating_mul(WHOLE_FACTOR)),
+            },
+            now: Instant::now(rt)?,
+            may_accept: true,
+            is_asked: false,
+            retry: None,
+        })
+    }
+
+    /// Ends all connections but those that are leaving, and waits for these, for a second at most.
+    pub(crate) fn finish(&mut self) {
+        for place in 0..self.seats.len() {
+            if !self.is_leaving(place) {
+                self.free(place);
+            }
+        }
+        for _ in 0..LAST_LOOKS {
+            if !self.has_somebody() {
+                return;
+            }
+            self.look(false, false);
+        }
+    }
+
+    /// The machine's clock, or its last answer where that can't be read.
+    fn read_clock(&mut self) -> Instant {
+        if let Ok(now) = Instant::now(self.rt) {
+            self.now = now;
+        }
+        self.now
+    }
+
+    fn is_leaving(&self, place: usize) -> bool {
+        match self.seats.get(place) {
+            Some(Some(seat)) => seat.is_leaving,
+            Some(None) | None => false,
+        }
+    }
+
+    fn has_somebody(&self) -> bool {
+        self.seats.iter().any(|seat| seat.is_some())
+    }
+
+    fn is_full(&self) -> bool {
+        self.seats.iter().all(|seat| seat.is_some())
+    }
+
+    /// Whether all places are taken and another one waits.
+    fn is_crowded(&self) -> bool {
+        self.may_accept && self.is_asked && self.is_full()
+    }
+
+    /// Ends the connection at a place.
+    fn free(&mut self, place: usize) {
+        if let Some(seat) = self.seats.get_mut(place) {
+            *seat = None;
+        }
+        self.is_asked = false;
+        self.retry = None;
+    }
+
+    /// Once all places are taken, has the system say whether somebody waits: the last answer may be an old one.
+    fn ask_anew(&mut self) {
+        if self.may_accept && !self.is_asked && self.is_full() {
+            self.may_accept = self
+                .poll
+                .registry()
+                .reregister(&mut self.door, Token(DOOR), Interest::READABLE)
+                .is_err();
+            self.is_asked = true;
+        }
+    }
+
+    /// How long to wait at most until something is to be done for a peer that does nothing.
+    fn time_left(&self, is_admitting: bool) -> Option<Duration> {
+        let mut least = self.time_to_retry();
+        let is_crowded = is_admitting && self.is_crowded();
+        for seat in &self.seats {
+            if let Some(seat) = seat {
+                let left = seat.time_left(self.now);
+                least = Some(sooner(least, left));
+                if is_crowded {
+                    let crowd = Duration::from_millis(CROWD_LIMIT);
+                    least = Some(sooner(least, crowd.saturating_sub(seat.silence(self.now))));
+                }
+            }
+        }
+        match least {
+            Some(left) => Some(left.saturating_add(Duration::from_millis(ROUNDING))),
+            None => None,
+        }
+    }
+
+    /// How long nobody is accepted yet.
+    fn time_to_retry(&self) -> Option<Duration> {
+        match self.retry {
+            Some(retry) => Some(retry.saturating_duration_since(self.now)),
+            None => None,
+        }
+    }
+
+    /// Notes what the system says of the sockets.
+    fn take_events(&mut self) {
+        for event in self.events.iter() {
+            let place = event.token().0;
+            if place == DOOR {
+                self.may_accept = true;
+            } else if let Some(Some(seat)) = self.seats.get_mut(place) {
+                let has_failed = event.is_error() || event.is_read_closed();
+                seat.may_read |= event.is_readable() || has_failed;
+                seat.may_write |= event.is_writable() || event.is_write_closed() || has_failed;
+            }
+        }
+    }
+
+    /// Drops what comes from peers that are leaving, and ends those that have left or whose time is over.
+    fn drain_leaving(&mut self) {
+        for place in 0..self.seats.len() {
+            if self.is_leaving(place) && !self.is_draining(place) {
+                self.free(place);
+            }
+        }
+    }
+
+    /// Whether a peer that is leaving is to be waited for longer.
+    fn is_draining(&mut self, place: usize) -> bool {
+        let now = self.now;
+        match self.seats.get_mut(place) {
+            Some(Some(seat)) => seat.drain(now),
+            Some(None) | None => false,
+        }
+    }
+
+    /// Where all places are taken and another one waits, sends away who moved nothing for the longest time.
+    fn make_room(&mut self) {
+        if !self.is_crowded() {
+            return;
+        }
+        let place = self.most_silent();
+        let now = self.now;
+        if let Some(Some(seat)) = self.seats.get_mut(place)
+            && seat.silence(now) >= Duration::from_millis(CROWD_LIMIT)
+        {
+            seat.send_away();
+        }
+    }
+
+    /// The place of the peer that moved nothing for the longest time, among those of whom nothing is to be read.
+    fn most_silent(&self) -> usize {
+        let mut found = 0;
+        let mut longest = Duration::ZERO;
+        for (place, seat) in self.seats.iter().enumerate() {
+            if let Some(seat) = seat
+                && !seat.may_read
+                && seat.silence(self.now) > longest
+            {
+                longest = seat.silence(self.now);
+                found = place;
+            }
+        }
+        found
+    }
+
+    /// Gives a place to a connection that was accepted.
+    fn seat(&mut self, place: usize, mut stream: TcpStream) -> Coming {
+        // A reply's head and body go out at once.
+        let _ = stream.set_nodelay(true);
+        let both = Interest::READABLE | Interest::WRITABLE;
+        if self
+            .poll
+            .registry()
+            .register(&mut stream, Token(place), both)
+            .is_err()
+        {
+            return Coming::Missed;
+        }
+        let now = self.read_clock();
+        match self.seats.get_mut(place) {
+            Some(seat) => {
+                *seat = Some(Seat::new(stream, self.patience, now));
+                self.is_asked = false;
+                Coming::One
+            }
+            None => Coming::Missed,
+        }
+    }
+
+    /// Whether the place may be given to somebody.
+    fn may_admit(&self, place: usize) -> bool {
+        let is_free = matches!(self.seats.get(place), Some(None));
+        is_free && self.may_accept && self.retry.is_none()
+    }
+}
+
+impl Peers for Sockets<'_> {
+    ghost use Rattle.std.specs.Prelude.{⊤};
+
+    // What peers do is not known here.
+    ghost did = { λ old step new. ⊤ };
+
+    fn look(&mut self, is_busy: bool, is_admitting: bool) {
+        self.ask_anew();
+        let wait = if is_busy {
+            Some(Duration::ZERO)
+        } else {
+            self.time_left(is_admitting)
+        };
+        let _ = self.poll.poll(&mut self.events, wait);
+        let now = self.read_clock();
+        if let Some(retry) = self.retry
+            && retry <= now
+        {
+            self.retry = None;
+        }
+        self.take_events();
+        self.drain_leaving();
+        if is_admitting {
+            self.make_room();
+        }
+    }
+
+    fn admit(&mut self, place: usize) -> Coming {
+        if !self.may_admit(place) {
+            return Coming::Nobody;
+        }
+        match self.door.accept() {
+            Ok((stream, _)) => self.seat(place, stream),
+            Err(error) if error.kind() == ErrorKind::WouldBlock => {
+                self.may_accept = false;
+                Coming::Nobody
+            }
+            Err(_) => {
+                self.retry = self.now.checked_add(Duration::from_millis(RETRY_LIMIT));
+                Coming::Missed
+            }
+        }
+    }
+
+    fn read(&mut self, place: usize, room: &mut [u8]) -> Moved {
+        let now = self.read_clock();
+        let moved = match self.seats.get_mut(place) {
+            Some(Some(seat)) => seat.read(room, now),
+            Some(None) | None => Moved::Failed,
+        };
+        if moved == Moved::Failed {
+            self.free(place);
+        }
+        moved
+    }
+
+    fn write(&mut self, place: usize, front: &[u8], back: &[u8]) -> Moved {
+        let now = self.read_clock();
+        let moved = match self.seats.get_mut(place) {
+            Some(Some(seat)) => seat.write(front, back, now),
+            Some(None) | None => Moved::Failed,
+        };
+        if moved == Moved::Failed {
+            self.free(place);
+        }
+        moved
+    }
+
+    fn leave(&mut self, place: usize) {
+        let now = self.read_clock();
+        let stays = match self.seats.get_mut(place) {
+            Some(Some(seat)) => seat.leave(now),
+            Some(None) | None => false,
+        };
+        if !stays {
+            self.free(place);
+        }
+    }
+}
+
+/// The lesser of a time, if there is one, and another.
+fn sooner(least: Option<Duration>, left: Duration) -> Duration {
+    match least {
+        Some(least) => least.min(left),
+        None => left,
+    }
+}
+
+/// Places where nobody is.
+fn empty_seats(alloc: Global) -> Result<Vec<Option<Seat>>, AllocError> {
+    let mut seats = Vec::with_capacity(alloc, PLACES)?;
+    for _ in 0..PLACES {
+        seats.push(None)?;
+    }
+    Ok(seats)
+}
+
+/// A socket that listens on the first of a name's addresses that can be listened on.
+fn listener(rt: &HostRuntime, address: &str) -> io::Result<TcpListener> {
+    for one in address.to_socket_addrs(rt)? {
+        if let Ok(listener) = TcpListener::bind(rt, one) {
+            return Ok(listener);
+        }
+    }
+    Err(ErrorKind::AddrNotAvailable.into())
+}
