@@ -6,7 +6,7 @@ use Rattle.fax_job.specs.declared.refusal.Refusal.TheVariants as refusal
 use Rattle.fax_core.specs.declared.grants.Grant.{Grant}
 use Rattle.fax_core.specs.Ageing.{aged}
 use Rattle.fax_core.specs.declared.ask.Ask.{Ask}
-use Rattle.fax_core.specs.declared.ask.Ask.TheVariants.{Submission, Bring, Suspend, Resume, Kill, Alteration, Ready, Down, Next, CallReport, PageReport, OutcomeReport}
+use Rattle.fax_core.specs.declared.ask.Ask.TheVariants.{Submission, Bring, Suspend, Resume, Kill, Alteration, Ready, Down, Next, CallReport, PageReport, OutcomeReport, GiveUp}
 use Rattle.fax_core.specs.Best.{best}
 use Rattle.fax_core.specs.Decisions.{JobAndGrant, submit, suspend, resume, kill, alter, grant, call, page, outcome}
 use Rattle.fax_core.specs.Import.{bring}
@@ -85,6 +85,7 @@ act_clock s m t (Next modem) = next_clock s m t modem (not (s.has_modem modem)) 
 act_clock s m t (CallReport n c) = on_grant_clock m (call c) (call_reply t) (grant_numbered n m)
 act_clock s m t (PageReport n p) = on_grant_clock m (page p) (page_reply t) (grant_numbered n m)
 act_clock s m t (OutcomeReport n o) = on_grant_clock m (λ j g. outcome o j g (s.delay g.call) t) (outcome_reply s t) (grant_numbered n m)
+act_clock s m t (GiveUp floor) = refl
 
 pub step_clock : (s : Settings) (m n : Queue) (t : ℕ) (ask : Ask) (r : Reply) → step s m t ask ≡ Taken n r → n.clock ≡ t
 step_clock s m n t ask r e = sym (ap (clock_left (aged t m)) e) ∙ act_clock s (aged t m) t ask

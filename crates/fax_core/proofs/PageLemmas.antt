@@ -10,7 +10,7 @@ use Rattle.fax_job.specs.declared.refusal.Refusal.TheVariants as refusal
 use Rattle.fax_core.specs.declared.grants.Grant.{Grant}
 use Rattle.fax_core.specs.Ageing.{aged, aged_job}
 use Rattle.fax_core.specs.declared.ask.Ask.{Ask}
-use Rattle.fax_core.specs.declared.ask.Ask.TheVariants.{Submission, Bring, Suspend, Resume, Kill, Alteration, Ready, Down, Next, CallReport, PageReport, OutcomeReport}
+use Rattle.fax_core.specs.declared.ask.Ask.TheVariants.{Submission, Bring, Suspend, Resume, Kill, Alteration, Ready, Down, Next, CallReport, PageReport, OutcomeReport, GiveUp}
 use Rattle.fax_core.specs.Decisions.{JobAndGrant, submit, suspend, resume, kill, alter, granted, call, page, outcome}
 use Rattle.fax_core.specs.Import.{bring}
 use Rattle.fax_core.specs.Job.{Job, HasPages, pages_to}
@@ -128,6 +128,7 @@ act_keeps s m n t (Next modem) r h e = given_keeps s m t modem n r (given_is s m
 act_keeps s m n t (CallReport a c) r h e = report_keeps m n a (call c) (λ j g b. called c j g b) (λ j g b d. (called c j g b d).number) (on_grant_is m (call c) (call_reply t) a (grant_numbered a m) n r refl e)
 act_keeps s m n t (PageReport a p) r h e = report_keeps m n a (page p) (λ j g b d. (paged p j g b d).0) (λ j g b d. (paged p j g b d).0.number) (on_grant_is m (page p) (page_reply t) a (grant_numbered a m) n r refl e)
 act_keeps s m n t (OutcomeReport a o) r h e = report_keeps m n a (λ j g. outcome o j g (s.delay g.call) t) (λ j g b. outcome_is o j g (s.delay g.call) t b) (λ j g b d. (outcome_is o j g (s.delay g.call) t b d).number) (on_grant_is m (λ j g. outcome o j g (s.delay g.call) t) (outcome_reply s t) a (grant_numbered a m) n r refl e)
+act_keeps s m n t (GiveUp floor) r h e = same_sent m n (ap (λ (q : Queue). q.jobs) (sym (taken_same m n _ r e).0))
 
 pub step_keeps : (s : Settings) (m n : Queue) (t : ℕ) (ask : Ask) (r : Reply) → Sound m → step s m t ask ≡ Taken n r → KeepsSent m n
 step_keeps s m n t ask r h e = through m (aged t m) n (aged_keeps t m) (act_keeps s (aged t m) n t ask r (aged_sound t m h) e)

@@ -15,7 +15,7 @@ use Rattle.fax_job.specs.Refusal.{refusal_number}
 use Rattle.fax_core.specs.declared.grants.Grant.{Grant}
 use Rattle.fax_core.specs.Ageing.{aged}
 use Rattle.fax_core.specs.declared.ask.Ask.{Ask}
-use Rattle.fax_core.specs.declared.ask.Ask.TheVariants.{Submission, Bring, Suspend, Resume, Kill, Alteration, Ready, Down, Next, CallReport, PageReport, OutcomeReport}
+use Rattle.fax_core.specs.declared.ask.Ask.TheVariants.{Submission, Bring, Suspend, Resume, Kill, Alteration, Ready, Down, Next, CallReport, PageReport, OutcomeReport, GiveUp}
 use Rattle.fax_core.specs.declared.report.Outcome.{Outcome}
 use Rattle.fax_core.specs.Best.{best}
 use Rattle.fax_core.specs.Decisions.{JobAndGrant, is_over, new_job, submit, suspend_in, suspend, resume_in, resume, kill_in, kill, altered, alter_in, alter, granted, grant, after_call, call, is_connected, page_of, page, ended, is_done, is_empty, outcome}
@@ -223,6 +223,7 @@ act_refused s m t (PageReport n p) e k h x =
 act_refused s m t (OutcomeReport n o) e k h x =
     on_grant_refused (IsOf (OutcomeReport n o)) m (λ j g. outcome o j g (s.delay g.call) t) (outcome_reply s t) n (grant_numbered n m) e k h refl (record { met = refl; keys = refl }) (record { met = refl; keys = refl })
     (λ j g. outcome_refused (λ y. IsOf (OutcomeReport n o) y (keys_of_job y j)) (record { met = refl; keys = refl }) (record { met = refl; keys = refl }) (record { met = refl; keys = refl }) (record { met = refl; keys = refl }) (record { met = refl; keys = refl }) o j g (s.delay g.call) t) x
+act_refused s m t (GiveUp floor) e k h x = cc
 
 pub step_refused : (s : Settings) (m : Queue) (t : ℕ) (ask : Ask) (e : Refusal) (k : Keys) → Sound m → step s m t ask ≡ Refused e k → IsOf ask e k
 step_refused s m t ask e k h x = act_refused s (aged t m) t ask e k (aged_sound t m h) x

@@ -10,7 +10,7 @@ use Rattle.fax_core.specs.declared.grants.Grant.{Grant}
 use Rattle.fax_core.specs.Ageing.{aged, aged_job}
 use Rattle.fax_core.specs.Ask.{IsLawfulAsk}
 use Rattle.fax_core.specs.declared.ask.Ask.{Ask}
-use Rattle.fax_core.specs.declared.ask.Ask.TheVariants.{Submission, Bring, Suspend, Resume, Kill, Alteration, Ready, Down, Next, CallReport, PageReport, OutcomeReport}
+use Rattle.fax_core.specs.declared.ask.Ask.TheVariants.{Submission, Bring, Suspend, Resume, Kill, Alteration, Ready, Down, Next, CallReport, PageReport, OutcomeReport, GiveUp}
 use Rattle.fax_core.specs.Best.{best, MayGo, IsBest}
 use Rattle.fax_core.specs.Decisions.{JobAndGrant, submit, suspend, resume, kill, alter, grant, granted, call, page, outcome}
 use Rattle.fax_core.specs.Import.{bring}
@@ -168,6 +168,7 @@ act_sound s m n t (Next modem) r h lawful e = given_sound s m t modem n r h (giv
 act_sound s m n t (CallReport a c) r h lawful e = on_grant_sound m (call c) (call_reply t) a (grant_numbered a m) n r refl (λ j g b. called c j g b) h e
 act_sound s m n t (PageReport a p) r h lawful e = on_grant_sound m (page p) (page_reply t) a (grant_numbered a m) n r refl (λ j g b d. (paged p j g b d).0) h e
 act_sound s m n t (OutcomeReport a o) r h lawful e = on_grant_sound m (λ j g. outcome o j g (s.delay g.call) t) (outcome_reply s t) a (grant_numbered a m) n r refl (λ j g b. outcome_is o j g (s.delay g.call) t b) h e
+act_sound s m n t (GiveUp floor) r h lawful e = subst Sound (taken_same m n _ r e).0 h
 
 pub step_sound : (s : Settings) (m n : Queue) (t : ℕ) (ask : Ask) (r : Reply) → Sound m → IsLawfulAsk ask → step s m t ask ≡ Taken n r → Sound n
 step_sound s m n t ask r h lawful e = act_sound s (aged t m) n t ask r (aged_sound t m h) lawful e

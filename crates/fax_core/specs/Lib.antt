@@ -1,5 +1,6 @@
 pub mod Job
 pub mod Queue
+pub mod Ledger
 pub mod Settings
 pub mod Clock
 pub mod Ask

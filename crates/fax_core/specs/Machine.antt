@@ -7,13 +7,13 @@ use Rattle.fax_job.specs.declared.refusal.Refusal.TheVariants as refusal
 use Rattle.fax_core.specs.declared.grants.Grant.{Grant}
 use Rattle.fax_core.specs.Ageing.{aged}
 use Rattle.fax_core.specs.declared.ask.Ask.{Ask}
-use Rattle.fax_core.specs.declared.ask.Ask.TheVariants.{Submission, Bring, Suspend, Resume, Kill, Alteration, Ready, Down, Next, CallReport, PageReport, OutcomeReport}
+use Rattle.fax_core.specs.declared.ask.Ask.TheVariants.{Submission, Bring, Suspend, Resume, Kill, Alteration, Ready, Down, Next, CallReport, PageReport, OutcomeReport, GiveUp}
 use Rattle.fax_core.specs.Best.{best}
 use Rattle.fax_core.specs.Decisions.{JobAndGrant, submit, suspend, resume, kill, alter, grant, call, page, outcome, stops}
 use Rattle.fax_core.specs.Import.{bring}
 use Rattle.fax_core.specs.Job.{Job}
 use Rattle.fax_core.specs.Queue.{Queue, open_grants, job_numbered, grant_numbered}
-use Rattle.fax_core.specs.Reply.{Handed, Reply, Submitted, Brought, Stands, Marked, NoneToSend, Given, Called, Confirmed, Keys, NoKeys, Notice, HeldGrant, Pages, Step, Taken, Refused}
+use Rattle.fax_core.specs.Reply.{Handed, Reply, Submitted, Brought, Stands, Marked, NoneToSend, Given, Called, Confirmed, Floored, Keys, NoKeys, Notice, HeldGrant, Pages, Step, Taken, Refused}
 use Rattle.fax_core.specs.Settings.{Rule, Settings}
 use Rattle.fax_core.specs.State.{state}
 
@@ -167,6 +167,7 @@ act s m t (Next modem) = given_to s m t modem
 act s m t (CallReport n c) = on_grant m (call c) (call_reply t) (grant_numbered n m)
 act s m t (PageReport n p) = on_grant m (page p) (page_reply t) (grant_numbered n m)
 act s m t (OutcomeReport n o) = on_grant m (λ j g. outcome o j g (s.delay g.call) t) (outcome_reply s t) (grant_numbered n m)
+act s m t (GiveUp floor) = Taken m (Floored floor)
 
 -- a request at t, on the queue as it is at t
 abbrev pub step : Settings → Queue → ℕ → Ask → Step

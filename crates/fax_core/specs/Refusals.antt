@@ -4,7 +4,7 @@ use Rattle.std.specs.List.{list_any}
 use Rattle.fax_job.specs.declared.refusal.Refusal.{Refusal}
 use Rattle.fax_job.specs.Refusal.{refusal_number}
 use Rattle.fax_core.specs.declared.ask.Ask.{Ask}
-use Rattle.fax_core.specs.declared.ask.Ask.TheVariants.{Submission, Bring, Suspend, Resume, Kill, Alteration, Ready, Down, Next, CallReport, PageReport, OutcomeReport}
+use Rattle.fax_core.specs.declared.ask.Ask.TheVariants.{Submission, Bring, Suspend, Resume, Kill, Alteration, Ready, Down, Next, CallReport, PageReport, OutcomeReport, GiveUp}
 use Rattle.fax_core.specs.Reply.{Keys, NoKeys, Notice, HeldGrant, Pages}
 
 -- in the order in which they are looked for
@@ -21,6 +21,7 @@ refusals_of (Next modem) = 9 ∷ 17 ∷ 18 ∷ 26 ∷ []
 refusals_of (CallReport grant call) = 10 ∷ 19 ∷ 20 ∷ []
 refusals_of (PageReport grant page) = 10 ∷ 19 ∷ 21 ∷ 22 ∷ []
 refusals_of (OutcomeReport grant outcome) = 10 ∷ 19 ∷ 20 ∷ 23 ∷ 24 ∷ 25 ∷ []
+refusals_of (GiveUp floor) = []
 
 -- the refusal is among them
 abbrev pub may_meet : Ask → Refusal → Bool

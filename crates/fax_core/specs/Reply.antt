@@ -28,6 +28,8 @@ pub data Reply : Type 0 where
   Called : (stop : Bool) → Reply
   -- how many pages are confirmed, and whether the worker is to stop
   Confirmed : (npages : ℕ) (stop : Bool) → Reply
+  -- through which number the client has given up its replies
+  Floored : (floor : ℕ) → Reply
 
 -- what is told with a refusal
 pub data Keys : Type 0 where

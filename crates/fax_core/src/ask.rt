@@ -1,7 +1,7 @@
 //! What is asked of the queue.
 
 use crate::report::Outcome;
-use fax_job::{Alter, Call, Import, Name, Order};
+use fax_job::{Alter, Call, Import, Name, Order, RequestNumber};
 
 /// What is asked of the queue: a client's requests, with the job's number, and a worker's, with the
 /// modem's name or the grant's number. Numbers of jobs and grants are as they were written.
@@ -22,4 +22,6 @@ pub enum Ask {
     /// A page that was confirmed; pages count from 1.
     PageReport { grant: u64, page: u16 },
     OutcomeReport { grant: u64, outcome: Outcome },
+    /// The client has no use for its replies through this number. It is the client's floor from now on.
+    GiveUp { upto: RequestNumber },
 }

@@ -1,5 +1,5 @@
 -- Numbers as texts write them.
-use Rattle.std.specs.Prelude.{ℕ, Bool, false, ◌&&◌, ◌==◌, List, [], ◌∷◌, length, nat_le, Option, Some, None, if◌then◌else◌}
+use Rattle.std.specs.Prelude.{ℕ, Bool, false, ◌&&◌, ◌==◌, List, [], ◌∷◌, length, nat_le, nat_lt, ◌^◌, Option, Some, None, if◌then◌else◌}
 use Rattle.std.specs.Char.{is_ascii_digit}
 use Rattle.std.specs.List.{list_all}
 use Rattle.std.specs.Str.Parse.{digits_value}
@@ -19,3 +19,7 @@ begins_with_zero (byte ∷ bytes) = byte == 48
 -- a request's number has no zero in front
 abbrev pub request_number_of : List ℕ → Option ℕ
 request_number_of text = if begins_with_zero text then None else number_of text
+
+-- a number that requests have
+abbrev pub request_number : ℕ → Option ℕ
+request_number n = if nat_lt 0 n && nat_lt n (10 ^ 18) then Some n else None

@@ -58,6 +58,10 @@ pub enum Refusal {
     Full,
     /// Memory or the store gave out.
     Unavailable,
+    /// The client has given up the replies through this number.
+    GivenUp,
+    /// The replies to be given up aren't all of earlier numbers.
+    FloorHigh,
 }
 
 /// What is wrong with the body of a request.
@@ -99,7 +103,7 @@ impl BodyFault {
 }
 
 impl Refusal {
-    /// The refusal's number, from 1 to 27.
+    /// The refusal's number, from 1 to 29.
     pub fn number(self) -> u8
         ensures { result ≡ refusal_number self }
     {
@@ -131,6 +135,8 @@ impl Refusal {
             Refusal::PagesLeft => 25,
             Refusal::Full => 26,
             Refusal::Unavailable => 27,
+            Refusal::GivenUp => 28,
+            Refusal::FloorHigh => 29,
         }
     }
 
@@ -166,6 +172,8 @@ impl Refusal {
             Refusal::PagesLeft => "pages-left",
             Refusal::Full => "full",
             Refusal::Unavailable => "unavailable",
+            Refusal::GivenUp => "given-up",
+            Refusal::FloorHigh => "floor-high",
         }
     }
 
@@ -191,7 +199,9 @@ impl Refusal {
             | Refusal::PageOrder
             | Refusal::CallMissing
             | Refusal::PagesMismatch
-            | Refusal::PagesLeft => 409,
+            | Refusal::PagesLeft
+            | Refusal::FloorHigh => 409,
+            Refusal::GivenUp => 410,
             Refusal::Full => 507,
             Refusal::Unavailable => 503,
         }

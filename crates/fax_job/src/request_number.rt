@@ -1,7 +1,7 @@
 //! Numbers of requests.
 
-ghost use Rattle.std.specs.Prelude.{◌≡◌, ◌≤◌, ◌<◌, ◌^◌, ℕ};
-ghost use Rattle.fax_job.specs.Number.{begins_with_zero, request_number_of};
+ghost use Rattle.std.specs.Prelude.{◌≡◌, ◌≤◌, ◌<◌, ◌^◌, ℕ, if◌then◌else◌, nat_lt};
+ghost use Rattle.fax_job.specs.Number.{begins_with_zero, request_number, request_number_of};
 
 use crate::number::number;
 use std::marker::Model;
@@ -33,6 +33,29 @@ impl RequestNumber {
         match number(text) {
             Some(number) => Some(RequestNumber { number }),
             None => None,
+        }
+    }
+
+    /// The request number that this is, where it is one.
+    pub fn new(number: u64) -> Option<RequestNumber>
+        ensures { result ≡ request_number number }
+    {
+        if 0 < number && number < 1_000_000_000_000_000_000 {
+            Some(RequestNumber { number })
+        } else {
+            None
+        }
+    }
+
+    /// The number, or the floor where that is greater.
+    pub fn at_least(self, floor: u64) -> RequestNumber
+        requires { floor < 10 ^ 18 }
+        ensures { result ≡ (if nat_lt floor self then self else floor) }
+    {
+        if floor < self.number {
+            self
+        } else {
+            RequestNumber { number: floor }
         }
     }
 
