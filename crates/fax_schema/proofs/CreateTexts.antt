@@ -12,9 +12,9 @@ use Rattle.sqlite_schema.specs.declared.schema.Table.{Table}
 use Rattle.sqlite_schema.specs.declared.schema.Schema.{Schema}
 use Rattle.sqlite_catalog.specs.Change.{created, indexed, without_table, without_index}
 use Rattle.sqlite_tied.specs.Compute.{everything}
-use Rattle.fax_schema.specs.declared.statements.TheConstants.{CREATE_JOBS, CREATE_GRANTS, CREATE_HOLDS, CREATE_DOWN, CREATE_REPLIES, CREATE_META, CREATE_KILLTIME_INDEX, CREATE_CHOICE_INDEX, CREATE_CALLS, DROP_CALLS, DROP_CHOICE_INDEX, DROP_KILLTIME_INDEX, INSERT_META}
+use Rattle.fax_schema.specs.declared.statements.TheConstants.{CREATE_JOBS, CREATE_GRANTS, CREATE_HOLDS, CREATE_DOWN, CREATE_REPLIES, CREATE_META, CREATE_KILLTIME_INDEX, CREATE_CHOICE_INDEX, CREATE_CALLS, CREATE_FLOORS, DROP_CALLS, DROP_CHOICE_INDEX, DROP_KILLTIME_INDEX, INSERT_META}
 use Rattle.fax_schema.proofs.StatementForms.{Commands}
-use Rattle.fax_schema.specs.Schema.{no_tables, with_jobs, with_grants, with_holds, with_down, with_replies, bare_tables, with_killtime_index, core_tables, our_tables, bare_with_calls, older_core_tables, older_tables, older_vacuumed_tables, vacuumed_tables, vacuumed_with_killtime, jobs, grants, holds, down, replies, meta, calls, killtime_index, choice_index}
+use Rattle.fax_schema.specs.Schema.{no_tables, with_jobs, with_grants, with_holds, with_down, with_replies, first_bare, first_with_killtime, first_core, first_older_core, first_tables, first_older, first_bare_calls, first_vacuumed, first_vacuumed_with_killtime, first_older_vacuumed, bare_tables, with_killtime_index, core_tables, our_tables, bare_with_calls, vacuumed_tables, vacuumed_with_killtime, jobs, grants, holds, down, replies, meta, floors, calls, killtime_index_at, choice_index_at}
 
 -- the text makes this table in any database with this schema
 pub record Makes (schema : Schema) (sql : List ℕ) (table : Table) : Type 0 where
@@ -67,9 +67,17 @@ pub makes_meta : Makes with_replies CREATE_META.now meta
 unfolding understood everything
 makes_meta = record { command = refl; statement = refl; defined = refl; plain = (refl, refl) }
 
-pub created_meta : created with_replies meta ≡ bare_tables
+pub created_meta : created with_replies meta ≡ first_bare
 unfolding everything
 created_meta = refl
+
+pub makes_floors : Makes first_bare CREATE_FLOORS.now floors
+unfolding understood everything
+makes_floors = record { command = refl; statement = refl; defined = refl; plain = (refl, refl) }
+
+pub created_floors : created first_bare floors ≡ bare_tables
+unfolding everything
+created_floors = refl
 
 -- the text makes this index of jobs in any database with this schema
 pub record MakesIndexOf (schema : Schema) (sql : List ℕ) (index : Index) : Type 0 where
@@ -78,19 +86,19 @@ pub record MakesIndexOf (schema : Schema) (sql : List ℕ) (index : Index) : Typ
   pub defined : index_defined_by jobs sql ≡ Ok (record index { tree = 0; table = 0 })
   pub plain : IsPlain (understood schema sql)
 
-pub makes_killtime_index : MakesIndexOf bare_tables CREATE_KILLTIME_INDEX.now killtime_index
+pub makes_killtime_index : MakesIndexOf bare_tables CREATE_KILLTIME_INDEX.now (killtime_index_at 13)
 unfolding understood everything
 makes_killtime_index = record { command = refl; statement = refl; defined = refl; plain = (refl, refl) }
 
-pub indexed_killtime : indexed bare_tables jobs killtime_index ≡ with_killtime_index
+pub indexed_killtime : indexed bare_tables jobs (killtime_index_at 13) ≡ with_killtime_index
 unfolding everything
 indexed_killtime = refl
 
-pub makes_choice_index : MakesIndexOf with_killtime_index CREATE_CHOICE_INDEX.now choice_index
+pub makes_choice_index : MakesIndexOf with_killtime_index CREATE_CHOICE_INDEX.now (choice_index_at 14)
 unfolding understood everything
 makes_choice_index = record { command = refl; statement = refl; defined = refl; plain = (refl, refl) }
 
-pub indexed_choice : indexed with_killtime_index jobs choice_index ≡ core_tables
+pub indexed_choice : indexed with_killtime_index jobs (choice_index_at 14) ≡ core_tables
 unfolding everything
 indexed_choice = refl
 
@@ -102,81 +110,121 @@ pub created_calls : created core_tables calls ≡ our_tables
 unfolding everything
 created_calls = refl
 
--- the text takes the last table away from any database with this schema
-pub record TakesAway (schema : Schema) (sql : List ℕ) : Type 0 where
-  pub command : command_of (understood schema sql) ≡ DropTable 6
+-- the text takes the table in this place away from any database with this schema
+pub record TakesAway (schema : Schema) (sql : List ℕ) (at : ℕ) : Type 0 where
+  pub command : command_of (understood schema sql) ≡ DropTable at
   pub plain : IsPlain (understood schema sql)
 
-pub drops_calls : TakesAway our_tables DROP_CALLS.now
+pub drops_calls : TakesAway our_tables DROP_CALLS.now 7
 unfolding understood everything
 drops_calls = record { command = refl; plain = (refl, refl) }
 
-pub drops_bare_calls : TakesAway bare_with_calls DROP_CALLS.now
+pub left_core : without_table our_tables 15 ≡ core_tables
+unfolding everything
+left_core = refl
+
+pub drops_bare_calls : TakesAway bare_with_calls DROP_CALLS.now 7
 unfolding understood everything
 drops_bare_calls = record { command = refl; plain = (refl, refl) }
 
-pub drops_older_calls : TakesAway older_tables DROP_CALLS.now
-unfolding understood everything
-drops_older_calls = record { command = refl; plain = (refl, refl) }
-
-pub left_older_six : without_table older_tables 13 ≡ older_core_tables
-unfolding everything
-left_older_six = refl
-
-pub left_six : without_table our_tables 13 ≡ core_tables
-unfolding everything
-left_six = refl
-
-pub left_bare : without_table bare_with_calls 11 ≡ bare_tables
+pub left_bare : without_table bare_with_calls 13 ≡ bare_tables
 unfolding everything
 left_bare = refl
+
+pub drops_first_calls : TakesAway first_tables DROP_CALLS.now 6
+unfolding understood everything
+drops_first_calls = record { command = refl; plain = (refl, refl) }
+
+pub left_first_core : without_table first_tables 13 ≡ first_core
+unfolding everything
+left_first_core = refl
+
+pub drops_first_bare_calls : TakesAway first_bare_calls DROP_CALLS.now 6
+unfolding understood everything
+drops_first_bare_calls = record { command = refl; plain = (refl, refl) }
+
+pub left_first_bare : without_table first_bare_calls 11 ≡ first_bare
+unfolding everything
+left_first_bare = refl
+
+pub drops_first_older_calls : TakesAway first_older DROP_CALLS.now 6
+unfolding understood everything
+drops_first_older_calls = record { command = refl; plain = (refl, refl) }
+
+pub left_first_older : without_table first_older 13 ≡ first_older_core
+unfolding everything
+left_first_older = refl
 
 -- the text takes this index away from any database with this schema
 pub record LosesIndex (schema : Schema) (sql : List ℕ) (at : ℕ) : Type 0 where
   pub command : command_of (understood schema sql) ≡ DropIndex at
   pub plain : IsPlain (understood schema sql)
 
-pub drops_choice : LosesIndex vacuumed_tables DROP_CHOICE_INDEX.now 7
+pub drops_choice : LosesIndex vacuumed_tables DROP_CHOICE_INDEX.now 8
 unfolding understood everything
 drops_choice = record { command = refl; plain = (refl, refl) }
 
-pub drops_killtime : LosesIndex vacuumed_with_killtime DROP_KILLTIME_INDEX.now 6
-unfolding understood everything
-drops_killtime = record { command = refl; plain = (refl, refl) }
-
-pub left_killtime : without_index vacuumed_tables 14 ≡ vacuumed_with_killtime
+pub left_killtime : without_index vacuumed_tables 16 ≡ vacuumed_with_killtime
 unfolding everything
 left_killtime = refl
 
-pub left_bare_calls : without_index vacuumed_with_killtime 13 ≡ bare_with_calls
+pub drops_killtime : LosesIndex vacuumed_with_killtime DROP_KILLTIME_INDEX.now 7
+unfolding understood everything
+drops_killtime = record { command = refl; plain = (refl, refl) }
+
+pub left_bare_calls : without_index vacuumed_with_killtime 15 ≡ bare_with_calls
 unfolding everything
 left_bare_calls = refl
 
-pub drops_older_choice : LosesIndex older_vacuumed_tables DROP_CHOICE_INDEX.now 7
+pub drops_first_choice : LosesIndex first_vacuumed DROP_CHOICE_INDEX.now 7
 unfolding understood everything
-drops_older_choice = record { command = refl; plain = (refl, refl) }
+drops_first_choice = record { command = refl; plain = (refl, refl) }
 
-pub left_older_killtime : without_index older_vacuumed_tables 14 ≡ vacuumed_with_killtime
+pub left_first_killtime : without_index first_vacuumed 14 ≡ first_vacuumed_with_killtime
 unfolding everything
-left_older_killtime = refl
+left_first_killtime = refl
 
-pub drops_last_choice : LosesIndex older_core_tables DROP_CHOICE_INDEX.now 6
+pub drops_first_older_choice : LosesIndex first_older_vacuumed DROP_CHOICE_INDEX.now 7
 unfolding understood everything
-drops_last_choice = record { command = refl; plain = (refl, refl) }
+drops_first_older_choice = record { command = refl; plain = (refl, refl) }
 
-pub left_last_killtime : without_index older_core_tables 12 ≡ with_killtime_index
+pub left_first_older_killtime : without_index first_older_vacuumed 14 ≡ first_vacuumed_with_killtime
 unfolding everything
-left_last_killtime = refl
+left_first_older_killtime = refl
 
-pub drops_last_killtime : LosesIndex with_killtime_index DROP_KILLTIME_INDEX.now 5
+pub drops_first_killtime : LosesIndex first_vacuumed_with_killtime DROP_KILLTIME_INDEX.now 6
 unfolding understood everything
-drops_last_killtime = record { command = refl; plain = (refl, refl) }
+drops_first_killtime = record { command = refl; plain = (refl, refl) }
 
-pub left_last_bare : without_index with_killtime_index 11 ≡ bare_tables
+pub left_first_bare_calls : without_index first_vacuumed_with_killtime 13 ≡ first_bare_calls
 unfolding everything
-left_last_bare = refl
+left_first_bare_calls = refl
+
+pub drops_core_choice : LosesIndex first_core DROP_CHOICE_INDEX.now 6
+unfolding understood everything
+drops_core_choice = record { command = refl; plain = (refl, refl) }
+
+pub left_core_killtime : without_index first_core 12 ≡ first_with_killtime
+unfolding everything
+left_core_killtime = refl
+
+pub drops_older_core_choice : LosesIndex first_older_core DROP_CHOICE_INDEX.now 6
+unfolding understood everything
+drops_older_core_choice = record { command = refl; plain = (refl, refl) }
+
+pub left_older_core_killtime : without_index first_older_core 12 ≡ first_with_killtime
+unfolding everything
+left_older_core_killtime = refl
+
+pub drops_core_killtime : LosesIndex first_with_killtime DROP_KILLTIME_INDEX.now 5
+unfolding understood everything
+drops_core_killtime = record { command = refl; plain = (refl, refl) }
+
+pub left_bare_core : without_index first_with_killtime 11 ≡ first_bare
+unfolding everything
+left_bare_core = refl
 
 pub insert_meta : Commands INSERT_META.now
-    (Insert 5 (Values (lit (Int (pos 1)) ∷ lit Null ∷ lit (Int (pos 0)) ∷ lit (Int (pos 1)) ∷ lit (Int (pos 1)) ∷ lit (Int (pos 1)) ∷ []) 6))
+    (Insert 5 (Values (lit (Int (pos 1)) ∷ lit Null ∷ lit (Int (pos 0)) ∷ lit (Int (pos 1)) ∷ lit (Int (pos 1)) ∷ lit (Int (pos 2)) ∷ []) 6))
 unfolding understood everything
 insert_meta = record { is = refl; plain = (refl, refl) }

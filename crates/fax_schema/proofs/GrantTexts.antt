@@ -79,13 +79,13 @@ pub select_open : Selects SELECT_OPEN.now calls_tree call_tests call_project (co
 unfolding understood everything
 select_open = record { command = refl; plain = (refl, refl); unlisted = refl }
 
-pub delete_calls : Commands DELETE_CALLS.now (Delete 6 (program_of calls_tree call_tests gone_project))
+pub delete_calls : Commands DELETE_CALLS.now (Delete 7 (program_of calls_tree call_tests gone_project))
 unfolding understood everything
 delete_calls = record { is = refl; plain = (refl, refl) }
 
 abbrev pub call_terms : List Term
 call_terms = lit Null ∷ col 0 0 ∷ col 0 1 ∷ []
 
-pub insert_calls : Commands INSERT_CALLS.now (Insert 6 (Values call_terms 3))
+pub insert_calls : Commands INSERT_CALLS.now (Insert 7 (Values call_terms 3))
 unfolding understood everything
 insert_calls = record { is = refl; plain = (refl, refl) }

@@ -10,4 +10,5 @@ pub mod CreateTexts
 pub mod StatementTexts
 pub mod GrantTexts
 pub mod ModemTexts
+pub mod ClientTexts
 pub mod ShapeLemmas

@@ -1,4 +1,4 @@
--- What a text is that reads or writes the seven tables.
+-- What a text is that reads or writes the tables of a store.
 use Rattle.std.proofs.Common.{◌≡◌, ℕ, List, [], false}
 use Rattle.sqlite.specs.Collation.TheVariants.{Binary}
 use Rattle.sqlite_sql.specs.Term.{Term, op2}

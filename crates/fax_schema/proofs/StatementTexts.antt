@@ -1,4 +1,4 @@
--- What the texts that read and write the six tables mean.
+-- What the texts mean that read and write jobs, kept replies and meta.
 use Rattle.std.proofs.Common.{ℕ, pos, List, [], ◌∷◌, ◌++◌, codes, refl}
 use Rattle.sqlite.specs.Collation.TheVariants.{Binary}
 use Rattle.sqlite.specs.declared.types.Value.TheVariants.{Null, Int, Text}
@@ -14,7 +14,7 @@ use Rattle.sqlite_tied.specs.Compute.{everything}
 use Rattle.sqlite_value.specs.Keys.{ascending}
 use Rattle.sqlite_value.specs.declared.keys.Key.{Key}
 use Rattle.fax_job.specs.Status.{kill_time_expired}
-use Rattle.fax_schema.specs.declared.statements.TheConstants.{SELECT_DIAL, SELECT_HELD, SELECT_LOST, SELECT_VERSION}
+use Rattle.fax_schema.specs.declared.statements.TheConstants.{SELECT_DIAL, SELECT_HELD, SELECT_LOST, SELECT_VERSION, UPDATE_VERSION}
 use Rattle.fax_schema.specs.declared.statements.TheConstants.{SELECT_META, UPDATE_CLOCK, UPDATE_META}
 use Rattle.fax_schema.specs.declared.statements.TheConstants.{SELECT_REPLY, INSERT_REPLY}
 use Rattle.fax_schema.specs.declared.statements.TheConstants.{SELECT_FIRST, SELECT_BEHIND_NUMBER, SELECT_BEHIND_TIME, SELECT_BEHIND_PRIORITY}
@@ -40,6 +40,13 @@ version_project = col 1 5 ∷ []
 pub select_version : Selects SELECT_VERSION.now meta_tree [] version_project (codes "version" ∷ [])
 unfolding understood everything
 select_version = record { command = refl; plain = (refl, refl); unlisted = refl }
+
+abbrev pub raise_project : List Term
+raise_project = col 1 0 ∷ col 1 0 ∷ lit Null ∷ col 1 2 ∷ col 1 3 ∷ col 1 4 ∷ lit (Int (pos 2)) ∷ []
+
+pub update_version : Commands UPDATE_VERSION.now (Update 5 (program_of meta_tree [] raise_project))
+unfolding understood everything
+update_version = record { is = refl; plain = (refl, refl) }
 
 abbrev pub job_tests : List Term
 job_tests = equals (col 1 0) (col 0 0) ∷ []

@@ -1,4 +1,4 @@
--- What an UPDATE and a DELETE of rows of one of the seven tables leave of it.
+-- What an UPDATE and a DELETE of rows of one of the tables of a store leave of it.
 use Rattle.std.proofs.Common.{◌≡◌, ℕ, List, [], ◌∷◌, map, filter, drop, not, true, false, Option, Some, None, slice_get, subst, sym, ◌∙◌}
 use Rattle.sqlite.specs.Cast.{cast_row}
 use Rattle.sqlite.specs.Command.TheVariants.{Update, Delete}

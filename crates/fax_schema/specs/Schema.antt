@@ -1,5 +1,7 @@
--- The seven tables and their indexes as the database knows them.
-use Rattle.std.specs.Prelude.{◌≡◌, ◌⊎◌, ℕ, true, false, List, [], ◌∷◌, ◌++◌, codes, Option, Some, None, pos}
+-- The eight tables and their indexes as the database knows them, and those of the first version, which had no floors.
+use Rattle.std.specs.Prelude.{◌≡◌, ◌⊎◌, ℕ, ◌+◌, Bool, true, false, List, [], ◌∷◌, ◌++◌, codes, Option, Some, None, pos}
+use Rattle.std.specs.List.{list_any}
+use Rattle.std.specs.Str.{bytes_eq}
 use Rattle.sqlite.specs.Collation.TheVariants.{Binary}
 use Rattle.sqlite.specs.declared.types.Value.TheVariants.{Null, Int}
 use Rattle.sqlite_schema.specs.declared.schema.Column.{Column}
@@ -11,6 +13,7 @@ use Rattle.sqlite_schema.specs.declared.schema.Schema.{Schema}
 use Rattle.sqlite_sql.specs.Term.{Term, lit, col, op2}
 use Rattle.sqlite_sql.specs.declared.ops.BinaryOp.TheVariants.{Compare}
 use Rattle.sqlite_sql.specs.declared.ops.CompareOp.TheVariants.{Eq}
+use Rattle.sqlite_rules.specs.Lists.{Has}
 use Rattle.sqlite_value.specs.declared.keys.Order.{Order}
 use Rattle.sqlite_value.specs.Keys.{plain}
 
@@ -62,8 +65,11 @@ replies_tree = 8
 abbrev pub meta_tree : ℕ
 meta_tree = 10
 
+abbrev pub floors_tree : ℕ
+floors_tree = 11
+
 abbrev pub calls_tree : ℕ
-calls_tree = 13
+calls_tree = 15
 
 abbrev pub job_columns : List Column
 job_columns =
@@ -100,6 +106,10 @@ meta =
     (integer (codes "one") ∷ integer (codes "clock") ∷ integer (codes "next_job") ∷ integer (codes "next_grant") ∷ integer (codes "version") ∷ []) (Some 0) (0 ∷ []) [] []
     (op2 (Compare Eq Binary) (col 1 0) (lit (Int (pos 1))) ∷ [])
 
+-- through which number each client has given up its replies
+abbrev pub floors : Table
+floors = table_of (codes "floors") floors_tree (text (codes "client") ∷ integer (codes "upto") ∷ []) None (1 ∷ []) ((1 ∷ []) ∷ []) (plain ∷ []) []
+
 -- how many grants are open to each number, in a tree that depends on when the table was made
 abbrev pub calls_at : ℕ → Table
 calls_at tree = table_of (codes "calls") tree (text (codes "dial") ∷ integer (codes "open") ∷ []) None (1 ∷ []) ((1 ∷ []) ∷ []) (plain ∷ []) []
@@ -122,11 +132,12 @@ down_index = key_index (codes "sqlite_autoindex_down_1") 7 down_tree (1 ∷ [])
 abbrev pub replies_index : Index
 replies_index = key_index (codes "sqlite_autoindex_replies_1") 9 replies_tree (1 ∷ 2 ∷ [])
 
-abbrev pub calls_index_at : ℕ → ℕ → Index
-calls_index_at tree table = key_index (codes "sqlite_autoindex_calls_1") tree table (1 ∷ [])
+abbrev pub floors_index : Index
+floors_index = key_index (codes "sqlite_autoindex_floors_1") 12 floors_tree (1 ∷ [])
 
-abbrev pub calls_index : Index
-calls_index = calls_index_at 14 calls_tree
+-- behind a table in that tree
+abbrev pub calls_index_at : ℕ → Index
+calls_index_at table = key_index (codes "sqlite_autoindex_calls_1") (table + 1) table (1 ∷ [])
 
 -- an index by which jobs are found without reading the others. It holds no rule.
 abbrev pub jobs_index : List ℕ → ℕ → List ℕ → Index
@@ -136,9 +147,6 @@ jobs_index name tree places = record { name = name; tree = tree; table = jobs_tr
 abbrev pub killtime_index_at : ℕ → Index
 killtime_index_at tree = jobs_index (codes "jobs_by_killtime") tree (18 ∷ 8 ∷ [])
 
-abbrev pub killtime_index : Index
-killtime_index = killtime_index_at 11
-
 -- by phase, priority, time to send and number, for those that wait, in the order of the choice. It has all else that the choice asks of a job: next time, kill time, number to dial, modem value.
 abbrev pub choice_index_at : ℕ → Index
 choice_index_at tree = jobs_index (codes "jobs_by_choice") tree (18 ∷ 9 ∷ 7 ∷ 0 ∷ 20 ∷ 8 ∷ 2 ∷ 3 ∷ [])
@@ -147,95 +155,156 @@ choice_index_at tree = jobs_index (codes "jobs_by_choice") tree (18 ∷ 9 ∷ 7 
 abbrev pub older_choice_index_at : ℕ → Index
 older_choice_index_at tree = jobs_index (codes "jobs_by_choice") tree (18 ∷ 9 ∷ 7 ∷ [])
 
-abbrev pub choice_index : Index
-choice_index = choice_index_at 12
+-- both, the first in this tree
+abbrev pub indexes_at : ℕ → List Index
+indexes_at tree = killtime_index_at tree ∷ choice_index_at (tree + 1) ∷ []
+
+abbrev pub older_indexes_at : ℕ → List Index
+older_indexes_at tree = killtime_index_at tree ∷ older_choice_index_at (tree + 1) ∷ []
+
+-- a database with these tables and indexes, and no view
+abbrev pub laid : List Table → List Index → Schema
+laid tables indexes = record { tables = tables; indexes = indexes; views = [] }
 
 -- a database with no tables
 abbrev pub no_tables : Schema
-no_tables = record { tables = []; indexes = []; views = [] }
+no_tables = laid [] []
 
--- the schema after each of them was made
+-- the schema after each of the first five was made
 abbrev pub with_jobs : Schema
-with_jobs = record { tables = jobs ∷ []; indexes = []; views = [] }
+with_jobs = laid (jobs ∷ []) []
 
 abbrev pub with_grants : Schema
-with_grants = record { tables = jobs ∷ grants ∷ []; indexes = []; views = [] }
+with_grants = laid (jobs ∷ grants ∷ []) []
 
 abbrev pub with_holds : Schema
-with_holds = record { tables = jobs ∷ grants ∷ holds ∷ []; indexes = holds_indexes; views = [] }
+with_holds = laid (jobs ∷ grants ∷ holds ∷ []) holds_indexes
 
 abbrev pub with_down : Schema
-with_down = record { tables = jobs ∷ grants ∷ holds ∷ down ∷ []; indexes = holds_indexes ++ down_index ∷ []; views = [] }
+with_down = laid (jobs ∷ grants ∷ holds ∷ down ∷ []) (holds_indexes ++ down_index ∷ [])
 
 abbrev pub with_replies : Schema
-with_replies = record { tables = jobs ∷ grants ∷ holds ∷ down ∷ replies ∷ []; indexes = holds_indexes ++ down_index ∷ replies_index ∷ []; views = [] }
+with_replies = laid (jobs ∷ grants ∷ holds ∷ down ∷ replies ∷ []) (holds_indexes ++ down_index ∷ replies_index ∷ [])
+
+-- ---- the tables of the first version: those without floors
+
+-- those whose rows are alike in each version
+abbrev pub alike_list : List Table
+alike_list = jobs ∷ grants ∷ holds ∷ down ∷ replies ∷ []
+
+abbrev pub first_list : List Table
+first_list = alike_list ++ meta ∷ []
+
+abbrev pub first_keys : List Index
+first_keys = holds_indexes ++ down_index ∷ replies_index ∷ []
 
 -- The six tables that say all of a queue, with the indexes of their keys, each with a tree, and no other index.
+abbrev pub first_bare : Schema
+first_bare = laid first_list first_keys
+
+abbrev pub first_with_killtime : Schema
+first_with_killtime = laid first_list (first_keys ++ killtime_index_at 11 ∷ [])
+
+-- with the indexes by which jobs are found
+abbrev pub first_core : Schema
+first_core = laid first_list (first_keys ++ indexes_at 11)
+
+-- the same as stores made them before
+abbrev pub first_older_core : Schema
+first_older_core = laid first_list (first_keys ++ older_indexes_at 11)
+
+-- with `calls` behind them
+abbrev pub first_tables : Schema
+first_tables = laid (first_list ++ calls_at 13 ∷ []) (first_keys ++ indexes_at 11 ++ calls_index_at 13 ∷ [])
+
+abbrev pub first_older : Schema
+first_older = laid (first_list ++ calls_at 13 ∷ []) (first_keys ++ older_indexes_at 11 ++ calls_index_at 13 ∷ [])
+
+-- all seven with the indexes of their keys alone, as another program may make them
+abbrev pub first_bare_calls : Schema
+first_bare_calls = laid (first_list ++ calls_at 11 ∷ []) (first_keys ++ calls_index_at 11 ∷ [])
+
+-- all seven with those of jobs last, as VACUUM leaves them
+abbrev pub first_vacuumed : Schema
+first_vacuumed = laid (first_list ++ calls_at 11 ∷ []) (first_keys ++ calls_index_at 11 ∷ indexes_at 13)
+
+abbrev pub first_older_vacuumed : Schema
+first_older_vacuumed = laid (first_list ++ calls_at 11 ∷ []) (first_keys ++ calls_index_at 11 ∷ older_indexes_at 13)
+
+-- with the first of the two
+abbrev pub first_vacuumed_with_killtime : Schema
+first_vacuumed_with_killtime = laid (first_list ++ calls_at 11 ∷ []) (first_keys ++ calls_index_at 11 ∷ killtime_index_at 13 ∷ [])
+
+-- ---- those of a store: with floors
+
+abbrev pub core_list : List Table
+core_list = first_list ++ floors ∷ []
+
+abbrev pub core_keys : List Index
+core_keys = first_keys ++ floors_index ∷ []
+
+-- the seven tables that say all of a queue and of its clients, with the indexes of their keys alone
 abbrev pub bare_tables : Schema
-bare_tables = record {
-  tables = jobs ∷ grants ∷ holds ∷ down ∷ replies ∷ meta ∷ [];
-  indexes = holds_indexes ++ down_index ∷ replies_index ∷ [];
-  views = [];
-}
+bare_tables = laid core_list core_keys
 
 abbrev pub with_killtime_index : Schema
-with_killtime_index = record bare_tables { indexes = holds_indexes ++ down_index ∷ replies_index ∷ killtime_index ∷ [] }
+with_killtime_index = laid core_list (core_keys ++ killtime_index_at 13 ∷ [])
 
--- The six tables with the indexes by which jobs are found.
+-- with the indexes by which jobs are found
 abbrev pub core_tables : Schema
-core_tables = record bare_tables { indexes = holds_indexes ++ down_index ∷ replies_index ∷ killtime_index ∷ choice_index ∷ [] }
+core_tables = laid core_list (core_keys ++ indexes_at 13)
 
--- All seven tables with all indexes: those of a store.
+-- All eight tables with all indexes: those of a store.
 abbrev pub our_tables : Schema
-our_tables = record {
-  tables = jobs ∷ grants ∷ holds ∷ down ∷ replies ∷ meta ∷ calls ∷ [];
-  indexes = holds_indexes ++ down_index ∷ replies_index ∷ killtime_index ∷ choice_index ∷ calls_index ∷ [];
-  views = [];
-}
+our_tables = laid (core_list ++ calls ∷ []) (core_keys ++ indexes_at 13 ++ calls_index_at calls_tree ∷ [])
 
--- All seven with the indexes of their keys alone, as another program may make them.
+-- all eight with the indexes of their keys alone, as another program may make them
 abbrev pub bare_with_calls : Schema
-bare_with_calls = record {
-  tables = jobs ∷ grants ∷ holds ∷ down ∷ replies ∷ meta ∷ calls_at 11 ∷ [];
-  indexes = holds_indexes ++ down_index ∷ replies_index ∷ calls_index_at 12 11 ∷ [];
-  views = [];
-}
+bare_with_calls = laid (core_list ++ calls_at 13 ∷ []) (core_keys ++ calls_index_at 13 ∷ [])
 
--- All seven with all indexes, those of jobs last, as VACUUM leaves them.
+-- all eight with those of jobs last, as VACUUM leaves them
 abbrev pub vacuumed_tables : Schema
-vacuumed_tables = record bare_with_calls { indexes = holds_indexes ++ down_index ∷ replies_index ∷ calls_index_at 12 11 ∷ killtime_index_at 13 ∷ choice_index_at 14 ∷ [] }
+vacuumed_tables = laid (core_list ++ calls_at 13 ∷ []) (core_keys ++ calls_index_at 13 ∷ indexes_at 15)
 
--- The same with the first of the two.
+-- with the first of the two
 abbrev pub vacuumed_with_killtime : Schema
-vacuumed_with_killtime = record bare_with_calls { indexes = holds_indexes ++ down_index ∷ replies_index ∷ calls_index_at 12 11 ∷ killtime_index_at 13 ∷ [] }
-
--- ---- as stores made them before
-
--- the six tables
-abbrev pub older_core_tables : Schema
-older_core_tables = record bare_tables { indexes = holds_indexes ++ down_index ∷ replies_index ∷ killtime_index ∷ older_choice_index_at 12 ∷ [] }
-
--- all seven
-abbrev pub older_tables : Schema
-older_tables = record our_tables { indexes = holds_indexes ++ down_index ∷ replies_index ∷ killtime_index ∷ older_choice_index_at 12 ∷ calls_index ∷ [] }
-
--- all seven, as VACUUM leaves them
-abbrev pub older_vacuumed_tables : Schema
-older_vacuumed_tables = record bare_with_calls { indexes = holds_indexes ++ down_index ∷ replies_index ∷ calls_index_at 12 11 ∷ killtime_index_at 13 ∷ older_choice_index_at 14 ∷ [] }
+vacuumed_with_killtime = laid (core_list ++ calls_at 13 ∷ []) (core_keys ++ calls_index_at 13 ∷ killtime_index_at 15 ∷ [])
 
 -- ---- the tables of a queue
 
+-- whether one of these tables is that of floors
+abbrev pub are_with_floors : List Table → Bool
+are_with_floors tables = list_any (λ t. bytes_eq t.name (codes "floors")) tables
+
+-- whether there are floors, as in the second version
+abbrev pub has_floors : Schema → Bool
+has_floors schema = are_with_floors schema.tables
+
 -- with `calls`: behind the indexes of jobs, or without these
+abbrev pub with_calls : List Schema
+with_calls = our_tables ∷ bare_with_calls ∷ first_tables ∷ first_bare_calls ∷ first_older ∷ []
+
 abbrev pub HaveCalls : Schema → Type 0
-HaveCalls schema = (schema ≡ our_tables) ⊎ ((schema ≡ bare_with_calls) ⊎ (schema ≡ older_tables))
+HaveCalls = Has with_calls
 
--- in the order of a store: with `calls` or without, with the indexes of jobs or without
-abbrev pub AreInOrder : Schema → Type 0
-AreInOrder schema = HaveCalls schema ⊎ ((schema ≡ core_tables) ⊎ (schema ≡ bare_tables))
+-- with the indexes of jobs last, where these are to be made anew: since VACUUM moved them, since stores made others before, or since floors come before them
+abbrev pub indexed_last : List Schema
+indexed_last = vacuumed_tables ∷ first_vacuumed ∷ first_older_vacuumed ∷ first_core ∷ first_older_core ∷ []
 
--- with the indexes of jobs last, where these are to be made anew
 abbrev pub AreIndexedLast : Schema → Type 0
-AreIndexedLast schema = (schema ≡ vacuumed_tables) ⊎ ((schema ≡ older_vacuumed_tables) ⊎ (schema ≡ older_core_tables))
+AreIndexedLast = Has indexed_last
+
+-- those of the first version without `calls`
+abbrev pub first_indexed : List Schema
+first_indexed = first_core ∷ first_older_core ∷ []
+
+-- without `calls`, and with the indexes of jobs where these stand, or without them
+abbrev pub without_calls : List Schema
+without_calls = core_tables ∷ bare_tables ∷ first_bare ∷ []
+
+-- in an order that needs no index to be taken away before `calls`
+abbrev pub AreInOrder : Schema → Type 0
+AreInOrder schema = HaveCalls schema ⊎ Has without_calls schema
 
 -- the tables of a queue
 abbrev pub AreOurs : Schema → Type 0

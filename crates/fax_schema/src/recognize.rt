@@ -1,18 +1,18 @@
-//! Which databases have no tables, and which have exactly ours: with `calls` or without, with the indexes of jobs or
-//! without.
+//! Which databases have no tables, and which have exactly ours: of the first version or of the second, with `calls` or
+//! without, with the indexes of jobs or without.
 
 ghost use Rattle.std.specs.Prelude.{◌≡◌, ◌⊎◌, ◌↔◌, [], ◌∷◌, ◌++◌, map, pos, IsTrue, IfOk};
 ghost use Rattle.sqlite.specs.declared.types.Value.TheVariants.{Int};
 ghost use Rattle.sqlite_sql.specs.Syntax.{term_of, term_at};
 ghost use Rattle.sqlite_sql.specs.Term.{lit, col};
 ghost use Rattle.sqlite_value.specs.Keys.{plain};
-ghost use Rattle.fax_schema.specs.Schema.{AreInOrder, AreIndexedLast, AreOurs, HaveCalls, bare_tables, bare_with_calls, column_of, meta, no_tables, older_core_tables, older_tables, older_vacuumed_tables, our_tables, core_tables, vacuumed_tables};
-ghost use Rattle.fax_schema.specs.Shape.{AreKeptTables, AreWorkTables, HasColumns, HasRules, first_is_one, indexed_as, no_stamps, shaped};
+ghost use Rattle.sqlite_rules.specs.Lists.{Has};
+ghost use Rattle.fax_schema.specs.Schema.{AreIndexedLast, AreOurs, HaveCalls, bare_tables, are_with_floors, column_of, first_bare, first_indexed, has_floors, no_tables, without_calls};
+ghost use Rattle.fax_schema.specs.Shape.{HasColumns, HasRules, checks_of, first_is_one, indexed_as, laid_out, no_stamps, shaped, tabled};
 
 use crate::shape::{
-    ALL_INDEXES, ALL_KEY_INDEXES, ALL_OLDER_INDEXES, BARE_CALLS, CALLS, DOWN, GRANTS, HOLDS,
-    INDEXES, IndexShape, JOBS, KEY_INDEXES, META, OLDER_INDEXES, PLAIN, REPLIES, Shape,
-    VACUUMED_INDEXES, VACUUMED_OLDER_INDEXES,
+    BARE, FIRST_BARE, FIRST_INDEXED, INDEXED_LAST, IndexShape, Layout, PLAIN, Shape, WITH_CALLS,
+    WITHOUT_CALLS,
 };
 use sqlite_items::Items;
 use sqlite_schema::code::Terms;
@@ -140,15 +140,6 @@ fn is_shaped(alloc: Global, table: &Table, shape: &Shape) -> Result<bool, AllocE
     Ok(unstamped && has_columns(table, shape) && has_rules(table, shape))
 }
 
-/// Whether a table has this shape, and no checks.
-fn is_unchecked(alloc: Global, table: &Table, shape: &Shape) -> Result<bool, AllocError>
-    ensures { IfOk result (λ same. IsTrue same ↔ (table.now ≡ shaped shape.now [])) }
-{
-    let unchecked = has_no_terms(alloc, &table.checks)?;
-    let same = is_shaped(alloc, table, shape)?;
-    Ok(unchecked && same)
-}
-
 /// Whether a node is the first column of a row in slot 1.
 fn is_first_column(nodes: &[Node], depth: usize, at: usize) -> bool
     ensures { IsTrue result ↔ (term_at nodes.now depth at ≡ col 1 0) }
@@ -182,16 +173,50 @@ fn is_one_check(nodes: &[Node], at: usize) -> bool
     }
 }
 
-/// Whether a table has the shape of meta, and its one check.
-fn is_meta(alloc: Global, table: &Table) -> Result<bool, AllocError>
-    ensures { IfOk result (λ same. IsTrue same ↔ (table.now ≡ meta)) }
+/// Whether the one check of a table is that its first column is 1.
+fn has_one_check(alloc: Global, checks: &Terms) -> Result<bool, AllocError>
+    ensures { IfOk result (λ one. IsTrue one ↔ (checks.now ≡ first_is_one ∷ [])) }
 {
-    let same = is_shaped(alloc, table, &META)?;
-    let checks = table.checks.lend(alloc)?;
-    match checks.roots {
-        [root] => Ok(same && is_one_check(checks.nodes.as_slice(), *root)),
+    let lent = checks.lend(alloc)?;
+    match lent.roots {
+        [root] => Ok(is_one_check(lent.nodes.as_slice(), *root)),
         _ => Ok(false),
     }
+}
+
+/// Whether a table has the checks of a shape.
+fn has_checks(alloc: Global, checks: &Terms, has_one_row: bool) -> Result<bool, AllocError>
+    ensures { IfOk result (λ same. IsTrue same ↔ (checks.now ≡ checks_of has_one_row)) }
+{
+    if has_one_row {
+        has_one_check(alloc, checks)
+    } else {
+        has_no_terms(alloc, checks)
+    }
+}
+
+/// Whether a table has this shape.
+fn is_table(alloc: Global, table: &Table, shape: &Shape) -> Result<bool, AllocError>
+    ensures { IfOk result (λ same. IsTrue same ↔ (table.now ≡ tabled shape.now)) }
+{
+    let checked = has_checks(alloc, &table.checks, shape.has_one_row)?;
+    let same = is_shaped(alloc, table, shape)?;
+    Ok(checked && same)
+}
+
+/// Whether these tables have these shapes.
+fn are_tables(alloc: Global, tables: &[Table], shapes: &[Shape]) -> Result<bool, AllocError>
+    ensures { IfOk result (λ same. IsTrue same ↔ (tables.now ≡ map tabled shapes.now)) }
+{
+    if tables.len() != shapes.len() {
+        return Ok(false);
+    }
+    for (at, table) in tables.iter().enumerate() {
+        if !is_table(alloc, table, &shapes[at])? {
+            return Ok(false);
+        }
+    }
+    Ok(true)
 }
 
 /// Whether an index has this shape.
@@ -221,59 +246,25 @@ fn are_indexes(indexes: &[Index], shapes: &[IndexShape]) -> bool
     true
 }
 
-/// Whether these are the tables of jobs, grants and what is held.
-fn are_work_tables(
-    alloc: Global,
-    jobs: &Table,
-    grants: &Table,
-    holds: &Table,
-) -> Result<bool, AllocError>
-    ensures { IfOk result (λ same. IsTrue same ↔ AreWorkTables jobs.now grants.now holds.now) }
+/// Whether a database has exactly the tables and indexes of this layout.
+fn has_layout(alloc: Global, schema: &Schema, layout: &Layout) -> Result<bool, AllocError>
+    ensures { IfOk result (λ same. IsTrue same ↔ (schema.now ≡ laid_out layout.now)) }
 {
-    let of_jobs = is_unchecked(alloc, jobs, &JOBS)?;
-    let of_grants = is_unchecked(alloc, grants, &GRANTS)?;
-    let of_holds = is_unchecked(alloc, holds, &HOLDS)?;
-    Ok(of_jobs && of_grants && of_holds)
+    let same = are_tables(alloc, schema.tables.as_slice(), layout.tables)?;
+    Ok(same && are_indexes(schema.indexes.as_slice(), layout.indexes) && schema.views.is_empty())
 }
 
-/// Whether these are the tables of modems down, of kept replies, and of the clock and next numbers.
-fn are_kept_tables(
-    alloc: Global,
-    down: &Table,
-    replies: &Table,
-    meta: &Table,
-) -> Result<bool, AllocError>
-    ensures { IfOk result (λ same. IsTrue same ↔ AreKeptTables down.now replies.now meta.now) }
+/// Whether a database has one of these layouts.
+fn has_one_of(alloc: Global, schema: &Schema, mut layouts: &[Layout]) -> Result<bool, AllocError>
+    ensures { IfOk result (λ one. IsTrue one ↔ Has (map laid_out layouts.entry.now) schema.now) }
 {
-    let of_down = is_unchecked(alloc, down, &DOWN)?;
-    let of_replies = is_unchecked(alloc, replies, &REPLIES)?;
-    let of_meta = is_meta(alloc, meta)?;
-    Ok(of_down && of_replies && of_meta)
-}
-
-/// Whether these are the six tables.
-fn are_tables(alloc: Global, tables: &[Table]) -> Result<bool, AllocError>
-    ensures { IfOk result (λ same. IsTrue same ↔ (tables.now ≡ core_tables.tables)) }
-{
-    let [jobs, grants, holds, down, replies, meta] = tables else {
-        return Ok(false);
-    };
-    let work = are_work_tables(alloc, jobs, grants, holds)?;
-    let kept = are_kept_tables(alloc, down, replies, meta)?;
-    Ok(work && kept)
-}
-
-/// Whether these are the six tables and the calls, in this shape.
-fn are_all_tables(alloc: Global, tables: &[Table], calls: &Shape) -> Result<bool, AllocError>
-    ensures { IfOk result (λ same. IsTrue same ↔ (tables.now ≡ core_tables.tables ++ shaped calls.now [] ∷ [])) }
-{
-    let [jobs, grants, holds, down, replies, meta, last] = tables else {
-        return Ok(false);
-    };
-    let work = are_work_tables(alloc, jobs, grants, holds)?;
-    let kept = are_kept_tables(alloc, down, replies, meta)?;
-    let counted = is_unchecked(alloc, last, calls)?;
-    Ok(work && kept && counted)
+    while let [layout, rest @ ..] = layouts {
+        if has_layout(alloc, schema, layout)? {
+            return Ok(true);
+        }
+        layouts = rest;
+    }
+    Ok(false)
 }
 
 /// Whether a database has no tables.
@@ -283,110 +274,76 @@ pub fn has_no_tables(schema: &Schema) -> bool
     schema.tables.is_empty() && schema.indexes.is_empty() && schema.views.is_empty()
 }
 
-/// Whether a database has exactly the six tables, with no index but those of their keys.
-pub fn has_bare_tables(alloc: Global, schema: &Schema) -> Result<bool, AllocError>
-    ensures { IfOk result (λ same. IsTrue same ↔ (schema.now ≡ bare_tables)) }
+/// Whether one of these tables is that of floors.
+fn are_with_floors(mut tables: &[Table]) -> bool
+    ensures { result ≡ are_with_floors tables.entry.now }
 {
-    let same = are_tables(alloc, schema.tables.as_slice())?;
-    Ok(same && are_indexes(schema.indexes.as_slice(), KEY_INDEXES) && schema.views.is_empty())
+    while let [table, rest @ ..] = tables {
+        if table.name.as_slice() == "floors".as_bytes() {
+            return true;
+        }
+        tables = rest;
+    }
+    false
 }
 
-/// Whether a database has exactly the six tables and their indexes.
-pub fn has_core_tables(alloc: Global, schema: &Schema) -> Result<bool, AllocError>
-    ensures { IfOk result (λ same. IsTrue same ↔ (schema.now ≡ core_tables)) }
+/// Whether a database has a table of floors, as in the second version.
+pub fn has_floors(schema: &Schema) -> bool
+    ensures { result ≡ has_floors schema.now }
 {
-    let same = are_tables(alloc, schema.tables.as_slice())?;
-    Ok(same && are_indexes(schema.indexes.as_slice(), INDEXES) && schema.views.is_empty())
+    are_with_floors(schema.tables.as_slice())
 }
 
-/// Whether a database has exactly the seven tables and all indexes.
-fn has_our_tables(alloc: Global, schema: &Schema) -> Result<bool, AllocError>
-    ensures { IfOk result (λ same. IsTrue same ↔ (schema.now ≡ our_tables)) }
+/// Whether a database has exactly the six tables of the first version, with no index but those of their keys.
+pub fn has_first_bare(alloc: Global, schema: &Schema) -> Result<bool, AllocError>
+    ensures { IfOk result (λ same. IsTrue same ↔ (schema.now ≡ first_bare)) }
 {
-    let same = are_all_tables(alloc, schema.tables.as_slice(), &CALLS)?;
-    Ok(same && are_indexes(schema.indexes.as_slice(), ALL_INDEXES) && schema.views.is_empty())
+    has_layout(alloc, schema, &FIRST_BARE)
 }
 
 /// Whether a database has exactly the seven tables, with no index but those of their keys.
-fn has_bare_calls(alloc: Global, schema: &Schema) -> Result<bool, AllocError>
-    ensures { IfOk result (λ same. IsTrue same ↔ (schema.now ≡ bare_with_calls)) }
+pub fn has_bare_tables(alloc: Global, schema: &Schema) -> Result<bool, AllocError>
+    ensures { IfOk result (λ same. IsTrue same ↔ (schema.now ≡ bare_tables)) }
 {
-    let same = are_all_tables(alloc, schema.tables.as_slice(), &BARE_CALLS)?;
-    Ok(same && are_indexes(schema.indexes.as_slice(), ALL_KEY_INDEXES) && schema.views.is_empty())
+    has_layout(alloc, schema, &BARE)
 }
 
-/// Whether a database has exactly the seven tables and all indexes, as stores made them before.
-fn has_older_tables(alloc: Global, schema: &Schema) -> Result<bool, AllocError>
-    ensures { IfOk result (λ same. IsTrue same ↔ (schema.now ≡ older_tables)) }
-{
-    let same = are_all_tables(alloc, schema.tables.as_slice(), &CALLS)?;
-    Ok(same && are_indexes(schema.indexes.as_slice(), ALL_OLDER_INDEXES) && schema.views.is_empty())
-}
-
-/// Whether a database has exactly the seven tables, with the indexes of jobs before `calls`, or without them.
+/// Whether a database has the tables of a queue with `calls`, and the indexes of jobs before it, or without them.
 pub fn has_calls(alloc: Global, schema: &Schema) -> Result<bool, AllocError>
     ensures { IfOk result (λ same. IsTrue same ↔ HaveCalls schema.now) }
 {
-    let indexed = has_our_tables(alloc, schema)?;
-    let bare = has_bare_calls(alloc, schema)?;
-    let older = has_older_tables(alloc, schema)?;
-    Ok(indexed || bare || older)
-}
-
-/// Whether a database has exactly the seven tables and all indexes, with those of jobs last, as VACUUM orders them.
-fn is_vacuumed(alloc: Global, schema: &Schema) -> Result<bool, AllocError>
-    ensures { IfOk result (λ same. IsTrue same ↔ (schema.now ≡ vacuumed_tables)) }
-{
-    let same = are_all_tables(alloc, schema.tables.as_slice(), &BARE_CALLS)?;
-    Ok(same && are_indexes(schema.indexes.as_slice(), VACUUMED_INDEXES) && schema.views.is_empty())
-}
-
-/// The same of the indexes that stores made before.
-fn is_older_vacuumed(alloc: Global, schema: &Schema) -> Result<bool, AllocError>
-    ensures { IfOk result (λ same. IsTrue same ↔ (schema.now ≡ older_vacuumed_tables)) }
-{
-    let same = are_all_tables(alloc, schema.tables.as_slice(), &BARE_CALLS)?;
-    Ok(
-        same && are_indexes(schema.indexes.as_slice(), VACUUMED_OLDER_INDEXES)
-            && schema.views.is_empty(),
-    )
-}
-
-/// Whether a database has exactly the six tables and their indexes, as stores made them before.
-pub fn has_older_core(alloc: Global, schema: &Schema) -> Result<bool, AllocError>
-    ensures { IfOk result (λ same. IsTrue same ↔ (schema.now ≡ older_core_tables)) }
-{
-    let same = are_tables(alloc, schema.tables.as_slice())?;
-    Ok(same && are_indexes(schema.indexes.as_slice(), OLDER_INDEXES) && schema.views.is_empty())
+    has_one_of(alloc, schema, WITH_CALLS)
 }
 
 /// Whether a database has the tables of a queue, with the indexes of jobs last, where these are to be made anew: since
-/// VACUUM moved them, or since stores made them otherwise before.
+/// VACUUM moved them, since stores made them otherwise before, or since floors come before them.
 pub fn has_indexes_last(alloc: Global, schema: &Schema) -> Result<bool, AllocError>
     ensures { IfOk result (λ same. IsTrue same ↔ AreIndexedLast schema.now) }
 {
-    let vacuumed = is_vacuumed(alloc, schema)?;
-    let older_vacuumed = is_older_vacuumed(alloc, schema)?;
-    let older_six = has_older_core(alloc, schema)?;
-    Ok(vacuumed || older_vacuumed || older_six)
+    has_one_of(alloc, schema, INDEXED_LAST)
 }
 
-/// Whether a database has the tables of a queue in the order of a store: with `calls` or without, with the indexes of
-/// jobs or without.
-fn are_in_order(alloc: Global, schema: &Schema) -> Result<bool, AllocError>
-    ensures { IfOk result (λ same. IsTrue same ↔ AreInOrder schema.now) }
+/// Whether a database has the tables of the first version without `calls`, and the indexes of jobs.
+pub fn has_first_indexes(alloc: Global, schema: &Schema) -> Result<bool, AllocError>
+    ensures { IfOk result (λ same. IsTrue same ↔ Has first_indexed schema.now) }
 {
-    let with_calls = has_calls(alloc, schema)?;
-    let six = has_core_tables(alloc, schema)?;
-    let bare = has_bare_tables(alloc, schema)?;
-    Ok(with_calls || six || bare)
+    has_one_of(alloc, schema, FIRST_INDEXED)
+}
+
+/// Whether a database has the tables of a queue without `calls`, and the indexes of jobs where a store makes them, or
+/// without these.
+fn has_no_calls(alloc: Global, schema: &Schema) -> Result<bool, AllocError>
+    ensures { IfOk result (λ same. IsTrue same ↔ Has without_calls schema.now) }
+{
+    has_one_of(alloc, schema, WITHOUT_CALLS)
 }
 
 /// Whether a database has the tables of a queue.
 pub fn has_ours(alloc: Global, schema: &Schema) -> Result<bool, AllocError>
     ensures { IfOk result (λ same. IsTrue same ↔ AreOurs schema.now) }
 {
-    let in_order = are_in_order(alloc, schema)?;
+    let counted = has_calls(alloc, schema)?;
+    let uncounted = has_no_calls(alloc, schema)?;
     let indexed_last = has_indexes_last(alloc, schema)?;
-    Ok(in_order || indexed_last)
+    Ok(counted || uncounted || indexed_last)
 }

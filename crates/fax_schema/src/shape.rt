@@ -1,9 +1,9 @@
-//! The shapes of the tables and of their indexes.
+//! The shapes of the tables and of their indexes, and the layouts in which a queue's database has them.
 
 use sqlite_schema::schema::Kind;
 use sqlite_value::keys::Order;
 
-/// What a table has beside its checks.
+/// What a table is. Its one check may be that it has one row, whose first column is 1.
 pub(crate) struct Shape {
     pub(crate) name: &'static str,
     pub(crate) tree: u32,
@@ -11,12 +11,13 @@ pub(crate) struct Shape {
     pub(crate) key: Option<usize>,
     pub(crate) primary: &'static [usize],
     pub(crate) uniques: &'static [&'static [usize]],
+    pub(crate) has_one_row: bool,
 }
 
 /// Each column ascends by its bytes.
 pub(crate) const PLAIN: Order = Order { digits: 0 };
 
-pub(crate) const JOBS: Shape = Shape {
+const JOBS: Shape = Shape {
     name: "jobs",
     tree: 0,
     columns: &[
@@ -44,9 +45,10 @@ pub(crate) const JOBS: Shape = Shape {
     key: Some(0),
     primary: &[0],
     uniques: &[],
+    has_one_row: false,
 };
 
-pub(crate) const GRANTS: Shape = Shape {
+const GRANTS: Shape = Shape {
     name: "grants",
     tree: 1,
     columns: &[
@@ -62,9 +64,10 @@ pub(crate) const GRANTS: Shape = Shape {
     key: Some(0),
     primary: &[0],
     uniques: &[],
+    has_one_row: false,
 };
 
-pub(crate) const HOLDS: Shape = Shape {
+const HOLDS: Shape = Shape {
     name: "holds",
     tree: 2,
     columns: &[
@@ -75,18 +78,20 @@ pub(crate) const HOLDS: Shape = Shape {
     key: None,
     primary: &[1],
     uniques: &[&[1], &[2], &[3]],
+    has_one_row: false,
 };
 
-pub(crate) const DOWN: Shape = Shape {
+const DOWN: Shape = Shape {
     name: "down",
     tree: 6,
     columns: &[("modem", Kind::Text)],
     key: None,
     primary: &[1],
     uniques: &[&[1]],
+    has_one_row: false,
 };
 
-pub(crate) const REPLIES: Shape = Shape {
+const REPLIES: Shape = Shape {
     name: "replies",
     tree: 8,
     columns: &[
@@ -99,9 +104,10 @@ pub(crate) const REPLIES: Shape = Shape {
     key: None,
     primary: &[1, 2],
     uniques: &[&[1, 2]],
+    has_one_row: false,
 };
 
-pub(crate) const META: Shape = Shape {
+const META: Shape = Shape {
     name: "meta",
     tree: 10,
     columns: &[
@@ -114,26 +120,48 @@ pub(crate) const META: Shape = Shape {
     key: Some(0),
     primary: &[0],
     uniques: &[],
+    has_one_row: true,
 };
 
-/// The calls, where the table was made behind the indexes.
-pub(crate) const CALLS: Shape = Shape {
-    name: "calls",
-    tree: 13,
-    columns: &[("dial", Kind::Text), ("open", Kind::Integer)],
+const FLOORS: Shape = Shape {
+    name: "floors",
+    tree: 11,
+    columns: &[("client", Kind::Text), ("upto", Kind::Integer)],
     key: None,
     primary: &[1],
     uniques: &[&[1]],
+    has_one_row: false,
 };
 
-/// The same, where there are no indexes but those of keys.
-pub(crate) const BARE_CALLS: Shape = Shape {
+/// The calls, in the tree where the table stands.
+const CALLS_11: Shape = Shape {
     name: "calls",
     tree: 11,
     columns: &[("dial", Kind::Text), ("open", Kind::Integer)],
     key: None,
     primary: &[1],
     uniques: &[&[1]],
+    has_one_row: false,
+};
+
+const CALLS_13: Shape = Shape {
+    name: "calls",
+    tree: 13,
+    columns: &[("dial", Kind::Text), ("open", Kind::Integer)],
+    key: None,
+    primary: &[1],
+    uniques: &[&[1]],
+    has_one_row: false,
+};
+
+const CALLS_15: Shape = Shape {
+    name: "calls",
+    tree: 15,
+    columns: &[("dial", Kind::Text), ("open", Kind::Integer)],
+    key: None,
+    primary: &[1],
+    uniques: &[&[1]],
+    has_one_row: false,
 };
 
 /// The index that a key of a table has, or one that a table has beside its keys.
@@ -185,64 +213,15 @@ const REPLIES_KEY: IndexShape = IndexShape {
     is_unique: true,
 };
 
-const JOBS_BY_KILLTIME: IndexShape = IndexShape {
-    name: "jobs_by_killtime",
-    tree: 11,
-    table: 0,
-    places: &[18, 8],
-    is_unique: false,
-};
-
-const JOBS_BY_CHOICE: IndexShape = IndexShape {
-    name: "jobs_by_choice",
+const FLOORS_CLIENT: IndexShape = IndexShape {
+    name: "sqlite_autoindex_floors_1",
     tree: 12,
-    table: 0,
-    places: &[18, 9, 7, 0, 20, 8, 2, 3],
-    is_unique: false,
-};
-
-/// As stores made it before.
-const OLDER_BY_CHOICE: IndexShape = IndexShape {
-    name: "jobs_by_choice",
-    tree: 12,
-    table: 0,
-    places: &[18, 9, 7],
-    is_unique: false,
-};
-
-const VACUUMED_BY_KILLTIME: IndexShape = IndexShape {
-    name: "jobs_by_killtime",
-    tree: 13,
-    table: 0,
-    places: &[18, 8],
-    is_unique: false,
-};
-
-const VACUUMED_BY_CHOICE: IndexShape = IndexShape {
-    name: "jobs_by_choice",
-    tree: 14,
-    table: 0,
-    places: &[18, 9, 7, 0, 20, 8, 2, 3],
-    is_unique: false,
-};
-
-const VACUUMED_OLDER_BY_CHOICE: IndexShape = IndexShape {
-    name: "jobs_by_choice",
-    tree: 14,
-    table: 0,
-    places: &[18, 9, 7],
-    is_unique: false,
-};
-
-const CALLS_DIAL: IndexShape = IndexShape {
-    name: "sqlite_autoindex_calls_1",
-    tree: 14,
-    table: 13,
+    table: 11,
     places: &[1],
     is_unique: true,
 };
 
-const BARE_CALLS_DIAL: IndexShape = IndexShape {
+const CALLS_DIAL_12: IndexShape = IndexShape {
     name: "sqlite_autoindex_calls_1",
     tree: 12,
     table: 11,
@@ -250,91 +229,302 @@ const BARE_CALLS_DIAL: IndexShape = IndexShape {
     is_unique: true,
 };
 
-/// The indexes of the keys of the six tables.
-pub(crate) const KEY_INDEXES: &[IndexShape] = &[
-    HOLDS_MODEM,
-    HOLDS_JOB,
-    HOLDS_ID,
-    DOWN_MODEM,
-    REPLIES_KEY,
+const CALLS_DIAL_14: IndexShape = IndexShape {
+    name: "sqlite_autoindex_calls_1",
+    tree: 14,
+    table: 13,
+    places: &[1],
+    is_unique: true,
+};
+
+const CALLS_DIAL_16: IndexShape = IndexShape {
+    name: "sqlite_autoindex_calls_1",
+    tree: 16,
+    table: 15,
+    places: &[1],
+    is_unique: true,
+};
+
+// The indexes by which jobs are found, each in the trees where it may stand.
+
+const KILLTIME_11: IndexShape = IndexShape {
+    name: "jobs_by_killtime",
+    tree: 11,
+    table: 0,
+    places: &[18, 8],
+    is_unique: false,
+};
+
+const CHOICE_12: IndexShape = IndexShape {
+    name: "jobs_by_choice",
+    tree: 12,
+    table: 0,
+    places: &[18, 9, 7, 0, 20, 8, 2, 3],
+    is_unique: false,
+};
+
+const KILLTIME_13: IndexShape = IndexShape {
+    name: "jobs_by_killtime",
+    tree: 13,
+    table: 0,
+    places: &[18, 8],
+    is_unique: false,
+};
+
+const CHOICE_14: IndexShape = IndexShape {
+    name: "jobs_by_choice",
+    tree: 14,
+    table: 0,
+    places: &[18, 9, 7, 0, 20, 8, 2, 3],
+    is_unique: false,
+};
+
+const KILLTIME_15: IndexShape = IndexShape {
+    name: "jobs_by_killtime",
+    tree: 15,
+    table: 0,
+    places: &[18, 8],
+    is_unique: false,
+};
+
+const CHOICE_16: IndexShape = IndexShape {
+    name: "jobs_by_choice",
+    tree: 16,
+    table: 0,
+    places: &[18, 9, 7, 0, 20, 8, 2, 3],
+    is_unique: false,
+};
+
+/// As stores made it before.
+const OLDER_CHOICE_12: IndexShape = IndexShape {
+    name: "jobs_by_choice",
+    tree: 12,
+    table: 0,
+    places: &[18, 9, 7],
+    is_unique: false,
+};
+
+const OLDER_CHOICE_14: IndexShape = IndexShape {
+    name: "jobs_by_choice",
+    tree: 14,
+    table: 0,
+    places: &[18, 9, 7],
+    is_unique: false,
+};
+
+/// The tables and indexes that a database has, each in its tree.
+pub(crate) struct Layout {
+    pub(crate) tables: &'static [Shape],
+    pub(crate) indexes: &'static [IndexShape],
+}
+
+// ---- the first version, without floors
+
+/// The six tables, with the indexes of their keys alone.
+pub(crate) const FIRST_BARE: Layout = Layout {
+    tables: &[JOBS, GRANTS, HOLDS, DOWN, REPLIES, META],
+    indexes: &[HOLDS_MODEM, HOLDS_JOB, HOLDS_ID, DOWN_MODEM, REPLIES_KEY],
+};
+
+/// These with the indexes by which jobs are found.
+pub(crate) const FIRST_CORE: Layout = Layout {
+    tables: &[JOBS, GRANTS, HOLDS, DOWN, REPLIES, META],
+    indexes: &[
+        HOLDS_MODEM,
+        HOLDS_JOB,
+        HOLDS_ID,
+        DOWN_MODEM,
+        REPLIES_KEY,
+        KILLTIME_11,
+        CHOICE_12,
+    ],
+};
+
+/// As stores made them before.
+pub(crate) const FIRST_OLDER_CORE: Layout = Layout {
+    tables: &[JOBS, GRANTS, HOLDS, DOWN, REPLIES, META],
+    indexes: &[
+        HOLDS_MODEM,
+        HOLDS_JOB,
+        HOLDS_ID,
+        DOWN_MODEM,
+        REPLIES_KEY,
+        KILLTIME_11,
+        OLDER_CHOICE_12,
+    ],
+};
+
+/// All seven tables with all indexes.
+pub(crate) const FIRST_TABLES: Layout = Layout {
+    tables: &[JOBS, GRANTS, HOLDS, DOWN, REPLIES, META, CALLS_13],
+    indexes: &[
+        HOLDS_MODEM,
+        HOLDS_JOB,
+        HOLDS_ID,
+        DOWN_MODEM,
+        REPLIES_KEY,
+        KILLTIME_11,
+        CHOICE_12,
+        CALLS_DIAL_14,
+    ],
+};
+
+/// As stores made them before.
+pub(crate) const FIRST_OLDER: Layout = Layout {
+    tables: &[JOBS, GRANTS, HOLDS, DOWN, REPLIES, META, CALLS_13],
+    indexes: &[
+        HOLDS_MODEM,
+        HOLDS_JOB,
+        HOLDS_ID,
+        DOWN_MODEM,
+        REPLIES_KEY,
+        KILLTIME_11,
+        OLDER_CHOICE_12,
+        CALLS_DIAL_14,
+    ],
+};
+
+/// All seven, with the indexes of their keys alone.
+pub(crate) const FIRST_BARE_CALLS: Layout = Layout {
+    tables: &[JOBS, GRANTS, HOLDS, DOWN, REPLIES, META, CALLS_11],
+    indexes: &[
+        HOLDS_MODEM,
+        HOLDS_JOB,
+        HOLDS_ID,
+        DOWN_MODEM,
+        REPLIES_KEY,
+        CALLS_DIAL_12,
+    ],
+};
+
+/// All seven with all indexes, as VACUUM orders them.
+pub(crate) const FIRST_VACUUMED: Layout = Layout {
+    tables: &[JOBS, GRANTS, HOLDS, DOWN, REPLIES, META, CALLS_11],
+    indexes: &[
+        HOLDS_MODEM,
+        HOLDS_JOB,
+        HOLDS_ID,
+        DOWN_MODEM,
+        REPLIES_KEY,
+        CALLS_DIAL_12,
+        KILLTIME_13,
+        CHOICE_14,
+    ],
+};
+
+/// The same of those that stores made before.
+pub(crate) const FIRST_OLDER_VACUUMED: Layout = Layout {
+    tables: &[JOBS, GRANTS, HOLDS, DOWN, REPLIES, META, CALLS_11],
+    indexes: &[
+        HOLDS_MODEM,
+        HOLDS_JOB,
+        HOLDS_ID,
+        DOWN_MODEM,
+        REPLIES_KEY,
+        CALLS_DIAL_12,
+        KILLTIME_13,
+        OLDER_CHOICE_14,
+    ],
+};
+
+// ---- the second version
+
+/// The seven tables, with the indexes of their keys alone.
+pub(crate) const BARE: Layout = Layout {
+    tables: &[JOBS, GRANTS, HOLDS, DOWN, REPLIES, META, FLOORS],
+    indexes: &[
+        HOLDS_MODEM,
+        HOLDS_JOB,
+        HOLDS_ID,
+        DOWN_MODEM,
+        REPLIES_KEY,
+        FLOORS_CLIENT,
+    ],
+};
+
+/// These with the indexes by which jobs are found.
+pub(crate) const CORE: Layout = Layout {
+    tables: &[JOBS, GRANTS, HOLDS, DOWN, REPLIES, META, FLOORS],
+    indexes: &[
+        HOLDS_MODEM,
+        HOLDS_JOB,
+        HOLDS_ID,
+        DOWN_MODEM,
+        REPLIES_KEY,
+        FLOORS_CLIENT,
+        KILLTIME_13,
+        CHOICE_14,
+    ],
+};
+
+/// All eight tables with all indexes: those of a store.
+pub(crate) const OURS: Layout = Layout {
+    tables: &[JOBS, GRANTS, HOLDS, DOWN, REPLIES, META, FLOORS, CALLS_15],
+    indexes: &[
+        HOLDS_MODEM,
+        HOLDS_JOB,
+        HOLDS_ID,
+        DOWN_MODEM,
+        REPLIES_KEY,
+        FLOORS_CLIENT,
+        KILLTIME_13,
+        CHOICE_14,
+        CALLS_DIAL_16,
+    ],
+};
+
+/// All eight, with the indexes of their keys alone.
+pub(crate) const BARE_CALLS: Layout = Layout {
+    tables: &[JOBS, GRANTS, HOLDS, DOWN, REPLIES, META, FLOORS, CALLS_13],
+    indexes: &[
+        HOLDS_MODEM,
+        HOLDS_JOB,
+        HOLDS_ID,
+        DOWN_MODEM,
+        REPLIES_KEY,
+        FLOORS_CLIENT,
+        CALLS_DIAL_14,
+    ],
+};
+
+/// All eight with all indexes, as VACUUM orders them.
+pub(crate) const VACUUMED: Layout = Layout {
+    tables: &[JOBS, GRANTS, HOLDS, DOWN, REPLIES, META, FLOORS, CALLS_13],
+    indexes: &[
+        HOLDS_MODEM,
+        HOLDS_JOB,
+        HOLDS_ID,
+        DOWN_MODEM,
+        REPLIES_KEY,
+        FLOORS_CLIENT,
+        CALLS_DIAL_14,
+        KILLTIME_15,
+        CHOICE_16,
+    ],
+};
+
+// ---- which of them need what
+
+/// With `calls`, behind the indexes of jobs or without these.
+pub(crate) const WITH_CALLS: &[Layout] = &[
+    OURS,
+    BARE_CALLS,
+    FIRST_TABLES,
+    FIRST_BARE_CALLS,
+    FIRST_OLDER,
 ];
 
-/// These and the indexes by which jobs are found.
-pub(crate) const INDEXES: &[IndexShape] = &[
-    HOLDS_MODEM,
-    HOLDS_JOB,
-    HOLDS_ID,
-    DOWN_MODEM,
-    REPLIES_KEY,
-    JOBS_BY_KILLTIME,
-    JOBS_BY_CHOICE,
+/// With the indexes of jobs last, where these are to be made anew.
+pub(crate) const INDEXED_LAST: &[Layout] = &[
+    VACUUMED,
+    FIRST_VACUUMED,
+    FIRST_OLDER_VACUUMED,
+    FIRST_CORE,
+    FIRST_OLDER_CORE,
 ];
 
-/// These and the one of the key of the calls.
-pub(crate) const ALL_INDEXES: &[IndexShape] = &[
-    HOLDS_MODEM,
-    HOLDS_JOB,
-    HOLDS_ID,
-    DOWN_MODEM,
-    REPLIES_KEY,
-    JOBS_BY_KILLTIME,
-    JOBS_BY_CHOICE,
-    CALLS_DIAL,
-];
+/// Without `calls`, and with the indexes of jobs where these stand, or without them.
+pub(crate) const WITHOUT_CALLS: &[Layout] = &[CORE, BARE, FIRST_BARE];
 
-/// The indexes of the keys of all seven.
-pub(crate) const ALL_KEY_INDEXES: &[IndexShape] = &[
-    HOLDS_MODEM,
-    HOLDS_JOB,
-    HOLDS_ID,
-    DOWN_MODEM,
-    REPLIES_KEY,
-    BARE_CALLS_DIAL,
-];
-
-/// These and those by which jobs are found, as VACUUM orders them.
-pub(crate) const VACUUMED_INDEXES: &[IndexShape] = &[
-    HOLDS_MODEM,
-    HOLDS_JOB,
-    HOLDS_ID,
-    DOWN_MODEM,
-    REPLIES_KEY,
-    BARE_CALLS_DIAL,
-    VACUUMED_BY_KILLTIME,
-    VACUUMED_BY_CHOICE,
-];
-
-/// The indexes of the six tables, as stores made them before.
-pub(crate) const OLDER_INDEXES: &[IndexShape] = &[
-    HOLDS_MODEM,
-    HOLDS_JOB,
-    HOLDS_ID,
-    DOWN_MODEM,
-    REPLIES_KEY,
-    JOBS_BY_KILLTIME,
-    OLDER_BY_CHOICE,
-];
-
-/// These and the one of the key of the calls.
-pub(crate) const ALL_OLDER_INDEXES: &[IndexShape] = &[
-    HOLDS_MODEM,
-    HOLDS_JOB,
-    HOLDS_ID,
-    DOWN_MODEM,
-    REPLIES_KEY,
-    JOBS_BY_KILLTIME,
-    OLDER_BY_CHOICE,
-    CALLS_DIAL,
-];
-
-/// The same, as VACUUM orders them.
-pub(crate) const VACUUMED_OLDER_INDEXES: &[IndexShape] = &[
-    HOLDS_MODEM,
-    HOLDS_JOB,
-    HOLDS_ID,
-    DOWN_MODEM,
-    REPLIES_KEY,
-    BARE_CALLS_DIAL,
-    VACUUMED_BY_KILLTIME,
-    VACUUMED_OLDER_BY_CHOICE,
-];
+/// The first version with the indexes of jobs and without `calls`.
+pub(crate) const FIRST_INDEXED: &[Layout] = &[FIRST_CORE, FIRST_OLDER_CORE];

@@ -37,6 +37,9 @@ pub const CREATE_CHOICE_INDEX: &str =
 pub const CREATE_CALLS: &str =
     "CREATE TABLE calls (dial TEXT PRIMARY KEY NOT NULL, open INTEGER NOT NULL) STRICT";
 
+pub const CREATE_FLOORS: &str =
+    "CREATE TABLE floors (client TEXT PRIMARY KEY NOT NULL, upto INTEGER NOT NULL) STRICT";
+
 pub const DROP_CALLS: &str = "DROP TABLE calls";
 
 pub const DROP_CHOICE_INDEX: &str = "DROP INDEX jobs_by_choice";
@@ -44,7 +47,7 @@ pub const DROP_CHOICE_INDEX: &str = "DROP INDEX jobs_by_choice";
 pub const DROP_KILLTIME_INDEX: &str = "DROP INDEX jobs_by_killtime";
 
 pub const INSERT_META: &str =
-    "INSERT INTO meta (one, clock, next_job, next_grant, version) VALUES (1, 0, 1, 1, 1)";
+    "INSERT INTO meta (one, clock, next_job, next_grant, version) VALUES (1, 0, 1, 1, 2)";
 
 // ---- jobs
 
@@ -145,6 +148,16 @@ pub const SELECT_REPLY: &str =
 pub const INSERT_REPLY: &str =
     "INSERT INTO replies (client, number, said, status, body) VALUES (?1, ?2, ?3, ?4, ?5)";
 
+pub const DELETE_REPLIES: &str = "DELETE FROM replies WHERE client = ?1 AND number <= ?2";
+
+// ---- floors
+
+pub const SELECT_FLOOR: &str = "SELECT upto FROM floors WHERE client = ?1";
+
+pub const DELETE_FLOOR: &str = "DELETE FROM floors WHERE client = ?1";
+
+pub const INSERT_FLOOR: &str = "INSERT INTO floors (client, upto) VALUES (?1, ?2)";
+
 // ---- the clock and the next numbers
 
 pub const SELECT_META: &str = "SELECT clock, next_job, next_grant FROM meta WHERE one = 1";
@@ -158,6 +171,8 @@ pub const UPDATE_META: &str =
 // ---- a database that is found
 
 pub const SELECT_VERSION: &str = "SELECT version FROM meta";
+
+pub const UPDATE_VERSION: &str = "UPDATE meta SET version = 2";
 
 pub const SELECT_LOST: &str =
     "SELECT holds.id FROM holds LEFT JOIN jobs ON jobs.job = holds.job WHERE jobs.job IS NULL";

@@ -1,5 +1,5 @@
 -- What the statements do by which a store comes to a database.
-use Rattle.std.proofs.Common.{◌≡◌, ◌≤◌, inl, inr, ℕ, List, [], ◌∷◌, codes, map, filter, true, Ok, Err, IsErr, IsErrAnd, MatchResult, Result, refl, sym, subst, ap, ◌∙◌}
+use Rattle.std.proofs.Common.{◌≡◌, ◌≢◌, ◌≤◌, inl, inr, ℕ, List, [], ◌∷◌, codes, map, filter, true, arith, Ok, Err, IsErr, IsErrAnd, MatchResult, Result, refl, sym, subst, ap, ◌∙◌}
 use Rattle.std.specs.List.Sorted.{IsPermutation}
 use Rattle.std.proofs.lemmas.List.Sorted.{IsPermutation-sym}
 use Rattle.sqlite.specs.Effect.{Database, IsDatabase}
@@ -11,21 +11,25 @@ use Rattle.sqlite_trees.specs.Tree.{Trees}
 use Rattle.sqlite.proofs.Callers.{one_permutation, reads_as}
 use Rattle.sqlite_catalog.specs.Change.{KeepsRows}
 use Rattle.sqlite_rules.specs.Lists.{Has}
-use Rattle.fax_core.specs.Queue.{Queue, Entry, empty_queue}
+use Rattle.fax_core.specs.Ledger.{Ledger, empty_ledger}
+use Rattle.fax_core.specs.Queue.{Queue, empty_queue}
 use Rattle.fax_schema.specs.declared.statements.TheConstants.{SELECT_VERSION}
 use Rattle.fax_store.specs.declared.store.TheConstants.{BEGIN, COMMIT}
 use Rattle.fax_tables.specs.declared.fault.StoreFault.{StoreFault}
 use Rattle.fax_tables.specs.declared.fault.StoreFault.TheVariants.{Strange}
 use Rattle.fax_tables.specs.Row.{number}
-use Rattle.fax_schema.specs.Schema.{AreOurs, no_tables, our_tables, core_tables, calls_tree, meta_tree}
-use Rattle.fax_tables.specs.Tables.{GoesOn, HasEmptyTables, HasNewCalls, IsAtRest, RowsMean, TablesMean}
-use Rattle.fax_tables.proofs.CreateLemmas.{commit_kept, goes_on, kept_rows, none_at_first, refused_keeps}
+use Rattle.fax_schema.specs.ByRowid.{IsByRowid}
+use Rattle.fax_schema.specs.Schema as schema
+use Rattle.fax_schema.specs.Schema.{AreInOrder, AreOurs, alike_list, bare_with_calls, first_bare, first_bare_calls, has_floors, no_tables, our_tables, calls_tree, floors_tree, meta_tree}
+use Rattle.fax_tables.specs.Tables.{GoesOn, HasEmptyTables, HasNewCalls, HasVersion, IsAtRest, Renews, RowsMean, TablesMean, floors_in, meta_as, version_of, versions}
+use Rattle.fax_tables.proofs.CreateLemmas.{commit_kept, floors_there, goes_on, kept_but_last, kept_rows, none_at_first, refused_keeps, renews_then}
 use Rattle.fax_tables.proofs.StopLemmas.{nothing_then}
 use Rattle.fax_tables.proofs.TablesLemmas.{same_database}
 use Rattle.fax_tables.specs.Stop.{HoldsBack}
 use Rattle.fax_schema.proofs.SelectLemmas.{answers}
 use Rattle.sqlite_schema.specs.declared.schema.Schema.{Schema}
-use Rattle.fax_store.specs.Adopt.{AreWhole, Goes, HasNone, HasWhole, HoldsCanBeCalled, IsFilled, IsIn, IsOurs, IsWhole, Leaves, QueuesAreTakeable, versions}
+use Rattle.sqlite_schema.specs.declared.schema.Table.{Table}
+use Rattle.fax_store.specs.Adopt.{AreTaken, Goes, HasNone, HasTaken, HoldsCanBeCalled, IsFilled, IsIn, IsOurs, IsRaisable, IsRaisableFrom, IsTaken, Leaves, MeansAs, QueuesAreTakeable}
 use Rattle.fax_store.specs.Store.{CommitsNothing, GoesBack, MayMake, RowsFound, Serves}
 use Rattle.fax_store.proofs.ControlLemmas.{begins, commits}
 use Rattle.fax_store.proofs.HeldLemmas.{held_still, rows_callable}
@@ -59,14 +63,14 @@ module _ (s0 s1 : State) (none : s0.now.schema ≡ no_tables) (n : ℕ) (began :
     pub creation_kept : (HasEmptyTables no_tables s1 → KeepsCommit s1 s2) → KeepsCommit s0 s2
     creation_kept kept = commit_kept s0 s1 s2 (starts s0 s1 n began) (kept starts_empty)
 
-    module _ (created : HasEmptyTables no_tables s1 → GoesOn s1 s2 × TablesMean s2.now empty_queue []) (s3 : State) where
+    module _ (created : HasEmptyTables no_tables s1 → GoesOn s1 s2 × TablesMean s2.now empty_queue empty_ledger) (s3 : State) where
       pub commit_kept_before : (e : Error) → Executes COMMIT.now [] s2 s3 (Err e) → KeepsCommit s0 s3
       commit_kept_before e failed = commit_kept s0 s1 s3 (starts s0 s1 n began) (commit_kept s1 s2 s3 (created starts_empty).0 (refused_keeps s2 s3 COMMIT.now e failed))
 
-      pub tables_made : (k : ℕ) → Executes COMMIT.now [] s2 s3 (Ok k) → IsAtRest s3 empty_queue []
+      pub tables_made : (k : ℕ) → Executes COMMIT.now [] s2 s3 (Ok k) → IsAtRest s3 empty_queue empty_ledger
       tables_made k committed =
           let done = commits s2 s3 k committed in
-          record { autocommit = done.mode; settled = done.now_is ∙ sym done.committed_is; means = same_tables empty_queue [] done.now_is (created starts_empty).1 }
+          record { autocommit = done.mode; settled = done.now_is ∙ sym done.committed_is; means = same_tables empty_queue empty_ledger done.now_is (created starts_empty).1 }
 
 -- ---- one step after the other
 
@@ -76,10 +80,25 @@ pub goes_then : (a b c : State) (Before Between After : Schema → Type 0) → (
 goes_then a b c Before Between After first cleaner (Ok x) next clean was =
     let one = first (cleaner clean) was in
     let two = next clean (record { is_open = one.0.is_open; inside = one.0.mode; schema_is = one.1.0 }) in
-    (goes_on a b c one.0 two.0, (two.1.0, kept_rows core_tables.tables a.now.trees b.now.trees c.now.trees one.1.1 two.1.1))
+    (goes_on a b c one.0 two.0, (two.1.0, renews_then a.now b.now c.now one.1.1 two.1.1))
 goes_then a b c Before Between After first cleaner (Err e) next clean was =
     let one = first (cleaner clean) was in
     commit_kept a b c one.0 (next clean (record { is_open = one.0.is_open; inside = one.0.mode; schema_is = one.1.0 }))
+
+-- tables without the indexes of jobs are in order
+pub in_order : (schema : Schema) → Has (bare_with_calls ∷ first_bare_calls ∷ first_bare ∷ []) schema → AreInOrder schema
+in_order schema (inl is) = inl (inr (inl is))
+in_order schema (inr (inl is)) = inl (inr (inr (inr (inl is))))
+in_order schema (inr (inr (inl is))) = inr (inr (inr (inl is)))
+in_order schema (inr (inr (inr none))) = absurd none
+
+-- where a step was done, the transaction goes on over these tables
+pub still_in : (a b : State) (Between : Schema → Type 0) → GoesOn a b × Leaves Between a.now b.now → IsIn Between b
+still_in a b Between it = record { is_open = it.0.is_open; inside = it.0.mode; schema_is = it.1.0 }
+
+-- a step that commits nothing, and then one that doesn't from what it leaves
+pub holds_then : (a b c : State) (Before Between : State → Type 0) → HoldsBack Before a b → (HasCleanDisk b → HasCleanDisk a) → (HasCleanDisk b → Before a → Between b) → HoldsBack Between b c → HoldsBack Before a c
+holds_then a b c Before Between first cleaner moves next was = nothing_then a b c (first was) (next (λ clean. moves clean (was (cleaner clean))))
 
 -- a step that is known to be refused
 pub refused_step : {A E : Type 0} (r : Result A E) (P : A → Type 0) (Q : Type 0) → IsErr r → Q → MatchResult r P (λ _. Q)
@@ -98,9 +117,18 @@ none_still a b has same = record {
   none = ap (λ (d : Database). d.trees calls_tree) same.0.now_is ∙ has.none;
 }
 
--- rows that are kept in six tables mean what they meant
-pub kept_means : (a b : Database) (m : Queue) (k : List Entry) → KeepsRows core_tables.tables a.trees b.trees → RowsMean a m k → RowsMean b m k
-kept_means a b m k kept mean = (mean.0, mean.1, kept_rows core_tables.tables (mean.0).trees a.trees b.trees mean.2 kept)
+-- rows that were kept, the other way round
+kept_back : (tables : List Table) (a b : Trees) → KeepsRows tables a b → KeepsRows tables b a
+kept_back [] a b kept = tt
+kept_back (t ∷ ts) a b kept = (sym kept.0, kept_back ts a b kept.1)
+
+-- the rows that are alike in each version stay
+alike : (db after : Database) → Renews db after → KeepsRows alike_list db.trees after.trees
+alike db after renews = kept_but_last alike_list schema.meta db.trees after.trees renews.rows
+
+-- tables with floors are of the second version
+second : (db : Database) → has_floors db.schema ≡ true → version_of db.schema ≢ 1
+second db there is = let two : version_of db.schema ≡ 2 = rw there refl in absurd (let e : 2 ≡ 1 = sym two ∙ is in omega arith)
 
 module _ (s0 s1 : State) (ours : AreOurs s0.now.schema) (n : ℕ) (began : Executes BEGIN.now [] s0 s1 (Ok n)) where
   pub starts_ours : IsIn AreOurs s1
@@ -116,6 +144,9 @@ module _ (s0 s1 : State) (ours : AreOurs s0.now.schema) (n : ℕ) (began : Execu
       pub goes_on_renewed : GoesOn s0 s2
       goes_on_renewed = goes_on s0 s1 s2 (starts s0 s1 n began) (made starts_ours).0
 
+      abbrev version : ℕ
+      version = version_of s0.now.schema
+
       renewed : HasNewCalls s0.now s2.now
       renewed = subst (λ (d : Database). HasNewCalls d s2.now) (begins s0 s1 n began).1.now_is (made starts_ours).1
 
@@ -123,41 +154,61 @@ module _ (s0 s1 : State) (ours : AreOurs s0.now.schema) (n : ℕ) (began : Execu
       has_none = record { is_open = goes_on_renewed.is_open; inside = goes_on_renewed.mode; schema_is = renewed.schema_is; sound = renewed.sound; none = renewed.none }
 
       same_versions : versions s2.now ≡ versions s0.now
-      same_versions = ap (map (λ r. column r 5)) renewed.rows.1.1.1.1.1.0
+      same_versions = ap (map (λ r. column r 5)) renewed.renews.rows.1.1.1.1.1.0
 
-      pub still_version : versions s0.now ≡ number 1 ∷ [] → versions s2.now ≡ number 1 ∷ []
-      still_version version = same_versions ∙ version
+      same_floors : s2.now.trees floors_tree ≡ floors_in s0.now
+      same_floors = sym (floors_there s2.now our_tables renewed.schema_is refl) ∙ renewed.renews.floors
+
+      pub still_version : HasVersion s0.now → versions s2.now ≡ number version ∷ []
+      still_version is = same_versions ∙ is
 
       pub still_callable : HoldsCanBeCalled s0.now → HoldsCanBeCalled s2.now
-      still_callable = held_still s0.now s2.now renewed.rows
+      still_callable = held_still s0.now s2.now (alike s0.now s2.now renewed.renews)
 
-      pub still_means : (m : Queue) (k : List Entry) → RowsMean s0.now m k → RowsMean s2.now m k
-      still_means m k = kept_means s0.now s2.now m k renewed.rows
+      pub still_means : (m : Queue) (k : Ledger) → RowsMean s0.now m k → MeansAs version s2.now m k
+      still_means m k mean = record {
+        full = mean.full;
+        means = mean.means;
+        rows = kept_rows alike_list s2.now.trees s0.now.trees (mean.full).trees (kept_back alike_list s0.now.trees s2.now.trees (alike s0.now s2.now renewed.renews)) mean.same.rows;
+        meta = mean.same.meta ∙ ap (meta_as version) (sym renewed.renews.rows.1.1.1.1.1.0);
+        floors = mean.same.floors ∙ sym same_floors;
+      }
+
+      -- meta can be raised in the one where it can in the other
+      raisable : IsRaisable s0.now → IsRaisableFrom version s2.now
+      raisable (inl there) = inl (second s0.now there)
+      raisable (inr by) = inr (subst IsByRowid (sym renewed.renews.rows.1.1.1.1.1.0) by)
 
       pub filling_kept : (s3 : State) → KeepsCommit s2 s3 → KeepsCommit s0 s3
       filling_kept s3 kept = commit_kept s0 s2 s3 goes_on_renewed kept
 
-      module _ (s3 : State) (filled : GoesOn s2 s3 × IsFilled s2.now s3.now) where
+      module _ (s3 : State) (filled : GoesOn s2 s3 × IsFilled version s2.now s3.now) where
         pub was_ours : IsOurs s0.now
         was_ours = record {
           schema_is = ours;
-          version = sym same_versions ∙ filled.1.version;
-          held = λ hold there. let it = filled.1.held hold (subst (λ rows. Has rows hold) (sym renewed.rows.1.1.0) there) in (it.0, subst (λ rows. Has rows it.0) renewed.rows.0 it.1, it.2);
+          version = sym same_versions ∙ filled.1.version_is;
+          held = λ hold there. let it = filled.1.held hold (subst (λ rows. Has rows hold) (sym renewed.renews.rows.1.1.0) there) in (it.0, subst (λ rows. Has rows it.0) renewed.renews.rows.0 it.1, it.2);
         }
 
-        pub is_whole : IsWhole s0.now s3.now
-        is_whole = let whole = filled.1.whole in record { schema_is = whole.schema_is; sound = whole.sound; rows = kept_rows core_tables.tables s0.now.trees s2.now.trees s3.now.trees renewed.rows whole.rows }
+        pub is_taken : IsTaken s0.now s3.now
+        is_taken = let it = filled.1 in record {
+          schema_is = it.schema_is;
+          sound = it.sound;
+          rows = kept_rows alike_list s0.now.trees s2.now.trees s3.now.trees (alike s0.now s2.now renewed.renews) it.rows;
+          meta = λ can. it.meta (raisable can) ∙ ap (meta_as version) renewed.renews.rows.1.1.1.1.1.0;
+          floors = it.floors ∙ same_floors;
+        }
 
         pub not_taken : (s4 : State) (e : Error) → Executes COMMIT.now [] s3 s4 (Err e) → KeepsCommit s0 s4
         not_taken s4 e failed = commit_kept s0 s3 s4 (goes_on s0 s2 s3 goes_on_renewed filled.0) (refused_keeps s3 s4 COMMIT.now e failed)
 
         module _ (s4 : State) (k : ℕ) (committed : Executes COMMIT.now [] s3 s4 (Ok k)) where
-          pub has_whole : HasWhole s4 s0.now
-          has_whole =
+          pub has_taken : HasTaken s4 s0.now
+          has_taken =
               let done = commits s3 s4 k committed in
-              record { autocommit = done.mode; settled = done.now_is ∙ sym done.committed_is; whole = subst (λ (d : Database). IsWhole s0.now d) (sym done.now_is) is_whole }
+              record { autocommit = done.mode; settled = done.now_is ∙ sym done.committed_is; taken = subst (λ (d : Database). IsTaken s0.now d) (sym done.now_is) is_taken }
 
-          pub whole_means : (m : Queue) (kept : List Entry) → TablesMean s3.now m kept → IsAtRest s4 m kept
+          pub whole_means : (m : Queue) (kept : Ledger) → TablesMean s3.now m kept → IsAtRest s4 m kept
           whole_means m kept means =
               let done = commits s3 s4 k committed in
               record { autocommit = done.mode; settled = done.now_is ∙ sym done.committed_is; means = same_tables m kept done.now_is means }
@@ -174,30 +225,30 @@ every [] = refl
 every (x ∷ xs) = ap (λ ys. x ∷ ys) (every xs)
 
 -- the one value of a list of one row with one value
-one_version : (rows : List Row) → map (λ r. column r 5 ∷ []) rows ≡ (number 1 ∷ []) ∷ [] → map (λ r. column r 5) rows ≡ number 1 ∷ []
-one_version [] e = absurd cc
-one_version (r ∷ []) e = let head : column r 5 ≡ number 1 = cc in ap (λ v. v ∷ []) head
-one_version (r ∷ s ∷ rows) e = absurd cc
+one_version : (v : ℕ) (rows : List Row) → map (λ r. column r 5 ∷ []) rows ≡ (number v ∷ []) ∷ [] → map (λ r. column r 5) rows ≡ number v ∷ []
+one_version v [] e = absurd cc
+one_version v (r ∷ []) e = let head : column r 5 ≡ number v = cc in ap (λ x. x ∷ []) head
+one_version v (r ∷ s ∷ rows) e = absurd cc
 
-in_one_row : (rows : List Row) → map (λ r. column r 5) rows ≡ number 1 ∷ [] → map (λ r. column r 5 ∷ []) rows ≡ (number 1 ∷ []) ∷ []
-in_one_row [] e = absurd cc
-in_one_row (r ∷ []) e = let head : column r 5 ≡ number 1 = cc in ap (λ v. (v ∷ []) ∷ []) head
-in_one_row (r ∷ s ∷ rows) e = absurd cc
+in_one_row : (v : ℕ) (rows : List Row) → map (λ r. column r 5) rows ≡ number v ∷ [] → map (λ r. column r 5 ∷ []) rows ≡ (number v ∷ []) ∷ []
+in_one_row v [] e = absurd cc
+in_one_row v (r ∷ []) e = let head : column r 5 ≡ number v = cc in ap (λ x. (x ∷ []) ∷ []) head
+in_one_row v (r ∷ s ∷ rows) e = absurd cc
 
-module _ (old new : State) (ours : old.now.schema ≡ our_tables) (rows : List Row) (shown : Shown SELECT_VERSION.now [] old new rows) where
+module _ (v : ℕ) (old new : State) (ours : old.now.schema ≡ our_tables) (rows : List Row) (shown : Shown SELECT_VERSION.now [] old new rows) where
   shown_versions : IsPermutation (map (λ r. column r 5 ∷ []) (old.now.trees meta_tree)) rows
   shown_versions =
       let read = reads_as SELECT_VERSION.now [] old new our_tables ours _ select_version.command select_version.plain select_version.unlisted rows shown in
       subst (λ t. IsPermutation (map (λ r. column r 5 ∷ []) t) rows) (every (old.now.trees meta_tree))
       (answers meta_tree [] version_project [] old.now (old.now.trees meta_tree) refl (codes "version" ∷ []) rows read)
 
-  pub version_found : rows ≡ (number 1 ∷ []) ∷ [] → versions old.now ≡ number 1 ∷ []
+  pub version_found : rows ≡ (number v ∷ []) ∷ [] → versions old.now ≡ number v ∷ []
   version_found is =
-      one_version (old.now.trees meta_tree)
-      (one_permutation (number 1 ∷ []) _ (subst (λ all. IsPermutation all (map (λ r. column r 5 ∷ []) (old.now.trees meta_tree))) is (IsPermutation-sym _ _ shown_versions)))
+      one_version v (old.now.trees meta_tree)
+      (one_permutation (number v ∷ []) _ (subst (λ all. IsPermutation all (map (λ r. column r 5 ∷ []) (old.now.trees meta_tree))) is (IsPermutation-sym _ _ shown_versions)))
 
-  pub version_shown : versions old.now ≡ number 1 ∷ [] → rows ≡ (number 1 ∷ []) ∷ []
-  version_shown is = one_permutation (number 1 ∷ []) rows (subst (λ all. IsPermutation all rows) (in_one_row (old.now.trees meta_tree) is) shown_versions)
+  pub version_shown : versions old.now ≡ number v ∷ [] → rows ≡ (number v ∷ []) ∷ []
+  version_shown is = one_permutation (number v ∷ []) rows (subst (λ all. IsPermutation all rows) (in_one_row v (old.now.trees meta_tree) is) shown_versions)
 
 -- ---- a stop
 
@@ -214,10 +265,10 @@ module _ (s0 s1 : State) (none : s0.now.schema ≡ no_tables) (n : ℕ) (survive
   pub tables_hold_back : CommitsNothing s0 s2
   tables_hold_back = nothing_then s0 s1 s2 (begin_nothing s0 s1 survives) (made (λ clean. starts_empty s0 s1 none n (began clean)))
 
-  pub tables_stop : (HasCleanDisk s2 → HasCleanDisk s1) → (HasCleanDisk s2 → HasEmptyTables no_tables s1 → GoesOn s1 s2 × TablesMean s2.now empty_queue [])
-      → (s3 : State) → Survives s2 s3 (CommitsBy COMMIT.now [] s2) → MayMake s0 s3 (λ found. RowsFound found empty_queue [])
+  pub tables_stop : (HasCleanDisk s2 → HasCleanDisk s1) → (HasCleanDisk s2 → HasEmptyTables no_tables s1 → GoesOn s1 s2 × TablesMean s2.now empty_queue empty_ledger)
+      → (s3 : State) → Survives s2 s3 (CommitsBy COMMIT.now [] s2) → MayMake s0 s3 (λ found. RowsFound found empty_queue empty_ledger)
   tables_stop cleaner done s3 committing found may =
-      let here : HasCleanDisk s2 → GoesOn s1 s2 × TablesMean s2.now empty_queue [] = λ clean. done clean (starts_empty s0 s1 none n (began (cleaner clean))) in
+      let here : HasCleanDisk s2 → GoesOn s1 s2 × TablesMean s2.now empty_queue empty_ledger = λ clean. done clean (starts_empty s0 s1 none n (began (cleaner clean))) in
       elim (commit_makes s2 s3 committing (λ clean. (here clean).0.mode) found may) [
         | inl before ↦ inl (tables_hold_back found before)
         | inr it ↦ inr (s2.now, sym it.1, (here it.0).1)
@@ -233,26 +284,38 @@ module _ (s0 s1 : State) (ours : AreOurs s0.now.schema) (n : ℕ) (survives : Su
     pub filling_holds_back : CommitsNothing s0 s3
     filling_holds_back = nothing_then s0 s2 s3 renewing_holds_back (fills (λ clean. has_none s0 s1 ours n (began (cleaner clean)) s2 (done clean)))
 
-    pub taking_stops : (HasCleanDisk s3 → HasCleanDisk s2) → (HasCleanDisk s3 → HasNone s2 → GoesOn s2 s3 × IsFilled s2.now s3.now)
-        → (s4 : State) → Survives s3 s4 (CommitsBy COMMIT.now [] s3) → MayMake s0 s4 (AreWhole s0.now)
+    pub taking_stops : (HasCleanDisk s3 → HasCleanDisk s2) → (HasCleanDisk s3 → HasNone s2 → GoesOn s2 s3 × IsFilled (version_of s0.now.schema) s2.now s3.now)
+        → (s4 : State) → Survives s3 s4 (CommitsBy COMMIT.now [] s3) → MayMake s0 s4 (AreTaken s0.now)
     taking_stops cleaned filled s4 committing found may =
         let start : (clean : HasCleanDisk s3) → Executes BEGIN.now [] s0 s1 (Ok n) = λ clean. began (cleaner (cleaned clean)) in
-        let fill : HasCleanDisk s3 → GoesOn s2 s3 × IsFilled s2.now s3.now = λ clean. filled clean (has_none s0 s1 ours n (start clean) s2 (done (cleaned clean))) in
+        let fill : HasCleanDisk s3 → GoesOn s2 s3 × IsFilled (version_of s0.now.schema) s2.now s3.now = λ clean. filled clean (has_none s0 s1 ours n (start clean) s2 (done (cleaned clean))) in
         elim (commit_makes s3 s4 committing (λ clean. (fill clean).0.mode) found may) [
           | inl before ↦ inl (filling_holds_back found before)
           | inr it ↦
               (let clean = it.0 in
-              inr (s3.now, sym it.1, was_ours s0 s1 ours n (start clean) s2 (done (cleaned clean)) s3 (fill clean), is_whole s0 s1 ours n (start clean) s2 (done (cleaned clean)) s3 (fill clean)))
+              inr (s3.now, sym it.1, was_ours s0 s1 ours n (start clean) s2 (done (cleaned clean)) s3 (fill clean), is_taken s0 s1 ours n (start clean) s2 (done (cleaned clean)) s3 (fill clean)))
         ]
 
 -- Rows have one meaning: the tables of any database that has them are ours, where those of one are.
-pub rows_reopened : (db : Database) (m : Queue) (k : List Entry) → RowsFound db.trees m k → IsDatabase db → TablesMean db m k
+pub rows_reopened : (db : Database) (m : Queue) (k : Ledger) → RowsFound db.trees m k → IsDatabase db → TablesMean db m k
 rows_reopened db m k rows sound = same_tables m k (same_database db rows.0 (sym rows.1) sound rows.2.sound) rows.2
 
 -- and it has our tables, whose rows mean this
-pub means_rows : (db : Database) (m : Queue) (k : List Entry) → TablesMean db m k → AreOurs db.schema × RowsMean db m k
-means_rows db m k means = (inl (inl (inl means.schema)), (db, means, (refl, (refl, (refl, (refl, (refl, (refl, tt))))))))
+pub means_rows : (db : Database) (m : Queue) (k : Ledger) → TablesMean db m k → AreOurs db.schema × RowsMean db m k
+means_rows db m k means = (
+  inl (inl (inl means.schema)),
+  record {
+    version = ap (map (λ r. column r 5)) means.meta ∙ ap (λ s. number (version_of s) ∷ []) (sym means.schema);
+    full = db;
+    means = means;
+    same = record {
+      rows = (refl, (refl, (refl, (refl, (refl, tt)))));
+      meta = ap (λ s. meta_as (version_of s) (db.trees meta_tree)) (sym means.schema);
+      floors = sym (floors_there db our_tables means.schema refl);
+    };
+  },
+)
 
 -- meta tells the version, and each hold has its job
 pub queues_are_takeable : QueuesAreTakeable
-queues_are_takeable db m k ours mean = record { schema_is = ours; version = ap (map (λ r. column r 5)) (mean.2.1.1.1.1.1.0 ∙ mean.1.meta); held = rows_callable db m k mean }
+queues_are_takeable db m k ours mean = record { schema_is = ours; version = mean.version; held = rows_callable db m k (mean.full, mean.means, kept_back alike_list db.trees (mean.full).trees mean.same.rows) }

@@ -32,6 +32,8 @@ use Rattle.fax_tables.proofs.CreateLemmas.{goes_on, inside_shown, kept_rows}
 use Rattle.fax_schema.proofs.EditLemmas.{has_mapped, none_shown, shown_one}
 use Rattle.fax_schema.proofs.SelectLemmas.{passes, show, answers}
 use Rattle.fax_tables.proofs.TablesLemmas.{by_rowid_put, counted_as}
+use Rattle.sqlite.specs.Program.{overlay}
+use Rattle.fax_schema.proofs.StatementForms.{Selects}
 use Rattle.fax_schema.proofs.UpdateLemmas.{gone_project, deleted}
 use Rattle.fax_schema.proofs.WriteLemmas.{KeepsOthers, unreferred, inserts}
 use Rattle.fax_schema.proofs.GrantTexts.{call_tests, call_project, call_terms, select_open, delete_calls, insert_calls}
@@ -106,7 +108,7 @@ module _ (dial : List ℕ) where
   abbrev pub params : Row
   params = Text dial ∷ []
 
-  is_asked : (project : List _) (r : Row) → passes calls_tree call_tests project params r ≡ (are_equal (column (drop 1 r) 0) (Text dial) && true)
+  pub is_asked : (project : List _) (r : Row) → passes calls_tree call_tests project params r ≡ (are_equal (column (drop 1 r) 0) (Text dial) && true)
   is_asked project [] = refl
   is_asked project (i ∷ r) = refl
 
@@ -123,13 +125,13 @@ module _ (dial : List ℕ) where
   abbrev shows : Row → Row
   shows = show calls_tree call_tests call_project params
 
-  -- what is found is the count, or nothing where that is 0
-  pub calls_found : (old new : State) (count : List ℕ → ℕ) → old.now.schema ≡ our_tables → AreCounted count (map (drop 1) (old.now.trees calls_tree)) → (found : Option Row) → FindsRow SELECT_OPEN.now params old new found
-      → MatchOption found (count dial ≡ 0) (λ row. row ≡ number (count dial) ∷ [])
-  calls_found old new count has counted found h = tells found h.2
+  -- what is found in such a table is the count, or nothing where that is 0
+  pub counted_found : (tree : ℕ) (sql : List ℕ) (names : List (List ℕ)) → Selects sql tree call_tests call_project names → (old new : State) → overlay old.now.trees [] tree ≡ old.now.trees tree → (count : List ℕ → ℕ) → old.now.schema ≡ our_tables
+      → AreCounted count (map (drop 1) (old.now.trees tree)) → (found : Option Row) → FindsRow sql params old new found → MatchOption found (count dial ≡ 0) (λ row. row ≡ number (count dial) ∷ [])
+  counted_found tree sql names selects old new plain count has counted found h = tells found h.2
     where
-      shown : IsPermutation (map shows (filter pass (old.now.trees calls_tree))) h.0
-      shown = answers calls_tree call_tests call_project params old.now (old.now.trees calls_tree) refl [] h.0 (reads_as SELECT_OPEN.now params old new our_tables has _ select_open.command select_open.plain select_open.unlisted h.0 h.1)
+      shown : IsPermutation (map shows (filter pass (old.now.trees tree))) h.0
+      shown = answers tree call_tests call_project params old.now (old.now.trees tree) plain names h.0 (reads_as sql params old new our_tables has _ selects.command selects.plain selects.unlisted h.0 h.1)
 
       tells : (found : Option Row) → MatchOption found (h.0 ≡ []) (Has h.0) → MatchOption found (count dial ≡ 0) (λ row. row ≡ number (count dial) ∷ [])
       tells None empty = none (count dial) refl
@@ -137,24 +139,28 @@ module _ (dial : List ℕ) where
           none : (n : ℕ) → count dial ≡ n → count dial ≡ 0
           none zero e = e
           none (suc n) e =
-              let there = has_mapped (drop 1) (old.now.trees calls_tree) (call_columns dial (count dial)) (counted.all dial (omega (arith, e))) in
-              absurd (let off = sym (of_number call_project there.0 dial (count dial) (sym there.2)) ∙ none_shown pass shows (old.now.trees calls_tree) h.0 shown empty there.0 there.1 in
+              let there = has_mapped (drop 1) (old.now.trees tree) (call_columns dial (count dial)) (counted.all dial (omega (arith, e))) in
+              absurd (let off = sym (of_number call_project there.0 dial (count dial) (sym there.2)) ∙ none_shown pass shows (old.now.trees tree) h.0 shown empty there.0 there.1 in
               let on = (bytes_eq-Decides dial dial).1 refl in cc)
       tells (Some row) there =
-          let one = shown_one pass shows (old.now.trees calls_tree) h.0 shown row there in
-          let it = counted.each (drop 1 one.0) (mapped_has (drop 1) (old.now.trees calls_tree) one.0 one.1) in
+          let one = shown_one pass shows (old.now.trees tree) h.0 shown row there in
+          let it = counted.each (drop 1 one.0) (mapped_has (drop 1) (old.now.trees tree) one.0 one.1) in
           let same : it.0 ≡ dial = (bytes_eq-Decides it.0 dial).0 (sym (of_number call_project one.0 it.0 (count it.0) it.1) ∙ one.2) in
           one.3 ∙ shown_as one.0 it.0 (count it.0) it.1 ∙ ap (λ d. number (count d) ∷ []) same
 
+  pub calls_found : (old new : State) (count : List ℕ → ℕ) → old.now.schema ≡ our_tables → AreCounted count (map (drop 1) (old.now.trees calls_tree)) → (found : Option Row) → FindsRow SELECT_OPEN.now params old new found
+      → MatchOption found (count dial ≡ 0) (λ row. row ≡ number (count dial) ∷ [])
+  calls_found old new = counted_found calls_tree SELECT_OPEN.now _ select_open old new refl
+
 -- ---- writing
 
--- the six tables beside it keep their rows
-kept_six : (old new : State) → KeepsOthers our_tables calls_tree old new → KeepsRows core_tables.tables old.now.trees new.now.trees
-kept_six old new keeps = let o = keeps.others in
-    (o.0 (λ e. absurd (omega arith)), (o.1.0 (λ e. absurd (omega arith)), (o.1.1.0 (λ e. absurd (omega arith)), (o.1.1.1.0 (λ e. absurd (omega arith)), (o.1.1.1.1.0 (λ e. absurd (omega arith)), (o.1.1.1.1.1.0 (λ e. absurd (omega arith)), tt))))))
+-- the tables beside it keep their rows
+kept_core : (old new : State) → KeepsOthers our_tables calls_tree old new → KeepsRows core_tables.tables old.now.trees new.now.trees
+kept_core old new keeps = let o = keeps.others in
+    (o.0 (λ e. absurd (omega arith)), (o.1.0 (λ e. absurd (omega arith)), (o.1.1.0 (λ e. absurd (omega arith)), (o.1.1.1.0 (λ e. absurd (omega arith)), (o.1.1.1.1.0 (λ e. absurd (omega arith)), (o.1.1.1.1.1.0 (λ e. absurd (omega arith)), (o.1.1.1.1.1.1.0 (λ e. absurd (omega arith)), tt)))))))
 
 as_set : (old new : State) (count : List ℕ → ℕ) → IsTrue old.in_transaction → KeepsOthers our_tables calls_tree old new → AreCalls count (new.now.trees calls_tree) → SetsCalls old new count
-as_set old new count inside keeps now = record { goes_on = inside_shown old new _ inside keeps.shown; schema_is = keeps.schema_is; sound = keeps.sound; rows = kept_six old new keeps; calls = now }
+as_set old new count inside keeps now = record { goes_on = inside_shown old new _ inside keeps.shown; schema_is = keeps.schema_is; sound = keeps.sound; rows = kept_core old new keeps; calls = now }
 
 -- no call is counted yet
 pub no_calls : (s : State) → HasNone s → HasCalls s (λ _. 0)
@@ -178,7 +184,7 @@ set_none s count has = record {
   goes_on = record { was_open = has.is_open; is_open = has.is_open; now_is = refl; committed_is = refl; mode = has.inside };
   schema_is = has.tables;
   sound = has.sound;
-  rows = (refl, (refl, (refl, (refl, (refl, (refl, tt))))));
+  rows = (refl, (refl, (refl, (refl, (refl, (refl, (refl, tt)))))));
   calls = has.calls;
 }
 
@@ -188,7 +194,7 @@ set_still a b count has same = record {
   goes_on = record { was_open = has.is_open; is_open = same.0.is_open; now_is = refl; committed_is = same.0.committed_is; mode = same.0.mode ∙ has.inside };
   schema_is = ap (λ (d : Database). d.schema) same.0.now_is ∙ has.tables;
   sound = subst IsDatabase (sym same.0.now_is) has.sound;
-  rows = subst (λ (d : Database). KeepsRows core_tables.tables a.now.trees d.trees) (sym same.0.now_is) (refl, (refl, (refl, (refl, (refl, (refl, tt))))));
+  rows = subst (λ (d : Database). KeepsRows core_tables.tables a.now.trees d.trees) (sym same.0.now_is) (refl, (refl, (refl, (refl, (refl, (refl, (refl, tt)))))));
   calls = subst (λ (d : Database). AreCalls count (d.trees calls_tree)) (sym same.0.now_is) has.calls;
 }
 
@@ -221,7 +227,7 @@ module _ (dial : List ℕ) (count : List ℕ → ℕ) where
       let rows = old.now.trees calls_tree in
       let pass = passes calls_tree call_tests gone_project (params dial) in
       let ran = runs_as DELETE_CALLS.now (params dial) old new our_tables was.tables _ delete_calls.is delete_calls.plain h.0 h.1 in
-      let done = deleted schema.calls.name 13 schema.calls.columns schema.calls.key schema.calls.primary schema.calls.uniques schema.calls.orders schema.calls.checks 6 refl old new was.tables refl was.calls.ordered
+      let done = deleted schema.calls.name 15 schema.calls.columns schema.calls.key schema.calls.primary schema.calls.uniques schema.calls.orders schema.calls.checks 7 refl old new was.tables refl was.calls.ordered
       call_tests gone_project (params dial) (λ r. refl) _ h.0 ran in
       let left : map (drop 1) (filter (λ r. not (pass r)) rows) ≡ filter (others dial count) (map (drop 1) rows) =
       ap (map (drop 1)) (filter_same (λ r. not (pass r)) (λ r. others dial count (drop 1 r)) rows (all_of (λ r. not (pass r) ≡ others dial count (drop 1 r)) (λ r. ap not (is_asked dial gone_project r)) rows)) ∙ sym (filter-map (others dial count) (drop 1) rows) in
@@ -233,7 +239,7 @@ module _ (dial : List ℕ) (count : List ℕ → ℕ) where
       let row = Int (next_rowid rows) ∷ call_columns dial n in
       let stored : cast_row schema.calls (Null ∷ call_columns dial n) ≡ Null ∷ call_columns dial n = same_row cast_null (same_row refl (same_row (cast_int (pos n)) refl)) in
       let ran = runs_as INSERT_CALLS.now (Text dial ∷ number n ∷ []) old new our_tables was.tables _ insert_calls.is insert_calls.plain h.0 h.1 in
-      let done = inserts our_tables unreferred schema.calls.name 13 schema.calls.columns schema.calls.key schema.calls.primary schema.calls.uniques schema.calls.orders schema.calls.checks 6 refl old new was.tables (Text dial ∷ number n ∷ []) _ h.0
+      let done = inserts our_tables unreferred schema.calls.name 15 schema.calls.columns schema.calls.key schema.calls.primary schema.calls.uniques schema.calls.orders schema.calls.checks 7 refl old new was.tables (Text dial ∷ number n ∷ []) _ h.0
       call_terms 3 (Null ∷ call_columns dial n) row refl (ap (with_rowid Chosen rows) stored) ran in
       let by = was.calls.ordered in
       as_set old new (with_count dial n count) was.inside done.keeps (record {

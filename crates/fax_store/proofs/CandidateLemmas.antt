@@ -35,7 +35,8 @@ use Rattle.sqlite_trees.specs.Tree.{IsAscending}
 use Rattle.sqlite_trees.proofs.ListLemmas.{all_of, all_both, all_weaker, ascending-filter, ascending-get_or, ascending_weaker, filter_all, filter_none, filter_same, filter-filter, IsPermutation-filter, map-map, pull_back}
 use Rattle.fax_core.specs.Job.{Job, fields_of}
 use Rattle.fax_core.specs.Best.{better}
-use Rattle.fax_core.specs.Queue.{Queue, Entry, job_numbered}
+use Rattle.fax_core.specs.Ledger.{Ledger}
+use Rattle.fax_core.specs.Queue.{Queue, job_numbered}
 use Rattle.fax_core.specs.State.{is_due}
 use Rattle.fax_core.proofs.RecordLemmas.{within_limits_of}
 use Rattle.fax_job.specs.Limits.{last_job}
@@ -121,7 +122,7 @@ filter_two p q (x ∷ xs) = by (p x) (q x) refl refl (filter_two p q xs)
     by true false e f more = rw f more
     by false b e f more = more
 
-module _ (db : Database) (m : Queue) (k : List Entry) (means : TablesMean db m k) (t : ℕ) where
+module _ (db : Database) (m : Queue) (k : Ledger) (means : TablesMean db m k) (t : ℕ) where
   abbrev all_due : List Job
   all_due = filter (λ (j : Job). is_due j t) m.jobs
 
@@ -164,7 +165,7 @@ module _ (db : Database) (m : Queue) (k : List Entry) (means : TablesMean db m k
 
 -- ---- all that are asked for
 
-module _ (db : Database) (m : Queue) (k : List Entry) (means : TablesMean db m k) (asked : Asked) where
+module _ (db : Database) (m : Queue) (k : Ledger) (means : TablesMean db m k) (asked : Asked) where
   abbrev pub all_asked : List Job
   all_asked = filter (is_other asked.but) (all_wait db m k means asked.t)
 
@@ -217,7 +218,7 @@ module _ (asked : Asked) (most : ℕ) (more : Row) (tests : List Term) where
         subst (IsSorted (output_cmp (waiting.query asked.t rest tests prospect_project))) back.2 a.sorted,
       )
 
-  module _ (old new : State) (m : Queue) (k : List Entry) (means : TablesMean old.now m k) (front : Front) (sql : List ℕ) (selects : SelectsPage sql tests)
+  module _ (old new : State) (m : Queue) (k : Ledger) (means : TablesMean old.now m k) (front : Front) (sql : List ℕ) (selects : SelectsPage sql tests)
       (near : (j : Job) → waiting.is_further asked.t rest tests prospect_project (row_of j) ≡ (is_other asked.but j && is_near front j)) where
     -- what it shows is a page behind the front
     page_found : (rows : List Row) → Shown sql params old new rows → IsPage asked m front most rows
@@ -255,7 +256,7 @@ unfolding binary
 is_not None j = is_not_null j.dial
 is_not (Some dial) j = not_is (is_eq (value_cmp (Text j.dial) (Text dial))) ∙ ap not (ap is_eq (value_cmp-Text j.dial dial) ∙ is_eq-slice_cmp j.dial dial)
 
-module _ (asked : Asked) (most : ℕ) (old new : State) (m : Queue) (k : List Entry) (means : TablesMean old.now m k) (rows : List Row) where
+module _ (asked : Asked) (most : ℕ) (old new : State) (m : Queue) (k : Ledger) (means : TablesMean old.now m k) (rows : List Row) where
   pub first_found : Shown SELECT_FIRST.now (params asked most [] other_tests) old new rows → IsPage asked m First most rows
   first_found = page_found asked most [] other_tests old new m k means First SELECT_FIRST.now select_first (λ j. ap (λ b. b && true) (is_not asked.but j)) rows
 
@@ -411,7 +412,7 @@ nothing_taken (suc n) (x ∷ xs) some none = absurd (let e = none in cc)
 abbrev shown : Job → Row
 shown j = prospect_shown (fields_of j)
 
-module _ (db : Database) (m : Queue) (k : List Entry) (means : TablesMean db m k) (asked : Asked) where
+module _ (db : Database) (m : Queue) (k : Ledger) (means : TablesMean db m k) (asked : Asked) where
   -- nothing was read
   pub stands_first : (most : ℕ) → 0 < most → StandsAt asked m [] [] First most
   stands_first most some = record {
@@ -584,7 +585,7 @@ each_found (x ∷ xs) up = (
       (λ j low found. let e : (x.number == j.number) ≡ false = grind (arith, nat_tests) in rw (e, found)) xs up.0 (each_found xs up.1),
 )
 
-module _ (db : Database) (m : Queue) (k : List Entry) (means : TablesMean db m k) (asked : Asked) (given : List Job) (j : Job) (page : List Row) (f : Front) (most : ℕ) (h : StandsAt asked m (given ++ j ∷ []) page f most) where
+module _ (db : Database) (m : Queue) (k : Ledger) (means : TablesMean db m k) (asked : Asked) (given : List Job) (j : Job) (page : List Row) (f : Front) (most : ℕ) (h : StandsAt asked m (given ++ j ∷ []) page f most) where
   of_all : (P : Job → Type 0) → All P m.jobs → P j
   of_all P all =
       let waits = recursion_from_All P h.all (all_hold P asked m h.all h.waiting all) in

@@ -13,7 +13,8 @@ use Rattle.sqlite_rules.specs.Lists.{Has}
 use Rattle.sqlite_rules.proofs.ProbeLemmas.{mapped_has}
 use Rattle.fax_core.specs.Ageing.{aged_job, expires, is_past}
 use Rattle.fax_core.specs.Job.{Job, job_of, fields_of}
-use Rattle.fax_core.specs.Queue.{Queue, Entry, job_numbered, open_grants}
+use Rattle.fax_core.specs.Ledger.{Ledger}
+use Rattle.fax_core.specs.Queue.{Queue, job_numbered, open_grants}
 use Rattle.fax_job.specs.Status.{kill_time_expired}
 use Rattle.fax_job.specs.declared.job.JobFields.{JobFields}
 use Rattle.fax_job.specs.declared.job.Phase.{Phase}
@@ -124,7 +125,7 @@ module _ (f : JobFields) (lines : List Pair) where
     | inr off ↦ subst (λ b. IsLawfulJob (if b then job_of whole else x)) (sym off) was
   ]
 
-module _ (f : JobFields) (old new : State) (m : Queue) (k : List Entry) (means : TablesMean old.now m k) where
+module _ (f : JobFields) (old new : State) (m : Queue) (k : Ledger) (means : TablesMean old.now m k) where
   abbrev its_lines : List Pair
   its_lines = lines_of (job_numbered f.job m)
 
@@ -218,7 +219,7 @@ module _ (phase : Phase) (t : ℕ) where
   unmoved [] none = refl
   unmoved (x ∷ xs) none = ap₂ ◌∷◌ (expired_by x false (none x (inl refl))) (unmoved xs (λ y has. none y (inr has)))
 
-  module _ (old new : State) (m : Queue) (k : List Entry) (means : TablesMean old.now m k) where
+  module _ (old new : State) (m : Queue) (k : Ledger) (means : TablesMean old.now m k) where
     -- where no row is shown, no job expires
     pub none_expired : (found : Option Row) → FindsRow SELECT_EXPIRED.now expired_params old new found → is_some found ≡ false → with_expired_in phase t m ≡ m
     none_expired None h e =

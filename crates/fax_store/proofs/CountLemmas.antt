@@ -19,7 +19,8 @@ use Rattle.sqlite_trees.proofs.ListLemmas.{filter_same}
 use Rattle.sqlite_value.specs.Order.{value_cmp}
 use Rattle.sqlite_value.proofs.OrderLemmas.{value_cmp-Int}
 use Rattle.fax_core.specs.Job.{Job}
-use Rattle.fax_core.specs.Queue.{Queue, Entry, grant_numbered, job_numbered, open_grants}
+use Rattle.fax_core.specs.Ledger.{Ledger}
+use Rattle.fax_core.specs.Queue.{Queue, grant_numbered, job_numbered, open_grants}
 use Rattle.fax_core.specs.State.{calls_to, is_of_number}
 use Rattle.fax_core.specs.declared.grants.Grant.{Grant}
 use Rattle.fax_core.proofs.PlaceLemmas.{find_map}
@@ -231,15 +232,15 @@ few last low (g ∷ gs) rise within base =
     (omega (arith, first.0, first.1)) in
     omega (arith, rest)
 
-pub grants_few : (db : Database) (m : Queue) (k : List Entry) → TablesMean db m k → length m.grants ≤ 999999999
+pub grants_few : (db : Database) (m : Queue) (k : Ledger) → TablesMean db m k → length m.grants ≤ 999999999
 grants_few db m k means =
     let most = few 999999999 1 m.grants (subst IsTable means.grants means.ordered.grants.rise) (λ x has. (all_has IsLawfulGrant m.grants x (recursion_from_All IsLawfulGrant m.grants means.lawful.grants) has).limits.number) (omega arith) in
     omega (arith, most)
 
 -- there are no more calls to a number than grants
-pub calls_few : (db : Database) (m : Queue) (k : List Entry) → TablesMean db m k → (dial : List ℕ) → calls_to dial m ≤ 999999999
+pub calls_few : (db : Database) (m : Queue) (k : Ledger) → TablesMean db m k → (dial : List ℕ) → calls_to dial m ≤ 999999999
 calls_few db m k means dial = omega (arith, grants_few db m k means, at_most_all (λ g. is_of_number dial (job_numbered g.job m)) m.grants)
 
 -- so they fit 32 bits
-pub calls_fit : (db : Database) (m : Queue) (k : List Entry) → TablesMean db m k → (dial : List ℕ) → calls_to dial m < 2 ^ 32
+pub calls_fit : (db : Database) (m : Queue) (k : Ledger) → TablesMean db m k → (dial : List ℕ) → calls_to dial m < 2 ^ 32
 calls_fit db m k means dial = let low : calls_to dial m < 4294967296 = omega (arith, calls_few db m k means dial) in low

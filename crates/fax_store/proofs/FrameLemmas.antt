@@ -3,7 +3,8 @@ use Rattle.std.proofs.Common.{◌≡◌, List, false, Ok, Err, Result, OnOk, is_
 use Rattle.std.proofs.lemmas.Bool.{false≢true}
 use Rattle.sqlite.specs.State.{State, HasCleanDisk}
 use Rattle.sqlite_trees.specs.declared.store.Store.{Ghosts}
-use Rattle.fax_core.specs.Queue.{Queue, Entry}
+use Rattle.fax_core.specs.Ledger.{Ledger}
+use Rattle.fax_core.specs.Queue.{Queue}
 use Rattle.fax_store.specs.Calls.{Answers, Calls, Finds, Follows, Looks, Runs, Tells, shown, within}
 use Rattle.fax_store.specs.Store.{CommitsNothing, HasTables, Means, MeansNow, Reads, Serves}
 use Rattle.fax_store.specs.declared.store.Store.{Store}
@@ -13,7 +14,7 @@ use Rattle.fax_store.proofs.StopLemmas.{withholds_by, withholds_then}
 use Rattle.fax_store.proofs.WorkLemmas.{found_in, holds_by, keeps_by, reads_same, stays_by}
 
 -- the tables of a store that means something mean it now
-pub means_now : {s : State} {m : Queue} {k : List Entry} → Means s m k → MeansNow s m k
+pub means_now : {s : State} {m : Queue} {k : Ledger} → Means s m k → MeansNow s m k
 means_now means serves = (means serves).means
 
 on_any : {A X : Type 0} (result : Result A StoreFault) → X → OnOk result X
@@ -88,7 +89,7 @@ module _ {S : Type 0} (g : Ghosts S) where
     }
 
     -- and so is a reading
-    pub tells_by : (P : Queue → List Entry → A → Type 0) → Finds g old.store.now new.store.now result → Answers g old.store.now new.store.now result P → Tells g old new result P
+    pub tells_by : (P : Queue → Ledger → A → Type 0) → Finds g old.store.now new.store.now result → Answers g old.store.now new.store.now result P → Tells g old new result P
     tells_by P finds answers = record {
       keeps = rw (on, failed) (keeps_by (within g old) (within g new) finds.served result finds.reads P answers);
       found = rw on (found_in (within g old) (within g new) finds.served result finds.reads P answers);

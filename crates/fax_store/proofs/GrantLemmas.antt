@@ -4,7 +4,8 @@ use Rattle.std.specs.Option.{option_map}
 use Rattle.sqlite.specs.Order.{Row}
 use Rattle.sqlite.specs.State.{State}
 use Rattle.sqlite.proofs.Callers.{reads_as}
-use Rattle.fax_core.specs.Queue.{Queue, Entry, grant_numbered}
+use Rattle.fax_core.specs.Ledger.{Ledger}
+use Rattle.fax_core.specs.Queue.{Queue, grant_numbered}
 use Rattle.fax_core.specs.declared.grants.Grant.{Grant}
 use Rattle.fax_schema.specs.declared.statements.TheConstants.{SELECT_GRANT}
 use Rattle.fax_tables.specs.Grant.{grant_shown}
@@ -20,7 +21,7 @@ module _ (n : ℕ) where
   abbrev pub params : Row
   params = number n ∷ []
 
-  module _ (old new : State) (m : Queue) (k : List Entry) (means : TablesMean old.now m k) where
+  module _ (old new : State) (m : Queue) (k : Ledger) (means : TablesMean old.now m k) where
     pub grant_found : (found : Option Row) → FindsRow SELECT_GRANT.now params old new found → found ≡ option_map grant_shown (grant_numbered n m)
     grant_found found h =
         numbered_found grant_row (λ (g : Grant). g.number) (λ g. refl) n (passes grants_tree grant_tests grant_project params) (λ r. refl) m.grants (old.now.trees grants_tree) h.0 means.grants means.ordered.grants.rise (show grants_tree grant_tests grant_project params)

@@ -17,7 +17,8 @@ use Rattle.sqlite_rules.proofs.ListLemmas.{has_filtered, has_found, has_kept}
 use Rattle.sqlite_trees.proofs.ListLemmas.{IsPermutation-filter, filter_same, all_of}
 use Rattle.fax_core.specs.Machine.{with_grant}
 use Rattle.fax_core.specs.Job.{Job}
-use Rattle.fax_core.specs.Queue.{Queue, Entry, open_grants, grant_numbered, job_numbered}
+use Rattle.fax_core.specs.Ledger.{Ledger}
+use Rattle.fax_core.specs.Queue.{Queue, open_grants, grant_numbered, job_numbered}
 use Rattle.fax_core.specs.State.{is_of_number}
 use Rattle.fax_core.specs.declared.grants.Grant.{Grant}
 use Rattle.fax_job.specs.Name.{IsName}
@@ -49,7 +50,7 @@ use Rattle.std.specs.Str.{bytes_eq}
 use Rattle.std.proofs.lemmas.Slice.Eq.{bytes_eq-Decides}
 use Rattle.fax_tables.proofs.KeyLemmas.{only_numbered, asked_is, not_asked, row_placed, all_placed, placed_permuted, free_of}
 use Rattle.fax_schema.proofs.SelectLemmas.{passes, show}
-use Rattle.fax_tables.proofs.TablesLemmas.{AreRecords, AreHeld, Parts, parts_of, means_of, calls_as, calls_changed, calls_of, held_as, grants_changed, holds_changed, by_rowid_put}
+use Rattle.fax_tables.proofs.TablesLemmas.{AreRecords, AreHeld, Parts, grants, holds, parts_of, means_of, calls_as, calls_changed, calls_of, held_as, grants_changed, holds_changed, by_rowid_put}
 use Rattle.fax_schema.proofs.UpdateLemmas.{gone_project, updated, deleted}
 use Rattle.fax_schema.proofs.WriteLemmas.{KeepsOthers, InsertsRow, unreferred, inserts}
 
@@ -83,7 +84,7 @@ module _ (g : Grant) where
   open_row : IsTrue g.is_open → grant_row g ≡ number g.number ∷ Null ∷ number g.job ∷ Text g.modem ∷ number g.first_page ∷ number g.last_page ∷ number (call_number g.call) ∷ number g.confirmed ∷ number 0 ∷ []
   open_row is_open = ap (λ (b : Bool). number g.number ∷ Null ∷ number g.job ∷ Text g.modem ∷ number g.first_page ∷ number g.last_page ∷ number (call_number g.call) ∷ number g.confirmed ∷ number (if b then 0 else 1) ∷ []) is_open
 
-  module _ (old mid new : State) (m : Queue) (k : List Entry) (means : TablesMean old.now m k) where
+  module _ (old mid new : State) (m : Queue) (k : Ledger) (means : TablesMean old.now m k) where
     hold_inserted : HasRun INSERT_HOLD.now hold_params old mid → InsertsRow our_tables holds_tree old mid (Int (next_rowid (old.now.trees holds_tree)) ∷ hold_columns g)
     hold_inserted h =
         let ran = runs_as INSERT_HOLD.now hold_params old mid our_tables means.schema _ insert_hold.is insert_hold.plain h.0 h.1 in
@@ -116,19 +117,19 @@ module _ (g : Grant) where
         let ran = runs_as INSERT_GRANT.now grant_params mid new our_tables was.schema _ insert_grant.is insert_grant.plain more.0 more.1 in
         let done = inserts our_tables unreferred schema.grants.name 1 schema.grants.columns schema.grants.key schema.grants.primary schema.grants.uniques schema.grants.orders schema.grants.checks 1 refl mid new was.schema grant_params _ more.0
         grant_terms 9 (grant_row g) (grant_row g) (ap (λ r. r ∷ []) (sym row)) (ap (with_rowid Chosen (mid.now.trees grants_tree)) (stored_grant g)) ran in
-        let free = subst (λ rows. is_taken rows (grant_row g) ≡ false) was.grants.is (free_of (mid.now.trees grants_tree) (grant_row g) done.fresh) in
+        let free = subst (λ rows. is_taken rows (grant_row g) ≡ false) (was.says grants).is (free_of (mid.now.trees grants_tree) (grant_row g) done.fresh) in
         let now : AreRecords grant_row IsLawfulGrant (new.now.trees grants_tree) (placed (λ (x : Grant). x.number) g m.grants) = record {
-          is = done.rows ∙ ap (put_row (grant_row g)) was.grants.is ∙ row_placed grant_row (λ (x : Grant). x.number) (λ x. refl) g m.grants free;
-          ordered = subst IsByRowid (sym done.rows) (by_rowid_put (grant_row g) (mid.now.trees grants_tree) refl was.grants.ordered);
-          lawful = all_placed grant_row (λ (x : Grant). x.number) (λ x. refl) IsLawfulGrant g m.grants lawful was.grants.lawful;
+          is = done.rows ∙ ap (put_row (grant_row g)) (was.says grants).is ∙ row_placed grant_row (λ (x : Grant). x.number) (λ x. refl) g m.grants free;
+          ordered = subst IsByRowid (sym done.rows) (by_rowid_put (grant_row g) (mid.now.trees grants_tree) refl (was.says grants).ordered);
+          lawful = all_placed grant_row (λ (x : Grant). x.number) (λ x. refl) IsLawfulGrant g m.grants lawful (was.says grants).lawful;
         } in
         let after = grants_changed mid new m (g ∷ open_grants m) (calls_of m) k was done.keeps (placed (λ (x : Grant). x.number) g m.grants) now in
-        let holds : AreHeld (new.now.trees holds_tree) (open_grants (with_placed g m)) = record {
+        let stand : AreHeld (new.now.trees holds_tree) (open_grants (with_placed g m)) = record {
           is = IsPermutation-trans (map hold_columns (open_grants (with_placed g m))) (map hold_columns (g ∷ open_grants m)) (map (drop 1) (new.now.trees holds_tree))
-              (IsPermutation-map hold_columns (open_grants (with_placed g m)) (g ∷ open_grants m) (IsPermutation-sym (g ∷ open_grants m) (open_grants (with_placed g m)) (open_placed m.grants is_open))) after.holds.is;
-          ordered = after.holds.ordered;
+              (IsPermutation-map hold_columns (open_grants (with_placed g m)) (g ∷ open_grants m) (IsPermutation-sym (g ∷ open_grants m) (open_grants (with_placed g m)) (open_placed m.grants is_open))) (after.says holds).is;
+          ordered = (after.says holds).ordered;
         } in
-        held_as new.now (with_placed g m) (g ∷ open_grants m) (open_grants (with_placed g m)) (calls_of m) k holds after
+        held_as new.now (with_placed g m) (g ∷ open_grants m) (open_grants (with_placed g m)) (calls_of m) k stand after
 
     -- the calls to each number with this one
     counts_placed : (j : Job) → job_numbered g.job m ≡ Some j → IsTrue g.is_open → (dial : List ℕ) → with_count j.dial (calls_of m j.dial + 1) (calls_of m) dial ≡ calls_of (with_placed g m) dial
@@ -202,7 +203,7 @@ module _ (g : Grant) where
     grant_goes is_open free h =
         let was = held h in
         let untaken = free_row grant_row (λ (x : Grant). x.number) (λ x. refl) g m.grants free.number in
-        let may = grant_may mid.now was.schema was.sound g (subst (λ rows. is_taken rows (grant_row g) ≡ false) (sym was.grants.is) untaken) in
+        let may = grant_may mid.now was.schema was.sound g (subst (λ rows. is_taken rows (grant_row g) ≡ false) (sym (was.says grants).is) untaken) in
         no_rule_broken schema.grants.name 1 schema.grants.columns schema.grants.key schema.grants.primary schema.grants.uniques schema.grants.orders schema.grants.checks 1 refl mid was.schema grant_params grant_terms 9 (grant_row g) (grant_row g)
         (ap (λ r. r ∷ []) (sym (open_row is_open))) (ap (with_rowid Chosen (mid.now.trees grants_tree)) (stored_grant g)) may INSERT_GRANT.now insert_grant new
 
@@ -281,7 +282,7 @@ module _ (g : Grant) where
     | inr off ↦ (ap (λ (y : Grant). y.is_open) (put_by x false off), ap (λ (y : Grant). y.job) (put_by x false off))
   ]
 
-  module _ (old new : State) (m : Queue) (k : List Entry) (means : TablesMean old.now m k) where
+  module _ (old new : State) (m : Queue) (k : Ledger) (means : TablesMean old.now m k) where
     same_grant : IsReport g m → (x : Grant) → Has m.grants x → x.number ≡ g.number → IsSameGrant x g
     same_grant report x has is =
         report x (subst (λ n. find (λ (y : Grant). y.number == n) m.grants ≡ Some x) is (only_numbered grant_row (λ (y : Grant). y.number) (λ y. refl) m.grants x (subst IsTable means.grants means.ordered.grants.rise) has))
@@ -298,14 +299,14 @@ module _ (g : Grant) where
         ran in
         let now : AreRecords grant_row IsLawfulGrant (new.now.trees grants_tree) (map put m.grants) = record { is = done.1; ordered = done.2; lawful = all_mapped IsLawfulGrant put m.grants (λ x has. put_lawful few x (same_grant report x has)) means.lawful.grants } in
         let after = grants_changed old new m (open_grants m) (calls_of m) k (parts_of old.now m k means) done.0 (map put m.grants) now in
-        let holds : AreHeld (new.now.trees holds_tree) (open_grants (with_grant g m)) = record {
-          is = subst (λ columns. IsPermutation columns (map (drop 1) (new.now.trees holds_tree))) (sym (held_mapped put m.grants (λ x has. put_held x (same_grant report x has)))) after.holds.is;
-          ordered = after.holds.ordered;
+        let stand : AreHeld (new.now.trees holds_tree) (open_grants (with_grant g m)) = record {
+          is = subst (λ columns. IsPermutation columns (map (drop 1) (new.now.trees holds_tree))) (sym (held_mapped put m.grants (λ x has. put_held x (same_grant report x has)))) (after.says holds).is;
+          ordered = (after.says holds).ordered;
         } in
         let as_it = λ (x : Grant) (has : Has m.grants x). same_held x (same_grant report x has) in
         let moved = with_grant g m in (
           means_of new.now moved k (jobs_reported put m as_it means.held)
-              (calls_as new.now moved (open_grants moved) (calls_of m) (calls_of moved) k (calls_reported put m as_it) (held_as new.now moved (open_grants m) (open_grants moved) (calls_of m) k holds after)),
+              (calls_as new.now moved (open_grants moved) (calls_of m) (calls_of moved) k (calls_reported put m as_it) (held_as new.now moved (open_grants m) (open_grants moved) (calls_of m) k stand after)),
           done.0,
         )
 
@@ -391,7 +392,7 @@ module _ (n : ℕ) where
     pub closed_is : record m { grants = map shut m.grants } ≡ with_closed n m
     closed_is = ap (λ gs. record m { grants = gs }) (closed_by (grant_numbered n m) refl) ∙ as_closed (grant_numbered n m)
 
-  module _ (old mid new : State) (m : Queue) (k : List Entry) (means : TablesMean old.now m k) where
+  module _ (old mid new : State) (m : Queue) (k : Ledger) (means : TablesMean old.now m k) where
     abbrev after : Queue
     after = record m { grants = map shut m.grants }
 
@@ -420,13 +421,13 @@ module _ (n : ℕ) where
         let first = grants_shut h in
         let was = grants_changed old mid m (open_grants m) (calls_of m) k (parts_of old.now m k means) first.0 (map shut m.grants) first.1 in
         let ran = runs_as DELETE_HOLD.now close_params mid new our_tables was.schema _ delete_hold.is delete_hold.plain more.0 more.1 in
-        let done = deleted schema.holds.name 2 schema.holds.columns schema.holds.key schema.holds.primary schema.holds.uniques schema.holds.orders schema.holds.checks 2 refl mid new was.schema refl was.holds.ordered
+        let done = deleted schema.holds.name 2 schema.holds.columns schema.holds.key schema.holds.primary schema.holds.uniques schema.holds.orders schema.holds.checks 2 refl mid new was.schema refl (was.says holds).ordered
         held_tests gone_project close_params (λ r. refl) _ more.0 ran in
         let others = λ (columns : Row). not (are_equal (column columns 2) (number n) && true) in
         let left : filter (λ x. others (hold_columns x)) (open_grants m) ≡ open_grants after =
         filter_same (λ x. others (hold_columns x)) (λ x. not (x.number == n)) (open_grants m) (all_of (λ x. others (hold_columns x) ≡ not (x.number == n)) (λ x. ap not (and_true (are_equal (number x.number) (number n)) ∙ is_number x.number n)) (open_grants m))
         ∙ sym (open_shut m.grants) in
-        let kept = kept_permuted hold_columns (λ r. not (passes holds_tree held_tests gone_project close_params r)) others (λ r. ap not (is_held r)) (mid.now.trees holds_tree) (open_grants m) was.holds.is in
+        let kept = kept_permuted hold_columns (λ r. not (passes holds_tree held_tests gone_project close_params r)) others (λ r. ap not (is_held r)) (mid.now.trees holds_tree) (open_grants m) (was.says holds).is in
         let now : AreHeld (new.now.trees holds_tree) (open_grants after) = record {
           is = subst (λ rows. IsPermutation (map hold_columns (open_grants after)) (map (drop 1) rows)) (sym done.1) (subst (λ gs. IsPermutation (map hold_columns gs) (map (drop 1) (filter (λ r. not (passes holds_tree held_tests gone_project close_params r)) (mid.now.trees holds_tree)))) left kept);
           ordered = done.2;

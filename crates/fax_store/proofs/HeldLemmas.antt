@@ -29,18 +29,19 @@ use Rattle.sqlite_sql.specs.Term.{Env, holds}
 use Rattle.sqlite_value.specs.Order.{value_cmp}
 use Rattle.sqlite_trees.proofs.ListLemmas.{IsPermutation-filter, filter-map, map-map}
 use Rattle.fax_core.specs.Job.{Job}
-use Rattle.fax_core.specs.Queue.{Queue, Entry, job_numbered, open_grants}
+use Rattle.fax_core.specs.Ledger.{Ledger}
+use Rattle.fax_core.specs.Queue.{Queue, job_numbered, open_grants}
 use Rattle.fax_core.specs.State.{calls_to, is_of_number}
 use Rattle.fax_core.specs.declared.grants.Grant.{Grant}
-use Rattle.fax_store.specs.Adopt.{AreCallable, AreOfJobs, AreSmall, CanBeCalled, HoldJobs, HoldsCanBeCalled, IsOf, held_to, is_to}
+use Rattle.fax_store.specs.Adopt.{AreCallable, AreOfJobs, AreSmall, CanBeCalled, CoreMeans, HoldJobs, HoldsCanBeCalled, IsOf, held_to, is_to}
 use Rattle.fax_store.specs.Grant.{SetsCalls, with_count}
 use Rattle.fax_store.specs.Store.{FindsRow}
 use Rattle.fax_schema.specs.declared.statements.TheConstants.{SELECT_DIAL, SELECT_HELD, SELECT_LOST}
 use Rattle.fax_job.specs.Dial.{IsCanonical}
 use Rattle.fax_tables.specs.Job.{IsLawfulJob, IsText}
 use Rattle.fax_tables.specs.Row.{number, hold_columns}
-use Rattle.fax_schema.specs.Schema.{calls_tree, holds_tree, jobs_tree, our_tables, core_tables}
-use Rattle.fax_tables.specs.Tables.{RowsMean, TablesMean}
+use Rattle.fax_schema.specs.Schema.{alike_list, calls_tree, holds_tree, jobs_tree, our_tables, core_tables}
+use Rattle.fax_tables.specs.Tables.{TablesMean}
 use Rattle.fax_schema.proofs.ColumnLemmas.{record_of}
 use Rattle.fax_schema.proofs.CompareLemmas.{are_equal, number_same}
 use Rattle.fax_tables.proofs.CreateLemmas.{kept_rows}
@@ -147,7 +148,7 @@ module _ (old new : State) (has : old.now.schema ≡ our_tables) (rows : List Ro
 
 -- ---- the number that a job is to
 
-pub dial_found : (n : ℕ) (old new : State) (m : Queue) (k : List Entry) → old.now.schema ≡ our_tables → RowsMean old.now m k → (found : Option Row) → FindsRow SELECT_DIAL.now (number n ∷ []) old new found
+pub dial_found : (n : ℕ) (old new : State) (m : Queue) (k : Ledger) → old.now.schema ≡ our_tables → CoreMeans old.now m k → (found : Option Row) → FindsRow SELECT_DIAL.now (number n ∷ []) old new found
     → found ≡ option_map (λ (j : Job). Text j.dial ∷ []) (job_numbered n m)
 dial_found n old new m k has rows found h =
     let params = number n ∷ [] in
@@ -207,7 +208,7 @@ module _ (old new : State) (has : old.now.schema ≡ our_tables) (rows : List Ro
       let it = can hold.0 hold.1 in
       (it.0, hold.2 ∙ ap (λ v. v ∷ []) it.1, it.2)
 
-module _ (old new : State) (m : Queue) (k : List Entry) (has : old.now.schema ≡ our_tables) (mean : RowsMean old.now m k) (rows : List Row) (shown : Shown SELECT_HELD.now [] old new rows) where
+module _ (old new : State) (m : Queue) (k : Ledger) (has : old.now.schema ≡ our_tables) (mean : CoreMeans old.now m k) (rows : List Row) (shown : Shown SELECT_HELD.now [] old new rows) where
   abbrev held : List Row
   held = old.now.trees holds_tree
 
@@ -307,14 +308,14 @@ held_first m rows i dial low few =
     sum
 
 -- what rows mean, they mean where the calls alone were set
-pub rows_still : (a b : State) (m : Queue) (k : List Entry) (count : List ℕ → ℕ) → SetsCalls a b count → RowsMean a.now m k → RowsMean b.now m k
+pub rows_still : (a b : State) (m : Queue) (k : Ledger) (count : List ℕ → ℕ) → SetsCalls a b count → CoreMeans a.now m k → CoreMeans b.now m k
 rows_still a b m k count set mean = (mean.0, mean.1, kept_rows core_tables.tables (mean.0).trees a.now.trees b.now.trees mean.2 set.rows)
 
 -- what a job that is there has for a number to dial, and for its own
-pub dial_formed : (db : Database) (m : Queue) (k : List Entry) → TablesMean db m k → (n : ℕ) (j : Job) → job_numbered n m ≡ Some j → IsText IsCanonical j.dial
+pub dial_formed : (db : Database) (m : Queue) (k : Ledger) → TablesMean db m k → (n : ℕ) (j : Job) → job_numbered n m ≡ Some j → IsText IsCanonical j.dial
 dial_formed db m k means n j found = (found_holds IsLawfulJob (λ (x : Job). x.number == n) m.jobs j means.lawful.jobs found).formed.dial
 
-pub job_low : (db : Database) (m : Queue) (k : List Entry) → TablesMean db m k → (n : ℕ) (j : Job) → job_numbered n m ≡ Some j → j.number < 2 ^ 32
+pub job_low : (db : Database) (m : Queue) (k : Ledger) → TablesMean db m k → (n : ℕ) (j : Job) → job_numbered n m ≡ Some j → j.number < 2 ^ 32
 job_low db m k means n j found =
     let most = within j (found_holds IsLawfulJob (λ (x : Job). x.number == n) m.jobs j means.lawful.jobs found) in
     let low : j.number < 4294967296 = omega (arith, most) in
@@ -332,7 +333,7 @@ called_still a b same n can = record {
   dials = λ other has of. can.dials other (subst (λ rows. Has rows other) same has) of;
 }
 
-pub held_still : (a b : Database) → KeepsRows core_tables.tables a.trees b.trees → HoldsCanBeCalled a → HoldsCanBeCalled b
+pub held_still : (a b : Database) → KeepsRows alike_list a.trees b.trees → HoldsCanBeCalled a → HoldsCanBeCalled b
 held_still a b kept can hold has = let it = can hold (subst (λ rows. Has rows hold) kept.1.1.0 has) in (it.0, it.1, called_still a b kept.0 it.0 it.2)
 
 -- what can be called has its job
@@ -340,7 +341,7 @@ pub called_jobs : (db : Database) → HoldsCanBeCalled db → HoldJobs db
 called_jobs db can hold has = let it = can hold has in ((it.2).job, (it.2).there, subst (λ v. IsOf v (it.2).job) (sym it.1) (it.2).is)
 
 -- in rows that mean a queue all that is held can be
-pub rows_callable : (db : Database) (m : Queue) (k : List Entry) → RowsMean db m k → HoldsCanBeCalled db
+pub rows_callable : (db : Database) (m : Queue) (k : Ledger) → (full : Database) × TablesMean full m k × KeepsRows alike_list full.trees db.trees → HoldsCanBeCalled db
 rows_callable db m k mean hold there_is =
     let same = subst (λ rs. IsPermutation (map hold_columns (open_grants m)) (map (drop 1) rs)) (sym mean.2.1.1.0) mean.1.holds in
     let g = record_of hold_columns (db.trees holds_tree) (open_grants m) same hold there_is in

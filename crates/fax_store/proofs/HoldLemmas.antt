@@ -29,7 +29,8 @@ use Rattle.sqlite_value.specs.Keys.{plain}
 use Rattle.sqlite_value.specs.Order.{value_cmp}
 use Rattle.sqlite_value.proofs.KeyLemmas.{first_key-plain}
 use Rattle.fax_core.specs.Machine.{held_by}
-use Rattle.fax_core.specs.Queue.{Queue, Entry, open_grants}
+use Rattle.fax_core.specs.Ledger.{Ledger}
+use Rattle.fax_core.specs.Queue.{Queue, open_grants}
 use Rattle.fax_core.specs.declared.grants.Grant.{Grant}
 use Rattle.fax_schema.specs.declared.statements.TheConstants.{SELECT_HOLD}
 use Rattle.fax_tables.specs.Grant.{hold_shown}
@@ -122,7 +123,7 @@ module _ (modem : List ℕ) where
   modem_of : (r : Row) (g : Grant) → drop 1 r ≡ hold_columns g → bytes_eq g.modem modem ≡ true → column r 1 ≡ Text modem
   modem_of r g is same = second r ∙ ap (λ columns. column columns 0) is ∙ ap Text ((bytes_eq-Decides g.modem modem).0 same)
 
-  module _ (old new : State) (m : Queue) (k : List Entry) (means : TablesMean old.now m k) where
+  module _ (old new : State) (m : Queue) (k : Ledger) (means : TablesMean old.now m k) where
     pub hold_found : (found : Option Row) → FindsRow SELECT_HOLD.now params old new found → found ≡ option_map hold_shown (held_by modem m)
     hold_found found h = tells found h.2
       where

@@ -12,7 +12,8 @@ use Rattle.sqlite.specs.Rowids.TheVariants.{Chosen}
 use Rattle.sqlite.proofs.Callers.{runs_as, reads_as}
 use Rattle.sqlite_rules.specs.Lists.{Has}
 use Rattle.fax_core.specs.Job.{Job, job_of, fields_of, pages_to, HasPages}
-use Rattle.fax_core.specs.Queue.{Queue, Entry, job_numbered, open_grants}
+use Rattle.fax_core.specs.Ledger.{Ledger}
+use Rattle.fax_core.specs.Queue.{Queue, job_numbered, open_grants}
 use Rattle.fax_job.specs.Job.{IsLawful}
 use Rattle.fax_job.specs.declared.job.JobFields.{JobFields}
 use Rattle.fax_schema.specs.declared.statements.TheConstants.{SELECT_JOB, SELECT_BRIEF, INSERT_JOB}
@@ -46,7 +47,7 @@ module _ (n : ℕ) where
   abbrev pub params : Row
   params = number n ∷ []
 
-  module _ (old new : State) (m : Queue) (k : List Entry) (means : TablesMean old.now m k) where
+  module _ (old new : State) (m : Queue) (k : Ledger) (means : TablesMean old.now m k) where
     -- the row that passes is that of the job of this number
     row_found : (sql : List ℕ) (project : List Term) (names : List (List ℕ)) → Selects sql jobs_tree job_tests project names
         → (found : Option Row) → FindsRow sql params old new found → found ≡ option_map (λ j. show jobs_tree job_tests project params (row_of j)) (job_numbered n m)
@@ -89,7 +90,7 @@ stored_job f =
     (same_row (n _) (same_row (n _) (same_row (n _) (same_row (n _) (same_row (n _) (same_row (n _) (same_row (n _) (same_row (n _)
     (same_row (n _) (same_row (n _) (same_row (n _) (same_row (n _) (same_row (n _) (same_row (n _) refl))))))))))))))))))))
 
-module _ (old new : State) (m : Queue) (k : List Entry) (means : TablesMean old.now m k) (f : JobFields) where
+module _ (old new : State) (m : Queue) (k : Ledger) (means : TablesMean old.now m k) (f : JobFields) where
   inserted : HasRun INSERT_JOB.now (job_shown f) old new → InsertsRow our_tables jobs_tree old new (job_row f)
   inserted h =
       let ran = runs_as INSERT_JOB.now (job_shown f) old new our_tables means.schema _ insert_job.is insert_job.plain h.0 h.1 in

@@ -16,7 +16,8 @@ use Rattle.sqlite_trees.proofs.ListLemmas.{map-map, filter_all, all_of, pull_bac
 use Rattle.sqlite_value.specs.Order.{value_cmp}
 use Rattle.sqlite_value.proofs.OrderLemmas.{value_cmp-Int}
 use Rattle.fax_core.specs.Job.{Job, fields_of}
-use Rattle.fax_core.specs.Queue.{Queue, Entry}
+use Rattle.fax_core.specs.Ledger.{Ledger}
+use Rattle.fax_core.specs.Queue.{Queue}
 use Rattle.fax_schema.specs.declared.statements.TheConstants.{SELECT_JOBS, SELECT_BRIEFS}
 use Rattle.fax_tables.specs.Job.{brief_shown, job_shown}
 use Rattle.fax_schema.specs.Schema.{our_tables, jobs_tree}
@@ -61,7 +62,7 @@ pub ascend : (jobs : List Job) → IsTable (map row_of jobs) → IsAscending (Be
 ascend jobs rise =
     ascending_weaker (λ a b. value_cmp (rowid (row_of a)) (rowid (row_of b)) ≡ Less) (Below number_of) below jobs (ascending_from_map (λ a b. value_cmp (rowid a) (rowid b) ≡ Less) row_of jobs rise)
 
-module _ (old new : State) (m : Queue) (k : List Entry) (means : TablesMean old.now m k) (sql : List ℕ) (project : List Term) (names : List (List ℕ)) (selects : SelectsBy sql jobs_tree [] project jobs_order names) where
+module _ (old new : State) (m : Queue) (k : Ledger) (means : TablesMean old.now m k) (sql : List ℕ) (project : List Term) (names : List (List ℕ)) (selects : SelectsBy sql jobs_tree [] project jobs_order names) where
   abbrev of : Job → Row
   of j = show jobs_tree [] project [] (row_of j)
 
@@ -80,7 +81,7 @@ module _ (old new : State) (m : Queue) (k : List Entry) (means : TablesMean old.
       let same = only_order number_of m.jobs jobs (ascend m.jobs (subst IsTable means.jobs means.ordered.jobs.rise)) back.1 (in_numbers project jobs sorted) in
       shown.2 ∙ ap (map (show jobs_tree [] project [])) back.2 ∙ map-map _ _ jobs ∙ ap (map of) same
 
-module _ (old new : State) (m : Queue) (k : List Entry) (means : TablesMean old.now m k) (rows : List Row) where
+module _ (old new : State) (m : Queue) (k : Ledger) (means : TablesMean old.now m k) (rows : List Row) where
   pub jobs_found : Shown SELECT_JOBS.now [] old new rows → rows ≡ map (λ j. job_shown (fields_of j)) m.jobs
   jobs_found = all_found old new m k means SELECT_JOBS.now job_project job_names select_jobs rows
 

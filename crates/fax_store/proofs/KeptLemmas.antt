@@ -104,8 +104,8 @@ same_entry e f h =
 
 pub tables_keep_once : TablesKeepOnce
 tables_keep_once db m k means client n e f has_e has_f of_e of_f =
-    let r = row_of (db.trees replies_tree) k means.replies e has_e in
-    let s = row_of (db.trees replies_tree) k means.replies f has_f in
+    let r = row_of (db.trees replies_tree) k.replies means.replies e has_e in
+    let s = row_of (db.trees replies_tree) k.replies means.replies f has_f in
     let same = one_of_key db means.schema means.sound means.ordered.replies client n r.0 s.0 r.1 s.1
     (client_in r.0 e r.2 ∙ ap Text of_e.client_is) (client_in s.0 f s.2 ∙ ap Text of_f.client_is)
     (number_in r.0 e r.2 ∙ ap number of_e.number_is) (number_in s.0 f s.2 ∙ ap number of_f.number_is) in

@@ -24,3 +24,5 @@ pub mod Rows
 pub mod HeldLemmas
 pub mod AdoptLemmas
 mod ShutLemmas
+pub mod VersionLemmas
+pub mod FloorLemmas

@@ -16,7 +16,8 @@ use Rattle.sqlite_value.proofs.OrderLemmas.{value_cmp-Int}
 use Rattle.fax_schema.specs.declared.statements.TheConstants.{SELECT_META, UPDATE_CLOCK, UPDATE_META}
 use Rattle.fax_schema.specs.Schema as schema
 use Rattle.fax_schema.specs.Schema.{our_tables, meta_tree}
-use Rattle.fax_core.specs.Queue.{Queue, Entry, open_grants}
+use Rattle.fax_core.specs.Ledger.{Ledger}
+use Rattle.fax_core.specs.Queue.{Queue, open_grants}
 use Rattle.fax_tables.specs.Row.{number, meta_row}
 use Rattle.fax_store.specs.Meta.{with_clock}
 use Rattle.fax_tables.specs.Meta.{meta_shown}
@@ -34,7 +35,7 @@ meta_passes : (m : Queue) (params : Row) → passes meta_tree meta_tests [] para
 meta_passes m params = rw number_same refl
 
 stored : (m : Queue) → cast_row schema.meta (meta_row m) ≡ meta_row m
-stored m = same_row (cast_int (pos 1)) (same_row cast_null (same_row (cast_int _) (same_row (cast_int _) (same_row (cast_int _) (same_row (cast_int (pos 1)) refl)))))
+stored m = same_row (cast_int (pos 1)) (same_row cast_null (same_row (cast_int _) (same_row (cast_int _) (same_row (cast_int _) (same_row (cast_int (pos 2)) refl)))))
 
 -- what a change of the clock is told
 abbrev pub clock_params : ℕ → Row
@@ -53,7 +54,7 @@ clock_kept clock m off =
 alone : (m : Queue) → IsByRowid (meta_row m ∷ [])
 alone m = record { rise = (tt, tt); integers = (refl, tt) }
 
-module _ (old new : State) (m : Queue) (k : List Entry) (means : TablesMean old.now m k) where
+module _ (old new : State) (m : Queue) (k : Ledger) (means : TablesMean old.now m k) where
   pub meta_found : (found : Option Row) → FindsRow SELECT_META.now [] old new found → found ≡ Some (meta_shown m)
   meta_found found h =
       let read = reads_as SELECT_META.now [] old new our_tables means.schema _ select_meta.command select_meta.plain select_meta.unlisted h.0 h.1 in

@@ -15,7 +15,8 @@ use Rattle.sqlite_rules.specs.Lists.{Has}
 use Rattle.sqlite_rules.proofs.ListLemmas.{some_from}
 use Rattle.sqlite_trees.proofs.ListLemmas.{IsPermutation-same}
 use Rattle.fax_core.specs.Machine.{is_down, with_mark}
-use Rattle.fax_core.specs.Queue.{Queue, Entry, open_grants}
+use Rattle.fax_core.specs.Ledger.{Ledger}
+use Rattle.fax_core.specs.Queue.{Queue, open_grants}
 use Rattle.fax_job.specs.Name.{IsName}
 use Rattle.fax_schema.specs.declared.statements.TheConstants.{SELECT_DOWN, INSERT_DOWN, DELETE_DOWN}
 use Rattle.fax_tables.specs.Row.{down_columns}
@@ -36,7 +37,7 @@ use Rattle.sqlite_schema.specs.Rules.{agree}
 use Rattle.sqlite_value.specs.Keys.{first_key, plain}
 use Rattle.fax_schema.proofs.ModemTexts.{down_tests, down_project, down_terms, select_down, insert_down, delete_down}
 use Rattle.fax_schema.proofs.SelectLemmas.{passes, show, answers}
-use Rattle.fax_tables.proofs.TablesLemmas.{AreColumns, parts_of, means_of, calls_of, down_changed, one_more}
+use Rattle.fax_tables.proofs.TablesLemmas.{AreColumns, down, parts_of, means_of, calls_of, down_changed, one_more}
 use Rattle.fax_schema.proofs.UpdateLemmas.{gone_project, deleted}
 use Rattle.fax_schema.proofs.WriteLemmas.{KeepsOthers, unreferred, inserts}
 
@@ -56,7 +57,7 @@ module _ (modem : List ℕ) where
   is_asked project [] name is = absurd cc
   is_asked project (i ∷ columns) name is = ap (λ rest. passes down_tree down_tests project params (i ∷ rest)) is ∙ and_true (are_equal (Text name) (Text modem)) ∙ equal_texts name modem ∙ turned name modem
 
-  module _ (old new : State) (m : Queue) (k : List Entry) (means : TablesMean old.now m k) where
+  module _ (old new : State) (m : Queue) (k : Ledger) (means : TablesMean old.now m k) where
     same : IsPermutation (map down_columns m.down) (map (drop 1) (old.now.trees down_tree))
     same = IsPermutation-same (map down_columns m.down) (map (drop 1) (old.now.trees down_tree)) (sym means.down)
 
@@ -96,7 +97,7 @@ module _ (modem : List ℕ) where
         down_terms 2 (Null ∷ down_columns modem) (Int (next_rowid (old.now.trees down_tree)) ∷ down_columns modem) refl (ap (with_rowid Chosen (old.now.trees down_tree)) stored) ran in
         let was = parts_of old.now m k means in
         let marked = m.down ++ modem ∷ [] in
-        let after = down_changed old new m (open_grants m) (calls_of m) k was done.keeps marked (one_more down_columns IsName modem m.down (old.now.trees down_tree) (new.now.trees down_tree) done.rows lawful was.down) in
+        let after = down_changed old new m (open_grants m) (calls_of m) k was done.keeps marked (one_more down_columns IsName modem m.down (old.now.trees down_tree) (new.now.trees down_tree) done.rows lawful (was.says down)) in
         (subst (λ b. TablesMean new.now (record m { down = if b then m.down else marked }) k) (sym free) (means_of new.now (record m { down = marked }) k means.held after), done.keeps)
 
     -- the row of a mark agrees with the new one where it is of the same modem

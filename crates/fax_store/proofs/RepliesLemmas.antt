@@ -13,6 +13,7 @@ use Rattle.sqlite_rules.specs.Lists.{Has}
 use Rattle.fax_schema.specs.declared.statements.TheConstants.{SELECT_REPLY, INSERT_REPLY}
 use Rattle.fax_schema.specs.Schema as schema
 use Rattle.fax_schema.specs.Schema.{our_tables, replies_tree}
+use Rattle.fax_core.specs.Ledger.{Ledger, with_reply}
 use Rattle.fax_core.specs.Queue.{Queue, Entry, open_grants}
 use Rattle.fax_tables.specs.Row.{number, entry_columns}
 use Rattle.fax_tables.specs.Kept.{entry_shown}
@@ -32,7 +33,7 @@ use Rattle.fax_schema.proofs.SelectLemmas.{passes, show, answers}
 use Rattle.fax_store.proofs.KeptLemmas.{row_of}
 use Rattle.fax_schema.proofs.StatementTexts.{reply_tests, reply_project, reply_terms, select_reply, insert_reply}
 use Rattle.fax_schema.proofs.WriteLemmas.{KeepsOthers, InsertsRow, unreferred, inserts}
-use Rattle.fax_tables.proofs.TablesLemmas.{parts_of, means_of, calls_of, replies_changed, one_more}
+use Rattle.fax_tables.proofs.TablesLemmas.{Name, replies, parts_of, means_of, calls_of, replies_changed, one_more}
 use Rattle.sqlite.specs.Cast.{cast_row}
 use Rattle.sqlite.specs.Edit.{with_rowid, next_rowid}
 use Rattle.sqlite.specs.Rowids.TheVariants.{Chosen}
@@ -81,21 +82,21 @@ module _ (client : List ℕ) (n : ℕ) where
       let q : (are_equal (Text e.client) (Text client) && (are_equal (number e.number) (number n) && true)) ≡ true = rw (texts, numbers) refl in
       subst (λ cols. is_asked (x ∷ cols) ≡ true) (sym h) q
 
-  module _ (old new : State) (m : Queue) (k : List Entry) (means : TablesMean old.now m k) where
+  module _ (old new : State) (m : Queue) (k : Ledger) (means : TablesMean old.now m k) where
     pub reply_found : (found : Option Row) → FindsRow SELECT_REPLY.now params old new found
-        → MatchOption found ((e : Entry) → Has k e → ¬ IsOf client n e) (λ row. (e : Entry) × Has k e × IsOf client n e × (row ≡ entry_shown e))
+        → MatchOption found ((e : Entry) → Has k.replies e → ¬ IsOf client n e) (λ row. (e : Entry) × Has k.replies e × IsOf client n e × (row ≡ entry_shown e))
     reply_found found h = tells found h.2
       where
         same : IsPermutation (map (show replies_tree reply_tests reply_project params) (filter (passes replies_tree reply_tests reply_project params) (old.now.trees replies_tree))) h.0
         same = answers replies_tree reply_tests reply_project params old.now (old.now.trees replies_tree) refl [] h.0 (reads_as SELECT_REPLY.now params old new our_tables means.schema _ select_reply.command select_reply.plain select_reply.unlisted h.0 h.1)
 
-        tells : (found : Option Row) → MatchOption found (h.0 ≡ []) (Has h.0) → MatchOption found ((e : Entry) → Has k e → ¬ IsOf client n e) (λ row. (e : Entry) × Has k e × IsOf client n e × (row ≡ entry_shown e))
+        tells : (found : Option Row) → MatchOption found (h.0 ≡ []) (Has h.0) → MatchOption found ((e : Entry) → Has k.replies e → ¬ IsOf client n e) (λ row. (e : Entry) × Has k.replies e × IsOf client n e × (row ≡ entry_shown e))
         tells None empty = λ e has of.
-            let it = row_of (old.now.trees replies_tree) k means.replies e has in
+            let it = row_of (old.now.trees replies_tree) k.replies means.replies e has in
             both_ways _ (none_shown is_asked (show replies_tree reply_tests reply_project params) (old.now.trees replies_tree) h.0 same empty it.0 it.1) (asked_for it.0 e it.2 of)
         tells (Some row) has =
             let shown = shown_one is_asked (show replies_tree reply_tests reply_project params) (old.now.trees replies_tree) h.0 same row has in
-            let it = entry_of (old.now.trees replies_tree) k means.replies shown.0 shown.1 in
+            let it = entry_of (old.now.trees replies_tree) k.replies means.replies shown.0 shown.1 in
             let of = is_of shown.0 it.0 it.2 shown.2 in
             (it.0, it.1, of.0, shown.3 ∙ of.1)
 
@@ -124,7 +125,7 @@ lawful_of (x ∷ xs) e all (inr more) = lawful_of xs e (λ i d low. all (suc i) 
 stored_reply : (e : Entry) → cast_row schema.replies (Null ∷ entry_columns e) ≡ Null ∷ entry_columns e
 stored_reply e = same_row cast_null (same_row refl (same_row (cast_int _) (same_row refl (same_row (cast_int _) refl))))
 
-module _ (old new : State) (m : Queue) (k : List Entry) (means : TablesMean old.now m k) (e : Entry) where
+module _ (old new : State) (m : Queue) (k : Ledger) (means : TablesMean old.now m k) (e : Entry) where
   abbrev pub reply_params : Row
   reply_params = Text e.client ∷ number e.number ∷ Blob e.said ∷ number e.status ∷ Blob e.body ∷ []
 
@@ -137,11 +138,11 @@ module _ (old new : State) (m : Queue) (k : List Entry) (means : TablesMean old.
       inserts our_tables unreferred schema.replies.name 8 schema.replies.columns schema.replies.key schema.replies.primary schema.replies.uniques schema.replies.orders schema.replies.checks 4 refl old new means.schema reply_params _ h.0
       reply_terms 6 (Null ∷ entry_columns e) new_reply refl (ap (with_rowid Chosen (old.now.trees replies_tree)) (stored_reply e)) ran
 
-  pub reply_kept : IsLawfulEntry e → HasRun INSERT_REPLY.now reply_params old new → TablesMean new.now m (k ++ e ∷ []) × KeepsOthers our_tables replies_tree old new
+  pub reply_kept : IsLawfulEntry e → HasRun INSERT_REPLY.now reply_params old new → TablesMean new.now m (with_reply e k) × KeepsOthers our_tables replies_tree old new
   reply_kept lawful h =
       let done = inserted h in
       let was = parts_of old.now m k means in
-      (means_of new.now m (k ++ e ∷ []) means.held (replies_changed old new m (open_grants m) (calls_of m) k was done.keeps (k ++ e ∷ []) (one_more entry_columns IsLawfulEntry e k (old.now.trees replies_tree) (new.now.trees replies_tree) done.rows lawful was.replies)), done.keeps)
+      (means_of new.now m (with_reply e k) means.held (replies_changed old new m (open_grants m) (calls_of m) k was done.keeps (k.replies ++ e ∷ []) (one_more entry_columns IsLawfulEntry e k.replies (old.now.trees replies_tree) (new.now.trees replies_tree) done.rows lawful (was.says replies))), done.keeps)
 
   -- the row of an entry agrees with the new one where it is of the same number of the same client
   agrees : (r : Row) (other : Entry) (id : ℤ) → drop 1 r ≡ entry_columns other → agree plain (1 ∷ 2 ∷ []) r (1 ∷ 2 ∷ []) (Int id ∷ entry_columns e) ≡ true → IsOf e.client e.number other
@@ -155,11 +156,11 @@ module _ (old new : State) (m : Queue) (k : List Entry) (means : TablesMean old.
       record { client_is = (bytes_eq-Decides other.client e.client).0 (sym (equal_texts other.client e.client) ∙ both.0); number_is = same_number other.number e.number more.0 }
 
   -- a reply to a number for which none is kept breaks no rule
-  pub reply_goes : IsUnkept e.client e.number k → (fault : Error) → Executes INSERT_REPLY.now reply_params old new (Err fault) → fault_of fault ≡ Unavailable
+  pub reply_goes : IsUnkept e.client e.number k.replies → (fault : Error) → Executes INSERT_REPLY.now reply_params old new (Err fault) → fault_of fault ≡ Unavailable
   reply_goes free =
       let rows = old.now.trees replies_tree in
       let may = reply_may old.now means.schema means.sound e means.ordered.replies (λ r has.
-      let it = entry_of rows k means.replies r has in
+      let it = entry_of rows k.replies means.replies r has in
       false_from_ne_true _ (λ on. free it.0 it.1 (agrees r it.0 (next_rowid rows) it.2 on))) in
       no_rule_broken schema.replies.name 8 schema.replies.columns schema.replies.key schema.replies.primary schema.replies.uniques schema.replies.orders schema.replies.checks 4 refl old means.schema reply_params reply_terms 6
       (Null ∷ entry_columns e) new_reply refl (ap (with_rowid Chosen rows) (stored_reply e)) may INSERT_REPLY.now insert_reply new

@@ -10,7 +10,8 @@ use Rattle.sqlite_trees.specs.declared.memory.MemStore.{MemStore}
 use Rattle.sqlite.proofs.Callers.{memory_is_clean}
 use Rattle.sqlite.proofs.InsideLemmas.{fails_whole}
 use Rattle.fax_store.specs.declared.store.TheConstants.{BEGIN, COMMIT, ROLLBACK}
-use Rattle.fax_core.specs.Queue.{Queue, Entry}
+use Rattle.fax_core.specs.Ledger.{Ledger}
+use Rattle.fax_core.specs.Queue.{Queue}
 use Rattle.fax_tables.specs.Tables.{TablesMean, IsAtRest}
 use Rattle.fax_store.specs.Store.{Serves, Means, HasRows, Stays, GoesBack}
 use Rattle.fax_store.specs.Work.{Begins, BeginsAt, Commits, Forgets, Undoes}
@@ -18,7 +19,7 @@ use Rattle.fax_store.proofs.ControlLemmas.{begins, commits, commit_fails, rolls_
 use Rattle.fax_store.proofs.StatementLemmas.{left_open, run_open}
 
 -- the tables mean the same in an equal database
-pub same_tables : {a b : Database} (m : Queue) (k : List Entry) → b ≡ a → TablesMean a m k → TablesMean b m k
+pub same_tables : {a b : Database} (m : Queue) (k : Ledger) → b ≡ a → TablesMean a m k → TablesMean b m k
 same_tables m k e h = subst (λ d. TablesMean d m k) (sym e) h
 
 -- memory always serves
@@ -26,11 +27,11 @@ pub memory_serves : (c : Held MemStore) → Serves (state over_memory c)
 memory_serves c = record { clean = memory_is_clean c; is_open = refl }
 
 -- rows that are known, and what they mean
-pub at_rest_of : (s : State) (db : Database) (m : Queue) (k : List Entry) → HasRows s db → TablesMean db m k → IsAtRest s m k
+pub at_rest_of : (s : State) (db : Database) (m : Queue) (k : Ledger) → HasRows s db → TablesMean db m k → IsAtRest s m k
 at_rest_of s db m k rows means = record { autocommit = rows.autocommit; settled = rows.now ∙ sym rows.committed; means = same_tables m k rows.now means }
 
 -- where the rows stay, so does what they mean
-pub means_stay : {old new : State} → (Serves new → Serves old) → Stays old new → (m : Queue) (k : List Entry) → Means old m k → Means new m k
+pub means_stay : {old new : State} → (Serves new → Serves old) → Stays old new → (m : Queue) (k : Ledger) → Means old m k → Means new m k
 means_stay {old} {new} served stays m k means s =
     let was = means (served s) in
     at_rest_of new old.now m k (stays old.now was.means.schema (λ at. let here = means at in record { autocommit = here.autocommit; now = refl; committed = sym here.settled }) s) was.means

@@ -15,7 +15,8 @@ use Rattle.sqlite_value.proofs.OrderLemmas.{value_cmp-Int}
 use Rattle.fax_core.specs.Ageing.{is_past}
 use Rattle.fax_core.specs.Best.{better}
 use Rattle.fax_core.specs.Job.{Job, fields_of}
-use Rattle.fax_core.specs.Queue.{Queue, Entry}
+use Rattle.fax_core.specs.Ledger.{Ledger}
+use Rattle.fax_core.specs.Queue.{Queue}
 use Rattle.fax_core.specs.State.{is_due, is_waiting}
 use Rattle.fax_job.specs.declared.job.Phase.{Phase}
 use Rattle.fax_job.specs.declared.job.Phase.TheVariants.{Held, Waiting, Granted, Done, Failed}
@@ -105,7 +106,7 @@ module _ (t : ℕ) (more : Row) (tests project : List Term) where
       ap is_lt (ap₂ ordering_then (value_cmp-Int (pos a.priority) (pos b.priority)) (ap₂ ordering_then (value_cmp-Int (pos a.tts) (pos b.tts)) (ap (λ o. ordering_then o Equal) (value_cmp-Int (pos a.number) (pos b.number)))))
       ∙ by_numbers a.priority b.priority a.tts b.tts a.number b.number
 
-  module _ (db : Database) (m : Queue) (k : List Entry) (means : TablesMean db m k) (near : Job → Bool) (is_near : (j : Job) → is_further (row_of j) ≡ near j) where
+  module _ (db : Database) (m : Queue) (k : Ledger) (means : TablesMean db m k) (near : Job → Bool) (is_near : (j : Job) → is_further (row_of j) ≡ near j) where
     -- rows that pass, in order, are those of the jobs that are due and near
     pub are_near : (to : List Row) → IsPermutation (filter is_asked (db.trees jobs_tree)) to → IsSorted (output_cmp query) (map out to)
         → (jobs : List Job) × (map shown_of to ≡ map (λ j. shown_of (row_of j)) jobs) × IsPermutation (filter (λ j. is_due j t && near j) m.jobs) jobs × IsSortedBy better jobs
@@ -131,7 +132,7 @@ and_true : (b : Bool) → (b && true) ≡ b
 and_true true = refl
 and_true false = refl
 
-module _ (t : ℕ) (old new : State) (m : Queue) (k : List Entry) (means : TablesMean old.now m k) where
+module _ (t : ℕ) (old new : State) (m : Queue) (k : Ledger) (means : TablesMean old.now m k) where
   pub waiting_found : (rows : List Row) → Shown SELECT_WAITING.now (params t [] [] job_project) old new rows → (jobs : List Job) × (rows ≡ map (λ j. job_shown (fields_of j)) jobs) × AreWaiting t m jobs
   waiting_found rows h =
       let read = reads_as SELECT_WAITING.now (params t [] [] job_project) old new our_tables means.schema _ select_waiting.command select_waiting.plain select_waiting.unlisted rows h in

@@ -8,7 +8,8 @@ use Rattle.fax_tables.specs.declared.fault.StoreFault.{StoreFault}
 use Rattle.fax_tables.specs.declared.fault.StoreFault.TheVariants.{Strange, Unavailable}
 use Rattle.sqlite.specs.declared.error.Error.{Error}
 use Rattle.fax_tables.specs.Fault.{OrUnavailable, fault_of}
-use Rattle.fax_core.specs.Queue.{Queue, Entry}
+use Rattle.fax_core.specs.Ledger.{Ledger}
+use Rattle.fax_core.specs.Queue.{Queue}
 use Rattle.fax_tables.specs.Tables.{TablesMean}
 use Rattle.fax_store.specs.Store.{Serves, Means, MeansNow, HasRows, HasTables, IsEditText, Stays, IsRefusedFor, LeavesCommit, Reads, HasRun}
 use Rattle.fax_store.specs.Work.{IsOver, Holds, IsUnderWay, Works, Changes, ChangesWhere, Keeps, AnswersIn, IsOnlyUnavailable, Steps, Moves}
@@ -35,7 +36,7 @@ err_as (Ok a) more h = tt
 err_as (Err e) more h = more h
 
 -- A call of a work that holds moves it on, where what its tables mean then is known.
-pub moves_by : {A : Type 0} (old new : State) (result : Result A StoreFault) (m₀ m after : Queue) (k₀ k kept : List Entry) → (Serves new → Serves old) → Holds old false new (is_err result) → Works old false m₀ k₀ m k → Serves new
+pub moves_by : {A : Type 0} (old new : State) (result : Result A StoreFault) (m₀ m after : Queue) (k₀ k kept : Ledger) → (Serves new → Serves old) → Holds old false new (is_err result) → Works old false m₀ k₀ m k → Serves new
     → (TablesMean old.now m k → IsTrue old.in_transaction → OnOk result (TablesMean new.now after kept)) → Moves new result m₀ k₀ after kept
 moves_by old new (Ok a) m₀ m after k₀ k kept served holds works s means =
     let was = works (served s) in
@@ -78,7 +79,7 @@ never_ok X (Ok a) P is = absurd is
 never_ok X (Err e) P is = tt
 
 -- where it was refused, the last commit stands
-pub refused_by : {A : Type 0} (old new : State) (result : Result A StoreFault) (P : StoreFault → Type 0) (m₀ m after : Queue) (k₀ k kept : List Entry) → IsErrAnd result P → (Serves new → Serves old) → Holds old false new (is_err result) → Works old false m₀ k₀ m k → Serves new
+pub refused_by : {A : Type 0} (old new : State) (result : Result A StoreFault) (P : StoreFault → Type 0) (m₀ m after : Queue) (k₀ k kept : Ledger) → IsErrAnd result P → (Serves new → Serves old) → Holds old false new (is_err result) → Works old false m₀ k₀ m k → Serves new
     → Moves new result m₀ k₀ after kept
 refused_by old new result P m₀ m after k₀ k kept is served holds works s = moves_by old new result m₀ m after k₀ k kept served holds works s (λ means inside. never_ok _ result P is)
 
@@ -146,12 +147,12 @@ module _ (old new : State) (served : Serves new → Serves old) {A : Type 0} (re
           committed (inl same) = same.0.committed_is
           committed (inr undone) = (undone.undone s.is_open).1
 
-  module _ (P : Queue → List Entry → A → Type 0) (answers : (m : Queue) (k : List Entry) → MeansNow old m k → Serves new → OrUnavailable result (P m k)) where
-    pub found_by : (m : Queue) (k : List Entry) → Means old m k → Serves new → OrUnavailable result (P m k)
+  module _ (P : Queue → Ledger → A → Type 0) (answers : (m : Queue) (k : Ledger) → MeansNow old m k → Serves new → OrUnavailable result (P m k)) where
+    pub found_by : (m : Queue) (k : Ledger) → Means old m k → Serves new → OrUnavailable result (P m k)
     found_by m k means s = answers m k (λ was. (means was).means) s
 
     -- and the same inside a work
-    works_now : (m₀ m : Queue) (k₀ k : List Entry) → Works old false m₀ k₀ m k → MeansNow old m k
+    works_now : (m₀ m : Queue) (k₀ k : Ledger) → Works old false m₀ k₀ m k → MeansNow old m k
     works_now m₀ m k₀ k works was = ((works was).goes_on refl).means
 
     pub keeps_by : Keeps old false new (is_err result)
@@ -177,7 +178,7 @@ module _ (old new : State) (served : Serves new → Serves old) {A : Type 0} (re
     found_in m₀ m k₀ k works s = answers m k (works_now m₀ m k₀ k works) s
 
     -- the same, in the words of a step
-    pub goes_on : (m₀ m : Queue) (k₀ k : List Entry) → Works old false m₀ k₀ m k → Serves new → MatchResult result (λ a. P m k a × IsUnderWay new false m₀ k₀ m k) (λ fault. (fault ≡ Unavailable) × TablesMean new.committed m₀ k₀)
+    pub goes_on : (m₀ m : Queue) (k₀ k : Ledger) → Works old false m₀ k₀ m k → Serves new → MatchResult result (λ a. P m k a × IsUnderWay new false m₀ k₀ m k) (λ fault. (fault ≡ Unavailable) × TablesMean new.committed m₀ k₀)
     goes_on m₀ m k₀ k works s = stepped result (answers m k (works_now m₀ m k₀ k works) s) (keeps_by m₀ m k₀ k works s)
       where
         stepped : (r : Result A StoreFault) → OrUnavailable r (P m k) → IsUnderWay new (is_err r) m₀ k₀ m k → MatchResult r (λ a. P m k a × IsUnderWay new false m₀ k₀ m k) (λ fault. (fault ≡ Unavailable) × TablesMean new.committed m₀ k₀)
@@ -185,8 +186,8 @@ module _ (old new : State) (served : Serves new → Serves old) {A : Type 0} (re
         stepped (Err e) h after = (h, after.began)
 
 -- a step of a work that is a call of it
-module _ (old new : State) {A : Type 0} (result : Result A StoreFault) (f : Queue → Queue) (g : List Entry → List Entry)
-    (steps : (m₀ m : Queue) (k₀ k : List Entry) → Works old false m₀ k₀ m k → Serves new → Steps new result m₀ k₀ (f m) (g k)) where
+module _ (old new : State) {A : Type 0} (result : Result A StoreFault) (f : Queue → Queue) (g : Ledger → Ledger)
+    (steps : (m₀ m : Queue) (k₀ k : Ledger) → Works old false m₀ k₀ m k → Serves new → Steps new result m₀ k₀ (f m) (g k)) where
   pub changes_by : Changes old false new (is_err result) f g
   changes_by m₀ m k₀ k works s = after result (steps m₀ m k₀ k works s)
     where
@@ -204,7 +205,7 @@ holds_err a b (Ok x) P is h = absurd is
 holds_err a b (Err e) P is h = h
 
 -- A statement that writes rows of one table moves a work on. Where it was refused, the last commit stands.
-pub move_by : (old new : State) (sql : List ℕ) (params : Row) (tree : ℕ) (result : Result (Unit {0}) StoreFault) (m₀ m after : Queue) (k₀ k kept : List Entry) → (Serves new → Serves old) → Works old false m₀ k₀ m k → Serves new
+pub move_by : (old new : State) (sql : List ℕ) (params : Row) (tree : ℕ) (result : Result (Unit {0}) StoreFault) (m₀ m after : Queue) (k₀ k kept : Ledger) → (Serves new → Serves old) → Works old false m₀ k₀ m k → Serves new
     → OnOk result (HasRun sql params old new) → OnErr result (LeavesCommit old new) → (TablesMean old.now m k → HasRun sql params old new → TablesMean new.now after kept × KeepsOthers our_tables tree old new) → Moves new result m₀ k₀ after kept
 move_by old new sql params tree (Ok done) m₀ m after k₀ k kept served works s ran left does =
     let was = works (served s) in
@@ -221,12 +222,12 @@ move_by old new sql params tree (Err e) m₀ m after k₀ k kept served works s 
     committed (inr undone) = same_tables m₀ k₀ (undone.undone s.is_open).1 (works (served s)).began
 
 -- a step is a move whose refusal is known
-pub step_of : {A : Type 0} (new : State) (result : Result A StoreFault) (m₀ m : Queue) (k₀ k : List Entry) → IfErr result (λ fault. fault ≡ Unavailable) → Moves new result m₀ k₀ m k → Steps new result m₀ k₀ m k
+pub step_of : {A : Type 0} (new : State) (result : Result A StoreFault) (m₀ m : Queue) (k₀ k : Ledger) → IfErr result (λ fault. fault ≡ Unavailable) → Moves new result m₀ k₀ m k → Steps new result m₀ k₀ m k
 step_of new (Ok a) m₀ m k₀ k cause h = h
 step_of new (Err e) m₀ m k₀ k cause h = (cause, h)
 
 -- A statement that writes rows of one table is a step of a work.
-pub step_by : (old new : State) (sql : List ℕ) (params : Row) (tree : ℕ) (result : Result (Unit {0}) StoreFault) (m₀ m after : Queue) (k₀ k kept : List Entry) → (Serves new → Serves old) → Works old false m₀ k₀ m k → Serves new
+pub step_by : (old new : State) (sql : List ℕ) (params : Row) (tree : ℕ) (result : Result (Unit {0}) StoreFault) (m₀ m after : Queue) (k₀ k kept : Ledger) → (Serves new → Serves old) → Works old false m₀ k₀ m k → Serves new
     → OnOk result (HasRun sql params old new) → OnErr result (LeavesCommit old new) → IfErr result (λ fault. fault ≡ Unavailable)
     → (TablesMean old.now m k → HasRun sql params old new → TablesMean new.now after kept × KeepsOthers our_tables tree old new) → Steps new result m₀ k₀ after kept
 step_by old new sql params tree result m₀ m after k₀ k kept served works s ran left cause does =
@@ -239,8 +240,8 @@ told_unavailable old new sql params (Ok a) told goes = tt
 told_unavailable old new sql params (Err fault) told goes = told.2 ∙ goes told.0 told.1
 
 -- and so it is where what the tables mean lets its row break none
-pub only_unavailable : (old new : State) (sql : List ℕ) (params : Row) {A : Type 0} (result : Result A StoreFault) (P : Queue → List Entry → Type 0) → (Serves new → Serves old) → (HasCleanDisk new → IfErr result (IsRefusedFor sql params old new))
-    → ((m : Queue) (k : List Entry) → TablesMean old.now m k → P m k → (e : Error) → Executes sql params old new (Err e) → fault_of e ≡ Unavailable) → IsOnlyUnavailable old false new result P
+pub only_unavailable : (old new : State) (sql : List ℕ) (params : Row) {A : Type 0} (result : Result A StoreFault) (P : Queue → Ledger → Type 0) → (Serves new → Serves old) → (HasCleanDisk new → IfErr result (IsRefusedFor sql params old new))
+    → ((m : Queue) (k : Ledger) → TablesMean old.now m k → P m k → (e : Error) → Executes sql params old new (Err e) → fault_of e ≡ Unavailable) → IsOnlyUnavailable old false new result P
 only_unavailable old new sql params result P served told goes m₀ m k₀ k works s holds = told_unavailable old new sql params result (told s.clean) (goes m k ((works (served s)).goes_on refl).means holds)
 
 -- a refusal that is passed on
@@ -248,15 +249,19 @@ pub refused_as : {A : Type 0} (result : Result A StoreFault) (fault : StoreFault
 refused_as (Ok a) fault is why = tt
 refused_as (Err e) fault is why = is ∙ why
 
-pub moves_of : {A : Type 0} (new : State) (result : Result A StoreFault) (m₀ m : Queue) (k₀ k : List Entry) → Steps new result m₀ k₀ m k → Moves new result m₀ k₀ m k
+pub refused_steps : {A : Type 0} (new : State) (result : Result A StoreFault) (fault : StoreFault) (m₀ m : Queue) (k₀ k : Ledger) → IsErrAnd result (λ e. e ≡ fault) → (fault ≡ Unavailable) × TablesMean new.committed m₀ k₀ → Steps new result m₀ k₀ m k
+refused_steps new (Ok a) fault m₀ m k₀ k is why = absurd is
+refused_steps new (Err e) fault m₀ m k₀ k is why = (is ∙ why.0, why.1)
+
+pub moves_of : {A : Type 0} (new : State) (result : Result A StoreFault) (m₀ m : Queue) (k₀ k : Ledger) → Steps new result m₀ k₀ m k → Moves new result m₀ k₀ m k
 moves_of new (Ok a) m₀ m k₀ k h = h
 moves_of new (Err e) m₀ m k₀ k h = h.1
 
-pub steps_fault : {A : Type 0} (new : State) (result : Result A StoreFault) (m₀ m : Queue) (k₀ k : List Entry) → Steps new result m₀ k₀ m k → IfErr result (λ fault. fault ≡ Unavailable)
+pub steps_fault : {A : Type 0} (new : State) (result : Result A StoreFault) (m₀ m : Queue) (k₀ k : Ledger) → Steps new result m₀ k₀ m k → IfErr result (λ fault. fault ≡ Unavailable)
 steps_fault new (Ok a) m₀ m k₀ k h = tt
 steps_fault new (Err e) m₀ m k₀ k h = h.0
 
-pub moved_by : (old new : State) {A : Type 0} (result : Result A StoreFault) (f : Queue → Queue) (g : List Entry → List Entry) → ((m₀ m : Queue) (k₀ k : List Entry) → Works old false m₀ k₀ m k → Serves new → Moves new result m₀ k₀ (f m) (g k))
+pub moved_by : (old new : State) {A : Type 0} (result : Result A StoreFault) (f : Queue → Queue) (g : Ledger → Ledger) → ((m₀ m : Queue) (k₀ k : Ledger) → Works old false m₀ k₀ m k → Serves new → Moves new result m₀ k₀ (f m) (g k))
     → Changes old false new (is_err result) f g
 moved_by old new {A} result f g moves m₀ m k₀ k works s = after result (moves m₀ m k₀ k works s)
   where
@@ -265,8 +270,8 @@ moved_by old new {A} result f g moves m₀ m k₀ k works s = after result (move
     after (Err e) h = record { began = h; goes_on = λ on. absurd cc }
 
 -- a step of a work that is made where P holds of its queue
-pub steps_where : (old new : State) {A : Type 0} (P : Queue → Type 0) (result : Result A StoreFault) (f : Queue → Queue) (g : List Entry → List Entry)
-    → ((m₀ m : Queue) (k₀ k : List Entry) → P m → Works old false m₀ k₀ m k → Serves new → Moves new result m₀ k₀ (f m) (g k)) → ChangesWhere P old false new (is_err result) f g
+pub steps_where : (old new : State) {A : Type 0} (P : Queue → Type 0) (result : Result A StoreFault) (f : Queue → Queue) (g : Ledger → Ledger)
+    → ((m₀ m : Queue) (k₀ k : Ledger) → P m → Works old false m₀ k₀ m k → Serves new → Moves new result m₀ k₀ (f m) (g k)) → ChangesWhere P old false new (is_err result) f g
 steps_where old new {A} P result f g moves m₀ m k₀ k holds works s = after result (moves m₀ m k₀ k holds works s)
   where
     after : (r : Result A StoreFault) → Moves new r m₀ k₀ (f m) (g k) → IsUnderWay new (is_err r) m₀ k₀ (f m) (g k)
@@ -274,7 +279,7 @@ steps_where old new {A} P result f g moves m₀ m k₀ k holds works s = after r
     after (Err e) h = record { began = h; goes_on = λ on. absurd cc }
 
 -- a step that was refused leaves the last commit
-pub refused_step : (old new : State) {A : Type 0} (result : Result A StoreFault) (fault : StoreFault) (m₀ m after : Queue) (k₀ k kept : List Entry) → (Serves new → Serves old) → Works old false m₀ k₀ m k → Serves new → LeavesCommit old new
+pub refused_step : (old new : State) {A : Type 0} (result : Result A StoreFault) (fault : StoreFault) (m₀ m after : Queue) (k₀ k kept : Ledger) → (Serves new → Serves old) → Works old false m₀ k₀ m k → Serves new → LeavesCommit old new
     → IsErrAnd result (λ e. e ≡ fault) → fault ≡ Unavailable → Steps new result m₀ k₀ after kept
 refused_step old new (Ok a) fault m₀ m after k₀ k kept served works s left is why = absurd is
 refused_step old new (Err e) fault m₀ m after k₀ k kept served works s left is why = (is ∙ why, committed left)
@@ -284,7 +289,7 @@ refused_step old new (Err e) fault m₀ m after k₀ k kept served works s left 
     committed (inr undone) = same_tables m₀ k₀ (undone.undone s.is_open).1 (works (served s)).began
 
 -- the same, whatever the fault was
-pub refused_move : (old new : State) {A : Type 0} (result : Result A StoreFault) (fault : StoreFault) (m₀ m after : Queue) (k₀ k kept : List Entry) → (Serves new → Serves old) → Works old false m₀ k₀ m k → Serves new → LeavesCommit old new
+pub refused_move : (old new : State) {A : Type 0} (result : Result A StoreFault) (fault : StoreFault) (m₀ m after : Queue) (k₀ k kept : Ledger) → (Serves new → Serves old) → Works old false m₀ k₀ m k → Serves new → LeavesCommit old new
     → IsErrAnd result (λ e. e ≡ fault) → Moves new result m₀ k₀ after kept
 refused_move old new (Ok a) fault m₀ m after k₀ k kept served works s left is = absurd is
 refused_move old new (Err e) fault m₀ m after k₀ k kept served works s left is = committed left
@@ -294,7 +299,7 @@ refused_move old new (Err e) fault m₀ m after k₀ k kept served works s left 
     committed (inr undone) = same_tables m₀ k₀ (undone.undone s.is_open).1 (works (served s)).began
 
 -- Two statements that write rows of one table each move a work on.
-pub two_moves : (old mid new : State) (first second : List ℕ) (params others : Row) (tree other : ℕ) (result : Result (Unit {0}) StoreFault) (m₀ m after : Queue) (k₀ k kept : List Entry) → (Serves mid → Serves old) → (Serves new → Serves mid)
+pub two_moves : (old mid new : State) (first second : List ℕ) (params others : Row) (tree other : ℕ) (result : Result (Unit {0}) StoreFault) (m₀ m after : Queue) (k₀ k kept : Ledger) → (Serves mid → Serves old) → (Serves new → Serves mid)
     → Works old false m₀ k₀ m k → Serves new → HasRun first params old mid → OnOk result (HasRun second others mid new) → OnErr result (LeavesCommit mid new)
     → (TablesMean old.now m k → KeepsOthers our_tables tree old mid) → (TablesMean old.now m k → HasRun second others mid new → TablesMean new.now after kept × KeepsOthers our_tables other mid new) → Moves new result m₀ k₀ after kept
 two_moves old mid new first second params others tree other (Ok done) m₀ m after k₀ k kept was_mid was_new works s has ran left keeps does =
@@ -320,7 +325,7 @@ two_moves old mid new first second params others tree other (Err e) m₀ m after
     committed (inr undone) = same_tables m₀ k₀ ((undone.undone s.is_open).1 ∙ between) was.began
 
 -- Two statements that write rows of one table each are a step of a work.
-pub two_steps : (old mid new : State) (first second : List ℕ) (params others : Row) (tree other : ℕ) (result : Result (Unit {0}) StoreFault) (m₀ m after : Queue) (k₀ k kept : List Entry) → (Serves mid → Serves old) → (Serves new → Serves mid)
+pub two_steps : (old mid new : State) (first second : List ℕ) (params others : Row) (tree other : ℕ) (result : Result (Unit {0}) StoreFault) (m₀ m after : Queue) (k₀ k kept : Ledger) → (Serves mid → Serves old) → (Serves new → Serves mid)
     → Works old false m₀ k₀ m k → Serves new → HasRun first params old mid → OnOk result (HasRun second others mid new) → OnErr result (LeavesCommit mid new) → IfErr result (λ fault. fault ≡ Unavailable)
     → (TablesMean old.now m k → KeepsOthers our_tables tree old mid) → (TablesMean old.now m k → HasRun second others mid new → TablesMean new.now after kept × KeepsOthers our_tables other mid new) → Steps new result m₀ k₀ after kept
 two_steps old mid new first second params others tree other result m₀ m after k₀ k kept was_mid was_new works s has ran left cause keeps does =

@@ -1,5 +1,5 @@
 -- What becomes of a database that a store adopts.
-use Rattle.std.specs.Prelude.{◌≡◌, ◌⊎◌, ◌<◌, ◌^◌, ℕ, pos, Bool, true, false, List, [], ◌∷◌, map, filter, length, Some, Result, MatchResult, IsTrue}
+use Rattle.std.specs.Prelude.{◌≡◌, ◌≢◌, ◌⊎◌, ◌<◌, ◌^◌, ℕ, pos, Bool, true, false, List, [], ◌∷◌, map, filter, length, Some, Result, MatchResult, IsTrue}
 use Rattle.sqlite.specs.Collation.TheVariants.{Binary}
 use Rattle.sqlite.specs.Effect.{Database, IsDatabase}
 use Rattle.sqlite.specs.Order.{Row, column}
@@ -14,21 +14,19 @@ use Rattle.sqlite_sql.specs.Ops.{binary, is_true}
 use Rattle.sqlite_sql.specs.declared.ops.BinaryOp.TheVariants.{Compare}
 use Rattle.sqlite_sql.specs.declared.ops.CompareOp.TheVariants.{Eq}
 use Rattle.fax_core.specs.Job.{Job}
-use Rattle.fax_core.specs.Queue.{Queue, Entry, empty_queue, job_numbered}
+use Rattle.fax_core.specs.Ledger.{Ledger, empty_ledger}
+use Rattle.fax_core.specs.Queue.{Queue, empty_queue, job_numbered}
 use Rattle.fax_core.specs.State.{is_of_number}
 use Rattle.fax_job.specs.Dial.{IsCanonical}
 use Rattle.fax_tables.specs.Job.{IsText}
 use Rattle.fax_tables.specs.Row.{number}
-use Rattle.fax_schema.specs.Schema.{AreOurs, no_tables, bare_tables, older_core_tables, our_tables, core_tables, calls_tree, holds_tree, jobs_tree, meta_tree}
-use Rattle.fax_tables.specs.Tables.{GoesOn, IsAtRest, RowsMean}
+use Rattle.fax_schema.specs.ByRowid.{IsByRowid}
+use Rattle.fax_schema.specs.Schema.{AreOurs, alike_list, no_tables, bare_tables, first_bare, first_core, first_older_core, our_tables, core_tables, calls_tree, floors_tree, has_floors, holds_tree, jobs_tree, meta_tree}
+use Rattle.fax_tables.specs.Tables.{GoesOn, HasVersion, IsAtRest, Renews, RowsMean, TablesMean, floors_in, meta_as, meta_in, versions}
 use Rattle.sqlite_trees.specs.Tree.{Trees}
 use Rattle.fax_store.specs.Grant.{SetsCalls}
 use Rattle.fax_store.specs.Store.{RowsFound}
 use Rattle.fax_tables.specs.Stop.{HoldsBack}
-
--- the version in each row of meta
-abbrev pub versions : Database → List Value
-versions db = map (λ r. column r 5) (db.trees meta_tree)
 
 -- this value is the number of the job, as SQL compares them
 abbrev pub IsOf : Value → Row → Type 0
@@ -38,27 +36,33 @@ IsOf value job = is_true (binary (Compare Eq Binary) (rowid job) value) ≡ true
 abbrev pub HoldJobs : Database → Type 0
 HoldJobs db = (hold : Row) → Has (db.trees holds_tree) hold → (job : Row) × Has (db.trees jobs_tree) job × IsOf (column hold 2) job
 
--- the database has our tables, meta has one row, of version 1, and each hold its job
+-- the database has our tables, of either version, meta has one row, of that version, and each hold its job
 pub record IsOurs (db : Database) : Type 0 where
   pub schema_is : AreOurs db.schema
-  pub version : versions db ≡ number 1 ∷ []
+  pub version : HasVersion db
   pub held : HoldJobs db
 
--- all seven tables, with the rows that the other has in six of them
-pub record IsWhole (db after : Database) : Type 0 where
+-- its meta stays as it is, or its rows there have rowids that are integers and rise, as those of each table do
+abbrev pub IsRaisable : Database → Type 0
+IsRaisable db = (has_floors db.schema ≡ true) ⊎ IsByRowid (db.trees meta_tree)
+
+-- all eight tables, with the rows that the other has, as the second version has them
+pub record IsTaken (db after : Database) : Type 0 where
   pub schema_is : after.schema ≡ our_tables
   pub sound : IsDatabase after
-  pub rows : KeepsRows core_tables.tables db.trees after.trees
+  pub rows : KeepsRows alike_list db.trees after.trees
+  pub meta : IsRaisable db → after.trees meta_tree ≡ meta_in db
+  pub floors : after.trees floors_tree ≡ floors_in db
 
 -- no work is under way, and the database has got all of them
-pub record HasWhole (s : State) (db : Database) : Type 0 where
+pub record HasTaken (s : State) (db : Database) : Type 0 where
   pub autocommit : s.in_transaction ≡ false
   pub settled : s.now ≡ s.committed
-  pub whole : IsWhole db s.now
+  pub taken : IsTaken db s.now
 
 -- a database with no tables has become an empty store, and one with ours has all tables, and the rows that it had
 abbrev pub Adopts : Database → State → Type 0
-Adopts db new = ((db.schema ≡ no_tables) × IsAtRest new empty_queue []) ⊎ (IsOurs db × HasWhole new db)
+Adopts db new = ((db.schema ≡ no_tables) × IsAtRest new empty_queue empty_ledger) ⊎ (IsOurs db × HasTaken new db)
 
 -- the job has a canonical number to dial
 abbrev pub HasDial : Row → Type 0
@@ -76,10 +80,10 @@ pub record CanBeCalled (db : Database) (n : ℕ) : Type 0 where
 abbrev pub HoldsCanBeCalled : Database → Type 0
 HoldsCanBeCalled db = (hold : Row) → Has (db.trees holds_tree) hold → (n : ℕ) × (column hold 2 ≡ number n) × CanBeCalled db n
 
--- Our tables, of version 1. What is held can be called, whatever else the rows say.
+-- Our tables, of either version. What is held can be called, whatever else the rows say.
 pub record IsTakeable (db : Database) : Type 0 where
   pub schema_is : AreOurs db.schema
-  pub version : versions db ≡ number 1 ∷ []
+  pub version : HasVersion db
   pub held : HoldsCanBeCalled db
 
 -- it has no tables, or is such a database
@@ -88,7 +92,7 @@ IsAdoptable db = (db.schema ≡ no_tables) ⊎ IsTakeable db
 
 -- So is each with our tables whose rows mean a queue and kept replies, whatever `calls` says.
 abbrev pub QueuesAreTakeable : Type 0
-QueuesAreTakeable = (db : Database) (m : Queue) (k : List Entry) → AreOurs db.schema → RowsMean db m k → IsTakeable db
+QueuesAreTakeable = (db : Database) (m : Queue) (k : Ledger) → AreOurs db.schema → RowsMean db m k → IsTakeable db
 
 -- ---- the steps of it
 
@@ -108,17 +112,17 @@ pub record IsIn (Ours : Schema → Type 0) (s : State) : Type 0 where
   pub inside : IsTrue s.in_transaction
   pub schema_is : Ours s.now.schema
 
--- the six tables, with the indexes of jobs or without, or with those that stores made before
+-- without `calls`, of either version, with the indexes of jobs or without
 abbrev pub AreCore : Schema → Type 0
-AreCore schema = (schema ≡ core_tables) ⊎ ((schema ≡ bare_tables) ⊎ (schema ≡ older_core_tables))
+AreCore = Has (core_tables ∷ bare_tables ∷ first_core ∷ first_bare ∷ first_older_core ∷ [])
 
--- not with these
+-- of the second version
 abbrev pub AreStores : Schema → Type 0
 AreStores schema = (schema ≡ core_tables) ⊎ (schema ≡ bare_tables)
 
--- those tables, and the rows of the six
+-- those tables, and the rows of all but `calls`
 abbrev pub Leaves : (Schema → Type 0) → Database → Database → Type 0
-Leaves Ours db after = Ours after.schema × KeepsRows core_tables.tables db.trees after.trees
+Leaves Ours db after = Ours after.schema × Renews db after
 
 -- a transaction is under way over all tables, and no call is counted yet
 pub record HasNone (s : State) : Type 0 where
@@ -128,11 +132,47 @@ pub record HasNone (s : State) : Type 0 where
   pub sound : IsDatabase s.now
   pub none : s.now.trees calls_tree ≡ []
 
--- it was of version 1, with a job for each hold, and has all tables
-pub record IsFilled (db after : Database) : Type 0 where
-  pub version : versions db ≡ number 1 ∷ []
+-- all eight tables, with the rows that the other has in seven of them
+pub record IsWhole (db after : Database) : Type 0 where
+  pub schema_is : after.schema ≡ our_tables
+  pub sound : IsDatabase after
+  pub rows : KeepsRows core_tables.tables db.trees after.trees
+
+-- its meta stays in this version, or can be raised
+abbrev pub IsRaisableFrom : ℕ → Database → Type 0
+IsRaisableFrom version db = (version ≢ 1) ⊎ IsByRowid (db.trees meta_tree)
+
+-- it was of this version, and is of the second; no call is counted yet
+pub record IsSettled (version : ℕ) (db after : Database) : Type 0 where
+  pub was : versions db ≡ number version ∷ []
+  pub schema_is : after.schema ≡ our_tables
+  pub sound : IsDatabase after
+  pub rows : KeepsRows alike_list db.trees after.trees
+  pub meta : IsRaisableFrom version db → after.trees meta_tree ≡ meta_as version (db.trees meta_tree)
+  pub floors : after.trees floors_tree ≡ db.trees floors_tree
+  pub none : after.trees calls_tree ≡ []
+
+-- it was of this version, with a job for each hold, and has all tables
+pub record IsFilled (version : ℕ) (db after : Database) : Type 0 where
+  pub version_is : versions db ≡ number version ∷ []
   pub held : HoldJobs db
-  pub whole : IsWhole db after
+  pub schema_is : after.schema ≡ our_tables
+  pub sound : IsDatabase after
+  pub rows : KeepsRows alike_list db.trees after.trees
+  pub meta : IsRaisableFrom version db → after.trees meta_tree ≡ meta_as version (db.trees meta_tree)
+  pub floors : after.trees floors_tree ≡ db.trees floors_tree
+
+-- the rows of all tables but `calls` are those of a database that means this
+abbrev pub CoreMeans : Database → Queue → Ledger → Type 0
+CoreMeans db m k = (full : Database) × TablesMean full m k × KeepsRows core_tables.tables full.trees db.trees
+
+-- and so are they once those of meta, which are of this version, are as the second has them
+pub record MeansAs (version : ℕ) (db : Database) (m : Queue) (k : Ledger) : Type 0 where
+  pub full : Database
+  pub means : TablesMean full m k
+  pub rows : KeepsRows alike_list db.trees full.trees
+  pub meta : full.trees meta_tree ≡ meta_as version (db.trees meta_tree)
+  pub floors : full.trees floors_tree ≡ db.trees floors_tree
 
 -- ---- the calls, counted anew
 
@@ -167,10 +207,10 @@ AreCallable db rows = (row : Row) → Has rows row → (n : ℕ) × (row ≡ num
 
 -- ---- a stop
 
--- these are the rows that the database had in six tables, beside `calls`
-abbrev pub AreWhole : Database → Trees → Type 0
-AreWhole db found = (after : Database) × (after.trees ≡ found) × IsOurs db × IsWhole db after
+-- these are the rows that the database had, as the second version has them, beside those of `calls`
+abbrev pub AreTaken : Database → Trees → Type 0
+AreTaken db found = (after : Database) × (after.trees ≡ found) × IsOurs db × IsTaken db after
 
 -- what adopting makes of a database: the rows of an empty store where it had no tables, or those that it had
 abbrev pub AreAdopted : Database → Trees → Type 0
-AreAdopted db found = ((db.schema ≡ no_tables) × RowsFound found empty_queue []) ⊎ AreWhole db found
+AreAdopted db found = ((db.schema ≡ no_tables) × RowsFound found empty_queue empty_ledger) ⊎ AreTaken db found

@@ -3,7 +3,8 @@ use Rattle.std.specs.Prelude.{◌≡◌, false, List, OnOk, Err, Result, is_err,
 use Rattle.sqlite.specs.Held.{state}
 use Rattle.sqlite.specs.State.{State, HasCleanDisk}
 use Rattle.sqlite_trees.specs.declared.store.Store.{Ghosts}
-use Rattle.fax_core.specs.Queue.{Queue, Entry}
+use Rattle.fax_core.specs.Ledger.{Ledger}
+use Rattle.fax_core.specs.Queue.{Queue}
 use Rattle.fax_store.specs.Store.{CommitsNothing, HasTables, MeansNow, Reads, Serves, Stays}
 use Rattle.fax_store.specs.Work.{AnswersIn, Changes, ChangesWhere, Holds, IsOnlyUnavailable, Keeps, Withholds}
 use Rattle.fax_store.specs.declared.store.Store.{Store}
@@ -39,8 +40,8 @@ module _ {S : Type 0} (g : Ghosts S) where
     pub crash : CommitsNothing (shown old) (shown new)
 
   -- Of tables that mean a queue and kept replies the answer is one of which this holds, unless the store was unavailable.
-  abbrev pub Answers : {A : Type 0} → Store S → Store S → Result A StoreFault → (Queue → List Entry → A → Type 0) → Type 0
-  Answers old new result P = (m : Queue) (k : List Entry) → MeansNow (shown old) m k → Serves (shown new) → OrUnavailable result (P m k)
+  abbrev pub Answers : {A : Type 0} → Store S → Store S → Result A StoreFault → (Queue → Ledger → A → Type 0) → Type 0
+  Answers old new result P = (m : Queue) (k : Ledger) → MeansNow (shown old) m k → Serves (shown new) → OrUnavailable result (P m k)
 
   -- The call changes rows within a work, and commits nothing.
   pub record Runs {A : Type 0} (old new : Store S) (result : Result A StoreFault) : Type 0 where
@@ -70,18 +71,18 @@ module _ {S : Type 0} (g : Ghosts S) where
     pub refused : IsTrue old.failed → result ≡ Err Unavailable
 
   -- The work stays as it is, and of what it means the answer is one of which this holds.
-  pub record Tells {A : Type 0} (old new : Work S) (result : Result A StoreFault) (P : Queue → List Entry → A → Type 0) : Type 0 where
+  pub record Tells {A : Type 0} (old new : Work S) (result : Result A StoreFault) (P : Queue → Ledger → A → Type 0) : Type 0 where
     pub keeps : Keeps (within old) old.failed (within new) new.failed
     pub found : AnswersIn (within old) old.failed (within new) result P
 
   -- what the work means becomes this
-  abbrev pub Makes : Work S → Work S → (Queue → Queue) → (List Entry → List Entry) → Type 0
+  abbrev pub Makes : Work S → Work S → (Queue → Queue) → (Ledger → Ledger) → Type 0
   Makes old new f h = Changes (within old) old.failed (within new) new.failed f h
 
   -- so does a queue of which P holds
-  abbrev pub MakesWhere : Work S → Work S → (Queue → Type 0) → (Queue → Queue) → (List Entry → List Entry) → Type 0
+  abbrev pub MakesWhere : Work S → Work S → (Queue → Type 0) → (Queue → Queue) → (Ledger → Ledger) → Type 0
   MakesWhere old new P f h = ChangesWhere P (within old) old.failed (within new) new.failed f h
 
   -- where this holds of what the work means, the call is refused for want of an answer of the database alone
-  abbrev pub FailsOnly : {A : Type 0} → Work S → Work S → Result A StoreFault → (Queue → List Entry → Type 0) → Type 0
+  abbrev pub FailsOnly : {A : Type 0} → Work S → Work S → Result A StoreFault → (Queue → Ledger → Type 0) → Type 0
   FailsOnly old new result P = IsOnlyUnavailable (within old) old.failed (within new) result P

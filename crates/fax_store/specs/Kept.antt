@@ -6,6 +6,7 @@ use Rattle.sqlite.specs.Effect.{Database}
 use Rattle.sqlite.specs.declared.types.Value.{Value}
 use Rattle.sqlite.specs.declared.types.Value.TheVariants.{Text}
 use Rattle.sqlite_rules.specs.Lists.{Has}
+use Rattle.fax_core.specs.Ledger.{Ledger}
 use Rattle.fax_core.specs.Queue.{Queue, Entry}
 use Rattle.fax_tables.specs.Kept.{Tells}
 use Rattle.fax_tables.specs.Row.{number}
@@ -24,7 +25,7 @@ AreKeptOnce k = (client : List ℕ) (n : ℕ) (e f : Entry) → Has k e → Has 
 
 -- so it is in all tables that mean something, since the two columns are their key
 abbrev pub TablesKeepOnce : Type 0
-TablesKeepOnce = (db : Database) (m : Queue) (k : List Entry) → TablesMean db m k → AreKeptOnce k
+TablesKeepOnce = (db : Database) (m : Queue) (k : Ledger) → TablesMean db m k → AreKeptOnce k.replies
 
 -- the entry of this number of this client, if there is one
 abbrev pub kept_for : List ℕ → ℕ → List Entry → Option Entry

@@ -14,7 +14,8 @@ use Rattle.sqlite_trees.specs.Tree.{Trees}
 use Rattle.sqlite.specs.declared.error.Error.{Error}
 use Rattle.fax_tables.specs.declared.fault.StoreFault.{StoreFault}
 use Rattle.fax_tables.specs.Fault.{fault_of}
-use Rattle.fax_core.specs.Queue.{Queue, Entry}
+use Rattle.fax_core.specs.Ledger.{Ledger}
+use Rattle.fax_core.specs.Queue.{Queue}
 use Rattle.fax_schema.specs.Schema.{our_tables}
 pub use Rattle.fax_tables.specs.Stop.{MayFind, CommitsNothing}
 use Rattle.fax_tables.specs.Tables.{TablesMean, IsAtRest}
@@ -25,7 +26,7 @@ pub record Serves (s : State) : Type 0 where
   pub is_open : IsTrue s.is_open
 
 -- the store means this queue and these kept replies, as long as it serves
-abbrev pub Means : State → Queue → List Entry → Type 0
+abbrev pub Means : State → Queue → Ledger → Type 0
 Means s m k = Serves s → IsAtRest s m k
 
 -- ---- the rows, whatever they say
@@ -55,7 +56,7 @@ StaysOpen old new = HasCleanDisk new → Serves old → Serves new
 -- ---- a stop
 
 -- a database with these rows means this queue and these kept replies
-abbrev pub RowsFound : Trees → Queue → List Entry → Type 0
+abbrev pub RowsFound : Trees → Queue → Ledger → Type 0
 RowsFound found m k = (db : Database) × (db.trees ≡ found) × TablesMean db m k
 
 -- A crash leaves what a crash before could leave, or rows of which this holds.
@@ -73,7 +74,7 @@ StaysAsItWas old new = (Serves new → Serves old) × Stays old new × (HasClean
 -- ---- statements
 
 -- the tables mean this, whether a work is under way or not
-abbrev pub MeansNow : State → Queue → List Entry → Type 0
+abbrev pub MeansNow : State → Queue → Ledger → Type 0
 MeansNow s m k = Serves s → TablesMean s.now m k
 
 -- what a refused statement leaves

@@ -5,7 +5,8 @@ use Rattle.sqlite.specs.State.{State, HasCleanDisk}
 use Rattle.fax_tables.specs.declared.fault.StoreFault.{StoreFault}
 use Rattle.fax_tables.specs.declared.fault.StoreFault.TheVariants.{Unavailable}
 use Rattle.fax_tables.specs.Fault.{OrUnavailable}
-use Rattle.fax_core.specs.Queue.{Queue, Entry}
+use Rattle.fax_core.specs.Ledger.{Ledger}
+use Rattle.fax_core.specs.Queue.{Queue}
 use Rattle.fax_schema.specs.Schema.{our_tables}
 use Rattle.fax_tables.specs.Tables.{TablesMean}
 use Rattle.fax_store.specs.Store.{Serves, Means, Rests, HasTables, CommitsNothing, MayMake}
@@ -56,55 +57,55 @@ MayCommit old failed new = IsActive old failed → MayMake old new (λ found. (f
 -- ---- what they mean
 
 -- the work is under way, and its tables mean this
-pub record IsInside (s : State) (m : Queue) (k : List Entry) : Type 0 where
+pub record IsInside (s : State) (m : Queue) (k : Ledger) : Type 0 where
   pub inside : IsTrue s.in_transaction
   pub means : TablesMean s.now m k
 
 -- where the work began, which a drop goes back to, and what it means unless a call of it was refused
-pub record IsUnderWay (s : State) (failed : Bool) (m₀ : Queue) (k₀ : List Entry) (m : Queue) (k : List Entry) : Type 0 where
+pub record IsUnderWay (s : State) (failed : Bool) (m₀ : Queue) (k₀ : Ledger) (m : Queue) (k : Ledger) : Type 0 where
   pub began : TablesMean s.committed m₀ k₀
   pub goes_on : failed ≡ false → IsInside s m k
 
 -- The work began at this queue with these kept replies, and has made these of them, as long as the store serves.
-abbrev pub Works : State → Bool → Queue → List Entry → Queue → List Entry → Type 0
+abbrev pub Works : State → Bool → Queue → Ledger → Queue → Ledger → Type 0
 Works s failed m₀ k₀ m k = Serves s → IsUnderWay s failed m₀ k₀ m k
 
 -- a work begins with what the store means
 abbrev pub Begins : State → State → Bool → Type 0
-Begins old new failed = (m : Queue) (k : List Entry) → Means old m k → Works new failed m k m k
+Begins old new failed = (m : Queue) (k : Ledger) → Means old m k → Works new failed m k m k
 
 -- the store then means what the work made
 abbrev pub Commits : State → Bool → State → Type 0
-Commits old failed new = (m₀ m : Queue) (k₀ k : List Entry) → Works old failed m₀ k₀ m k → Means new m k
+Commits old failed new = (m₀ m : Queue) (k₀ k : Ledger) → Works old failed m₀ k₀ m k → Means new m k
 
 -- the store then means what it did where the work began
 abbrev pub Undoes : State → Bool → State → Type 0
-Undoes old failed new = (m₀ m : Queue) (k₀ k : List Entry) → Works old failed m₀ k₀ m k → Means new m₀ k₀
+Undoes old failed new = (m₀ m : Queue) (k₀ k : Ledger) → Works old failed m₀ k₀ m k → Means new m₀ k₀
 
 -- a call makes this of what the work means
-abbrev pub Changes : State → Bool → State → Bool → (Queue → Queue) → (List Entry → List Entry) → Type 0
-Changes old failed new failed_after f g = (m₀ m : Queue) (k₀ k : List Entry) → Works old failed m₀ k₀ m k → Works new failed_after m₀ k₀ (f m) (g k)
+abbrev pub Changes : State → Bool → State → Bool → (Queue → Queue) → (Ledger → Ledger) → Type 0
+Changes old failed new failed_after f g = (m₀ m : Queue) (k₀ k : Ledger) → Works old failed m₀ k₀ m k → Works new failed_after m₀ k₀ (f m) (g k)
 
 -- the same of a queue of which P holds
-abbrev pub ChangesWhere : (Queue → Type 0) → State → Bool → State → Bool → (Queue → Queue) → (List Entry → List Entry) → Type 0
-ChangesWhere P old failed new failed_after f g = (m₀ m : Queue) (k₀ k : List Entry) → P m → Works old failed m₀ k₀ m k → Works new failed_after m₀ k₀ (f m) (g k)
+abbrev pub ChangesWhere : (Queue → Type 0) → State → Bool → State → Bool → (Queue → Queue) → (Ledger → Ledger) → Type 0
+ChangesWhere P old failed new failed_after f g = (m₀ m : Queue) (k₀ k : Ledger) → P m → Works old failed m₀ k₀ m k → Works new failed_after m₀ k₀ (f m) (g k)
 
 -- a call leaves what the work means
 abbrev pub Keeps : State → Bool → State → Bool → Type 0
 Keeps old failed new failed_after = Changes old failed new failed_after (λ m. m) (λ k. k)
 
 -- a call of a work answers a value of which this holds, unless it was unavailable
-abbrev pub AnswersIn : {A : Type 0} → State → Bool → State → Result A StoreFault → (Queue → List Entry → A → Type 0) → Type 0
-AnswersIn old failed new result P = (m₀ m : Queue) (k₀ k : List Entry) → Works old failed m₀ k₀ m k → Serves new → OrUnavailable result (P m k)
+abbrev pub AnswersIn : {A : Type 0} → State → Bool → State → Result A StoreFault → (Queue → Ledger → A → Type 0) → Type 0
+AnswersIn old failed new result P = (m₀ m : Queue) (k₀ k : Ledger) → Works old failed m₀ k₀ m k → Serves new → OrUnavailable result (P m k)
 
 -- A step of a work makes this of it. Where it was refused, the last commit stands.
-abbrev pub Steps : {A : Type 0} → State → Result A StoreFault → Queue → List Entry → Queue → List Entry → Type 0
+abbrev pub Steps : {A : Type 0} → State → Result A StoreFault → Queue → Ledger → Queue → Ledger → Type 0
 Steps new result m₀ k₀ m k = MatchResult result (λ _. IsUnderWay new false m₀ k₀ m k) (λ fault. (fault ≡ Unavailable) × TablesMean new.committed m₀ k₀)
 
 -- the same, whatever the fault was
-abbrev pub Moves : {A : Type 0} → State → Result A StoreFault → Queue → List Entry → Queue → List Entry → Type 0
+abbrev pub Moves : {A : Type 0} → State → Result A StoreFault → Queue → Ledger → Queue → Ledger → Type 0
 Moves new result m₀ k₀ m k = MatchResult result (λ _. IsUnderWay new false m₀ k₀ m k) (λ fault. TablesMean new.committed m₀ k₀)
 
 -- Where the tables mean a queue of which P holds, the call is refused for want of an answer of the database alone.
-abbrev pub IsOnlyUnavailable : {A : Type 0} → State → Bool → State → Result A StoreFault → (Queue → List Entry → Type 0) → Type 0
-IsOnlyUnavailable old failed new result P = (m₀ m : Queue) (k₀ k : List Entry) → Works old failed m₀ k₀ m k → Serves new → P m k → IfErr result (λ fault. fault ≡ Unavailable)
+abbrev pub IsOnlyUnavailable : {A : Type 0} → State → Bool → State → Result A StoreFault → (Queue → Ledger → Type 0) → Type 0
+IsOnlyUnavailable old failed new result P = (m₀ m : Queue) (k₀ k : Ledger) → Works old failed m₀ k₀ m k → Serves new → P m k → IfErr result (λ fault. fault ≡ Unavailable)

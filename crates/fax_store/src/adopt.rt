@@ -5,35 +5,42 @@ ghost use Rattle.sqlite.specs.Effect.{IsDatabase};
 ghost use Rattle.sqlite.specs.Held.{state};
 ghost use Rattle.sqlite.specs.State.{HasCleanDisk, IsUnchanged, KeepsCommit};
 ghost use Rattle.fax_core.specs.Job.{Job as OneJob};
-ghost use Rattle.fax_core.specs.Queue.{Queue, Entry, empty_queue, job_numbered};
+ghost use Rattle.fax_core.specs.Ledger.{Ledger, empty_ledger};
+ghost use Rattle.fax_core.specs.Queue.{Queue, empty_queue, job_numbered};
 ghost use Rattle.fax_store.specs.Calls.{shown};
-ghost use Rattle.fax_store.specs.Adopt.{Adopts, AreAdopted, AreCallable, AreOfJobs, AreCore, AreSmall, AreStores, AreWhole, CanBeCalled, HasNone, HasSet, HasWhole, HoldJobs, HoldsCanBeCalled, IsAdoptable, IsFilled, IsIn, IsOurs, IsTakeable, IsWhole, Leaves, Turns, held_to, versions};
+ghost use Rattle.sqlite_rules.specs.Lists.{Has};
+ghost use Rattle.fax_store.specs.Adopt.{Adopts, AreAdopted, AreCallable, AreOfJobs, AreCore, AreSmall, AreStores, AreTaken, CanBeCalled, CoreMeans, HasNone, HasSet, HasTaken, HoldJobs, HoldsCanBeCalled, IsAdoptable, IsFilled, IsIn, IsOurs, IsSettled, IsTakeable, IsWhole, Leaves, MeansAs, Turns, held_to};
 ghost use Rattle.fax_store.specs.Grant.{HasCalls, SetsCalls, with_count};
 ghost use Rattle.fax_store.specs.Store.{CommitsNothing, GoesBack, HasTables, LeavesAlone, MayMake, Means, Reads, RowsFound, Serves};
 ghost use Rattle.fax_store.specs.Work.{Withholds};
 ghost use Rattle.fax_tables.specs.Row.{number};
-ghost use Rattle.fax_schema.specs.Schema.{AreInOrder, AreOurs, no_tables, core_tables};
-ghost use Rattle.fax_tables.specs.Tables.{HasNewCalls, IsAtRest, RowsMean, TablesMean};
+ghost use Rattle.fax_schema.specs.Schema.{AreInOrder, AreOurs, no_tables, core_tables, without_calls};
+ghost use Rattle.fax_tables.specs.Tables.{HasNewCalls, IsAtRest, RowsMean, TablesMean, version_of, versions};
 
 use crate::store::{BEGIN, COMMIT, Store};
 use fax_job::Dial;
-use fax_schema::statements::{SELECT_DIAL, SELECT_HELD, SELECT_LOST, SELECT_VERSION};
+use fax_schema::statements::{
+    SELECT_DIAL, SELECT_HELD, SELECT_LOST, SELECT_VERSION, UPDATE_VERSION,
+};
 use fax_schema::{
-    has_bare_tables, has_calls, has_indexes_last, has_no_tables, has_older_core, has_ours,
+    has_bare_tables, has_calls, has_first_bare, has_first_indexes, has_floors, has_indexes_last,
+    has_no_tables, has_ours,
 };
 use fax_tables::{
-    StoreFault, create_calls, create_indexes, create_tables, dial_in, drop_calls, drop_indexes,
-    held_job_in, is_version,
+    StoreFault, create_calls, create_floors, create_indexes, create_tables, dial_in, drop_calls,
+    drop_indexes, held_job_in, is_version,
 };
 use sqlite::{Alter, Connection, Row, params};
+use sqlite_schema::schema::Schema;
 use std::alloc::Global;
 
 impl<S: Alter> Store<S> {
-    /// The store over a database. One with no tables gets the seven of an empty store, with their
-    /// indexes. One with exactly the tables of a queue, of version 1, keeps the rows of all but
-    /// `calls`, which is counted anew by what is held, whether it was there or not. The indexes by
-    /// which jobs are found are made where there are none, where VACUUM moved them, or where a store
-    /// made others before. Either is done in one transaction.
+    /// The store over a database. One with no tables gets the eight of an empty store, with their
+    /// indexes. One with exactly the tables of a queue, of version 1 or 2, keeps the rows of all but
+    /// `calls`, which is counted anew by what is held, whether it was there or not. Where the version
+    /// is 1, it becomes 2, and `floors` is made, with no rows. The indexes by which jobs are found are
+    /// made where there are none, where VACUUM moved them, where a store made others before, or where
+    /// the version was 1. All this is done in one transaction.
     ///
     /// # Errors
     ///
@@ -47,9 +54,9 @@ impl<S: Alter> Store<S> {
         requires { (state S.Store conn).in_transaction ≡ false }
         ensures adopts { IfOk result (λ store. HasCleanDisk (state S.Store store.conn)
             → Adopts (state S.Store conn).now (state S.Store store.conn)) }
-        ensures means { IfOk result (λ store. (m : Queue) (k : List Entry) → Means (state S.Store conn) m k
+        ensures means { IfOk result (λ store. (m : Queue) (k : Ledger) → Means (state S.Store conn) m k
             → Means (state S.Store store.conn) m k) }
-        ensures means_rows { IfOk result (λ store. (m : Queue) (k : List Entry)
+        ensures means_rows { IfOk result (λ store. (m : Queue) (k : Ledger)
             → AreOurs (state S.Store conn).now.schema → RowsMean (state S.Store conn).now m k
             → Means (state S.Store store.conn) m k) }
         ensures served { IfOk result (λ store. Serves (state S.Store store.conn) → Serves (state S.Store conn)) }
@@ -57,7 +64,7 @@ impl<S: Alter> Store<S> {
             → HasCleanDisk (state S.Store conn)) }
         ensures opens { IfOk result (λ store. HasCleanDisk (state S.Store store.conn)
             → Serves (state S.Store store.conn)) }
-        ensures reopens { IfOk result (λ store. (m : Queue) (k : List Entry)
+        ensures reopens { IfOk result (λ store. (m : Queue) (k : Ledger)
             → RowsFound (state S.Store conn).now.trees m k → IsDatabase (state S.Store conn).now
             → Means (state S.Store store.conn) m k) }
         ensures crash { IfOk result (λ store. MayMake (state S.Store conn) (state S.Store store.conn) (AreAdopted
@@ -100,7 +107,7 @@ impl<S: Alter> Store<S> {
     fn take_tables(&mut self) -> Result<(), StoreFault>
         ensures taken { HasCleanDisk (shown S.Store self.new)
             → OnOk result (Adopts (shown S.Store self.old).now (shown S.Store self.new)) }
-        ensures means { (m : Queue) (k : List Entry) → HasCleanDisk (shown S.Store self.new)
+        ensures means { (m : Queue) (k : Ledger) → HasCleanDisk (shown S.Store self.new)
             → OnOk result (AreOurs (shown S.Store self.old).now.schema → RowsMean (shown S.Store self.old).now m k
             → IsAtRest (shown S.Store self.new) m k) }
         ensures kept { HasCleanDisk (shown S.Store self.new)
@@ -128,14 +135,14 @@ impl<S: Alter> Store<S> {
     pub(crate) fn make_tables(&mut self) -> Result<(), StoreFault>
         requires { (shown S.Store self.old).now.schema ≡ no_tables }
         ensures made { HasCleanDisk (shown S.Store self.new)
-            → OnOk result (IsAtRest (shown S.Store self.new) empty_queue []) }
+            → OnOk result (IsAtRest (shown S.Store self.new) empty_queue empty_ledger) }
         ensures kept { HasCleanDisk (shown S.Store self.new)
             → OnErr result (KeepsCommit (shown S.Store self.old) (shown S.Store self.new)) }
         ensures served { Serves (shown S.Store self.new) → Serves (shown S.Store self.old) }
         ensures clean { HasCleanDisk (shown S.Store self.new) → HasCleanDisk (shown S.Store self.old) }
         ensures opens { OnOk result (HasCleanDisk (shown S.Store self.new) → Serves (shown S.Store self.new)) }
         ensures crash { MayMake (shown S.Store self.old) (shown S.Store self.new)
-            (λ found. RowsFound found empty_queue []) }
+            (λ found. RowsFound found empty_queue empty_ledger) }
         ensures cause { IfErr result (λ fault. fault ≡ StoreFault.Unavailable) }
     {
         self.conn.execute(BEGIN, &[])?;
@@ -148,36 +155,37 @@ impl<S: Alter> Store<S> {
     fn take_ours(&mut self) -> Result<(), StoreFault>
         requires { AreOurs (shown S.Store self.old).now.schema }
         ensures made { HasCleanDisk (shown S.Store self.new) → OnOk result (IsOurs (shown S.Store self.old).now
-            × HasWhole (shown S.Store self.new) (shown S.Store self.old).now) }
-        ensures means { (m : Queue) (k : List Entry) → HasCleanDisk (shown S.Store self.new)
+            × HasTaken (shown S.Store self.new) (shown S.Store self.old).now) }
+        ensures means { (m : Queue) (k : Ledger) → HasCleanDisk (shown S.Store self.new)
             → OnOk result (RowsMean (shown S.Store self.old).now m k → IsAtRest (shown S.Store self.new) m k) }
         ensures kept { HasCleanDisk (shown S.Store self.new)
             → OnErr result (KeepsCommit (shown S.Store self.old) (shown S.Store self.new)) }
         ensures served { Serves (shown S.Store self.new) → Serves (shown S.Store self.old) }
         ensures clean { HasCleanDisk (shown S.Store self.new) → HasCleanDisk (shown S.Store self.old) }
         ensures opens { OnOk result (HasCleanDisk (shown S.Store self.new) → Serves (shown S.Store self.new)) }
-        ensures crash { MayMake (shown S.Store self.old) (shown S.Store self.new) (AreWhole
+        ensures crash { MayMake (shown S.Store self.old) (shown S.Store self.new) (AreTaken
             (shown S.Store self.old).now) }
         ensures nothing { result ≡ Err StoreFault.Strange
             → CommitsNothing (shown S.Store self.old) (shown S.Store self.new) }
         ensures strange { HasCleanDisk (shown S.Store self.new) → result ≡ Err StoreFault.Strange
             → ¬ IsTakeable (shown S.Store self.old).now }
     {
+        let version = version_in(self.conn.schema());
         self.conn.execute(BEGIN, &[])?;
         self.renew()?;
-        self.fill()?;
+        self.fill(version)?;
         self.conn.execute(COMMIT, &[])?;
         Ok(())
     }
 
-    /// Makes `calls` anew, with no rows, and the indexes of jobs where there are none.
+    /// Makes `calls` anew, with no rows, floors where the version is 1, and the indexes of jobs where there are none.
     fn renew(&mut self) -> Result<(), StoreFault>
         ensures leaves { Turns (IsIn AreOurs) HasNewCalls (shown S.Store self.old) (shown S.Store self.new) result }
         ensures cause { IfErr result (λ fault. fault ≡ StoreFault.Unavailable) }
     {
         self.lose_indexes()?;
         self.lose_calls()?;
-        self.get_indexes()?;
+        self.get_core()?;
         create_calls(&mut self.conn)?;
         Ok(())
     }
@@ -189,19 +197,6 @@ impl<S: Alter> Store<S> {
         ensures cause { IfErr result (λ fault. fault ≡ StoreFault.Unavailable) }
     {
         if !has_indexes_last(self.alloc, self.conn.schema())? {
-            return Ok(());
-        }
-        drop_indexes(&mut self.conn)?;
-        Ok(())
-    }
-
-    /// Takes the indexes of jobs away that stores made before, where only `calls` stood behind them.
-    fn lose_older(&mut self) -> Result<(), StoreFault>
-        ensures leaves { Turns (IsIn AreCore) (Leaves AreStores) (shown S.Store self.old)
-            (shown S.Store self.new) result }
-        ensures cause { IfErr result (λ fault. fault ≡ StoreFault.Unavailable) }
-    {
-        if !has_older_core(self.alloc, self.conn.schema())? {
             return Ok(());
         }
         drop_indexes(&mut self.conn)?;
@@ -221,14 +216,50 @@ impl<S: Alter> Store<S> {
         Ok(())
     }
 
-    /// Makes the indexes of jobs where a store's aren't there.
-    fn get_indexes(&mut self) -> Result<(), StoreFault>
+    /// Makes floors and the indexes of jobs, where they aren't there.
+    fn get_core(&mut self) -> Result<(), StoreFault>
         ensures leaves { Turns (IsIn AreCore) (Leaves (λ schema. schema ≡ core_tables)) (shown S.Store self.old)
             (shown S.Store self.new) result }
         ensures cause { IfErr result (λ fault. fault ≡ StoreFault.Unavailable) }
     {
-        self.lose_older()?;
+        self.lose_first_indexes()?;
+        self.get_indexes()
+    }
+
+    /// Takes the indexes of jobs away where the version is 1, so that floors come before them.
+    fn lose_first_indexes(&mut self) -> Result<(), StoreFault>
+        ensures leaves { Turns (IsIn AreCore) (Leaves (Has without_calls)) (shown S.Store self.old)
+            (shown S.Store self.new) result }
+        ensures cause { IfErr result (λ fault. fault ≡ StoreFault.Unavailable) }
+    {
+        if !has_first_indexes(self.alloc, self.conn.schema())? {
+            return Ok(());
+        }
+        drop_indexes(&mut self.conn)?;
+        Ok(())
+    }
+
+    /// Makes floors where the version is 1, and the indexes of jobs where there are none.
+    fn get_indexes(&mut self) -> Result<(), StoreFault>
+        ensures leaves { Turns (IsIn (Has without_calls)) (Leaves (λ schema. schema ≡ core_tables))
+            (shown S.Store self.old) (shown S.Store self.new) result }
+        ensures cause { IfErr result (λ fault. fault ≡ StoreFault.Unavailable) }
+    {
+        self.get_floors()?;
         self.make_indexes()
+    }
+
+    /// Makes floors, with no rows, where the version is 1.
+    fn get_floors(&mut self) -> Result<(), StoreFault>
+        ensures leaves { Turns (IsIn (Has without_calls)) (Leaves AreStores) (shown S.Store self.old)
+            (shown S.Store self.new) result }
+        ensures cause { IfErr result (λ fault. fault ≡ StoreFault.Unavailable) }
+    {
+        if !has_first_bare(self.alloc, self.conn.schema())? {
+            return Ok(());
+        }
+        create_floors(&mut self.conn)?;
+        Ok(())
     }
 
     /// Makes the indexes of jobs where there are none.
@@ -244,35 +275,48 @@ impl<S: Alter> Store<S> {
         Ok(())
     }
 
-    /// Tests whether the version is 1 and each hold has its job, and counts the calls.
-    fn fill(&mut self) -> Result<(), StoreFault>
-        ensures leaves { Turns HasNone IsFilled (shown S.Store self.old) (shown S.Store self.new) result }
-        ensures counted { (m : Queue) (k : List Entry) → HasNone (shown S.Store self.old)
-            → HasCleanDisk (shown S.Store self.new) → OnOk result (RowsMean (shown S.Store self.old).now m k
+    /// Tests whether the version is this one and each hold has its job, has the version be 2, and counts the calls.
+    fn fill(&mut self, version: u32) -> Result<(), StoreFault>
+        ensures leaves { Turns HasNone (IsFilled version) (shown S.Store self.old) (shown S.Store self.new) result }
+        ensures counted { (m : Queue) (k : Ledger) → HasNone (shown S.Store self.old)
+            → HasCleanDisk (shown S.Store self.new) → OnOk result (MeansAs version (shown S.Store self.old).now m k
             → TablesMean (shown S.Store self.new).now m k) }
         ensures strange { HasCleanDisk (shown S.Store self.new) → result ≡ Err StoreFault.Strange
-            → HasNone (shown S.Store self.old) → versions (shown S.Store self.old).now ≡ number 1 ∷ []
+            → HasNone (shown S.Store self.old) → versions (shown S.Store self.old).now ≡ number version ∷ []
             → ¬ HoldsCanBeCalled (shown S.Store self.old).now }
     {
-        self.test_version()?;
+        self.settle_version(version)?;
         self.test_holds()?;
         self.count_holds()
     }
 
-    /// Tests whether meta has one row, of version 1.
-    fn test_version(&mut self) -> Result<(), StoreFault>
+    /// Tests whether meta has one row, of this version, and has the version be 2.
+    fn settle_version(&mut self, version: u32) -> Result<(), StoreFault>
+        ensures leaves { Turns HasNone (IsSettled version) (shown S.Store self.old) (shown S.Store self.new) result }
+        ensures strange { HasNone (shown S.Store self.old) → HasCleanDisk (shown S.Store self.new)
+            → result ≡ Err StoreFault.Strange → ¬ (versions (shown S.Store self.old).now ≡ number version ∷ []) }
+    {
+        self.test_version(version)?;
+        if version != 1 {
+            return Ok(());
+        }
+        self.run(UPDATE_VERSION, &[])
+    }
+
+    /// Tests whether meta has one row, of this version.
+    fn test_version(&mut self, version: u32) -> Result<(), StoreFault>
         ensures ours { HasTables (shown S.Store self.old) → HasCleanDisk (shown S.Store self.new)
-            → OnOk result ((versions (shown S.Store self.old).now ≡ number 1 ∷ [])
+            → OnOk result ((versions (shown S.Store self.old).now ≡ number version ∷ [])
             × IsUnchanged (shown S.Store self.old) (shown S.Store self.new)) }
         ensures left { HasCleanDisk (shown S.Store self.new) → HasTables (shown S.Store self.old)
             → OnErr result (KeepsCommit (shown S.Store self.old) (shown S.Store self.new)) }
         ensures clean { HasCleanDisk (shown S.Store self.new) → HasCleanDisk (shown S.Store self.old) }
         ensures crash { CommitsNothing (shown S.Store self.old) (shown S.Store self.new) }
         ensures strange { HasTables (shown S.Store self.old) → HasCleanDisk (shown S.Store self.new)
-            → result ≡ Err StoreFault.Strange → ¬ (versions (shown S.Store self.old).now ≡ number 1 ∷ []) }
+            → result ≡ Err StoreFault.Strange → ¬ (versions (shown S.Store self.old).now ≡ number version ∷ []) }
     {
         let rows = self.show(SELECT_VERSION, &[])?;
-        if is_version(rows.as_slice()) {
+        if is_version(rows.as_slice(), version) {
             Ok(())
         } else {
             Err(StoreFault::Strange)
@@ -301,8 +345,8 @@ impl<S: Alter> Store<S> {
     /// Counts the calls by what is held.
     fn count_holds(&mut self) -> Result<(), StoreFault>
         ensures leaves { Turns HasNone IsWhole (shown S.Store self.old) (shown S.Store self.new) result }
-        ensures counted { (m : Queue) (k : List Entry) → HasNone (shown S.Store self.old)
-            → HasCleanDisk (shown S.Store self.new) → RowsMean (shown S.Store self.old).now m k
+        ensures counted { (m : Queue) (k : Ledger) → HasNone (shown S.Store self.old)
+            → HasCleanDisk (shown S.Store self.new) → CoreMeans (shown S.Store self.old).now m k
             → OnOk result (TablesMean (shown S.Store self.new).now m k) }
         ensures cause { HasNone (shown S.Store self.old) → HasCleanDisk (shown S.Store self.new)
             → HoldsCanBeCalled (shown S.Store self.old).now → IfErr result (λ fault. fault ≡ StoreFault.Unavailable) }
@@ -317,7 +361,7 @@ impl<S: Alter> Store<S> {
             → HasCleanDisk (shown S.Store self.new)
             → MatchResult result (λ _. HasSet (shown S.Store self.old) (shown S.Store self.new)) (λ _. KeepsCommit
             (shown S.Store self.old) (shown S.Store self.new)) }
-        ensures counted { (m : Queue) (k : List Entry) → RowsMean (shown S.Store self.old).now m k
+        ensures counted { (m : Queue) (k : Ledger) → CoreMeans (shown S.Store self.old).now m k
             → AreOfJobs m rows.now → length rows.now < 2 ^ 32 → HasCalls (shown S.Store self.old) (λ _. 0)
             → HasCleanDisk (shown S.Store self.new)
             → OnOk result (SetsCalls (shown S.Store self.old) (shown S.Store self.new) (held_to m rows.now)) }
@@ -339,8 +383,8 @@ impl<S: Alter> Store<S> {
             → HasCleanDisk (shown S.Store self.new)
             → MatchResult result (λ _. HasSet (shown S.Store self.old) (shown S.Store self.new)) (λ _. KeepsCommit
             (shown S.Store self.old) (shown S.Store self.new)) }
-        ensures counted { (m : Queue) (k : List Entry) (j : OneJob) (count : List ℕ → ℕ)
-            → RowsMean (shown S.Store self.old).now m k → row.now ≡ number j.number ∷ []
+        ensures counted { (m : Queue) (k : Ledger) (j : OneJob) (count : List ℕ → ℕ)
+            → CoreMeans (shown S.Store self.old).now m k → row.now ≡ number j.number ∷ []
             → job_numbered j.number m ≡ Some j → count j.dial + 1 < 2 ^ 32 → HasCalls (shown S.Store self.old) count
             → HasCleanDisk (shown S.Store self.new)
             → OnOk result (SetsCalls (shown S.Store self.old) (shown S.Store self.new) (with_count j.dial
@@ -360,8 +404,8 @@ impl<S: Alter> Store<S> {
     fn dial_of(&mut self, job: u32) -> Result<Dial, StoreFault>
         ensures reads { HasTables (shown S.Store self.old) → HasCleanDisk (shown S.Store self.new)
             → Reads (shown S.Store self.old) (shown S.Store self.new) result }
-        ensures answers { (m : Queue) (k : List Entry) (j : OneJob) → HasTables (shown S.Store self.old)
-            → RowsMean (shown S.Store self.old).now m k → job_numbered job m ≡ Some j
+        ensures answers { (m : Queue) (k : Ledger) (j : OneJob) → HasTables (shown S.Store self.old)
+            → CoreMeans (shown S.Store self.old).now m k → job_numbered job m ≡ Some j
             → HasCleanDisk (shown S.Store self.new) → IfOk result (λ dial. dial ≡ j.dial) }
         ensures crash { CommitsNothing (shown S.Store self.old) (shown S.Store self.new) }
         ensures clean { HasCleanDisk (shown S.Store self.new) → HasCleanDisk (shown S.Store self.old) }
@@ -393,4 +437,11 @@ impl<S: Alter> Store<S> {
         // A number has fewer calls than there are grants, so the sum fits.
         self.set_calls(dial, calls.saturating_add(1))
     }
+}
+
+/// The version that a database with our tables is of.
+fn version_in(schema: &Schema) -> u32
+    ensures { result ≡ version_of schema.now }
+{
+    if has_floors(schema) { 2 } else { 1 }
 }

@@ -4,7 +4,8 @@ ghost use Rattle.std.specs.Prelude.{◌≡◌, List, [], true, None, Some, IfOk,
 ghost use Rattle.std.specs.Vec.Iter.{into_iter_items};
 ghost use Rattle.sqlite.specs.State.{HasCleanDisk};
 ghost use Rattle.fax_core.specs.Job.{Job as OneJob};
-ghost use Rattle.fax_core.specs.Queue.{Queue, Entry};
+ghost use Rattle.fax_core.specs.Ledger.{Ledger};
+ghost use Rattle.fax_core.specs.Queue.{Queue};
 ghost use Rattle.fax_core.specs.State.{calls_to};
 ghost use Rattle.fax_store.specs.Calls.{Answers, Finds, Looks, shown};
 ghost use Rattle.fax_store.specs.Candidates.{AreAsked, Gives, IsCounted, IsPage, IsProspect, StandsAt, is_last, next_front};
@@ -118,7 +119,7 @@ impl<S: Alter> Store<S> {
         ensures same_reference { result.store.ghost_name ≡ self.entry.ghost_name }
         ensures same { result.store.now ≡ self.old }
         ensures asked { (result.asked.t ≡ t) × (result.asked.but ≡ None) }
-        ensures stands { (m : Queue) (k : List Entry) → Means (shown S.Store self.old) m k
+        ensures stands { (m : Queue) (k : Ledger) → Means (shown S.Store self.old) m k
             → Serves (shown S.Store self.old)
             → StandsAt result.asked m [] (into_iter_items result.page) result.front result.most }
     {
@@ -130,7 +131,7 @@ impl<S: Alter> Store<S> {
         ensures same_reference { result.store.ghost_name ≡ self.entry.ghost_name }
         ensures same { result.store.now ≡ self.old }
         ensures asked { (result.asked.t ≡ t) × (result.asked.but ≡ Some dial) }
-        ensures stands { (m : Queue) (k : List Entry) → Means (shown S.Store self.old) m k
+        ensures stands { (m : Queue) (k : Ledger) → Means (shown S.Store self.old) m k
             → Serves (shown S.Store self.old)
             → StandsAt result.asked m [] (into_iter_items result.page) result.front result.most }
     {
@@ -141,7 +142,7 @@ impl<S: Alter> Store<S> {
         ensures same_reference { result.store.ghost_name ≡ self.entry.ghost_name }
         ensures same { result.store.now ≡ self.old }
         ensures asked { result.asked ≡ asked }
-        ensures stands { (m : Queue) (k : List Entry) → Means (shown S.Store self.old) m k
+        ensures stands { (m : Queue) (k : Ledger) → Means (shown S.Store self.old) m k
             → Serves (shown S.Store self.old)
             → StandsAt asked m [] (into_iter_items result.page) result.front result.most }
     {
@@ -191,7 +192,7 @@ impl<S: Alter> Candidates<'_, S> {
         ensures opens { OnOk result (HasCleanDisk (shown S.Store self.new.store.now)
             → Serves (shown S.Store self.new.store.now)) }
         ensures asked { self.new.asked ≡ self.old.asked }
-        ensures found { (m : Queue) (k : List Entry) (given : List OneJob)
+        ensures found { (m : Queue) (k : Ledger) (given : List OneJob)
             → Means (shown S.Store self.old.store.now) m k → Serves (shown S.Store self.new.store.now)
             → StandsAt self.old.asked m given (into_iter_items self.old.page) self.old.front self.old.most
             → OrUnavailable result (Gives (IsCounted m) self.old.asked m given
@@ -219,7 +220,7 @@ impl<S: Alter> Candidates<'_, S> {
         ensures none { IfOk result (λ found. found ≡ None → HasCleanDisk (shown S.Store self.new.store.now)
             → Serves (shown S.Store self.new.store.now)) }
         ensures asked { self.new.asked ≡ self.old.asked }
-        ensures found { (m : Queue) (k : List Entry) (given : List OneJob)
+        ensures found { (m : Queue) (k : Ledger) (given : List OneJob)
             → Means (shown S.Store self.old.store.now) m k → Serves (shown S.Store self.new.store.now)
             → StandsAt self.old.asked m given (into_iter_items self.old.page) self.old.front self.old.most
             → OrUnavailable result (Gives IsProspect self.old.asked m given
@@ -244,7 +245,7 @@ impl<S: Alter> Candidates<'_, S> {
             → Serves (shown S.Store self.new.store.now)) }
         ensures same { (self.new.asked ≡ self.old.asked) × (self.new.page ≡ self.old.page)
             × (self.new.front ≡ self.old.front) × (self.new.most ≡ self.old.most) }
-        ensures found { (m : Queue) (k : List Entry) → Means (shown S.Store self.old.store.now) m k
+        ensures found { (m : Queue) (k : Ledger) → Means (shown S.Store self.old.store.now) m k
             → Serves (shown S.Store self.new.store.now) → OrUnavailable result (λ calls. calls ≡ calls_to dial.now m) }
     {
         self.store.active_to(dial)
@@ -258,7 +259,7 @@ impl<S: Alter> Candidates<'_, S> {
         ensures none { OnOk result (into_iter_items self.new.page ≡ [] → HasCleanDisk (shown S.Store self.new.store.now)
             → Serves (shown S.Store self.new.store.now)) }
         ensures asked { self.new.asked ≡ self.old.asked }
-        ensures found { (m : Queue) (k : List Entry) (given : List OneJob)
+        ensures found { (m : Queue) (k : Ledger) (given : List OneJob)
             → Means (shown S.Store self.old.store.now) m k → Serves (shown S.Store self.new.store.now)
             → StandsAt self.old.asked m given (into_iter_items self.old.page) self.old.front self.old.most
             → OrUnavailable result (λ _. StandsAt self.old.asked m given
@@ -282,7 +283,7 @@ impl<S: Alter> Candidates<'_, S> {
         ensures asked { self.new.asked ≡ self.old.asked }
         ensures told { IfOk result (λ last. last ≡ is_last self.old.front) }
         ensures next { OnOk result (into_iter_items self.new.page ≡ [] → self.new.front ≡ next_front self.old.front) }
-        ensures found { (m : Queue) (k : List Entry) (given : List OneJob)
+        ensures found { (m : Queue) (k : Ledger) (given : List OneJob)
             → Means (shown S.Store self.old.store.now) m k → Serves (shown S.Store self.new.store.now)
             → StandsAt self.old.asked m given [] self.old.front self.old.most
             → OrUnavailable result (λ last. StandsAt self.old.asked m given

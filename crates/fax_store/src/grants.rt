@@ -4,7 +4,8 @@ ghost use Rattle.std.specs.Prelude.{◌≡◌, ◌<◌, ◌≤◌, ◌+◌, ◌-
 ghost use Rattle.std.specs.Option.{option_map};
 ghost use Rattle.sqlite.specs.State.{HasCleanDisk, KeepsCommit};
 ghost use Rattle.fax_core.specs.Machine.{held_by, with_grant};
-ghost use Rattle.fax_core.specs.Queue.{Queue, Entry, grant_numbered};
+ghost use Rattle.fax_core.specs.Ledger.{Ledger};
+ghost use Rattle.fax_core.specs.Queue.{Queue, grant_numbered};
 ghost use Rattle.fax_core.specs.State.{calls_to};
 ghost use Rattle.fax_job.specs.Limits.{most_pages};
 ghost use Rattle.fax_store.specs.Calls.{Answers, Calls, FailsOnly, Finds, Makes, MakesWhere, Runs, Tells, shown};
@@ -112,7 +113,7 @@ impl<S: Alter> Store<S> {
     /// Adds an open grant of a job to this number, which has so many calls with it.
     fn place_grant(&mut self, grant: &Grant, dial: &Dial, calls: u32) -> Result<(), StoreFault>
         ensures leaves { Runs S.Store self.old self.new result }
-        ensures written { (m₀ m : Queue) (k₀ k : List Entry) → Works (shown S.Store self.old) false m₀ k₀ m k
+        ensures written { (m₀ m : Queue) (k₀ k : Ledger) → Works (shown S.Store self.old) false m₀ k₀ m k
             → Serves (shown S.Store self.new) → IsOpenGrant grant.now → IsCalled grant.now.job dial.now m
             → calls ≡ calls_to dial.now m + 1
             → Moves (shown S.Store self.new) result m₀ k₀ (with_placed grant.now m) k }
@@ -140,7 +141,7 @@ impl<S: Alter> Store<S> {
 
     fn insert_grant(&mut self, grant: &Grant) -> Result<(), StoreFault>
         ensures leaves { Runs S.Store self.old self.new result }
-        ensures written { (m₀ m : Queue) (k₀ k : List Entry) → Works (shown S.Store self.old) false m₀ k₀ m k
+        ensures written { (m₀ m : Queue) (k₀ k : Ledger) → Works (shown S.Store self.old) false m₀ k₀ m k
             → Serves (shown S.Store self.new) → IsOpenGrant grant.now
             → Moves (shown S.Store self.new) result m₀ k₀ (with_placed grant.now m) k }
         ensures cause { IsOnlyUnavailable (shown S.Store self.old) false (shown S.Store self.new) result
@@ -158,7 +159,7 @@ impl<S: Alter> Store<S> {
 
     fn add_grant(&mut self, grant: &Grant) -> Result<(), StoreFault>
         ensures leaves { Runs S.Store self.old self.new result }
-        ensures written { (m₀ m : Queue) (k₀ k : List Entry) → Works (shown S.Store self.old) false m₀ k₀ m k
+        ensures written { (m₀ m : Queue) (k₀ k : Ledger) → Works (shown S.Store self.old) false m₀ k₀ m k
             → Serves (shown S.Store self.new)
             → Moves (shown S.Store self.new) result m₀ k₀ (with_one_more_grant grant.now m) k }
         ensures cause { IsOnlyUnavailable (shown S.Store self.old) false (shown S.Store self.new) result
@@ -180,7 +181,7 @@ impl<S: Alter> Store<S> {
 
     fn write_report(&mut self, grant: &Grant) -> Result<(), StoreFault>
         ensures leaves { Runs S.Store self.old self.new result }
-        ensures written { (m₀ m : Queue) (k₀ k : List Entry) → IsReport grant.now m
+        ensures written { (m₀ m : Queue) (k₀ k : Ledger) → IsReport grant.now m
             → Works (shown S.Store self.old) false m₀ k₀ m k → Serves (shown S.Store self.new)
             → Moves (shown S.Store self.new) result m₀ k₀ (with_grant grant.now m) k }
         ensures cause { grant.now.confirmed ≤ most_pages → IfErr result (λ fault. fault ≡ StoreFault.Unavailable) }
@@ -201,7 +202,7 @@ impl<S: Alter> Store<S> {
     /// Closes an open grant of a job to this number, which has so many calls without it.
     fn close_open(&mut self, number: u32, dial: &Dial, calls: u32) -> Result<(), StoreFault>
         ensures leaves { Runs S.Store self.old self.new result }
-        ensures written { (m₀ m : Queue) (k₀ k : List Entry) → Works (shown S.Store self.old) false m₀ k₀ m k
+        ensures written { (m₀ m : Queue) (k₀ k : Ledger) → Works (shown S.Store self.old) false m₀ k₀ m k
             → Serves (shown S.Store self.new) → IsHeld number dial.now m → calls ≡ calls_to dial.now m - 1
             → Moves (shown S.Store self.new) result m₀ k₀ (with_closed number m) k }
         ensures cause { IfErr result (λ fault. fault ≡ StoreFault.Unavailable) }
@@ -213,7 +214,7 @@ impl<S: Alter> Store<S> {
 
     fn shut_grant(&mut self, number: u32) -> Result<(), StoreFault>
         ensures leaves { Runs S.Store self.old self.new result }
-        ensures written { (m₀ m : Queue) (k₀ k : List Entry) → Works (shown S.Store self.old) false m₀ k₀ m k
+        ensures written { (m₀ m : Queue) (k₀ k : Ledger) → Works (shown S.Store self.old) false m₀ k₀ m k
             → Serves (shown S.Store self.new) → Steps (shown S.Store self.new) result m₀ k₀ (with_closed number m) k }
     {
         let Some(grant) = self.grant(number)? else {
@@ -228,7 +229,7 @@ impl<S: Alter> Store<S> {
     /// Closes an open grant of the job of this number.
     fn end_call(&mut self, number: u32, job: u32) -> Result<(), StoreFault>
         ensures leaves { Runs S.Store self.old self.new result }
-        ensures written { (m₀ m : Queue) (k₀ k : List Entry) → Works (shown S.Store self.old) false m₀ k₀ m k
+        ensures written { (m₀ m : Queue) (k₀ k : Ledger) → Works (shown S.Store self.old) false m₀ k₀ m k
             → Serves (shown S.Store self.new) → IsHeldBy number job m
             → Steps (shown S.Store self.new) result m₀ k₀ (with_closed number m) k }
     {

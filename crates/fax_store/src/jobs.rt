@@ -3,7 +3,8 @@
 ghost use Rattle.std.specs.Prelude.{◌≡◌, ◌<◌, List, map, false, Err, IfErr, is_err};
 ghost use Rattle.std.specs.Option.{option_map};
 ghost use Rattle.fax_core.specs.Job.{job_of, fields_of};
-ghost use Rattle.fax_core.specs.Queue.{Queue, Entry, job_numbered};
+ghost use Rattle.fax_core.specs.Ledger.{Ledger};
+ghost use Rattle.fax_core.specs.Queue.{Queue, job_numbered};
 ghost use Rattle.fax_store.specs.Calls.{Answers, Calls, FailsOnly, Finds, Makes, MakesWhere, Runs, Tells, shown};
 ghost use Rattle.fax_store.specs.Job.{IsChange, IsNewJob, IsWaiting, with_change, with_placed, with_one_more_job, with_expired, with_expired_in};
 ghost use Rattle.fax_store.specs.Meta.{IsJobLeft, with_clock};
@@ -101,7 +102,7 @@ impl<S: Alter> Store<S> {
 
     fn insert_job(&mut self, job: &Job) -> Result<(), StoreFault>
         ensures leaves { Runs S.Store self.old self.new result }
-        ensures written { (m₀ m : Queue) (k₀ k : List Entry) → Works (shown S.Store self.old) false m₀ k₀ m k
+        ensures written { (m₀ m : Queue) (k₀ k : Ledger) → Works (shown S.Store self.old) false m₀ k₀ m k
             → Serves (shown S.Store self.new)
             → Moves (shown S.Store self.new) result m₀ k₀ (with_placed (job_of job.now) m) k }
         ensures cause { IsOnlyUnavailable (shown S.Store self.old) false (shown S.Store self.new) result
@@ -138,7 +139,7 @@ impl<S: Alter> Store<S> {
 
     fn write_change(&mut self, job: &Job) -> Result<(), StoreFault>
         ensures leaves { Runs S.Store self.old self.new result }
-        ensures written { (m₀ m : Queue) (k₀ k : List Entry) → IsChange (job_of job.now) m
+        ensures written { (m₀ m : Queue) (k₀ k : Ledger) → IsChange (job_of job.now) m
             → Works (shown S.Store self.old) false m₀ k₀ m k → Serves (shown S.Store self.new)
             → Steps (shown S.Store self.new) result m₀ k₀ (with_change (job_of job.now) m) k }
         ensures cause { IfErr result (λ fault. fault ≡ StoreFault.Unavailable) }
@@ -170,7 +171,7 @@ impl<S: Alter> Store<S> {
 
     fn write_expired(&mut self, t: Moment) -> Result<(), StoreFault>
         ensures leaves { Runs S.Store self.old self.new result }
-        ensures written { (m₀ m : Queue) (k₀ k : List Entry) → Works (shown S.Store self.old) false m₀ k₀ m k
+        ensures written { (m₀ m : Queue) (k₀ k : Ledger) → Works (shown S.Store self.old) false m₀ k₀ m k
             → Serves (shown S.Store self.new) → Steps (shown S.Store self.new) result m₀ k₀ (with_expired t m) k }
         ensures cause { IfErr result (λ fault. fault ≡ StoreFault.Unavailable) }
     {
@@ -193,7 +194,7 @@ impl<S: Alter> Store<S> {
     /// the index that finds them is by phase first. Where there is none, a question costs less than the change.
     fn expire_in(&mut self, phase: Phase, t: Moment) -> Result<(), StoreFault>
         ensures leaves { Runs S.Store self.old self.new result }
-        ensures written { (m₀ m : Queue) (k₀ k : List Entry) → Works (shown S.Store self.old) false m₀ k₀ m k
+        ensures written { (m₀ m : Queue) (k₀ k : Ledger) → Works (shown S.Store self.old) false m₀ k₀ m k
             → Serves (shown S.Store self.new)
             → Steps (shown S.Store self.new) result m₀ k₀ (with_expired_in phase t m) k }
         ensures cause { IfErr result (λ fault. fault ≡ StoreFault.Unavailable) }
@@ -206,7 +207,7 @@ impl<S: Alter> Store<S> {
 
     fn add_job(&mut self, job: &Job) -> Result<(), StoreFault>
         ensures leaves { Runs S.Store self.old self.new result }
-        ensures written { (m₀ m : Queue) (k₀ k : List Entry) → Works (shown S.Store self.old) false m₀ k₀ m k
+        ensures written { (m₀ m : Queue) (k₀ k : Ledger) → Works (shown S.Store self.old) false m₀ k₀ m k
             → Serves (shown S.Store self.new)
             → Moves (shown S.Store self.new) result m₀ k₀ (with_one_more_job (job_of job.now) m) k }
         ensures cause { IsOnlyUnavailable (shown S.Store self.old) false (shown S.Store self.new) result
@@ -218,7 +219,7 @@ impl<S: Alter> Store<S> {
 
     fn add_next_job(&mut self, job: &Job, meta: Meta, clock: Moment) -> Result<(), StoreFault>
         ensures leaves { Runs S.Store self.old self.new result }
-        ensures written { (m₀ m : Queue) (k₀ k : List Entry) → meta ≡ meta_of m
+        ensures written { (m₀ m : Queue) (k₀ k : Ledger) → meta ≡ meta_of m
             → Works (shown S.Store self.old) false m₀ k₀ m k → Serves (shown S.Store self.new)
             → Moves (shown S.Store self.new) result m₀ k₀ (with_clock clock (with_one_more_job (job_of job.now) m)) k }
         ensures cause { IsOnlyUnavailable (shown S.Store self.old) false (shown S.Store self.new) result (λ m k.

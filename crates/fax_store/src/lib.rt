@@ -6,6 +6,7 @@
 
 mod adopt;
 mod candidates;
+mod floors;
 mod grants;
 mod jobs;
 pub mod laws;

@@ -1,7 +1,8 @@
 //! The clock and the next numbers.
 
 ghost use Rattle.std.specs.Prelude.{◌≡◌, List, false, Err, IfErr, IfOk, is_err};
-ghost use Rattle.fax_core.specs.Queue.{Queue, Entry};
+ghost use Rattle.fax_core.specs.Ledger.{Ledger};
+ghost use Rattle.fax_core.specs.Queue.{Queue};
 ghost use Rattle.fax_store.specs.Calls.{Answers, Calls, Finds, Makes, Runs, Tells, shown};
 ghost use Rattle.fax_store.specs.Meta.{with_clock};
 ghost use Rattle.fax_store.specs.Store.{Serves};
@@ -35,7 +36,7 @@ impl<S: Alter> Store<S> {
 
     pub(crate) fn write_meta(&mut self, meta: Meta) -> Result<(), StoreFault>
         ensures leaves { Runs S.Store self.old self.new result }
-        ensures written { (m₀ m : Queue) (k₀ k : List Entry) → Works (shown S.Store self.old) false m₀ k₀ m k
+        ensures written { (m₀ m : Queue) (k₀ k : Ledger) → Works (shown S.Store self.old) false m₀ k₀ m k
             → Serves (shown S.Store self.new) → IsLawfulMeta (with_meta meta m)
             → Steps (shown S.Store self.new) result m₀ k₀ (with_meta meta m) k }
     {
@@ -47,7 +48,7 @@ impl<S: Alter> Store<S> {
 
     fn write_clock(&mut self, clock: Moment) -> Result<(), StoreFault>
         ensures leaves { Runs S.Store self.old self.new result }
-        ensures written { (m₀ m : Queue) (k₀ k : List Entry) → Works (shown S.Store self.old) false m₀ k₀ m k
+        ensures written { (m₀ m : Queue) (k₀ k : Ledger) → Works (shown S.Store self.old) false m₀ k₀ m k
             → Serves (shown S.Store self.new) → Steps (shown S.Store self.new) result m₀ k₀ (with_clock clock m) k }
         ensures cause { IfErr result (λ fault. fault ≡ StoreFault.Unavailable) }
     {

@@ -2,7 +2,8 @@
 
 ghost use Rattle.std.specs.Prelude.{◌≡◌, List, true, false, Err, IfErr, is_err, IsTrue};
 ghost use Rattle.fax_core.specs.Machine.{is_down, with_mark};
-ghost use Rattle.fax_core.specs.Queue.{Queue, Entry};
+ghost use Rattle.fax_core.specs.Ledger.{Ledger};
+ghost use Rattle.fax_core.specs.Queue.{Queue};
 ghost use Rattle.fax_job.specs.Name.{IsName};
 ghost use Rattle.fax_store.specs.Calls.{Answers, Calls, FailsOnly, Finds, Makes, Runs, Tells, shown};
 ghost use Rattle.fax_store.specs.Store.{Serves};
@@ -32,7 +33,7 @@ impl<S: Alter> Store<S> {
 
     fn clear_mark(&mut self, modem: &str) -> Result<(), StoreFault>
         ensures leaves { Runs S.Store self.old self.new result }
-        ensures written { (m₀ m : Queue) (k₀ k : List Entry) → Works (shown S.Store self.old) false m₀ k₀ m k
+        ensures written { (m₀ m : Queue) (k₀ k : Ledger) → Works (shown S.Store self.old) false m₀ k₀ m k
             → Serves (shown S.Store self.new)
             → Steps (shown S.Store self.new) result m₀ k₀ (with_mark modem.now false m) k }
         ensures cause { IfErr result (λ fault. fault ≡ StoreFault.Unavailable) }
@@ -42,7 +43,7 @@ impl<S: Alter> Store<S> {
 
     fn add_mark(&mut self, modem: &str) -> Result<(), StoreFault>
         ensures leaves { Runs S.Store self.old self.new result }
-        ensures written { (m₀ m : Queue) (k₀ k : List Entry) → Works (shown S.Store self.old) false m₀ k₀ m k
+        ensures written { (m₀ m : Queue) (k₀ k : Ledger) → Works (shown S.Store self.old) false m₀ k₀ m k
             → Serves (shown S.Store self.new)
             → Moves (shown S.Store self.new) result m₀ k₀ (with_mark modem.now true m) k }
         ensures cause { IsOnlyUnavailable (shown S.Store self.old) false (shown S.Store self.new) result
@@ -59,7 +60,7 @@ impl<S: Alter> Store<S> {
 
     fn write_mark(&mut self, modem: &str, down: bool) -> Result<(), StoreFault>
         ensures leaves { Runs S.Store self.old self.new result }
-        ensures written { (m₀ m : Queue) (k₀ k : List Entry) → Works (shown S.Store self.old) false m₀ k₀ m k
+        ensures written { (m₀ m : Queue) (k₀ k : Ledger) → Works (shown S.Store self.old) false m₀ k₀ m k
             → Serves (shown S.Store self.new)
             → Moves (shown S.Store self.new) result m₀ k₀ (with_mark modem.now down m) k }
         ensures cause { IsOnlyUnavailable (shown S.Store self.old) false (shown S.Store self.new) result

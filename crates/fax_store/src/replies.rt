@@ -3,7 +3,8 @@
 ghost use Rattle.std.specs.Prelude.{◌≡◌, ◌∷◌, ◌++◌, [], false, List, Err, IfOk, IfSome, is_err, OnOk};
 ghost use Rattle.sqlite.specs.Effect.{Database};
 ghost use Rattle.sqlite.specs.State.{HasCleanDisk};
-ghost use Rattle.fax_core.specs.Queue.{Queue, Entry};
+ghost use Rattle.fax_core.specs.Ledger.{Ledger, with_reply};
+ghost use Rattle.fax_core.specs.Queue.{Queue};
 ghost use Rattle.fax_job.specs.Name.{IsName};
 ghost use Rattle.fax_store.specs.Calls.{Answers, Calls, FailsOnly, Finds, Makes, Runs, Tells, shown};
 ghost use Rattle.fax_store.specs.Kept.{IsKeptFor, IsUnkept, MissesNone};
@@ -28,7 +29,7 @@ impl<S: Alter> Store<S> {
     /// `Unavailable`, or `Strange` where its row is no lawful record.
     pub fn kept(&mut self, client: &str, number: RequestNumber) -> Result<Option<Kept>, StoreFault>
         ensures leaves { Finds S.Store self.old self.new result }
-        ensures answers { Answers S.Store self.old self.new result (λ m k. IsKeptFor k client.now number) }
+        ensures answers { Answers S.Store self.old self.new result (λ m k. IsKeptFor k.replies client.now number) }
         ensures unkept { (db : Database) → db.schema ≡ our_tables → (shown S.Store self.old).now ≡ db
             → HasCleanDisk (shown S.Store self.new) → IfOk result (MissesNone db client.now number) }
         ensures lawful { IfOk result (λ found. IfSome found (λ kept. IsKeptStatus kept.status)) }
@@ -49,12 +50,12 @@ impl<S: Alter> Store<S> {
         body: &[u8],
     ) -> Result<(), StoreFault>
         ensures leaves { Runs S.Store self.old self.new result }
-        ensures written { (m₀ m : Queue) (k₀ k : List Entry) → Works (shown S.Store self.old) false m₀ k₀ m k
+        ensures written { (m₀ m : Queue) (k₀ k : Ledger) → Works (shown S.Store self.old) false m₀ k₀ m k
             → Serves (shown S.Store self.new)
             → Moves (shown S.Store self.new) result m₀ k₀ m
-            (k ++ entry client.now number said.now status body.now ∷ []) }
+            (with_reply (entry client.now number said.now status body.now) k) }
         ensures cause { IsOnlyUnavailable (shown S.Store self.old) false (shown S.Store self.new) result
-            (λ m k. IsName client.now × IsKeptStatus status × IsUnkept client.now number k) }
+            (λ m k. IsName client.now × IsKeptStatus status × IsUnkept client.now number k.replies) }
         ensures status { OnOk result (IsKeptStatus status) }
     {
         let number = number_value(number);
@@ -76,7 +77,7 @@ impl<S: Alter> Work<'_, S> {
     /// `Unavailable`, or `Strange` where its row is no lawful record.
     pub fn kept(&mut self, client: &str, number: RequestNumber) -> Result<Option<Kept>, StoreFault>
         ensures leaves { Calls S.Store self.old self.new result }
-        ensures answers { Tells S.Store self.old self.new result (λ m k found. IsKeptFor k client.now number found) }
+        ensures answers { Tells S.Store self.old self.new result (λ m k found. IsKeptFor k.replies client.now number found) }
         ensures lawful { IfOk result (λ found. IfSome found (λ kept. IsKeptStatus kept.status)) }
     {
         if self.failed {
@@ -103,9 +104,9 @@ impl<S: Alter> Work<'_, S> {
     ) -> Result<(), StoreFault>
         ensures leaves { Calls S.Store self.old self.new result }
         ensures changes { Makes S.Store self.old self.new (λ m. m)
-            (λ k. k ++ entry client.now number said.now status body.now ∷ []) }
+            (with_reply (entry client.now number said.now status body.now)) }
         ensures cause { FailsOnly S.Store self.old self.new result (λ m k. IsName client.now × IsKeptStatus status
-            × IsUnkept client.now number k) }
+            × IsUnkept client.now number k.replies) }
         ensures status { OnOk result (IsKeptStatus status) }
     {
         if self.failed {

@@ -8,6 +8,7 @@ ghost use Rattle.fax_store.specs.contracts.store.Store.{the_row};
 ghost use Rattle.sqlite.specs.Values.{bound};
 ghost use Rattle.sqlite.specs.State.{HasCleanDisk, Shown};
 ghost use Rattle.sqlite.specs.Steps.{over_memory};
+ghost use Rattle.fax_core.specs.Ledger.{empty_ledger};
 ghost use Rattle.fax_core.specs.Queue.{empty_queue};
 ghost use Rattle.fax_store.specs.Store.{Serves, StaysAsItWas, CommitsNothing, GoesBack, LeavesCommit, FindsRow, HasRun, IsEditText, IsQueryText, IsRefusedFor};
 ghost use Rattle.fax_store.specs.Work.{Begins, BeginsAt, Opens};
@@ -42,7 +43,7 @@ impl Store<MemStore> {
     ///
     /// `Unavailable` for want of memory.
     pub fn new_in_memory(alloc: Global) -> Result<MemoryStore, StoreFault>
-        ensures empty { IfOk result (λ store. IsAtRest (state over_memory store.conn) empty_queue []) }
+        ensures empty { IfOk result (λ store. IsAtRest (state over_memory store.conn) empty_queue empty_ledger) }
         ensures serves { IfOk result (λ store. Serves (state over_memory store.conn)) }
         ensures cause { IfErr result (λ fault. fault ≡ StoreFault.Unavailable) }
     {

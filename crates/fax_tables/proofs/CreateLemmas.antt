@@ -1,5 +1,5 @@
 -- What the texts that make the tables leave.
-use Rattle.std.proofs.Common.{◌≡◌, ◌≤◌, ℕ, pos, List, [], ◌∷◌, ◌++◌, map, drop, false, IsTrue, slice_get, Some, None, Ok, Err, Result, refl, sym, ap, ap₂, subst, subst₂, ◌∙◌, arith, if◌then◌else◌}
+use Rattle.std.proofs.Common.{◌≡◌, ◌≤◌, ℕ, pos, List, [], ◌∷◌, ◌++◌, map, drop, true, false, IsTrue, slice_get, Some, None, Ok, Err, Result, refl, sym, ap, ap₂, subst, subst₂, ◌∙◌, arith, if◌then◌else◌}
 use Rattle.std.specs.List.{AllByRecursion}
 use Rattle.std.specs.List.Sorted.{IsPermutation}
 use Rattle.std.proofs.lemmas.List.Sorted.{IsPermutation-refl}
@@ -27,13 +27,14 @@ use Rattle.sqlite_catalog.specs.Calls.{RefusesToDropIndex}
 use Rattle.sqlite_catalog.specs.Change.{created, indexed, next_tree, without_index, without_table, KeepsRows}
 use Rattle.sqlite_schema.specs.declared.schema.Keys.TheVariants.{Enforced}
 use Rattle.fax_schema.specs.declared.statements.TheConstants.{INSERT_META}
+use Rattle.fax_core.specs.Ledger.{empty_ledger}
 use Rattle.fax_core.specs.Queue.{empty_queue}
 use Rattle.fax_core.specs.State.{calls_to}
 use Rattle.sqlite_rules.specs.Lists.{Has}
 use Rattle.fax_schema.specs.Schema as schema
-use Rattle.fax_schema.specs.Schema.{no_tables, bare_tables, core_tables, our_tables, calls_tree, meta_tree}
+use Rattle.fax_schema.specs.Schema.{no_tables, first_bare, first_list, core_list, bare_tables, core_tables, our_tables, has_floors, calls_tree, floors_tree, meta_tree}
 use Rattle.fax_tables.specs.Row.{meta_row}
-use Rattle.fax_tables.specs.Tables.{GoesOn, HasEmptyTables, AreCounted, HasNewCalls, IsIndexed, TablesMean}
+use Rattle.fax_tables.specs.Tables.{GoesOn, HasEmptyTables, AreCounted, HasNewCalls, HasNewFloors, IsIndexed, Renews, TablesMean, floors_in}
 use Rattle.fax_schema.specs.ByRowid.{IsByRowid}
 use Rattle.fax_schema.proofs.CreateTexts.{LosesIndex, Makes, MakesIndexOf, TakesAway}
 use Rattle.fax_schema.proofs.CompareLemmas.{same_row, cast_int, cast_null}
@@ -54,6 +55,10 @@ still_empty (t ∷ ts) old new kept empty = (kept.0 ∙ empty.0, still_empty ts 
 one_more : (tables : List Table) (new : Trees) (t : Table) → new t.tree ≡ [] → AllByRecursion (λ t. new t.tree ≡ []) tables → AllByRecursion (λ t. new t.tree ≡ []) (tables ++ t ∷ [])
 one_more [] new t own all = (own, tt)
 one_more (x ∷ xs) new t own all = (all.0, one_more xs new t own all.1)
+
+but_last : (tables : List Table) (new : Trees) (t : Table) → AllByRecursion (λ t. new t.tree ≡ []) (tables ++ t ∷ []) → AllByRecursion (λ t. new t.tree ≡ []) tables
+but_last [] new t all = tt
+but_last (x ∷ xs) new t all = (all.0, but_last xs new t all.1)
 
 -- a transaction that goes on commits nothing
 pub goes_on : (a b c : State) → GoesOn a b → GoesOn b c → GoesOn a c
@@ -101,15 +106,15 @@ made old new before after sql table count makes is none h was =
     let all = one_more before.tables new.now.trees (record table { tree = next_tree before }) it.4 (still_empty before.tables old.now.trees new.now.trees it.3 was.empty) in
     (it.0, record { inside = it.0.mode; schema_is = it.1; empty = subst (λ s. AllByRecursion (λ t. new.now.trees t.tree ≡ []) s.tables) is all })
 
--- the last of seven tables is gone, to which no other refers, and the rows of the others stay
-pub dropped : (old new : State) (before after : Schema) (sql : List ℕ) (table : Table) (count : ℕ) → TakesAway before sql → slice_get before.tables 6 ≡ Some table → is_acted_on before Enforced table ≡ false → table.is_counted ≡ false
+-- a table is gone, to which no other refers, and the rows of the others stay
+pub dropped : (old new : State) (before after : Schema) (sql : List ℕ) (at : ℕ) (table : Table) (count : ℕ) → TakesAway before sql at → slice_get before.tables at ≡ Some table → is_acted_on before Enforced table ≡ false → table.is_counted ≡ false
     → without_table before table.tree ≡ after → Executes sql [] old new (Ok count) → IsTrue old.in_transaction → old.now.schema ≡ before
     → GoesOn old new × (new.now.schema ≡ after) × IsDatabase new.now × KeepsRows after.tables old.now.trees new.now.trees
-dropped old new before after sql table count takes last unacted uncounted is h inside has =
-    let ran = runs_as sql [] old new before has (DropTable 6) takes.command takes.plain count h in
+dropped old new before after sql at table count takes last unacted uncounted is h inside has =
+    let ran = runs_as sql [] old new before has (DropTable at) takes.command takes.plain count h in
     let out = Ok (ran.tally, new.now) in
     let task = λ (t : Table). the_task t in
-    let does = subst (λ s. Does old.step_limit (mode_of old) [] (record old.now { schema = s }) (statement_of sql (understood before sql)) None (DropTable 6) out) has ran.changed in
+    let does = subst (λ s. Does old.step_limit (mode_of old) [] (record old.now { schema = s }) (statement_of sql (understood before sql)) None (DropTable at) out) has ran.changed in
     let on = subst (λ t. AtPlace (λ (u : Table). Drops (task u) (mode_of old) old.now.trees) t out) last does in
     let emptied = went on in
     let first : emptied.0 ≡ old.now.trees = same_ok (emptied_as emptied.0 emptied.1) in
@@ -178,23 +183,69 @@ pub kept_rows : (tables : List Table) (a b c : Trees) → KeepsRows tables a b �
 kept_rows [] a b c first next = tt
 kept_rows (t ∷ ts) a b c first next = (next.0 ∙ first.0, kept_rows ts a b c first.1 next.1)
 
+-- ---- all rows but those of `calls`
+
+pub floors_there : (db : Database) (schema : Schema) → db.schema ≡ schema → has_floors schema ≡ true → floors_in db ≡ db.trees floors_tree
+floors_there db schema is there = ap (λ b. if b then db.trees floors_tree else []) (ap has_floors is ∙ there)
+
+no_floors : (db : Database) (schema : Schema) → db.schema ≡ schema → has_floors schema ≡ false → floors_in db ≡ []
+no_floors db schema is none = ap (λ b. if b then db.trees floors_tree else []) (ap has_floors is ∙ none)
+
+-- of the first version, which stays
+pub renews_first : (db after : Database) (a c : Schema) → has_floors a ≡ false → has_floors c ≡ false → db.schema ≡ a → after.schema ≡ c → KeepsRows first_list db.trees after.trees → Renews db after
+renews_first db after a c none still was is rows = record { rows = rows; floors = no_floors after c is still ∙ sym (no_floors db a was none) }
+
+-- of the second
+pub renews_core : (db after : Database) (a c : Schema) → has_floors a ≡ true → has_floors c ≡ true → db.schema ≡ a → after.schema ≡ c → KeepsRows core_list db.trees after.trees → Renews db after
+renews_core db after a c there still was is rows = record {
+  rows = kept_but_last first_list schema.floors db.trees after.trees rows;
+  floors = floors_there after c is still ∙ rows.1.1.1.1.1.1.0 ∙ sym (floors_there db a was there);
+}
+
+-- of the first, to which floors come, with no rows
+pub renews_raised : (db after : Database) → db.schema ≡ first_bare → after.schema ≡ bare_tables → KeepsRows first_list db.trees after.trees → after.trees floors_tree ≡ [] → Renews db after
+renews_raised db after was is rows none = record { rows = rows; floors = floors_there after bare_tables is refl ∙ none ∙ sym (no_floors db first_bare was refl) }
+
+-- and then again
+pub renews_then : (a b c : Database) → Renews a b → Renews b c → Renews a c
+renews_then a b c first next = record { rows = kept_rows first_list a.trees b.trees c.trees first.rows next.rows; floors = next.floors ∙ first.floors }
+
+-- ---- tables with no rows
+
+-- with floors
+pub raised_empty : (old new : State) → HasEmptyTables first_bare old → GoesOn old new → HasNewFloors old.now new.now → HasEmptyTables bare_tables new
+raised_empty old new was on is = record {
+  inside = on.mode;
+  schema_is = is.schema_is;
+  empty = one_more first_list new.now.trees schema.floors (sym (floors_there new.now bare_tables is.schema_is refl) ∙ is.renews.floors ∙ no_floors old.now first_bare was.schema_is refl)
+      (still_empty first_list old.now.trees new.now.trees is.renews.rows was.empty);
+}
+
+-- and with the indexes
+pub indexed_empty : (old new : State) → HasEmptyTables bare_tables old → GoesOn old new → IsIndexed old.now new.now → HasEmptyTables core_tables new
+indexed_empty old new was on is = record {
+  inside = on.mode;
+  schema_is = is.schema_is;
+  empty = one_more first_list new.now.trees schema.floors
+      (sym (floors_there new.now core_tables is.schema_is refl) ∙ is.renews.floors ∙ floors_there old.now bare_tables was.schema_is refl ∙ was.empty.1.1.1.1.1.1.0)
+      (still_empty first_list old.now.trees new.now.trees is.renews.rows (but_last first_list old.now.trees schema.floors was.empty));
+}
+
 -- and with `calls`
 pub beside_empty : (old new : State) → HasEmptyTables core_tables old → GoesOn old new → HasNewCalls old.now new.now → HasEmptyTables our_tables new
 beside_empty old new was on is = record {
   inside = on.mode;
   schema_is = is.schema_is;
-  empty = one_more core_tables.tables new.now.trees schema.calls is.none (still_empty core_tables.tables old.now.trees new.now.trees is.rows was.empty);
+  empty = one_more core_list new.now.trees schema.calls is.none (one_more first_list new.now.trees schema.floors
+      (sym (floors_there new.now our_tables is.schema_is refl) ∙ is.renews.floors ∙ floors_there old.now core_tables was.schema_is refl ∙ was.empty.1.1.1.1.1.1.0)
+      (still_empty first_list old.now.trees new.now.trees is.renews.rows (but_last first_list old.now.trees schema.floors was.empty)));
 }
 
--- tables with no rows have none with the indexes
-pub indexed_empty : (old new : State) → HasEmptyTables bare_tables old → GoesOn old new → IsIndexed old.now new.now → HasEmptyTables core_tables new
-indexed_empty old new was on is = record { inside = on.mode; schema_is = is.schema_is; empty = still_empty core_tables.tables old.now.trees new.now.trees is.rows was.empty }
-
 stored_meta : cast_row schema.meta (meta_row empty_queue) ≡ meta_row empty_queue
-stored_meta = same_row (cast_int (pos 1)) (same_row cast_null (same_row (cast_int (pos 0)) (same_row (cast_int (pos 1)) (same_row (cast_int (pos 1)) (same_row (cast_int (pos 1)) refl)))))
+stored_meta = same_row (cast_int (pos 1)) (same_row cast_null (same_row (cast_int (pos 0)) (same_row (cast_int (pos 1)) (same_row (cast_int (pos 1)) (same_row (cast_int (pos 2)) refl)))))
 
 -- the one row of meta makes the empty store of empty tables
-pub filled : (old new : State) (count : ℕ) → Executes INSERT_META.now [] old new (Ok count) → HasEmptyTables our_tables old → GoesOn old new × TablesMean new.now empty_queue []
+pub filled : (old new : State) (count : ℕ) → Executes INSERT_META.now [] old new (Ok count) → HasEmptyTables our_tables old → GoesOn old new × TablesMean new.now empty_queue empty_ledger
 filled old new count h was =
     let ran = runs_as INSERT_META.now [] old new our_tables was.schema_is _ insert_meta.is insert_meta.plain count h in
     let done = inserts our_tables unreferred schema.meta.name 10 schema.meta.columns schema.meta.key schema.meta.primary schema.meta.uniques schema.meta.orders schema.meta.checks 5 refl old new was.schema_is [] _ count
@@ -205,7 +256,8 @@ filled old new count h was =
     let holds = others.1.1.0 (λ e. absurd (omega arith)) ∙ was.empty.1.1.0 in
     let down = others.1.1.1.0 (λ e. absurd (omega arith)) ∙ was.empty.1.1.1.0 in
     let replies = others.1.1.1.1.0 (λ e. absurd (omega arith)) ∙ was.empty.1.1.1.1.0 in
-    let calls = others.1.1.1.1.1.1.0 (λ e. absurd (omega arith)) ∙ was.empty.1.1.1.1.1.1.0 in (
+    let floors = others.1.1.1.1.1.1.0 (λ e. absurd (omega arith)) ∙ was.empty.1.1.1.1.1.1.0 in
+    let calls = others.1.1.1.1.1.1.1.0 (λ e. absurd (omega arith)) ∙ was.empty.1.1.1.1.1.1.1.0 in (
       inside_shown old new _ was.inside done.keeps.shown,
       record {
         schema = done.keeps.schema_is;
@@ -217,20 +269,25 @@ filled old new count h was =
         replies = ap (map (drop 1)) replies;
         meta = done.rows ∙ ap (put_row (meta_row empty_queue)) was.empty.1.1.1.1.1.0;
         held = λ g none. absurd none;
+        floors = none_given floors;
         calls = none_counted calls;
-        ordered = record { jobs = rows_none _ jobs; grants = rows_none _ grants; holds = rows_none _ holds; down = rows_none _ down; replies = rows_none _ replies; calls = rows_none _ calls };
+        ordered = record { jobs = rows_none _ jobs; grants = rows_none _ grants; holds = rows_none _ holds; down = rows_none _ down; replies = rows_none _ replies; floors = rows_none _ floors; calls = rows_none _ calls };
         lawful = record {
           jobs = λ i d low. absurd (omega arith);
           grants = λ i d low. absurd (omega arith);
           down = λ i d low. absurd (omega arith);
           replies = λ i d low. absurd (omega arith);
           meta = record { clock = omega arith; next_job = (omega arith, omega arith); next_grant = (omega arith, omega arith) };
+          floors = λ client some. absurd (omega arith);
         };
       },
     )
   where
     rows_none : (rows : List Row) → rows ≡ [] → IsByRowid rows
     rows_none rows none = subst IsByRowid (sym none) (record { rise = tt; integers = tt })
+
+    none_given : new.now.trees floors_tree ≡ [] → AreCounted (λ _. 0) (map (drop 1) (new.now.trees floors_tree))
+    none_given none = record { each = λ row has. absurd (subst (λ rows. Has (map (drop 1) rows) row) none has); all = λ client some. absurd (omega arith) }
 
     none_counted : new.now.trees calls_tree ≡ [] → AreCounted (λ dial. calls_to dial empty_queue) (map (drop 1) (new.now.trees calls_tree))
     none_counted none = record { each = λ row has. absurd (subst (λ rows. Has (map (drop 1) rows) row) none has); all = λ dial some. absurd (omega arith) }

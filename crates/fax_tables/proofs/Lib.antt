@@ -9,5 +9,6 @@ pub mod TablesLemmas
 pub mod RefusalLemmas
 pub mod StandLemmas
 pub mod CreateLemmas
+pub mod WayLemmas
 pub mod StopLemmas
 pub mod Rows

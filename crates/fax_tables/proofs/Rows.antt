@@ -9,7 +9,7 @@ use Rattle.fax_job.specs.declared.job.Phase.TheVariants.{Held, Waiting, Granted,
 use Rattle.fax_job.specs.declared.job.Wish.TheVariants.{Go, Hold, Kill}
 use Rattle.fax_job.specs.declared.job.Call.TheVariants.{Connected, Busy, NoAnswer, NoCarrier, Other}
 use Rattle.fax_tables.specs.Kept.{entry}
-use Rattle.fax_tables.specs.Row.{phase_number, wish_number, call_number, job_row, grant_row, hold_columns, down_columns, entry_columns, call_columns, meta_row}
+use Rattle.fax_tables.specs.Row.{phase_number, wish_number, call_number, job_row, grant_row, hold_columns, down_columns, entry_columns, call_columns, floor_columns, meta_row, raised}
 
 -- ---- numbers that stand for words
 
@@ -74,8 +74,15 @@ down_stands = refl
 reply_stands : entry_columns (entry (codes "ann") 9 (codes "/jobs") 201 (codes "{}")) ≡ Text (codes "ann") ∷ Int (pos 9) ∷ Blob (codes "/jobs") ∷ Int (pos 201) ∷ Blob (codes "{}") ∷ []
 reply_stands = refl
 
-meta_stands : meta_row (record empty_queue { clock = 5; next_job = 8; next_grant = 3 }) ≡ Int (pos 1) ∷ Null ∷ Int (pos 5) ∷ Int (pos 8) ∷ Int (pos 3) ∷ Int (pos 1) ∷ []
+meta_stands : meta_row (record empty_queue { clock = 5; next_job = 8; next_grant = 3 }) ≡ Int (pos 1) ∷ Null ∷ Int (pos 5) ∷ Int (pos 8) ∷ Int (pos 3) ∷ Int (pos 2) ∷ []
 meta_stands = refl
 
 call_stands : call_columns (codes "5550111") 2 ≡ Text (codes "5550111") ∷ Int (pos 2) ∷ []
 call_stands = refl
+
+floor_stands : floor_columns (codes "desk") 3 ≡ Text (codes "desk") ∷ Int (pos 3) ∷ []
+floor_stands = refl
+
+-- a row of the first version
+raised_stands : raised (Int (pos 1) ∷ Null ∷ Int (pos 5) ∷ Int (pos 8) ∷ Int (pos 3) ∷ Int (pos 1) ∷ []) ≡ meta_row (record empty_queue { clock = 5; next_job = 8; next_grant = 3 })
+raised_stands = refl

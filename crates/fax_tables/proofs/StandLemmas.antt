@@ -30,7 +30,7 @@ module _ (db : Database) (ours : db.schema ≡ our_tables) (sound : IsDatabase d
     present = refl;
     checked = refl;
     fresh = free;
-    unique = unique_still our_tables db.trees schema.jobs (job_row f) apart (no_other _) (λ g. absurd (false≢true g), (λ g. absurd (false≢true g), (λ g. absurd (false≢true g), (λ g. absurd (false≢true g), (λ g. absurd (false≢true g), (λ g. absurd (false≢true g), (λ g. absurd (false≢true g), (λ g. absurd (false≢true g), tt))))))));
+    unique = unique_still our_tables db.trees schema.jobs (job_row f) apart (no_other _) (λ g. absurd (false≢true g), (λ g. absurd (false≢true g), (λ g. absurd (false≢true g), (λ g. absurd (false≢true g), (λ g. absurd (false≢true g), (λ g. absurd (false≢true g), (λ g. absurd (false≢true g), (λ g. absurd (false≢true g), (λ g. absurd (false≢true g), tt)))))))));
   }
 
   pub grant_may : (g : Grant) → is_taken (db.trees grants_tree) (grant_row g) ≡ false → MayStand our_tables db.trees schema.grants (grant_row g)
@@ -39,7 +39,7 @@ module _ (db : Database) (ours : db.schema ≡ our_tables) (sound : IsDatabase d
     present = refl;
     checked = refl;
     fresh = free;
-    unique = unique_still our_tables db.trees schema.grants (grant_row g) apart (no_other _) (λ g. absurd (false≢true g), (λ g. absurd (false≢true g), (λ g. absurd (false≢true g), (λ g. absurd (false≢true g), (λ g. absurd (false≢true g), (λ g. absurd (false≢true g), (λ g. absurd (false≢true g), (λ g. absurd (false≢true g), tt))))))));
+    unique = unique_still our_tables db.trees schema.grants (grant_row g) apart (no_other _) (λ g. absurd (false≢true g), (λ g. absurd (false≢true g), (λ g. absurd (false≢true g), (λ g. absurd (false≢true g), (λ g. absurd (false≢true g), (λ g. absurd (false≢true g), (λ g. absurd (false≢true g), (λ g. absurd (false≢true g), (λ g. absurd (false≢true g), tt)))))))));
   }
 
   -- a hold's modem, job and grant are each held once
@@ -53,7 +53,7 @@ module _ (db : Database) (ours : db.schema ≡ our_tables) (sound : IsDatabase d
     present = refl;
     checked = refl;
     fresh = chosen_free (db.trees holds_tree) (hold_columns g) by.integers by.rise;
-    unique = unique_still our_tables db.trees schema.holds (Int (next_rowid (db.trees holds_tree)) ∷ hold_columns g) apart (no_other _) (λ g. modem, (λ g. job, (λ g. id, (λ g. absurd (false≢true g), (λ g. absurd (false≢true g), (λ g. absurd (false≢true g), (λ g. absurd (false≢true g), (λ g. absurd (false≢true g), tt))))))));
+    unique = unique_still our_tables db.trees schema.holds (Int (next_rowid (db.trees holds_tree)) ∷ hold_columns g) apart (no_other _) (λ g. modem, (λ g. job, (λ g. id, (λ g. absurd (false≢true g), (λ g. absurd (false≢true g), (λ g. absurd (false≢true g), (λ g. absurd (false≢true g), (λ g. absurd (false≢true g), (λ g. absurd (false≢true g), tt)))))))));
   }
 
   pub down_may : (modem : List ℕ) → IsByRowid (db.trees down_tree) → ((x : Row) → Has (db.trees down_tree) x → agree plain (1 ∷ []) x (1 ∷ []) (Int (next_rowid (db.trees down_tree)) ∷ down_columns modem) ≡ false)
@@ -63,7 +63,7 @@ module _ (db : Database) (ours : db.schema ≡ our_tables) (sound : IsDatabase d
     present = refl;
     checked = refl;
     fresh = chosen_free (db.trees down_tree) (down_columns modem) by.integers by.rise;
-    unique = unique_still our_tables db.trees schema.down (Int (next_rowid (db.trees down_tree)) ∷ down_columns modem) apart (no_other _) (λ g. absurd (false≢true g), (λ g. absurd (false≢true g), (λ g. absurd (false≢true g), (λ g. free, (λ g. absurd (false≢true g), (λ g. absurd (false≢true g), (λ g. absurd (false≢true g), (λ g. absurd (false≢true g), tt))))))));
+    unique = unique_still our_tables db.trees schema.down (Int (next_rowid (db.trees down_tree)) ∷ down_columns modem) apart (no_other _) (λ g. absurd (false≢true g), (λ g. absurd (false≢true g), (λ g. absurd (false≢true g), (λ g. free, (λ g. absurd (false≢true g), (λ g. absurd (false≢true g), (λ g. absurd (false≢true g), (λ g. absurd (false≢true g), (λ g. absurd (false≢true g), tt)))))))));
   }
 
   pub reply_may : (e : Entry) → IsByRowid (db.trees replies_tree) → ((x : Row) → Has (db.trees replies_tree) x → agree plain (1 ∷ 2 ∷ []) x (1 ∷ 2 ∷ []) (Int (next_rowid (db.trees replies_tree)) ∷ entry_columns e) ≡ false)
@@ -73,7 +73,7 @@ module _ (db : Database) (ours : db.schema ≡ our_tables) (sound : IsDatabase d
     present = refl;
     checked = refl;
     fresh = chosen_free (db.trees replies_tree) (entry_columns e) by.integers by.rise;
-    unique = unique_still our_tables db.trees schema.replies (Int (next_rowid (db.trees replies_tree)) ∷ entry_columns e) apart (no_other _) (λ g. absurd (false≢true g), (λ g. absurd (false≢true g), (λ g. absurd (false≢true g), (λ g. absurd (false≢true g), (λ g. free, (λ g. absurd (false≢true g), (λ g. absurd (false≢true g), (λ g. absurd (false≢true g), tt))))))));
+    unique = unique_still our_tables db.trees schema.replies (Int (next_rowid (db.trees replies_tree)) ∷ entry_columns e) apart (no_other _) (λ g. absurd (false≢true g), (λ g. absurd (false≢true g), (λ g. absurd (false≢true g), (λ g. absurd (false≢true g), (λ g. free, (λ g. absurd (false≢true g), (λ g. absurd (false≢true g), (λ g. absurd (false≢true g), (λ g. absurd (false≢true g), tt)))))))));
   }
 
   pub call_may : (dial : List ℕ) (n : ℕ) → IsByRowid (db.trees calls_tree) → ((x : Row) → Has (db.trees calls_tree) x → agree plain (1 ∷ []) x (1 ∷ []) (Int (next_rowid (db.trees calls_tree)) ∷ call_columns dial n) ≡ false)
@@ -83,5 +83,5 @@ module _ (db : Database) (ours : db.schema ≡ our_tables) (sound : IsDatabase d
     present = refl;
     checked = refl;
     fresh = chosen_free (db.trees calls_tree) (call_columns dial n) by.integers by.rise;
-    unique = unique_still our_tables db.trees schema.calls (Int (next_rowid (db.trees calls_tree)) ∷ call_columns dial n) apart (no_other _) (λ g. absurd (false≢true g), (λ g. absurd (false≢true g), (λ g. absurd (false≢true g), (λ g. absurd (false≢true g), (λ g. absurd (false≢true g), (λ g. absurd (false≢true g), (λ g. absurd (false≢true g), (λ g. free, tt))))))));
+    unique = unique_still our_tables db.trees schema.calls (Int (next_rowid (db.trees calls_tree)) ∷ call_columns dial n) apart (no_other _) (λ g. absurd (false≢true g), (λ g. absurd (false≢true g), (λ g. absurd (false≢true g), (λ g. absurd (false≢true g), (λ g. absurd (false≢true g), (λ g. absurd (false≢true g), (λ g. absurd (false≢true g), (λ g. absurd (false≢true g), (λ g. free, tt)))))))));
   }

@@ -1,5 +1,5 @@
 -- What the rows of each table mean, and that they still do where another table changed.
-use Rattle.std.proofs.Common.{◌≡◌, ◌≤◌, ℕ, List, [], ◌∷◌, ◌++◌, map, drop, All, IsTrue, refl, sym, ap, ap₂, subst, ◌∙◌, arith}
+use Rattle.std.proofs.Common.{◌≡◌, ◌≢◌, ◌⊎◌, inl, inr, ◌+◌, ◌≤◌, ℕ, List, [], ◌∷◌, ◌++◌, map, drop, All, IsTrue, refl, sym, ap, ap₂, subst, ◌∙◌, arith}
 use Rattle.std.specs.List.Sorted.{IsPermutation}
 use Rattle.std.proofs.lemmas.List.{map-append}
 use Rattle.std.proofs.lemmas.List.Elements.{All-append, All-cons}
@@ -18,14 +18,16 @@ use Rattle.sqlite.specs.Effect.{Database, IsDatabase}
 use Rattle.sqlite.specs.State.{State}
 use Rattle.sqlite_catalog.specs.Change.{KeepsRows}
 use Rattle.fax_core.specs.Job.{Job, fields_of}
+use Rattle.fax_core.specs.Ledger.{Ledger}
 use Rattle.fax_core.specs.Queue.{Queue, Entry, open_grants}
 use Rattle.fax_core.specs.State.{calls_to}
 use Rattle.fax_core.specs.declared.grants.Grant.{Grant}
+use Rattle.fax_job.specs.Limits.{last_grant, last_job, last_moment}
 use Rattle.fax_job.specs.Name.{IsName}
-use Rattle.fax_schema.specs.Schema.{core_tables, our_tables, calls_tree, down_tree, grants_tree, holds_tree, jobs_tree, meta_tree, replies_tree}
+use Rattle.fax_schema.specs.Schema.{core_tables, our_tables, calls_tree, down_tree, floors_tree, grants_tree, holds_tree, jobs_tree, meta_tree, replies_tree}
 use Rattle.fax_tables.specs.Job.{IsLawfulJob}
 use Rattle.fax_tables.specs.Row.{job_row, grant_row, hold_columns, down_columns, entry_columns, call_columns, meta_row}
-use Rattle.fax_tables.specs.Tables.{TablesMean, AreCalls, AreCounted, HaveJobs, IsLawfulGrant, IsLawfulMeta, IsLawfulEntry}
+use Rattle.fax_tables.specs.Tables.{TablesMean, AreCalls, AreCounted, AreLawfulFloors, HaveJobs, IsLawfulGrant, IsLawfulMeta, IsLawfulEntry}
 use Rattle.fax_schema.specs.ByRowid.{IsByRowid}
 use Rattle.fax_schema.proofs.AppendLemmas.{appended}
 use Rattle.fax_schema.proofs.WriteLemmas.{KeepsOthers}
@@ -73,221 +75,257 @@ one_more columns Lawful x xs rows after is lawful was = record {
   lawful = All-append Lawful xs (x ∷ []) was.lawful (All-cons Lawful x [] lawful (λ i d low. absurd (omega arith)));
 }
 
--- What `TablesMean` says, table by table. The open grants and the counts of calls stand for themselves, for the time between two statements.
-pub record Parts (db : Database) (m : Queue) (held : List Grant) (count : List ℕ → ℕ) (k : List Entry) : Type 0 where
+-- ---- the tables, each by its name
+
+pub data Name : Type 0 where
+  jobs : Name
+  grants : Name
+  holds : Name
+  down : Name
+  replies : Name
+  meta : Name
+  floors : Name
+  calls : Name
+
+abbrev pub tree_of : Name → ℕ
+tree_of jobs = jobs_tree
+tree_of grants = grants_tree
+tree_of holds = holds_tree
+tree_of down = down_tree
+tree_of replies = replies_tree
+tree_of meta = meta_tree
+tree_of floors = floors_tree
+tree_of calls = calls_tree
+
+-- What they mean. The open grants and the counts of calls stand for themselves, for the time between two statements.
+pub record Content : Type 0 where
+  pub queue : Queue
+  pub held : List Grant
+  pub count : List ℕ → ℕ
+  pub kept : Ledger
+
+-- the floors stand there, each lawful
+pub record AreFloors (floor : List ℕ → ℕ) (rows : List Row) : Type 0 where
+  pub is : AreCounted floor (map (drop 1) rows)
+  pub ordered : IsByRowid rows
+  pub lawful : AreLawfulFloors floor
+
+-- the clock and next numbers are within their limits
+pub record AreLimited (now job grant : ℕ) : Type 0 where
+  pub clock : now ≤ last_moment
+  pub next_job : (1 ≤ job) × (job ≤ last_job + 1)
+  pub next_grant : (1 ≤ grant) × (grant ≤ last_grant + 1)
+
+-- what `TablesMean` says of the rows of one table
+abbrev pub Says : Name → Content → List Row → Type 0
+Says jobs c rows = AreRecords row_of IsLawfulJob rows c.queue.jobs
+Says grants c rows = AreRecords grant_row IsLawfulGrant rows c.queue.grants
+Says holds c rows = AreHeld rows c.held
+Says down c rows = AreColumns down_columns IsName rows c.queue.down
+Says replies c rows = AreColumns entry_columns IsLawfulEntry rows c.kept.replies
+Says meta c rows = (rows ≡ meta_row c.queue ∷ []) × AreLimited c.queue.clock c.queue.next_job c.queue.next_grant
+Says floors c rows = AreFloors c.kept.floor rows
+Says calls c rows = AreCalls c.count rows
+
+pub record PartsOf (db : Database) (c : Content) : Type 0 where
   pub schema : db.schema ≡ our_tables
   pub sound : IsDatabase db
-  pub jobs : AreRecords row_of IsLawfulJob (db.trees jobs_tree) m.jobs
-  pub grants : AreRecords grant_row IsLawfulGrant (db.trees grants_tree) m.grants
-  pub holds : AreHeld (db.trees holds_tree) held
-  pub down : AreColumns down_columns IsName (db.trees down_tree) m.down
-  pub replies : AreColumns entry_columns IsLawfulEntry (db.trees replies_tree) k
-  pub meta : db.trees meta_tree ≡ meta_row m ∷ []
-  pub calls : AreCalls count (db.trees calls_tree)
-  pub lawful : IsLawfulMeta m
+  pub says : (name : Name) → Says name c (db.trees (tree_of name))
 
--- other grants whose triples are those that stand there
-pub held_as : (db : Database) (m : Queue) (held others : List Grant) (count : List ℕ → ℕ) (k : List Entry) → AreHeld (db.trees holds_tree) others → Parts db m held count k → Parts db m others count k
-held_as db m held others count k holds parts = record {
-  schema = parts.schema;
-  sound = parts.sound;
-  jobs = parts.jobs;
-  grants = parts.grants;
-  holds = holds;
-  down = parts.down;
-  replies = parts.replies;
-  meta = parts.meta;
-  calls = parts.calls;
-  lawful = parts.lawful;
-}
+abbrev pub content : Queue → List Grant → (List ℕ → ℕ) → Ledger → Content
+content m held count k = record { queue = m; held = held; count = count; kept = k }
 
--- other counts that are the same, number by number
-pub calls_as : (db : Database) (m : Queue) (held : List Grant) (count other : List ℕ → ℕ) (k : List Entry) → ((dial : List ℕ) → count dial ≡ other dial) → Parts db m held count k → Parts db m held other k
-calls_as db m held count other k same parts = record {
-  schema = parts.schema;
-  sound = parts.sound;
-  jobs = parts.jobs;
-  grants = parts.grants;
-  holds = parts.holds;
-  down = parts.down;
-  replies = parts.replies;
-  meta = parts.meta;
-  calls = record { is = counted_as count other (map (drop 1) (db.trees calls_tree)) same parts.calls.is; ordered = parts.calls.ordered };
-  lawful = parts.lawful;
-}
+abbrev pub Parts : Database → Queue → List Grant → (List ℕ → ℕ) → Ledger → Type 0
+Parts db m held count k = PartsOf db (content m held count k)
 
 -- the calls to each number
 abbrev pub calls_of : Queue → List ℕ → ℕ
 calls_of m dial = calls_to dial m
 
-pub parts_of : (db : Database) (m : Queue) (k : List Entry) → TablesMean db m k → Parts db m (open_grants m) (calls_of m) k
-parts_of db m k means = record {
-  schema = means.schema;
-  sound = means.sound;
-  jobs = record { is = means.jobs; ordered = means.ordered.jobs; lawful = means.lawful.jobs };
-  grants = record { is = means.grants; ordered = means.ordered.grants; lawful = means.lawful.grants };
-  holds = record { is = means.holds; ordered = means.ordered.holds };
-  down = record { is = means.down; ordered = means.ordered.down; lawful = means.lawful.down };
-  replies = record { is = means.replies; ordered = means.ordered.replies; lawful = means.lawful.replies };
-  meta = means.meta;
-  calls = record { is = means.calls; ordered = means.ordered.calls };
-  lawful = means.lawful.meta;
-}
+pub parts_of : (db : Database) (m : Queue) (k : Ledger) → TablesMean db m k → Parts db m (open_grants m) (calls_of m) k
+parts_of db m k means = record { schema = means.schema; sound = means.sound; says = says }
+  where
+    says : (name : Name) → Says name (content m (open_grants m) (calls_of m) k) (db.trees (tree_of name))
+    says jobs = record { is = means.jobs; ordered = means.ordered.jobs; lawful = means.lawful.jobs }
+    says grants = record { is = means.grants; ordered = means.ordered.grants; lawful = means.lawful.grants }
+    says holds = record { is = means.holds; ordered = means.ordered.holds }
+    says down = record { is = means.down; ordered = means.ordered.down; lawful = means.lawful.down }
+    says replies = record { is = means.replies; ordered = means.ordered.replies; lawful = means.lawful.replies }
+    says meta = (means.meta, record { clock = means.lawful.meta.clock; next_job = means.lawful.meta.next_job; next_grant = means.lawful.meta.next_grant })
+    says floors = record { is = means.floors; ordered = means.ordered.floors; lawful = means.lawful.floors }
+    says calls = record { is = means.calls; ordered = means.ordered.calls }
 
-pub means_of : (db : Database) (m : Queue) (k : List Entry) → HaveJobs m → Parts db m (open_grants m) (calls_of m) k → TablesMean db m k
-means_of db m k held parts = record {
-  schema = parts.schema;
-  sound = parts.sound;
-  jobs = parts.jobs.is;
-  grants = parts.grants.is;
-  holds = parts.holds.is;
-  down = parts.down.is;
-  replies = parts.replies.is;
-  meta = parts.meta;
-  held = held;
-  calls = parts.calls.is;
-  ordered = record { jobs = parts.jobs.ordered; grants = parts.grants.ordered; holds = parts.holds.ordered; down = parts.down.ordered; replies = parts.replies.ordered; calls = parts.calls.ordered };
-  lawful = record { jobs = parts.jobs.lawful; grants = parts.grants.lawful; down = parts.down.lawful; replies = parts.replies.lawful; meta = parts.lawful };
-}
+pub means_of : (db : Database) (m : Queue) (k : Ledger) → HaveJobs m → Parts db m (open_grants m) (calls_of m) k → TablesMean db m k
+means_of db m k held parts =
+    let of_jobs = parts.says jobs in
+    let of_grants = parts.says grants in
+    let of_holds = parts.says holds in
+    let of_down = parts.says down in
+    let of_replies = parts.says replies in
+    let of_meta = parts.says meta in
+    let of_floors = parts.says floors in
+    let of_calls = parts.says calls in
+    record {
+      schema = parts.schema;
+      sound = parts.sound;
+      jobs = of_jobs.is;
+      grants = of_grants.is;
+      holds = of_holds.is;
+      down = of_down.is;
+      replies = of_replies.is;
+      floors = of_floors.is;
+      meta = of_meta.0;
+      held = held;
+      calls = of_calls.is;
+      ordered = record {
+        jobs = of_jobs.ordered;
+        grants = of_grants.ordered;
+        holds = of_holds.ordered;
+        down = of_down.ordered;
+        replies = of_replies.ordered;
+        floors = of_floors.ordered;
+        calls = of_calls.ordered;
+      };
+      lawful = record {
+        jobs = of_jobs.lawful;
+        grants = of_grants.lawful;
+        down = of_down.lawful;
+        replies = of_replies.lawful;
+        meta = record { clock = of_meta.1.clock; next_job = of_meta.1.next_job; next_grant = of_meta.1.next_grant };
+        floors = of_floors.lawful;
+      };
+    }
 
--- the same numbers of another queue
-lawful_as : (m after : Queue) → after.clock ≡ m.clock → after.next_job ≡ m.next_job → after.next_grant ≡ m.next_grant → IsLawfulMeta m → IsLawfulMeta after
-lawful_as m after clock next_job next_grant lawful = record {
-  clock = subst (λ n. n ≤ 4102444800) (sym clock) lawful.clock;
-  next_job = subst (λ n. (1 ≤ n) × (n ≤ 1000000)) (sym next_job) lawful.next_job;
-  next_grant = subst (λ n. (1 ≤ n) × (n ≤ 1000000000)) (sym next_grant) lawful.next_grant;
-}
+-- ---- one table changed, and what its rows mean now is known
 
--- one table changed, and what its rows mean now is known
-module _ (old new : State) (m : Queue) (held : List Grant) (count : List ℕ → ℕ) (k : List Entry) (was : Parts old.now m held count k) where
-  pub jobs_changed : KeepsOthers our_tables jobs_tree old new → (jobs : List Job) → AreRecords row_of IsLawfulJob (new.now.trees jobs_tree) jobs → Parts new.now (record m { jobs = jobs }) held count k
-  jobs_changed keeps jobs now = let same = keeps.others in record {
-    schema = keeps.schema_is;
-    sound = keeps.sound;
-    jobs = now;
-    grants = subst (λ rows. AreRecords grant_row IsLawfulGrant rows m.grants) (sym (same.1.0 (λ e. absurd (omega arith)))) was.grants;
-    holds = subst (λ rows. AreHeld rows held) (sym (same.1.1.0 (λ e. absurd (omega arith)))) was.holds;
-    down = subst (λ rows. AreColumns down_columns IsName rows m.down) (sym (same.1.1.1.0 (λ e. absurd (omega arith)))) was.down;
-    replies = subst (λ rows. AreColumns entry_columns IsLawfulEntry rows k) (sym (same.1.1.1.1.0 (λ e. absurd (omega arith)))) was.replies;
-    meta = same.1.1.1.1.1.0 (λ e. absurd (omega arith)) ∙ was.meta;
-    calls = subst (AreCalls count) (sym (same.1.1.1.1.1.1.0 (λ e. absurd (omega arith)))) was.calls;
-    lawful = lawful_as m (record m { jobs = jobs }) refl refl refl was.lawful;
-  }
+-- another table has the rows that it had
+rows_kept : (old new : State) (tree : ℕ) → KeepsOthers our_tables tree old new → (name : Name) → tree_of name ≢ tree → new.now.trees (tree_of name) ≡ old.now.trees (tree_of name)
+rows_kept old new tree keeps jobs apart = keeps.others.0 apart
+rows_kept old new tree keeps grants apart = keeps.others.1.0 apart
+rows_kept old new tree keeps holds apart = keeps.others.1.1.0 apart
+rows_kept old new tree keeps down apart = keeps.others.1.1.1.0 apart
+rows_kept old new tree keeps replies apart = keeps.others.1.1.1.1.0 apart
+rows_kept old new tree keeps meta apart = keeps.others.1.1.1.1.1.0 apart
+rows_kept old new tree keeps floors apart = keeps.others.1.1.1.1.1.1.0 apart
+rows_kept old new tree keeps calls apart = keeps.others.1.1.1.1.1.1.1.0 apart
 
-  pub grants_changed : KeepsOthers our_tables grants_tree old new → (grants : List Grant) → AreRecords grant_row IsLawfulGrant (new.now.trees grants_tree) grants → Parts new.now (record m { grants = grants }) held count k
-  grants_changed keeps grants now = let same = keeps.others in record {
-    schema = keeps.schema_is;
-    sound = keeps.sound;
-    jobs = subst (λ rows. AreRecords row_of IsLawfulJob rows m.jobs) (sym (same.0 (λ e. absurd (omega arith)))) was.jobs;
-    grants = now;
-    holds = subst (λ rows. AreHeld rows held) (sym (same.1.1.0 (λ e. absurd (omega arith)))) was.holds;
-    down = subst (λ rows. AreColumns down_columns IsName rows m.down) (sym (same.1.1.1.0 (λ e. absurd (omega arith)))) was.down;
-    replies = subst (λ rows. AreColumns entry_columns IsLawfulEntry rows k) (sym (same.1.1.1.1.0 (λ e. absurd (omega arith)))) was.replies;
-    meta = same.1.1.1.1.1.0 (λ e. absurd (omega arith)) ∙ was.meta;
-    calls = subst (AreCalls count) (sym (same.1.1.1.1.1.1.0 (λ e. absurd (omega arith)))) was.calls;
-    lawful = lawful_as m (record m { grants = grants }) refl refl refl was.lawful;
-  }
+-- What is said of the rows of a table now: something new, or, of another than the one that changed, what was said before.
+abbrev Stays : ℕ → State → Content → Content → Name → Type 0
+Stays tree new c after name = Says name after (new.now.trees (tree_of name)) ⊎ ((tree_of name ≢ tree) × ((rows : List Row) → Says name c rows → Says name after rows))
+
+pub changed : (tree : ℕ) (old new : State) (c after : Content) → KeepsOthers our_tables tree old new → ((name : Name) → Stays tree new c after name) → PartsOf old.now c → PartsOf new.now after
+changed tree old new c after keeps each was = record { schema = keeps.schema_is; sound = keeps.sound; says = λ name. by name (each name) }
+  where
+    by : (name : Name) → Stays tree new c after name → Says name after (new.now.trees (tree_of name))
+    by name (inl now) = now
+    by name (inr kept) = subst (Says name after) (sym (rows_kept old new tree keeps name kept.0)) (kept.1 (old.now.trees (tree_of name)) (was.says name))
+
+module _ (old new : State) (m : Queue) (held : List Grant) (count : List ℕ → ℕ) (k : Ledger) (was : Parts old.now m held count k) where
+  abbrev before : Content
+  before = content m held count k
+
+  pub jobs_changed : KeepsOthers our_tables jobs_tree old new → (js : List Job) → AreRecords row_of IsLawfulJob (new.now.trees jobs_tree) js → Parts new.now (record m { jobs = js }) held count k
+  jobs_changed keeps js now = changed jobs_tree old new before (content (record m { jobs = js }) held count k) keeps each was
+    where
+      each : (name : Name) → Stays jobs_tree new before (content (record m { jobs = js }) held count k) name
+      each jobs = inl now
+      each _ = inr ((λ e. absurd (omega arith)), λ rows says. says)
+
+  pub grants_changed : KeepsOthers our_tables grants_tree old new → (gs : List Grant) → AreRecords grant_row IsLawfulGrant (new.now.trees grants_tree) gs → Parts new.now (record m { grants = gs }) held count k
+  grants_changed keeps gs now = changed grants_tree old new before (content (record m { grants = gs }) held count k) keeps each was
+    where
+      each : (name : Name) → Stays grants_tree new before (content (record m { grants = gs }) held count k) name
+      each grants = inl now
+      each _ = inr ((λ e. absurd (omega arith)), λ rows says. says)
 
   pub holds_changed : KeepsOthers our_tables holds_tree old new → (now_held : List Grant) → AreHeld (new.now.trees holds_tree) now_held → Parts new.now m now_held count k
-  holds_changed keeps now_held now = let same = keeps.others in record {
-    schema = keeps.schema_is;
-    sound = keeps.sound;
-    jobs = subst (λ rows. AreRecords row_of IsLawfulJob rows m.jobs) (sym (same.0 (λ e. absurd (omega arith)))) was.jobs;
-    grants = subst (λ rows. AreRecords grant_row IsLawfulGrant rows m.grants) (sym (same.1.0 (λ e. absurd (omega arith)))) was.grants;
-    holds = now;
-    down = subst (λ rows. AreColumns down_columns IsName rows m.down) (sym (same.1.1.1.0 (λ e. absurd (omega arith)))) was.down;
-    replies = subst (λ rows. AreColumns entry_columns IsLawfulEntry rows k) (sym (same.1.1.1.1.0 (λ e. absurd (omega arith)))) was.replies;
-    meta = same.1.1.1.1.1.0 (λ e. absurd (omega arith)) ∙ was.meta;
-    calls = subst (AreCalls count) (sym (same.1.1.1.1.1.1.0 (λ e. absurd (omega arith)))) was.calls;
-    lawful = was.lawful;
-  }
+  holds_changed keeps now_held now = changed holds_tree old new before (content m now_held count k) keeps each was
+    where
+      each : (name : Name) → Stays holds_tree new before (content m now_held count k) name
+      each holds = inl now
+      each _ = inr ((λ e. absurd (omega arith)), λ rows says. says)
 
-  pub down_changed : KeepsOthers our_tables down_tree old new → (down : List (List ℕ)) → AreColumns down_columns IsName (new.now.trees down_tree) down → Parts new.now (record m { down = down }) held count k
-  down_changed keeps down now = let same = keeps.others in record {
-    schema = keeps.schema_is;
-    sound = keeps.sound;
-    jobs = subst (λ rows. AreRecords row_of IsLawfulJob rows m.jobs) (sym (same.0 (λ e. absurd (omega arith)))) was.jobs;
-    grants = subst (λ rows. AreRecords grant_row IsLawfulGrant rows m.grants) (sym (same.1.0 (λ e. absurd (omega arith)))) was.grants;
-    holds = subst (λ rows. AreHeld rows held) (sym (same.1.1.0 (λ e. absurd (omega arith)))) was.holds;
-    down = now;
-    replies = subst (λ rows. AreColumns entry_columns IsLawfulEntry rows k) (sym (same.1.1.1.1.0 (λ e. absurd (omega arith)))) was.replies;
-    meta = same.1.1.1.1.1.0 (λ e. absurd (omega arith)) ∙ was.meta;
-    calls = subst (AreCalls count) (sym (same.1.1.1.1.1.1.0 (λ e. absurd (omega arith)))) was.calls;
-    lawful = lawful_as m (record m { down = down }) refl refl refl was.lawful;
-  }
+  pub down_changed : KeepsOthers our_tables down_tree old new → (ds : List (List ℕ)) → AreColumns down_columns IsName (new.now.trees down_tree) ds → Parts new.now (record m { down = ds }) held count k
+  down_changed keeps ds now = changed down_tree old new before (content (record m { down = ds }) held count k) keeps each was
+    where
+      each : (name : Name) → Stays down_tree new before (content (record m { down = ds }) held count k) name
+      each down = inl now
+      each _ = inr ((λ e. absurd (omega arith)), λ rows says. says)
 
-  pub replies_changed : KeepsOthers our_tables replies_tree old new → (kept : List Entry) → AreColumns entry_columns IsLawfulEntry (new.now.trees replies_tree) kept → Parts new.now m held count kept
-  replies_changed keeps kept now = let same = keeps.others in record {
-    schema = keeps.schema_is;
-    sound = keeps.sound;
-    jobs = subst (λ rows. AreRecords row_of IsLawfulJob rows m.jobs) (sym (same.0 (λ e. absurd (omega arith)))) was.jobs;
-    grants = subst (λ rows. AreRecords grant_row IsLawfulGrant rows m.grants) (sym (same.1.0 (λ e. absurd (omega arith)))) was.grants;
-    holds = subst (λ rows. AreHeld rows held) (sym (same.1.1.0 (λ e. absurd (omega arith)))) was.holds;
-    down = subst (λ rows. AreColumns down_columns IsName rows m.down) (sym (same.1.1.1.0 (λ e. absurd (omega arith)))) was.down;
-    replies = now;
-    meta = same.1.1.1.1.1.0 (λ e. absurd (omega arith)) ∙ was.meta;
-    calls = subst (AreCalls count) (sym (same.1.1.1.1.1.1.0 (λ e. absurd (omega arith)))) was.calls;
-    lawful = was.lawful;
-  }
+  pub replies_changed : KeepsOthers our_tables replies_tree old new → (rs : List Entry) → AreColumns entry_columns IsLawfulEntry (new.now.trees replies_tree) rs → Parts new.now m held count (record k { replies = rs })
+  replies_changed keeps rs now = changed replies_tree old new before (content m held count (record k { replies = rs })) keeps each was
+    where
+      each : (name : Name) → Stays replies_tree new before (content m held count (record k { replies = rs })) name
+      each replies = inl now
+      each _ = inr ((λ e. absurd (omega arith)), λ rows says. says)
+
+  pub floors_changed : KeepsOthers our_tables floors_tree old new → (floor : List ℕ → ℕ) → AreFloors floor (new.now.trees floors_tree) → Parts new.now m held count (record k { floor = floor })
+  floors_changed keeps floor now = changed floors_tree old new before (content m held count (record k { floor = floor })) keeps each was
+    where
+      each : (name : Name) → Stays floors_tree new before (content m held count (record k { floor = floor })) name
+      each floors = inl now
+      each _ = inr ((λ e. absurd (omega arith)), λ rows says. says)
 
   pub meta_changed : KeepsOthers our_tables meta_tree old new → (clock next_job next_grant : ℕ) → new.now.trees meta_tree ≡ meta_row (record m { clock = clock; next_job = next_job; next_grant = next_grant }) ∷ []
       → IsLawfulMeta (record m { clock = clock; next_job = next_job; next_grant = next_grant }) → Parts new.now (record m { clock = clock; next_job = next_job; next_grant = next_grant }) held count k
-  meta_changed keeps clock next_job next_grant now lawful = let same = keeps.others in record {
-    schema = keeps.schema_is;
-    sound = keeps.sound;
-    jobs = subst (λ rows. AreRecords row_of IsLawfulJob rows m.jobs) (sym (same.0 (λ e. absurd (omega arith)))) was.jobs;
-    grants = subst (λ rows. AreRecords grant_row IsLawfulGrant rows m.grants) (sym (same.1.0 (λ e. absurd (omega arith)))) was.grants;
-    holds = subst (λ rows. AreHeld rows held) (sym (same.1.1.0 (λ e. absurd (omega arith)))) was.holds;
-    down = subst (λ rows. AreColumns down_columns IsName rows m.down) (sym (same.1.1.1.0 (λ e. absurd (omega arith)))) was.down;
-    replies = subst (λ rows. AreColumns entry_columns IsLawfulEntry rows k) (sym (same.1.1.1.1.0 (λ e. absurd (omega arith)))) was.replies;
-    meta = now;
-    calls = subst (AreCalls count) (sym (same.1.1.1.1.1.1.0 (λ e. absurd (omega arith)))) was.calls;
-    lawful = lawful;
-  }
+  meta_changed keeps clock next_job next_grant now lawful = changed meta_tree old new before (content (record m { clock = clock; next_job = next_job; next_grant = next_grant }) held count k) keeps each was
+    where
+      each : (name : Name) → Stays meta_tree new before (content (record m { clock = clock; next_job = next_job; next_grant = next_grant }) held count k) name
+      each meta = inl (now, record { clock = lawful.clock; next_job = lawful.next_job; next_grant = lawful.next_grant })
+      each _ = inr ((λ e. absurd (omega arith)), λ rows says. says)
 
-  pub calls_changed : new.now.schema ≡ our_tables → IsDatabase new.now → KeepsRows core_tables.tables old.now.trees new.now.trees → (counted : List ℕ → ℕ) → AreCalls counted (new.now.trees calls_tree) → Parts new.now m held counted k
-  calls_changed schema_is sound rows counted now = record {
-    schema = schema_is;
-    sound = sound;
-    jobs = subst (λ rs. AreRecords row_of IsLawfulJob rs m.jobs) (sym rows.0) was.jobs;
-    grants = subst (λ rs. AreRecords grant_row IsLawfulGrant rs m.grants) (sym rows.1.0) was.grants;
-    holds = subst (λ rs. AreHeld rs held) (sym rows.1.1.0) was.holds;
-    down = subst (λ rs. AreColumns down_columns IsName rs m.down) (sym rows.1.1.1.0) was.down;
-    replies = subst (λ rs. AreColumns entry_columns IsLawfulEntry rs k) (sym rows.1.1.1.1.0) was.replies;
-    meta = rows.1.1.1.1.1.0 ∙ was.meta;
-    calls = now;
-    lawful = was.lawful;
-  }
+-- other grants whose triples are those that stand there
+pub held_as : (db : Database) (m : Queue) (held others : List Grant) (count : List ℕ → ℕ) (k : Ledger) → AreHeld (db.trees holds_tree) others → Parts db m held count k → Parts db m others count k
+held_as db m held others count k now parts = record { schema = parts.schema; sound = parts.sound; says = each }
+  where
+    each : (name : Name) → Says name (content m others count k) (db.trees (tree_of name))
+    each holds = now
+    each jobs = parts.says jobs
+    each grants = parts.says grants
+    each down = parts.says down
+    each replies = parts.says replies
+    each meta = parts.says meta
+    each floors = parts.says floors
+    each calls = parts.says calls
 
--- what rows mean, they mean in another database that has them in the six tables, and the calls
-pub rows_mean : (full db : Database) (m : Queue) (k : List Entry) → db.schema ≡ our_tables → IsDatabase db → KeepsRows core_tables.tables full.trees db.trees → AreCalls (calls_of m) (db.trees calls_tree) → TablesMean full m k → TablesMean db m k
-rows_mean full db m k schema sound rows calls means =
-    let jobs = rows.0 in
-    let grants = rows.1.0 in
-    let holds = rows.1.1.0 in
-    let down = rows.1.1.1.0 in
-    let replies = rows.1.1.1.1.0 in
-    record {
-      schema = schema;
-      sound = sound;
-      jobs = jobs ∙ means.jobs;
-      grants = grants ∙ means.grants;
-      holds = subst (λ rs. IsPermutation (map hold_columns (open_grants m)) (map (drop 1) rs)) (sym holds) means.holds;
-      down = ap (map (drop 1)) down ∙ means.down;
-      replies = ap (map (drop 1)) replies ∙ means.replies;
-      meta = rows.1.1.1.1.1.0 ∙ means.meta;
-      held = means.held;
-      calls = calls.is;
-      ordered = record {
-        jobs = subst IsByRowid (sym jobs) means.ordered.jobs;
-        grants = subst IsByRowid (sym grants) means.ordered.grants;
-        holds = subst IsByRowid (sym holds) means.ordered.holds;
-        down = subst IsByRowid (sym down) means.ordered.down;
-        replies = subst IsByRowid (sym replies) means.ordered.replies;
-        calls = calls.ordered;
-      };
-      lawful = means.lawful;
-    }
+-- other counts that are the same, number by number
+pub calls_as : (db : Database) (m : Queue) (held : List Grant) (count other : List ℕ → ℕ) (k : Ledger) → ((dial : List ℕ) → count dial ≡ other dial) → Parts db m held count k → Parts db m held other k
+calls_as db m held count other k same parts = record { schema = parts.schema; sound = parts.sound; says = each }
+  where
+    each : (name : Name) → Says name (content m held other k) (db.trees (tree_of name))
+    each calls = let was = parts.says calls in record { is = counted_as count other (map (drop 1) (db.trees calls_tree)) same was.is; ordered = was.ordered }
+    each jobs = parts.says jobs
+    each grants = parts.says grants
+    each holds = parts.says holds
+    each down = parts.says down
+    each replies = parts.says replies
+    each meta = parts.says meta
+    each floors = parts.says floors
+
+-- ---- rows of other databases
+
+-- all tables but `calls` have the rows that they had
+pub counts_again : (old new : Database) (m : Queue) (held : List Grant) (count counted : List ℕ → ℕ) (k : Ledger) → new.schema ≡ our_tables → IsDatabase new → KeepsRows core_tables.tables old.trees new.trees → AreCalls counted (new.trees calls_tree) → Parts old m held count k
+    → Parts new m held counted k
+counts_again old new m held count counted k schema_is sound rows now was = record { schema = schema_is; sound = sound; says = each }
+  where
+    each : (name : Name) → Says name (content m held counted k) (new.trees (tree_of name))
+    each jobs = subst (Says jobs (content m held counted k)) (sym rows.0) (was.says jobs)
+    each grants = subst (Says grants (content m held counted k)) (sym rows.1.0) (was.says grants)
+    each holds = subst (Says holds (content m held counted k)) (sym rows.1.1.0) (was.says holds)
+    each down = subst (Says down (content m held counted k)) (sym rows.1.1.1.0) (was.says down)
+    each replies = subst (Says replies (content m held counted k)) (sym rows.1.1.1.1.0) (was.says replies)
+    each meta = subst (Says meta (content m held counted k)) (sym rows.1.1.1.1.1.0) (was.says meta)
+    each floors = subst (Says floors (content m held counted k)) (sym rows.1.1.1.1.1.1.0) (was.says floors)
+    each calls = now
+
+pub calls_changed : (old new : State) (m : Queue) (held : List Grant) (count : List ℕ → ℕ) (k : Ledger) → Parts old.now m held count k → new.now.schema ≡ our_tables → IsDatabase new.now → KeepsRows core_tables.tables old.now.trees new.now.trees
+    → (counted : List ℕ → ℕ) → AreCalls counted (new.now.trees calls_tree) → Parts new.now m held counted k
+calls_changed old new m held count k was schema_is sound rows counted now = counts_again old.now new.now m held count counted k schema_is sound rows now was
+
+-- what rows mean, they mean in another database that has them in all tables but `calls`, and the calls
+pub rows_mean : (full db : Database) (m : Queue) (k : Ledger) → db.schema ≡ our_tables → IsDatabase db → KeepsRows core_tables.tables full.trees db.trees → AreCalls (calls_of m) (db.trees calls_tree) → TablesMean full m k → TablesMean db m k
+rows_mean full db m k schema sound rows counted means = means_of db m k means.held (counts_again full db m (open_grants m) (calls_of m) (calls_of m) k schema sound rows counted (parts_of full m k means))
 
 -- a database is told by its rows, since they list its schema
 pub same_database : (a b : Database) → a.trees ≡ b.trees → IsDatabase a → IsDatabase b → a ≡ b

@@ -81,5 +81,14 @@ entry_columns e = Text e.client ∷ number e.number ∷ Blob e.said ∷ number e
 abbrev pub call_columns : List ℕ → ℕ → Row
 call_columns dial open_calls = Text dial ∷ number open_calls ∷ []
 
+-- a client, and through which number it has given up its replies
+abbrev pub floor_columns : List ℕ → ℕ → Row
+floor_columns client upto = Text client ∷ number upto ∷ []
+
+-- of the second version
 abbrev pub meta_row : Queue → Row
-meta_row m = number 1 ∷ Null ∷ number m.clock ∷ number m.next_job ∷ number m.next_grant ∷ number 1 ∷ []
+meta_row m = number 1 ∷ Null ∷ number m.clock ∷ number m.next_job ∷ number m.next_grant ∷ number 2 ∷ []
+
+-- a row of meta, as the second version has it
+abbrev pub raised : Row → Row
+raised row = column row 0 ∷ Null ∷ column row 2 ∷ column row 3 ∷ column row 4 ∷ number 2 ∷ []

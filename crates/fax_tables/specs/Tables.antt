@@ -1,14 +1,16 @@
--- What a database with the seven tables means.
-use Rattle.std.specs.Prelude.{◌≡◌, ◌⊎◌, ℕ, ◌+◌, ◌≤◌, ◌<◌, ◌^◌, true, false, List, [], ◌∷◌, All, map, drop, IsTrue, Some}
+-- What a database with the tables of a queue means.
+use Rattle.std.specs.Prelude.{◌≡◌, ◌⊎◌, ℕ, ◌+◌, ◌≤◌, ◌<◌, ◌^◌, ◌==◌, true, false, List, [], ◌∷◌, All, map, drop, IsTrue, Some, if◌then◌else◌}
 use Rattle.std.specs.List.{AllByRecursion}
 use Rattle.std.specs.List.Sorted.{IsPermutation}
-use Rattle.sqlite.specs.Order.{Row}
+use Rattle.sqlite.specs.Order.{Row, column}
+use Rattle.sqlite.specs.declared.types.Value.{Value}
 use Rattle.sqlite.specs.Effect.{Database, IsDatabase}
 use Rattle.sqlite.specs.State.{State, Shows}
 use Rattle.sqlite_schema.specs.declared.schema.Schema.{Schema}
 use Rattle.sqlite_catalog.specs.Change.{KeepsRows}
 use Rattle.sqlite_rules.specs.Lists.{Has}
 use Rattle.fax_core.specs.Job.{Job, fields_of}
+use Rattle.fax_core.specs.Ledger.{Ledger}
 use Rattle.fax_core.specs.Queue.{Queue, Entry, job_numbered, open_grants}
 use Rattle.fax_core.specs.State.{calls_to}
 use Rattle.fax_core.specs.declared.grants.Grant.{Grant}
@@ -16,9 +18,9 @@ use Rattle.fax_job.specs.Limits.{last_grant, last_job, last_moment}
 use Rattle.fax_job.specs.Name.{IsName}
 use Rattle.fax_tables.specs.Grant.{IsWithinLimits}
 use Rattle.fax_schema.specs.ByRowid.{IsByRowid}
-use Rattle.fax_schema.specs.Schema.{AreIndexedLast, HaveCalls, core_tables, bare_tables, our_tables, bare_with_calls, older_core_tables, calls_tree, down_tree, grants_tree, holds_tree, jobs_tree, meta_tree, replies_tree}
+use Rattle.fax_schema.specs.Schema.{AreIndexedLast, HaveCalls, alike_list, first_list, first_bare, first_core, first_indexed, first_older_core, first_bare_calls, core_tables, bare_tables, our_tables, bare_with_calls, has_floors, calls_tree, down_tree, floors_tree, grants_tree, holds_tree, jobs_tree, meta_tree, replies_tree}
 use Rattle.fax_tables.specs.Job.{IsLawfulJob}
-use Rattle.fax_tables.specs.Row.{job_row, grant_row, hold_columns, down_columns, entry_columns, call_columns, meta_row}
+use Rattle.fax_tables.specs.Row.{number, job_row, grant_row, hold_columns, down_columns, entry_columns, call_columns, meta_row, raised}
 
 pub record IsLawfulGrant (g : Grant) : Type 0 where
   pub limits : IsWithinLimits g
@@ -39,13 +41,18 @@ pub record IsLawfulEntry (e : Entry) : Type 0 where
   pub number : (1 ≤ e.number) × (e.number < 10 ^ 18)
   pub status : IsKeptStatus e.status
 
+-- a client's floor, where it has one
+abbrev pub AreLawfulFloors : (List ℕ → ℕ) → Type 0
+AreLawfulFloors floor = (client : List ℕ) → 1 ≤ floor client → IsName client × (floor client < 10 ^ 18)
+
 -- every record is lawful
-pub record AreLawful (m : Queue) (k : List Entry) : Type 0 where
+pub record AreLawful (m : Queue) (k : Ledger) : Type 0 where
   pub jobs : All IsLawfulJob m.jobs
   pub grants : All IsLawfulGrant m.grants
   pub down : All IsName m.down
-  pub replies : All IsLawfulEntry k
+  pub replies : All IsLawfulEntry k.replies
   pub meta : IsLawfulMeta m
+  pub floors : AreLawfulFloors k.floor
 
 -- jobs and grants stand by number, and the others, whose rowids say nothing, as they came
 pub record AreByRowid (db : Database) : Type 0 where
@@ -54,9 +61,10 @@ pub record AreByRowid (db : Database) : Type 0 where
   pub holds : IsByRowid (db.trees holds_tree)
   pub down : IsByRowid (db.trees down_tree)
   pub replies : IsByRowid (db.trees replies_tree)
+  pub floors : IsByRowid (db.trees floors_tree)
   pub calls : IsByRowid (db.trees calls_tree)
 
--- Each number of which the count isn't 0 has a row with its count, and there is no other row.
+-- Each text of which the count isn't 0 has a row with its count, and there is no other row. So stand the numbers to dial in `calls`, and the clients in `floors`.
 pub record AreCounted (count : List ℕ → ℕ) (columns : List Row) : Type 0 where
   pub each : (row : Row) → Has columns row → (dial : List ℕ) × (row ≡ call_columns dial (count dial)) × (1 ≤ count dial)
   pub all : (dial : List ℕ) → 1 ≤ count dial → Has columns (call_columns dial (count dial))
@@ -74,27 +82,62 @@ HasJob m g = (j : Job) × (job_numbered g.job m ≡ Some j)
 abbrev pub HaveJobs : Queue → Type 0
 HaveJobs m = (g : Grant) → Has (open_grants m) g → HasJob m g
 
--- The database has the seven tables with their indexes and obeys their rules. The rows of six are the records of the queue and of the kept replies, each of them lawful, and no other row stands in them: `holds` has the open grants, in any order, each of a job that is there, and `shut` is 0 for just these. `calls` has each number with an open grant, and how many are open to it.
-pub record TablesMean (db : Database) (m : Queue) (k : List Entry) : Type 0 where
+-- The database has the eight tables with their indexes and obeys their rules. The rows of seven are the records of the queue and of what is kept of the clients, each of them lawful, and no other row stands in them: `holds` has the open grants, in any order, each of a job that is there, and `shut` is 0 for just these. `calls` has each number with an open grant, and how many are open to it.
+pub record TablesMean (db : Database) (m : Queue) (k : Ledger) : Type 0 where
   pub schema : db.schema ≡ our_tables
   pub sound : IsDatabase db
   pub jobs : db.trees jobs_tree ≡ map (λ j. job_row (fields_of j)) m.jobs
   pub grants : db.trees grants_tree ≡ map grant_row m.grants
   pub holds : IsPermutation (map hold_columns (open_grants m)) (map (drop 1) (db.trees holds_tree))
   pub down : map (drop 1) (db.trees down_tree) ≡ map down_columns m.down
-  pub replies : map (drop 1) (db.trees replies_tree) ≡ map entry_columns k
+  pub replies : map (drop 1) (db.trees replies_tree) ≡ map entry_columns k.replies
+  pub floors : AreCounted k.floor (map (drop 1) (db.trees floors_tree))
   pub meta : db.trees meta_tree ≡ meta_row m ∷ []
   pub held : HaveJobs m
   pub calls : AreCounted (λ dial. calls_to dial m) (map (drop 1) (db.trees calls_tree))
   pub ordered : AreByRowid db
   pub lawful : AreLawful m k
 
--- Its rows in the six tables are those of a database that means this, which has `calls` and the indexes.
-abbrev pub RowsMean : Database → Queue → List Entry → Type 0
-RowsMean db m k = (full : Database) × TablesMean full m k × KeepsRows core_tables.tables full.trees db.trees
+-- ---- the rows, whatever the version is
+
+-- those of floors: none where there is no such table
+abbrev pub floors_in : Database → List Row
+floors_in db = if has_floors db.schema then db.trees floors_tree else []
+
+-- the version of these tables
+abbrev pub version_of : Schema → ℕ
+version_of schema = if has_floors schema then 2 else 1
+
+-- rows of meta of this version, as the second has them
+abbrev pub meta_as : ℕ → List Row → List Row
+meta_as version rows = if version == 1 then map raised rows else rows
+
+abbrev pub meta_in : Database → List Row
+meta_in db = meta_as (version_of db.schema) (db.trees meta_tree)
+
+-- the version in each row of meta
+abbrev pub versions : Database → List Value
+versions db = map (λ r. column r 5) (db.trees meta_tree)
+
+-- the one row of meta has the version of the tables
+abbrev pub HasVersion : Database → Type 0
+HasVersion db = versions db ≡ number (version_of db.schema) ∷ []
+
+-- The rows of the other, as the second version has them.
+pub record IsRaised (db after : Database) : Type 0 where
+  pub rows : KeepsRows alike_list db.trees after.trees
+  pub meta : after.trees meta_tree ≡ meta_in db
+  pub floors : after.trees floors_tree ≡ floors_in db
+
+-- Its rows, but those of `calls`, are those of a database that means this, which has `calls` and the indexes, or were in the version before.
+pub record RowsMean (db : Database) (m : Queue) (k : Ledger) : Type 0 where
+  pub version : HasVersion db
+  pub full : Database
+  pub means : TablesMean full m k
+  pub same : IsRaised db full
 
 -- no work is under way, and the tables mean this
-pub record IsAtRest (s : State) (m : Queue) (k : List Entry) : Type 0 where
+pub record IsAtRest (s : State) (m : Queue) (k : Ledger) : Type 0 where
   pub autocommit : s.in_transaction ≡ false
   pub settled : s.now ≡ s.committed
   pub means : TablesMean s.now m k
@@ -109,17 +152,22 @@ pub record HasEmptyTables (schema : Schema) (s : State) : Type 0 where
   pub schema_is : s.now.schema ≡ schema
   pub empty : AllByRecursion (λ t. s.now.trees t.tree ≡ []) schema.tables
 
+-- a transaction is under way over the tables of the first version without the indexes of jobs, whatever their rows are
+pub record HasFirstTables (s : State) : Type 0 where
+  pub inside : IsTrue s.in_transaction
+  pub schema_is : s.now.schema ≡ first_bare
+
 -- a transaction is under way over the tables without the indexes, whatever their rows are
 pub record HasTablesAlone (s : State) : Type 0 where
   pub inside : IsTrue s.in_transaction
   pub schema_is : s.now.schema ≡ bare_tables
 
--- a transaction is under way over the six tables and the indexes of jobs, whatever their rows are
+-- a transaction is under way over the seven tables and the indexes of jobs, whatever their rows are
 pub record HasCoreTables (s : State) : Type 0 where
   pub inside : IsTrue s.in_transaction
   pub schema_is : s.now.schema ≡ core_tables
 
--- a transaction is under way over the seven tables
+-- a transaction is under way over tables with `calls`, of either version
 pub record HasCallsBeside (s : State) : Type 0 where
   pub inside : IsTrue s.in_transaction
   pub schema_is : HaveCalls s.now.schema
@@ -129,28 +177,39 @@ pub record HasIndexesLast (s : State) : Type 0 where
   pub inside : IsTrue s.in_transaction
   pub schema_is : AreIndexedLast s.now.schema
 
--- it has the tables without the indexes of jobs, with `calls` where the other has it, and the rows of the other in the six
-pub record LosesIndexes (db after : Database) : Type 0 where
-  pub schema_is : (after.schema ≡ bare_with_calls) ⊎ (after.schema ≡ bare_tables)
-  pub alone : db.schema ≡ older_core_tables → after.schema ≡ bare_tables
-  pub sound : IsDatabase after
-  pub rows : KeepsRows core_tables.tables db.trees after.trees
+-- it has the rows of the other in all tables but `calls`: none in floors, where the other has no such table
+pub record Renews (db after : Database) : Type 0 where
+  pub rows : KeepsRows first_list db.trees after.trees
+  pub floors : floors_in after ≡ floors_in db
 
--- it has the indexes, and the rows of the other in each table
+-- it has the tables without the indexes of jobs, with `calls` where the other has it
+pub record LosesIndexes (db after : Database) : Type 0 where
+  pub schema_is : Has (bare_with_calls ∷ first_bare_calls ∷ first_bare ∷ []) after.schema
+  pub alone : Has first_indexed db.schema → after.schema ≡ first_bare
+  pub sound : IsDatabase after
+  pub renews : Renews db after
+
+-- it has floors too, with no rows
+pub record HasNewFloors (db after : Database) : Type 0 where
+  pub schema_is : after.schema ≡ bare_tables
+  pub sound : IsDatabase after
+  pub renews : Renews db after
+
+-- it has the indexes
 pub record IsIndexed (db after : Database) : Type 0 where
   pub schema_is : after.schema ≡ core_tables
   pub sound : IsDatabase after
-  pub rows : KeepsRows core_tables.tables db.trees after.trees
+  pub renews : Renews db after
 
--- it has `calls` too, with no rows, and the rows of the other in the six tables
+-- it has `calls` too, with no rows
 pub record HasNewCalls (db after : Database) : Type 0 where
   pub schema_is : after.schema ≡ our_tables
   pub sound : IsDatabase after
-  pub rows : KeepsRows core_tables.tables db.trees after.trees
+  pub renews : Renews db after
   pub none : after.trees calls_tree ≡ []
 
--- it has `calls` no more, and the rows of the other in the six tables
+-- it has `calls` no more
 pub record LacksCalls (db after : Database) : Type 0 where
-  pub schema_is : (after.schema ≡ core_tables) ⊎ ((after.schema ≡ bare_tables) ⊎ (after.schema ≡ older_core_tables))
+  pub schema_is : Has (core_tables ∷ bare_tables ∷ first_core ∷ first_bare ∷ first_older_core ∷ []) after.schema
   pub sound : IsDatabase after
-  pub rows : KeepsRows core_tables.tables db.trees after.trees
+  pub renews : Renews db after

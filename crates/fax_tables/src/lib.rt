@@ -1,9 +1,10 @@
-//! What the seven tables of the fax queue mean: how they are made, and how each record stands in its row.
+//! What the eight tables of the fax queue mean: how they are made, and how each record stands in its row.
 //!
 //! What reads and writes the rows is above, in `fax_store`.
 #![tactic(auto)]
 
 mod fault;
+mod floors;
 mod grants;
 mod jobs;
 mod meta;
@@ -13,6 +14,7 @@ mod row;
 mod schema;
 
 pub use fault::{StoreFault, insert_fault};
+pub use floors::{floor_in, floor_value};
 pub use grants::{Hold, call_number, calls_in, grant_in, held_job_in, is_open_grant};
 pub use jobs::{
     brief_in, briefs_in, dial_in, job_in, jobs_in, killtime_number, phase_number, spelling,
@@ -21,4 +23,6 @@ pub use jobs::{
 pub use meta::{Meta, PAST_GRANTS, PAST_JOBS, is_version};
 pub use prospect::{Prospect, prospect_in};
 pub use replies::{Kept, is_kept_status, number_value};
-pub use schema::{create_calls, create_indexes, create_tables, drop_calls, drop_indexes};
+pub use schema::{
+    create_calls, create_floors, create_indexes, create_tables, drop_calls, drop_indexes,
+};

@@ -54,12 +54,15 @@ impl Meta {
     }
 }
 
-/// Whether a query for the version showed one row, of version 1.
-pub fn is_version(rows: &[Row]) -> bool
-    ensures { IsTrue result ↔ (rows.now ≡ (number 1 ∷ []) ∷ []) }
+/// Whether a query for the version showed one row, of this version.
+pub fn is_version(rows: &[Row], version: u32) -> bool
+    ensures { IsTrue result ↔ (rows.now ≡ (number version ∷ []) ∷ []) }
 {
     let [row] = rows else {
         return false;
     };
-    row.column_count() == 1 && matches!(row.get_ref(0), Ok(ValueRef::Int(1)))
+    match row.get_ref(0) {
+        Ok(ValueRef::Int(found)) => row.column_count() == 1 && found == i64::from(version),
+        _ => false,
+    }
 }

@@ -1,38 +1,48 @@
-//! The seven tables and their indexes.
+//! The eight tables and their indexes.
 
 ghost use Rattle.std.specs.Prelude.{[], ◌≤◌, OnErr, OnOk};
 ghost use Rattle.sqlite.specs.Held.{state};
 ghost use Rattle.sqlite.specs.View.{doubt};
 ghost use Rattle.sqlite.specs.State.{HasCleanDisk, KeepsCommit};
+ghost use Rattle.fax_core.specs.Ledger.{empty_ledger};
 ghost use Rattle.fax_core.specs.Queue.{empty_queue};
-ghost use Rattle.fax_schema.specs.Schema.{no_tables, with_down, bare_tables, our_tables};
+ghost use Rattle.fax_schema.specs.Schema.{no_tables, with_down, first_bare, our_tables};
 ghost use Rattle.fax_tables.specs.Making.{Alters, Always};
 ghost use Rattle.fax_tables.specs.Stop.{HoldsBack};
-ghost use Rattle.fax_tables.specs.Tables.{GoesOn, HasCallsBeside, HasEmptyTables, HasIndexesLast, HasNewCalls, HasCoreTables, HasTablesAlone, IsIndexed, LacksCalls, LosesIndexes, TablesMean};
+ghost use Rattle.fax_tables.specs.Tables.{GoesOn, HasCallsBeside, HasEmptyTables, HasFirstTables, HasIndexesLast, HasNewCalls, HasNewFloors, HasCoreTables, HasTablesAlone, IsIndexed, LacksCalls, LosesIndexes, TablesMean};
 
 use fax_schema::statements::{
-    CREATE_CALLS, CREATE_CHOICE_INDEX, CREATE_DOWN, CREATE_GRANTS, CREATE_HOLDS, CREATE_JOBS,
-    CREATE_KILLTIME_INDEX, CREATE_META, CREATE_REPLIES, DROP_CALLS, DROP_CHOICE_INDEX,
+    CREATE_CALLS, CREATE_CHOICE_INDEX, CREATE_DOWN, CREATE_FLOORS, CREATE_GRANTS, CREATE_HOLDS,
+    CREATE_JOBS, CREATE_KILLTIME_INDEX, CREATE_META, CREATE_REPLIES, DROP_CALLS, DROP_CHOICE_INDEX,
     DROP_KILLTIME_INDEX, INSERT_META,
 };
 use sqlite::{Alter, Connection, Error};
 
-/// Makes the seven tables and their indexes in a database without any, with no rows but the one of meta. Inside a
+/// Makes the eight tables and their indexes in a database without any, with no rows but the one of meta. Inside a
 /// transaction nothing is committed.
 pub fn create_tables<S: Alter>(conn: &mut Connection<S>) -> Result<(), Error>
     ensures made { HasCleanDisk (state S.Store conn.new) → OnOk result
         (HasEmptyTables no_tables (state S.Store conn.old) → GoesOn (state S.Store conn.old) (state S.Store conn.new)
-        × TablesMean (state S.Store conn.new).now empty_queue []) }
+        × TablesMean (state S.Store conn.new).now empty_queue empty_ledger) }
     ensures kept { HasCleanDisk (state S.Store conn.new) → OnErr result
         (HasEmptyTables no_tables (state S.Store conn.old) → KeepsCommit (state S.Store conn.old) (state S.Store conn.new)) }
     ensures crash { HoldsBack (HasEmptyTables no_tables) (state S.Store conn.old) (state S.Store conn.new) }
     ensures doubt { doubt (state S.Store conn.old).is_clean ≤ doubt (state S.Store conn.new).is_clean }
 {
-    create_work_tables(conn)?;
-    create_kept_tables(conn)?;
+    create_first_tables(conn)?;
+    create_floors(conn)?;
     create_indexes(conn)?;
     create_calls(conn)?;
     fill_meta(conn)
+}
+
+/// Makes the tables that the first version has.
+fn create_first_tables<S: Alter>(conn: &mut Connection<S>) -> Result<(), Error>
+    ensures { Alters S.Store (HasEmptyTables no_tables) (HasEmptyTables no_tables)
+        (λ old new. HasEmptyTables first_bare new) conn.old conn.new result }
+{
+    create_work_tables(conn)?;
+    create_kept_tables(conn)
 }
 
 /// Makes the tables of jobs, grants, holds and modems down.
@@ -50,10 +60,20 @@ fn create_work_tables<S: Alter>(conn: &mut Connection<S>) -> Result<(), Error>
 /// Makes the tables of replies and of the clock and next numbers.
 fn create_kept_tables<S: Alter>(conn: &mut Connection<S>) -> Result<(), Error>
     ensures { Alters S.Store (HasEmptyTables with_down) (HasEmptyTables with_down)
-        (λ old new. HasEmptyTables bare_tables new) conn.old conn.new result }
+        (λ old new. HasEmptyTables first_bare new) conn.old conn.new result }
 {
     conn.execute(CREATE_REPLIES, &[])?;
     conn.execute(CREATE_META, &[])?;
+    Ok(())
+}
+
+/// Makes the table of floors, with no rows, where the first version had none. The rows of the others stay as they are,
+/// and inside a transaction nothing is committed.
+pub fn create_floors<S: Alter>(conn: &mut Connection<S>) -> Result<(), Error>
+    ensures { Alters S.Store HasFirstTables HasFirstTables
+        (λ old new. HasNewFloors old.now new.now) conn.old conn.new result }
+{
+    conn.execute(CREATE_FLOORS, &[])?;
     Ok(())
 }
 
@@ -67,7 +87,7 @@ pub fn create_indexes<S: Alter>(conn: &mut Connection<S>) -> Result<(), Error>
     Ok(())
 }
 
-/// Makes the table of calls, with no rows. Those of the six tables stay as they are, and inside a transaction nothing is
+/// Makes the table of calls, with no rows. Those of the others stay as they are, and inside a transaction nothing is
 /// committed.
 pub fn create_calls<S: Alter>(conn: &mut Connection<S>) -> Result<(), Error>
     ensures { Alters S.Store HasCoreTables Always
@@ -77,7 +97,7 @@ pub fn create_calls<S: Alter>(conn: &mut Connection<S>) -> Result<(), Error>
     Ok(())
 }
 
-/// Takes the table of calls away, whatever its rows are. Those of the six tables stay as they are, and inside a
+/// Takes the table of calls away, whatever its rows are. Those of the others stay as they are, and inside a
 /// transaction nothing is committed.
 pub fn drop_calls<S: Alter>(conn: &mut Connection<S>) -> Result<(), Error>
     ensures { Alters S.Store HasCallsBeside Always
@@ -101,7 +121,7 @@ pub fn drop_indexes<S: Alter>(conn: &mut Connection<S>) -> Result<(), Error>
 /// Puts in the row of the clock and next numbers, as an empty store has it.
 fn fill_meta<S: Alter>(conn: &mut Connection<S>) -> Result<(), Error>
     ensures { Alters S.Store (HasEmptyTables our_tables) Always
-        (λ old new. TablesMean new.now empty_queue []) conn.old conn.new result }
+        (λ old new. TablesMean new.now empty_queue empty_ledger) conn.old conn.new result }
 {
     conn.execute(INSERT_META, &[])?;
     Ok(())

@@ -5,7 +5,7 @@ use Rattle.fax_schema.specs.declared.statements.TheConstants.{CREATE_CALLS}
 use Rattle.fax_schema.specs.Schema as schema
 use Rattle.fax_schema.specs.Schema.{our_tables, core_tables}
 use Rattle.fax_tables.specs.Tables.{HasCoreTables}
-use Rattle.fax_tables.proofs.CreateLemmas.{added, refused_keeps}
+use Rattle.fax_tables.proofs.CreateLemmas.{added, refused_keeps, renews_core}
 use Rattle.fax_schema.proofs.CreateTexts.{created_calls, makes_calls}
 use Rattle.fax_tables.proofs.ResultLemmas.{on_err}
 use Rattle.fax_tables.proofs.StopLemmas.{step_holds_back}
@@ -22,7 +22,7 @@ returns-in_err-execute g c = record {
 pub returns : goal.returns
 returns g c = record {
   made = λ clean was. let it = added (state g.S.Store c.args.conn.now) (state g.S.Store c.execute.new.self) core_tables our_tables CREATE_CALLS.now schema.calls c.in_ok-execute.field-0 makes_calls created_calls refl (c.in_ok-execute.ensures.runs clean) was.inside was.schema_is in
-      (it.0, record { schema_is = it.1; sound = it.2; rows = it.3; none = it.4 });
+      (it.0, record { schema_is = it.1; sound = it.2; renews = renews_core (state g.S.Store c.args.conn.now).now (state g.S.Store c.execute.new.self).now core_tables our_tables refl refl was.schema_is it.1 it.3; none = it.4 });
   kept = search rules;
   crash = step_holds_back (state g.S.Store c.args.conn.now) (state g.S.Store c.execute.new.self) HasCoreTables core_tables CREATE_CALLS.now CreateTable makes_calls.command (λ e. e) (λ was. (was.inside, was.schema_is)) c.execute.ensures.survives;
   doubt = search rules;

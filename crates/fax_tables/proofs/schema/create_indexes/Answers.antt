@@ -1,8 +1,8 @@
 use Rattle.std.proofs.Common.{rules, ◌≡◌, ℕ, [], Ok, IsTrue, refl}
 use Rattle.sqlite.specs.Held.{state}
 use Rattle.fax_schema.specs.declared.statements.TheConstants.{CREATE_KILLTIME_INDEX, CREATE_CHOICE_INDEX}
-use Rattle.fax_schema.specs.Schema.{bare_tables, choice_index, killtime_index, core_tables, with_killtime_index}
-use Rattle.fax_tables.proofs.CreateLemmas.{clean_before, commit_kept, goes_on, kept_rows, made_index, refused_keeps}
+use Rattle.fax_schema.specs.Schema.{bare_tables, choice_index_at, killtime_index_at, core_list, core_tables, with_killtime_index}
+use Rattle.fax_tables.proofs.CreateLemmas.{clean_before, commit_kept, goes_on, kept_rows, made_index, refused_keeps, renews_core}
 use Rattle.fax_schema.proofs.CreateTexts.{indexed_choice, indexed_killtime, makes_choice_index, makes_killtime_index}
 use Rattle.fax_tables.proofs.ResultLemmas.{on_err}
 use Rattle.sqlite.specs.Command.TheVariants.{CreateIndex}
@@ -35,7 +35,7 @@ both s0 s1 s2 n first next ran =
     let h2 = step_holds_back s1 s2 HasFirstIndex with_killtime_index CREATE_CHOICE_INDEX.now (CreateIndex 0) makes_choice_index.command (λ e. e) (λ was. was) next in
     holds_back_then s0 s1 s2 HasTablesAlone HasFirstIndex (clean_before s0 s1 first.clean) h1
     (λ clean was.
-    let m1 = made_index s0 s1 bare_tables with_killtime_index CREATE_KILLTIME_INDEX.now killtime_index n makes_killtime_index refl indexed_killtime (ran clean) was.inside was.schema_is in
+    let m1 = made_index s0 s1 bare_tables with_killtime_index CREATE_KILLTIME_INDEX.now (killtime_index_at 13) n makes_killtime_index refl indexed_killtime (ran clean) was.inside was.schema_is in
     (m1.0.mode, m1.1))
     h2
 
@@ -48,7 +48,7 @@ returns-in_err-execute-2 g c = record {
       let clean1 = clean_before s1 s2 c.execute-2.ensures.survives.clean clean in
       on_err c.from_residual-in_err-execute-2.result
       (λ was.
-      let m1 = made_index s0 s1 bare_tables with_killtime_index CREATE_KILLTIME_INDEX.now killtime_index c.in_ok-execute.field-0 makes_killtime_index refl indexed_killtime (c.in_ok-execute.ensures.runs clean1) was.inside was.schema_is in
+      let m1 = made_index s0 s1 bare_tables with_killtime_index CREATE_KILLTIME_INDEX.now (killtime_index_at 13) c.in_ok-execute.field-0 makes_killtime_index refl indexed_killtime (c.in_ok-execute.ensures.runs clean1) was.inside was.schema_is in
       commit_kept s0 s1 s2 m1.0 (refused_keeps s1 s2 CREATE_CHOICE_INDEX.now c.in_err-execute-2.field-0.0 (c.in_err-execute-2.ensures.runs clean)));
   crash = both (state g.S.Store c.args.conn.now) (state g.S.Store c.execute.new.self) (state g.S.Store c.execute-2.new.self) c.in_ok-execute.field-0 c.execute.ensures.survives c.execute-2.ensures.survives c.in_ok-execute.ensures.runs;
   doubt = search rules;
@@ -60,9 +60,15 @@ returns g c = record {
       let s1 = state g.S.Store c.execute.new.self in
       let s2 = state g.S.Store c.execute-2.new.self in
       let clean1 = clean_before s1 s2 c.execute-2.ensures.survives.clean clean in
-      let m1 = made_index s0 s1 bare_tables with_killtime_index CREATE_KILLTIME_INDEX.now killtime_index c.in_ok-execute.field-0 makes_killtime_index refl indexed_killtime (c.in_ok-execute.ensures.runs clean1) was.inside was.schema_is in
-      let m2 = made_index s1 s2 with_killtime_index core_tables CREATE_CHOICE_INDEX.now choice_index c.in_ok-execute-2.field-0 makes_choice_index refl indexed_choice (c.in_ok-execute-2.ensures.runs clean) m1.0.mode m1.1 in
-      (goes_on s0 s1 s2 m1.0 m2.0, record { schema_is = m2.1; sound = m2.2; rows = kept_rows core_tables.tables s0.now.trees s1.now.trees s2.now.trees m1.3 m2.3 });
+      let m1 = made_index s0 s1 bare_tables with_killtime_index CREATE_KILLTIME_INDEX.now (killtime_index_at 13) c.in_ok-execute.field-0 makes_killtime_index refl indexed_killtime (c.in_ok-execute.ensures.runs clean1) was.inside was.schema_is in
+      let m2 = made_index s1 s2 with_killtime_index core_tables CREATE_CHOICE_INDEX.now (choice_index_at 14) c.in_ok-execute-2.field-0 makes_choice_index refl indexed_choice (c.in_ok-execute-2.ensures.runs clean) m1.0.mode m1.1 in (
+        goes_on s0 s1 s2 m1.0 m2.0,
+        record {
+          schema_is = m2.1;
+          sound = m2.2;
+          renews = renews_core s0.now s2.now bare_tables core_tables refl refl was.schema_is m2.1 (kept_rows core_list s0.now.trees s1.now.trees s2.now.trees m1.3 m2.3);
+        },
+      );
   kept = search rules;
   crash = both (state g.S.Store c.args.conn.now) (state g.S.Store c.execute.new.self) (state g.S.Store c.execute-2.new.self) c.in_ok-execute.field-0 c.execute.ensures.survives c.execute-2.ensures.survives c.in_ok-execute.ensures.runs;
   doubt = search rules;

@@ -2,7 +2,7 @@ use Rattle.std.proofs.Common.{rules, refl}
 use Rattle.sqlite.specs.Held.{state}
 use Rattle.fax_schema.specs.declared.statements.TheConstants.{CREATE_REPLIES, CREATE_META}
 use Rattle.fax_schema.specs.Schema as schema
-use Rattle.fax_schema.specs.Schema.{bare_tables, with_down, with_replies}
+use Rattle.fax_schema.specs.Schema.{first_bare, with_down, with_replies}
 use Rattle.fax_tables.proofs.CreateLemmas.{clean_before, commit_kept, goes_on, made, refused_keeps}
 use Rattle.fax_schema.proofs.CreateTexts.{makes_replies, created_replies, makes_meta, created_meta}
 use Rattle.fax_tables.proofs.ResultLemmas.{on_err}
@@ -53,7 +53,7 @@ returns g c = record {
       let s2 = state g.S.Store c.execute-2.new.self in
       let clean1 = clean_before s1 s2 c.execute-2.ensures.survives.clean clean in
       let m1 = made s0 s1 with_down with_replies CREATE_REPLIES.now schema.replies c.in_ok-execute.field-0 makes_replies created_replies refl (c.in_ok-execute.ensures.runs clean1) was in
-      let m2 = made s1 s2 with_replies bare_tables CREATE_META.now schema.meta c.in_ok-execute-2.field-0 makes_meta created_meta refl (c.in_ok-execute-2.ensures.runs clean) m1.1 in
+      let m2 = made s1 s2 with_replies first_bare CREATE_META.now schema.meta c.in_ok-execute-2.field-0 makes_meta created_meta refl (c.in_ok-execute-2.ensures.runs clean) m1.1 in
       (goes_on s0 s1 s2 m1.0 m2.0, m2.1);
   kept = search rules;
   crash = let s0 = state g.S.Store c.args.conn.now in

@@ -2,7 +2,8 @@ use Rattle.std.proofs.Common.{◌≡◌, List}
 use Rattle.std.specs.Vec.Iter.{into_iter_items}
 use Rattle.sqlite.specs.Held.{state}
 use Rattle.fax_core.specs.Job.{Job as OneJob}
-use Rattle.fax_core.specs.Queue.{Queue, Entry}
+use Rattle.fax_core.specs.Ledger.{Ledger}
+use Rattle.fax_core.specs.Queue.{Queue}
 use Rattle.fax_store.specs.Candidates.{StandsAt}
 use Rattle.fax_store.specs.Calls.{Looks}
 use Rattle.fax_store.specs.Store.{Serves, Means, StaysOpen}
@@ -15,7 +16,7 @@ invariant-loop-self g l = record {
   asked : l.self.asked ≡ l.initial.self.asked;
   leaves : Looks g.S.Store l.initial.self.store.now l.self.store.now;
   opens : StaysOpen (state g.S.Store l.initial.self.store.now.conn) (state g.S.Store l.self.store.now.conn);
-  found : (m : Queue) (k : List Entry) (given : List OneJob) → Means (state g.S.Store l.initial.self.store.now.conn) m k → Serves (state g.S.Store l.self.store.now.conn)
+  found : (m : Queue) (k : Ledger) (given : List OneJob) → Means (state g.S.Store l.initial.self.store.now.conn) m k → Serves (state g.S.Store l.self.store.now.conn)
       → StandsAt l.initial.self.asked m given (into_iter_items l.initial.self.page) l.initial.self.front l.initial.self.most
       → StandsAt l.initial.self.asked m given (into_iter_items l.self.page) l.self.front l.self.most;
 }

@@ -3,7 +3,7 @@ use Rattle.sqlite.specs.Held.{state}
 use Rattle.fax_schema.specs.declared.statements.TheConstants.{SHUT_GRANT, DELETE_HOLD}
 use Rattle.fax_store.specs.Grant.{SetsCalls, with_closed, with_count}
 use Rattle.fax_store.specs.Store.{HasRun}
-use Rattle.fax_tables.proofs.TablesLemmas.{calls_of}
+use Rattle.fax_tables.proofs.TablesLemmas.{calls, calls_of}
 use Rattle.fax_store.proofs.GrantWriteLemmas.{close_counted, close_params, grant_closed}
 use Rattle.fax_store.proofs.WorkLemmas.{holds_err, holds_then, inside_by, moves_by, ok_as, refused_as, refused_by, refused_move}
 use Rattle.std.specs.Prelude.{is_err, false, true}
@@ -83,4 +83,4 @@ returns-clause-written g c m₀ m k₀ k works s held counted =
     (λ set.
     let by_count = subst (λ x. SetsCalls shut new (with_count c.args.dial.now x (calls_of m))) counted set in
     close_counted n old mid shut m k means held.0 called.0 held.1 held.2 called.1 parts new (subst (λ d. SetsCalls shut new (with_count d (calls_of m d - 1) (calls_of m))) (sym called.2) by_count))
-    (c.set_calls.ensures.set (calls_of m) (record { is_open = at_shut.is_open; inside = on.0; tables = on.1; sound = parts.sound; calls = parts.calls }) s.clean))
+    (c.set_calls.ensures.set (calls_of m) (record { is_open = at_shut.is_open; inside = on.0; tables = on.1; sound = parts.sound; calls = parts.says calls }) s.clean))

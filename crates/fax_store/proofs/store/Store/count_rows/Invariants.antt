@@ -1,11 +1,11 @@
 use Rattle.std.proofs.Common.{ℕ, List, length, take, false, ◌<◌, ◌^◌}
 use Rattle.sqlite.specs.Held.{state}
 use Rattle.sqlite.specs.State.{HasCleanDisk}
-use Rattle.fax_core.specs.Queue.{Queue, Entry}
-use Rattle.fax_store.specs.Adopt.{AreOfJobs, AreSmall, HasSet, held_to}
+use Rattle.fax_core.specs.Ledger.{Ledger}
+use Rattle.fax_core.specs.Queue.{Queue}
+use Rattle.fax_store.specs.Adopt.{AreOfJobs, AreSmall, CoreMeans, HasSet, held_to}
 use Rattle.fax_store.specs.Grant.{HasCalls, SetsCalls}
 use Rattle.fax_store.specs.Work.{Withholds}
-use Rattle.fax_tables.specs.Tables.{RowsMean}
 use Rattle.fax_store.proofs.store.Store.count_rows.Given as goal
 
 -- the calls of the rows so far are counted
@@ -14,6 +14,6 @@ invariant-loop-row g l = record {
   clean : HasCleanDisk (state g.S.Store l.self.conn) → HasCleanDisk (state g.S.Store l.initial.self.conn);
   crash : Withholds (state g.S.Store l.initial.self.conn) false (state g.S.Store l.self.conn) false;
   set : (count : List ℕ → ℕ) → HasCalls (state g.S.Store l.initial.self.conn) count → AreSmall count → HasCleanDisk (state g.S.Store l.self.conn) → HasSet (state g.S.Store l.initial.self.conn) (state g.S.Store l.self.conn);
-  counted : (m : Queue) (k : List Entry) → RowsMean (state g.S.Store l.initial.self.conn).now m k → AreOfJobs m l.rows → length l.rows < 2 ^ 32 → HasCalls (state g.S.Store l.initial.self.conn) (λ _. 0) → HasCleanDisk (state g.S.Store l.self.conn)
+  counted : (m : Queue) (k : Ledger) → CoreMeans (state g.S.Store l.initial.self.conn).now m k → AreOfJobs m l.rows → length l.rows < 2 ^ 32 → HasCalls (state g.S.Store l.initial.self.conn) (λ _. 0) → HasCleanDisk (state g.S.Store l.self.conn)
       → SetsCalls (state g.S.Store l.initial.self.conn) (state g.S.Store l.self.conn) (held_to m (take l.row-index l.rows));
 }

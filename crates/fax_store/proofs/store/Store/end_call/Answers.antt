@@ -1,4 +1,4 @@
-use Rattle.std.proofs.Common.{rules, ◌≡◌, ◌-◌, Ok, Some, None, Option, refl, sym, ap, ◌∙◌}
+use Rattle.std.proofs.Common.{rules, ◌≡◌, ◌-◌, Ok, Err, Some, None, Option, refl, sym, ap, ◌∙◌}
 use Rattle.std.specs.Option.{option_map}
 use Rattle.sqlite.specs.Held.{state}
 use Rattle.fax_core.specs.Job.{fields_of}
@@ -7,7 +7,7 @@ use Rattle.fax_core.specs.State.{calls_to}
 use Rattle.fax_job.specs.declared.job.JobFields.{JobFields}
 use Rattle.fax_store.specs.Grant.{IsCalled, with_closed}
 use Rattle.fax_store.proofs.CountLemmas.{held_job}
-use Rattle.fax_store.proofs.WorkLemmas.{goes_on, holds_by, holds_then, step_of, there_as}
+use Rattle.fax_store.proofs.WorkLemmas.{goes_on, holds_by, holds_then, refused_steps, step_of, there_as}
 use Rattle.std.specs.Prelude.{is_err, false}
 use Rattle.fax_store.proofs.store.Store.end_call.Goals as goal
 
@@ -50,3 +50,13 @@ returns-clause-written g c m₀ m k₀ k works s held =
     step_of new c.close_open.result m₀ (with_closed c.args.number m) k₀ k c.close_open.ensures.cause
     (c.close_open.ensures.written m₀ m k₀ k (λ _. second.1) s (held.0, held.1, held.2, called)
     (c.saturating_sub.ensures ∙ ap (λ n. n - 1) second.0 ∙ ap (λ d. calls_to d m - 1) (of_first ∙ sym of_second)))
+
+pub returns-in_err-calls-clause-written : goal.returns-in_err-calls-clause-written
+returns-in_err-calls-clause-written g c m₀ m k₀ k works s held =
+    let old = state g.S.Store c.args.self.now.conn in
+    let read = state g.S.Store c.job.new.self.conn in
+    let then = state g.S.Store c.read_calls.new.self.conn in
+    let at_read = c.read_calls.ensures.leaves.served s in
+    let first = goes_on old read c.job.ensures.leaves.served (Ok c.in_ok-job.field-0) c.in_ok-job.ensures.leaves.reads (λ m k found. found ≡ option_map fields_of (job_numbered c.args.job m)) c.in_ok-job.ensures.answers m₀ m k₀ k works at_read in
+    let second = goes_on read then c.read_calls.ensures.leaves.served (Err c.in_err-calls.field-0.0) c.in_err-calls.ensures.leaves.reads (λ m k calls. calls ≡ calls_to c.fields.result.now.dial m) c.in_err-calls.ensures.answers m₀ m k₀ k (λ _. first.1) s in
+    refused_steps then c.from_residual-in_err-calls.result c.in_err-calls.field-0.0 m₀ (with_closed c.args.number m) k₀ k c.from_residual-in_err-calls.ensures.1 second

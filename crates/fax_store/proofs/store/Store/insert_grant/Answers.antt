@@ -6,7 +6,7 @@ use Rattle.fax_core.specs.Queue.{job_numbered}
 use Rattle.fax_core.specs.State.{calls_to}
 use Rattle.fax_job.specs.declared.job.JobFields.{JobFields}
 use Rattle.fax_store.proofs.CountLemmas.{calls_few}
-use Rattle.fax_store.proofs.WorkLemmas.{goes_on, holds_by, holds_then, there_as}
+use Rattle.fax_store.proofs.WorkLemmas.{goes_on, holds_by, holds_then, refused_as, there_as}
 use Rattle.std.specs.Prelude.{is_err, false}
 use Rattle.fax_store.proofs.store.Store.insert_grant.Goals as goal
 
@@ -56,3 +56,22 @@ returns-clause-written g c m₀ m k₀ k works s fit =
     let more : c.in-Some-checked_add.more ≡ c.in_ok-calls.calls + 1 = search rules in
     c.place_grant.ensures.written m₀ m k₀ k (λ _. second.1) s fit (it.0, it.1, sym dial ∙ sym of_second)
     (more ∙ ap (λ n. n + 1) second.0 ∙ ap (λ d. calls_to d m + 1) (of_first ∙ sym of_second))
+
+pub returns-in_err-calls-clause-cause : goal.returns-in_err-calls-clause-cause
+returns-in_err-calls-clause-cause g c m₀ m k₀ k works s fit =
+    let old = state g.S.Store c.args.self.now.conn in
+    let read = state g.S.Store c.job.new.self.conn in
+    let at_read = c.read_calls.ensures.leaves.served s in
+    let first = goes_on old read c.job.ensures.leaves.served (Ok c.in_ok-job.field-0) c.in_ok-job.ensures.leaves.reads (λ m k found. found ≡ option_map fields_of (job_numbered c.args.grant.now.job m)) c.in_ok-job.ensures.answers m₀ m k₀ k works at_read in
+    refused_as c.from_residual-in_err-calls.result c.in_err-calls.field-0.0 c.from_residual-in_err-calls.ensures.1 (c.in_err-calls.ensures.answers m k (λ _. (first.1.goes_on refl).means) s)
+
+pub returns-clause-cause : goal.returns-clause-cause
+returns-clause-cause g c m₀ m k₀ k works s fit =
+    let old = state g.S.Store c.args.self.now.conn in
+    let read = state g.S.Store c.job.new.self.conn in
+    let then = state g.S.Store c.read_calls.new.self.conn in
+    let at_then = c.place_grant.ensures.leaves.served s in
+    let at_read = c.read_calls.ensures.leaves.served at_then in
+    let first = goes_on old read c.job.ensures.leaves.served (Ok c.in_ok-job.field-0) c.in_ok-job.ensures.leaves.reads (λ m k found. found ≡ option_map fields_of (job_numbered c.args.grant.now.job m)) c.in_ok-job.ensures.answers m₀ m k₀ k works at_read in
+    let second = goes_on read then c.read_calls.ensures.leaves.served (Ok c.in_ok-calls.calls) c.in_ok-calls.ensures.leaves.reads (λ m k calls. calls ≡ calls_to c.fields.result.now.dial m) c.in_ok-calls.ensures.answers m₀ m k₀ k (λ _. first.1) at_then in
+    c.place_grant.ensures.cause m₀ m k₀ k (λ _. second.1) s (fit.0, fit.1)

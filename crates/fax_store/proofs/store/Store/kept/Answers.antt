@@ -18,9 +18,9 @@ returns-in_err-in_row-in-Some-clause-answers g c m k means s =
     let means_now = means (c.in_ok-row.ensures.leaves.served s) in
     let found : FindsRow SELECT_REPLY.now (params c.args.client.now c.args.number) old new c.in_ok-row.field-0 = subst (λ p. FindsRow SELECT_REPLY.now p old new c.in_ok-row.field-0) (search rules) (c.in_ok-row.ensures.found s.clean) in
     let it = rw c.in-Some.is at (reply_found c.args.client.now c.args.number old new m k means_now c.in_ok-row.field-0 found) in
-    let why_err = c.in_err-in_row-in-Some.ensures.found it.0 it.3 (lawful_of k it.0 means_now.lawful.replies it.1) in
+    let why_err = c.in_err-in_row-in-Some.ensures.found it.0 it.3 (lawful_of k.replies it.0 means_now.lawful.replies it.1) in
     let fault : c.in_err-in_row-in-Some.field-0.0 ≡ Unavailable = why_err in
-    passes_on c.from_residual-in_err-in_row-in-Some.result c.in_err-in_row-in-Some.field-0.0 (IsKeptFor k c.args.client.now c.args.number) c.from_residual-in_err-in_row-in-Some.ensures.1 fault
+    passes_on c.from_residual-in_err-in_row-in-Some.result c.in_err-in_row-in-Some.field-0.0 (IsKeptFor k.replies c.args.client.now c.args.number) c.from_residual-in_err-in_row-in-Some.ensures.1 fault
 
 pub returns-in_ok-in_row-in-Some-clause-answers : goal.returns-in_ok-in_row-in-Some-clause-answers
 returns-in_ok-in_row-in-Some-clause-answers g c m k means s =
@@ -29,8 +29,8 @@ returns-in_ok-in_row-in-Some-clause-answers g c m k means s =
     let means_now = means (c.in_ok-row.ensures.leaves.served s) in
     let found : FindsRow SELECT_REPLY.now (params c.args.client.now c.args.number) old new c.in_ok-row.field-0 = subst (λ p. FindsRow SELECT_REPLY.now p old new c.in_ok-row.field-0) (search rules) (c.in_ok-row.ensures.found s.clean) in
     let it = rw c.in-Some.is at (reply_found c.args.client.now c.args.number old new m k means_now c.in_ok-row.field-0 found) in
-    let tells = c.in_ok-in_row-in-Some.ensures.found it.0 it.3 (lawful_of k it.0 means_now.lawful.replies it.1) in
-    (it.0, one_kept c.args.client.now c.args.number k it.0 (tables_keep_once old.now m k means_now) it.1 it.2, tells)
+    let tells = c.in_ok-in_row-in-Some.ensures.found it.0 it.3 (lawful_of k.replies it.0 means_now.lawful.replies it.1) in
+    (it.0, one_kept c.args.client.now c.args.number k.replies it.0 (tables_keep_once old.now m k means_now) it.1 it.2, tells)
 
 pub returns-in-None-clause-answers : goal.returns-in-None-clause-answers
 returns-in-None-clause-answers g c m k means s =
@@ -38,7 +38,7 @@ returns-in-None-clause-answers g c m k means s =
     let new = state g.S.Store c.find.new.self.conn in
     let means_now = means (c.in_ok-row.ensures.leaves.served s) in
     let found : FindsRow SELECT_REPLY.now (params c.args.client.now c.args.number) old new c.in_ok-row.field-0 = subst (λ p. FindsRow SELECT_REPLY.now p old new c.in_ok-row.field-0) (search rules) (c.in_ok-row.ensures.found s.clean) in
-    none_kept c.args.client.now c.args.number k (rw c.in-None.is at (reply_found c.args.client.now c.args.number old new m k means_now c.in_ok-row.field-0 found))
+    none_kept c.args.client.now c.args.number k.replies (rw c.in-None.is at (reply_found c.args.client.now c.args.number old new m k means_now c.in_ok-row.field-0 found))
 
 pub returns-in_err-in_row-in-Some-clause-leaves : goal.returns-in_err-in_row-in-Some-clause-leaves
 returns-in_err-in_row-in-Some-clause-leaves g c = finds_as g.S.Store _ _ _ _ c.in_ok-row.ensures.leaves

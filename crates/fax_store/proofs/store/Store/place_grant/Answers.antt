@@ -4,7 +4,7 @@ use Rattle.fax_schema.specs.declared.statements.TheConstants.{INSERT_GRANT, INSE
 use Rattle.fax_store.specs.Grant.{SetsCalls, with_count, with_placed}
 use Rattle.fax_store.specs.Store.{HasRun, IsRefusedFor}
 use Rattle.fax_tables.specs.Tables.{IsLawfulGrant}
-use Rattle.fax_tables.proofs.TablesLemmas.{calls_of}
+use Rattle.fax_tables.proofs.TablesLemmas.{calls, calls_of}
 use Rattle.fax_store.proofs.GrantWriteLemmas.{hold_params, grant_params, hold_goes, grant_counted, grant_put, grant_goes}
 use Rattle.fax_store.proofs.WorkLemmas.{holds_err, holds_then, inside_by, moves_by, ok_as, refused_as, refused_by, refused_move}
 use Rattle.std.specs.Prelude.{is_err, false, true}
@@ -104,4 +104,4 @@ returns-clause-written g c m₀ m k₀ k works s fit called counted =
     (λ set.
     let by_count = subst (λ n. SetsCalls put new (with_count c.args.dial.now n (calls_of m))) counted set in
     grant_counted grant old mid put m k means called.0 called.1 fit.is_open parts new (subst (λ d. SetsCalls put new (with_count d (calls_of m d + 1) (calls_of m))) (sym called.2) by_count))
-    (c.set_calls.ensures.set (calls_of m) (record { is_open = at_put.is_open; inside = on.0; tables = on.1; sound = parts.sound; calls = parts.calls }) s.clean))
+    (c.set_calls.ensures.set (calls_of m) (record { is_open = at_put.is_open; inside = on.0; tables = on.1; sound = parts.sound; calls = parts.says calls }) s.clean))

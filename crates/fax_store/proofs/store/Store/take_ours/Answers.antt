@@ -1,8 +1,12 @@
+use Rattle.std.proofs.Common.{◌≡◌, [], ◌∷◌, rules, subst, sym}
 use Rattle.sqlite.specs.Held.{state}
 use Rattle.fax_tables.proofs.CreateLemmas.{refused_keeps}
 use Rattle.fax_tables.proofs.ResultLemmas.{on_err}
+use Rattle.fax_tables.specs.Row.{number}
+use Rattle.fax_tables.specs.Tables.{GoesOn, version_of, versions}
+use Rattle.fax_store.specs.Adopt.{IsFilled, MeansAs}
 use Rattle.fax_store.specs.declared.store.TheConstants.{BEGIN}
-use Rattle.fax_store.proofs.AdoptLemmas.{filling_holds_back, filling_kept, has_none, has_whole, kept_served, makes_none, not_taken, renewing_holds_back, renewing_kept, starts, still_callable, still_means, still_version, taking_stops, told_strange, was_ours, whole_means}
+use Rattle.fax_store.proofs.AdoptLemmas.{filling_holds_back, filling_kept, has_none, has_taken, kept_served, makes_none, not_taken, renewing_holds_back, renewing_kept, starts, still_callable, still_means, still_version, taking_stops, told_strange, was_ours, whole_means}
 use Rattle.fax_store.proofs.StoreLemmas.{cleaner, commit_opens}
 use Rattle.fax_store.proofs.StopLemmas.{begin_nothing}
 use Rattle.fax_store.proofs.store.Store.take_ours.Goals as goal
@@ -93,11 +97,12 @@ returns-in_err-fill-clause-strange g c clean is ours =
     let s0 = state g.S.Store c.args.self.now.conn in
     let s1 = state g.S.Store c.execute.new.self in
     let s2 = state g.S.Store c.renew.new.self.conn in
+    let version : c.version_in-version.result ≡ version_of s0.now.schema = search rules in
     let clean2 = c.fill.ensures.leaves.clean clean in
     let began = c.in_ok-execute.ensures.runs (c.renew.ensures.leaves.clean clean2) in
     let made = c.in_ok-renew.ensures.leaves.goes clean2 in
     c.in_err-fill.ensures.strange clean (told_strange c.from_residual-in_err-fill.result c.in_err-fill.field-0.0 c.from_residual-in_err-fill.ensures.1 is) (has_none s0 s1 c.requires c.in_ok-execute.field-0 began s2 made)
-    (still_version s0 s1 c.requires c.in_ok-execute.field-0 began s2 made ours.version) (still_callable s0 s1 c.requires c.in_ok-execute.field-0 began s2 made ours.held)
+    (subst (λ v. versions s2.now ≡ number v ∷ []) (sym version) (still_version s0 s1 c.requires c.in_ok-execute.field-0 began s2 made ours.version)) (still_callable s0 s1 c.requires c.in_ok-execute.field-0 began s2 made ours.held)
 
 pub returns-in_err-execute-2-clause-kept : goal.returns-in_err-execute-2-clause-kept
 returns-in_err-execute-2-clause-kept g c clean =
@@ -106,11 +111,12 @@ returns-in_err-execute-2-clause-kept g c clean =
     let s2 = state g.S.Store c.renew.new.self.conn in
     let s3 = state g.S.Store c.fill.new.self.conn in
     let s4 = state g.S.Store c.execute-2.new.self in
+    let version : c.version_in-version.result ≡ version_of s0.now.schema = search rules in
     let clean3 = cleaner s3 s4 c.execute-2.ensures.survives.clean clean in
     let clean2 = c.fill.ensures.leaves.clean clean3 in
     let began = c.in_ok-execute.ensures.runs (c.renew.ensures.leaves.clean clean2) in
     let made = c.in_ok-renew.ensures.leaves.goes clean2 in
-    let filled = c.in_ok-fill.ensures.leaves.goes clean3 (has_none s0 s1 c.requires c.in_ok-execute.field-0 began s2 made) in
+    let filled = subst (λ v. GoesOn s2 s3 × IsFilled v s2.now s3.now) version (c.in_ok-fill.ensures.leaves.goes clean3 (has_none s0 s1 c.requires c.in_ok-execute.field-0 began s2 made)) in
     on_err c.from_residual-in_err-execute-2.result (not_taken s0 s1 c.requires c.in_ok-execute.field-0 began s2 made s3 filled s4 c.in_err-execute-2.field-0.0 (c.in_err-execute-2.ensures.runs clean))
 
 pub returns-in_err-execute-2-clause-served : goal.returns-in_err-execute-2-clause-served
@@ -120,12 +126,13 @@ returns-in_err-execute-2-clause-served g c s =
     let s2 = state g.S.Store c.renew.new.self.conn in
     let s3 = state g.S.Store c.fill.new.self.conn in
     let s4 = state g.S.Store c.execute-2.new.self in
+    let version : c.version_in-version.result ≡ version_of s0.now.schema = search rules in
     let clean3 = cleaner s3 s4 c.execute-2.ensures.survives.clean s.clean in
     let clean2 = c.fill.ensures.leaves.clean clean3 in
     let clean1 = c.renew.ensures.leaves.clean clean2 in
     let began = c.in_ok-execute.ensures.runs clean1 in
     let made = c.in_ok-renew.ensures.leaves.goes clean2 in
-    let filled = c.in_ok-fill.ensures.leaves.goes clean3 (has_none s0 s1 c.requires c.in_ok-execute.field-0 began s2 made) in
+    let filled = subst (λ v. GoesOn s2 s3 × IsFilled v s2.now s3.now) version (c.in_ok-fill.ensures.leaves.goes clean3 (has_none s0 s1 c.requires c.in_ok-execute.field-0 began s2 made)) in
     let kept = not_taken s0 s1 c.requires c.in_ok-execute.field-0 began s2 made s3 filled s4 c.in_err-execute-2.field-0.0 (c.in_err-execute-2.ensures.runs s.clean) in
     record { clean = cleaner s0 s1 c.execute.ensures.survives.clean clean1; is_open = kept.was_open s.is_open }
 
@@ -134,8 +141,9 @@ returns-in_err-execute-2-clause-crash g c =
     let s0 = state g.S.Store c.args.self.now.conn in
     let s1 = state g.S.Store c.execute.new.self in
     let s2 = state g.S.Store c.renew.new.self.conn in
+    let version : c.version_in-version.result ≡ version_of s0.now.schema = search rules in
     taking_stops s0 s1 c.requires c.in_ok-execute.field-0 c.execute.ensures.survives c.in_ok-execute.ensures.runs s2 c.renew.ensures.leaves.crash c.renew.ensures.leaves.clean c.in_ok-renew.ensures.leaves.goes (state g.S.Store c.fill.new.self.conn) c.fill.ensures.leaves.crash c.fill.ensures.leaves.clean
-    c.in_ok-fill.ensures.leaves.goes (state g.S.Store c.execute-2.new.self) c.execute-2.ensures.survives
+    (λ clean none. subst (λ v. GoesOn s2 (state g.S.Store c.fill.new.self.conn) × IsFilled v s2.now (state g.S.Store c.fill.new.self.conn).now) version (c.in_ok-fill.ensures.leaves.goes clean none)) (state g.S.Store c.execute-2.new.self) c.execute-2.ensures.survives
 
 pub returns-clause-made : goal.returns-clause-made
 returns-clause-made g c clean =
@@ -144,13 +152,14 @@ returns-clause-made g c clean =
     let s2 = state g.S.Store c.renew.new.self.conn in
     let s3 = state g.S.Store c.fill.new.self.conn in
     let s4 = state g.S.Store c.execute-2.new.self in
+    let version : c.version_in-version.result ≡ version_of s0.now.schema = search rules in
     let clean3 = cleaner s3 s4 c.execute-2.ensures.survives.clean clean in
     let clean2 = c.fill.ensures.leaves.clean clean3 in
     let began = c.in_ok-execute.ensures.runs (c.renew.ensures.leaves.clean clean2) in
     let made = c.in_ok-renew.ensures.leaves.goes clean2 in
-    let filled = c.in_ok-fill.ensures.leaves.goes clean3 (has_none s0 s1 c.requires c.in_ok-execute.field-0 began s2 made) in (
+    let filled = subst (λ v. GoesOn s2 s3 × IsFilled v s2.now s3.now) version (c.in_ok-fill.ensures.leaves.goes clean3 (has_none s0 s1 c.requires c.in_ok-execute.field-0 began s2 made)) in (
       was_ours s0 s1 c.requires c.in_ok-execute.field-0 began s2 made s3 filled,
-      has_whole s0 s1 c.requires c.in_ok-execute.field-0 began s2 made s3 filled s4 c.in_ok-execute-2.field-0 (c.in_ok-execute-2.ensures.runs clean),
+      has_taken s0 s1 c.requires c.in_ok-execute.field-0 began s2 made s3 filled s4 c.in_ok-execute-2.field-0 (c.in_ok-execute-2.ensures.runs clean),
     )
 
 pub returns-clause-means : goal.returns-clause-means
@@ -160,14 +169,15 @@ returns-clause-means g c m k clean mean =
     let s2 = state g.S.Store c.renew.new.self.conn in
     let s3 = state g.S.Store c.fill.new.self.conn in
     let s4 = state g.S.Store c.execute-2.new.self in
+    let version : c.version_in-version.result ≡ version_of s0.now.schema = search rules in
     let clean3 = cleaner s3 s4 c.execute-2.ensures.survives.clean clean in
     let clean2 = c.fill.ensures.leaves.clean clean3 in
     let began = c.in_ok-execute.ensures.runs (c.renew.ensures.leaves.clean clean2) in
     let made = c.in_ok-renew.ensures.leaves.goes clean2 in
     let none = has_none s0 s1 c.requires c.in_ok-execute.field-0 began s2 made in
-    let filled = c.in_ok-fill.ensures.leaves.goes clean3 none in
+    let filled = subst (λ v. GoesOn s2 s3 × IsFilled v s2.now s3.now) version (c.in_ok-fill.ensures.leaves.goes clean3 none) in
     whole_means s0 s1 c.requires c.in_ok-execute.field-0 began s2 made s3 filled s4 c.in_ok-execute-2.field-0 (c.in_ok-execute-2.ensures.runs clean) m k
-    (c.in_ok-fill.ensures.counted m k none clean3 (still_means s0 s1 c.requires c.in_ok-execute.field-0 began s2 made m k mean))
+    (c.in_ok-fill.ensures.counted m k none clean3 (subst (λ v. MeansAs v s2.now m k) (sym version) (still_means s0 s1 c.requires c.in_ok-execute.field-0 began s2 made m k mean)))
 
 pub returns-clause-served : goal.returns-clause-served
 returns-clause-served g c s =
@@ -184,5 +194,6 @@ returns-clause-crash g c =
     let s0 = state g.S.Store c.args.self.now.conn in
     let s1 = state g.S.Store c.execute.new.self in
     let s2 = state g.S.Store c.renew.new.self.conn in
+    let version : c.version_in-version.result ≡ version_of s0.now.schema = search rules in
     taking_stops s0 s1 c.requires c.in_ok-execute.field-0 c.execute.ensures.survives c.in_ok-execute.ensures.runs s2 c.renew.ensures.leaves.crash c.renew.ensures.leaves.clean c.in_ok-renew.ensures.leaves.goes (state g.S.Store c.fill.new.self.conn) c.fill.ensures.leaves.crash c.fill.ensures.leaves.clean
-    c.in_ok-fill.ensures.leaves.goes (state g.S.Store c.execute-2.new.self) c.execute-2.ensures.survives
+    (λ clean none. subst (λ v. GoesOn s2 (state g.S.Store c.fill.new.self.conn) × IsFilled v s2.now (state g.S.Store c.fill.new.self.conn).now) version (c.in_ok-fill.ensures.leaves.goes clean none)) (state g.S.Store c.execute-2.new.self) c.execute-2.ensures.survives

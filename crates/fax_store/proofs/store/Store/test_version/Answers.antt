@@ -12,11 +12,11 @@ returns-then-is_version-clause-ours g c tables clean =
     let old = state g.S.Store c.args.self.now.conn in
     let new = state g.S.Store c.show.new.self.conn in
     let rows = sym c.as_slice.ensures.value ∙ c.is_version.ensures.0 c.if-is_version.true in
-    (version_found old new tables c.in_ok-rows.rows.items (c.in_ok-rows.ensures.shown clean) rows, c.in_ok-rows.ensures.leaves.reads tables clean)
+    (version_found c.args.version old new tables c.in_ok-rows.rows.items (c.in_ok-rows.ensures.shown clean) rows, c.in_ok-rows.ensures.leaves.reads tables clean)
 
 pub returns-clause-strange : goal.returns-clause-strange
 returns-clause-strange g c tables clean is version =
     let old = state g.S.Store c.args.self.now.conn in
     let new = state g.S.Store c.show.new.self.conn in
-    let rows = c.as_slice.ensures.value ∙ version_shown old new tables c.in_ok-rows.rows.items (c.in_ok-rows.ensures.shown clean) version in
+    let rows = c.as_slice.ensures.value ∙ version_shown c.args.version old new tables c.in_ok-rows.rows.items (c.in_ok-rows.ensures.shown clean) version in
     absurd (let tested = c.is_version.ensures.1 rows in let untold = c.if-is_version.false in cc)

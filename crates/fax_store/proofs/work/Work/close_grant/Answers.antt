@@ -1,6 +1,6 @@
 use Rattle.std.proofs.Common.{refl, List, subst}
 use Rattle.sqlite.specs.Held.{state}
-use Rattle.fax_core.specs.Queue.{Entry}
+use Rattle.fax_core.specs.Ledger.{Ledger}
 use Rattle.fax_store.specs.Grant.{with_closed}
 use Rattle.fax_store.specs.Work.{Works}
 use Rattle.fax_store.proofs.WorkLemmas.{changes_by, steps_fault}
@@ -10,7 +10,7 @@ use Rattle.fax_store.proofs.work.Work.close_grant.Goals as goal
 pub returns-clause-changes : goal.returns-clause-changes
 returns-clause-changes g c =
     rw (c.if-self.false, c.is_err-self.ensures.value)
-    (changes_by (state g.S.Store c.args.self.now.store.now.conn) (state g.S.Store c.shut_grant-done.new.self.conn) c.shut_grant-done.result (with_closed c.args.number) (λ (k : List Entry). k) c.shut_grant-done.ensures.written)
+    (changes_by (state g.S.Store c.args.self.now.store.now.conn) (state g.S.Store c.shut_grant-done.new.self.conn) c.shut_grant-done.result (with_closed c.args.number) (λ (k : Ledger). k) c.shut_grant-done.ensures.written)
 
 pub returns-clause-leaves : goal.returns-clause-leaves
 returns-clause-leaves g c = calls_by g.S.Store _ _ _ c.if-self.false c.is_err-self.ensures.value refl c.shut_grant-done.ensures.leaves

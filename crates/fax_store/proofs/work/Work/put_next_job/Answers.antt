@@ -1,7 +1,7 @@
 use Rattle.std.proofs.Common.{refl, ◌≡◌, List, subst}
 use Rattle.sqlite.specs.Held.{state}
 use Rattle.fax_core.specs.Job.{job_of}
-use Rattle.fax_core.specs.Queue.{Entry}
+use Rattle.fax_core.specs.Ledger.{Ledger}
 use Rattle.fax_store.specs.Job.{with_one_more_job}
 use Rattle.fax_store.specs.Meta.{with_clock}
 use Rattle.fax_store.specs.Work.{Works}
@@ -14,7 +14,7 @@ pub returns-clause-changes : goal.returns-clause-changes
 returns-clause-changes g c =
     rw (c.if-self.false, c.is_err-self.ensures.value)
     (steps_where (state g.S.Store c.args.self.now.store.now.conn) (state g.S.Store c.add_next_job-done.new.self.conn) (λ m. c.args.meta ≡ meta_of m) c.add_next_job-done.result
-    (λ m. with_clock c.args.clock (with_one_more_job (job_of c.args.job.now) m)) (λ (k : List Entry). k) c.add_next_job-done.ensures.written)
+    (λ m. with_clock c.args.clock (with_one_more_job (job_of c.args.job.now) m)) (λ (k : Ledger). k) c.add_next_job-done.ensures.written)
 
 pub returns-clause-cause : goal.returns-clause-cause
 returns-clause-cause g c m₀ m k₀ k works s fits =

@@ -1,7 +1,7 @@
 use Rattle.std.proofs.Common.{refl, List, subst}
 use Rattle.sqlite.specs.Held.{state}
 use Rattle.fax_core.specs.Machine.{with_mark}
-use Rattle.fax_core.specs.Queue.{Entry}
+use Rattle.fax_core.specs.Ledger.{Ledger}
 use Rattle.fax_store.specs.Work.{Works}
 use Rattle.fax_store.proofs.WorkLemmas.{moved_by}
 use Rattle.fax_store.proofs.FrameLemmas.{calls_by}
@@ -10,7 +10,7 @@ use Rattle.fax_store.proofs.work.Work.set_down.Goals as goal
 pub returns-clause-changes : goal.returns-clause-changes
 returns-clause-changes g c =
     rw (c.if-self.false, c.is_err-self.ensures.value)
-    (moved_by (state g.S.Store c.args.self.now.store.now.conn) (state g.S.Store c.write_mark-done.new.self.conn) c.write_mark-done.result (with_mark c.args.modem.now c.args.down) (λ (k : List Entry). k) c.write_mark-done.ensures.written)
+    (moved_by (state g.S.Store c.args.self.now.store.now.conn) (state g.S.Store c.write_mark-done.new.self.conn) c.write_mark-done.result (with_mark c.args.modem.now c.args.down) (λ (k : Ledger). k) c.write_mark-done.ensures.written)
 
 pub returns-clause-cause : goal.returns-clause-cause
 returns-clause-cause g c m₀ m k₀ k works s fits =

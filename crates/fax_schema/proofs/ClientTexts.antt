@@ -1,0 +1,35 @@
+-- What the texts on floors, and on the replies that a client gives up, mean.
+use Rattle.std.proofs.Common.{List, [], ◌∷◌, codes, refl}
+use Rattle.sqlite.specs.Collation.TheVariants.{Binary}
+use Rattle.sqlite.specs.Command.TheVariants.{Insert, Delete}
+use Rattle.sqlite.specs.Listing.{understood}
+use Rattle.sqlite.specs.Source.TheVariants.{Values}
+use Rattle.sqlite_sql.specs.Term.{Term, col, op2}
+use Rattle.sqlite_sql.specs.declared.ops.BinaryOp.TheVariants.{Compare}
+use Rattle.sqlite_sql.specs.declared.ops.CompareOp.TheVariants.{Le}
+use Rattle.sqlite_tied.specs.Compute.{everything}
+use Rattle.fax_schema.specs.declared.statements.TheConstants.{DELETE_REPLIES, SELECT_FLOOR, DELETE_FLOOR, INSERT_FLOOR}
+use Rattle.fax_schema.proofs.GrantTexts.{call_tests, call_project, call_terms}
+use Rattle.fax_schema.proofs.StatementForms.{equals, Selects, Commands}
+use Rattle.fax_schema.proofs.UpdateLemmas.{program_of, gone_project}
+use Rattle.fax_schema.specs.Schema.{floors_tree, replies_tree}
+
+abbrev pub given_up_tests : List Term
+given_up_tests = equals (col 1 1) (col 0 0) ∷ op2 (Compare Le Binary) (col 1 2) (col 0 1) ∷ []
+
+pub delete_replies : Commands DELETE_REPLIES.now (Delete 4 (program_of replies_tree given_up_tests gone_project))
+unfolding understood everything
+delete_replies = record { is = refl; plain = (refl, refl) }
+
+-- floors stand as the counts of calls do
+pub select_floor : Selects SELECT_FLOOR.now floors_tree call_tests call_project (codes "upto" ∷ [])
+unfolding understood everything
+select_floor = record { command = refl; plain = (refl, refl); unlisted = refl }
+
+pub delete_floor : Commands DELETE_FLOOR.now (Delete 6 (program_of floors_tree call_tests gone_project))
+unfolding understood everything
+delete_floor = record { is = refl; plain = (refl, refl) }
+
+pub insert_floor : Commands INSERT_FLOOR.now (Insert 6 (Values call_terms 3))
+unfolding understood everything
+insert_floor = record { is = refl; plain = (refl, refl) }
