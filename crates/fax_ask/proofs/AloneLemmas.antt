@@ -18,12 +18,12 @@ use Rattle.fax_lines.proofs.FaultLemmas.{fault_or_list, first_fault_alone}
 use Rattle.fax_lines.proofs.TextLemmas.{spelled_alone}
 use Rattle.fax_core.specs.declared.ask.Ask.TheVariants as machine
 use Rattle.fax_ask.specs.declared.request.Request.{Request}
-use Rattle.fax_ask.specs.declared.request.Request.TheVariants.{Submit, Import, Suspend, Resume, Kill, Alter, Show, Ready, Down, Next, Call, Page, Outcome}
+use Rattle.fax_ask.specs.declared.request.Request.TheVariants.{Submit, Import, Suspend, Resume, Kill, Alter, Show, Ready, Down, Next, Call, Page, Outcome, Floor}
 use Rattle.fax_ask.specs.declared.ask.Ask.{Ask}
 use Rattle.fax_ask.specs.declared.ask.Ask.TheVariants.{Step}
 use Rattle.fax_ask.specs.Ask.{States, HasFault, IsLinesFault, IsLinesRefusal, Asks, IsBodyRefusal}
 use Rattle.fax_ask.specs.Laws.{OneAsk, OneFault, AskOrRefusal}
-use Rattle.fax_ask.specs.Report.{IsJson, IsReportFault, IsReportRefusal, Reports, call_in, outcome_in, page_in}
+use Rattle.fax_ask.specs.Report.{IsJson, IsReportFault, IsReportRefusal, Reports, call_in, outcome_in, page_in, upto_in}
 use Rattle.fax_ask.specs.Request.{request_of}
 
 abbrev well : {T : Type 0} → T → Result T OrderFault
@@ -80,6 +80,7 @@ asks_alone (Alter job) body a b h g = h.2 ∙ (ap (λ o. Step (machine.Alteratio
 asks_alone (Call grant) body a b h g = h.2 ∙ (ap (λ o. Step (machine.CallReport grant o)) (reports_alone call_in body h.0 g.0 h.1 g.1) ∙ sym g.2)
 asks_alone (Page grant) body a b h g = h.2 ∙ (ap (λ o. Step (machine.PageReport grant o)) (reports_alone page_in body h.0 g.0 h.1 g.1) ∙ sym g.2)
 asks_alone (Outcome grant) body a b h g = h.2 ∙ (ap (λ o. Step (machine.OutcomeReport grant o)) (reports_alone outcome_in body h.0 g.0 h.1 g.1) ∙ sym g.2)
+asks_alone Floor body a b h g = h.2 ∙ (ap (λ n. Step (machine.GiveUp n)) (reports_alone upto_in body h.0 g.0 h.1 g.1) ∙ sym g.2)
 asks_alone (Suspend job) body a b h g = h ∙ sym g
 asks_alone (Resume job) body a b h g = h ∙ sym g
 asks_alone (Kill job) body a b h g = h ∙ sym g
@@ -95,6 +96,7 @@ ask_or_refusal (Alter job) body a refusal h r = states_or_refusal alter_of body 
 ask_or_refusal (Call grant) body a refusal h r = reports_or_refusal call_in body h.0 refusal h.1 r
 ask_or_refusal (Page grant) body a refusal h r = reports_or_refusal page_in body h.0 refusal h.1 r
 ask_or_refusal (Outcome grant) body a refusal h r = reports_or_refusal outcome_in body h.0 refusal h.1 r
+ask_or_refusal Floor body a refusal h r = reports_or_refusal upto_in body h.0 refusal h.1 r
 ask_or_refusal (Suspend job) body a refusal h r = absurd r
 ask_or_refusal (Resume job) body a refusal h r = absurd r
 ask_or_refusal (Kill job) body a refusal h r = absurd r
@@ -160,6 +162,7 @@ fault_alone (Alter job) body f g h r = one_lines_fault alter_of body f g h r
 fault_alone (Call grant) body f g h r = one_report_fault call_in body f g h r
 fault_alone (Page grant) body f g h r = one_report_fault page_in body f g h r
 fault_alone (Outcome grant) body f g h r = one_report_fault outcome_in body f g h r
+fault_alone Floor body f g h r = one_report_fault upto_in body f g h r
 fault_alone (Suspend job) body f g h r = absurd h
 fault_alone (Resume job) body f g h r = absurd h
 fault_alone (Kill job) body f g h r = absurd h

@@ -18,11 +18,11 @@ use Rattle.fax_lines.specs.Reading.{lines, read_on}
 use Rattle.fax_lines.specs.Spells.{Spells, IsFaultBehind}
 use Rattle.fax_lines.proofs.FoundLemmas.{found}
 use Rattle.fax_core.specs.declared.ask.Ask.TheVariants as machine
-use Rattle.fax_ask.specs.declared.request.Request.TheVariants.{Submit, Import, Suspend, Resume, Kill, Alter, Show, Ready, Down, Next, Call, Page, Outcome}
+use Rattle.fax_ask.specs.declared.request.Request.TheVariants.{Submit, Import, Suspend, Resume, Kill, Alter, Show, Ready, Down, Next, Call, Page, Outcome, Floor}
 use Rattle.fax_ask.specs.declared.ask.Ask.TheVariants.{Step, View}
 use Rattle.fax_ask.specs.Ask.{States, IsLinesRefusal}
 use Rattle.fax_ask.specs.Laws.{AsksOrHasFault}
-use Rattle.fax_ask.specs.Report.{IsJson, IsReportRefusal, Reports, call_in, outcome_in, page_in}
+use Rattle.fax_ask.specs.Report.{IsJson, IsReportRefusal, Reports, call_in, outcome_in, page_in, upto_in}
 
 module _ {T : Type 0} (value_of : List Pair → Result T OrderFault) (body : List ℕ) where
   abbrev IsRead : Type 0
@@ -71,6 +71,7 @@ each_of body utf8 (Alter job) = elim (states_or_fault alter_of body utf8) [ inl 
 each_of body utf8 (Call grant) = elim (says_or_fault call_in body utf8) [ inl x ↦ inl (Step (machine.CallReport grant x.0), (x.0, x.1, refl)) | inr f ↦ inr f ]
 each_of body utf8 (Page grant) = elim (says_or_fault page_in body utf8) [ inl x ↦ inl (Step (machine.PageReport grant x.0), (x.0, x.1, refl)) | inr f ↦ inr f ]
 each_of body utf8 (Outcome grant) = elim (says_or_fault outcome_in body utf8) [ inl x ↦ inl (Step (machine.OutcomeReport grant x.0), (x.0, x.1, refl)) | inr f ↦ inr f ]
+each_of body utf8 Floor = elim (says_or_fault upto_in body utf8) [ inl x ↦ inl (Step (machine.GiveUp x.0), (x.0, x.1, refl)) | inr f ↦ inr f ]
 each_of body utf8 (Suspend job) = inl (Step (machine.Suspend job), refl)
 each_of body utf8 (Resume job) = inl (Step (machine.Resume job), refl)
 each_of body utf8 (Kill job) = inl (Step (machine.Kill job), refl)

@@ -17,9 +17,9 @@ use Rattle.fax_ask.specs.Laws.{RoutedPathsLackLf}
 use Rattle.fax_ask.specs.declared.method.Method.{Method}
 use Rattle.fax_ask.specs.declared.method.Method.TheVariants.{Get, Post, Another}
 use Rattle.fax_ask.specs.declared.request.Request.{Request}
-use Rattle.fax_ask.specs.declared.request.Request.TheVariants.{Suspend, Resume, Kill, Alter, Ready, Down, Next, Call, Page, Outcome}
+use Rattle.fax_ask.specs.declared.request.Request.TheVariants.{Suspend, Resume, Kill, Alter, Ready, Down, Next, Call, Page, Outcome, Floor}
 use Rattle.fax_ask.specs.Path.{parts, two_texts}
-use Rattle.fax_ask.specs.Request.{job_request, jobs_request, modem_action, modem_request, modems_request, grant_report, grant_request, grants_request, imports_request, root_request, path_request, request_of}
+use Rattle.fax_ask.specs.Request.{job_request, jobs_request, modem_action, modem_request, modems_request, grant_report, grant_request, grants_request, imports_request, numbers_request, root_request, path_request, request_of}
 use Rattle.fax_ask.proofs.PathLemmas.{byte_of_parts}
 
 -- no text has an LF
@@ -160,6 +160,19 @@ in_imports Post [] request is = refl
 in_imports Post (text ∷ rest) request is = absurd cc
 in_imports Another rest request is = absurd cc
 
+-- ---- numbers
+
+in_numbers : (method : Method) (rest : List (List ℕ)) (request : Request) → numbers_request method rest ≡ Some request → lacks_lf rest
+in_numbers Get rest request is = absurd cc
+in_numbers Post [] request is = absurd cc
+in_numbers Post (text ∷ []) request is = by (bytes_eq text (codes "floor")) refl is
+  where
+    by : (named : Bool) → bytes_eq text (codes "floor") ≡ named → cond named (Some Floor) None ≡ Some request → lacks_lf (text ∷ [])
+    by true e h = one_more text [] (same_text text (codes "floor") e refl) refl
+    by false e h = absurd cc
+in_numbers Post (text ∷ other ∷ rest) request is = absurd cc
+in_numbers Another rest request is = absurd cc
+
 in_grants : (method : Method) (rest : List (List ℕ)) (request : Request) → grants_request method rest ≡ Some request → lacks_lf rest
 in_grants Get rest request is = absurd cc
 in_grants Post rest request is = in_grant rest request (two_texts rest) refl is
@@ -167,19 +180,20 @@ in_grants Another rest request is = absurd cc
 
 -- ---- the whole
 
-in_collection : (method : Method) (collection : List ℕ) (rest : List (List ℕ)) (request : Request) (jobs modems grants imports : Bool)
-    → bytes_eq collection (codes "jobs") ≡ jobs → bytes_eq collection (codes "modems") ≡ modems → bytes_eq collection (codes "grants") ≡ grants → bytes_eq collection (codes "imports") ≡ imports
-    → cond jobs (jobs_request method rest) (cond modems (modems_request method rest) (cond grants (grants_request method rest) (cond imports (imports_request method rest) None))) ≡ Some request
+in_collection : (method : Method) (collection : List ℕ) (rest : List (List ℕ)) (request : Request) (jobs modems grants imports numbers : Bool)
+    → bytes_eq collection (codes "jobs") ≡ jobs → bytes_eq collection (codes "modems") ≡ modems → bytes_eq collection (codes "grants") ≡ grants → bytes_eq collection (codes "imports") ≡ imports → bytes_eq collection (codes "numbers") ≡ numbers
+    → cond jobs (jobs_request method rest) (cond modems (modems_request method rest) (cond grants (grants_request method rest) (cond imports (imports_request method rest) (cond numbers (numbers_request method rest) None)))) ≡ Some request
     → lacks_lf (collection ∷ rest)
-in_collection method collection rest request true modems grants imports e f g h is = one_more collection rest (same_text collection (codes "jobs") e refl) (in_jobs method rest request is)
-in_collection method collection rest request false true grants imports e f g h is = one_more collection rest (same_text collection (codes "modems") f refl) (in_modems method rest request is)
-in_collection method collection rest request false false true imports e f g h is = one_more collection rest (same_text collection (codes "grants") g refl) (in_grants method rest request is)
-in_collection method collection rest request false false false true e f g h is = one_more collection rest (same_text collection (codes "imports") h refl) (in_imports method rest request is)
-in_collection method collection rest request false false false false e f g h is = absurd cc
+in_collection method collection rest request true modems grants imports numbers e f g h i is = one_more collection rest (same_text collection (codes "jobs") e refl) (in_jobs method rest request is)
+in_collection method collection rest request false true grants imports numbers e f g h i is = one_more collection rest (same_text collection (codes "modems") f refl) (in_modems method rest request is)
+in_collection method collection rest request false false true imports numbers e f g h i is = one_more collection rest (same_text collection (codes "grants") g refl) (in_grants method rest request is)
+in_collection method collection rest request false false false true numbers e f g h i is = one_more collection rest (same_text collection (codes "imports") h refl) (in_imports method rest request is)
+in_collection method collection rest request false false false false true e f g h i is = one_more collection rest (same_text collection (codes "numbers") i refl) (in_numbers method rest request is)
+in_collection method collection rest request false false false false false e f g h i is = absurd cc
 
 in_root : (method : Method) (rest : List (List ℕ)) (request : Request) → root_request method rest ≡ Some request → lacks_lf rest
 in_root method [] request is = refl
-in_root method (collection ∷ rest) request is = in_collection method collection rest request _ _ _ _ refl refl refl refl is
+in_root method (collection ∷ rest) request is = in_collection method collection rest request _ _ _ _ _ refl refl refl refl refl is
 
 in_lead : (method : Method) (lead : List ℕ) (rest : List (List ℕ)) (request : Request) (empty : Bool) → eqb (length lead) 0 ≡ empty
     → cond empty (root_request method rest) None ≡ Some request → lacks_lf (lead ∷ rest)

@@ -1,5 +1,5 @@
 -- What a router of all routes answers is what the table of requests says.
-use Rattle.std.proofs.Common.{◌≡◌, ℕ, suc, ◌+◌, List, [], ◌∷◌, ◌++◌, length, Option, Some, None, Bool, true, false, cond, codes, refl, sym, ap, ap₂, ◌∙◌, subst, arith, Bor, IsUtf8}
+use Rattle.std.proofs.Common.{◌≡◌, ℕ, suc, ◌+◌, List, [], ◌∷◌, ◌++◌, length, get_or, Option, Some, None, Bool, true, false, cond, codes, refl, sym, ap, ap₂, ◌∙◌, subst, arith, Bor, IsUtf8}
 use Rattle.std.specs.Prelude.{MatchOption, option_and_then, option_copied, option_map}
 use Rattle.std.specs.Str.{bytes_eq}
 use Rattle.std.proofs.lemmas.Bool.{ne_eqb}
@@ -14,9 +14,9 @@ use Rattle.fax_ask.specs.declared.method.Method.TheVariants.{Get, Post, Another}
 use Rattle.fax_ask.specs.declared.request.Request.{Request}
 use Rattle.fax_ask.specs.declared.request.Request.TheVariants as request
 use Rattle.fax_ask.specs.declared.routes.Route.{Route}
-use Rattle.fax_ask.specs.declared.routes.Route.TheVariants.{Jobs, Job, Suspend, Resume, Kill, Alter, Ready, Down, Next, Call, Page, Outcome, Imports}
+use Rattle.fax_ask.specs.declared.routes.Route.TheVariants.{Jobs, Job, Suspend, Resume, Kill, Alter, Ready, Down, Next, Call, Page, Outcome, Imports, Floor}
 use Rattle.fax_ask.specs.Path.{parts, two_texts}
-use Rattle.fax_ask.specs.Request.{grant_report, grant_request, job_action, job_request, jobs_request, modem_action, modem_request, modems_request, grants_request, imports_request, root_request, path_request, request_of}
+use Rattle.fax_ask.specs.Request.{grant_report, grant_request, job_action, job_request, jobs_request, modem_action, modem_request, modems_request, grants_request, imports_request, numbers_request, root_request, path_request, request_of}
 use Rattle.fax_ask.specs.Routes.{posted, route_request, shown, table}
 use Rattle.fax_ask.proofs.CutLemmas.{IsTextIfSome, parts_left, both_texts, cut, same_bytes}
 use Rattle.fax_ask.proofs.PathLemmas.{filled}
@@ -58,6 +58,9 @@ jobs_end = Some (plain_route (codes "/jobs") Jobs)
 abbrev imports_end : Option Entry
 imports_end = Some (plain_route (codes "/imports") Imports)
 
+abbrev floor_end : Option Entry
+floor_end = Some (plain_route (codes "/numbers/floor") Floor)
+
 abbrev job_end : Option Entry
 job_end = Some (id_route (codes "/jobs/") [] Job)
 
@@ -69,6 +72,9 @@ modems_below = below None of_modems
 
 abbrev grants_below : RowsOf Entry
 grants_below = below None of_grants
+
+abbrev numbers_below : RowsOf Entry
+numbers_below = led_by (codes "floor") (led_by (47 ∷ []) [] ++ ends_of floor_end)
 
 abbrev grants_rows : RowsOf Entry
 grants_rows = led_by (codes "grants") (led_by (47 ∷ []) grants_below ++ ends_of None)
@@ -82,8 +88,11 @@ jobs_rows = led_by (codes "jobs") (led_by (47 ∷ []) jobs_below ++ ends_of jobs
 abbrev modems_rows : RowsOf Entry
 modems_rows = led_by (codes "modems") (led_by (47 ∷ []) modems_below ++ ends_of None)
 
+abbrev numbers_rows : RowsOf Entry
+numbers_rows = led_by (codes "numbers") (led_by (47 ∷ []) numbers_below ++ ends_of None)
+
 abbrev collections : RowsOf Entry
-collections = grants_rows ++ (imports_rows ++ (jobs_rows ++ modems_rows))
+collections = grants_rows ++ (imports_rows ++ (jobs_rows ++ (modems_rows ++ numbers_rows)))
 
 rows_are : table ≡ led_by [] (led_by (47 ∷ []) collections ++ ends_of None)
 unfolding matchit_on_literals table plain_route id_route
@@ -261,6 +270,40 @@ in_imports (Some path) u =
     says_by (λ method. root_request method (codes "imports" ∷ parts path)) (47 ∷ joined (codes "imports") (Some path)) (first {K = Entry} [] path) None (seek_empty 0 path)
     (λ method. let texts = filled path in no_import (parts path) texts.0 texts.1 texts.2 method)
 
+no_number : (texts : List (List ℕ)) (method : Method) → ((text : List ℕ) → texts ≡ text ∷ [] → bytes_eq text (codes "floor") ≡ false) → numbers_request method texts ≡ None
+no_number texts Get other = refl
+no_number [] Post other = refl
+no_number (text ∷ []) Post other = rw (other text refl) refl
+no_number (text ∷ next ∷ rest) Post other = refl
+no_number texts Another other = refl
+
+-- what follows the name and its slash
+numbers_says : (text : List ℕ) (more : Option (List ℕ)) → Says (λ method. numbers_request method (text ∷ parts_left more)) (codes "/numbers/" ++ joined text more) (cond (bytes_eq text (codes "floor")) (behind floor_end [] more) None)
+unfolding plain_route
+numbers_says text more = by (bytes_eq text (codes "floor")) refl more
+  where
+    by : (named : Bool) → bytes_eq text (codes "floor") ≡ named → (more : Option (List ℕ))
+        → Says (λ method. numbers_request method (text ∷ parts_left more)) (codes "/numbers/" ++ joined text more) (cond named (behind floor_end [] more) None)
+    by false e more = λ method. no_number (text ∷ parts_left more) method (λ other is. subst (λ (t : List ℕ). bytes_eq t (codes "floor") ≡ false) (ap (λ (ts : List (List ℕ)). get_or ts 0 []) is) e)
+    by true e None =
+        subst (λ (t : List ℕ). Says (λ method. numbers_request method (t ∷ [])) (codes "/numbers/" ++ t) floor_end) (sym (same_bytes text (codes "floor") e))
+        (tt, λ method. elim method as (λ m. numbers_request m (codes "floor" ∷ []) ≡ route_request m Floor None) [ Get ↦ refl | Post ↦ refl | Another ↦ refl ])
+    by true e (Some path) =
+        says_by (λ method. numbers_request method (text ∷ parts path)) (codes "/numbers/" ++ joined text (Some path)) (first {K = Entry} [] path) None (seek_empty 0 path)
+        (λ method. let texts = filled path in
+        no_number (text ∷ parts path) method (λ other is. absurd (let n = ap length is in let m = ap length texts.2 in omega (arith, n, m))))
+
+in_numbers : (more : Option (List ℕ))
+    → Says (λ method. root_request method (codes "numbers" ∷ parts_left more)) (47 ∷ joined (codes "numbers") more) (behind None numbers_below more)
+in_numbers None = λ method. elim method as (λ m. numbers_request m [] ≡ None) [ Get ↦ refl | Post ↦ refl | Another ↦ refl ]
+in_numbers (Some path) =
+    let c = cut path in
+    says_as (λ method. numbers_request method (parts path)) (λ method. numbers_request method (c.text ∷ parts_left c.more)) (codes "/numbers/" ++ path) (first numbers_below path)
+    (λ method. ap (numbers_request method) c.texts)
+    (subst (λ (p : List ℕ). Says (λ method. numbers_request method (c.text ∷ parts_left c.more)) (codes "/numbers/" ++ p) (first numbers_below p)) (sym c.whole)
+    (says_by (λ method. numbers_request method (c.text ∷ parts_left c.more)) (codes "/numbers/" ++ joined c.text c.more) (first numbers_below (joined c.text c.more)) (cond (bytes_eq c.text (codes "floor")) (behind floor_end [] c.more) None)
+    (word (codes "floor") c.text [] floor_end c.more refl c.free) (numbers_says c.text c.more)))
+
 in_modems : (more : Option (List ℕ)) → IsTextIfSome more
     → Says (λ method. root_request method (codes "modems" ∷ parts_left more)) (47 ∷ joined (codes "modems") more) (behind None modems_below more)
 in_modems None u = λ method. elim method as (λ m. modems_request m [] ≡ None) [ Get ↦ refl | Post ↦ refl | Another ↦ refl ]
@@ -279,24 +322,27 @@ by_name text more =
     or_else (cond (bytes_eq text (codes "grants")) (behind None grants_below more) None)
     (or_else (cond (bytes_eq text (codes "imports")) (behind imports_end [] more) None)
     (or_else (cond (bytes_eq text (codes "jobs")) (behind jobs_end jobs_below more) None)
-    (cond (bytes_eq text (codes "modems")) (behind None modems_below more) None)))
+    (or_else (cond (bytes_eq text (codes "modems")) (behind None modems_below more) None)
+    (cond (bytes_eq text (codes "numbers")) (behind None numbers_below more) None))))
 
 name_found : (text : List ℕ) (more : Option (List ℕ)) → has_slash text ≡ false → first collections (joined text more) ≡ by_name text more
 name_found text more f =
-    branch 103 (codes "rants") (led_by (47 ∷ []) grants_below ++ ends_of None) (imports_rows ++ (jobs_rows ++ modems_rows)) (joined text more) (omega arith) refl (plain refl refl)
+    branch 103 (codes "rants") (led_by (47 ∷ []) grants_below ++ ends_of None) (imports_rows ++ (jobs_rows ++ (modems_rows ++ numbers_rows))) (joined text more) (omega arith) refl (plain refl refl)
     ∙ ap₂ or_else (word (codes "grants") text grants_below None more refl f)
-    (branch 105 (codes "mports") (led_by (47 ∷ []) [] ++ ends_of imports_end) (jobs_rows ++ modems_rows) (joined text more) (omega arith) refl (plain refl refl)
+    (branch 105 (codes "mports") (led_by (47 ∷ []) [] ++ ends_of imports_end) (jobs_rows ++ (modems_rows ++ numbers_rows)) (joined text more) (omega arith) refl (plain refl refl)
     ∙ ap₂ or_else (word (codes "imports") text [] imports_end more refl f)
-    (branch 106 (codes "obs") (led_by (47 ∷ []) jobs_below ++ ends_of jobs_end) modems_rows (joined text more) (omega arith) refl (plain refl refl)
+    (branch 106 (codes "obs") (led_by (47 ∷ []) jobs_below ++ ends_of jobs_end) (modems_rows ++ numbers_rows) (joined text more) (omega arith) refl (plain refl refl)
     ∙ ap₂ or_else (word (codes "jobs") text jobs_below jobs_end more refl f)
-    (word (codes "modems") text modems_below None more refl f)))
+    (branch 109 (codes "odems") (led_by (47 ∷ []) modems_below ++ ends_of None) numbers_rows (joined text more) (omega arith) refl (plain refl refl)
+    ∙ ap₂ or_else (word (codes "modems") text modems_below None more refl f)
+    (word (codes "numbers") text numbers_below None more refl f))))
 
-other_name : (text : List ℕ) (rest : List (List ℕ)) → bytes_eq text (codes "grants") ≡ false → bytes_eq text (codes "imports") ≡ false → bytes_eq text (codes "jobs") ≡ false → bytes_eq text (codes "modems") ≡ false
+other_name : (text : List ℕ) (rest : List (List ℕ)) → bytes_eq text (codes "grants") ≡ false → bytes_eq text (codes "imports") ≡ false → bytes_eq text (codes "jobs") ≡ false → bytes_eq text (codes "modems") ≡ false → bytes_eq text (codes "numbers") ≡ false
     → (method : Method) → root_request method (text ∷ rest) ≡ None
-other_name text rest grants imports jobs modems method = rw (jobs, modems, grants, imports)
+other_name text rest grants imports jobs modems numbers method = rw (jobs, modems, grants, imports, numbers)
 
 name_says : (text : List ℕ) (more : Option (List ℕ)) → IsTextIfSome more → Says (λ method. root_request method (text ∷ parts_left more)) (47 ∷ joined text more) (by_name text more)
-name_says text more u = by (bytes_eq text (codes "grants")) refl (bytes_eq text (codes "imports")) refl (bytes_eq text (codes "jobs")) refl (bytes_eq text (codes "modems")) refl
+name_says text more u = by (bytes_eq text (codes "grants")) refl (bytes_eq text (codes "imports")) refl (bytes_eq text (codes "jobs")) refl (bytes_eq text (codes "modems")) refl (bytes_eq text (codes "numbers")) refl
   where
     at : List ℕ → Type 0
     at name = Says (λ method. root_request method (name ∷ parts_left more)) (47 ∷ joined name more) (by_name name more)
@@ -304,21 +350,24 @@ name_says text more u = by (bytes_eq text (codes "grants")) refl (bytes_eq text 
     named_so : (name : List ℕ) → bytes_eq text name ≡ true → at name → at text
     named_so name e s = subst at (sym (same_bytes text name e)) s
 
-    by : (grants : Bool) → bytes_eq text (codes "grants") ≡ grants → (imports : Bool) → bytes_eq text (codes "imports") ≡ imports → (jobs : Bool) → bytes_eq text (codes "jobs") ≡ jobs → (modems : Bool) → bytes_eq text (codes "modems") ≡ modems → at text
-    by true e imports i jobs f modems g = named_so (codes "grants") e
+    by : (grants : Bool) → bytes_eq text (codes "grants") ≡ grants → (imports : Bool) → bytes_eq text (codes "imports") ≡ imports → (jobs : Bool) → bytes_eq text (codes "jobs") ≡ jobs → (modems : Bool) → bytes_eq text (codes "modems") ≡ modems → (numbers : Bool) → bytes_eq text (codes "numbers") ≡ numbers → at text
+    by true e imports i jobs f modems g numbers n = named_so (codes "grants") e
         (says_by (λ method. root_request method (codes "grants" ∷ parts_left more)) (47 ∷ joined (codes "grants") more) (by_name (codes "grants") more) (behind None grants_below more)
         (or_none (behind None grants_below more)) (in_grants more u))
-    by false e true i jobs f modems g = named_so (codes "imports") i
+    by false e true i jobs f modems g numbers n = named_so (codes "imports") i
         (says_by (λ method. root_request method (codes "imports" ∷ parts_left more)) (47 ∷ joined (codes "imports") more) (by_name (codes "imports") more)
         (behind imports_end [] more)
         (or_none (behind imports_end [] more)) (in_imports more u))
-    by false e false i true f modems g = named_so (codes "jobs") f
+    by false e false i true f modems g numbers n = named_so (codes "jobs") f
         (says_by (λ method. root_request method (codes "jobs" ∷ parts_left more)) (47 ∷ joined (codes "jobs") more) (by_name (codes "jobs") more)
         (behind jobs_end jobs_below more)
         (or_none (behind jobs_end jobs_below more)) (in_jobs more u))
-    by false e false i false f true g = named_so (codes "modems") g (in_modems more u)
-    by false e false i false f false g =
-        says_by (λ method. root_request method (text ∷ parts_left more)) (47 ∷ joined text more) (by_name text more) None (rw (e, i, f, g)) (other_name text (parts_left more) e i f g)
+    by false e false i false f true g numbers n = named_so (codes "modems") g
+        (says_by (λ method. root_request method (codes "modems" ∷ parts_left more)) (47 ∷ joined (codes "modems") more) (by_name (codes "modems") more) (behind None modems_below more)
+        (or_none (behind None modems_below more)) (in_modems more u))
+    by false e false i false f false g true n = named_so (codes "numbers") n (in_numbers more)
+    by false e false i false f false g false n =
+        says_by (λ method. root_request method (text ∷ parts_left more)) (47 ∷ joined text more) (by_name text more) None (rw (e, i, f, g, n)) (other_name text (parts_left more) e i f g n)
 
 in_collections : (path : List ℕ) → IsUtf8 path → Says (λ method. root_request method (parts path)) (47 ∷ path) (first collections path)
 in_collections path u =

@@ -6,7 +6,7 @@ use Rattle.fax_job.specs.declared.lines.LineKind.TheVariants.{NoColon}
 use Rattle.fax_job.specs.declared.order.OrderFault.TheVariants.{NoPages}
 use Rattle.fax_job.specs.declared.refusal.BodyFault.TheVariants as body
 use Rattle.fax_job.specs.declared.refusal.Refusal.TheVariants.{NoRoute, BadBody, ModemBusy, PageOrder, Rejected}
-use Rattle.fax_core.specs.Reply.{Handed, Submitted, Brought, Stands, Given, Confirmed, NoKeys, Notice, HeldGrant, Pages}
+use Rattle.fax_core.specs.Reply.{Handed, Submitted, Brought, Stands, Given, Confirmed, Floored, NoKeys, Notice, HeldGrant, Pages}
 use Rattle.fax_ask.specs.Response.{reply_body, refused_body}
 
 submitted : reply_body (Submitted 1) ≡ codes "{\"job\":1}"
@@ -16,6 +16,10 @@ submitted = refl
 stands : reply_body (Stands 1 1) ≡ codes "{\"job\":1,\"state\":1}"
 unfolding digits escape_byte
 stands = refl
+
+floored : reply_body (Floored 999999999999999999) ≡ codes "{\"floor\":999999999999999999}"
+unfolding digits escape_byte
+floored = refl
 
 brought : reply_body (Brought 1 5) ≡ codes "{\"job\":1,\"state\":5}"
 unfolding digits escape_byte

@@ -1,13 +1,21 @@
 -- Worked rows: which method and path name which request.
 use Rattle.std.specs.Prelude.{◌≡◌, refl, codes, Some, None}
 use Rattle.fax_ask.specs.declared.method.Method.TheVariants.{Get, Post, Another}
-use Rattle.fax_ask.specs.declared.request.Request.TheVariants.{Submit, Import, Kill, Alter, Show, Next, Call}
+use Rattle.fax_ask.specs.declared.request.Request.TheVariants.{Submit, Import, Kill, Alter, Show, Next, Call, Floor}
 use Rattle.fax_ask.specs.declared.view.View.TheVariants as view
 use Rattle.fax_ask.specs.Request.{request_of}
 
 submit : request_of Post (codes "/jobs") ≡ Some Submit
 unfolding request_of
 submit = refl
+
+floor : request_of Post (codes "/numbers/floor") ≡ Some Floor
+unfolding request_of
+floor = refl
+
+no_floor_of_a_client : request_of Post (codes "/numbers/floor/desk") ≡ None
+unfolding request_of
+no_floor_of_a_client = refl
 
 import : request_of Post (codes "/imports") ≡ Some Import
 unfolding request_of

@@ -2,7 +2,7 @@
 use Rattle.std.specs.Prelude.{ℕ, List}
 use Rattle.fax_core.specs.Reply as machine
 use Rattle.fax_ask.specs.declared.answer.Answer.{Answer}
-use Rattle.fax_ask.specs.declared.answer.Answer.TheVariants.{Submitted, Brought, Stands, Marked, NoneToSend, Given, Called, Confirmed, Lines, Listing}
+use Rattle.fax_ask.specs.declared.answer.Answer.TheVariants.{Submitted, Brought, Stands, Marked, NoneToSend, Given, Called, Confirmed, Floored, Lines, Listing}
 use Rattle.fax_ask.specs.declared.answer.Handed.{Handed}
 
 -- what a client is told: the machine's reply to a step, the key lines of a job, or the listing of all
@@ -17,6 +17,7 @@ grant_told handed = record { grant = handed.grant; job = handed.job; dial = hand
 abbrev pub told : Answer → Told
 told (Submitted job) = Replied (machine.Submitted job)
 told (Brought job state) = Replied (machine.Brought job state)
+told (Floored floor) = Replied (machine.Floored floor)
 told (Stands job state) = Replied (machine.Stands job state)
 told (Marked down) = Replied (machine.Marked down)
 told NoneToSend = Replied machine.NoneToSend

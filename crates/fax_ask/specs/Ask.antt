@@ -24,8 +24,8 @@ use Rattle.fax_ask.specs.declared.ask.Ask.{Ask}
 use Rattle.fax_ask.specs.declared.ask.Ask.TheVariants.{Step, View}
 use Rattle.fax_ask.specs.declared.method.Method.{Method}
 use Rattle.fax_ask.specs.declared.request.Request.{Request}
-use Rattle.fax_ask.specs.declared.request.Request.TheVariants.{Submit, Import, Suspend, Resume, Kill, Alter, Show, Ready, Down, Next, Call, Page, Outcome}
-use Rattle.fax_ask.specs.Report.{IsReportRefusal, Reports, call_in, outcome_in, page_in}
+use Rattle.fax_ask.specs.declared.request.Request.TheVariants.{Submit, Import, Suspend, Resume, Kill, Alter, Show, Ready, Down, Next, Call, Page, Outcome, Floor}
+use Rattle.fax_ask.specs.Report.{IsReportRefusal, Reports, call_in, outcome_in, page_in, upto_in}
 use Rattle.fax_ask.specs.Request.{request_of}
 
 -- ---- bodies
@@ -72,6 +72,7 @@ Asks (Next modem) body ask = ask ≡ Step (machine.Next modem)
 Asks (Call grant) body ask = (call : CallEnd) × Reports call_in body call × (ask ≡ Step (machine.CallReport grant call))
 Asks (Page grant) body ask = (page : ℕ) × Reports page_in body page × (ask ≡ Step (machine.PageReport grant page))
 Asks (Outcome grant) body ask = (outcome : Said) × Reports outcome_in body outcome × (ask ≡ Step (machine.OutcomeReport grant outcome))
+Asks Floor body ask = (upto : ℕ) × Reports upto_in body upto × (ask ≡ Step (machine.GiveUp upto))
 
 -- why a request with this body is refused: a body that isn't read has no fault
 abbrev pub IsBodyRefusal : Request → List ℕ → Refusal → Type 0
@@ -81,6 +82,7 @@ IsBodyRefusal (Alter job) body refusal = IsLinesRefusal alter_of body refusal
 IsBodyRefusal (Call grant) body refusal = IsReportRefusal call_in body refusal
 IsBodyRefusal (Page grant) body refusal = IsReportRefusal page_in body refusal
 IsBodyRefusal (Outcome grant) body refusal = IsReportRefusal outcome_in body refusal
+IsBodyRefusal Floor body refusal = IsReportRefusal upto_in body refusal
 -- a modem's name is kept in memory
 IsBodyRefusal (Ready modem) body refusal = refusal ≡ Unavailable
 IsBodyRefusal (Down modem) body refusal = refusal ≡ Unavailable

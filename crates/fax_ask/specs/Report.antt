@@ -1,4 +1,4 @@
--- What workers report, in JSON (RFC 8259).
+-- What workers report, and what a client gives up, in JSON (RFC 8259).
 use Rattle.std.specs.Prelude.{◌≡◌, ◌⊎◌, ⊤, ℕ, Bool, false, not, ◌&&◌, ◌==◌, List, [], ◌∷◌, length, codes, nat_le, Option, Some, None, option_and_then, if◌then◌else◌}
 use Rattle.std.specs.List.{list_all}
 use Rattle.std.specs.Option.{option_map}
@@ -9,6 +9,7 @@ use Rattle.serde_json.specs.Read.{read}
 use Rattle.fax_job.specs.declared.job.Call.{Call}
 use Rattle.fax_job.specs.declared.job.Call.TheVariants.{Connected, Busy, NoAnswer, NoCarrier, Other}
 use Rattle.fax_job.specs.Limits.{most_pages}
+use Rattle.fax_job.specs.Number.{request_number}
 use Rattle.fax_job.specs.Value.{ends_with_backslash}
 use Rattle.fax_job.specs.declared.refusal.BodyFault.{BodyFault}
 use Rattle.fax_job.specs.declared.refusal.BodyFault.TheVariants.{Line, Order, BadJson, BadField}
@@ -50,6 +51,9 @@ call_in json = option_and_then call_named (text_at (codes "result") json)
 
 unfoldable pub page_in : Data → Option ℕ
 page_in json = option_and_then (within 1 most_pages) (number_at (codes "page") json)
+
+unfoldable pub upto_in : Data → Option ℕ
+upto_in json = option_and_then request_number (number_at (codes "upto") json)
 
 abbrev pub ending_named : List ℕ → Option Ending
 ending_named name =

@@ -6,7 +6,7 @@ use Rattle.fax_job.specs.Number.{request_number_of}
 use Rattle.fax_ask.specs.declared.method.Method.{Method}
 use Rattle.fax_ask.specs.declared.method.Method.TheVariants.{Get, Post, Another}
 use Rattle.fax_ask.specs.declared.request.Request.{Request}
-use Rattle.fax_ask.specs.declared.request.Request.TheVariants.{Submit, Import, Suspend, Resume, Kill, Alter, Show, Ready, Down, Next, Call, Page, Outcome}
+use Rattle.fax_ask.specs.declared.request.Request.TheVariants.{Submit, Import, Suspend, Resume, Kill, Alter, Show, Ready, Down, Next, Call, Page, Outcome, Floor}
 use Rattle.fax_ask.specs.declared.view.View.TheVariants as view
 use Rattle.fax_ask.specs.Path.{parts, two_texts}
 
@@ -73,12 +73,18 @@ abbrev pub imports_request : Method → List (List ℕ) → Option Request
 imports_request Post [] = Some Import
 imports_request method rest = None
 
+-- POST /numbers/floor
+abbrev pub numbers_request : Method → List (List ℕ) → Option Request
+numbers_request Post (name ∷ []) = if bytes_eq name (codes "floor") then Some Floor else None
+numbers_request method rest = None
+
 abbrev pub root_request : Method → List (List ℕ) → Option Request
 root_request method (collection ∷ rest) =
     if bytes_eq collection (codes "jobs") then jobs_request method rest
     else if bytes_eq collection (codes "modems") then modems_request method rest
     else if bytes_eq collection (codes "grants") then grants_request method rest
     else if bytes_eq collection (codes "imports") then imports_request method rest
+    else if bytes_eq collection (codes "numbers") then numbers_request method rest
     else None
 root_request method [] = None
 

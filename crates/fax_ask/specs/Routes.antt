@@ -12,7 +12,7 @@ use Rattle.fax_ask.specs.declared.method.Method.TheVariants.{Get, Post, Another}
 use Rattle.fax_ask.specs.declared.request.Request.{Request}
 use Rattle.fax_ask.specs.declared.request.Request.TheVariants as request
 use Rattle.fax_ask.specs.declared.routes.Route.{Route}
-use Rattle.fax_ask.specs.declared.routes.Route.TheVariants.{Jobs, Job, Suspend, Resume, Kill, Alter, Ready, Down, Next, Call, Page, Outcome, Imports}
+use Rattle.fax_ask.specs.declared.routes.Route.TheVariants.{Jobs, Job, Suspend, Resume, Kill, Alter, Ready, Down, Next, Call, Page, Outcome, Imports, Floor}
 use Rattle.fax_ask.specs.declared.routes.TheConstants.{ROUTES}
 use Rattle.fax_ask.specs.declared.view.View.TheVariants as view
 
@@ -45,6 +45,7 @@ abbrev pub posted : Route → Option (List ℕ) → Option Request
 posted Jobs id = Some request.Submit
 posted Job id = None
 posted Imports id = Some request.Import
+posted Floor id = Some request.Floor
 posted Suspend id = option_map request.Suspend (number_in id)
 posted Resume id = option_map request.Resume (number_in id)
 posted Kill id = option_map request.Kill (number_in id)

@@ -20,6 +20,8 @@ pub enum Answer<'a> {
     Submitted { job: u32 },
     /// The number of the job that was brought in, and its state, from 1 to 8 (sendq(5)).
     Brought { job: u32, state: u8 },
+    /// Through which number a client has given up its replies.
+    Floored { floor: u64 },
     /// The state of a job, from 1 to 8 (sendq(5)).
     Stands { job: u32, state: u8 },
     /// Whether a modem is down.

@@ -8,7 +8,7 @@ ghost use Rattle.fax_core.specs.Ask.{HasCounts, HasLimits as HasOrderLimits};
 ghost use Rattle.fax_ask.specs.Ask.{Asks, HasLimits, States, IsAsk, IsBodyRefusal, IsLawful, IsLinesRefusal, IsRefused};
 
 use crate::method::Method;
-use crate::report::{read_call, read_outcome, read_page};
+use crate::report::{read_call, read_outcome, read_page, read_upto};
 use crate::request::Request;
 use crate::routes::Routes;
 use crate::view::View;
@@ -92,6 +92,9 @@ fn read_body(alloc: Global, request: Request<'_>, body: &[u8]) -> Result<Ask, Re
             let outcome = read_outcome(alloc, body)?;
             Step::OutcomeReport { grant, outcome }
         }
+        Request::Floor => Step::GiveUp {
+            upto: read_upto(alloc, body)?,
+        },
     };
     Ok(Ask::Step(step))
 }

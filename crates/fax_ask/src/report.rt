@@ -1,9 +1,9 @@
-//! What workers report, from the JSON (RFC 8259) of a body.
+//! What workers report, and what a client gives up, from the JSON (RFC 8259) of a body.
 
 ghost use Rattle.std.specs.Prelude.{◌≡◌, ◌≤◌, IfOk, IfErr};
 ghost use Rattle.std.specs.List.{list_all};
 ghost use Rattle.std.specs.Option.{option_copied, option_map};
-ghost use Rattle.fax_ask.specs.Report.{IsJson, IsJsonRefusal, IsReportRefusal, Reports, begins_with_space, bool_at, call_in, call_named, ending_named, is_reason, is_reason_byte, number_at, outcome_in, outcome_read, page_in, reason_at, reason_of, text_at, within};
+ghost use Rattle.fax_ask.specs.Report.{IsJson, IsJsonRefusal, IsReportRefusal, Reports, begins_with_space, bool_at, call_in, call_named, ending_named, is_reason, is_reason_byte, number_at, outcome_in, outcome_read, page_in, reason_at, reason_of, text_at, upto_in, within};
 ghost use Rattle.fax_job.specs.declared.refusal.Refusal.TheVariants.{Unavailable};
 ghost use Rattle.serde_json.specs.Errors.{IsMemory};
 ghost use Rattle.serde_json.specs.Find.{get};
@@ -11,7 +11,7 @@ ghost use Rattle.serde_json.specs.View.{view};
 
 use fax_core::{Ending, Outcome};
 use fax_job::limits::MOST_PAGES;
-use fax_job::{BodyFault, Call, Refusal, Status, ends_with_backslash};
+use fax_job::{BodyFault, Call, Refusal, RequestNumber, Status, ends_with_backslash};
 use serde_json::{Error, Value};
 use std::alloc::Global;
 
@@ -63,6 +63,19 @@ pub(crate) fn read_outcome(alloc: Global, body: &[u8]) -> Result<Outcome, Refusa
     let json = read_json(alloc, body)?;
     match outcome_in(&json) {
         Some(outcome) => keep_reason(alloc, outcome),
+        None => Err(BAD_FIELD),
+    }
+}
+
+/// Through which number the client gives up its replies, by a body.
+#[tactic(auto, using(crate::proofs::ReportLemmas::json_refused))]
+pub(crate) fn read_upto(alloc: Global, body: &[u8]) -> Result<RequestNumber, Refusal>
+    ensures upto { IfOk result (Reports upto_in body.now) }
+    ensures refused { IfErr result (IsReportRefusal upto_in body.now) }
+{
+    let json = read_json(alloc, body)?;
+    match upto_in(&json) {
+        Some(upto) => Ok(upto),
         None => Err(BAD_FIELD),
     }
 }
@@ -149,6 +162,13 @@ fn outcome_in(json: &Value) -> Option<OutcomeText<'_>>
         ending,
         reason,
     })
+}
+
+#[tactic(auto, unfolding(crate::specs::Report::upto_in))]
+fn upto_in(json: &Value) -> Option<RequestNumber>
+    ensures { result ≡ upto_in (view json.now) }
+{
+    RequestNumber::new(number_at(json, "upto")?)
 }
 
 fn ending_named(name: &str) -> Option<Ending>

@@ -25,6 +25,7 @@ pub enum Request<'a> {
     Call { grant: u64 },
     Page { grant: u64 },
     Outcome { grant: u64 },
+    Floor,
 }
 
 impl<'a> Request<'a> {
@@ -70,6 +71,7 @@ fn posted(route: Route, id: Option<&str>) -> Option<Request<'_>>
         Route::Call => Some(Request::Call { grant: number(id)? }),
         Route::Page => Some(Request::Page { grant: number(id)? }),
         Route::Outcome => Some(Request::Outcome { grant: number(id)? }),
+        Route::Floor => Some(Request::Floor),
     }
 }
 

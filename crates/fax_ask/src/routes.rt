@@ -25,10 +25,11 @@ pub(crate) enum Route {
     Page,
     Outcome,
     Imports,
+    Floor,
 }
 
 /// The pattern of each route: `{id}` is the number of a job or a grant, or the name of a modem.
-static ROUTES: [(&str, Route); 13] = [
+static ROUTES: [(&str, Route); 14] = [
     ("/jobs", Route::Jobs),
     ("/jobs/{id}", Route::Job),
     ("/jobs/{id}/suspend", Route::Suspend),
@@ -42,6 +43,7 @@ static ROUTES: [(&str, Route); 13] = [
     ("/grants/{id}/page", Route::Page),
     ("/grants/{id}/outcome", Route::Outcome),
     ("/imports", Route::Imports),
+    ("/numbers/floor", Route::Floor),
 ];
 
 /// The routes of requests, in a router.

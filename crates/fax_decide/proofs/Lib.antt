@@ -15,3 +15,4 @@ mod PlainLemmas
 mod ImportLemmas
 pub mod OpenLemmas
 pub mod FreeLemmas
+mod FloorLemmas

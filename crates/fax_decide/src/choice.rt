@@ -12,7 +12,8 @@ ghost use Rattle.fax_core.specs.Decisions.{grant as granted_if};
 ghost use Rattle.fax_core.specs.Job.{job_of};
 ghost use Rattle.fax_core.specs.Fits.{fits};
 ghost use Rattle.fax_core.specs.Machine.{dial_of, given, given_best, given_to, handed, held_by};
-ghost use Rattle.fax_core.specs.Queue.{Queue, Entry, job_numbered};
+ghost use Rattle.fax_core.specs.Ledger.{Ledger};
+ghost use Rattle.fax_core.specs.Queue.{Queue, job_numbered};
 ghost use Rattle.fax_core.specs.Reply.{HeldGrant};
 ghost use Rattle.fax_core.specs.Sound.{Sound};
 ghost use Rattle.fax_core.specs.State.{calls_to};
@@ -52,7 +53,7 @@ pub(crate) fn decide_next<S: Alter>(
 ) -> Result<Decision, Unavailable>
     ensures leaves { Looks S.Store store.old store.new }
     ensures opens { OnOk result (StaysOpen (shown S.Store store.old) (shown S.Store store.new)) }
-    ensures decided { (m : Queue) (k : List Entry) → Sound m → Means (shown S.Store store.old) m k
+    ensures decided { (m : Queue) (k : Ledger) → Sound m → Means (shown S.Store store.old) m k
         → Serves (shown S.Store store.new) → next_grant ≡ m.next_grant
         → IfOk result (Decides
         (given_to (settings_of office.now.setup office.now.controls) (aged t m) t modem) m t) }
@@ -74,7 +75,7 @@ pub(crate) fn decide_next<S: Alter>(
 fn busy<S: Alter>(store: &mut Store<S>, alloc: Global, hold: Hold) -> Result<Reply, Unavailable>
     ensures leaves { Looks S.Store store.old store.new }
     ensures opens { OnOk result (StaysOpen (shown S.Store store.old) (shown S.Store store.new)) }
-    ensures decided { (m : Queue) (k : List Entry) (t : ℕ) (modem : List ℕ) (g : OneGrant) → Sound m
+    ensures decided { (m : Queue) (k : Ledger) (t : ℕ) (modem : List ℕ) (g : OneGrant) → Sound m
         → Means (shown S.Store store.old) m k → Serves (shown S.Store store.new)
         → held_by modem m ≡ Some g → hold ≡ as_hold g
         → IfOk result (λ reply. reply
@@ -113,7 +114,7 @@ fn decide_free<S: Alter>(
 ) -> Result<Decision, Unavailable>
     ensures leaves { Looks S.Store store.old store.new }
     ensures opens { OnOk result (StaysOpen (shown S.Store store.old) (shown S.Store store.new)) }
-    ensures decided { (m : Queue) (k : List Entry) → Sound m → Means (shown S.Store store.old) m k
+    ensures decided { (m : Queue) (k : Ledger) → Sound m → Means (shown S.Store store.old) m k
         → Serves (shown S.Store store.new) → next_grant ≡ m.next_grant
         → IfOk result (Decides (given_best (settings_of office.now.setup office.now.controls) (aged t m) modem
         (best (settings_of office.now.setup office.now.controls) (aged t m) t modem)) m t) }
@@ -134,7 +135,7 @@ fn best<S: Alter>(
 ) -> Result<Option<Job>, Unavailable>
     ensures leaves { Looks S.Store store.old store.new }
     ensures opens { OnOk result (StaysOpen (shown S.Store store.old) (shown S.Store store.new)) }
-    ensures found { (m : Queue) (k : List Entry) → Sound m → Means (shown S.Store store.old) m k
+    ensures found { (m : Queue) (k : Ledger) → Sound m → Means (shown S.Store store.old) m k
         → Serves (shown S.Store store.new)
         → IfOk result (λ found. option_map (λ f. job_of f) found
         ≡ best (settings_of office.now.setup office.now.controls) (aged t m) t modem.now) }
@@ -159,7 +160,7 @@ fn first<S: Alter>(
 ) -> Result<Option<u32>, Unavailable>
     ensures leaves { Looks S.Store store.old store.new }
     ensures opens { OnOk result (StaysOpen (shown S.Store store.old) (shown S.Store store.new)) }
-    ensures found { (m : Queue) (k : List Entry) → Means (shown S.Store store.old) m k
+    ensures found { (m : Queue) (k : Ledger) → Means (shown S.Store store.old) m k
         → Serves (shown S.Store store.new)
         → IfOk result (IsFirst (settings_of office.now.setup office.now.controls) m t modem.now) }
 {
@@ -183,7 +184,7 @@ fn first_or_busy<S: Alter>(
 ) -> Result<Option<u32>, Unavailable>
     ensures leaves { Looks S.Store store.old store.new }
     ensures opens { OnOk result (StaysOpen (shown S.Store store.old) (shown S.Store store.new)) }
-    ensures found { (m : Queue) (k : List Entry) → Means (shown S.Store store.old) m k
+    ensures found { (m : Queue) (k : Ledger) → Means (shown S.Store store.old) m k
         → Serves (shown S.Store store.new)
         → IsBusy (settings_of office.now.setup office.now.controls) m t busy.old
         → IfOk result (λ found. IsBusy (settings_of office.now.setup office.now.controls) m t busy.new
@@ -204,7 +205,7 @@ fn first_but<S: Alter>(
 ) -> Result<Option<u32>, Unavailable>
     ensures leaves { Looks S.Store store.old store.new }
     ensures opens { OnOk result (StaysOpen (shown S.Store store.old) (shown S.Store store.new)) }
-    ensures found { (m : Queue) (k : List Entry) → Means (shown S.Store store.old) m k
+    ensures found { (m : Queue) (k : Ledger) → Means (shown S.Store store.old) m k
         → Serves (shown S.Store store.new)
         → IsBusy (settings_of office.now.setup office.now.controls) m t (Some busy)
         → IfOk result (IsFirst (settings_of office.now.setup office.now.controls) m t modem.now) }
@@ -228,7 +229,7 @@ fn first_of<S: Alter>(
     ensures same_reference { candidates.new.store.ghost_name ≡ candidates.old.store.ghost_name }
     ensures leaves { Looks S.Store candidates.old.store.now candidates.new.store.now }
     ensures opens { OnOk result (StaysOpen (shown S.Store candidates.old.store.now) (shown S.Store candidates.new.store.now)) }
-    ensures found { (m : Queue) (k : List Entry) → Means (shown S.Store candidates.old.store.now) m k
+    ensures found { (m : Queue) (k : Ledger) → Means (shown S.Store candidates.old.store.now) m k
         → Serves (shown S.Store candidates.new.store.now) → candidates.old.asked.t ≡ t
         → StandsAt candidates.old.asked m [] (into_iter_items candidates.old.page) candidates.old.front candidates.old.most
         → IsBusy (settings_of office.now.setup office.now.controls) m t busy.old
@@ -269,7 +270,7 @@ fn goes<S: Alter>(
     ensures opens { OnOk result (StaysOpen (shown S.Store candidates.old.store.now) (shown S.Store candidates.new.store.now)) }
     ensures same { (candidates.new.asked ≡ candidates.old.asked) × (candidates.new.page ≡ candidates.old.page)
         × (candidates.new.front ≡ candidates.old.front) × (candidates.new.most ≡ candidates.old.most) }
-    ensures told { (m : Queue) (k : List Entry) → Means (shown S.Store candidates.old.store.now) m k
+    ensures told { (m : Queue) (k : Ledger) → Means (shown S.Store candidates.old.store.now) m k
         → Serves (shown S.Store candidates.new.store.now)
         → IsBusy (settings_of office.now.setup office.now.controls) m t busy.old
         → IfOk result (λ goes. (goes ≡ (may_call (settings_of office.now.setup office.now.controls) prospect.dial

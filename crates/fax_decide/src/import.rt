@@ -8,7 +8,8 @@ ghost use Rattle.fax_core.specs.Ageing.{aged};
 ghost use Rattle.fax_core.specs.Import.{bring};
 ghost use Rattle.fax_core.specs.Job.{job_of};
 ghost use Rattle.fax_core.specs.Machine.{brought_in};
-ghost use Rattle.fax_core.specs.Queue.{Queue, Entry};
+ghost use Rattle.fax_core.specs.Ledger.{Ledger};
+ghost use Rattle.fax_core.specs.Queue.{Queue};
 ghost use Rattle.fax_core.specs.Reply.{Brought};
 ghost use Rattle.fax_core.specs.Settings.{Rule as MachineRule};
 ghost use Rattle.fax_core.specs.Sound.{Sound};
@@ -43,7 +44,7 @@ pub(crate) fn decide_import<S: Alter>(
 ) -> Result<Decision, Unavailable>
     ensures leaves { Looks S.Store store.old store.new }
     ensures opens { OnOk result (StaysOpen (shown S.Store store.old) (shown S.Store store.new)) }
-    ensures decided { (m : Queue) (k : List Entry) → Sound m → Means (shown S.Store store.old) m k
+    ensures decided { (m : Queue) (k : Ledger) → Sound m → Means (shown S.Store store.old) m k
         → Serves (shown S.Store store.new) → meta.now ≡ meta_of m → IfOk result (Decides
         (brought_in (settings_of office.now.setup office.now.controls) (aged t m) t
         (machine_rule office.now.setup (rule_for office.now.controls import.order.dial))
@@ -68,7 +69,7 @@ fn brought<S: Alter>(
 ) -> Result<Decision, Unavailable>
     ensures leaves { Looks S.Store store.old store.new }
     ensures opens { OnOk result (StaysOpen (shown S.Store store.old) (shown S.Store store.new)) }
-    ensures decided { (m : Queue) (k : List Entry) (rule : MachineRule) → Sound m
+    ensures decided { (m : Queue) (k : Ledger) (rule : MachineRule) → Sound m
         → Means (shown S.Store store.old) m k → Serves (shown S.Store store.new)
         → meta ≡ meta_of m → job.job ≡ m.next_job → IfOk result (Decides
         (brought_in (settings_of office.now.setup office.now.controls) (aged t m) t rule (Ok (job_of job))) m t) }
@@ -87,7 +88,7 @@ fn told<S: Alter>(
 ) -> Result<Reply, Unavailable>
     ensures leaves { Looks S.Store store.old store.new }
     ensures opens { OnOk result (StaysOpen (shown S.Store store.old) (shown S.Store store.new)) }
-    ensures told { (m : Queue) (k : List Entry) → Means (shown S.Store store.old) m k
+    ensures told { (m : Queue) (k : Ledger) → Means (shown S.Store store.old) m k
         → Serves (shown S.Store store.new) → IfOk result (λ reply. reply ≡ accepted_response
         (Replied (Brought job.now.job
         (job_state (settings_of office.now.setup office.now.controls) m t (job_of job.now))))) }

@@ -8,7 +8,8 @@ ghost use Rattle.fax_core.specs.Ageing.{aged};
 ghost use Rattle.fax_core.specs.Change.{changed as changed_by, decided};
 ghost use Rattle.fax_core.specs.Job.{job_of};
 ghost use Rattle.fax_core.specs.Machine.{changed as change_step, on_job};
-ghost use Rattle.fax_core.specs.Queue.{Queue, Entry, job_numbered};
+ghost use Rattle.fax_core.specs.Ledger.{Ledger};
+ghost use Rattle.fax_core.specs.Queue.{Queue, job_numbered};
 ghost use Rattle.fax_core.specs.Reply.{Stands};
 ghost use Rattle.fax_core.specs.State.{state as job_state};
 ghost use Rattle.fax_store.specs.Calls.{Looks, shown};
@@ -65,7 +66,7 @@ pub(crate) fn decide_on_job<S: Alter>(
 ) -> Result<Decision, Unavailable>
     ensures leaves { Looks S.Store store.old store.new }
     ensures opens { OnOk result (StaysOpen (shown S.Store store.old) (shown S.Store store.new)) }
-    ensures decided { (m : Queue) (k : List Entry) → Means (shown S.Store store.old) m k
+    ensures decided { (m : Queue) (k : Ledger) → Means (shown S.Store store.old) m k
         → Serves (shown S.Store store.new)
         → IfOk result (Decides (on_job (settings_of office.now.setup office.now.controls) (aged t m) t
         (decision_on ask t) (job_numbered number (aged t m))) m t) }
@@ -90,7 +91,7 @@ fn changed<S: Alter>(
 ) -> Result<Decision, Unavailable>
     ensures leaves { Looks S.Store store.old store.new }
     ensures opens { OnOk result (StaysOpen (shown S.Store store.old) (shown S.Store store.new)) }
-    ensures decided { (m : Queue) (k : List Entry) → Means (shown S.Store store.old) m k
+    ensures decided { (m : Queue) (k : Ledger) → Means (shown S.Store store.old) m k
         → Serves (shown S.Store store.new) → job_numbered job.job (aged t m) ≡ Some (job_in (aged t m) job)
         → IfOk result (Decides (change_step (settings_of office.now.setup office.now.controls) (aged t m) t
         (Ok (changed_by change (job_in (aged t m) job)))) m t) }
@@ -112,7 +113,7 @@ fn stands<S: Alter>(
 ) -> Result<Reply, Unavailable>
     ensures leaves { Looks S.Store store.old store.new }
     ensures opens { OnOk result (StaysOpen (shown S.Store store.old) (shown S.Store store.new)) }
-    ensures told { (m : Queue) (k : List Entry) → Means (shown S.Store store.old) m k
+    ensures told { (m : Queue) (k : Ledger) → Means (shown S.Store store.old) m k
         → Serves (shown S.Store store.new) → IfOk result (λ reply. reply ≡ accepted_response
         (Replied (Stands job.now.job
         (job_state (settings_of office.now.setup office.now.controls) m t (job_of job.now))))) }

@@ -9,6 +9,7 @@ mod choice;
 mod decision;
 mod effect;
 mod fault;
+mod floors;
 mod import;
 mod jobs;
 mod modems;

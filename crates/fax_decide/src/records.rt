@@ -4,7 +4,8 @@ ghost use Rattle.std.specs.Prelude.{◌≡◌, ◌<◌, ◌≤◌, List, MatchOp
 ghost use Rattle.std.specs.Option.{option_map};
 ghost use Rattle.fax_core.specs.Ageing.{aged};
 ghost use Rattle.fax_core.specs.Job.{job_of};
-ghost use Rattle.fax_core.specs.Queue.{Queue, Entry, job_numbered, grant_numbered};
+ghost use Rattle.fax_core.specs.Ledger.{Ledger};
+ghost use Rattle.fax_core.specs.Queue.{Queue, job_numbered, grant_numbered};
 ghost use Rattle.fax_job.specs.Limits.{last_grant, last_job};
 ghost use Rattle.fax_store.specs.Calls.{Looks, shown};
 ghost use Rattle.fax_store.specs.Store.{Means, Serves, StaysOpen};
@@ -34,7 +35,7 @@ pub(crate) fn job_at<S: Alter>(
 ) -> Result<Option<Job>, StoreFault>
     ensures leaves { Looks S.Store store.old store.new }
     ensures opens { OnOk result (StaysOpen (shown S.Store store.old) (shown S.Store store.new)) }
-    ensures found { (m : Queue) (k : List Entry) → Means (shown S.Store store.old) m k
+    ensures found { (m : Queue) (k : Ledger) → Means (shown S.Store store.old) m k
         → Serves (shown S.Store store.new)
         → IfOk result (λ found. option_map (λ f. job_of f) found ≡ job_numbered number (aged t m)) }
     ensures past { last_job < number → result ≡ Ok None }
@@ -56,7 +57,7 @@ pub(crate) fn brief_at<S: Alter>(
 ) -> Result<Option<Job>, StoreFault>
     ensures leaves { Looks S.Store store.old store.new }
     ensures opens { OnOk result (StaysOpen (shown S.Store store.old) (shown S.Store store.new)) }
-    ensures found { (m : Queue) (k : List Entry) → Means (shown S.Store store.old) m k
+    ensures found { (m : Queue) (k : Ledger) → Means (shown S.Store store.old) m k
         → Serves (shown S.Store store.new)
         → IfOk result (λ found. option_map (job_in (aged t m)) found ≡ job_numbered number (aged t m)) }
     ensures past { last_job < number → result ≡ Ok None }
@@ -77,7 +78,7 @@ pub(crate) fn grant_at<S: Alter>(
 ) -> Result<Option<Grant>, StoreFault>
     ensures leaves { Looks S.Store store.old store.new }
     ensures opens { OnOk result (StaysOpen (shown S.Store store.old) (shown S.Store store.new)) }
-    ensures found { (m : Queue) (k : List Entry) → Means (shown S.Store store.old) m k
+    ensures found { (m : Queue) (k : Ledger) → Means (shown S.Store store.old) m k
         → Serves (shown S.Store store.new) → IfOk result (λ found. found ≡ grant_numbered number m) }
     ensures past { last_grant < number → result ≡ Ok None }
 {

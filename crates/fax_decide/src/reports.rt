@@ -11,7 +11,8 @@ ghost use Rattle.fax_core.specs.Job.{job_of};
 ghost use Rattle.fax_core.specs.Fits.{fits};
 ghost use Rattle.fax_core.specs.Machine.{reported, call_reply, page_reply, outcome_reply, keys_of_job, without_job};
 ghost use Rattle.fax_ask.specs.Detail.{has_detail};
-ghost use Rattle.fax_core.specs.Queue.{Queue, Entry, grant_numbered};
+ghost use Rattle.fax_core.specs.Ledger.{Ledger};
+ghost use Rattle.fax_core.specs.Queue.{Queue, grant_numbered};
 ghost use Rattle.fax_core.specs.Reply.{NoKeys, Pages, Refused, Stands};
 ghost use Rattle.fax_core.specs.Sound.{Sound};
 ghost use Rattle.fax_core.specs.State.{calls_to};
@@ -58,7 +59,7 @@ pub(crate) fn decide_report<S: Alter>(
 ) -> Result<Decision, Unavailable>
     ensures leaves { Looks S.Store store.old store.new }
     ensures opens { OnOk result (StaysOpen (shown S.Store store.old) (shown S.Store store.new)) }
-    ensures decided { (m : Queue) (k : List Entry) → Sound m → Means (shown S.Store store.old) m k
+    ensures decided { (m : Queue) (k : Ledger) → Sound m → Means (shown S.Store store.old) m k
         → Serves (shown S.Store store.new)
         → IfOk result (Decides (report_step (settings_of office.now.setup office.now.controls) (aged t m) t
         report (grant_numbered number m)) m t) }
@@ -85,7 +86,7 @@ fn report_on<S: Alter>(
 ) -> Result<Decision, Unavailable>
     ensures leaves { Looks S.Store store.old store.new }
     ensures opens { OnOk result (StaysOpen (shown S.Store store.old) (shown S.Store store.new)) }
-    ensures decided { (m : Queue) (k : List Entry) → Sound m → Means (shown S.Store store.old) m k
+    ensures decided { (m : Queue) (k : Ledger) → Sound m → Means (shown S.Store store.old) m k
         → Serves (shown S.Store store.new) → AreThere m t job grant → grant.confirmed ≤ most_pages
         → IfOk result (Decides (report_both (settings_of office.now.setup office.now.controls) (aged t m) t
         report (job_in (aged t m) job) grant) m t) }
@@ -227,7 +228,7 @@ fn decide_outcome<S: Alter>(
 ) -> Result<Decision, Unavailable>
     ensures leaves { Looks S.Store store.old store.new }
     ensures opens { OnOk result (StaysOpen (shown S.Store store.old) (shown S.Store store.new)) }
-    ensures decided { (m : Queue) (k : List Entry) → Sound m → Means (shown S.Store store.old) m k
+    ensures decided { (m : Queue) (k : Ledger) → Sound m → Means (shown S.Store store.old) m k
         → Serves (shown S.Store store.new) → AreThere m t job grant
         → IfOk result (Decides (reported (aged t m)
         (outcome_reply (settings_of office.now.setup office.now.controls) t) (job_in (aged t m) job)
@@ -253,7 +254,7 @@ fn ended<S: Alter>(
 ) -> Result<Decision, Unavailable>
     ensures leaves { Looks S.Store store.old store.new }
     ensures opens { OnOk result (StaysOpen (shown S.Store store.old) (shown S.Store store.new)) }
-    ensures decided { (m : Queue) (k : List Entry) → Sound m → Means (shown S.Store store.old) m k
+    ensures decided { (m : Queue) (k : Ledger) → Sound m → Means (shown S.Store store.old) m k
         → Serves (shown S.Store store.new) → AreThere m t job grant.now → grant.now.is_open ≡ true
         → IfOk result (Decides (reported (aged t m)
         (outcome_reply (settings_of office.now.setup office.now.controls) t) (job_in (aged t m) job)
@@ -280,7 +281,7 @@ fn stands<S: Alter>(
 ) -> Result<Reply, Unavailable>
     ensures leaves { Looks S.Store store.old store.new }
     ensures opens { OnOk result (StaysOpen (shown S.Store store.old) (shown S.Store store.new)) }
-    ensures told { (m : Queue) (k : List Entry) → Means (shown S.Store store.old) m k
+    ensures told { (m : Queue) (k : Ledger) → Means (shown S.Store store.old) m k
         → Serves (shown S.Store store.new) → IfOk result (λ reply. reply ≡ accepted_response
         (Replied (Stands job.now.job (state_with (settings_of office.now.setup office.now.controls)
         (job_of job.now) (calls_to job.now.dial m - 1) t)))) }

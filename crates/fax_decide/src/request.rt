@@ -2,7 +2,8 @@
 
 ghost use Rattle.std.specs.Prelude.{◌≡◌, List, IfOk, OnOk};
 ghost use Rattle.fax_core.specs.Machine.{step as step_of};
-ghost use Rattle.fax_core.specs.Queue.{Queue, Entry};
+ghost use Rattle.fax_core.specs.Ledger.{Ledger};
+ghost use Rattle.fax_core.specs.Queue.{Queue};
 ghost use Rattle.fax_core.specs.Sound.{Sound};
 ghost use Rattle.fax_tables.specs.Meta.{meta_of};
 ghost use Rattle.fax_store.specs.Calls.{Looks, shown};
@@ -13,6 +14,7 @@ ghost use Rattle.fax_decide.specs.Settings.{settings_of};
 use crate::choice::decide_next;
 use crate::decision::Decision;
 use crate::fault::Unavailable;
+use crate::floors::decide_floor;
 use crate::import::decide_import;
 use crate::jobs::{JobAsk, decide_on_job};
 use crate::modems::decide_mark;
@@ -36,7 +38,7 @@ pub fn decide<S: Alter>(
 ) -> Result<Decision, Unavailable>
     ensures leaves { Looks S.Store store.old store.new }
     ensures opens { OnOk result (StaysOpen (shown S.Store store.old) (shown S.Store store.new)) }
-    ensures decided { (m : Queue) (k : List Entry) → Sound m
+    ensures decided { (m : Queue) (k : Ledger) → Sound m
         → Means (shown S.Store store.old) m k → Serves (shown S.Store store.new)
         → meta.now ≡ meta_of m
         → IfOk result (Decides (step_of (settings_of office.now.setup office.now.controls) m t ask) m t) }
@@ -62,5 +64,6 @@ pub fn decide<S: Alter>(
         Ask::OutcomeReport { grant, outcome } => {
             decide_report(store, office, alloc, grant, Report::Outcome(outcome), t)
         }
+        Ask::GiveUp { upto } => decide_floor(alloc, upto),
     }
 }

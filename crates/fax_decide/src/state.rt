@@ -3,7 +3,8 @@
 ghost use Rattle.std.specs.Prelude.{◌≡◌, List, IfOk, OnOk};
 ghost use Rattle.sqlite.specs.Held.{state};
 ghost use Rattle.fax_core.specs.Job.{job_of};
-ghost use Rattle.fax_core.specs.Queue.{Queue, Entry};
+ghost use Rattle.fax_core.specs.Ledger.{Ledger};
+ghost use Rattle.fax_core.specs.Queue.{Queue};
 ghost use Rattle.fax_core.specs.State.{state as job_state};
 ghost use Rattle.fax_store.specs.Calls.{Looks, shown};
 ghost use Rattle.fax_store.specs.Store.{Means, Serves, StaysOpen};
@@ -62,7 +63,7 @@ pub(crate) fn state_of<S: Alter>(
 ) -> Result<u8, Unavailable>
     ensures leaves { Looks S.Store store.old store.new }
     ensures opens { OnOk result (StaysOpen (shown S.Store store.old) (shown S.Store store.new)) }
-    ensures found { (m : Queue) (k : List Entry) → Means (shown S.Store store.old) m k
+    ensures found { (m : Queue) (k : Ledger) → Means (shown S.Store store.old) m k
         → Serves (shown S.Store store.new) → IfOk result (λ found.
         found ≡ job_state (settings_of office.now.setup office.now.controls) m t (job_of job.now)) }
 {

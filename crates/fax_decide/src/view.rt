@@ -8,7 +8,8 @@ ghost use Rattle.fax_ask.specs.Response.{accepted_response};
 ghost use Rattle.fax_ask.specs.declared.view.View.TheVariants.{Job as OneJob, Jobs as AllJobs};
 ghost use Rattle.fax_core.specs.Ageing.{aged_job};
 ghost use Rattle.fax_core.specs.Job.{job_of};
-ghost use Rattle.fax_core.specs.Queue.{Queue, Entry};
+ghost use Rattle.fax_core.specs.Ledger.{Ledger};
+ghost use Rattle.fax_core.specs.Queue.{Queue};
 ghost use Rattle.fax_core.specs.Sound.{Sound};
 ghost use Rattle.fax_core.specs.State.{state as job_state};
 ghost use Rattle.fax_job.specs.JobLines.{job_lines};
@@ -45,7 +46,7 @@ pub fn show<S: Alter>(
 ) -> Result<Reply, Unavailable>
     ensures leaves { Looks S.Store store.old store.new }
     ensures opens { OnOk result (StaysOpen (shown S.Store store.old) (shown S.Store store.new)) }
-    ensures viewed { (m : Queue) (k : List Entry) → Sound m → Means (shown S.Store store.old) m k
+    ensures viewed { (m : Queue) (k : Ledger) → Sound m → Means (shown S.Store store.old) m k
         → Serves (shown S.Store store.new) → IfOk result (λ reply.
         reply ≡ view (settings_of office.now.setup office.now.controls) m t asked) }
 {
@@ -66,7 +67,7 @@ fn show_job<S: Alter>(
 ) -> Result<Reply, Unavailable>
     ensures leaves { Looks S.Store store.old store.new }
     ensures opens { OnOk result (StaysOpen (shown S.Store store.old) (shown S.Store store.new)) }
-    ensures viewed { (m : Queue) (k : List Entry) → Means (shown S.Store store.old) m k
+    ensures viewed { (m : Queue) (k : Ledger) → Means (shown S.Store store.old) m k
         → Serves (shown S.Store store.new) → IfOk result (λ reply.
         reply ≡ view (settings_of office.now.setup office.now.controls) m t (OneJob number)) }
 {
@@ -86,7 +87,7 @@ fn shown<S: Alter>(
 ) -> Result<Reply, Unavailable>
     ensures leaves { Looks S.Store store.old store.new }
     ensures opens { OnOk result (StaysOpen (shown S.Store store.old) (shown S.Store store.new)) }
-    ensures told { (m : Queue) (k : List Entry) → Means (shown S.Store store.old) m k
+    ensures told { (m : Queue) (k : Ledger) → Means (shown S.Store store.old) m k
         → Serves (shown S.Store store.new) → IfOk result (λ reply.
         reply ≡ accepted_response (Shown (printed (job_lines job.now
         (job_state (settings_of office.now.setup office.now.controls) m t (job_of job.now)))))) }
@@ -116,7 +117,7 @@ fn show_jobs<S: Alter>(
 ) -> Result<Reply, Unavailable>
     ensures leaves { Looks S.Store store.old store.new }
     ensures opens { OnOk result (StaysOpen (shown S.Store store.old) (shown S.Store store.new)) }
-    ensures viewed { (m : Queue) (k : List Entry) → Sound m → Means (shown S.Store store.old) m k
+    ensures viewed { (m : Queue) (k : Ledger) → Sound m → Means (shown S.Store store.old) m k
         → Serves (shown S.Store store.new) → IfOk result (λ reply.
         reply ≡ view (settings_of office.now.setup office.now.controls) m t AllJobs) }
 {
@@ -135,7 +136,7 @@ fn with_states<S: Alter>(
 ) -> Result<Vec<(Job, u8)>, Unavailable>
     ensures leaves { Looks S.Store store.old store.new }
     ensures opens { OnOk result (StaysOpen (shown S.Store store.old) (shown S.Store store.new)) }
-    ensures rows { (m : Queue) (k : List Entry) → Means (shown S.Store store.old) m k
+    ensures rows { (m : Queue) (k : Ledger) → Means (shown S.Store store.old) m k
         → Serves (shown S.Store store.new) → IfOk result (λ rows. rows.items
         ≡ map (λ job. with_state (settings_of office.now.setup office.now.controls) m t (aged_job t (job_of job))) jobs.items) }
 {

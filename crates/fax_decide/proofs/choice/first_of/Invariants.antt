@@ -2,7 +2,8 @@ use Rattle.std.proofs.Common.{◌≡◌, List, []}
 use Rattle.std.specs.Vec.Iter.{into_iter_items}
 use Rattle.sqlite.specs.Held.{state}
 use Rattle.fax_core.specs.Best.{may_go}
-use Rattle.fax_core.specs.Queue.{Queue, Entry}
+use Rattle.fax_core.specs.Ledger.{Ledger}
+use Rattle.fax_core.specs.Queue.{Queue}
 use Rattle.fax_store.specs.Candidates.{StandsAt}
 use Rattle.fax_store.specs.Calls.{Looks}
 use Rattle.fax_store.specs.Store.{Means, Serves, StaysOpen}
@@ -17,9 +18,9 @@ invariant-loop g l = record {
   asked : l.candidates.asked ≡ l.initial.candidates.asked;
   leaves : Looks g.S.Store l.initial.candidates.store.now l.candidates.store.now;
   opens : StaysOpen (state g.S.Store l.initial.candidates.store.now.conn) (state g.S.Store l.candidates.store.now.conn);
-  busy : (m : Queue) (k : List Entry) → Means (state g.S.Store l.initial.candidates.store.now.conn) m k → Serves (state g.S.Store l.candidates.store.now.conn)
+  busy : (m : Queue) (k : Ledger) → Means (state g.S.Store l.initial.candidates.store.now.conn) m k → Serves (state g.S.Store l.candidates.store.now.conn)
       → IsBusy (settings_of l.office.setup l.office.controls) m l.t l.initial.busy → IsBusy (settings_of l.office.setup l.office.controls) m l.t l.busy;
-  none : (m : Queue) (k : List Entry) → Means (state g.S.Store l.initial.candidates.store.now.conn) m k → Serves (state g.S.Store l.candidates.store.now.conn) → l.initial.candidates.asked.t ≡ l.t
+  none : (m : Queue) (k : Ledger) → Means (state g.S.Store l.initial.candidates.store.now.conn) m k → Serves (state g.S.Store l.candidates.store.now.conn) → l.initial.candidates.asked.t ≡ l.t
       → StandsAt l.initial.candidates.asked m [] (into_iter_items l.initial.candidates.page) l.initial.candidates.front l.initial.candidates.most → IsBusy (settings_of l.office.setup l.office.controls) m l.t l.initial.busy
       → NoneWent (may_go (settings_of l.office.setup l.office.controls) m l.initial.candidates.asked.t l.modem) l.initial.candidates.asked m (into_iter_items l.candidates.page) l.candidates.front l.candidates.most;
 }
