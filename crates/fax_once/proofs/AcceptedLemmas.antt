@@ -1,13 +1,15 @@
 -- What an accepted arrival had, and what any arrival leaves.
-use Rattle.std.proofs.Common.{◌≡◌, inl, inr, ℕ, Bool, true, false, cond, List, [], ◌∷◌, Option, Some, None, Ok, refl, sym, ap, subst, ◌∙◌, append-nil, arith}
+use Rattle.std.proofs.Common.{◌≡◌, ◌<◌, inl, inr, ℕ, Bool, true, false, cond, nat_lt, List, Option, Some, None, Ok, refl, sym, ap, subst, ◌∙◌, if◌then◌else◌}
+use Rattle.std.proofs.lemmas.Bool.{ltb-true}
 use Rattle.std.specs.Str.{bytes_eq}
 use Rattle.sqlite.specs.State.{State}
 use Rattle.fax_job.specs.declared.refusal.Refusal.{Refusal}
-use Rattle.fax_job.specs.declared.refusal.Refusal.TheVariants.{NumberReused}
+use Rattle.fax_job.specs.declared.refusal.Refusal.TheVariants.{FloorHigh, GivenUp, NumberReused}
 use Rattle.fax_ask.specs.Answer.{Replied}
 use Rattle.fax_ask.specs.declared.view.View.{View}
 use Rattle.fax_ask.specs.Response.{Response, accepted_response, kept_response}
 use Rattle.fax_core.specs.declared.ask.Ask.{Ask}
+use Rattle.fax_core.specs.Ledger.{Ledger, with_floor, with_reply}
 use Rattle.fax_core.specs.Queue.{Queue, Entry}
 use Rattle.fax_core.specs.Reply.{Reply, Step, Taken, Refused}
 use Rattle.fax_core.specs.Run.{decided}
@@ -16,27 +18,29 @@ use Rattle.fax_core.specs.Sound.{Sound}
 use Rattle.fax_store.specs.Kept.{kept_for}
 use Rattle.fax_store.specs.Store.{Means}
 use Rattle.fax_tables.specs.Kept.{entry}
+use Rattle.fax_once.proofs.LedgerLemmas.{gives, greater_twice}
 use Rattle.fax_once.proofs.ReadingLemmas.{Says, Says_fault, Says_post, Says_view, says}
 use Rattle.fax_once.specs.Arrival.{number_of, said_of}
 use Rattle.fax_once.specs.Laws.{AcceptedOnce, IsSoundWith}
 use Rattle.fax_once.specs.Reading.{Post, Reading, Faulty, Sees, Posts, IsReading, post_of}
-use Rattle.fax_once.specs.Verdict.{Verdict, IsVerdict, Told, Repeated, Accepted, denied, kept_with, stepped, taken_once, verdict, Handles, Leaves}
+use Rattle.fax_once.specs.Verdict.{Verdict, IsVerdict, Told, Repeated, Accepted, asked_above, decided_new, denied, is_too_high, kept_with, new_asked, raised, raised_ask, stepped, taken_once, verdict, without_given, Handles, Leaves}
 use Rattle.fax_once.specs.declared.arrival.Arrival.{Arrival}
 use Rattle.fax_once.proofs.VerdictLemmas.{still_means}
 
 -- ---- what is accepted
 
 -- it asked for a step under a number that is new, the step took it, and its reply is kept
-pub record IsAcceptance (s : Settings) (m : Queue) (k : List Entry) (r : Reading) (after : Queue) (kept : List Entry) (reply : Response) : Type 0 where
+pub record IsAcceptance (s : Settings) (m : Queue) (k : Ledger) (r : Reading) (after : Queue) (kept : Ledger) (reply : Response) : Type 0 where
   pub post : Post
   pub told : Reply
   pub posts : r ≡ Posts post
-  pub unused : kept_for post.client post.number k ≡ None
-  pub taken : decided s m post.request ≡ Taken after told
+  pub above : nat_lt (k.floor post.client) post.number ≡ true
+  pub unused : kept_for post.client post.number k.replies ≡ None
+  pub taken : decided s m (raised (k.floor post.client) post).request ≡ Taken after told
   pub replied : reply ≡ accepted_response (Replied told)
-  pub keeps : kept ≡ kept_with post k reply
+  pub keeps : kept ≡ kept_with (raised (k.floor post.client) post) k reply
 
-module _ (s : Settings) (m : Queue) (k : List Entry) (after : Queue) (kept : List Entry) (reply : Response) where
+module _ (s : Settings) (m : Queue) (k : Ledger) (after : Queue) (kept : Ledger) (reply : Response) where
   abbrev this : Verdict
   this = Accepted after kept reply
 
@@ -47,30 +51,43 @@ module _ (s : Settings) (m : Queue) (k : List Entry) (after : Queue) (kept : Lis
   is_repeated e true h = cc
   is_repeated e false h = is_told _ h
 
-  of_step : (p : Post) (taken : Step) → kept_for p.client p.number k ≡ None → decided s m p.request ≡ taken → this ≡ stepped p k taken → IsAcceptance s m k (Posts p) after kept reply
-  of_step p (Taken q told) unused is e =
-      let queue : after ≡ q = cc in
-      let replies : reply ≡ accepted_response (Replied told) = cc in
-      let entries : kept ≡ kept_with p k (accepted_response (Replied told)) = cc in
-      record {
-        post = p;
-        told = told;
-        posts = refl;
-        unused = unused;
-        taken = is ∙ ap (λ (x : Queue). Taken x told) (sym queue);
-        replied = replies;
-        keeps = entries ∙ ap (kept_with p k) (sym replies);
-      }
-  of_step p (Refused refusal keys) unused is e = absurd (is_told _ e)
+  module _ (p : Post) (above : nat_lt (k.floor p.client) p.number ≡ true) where
+    abbrev it : Post
+    it = raised (k.floor p.client) p
 
-  of_kept : (p : Post) (o : Option Entry) → kept_for p.client p.number k ≡ o → this ≡ taken_once o p.said (stepped p k (decided s m p.request)) → IsAcceptance s m k (Posts p) after kept reply
-  of_kept p None is h = of_step p (decided s m p.request) is refl h
-  of_kept p (Some e) is h = absurd (is_repeated e (bytes_eq e.said p.said) h)
+    of_step : (taken : Step) → kept_for p.client p.number k.replies ≡ None → decided s m it.request ≡ taken → this ≡ stepped it k taken → IsAcceptance s m k (Posts p) after kept reply
+    of_step (Taken q told) unused is e =
+        let queue : after ≡ q = cc in
+        let replies : reply ≡ accepted_response (Replied told) = cc in
+        let entries : kept ≡ kept_with it k (accepted_response (Replied told)) = cc in
+        record {
+          post = p;
+          told = told;
+          posts = refl;
+          above = above;
+          unused = unused;
+          taken = is ∙ ap (λ (x : Queue). Taken x told) (sym queue);
+          replied = replies;
+          keeps = entries ∙ ap (kept_with it k) (sym replies);
+        }
+    of_step (Refused refusal keys) unused is e = absurd (is_told _ e)
+
+    of_low : (b : Bool) → kept_for p.client p.number k.replies ≡ None → this ≡ (if b then denied FloorHigh else decided_new s m k it) → IsAcceptance s m k (Posts p) after kept reply
+    of_low true unused h = absurd (is_told _ h)
+    of_low false unused h = of_step (decided s m it.request) unused refl h
+
+    of_kept : (o : Option Entry) → kept_for p.client p.number k.replies ≡ o → this ≡ taken_once o p.said (new_asked s m k (k.floor p.client) p) → IsAcceptance s m k (Posts p) after kept reply
+    of_kept None is h = of_low (is_too_high p.number p.request.ask) is h
+    of_kept (Some e) is h = absurd (is_repeated e (bytes_eq e.said p.said) h)
+
+  of_floor : (p : Post) (b : Bool) → nat_lt (k.floor p.client) p.number ≡ b → this ≡ (if b then asked_above s m k (k.floor p.client) p else denied GivenUp) → IsAcceptance s m k (Posts p) after kept reply
+  of_floor p true above h = of_kept p above (kept_for p.client p.number k.replies) refl h
+  of_floor p false low h = absurd (is_told _ h)
 
   pub acceptance : (r : Reading) → this ≡ verdict s m k r → IsAcceptance s m k r after kept reply
   acceptance (Faulty refusal) h = absurd (is_told _ h)
   acceptance (Sees moment what) h = absurd (is_told _ h)
-  acceptance (Posts p) h = of_kept p (kept_for p.client p.number k) refl h
+  acceptance (Posts p) h = of_floor p (nat_lt (k.floor p.client) p.number) refl h
 
 -- what is posted is of the arrival's client, under its number, in its bytes
 pub record IsPosted (a : Arrival) (p : Post) : Type 0 where
@@ -101,29 +118,46 @@ module _ (a : Arrival) (p : Post) where
   pub is_posted : IsReading a (Posts p) → IsPosted a p
   is_posted h = of_said (says a (Posts p) h)
 
+-- what is given up is the same, whether the request is raised to the floor before or not
+given_as : (client : List ℕ) (ask : Ask) (k : Ledger) → without_given client (raised_ask (k.floor client) ask) k ≡ without_given client ask k
+given_as client ask k = elim (gives ask) [
+  | inl it ↦
+      ap (λ a. without_given client (raised_ask (k.floor client) a) k) it.1
+      ∙ ap (λ floor. with_floor client floor k) (greater_twice (k.floor client) it.0)
+      ∙ ap (λ a. without_given client a k) (sym it.1)
+  | inr other ↦ ap (λ a. without_given client a k) (other.raised (k.floor client))
+]
+
 pub accepted_once : AcceptedOnce
 accepted_once s a m k after kept reply (r, is, v_is) =
     let it = acceptance s m k after kept reply r v_is in
-    let from = is_posted a it.post (subst (IsReading a) it.posts is) in (
-      it.post.number,
-      from.number,
-      subst (λ client. kept_for client it.post.number k ≡ None) (ap (λ p. p.client) from.is) it.unused,
-      it.keeps ∙ ap (λ p. kept_with p k reply) from.is,
+    let p = it.post in
+    let from = is_posted a p (subst (IsReading a) it.posts is) in
+    let client : p.client ≡ a.client.now = ap (λ (q : Post). q.client) from.is in (
+      p.number,
+      p.request.ask,
+      subst (IsReading a) (it.posts ∙ ap (λ (q : Post). Posts q) from.is) is,
+      below (k.floor a.client.now) p.number (ap (λ c. nat_lt (k.floor c) p.number) (sym client) ∙ it.above),
+      subst (λ c. kept_for c p.number k.replies ≡ None) client it.unused,
+      it.keeps ∙ ap (λ (l : Ledger). with_reply (entry p.client p.number p.said reply.status reply.body) l) (given_as p.client p.request.ask k)
+          ∙ ap (λ (q : Post). with_reply (entry q.client q.number q.said reply.status reply.body) (without_given q.client p.request.ask k)) from.is,
     )
+  where
+    below : (x y : ℕ) → nat_lt x y ≡ true → x < y
+    below x y low = ltb-true x y low
 
 -- ---- what is left
 
-module _ (settings : Settings) (a : Arrival) (m : Queue) (k : List Entry) (reply : Response) (s : State) (sound : Sound m) where
+module _ (settings : Settings) (a : Arrival) (m : Queue) (k : Ledger) (reply : Response) (s : State) (sound : Sound m) where
   unchanged : Means s m k → IsSoundWith k s
-  unchanged rest = (m, [], subst (Means s m) (sym (append-nil k)) rest, sound, omega arith)
+  unchanged rest = (m, k, rest, sound, inl refl)
 
   left_by : (v : Verdict) → IsVerdict settings a m k v → Leaves m k reply s v → IsSoundWith k s
   left_by (Told told) is (same, rest) = unchanged rest
   left_by (Repeated told) is (same, serves, rest) = unchanged (λ _. rest)
   left_by (Accepted after kept told) is (same, serves, rest, stays) =
       let once = accepted_once settings a m k after kept told is in
-      let more : List Entry = entry a.client.now once.0 (said_of a) told.status told.body ∷ [] in
-      (after, more, subst (Means s after) once.3 (λ _. rest), stays, omega arith)
+      (after, kept, (λ _. rest), stays, inr (entry a.client.now once.0 (said_of a) told.status told.body, once.1, once.5))
 
   -- whatever an arrival comes to, the store has a sound queue afterwards, and no kept reply is lost
   pub stays_sound : Handles settings a m k reply s → IsSoundWith k s

@@ -6,7 +6,7 @@ use Rattle.fax_job.specs.declared.refusal.Refusal.TheVariants as refusal
 use Rattle.fax_core.specs.declared.grants.Grant.{Grant}
 use Rattle.fax_core.specs.Ageing.{aged}
 use Rattle.fax_core.specs.declared.ask.Ask.{Ask}
-use Rattle.fax_core.specs.declared.ask.Ask.TheVariants.{Submission, Bring, Suspend, Resume, Kill, Alteration, Ready, Down, Next, CallReport, PageReport, OutcomeReport}
+use Rattle.fax_core.specs.declared.ask.Ask.TheVariants.{Submission, Bring, Suspend, Resume, Kill, Alteration, Ready, Down, Next, CallReport, PageReport, OutcomeReport, GiveUp}
 use Rattle.fax_core.specs.Decisions.{JobAndGrant, alter, call, kill, outcome, page, resume, submit, suspend}
 use Rattle.fax_core.specs.Import.{bring}
 use Rattle.fax_core.specs.Job.{Job}
@@ -39,6 +39,7 @@ none_came (Next modem) e = refl
 none_came (CallReport a c) e = refl
 none_came (PageReport a p) e = refl
 none_came (OutcomeReport a o) e = refl
+none_came (GiveUp upto) e = refl
 
 -- the reply brings no job in
 abbrev BringsNone : Reply → Type 0
@@ -86,6 +87,7 @@ act_brings s m n t (Next modem) r h e x = given_brings s m n t modem r (given_is
 act_brings s m n t (CallReport a c) r h e x = report_brings m n (call c) (call_reply t) (grant_numbered a m) r (λ q b y. refl) e x
 act_brings s m n t (PageReport a p) r h e x = report_brings m n (page p) (page_reply t) (grant_numbered a m) r (λ q b y. refl) e x
 act_brings s m n t (OutcomeReport a o) r h e x = report_brings m n (λ j g. outcome o j g (s.delay g.call) t) (outcome_reply s t) (grant_numbered a m) r (λ q b y. refl) e x
+act_brings s m n t (GiveUp upto) r h e x = ap (λ (q : Reply). brings q x) (sym (taken_same m n _ r e).1)
 
 pub step_brings : (s : Settings) (m n : Queue) (t : ℕ) (ask : Ask) (r : Reply) → Sound m → step s m t ask ≡ Taken n r → (x : ℕ) → brings r x ≡ (is_import ask && eqb m.next_job x)
 step_brings s m n t ask r h e x = act_brings s (aged t m) n t ask r (aged_sound t m h) e x
@@ -109,3 +111,4 @@ step_numbers s m n t (Next modem) r on e = absurd cc
 step_numbers s m n t (CallReport a c) r on e = absurd cc
 step_numbers s m n t (PageReport a p) r on e = absurd cc
 step_numbers s m n t (OutcomeReport a o) r on e = absurd cc
+step_numbers s m n t (GiveUp upto) r on e = absurd cc

@@ -1,12 +1,12 @@
 -- An arrival comes to something, and at a sound queue never to 27.
-use Rattle.std.proofs.Common.{All, ◌≡◌, ◌≢◌, ◌⊎◌, inl, inr, ℕ, Bool, true, false, List, Option, Some, None, Ok, Err, refl, sym, ap, subst, ◌∙◌, eqb, true≢false, if◌then◌else◌}
+use Rattle.std.proofs.Common.{All, ◌≡◌, ◌≢◌, ◌⊎◌, inl, inr, ℕ, Bool, true, false, List, Option, Some, None, Ok, Err, refl, sym, ap, subst, ◌∙◌, eqb, nat_lt, true≢false, if◌then◌else◌}
 use Rattle.std.specs.Prelude.{Result, MatchOption, MatchResult}
 use Rattle.fax_job.specs.declared.refusal.Refusal.{Refusal}
-use Rattle.fax_job.specs.declared.refusal.Refusal.TheVariants.{BadBody, BadClient, NoRoute, NumberReused, NoJob, Unavailable}
+use Rattle.fax_job.specs.declared.refusal.Refusal.TheVariants.{BadBody, BadClient, FloorHigh, GivenUp, NoRoute, NumberReused, NoJob, Unavailable}
 use Rattle.fax_job.specs.Name.{is_name}
 use Rattle.fax_job.specs.Number.{request_number_of}
 use Rattle.fax_ask.specs.declared.request.Request.{Request}
-use Rattle.fax_ask.specs.declared.request.Request.TheVariants.{Submit, Import, Suspend, Resume, Kill, Alter, Show, Ready, Down, Next, Call, Page, Outcome}
+use Rattle.fax_ask.specs.declared.request.Request.TheVariants.{Submit, Import, Suspend, Resume, Kill, Alter, Show, Ready, Down, Next, Call, Page, Outcome, Floor}
 use Rattle.fax_ask.specs.declared.view.View.{View}
 use Rattle.fax_ask.specs.declared.view.View.TheVariants as sight
 use Rattle.fax_ask.specs.Ask.{Asks}
@@ -21,6 +21,7 @@ use Rattle.fax_core.specs.declared.ask.Ask.TheVariants as machine
 use Rattle.fax_core.specs.Job.{Job}
 use Rattle.fax_core.specs.Laws.{RefusalsAreMet}
 use Rattle.fax_core.specs.Ageing.{aged}
+use Rattle.fax_core.specs.Ledger.{Ledger}
 use Rattle.fax_core.specs.Queue.{Queue, Entry, job_numbered}
 use Rattle.fax_core.specs.Refusals.{may_meet}
 use Rattle.fax_core.specs.Reply.{NoKeys, Step as Stepped, Taken, Refused}
@@ -32,7 +33,7 @@ use Rattle.fax_once.proofs.ReadingLemmas.{Cause, Of_body, Of_route, Of_sender, S
 use Rattle.fax_once.specs.Arrival.{digits_of, number_of}
 use Rattle.fax_once.specs.Laws.{HasVerdict, NoVerdictIsUnavailable}
 use Rattle.fax_once.specs.Reading.{Post, Reading, Faulty, Sees, Posts, post_of, seen_by, IsForBody, IsForRoute}
-use Rattle.fax_once.specs.Verdict.{Verdict, Told, Repeated, denied, stepped, taken_once, reply_of, verdict}
+use Rattle.fax_once.specs.Verdict.{Verdict, Told, Repeated, asked_above, decided_new, denied, is_too_high, new_asked, raised, stepped, taken_once, reply_of, verdict}
 use Rattle.fax_store.specs.Kept.{kept_for}
 use Rattle.fax_tables.specs.Tables.{IsKeptStatus, IsLawfulEntry}
 use Rattle.fax_tables.proofs.KeyLemmas.{found_holds}
@@ -50,6 +51,7 @@ step_of (Alter job) body asked is h = (machine.Alteration job h.0, h.2)
 step_of (Call grant) body asked is h = (machine.CallReport grant h.0, h.2)
 step_of (Page grant) body asked is h = (machine.PageReport grant h.0, h.2)
 step_of (Outcome grant) body asked is h = (machine.OutcomeReport grant h.0, h.2)
+step_of Floor body asked is h = (machine.GiveUp h.0, h.2)
 step_of (Suspend job) body asked is h = (machine.Suspend job, h)
 step_of (Resume job) body asked is h = (machine.Resume job, h)
 step_of (Kill job) body asked is h = (machine.Kill job, h)
@@ -99,6 +101,7 @@ never_met (machine.Next modem) met = absurd cc
 never_met (machine.CallReport grant call) met = absurd cc
 never_met (machine.PageReport grant page) met = absurd cc
 never_met (machine.OutcomeReport grant outcome) met = absurd cc
+never_met (machine.GiveUp upto) met = absurd cc
 
 IsOther : Verdict → Type 0
 IsOther v = (reply_of v).status ≢ 503
@@ -107,7 +110,7 @@ other_number : (n : ℕ) → (n ≡ 200) ⊎ (n ≡ 201) → n ≢ 503
 other_number n (inl is) e = true≢false (ap (λ x. eqb x 200) (sym is ∙ e))
 other_number n (inr is) e = true≢false (ap (λ x. eqb x 201) (sym is ∙ e))
 
-module _ (accepted : AcceptedAre200Or201) (alone : OnlyUnavailableIs503) (met : RefusalsAreMet) (s : Settings) (a : Arrival) (m : Queue) (k : List Entry) (sound : Sound m) (lawful : All IsLawfulEntry k) where
+module _ (accepted : AcceptedAre200Or201) (alone : OnlyUnavailableIs503) (met : RefusalsAreMet) (s : Settings) (a : Arrival) (m : Queue) (k : Ledger) (sound : Sound m) (lawful : All IsLawfulEntry k.replies) where
   of_denied : (refusal : Refusal) → refusal ≢ Unavailable → IsOther (denied refusal)
   unfolding IsOther
   of_denied refusal other e = other (alone refusal NoKeys e)
@@ -123,9 +126,17 @@ module _ (accepted : AcceptedAre200Or201) (alone : OnlyUnavailableIs503) (met : 
   of_entry e said true status = other_number e.status status
   of_entry e said false status = of_denied NumberReused (λ is. absurd cc)
 
-  of_kept : (p : Post) (o : Option Entry) → kept_for p.client p.number k ≡ o → IsOther (taken_once o p.said (stepped p k (decided s m p.request)))
-  of_kept p None is = of_step p (decided s m p.request) refl
-  of_kept p (Some e) is = of_entry e p.said (bytes_eq e.said p.said) (found_holds IsLawfulEntry _ k e lawful is).status
+  of_low : (p : Post) (floor : ℕ) (b : Bool) → IsOther (if b then denied FloorHigh else decided_new s m k (raised floor p))
+  of_low p floor true = of_denied FloorHigh (λ is. absurd cc)
+  of_low p floor false = of_step (raised floor p) (decided s m (raised floor p).request) refl
+
+  of_kept : (p : Post) (floor : ℕ) (o : Option Entry) → kept_for p.client p.number k.replies ≡ o → IsOther (taken_once o p.said (new_asked s m k floor p))
+  of_kept p floor None is = of_low p floor (is_too_high p.number p.request.ask)
+  of_kept p floor (Some e) is = of_entry e p.said (bytes_eq e.said p.said) (found_holds IsLawfulEntry _ k.replies e lawful is).status
+
+  of_floor : (p : Post) (b : Bool) → IsOther (if b then asked_above s m k (k.floor p.client) p else denied GivenUp)
+  of_floor p true = of_kept p (k.floor p.client) (kept_for p.client p.number k.replies) refl
+  of_floor p false = of_denied GivenUp (λ is. absurd cc)
 
   bad_digits : (o : Option ℕ) (refusal : Refusal) → digits_of o ≡ Err refusal → refusal ≢ Unavailable
   bad_digits None refusal is e = absurd cc
@@ -156,7 +167,7 @@ module _ (accepted : AcceptedAre200Or201) (alone : OnlyUnavailableIs503) (met : 
       let t = decided_at m.clock a.moment in
       subst (λ q. IsOther (verdict s m k q)) (sym is) (of_sight (aged t m) t what)
   of_said r (Says_post number route ask its asks is) =
-      subst (λ q. IsOther (verdict s m k q)) (sym is) (let p = post_of a number ask in of_kept p (kept_for p.client p.number k) refl)
+      subst (λ q. IsOther (verdict s m k q)) (sym is) (let p = post_of a number ask in of_floor p (nat_lt (k.floor p.client) p.number))
 
 pub never_unavailable : AcceptedAre200Or201 → OnlyUnavailableIs503 → RefusalsAreMet → NoVerdictIsUnavailable
 unfolding IsOther

@@ -16,7 +16,7 @@ use Rattle.fax_ask.specs.Path.{parts}
 use Rattle.fax_job.specs.declared.refusal.Refusal.TheVariants.{NoRoute}
 use Rattle.fax_once.specs.Reading.{IsForRoute, IsReading, Post, Reading, Faulty, Posts}
 use Rattle.fax_once.specs.declared.arrival.Arrival.{Arrival}
-use Rattle.fax_ask.specs.Request.{grants_request, imports_request, job_request, jobs_request, modems_request, path_request, request_of, root_request}
+use Rattle.fax_ask.specs.Request.{grants_request, imports_request, job_request, jobs_request, modems_request, numbers_request, path_request, request_of, root_request}
 
 IsShow : Request → Type 0
 IsShow r = (what : View) × (r ≡ Show what)
@@ -47,7 +47,8 @@ of_root [] r e = none r e
 of_root (collection ∷ rest) r e =
     either (bytes_eq collection (codes "jobs")) (jobs_request Get rest) _ r (of_jobs rest r)
     (either (bytes_eq collection (codes "modems")) (modems_request Get rest) _ r (none r) (either (bytes_eq collection (codes "grants")) (grants_request Get rest) _ r (none r)
-    (either (bytes_eq collection (codes "imports")) (imports_request Get rest) None r (none r) (none r)))) e
+    (either (bytes_eq collection (codes "imports")) (imports_request Get rest) _ r (none r)
+    (either (bytes_eq collection (codes "numbers")) (numbers_request Get rest) None r (none r) (none r))))) e
 
 of_path : (path : List (List ℕ)) (r : Request) → path_request Get path ≡ Some r → IsShow r
 of_path [] r e = none r e

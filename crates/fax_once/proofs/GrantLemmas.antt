@@ -10,7 +10,7 @@ use Rattle.fax_core.specs.declared.report.Outcome.{Outcome}
 use Rattle.fax_core.specs.Ageing.{aged}
 use Rattle.fax_core.specs.Clock.{decided_at}
 use Rattle.fax_core.specs.declared.ask.Ask.{Ask}
-use Rattle.fax_core.specs.declared.ask.Ask.TheVariants.{Submission, Bring, Suspend, Resume, Kill, Alteration, Ready, Down, Next, CallReport, PageReport, OutcomeReport}
+use Rattle.fax_core.specs.declared.ask.Ask.TheVariants.{Submission, Bring, Suspend, Resume, Kill, Alteration, Ready, Down, Next, CallReport, PageReport, OutcomeReport, GiveUp}
 use Rattle.fax_core.specs.Decisions.{JobAndGrant, after_call, alter, call, ended, granted, is_connected, kill, outcome, page, page_of, resume, submit, suspend}
 use Rattle.fax_core.specs.Import.{bring}
 use Rattle.fax_core.specs.Job.{Job}
@@ -160,6 +160,7 @@ act_grants s m n t (PageReport a p) r h e = report_grants m n a (page p) (paged_
 act_grants s m n t (OutcomeReport a o) r h e =
     report_grants m n a (λ j g. outcome o j g (s.delay g.call) t) (λ j g b. outcome_same o j g (s.delay g.call) t b)
     (on_grant_is m (λ j g. outcome o j g (s.delay g.call) t) (outcome_reply s t) a (grant_numbered a m) n r refl e)
+act_grants s m n t (GiveUp upto) r h e = kept_all m n (ap (λ (q : Queue). q.grants) (sym (taken_same m n _ r e).0))
 
 -- ageing leaves the grants
 step_keeps_grants : (s : Settings) (m n : Queue) (t : ℕ) (ask : Ask) (r : Reply) → Sound m → step s m t ask ≡ Taken n r → KeepsGrants m n

@@ -1,5 +1,5 @@
 -- A run goes on by one arrival that is handled.
-use Rattle.std.proofs.Common.{◌≡◌, inl, inr, ℕ, Bool, true, false, List, [], ◌∷◌, ◌++◌, refl, sym, ap, subst, ◌∙◌, append_assoc, if◌then◌else◌}
+use Rattle.std.proofs.Common.{◌≡◌, inl, inr, ℕ, Bool, true, false, not, List, [], ◌∷◌, ◌++◌, refl, sym, ap, subst, ◌∙◌, append_assoc, if◌then◌else◌}
 use Rattle.std.specs.Prelude.{⊤}
 use Rattle.std.proofs.lemmas.Bool.{and_parts}
 use Rattle.sqlite.specs.State.{State}
@@ -7,7 +7,7 @@ use Rattle.fax_job.specs.declared.refusal.Refusal.TheVariants.{Unavailable}
 use Rattle.fax_ask.specs.Ask.{Asks}
 use Rattle.fax_ask.specs.declared.ask.Ask.TheVariants.{Step}
 use Rattle.fax_ask.specs.declared.request.Request.{Request as Route}
-use Rattle.fax_ask.specs.declared.request.Request.TheVariants.{Submit, Import, Suspend, Resume, Kill, Alter, Show, Ready, Down, Next, Call, Page, Outcome}
+use Rattle.fax_ask.specs.declared.request.Request.TheVariants.{Submit, Import, Suspend, Resume, Kill, Alter, Show, Ready, Down, Next, Call, Page, Outcome, Floor}
 use Rattle.fax_ask.specs.Response.{Response, refused_response}
 use Rattle.fax_ask.proofs.LimitLemmas.{order_limits}
 use Rattle.fax_core.specs.Ask.{IsLawfulAsk}
@@ -26,7 +26,7 @@ use Rattle.fax_once.proofs.RunLemmas.{runs_thread}
 use Rattle.fax_once.specs.Laws.{AreTaken, HasRun, KeepsGrants, RunsWell, left_of}
 use Rattle.fax_once.specs.Reading.{Post, Reading, Faulty, Sees, Posts, IsReading}
 use Rattle.fax_once.specs.Run.{Start, IsRun, end_of, is_new, is_taken, queue_after, reply_at, taken, takes}
-use Rattle.fax_once.specs.Verdict.{Verdict, Told, Repeated, Accepted, Handles, Leaves, reply_of, verdict}
+use Rattle.fax_once.specs.Verdict.{Verdict, Told, Repeated, Accepted, Handles, Leaves, is_too_high, reply_of, verdict}
 use Rattle.fax_once.specs.declared.arrival.Arrival.{Arrival}
 use Rattle.fax_once.specs.Stop.{IsMadeIn, Stops}
 use Rattle.fax_store.specs.Store.{MayMake, Means}
@@ -41,6 +41,7 @@ lawful_ask (Alter job) body ask h = subst IsLawfulAsk (sym (same_ask h.2)) tt
 lawful_ask (Call grant) body ask h = subst IsLawfulAsk (sym (same_ask h.2)) tt
 lawful_ask (Page grant) body ask h = subst IsLawfulAsk (sym (same_ask h.2)) tt
 lawful_ask (Outcome grant) body ask h = subst IsLawfulAsk (sym (same_ask h.2)) tt
+lawful_ask Floor body ask h = subst IsLawfulAsk (sym (same_ask h.2)) tt
 lawful_ask (Suspend job) body ask h = subst IsLawfulAsk (sym (same_ask h)) tt
 lawful_ask (Resume job) body ask h = subst IsLawfulAsk (sym (same_ask h)) tt
 lawful_ask (Kill job) body ask h = subst IsLawfulAsk (sym (same_ask h)) tt
@@ -66,7 +67,7 @@ one_taken s start earlier (Sees moment what) is are = are
 one_taken s start earlier (Posts p) is are = by (is_taken s start earlier p) refl
   where
     by : (b : Bool) → is_taken s start earlier p ≡ b → AreTaken s start.queue (if b then p ∷ earlier else earlier)
-    by true on = (is, (and_parts (is_new start earlier p) (takes (decided s (queue_after s start.queue earlier) p.request)) on).1, are)
+    by true on = (is, (and_parts (not (is_too_high p.number p.request.ask)) (takes (decided s (queue_after s start.queue earlier) p.request)) (and_parts (is_new start earlier p) _ on).1).1, are)
     by false off = are
 
 -- ---- one more arrival

@@ -8,6 +8,7 @@ pub mod AcceptedLemmas
 mod EachVerdictLemmas
 mod GetLemmas
 mod RepeatLemmas
+mod LedgerLemmas
 mod RunLemmas
 mod PastLemmas
 mod CountLemmas

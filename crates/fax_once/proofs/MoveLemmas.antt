@@ -11,14 +11,14 @@ use Rattle.fax_job.specs.declared.refusal.Refusal.TheVariants as refusal
 use Rattle.fax_core.specs.declared.grants.Grant.{Grant}
 use Rattle.fax_core.specs.Ageing.{aged, aged_job}
 use Rattle.fax_core.specs.declared.ask.Ask.{Ask}
-use Rattle.fax_core.specs.declared.ask.Ask.TheVariants.{Submission, Bring, Suspend, Resume, Kill, Alteration, Ready, Down, Next, CallReport, PageReport, OutcomeReport}
+use Rattle.fax_core.specs.declared.ask.Ask.TheVariants.{Submission, Bring, Suspend, Resume, Kill, Alteration, Ready, Down, Next, CallReport, PageReport, OutcomeReport, GiveUp}
 use Rattle.fax_core.specs.Decisions.{JobAndGrant, alter, call, granted, kill, outcome, page, resume, submit, suspend}
 use Rattle.fax_core.specs.Import.{bring}
 use Rattle.fax_core.specs.Job.{Job}
 use Rattle.fax_core.specs.Machine as machine
 use Rattle.fax_core.specs.Machine.{act, brought_in, call_reply, changed, handed, on_job, outcome_reply, page_reply, step, submitted, with_both, with_job, with_mark, with_new_grant, with_new_job}
 use Rattle.fax_core.specs.Queue.{Queue, grant_numbered, job_numbered}
-use Rattle.fax_core.specs.Reply.{Brought, Given, Marked, NoKeys, NoneToSend, Refused, Reply, Stands, Submitted, Taken}
+use Rattle.fax_core.specs.Reply.{Brought, Floored, Given, Marked, NoKeys, NoneToSend, Refused, Reply, Stands, Submitted, Taken}
 use Rattle.fax_core.specs.Settings.{Rule, Settings}
 use Rattle.fax_core.specs.Sound.{IsJob, Sound}
 use Rattle.fax_core.specs.State.{state}
@@ -289,6 +289,9 @@ act_moves s m n t (PageReport a p) r h e =
     on_grant_moves m n (PageReport a p) a (page p) (page_reply t) (Confirmed ∷ []) r (λ q b x y. refl) (λ g x is. ap (λ (o : Option Grant). cond (has_job x o) (Confirmed ∷ []) []) is) (λ j g b. paged_counted p j g b) e
 act_moves s m n t (OutcomeReport a o) r h e =
     on_grant_moves m n (OutcomeReport a o) a (λ j g. outcome o j g (s.delay g.call) t) (outcome_reply s t) [] r (λ q b x y. refl) (λ g x is. either_way (eqb g.job x)) (λ j g b. outcome_counted o j g (s.delay g.call) t b) e
+act_moves s m n t (GiveUp upto) r h e =
+    subst (λ (q : Reply). Moved m n (GiveUp upto) q) (taken_same m n _ r e).1
+    (subst (λ (q : Queue). Moved m q (GiveUp upto) (Floored upto)) (taken_same m n _ r e).0 (record { jobs = λ x y found. Was y found refl; numbers = omega arith; grants = λ a x. refl; given = λ a x no. absurd cc }))
 
 -- ageing moves no counter
 pub step_moves : (s : Settings) (m n : Queue) (t : ℕ) (ask : Ask) (r : Reply) → Sound m → step s m t ask ≡ Taken n r → Moved m n ask r

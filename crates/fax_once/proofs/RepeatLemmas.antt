@@ -1,10 +1,11 @@
 -- A repeat of what was accepted gets its reply.
-use Rattle.std.proofs.Common.{◌≡◌, inl, inr, ℕ, eqb, List, [], ◌∷◌, ◌++◌, ◌&&◌, Bool, true, Option, Some, None, Ok, Err, refl, sym, ap, subst, ◌∙◌}
+use Rattle.std.proofs.Common.{◌≡◌, ◌<◌, inl, inr, ℕ, eqb, List, [], ◌∷◌, ◌++◌, ◌&&◌, nat_lt, Bool, true, Option, Some, None, Ok, Err, refl, sym, ap, ap₂, subst, ◌∙◌, arith}
 use Rattle.std.specs.Prelude.{Result, MatchOption, MatchResult}
 use Rattle.std.specs.List.{find}
 use Rattle.std.specs.Str.{bytes_eq}
 use Rattle.std.specs.Cmp.Lexicographic.{bytes_decides}
 use Rattle.std.proofs.lemmas.Bool.{and_from, cases_Bool, eq-eqb}
+use Rattle.std.proofs.lemmas.Bool.Decides.{nat_tests}
 use Rattle.fax_job.specs.declared.refusal.Refusal.{Refusal}
 use Rattle.fax_job.specs.declared.refusal.Refusal.TheVariants.{NoRoute}
 use Rattle.fax_ask.specs.declared.request.Request.{Request as Route}
@@ -12,15 +13,17 @@ use Rattle.fax_ask.specs.declared.view.View.{View}
 use Rattle.fax_ask.specs.Request.{request_of}
 use Rattle.fax_ask.specs.Answer.{Replied}
 use Rattle.fax_ask.specs.Response.{Response, accepted_response, kept_response}
+use Rattle.fax_core.specs.Ledger.{Ledger}
 use Rattle.fax_core.specs.Queue.{Entry}
 use Rattle.fax_core.specs.Reply.{Reply}
 use Rattle.fax_store.specs.Kept.{kept_for}
 use Rattle.fax_tables.specs.Kept.{entry}
-use Rattle.fax_once.proofs.AcceptedLemmas.{acceptance}
+use Rattle.fax_once.proofs.AcceptedLemmas.{acceptance, is_posted}
+use Rattle.fax_once.proofs.LedgerLemmas.{given_none}
 use Rattle.fax_once.specs.Laws.{RepeatsGetTheirReply, SaysTheSame}
 use Rattle.fax_once.specs.Arrival.{number_of}
 use Rattle.fax_once.specs.Reading.{Post, Reading, Faulty, Sees, Posts, IsForBody, IsForRoute, IsReading, seen_by}
-use Rattle.fax_once.specs.Verdict.{Repeated, kept_with, verdict}
+use Rattle.fax_once.specs.Verdict.{Repeated, kept_with, raised, verdict, without_given}
 use Rattle.fax_once.specs.declared.arrival.Arrival.{Arrival}
 
 -- ---- what a repeat says
@@ -69,18 +72,19 @@ same_reading a b r same h =
 
 -- ---- the entry of a number that was new
 
-found_behind : (q : Entry → Bool) (k more : List Entry) (e : Entry) → find q k ≡ None → q e ≡ true → find q ((k ++ e ∷ []) ++ more) ≡ Some e
-found_behind q [] more e none is = rw is refl
-found_behind q (x ∷ k) more e none is = elim (cases_Bool (q x)) [
+found_behind : (q : Entry → Bool) (k : List Entry) (e : Entry) → find q k ≡ None → q e ≡ true → find q (k ++ e ∷ []) ≡ Some e
+found_behind q [] e none is = rw is refl
+found_behind q (x ∷ k) e none is = elim (cases_Bool (q x)) [
   | inl on ↦ absurd (let no = rw on at none in cc)
-  | inr off ↦ rw off (found_behind q k more e (rw off at none) is)
+  | inr off ↦ rw off (found_behind q k e (rw off at none) is)
 ]
 
--- it is found, whatever was kept since
-pub kept_since : (p : Post) (k more : List Entry) (reply : Response) → kept_for p.client p.number k ≡ None
-    → kept_for p.client p.number (kept_with p k reply ++ more) ≡ Some (entry p.client p.number p.said reply.status reply.body)
-kept_since p k more reply none =
-    found_behind (λ e. bytes_eq e.client p.client && eqb e.number p.number) k more (entry p.client p.number p.said reply.status reply.body) none
+-- it is found
+pub kept_since : (p : Post) (k : Ledger) (reply : Response) → kept_for p.client p.number k.replies ≡ None
+    → kept_for p.client p.number (kept_with p k reply).replies ≡ Some (entry p.client p.number p.said reply.status reply.body)
+kept_since p k reply none =
+    found_behind (λ e. bytes_eq e.client p.client && eqb e.number p.number) (without_given p.client p.request.ask k).replies (entry p.client p.number p.said reply.status reply.body)
+    (given_none p.client p.request.ask k p.client p.number none)
     (and_from (bytes_eq p.client p.client) (eqb p.number p.number) ((bytes_decides p.client p.client).1 refl) (eq-eqb p.number p.number refl))
 
 -- ---- the repeat
@@ -89,11 +93,24 @@ kept_since p k more reply none =
 whole : (told : Reply) (reply : Response) → reply ≡ accepted_response (Replied told) → kept_response reply.status reply.body ≡ reply
 whole told reply is = ap (λ r. kept_response r.status r.body) is ∙ sym is
 
+is_below : (a b : ℕ) → a < b → nat_lt a b ≡ true
+is_below a b low = grind (arith, nat_tests)
+
+number_once : (a : Arrival) (n m : ℕ) → number_of a ≡ Ok n → number_of a ≡ Ok m → n ≡ m
+number_once a n m is also = let same : ◌≡◌ {A = Result ℕ Refusal} (Ok n) (Ok m) = sym is ∙ also in cc
+
 pub repeats_get_their_reply : RepeatsGetTheirReply
-repeats_get_their_reply s a b m after later k kept more reply (r, is, v_is) same =
+repeats_get_their_reply s a b m after queue k kept later reply (r, is, v_is) same still =
     let it = acceptance s m k after kept reply r v_is in
     let p = it.post in
-    let found : kept_for p.client p.number (kept ++ more) ≡ Some (entry p.client p.number p.said reply.status reply.body) = ap (λ x. kept_for p.client p.number (x ++ more)) it.keeps ∙ kept_since p k more reply it.unused in
+    let from = is_posted a p (subst (IsReading a) it.posts is) in
+    let client : a.client.now ≡ p.client = sym (ap (λ (q : Post). q.client) from.is) in
+    let number : still.number ≡ p.number = number_once a still.number p.number still.its from.number in
+    let put : kept_for p.client p.number kept.replies ≡ Some (entry p.client p.number p.said reply.status reply.body) =
+    ap (λ (l : Ledger). kept_for p.client p.number l.replies) it.keeps ∙ kept_since (raised (k.floor p.client) p) k reply it.unused in
+    let found : kept_for p.client p.number later.replies ≡ Some (entry p.client p.number p.said reply.status reply.body) =
+    ap₂ (λ c n. kept_for c n later.replies) (sym client) (sym number) ∙ still.same ∙ ap₂ (λ c n. kept_for c n kept.replies) client number ∙ put in
+    let above : nat_lt (later.floor p.client) p.number ≡ true = is_below (later.floor p.client) p.number (subst (λ n. later.floor p.client < n) number (subst (λ c. later.floor c < still.number) client still.above)) in
     let said : bytes_eq p.said p.said ≡ true = (bytes_decides p.said p.said).1 refl in
-    let repeats : verdict s later (kept ++ more) (moved b.moment (Posts p)) ≡ Repeated reply = rw (found, said) (ap Repeated (whole it.told reply it.replied)) in
+    let repeats : verdict s queue later (moved b.moment (Posts p)) ≡ Repeated reply = rw (above, found, said) (ap Repeated (whole it.told reply it.replied)) in
     (moved b.moment (Posts p), same_reading a b (Posts p) same (subst (IsReading a) it.posts is), sym repeats)

@@ -6,7 +6,7 @@ use Rattle.fax_job.specs.declared.refusal.Refusal.{Refusal}
 use Rattle.fax_job.specs.declared.refusal.Refusal.TheVariants.{BadBody, NoRoute}
 use Rattle.fax_job.specs.declared.refusal.BodyFault.{BodyFault}
 use Rattle.fax_ask.specs.declared.request.Request.{Request}
-use Rattle.fax_ask.specs.declared.request.Request.TheVariants.{Submit, Import, Suspend, Resume, Kill, Alter, Show, Ready, Down, Next, Call, Page, Outcome}
+use Rattle.fax_ask.specs.declared.request.Request.TheVariants.{Submit, Import, Suspend, Resume, Kill, Alter, Show, Ready, Down, Next, Call, Page, Outcome, Floor}
 use Rattle.fax_ask.specs.Ask.{Asks, IsAsk, IsBodyRefusal, IsRefused}
 use Rattle.fax_ask.specs.declared.ask.Ask.{Ask as Asked}
 use Rattle.fax_ask.specs.declared.ask.Ask.TheVariants.{Step, View}
@@ -15,7 +15,8 @@ use Rattle.fax_ask.specs.Request.{request_of}
 use Rattle.fax_ask.specs.Response.{Response, refused_response}
 use Rattle.fax_core.specs.declared.ask.Ask.{Ask}
 use Rattle.fax_core.specs.Clock.{decided_at}
-use Rattle.fax_core.specs.Queue.{Queue, Entry}
+use Rattle.fax_core.specs.Ledger.{Ledger}
+use Rattle.fax_core.specs.Queue.{Queue}
 use Rattle.fax_core.specs.Reply.{NoKeys}
 use Rattle.fax_core.specs.Settings.{Settings}
 use Rattle.fax_store.specs.Store.{Means}
@@ -42,6 +43,7 @@ seen (Next n) body what is = absurd cc
 seen (Call n) body what is = absurd (let e = is.2 in cc)
 seen (Page n) body what is = absurd (let e = is.2 in cc)
 seen (Outcome n) body what is = absurd (let e = is.2 in cc)
+seen Floor body what is = absurd (let e = is.2 in cc)
 
 unseen : (r : Request) (body : List ℕ) (ask : Ask) → Asks r body (Step ask) → seen_by r ≡ None
 unseen Submit body ask is = refl
@@ -57,6 +59,7 @@ unseen (Next n) body ask is = refl
 unseen (Call n) body ask is = refl
 unseen (Page n) body ask is = refl
 unseen (Outcome n) body ask is = refl
+unseen Floor body ask is = refl
 
 -- ---- readings
 
@@ -104,7 +107,7 @@ pub where_open : {A E : Type 0} (r : Result A E) (C S : Type 0) (P : A → Type 
 where_open (Ok a) C S P opens clean so = so (opens clean)
 where_open (Err e) C S P opens clean so = tt
 
-pub view_answers : {E : Type 0} (result : Result Response E) (s : Settings) (a : Arrival) (m : Queue) (k : List Entry) (x : Asked) (what : Sight) (store : State)
+pub view_answers : {E : Type 0} (result : Result Response E) (s : Settings) (a : Arrival) (m : Queue) (k : Ledger) (x : Asked) (what : Sight) (store : State)
     → IsAsk a.method a.path.now a.body.now x → x ≡ View what → IfOk result (λ reply. reply ≡ view s m (decided_at m.clock a.moment) what) → Means store m k → Answers s a m k result store
 view_answers (Ok reply) s a m k x what store is shown replied rests = (
   Told (view s m (decided_at m.clock a.moment) what),
@@ -114,17 +117,17 @@ view_answers (Ok reply) s a m k x what store is shown replied rests = (
 view_answers (Err e) s a m k x what store is shown replied rests = rests
 
 -- what is posted comes to what is asked for
-pub is_post : (s : Settings) (a : Arrival) (m : Queue) (k : List Entry) (sender : Sender) (x : Asked) (ask : Ask)
+pub is_post : (s : Settings) (a : Arrival) (m : Queue) (k : Ledger) (sender : Sender) (x : Asked) (ask : Ask)
     → IsAsk a.method a.path.now a.body.now x → x ≡ Step ask → IsSender a sender → IsVerdict s a m k (asked_for s m k (post_of a sender.number ask))
 is_post s a m k sender x ask is asked from =
     (Posts (post_of a sender.number ask), for_step a (request_of a.method a.path.now) sender.number ask from.number (subst (λ (y : Asked). IsAsk a.method a.path.now a.body.now y) asked is), refl)
 
-pub step_answers : {E : Type 0} (result : Result Response E) (s : Settings) (a : Arrival) (m : Queue) (k : List Entry) (sender : Sender) (x : Asked) (ask : Ask) (store : State)
+pub step_answers : {E : Type 0} (result : Result Response E) (s : Settings) (a : Arrival) (m : Queue) (k : Ledger) (sender : Sender) (x : Asked) (ask : Ask) (store : State)
     → IsAsk a.method a.path.now a.body.now x → x ≡ Step ask → IsSender a sender → LeavesBy m k result store (asked_for s m k (post_of a sender.number ask)) → Answers s a m k result store
 step_answers (Ok reply) s a m k sender x ask store is asked from leaves = (asked_for s m k (post_of a sender.number ask), is_post s a m k sender x ask is asked from, leaves)
 step_answers (Err e) s a m k sender x ask store is asked from leaves = leaves
 
-pub sender_answers : {E : Type 0} (result : Result Response E) (s : Settings) (a : Arrival) (m : Queue) (k : List Entry) (x : Asked) (ask : Ask) (e : Refusal) (store : State)
+pub sender_answers : {E : Type 0} (result : Result Response E) (s : Settings) (a : Arrival) (m : Queue) (k : Ledger) (x : Asked) (ask : Ask) (e : Refusal) (store : State)
     → IsAsk a.method a.path.now a.body.now x → x ≡ Step ask → number_of a ≡ Err e → IfOk result (λ reply. reply ≡ refused_response e NoKeys) → Means store m k → Answers s a m k result store
 sender_answers (Ok reply) s a m k x ask e store is asked of replied rests = (
   denied e,
@@ -134,7 +137,7 @@ sender_answers (Ok reply) s a m k x ask e store is asked of replied rests = (
 sender_answers (Err f) s a m k x ask e store is asked of replied rests = rests
 
 -- a reply that is told of an arrival leaves all as it is
-pub told_answers : {E : Type 0} (result : Result Response E) (s : Settings) (a : Arrival) (m : Queue) (k : List Entry) (store : State)
+pub told_answers : {E : Type 0} (result : Result Response E) (s : Settings) (a : Arrival) (m : Queue) (k : Ledger) (store : State)
     → IfOk result (λ reply. IsVerdict s a m k (Told reply)) → Means store m k → Answers s a m k result store
 told_answers (Ok reply) s a m k store is rests = (Told reply, is, (refl, rests))
 told_answers (Err e) s a m k store is rests = rests
@@ -155,9 +158,10 @@ unseen_fault (Next n) body fault is = refl
 unseen_fault (Call n) body fault is = refl
 unseen_fault (Page n) body fault is = refl
 unseen_fault (Outcome n) body fault is = refl
+unseen_fault Floor body fault is = refl
 
 -- the client and the number come before the body
-pub body_told : (s : Settings) (a : Arrival) (m : Queue) (k : List Entry) (fault : BodyFault) (reply : Response) → IsRefused a.method a.path.now a.body.now (BadBody fault)
+pub body_told : (s : Settings) (a : Arrival) (m : Queue) (k : Ledger) (fault : BodyFault) (reply : Response) → IsRefused a.method a.path.now a.body.now (BadBody fault)
     → MatchResult (number_of a) (λ _. reply ≡ refused_response (BadBody fault) NoKeys) (λ e. reply ≡ refused_response e NoKeys) → IsVerdict s a m k (Told reply)
 body_told s a m k fault reply refused told = sent (number_of a) refl told
   where
@@ -181,6 +185,7 @@ no_body_fault (Alter n) body is = is
 no_body_fault (Call n) body is = is
 no_body_fault (Page n) body is = is
 no_body_fault (Outcome n) body is = is
+no_body_fault Floor body is = is
 no_body_fault (Suspend n) body is = is
 no_body_fault (Resume n) body is = is
 no_body_fault (Kill n) body is = is
@@ -189,7 +194,7 @@ no_body_fault (Ready n) body is = absurd (let no = is in cc)
 no_body_fault (Down n) body is = absurd (let no = is in cc)
 no_body_fault (Next n) body is = absurd (let no = is in cc)
 
-pub unrouted : (s : Settings) (a : Arrival) (m : Queue) (k : List Entry) (reply : Response) → IsRefused a.method a.path.now a.body.now NoRoute → reply ≡ refused_response NoRoute NoKeys → IsVerdict s a m k (Told reply)
+pub unrouted : (s : Settings) (a : Arrival) (m : Queue) (k : Ledger) (reply : Response) → IsRefused a.method a.path.now a.body.now NoRoute → reply ≡ refused_response NoRoute NoKeys → IsVerdict s a m k (Told reply)
 unrouted s a m k reply refused told = (Faulty NoRoute, by (request_of a.method a.path.now) refused, ap (λ (x : Response). Told x) told)
   where
     by : (o : Option Request) → MatchOption o (NoRoute ≡ NoRoute) (λ r. IsBodyRefusal r a.body.now NoRoute) → MatchOption o (Faulty NoRoute ≡ Faulty NoRoute) (IsForRoute a (Faulty NoRoute))

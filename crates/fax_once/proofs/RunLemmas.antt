@@ -1,16 +1,22 @@
 -- Looking back over a run gives what taking one arrival after the other gives.
-use Rattle.std.proofs.Common.{◌≡◌, eqb, Bool, true, false, not, ◌&&◌, ◌||◌, List, [], ◌∷◌, ◌++◌, Option, Some, None, refl, sym, ap, subst, ◌∙◌, if◌then◌else◌}
+use Rattle.std.proofs.Common.{◌≡◌, inl, inr, ℕ, eqb, Bool, true, false, not, ◌&&◌, ◌||◌, nat_lt, List, [], ◌∷◌, ◌++◌, Option, Some, None, refl, sym, ap, ◌∙◌, if◌then◌else◌}
 use Rattle.std.specs.Prelude.{is_none}
 use Rattle.std.specs.List.{find, list_any}
 use Rattle.std.specs.Str.{bytes_eq}
+use Rattle.fax_job.specs.declared.refusal.Refusal.TheVariants.{FloorHigh, GivenUp}
+use Rattle.fax_core.specs.Clock.{decided_at}
+use Rattle.fax_core.specs.declared.ask.Ask.{Ask}
+use Rattle.fax_core.specs.Ledger.{Ledger}
+use Rattle.fax_core.specs.Machine.{step}
 use Rattle.fax_core.specs.Queue.{Queue, Entry}
 use Rattle.fax_core.specs.Reply.{Step, Taken, Refused}
-use Rattle.fax_core.specs.Run.{decided}
+use Rattle.fax_core.specs.Run.{decided, left_by}
 use Rattle.fax_core.specs.Settings.{Settings}
 use Rattle.fax_once.specs.Laws.{RunsThread, left_of}
 use Rattle.fax_once.specs.Reading.{Post, Reading, Faulty, Sees, Posts}
-use Rattle.fax_once.specs.Run.{Start, is_new, is_of, kept_after, queue_after, taken, takes, with_taken}
-use Rattle.fax_once.specs.Verdict.{repeated, step_reply, stepped, taken_once, verdict}
+use Rattle.fax_once.proofs.LedgerLemmas.{floors_rise, floors_same, given_finds, gives}
+use Rattle.fax_once.specs.Run.{Start, floors_after, floors_by, is_new, is_of, kept_after, queue_after, taken, takes, with_taken}
+use Rattle.fax_once.specs.Verdict.{asked_above, decided_new, denied, is_too_high, kept_with, new_asked, raised, raised_ask, repeated, step_reply, stepped, taken_once, verdict, without_given}
 use Rattle.fax_store.specs.Kept.{kept_for}
 
 -- ---- a number is new where nothing is kept for it
@@ -34,17 +40,47 @@ regroup true true false = refl
 regroup true false true = refl
 regroup true false false = refl
 
-pub new_is_unkept : (s : Settings) (start : Start) (earlier : List Post) (p : Post) → is_none (kept_for p.client p.number (kept_after s start earlier)) ≡ is_new start earlier p
-new_is_unkept s start [] p = by (is_none (kept_for p.client p.number start.kept))
+-- ---- floors
+
+pub kept_floors : (s : Settings) (start : Start) (posts : List Post) → (kept_after s start posts).floor ≡ floors_after start posts
+kept_floors s start [] = refl
+kept_floors s start (p ∷ earlier) = floors_same p.client p.request.ask (kept_after s start earlier) ∙ ap (floors_by p.client p.request.ask) (kept_floors s start earlier)
+
+-- a number is free: above the client's floor, and with no kept reply
+abbrev pub is_free : Ledger → List ℕ → ℕ → Bool
+is_free k client number = nat_lt (k.floor client) number && is_none (kept_for client number k.replies)
+
+one_more : (g k n n' a b x : Bool) → (g ≡ true → k ≡ true) → (g ≡ true → n' ≡ n) → (k && n) ≡ (k && (a && not b)) → (g && (n' && not x)) ≡ (g && (a && not (x || b)))
+one_more false k n n' a b x up same is = refl
+one_more true k n n' a b x up same is = let found : n ≡ (a && not b) = rw (up refl) at is in ap (λ y. y && not x) (same refl ∙ found) ∙ regroup a b x
+
+pub new_is_free : (s : Settings) (start : Start) (earlier : List Post) (p : Post) → is_free (kept_after s start earlier) p.client p.number ≡ is_new start earlier p
+new_is_free s start [] p = ap (λ b. nat_lt (start.kept.floor p.client) p.number && b) (by (is_none (kept_for p.client p.number start.kept.replies)))
   where
     by : (b : Bool) → b ≡ (b && true)
     by true = refl
     by false = refl
-new_is_unkept s start (q ∷ earlier) p =
-    let reply = step_reply (decided s (queue_after s start.queue earlier) q.request) in
-    none_behind (λ e. bytes_eq e.client p.client && eqb e.number p.number) (kept_after s start earlier) (record { client = q.client; number = q.number; said = q.said; status = reply.status; body = reply.body })
-    ∙ ap (λ b. b && not (is_of p.client p.number q)) (new_is_unkept s start earlier p)
-    ∙ regroup (is_none (kept_for p.client p.number start.kept)) (list_any (is_of p.client p.number) earlier) (is_of p.client p.number q)
+new_is_free s start (q ∷ earlier) p =
+    let k = kept_after s start earlier in
+    let r = raised (k.floor q.client) q in
+    let reply = step_reply (decided s (queue_after s start.queue earlier) r.request) in
+    let given = without_given q.client r.request.ask k in
+    let is = λ (e : Entry). bytes_eq e.client p.client && eqb e.number p.number in
+    let before : is_free k p.client p.number ≡ (nat_lt (k.floor p.client) p.number && (is_none (kept_for p.client p.number start.kept.replies) && not (list_any (is_of p.client p.number) earlier))) = new_is_free s start earlier p
+    ∙ ap (λ (floors : List ℕ → ℕ). nat_lt (floors p.client) p.number && (is_none (kept_for p.client p.number start.kept.replies) && not (list_any (is_of p.client p.number) earlier))) (sym (kept_floors s start earlier)) in
+    ap (λ b. nat_lt (given.floor p.client) p.number && b) (none_behind is given.replies (record { client = q.client; number = q.number; said = q.said; status = reply.status; body = reply.body }))
+    ∙ one_more (nat_lt (given.floor p.client) p.number) (nat_lt (k.floor p.client) p.number) (is_none (kept_for p.client p.number k.replies)) (is_none (kept_for p.client p.number given.replies))
+    (is_none (kept_for p.client p.number start.kept.replies)) (list_any (is_of p.client p.number) earlier) (is_of p.client p.number q)
+    (floors_rise q.client r.request.ask k p.client p.number) (λ above. ap is_none (given_finds q.client r.request.ask k p.client p.number above)) before
+    ∙ ap (λ (floors : List ℕ → ℕ). nat_lt (floors p.client) p.number && (is_none (kept_for p.client p.number start.kept.replies) && not (is_of p.client p.number q || list_any (is_of p.client p.number) earlier))) (kept_floors s start (q ∷ earlier))
+
+-- ---- a request that is raised is taken as it was, and leaves the same queue
+
+pub raised_step : (s : Settings) (m : Queue) (t floor : ℕ) (ask : Ask) → (left_by m (step s m t (raised_ask floor ask)) ≡ left_by m (step s m t ask)) × (takes (step s m t (raised_ask floor ask)) ≡ takes (step s m t ask))
+raised_step s m t floor ask = elim (gives ask) [
+  | inl it ↦ (ap (λ a. left_by m (step s m t (raised_ask floor a))) it.1 ∙ ap (λ a. left_by m (step s m t a)) (sym it.1), ap (λ a. takes (step s m t (raised_ask floor a))) it.1 ∙ ap (λ a. takes (step s m t a)) (sym it.1))
+  | inr other ↦ (ap (λ a. left_by m (step s m t a)) (other.raised floor), ap (λ a. takes (step s m t a)) (other.raised floor))
+]
 
 -- ---- one more arrival
 
@@ -52,7 +88,7 @@ module _ (s : Settings) (start : Start) (earlier : List Post) where
   abbrev m : Queue
   m = queue_after s start.queue earlier
 
-  abbrev k : List Entry
+  abbrev k : Ledger
   k = kept_after s start earlier
 
   abbrev here : Start
@@ -63,26 +99,45 @@ module _ (s : Settings) (start : Start) (earlier : List Post) where
   after posts = record { queue = queue_after s start.queue posts; kept = kept_after s start posts }
 
   module _ (p : Post) where
+    abbrev it : Post
+    it = raised (k.floor p.client) p
+
+    -- the post is taken, by what of it is so
+    abbrev if_taken : Bool → Bool → List Post
+    if_taken new low = if new && (low && takes (decided s m p.request)) then p ∷ earlier else earlier
+
+    same : (left_by m (decided s m it.request) ≡ left_by m (decided s m p.request)) × (takes (decided s m it.request) ≡ takes (decided s m p.request))
+    same = raised_step s m (decided_at m.clock p.request.moment) (k.floor p.client) p.request.ask
+
     by_bytes : (e : Entry) (b : Bool) → bytes_eq e.said p.said ≡ b → here ≡ left_of here (repeated p.said e)
     by_bytes e true is = rw is refl
     by_bytes e false is = rw is refl
 
-    unused : (o : Option Entry) → kept_for p.client p.number k ≡ o → is_new start earlier p ≡ is_none o
-    unused o is = sym (new_is_unkept s start earlier p) ∙ ap is_none is
-
-    by_step : (x : Step) → decided s m p.request ≡ x → after (if takes x then p ∷ earlier else earlier) ≡ left_of here (stepped p k x)
-    by_step (Taken q told) is = rw is refl
+    by_step : (x : Step) → decided s m it.request ≡ x → after (if takes x then p ∷ earlier else earlier) ≡ left_of here (stepped it k x)
+    by_step (Taken q told) is =
+        let queue : left_by m (decided s m p.request) ≡ q = sym same.0 ∙ ap (left_by m) is in
+        ap (λ (x : Queue). record { queue = x; kept = kept_with it k (step_reply (decided s m it.request)) }) queue
+        ∙ ap (λ (x : Step). record { queue = q; kept = kept_with it k (step_reply x) }) is
     by_step (Refused refusal keys) is = refl
 
-    by_entry : (o : Option Entry) → kept_for p.client p.number k ≡ o
-        → after (if is_none o && takes (decided s m p.request) then p ∷ earlier else earlier) ≡ left_of here (taken_once o p.said (stepped p k (decided s m p.request)))
-    by_entry None is = by_step (decided s m p.request) refl
+    by_high : (b : Bool) → is_too_high p.number p.request.ask ≡ b → after (if_taken true (not b)) ≡ left_of here (if b then denied FloorHigh else decided_new s m k it)
+    by_high true is = refl
+    by_high false is = ap (λ (b : Bool). after (if b then p ∷ earlier else earlier)) (sym same.1) ∙ by_step (decided s m it.request) refl
+
+    by_entry : (o : Option Entry) → kept_for p.client p.number k.replies ≡ o → after (if_taken (is_none o) (not (is_too_high p.number p.request.ask))) ≡ left_of here (taken_once o p.said (new_asked s m k (k.floor p.client) p))
+    by_entry None is = by_high (is_too_high p.number p.request.ask) refl
     by_entry (Some e) is = by_bytes e (bytes_eq e.said p.said) refl
+
+    by_floor : (b : Bool) → nat_lt (k.floor p.client) p.number ≡ b
+        → after (if_taken (b && is_none (kept_for p.client p.number k.replies)) (not (is_too_high p.number p.request.ask)))
+        ≡ left_of here (if b then asked_above s m k (k.floor p.client) p else denied GivenUp)
+    by_floor true is = by_entry (kept_for p.client p.number k.replies) refl
+    by_floor false is = refl
 
     posted : after (with_taken s start earlier (Posts p)) ≡ left_of here (verdict s m k (Posts p))
     posted =
-        subst (λ b. after (if b && takes (decided s m p.request) then p ∷ earlier else earlier) ≡ left_of here (verdict s m k (Posts p)))
-        (sym (unused (kept_for p.client p.number k) refl)) (by_entry (kept_for p.client p.number k) refl)
+        ap (λ (b : Bool). after (if_taken b (not (is_too_high p.number p.request.ask)))) (sym (new_is_free s start earlier p))
+        ∙ by_floor (nat_lt (k.floor p.client) p.number) refl
 
   pub behind : (r : Reading) → after (with_taken s start earlier r) ≡ left_of here (verdict s m k r)
   behind (Faulty refusal) = refl

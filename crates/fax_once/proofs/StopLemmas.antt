@@ -1,11 +1,12 @@
 -- What a crash may leave behind an arrival.
-use Rattle.std.proofs.Common.{◌≡◌, inl, inr, Bool, List, ◌++◌, [], ◌∷◌, None, refl, sym, ap, subst, ◌∙◌}
-use Rattle.std.specs.Prelude.{ℕ}
+use Rattle.std.proofs.Common.{◌≡◌, inl, inr, Bool, List, refl, sym, ap, subst, ◌∙◌}
+use Rattle.std.specs.Prelude.{ℕ, Option}
 use Rattle.sqlite.specs.State.{State, HasCleanDisk}
 use Rattle.fax_ask.specs.Response.{Response}
 use Rattle.fax_core.specs.Clock.{decided_at}
 use Rattle.fax_core.specs.Machine.{step}
-use Rattle.fax_core.specs.Queue.{Queue, Entry}
+use Rattle.fax_core.specs.Ledger.{Ledger, with_reply}
+use Rattle.fax_core.specs.Queue.{Queue}
 use Rattle.fax_core.specs.Settings.{Settings}
 use Rattle.fax_core.specs.declared.ask.Ask.{Ask}
 use Rattle.fax_ask.specs.Ask.{IsAsk}
@@ -14,24 +15,23 @@ use Rattle.fax_ask.specs.declared.ask.Ask.TheVariants.{Step}
 use Rattle.fax_decide.specs.Decision.{IsTaken}
 use Rattle.fax_decide.specs.Effect.{accepted}
 use Rattle.fax_decide.specs.declared.effect.Effect.{Effect}
-use Rattle.fax_store.specs.Kept.{kept_for}
 use Rattle.fax_store.specs.Store.{CommitsNothing, HasTables, Means, RowsFound, Serves}
 use Rattle.fax_store.specs.Work.{MayCommit, Opens, Withholds, Works}
 use Rattle.fax_tables.specs.Kept.{entry}
 use Rattle.fax_once.specs.Arrival.{IsSender, said_of}
 use Rattle.fax_once.specs.Reading.{IsReading, Reading, Faulty, Sees, Posts, post_of}
 use Rattle.fax_once.specs.Stop.{AreMadeBy, MayLeave, Stops, StopsBy}
-use Rattle.fax_once.specs.Verdict.{asked_for, kept_with, stepped, verdict}
+use Rattle.fax_once.specs.Verdict.{Verdict, asked_for, decided_new, given_by, kept_with, stepped, verdict, without, without_given}
 use Rattle.fax_once.specs.declared.arrival.Arrival.{Arrival}
 use Rattle.fax_once.specs.declared.sender.Sender.{Sender}
 use Rattle.fax_ask.specs.declared.method.Method.TheVariants.{Get}
 use Rattle.sqlite_trees.specs.Tree.{Trees}
 use Rattle.fax_once.proofs.GetLemmas.{no_post}
 use Rattle.fax_once.proofs.RequestLemmas.{is_post}
-use Rattle.fax_once.proofs.VerdictLemmas.{unused_is}
+use Rattle.fax_once.proofs.VerdictLemmas.{decided_is}
 
 -- the tables are ours where they mean something
-pub has_tables : (s : State) (m : Queue) (k : List Entry) → Means s m k → Serves s → HasTables s
+pub has_tables : (s : State) (m : Queue) (k : Ledger) → Means s m k → Serves s → HasTables s
 has_tables s m k means serves = (means serves).means.schema
 
 module _ (s0 s1 s2 s3 : State) (begun written : Bool) (opens : Opens s0 s1 begun) (tables : Serves s0 → HasTables s0) (writes : Withholds s1 begun s2 written) where
@@ -40,7 +40,7 @@ module _ (s0 s1 s2 s3 : State) (begun written : Bool) (opens : Opens s0 s1 begun
   dropped_stops drops found may = opens.1 found ((writes (opens.0 tables)).1 found (drops found may))
 
   -- a work whose commit was asked for, done or not
-  pub committed_stops : (m₀ m : Queue) (k₀ k : List Entry) → Works s2 written m₀ k₀ m k → (HasCleanDisk s3 → HasCleanDisk s2) → (Serves s2 → Serves s0) → MayCommit s2 written s3 → MayLeave s0 s3 m k
+  pub committed_stops : (m₀ m : Queue) (k₀ k : Ledger) → Works s2 written m₀ k₀ m k → (HasCleanDisk s3 → HasCleanDisk s2) → (Serves s2 → Serves s0) → MayCommit s2 written s3 → MayLeave s0 s3 m k
   committed_stops m₀ m k₀ k works cleaner served commits found may =
       let wrote = writes (opens.0 tables) in
       elim (commits wrote.0 found may) [
@@ -50,46 +50,52 @@ module _ (s0 s1 s2 s3 : State) (begun written : Bool) (opens : Opens s0 s1 begun
             inr (served serves, (s2.now, sym done.2, ((works serves).goes_on done.0).means)))
       ]
 
--- and then something by a verdict
-pub then_stops : (a b c : State) (v : _) → CommitsNothing a b → StopsBy b c v → StopsBy a c v
-then_stops a b c v first next found may = elim (next found may) [ inl before ↦ inl (first found before) | inr made ↦ inr made ]
+-- and then something by a verdict, which is this one where the store serves
+pub then_stops : (a b c : State) (v w : Verdict) → CommitsNothing a b → (Serves b → Serves a) → (Serves b → v ≡ w) → StopsBy b c v → StopsBy a c w
+then_stops a b c v w first served is next found may = elim (next found may) [
+  | inl before ↦ inl (first found before)
+  | inr made ↦ inr (served made.0, subst (λ x. AreMadeBy x found) (is made.0) made.1)
+]
 
 -- what is taken makes the rows of the verdict
-pub taken_stops : (s : Settings) (a : Arrival) (m : Queue) (k : List Entry) (sender : Sender) (t : ℕ) (ask : Ask) (effect : Effect) (reply : Response) (old new : State)
-    → IsSender a sender → (Serves old → kept_for sender.client.now sender.number k ≡ None) → (Serves old → t ≡ decided_at m.clock a.moment) → (Serves old → IsTaken (step s m t ask) m t effect reply)
-    → MayLeave old new (accepted t effect m) (k ++ entry sender.client.now sender.number (said_of a) reply.status reply.body ∷ []) → StopsBy old new (asked_for s m k (post_of a sender.number ask))
-taken_stops s a m k sender t ask effect reply old new from is now by leaves found may =
+pub taken_stops : (s : Settings) (a : Arrival) (m : Queue) (k : Ledger) (sender : Sender) (t : ℕ) (ask : Ask) (effect : Effect) (given : Option ℕ) (reply : Response) (old new : State)
+    → given ≡ given_by ask → IsSender a sender → (Serves old → t ≡ decided_at m.clock a.moment) → (Serves old → IsTaken (step s m t ask) m t effect reply)
+    → MayLeave old new (accepted t effect m) (with_reply (entry sender.client.now sender.number (said_of a) reply.status reply.body) (without sender.client.now given k))
+    → StopsBy old new (decided_new s m k (post_of a sender.number ask))
+taken_stops s a m k sender t ask effect given reply old new gives_so from now by leaves found may =
     elim (leaves found may) [
       | inl before ↦ inl before
-      | inr made ↦ inr (rows (is made.0) (now made.0) (by made.0) made.1)
+      | inr made ↦ inr (made.0, rows (now made.0) (by made.0) made.1)
     ]
   where
-    rows : kept_for sender.client.now sender.number k ≡ None → t ≡ decided_at m.clock a.moment → IsTaken (step s m t ask) m t effect reply
-        → RowsFound found (accepted t effect m) (k ++ entry sender.client.now sender.number (said_of a) reply.status reply.body ∷ []) → AreMadeBy (asked_for s m k (post_of a sender.number ask)) found
-    rows unused at taken has =
+    rows : t ≡ decided_at m.clock a.moment → IsTaken (step s m t ask) m t effect reply
+        → RowsFound found (accepted t effect m) (with_reply (entry sender.client.now sender.number (said_of a) reply.status reply.body) (without sender.client.now given k))
+        → AreMadeBy (decided_new s m k (post_of a sender.number ask)) found
+    rows at taken has =
         subst (λ v. AreMadeBy v found)
-        (ap (stepped (post_of a sender.number ask) k) (sym taken.taken) ∙ unused_is s a m k sender.number t ask (ap (λ client. kept_for client sender.number k) (sym from.client) ∙ unused) at)
+        (ap (stepped (post_of a sender.number ask) k) (sym taken.taken) ∙ decided_is s a m k sender.number t ask at)
         (subst (λ (r : Response). RowsFound found (accepted t effect m) (kept_with (post_of a sender.number ask) k r)) taken.replied
-        (subst (λ client. RowsFound found (accepted t effect m) (k ++ entry client sender.number (said_of a) reply.status reply.body ∷ [])) from.client has))
+        (subst (λ client. RowsFound found (accepted t effect m) (with_reply (entry client sender.number (said_of a) reply.status reply.body) (without_given client ask k))) from.client
+        (subst (λ x. RowsFound found (accepted t effect m) (with_reply (entry sender.client.now sender.number (said_of a) reply.status reply.body) (without sender.client.now x k))) gives_so has)))
 
 -- the verdict is that of the arrival
-pub asked_stops : (s : Settings) (a : Arrival) (m : Queue) (k : List Entry) (sender : Sender) (x : Asked) (ask : Ask) (old new : State)
+pub asked_stops : (s : Settings) (a : Arrival) (m : Queue) (k : Ledger) (sender : Sender) (x : Asked) (ask : Ask) (old new : State)
     → IsAsk a.method a.path.now a.body.now x → x ≡ Step ask → IsSender a sender → StopsBy old new (asked_for s m k (post_of a sender.number ask)) → Stops s a m k old new
 asked_stops s a m k sender x ask old new is asked from stops found may =
     elim (stops found may) [
       | inl before ↦ inl before
-      | inr made ↦ inr (asked_for s m k (post_of a sender.number ask), is_post s a m k sender x ask is asked from, made)
+      | inr made ↦ inr (asked_for s m k (post_of a sender.number ask), is_post s a m k sender x ask is asked from, made.1)
     ]
 
 -- ---- a GET
 
-none_made : (s : Settings) (a : Arrival) (m : Queue) (k : List Entry) (found : Trees) → a.method ≡ Get → (r : Reading) → IsReading a r → AreMadeBy (verdict s m k r) found → ⊥
+none_made : (s : Settings) (a : Arrival) (m : Queue) (k : Ledger) (found : Trees) → a.method ≡ Get → (r : Reading) → IsReading a r → AreMadeBy (verdict s m k r) found → ⊥
 none_made s a m k found get (Faulty refusal) reads made = made
 none_made s a m k found get (Sees moment what) reads made = made
 none_made s a m k found get (Posts p) reads made = no_post a (Posts p) p get reads refl
 
 -- it makes no rows
-pub gets_nothing : (s : Settings) (a : Arrival) (m : Queue) (k : List Entry) (old new : State) → a.method ≡ Get → Stops s a m k old new → CommitsNothing old new
+pub gets_nothing : (s : Settings) (a : Arrival) (m : Queue) (k : Ledger) (old new : State) → a.method ≡ Get → Stops s a m k old new → CommitsNothing old new
 gets_nothing s a m k old new get stops found may = elim (stops found may) [
   | inl before ↦ before
   | inr (v, (r, reads, is), made) ↦ absurd (none_made s a m k found get r reads (subst (λ w. AreMadeBy w found) is made))

@@ -4,7 +4,7 @@ use Rattle.std.proofs.lemmas.Bool.{cases_Bool, eq-eqb, ne_eqb, or_cases}
 use Rattle.fax_core.specs.Ask.{IsLawfulAsk}
 use Rattle.fax_core.specs.Clock.{decided_at}
 use Rattle.fax_core.specs.declared.ask.Ask.{Ask}
-use Rattle.fax_core.specs.declared.ask.Ask.TheVariants.{Submission, Bring, Suspend, Resume, Kill, Alteration, Ready, Down, Next, CallReport, PageReport, OutcomeReport}
+use Rattle.fax_core.specs.declared.ask.Ask.TheVariants.{Submission, Bring, Suspend, Resume, Kill, Alteration, Ready, Down, Next, CallReport, PageReport, OutcomeReport, GiveUp}
 use Rattle.fax_core.specs.Job.{Job}
 use Rattle.fax_core.specs.Queue.{Queue, empty_queue, grant_numbered}
 use Rattle.fax_core.specs.Reply.{Reply, Step, Taken, Refused}
@@ -35,6 +35,7 @@ reported_same f g same (Alteration a c) = refl
 reported_same f g same (Ready modem) = refl
 reported_same f g same (Down modem) = refl
 reported_same f g same (Next modem) = refl
+reported_same f g same (GiveUp upto) = refl
 
 reported_none : (ask : Ask) → reported (λ a. false) ask ≡ []
 reported_none (CallReport a c) = refl
@@ -49,6 +50,7 @@ reported_none (Alteration a c) = refl
 reported_none (Ready modem) = refl
 reported_none (Down modem) = refl
 reported_none (Next modem) = refl
+reported_none (GiveUp upto) = refl
 
 -- ---- what holds after each post
 

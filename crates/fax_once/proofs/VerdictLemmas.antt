@@ -1,16 +1,19 @@
 -- What comes of an arrival.
-use Rattle.std.proofs.Common.{◌≡◌, ◌⊎◌, inl, inr, ℕ, Bool, true, false, List, [], ◌∷◌, ◌++◌, Some, None, Ok, Err, refl, sym, ap, subst, ◌∙◌, if◌then◌else◌}
+use Rattle.std.proofs.Common.{◌≡◌, ◌⊎◌, ◌<◌, ◌≤◌, inl, inr, ℕ, Bool, true, false, nat_lt, List, Option, Some, None, Ok, Err, refl, sym, ap, subst, ◌∙◌, arith, if◌then◌else◌}
+use Rattle.std.proofs.lemmas.Bool.Decides.{nat_tests}
 use Rattle.std.specs.Prelude.{Result, OnOk, MatchResult}
 use Rattle.std.specs.Str.{bytes_eq}
 use Rattle.sqlite.specs.State.{State, HasCleanDisk}
-use Rattle.fax_job.specs.declared.refusal.Refusal.TheVariants.{NumberReused}
+use Rattle.fax_job.specs.declared.refusal.Refusal.TheVariants.{FloorHigh, GivenUp, NumberReused}
 use Rattle.fax_ask.specs.Ask.{IsLawfulStep}
 use Rattle.fax_ask.specs.Response.{Response, kept_response, refused_response}
 use Rattle.fax_core.specs.Ask.{IsLawfulAsk}
 use Rattle.fax_core.specs.declared.ask.Ask.{Ask}
 use Rattle.fax_core.specs.declared.ask.Ask.TheVariants as machine
+use Rattle.fax_core.specs.declared.ask.Ask.TheVariants.{GiveUp}
 use Rattle.fax_core.specs.Clock.{decided_at}
 use Rattle.fax_core.specs.Machine.{step}
+use Rattle.fax_core.specs.Ledger.{Ledger, greater, with_reply}
 use Rattle.fax_core.specs.Queue.{Queue, Entry}
 use Rattle.fax_core.specs.Reply.{NoKeys}
 use Rattle.fax_core.specs.Settings.{Settings}
@@ -25,19 +28,23 @@ use Rattle.fax_once.specs.Arrival.{IsSender, said_of}
 use Rattle.fax_decide.specs.Decision.{IsTaken, IsRefused as IsRefusedBy}
 use Rattle.fax_decide.specs.Effect.{accepted}
 use Rattle.fax_once.specs.Reading.{post_of}
-use Rattle.fax_once.specs.Verdict.{Verdict, Told, Repeated, Accepted, Handles, kept_with, repeated, stepped, taken_once, asked_for, Leaves, LeavesBy}
+use Rattle.fax_once.proofs.LedgerLemmas.{gives}
+use Rattle.fax_once.specs.Verdict.{Verdict, Told, Repeated, Accepted, Handles, asked_above, asked_for, decided_new, denied, given_by, is_too_high, kept_with, new_asked, raised_ask, repeated, stepped, taken_once, without, without_given, Leaves, LeavesBy}
 use Rattle.fax_once.specs.declared.arrival.Arrival.{Arrival}
 use Rattle.fax_decide.specs.declared.effect.Effect.{Effect}
 use Rattle.fax_once.specs.declared.sender.Sender.{Sender}
 
--- what is asked for by an arrival under this number
-abbrev pub asked_by : Settings → Arrival → Queue → List Entry → ℕ → Ask → Verdict
-asked_by s a m k number ask = asked_for s m k (post_of a number ask)
+-- a number is above another, or through it
+is_below : (a b : ℕ) → a < b → nat_lt a b ≡ true
+is_below a b low = grind (arith, nat_tests)
+
+is_through : (a b : ℕ) → b ≤ a → nat_lt a b ≡ false
+is_through a b low = grind (arith, nat_tests)
 
 -- ---- a store that gives out
 
 -- the store serves and has what it means, or it is shut
-pub gives_out : (s : State) (m : Queue) (k : List Entry) → HasCleanDisk s → Means s m k → (Serves s × IsAtRest s m k) ⊎ (s.is_open ≡ false)
+pub gives_out : (s : State) (m : Queue) (k : Ledger) → HasCleanDisk s → Means s m k → (Serves s × IsAtRest s m k) ⊎ (s.is_open ≡ false)
 gives_out s m k clean means = by s.is_open refl
   where
     by : (b : Bool) → s.is_open ≡ b → (Serves s × IsAtRest s m k) ⊎ (s.is_open ≡ false)
@@ -47,12 +54,12 @@ gives_out s m k clean means = by s.is_open refl
     by false shut = inr shut
 
 -- either way it means that as long as it serves
-pub still_means : (s : State) (m : Queue) (k : List Entry) → (Serves s × IsAtRest s m k) ⊎ (s.is_open ≡ false) → Means s m k
+pub still_means : (s : State) (m : Queue) (k : Ledger) → (Serves s × IsAtRest s m k) ⊎ (s.is_open ≡ false) → Means s m k
 still_means s m k (inl (serves, rests)) _ = rests
 still_means s m k (inr shut) serves = absurd (let no = sym serves.is_open ∙ shut in cc)
 
 -- no work is under way in a store that serves
-pub idle_by : (s : Settings) (a : Arrival) (m : Queue) (k : List Entry) (reply : Response) (store : State) → Handles s a m k reply store → Serves store → store.in_transaction ≡ false
+pub idle_by : (s : Settings) (a : Arrival) (m : Queue) (k : Ledger) (reply : Response) (store : State) → Handles s a m k reply store → Serves store → store.in_transaction ≡ false
 idle_by s a m k reply store (inl (v, is, leaves)) serves = by v leaves
   where
     by : (v : Verdict) → Leaves m k reply store v → store.in_transaction ≡ false
@@ -64,7 +71,7 @@ idle_by s a m k reply store (inr gone) serves = (still_means store m k gone.1 se
 -- ---- repeats
 
 -- what is kept tells its entry
-repeats_as : (m : Queue) (k : List Entry) (said : List ℕ) (kept : Kept) (e : Entry) (reply : Response) (store : State) (b : Bool) → Tells kept e → Serves store → IsAtRest store m k
+repeats_as : (m : Queue) (k : Ledger) (said : List ℕ) (kept : Kept) (e : Entry) (reply : Response) (store : State) (b : Bool) → Tells kept e → Serves store → IsAtRest store m k
     → bytes_eq kept.said.items said ≡ b → reply ≡ (if b then kept_response kept.status kept.body.items else refused_response NumberReused NoKeys) → Leaves m k reply store (repeated said e)
 repeats_as m k said kept e reply store true tells serves rests same is =
     let says : bytes_eq e.said said ≡ true = ap (λ x. bytes_eq x said) (sym tells.said) ∙ same in
@@ -73,56 +80,117 @@ repeats_as m k said kept e reply store false tells serves rests same is =
     let says : bytes_eq e.said said ≡ false = ap (λ x. bytes_eq x said) (sym tells.said) ∙ same in
     rw says (is, λ _. rests)
 
--- a number with a kept reply gets it where the same is said, and is refused else
-pub repeated_leaves : (s : Settings) (a : Arrival) (m : Queue) (k : List Entry) (sender : Sender) (ask : Ask) (kept : Kept) (e : Entry) (reply : Response) (store : State)
-    → IsSender a sender → kept_for sender.client.now sender.number k ≡ Some e → Tells kept e → Serves store → IsAtRest store m k
+-- a number above the floor with a kept reply gets it where the same is said, and is refused else
+pub repeated_leaves : (s : Settings) (a : Arrival) (m : Queue) (k : Ledger) (floor : ℕ) (sender : Sender) (ask : Ask) (kept : Kept) (e : Entry) (reply : Response) (store : State)
+    → IsSender a sender → kept_for sender.client.now sender.number k.replies ≡ Some e → Tells kept e → Serves store → IsAtRest store m k
     → reply ≡ (if bytes_eq kept.said.items (said_of a) then kept_response kept.status kept.body.items else refused_response NumberReused NoKeys)
-    → Leaves m k reply store (asked_by s a m k sender.number ask)
-repeated_leaves s a m k sender ask kept e reply store from found tells serves rests is =
-    let here : kept_for a.client.now sender.number k ≡ Some e = ap (λ client. kept_for client sender.number k) (sym from.client) ∙ found in
-    subst (λ o. Leaves m k reply store (taken_once o (said_of a) (stepped (post_of a sender.number ask) k (step s m (decided_at m.clock a.moment) ask)))) (sym here)
+    → Leaves m k reply store (asked_above s m k floor (post_of a sender.number ask))
+repeated_leaves s a m k floor sender ask kept e reply store from found tells serves rests is =
+    let here : kept_for a.client.now sender.number k.replies ≡ Some e = ap (λ client. kept_for client sender.number k.replies) (sym from.client) ∙ found in
+    subst (λ o. Leaves m k reply store (taken_once o (said_of a) (new_asked s m k floor (post_of a sender.number ask)))) (sym here)
     (repeats_as m k (said_of a) kept e reply store (bytes_eq kept.said.items (said_of a)) tells serves rests refl is)
+
+-- one without a kept reply is new
+pub unused_is : (s : Settings) (a : Arrival) (m : Queue) (k : Ledger) (floor : ℕ) (sender : Sender) (ask : Ask) → IsSender a sender → kept_for sender.client.now sender.number k.replies ≡ None
+    → new_asked s m k floor (post_of a sender.number ask) ≡ asked_above s m k floor (post_of a sender.number ask)
+unused_is s a m k floor sender ask from is =
+    let here : kept_for a.client.now sender.number k.replies ≡ None = ap (λ client. kept_for client sender.number k.replies) (sym from.client) ∙ is in
+    ap (λ o. taken_once o (said_of a) (new_asked s m k floor (post_of a sender.number ask))) (sym here)
+
+-- ---- floors
+
+-- a number above the floor is asked for above it
+pub above_is : (s : Settings) (a : Arrival) (m : Queue) (k : Ledger) (floor : ℕ) (sender : Sender) (ask : Ask) → IsSender a sender → floor ≡ k.floor sender.client.now → floor < sender.number
+    → asked_above s m k floor (post_of a sender.number ask) ≡ asked_for s m k (post_of a sender.number ask)
+above_is s a m k floor sender ask from is above =
+    let here : floor ≡ k.floor a.client.now = is ∙ ap k.floor from.client in
+    let high : nat_lt (k.floor a.client.now) sender.number ≡ true = ap (λ f. nat_lt f sender.number) (sym here) ∙ is_below floor sender.number above in
+    ap (λ f. asked_above s m k f (post_of a sender.number ask)) here
+    ∙ ap (λ b. if b then asked_above s m k (k.floor a.client.now) (post_of a sender.number ask) else denied GivenUp) (sym high)
+
+-- one through it is refused
+pub given_up_is : (s : Settings) (a : Arrival) (m : Queue) (k : Ledger) (floor : ℕ) (sender : Sender) (ask : Ask) → IsSender a sender → floor ≡ k.floor sender.client.now → sender.number ≤ floor
+    → denied GivenUp ≡ asked_for s m k (post_of a sender.number ask)
+given_up_is s a m k floor sender ask from is through =
+    let here : floor ≡ k.floor a.client.now = is ∙ ap k.floor from.client in
+    let low : nat_lt (k.floor a.client.now) sender.number ≡ false = ap (λ f. nat_lt f sender.number) (sym here) ∙ is_through floor sender.number through in
+    ap (λ b. if b then asked_above s m k (k.floor a.client.now) (post_of a sender.number ask) else denied GivenUp) (sym low)
+
+-- what asks for too high a floor is refused, and all else is decided as it is raised
+pub raised_is : (s : Settings) (m : Queue) (k : Ledger) (floor number : ℕ) (a : Arrival) (ask raised : Ask) → ◌≡◌ {A = Option Ask} (Some raised) (if is_too_high number ask then None else Some (raised_ask floor ask))
+    → decided_new s m k (post_of a number raised) ≡ new_asked s m k floor (post_of a number ask)
+raised_is s m k floor number a ask raised is = by (is_too_high number ask) is
+  where
+    by : (b : Bool) → ◌≡◌ {A = Option Ask} (Some raised) (if b then None else Some (raised_ask floor ask))
+        → decided_new s m k (post_of a number raised) ≡ (if b then denied FloorHigh else decided_new s m k (post_of a number (raised_ask floor ask)))
+    by true e = absurd cc
+    by false e = let same : raised ≡ raised_ask floor ask = cc in ap (λ x. decided_new s m k (post_of a number x)) same
+
+pub too_high_is : (s : Settings) (m : Queue) (k : Ledger) (floor number : ℕ) (a : Arrival) (ask : Ask) → ◌≡◌ {A = Option Ask} None (if is_too_high number ask then None else Some (raised_ask floor ask))
+    → denied FloorHigh ≡ new_asked s m k floor (post_of a number ask)
+too_high_is s m k floor number a ask is = by (is_too_high number ask) is
+  where
+    by : (b : Bool) → ◌≡◌ {A = Option Ask} None (if b then None else Some (raised_ask floor ask))
+        → denied FloorHigh ≡ (if b then denied FloorHigh else decided_new s m k (post_of a number (raised_ask floor ask)))
+    by true e = refl
+    by false e = absurd cc
+
+-- what is raised is as lawful
+pub raised_lawful : (floor number : ℕ) (ask raised : Ask) → ◌≡◌ {A = Option Ask} (Some raised) (if is_too_high number ask then None else Some (raised_ask floor ask)) → IsLawfulStep ask → IsLawfulStep raised
+raised_lawful floor number ask raised is lawful = elim (gives ask) [
+  | inl it ↦ by it.0 (is_too_high number (GiveUp it.0)) (is ∙ ap (λ a. if is_too_high number a then None else Some (raised_ask floor a)) it.1)
+  | inr other ↦ subst IsLawfulStep (sym (same (is ∙ ap (λ b. if b then None else Some (raised_ask floor ask)) (other.low number)) ∙ other.raised floor)) lawful
+]
+  where
+    same : {x y : Ask} → ◌≡◌ {A = Option Ask} (Some x) (Some y) → x ≡ y
+    same e = cc
+
+    by : (upto : ℕ) (b : Bool) → ◌≡◌ {A = Option Ask} (Some raised) (if b then None else Some (GiveUp (greater floor upto))) → IsLawfulStep raised
+    by upto true e = absurd cc
+    by upto false e = subst IsLawfulStep (sym (same e)) _
 
 -- ---- what is asked for
 
-pub unused_is : (s : Settings) (a : Arrival) (m : Queue) (k : List Entry) (number t : ℕ) (ask : Ask) → kept_for a.client.now number k ≡ None → t ≡ decided_at m.clock a.moment
-    → stepped (post_of a number ask) k (step s m t ask) ≡ asked_by s a m k number ask
-unused_is s a m k number t ask is now = rw is (ap (λ (u : ℕ). stepped (post_of a number ask) k (step s m u ask)) now)
+pub decided_is : (s : Settings) (a : Arrival) (m : Queue) (k : Ledger) (number t : ℕ) (ask : Ask) → t ≡ decided_at m.clock a.moment
+    → stepped (post_of a number ask) k (step s m t ask) ≡ decided_new s m k (post_of a number ask)
+decided_is s a m k number t ask now = ap (λ (u : ℕ). stepped (post_of a number ask) k (step s m u ask)) now
 
 -- what is refused is told
-pub refused_leaves : (s : Settings) (a : Arrival) (m : Queue) (k : List Entry) (sender : Sender) (t : ℕ) (ask : Ask) (reply : Response) (store : State)
-    → IsSender a sender → kept_for sender.client.now sender.number k ≡ None → t ≡ decided_at m.clock a.moment → IsRefusedBy (step s m t ask) reply → Means store m k → Leaves m k reply store (asked_by s a m k sender.number ask)
-refused_leaves s a m k sender t ask reply store from is now by rests =
+pub refused_leaves : (s : Settings) (a : Arrival) (m : Queue) (k : Ledger) (sender : Sender) (t : ℕ) (ask : Ask) (reply : Response) (store : State)
+    → t ≡ decided_at m.clock a.moment → IsRefusedBy (step s m t ask) reply → Means store m k → Leaves m k reply store (decided_new s m k (post_of a sender.number ask))
+refused_leaves s a m k sender t ask reply store now by rests =
     subst (Leaves m k reply store)
-    (ap (stepped (post_of a sender.number ask) k) (sym by.refused) ∙ unused_is s a m k sender.number t ask (ap (λ client. kept_for client sender.number k) (sym from.client) ∙ is) now)
+    (ap (stepped (post_of a sender.number ask) k) (sym by.refused) ∙ decided_is s a m k sender.number t ask now)
     (by.replied, rests)
 
 -- what is taken is accepted, and leaves a sound queue
-taken_leaves : (s : Settings) (a : Arrival) (m : Queue) (k : List Entry) (sender : Sender) (t : ℕ) (ask : Ask) (effect : Effect) (reply : Response) (store : State)
-    → Sound m → IsLawfulAsk ask → IsSender a sender → kept_for sender.client.now sender.number k ≡ None → t ≡ decided_at m.clock a.moment → IsTaken (step s m t ask) m t effect reply
-    → Serves store → IsAtRest store (accepted t effect m) (k ++ entry sender.client.now sender.number (said_of a) reply.status reply.body ∷ []) → Leaves m k reply store (asked_by s a m k sender.number ask)
-taken_leaves s a m k sender t ask effect reply store sound lawful from is now by serves rests =
+taken_leaves : (s : Settings) (a : Arrival) (m : Queue) (k : Ledger) (sender : Sender) (t : ℕ) (ask : Ask) (effect : Effect) (given : Option ℕ) (reply : Response) (store : State)
+    → given ≡ given_by ask → Sound m → IsLawfulAsk ask → IsSender a sender → t ≡ decided_at m.clock a.moment → IsTaken (step s m t ask) m t effect reply
+    → Serves store → IsAtRest store (accepted t effect m) (with_reply (entry sender.client.now sender.number (said_of a) reply.status reply.body) (without sender.client.now given k))
+    → Leaves m k reply store (decided_new s m k (post_of a sender.number ask))
+taken_leaves s a m k sender t ask effect given reply store gives_so sound lawful from now by serves rests =
     subst (Leaves m k reply store)
-    (ap (stepped (post_of a sender.number ask) k) (sym by.taken) ∙ unused_is s a m k sender.number t ask (ap (λ client. kept_for client sender.number k) (sym from.client) ∙ is) now) (
+    (ap (stepped (post_of a sender.number ask) k) (sym by.taken) ∙ decided_is s a m k sender.number t ask now) (
       by.replied,
       serves,
       subst (λ (r : Response). IsAtRest store (accepted t effect m) (kept_with (post_of a sender.number ask) k r)) by.replied
-          (subst (λ client. IsAtRest store (accepted t effect m) (k ++ entry client sender.number (said_of a) reply.status reply.body ∷ [])) from.client rests),
+          (subst (λ client. IsAtRest store (accepted t effect m) (with_reply (entry client sender.number (said_of a) reply.status reply.body) (without_given client ask k))) from.client
+          (subst (λ x. IsAtRest store (accepted t effect m) (with_reply (entry sender.client.now sender.number (said_of a) reply.status reply.body) (without sender.client.now x k))) gives_so rests)),
       step_sound s m (accepted t effect m) t ask by.told sound lawful by.taken,
     )
 
 -- what is known of the decision, and what its acceptance leaves
-pub accepted_leaves : {E : Type 0} (result : Result Response E) (s : Settings) (a : Arrival) (m : Queue) (k : List Entry) (sender : Sender) (t : ℕ) (ask : Ask) (effect : Effect) (reply : Response) (old new : State)
-    → Sound m → IsLawfulAsk ask → IsSender a sender
-    → (Serves old → kept_for sender.client.now sender.number k ≡ None) → (Serves old → t ≡ decided_at m.clock a.moment) → (Serves old → IsTaken (step s m t ask) m t effect reply)
+pub accepted_leaves : {E : Type 0} (result : Result Response E) (s : Settings) (a : Arrival) (m : Queue) (k : Ledger) (sender : Sender) (t : ℕ) (ask : Ask) (effect : Effect) (given : Option ℕ) (reply : Response) (old new : State)
+    → given ≡ given_by ask → Sound m → IsLawfulAsk ask → IsSender a sender
+    → (Serves old → t ≡ decided_at m.clock a.moment) → (Serves old → IsTaken (step s m t ask) m t effect reply)
     → OnOk result (Serves new → Serves old) → OnOk result (HasCleanDisk new → Serves new)
-    → MatchResult result (λ told. (told ≡ reply) × Means new (accepted t effect m) (k ++ entry sender.client.now sender.number (said_of a) reply.status reply.body ∷ [])) (λ _. Means new m k)
-    → HasCleanDisk new → LeavesBy m k result new (asked_by s a m k sender.number ask)
-accepted_leaves (Ok told) s a m k sender t ask effect reply old new sound lawful from is now by served opens made clean =
+    → MatchResult result (λ told. (told ≡ reply) × Means new (accepted t effect m) (with_reply (entry sender.client.now sender.number (said_of a) reply.status reply.body) (without sender.client.now given k))) (λ _. Means new m k)
+    → HasCleanDisk new → LeavesBy m k result new (decided_new s m k (post_of a sender.number ask))
+accepted_leaves (Ok told) s a m k sender t ask effect given reply old new gives_so sound lawful from now by served opens made clean =
     let serves = opens clean in
     let before = served serves in
-    subst (λ (r : Response). Leaves m k r new (asked_by s a m k sender.number ask)) (sym made.0) (taken_leaves s a m k sender t ask effect reply new sound lawful from (is before) (now before) (by before) serves (made.1 serves))
-accepted_leaves (Err e) s a m k sender t ask effect reply old new sound lawful from is now by served opens made clean = made
+    subst (λ (r : Response). Leaves m k r new (decided_new s m k (post_of a sender.number ask))) (sym made.0) (taken_leaves s a m k sender t ask effect given reply new gives_so sound lawful from (now before) (by before) serves (made.1 serves))
+accepted_leaves (Err e) s a m k sender t ask effect given reply old new gives_so sound lawful from now by served opens made clean = made
 
 -- what is lawful to ask
 pub lawful_ask : (ask : Ask) → IsLawfulStep ask → IsLawfulAsk ask
@@ -138,3 +206,4 @@ lawful_ask (machine.Next modem) is = _
 lawful_ask (machine.CallReport grant call) is = _
 lawful_ask (machine.PageReport grant page) is = _
 lawful_ask (machine.OutcomeReport grant outcome) is = _
+lawful_ask (machine.GiveUp upto) is = _

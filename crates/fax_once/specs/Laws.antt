@@ -1,13 +1,15 @@
 -- What is proved of the definitions.
-use Rattle.std.specs.Prelude.{true, false, ⊤, ◌≡◌, ◌≢◌, ◌≤◌, ◌<◌, ℕ, List, [], ◌∷◌, All, ◌++◌, length, None, Some, Ok}
+use Rattle.std.specs.Prelude.{true, false, ⊤, ◌≡◌, ◌≢◌, ◌≤◌, ◌<◌, ◌⊎◌, ℕ, List, [], ◌∷◌, All, ◌++◌, None, Some, Ok}
 use Rattle.sqlite.specs.State.{State}
 use Rattle.fax_ask.specs.Response.{Response}
 use Rattle.fax_core.specs.Ask.{IsLawfulAsk}
 use Rattle.fax_core.specs.Job.{Job}
 use Rattle.fax_core.specs.Laws.{HoldsOnce}
+use Rattle.fax_core.specs.Ledger.{Ledger, with_reply}
 use Rattle.fax_core.specs.Queue.{Queue, Entry, empty_queue, grant_numbered}
 use Rattle.fax_core.specs.Reply.{Given, Handed, Reply, Taken}
 use Rattle.fax_core.specs.declared.ask.Ask.TheVariants.{Next, PageReport}
+use Rattle.fax_core.specs.declared.ask.Ask.{Ask}
 use Rattle.fax_core.specs.declared.grants.Grant.{Grant}
 use Rattle.fax_core.specs.Run.{decided}
 use Rattle.fax_core.specs.Settings.{Settings}
@@ -17,10 +19,10 @@ use Rattle.fax_store.specs.Store.{Means}
 use Rattle.fax_tables.specs.Kept.{entry}
 use Rattle.fax_tables.specs.Tables.{IsKeptStatus, IsLawfulEntry}
 use Rattle.fax_once.specs.Arrival.{number_of, said_of}
-use Rattle.fax_once.specs.Reading.{Post, Reading, Posts, IsReading}
+use Rattle.fax_once.specs.Reading.{Post, Reading, Posts, IsReading, post_of}
 use Rattle.fax_once.specs.Counts.{brought_with, counters_of, counts, reports_of}
 use Rattle.fax_once.specs.Run.{Start, IsRun, end_of, is_taken, queue_after, reply_at, taken, takes}
-use Rattle.fax_once.specs.Verdict.{Verdict, Told, Repeated, Accepted, IsVerdict, reply_of, verdict}
+use Rattle.fax_once.specs.Verdict.{Verdict, Told, Repeated, Accepted, IsVerdict, reply_of, verdict, without_given}
 use Rattle.fax_once.specs.declared.arrival.Arrival.{Arrival}
 
 -- an arrival says one thing at most
@@ -29,25 +31,25 @@ OneReading = (a : Arrival) (r q : Reading) → IsReading a r → IsReading a q �
 
 -- so it comes to one thing at most
 abbrev pub OneVerdict : Type 0
-OneVerdict = (settings : Settings) (a : Arrival) (m : Queue) (k : List Entry) (v w : Verdict) → IsVerdict settings a m k v → IsVerdict settings a m k w → v ≡ w
+OneVerdict = (settings : Settings) (a : Arrival) (m : Queue) (k : Ledger) (v w : Verdict) → IsVerdict settings a m k v → IsVerdict settings a m k w → v ≡ w
 
 -- an arrival says something, so it comes to something
 abbrev pub HasVerdict : Arrival → Type 0
-HasVerdict a = (settings : Settings) (m : Queue) (k : List Entry) → (v : Verdict) × IsVerdict settings a m k v
+HasVerdict a = (settings : Settings) (m : Queue) (k : Ledger) → (v : Verdict) × IsVerdict settings a m k v
 
 -- at a sound queue with lawful kept replies no arrival comes to 503, which stands for want of memory or of the store
 abbrev pub NoVerdictIsUnavailable : Type 0
-NoVerdictIsUnavailable = (settings : Settings) (a : Arrival) (m : Queue) (k : List Entry) (v : Verdict) → Sound m → All IsLawfulEntry k → IsVerdict settings a m k v → (reply_of v).status ≢ 503
+NoVerdictIsUnavailable = (settings : Settings) (a : Arrival) (m : Queue) (k : Ledger) (v : Verdict) → Sound m → All IsLawfulEntry k.replies → IsVerdict settings a m k v → (reply_of v).status ≢ 503
 
--- the arrival has a client and a number that had no kept reply, and the reply is kept for them
-abbrev pub IsKeptOnce : Arrival → List Entry → List Entry → Response → Type 0
+-- The arrival has a client and a number above its floor, that had no kept reply. The reply is kept for them, and no other changes but those that the client gives up.
+abbrev pub IsKeptOnce : Arrival → Ledger → Ledger → Response → Type 0
 IsKeptOnce a k kept reply =
-    (number : ℕ) × (number_of a ≡ Ok number) × (kept_for a.client.now number k ≡ None)
-    × (kept ≡ k ++ entry a.client.now number (said_of a) reply.status reply.body ∷ [])
+    (number : ℕ) × (ask : Ask) × IsReading a (Posts (post_of a number ask)) × (k.floor a.client.now < number) × (kept_for a.client.now number k.replies ≡ None)
+    × (kept ≡ with_reply (entry a.client.now number (said_of a) reply.status reply.body) (without_given a.client.now ask k))
 
 -- what is accepted is kept once
 abbrev pub AcceptedOnce : Type 0
-AcceptedOnce = (settings : Settings) (a : Arrival) (m : Queue) (k : List Entry) (after : Queue) (kept : List Entry) (reply : Response)
+AcceptedOnce = (settings : Settings) (a : Arrival) (m : Queue) (k : Ledger) (after : Queue) (kept : Ledger) (reply : Response)
     → IsVerdict settings a m k (Accepted after kept reply) → IsKeptOnce a k kept reply
 
 -- the same client says the same under the same number, at whatever moment
@@ -58,15 +60,26 @@ pub record SaysTheSame (a b : Arrival) : Type 0 where
   pub path : a.path.now ≡ b.path.now
   pub body : a.body.now ≡ b.body.now
 
--- A repeat of what was accepted gets the reply to it, byte for byte, and changes nothing: whatever its moment, and whatever was accepted since.
-abbrev pub RepeatsGetTheirReply : Type 0
-RepeatsGetTheirReply = (settings : Settings) (a b : Arrival) (m after later : Queue) (k kept more : List Entry) (reply : Response)
-    → IsVerdict settings a m k (Accepted after kept reply) → SaysTheSame a b
-    → IsVerdict settings b later (kept ++ more) (Repeated reply)
+-- what is kept for the arrival's number of its client is there still, and the client hasn't given it up since
+pub record IsThereStill (a : Arrival) (kept later : Ledger) : Type 0 where
+  pub number : ℕ
+  pub its : number_of a ≡ Ok number
+  pub same : kept_for a.client.now number later.replies ≡ kept_for a.client.now number kept.replies
+  pub above : later.floor a.client.now < number
 
--- the store has a sound queue, and these kept replies with one more at most
-abbrev pub IsSoundWith : List Entry → State → Type 0
-IsSoundWith k s = (after : Queue) × (more : List Entry) × Means s after (k ++ more) × Sound after × (length more ≤ 1)
+-- A repeat of what was accepted gets the reply to it, byte for byte, and changes nothing: whatever its moment, and whatever was accepted since, as long as the client hasn't given it up.
+abbrev pub RepeatsGetTheirReply : Type 0
+RepeatsGetTheirReply = (settings : Settings) (a b : Arrival) (m after queue : Queue) (k kept later : Ledger) (reply : Response)
+    → IsVerdict settings a m k (Accepted after kept reply) → SaysTheSame a b → IsThereStill a kept later
+    → IsVerdict settings b queue later (Repeated reply)
+
+-- this is kept, or one reply more, without those that the client gives up with it
+abbrev pub IsKeptOrOneMore : Ledger → Ledger → Type 0
+IsKeptOrOneMore k kept = (kept ≡ k) ⊎ ((e : Entry) × (ask : Ask) × (kept ≡ with_reply e (without_given e.client ask k)))
+
+-- the store has a sound queue, and what was kept, with one reply more at most
+abbrev pub IsSoundWith : Ledger → State → Type 0
+IsSoundWith k s = (after : Queue) × (kept : Ledger) × Means s after kept × Sound after × IsKeptOrOneMore k kept
 
 -- ---- whole runs
 

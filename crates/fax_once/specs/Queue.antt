@@ -3,7 +3,8 @@ use Rattle.std.specs.Prelude.{◌≡◌, List, Result}
 use Rattle.sqlite.specs.State.{State, HasCleanDisk}
 use Rattle.sqlite_trees.specs.declared.store.Store.{Ghosts}
 use Rattle.fax_ask.specs.Response.{Response}
-use Rattle.fax_core.specs.Queue.{Queue as QueueOf, Entry}
+use Rattle.fax_core.specs.Ledger.{Ledger}
+use Rattle.fax_core.specs.Queue.{Queue as QueueOf}
 use Rattle.fax_core.specs.Settings.{Settings}
 use Rattle.fax_core.specs.Sound.{Sound}
 use Rattle.fax_decide.specs.Settings.{settings_of}
@@ -22,8 +23,8 @@ module _ {S : Type 0} (g : Ghosts S) where
   tables queue = shown g queue.store
 
   -- so it is from each sound queue, with the kept replies, that its tables mean
-  abbrev pub From : Queue S → (QueueOf → List Entry → Type 0) → Type 0
-  From queue P = (m : QueueOf) (k : List Entry) → Sound m → Means (tables queue) m k → P m k
+  abbrev pub From : Queue S → (QueueOf → Ledger → Type 0) → Type 0
+  From queue P = (m : QueueOf) (k : Ledger) → Sound m → Means (tables queue) m k → P m k
 
   -- What an answer leaves: the office stays, a disk that is clean was, and what isn't accepted changes no rows.
   pub record Replies {E : Type 0} (old new : Queue S) (result : Result Response E) : Type 0 where

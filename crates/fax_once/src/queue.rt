@@ -4,7 +4,7 @@
 //! bytes are made before its commit. A refused request changes nothing, and neither does a repeat of an
 //! accepted one, which gets the kept reply.
 
-ghost use Rattle.std.specs.Prelude.{◌≡◌, false, IfOk, IsTrue, None, OnErr, OnOk, if◌then◌else◌};
+ghost use Rattle.std.specs.Prelude.{◌≡◌, ◌<◌, ◌^◌, false, IfOk, IsTrue, None, Some, OnErr, OnOk, if◌then◌else◌};
 ghost use Rattle.std.specs.Str.{bytes_eq};
 ghost use Rattle.sqlite.specs.Effect.{Database};
 ghost use Rattle.sqlite.specs.State.{HasCleanDisk};
@@ -14,7 +14,7 @@ ghost use Rattle.fax_ask.specs.declared.method.Method.TheVariants.{Get};
 ghost use Rattle.fax_core.specs.Clock.{decided_at};
 ghost use Rattle.fax_core.specs.Reply.{NoKeys};
 ghost use Rattle.fax_store.specs.Calls.{Looks};
-ghost use Rattle.fax_store.specs.Kept.{HasReply, kept_for};
+ghost use Rattle.fax_store.specs.Kept.{HasReply};
 ghost use Rattle.fax_store.specs.Store.{CommitsNothing, LeavesAlone, Rests, Serves, Stays};
 ghost use Rattle.fax_schema.specs.Schema.{our_tables};
 ghost use Rattle.fax_tables.specs.Tables.{IsKeptStatus};
@@ -24,10 +24,10 @@ ghost use Rattle.fax_once.specs.Arrival.{IsSender, said_of};
 ghost use Rattle.fax_once.specs.Queue.{From, Replies, settings, tables};
 ghost use Rattle.fax_once.specs.Reading.{post_of};
 ghost use Rattle.fax_once.specs.Stop.{Stops, StopsBy, StopsIn};
-ghost use Rattle.fax_once.specs.Verdict.{Answers, Handles, IsUsed, LeavesBy, asked_for};
+ghost use Rattle.fax_once.specs.Verdict.{Answers, Handles, IsUsed, LeavesBy, asked_above, asked_for, decided_new, given_by, is_too_high, new_asked, raised_ask};
 ghost use Rattle.fax_once.specs.declared.arrival.Arrival.{Arrival as ArrivalOf};
 
-use crate::acceptance::accept;
+use crate::acceptance::{Change, accept};
 use crate::arrival::Arrival;
 use crate::refusing::refuse_ask;
 use crate::sender::Sender;
@@ -35,7 +35,7 @@ use fax_ask::{Ask, Reply, Routes, View};
 use fax_core::Ask as Step;
 use fax_decide::{Decision, Office, Unavailable, decide, show};
 use fax_dest::{Controls, Setup};
-use fax_job::{Moment, Refusal};
+use fax_job::{Moment, Refusal, RequestNumber};
 use fax_store::{Kept, Meta, Store};
 use sqlite::{Alter, Connection};
 use std::alloc::{AllocError, Global};
@@ -235,7 +235,8 @@ impl<S: Alter> Queue<S> {
         show(&mut self.store, &self.office, alloc, asked, t)
     }
 
-    /// Answers a request whose number has a kept reply, and decides one whose number is new.
+    /// Answers a request whose number has a kept reply, and decides one whose number is new. A number through the floor
+    /// of its client is refused.
     fn step(
         &mut self,
         alloc: Global,
@@ -254,14 +255,68 @@ impl<S: Alter> Queue<S> {
             → LeavesBy m k result (tables S.Store self.new) (asked_for (settings self.old) m k
             (post_of arrival.now sender.now.number ask))) }
     {
+        let floor = self.store.floor(sender.client)?;
+        if sender.number.get() <= floor {
+            return Ok(Reply::refused(Refusal::GivenUp));
+        }
+        self.step_above(alloc, arrival, sender, ask, floor)
+    }
+
+    /// Answers a request whose number is above the floor of its client.
+    fn step_above(
+        &mut self,
+        alloc: Global,
+        arrival: &Arrival<'_>,
+        sender: &Sender<'_>,
+        ask: Step,
+        floor: u64,
+    ) -> Result<Reply, Unavailable>
+        requires { floor < 10 ^ 18 }
+        ensures leaves { Replies S.Store self.old self.new result }
+        ensures repeated { (db : Database) → db.schema ≡ our_tables → Rests (tables S.Store self.old) db
+            → HasReply db sender.now.client.now sender.now.number → Rests (tables S.Store self.new) db }
+        ensures crash { From S.Store self.old (λ m k. IsSender arrival.now sender.now
+            → StopsBy (tables S.Store self.old) (tables S.Store self.new) (asked_above (settings self.old) m k floor
+            (post_of arrival.now sender.now.number ask))) }
+        ensures stepped { From S.Store self.old (λ m k. HasCleanDisk (tables S.Store self.new)
+            → IsSender arrival.now sender.now → IsLawfulStep ask
+            → LeavesBy m k result (tables S.Store self.new) (asked_above (settings self.old) m k floor
+            (post_of arrival.now sender.now.number ask))) }
+    {
         match self.store.kept(sender.client, sender.number)? {
             Some(kept) => Ok(repeat(arrival, kept)),
-            None => self.step_once(alloc, arrival, sender, ask),
+            None => self.step_new(alloc, arrival, sender, ask, floor),
         }
     }
 
-    /// Decides a request whose number is new at the later of its moment and the clock. It is accepted where it is taken, and
-    /// changes nothing where it is refused.
+    /// Decides a request whose number is new. No client gives up the reply to the very request by which it does.
+    fn step_new(
+        &mut self,
+        alloc: Global,
+        arrival: &Arrival<'_>,
+        sender: &Sender<'_>,
+        ask: Step,
+        floor: u64,
+    ) -> Result<Reply, Unavailable>
+        requires { floor < 10 ^ 18 }
+        ensures leaves { Replies S.Store self.old self.new result }
+        ensures crash { From S.Store self.old (λ m k. IsSender arrival.now sender.now
+            → StopsBy (tables S.Store self.old) (tables S.Store self.new) (new_asked (settings self.old) m k floor
+            (post_of arrival.now sender.now.number ask))) }
+        ensures stepped { From S.Store self.old (λ m k. (HasCleanDisk (tables S.Store self.old)
+            → Serves (tables S.Store self.old)) → HasCleanDisk (tables S.Store self.new)
+            → IsSender arrival.now sender.now → IsLawfulStep ask
+            → LeavesBy m k result (tables S.Store self.new) (new_asked (settings self.old) m k floor
+            (post_of arrival.now sender.now.number ask))) }
+    {
+        match raised(ask, sender.number, floor) {
+            Some(ask) => self.step_once(alloc, arrival, sender, ask),
+            None => Ok(Reply::refused(Refusal::FloorHigh)),
+        }
+    }
+
+    /// Decides a request at the later of its moment and the clock. It is accepted where it is taken, and changes nothing
+    /// where it is refused.
     fn step_once(
         &mut self,
         alloc: Global,
@@ -271,22 +326,22 @@ impl<S: Alter> Queue<S> {
     ) -> Result<Reply, Unavailable>
         ensures leaves { Replies S.Store self.old self.new result }
         ensures crash { From S.Store self.old (λ m k. IsSender arrival.now sender.now
-            → (Serves (tables S.Store self.old) → kept_for sender.now.client.now sender.now.number k ≡ None)
-            → StopsBy (tables S.Store self.old) (tables S.Store self.new) (asked_for (settings self.old) m k
+            → StopsBy (tables S.Store self.old) (tables S.Store self.new) (decided_new (settings self.old) m k
             (post_of arrival.now sender.now.number ask))) }
         ensures stepped { From S.Store self.old (λ m k. (HasCleanDisk (tables S.Store self.old)
             → Serves (tables S.Store self.old)) → HasCleanDisk (tables S.Store self.new)
-            → IsSender arrival.now sender.now → IsLawfulStep ask → (Serves (tables S.Store self.old)
-            → kept_for sender.now.client.now sender.now.number k ≡ None)
-            → LeavesBy m k result (tables S.Store self.new) (asked_for (settings self.old) m k
+            → IsSender arrival.now sender.now → IsLawfulStep ask
+            → LeavesBy m k result (tables S.Store self.new) (decided_new (settings self.old) m k
             (post_of arrival.now sender.now.number ask))) }
     {
+        let given = given_by(&ask);
         let meta = self.store.meta()?;
         let t = moment_at(&meta, arrival.moment);
         let decision = decide(&mut self.store, &self.office, alloc, ask, &meta, t)?;
         match decision {
             Decision::Taken { effect, reply } => {
-                accept(&mut self.store, alloc, arrival, sender, t, &effect, reply)
+                let change = Change { effect, given };
+                accept(&mut self.store, alloc, arrival, sender, t, &change, reply)
             }
             Decision::Refused(reply) => Ok(reply),
         }
@@ -305,6 +360,33 @@ fn repeat(arrival: &Arrival<'_>, kept: Kept) -> Reply
     } else {
         Reply::refused(Refusal::NumberReused)
     }
+}
+
+/// Through which number the client gives up its replies, if it does.
+fn given_by(ask: &Step) -> Option<RequestNumber>
+    ensures { result ≡ given_by ask.now }
+{
+    match ask {
+        Step::GiveUp { upto } => Some(*upto),
+        _ => None,
+    }
+}
+
+/// What is asked for, where the client's floor is this one, which rises only. None where the floor would reach the number
+/// under which it is asked for.
+fn raised(ask: Step, number: RequestNumber, floor: u64) -> Option<Step>
+    requires { floor < 10 ^ 18 }
+    ensures { result ≡ (if is_too_high number ask then None else Some (raised_ask floor ask)) }
+{
+    let Step::GiveUp { upto } = ask else {
+        return Some(ask);
+    };
+    if upto.get() >= number.get() {
+        return None;
+    }
+    Some(Step::GiveUp {
+        upto: upto.at_least(floor),
+    })
 }
 
 /// The moment at which a request is decided: its own, or the clock's where that is later.

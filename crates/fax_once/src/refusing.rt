@@ -3,7 +3,8 @@
 ghost use Rattle.std.specs.Prelude.{◌≡◌, List, IfOk, IsErr, MatchResult};
 ghost use Rattle.fax_ask.specs.Ask.{IsRefused};
 ghost use Rattle.fax_ask.specs.Response.{refused_response};
-ghost use Rattle.fax_core.specs.Queue.{Queue, Entry};
+ghost use Rattle.fax_core.specs.Ledger.{Ledger};
+ghost use Rattle.fax_core.specs.Queue.{Queue};
 ghost use Rattle.fax_core.specs.Reply.{NoKeys};
 ghost use Rattle.fax_core.specs.Settings.{Settings};
 ghost use Rattle.fax_once.specs.Arrival.{number_of};
@@ -23,7 +24,7 @@ pub(crate) fn refuse_ask(
     arrival: &Arrival<'_>,
     refusal: Refusal,
 ) -> Result<Reply, Unavailable>
-    ensures verdict { (s : Settings) (m : Queue) (k : List Entry)
+    ensures verdict { (s : Settings) (m : Queue) (k : Ledger)
         → IsRefused arrival.now.method arrival.now.path.now arrival.now.body.now refusal
         → IfOk result (λ reply. IsVerdict s arrival.now m k (Told reply)) }
     ensures cause { IsRefused arrival.now.method arrival.now.path.now arrival.now.body.now refusal → IsErr result

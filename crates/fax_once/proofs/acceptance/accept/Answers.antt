@@ -1,6 +1,8 @@
-use Rattle.std.proofs.Common.{◌++◌, ◌∷◌, [], inl, refl, subst, ◌∙◌}
+use Rattle.std.proofs.Common.{inl, refl, subst, ◌∙◌}
 use Rattle.sqlite.specs.Held.{state}
+use Rattle.fax_core.specs.Ledger.{with_reply}
 use Rattle.fax_tables.specs.Kept.{entry}
+use Rattle.fax_once.specs.Verdict.{without}
 use Rattle.fax_store.specs.Store.{Means}
 use Rattle.fax_decide.specs.Effect.{accepted}
 use Rattle.fax_decide.proofs.WorkLemmas.{refused_with}
@@ -14,8 +16,8 @@ returns-in_err-commit_accepted-clause-accepted g c m k means suits =
 pub returns-clause-accepted : goal.returns-clause-accepted
 returns-clause-accepted g c m k means suits = (
   refl,
-  subst (λ said. Means (state g.S.Store c.commit_accepted.new.store.conn) (accepted c.args.t c.args.effect.now m)
-      (k ++ entry c.args.sender.now.client.now c.args.sender.now.number said c.args.reply.status c.args.reply.body ∷ []))
+  subst (λ said. Means (state g.S.Store c.commit_accepted.new.store.conn) (accepted c.args.t c.args.change.now.effect m)
+      (with_reply (entry c.args.sender.now.client.now c.args.sender.now.number said c.args.reply.status c.args.reply.body) (without c.args.sender.now.client.now c.args.change.now.given k)))
       (c.deref.ensures.value ∙ c.in_ok-said.ensures) (c.in_ok-commit_accepted.ensures.taken m k means suits),
 )
 
@@ -24,12 +26,12 @@ returns-in_err-said-clause-crash g c m k means suits found may = inl may
 
 pub returns-in_err-commit_accepted-clause-crash : goal.returns-in_err-commit_accepted-clause-crash
 returns-in_err-commit_accepted-clause-crash g c m k means suits =
-    subst (λ said. MayLeave (state g.S.Store c.args.store.now.conn) (state g.S.Store c.commit_accepted.new.store.conn) (accepted c.args.t c.args.effect.now m)
-    (k ++ entry c.args.sender.now.client.now c.args.sender.now.number said c.args.reply.status c.args.reply.body ∷ []))
+    subst (λ said. MayLeave (state g.S.Store c.args.store.now.conn) (state g.S.Store c.commit_accepted.new.store.conn) (accepted c.args.t c.args.change.now.effect m)
+    (with_reply (entry c.args.sender.now.client.now c.args.sender.now.number said c.args.reply.status c.args.reply.body) (without c.args.sender.now.client.now c.args.change.now.given k)))
     (c.deref.ensures.value ∙ c.in_ok-said.ensures) (c.commit_accepted.ensures.crash m k means suits)
 
 pub returns-clause-crash : goal.returns-clause-crash
 returns-clause-crash g c m k means suits =
-    subst (λ said. MayLeave (state g.S.Store c.args.store.now.conn) (state g.S.Store c.commit_accepted.new.store.conn) (accepted c.args.t c.args.effect.now m)
-    (k ++ entry c.args.sender.now.client.now c.args.sender.now.number said c.args.reply.status c.args.reply.body ∷ []))
+    subst (λ said. MayLeave (state g.S.Store c.args.store.now.conn) (state g.S.Store c.commit_accepted.new.store.conn) (accepted c.args.t c.args.change.now.effect m)
+    (with_reply (entry c.args.sender.now.client.now c.args.sender.now.number said c.args.reply.status c.args.reply.body) (without c.args.sender.now.client.now c.args.change.now.given k)))
     (c.deref.ensures.value ∙ c.in_ok-said.ensures) (c.commit_accepted.ensures.crash m k means suits)

@@ -1,7 +1,9 @@
-use Rattle.std.proofs.Common.{◌≡◌, inl, [], ◌∷◌, ◌++◌, sym, subst, rules}
+use Rattle.std.proofs.Common.{◌≡◌, inl, sym, subst, rules}
 use Rattle.sqlite.specs.Held.{state}
 use Rattle.sqlite.specs.State.{HasCleanDisk}
+use Rattle.fax_core.specs.Ledger.{with_reply}
 use Rattle.fax_tables.specs.Kept.{entry}
+use Rattle.fax_once.specs.Verdict.{without}
 use Rattle.fax_store.specs.Store.{CommitsNothing, Means, Serves, Stays, StaysAsItWas}
 use Rattle.fax_decide.specs.Effect.{accepted}
 use Rattle.fax_decide.proofs.WorkLemmas.{refused_with, works_where}
@@ -32,8 +34,8 @@ pub returns-clause-taken : goal.returns-clause-taken
 returns-clause-taken g c m k means suits =
     let works = works_where _ _ _ _ _ _ _ m k (λ serves. suits (c.in_ok-work.ensures.served serves)) c.write.ensures.leaves.served c.write.ensures.changes (c.in_ok-work.ensures.begun m k means) in
     let same : c.commit.new.self.0 ≡ c.store-2-1.given.0 = search rules in
-    subst (λ v. Means (state g.S.Store v.conn) (accepted c.args.decided_at c.args.effect.now m)
-    (k ++ entry c.args.sender.now.client.now c.args.sender.now.number c.args.said.now c.args.reply.now.status c.args.reply.now.body ∷ [])) same
+    subst (λ v. Means (state g.S.Store v.conn) (accepted c.args.decided_at c.args.change.now.effect m)
+    (with_reply (entry c.args.sender.now.client.now c.args.sender.now.number c.args.said.now c.args.reply.now.status c.args.reply.now.body) (without c.args.sender.now.client.now c.args.change.now.given k))) same
     (c.in_ok-commit.ensures.committed m _ k _ works)
 
 pub returns-in_err-write-clause-unchanged : goal.returns-in_err-write-clause-unchanged
@@ -95,8 +97,8 @@ returns-in_err-commit-clause-crash g c m k means suits =
     let old = state g.S.Store c.args.store.now.conn in
     let works = works_where _ _ _ _ _ _ _ m k (λ serves. suits (c.in_ok-work.ensures.served serves)) c.write.ensures.leaves.served c.write.ensures.changes (c.in_ok-work.ensures.begun m k means) in
     let same : c.commit.new.self.0 ≡ c.store-2-1.given.0 = search rules in
-    subst (λ v. MayLeave old (state g.S.Store v.conn) (accepted c.args.decided_at c.args.effect.now m)
-    (k ++ entry c.args.sender.now.client.now c.args.sender.now.number c.args.said.now c.args.reply.now.status c.args.reply.now.body ∷ [])) same
+    subst (λ v. MayLeave old (state g.S.Store v.conn) (accepted c.args.decided_at c.args.change.now.effect m)
+    (with_reply (entry c.args.sender.now.client.now c.args.sender.now.number c.args.said.now c.args.reply.now.status c.args.reply.now.body) (without c.args.sender.now.client.now c.args.change.now.given k))) same
     (committed_stops old _ _ (state g.S.Store c.commit.new.self.0.conn) _ _ c.in_ok-work.ensures.opens (has_tables old m k means) c.write.ensures.leaves.crash m _ k _ works c.commit.ensures.clean (λ at. c.in_ok-work.ensures.served (c.write.ensures.leaves.served at)) c.commit.ensures.crash)
 
 pub returns-clause-crash : goal.returns-clause-crash
@@ -104,6 +106,6 @@ returns-clause-crash g c m k means suits =
     let old = state g.S.Store c.args.store.now.conn in
     let works = works_where _ _ _ _ _ _ _ m k (λ serves. suits (c.in_ok-work.ensures.served serves)) c.write.ensures.leaves.served c.write.ensures.changes (c.in_ok-work.ensures.begun m k means) in
     let same : c.commit.new.self.0 ≡ c.store-2-1.given.0 = search rules in
-    subst (λ v. MayLeave old (state g.S.Store v.conn) (accepted c.args.decided_at c.args.effect.now m)
-    (k ++ entry c.args.sender.now.client.now c.args.sender.now.number c.args.said.now c.args.reply.now.status c.args.reply.now.body ∷ [])) same
+    subst (λ v. MayLeave old (state g.S.Store v.conn) (accepted c.args.decided_at c.args.change.now.effect m)
+    (with_reply (entry c.args.sender.now.client.now c.args.sender.now.number c.args.said.now c.args.reply.now.status c.args.reply.now.body) (without c.args.sender.now.client.now c.args.change.now.given k))) same
     (committed_stops old _ _ (state g.S.Store c.commit.new.self.0.conn) _ _ c.in_ok-work.ensures.opens (has_tables old m k means) c.write.ensures.leaves.crash m _ k _ works c.commit.ensures.clean (λ at. c.in_ok-work.ensures.served (c.write.ensures.leaves.served at)) c.commit.ensures.crash)

@@ -1,6 +1,9 @@
-use Rattle.std.proofs.Common.{[], ◌∷◌, ◌++◌, sym, subst, subst₂}
+use Rattle.std.proofs.Common.{sym, subst, subst₂}
 use Rattle.sqlite.specs.Held.{state}
+use Rattle.fax_core.specs.Ledger.{with_reply}
 use Rattle.fax_tables.specs.Kept.{entry}
+use Rattle.fax_once.proofs.LedgerLemmas.{unkept_still}
+use Rattle.fax_once.specs.Verdict.{without}
 use Rattle.fax_tables.specs.Tables.{IsKeptStatus}
 use Rattle.fax_store.specs.Work.{Works}
 use Rattle.fax_store.proofs.WorkLemmas.{refused_as}
@@ -17,24 +20,39 @@ pub returns-in_err-write-clause-changes : goal.returns-in_err-write-clause-chang
 returns-in_err-write-clause-changes g c m₀ m k₀ k suits works =
     refused_any (state g.S.Store c.write.new.work.store.now.conn) c.write.new.work.failed m₀ _ _ k₀ _ _ c.in_err-write.ensures.fails (c.write.ensures.changes m₀ _ k₀ _ suits (c.expire_all.ensures.changes m₀ m k₀ k works))
 
+pub returns-in_err-give_up-clause-changes : goal.returns-in_err-give_up-clause-changes
+returns-in_err-give_up-clause-changes g c m₀ m k₀ k suits works =
+    refused_any (state g.S.Store c.give_up.new.work.store.now.conn) c.give_up.new.work.failed m₀ _ _ k₀ _ _ c.in_err-give_up.ensures.fails
+    (c.give_up.ensures.changes m₀ _ k₀ _ (c.write.ensures.changes m₀ _ k₀ _ suits (c.expire_all.ensures.changes m₀ m k₀ k works)))
+
 pub returns-clause-changes : goal.returns-clause-changes
 returns-clause-changes g c m₀ m k₀ k suits works =
-    subst₂ (λ status body. Works (state g.S.Store c.keep.new.self.store.now.conn) c.keep.new.self.failed m₀ k₀ (accepted c.args.decided_at c.args.effect.now m)
-    (k ++ entry c.args.sender.now.client.now c.args.sender.now.number c.args.said.now status body ∷ []))
-    c.status.ensures c.body.ensures (c.keep.ensures.changes m₀ _ k₀ _ (c.write.ensures.changes m₀ _ k₀ _ suits (c.expire_all.ensures.changes m₀ m k₀ k works)))
+    subst₂ (λ status body. Works (state g.S.Store c.keep.new.self.store.now.conn) c.keep.new.self.failed m₀ k₀ (accepted c.args.decided_at c.args.change.now.effect m)
+    (with_reply (entry c.args.sender.now.client.now c.args.sender.now.number c.args.said.now status body) (without c.args.sender.now.client.now c.args.change.now.given k)))
+    c.status.ensures c.body.ensures
+    (c.keep.ensures.changes m₀ _ k₀ _ (c.give_up.ensures.changes m₀ _ k₀ _ (c.write.ensures.changes m₀ _ k₀ _ suits (c.expire_all.ensures.changes m₀ m k₀ k works))))
 
 pub returns-in_err-write-clause-leaves : goal.returns-in_err-write-clause-leaves
 returns-in_err-write-clause-leaves g c = follows_then g.S.Store _ _ _ (follows_of g.S.Store _ _ _ c.expire_all.ensures.leaves) c.write.ensures.leaves
 
+pub returns-in_err-give_up-clause-leaves : goal.returns-in_err-give_up-clause-leaves
+returns-in_err-give_up-clause-leaves g c =
+    follows_then g.S.Store _ _ _ (follows_then g.S.Store _ _ _ (follows_of g.S.Store _ _ _ c.expire_all.ensures.leaves) c.write.ensures.leaves) c.give_up.ensures.leaves
+
 pub returns-clause-leaves : goal.returns-clause-leaves
 returns-clause-leaves g c =
-    follows_then g.S.Store _ _ _ (follows_then g.S.Store _ _ _ (follows_of g.S.Store _ _ _ c.expire_all.ensures.leaves) c.write.ensures.leaves) (follows_of g.S.Store _ _ _ c.keep.ensures.leaves)
+    follows_then g.S.Store _ _ _ (follows_then g.S.Store _ _ _ (follows_then g.S.Store _ _ _ (follows_of g.S.Store _ _ _ c.expire_all.ensures.leaves) c.write.ensures.leaves) c.give_up.ensures.leaves) (follows_of g.S.Store _ _ _ c.keep.ensures.leaves)
 
 pub returns-in_err-write-clause-cause : goal.returns-in_err-write-clause-cause
 returns-in_err-write-clause-cause g c m₀ m k₀ k works s fits =
     refused_as c.from_residual-in_err-write.result c.in_err-write.field-0.0 c.from_residual-in_err-write.ensures.1 (c.in_err-write.ensures.cause m₀ _ k₀ _ (c.expire_all.ensures.changes m₀ m k₀ k works) s fits.0)
 
+pub returns-in_err-give_up-clause-cause : goal.returns-in_err-give_up-clause-cause
+returns-in_err-give_up-clause-cause g c m₀ m k₀ k works s fits =
+    refused_as c.from_residual-in_err-give_up.result c.in_err-give_up.field-0.0 c.from_residual-in_err-give_up.ensures.1
+    (c.in_err-give_up.ensures.cause m₀ _ k₀ _ (c.write.ensures.changes m₀ _ k₀ _ fits.0.suits (c.expire_all.ensures.changes m₀ m k₀ k works)) s fits.1)
+
 pub returns-clause-cause : goal.returns-clause-cause
 returns-clause-cause g c m₀ m k₀ k works s fits =
-    c.keep.ensures.cause m₀ _ k₀ _ (c.write.ensures.changes m₀ _ k₀ _ fits.0.suits (c.expire_all.ensures.changes m₀ m k₀ k works)) s
-    (fits.1, subst IsKeptStatus (sym c.status.ensures) fits.2, fits.3)
+    c.keep.ensures.cause m₀ _ k₀ _ (c.give_up.ensures.changes m₀ _ k₀ _ (c.write.ensures.changes m₀ _ k₀ _ fits.0.suits (c.expire_all.ensures.changes m₀ m k₀ k works))) s
+    (fits.1, subst IsKeptStatus (sym c.status.ensures) fits.2, unkept_still c.args.sender.now.client.now c.args.sender.now.number c.args.sender.now.client.now c.args.change.now.given k fits.3)

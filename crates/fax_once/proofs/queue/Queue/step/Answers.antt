@@ -1,57 +1,66 @@
-use Rattle.std.proofs.Common.{rules, inl, subst}
+use Rattle.std.proofs.Common.{◌<◌, ◌≤◌, rules, inl, subst}
 use Rattle.sqlite.specs.Held.{state}
 use Rattle.fax_decide.specs.Settings.{settings_of}
 use Rattle.fax_decide.proofs.WorkLemmas.{refused_with}
 use Rattle.fax_store.proofs.StoreLemmas.{means_stay}
-use Rattle.fax_store.specs.Kept.{IsKeptFor, MissesNone}
-use Rattle.fax_once.proofs.VerdictLemmas.{repeated_leaves}
+use Rattle.fax_once.proofs.VerdictLemmas.{above_is, given_up_is}
 use Rattle.fax_once.proofs.StopLemmas.{then_stops}
+use Rattle.fax_once.specs.Verdict.{Leaves, LeavesBy}
 use Rattle.fax_store.proofs.FrameLemmas.{means_now}
 use Rattle.fax_once.proofs.queue.Queue.step.Goals as goal
 
-pub returns-in-Some-clause-stepped : goal.returns-in-Some-clause-stepped
-returns-in-Some-clause-stepped g c m k sound means clean from lawful =
+pub returns-clause-stepped : goal.returns-clause-stepped
+returns-clause-stepped g c m k sound means clean from lawful =
     let settings = settings_of c.args.self.now.office.setup c.args.self.now.office.controls in
-    let serves = c.in_ok-kept.ensures.leaves.opens clean in
-    let found = subst (IsKeptFor k c.args.sender.now.client.now c.args.sender.now.number) c.in-Some.is (c.in_ok-kept.ensures.answers m k (means_now means) serves) in
-    repeated_leaves settings c.args.arrival.now m k c.args.sender.now c.args.ask c.in-Some.kept found.0 c.repeat.result (state g.S.Store c.kept.new.self.conn)
-    from found.1 found.2 serves (means_stay c.kept.ensures.leaves.served c.kept.ensures.leaves.stays m k means serves) c.repeat.ensures
+    let floor = c.in_ok-floor.floor in
+    let serves = c.in_ok-floor.ensures.leaves.opens (c.step_above.ensures.leaves.clean clean) in
+    let above : floor < c.args.sender.now.number = search rules in
+    subst (λ v. LeavesBy m k c.step_above.result (state g.S.Store c.step_above.new.self.store.conn) v)
+    (above_is settings c.args.arrival.now m k floor c.args.sender.now c.args.ask from (c.in_ok-floor.ensures.answers m k (means_now means) serves) above)
+    (c.step_above.ensures.stepped m k sound (means_stay c.floor.ensures.leaves.served c.floor.ensures.leaves.stays m k means) clean from lawful)
 
-pub returns-in-None-clause-stepped : goal.returns-in-None-clause-stepped
-returns-in-None-clause-stepped g c m k sound means clean from lawful =
-    c.step_once.ensures.stepped m k sound (means_stay c.kept.ensures.leaves.served c.kept.ensures.leaves.stays m k means) c.in_ok-kept.ensures.leaves.opens clean from lawful
-    (λ serves. subst (IsKeptFor k c.args.sender.now.client.now c.args.sender.now.number) c.in-None.is (c.in_ok-kept.ensures.answers m k (means_now means) serves))
+pub returns-then-get-floor-clause-stepped : goal.returns-then-get-floor-clause-stepped
+returns-then-get-floor-clause-stepped g c m k sound means clean from lawful =
+    let settings = settings_of c.args.self.now.office.setup c.args.self.now.office.controls in
+    let floor = c.in_ok-floor.floor in
+    let serves = c.in_ok-floor.ensures.leaves.opens clean in
+    let through : c.args.sender.now.number ≤ floor = search rules in
+    subst (Leaves m k c.refused.result (state g.S.Store c.floor.new.self.conn))
+    (given_up_is settings c.args.arrival.now m k floor c.args.sender.now c.args.ask from (c.in_ok-floor.ensures.answers m k (means_now means) serves) through)
+    (c.refused.ensures, means_stay c.floor.ensures.leaves.served c.floor.ensures.leaves.stays m k means)
 
-pub returns-in-None-clause-leaves : goal.returns-in-None-clause-leaves
-returns-in-None-clause-leaves g c = record {
+pub returns-in_err-floor-clause-stepped : goal.returns-in_err-floor-clause-stepped
+returns-in_err-floor-clause-stepped g c m k sound means clean from lawful =
+    refused_with c.from_residual.result _ _ c.from_residual.ensures.0 (means_stay c.floor.ensures.leaves.served c.floor.ensures.leaves.stays m k means)
+
+pub returns-clause-leaves : goal.returns-clause-leaves
+returns-clause-leaves g c = record {
   office = search rules;
   clean = search rules;
-  unchanged = λ refused db ours rests. c.step_once.ensures.leaves.unchanged refused db ours (c.kept.ensures.leaves.stays db ours rests);
+  unchanged = λ refused db ours rests. c.step_above.ensures.leaves.unchanged refused db ours (c.floor.ensures.leaves.stays db ours rests);
 }
 
-pub returns-in_err-kept-clause-stepped : goal.returns-in_err-kept-clause-stepped
-returns-in_err-kept-clause-stepped g c m k sound means clean from lawful =
-    refused_with c.from_residual.result _ _ c.from_residual.ensures.0 (means_stay c.kept.ensures.leaves.served c.kept.ensures.leaves.stays m k means)
+pub returns-clause-repeated : goal.returns-clause-repeated
+returns-clause-repeated g c db ours rests used = c.step_above.ensures.repeated db ours (c.floor.ensures.leaves.stays db ours rests) used
 
-pub returns-in-None-clause-repeated : goal.returns-in-None-clause-repeated
-returns-in-None-clause-repeated g c db ours rests used serves =
-    let read = c.in_ok-kept.ensures.leaves.opens (c.step_once.ensures.leaves.clean serves.clean) in
-    absurd (subst (MissesNone db c.args.sender.now.client.now c.args.sender.now.number) c.in-None.is (c.in_ok-kept.ensures.unkept db ours (rests (c.kept.ensures.leaves.served read)).now read.clean) used)
+pub returns-in_err-floor-clause-repeated : goal.returns-in_err-floor-clause-repeated
+returns-in_err-floor-clause-repeated g c db ours rests used = c.floor.ensures.leaves.stays db ours rests
 
-pub returns-in-Some-clause-repeated : goal.returns-in-Some-clause-repeated
-returns-in-Some-clause-repeated g c db ours rests used = c.kept.ensures.leaves.stays db ours rests
+pub returns-then-get-floor-clause-repeated : goal.returns-then-get-floor-clause-repeated
+returns-then-get-floor-clause-repeated g c db ours rests used = c.floor.ensures.leaves.stays db ours rests
 
-pub returns-in_err-kept-clause-repeated : goal.returns-in_err-kept-clause-repeated
-returns-in_err-kept-clause-repeated g c db ours rests used = c.kept.ensures.leaves.stays db ours rests
+pub returns-clause-crash : goal.returns-clause-crash
+returns-clause-crash g c m k sound means from =
+    let settings = settings_of c.args.self.now.office.setup c.args.self.now.office.controls in
+    let floor = c.in_ok-floor.floor in
+    let mid = state g.S.Store c.floor.new.self.conn in
+    let above : floor < c.args.sender.now.number = search rules in
+    then_stops (state g.S.Store c.args.self.now.store.conn) mid (state g.S.Store c.step_above.new.self.store.conn) _ _ c.floor.ensures.leaves.crash c.floor.ensures.leaves.served
+    (λ serves. above_is settings c.args.arrival.now m k floor c.args.sender.now c.args.ask from (c.in_ok-floor.ensures.answers m k (means_now means) serves) above)
+    (c.step_above.ensures.crash m k sound (means_stay c.floor.ensures.leaves.served c.floor.ensures.leaves.stays m k means) from)
 
-pub returns-in-None-clause-crash : goal.returns-in-None-clause-crash
-returns-in-None-clause-crash g c m k sound means from =
-    then_stops (state g.S.Store c.args.self.now.store.conn) (state g.S.Store c.kept.new.self.conn) (state g.S.Store c.step_once.new.self.store.conn) _ c.kept.ensures.leaves.crash
-    (c.step_once.ensures.crash m k sound (means_stay c.kept.ensures.leaves.served c.kept.ensures.leaves.stays m k means) from
-    (λ serves. subst (IsKeptFor k c.args.sender.now.client.now c.args.sender.now.number) c.in-None.is (c.in_ok-kept.ensures.answers m k (means_now means) serves)))
+pub returns-then-get-floor-clause-crash : goal.returns-then-get-floor-clause-crash
+returns-then-get-floor-clause-crash g c m k sound means from found may = inl (c.floor.ensures.leaves.crash found may)
 
-pub returns-in-Some-clause-crash : goal.returns-in-Some-clause-crash
-returns-in-Some-clause-crash g c m k sound means from found may = inl (c.kept.ensures.leaves.crash found may)
-
-pub returns-in_err-kept-clause-crash : goal.returns-in_err-kept-clause-crash
-returns-in_err-kept-clause-crash g c m k sound means from found may = inl (c.kept.ensures.leaves.crash found may)
+pub returns-in_err-floor-clause-crash : goal.returns-in_err-floor-clause-crash
+returns-in_err-floor-clause-crash g c m k sound means from found may = inl (c.floor.ensures.leaves.crash found may)

@@ -1,4 +1,4 @@
-use Rattle.std.proofs.Common.{rules, ap, inl, subst, ◌∙◌}
+use Rattle.std.proofs.Common.{◌≡◌, rules, ap, inl, refl, sym, subst, ◌∙◌}
 use Rattle.std.specs.Prelude.{IfOk}
 use Rattle.fax_core.specs.Clock.{decided_at}
 use Rattle.fax_core.specs.Machine.{step}
@@ -15,41 +15,39 @@ use Rattle.fax_store.proofs.FrameLemmas.{means_now}
 use Rattle.fax_once.proofs.queue.Queue.step_once.Goals as goal
 
 pub returns-in-Taken-clause-stepped : goal.returns-in-Taken-clause-stepped
-returns-in-Taken-clause-stepped g c m k sound means opens clean from lawful unused =
+returns-in-Taken-clause-stepped g c m k sound means opens clean from lawful =
     let settings = settings_of c.args.self.now.office.setup c.args.self.now.office.controls in
     let t = c.moment_at-t.result in
     let read = means_stay c.meta.ensures.leaves.served c.meta.ensures.leaves.stays m k means in
     let looked = means_stay c.decide.ensures.leaves.served c.decide.ensures.leaves.stays m k read in
     let between = state g.S.Store c.decide.new.store.conn in
     let meta = λ (at : Serves between). c.in_ok-meta.ensures.answers m k (means_now means) (c.decide.ensures.leaves.served at) in
-    let fresh = λ (at : Serves between). unused (c.meta.ensures.leaves.served (c.decide.ensures.leaves.served at)) in
     let now = λ (at : Serves between). c.moment_at-t.ensures ∙ ap (λ meta. decided_at meta.clock c.args.arrival.now.moment) (meta at) in
     let decides = λ (at : Serves between). subst (Decides (step settings m t c.args.ask) m t) c.in-Taken.is
     (subst (λ r. IfOk r (Decides (step settings m t c.args.ask) m t)) c.in_ok-decision.was (c.decide.ensures.decided m k sound read at (meta at))) in
-    accepted_leaves c.accept.result settings c.args.arrival.now m k c.args.sender.now t c.args.ask c.in-Taken.effect c.in-Taken.reply between (state g.S.Store c.accept.new.store.conn)
-    sound (lawful_ask c.args.ask lawful) from fresh now decides c.accept.ensures.served c.accept.ensures.opens (c.accept.ensures.accepted m k looked (λ at. (decides at).suits)) clean
+    accepted_leaves c.accept.result settings c.args.arrival.now m k c.args.sender.now t c.args.ask c.in-Taken.effect c.given_by-given.result c.in-Taken.reply between (state g.S.Store c.accept.new.store.conn)
+    c.given_by-given.ensures sound (lawful_ask c.args.ask lawful) from now decides c.accept.ensures.served c.accept.ensures.opens (c.accept.ensures.accepted m k looked (λ at. (decides at).suits)) clean
 
 pub returns-in-Refused-clause-stepped : goal.returns-in-Refused-clause-stepped
-returns-in-Refused-clause-stepped g c m k sound means opens clean from lawful unused =
+returns-in-Refused-clause-stepped g c m k sound means opens clean from lawful =
     let settings = settings_of c.args.self.now.office.setup c.args.self.now.office.controls in
     let t = c.moment_at-t.result in
     let read = means_stay c.meta.ensures.leaves.served c.meta.ensures.leaves.stays m k means in
     let looked = means_stay c.decide.ensures.leaves.served c.decide.ensures.leaves.stays m k read in
     let between = state g.S.Store c.decide.new.store.conn in
     let meta = λ (at : Serves between). c.in_ok-meta.ensures.answers m k (means_now means) (c.decide.ensures.leaves.served at) in
-    let fresh = λ (at : Serves between). unused (c.meta.ensures.leaves.served (c.decide.ensures.leaves.served at)) in
     let now = λ (at : Serves between). c.moment_at-t.ensures ∙ ap (λ meta. decided_at meta.clock c.args.arrival.now.moment) (meta at) in
     let decides = λ (at : Serves between). subst (Decides (step settings m t c.args.ask) m t) c.in-Refused.is
     (subst (λ r. IfOk r (Decides (step settings m t c.args.ask) m t)) c.in_ok-decision.was (c.decide.ensures.decided m k sound read at (meta at))) in
     let at = c.in_ok-decision.ensures.opens clean (c.in_ok-meta.ensures.leaves.opens (c.decide.ensures.leaves.clean clean)) in
-    refused_leaves settings c.args.arrival.now m k c.args.sender.now t c.args.ask c.in-Refused.reply between from (fresh at) (now at) (decides at) looked
+    refused_leaves settings c.args.arrival.now m k c.args.sender.now t c.args.ask c.in-Refused.reply between (now at) (decides at) looked
 
 pub returns-in_err-meta-clause-stepped : goal.returns-in_err-meta-clause-stepped
-returns-in_err-meta-clause-stepped g c m k sound means opens clean from lawful unused =
+returns-in_err-meta-clause-stepped g c m k sound means opens clean from lawful =
     refused_with c.from_residual.result _ _ c.from_residual.ensures.0 (means_stay c.meta.ensures.leaves.served c.meta.ensures.leaves.stays m k means)
 
 pub returns-in_err-decision-clause-stepped : goal.returns-in_err-decision-clause-stepped
-returns-in_err-decision-clause-stepped g c m k sound means opens clean from lawful unused =
+returns-in_err-decision-clause-stepped g c m k sound means opens clean from lawful =
     let read = means_stay c.meta.ensures.leaves.served c.meta.ensures.leaves.stays m k means in
     refused_with c.from_residual-in_err-decision.result _ _ c.from_residual-in_err-decision.ensures.0 (means_stay c.decide.ensures.leaves.served c.decide.ensures.leaves.stays m k read)
 
@@ -75,28 +73,28 @@ returns-in-Refused-clause-leaves g c = record {
 }
 
 pub returns-in-Taken-clause-crash : goal.returns-in-Taken-clause-crash
-returns-in-Taken-clause-crash g c m k sound means from unused =
+returns-in-Taken-clause-crash g c m k sound means from =
     let settings = settings_of c.args.self.now.office.setup c.args.self.now.office.controls in
     let t = c.moment_at-t.result in
     let read = means_stay c.meta.ensures.leaves.served c.meta.ensures.leaves.stays m k means in
     let looked = means_stay c.decide.ensures.leaves.served c.decide.ensures.leaves.stays m k read in
     let between = state g.S.Store c.decide.new.store.conn in
     let meta = λ (at : Serves between). c.in_ok-meta.ensures.answers m k (means_now means) (c.decide.ensures.leaves.served at) in
-    let fresh = λ (at : Serves between). unused (c.meta.ensures.leaves.served (c.decide.ensures.leaves.served at)) in
     let now = λ (at : Serves between). c.moment_at-t.ensures ∙ ap (λ meta. decided_at meta.clock c.args.arrival.now.moment) (meta at) in
     let decides = λ (at : Serves between). subst (Decides (step settings m t c.args.ask) m t) c.in-Taken.is
     (subst (λ r. IfOk r (Decides (step settings m t c.args.ask) m t)) c.in_ok-decision.was (c.decide.ensures.decided m k sound read at (meta at))) in
     let old = state g.S.Store c.args.self.now.store.conn in
     let new = state g.S.Store c.accept.new.store.conn in
-    then_stops old between new _ (nothing_then old (state g.S.Store c.meta.new.self.conn) between c.meta.ensures.leaves.crash c.decide.ensures.leaves.crash)
-    (taken_stops settings c.args.arrival.now m k c.args.sender.now t c.args.ask c.in-Taken.effect c.in-Taken.reply between new from fresh now decides
+    then_stops old between new _ _ (nothing_then old (state g.S.Store c.meta.new.self.conn) between c.meta.ensures.leaves.crash c.decide.ensures.leaves.crash)
+    (λ at. c.meta.ensures.leaves.served (c.decide.ensures.leaves.served at)) (λ at. refl)
+    (taken_stops settings c.args.arrival.now m k c.args.sender.now t c.args.ask c.in-Taken.effect c.given_by-given.result c.in-Taken.reply between new c.given_by-given.ensures from now decides
     (c.accept.ensures.crash m k looked (λ at. (decides at).suits)))
 
 pub returns-in-Refused-clause-crash : goal.returns-in-Refused-clause-crash
-returns-in-Refused-clause-crash g c m k sound means from unused found may = inl (c.meta.ensures.leaves.crash found (c.decide.ensures.leaves.crash found may))
+returns-in-Refused-clause-crash g c m k sound means from found may = inl (c.meta.ensures.leaves.crash found (c.decide.ensures.leaves.crash found may))
 
 pub returns-in_err-meta-clause-crash : goal.returns-in_err-meta-clause-crash
-returns-in_err-meta-clause-crash g c m k sound means from unused found may = inl (c.meta.ensures.leaves.crash found may)
+returns-in_err-meta-clause-crash g c m k sound means from found may = inl (c.meta.ensures.leaves.crash found may)
 
 pub returns-in_err-decision-clause-crash : goal.returns-in_err-decision-clause-crash
-returns-in_err-decision-clause-crash g c m k sound means from unused found may = inl (c.meta.ensures.leaves.crash found (c.decide.ensures.leaves.crash found may))
+returns-in_err-decision-clause-crash g c m k sound means from found may = inl (c.meta.ensures.leaves.crash found (c.decide.ensures.leaves.crash found may))
