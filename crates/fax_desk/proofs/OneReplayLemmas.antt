@@ -9,7 +9,8 @@ use Rattle.fax_job.specs.declared.refusal.Refusal.TheVariants.{Unavailable}
 use Rattle.fax_ask.specs.Response.{Response, refused_response}
 use Rattle.fax_ask.proofs.AloneLemmas.{one_ask, ask_or_refused, one_fault}
 use Rattle.fax_core.proofs.StepLemmas.{empty_sound}
-use Rattle.fax_core.specs.Queue.{Queue, Entry, empty_queue}
+use Rattle.fax_core.specs.Ledger.{Ledger, empty_ledger}
+use Rattle.fax_core.specs.Queue.{Queue, empty_queue}
 use Rattle.fax_core.specs.Reply.{NoKeys}
 use Rattle.fax_core.specs.Settings.{Settings}
 use Rattle.fax_core.specs.Sound.{Sound}
@@ -28,7 +29,7 @@ use Rattle.fax_http.proofs.DivisionLemmas.{one_division}
 -- ---- one message
 
 -- a verdict speaks of what an arrival says, wherever that stands
-same_verdict : (s : Settings) (m : Queue) (k : List Entry) (v : Verdict) (a b : Arrival)
+same_verdict : (s : Settings) (m : Queue) (k : Ledger) (v : Verdict) (a b : Arrival)
     → a.method ≡ b.method → a.path.now ≡ b.path.now → a.client.now ≡ b.client.now → a.number.now ≡ b.number.now
     → a.body.now ≡ b.body.now → a.moment ≡ b.moment → IsVerdict s a m k v → IsVerdict s b m k v
 same_verdict s m k v a b method path client number body moment h =
@@ -43,12 +44,12 @@ same_verdict s m k v a b method path client number body moment h =
 record SameLeft (reply other : Response) (left right : State) : Type 0 where
   pub replies : reply ≡ other
   pub queue : Queue
-  pub kept : List Entry
+  pub kept : Ledger
   pub sound : Sound queue
   pub here : Means left queue kept
   pub there : Means right queue kept
 
-left_same : (m : Queue) (k : List Entry) (reply other : Response) (left right : State) (v : Verdict) → Sound m
+left_same : (m : Queue) (k : Ledger) (reply other : Response) (left right : State) (v : Verdict) → Sound m
     → Leaves m k reply left v → Leaves m k other right v → SameLeft reply other left right
 left_same m k reply other left right (Told told) sound (e, here) (e', there) =
     record { replies = e ∙ sym e'; queue = m; kept = k; sound = sound; here = here; there = there }
@@ -57,7 +58,7 @@ left_same m k reply other left right (Repeated told) sound (e, serves, here) (e'
 left_same m k reply other left right (Accepted after kept told) sound (e, serves, here, stays) (e', serves', there, more) =
     record { replies = e ∙ sym e'; queue = after; kept = kept; sound = stays; here = λ _. here; there = λ _. there }
 
-handled_same : (s : Settings) (m : Queue) (k : List Entry) (head : RequestHead) (body : List ℕ) (moment : ℕ) (a b : Arrival)
+handled_same : (s : Settings) (m : Queue) (k : Ledger) (head : RequestHead) (body : List ℕ) (moment : ℕ) (a b : Arrival)
     (reply other : Response) (left right : State) → Sound m → IsArrival head body moment a → IsArrival head body moment b
     → ¬ (reply ≡ refused_response Unavailable NoKeys) → ¬ (other ≡ refused_response Unavailable NoKeys)
     → Handles s a m k reply left → Handles s b m k other right → SameLeft reply other left right
@@ -77,7 +78,7 @@ same_turn turn other head body reply =
     ap (λ h. record turn { head = h }) head ∙ ap (λ b. record turn { head = other.head; body = b }) body
     ∙ ap (λ r. record other { reply = r }) reply
 
-one_run : (s : Settings) (last : ℕ) (m : Queue) (k : List Entry) (turns others : List Turn) (held other : Held MemStore)
+one_run : (s : Settings) (last : ℕ) (m : Queue) (k : Ledger) (turns others : List Turn) (held other : Held MemStore)
     → Sound m → Means (state over_memory held) m k → Means (state over_memory other) m k
     → map message_of turns ≡ map message_of others → NoneGaveOut turns → NoneGaveOut others
     → AreHandled s last held turns → AreHandled s last other others → turns ≡ others
@@ -105,7 +106,7 @@ one_run s last m k (turn ∷ turns) (turn₂ ∷ turns₂) held other sound here
 pub one_replay : OneReplay
 one_replay office other bound input turns others stop another settings r q a b none more =
     let one = one_division bound input turns others stop another r q in (
-      one_run (settings_in other) 0 empty_queue [] turns others a.held b.held empty_sound (λ _. a.empty) (λ _. b.empty)
+      one_run (settings_in other) 0 empty_queue empty_ledger turns others a.held b.held empty_sound (λ _. a.empty) (λ _. b.empty)
           one.0 none more (subst (λ s. AreHandled s 0 a.held turns) settings a.handled) b.handled,
       one.1,
     )

@@ -4,7 +4,8 @@ use Rattle.httparse.specs.Grammar.{RequestHead}
 use Rattle.sqlite.specs.State.{State, HasCleanDisk}
 use Rattle.fax_ask.specs.Method.{method_of}
 use Rattle.fax_ask.specs.Response.{Response}
-use Rattle.fax_core.specs.Queue.{Queue, Entry}
+use Rattle.fax_core.specs.Ledger.{Ledger}
+use Rattle.fax_core.specs.Queue.{Queue}
 use Rattle.fax_core.specs.Settings.{Settings}
 use Rattle.fax_core.specs.Sound.{Sound}
 use Rattle.fax_once.specs.Verdict.{Handles}
@@ -24,7 +25,7 @@ pub record IsArrival (head : RequestHead) (body : List ℕ) (moment : ℕ) (a : 
 -- from a store that means a sound queue, the arrival at that moment is handled
 abbrev pub HandlesAt : ℕ → Settings → State → RequestHead → List ℕ → Response → State → Type 0
 HandlesAt moment settings old head body reply new =
-    (m : Queue) (k : List Entry) → Sound m → Means old m k → HasCleanDisk new
+    (m : Queue) (k : Ledger) → Sound m → Means old m k → HasCleanDisk new
     → (a : Arrival) × IsArrival head body moment a × Handles settings a m k reply new
 
 -- the clock gives a moment for what the message says of it, and the arrival at that moment is handled

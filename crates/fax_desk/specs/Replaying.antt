@@ -3,6 +3,7 @@ use Rattle.std.specs.Prelude.{◌≡◌, ◌⊎◌, ℕ, ◌≤◌, false, List,
 use Rattle.sqlite.specs.Held.{Held, state}
 use Rattle.sqlite.specs.Steps.{over_memory}
 use Rattle.sqlite_trees.specs.declared.memory.MemStore.{MemStore}
+use Rattle.fax_core.specs.Ledger.{empty_ledger}
 use Rattle.fax_core.specs.Queue.{empty_queue}
 use Rattle.fax_core.specs.Settings.{Settings}
 use Rattle.fax_decide.specs.Settings.{settings_of}
@@ -37,7 +38,7 @@ settings_in office = settings_of office.setup office.controls
 -- by the settings of that office, the turns are those of the empty queue from the moment 0 on
 pub record AreOfEmptyQueue (office : Office) (turns : List Turn) : Type 0 where
   pub held : Held MemStore
-  pub empty : IsAtRest (state over_memory held) empty_queue []
+  pub empty : IsAtRest (state over_memory held) empty_queue empty_ledger
   pub handled : AreHandled (settings_in office) 0 held turns
 
 module _ {R W : Type 0} (remaining : R → Option (List ℕ)) (contents : W → Option (List ℕ)) (reader reader₂ : Watched R) (out out₂ : Watched W) where

@@ -1,8 +1,9 @@
 //! One input, answered from empty tables on.
 
-ghost use Rattle.std.specs.Prelude.{◌≡◌, false, [], IfErr, IfOk};
+ghost use Rattle.std.specs.Prelude.{◌≡◌, false, IfErr, IfOk};
 ghost use Rattle.sqlite.specs.Held.{state};
 ghost use Rattle.sqlite.specs.Steps.{over_memory};
+ghost use Rattle.fax_core.specs.Ledger.{empty_ledger};
 ghost use Rattle.fax_core.specs.Queue.{empty_queue as no_records};
 ghost use Rattle.fax_desk.specs.Replaying.{IsReplayed};
 ghost use Rattle.fax_http.specs.Device.{IsFresh};
@@ -44,7 +45,7 @@ pub fn replay<R: Read + Drop, W: Write + Drop>(
 
 /// A queue over empty tables in memory, by that office.
 fn empty_queue(alloc: Global, office: Office) -> Result<Queue<MemStore>, StoreFault>
-    ensures empty { IfOk result (λ queue. IsAtRest (state over_memory queue.store.conn) no_records []) }
+    ensures empty { IfOk result (λ queue. IsAtRest (state over_memory queue.store.conn) no_records empty_ledger) }
     ensures office { IfOk result (λ queue. queue.office ≡ office) }
     ensures open { IfOk result (λ queue. queue.is_shut ≡ false) }
     ensures cause { IfErr result (λ fault. fault ≡ StoreFault.Unavailable) }

@@ -5,9 +5,12 @@ use Rattle.sqlite.specs.Files.{AreFoundIn, HoldsDatabase}
 use Rattle.sqlite.specs.State.{State}
 use Rattle.sqlite_trees.specs.Tree.{Trees}
 use Rattle.sqlite_wal.specs.Recovery.{Image}
-use Rattle.fax_core.specs.Queue.{Queue, Entry}
+use Rattle.fax_core.specs.Ledger.{Ledger}
+use Rattle.fax_core.specs.Queue.{Queue}
 use Rattle.fax_store.specs.Adopt.{Adopts}
-use Rattle.fax_store.specs.Store.{LeavesAlone, Means, RowsFound, Serves}
+use Rattle.fax_store.specs.Store.{LeavesAlone, Means, Serves}
+use Rattle.fax_schema.specs.Schema.{AreOurs}
+use Rattle.fax_tables.specs.Tables.{RowsMean}
 
 -- the trees are those that the files hold, or there was no database yet
 pub record AreHeld (image : Image) (trees : Trees) : Type 0 where
@@ -21,5 +24,5 @@ pub record IsFound (image : Image) (new : State) : Type 0 where
   pub sound : IsDatabase found
   pub taken : Adopts found new
   pub serves : Serves new
-  pub means : (m : Queue) (k : List Entry) → RowsFound found.trees m k → Means new m k
+  pub means : (m : Queue) (k : Ledger) → AreOurs found.schema → RowsMean found m k → Means new m k
   pub alone : LeavesAlone new new.committed.trees

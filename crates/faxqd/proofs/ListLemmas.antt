@@ -2,7 +2,8 @@
 use Rattle.std.proofs.Common.{inl, inr, ℕ, List, Option, Ok}
 use Rattle.sqlite.specs.State.{State, HasCleanDisk}
 use Rattle.fax_ask.specs.Response.{Response}
-use Rattle.fax_core.specs.Queue.{Queue, Entry}
+use Rattle.fax_core.specs.Ledger.{Ledger}
+use Rattle.fax_core.specs.Queue.{Queue}
 use Rattle.fax_core.specs.Settings.{Settings}
 use Rattle.fax_core.specs.Sound.{Sound}
 use Rattle.fax_decide.specs.declared.office.Office.{Office}
@@ -15,7 +16,7 @@ use Rattle.fax_text.specs.declared.status.Status.{Status}
 use Rattle.fax_text.specs.declared.status.Status.TheVariants.{Success, Fault, Usage}
 
 pub is_seen : (s : Settings) (moment : ℕ) (old new : State) (reply : Response) → Stays old new → (HasCleanDisk new → HasCleanDisk old)
-    → ((m : Queue) (k : List Entry) → Sound m → Means old m k → HasCleanDisk new → IsReply s moment m k new reply) → IsSeen s moment old new reply
+    → ((m : Queue) (k : Ledger) → Sound m → Means old m k → HasCleanDisk new → IsReply s moment m k new reply) → IsSeen s moment old new reply
 is_seen s moment old new reply stays clean seen = record { stays = stays; clean = clean; seen = seen }
 
 pub lists_of : {W : Type 0} (contents : W → Option (List ℕ)) (out out₂ : Watched W) (plan : ListPlan) (office : Office) → ComesOf plan.files (Ok office)

@@ -3,7 +3,8 @@ use Rattle.std.proofs.Common.{◌≡◌, ℕ, Bool, List, [], ◌∷◌, Option,
 use Rattle.std.specs.Prelude.{MatchOption}
 use Rattle.sqlite.specs.State.{State, HasCleanDisk}
 use Rattle.sqlite_wal.specs.Recovery.{Image}
-use Rattle.fax_core.specs.Queue.{Queue, Entry, empty_queue}
+use Rattle.fax_core.specs.Ledger.{Ledger, empty_ledger}
+use Rattle.fax_core.specs.Queue.{Queue, empty_queue}
 use Rattle.fax_core.proofs.StepLemmas.{empty_sound}
 use Rattle.fax_core.specs.Settings.{Settings}
 use Rattle.fax_core.specs.Sound.{Sound}
@@ -31,13 +32,13 @@ use Rattle.fax_text.specs.declared.server.ServePlan.{ServePlan}
 -- ---- one message
 
 -- a message was answered, and what it leaves is a sound queue, which the store means
-record IsOne {C : Type 0} (gives : C → List ℕ → ℕ → C → Type 0) (settings : Settings) (m : Queue) (k : List Entry) (clock : C) (turn : Turn) (later : C) (new : State) : Type 0 where
+record IsOne {C : Type 0} (gives : C → List ℕ → ℕ → C → Type 0) (settings : Settings) (m : Queue) (k : Ledger) (clock : C) (turn : Turn) (later : C) (new : State) : Type 0 where
   next : Start
   turned : IsTurn gives settings (record { queue = m; kept = k }) clock turn next later
   sound : Sound next.queue
   means : Means new next.queue next.kept
 
-module _ {C : Type 0} (gives : C → List ℕ → ℕ → C → Type 0) (settings : Settings) (m : Queue) (k : List Entry) (clock : C) (turn : Turn) (later : C) (new : State)
+module _ {C : Type 0} (gives : C → List ℕ → ℕ → C → Type 0) (settings : Settings) (m : Queue) (k : Ledger) (clock : C) (turn : Turn) (later : C) (new : State)
     (moment : ℕ) (given : gives clock (said_in turn) moment later) (a : Arrival) (comes : IsArrival turn.head turn.body moment a) (sound : Sound m) where
   start : Start
   start = record { queue = m; kept = k }
@@ -91,7 +92,7 @@ module _ {H C : Type 0} (answers : Answering H) (gives : C → List ℕ → ℕ 
   clean_before old [] new e now = subst (λ h. HasCleanDisk (of h)) e now
   clean_before old (turn ∷ turns) new (next, here, behind) now = clean old turn next here (clean_before next turns new behind now)
 
-  served_from : (old : H) (turns : List Turn) (new : H) → Answers answers old turns new → (m : Queue) (k : List Entry) → Sound m → Means (of old) m k → HasCleanDisk (of new)
+  served_from : (old : H) (turns : List Turn) (new : H) → Answers answers old turns new → (m : Queue) (k : Ledger) → Sound m → Means (of old) m k → HasCleanDisk (of new)
       → HasServed gives (settings old) m k (clock_of old) turns (of new)
   served_from old [] new e m k sound means now = record {
     end = record { queue = m; kept = k };
@@ -127,8 +128,8 @@ held_by gives settings image clock turns opened new found from clean =
       held = it.held;
       sound = it.sound;
       served = elim it.taken [
-        | inl (none, rest) ↦ inl (none, from.served empty_queue [] empty_sound (λ serves. rest) clean)
-        | inr (ours, whole) ↦ inr (ours, λ m k sound rows. from.served m k sound (it.means m k rows) clean)
+        | inl (none, rest) ↦ inl (none, from.served empty_queue empty_ledger empty_sound (λ serves. rest) clean)
+        | inr (ours, whole) ↦ inr (ours, λ m k sound rows. from.served m k sound (it.means m k ours.schema_is rows) clean)
       ];
     }
 

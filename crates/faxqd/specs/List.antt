@@ -3,7 +3,8 @@ use Rattle.std.specs.Prelude.{◌≡◌, ◌⊎◌, ℕ, false, List, Option, Ok
 use Rattle.sqlite.specs.State.{State, HasCleanDisk}
 use Rattle.fax_ask.specs.Response.{Response}
 use Rattle.fax_ask.specs.declared.method.Method.TheVariants.{Get}
-use Rattle.fax_core.specs.Queue.{Queue, Entry}
+use Rattle.fax_core.specs.Ledger.{Ledger}
+use Rattle.fax_core.specs.Queue.{Queue}
 use Rattle.fax_core.specs.Settings.{Settings}
 use Rattle.fax_core.specs.Sound.{Sound}
 use Rattle.fax_decide.specs.declared.office.Office.{Office}
@@ -18,7 +19,7 @@ use Rattle.fax_text.specs.declared.status.Status.TheVariants.{Success, Fault, Us
 use Rattle.fax_text.specs.declared.list_words.ListPlan.{ListPlan}
 
 -- the queue's reply to GET of /jobs at that moment
-abbrev pub IsReply : Settings → ℕ → Queue → List Entry → State → Response → Type 0
+abbrev pub IsReply : Settings → ℕ → Queue → Ledger → State → Response → Type 0
 IsReply s moment m k new reply =
     (a : Arrival) × (a.method ≡ Get) × (a.path.now ≡ codes "/jobs") × (a.moment ≡ moment) × Handles s a m k reply new
 
@@ -26,7 +27,7 @@ IsReply s moment m k new reply =
 pub record IsSeen (s : Settings) (moment : ℕ) (old new : State) (reply : Response) : Type 0 where
   pub stays : Stays old new
   pub clean : HasCleanDisk new → HasCleanDisk old
-  pub seen : (m : Queue) (k : List Entry) → Sound m → Means old m k → HasCleanDisk new → IsReply s moment m k new reply
+  pub seen : (m : Queue) (k : Ledger) → Sound m → Means old m k → HasCleanDisk new → IsReply s moment m k new reply
 
 module _ {W : Type 0} (contents : W → Option (List ℕ)) (out out₂ : Watched W) where
   -- a reply of status 200 is printed; or there is another reply, or the output failed

@@ -5,7 +5,8 @@ use Rattle.sqlite.specs.State.{State, HasCleanDisk}
 use Rattle.sqlite_wal.specs.Recovery.{Image}
 use Rattle.fax_job.specs.declared.refusal.Refusal.TheVariants.{Unavailable}
 use Rattle.fax_ask.specs.Response.{refused_response}
-use Rattle.fax_core.specs.Queue.{Queue, Entry, empty_queue}
+use Rattle.fax_core.specs.Ledger.{Ledger, empty_ledger}
+use Rattle.fax_core.specs.Queue.{Queue, empty_queue}
 use Rattle.fax_core.specs.Reply.{NoKeys}
 use Rattle.fax_core.specs.Settings.{Settings}
 use Rattle.fax_core.specs.Sound.{Sound}
@@ -21,7 +22,8 @@ use Rattle.fax_once.specs.Run.{Start}
 use Rattle.fax_once.specs.Verdict.{Verdict, IsVerdict, reply_of}
 use Rattle.fax_once.specs.declared.arrival.Arrival.{Arrival}
 use Rattle.fax_store.specs.Adopt.{IsOurs}
-use Rattle.fax_store.specs.Store.{Means, RowsFound}
+use Rattle.fax_store.specs.Store.{Means}
+use Rattle.fax_tables.specs.Tables.{RowsMean}
 use Rattle.fax_schema.specs.Schema.{no_tables}
 use Rattle.fax_net.specs.Listening.{Listens, SaidNothing, listening}
 use Rattle.fax_files.specs.Database.{AreHeld}
@@ -55,7 +57,7 @@ module _ {C : Type 0} (gives : C → List ℕ → ℕ → C → Type 0) (setting
   AreTurns start clock (turn ∷ turns) end = (next : Start) × (later : C) × IsTurn start clock turn next later × AreTurns next later turns end
 
   -- these messages were answered one after the other, from this queue and these kept replies on
-  pub record HasServed (m : Queue) (k : List Entry) (clock : C) (turns : List Turn) (new : State) : Type 0 where
+  pub record HasServed (m : Queue) (k : Ledger) (clock : C) (turns : List Turn) (new : State) : Type 0 where
     pub end : Start
     pub answered : AreTurns (record { queue = m; kept = k }) clock turns end
     pub sound : Sound end.queue
@@ -64,7 +66,7 @@ module _ {C : Type 0} (gives : C → List ℕ → ℕ → C → Type 0) (setting
   -- From a store that means a sound queue they were. Where the disk has returned what was written, it had before.
   pub record ServesFrom (clock : C) (old : State) (turns : List Turn) (new : State) : Type 0 where
     pub clean : HasCleanDisk new → HasCleanDisk old
-    pub served : (m : Queue) (k : List Entry) → Sound m → Means old m k → HasCleanDisk new → HasServed m k clock turns new
+    pub served : (m : Queue) (k : Ledger) → Sound m → Means old m k → HasCleanDisk new → HasServed m k clock turns new
 
   -- So they were from what a database's files held: from an empty queue where that had no tables, or from the one that its rows mean.
   pub record ServesHeld (image : Image) (clock : C) (turns : List Turn) (new : State) : Type 0 where
@@ -72,8 +74,8 @@ module _ {C : Type 0} (gives : C → List ℕ → ℕ → C → Type 0) (setting
     pub held : AreHeld image found.trees
     pub sound : IsDatabase found
     pub served :
-        ((found.schema ≡ no_tables) × HasServed empty_queue [] clock turns new)
-        ⊎ (IsOurs found × ((m : Queue) (k : List Entry) → Sound m → RowsFound found.trees m k → HasServed m k clock turns new))
+        ((found.schema ≡ no_tables) × HasServed empty_queue empty_ledger clock turns new)
+        ⊎ (IsOurs found × ((m : Queue) (k : Ledger) → Sound m → RowsMean found m k → HasServed m k clock turns new))
 
 -- ---- the end
 

@@ -13,4 +13,4 @@ returns-clause-found g c =
     let before = c.in-Ok-adopt.ensures.clean clean in
     found_by (image_at g.S.Start) (file_state c.in-Ok.conn) (file_state c.in-Ok-adopt.store.conn)
     (c.in-Ok.ensures.found before) (c.in-Ok.ensures.opened before).0 (c.in-Ok.ensures.opened before).1 (c.in-Ok-adopt.ensures.adopts clean)
-    (c.in-Ok-adopt.ensures.opens clean) c.in-Ok-adopt.ensures.reopens c.in-Ok-adopt.ensures.alone)
+    (c.in-Ok-adopt.ensures.opens clean) c.in-Ok-adopt.ensures.means_rows c.in-Ok-adopt.ensures.alone)
