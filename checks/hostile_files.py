@@ -280,7 +280,7 @@ OTHER_ROWS = (  # the requests that meet the row, and what makes it
     *((["a submission"], f"UPDATE meta SET {change}") for change in (
         "clock = -1", "clock = 4102444801", "next_job = 0", "next_job = 1000001", "next_grant = 0",
         f"next_grant = {BIG}", "next_job = 2")))
-TABLES = ("jobs", "grants", "holds", "down", "replies", "meta", "calls")
+TABLES = ("jobs", "grants", "holds", "down", "replies", "meta", "floors", "calls")
 NULLS = (("jobs", "dial TEXT NOT NULL", "dial", "job = 3"), ("jobs", "extra TEXT NOT NULL", "extra", "job = 3"),
          ("jobs", "priority INTEGER NOT NULL", "priority", "job = 3"),
          ("grants", "call INTEGER NOT NULL", "call", "id = 1"), ("holds", "id INTEGER NOT NULL UNIQUE", "id", "1"),
@@ -306,7 +306,7 @@ def schemas(sound, wanted):
     statements = [f"DROP TABLE {name}" for name in TABLES if name not in ("down", "calls")]
     statements += [f"ALTER TABLE {name} ADD COLUMN more INTEGER" for name in TABLES]
     statements += [f"ALTER TABLE {name} RENAME COLUMN {old} TO other"
-                   for name, old in zip(TABLES, ("extra", "call", "id", "modem", "said", "clock", "open"))]
+                   for name, old in zip(TABLES, ("extra", "call", "id", "modem", "said", "clock", "upto", "open"))]
     statements += [f"schema |{table}|{column}|{column.replace(' NOT NULL', '')}" for table, column, _, _ in NULLS]
     statements += [
         "CREATE INDEX more ON jobs (tts)", "CREATE VIEW more AS SELECT job FROM jobs", "DELETE FROM meta",

@@ -173,7 +173,7 @@ def tables(file):
     with contextlib.closing(sqlite3.connect(file)) as database:
         database.text_factory = bytes
         return {name: sorted(database.execute(f"SELECT * FROM {name}").fetchall(), key=repr)
-                for name in ("jobs", "grants", "holds", "down", "replies", "meta", "calls")}
+                for name in ("jobs", "grants", "holds", "down", "replies", "meta", "floors", "calls")}
 
 
 def expect_rows(got, wanted, what):
@@ -204,10 +204,10 @@ def conversed(at, *messages):
 
 REFUSALS = {int(number): (word, int(status)) for number, word, status in
             re.findall(r"^\| (\d+) \| `(\S+)` \| (\d{3}) \|", (TOP / "docs/PROTOCOL.md").read_text(), re.M)}
-PHRASES = {200: b"OK", 201: b"Created", 400: b"Bad Request", 403: b"Forbidden", 404: b"Not Found", 409: b"Conflict",
+PHRASES = {200: b"OK", 201: b"Created", 400: b"Bad Request", 403: b"Forbidden", 404: b"Not Found", 409: b"Conflict", 410: b"Gone",
            413: b"Payload Too Large", 503: b"Service Unavailable", 507: b"Insufficient Storage"}
 ACCEPTED = ({"job"}, {"job", "state"}, {"grant"}, {"from", "grant", "job", "number", "to"}, {"stop"}, {"npages",
-    "stop"}, {"down"})
+    "stop"}, {"down"}, {"floor"})
 HEAD = re.compile(rb"HTTP/1\.1 (\d{3}) ([A-Za-z ]+)\r\nContent-Type: (application/json|text/plain)\r\n"
                   rb"Content-Length: (0|[1-9]\d*)\r\n(Connection: close\r\n)?\r\n")
 Reply = collections.namedtuple("Reply", "status number body last")

@@ -64,6 +64,12 @@ report() {
     [ "$status" = 200 ] || { echo "worker.sh: $1 is refused: $reply" >&2; hangup; exit 1; }
 }
 
+# give_up: has the queue keep the replies through the last request no longer. Each of them is answered.
+give_up() {
+    ask /numbers/floor "{\"upto\":$number}"
+    asked=0
+}
+
 hangup() {
     "$command" hangup || true
 }
@@ -86,6 +92,7 @@ outcome() {
     printf '%s\tSEND\t%09d\t%s\t%s\t""\t\t"%s"\t""\t0\t%d\t%s\t%s\t"%s"\n' "$(date -d "@$began" '+%D %H:%M')" "$grant" \
         "$modem" "$job" "$dial" "$2" "$(lasted $((now - began)))" "$(lasted $((now - online)))" "$3" >> "$log"
     report "/grants/$grant/outcome" "{\"dialed\":true,\"outcome\":\"$1\",\"pages\":$2,\"reason\":\"$3\"}"
+    give_up
 }
 
 # call: calls for the grant, and sends its pages one by one. Each is reported before the next is sent.
@@ -116,8 +123,10 @@ call() {
 # What was asked last may not have arrived, so it is sent again: the queue takes it once.
 hangup
 if [ -e "$folder/request" ]; then send; fi
+asked=0
 while true; do
     ask "/modems/$modem/next"
+    asked=$((asked + 1))
     case $status in
         200 | 409) ;;
         *) echo "worker.sh: the modem gets no work: $reply" >&2; exit 1 ;;
@@ -125,6 +134,7 @@ while true; do
     grant=$(key grant) job=$(key job) dial=$(key number) from=$(key from) to=$(key to)
     began=$(date +%s) online=$(date +%s)
     if [ -z "$grant" ] || [ "$grant" = 0 ]; then
+        if [ "$asked" -ge 100 ]; then give_up; fi
         sleep "$wait" # no job, or the modem is marked as down
     elif [ "$(key called)" = true ]; then
         # The worker was stopped within this call. Pages that were reported are confirmed for good.
