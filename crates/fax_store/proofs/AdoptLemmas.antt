@@ -54,19 +54,23 @@ starts s0 s1 n began =
 -- ---- making the tables
 
 module _ (s0 s1 : State) (none : s0.now.schema ≡ no_tables) (n : ℕ) (began : Executes BEGIN.now [] s0 s1 (Ok n)) where
+  -- after the begin, the database still has no tables
   pub starts_empty : HasEmptyTables no_tables s1
   starts_empty =
       let shown = (begins s0 s1 n began).1 in
       none_at_first s1 shown.mode (ap (λ (d : Database). d.schema) shown.now_is ∙ none)
 
   module _ (s2 : State) where
+    -- where making the tables keeps the commit, so does the begin with it
     pub creation_kept : (HasEmptyTables no_tables s1 → KeepsCommit s1 s2) → KeepsCommit s0 s2
     creation_kept kept = commit_kept s0 s1 s2 (starts s0 s1 n began) (kept starts_empty)
 
     module _ (created : HasEmptyTables no_tables s1 → GoesOn s1 s2 × TablesMean s2.now empty_queue empty_ledger) (s3 : State) where
+      -- where the commit of new tables is refused, the commit before the begin stands
       pub commit_kept_before : (e : Error) → Executes COMMIT.now [] s2 s3 (Err e) → KeepsCommit s0 s3
       commit_kept_before e failed = commit_kept s0 s1 s3 (starts s0 s1 n began) (commit_kept s1 s2 s3 (created starts_empty).0 (refused_keeps s2 s3 COMMIT.now e failed))
 
+      -- once the tables that were made are committed, they mean the empty queue and no kept replies
       pub tables_made : (k : ℕ) → Executes COMMIT.now [] s2 s3 (Ok k) → IsAtRest s3 empty_queue empty_ledger
       tables_made k committed =
           let done = commits s2 s3 k committed in
@@ -131,40 +135,50 @@ second : (db : Database) → has_floors db.schema ≡ true → version_of db.sch
 second db there is = let two : version_of db.schema ≡ 2 = rw there refl in absurd (let e : 2 ≡ 1 = sym two ∙ is in omega arith)
 
 module _ (s0 s1 : State) (ours : AreOurs s0.now.schema) (n : ℕ) (began : Executes BEGIN.now [] s0 s1 (Ok n)) where
+  -- after the begin, a transaction is under way over our tables
   pub starts_ours : IsIn AreOurs s1
   starts_ours =
       let shown = (begins s0 s1 n began).1 in
       record { is_open = shown.is_open; inside = shown.mode; schema_is = subst (λ (d : Database). AreOurs d.schema) (sym shown.now_is) ours }
 
   module _ (s2 : State) where
+    -- where making what is missing keeps the commit, so does the begin with it
     pub renewing_kept : (IsIn AreOurs s1 → KeepsCommit s1 s2) → KeepsCommit s0 s2
     renewing_kept kept = commit_kept s0 s1 s2 (starts s0 s1 n began) (kept starts_ours)
 
     module _ (made : IsIn AreOurs s1 → GoesOn s1 s2 × HasNewCalls s1.now s2.now) where
+      -- from the begin through what is made, the transaction goes on
       pub goes_on_renewed : GoesOn s0 s2
       goes_on_renewed = goes_on s0 s1 s2 (starts s0 s1 n began) (made starts_ours).0
 
       abbrev version : ℕ
       version = version_of s0.now.schema
 
+      -- what is made has the rows that the database had before the begin, and a new `calls`
       renewed : HasNewCalls s0.now s2.now
       renewed = subst (λ (d : Database). HasNewCalls d s2.now) (begins s0 s1 n began).1.now_is (made starts_ours).1
 
+      -- all tables are there, and no call is counted yet
       pub has_none : HasNone s2
       has_none = record { is_open = goes_on_renewed.is_open; inside = goes_on_renewed.mode; schema_is = renewed.schema_is; sound = renewed.sound; none = renewed.none }
 
+      -- meta has the versions that it had
       same_versions : versions s2.now ≡ versions s0.now
       same_versions = ap (map (λ r. column r 5)) renewed.renews.rows.1.1.1.1.1.0
 
+      -- floors has the rows that it had, none where there was no such table
       same_floors : s2.now.trees floors_tree ≡ floors_in s0.now
       same_floors = sym (floors_there s2.now our_tables renewed.schema_is refl) ∙ renewed.renews.floors
 
+      -- meta's one row still has the version of the tables that were found
       pub still_version : HasVersion s0.now → versions s2.now ≡ number version ∷ []
       still_version is = same_versions ∙ is
 
+      -- where each hold had a job that can be called, it still has
       pub still_callable : HoldsCanBeCalled s0.now → HoldsCanBeCalled s2.now
       still_callable = held_still s0.now s2.now (alike s0.now s2.now renewed.renews)
 
+      -- rows that meant a queue and kept replies still mean them, in that version
       pub still_means : (m : Queue) (k : Ledger) → RowsMean s0.now m k → MeansAs version s2.now m k
       still_means m k mean = record {
         full = mean.full;
@@ -179,10 +193,12 @@ module _ (s0 s1 : State) (ours : AreOurs s0.now.schema) (n : ℕ) (began : Execu
       raisable (inl there) = inl (second s0.now there)
       raisable (inr by) = inr (subst IsByRowid (sym renewed.renews.rows.1.1.1.1.1.0) by)
 
+      -- where counting the calls keeps the commit, so does all from the begin on
       pub filling_kept : (s3 : State) → KeepsCommit s2 s3 → KeepsCommit s0 s3
       filling_kept s3 kept = commit_kept s0 s2 s3 goes_on_renewed kept
 
       module _ (s3 : State) (filled : GoesOn s2 s3 × IsFilled version s2.now s3.now) where
+        -- a database that was filled had our tables, meta's one version, and a job for each hold
         pub was_ours : IsOurs s0.now
         was_ours = record {
           schema_is = ours;
@@ -190,6 +206,7 @@ module _ (s0 s1 : State) (ours : AreOurs s0.now.schema) (n : ℕ) (began : Execu
           held = λ hold there. let it = filled.1.held hold (subst (λ rows. Has rows hold) (sym renewed.renews.rows.1.1.0) there) in (it.0, subst (λ rows. Has rows it.0) renewed.renews.rows.0 it.1, it.2);
         }
 
+        -- once filled, it has all tables, with the rows that it had
         pub is_taken : IsTaken s0.now s3.now
         is_taken = let it = filled.1 in record {
           schema_is = it.schema_is;
@@ -199,15 +216,18 @@ module _ (s0 s1 : State) (ours : AreOurs s0.now.schema) (n : ℕ) (began : Execu
           floors = it.floors ∙ same_floors;
         }
 
+        -- where the commit is refused, the commit before the begin stands
         pub not_taken : (s4 : State) (e : Error) → Executes COMMIT.now [] s3 s4 (Err e) → KeepsCommit s0 s4
         not_taken s4 e failed = commit_kept s0 s3 s4 (goes_on s0 s2 s3 goes_on_renewed filled.0) (refused_keeps s3 s4 COMMIT.now e failed)
 
         module _ (s4 : State) (k : ℕ) (committed : Executes COMMIT.now [] s3 s4 (Ok k)) where
+          -- once committed, the database has all tables with the rows that it had, and no work is under way
           pub has_taken : HasTaken s4 s0.now
           has_taken =
               let done = commits s3 s4 k committed in
               record { autocommit = done.mode; settled = done.now_is ∙ sym done.committed_is; taken = subst (λ (d : Database). IsTaken s0.now d) (sym done.now_is) is_taken }
 
+          -- once committed, what the tables meant is at rest
           pub whole_means : (m : Queue) (kept : Ledger) → TablesMean s3.now m kept → IsAtRest s4 m kept
           whole_means m kept means =
               let done = commits s3 s4 k committed in
@@ -220,6 +240,7 @@ told_strange (Err e) fault told is = ap Err (sym told) ∙ is
 
 -- ---- reading the version
 
+-- a filter that all pass keeps the list
 every : {A : Type 0} (xs : List A) → filter (λ _. true) xs ≡ xs
 every [] = refl
 every (x ∷ xs) = ap (λ ys. x ∷ ys) (every xs)
@@ -230,23 +251,27 @@ one_version v [] e = absurd cc
 one_version v (r ∷ []) e = let head : column r 5 ≡ number v = cc in ap (λ x. x ∷ []) head
 one_version v (r ∷ s ∷ rows) e = absurd cc
 
+-- a list of one value is that of one row with this one value
 in_one_row : (v : ℕ) (rows : List Row) → map (λ r. column r 5) rows ≡ number v ∷ [] → map (λ r. column r 5 ∷ []) rows ≡ (number v ∷ []) ∷ []
 in_one_row v [] e = absurd cc
 in_one_row v (r ∷ []) e = let head : column r 5 ≡ number v = cc in ap (λ x. (x ∷ []) ∷ []) head
 in_one_row v (r ∷ s ∷ rows) e = absurd cc
 
 module _ (v : ℕ) (old new : State) (ours : old.now.schema ≡ our_tables) (rows : List Row) (shown : Shown SELECT_VERSION.now [] old new rows) where
+  -- the text on the version shows meta's versions, in any order
   shown_versions : IsPermutation (map (λ r. column r 5 ∷ []) (old.now.trees meta_tree)) rows
   shown_versions =
       let read = reads_as SELECT_VERSION.now [] old new our_tables ours _ select_version.command select_version.plain select_version.unlisted rows shown in
       subst (λ t. IsPermutation (map (λ r. column r 5 ∷ []) t) rows) (every (old.now.trees meta_tree))
       (answers meta_tree [] version_project [] old.now (old.now.trees meta_tree) refl (codes "version" ∷ []) rows read)
 
+  -- where the text shows one version, meta has just this one
   pub version_found : rows ≡ (number v ∷ []) ∷ [] → versions old.now ≡ number v ∷ []
   version_found is =
       one_version v (old.now.trees meta_tree)
       (one_permutation (number v ∷ []) _ (subst (λ all. IsPermutation all (map (λ r. column r 5 ∷ []) (old.now.trees meta_tree))) is (IsPermutation-sym _ _ shown_versions)))
 
+  -- where meta has one version, the text shows just this one
   pub version_shown : versions old.now ≡ number v ∷ [] → rows ≡ (number v ∷ []) ∷ []
   version_shown is = one_permutation (number v ∷ []) rows (subst (λ all. IsPermutation all rows) (in_one_row v (old.now.trees meta_tree) is) shown_versions)
 
@@ -265,6 +290,7 @@ module _ (s0 s1 : State) (none : s0.now.schema ≡ no_tables) (n : ℕ) (survive
   pub tables_hold_back : CommitsNothing s0 s2
   tables_hold_back = nothing_then s0 s1 s2 (begin_nothing s0 s1 survives) (made (λ clean. starts_empty s0 s1 none n (began clean)))
 
+  -- a crash while the tables are made leaves what it could leave before, or an empty store
   pub tables_stop : (HasCleanDisk s2 → HasCleanDisk s1) → (HasCleanDisk s2 → HasEmptyTables no_tables s1 → GoesOn s1 s2 × TablesMean s2.now empty_queue empty_ledger)
       → (s3 : State) → Survives s2 s3 (CommitsBy COMMIT.now [] s2) → MayMake s0 s3 (λ found. RowsFound found empty_queue empty_ledger)
   tables_stop cleaner done s3 committing found may =
@@ -284,6 +310,7 @@ module _ (s0 s1 : State) (ours : AreOurs s0.now.schema) (n : ℕ) (survives : Su
     pub filling_holds_back : CommitsNothing s0 s3
     filling_holds_back = nothing_then s0 s2 s3 renewing_holds_back (fills (λ clean. has_none s0 s1 ours n (began (cleaner clean)) s2 (done clean)))
 
+    -- a crash while a database is taken leaves what it could leave before, or the rows that it had
     pub taking_stops : (HasCleanDisk s3 → HasCleanDisk s2) → (HasCleanDisk s3 → HasNone s2 → GoesOn s2 s3 × IsFilled (version_of s0.now.schema) s2.now s3.now)
         → (s4 : State) → Survives s3 s4 (CommitsBy COMMIT.now [] s3) → MayMake s0 s4 (AreTaken s0.now)
     taking_stops cleaned filled s4 committing found may =

@@ -45,9 +45,11 @@ and_true false = refl
 -- ---- counts
 
 module _ (dial : List ℕ) (count : List ℕ → ℕ) where
+  -- the count that is set is that of the number itself
   of_this : (n : ℕ) (d : List ℕ) → bytes_eq d dial ≡ true → with_count dial n count d ≡ n
   of_this n d on = ap (λ b. if b then n else count d) on
 
+  -- another number keeps its count
   of_other : (n : ℕ) (d : List ℕ) → bytes_eq d dial ≡ false → with_count dial n count d ≡ count d
   of_other n d off = ap (λ b. if b then n else count d) off
 
@@ -55,6 +57,7 @@ module _ (dial : List ℕ) (count : List ℕ → ℕ) where
   abbrev pub others : Row → Bool
   others columns = not (are_equal (column columns 0) (Text dial) && true)
 
+  -- the columns of a number are others where it isn't this one
   is_other : (d : List ℕ) (n : ℕ) → others (call_columns d n) ≡ not (bytes_eq d dial)
   is_other d n = ap not (and_true (are_equal (Text d) (Text dial)) ∙ equal_texts d dial)
 
@@ -108,13 +111,16 @@ module _ (dial : List ℕ) where
   abbrev pub params : Row
   params = Text dial ∷ []
 
+  -- a row passes where its first column is the number asked for
   pub is_asked : (project : List _) (r : Row) → passes calls_tree call_tests project params r ≡ (are_equal (column (drop 1 r) 0) (Text dial) && true)
   is_asked project [] = refl
   is_asked project (i ∷ r) = refl
 
+  -- the row of a number passes where that is the one asked for
   of_number : (project : List _) (r : Row) (d : List ℕ) (n : ℕ) → drop 1 r ≡ call_columns d n → passes calls_tree call_tests project params r ≡ bytes_eq d dial
   of_number project r d n is = is_asked project r ∙ ap (λ columns. are_equal (column columns 0) (Text dial) && true) is ∙ and_true (are_equal (Text d) (Text dial)) ∙ equal_texts d dial
 
+  -- a row of `calls` is shown as its count
   shown_as : (r : Row) (d : List ℕ) (n : ℕ) → drop 1 r ≡ call_columns d n → show calls_tree call_tests call_project params r ≡ number n ∷ []
   shown_as [] d n is = absurd cc
   shown_as (i ∷ r) d n is = ap (λ rest. show calls_tree call_tests call_project params (i ∷ rest)) is
@@ -148,6 +154,7 @@ module _ (dial : List ℕ) where
           let same : it.0 ≡ dial = (bytes_eq-Decides it.0 dial).0 (sym (of_number call_project one.0 it.0 (count it.0) it.1) ∙ one.2) in
           one.3 ∙ shown_as one.0 it.0 (count it.0) it.1 ∙ ap (λ d. number (count d) ∷ []) same
 
+  -- what the text on calls finds is how many are open to the number, or nothing where none is
   pub calls_found : (old new : State) (count : List ℕ → ℕ) → old.now.schema ≡ our_tables → AreCounted count (map (drop 1) (old.now.trees calls_tree)) → (found : Option Row) → FindsRow SELECT_OPEN.now params old new found
       → MatchOption found (count dial ≡ 0) (λ row. row ≡ number (count dial) ∷ [])
   calls_found old new = counted_found calls_tree SELECT_OPEN.now _ select_open old new refl
@@ -159,6 +166,7 @@ kept_core : (old new : State) → KeepsOthers our_tables calls_tree old new → 
 kept_core old new keeps = let o = keeps.others in
     (o.0 (λ e. absurd (omega arith)), (o.1.0 (λ e. absurd (omega arith)), (o.1.1.0 (λ e. absurd (omega arith)), (o.1.1.1.0 (λ e. absurd (omega arith)), (o.1.1.1.1.0 (λ e. absurd (omega arith)), (o.1.1.1.1.1.0 (λ e. absurd (omega arith)), (o.1.1.1.1.1.1.0 (λ e. absurd (omega arith)), tt)))))))
 
+-- where the other tables stay and `calls` has these counts, the counts are set
 as_set : (old new : State) (count : List ℕ → ℕ) → IsTrue old.in_transaction → KeepsOthers our_tables calls_tree old new → AreCalls count (new.now.trees calls_tree) → SetsCalls old new count
 as_set old new count inside keeps now = record { goes_on = inside_shown old new _ inside keeps.shown; schema_is = keeps.schema_is; sound = keeps.sound; rows = kept_core old new keeps; calls = now }
 
@@ -175,6 +183,7 @@ no_calls s has = record {
   };
 }
 
+-- where counts are set, all tables are there, and those beside `calls` keep their rows
 pub whole_of : (a b : State) (count : List ℕ → ℕ) → SetsCalls a b count → IsWhole a.now b.now
 whole_of a b count set = record { schema_is = set.schema_is; sound = set.sound; rows = set.rows }
 
@@ -218,10 +227,12 @@ sets_as a b count other same set = record {
   calls = record { is = counted_as count other (map (drop 1) (b.now.trees calls_tree)) same set.calls.is; ordered = set.calls.ordered };
 }
 
+-- counts that are set are there
 pub has_calls : (a b : State) (count : List ℕ → ℕ) → SetsCalls a b count → HasCalls b count
 has_calls a b count set = record { is_open = set.goes_on.is_open; inside = set.goes_on.mode; tables = set.schema_is; sound = set.sound; calls = set.calls }
 
 module _ (dial : List ℕ) (count : List ℕ → ℕ) where
+  -- the text that takes a number's row off sets its count to 0
   pub calls_gone : (old new : State) → HasCalls old count → HasRun DELETE_CALLS.now (params dial) old new → SetsCalls old new (with_count dial 0 count)
   calls_gone old new was h =
       let rows = old.now.trees calls_tree in
@@ -233,6 +244,7 @@ module _ (dial : List ℕ) (count : List ℕ → ℕ) where
       ap (map (drop 1)) (filter_same (λ r. not (pass r)) (λ r. others dial count (drop 1 r)) rows (all_of (λ r. not (pass r) ≡ others dial count (drop 1 r)) (λ r. ap not (is_asked dial gone_project r)) rows)) ∙ sym (filter-map (others dial count) (drop 1) rows) in
       as_set old new (with_count dial 0 count) was.inside done.0 (record { is = subst (AreCounted (with_count dial 0 count)) (sym (ap (map (drop 1)) done.1 ∙ left)) (without dial count (map (drop 1) rows) was.calls.is); ordered = done.2 })
 
+  -- the text that adds a number's row, where it has none, sets its count
   pub calls_put : (n : ℕ) (old new : State) → 1 ≤ n → HasCalls old (with_count dial 0 count) → HasRun INSERT_CALLS.now (Text dial ∷ number n ∷ []) old new → SetsCalls old new (with_count dial n count)
   calls_put n old new some was h =
       let rows = old.now.trees calls_tree in

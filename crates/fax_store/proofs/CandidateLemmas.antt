@@ -64,15 +64,19 @@ use Rattle.fax_store.proofs.WaitingLemmas as waiting
 abbrev order : Job → Job → Ordering
 order = then_cmp (on (λ (j : Job). j.priority) nat_cmp) (then_cmp (on (λ (j : Job). j.tts) nat_cmp) (on (λ (j : Job). j.number) nat_cmp))
 
+-- the order of the choice is total
 is_total : IsTotalOrder order
 is_total = then_total (on_total (λ (j : Job). j.priority) nat_cmp_total) (then_total (on_total (λ (j : Job). j.tts) nat_cmp_total) (on_total (λ (j : Job). j.number) nat_cmp_total))
 
+-- one job is less by priority, then time to send, then number: so the comparison in turn says
 less : (p q s u n k : ℕ) → is_lt (ordering_then (nat_cmp p q) (ordering_then (nat_cmp s u) (nat_cmp n k))) ≡ (nat_lt p q || ((p == q) && (nat_lt s u || ((s == u) && nat_lt n k))))
 less p q s u n k = grind (arith, nat_tests)
 
+-- a job is less in this order where it is the better choice
 by_less : (a b : Job) → is_lt (order a b) ≡ better a b
 by_less a b = less a.priority b.priority a.tts b.tts a.number b.number
 
+-- jobs whose numbers rise are never equal in this order
 apart : (p q s u n k : ℕ) → n < k → is_eq (ordering_then (nat_cmp p q) (ordering_then (nat_cmp s u) (nat_cmp n k))) ≡ false
 apart p q s u n k low = grind (arith, nat_tests)
 
@@ -86,15 +90,18 @@ Comes a b = order a b ≡ Less
 abbrev HasNoTies : List Job → Type 0
 HasNoTies = IsAscending (λ (a b : Job). is_eq (order a b) ≡ false)
 
+-- what holds of a job and of each in a list holds of each once it is put into the list
 all_inserted : (P : Job → Type 0) (new : Job) (xs : List Job) → P new → AllByRecursion P xs → AllByRecursion P (insert_sorted order new xs)
 all_inserted P new [] h all = (h, tt)
 all_inserted P new (x ∷ xs) h all =
     elim (is_gt (order new x)) as (λ b. AllByRecursion P (cond b (x ∷ insert_sorted order new xs) (new ∷ x ∷ xs))) [ true ↦ (all.0, all_inserted P new xs h all.1) | false ↦ (h, all) ]
 
+-- what holds of each in a list holds of each once the list is sorted
 all_sorted : (P : Job → Type 0) (xs : List Job) → AllByRecursion P xs → AllByRecursion P (sort_by order xs)
 all_sorted P [] all = tt
 all_sorted P (x ∷ xs) all = all_inserted P x _ all.0 (all_sorted P xs all.1)
 
+-- a job that ties with none, put into a list that rises, leaves it rising
 rises_inserted : (new : Job) (xs : List Job) → AllByRecursion (λ y. is_eq (order new y) ≡ false) xs → IsAscending Comes xs → IsAscending Comes (insert_sorted order new xs)
 rises_inserted new [] free up = (tt, tt)
 rises_inserted new (x ∷ xs) free up = go (order new x) refl (rises_inserted new xs free.1 up.1)
@@ -104,15 +111,18 @@ rises_inserted new (x ∷ xs) free up = go (order new x) refl (rises_inserted ne
     go Equal e more = absurd (true≢false (sym (ap is_eq e) ∙ free.0))
     go Greater e more = (all_inserted (Comes x) new xs (is_total.antisymm x new ∙ ap ordering_reverse e) up.0, more)
 
+-- a list with no ties rises once it is sorted
 rises_sorted : (xs : List Job) → HasNoTies xs → IsAscending Comes (sort_by order xs)
 rises_sorted [] free = tt
 rises_sorted (x ∷ xs) free = rises_inserted x _ (all_sorted _ xs free.0) (rises_sorted xs free.1)
 
+-- a job that comes before another isn't the worse choice
 not_after : (a b : Job) → Comes a b → better b a ≡ false
 not_after a b e = sym (by_less b a) ∙ ap is_lt (is_total.antisymm b a ∙ ap ordering_reverse e)
 
 -- ---- all jobs that wait
 
+-- two filters in turn are one of both
 filter_two : (p q : Job → Bool) (xs : List Job) → filter q (filter p xs) ≡ filter (λ j. p j && q j) xs
 filter_two p q [] = refl
 filter_two p q (x ∷ xs) = by (p x) (q x) refl refl (filter_two p q xs)
@@ -126,9 +136,11 @@ module _ (db : Database) (m : Queue) (k : Ledger) (means : TablesMean db m k) (t
   abbrev all_due : List Job
   all_due = filter (λ (j : Job). is_due j t) m.jobs
 
+  -- the jobs of the queue stand with rising numbers
   rises : IsAscending (Below number_of) m.jobs
   rises = ascend m.jobs (subst IsTable means.jobs means.ordered.jobs.rise)
 
+  -- no two of the jobs that are due tie
   no_ties : HasNoTies all_due
   no_ties = ascending_weaker (Below number_of) (λ (a b : Job). is_eq (order a b) ≡ false) (λ a b low. apart a.priority b.priority a.tts b.tts a.number b.number low) all_due
       (ascending-filter (Below number_of) (λ (j : Job). is_due j t) m.jobs rises)
@@ -137,18 +149,22 @@ module _ (db : Database) (m : Queue) (k : Ledger) (means : TablesMean db m k) (t
   abbrev pub all_wait : List Job
   all_wait = sort_by order all_due
 
+  -- the jobs that wait come each before every later one
   come : IsAscending Comes all_wait
   come = rises_sorted all_due no_ties
 
+  -- the jobs that wait stand with the better before the worse
   pub go_in_order : IsAscending Goes all_wait
   go_in_order = ascending_weaker Comes Goes (λ a b e. sym (by_less a b) ∙ ap is_lt e) all_wait come
 
+  -- the jobs that are due, sorted, are those that wait
   pub they_wait : AreWaiting t m all_wait
   they_wait = record {
     due = IsPermutation-sym all_wait all_due (IsPermutation-sort_by order is_total all_due);
     ordered = λ i d from low. not_after (get_or all_wait i d) (get_or all_wait (i + 1) d) (ascending-get_or Comes all_wait i (i + 1) d come (omega arith) (omega (arith, low)));
   }
 
+  -- the jobs that wait have one order only
   one_order : (jobs : List Job) → AreWaiting t m jobs → jobs ≡ all_wait
   one_order jobs w =
       let sorted : IsSorted order jobs = λ i d from low. by_less (get_or jobs (i + 1) d) (get_or jobs i d) ∙ w.ordered i d from low in
@@ -169,12 +185,15 @@ module _ (db : Database) (m : Queue) (k : Ledger) (means : TablesMean db m k) (a
   abbrev pub all_asked : List Job
   all_asked = filter (is_other asked.but) (all_wait db m k means asked.t)
 
+  -- the jobs that wait, but those to the number left out, are the ones asked for
   pub they_are_asked : AreAsked asked m all_asked
   they_are_asked = record { all = all_wait db m k means asked.t; waiting = they_wait db m k means asked.t; is = refl }
 
+  -- the jobs asked for have one order only
   one_asked : (jobs : List Job) → AreAsked asked m jobs → jobs ≡ all_asked
   one_asked jobs w = w.is ∙ ap (filter (is_other asked.but)) (one_order db m k means asked.t w.all w.waiting)
 
+  -- the jobs asked for stand with the better before the worse
   asked_in_order : IsAscending Goes all_asked
   asked_in_order = ascending-filter Goes (is_other asked.but) (all_wait db m k means asked.t) (go_in_order db m k means asked.t)
 
@@ -241,6 +260,7 @@ and_true : (b : Bool) → (b && true) ≡ b
 and_true true = refl
 and_true false = refl
 
+-- SQL's NOT of a truth is true where the truth is false
 not_is : (b : Bool) → is_true (unary Not (from_truth (Some b))) ≡ not b
 unfolding unary
 not_is true = refl
@@ -251,25 +271,30 @@ is_not_null : (text : List ℕ) → is_true (unary Not (binary (Is Binary) (Text
 unfolding unary binary value_cmp
 is_not_null text = refl
 
+-- the job's number IS NOT the one left out: the job is to another number
 is_not : (but : Option (List ℕ)) (j : Job) → is_true (unary Not (binary (Is Binary) (Text j.dial) (value_of but))) ≡ is_other but j
 unfolding binary
 is_not None j = is_not_null j.dial
 is_not (Some dial) j = not_is (is_eq (value_cmp (Text j.dial) (Text dial))) ∙ ap not (ap is_eq (value_cmp-Text j.dial dial) ∙ is_eq-slice_cmp j.dial dial)
 
 module _ (asked : Asked) (most : ℕ) (old new : State) (m : Queue) (k : Ledger) (means : TablesMean old.now m k) (rows : List Row) where
+  -- what the first text shows is the first page
   pub first_found : Shown SELECT_FIRST.now (params asked most [] other_tests) old new rows → IsPage asked m First most rows
   first_found = page_found asked most [] other_tests old new m k means First SELECT_FIRST.now select_first (λ j. ap (λ b. b && true) (is_not asked.but j)) rows
 
+  -- what the text behind a number shows is a page of the same priority and time, with later numbers
   pub number_found : (p s n : ℕ) → Shown SELECT_BEHIND_NUMBER.now (params asked most (number p ∷ number s ∷ number n ∷ []) number_tests) old new rows → IsPage asked m (Number p s n) most rows
   number_found p s n =
       page_found asked most (number p ∷ number s ∷ number n ∷ []) number_tests old new m k means (Number p s n) SELECT_BEHIND_NUMBER.now select_behind_number
       (λ j. ap₂ ◌&&◌ (is_not asked.but j) (ap₂ ◌&&◌ (is_number j.priority p) (ap₂ ◌&&◌ (is_number j.tts s) (ap (λ b. b && true) (more_than j.number n) ∙ and_true (nat_lt n j.number))))) rows
 
+  -- what the text behind a time shows is a page of the same priority, with later times
   pub time_found : (p s : ℕ) → Shown SELECT_BEHIND_TIME.now (params asked most (number p ∷ number s ∷ []) time_tests) old new rows → IsPage asked m (Time p s) most rows
   time_found p s =
       page_found asked most (number p ∷ number s ∷ []) time_tests old new m k means (Time p s) SELECT_BEHIND_TIME.now select_behind_time
       (λ j. ap₂ ◌&&◌ (is_not asked.but j) (ap₂ ◌&&◌ (is_number j.priority p) (ap (λ b. b && true) (more_than j.tts s) ∙ and_true (nat_lt s j.tts)))) rows
 
+  -- what the text behind a priority shows is a page of later priorities
   pub priority_found : (p : ℕ) → Shown SELECT_BEHIND_PRIORITY.now (params asked most (number p ∷ []) priority_tests) old new rows → IsPage asked m (Priority p) most rows
   priority_found p =
       page_found asked most (number p ∷ []) priority_tests old new m k means (Priority p) SELECT_BEHIND_PRIORITY.now select_behind_priority
@@ -280,24 +305,31 @@ module _ (asked : Asked) (most : ℕ) (old new : State) (m : Queue) (k : Ledger)
 abbrev lex : ℕ → ℕ → ℕ → ℕ → ℕ → ℕ → Bool
 lex p t n q u k = nat_lt p q || ((p == q) && (nat_lt t u || ((t == u) && nat_lt n k)))
 
+-- nothing comes after itself
 not_itself : (p t n : ℕ) → lex p t n p t n ≡ false
 not_itself p t n = grind (arith, nat_tests)
 
+-- what comes after another doesn't come before it
 not_back : (p t n q u k : ℕ) → lex p t n q u k ≡ true → lex q u k p t n ≡ false
 not_back p t n q u k h = grind (arith, nat_tests)
 
+-- what comes after what comes after comes after
 through : (p t n q u k r v l : ℕ) → lex p t n q u k ≡ true → lex q u k r v l ≡ true → lex p t n r v l ≡ true
 through p t n q u k r v l a b = grind (arith, nat_tests)
 
+-- the same priority and time with a later number, or what is later by these two, is what comes after
 same_front : (p t n q u k : ℕ) → (((q == p) && ((u == t) && nat_lt n k)) || (nat_lt p q || ((q == p) && nat_lt t u))) ≡ lex p t n q u k
 same_front p t n q u k = grind (arith, nat_tests)
 
+-- after what has a later priority or time comes none of the same priority and time
 past_time : (p t q u k r v l n : ℕ) → lex q u k r v l ≡ true → (nat_lt p q || ((q == p) && nat_lt t u)) ≡ true → ((r == p) && ((v == t) && nat_lt n l)) ≡ false
 past_time p t q u k r v l n goes past = grind (arith, nat_tests)
 
+-- after what has a later priority comes none of that priority
 past_priority : (p t q u k r v l : ℕ) → lex q u k r v l ≡ true → nat_lt p q ≡ true → ((r == p) && nat_lt t v) ≡ false
 past_priority p t q u k r v l goes past = grind (arith, nat_tests)
 
+-- or, turned round
 or_turned : (a b : Bool) → (a || b) ≡ (b || a)
 or_turned true true = refl
 or_turned true false = refl
@@ -311,6 +343,7 @@ after (Number p t n) a b goes past = past_time p t a.priority a.tts a.number b.p
 after (Time p t) a b goes past = past_priority p t a.priority a.tts a.number b.priority b.tts b.number goes past
 after (Priority p) a b goes past = absurd (true≢false (sym past))
 
+-- a job beyond a front isn't near it
 not_both : (f : Front) (a : Job) → is_beyond f a ≡ true → is_near f a ≡ false
 not_both First a past = absurd (true≢false (sym past))
 not_both (Number p t n) a past = let e : (nat_lt p a.priority || ((a.priority == p) && nat_lt t a.tts)) ≡ true = past in grind (arith, nat_tests)
@@ -324,6 +357,7 @@ next_is (Number p t n) last j = or_turned (nat_lt p j.priority) ((j.priority == 
 next_is (Time p t) last j = or_turned false (nat_lt p j.priority)
 next_is (Priority p) last j = absurd (true≢false last)
 
+-- beyond the last front is no job
 last_is : (f : Front) → is_last f ≡ true → (j : Job) → is_beyond f j ≡ false
 last_is First last j = refl
 last_is (Number p t n) last j = absurd (true≢false (sym last))
@@ -334,6 +368,7 @@ last_is (Priority p) last j = refl
 front_is : (x j : Job) → is_behind (front_of (prospect (fields_of x))) j ≡ better x j
 front_is x j = same_front x.priority x.tts x.number j.priority j.tts j.number
 
+-- in a list in order, what is behind a front is what is near it and then what is beyond
 cut : (f : Front) (xs : List Job) → IsAscending Goes xs → filter (is_behind f) xs ≡ filter (is_near f) xs ++ filter (is_beyond f) xs
 cut f [] up = refl
 cut f (x ∷ xs) up = by (is_near f x) (is_beyond f x) refl refl (cut f xs up.1)
@@ -355,6 +390,7 @@ cut f (x ∷ xs) up = by (is_near f x) (is_beyond f x) refl refl (cut f xs up.1)
 
 -- ---- behind the last job of a page
 
+-- what a filter leaves passes it
 all_pass : {X : Type 0} (p : X → Bool) (xs : List X) → AllByRecursion (λ x. p x ≡ true) (filter p xs)
 all_pass p [] = tt
 all_pass p (x ∷ xs) = by (p x) refl (all_pass p xs)
@@ -363,16 +399,19 @@ all_pass p (x ∷ xs) = by (p x) refl (all_pass p xs)
     by true e more = (e, more)
     by false e more = more
 
+-- what holds of each in a list holds of one amid it
 amid : {X : Type 0} (P : X → Type 0) (ys : List X) (x : X) (zs : List X) → AllByRecursion P (ys ++ x ∷ zs) → P x
 amid P [] x zs all = all.0
 amid P (y ∷ ys) x zs all = amid P ys x zs all.1
 
+-- in a list in order, what is worse than one job is the rest behind it
 behind_it : (ys : List Job) (x : Job) (zs : List Job) → IsAscending Goes (ys ++ x ∷ zs) → filter (better x) (ys ++ x ∷ zs) ≡ zs
 behind_it [] x zs up = rw (not_itself x.priority x.tts x.number) (filter_all (better x) zs up.0)
 behind_it (y ∷ ys) x zs up =
     let goes = amid (Goes y) ys x zs up.0 in
     rw (not_back y.priority y.tts y.number x.priority x.tts x.number goes) (behind_it ys x zs up.1)
 
+-- where a list in order, behind a front, goes to a job and then on, the rest is what is behind this job
 rest_behind : (f : Front) (all ys : List Job) (x : Job) (rest : List Job) → IsAscending Goes all → filter (is_behind f) all ≡ (ys ++ x ∷ []) ++ rest → filter (is_behind (front_of (prospect (fields_of x)))) all ≡ rest
 rest_behind f all ys x rest up is =
     let whole : filter (is_behind f) all ≡ ys ++ x ∷ rest = is ∙ append_assoc ys (x ∷ []) rest in
@@ -400,10 +439,12 @@ rest_behind f all ys x rest up is =
 
 -- ---- where a reading stands
 
+-- no rows are of no jobs
 none_shown : {X Y : Type 0} (f : X → Y) (xs : List X) → [] ≡ map f xs → xs ≡ []
 none_shown f [] is = refl
 none_shown f (x ∷ xs) is = absurd (let e = is in cc)
 
+-- where a page of more than none takes nothing, there is nothing
 nothing_taken : {X : Type 0} (n : ℕ) (xs : List X) → 0 < n → take n xs ≡ [] → xs ≡ []
 nothing_taken zero xs some none = absurd (omega (arith, some))
 nothing_taken (suc n) [] some none = refl
@@ -425,12 +466,15 @@ module _ (db : Database) (m : Queue) (k : Ledger) (means : TablesMean db m k) (a
   }
 
   module _ (given : List Job) (f : Front) (most : ℕ) (h : StandsAt asked m given [] f most) (rows : List Row) (next : IsPage asked m f most rows) where
+    -- the page and the reading are of the same jobs, in the same order
     all_is : next.all ≡ h.all
     all_is = one_asked db m k means asked next.all next.waiting ∙ sym (one_asked db m k means asked h.all h.waiting)
 
+    -- the jobs asked for, in this reading, stand with the better before the worse
     up : IsAscending Goes h.all
     up = subst (IsAscending Goes) (sym (one_asked db m k means asked h.all h.waiting)) (asked_in_order db m k means asked)
 
+    -- they are those given and those behind the front
     left : h.all ≡ given ++ filter (is_behind f) h.all
     left = h.parts ∙ ap (λ (read : List Job). given ++ (read ++ filter (is_behind f) h.all)) (none_shown shown h.read h.shown)
 
@@ -456,6 +500,7 @@ module _ (db : Database) (m : Queue) (k : Ledger) (means : TablesMean db m k) (a
           some = some;
         }
 
+    -- where the page is empty, no job is near the front
     nothing_near : rows ≡ [] → filter (is_near f) h.all ≡ []
     nothing_near none =
         nothing_taken most (filter (is_near f) h.all) h.some
@@ -498,23 +543,28 @@ module _ (db : Database) (m : Queue) (k : Ledger) (means : TablesMean db m k) (a
 
 -- ---- the end of a page
 
+-- a list is empty, or ends with an element
 ends : {X : Type 0} (xs : List X) → (xs ≡ []) ⊎ ((ys : List X) × (x : X) × (xs ≡ ys ++ x ∷ []))
 ends [] = inl refl
 ends (x ∷ xs) = elim (ends xs) [ inl none ↦ inr ([], x, ap (λ l. x ∷ l) none) | inr more ↦ inr (x ∷ more.0, more.1, ap (λ l. x ∷ l) more.2) ]
 
+-- the place behind a list's length has the element put at its end
 get_last : {X : Type 0} (xs : List X) (x : X) → slice_get (xs ++ x ∷ []) (length xs) ≡ Some x
 get_last [] x = refl
 get_last (y ∷ ys) x = get_last ys x
 
+-- the place one before the length has the last element
 last_of : {X : Type 0} (xs : List X) (x : X) → slice_get (xs ++ x ∷ []) (length (xs ++ x ∷ []) - 1) ≡ Some x
 last_of xs x = let e : length (xs ++ x ∷ []) - 1 ≡ length xs = omega (arith, length-append xs (x ∷ [])) in ap (slice_get (xs ++ x ∷ [])) e ∙ get_last xs x
 
+-- rows with no last one are none
 pub page_empty : (rows : List Row) → None ≡ slice_get rows (length rows - 1) → rows ≡ []
 page_empty rows none = elim (ends rows) [
   | inl empty ↦ empty
   | inr it ↦ absurd (none-some it.1 (none ∙ ap (λ (xs : List Row). slice_get xs (length xs - 1)) it.2 ∙ last_of it.0 it.1))
 ]
 
+-- where rows have a last one, it is of the last of their jobs
 pub page_ends : (rows : List Row) (jobs : List Job) (row : Row) → rows ≡ map shown jobs → Some row ≡ slice_get rows (length rows - 1) → (ys : List Job) × (x : Job) × (jobs ≡ ys ++ x ∷ []) × (row ≡ shown x)
 page_ends rows jobs row is last = elim (ends jobs) [
   | inl empty ↦ absurd (none-some row (sym (last ∙ ap (λ (xs : List Row). slice_get xs (length xs - 1)) (is ∙ ap (map shown) empty))))
@@ -544,12 +594,14 @@ abbrev pub turns_left : List Row → Front → ℕ
 turns_left [] f = rank f + 1
 turns_left (row ∷ rows) f = 0
 
+-- the next front ranks lower
 lower : (f : Front) → is_last f ≡ false → rank (next_front f) < rank f
 lower First last = absurd (true≢false last)
 lower (Number p t n) last = omega arith
 lower (Time p t) last = omega arith
 lower (Priority p) last = absurd (true≢false last)
 
+-- each turn leaves fewer until a page has a job
 pub fewer_turns : (rows : List Row) (f g : Front) → is_last f ≡ false → (rows ≡ [] → g ≡ next_front f) → turns_left rows g < rank f + 1
 fewer_turns [] f g last next = let low = lower f last in let is = next refl in rw is (omega (arith, low))
 fewer_turns (row ∷ rows) f g last next = omega arith
@@ -571,12 +623,15 @@ one_given asked m given row page f most h = by h.read h.parts h.shown
 
 -- ---- a job that is given
 
+-- a lawful job's number is at most the last number
 pub within : (j : Job) → IsLawfulJob j → j.number ≤ last_job
 within j lawful = let up = (and_parts (leb 1 j.number) (leb j.number last_job) (within_limits_of (fields_of j) lawful.limits).number).1 in leb-true j.number last_job up
 
+-- the first of a list is found by its number
 find_first : (n : ℕ) (x : Job) (xs : List Job) → n ≡ x.number → find (λ (j : Job). j.number == n) (x ∷ xs) ≡ Some x
 find_first n x xs is = let e : (x.number == n) ≡ true = grind (arith, nat_tests) in rw e
 
+-- in a list with rising numbers, each job is found by its number
 each_found : (xs : List Job) → IsAscending (Below number_of) xs → AllByRecursion (λ (j : Job). find (λ (k : Job). k.number == j.number) xs ≡ Some j) xs
 each_found [] up = tt
 each_found (x ∷ xs) up = (
@@ -586,6 +641,7 @@ each_found (x ∷ xs) up = (
 )
 
 module _ (db : Database) (m : Queue) (k : Ledger) (means : TablesMean db m k) (asked : Asked) (given : List Job) (j : Job) (page : List Row) (f : Front) (most : ℕ) (h : StandsAt asked m (given ++ j ∷ []) page f most) where
+  -- what holds of each job of the queue holds of the one given
   of_all : (P : Job → Type 0) → All P m.jobs → P j
   of_all P all =
       let waits = recursion_from_All P h.all (all_hold P asked m h.all h.waiting all) in

@@ -45,6 +45,7 @@ use Rattle.fax_store.proofs.CountLemmas.{calls_mapped, jobs_mapped}
 use Rattle.fax_schema.proofs.UpdateLemmas.{updated}
 use Rattle.fax_schema.proofs.WriteLemmas.{KeepsOthers}
 
+-- what a function keeps of each element holds of each that it makes
 pub all_mapped : {X : Type 0} (P : X → Type 0) (f : X → X) (xs : List X) → ((x : X) → Has xs x → P x → P (f x)) → All P xs → All P (map f xs)
 all_mapped P f [] keeps all = λ i d low. absurd (omega arith)
 all_mapped P f (x ∷ xs) keeps all =
@@ -83,30 +84,36 @@ module _ (f : JobFields) (lines : List Pair) where
       ∙ ap (λ p. job_row (record f { totpages = p; extra = x.extra })) same.order.totpages
       ∙ ap (λ e. job_row (record f { extra = e })) same.extra
 
+  -- the job that is put in place has the written row
   put_there : (x : Job) → x.number ≡ f.job → row_of (put x) ≡ job_row whole
   put_there x is = ap (λ b. row_of (if b then job_of whole else x)) (eq-eqb x.number f.job is) ∙ ap job_row (fields_back whole)
 
+  -- a job that is put in place keeps the rowid
   put_number : (x : Job) → rowid (row_of (put x)) ≡ rowid (row_of x)
   put_number x = elim (cases_Bool (x.number == f.job)) [
     | inl same ↦ ap (λ b. rowid (row_of (if b then job_of whole else x))) same ∙ ap number (sym (eqb-true x.number f.job same))
     | inr off ↦ ap (λ b. rowid (row_of (if b then job_of whole else x))) off
   ]
 
+  -- and its number
   same_number : (x : Job) → (put x).number ≡ x.number
   same_number x = elim (cases_Bool (x.number == f.job)) [
     | inl same ↦ ap (λ b. (if b then job_of whole else x).number) same ∙ sym (eqb-true x.number f.job same)
     | inr off ↦ ap (λ b. (if b then job_of whole else x).number) off
   ]
 
+  -- and its number to dial, where it is of the same order
   same_dial : (x : Job) → (x.number ≡ f.job → KeepsOrder x) → (put x).dial ≡ x.dial
   same_dial x same = elim (cases_Bool (x.number == f.job)) [
     | inl here ↦ ap (λ b. (if b then job_of whole else x).dial) here ∙ sym (same (eqb-true x.number f.job here)).order.dial
     | inr off ↦ ap (λ b. (if b then job_of whole else x).dial) off
   ]
 
+  -- a job's lawful limits stay lawful where its lines stay and the change is lawful
   change_limits : IsLawful f → (x : Job) → KeepsOrder x → IsLawful (fields_of x) → IsLawful whole
   change_limits now x same was = ap₂ ◌&&◌ (and_parts _ _ now).0 (subst (λ e. IsTrue (are_unknown e)) same.extra (and_parts _ _ was).1)
 
+  -- a lawful job stays lawful under a change of its form
   change_lawful : IsFormedChange f → (x : Job) → KeepsOrder x → IsLawfulJob x → IsLawfulJob (job_of whole)
   change_lawful lawful x same was = lawful_of_fields whole (change_limits lawful.limits x same was.limits) (record {
     dial = subst (IsText IsCanonical) same.order.dial was.formed.dial;
@@ -119,6 +126,7 @@ module _ (f : JobFields) (lines : List Pair) where
     priority = lawful.priority;
   })
 
+  -- each job stays lawful, whether it changes or not
   put_lawful : IsFormedChange f → (x : Job) → (x.number ≡ f.job → KeepsOrder x) → IsLawfulJob x → IsLawfulJob (put x)
   put_lawful lawful x same was = elim (cases_Bool (x.number == f.job)) [
     | inl here ↦ subst (λ b. IsLawfulJob (if b then job_of whole else x)) (sym here) (change_lawful lawful x (same (eqb-true x.number f.job here)) was)
@@ -129,11 +137,13 @@ module _ (f : JobFields) (old new : State) (m : Queue) (k : Ledger) (means : Tab
   abbrev its_lines : List Pair
   its_lines = lines_of (job_numbered f.job m)
 
+  -- the queue's job of this number is of the same order as the change, with the same lines
   keeps_order : IsChange (job_of f) m → (x : Job) → Has m.jobs x → x.number ≡ f.job → KeepsOrder f its_lines x
   keeps_order change x has is =
       let there = subst (λ n. find (λ (j : Job). j.number == n) m.jobs ≡ Some x) is (only_numbered row_of (λ (j : Job). j.number) (λ j. refl) m.jobs x (subst IsTable means.jobs means.ordered.jobs.rise) has) in
       record { order = change x there; extra = sym (ap lines_of there) }
 
+  -- the text that updates a job makes the change, and touches jobs alone
   pub job_changed : IsChange (job_of f) m → IsFormedChange f → HasRun UPDATE_JOB.now (change_params f) old new → TablesMean new.now (with_change (job_of f) m) k × KeepsOthers our_tables jobs_tree old new
   job_changed change lawful h =
       let same = keeps_order change in
@@ -164,6 +174,7 @@ module _ (phase : Phase) (t : ℕ) where
   and_true true = refl
   and_true false = refl
 
+  -- a kill time is past where it is not 0 and at most this moment
   past : (killtime : Option ℕ) → (nat_le 1 (unwrap_or killtime 0) && (nat_le (unwrap_or killtime 0) t && true)) ≡ is_past killtime t
   past None = refl
   past (Some s) = ap (λ b. nat_le 1 s && b) (and_true (nat_le s t))
@@ -180,22 +191,28 @@ module _ (phase : Phase) (t : ℕ) where
   abbrev expired : Job → Job
   expired j = record j { phase = Failed; status = kill_time_expired }
 
+  -- a job that expires here becomes failed, and another stays
   expired_by : (j : Job) (b : Bool) → expires_here j ≡ b → expired_in phase t j ≡ (if b then expired j else j)
   expired_by j b is = ap (λ c. if c then expired j else j) is
 
+  -- a job keeps its rowid, whether it expires or not
   expired_number : (j : Job) → rowid (row_of (expired_in phase t j)) ≡ rowid (row_of j)
   expired_number j = elim (cases_Bool (expires_here j)) [ inl on ↦ ap (λ i. rowid (row_of i)) (expired_by j true on) | inr off ↦ ap (λ i. rowid (row_of i)) (expired_by j false off) ]
 
+  -- and its number
   number_kept : (j : Job) → (expired_in phase t j).number ≡ j.number
   number_kept j = elim (cases_Bool (expires_here j)) [ inl on ↦ ap (λ (i : Job). i.number) (expired_by j true on) | inr off ↦ ap (λ (i : Job). i.number) (expired_by j false off) ]
 
+  -- and its number to dial
   dial_kept : (j : Job) → (expired_in phase t j).dial ≡ j.dial
   dial_kept j = elim (cases_Bool (expires_here j)) [ inl on ↦ ap (λ (i : Job). i.dial) (expired_by j true on) | inr off ↦ ap (λ (i : Job). i.dial) (expired_by j false off) ]
 
+  -- the status of a job whose kill time is past is UTF-8
   expired_text : IsUtf8 kill_time_expired
   unfolding lib.Utf8.encode
   expired_text = (kill_time_expired, (refl, refl))
 
+  -- a lawful job stays lawful, whether it expires or not
   expired_lawful : (j : Job) → IsLawfulJob j → IsLawfulJob (expired_in phase t j)
   expired_lawful j was = elim (cases_Bool (expires_here j)) [
     | inl on ↦ subst IsLawfulJob (sym (expired_by j true on)) (record {
@@ -215,6 +232,7 @@ module _ (phase : Phase) (t : ℕ) where
     | inr off ↦ subst IsLawfulJob (sym (expired_by j false off)) was
   ]
 
+  -- where none expires, the jobs stay
   unmoved : (xs : List Job) → ((x : Job) → Has xs x → expires_here x ≡ false) → map (expired_in phase t) xs ≡ xs
   unmoved [] none = refl
   unmoved (x ∷ xs) none = ap₂ ◌∷◌ (expired_by x false (none x (inl refl))) (unmoved xs (λ y has. none y (inr has)))
@@ -231,6 +249,7 @@ module _ (phase : Phase) (t : ℕ) where
         sym (expiring x) ∙ none_shown is_asked shown (old.now.trees jobs_tree) h.0 rows h.2 (row_of x) (subst (λ table. Has table (row_of x)) (sym means.jobs) (mapped_has row_of m.jobs x has))))
     none_expired (Some row) h e = absurd cc
 
+    -- the text that expires jobs of a phase does so to each, and touches jobs alone
     pub jobs_expired : HasRun EXPIRE_JOBS.now expired_params old new → TablesMean new.now (with_expired_in phase t m) k × KeepsOthers our_tables jobs_tree old new
     jobs_expired h =
         let ran = runs_as EXPIRE_JOBS.now expired_params old new our_tables means.schema _ expire_jobs.is expire_jobs.plain h.0 h.1 in
@@ -258,6 +277,7 @@ either Granted past = refl
 either Done past = refl
 either Failed past = refl
 
+-- expired while held and then while it waits, a job has aged by the moment
 expired_once : (t : ℕ) (j : Job) → expired_in Waiting t (expired_in Held t j) ≡ aged_job t j
 expired_once t j = by (phase_number j.phase == 0 && is_past j.killtime t) (phase_number j.phase == 1 && is_past j.killtime t) refl refl ∙ ap (λ b. if b then expired Held t j else j) (sym (either j.phase (is_past j.killtime t)))
   where
@@ -266,6 +286,7 @@ expired_once t j = by (phase_number j.phase == 0 && is_past j.killtime t) (phase
     by true waits e w = ap (expired_in Waiting t) (expired_by Held t j true e)
     by false waits e w = ap (expired_in Waiting t) (expired_by Held t j false e) ∙ expired_by Waiting t j waits w
 
+-- expired while held and then while they wait, all jobs have expired that do
 pub expired_in_turn : (t : ℕ) (m : Queue) → with_expired_in Waiting t (with_expired_in Held t m) ≡ with_expired t m
 expired_in_turn t m = ap (λ jobs. record m { jobs = jobs }) (all m.jobs)
   where

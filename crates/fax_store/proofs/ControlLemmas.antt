@@ -20,26 +20,32 @@ abbrev pub IsControl : List ℕ → Command → Result Compiled CompileError →
 IsControl sql command (Ok c) = (c.command ≡ command) × (c.returning ≡ None) × (c.names ≡ []) × (c.formats ≡ []) × (nat_le (length sql) c.tail ≡ true)
 IsControl sql command (Err e) = ⊥
 
+-- the text to begin is BEGIN, whatever the schema is
 pub begin_is : (schema : Schema) → IsControl BEGIN.now Begin (understood schema BEGIN.now)
 unfolding understood everything
 begin_is schema = (refl, refl, refl, refl, refl)
 
+-- the text to commit is COMMIT, whatever the schema is
 pub commit_is : (schema : Schema) → IsControl COMMIT.now Commit (understood schema COMMIT.now)
 unfolding understood everything
 commit_is schema = (refl, refl, refl, refl, refl)
 
+-- the text to roll back is ROLLBACK, whatever the schema is
 pub rollback_is : (schema : Schema) → IsControl ROLLBACK.now Rollback (understood schema ROLLBACK.now)
 unfolding understood everything
 rollback_is schema = (refl, refl, refl, refl, refl)
 
+-- it runs as BEGIN, with no RETURNING
 begin_runs : (schema : Schema) → (command_of (understood schema BEGIN.now) ≡ Begin) × IsPlain (understood schema BEGIN.now)
 unfolding understood everything
 begin_runs schema = (refl, (refl, refl))
 
+-- and so does COMMIT
 commit_runs : (schema : Schema) → (command_of (understood schema COMMIT.now) ≡ Commit) × IsPlain (understood schema COMMIT.now)
 unfolding understood everything
 commit_runs schema = (refl, (refl, refl))
 
+-- and ROLLBACK
 rollback_runs : (schema : Schema) → (command_of (understood schema ROLLBACK.now) ≡ Rollback) × IsPlain (understood schema ROLLBACK.now)
 unfolding understood everything
 rollback_runs schema = (refl, (refl, refl))
@@ -49,9 +55,11 @@ abbrev pub IsBare : Command → Type 0
 IsBare command = (is_query command ≡ false) × (is_pragma command ≡ false) × (¬ IsWrite command)
 
 module _ (old new : State) (sql : List ℕ) (command : Command) (is : IsControl sql command (understood old.now.schema sql)) (bare : IsBare command) where
+  -- what the text is understood as is this command
   known : (c : Compiled) → understood old.now.schema sql ≡ Ok c → IsControl sql command (Ok c)
   known c e = subst (IsControl sql command) e is
 
+  -- the text is a statement, so no fault says that it is none
   refutes : (e : Error) → IsNoStatement old sql [] e → ⊥
   refutes e (inl h) = subst (IsControl sql command) h.1 is
   refutes e (inr h) = elim h.2 [
@@ -60,9 +68,11 @@ module _ (old new : State) (sql : List ℕ) (command : Command) (is : IsControl 
     | inr (inr timed) ↦ timed.0 (known h.0 h.1).3
   ]
 
+  -- it shows no rows
   hides : (c : Compiled) → IsControl sql command (Ok c) → shows_rows false c ≡ false
   hides c h = rw (h.0, h.1, bare.0, bare.1) refl
 
+  -- it changes nothing
   stays : (c : Compiled) → IsControl sql command (Ok c) → MayChange c → ⊥
   stays c h (inl write) = bare.2 (subst IsWrite h.0 write)
   stays c h (inr some) = absurd (let none = h.1 in cc)
@@ -81,16 +91,19 @@ module _ (old new : State) (sql : List ℕ) (command : Command) (is : IsControl 
       ]
 
 module _ (old new : State) where
+  -- a begin that is done was made outside a transaction, and leaves one under way over the same rows
   pub begins : (n : ℕ) → Executes BEGIN.now [] old new (Ok n) → (old.in_transaction ≡ false) × Shows old new old.now old.committed true
   begins n h =
       let on = begin_runs old.now.schema in
       let ran = runs_as BEGIN.now [] old new old.now.schema refl Begin on.0 on.1 n h in (ran.0, ran.1)
 
+  -- a commit that is done commits what is there now
   pub commits : (n : ℕ) → Executes COMMIT.now [] old new (Ok n) → Shows old new old.now old.now false
   commits n h =
       let on = commit_runs old.now.schema in
       let ran = runs_as COMMIT.now [] old new old.now.schema refl Commit on.0 on.1 n h in ran.1
 
+  -- a rollback in a transaction undoes it, whatever it answers
   pub rolls_back : (r : Result ℕ Error) → IsTrue old.in_transaction → Executes ROLLBACK.now [] old new r → IsRolledBack old new
   rolls_back (Ok n) inside h =
       let on = rollback_runs old.now.schema in
@@ -103,6 +116,7 @@ module _ (old new : State) where
       placed e (inr (same, name, inl release, none)) = absurd (let no = release in cc)
       placed e (inr (same, name, inr back, none)) = absurd (let no = back in cc)
 
+  -- a commit that fails in a transaction undoes it
   pub commit_fails : (e : Error) → IsTrue old.in_transaction → Executes COMMIT.now [] old new (Err e) → IsRolledBack old new
   commit_fails e inside h = fails old new COMMIT.now Commit (commit_is old.now.schema) (refl, refl, λ w. w) e (placed e) h
     where

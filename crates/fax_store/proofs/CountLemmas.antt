@@ -31,6 +31,7 @@ use Rattle.fax_schema.proofs.EditLemmas.{has_mapped}
 use Rattle.fax_tables.proofs.KeyLemmas.{apart}
 use Rattle.fax_store.specs.Job.{with_placed}
 
+-- texts are equal either way round
 pub turned : (s t : List ℕ) → bytes_eq s t ≡ bytes_eq t s
 turned s t = cmp.both_ways (bytes_eq s t) (bytes_eq t s) (λ h. (bytes_eq-Decides t s).1 (sym ((bytes_eq-Decides s t).0 h))) (λ h. (bytes_eq-Decides s t).1 (sym ((bytes_eq-Decides t s).0 h)))
 
@@ -44,21 +45,26 @@ one false = 0
 abbrev pub open_to : (Grant → Bool) → List Grant → ℕ
 open_to of gs = length (filter of (filter (λ g. g.is_open) gs))
 
+-- one more that passes, or not, is counted as 1 or 0
 passed : (g : Grant) (gs : List Grant) (b : Bool) → length (cond b (g ∷ gs) gs) ≡ one b + length gs
 passed g gs true = omega arith
 passed g gs false = omega arith
 
+-- one more that is open, or not, adds 1 or 0 to those that pass
 opened : (of : Grant → Bool) (g : Grant) (gs : List Grant) (b : Bool) → length (filter of (cond b (g ∷ gs) gs)) ≡ one (b && of g) + length (filter of gs)
 opened of g gs true = passed g (filter of gs) (of g)
 opened of g gs false = omega arith
 
+-- one more grant adds 1 where it is open and passes
 pub open_more : (of : Grant → Bool) (g : Grant) (gs : List Grant) → open_to of (g ∷ gs) ≡ one (g.is_open && of g) + open_to of gs
 open_more of g gs = opened of g (filter (λ h. h.is_open) gs) g.is_open
 
+-- a truth counts for at most 1
 at_most_one : (b : Bool) → one b ≤ 1
 at_most_one true = omega arith
 at_most_one false = omega arith
 
+-- those open that pass are no more than all
 pub at_most_all : (of : Grant → Bool) (gs : List Grant) → open_to of gs ≤ length gs
 at_most_all of [] = omega arith
 at_most_all of (g ∷ gs) = omega (arith, open_more of g gs, at_most_one (g.is_open && of g), at_most_all of gs)
@@ -74,9 +80,11 @@ same_calls dial m jobs same =
 
 -- each job became another of its number
 module _ (f : Job → Job) (m : Queue) (numbers : (x : Job) → (f x).number ≡ x.number) where
+  -- the changed job of a number is the job of this number, changed
   found_mapped : (n : ℕ) → find (λ (j : Job). j.number == n) (map f m.jobs) ≡ option_map f (job_numbered n m)
   found_mapped n = find_map (λ (j : Job). j.number == n) f (λ x. ap (λ i. i == n) (numbers x)) m.jobs
 
+  -- open grants keep their jobs where jobs change and keep their numbers
   pub jobs_mapped : HaveJobs m → HaveJobs (record m { jobs = map f m.jobs })
   jobs_mapped have g has = let it = have g has in (f it.0, found_mapped g.job ∙ ap (option_map f) it.1)
 
@@ -90,6 +98,7 @@ module _ (f : Job → Job) (m : Queue) (numbers : (x : Job) → (f x).number ≡
 
 -- one more job, of a number that none has
 module _ (x : Job) where
+  -- beside a new job, each other number finds what it found
   found_beside : (n : ℕ) (xs : List Job) → (x.number == n) ≡ false → find (λ (j : Job). j.number == n) (placed (λ (j : Job). j.number) x xs) ≡ find (λ (j : Job). j.number == n) xs
   found_beside n [] off = rw off refl
   found_beside n (y ∷ ys) off = elim (cases_Bool (nat_lt y.number x.number)) [
@@ -98,6 +107,7 @@ module _ (x : Job) where
   ]
 
   module _ (m : Queue) (have : HaveJobs m) (free : (y : Job) → Has m.jobs y → (y.number == x.number) ≡ false) where
+    -- the new job's number is none of an open grant's job
     other : (g : Grant) → Has (open_grants m) g → (x.number == g.job) ≡ false
     other g has = elim (cases_Bool (x.number == g.job)) [
       | inl same ↦
@@ -108,9 +118,11 @@ module _ (x : Job) where
       | inr off ↦ off
     ]
 
+    -- open grants keep their jobs beside a new one
     pub jobs_placed : HaveJobs (with_placed x m)
     jobs_placed g has = let it = have g has in (it.0, found_beside g.job m.jobs (other g has) ∙ it.1)
 
+    -- a new job adds no call to any number
     pub calls_placed : (dial : List ℕ) → calls_to dial m ≡ calls_to dial (with_placed x m)
     calls_placed dial = same_calls dial m (placed (λ (j : Job). j.number) x m.jobs) (λ g has. ap (is_of_number dial) (found_beside g.job m.jobs (other g has)))
 
@@ -118,15 +130,18 @@ module _ (x : Job) where
 
 -- each grant became another of its job, open where it was
 module _ (f : Grant → Grant) (m : Queue) (same : (x : Grant) → Has m.grants x → ((f x).is_open ≡ x.is_open) × ((f x).job ≡ x.job)) where
+  -- changed grants of the same jobs, open as before, are as many to each number
   open_mapped : (of : ℕ → Bool) (gs : List Grant) → ((x : Grant) → Has gs x → ((f x).is_open ≡ x.is_open) × ((f x).job ≡ x.job)) → open_to (λ g. of g.job) gs ≡ open_to (λ g. of g.job) (map f gs)
   open_mapped of [] as_it = refl
   open_mapped of (x ∷ xs) as_it =
       let it = as_it x (inl refl) in
       open_more (λ g. of g.job) x xs ∙ ap₂ ◌+◌ (sym (ap₂ (λ b j. one (b && of j)) it.0 it.1)) (open_mapped of xs (λ y has. as_it y (inr has))) ∙ sym (open_more (λ g. of g.job) (f x) (map f xs))
 
+  -- where grants change so, each number keeps its calls
   pub calls_reported : (dial : List ℕ) → calls_to dial m ≡ calls_to dial (record m { grants = map f m.grants })
   calls_reported dial = open_mapped (λ n. is_of_number dial (job_numbered n m)) m.grants same
 
+  -- and open grants keep their jobs
   pub jobs_reported : HaveJobs m → HaveJobs (record m { grants = map f m.grants })
   jobs_reported have g has =
       let is_open = has_filtered (λ (x : Grant). x.is_open) (map f m.grants) g has in
@@ -143,6 +158,7 @@ placed_count of g (h ∷ hs) = elim (cases_Bool (nat_lt h.number g.number)) [
   | inr above ↦ rw above (open_more of g (h ∷ hs))
 ]
 
+-- a grant among those with one placed is that one or was there
 pub has_placed : (g h : Grant) (gs : List Grant) → Has (placed (λ (x : Grant). x.number) g gs) h → (h ≡ g) ⊎ Has gs h
 has_placed g h [] has = has
 has_placed g h (x ∷ xs) has = elim (cases_Bool (nat_lt x.number g.number)) [
@@ -158,13 +174,16 @@ module _ (n : ℕ) where
   abbrev pub shut : Grant → Grant
   shut x = if x.number == n then record x { is_open = false } else x
 
+  -- where none has the number, none is shut
   none_shut : (gs : List Grant) → ((x : Grant) → Has gs x → (x.number == n) ≡ false) → map shut gs ≡ gs
   none_shut [] off = refl
   none_shut (x ∷ xs) off = ap₂ ◌∷◌ (ap (λ b. if b then record x { is_open = false } else x) (off x (inl refl))) (none_shut xs (λ y has. off y (inr has)))
 
+  -- Some of two grants is the same only where they are
   same_some : (a b : Grant) → ◌≡◌ {A = Option Grant} (Some a) (Some b) → a ≡ b
   same_some a b e = cc
 
+  -- shutting an open grant takes it off those that are open
   pub closed_count : (of : Grant → Bool) (g : Grant) (gs : List Grant) → IsTable (map grant_row gs) → find (λ (x : Grant). x.number == n) gs ≡ Some g → g.is_open ≡ true → open_to of (map shut gs) + one (of g) ≡ open_to of gs
   closed_count of g [] rise found on = absurd cc
   closed_count of g (h ∷ hs) rise found on = elim (cases_Bool (h.number == n)) [
@@ -193,6 +212,7 @@ module _ (n : ℕ) where
         | inr off ↦ off
       ]
 
+  -- open grants keep their jobs where one is shut
   pub jobs_shut : (m : Queue) → HaveJobs m → HaveJobs (record m { grants = map shut m.grants })
   jobs_shut m have g has = by (it.0.number == n) refl
     where
@@ -215,6 +235,7 @@ held_job m have n g found on = have g (has_kept (λ (x : Grant). x.is_open) m.gr
 
 -- ---- how many there may be
 
+-- by rowid, one grant stands before another only where its number is less
 above : (g h : Grant) → value_cmp (rowid (grant_row g)) (rowid (grant_row h)) ≡ Less → g.number < h.number
 above g h less =
     let e : int_cmp (pos g.number) (pos h.number) ≡ Less = sym (value_cmp-Int (pos g.number) (pos h.number)) ∙ less in
@@ -232,6 +253,7 @@ few last low (g ∷ gs) rise within base =
     (omega (arith, first.0, first.1)) in
     omega (arith, rest)
 
+-- there are at most 999999999 grants
 pub grants_few : (db : Database) (m : Queue) (k : Ledger) → TablesMean db m k → length m.grants ≤ 999999999
 grants_few db m k means =
     let most = few 999999999 1 m.grants (subst IsTable means.grants means.ordered.grants.rise) (λ x has. (all_has IsLawfulGrant m.grants x (recursion_from_All IsLawfulGrant m.grants means.lawful.grants) has).limits.number) (omega arith) in

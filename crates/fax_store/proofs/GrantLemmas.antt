@@ -22,6 +22,7 @@ module _ (n : ℕ) where
   params = number n ∷ []
 
   module _ (old new : State) (m : Queue) (k : Ledger) (means : TablesMean old.now m k) where
+    -- what the text on a grant finds is the grant of this number, as shown, or none
     pub grant_found : (found : Option Row) → FindsRow SELECT_GRANT.now params old new found → found ≡ option_map grant_shown (grant_numbered n m)
     grant_found found h =
         numbered_found grant_row (λ (g : Grant). g.number) (λ g. refl) n (passes grants_tree grant_tests grant_project params) (λ r. refl) m.grants (old.now.trees grants_tree) h.0 means.grants means.ordered.grants.rise (show grants_tree grant_tests grant_project params)

@@ -58,6 +58,7 @@ and_true : (b : Bool) → (b && true) ≡ b
 and_true true = refl
 and_true false = refl
 
+-- the row of a grant is stored as it is
 stored_grant : (g : Grant) → cast_row schema.grants (grant_row g) ≡ grant_row g
 stored_grant g =
     let n = λ (x : ℕ). cast_int (pos x) in
@@ -72,6 +73,7 @@ module _ (g : Grant) where
   abbrev pub grant_params : Row
   grant_params = number g.number ∷ number g.job ∷ Text g.modem ∷ number g.first_page ∷ number g.last_page ∷ number (call_number g.call) ∷ number g.confirmed ∷ []
 
+  -- the row of a hold is stored as it is
   stored_hold : cast_row schema.holds (Null ∷ hold_columns g) ≡ Null ∷ hold_columns g
   stored_hold = same_row cast_null (same_row refl (same_row (cast_int (pos g.job)) (same_row (cast_int (pos g.number)) refl)))
 
@@ -81,16 +83,19 @@ module _ (g : Grant) where
       let both = IsPermutation-filter (λ (x : Grant). x.is_open) (g ∷ gs) (placed (λ (x : Grant). x.number) g gs) (placed_permuted grant_row (λ (x : Grant). x.number) (λ x. refl) g gs) in
       subst (λ (b : Bool). IsPermutation (if b then g ∷ filter (λ x. x.is_open) gs else filter (λ x. x.is_open) gs) (filter (λ x. x.is_open) (placed (λ (x : Grant). x.number) g gs))) is_open both
 
+  -- the row of an open grant ends with a 0
   open_row : IsTrue g.is_open → grant_row g ≡ number g.number ∷ Null ∷ number g.job ∷ Text g.modem ∷ number g.first_page ∷ number g.last_page ∷ number (call_number g.call) ∷ number g.confirmed ∷ number 0 ∷ []
   open_row is_open = ap (λ (b : Bool). number g.number ∷ Null ∷ number g.job ∷ Text g.modem ∷ number g.first_page ∷ number g.last_page ∷ number (call_number g.call) ∷ number g.confirmed ∷ number (if b then 0 else 1) ∷ []) is_open
 
   module _ (old mid new : State) (m : Queue) (k : Ledger) (means : TablesMean old.now m k) where
+    -- the text that holds inserts the grant's hold, with the next rowid
     hold_inserted : HasRun INSERT_HOLD.now hold_params old mid → InsertsRow our_tables holds_tree old mid (Int (next_rowid (old.now.trees holds_tree)) ∷ hold_columns g)
     hold_inserted h =
         let ran = runs_as INSERT_HOLD.now hold_params old mid our_tables means.schema _ insert_hold.is insert_hold.plain h.0 h.1 in
         inserts our_tables unreferred schema.holds.name 2 schema.holds.columns schema.holds.key schema.holds.primary schema.holds.uniques schema.holds.orders schema.holds.checks 2 refl old mid means.schema hold_params _ h.0
         hold_terms 4 (Null ∷ hold_columns g) (Int (next_rowid (old.now.trees holds_tree)) ∷ hold_columns g) refl (ap (with_rowid Chosen (old.now.trees holds_tree)) stored_hold) ran
 
+    -- it touches holds alone
     pub hold_keeps : HasRun INSERT_HOLD.now hold_params old mid → KeepsOthers our_tables holds_tree old mid
     hold_keeps h = (hold_inserted h).keeps
 
@@ -175,11 +180,13 @@ module _ (g : Grant) where
     modem_agrees [] h id is = absurd cc
     modem_agrees (i ∷ columns) h id is = ap (λ rest. agree plain (1 ∷ []) (i ∷ rest) (1 ∷ []) (Int id ∷ hold_columns g)) is ∙ and_true (are_equal (Text h.modem) (Text g.modem)) ∙ equal_texts h.modem g.modem
 
+    -- the same of its job
     job_agrees : (r : Row) (h : Grant) (id : ℤ) → drop 1 r ≡ hold_columns h → agree plain (2 ∷ []) r (2 ∷ []) (Int id ∷ hold_columns g) ≡ (h.job == g.job)
     unfolding first_key
     job_agrees [] h id is = absurd cc
     job_agrees (i ∷ columns) h id is = ap (λ rest. agree plain (2 ∷ []) (i ∷ rest) (2 ∷ []) (Int id ∷ hold_columns g)) is ∙ and_true (are_equal (number h.job) (number g.job)) ∙ is_number h.job g.job
 
+    -- and of its grant
     number_agrees : (r : Row) (h : Grant) (id : ℤ) → drop 1 r ≡ hold_columns h → agree plain (3 ∷ []) r (3 ∷ []) (Int id ∷ hold_columns g) ≡ (h.number == g.number)
     unfolding first_key
     number_agrees [] h id is = absurd cc
@@ -232,6 +239,7 @@ module _ (g : Grant) where
   abbrev put : Grant → Grant
   put x = if x.number == g.number then g else x
 
+  -- a report writes the row of the grant as it then is
   reported : (x : Grant) → x.number ≡ g.number → IsSameGrant x g → cast_row schema.grants (drop 1 (show grants_tree grant_tests report_project report_params (grant_row x))) ≡ grant_row g
   reported x is same =
       stored_grant (record g { number = x.number; job = x.job; modem = x.modem; first_page = x.first_page; last_page = x.last_page; is_open = x.is_open })
@@ -242,15 +250,18 @@ module _ (g : Grant) where
       ∙ ap (λ n. grant_row (record g { last_page = n; is_open = x.is_open })) same.last_page
       ∙ ap (λ b. grant_row (record g { is_open = b })) same.is_open
 
+  -- a grant is put in the place of the one of its number, and each other stays
   put_by : (x : Grant) (b : Bool) → (x.number == g.number) ≡ b → put x ≡ (if b then g else x)
   put_by x b is = ap (λ c. if c then g else x) is
 
+  -- a grant that is put in place keeps the rowid
   put_number : (x : Grant) → rowid (grant_row (put x)) ≡ rowid (grant_row x)
   put_number x = elim (cases_Bool (x.number == g.number)) [
     | inl here ↦ ap (λ y. rowid (grant_row y)) (put_by x true here) ∙ ap number (sym (eqb-true x.number g.number here))
     | inr off ↦ ap (λ y. rowid (grant_row y)) (put_by x false off)
   ]
 
+  -- a lawful grant stays lawful under a report of at most 9999 pages
   report_lawful : g.confirmed ≤ 9999 → (x : Grant) → x.number ≡ g.number → IsSameGrant x g → IsLawfulGrant x → IsLawfulGrant g
   report_lawful few x is same was = record {
     limits = record {
@@ -261,12 +272,14 @@ module _ (g : Grant) where
     modem = subst IsName same.modem was.modem;
   }
 
+  -- each grant stays lawful, whether it is the one reported or not
   put_lawful : g.confirmed ≤ 9999 → (x : Grant) → (x.number ≡ g.number → IsSameGrant x g) → IsLawfulGrant x → IsLawfulGrant (put x)
   put_lawful few x same was = elim (cases_Bool (x.number == g.number)) [
     | inl here ↦ (let is = eqb-true x.number g.number here in subst IsLawfulGrant (sym (put_by x true here)) (report_lawful few x is (same is) was))
     | inr off ↦ subst IsLawfulGrant (sym (put_by x false off)) was
   ]
 
+  -- each stays open or shut, with the same columns of a hold
   put_held : (x : Grant) → (x.number ≡ g.number → IsSameGrant x g) → ((put x).is_open ≡ x.is_open) × (hold_columns (put x) ≡ hold_columns x)
   put_held x same = elim (cases_Bool (x.number == g.number)) [
     | inl here ↦ (let is = eqb-true x.number g.number here in let as_it = same is in (
@@ -276,6 +289,7 @@ module _ (g : Grant) where
     | inr off ↦ (ap (λ (y : Grant). y.is_open) (put_by x false off), ap hold_columns (put_by x false off))
   ]
 
+  -- each stays open or shut, and of its job
   same_held : (x : Grant) → (x.number ≡ g.number → IsSameGrant x g) → ((put x).is_open ≡ x.is_open) × ((put x).job ≡ x.job)
   same_held x same = elim (cases_Bool (x.number == g.number)) [
     | inl here ↦ (let as_it = same (eqb-true x.number g.number here) in (ap (λ (y : Grant). y.is_open) (put_by x true here) ∙ sym as_it.is_open, ap (λ (y : Grant). y.job) (put_by x true here) ∙ sym as_it.job))
@@ -283,10 +297,12 @@ module _ (g : Grant) where
   ]
 
   module _ (old new : State) (m : Queue) (k : Ledger) (means : TablesMean old.now m k) where
+    -- the queue's grant of this number is the same but for what a report tells
     same_grant : IsReport g m → (x : Grant) → Has m.grants x → x.number ≡ g.number → IsSameGrant x g
     same_grant report x has is =
         report x (subst (λ n. find (λ (y : Grant). y.number == n) m.grants ≡ Some x) is (only_numbered grant_row (λ (y : Grant). y.number) (λ y. refl) m.grants x (subst IsTable means.grants means.ordered.grants.rise) has))
 
+    -- the text that reports makes the report, and touches grants alone
     pub grant_reported : IsReport g m → g.confirmed ≤ 9999 → HasRun UPDATE_REPORT.now report_params old new → TablesMean new.now (with_grant g m) k × KeepsOthers our_tables grants_tree old new
     grant_reported report few h =
         let is_number = asked_is grant_row (λ (y : Grant). y.number) (λ y. refl) g.number (passes grants_tree grant_tests report_project report_params) (λ r. refl) in
@@ -312,10 +328,12 @@ module _ (g : Grant) where
 
 -- ---- a grant that is closed
 
+-- two functions that agree on a list make the same of it
 map_same : {X : Type 0} (f g : X → X) (xs : List X) → ((x : X) → Has xs x → f x ≡ g x) → map f xs ≡ map g xs
 map_same f g [] same = refl
 map_same f g (x ∷ xs) same = ap₂ ◌∷◌ (same x (inl refl)) (map_same f g xs (λ y has. same y (inr has)))
 
+-- mapping each to itself changes nothing
 map_none : {X : Type 0} (xs : List X) → map (λ x. x) xs ≡ xs
 map_none [] = refl
 map_none (x ∷ xs) = ap (λ rest. x ∷ rest) (map_none xs)
@@ -330,12 +348,15 @@ module _ (n : ℕ) where
   abbrev shut : Grant → Grant
   shut = shut_at n
 
+  -- the grant of the number is shut, and each other stays
   shut_by : (x : Grant) (b : Bool) → (x.number == n) ≡ b → shut x ≡ (if b then closed x else x)
   shut_by x b is = ap (λ c. if c then closed x else x) is
 
+  -- a grant keeps its rowid, shut or not
   shut_id : (x : Grant) → rowid (grant_row (shut x)) ≡ rowid (grant_row x)
   shut_id x = elim (cases_Bool (x.number == n)) [ inl here ↦ ap (λ y. rowid (grant_row y)) (shut_by x true here) | inr off ↦ ap (λ y. rowid (grant_row y)) (shut_by x false off) ]
 
+  -- a lawful grant stays lawful, shut or not
   shut_lawful : (x : Grant) → IsLawfulGrant x → IsLawfulGrant (shut x)
   shut_lawful x was = elim (cases_Bool (x.number == n)) [
     | inl here ↦ subst IsLawfulGrant (sym (shut_by x true here)) (record { limits = record { number = was.limits.number; job = was.limits.job; pages = was.limits.pages }; modem = was.modem })
@@ -345,6 +366,7 @@ module _ (n : ℕ) where
   abbrev but_this : List Grant → List Grant
   but_this = filter (λ x. not (x.number == n))
 
+  -- the first of a list is left out where it has the number
   but_first : (x : Grant) (xs : List Grant) (b : Bool) → (x.number == n) ≡ b → but_this (x ∷ xs) ≡ (if not b then x ∷ but_this xs else but_this xs)
   but_first x xs b is = ap (λ c. if not c then x ∷ but_this xs else but_this xs) is
 
@@ -363,12 +385,15 @@ module _ (n : ℕ) where
   ]
 
   module _ (m : Queue) (rise : IsTable (map grant_row m.grants)) where
+    -- a grant of this number is the one that the number finds
     only : (x : Grant) → Has m.grants x → x.number ≡ n → grant_numbered n m ≡ Some x
     only x has is = subst (λ i. find (λ (y : Grant). y.number == i) m.grants ≡ Some x) is (only_numbered grant_row (λ (y : Grant). y.number) (λ y. refl) m.grants x rise has)
 
+    -- Some of two grants is the same only where they are
     same_some : (a b : Grant) → ◌≡◌ {A = Option Grant} (Some a) (Some b) → a ≡ b
     same_some a b e = cc
 
+    -- shutting each grant of the number shuts the one that the number finds, if any
     closed_by : (o : Option Grant) → grant_numbered n m ≡ o → map shut m.grants ≡ (with_shut o m).grants
     closed_by None none =
         map_same shut (λ x. x) m.grants (λ x has. elim (cases_Bool (x.number == n)) [
@@ -385,10 +410,12 @@ module _ (n : ℕ) where
           | inr off ↦ shut_by x false off ∙ sym (ap (λ i. if x.number == i then closed g else x) is ∙ ap (λ b. if b then closed g else x) off)
         ])
 
+    -- shutting what was found changes the grants alone
     as_closed : (o : Option Grant) → record m { grants = (with_shut o m).grants } ≡ with_shut o m
     as_closed None = refl
     as_closed (Some g) = refl
 
+    -- shutting each grant of the number is closing it
     pub closed_is : record m { grants = map shut m.grants } ≡ with_closed n m
     closed_is = ap (λ gs. record m { grants = gs }) (closed_by (grant_numbered n m) refl) ∙ as_closed (grant_numbered n m)
 
@@ -396,6 +423,7 @@ module _ (n : ℕ) where
     abbrev after : Queue
     after = record m { grants = map shut m.grants }
 
+    -- the text that shuts a grant touches grants alone, and shuts the one of the number
     grants_shut : HasRun SHUT_GRANT.now close_params old mid → KeepsOthers our_tables grants_tree old mid × AreRecords grant_row IsLawfulGrant (mid.now.trees grants_tree) (map shut m.grants)
     grants_shut h =
         let is_one = asked_is grant_row (λ (y : Grant). y.number) (λ y. refl) n (passes grants_tree grant_tests shut_project close_params) (λ r. refl) in
@@ -408,9 +436,11 @@ module _ (n : ℕ) where
         ran in
         (done.0, record { is = done.1; ordered = done.2; lawful = all_mapped IsLawfulGrant shut m.grants (λ x has. shut_lawful x) means.lawful.grants })
 
+    -- it touches grants alone
     pub shut_keeps : HasRun SHUT_GRANT.now close_params old mid → KeepsOthers our_tables grants_tree old mid
     shut_keeps h = (grants_shut h).0
 
+    -- a hold passes where its grant is the one of this number
     is_held : (r : Row) → passes holds_tree held_tests gone_project close_params r ≡ (are_equal (column (drop 1 r) 2) (number n) && true)
     is_held [] = refl
     is_held (v ∷ r) = refl

@@ -54,21 +54,25 @@ use Rattle.fax_store.proofs.CandidateLemmas.{within}
 use Rattle.fax_store.proofs.CountLemmas.{at_most_all, grants_few, one, turned}
 use Rattle.fax_schema.proofs.StatementTexts.{dial_project, held_project, job_tests, lost_on, lost_query, lost_tests, select_dial, select_held, select_lost}
 
+-- a filter that all pass keeps the list
 every : {A : Type 0} (xs : List A) → filter (λ _. true) xs ≡ xs
 every [] = refl
 every (x ∷ xs) = ap (λ ys. x ∷ ys) (every xs)
 
 -- ---- a hold whose job isn't there
 
+-- lists that are empty together are each empty
 no_parts : {A : Type 0} (xs ys : List A) → xs ++ ys ≡ [] → (xs ≡ []) × (ys ≡ [])
 no_parts [] ys e = (refl, e)
 no_parts (x ∷ xs) ys e = absurd cc
 
+-- where lists are empty together, that of each element is
 none_each : {A B : Type 0} (f : A → List B) (xs : List A) (x : A) → flat_map f xs ≡ [] → Has xs x → f x ≡ []
 none_each f [] x none has = absurd has
 none_each f (y ∷ xs) x none (inl is) = ap f is ∙ (no_parts (f y) (flat_map f xs) none).0
 none_each f (y ∷ xs) x none (inr more) = none_each f xs x (no_parts (f y) (flat_map f xs) none).1 more
 
+-- and where each is, they are together
 each_none : {A B : Type 0} (f : A → List B) (xs : List A) → ((x : A) → Has xs x → f x ≡ []) → flat_map f xs ≡ []
 each_none f [] none = refl
 each_none f (x ∷ xs) none = ap₂ ◌++◌ (none x (inl refl)) (each_none f xs (λ y has. none y (inr has)))
@@ -81,6 +85,7 @@ no_length (x ∷ xs) e = absurd (omega (arith, e))
 abbrev lost_value : Value → Bool
 lost_value v = is_true (binary (Is Binary) v Null)
 
+-- SQL's v IS NULL is true of NULL alone
 is_lost : (v : Value) → lost_value v ≡ is_null v
 unfolding binary value_cmp lib.Ieee.is_nan lib.Ieee.lt
 is_lost Null = refl
@@ -97,6 +102,7 @@ not_lost a b h = elim (cases_Bool (is_null a)) [
   | inr off ↦ off
 ]
 
+-- an and with true is true only where the other is
 first_of : (b : Bool) → (b && true) ≡ true → b ≡ true
 first_of true e = refl
 first_of false e = absurd cc
@@ -109,6 +115,7 @@ module _ (jobs : List Row) (r : Row) where
   abbrev lost : List Row → List Env
   lost found = flat_map (λ s. cond (list_all (holds ([] ∷ r ∷ s ∷ [])) lost_tests) (([] ∷ r ∷ s ∷ []) ∷ []) []) (or_nulls found)
 
+  -- where a hold shows no row as lost, its job is there
   there : (found : List Row) → its ≡ found → lost found ≡ [] → (job : Row) × Has jobs job × IsOf (column r 2) job
   there [] is none =
       let on : (lost_value Null && true) ≡ true = ap (λ b. b && true) (is_lost Null) in
@@ -117,6 +124,7 @@ module _ (jobs : List Row) (r : Row) where
       let one = has_filtered (λ s. list_all (holds ([] ∷ r ∷ s ∷ [])) lost_on) jobs s (subst (λ rows. Has rows s) (sym is) (inl refl)) in
       (s, one.0, first_of _ one.1)
 
+  -- and where its job is there, it shows none
   not_there : (found : List Row) → its ≡ found → (job : Row) → Has jobs job → IsOf (column r 2) job → lost found ≡ []
   not_there [] is job has of = absurd (subst (λ rows. Has rows job) is (has_kept (λ s. list_all (holds ([] ∷ r ∷ s ∷ [])) lost_on) jobs job has (ap (λ b. b && true) of)))
   not_there (s ∷ more) is job has of =
@@ -130,17 +138,20 @@ module _ (old new : State) (has : old.now.schema ≡ our_tables) (rows : List Ro
   abbrev all_lost : List Env
   all_lost = flat_map (λ r. lost (old.now.trees jobs_tree) r (its (old.now.trees jobs_tree) r)) (old.now.trees holds_tree)
 
+  -- the text shows as many rows as holds have lost their jobs
   lost_count : length rows ≡ length all_lost
   lost_count =
       let read = reads_as SELECT_LOST.now [] old new our_tables has _ select_lost.command select_lost.plain select_lost.unlisted rows shown in
       let a : IsAnswer lost_query (overlay old.now.trees []) [] rows = read.answer Null in
       ap length a.shown ∙ length_map (λ (o : Output). o.1) a.ordered ∙ length_permutation a.kept a.ordered a.same ∙ ap length a.distinct ∙ length_map (output lost_query) a.staged ∙ ap length a.grouped
 
+  -- where it shows none, each hold has its job
   pub none_lost : rows ≡ [] → HoldJobs old.now
   none_lost empty hold there_is =
       let none = no_length all_lost (sym lost_count ∙ ap length empty) in
       there (old.now.trees jobs_tree) hold (its (old.now.trees jobs_tree) hold) refl (none_each (λ r. lost (old.now.trees jobs_tree) r (its (old.now.trees jobs_tree) r)) (old.now.trees holds_tree) hold none there_is)
 
+  -- and where each hold has its job, it shows none
   pub lost_none : HoldJobs old.now → rows ≡ []
   lost_none have =
       no_length rows (lost_count ∙ ap length (each_none (λ r. lost (old.now.trees jobs_tree) r (its (old.now.trees jobs_tree) r)) (old.now.trees holds_tree)
@@ -148,6 +159,7 @@ module _ (old new : State) (has : old.now.schema ≡ our_tables) (rows : List Ro
 
 -- ---- the number that a job is to
 
+-- what the text finds is the number to dial of the job of this number, or nothing where there is none
 pub dial_found : (n : ℕ) (old new : State) (m : Queue) (k : Ledger) → old.now.schema ≡ our_tables → CoreMeans old.now m k → (found : Option Row) → FindsRow SELECT_DIAL.now (number n ∷ []) old new found
     → found ≡ option_map (λ (j : Job). Text j.dial ∷ []) (job_numbered n m)
 dial_found n old new m k has rows found h =
@@ -162,17 +174,20 @@ module _ (n : ℕ) (old new : State) (has : old.now.schema ≡ our_tables) (can 
   abbrev asked : Row → Bool
   asked = passes jobs_tree job_tests dial_project (number n ∷ [])
 
+  -- the text shows the numbers to dial of the rows of this job number, in any order
   dials_shown : IsPermutation (map (show jobs_tree job_tests dial_project (number n ∷ [])) (filter asked (old.now.trees jobs_tree))) rows
   dials_shown =
       answers jobs_tree job_tests dial_project (number n ∷ []) old.now (old.now.trees jobs_tree) refl (codes "dial" ∷ []) rows
       (reads_as SELECT_DIAL.now (number n ∷ []) old new our_tables has _ select_dial.command select_dial.plain select_dial.unlisted rows shown)
 
+  -- each row shown is a canonical number to dial
   pub dial_told : (row : Row) → Has rows row → (dial : List ℕ) × (row ≡ Text dial ∷ []) × IsText IsCanonical dial
   dial_told row there_is =
       let job = shown_one asked (show jobs_tree job_tests dial_project (number n ∷ [])) (old.now.trees jobs_tree) rows dials_shown row there_is in
       let dial = can.dials job.0 job.1 (first_of _ job.2) in
       (dial.0, job.3 ∙ ap (λ v. v ∷ []) dial.1, dial.2)
 
+  -- some row is shown
   pub dial_there : rows ≡ [] → ⊥
   dial_there empty =
       let off = none_shown asked (show jobs_tree job_tests dial_project (number n ∷ [])) (old.now.trees jobs_tree) rows dials_shown empty can.job can.there in
@@ -181,15 +196,18 @@ module _ (n : ℕ) (old new : State) (has : old.now.schema ≡ our_tables) (can 
 
 -- ---- what is held
 
+-- the third column is the second behind the rowid
 second : (r : Row) → column r 2 ≡ column (drop 1 r) 1
 second [] = refl
 second (v ∷ r) = refl
 
+-- two functions that agree make the same of a list
 map_same : {A B : Type 0} (f g : A → B) (xs : List A) → ((x : A) → f x ≡ g x) → map f xs ≡ map g xs
 map_same f g [] same = refl
 map_same f g (x ∷ xs) same = ap₂ ◌∷◌ (same x) (map_same f g xs same)
 
 module _ (old new : State) (has : old.now.schema ≡ our_tables) (rows : List Row) (shown : Shown SELECT_HELD.now [] old new rows) where
+  -- the text shows the job numbers of the holds, in any order
   held_shown : IsPermutation (map (λ r. column r 2 ∷ []) (old.now.trees holds_tree)) rows
   held_shown =
       subst (λ t. IsPermutation (map (λ r. column r 2 ∷ []) t) rows) (every (old.now.trees holds_tree))
@@ -212,6 +230,7 @@ module _ (old new : State) (m : Queue) (k : Ledger) (has : old.now.schema ≡ ou
   abbrev held : List Row
   held = old.now.trees holds_tree
 
+  -- the rows of holds are the open grants, in any order
   same : IsPermutation (map hold_columns (open_grants m)) (map (drop 1) held)
   same = subst (λ rs. IsPermutation (map hold_columns (open_grants m)) (map (drop 1) rs)) (sym mean.2.1.1.0) mean.1.holds
 
@@ -233,6 +252,7 @@ module _ (old new : State) (m : Queue) (k : Ledger) (has : old.now.schema ≡ ou
       IsPermutation-trans (map (λ (g : Grant). number g.job ∷ []) (open_grants m)) (map (λ r. column r 2 ∷ []) held) rows
       (subst (λ xs. IsPermutation xs (map (λ r. column r 2 ∷ []) held)) left (subst (IsPermutation (map (λ columns. column columns 1 ∷ []) (map hold_columns (open_grants m)))) right by_columns)) (held_shown old new has rows shown)
 
+  -- there are fewer than 2³² of them
   pub held_few : length rows < 2 ^ 32
   held_few =
       let count : length rows ≡ length (open_grants m) = length_permutation (map (λ (g : Grant). number g.job ∷ []) (open_grants m)) rows permuted ∙ length_map (λ (g : Grant). number g.job ∷ []) (open_grants m) in
@@ -256,6 +276,7 @@ module _ (old new : State) (m : Queue) (k : Ledger) (has : old.now.schema ≡ ou
 
 -- ---- one more row
 
+-- one more row of a job adds one to the count of the job's number to dial, and to no other
 pub held_more : (m : Queue) (rows : List Row) (row : Row) (j : Job) → row ≡ number j.number ∷ [] → job_numbered j.number m ≡ Some j → (dial : List ℕ)
     → with_count j.dial (held_to m rows j.dial + 1) (held_to m rows) dial ≡ held_to m (rows ++ row ∷ []) dial
 held_more m rows row j is found dial = by (bytes_eq dial j.dial) refl
@@ -287,6 +308,7 @@ held_more m rows row j is found dial = by (bytes_eq dial j.dial) refl
         let total : held_to m (rows ++ row ∷ []) dial ≡ held_to m rows dial + 0 = more rows ∙ ap (λ b. held_to m rows dial + one b) (to ∙ back) in
         ap (λ b. if b then held_to m rows j.dial + 1 else held_to m rows dial) off ∙ omega (arith, total)
 
+-- no more rows are of jobs to a number than there are rows
 pub held_within : (m : Queue) (rows : List Row) (dial : List ℕ) → held_to m rows dial ≤ length rows
 held_within m [] dial = omega arith
 held_within m (x ∷ xs) dial = by (is_to m dial x) (held_within m xs dial)
@@ -295,6 +317,7 @@ held_within m (x ∷ xs) dial = by (is_to m dial x) (held_within m xs dial)
     by true e = omega (arith, e)
     by false e = omega (arith, e)
 
+-- what is taken is no longer than was asked
 taken : {A : Type 0} (n : ℕ) (xs : List A) → length (take n xs) ≤ n
 taken zero xs = omega arith
 taken (suc n) [] = omega arith
@@ -315,6 +338,7 @@ rows_still a b m k count set mean = (mean.0, mean.1, kept_rows core_tables.table
 pub dial_formed : (db : Database) (m : Queue) (k : Ledger) → TablesMean db m k → (n : ℕ) (j : Job) → job_numbered n m ≡ Some j → IsText IsCanonical j.dial
 dial_formed db m k means n j found = (found_holds IsLawfulJob (λ (x : Job). x.number == n) m.jobs j means.lawful.jobs found).formed.dial
 
+-- and its own number has 32 bits
 pub job_low : (db : Database) (m : Queue) (k : Ledger) → TablesMean db m k → (n : ℕ) (j : Job) → job_numbered n m ≡ Some j → j.number < 2 ^ 32
 job_low db m k means n j found =
     let most = within j (found_holds IsLawfulJob (λ (x : Job). x.number == n) m.jobs j means.lawful.jobs found) in
@@ -333,6 +357,7 @@ called_still a b same n can = record {
   dials = λ other has of. can.dials other (subst (λ rows. Has rows other) same has) of;
 }
 
+-- where the rows stay, holds that can be called still can
 pub held_still : (a b : Database) → KeepsRows alike_list a.trees b.trees → HoldsCanBeCalled a → HoldsCanBeCalled b
 held_still a b kept can hold has = let it = can hold (subst (λ rows. Has rows hold) kept.1.1.0 has) in (it.0, it.1, called_still a b kept.0 it.0 it.2)
 

@@ -48,33 +48,41 @@ use Rattle.fax_schema.proofs.SelectLemmas.{passes, show, answers}
 -- ---- a modem stands in one row
 
 module _ (db : Database) (has : db.schema ≡ our_tables) (sound : IsDatabase db) (by : IsByRowid (db.trees holds_tree)) where
+  -- the rules of uniqueness hold
   keeps : Keeps Unique our_tables db.trees
   keeps = subst (λ s. Keeps Unique s db.trees) has (sound.obeys.rules Unique)
 
+  -- no row of holds clashes with another in its modem
   no_clash : (r : Row) → Has (db.trees holds_tree) r → clashes plain (1 ∷ []) (db.trees holds_tree) r ≡ false
   no_clash r there = not-true _ (and_parts (not (clashes plain (1 ∷ []) (db.trees holds_tree) r)) _ (all_has _ (db.trees holds_tree) r keeps.1.1.0 there)).0
 
   module _ (modem : List ℕ) (r s : Row) (there : Has (db.trees holds_tree) r) (also : Has (db.trees holds_tree) s) (of_r : column r 1 ≡ Text modem) (of_s : column s 1 ≡ Text modem) where
+    -- rows of the same modem agree in it
     agrees : agree plain (1 ∷ []) s (1 ∷ []) r ≡ true
     agrees =
         ap (λ key. equal key.collation (column s 1) (column r 1) && true) first_key-plain
         ∙ ap₂ (λ a b. equal Binary a b && true) of_s of_r
         ∙ ap (λ b. b && true) (equal_texts modem modem ∙ (bytes_eq-Decides modem modem).1 refl)
 
+    -- no rowid is NULL
     whole : (x : Row) → Has (db.trees holds_tree) x → is_null (rowid x) ≡ false
     whole x has = ap is_null (int_is (rowid x) (all_has _ (db.trees holds_tree) x by.integers has))
 
+    -- rowids differ where they don't compare as equal
     differs : differ (rowid s) (rowid r) ≡ is_ne (value_cmp (rowid s) (rowid r))
     differs = compared Ne (rowid s) (rowid r) (whole s also) (whole r there)
 
+    -- two rows of the same modem don't differ in the rowid
     apart : is_ne (value_cmp (rowid s) (rowid r)) ≡ true → ⊥
     apart other = both_ways _ (no_clash r there) (some_from (λ o. agree plain (1 ∷ []) o (1 ∷ []) r && differ (rowid o) (rowid r)) (db.trees holds_tree) s also (rw (agrees, differs, other) refl))
 
+    -- so they are one, however their rowids compare
     by_order : (o : Ordering) → value_cmp (rowid s) (rowid r) ≡ o → s ≡ r
     by_order Less e = absurd (apart (ap is_ne e))
     by_order Equal e = tied_same (db.trees holds_tree) s r by.rise also there e
     by_order Greater e = absurd (apart (ap is_ne e))
 
+    -- a modem stands in one row of holds
     pub one_of_modem : s ≡ r
     one_of_modem = by_order (value_cmp (rowid s) (rowid r)) refl
 
@@ -84,10 +92,12 @@ and_true : (b : Bool) → (b && true) ≡ b
 and_true true = refl
 and_true false = refl
 
+-- where none passes, none is found
 find_none : {X : Type 0} (q : X → Bool) (xs : List X) → ((x : X) → Has xs x → q x ≡ false) → find q xs ≡ None
 find_none q [] none = refl
 find_none q (x ∷ xs) none = rw (none x (inl refl)) (find_none q xs (λ y has. none y (inr has)))
 
+-- where one passes, some is found
 found_off : {X : Type 0} (q : X → Bool) (xs : List X) (x : X) → Has xs x → q x ≡ true → find q xs ≡ None → ⊥
 found_off q [] x has on none = has
 found_off q (y ∷ ys) x (inl is) on none = absurd (let no = rw (ap q (sym is) ∙ on) at none in cc)
@@ -96,6 +106,7 @@ found_off q (y ∷ ys) x (inr more) on none = elim (cases_Bool (q y)) [
   | inr off ↦ found_off q ys x more on (rw off at none)
 ]
 
+-- where one passes, there is one that is found
 find_some : {X : Type 0} (q : X → Bool) (xs : List X) (x : X) → Has xs x → q x ≡ true → (y : X) × (find q xs ≡ Some y)
 find_some {X} q xs x has on = by (find q xs) refl
   where
@@ -103,6 +114,7 @@ find_some {X} q xs x has on = by (find q xs) refl
     by None none = absurd (found_off q xs x has on none)
     by (Some y) one = (y, one)
 
+-- the second column is the first behind the rowid
 second : (r : Row) → column r 1 ≡ column (drop 1 r) 0
 second [] = refl
 second (v ∷ r) = refl
@@ -116,14 +128,17 @@ module _ (modem : List ℕ) where
   is_asked project [] g is = absurd cc
   is_asked project (i ∷ columns) g is = ap (λ rest. passes holds_tree hold_tests project params (i ∷ rest)) is ∙ and_true (are_equal (Text g.modem) (Text modem)) ∙ equal_texts g.modem modem
 
+  -- the row of a hold is shown as its grant and job
   shown_as : (r : Row) (g : Grant) → drop 1 r ≡ hold_columns g → show holds_tree hold_tests hold_project params r ≡ hold_shown g
   shown_as [] g is = absurd cc
   shown_as (i ∷ columns) g is = ap (λ rest. show holds_tree hold_tests hold_project params (i ∷ rest)) is
 
+  -- the row of a grant of this modem names it
   modem_of : (r : Row) (g : Grant) → drop 1 r ≡ hold_columns g → bytes_eq g.modem modem ≡ true → column r 1 ≡ Text modem
   modem_of r g is same = second r ∙ ap (λ columns. column columns 0) is ∙ ap Text ((bytes_eq-Decides g.modem modem).0 same)
 
   module _ (old new : State) (m : Queue) (k : Ledger) (means : TablesMean old.now m k) where
+    -- what the text on holds finds is the grant and job that the modem holds, or nothing
     pub hold_found : (found : Option Row) → FindsRow SELECT_HOLD.now params old new found → found ≡ option_map hold_shown (held_by modem m)
     hold_found found h = tells found h.2
       where

@@ -56,9 +56,11 @@ module _ (n : ℕ) where
         (answers jobs_tree job_tests project params old.now (old.now.trees jobs_tree) refl names h.0 (reads_as sql params old new our_tables means.schema _ selects.command selects.plain selects.unlisted h.0 h.1))
         found h.2
 
+    -- what the text on a job finds is the job of this number, whole, or nothing
     pub job_found : (found : Option Row) → FindsRow SELECT_JOB.now params old new found → found ≡ option_map (λ j. job_shown (fields_of j)) (job_numbered n m)
     job_found = row_found SELECT_JOB.now job_project job_names select_job
 
+    -- what the text on a job in brief finds is the job of this number, in brief, or nothing
     pub brief_found : (found : Option Row) → FindsRow SELECT_BRIEF.now params old new found → found ≡ option_map (λ j. brief_shown (fields_of j)) (job_numbered n m)
     brief_found = row_found SELECT_BRIEF.now brief_project brief_names select_brief
 
@@ -68,6 +70,7 @@ module _ (n : ℕ) where
 pub fields_back : (f : JobFields) → fields_of (job_of f) ≡ f
 fields_back f = ap (λ n. record f { npages = n }) (length-range_with_len 1 f.npages)
 
+-- a range and the range behind it are one range
 range_split : (a m n : ℕ) → range_with_len a m ++ range_with_len (a + m) n ≡ range_with_len a (m + n)
 range_split a zero n =
     let from : a + 0 ≡ a = omega arith in
@@ -78,11 +81,13 @@ range_split a (suc m) n =
     let count : suc m + n ≡ suc (m + n) = omega arith in
     ap (λ rest. a ∷ rest) (ap (λ x. range_with_len (a + 1) m ++ range_with_len x n) from ∙ range_split (a + 1) m n) ∙ sym (ap (range_with_len a) count)
 
+-- the pages of a job made of a record are those sent and those behind them
 pub pages_of : (f : JobFields) → f.npages ≤ f.totpages → HasPages (job_of f)
 pages_of f low =
     ap (λ from. pages_to f.npages ++ range_with_len from (f.totpages - f.npages)) (let e : f.npages + 1 ≡ 1 + f.npages = omega arith in e)
     ∙ range_split 1 f.npages (f.totpages - f.npages) ∙ ap (range_with_len 1) (let e : f.npages + (f.totpages - f.npages) ≡ f.totpages = omega arith in e)
 
+-- the row of a job is stored as it is
 pub stored_job : (f : JobFields) → cast_row schema.jobs (job_row f) ≡ job_row f
 stored_job f =
     let n = λ (x : ℕ). cast_int (pos x) in
@@ -91,12 +96,14 @@ stored_job f =
     (same_row (n _) (same_row (n _) (same_row (n _) (same_row (n _) (same_row (n _) (same_row (n _) refl))))))))))))))))))))
 
 module _ (old new : State) (m : Queue) (k : Ledger) (means : TablesMean old.now m k) (f : JobFields) where
+  -- the text that adds a job inserts its row
   inserted : HasRun INSERT_JOB.now (job_shown f) old new → InsertsRow our_tables jobs_tree old new (job_row f)
   inserted h =
       let ran = runs_as INSERT_JOB.now (job_shown f) old new our_tables means.schema _ insert_job.is insert_job.plain h.0 h.1 in
       inserts our_tables unreferred schema.jobs.name 0 schema.jobs.columns schema.jobs.key schema.jobs.primary schema.jobs.uniques schema.jobs.orders schema.jobs.checks 0 refl old new means.schema (job_shown f) _ h.0
       job_terms 21 (job_row f) (job_row f) refl (ap (with_rowid Chosen (old.now.trees jobs_tree)) (stored_job f)) ran
 
+  -- the text that adds a lawful job puts it into the queue, and touches jobs alone
   pub job_put : IsLawfulJob (job_of f) → HasRun INSERT_JOB.now (job_shown f) old new → TablesMean new.now (with_placed (job_of f) m) k × KeepsOthers our_tables jobs_tree old new
   job_put lawful h =
       let done = inserted h in

@@ -33,6 +33,7 @@ use Rattle.fax_schema.proofs.StatementTexts.{brief_names, brief_project, job_nam
 abbrev pub number_of : Job → ℕ
 number_of j = j.number
 
+-- numbers compared as SQL's integers are less as they are
 by_number : (n k : ℕ) → is_lt (ordering_then (int_cmp (pos n) (pos k)) Equal) ≡ nat_lt n k
 by_number n k = grind (arith, nat_tests)
 
@@ -41,6 +42,7 @@ module _ (project : List Term) where
   abbrev out : Job → Output
   out j = put_out jobs_tree [] project [] jobs_order (row_of j)
 
+  -- the order of the text is that of the jobs' numbers
   same_order : (a b : Job) → is_lt (output_cmp (rows_by jobs_tree [] project jobs_order) (out a) (out b)) ≡ nat_lt a.number b.number
   same_order a b = ap is_lt (ap (λ o. ordering_then o Equal) (value_cmp-Int (pos a.number) (pos b.number))) ∙ by_number a.number b.number
 
@@ -54,6 +56,7 @@ module _ (project : List Term) where
       sym (same_order next first) ∙ sym (ap₂ by (get_or-map out jobs (i + 1) d (out d) low) (get_or-map out jobs i d (out d) (omega arith))) ∙ sorted i (out d) (omega arith) (omega (arith, length_map out jobs)) in
       grind (arith, nat_tests))
 
+-- by rowid, one job stands before another only where its number is less
 below : (a b : Job) → value_cmp (rowid (row_of a)) (rowid (row_of b)) ≡ Less → a.number < b.number
 below a b less = let e : int_cmp (pos a.number) (pos b.number) ≡ Less = sym (value_cmp-Int (pos a.number) (pos b.number)) ∙ less in grind (arith, nat_tests)
 
@@ -82,8 +85,10 @@ module _ (old new : State) (m : Queue) (k : Ledger) (means : TablesMean old.now 
       shown.2 ∙ ap (map (show jobs_tree [] project [])) back.2 ∙ map-map _ _ jobs ∙ ap (map of) same
 
 module _ (old new : State) (m : Queue) (k : Ledger) (means : TablesMean old.now m k) (rows : List Row) where
+  -- the text on all jobs shows them whole, in the queue's order
   pub jobs_found : Shown SELECT_JOBS.now [] old new rows → rows ≡ map (λ j. job_shown (fields_of j)) m.jobs
   jobs_found = all_found old new m k means SELECT_JOBS.now job_project job_names select_jobs rows
 
+  -- the text on all jobs in brief shows them in brief, in the queue's order
   pub briefs_found : Shown SELECT_BRIEFS.now [] old new rows → rows ≡ map (λ j. brief_shown (fields_of j)) m.jobs
   briefs_found = all_found old new m k means SELECT_BRIEFS.now brief_project brief_names select_briefs rows

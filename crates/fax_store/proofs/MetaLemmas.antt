@@ -31,9 +31,11 @@ use Rattle.fax_tables.proofs.TablesLemmas.{parts_of, means_of, calls_of, meta_ch
 use Rattle.fax_schema.proofs.UpdateLemmas.{updated}
 use Rattle.fax_schema.proofs.WriteLemmas.{KeepsOthers}
 
+-- the one row of meta passes the tests of its texts
 meta_passes : (m : Queue) (params : Row) → passes meta_tree meta_tests [] params (meta_row m) ≡ true
 meta_passes m params = rw number_same refl
 
+-- the row of meta is stored as it is
 stored : (m : Queue) → cast_row schema.meta (meta_row m) ≡ meta_row m
 stored m = same_row (cast_int (pos 1)) (same_row cast_null (same_row (cast_int _) (same_row (cast_int _) (same_row (cast_int _) (same_row (cast_int (pos 2)) refl)))))
 
@@ -45,6 +47,7 @@ clock_params clock = number clock ∷ []
 differs : (a b : ℕ) → is_true (binary (Compare Ne Binary) (number a) (number b)) ≡ not (a == b)
 differs a b = compared Ne (number a) (number b) refl refl ∙ ap is_ne (value_cmp-Int (pos a) (pos b)) ∙ grind (arith, nat_tests)
 
+-- where the row doesn't pass as one with another clock, it has this one
 clock_kept : (clock : ℕ) (m : Queue) → passes meta_tree clock_tests clock_project (clock_params clock) (meta_row m) ≡ false → meta_row m ≡ meta_row (with_clock clock m)
 clock_kept clock m off =
     let tested : (true && (not (m.clock == clock) && true)) ≡ false = sym (ap₂ ◌&&◌ (number_same 1) (ap (λ b. b && true) (differs m.clock clock))) ∙ off in
@@ -55,6 +58,7 @@ alone : (m : Queue) → IsByRowid (meta_row m ∷ [])
 alone m = record { rise = (tt, tt); integers = (refl, tt) }
 
 module _ (old new : State) (m : Queue) (k : Ledger) (means : TablesMean old.now m k) where
+  -- what the text on meta finds is its one row
   pub meta_found : (found : Option Row) → FindsRow SELECT_META.now [] old new found → found ≡ Some (meta_shown m)
   meta_found found h =
       let read = reads_as SELECT_META.now [] old new our_tables means.schema _ select_meta.command select_meta.plain select_meta.unlisted h.0 h.1 in
@@ -68,6 +72,7 @@ module _ (old new : State) (m : Queue) (k : Ledger) (means : TablesMean old.now 
     abbrev put : Queue → Queue
     put it = record it { clock = clock; next_job = next_job; next_grant = next_grant }
 
+    -- the text writes the clock and the next numbers, and touches meta alone
     written : HasRun UPDATE_META.now params old new → KeepsOthers our_tables meta_tree old new × (new.now.trees meta_tree ≡ meta_row (put m) ∷ []) × IsByRowid (new.now.trees meta_tree)
     written h =
         let ran = runs_as UPDATE_META.now params old new our_tables means.schema _ update_meta.is update_meta.plain h.0 h.1 in
@@ -81,10 +86,12 @@ module _ (old new : State) (m : Queue) (k : Ledger) (means : TablesMean old.now 
         let done = written h in
         means_of new.now (put m) k means.held (meta_changed old new m (open_grants m) (calls_of m) k (parts_of old.now m k means) done.0 clock next_job next_grant done.1 lawful)
 
+    -- it touches meta alone
     pub meta_shows : HasRun UPDATE_META.now params old new → KeepsOthers our_tables meta_tree old new
     meta_shows h = (written h).0
 
   module _ (clock : ℕ) where
+    -- the text writes the clock, and touches meta alone
     clocked : HasRun UPDATE_CLOCK.now (clock_params clock) old new → KeepsOthers our_tables meta_tree old new × (new.now.trees meta_tree ≡ meta_row (with_clock clock m) ∷ []) × IsByRowid (new.now.trees meta_tree)
     clocked h =
         let ran = runs_as UPDATE_CLOCK.now (clock_params clock) old new our_tables means.schema _ update_clock.is update_clock.plain h.0 h.1 in

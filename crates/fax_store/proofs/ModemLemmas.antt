@@ -41,6 +41,7 @@ use Rattle.fax_tables.proofs.TablesLemmas.{AreColumns, down, parts_of, means_of,
 use Rattle.fax_schema.proofs.UpdateLemmas.{gone_project, deleted}
 use Rattle.fax_schema.proofs.WriteLemmas.{KeepsOthers, unreferred, inserts}
 
+-- texts are equal either way round
 turned : (s t : List ℕ) → bytes_eq s t ≡ bytes_eq t s
 turned s t = cmp.both_ways (bytes_eq s t) (bytes_eq t s) (λ h. (bytes_eq-Decides t s).1 (sym ((bytes_eq-Decides s t).0 h))) (λ h. (bytes_eq-Decides s t).1 (sym ((bytes_eq-Decides t s).0 h)))
 
@@ -58,9 +59,11 @@ module _ (modem : List ℕ) where
   is_asked project (i ∷ columns) name is = ap (λ rest. passes down_tree down_tests project params (i ∷ rest)) is ∙ and_true (are_equal (Text name) (Text modem)) ∙ equal_texts name modem ∙ turned name modem
 
   module _ (old new : State) (m : Queue) (k : Ledger) (means : TablesMean old.now m k) where
+    -- the rows of the modems that are down are theirs, in any order
     same : IsPermutation (map down_columns m.down) (map (drop 1) (old.now.trees down_tree))
     same = IsPermutation-same (map down_columns m.down) (map (drop 1) (old.now.trees down_tree)) (sym means.down)
 
+    -- a mark is found just where the modem is down
     pub mark_found : (found : Option Row) → FindsRow SELECT_DOWN.now params old new found → is_some found ≡ is_down modem m
     mark_found found h = tells found h.2
       where
@@ -76,6 +79,7 @@ module _ (modem : List ℕ) where
             let it = record_of down_columns (old.now.trees down_tree) m.down same shown.0 shown.1 in
             sym (some_from (bytes_eq modem) m.down it.0 it.1 (sym (is_asked down_project shown.0 it.0 it.2) ∙ shown.2))
 
+    -- the text that deletes a mark takes it off, and touches `down` alone
     pub mark_cleared : HasRun DELETE_DOWN.now params old new → TablesMean new.now (with_mark modem false m) k × KeepsOthers our_tables down_tree old new
     mark_cleared h =
         let ran = runs_as DELETE_DOWN.now params old new our_tables means.schema _ delete_down.is delete_down.plain h.0 h.1 in
@@ -89,6 +93,7 @@ module _ (modem : List ℕ) where
         } in
         (means_of new.now (with_mark modem false m) k means.held (down_changed old new m (open_grants m) (calls_of m) k (parts_of old.now m k means) done.0 (filter others m.down) now), done.0)
 
+    -- the text that inserts a mark that isn't there sets it, and touches `down` alone
     pub mark_added : IsName modem → is_down modem m ≡ false → HasRun INSERT_DOWN.now params old new → TablesMean new.now (with_mark modem true m) k × KeepsOthers our_tables down_tree old new
     mark_added lawful free h =
         let stored : cast_row schema.down (Null ∷ down_columns modem) ≡ Null ∷ down_columns modem = same_row cast_null (same_row refl refl) in

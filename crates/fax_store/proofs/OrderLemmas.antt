@@ -25,12 +25,15 @@ module _ {X : Type 0} (num : X → ℕ) where
   abbrev is_above : X → X → Bool
   is_above x z = nat_lt (num x) (num z)
 
+  -- one is above another where its number is greater
   above : (x z : X) → num x < num z → is_above x z ≡ true
   above x z low = grind (arith, nat_tests)
 
+  -- what is at least as great as one above is above
   still_above : (x y z : X) → is_above x y ≡ true → num y ≤ num z → is_above x z ≡ true
   still_above x y z high le = grind (arith, nat_tests)
 
+  -- of a list all above, nothing is left that isn't
   not_above : (x : X) (ys : List X) → AllByRecursion (λ z. is_above x z ≡ true) ys → filter (λ z. not (is_above x z)) ys ≡ []
   not_above x ys high = filter_none (λ z. not (is_above x z)) ys (all_weaker (λ z. is_above x z ≡ true) (λ z. not (is_above x z) ≡ false) (λ z h. ap not h) ys high)
 
@@ -45,6 +48,7 @@ module _ {X : Type 0} (num : X → ℕ) where
           let high = all_weaker (AtMost y) (λ z. is_above x z ≡ true) (λ z le. still_above x y z e le) ys up.0 in
           rw (e, not_above x ys high, filter_all (is_above x) ys high) refl
 
+  -- a list that ascends has one order in which each is at most every later one
   only_rising : (xs ys : List X) → IsAscending Below xs → IsPermutation xs ys → IsAscending AtMost ys → ys ≡ xs
   only_rising [] [] rise same up = refl
   only_rising [] (y ∷ ys) rise same up = absurd (omega (arith, length_permutation [] (y ∷ ys) same))

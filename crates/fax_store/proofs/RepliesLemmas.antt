@@ -38,6 +38,7 @@ use Rattle.sqlite.specs.Cast.{cast_row}
 use Rattle.sqlite.specs.Edit.{with_rowid, next_rowid}
 use Rattle.sqlite.specs.Rowids.TheVariants.{Chosen}
 
+-- an and is true only where both are
 both_true : (a b : Bool) → (a && b) ≡ true → (a ≡ true) × (b ≡ true)
 both_true true b h = (refl, h)
 both_true false b h = absurd cc
@@ -83,6 +84,7 @@ module _ (client : List ℕ) (n : ℕ) where
       subst (λ cols. is_asked (x ∷ cols) ≡ true) (sym h) q
 
   module _ (old new : State) (m : Queue) (k : Ledger) (means : TablesMean old.now m k) where
+    -- what the text on a reply finds is an entry of the client and number; where it finds nothing, there is none
     pub reply_found : (found : Option Row) → FindsRow SELECT_REPLY.now params old new found
         → MatchOption found ((e : Entry) → Has k.replies e → ¬ IsOf client n e) (λ row. (e : Entry) × Has k.replies e × IsOf client n e × (row ≡ entry_shown e))
     reply_found found h = tells found h.2
@@ -116,6 +118,7 @@ module _ (client : List ℕ) (n : ℕ) where
       let there = subst (λ (d : Database). Has (d.trees replies_tree) (row.id ∷ Text client ∷ number n ∷ row.said ∷ row.status ∷ row.body ∷ [])) (sym now) row.has in
       both_ways _ (none_shown is_asked (show replies_tree reply_tests reply_project params) (old.now.trees replies_tree) h.0 same h.2 _ there) (key_passes row.id row.said row.status row.body)
 
+-- an entry among lawful ones is lawful
 pub lawful_of : (k : List Entry) (e : Entry) → All IsLawfulEntry k → Has k e → IsLawfulEntry e
 lawful_of [] e all has = absurd has
 lawful_of (x ∷ xs) e all (inl is) = subst IsLawfulEntry (sym is) (all 0 x (omega arith))
@@ -132,12 +135,14 @@ module _ (old new : State) (m : Queue) (k : Ledger) (means : TablesMean old.now 
   abbrev new_reply : Row
   new_reply = Int (next_rowid (old.now.trees replies_tree)) ∷ entry_columns e
 
+  -- the text that keeps a reply inserts its row, with the next rowid
   inserted : HasRun INSERT_REPLY.now reply_params old new → InsertsRow our_tables replies_tree old new new_reply
   inserted h =
       let ran = runs_as INSERT_REPLY.now reply_params old new our_tables means.schema _ insert_reply.is insert_reply.plain h.0 h.1 in
       inserts our_tables unreferred schema.replies.name 8 schema.replies.columns schema.replies.key schema.replies.primary schema.replies.uniques schema.replies.orders schema.replies.checks 4 refl old new means.schema reply_params _ h.0
       reply_terms 6 (Null ∷ entry_columns e) new_reply refl (ap (with_rowid Chosen (old.now.trees replies_tree)) (stored_reply e)) ran
 
+  -- the text that keeps a lawful reply adds it, and touches replies alone
   pub reply_kept : IsLawfulEntry e → HasRun INSERT_REPLY.now reply_params old new → TablesMean new.now m (with_reply e k) × KeepsOthers our_tables replies_tree old new
   reply_kept lawful h =
       let done = inserted h in

@@ -10,17 +10,22 @@ use Rattle.fax_tables.proofs.Rows.{grant, closed}
 abbrev after_grant : Queue
 after_grant = with_one_more_grant grant (with_clock 5 empty_queue)
 
+-- a grant that is made is open, and the next number is one more
 granted : after_grant ≡ record { jobs = []; grants = grant ∷ []; down = []; clock = 5; next_job = 1; next_grant = 2 }
 granted = refl
 
+-- a grant that is closed is open no more
 shut : with_closed 1 after_grant ≡ record after_grant { grants = closed ∷ [] }
 shut = refl
 
+-- closing a number without a grant changes nothing
 shut_another : with_closed 2 after_grant ≡ after_grant
 shut_another = refl
 
+-- a hold tells the grant and the job
 held : as_hold grant ≡ record { grant = 1; job = 7 }
 held = refl
 
+-- meta tells the clock and the next numbers
 meta_told : meta_of after_grant ≡ record { clock = 5; next_job = 1; next_grant = 2 }
 meta_told = refl

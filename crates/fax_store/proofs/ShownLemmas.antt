@@ -17,16 +17,20 @@ use Rattle.sqlite_resolve.specs.Compile.{command, compiled, first, meaning, plan
 use Rattle.sqlite_resolve.specs.Given.{returned}
 use Rattle.sqlite.specs.Listing.{understood, reads_listing, listing_schema, if_select, is_select}
 
+-- where two steps are done, the first was and then the second
 through : {A B : Type 0} (x : Checked A) (f : A → Checked B) (b : B) → and_then x f ≡ Ok b → (a : A) × (x ≡ Ok a) × (f a ≡ Ok b)
 through (Ok a) f b h = (a, refl, h)
 through (Err e) f b h = absurd cc
 
+-- what is done with one value is done with that alone
 same_value : {A : Type 0} {a b : A} → ◌≡◌ {A = Checked A} (Ok a) (Ok b) → a ≡ b
 same_value e = cc
 
+-- what failed wasn't done
 not_ok : {A : Type 0} {a : A} {f : CompileError} → ◌≡◌ {A = Checked A} (Err f) (Ok a) → ⊥
 not_ok e = cc
 
+-- what is given isn't none
 some_none : {A : Type 0} {a : A} → ◌≡◌ {A = Checked (Option A)} (Ok (Some a)) (Ok None) → ⊥
 some_none e = cc
 
@@ -64,6 +68,7 @@ shown_by s sql c h =
     let in_compiled = ap (λ (x : Compiled). x.returning) (same_value plan.2) in
     (p, parsed.1, base, shows.1 ∙ ap Ok (in_found ∙ in_plan ∙ in_compiled))
 
+-- where a statement's columns show none, none were named
 none_shown : (s : Schema) (base : ℕ) (name : Name) (shown : List Shown) → shows s base name shown ≡ Ok None → length shown == 0 ≡ true
 unfolding shows
 none_shown s base name shown h = elim (cases_Bool (length shown == 0)) [
@@ -71,6 +76,7 @@ none_shown s base name shown h = elim (cases_Bool (length shown == 0)) [
   | inr more ↦ absurd (refuses (target s name) _ (λ at. refuses (table_at s at) _ (λ table. refuses (returned s table base shown) _ (λ r. refuses (source_of s (length r.0) r.1) _ (λ source e. some_none e)))) (rw more at h))
 ]
 
+-- where none are named, none are shown over any schema
 shown_nowhere : (s : Schema) (base : ℕ) (name : Name) (shown : List Shown) (r : Option Returning) → length shown == 0 ≡ true → shows s base name shown ≡ Ok r → r ≡ None
 unfolding shows
 shown_nowhere s base name shown r none h = sym (same_value (rw none at h))
@@ -83,6 +89,7 @@ still_none s t base other (written.Update name sets test shown) r none h = shown
 still_none s t base other (written.Delete name test shown) r none h = shown_nowhere t other name shown r (none_shown s base name shown none) h
 still_none s t base other _ r none h = sym (same_value h)
 
+-- a text that shows no rows of a write over one schema shows none over another
 pub shows_nothing : (s t : Schema) (sql : List ℕ) (c d : Compiled) → understood s sql ≡ Ok c → c.returning ≡ None → understood t sql ≡ Ok d → d.returning ≡ None
 shows_nothing s t sql c d at_s none at_t =
     let one = compiled_over s sql c at_s in

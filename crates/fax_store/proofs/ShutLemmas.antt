@@ -18,10 +18,12 @@ no_statement s sql e is (inr (c, known, inr (inl (other, said)))) = absurd (let 
 no_statement s sql e is (inr (c, known, inr (inr (times, said)))) = absurd (let both = sym is ∙ said in cc)
 
 module _ (old new : State) where
+  -- a database that wasn't open isn't opened
   not_open : (b : Bool) → new.is_open ≡ b → (IsTrue new.is_open → IsTrue old.is_open) → old.is_open ≡ false → new.is_open ≡ false
   not_open true is was shut = absurd (let both = sym (was is) ∙ shut in cc)
   not_open false is was shut = is
 
+  -- where the cause is that the database is closed, it is closed
   closed_for : (cause : StoreError) → SqliteFailure code.Closed ≡ store_error cause → HasCause old new ⊥ cause → IsRolledBack old new → new.is_open ≡ false
   closed_for OutOfMemory e had undone = absurd (let both = e in cc)
   closed_for Io e had undone = absurd (let both = e in cc)

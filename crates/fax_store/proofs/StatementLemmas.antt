@@ -21,14 +21,17 @@ use Rattle.fax_schema.proofs.StatementForms.{Commands}
 use Rattle.fax_schema.proofs.WriteLemmas.{went}
 use Rattle.sqlite_resolve.specs.declared.error.CompileError.{CompileError}
 
+-- what is done with one value is done with that alone
 same_value : {B E : Type 0} {a b : B} → ◌≡◌ {A = Result B E} (Ok a) (Ok b) → a ≡ b
 same_value e = cc
 
 module _ (old new : State) (sql : List ℕ) (params : Row) where
+  -- where rows were shown, the database was open
   shows_open : (c : Compiled) (full : Row) (rows : List Row) (returning : Option Returning) → ShowsRows old new sql c full rows returning → IsTrue old.is_open
   shows_open c full rows None h = h.3.0.was_open
   shows_open c full rows (Some what) h = h.1.shown.was_open
 
+  -- and it still is
   shows_still : (c : Compiled) (full : Row) (rows : List Row) (returning : Option Returning) → ShowsRows old new sql c full rows returning → IsTrue new.is_open
   shows_still c full rows None h = h.3.0.is_open
   shows_still c full rows (Some what) h = h.1.shown.is_open
@@ -38,6 +41,7 @@ module _ (old new : State) (sql : List ℕ) (params : Row) where
   unfolding Shown
   shown_still rows h = shows_still h.0 _ rows h.0.returning h.2
 
+  -- and it was before
   pub shown_open : (rows : List Row) → Shown sql params old new rows → IsTrue old.is_open
   unfolding Shown
   shown_open rows h = shows_open h.0 _ rows h.0.returning h.2
@@ -49,6 +53,7 @@ module _ (old new : State) (sql : List ℕ) (params : Row) where
       let none = (subst IsPlain h.1.is plain).0 in
       (subst (ShowsRows old new sql h.0 _ rows) none h.2).3
 
+  -- what fails to show its rows changes nothing, or undoes what is not committed
   not_shown : (c : Compiled) (full : Row) (e : Error) (returning : Option Returning) → FailsToShow old new sql c full e returning → LeavesCommit old new
   not_shown c full e None h = inl h.3
   not_shown c full e (Some what) (inl refused) = inl refused.1
@@ -61,10 +66,12 @@ module _ (old new : State) (sql : List ℕ) (params : Row) where
   query_fails e (inl (inr failed)) = inr failed.3
   query_fails e (inr h) = not_shown h.0 _ e h.0.returning h.2
 
+  -- where a refused statement leaves the database open, it was open before
   pub left_open : LeavesCommit old new → IsTrue new.is_open → IsTrue old.is_open
   left_open (inl same) is_open = same.0.was_open
   left_open (inr undone) is_open = undone.was_open is_open
 
+  -- where a statement has run and the database is open, it was before
   runs_open : (returning : Option Returning) (command : Command) (text : List ℕ) (count : ℕ) → Runs old new returning command text params count → IsTrue new.is_open → IsTrue old.is_open
   runs_open returning (Select q names) text count h is_open = absurd h
   runs_open returning (Insert at from) text count h is_open = h.shown.was_open
@@ -97,6 +104,7 @@ module _ (old new : State) (sql : List ℕ) (params : Row) where
 
   -- the database is open where a statement that changes rows has run, its tables are as before, and nothing is committed inside a work
   module _ (tables : HasTables old) (edit : IsEditText sql) where
+    -- a statement that changes rows keeps the schema
     schema_kept : (c : Compiled) (text : List ℕ) (full : Row) (tally : Tally) (after : Database) → IsEdit c.command → Does old.step_limit (mode_of old) full old.now text None c.command (Ok (tally, after)) → after.schema ≡ old.now.schema
     schema_kept c text full tally after is does = by_command c.command is does
       where
@@ -116,12 +124,14 @@ module _ (old new : State) (sql : List ℕ) (params : Row) where
         by_command (Delete at q) is h = on_table task_of (Delete at q) (slice_get old.now.schema.tables at) (λ t. refl) h
         by_command _ is h = absurd is
 
+    -- a statement that changes rows runs as a write
     writes_of : (command : Command) (text : List ℕ) (full : Row) (count : ℕ) → IsEdit command → Runs old new None command text full count → Writes old new None command text full count
     writes_of (Insert at from) text full count is h = h
     writes_of (Update at q) text full count is h = h
     writes_of (Delete at q) text full count is h = h
     writes_of _ text full count is h = absurd is
 
+    -- once it has run, the schema is kept, and what is committed is the same inside a work and all outside one
     pub edit_shows : (count : ℕ) → Executes sql params old new (Ok count) → (new.now.schema ≡ old.now.schema) × Shows old new new.now (if old.in_transaction then old.committed else new.now) old.in_transaction
     unfolding ExecutesIn
     edit_shows count h =

@@ -33,14 +33,17 @@ shows_none : (sql : List ℕ) (c : Compiled) (known : Result Compiled CompileErr
 shows_none sql c (Ok e) is plain s at = shows_nothing our_tables s sql e c is plain.0 at
 shows_none sql c (Err f) is plain s at = absurd plain
 
+-- what is none isn't some
 none_is_none : (o : Option Returning) → o ≡ None → IsSome o → ⊥
 none_is_none None e h = absurd cc
 none_is_none (Some r) e h = absurd cc
 
+-- a query commits nothing by showing its rows
 pub query_commits_nothing : (s : State) (sql : List ℕ) (params : Row) → IsQueryText sql → (found : Trees) → CommitsShowing sql params s found → ⊥
 unfolding CommitsShowing
 query_commits_nothing s sql params query found h = none_is_none h.0.returning (shows_none sql h.0 (understood our_tables sql) refl query s.now.schema h.1.is) h.2
 
+-- so a crash behind a query leaves what it could leave before
 pub queries_nothing : (old new : State) (sql : List ℕ) (params : Row) → IsQueryText sql → Survives old new (CommitsShowing sql params old) → CommitsNothing old new
 queries_nothing old new sql params query survives = nothing_by old new (CommitsShowing sql params old) survives (λ found clean. query_commits_nothing old sql params query found)
 
@@ -52,6 +55,7 @@ IsQuiet Begin = ⊤
 IsQuiet Rollback = ⊤
 IsQuiet other = ⊥
 
+-- a quiet command commits nothing
 quiet_nothing : (s : State) (command : Command) (text : List ℕ) (params : Row) (found : Trees) → IsQuiet command → CommitsAs s None command text params found → ⊥
 quiet_nothing s Begin text params found is (inl ends) = elim ends.0 [ inl commit ↦ absurd (let bad = commit in cc) | inr release ↦ absurd (let bad = release.2 in cc) ]
 quiet_nothing s Rollback text params found is (inl ends) = elim ends.0 [ inl commit ↦ absurd (let bad = commit in cc) | inr release ↦ absurd (let bad = release.2 in cc) ]
@@ -59,6 +63,7 @@ quiet_nothing s Begin text params found is (inr writes) = absurd (let bad = writ
 quiet_nothing s Rollback text params found is (inr writes) = absurd (let bad = writes.3 in cc)
 quiet_nothing s _ text params found is h = absurd is
 
+-- so a crash behind a quiet command leaves what it could leave before
 control_nothing : (old new : State) (sql : List ℕ) (command : Command) → IsQuiet command → ((c : Compiled) → understood old.now.schema sql ≡ Ok c → IsControl sql command (Ok c)) → Survives old new (CommitsBy sql [] old) → CommitsNothing old new
 unfolding CommitsBy
 control_nothing old new sql command quiet is survives = nothing_by old new (CommitsBy sql [] old) survives (λ found clean. never found)
@@ -70,15 +75,19 @@ control_nothing old new sql command quiet is survives = nothing_by old new (Comm
         let full = timed [] h.0.formats h.1.now in
         quiet_nothing old command text full found quiet (subst (λ k. CommitsAs old None k text full found) it.0 (subst (λ r. CommitsAs old r h.0.command text full found) it.1 h.2))
 
+-- what the text is understood as is this command
 known : (sql : List ℕ) (command : Command) (r : Result Compiled CompileError) → IsControl sql command r → (c : Compiled) → r ≡ Ok c → IsControl sql command (Ok c)
 known sql command r is c e = subst (IsControl sql command) e is
 
+-- a crash behind a begin leaves what it could leave before
 pub begin_nothing : (old new : State) → Survives old new (CommitsBy BEGIN.now [] old) → CommitsNothing old new
 begin_nothing old new = control_nothing old new BEGIN.now Begin tt (known BEGIN.now Begin (understood old.now.schema BEGIN.now) (begin_is old.now.schema))
 
+-- a crash behind a rollback leaves what it could leave before
 pub rollback_nothing : (old new : State) → Survives old new (CommitsBy ROLLBACK.now [] old) → CommitsNothing old new
 rollback_nothing old new = control_nothing old new ROLLBACK.now Rollback tt (known ROLLBACK.now Rollback (understood old.now.schema ROLLBACK.now) (rollback_is old.now.schema))
 
+-- a begin over the seven tables makes the work active, and commits nothing
 pub begun_opens : (old new : State) → Survives old new (CommitsBy BEGIN.now [] old) → (n : ℕ) → (HasCleanDisk new → Executes BEGIN.now [] old new (Ok n)) → Opens old new false
 begun_opens old new survives n ran = (active, begin_nothing old new survives)
   where
@@ -115,19 +124,23 @@ given_up old new failed nothing active found may = inl (nothing found may)
 
 -- ---- a statement that changes rows
 
+-- a statement that changes rows ends no transaction
 edit_ends_nothing : (command : Command) → IsEdit command → Ends command → ⊥
 edit_ends_nothing Commit edit ends = edit
 edit_ends_nothing (Release name) edit ends = edit
 edit_ends_nothing _ edit ends = ends
 
+-- inside a work it commits nothing
 edit_commits_nothing : (s : State) (sql : List ℕ) (params : Row) → IsOn s → IsEditText sql → (found : Trees) → CommitsBy sql params s found → ⊥
 edit_commits_nothing s sql params on edit =
     inside_commits_nothing s sql params (λ c is. edit_ends_nothing c.command (subst EditsRows (sym (ap (λ t. understood t sql) on.schema_is) ∙ is) edit).0) on.inside
 
 module _ (old new : State) (sql : List ℕ) (params : Row) (edit : IsEditText sql) (survives : Survives old new (CommitsBy sql params old)) where
+  -- a crash behind it, inside an active work, leaves what it could leave before
   edits_nothing : IsActive old false → CommitsNothing old new
   edits_nothing active = nothing_by old new (CommitsBy sql params old) survives (λ found clean. edit_commits_nothing old sql params (active clean refl) edit found)
 
+  -- one that has run leaves the work active, and commits nothing
   pub edit_withholds : (count : ℕ) → (HasCleanDisk new → Executes sql params old new (Ok count)) → Withholds old false new false
   edit_withholds count ran active = (after, edits_nothing active)
     where
@@ -137,11 +150,13 @@ module _ (old new : State) (sql : List ℕ) (params : Row) (edit : IsEditText sq
           let did = edit_shows old new sql params on.schema_is edit count (ran clean) in
           record { is_open = did.1.is_open; inside = did.1.mode ∙ on.inside; schema_is = did.0 ∙ on.schema_is }
 
+  -- one that was refused commits nothing
   pub refused_withholds : Withholds old false new true
   refused_withholds active = (λ clean on. absurd cc, edits_nothing active)
 
 -- ---- calls of a work
 
+-- a call that only reads leaves an active work active unless it is refused, and commits nothing
 pub withholds_by : (old new : State) → (HasCleanDisk new → HasCleanDisk old) → {A : Type 0} (result : Result A StoreFault) → (HasTables old → HasCleanDisk new → Reads old new result) → CommitsNothing old new → Withholds old false new (is_err result)
 withholds_by old new was_clean {A} result read nothing active = (after result read, nothing)
   where
@@ -152,12 +167,14 @@ withholds_by old new was_clean {A} result read nothing active = (after result re
         record { is_open = same.is_open; inside = same.mode ∙ on.inside; schema_is = ap (λ (d : Database). d.schema) same.now_is ∙ on.schema_is }
     after (Err e) reads clean on = absurd cc
 
+-- two calls that commit nothing, the one behind the other, commit nothing
 pub withholds_then : (a b c : State) {f g : Bool} (h : Bool) → Withholds a f b g → Withholds b g c h → Withholds a f c h
 withholds_then a b c h first next active =
     let one = first active in
     let two = next one.0 in
     (two.0, nothing_then a b c one.1 two.1)
 
+-- a call that was refused leaves what a refused one does
 pub withholds_err : {A : Type 0} (a b : State) (result : Result A StoreFault) (P : StoreFault → Type 0) → IsErrAnd result P → Withholds a false b true → Withholds a false b (is_err result)
 withholds_err a b (Ok x) P is h = absurd is
 withholds_err a b (Err e) P is h = h

@@ -45,6 +45,7 @@ module _ (old new : State) (kept : doubt old.is_clean ≤ doubt new.is_clean) wh
   pub served : Serves new → IsTrue old.is_open → Serves old
   served s is_open = record { clean = cleaner s.clean; is_open = is_open }
 
+  -- the rows stay where a call changed nothing, or undid what was not committed
   pub rests : (HasCleanDisk new → IsUnchanged old new ⊎ IsRolledBack old new) → Stays old new
   rests left db six has s = elim (left s.clean) [
     | inl same ↦
@@ -56,6 +57,7 @@ module _ (old new : State) (kept : doubt old.is_clean ≤ doubt new.is_clean) wh
         record { autocommit = undone.autocommit; now = back.0 ∙ was.committed; committed = back.1 ∙ was.committed })
   ]
 
+  -- what is not committed is undone where the call undid it
   pub goes_back : (HasCleanDisk new → IsRolledBack old new) → GoesBack old new
   goes_back left db is s =
       let undone = left s.clean in
@@ -63,6 +65,7 @@ module _ (old new : State) (kept : doubt old.is_clean ≤ doubt new.is_clean) wh
       let was = is (served s (undone.was_open s.is_open)) in
       record { autocommit = undone.autocommit; now = back.0 ∙ was; committed = back.1 ∙ was }
 
+  -- a begin that is done begins a work with what the store means
   pub begun : (n : ℕ) → (HasCleanDisk new → Executes BEGIN.now [] old new (Ok n)) → Begins old new false
   begun n ran m k means s =
       let began = (begins old new n (ran s.clean)).1 in
@@ -72,6 +75,7 @@ module _ (old new : State) (kept : doubt old.is_clean ≤ doubt new.is_clean) wh
         goes_on = λ _. record { inside = began.mode; means = same_tables m k began.now_is was.means };
       }
 
+  -- a begin that is done begins a work at the rows of the store
   pub begun_at : (n : ℕ) → (HasCleanDisk new → Executes BEGIN.now [] old new (Ok n)) → BeginsAt old new false
   begun_at n ran db six has s =
       let began = (begins old new n (ran s.clean)).1 in
@@ -82,24 +86,30 @@ module _ (old new : State) (kept : doubt old.is_clean ≤ doubt new.is_clean) wh
   pub begun_served : (n : ℕ) → (HasCleanDisk new → Executes BEGIN.now [] old new (Ok n)) → Serves new → Serves old
   begun_served n ran s = served s (begins old new n (ran s.clean)).1.was_open
 
+  -- the same behind a commit
   pub commit_served : (n : ℕ) → (HasCleanDisk new → Executes COMMIT.now [] old new (Ok n)) → Serves new → Serves old
   commit_served n ran s = served s (commits old new n (ran s.clean)).was_open
 
+  -- a text that is refused outside a work leaves the rows
   pub not_begun : (sql : List ℕ) (e : Error) → (HasCleanDisk new → Executes sql [] old new (Err e)) → Stays old new
   not_begun sql e ran = rests (λ clean. fails_whole old new false sql [] e (ran clean))
 
+  -- once a commit is done, the store means what the work made
   pub committed : (n : ℕ) → (HasCleanDisk new → Executes COMMIT.now [] old new (Ok n)) → Commits old false new
   committed n ran m₀ m k₀ k works s =
       let done = commits old new n (ran s.clean) in
       let was = (works (served s done.was_open)).goes_on refl in
       record { autocommit = done.mode; settled = done.now_is ∙ sym done.committed_is; means = same_tables m k done.now_is was.means }
 
+  -- after a commit that is done, a store with a clean disk serves
   pub commit_opens : (n : ℕ) → (HasCleanDisk new → Executes COMMIT.now [] old new (Ok n)) → HasCleanDisk new → Serves new
   commit_opens n ran clean = record { clean = clean; is_open = (commits old new n (ran clean)).is_open }
 
+  -- where the store serves after a text that was refused, it did before
   pub fails_served : (sql : List ℕ) (e : Error) → (HasCleanDisk new → Executes sql [] old new (Err e)) → Serves new → Serves old
   fails_served sql e ran s = served s (left_open old new sql [] (fails_whole old new false sql [] e (ran s.clean)) s.is_open)
 
+  -- where the store serves after a text, it did before
   pub ran_served : (sql : List ℕ) (r : Result ℕ Error) → (HasCleanDisk new → Executes sql [] old new r) → Serves new → Serves old
   ran_served sql (Ok n) ran s = served s (run_open old new sql [] n (ran s.clean) s.is_open)
   ran_served sql (Err e) ran s = fails_served sql e ran s
@@ -108,6 +118,7 @@ module _ (old new : State) (kept : doubt old.is_clean ≤ doubt new.is_clean) wh
   pub not_committed : (e : Error) → (Serves old → IsTrue old.in_transaction) → (HasCleanDisk new → Executes COMMIT.now [] old new (Err e)) → GoesBack old new
   not_committed e inside ran db is s = goes_back (λ clean. commit_fails old new e (inside (fails_served COMMIT.now e ran s)) (ran clean)) db is s
 
+  -- a rollback inside a work undoes it, whatever it answers
   pub rolled : (r : Result ℕ Error) → IsTrue old.in_transaction → (HasCleanDisk new → Executes ROLLBACK.now [] old new r) → GoesBack old new
   rolled r inside ran = goes_back (λ clean. rolls_back old new r inside (ran clean))
 
@@ -119,6 +130,7 @@ at_rest s autocommit settled db is serves = record { autocommit = autocommit; no
 pub forgets : (old new : State) (failed : _) → GoesBack old new → Forgets old failed new
 forgets old new failed back db over s = back db (λ was. (over was).began) s
 
+-- where the work is undone, the store means what it did where it began
 pub undoes : (old new : State) (failed : _) → (Serves new → Serves old) → GoesBack old new → Undoes old failed new
 undoes old new failed served back m₀ m k₀ k works s = at_rest_of new old.committed m₀ k₀ (back old.committed (λ _. refl) s) (works (served s)).began
 
@@ -126,6 +138,7 @@ undoes old new failed served back m₀ m k₀ k works s = at_rest_of new old.com
 pub forgets_commit : (old new : State) → ((Serves old → IsTrue old.in_transaction) → GoesBack old new) → Forgets old false new
 forgets_commit old new back db over s = back (λ was. ((over was).goes_on refl).0) db (λ was. (over was).began) s
 
+-- and it means what it did where the work began
 pub undoes_commit : (old new : State) → (Serves new → Serves old) → ((Serves old → IsTrue old.in_transaction) → GoesBack old new) → Undoes old false new
 undoes_commit old new served back m₀ m k₀ k works s =
     at_rest_of new old.committed m₀ k₀ (back (λ was. ((works was).goes_on refl).inside) old.committed (λ _. refl) s) (works (served s)).began

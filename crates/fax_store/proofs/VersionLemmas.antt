@@ -38,6 +38,7 @@ use Rattle.sqlite.proofs.InsideLemmas.{unchanged_keeps}
 
 -- ---- a value of its type is stored as it is
 
+-- an integer is stored as it is
 typed_same : (v : Value) → is_of Integer v ≡ true → cast Integer v ≡ v
 typed_same Null h = cast_null
 typed_same (Int n) h = cast_int n
@@ -45,6 +46,7 @@ typed_same (Real x) h = absurd cc
 typed_same (Text t) h = absurd cc
 typed_same (Blob b) h = absurd cc
 
+-- the same, as SQL tests it
 int_same : (v : Value) → IsTrue (is_int v) → cast Integer v ≡ v
 int_same Null h = absurd cc
 int_same (Int n) h = cast_int n
@@ -58,9 +60,11 @@ record AreTyped (r : Row) : Type 0 where
   next_job : is_of Integer (column r 3) ≡ true
   next_grant : is_of Integer (column r 4) ≡ true
 
+-- an and is true only where both are
 two : {a b : Bool} → (a && b) ≡ true → (a ≡ true) × (b ≡ true)
 two {a} {b} h = and_parts a b h
 
+-- a row of meta that keeps its types has integers for its clock and next numbers
 row_typed : (r : Row) → are_typed (Some 0) 0 schema.meta.columns (drop 1 r) ≡ true → AreTyped r
 row_typed [] h = record { clock = refl; next_job = refl; next_grant = refl }
 row_typed (i ∷ []) h = record { clock = refl; next_job = refl; next_grant = refl }
@@ -69,6 +73,7 @@ row_typed (i ∷ a ∷ b ∷ []) h = record { clock = (two (two h).1).0; next_jo
 row_typed (i ∷ a ∷ b ∷ c ∷ []) h = let more = two (two h).1 in record { clock = more.0; next_job = (two more.1).0; next_grant = refl }
 row_typed (i ∷ a ∷ b ∷ c ∷ d ∷ rest) h = let more = two (two h).1 in let last = two more.1 in record { clock = more.0; next_job = last.0; next_grant = (two last.1).0 }
 
+-- mapping each row to itself changes nothing
 same_map : (rows : List Row) → map (λ (r : Row). r) rows ≡ rows
 same_map [] = refl
 same_map (r ∷ rows) = ap (λ rs. r ∷ rs) (same_map rows)
@@ -76,17 +81,20 @@ same_map (r ∷ rows) = ap (λ rs. r ∷ rs) (same_map rows)
 -- ---- the text
 
 module _ (old new : State) (has : HasNone old) (ran : HasRun UPDATE_VERSION.now [] old new) where
+  -- each row of meta has them
   typed : (r : Row) → Has (old.now.trees meta_tree) r → AreTyped r
   typed r there =
       let keeps : Keeps Datatype our_tables old.now.trees = subst (λ s. Keeps Datatype s old.now.trees) has.schema_is (has.sound.obeys.rules Datatype) in
       row_typed r (two (all_has (λ row. obeys Datatype our_tables old.now.trees schema.meta row ≡ true) (old.now.trees meta_tree) r keeps.1.1.1.1.1.0 there)).0
 
+  -- so a raised row is stored as it is
   stored : IsByRowid (old.now.trees meta_tree) → (r : Row) → Has (old.now.trees meta_tree) r → cast_row schema.meta (column r 0 ∷ Null ∷ column r 2 ∷ column r 3 ∷ column r 4 ∷ number 2 ∷ []) ≡ raised r
   stored by r there =
       let it = typed r there in
       let id : cast Integer (column r 0) ≡ column r 0 = int_same (column r 0) (all_has (λ x. IsTrue (is_int (rowid x))) (old.now.trees meta_tree) r by.integers there) in
       same_row id (same_row cast_null (same_row (typed_same (column r 2) it.clock) (same_row (typed_same (column r 3) it.next_job) (same_row (typed_same (column r 4) it.next_grant) (same_row (cast_int (pos 2)) refl)))))
 
+  -- the text raises each row of meta, and touches meta alone
   ran_as : IsByRowid (old.now.trees meta_tree) → KeepsOthers our_tables meta_tree old new × (new.now.trees meta_tree ≡ map raised (old.now.trees meta_tree))
   ran_as by =
       let done = updated schema.meta.name meta_tree schema.meta.columns schema.meta.key schema.meta.primary schema.meta.uniques schema.meta.orders schema.meta.checks 5 refl old new has.schema_is refl by
@@ -94,11 +102,13 @@ module _ (old new : State) (has : HasNone old) (ran : HasRun UPDATE_VERSION.now 
       (runs_as UPDATE_VERSION.now [] old new our_tables has.schema_is _ update_version.is update_version.plain ran.0 ran.1) in
       (done.0, done.1 ∙ same_map (map raised (old.now.trees meta_tree)))
 
+  -- it touches meta alone
   keeps : KeepsOthers our_tables meta_tree old new
   keeps =
       (updates our_tables unreferred schema.meta.name meta_tree schema.meta.columns schema.meta.key schema.meta.primary schema.meta.uniques schema.meta.orders schema.meta.checks 5 refl old new has.schema_is [] _ ran.0 (program_of meta_tree [] raise_project)
       (runs_as UPDATE_VERSION.now [] old new our_tables has.schema_is _ update_version.is update_version.plain ran.0 ran.1)).2.keeps
 
+  -- where the version was 1, it is settled as the second
   pub version_raised : versions old.now ≡ number 1 ∷ [] → GoesOn old new × IsSettled 1 old.now new.now
   version_raised was =
       let o = keeps.others in (
@@ -122,6 +132,7 @@ module _ (old new : State) (has : HasNone old) (ran : HasRun UPDATE_VERSION.now 
 as_it_is : (version : ℕ) (rows : List Row) → version ≢ 1 → meta_as version rows ≡ rows
 as_it_is version rows other = elim (cases_Bool (version == 1)) [ inl one ↦ absurd (other (eqb-true version 1 one)) | inr off ↦ rw off refl ]
 
+-- where it wasn't, what only reads leaves it settled
 pub version_stays : (version : ℕ) (old new : State) → HasNone old → versions old.now ≡ number version ∷ [] → IsUnchanged old new → version ≢ 1 → GoesOn old new × IsSettled version old.now new.now
 version_stays version old new has was same other = (
   record { was_open = has.is_open; is_open = same.0.is_open; now_is = refl; committed_is = same.0.committed_is; mode = same.0.mode ∙ has.inside },
@@ -156,12 +167,14 @@ by_raised m [] e = absurd cc
 by_raised m (r ∷ s ∷ rows) e = absurd cc
 by_raised m (r ∷ []) e = let id : number 1 ≡ column r 0 = cc in record { rise = (tt, tt); integers = (subst (λ v. IsTrue (is_int v)) id refl, tt) }
 
+-- a meta of which the rows mean a queue can be raised
 can_raise : (version : ℕ) (db : Database) (m : Queue) (k : Ledger) → MeansAs version db m k → IsRaisableFrom version db
 can_raise version db m k mean = elim (cases_Bool (version == 1)) [
   | inl one ↦ inr (by_raised m (db.trees meta_tree) (sym mean.means.meta ∙ mean.meta ∙ rw one refl))
   | inr off ↦ inl (λ is. absurd (let on : (version == 1) ≡ true = rw is refl in cc))
 ]
 
+-- what the rows mean, they mean once the version is settled
 pub settled_means : (version : ℕ) (db after : Database) (m : Queue) (k : Ledger) → IsSettled version db after → MeansAs version db m k → CoreMeans after m k
 settled_means version db after m k settled mean =
     let full = (mean.full).trees in
@@ -201,6 +214,7 @@ filled_by version s0 s1 s2 s3 on settled held same next whole =
       },
     )
 
+-- where counting the calls keeps the commit, so does all from the begin on
 pub kept_by : (s0 s1 s2 s3 : State) → GoesOn s0 s1 → IsUnchanged s1 s2 → HasNone s1 → KeepsCommit s2 s3 → KeepsCommit s0 s3
 kept_by s0 s1 s2 s3 on same has kept =
     commit_kept s0 s1 s3 on (commit_kept s1 s2 s3 (record { was_open = on.is_open; is_open = same.0.is_open; now_is = refl; committed_is = same.0.committed_is; mode = same.0.mode ∙ has.inside }) kept)

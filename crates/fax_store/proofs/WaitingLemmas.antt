@@ -37,6 +37,7 @@ use Rattle.fax_tables.proofs.TablesLemmas.{row_of}
 
 -- ---- which jobs
 
+-- the number of a phase is 1 just for a job that waits
 waits : (phase : Phase) → are_equal (number (phase_number phase)) (number 1) ≡ is_waiting phase
 waits Held = equal_numbers 0 1
 waits Waiting = equal_numbers 1 1
@@ -49,6 +50,7 @@ not_past : (killtime : Option ℕ) (t : ℕ) → (is_eq (int_cmp (pos (unwrap_or
 not_past None t = refl
 not_past (Some s) t = grind (arith, nat_tests)
 
+-- five tests, in the order of the texts and in that of the choice
 turned : (a b c d e : Bool) → (a && (b && (c && (d && e)))) ≡ ((a && d && b && c) && e)
 turned false b c d e = refl
 turned true false false false e = refl
@@ -60,10 +62,12 @@ turned true true false true e = refl
 turned true true true false e = refl
 turned true true true true e = refl
 
+-- three numbers compared in turn as SQL's integers are less as the comparison in turn says
 by_numbers : (p q s u n k : ℕ) → is_lt (ordering_then (int_cmp (pos p) (pos q)) (ordering_then (int_cmp (pos s) (pos u)) (ordering_then (int_cmp (pos n) (pos k)) Equal)))
     ≡ (nat_lt p q || ((p == q) && (nat_lt s u || ((s == u) && nat_lt n k))))
 by_numbers p q s u n k = grind (arith, nat_tests)
 
+-- what stands in a place of a mapped list is mapped from what stood there
 index_map : {A B : Type 0} (f : A → B) (xs : List A) (i : ℕ) (d : A) → slice_index_or (map f xs) i (f d) ≡ f (slice_index_or xs i d)
 index_map f [] i d = refl
 index_map f (x ∷ xs) zero d = refl
@@ -101,6 +105,7 @@ module _ (t : ℕ) (more : Row) (tests project : List Term) where
   abbrev pub shown_of : Row → Row
   shown_of = show jobs_tree all_tests project params
 
+  -- the order of the text is that of the choice
   same_order : (a b : Job) → is_lt (output_cmp query (out (row_of a)) (out (row_of b))) ≡ better a b
   same_order a b =
       ap is_lt (ap₂ ordering_then (value_cmp-Int (pos a.priority) (pos b.priority)) (ap₂ ordering_then (value_cmp-Int (pos a.tts) (pos b.tts)) (ap (λ o. ordering_then o Equal) (value_cmp-Int (pos a.number) (pos b.number)))))
@@ -133,6 +138,7 @@ and_true true = refl
 and_true false = refl
 
 module _ (t : ℕ) (old new : State) (m : Queue) (k : Ledger) (means : TablesMean old.now m k) where
+  -- the text on the jobs that wait shows them whole, in the order of the choice
   pub waiting_found : (rows : List Row) → Shown SELECT_WAITING.now (params t [] [] job_project) old new rows → (jobs : List Job) × (rows ≡ map (λ j. job_shown (fields_of j)) jobs) × AreWaiting t m jobs
   waiting_found rows h =
       let read = reads_as SELECT_WAITING.now (params t [] [] job_project) old new our_tables means.schema _ select_waiting.command select_waiting.plain select_waiting.unlisted rows h in

@@ -31,6 +31,7 @@ pub ok_as : {A : Type 0} {P Q : Type 0} (result : Result A StoreFault) → (P �
 ok_as (Ok a) more h = more h
 ok_as (Err e) more h = tt
 
+-- the same where it is refused
 pub err_as : {A : Type 0} {P Q : Type 0} (result : Result A StoreFault) → (P → Q) → OnErr result P → OnErr result Q
 err_as (Ok a) more h = tt
 err_as (Err e) more h = more h
@@ -50,6 +51,7 @@ moves_by old new (Err e) m₀ m after k₀ k kept served holds works s means =
     let over : IsOver old false old.committed = record { began = refl; goes_on = λ _. (inside.inside, inside.means.schema) } in
     same_tables m₀ k₀ (holds old.committed (λ _. over) s).began was.began
 
+-- the same of both
 pub both_as : {A : Type 0} {P Q R S : Type 0} (result : Result A StoreFault) → (P → R) → (Q → S) → MatchResult result (λ _. P) (λ _. Q) → MatchResult result (λ _. R) (λ _. S)
 both_as (Ok a) done refused h = done h
 both_as (Err e) done refused h = refused h
@@ -64,6 +66,7 @@ pub told_ok : {A : Type 0} (P : A → Type 0) (result : Result A StoreFault) →
 told_ok P (Ok a) told = told
 told_ok P (Err e) told = tt
 
+-- and of a refusal alone
 pub told_cause : {A : Type 0} (P : A → Type 0) (result : Result A StoreFault) → OrUnavailable result P → IfErr result (λ e. e ≡ Unavailable)
 told_cause P (Ok a) told = tt
 told_cause P (Err e) told = told
@@ -97,6 +100,7 @@ pub reads_refused : {A : Type 0} (old new : State) (result : Result A StoreFault
 reads_refused old new (Ok a) P is left = absurd is
 reads_refused old new (Err e) P is left = left
 
+-- what such an answer or refusal leaves is what a refused statement does
 pub left_by : {A : Type 0} (old new : State) (result : Result A StoreFault) → Reads old new result → LeavesCommit old new
 left_by old new (Ok a) same = inl same
 left_by old new (Err e) left = left
@@ -119,12 +123,14 @@ edit_holds old new sql params served edit count ran db over s =
 
 -- what a call that only reads tells, and leaves
 module _ (old new : State) (served : Serves new → Serves old) {A : Type 0} (result : Result A StoreFault) (read : HasTables old → HasCleanDisk new → Reads old new result) where
+  -- the rows stay where nothing changed, or what was not committed is undone
   rests_after : (db : Database) → Serves new → LeavesCommit old new → HasRows old db → HasRows new db
   rests_after db s (inl same) was = record { autocommit = same.0.mode ∙ was.autocommit; now = same.0.now_is ∙ was.now; committed = same.0.committed_is ∙ was.committed }
   rests_after db s (inr undone) was =
       let back = undone.undone s.is_open in
       record { autocommit = undone.autocommit; now = back.0 ∙ was.committed; committed = back.1 ∙ was.committed }
 
+  -- so the rows of the store stay
   pub stays_by : Stays old new
   stays_by db ours has s =
       let was = has (served s) in
@@ -148,6 +154,7 @@ module _ (old new : State) (served : Serves new → Serves old) {A : Type 0} (re
           committed (inr undone) = (undone.undone s.is_open).1
 
   module _ (P : Queue → Ledger → A → Type 0) (answers : (m : Queue) (k : Ledger) → MeansNow old m k → Serves new → OrUnavailable result (P m k)) where
+    -- what it answers is so of all that the store means
     pub found_by : (m : Queue) (k : Ledger) → Means old m k → Serves new → OrUnavailable result (P m k)
     found_by m k means s = answers m k (λ was. (means was).means) s
 
@@ -155,6 +162,7 @@ module _ (old new : State) (served : Serves new → Serves old) {A : Type 0} (re
     works_now : (m₀ m : Queue) (k₀ k : Ledger) → Works old false m₀ k₀ m k → MeansNow old m k
     works_now m₀ m k₀ k works was = ((works was).goes_on refl).means
 
+    -- it keeps what a work means
     pub keeps_by : Keeps old false new (is_err result)
     keeps_by m₀ m k₀ k works s = kept result (read (was.goes_on refl).means.schema s.clean)
       where
@@ -174,6 +182,7 @@ module _ (old new : State) (served : Serves new → Serves old) {A : Type 0} (re
             committed (inl same) = same_tables m₀ k₀ same.0.committed_is was.began
             committed (inr undone) = same_tables m₀ k₀ (undone.undone s.is_open).1 was.began
 
+    -- inside a work, what it answers is so of all that the work means
     pub found_in : AnswersIn old false new result P
     found_in m₀ m k₀ k works s = answers m k (works_now m₀ m k₀ k works) s
 
@@ -188,6 +197,7 @@ module _ (old new : State) (served : Serves new → Serves old) {A : Type 0} (re
 -- a step of a work that is a call of it
 module _ (old new : State) {A : Type 0} (result : Result A StoreFault) (f : Queue → Queue) (g : Ledger → Ledger)
     (steps : (m₀ m : Queue) (k₀ k : Ledger) → Works old false m₀ k₀ m k → Serves new → Steps new result m₀ k₀ (f m) (g k)) where
+  -- where a call moves a work on by these changes, it changes it so
   pub changes_by : Changes old false new (is_err result) f g
   changes_by m₀ m k₀ k works s = after result (steps m₀ m k₀ k works s)
     where
@@ -249,18 +259,22 @@ pub refused_as : {A : Type 0} (result : Result A StoreFault) (fault : StoreFault
 refused_as (Ok a) fault is why = tt
 refused_as (Err e) fault is why = is ∙ why
 
+-- a step that was refused leaves the last commit
 pub refused_steps : {A : Type 0} (new : State) (result : Result A StoreFault) (fault : StoreFault) (m₀ m : Queue) (k₀ k : Ledger) → IsErrAnd result (λ e. e ≡ fault) → (fault ≡ Unavailable) × TablesMean new.committed m₀ k₀ → Steps new result m₀ k₀ m k
 refused_steps new (Ok a) fault m₀ m k₀ k is why = absurd is
 refused_steps new (Err e) fault m₀ m k₀ k is why = (is ∙ why.0, why.1)
 
+-- a step is a move
 pub moves_of : {A : Type 0} (new : State) (result : Result A StoreFault) (m₀ m : Queue) (k₀ k : Ledger) → Steps new result m₀ k₀ m k → Moves new result m₀ k₀ m k
 moves_of new (Ok a) m₀ m k₀ k h = h
 moves_of new (Err e) m₀ m k₀ k h = h.1
 
+-- a step is refused only for want of an answer
 pub steps_fault : {A : Type 0} (new : State) (result : Result A StoreFault) (m₀ m : Queue) (k₀ k : Ledger) → Steps new result m₀ k₀ m k → IfErr result (λ fault. fault ≡ Unavailable)
 steps_fault new (Ok a) m₀ m k₀ k h = tt
 steps_fault new (Err e) m₀ m k₀ k h = h.0
 
+-- a call that moves each work on by these changes changes it so
 pub moved_by : (old new : State) {A : Type 0} (result : Result A StoreFault) (f : Queue → Queue) (g : Ledger → Ledger) → ((m₀ m : Queue) (k₀ k : Ledger) → Works old false m₀ k₀ m k → Serves new → Moves new result m₀ k₀ (f m) (g k))
     → Changes old false new (is_err result) f g
 moved_by old new {A} result f g moves m₀ m k₀ k works s = after result (moves m₀ m k₀ k works s)
