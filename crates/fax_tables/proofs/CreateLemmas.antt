@@ -45,17 +45,21 @@ use Rattle.fax_schema.proofs.WriteLemmas.{went, unreferred, inserts}
 pub clean_before : (old new : State) → doubt old.is_clean ≤ doubt new.is_clean → HasCleanDisk new → HasCleanDisk old
 clean_before old new kept clean = omega arith
 
+-- what is done with one value is done with that alone
 same_ok : {A E : Type 0} {a b : A} → ◌≡◌ {A = Result A E} (Ok a) (Ok b) → a ≡ b
 same_ok e = cc
 
+-- tables with no rows have none where their rows were kept
 still_empty : (tables : List Table) (old new : Trees) → KeepsRows tables old new → AllByRecursion (λ t. old t.tree ≡ []) tables → AllByRecursion (λ t. new t.tree ≡ []) tables
 still_empty [] old new kept empty = tt
 still_empty (t ∷ ts) old new kept empty = (kept.0 ∙ empty.0, still_empty ts old new kept.1 empty.1)
 
+-- with one more table that has no rows, none has
 one_more : (tables : List Table) (new : Trees) (t : Table) → new t.tree ≡ [] → AllByRecursion (λ t. new t.tree ≡ []) tables → AllByRecursion (λ t. new t.tree ≡ []) (tables ++ t ∷ [])
 one_more [] new t own all = (own, tt)
 one_more (x ∷ xs) new t own all = (all.0, one_more xs new t own all.1)
 
+-- where none of the tables has rows, none but the last has either
 but_last : (tables : List Table) (new : Trees) (t : Table) → AllByRecursion (λ t. new t.tree ≡ []) (tables ++ t ∷ []) → AllByRecursion (λ t. new t.tree ≡ []) tables
 but_last [] new t all = tt
 but_last (x ∷ xs) new t all = (all.0, but_last xs new t all.1)
@@ -64,6 +68,7 @@ but_last (x ∷ xs) new t all = (all.0, but_last xs new t all.1)
 pub goes_on : (a b c : State) → GoesOn a b → GoesOn b c → GoesOn a c
 goes_on a b c first next = record { was_open = first.was_open; is_open = next.is_open; now_is = refl; committed_is = next.committed_is ∙ first.committed_is; mode = next.mode }
 
+-- in a transaction that went on, a commit that is kept behind it was kept from the start
 pub commit_kept : (a b c : State) → GoesOn a b → KeepsCommit b c → KeepsCommit a c
 commit_kept a b c first next = record { was_open = λ _. first.was_open; committed = λ is_open. next.committed is_open ∙ first.committed_is }
 
@@ -71,6 +76,7 @@ commit_kept a b c first next = record { was_open = λ _. first.was_open; committ
 pub refused_keeps : (old new : State) (sql : List ℕ) (e : Error) → Executes sql [] old new (Err e) → KeepsCommit old new
 refused_keeps old new sql e h = unchanged_keeps old new (fails_whole old new false sql [] e h)
 
+-- inside a transaction a statement that is done lets it go on
 pub inside_shown : (old new : State) (now : Database) → IsTrue old.in_transaction → Shows old new now (if old.in_transaction then old.committed else new.now) old.in_transaction → GoesOn old new
 inside_shown old new now inside h = record {
   was_open = h.was_open;
@@ -185,9 +191,11 @@ kept_rows (t ∷ ts) a b c first next = (next.0 ∙ first.0, kept_rows ts a b c 
 
 -- ---- all rows but those of `calls`
 
+-- where the schema has floors, the rows of floors are those of its table
 pub floors_there : (db : Database) (schema : Schema) → db.schema ≡ schema → has_floors schema ≡ true → floors_in db ≡ db.trees floors_tree
 floors_there db schema is there = ap (λ b. if b then db.trees floors_tree else []) (ap has_floors is ∙ there)
 
+-- and where it has none, there are none
 no_floors : (db : Database) (schema : Schema) → db.schema ≡ schema → has_floors schema ≡ false → floors_in db ≡ []
 no_floors db schema is none = ap (λ b. if b then db.trees floors_tree else []) (ap has_floors is ∙ none)
 
@@ -241,6 +249,7 @@ beside_empty old new was on is = record {
       (still_empty first_list old.now.trees new.now.trees is.renews.rows (but_last first_list old.now.trees schema.floors was.empty)));
 }
 
+-- the row of meta of an empty store is stored as it is
 stored_meta : cast_row schema.meta (meta_row empty_queue) ≡ meta_row empty_queue
 stored_meta = same_row (cast_int (pos 1)) (same_row cast_null (same_row (cast_int (pos 0)) (same_row (cast_int (pos 1)) (same_row (cast_int (pos 1)) (same_row (cast_int (pos 2)) refl)))))
 

@@ -49,10 +49,12 @@ module _ (o : Order) (places : List ℕ) (rows : List Row) (new : Row) (itself :
   abbrev clash : Row → Row → Bool
   clash r other = agree o places other places r && differ (rowid other) (rowid r)
 
+  -- the new row clashes with none
   of_new : (x : Row) → (x ≡ new) ⊎ Has rows x → clash new x ≡ false
   of_new x (inl is) = and_right _ _ (ap (λ y. differ (rowid y) (rowid new)) is ∙ itself)
   of_new x (inr has) = and_left _ _ (free x has)
 
+  -- a row that clashed with none doesn't clash with the new one either
   of_old : (r : Row) → Has rows r → clashes o places rows r ≡ false → (x : Row) → (x ≡ new) ⊎ Has rows x → clash r x ≡ false
   of_old r there was x (inl is) =
       and_left _ _ (ap (λ y. agree o places y places r) is ∙ elim (cases_Bool (agree o places new places r)) [
@@ -81,6 +83,7 @@ module _ (schema : Schema) (db : Trees) (table : Table) (new : Row) (was : Keeps
   abbrev IsApart : Table → List Row → Row → Type 0
   IsApart t rows r = list_all (λ i. not (guards i t && clashes i.order i.columns rows r)) schema.indexes ≡ true
 
+  -- under each index, each row of the table clashes with none
   one_index : (t : Table) (r : Row) → Has schema.tables t → t.tree ≡ table.tree → Has (put_row new (db table.tree)) r → (i : Index) → Has schema.indexes i
       → not (guards i t && clashes i.order i.columns (put_row new (db table.tree)) r) ≡ true
   one_index t r listed same there i has = elim (cases_Bool (guards i t)) [
@@ -98,6 +101,7 @@ module _ (schema : Schema) (db : Trees) (table : Table) (new : Row) (was : Keeps
           let apart = subst (λ tree. IsApart t (db tree) r) same (keeps_at Unique schema db t r was listed (subst (λ tree. Has (db tree) r) (sym same) old)) in
           parted _ _ guard (not-true _ (test_has _ schema.indexes i apart has))
 
+  -- each row of each table keeps the rule
   each : (t : Table) (r : Row) → Has schema.tables t → Has (after t.tree) r → passes Unique schema after t r ≡ true
   each t r listed there = elim (cases_Bool (t.tree == table.tree)) [
     | inl on ↦
@@ -108,6 +112,7 @@ module _ (schema : Schema) (db : Trees) (table : Table) (new : Row) (was : Keeps
         subst (λ rows. IsApart t rows r) (sym here) (keeps_at Unique schema db t r was listed (subst (λ rows. Has rows r) here there)))
   ]
 
+  -- the new row breaks no rule of uniqueness
   pub unique_still : Keeps Unique schema after
   unique_still = keeps_from Unique schema after each
 
@@ -117,6 +122,7 @@ module _ (schema : Schema) (db : Trees) (table : Table) (new : Row) (was : Keeps
 pub none_of : {X : Type 0} (q : X → Bool) (xs : List X) (x : X) → list_any q xs ≡ false → Has xs x → q x ≡ false
 none_of q xs x none has = false_from_ne_true (q x) (λ on. let e = sym (some_from q xs x has on) ∙ none in cc)
 
+-- where none is found, an element doesn't pass
 pub none_found : {X : Type 0} (q : X → Bool) (xs : List X) (x : X) → find q xs ≡ None → Has xs x → q x ≡ false
 none_found q [] x none has = absurd has
 none_found q (y ∷ ys) x none has = elim (cases_Bool (q y)) [
@@ -126,6 +132,7 @@ none_found q (y ∷ ys) x none has = elim (cases_Bool (q y)) [
 
 -- a record whose number none has
 module _ {X : Type 0} (row : X → Row) (num : X → ℕ) (ids : (x : X) → rowid (row x) ≡ number (num x)) where
+  -- rowids are equal just where the numbers are
   same_id : (x y : X) → is_eq (value_cmp (rowid (row y)) (rowid (row x))) ≡ (num y == num x)
   same_id x y = ap is_eq (ap₂ value_cmp (ids y) (ids x) ∙ value_cmp-Int (pos (num y)) (pos (num x))) ∙ grind (arith, nat_tests)
 
@@ -133,6 +140,7 @@ module _ {X : Type 0} (row : X → Row) (num : X → ℕ) (ids : (x : X) → row
   pub untaken : (x : X) (xs : List X) → is_taken (map row xs) (row x) ≡ false → (y : X) → Has xs y → (num y == num x) ≡ false
   untaken x xs free y has = sym (same_id x y) ∙ none_of (λ r. is_eq (value_cmp (rowid r) (rowid (row x)))) (map row xs) (row y) free (mapped_has row xs y has)
 
+  -- where no record has the number, the rowid isn't taken
   pub free_row : (x : X) (xs : List X) → find (λ y. num y == num x) xs ≡ None → is_taken (map row xs) (row x) ≡ false
   free_row x xs none =
       none_holds (λ r. is_eq (value_cmp (rowid r) (rowid (row x)))) (map row xs) (λ r has.

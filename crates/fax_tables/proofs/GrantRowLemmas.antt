@@ -12,6 +12,7 @@ pub record Fits (g : Grant) : Type 0 where
   pub last_page : g.last_page < 2 ^ 16
   pub confirmed : g.confirmed < 2 ^ 16
 
+-- a lawful grant's numbers fit their columns
 pub fits : (g : Grant) → IsLawfulGrant g → Fits g
 fits g lawful = record {
   number = let a = lawful.limits.number.1 in omega arith;
@@ -21,6 +22,7 @@ fits g lawful = record {
   confirmed = let a = lawful.limits.pages.2 in omega arith;
 }
 
+-- a grant with the fields of another is the other
 pub same_grant : (g : Grant) (number job : ℕ) (modem : List ℕ) (first_page last_page : ℕ) (call : Option Call) (confirmed : ℕ) (is_open : Bool)
     → number ≡ g.number → job ≡ g.job → modem ≡ g.modem → first_page ≡ g.first_page → last_page ≡ g.last_page → call ≡ g.call → confirmed ≡ g.confirmed → is_open ≡ g.is_open
     → ◌≡◌ {A = Grant} (record { number = number; job = job; modem = modem; first_page = first_page; last_page = last_page; call = call; confirmed = confirmed; is_open = is_open }) g

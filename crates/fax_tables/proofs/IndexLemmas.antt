@@ -4,6 +4,7 @@ use Rattle.std.proofs.lemmas.List.{take_more}
 use Rattle.sqlite_rules.specs.Lists.{Has}
 use Rattle.sqlite_rules.proofs.ListLemmas.{has_at}
 
+-- a mapped list has as many elements
 pub length_map : {X Y : Type 0} (f : X → Y) (xs : List X) → length (map f xs) ≡ length xs
 length_map f [] = refl
 length_map f (x ∷ xs) = ap suc (length_map f xs)
@@ -14,16 +15,19 @@ pub record IsAt {X Y : Type 0} (f : X → Y) (xs : List X) (i : ℕ) (x : X) : T
   pub has : Has xs x
   pub more : take (i + 1) xs ≡ take i xs ++ x ∷ []
 
+-- a place within a list has an element
 picked : {X : Type 0} (xs : List X) (i : ℕ) → i < length xs → (x : X) × (x ≡ get_or xs i x)
 picked [] i low = absurd (omega arith)
 picked (x ∷ xs) zero low = (x, refl)
 picked (x ∷ xs) (suc i) low = picked xs i (omega arith)
 
+-- what stands in that place of the mapped list is made of it
 mapped_at : {X Y : Type 0} (f : X → Y) (xs : List X) (i : ℕ) (x : X) → i < length xs → x ≡ get_or xs i x → (d : Y) → get_or (map f xs) i d ≡ f x
 mapped_at f [] i x low is d = absurd (omega arith)
 mapped_at f (y ∷ xs) zero x low is d = ap f (sym is)
 mapped_at f (y ∷ xs) (suc i) x low is d = mapped_at f xs i x (omega arith) is d
 
+-- a place within a list has an element, and what the record says of it
 pub at_index : {X Y : Type 0} (f : X → Y) (xs : List X) (i : ℕ) → i < length xs → (x : X) × IsAt f xs i x
 at_index f xs i low =
     let it = picked xs i low in (

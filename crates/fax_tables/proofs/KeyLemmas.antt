@@ -38,22 +38,27 @@ module _ {X : Type 0} (row : X → Row) (num : X → ℕ) (ids : (x : X) → row
       let first = all_has (λ r. value_cmp (rowid (row y)) (rowid r) ≡ Less) (map row ys) (row x) rise.0 (mapped_has row ys x more) in
       rw (apart y x first) (only_numbered ys x rise.1 more)
 
+  -- where no record has the number, none is found
   pub none_numbered : (xs : List X) (n : ℕ) → ((x : X) → Has xs x → (num x == n) ≡ false) → find (λ x. num x == n) xs ≡ None
   none_numbered [] n none = refl
   none_numbered (x ∷ xs) n none = rw (none x (inl refl)) (none_numbered xs n (λ y has. none y (inr has)))
 
   -- a test of the key alone
   module _ (n : ℕ) (p : Row → Bool) (by_key : (r : Row) → p r ≡ (are_equal (rowid r) (number n) && true)) where
+    -- an and with true is true only where the other is
     first : (b : Bool) → (b && true) ≡ true → b ≡ true
     first true h = refl
     first false h = h
 
+    -- a row that passes is of the record with this number
     pub asked_is : (x : X) → p (row x) ≡ true → num x ≡ n
     asked_is x h = same_number (num x) n (first _ (ap (λ v. are_equal v (number n) && true) (sym (ids x)) ∙ sym (by_key (row x)) ∙ h))
 
+    -- the row of that record passes
     pub is_asked : (x : X) → num x ≡ n → p (row x) ≡ true
     is_asked x e = by_key (row x) ∙ ap (λ v. are_equal v (number n) && true) (ids x) ∙ ap (λ i. are_equal (number i) (number n) && true) e ∙ ap (λ b. b && true) (number_same n)
 
+    -- a row that doesn't pass is of another number
     pub not_asked : (x : X) → p (row x) ≡ false → (num x == n) ≡ false
     not_asked x off = elim (cases_Bool (num x == n)) [
       | inl same ↦ absurd (let e = sym (is_asked x (eqb-true (num x) n same)) ∙ off in cc)
@@ -74,6 +79,7 @@ module _ {X : Type 0} (row : X → Row) (num : X → ℕ) (ids : (x : X) → row
 
 -- ---- what a found row tells
 
+-- a row that was found is of a record that was
 pub is_there : {X : Type 0} (shown : X → Row) (o : Option X) (row : Row) → Some row ≡ option_map shown o → (x : X) × (o ≡ Some x) × (row ≡ shown x)
 is_there shown None row h = absurd cc
 is_there shown (Some x) row h = (x, refl, same h)
@@ -81,6 +87,7 @@ is_there shown (Some x) row h = (x, refl, same h)
     same : {A : Type 0} {a b : A} → ◌≡◌ {A = Option A} (Some a) (Some b) → a ≡ b
     same h = cc
 
+-- where no row was found, no record was
 pub is_none : {X : Type 0} (shown : X → Row) (o : Option X) → None ≡ option_map shown o → o ≡ None
 is_none shown None h = refl
 is_none shown (Some x) h = absurd cc
@@ -91,11 +98,13 @@ found_holds P q xs x all found = all_has P xs x (recursion_from_All P xs all) (h
 
 -- ---- one more record
 
+-- a rowid that is fresh isn't taken
 pub free_of : (rows : List Row) (new : Row) → are_fresh rows (new ∷ []) ≡ true → is_taken rows new ≡ false
 free_of rows new fresh = not-true _ (and_parts (not (is_taken rows new)) true fresh).0
 
 -- a row whose rowid is not taken stands in its place among those of records
 module _ {X : Type 0} (row : X → Row) (num : X → ℕ) (ids : (x : X) → rowid (row x) ≡ number (num x)) where
+  -- the row is put where the record is placed
   pub row_placed : (x : X) (xs : List X) → is_taken (map row xs) (row x) ≡ false → put_row (row x) (map row xs) ≡ map row (placed num x xs)
   row_placed x [] free = refl
   row_placed x (y ∷ ys) free = by (int_cmp (pos (num y)) (pos (num x))) refl (row_placed x ys parts.1)
@@ -119,6 +128,7 @@ module _ {X : Type 0} (row : X → Row) (num : X → ℕ) (ids : (x : X) → row
           let above : nat_lt (num y) (num x) ≡ false = grind (arith, nat_tests) in
           rw (compare, e, above) refl
 
+  -- what holds of the record and of the others holds of all once it is placed
   pub all_placed : (P : X → Type 0) (x : X) (xs : List X) → P x → All P xs → All P (placed num x xs)
   all_placed P x [] own all = All-cons P x [] own all
   all_placed P x (y ∷ ys) own all = elim (cases_Bool (nat_lt (num y) (num x))) [

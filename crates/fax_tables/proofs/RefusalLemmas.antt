@@ -52,12 +52,15 @@ pub record MayStand (schema : Schema) (db : Trees) (table : Table) (row : Row) :
   pub fresh : is_taken (db table.tree) row ≡ false
   pub unique : Keeps Unique schema (with_tree db table.tree (put_row row (db table.tree)))
 
+-- what is refused with one fault is refused with that alone
 same_stop : {B E : Type 0} {a b : E} → ◌≡◌ {A = Result B E} (Err a) (Err b) → a ≡ b
 same_stop e = cc
 
+-- what was refused wasn't done
 never : {B E : Type 0} {a : E} {b : B} → ◌≡◌ {A = Result B E} (Err a) (Ok b) → ⊥
 never e = cc
 
+-- Some of two values is the same only where they are
 same_some : {A : Type 0} {a b : A} → ◌≡◌ {A = Option A} (Some a) (Some b) → a ≡ b
 same_some e = cc
 
@@ -93,6 +96,7 @@ stopped schema db edit none why (inr (inr went)) = absurd (settled went.2.0 (rw 
 
 -- ---- what refuses a statement, beside what it does
 
+-- a fault of the disk, of memory or of the file is no broken rule
 store_fault : (cause : StoreError) → fault_of (store_error cause) ≡ Unavailable
 store_fault OutOfMemory = refl
 store_fault Io = refl
@@ -101,25 +105,30 @@ store_fault Full = refl
 store_fault Broken = refl
 store_fault Unstorable = refl
 
+-- nor is a statement in the wrong place
 misplaced : (s : State) (command : Command) (e : Error) → IsMisplaced s command e → fault_of e ≡ Unavailable
 misplaced s command e (inl h) = ap fault_of h.0
 misplaced s command e (inr h) = ap fault_of h.0
 
+-- nor a text that is no statement
 no_statement : (s : State) (sql : List ℕ) (params : Row) (e : Error) → IsNoStatement s sql params e → fault_of e ≡ Unavailable
 no_statement s sql params e (inl h) = ap fault_of h.2
 no_statement s sql params e (inr h) = elim h.2 [ inl many ↦ ap fault_of many.1 | inr others ↦ elim others [ inl params ↦ ap fault_of params.1 | inr clock ↦ ap fault_of clock.1 ] ]
 
 module _ (sql : List ℕ) (params : Row) (old new : State) (schema : Schema) (has : old.now.schema ≡ schema) (command : Command) (is : command_of (understood schema sql) ≡ command)
     (plain : IsPlain (understood schema sql)) where
+  -- a text that wasn't run broke no rule
   not_run : (e : Error) → IsNotRun old new sql params e → fault_of e ≡ Unavailable
   unfolding IsNotRun
   not_run e (inl h) = no_statement old sql params e h.0
   not_run e (inr h) = ap fault_of h.1 ∙ store_fault h.0
 
+  -- a command that was refused broke no rule, or was refused by what it does
   by_run : (c : Compiled) (full : Row) (e : Error) → RunsCommand old new sql c full (Err e) → (fault_of e ≡ Unavailable) ⊎ Does old.step_limit (mode_of old) full old.now (text_of sql c) c.returning c.command (Err (Some e))
   by_run c full e (inl h) = elim h.0 [ inl off ↦ inl (misplaced old c.command e off) | inr does ↦ inr does.1 ]
   by_run c full e (inr h) = inl (ap fault_of h.1 ∙ store_fault h.0)
 
+  -- so was the text
   refused_as : (e : Error) → Executes sql params old new (Err e) → (fault_of e ≡ Unavailable) ⊎ Does old.step_limit (mode_of old) params old.now (statement_of sql (understood schema sql)) None command (Err (Some e))
   unfolding ExecutesIn
   refused_as e (inl h) = inl (not_run e h)
@@ -150,11 +159,13 @@ module _ (name : List ℕ) (tree : ℕ) (columns : List Column) (key : Option �
   abbrev command : Command
   command = Insert at (Values terms width)
 
+  -- a fault in working out the row's values is no broken rule
   sourced : (stop : Option Error) → Sourced old.step_limit (record { schema = our_tables; trees = old.now.trees }) (params ++ []) (Values terms width) (Err stop) → IsExcused stop
   sourced None h = absurd h
   sourced (Some e) (inl h) = ap fault_of h.0
   sourced (Some e) (inr h) = ap fault_of h.0
 
+  -- a fault in writing the row is no broken rule
   edited : (rows : List Row) → rows ≡ source ∷ [] → (stop : Option Error) (why : Option Refusal) → Writes our_tables Enforced old.now.trees (edit_of old.now.trees table [] Chosen 0 rows) (Err why)
       → stop ≡ option_map edit_error why → IsExcused stop
   edited rows is stop why h named =
@@ -167,6 +178,7 @@ module _ (name : List ℕ) (tree : ℕ) (columns : List Column) (key : Option �
             (unbroken our_tables old.now.trees table row may refused.0 (subst (λ n. IsRefused our_tables Enforced old.now.trees (record { table = table; gone = []; news = n }) refused.0) news refused.2))
       ]
 
+  -- nor is one of the whole insert
   inserting : (stop : Option Error) → Inserts task (Values terms width) old.now.trees (Err stop) → IsExcused stop
   inserting stop h = elim h [
     | inl none ↦ subst IsExcused (sym (same_stop none.2)) (sourced none.0 none.1)
@@ -181,12 +193,14 @@ module _ (name : List ℕ) (tree : ℕ) (columns : List Column) (key : Option �
     ]
   ]
 
+  -- nor one behind the write
   concluding : (w : Written) (stop : Option Error) → Concludes task (mode_of old) None w (Err stop) → IsExcused stop
   concluding w stop h = elim h [
     | inl tested ↦ absurd (tested.1.0 (unasked All w.trees))
     | inr on ↦ elim on.2 [ inl shown ↦ absurd (never shown.1) | inr given ↦ absurd (never given.2) ]
   ]
 
+  -- so the command is refused for want of an answer alone
   does : (text : List ℕ) (e : Error) → Does old.step_limit (mode_of old) params old.now text None command (Err (Some e)) → fault_of e ≡ Unavailable
   does text e h =
       let out : Result (Tally × Database) (Option Error) = Err (Some e) in

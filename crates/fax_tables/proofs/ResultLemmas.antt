@@ -7,6 +7,7 @@ use Rattle.fax_tables.specs.Fault.{OrUnavailable}
 use Rattle.std.specs.Borrow.{GName, name_if_ok}
 use mathlib.Core.Option as maybe
 
+-- what is known anyway is known of an error
 pub on_err : {T E : Type 0} (r : Result T E) {P : Type 0} → P → OnErr r P
 on_err (Ok x) p = tt
 on_err (Err e) p = p
@@ -16,6 +17,7 @@ pub rests_at_err : {T E R : Type 0} (r : Result T E) (name : T → GName) (now :
 rests_at_err (Ok x) name now is p = absurd (let e = is in cc)
 rests_at_err (Err e) name now is p = (refl, λ w. tt, p)
 
+-- a list with one more at its end has it
 has_last : {X : Type 0} (xs : List X) (x : X) → Has (xs ++ x ∷ []) x
 has_last [] x = inl refl
 has_last (y ∷ ys) x = inr (has_last ys x)

@@ -15,9 +15,11 @@ use Rattle.fax_tables.specs.Row.{HasValue, HasNumber, number, phase_number, wish
 use Rattle.fax_job.specs.Spelling.{printed}
 use Rattle.sqlite.specs.declared.types.Value.TheVariants.{Text}
 
+-- a row that is this one has the value of this one in its place
 pub has_value : (row shown : Row) (at : ℕ) (v : Value) → row ≡ shown → at < length shown → column shown at ≡ v → HasValue row at v
 has_value row shown at v is within there = record { within = subst (λ r. at < length r) (sym is) within; is = ap (λ r. column r at) is ∙ there }
 
+-- the same of a number
 pub has_number : (row shown : Row) (at n : ℕ) → row ≡ shown → at < length shown → column shown at ≡ number n → HasNumber row at n
 has_number row shown at n is within there = has_value row shown at (number n) is within there
 
@@ -25,6 +27,7 @@ has_number row shown at n is within there = has_value row shown at (number n) is
 pub brief_value : (row : Row) (job : JobFields) (behind : Row) (at : ℕ) (v : Value) → row ≡ brief_shown job ++ behind → at < 19 → column (brief_shown job ++ behind) at ≡ v → HasValue row at v
 brief_value row job behind at v is low there = has_value row (brief_shown job ++ behind) at v is (omega (arith, low, length-append (brief_shown job) behind)) there
 
+-- the same of a number
 pub brief_number : (row : Row) (job : JobFields) (behind : Row) (at n : ℕ) → row ≡ brief_shown job ++ behind → at < 19 → column (brief_shown job ++ behind) at ≡ number n → HasNumber row at n
 brief_number row job behind at n is low there = brief_value row job behind at (number n) is low there
 
@@ -36,9 +39,11 @@ brief_lawful job h = ap (λ b. b && true) (and_parts _ _ h).0
 pub made : (f g : JobFields) (r : Option JobFields) (j : JobFields) → r ≡ (if is_lawful f then Some f else None) → f ≡ g → IsLawful g → r ≡ Some j → j ≡ g
 made f g r j new same lawful is = let yes : is_lawful f ≡ true = ap is_lawful same ∙ lawful in let some : Some j ≡ Some f = sym is ∙ new ∙ ap (λ b. if b then Some f else None) yes in same_Some j f some ∙ same
 
+-- fields of a lawful job are a job
 pub not_none : (f g : JobFields) (r : Option JobFields) → r ≡ (if is_lawful f then Some f else None) → f ≡ g → IsLawful g → r ≡ None → ⊥
 not_none f g r new same lawful is = let yes : is_lawful f ≡ true = ap is_lawful same ∙ lawful in none-some f (sym is ∙ new ∙ ap (λ b. if b then Some f else None) yes)
 
+-- a prospect with the fields of a job's is the job's
 pub same_prospect : (job : JobFields) (number : ℕ) (dial modem : List ℕ) (priority tts : ℕ) → number ≡ job.job → dial ≡ job.dial → modem ≡ job.modem → priority ≡ job.priority → tts ≡ job.tts
     → ◌≡◌ {A = Prospect} (record { job = number; dial = dial; modem = modem; priority = priority; tts = tts }) (prospect job)
 same_prospect job number dial modem priority tts e0 e1 e2 e3 e4 = rw (e0, e1, e2, e3, e4) refl
@@ -56,6 +61,7 @@ pub record Fits (job : JobFields) : Type 0 where
   pub maxdials : job.maxdials < 2 ^ 16
   pub next : job.next < 2 ^ 32
 
+-- a lawful job's numbers fit their columns
 pub fits : (job : JobFields) → IsLawful job → Fits job
 fits job h =
     let unknown = and_parts _ _ h in
@@ -86,9 +92,11 @@ fits job h =
       next = let a = leb-true job.next 4102531200 next.1 in omega arith;
     }
 
+-- a lawful job has a lawful kill time
 pub killtime_of : (job : JobFields) → IsLawful job → is_lawful_killtime job.killtime ≡ true
 killtime_of job h = (and_parts _ _ (and_parts _ _ (and_parts _ _ (and_parts _ _ (and_parts _ _ (and_parts _ _ h).0).0).0).0).0).1
 
+-- a job with the fields of another is the other
 pub same_fields : (j : JobFields) (job : ℕ) (dial : List ℕ) (modem : List ℕ) (jobtag : List ℕ) (tts : ℕ) (killtime : Option ℕ) (priority : ℕ) (npages : ℕ) (totpages : ℕ) (ntries : ℕ) (tottries : ℕ) (maxtries : ℕ) (ndials : ℕ) (totdials : ℕ) (maxdials : ℕ) (phase : Phase) (wish : Wish) (next : ℕ) (status : List ℕ) (extra : List Pair)
     → job ≡ j.job → dial ≡ j.dial → modem ≡ j.modem → jobtag ≡ j.jobtag → tts ≡ j.tts → killtime ≡ j.killtime → priority ≡ j.priority → npages ≡ j.npages → totpages ≡ j.totpages → ntries ≡ j.ntries → tottries ≡ j.tottries → maxtries ≡ j.maxtries → ndials ≡ j.ndials → totdials ≡ j.totdials → maxdials ≡ j.maxdials → phase ≡ j.phase → wish ≡ j.wish → next ≡ j.next → status ≡ j.status → extra ≡ j.extra
     → ◌≡◌ {A = JobFields} (record { job = job; dial = dial; modem = modem; jobtag = jobtag; tts = tts; killtime = killtime; priority = priority; npages = npages; totpages = totpages; ntries = ntries; tottries = tottries; maxtries = maxtries; ndials = ndials; totdials = totdials; maxdials = maxdials; phase = phase; wish = wish; next = next; status = status; extra = extra }) j
@@ -112,6 +120,7 @@ pub changed_by : (j : JobFields) (modem jobtag status : List ℕ) (tts killtime 
     → number j.job ∷ Text modem ∷ Text jobtag ∷ Text status ∷ number tts ∷ number killtime ∷ number priority ∷ number npages ∷ number ntries ∷ number tottries ∷ number maxtries ∷ number ndials ∷ number totdials ∷ number maxdials ∷ number phase ∷ number wish ∷ number j.next ∷ [] ≡ change_params j
 changed_by j modem jobtag status tts killtime priority npages ntries tottries maxtries ndials totdials maxdials phase wish e0 e1 e2 e3 e4 e5 e6 e7 e8 e9 e10 e11 e12 e13 e14 = rw (e0, e1, e2, e3, e4, e5, e6, e7, e8, e9, e10, e11, e12, e13, e14) refl
 
+-- no more pages of a lawful job are sent than it has
 pub sent_low : (job : JobFields) → IsLawful job → job.npages ≤ job.totpages
 sent_low job h =
     let pages = and_parts _ _ (and_parts _ _ (and_parts _ _ (and_parts _ _ (and_parts _ _ h).0).0).0).0 in

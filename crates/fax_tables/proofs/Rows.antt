@@ -13,12 +13,15 @@ use Rattle.fax_tables.specs.Row.{phase_number, wish_number, call_number, job_row
 
 -- ---- numbers that stand for words
 
+-- the phases have the numbers 0 to 4
 phases : map phase_number (Held ∷ Waiting ∷ Granted ∷ Done ∷ Failed ∷ []) ≡ 0 ∷ 1 ∷ 2 ∷ 3 ∷ 4 ∷ []
 phases = refl
 
+-- the wishes have the numbers 0 to 2
 wishes : map wish_number (Go ∷ Hold ∷ Kill ∷ []) ≡ 0 ∷ 1 ∷ 2 ∷ []
 wishes = refl
 
+-- how a call ended has the numbers 0 to 5, where 0 is not yet
 calls : map call_number (None ∷ Some Connected ∷ Some Busy ∷ Some NoAnswer ∷ Some NoCarrier ∷ Some Other ∷ []) ≡ 0 ∷ 1 ∷ 2 ∷ 3 ∷ 4 ∷ 5 ∷ []
 calls = refl
 
@@ -48,6 +51,7 @@ job = record {
   extra = pair (codes "x-note") (codes "a b") ∷ [];
 }
 
+-- the job as its row: rowid, NULL, and its columns
 job_stands : job_row job ≡
     Int (pos 7) ∷ Null ∷ Text (codes "5550111") ∷ Text (codes "any") ∷ Text (codes "memo") ∷ Text (codes "Busy") ∷ Text (codes "x-note:a b" ++ 10 ∷ []) ∷ Int (pos 1000) ∷ Int (pos 5000) ∷ Int (pos 127)
     ∷ Int (pos 1) ∷ Int (pos 3) ∷ Int (pos 0) ∷ Int (pos 2) ∷ Int (pos 4) ∷ Int (pos 5) ∷ Int (pos 6) ∷ Int (pos 12) ∷ Int (pos 2) ∷ Int (pos 2) ∷ Int (pos 77) ∷ []
@@ -59,27 +63,35 @@ grant = record { number = 1; job = 7; modem = codes "ttyS0"; first_page = 2; las
 abbrev pub closed : Grant
 closed = record grant { is_open = false }
 
+-- the open grant as its row, which ends with 0
 grant_stands : grant_row grant ≡ Int (pos 1) ∷ Null ∷ Int (pos 7) ∷ Text (codes "ttyS0") ∷ Int (pos 2) ∷ Int (pos 3) ∷ Int (pos 1) ∷ Int (pos 4) ∷ Int (pos 0) ∷ []
 grant_stands = refl
 
+-- the closed grant as its row, which ends with 1
 closed_stands : grant_row closed ≡ Int (pos 1) ∷ Null ∷ Int (pos 7) ∷ Text (codes "ttyS0") ∷ Int (pos 2) ∷ Int (pos 3) ∷ Int (pos 1) ∷ Int (pos 4) ∷ Int (pos 1) ∷ []
 closed_stands = refl
 
+-- its hold: modem, job and grant
 hold_stands : hold_columns grant ≡ Text (codes "ttyS0") ∷ Int (pos 7) ∷ Int (pos 1) ∷ []
 hold_stands = refl
 
+-- a modem that is down
 down_stands : down_columns (codes "ttyS1") ≡ Text (codes "ttyS1") ∷ []
 down_stands = refl
 
+-- a kept reply: client, number, what was said, status and body
 reply_stands : entry_columns (entry (codes "ann") 9 (codes "/jobs") 201 (codes "{}")) ≡ Text (codes "ann") ∷ Int (pos 9) ∷ Blob (codes "/jobs") ∷ Int (pos 201) ∷ Blob (codes "{}") ∷ []
 reply_stands = refl
 
+-- meta: the clock, the next numbers and version 2
 meta_stands : meta_row (record empty_queue { clock = 5; next_job = 8; next_grant = 3 }) ≡ Int (pos 1) ∷ Null ∷ Int (pos 5) ∷ Int (pos 8) ∷ Int (pos 3) ∷ Int (pos 2) ∷ []
 meta_stands = refl
 
+-- a number to dial, with two calls
 call_stands : call_columns (codes "5550111") 2 ≡ Text (codes "5550111") ∷ Int (pos 2) ∷ []
 call_stands = refl
 
+-- a client with the floor 3
 floor_stands : floor_columns (codes "desk") 3 ≡ Text (codes "desk") ∷ Int (pos 3) ∷ []
 floor_stands = refl
 

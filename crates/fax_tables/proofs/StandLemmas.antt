@@ -20,6 +20,7 @@ use Rattle.fax_tables.proofs.FreeLemmas.{no_other, chosen_free, unique_still}
 use Rattle.fax_tables.proofs.RefusalLemmas.{MayStand}
 
 module _ (db : Database) (ours : db.schema ≡ our_tables) (sound : IsDatabase db) where
+  -- the rules of uniqueness hold
   apart : Keeps Unique our_tables db.trees
   apart = subst (λ s. Keeps Unique s db.trees) ours (sound.obeys.rules Unique)
 
@@ -33,6 +34,7 @@ module _ (db : Database) (ours : db.schema ≡ our_tables) (sound : IsDatabase d
     unique = unique_still our_tables db.trees schema.jobs (job_row f) apart (no_other _) (λ g. absurd (false≢true g), (λ g. absurd (false≢true g), (λ g. absurd (false≢true g), (λ g. absurd (false≢true g), (λ g. absurd (false≢true g), (λ g. absurd (false≢true g), (λ g. absurd (false≢true g), (λ g. absurd (false≢true g), (λ g. absurd (false≢true g), tt)))))))));
   }
 
+  -- a grant may stand there where its number isn't taken
   pub grant_may : (g : Grant) → is_taken (db.trees grants_tree) (grant_row g) ≡ false → MayStand our_tables db.trees schema.grants (grant_row g)
   grant_may g free = record {
     typed = refl;
@@ -56,6 +58,7 @@ module _ (db : Database) (ours : db.schema ≡ our_tables) (sound : IsDatabase d
     unique = unique_still our_tables db.trees schema.holds (Int (next_rowid (db.trees holds_tree)) ∷ hold_columns g) apart (no_other _) (λ g. modem, (λ g. job, (λ g. id, (λ g. absurd (false≢true g), (λ g. absurd (false≢true g), (λ g. absurd (false≢true g), (λ g. absurd (false≢true g), (λ g. absurd (false≢true g), (λ g. absurd (false≢true g), tt)))))))));
   }
 
+  -- a modem is marked down once
   pub down_may : (modem : List ℕ) → IsByRowid (db.trees down_tree) → ((x : Row) → Has (db.trees down_tree) x → agree plain (1 ∷ []) x (1 ∷ []) (Int (next_rowid (db.trees down_tree)) ∷ down_columns modem) ≡ false)
       → MayStand our_tables db.trees schema.down (Int (next_rowid (db.trees down_tree)) ∷ down_columns modem)
   down_may modem by free = record {
@@ -66,6 +69,7 @@ module _ (db : Database) (ours : db.schema ≡ our_tables) (sound : IsDatabase d
     unique = unique_still our_tables db.trees schema.down (Int (next_rowid (db.trees down_tree)) ∷ down_columns modem) apart (no_other _) (λ g. absurd (false≢true g), (λ g. absurd (false≢true g), (λ g. absurd (false≢true g), (λ g. free, (λ g. absurd (false≢true g), (λ g. absurd (false≢true g), (λ g. absurd (false≢true g), (λ g. absurd (false≢true g), (λ g. absurd (false≢true g), tt)))))))));
   }
 
+  -- a client's number has one reply
   pub reply_may : (e : Entry) → IsByRowid (db.trees replies_tree) → ((x : Row) → Has (db.trees replies_tree) x → agree plain (1 ∷ 2 ∷ []) x (1 ∷ 2 ∷ []) (Int (next_rowid (db.trees replies_tree)) ∷ entry_columns e) ≡ false)
       → MayStand our_tables db.trees schema.replies (Int (next_rowid (db.trees replies_tree)) ∷ entry_columns e)
   reply_may e by free = record {
@@ -76,6 +80,7 @@ module _ (db : Database) (ours : db.schema ≡ our_tables) (sound : IsDatabase d
     unique = unique_still our_tables db.trees schema.replies (Int (next_rowid (db.trees replies_tree)) ∷ entry_columns e) apart (no_other _) (λ g. absurd (false≢true g), (λ g. absurd (false≢true g), (λ g. absurd (false≢true g), (λ g. absurd (false≢true g), (λ g. free, (λ g. absurd (false≢true g), (λ g. absurd (false≢true g), (λ g. absurd (false≢true g), (λ g. absurd (false≢true g), tt)))))))));
   }
 
+  -- a number to dial is counted once
   pub call_may : (dial : List ℕ) (n : ℕ) → IsByRowid (db.trees calls_tree) → ((x : Row) → Has (db.trees calls_tree) x → agree plain (1 ∷ []) x (1 ∷ []) (Int (next_rowid (db.trees calls_tree)) ∷ call_columns dial n) ≡ false)
       → MayStand our_tables db.trees schema.calls (Int (next_rowid (db.trees calls_tree)) ∷ call_columns dial n)
   call_may dial n by free = record {

@@ -40,6 +40,7 @@ inside_commits_nothing s sql params never inside found h =
       | inr outside ↦ both_ways _ outside.0 inside
     ]
 
+-- what a text is understood as has this command
 known_command : (r : Result Compiled CompileError) (c : Compiled) → r ≡ Ok c → command_of r ≡ c.command
 known_command r c is = ap command_of is
 
@@ -53,6 +54,7 @@ any_holds_back old new P sql known survives was = nothing_by old new (CommitsBy 
         let on = known (was clean) in
         inside_commits_nothing old sql [] (λ c understood_as ends. on.3 (subst Ends (sym (known_command (understood old.now.schema sql) c understood_as) ∙ on.2) ends)) on.0 found
 
+-- the same of a command that is known
 pub command_holds_back : (old new : State) (P : State → Type 0) (sql : List ℕ) (command : Command) → (Ends command → ⊥) → (P old → IsTrue old.in_transaction × (command_of (understood old.now.schema sql) ≡ command))
     → Survives old new (CommitsBy sql [] old) → HoldsBack P old new
 command_holds_back old new P sql command never known = any_holds_back old new P sql (λ was. let on = known was in (on.0, command, on.1, never))

@@ -142,6 +142,7 @@ Parts db m held count k = PartsOf db (content m held count k)
 abbrev pub calls_of : Queue → List ℕ → ℕ
 calls_of m dial = calls_to dial m
 
+-- what the tables mean is said of the rows of each
 pub parts_of : (db : Database) (m : Queue) (k : Ledger) → TablesMean db m k → Parts db m (open_grants m) (calls_of m) k
 parts_of db m k means = record { schema = means.schema; sound = means.sound; says = says }
   where
@@ -155,6 +156,7 @@ parts_of db m k means = record { schema = means.schema; sound = means.sound; say
     says floors = record { is = means.floors; ordered = means.ordered.floors; lawful = means.lawful.floors }
     says calls = record { is = means.calls; ordered = means.ordered.calls }
 
+-- and what is said of the rows of each is what the tables mean, where each open grant has its job
 pub means_of : (db : Database) (m : Queue) (k : Ledger) → HaveJobs m → Parts db m (open_grants m) (calls_of m) k → TablesMean db m k
 means_of db m k held parts =
     let of_jobs = parts.says jobs in
@@ -213,6 +215,7 @@ rows_kept old new tree keeps calls apart = keeps.others.1.1.1.1.1.1.1.0 apart
 abbrev Stays : ℕ → State → Content → Content → Name → Type 0
 Stays tree new c after name = Says name after (new.now.trees (tree_of name)) ⊎ ((tree_of name ≢ tree) × ((rows : List Row) → Says name c rows → Says name after rows))
 
+-- where one table changed, what is said of the rows of each is said still or anew
 pub changed : (tree : ℕ) (old new : State) (c after : Content) → KeepsOthers our_tables tree old new → ((name : Name) → Stays tree new c after name) → PartsOf old.now c → PartsOf new.now after
 changed tree old new c after keeps each was = record { schema = keeps.schema_is; sound = keeps.sound; says = λ name. by name (each name) }
   where
@@ -224,6 +227,7 @@ module _ (old new : State) (m : Queue) (held : List Grant) (count : List ℕ →
   abbrev before : Content
   before = content m held count k
 
+  -- jobs changed alone
   pub jobs_changed : KeepsOthers our_tables jobs_tree old new → (js : List Job) → AreRecords row_of IsLawfulJob (new.now.trees jobs_tree) js → Parts new.now (record m { jobs = js }) held count k
   jobs_changed keeps js now = changed jobs_tree old new before (content (record m { jobs = js }) held count k) keeps each was
     where
@@ -231,6 +235,7 @@ module _ (old new : State) (m : Queue) (held : List Grant) (count : List ℕ →
       each jobs = inl now
       each _ = inr ((λ e. absurd (omega arith)), λ rows says. says)
 
+  -- grants changed alone
   pub grants_changed : KeepsOthers our_tables grants_tree old new → (gs : List Grant) → AreRecords grant_row IsLawfulGrant (new.now.trees grants_tree) gs → Parts new.now (record m { grants = gs }) held count k
   grants_changed keeps gs now = changed grants_tree old new before (content (record m { grants = gs }) held count k) keeps each was
     where
@@ -238,6 +243,7 @@ module _ (old new : State) (m : Queue) (held : List Grant) (count : List ℕ →
       each grants = inl now
       each _ = inr ((λ e. absurd (omega arith)), λ rows says. says)
 
+  -- holds changed alone
   pub holds_changed : KeepsOthers our_tables holds_tree old new → (now_held : List Grant) → AreHeld (new.now.trees holds_tree) now_held → Parts new.now m now_held count k
   holds_changed keeps now_held now = changed holds_tree old new before (content m now_held count k) keeps each was
     where
@@ -245,6 +251,7 @@ module _ (old new : State) (m : Queue) (held : List Grant) (count : List ℕ →
       each holds = inl now
       each _ = inr ((λ e. absurd (omega arith)), λ rows says. says)
 
+  -- `down` changed alone
   pub down_changed : KeepsOthers our_tables down_tree old new → (ds : List (List ℕ)) → AreColumns down_columns IsName (new.now.trees down_tree) ds → Parts new.now (record m { down = ds }) held count k
   down_changed keeps ds now = changed down_tree old new before (content (record m { down = ds }) held count k) keeps each was
     where
@@ -252,6 +259,7 @@ module _ (old new : State) (m : Queue) (held : List Grant) (count : List ℕ →
       each down = inl now
       each _ = inr ((λ e. absurd (omega arith)), λ rows says. says)
 
+  -- replies changed alone
   pub replies_changed : KeepsOthers our_tables replies_tree old new → (rs : List Entry) → AreColumns entry_columns IsLawfulEntry (new.now.trees replies_tree) rs → Parts new.now m held count (record k { replies = rs })
   replies_changed keeps rs now = changed replies_tree old new before (content m held count (record k { replies = rs })) keeps each was
     where
@@ -259,6 +267,7 @@ module _ (old new : State) (m : Queue) (held : List Grant) (count : List ℕ →
       each replies = inl now
       each _ = inr ((λ e. absurd (omega arith)), λ rows says. says)
 
+  -- floors changed alone
   pub floors_changed : KeepsOthers our_tables floors_tree old new → (floor : List ℕ → ℕ) → AreFloors floor (new.now.trees floors_tree) → Parts new.now m held count (record k { floor = floor })
   floors_changed keeps floor now = changed floors_tree old new before (content m held count (record k { floor = floor })) keeps each was
     where
@@ -266,6 +275,7 @@ module _ (old new : State) (m : Queue) (held : List Grant) (count : List ℕ →
       each floors = inl now
       each _ = inr ((λ e. absurd (omega arith)), λ rows says. says)
 
+  -- meta changed alone
   pub meta_changed : KeepsOthers our_tables meta_tree old new → (clock next_job next_grant : ℕ) → new.now.trees meta_tree ≡ meta_row (record m { clock = clock; next_job = next_job; next_grant = next_grant }) ∷ []
       → IsLawfulMeta (record m { clock = clock; next_job = next_job; next_grant = next_grant }) → Parts new.now (record m { clock = clock; next_job = next_job; next_grant = next_grant }) held count k
   meta_changed keeps clock next_job next_grant now lawful = changed meta_tree old new before (content (record m { clock = clock; next_job = next_job; next_grant = next_grant }) held count k) keeps each was
@@ -319,6 +329,7 @@ counts_again old new m held count counted k schema_is sound rows now was = recor
     each floors = subst (Says floors (content m held counted k)) (sym rows.1.1.1.1.1.1.0) (was.says floors)
     each calls = now
 
+-- `calls` changed alone
 pub calls_changed : (old new : State) (m : Queue) (held : List Grant) (count : List ℕ → ℕ) (k : Ledger) → Parts old.now m held count k → new.now.schema ≡ our_tables → IsDatabase new.now → KeepsRows core_tables.tables old.now.trees new.now.trees
     → (counted : List ℕ → ℕ) → AreCalls counted (new.now.trees calls_tree) → Parts new.now m held counted k
 calls_changed old new m held count k was schema_is sound rows counted now = counts_again old.now new.now m held count counted k schema_is sound rows now was

@@ -22,18 +22,22 @@ use Rattle.fax_lines.proofs.PrintedLemmas.{printed_spells}
 key_stays : (b : ℕ) → is_key b ≡ true → not (is_separator b) ≡ true
 key_stays b h = grind (arith, nat_tests)
 
+-- a plus is no separator
 plus_stays : (b : ℕ) → (b == 43) ≡ true → not (is_separator b) ≡ true
 plus_stays b h = grind (arith, nat_tests)
 
+-- keys stay where separators are left out
 keys_stay : (bs : List ℕ) → list_all is_key bs ≡ true → filter (λ b. not (is_separator b)) bs ≡ bs
 keys_stay [] h = refl
 keys_stay (b ∷ bs) h =
     let both = and_parts (is_key b) (list_all is_key bs) h in
     rw (key_stays b both.0) (ap (λ rest. b ∷ rest) (keys_stay bs both.1))
 
+-- bytes that are keys are each one
 all_keys : (bs : List ℕ) → are_keys bs ≡ true → list_all is_key bs ≡ true
 all_keys bs h = (and_parts (leb 1 (length bs) && leb (length bs) 32) (list_all is_key bs) h).1
 
+-- a canonical number stays where separators are left out
 canonical_stays : (bs : List ℕ) → is_canonical bs ≡ true → without_separators bs ≡ bs
 canonical_stays [] h = refl
 canonical_stays (b ∷ bs) h = elim (cases_Bool (b == 43)) [
@@ -49,11 +53,13 @@ dial_kept text h = rw (canonical_stays text h, h) refl
 name_byte_small : (b : ℕ) → is_name_byte b ≡ true → b < 128
 name_byte_small b h = grind (arith, nat_tests)
 
+-- bytes of names are ASCII
 name_bytes_small : (bs : List ℕ) → list_all is_name_byte bs ≡ true → IsAscii bs
 name_bytes_small [] h i = omega arith
 name_bytes_small (b ∷ bs) h zero = name_byte_small b (and_parts (is_name_byte b) (list_all is_name_byte bs) h).0
 name_bytes_small (b ∷ bs) h (suc i) = name_bytes_small bs (and_parts (is_name_byte b) (list_all is_name_byte bs) h).1 i
 
+-- a name is UTF-8 text
 pub name_text : (text : List ℕ) → IsName text → IsText IsName text
 name_text text h = record {
   formed = h;

@@ -42,6 +42,7 @@ more_than_six a b (inl core) is more = absurd (let e : length b.tables ≡ 6 = s
 more_than_six a b (inr (inl older)) is more = absurd (let e : length b.tables ≡ 6 = sym (ap (λ (s : Schema). length s.tables) is) ∙ ap (λ (s : Schema). length s.tables) older in omega arith)
 more_than_six a b (inr (inr none)) is more = absurd none
 
+-- all eight tables, as VACUUM leaves them, lose both indexes of jobs
 vacuumed : LosesBoth vacuumed_tables
 vacuumed = record {
   middle = vacuumed_with_killtime;
@@ -67,6 +68,7 @@ vacuumed = record {
   };
 }
 
+-- so do the seven of the first version
 first_vacuumed_loses : LosesBoth first_vacuumed
 first_vacuumed_loses = record {
   middle = first_vacuumed_with_killtime;
@@ -92,6 +94,7 @@ first_vacuumed_loses = record {
   };
 }
 
+-- and those with the older indexes
 older_vacuumed : LosesBoth first_older_vacuumed
 older_vacuumed = record {
   middle = first_vacuumed_with_killtime;
@@ -117,6 +120,7 @@ older_vacuumed = record {
   };
 }
 
+-- so do the tables of the first version without `calls`
 core : LosesBoth first_core
 core = record {
   middle = first_with_killtime;
@@ -137,6 +141,7 @@ core = record {
   leaves = λ db after was is sound rows. record { schema_is = inr (inr (inl is)); alone = λ six. is; sound = sound; renews = renews_first db after first_core first_bare refl refl was is rows };
 }
 
+-- and those with the older indexes
 older_core : LosesBoth first_older_core
 older_core = record {
   middle = first_with_killtime;
@@ -157,6 +162,7 @@ older_core = record {
   leaves = λ db after was is sound rows. record { schema_is = inr (inr (inl is)); alone = λ six. is; sound = sound; renews = renews_first db after first_older_core first_bare refl refl was is rows };
 }
 
+-- each layout with the indexes of jobs last loses both
 pub loses_both : (schema : Schema) → AreIndexedLast schema → LosesBoth schema
 loses_both schema (inl is) = subst LosesBoth (sym is) vacuumed
 loses_both schema (inr (inl is)) = subst LosesBoth (sym is) first_vacuumed_loses
@@ -178,6 +184,7 @@ pub record LosesLast (a : Schema) : Type 0 where
   pub left : without_table a table.tree ≡ end
   pub leaves : (db after : Database) → db.schema ≡ a → after.schema ≡ end → IsDatabase after → KeepsRows end.tables db.trees after.trees → LacksCalls db after
 
+-- the tables of a store lose `calls`
 ours : LosesLast our_tables
 ours = record {
   end = core_tables;
@@ -191,6 +198,7 @@ ours = record {
   leaves = λ db after was is sound rows. record { schema_is = inl is; sound = sound; renews = renews_core db after our_tables core_tables refl refl was is rows };
 }
 
+-- so do those without the indexes of jobs
 bare_calls : LosesLast bare_with_calls
 bare_calls = record {
   end = bare_tables;
@@ -204,6 +212,7 @@ bare_calls = record {
   leaves = λ db after was is sound rows. record { schema_is = inr (inl is); sound = sound; renews = renews_core db after bare_with_calls bare_tables refl refl was is rows };
 }
 
+-- so do those of the first version
 first : LosesLast first_tables
 first = record {
   end = first_core;
@@ -217,6 +226,7 @@ first = record {
   leaves = λ db after was is sound rows. record { schema_is = inr (inr (inl is)); sound = sound; renews = renews_first db after first_tables first_core refl refl was is rows };
 }
 
+-- and these without the indexes of jobs
 first_bare_loses : LosesLast first_bare_calls
 first_bare_loses = record {
   end = first_bare;
@@ -230,6 +240,7 @@ first_bare_loses = record {
   leaves = λ db after was is sound rows. record { schema_is = inr (inr (inr (inl is))); sound = sound; renews = renews_first db after first_bare_calls first_bare refl refl was is rows };
 }
 
+-- and those with the older indexes
 older : LosesLast first_older
 older = record {
   end = first_older_core;
@@ -243,6 +254,7 @@ older = record {
   leaves = λ db after was is sound rows. record { schema_is = inr (inr (inr (inr (inl is)))); sound = sound; renews = renews_first db after first_older first_older_core refl refl was is rows };
 }
 
+-- each layout with `calls` loses it
 pub loses_last : (schema : Schema) → HaveCalls schema → LosesLast schema
 loses_last schema (inl is) = subst LosesLast (sym is) ours
 loses_last schema (inr (inl is)) = subst LosesLast (sym is) bare_calls
