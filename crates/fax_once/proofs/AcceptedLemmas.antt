@@ -44,9 +44,11 @@ module _ (s : Settings) (m : Queue) (k : Ledger) (after : Queue) (kept : Ledger)
   abbrev this : Verdict
   this = Accepted after kept reply
 
+  -- what is accepted isn't told
   is_told : (told : Response) → this ≡ Told told → ⊥
   is_told told e = cc
 
+  -- nor is it a repeat, or a number used for something else
   is_repeated : (e : Entry) (b : Bool) → this ≡ cond b (Repeated (kept_response e.status e.body)) (denied NumberReused) → ⊥
   is_repeated e true h = cc
   is_repeated e false h = is_told _ h
@@ -55,6 +57,7 @@ module _ (s : Settings) (m : Queue) (k : Ledger) (after : Queue) (kept : Ledger)
     abbrev it : Post
     it = raised (k.floor p.client) p
 
+    -- where nothing is kept for the number, a step that took it accepted it
     of_step : (taken : Step) → kept_for p.client p.number k.replies ≡ None → decided s m it.request ≡ taken → this ≡ stepped it k taken → IsAcceptance s m k (Posts p) after kept reply
     of_step (Taken q told) unused is e =
         let queue : after ≡ q = cc in
@@ -72,18 +75,22 @@ module _ (s : Settings) (m : Queue) (k : Ledger) (after : Queue) (kept : Ledger)
         }
     of_step (Refused refusal keys) unused is e = absurd (is_told _ e)
 
+    -- the same where its floor isn't too high
     of_low : (b : Bool) → kept_for p.client p.number k.replies ≡ None → this ≡ (if b then denied FloorHigh else decided_new s m k it) → IsAcceptance s m k (Posts p) after kept reply
     of_low true unused h = absurd (is_told _ h)
     of_low false unused h = of_step (decided s m it.request) unused refl h
 
+    -- the same whatever is kept for the number
     of_kept : (o : Option Entry) → kept_for p.client p.number k.replies ≡ o → this ≡ taken_once o p.said (new_asked s m k (k.floor p.client) p) → IsAcceptance s m k (Posts p) after kept reply
     of_kept None is h = of_low (is_too_high p.number p.request.ask) is h
     of_kept (Some e) is h = absurd (is_repeated e (bytes_eq e.said p.said) h)
 
+  -- the same whatever the client's floor is
   of_floor : (p : Post) (b : Bool) → nat_lt (k.floor p.client) p.number ≡ b → this ≡ (if b then asked_above s m k (k.floor p.client) p else denied GivenUp) → IsAcceptance s m k (Posts p) after kept reply
   of_floor p true above h = of_kept p above (kept_for p.client p.number k.replies) refl h
   of_floor p false low h = absurd (is_told _ h)
 
+  -- what is accepted of a reading has all of this
   pub acceptance : (r : Reading) → this ≡ verdict s m k r → IsAcceptance s m k r after kept reply
   acceptance (Faulty refusal) h = absurd (is_told _ h)
   acceptance (Sees moment what) h = absurd (is_told _ h)
@@ -95,26 +102,32 @@ pub record IsPosted (a : Arrival) (p : Post) : Type 0 where
   pub is : p ≡ post_of a p.number p.request.ask
 
 module _ (a : Arrival) (p : Post) where
+  -- a post has no fault
   is_faulty : (refusal : Refusal) → Posts p ≡ Faulty refusal → ⊥
   is_faulty refusal e = cc
 
+  -- and asks for no view
   is_seen : (moment : ℕ) (what : View) → Posts p ≡ Sees moment what → ⊥
   is_seen moment what e = cc
 
+  -- a post that is this one, under the arrival's number, is posted
   of_post : (n : ℕ) (ask : Ask) → number_of a ≡ Ok n → p ≡ post_of a n ask → IsPosted a p
   of_post n ask is same =
       let number : n ≡ p.number = ap (λ q. q.number) (sym same) in
       let asked : ask ≡ p.request.ask = ap (λ q. q.request.ask) (sym same) in
       record { number = is ∙ ap (λ (x : ℕ). Ok x) number; is = same ∙ ap (λ x. post_of a x ask) number ∙ ap (λ x. post_of a p.number x) asked }
 
+  -- posts that read the same are the same
   same_post : (q : Post) → Posts p ≡ Posts q → p ≡ q
   same_post q e = cc
 
+  -- what the arrival says is posted under its number
   of_said : Says a (Posts p) → IsPosted a p
   of_said (Says_fault refusal cause is) = absurd (is_faulty refusal is)
   of_said (Says_view what is) = absurd (is_seen a.moment what is)
   of_said (Says_post number route ask its asks is) = of_post number ask its (same_post (post_of a number ask) is)
 
+  -- what the arrival reads as is posted under its number
   pub is_posted : IsReading a (Posts p) → IsPosted a p
   is_posted h = of_said (says a (Posts p) h)
 
@@ -149,9 +162,11 @@ accepted_once s a m k after kept reply (r, is, v_is) =
 -- ---- what is left
 
 module _ (settings : Settings) (a : Arrival) (m : Queue) (k : Ledger) (reply : Response) (s : State) (sound : Sound m) where
+  -- where the store means what it did, its queue is sound and nothing kept is lost
   unchanged : Means s m k → IsSoundWith k s
   unchanged rest = (m, k, rest, sound, inl refl)
 
+  -- the same where it has what a verdict leaves
   left_by : (v : Verdict) → IsVerdict settings a m k v → Leaves m k reply s v → IsSoundWith k s
   left_by (Told told) is (same, rest) = unchanged rest
   left_by (Repeated told) is (same, serves, rest) = unchanged (λ _. rest)

@@ -45,35 +45,43 @@ none_came (GiveUp upto) e = refl
 abbrev BringsNone : Reply → Type 0
 BringsNone r = (x : ℕ) → brings r x ≡ false
 
+-- a change of a job brings none in
 changed_brings : (s : Settings) (m n : Queue) (t : ℕ) (d : Result Job Refusal) (r : Reply) → changed s m t d ≡ Taken n r → BringsNone r
 changed_brings s m n t (Ok k) r e x = ap (λ (q : Reply). brings q x) (sym (taken_same (with_job k m) n _ r e).1)
 changed_brings s m n t (Err y) r e x = cc
 
+-- nor does a request on a job
 on_job_brings : (s : Settings) (m n : Queue) (t : ℕ) (decide : Job → Result Job Refusal) (o : Option Job) (r : Reply) → on_job s m t decide o ≡ Taken n r → BringsNone r
 on_job_brings s m n t decide None r e x = cc
 on_job_brings s m n t decide (Some j) r e x = changed_brings s m n t (decide j) r e x
 
+-- nor a submission
 submission_brings : (m n : Queue) (rule : Rule) (d : Result Job Refusal) (r : Reply) → submitted m rule d ≡ Taken n r → BringsNone r
 submission_brings m n rule (Ok k) r e x = ap (λ (q : Reply). brings q x) (sym (taken_same (with_new_job k m) n _ r e).1)
 submission_brings m n rule (Err y) r e x = cc
 
+-- nor a mark
 mark_brings : (m n : Queue) (modem : List ℕ) (down b : Bool) (r : Reply) → cond b (Taken (with_mark modem down m) (Marked down)) (Refused refusal.NoModem NoKeys) ≡ Taken n r → BringsNone r
 mark_brings m n modem down true r e x = ap (λ (q : Reply). brings q x) (sym (taken_same (with_mark modem down m) n _ r e).1)
 mark_brings m n modem down false r e x = cc
 
+-- nor a request for work
 given_brings : (s : Settings) (m n : Queue) (t : ℕ) (modem : List ℕ) (r : Reply) → GivenTo s m t modem n r → BringsNone r
 given_brings s m n t modem r (None_to none same told) x = ap (λ (q : Reply). brings q x) (sym told)
 given_brings s m n t modem r (Best_to j best none same told) x = ap (λ (q : Reply). brings q x) (sym told)
 
+-- nor a report
 report_brings : (m n : Queue) (decide : Job → Grant → Result JobAndGrant Refusal) (reply : Queue → JobAndGrant → Reply) (o : Option Grant) (r : Reply) → ((q : Queue) (b : JobAndGrant) (x : ℕ) → brings (reply q b) x ≡ false) → on_grant m decide reply o ≡ Taken n r → BringsNone r
 report_brings m n decide reply o r none e x =
     let told = on_grant_told m n decide reply o r e in
     ap (λ (q : Reply). brings q x) (sym told.1) ∙ none (with_both told.0 m) told.0 x
 
+-- an import brings in just the job with the next number
 import_brings : (s : Settings) (m n : Queue) (t : ℕ) (rule : Rule) (d : Result Job Refusal) (r : Reply) → ((k : Job) → d ≡ Ok k → k.number ≡ m.next_job) → brought_in s m t rule d ≡ Taken n r → (x : ℕ) → brings r x ≡ eqb m.next_job x
 import_brings s m n t rule (Ok k) r is e x = ap (λ (q : Reply). brings q x) (sym (taken_same (with_new_job k m) n _ r e).1) ∙ ap (λ (a : ℕ). eqb a x) (is k refl)
 import_brings s m n t rule (Err y) r is e x = cc
 
+-- a request brings in just the job with the next number, where it is an import, and none else
 act_brings : (s : Settings) (m n : Queue) (t : ℕ) (ask : Ask) (r : Reply) → Sound m → act s m t ask ≡ Taken n r → (x : ℕ) → brings r x ≡ (is_import ask && eqb m.next_job x)
 act_brings s m n t (Submission o) r h e x = submission_brings m n (s.rule o.dial) (submit o (s.rule o.dial) m.next_job s.max_jobs t) r e x
 act_brings s m n t (Bring i) r h e x = import_brings s m n t (s.rule i.order.dial) (bring i (s.rule i.order.dial) m.next_job s.max_jobs t) r (λ k is. (bring_counts i (s.rule i.order.dial) m.next_job s.max_jobs t k is).number) e x
@@ -89,15 +97,18 @@ act_brings s m n t (PageReport a p) r h e x = report_brings m n (page p) (page_r
 act_brings s m n t (OutcomeReport a o) r h e x = report_brings m n (λ j g. outcome o j g (s.delay g.call) t) (outcome_reply s t) (grant_numbered a m) r (λ q b y. refl) e x
 act_brings s m n t (GiveUp upto) r h e x = ap (λ (q : Reply). brings q x) (sym (taken_same m n _ r e).1)
 
+-- the same of a step, which ages the jobs first
 pub step_brings : (s : Settings) (m n : Queue) (t : ℕ) (ask : Ask) (r : Reply) → Sound m → step s m t ask ≡ Taken n r → (x : ℕ) → brings r x ≡ (is_import ask && eqb m.next_job x)
 step_brings s m n t ask r h e x = act_brings s (aged t m) n t ask r (aged_sound t m h) e x
 
 -- ---- and its number is used up
 
+-- an import that is taken uses up the next number
 import_numbers : (s : Settings) (m n : Queue) (t : ℕ) (rule : Rule) (d : Result Job Refusal) (r : Reply) → brought_in s m t rule d ≡ Taken n r → m.next_job < n.next_job
 import_numbers s m n t rule (Ok k) r e = let same = ap (λ (q : Queue). q.next_job) (taken_same (with_new_job k m) n _ r e).0 in omega (arith, same)
 import_numbers s m n t rule (Err y) r e = cc
 
+-- the same of a step, which ages the jobs first
 pub step_numbers : (s : Settings) (m n : Queue) (t : ℕ) (ask : Ask) (r : Reply) → is_import ask ≡ true → step s m t ask ≡ Taken n r → m.next_job < n.next_job
 step_numbers s m n t (Bring i) r on e = import_numbers s (aged t m) n t (s.rule i.order.dial) (bring i (s.rule i.order.dial) m.next_job s.max_jobs t) r e
 step_numbers s m n t (Submission o) r on e = absurd cc

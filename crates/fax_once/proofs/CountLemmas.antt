@@ -41,9 +41,11 @@ abbrev pub counted_all : List Report → Counters → Counters
 counted_all [] c = c
 counted_all (r ∷ rs) c = counted r (counted_all rs c)
 
+-- one more on top of what came in is one more in all
 more : (n brought : ℕ) → suc n + brought ≡ n + brought + 1
 more n brought = omega arith
 
+-- none on top of a number is the number
 nothing : (n : ℕ) → 0 + n ≡ n
 nothing n = omega arith
 
@@ -64,12 +66,14 @@ module _ (b : Counters) where
   abbrev old_tries : List Report → ℕ
   old_tries rs = unless_any is_page rs b.ntries
 
+  -- a call without a connection is one more dial
   unconnected : (c : Call) (rs : List Report) → is_connection c ≡ false
       → counts b (Called c ∷ rs) ≡ record (counts b rs) { totdials = (counts b rs).totdials + 1; ndials = (counts b rs).ndials + 1 }
   unconnected c rs other = rw other (
       ap (λ n. record (counts b rs) { totdials = n; ndials = suc (dials rs) + old_dials rs }) (more (number_of is_call rs) b.totdials)
       ∙ ap (λ n. record (counts b rs) { totdials = (counts b rs).totdials + 1; ndials = n }) (more (dials rs) (old_dials rs)))
 
+  -- one more report counts on
   pub counts_more : (r : Report) (rs : List Report) → counts b (r ∷ rs) ≡ counted r (counts b rs)
   counts_more (Called Connected) rs =
       ap (λ n. record (counts b rs) { totdials = n; tottries = suc (number_of is_connected rs) + b.tottries; ndials = 0; ntries = suc (tries rs) + old_tries rs }) (more (number_of is_call rs) b.totdials)
@@ -90,6 +94,7 @@ module _ (b : Counters) where
       ∙ ap (λ n. made b.totdials b.tottries b.ndials n (0 + b.ntries)) (nothing b.npages)
       ∙ ap (λ n. made b.totdials b.tottries b.ndials b.npages n) (nothing b.ntries)
 
+  -- more reports count on in turn
   pub counts_all : (front rs : List Report) → counts b (front ++ rs) ≡ counted_all front (counts b rs)
   counts_all [] rs = refl
   counts_all (r ∷ front) rs = counts_more r (front ++ rs) ∙ ap (counted r) (counts_all front rs)
@@ -99,12 +104,15 @@ module _ (b : Counters) where
 abbrev pub Same : Job → Job → Type 0
 Same j k = counters_of k ≡ counters_of j
 
+-- a job's counters stay as it ages
 pub aged_same : (t : ℕ) (j : Job) → Same j (aged_job t j)
 aged_same t j = cond_both (expires j.phase && is_past j.killtime t) _ j (Same j) (λ e. refl) (λ e. refl)
 
+-- they stay where a decision makes a job with the same
 by_ok : (j x k : Job) → Same j x → ◌≡◌ {A = Result Job Refusal} (Ok x) (Ok k) → Same j k
 by_ok j x k same e = ap counters_of (sym (ok_same x k e)) ∙ same
 
+-- and where a job is suspended
 pub suspended_same : (p : Phase) (w : Wish) (j k : Job) → suspend_in p w j ≡ Ok k → Same j k
 suspended_same phase.Held w j k e = by_ok j j k refl e
 suspended_same phase.Waiting w j k e = by_ok j _ k refl e
@@ -114,6 +122,7 @@ suspended_same phase.Granted wish.Kill j k e = cc
 suspended_same phase.Done w j k e = cc
 suspended_same phase.Failed w j k e = cc
 
+-- or resumed
 pub resumed_same : (p : Phase) (w : Wish) (j k : Job) → resume_in p w j ≡ Ok k → Same j k
 resumed_same phase.Held w j k e = by_ok j _ k refl e
 resumed_same phase.Waiting w j k e = cc
@@ -123,6 +132,7 @@ resumed_same phase.Granted wish.Kill j k e = cc
 resumed_same phase.Done w j k e = cc
 resumed_same phase.Failed w j k e = cc
 
+-- or killed
 pub killed_same : (p : Phase) (j k : Job) → kill_in p j ≡ Ok k → Same j k
 killed_same phase.Held j k e = by_ok j _ k refl e
 killed_same phase.Waiting j k e = by_ok j _ k refl e
@@ -130,6 +140,7 @@ killed_same phase.Granted j k e = by_ok j _ k refl e
 killed_same phase.Done j k e = cc
 killed_same phase.Failed j k e = cc
 
+-- or altered
 pub altered_same : (p : Phase) (a : Alter) (j k : Job) (t : ℕ) → alter_in p a j t ≡ Ok k → Same j k
 altered_same phase.Held a j k t e = by_ok j (altered a j t) k refl (not_refused _ _ (Ok (altered a j t)) k e).1
 altered_same phase.Waiting a j k t e = cc
@@ -137,6 +148,7 @@ altered_same phase.Granted a j k t e = cc
 altered_same phase.Done a j k t e = cc
 altered_same phase.Failed a j k t e = cc
 
+-- a job that is submitted has no counters, and the number it was given
 pub submitted_none : (o : Order) (rule : Rule) (n most t : ℕ) (j : Job) → submit o rule n most t ≡ Ok j → (j.number ≡ n) × (counters_of j ≡ no_counters)
 submitted_none o rule n most t j e =
     let a = not_refused (is_some rule.notice) _ _ j e in
@@ -157,6 +169,7 @@ pub record Reported (j : Job) (g : Grant) (b : JobAndGrant) (reports : List Repo
   pub grant_number : b.grant.number ≡ g.number
   pub grant_job : b.grant.job ≡ g.job
 
+-- a call counts once in the job's counters
 after_call_counted : (c : Call) (j : Job) → counters_of (after_call c j) ≡ counted (Called c) (counters_of j)
 after_call_counted Connected j = refl
 after_call_counted Busy j = refl
@@ -164,6 +177,7 @@ after_call_counted NoAnswer j = refl
 after_call_counted NoCarrier j = refl
 after_call_counted Other j = refl
 
+-- a call leaves the job's number
 after_call_number : (c : Call) (j : Job) → (after_call c j).number ≡ j.number
 after_call_number Connected j = refl
 after_call_number Busy j = refl
@@ -171,6 +185,7 @@ after_call_number NoAnswer j = refl
 after_call_number NoCarrier j = refl
 after_call_number Other j = refl
 
+-- a call that is reported counts once, and leaves number, grant and job
 pub called_counted : (c : Call) (j : Job) (g : Grant) (b : JobAndGrant) → call c j g ≡ Ok b → Reported j g b (Called c ∷ [])
 called_counted c j g b e =
     let new : JobAndGrant = record { job = after_call c j; grant = record g { call = Some c } } in
@@ -178,6 +193,7 @@ called_counted c j g b e =
     let q = not_refused (is_some g.call) _ (Ok new) b p.1 in
     subst (λ x. Reported j g x (Called c ∷ [])) (ok_same new b q.1) (record { counted_now = after_call_counted c j; number = after_call_number c j; grant_number = refl; grant_job = refl })
 
+-- a page that is confirmed leaves the grant's number and job
 page_grant : (ps : List ℕ) (n : ℕ) (j : Job) (g : Grant) (b : JobAndGrant) → page_of ps n j g ≡ Ok b → (b.grant.number ≡ g.number) × (b.grant.job ≡ g.job)
 page_grant [] n j g b e = cc
 page_grant (p ∷ rest) n j g b e =
@@ -185,6 +201,7 @@ page_grant (p ∷ rest) n j g b e =
     let q = not_refused (not (eqb p n)) _ (Ok new) b e in
     subst (λ (x : JobAndGrant). (x.grant.number ≡ g.number) × (x.grant.job ≡ g.job)) (ok_same new b q.1) (refl, refl)
 
+-- a page that is confirmed counts once, and leaves number, grant and job
 pub paged_counted : (n : ℕ) (j : Job) (g : Grant) (b : JobAndGrant) → page n j g ≡ Ok b → Reported j g b (Confirmed ∷ [])
 paged_counted n j g b e =
     let p = not_refused (not g.is_open) _ _ b e in
@@ -202,6 +219,7 @@ record Ends (j k : Job) : Type 0 where
   same : Same j k
   number : k.number ≡ j.number
 
+-- a job that is to be tried again keeps its number and counters
 retried_ends : (j : Job) (reason : List ℕ) (delay t : ℕ) → Ends j (retried j reason delay t)
 retried_ends j reason delay t =
     cond_both (is_kill j.wish) _ _ (Ends j) (λ e. record { same = refl; number = refl }) (λ e.
@@ -211,15 +229,18 @@ retried_ends j reason delay t =
     cond_both (Rattle.std.specs.Prelude.nat_le 3 j.ntries) _ _ (Ends j) (λ e. record { same = refl; number = refl }) (λ e.
     record { same = refl; number = refl })))))
 
+-- so does one that ended in any way
 ended_by_ends : (e : Ending) (j : Job) (reason : List ℕ) (delay t : ℕ) → Ends j (ended_by e j reason delay t)
 ended_by_ends ending.Done j reason delay t = record { same = refl; number = refl }
 ended_by_ends ending.Fail j reason delay t = record { same = refl; number = refl }
 ended_by_ends ending.Retry j reason delay t = retried_ends j reason delay t
 
+-- and one whose grant ended in any way
 ended_ends : (ps : List ℕ) (o : Outcome) (j : Job) (delay t : ℕ) → Ends j (ended ps o j delay t)
 ended_ends [] o j delay t = record { same = refl; number = refl }
 ended_ends (p ∷ rest) o j delay t = ended_by_ends o.ending j o.reason delay t
 
+-- an outcome counts nothing, and leaves number, grant and job
 pub outcome_counted : (o : Outcome) (j : Job) (g : Grant) (delay t : ℕ) (b : JobAndGrant) → outcome o j g delay t ≡ Ok b → Reported j g b []
 outcome_counted o j g delay t b e =
     let new : JobAndGrant = record { job = ended j.left o j delay t; grant = record g { is_open = false } } in

@@ -18,30 +18,37 @@ use Rattle.fax_once.specs.Reading.{IsForRoute, IsReading, Post, Reading, Faulty,
 use Rattle.fax_once.specs.declared.arrival.Arrival.{Arrival}
 use Rattle.fax_ask.specs.Request.{grants_request, imports_request, job_request, jobs_request, modems_request, numbers_request, path_request, request_of, root_request}
 
+-- it asks for a view
 IsShow : Request → Type 0
 IsShow r = (what : View) × (r ≡ Show what)
 
+-- a GET of a job's path shows it
 of_job : (job : ℕ) (rest : List (List ℕ)) (r : Request) → job_request Get job rest ≡ Some r → IsShow r
 unfolding IsShow
 of_job job [] r e = (view.Job job, cc)
 of_job job (x ∷ xs) r e = absurd cc
 
+-- the same whether the path has a job's number or not
 of_id : (found : Option ℕ) (rest : List (List ℕ)) (r : Request) → option_and_then (λ job. job_request Get job rest) found ≡ Some r → IsShow r
 of_id None rest r e = absurd cc
 of_id (Some job) rest r e = of_job job rest r e
 
+-- a GET of the path of jobs shows them
 of_jobs : (rest : List (List ℕ)) (r : Request) → jobs_request Get rest ≡ Some r → IsShow r
 unfolding IsShow
 of_jobs [] r e = (view.Jobs, cc)
 of_jobs (id ∷ rest) r e = of_id (request_number_of id) rest r e
 
+-- where there is no request, nothing is said of it
 none : (r : Request) → ◌≡◌ {A = Option Request} None (Some r) → IsShow r
 none r e = absurd cc
 
+-- what holds of either of two requests holds of the one that is picked
 either : (b : Bool) (x y : Option Request) (r : Request) → (x ≡ Some r → IsShow r) → (y ≡ Some r → IsShow r) → (if b then x else y) ≡ Some r → IsShow r
 either true x y r one other e = one e
 either false x y r one other e = other e
 
+-- a GET below the root shows something
 of_root : (path : List (List ℕ)) (r : Request) → root_request Get path ≡ Some r → IsShow r
 of_root [] r e = none r e
 of_root (collection ∷ rest) r e =
@@ -50,10 +57,12 @@ of_root (collection ∷ rest) r e =
     (either (bytes_eq collection (codes "imports")) (imports_request Get rest) _ r (none r)
     (either (bytes_eq collection (codes "numbers")) (numbers_request Get rest) None r (none r) (none r))))) e
 
+-- a GET of a path's parts shows something
 of_path : (path : List (List ℕ)) (r : Request) → path_request Get path ≡ Some r → IsShow r
 of_path [] r e = none r e
 of_path (lead ∷ rest) r e = either (length lead == 0) (root_request Get rest) None r (of_root rest r) (none r) e
 
+-- a GET of a path shows something
 get_shows : (path : List ℕ) (r : Request) → request_of Get path ≡ Some r → IsShow r
 unfolding request_of
 get_shows path r e = of_path (parts path) r e

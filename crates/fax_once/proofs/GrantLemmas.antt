@@ -31,9 +31,11 @@ use Rattle.fax_once.specs.Run.{queue_after}
 
 -- ---- the same grant
 
+-- a grant is as itself
 same_itself : (g : Grant) → IsSameGrant g g
 same_itself g = record { number = refl; job = refl; modem = refl; first_page = refl; last_page = refl; confirmed = omega arith; closed = λ off. refl }
 
+-- what is as a grant that is as another is as the other
 same_through : (f g h : Grant) → IsSameGrant f g → IsSameGrant g h → IsSameGrant f h
 same_through f g h a b = record {
   number = b.number ∙ a.number;
@@ -45,9 +47,11 @@ same_through f g h a b = record {
   closed = λ off. let same = a.closed off in b.closed (ap (λ (z : Grant). z.is_open) same ∙ off) ∙ same;
 }
 
+-- the same grants are all kept
 kept_all : (m n : Queue) → n.grants ≡ m.grants → KeepsGrants m n
 kept_all m n same a g is = (g, subst (λ (gs : List Grant). find (λ (z : Grant). eqb z.number a) gs ≡ Some g) (sym same) is, same_itself g)
 
+-- what is kept twice is kept
 through : (l m n : Queue) → KeepsGrants l m → KeepsGrants m n → KeepsGrants l n
 through l m n first then' a g is =
     let x = first a g is in
@@ -56,32 +60,39 @@ through l m n first then' a g is =
 
 -- ---- requests on a job, submissions and marks
 
+-- a change of a job leaves the grants
 changed_grants : (s : Settings) (m n : Queue) (t : ℕ) (d : Result Job Refusal) (r : Reply) → changed s m t d ≡ Taken n r → n.grants ≡ m.grants
 changed_grants s m n t (Ok k) r e = ap (λ (q : Queue). q.grants) (sym (taken_same (with_job k m) n _ r e).0)
 changed_grants s m n t (Err x) r e = cc
 
+-- a request on a job keeps them
 on_job_grants : (s : Settings) (m n : Queue) (t : ℕ) (decide : Job → Result Job Refusal) (o : Option Job) (r : Reply) → on_job s m t decide o ≡ Taken n r → KeepsGrants m n
 on_job_grants s m n t decide None r e = cc
 on_job_grants s m n t decide (Some j) r e = kept_all m n (changed_grants s m n t (decide j) r e)
 
+-- so does a submission
 submission_grants : (m n : Queue) (rule : Rule) (d : Result Job Refusal) (r : Reply) → submitted m rule d ≡ Taken n r → KeepsGrants m n
 submission_grants m n rule (Ok k) r e = kept_all m n (ap (λ (q : Queue). q.grants) (sym (taken_same (with_new_job k m) n _ r e).0))
 submission_grants m n rule (Err x) r e = cc
 
+-- and an import
 import_grants : (s : Settings) (m n : Queue) (t : ℕ) (rule : Rule) (d : Result Job Refusal) (r : Reply) → brought_in s m t rule d ≡ Taken n r → KeepsGrants m n
 import_grants s m n t rule (Ok k) r e = kept_all m n (ap (λ (q : Queue). q.grants) (sym (taken_same (with_new_job k m) n _ r e).0))
 import_grants s m n t rule (Err x) r e = cc
 
+-- a mark set or taken off leaves the grants
 mark_same : (m : Queue) (modem : List ℕ) (down : Bool) → (with_mark modem down m).grants ≡ m.grants
 mark_same m modem true = refl
 mark_same m modem false = refl
 
+-- so a request that marks a modem keeps them
 mark_grants : (m n : Queue) (modem : List ℕ) (down b : Bool) (r : Reply) → cond b (Taken (with_mark modem down m) (Marked down)) (Refused refusal.NoModem NoKeys) ≡ Taken n r → KeepsGrants m n
 mark_grants m n modem down true r e = kept_all m n (ap (λ (q : Queue). q.grants) (sym (taken_same (with_mark modem down m) n _ r e).0) ∙ mark_same m modem down)
 mark_grants m n modem down false r e = cc
 
 -- ---- reports
 
+-- a call leaves the grant as it was given
 called_same : (c : Call) (j : Job) (g : Grant) (b : JobAndGrant) → call c j g ≡ Ok b → IsSameGrant g b.grant
 called_same c j g b e =
     let new : JobAndGrant = record { job = after_call c j; grant = record g { call = Some c } } in
@@ -91,6 +102,7 @@ called_same c j g b e =
     subst (λ (x : JobAndGrant). IsSameGrant g x.grant) (ok_same new b q.1)
     (record { number = refl; job = refl; modem = refl; first_page = refl; last_page = refl; confirmed = omega arith; closed = λ off. absurd (true≢false (sym on ∙ off)) })
 
+-- a page leaves an open grant as it was given, with one more confirmed
 page_same : (ps : List ℕ) (n : ℕ) (j : Job) (g : Grant) (b : JobAndGrant) → g.is_open ≡ true → page_of ps n j g ≡ Ok b → IsSameGrant g b.grant
 page_same [] n j g b on e = cc
 page_same (p ∷ rest) n j g b on e =
@@ -99,12 +111,14 @@ page_same (p ∷ rest) n j g b on e =
     subst (λ (x : JobAndGrant). IsSameGrant g x.grant) (ok_same new b q.1)
     (record { number = refl; job = refl; modem = refl; first_page = refl; last_page = refl; confirmed = omega arith; closed = λ off. absurd (true≢false (sym on ∙ off)) })
 
+-- so does a report of a page
 paged_same : (n : ℕ) (j : Job) (g : Grant) (b : JobAndGrant) → page n j g ≡ Ok b → IsSameGrant g b.grant
 paged_same n j g b e =
     let p = not_refused (not g.is_open) _ _ b e in
     let q = not_refused (not (is_connected g.call)) _ (page_of j.left n j g) b p.1 in
     page_same j.left n j g b (not-false g.is_open p.0) q.1
 
+-- an outcome leaves the grant as it was given
 outcome_same : (o : Outcome) (j : Job) (g : Grant) (delay t : ℕ) (b : JobAndGrant) → outcome o j g delay t ≡ Ok b → IsSameGrant g b.grant
 outcome_same o j g delay t b e =
     let new : JobAndGrant = record { job = ended j.left o j delay t; grant = record g { is_open = false } } in
@@ -118,9 +132,11 @@ outcome_same o j g delay t b e =
     (record { number = refl; job = refl; modem = refl; first_page = refl; last_page = refl; confirmed = omega arith; closed = λ off. absurd (true≢false (sym on ∙ off)) })
 
 module _ (m : Queue) (b : ℕ) (g : Grant) (both : JobAndGrant) (is : grant_numbered b m ≡ Some g) (same : IsSameGrant g both.grant) where
+  -- the number finds this grant alone
   it_is : (x : Grant) → grant_numbered b m ≡ Some x → g ≡ x
   it_is x there = let found = sym is ∙ there in cc
 
+  -- with job and grant as they are after a report, each grant is as it was given
   placed_grants : KeepsGrants m (with_both both m)
   placed_grants a x there = by (cases_eq both.grant.number a)
     where
@@ -133,11 +149,13 @@ module _ (m : Queue) (b : ℕ) (g : Grant) (both : JobAndGrant) (is : grant_numb
           )
       by (inr other) = (x, placed_other (λ (z : Grant). z.number) a both.grant x m.grants there other, same_itself x)
 
+-- a report keeps the grants
 report_grants : (m n : Queue) (b : ℕ) (decide : Job → Grant → Result JobAndGrant Refusal) → ((j : Job) (g : Grant) (both : JobAndGrant) → decide j g ≡ Ok both → IsSameGrant g both.grant) → Reported m n b decide → KeepsGrants m n
 report_grants m n b decide same it = subst (KeepsGrants m) it.left (placed_grants m b it.grant it.both it.is (same it.job it.grant it.both it.made))
 
 -- ---- a request for work
 
+-- a request for work keeps them
 given_grants : (s : Settings) (m n : Queue) (t : ℕ) (modem : List ℕ) (r : Reply) → GivenTo s m t modem n r → KeepsGrants m n
 given_grants s m n t modem r (None_to none same told) = kept_all m n (ap (λ (q : Queue). q.grants) (sym same))
 given_grants s m n t modem r (Best_to j best none same told) =
@@ -145,6 +163,7 @@ given_grants s m n t modem r (Best_to j best none same told) =
 
 -- ---- each request
 
+-- each request keeps them
 act_grants : (s : Settings) (m n : Queue) (t : ℕ) (ask : Ask) (r : Reply) → Sound m → act s m t ask ≡ Taken n r → KeepsGrants m n
 act_grants s m n t (Submission o) r h e = submission_grants m n (s.rule o.dial) (submit o (s.rule o.dial) m.next_job s.max_jobs t) r e
 act_grants s m n t (Bring i) r h e = import_grants s m n t (s.rule i.order.dial) (bring i (s.rule i.order.dial) m.next_job s.max_jobs t) r e
@@ -166,6 +185,7 @@ act_grants s m n t (GiveUp upto) r h e = kept_all m n (ap (λ (q : Queue). q.gra
 step_keeps_grants : (s : Settings) (m n : Queue) (t : ℕ) (ask : Ask) (r : Reply) → Sound m → step s m t ask ≡ Taken n r → KeepsGrants m n
 step_keeps_grants s m n t ask r h e = through m (aged t m) n (kept_all m (aged t m) refl) (act_grants s (aged t m) n t ask r (aged_sound t m h) e)
 
+-- where a step keeps the grants where it is taken, it does in any case
 left_grants : (m : Queue) (x : Step) → ((n : Queue) (r : Reply) → x ≡ Taken n r → KeepsGrants m n) → KeepsGrants m (left_by m x)
 left_grants m (Taken n r) keeps = keeps n r refl
 left_grants m (Refused e k) keeps = kept_all m m refl

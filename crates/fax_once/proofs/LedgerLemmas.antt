@@ -22,6 +22,7 @@ pub record GivesNone (ask : Ask) : Type 0 where
   pub low : (number : ℕ) → is_too_high number ask ≡ false
   pub floors : (client : List ℕ) (floors : List ℕ → ℕ) → floors_by client ask floors ≡ floors
 
+-- a request gives up replies, or none
 pub gives : (ask : Ask) → ((upto : ℕ) × (ask ≡ GiveUp upto)) ⊎ GivesNone ask
 gives (GiveUp upto) = inl (upto, refl)
 gives (Submission o) = inr (record { kept = λ c k. refl; raised = λ f. refl; low = λ n. refl; floors = λ c f. refl })
@@ -39,6 +40,7 @@ gives (OutcomeReport a b) = inr (record { kept = λ c k. refl; raised = λ f. re
 
 -- ---- the greater of two
 
+-- the greater of a number and the greater of two with it is that, by how they compare
 twice : (a b : ℕ) (x : Bool) → nat_lt a b ≡ x → greater a (if x then b else a) ≡ (if x then b else a)
 twice a b true is = ap (λ y. if y then b else a) is
 twice a b false is = same (nat_lt a a)
@@ -47,12 +49,15 @@ twice a b false is = same (nat_lt a a)
     same true = refl
     same false = refl
 
+-- the greater of a number and the greater of two with it is the greater of the two
 pub greater_twice : (a b : ℕ) → greater a (greater a b) ≡ greater a b
 greater_twice a b = twice a b (nat_lt a b) refl
 
+-- what is above a number is above each below that
 above_less : (a b n : ℕ) → nat_lt a b ≡ true → nat_lt b n ≡ true → nat_lt a n ≡ true
 above_less a b n low high = grind (arith, nat_tests)
 
+-- what is above the greater of two, by how they compare, is above the first
 above_both : (a b n : ℕ) (x : Bool) → nat_lt a b ≡ x → nat_lt (if x then b else a) n ≡ true → nat_lt a n ≡ true
 above_both a b n true is above = above_less a b n is above
 above_both a b n false is above = above
@@ -63,6 +68,7 @@ above_first a b n above = above_both a b n (nat_lt a b) refl above
 
 -- ---- what is found still
 
+-- what is kept of entries finds the same, where it keeps each that is looked for
 keeps_finding : (q keep : Entry → Bool) (rs : List Entry) → ((e : Entry) → q e ≡ true → keep e ≡ true) → find q (filter keep rs) ≡ find q rs
 keeps_finding q keep [] all = refl
 keeps_finding q keep (e ∷ rs) all = by (q e) (keep e) refl refl (keeps_finding q keep rs all)
@@ -73,6 +79,7 @@ keeps_finding q keep (e ∷ rs) all = by (q e) (keep e) refl refl (keeps_finding
     by false true is on rest = rw (on, is) rest
     by false false is off rest = rw (off, is) rest
 
+-- where none was found, none is in part of the entries
 finds_none : (q keep : Entry → Bool) (rs : List Entry) → find q rs ≡ None → find q (filter keep rs) ≡ None
 finds_none q keep [] none = refl
 finds_none q keep (e ∷ rs) none = by (q e) (keep e) refl refl (finds_none q keep rs)
@@ -82,6 +89,7 @@ finds_none q keep (e ∷ rs) none = by (q e) (keep e) refl refl (finds_none q ke
     by false true is on rest = rw (on, is) (rest (rw is at none))
     by false false is off rest = rw off (rest (rw is at none))
 
+-- what is among part of the entries is among them
 has_more : (keep : Entry → Bool) (rs : List Entry) (e : Entry) → Has (filter keep rs) e → Has rs e
 has_more keep [] e has = absurd has
 has_more keep (x ∷ rs) e has = by (keep x) refl (has_more keep rs e)
@@ -90,6 +98,7 @@ has_more keep (x ∷ rs) e has = by (keep x) refl (has_more keep rs e)
     by true on rest = elim (rw on at has) [ inl here ↦ inl here | inr there ↦ inr (rest there) ]
     by false off rest = inr (rest (rw off at has))
 
+-- a number above the floor isn't through it
 not_through : (floor n : ℕ) → nat_lt floor n ≡ true → nat_le n floor ≡ false
 not_through floor n above = grind (arith, nat_tests)
 
@@ -107,6 +116,7 @@ module _ (client : List ℕ) (ask : Ask) (k : Ledger) (c : List ℕ) (n : ℕ) w
   abbrev after : Ledger
   after = without_given client ask k
 
+  -- where the client gives up replies, a number above its floor finds the same
   found_given : (upto : ℕ) → ask ≡ GiveUp upto → nat_lt (after.floor c) n ≡ true → kept_for c n after.replies ≡ kept_for c n k.replies
   found_given upto is above =
       let floor = greater (k.floor client) upto in
@@ -128,6 +138,7 @@ module _ (client : List ℕ) (ask : Ask) (k : Ledger) (c : List ℕ) (n : ℕ) w
     | inr other ↦ ap (λ (l : Ledger). kept_for c n l.replies) (other.kept client k) ∙ none
   ]
 
+  -- where the client gives up replies, a number above its floor then was above it before
   raised_over : (upto : ℕ) → ask ≡ GiveUp upto → nat_lt (after.floor c) n ≡ true → nat_lt (k.floor c) n ≡ true
   raised_over upto is above =
       let high : nat_lt (floors_with client (greater (k.floor client) upto) k.floor c) n ≡ true = ap (λ a. nat_lt ((without_given client a k).floor c) n) (sym is) ∙ above in

@@ -90,9 +90,11 @@ jobs_same m n ask same none x y found =
 
 -- ---- requests on a job
 
+-- no more, or what there was, is what there was
 or_none : (b : Bool) → b ≡ (false || b)
 or_none b = refl
 
+-- a change of a job with the same number and counters moves none
 changed_moves : (s : Settings) (m n : Queue) (t : ℕ) (ask : Ask) (b : ℕ) (j : Job) (d : Result Job Refusal) (r : Reply) → IsJob m b j → ((x : ℕ) → fresh m ask x ≡ [])
     → ((k : Job) → d ≡ Ok k → Same j k × (k.number ≡ j.number)) → changed s m t d ≡ Taken n r → Moved m n ask r
 changed_moves s m n t ask b j (Ok k) r is none keeps e =
@@ -107,6 +109,7 @@ changed_moves s m n t ask b j (Ok k) r is none keeps e =
     }))
 changed_moves s m n t ask b j (Err x) r is none keeps e = cc
 
+-- a request on a job that leaves its number and counters moves none
 on_job_moves : (s : Settings) (m n : Queue) (t : ℕ) (ask : Ask) (b : ℕ) (decide : Job → Result Job Refusal) (o : Option Job) (r : Reply) → job_numbered b m ≡ o → ((x : ℕ) → fresh m ask x ≡ [])
     → ((j k : Job) → decide j ≡ Ok k → Same j k × (k.number ≡ j.number)) → on_job s m t decide o ≡ Taken n r → Moved m n ask r
 on_job_moves s m n t ask b decide None r is none keeps e = cc
@@ -114,6 +117,7 @@ on_job_moves s m n t ask b decide (Some j) r is none keeps e = changed_moves s m
 
 -- ---- submissions and marks
 
+-- a submission adds a job with the next number and no counters
 submission_moves : (m n : Queue) (o : Order) (rule : Rule) (most t : ℕ) (d : Result Job Refusal) (r : Reply) → submit o rule m.next_job most t ≡ d → submitted m rule d ≡ Taken n r → Moved m n (Submission o) r
 submission_moves m n o rule most t (Ok k) r is e =
     let f = submitted_none o rule m.next_job most t k is in
@@ -130,6 +134,7 @@ submission_moves m n o rule most t (Ok k) r is e =
     by x y (inr (here, same)) f = Is_new (sym (eqb-true k.number x here) ∙ f.0) (ap counters_of (sym same) ∙ f.1)
 submission_moves m n o rule most t (Err x) r is e = cc
 
+-- an import adds a job with the next number and the counters that came in
 import_moves : (s : Settings) (m n : Queue) (i : Import) (rule : Rule) (most t : ℕ) (d : Result Job Refusal) (r : Reply) → bring i rule m.next_job most t ≡ d → brought_in s m t rule d ≡ Taken n r → Moved m n (Bring i) r
 import_moves s m n i rule most t (Ok k) r is e =
     let f = brought_counters i rule m.next_job most t k is in
@@ -146,10 +151,12 @@ import_moves s m n i rule most t (Ok k) r is e =
     by x y (inr (here, same)) f = Is_new (sym (eqb-true k.number x here) ∙ f.0) (ap counters_of (sym same) ∙ f.1)
 import_moves s m n i rule most t (Err x) r is e = cc
 
+-- a mark leaves the jobs, the grants and the next number
 mark_same : (m : Queue) (modem : List ℕ) (down : Bool) → ((with_mark modem down m).jobs ≡ m.jobs) × ((with_mark modem down m).grants ≡ m.grants) × ((with_mark modem down m).next_job ≡ m.next_job)
 mark_same m modem true = (refl, refl, refl)
 mark_same m modem false = (refl, refl, refl)
 
+-- a request that marks a modem moves no counter
 mark_moves : (m n : Queue) (ask : Ask) (modem : List ℕ) (down b : Bool) (r : Reply) → ((x : ℕ) → fresh m ask x ≡ []) → cond b (Taken (with_mark modem down m) (Marked down)) (Refused refusal.NoModem NoKeys) ≡ Taken n r → Moved m n ask r
 mark_moves m n ask modem down true r none e =
     let same = mark_same m modem down in
@@ -166,15 +173,18 @@ mark_moves m n ask modem down false r none e = cc
 
 module _ (m : Queue) (ask : Ask) (b : ℕ) (g : Grant) (j : Job) (both : JobAndGrant) (reports : List Report) (is : grant_numbered b m ≡ Some g) (of : IsJob m g.job j) (made : count.Reported j g both reports)
     (fronts : (x : ℕ) → fresh m ask x ≡ cond (eqb g.job x) reports []) where
+  -- the grant's job counts what was reported
   at_its : (x : ℕ) → x ≡ g.job → counters_of both.job ≡ counted_all (fresh m ask x) (counters_of j)
   at_its x here = made.counted_now ∙ ap (λ (rs : List Report). counted_all rs (counters_of j)) (sym (fronts x ∙ ap (λ (q : Bool). cond q reports []) (eq-eqb g.job x (sym here))))
 
+  -- and no other job has a report
   off_its : (x : ℕ) → x ≢ g.job → fresh m ask x ≡ []
   off_its x other = elim (cases_Bool (eqb g.job x)) [
     | inl on ↦ absurd (other (sym (eqb-true g.job x on)))
     | inr off ↦ fronts x ∙ ap (λ (q : Bool). cond q reports []) off
   ]
 
+  -- a grant keeps its job where the reported one is put in its place
   same_job_of : (a x : ℕ) (o : Option Grant) → grant_numbered a m ≡ o → has_job x (option_map (in_place (λ (z : Grant). z.number) both.grant) o) ≡ has_job x o
   same_job_of a x None e = refl
   same_job_of a x (Some h) e = elim (cases_Bool (eqb h.number both.grant.number)) [
@@ -189,6 +199,7 @@ module _ (m : Queue) (ask : Ask) (b : ℕ) (g : Grant) (j : Job) (both : JobAndG
       same : {x y : Grant} → ◌≡◌ {A = Option Grant} (Some x) (Some y) → x ≡ y
       same h = cc
 
+  -- so the report moves the job's counters by what was reported
   report_moved : (r : Reply) → ((a x : ℕ) → hands r a x ≡ false) → Moved m (with_both both m) ask r
   report_moved r none = record {
     jobs = jobs_placed m ask g.job j both.job of (made.number ∙ numbered_job m g.job j of) at_its off_its;
@@ -203,10 +214,12 @@ reported_told : (m n : Queue) (reply : Queue → JobAndGrant → Reply) (j : Job
 reported_told m n reply j (Ok b) r e = (b, (taken_same (with_both b m) n _ r e).1)
 reported_told m n reply j (Err x) r e = cc
 
+-- the same where the grant's job is looked up
 on_both_told : (m n : Queue) (decide : Job → Grant → Result JobAndGrant Refusal) (reply : Queue → JobAndGrant → Reply) (g : Grant) (o : Option Job) (r : Reply) → machine.on_both m decide reply g o ≡ Taken n r → (b : JobAndGrant) × (reply (with_both b m) b ≡ r)
 on_both_told m n decide reply g None r e = cc
 on_both_told m n decide reply g (Some j) r e = reported_told m n reply j (decide j g) r e
 
+-- the same where the grant is looked up
 pub on_grant_told : (m n : Queue) (decide : Job → Grant → Result JobAndGrant Refusal) (reply : Queue → JobAndGrant → Reply) (o : Option Grant) (r : Reply) → machine.on_grant m decide reply o ≡ Taken n r → (b : JobAndGrant) × (reply (with_both b m) b ≡ r)
 on_grant_told m n decide reply None r e = cc
 on_grant_told m n decide reply (Some g) r e = on_both_told m n decide reply g (job_numbered g.job m) r e
@@ -215,6 +228,7 @@ on_grant_told m n decide reply (Some g) r e = on_both_told m n decide reply g (j
 abbrev TellsNoGrant : (Queue → JobAndGrant → Reply) → Type 0
 TellsNoGrant reply = (q : Queue) (b : JobAndGrant) (a x : ℕ) → hands (reply q b) a x ≡ false
 
+-- a report on a grant that counts what was reported moves the job's counters so
 on_grant_moves : (m n : Queue) (ask : Ask) (b : ℕ) (decide : Job → Grant → Result JobAndGrant Refusal) (reply : Queue → JobAndGrant → Reply) (reports : List Report) (r : Reply)
     → TellsNoGrant reply
     → ((g : Grant) (x : ℕ) → grant_numbered b m ≡ Some g → fresh m ask x ≡ cond (eqb g.job x) reports [])
@@ -227,21 +241,25 @@ on_grant_moves m n ask b decide reply reports r none fronts made e =
     (report_moved m ask b it.grant it.job it.both reports it.is it.of (made it.job it.grant it.both it.made) (λ x. fronts it.grant x it.is) r
     (λ a x. ap (λ (q : Reply). hands q a x) (sym told.1) ∙ none (with_both told.0 m) told.0 a x))
 
+-- no reports are none either way
 either_way : (b : Bool) → ◌≡◌ {A = List Report} [] (cond b [] [])
 either_way true = refl
 either_way false = refl
 
 -- ---- a request for work
 
+-- where neither the list nor the one behind it passes, none is found
 found_end : {X : Type 0} (q : X → Bool) (xs : List X) (y : X) → find q xs ≡ None → q y ≡ false → find q (xs ++ y ∷ []) ≡ None
 found_end q xs y none off = find-append q xs (y ∷ []) ∙ ap (λ o. option_or o (find q (y ∷ []))) none ∙ ap (λ b. cond b (Some y) None) off
 
 module _ (m : Queue) (h : Sound m) (g : Grant) (is : g.number ≡ m.next_grant) where
+  -- no grant has the next number yet
   none_at : (a : ℕ) → eqb g.number a ≡ true → grant_numbered a m ≡ None
   none_at a on =
       let here : a ≡ m.next_grant = sym (eqb-true g.number a on) ∙ is in
       absent (λ (z : Grant). z.number) 1 a m.grants h.grants (omega (arith, h.next_grant, here))
 
+  -- beside a new grant, each number has the job that it had, or the new one's
   grants_more : (a x : ℕ) (o : Option Grant) (b : Bool) → grant_numbered a m ≡ o → eqb g.number a ≡ b
       → has_job x (find (λ (z : Grant). eqb z.number a) (m.grants ++ g ∷ [])) ≡ ((b && eqb g.job x) || has_job x o)
   grants_more a x None true e on = ap (has_job x) (comes (λ (z : Grant). eqb z.number a) m.grants g e on) ∙ or_false (eqb g.job x)
@@ -253,6 +271,7 @@ module _ (m : Queue) (h : Sound m) (g : Grant) (is : g.number ≡ m.next_grant) 
   grants_more a x (Some old) true e on = absurd (let no = sym (none_at a on) ∙ e in cc)
   grants_more a x (Some old) false e off = ap (has_job x) (stays (λ (z : Grant). eqb z.number a) m.grants g old e)
 
+-- a request for work that is given a grant moves the queue by it
 given_moves : (s : Settings) (m n : Queue) (t : ℕ) (modem : List ℕ) (r : Reply) → Sound m → GivenTo s m t modem n r → Moved m n (Next modem) r
 given_moves s m n t modem r h (None_to none same told) =
     subst (λ (q : Reply). Moved m n (Next modem) q) told (subst (λ (q : Queue). Moved m q (Next modem) NoneToSend) same (record {
@@ -272,6 +291,7 @@ given_moves s m n t modem r h (Best_to j best none same told) =
 
 -- ---- each request
 
+-- each request that is taken moves the queue so
 act_moves : (s : Settings) (m n : Queue) (t : ℕ) (ask : Ask) (r : Reply) → Sound m → act s m t ask ≡ Taken n r → Moved m n ask r
 act_moves s m n t (Submission o) r h e = submission_moves m n o (s.rule o.dial) s.max_jobs t (submit o (s.rule o.dial) m.next_job s.max_jobs t) r refl e
 act_moves s m n t (Bring i) r h e = import_moves s m n i (s.rule i.order.dial) s.max_jobs t (bring i (s.rule i.order.dial) m.next_job s.max_jobs t) r refl e

@@ -23,32 +23,39 @@ abbrev in_order : List Post → List Request
 in_order [] = []
 in_order (p ∷ earlier) = in_order earlier ++ p.request ∷ []
 
+-- one more request is decided where those before it lead
 one_more : (s : Settings) (m : Queue) (rs : List Request) (r : Request) → machine.queue_after s m (rs ++ r ∷ []) ≡ left_by (machine.queue_after s m rs) (decided s (machine.queue_after s m rs) r)
 one_more s m [] r = refl
 one_more s m (x ∷ rs) r = one_more s (left_by m (decided s m x)) rs r
 
+-- posts in order lead where looking back over them leads
 ordered : (s : Settings) (m : Queue) (posts : List Post) → machine.queue_after s m (in_order posts) ≡ queue_after s m posts
 ordered s m [] = refl
 ordered s m (p ∷ earlier) = one_more s m (in_order earlier) p.request ∙ ap (λ (q : Queue). left_by q (decided s q p.request)) (ordered s m earlier)
 
+-- newer posts lead on from where the older lead
 pub after_split : (s : Settings) (m : Queue) (newer older : List Post) → queue_after s m (newer ++ older) ≡ queue_after s (queue_after s m older) newer
 after_split s m [] older = refl
 after_split s m (p ∷ newer) older = ap (λ (q : Queue). left_by q (decided s q p.request)) (after_split s m newer older)
 
+-- one more lawful request leaves all lawful
 lawful_more : (rs : List Request) (r : Request) → AreLawful rs → IsLawfulAsk r.ask → AreLawful (rs ++ r ∷ [])
 lawful_more [] r are is = (is, tt)
 lawful_more (x ∷ rs) r are is = (are.0, lawful_more rs r are.1 is)
 
 -- ---- parts of what was taken
 
+-- of posts that were taken, the older were taken
 pub earlier_taken : (s : Settings) (m : Queue) (newer older : List Post) → AreTaken s m (newer ++ older) → AreTaken s m older
 earlier_taken s m [] older are = are
 earlier_taken s m (p ∷ newer) older are = earlier_taken s m newer older are.2
 
+-- the requests of the newer are lawful
 lawful_part : (s : Settings) (m : Queue) (newer older : List Post) → AreTaken s m (newer ++ older) → AreLawful (in_order newer)
 lawful_part s m [] older are = tt
 lawful_part s m (p ∷ newer) older are = lawful_more (in_order newer) p.request (lawful_part s m newer older are.2) are.0
 
+-- the queue is sound after posts that were taken
 pub sound_after : (s : Settings) (m : Queue) (posts : List Post) → Sound m → AreTaken s m posts → Sound (queue_after s m posts)
 sound_after s m [] h are = h
 sound_after s m (p ∷ earlier) h (lawful, on, are) = decided_sound s (queue_after s m earlier) p.request (sound_after s m earlier h are) lawful
@@ -74,26 +81,32 @@ module _ (s : Settings) (m : Queue) (between earlier : List Post) (p : Post) (gr
   abbrev now : Queue
   now = queue_after s m (between ++ p ∷ earlier)
 
+  -- the post that confirms the page was taken behind the earlier ones
   its : AreTaken s m (p ∷ earlier)
   its = earlier_taken s m between (p ∷ earlier) are
 
+  -- the queue before it was sound
   sound : Sound was
   sound = sound_after s m earlier h its.2
 
+  -- its report was taken
   report : (r : Reply) × (step s was (decided_at was.clock p.request.moment) (PageReport grant page) ≡ Taken then' r)
   report =
       let it = taken_step was (decided s was p.request) its.1 in
       (it.0, ap (step s was (decided_at was.clock p.request.moment)) (sym asks) ∙ it.1)
 
+  -- what came between leads on from there
   since' : machine.queue_after s then' (in_order between) ≡ now
   since' = ordered s then' between ∙ sym (after_split s m between (p ∷ earlier))
 
+  -- a later grant of the job begins behind the page
   pub granted_no_more : (q : Post) (modem : List ℕ) (n : Queue) (handed : Handed) → q.request.ask ≡ Next modem → decided s now q.request ≡ Taken n (Given handed) → handed.job ≡ g.job → page < handed.from
   granted_no_more q modem n handed asked given same =
       let u = decided_at now.clock q.request.moment in
       not_again s was then' (decided_at was.clock p.request.moment) grant page report.0 g (in_order between) u modem n handed sound (lawful_part s m between (p ∷ earlier) are) report.1
       (ap (λ (x : Queue). step s x u (Next modem)) since' ∙ ap (step s now u) (sym asked) ∙ given) is same
 
+  -- a later report of a page of the job is of one behind it
   pub confirmed_no_more : (q : Post) (other more : ℕ) (n : Queue) (told : Reply) (i : Grant) → q.request.ask ≡ PageReport other more → decided s now q.request ≡ Taken n told → grant_numbered other now ≡ Some i → i.job ≡ g.job → page < more
   confirmed_no_more q other more n told i asked again at same =
       let u = decided_at now.clock q.request.moment in

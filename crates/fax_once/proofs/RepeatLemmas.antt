@@ -38,25 +38,30 @@ module _ (t : ℕ) (a : Arrival) (r : Reading) where
   abbrev other : Arrival
   other = record a { moment = t }
 
+  -- what a body says under a number it says at another moment
   for_body : (number : ℕ) (route : Route) → IsForBody a number route r → IsForBody other number route (moved t r)
   for_body number route (inl (ask, asks, is)) = inl (ask, asks, ap (moved t) is)
   for_body number route (inr (fault, refused, is)) = inr (fault, refused, ap (moved t) is)
 
+  -- the same whether the sender is at fault or not
   by_number : (route : Route) (n : Result ℕ Refusal) → MatchResult n (λ number. IsForBody a number route r) (λ refusal. r ≡ Faulty refusal)
       → MatchResult n (λ number. IsForBody other number route (moved t r)) (λ refusal. moved t r ≡ Faulty refusal)
   by_number route (Ok number) h = for_body number route h
   by_number route (Err refusal) h = ap (moved t) h
 
+  -- the same whether a view is asked for or not
   for_route : (route : Route) (o : Option View)
       → MatchOption o (MatchResult (number_of a) (λ number. IsForBody a number route r) (λ refusal. r ≡ Faulty refusal)) (λ what. r ≡ Sees a.moment what)
       → MatchOption o (MatchResult (number_of a) (λ number. IsForBody other number route (moved t r)) (λ refusal. moved t r ≡ Faulty refusal)) (λ what. moved t r ≡ Sees t what)
   for_route route None h = by_number route (number_of a) h
   for_route route (Some what) h = ap (moved t) h
 
+  -- the same whether there is a route or not
   by_route : (o : Option Route) → MatchOption o (r ≡ Faulty NoRoute) (IsForRoute a r) → MatchOption o (moved t r ≡ Faulty NoRoute) (IsForRoute other (moved t r))
   by_route None h = ap (moved t) h
   by_route (Some route) h = for_route route (seen_by route) h
 
+  -- an arrival reads the same at another moment
   at_another_moment : IsReading a r → IsReading other (moved t r)
   at_another_moment h = by_route (request_of a.method a.path.now) h
 
@@ -72,6 +77,7 @@ same_reading a b r same h =
 
 -- ---- the entry of a number that was new
 
+-- where none is found, one behind them that passes is
 found_behind : (q : Entry → Bool) (k : List Entry) (e : Entry) → find q k ≡ None → q e ≡ true → find q (k ++ e ∷ []) ≡ Some e
 found_behind q [] e none is = rw is refl
 found_behind q (x ∷ k) e none is = elim (cases_Bool (q x)) [
@@ -93,9 +99,11 @@ kept_since p k reply none =
 whole : (told : Reply) (reply : Response) → reply ≡ accepted_response (Replied told) → kept_response reply.status reply.body ≡ reply
 whole told reply is = ap (λ r. kept_response r.status r.body) is ∙ sym is
 
+-- a number that is less compares so
 is_below : (a b : ℕ) → a < b → nat_lt a b ≡ true
 is_below a b low = grind (arith, nat_tests)
 
+-- an arrival has one number
 number_once : (a : Arrival) (n m : ℕ) → number_of a ≡ Ok n → number_of a ≡ Ok m → n ≡ m
 number_once a n m is also = let same : ◌≡◌ {A = Result ℕ Refusal} (Ok n) (Ok m) = sym is ∙ also in cc
 

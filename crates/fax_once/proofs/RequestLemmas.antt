@@ -29,6 +29,7 @@ use Rattle.fax_once.specs.declared.sender.Sender.{Sender}
 
 -- ---- which requests ask for a view
 
+-- where the body asks to see something, the request asks for that view
 seen : (r : Request) (body : List ℕ) (what : Sight) → Asks r body (View what) → seen_by r ≡ Some what
 seen Submit body what is = absurd (let e = is.2 in cc)
 seen Import body what is = absurd (let e = is.2 in cc)
@@ -45,6 +46,7 @@ seen (Page n) body what is = absurd (let e = is.2 in cc)
 seen (Outcome n) body what is = absurd (let e = is.2 in cc)
 seen Floor body what is = absurd (let e = is.2 in cc)
 
+-- where the body asks for a step, the request asks for no view
 unseen : (r : Request) (body : List ℕ) (ask : Ask) → Asks r body (Step ask) → seen_by r ≡ None
 unseen Submit body ask is = refl
 unseen Import body ask is = refl
@@ -63,6 +65,7 @@ unseen Floor body ask is = refl
 
 -- ---- readings
 
+-- what is to be seen is read so, whether there is a route or not
 for_view : (a : Arrival) (o : Option Request) (what : Sight) → MatchOption o ⊥ (λ r. Asks r a.body.now (View what)) → MatchOption o (Sees a.moment what ≡ Faulty NoRoute) (IsForRoute a (Sees a.moment what))
 for_view a None what is = absurd is
 for_view a (Some r) what is = by (seen_by r) (seen r a.body.now what is)
@@ -80,10 +83,12 @@ posted a v r is post = by (seen_by r) is
     by None e = post
     by (Some n) e = absurd cc
 
+-- a body is read under the arrival's number
 by_number : (a : Arrival) (v : Reading) (r : Request) (number : ℕ) → number_of a ≡ Ok number → IsForBody a number r v
     → MatchResult (number_of a) (λ n. IsForBody a n r v) (λ refusal. v ≡ Faulty refusal)
 by_number a v r number is post = subst (λ (x : Result ℕ Refusal). MatchResult x (λ n. IsForBody a n r v) (λ refusal. v ≡ Faulty refusal)) (sym is) post
 
+-- a sender at fault is refused so
 by_refusal : (a : Arrival) (r : Request) (e : Refusal) → number_of a ≡ Err e
     → MatchResult (number_of a) (λ n. IsForBody a n r (Faulty e)) (λ refusal. Faulty e ≡ Faulty refusal)
 by_refusal a r e is = subst (λ (x : Result ℕ Refusal). MatchResult x (λ n. IsForBody a n r (Faulty e)) (λ refusal. Faulty e ≡ Faulty refusal)) (sym is) refl
@@ -95,6 +100,7 @@ for_step a None number ask of is = absurd is
 for_step a (Some r) number ask of is =
     posted a (Posts (post_of a number ask)) r (unseen r a.body.now ask is) (by_number a (Posts (post_of a number ask)) r number of (inl (ask, is, refl)))
 
+-- a step asked for by a sender at fault reads as the fault
 for_sender : (a : Arrival) (o : Option Request) (e : Refusal) (ask : Ask) → number_of a ≡ Err e → MatchOption o ⊥ (λ r. Asks r a.body.now (Step ask))
     → MatchOption o (Faulty e ≡ Faulty NoRoute) (IsForRoute a (Faulty e))
 for_sender a None e ask of is = absurd is
@@ -107,6 +113,7 @@ pub where_open : {A E : Type 0} (r : Result A E) (C S : Type 0) (P : A → Type 
 where_open (Ok a) C S P opens clean so = so (opens clean)
 where_open (Err e) C S P opens clean so = tt
 
+-- an arrival that asks for a view is answered by it, and nothing changes
 pub view_answers : {E : Type 0} (result : Result Response E) (s : Settings) (a : Arrival) (m : Queue) (k : Ledger) (x : Asked) (what : Sight) (store : State)
     → IsAsk a.method a.path.now a.body.now x → x ≡ View what → IfOk result (λ reply. reply ≡ view s m (decided_at m.clock a.moment) what) → Means store m k → Answers s a m k result store
 view_answers (Ok reply) s a m k x what store is shown replied rests = (
@@ -122,11 +129,13 @@ pub is_post : (s : Settings) (a : Arrival) (m : Queue) (k : Ledger) (sender : Se
 is_post s a m k sender x ask is asked from =
     (Posts (post_of a sender.number ask), for_step a (request_of a.method a.path.now) sender.number ask from.number (subst (λ (y : Asked). IsAsk a.method a.path.now a.body.now y) asked is), refl)
 
+-- an arrival that asks for a step is answered by what is asked for under its number
 pub step_answers : {E : Type 0} (result : Result Response E) (s : Settings) (a : Arrival) (m : Queue) (k : Ledger) (sender : Sender) (x : Asked) (ask : Ask) (store : State)
     → IsAsk a.method a.path.now a.body.now x → x ≡ Step ask → IsSender a sender → LeavesBy m k result store (asked_for s m k (post_of a sender.number ask)) → Answers s a m k result store
 step_answers (Ok reply) s a m k sender x ask store is asked from leaves = (asked_for s m k (post_of a sender.number ask), is_post s a m k sender x ask is asked from, leaves)
 step_answers (Err e) s a m k sender x ask store is asked from leaves = leaves
 
+-- an arrival whose sender is at fault is refused so, and nothing changes
 pub sender_answers : {E : Type 0} (result : Result Response E) (s : Settings) (a : Arrival) (m : Queue) (k : Ledger) (x : Asked) (ask : Ask) (e : Refusal) (store : State)
     → IsAsk a.method a.path.now a.body.now x → x ≡ Step ask → number_of a ≡ Err e → IfOk result (λ reply. reply ≡ refused_response e NoKeys) → Means store m k → Answers s a m k result store
 sender_answers (Ok reply) s a m k x ask e store is asked of replied rests = (
@@ -194,6 +203,7 @@ no_body_fault (Ready n) body is = absurd (let no = is in cc)
 no_body_fault (Down n) body is = absurd (let no = is in cc)
 no_body_fault (Next n) body is = absurd (let no = is in cc)
 
+-- an arrival with no route is refused so
 pub unrouted : (s : Settings) (a : Arrival) (m : Queue) (k : Ledger) (reply : Response) → IsRefused a.method a.path.now a.body.now NoRoute → reply ≡ refused_response NoRoute NoKeys → IsVerdict s a m k (Told reply)
 unrouted s a m k reply refused told = (Faulty NoRoute, by (request_of a.method a.path.now) refused, ap (λ (x : Response). Told x) told)
   where

@@ -21,6 +21,7 @@ use Rattle.fax_store.specs.Kept.{kept_for}
 
 -- ---- a number is new where nothing is kept for it
 
+-- none is found with one more behind them where none was and it doesn't pass
 none_behind : (q : Entry → Bool) (k : List Entry) (e : Entry) → is_none (find q (k ++ e ∷ [])) ≡ (is_none (find q k) && not (q e))
 none_behind q [] e = by (q e) refl
   where
@@ -33,6 +34,7 @@ none_behind q (x ∷ k) e = by (q x) refl (none_behind q k e)
     by true is rest = rw is refl
     by false is rest = rw is rest
 
+-- not this and not that is neither
 regroup : (a b x : Bool) → ((a && not b) && not x) ≡ (a && not (x || b))
 regroup false b x = refl
 regroup true true true = refl
@@ -42,6 +44,7 @@ regroup true false false = refl
 
 -- ---- floors
 
+-- the floors that are kept are those after the posts
 pub kept_floors : (s : Settings) (start : Start) (posts : List Post) → (kept_after s start posts).floor ≡ floors_after start posts
 kept_floors s start [] = refl
 kept_floors s start (p ∷ earlier) = floors_same p.client p.request.ask (kept_after s start earlier) ∙ ap (floors_by p.client p.request.ask) (kept_floors s start earlier)
@@ -50,10 +53,12 @@ kept_floors s start (p ∷ earlier) = floors_same p.client p.request.ask (kept_a
 abbrev pub is_free : Ledger → List ℕ → ℕ → Bool
 is_free k client number = nat_lt (k.floor client) number && is_none (kept_for client number k.replies)
 
+-- a number is new with one more post where it was and isn't that post's, as long as it is above the floor
 one_more : (g k n n' a b x : Bool) → (g ≡ true → k ≡ true) → (g ≡ true → n' ≡ n) → (k && n) ≡ (k && (a && not b)) → (g && (n' && not x)) ≡ (g && (a && not (x || b)))
 one_more false k n n' a b x up same is = refl
 one_more true k n n' a b x up same is = let found : n ≡ (a && not b) = rw (up refl) at is in ap (λ y. y && not x) (same refl ∙ found) ∙ regroup a b x
 
+-- a number that is free is one that is new
 pub new_is_free : (s : Settings) (start : Start) (earlier : List Post) (p : Post) → is_free (kept_after s start earlier) p.client p.number ≡ is_new start earlier p
 new_is_free s start [] p = ap (λ b. nat_lt (start.kept.floor p.client) p.number && b) (by (is_none (kept_for p.client p.number start.kept.replies)))
   where
@@ -76,6 +81,7 @@ new_is_free s start (q ∷ earlier) p =
 
 -- ---- a request that is raised is taken as it was, and leaves the same queue
 
+-- a request whose floor is raised is taken as it was, and leaves the same queue
 pub raised_step : (s : Settings) (m : Queue) (t floor : ℕ) (ask : Ask) → (left_by m (step s m t (raised_ask floor ask)) ≡ left_by m (step s m t ask)) × (takes (step s m t (raised_ask floor ask)) ≡ takes (step s m t ask))
 raised_step s m t floor ask = elim (gives ask) [
   | inl it ↦ (ap (λ a. left_by m (step s m t (raised_ask floor a))) it.1 ∙ ap (λ a. left_by m (step s m t a)) (sym it.1), ap (λ a. takes (step s m t (raised_ask floor a))) it.1 ∙ ap (λ a. takes (step s m t a)) (sym it.1))
@@ -106,13 +112,16 @@ module _ (s : Settings) (start : Start) (earlier : List Post) where
     abbrev if_taken : Bool → Bool → List Post
     if_taken new low = if new && (low && takes (decided s m p.request)) then p ∷ earlier else earlier
 
+    -- so is the post
     same : (left_by m (decided s m it.request) ≡ left_by m (decided s m p.request)) × (takes (decided s m it.request) ≡ takes (decided s m p.request))
     same = raised_step s m (decided_at m.clock p.request.moment) (k.floor p.client) p.request.ask
 
+    -- a number with a kept reply leads nowhere, whether it says the same or not
     by_bytes : (e : Entry) (b : Bool) → bytes_eq e.said p.said ≡ b → here ≡ left_of here (repeated p.said e)
     by_bytes e true is = rw is refl
     by_bytes e false is = rw is refl
 
+    -- where the step takes it, it leads where the step does
     by_step : (x : Step) → decided s m it.request ≡ x → after (if takes x then p ∷ earlier else earlier) ≡ left_of here (stepped it k x)
     by_step (Taken q told) is =
         let queue : left_by m (decided s m p.request) ≡ q = sym same.0 ∙ ap (left_by m) is in
@@ -120,25 +129,30 @@ module _ (s : Settings) (start : Start) (earlier : List Post) where
         ∙ ap (λ (x : Step). record { queue = q; kept = kept_with it k (step_reply x) }) is
     by_step (Refused refusal keys) is = refl
 
+    -- what gives up its own reply leads nowhere, and all else where it is decided
     by_high : (b : Bool) → is_too_high p.number p.request.ask ≡ b → after (if_taken true (not b)) ≡ left_of here (if b then denied FloorHigh else decided_new s m k it)
     by_high true is = refl
     by_high false is = ap (λ (b : Bool). after (if b then p ∷ earlier else earlier)) (sym same.1) ∙ by_step (decided s m it.request) refl
 
+    -- the same whether a reply is kept for the number or not
     by_entry : (o : Option Entry) → kept_for p.client p.number k.replies ≡ o → after (if_taken (is_none o) (not (is_too_high p.number p.request.ask))) ≡ left_of here (taken_once o p.said (new_asked s m k (k.floor p.client) p))
     by_entry None is = by_high (is_too_high p.number p.request.ask) refl
     by_entry (Some e) is = by_bytes e (bytes_eq e.said p.said) refl
 
+    -- the same whether the number is above the floor or not
     by_floor : (b : Bool) → nat_lt (k.floor p.client) p.number ≡ b
         → after (if_taken (b && is_none (kept_for p.client p.number k.replies)) (not (is_too_high p.number p.request.ask)))
         ≡ left_of here (if b then asked_above s m k (k.floor p.client) p else denied GivenUp)
     by_floor true is = by_entry (kept_for p.client p.number k.replies) refl
     by_floor false is = refl
 
+    -- a post leads where its verdict does
     posted : after (with_taken s start earlier (Posts p)) ≡ left_of here (verdict s m k (Posts p))
     posted =
         ap (λ (b : Bool). after (if_taken b (not (is_too_high p.number p.request.ask)))) (sym (new_is_free s start earlier p))
         ∙ by_floor (nat_lt (k.floor p.client) p.number) refl
 
+  -- each reading leads where its verdict does
   pub behind : (r : Reading) → after (with_taken s start earlier r) ≡ left_of here (verdict s m k r)
   behind (Faulty refusal) = refl
   behind (Sees moment what) = refl

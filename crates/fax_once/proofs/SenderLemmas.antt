@@ -17,17 +17,21 @@ use Rattle.std.proofs.lemmas.Bool.Decides.{nat_tests}
 use Rattle.std.proofs.lemmas.Str.{IsUtf8-from_ascii}
 use Rattle.fax_job.specs.Name.{is_name, is_name_byte}
 
+-- where both are true, the first is
 left_true : (a b : Bool) → (a && b) ≡ true → a ≡ true
 left_true true b e = refl
 left_true false b e = e
 
+-- where both are true, the second is
 right_true : (a b : Bool) → (a && b) ≡ true → b ≡ true
 right_true true b e = e
 right_true false b e = cc
 
+-- a byte of a name is ASCII
 name_byte_ascii : (byte : ℕ) → is_name_byte byte ≡ true → byte < 128
 name_byte_ascii byte e = grind (arith, nat_tests)
 
+-- so is each byte in it
 name_bytes_ascii : (bytes : List ℕ) → list_all is_name_byte bytes ≡ true → (i : ℕ) → slice_index bytes i < 128
 name_bytes_ascii [] e i = lit< tt
 name_bytes_ascii (byte ∷ bytes) e zero = name_byte_ascii byte (left_true _ _ e)

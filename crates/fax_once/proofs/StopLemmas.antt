@@ -89,6 +89,7 @@ asked_stops s a m k sender x ask old new is asked from stops found may =
 
 -- ---- a GET
 
+-- what a GET comes to makes no rows
 none_made : (s : Settings) (a : Arrival) (m : Queue) (k : Ledger) (found : Trees) → a.method ≡ Get → (r : Reading) → IsReading a r → AreMadeBy (verdict s m k r) found → ⊥
 none_made s a m k found get (Faulty refusal) reads made = made
 none_made s a m k found get (Sees moment what) reads made = made

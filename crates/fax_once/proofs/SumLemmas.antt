@@ -22,6 +22,7 @@ use Rattle.fax_once.specs.Run.{queue_after, takes}
 
 -- ---- what is reported of a job
 
+-- what is reported is the same for grants that are told apart the same
 reported_same : (f g : ℕ → Bool) → ((a : ℕ) → f a ≡ g a) → (ask : Ask) → reported f ask ≡ reported g ask
 reported_same f g same (CallReport a c) = ap (λ b. if b then Called c ∷ [] else []) (same a)
 reported_same f g same (PageReport a p) = ap (λ b. if b then Confirmed ∷ [] else []) (same a)
@@ -37,6 +38,7 @@ reported_same f g same (Down modem) = refl
 reported_same f g same (Next modem) = refl
 reported_same f g same (GiveUp upto) = refl
 
+-- where no grant is its, nothing is reported
 reported_none : (ask : Ask) → reported (λ a. false) ask ≡ []
 reported_none (CallReport a c) = refl
 reported_none (PageReport a p) = refl
@@ -62,6 +64,7 @@ record Sums (s : Settings) (posts : List Post) (m : Queue) : Type 0 where
   none : (x : ℕ) → m.next_job ≤ x → reports_of s empty_queue x posts ≡ []
   none_in : (x : ℕ) → m.next_job ≤ x → brought_with s empty_queue x posts ≡ no_counters
 
+-- the empty queue has the sums of no posts
 no_sums : (s : Settings) → Sums s [] empty_queue
 no_sums s = record {
   sound = empty_sound;
@@ -77,6 +80,7 @@ other_job : (is here : Bool) (came before : Counters) → here ≡ false → (if
 other_job true here came before off = ap (λ (b : Bool). if b then came else before) off
 other_job false here came before off = refl
 
+-- a job that is this one has what came in, where nothing came in else
 its_job : (is here : Bool) (came before : Counters) → here ≡ true → (is ≡ false → came ≡ before) → (if is && here then came else before) ≡ came
 its_job true here came before on none = ap (λ (b : Bool). if b then came else before) on
 its_job false here came before on none = sym (none refl)
@@ -86,9 +90,11 @@ module _ (s : Settings) (p : Post) (earlier : List Post) (lawful : IsLawfulAsk p
   m = queue_after s empty_queue earlier
 
   module _ (is : decided s m p.request ≡ Taken n r) (sums : Sums s earlier m) where
+    -- the post moves the queue
     moved : Moved m n p.request.ask r
     moved = step_moves s m n (decided_at m.clock p.request.moment) p.request.ask r sums.sound is
 
+    -- what it reports of a job is on the grants that were given with it
     its : (x : ℕ) → reported (λ grant. was_given s empty_queue earlier grant x) p.request.ask ≡ fresh m p.request.ask x
     its x = reported_same (λ grant. was_given s empty_queue earlier grant x) (λ a. has_job x (grant_numbered a m)) (λ a. sym (sums.grants a x)) p.request.ask
 
@@ -111,9 +117,11 @@ module _ (s : Settings) (p : Post) (earlier : List Post) (lawful : IsLawfulAsk p
         ap (λ (y : Step). if takes_in y x then came_in p.request.ask else brought_with s empty_queue x earlier) is
         ∙ ap (λ (b : Bool). if b then came_in p.request.ask else brought_with s empty_queue x earlier) (step_brings s m n (decided_at m.clock p.request.moment) p.request.ask r sums.sound is x)
 
+    -- where the job isn't the next one, what came in with it stays
     brought_before : (x : ℕ) → (m.next_job == x) ≡ false → brought_with s empty_queue x (p ∷ earlier) ≡ brought_with s empty_queue x earlier
     brought_before x off = brought_more x ∙ other_job (is_import p.request.ask) (m.next_job == x) (came_in p.request.ask) (brought_with s empty_queue x earlier) off
 
+    -- the next job has what came in with this request
     brought_now : (x : ℕ) → x ≡ m.next_job → brought_with s empty_queue x (p ∷ earlier) ≡ came_in p.request.ask
     brought_now x new =
         let high : m.next_job ≤ x = omega (arith, new) in
@@ -121,6 +129,7 @@ module _ (s : Settings) (p : Post) (earlier : List Post) (lawful : IsLawfulAsk p
         ∙ its_job (is_import p.request.ask) (m.next_job == x) (came_in p.request.ask) (brought_with s empty_queue x earlier) (eq-eqb m.next_job x (sym new))
         (λ no. none_came p.request.ask no ∙ sym (sums.none_in x high))
 
+    -- the counters of each job are its sums, with this post
     became : (x : ℕ) (j : Job) → Became m p.request.ask x j → counters_of j ≡ counts (brought_with s empty_queue x (p ∷ earlier)) (reports_of s empty_queue x (p ∷ earlier))
     became x j (Was i there counted) =
         let low = below m x i sums.sound there in
@@ -133,6 +142,7 @@ module _ (s : Settings) (p : Post) (earlier : List Post) (lawful : IsLawfulAsk p
         none ∙ sym (brought_now x new) ∙ sym (counts_none (brought_with s empty_queue x (p ∷ earlier)))
         ∙ ap (λ (rs : List Report). counts (brought_with s empty_queue x (p ∷ earlier)) rs) (sym (unknown x high))
 
+    -- a grant that is known, from this post or before, is of a job whose number is given out
     known_by : (a x : ℕ) → (hands r a x ≡ true) ⊎ (has_job x (grant_numbered a m) ≡ true) → x < n.next_job
     known_by a x (inl new) = let low = moved.given a x new in let more = moved.numbers in omega (arith, low, more)
     known_by a x (inr old) = let low = sums.known a x old in let more = moved.numbers in omega (arith, low, more)
@@ -148,6 +158,7 @@ module _ (s : Settings) (p : Post) (earlier : List Post) (lawful : IsLawfulAsk p
           brought_more x ∙ ap (λ (b : Bool). if b && (m.next_job == x) then came_in p.request.ask else brought_with s empty_queue x earlier) off ∙ sums.none_in x (omega (arith, more, high))
     ]
 
+    -- so the sums hold with this post
     sums_more : Sums s (p ∷ earlier) n
     sums_more = record {
       sound = step_sound s m n (decided_at m.clock p.request.moment) p.request.ask r sums.sound lawful is;
@@ -160,11 +171,13 @@ module _ (s : Settings) (p : Post) (earlier : List Post) (lawful : IsLawfulAsk p
       none_in = λ x high. none_now x high;
     }
 
+-- the same of a step that takes it
 sums_by : (s : Settings) (p : Post) (earlier : List Post) (x : Step) → IsLawfulAsk p.request.ask → decided s (queue_after s empty_queue earlier) p.request ≡ x → takes x ≡ true
     → Sums s earlier (queue_after s empty_queue earlier) → Sums s (p ∷ earlier) (left_by (queue_after s empty_queue earlier) x)
 sums_by s p earlier (Taken n r) lawful is on sums = sums_more s p earlier lawful n r is sums
 sums_by s p earlier (Refused refusal keys) lawful is on sums = absurd cc
 
+-- they hold after all posts that were taken
 all_sums : (s : Settings) (posts : List Post) → AreTaken s empty_queue posts → Sums s posts (queue_after s empty_queue posts)
 all_sums s [] are = no_sums s
 all_sums s (p ∷ earlier) (lawful, on, are) = sums_by s p earlier (decided s (queue_after s empty_queue earlier) p.request) lawful refl on (all_sums s earlier are)

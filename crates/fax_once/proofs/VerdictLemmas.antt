@@ -38,6 +38,7 @@ use Rattle.fax_once.specs.declared.sender.Sender.{Sender}
 is_below : (a b : ℕ) → a < b → nat_lt a b ≡ true
 is_below a b low = grind (arith, nat_tests)
 
+-- a number through another isn't above it
 is_through : (a b : ℕ) → b ≤ a → nat_lt a b ≡ false
 is_through a b low = grind (arith, nat_tests)
 
@@ -126,6 +127,7 @@ raised_is s m k floor number a ask raised is = by (is_too_high number ask) is
     by true e = absurd cc
     by false e = let same : raised ≡ raised_ask floor ask = cc in ap (λ x. decided_new s m k (post_of a number x)) same
 
+-- what gives up its own reply is refused
 pub too_high_is : (s : Settings) (m : Queue) (k : Ledger) (floor number : ℕ) (a : Arrival) (ask : Ask) → ◌≡◌ {A = Option Ask} None (if is_too_high number ask then None else Some (raised_ask floor ask))
     → denied FloorHigh ≡ new_asked s m k floor (post_of a number ask)
 too_high_is s m k floor number a ask is = by (is_too_high number ask) is
@@ -151,6 +153,7 @@ raised_lawful floor number ask raised is lawful = elim (gives ask) [
 
 -- ---- what is asked for
 
+-- what is decided at the later of moment and clock is what it comes to
 pub decided_is : (s : Settings) (a : Arrival) (m : Queue) (k : Ledger) (number t : ℕ) (ask : Ask) → t ≡ decided_at m.clock a.moment
     → stepped (post_of a number ask) k (step s m t ask) ≡ decided_new s m k (post_of a number ask)
 decided_is s a m k number t ask now = ap (λ (u : ℕ). stepped (post_of a number ask) k (step s m u ask)) now
