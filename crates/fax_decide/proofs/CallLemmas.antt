@@ -25,6 +25,7 @@ more x xs ys true false e same = absurd cc
 more x xs ys false true e same = absurd cc
 more x xs ys false false e same = same
 
+-- tests that agree on each element keep the same
 same_filter : {X : Type 0} (p q : X → Bool) → ((x : X) → p x ≡ q x) → (xs : List X) → filter p xs ≡ filter q xs
 same_filter p q same [] = refl
 same_filter p q same (x ∷ xs) = more x (filter p xs) (filter q xs) (p x) (q x) (same x) (same_filter p q same xs)
@@ -35,6 +36,7 @@ same_calls dial m n same of =
     ap (λ gs. length gs) (ap (λ gs. filter (λ g. is_of_number dial (job_numbered g.job m)) gs) same
     ∙ same_filter (λ (g : Grant). is_of_number dial (job_numbered g.job m)) (λ (g : Grant). is_of_number dial (job_numbered g.job n)) (λ g. of g.job) (open_grants n))
 
+-- a job keeps its number to dial as it ages
 pub aged_dial : (t : ℕ) (j : Job) → (aged_job t j).dial ≡ j.dial
 aged_dial t j = by (expires j.phase && is_past j.killtime t) refl
   where
@@ -42,6 +44,7 @@ aged_dial t j = by (expires j.phase && is_past j.killtime t) refl
     by true e = rw e refl
     by false e = rw e refl
 
+-- a job that is found, or none, is to the same number once aged
 aged_of : (dial : List ℕ) (t : ℕ) (o : Option Job) → is_of_number dial (option_map (aged_job t) o) ≡ is_of_number dial o
 aged_of dial t None = refl
 aged_of dial t (Some j) = ap (λ text. bytes_eq text dial) (aged_dial t j)
@@ -50,6 +53,7 @@ aged_of dial t (Some j) = ap (λ text. bytes_eq text dial) (aged_dial t j)
 pub calls_aged : (dial : List ℕ) (t : ℕ) (m : Queue) → calls_to dial (aged t m) ≡ calls_to dial m
 calls_aged dial t m = same_calls dial (aged t m) m refl (λ a. ap (is_of_number dial) (aged_numbered m t a) ∙ aged_of dial t (job_numbered a m))
 
+-- a job put in the place of one to the same number leaves what is found to that number
 placed_of : (dial : List ℕ) (j k : Job) (a : ℕ) (o : Option Job) → ((x : Job) → o ≡ Some x → x.number ≡ j.number → x ≡ k) → j.dial ≡ k.dial → is_of_number dial (option_map (in_place (λ (x : Job). x.number) j) o) ≡ is_of_number dial o
 placed_of dial j k a None one same = refl
 placed_of dial j k a (Some x) one same = elim (cases_Bool (x.number == j.number)) [
@@ -71,9 +75,11 @@ calls_changed dial m j k is same =
 
 -- ---- states
 
+-- the state of a job is the same in the aged queue
 pub state_aged : (s : Settings) (m : Queue) (t : ℕ) (j : Job) → state s (aged t m) t j ≡ state s m t j
 state_aged s m t j = ap (λ calls. state_at j ((s.rule j.dial).hours t) calls (s.rule j.dial).calls t) (calls_aged j.dial t m)
 
+-- and it is the same where the job itself was changed there
 pub state_changed : (s : Settings) (m : Queue) (t : ℕ) (j k : Job) → job_numbered j.number (aged t m) ≡ Some k → j.dial ≡ k.dial → state s (with_job j (aged t m)) t j ≡ state s m t j
 state_changed s m t j k is same =
     ap (λ calls. state_at j ((s.rule j.dial).hours t) calls (s.rule j.dial).calls t) (calls_changed j.dial (aged t m) j k is same ∙ calls_aged j.dial t m)
@@ -87,17 +93,21 @@ one false = 0
 abbrev open_to : (Grant → Bool) → List Grant → ℕ
 open_to of gs = length (filter of (filter (λ g. g.is_open) gs))
 
+-- one more that passes, or not, is counted as 1 or 0
 passed : (g : Grant) (gs : List Grant) (b : Bool) → length (cond b (g ∷ gs) gs) ≡ one b + length gs
 passed g gs true = omega arith
 passed g gs false = omega arith
 
+-- one more that is open, or not, adds 1 or 0 to those that pass
 opened : (of : Grant → Bool) (g : Grant) (gs : List Grant) (b : Bool) → length (filter of (cond b (g ∷ gs) gs)) ≡ one (b && of g) + length (filter of gs)
 opened of g gs true = passed g (filter of gs) (of g)
 opened of g gs false = omega arith
 
+-- one more grant adds 1 where it is open and passes
 open_more : (of : Grant → Bool) (g : Grant) (gs : List Grant) → open_to of (g ∷ gs) ≡ one (g.is_open && of g) + open_to of gs
 open_more of g gs = opened of g (filter (λ h. h.is_open) gs) g.is_open
 
+-- a greater number is another
 other_number : (a b : ℕ) → a < b → eqb b a ≡ false
 other_number a b less = grind (arith, nat_tests)
 
@@ -110,6 +120,7 @@ untouched k a (g ∷ gs) is less =
     let off : eqb g.number k.number ≡ false = other_number k.number g.number (omega (arith, first, less)) in
     (rw off (ap (λ (hs : List Grant). g ∷ hs) (untouched k (a + 1) gs rest (omega (arith, less)))))
 
+-- where an open grant that passes is closed in its place, one less is open
 one_less : (of : Grant → Bool) (k g : Grant) (a : ℕ) (gs : List Grant) → map (λ h. h.number) gs ≡ range_with_len a (length gs) → find (λ h. eqb h.number k.number) gs ≡ Some g
     → k.is_open ≡ false → g.is_open ≡ true → of g ≡ true → open_to of (map (in_place (λ (h : Grant). h.number) k) gs) + 1 ≡ open_to of gs
 one_less of k g a [] is found shut open' counts = absurd cc

@@ -42,24 +42,29 @@ expired j = record j { phase = Failed; status = kill_time_expired }
 
 -- ---- lists
 
+-- what holds of each holds of one among them
 in_all : {X : Type 0} (P : X → Type 0) (xs : List X) (x : X) → All P xs → In x xs → P x
 in_all P [] x all i = absurd i
 in_all P (y ∷ ys) x all (inl s) = subst P s (all 0 y (omega arith))
 in_all P (y ∷ ys) x all (inr i) = in_all P ys x (λ k d h. all (suc k) d (omega arith)) i
 
+-- what holds of each one among them holds of each
 all_in : {X : Type 0} (P : X → Type 0) (xs : List X) → ((x : X) → In x xs → P x) → All P xs
 all_in P [] h k d below = absurd (omega (arith, below))
 all_in P (x ∷ xs) h zero d below = h x (inl refl)
 all_in P (x ∷ xs) h (suc k) d below = all_in P xs (λ y i. h y (inr i)) k d (omega arith)
 
+-- what is among some is among them in any order
 in_permuted : {X : Type 0} (xs ys : List X) (x : X) → IsPermutation xs ys → In x ys → In x xs
 in_permuted xs ys x h i = in_all (λ y. In y xs) ys x (All-permutation (λ y. In y xs) xs ys h (all_in (λ y. In y xs) xs (λ y there. there))) i
 
+-- what is made of one among them is among what is made of them
 in_map : {X Y : Type 0} (f : X → Y) (xs : List X) (x : X) → In x xs → In (f x) (map f xs)
 in_map f [] x i = i
 in_map f (y ∷ ys) x (inl s) = inl (ap f s)
 in_map f (y ∷ ys) x (inr i) = inr (in_map f ys x i)
 
+-- one among what is made of them is made of one of them
 of_map : {X Y : Type 0} (f : X → Y) (xs : List X) (y : Y) → In y (map f xs) → (x : X) × In x xs × (f x ≡ y)
 of_map f [] y i = absurd i
 of_map f (x ∷ xs) y (inl s) = (x, inl refl, s)
@@ -67,6 +72,7 @@ of_map f (x ∷ xs) y (inr i) = let r = of_map f xs y i in (r.0, inr r.1, r.2)
 
 -- ---- which jobs wait
 
+-- a job that is due waits, and its kill time isn't past
 due_parts : (j : Job) (t : ℕ) → is_due j t ≡ true → (is_waiting j.phase ≡ true) × (is_past j.killtime t ≡ false)
 due_parts j t e =
     let a = and_parts _ (leb j.next t) e in
@@ -74,6 +80,7 @@ due_parts j t e =
     let c = and_parts (is_waiting j.phase) _ b.0 in
     (c.0, not-true (is_past j.killtime t) c.1)
 
+-- an and with false is false
 and_false : (a b : Bool) → b ≡ false → (a && b) ≡ false
 and_false true b e = e
 and_false false b e = refl
@@ -91,6 +98,7 @@ due_was k t e = by (expires k.phase && is_past k.killtime t) e
     by false e = refl
 
 module _ (m : Queue) (t : ℕ) (jobs : List Job) (w : AreWaiting t m jobs) where
+  -- each that waits is in the queue, and due
   waiting_due : (j : Job) → In j jobs → In j m.jobs × (is_due j t ≡ true)
   waiting_due j i = of_filter (λ (k : Job). is_due k t) m.jobs j (in_permuted (filter (λ (k : Job). is_due k t) m.jobs) jobs j w.due i)
 
@@ -112,21 +120,27 @@ module _ (m : Queue) (t : ℕ) (jobs : List Job) (w : AreWaiting t m jobs) where
 abbrev lex : ℕ → ℕ → ℕ → ℕ → ℕ → ℕ → Bool
 lex p t n q u k = ltb p q || (eqb p q && (ltb t u || (eqb t u && ltb n k)))
 
+-- nothing comes before itself
 lex_not_itself : (p t n : ℕ) → lex p t n p t n ≡ false
 lex_not_itself p t n = grind (arith, nat_tests)
 
+-- where one doesn't come before another, nor that before a third, it doesn't come before that
 lex_not_through : (p t n q u k r v l : ℕ) → lex p t n q u k ≡ false → lex q u k r v l ≡ false → lex p t n r v l ≡ false
 lex_not_through p t n q u k r v l a b = grind (arith, nat_tests)
 
+-- where the comparison in turn says no, none of its ways says yes
 lex_not : (p t n q u k : ℕ) → lex p t n q u k ≡ false → (p < q) ⊎ ((p ≡ q) × ((t < u) ⊎ ((t ≡ u) × (n < k)))) → ⊥
 lex_not p t n q u k e h = grind (arith, nat_tests)
 
+-- a job that isn't better doesn't precede
 not_precedes : (j k : Job) → better j k ≡ false → Precedes j k → ⊥
 not_precedes j k e p = lex_not j.priority j.tts j.number k.priority k.tts k.number e p
 
+-- where one isn't better than another, nor that than a third, it isn't better than that
 not_better_through : (i j k : Job) → better i j ≡ false → better j k ≡ false → better i k ≡ false
 not_better_through i j k a b = lex_not_through i.priority i.tts i.number j.priority j.tts j.number k.priority k.tts k.number a b
 
+-- a list in order is in order behind its first
 sorted_rest : (x : Job) (xs : List Job) → IsSortedBy better (x ∷ xs) → IsSortedBy better xs
 sorted_rest x xs up k d low high =
     let next : suc k + 1 ≡ suc (k + 1) = omega arith in
@@ -146,6 +160,7 @@ least_by p x xs j k true e up h (inr i) passes ih = let same : x ≡ j = cc in s
 least_by p x xs j k false e up h (inl s) passes ih = absurd (true≢false (sym passes ∙ sym (ap p s) ∙ e))
 least_by p x xs j k false e up h (inr i) passes ih = ih h i
 
+-- in a list in order, none that passes is better than the first that does
 first_best : (p : Job → Bool) (xs : List Job) (j k : Job) → IsSortedBy better xs → find p xs ≡ Some j → In k xs → p k ≡ true → better k j ≡ false
 first_best p [] j k up h i passes = absurd i
 first_best p (x ∷ xs) j k up h i passes = least_by p x xs j k (p x) refl up h i passes (λ rest there. first_best p xs j k (sorted_rest x xs up) rest there passes)
@@ -156,6 +171,7 @@ module _ (s : Settings) (m : Queue) (t : ℕ) (modem : List ℕ) (jobs : List Jo
   abbrev goes : Job → Bool
   goes = may_go s m t modem
 
+  -- one that waits and goes, may go
   may_go_of : (j : Job) → In j jobs → goes j ≡ true → MayGo s (aged t m) t modem j
   may_go_of j i e =
       let parts = and_parts (eqb (state s m t j) 5) (s.admits j.modem modem) e in
@@ -165,6 +181,7 @@ module _ (s : Settings) (m : Queue) (t : ℕ) (modem : List ℕ) (jobs : List Jo
         admitted = parts.1;
       }
 
+  -- one that may go, waits and goes
   waits_of : (k : Job) → MayGo s (aged t m) t modem k → In k jobs × (goes k ≡ true)
   waits_of k g =
       let there : In k (aged t m).jobs = found_in (λ (j : Job). eqb j.number k.number) (aged t m).jobs k g.there in (
@@ -172,12 +189,14 @@ module _ (s : Settings) (m : Queue) (t : ℕ) (modem : List ℕ) (jobs : List Jo
         ap₂ ◌&&◌ (ap (λ (n : ℕ). eqb n 5) (sym (state_aged s m t k) ∙ g.ready)) g.admitted,
       )
 
+  -- the first that goes is the best
   first_is : (j : Job) → find goes jobs ≡ Some j → IsBest s (aged t m) t modem j
   first_is j e = record {
     goes = may_go_of j (found_in goes jobs j e) (found goes jobs j e);
     least = λ k g p. let h = waits_of k g in not_precedes k j (first_best goes jobs j k w.ordered e h.0 h.1) p;
   }
 
+  -- the first that goes, if any, is the best, if any
   by_cases : (o b : Option Job) → find goes jobs ≡ o → best s (aged t m) t modem ≡ b → o ≡ b
   by_cases None None e h = refl
   by_cases None (Some k) e h =
@@ -213,6 +232,7 @@ ready_in Waiting j hours calls limit t waits past tts next =
     by false true = refl
     by false false = refl
 
+-- a job that is due may go where a call to its number may begin and its modem value admits the modem
 pub goes_due : (s : Settings) (m : Queue) (t : ℕ) (modem : List ℕ) (j : Job) → is_due j t ≡ true → may_go s m t modem j ≡ (may_call s j.dial (calls_to j.dial m) t && s.admits j.modem modem)
 goes_due s m t modem j due =
     let a = and_parts _ (leb j.next t) due in
@@ -246,6 +266,7 @@ none_more p (x ∷ xs) j none fails = by (p x) none (none_more p xs j)
 abbrev pub jobs_of : List JobFields → List Job
 jobs_of fs = map (λ f. job_of f) fs
 
+-- lawful jobs are those of their records
 pub jobs_again : (js : List Job) → All (λ j. job_of (fields_of j) ≡ j) js → jobs_of (map fields_of js) ≡ js
 jobs_again [] all = refl
 jobs_again (j ∷ js) all = ap₂ ◌∷◌ (all 0 j (omega arith)) (jobs_again js (λ k d h. all (suc k) d (omega arith)))
@@ -293,9 +314,11 @@ module _ (asked : Asked) (m : Queue) (given : List Job) (j : Job) (page : List R
   abbrev rest : List Job
   rest = h.read ++ filter (is_behind front) h.all
 
+  -- the one that is given is amid those that are asked for
   amid : h.all ≡ given ++ j ∷ rest
   amid = h.parts ∙ append_assoc given (j ∷ []) rest
 
+  -- an element is amid a list with it
   in_amid : (xs : List Job) → In j (xs ++ j ∷ rest)
   in_amid [] = inl refl
   in_amid (x ∷ xs) = inr (in_amid xs)
@@ -311,6 +334,7 @@ module _ (asked : Asked) (m : Queue) (given : List Job) (j : Job) (page : List R
 
 -- ---- those to a busy number are passed over
 
+-- where none that is left out passes, the first that passes is the same
 find_others : (p q : Job → Bool) (xs : List Job) → ((j : Job) → In j xs → q j ≡ false → p j ≡ false) → find p (filter q xs) ≡ find p xs
 find_others p q [] h = refl
 find_others p q (x ∷ xs) h = by (q x) refl (find_others p q xs (λ j i. h j (inr i)))
@@ -343,6 +367,7 @@ first_known s m t modem asked ends busy found same but (is, first) = (
   λ free. subst (λ (x : ℕ). IsFirst s m x modem found) same (first_of_all s m asked modem found (subst (λ (x : ℕ). IsBusy s m x asked.but) (sym same) but) (first free)),
 )
 
+-- what is none isn't some
 pub none_is_one : {X : Type 0} (o : Option X) → o ≡ None → is_some o ≡ true → ⊥
 none_is_one None none one = true≢false (sym one)
 none_is_one (Some x) none one = none-some x (sym none)

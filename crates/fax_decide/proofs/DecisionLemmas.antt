@@ -33,9 +33,11 @@ decided_where decision (Err e) result is ok = absurd (let no = ok in cc)
 pub refused_as : (e : Refusal) (keys : machine.Keys) → IsRefused (machine.Refused e keys) (refused_response e keys)
 refused_as e keys = record { refusal = e; keys = keys; refused = refl; replied = refl }
 
+-- the same of the reply that it is
 pub refused_like : (e : Refusal) (keys : machine.Keys) (reply : Response) → reply ≡ refused_response e keys → IsRefused (machine.Refused e keys) reply
 refused_like e keys reply same = record { refusal = e; keys = keys; refused = refl; replied = same }
 
+-- where no more is told of a refusal, no keys of the job are
 pub plain_keys : (e : Refusal) (j : Job) → has_detail e ≡ false → keys_of_job e j ≡ machine.NoKeys
 plain_keys PageOrder j is = absurd (let no = is in cc)
 plain_keys e j is = refl

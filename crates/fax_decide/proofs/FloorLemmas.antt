@@ -8,5 +8,6 @@ use Rattle.fax_core.specs.Reply.{Floored, Taken}
 use Rattle.fax_decide.specs.Decision.{IsTaken}
 use Rattle.fax_decide.specs.declared.effect.Effect.TheVariants as effect
 
+-- giving up replies leaves the aged queue, and tells the floor
 pub floor_raised : (m : Queue) (t upto : ℕ) (reply : Response) → reply ≡ accepted_response (Replied (Floored upto)) → IsTaken (Taken (aged t m) (Floored upto)) m t effect.Nothing reply
 floor_raised m t upto reply replied = record { suits = _; told = Floored upto; taken = refl; replied = replied }

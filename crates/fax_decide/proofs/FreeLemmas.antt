@@ -38,10 +38,12 @@ last_number number a x (y ∷ ys) before after = elim (cases_Bool (nat_lt (numbe
       absurd (omega (arith, first, second)))
 ]
 
+-- where there is none to be found, none is
 none_by : {X : Type 0} (o : Option X) → ((x : X) → o ≡ Some x → ⊥) → o ≡ None
 none_by None never = refl
 none_by (Some x) never = absurd (never x refl)
 
+-- what a list has is in it
 in_had : {X : Type 0} (xs : List X) (x : X) → Has xs x → In x xs
 in_had [] x has = has
 in_had (y ∷ ys) x (inl is) = inl (sym is)
@@ -58,29 +60,37 @@ job_free t j m sound after =
 
 -- a grant that leaves one has such a number, and neither its modem nor its job held one
 module _ (m after : Queue) (g : Grant) (sound : Sound m) (still : Sound after) (is : after.grants ≡ placed (λ (h : Grant). h.number) g m.grants) (is_open : g.is_open ≡ true) where
+  -- the grant has the next number
   next : g.number ≡ 1 + length m.grants
   next = last_number (λ (h : Grant). h.number) 1 g m.grants sound.grants (subst (λ (gs : List Grant). map (λ (h : Grant). h.number) gs ≡ range_with_len 1 (length gs)) is still.grants)
 
+  -- so the queue has no grant of it
   unknown : grant_numbered g.number m ≡ None
   unknown = absent (λ (h : Grant). h.number) 1 g.number m.grants sound.grants (omega (arith, next))
 
+  -- it comes at the end
   grants_are : after.grants ≡ m.grants ++ g ∷ []
   grants_are = is ∙ grant_placed m g sound (omega (arith, next, sound.next_grant))
 
+  -- it is open afterwards
   new_open : IsOpen after g.number g
   new_open = (ap (find (λ (h : Grant). h.number == g.number)) grants_are ∙ comes (λ (h : Grant). h.number == g.number) m.grants g unknown (eq-eqb g.number g.number refl), is_open)
 
   -- one that was open is so still, and is another
   module _ (h : Grant) (there : In h (open_grants m)) where
+    -- the queue has it under its number
     was : grant_numbered h.number m ≡ Some h
     was = in_found (λ (x : Grant). x.number) 1 m.grants h sound.grants (of_filter (λ (x : Grant). x.is_open) m.grants h there).0
 
+    -- it is open afterwards
     old_open : IsOpen after h.number h
     old_open = (ap (find (λ (x : Grant). x.number == h.number)) grants_are ∙ stays (λ (x : Grant). x.number == h.number) m.grants g h was, (of_filter (λ (x : Grant). x.is_open) m.grants h there).1)
 
+    -- its number is another
     other : h.number ≡ g.number → ⊥
     other same = let both = sym (subst (λ n. grant_numbered n m ≡ Some h) same was) ∙ unknown in cc
 
+  -- the new grant takes neither a number, nor a modem or a job that holds one
   pub grant_free : IsNewGrant g m
   grant_free = record {
     number = unknown;

@@ -65,6 +65,7 @@ queue_is m t f j g sound is n =
     ap (λ (k : Job). with_new_grant (both k g) (aged t m)) (sym is)
     ∙ ap (λ (gs : List Grant). record (with_job (job_in (aged t m) f) (aged t m)) { grants = gs; next_grant = m.next_grant + 1 }) (sym (grant_placed m g sound n))
 
+-- the number to dial of the grant's job is that of its changed record
 dial_there : (m : Queue) (c : Change) (j : Job) (f : JobFields) (g : Grant) → job_numbered j.number m ≡ Some j → g.job ≡ j.number → job_of f ≡ changed c j
     → dial_of (job_numbered g.job (with_new_grant (both (changed c j) g) m)) ≡ f.dial
 dial_there m c j f g there of is =
@@ -121,6 +122,7 @@ pub none_given : (P : Step → Type 0) (s : Settings) (m : Queue) (t : ℕ) (mod
     → P (machine.Taken (aged t m) machine.NoneToSend) → P (given_best s (aged t m) modem (best s (aged t m) t modem))
 none_given P s m t modem none holds = subst (λ (o : Option Job). P (given_best s (aged t m) modem o)) none holds
 
+-- where no job may go, the aged queue is left, and the modem is told so
 pub none_taken : (m : Queue) (t : ℕ) → IsTaken (machine.Taken (aged t m) machine.NoneToSend) m t Nothing (accepted_response (Replied machine.NoneToSend))
 none_taken m t = record { suits = _; told = machine.NoneToSend; taken = refl; replied = refl }
 
@@ -153,12 +155,14 @@ held_told P m t modem g one hold f sound held is_hold is_one is_job told =
 -- ---- a modem of the setup that isn't down
 
 module _ (s : Settings) (m : Queue) (t : ℕ) (modem : List ℕ) (has : s.has_modem modem ≡ true) (up : is_down modem m ≡ false) where
+  -- such a modem is given work where it holds no grant
   given_up : given_to s (aged t m) t modem ≡ given_free s (aged t m) t modem (held_by modem m)
   given_up =
       let down = cond (is_down modem m) (machine.Refused ModemDown machine.NoKeys) (given_free s (aged t m) t modem (held_by modem m)) in
       ap (λ b. cond (not b) (machine.Refused NoModem machine.NoKeys) down) has
       ∙ ap (λ b. cond b (machine.Refused ModemDown machine.NoKeys) (given_free s (aged t m) t modem (held_by modem m))) up
 
+  -- where no hold is told, there is none
   none_held : (o : Option Grant) → None ≡ option_map as_hold o → o ≡ None
   none_held None e = refl
   none_held (Some g) e = absurd (none-some (as_hold g) e)

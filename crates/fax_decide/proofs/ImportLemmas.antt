@@ -36,6 +36,7 @@ use Rattle.fax_decide.proofs.SubmissionLemmas.{recorded_ok, recorded_err}
 
 -- ---- a new job is called by none
 
+-- tests that agree on each element of a list keep the same of it
 same_of : {X : Type 0} (p q : X → Bool) (xs : List X) → ((x : X) → In x xs → p x ≡ q x) → filter p xs ≡ filter q xs
 same_of p q [] same = refl
 same_of p q (x ∷ xs) same = more x (filter p xs) (filter q xs) (p x) (q x) (same x (inl refl)) (same_of p q xs (λ y there. same y (inr there)))
@@ -47,11 +48,13 @@ of_old dial m j g sound there =
     let old = sound.held g.number g (in_found (λ (h : Grant). h.number) 1 m.grants g sound.grants f.0, f.1) in
     ap (is_of_number dial) (stays (λ (k : Job). eqb k.number g.job) m.jobs j old.0 old.1 ∙ sym old.1)
 
+-- a new job adds no call to any number
 calls_new : (dial : List ℕ) (m : Queue) (j : Job) → Sound m → calls_to dial (with_new_job j m) ≡ calls_to dial m
 calls_new dial m j sound =
     ap (λ (gs : List Grant). length gs)
     (same_of (λ (g : Grant). is_of_number dial (job_numbered g.job (with_new_job j m))) (λ (g : Grant). is_of_number dial (job_numbered g.job m)) (open_grants m) (λ g there. of_old dial m j g sound there))
 
+-- the state of a new job is the same in the queue with it
 state_new : (s : Settings) (m : Queue) (t : ℕ) (j : Job) → Sound m → state s (with_new_job j (aged t m)) t j ≡ state s m t j
 state_new s m t j sound =
     ap (λ calls. state_at j ((s.rule j.dial).hours t) calls (s.rule j.dial).calls t) (calls_new j.dial (aged t m) j (aged_sound t m sound) ∙ calls_aged j.dial t m)
@@ -70,9 +73,11 @@ job_brought s m t rule f meta st reply sound these next st_is replied = record {
 
 -- ---- what is decided
 
+-- an import that a record could hold was decided, with its number
 pub bring_number : (i : Import) (rule : Rule) (n max t : ℕ) (f : JobFields) → Ok (job_of f) ≡ recorded (bring i rule n max t) → (bring i rule n max t ≡ Ok (job_of f)) × (f.job ≡ n)
 bring_number i rule n max t f is = let one = recorded_ok (bring i rule n max t) (job_of f) is in (one, (bring_counts i rule n max t (job_of f) one).number)
 
+-- an import is refused with its rule's keys, unless no record could hold it
 pub refused_import : (s : Settings) (m : Queue) (t : ℕ) (rule : Rule) (r : Result Job Refusal) (e : Refusal) (reply : Response) → Err e ≡ recorded r → (e ≡ Unavailable → ⊥) → reply ≡ refused_response e (keys_of_rule e rule) → IsRefused (brought_in s m t rule r) reply
 refused_import s m t rule r e reply is never replied = record {
   refusal = e;
@@ -103,6 +108,7 @@ module _ (i : Import) (rule : Rule) (next max t : ℕ) (e : Refusal) (h : record
           refused_or (λ y. ¬ (y ≡ Rejected)) (not (is_ended i.state) && is_over i.order.totpages rule.pages) TooManyPages e _ x (λ n. cc) (λ x.
           refused_or (λ y. ¬ (y ≡ Rejected)) (nat_lt max next) Full e (Ok (brought i.state (old_job i next t))) x (λ n. cc) (λ x. absurd cc))
 
+  -- of a refusal but by the rule no more is told
   pub bring_plain : ¬ (e ≡ Rejected) → has_detail e ≡ false
   bring_plain not_so = elim (recorded_or (bring i rule next max t) e h) [
     | inl refused ↦ bring_refused (λ x. ¬ (x ≡ Rejected) → has_detail x ≡ false) (λ no. absurd (no refl)) (λ _. refl) (λ _. refl) i rule next max t e refused not_so

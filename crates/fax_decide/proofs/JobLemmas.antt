@@ -48,6 +48,7 @@ with_lines m c f g is = ap (with_its_lines m) (recorded_is (job_of g) (changed c
 pub same_order : (m : Queue) (t : ℕ) (c : Change) (j : Job) → job_numbered j.number (aged t m) ≡ Some j → IsChange (changed c j) (with_expired t m)
 same_order m t c j is k of = let one : k ≡ j = (let both = sym of ∙ is in cc) in subst (λ (x : Job). IsSameOrder x (changed c j)) (sym one) (record { dial = refl; totpages = refl })
 
+-- a changed job is taken, and its state is told
 taken_of : (s : Settings) (m : Queue) (t : ℕ) (c : Change) (j : Job) (g : JobFields) (st : ℕ) (reply : Response)
     → job_numbered j.number (aged t m) ≡ Some j → job_in (aged t m) g ≡ changed c j → st ≡ state s m t (job_of g) → reply ≡ accepted_response (Replied (Stands g.job st))
     → IsTaken (machine.changed s (aged t m) t (Ok (changed c j))) m t (ChangedJob g) reply

@@ -30,12 +30,14 @@ module _ (lines : List Pair) where
   abbrev pub lined : Job → Job
   lined j = record j { extra = lines }
 
+  -- lines come to either of two jobs alike
   either : (b : Bool) (x y i j : Job) → lined x ≡ i → lined y ≡ j → lined (cond b x y) ≡ cond b i j
   either true x y i j first second = first
   either false x y i j first second = second
 
   -- ---- its state, and what time does to it
 
+  -- the state is the same with these lines
   pub state_lined : (phase : Phase) (j : Job) (hours : Bool) (calls limit t : ℕ) → state_in phase (lined j) hours calls limit t ≡ state_in phase j hours calls limit t
   state_lined Held j hours calls limit t = refl
   state_lined Waiting j hours calls limit t = refl
@@ -43,6 +45,7 @@ module _ (lines : List Pair) where
   state_lined Done j hours calls limit t = refl
   state_lined Failed j hours calls limit t = refl
 
+  -- ageing leaves them
   pub aged_lined : (t : ℕ) (j : Job) → lined (aged_job t j) ≡ aged_job t (lined j)
   aged_lined t j = either (expires j.phase && is_past j.killtime t) (record j { phase = Failed; status = kill_time_expired }) j _ _ refl refl
 
@@ -52,6 +55,7 @@ module _ (lines : List Pair) where
   job_lined (Ok j) = Ok (lined j)
   job_lined (Err e) = Err e
 
+  -- a suspension decides the same with them
   suspend_lined : (phase : Phase) (w : Wish) (j : Job) → job_lined (suspend_in phase w j) ≡ suspend_in phase w (lined j)
   suspend_lined Held w j = refl
   suspend_lined Waiting w j = refl
@@ -61,6 +65,7 @@ module _ (lines : List Pair) where
   suspend_lined Done w j = refl
   suspend_lined Failed w j = refl
 
+  -- a resumption does
   resume_lined : (phase : Phase) (w : Wish) (j : Job) → job_lined (resume_in phase w j) ≡ resume_in phase w (lined j)
   resume_lined Held w j = refl
   resume_lined Waiting w j = refl
@@ -70,6 +75,7 @@ module _ (lines : List Pair) where
   resume_lined Done w j = refl
   resume_lined Failed w j = refl
 
+  -- a kill does
   kill_lined : (phase : Phase) (j : Job) → job_lined (kill_in phase j) ≡ kill_in phase (lined j)
   kill_lined Held j = refl
   kill_lined Waiting j = refl
@@ -77,10 +83,12 @@ module _ (lines : List Pair) where
   kill_lined Done j = refl
   kill_lined Failed j = refl
 
+  -- so does the limit of an alteration
   limits_lined : (b : Bool) (j : Job) → job_lined (cond b (Err LimitReached) (Ok j)) ≡ cond b (Err LimitReached) (Ok (lined j))
   limits_lined true j = refl
   limits_lined false j = refl
 
+  -- an alteration does
   alter_lined : (phase : Phase) (changes : Alter) (j : Job) (t : ℕ) → job_lined (alter_in phase changes j t) ≡ alter_in phase changes (lined j) t
   alter_lined Held changes j t =
       let k = altered changes j t in
@@ -90,6 +98,7 @@ module _ (lines : List Pair) where
   alter_lined Done changes j t = refl
   alter_lined Failed changes j t = refl
 
+  -- each request on a job decides the same with them
   pub decision_lined : (ask : JobAsk) (t : ℕ) (j : Job) → job_lined (decision_on ask t j) ≡ decision_on ask t (lined j)
   decision_lined Suspend t j = suspend_lined j.phase j.wish j
   decision_lined Resume t j = resume_lined j.phase j.wish j
@@ -102,10 +111,12 @@ module _ (lines : List Pair) where
   both_lined (Ok b) = Ok (record b { job = lined b.job })
   both_lined (Err e) = Err e
 
+  -- so does what is refused by a test of no lines, where the rest does
   unless : (b : Bool) (e : Refusal) (x y : Result JobAndGrant Refusal) → both_lined x ≡ y → both_lined (cond b (Err e) x) ≡ cond b (Err e) y
   unless true e x y same = refl
   unless false e x y same = same
 
+  -- a call leaves them
   called : (c : Call) (j : Job) → lined (after_call c j) ≡ after_call c (lined j)
   called calls.Connected j = refl
   called calls.Busy j = refl
@@ -113,18 +124,22 @@ module _ (lines : List Pair) where
   called calls.NoCarrier j = refl
   called calls.Other j = refl
 
+  -- a report of a call decides the same with them
   pub call_lined : (c : Call) (j : Job) (g : Grant) → both_lined (call c j g) ≡ call c (lined j) g
   call_lined c j g =
       unless (not g.is_open) GrantClosed _ _
       (unless (is_some g.call) CallKnown _ _ (ap (λ (k : Job). Ok (record { job = k; grant = record g { call = Some c } })) (called c j)))
 
+  -- a page leaves them
   paged : (left : List ℕ) (n : ℕ) (j : Job) (g : Grant) → both_lined (page_of left n j g) ≡ page_of left n (lined j) g
   paged [] n j g = refl
   paged (p ∷ rest) n j g = unless (not (p == n)) PageOrder _ _ refl
 
+  -- a report of a page decides the same with them
   pub page_lined : (n : ℕ) (j : Job) (g : Grant) → both_lined (page n j g) ≡ page n (lined j) g
   page_lined n j g = unless (not g.is_open) GrantClosed _ _ (unless (not (is_connected g.call)) NotConnected _ _ (paged j.left n j g))
 
+  -- a job to be tried again keeps them
   retry_lined : (j : Job) (reason : List ℕ) (delay t : ℕ) → lined (retried j reason delay t) ≡ retried (lined j) reason delay t
   retry_lined j reason delay t =
       either (is_kill j.wish) (failed j killed) _ _ _ refl
@@ -133,12 +148,14 @@ module _ (lines : List Pair) where
       (either (nat_le j.maxtries j.tottries) (failed j too_many_tries) _ _ _ refl
       (either (nat_le 3 j.ntries) (failed j unable_to_transmit) _ _ _ refl refl))))
 
+  -- a job whose grant ended keeps them
   ended_lined : (left : List ℕ) (e : Ending) (o : Outcome) (j : Job) (delay t : ℕ) → o.ending ≡ e → lined (ended left o j delay t) ≡ ended left o (lined j) delay t
   ended_lined [] e o j delay t is = refl
   ended_lined (p ∷ rest) ending.Done o j delay t is = rw is refl
   ended_lined (p ∷ rest) ending.Fail o j delay t is = rw is refl
   ended_lined (p ∷ rest) ending.Retry o j delay t is = rw is (retry_lined j o.reason delay t)
 
+  -- a report of an outcome decides the same with them
   pub outcome_lined : (o : Outcome) (j : Job) (g : Grant) (delay t : ℕ) → both_lined (outcome o j g delay t) ≡ outcome o (lined j) g delay t
   outcome_lined o j g delay t =
       unless (not g.is_open) GrantClosed _ _
@@ -148,6 +165,7 @@ module _ (lines : List Pair) where
       (unless (is_done o.ending && not (is_empty j.left)) PagesLeft _ _
       (ap (λ (k : Job). Ok (record { job = k; grant = record g { is_open = false } })) (ended_lined j.left o.ending o j delay t refl))))))
 
+  -- the keys of a refusal don't tell them
   pub keys_lined : (e : Refusal) (j : Job) → keys_of_job e (lined j) ≡ keys_of_job e j
   keys_lined PageOrder j = refl
   keys_lined e j = refl

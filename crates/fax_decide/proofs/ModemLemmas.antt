@@ -12,10 +12,12 @@ use Rattle.fax_store.specs.Meta.{with_clock}
 use Rattle.fax_decide.specs.Decision.{IsTaken}
 use Rattle.fax_decide.specs.declared.effect.Effect.TheVariants as effect
 
+-- marking a modem and ageing give the same in either order
 with_mark_aged : (modem : List ℕ) (down : Bool) (t : ℕ) (m : Queue) → with_mark modem down (aged t m) ≡ with_clock t (with_mark modem down (with_expired t m))
 with_mark_aged modem true t m = refl
 with_mark_aged modem false t m = refl
 
+-- a mark of a modem of the setup is taken, and told
 pub modem_marked : (s : Settings) (m : Queue) (t : ℕ) (modem : List ℕ) (down : Bool) (reply : Response) → s.has_modem modem ≡ true → reply ≡ accepted_response (Replied (Marked down))
     → IsTaken (marked s (aged t m) modem down) m t (effect.Marked modem down) reply
 modem_marked s m t modem down reply is replied = record {

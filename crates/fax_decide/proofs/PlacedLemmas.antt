@@ -10,6 +10,7 @@ use Rattle.fax_core.specs.Sound.{Sound}
 use Rattle.fax_core.proofs.StepLemmas.{aged_sound}
 use Rattle.fax_tables.specs.Place.{placed}
 
+-- what has the next number among numbers without a gap is put at the end
 last_placed : {X : Type 0} (number : X → ℕ) (a : ℕ) (x : X) (xs : List X) → map number xs ≡ range_with_len a (length xs) → number x ≡ a + length xs → placed number x xs ≡ xs ++ x ∷ []
 last_placed number a x [] e n = refl
 last_placed number a x (y ∷ ys) e n =

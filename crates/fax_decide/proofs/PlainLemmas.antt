@@ -22,12 +22,14 @@ use Rattle.fax_decide.specs.declared.jobs.JobAsk.TheVariants.{Suspend, Resume, K
 abbrev IsPlain : Refusal → Type 0
 IsPlain e = has_detail e ≡ false
 
+-- of a refused request on a job no more is told than number and word
 pub on_job_plain : (ask : JobAsk) (t : ℕ) (j : Job) (e : Refusal) → decision_on ask t j ≡ Err e → has_detail e ≡ false
 on_job_plain Suspend t j e h = suspend_refused IsPlain refl refl j.phase j.wish j e h
 on_job_plain Resume t j e h = resume_refused IsPlain refl refl refl j.phase j.wish j e h
 on_job_plain Kill t j e h = kill_refused IsPlain refl j.phase j e h
 on_job_plain (Alter changes) t j e h = alter_refused IsPlain refl refl refl refl j.phase changes j t e h
 
+-- nor of a refused report of a call
 pub call_plain : (said : Call) (j : Job) (g : Grant) (e : Refusal) → call said j g ≡ Err e → has_detail e ≡ false
 call_plain said j g e h = call_refused IsPlain refl refl said j g e h
 
@@ -35,9 +37,11 @@ call_plain said j g e h = call_refused IsPlain refl refl said j g e h
 pub page_plain : (said : ℕ) (j : Job) (g : Grant) (e : Refusal) → page said j g ≡ Err e → ¬ (e ≡ PageOrder) → has_detail e ≡ false
 page_plain said j g e h = page_refused (λ x. ¬ (x ≡ PageOrder) → has_detail x ≡ false) (λ _. refl) (λ _. refl) (λ no. absurd (no refl)) said j g e h
 
+-- nor of a refused outcome
 pub outcome_plain : (said : Outcome) (j : Job) (g : Grant) (delay t : ℕ) (e : Refusal) → outcome said j g delay t ≡ Err e → has_detail e ≡ false
 outcome_plain said j g delay t e h = outcome_refused IsPlain refl refl refl refl refl said j g delay t e h
 
+-- nor of a refused grant
 pub grant_plain : (j : Job) (modem : List ℕ) (next max : ℕ) (e : Refusal) → grant j modem next max ≡ Err e → has_detail e ≡ false
 grant_plain j modem next max e h = refused_or IsPlain (nat_lt max next) Full e (Ok (granted j modem next)) h refl (λ x. cc x)
 
@@ -68,6 +72,7 @@ module _ (o : Order) (rule : Rule) (next max t : ℕ) (e : Refusal) (h : recorde
           refused_or (λ y. ¬ (y ≡ Rejected)) (is_over o.totpages rule.pages) TooManyPages e _ x (λ n. cc) (λ x.
           refused_or (λ y. ¬ (y ≡ Rejected)) (nat_lt max next) Full e (Ok (new_job o next t)) x (λ n. cc) (λ x. absurd cc))
 
+  -- nor of a refused submission, but where the rule rejected it
   pub submit_plain : ¬ (e ≡ Rejected) → has_detail e ≡ false
   submit_plain not = elim (recorded_or (submit o rule next max t) e h) [
     | inl refused ↦ submit_refused (λ x. ¬ (x ≡ Rejected) → has_detail x ≡ false) (λ no. absurd (no refl)) (λ _. refl) (λ _. refl) o rule next max t e refused not

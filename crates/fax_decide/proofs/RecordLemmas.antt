@@ -20,6 +20,7 @@ use Rattle.fax_decide.proofs.LinesLemmas.{aged_lined, lined}
 
 -- ---- numbers past the last
 
+-- a lawful job's number is at most 999999
 low_job : (j : Job) → IsLawfulJob j → j.number ≤ 999999
 low_job j h =
     let a = and_parts _ _ h.limits in
@@ -38,14 +39,17 @@ past num P last low (x ∷ xs) n all h = elim (cases_Bool (num x == n)) [
   | inr off ↦ rw off (past num P last low xs n (λ i d within. all (suc i) d (omega arith)) h)
 ]
 
+-- past 999999999 no number has a grant
 pub no_grant : (m : Queue) (n : ℕ) → All IsLawfulGrant m.grants → 999999999 < n → None ≡ grant_numbered n m
 no_grant m n all h = sym (past (λ (g : Grant). g.number) IsLawfulGrant 999999999 (λ g l. l.limits.number.1) m.grants n all h)
 
 -- ---- jobs, as they are at t
 
+-- the job of a number in the aged queue is that of the queue, aged
 pub aged_numbered : (m : Queue) (t n : ℕ) → job_numbered n (aged t m) ≡ option_map (aged_job t) (job_numbered n m)
 aged_numbered m t n = looked_up m (aged_job t) (aged_number t) n
 
+-- past 999999 no number has a job
 pub no_job : (m : Queue) (t n : ℕ) → All IsLawfulJob m.jobs → 999999 < n → None ≡ job_numbered n (aged t m)
 no_job m t n all h = sym (aged_numbered m t n ∙ ap (λ (o : Option Job). option_map (aged_job t) o) (past (λ (j : Job). j.number) IsLawfulJob 999999 low_job m.jobs n all h))
 
@@ -60,6 +64,7 @@ lawful_numbered (x ∷ xs) n j all h = elim (cases_Bool (x.number == n)) [
     same : {X : Type 0} {a b : X} → ◌≡◌ {A = Option X} (Some a) (Some b) → a ≡ b
     same h = cc
 
+-- a job that is found, aged as its record is, is there so
 aged_one : (t : ℕ) (o : Option Job) (f g : JobFields) (row : Option JobFields) → ((j : Job) → o ≡ Some j → IsLawfulJob j) → row ≡ option_map fields_of o → row ≡ Some f → job_of g ≡ aged_job t (job_of f) → Some (job_of g) ≡ option_map (aged_job t) o
 aged_one t None f g row lawful is one old = absurd (let no = sym one ∙ is in cc)
 aged_one t (Some j) f g row lawful is one old =
@@ -67,18 +72,22 @@ aged_one t (Some j) f g row lawful is one old =
     let same : job_of f ≡ j = ap job_of fields ∙ job_again j (lawful j refl).pages in
     ap (λ (k : Job). Some k) (old ∙ ap (aged_job t) same)
 
+-- the record that is found, aged, is the job of its number in the aged queue
 pub found_job : (m : Queue) (t n : ℕ) (f g : JobFields) (row : Option JobFields) → All IsLawfulJob m.jobs → row ≡ option_map fields_of (job_numbered n m) → row ≡ Some f → job_of g ≡ aged_job t (job_of f) → Some (job_of g) ≡ job_numbered n (aged t m)
 found_job m t n f g row all is one old = aged_one t (job_numbered n m) f g row (λ j is_j. lawful_numbered m.jobs n j all is_j) is one old ∙ sym (aged_numbered m t n)
 
+-- where no record is found, no job is there, aged
 aged_none : (t : ℕ) (o : Option Job) (of : Job → JobFields) (row : Option JobFields) → row ≡ option_map of o → row ≡ None → None ≡ option_map (aged_job t) o
 aged_none t None of row is none = refl
 aged_none t (Some j) of row is none = absurd (let no = sym none ∙ is in cc)
 
+-- where no record is found, the aged queue has no job of the number
 pub found_no_job : (m : Queue) (t n : ℕ) (of : Job → JobFields) (row : Option JobFields) → row ≡ option_map of (job_numbered n m) → row ≡ None → None ≡ job_numbered n (aged t m)
 found_no_job m t n of row is none = aged_none t (job_numbered n m) of row is none ∙ sym (aged_numbered m t n)
 
 -- ---- jobs without their extra lines
 
+-- a job keeps its extra lines as it ages
 lines_aged : (t : ℕ) (j : Job) → (aged_job t j).extra ≡ j.extra
 lines_aged t j = by (expires j.phase && is_past j.killtime t) refl
   where
@@ -99,6 +108,7 @@ brief_one m t n (Some j) f g row there lawful is one old =
     let lines : lines_of (job_numbered g.job (aged t m)) ≡ j.extra = ap lines_of found ∙ lines_aged t j in
     ap (λ (k : Job). Some k) (ap (λ (e : List Pair). lined e (job_of g)) lines ∙ ap (lined j.extra) now ∙ aged_lined j.extra t (lined [] j))
 
+-- the record that is found without its lines, aged, is the job of its number, with them
 pub found_brief : (m : Queue) (t n : ℕ) (f g : JobFields) (row : Option JobFields) → All IsLawfulJob m.jobs → row ≡ option_map (λ j. brief (fields_of j)) (job_numbered n m) → row ≡ Some f
     → job_of g ≡ aged_job t (job_of f) → Some (job_in (aged t m) g) ≡ job_numbered n (aged t m)
 found_brief m t n f g row all is one old = brief_one m t n (job_numbered n m) f g row refl (λ j is_j. lawful_numbered m.jobs n j all is_j) is one old ∙ sym (aged_numbered m t n)
@@ -111,6 +121,7 @@ found_itself m n f found is one =
 
 -- ---- what is had where a call succeeds
 
+-- what is had where a call succeeds or is refused is had where it succeeds
 pub if_ok : {A E : Type 0} (r : Result A E) (P : A → Type 0) (Q : E → Type 0) → MatchResult r P Q → IfOk r P
 if_ok (Ok x) P Q h = h
 if_ok (Err e) P Q h = _

@@ -45,6 +45,7 @@ use Rattle.fax_decide.proofs.RecordLemmas.{found_itself}
 
 -- ---- reports that leave the grant open
 
+-- the same grant with what a report changes reports on the one of its number
 reports_on : (m n : Queue) (before grant : Grant) → n.grants ≡ m.grants → grant_numbered before.number m ≡ Some before → IsSameGrant before grant → grant.number ≡ before.number → IsReport grant n
 reports_on m n before grant grants there same number h is =
     let of : grant_numbered before.number m ≡ Some h = subst (λ (a : ℕ). grant_numbered a m ≡ Some h) number (subst (λ gs. find (λ (g : Grant). g.number == grant.number) gs ≡ Some h) grants is) in
@@ -67,6 +68,7 @@ report_taken m t c f g before grant reply_to told reply there same number one sa
   replied = replied;
 }
 
+-- a report of a call is taken, and tells whether to stop
 pub call_taken : (m : Queue) (t : ℕ) (c : Change) (f g : JobFields) (before grant : Grant) (stop : Bool) (reply : Response)
     → AreThere m t f before → IsSameGrant before grant → grant.number ≡ before.number → Ok (job_of g) ≡ recorded (Ok (changed c (job_of f)))
     → stop ≡ stops (job_of g) t → reply ≡ accepted_response (Replied (Called stop))
@@ -74,6 +76,7 @@ pub call_taken : (m : Queue) (t : ℕ) (c : Change) (f g : JobFields) (before gr
 call_taken m t c f g before grant stop reply there same number one stop_is replied =
     report_taken m t c f g before grant (call_reply t) (Called stop) reply there same number (with_lines (aged t m) c f g one) (λ n. ap (λ (b : Bool). Called b) (sym stop_is)) replied
 
+-- a report of a page is taken, and tells the pages sent and whether to stop
 pub page_taken : (m : Queue) (t : ℕ) (c : Change) (f g : JobFields) (before grant : Grant) (stop : Bool) (reply : Response)
     → AreThere m t f before → IsSameGrant before grant → grant.number ≡ before.number → Ok (job_of g) ≡ recorded (Ok (changed c (job_of f)))
     → stop ≡ stops (job_of g) t → reply ≡ accepted_response (Replied (Confirmed g.npages stop))
@@ -84,9 +87,11 @@ page_taken m t c f g before grant stop reply there same number one stop_is repli
 
 -- ---- outcomes
 
+-- closing a grant puts it in its place, open no more
 closed_is : (m n : Queue) (g : Grant) → n.grants ≡ m.grants → grant_numbered g.number m ≡ Some g → with_closed g.number n ≡ with_grant (record g { is_open = false }) n
 closed_is m n g grants there = ap (λ (o : Option Grant). with_shut o n) (ap (λ gs. find (λ (x : Grant). x.number == g.number) gs) grants ∙ there)
 
+-- an outcome is taken, closes the grant, and tells the job's state with one call less
 ended_taken : (s : Settings) (m : Queue) (t : ℕ) (c : Change) (f g : JobFields) (grant : Grant) (calls st : ℕ) (reply : Response)
     → Sound m → AreThere m t f grant → grant.is_open ≡ true → job_in (aged t m) g ≡ changed c (job_in (aged t m) f)
     → calls ≡ calls_to g.dial m - 1 → st ≡ state_with s (job_of g) calls t → reply ≡ accepted_response (Replied (Stands g.job st))
@@ -121,6 +126,7 @@ ended_taken s m t c f g grant calls st reply sound there open' one calls_is st_i
     of : grant.job ≡ g.job
     of = there.of_job ∙ sym number
 
+-- the same where the job is known without its lines
 pub outcome_taken : (s : Settings) (m : Queue) (t : ℕ) (c : Change) (f g : JobFields) (grant : Grant) (calls st : ℕ) (reply : Response)
     → Sound m → AreThere m t f grant → grant.is_open ≡ true → Ok (job_of g) ≡ recorded (Ok (changed c (job_of f)))
     → calls ≡ calls_to g.dial m - 1 → st ≡ state_with s (job_of g) calls t → reply ≡ accepted_response (Replied (Stands g.job st))
@@ -137,6 +143,7 @@ state_told s m t f g h calls st g_is h_is calls_is st_is =
 
 -- ---- grants that are found
 
+-- each grant that is found is lawful
 pub lawful_grant : (gs : List Grant) (n : ℕ) (g : Grant) → All IsLawfulGrant gs → find (λ x. x.number == n) gs ≡ Some g → IsLawfulGrant g
 lawful_grant [] n g all h = absurd cc
 lawful_grant (x ∷ xs) n g all h = elim (cases_Bool (x.number == n)) [
@@ -147,6 +154,7 @@ lawful_grant (x ∷ xs) n g all h = elim (cases_Bool (x.number == n)) [
     same : {X : Type 0} {a b : X} → ◌≡◌ {A = Option X} (Some a) (Some b) → a ≡ b
     same h = cc
 
+-- the grant and its job are there where both were found
 pub are_there : (m : Queue) (t n : ℕ) (g : Grant) (f : JobFields) (found_grant : Option Grant) (found_job : Option JobFields)
     → found_grant ≡ grant_numbered n m → found_grant ≡ Some g → option_map (job_in (aged t m)) found_job ≡ job_numbered g.job (aged t m) → found_job ≡ Some f
     → AreThere m t f g
@@ -160,24 +168,28 @@ are_there m t n g f found_grant found_job is_grant one_grant is_job one_job = re
 
 -- ---- the step of a report
 
+-- a report on a grant whose job is there is the machine's step
 both_step : (s : Settings) (m : Queue) (t : ℕ) (report : Report) (o : Option Grant) (g : Grant) (j : Job) → o ≡ Some g → job_numbered g.job m ≡ Some j → report_both s m t report j g ≡ report_step s m t report o
 both_step s m t (Call said) o g j is job_is = sym (ap (on_grant m (call said) (call_reply t)) is ∙ ap (on_both m (call said) (call_reply t) g) job_is)
 both_step s m t (Page said) o g j is job_is = sym (ap (on_grant m (page said) (page_reply t)) is ∙ ap (on_both m (page said) (page_reply t) g) job_is)
 both_step s m t (Outcome said) o g j is job_is =
     sym (ap (on_grant m (λ j g. outcome said j g (s.delay g.call) t) (outcome_reply s t)) is ∙ ap (on_both m (λ j g. outcome said j g (s.delay g.call) t) (outcome_reply s t) g) job_is)
 
+-- the same of the grant and the job that were found
 pub on_grant_is : (s : Settings) (m : Queue) (t n : ℕ) (report : Report) (g : Grant) (f : JobFields) (found_grant : Option Grant) (found_job : Option JobFields)
     → found_grant ≡ grant_numbered n m → found_grant ≡ Some g → option_map (job_in (aged t m)) found_job ≡ job_numbered g.job (aged t m) → found_job ≡ Some f
     → report_both s (aged t m) t report (job_in (aged t m) f) g ≡ report_step s (aged t m) t report (grant_numbered n m)
 on_grant_is s m t n report g f found_grant found_job is_grant one_grant is_job one_job =
     both_step s (aged t m) t report (grant_numbered n m) g (job_in (aged t m) f) (sym is_grant ∙ one_grant) (sym is_job ∙ ap (option_map (job_in (aged t m))) one_job)
 
+-- a report on a grant whose job isn't there is refused
 alone_step : (s : Settings) (m : Queue) (t : ℕ) (report : Report) (o : Option Grant) (g : Grant) → o ≡ Some g → job_numbered g.job m ≡ None → machine.Refused (without_job g.is_open) machine.NoKeys ≡ report_step s m t report o
 alone_step s m t (Call said) o g is job_is = sym (ap (on_grant m (call said) (call_reply t)) is ∙ ap (on_both m (call said) (call_reply t) g) job_is)
 alone_step s m t (Page said) o g is job_is = sym (ap (on_grant m (page said) (page_reply t)) is ∙ ap (on_both m (page said) (page_reply t) g) job_is)
 alone_step s m t (Outcome said) o g is job_is =
     sym (ap (on_grant m (λ j g. outcome said j g (s.delay g.call) t) (outcome_reply s t)) is ∙ ap (on_both m (λ j g. outcome said j g (s.delay g.call) t) (outcome_reply s t) g) job_is)
 
+-- the same of the grant that was found
 pub without_job_is : (s : Settings) (m : Queue) (t n : ℕ) (report : Report) (g : Grant) (found_grant : Option Grant) (found_job : Option JobFields)
     → found_grant ≡ grant_numbered n m → found_grant ≡ Some g → option_map (job_in (aged t m)) found_job ≡ job_numbered g.job (aged t m) → found_job ≡ None
     → machine.Refused (without_job g.is_open) machine.NoKeys ≡ report_step s (aged t m) t report (grant_numbered n m)
@@ -186,9 +198,11 @@ without_job_is s m t n report g found_grant found_job is_grant one_grant is_job 
 
 -- ---- what is decided without the extra lines
 
+-- a grant with another call is as it was given
 pub same_call : (g : Grant) (call : Option CallResult) → IsSameGrant g (record g { call = call })
 same_call g call = record { job = refl; modem = refl; first_page = refl; last_page = refl; is_open = refl }
 
+-- and so is one with other confirmed pages
 pub same_page : (g : Grant) (confirmed : ℕ) → IsSameGrant g (record g { confirmed = confirmed })
 same_page g confirmed = record { job = refl; modem = refl; first_page = refl; last_page = refl; is_open = refl }
 

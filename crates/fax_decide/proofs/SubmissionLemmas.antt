@@ -37,6 +37,7 @@ job_new m t rule f meta reply sound these next replied = record {
 
 -- ---- what is decided
 
+-- a job that a record could hold is the one that was decided
 pub recorded_ok : (r : Result Job Refusal) (x : Job) → Ok x ≡ recorded r → r ≡ Ok x
 recorded_ok (Ok j) x is = by (is_lawful (fields_of j)) is
   where
@@ -45,6 +46,7 @@ recorded_ok (Ok j) x is = by (is_lawful (fields_of j)) is
     by false e = absurd cc
 recorded_ok (Err e) x is = absurd cc
 
+-- a refusal is the decision's, unless no record could hold the job
 pub recorded_err : (r : Result Job Refusal) (e : Refusal) → Err e ≡ recorded r → (e ≡ Unavailable → ⊥) → r ≡ Err e
 recorded_err (Ok j) e is never = absurd (by (is_lawful (fields_of j)) is)
   where
@@ -53,6 +55,7 @@ recorded_err (Ok j) e is never = absurd (by (is_lawful (fields_of j)) is)
     by false h = never cc
 recorded_err (Err x) e is never = sym is
 
+-- a submission has the number that it was given
 submit_number : (o : Order) (rule : Rule) (n max t : ℕ) (j : Job) → submit o rule n max t ≡ Ok j → j.number ≡ n
 submit_number o rule n max t j is =
     let a = not_refused (is_some rule.notice) Rejected _ j is in
@@ -60,9 +63,11 @@ submit_number o rule n max t j is =
     let c = not_refused (nat_lt max n) Full _ j b.1 in
     ap (λ (x : Job). x.number) (sym (ok_same (new_job o n t) j c.1))
 
+-- a submission that a record could hold was decided, with its number
 pub submit_is : (o : Order) (rule : Rule) (n max t : ℕ) (f : JobFields) → Ok (job_of f) ≡ recorded (submit o rule n max t) → (submit o rule n max t ≡ Ok (job_of f)) × (f.job ≡ n)
 submit_is o rule n max t f is = let one = recorded_ok (submit o rule n max t) (job_of f) is in (one, submit_number o rule n max t (job_of f) one)
 
+-- a submission is refused with its rule's keys, unless no record could hold it
 pub refused_is : (m : Queue) (rule : Rule) (r : Result Job Refusal) (e : Refusal) (reply : Response) → Err e ≡ recorded r → (e ≡ Unavailable → ⊥) → reply ≡ refused_response e (keys_of_rule e rule) → IsRefused (machine.submitted m rule r) reply
 refused_is m rule r e reply is never replied = record {
   refusal = e;

@@ -28,6 +28,7 @@ use Rattle.fax_decide.proofs.LinesLemmas.{state_lined}
 use Rattle.fax_decide.proofs.CallLemmas.{state_aged}
 use Rattle.fax_decide.proofs.ChoiceLemmas.{jobs_again, jobs_of}
 
+-- a job that is found is shown with its state
 pub job_viewed : (s : Settings) (m : Queue) (t n : ℕ) (f : JobFields) (found : Option JobFields)
     → option_map (λ x. job_of x) found ≡ job_numbered n (aged t m) → found ≡ Some f
     → accepted_response (Shown (printed (job_lines f (state s m t (job_of f))))) ≡ view s m t (sight.Job n)
@@ -38,6 +39,7 @@ job_viewed s m t n f found is one =
 
 -- ---- the listing
 
+-- mapping twice is mapping by both
 twice : {X Y Z : Type 0} (g : Y → Z) (f : X → Y) (xs : List X) → map (λ x. g (f x)) xs ≡ map g (map f xs)
 twice g f [] = refl
 twice g f (x ∷ xs) = ap (λ zs. g (f x) ∷ zs) (twice g f xs)
@@ -69,6 +71,7 @@ rows_seen s m t records lawful is =
     ∙ ap (map (λ j. with_state s m t (aged_job t j))) (ap jobs_of is ∙ jobs_again m.jobs (λ k d below. job_again _ (lawful k d below).pages))
     ∙ same_states s m t m.jobs
 
+-- the rows of the listing have the jobs' numbers
 numbers_seen : (s : Settings) (q : Queue) (t : ℕ) (jobs : List Job) → map number_of (map (with_state s q t) (map (aged_job t) jobs)) ≡ map (λ j. j.number) jobs
 numbers_seen s q t [] = refl
 numbers_seen s q t (j ∷ js) = ap₂ ◌∷◌ (aged_number t j) (numbers_seen s q t js)
@@ -86,6 +89,7 @@ rows_ascend s m t sound =
 abbrev thin : Listed → Listed
 thin row = (brief row.0, row.1)
 
+-- a job without its lines is listed without them
 aged_thin : (s : Settings) (m : Queue) (t : ℕ) (f : JobFields) → with_state s m t (aged_job t (job_of (brief f))) ≡ thin (with_state s m t (aged_job t (job_of f)))
 aged_thin s m t f = by (expires f.phase && is_past f.killtime t)
   where
@@ -94,6 +98,7 @@ aged_thin s m t f = by (expires f.phase && is_past f.killtime t)
     by true = refl
     by false = ap (λ (n : ℕ). (brief (fields_of (job_of f)), n)) (state_lined [] f.phase (job_of f) ((s.rule f.dial).hours t) (calls_to f.dial m) (s.rule f.dial).calls t)
 
+-- so are all jobs
 all_thin : (s : Settings) (m : Queue) (t : ℕ) (jobs : List Job) → map (λ f. with_state s m t (aged_job t (job_of f))) (map (λ j. brief (fields_of j)) jobs)
     ≡ map thin (map (λ f. with_state s m t (aged_job t (job_of f))) (map fields_of jobs))
 all_thin s m t [] = refl
@@ -111,10 +116,12 @@ lines_thin : (shows : ℕ → List ℕ) (rows : List Listed) → flat_map (line_
 lines_thin shows [] = refl
 lines_thin shows (row ∷ rows) = ap (λ more. line_of shows row ++ more) (lines_thin shows rows)
 
+-- the listing shows the same without the extra lines
 pub listing_thin : (shows : ℕ → List ℕ) (rows : List Listed) → listing_of shows (map thin rows) ≡ listing_of shows rows
 unfolding listing_of
 listing_thin shows rows = ap (λ more. heading ++ more) (lines_thin shows rows)
 
+-- and has the same numbers
 pub numbers_thin : (rows : List Listed) → map number_of (map thin rows) ≡ map number_of rows
 numbers_thin [] = refl
 numbers_thin (row ∷ rows) = ap (λ more. number_of row ∷ more) (numbers_thin rows)
