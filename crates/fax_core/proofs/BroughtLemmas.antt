@@ -26,14 +26,17 @@ record Came (i : Import) (n : Queue) (number : ℕ) : Type 0 where
   there : IsJob n number job
   npages : length job.sent ≡ i.npages
 
+-- a new job with the next number is found by it
 new_there : (m : Queue) (j : Job) → Sound m → j.number ≡ m.next_job → IsJob (with_new_job j m) j.number j
 new_there m j h number =
     let here : j.number ≡ length m.jobs + 1 = number ∙ h.next_job in
     comes (λ (k : Job). eqb k.number j.number) m.jobs j (absent (λ (k : Job). k.number) 1 j.number m.jobs h.jobs (omega arith)) (eq-eqb j.number j.number refl)
 
+-- two replies to imports that are the same tell the same number
 told : (a b c d : ℕ) → Brought a b ≡ Brought c d → a ≡ c
 told a b c d e = cc
 
+-- where an import is taken, its job stands under the number that is told
 came_by : (s : Settings) (m : Queue) (t : ℕ) (rule : Rule) (i : Import) (d : Result Job Refusal) (n : Queue) (number state : ℕ) → Sound m → ((j : Job) → d ≡ Ok j → IsBrought i m.next_job j) → brought_in s m t rule d ≡ Taken n (Brought number state) → Came i n number
 came_by s m t rule i (Ok j) n number state h is e =
     let f = is j refl in
@@ -46,11 +49,13 @@ came_by s m t rule i (Ok j) n number state h is e =
     }
 came_by s m t rule i (Err x) n number state h is e = cc
 
+-- the same of a step, which ages the jobs first
 came : (s : Settings) (m n : Queue) (t : ℕ) (i : Import) (number state : ℕ) → Sound m → step s m t (Bring i) ≡ Taken n (Brought number state) → Came i n number
 came s m n t i number state h e =
     let d = bring i (s.rule i.order.dial) m.next_job s.max_jobs t in
     came_by s (aged t m) t (s.rule i.order.dial) i d n number state (aged_sound t m h) (λ j is. bring_counts i (s.rule i.order.dial) m.next_job s.max_jobs t j is) e
 
+-- a page that came in as sent lies before each grant that its job gets
 pub not_granted : (s : Settings) (m n : Queue) (t : ℕ) (i : Import) (job state : ℕ) (rs : List Request) (u : ℕ) (modem : List ℕ) (l : Queue) (h : Handed)
     → Sound m → HasCounts i → AreLawful rs → step s m t (Bring i) ≡ Taken n (Brought job state) → step s (queue_after s n rs) u (Next modem) ≡ Taken l (Given h)
     → h.job ≡ job → i.npages < h.from

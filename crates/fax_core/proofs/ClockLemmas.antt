@@ -21,57 +21,70 @@ use Rattle.fax_core.specs.Settings.{Rule, Settings}
 abbrev clock_left : Queue → Step → ℕ
 clock_left m x = (left_by m x).clock
 
+-- a submission leaves the clock
 submitted_clock : (m : Queue) (rule : Rule) (d : Result Job Refusal) → clock_left m (submitted m rule d) ≡ m.clock
 submitted_clock m rule (Ok j) = refl
 submitted_clock m rule (Err e) = refl
 
+-- so does an import
 import_clock : (s : Settings) (m : Queue) (t : ℕ) (rule : Rule) (d : Result Job Refusal) → clock_left m (brought_in s m t rule d) ≡ m.clock
 import_clock s m t rule (Ok j) = refl
 import_clock s m t rule (Err e) = refl
 
+-- and a change of a job
 changed_clock : (s : Settings) (m : Queue) (t : ℕ) (d : Result Job Refusal) → clock_left m (changed s m t d) ≡ m.clock
 changed_clock s m t (Ok j) = refl
 changed_clock s m t (Err e) = refl
 
+-- and a request on a job
 on_job_clock : (s : Settings) (m : Queue) (t : ℕ) (decide : Job → Result Job Refusal) (o : Option Job) → clock_left m (on_job s m t decide o) ≡ m.clock
 on_job_clock s m t decide None = refl
 on_job_clock s m t decide (Some j) = changed_clock s m t (decide j)
 
+-- and a report of a job that is there
 reported_clock : (m : Queue) (reply : Queue → JobAndGrant → Reply) (j : Job) (d : Result JobAndGrant Refusal) → clock_left m (reported m reply j d) ≡ m.clock
 reported_clock m reply j (Ok b) = refl
 reported_clock m reply j (Err e) = refl
 
+-- and of a grant whose job is there or not
 on_both_clock : (m : Queue) (decide : Job → Grant → Result JobAndGrant Refusal) (reply : Queue → JobAndGrant → Reply) (g : Grant) (o : Option Job) → clock_left m (on_both m decide reply g o) ≡ m.clock
 on_both_clock m decide reply g None = refl
 on_both_clock m decide reply g (Some j) = reported_clock m reply j (decide j g)
 
+-- and of a grant that is there or not
 on_grant_clock : (m : Queue) (decide : Job → Grant → Result JobAndGrant Refusal) (reply : Queue → JobAndGrant → Reply) (o : Option Grant) → clock_left m (on_grant m decide reply o) ≡ m.clock
 on_grant_clock m decide reply None = refl
 on_grant_clock m decide reply (Some g) = on_both_clock m decide reply g (job_numbered g.job m)
 
+-- and a mark
 mark_clock : (m : Queue) (modem : List ℕ) (down b : Bool) → clock_left m (cond b (Taken (with_mark modem down m) (Marked down)) (Refused refusal.NoModem NoKeys)) ≡ m.clock
 mark_clock m modem true true = refl
 mark_clock m modem true false = refl
 mark_clock m modem false true = refl
 mark_clock m modem false false = refl
 
+-- and a grant that is given or refused
 given_clock : (m : Queue) (d : Result JobAndGrant Refusal) → clock_left m (given m d) ≡ m.clock
 given_clock m (Ok b) = refl
 given_clock m (Err e) = refl
 
+-- and the best job's, if any
 best_clock : (s : Settings) (m : Queue) (modem : List ℕ) (o : Option Job) → clock_left m (given_best s m modem o) ≡ m.clock
 best_clock s m modem None = refl
 best_clock s m modem (Some j) = given_clock m (grant j modem m.next_grant s.max_grants)
 
+-- and a request of a modem that holds a grant or none
 free_clock : (s : Settings) (m : Queue) (t : ℕ) (modem : List ℕ) (o : Option Grant) → clock_left m (given_free s m t modem o) ≡ m.clock
 free_clock s m t modem (Some g) = refl
 free_clock s m t modem None = best_clock s m modem (best s m t modem)
 
+-- and of one that is in the setup or down, or neither
 next_clock : (s : Settings) (m : Queue) (t : ℕ) (modem : List ℕ) (b c : Bool) → clock_left m (cond b (Refused refusal.NoModem NoKeys) (cond c (Refused refusal.ModemDown NoKeys) (given_free s m t modem (held_by modem m)))) ≡ m.clock
 next_clock s m t modem true c = refl
 next_clock s m t modem false true = refl
 next_clock s m t modem false false = free_clock s m t modem (held_by modem m)
 
+-- so each request leaves it
 act_clock : (s : Settings) (m : Queue) (t : ℕ) (ask : Ask) → clock_left m (act s m t ask) ≡ m.clock
 act_clock s m t (Submission o) = submitted_clock m (s.rule o.dial) (submit o (s.rule o.dial) m.next_job s.max_jobs t)
 act_clock s m t (Bring i) = import_clock s m t (s.rule i.order.dial) (bring i (s.rule i.order.dial) m.next_job s.max_jobs t)
@@ -87,13 +100,16 @@ act_clock s m t (PageReport n p) = on_grant_clock m (page p) (page_reply t) (gra
 act_clock s m t (OutcomeReport n o) = on_grant_clock m (λ j g. outcome o j g (s.delay g.call) t) (outcome_reply s t) (grant_numbered n m)
 act_clock s m t (GiveUp floor) = refl
 
+-- a step that is taken sets the clock to its moment
 pub step_clock : (s : Settings) (m n : Queue) (t : ℕ) (ask : Ask) (r : Reply) → step s m t ask ≡ Taken n r → n.clock ≡ t
 step_clock s m n t ask r e = sym (ap (clock_left (aged t m)) e) ∙ act_clock s (aged t m) t ask
 
+-- a step leaves the clock no earlier
 left_clock : (m : Queue) (t : ℕ) (x : Step) → m.clock ≤ t → ((n : Queue) (r : Reply) → x ≡ Taken n r → n.clock ≡ t) → m.clock ≤ clock_left m x
 left_clock m t (Taken n r) h f = omega (arith, f n r refl)
 left_clock m t (Refused e k) h f = omega arith
 
+-- a run leaves the clock no earlier
 pub run_clock : (s : Settings) (m : Queue) (rs : List Request) → m.clock ≤ (queue_after s m rs).clock
 run_clock s m [] = omega arith
 run_clock s m (r ∷ rs) =

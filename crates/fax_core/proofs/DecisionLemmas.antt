@@ -31,9 +31,11 @@ use Rattle.fax_core.proofs.KeepLemmas.{Reports}
 abbrev Decided : Type 0 → Type 0
 Decided A = Result A Refusal
 
+-- what is decided as one is decided as that alone
 pub ok_same : {A : Type 0} (x y : A) → Path (Decided A) (Ok x) (Ok y) → x ≡ y
 ok_same x y e = cc
 
+-- what was decided wasn't refused before
 pub not_refused : {A : Type 0} (b : Bool) (e : Refusal) (r : Result A Refusal) (x : A) → cond b (Err e) r ≡ Ok x → (b ≡ false) × (r ≡ Ok x)
 not_refused true e r x h = cc
 not_refused false e r x h = (refl, h)
@@ -43,15 +45,19 @@ not_refused false e r x h = (refl, h)
 abbrev moved : Job → Phase → Wish → ℕ → List ℕ → Job
 moved j p w t text = record j { phase = p; wish = w; next = t; status = text }
 
+-- a job that moves keeps its counters
 counted_moved : (j : Job) (p : Phase) (w : Wish) (t : ℕ) (text : List ℕ) → IsCounted j → IsCounted (moved j p w t text)
 counted_moved j p w t text h = record { pages = h.pages; ndials = h.ndials; totdials = h.totdials; ntries = h.ntries; tottries = h.tottries }
 
+-- it has a call left still
 call_moved : (j : Job) (p : Phase) (w : Wish) (t : ℕ) (text : List ℕ) → HasCallLeft j → HasCallLeft (moved j p w t text)
 call_moved j p w t text h = record { dials = h.dials; tries = h.tries }
 
+-- it can go on still
 goes_on_moved : (j : Job) (p : Phase) (w : Wish) (t : ℕ) (text : List ℕ) → CanGoOn j → CanGoOn (moved j p w t text)
 goes_on_moved j p w t text h = record { page = h.page; call = call_moved j p w t text h.call }
 
+-- with its phase, it fits its grant still
 grant_moved : (j : Job) (g : Grant) (w : Wish) (t : ℕ) (text : List ℕ) → FitsGrant j g → FitsGrant (moved j j.phase w t text) g
 grant_moved j g w t text h = record {
   counted = counted_moved j j.phase w t text h.counted;
@@ -64,18 +70,22 @@ grant_moved j g w t text h = record {
 
 -- ---- ageing
 
+-- ageing leaves a job's number
 pub aged_number : (t : ℕ) (j : Job) → (aged_job t j).number ≡ j.number
 aged_number t j = cond_both (expires j.phase && is_past j.killtime t) (record j { phase = phase.Failed; status = kill_time_expired }) j (λ (k : Job). k.number ≡ j.number) (λ e. refl) (λ e. refl)
 
+-- and its pages that are sent
 pub aged_sent : (t : ℕ) (j : Job) → (aged_job t j).sent ≡ j.sent
 aged_sent t j = cond_both (expires j.phase && is_past j.killtime t) (record j { phase = phase.Failed; status = kill_time_expired }) j (λ (k : Job). k.sent ≡ j.sent) (λ e. refl) (λ e. refl)
 
+-- an aged job fits without a grant, where it did
 pub aged_free : (t : ℕ) (j : Job) → FitsFree j → FitsFree (aged_job t j)
 aged_free t j h =
     cond_both (expires j.phase && is_past j.killtime t) (record j { phase = phase.Failed; status = kill_time_expired }) j FitsFree
     (λ e. record { counted = counted_moved j phase.Failed j.wish j.next kill_time_expired h.counted; wish = h.wish; phase = tt })
     (λ e. h)
 
+-- and with one, where it did
 pub aged_held : (t : ℕ) (j : Job) (g : Grant) → FitsGrant j g → FitsGrant (aged_job t j) g
 aged_held t j g h =
     let kept : (expires j.phase && is_past j.killtime t) ≡ false = and_left (expires j.phase) (is_past j.killtime t) (ap expires h.phase) in
@@ -89,6 +99,7 @@ pub record Keeps (j k : Job) : Type 0 where
   pub free : FitsFree j → FitsFree k
   pub held : (g : Grant) → FitsGrant j g → FitsGrant k g
 
+-- a job keeps what it has
 keeps_itself : (j : Job) → Keeps j j
 keeps_itself j = record { number = refl; sent = refl; free = λ h. h; held = λ g h. h }
 
@@ -110,6 +121,7 @@ to_wish j w e = record {
   held = λ g h. grant_moved j g w j.next j.status h;
 }
 
+-- a suspended job keeps its number and pages, and fits
 pub suspended_in : (p : Phase) (w : Wish) (j k : Job) → j.phase ≡ p → suspend_in p w j ≡ Ok k → Keeps j k
 suspended_in phase.Held w j k e h = subst (Keeps j) (ok_same j k h) (keeps_itself j)
 suspended_in phase.Waiting w j k e h =
@@ -121,6 +133,7 @@ suspended_in phase.Granted wish.Kill j k e h = cc
 suspended_in phase.Done w j k e h = cc
 suspended_in phase.Failed w j k e h = cc
 
+-- so does a resumed one
 pub resumed_in : (p : Phase) (w : Wish) (j k : Job) → j.phase ≡ p → resume_in p w j ≡ Ok k → Keeps j k
 resumed_in phase.Held w j k e h =
     subst (Keeps j) (ok_same (record j { phase = phase.Waiting }) k h)
@@ -132,6 +145,7 @@ resumed_in phase.Granted wish.Kill j k e h = cc
 resumed_in phase.Done w j k e h = cc
 resumed_in phase.Failed w j k e h = cc
 
+-- and a killed one
 pub killed_in : (p : Phase) (j k : Job) → j.phase ≡ p → kill_in p j ≡ Ok k → Keeps j k
 killed_in phase.Held j k e h = subst (Keeps j) (ok_same (record j { phase = phase.Failed; status = killed }) k h) (to_phase j phase.Failed killed (λ q. absurd (cc (e, q))) (λ f. tt))
 killed_in phase.Waiting j k e h = subst (Keeps j) (ok_same (record j { phase = phase.Failed; status = killed }) k h) (to_phase j phase.Failed killed (λ q. absurd (cc (e, q))) (λ f. tt))
@@ -139,6 +153,7 @@ killed_in phase.Granted j k e h = subst (Keeps j) (ok_same (record j { wish = wi
 killed_in phase.Done j k e h = cc
 killed_in phase.Failed j k e h = cc
 
+-- and an altered one with a dial and a try left
 altered_keeps : (a : Alter) (j : Job) (t : ℕ) → j.phase ≡ phase.Held → j.totdials < (altered a j t).maxdials → j.tottries < (altered a j t).maxtries → Keeps j (altered a j t)
 altered_keeps a j t e dials tries = record {
   number = refl;
@@ -154,6 +169,7 @@ altered_keeps a j t e dials tries = record {
   held = λ g h. absurd (cc (e, h.phase));
 }
 
+-- so does a job that was altered
 pub altered_in : (p : Phase) (a : Alter) (j k : Job) (t : ℕ) → j.phase ≡ p → alter_in p a j t ≡ Ok k → Keeps j k
 altered_in phase.Held a j k t e h =
     let new = altered a j t in
@@ -167,6 +183,7 @@ altered_in phase.Failed a j k t e h = cc
 
 -- ---- submission
 
+-- a new job of a lawful order fits without a grant
 submitted_fits : (o : Order) (n t : ℕ) → HasLimits o → FitsFree (new_job o n t)
 submitted_fits o n t h = record {
   counted = record { pages = refl; ndials = omega arith; totdials = omega arith; ntries = omega arith; tottries = omega arith };
@@ -174,6 +191,7 @@ submitted_fits o n t h = record {
   phase = record { page = omega (arith, h.pages, length-range_with_len 1 o.totpages); call = record { dials = h.dials; tries = h.tries } };
 }
 
+-- so does a job that was submitted, and it has the number it was given
 pub submitted : (o : Order) (rule : Rule) (n max t : ℕ) (j : Job) → HasLimits o → submit o rule n max t ≡ Ok j → (j.number ≡ n) × FitsFree j
 submitted o rule n max t j h e =
     let a = not_refused (is_some rule.notice) _ _ j e in
@@ -183,6 +201,7 @@ submitted o rule n max t j h e =
 
 -- ---- a grant
 
+-- a waiting job that fits fits its new grant
 pub granted_fits : (j : Job) (modem : List ℕ) (n : ℕ) → j.phase ≡ phase.Waiting → FitsFree j → FitsGrant (granted j modem n).job (granted j modem n).grant
 granted_fits j modem n e h =
     let before : CanGoOn j = subst (λ (p : Phase). FitsPhase p j) e h.phase in
@@ -198,10 +217,12 @@ granted_fits j modem n e h =
 
 -- ---- reports
 
+-- what isn't some is none
 none_is : {A : Type 0} (o : Option A) → is_some o ≡ false → o ≡ None
 none_is None e = refl
 none_is (Some x) e = cc
 
+-- one more dial without a connection leaves job and grant fitting
 dialed_fits : (c : Call) (j : Job) (g : Grant) → FitsGrant j g → HasCallLeft j → FitsGrant (record j { totdials = j.totdials + 1; ndials = j.ndials + 1 }) (record g { call = Some c })
 dialed_fits c j g h left = record {
   counted = record { pages = h.counted.pages; ndials = omega (arith, h.counted.ndials); totdials = omega (arith, left.dials); ntries = h.counted.ntries; tottries = h.counted.tottries };
@@ -212,6 +233,7 @@ dialed_fits c j g h left = record {
   call = λ e. absurd (cc e);
 }
 
+-- so does any call
 called_fits : (c : Call) (j : Job) (g : Grant) → FitsGrant j g → HasCallLeft j → FitsGrant (after_call c j) (record g { call = Some c })
 called_fits Connected j g h left = record {
   counted = record { pages = h.counted.pages; ndials = omega arith; totdials = omega (arith, left.dials); ntries = omega (arith, h.counted.ntries); tottries = omega (arith, left.tries) };
@@ -226,6 +248,7 @@ called_fits NoAnswer j g h left = dialed_fits NoAnswer j g h left
 called_fits NoCarrier j g h left = dialed_fits NoCarrier j g h left
 called_fits Other j g h left = dialed_fits Other j g h left
 
+-- a call leaves the job's number
 called_number : (c : Call) (j : Job) → (after_call c j).number ≡ j.number
 called_number Connected j = refl
 called_number Busy j = refl
@@ -233,6 +256,7 @@ called_number NoAnswer j = refl
 called_number NoCarrier j = refl
 called_number Other j = refl
 
+-- and its pages that are sent
 called_sent : (c : Call) (j : Job) → (after_call c j).sent ≡ j.sent
 called_sent Connected j = refl
 called_sent Busy j = refl
@@ -248,6 +272,7 @@ pub record IsReport (j : Job) (g : Grant) (b : JobAndGrant) : Type 0 where
   pub more : List ℕ
   pub sent : b.job.sent ≡ j.sent ++ more
 
+-- a report that leaves the numbers, the modem and the job, and the grant open, keeps what fits, where they do
 open_still : (j : Job) (g : Grant) (b : JobAndGrant) → b.job.number ≡ j.number → b.grant.number ≡ g.number → b.grant.modem ≡ g.modem → b.grant.job ≡ g.job → b.grant.is_open ≡ g.is_open → g.is_open ≡ true → FitsGrant b.job b.grant → Reports j g b
 open_still j g b number grant_number modem job same is fits = record {
   number = number;
@@ -258,6 +283,7 @@ open_still j g b number grant_number modem job same is fits = record {
   free = λ e. absurd (cc (same, is, e));
 }
 
+-- a call that is taken is a report on an open grant
 pub called : (c : Call) (j : Job) (g : Grant) (b : JobAndGrant) → call c j g ≡ Ok b → IsReport j g b
 called c j g b e =
     let new : JobAndGrant = record { job = after_call c j; grant = record g { call = Some c } } in
@@ -272,6 +298,7 @@ called c j g b e =
       sent = called_sent c j ∙ sym (append-nil j.sent);
     })
 
+-- one more page sent leaves job and grant fitting
 paged_fits : (j : Job) (g : Grant) (p : ℕ) (rest : List ℕ) → j.left ≡ p ∷ rest → FitsGrant j g → FitsGrant (record j { sent = j.sent ++ p ∷ []; left = rest; ntries = 0 }) (record g { confirmed = g.confirmed + 1 })
 paged_fits j g p rest e h = record {
   counted = record {
@@ -294,6 +321,7 @@ pub record IsPage (n : ℕ) (j : Job) (b : JobAndGrant) : Type 0 where
   pub left : j.left ≡ n ∷ rest
   pub job : b.job ≡ record j { sent = j.sent ++ n ∷ []; left = rest; ntries = 0 }
 
+-- a page that is taken is one, of the first page left
 pub page_is : (n : ℕ) (j : Job) (g : Grant) (b : JobAndGrant) (ps : List ℕ) → j.left ≡ ps → g.is_open ≡ true → page_of ps n j g ≡ Ok b → IsReport j g b × IsPage n j b
 page_is n j g b [] e is h = cc
 page_is n j g b (p ∷ rest) e is h =
@@ -311,6 +339,7 @@ page_is n j g b (p ∷ rest) e is h =
       record { rest = rest; left = e ∙ ap (λ (x : ℕ). x ∷ rest) same; job = sym (ap (λ (c : JobAndGrant). c.job) made) ∙ ap (λ (x : ℕ). record j { sent = j.sent ++ x ∷ []; left = rest; ntries = 0 }) same },
     )
 
+-- the same of a page report
 pub paged : (n : ℕ) (j : Job) (g : Grant) (b : JobAndGrant) → page n j g ≡ Ok b → IsReport j g b × IsPage n j b
 paged n j g b e =
     let p = not_refused (not g.is_open) _ _ b e in
@@ -323,14 +352,17 @@ record IsOver (j k : Job) : Type 0 where
   sent : k.sent ≡ j.sent
   fits : IsCounted j → FitsFree k
 
+-- a failed job keeps its number and pages, and fits without a grant
 over_failed : (j : Job) (text : List ℕ) → IsOver j (failed j text)
 over_failed j text = record { number = refl; sent = refl; fits = λ c. record { counted = counted_moved j phase.Failed wish.Go j.next text c; wish = refl; phase = tt } }
 
+-- a job that can go on fits where its wish sends it
 goes_back : (w : Wish) (k : Job) → CanGoOn k → FitsPhase (phase_after w) k
 goes_back wish.Go k h = h
 goes_back wish.Hold k h = h
 goes_back wish.Kill k h = h
 
+-- so does one that is tried again, where a page is left
 over_retried : (j : Job) (reason : List ℕ) (delay t : ℕ) → 1 ≤ length j.left → IsOver j (retried j reason delay t)
 over_retried j reason delay t some =
     cond_both (is_kill j.wish) _ _ (IsOver j) (λ e. over_failed j killed) (λ e.
@@ -348,15 +380,18 @@ over_retried j reason delay t some =
       };
     })))))
 
+-- and one that ended in any way, where a page is left
 over_by : (e : Ending) (j : Job) (reason : List ℕ) (delay t : ℕ) → 1 ≤ length j.left → IsOver j (ended_by e j reason delay t)
 over_by ending.Done j reason delay t some = over_failed j reason
 over_by ending.Fail j reason delay t some = over_failed j reason
 over_by ending.Retry j reason delay t some = over_retried j reason delay t some
 
+-- and one whose grant ended in any way, whether a page is left or not
 over : (ps : List ℕ) (o : Outcome) (j : Job) (delay t : ℕ) → j.left ≡ ps → IsOver j (ended ps o j delay t)
 over [] o j delay t e = record { number = refl; sent = refl; fits = λ c. record { counted = counted_moved j phase.Done wish.Go j.next [] c; wish = refl; phase = tt } }
 over (p ∷ rest) o j delay t e = over_by o.ending j o.reason delay t (omega (arith, ap length e))
 
+-- an outcome that is taken is one
 pub outcome_is : (o : Outcome) (j : Job) (g : Grant) (delay t : ℕ) (b : JobAndGrant) → outcome o j g delay t ≡ Ok b → IsReport j g b
 outcome_is o j g delay t b h =
     let new : JobAndGrant = record { job = ended j.left o j delay t; grant = record g { is_open = false } } in

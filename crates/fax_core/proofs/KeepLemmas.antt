@@ -17,23 +17,29 @@ job_number j = j.number
 abbrev grant_number : Grant → ℕ
 grant_number g = g.number
 
+-- a number has one job
 pub same_job : (m : Queue) (n : ℕ) (j k : Job) → IsJob m n j → IsJob m n k → j ≡ k
 same_job m n j k a b = cc
 
+-- a number has one grant
 same_grant : (m : Queue) (n : ℕ) (g h : Grant) → grant_numbered n m ≡ Some g → grant_numbered n m ≡ Some h → g ≡ h
 same_grant m n g h a b = cc
 
+-- a job that is found has the number that it is found by
 pub numbered_job : (m : Queue) (n : ℕ) (j : Job) → IsJob m n j → j.number ≡ n
 numbered_job m n j e = number_found job_number n m.jobs j e
 
+-- so has a grant
 pub numbered_grant : (m : Queue) (n : ℕ) (g : Grant) → grant_numbered n m ≡ Some g → g.number ≡ n
 numbered_grant m n g e = number_found grant_number n m.grants g e
 
 -- ---- each job changes, and no grant
 
+-- where each job changes and keeps its number, a number finds the changed job
 pub looked_up : (m : Queue) (f : Job → Job) → ((j : Job) → (f j).number ≡ j.number) → (n : ℕ) → find (λ j. eqb j.number n) (map f m.jobs) ≡ option_map f (job_numbered n m)
 looked_up m f same n = find_map (λ j. eqb j.number n) f (λ j. ap (λ (a : ℕ). eqb a n) (same j)) m.jobs
 
+-- where each job changes, keeps its number and fits still, the queue stays sound
 pub keeps_mapped : (m : Queue) (f : Job → Job) (t : ℕ) → ((j : Job) → (f j).number ≡ j.number)
     → ((n : ℕ) (j : Job) → IsJob m n j → FitsFree j → FitsFree (f j))
     → ((n : ℕ) (j : Job) (g : Grant) → IsJob m n j → FitsGrant j g → FitsGrant (f j) g)
@@ -53,6 +59,7 @@ keeps_mapped m f t same free held h = record {
 
 -- ---- one job changes, and no grant
 
+-- a job without a grant fits still, whether it is the one put in place or not
 placed_free : (m : Queue) (n a : ℕ) (j k x : Job) → IsJob m n j → k.number ≡ n → (FitsFree j → FitsFree k) → IsJob m a x → FitsFree x → (b : Bool) → eqb x.number k.number ≡ b → FitsFree (cond b k x)
 placed_free m n a j k x e same free is h true t =
     let here : a ≡ n = sym (numbered_job m a x is) ∙ eqb-true x.number k.number t ∙ same in
@@ -60,6 +67,7 @@ placed_free m n a j k x e same free is h true t =
     free (subst FitsFree (same_job m n x j found e) h)
 placed_free m n a j k x e same free is h false t = h
 
+-- so does a job with its grant
 placed_held : (m : Queue) (n a : ℕ) (j k x : Job) (g : Grant) → IsJob m n j → k.number ≡ n → (FitsGrant j g → FitsGrant k g) → IsJob m a x → FitsGrant x g → (b : Bool) → eqb x.number k.number ≡ b → FitsGrant (cond b k x) g
 placed_held m n a j k x g e same held is h true t =
     let here : a ≡ n = sym (numbered_job m a x is) ∙ eqb-true x.number k.number t ∙ same in
@@ -67,6 +75,7 @@ placed_held m n a j k x g e same held is h true t =
     held (subst (λ (y : Job). FitsGrant y g) (same_job m n x j found e) h)
 placed_held m n a j k x g e same held is h false t = h
 
+-- where one job changes in its place and fits still, the queue stays sound
 pub keeps_job : (m : Queue) (n : ℕ) (j k : Job) → IsJob m n j → k.number ≡ n → (FitsFree j → FitsFree k) → ((g : Grant) → FitsGrant j g → FitsGrant k g) → Sound m → Sound (with_job k m)
 keeps_job m n j k e same free held h =
     keeps_mapped m (in_place job_number k) m.clock (in_place_number job_number k)
@@ -93,12 +102,15 @@ record WasOpen (m : Queue) (a : ℕ) (x : Grant) : Type 0 where
   job : x.job ≡ before.job
 
 module _ (m : Queue) (n : ℕ) (j : Job) (g : Grant) (b : JobAndGrant) (is : IsOpen m n g) (of : IsJob m g.job j) (r : Reports j g b) (h : Sound m) where
+  -- the report's grant has this number
   grant_at : b.grant.number ≡ n
   grant_at = r.grant_number ∙ numbered_grant m n g is.0
 
+  -- and its job is the grant's
   job_at : b.job.number ≡ g.job
   job_at = r.number ∙ numbered_job m g.job j of
 
+  -- an open grant was open before, whether it is the report's or another
   was_by : (a : ℕ) (x y : Grant) → grant_numbered a m ≡ Some y → x.is_open ≡ true → ((b.grant.number ≡ a) × (x ≡ b.grant)) ⊎ ((b.grant.number ≢ a) × (x ≡ y)) → WasOpen m a x
   was_by a x y e o (inl c) =
       let here : n ≡ a = sym grant_at ∙ c.0 in
@@ -115,9 +127,11 @@ module _ (m : Queue) (n : ℕ) (j : Job) (g : Grant) (b : JobAndGrant) (is : IsO
     job = ap (λ (z : Grant). z.job) c.1;
   }
 
+  -- so each open grant was
   was : (a : ℕ) (x : Grant) → IsOpen (with_both b m) a x → WasOpen m a x
   was a x o = let p = placed grant_number a b.grant x m.grants o.0 in was_by a x p.before p.was o.1 p.now
 
+  -- an open grant has its job, and they fit, whether it is the report's or another
   held_by : (a : ℕ) (x y : Grant) → grant_numbered a m ≡ Some y → x.is_open ≡ true → ((b.grant.number ≡ a) × (x ≡ b.grant)) ⊎ ((b.grant.number ≢ a) × (x ≡ y)) → (k : Job) × IsJob (with_both b m) x.job k × FitsGrant k x
   held_by a x y e o (inl c) =
       let there : IsJob (with_both b m) g.job b.job = placed_here job_number g.job b.job j m.jobs of job_at in
@@ -131,6 +145,7 @@ module _ (m : Queue) (n : ℕ) (j : Job) (g : Grant) (b : JobAndGrant) (is : IsO
       let there : IsJob (with_both b m) y.job old.0 = placed_other job_number y.job b.job old.0 m.jobs old.1 other in
       (old.0, subst (λ (z : Grant). IsJob (with_both b m) z.job old.0) (sym c.1) there, subst (FitsGrant old.0) (sym c.1) old.2)
 
+  -- a job that no open grant has fits alone, whether it is the report's or another
   free_by : (a : ℕ) (x y : Job) → IsJob m a y → ((i : ℕ) (z : Grant) → IsOpen (with_both b m) i z → z.job ≢ a) → ((b.job.number ≡ a) × (x ≡ b.job)) ⊎ ((b.job.number ≢ a) × (x ≡ y)) → FitsFree x
   free_by a x y e alone (inl c) =
       let there : grant_numbered n (with_both b m) ≡ Some b.grant = placed_here grant_number n b.grant g m.grants is.0 grant_at in
@@ -148,6 +163,7 @@ module _ (m : Queue) (n : ℕ) (j : Job) (g : Grant) (b : JobAndGrant) (is : IsO
       alone i z (placed_other grant_number i b.grant z m.grants o.0 other, o.1) q in
       subst FitsFree (sym c.1) (h.free a y e before)
 
+  -- the queue stays sound with job and grant as the report leaves them
   pub keeps_both : Sound (with_both b m)
   keeps_both = record {
     jobs = numbered_map job_number (in_place job_number b.job) (in_place_number job_number b.job) 1 m.jobs h.jobs;
@@ -162,6 +178,7 @@ module _ (m : Queue) (n : ℕ) (j : Job) (g : Grant) (b : JobAndGrant) (is : IsO
 
 -- ---- a new job
 
+-- the queue stays sound with a new job of the next number that fits
 pub keeps_new_job : (m : Queue) (j : Job) → j.number ≡ m.next_job → FitsFree j → Sound m → Sound (with_new_job j m)
 keeps_new_job m j same fits h =
     let none : job_numbered m.next_job m ≡ None = absent job_number 1 m.next_job m.jobs h.jobs (omega (arith, h.next_job)) in
@@ -202,18 +219,21 @@ module _ (m : Queue) (n : ℕ) (j : Job) (b : JobAndGrant) (r : Grants m n j b) 
       split (inl e) = inl (e, o.1)
       split (inr e) = inr (sym r.grant_number ∙ eqb-true b.grant.number a e.0, sym e.1)
 
+  -- two open grants of one modem are one, whether old or new
   modem_by : (a c : ℕ) (x y : Grant) → x.modem ≡ y.modem → IsOpen m a x ⊎ ((m.next_grant ≡ a) × (x ≡ b.grant)) → IsOpen m c y ⊎ ((m.next_grant ≡ c) × (y ≡ b.grant)) → a ≡ c
   modem_by a c x y e (inl o) (inl p) = h.one_to_a_modem a c x y o p e
   modem_by a c x y e (inl o) (inr p) = absurd (r.modem_free a x o (e ∙ ap (λ (z : Grant). z.modem) p.1))
   modem_by a c x y e (inr o) (inl p) = absurd (r.modem_free c y p (sym e ∙ ap (λ (z : Grant). z.modem) o.1))
   modem_by a c x y e (inr o) (inr p) = sym o.0 ∙ p.0
 
+  -- two open grants of one job are one, whether old or new
   job_by : (a c : ℕ) (x y : Grant) → x.job ≡ y.job → IsOpen m a x ⊎ ((m.next_grant ≡ a) × (x ≡ b.grant)) → IsOpen m c y ⊎ ((m.next_grant ≡ c) × (y ≡ b.grant)) → a ≡ c
   job_by a c x y e (inl o) (inl p) = h.one_of_a_job a c x y o p e
   job_by a c x y e (inl o) (inr p) = absurd (r.job_free a x o (e ∙ ap (λ (z : Grant). z.job) p.1 ∙ r.job))
   job_by a c x y e (inr o) (inl p) = absurd (r.job_free c y p (sym e ∙ ap (λ (z : Grant). z.job) o.1 ∙ r.job))
   job_by a c x y e (inr o) (inr p) = sym o.0 ∙ p.0
 
+  -- an open grant has its job, and they fit, whether it is old or new
   held_new : (a : ℕ) (x : Grant) → IsOpen m a x ⊎ ((m.next_grant ≡ a) × (x ≡ b.grant)) → (k : Job) × IsJob (with_new_grant b m) x.job k × FitsGrant k x
   held_new a x (inl o) =
       let old = h.held a x o in
@@ -229,11 +249,13 @@ module _ (m : Queue) (n : ℕ) (j : Job) (b : JobAndGrant) (r : Grants m n j b) 
       let none : grant_numbered m.next_grant m ≡ None = absent grant_number 1 m.next_grant m.grants h.grants (omega (arith, h.next_grant)) in
       (comes (λ (g : Grant). eqb g.number m.next_grant) m.grants b.grant none (eq-eqb b.grant.number m.next_grant r.grant_number), r.is_open)
 
+  -- a job that no open grant has fits alone, whether it is the granted one or another
   free_of_new : (a : ℕ) (x y : Job) → IsJob m a y → ((i : ℕ) (z : Grant) → IsOpen (with_new_grant b m) i z → z.job ≢ a) → ((b.job.number ≡ a) × (x ≡ b.job)) ⊎ ((b.job.number ≢ a) × (x ≡ y)) → FitsFree x
   free_of_new a x y e alone (inl c) = absurd (alone m.next_grant b.grant found_new (r.job ∙ sym r.number ∙ c.0))
   free_of_new a x y e alone (inr c) =
       subst FitsFree (sym c.1) (h.free a y e (λ i z o q. alone i z (stays (λ (g : Grant). eqb g.number i) m.grants b.grant z o.0, o.1) q))
 
+  -- the queue stays sound with the new grant
   pub keeps_new_grant : Sound (with_new_grant b m)
   keeps_new_grant = record {
     jobs = numbered_map job_number (in_place job_number b.job) (in_place_number job_number b.job) 1 m.jobs h.jobs;

@@ -44,6 +44,7 @@ record AreCounters (a b c : ℕ) : Type 0 where
   all : b ≤ c
   limit : IsWithin most_attempts c
 
+-- counters that pass the test are in order, with a limit from 1 to 1000
 counters_of : (a b c : ℕ) → (leb a b && leb b c && leb 1 c && leb c most_attempts) ≡ true → AreCounters a b c
 counters_of a b c h =
     let most = and_parts (leb a b && leb b c && leb 1 c) (leb c most_attempts) h in
@@ -53,12 +54,14 @@ counters_of a b c h =
 
 -- ---- one of several
 
+-- what holds of what is decided holds where a test may refuse it before
 kept_if : {A : Type 0} (P : A → Type 0) (b : Bool) (refusal : Refusal) (next : Result A Refusal) → IfOk next P → IfOk (cond b (Err refusal) next) P
 kept_if P true refusal next h = tt
 kept_if P false refusal next h = h
 
 -- ---- a client's requests
 
+-- a suspended job has a record, where it had one
 suspended : (p : Phase) (w : Wish) (j : Job) → HasRecord j → IfOk (suspend_in p w j) HasRecord
 suspended Held w j h = h
 suspended Waiting w j h = h
@@ -68,6 +71,7 @@ suspended Granted Kill j h = tt
 suspended Done w j h = tt
 suspended Failed w j h = tt
 
+-- so has a resumed one
 resumed : (p : Phase) (w : Wish) (j : Job) → HasRecord j → IfOk (resume_in p w j) HasRecord
 resumed Held w j h = h
 resumed Waiting w j h = tt
@@ -77,6 +81,7 @@ resumed Granted Kill j h = tt
 resumed Done w j h = tt
 resumed Failed w j h = tt
 
+-- and a killed one
 killed_kept : (p : Phase) (j : Job) → HasRecord j → IfOk (kill_in p j) HasRecord
 killed_kept Held j h = h
 killed_kept Waiting j h = h
@@ -95,14 +100,17 @@ record IsFitAlter (a : Alter) : Type 0 where
   maxtries : IfSome a.maxtries (IsWithin most_attempts)
   maxdials : IfSome a.maxdials (IsWithin most_attempts)
 
+-- what is read of a value that is said is fit
 said : {A : Type 0} (P : A → Type 0) (r : Result A OrderFault) → IfOk r P → IfOk (r >>= λ x. Ok (Some x)) (λ o. IfSome o P)
 said P (Ok x) h = h
 said P (Err e) h = tt
 
+-- so is what is read of one that may be said
 there : {A : Type 0} (P : A → Type 0) (value_in : List ℕ → Result A OrderFault) → ((value : List ℕ) → IfOk (value_in value) P) → (o : Option (List ℕ)) → IfOk (if_there value_in o) (λ x. IfSome x P)
 there P value_in each None = tt
 there P value_in each (Some value) = said P (value_in value) (each value)
 
+-- an alteration is fit where its kill time and limits are
 fit : (modem jobtag : Result (Option (List ℕ)) OrderFault) (tts killtime : Result (Option (Option ℕ)) OrderFault) (priority maxtries maxdials : Result (Option ℕ) OrderFault)
     → IfOk killtime (λ o. IfSome o IsKilltime) → IfOk maxtries (λ o. IfSome o (IsWithin most_attempts)) → IfOk maxdials (λ o. IfSome o (IsWithin most_attempts))
     → IfOk (modem >>= λ m. jobtag >>= λ j. tts >>= λ t. killtime >>= λ k. priority >>= λ p. maxtries >>= λ a. maxdials >>= λ b. Ok (record { modem = m; jobtag = j; tts = t; killtime = k; priority = p; maxtries = a; maxdials = b })) IsFitAlter
@@ -115,15 +123,18 @@ fit (Ok m) (Ok j) (Ok t) (Ok k) (Ok p) (Err e) b hk ha hb = tt
 fit (Ok m) (Ok j) (Ok t) (Ok k) (Ok p) (Ok a) (Err e) hk ha hb = tt
 fit (Ok m) (Ok j) (Ok t) (Ok k) (Ok p) (Ok a) (Ok b) hk ha hb = record { killtime = hk; maxtries = ha; maxdials = hb }
 
+-- what is read of changes is fit
 changes_fit : (ps : List Pair) → IfOk (changes_of ps) IsFitAlter
 unfolding changes_of
 changes_fit ps = fit (if_there modem_in (value_of (codes "modem") ps)) (if_there jobtag_in (value_of (codes "jobtag") ps)) (if_there tts_in (value_of (codes "tts") ps)) (if_there killtime_in (value_of (codes "killtime") ps)) (if_there priority_in (value_of (codes "priority") ps)) (if_there maxtries_in (value_of (codes "maxtries") ps)) (if_there maxdials_in (value_of (codes "maxdials") ps))
     (there IsKilltime killtime_in killtime_is (value_of (codes "killtime") ps)) (there (IsWithin most_attempts) maxtries_in maxtries_is (value_of (codes "maxtries") ps)) (there (IsWithin most_attempts) maxdials_in maxdials_is (value_of (codes "maxdials") ps))
 
+-- so it is where a test may refuse it
 fit_where : (b : Bool) (r : Result Alter OrderFault) (e : OrderFault) → IfOk r IsFitAlter → IfOk (cond b r (Err e)) IsFitAlter
 fit_where true r e h = h
 fit_where false r e h = tt
 
+-- so each alteration that is read is fit
 read_alter_fit : (ps : List Pair) → IfOk (alter_of ps) IsFitAlter
 unfolding alter_of
 read_alter_fit ps = fit_where _ (changes_of ps) _ (changes_fit ps)
@@ -133,9 +144,11 @@ new_or_old : {A : Type 0} (P : A → Type 0) (o : Option A) (old : A) → IfSome
 new_or_old P None old h was = was
 new_or_old P (Some new) old h was = h
 
+-- what a number isn't at most, it is over
 not_over : (x y : ℕ) → leb y x ≡ false → x ≤ y
 not_over x y e = omega (arith, leb-false y x e)
 
+-- an altered job has a record, unless a limit is reached
 kept_within : (a : Alter) (j : Job) (t : ℕ) (x y : Bool) → leb (altered a j t).maxdials j.totdials ≡ x → leb (altered a j t).maxtries j.tottries ≡ y
     → IsFitAlter a → HasRecord j → IfOk (cond (x || y) (Err LimitReached) (Ok (altered a j t))) HasRecord
 kept_within a j t true y ex ey fits h = tt
@@ -154,6 +167,7 @@ kept_within a j t false false ex ey fits h =
       extra = old.extra;
     })
 
+-- a job that was altered has a record, where it had one
 altered_kept : (p : Phase) (a : Alter) (j : Job) (t : ℕ) → IsFitAlter a → HasRecord j → IfOk (alter_in p a j t) HasRecord
 altered_kept Held a j t fits h = kept_within a j t (leb (altered a j t).maxdials j.totdials) (leb (altered a j t).maxtries j.tottries) refl refl fits h
 altered_kept Waiting a j t fits h = tt
@@ -186,6 +200,7 @@ dialed_more j left h =
       extra = old.extra;
     })
 
+-- after a call a job with a dial and a try left has a record
 dialed : (c : Call) (j : Job) → HasCallLeft j → HasRecord j → HasRecord (after_call c j)
 dialed Connected j left h =
     let old = within_limits_of (fields_of j) h in
@@ -205,11 +220,13 @@ dialed NoAnswer j left h = dialed_more j left h
 dialed NoCarrier j left h = dialed_more j left h
 dialed Other j left h = dialed_more j left h
 
+-- the same of a call that is reported once
 called : (c : Call) (j : Job) (g : Grant) (o : Option Call) → g.call ≡ o → FitsGrant j g → HasRecord j
     → IfOk (cond (is_some o) (Err CallKnown) (Ok (record { job = after_call c j; grant = record g { call = Some c } }))) HasJobRecord
 called c j g None e fits h = dialed c j (fits.call e) h
 called c j g (Some known) e fits h = tt
 
+-- with one page more sent, no more are sent than there are
 one_more_page : (j : Job) (p : ℕ) (rest : List ℕ) → HasPages j → j.left ≡ p ∷ rest → length (j.sent ++ p ∷ []) ≤ j.totpages
 one_more_page j p rest h e =
     let all = ap (λ (ps : List ℕ). length ps) h in
@@ -218,6 +235,7 @@ one_more_page j p rest h e =
     let more = length-append j.sent (p ∷ []) in
     omega (arith, all, both, some, more, length-range_with_len 1 j.totpages)
 
+-- after a page a job has a record
 confirmed : (n : ℕ) (j : Job) (g : Grant) (left : List ℕ) → j.left ≡ left → HasPages j → HasRecord j → IfOk (page_of left n j g) HasJobRecord
 confirmed n j g [] e pages h = tt
 confirmed n j g (p ∷ rest) e pages h =
@@ -253,6 +271,7 @@ waits j phase next reason late h =
       extra = old.extra;
     })
 
+-- what each of six cases has, the one that is picked has
 one_of : (a b c d e : Bool) (v w x y z last : Job) → HasRecord v → HasRecord w → HasRecord x → HasRecord y → HasRecord z → HasRecord last
     → HasRecord (cond a v (cond b w (cond c x (cond d y (cond e z last)))))
 one_of true b c d e v w x y z last hv hw hx hy hz h = hv
@@ -262,6 +281,7 @@ one_of false false false true e v w x y z last hv hw hx hy hz h = hy
 one_of false false false false true v w x y z last hv hw hx hy hz h = hz
 one_of false false false false false v w x y z last hv hw hx hy hz h = h
 
+-- a job that is tried again has a record
 retried_kept : (j : Job) (reason : List ℕ) (delay t : ℕ) → t + delay ≤ last_next → HasRecord j → HasRecord (retried j reason delay t)
 retried_kept j reason delay t late h =
     one_of (is_kill j.wish) (is_past j.killtime t) (leb j.maxdials j.totdials) (leb j.maxtries j.tottries) (leb 3 j.ntries)
@@ -269,21 +289,25 @@ retried_kept j reason delay t late h =
     (record j { phase = phase_after j.wish; wish = Go; next = t + delay; status = reason })
     h h h h h (waits j (phase_after j.wish) (t + delay) reason late h)
 
+-- so has one that ended in any way
 ended_kept : (e : Ending) (j : Job) (reason : List ℕ) (delay t : ℕ) → t + delay ≤ last_next → HasRecord j → HasRecord (ended_by e j reason delay t)
 ended_kept ending.Done j reason delay t late h = h
 ended_kept ending.Fail j reason delay t late h = h
 ended_kept ending.Retry j reason delay t late h = retried_kept j reason delay t late h
 
+-- and one whose grant ended in any way
 all_ended : (left : List ℕ) (o : Outcome) (j : Job) (delay t : ℕ) → t + delay ≤ last_next → HasRecord j → HasRecord (ended left o j delay t)
 all_ended [] o j delay t late h = h
 all_ended (p ∷ rest) o j delay t late h = ended_kept o.ending j o.reason delay t late h
 
+-- a call that is taken leaves a job with a record
 call_kept : (c : Call) (j : Job) (g : Grant) → FitsGrant j g → HasRecord j → IfOk (call c j g) HasJobRecord
 call_kept c j g fits h =
     kept_if HasJobRecord (not g.is_open) GrantClosed
     (cond (is_some g.call) (Err CallKnown) (Ok (record { job = after_call c j; grant = record g { call = Some c } })))
     (called c j g g.call refl fits h)
 
+-- so does a page
 page_kept : (n : ℕ) (j : Job) (g : Grant) → FitsGrant j g → HasRecord j → IfOk (page n j g) HasJobRecord
 page_kept n j g fits h =
     kept_if HasJobRecord (not g.is_open) GrantClosed (cond (not (is_connected g.call)) (Err NotConnected) (page_of j.left n j g))
@@ -300,6 +324,7 @@ ended_if false false false true e v w x y z both h = tt
 ended_if false false false false true v w x y z both h = tt
 ended_if false false false false false v w x y z both h = h
 
+-- and an outcome
 outcome_kept : (o : Outcome) (j : Job) (g : Grant) (delay t : ℕ) → t + delay ≤ last_next → HasRecord j → IfOk (outcome o j g delay t) HasJobRecord
 outcome_kept o j g delay t late h =
     ended_if (not g.is_open) (not o.dialed && is_some g.call) (o.dialed && is_none g.call) (not (eqb o.pages g.confirmed)) (is_done o.ending && not (is_empty j.left))

@@ -31,15 +31,18 @@ use Rattle.fax_core.proofs.StepLemmas.{taken_same, aged_sound, GivenTo, None_to,
 abbrev pub KeepsSent : Queue → Queue → Type 0
 KeepsSent m n = (a : ℕ) (j : Job) → IsJob m a j → HasSent n a j.sent
 
+-- the same jobs have sent the same pages
 same_sent : (m n : Queue) → n.jobs ≡ m.jobs → KeepsSent m n
 same_sent m n e a j is = record { job = j; there = subst (λ (js : List Job). find (λ k. eqb k.number a) js ≡ Some j) (sym e) is; more = []; begins = sym (append-nil j.sent) }
 
+-- what stays sent twice stays sent
 pub through : (l m n : Queue) → KeepsSent l m → KeepsSent m n → KeepsSent l n
 through l m n f g a j is =
     let x = f a j is in
     let y = g a x.job x.there in
     record { job = y.job; there = y.there; more = x.more ++ y.more; begins = y.begins ∙ ap (λ (ps : List ℕ). ps ++ y.more) x.begins ∙ append_assoc j.sent x.more y.more }
 
+-- ageing leaves what is sent
 pub aged_keeps : (t : ℕ) (m : Queue) → KeepsSent m (aged t m)
 aged_keeps t m a j is = record { job = aged_job t j; there = looked_up m (aged_job t) (aged_number t) a ∙ ap (option_map (aged_job t)) is; more = []; begins = aged_sent t j ∙ sym (append-nil j.sent) }
 
@@ -52,15 +55,18 @@ placed_keeps_by m b j k more is same e a x at (inl q) =
 placed_keeps_by m b j k more is same e a x at (inr q) =
     record { job = x; there = placed_other (λ (y : Job). y.number) a k x m.jobs at q; more = []; begins = sym (append-nil x.sent) }
 
+-- a job in its place, with more pages sent, leaves what is sent
 placed_keeps : (m : Queue) (b : ℕ) (j k : Job) (more : List ℕ) → IsJob m b j → k.number ≡ b → k.sent ≡ j.sent ++ more → KeepsSent m (with_job k m)
 placed_keeps m b j k more is same e a x at = placed_keeps_by m b j k more is same e a x at (cases_eq k.number a)
 
+-- a change of a job leaves what is sent
 changed_keeps : (s : Settings) (m : Queue) (t : ℕ) (a : ℕ) (j : Job) (d : Result Job Refusal) (n : Queue) (r : Reply) → IsJob m a j → ((k : Job) → d ≡ Ok k → Keeps j k) → changed s m t d ≡ Taken n r → KeepsSent m n
 changed_keeps s m t a j (Ok k) n r is keeps e =
     let f = keeps k refl in
     subst (KeepsSent m) (taken_same (with_job k m) n _ r e).0 (placed_keeps m a j k [] is (f.number ∙ numbered_job m a j is) (f.sent ∙ sym (append-nil j.sent)))
 changed_keeps s m t a j (Err x) n r is keeps e = cc
 
+-- so does a request on a job
 on_job_keeps : (s : Settings) (m : Queue) (t : ℕ) (a : ℕ) (decide : Job → Result Job Refusal) (o : Option Job) (n : Queue) (r : Reply) → job_numbered a m ≡ o → ((j k : Job) → decide j ≡ Ok k → Keeps j k) → on_job s m t decide o ≡ Taken n r → KeepsSent m n
 on_job_keeps s m t a decide None n r is keeps e = cc
 on_job_keeps s m t a decide (Some j) n r is keeps e = changed_keeps s m t a j (decide j) n r is (keeps j) e
@@ -75,46 +81,56 @@ pub record Reported (m n : Queue) (a : ℕ) (decide : Job → Grant → Result J
   pub made : decide job grant ≡ Ok both
   pub left : with_both both m ≡ n
 
+-- a report that is taken is one of a job that is there
 reported_is : (m : Queue) (decide : Job → Grant → Result JobAndGrant Refusal) (reply : Queue → JobAndGrant → Reply) (a : ℕ) (g : Grant) (j : Job) (d : Result JobAndGrant Refusal) (n : Queue) (r : Reply) → grant_numbered a m ≡ Some g → IsJob m g.job j → decide j g ≡ d → reported m reply j d ≡ Taken n r → Reported m n a decide
 reported_is m decide reply a g j (Ok b) n r is of made e = record { grant = g; is = is; job = j; of = of; both = b; made = made; left = (taken_same (with_both b m) n _ r e).0 }
 reported_is m decide reply a g j (Err x) n r is of made e = cc
 
+-- the same of a grant whose job is there or not
 on_both_is : (m : Queue) (decide : Job → Grant → Result JobAndGrant Refusal) (reply : Queue → JobAndGrant → Reply) (a : ℕ) (g : Grant) (o : Option Job) (n : Queue) (r : Reply) → grant_numbered a m ≡ Some g → job_numbered g.job m ≡ o → on_both m decide reply g o ≡ Taken n r → Reported m n a decide
 on_both_is m decide reply a g None n r is of e = cc
 on_both_is m decide reply a g (Some j) n r is of e = reported_is m decide reply a g j (decide j g) n r is of refl e
 
+-- the same of a grant that is there or not
 pub on_grant_is : (m : Queue) (decide : Job → Grant → Result JobAndGrant Refusal) (reply : Queue → JobAndGrant → Reply) (a : ℕ) (o : Option Grant) (n : Queue) (r : Reply) → grant_numbered a m ≡ o → on_grant m decide reply o ≡ Taken n r → Reported m n a decide
 on_grant_is m decide reply a None n r is e = cc
 on_grant_is m decide reply a (Some g) n r is e = on_both_is m decide reply a g (job_numbered g.job m) n r is refl e
 
+-- a report leaves what is sent
 report_keeps : (m n : Queue) (a : ℕ) (decide : Job → Grant → Result JobAndGrant Refusal) → ((j : Job) (g : Grant) (b : JobAndGrant) → decide j g ≡ Ok b → IsReport j g b) → ((j : Job) (g : Grant) (b : JobAndGrant) → decide j g ≡ Ok b → b.job.number ≡ j.number) → Reported m n a decide → KeepsSent m n
 report_keeps m n a decide report number x =
     let f = report x.job x.grant x.both x.made in
     let k = placed_keeps m x.grant.job x.job x.both.job f.more x.of (number x.job x.grant x.both x.made ∙ numbered_job m x.grant.job x.job x.of) f.sent in
     through m (with_job x.both.job m) n k (same_sent (with_job x.both.job m) n (ap (λ (q : Queue). q.jobs) (sym x.left)))
 
+-- so does a request for work
 given_keeps : (s : Settings) (m : Queue) (t : ℕ) (modem : List ℕ) (n : Queue) (r : Reply) → GivenTo s m t modem n r → KeepsSent m n
 given_keeps s m t modem n r (None_to none same told) = same_sent m n (ap (λ (q : Queue). q.jobs) (sym same))
 given_keeps s m t modem n r (Best_to j b none same told) =
     let k = (granted j modem m.next_grant).job in
     through m (with_job k m) n (placed_keeps m j.number j k [] b.goes.there refl (sym (append-nil j.sent))) (same_sent (with_job k m) n (ap (λ (q : Queue). q.jobs) (sym same)))
 
+-- and a submission
 submission_keeps : (m : Queue) (rule : Rule) (d : Result Job Refusal) (n : Queue) (r : Reply) → submitted m rule d ≡ Taken n r → KeepsSent m n
 submission_keeps m rule (Ok k) n r e = subst (KeepsSent m) (taken_same (with_new_job k m) n _ r e).0 (λ a j is. record { job = j; there = stays (λ (x : Job). eqb x.number a) m.jobs k j is; more = []; begins = sym (append-nil j.sent) })
 submission_keeps m rule (Err x) n r e = cc
 
+-- and an import
 import_keeps : (s : Settings) (m : Queue) (t : ℕ) (rule : Rule) (d : Result Job Refusal) (n : Queue) (r : Reply) → brought_in s m t rule d ≡ Taken n r → KeepsSent m n
 import_keeps s m t rule (Ok k) n r e = subst (KeepsSent m) (taken_same (with_new_job k m) n _ r e).0 (λ a j is. record { job = j; there = stays (λ (x : Job). eqb x.number a) m.jobs k j is; more = []; begins = sym (append-nil j.sent) })
 import_keeps s m t rule (Err x) n r e = cc
 
+-- a mark leaves the jobs
 mark_jobs : (m : Queue) (modem : List ℕ) (down : Bool) → (with_mark modem down m).jobs ≡ m.jobs
 mark_jobs m modem true = refl
 mark_jobs m modem false = refl
 
+-- so it leaves what is sent
 mark_keeps : (m : Queue) (modem : List ℕ) (down b : Bool) (n : Queue) (r : Reply) → cond b (Taken (with_mark modem down m) (Marked down)) (Refused refusal.NoModem NoKeys) ≡ Taken n r → KeepsSent m n
 mark_keeps m modem down true n r e = same_sent m n (ap (λ (q : Queue). q.jobs) (sym (taken_same (with_mark modem down m) n _ r e).0) ∙ mark_jobs m modem down)
 mark_keeps m modem down false n r e = cc
 
+-- each request leaves what is sent
 act_keeps : (s : Settings) (m n : Queue) (t : ℕ) (ask : Ask) (r : Reply) → Sound m → act s m t ask ≡ Taken n r → KeepsSent m n
 act_keeps s m n t (Submission o) r h e = submission_keeps m (s.rule o.dial) (submit o (s.rule o.dial) m.next_job s.max_jobs t) n r e
 act_keeps s m n t (Bring i) r h e = import_keeps s m t (s.rule i.order.dial) (bring i (s.rule i.order.dial) m.next_job s.max_jobs t) n r e
@@ -130,13 +146,16 @@ act_keeps s m n t (PageReport a p) r h e = report_keeps m n a (page p) (λ j g b
 act_keeps s m n t (OutcomeReport a o) r h e = report_keeps m n a (λ j g. outcome o j g (s.delay g.call) t) (λ j g b. outcome_is o j g (s.delay g.call) t b) (λ j g b d. (outcome_is o j g (s.delay g.call) t b d).number) (on_grant_is m (λ j g. outcome o j g (s.delay g.call) t) (outcome_reply s t) a (grant_numbered a m) n r refl e)
 act_keeps s m n t (GiveUp floor) r h e = same_sent m n (ap (λ (q : Queue). q.jobs) (sym (taken_same m n _ r e).0))
 
+-- so does a step
 pub step_keeps : (s : Settings) (m n : Queue) (t : ℕ) (ask : Ask) (r : Reply) → Sound m → step s m t ask ≡ Taken n r → KeepsSent m n
 step_keeps s m n t ask r h e = through m (aged t m) n (aged_keeps t m) (act_keeps s (aged t m) n t ask r (aged_sound t m h) e)
 
+-- what a step leaves where it is taken, it leaves in any case
 left_keeps : (m : Queue) (x : Step) → ((n : Queue) (r : Reply) → x ≡ Taken n r → KeepsSent m n) → KeepsSent m (left_by m x)
 left_keeps m (Taken n r) f = f n r refl
 left_keeps m (Refused e k) f = same_sent m m refl
 
+-- a run leaves what is sent
 pub run_keeps : (s : Settings) (m : Queue) (rs : List Request) → Sound m → AreLawful rs → KeepsSent m (queue_after s m rs)
 run_keeps s m [] h lawful = same_sent m m refl
 run_keeps s m (r ∷ rs) h lawful =
@@ -147,6 +166,7 @@ run_keeps s m (r ∷ rs) h lawful =
 
 -- ---- numbers of pages
 
+-- in a range, what stands behind some is as many above the first
 head_is : (xs : List ℕ) (p : ℕ) (rest : List ℕ) (a n : ℕ) → xs ++ p ∷ rest ≡ range_with_len a n → p ≡ a + length xs
 head_is [] p rest a zero e = cc
 head_is [] p rest a (suc n) e = let same : p ≡ a = cc in omega arith
@@ -166,6 +186,7 @@ front_is (x ∷ xs) ys a (suc n) e =
     let more = front_is xs ys (a + 1) n rest in
     cc
 
+-- the end of a range is one, from behind its front
 pub tail_is : (xs ys : List ℕ) (a n : ℕ) → xs ++ ys ≡ range_with_len a n → ys ≡ range_with_len (a + length xs) (n - length xs)
 tail_is [] ys a n e =
     let here : a + 0 ≡ a = omega arith in
@@ -181,6 +202,7 @@ tail_is (x ∷ xs) ys a (suc n) e =
 
 -- ---- a taken page report
 
+-- a page report that is taken confirms the first page left
 pub confirmed : (s : Settings) (m n : Queue) (t a p : ℕ) (r : Reply) → step s m t (PageReport a p) ≡ Taken n r → ConfirmsPage (aged t m) n a p
 confirmed s m n t a p r e =
     let x = on_grant_is (aged t m) (page p) (page_reply t) a (grant_numbered a (aged t m)) n r refl e in
@@ -202,12 +224,14 @@ confirmed s m n t a p r e =
 
 -- ---- a taken request for a job
 
+-- the pages from behind those sent through the last are those left
 left_of : (j : Job) → HasPages j → range_with_len (length j.sent + 1) (j.totpages + 1 - (length j.sent + 1)) ≡ j.left
 left_of j h =
     let here : 1 + length j.sent ≡ length j.sent + 1 = omega arith in
     let many : j.totpages - length j.sent ≡ j.totpages + 1 - (length j.sent + 1) = omega arith in
     sym (tail_is j.sent j.left 1 j.totpages h ∙ ap (λ (i : ℕ). range_with_len i (j.totpages - length j.sent)) here ∙ ap (λ (i : ℕ). range_with_len (length j.sent + 1) i) many)
 
+-- a request for work that is given a job gives it to a free modem
 gives : (s : Settings) (m n : Queue) (t : ℕ) (modem : List ℕ) (h : Handed) → Sound m → GivenTo s m t modem n (Given h) → GivesJob m n modem h
 gives s m n t modem h sound (None_to none same told) = cc
 gives s m n t modem h sound (Best_to j b none same told) =
@@ -231,6 +255,7 @@ gives s m n t modem h sound (Best_to j b none same told) =
     } in
     subst (GivesJob m n modem) is all
 
+-- the same of a step, which ages the jobs first
 pub step_gives : (s : Settings) (m n : Queue) (t : ℕ) (modem : List ℕ) (h : Handed) → Sound m → step s m t (Next modem) ≡ Taken n (Given h) → GivesJob (aged t m) n modem h
 step_gives s m n t modem h sound e =
     let aged_one : Sound (aged t m) = aged_sound t m sound in
@@ -254,6 +279,7 @@ page_counted m n a p c h =
     let long : length c.new.sent ≡ length c.old.sent + 1 = ap length c.sent_now ∙ length-append c.old.sent (p ∷ []) in
     omega arith
 
+-- no fewer pages are sent than were at first
 pub sent_before : (m : Queue) (a : ℕ) (pages : List ℕ) (j : Job) → HasSent m a pages → IsJob m a j → length pages ≤ length j.sent
 sent_before m a pages j x is =
     let same : x.job.sent ≡ j.sent = ap (λ (k : Job). k.sent) (same_job m a x.job j x.there is) in
@@ -266,6 +292,7 @@ record Later (s : Settings) (n : Queue) (rs : List Request) (u a page : ℕ) : T
   sound : Sound (queue_after s n rs)
   counted : (j : Job) → IsJob (aged u (queue_after s n rs)) a j → page ≤ length j.sent
 
+-- whatever comes behind a confirmed page, as many pages of its job are sent
 later_of : (s : Settings) (m n : Queue) (t grant page : ℕ) (reply : Reply) (g : Grant) (rs : List Request) (u : ℕ)
     → Sound m → AreLawful rs → step s m t (PageReport grant page) ≡ Taken n reply → grant_numbered grant m ≡ Some g → Later s n rs u g.job page
 later_of s m n t grant page reply g rs u sound lawful taken is =
@@ -283,6 +310,7 @@ later_of s m n t grant page reply g rs u sound lawful taken is =
           omega arith;
     }
 
+-- a page that was confirmed lies before each grant that its job gets later
 pub not_again : (s : Settings) (m n : Queue) (t grant page : ℕ) (reply : Reply) (g : Grant) (rs : List Request) (u : ℕ) (modem : List ℕ) (l : Queue) (h : Handed)
     → Sound m → AreLawful rs → step s m t (PageReport grant page) ≡ Taken n reply → step s (queue_after s n rs) u (Next modem) ≡ Taken l (Given h)
     → grant_numbered grant m ≡ Some g → h.job ≡ g.job → page < h.from
@@ -292,6 +320,7 @@ not_again s m n t grant page reply g rs u modem l h sound lawful taken given is 
     let more = later.counted next.job (subst (λ (i : ℕ). IsJob (aged u (queue_after s n rs)) i next.job) same next.was_there) in
     omega (arith, next.first)
 
+-- a page that is confirmed later, of the same job, lies behind it
 pub rises : (s : Settings) (m n : Queue) (t grant page : ℕ) (reply : Reply) (g : Grant) (rs : List Request) (u other more : ℕ) (l : Queue) (answer : Reply) (h : Grant)
     → Sound m → AreLawful rs → step s m t (PageReport grant page) ≡ Taken n reply → step s (queue_after s n rs) u (PageReport other more) ≡ Taken l answer
     → grant_numbered grant m ≡ Some g → grant_numbered other (queue_after s n rs) ≡ Some h → h.job ≡ g.job → page < more
@@ -306,6 +335,7 @@ rises s m n t grant page reply g rs u other more l answer h sound lawful taken a
 
 -- ---- no modem gets a second job, and no job a second modem
 
+-- two open grants of one modem or one job are one
 pub one_each : (m : Queue) (a b : ℕ) (g h : Grant) → Sound m → IsOpen m a g → IsOpen m b h → (g.modem ≡ h.modem) ⊎ (g.job ≡ h.job) → a ≡ b
 one_each m a b g h sound o p (inl e) = sound.one_to_a_modem a b g h o p e
 one_each m a b g h sound o p (inr e) = sound.one_of_a_job a b g h o p e

@@ -9,28 +9,34 @@ use Rattle.std.proofs.lemmas.List.Folds.{find-append}
 
 -- ---- what is found
 
+-- what is found first or later passes
 found_by : {X : Type 0} (p : X → Bool) (y : X) (ys : List X) (x : X) (b : Bool) → p y ≡ b → cond b (Some y) (find p ys) ≡ Some x → (find p ys ≡ Some x → p x ≡ true) → p x ≡ true
 found_by {X} p y ys x true e h ih = let same : y ≡ x = cc in subst (λ (z : X). p z ≡ true) same e
 found_by p y ys x false e h ih = ih h
 
+-- what is found passes
 pub found : {X : Type 0} (p : X → Bool) (xs : List X) (x : X) → find p xs ≡ Some x → p x ≡ true
 found p [] x e = cc
 found p (y ∷ ys) x e = found_by p y ys x (p y) refl e (found p ys x)
 
+-- a function goes through a choice
 push : {X : Type 0} (f : X → X) (b : Bool) (x : X) (o : Option X) → cond b (Some (f x)) (option_map f o) ≡ option_map f (cond b (Some x) o)
 push f true x o = refl
 push f false x o = refl
 
+-- where it keeps the test, a mapped list finds what the list does, mapped
 pub find_map : {X : Type 0} (p : X → Bool) (f : X → X) → ((x : X) → p (f x) ≡ p x) → (xs : List X) → find p (map f xs) ≡ option_map f (find p xs)
 find_map p f same [] = refl
 find_map p f same (x ∷ xs) = rw (same x, find_map p f same xs) (push f (p x) x (find p xs))
 
+-- what is found in a mapped option is mapped from what was there
 pub mapped : {X : Type 0} (f : X → X) (o : Option X) (y : X) → option_map f o ≡ Some y → (x : X) × (o ≡ Some x) × (f x ≡ y)
 mapped f None y e = cc
 mapped f (Some x) y e = (x, refl, cc)
 
 -- ---- numbers in order
 
+-- where it keeps the numbers, a mapped list is numbered as the list is
 pub numbered_map : {X : Type 0} (num : X → ℕ) (f : X → X) → ((x : X) → num (f x) ≡ num x) → (a : ℕ) (xs : List X) → map num xs ≡ range_with_len a (length xs) → map num (map f xs) ≡ range_with_len a (length (map f xs))
 numbered_map num f same a [] e = refl
 numbered_map num f same a (x ∷ xs) e =
@@ -39,10 +45,12 @@ numbered_map num f same a (x ∷ xs) e =
     let after = numbered_map num f same (a + 1) xs rest in
     cc (same x)
 
+-- a mapped list has as many elements
 pub length_map : {X : Type 0} (f : X → X) (xs : List X) → length (map f xs) ≡ length xs
 length_map f [] = refl
 length_map f (x ∷ xs) = ap suc (length_map f xs)
 
+-- with the next number at its end, a numbered list is numbered
 pub numbered_more : {X : Type 0} (num : X → ℕ) (a : ℕ) (xs : List X) (x : X) → map num xs ≡ range_with_len a (length xs) → num x ≡ a + length xs → map num (xs ++ x ∷ []) ≡ range_with_len a (length (xs ++ x ∷ []))
 numbered_more num a [] x e n = let here : num x ≡ a = omega arith in ap (λ (k : ℕ). k ∷ []) here
 numbered_more num a (y ∷ ys) x e n =
@@ -51,9 +59,11 @@ numbered_more num a (y ∷ ys) x e n =
     let after = numbered_more num (a + 1) ys x rest (omega arith) in
     cc
 
+-- one more at the end makes one more
 pub length_more : {X : Type 0} (xs : List X) (x : X) → length (xs ++ x ∷ []) ≡ length xs + 1
 length_more xs x = length-append xs (x ∷ [])
 
+-- past the last number nothing is found
 pub absent : {X : Type 0} (num : X → ℕ) (a n : ℕ) (xs : List X) → map num xs ≡ range_with_len a (length xs) → a + length xs ≤ n → find (λ x. eqb (num x) n) xs ≡ None
 absent num a n [] e h = refl
 absent num a n (x ∷ xs) e h =
@@ -64,20 +74,25 @@ absent num a n (x ∷ xs) e h =
 
 -- ---- one more at the end
 
+-- what is found is found with one more at the end
 pub stays : {X : Type 0} (p : X → Bool) (xs : List X) (x y : X) → find p xs ≡ Some y → find p (xs ++ x ∷ []) ≡ Some y
 stays p xs x y e = find-append p xs (x ∷ []) ∙ ap (λ o. option_or o (find p (x ∷ []))) e
 
+-- where nothing is found, one at the end that passes is
 pub comes : {X : Type 0} (p : X → Bool) (xs : List X) (x : X) → find p xs ≡ None → p x ≡ true → find p (xs ++ x ∷ []) ≡ Some x
 comes p xs x none here = find-append p xs (x ∷ []) ∙ ap (λ o. option_or o (find p (x ∷ []))) none ∙ ap (λ b. cond b (Some x) None) here
 
+-- what is found of one is that one, and it passes
 last_by : {X : Type 0} (x y : X) (b : Bool) → cond b (Some x) None ≡ Some y → (b ≡ true) × (x ≡ y)
 last_by x y true e = (refl, cc)
 last_by x y false e = cc
 
+-- what is found before or at the end was found, or is the last
 either_by : {X : Type 0} (o : Option X) (x y : X) (b : Bool) → option_or o (cond b (Some x) None) ≡ Some y → (o ≡ Some y) ⊎ ((b ≡ true) × (x ≡ y))
 either_by (Some z) x y b e = inl e
 either_by None x y b e = inr (last_by x y b e)
 
+-- what is found with one more at the end was found, or is that one
 pub either : {X : Type 0} (p : X → Bool) (xs : List X) (x y : X) → find p (xs ++ x ∷ []) ≡ Some y → (find p xs ≡ Some y) ⊎ ((p x ≡ true) × (x ≡ y))
 either p xs x y e = either_by (find p xs) x y (p x) (sym (find-append p xs (x ∷ [])) ∙ e)
 
@@ -86,12 +101,15 @@ either p xs x y e = either_by (find p xs) x y (p x) (sym (find-append p xs (x �
 abbrev pub in_place : {X : Type 0} → (X → ℕ) → X → X → X
 in_place num k x = cond (eqb (num x) (num k)) k x
 
+-- one put in another's place has its number
 pub in_place_number : {X : Type 0} (num : X → ℕ) (k x : X) → num (in_place num k x) ≡ num x
 in_place_number {X} num k x = cond_both (eqb (num x) (num k)) k x (λ (y : X). num y ≡ num x) (λ e. sym (eqb-true (num x) (num k) e)) (λ e. refl)
 
+-- a number finds what it found, or the one put in its place
 pub find_placed : {X : Type 0} (num : X → ℕ) (n : ℕ) (k : X) (xs : List X) → find (λ x. eqb (num x) n) (map (in_place num k) xs) ≡ option_map (in_place num k) (find (λ x. eqb (num x) n) xs)
 find_placed num n k xs = find_map (λ x. eqb (num x) n) (in_place num k) (λ x. ap (λ (a : ℕ). eqb a n) (in_place_number num k x)) xs
 
+-- what a number finds has it
 pub number_found : {X : Type 0} (num : X → ℕ) (n : ℕ) (xs : List X) (x : X) → find (λ x. eqb (num x) n) xs ≡ Some x → num x ≡ n
 number_found num n xs x e = eqb-true (num x) n (found (λ x. eqb (num x) n) xs x e)
 
@@ -113,10 +131,12 @@ pub record Placed {X : Type 0} (num : X → ℕ) (n : ℕ) (k y : X) (xs : List 
   pub was : find (λ x. eqb (num x) n) xs ≡ Some before
   pub now : ((num k ≡ n) × (y ≡ k)) ⊎ ((num k ≢ n) × (y ≡ before))
 
+-- what stands in a place is the one put there, or the old one
 placed_by : {X : Type 0} (num : X → ℕ) (n : ℕ) (k x y : X) (b : Bool) → num x ≡ n → eqb (num x) (num k) ≡ b → cond b k x ≡ y → ((num k ≡ n) × (y ≡ k)) ⊎ ((num k ≢ n) × (y ≡ x))
 placed_by num n k x y true e t h = inl (sym (eqb-true (num x) (num k) t) ∙ e, sym h)
 placed_by num n k x y false e t h = inr ((λ q. eqb-false (num x) (num k) t (e ∙ sym q)), sym h)
 
+-- what is found in a list with one in its place is that one or was found
 pub placed : {X : Type 0} (num : X → ℕ) (n : ℕ) (k y : X) (xs : List X) → find (λ x. eqb (num x) n) (map (in_place num k) xs) ≡ Some y → Placed num n k y xs
 placed num n k y xs e =
     let old = mapped (in_place num k) (find (λ x. eqb (num x) n) xs) y (sym (find_placed num n k xs) ∙ e) in
@@ -128,42 +148,51 @@ abbrev pub In : {X : Type 0} → X → List X → Type 0
 In x [] = ⊥
 In x (y ∷ ys) = (y ≡ x) ⊎ In x ys
 
+-- what is found first or later is in the list
 found_in_by : {X : Type 0} (p : X → Bool) (y : X) (ys : List X) (x : X) (b : Bool) → cond b (Some y) (find p ys) ≡ Some x → (find p ys ≡ Some x → In x ys) → (y ≡ x) ⊎ In x ys
 found_in_by p y ys x true h ih = inl (cc)
 found_in_by p y ys x false h ih = inr (ih h)
 
+-- what is found is in the list
 pub found_in : {X : Type 0} (p : X → Bool) (xs : List X) (x : X) → find p xs ≡ Some x → In x xs
 found_in p [] x e = cc
 found_in p (y ∷ ys) x e = found_in_by p y ys x (p y) e (found_in p ys x)
 
+-- where nothing is found, neither the first passes nor a later one
 none_by : {X : Type 0} (p : X → Bool) (y : X) (o : Option X) (b : Bool) → p y ≡ b → cond b (Some y) o ≡ None → (p y ≡ false) × (o ≡ None)
 none_by p y o true e h = cc
 none_by p y o false e h = (e, h)
 
+-- where nothing is found, nothing in the list passes
 pub none_passes : {X : Type 0} (p : X → Bool) (xs : List X) (x : X) → find p xs ≡ None → In x xs → p x ≡ false
 none_passes p [] x e i = absurd i
 none_passes p (y ∷ ys) x e (inl s) = sym (ap p s) ∙ (none_by p y (find p ys) (p y) refl e).0
 none_passes p (y ∷ ys) x e (inr i) = none_passes p ys x (none_by p y (find p ys) (p y) refl e).1 i
 
+-- what passes is in the filtered list, first or later
 in_filter_by : {X : Type 0} (p : X → Bool) (y : X) (ys : List X) (x : X) (b : Bool) → p y ≡ b → p x ≡ true → (y ≡ x) ⊎ In x ys → (In x ys → In x (filter p ys)) → In x (cond b (y ∷ filter p ys) (filter p ys))
 in_filter_by p y ys x true e h (inl s) ih = inl s
 in_filter_by p y ys x true e h (inr i) ih = inr (ih i)
 in_filter_by p y ys x false e h (inl s) ih = absurd (true≢false (sym h ∙ sym (ap p s) ∙ e))
 in_filter_by p y ys x false e h (inr i) ih = ih i
 
+-- what passes and is in the list is in the filtered one
 pub in_filter : {X : Type 0} (p : X → Bool) (xs : List X) (x : X) → p x ≡ true → In x xs → In x (filter p xs)
 in_filter p [] x h i = i
 in_filter p (y ∷ ys) x h i = in_filter_by p y ys x (p y) refl h i (in_filter p ys x h)
 
+-- what is in the filtered list passes and is in the list, first or later
 of_filter_by : {X : Type 0} (p : X → Bool) (y : X) (ys : List X) (x : X) (b : Bool) → p y ≡ b → In x (cond b (y ∷ filter p ys) (filter p ys)) → (In x (filter p ys) → In x ys × (p x ≡ true)) → ((y ≡ x) ⊎ In x ys) × (p x ≡ true)
 of_filter_by p y ys x true e (inl s) ih = (inl s, sym (ap p s) ∙ e)
 of_filter_by p y ys x true e (inr i) ih = let r = ih i in (inr r.0, r.1)
 of_filter_by p y ys x false e i ih = let r = ih i in (inr r.0, r.1)
 
+-- what is in the filtered list is in the list and passes
 pub of_filter : {X : Type 0} (p : X → Bool) (xs : List X) (x : X) → In x (filter p xs) → In x xs × (p x ≡ true)
 of_filter p [] x i = absurd i
 of_filter p (y ∷ ys) x i = of_filter_by p y ys x (p y) refl i (of_filter p ys x)
 
+-- what is in a numbered list has the first number at least
 at_least : {X : Type 0} (num : X → ℕ) (a : ℕ) (xs : List X) (x : X) → map num xs ≡ range_with_len a (length xs) → In x xs → a ≤ num x
 at_least num a [] x e i = absurd i
 at_least num a (y ∷ ys) x e (inl s) = let head : num y ≡ a = cc in let same : num y ≡ num x = ap num s in omega arith

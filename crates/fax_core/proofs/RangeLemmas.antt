@@ -2,6 +2,7 @@
 use Rattle.std.proofs.Common.{◌≡◌, ℕ, zero, suc, ◌+◌, ◌-◌, ◌≤◌, List, ◌∷◌, ◌++◌, ap, sym, ◌∙◌, arith}
 use Rattle.std.specs.List.{range_with_len}
 
+-- a range and the range behind it are one range
 pub joined : (a n k : ℕ) → range_with_len a n ++ range_with_len (a + n) k ≡ range_with_len a (n + k)
 joined a zero k =
     let start : a + 0 ≡ a = omega arith in
@@ -12,6 +13,7 @@ joined a (suc n) k =
     let len : suc n + k ≡ suc (n + k) = omega arith in
     ap (λ (ps : List ℕ). a ∷ ps) (ap (λ (i : ℕ). range_with_len (a + 1) n ++ range_with_len i k) start ∙ joined (a + 1) n k) ∙ ap (λ (i : ℕ). range_with_len a i) (sym len)
 
+-- the pages sent and those behind them are all
 pub has_pages : (n all : ℕ) → n ≤ all → range_with_len 1 n ++ range_with_len (n + 1) (all - n) ≡ range_with_len 1 all
 has_pages n all h =
     let start : n + 1 ≡ 1 + n = omega arith in

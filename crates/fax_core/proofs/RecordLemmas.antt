@@ -22,6 +22,7 @@ pub record IsWithinLimits (f : JobFields) : Type 0 where
   pub next : leb f.next last_next ≡ true
   pub extra : are_unknown f.extra ≡ true
 
+-- a record that tests as lawful is within its limits
 pub within_limits_of : (f : JobFields) → is_lawful f ≡ true → IsWithinLimits f
 within_limits_of f h =
     let x = and_parts (leb 1 f.job && leb f.job last_job && is_lawful_killtime f.killtime && are_lawful_pages f && are_lawful_tries f && are_lawful_dials f && leb f.next last_next) (are_unknown f.extra) h in
@@ -32,6 +33,7 @@ within_limits_of f h =
     let k = and_parts (leb 1 f.job && leb f.job last_job) (is_lawful_killtime f.killtime) p.0 in
     record { number = k.0; killtime = k.1; pages = p.1; tries = t.1; dials = d.1; next = n.1; extra = x.1 }
 
+-- and one within its limits tests as lawful
 pub lawful_from : (f : JobFields) → IsWithinLimits f → is_lawful f ≡ true
 lawful_from f h =
     and_from _ (are_unknown f.extra)

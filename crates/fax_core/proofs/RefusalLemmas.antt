@@ -41,19 +41,23 @@ pub record IsOf (ask : Ask) (e : Refusal) (k : Keys) : Type 0 where
 abbrev pub Decided : Type 0 → Type 0
 Decided A = Result A Refusal
 
+-- what holds of the refusal that is told holds of the one that is known
 err_is : {A : Type 0} (P : Refusal → Type 0) (x e : Refusal) → Path (Decided A) (Err x) (Err e) → P x → P e
 err_is P x e h p = let same : x ≡ e = cc in subst P same p
 
+-- what holds of a test's refusal, and of those behind, holds of the one that is told
 pub refused_or : {A : Type 0} (P : Refusal → Type 0) (b : Bool) (x e : Refusal) (r : Decided A) → cond b (Err x) r ≡ Err e → P x → (r ≡ Err e → P e) → P e
 refused_or P true x e r h p f = err_is P x e h p
 refused_or P false x e r h p f = f h
 
+-- the same of a step's refusal and keys
 refused_is : (P : Refusal → Keys → Type 0) (x e : Refusal) (l k : Keys) → Refused x l ≡ Refused e k → P x l → P e k
 refused_is P x e l k h p =
     let a : x ≡ e = cc in
     let b : l ≡ k = cc in
     subst (P e) b (subst (λ (y : Refusal). P y l) a p)
 
+-- the same of a step behind a test
 step_or : (P : Refusal → Keys → Type 0) (b : Bool) (x e : Refusal) (l k : Keys) (r : Step) → cond b (Refused x l) r ≡ Refused e k → P x l → (r ≡ Refused e k → P e k) → P e k
 step_or P true x e l k r h p f = refused_is P x e l k h p
 step_or P false x e l k r h p f = f h
@@ -61,22 +65,27 @@ step_or P false x e l k r h p f = f h
 -- ---- the machine's ways
 
 module _ (P : Refusal → Keys → Type 0) where
+  -- a refused submission has its decision's refusal, with its rule's keys
   submitted_refused : (m : Queue) (rule : Rule) (d : Result Job Refusal) (e : Refusal) (k : Keys) → ((x : Refusal) → d ≡ Err x → P x (keys_of_rule x rule)) → submitted m rule d ≡ Refused e k → P e k
   submitted_refused m rule (Ok j) e k f h = cc
   submitted_refused m rule (Err x) e k f h = refused_is P x e (keys_of_rule x rule) k h (f x refl)
 
+  -- so has a refused import
   import_refused : (s : Settings) (m : Queue) (t : ℕ) (rule : Rule) (d : Result Job Refusal) (e : Refusal) (k : Keys) → ((x : Refusal) → d ≡ Err x → P x (keys_of_rule x rule)) → brought_in s m t rule d ≡ Refused e k → P e k
   import_refused s m t rule (Ok j) e k f h = cc
   import_refused s m t rule (Err x) e k f h = refused_is P x e (keys_of_rule x rule) k h (f x refl)
 
+  -- a refused change of a job has its decision's refusal, and no keys
   changed_refused : (s : Settings) (m : Queue) (t : ℕ) (d : Result Job Refusal) (e : Refusal) (k : Keys) → ((x : Refusal) → d ≡ Err x → P x NoKeys) → changed s m t d ≡ Refused e k → P e k
   changed_refused s m t (Ok j) e k f h = cc
   changed_refused s m t (Err x) e k f h = refused_is P x e NoKeys k h (f x refl)
 
+  -- so has a refused request on a job, where the job is there
   on_job_refused : (s : Settings) (m : Queue) (t : ℕ) (decide : Job → Result Job Refusal) (o : Option Job) (e : Refusal) (k : Keys) → P NoJob NoKeys → ((j : Job) (x : Refusal) → decide j ≡ Err x → P x NoKeys) → on_job s m t decide o ≡ Refused e k → P e k
   on_job_refused s m t decide None e k p f h = refused_is P NoJob e NoKeys k h p
   on_job_refused s m t decide (Some j) e k p f h = changed_refused s m t (decide j) e k (f j) h
 
+  -- a refused report has its decision's refusal, with the job's keys
   reported_refused : (m : Queue) (reply : Queue → JobAndGrant → Reply) (j : Job) (d : Result JobAndGrant Refusal) (e : Refusal) (k : Keys) → ((x : Refusal) → d ≡ Err x → P x (keys_of_job x j)) → reported m reply j d ≡ Refused e k → P e k
   reported_refused m reply j (Ok b) e k f h = cc
   reported_refused m reply j (Err x) e k f h = refused_is P x e (keys_of_job x j) k h (f x refl)
@@ -86,14 +95,17 @@ module _ (P : Refusal → Keys → Type 0) where
   no_job m a g h is none p true o = let old = h.held a g (is, o) in cc (none, old.1)
   no_job m a g h is none p false o = p
 
+  -- the same of a grant whose job is there or not
   on_both_refused : (m : Queue) (decide : Job → Grant → Result JobAndGrant Refusal) (reply : Queue → JobAndGrant → Reply) (a : ℕ) (g : Grant) (o : Option Job) (e : Refusal) (k : Keys) → Sound m → grant_numbered a m ≡ Some g → job_numbered g.job m ≡ o → P GrantClosed NoKeys → ((j : Job) (x : Refusal) → decide j g ≡ Err x → P x (keys_of_job x j)) → on_both m decide reply g o ≡ Refused e k → P e k
   on_both_refused m decide reply a g None e k s is none p f h = refused_is P (without_job g.is_open) e NoKeys k h (no_job m a g s is none p g.is_open refl)
   on_both_refused m decide reply a g (Some j) e k s is there p f h = reported_refused m reply j (decide j g) e k (f j) h
 
+  -- the same of a grant that is there or not
   on_grant_refused : (m : Queue) (decide : Job → Grant → Result JobAndGrant Refusal) (reply : Queue → JobAndGrant → Reply) (a : ℕ) (o : Option Grant) (e : Refusal) (k : Keys) → Sound m → grant_numbered a m ≡ o → P NoGrant NoKeys → P GrantClosed NoKeys → ((j : Job) (g : Grant) (x : Refusal) → decide j g ≡ Err x → P x (keys_of_job x j)) → on_grant m decide reply o ≡ Refused e k → P e k
   on_grant_refused m decide reply a None e k s is p q f h = refused_is P NoGrant e NoKeys k h p
   on_grant_refused m decide reply a (Some g) e k s is p q f h = on_both_refused m decide reply a g (job_numbered g.job m) e k s is refl q (λ j x. f j g x) h
 
+  -- a refused mark is of no modem
   mark_refused : (m : Queue) (modem : List ℕ) (down b : Bool) (e : Refusal) (k : Keys) → P NoModem NoKeys → cond b (Taken (with_mark modem down m) (Marked down)) (Refused NoModem NoKeys) ≡ Refused e k → P e k
   mark_refused m modem down true e k p h = cc
   mark_refused m modem down false e k p h = refused_is P NoModem e NoKeys k h p
@@ -101,6 +113,7 @@ module _ (P : Refusal → Keys → Type 0) where
 -- ---- the decisions
 
 module _ (P : Refusal → Type 0) where
+  -- a suspension is refused of an active job or one that is over
   pub suspend_refused : P JobActive → P JobOver → (p : Phase) (w : Wish) (j : Job) (e : Refusal) → suspend_in p w j ≡ Err e → P e
   suspend_refused a o phase.Held w j e h = cc
   suspend_refused a o phase.Waiting w j e h = cc
@@ -110,6 +123,7 @@ module _ (P : Refusal → Type 0) where
   suspend_refused a o phase.Done w j e h = err_is P JobOver e h o
   suspend_refused a o phase.Failed w j e h = err_is P JobOver e h o
 
+  -- a resumption also of one that isn't suspended
   pub resume_refused : P JobActive → P JobOver → P NotSuspended → (p : Phase) (w : Wish) (j : Job) (e : Refusal) → resume_in p w j ≡ Err e → P e
   resume_refused a o n phase.Held w j e h = cc
   resume_refused a o n phase.Waiting w j e h = err_is P NotSuspended e h n
@@ -119,6 +133,7 @@ module _ (P : Refusal → Type 0) where
   resume_refused a o n phase.Done w j e h = err_is P JobOver e h o
   resume_refused a o n phase.Failed w j e h = err_is P JobOver e h o
 
+  -- a kill is refused of one that is over
   pub kill_refused : P JobOver → (p : Phase) (j : Job) (e : Refusal) → kill_in p j ≡ Err e → P e
   kill_refused o phase.Held j e h = cc
   kill_refused o phase.Waiting j e h = cc
@@ -126,6 +141,7 @@ module _ (P : Refusal → Type 0) where
   kill_refused o phase.Done j e h = err_is P JobOver e h o
   kill_refused o phase.Failed j e h = err_is P JobOver e h o
 
+  -- an alteration also where a limit is reached
   pub alter_refused : P JobActive → P JobOver → P NotSuspended → P LimitReached → (p : Phase) (c : Alter) (j : Job) (t : ℕ) (e : Refusal) → alter_in p c j t ≡ Err e → P e
   alter_refused a o n l phase.Held c j t e h = refused_or P (leb (altered c j t).maxdials j.totdials || leb (altered c j t).maxtries j.tottries) LimitReached e (Ok (altered c j t)) h l (λ x. cc x)
   alter_refused a o n l phase.Waiting c j t e h = err_is P NotSuspended e h n
@@ -133,33 +149,39 @@ module _ (P : Refusal → Type 0) where
   alter_refused a o n l phase.Done c j t e h = err_is P JobOver e h o
   alter_refused a o n l phase.Failed c j t e h = err_is P JobOver e h o
 
+  -- a submission is refused by its rule, for too many pages, or for a full queue
   pub submit_refused : P Rejected → P TooManyPages → P Full → (o : Order) (rule : Rule) (n max t : ℕ) (e : Refusal) → submit o rule n max t ≡ Err e → P e
   submit_refused a b c o rule n max t e h =
       refused_or P (is_some rule.notice) Rejected e _ h a (λ h.
       refused_or P (is_over o.totpages rule.pages) TooManyPages e _ h b (λ h.
       refused_or P (nat_lt max n) Full e (Ok (new_job o n t)) h c (λ x. cc x)))
 
+  -- so is an import
   pub bring_refused : P Rejected → P TooManyPages → P Full → (i : Import) (rule : Rule) (n max t : ℕ) (e : Refusal) → bring i rule n max t ≡ Err e → P e
   bring_refused a b c i rule n max t e h =
       refused_or P (not (is_ended i.state) && is_some rule.notice) Rejected e _ h a (λ h.
       refused_or P (not (is_ended i.state) && is_over i.order.totpages rule.pages) TooManyPages e _ h b (λ h.
       refused_or P (nat_lt max n) Full e (Ok (brought i.state (old_job i n t))) h c (λ x. cc x)))
 
+  -- a call is refused of a closed grant, or where one is known
   pub call_refused : P GrantClosed → P CallKnown → (c : Call) (j : Job) (g : Grant) (e : Refusal) → call c j g ≡ Err e → P e
   call_refused a b c j g e h =
       refused_or P (not g.is_open) GrantClosed e _ h a (λ h.
       refused_or P (is_some g.call) CallKnown e (Ok (record { job = after_call c j; grant = record g { call = Some c } })) h b (λ x. cc x))
 
+  -- a page is refused out of order
   page_of_refused : P PageOrder → (ps : List ℕ) (n : ℕ) (j : Job) (g : Grant) (e : Refusal) → page_of ps n j g ≡ Err e → P e
   page_of_refused a [] n j g e h = err_is P PageOrder e h a
   page_of_refused a (p ∷ rest) n j g e h = refused_or P (not (eqb p n)) PageOrder e _ h a (λ x. cc x)
 
+  -- a page report also of a closed grant, or without a connection
   pub page_refused : P GrantClosed → P NotConnected → P PageOrder → (n : ℕ) (j : Job) (g : Grant) (e : Refusal) → page n j g ≡ Err e → P e
   page_refused a b c n j g e h =
       refused_or P (not g.is_open) GrantClosed e _ h a (λ h.
       refused_or P (not (is_connected g.call)) NotConnected e (page_of j.left n j g) h b (λ h.
       page_of_refused c j.left n j g e h))
 
+  -- an outcome is refused of a closed grant, or where call or pages don't match
   pub outcome_refused : P GrantClosed → P CallKnown → P CallMissing → P PagesMismatch → P PagesLeft → (o : Outcome) (j : Job) (g : Grant) (delay t : ℕ) (e : Refusal) → outcome o j g delay t ≡ Err e → P e
   outcome_refused a b c d f o j g delay t e h =
       refused_or P (not g.is_open) GrantClosed e _ h a (λ h.
@@ -170,18 +192,22 @@ module _ (P : Refusal → Type 0) where
 
 -- ---- a modem's request for a job
 
+-- a refused grant is refused as a request for work may be
 one_refused : (m : Queue) (modem : List ℕ) (d : Result JobAndGrant Refusal) (e : Refusal) (k : Keys) → ((x : Refusal) → d ≡ Err x → IsOf (Next modem) x NoKeys) → given m d ≡ Refused e k → IsOf (Next modem) e k
 one_refused m modem (Ok b) e k f h = cc
 one_refused m modem (Err x) e k f h = refused_is (IsOf (Next modem)) x e NoKeys k h (f x refl)
 
+-- so is the best job's
 best_refused : (s : Settings) (m : Queue) (modem : List ℕ) (o : Option Job) (e : Refusal) (k : Keys) → given_best s m modem o ≡ Refused e k → IsOf (Next modem) e k
 best_refused s m modem None e k h = cc
 best_refused s m modem (Some j) e k h = one_refused m modem (grant j modem m.next_grant s.max_grants) e k (λ x q. refused_or (λ y. IsOf (Next modem) y NoKeys) (nat_lt s.max_grants m.next_grant) Full x (Ok (granted j modem m.next_grant)) q (record { met = refl; keys = refl }) (λ z. cc z)) h
 
+-- so is a modem that holds a grant or none
 free_refused : (s : Settings) (m : Queue) (t : ℕ) (modem : List ℕ) (o : Option Grant) (e : Refusal) (k : Keys) → given_free s m t modem o ≡ Refused e k → IsOf (Next modem) e k
 free_refused s m t modem (Some g) e k h = refused_is (IsOf (Next modem)) ModemBusy e _ k h (record { met = refl; keys = refl })
 free_refused s m t modem None e k h = best_refused s m modem (best s m t modem) e k h
 
+-- so is each request for work
 next_refused : (s : Settings) (m : Queue) (t : ℕ) (modem : List ℕ) (e : Refusal) (k : Keys) → given_to s m t modem ≡ Refused e k → IsOf (Next modem) e k
 next_refused s m t modem e k h =
     step_or (IsOf (Next modem)) (not (s.has_modem modem)) NoModem e NoKeys k _ h (record { met = refl; keys = refl }) (λ h.
@@ -190,6 +216,7 @@ next_refused s m t modem e k h =
 
 -- ---- each request
 
+-- each refused request has one of its refusals, with its keys
 act_refused : (s : Settings) (m : Queue) (t : ℕ) (ask : Ask) (e : Refusal) (k : Keys) → Sound m → act s m t ask ≡ Refused e k → IsOf ask e k
 act_refused s m t (Submission o) e k h x =
     let P = λ (y : Refusal). IsOf (Submission o) y (keys_of_rule y (s.rule o.dial)) in
@@ -225,11 +252,13 @@ act_refused s m t (OutcomeReport n o) e k h x =
     (λ j g. outcome_refused (λ y. IsOf (OutcomeReport n o) y (keys_of_job y j)) (record { met = refl; keys = refl }) (record { met = refl; keys = refl }) (record { met = refl; keys = refl }) (record { met = refl; keys = refl }) (record { met = refl; keys = refl }) o j g (s.delay g.call) t) x
 act_refused s m t (GiveUp floor) e k h x = cc
 
+-- so has each refused step
 pub step_refused : (s : Settings) (m : Queue) (t : ℕ) (ask : Ask) (e : Refusal) (k : Keys) → Sound m → step s m t ask ≡ Refused e k → IsOf ask e k
 step_refused s m t ask e k h x = act_refused s (aged t m) t ask e k (aged_sound t m h) x
 
 -- ---- what a busy modem is told
 
+-- a modem is told of the grant that it holds
 held_told : (m : Queue) (modem : List ℕ) (g : Grant) → Sound m → held_by modem m ≡ Some g → TellsHeld m modem (is_some g.call) (handed g m)
 held_told m modem g h e =
     let f = of_filter (λ (x : Grant). x.is_open) m.grants g (found_in (λ (x : Grant). bytes_eq x.modem modem) (open_grants m) g e) in
@@ -255,22 +284,27 @@ same_told m modem x e c d g h t r =
     let b : g ≡ h = cc in
     subst (TellsHeld m modem d) b (subst (λ (y : Bool). TellsHeld m modem y g) a t)
 
+-- a refused grant tells of none
 one_held : (m : Queue) (r : Result JobAndGrant Refusal) (e : Refusal) (c : Bool) (h : Handed) → given m r ≡ Refused e (HeldGrant c h) → ⊥
 one_held m (Ok b) e c h x = cc
 one_held m (Err y) e c h x = cc
 
+-- nor does the best job's
 best_held : (s : Settings) (m : Queue) (modem : List ℕ) (o : Option Job) (e : Refusal) (c : Bool) (h : Handed) → given_best s m modem o ≡ Refused e (HeldGrant c h) → ⊥
 best_held s m modem None e c h x = cc
 best_held s m modem (Some j) e c h x = one_held m (grant j modem m.next_grant s.max_grants) e c h x
 
+-- a modem that is told of a grant holds it
 free_held : (s : Settings) (m : Queue) (t : ℕ) (modem : List ℕ) (o : Option Grant) (e : Refusal) (c : Bool) (h : Handed) → Sound m → held_by modem m ≡ o → given_free s m t modem o ≡ Refused e (HeldGrant c h) → TellsHeld m modem c h
 free_held s m t modem (Some g) e c h sound is x = same_told m modem ModemBusy e (is_some g.call) c (handed g m) h (held_told m modem g sound is) x
 free_held s m t modem None e c h sound is x = absurd (best_held s m modem (best s m t modem) e c h x)
 
+-- whether it is in the setup or down, or not
 next_held : (s : Settings) (m : Queue) (t : ℕ) (modem : List ℕ) (e : Refusal) (c : Bool) (h : Handed) → Sound m → (a b : Bool) → cond a (Refused NoModem NoKeys) (cond b (Refused ModemDown NoKeys) (given_free s m t modem (held_by modem m))) ≡ Refused e (HeldGrant c h) → TellsHeld m modem c h
 next_held s m t modem e c h sound true b x = cc
 next_held s m t modem e c h sound false true x = cc
 next_held s m t modem e c h sound false false x = free_held s m t modem (held_by modem m) e c h sound refl x
 
+-- the same of a step, which ages the jobs first
 pub step_held : (s : Settings) (m : Queue) (t : ℕ) (modem : List ℕ) (e : Refusal) (c : Bool) (h : Handed) → Sound m → step s m t (Next modem) ≡ Refused e (HeldGrant c h) → TellsHeld (aged t m) modem c h
 step_held s m t modem e c h sound x = next_held s (aged t m) t modem e c h (aged_sound t m sound) (not (s.has_modem modem)) (is_down modem (aged t m)) x

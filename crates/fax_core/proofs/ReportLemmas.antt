@@ -15,9 +15,11 @@ use Rattle.fax_core.proofs.RangeLemmas.{joined}
 
 -- ---- pages that are left
 
+-- where all pages are sent, none is left
 none_left : (n all : ℕ) → all ≤ n → range_with_len (n + 1) (all - n) ≡ []
 none_left n all h = let no : all - n ≡ 0 = omega (arith, h) in ap (λ (k : ℕ). range_with_len (n + 1) k) no
 
+-- else the one behind those sent is left first
 one_left : (n all : ℕ) → n < all → range_with_len (n + 1) (all - n) ≡ (n + 1) ∷ range_with_len (n + 1 + 1) (all - (n + 1))
 one_left n all h = let one : all - n ≡ suc (all - (n + 1)) = omega (arith, h) in ap (λ (k : ℕ). range_with_len (n + 1) k) one
 
@@ -34,6 +36,7 @@ sent_next f g n = Ok (record {
   grant = record g { confirmed = g.confirmed + 1 };
 })
 
+-- the next page that is sent is the one that the machine takes
 pub next_page : (f : JobFields) (n : ℕ) (g : Grant) → f.npages < f.totpages → n ≡ f.npages + 1 → sent_next f g n ≡ page_of (job_of f).left n (job_of f) g
 next_page f n g h is = subst (λ (at : ℕ). sent_next f g at ≡ page_of (job_of f).left at (job_of f) g) (sym is) at_next
   where
@@ -61,6 +64,7 @@ paged f n c g none h is =
 
 -- ---- an outcome
 
+-- the record has pages left just where its job has
 pub pages_left : (f : JobFields) → ltb f.npages f.totpages ≡ not (is_empty (job_of f).left)
 pages_left f = by (ltb f.npages f.totpages) refl
   where

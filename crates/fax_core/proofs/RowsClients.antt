@@ -19,25 +19,31 @@ clock_kept_row = refl
 abbrev mortal : List Request
 mortal = Submission (record (order (codes "5550111") 1) { killtime = Some 1500 }) at 1000 ∷ []
 
+-- from its kill time on a job gets no grant, and is over
 kill_time_row : told (mortal ++ Next ttyS0 at 1500 ∷ Kill 1 at 1500 ∷ []) ≡ Replied (Submitted 1) ∷ Replied NoneToSend ∷ Denied JobOver NoKeys ∷ []
 kill_time_row = refl
 
+-- it is ready until then
 kill_time_shown_before : shown (after mortal) 1499 ≡ 5 ∷ []
 kill_time_shown_before = refl
 
+-- and failed from then on
 kill_time_shown : shown (after (mortal ++ Next ttyS0 at 1500 ∷ [])) 1500 ≡ 8 ∷ []
 kill_time_shown = refl
 
+-- with this status
 kill_time_status : statuses (after (mortal ++ Next ttyS0 at 1500 ∷ [])) 1500 ≡ codes "Kill time expired" ∷ []
 kill_time_status = refl
 
 abbrev later_priority : Request
 later_priority = Alteration 1 (record no_change { priority = Some 10 }) at 1001
 
+-- a job is altered once it is suspended, and resumed once
 alter_and_suspend_row : told (Submission (order long_number 3) at 1000 ∷ later_priority ∷ Suspend 1 at 1001 ∷ later_priority ∷ Resume 1 at 1001 ∷ Resume 1 at 1001 ∷ []) ≡
     Replied (Submitted 1) ∷ Denied NotSuspended NoKeys ∷ Replied (Stands 1 1) ∷ Replied (Stands 1 1) ∷ Replied (Stands 1 5) ∷ Denied NotSuspended NoKeys ∷ []
 alter_and_suspend_row = refl
 
+-- a limit that is reached already isn't altered
 alter_to_the_limit_row : map (λ j. j.maxdials) (after (Submission (order long_number 3) at 1000 ∷ Next ttyS0 at 1000 ∷ CallReport 1 Busy at 1000 ∷ OutcomeReport 1 (report true Retry 0 []) at 1000 ∷ Suspend 1 at 1000 ∷ Alteration 1 (record no_change { maxdials = Some 1 }) at 1000 ∷ [])).jobs ≡ 12 ∷ []
 alter_to_the_limit_row = refl
 
@@ -45,9 +51,11 @@ alter_to_the_limit_row = refl
 abbrev suspended_at_0 : List Request
 suspended_at_0 = Submission (order (codes "5550111") 1) at 0 ∷ Suspend 1 at 0 ∷ []
 
+-- an alteration of another value leaves it
 alter_leaves_tts_row : map (λ j. j.tts) (after (suspended_at_0 ++ Alteration 1 (record no_change { priority = Some 10 }) at 50 ∷ [])).jobs ≡ 0 ∷ []
 alter_leaves_tts_row = refl
 
+-- a time to send of none is the moment of the alteration
 alter_sets_tts_row : map (λ j. j.tts) (after (suspended_at_0 ++ Alteration 1 (record no_change { tts = Some None }) at 50 ∷ [])).jobs ≡ 50 ∷ []
 alter_sets_tts_row = refl
 
@@ -58,8 +66,10 @@ on_workdays t = nat_le 1 ((t / 86400 + 4) % 7) && nat_le ((t / 86400 + 4) % 7) 5
 abbrev at_work : Settings
 at_work = record settings { rule = λ dial. record default_rule { hours = on_workdays } }
 
+-- a job to such a number is ready in the hours alone
 time_of_day_row : map (λ t. map (state at_work (aged t (after (Submission (order (codes "5550111") 1) at 0 ∷ []))) t) (aged t (after (Submission (order (codes "5550111") 1) at 0 ∷ []))).jobs) (28799 ∷ 28800 ∷ 61199 ∷ 61200 ∷ []) ≡ (2 ∷ []) ∷ (5 ∷ []) ∷ (5 ∷ []) ∷ (2 ∷ []) ∷ []
 time_of_day_row = refl
 
+-- a job whose kill time is past can't be killed
 kill_time_passed_row : told (mortal ++ Kill 1 at 1500 ∷ []) ≡ Replied (Submitted 1) ∷ Denied JobOver NoKeys ∷ []
 kill_time_passed_row = refl

@@ -48,6 +48,7 @@ whole_job = record {
   status = [];
 }
 
+-- a submission sets all that its order says
 submission_sets : (after (Submission whole at 1000 ∷ [])).jobs ≡ whole_job ∷ []
 submission_sets = refl
 
@@ -56,17 +57,21 @@ submission_sets = refl
 abbrev other : Alter
 other = record { modem = Some (codes "any"); jobtag = Some []; tts = Some (Some 3000); killtime = Some None; priority = Some 90; maxtries = Some 2; maxdials = Some 7 }
 
+-- an alteration sets all that it says
 alteration_sets : (after (Submission whole at 1000 ∷ Suspend 1 at 1000 ∷ Alteration 1 other at 1000 ∷ [])).jobs ≡
     record whole_job { modem = codes "any"; jobtag = []; tts = 3000; killtime = None; priority = 90; maxtries = 2; maxdials = 7; phase = Held } ∷ []
 alteration_sets = refl
 
+-- one that says nothing leaves all
 alteration_leaves : (after (Submission whole at 1000 ∷ Suspend 1 at 1000 ∷ Alteration 1 (record { modem = None; jobtag = None; tts = None; killtime = None; priority = None; maxtries = None; maxdials = None }) at 1000 ∷ [])).jobs ≡
     record whole_job { phase = Held } ∷ []
 alteration_leaves = refl
 
+-- a kill sets the status
 kill_sets : (after (Submission whole at 1000 ∷ Kill 1 at 1000 ∷ [])).jobs ≡ record whole_job { phase = Failed; status = codes "Killed" } ∷ []
 kill_sets = refl
 
+-- a held job's too
 kill_sets_held : (after (Submission whole at 1000 ∷ Suspend 1 at 1000 ∷ Kill 1 at 1000 ∷ [])).jobs ≡ record whole_job { phase = Failed; status = codes "Killed" } ∷ []
 kill_sets_held = refl
 
@@ -74,6 +79,7 @@ kill_sets_held = refl
 suspension_leaves : after (outcome_before_page ++ Suspend 1 at 1022 ∷ Resume 1 at 1022 ∷ []) ≡ after outcome_before_page
 suspension_leaves = refl
 
+-- the status of the last grant stays with a job that is granted again
 granted_again : map (λ j. j.status) (after (outcome_before_page ++ Next ttyS0 at 1082 ∷ [])).jobs ≡ codes "line dropped" ∷ []
 granted_again = refl
 
@@ -83,6 +89,7 @@ granted_again = refl
 own_call_is_over : answers (record settings { delay = λ call. 0 }) empty_queue (first_grant ++ OutcomeReport 1 (report false Retry 0 []) at 1000 ∷ []) ≡ Replied (Submitted 1) ∷ Replied (Given (hand 1 1 long_number 1 3)) ∷ Replied (Stands 1 5) ∷ []
 own_call_is_over = refl
 
+-- the reason of a retry is the status
 retry_reason : statuses (after outcome_before_page) 1022 ≡ codes "line dropped" ∷ []
 retry_reason = refl
 
@@ -90,14 +97,17 @@ retry_reason = refl
 done_status : statuses (after retry_goes_on) 1083 ≡ [] ∷ []
 done_status = refl
 
+-- a job that is done has the wish to go, though it was to be killed
 done_wish : map (λ j. j.wish) (after (first_grant ++ Kill 1 at 1005 ∷ CallReport 1 Connected at 1006 ∷ PageReport 1 1 at 1007 ∷ PageReport 1 2 at 1007 ∷ PageReport 1 3 at 1007 ∷ OutcomeReport 1 (report true Retry 3 []) at 1007 ∷ [])).jobs ≡ Go ∷ []
 done_wish = refl
 
 -- ---- modems
 
+-- a modem is marked down once
 down_once : (after (Down ttyS0 at 0 ∷ Down ttyS1 at 0 ∷ Down ttyS0 at 0 ∷ [])).down ≡ ttyS0 ∷ ttyS1 ∷ []
 down_once = refl
 
+-- a modem that is ready is down no more
 ready_again : (after (Down ttyS0 at 0 ∷ Down ttyS1 at 0 ∷ Down ttyS0 at 0 ∷ Ready ttyS0 at 0 ∷ [])).down ≡ ttyS1 ∷ []
 ready_again = refl
 

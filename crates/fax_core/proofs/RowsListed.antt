@@ -55,36 +55,47 @@ number_told (Refused refusal keys) = refusal_number refusal
 abbrev refused_with : List Ask → List ℕ
 refused_with asks = map (λ ask. number_told (step tight five_jobs 0 ask)) asks
 
+-- a submission meets each refusal that is listed for it
 submission_listed : refused_with (Submission (order (codes "5559000") 2) ∷ Submission (order (codes "5558000") 2) ∷ Submission (order (codes "5550106") 2) ∷ []) ≡ refusals_of (Submission (order [] 1))
 submission_listed = refl
 
+-- so does a suspension
 suspend_listed : refused_with (Suspend 9 ∷ Suspend 1 ∷ Suspend 2 ∷ []) ≡ refusals_of (Suspend 1)
 suspend_listed = refl
 
+-- and a resumption
 resume_listed : refused_with (Resume 9 ∷ Resume 1 ∷ Resume 2 ∷ Resume 4 ∷ []) ≡ refusals_of (Resume 1)
 resume_listed = refl
 
+-- and a kill
 kill_listed : refused_with (Kill 9 ∷ Kill 1 ∷ []) ≡ refusals_of (Kill 1)
 kill_listed = refl
 
+-- and an alteration
 alteration_listed : refused_with (Alteration 9 no_change ∷ Alteration 1 no_change ∷ Alteration 2 no_change ∷ Alteration 4 no_change ∷ Alteration 5 (record no_change { maxtries = Some 0 }) ∷ []) ≡ refusals_of (Alteration 1 no_change)
 alteration_listed = refl
 
+-- and a modem that is ready
 ready_listed : refused_with (Ready (codes "ttyS9") ∷ []) ≡ refusals_of (Ready [])
 ready_listed = refl
 
+-- and one that is down
 down_listed : refused_with (Down (codes "ttyS9") ∷ []) ≡ refusals_of (Down [])
 down_listed = refl
 
+-- and a request for work
 next_listed : refused_with (Next (codes "ttyS9") ∷ Next (codes "ttyS2") ∷ Next ttyS0 ∷ Next (codes "ttyS3") ∷ []) ≡ refusals_of (Next [])
 next_listed = refl
 
+-- and a report of a call
 call_listed : refused_with (CallReport 9 Busy ∷ CallReport 1 Busy ∷ CallReport 2 Busy ∷ []) ≡ refusals_of (CallReport 1 Busy)
 call_listed = refl
 
+-- and of a page
 page_listed : refused_with (PageReport 9 1 ∷ PageReport 1 1 ∷ PageReport 3 1 ∷ PageReport 2 2 ∷ []) ≡ refusals_of (PageReport 1 1)
 page_listed = refl
 
+-- and of an outcome
 outcome_listed :
     refused_with (OutcomeReport 9 (report false Retry 0 []) ∷ OutcomeReport 1 (report false Retry 0 []) ∷ OutcomeReport 2 (report false Retry 0 [])
     ∷ OutcomeReport 3 (report true Retry 0 []) ∷ OutcomeReport 2 (report true Retry 1 []) ∷ OutcomeReport 2 (report true Done 0 []) ∷ [])
@@ -95,6 +106,7 @@ outcome_listed = refl
 no_keys_listed : map (goes_with NoKeys) (10 ∷ 11 ∷ 12 ∷ 17 ∷ 18 ∷ 19 ∷ 21 ∷ 22 ∷ 23 ∷ []) ≡ true ∷ false ∷ true ∷ true ∷ false ∷ true ∷ true ∷ false ∷ true ∷ []
 no_keys_listed = refl
 
+-- the notice, the held grant and the pages each go with one refusal
 keys_listed : map (goes_with (Notice [])) (11 ∷ 18 ∷ 22 ∷ 12 ∷ []) ++ map (goes_with (HeldGrant true (hand 1 1 [] 1 1))) (11 ∷ 18 ∷ 22 ∷ 12 ∷ []) ++ map (goes_with (Pages 0)) (11 ∷ 18 ∷ 22 ∷ 12 ∷ [])
     ≡ true ∷ false ∷ false ∷ false ∷ false ∷ true ∷ false ∷ false ∷ false ∷ false ∷ true ∷ false ∷ []
 keys_listed = refl
@@ -111,6 +123,7 @@ least_order = record { pages = omega (arith); tries = omega (arith); dials = ome
 abbrev jobless : Bool → Queue
 jobless is_open = record empty_queue { grants = record { number = 1; job = 1; modem = ttyS0; first_page = 1; last_page = 1; call = None; confirmed = 0; is_open = is_open } ∷ []; next_grant = 2 }
 
+-- a report on an open grant without its job is unavailable, and on a closed one it is closed
 without_a_job : map (λ is_open. answer_of (step settings (jobless is_open) 0 (CallReport 1 Busy))) (true ∷ false ∷ []) ≡ Denied Unavailable NoKeys ∷ Denied GrantClosed NoKeys ∷ []
 without_a_job = refl
 
@@ -131,9 +144,11 @@ held_expires = refl
 next_of_expired : (aged_job 50 (record plain { killtime = Some 50; next = 20 })).next ≡ 20
 next_of_expired = refl
 
+-- it stays with one that is killed
 next_of_killed : map (λ j. j.next) (after (outcome_before_page ++ Kill 1 at 1022 ∷ [])).jobs ≡ 1082 ∷ []
 next_of_killed = refl
 
+-- and with one that is done
 next_of_done : map (λ j. j.next) (after retry_goes_on).jobs ≡ 1082 ∷ []
 next_of_done = refl
 
@@ -147,5 +162,6 @@ closed_grant = refl
 
 -- ---- rules of the controls
 
+-- the calls of a rule are those of the controls
 calls_of_rule : (rule : dest.Rule) (hours : ℕ → Bool) → (rule_of rule hours).calls ≡ rule.calls
 calls_of_rule rule hours = refl

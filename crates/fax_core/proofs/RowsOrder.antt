@@ -18,6 +18,7 @@ plain = new_job (order (codes "5550111") 2) 1 0
 abbrev late : Job
 late = record plain { tts = 10; next = 20; killtime = Some 90 }
 
+-- a job that waits: the first state whose reason holds
 waiting_states :
     state_at late true 0 1 5
     ∷ state_at late false 1 1 15
@@ -28,11 +29,13 @@ waiting_states :
     ≡ 2 ∷ 3 ∷ 2 ∷ 4 ∷ 5 ∷ 8 ∷ []
 waiting_states = refl
 
+-- a job in each other phase before its kill time
 other_states :
     map (λ p. state_at (record late { phase = p }) true 0 1 89) (Held ∷ Granted ∷ Done ∷ Failed ∷ [])
     ≡ 1 ∷ 6 ∷ 7 ∷ 8 ∷ []
 other_states = refl
 
+-- and from its kill time on
 expired_states :
     map (λ p. state_at (record late { phase = p }) true 0 1 90) (Held ∷ Granted ∷ Done ∷ Failed ∷ [])
     ≡ 8 ∷ 6 ∷ 7 ∷ 8 ∷ []
@@ -55,17 +58,21 @@ doomed =
     ∷ record plain { wish = Hold; totdials = 11; tottries = 2; ntries = 2 }
     ∷ record plain { wish = Go; totdials = 11; tottries = 2; ntries = 2 } ∷ []
 
+-- the first reason to fail is the status
 retried_statuses : map (λ j. (retried j (codes "busy") 180 50).status) doomed ≡
     codes "Killed" ∷ codes "Kill time expired" ∷ codes "Too many attempts to dial" ∷ codes "Too many attempts to transmit" ∷ codes "Unable to transmit page"
     ∷ codes "busy" ∷ codes "busy" ∷ []
 retried_statuses = refl
 
+-- without one, the job is held where it is to be, and waits else
 retried_phases : map (λ j. (retried j (codes "busy") 180 50).phase) doomed ≡ Failed ∷ Failed ∷ Failed ∷ Failed ∷ Failed ∷ Held ∷ Waiting ∷ []
 retried_phases = refl
 
+-- the wish is to go again
 retried_wishes : map (λ j. (retried j (codes "busy") 180 50).wish) doomed ≡ Go ∷ Go ∷ Go ∷ Go ∷ Go ∷ Go ∷ Go ∷ []
 retried_wishes = refl
 
+-- a job that goes on sleeps until its next time
 retried_nexts : map (λ j. (retried j (codes "busy") 180 50).next) doomed ≡ 0 ∷ 0 ∷ 0 ∷ 0 ∷ 0 ∷ 230 ∷ 230 ∷ []
 retried_nexts = refl
 
@@ -83,5 +90,6 @@ calls_counted = refl
 pages_counted : map counters (after outcome_before_page).jobs ≡ (0 ∷ 1 ∷ 0 ∷ 1 ∷ []) ∷ []
 pages_counted = refl
 
+-- a page that is confirmed is sent and no more left
 pages_moved : map (λ j. j.sent) (after outcome_before_page).jobs ++ map (λ j. j.left) (after outcome_before_page).jobs ≡ (1 ∷ 2 ∷ []) ∷ (3 ∷ []) ∷ []
 pages_moved = refl

@@ -36,36 +36,47 @@ wishes rs = map (λ m. map (λ j. j.wish) m.jobs) (each_left rs)
 abbrev waiting : List Request
 waiting = Submission (order long_number 3) at 1000 ∷ []
 
+-- what each request of a held job is told
 of_held : each_told (waiting ++ Suspend 1 at 1000 ∷ []) ≡ Replied (Stands 1 1) ∷ Replied (Stands 1 5) ∷ Replied (Stands 1 8) ∷ Replied (Stands 1 1) ∷ []
 of_held = refl
 
+-- and in which phase it leaves the job
 held_becomes : phases (waiting ++ Suspend 1 at 1000 ∷ []) ≡ (phase.Held ∷ []) ∷ (phase.Waiting ∷ []) ∷ (phase.Failed ∷ []) ∷ (phase.Held ∷ []) ∷ []
 held_becomes = refl
 
+-- what each of a waiting job is told
 of_waiting : each_told waiting ≡ Replied (Stands 1 1) ∷ Denied NotSuspended NoKeys ∷ Replied (Stands 1 8) ∷ Denied NotSuspended NoKeys ∷ []
 of_waiting = refl
 
+-- and in which phase it leaves the job
 waiting_becomes : phases waiting ≡ (phase.Held ∷ []) ∷ (phase.Waiting ∷ []) ∷ (phase.Failed ∷ []) ∷ (phase.Waiting ∷ []) ∷ []
 waiting_becomes = refl
 
+-- what each of a granted job is told
 of_granted : each_told first_grant ≡ Replied (Stands 1 6) ∷ Denied JobActive NoKeys ∷ Replied (Stands 1 6) ∷ Denied JobActive NoKeys ∷ []
 of_granted = refl
 
+-- and with which wish it leaves the job
 granted_becomes : wishes first_grant ≡ (wish.Hold ∷ []) ∷ (wish.Go ∷ []) ∷ (wish.Kill ∷ []) ∷ (wish.Go ∷ []) ∷ []
 granted_becomes = refl
 
+-- what each of a granted job to be held is told
 of_granted_to_hold : each_told (first_grant ++ Suspend 1 at 1000 ∷ []) ≡ Replied (Stands 1 6) ∷ Replied (Stands 1 6) ∷ Replied (Stands 1 6) ∷ Denied JobActive NoKeys ∷ []
 of_granted_to_hold = refl
 
+-- and with which wish it leaves the job
 granted_to_hold_becomes : wishes (first_grant ++ Suspend 1 at 1000 ∷ []) ≡ (wish.Hold ∷ []) ∷ (wish.Go ∷ []) ∷ (wish.Kill ∷ []) ∷ (wish.Hold ∷ []) ∷ []
 granted_to_hold_becomes = refl
 
+-- what each of a granted job to be killed is told
 of_granted_to_kill : each_told (first_grant ++ Kill 1 at 1000 ∷ []) ≡ Denied JobActive NoKeys ∷ Denied JobActive NoKeys ∷ Replied (Stands 1 6) ∷ Denied JobActive NoKeys ∷ []
 of_granted_to_kill = refl
 
+-- and the wish stays
 granted_to_kill_becomes : wishes (first_grant ++ Kill 1 at 1000 ∷ []) ≡ (wish.Kill ∷ []) ∷ (wish.Kill ∷ []) ∷ (wish.Kill ∷ []) ∷ (wish.Kill ∷ []) ∷ []
 granted_to_kill_becomes = refl
 
+-- each of a job that is over is refused
 of_over : each_told (waiting ++ Kill 1 at 1000 ∷ []) ≡ Denied JobOver NoKeys ∷ Denied JobOver NoKeys ∷ Denied JobOver NoKeys ∷ Denied JobOver NoKeys ∷ []
 of_over = refl
 
@@ -77,6 +88,7 @@ suspended_while_granted : told (first_grant ++ Suspend 1 at 1005 ∷ CallReport 
     ∷ Replied (Stands 1 6) ∷ Replied (Called true) ∷ Replied (Stands 1 1) ∷ Replied (Stands 1 3) ∷ Replied (Stands 1 1) ∷ Replied (Stands 1 5) ∷ []
 suspended_while_granted = refl
 
+-- resumed while it was granted: it sleeps until its next time
 resumed_while_granted : told (first_grant ++ Suspend 1 at 1005 ∷ Resume 1 at 1005 ∷ CallReport 1 Connected at 1006 ∷ OutcomeReport 1 (report true Retry 0 []) at 1007 ∷ []) ≡
     Replied (Submitted 1) ∷ Replied (Given (hand 1 1 long_number 1 3))
     ∷ Replied (Stands 1 6) ∷ Replied (Stands 1 6) ∷ Replied (Called false) ∷ Replied (Stands 1 3) ∷ []
@@ -88,6 +100,7 @@ expired_while_granted =
     Submission (record (order long_number 3) { killtime = Some 1500 }) at 1000
     ∷ Next ttyS0 at 1000 ∷ CallReport 1 Connected at 1500 ∷ OutcomeReport 1 (report true Retry 0 []) at 1501 ∷ []
 
+-- the worker is told to stop, and the job fails
 expired_while_granted_row : told expired_while_granted ≡ Replied (Submitted 1) ∷ Replied (Given (hand 1 1 long_number 1 3)) ∷ Replied (Called true) ∷ Replied (Stands 1 8) ∷ []
 expired_while_granted_row = refl
 
@@ -95,6 +108,7 @@ expired_while_granted_row = refl
 expired_while_granted_shown : shown (after (Submission (record (order long_number 3) { killtime = Some 1500 }) at 1000 ∷ Next ttyS0 at 1000 ∷ CallReport 1 Connected at 1500 ∷ [])) 1500 ≡ 6 ∷ []
 expired_while_granted_shown = refl
 
+-- its status tells so
 expired_while_granted_status : statuses (after expired_while_granted) 1501 ≡ codes "Kill time expired" ∷ []
 expired_while_granted_status = refl
 
@@ -102,9 +116,11 @@ expired_while_granted_status = refl
 abbrev no_call : List Request
 no_call = first_grant ++ OutcomeReport 1 (report false Retry 0 (codes "no dial tone")) at 1010 ∷ []
 
+-- the next time is 300 seconds later
 no_call_next : map (λ j. j.next) (after no_call).jobs ≡ 1310 ∷ []
 no_call_next = refl
 
+-- the reason is the status
 no_call_status : statuses (after no_call) 1010 ≡ codes "no dial tone" ∷ []
 no_call_status = refl
 

@@ -30,40 +30,48 @@ use Rattle.fax_core.proofs.PlaceLemmas.{In, found_in, none_passes, in_filter}
 
 -- ---- what is taken
 
+-- steps that are taken alike leave the same queue and reply
 pub taken_same : (a b : Queue) (r q : Reply) → Taken a r ≡ Taken b q → (a ≡ b) × (r ≡ q)
 taken_same a b r q e = (cc, cc)
 
+-- a step that is taken wasn't refused by the test before it
 pub not_refused_step : (b : Bool) (e : Refusal) (k : Keys) (x : Step) (n : Queue) (r : Reply) → cond b (Refused e k) x ≡ Taken n r → (b ≡ false) × (x ≡ Taken n r)
 not_refused_step true e k x n r h = cc
 not_refused_step false e k x n r h = (refl, h)
 
+-- ageing leaves a sound queue sound
 pub aged_sound : (t : ℕ) (m : Queue) → Sound m → Sound (aged t m)
 aged_sound t m h = keeps_mapped m (aged_job t) t (aged_number t) (λ n j is. aged_free t j) (λ n j g is. aged_held t j g) h
 
 -- ---- submission
 
+-- a submission of a job with the next number that fits leaves the queue sound
 submission_sound : (m : Queue) (rule : Rule) (d : Result Job Refusal) (n : Queue) (r : Reply) → ((j : Job) → d ≡ Ok j → (j.number ≡ m.next_job) × FitsFree j) → Sound m → submitted m rule d ≡ Taken n r → Sound n
 submission_sound m rule (Ok j) n r of h e = let f = of j refl in subst Sound (taken_same (with_new_job j m) n _ r e).0 (keeps_new_job m j f.0 f.1 h)
 submission_sound m rule (Err x) n r of h e = cc
 
+-- so does an import
 import_sound : (s : Settings) (m : Queue) (t : ℕ) (rule : Rule) (d : Result Job Refusal) (n : Queue) (r : Reply) → ((j : Job) → d ≡ Ok j → (j.number ≡ m.next_job) × FitsFree j) → Sound m → brought_in s m t rule d ≡ Taken n r → Sound n
 import_sound s m t rule (Ok j) n r of h e = let f = of j refl in subst Sound (taken_same (with_new_job j m) n _ r e).0 (keeps_new_job m j f.0 f.1 h)
 import_sound s m t rule (Err x) n r of h e = cc
 
 -- ---- requests on a job
 
+-- a change that keeps what fits leaves the queue sound
 changed_sound : (s : Settings) (m : Queue) (t : ℕ) (a : ℕ) (j : Job) (d : Result Job Refusal) (n : Queue) (r : Reply) → IsJob m a j → ((k : Job) → d ≡ Ok k → Keeps j k) → Sound m → changed s m t d ≡ Taken n r → Sound n
 changed_sound s m t a j (Ok k) n r is keeps h e =
     let f = keeps k refl in
     subst Sound (taken_same (with_job k m) n _ r e).0 (keeps_job m a j k is (f.number ∙ numbered_job m a j is) f.free f.held h)
 changed_sound s m t a j (Err x) n r is keeps h e = cc
 
+-- so does a request on a job
 on_job_sound : (s : Settings) (m : Queue) (t : ℕ) (a : ℕ) (decide : Job → Result Job Refusal) (o : Option Job) (n : Queue) (r : Reply) → job_numbered a m ≡ o → ((j k : Job) → decide j ≡ Ok k → Keeps j k) → Sound m → on_job s m t decide o ≡ Taken n r → Sound n
 on_job_sound s m t a decide None n r is keeps h e = cc
 on_job_sound s m t a decide (Some j) n r is keeps h e = changed_sound s m t a j (decide j) n r is (keeps j) h e
 
 -- ---- reports
 
+-- a report leaves the queue sound
 reported_sound : (m : Queue) (reply : Queue → JobAndGrant → Reply) (a : ℕ) (g : Grant) (j : Job) (d : Result JobAndGrant Refusal) (n : Queue) (r : Reply) → grant_numbered a m ≡ Some g → IsJob m g.job j → ((b : JobAndGrant) → d ≡ Ok b → IsReport j g b) → Sound m → reported m reply j d ≡ Taken n r → Sound n
 reported_sound m reply a g j (Ok b) n r is of report h e =
     let f = report b refl in
@@ -73,20 +81,24 @@ reported_sound m reply a g j (Ok b) n r is of report h e =
     subst Sound (taken_same (with_both b m) n _ r e).0 (keeps_both m a j g b open' of (f.reports fits) h)
 reported_sound m reply a g j (Err x) n r is of report h e = cc
 
+-- the same of a grant whose job is there or not
 on_both_sound : (m : Queue) (decide : Job → Grant → Result JobAndGrant Refusal) (reply : Queue → JobAndGrant → Reply) (a : ℕ) (g : Grant) (o : Option Job) (n : Queue) (r : Reply) → grant_numbered a m ≡ Some g → job_numbered g.job m ≡ o → ((j : Job) (b : JobAndGrant) → decide j g ≡ Ok b → IsReport j g b) → Sound m → on_both m decide reply g o ≡ Taken n r → Sound n
 on_both_sound m decide reply a g None n r is of report h e = cc
 on_both_sound m decide reply a g (Some j) n r is of report h e = reported_sound m reply a g j (decide j g) n r is of (report j) h e
 
+-- the same of a grant that is there or not
 on_grant_sound : (m : Queue) (decide : Job → Grant → Result JobAndGrant Refusal) (reply : Queue → JobAndGrant → Reply) (a : ℕ) (o : Option Grant) (n : Queue) (r : Reply) → grant_numbered a m ≡ o → ((j : Job) (g : Grant) (b : JobAndGrant) → decide j g ≡ Ok b → IsReport j g b) → Sound m → on_grant m decide reply o ≡ Taken n r → Sound n
 on_grant_sound m decide reply a None n r is report h e = cc
 on_grant_sound m decide reply a (Some g) n r is report h e = on_both_sound m decide reply a g (job_numbered g.job m) n r is refl (λ j b. report j g b) h e
 
 -- ---- modems
 
+-- a mark leaves the queue sound
 mark_sound : (m : Queue) (modem : List ℕ) (down : Bool) → Sound m → Sound (with_mark modem down m)
 mark_sound m modem true h = record { jobs = h.jobs; next_job = h.next_job; grants = h.grants; next_grant = h.next_grant; one_to_a_modem = h.one_to_a_modem; one_of_a_job = h.one_of_a_job; held = h.held; free = h.free }
 mark_sound m modem false h = record { jobs = h.jobs; next_job = h.next_job; grants = h.grants; next_grant = h.next_grant; one_to_a_modem = h.one_to_a_modem; one_of_a_job = h.one_of_a_job; held = h.held; free = h.free }
 
+-- so does a request that marks a modem
 marked_by : (m : Queue) (modem : List ℕ) (down b : Bool) (n : Queue) (r : Reply) → Sound m → cond b (Taken (with_mark modem down m) (Marked down)) (Refused NoModem NoKeys) ≡ Taken n r → Sound n
 marked_by m modem down true n r h e = subst Sound (taken_same (with_mark modem down m) n _ r e).0 (mark_sound m modem down h)
 marked_by m modem down false n r h e = cc
@@ -127,34 +139,40 @@ pub data GivenTo (s : Settings) (m : Queue) (t : ℕ) (modem : List ℕ) (n : Qu
   Best_to : (j : Job) → IsBest s m t modem j → held_by modem m ≡ None → with_new_grant (granted j modem m.next_grant) m ≡ n
       → Given (handed (granted j modem m.next_grant).grant (with_new_grant (granted j modem m.next_grant) m)) ≡ r → GivenTo s m t modem n r
 
+-- a grant that is given comes at the end, and is told
 given_one : (m : Queue) (d : Result JobAndGrant Refusal) (b : JobAndGrant) (n : Queue) (r : Reply) → ((x : JobAndGrant) → d ≡ Ok x → b ≡ x) → given m d ≡ Taken n r → (with_new_grant b m ≡ n) × (Given (handed b.grant (with_new_grant b m)) ≡ r)
 given_one m (Ok x) b n r same e =
     let is : b ≡ x = same x refl in
     subst (λ (y : JobAndGrant). (with_new_grant y m ≡ n) × (Given (handed y.grant (with_new_grant y m)) ≡ r)) (sym is) (taken_same (with_new_grant x m) n _ r e)
 given_one m (Err x) b n r same e = cc
 
+-- what is given of the best job, if any, is none or that job
 best_given : (s : Settings) (m : Queue) (t : ℕ) (modem : List ℕ) (o : Option Job) (n : Queue) (r : Reply) → Sound m → held_by modem m ≡ None → best s m t modem ≡ o → given_best s m modem o ≡ Taken n r → GivenTo s m t modem n r
 best_given s m t modem None n r h none is e = let p = taken_same m n _ r e in None_to is p.0 p.1
 best_given s m t modem (Some j) n r h none is e =
     let p = given_one m (grant j modem m.next_grant s.max_grants) (granted j modem m.next_grant) n r (λ x q. ok_same (granted j modem m.next_grant) x (not_refused _ _ _ x q).1) e in
     Best_to j (best_is s m t modem j h is) none p.0 p.1
 
+-- the same where the modem holds no grant
 free_given : (s : Settings) (m : Queue) (t : ℕ) (modem : List ℕ) (o : Option Grant) (n : Queue) (r : Reply) → Sound m → held_by modem m ≡ o → given_free s m t modem o ≡ Taken n r → GivenTo s m t modem n r
 free_given s m t modem (Some g) n r h is e = cc
 free_given s m t modem None n r h is e = best_given s m t modem (best s m t modem) n r h is refl e
 
+-- the same of a request for work
 pub given_is : (s : Settings) (m : Queue) (t : ℕ) (modem : List ℕ) (n : Queue) (r : Reply) → Sound m → given_to s m t modem ≡ Taken n r → GivenTo s m t modem n r
 given_is s m t modem n r h e =
     let a = not_refused_step (not (s.has_modem modem)) _ _ _ n r e in
     let b = not_refused_step (is_down modem m) _ _ (given_free s m t modem (held_by modem m)) n r a.1 in
     free_given s m t modem (held_by modem m) n r h refl b.1
 
+-- what is given leaves the queue sound
 given_sound : (s : Settings) (m : Queue) (t : ℕ) (modem : List ℕ) (n : Queue) (r : Reply) → Sound m → GivenTo s m t modem n r → Sound n
 given_sound s m t modem n r h (None_to none same told) = subst Sound same h
 given_sound s m t modem n r h (Best_to j b none same told) = subst Sound same (keeps_new_grant m j.number j (granted j modem m.next_grant) (given_grants s m t modem j h none b) h)
 
 -- ---- each request
 
+-- each request leaves the queue sound
 act_sound : (s : Settings) (m n : Queue) (t : ℕ) (ask : Ask) (r : Reply) → Sound m → IsLawfulAsk ask → act s m t ask ≡ Taken n r → Sound n
 act_sound s m n t (Submission o) r h lawful e = submission_sound m (s.rule o.dial) (submit o (s.rule o.dial) m.next_job s.max_jobs t) n r (λ j. decision.submitted o (s.rule o.dial) m.next_job s.max_jobs t j lawful) h e
 act_sound s m n t (Bring i) r h lawful e = import_sound s m t (s.rule i.order.dial) (bring i (s.rule i.order.dial) m.next_job s.max_jobs t) n r (λ j is. ((bring_counts i (s.rule i.order.dial) m.next_job s.max_jobs t j is).number, bring_fits i (s.rule i.order.dial) m.next_job s.max_jobs t j lawful is)) h e
@@ -170,20 +188,25 @@ act_sound s m n t (PageReport a p) r h lawful e = on_grant_sound m (page p) (pag
 act_sound s m n t (OutcomeReport a o) r h lawful e = on_grant_sound m (λ j g. outcome o j g (s.delay g.call) t) (outcome_reply s t) a (grant_numbered a m) n r refl (λ j g b. outcome_is o j g (s.delay g.call) t b) h e
 act_sound s m n t (GiveUp floor) r h lawful e = subst Sound (taken_same m n _ r e).0 h
 
+-- so does a step
 pub step_sound : (s : Settings) (m n : Queue) (t : ℕ) (ask : Ask) (r : Reply) → Sound m → IsLawfulAsk ask → step s m t ask ≡ Taken n r → Sound n
 step_sound s m n t ask r h lawful e = act_sound s (aged t m) n t ask r (aged_sound t m h) lawful e
 
+-- what a step leaves sound where it is taken, it leaves sound in any case
 left_sound : (m : Queue) (x : Step) → Sound m → ((n : Queue) (r : Reply) → x ≡ Taken n r → Sound n) → Sound (left_by m x)
 left_sound m (Taken n r) h f = f n r refl
 left_sound m (Refused e k) h f = h
 
+-- so does a request at its moment
 pub decided_sound : (s : Settings) (m : Queue) (r : Request) → Sound m → IsLawfulAsk r.ask → Sound (left_by m (decided s m r))
 decided_sound s m r h lawful = left_sound m (decided s m r) h (λ n q e. step_sound s m n (max m.clock r.moment) r.ask q h lawful e)
 
+-- and a run
 pub run_sound : (s : Settings) (m : Queue) (rs : List Request) → Sound m → AreLawful rs → Sound (queue_after s m rs)
 run_sound s m [] h lawful = h
 run_sound s m (r ∷ rs) h lawful = run_sound s (left_by m (decided s m r)) rs (decided_sound s m r h lawful.0) lawful.1
 
+-- the empty queue is sound
 pub empty_sound : Sound Rattle.fax_core.specs.Queue.empty_queue
 empty_sound = record {
   jobs = refl;
@@ -198,6 +221,7 @@ empty_sound = record {
 
 -- ---- the choice
 
+-- the job that is given is the best
 best_of : (s : Settings) (m n : Queue) (t : ℕ) (modem : List ℕ) (h : Handed) → GivenTo s m t modem n (Given h) → (j : Job) × (IsBest s m t modem j × (j.number ≡ h.job))
 best_of s m n t modem h (None_to none same told) = cc
 best_of s m n t modem h (Best_to j b none same told) =
@@ -205,12 +229,15 @@ best_of s m n t modem h (Best_to j b none same told) =
     let is : handed made.grant (with_new_grant made m) ≡ h = cc in
     (j, (b, ap (λ (x : Handed). x.job) is))
 
+-- the same of a step, which ages the jobs first
 pub step_best : (s : Settings) (m n : Queue) (t : ℕ) (modem : List ℕ) (h : Handed) → Sound m → step s m t (Next modem) ≡ Taken n (Given h) → (j : Job) × (IsBest s (aged t m) t modem j × (j.number ≡ h.job))
 step_best s m n t modem h sound e = best_of s (aged t m) n t modem h (given_is s (aged t m) t modem n (Given h) (aged_sound t m sound) e)
 
+-- where none is given, no job may go
 none_of : (s : Settings) (m n : Queue) (t : ℕ) (modem : List ℕ) (j : Job) → GivenTo s m t modem n NoneToSend → MayGo s m t modem j → ⊥
 none_of s m n t modem j (None_to none same told) g = none_goes s m t modem none j g
 none_of s m n t modem j (Best_to k b none same told) g = cc
 
+-- the same of a step, which ages the jobs first
 pub step_none : (s : Settings) (m n : Queue) (t : ℕ) (modem : List ℕ) (j : Job) → Sound m → step s m t (Next modem) ≡ Taken n NoneToSend → MayGo s (aged t m) t modem j → ⊥
 step_none s m n t modem j sound e g = none_of s (aged t m) n t modem j (given_is s (aged t m) t modem n NoneToSend (aged_sound t m sound) e) g
