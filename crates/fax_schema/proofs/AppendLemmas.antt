@@ -15,6 +15,7 @@ use Rattle.sqlite_value.specs.Order.{value_cmp}
 use Rattle.sqlite_value.proofs.OrderLemmas.{value_cmp-Int, value_cmp_total}
 use Rattle.sqlite_rules.proofs.TableLemmas.{int_is}
 
+-- an integer is below one more
 next_above : (i : ℤ) → int_cmp i (i +ℤ pos 1) ≡ Less
 next_above (pos n) = grind (arith, ints, nat_tests)
 next_above (negsuc n) = grind (arith, ints, nat_tests)
@@ -23,6 +24,7 @@ next_above (negsuc n) = grind (arith, ints, nat_tests)
 abbrev next_from : ℤ → List Row → ℤ
 next_from first = fold (λ _ r. id_in (rowid r) +ℤ pos 1) first
 
+-- a row's rowid is below the one chosen behind it and the rows that follow
 below_next : (r : Row) (rows : List Row) → IsTrue (is_int (rowid r)) → AllByRecursion (λ x. IsTrue (is_int (rowid x))) rows → IsTable (r ∷ rows) → value_cmp (rowid r) (Int (next_from (id_in (rowid r) +ℤ pos 1) rows)) ≡ Less
 below_next r [] int ints_rest order =
     let is = int_is (rowid r) int in
@@ -34,6 +36,7 @@ pub all_below : (first : ℤ) (rows : List Row) → AllByRecursion (λ x. IsTrue
 all_below first [] all order = tt
 all_below first (r ∷ rows) all order = (below_next r rows all.0 all.1 order, all_below (id_in (rowid r) +ℤ pos 1) rows all.1 order.1)
 
+-- a row with the chosen rowid is put at the end
 put_last : (first : ℤ) (rows : List Row) (columns : Row) → AllByRecursion (λ x. IsTrue (is_int (rowid x))) rows → IsTable rows → put_row (Int (next_from first rows) ∷ columns) rows ≡ rows ++ (Int (next_from first rows) ∷ columns) ∷ []
 put_last first [] columns all order = refl
 put_last first (r ∷ rows) columns all order = rw (below_next r rows all.0 all.1 order) (ap (λ x. r ∷ x) (put_last (id_in (rowid r) +ℤ pos 1) rows columns all.1 order.1))

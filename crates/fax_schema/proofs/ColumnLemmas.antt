@@ -13,9 +13,11 @@ use Rattle.fax_schema.proofs.EditLemmas.{has_mapped, has_permuted}
 
 -- rows and records that stand for each other, in any order
 module _ {X : Type 0} (columns : X → Row) (rows : List Row) (xs : List X) (same : IsPermutation (map columns xs) (map (drop 1) rows)) where
+  -- a row's columns are those of a record
   pub record_of : (r : Row) → Has rows r → (x : X) × Has xs x × (drop 1 r ≡ columns x)
   record_of r has = has_mapped columns xs (drop 1 r) (has_permuted (map (drop 1) rows) (map columns xs) (drop 1 r) (IsPermutation-sym (map columns xs) (map (drop 1) rows) same) (mapped_has (drop 1) rows r has))
 
+  -- and a record's are those of a row
   pub row_of : (x : X) → Has xs x → (r : Row) × Has rows r × (drop 1 r ≡ columns x)
   row_of x has =
       let it = has_mapped (drop 1) rows (columns x) (has_permuted (map columns xs) (map (drop 1) rows) (columns x) same (mapped_has columns xs x has)) in
@@ -47,9 +49,11 @@ kept_permuted columns p q agree rows xs same =
     subst (IsPermutation (map columns (filter (λ x. q (columns x)) xs))) (by_columns ∙ sym (ap (map (drop 1)) by_test))
     (subst (λ all. IsPermutation all (filter q (map (drop 1) rows))) (filter-map q columns xs) (IsPermutation-filter q (map columns xs) (map (drop 1) rows) same))
 
+-- what holds of all records holds of those kept
 pub all_kept : {X : Type 0} (P : X → Type 0) (q : X → Bool) (xs : List X) → All P xs → All P (filter q xs)
 all_kept P q xs all = All-from_recursion P (filter q xs) (all-filter P q xs (recursion_from_All P xs all))
 
+-- where no record passes, none does
 pub none_holds : {X : Type 0} (q : X → Bool) (xs : List X) → ((x : X) → Has xs x → q x ≡ false) → list_any q xs ≡ false
 none_holds q [] none = refl
 none_holds q (x ∷ xs) none = rw (none x (inl refl)) (none_holds q xs (λ y has. none y (inr has)))

@@ -28,14 +28,17 @@ use Rattle.fax_schema.specs.ByRowid.{IsByRowid}
 
 -- ---- lists and what they have
 
+-- what a mapped list has is made of what the list has
 pub has_mapped : {X Y : Type 0} (f : X → Y) (xs : List X) (y : Y) → Has (map f xs) y → (x : X) × Has xs x × (y ≡ f x)
 has_mapped f [] y has = absurd has
 has_mapped f (x ∷ xs) y (inl is) = (x, inl refl, is)
 has_mapped f (x ∷ xs) y (inr more) = let it = has_mapped f xs y more in (it.0, inr it.1, it.2)
 
+-- what a list has, it has in any order
 pub has_permuted : {X : Type 0} (xs ys : List X) (x : X) → IsPermutation xs ys → Has xs x → Has ys x
 has_permuted xs ys x same has = has_contained ys x (Contains-permutation xs ys x same (contains_had xs x has))
 
+-- no two rowids are each below the other
 never_both : (a b : Row) → value_cmp (rowid a) (rowid b) ≡ Less → value_cmp (rowid b) (rowid a) ≡ Less → ⊥
 never_both a b low high = let e = sym (value_cmp_total.trans (rowid a) (rowid b) (rowid a) low high) ∙ tied_itself value_cmp_total (rowid a) in absurd cc
 
@@ -67,15 +70,18 @@ same_rows (x ∷ xs) (y ∷ ys) up rise to from = ap₂ ◌∷◌ first (same_ro
 
 -- ---- rows that are shown
 
+-- a row that is shown is of one that passes
 pub shown_one : (p : Row → Bool) (show : Row → Row) (table rows : List Row) → IsPermutation (map show (filter p table)) rows → (x : Row) → Has rows x → (r : Row) × Has table r × (p r ≡ true) × (x ≡ show r)
 shown_one p show table rows shows x has =
     let it = has_mapped show (filter p table) x (has_permuted rows (map show (filter p table)) x (IsPermutation-sym (map show (filter p table)) rows shows) has) in
     let kept = has_filtered p table it.0 it.1 in
     (it.0, kept.0, kept.1, it.2)
 
+-- a row that passes is shown
 pub one_shown : (p : Row → Bool) (show : Row → Row) (table rows : List Row) → IsPermutation (map show (filter p table)) rows → (r : Row) → Has table r → p r ≡ true → Has rows (show r)
 one_shown p show table rows shows r has on = has_permuted (map show (filter p table)) rows (show r) shows (mapped_has show (filter p table) r (has_kept p table r has on))
 
+-- where none is shown, none passes
 pub none_shown : (p : Row → Bool) (show : Row → Row) (table rows : List Row) → IsPermutation (map show (filter p table)) rows → rows ≡ [] → (r : Row) → Has table r → p r ≡ false
 none_shown p show table rows shows empty r has = elim (cases_Bool (p r)) [
   | inl on ↦ absurd (subst (λ all. Has all (show r)) empty (one_shown p show table rows shows r has on))
@@ -84,6 +90,7 @@ none_shown p show table rows shows empty r has = elim (cases_Bool (p r)) [
 
 -- ---- rows that are taken out
 
+-- an order that tests as equal is equal
 is_equal : (o : Ordering) → is_eq o ≡ true → o ≡ Equal
 is_equal Less h = absurd cc
 is_equal Equal h = refl
@@ -92,6 +99,7 @@ is_equal Greater h = absurd cc
 abbrev Lacks : List ℤ → Row → Type 0
 Lacks ids x = (id : ℤ) → Has ids id → has_rowid id x ≡ false
 
+-- a row that is left was there, and has none of these rowids
 left_from : (ids : List ℤ) (rows : List Row) (x : Row) → Has (without_all rows ids) x → Has rows x × Lacks ids x
 left_from [] rows x has = (has, λ id none. absurd none)
 left_from (id ∷ ids) rows x has =
@@ -99,14 +107,17 @@ left_from (id ∷ ids) rows x has =
     let was = has_filtered (λ y. not (has_rowid id y)) rows x more.0 in
     (was.0, λ other had. elim had [ inl is ↦ subst (λ i. has_rowid i x ≡ false) (sym is) (not-true _ was.1) | inr later ↦ more.1 other later ])
 
+-- a row that was there and has none of these rowids is left
 left_has : (ids : List ℤ) (rows : List Row) (x : Row) → Has rows x → Lacks ids x → Has (without_all rows ids) x
 left_has [] rows x has lacks = has
 left_has (id ∷ ids) rows x has lacks = left_has ids (without_rowid id rows) x (has_kept (λ y. not (has_rowid id y)) rows x has (ap not (lacks id (inl refl)))) (λ other had. lacks other (inr had))
 
+-- what is left of a table is one
 left_rises : (ids : List ℤ) (rows : List Row) → IsTable rows → IsTable (without_all rows ids)
 left_rises [] rows up = up
 left_rises (id ∷ ids) rows up = left_rises ids (without_rowid id rows) (ascending-filter _ (λ y. not (has_rowid id y)) rows up)
 
+-- a table with rows put in is one
 put_rises : (news rows : List Row) → IsTable rows → IsTable (put_all rows news)
 put_rises [] rows up = up
 put_rises (n ∷ news) rows up = put_rises news (put_row n rows) (IsTable-put_row n rows up)
@@ -116,15 +127,19 @@ module _ (table : List Row) (by : IsByRowid table) (p : Row → Bool) (show : Ro
   abbrev pub left : List Row
   left = without_all table (ids_of rows)
 
+  -- a row that passes is shown
   shown_has : (r : Row) → Has table r → p r ≡ true → Has rows (show r)
   shown_has = one_shown p show table rows shows
 
+  -- a row that is shown is of one that passes
   shown_of : (x : Row) → Has rows x → (r : Row) × Has table r × (p r ≡ true) × (x ≡ show r)
   shown_of = shown_one p show table rows shows
 
+  -- a row has the rowid with which it is shown
   id_of : (r : Row) → Has table r → rowid r ≡ Int (id_in (rowid (show r)))
   id_of r has = int_is (rowid r) (all_has _ table r by.integers has) ∙ ap (λ v. Int (id_in v)) (sym (same_id r))
 
+  -- a row that is left was in the table and doesn't pass
   left_is : (x : Row) → Has left x → Has table x × (p x ≡ false)
   left_is x has = (was.0, elim (cases_Bool (p x)) [ inl on ↦ absurd (both_ways _ (was.1 (id_in (rowid (show x))) (mapped_has (λ (r : Row). id_in (rowid r)) rows (show x) (shown_has x was.0 on))) itself) | inr off ↦ off ])
     where
@@ -134,6 +149,7 @@ module _ (table : List Row) (by : IsByRowid table) (p : Row → Bool) (show : Ro
       itself : has_rowid (id_in (rowid (show x))) x ≡ true
       itself = subst (λ v. is_eq (value_cmp (rowid x) v) ≡ true) (id_of x was.0) (ap is_eq (tied_itself value_cmp_total (rowid x)))
 
+  -- a row in the table that doesn't pass is left
   is_left : (x : Row) → Has table x → p x ≡ false → Has left x
   is_left x has off = left_has (ids_of rows) table x has lacks
     where
@@ -161,30 +177,37 @@ module _ (table : List Row) (by : IsByRowid table) (p : Row → Bool) (show : Ro
   module _ {X : Type 0} (row : X → Row) (f : X → X) (xs : List X) (is : table ≡ map row xs) (make : Row → Row) (same_number : (x : X) → rowid (row (f x)) ≡ rowid (row x))
       (on : (x : X) → Has xs x → p (row x) ≡ true → make (show (row x)) ≡ row (f x)) (off : (x : X) → Has xs x → p (row x) ≡ false → row x ≡ row (f x))
       (fresh : are_fresh left (map make rows) ≡ true) where
+    -- a value below the rowids of all is below those of what all became
     below : (v : Value) (xs : List X) → AllByRecursion (λ b. value_cmp v (rowid b) ≡ Less) (map row xs) → AllByRecursion (λ b. value_cmp v (rowid b) ≡ Less) (map row (map f xs))
     below v [] all = tt
     below v (x ∷ xs) all = (subst (λ i. value_cmp v i ≡ Less) (sym (same_number x)) all.0, below v xs all.1)
 
+    -- where the rows are in order, so are those that they became
     rises : (xs : List X) → IsTable (map row xs) → IsTable (map row (map f xs))
     rises [] up = tt
     rises (x ∷ xs) up = (subst (λ i. AllByRecursion (λ b. value_cmp i (rowid b) ≡ Less) (map row (map f xs))) (sym (same_number x)) (below (rowid (row x)) xs up.0), rises xs up.1)
 
+    -- where their rowids are integers, so are the others'
     integers : (xs : List X) → AllByRecursion (λ r. IsTrue (is_int (rowid r))) (map row xs) → AllByRecursion (λ r. IsTrue (is_int (rowid r))) (map row (map f xs))
     integers [] all = tt
     integers (x ∷ xs) all = (subst (λ i. IsTrue (is_int i)) (sym (same_number x)) all.0, integers xs all.1)
 
+    -- so the rows that they became stand by rowid
     pub changed_by : IsByRowid (map row (map f xs))
     changed_by = record { rise = rises xs (subst IsTable is by.rise); integers = integers xs (subst (AllByRecursion (λ r. IsTrue (is_int (rowid r)))) is by.integers) }
 
     abbrev after : List Row
     after = map row (map f xs)
 
+    -- a row of the table is of a record
     record_of : (r : Row) → Has table r → (x : X) × Has xs x × (r ≡ row x)
     record_of r has = has_mapped row xs r (subst (λ rows. Has rows r) is has)
 
+    -- the row of what a record became is among them
     after_has : (x : X) → Has xs x → Has after (row (f x))
     after_has x has = mapped_has row (map f xs) (f x) (mapped_has f xs x has)
 
+    -- what was put in and what was left are among them
     came : (r : Row) → Has (map make rows) r ⊎ Has left r → Has after r
     came r (inl new) =
         let at = has_mapped make rows r new in
@@ -197,6 +220,7 @@ module _ (table : List Row) (by : IsByRowid table) (p : Row → Bool) (show : Ro
         let x = record_of r it.0 in
         subst (Has after) (sym (x.2 ∙ off x.0 x.1 (subst (λ y. p y ≡ false) x.2 it.1))) (after_has x.0 x.1)
 
+    -- and each of them was put in or left
     went : (r : Row) → Has after r → Has (put_all left (map make rows)) r
     went r has =
         let at = has_mapped row (map f xs) r has in
@@ -212,6 +236,7 @@ module _ (table : List Row) (by : IsByRowid table) (p : Row → Bool) (show : Ro
               put_all_keeps (map make rows) left r fresh (subst (Has left) (sym kept) (is_left (row it.0) there stays)))
         ]
 
+    -- so the rows that were put in, with those left, are they
     pub changed : put_all left (map make rows) ≡ map row (map f xs)
     changed = same_rows (put_all left (map make rows)) after (put_rises (map make rows) left (left_rises (ids_of rows) table by.rise)) changed_by.rise (λ r has. came r (put_all_has (map make rows) left r has)) went
 

@@ -17,6 +17,7 @@ down_tests = equals (col 1 1) (col 0 0) ∷ []
 abbrev pub down_project : List Term
 down_project = col 1 1 ∷ []
 
+-- SELECT_DOWN reads the mark of a modem
 pub select_down : Selects SELECT_DOWN.now down_tree down_tests down_project (codes "modem" ∷ [])
 unfolding understood everything
 select_down = record { command = refl; plain = (refl, refl); unlisted = refl }
@@ -24,10 +25,12 @@ select_down = record { command = refl; plain = (refl, refl); unlisted = refl }
 abbrev pub down_terms : List Term
 down_terms = lit Null ∷ col 0 0 ∷ []
 
+-- INSERT_DOWN puts in a mark
 pub insert_down : Commands INSERT_DOWN.now (Insert 3 (Values down_terms 2))
 unfolding understood everything
 insert_down = record { is = refl; plain = (refl, refl) }
 
+-- DELETE_DOWN takes out that of a modem
 pub delete_down : Commands DELETE_DOWN.now (Delete 3 (program_of down_tree down_tests gone_project))
 unfolding understood everything
 delete_down = record { is = refl; plain = (refl, refl) }

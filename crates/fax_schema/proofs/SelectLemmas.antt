@@ -67,6 +67,7 @@ module _ (tree : ℕ) (tests project : List Term) (params : Row) where
         let back = pull_back (put_out order) a.kept a.ordered a.same (filter passes table) kept in
         (back.0, back.1, a.shown ∙ ap (map (λ (o : Output). o.1)) back.2 ∙ map-map _ _ _, subst (IsSorted (output_cmp query)) back.2 a.sorted)
 
+    -- rows that pass are shown, each once, in any order
     pub answers : (names : List (List ℕ)) (rows : List Row) → Reads (Select (record { lets = []; body = rows_where tree tests project }) names) db params rows → IsPermutation (map show (filter passes table)) rows
     answers names rows h =
         let shown = in_order [] names rows h in

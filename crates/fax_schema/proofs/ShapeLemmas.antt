@@ -2,6 +2,7 @@
 use Rattle.std.proofs.Common.{◌≡◌, ℕ, zero, suc, ◌<◌, List, [], ◌∷◌, length, get_or, map, Some, Option, refl, ap, ap₂, ◌∙◌, arith}
 use Rattle.std.specs.List.{slice_get}
 
+-- Some of two elements is the same only where they are
 same_head : {X : Type 0} {x y : X} → ◌≡◌ {A = Option X} (Some x) (Some y) → x ≡ y
 same_head e = cc
 
@@ -19,6 +20,7 @@ all_alike d [] (n ∷ ns) long each = absurd (omega arith)
 all_alike d (x ∷ xs) [] long each = absurd (omega arith)
 all_alike d (x ∷ xs) (n ∷ ns) long each = ap₂ (λ h t. h ∷ t) (each 0 (omega arith)) (all_alike d xs ns (omega arith) (λ k low. each (suc k) (omega arith)))
 
+-- where all elements are this one, each place has it, or it is the default
 pub each_alike : {A B : Type 0} (d : B) (xs : List B) (ns : List A) (i : ℕ) → xs ≡ map (λ _. d) ns → get_or xs i d ≡ d
 each_alike d xs ns i same = ap (λ ys. get_or ys i d) same ∙ of_all ns i
   where

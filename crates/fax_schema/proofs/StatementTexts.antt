@@ -30,6 +30,7 @@ meta_tests = equals (col 1 0) (lit (Int (pos 1))) ∷ []
 abbrev pub meta_project : List Term
 meta_project = col 1 2 ∷ col 1 3 ∷ col 1 4 ∷ []
 
+-- SELECT_META reads the clock and the next numbers
 pub select_meta : Selects SELECT_META.now meta_tree meta_tests meta_project (codes "clock" ∷ codes "next_job" ∷ codes "next_grant" ∷ [])
 unfolding understood everything
 select_meta = record { command = refl; plain = (refl, refl); unlisted = refl }
@@ -37,6 +38,7 @@ select_meta = record { command = refl; plain = (refl, refl); unlisted = refl }
 abbrev pub version_project : List Term
 version_project = col 1 5 ∷ []
 
+-- SELECT_VERSION reads the version of each row of meta
 pub select_version : Selects SELECT_VERSION.now meta_tree [] version_project (codes "version" ∷ [])
 unfolding understood everything
 select_version = record { command = refl; plain = (refl, refl); unlisted = refl }
@@ -44,6 +46,7 @@ select_version = record { command = refl; plain = (refl, refl); unlisted = refl 
 abbrev pub raise_project : List Term
 raise_project = col 1 0 ∷ col 1 0 ∷ lit Null ∷ col 1 2 ∷ col 1 3 ∷ col 1 4 ∷ lit (Int (pos 2)) ∷ []
 
+-- UPDATE_VERSION sets it to 2 in each
 pub update_version : Commands UPDATE_VERSION.now (Update 5 (program_of meta_tree [] raise_project))
 unfolding understood everything
 update_version = record { is = refl; plain = (refl, refl) }
@@ -60,6 +63,7 @@ lost_tests = op2 (Is Binary) (col 2 0) (lit Null) ∷ []
 abbrev pub lost_query : Query
 lost_query = record (rows_by holds_tree lost_tests (col 1 3 ∷ []) []) { from = inner holds_tree (left jobs_tree lost_on end) }
 
+-- SELECT_LOST reads the holds whose job isn't there
 pub select_lost : SelectsAll SELECT_LOST.now lost_query (codes "id" ∷ [])
 unfolding understood everything
 select_lost = record { command = refl; plain = (refl, refl); unlisted = refl }
@@ -67,6 +71,7 @@ select_lost = record { command = refl; plain = (refl, refl); unlisted = refl }
 abbrev pub held_project : List Term
 held_project = col 1 2 ∷ []
 
+-- SELECT_HELD reads the job of each hold
 pub select_held : Selects SELECT_HELD.now holds_tree [] held_project (codes "job" ∷ [])
 unfolding understood everything
 select_held = record { command = refl; plain = (refl, refl); unlisted = refl }
@@ -74,6 +79,7 @@ select_held = record { command = refl; plain = (refl, refl); unlisted = refl }
 abbrev pub dial_project : List Term
 dial_project = col 1 2 ∷ []
 
+-- SELECT_DIAL reads the number to dial of a job
 pub select_dial : Selects SELECT_DIAL.now jobs_tree job_tests dial_project (codes "dial" ∷ [])
 unfolding understood everything
 select_dial = record { command = refl; plain = (refl, refl); unlisted = refl }
@@ -81,6 +87,7 @@ select_dial = record { command = refl; plain = (refl, refl); unlisted = refl }
 abbrev pub update_project : List Term
 update_project = col 1 0 ∷ col 1 0 ∷ lit Null ∷ col 0 0 ∷ col 0 1 ∷ col 0 2 ∷ col 1 5 ∷ []
 
+-- UPDATE_META sets the clock and the next numbers
 pub update_meta : Commands UPDATE_META.now (Update 5 (record { lets = []; body = rows_where meta_tree meta_tests update_project }))
 unfolding understood everything
 update_meta = record { is = refl; plain = (refl, refl) }
@@ -91,6 +98,7 @@ clock_tests = equals (col 1 0) (lit (Int (pos 1))) ∷ op2 (Compare Ne Binary) (
 abbrev pub clock_project : List Term
 clock_project = col 1 0 ∷ col 1 0 ∷ lit Null ∷ col 0 0 ∷ col 1 3 ∷ col 1 4 ∷ col 1 5 ∷ []
 
+-- UPDATE_CLOCK sets the clock, where it is another
 pub update_clock : Commands UPDATE_CLOCK.now (Update 5 (program_of meta_tree clock_tests clock_project))
 unfolding understood everything
 update_clock = record { is = refl; plain = (refl, refl) }
@@ -101,6 +109,7 @@ reply_tests = equals (col 1 1) (col 0 0) ∷ equals (col 1 2) (col 0 1) ∷ []
 abbrev pub reply_project : List Term
 reply_project = col 1 3 ∷ col 1 4 ∷ col 1 5 ∷ []
 
+-- SELECT_REPLY reads the reply to a client's number
 pub select_reply : Selects SELECT_REPLY.now replies_tree reply_tests reply_project (codes "said" ∷ codes "status" ∷ codes "body" ∷ [])
 unfolding understood everything
 select_reply = record { command = refl; plain = (refl, refl); unlisted = refl }
@@ -108,6 +117,7 @@ select_reply = record { command = refl; plain = (refl, refl); unlisted = refl }
 abbrev pub reply_terms : List Term
 reply_terms = lit Null ∷ col 0 0 ∷ col 0 1 ∷ col 0 2 ∷ col 0 3 ∷ col 0 4 ∷ []
 
+-- INSERT_REPLY puts one in
 pub insert_reply : Commands INSERT_REPLY.now (Insert 4 (Values reply_terms 6))
 unfolding understood everything
 insert_reply = record { is = refl; plain = (refl, refl) }
@@ -127,10 +137,12 @@ brief_names =
 abbrev pub job_names : List (List ℕ)
 job_names = brief_names ++ codes "extra" ∷ []
 
+-- SELECT_JOB reads the job of a number, whole
 pub select_job : Selects SELECT_JOB.now jobs_tree job_tests job_project job_names
 unfolding understood everything
 select_job = record { command = refl; plain = (refl, refl); unlisted = refl }
 
+-- SELECT_BRIEF reads it without its extra lines
 pub select_brief : Selects SELECT_BRIEF.now jobs_tree job_tests brief_project brief_names
 unfolding understood everything
 select_brief = record { command = refl; plain = (refl, refl); unlisted = refl }
@@ -139,6 +151,7 @@ abbrev pub job_terms : List Term
 job_terms =
     col 0 0 ∷ lit Null ∷ col 0 1 ∷ col 0 2 ∷ col 0 3 ∷ col 0 4 ∷ col 0 19 ∷ col 0 5 ∷ col 0 6 ∷ col 0 7 ∷ col 0 8 ∷ col 0 9 ∷ col 0 10 ∷ col 0 11 ∷ col 0 12 ∷ col 0 13 ∷ col 0 14 ∷ col 0 15 ∷ col 0 16 ∷ col 0 17 ∷ col 0 18 ∷ []
 
+-- INSERT_JOB puts a job in
 pub insert_job : Commands INSERT_JOB.now (Insert 0 (Values job_terms 21))
 unfolding understood everything
 insert_job = record { is = refl; plain = (refl, refl) }
@@ -147,6 +160,7 @@ abbrev pub change_project : List Term
 change_project =
     col 1 0 ∷ col 1 0 ∷ lit Null ∷ col 1 2 ∷ col 0 1 ∷ col 0 2 ∷ col 0 3 ∷ col 1 6 ∷ col 0 4 ∷ col 0 5 ∷ col 0 6 ∷ col 0 7 ∷ col 1 11 ∷ col 0 8 ∷ col 0 9 ∷ col 0 10 ∷ col 0 11 ∷ col 0 12 ∷ col 0 13 ∷ col 0 14 ∷ col 0 15 ∷ col 0 16 ∷ []
 
+-- UPDATE_JOB sets what a change may set of the job of a number
 pub update_job : Commands UPDATE_JOB.now (Update 0 (record { lets = []; body = rows_where jobs_tree job_tests change_project }))
 unfolding understood everything
 update_job = record { is = refl; plain = (refl, refl) }
@@ -157,6 +171,7 @@ expired_tests = equals (col 1 18) (col 0 1) ∷ op2 (Compare Ge Binary) (col 1 8
 abbrev pub killtime_project : List Term
 killtime_project = col 1 8 ∷ []
 
+-- SELECT_EXPIRED reads the jobs of a phase whose kill time is past
 pub select_expired : Selects SELECT_EXPIRED.now jobs_tree expired_tests killtime_project (codes "killtime" ∷ [])
 unfolding understood everything
 select_expired = record { command = refl; plain = (refl, refl); unlisted = refl }
@@ -165,6 +180,7 @@ abbrev pub expired_project : List Term
 expired_project =
     col 1 0 ∷ col 1 0 ∷ lit Null ∷ col 1 2 ∷ col 1 3 ∷ col 1 4 ∷ lit (Text kill_time_expired) ∷ col 1 6 ∷ col 1 7 ∷ col 1 8 ∷ col 1 9 ∷ col 1 10 ∷ col 1 11 ∷ col 1 12 ∷ col 1 13 ∷ col 1 14 ∷ col 1 15 ∷ col 1 16 ∷ col 1 17 ∷ lit (Int (pos 4)) ∷ col 1 19 ∷ col 1 20 ∷ []
 
+-- EXPIRE_JOBS sets these to failed
 pub expire_jobs : Commands EXPIRE_JOBS.now (Update 0 (record { lets = []; body = rows_where jobs_tree expired_tests expired_project }))
 unfolding understood everything
 expire_jobs = record { is = refl; plain = (refl, refl) }
@@ -177,6 +193,7 @@ waiting_tests =
 abbrev pub waiting_order : List (Term × Key)
 waiting_order = (col 1 9, ascending Binary) ∷ (col 1 7, ascending Binary) ∷ (col 1 0, ascending Binary) ∷ []
 
+-- SELECT_WAITING reads the jobs that are due, in the order of the choice
 pub select_waiting : SelectsBy SELECT_WAITING.now jobs_tree waiting_tests job_project waiting_order job_names
 unfolding understood everything
 select_waiting = record { command = refl; plain = (refl, refl); unlisted = refl }
@@ -199,6 +216,7 @@ page_query tests = record (rows_by jobs_tree (waiting_tests ++ tests) prospect_p
 abbrev pub SelectsPage : List ℕ → List Term → Type 0
 SelectsPage sql tests = SelectsAll sql (page_query tests) prospect_names
 
+-- SELECT_FIRST reads the first page of them
 pub select_first : SelectsPage SELECT_FIRST.now other_tests
 unfolding understood everything
 select_first = record { command = refl; plain = (refl, refl); unlisted = refl }
@@ -206,6 +224,7 @@ select_first = record { command = refl; plain = (refl, refl); unlisted = refl }
 abbrev pub number_tests : List Term
 number_tests = other_tests ++ equals (col 1 9) (col 0 3) ∷ equals (col 1 7) (col 0 4) ∷ op2 (Compare Gt Binary) (col 1 0) (col 0 5) ∷ []
 
+-- SELECT_BEHIND_NUMBER reads those of the same priority and time, behind a number
 pub select_behind_number : SelectsPage SELECT_BEHIND_NUMBER.now number_tests
 unfolding understood everything
 select_behind_number = record { command = refl; plain = (refl, refl); unlisted = refl }
@@ -213,6 +232,7 @@ select_behind_number = record { command = refl; plain = (refl, refl); unlisted =
 abbrev pub time_tests : List Term
 time_tests = other_tests ++ equals (col 1 9) (col 0 3) ∷ op2 (Compare Gt Binary) (col 1 7) (col 0 4) ∷ []
 
+-- SELECT_BEHIND_TIME reads those of the same priority, behind a time
 pub select_behind_time : SelectsPage SELECT_BEHIND_TIME.now time_tests
 unfolding understood everything
 select_behind_time = record { command = refl; plain = (refl, refl); unlisted = refl }
@@ -220,6 +240,7 @@ select_behind_time = record { command = refl; plain = (refl, refl); unlisted = r
 abbrev pub priority_tests : List Term
 priority_tests = other_tests ++ op2 (Compare Gt Binary) (col 1 9) (col 0 3) ∷ []
 
+-- SELECT_BEHIND_PRIORITY reads those behind a priority
 pub select_behind_priority : SelectsPage SELECT_BEHIND_PRIORITY.now priority_tests
 unfolding understood everything
 select_behind_priority = record { command = refl; plain = (refl, refl); unlisted = refl }
@@ -227,10 +248,12 @@ select_behind_priority = record { command = refl; plain = (refl, refl); unlisted
 abbrev pub jobs_order : List (Term × Key)
 jobs_order = (col 1 0, ascending Binary) ∷ []
 
+-- SELECT_JOBS reads all jobs by number, whole
 pub select_jobs : SelectsBy SELECT_JOBS.now jobs_tree [] job_project jobs_order job_names
 unfolding understood everything
 select_jobs = record { command = refl; plain = (refl, refl); unlisted = refl }
 
+-- SELECT_BRIEFS reads them without their extra lines
 pub select_briefs : SelectsBy SELECT_BRIEFS.now jobs_tree [] brief_project jobs_order brief_names
 unfolding understood everything
 select_briefs = record { command = refl; plain = (refl, refl); unlisted = refl }

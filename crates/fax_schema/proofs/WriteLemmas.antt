@@ -34,6 +34,7 @@ pub went : {B E R : Type 0} {b : B} {Stops : E → Type 0} → ((stop : E) × St
 went (inl stopped) = absurd (let e = stopped.2 in cc)
 went (inr on) = on
 
+-- what is done with one value is done with that alone
 same_value : {B E : Type 0} {a b : B} → ◌≡◌ {A = Result B E} (Ok a) (Ok b) → a ≡ b
 same_value e = cc
 
@@ -65,6 +66,7 @@ module _ (schema : Schema) (bare : (tree : ℕ) (olds news : List Row) → works
   abbrev task : Task
   task = record { limit = old.step_limit; keys = Enforced; schema = schema; table = table; params = params }
 
+  -- an INSERT of one row puts it in, with the rowid that is chosen
   pub inserts : (terms : List Term) (width : ℕ) (source row : Row) → value_rows params width (length terms / width) terms ≡ source ∷ [] → with_rowid Chosen (old.now.trees tree) (cast_row table source) ≡ row
       → Writes old new None (Insert at (Values terms width)) text params count → InsertsRow schema tree old new row
   inserts terms width source row is_source is_row w =
@@ -100,6 +102,7 @@ module _ (schema : Schema) (bare : (tree : ℕ) (olds news : List Row) → works
   abbrev pub made : Row → Row
   made s = cast_row table (drop 1 s)
 
+  -- an UPDATE takes out the rows that it shows, and puts in what is made of them
   pub updates : (q : Program) → Writes old new None (Update at q) text params count → (shown : List Row) × Answers (record { schema = schema; trees = old.now.trees }) q params shown × ChangesRows schema tree made old new shown
   updates q w =
       let command = Update at q in
@@ -130,6 +133,7 @@ module _ (schema : Schema) (bare : (tree : ℕ) (olds news : List Row) → works
         },
       )
 
+  -- a DELETE takes out the rows that it shows
   pub deletes : (q : Program) → Writes old new None (Delete at q) text params count
       → (shown : List Row) × Answers (record { schema = schema; trees = old.now.trees }) q params shown × KeepsOthers schema tree old new × (new.now.trees tree ≡ without_all (old.now.trees tree) (ids_of shown))
   deletes q w =
