@@ -5,10 +5,12 @@ use Rattle.std.specs.Io.KnownBytes.{Appends, Consumes, Keeps}
 use Rattle.fax_http.specs.declared.device.Watched.{Watched}
 use Rattle.fax_http.specs.Device.{BrokeOff, Put, Took, counted}
 
+-- known bytes that stay grow by none
 pub appends_none : (a : Option (List ℕ)) → Appends a a []
 appends_none None = tt
 appends_none (Some xs) = sym (append-nil xs)
 
+-- the same of bytes that are kept
 pub appends_kept : (a b : Option (List ℕ)) → Keeps a b → Appends a b []
 appends_kept None b k = tt
 appends_kept (Some xs) None k = absurd k
@@ -21,10 +23,12 @@ appends_both (Some x) None c xs ys p q = absurd p
 appends_both (Some x) (Some y) None xs ys p q = absurd q
 appends_both (Some x) (Some y) (Some z) xs ys p q = q ∙ ap (λ v. v ++ ys) p ∙ append_assoc x xs ys
 
+-- known bytes that stay lose none
 pub consumes_none : (a : Option (List ℕ)) → Consumes a a []
 consumes_none None = tt
 consumes_none (Some xs) = refl
 
+-- the same of bytes that are kept
 pub consumes_kept : (a b : Option (List ℕ)) → Keeps a b → Consumes a b []
 consumes_kept None b k = tt
 consumes_kept (Some xs) None k = absurd k
@@ -42,9 +46,11 @@ counted_on : (a b c m n k : ℕ) → counted b ≡ counted (a + m) → counted c
 counted_on a b c m n k p q e = omega (arith, p, q, e)
 
 module _ {W : Type 0} (contents : W → Option (List ℕ)) where
+  -- a writer that hasn't failed wrote no bytes
   pub put_none : (w : Watched W) → w.failed ≡ false → Put contents w w [] false
   put_none w going = record { appended = appends_none (contents w.device); passed = omega arith; failed_is = going }
 
+  -- bytes written and then others are both written
   pub put_both : (a b c : Watched W) (xs ys : List ℕ) (failed : Bool) → Put contents a b xs false → Put contents b c ys failed → Put contents a c (xs ++ ys) failed
   put_both a b c xs ys failed p q = record {
     appended = appends_both (contents a.device) (contents b.device) (contents c.device) xs ys p.appended q.appended;
@@ -58,9 +64,11 @@ module _ {W : Type 0} (contents : W → Option (List ℕ)) where
     pub parts : bytes ≡ front ++ rest
     pub put : Put contents a b front false
 
+  -- of bytes that are to be written none was written yet
   pub has_put_none : (a : Watched W) (bytes : List ℕ) → a.failed ≡ false → HasPut a a bytes bytes
   has_put_none a bytes going = record { front = []; parts = refl; put = put_none a going }
 
+  -- what is written of the rest leaves that much less
   pub has_put_more : (a b c : Watched W) (bytes rest : List ℕ) (n : ℕ) → HasPut a b bytes rest → Put contents b c (take n rest) false
       → HasPut a c bytes (take (length rest - n) (drop n rest))
   has_put_more a b c bytes rest n h p = record {
@@ -71,10 +79,12 @@ module _ {W : Type 0} (contents : W → Option (List ℕ)) where
     put = put_both a b c h.front (take n rest) false h.put p;
   }
 
+  -- where no rest is left, all is written
   pub has_put_all : (a b : Watched W) (bytes rest : List ℕ) → HasPut a b bytes rest → rest ≡ [] → Put contents a b bytes false
   has_put_all a b bytes rest h none =
       subst (λ v. Put contents a b v false) (sym (h.parts ∙ ap (λ v. h.front ++ v) none ∙ append-nil h.front)) h.put
 
+  -- where some is left and the writer fails, it broke off
   pub has_put_some : (a b c : Watched W) (bytes rest : List ℕ) → HasPut a b bytes rest → 0 < length rest → Put contents b c [] true → BrokeOff contents a c bytes
   has_put_some a b c bytes rest h some p = record {
     front = h.front;
@@ -84,6 +94,7 @@ module _ {W : Type 0} (contents : W → Option (List ℕ)) where
     put = subst (λ v. Put contents a c v true) (append-nil h.front) (put_both a b c h.front [] true h.put p);
   }
 
+  -- a writer that broke off in some bytes broke off in these with others behind
   pub broke_in_front : (a b : Watched W) (xs ys : List ℕ) → BrokeOff contents a b xs → BrokeOff contents a b (xs ++ ys)
   broke_in_front a b xs ys o = record {
     front = o.front;
@@ -93,6 +104,7 @@ module _ {W : Type 0} (contents : W → Option (List ℕ)) where
     put = o.put;
   }
 
+  -- a writer that wrote some and broke off in others broke off in both
   pub broke_behind : (a b c : Watched W) (xs ys : List ℕ) → Put contents a b xs false → BrokeOff contents b c ys → BrokeOff contents a c (xs ++ ys)
   broke_behind a b c xs ys p o = record {
     front = xs ++ o.front;
@@ -103,9 +115,11 @@ module _ {W : Type 0} (contents : W → Option (List ℕ)) where
   }
 
 module _ {R : Type 0} (remaining : R → Option (List ℕ)) where
+  -- a reader that hasn't failed read no bytes
   pub took_none : (r : Watched R) → r.failed ≡ false → Took remaining r r [] false
   took_none r going = record { consumed = consumes_none (remaining r.device); passed = omega arith; failed_is = going }
 
+  -- bytes read and then others are both read
   pub took_both : (a b c : Watched R) (xs ys : List ℕ) (failed : Bool) → Took remaining a b xs false → Took remaining b c ys failed → Took remaining a c (xs ++ ys) failed
   took_both a b c xs ys failed p q = record {
     consumed = consumes_both (remaining a.device) (remaining b.device) (remaining c.device) xs ys p.consumed q.consumed;

@@ -17,6 +17,7 @@ same_parts front back other more size e = (
   sym (drop-append_seam front back) ∙ ap (λ n. drop n (front ++ back)) size ∙ ap (drop (length other)) e ∙ drop-append_seam other more,
 )
 
+-- one message at most begins an input
 pub one_message : OneMessage
 one_message input head other body another rest more b c =
     let same = request_unique input head other (body ++ rest) (another ++ more)
@@ -45,6 +46,7 @@ begins_or_fails input head body rest TooLarge b f =
     let both = sym b.message.frames ∙ ap (λ h. framed (fields_of h)) same.0 ∙ f.frames in
     cc
 
+-- an input fails in one way
 one_failure : (input : List ℕ) (broken other : Broken) → Fails input broken → Fails input other → broken ≡ other
 one_failure input BadHttp BadHttp f g = refl
 one_failure input BadHttp TooLarge f g = absurd (f.not_too_large g)
@@ -67,6 +69,7 @@ ends_next turn turns (t ∷ ts) last e g l =
     let others : turns ≡ ts ++ last ∷ [] = cc in
     inr (ap (λ x. is_last x.head) first ∙ g.0, record { earlier = ts; last = last; parts = others; going = g.1; is_last = l })
 
+-- serving stops at the first turn, where it is the last, or as the others do
 stops_next : (bound : ℕ) (turn : Turn) (turns : List Turn) (rest : List ℕ) (stop : Stop) → StopsBy bound (turn ∷ turns) rest stop
     → ((is_last turn.head ≡ true) × (turns ≡ []) × (stop ≡ AtLast)) ⊎ ((is_last turn.head ≡ false) × StopsBy (bound - 1) turns rest stop)
 stops_next bound turn turns rest AtBound s = inr (s.0.0, (s.0.1, omega (arith, s.1)))
@@ -99,6 +102,7 @@ stopped bound input AtLast turn turns next s b within = none_end s
 stopped bound input AtEnd turn turns next s b within = some_head turn.head (turn.body ++ next) (sym s.2 ∙ b.bytes)
 stopped bound input (AtFailure broken) turn turns next s b within = begins_or_fails input turn.head turn.body next broken b s.3
 
+-- an input is divided into one list of messages, and stops in one way
 one_way : (bound : ℕ) (input : List ℕ) (turns others : List Turn) (rest more : List ℕ) (stop another : Stop) → length turns ≤ bound → length others ≤ bound
     → Reads input turns rest → StopsBy bound turns rest stop → Reads input others more → StopsBy bound others more another
     → (map message_of turns ≡ map message_of others) × (stop ≡ another)
@@ -137,6 +141,7 @@ one_way bound input (turn ∷ turns) (other ∷ others) rest more stop another w
       ]
     ]
 
+-- the same of the whole input
 pub one_division : OneDivision
 one_division bound input turns others stop another d e =
     one_way bound input turns others d.rest e.rest stop another d.within e.within d.reads d.stops e.reads e.stops

@@ -27,6 +27,7 @@ module _ {R W H : Type 0} (remaining : R → Option (List ℕ)) (old now : Watch
     pub same_writer : writer₁ ≡ writer
     pub same_handler : handler₁ ≡ handler
 
+-- nothing was read yet
 pub reading_begins : {R W H : Type 0} (remaining : R → Option (List ℕ)) (r : Watched R) (w : Watched W) (h : H) (buffer : List ℕ) → r.failed ≡ false → Reading remaining r r w w h h buffer buffer
 reading_begins remaining r w h buffer going = record {
   more = [];
@@ -36,6 +37,7 @@ reading_begins remaining r w h buffer going = record {
   same_handler = refl;
 }
 
+-- more bytes were read
 pub reading_more : {R W H : Type 0} (remaining : R → Option (List ℕ)) (a b c : Watched R) (w w₁ : Watched W) (h h₁ : H) (before between after : List ℕ) (n : ℕ)
     → Reading remaining a b w w₁ h h₁ before between → ReadMore remaining b c between after n → Reading remaining a c w w₁ h h₁ before after
 reading_more remaining a b c w w₁ h h₁ before between after n r m = record {
@@ -62,6 +64,7 @@ reading_stays remaining answers over a b w w₁ h h₁ h₂ before between after
 module _ {R W H : Type 0} (remaining : R → Option (List ℕ)) (contents : W → Option (List ℕ)) (answers : Answering H) (over : H → Bool)
     (a b : Watched R) (w w₁ w₂ : Watched W) (h h₁ h₂ : H) (before between after : List ℕ) (r : Reading remaining a b w w₁ h h₁ before between)
     (bytes : List ℕ) (t : HasAnswered answers over h₁ h₂ between after bytes) where
+  -- a message was read and answered, and its reply written or not
   turned : (exchange : Exchange) → Replies contents w₁ w₂ (over h₂) t.turn exchange → Exchanges remaining contents answers over a b w w₂ h h₂ before after exchange
   turned Answered replies = record {
     turn = t.turn;
@@ -109,6 +112,7 @@ module _ {R W H : Type 0} (remaining : R → Option (List ℕ)) (contents : W �
 
 module _ {R W H : Type 0} (remaining : R → Option (List ℕ)) (contents : W → Option (List ℕ)) (answers : Answering H) (over : H → Bool)
     (a b : Watched R) (w w₁ w₂ : Watched W) (h h₁ : H) (before after : List ℕ) (r : Reading remaining a b w w₁ h h₁ before after) where
+  -- bytes that begin no message were answered so
   refused_by : (end : End) (broken : Broken) → 0 < length after → FailsHere after (remaining b.device) broken → WritesTo contents w w₂ (failure_of broken) Bad end
       → IsMissing remaining contents answers over a b w w₂ h h₁ before after end
   refused_by Closed broken some fails writes = absurd (let no = writes.1 in cc)
@@ -118,6 +122,7 @@ module _ {R W H : Type 0} (remaining : R → Option (List ℕ)) (contents : W �
   refused_by NoMemory broken some fails writes = ((r.more, r.took, r.behind), some, broken, fails, writes)
   refused_by (WriteFailed sent) broken some fails writes = ((r.more, r.took, r.behind), some, broken, fails, writes)
 
+-- bytes that never begin a message fail, whatever is left to read
 fails_here : (rest : List ℕ) (unread : Option (List ℕ)) (broken : Broken) → NeverBegins rest broken → FailsHere rest unread broken
 fails_here rest unread BadHttp never = inl never
 fails_here rest unread TooLarge never = never

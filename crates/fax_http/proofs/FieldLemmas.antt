@@ -14,6 +14,7 @@ use Rattle.fax_http.specs.declared.message.Occurrence.{Occurrence}
 use Rattle.fax_http.specs.Field.{Shows}
 use Rattle.fax_http.specs.Message.{Fields, values_of}
 
+-- the values of a name in two lists of fields are those in the first and then in the second
 values_of-append : (name : List ℕ) (fields more : Fields) → values_of name (fields ++ more) ≡ values_of name fields ++ values_of name more
 values_of-append name fields more =
     ap (map (λ f. f.1)) (filter-append (λ f. str_eq_ignore_ascii_case f.0 name) fields more)
@@ -53,6 +54,7 @@ pub shows_passed : (found next : Occurrence) (before after : List (List ℕ)) (b
 shows_passed found next before after b v e f is h =
     subst (λ o. Shows o after) (sym is) (subst (λ vs. Shows next vs) (sym (e ∙ ap (λ x. before ++ cond x (v ∷ []) []) f ∙ append-nil before)) h)
 
+-- one of the values passes with one more, where one did or this one does
 any_more : (p : List ℕ → Bool) (before : List (List ℕ)) (v : List ℕ) → list_any p (before ++ v ∷ []) ≡ (list_any p before || p v)
 any_more p [] v = or-false (p v)
 any_more p (x ∷ xs) v = ap (λ b. p x || b) (any_more p xs v) ∙ sym (or_assoc (p x) (list_any p xs) (p v))

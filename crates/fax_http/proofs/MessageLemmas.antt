@@ -81,6 +81,7 @@ pub stays_bad : (input : List ℕ) (head : RequestHead) (rest : List ℕ) → Re
     → framed (fields_of head) ≡ Err BadHttp → StaysBad input
 stays_bad input head rest reads e more = bad_framing (input ++ more) head (rest ++ more) (ReadsRequest-append input head rest more reads) e
 
+-- a length that is taken is at most 65536
 bounded_within : (said : Option ℕ) (n : ℕ) → bounded said ≡ Ok n → n ≤ 65536
 bounded_within None n e = cc
 bounded_within (Some m) n e = chosen_within m n (nat_le m 65536) refl e
@@ -89,11 +90,13 @@ bounded_within (Some m) n e = chosen_within m n (nat_le m 65536) refl e
     chosen_within m n true fits e = let same : m ≡ n = cc in omega (arith, same, leb-true m 65536 (sym fits))
     chosen_within m n false fits e = cc
 
+-- so is one that a field says
 said_within : (values : List (List ℕ)) (n : ℕ) → said_length values ≡ Ok n → n ≤ 65536
 said_within [] n e = let same : 0 ≡ n = cc in omega (arith, same)
 said_within (value ∷ []) n e = bounded_within (number_of value) n e
 said_within (value ∷ another ∷ more) n e = cc
 
+-- and one of a body without a coding
 uncoded_within : (codings values : List (List ℕ)) (n : ℕ) → uncoded codings (said_length values) ≡ Ok n → n ≤ 65536
 uncoded_within [] values n e = said_within values n e
 uncoded_within (coding ∷ more) values n e = cc
@@ -102,6 +105,7 @@ uncoded_within (coding ∷ more) values n e = cc
 framed_within : (fields : Fields) (n : ℕ) → framed fields ≡ Ok n → n ≤ 65536
 framed_within fields n e = uncoded_within (values_of (codes "Transfer-Encoding") fields) (values_of (codes "Content-Length") fields) n e
 
+-- a body that ends too soon may go on, so the message is unfinished
 pub unfinished_body : (input : List ℕ) (head : RequestHead) (rest : List ℕ) (n : ℕ) → IsHead head → ReadsRequest input head rest
     → framed (fields_of head) ≡ Ok n → length rest < n → IsUnfinished input
 unfinished_body input head rest n is_head reads e short = record {

@@ -7,13 +7,16 @@ use Rattle.fax_http.specs.Reply.{phrase_of}
 record IsShort (phrase : Option (List ℕ)) : Type 0 where
   short : length (unwrap_or phrase []) ≤ 31
 
+-- a phrase of at most 31 bytes, or a short one else, is short
 short_if : (b : Bool) (phrase : List ℕ) (rest : Option (List ℕ)) → length phrase ≤ 31 → IsShort rest → IsShort (if b then Some phrase else rest)
 short_if b phrase rest here there =
     elim b as (λ c. IsShort (if c then Some phrase else rest)) [ true ↦ record { short = here } | false ↦ there ]
 
+-- no phrase is short
 none : IsShort None
 none = record { short = lit≤ tt }
 
+-- each status has a short phrase or none
 all_short : (status : ℕ) → IsShort (reason_phrase status)
 all_short status =
     short_if (status == 100) (codes "Continue") _ (lit≤ tt) (
@@ -80,6 +83,7 @@ all_short status =
     short_if (status == 511) (codes "Network Authentication Required") _ (lit≤ tt) (
     none))))))))))))))))))))))))))))))))))))))))))))))))))))))))))))))
 
+-- so each status has one of at most 31 bytes
 pub short_phrase : (status : ℕ) → length (phrase_of status) ≤ 31
 unfolding phrase_of
 short_phrase status = (all_short status).short

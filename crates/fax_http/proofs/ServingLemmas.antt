@@ -17,6 +17,7 @@ use Rattle.fax_http.proofs.DeviceLemmas.{put_both, put_none, took_both, took_non
 
 -- ---- lists of turns
 
+-- one turn more is read from what was left
 pub reads_one_more : (input : List ℕ) (turns : List Turn) (turn : Turn) (rest next : List ℕ) → Reads input turns rest
     → BeginsWith rest turn.head turn.body next → Reads input (turns ++ turn ∷ []) next
 reads_one_more input [] turn rest next e begins = (next, subst (λ i. BeginsWith i turn.head turn.body next) (sym e) begins, refl)
@@ -31,23 +32,28 @@ begins_more input head body rest more b = record {
       ∙ ap (λ v. print_request head ++ v) (append_assoc body rest more);
 }
 
+-- turns are read whatever follows
 pub reads_more : (input : List ℕ) (turns : List Turn) (rest more : List ℕ) → Reads input turns rest → Reads (input ++ more) turns (rest ++ more)
 reads_more input [] rest more e = ap (λ i. i ++ more) e
 reads_more input (t ∷ ts) rest more r = (r.0 ++ more, begins_more input t.head t.body r.0 more r.1, reads_more r.0 ts rest more r.2)
 
+-- one turn more is answered from where the others led
 pub answers_one_more : {H : Type 0} (answers : Answering H) (old : H) (turns : List Turn) (turn : Turn) (now next : H) → Answers answers old turns now
     → answers now turn.head turn.body turn.reply next → Answers answers old (turns ++ turn ∷ []) next
 answers_one_more answers old [] turn now next e step = (next, subst (λ h. answers h turn.head turn.body turn.reply next) e step, refl)
 answers_one_more answers old (t ∷ ts) turn now next a step = (a.0, a.1, answers_one_more answers a.0 ts turn now next a.2 step)
 
+-- turns that go on, and one that isn't the last, go on
 pub go_on_one_more : (turns : List Turn) (turn : Turn) → GoOn turns → is_last turn.head ≡ false → GoOn (turns ++ turn ∷ [])
 go_on_one_more [] turn g e = (e, tt)
 go_on_one_more (t ∷ ts) turn g e = (g.0, go_on_one_more ts turn g.1 e)
 
+-- one turn more is spelled behind the others
 pub spelled_one_more : (turns : List Turn) (turn : Turn) → spelled_turns (turns ++ turn ∷ []) ≡ spelled_turns turns ++ spelled_turn turn
 spelled_one_more turns turn =
     flat_map-append spelled_turn turns (turn ∷ []) ∙ ap (λ bs. spelled_turns turns ++ bs) (append-nil (spelled_turn turn))
 
+-- one turn more is one more
 pub length_one_more : (turns : List Turn) (turn : Turn) → length (turns ++ turn ∷ []) ≡ length turns + 1
 length_one_more turns turn = omega (arith, length-append turns (turn ∷ []))
 
@@ -85,23 +91,29 @@ module _ {R W H : Type 0} (remaining : R → Option (List ℕ)) (contents : W �
     (p : Progress remaining contents answers over reader reader₁ writer writer₁ old now before count) (below : count < bound) where
   -- one message more was answered
   module _ (exchange : Exchange) (t : HasTurned remaining contents answers over reader₁ reader₂ writer₁ writer₂ now next before after exchange) where
+    -- the turns with this one were read from all that was taken
     all_read : Reads (p.taken ++ t.more) (p.turns ++ t.turn ∷ []) after
     all_read = reads_one_more (p.taken ++ t.more) p.turns t.turn (before ++ t.more) after (reads_more p.taken p.turns before t.more p.reads) t.begins
 
+    -- all of that was taken from the reader
     all_took : Took remaining reader reader₂ (p.taken ++ t.more) false
     all_took = took_both remaining reader reader₁ reader₂ p.taken t.more false p.took t.took
 
+    -- all of them were answered
     all_answered : Answers answers old (p.turns ++ t.turn ∷ []) next
     all_answered = answers_one_more answers old p.turns t.turn now next p.answered t.step
 
+    -- where this reply was written, all were
     all_put : Put contents writer₁ writer₂ (spelled_turn t.turn) false → Put contents writer writer₂ (spelled_turns (p.turns ++ t.turn ∷ [])) false
     all_put w =
         subst (λ bs. Put contents writer writer₂ bs false) (sym (spelled_one_more p.turns t.turn))
         (put_both contents writer writer₁ writer₂ (spelled_turns p.turns) (spelled_turn t.turn) false p.put w)
 
+    -- the count with this one is right
     counted_one_more : count + 1 ≡ length (p.turns ++ t.turn ∷ [])
     counted_one_more = ap (λ n. n + 1) p.count_is ∙ sym (length_one_more p.turns t.turn)
 
+    -- where this is the end, so many messages were served, and it ends so
     served_by : (end : End) → failed_to_read end ≡ false → EndsBy contents writer writer₂ bound (p.turns ++ t.turn ∷ []) after (remaining reader₂.device) (over next) end
         → Serves remaining contents answers over bound reader reader₂ writer writer₂ old next (record { messages = count + 1; end = end })
     served_by end e ends = record {
@@ -116,12 +128,15 @@ module _ {R W H : Type 0} (remaining : R → Option (List ℕ)) (contents : W �
       ends = ends;
     }
 
+    -- where who answers is over, the turns end with that
     ends_over : over next ≡ true → EndOver (p.turns ++ t.turn ∷ []) (over next)
     ends_over e = record { earlier = p.turns; last = t.turn; parts = refl; going = p.going; over_is = e }
 
+    -- where the message is the last, the turns end with it
     ends_with_last : is_last t.turn.head ≡ true → EndWithLast (p.turns ++ t.turn ∷ [])
     ends_with_last e = record { earlier = p.turns; last = t.turn; parts = refl; going = p.going; is_last = e }
 
+    -- where the writer broke off in this reply, it failed in the replies
     failed_in_reply : BrokeOff contents writer₁ writer₂ (spelled_turn t.turn) → FailedInReply contents writer writer₂ (p.turns ++ t.turn ∷ [])
     failed_in_reply o = record {
       earlier = p.turns;
@@ -170,9 +185,11 @@ module _ {R W H : Type 0} (remaining : R → Option (List ℕ)) (contents : W �
 
   -- there is no message
   module _ (same : next ≡ now) where
+    -- fewer messages were answered than the bound
     turns_below : length p.turns < bound
     turns_below = subst (λ n. n < bound) p.count_is below
 
+    -- where there is no more message, those before were served, and it ends so
     missing_by : (end : End) (failed : Bool) → failed_to_read end ≡ failed → HasRead remaining contents answers over reader₁ reader₂ writer₁ writer₂ now next before after failed
         → EndsBy contents writer writer₂ bound p.turns after (remaining reader₂.device) (over next) end
         → Serves remaining contents answers over bound reader reader₂ writer writer₂ old next (record { messages = count; end = end })
@@ -188,12 +205,15 @@ module _ {R W H : Type 0} (remaining : R → Option (List ℕ)) (contents : W �
       ends = ends;
     }
 
+    -- where nothing more was written, the replies are written still
     still_put : writer₂ ≡ writer₁ → Put contents writer writer₂ (spelled_turns p.turns) false
     still_put w = subst (λ v. Put contents writer v (spelled_turns p.turns) false) (sym w) p.put
 
+    -- bytes that begin no message are refused within the bound
     refused : (broken : Broken) → 0 < length after → FailsHere after (remaining reader₂.device) broken → IsRefused bound p.turns after (remaining reader₂.device) broken
     refused broken some fails = record { going = p.going; below = turns_below; some = some; fails = fails }
 
+    -- where no message is there, serving ends so
     pub ends_missing : (end : End) → IsMissing remaining contents answers over reader₁ reader₂ writer₁ writer₂ now next before after end
         → Serves remaining contents answers over bound reader reader₂ writer writer₂ old next (record { messages = count; end = end })
     ends_missing Closed m = missing_by Closed false refl m.0 (inl (p.going, turns_below, m.1, m.2), still_put m.3)

@@ -19,10 +19,12 @@ use Rattle.fax_http.proofs.DivisionLemmas.{some_head}
 abbrev least : RequestHead
 least = record { blank = []; method = codes "G"; target = codes "/"; minor = 1; line_end = crlf; fields = []; last = crlf }
 
+-- the method of the least head is a token
 least_method : AllPass is_token_byte (codes "G")
 unfolding is_token_byte
 least_method = AllPass-from_list_all is_token_byte (codes "G") refl
 
+-- the least head is one
 least_is : IsRequestHead least
 unfolding lib.Utf8.encode
 least_is = record {
@@ -33,16 +35,20 @@ least_is = record {
   fields = λ k d h. absurd (omega (arith, h));
 }
 
+-- it has 16 bytes
 least_size : length (print_request least) ≡ 16
 unfolding print_request
 least_size = refl
 
+-- with no body it is a message
 least_message : IsMessage least []
 least_message = record { is_head = record { grammar = least_is; bytes = omega (arith, least_size); fields = omega arith }; frames = refl }
 
+-- no bytes at all aren't bad whatever follows: a message may
 none_stays : ¬ (StaysBad [])
 none_stays bad = (bad (print_request least ++ ([] ++ []))).none least [] [] (record { message = least_message; bytes = refl })
 
+-- bytes that aren't none are some
 some_bytes : (input : List ℕ) → ¬ (input ≡ []) → 0 < length input
 some_bytes [] n = absurd (n refl)
 some_bytes (x ∷ xs) n = omega arith
@@ -57,12 +63,14 @@ behind_front input front rest e =
 
 module _ {H : Type 0} (answers : Answering H) (over : H → Bool) (old new : H) (before after : List ℕ) where
   module _ (message : Message) (rest : List ℕ) (holds : HoldsMessage before message rest) (left : after ≡ drop (length before - length rest) before) where
+    -- the message begins the bytes, and the rest is left
     begins : BeginsWith before holds.head message.body.now after
     begins =
         let front = print_request holds.head ++ message.body.now in
         let cut : before ≡ front ++ rest = holds.begins.bytes ∙ sym (append_assoc (print_request holds.head) message.body.now rest) in
         subst (λ v. BeginsWith before holds.head message.body.now v) (sym (left ∙ behind_front before front rest cut)) holds.begins
 
+    -- what is handed over of the message is what the front of the bytes comes to
     answered_by : (found : Found) → HandsOver answers over old new holds.head message.body.now found → Finds answers over old new before after found
     answered_by (Answered bytes) (reply, step, spelled, going, on) = (
       record { turn = record { head = holds.head; body = message.body.now; reply = reply }; begins = begins; step = step; spelled = spelled },

@@ -13,6 +13,7 @@ use Rattle.fax_http.specs.Message.{IsBad, IsTooLarge}
 use Rattle.fax_http.specs.Serving.{Answering, EndsBy, FailsHere, failed_to_read}
 use Rattle.fax_http.proofs.ServingLemmas.{reads_more}
 
+-- a message that is too large is so whatever follows
 too_large_more : (input more : List ℕ) → IsTooLarge input → IsTooLarge (input ++ more)
 too_large_more input more t = record {
   head = t.head;
@@ -28,12 +29,14 @@ fails_whole rest left BadHttp (inl stays) = stays left
 fails_whole rest left BadHttp (inr (bad, none)) = subst IsBad (sym (ap (λ l. rest ++ l) none ∙ append-nil rest)) bad
 fails_whole rest left TooLarge t = too_large_more rest left t
 
+-- where nothing is spelled at the stop, what was written is all
 no_stop : (bytes all : List ℕ) (before after : Option (List ℕ)) → all ≡ bytes → Appends before after bytes → Appends before after (all ++ [])
 no_stop bytes all before after e a = subst (λ v. Appends before after v) (sym (append-nil all ∙ e)) a
 
 module _ {R W H : Type 0} (remaining : R → Option (List ℕ)) (contents : W → Option (List ℕ)) (answers : Answering H) (over : H → Bool)
     (bound : ℕ) (input left taken : List ℕ) (reader₂ : Watched R) (writer writer₂ : Watched W) (turns : List Turn) (rest : List ℕ)
     (reads : Reads taken turns rest) (within : length turns ≤ bound) (whole : input ≡ taken ++ left) where
+  -- the turns read of what was taken divide the whole input
   divides_by : (stop : Stop) → StopsBy bound turns (rest ++ left) stop → Divides bound input turns stop
   divides_by stop s = record {
     rest = rest ++ left;
@@ -42,6 +45,7 @@ module _ {R W H : Type 0} (remaining : R → Option (List ℕ)) (contents : W �
     stops = s;
   }
 
+  -- where neither side failed and there was memory, the whole input was served
   whole_by : (end : End) → EndsBy contents writer writer₂ bound turns rest (Some left) false end → failed_to_read end ≡ false → writer₂.failed ≡ false → ¬ (end ≡ NoMemory)
       → ServesWhole bound input (contents writer.device) (contents writer₂.device) turns end
   whole_by Closed (inl (going, below, none, at_end), put) r w m = record {
@@ -80,6 +84,7 @@ split_input : (input taken : List ℕ) (after : Option (List ℕ)) → Consumes 
 split_input input taken None c = absurd c
 split_input input taken (Some left) c = (left, refl, c)
 
+-- so it is of each input
 pub serves_whole_inputs : {R W H : Type 0} (remaining : R → Option (List ℕ)) (contents : W → Option (List ℕ)) (answers : Answering H) (over : H → Bool) → ServesWholeInputs remaining contents answers over
 serves_whole_inputs remaining contents answers over bound input reader reader₂ writer writer₂ old new served s known r w on m =
     let parts = split_input input s.taken (remaining reader₂.device) (subst (λ k. Consumes k (remaining reader₂.device) s.taken) known s.took.consumed) in
