@@ -24,24 +24,30 @@ use Rattle.fax_net.proofs.LinkLemmas.{due_parts, held, holds, quiet}
 
 -- where nothing was refused, all that is owed are the replies
 module _ (t : Talk) (none : t.refused ≡ None) where
+  -- all that is owed are the replies
   owed_replies : owed t ≡ spelled_turns t.turns
   owed_replies = ap (λ r. spelled_turns t.turns ++ refusal r) none ∙ append-nil (spelled_turns t.turns)
 
+  -- an answer adds its reply to what is owed
   pub owed_more : (turn : Turn) (over : Bool) → owed (acted (Answered turn over) t) ≡ owed t ++ spelled_turn turn
   owed_more turn over =
       ap (λ r. spelled_turns (t.turns ++ turn ∷ []) ++ refusal r) none ∙ append-nil (spelled_turns (t.turns ++ turn ∷ []))
       ∙ spelled_one_more t.turns turn ∙ ap (λ v. v ++ spelled_turn turn) (sym owed_replies)
 
+  -- a refusal adds its bytes
   pub owed_refused : (broken : Broken) → owed (acted (Refused broken) t) ≡ owed t ++ failure_of broken
   owed_refused broken = ap (λ v. v ++ failure_of broken) (sym owed_replies)
 
+-- where nothing is pending, all that is owed was taken
 paid_by : (t : Talk) (pending : List ℕ) → owed t ≡ t.took ++ pending → pending ≡ [] → owed t ≡ t.took
 paid_by t pending owes none = owes ∙ ap (λ v. t.took ++ v) none ∙ append-nil t.took
 
+-- bytes that aren't none are some
 some_bytes : (input : List ℕ) → ¬ (input ≡ []) → 0 < length input
 some_bytes [] n = absurd (n refl)
 some_bytes (x ∷ xs) n = omega arith
 
+-- bytes that never begin a message begin none here
 fails_in : (t : Talk) (rest : List ℕ) (broken : Broken) → NeverBegins rest broken → FailsIn t rest broken
 fails_in t rest BadHttp never = inl never
 fails_in t rest TooLarge never = never
@@ -50,6 +56,7 @@ fails_in t rest TooLarge never = never
 
 module _ {H : Type 0} (answers : Answering H) (over : H → Bool) (h h₂ : H) (link link₂ : Link) (t : Talk) (bytes : List ℕ)
     (g : IsGoing t link) (none : link.pending ≡ []) (it : HasTurned answers over h h₂ link.said link₂.said bytes) where
+  -- the turn is the next one, with all that was owed taken
   next_is : t.replies ≡ 0 → IsNext t it.turn
   next_is fresh = record {
     rest = link.said;
@@ -60,14 +67,17 @@ module _ {H : Type 0} (answers : Answering H) (over : H → Bool) (h h₂ : H) (
     first = fresh;
   }
 
+  -- what is owed then was taken or is the reply
   owes_now : link₂.pending ≡ bytes → owed (acted (Answered it.turn (over h₂)) t) ≡ t.took ++ link₂.pending
   owes_now is =
       owed_more t g.goes_on.unrefused it.turn (over h₂) ∙ ap (λ v. v ++ spelled_turn it.turn) (paid_by t link.pending g.owes none)
       ∙ ap (λ v. t.took ++ v) (sym (is ∙ it.spelled))
 
+  -- the turns are counted with this one
   counted_now : link₂.messages ≡ link.messages + 1 → length (t.turns ++ it.turn ∷ []) ≡ link₂.messages
   counted_now more = omega (arith, more, g.counted, length_one_more t.turns it.turn)
 
+  -- where another message may follow, what is kept is what became of the connection
   answered_holds : is_last it.turn.head ≡ false → link.is_awaited ≡ false → Keeps (found.Answered bytes) link link₂ true → Holds (acted (Answered it.turn (over h₂)) t) link₂
   answered_holds going unseen (has, is, more, same, ends) = elim ends [
     | inl (going_on, under) ↦ held (acted (Answered it.turn (over h₂)) t) link₂ Open going_on (record {
@@ -92,6 +102,7 @@ module _ {H : Type 0} (answers : Answering H) (over : H → Bool) (h h₂ : H) (
       few : link.messages < 1000
       few = omega (arith, g.goes_on.below, g.counted)
 
+  -- where none may follow, it is too
   last_holds : (is_last it.turn.head ≡ true) ⊎ (over h₂ ≡ true) → Keeps (found.Last bytes) link link₂ true → Holds (acted (Answered it.turn (over h₂)) t) link₂
   last_holds why (has, is, ending) = held (acted (Answered it.turn (over h₂)) t) link₂ Ending ending (record {
     is_open = g.is_open;
@@ -117,6 +128,7 @@ refused_holds link link₂ t broken g none ending is = held (acted (Refused brok
 module _ {P H : Type 0} (did : P → Step → P → Type 0) (answers : Answering H) (over : H → Bool) (place : ℕ) (below : place < 64) (start : P) (first : H) (earlier : List Step)
     (p : P) (h : H) (runs : Runs did answers over start first earlier p h) (link : Link) (kept : Holds (talk place earlier) link) where
   module _ (h₂ : H) (link₂ : Link) (on₁ : over h ≡ false) where
+    -- what was found and kept of it goes on the history
     found_goes : (f : Found) (moved : Bool) → is_due link ≡ true → (talk place earlier).replies ≡ 0 → Finds answers over h h₂ link.said link₂.said f → Keeps f link link₂ moved
         → GoesFrom did answers over place p h₂ link₂ 0 0 moved (λ t. ⊤) start first earlier
     found_goes (found.Answered bytes) moved due fresh (it, going, on) keeps =
@@ -151,6 +163,7 @@ module _ {P H : Type 0} (did : P → Step → P → Type 0) (answers : Answering
           awaited = λ has. subst IsUnfinished (sym stays.same_bytes) unfinished;
         })) keeps.0 tt)
 
+    -- the same whether a message was due or not
     pub goes_answered : (moved : Bool) → (talk place earlier).replies ≡ 0 → HasAnswered answers over h h₂ link link₂ moved
         → GoesFrom did answers over place p h₂ link₂ 0 0 moved (λ t. ⊤) start first earlier
     goes_answered moved fresh (inr (due, f, finds, keeps)) = found_goes f moved due fresh finds keeps
@@ -159,10 +172,12 @@ module _ {P H : Type 0} (did : P → Step → P → Type 0) (answers : Answering
         (goes_still did answers over place below start first earlier p h runs link₂ 0 moved (λ t. ⊤) (subst (λ l. Holds (talk place earlier) l) (sym still) kept) unmoved tt)
 
   module _ (link₂ : Link) (moved : Bool) where
+    -- where nothing changed, the history is as it was
     same_goes : link₂ ≡ link → moved ≡ false → GoesFrom did answers over place p h link₂ 0 0 moved (λ t. ⊤) start first earlier
     same_goes still unmoved =
         goes_still did answers over place below start first earlier p h runs link₂ 0 moved (λ t. ⊤) (subst (λ l. Holds (talk place earlier) l) (sym still) kept) unmoved tt
 
+    -- what is kept of an end goes on the history
     ended_goes : (s : Stage) → link.stage ≡ s → EndsAt s link link₂ moved → GoesFrom did answers over place p h link₂ 0 0 moved (λ t. ⊤) start first earlier
     ended_goes Free is (unmoved, still) = same_goes still unmoved
     ended_goes Open is (unmoved, still) = same_goes still unmoved
@@ -183,15 +198,18 @@ module _ {P H : Type 0} (did : P → Step → P → Type 0) (answers : Answering
         (record { rest = link.said; goes_on = s.going.goes_on; some = some_bytes link.said some; fails = inr (s.part.none, s.ended) })
         (refused_holds link link₂ (talk place earlier) BadHttp s.going s.nothing owes.stage_is owes.pending) refl has tt
 
+    -- the same at the connection's own stage
     pub goes_ended : HasEnded link link₂ moved → GoesFrom did answers over place p h link₂ 0 0 moved (λ t. ⊤) start first earlier
     goes_ended ends = ended_goes link.stage refl ends
 
 -- ---- all that is done for a connection at its turn
 
+-- where neither of two is, both aren't
 neither : (a b : Bool) → (a || b) ≡ false → (a ≡ false) × (b ≡ false)
 neither true b e = absurd cc
 neither false b e = (refl, e)
 
+-- where more is awaited, no message is due
 awaited_not_due : (link : Link) → link.is_awaited ≡ true → is_due link ≡ false
 awaited_not_due link e = by (is_due link) refl
   where
@@ -199,6 +217,7 @@ awaited_not_due link e = by (is_due link) refl
     by true is = absurd (let never = sym (due_parts link is).2 ∙ e in cc)
     by false is = is
 
+-- where nothing more is answered, no message is due
 ending_not_due : (link : Link) → link.stage ≡ Ending → is_due link ≡ false
 ending_not_due link e = by (is_due link) refl
   where
@@ -233,6 +252,7 @@ module _ {P H : Type 0} (did : P → Step → P → Type 0) (answers : Answering
     (answered : HasAnswered answers over h h₂ l₀ l₁ a) (refused : HasEnded l₁ l₂ r) (written : w ≡ false → l₃ ≡ l₂) (left : e ≡ false → l₄ ≡ l₃)
     (gone : e ≡ false → is_done l₃ ≡ false) (read : d ≡ false → l₅ ≡ l₄)
     (g : GoesFrom did answers over place p h₂ l₅ 0 0 ((((a || r) || w) || e) || d) (λ t. d ≡ false → awaits l₄ ≡ true → t.is_dry ≡ true) start first earlier) where
+  -- where nothing moved, there is nothing to do for the connection
   quietly : ((((a || r) || w) || e) || d) ≡ false → IsQuiet (talk place g.later)
   quietly none =
       let four = neither (((a || r) || w) || e) d none in
@@ -245,10 +265,12 @@ module _ {P H : Type 0} (did : P → Step → P → Type 0) (answers : Answering
       quiet (talk place g.later) l₅ g.holds (λ is. settled.0 (sym (ap (λ l. l.stage) as_ended) ∙ is)) (ap is_due as_ended ∙ settled.1)
       (ap is_done as_left ∙ gone three.1) (λ waits. g.also four.1 (sym (ap awaits (read four.1)) ∙ waits))
 
+  -- something moved there, or there is nothing to do
   attended_by : (m : Bool) → ((((a || r) || w) || e) || d) ≡ m → IsAttended m (talk place g.later)
   attended_by true is = inl (refl, g.has_moved is)
   attended_by false is = inr (quietly is)
 
+  -- the history goes on so
   pub attended : GoesFrom did answers over place p h₂ l₅ 0 0 ((((a || r) || w) || e) || d) (IsAttended ((((a || r) || w) || e) || d)) start first earlier
   attended = record {
     later = g.later;
@@ -264,6 +286,7 @@ module _ {P H : Type 0} (did : P → Step → P → Type 0) (answers : Answering
 
 -- ---- a free place
 
+-- what is kept of a connection that came is what became of it
 admitted_holds : (t : Talk) (link₂ : Link) → IsUnused link₂ Open → Holds (acted Came t) link₂
 admitted_holds t link₂ unused = held (acted Came t) link₂ Open unused.stage_is (record {
   is_open = refl;
@@ -276,9 +299,11 @@ admitted_holds t link₂ unused = held (acted Came t) link₂ Open unused.stage_
 module _ {P H : Type 0} (did : P → Step → P → Type 0) (answers : Answering H) (over : H → Bool) (place : ℕ) (below : place < 64) (start : P) (first : H) (earlier : List Step)
     (p p₂ : P) (h : H) (runs : Runs did answers over start first earlier p h) (link link₂ : Link) (free : link.stage ≡ Free) (kept : Holds (talk place earlier) link)
     (left left₂ : ℕ) (moved : Bool) where
+  -- nobody is there yet
   closed : (talk place earlier).is_open ≡ false
   closed = holds (talk place earlier) link Free free kept
 
+  -- whoever came or didn't goes on the history
   pub admitted : Admits did place p p₂ link link₂ left left₂ moved → GoesFrom did answers over place p₂ h link₂ left left₂ moved (IsAttended moved) start first earlier
   admitted (inl (happens, unused, one, has)) =
       goes_by did answers over place below start first earlier Came p₂ h link₂ left left₂ moved (IsAttended moved) runs.right (p, runs.happens, happens) runs.answered closed

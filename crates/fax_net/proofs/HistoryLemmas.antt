@@ -12,14 +12,17 @@ use Rattle.fax_net.proofs.ListLemmas.{unlike}
 
 -- ---- what an act tells of its place and of others
 
+-- an act at a place changes what became of the connection there
 pub talk_here : (place : ℕ) (act : Act) (earlier : List Step) → talk place (At place act ∷ earlier) ≡ acted act (talk place earlier)
 talk_here place act earlier =
     ap (λ (b : Bool). if b then acted act (talk place earlier) else talk place earlier) (eq-eqb place place refl)
 
+-- and of no other
 pub talk_there : (place k : ℕ) (act : Act) (earlier : List Step) → ¬ (place ≡ k) → talk k (At place act ∷ earlier) ≡ talk k earlier
 talk_there place k act earlier n =
     ap (λ (b : Bool). if b then acted act (talk k earlier) else talk k earlier) (unlike place k n)
 
+-- what moved has moved after another act
 pub still_moved : (act : Act) (t : Talk) → t.is_moved ≡ true → (acted act t).is_moved ≡ true
 still_moved Came t e = refl
 still_moved (Said bytes) t e = refl
@@ -32,6 +35,7 @@ still_moved Left t e = refl
 still_moved (Answered turn is_over) t e = refl
 still_moved (Refused broken) t e = refl
 
+-- an act that moves something has moved it
 pub has_moved : (act : Act) (t : Talk) → moves act ≡ true → (acted act t).is_moved ≡ true
 has_moved Came t e = refl
 has_moved (Said bytes) t e = refl
@@ -47,6 +51,7 @@ has_moved (Refused broken) t e = refl
 -- ---- deeds
 
 module _ {P : Type 0} (did : P → Step → P → Type 0) (start p p₂ : P) (earlier : List Step) (place : ℕ) where
+  -- a deed happens behind the others
   pub happens_deed : (act : Act) → is_deed act ≡ true → Happens did start earlier p → did p (At place act) p₂ → Happens did start (At place act ∷ earlier) p₂
   happens_deed Came e h d = (p, h, d)
   happens_deed (Said bytes) e h d = (p, h, d)
@@ -59,6 +64,7 @@ module _ {P : Type 0} (did : P → Step → P → Type 0) (start p p₂ : P) (ea
   happens_deed (Answered turn is_over) e h d = absurd cc
   happens_deed (Refused broken) e h d = absurd cc
 
+-- a deed answers nothing
 pub answered_deed : {H : Type 0} (answers : Answering H) (over : H → Bool) (first h : H) (earlier : List Step) (place : ℕ) (act : Act) → is_deed act ≡ true
     → AreAnswered answers over first earlier h → AreAnswered answers over first (At place act ∷ earlier) h
 answered_deed answers over first h earlier place Came e a = a
@@ -72,6 +78,7 @@ answered_deed answers over first h earlier place Left e a = a
 answered_deed answers over first h earlier place (Answered turn is_over) e a = absurd cc
 answered_deed answers over first h earlier place (Refused broken) e a = absurd cc
 
+-- by a deed nobody comes
 pub comings_deed : (earlier : List Step) (place : ℕ) (act : Act) → is_deed act ≡ true → comings (At place act ∷ earlier) ≡ comings earlier
 comings_deed earlier place Came e = absurd cc
 comings_deed earlier place (Said bytes) e = refl
@@ -130,6 +137,7 @@ module _ {P H : Type 0} (did : P → Step → P → Type 0) (answers : Answering
         (answered_deed answers over first h earlier place act acts.is_deed runs.answered) fits.0 fits.1
         (ap (λ n. n + 0) (comings_deed earlier place act acts.is_deed)) acts.moved_is wanted
 
+    -- a deed, or nothing
     pub goes_does : (p₂ : P) (link link₂ : Link) (moved : Bool) → Does did place p p₂ link link₂ moved → Holds (talk place earlier) link
         → GoesFrom did answers over place p₂ h link₂ 0 0 moved (λ t. ⊤) start first earlier
     goes_does p₂ link link₂ moved (inl (act, acts)) holds = goes_deed p₂ link link₂ act moved (λ t. ⊤) acts holds tt
@@ -137,6 +145,7 @@ module _ {P H : Type 0} (did : P → Step → P → Type 0) (answers : Answering
         subst (λ v. GoesFrom did answers over place v h link₂ 0 0 moved (λ t. ⊤) start first earlier) (sym same)
         (goes_still link₂ 0 moved (λ t. ⊤) (subst (λ l. Holds (talk place earlier) l) (sym still) holds) unmoved tt)
 
+    -- the same of a read, after which nothing more was said where nothing moved
     pub goes_takes : (p₂ : P) (link link₂ : Link) (moved : Bool) → TakesIn did place p p₂ link link₂ moved → Holds (talk place earlier) link
         → GoesFrom did answers over place p₂ h link₂ 0 0 moved (λ t. moved ≡ false → awaits link ≡ true → t.is_dry ≡ true) start first earlier
     goes_takes p₂ link link₂ moved (inl (act, acts, dry)) holds =
@@ -149,12 +158,14 @@ module _ {P H : Type 0} (did : P → Step → P → Type 0) (answers : Answering
 
 -- ---- one after the other
 
+-- where one of two is, either is
 either : (a b : Bool) → (a || b) ≡ true → (a ≡ true) ⊎ (b ≡ true)
 either true b e = inl refl
 either false b e = inr e
 
 module _ {P H : Type 0} (did : P → Step → P → Type 0) (answers : Answering H) (over : H → Bool) (place : ℕ) (start : P) (first : H) (earlier : List Step)
     (p₁ p₂ : P) (h₁ h₂ : H) (link₁ link₂ : Link) (moved₁ moved₂ : Bool) (Wanted₁ Wanted₂ : Talk → Type 0) where
+  -- what goes on at one place and then again goes on
   pub goes_both : (g : GoesFrom did answers over place p₁ h₁ link₁ 0 0 moved₁ Wanted₁ start first earlier)
       → GoesFrom did answers over place p₂ h₂ link₂ 0 0 moved₂ Wanted₂ start first g.later
       → GoesFrom did answers over place p₂ h₂ link₂ 0 0 (moved₁ || moved₂) Wanted₂ start first earlier

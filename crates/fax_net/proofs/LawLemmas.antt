@@ -61,6 +61,7 @@ step_own other place act earlier fits own = by (nat_eq other place) refl
         (acted_own act (talk place earlier) (subst (λ k. Fits act (talk k earlier)) (eqb-true other place e) fits) own)
     by false e = subst (λ (v : Bool). IsItsOwn (if v then acted act (talk place earlier) else talk place earlier)) (sym e) own
 
+-- what each connection gets is its own, at each place of a history that fits
 pub each_its_own : EachItsOwn
 each_its_own [] place right = record { rest = []; reads = refl; going = inl refl; within = omega arith; left = []; owes = refl }
 each_its_own (At other act ∷ earlier) place (right, below, fits) = step_own other place act earlier fits (each_its_own earlier place right)

@@ -11,35 +11,41 @@ use Rattle.fax_net.specs.declared.link.Stage.{Stage}
 use Rattle.fax_net.specs.declared.link.Stage.TheVariants.{Free, Open, Ended, Ending}
 use Rattle.fax_net.proofs.ListLemmas.{both, none_is, not_true, some_is}
 
+-- a stage that tests as open is open
 open_is : (s : Stage) → is_open s ≡ true → s ≡ Open
 open_is Free e = absurd cc
 open_is Open e = refl
 open_is Ended e = absurd cc
 open_is Ending e = absurd cc
 
+-- a stage that tests as ending is ending
 ending_is : (s : Stage) → is_ending s ≡ true → s ≡ Ending
 ending_is Free e = absurd cc
 ending_is Open e = absurd cc
 ending_is Ended e = absurd cc
 ending_is Ending e = refl
 
+-- where a message is due, the link is open, owes nothing and awaits nothing
 pub due_parts : (link : Link) → is_due link ≡ true → (link.stage ≡ Open) × (link.pending ≡ []) × (link.is_awaited ≡ false)
 due_parts link e =
     let outer = both (is_open link.stage && is_none link.pending) (not link.is_awaited) e in
     let inner = both (is_open link.stage) (is_none link.pending) outer.0 in
     (open_is link.stage inner.0, none_is link.pending inner.1, not_true link.is_awaited outer.1)
 
+-- where more is awaited, the link is open and owes nothing
 pub awaits_parts : (link : Link) → awaits link ≡ true → (link.stage ≡ Open) × (link.pending ≡ []) × (link.is_awaited ≡ true)
 awaits_parts link e =
     let outer = both (is_open link.stage && is_none link.pending) link.is_awaited e in
     let inner = both (is_open link.stage) (is_none link.pending) outer.0 in
     (open_is link.stage inner.0, none_is link.pending inner.1, outer.1)
 
+-- where all is done, the link is ending and owes nothing
 pub done_parts : (link : Link) → is_done link ≡ true → (link.stage ≡ Ending) × (link.pending ≡ [])
 done_parts link e =
     let parts = both (is_ending link.stage) (is_none link.pending) e in
     (ending_is link.stage parts.0, none_is link.pending parts.1)
 
+-- where something is owed, the link is taken and something is pending
 pub owing_parts : (link : Link) → is_owing link ≡ true → (is_taken link.stage ≡ true) × (is_none link.pending ≡ false)
 owing_parts link e =
     let parts = both (is_taken link.stage) (not (is_none link.pending)) e in
@@ -49,6 +55,7 @@ owing_parts link e =
 pub held : (t : Talk) (link : Link) (s : Stage) → link.stage ≡ s → HoldsAt s t link → Holds t link
 held t link s e h = subst (λ v. HoldsAt v t link) (sym e) h
 
+-- and what became of it is kept at its stage
 pub holds : (t : Talk) (link : Link) (s : Stage) → link.stage ≡ s → Holds t link → HoldsAt s t link
 holds t link s e h = subst (λ v. HoldsAt v t link) e h
 
@@ -87,12 +94,15 @@ done_still t bytes (inr (inr other)) = inr (inr other)
 
 -- bytes that stand next were written
 module _ (t : Talk) (pending pending₂ : List ℕ) (n : ℕ) (rest : pending₂ ≡ drop n pending) (owes : owed t ≡ t.took ++ pending) where
+  -- what is pending is owed, in two parts
   pub owes_front : owed t ≡ t.took ++ (take n pending ++ drop n pending)
   owes_front = owes ∙ ap (λ v. t.took ++ v) (sym (take-append-drop n pending))
 
+  -- with its front taken, its rest is owed
   pub owes_behind : owed t ≡ (t.took ++ take n pending) ++ pending₂
   owes_behind = owes_front ∙ sym (append_assoc t.took (take n pending) (drop n pending)) ∙ ap (λ v. (t.took ++ take n pending) ++ v) (sym rest)
 
+-- bytes that were written fit, and the rest is kept
 pub took_fits : (link : Link) (n : ℕ) (pending₂ : List ℕ) → pending₂ ≡ drop n link.pending → is_owing link ≡ true → (t : Talk) → Holds t link
     → Fits (Took (take n link.pending)) t × Holds (acted (Took (take n link.pending)) t) (record link { pending = pending₂ })
 took_fits link n pending₂ e o t h = by link.stage refl

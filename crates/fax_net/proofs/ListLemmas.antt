@@ -3,6 +3,7 @@ use Rattle.std.proofs.Common.{◌≡◌, ℕ, ◌<◌, Bool, true, false, not, �
 use Rattle.std.proofs.lemmas.Bool.{eqb-true}
 use Rattle.fax_net.specs.Lists.{is_none}
 
+-- numbers that differ don't test as equal
 pub unlike : (a b : ℕ) → ¬ (a ≡ b) → nat_eq a b ≡ false
 unlike a b n = by (nat_eq a b) refl
   where
@@ -10,10 +11,12 @@ unlike a b n = by (nat_eq a b) refl
     by true e = absurd (n (eqb-true a b e))
     by false e = e
 
+-- bytes that test as none are none
 pub none_is : (xs : List ℕ) → is_none xs ≡ true → xs ≡ []
 none_is [] e = refl
 none_is (x ∷ xs) e = absurd cc
 
+-- and others are some
 pub some_is : (xs : List ℕ) → is_none xs ≡ false → 0 < length xs
 some_is [] e = absurd cc
 some_is (x ∷ xs) e = omega arith
@@ -29,11 +32,13 @@ pub some_in_front : (front back all : List ℕ) → front ++ back ≡ all → (l
 some_in_front [] back all e n = absurd cc
 some_in_front (x ∷ xs) back all e n = ap is_none e
 
+-- an and is true only where both are
 pub both : (a b : Bool) → (a && b) ≡ true → (a ≡ true) × (b ≡ true)
 both true true e = (refl, refl)
 both true false e = absurd cc
 both false b e = absurd cc
 
+-- what isn't true is false
 pub not_true : (a : Bool) → not a ≡ true → a ≡ false
 not_true true e = absurd cc
 not_true false e = refl

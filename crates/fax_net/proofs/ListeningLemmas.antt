@@ -10,6 +10,7 @@ use Rattle.fax_net.specs.Many.{ServesMany}
 use Rattle.fax_net.specs.declared.sockets.Sockets.{Sockets}
 
 module _ {H : Type 0} (answers : Answering H) (over : H → Bool) (old : H) where
+  -- the messages of a history were answered one after the other
   pub answers_of : (history : List Step) (new : H) → AreAnswered answers over old history new → Answers answers old (turns_of history) new
   answers_of [] new e = e
   answers_of (At place (Answered turn is_over) ∷ earlier) new (between, a, on, step, is) =
@@ -26,6 +27,7 @@ module _ {H : Type 0} (answers : Answering H) (over : H → Bool) (old : H) wher
   answers_of (Missed ∷ earlier) new a = answers_of earlier new a
   answers_of (Looked is_busy ∷ earlier) new a = answers_of earlier new a
 
+  -- where who answers isn't over in the end, it never was
   never_over : (history : List Step) (new : H) → AreAnswered answers over old history new → over new ≡ false → IsNeverOver history
   never_over [] new e none = tt
   never_over (At place (Answered turn is_over) ∷ earlier) new (between, a, on, step, is) none = (is ∙ none, never_over earlier between a on)
@@ -41,6 +43,7 @@ module _ {H : Type 0} (answers : Answering H) (over : H → Bool) (old : H) wher
   never_over (Missed ∷ earlier) new a none = never_over earlier new a none
   never_over (Looked is_busy ∷ earlier) new a none = never_over earlier new a none
 
+  -- who answers was over at the last message at most
   over_at_last : (history : List Step) (new : H) → AreAnswered answers over old history new → IsOverAtLast history (over new)
   over_at_last [] new e = tt
   over_at_last (At place (Answered turn is_over) ∷ earlier) new (between, a, on, step, is) = (is, never_over earlier between a on)

@@ -13,16 +13,19 @@ use Rattle.fax_net.proofs.LinkLemmas.{held, holds}
 
 -- ---- a round
 
+-- a place that was attended to is so after others
 attended_or : (a b : Bool) (t : Talk) → IsAttended a t → IsAttended (a || b) t
 attended_or true b t at = at
 attended_or false b t (inl (is, moved)) = absurd cc
 attended_or false b t (inr quiet) = inr quiet
 
+-- so is one behind others
 attended_behind : (a b : Bool) (t : Talk) → IsAttended b t → IsAttended (a || b) t
 attended_behind true b t (inl (is, moved)) = inl (refl, moved)
 attended_behind true b t (inr quiet) = inr quiet
 attended_behind false b t at = at
 
+-- two numbers are the same, or not
 same_or : (a b : ℕ) → (a ≡ b) ⊎ ¬ (a ≡ b)
 same_or a b = by (nat_eq a b) refl
   where
@@ -30,6 +33,7 @@ same_or a b = by (nat_eq a b) refl
     by true e = inl (eqb-true a b e)
     by false e = inr (λ is. absurd (let never = sym e ∙ ap (nat_eq a) (sym is) in let again = eq-eqb a a refl in cc))
 
+-- a number below the next that isn't this one is below this one
 below_next : (k place : ℕ) → k < place + 1 → ¬ (place ≡ k) → k < place
 below_next k place under unlike = omega (arith, under, unlike)
 
@@ -58,6 +62,7 @@ module _ {P H : Type 0} (did : P → Step → P → Type 0) (answers : Answering
       (start : P) (first : H) (earlier : List Step) → Runs did answers over start first earlier peers₀ handler₀ → AllHold earlier links₀
       → ((k : ℕ) → (talk k earlier).replies ≡ 0) → RoundTo place peers handler links left₀ left is_busy start first earlier
 
+  -- no place had its turn yet
   pub round_begins : (peers : P) (handler : H) (links : List Link) (left : ℕ) → RoundsTo 0 peers peers handler handler links links left left false
   round_begins peers handler links left start first earlier runs all fresh = record {
     later = earlier;
@@ -70,6 +75,7 @@ module _ {P H : Type 0} (did : P → Step → P → Type 0) (answers : Answering
   }
 
   module _ (place : ℕ) (peers₀ peers peers₂ : P) (handler₀ handler handler₂ : H) (links₀ links : List Link) (link₂ : Link) (left₀ left left₂ : ℕ) (is_busy moved : Bool) (d : Link) where
+    -- one place more had its turn
     pub round_next : RoundsTo place peers₀ peers handler₀ handler links₀ links left₀ left is_busy → place < 64 → length links ≡ 64
         → Moves did answers over place peers peers₂ handler handler₂ (get_or links place d) link₂ left left₂ moved (IsAttended moved)
         → RoundsTo (place + 1) peers₀ peers₂ handler₀ handler₂ links₀ (set links place link₂) left₀ left₂ (is_busy || moved)
@@ -93,11 +99,13 @@ module _ {P H : Type 0} (did : P → Step → P → Type 0) (answers : Answering
 
   module _ (place : ℕ) (peers₀ peers : P) (handler₀ handler : H) (links₀ links : List Link) (left₀ left : ℕ) (is_busy : Bool)
       (far : RoundsTo place peers₀ peers handler₀ handler links₀ links left₀ left is_busy) where
+    -- where who answers is over, the round is
     pub round_over : (busy : Bool) → over handler ≡ true → Rounds did answers over peers₀ peers handler₀ handler links₀ links left₀ left busy
     round_over busy is start first earlier runs all fresh =
         let r = far start first earlier runs all fresh in
         record { later = r.later; runs = r.runs; holds = r.holds; left_is = r.left_is; looks_are = r.looks_are; attended = λ on. absurd (let never = sym is ∙ on in cc) }
 
+    -- where all 64 places had their turn, the round is over
     pub round_ends : 64 ≤ place → Rounds did answers over peers₀ peers handler₀ handler links₀ links left₀ left is_busy
     round_ends all_of start first earlier runs all fresh =
         let r = far start first earlier runs all fresh in
@@ -110,17 +118,21 @@ some_link (link ∷ links) some = link
 
 -- ---- looks
 
+-- a conversation goes on past a look
 goes_looked : (t : Talk) (rest : List ℕ) → GoesOn t rest → GoesOn (looked t) rest
 goes_looked t rest g = record { reads = g.reads; going = g.going; below = g.below; unrefused = g.unrefused }
 
+-- what is kept of it does
 going_looked : (t : Talk) (link : Link) → IsGoing t link → IsGoing (looked t) link
 going_looked t link g = record { is_open = g.is_open; goes_on = goes_looked t link.said g.goes_on; counted = g.counted; owes = g.owes; awaited = g.awaited }
 
+-- what is done is so past a look
 done_looked : (t : Talk) → IsDone t → IsDone (looked t)
 done_looked t (inl refused) = inl refused
 done_looked t (inr (inl (g, ended))) = inr (inl (goes_looked t [] g, ended))
 done_looked t (inr (inr other)) = inr (inr other)
 
+-- what is kept is what became of it past a look
 holds_looked : (t : Talk) (link : Link) → Holds t link → Holds (looked t) link
 holds_looked t link h = by link.stage refl
   where
@@ -144,6 +156,7 @@ module _ {P H : Type 0} (did : P → Step → P → Type 0) (answers : Answering
     pub looks_are : looks history ≡ rounds
     pub attended : over handler₁ ≡ false → (k : ℕ) → k < 64 → IsAttended is_busy (talk k history)
 
+  -- with all places free, nothing was looked at yet
   pub serving_begins : (links : List Link) → ((k : ℕ) (d : Link) → k < length links → (get_or links k d).stage ≡ Free) → Serving peers handler links count true 0
   serving_begins links free = record {
     history = [];
@@ -155,6 +168,7 @@ module _ {P H : Type 0} (did : P → Step → P → Type 0) (answers : Answering
   }
 
   module _ (now : P) (handler₁ : H) (links : List Link) (left : ℕ) (is_busy : Bool) (rounds : ℕ) (s : Serving now handler₁ links left is_busy rounds) where
+    -- a look and a round more
     pub serving_next : (then next : P) (handler₂ : H) (links₂ : List Link) (left₂ : ℕ) (busy : Bool) → over handler₁ ≡ false → did now (Looked is_busy) then
         → Rounds did answers over then next handler₁ handler₂ links links₂ left left₂ busy → Serving next handler₂ links₂ left₂ busy (rounds + 1)
     serving_next then next handler₂ links₂ left₂ busy on looks_now round =
@@ -172,12 +186,15 @@ module _ {P H : Type 0} (did : P → Step → P → Type 0) (answers : Answering
           attended = r.attended;
         }
 
+    -- no more came than were to come
     within_count : comings s.history ≤ count
     within_count = omega (arith, s.left_is)
 
+    -- where who answers is over, the serving is
     pub serves_over : over handler₁ ≡ true → ServesMany did answers over count peers handler now handler₁
     serves_over is = record { history = s.history; runs = s.runs; within = within_count; all = λ on. absurd (let never = sym is ∙ on in cc) }
 
+    -- where all came and all places are free, all were served
     pub serves_all : left ≡ 0 → length links ≡ 64 → ((k : ℕ) (d : Link) → k < length links → (get_or links k d).stage ≡ Free)
         → ServesMany did answers over count peers handler now handler₁
     serves_all none size free = record {
@@ -193,5 +210,6 @@ module _ {P H : Type 0} (did : P → Step → P → Type 0) (answers : Answering
       );
     }
 
+    -- where it looked 2 ^ 64 - 1 times, the serving is over
     pub serves_long : 2 ^ 64 - 1 ≤ rounds → ServesMany did answers over count peers handler now handler₁
     serves_long long = record { history = s.history; runs = s.runs; within = within_count; all = λ on below. absurd (omega (arith, long, below, s.looks_are)) }

@@ -20,6 +20,7 @@ module _ {W : Type 0} (contents : W → Option (List ℕ)) (out out₂ : Watched
   fault_of : (fault : SendFault) → GivesBy (λ (text : Vec ℕ Global). text.items) is_no_memory (Err fault) (request_of plan moment) → is_no_memory fault ≡ false → Makes plan (Err fault)
   fault_of fault given other = (moment, at, subst (λ b. MatchBool b ⊤ (request_of plan moment ≡ Err fault)) other given)
 
+  -- what is told of a request is what its plan prints
   pub prints_of : (made : Result (Vec ℕ Global) SendFault) → GivesBy (λ text. text.items) is_no_memory made (request_of plan moment)
       → (status : Status) → Tells contents out out₂ made status → Prints contents out out₂ plan status
   prints_of (Ok text) given Success told = (text.items, (moment, at, given), told)
@@ -29,6 +30,7 @@ module _ {W : Type 0} (contents : W → Option (List ℕ)) (out out₂ : Watched
   prints_of (Err fault) given Fault told = inl told.0
   prints_of (Err fault) given Usage told = (told.0, fault, fault_of fault given told.1)
 
+  -- what is told of the reply to a request is what its plan comes to
   sent : (text : Vec ℕ Global) → request_of plan moment ≡ Ok text.items → (reply : Result Answer AnswerFault)
       → (status : Status) → Replies contents out out₂ reply status → Sends contents out out₂ plan status
   sent text given (Ok answer) Success replied = (text.items, (moment, at, given), answer, replied)
@@ -38,11 +40,13 @@ module _ {W : Type 0} (contents : W → Option (List ℕ)) (out out₂ : Watched
   sent text given (Err fault) Fault same = inl same
   sent text given (Err fault) Usage replied = absurd replied
 
+  -- what is told of a request that can't be made is what its plan comes to
   refused_of : (fault : SendFault) → GivesBy (λ (text : Vec ℕ Global). text.items) is_no_memory (Err fault) (request_of plan moment) → out₂ ≡ out
       → (b : Bool) → is_no_memory fault ≡ b → Sends contents out out₂ plan (if b then Fault else Usage)
   refused_of fault given same true is = inl same
   refused_of fault given same false is = (same, fault, fault_of fault given is)
 
+  -- the same whether it can be made or not
   pub sends_of : (made : Result (Vec ℕ Global) SendFault) → GivesBy (λ text. text.items) is_no_memory made (request_of plan moment)
       → (status : Status) → Handed contents out out₂ made status → Sends contents out out₂ plan status
   sends_of (Ok text) given status (reply, replied) = sent text given reply status replied
