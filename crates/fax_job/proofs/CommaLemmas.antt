@@ -5,9 +5,11 @@ use Rattle.std.proofs.lemmas.List.{take_rest}
 use Rattle.std.proofs.lemmas.List.Splits.{slice_split-cons_no, slice_split_first}
 use Rattle.std.specs.List.{slice_split, onto_first, position_or_len}
 
+-- where the first byte passes, the place of the first that does isn't the length
 whole_yes : (p : ℕ → Bool) (x : ℕ) (xs : List ℕ) → p x ≡ true → length (x ∷ xs) ≤ position_or_len p (x ∷ xs) → ⊥
 whole_yes p x xs passes h = let at : position_or_len p (x ∷ xs) ≡ 0 = rw passes refl in omega arith
 
+-- where it doesn't, the place is behind it
 whole_no : (p : ℕ → Bool) (x : ℕ) (xs : List ℕ) → p x ≡ false → length (x ∷ xs) ≤ position_or_len p (x ∷ xs) → length xs ≤ position_or_len p xs
 whole_no p x xs fails h = let at : position_or_len p (x ∷ xs) ≡ 1 + position_or_len p xs = rw fails refl in omega arith
 

@@ -7,10 +7,12 @@ use Rattle.fax_job.specs.declared.text_fault.TextFault.TheVariants as text_fault
 use Rattle.fax_job.specs.declared.order.OrderFault.{OrderFault}
 use Rattle.fax_job.specs.declared.order.OrderFault.TheVariants as order_fault
 
+-- a fault of a text that counts as want of memory is just that
 pub memory_of_text : (fault : TextFault) → text.is_no_memory fault ≡ true → fault ≡ text_fault.NoMemory
 memory_of_text text_fault.NoMemory h = refl
 memory_of_text text_fault.Bad h = cc
 
+-- so is one of an order
 pub memory_of_order : (fault : OrderFault) → order.is_no_memory fault ≡ true → fault ≡ order_fault.NoMemory
 memory_of_order order_fault.NoMemory h = refl
 memory_of_order order_fault.NoNumber h = cc

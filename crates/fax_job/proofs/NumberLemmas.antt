@@ -12,16 +12,19 @@ use Rattle.std.specs.Int.{IsInRange}
 use Rattle.std.specs.Str.Parse.{AllDigits, digits_value, digits_value_after}
 use Rattle.fax_job.specs.Number.{is_number, number_of, begins_with_zero}
 
+-- an ASCII digit is a byte from 48 to 57
 digit_range : (c : ℕ) → is_ascii_digit c ≡ true → IsInRange 48 57 c
 digit_range c h =
     let parts = and_parts (leb 48 c) (leb c 57) h in
     (leb-true 48 c parts.0, leb-true c 57 parts.1)
 
+-- its value is below 10
 digit_small : (c : ℕ) → is_ascii_digit c ≡ true → digit_value c < 10
 digit_small c h =
     let range : IsInRange 48 57 c = digit_range c h in
     omega (arith, digit_value_digit c range)
 
+-- the first of ASCII digits are digits
 all_digits : (ds : List ℕ) (i : ℕ) → list_all is_ascii_digit ds ≡ true → AllDigits 10 (take i ds)
 all_digits ds zero h = tt
 all_digits [] (suc i) h = tt
@@ -29,12 +32,14 @@ all_digits (d ∷ ds) (suc i) h =
     let parts = and_parts (is_ascii_digit d) (list_all is_ascii_digit ds) h in
     (digit_small d parts.0, all_digits ds i parts.1)
 
+-- and so are all
 every_digit : (ds : List ℕ) → list_all is_ascii_digit ds ≡ true → AllDigits 10 ds
 every_digit [] h = tt
 every_digit (d ∷ ds) h =
     let parts = and_parts (is_ascii_digit d) (list_all is_ascii_digit ds) h in
     (digit_small d parts.0, every_digit ds parts.1)
 
+-- the one in each place is a digit
 digit_at : (ds : List ℕ) (i : ℕ) → list_all is_ascii_digit ds ≡ true → i < length ds → is_ascii_digit (get_or ds i 0) ≡ true
 digit_at [] i h lt = absurd (omega arith)
 digit_at (d ∷ ds) zero h lt = (and_parts (is_ascii_digit d) (list_all is_ascii_digit ds) h).0
@@ -47,6 +52,7 @@ pub record IsStep (ds : List ℕ) (i : ℕ) : Type 0 where
   pub to : get_or ds i 0 ≤ 57
   pub more : digits_value 10 (take (i + 1) ds) ≡ digits_value 10 (take i ds) * 10 + (get_or ds i 0 - 48)
 
+-- one digit more, of at most eighteen, is such a step
 pub step : (ds : List ℕ) (i : ℕ) → list_all is_ascii_digit ds ≡ true → length ds ≤ 18 → i < length ds → IsStep ds i
 step ds i h short lt =
     let range : IsInRange 48 57 (get_or ds i 0) = digit_range (get_or ds i 0) (digit_at ds i h lt) in
@@ -64,6 +70,7 @@ step ds i h short lt =
 
 -- ---- the least number without a zero in front
 
+-- a number with digits behind it is no less
 after_ge : (n : ℕ) (ds : List ℕ) → n ≤ digits_value_after 10 n ds
 after_ge n [] = omega arith
 after_ge n (d ∷ ds) = omega (arith, after_ge (n * 10 + digit_value d) ds)
@@ -72,6 +79,7 @@ pub record IsRequestNumber (n : ℕ) : Type 0 where
   pub from : 1 ≤ n
   pub below : n < 10 ^ 18
 
+-- digits of a number without a zero in front write a number from 1 below 10 ^ 18
 in_range : (ds : List ℕ) → is_number ds ≡ true → begins_with_zero ds ≡ false → IsRequestNumber (digits_value 10 ds)
 in_range [] h z = absurd (omega (arith, leb-true 1 0 (and_parts (leb 1 0) (leb 0 18) (and_parts (leb 1 0 && leb 0 18) true h).0).0))
 in_range (d ∷ ds) h z =
@@ -88,9 +96,11 @@ in_range (d ∷ ds) h z =
       below = omega (arith, digits_value-lt 10 (d ∷ ds) all, power);
     }
 
+-- so does what is taken of them
 chosen : (ds : List ℕ) (n : ℕ) (t : Bool) → is_number ds ≡ t → begins_with_zero ds ≡ false → cond t (Some (digits_value 10 ds)) None ≡ Some n → IsRequestNumber n
 chosen ds n true h z e = let same : digits_value 10 ds ≡ n = cc in subst IsRequestNumber same (in_range ds h z)
 chosen ds n false h z e = absurd cc
 
+-- so a number that is read of such digits is in this range
 pub request_number_range : (ds : List ℕ) (n : ℕ) → begins_with_zero ds ≡ false → number_of ds ≡ Some n → IsRequestNumber n
 request_number_range ds n z e = chosen ds n (is_number ds) refl z e

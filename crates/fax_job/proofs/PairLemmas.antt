@@ -7,9 +7,11 @@ use Rattle.std.proofs.lemmas.Slice.Eq.{bytes_eq-Decides}
 use Rattle.fax_job.specs.Pair.{Pair, IsPair, has_tag, is_once, are_unknown, ArePairs}
 use Rattle.fax_job.specs.Tag.{is_known}
 
+-- texts that test as equal are equal
 bytes_eq-true : (xs ys : List ℕ) → bytes_eq xs ys ≡ true → xs ≡ ys
 bytes_eq-true xs ys h = (bytes_eq-Decides xs ys).0 h
 
+-- they test so either way round
 bytes_eq-turn : (xs ys : List ℕ) → bytes_eq xs ys ≡ bytes_eq ys xs
 bytes_eq-turn xs ys =
     elim (cases_Bool (bytes_eq xs ys)) [
@@ -20,10 +22,12 @@ bytes_eq-turn xs ys =
       ]
     ]
 
+-- pairs with one more are pairs
 pub each_push : (ps : List Pair) (p : Pair) → AllByRecursion IsPair ps → IsPair p → AllByRecursion IsPair (ps ++ p ∷ [])
 each_push [] p each one = (one, tt)
 each_push (q ∷ ps) p each one = (each.0, each_push ps p each.1 one)
 
+-- a tag that neither the pairs nor one more has isn't among them
 has_tag_push : (tag : List ℕ) (ps : List Pair) (p : Pair) → has_tag tag ps ≡ false → bytes_eq p.tag tag ≡ false → has_tag tag (ps ++ p ∷ []) ≡ false
 has_tag_push tag [] p h one = or_from (bytes_eq p.tag tag) false one refl
 has_tag_push tag (q ∷ ps) p h one =
@@ -52,27 +56,32 @@ once_rest q ps p new =
       | inr lacking ↦ and_right (is_known p.tag) _ (or_parts (bytes_eq q.tag p.tag) (has_tag p.tag ps) lacking).1
     ]
 
+-- where a known tag is new, each comes once with it
 pub once_push : (ps : List Pair) (p : Pair) → is_once ps ≡ true → (is_known p.tag && has_tag p.tag ps) ≡ false → is_once (ps ++ p ∷ []) ≡ true
 once_push [] p h new = and_from _ true (not_from_false _ (and_right (is_known p.tag) false refl)) refl
 once_push (q ∷ ps) p h new =
     let parts = and_parts (not (is_known q.tag && has_tag q.tag ps)) (is_once ps) h in
     and_from _ (is_once (ps ++ p ∷ [])) (not_from_false _ (once_first q ps p (not-true _ parts.0) new)) (once_push ps p parts.1 (once_rest q ps p new))
 
+-- so the list with it is one
 pub ArePairs-push : (ps : List Pair) (p : Pair) → ArePairs ps → IsPair p → (is_known p.tag && has_tag p.tag ps) ≡ false → ArePairs (ps ++ p ∷ [])
 ArePairs-push ps p h one new = record { each = each_push ps p h.each one; once = once_push ps p h.once new }
 
 -- ---- known tags before others
 
+-- pairs and pairs behind them are pairs
 pub each_append : (ps qs : List Pair) → AllByRecursion IsPair ps → AllByRecursion IsPair qs → AllByRecursion IsPair (ps ++ qs)
 each_append [] qs p q = q
 each_append (x ∷ ps) qs p q = (p.0, each_append ps qs p.1 q)
 
+-- a tag that neither list has isn't among both
 has_tag_append : (tag : List ℕ) (ps qs : List Pair) → has_tag tag ps ≡ false → has_tag tag qs ≡ false → has_tag tag (ps ++ qs) ≡ false
 has_tag_append tag [] qs p q = q
 has_tag_append tag (x ∷ ps) qs p q =
     let parts = or_parts (bytes_eq x.tag tag) (has_tag tag ps) p in
     or_from (bytes_eq x.tag tag) (has_tag tag (ps ++ qs)) parts.0 (has_tag_append tag ps qs parts.1 q)
 
+-- a tag that is known isn't one that isn't
 other_tag : (known other : List ℕ) → is_known known ≡ true → is_known other ≡ false → bytes_eq other known ≡ false
 other_tag known other k o =
     elim (cases_Bool (bytes_eq other known)) [
@@ -80,12 +89,14 @@ other_tag known other k o =
       | inr differ ↦ differ
     ]
 
+-- lines without a known tag don't have this known one
 lacks_known : (tag : List ℕ) (qs : List Pair) → is_known tag ≡ true → are_unknown qs ≡ true → has_tag tag qs ≡ false
 lacks_known tag [] k u = refl
 lacks_known tag (q ∷ qs) k u =
     let parts = and_parts (not (is_known q.tag)) (are_unknown qs) u in
     or_from (bytes_eq q.tag tag) (has_tag tag qs) (other_tag tag q.tag k (not-true (is_known q.tag) parts.0)) (lacks_known tag qs k parts.1)
 
+-- a known tag that the first list doesn't have comes once in both
 first_once : (p : Pair) (ps qs : List Pair) → (is_known p.tag && has_tag p.tag ps) ≡ false → are_unknown qs ≡ true → (is_known p.tag && has_tag p.tag (ps ++ qs)) ≡ false
 first_once p ps qs h u =
     elim (and_cases (is_known p.tag) (has_tag p.tag ps) h) [
@@ -96,6 +107,7 @@ first_once p ps qs h u =
       ]
     ]
 
+-- so known lines and others behind them come once each
 pub once_append : (ps qs : List Pair) → is_once ps ≡ true → is_once qs ≡ true → are_unknown qs ≡ true → is_once (ps ++ qs) ≡ true
 once_append [] qs p q u = q
 once_append (x ∷ ps) qs p q u =
