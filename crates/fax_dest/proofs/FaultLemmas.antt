@@ -7,6 +7,7 @@ use Rattle.fax_dest.specs.Pattern.{Compiling}
 use Rattle.fax_dest.specs.declared.fault.FileKind.{FileKind}
 use Rattle.fax_dest.specs.declared.fault.FileKind.TheVariants.{NotText, NoColon, NoRule, NoEquals, BadQuote, BadValue, BadHours, BadPattern, BigPattern, BadZone, NoMemory}
 
+-- what is so unless memory ran out may say less
 pub MatchBool-weaker : {P Q : Type 0} (b : Bool) → (P → Q) → MatchBool b ⊤ P → MatchBool b ⊤ Q
 MatchBool-weaker true f h = h
 MatchBool-weaker false f h = f h

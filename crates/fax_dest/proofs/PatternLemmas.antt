@@ -11,6 +11,7 @@ use Rattle.fax_dest.specs.Pattern.{compiled}
 use Rattle.fax_dest.specs.declared.fault.FileKind.{FileKind}
 use Rattle.fax_dest.specs.declared.fault.FileKind.TheVariants.{NotText, NoColon, NoRule, NoEquals, BadQuote, BadValue, BadHours, BadPattern, BigPattern, BadZone, NoMemory}
 
+-- a pattern is one in the same spelling and configuration
 alike : (c d : Config) (s t : List ℕ) → c ≡ d → s ≡ t → IsPattern c s → IsPattern d t
 alike c d s t config source found = subst (λ c. IsPattern c t) config (subst (λ s. IsPattern c s) source found)
 
@@ -19,14 +20,17 @@ pub pattern_read : (r : Regex) (text : List ℕ) → regex_source r ≡ text →
 pattern_read r text source config read =
     alike (regex_config r) default_config (regex_source r) text config source (r.pattern.program.hir, names_of r.pattern.names.items, read)
 
+-- a pattern that isn't too big is compiled
 pub compiled_fine : (is_pattern : List ℕ → Bool) (text : List ℕ) → is_pattern text ≡ true → compiled is_pattern false text ≡ Ok text
 unfolding compiled
 compiled_fine is_pattern text e = rw e refl
 
+-- one that is too big is refused for it
 pub compiled_big : (is_pattern : List ℕ → Bool) (text : List ℕ) → is_pattern text ≡ true → compiled is_pattern true text ≡ Err BigPattern
 unfolding compiled
 compiled_big is_pattern text e = rw e refl
 
+-- what is no pattern is refused for that
 pub compiled_bad : (is_pattern : List ℕ → Bool) (too_big : Bool) (text : List ℕ) → is_pattern text ≡ false → compiled is_pattern too_big text ≡ Err BadPattern
 unfolding compiled
 compiled_bad is_pattern too_big text e = rw e refl
@@ -34,6 +38,7 @@ compiled_bad is_pattern too_big text e = rw e refl
 abbrev told : FileKind → Result (List ℕ) FileKind
 told kind = Err kind
 
+-- what would be compiled, were it not too big, is refused for that
 big_by : (b : Bool) (text source : List ℕ) → cond b (Ok text) (told BadPattern) ≡ Ok source → cond b (told BigPattern) (told BadPattern) ≡ told BigPattern
 big_by true text source e = refl
 big_by false text source e = cc
