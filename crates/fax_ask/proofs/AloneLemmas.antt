@@ -29,18 +29,22 @@ use Rattle.fax_ask.specs.Request.{request_of}
 abbrev well : {T : Type 0} → T → Result T OrderFault
 well x = Ok x
 
+-- what is well with one value is so with that alone
 same_Ok : {T : Type 0} (x y : T) → well x ≡ well y → x ≡ y
 same_Ok x y e = cc
 
 module _ {T : Type 0} (value_of : List Pair → Result T OrderFault) (body : List ℕ) where
+  -- a body states one thing
   states_alone : (a b : T) → States value_of body a → States value_of body b → a ≡ b
   states_alone a b s t = same_Ok a b (sym s.stated ∙ (ap value_of (spelled_alone body s.lines t.lines s.spelled t.spelled) ∙ t.stated))
 
+  -- what states something has no fault
   no_fault : (a : T) (fault : OrderFault) → States value_of body a → HasFault value_of body fault → ⊥
   no_fault a fault s t =
       let both : well a ≡ Err fault = sym s.stated ∙ (ap value_of (spelled_alone body s.lines t.lines s.spelled t.spelled) ∙ t.faulty) in
       absurd cc
 
+  -- what states something is refused for want of memory alone
   states_or_refusal : (a : T) (refusal : Refusal) → States value_of body a → IsLinesRefusal value_of body refusal → refusal ≡ Unavailable
   states_or_refusal a (BadBody (Line line kind)) s h = absurd (fault_or_list body (fault_at line kind) s.lines h s.spelled)
   states_or_refusal a (BadBody (Order fault)) s h = absurd (no_fault a fault s h)
@@ -49,18 +53,22 @@ module _ {T : Type 0} (value_of : List Pair → Result T OrderFault) (body : Lis
   states_or_refusal a Unavailable s h = refl
   states_or_refusal a other s h = absurd h
 
+-- a body is one JSON value
 json_alone : (body : List ℕ) (a b : Data) → IsJson body a → IsJson body b → a ≡ b
 json_alone body a b h g = same_Some a b (sym h.written ∙ g.written)
 
+-- a body that is one doesn't fail to be read
 no_json : (body : List ℕ) (a : Data) → IsJson body a → read body ≡ None → ⊥
 no_json body a h e =
     let both : Some a ≡ None = sym h.written ∙ e in
     absurd cc
 
 module _ {T : Type 0} (report_in : Data → Option T) (body : List ℕ) where
+  -- a body reports one thing
   reports_alone : (a b : T) → Reports report_in body a → Reports report_in body b → a ≡ b
   reports_alone a b h g = same_Some a b (sym h.says ∙ (ap report_in (json_alone body h.json g.json h.is_json g.is_json) ∙ g.says))
 
+  -- what reports something is refused for want of memory alone
   reports_or_refusal : (a : T) (refusal : Refusal) → Reports report_in body a → IsReportRefusal report_in body refusal → refusal ≡ Unavailable
   reports_or_refusal a (BadBody (Line line kind)) s h = absurd h
   reports_or_refusal a (BadBody (Order fault)) s h = absurd h
@@ -73,6 +81,7 @@ module _ {T : Type 0} (report_in : Data → Option T) (body : List ℕ) where
 
 -- ---- requests with their bodies
 
+-- a request with its body asks for one thing
 asks_alone : (request : Request) (body : List ℕ) (a b : Ask) → Asks request body a → Asks request body b → a ≡ b
 asks_alone Submit body a b h g = h.2 ∙ (ap (λ o. Step (machine.Submission o)) (states_alone order_of body h.0 g.0 h.1 g.1) ∙ sym g.2)
 asks_alone Import body a b h g = h.2 ∙ (ap (λ i. Step (machine.Bring i)) (states_alone import_of body h.0 g.0 h.1 g.1) ∙ sym g.2)
@@ -89,6 +98,7 @@ asks_alone (Ready modem) body a b h g = h ∙ sym g
 asks_alone (Down modem) body a b h g = h ∙ sym g
 asks_alone (Next modem) body a b h g = h ∙ sym g
 
+-- what asks for something is refused for want of memory alone
 ask_or_refusal : (request : Request) (body : List ℕ) (a : Ask) (refusal : Refusal) → Asks request body a → IsBodyRefusal request body refusal → refusal ≡ Unavailable
 ask_or_refusal Submit body a refusal h r = states_or_refusal order_of body h.0 refusal h.1 r
 ask_or_refusal Import body a refusal h r = states_or_refusal import_of body h.0 refusal h.1 r
@@ -107,26 +117,32 @@ ask_or_refusal (Next modem) body a refusal h r = r
 
 -- ---- the whole
 
+-- the same whether the path has a request or not
 one_by : (o : Option Request) (body : List ℕ) (a b : Ask) → MatchOption o ⊥ (λ request. Asks request body a) → MatchOption o ⊥ (λ request. Asks request body b) → a ≡ b
 one_by None body a b h g = absurd h
 one_by (Some request) body a b h g = asks_alone request body a b h g
 
+-- so what is asked for is one thing
 pub one_ask : OneAsk
 one_ask method path body a b h g = one_by (request_of method path) body a b h g
 
+-- what asks for something is refused for want of memory alone, whether the path has a request or not
 refused_by : (o : Option Request) (body : List ℕ) (a : Ask) (refusal : Refusal) → MatchOption o ⊥ (λ request. Asks request body a) → MatchOption o (refusal ≡ NoRoute) (λ request. IsBodyRefusal request body refusal) → refusal ≡ Unavailable
 refused_by None body a refusal h r = absurd h
 refused_by (Some request) body a refusal h r = ask_or_refusal request body a refusal h r
 
+-- so what a method, a path and a body ask for is
 pub ask_or_refused : AskOrRefusal
 ask_or_refused method path body a refusal h r = refused_by (request_of method path) body a refusal h r
 
 -- ---- faults of bodies
 
+-- a fault that is told is that alone
 same_Err : {T : Type 0} (e f : OrderFault) → ◌≡◌ {A = Result T OrderFault} (Err e) (Err f) → e ≡ f
 same_Err e f h = cc
 
 module _ {T : Type 0} (value_of : List Pair → Result T OrderFault) (body : List ℕ) where
+  -- a body of lines has one fault
   one_lines_fault : (f g : BodyFault) → IsLinesFault value_of body f → IsLinesFault value_of body g → f ≡ g
   one_lines_fault (Line line kind) (Line other that) h g =
       let same = first_fault_alone body (fault_at line kind) (fault_at other that) h g in
@@ -143,6 +159,7 @@ module _ {T : Type 0} (value_of : List Pair → Result T OrderFault) (body : Lis
   one_lines_fault (Order fault) BadField h g = absurd g
 
 module _ {T : Type 0} (report_in : Data → Option T) (body : List ℕ) where
+  -- a body of JSON has one fault
   one_report_fault : (f g : BodyFault) → IsReportFault report_in body f → IsReportFault report_in body g → f ≡ g
   one_report_fault BadJson BadJson h g = refl
   one_report_fault BadField BadField h g = refl
@@ -155,6 +172,7 @@ module _ {T : Type 0} (report_in : Data → Option T) (body : List ℕ) where
   one_report_fault BadField (Line line kind) h g = absurd g
   one_report_fault BadField (Order fault) h g = absurd g
 
+-- a request with its body has one fault
 fault_alone : (request : Request) (body : List ℕ) (f g : BodyFault) → IsBodyRefusal request body (BadBody f) → IsBodyRefusal request body (BadBody g) → f ≡ g
 fault_alone Submit body f g h r = one_lines_fault order_of body f g h r
 fault_alone Import body f g h r = one_lines_fault import_of body f g h r
@@ -171,9 +189,11 @@ fault_alone (Ready modem) body f g h r = absurd cc
 fault_alone (Down modem) body f g h r = absurd cc
 fault_alone (Next modem) body f g h r = absurd cc
 
+-- the same whether the path has a request or not
 fault_by : (o : Option Request) (body : List ℕ) (f g : BodyFault) → MatchOption o (BadBody f ≡ NoRoute) (λ request. IsBodyRefusal request body (BadBody f)) → MatchOption o (BadBody g ≡ NoRoute) (λ request. IsBodyRefusal request body (BadBody g)) → f ≡ g
 fault_by None body f g h r = absurd cc
 fault_by (Some request) body f g h r = fault_alone request body f g h r
 
+-- so a body has one fault
 pub one_fault : OneFault
 one_fault method path body f g h r = fault_by (request_of method path) body f g h r

@@ -14,6 +14,7 @@ use Rattle.fax_lines.specs.Spells.{Spells, IsFirstFault}
 use Rattle.fax_ask.specs.Ask.{IsLinesRefusal}
 
 module _ {T : Type 0} (value_of : List Pair → Result T OrderFault) (body : List ℕ) where
+  -- a line's fault refuses the body, where it is the first or want of memory
   pub lines_refused : (line : ℕ) (k : LineKind) → (is_memory k ≡ false → IsFirstFault body (fault_at line k)) → IsLinesRefusal value_of body (line_refusal line k)
   lines_refused line kind.NotText h = h refl
   lines_refused line kind.NoColon h = h refl
@@ -23,6 +24,7 @@ module _ {T : Type 0} (value_of : List Pair → Result T OrderFault) (body : Lis
   lines_refused line kind.OpenEnd h = h refl
   lines_refused line kind.NoMemory h = tt
 
+  -- so does the fault of what the lines state, or want of memory there
   pub order_refused : (lines : List Pair) (f : OrderFault) → Spells body lines → MatchBool (is_no_memory f) ⊤ (value_of lines ≡ Err f) → IsLinesRefusal value_of body (order_refusal f)
   order_refused lines fault.NoNumber s h = record { lines = lines; spelled = s; faulty = h }
   order_refused lines fault.BadDial s h = record { lines = lines; spelled = s; faulty = h }

@@ -26,10 +26,12 @@ Says names path (Some route) =
     AllText (walk route.pattern route.text path route.names 0 0)
     × ((method : Method) → names method ≡ route_request method route.value (named (codes "id") (walk route.pattern route.text path route.names 0 0)))
 
+-- what is said of requests is said of the same requests
 pub says_as : (f g : Method → Option Request) (path : List ℕ) (o : Option Entry) → ((method : Method) → f method ≡ g method) → Says g path o → Says f path o
 says_as f g path None e s = λ method. e method ∙ s method
 says_as f g path (Some route) e s = (s.0, λ method. e method ∙ s.1 method)
 
+-- and of the same route
 pub says_by : (names : Method → Option Request) (path : List ℕ) (o p : Option Entry) → o ≡ p → Says names path p → Says names path o
 says_by names path o p e s = subst (Says names path) (sym e) s
 
@@ -57,6 +59,7 @@ abbrev pub chosen : List ℕ → List (List ℕ × Entry) → Option Entry
 chosen text [] = None
 chosen text (leaf ∷ more) = or_else (cond (bytes_eq text leaf.0) (Some leaf.1) None) (chosen text more)
 
+-- the word that the text is has its route
 leaf_found : (ws : List (List ℕ × Entry)) (text : List ℕ) → AreApart ws → has_slash text ≡ false → first (leaves ws) text ≡ chosen text ws
 leaf_found [] text apart f = seek_empty 0 text
 leaf_found (([], route) ∷ more) text apart f = absurd apart
@@ -64,6 +67,7 @@ leaf_found ((x ∷ w, route) ∷ more) text apart f =
     branch x w (led_by (47 ∷ []) [] ++ ends_of (Some route)) (leaves more) text (word_parts x w apart.0).0 apart.1 apart.2
     ∙ ap₂ or_else (word (x ∷ w) text [] (Some route) None apart.0 f) (leaf_found more text apart.3 f)
 
+-- behind a word with a slash is no route
 leaf_missed : (ws : List (List ℕ × Entry)) (text rest : List ℕ) → AreApart ws → has_slash text ≡ false → first (leaves ws) (text ++ 47 ∷ rest) ≡ None
 leaf_missed [] text rest apart f = seek_empty 0 (text ++ 47 ∷ rest)
 leaf_missed (([], route) ∷ more) text rest apart f = absurd apart
@@ -83,6 +87,7 @@ abbrev pub NoneIs : List ℕ → List (List ℕ × Entry) → Type 0
 NoneIs text [] = Unit {0}
 NoneIs text (leaf ∷ more) = (bytes_eq text leaf.0 ≡ false) × NoneIs text more
 
+-- what is found of a word says which request it names
 leaf_says : (names : List ℕ → Method → Option Request) (path_of : List ℕ → List ℕ) (ws : List (List ℕ × Entry)) (text : List ℕ)
     → AllSay names path_of ws → (NoneIs text ws → (method : Method) → names text method ≡ None) → Says (names text) (path_of text) (chosen text ws)
 leaf_says names path_of [] text all none = none tt
@@ -96,10 +101,12 @@ leaf_says names path_of (leaf ∷ more) text all none =
 
 -- ---- behind a collection's name and a slash
 
+-- the name of the parameter is UTF-8
 id_is_text : IsUtf8 (codes "id")
 unfolding encode
 id_is_text = (codes "id", (refl, refl))
 
+-- a route whose parameter takes a text says what it asks for with that
 pub taken_says : (names : Method → Option Request) (path : List ℕ) (route : Entry) (id : List ℕ) → walk route.pattern route.text path route.names 0 0 ≡ (codes "id", id) ∷ []
     → IsUtf8 id → ((method : Method) → names method ≡ route_request method route.value (Some id)) → Says names path (Some route)
 taken_says names path route id e u same =
@@ -116,6 +123,7 @@ pub record IsCollection (w : List ℕ) (names : Method → List (List ℕ) → O
   pub longer : (id text more : List ℕ) (rest : List (List ℕ)) (method : Method) → names method (id ∷ text ∷ more ∷ rest) ≡ None
 
 module _ (w : List ℕ) (names : Method → List (List ℕ) → Option Request) (end : Option Entry) (ws : List (List ℕ × Entry)) (is : IsCollection w names end ws) where
+  -- what follows the text between slashes says which request is named
   behind_id : (id text : List ℕ) (more : Option (List ℕ)) → has_slash id ≡ false → IsUtf8 id → has_slash text ≡ false
       → Says (λ method. names method (id ∷ text ∷ parts_left more)) (w ++ (id ++ 47 ∷ joined text more)) (first (leaves ws) (joined text more))
   behind_id id text None f u g =
@@ -125,6 +133,7 @@ module _ (w : List ℕ) (names : Method → List (List ℕ) → Option Request) 
       says_by (λ method. names method (id ∷ text ∷ parts rest)) (w ++ (id ++ 47 ∷ (text ++ 47 ∷ rest))) (first (leaves ws) (text ++ 47 ∷ rest)) None (leaf_missed ws text rest is.apart g)
       (λ method. let more = filled rest in ap (λ (texts : List (List ℕ)). names method (id ∷ text ∷ texts)) more.2 ∙ is.longer id text more.0 more.1 method)
 
+  -- so does what follows the collection's name
   at_id : (id : List ℕ) (more : Option (List ℕ)) → has_slash id ≡ false → IsUtf8 id
       → Says (λ method. names method (id ∷ parts_left more)) (w ++ joined id more) (first (below end ws) (joined id more))
   at_id [] more f u =
@@ -142,6 +151,7 @@ module _ (w : List ℕ) (names : Method → List (List ℕ) → Option Request) 
       (subst (λ (p : List ℕ). Says (λ method. names method ((b ∷ id) ∷ c.text ∷ parts_left c.more)) (w ++ ((b ∷ id) ++ 47 ∷ p)) (first (leaves ws) p)) (sym c.whole)
       (behind_id (b ∷ id) c.text c.more f u c.free)))
 
+  -- so does the rest of a path behind the collection's name
   pub in_collection : (path : List ℕ) → IsUtf8 path → Says (λ method. names method (parts path)) (w ++ path) (first (below end ws) path)
   in_collection path u =
       let c = cut path in

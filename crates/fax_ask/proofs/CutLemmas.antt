@@ -22,6 +22,7 @@ pub record Cut (path : List ℕ) : Type 0 where
   pub free : has_slash text ≡ false
   pub texts : parts path ≡ text ∷ parts_left more
 
+-- a path is cut at its first slash
 pub cut : (path : List ℕ) → Cut path
 cut [] = record { text = []; more = None; whole = refl; free = refl; texts = refl }
 cut (b ∷ path) = by (b == 47) refl (cut path)
@@ -48,13 +49,16 @@ abbrev pub IsTextIfSome : Option (List ℕ) → Type 0
 IsTextIfSome None = Unit {0}
 IsTextIfSome (Some rest) = IsUtf8 rest
 
+-- behind a text stands its slash
 at_slash : (text rest : List ℕ) → get_or (text ++ 47 ∷ rest) (length text) 0 ≡ 47
 at_slash [] rest = refl
 at_slash (b ∷ text) rest = at_slash text rest
 
+-- and behind that the rest
 past_slash : (text rest : List ℕ) → drop (length text + 1) (text ++ 47 ∷ rest) ≡ rest
 past_slash text rest = sym (drop-drop 1 (length text) (text ++ 47 ∷ rest)) ∙ ap (drop 1) (drop_at text (47 ∷ rest) (length text) refl)
 
+-- where the whole is UTF-8, so are text and rest
 pub both_texts : (text : List ℕ) (more : Option (List ℕ)) → IsUtf8 (joined text more) → IsUtf8 text × IsTextIfSome more
 both_texts text None u = (u, tt)
 both_texts text (Some rest) u =
@@ -65,6 +69,7 @@ both_texts text (Some rest) u =
       subst IsUtf8 (past_slash text rest) (IsUtf8-drop bytes (length text + 1) u (IsCharBoundary-after_ascii bytes (length text) u within low)),
     )
 
+-- a scalar is below 1114112
 scalar_is_low : (c : ℕ) → (c < 55296) ⊎ ((57344 ≤ c) × (c < 1114112)) → c < 1114112
 scalar_is_low c (inl h) = omega arith
 scalar_is_low c (inr h) = h.1
@@ -81,18 +86,22 @@ encode_is_low c rest h = by (ltb c 128) refl (ltb c 2048) refl (ltb c 65536) ref
     by false e false f true g = let l = ltb-true c 65536 g in omega arith
     by false e false f false g = omega arith
 
+-- so where a character begins a text, the first byte is below 256
 begins_low : (b c : ℕ) (rest text : List ℕ) → c < 1114112 → encode c ++ rest ≡ b ∷ text → b < 256
 begins_low b c rest text l h = let low = encode_is_low c rest l in let same = ap (λ (bytes : List ℕ). get_or bytes 0 0) h in omega arith
 
+-- the same of the characters that a text encodes
 low_by : (b : ℕ) (text cs : List ℕ) → scalars cs ≡ true → encodes cs ≡ b ∷ text → b < 256
 low_by b text [] s e = absurd cc
 low_by b text (c ∷ cs) s e = begins_low b c (encodes cs) text (scalar_is_low c (scalar_cases c (and_parts (scalar c) (scalars cs) s).0)) e
 
+-- the first byte of UTF-8 is below 256
 pub first_is_low : (b : ℕ) (text : List ℕ) → IsUtf8 (b ∷ text) → b < 256
 first_is_low b text u = low_by b text u.0 u.1.0 u.1.1
 
 -- ---- two texts
 
+-- texts that test as equal are equal
 pub same_bytes : (a b : List ℕ) → bytes_eq a b ≡ true → a ≡ b
 same_bytes [] [] e = refl
 same_bytes [] (y ∷ b) e = absurd cc

@@ -28,14 +28,17 @@ module _ {T : Type 0} (value_of : List Pair → Result T OrderFault) (body : Lis
   abbrev IsRead : Type 0
   IsRead = ((x : T) × States value_of body x) ⊎ ((fault : BodyFault) × IsLinesRefusal value_of body (BadBody fault))
 
+  -- lines that are spelled state something, or have a fault
   of_value : (r : Result T OrderFault) (ps : List Pair) → Spells body ps → value_of ps ≡ r → IsRead
   of_value (Ok x) ps spelled is = inl (x, record { lines = ps; spelled = spelled; stated = is })
   of_value (Err fault) ps spelled is = inr (Order fault, record { lines = ps; spelled = spelled; faulty = is })
 
+  -- so does a body, whether its lines are spelled or not
   of_lines : (r : Result (List Pair) LineFault) → MatchResult r (Spells body) (IsFaultBehind body) → IsRead
   of_lines (Ok ps) spelled = of_value (value_of ps) ps spelled refl
   of_lines (Err fault) behind = inr (Line fault.line fault.kind, inr behind)
 
+  -- and whether it is UTF-8 or not
   states_or_fault : IsUtf8 body ⊎ (¬ (IsUtf8 body)) → IsRead
   states_or_fault (inl text) = of_lines (read_on (lines body) 0 [] None) (found body text)
   states_or_fault (inr none) = inr (Line 0 NotText, inl (refl, none))
@@ -44,14 +47,17 @@ module _ {T : Type 0} (report_in : Data → Option T) (body : List ℕ) where
   abbrev IsSaid : Type 0
   IsSaid = ((x : T) × Reports report_in body x) ⊎ ((fault : BodyFault) × IsReportRefusal report_in body (BadBody fault))
 
+  -- JSON reports something, or has a fault
   of_report : (o : Option T) (json : Data) → IsJson body json → report_in json ≡ o → IsSaid
   of_report (Some x) json is_json is = inl (x, record { json = json; is_json = is_json; says = is })
   of_report None json is_json is = inr (BadField, record { json = json; is_json = is_json; lacks = is })
 
+  -- so does a body, whether it is JSON or not
   of_json : (o : Option Data) → IsUtf8 body → read body ≡ o → IsSaid
   of_json (Some json) text is = of_report (report_in json) json (record { text = text; written = is }) refl
   of_json None text is = inr (BadJson, λ _. is)
 
+  -- and whether it is UTF-8 or not
   says_or_fault : IsUtf8 body ⊎ (¬ (IsUtf8 body)) → IsSaid
   says_or_fault (inl text) = of_json (read body) text refl
   says_or_fault (inr none) = inr (BadJson, λ text. absurd (none text))
@@ -64,6 +70,7 @@ text_or_none (Err fault) P Q body h = inr h.0
 
 -- ---- requests with their bodies
 
+-- each request asks for something, or its body has a fault
 pub each_of : (body : List ℕ) → IsUtf8 body ⊎ (¬ (IsUtf8 body)) → AsksOrHasFault body
 each_of body utf8 Submit = elim (states_or_fault order_of body utf8) [ inl x ↦ inl (Step (machine.Submission x.0), (x.0, x.1, refl)) | inr f ↦ inr f ]
 each_of body utf8 Import = elim (states_or_fault import_of body utf8) [ inl x ↦ inl (Step (machine.Bring x.0), (x.0, x.1, refl)) | inr f ↦ inr f ]

@@ -6,6 +6,7 @@ use Rattle.serde_json.specs.Data.{Data}
 use Rattle.fax_job.specs.declared.refusal.Refusal.{Refusal}
 use Rattle.fax_ask.specs.Report.{IsJsonRefusal, IsReportRefusal}
 
+-- what refuses a body as JSON refuses it as a report
 pub json_refused : {T : Type 0} (report_in : Data → Option T) (body : List ℕ) (refusal : Refusal) → IsJsonRefusal body refusal → IsReportRefusal report_in body refusal
 json_refused report_in body refusal (inl h) = subst (λ (r : Refusal). IsReportRefusal report_in body r) (sym h.0) h.1
 json_refused report_in body refusal (inr e) = subst (λ (r : Refusal). IsReportRefusal report_in body r) (sym e) tt

@@ -26,33 +26,40 @@ use Rattle.fax_ask.proofs.PathLemmas.{byte_of_parts}
 abbrev lacks_lf : List (List ℕ) → Type 0
 lacks_lf texts = list_any (has_byte 10) texts ≡ false
 
+-- a text without an LF before texts without one
 one_more : (text : List ℕ) (texts : List (List ℕ)) → has_byte 10 text ≡ false → lacks_lf texts → lacks_lf (text ∷ texts)
 one_more text texts h t = or_from (has_byte 10 text) (list_any (has_byte 10) texts) h t
 
+-- a text that is a word without an LF has none
 same_text : (text word : List ℕ) → bytes_eq text word ≡ true → has_byte 10 word ≡ false → has_byte 10 text ≡ false
 same_text text word e h = ap (has_byte 10) ((bytes_decides text word).0 e) ∙ h
 
+-- a digit is no LF
 digit_is_no_lf : (byte : ℕ) → is_ascii_digit byte ≡ true → eqb byte 10 ≡ false
 digit_is_no_lf byte h =
     let from = leb-true 48 byte (and_parts (leb 48 byte) (leb byte 57) h).0 in
     ne_eqb byte 10 (λ e. omega arith)
 
+-- digits have none
 digits_lack_lf : (text : List ℕ) → list_all is_ascii_digit text ≡ true → has_byte 10 text ≡ false
 digits_lack_lf [] h = refl
 digits_lack_lf (byte ∷ text) h =
     let both = and_parts (is_ascii_digit byte) (list_all is_ascii_digit text) h in
     or_from (eqb byte 10) (has_byte 10 text) (digit_is_no_lf byte both.0) (digits_lack_lf text both.1)
 
+-- what is read as a number has none
 of_number : (text : List ℕ) (n : ℕ) (is : Bool) → is_number text ≡ is → cond is (Some (digits_value 10 text)) None ≡ Some n → has_byte 10 text ≡ false
 of_number text n true e h = digits_lack_lf text (and_parts (leb 1 (length text) && leb (length text) 18) (list_all is_ascii_digit text) e).1
 of_number text n false e h = absurd cc
 
+-- so has what is read as one without a zero in front
 numbers_lack_lf : (text : List ℕ) (n : ℕ) (zero : Bool) → cond zero None (number_of text) ≡ Some n → has_byte 10 text ≡ false
 numbers_lack_lf text n true h = absurd cc
 numbers_lack_lf text n false h = of_number text n (is_number text) refl h
 
 -- ---- the table
 
+-- an action on a job that names a request has no LF
 in_action : (job : ℕ) (action : List ℕ) (request : Request) (a b c d : Bool)
     → bytes_eq action (codes "suspend") ≡ a → bytes_eq action (codes "resume") ≡ b → bytes_eq action (codes "kill") ≡ c → bytes_eq action (codes "alter") ≡ d
     → cond a (Some (Suspend job)) (cond b (Some (Resume job)) (cond c (Some (Kill job)) (cond d (Some (Alter job)) None))) ≡ Some request
@@ -63,6 +70,7 @@ in_action job action request false false true d e f g h is = same_text action (c
 in_action job action request false false false true e f g h is = same_text action (codes "alter") h refl
 in_action job action request false false false false e f g h is = absurd cc
 
+-- the texts behind a job's number that name a request have none
 in_job : (method : Method) (job : ℕ) (rest : List (List ℕ)) (request : Request) → job_request method job rest ≡ Some request → lacks_lf rest
 in_job Get job [] request is = refl
 in_job Get job (action ∷ rest) request is = absurd cc
@@ -72,12 +80,14 @@ in_job Post job (action ∷ []) request is =
 in_job Post job (action ∷ more ∷ rest) request is = absurd cc
 in_job Another job rest request is = absurd cc
 
+-- so have the number and the texts
 in_id : (method : Method) (id : List ℕ) (rest : List (List ℕ)) (request : Request) (number : Option ℕ) → request_number_of id ≡ number
     → option_and_then (λ job. job_request method job rest) number ≡ Some request → lacks_lf (id ∷ rest)
 in_id method id rest request None e is = absurd cc
 in_id method id rest request (Some job) e is =
     one_more id rest (numbers_lack_lf id job (begins_with_zero id) e) (in_job method job rest request is)
 
+-- so have the texts behind `jobs`
 in_jobs : (method : Method) (rest : List (List ℕ)) (request : Request) → jobs_request method rest ≡ Some request → lacks_lf rest
 in_jobs Get [] request is = refl
 in_jobs Post [] request is = refl
@@ -88,18 +98,22 @@ in_jobs Another (id ∷ rest) request is = in_id Another id rest request (reques
 
 -- ---- modems and grants
 
+-- a byte of a name is no LF
 name_byte_is_no_lf : (byte : ℕ) → is_name_byte byte ≡ true → eqb byte 10 ≡ false
 name_byte_is_no_lf byte h = ne_eqb byte 10 (λ e. let other : is_name_byte 10 ≡ true = sym (ap is_name_byte e) ∙ h in absurd (false≢true other))
 
+-- bytes of names have none
 bytes_lack_lf : (text : List ℕ) → list_all is_name_byte text ≡ true → has_byte 10 text ≡ false
 bytes_lack_lf [] h = refl
 bytes_lack_lf (byte ∷ text) h =
     let both = and_parts (is_name_byte byte) (list_all is_name_byte text) h in
     or_from (eqb byte 10) (has_byte 10 text) (name_byte_is_no_lf byte both.0) (bytes_lack_lf text both.1)
 
+-- a name has none
 names_lack_lf : (text : List ℕ) → is_name text ≡ true → has_byte 10 text ≡ false
 names_lack_lf text h = bytes_lack_lf text (and_parts (leb 1 (length text) && leb (length text) 32) (list_all is_name_byte text) h).1
 
+-- two texts without an LF are texts without one
 in_two : (rest : List (List ℕ)) (texts : List ℕ × List ℕ) → two_texts rest ≡ Some texts → has_byte 10 texts.0 ≡ false → has_byte 10 texts.1 ≡ false → lacks_lf rest
 in_two [] texts e h g = absurd cc
 in_two (first ∷ []) texts e h g = absurd cc
@@ -109,6 +123,7 @@ in_two (first ∷ second ∷ []) texts e h g =
     (one_more second [] (ap (λ (t : List ℕ × List ℕ). has_byte 10 t.1) same ∙ g) refl)
 in_two (first ∷ second ∷ third ∷ more) texts e h g = absurd cc
 
+-- an action on a modem that names a request has none
 in_modem_action : (modem action : List ℕ) (request : Request) (a b c : Bool)
     → bytes_eq action (codes "ready") ≡ a → bytes_eq action (codes "down") ≡ b → bytes_eq action (codes "next") ≡ c
     → cond a (Some (Ready modem)) (cond b (Some (Down modem)) (cond c (Some (Next modem)) None)) ≡ Some request
@@ -118,21 +133,25 @@ in_modem_action modem action request false true c e f g is = same_text action (c
 in_modem_action modem action request false false true e f g is = same_text action (codes "next") g refl
 in_modem_action modem action request false false false e f g is = absurd cc
 
+-- so have a modem's name and its action
 in_named : (rest : List (List ℕ)) (texts : List ℕ × List ℕ) (request : Request) (named : Bool) → two_texts rest ≡ Some texts → is_name texts.0 ≡ named
     → cond named (modem_action texts.0 texts.1) None ≡ Some request → lacks_lf rest
 in_named rest texts request true e n is =
     in_two rest texts e (names_lack_lf texts.0 n) (in_modem_action texts.0 texts.1 request _ _ _ refl refl refl is)
 in_named rest texts request false e n is = absurd cc
 
+-- so have two texts that name a request of a modem, if they are two
 in_modem : (rest : List (List ℕ)) (request : Request) (o : Option (List ℕ × List ℕ)) → two_texts rest ≡ o → modem_request o ≡ Some request → lacks_lf rest
 in_modem rest request None e is = absurd cc
 in_modem rest request (Some texts) e is = in_named rest texts request (is_name texts.0) e refl is
 
+-- so have the texts behind `modems`
 in_modems : (method : Method) (rest : List (List ℕ)) (request : Request) → modems_request method rest ≡ Some request → lacks_lf rest
 in_modems Get rest request is = absurd cc
 in_modems Post rest request is = in_modem rest request (two_texts rest) refl is
 in_modems Another rest request is = absurd cc
 
+-- a report on a grant that names a request has none
 in_report : (grant : ℕ) (report : List ℕ) (request : Request) (a b c : Bool)
     → bytes_eq report (codes "call") ≡ a → bytes_eq report (codes "page") ≡ b → bytes_eq report (codes "outcome") ≡ c
     → cond a (Some (Call grant)) (cond b (Some (Page grant)) (cond c (Some (Outcome grant)) None)) ≡ Some request
@@ -142,18 +161,21 @@ in_report grant report request false true c e f g is = same_text report (codes "
 in_report grant report request false false true e f g is = same_text report (codes "outcome") g refl
 in_report grant report request false false false e f g is = absurd cc
 
+-- so have a grant's number and its report
 in_numbered : (rest : List (List ℕ)) (texts : List ℕ × List ℕ) (request : Request) (number : Option ℕ) → two_texts rest ≡ Some texts → request_number_of texts.0 ≡ number
     → option_and_then (λ grant. grant_report grant texts.1) number ≡ Some request → lacks_lf rest
 in_numbered rest texts request None e n is = absurd cc
 in_numbered rest texts request (Some grant) e n is =
     in_two rest texts e (numbers_lack_lf texts.0 grant (begins_with_zero texts.0) n) (in_report grant texts.1 request _ _ _ refl refl refl is)
 
+-- so have two texts that name a request on a grant, if they are two
 in_grant : (rest : List (List ℕ)) (request : Request) (o : Option (List ℕ × List ℕ)) → two_texts rest ≡ o → grant_request o ≡ Some request → lacks_lf rest
 in_grant rest request None e is = absurd cc
 in_grant rest request (Some texts) e is = in_numbered rest texts request (request_number_of texts.0) e refl is
 
 -- ---- imports
 
+-- the texts behind `imports` have none
 in_imports : (method : Method) (rest : List (List ℕ)) (request : Request) → imports_request method rest ≡ Some request → lacks_lf rest
 in_imports Get rest request is = absurd cc
 in_imports Post [] request is = refl
@@ -162,6 +184,7 @@ in_imports Another rest request is = absurd cc
 
 -- ---- numbers
 
+-- so have those behind `numbers`
 in_numbers : (method : Method) (rest : List (List ℕ)) (request : Request) → numbers_request method rest ≡ Some request → lacks_lf rest
 in_numbers Get rest request is = absurd cc
 in_numbers Post [] request is = absurd cc
@@ -173,6 +196,7 @@ in_numbers Post (text ∷ []) request is = by (bytes_eq text (codes "floor")) re
 in_numbers Post (text ∷ other ∷ rest) request is = absurd cc
 in_numbers Another rest request is = absurd cc
 
+-- and those behind `grants`
 in_grants : (method : Method) (rest : List (List ℕ)) (request : Request) → grants_request method rest ≡ Some request → lacks_lf rest
 in_grants Get rest request is = absurd cc
 in_grants Post rest request is = in_grant rest request (two_texts rest) refl is
@@ -180,6 +204,7 @@ in_grants Another rest request is = absurd cc
 
 -- ---- the whole
 
+-- a collection's name and the texts behind it that name a request have none
 in_collection : (method : Method) (collection : List ℕ) (rest : List (List ℕ)) (request : Request) (jobs modems grants imports numbers : Bool)
     → bytes_eq collection (codes "jobs") ≡ jobs → bytes_eq collection (codes "modems") ≡ modems → bytes_eq collection (codes "grants") ≡ grants → bytes_eq collection (codes "imports") ≡ imports → bytes_eq collection (codes "numbers") ≡ numbers
     → cond jobs (jobs_request method rest) (cond modems (modems_request method rest) (cond grants (grants_request method rest) (cond imports (imports_request method rest) (cond numbers (numbers_request method rest) None)))) ≡ Some request
@@ -191,20 +216,24 @@ in_collection method collection rest request false false false true numbers e f 
 in_collection method collection rest request false false false false true e f g h i is = one_more collection rest (same_text collection (codes "numbers") i refl) (in_numbers method rest request is)
 in_collection method collection rest request false false false false false e f g h i is = absurd cc
 
+-- so have the texts behind the first slash
 in_root : (method : Method) (rest : List (List ℕ)) (request : Request) → root_request method rest ≡ Some request → lacks_lf rest
 in_root method [] request is = refl
 in_root method (collection ∷ rest) request is = in_collection method collection rest request _ _ _ _ _ refl refl refl refl refl is
 
+-- so have these with the nothing in front of it
 in_lead : (method : Method) (lead : List ℕ) (rest : List (List ℕ)) (request : Request) (empty : Bool) → eqb (length lead) 0 ≡ empty
     → cond empty (root_request method rest) None ≡ Some request → lacks_lf (lead ∷ rest)
 in_lead method lead rest request true e is =
     one_more lead rest (ap (has_byte 10) (nil_from_length lead (eqb-true (length lead) 0 e))) (in_root method rest request is)
 in_lead method lead rest request false e is = absurd cc
 
+-- so have all texts of a path
 in_path : (method : Method) (texts : List (List ℕ)) (request : Request) → path_request method texts ≡ Some request → lacks_lf texts
 in_path method [] request is = refl
 in_path method (lead ∷ rest) request is = in_lead method lead rest request (eqb (length lead) 0) refl is
 
+-- so a path that names a request has none
 pub routed_paths_lack_lf : RoutedPathsLackLf
 unfolding request_of
 routed_paths_lack_lf method path request is = byte_of_parts path ∙ in_path method (parts path) request is

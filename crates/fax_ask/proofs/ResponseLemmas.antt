@@ -47,6 +47,7 @@ short_word Unavailable = lit≤ tt
 short_word GivenUp = lit≤ tt
 short_word FloorHigh = lit≤ tt
 
+-- the words of faults of lines are short
 short_line_word : (kind : LineKind) → length (line_word kind) ≤ 16
 short_line_word line.NotText = lit≤ tt
 short_line_word line.NoColon = lit≤ tt
@@ -56,6 +57,7 @@ short_line_word line.BadValue = lit≤ tt
 short_line_word line.OpenEnd = lit≤ tt
 short_line_word line.NoMemory = lit≤ tt
 
+-- so are those of faults of orders
 short_order_word : (fault : OrderFault) → length (order_word fault) ≤ 16
 short_order_word order.NoNumber = lit≤ tt
 short_order_word order.BadDial = lit≤ tt
@@ -91,6 +93,7 @@ plain other h = refl
 
 -- ---- statuses
 
+-- a reply has the status 200 or 201
 pub accepted_statuses : AcceptedAre200Or201
 accepted_statuses (Replied (Submitted job)) = inr refl
 accepted_statuses (Replied (Brought job state)) = inr refl
@@ -98,14 +101,17 @@ accepted_statuses (Replied other) = inl refl
 accepted_statuses (Shown lines) = inl refl
 accepted_statuses (Listed text) = inl refl
 
+-- 503 stands for want of memory or the store alone
 pub unavailable_alone : OnlyUnavailableIs503
 unavailable_alone Unavailable keys e = refl
 unavailable_alone other keys e = absurd (omega arith)
 
+-- these are statuses of HTTP
 pub accepted_status : (status : ℕ) → IsAcceptedStatus status → IsStatusCode status
 accepted_status status (inl is) = (omega arith, omega arith)
 accepted_status status (inr is) = (omega arith, omega arith)
 
+-- so is that of each refusal
 pub refused_status : (refusal : Refusal) → IsStatusCode (refusal_status refusal)
 refused_status BadHttp = (lit≤ tt, lit< tt)
 refused_status TooLarge = (lit≤ tt, lit< tt)

@@ -94,16 +94,19 @@ numbers_rows = led_by (codes "numbers") (led_by (47 ∷ []) numbers_below ++ end
 abbrev collections : RowsOf Entry
 collections = grants_rows ++ (imports_rows ++ (jobs_rows ++ (modems_rows ++ numbers_rows)))
 
+-- the table has the rows of the collections, behind a slash
 rows_are : table ≡ led_by [] (led_by (47 ∷ []) collections ++ ends_of None)
 unfolding matchit_on_literals table plain_route id_route
 rows_are = refl
 
 -- ---- the three collections
 
+-- where a number names nothing, a text that may be one doesn't either
 always_none : (o : Option ℕ) → option_and_then {T = ℕ} {U = Request} (λ number. None) o ≡ None
 always_none None = refl
 always_none (Some n) = refl
 
+-- a route with its parameter between slashes says what its request is with that text
 middle_says : (w name : List ℕ) (value : Route) (names : Method → Option Request) (id : List ℕ) → are_bytes w ≡ true
     → part_of (w ++ (codes "{id}" ++ 47 ∷ name)) (length w + 1) (length w + 3) ≡ codes "id"
     → IsUtf8 id → has_slash id ≡ false → ((method : Method) → names method ≡ route_request method value (Some id))
@@ -113,6 +116,7 @@ middle_says w name value names id h key u f same =
     taken_says names (w ++ (id ++ 47 ∷ name)) (id_route w (47 ∷ name) value) id
     (taken_middle w name id name (w ++ (codes "{id}" ++ 47 ∷ name)) (length w + 1, length w + 3) h f ∙ ap (λ (k : List ℕ). (k, id) ∷ []) key) u same
 
+-- so does one with its parameter at the end
 last_says : (w : List ℕ) (value : Route) (names : Method → Option Request) (id : List ℕ) → are_bytes w ≡ true
     → part_of (w ++ codes "{id}") (length w + 1) (length w + 3) ≡ codes "id"
     → IsUtf8 id → ((method : Method) → names method ≡ route_request method value (Some id))
@@ -125,6 +129,7 @@ last_says w value names id h key u same =
 abbrev plain : {rs : RowsOf Entry} → step param_token rs ≡ [] → step catch_all_token rs ≡ [] → IsPlain rs
 plain {rs} params catches = record { params = params; catches = catches }
 
+-- a route's request is known by its methods
 by_method : (names : Method → Option Request) (value : Route) (id : List ℕ)
     → names Get ≡ route_request Get value (Some id) → names Post ≡ route_request Post value (Some id)
     → names Another ≡ None → (method : Method) → names method ≡ route_request method value (Some id)
@@ -132,6 +137,7 @@ by_method names value id get post another Get = get
 by_method names value id get post another Post = post
 by_method names value id get post another Another = another
 
+-- a word behind a job's number says which request it is
 job_word : (id : List ℕ) → IsUtf8 id → has_slash id ≡ false → (name : List ℕ) (value : Route)
     → jobs_request Post (id ∷ name ∷ []) ≡ posted value (Some id) → shown value (Some id) ≡ None
     → part_of (codes "/jobs/" ++ (codes "{id}" ++ 47 ∷ name)) 7 9 ≡ codes "id"
@@ -140,21 +146,25 @@ job_word id u f name value post get key =
     middle_says (codes "/jobs/") name value (λ method. jobs_request method (id ∷ name ∷ [])) id refl key u f
     (by_method (λ method. jobs_request method (id ∷ name ∷ [])) value id (always_none (request_number_of id) ∙ sym get) post (always_none (request_number_of id)))
 
+-- no other word is an action on a job
 no_job_action : (job : ℕ) (text : List ℕ) → NoneIs text of_jobs → job_action job text ≡ None
 no_job_action job text none = rw (none.1.1.1.0, none.1.1.0, none.1.0, none.0)
 
+-- so none names a request behind what may be a number
 no_job_word : (o : Option ℕ) (text : List ℕ) → NoneIs text of_jobs → (method : Method) → option_and_then (λ job. job_request method job (text ∷ [])) o ≡ None
 no_job_word None text none method = refl
 no_job_word (Some job) text none Get = refl
 no_job_word (Some job) text none Post = no_job_action job text none
 no_job_word (Some job) text none Another = refl
 
+-- nor does anything longer
 long_job : (o : Option ℕ) (text more : List ℕ) (rest : List (List ℕ)) (method : Method) → option_and_then (λ job. job_request method job (text ∷ more ∷ rest)) o ≡ None
 long_job None text more rest method = refl
 long_job (Some job) text more rest Get = refl
 long_job (Some job) text more rest Post = refl
 long_job (Some job) text more rest Another = refl
 
+-- the routes behind `/jobs/` are a collection
 jobs_are : IsCollection (codes "/jobs/") jobs_request job_end of_jobs
 jobs_are = record {
   apart = (refl, refl, plain refl refl, (refl, refl, plain refl refl, (refl, refl, plain refl refl, (refl, refl, plain refl refl, tt))));
@@ -176,6 +186,7 @@ jobs_are = record {
   longer = λ id text more rest method. long_job (request_number_of id) text more rest method;
 }
 
+-- a word behind a modem's name says which request it is
 modem_word : (id : List ℕ) → IsUtf8 id → has_slash id ≡ false → (name : List ℕ) (value : Route)
     → modems_request Post (id ∷ name ∷ []) ≡ posted value (Some id) → shown value (Some id) ≡ None
     → part_of (codes "/modems/" ++ (codes "{id}" ++ 47 ∷ name)) 9 11 ≡ codes "id"
@@ -184,11 +195,13 @@ modem_word id u f name value post get key =
     middle_says (codes "/modems/") name value (λ method. modems_request method (id ∷ name ∷ [])) id refl key u f
     (by_method (λ method. modems_request method (id ∷ name ∷ [])) value id (sym get) post refl)
 
+-- no name is no modem
 no_modem : (rest : List (List ℕ)) → modem_request (two_texts ([] ∷ rest)) ≡ None
 no_modem [] = refl
 no_modem (x ∷ []) = refl
 no_modem (x ∷ y ∷ rest) = refl
 
+-- no other word is an action on a modem
 no_modem_word : (modem text : List ℕ) → NoneIs text of_modems → cond (is_name modem) (modem_action modem text) None ≡ None
 no_modem_word modem text none = by (is_name modem) (rw (none.1.1.0, none.0, none.1.0))
   where
@@ -196,10 +209,12 @@ no_modem_word modem text none = by (is_name modem) (rw (none.1.1.0, none.0, none
     by true e = e
     by false e = refl
 
+-- a request on a name is that on what passes as one
 on_name : (v : Bool) (request_on : List ℕ → Request) (id : List ℕ) → cond v (Some (request_on id)) None ≡ option_map request_on (cond v (Some id) None)
 on_name true request_on id = refl
 on_name false request_on id = refl
 
+-- the routes behind `/modems/` are a collection
 modems_are : IsCollection (codes "/modems/") modems_request None of_modems
 modems_are = record {
   apart = (refl, refl, plain refl refl, (refl, refl, plain refl refl, (refl, refl, plain refl refl, tt)));
@@ -217,6 +232,7 @@ modems_are = record {
   longer = λ id text more rest method. elim method as (λ m. modems_request m (id ∷ text ∷ more ∷ rest) ≡ None) [ Get ↦ refl | Post ↦ refl | Another ↦ refl ];
 }
 
+-- a word behind a grant's number says which request it is
 grant_word : (id : List ℕ) → IsUtf8 id → has_slash id ≡ false → (name : List ℕ) (value : Route)
     → grants_request Post (id ∷ name ∷ []) ≡ posted value (Some id) → shown value (Some id) ≡ None
     → part_of (codes "/grants/" ++ (codes "{id}" ++ 47 ∷ name)) 9 11 ≡ codes "id"
@@ -225,15 +241,18 @@ grant_word id u f name value post get key =
     middle_says (codes "/grants/") name value (λ method. grants_request method (id ∷ name ∷ [])) id refl key u f
     (by_method (λ method. grants_request method (id ∷ name ∷ [])) value id (sym get) post refl)
 
+-- no number is no grant
 no_grant : (rest : List (List ℕ)) → grant_request (two_texts ([] ∷ rest)) ≡ None
 no_grant [] = refl
 no_grant (x ∷ []) = refl
 no_grant (x ∷ y ∷ rest) = refl
 
+-- no other word is a report on a grant
 no_grant_word : (o : Option ℕ) (text : List ℕ) → NoneIs text of_grants → option_and_then (λ grant. grant_report grant text) o ≡ None
 no_grant_word None text none = refl
 no_grant_word (Some grant) text none = rw (none.0, none.1.1.0, none.1.0)
 
+-- the routes behind `/grants/` are a collection
 grants_are : IsCollection (codes "/grants/") grants_request None of_grants
 grants_are = record {
   apart = (refl, refl, plain refl refl, (refl, refl, plain refl refl, (refl, refl, plain refl refl, tt)));
@@ -253,15 +272,18 @@ grants_are = record {
 
 -- ---- the whole
 
+-- what follows `/grants` says which request is named
 in_grants : (more : Option (List ℕ)) → IsTextIfSome more
     → Says (λ method. root_request method (codes "grants" ∷ parts_left more)) (47 ∷ joined (codes "grants") more) (behind None grants_below more)
 in_grants None u = λ method. elim method as (λ m. grants_request m [] ≡ None) [ Get ↦ refl | Post ↦ refl | Another ↦ refl ]
 in_grants (Some path) u = in_collection (codes "/grants/") grants_request None of_grants grants_are path u
 
+-- with a text behind it, `imports` names none
 no_import : (texts : List (List ℕ)) (text : List ℕ) (more : List (List ℕ)) → texts ≡ text ∷ more → (method : Method) → imports_request method texts ≡ None
 no_import texts text more e method =
     ap (imports_request method) e ∙ (elim method as (λ m. imports_request m (text ∷ more) ≡ None) [ Get ↦ refl | Post ↦ refl | Another ↦ refl ])
 
+-- what follows `/imports` says which request is named
 in_imports : (more : Option (List ℕ)) → IsTextIfSome more
     → Says (λ method. root_request method (codes "imports" ∷ parts_left more)) (47 ∷ joined (codes "imports") more) (behind imports_end [] more)
 unfolding plain_route
@@ -270,6 +292,7 @@ in_imports (Some path) u =
     says_by (λ method. root_request method (codes "imports" ∷ parts path)) (47 ∷ joined (codes "imports") (Some path)) (first {K = Entry} [] path) None (seek_empty 0 path)
     (λ method. let texts = filled path in no_import (parts path) texts.0 texts.1 texts.2 method)
 
+-- but for `floor`, nothing behind `numbers` names one
 no_number : (texts : List (List ℕ)) (method : Method) → ((text : List ℕ) → texts ≡ text ∷ [] → bytes_eq text (codes "floor") ≡ false) → numbers_request method texts ≡ None
 no_number texts Get other = refl
 no_number [] Post other = refl
@@ -293,6 +316,7 @@ numbers_says text more = by (bytes_eq text (codes "floor")) refl more
         (λ method. let texts = filled path in
         no_number (text ∷ parts path) method (λ other is. absurd (let n = ap length is in let m = ap length texts.2 in omega (arith, n, m))))
 
+-- what follows `/numbers` says which request is named
 in_numbers : (more : Option (List ℕ))
     → Says (λ method. root_request method (codes "numbers" ∷ parts_left more)) (47 ∷ joined (codes "numbers") more) (behind None numbers_below more)
 in_numbers None = λ method. elim method as (λ m. numbers_request m [] ≡ None) [ Get ↦ refl | Post ↦ refl | Another ↦ refl ]
@@ -304,11 +328,13 @@ in_numbers (Some path) =
     (says_by (λ method. numbers_request method (c.text ∷ parts_left c.more)) (codes "/numbers/" ++ joined c.text c.more) (first numbers_below (joined c.text c.more)) (cond (bytes_eq c.text (codes "floor")) (behind floor_end [] c.more) None)
     (word (codes "floor") c.text [] floor_end c.more refl c.free) (numbers_says c.text c.more)))
 
+-- what follows `/modems` does
 in_modems : (more : Option (List ℕ)) → IsTextIfSome more
     → Says (λ method. root_request method (codes "modems" ∷ parts_left more)) (47 ∷ joined (codes "modems") more) (behind None modems_below more)
 in_modems None u = λ method. elim method as (λ m. modems_request m [] ≡ None) [ Get ↦ refl | Post ↦ refl | Another ↦ refl ]
 in_modems (Some path) u = in_collection (codes "/modems/") modems_request None of_modems modems_are path u
 
+-- what follows `/jobs` does
 in_jobs : (more : Option (List ℕ)) → IsTextIfSome more
     → Says (λ method. root_request method (codes "jobs" ∷ parts_left more)) (47 ∷ joined (codes "jobs") more)
     (behind jobs_end jobs_below more)
@@ -325,6 +351,7 @@ by_name text more =
     (or_else (cond (bytes_eq text (codes "modems")) (behind None modems_below more) None)
     (cond (bytes_eq text (codes "numbers")) (behind None numbers_below more) None))))
 
+-- the name of a collection has its rows
 name_found : (text : List ℕ) (more : Option (List ℕ)) → has_slash text ≡ false → first collections (joined text more) ≡ by_name text more
 name_found text more f =
     branch 103 (codes "rants") (led_by (47 ∷ []) grants_below ++ ends_of None) (imports_rows ++ (jobs_rows ++ (modems_rows ++ numbers_rows))) (joined text more) (omega arith) refl (plain refl refl)
@@ -337,10 +364,12 @@ name_found text more f =
     ∙ ap₂ or_else (word (codes "modems") text modems_below None more refl f)
     (word (codes "numbers") text numbers_below None more refl f))))
 
+-- no other name has a request
 other_name : (text : List ℕ) (rest : List (List ℕ)) → bytes_eq text (codes "grants") ≡ false → bytes_eq text (codes "imports") ≡ false → bytes_eq text (codes "jobs") ≡ false → bytes_eq text (codes "modems") ≡ false → bytes_eq text (codes "numbers") ≡ false
     → (method : Method) → root_request method (text ∷ rest) ≡ None
 other_name text rest grants imports jobs modems numbers method = rw (jobs, modems, grants, imports, numbers)
 
+-- a name and what follows it say which request is named
 name_says : (text : List ℕ) (more : Option (List ℕ)) → IsTextIfSome more → Says (λ method. root_request method (text ∷ parts_left more)) (47 ∷ joined text more) (by_name text more)
 name_says text more u = by (bytes_eq text (codes "grants")) refl (bytes_eq text (codes "imports")) refl (bytes_eq text (codes "jobs")) refl (bytes_eq text (codes "modems")) refl (bytes_eq text (codes "numbers")) refl
   where
@@ -369,6 +398,7 @@ name_says text more u = by (bytes_eq text (codes "grants")) refl (bytes_eq text 
     by false e false i false f false g false n =
         says_by (λ method. root_request method (text ∷ parts_left more)) (47 ∷ joined text more) (by_name text more) None (rw (e, i, f, g, n)) (other_name text (parts_left more) e i f g n)
 
+-- so does a path behind its slash
 in_collections : (path : List ℕ) → IsUtf8 path → Says (λ method. root_request method (parts path)) (47 ∷ path) (first collections path)
 in_collections path u =
     let c = cut path in
@@ -379,6 +409,7 @@ in_collections path u =
     (says_by (λ method. root_request method (c.text ∷ parts_left c.more)) (47 ∷ joined c.text c.more) (first collections (joined c.text c.more)) (by_name c.text c.more)
     (name_found c.text c.more c.free) (name_says c.text c.more t.1)))
 
+-- so does a path, which begins with a slash
 lead_says : (text : List ℕ) (more : Option (List ℕ)) → IsTextIfSome more
     → Says (λ method. path_request method (text ∷ parts_left more)) (joined text more) (cond (bytes_eq text []) (behind None collections more) None)
 lead_says [] None u = λ method. refl
@@ -403,10 +434,12 @@ routed path u =
 -- ---- what `Routes::request` cites
 
 module _ (path : List ℕ) (rows : RowsOf Entry) (text : IsUtf8 path) (all : rows ≡ table) (method : Method) where
+  -- a path with no route names no request
   pub no_route : first rows path ≡ None → request_of method path ≡ None
   no_route none =
       subst (Says (λ m. request_of m path) path) (ap (λ (r : RowsOf Entry). first r path) (sym all) ∙ none) (routed path text) method
 
+  -- a parameter that is told is the one that was found
   got : (id : Option (Bor (List ℕ))) (found : Option (List ℕ)) → MatchOption id (found ≡ None) (λ value. found ≡ Some value.now) → found ≡ option_copied id
   got None found e = e
   got (Some value) found e = e
@@ -417,6 +450,7 @@ module _ (path : List ℕ) (rows : RowsOf Entry) (text : IsUtf8 path) (all : row
       AllText (walk route.pattern route.text seen route.names 0 0)
       → MatchOption id (named (codes "id") (walk route.pattern route.text seen route.names 0 0) ≡ None) (λ value. named (codes "id") (walk route.pattern route.text seen route.names 0 0) ≡ Some value.now)
 
+  -- a route that was found says which request is named
   pub found_route : (route : Entry) (seen : List ℕ) (id : Option (Bor (List ℕ))) → seen ≡ path → first rows path ≡ Some route → Gives route seen id
       → route_request method route.value (option_copied id) ≡ request_of method path
   found_route route seen id same found get =

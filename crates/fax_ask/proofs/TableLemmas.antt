@@ -28,13 +28,16 @@ pub record IsOnTheWay (items : List (Bor (List ℕ) × Route)) (i : ℕ) (rows :
   pub makes : with_routes (left items i) rows ≡ table
   pub free : are_free (left items i) rows ≡ true
 
+-- nothing was added yet
 pub from_none : (items : List (Bor (List ℕ) × Route)) (rows : RowsOf (RouteOf Route)) → rows ≡ [] → with_routes (left items 0) [] ≡ table → are_free (left items 0) [] ≡ true → IsOnTheWay items 0 rows
 from_none items rows e m f = subst (IsOnTheWay items 0) (sym e) (record { makes = m; free = f })
 
+-- the patterns left are the next one and those behind
 left_more : (items : List (Bor (List ℕ) × Route)) (i : ℕ) (d : Bor (List ℕ) × Route) → i < length items
     → left items i ≡ ((get_or items i d).0.now, (get_or items i d).1) ∷ left items (i + 1)
 left_more items i d h = rw (add-one, drop-cons items i d)
 
+-- a route that was added makes the rows with it
 added : (route : Route) (old new : RowsOf (RouteOf Route)) (u : Unit {0}) (read : Result Scan InsertError)
     → InsertsRead read route old new (Ok u) → new ≡ with_route read route old
 added route old new u (Ok scan) h = h.1
@@ -55,6 +58,7 @@ on_the_way items i d old new u way inserted h =
       free = ap (λ rows. are_free (left items (i + 1)) rows) n ∙ (and_parts _ _ f).1;
     }
 
+-- a free pattern that wasn't added failed for want of memory
 refused : (route : Route) (old new : RowsOf (RouteOf Route)) (e : InsertError) (read : Result Scan InsertError)
     → is_free read old ≡ true → InsertsRead read route old new (Err e) → e ≡ OutOfMemory
 refused route old new OutOfMemory (Ok scan) f h = refl

@@ -11,6 +11,7 @@ use Rattle.fax_ask.proofs.WalkLemmas.{segment_cut}
 abbrev pub are_bytes : List ℕ → Bool
 are_bytes w = list_all (λ b. ltb b 256) w
 
+-- the parameter stands behind these bytes, wherever the search begins
 found_from : (w t : List ℕ) (len token at : ℕ) → are_bytes w ≡ true → at + length w ≤ len
     → wild_from (w ++ param_token ∷ t) len token at ≡ (token + length w, at + length w)
 found_from [] t len token at h le =
@@ -24,11 +25,13 @@ found_from (x ∷ w) t len token at h le =
     let b : at + 1 + length w ≡ at + suc (length w) = omega arith in
     rw (p.0, n) (found_from w t len (token + 1) (at + 1) p.1 (omega arith) ∙ ap₂ (λ (x y : ℕ). (x, y)) a b)
 
+-- so it does from the start
 from_start : (w t rest : List ℕ) → are_bytes w ≡ true → wild_from (w ++ param_token ∷ t) (length (w ++ rest)) 0 0 ≡ (length w, length w)
 from_start w t rest h =
     let a : 0 + length w ≡ length w = omega arith in
     found_from w t (length (w ++ rest)) 0 0 h (omega (arith, length-append w rest)) ∙ ap₂ (λ (x y : ℕ). (x, y)) a a
 
+-- the part of a text between two others is that
 part_is : (w text rest : List ℕ) (stop : ℕ) → stop ≡ length w + length text → part_of (w ++ (text ++ rest)) (length w) stop ≡ text
 part_is w text rest stop e =
     let total : length (w ++ (text ++ rest)) ≡ length w + (length text + length rest) = omega (arith, length-append w (text ++ rest), length-append text rest) in
@@ -38,14 +41,17 @@ part_is w text rest stop e =
     ∙ ap₂ (λ (n : ℕ) (bytes : List ℕ). take n bytes) count (drop_at w (text ++ rest) (length w) refl)
     ∙ take_at text rest (length text) refl
 
+-- behind these bytes stands the parameter
 at_param : (w t : List ℕ) → get_or (w ++ param_token ∷ t) (length w) 0 ≡ param_token
 at_param [] t = refl
 at_param (x ∷ w) t = at_param w t
 
+-- and behind that the rest
 past_param : (w t : List ℕ) → drop (length w + 1) (w ++ param_token ∷ t) ≡ t
 past_param w t =
     sym (drop-drop 1 (length w) (w ++ param_token ∷ t)) ∙ ap (drop 1) (drop_at w (param_token ∷ t) (length w) refl)
 
+-- before a slash, the parameter takes the text up to it
 stop_middle : (w s text more : List ℕ) → has_slash text ≡ false
     → wild_stop (w ++ param_token ∷ 47 ∷ s) (length w) (w ++ (text ++ 47 ∷ more)) (length w) ≡ length w + length text
 stop_middle w s text more f =
@@ -69,17 +75,20 @@ taken_middle w s text more shown name h f =
     (from_start w (47 ∷ s) (text ++ 47 ∷ more) h)
     ∙ ap (λ (part : List ℕ). (part_of shown name.0 name.1, part) ∷ []) (part_is w text (47 ∷ more) _ stop)
 
+-- an and with false is false
 none_behind : (a b : Bool) → (a && b && false) ≡ false
 none_behind true true = refl
 none_behind true false = refl
 none_behind false b = refl
 
+-- at the end, the parameter takes the rest
 stop_last : (w path : List ℕ) → wild_stop (w ++ param_token ∷ []) (length w) path (length w) ≡ length path
 stop_last w path =
     let total : length (w ++ param_token ∷ []) ≡ length w + 1 = length-append w (param_token ∷ []) in
     let end = le-ltb (length w + 1) (length (w ++ param_token ∷ [])) (omega arith) in
     cond-false _ _ _ (ap (λ (behind : Bool). ltb (length w) (length (w ++ param_token ∷ [])) && (get_or (w ++ param_token ∷ []) (length w) 0 == param_token) && behind) end ∙ none_behind (ltb (length w) (length (w ++ param_token ∷ []))) (get_or (w ++ param_token ∷ []) (length w) 0 == param_token))
 
+-- the part from these bytes to the end is the text behind them
 part_last : (w text : List ℕ) (stop : ℕ) → stop ≡ length w + length text → part_of (w ++ text) (length w) stop ≡ text
 part_last w text stop e =
     sym (ap (λ (rest : List ℕ). part_of (w ++ rest) (length w) stop) (append-nil text)) ∙ part_is w text [] stop e

@@ -17,12 +17,14 @@ joined text (Some rest) = text ++ 47 ∷ rest
 abbrev pub is_word : List ℕ → Bool
 is_word word = list_all (λ b. ltb b 256 && not (b == 47)) word
 
+-- a word's first byte is a byte and no slash, and the rest is a word
 pub word_parts : (x : ℕ) (w : List ℕ) → is_word (x ∷ w) ≡ true → (x < 256) × (x ≢ 47) × (is_word w ≡ true)
 word_parts x w h =
     let both = and_parts (ltb x 256 && not (x == 47)) (is_word w) h in
     let here = and_parts (ltb x 256) (not (x == 47)) both.0 in
     (ltb-true x 256 here.0, λ e. absurd (grind (arith, nat_tests)), both.1)
 
+-- a text without a slash doesn't begin with one, nor has its rest one
 free_parts : (b : ℕ) (text : List ℕ) → has_slash (b ∷ text) ≡ false → (b ≢ 47) × (has_slash text ≡ false)
 free_parts b text h = by (b == 47) refl h
   where
@@ -30,12 +32,14 @@ free_parts b text h = by (b == 47) refl h
     by true e f = absurd cc
     by false e f = (λ q. absurd (grind (arith, nat_tests)), f)
 
+-- a byte before a text comes before what it is joined to
 pub joined_more : (b : ℕ) (text : List ℕ) (o : Option (List ℕ)) → joined (b ∷ text) o ≡ b ∷ joined text o
 joined_more b text None = refl
 joined_more b text (Some rest) = refl
 
 -- ---- texts and slashes
 
+-- a text without a slash doesn't end with one
 no_end_slash : (text : List ℕ) → has_slash text ≡ false → ends_with nat_eq text (47 ∷ []) ≡ false
 no_end_slash [] f = refl
 no_end_slash (b ∷ []) f =
@@ -45,11 +49,13 @@ no_end_slash (b ∷ c ∷ text) f =
     let n : suc (suc (length text)) - 1 ≡ suc (suc (length text) - 1) = omega arith in
     rw n (no_end_slash (c ∷ text) (free_parts b (c ∷ text) f).1)
 
+-- a text with a slash behind it does
 end_slash : (text : List ℕ) → ends_with nat_eq (text ++ 47 ∷ []) (47 ∷ []) ≡ true
 end_slash text =
     let n : length (text ++ 47 ∷ []) - 1 ≡ length text = omega (arith, length-append text (47 ∷ [])) in
     rw (n, drop_at text (47 ∷ []) (length text) refl)
 
+-- a text without a slash is its own segment
 segment_free : (text : List ℕ) → has_slash text ≡ false → segment text ≡ text
 segment_free [] f = refl
 segment_free (b ∷ text) f =
@@ -57,6 +63,7 @@ segment_free (b ∷ text) f =
     let e : (b == 47) ≡ false = ne_eqb b 47 p.0 in
     rw e (ap (λ rest. b ∷ rest) (segment_free text p.1))
 
+-- the segment of a text ends with its first slash
 pub segment_cut : (text rest : List ℕ) → has_slash text ≡ false → segment (text ++ 47 ∷ rest) ≡ text ++ 47 ∷ []
 segment_cut [] rest f = refl
 segment_cut (b ∷ text) rest f =
@@ -64,6 +71,7 @@ segment_cut (b ∷ text) rest f =
     let e : (b == 47) ≡ false = ne_eqb b 47 p.0 in
     rw e (ap (λ more. b ∷ more) (segment_cut text rest p.1))
 
+-- a text with a slash has one
 cut_has_slash : (text rest : List ℕ) → has_slash (text ++ 47 ∷ rest) ≡ true
 cut_has_slash [] rest = refl
 cut_has_slash (b ∷ text) rest = by (b == 47) (cut_has_slash text rest)
@@ -72,6 +80,7 @@ cut_has_slash (b ∷ text) rest = by (b == 47) (cut_has_slash text rest)
     by true ih = refl
     by false ih = ih
 
+-- a slash alone is no better suffix than none
 one_is_short : (suffix : List ℕ) → better (47 ∷ []) [] suffix ≡ []
 one_is_short [] = refl
 one_is_short (b ∷ suffix) =
@@ -82,6 +91,7 @@ one_is_short (b ∷ suffix) =
     either true = refl
     either false = refl
 
+-- in a segment without a slash, none is best
 free_is_best : (seg : List ℕ) → has_slash seg ≡ false → better seg [] (47 ∷ []) ≡ []
 free_is_best seg f =
     let e = no_end_slash seg f in
@@ -91,6 +101,7 @@ free_is_best seg f =
     by true = refl
     by false = refl
 
+-- in one with a slash at its end, that is
 cut_is_best : (b : ℕ) (text : List ℕ) → better (b ∷ (text ++ 47 ∷ [])) [] (47 ∷ []) ≡ 47 ∷ []
 cut_is_best b text =
     let e = end_slash (b ∷ text) in
@@ -120,6 +131,7 @@ module _ {K : Type 0} where
 
   -- ---- steps
 
+  -- no rows step nowhere with a parameter
   param_step_empty : (p : List ℕ) → (param_step {K = K} [] p).1 ≡ []
   unfolding param_step
   param_step_empty p =
@@ -128,22 +140,26 @@ module _ {K : Type 0} where
         | false ↦ refl
       ]
 
+  -- no rows find nothing
   pub seek_empty : (k : ℕ) (p : List ℕ) → seek {K = K} k [] p ≡ None
   unfolding seek
   seek_empty k [] = refl
   seek_empty (suc k) (b ∷ p) = seek_empty k p
   seek_empty zero (b ∷ p) = simp (seek_empty 0 p, param_step_empty (b ∷ p), seek_empty (((param_step {K = K} [] (b ∷ p)).0) - 1) p)
 
+  -- to seek past so many bytes is to seek from there
   seek_drop : (k : ℕ) (rs : RowsOf K) (p : List ℕ) → seek k rs p ≡ seek 0 rs (drop k p)
   unfolding seek
   seek_drop zero rs p = refl
   seek_drop (suc k) rs [] = refl
   seek_drop (suc k) rs (b ∷ p) = seek_drop k rs p
 
+  -- a first choice or none is the first
   pub or_none : (a : Option K) → or_else a None ≡ a
   or_none None = refl
   or_none (Some key) = refl
 
+  -- two lists of rows step each by itself
   step_append : (b : ℕ) (x y : RowsOf K) → step b (x ++ y) ≡ step b x ++ step b y
   step_append b [] y = refl
   step_append b (([], key) ∷ x) y = step_append b x y
@@ -153,37 +169,45 @@ module _ {K : Type 0} where
         | false ↦ step_append b x y
       ]
 
+  -- the route that ends in either is the first's, or the second's
   own_append : (x y : RowsOf K) → own (x ++ y) ≡ or_else (own x) (own y)
   own_append [] y = refl
   own_append (([], key) ∷ x) y = refl
   own_append ((a ∷ t, key) ∷ x) y = own_append x y
 
+  -- none ends in rows with a byte in front
   own_led : (x : ℕ) (w : List ℕ) (rs : RowsOf K) → own (led_by (x ∷ w) rs) ≡ None
   own_led x w [] = refl
   own_led x w ((t, key) ∷ rs) = own_led x w rs
 
+  -- a route that ends here does
   own_ends : (end : Option K) → own (ends_of end) ≡ end
   own_ends None = refl
   own_ends (Some key) = refl
 
+  -- it goes on with no byte
   step_ends : (b : ℕ) (end : Option K) → step b (ends_of end) ≡ []
   step_ends b None = refl
   step_ends b (Some key) = refl
 
+  -- rows with nothing in front are the rows
   led_by_none : (rs : RowsOf K) → led_by [] rs ≡ rs
   led_by_none [] = refl
   led_by_none ((t, key) ∷ rs) = ap (λ rows. (t, key) ∷ rows) (led_by_none rs)
 
+  -- rows with none behind are the rows
   append_none : (rs : RowsOf K) → rs ++ [] ≡ rs
   append_none [] = refl
   append_none (r ∷ rs) = ap (λ rows. r ∷ rows) (append_none rs)
 
+  -- rows with a byte in front step with it
   step_hit : (b : ℕ) (w : List ℕ) (rs : RowsOf K) → step b (led_by (b ∷ w) rs) ≡ led_by w rs
   step_hit b w [] = refl
   step_hit b w ((t, key) ∷ rs) =
       let e : (b == b) ≡ true = grind (arith, nat_tests) in
       rw e (ap (λ rows. (w ++ t, key) ∷ rows) (step_hit b w rs))
 
+  -- and with no other
   step_miss : (b x : ℕ) (w : List ℕ) (rs : RowsOf K) → x ≢ b → step b (led_by (x ∷ w) rs) ≡ []
   step_miss b x w [] n = refl
   step_miss b x w ((t, key) ∷ rs) n =
@@ -200,19 +224,23 @@ module _ {K : Type 0} where
         catches = step_append catch_all_token (led_by (x ∷ w) next) (ends_of end) ∙ rw (step_miss catch_all_token x w next m) (step_ends catch_all_token end);
       }
 
+  -- rows of bytes alone find what they step to
   pub seek_byte : (rs : RowsOf K) (b : ℕ) (p : List ℕ) → IsPlain rs → seek 0 rs (b ∷ p) ≡ seek 0 (step b rs) p
   unfolding seek
   seek_byte rs b p plain =
       simp (plain.params, plain.catches, param_step_empty (b ∷ p), seek_empty ((param_step {K = K} [] (b ∷ p)).0 - 1) p, or_none)
 
+  -- rows under a byte step with it
   step_under : (x : ℕ) (w : List ℕ) (next : RowsOf K) (end : Option K) → step x (led_by (x ∷ w) next ++ ends_of end) ≡ led_by w next
   step_under x w next end =
       step_append x (led_by (x ∷ w) next) (ends_of end) ∙ rw (step_hit x w next, step_ends x end) (append_none (led_by w next))
 
+  -- and with no other
   step_beside : (b x : ℕ) (w : List ℕ) (next : RowsOf K) (end : Option K) → x ≢ b → step b (led_by (x ∷ w) next ++ ends_of end) ≡ []
   step_beside b x w next end n =
       step_append b (led_by (x ∷ w) next) (ends_of end) ∙ rw (step_miss b x w next n) (step_ends b end)
 
+  -- rows under a byte begin with bytes alone
   plain_led : (x : ℕ) (w : List ℕ) (rs : RowsOf K) → x < 256 → IsPlain (led_by (x ∷ w) rs)
   plain_led x w rs low =
       let n : x ≢ param_token = λ e. omega arith in
@@ -294,41 +322,49 @@ module _ {K : Type 0} where
 
   -- ---- parameters
 
+  -- a slash is no better suffix of itself than none
   longest_one : (rs : RowsOf K) → longest_from (47 ∷ []) [] rs ≡ []
   longest_one [] = refl
   longest_one ((t, key) ∷ rs) = ap (λ best. longest_from (47 ∷ []) best rs) (one_is_short (segment t)) ∙ longest_one rs
 
+  -- of a segment without a slash no suffix is found
   longest_last : (seg : List ℕ) (next : RowsOf K) (end : Option K) → has_slash seg ≡ false → longest_from seg [] (led_by (47 ∷ []) next ++ ends_of end) ≡ []
   longest_last seg [] None f = refl
   longest_last seg [] (Some key) f = refl
   longest_last seg ((t, key) ∷ next) end f =
       ap (λ best. longest_from seg best (led_by (47 ∷ []) next ++ ends_of end)) (free_is_best seg f) ∙ longest_last seg next end f
 
+  -- of one with a slash at its end, that is
   longest_slash : (seg : List ℕ) (next : RowsOf K) (end : Option K) → longest_from seg (47 ∷ []) (led_by (47 ∷ []) next ++ ends_of end) ≡ 47 ∷ []
   longest_slash seg [] None = refl
   longest_slash seg [] (Some key) = refl
   longest_slash seg ((t, key) ∷ next) end = longest_slash seg next end
 
+  -- the rows behind the slash are those with it in front
   with_slash : (next : RowsOf K) (end : Option K) → with_suffix (47 ∷ []) (led_by (47 ∷ []) next ++ ends_of end) ≡ led_by (47 ∷ []) next
   with_slash [] None = refl
   with_slash [] (Some key) = refl
   with_slash ((t, key) ∷ next) end = ap (λ rows. (47 ∷ t, key) ∷ rows) (with_slash next end)
 
+  -- a parameter takes nothing before a slash
   at_slash : (rs : RowsOf K) (rest : List ℕ) → param_step rs (47 ∷ rest) ≡ (0, [])
   unfolding param_step
   at_slash rs rest = rw (longest_one rs)
 
+  -- at the end it takes the whole path
   in_last : (path : List ℕ) (next : RowsOf K) (end : Option K) → has_slash path ≡ false
       → param_step (led_by (47 ∷ []) next ++ ends_of end) path ≡ (length path, led_by (47 ∷ []) next ++ ends_of end)
   unfolding param_step
   in_last path next end f = rw (segment_free path f, longest_last path next end f, f)
 
+  -- it takes the segment but for the suffix found, or else a path without a slash
   param_step_by : (rs : RowsOf K) (path suffix : List ℕ) → longest_suffix (segment path) rs ≡ suffix
       → param_step rs path ≡ cond (ltb 0 (length suffix)) (length (segment path) - length suffix, with_suffix suffix rs) (cond (has_slash path) (0, []) (length path, rs))
   unfolding param_step
   param_step_by rs path suffix e =
       ap (λ (s : List ℕ). cond (ltb 0 (length s)) (length (segment path) - length s, with_suffix s rs) (cond (has_slash path) (0, []) (length path, rs))) e
 
+  -- before a slash it takes the text up to it
   in_middle : (b : ℕ) (text rest : List ℕ) (row : List ℕ × K) (next : RowsOf K) (end : Option K) → has_slash (b ∷ text) ≡ false
       → param_step (led_by (47 ∷ []) (row ∷ next) ++ ends_of end) (b ∷ (text ++ 47 ∷ rest)) ≡ (suc (length text), led_by (47 ∷ []) (row ∷ next))
   in_middle b text rest row next end f =
@@ -342,6 +378,7 @@ module _ {K : Type 0} where
       param_step_by rows (b ∷ (text ++ 47 ∷ rest)) (47 ∷ []) best
       ∙ ap₂ (λ (count : ℕ) (more : RowsOf K). (count, more)) n (with_slash (row ∷ next) end)
 
+  -- rows with a parameter in front step with it alone
   under_param : (rs : RowsOf K) → (step param_token (led_by (param_token ∷ []) rs) ≡ rs) × (step catch_all_token (led_by (param_token ∷ []) rs) ≡ [])
   under_param rs =
       let n : param_token ≢ catch_all_token = λ e. omega arith in
@@ -356,6 +393,7 @@ module _ {K : Type 0} where
       let u = under_param rs in
       simp (step_miss b param_token [] rs n, u.0, u.1, seek_empty 0 p, or_none)
 
+  -- past the end a route is found that ends here
   no_bytes_left : (k : ℕ) (rs : RowsOf K) (p : List ℕ) → length p ≤ k → seek k rs p ≡ own rs
   unfolding seek
   no_bytes_left k rs [] h = refl
