@@ -49,6 +49,7 @@ record SameLeft (reply other : Response) (left right : State) : Type 0 where
   pub here : Means left queue kept
   pub there : Means right queue kept
 
+-- one verdict leaves one reply and one queue
 left_same : (m : Queue) (k : Ledger) (reply other : Response) (left right : State) (v : Verdict) → Sound m
     → Leaves m k reply left v → Leaves m k other right v → SameLeft reply other left right
 left_same m k reply other left right (Told told) sound (e, here) (e', there) =
@@ -58,6 +59,7 @@ left_same m k reply other left right (Repeated told) sound (e, serves, here) (e'
 left_same m k reply other left right (Accepted after kept told) sound (e, serves, here, stays) (e', serves', there, more) =
     record { replies = e ∙ sym e'; queue = after; kept = kept; sound = stays; here = λ _. here; there = λ _. there }
 
+-- two arrivals of one message that are handled leave one reply and one queue, where neither is refused with 27
 handled_same : (s : Settings) (m : Queue) (k : Ledger) (head : RequestHead) (body : List ℕ) (moment : ℕ) (a b : Arrival)
     (reply other : Response) (left right : State) → Sound m → IsArrival head body moment a → IsArrival head body moment b
     → ¬ (reply ≡ refused_response Unavailable NoKeys) → ¬ (other ≡ refused_response Unavailable NoKeys)
@@ -73,11 +75,13 @@ handled_same s m k head body moment a b reply other left right sound is_a is_b s
 
 -- ---- all messages
 
+-- turns with the same head, body and reply are the same
 same_turn : (turn other : Turn) → turn.head ≡ other.head → turn.body ≡ other.body → turn.reply ≡ other.reply → turn ≡ other
 same_turn turn other head body reply =
     ap (λ h. record turn { head = h }) head ∙ ap (λ b. record turn { head = other.head; body = b }) body
     ∙ ap (λ r. record other { reply = r }) reply
 
+-- two runs of the same messages from one queue have the same turns, where nothing gave out
 one_run : (s : Settings) (last : ℕ) (m : Queue) (k : Ledger) (turns others : List Turn) (held other : Held MemStore)
     → Sound m → Means (state over_memory held) m k → Means (state over_memory other) m k
     → map message_of turns ≡ map message_of others → NoneGaveOut turns → NoneGaveOut others
@@ -103,6 +107,7 @@ one_run s last m k (turn ∷ turns) (turn₂ ∷ turns₂) held other sound here
     behind none.1 more.1 a.2 (subst (λ t. AreHandled s t b.0 turns₂) (sym moment) b.2) in
     ap (λ t. t ∷ turns) (same_turn turn turn₂ head body left.replies) ∙ ap (λ ts. turn₂ ∷ ts) rest
 
+-- so two replays of one input do
 pub one_replay : OneReplay
 one_replay office other bound input turns others stop another settings r q a b none more =
     let one = one_division bound input turns others stop another r q in (

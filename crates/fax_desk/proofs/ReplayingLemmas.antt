@@ -48,6 +48,7 @@ still_on answers over each old [] new on same = ap over same ∙ on
 still_on answers over each old (turn ∷ turns) new on (next, here, behind) =
     still_on answers over each next turns new (each old turn.head turn.body turn.reply next here) behind
 
+-- what is served from the empty queue is a replay
 pub replayed_of : {R W H : Type 0} (remaining : R → Option (List ℕ)) (contents : W → Option (List ℕ)) (answers : Answering H) (over : H → Bool) (office : Office)
     (reader reader₂ : Watched R) (out out₂ : Watched W) (old new : H) (served : Served)
     → ((turns : List Turn) → Answers answers old turns new → AreOfEmptyQueue office turns)

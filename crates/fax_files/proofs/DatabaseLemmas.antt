@@ -13,6 +13,7 @@ use Rattle.fax_schema.specs.Schema.{AreOurs}
 use Rattle.fax_tables.specs.Tables.{RowsMean}
 use Rattle.fax_files.specs.Database.{IsFound}
 
+-- a database that was opened and adopted has what was found in its file
 pub found_by : (image : Image) (opened new : State) → FindsIn image opened → Opens opened → IsLive opened → Adopts opened.now new → Serves new
     → ((m : Queue) (k : Ledger) → AreOurs opened.now.schema → RowsMean opened.now m k → Means new m k)
     → (Serves new → LeavesAlone new new.committed.trees) → IsFound image new

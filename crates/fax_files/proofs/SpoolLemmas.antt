@@ -11,6 +11,7 @@ use Rattle.fax_files.specs.declared.spool.SpoolFault.TheVariants.{Words, Unreada
 use Rattle.fax_text.specs.Import.{first_number, import_message, import_messages}
 use Rattle.fax_text.specs.declared.import_words.ImportPlan.{ImportPlan}
 
+-- the messages of one body more are those before and its own, with the next number
 one_more : (client : List ℕ) (first number : ℕ) (bodies : List (List ℕ)) (body : List ℕ) → number ≡ first + length bodies → import_messages client first (bodies ++ body ∷ []) ≡ import_messages client first bodies ++ import_message client number body
 one_more client first number [] body is =
     let here : first ≡ number = omega arith in
@@ -20,6 +21,7 @@ one_more client first number (b ∷ bodies) body is =
     ap (λ (rest : List ℕ). import_message client first b ++ rest) (one_more client (first + 1) number bodies body here)
     ∙ sym (append_assoc (import_message client first b) (import_messages client (first + 1) bodies) (import_message client number body))
 
+-- no text is no imports
 pub none_yet : (client : List ℕ) (first : ℕ) (text : List ℕ) → text ≡ [] → AreImports client first 0 text
 none_yet client first text is = record { bodies = []; many_are = refl; short = λ k d low. absurd (omega (arith, low)); spelled = is }
 

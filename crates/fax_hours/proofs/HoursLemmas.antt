@@ -24,10 +24,12 @@ abbrev pub from : List ℕ → Result (List Item) HoursFault → Result (List �
 from week (Ok items) = Ok (week_from week items)
 from week (Err fault) = Err fault
 
+-- a week has 1440 minutes, whatever items it is made of
 length-week_from : (week : List ℕ) (items : List Item) → length (week_from week items) ≡ 1440
 unfolding week_from
 length-week_from week items = length-map-range_with_len (λ minute. fold (with_days minute) (get_or week minute 0) items) 0 1440
 
+-- each minute of it has the days that the items add to those before
 get_or-week_from : (week : List ℕ) (items : List Item) (minute : ℕ) → minute < 1440 → get_or (week_from week items) minute 0 ≡ fold (with_days minute) (get_or week minute 0) items
 unfolding week_from
 get_or-week_from week items minute h = get_or-map-range_with_len (λ m. fold (with_days m) (get_or week m 0) items) 0 1440 minute minute 0 h (omega arith)
@@ -35,6 +37,7 @@ get_or-week_from week items minute h = get_or-map-range_with_len (λ m. fold (wi
 abbrev SameResult : Result (List ℕ) HoursFault → Result (List ℕ) HoursFault → Type 0
 SameResult a b = a ≡ b
 
+-- what is read as one week is read as that alone
 same_ok : (a b : List ℕ) → SameResult (Ok a) (Ok b) → a ≡ b
 same_ok a b e = cc
 
@@ -60,19 +63,24 @@ week_from_never items =
 
 -- ---- the union
 
+-- of two that are 0 or 1 the greater is 1 where either is
 one_of_two : (a b : ℕ) → a < 2 → b < 2 → eqb (max a b) 1 ≡ (eqb a 1 || eqb b 1)
 one_of_two a b h k = grind arith
 
+-- a day is in the union where it is in either
 has_day-or : (a b day : ℕ) → has_day (bit_or a b) day ≡ (has_day a day || has_day b day)
 has_day-or a b day = ap (λ bit. eqb bit 1) (bit_at_or a b day) ∙ one_of_two (bit_at a day) (bit_at b day) (bit_at-lt a day) (bit_at-lt b day)
 
+-- the same where the union is made in the range alone
 with_days_case : (a b day : ℕ) (in_range : Bool) → has_day (cond in_range (bit_or a b) a) day ≡ (has_day a day || (has_day b day && in_range))
 with_days_case a b day true = has_day-or a b day ∙ ap (λ c. has_day a day || c) (sym (and-true (has_day b day)))
 with_days_case a b day false = sym (or-false (has_day a day)) ∙ ap (λ c. has_day a day || c) (sym (and-false (has_day b day)))
 
+-- a day is in with an item where it was in or the item covers it
 has_day-with_days : (day minute days : ℕ) (item : Item) → has_day (with_days minute days item) day ≡ (has_day days day || covers day minute item)
 has_day-with_days day minute days item = with_days_case days item.days day (has_minute item.range minute)
 
+-- a day is in with items where it was in or one of them covers it
 has_day-fold : (day minute days : ℕ) (items : List Item) → has_day (fold (with_days minute) days items) day ≡ (has_day days day || list_any (covers day minute) items)
 has_day-fold day minute days [] = sym (or-false (has_day days day))
 has_day-fold day minute days (item ∷ items) =
@@ -90,6 +98,7 @@ is_in-week_of items day minute h =
 
 -- ---- every hour
 
+-- where each minute has all days, each day is in at each minute
 pub is_in-every_hour : (week : List ℕ) (day minute : ℕ) → week ≡ replicate 1440 127 → day < 7 → minute < 1440 → is_in week day minute ≡ true
 is_in-every_hour week day minute e d m =
     ap (λ w. has_day (get_or w minute 0) day) e
@@ -107,6 +116,7 @@ hours_of-from_never week text e = go (items_in (parts_of text))
     go (Ok items) = ap (λ w. Ok w) (sym (week_from_never items) ∙ ap (λ w. week_from w items) (sym e))
     go (Err fault) = refl
 
+-- an item that was read adds to the week, and then those behind it do
 pub from-then_items : (old new : List ℕ) (item : Item) (items : Result (List Item) HoursFault) → ((minute : ℕ) → minute < 1440 → get_or new minute 0 ≡ with_days minute (get_or old minute 0) item) → from old (then_items (Ok item) items) ≡ from new items
 from-then_items old new item (Ok items) added = ap (λ w. Ok w) (sym (week_from_more old new item items added))
 from-then_items old new item (Err fault) added = refl
@@ -128,10 +138,12 @@ IsNamedBy-hours_of text week e = go (items_of text) refl e
 abbrev pub IsReadTo : List ℕ → List ℕ → Option (List ℕ) → Type 0
 IsReadTo text week rest = (hours_of text ≡ from week (items_in (parts_left rest))) × (length week ≡ 1440)
 
+-- nothing was read yet
 pub read_first : (text part week : List ℕ) → week ≡ replicate 1440 0 → part ≡ text → IsReadTo text week (Some part)
 read_first text part week e same =
     (hours_of-from_never week text e ∙ ap (λ t. from week (items_in (parts_of t))) (sym same), ap length e ∙ length-replicate {A = ℕ} 1440 0)
 
+-- one item more was read, and added to the week
 pub read_more : (text old new part : List ℕ) (rest after : Option (List ℕ)) (parts : List ℕ) (item : Item) → IsReadTo text old rest → rest ≡ Some parts → parts_of parts ≡ part ∷ parts_left after → Ok item ≡ item_of part → ((minute : ℕ) → minute < 1440 → get_or new minute 0 ≡ with_days minute (get_or old minute 0) item) → length new ≡ 1440 → IsReadTo text new after
 read_more text old new part rest after parts item read left cut is added size = (
   read.0 ∙ ap (λ o. from old (items_in (parts_left o))) left ∙ ap (λ ps. from old (items_in ps)) cut
@@ -139,11 +151,13 @@ read_more text old new part rest after parts item read left cut is added size = 
   size,
 )
 
+-- where an item has a fault, the text has it
 pub read_fault : (text old part : List ℕ) (rest after : Option (List ℕ)) (parts : List ℕ) (fault : HoursFault) → IsReadTo text old rest → rest ≡ Some parts → parts_of parts ≡ part ∷ parts_left after → Err fault ≡ item_of part → Err fault ≡ hours_of text
 read_fault text old part rest after parts fault read left cut is =
     sym (read.0 ∙ ap (λ o. from old (items_in (parts_left o))) left ∙ ap (λ ps. from old (items_in ps)) cut
     ∙ ap (λ i. from old (then_items i (items_in (parts_left after)))) (sym is))
 
+-- where nothing is left, the text names the week
 pub read_last : (text week : List ℕ) (rest : Option (List ℕ)) → IsReadTo text week rest → rest ≡ None → Ok week ≡ hours_of text
 read_last text week rest read left =
     ap (λ w. Ok w) (sym (week_from_none week read.1)) ∙ sym (read.0 ∙ ap (λ o. from week (items_in (parts_left o))) left)

@@ -17,12 +17,15 @@ sunday_first day = omega (arith, signed_arith)
 days_of : (shown : DateTime) (s : ℤ) → civil_nanos shown ≡ nanos_of_seconds s → int_div_euclid s (pos 86400) ≡ epoch_day shown.date
 days_of shown s e = omega (arith, signed_arith, civil_nanos-parts shown, time_nanos_bound shown.time)
 
+-- the minute of the day is what is left of its seconds
 minutes_of : (shown : DateTime) (s : ℤ) → civil_nanos shown ≡ nanos_of_seconds s → unsigned_abs (int_rem_euclid s (pos 86400)) / 60 ≡ shown.time.hour * 60 + shown.time.minute
 minutes_of shown s e = omega (arith, signed_arith, civil_nanos-parts shown, time_nanos_bound shown.time)
 
+-- seconds and an offset are the seconds of both
 as_one : (shown : DateTime) (s o : ℤ) → civil_nanos shown ≡ nanos_of_seconds s +ℤ nanos_of_seconds o → civil_nanos shown ≡ nanos_of_seconds (s +ℤ o)
 as_one shown s o e = omega (arith, signed_arith)
 
+-- pairs with the same day and minute are the same
 same_parts : (p : WeekMinute) (day minute : ℕ) → p.0 ≡ day → p.1 ≡ minute → p ≡ pair day minute
 same_parts p day minute d m = ap (λ x. pair x p.1) d ∙ ap (λ y. pair day y) m
 

@@ -21,6 +21,7 @@ use Rattle.fax_text.specs.Civil.{civil_at, date, date_of, dates, dates_of_month,
 
 -- ---- what is found, and what is in a list
 
+-- a choice by a test finds x, where the test holds of x alone and else x is found
 test_first : {X : Type 0} (x y : X) (test : Bool) (found : Option X) → (test ≡ true → y ≡ x) → (test ≡ false → found ≡ Some x) → cond test (Some y) found ≡ Some x
 test_first x y true found here after = ap (λ z. Some z) (here refl)
 test_first x y false found here after = after refl
@@ -32,23 +33,28 @@ find_only p x (y ∷ ys) there passes only =
     test_first x y (p y) (find p ys) (All-head (λ z. p z ≡ true → z ≡ x) y ys only)
     (λ fails. find_only p x ys (Contains-tail y ys x (λ same. true≢false (sym passes ∙ ap p (sym same) ∙ fails)) there) passes (All-tail (λ z. p z ≡ true → z ≡ x) y ys only))
 
+-- what holds of all that each element makes holds of all of them
 all_flat_map : {A X : Type 0} (P : X → Type 0) (f : A → List X) (items : List A) → All (λ a. All P (f a)) items → All P (flat_map f items)
 all_flat_map P f [] h = All-nil P
 all_flat_map P f (a ∷ items) h = All-append P (f a) (flat_map f items) (All-head (λ b. All P (f b)) a items h) (all_flat_map P f items (All-tail (λ b. All P (f b)) a items h))
 
+-- what holds of each number of a range holds of all
 all_range : (P : ℕ → Type 0) (first count : ℕ) → ((n : ℕ) → first ≤ n → n < first + count → P n) → All P (range_with_len first count)
 all_range P first count h k d inside =
     let small : k < count = omega (arith, length-range_with_len first count) in
     subst P (sym (get_or-range_with_len first count k d small)) (h (first + k) (omega arith) (omega arith))
 
+-- a range has each number in it
 contains_range : (first count n : ℕ) → first ≤ n → n < first + count → Contains (range_with_len first count) n
 contains_range first count n low high =
     let at : first + (n - first) ≡ n = omega arith in
     (n - first, omega (arith, length-range_with_len first count), get_or-range_with_len first count (n - first) n (omega arith) ∙ at)
 
+-- a mapped list has what is made of each element
 contains_map : {A X : Type 0} (f : A → X) (items : List A) (a : A) → Contains items a → Contains (map f items) (f a)
 contains_map f items a there = (there.0, omega (arith, there.1, length-map items f), get_or-map f items there.0 a (f a) there.1 ∙ ap f there.2)
 
+-- what is made of an element is among what is made of all
 contains_flat_map : {A X : Type 0} (f : A → List X) (items : List A) (a : A) (x : X) (k : ℕ) → k < length items → get_or items k a ≡ a → Contains (f a) x → Contains (flat_map f items) x
 contains_flat_map f [] a x k inside at there = absurd (omega arith)
 contains_flat_map f (b ∷ bs) a x zero inside at there = Contains-append_left (f b) (flat_map f bs) x (subst (λ c. Contains (f c) x) (sym at) there)
@@ -62,6 +68,7 @@ record IsMidnight (civil : Civil) : Type 0 where
   hour : civil.hour ≡ 0
   minute : civil.minute ≡ 0
 
+-- all of these dates are dates of the calendar, at midnight
 all_dates : (first years : ℕ) → first + years ≤ 10000 → All IsMidnight (dates first years)
 unfolding dates
 all_dates first years fits =
@@ -73,6 +80,7 @@ all_dates first years fits =
       minute = refl;
     }))))))
 
+-- each date of these years is among them
 has_date : (first years year month day : ℕ) → first ≤ year → year < first + years → IsInRange 1 12 month → IsInRange 1 (days_in_month (pos year) month) day → Contains (dates first years) (date year month day)
 unfolding dates
 has_date first years year month day low high in_year in_month =
@@ -86,6 +94,7 @@ has_date first years year month day low high in_year in_month =
 abbrev number : Civil → ℤ
 number civil = days_from_civil civil.year civil.month civil.day
 
+-- such a date, as the calendar has it
 as_date : (civil : Civil) → IsMidnight civil → Date
 as_date civil h = record { year = civil.year; month = civil.month; day = civil.day; year_in = h.valid.0; month_in = h.valid.1; day_in = h.valid.2 }
 
@@ -98,6 +107,7 @@ one_date a b h k e =
     let minute : a.minute ≡ b.minute = h.minute ∙ sym k.minute in
     λ i. record { year = same.0 i; month = same.1 i; day = same.2 i; hour = hour i; minute = minute i }
 
+-- a date among them is the one found by its number
 date_found : (n : ℤ) (civil : Civil) → IsMidnight civil → Contains (dates 1969 8031) civil → number civil ≡ n → find (has_number n) (dates 1969 8031) ≡ Some civil
 date_found n civil h there e =
     find_only (has_number n) civil (dates 1969 8031) there ((Decides-int_eq (number civil) n).1 e)
@@ -114,25 +124,32 @@ least_offset (Fixed o) n = o.in_range.0
 least_offset (Posix rule) n = (PosixRule.offset_at rule n).in_range.0
 least_offset (Tzif table) n = (Table.offset_at table.now n).in_range.0
 
+-- 30 December 1969
 third_last : Date
 third_last = record { year = pos 1969; month = 12; day = 30; year_in = search rules; month_in = search rules; day_in = search rules }
 
+-- the day 1 January 1970 has the number 0
 pub first_number : days_from_civil (pos 1970) 1 1 ≡ pos 0
 unfolding days_from_civil
 first_number = omega (arith, signed_arith)
 
+-- one before 0 is -1
 one_back : (day before : ℤ) → day ≡ pos 0 → day ≡ before +ℤ pos 1 → before ≡ neg_ℤ (pos 1)
 one_back day before start next = omega (arith, signed_arith)
 
+-- the day before has the number -1
 pub last_number : days_from_civil (pos 1969) 12 31 ≡ neg_ℤ (pos 1)
 last_number = one_back _ _ first_number (days_from_civil-next_year (pos 1969) (pos 1970) (search rules) refl)
 
+-- where the 31st has the number -1, the 30th has -2
 two_back : (day before : ℤ) → day ≡ neg_ℤ (pos 1) → before +ℤ pos 31 ≡ day +ℤ pos 30 → before ≡ neg_ℤ (pos 2)
 two_back day before start same = omega (arith, signed_arith)
 
+-- the day before that has the number -2
 third_last_number : days_from_civil (pos 1969) 12 30 ≡ neg_ℤ (pos 2)
 third_last_number = two_back _ _ last_number (days_from_civil-day (pos 1969) 12 30 31 (omega arith) (omega arith))
 
+-- from that day on the year is 1969 at least
 since_1969 : (d : Date) → neg_ℤ (pos 2) ≤ℤ epoch_day d → pos 1969 ≤ℤ d.year
 unfolding third_last
 since_1969 d low =
@@ -142,15 +159,19 @@ since_1969 d low =
 as_one : (shown : DateTime) (s o : ℤ) → civil_nanos shown ≡ nanos_of_seconds s +ℤ nanos_of_seconds o → civil_nanos shown ≡ nanos_of_seconds (s +ℤ o)
 as_one shown s o e = omega (arith, signed_arith)
 
+-- the day on the clock is that of its seconds
 day_of : (shown : DateTime) (s : ℤ) → civil_nanos shown ≡ nanos_of_seconds s → epoch_day shown.date ≡ int_div_euclid s (pos 86400)
 day_of shown s e = omega (arith, signed_arith, civil_nanos-parts shown, time_nanos_bound shown.time)
 
+-- so is the hour
 hour_of : (shown : DateTime) (s : ℤ) → civil_nanos shown ≡ nanos_of_seconds s → shown.time.hour ≡ unsigned_abs (int_rem_euclid s (pos 86400)) / 3600
 hour_of shown s e = omega (arith, signed_arith, civil_nanos-parts shown, time_nanos_bound shown.time)
 
+-- and the minute
 minute_of : (shown : DateTime) (s : ℤ) → civil_nanos shown ≡ nanos_of_seconds s → shown.time.minute ≡ unsigned_abs (int_rem_euclid s (pos 86400)) / 60 % 60
 minute_of shown s e = omega (arith, signed_arith, civil_nanos-parts shown, time_nanos_bound shown.time)
 
+-- a year from 1969 on isn't negative
 not_negative : (z : ℤ) → pos 1969 ≤ℤ z → pos (unsigned_abs z) ≡ z
 not_negative (pos n) h = refl
 not_negative (negsuc n) h = absurd (omega (arith, signed_arith))

@@ -23,16 +23,19 @@ side_by_side : (a b c d e f g h rest : List ℕ)
     ≡ a ++ (32 ∷ b ++ (32 ∷ c ++ (32 ∷ d ++ (32 ∷ e ++ (32 ∷ f ++ (32 ∷ g ++ (32 ∷ h ++ rest)))))))
 side_by_side a b c d e f g h rest = simp append_assoc
 
+-- the columns of a job, joined, are its columns with spaces between them
 pub columns_joined : (job : JobFields) (state : ℕ) (time : List ℕ)
     → who job state ++ progress job ++ time ++ behind_spaces (status_column job.status) ≡ spaced (columns job state time)
 columns_joined job state time =
     side_by_side (right 6 (decimal job.job)) (right 3 (decimal job.priority)) (letter_of state ∷ []) (left 20 (chars job.dial)) (left 12 (chars job.jobtag))
     (right 9 (ratio job.npages job.totpages)) (right 9 (ratio job.totdials job.maxdials)) time (behind_spaces (status_column job.status))
 
+-- a job with no status has no column for it
 pub no_status : (status : List ℕ) → length status ≡ 0 → behind_spaces (status_column status) ≡ []
 no_status [] h = refl
 no_status (byte ∷ bytes) h = absurd (omega arith)
 
+-- one with a status has it behind a space, as it is shown
 pub some_status : (status : List ℕ) → 0 < length status → behind_spaces (status_column status) ≡ 32 ∷ map shown (chars status)
 some_status [] h = absurd (omega arith)
 some_status (byte ∷ bytes) h = append-nil _
@@ -43,10 +46,12 @@ pub shown_line : (zone : TimeZone) (job : Listed) (at : Civil) → at ≡ civil_
 unfolding time_shown
 shown_line zone job at e = ap (λ c. spaced (columns job.0 job.1 (time_text c)) ++ codes "\n") e
 
+-- a listing of no jobs is its heading
 pub no_lines : (shows : ℕ → List ℕ) → heading ≡ listing_of shows []
 unfolding listing_of
 no_lines shows = sym (append-nil heading)
 
+-- a listing of one job more has its line behind the others
 pub more_lines : (shows : ℕ → List ℕ) (rows : List Listed) (row : Listed) → listing_of shows rows ++ line_of shows row ≡ listing_of shows (rows ++ row ∷ [])
 unfolding listing_of
 more_lines shows rows row = flat_map_more (line_of shows) heading rows row

@@ -13,17 +13,21 @@ use Rattle.fax_text.specs.CommandLine.{IsPlainWord}
 use Rattle.fax_text.specs.Server.{replay_command}
 use Rattle.fax_text.specs.Words.{program}
 
+-- where a choice by a test gives none, the test isn't true, with anything beside it
 not_both : (b r : Bool) (rest : Text) → cond b (Some rest) None ≡ None → (b && r) ≡ false
 not_both true r rest e = absurd (let no = e in cc)
 not_both false r rest e = refl
 
+-- a plain word isn't the two dashes
 pub no_dashes : (word : Text) → IsPlainWord word → bytes_eq word (45 ∷ 45 ∷ []) ≡ false
 no_dashes [] plain = refl
 no_dashes (x ∷ xs) plain = not_both (eqb x 45) (bytes_eq xs (45 ∷ [])) xs plain
 
+-- nor a long option
 pub no_long : (word : Text) → IsPlainWord word → long_of word ≡ None
 no_long word plain = ap (λ o. option_and_then long_of_rest (option_and_then (strip_byte 45) o)) plain
 
+-- nor short ones
 pub no_short : (word : Text) → IsPlainWord word → short_of word ≡ None
 no_short word plain = ap (option_and_then short_of_rest) plain
 
@@ -52,11 +56,13 @@ abbrev pub state : Held → Waiting → Walk
 state h waiting = record { held = h; waiting = waiting; position = 1; is_trailing = false; stopped = None }
 
 module _ (id word : Text) (plain : IsPlainWord word) (h : Held) where
+  -- the option takes the word, and waits for no more
   value_walked : walked leaf.rules [] (state h (option id)) word
       ≡ state (option_word (arg_by_id leaf.rules id) id word h).0 (option_word (arg_by_id leaf.rules id) id word h).1
   unfolding walked
   value_walked = ap (λ met. after_step leaf.rules word (state h (option id)) met.0 met.1) (value_met leaf.rules id word plain 1 h)
 
+  -- with no fault
   no_turn_fault : turn_fault leaf [] (state h (option id)) word ≡ []
   no_turn_fault = ap₂ or_else (no_fault leaf id word plain h) (ap (λ met. step_fault leaf 1 met.0 met.1) (value_met leaf.rules id word plain 1 h))
 
@@ -70,6 +76,7 @@ pub record ComesTo (words : List Text) (end : Walk) : Type 0 where
   pub faults : walk_fault leaf [] (walk_from nothing_held) words ≡ []
   pub walks : walk leaf.rules [] nothing_held words ≡ end
 
+-- words that come to an end without a fault have none
 pub no_level_fault : (words : List Text) (end : Walk) → ComesTo words end → end_fault end ≡ [] → level_fault leaf [] nothing_held words false [] ≡ []
 no_level_fault words end comes none = ap₂ (λ k w. or_else k (end_fault w)) comes.faults comes.walks ∙ none
 
@@ -79,6 +86,7 @@ pending id word rows = record { rows = rows; pending = Some (id, word ∷ []); s
 abbrev pub waiting_for : Text → List Row → Held
 waiting_for id rows = record { rows = rows; pending = Some (id, []); skip = 0 }
 
+-- `--setup` and a file come to this end
 pub setup_alone : (file : Text) → IsPlainWord file → ComesTo (codes "--setup" ∷ file ∷ []) (state (pending (codes "setup") file []) idle)
 unfolding clap_on_literals
 setup_alone file plain = record {
@@ -86,6 +94,7 @@ setup_alone file plain = record {
   walks = value_walked (codes "setup") file plain (waiting_for (codes "setup") []);
 }
 
+-- so do `--controls` and a file
 pub controls_alone : (file : Text) → IsPlainWord file → ComesTo (codes "--controls" ∷ file ∷ []) (state (pending (codes "controls") file []) idle)
 unfolding clap_on_literals
 controls_alone file plain = record {
@@ -97,6 +106,7 @@ controls_alone file plain = record {
 abbrev pub rows_behind : Text → Text → List Row
 rows_behind id file = (settled leaf.rules (pending id file [])).rows
 
+-- `--setup` and a file, and then `--controls` and another, come to this end
 pub setup_first : (file other : Text) → IsPlainWord file → IsPlainWord other
     → ComesTo (codes "--setup" ∷ file ∷ codes "--controls" ∷ other ∷ []) (state (pending (codes "controls") other (rows_behind (codes "setup") file)) idle)
 unfolding clap_on_literals
@@ -113,6 +123,7 @@ setup_first file other plain plain₂ =
           ∙ value_walked (codes "controls") other plain₂ there;
     }
 
+-- the same two in the other order do too
 pub controls_first : (file other : Text) → IsPlainWord file → IsPlainWord other
     → ComesTo (codes "--controls" ∷ file ∷ codes "--setup" ∷ other ∷ []) (state (pending (codes "setup") other (rows_behind (codes "controls") file)) idle)
 unfolding clap_on_literals

@@ -19,6 +19,7 @@ Rises low (n ∷ ns) = (low ≤ n) × Rises n ns
 abbrev below : ℕ → ℕ → ℕ
 below limit n = cond (ltb n limit) 1 0
 
+-- none of the numbers that rise from there is below
 none_below : (limit low : ℕ) (ns : List ℕ) → limit ≤ low → Rises low ns → sum_by (below limit) ns ≡ 0
 none_below limit low [] small up = refl
 none_below limit low (n ∷ ns) small up =
@@ -27,6 +28,7 @@ none_below limit low (n ∷ ns) small up =
     let here : below limit n ≡ 0 = let le = up.0 in grind (arith, nat_tests) in
     omega arith
 
+-- a number that isn't below is at least so much
 at_least : (limit n : ℕ) → below limit n ≡ 0 → limit ≤ n
 at_least limit n h = grind (arith, nat_tests)
 
@@ -44,6 +46,7 @@ one_rise low high (x ∷ xs) (y ∷ ys) a b long sums =
     let rest = one_rise x y xs ys a.1 b.1 (omega arith) (λ f. omega (arith, sums f, sum_by-cons f x xs, sum_by-cons f y ys, ap f same)) in
     λ i. same i ∷ rest i
 
+-- numbers that ascend rise
 strict_rises : (low : ℕ) (ns : List ℕ) → IsStrictlyIncreasing ns → (0 < length ns → low ≤ get_or ns 0 0) → Rises low ns
 strict_rises low [] up first = tt
 strict_rises low (n ∷ ns) up first = (
@@ -52,6 +55,7 @@ strict_rises low (n ∷ ns) up first = (
       (λ some. let next : n < get_or ns 0 0 = up 0 (omega arith) in omega arith),
 )
 
+-- so do the numbers of rows that don't fall
 rows_rise : (low : ℕ) (rows : List Listed) → IsNonDecreasingBy number_of rows → ((d : Listed) → 0 < length rows → low ≤ number_of (get_or rows 0 d)) → Rises low (map number_of rows)
 rows_rise low [] up first = tt
 rows_rise low (row ∷ rows) up first = (
@@ -66,6 +70,7 @@ further ns up k (suc m) inside =
     let on : k + m + 1 + 1 ≡ k + suc m + 1 = omega arith in
     subst (λ j. get_or ns k 0 < get_or ns j 0) on (omega (arith, further ns up k m (omega arith), up (k + m + 1) (omega arith)))
 
+-- a number stands in one place of numbers that ascend
 one_place : (ns : List ℕ) → IsStrictlyIncreasing ns → (i j : ℕ) → i < length ns → j < length ns → get_or ns i 0 ≡ get_or ns j 0 → i ≡ j
 one_place ns up i j a b same =
     elim (cases_order i j) [
@@ -102,6 +107,7 @@ rows_are_jobs jobs (row ∷ rest) moved order up =
 
 -- ---- for callers
 
+-- the numbers of a range ascend
 counts_up : (first count : ℕ) → IsStrictlyIncreasing (range_with_len first count)
 counts_up first count k inside =
     let long = length-range_with_len first count in

@@ -19,6 +19,7 @@ use Rattle.fax_text.specs.declared.words.WordsFault.TheVariants.{Help, Usage, No
 
 -- ---- help
 
+-- words that ask for help have that as their fault
 asks : (name : Text) (words : List Text) → AskForHelp words → fault_of program (name ∷ words) ≡ kind.DisplayHelp ∷ []
 unfolding clap_on_literals
 asks name words (inl e) = ap (λ w. fault_of program (name ∷ w)) e
@@ -43,11 +44,13 @@ helped words (Err (Usage text)) faults (inl reads) =
 helped words (Err (Usage text)) faults (inr none) = let no : [] ≡ kind.DisplayHelp ∷ [] = sym none.0 ∙ faults in absurd cc
 helped words (Err NoMemory) faults reads = tt
 
+-- words that ask for help are given it
 pub gives_help : (name : Text) (words : List Text) (result : Result Plan WordsFault) → Reads (name ∷ words) result → AskForHelp words → GivesHelp result
 gives_help name words result reads asked = helped (name ∷ words) result (asks name words asked) reads
 
 -- ---- usage
 
+-- another word than a command's isn't equal to it
 not_named : (command word : Text) → ¬ (word ≡ command) → bytes_eq command word ≡ false
 not_named command word other = go (bytes_eq command word) refl
   where
@@ -65,6 +68,7 @@ abbrev met : Bool → Text → Option (Text × List Text) → Option (Text × Li
 met is_named command others = cond (is_named || false) (Some (command, [])) others
 
 module _ (word : Text) (unknown : NamesNoCommand word) where
+  -- such a word names no command
   unnamed : subcommand_met (names_of app) idle word ≡ None
   unnamed =
       let name = option_map (λ (s : Text × List Text). s.0) in
@@ -79,6 +83,7 @@ module _ (word : Text) (unknown : NamesNoCommand word) where
       ∙ ap (λ b. name (met b (codes "import") help)) (not_named (codes "import") word unknown.5)
       ∙ ap (λ b. name (met b (codes "help") None)) (not_named (codes "help") word unknown.6)
 
+  -- it is met as a value
   word_stray : word_met app.top.rules (names_of app) false idle 1 word nothing_held ≡ (nothing_held, value)
   word_stray =
       ap (λ o. subcommand_or_other app.top.rules o idle 1 word nothing_held) unnamed
@@ -86,6 +91,7 @@ module _ (word : Text) (unknown : NamesNoCommand word) where
       ∙ ap (λ l. long_or_other app.top.rules idle word l nothing_held) (no_long word unknown.0)
       ∙ ap (λ s. short_or_plain app.top.rules idle word s nothing_held) (no_short word unknown.0)
 
+  -- which nothing takes, so it is a fault
   turn_stray : turn_fault app.top (names_of app) (walk_from nothing_held) word ≡ stray
   turn_stray =
       ap (λ k. or_else k (step_fault app.top 1 (word_met app.top.rules (names_of app) false idle 1 word nothing_held).0 (word_met app.top.rules (names_of app) false idle 1 word nothing_held).1))
@@ -93,6 +99,7 @@ module _ (word : Text) (unknown : NamesNoCommand word) where
       ∙ ap (λ met. step_fault app.top 1 met.0 met.1) word_stray
 
   module _ (name : Text) (behind : List Text) where
+    -- the words have this fault, whatever stands behind
     all_stray : fault_of program (name ∷ word ∷ behind) ≡ stray
     unfolding walk_fault
     all_stray =
@@ -112,6 +119,7 @@ NoneAsked [] = ⊥
 NoneAsked (k ∷ []) = ¬ (IsAsked k)
 NoneAsked (k ∷ more ∷ ks) = ¬ (IsAsked k) × NoneAsked (more ∷ ks)
 
+-- a kind among these isn't a request
 none_among : (k : ErrorKind) (ks : Kinds) → NoneAsked ks → IsAmong k ks → ¬ (IsAsked k)
 none_among k [] none among = absurd none
 none_among k (x ∷ []) none (inl e) = subst (λ y. ¬ (IsAsked y)) (sym e) none
@@ -119,20 +127,24 @@ none_among k (x ∷ []) none (inr gone) = absurd gone
 none_among k (x ∷ y ∷ ks) none (inl e) = subst (λ z. ¬ (IsAsked z)) (sym e) none.0
 none_among k (x ∷ y ∷ ks) none (inr among) = none_among k (y ∷ ks) none.1 among
 
+-- there is some kind
 some_kind : (ks : Kinds) → NoneAsked ks → ¬ (ks ≡ [])
 some_kind [] none e = none
 some_kind (k ∷ ks) none e = absurd (let no = e in cc)
 
+-- words with such faults are told the usage
 refused : (words : List Text) (ks : Kinds) (result : Result Plan WordsFault) → NoneAsked ks → fault_of program words ≡ ks → Reads words result → GivesUsage result
 refused words ks (Ok plan) none faults reads = some_kind ks none (sym faults ∙ reads.1)
 refused words ks (Err (Help text)) none faults reads = none_among reads.0 ks none (subst (IsAmong reads.0) faults reads.1) reads.2
 refused words ks (Err (Usage text)) none faults reads = tt
 refused words ks (Err NoMemory) none faults reads = tt
 
+-- a kind that asks neither for help nor for the version is no request
 not_asked : (k : ErrorKind) → ¬ (k ≡ kind.DisplayHelp) → ¬ (k ≡ kind.DisplayVersion) → ¬ (IsAsked k)
 not_asked k help version (inl e) = help e
 not_asked k help version (inr e) = version e
 
+-- words that break the usage are told it
 pub gives_usage : (name : Text) (words : List Text) (result : Result Plan WordsFault) → Reads (name ∷ words) result → BreakTheUsage words → GivesUsage result
 unfolding clap_on_literals
 gives_usage name words result reads (inl e) =

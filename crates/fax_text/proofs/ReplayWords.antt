@@ -21,10 +21,12 @@ record IsReplay (words : List Text) (setup controls : Option Text) : Type 0 wher
   command : subcommand_of program words ≡ Some (codes "replay", rows)
   files : files_in rows ≡ (setup, controls)
 
+-- `replay` alone is one with no files
 without_options : (name : Text) → IsReplay (name ∷ codes "replay" ∷ []) None None
 unfolding clap_on_literals
 without_options name = record { faults = refl; rows = []; command = refl; files = refl }
 
+-- `replay` with `--setup` is one with that file
 with_setup : (name file : Text) → IsPlainWord file → IsReplay (name ∷ codes "replay" ∷ codes "--setup" ∷ file ∷ []) (Some file) None
 unfolding clap_on_literals
 with_setup name file plain =
@@ -36,6 +38,7 @@ with_setup name file plain =
       files = refl;
     }
 
+-- `replay` with `--controls` is one with that file
 with_controls : (name file : Text) → IsPlainWord file → IsReplay (name ∷ codes "replay" ∷ codes "--controls" ∷ file ∷ []) None (Some file)
 unfolding clap_on_literals
 with_controls name file plain =
@@ -47,6 +50,7 @@ with_controls name file plain =
       files = refl;
     }
 
+-- `replay` with both is one with both files
 with_setup_first : (name file other : Text) → IsPlainWord file → IsPlainWord other
     → IsReplay (name ∷ codes "replay" ∷ codes "--setup" ∷ file ∷ codes "--controls" ∷ other ∷ []) (Some file) (Some other)
 unfolding clap_on_literals
@@ -59,6 +63,7 @@ with_setup_first name file other plain plain₂ =
       files = refl;
     }
 
+-- the same in the other order
 with_controls_first : (name file other : Text) → IsPlainWord file → IsPlainWord other
     → IsReplay (name ∷ codes "replay" ∷ codes "--controls" ∷ file ∷ codes "--setup" ∷ other ∷ []) (Some other) (Some file)
 unfolding clap_on_literals
@@ -71,6 +76,7 @@ with_controls_first name file other plain plain₂ =
       files = refl;
     }
 
+-- words that ask for a replay are one with its files
 asked : (name : Text) (setup controls : Option Text) (words : List Text) → AskForReplay setup controls words → IsReplay (name ∷ words) setup controls
 asked name None None words (a, b, inl e) = subst (λ w. IsReplay (name ∷ w) None None) (sym e) (without_options name)
 asked name None None words (a, b, inr e) = subst (λ w. IsReplay (name ∷ w) None None) (sym e) (without_options name)
@@ -86,34 +92,42 @@ asked name (Some file) (Some other) words (a, b, inr e) =
 abbrev entered : List Row → Option (Text × List Row)
 entered rows = Some (codes "replay", rows)
 
+-- the rows of a command, or none
 rows_in : Option (Text × List Row) → List Row
 rows_in None = []
 rows_in (Some found) = found.1
 
+-- one command has one list of rows
 same_rows : (rows other : List Row) → entered rows ≡ entered other → rows ≡ other
 unfolding rows_in
 same_rows rows other e = ap rows_in e
 
+-- the name of a command, or none
 name_in : Option (Text × List Row) → Text
 name_in None = []
 name_in (Some found) = found.0
 
+-- `replay` isn't `serve`
 no_serve : (rows other : List Row) → ¬ (Some (codes "serve", rows) ≡ entered other)
 unfolding name_in
 no_serve rows other e = let no : codes "serve" ≡ codes "replay" = ap name_in e in cc
 
+-- nor `list`
 no_list : (rows other : List Row) → ¬ (Some (codes "list", rows) ≡ entered other)
 unfolding name_in
 no_list rows other e = let no : codes "list" ≡ codes "replay" = ap name_in e in cc
 
+-- nor `sendfax`
 no_sendfax : (rows other : List Row) → ¬ (Some (codes "sendfax", rows) ≡ entered other)
 unfolding name_in
 no_sendfax rows other e = let no : codes "sendfax" ≡ codes "replay" = ap name_in e in cc
 
+-- nor `import`
 no_import : (rows other : List Row) → ¬ (Some (codes "import", rows) ≡ entered other)
 unfolding name_in
 no_import rows other e = let no : slice_index_or (codes "import") 0 0 ≡ slice_index_or (codes "replay") 0 0 = ap (λ found. slice_index_or (name_in found) 0 0) e in absurd (omega (arith, no))
 
+-- words of a replay give its plan
 given : (words : List Text) (setup controls : Option Text) (result : Result Plan WordsFault) → IsReplay words setup controls
     → Reads words result → GivesReplay setup controls result
 given words setup controls (Ok (Serve plan)) is reads = no_serve reads.0.0 is.rows (sym reads.0.1 ∙ is.command)
@@ -127,6 +141,7 @@ given words setup controls (Err (Usage text)) is (inl reads) = subst (IsAmong re
 given words setup controls (Err (Usage text)) is (inr none) = none.1.replay is.rows is.command
 given words setup controls (Err NoMemory) is reads = tt
 
+-- so do words that ask for one
 pub gives_replay : (name : Text) (words : List Text) (result : Result Plan WordsFault) → Reads (name ∷ words) result
     → (setup controls : Option Text) → AskForReplay setup controls words → GivesReplay setup controls result
 gives_replay name words result reads setup controls asks = given (name ∷ words) setup controls result (asked name setup controls words asks) reads

@@ -17,21 +17,27 @@ counted shown day e = civil_nanos-parts shown ∙ ap (λ n. n *ℤ pos 86_400_00
 abbrev on : Date → Time → DateTime
 on date time = record { date = date; time = time }
 
+-- the first day of 1970
 new_year : Date
 new_year = record { year = pos 1970; month = 1; day = 1; year_in = search rules; month_in = search rules; day_in = search rules }
 
+-- the day before
 new_years_eve : Date
 new_years_eve = record { year = pos 1969; month = 12; day = 31; year_in = search rules; month_in = search rules; day_in = search rules }
 
+-- 00:16:40
 sixteen_past_midnight : Time
 sixteen_past_midnight = record { hour = 0; minute = 16; second = 40; subsec_nanosecond = 0; hour_in = search rules; minute_in = search rules; second_in = search rules; subsec_in = search rules }
 
+-- 19:16:40
 sixteen_past_seven : Time
 sixteen_past_seven = record { hour = 19; minute = 16; second = 40; subsec_nanosecond = 0; hour_in = search rules; minute_in = search rules; second_in = search rules; subsec_in = search rules }
 
+-- an offset of five hours behind UTC
 five_hours_behind : Offset
 five_hours_behind = record { seconds = neg_ℤ (pos 18000); in_range = search rules }
 
+-- in UTC a clock shows the first
 in_utc : record { year = pos 1970; month = 1; day = 1; hour = 0; minute = 16 } ≡ civil_at UTC 1000
 unfolding new_year sixteen_past_midnight
 in_utc = same_civil UTC 1000 _ (record {
@@ -57,6 +63,7 @@ behind_utc = same_civil (Fixed five_hours_behind) 1000 _ (record {
   minute = refl;
 })
 
+-- as a listing shows it
 as_text : codes "1969-12-31 19:16" ≡ time_shown (Fixed five_hours_behind) 1000
 unfolding digits time_shown
 as_text = ap time_text behind_utc

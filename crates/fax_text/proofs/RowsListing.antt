@@ -9,9 +9,11 @@ use Rattle.fax_job.specs.declared.job.Wish.TheVariants.{Go}
 use Rattle.fax_text.specs.Column.{left, right, zeros}
 use Rattle.fax_text.specs.Listing.{heading, letter_of, line_of, time_text}
 
+-- the heading of a listing
 heading_is : heading ≡ codes "   JID Pri S Number               Tag              Pages     Dials TTS              Status\n"
 heading_is = refl
 
+-- has 91 characters
 heading_length : length heading ≡ 91
 heading_length = refl
 
@@ -51,6 +53,7 @@ waiting_line : line_of at_sixteen_past (waiting, 5) ≡ codes "     1 127 W +141
 unfolding digits chars
 waiting_line = refl
 
+-- a job that failed has its status behind the time
 failed_line : line_of at_sixteen_past (record waiting { phase = Failed; status = codes "Killed" }, 8)
     ≡ codes "     1 127 F +14155550100         Quarterly re       0:3      0:12 1970-01-01 00:16 Killed\n"
 unfolding digits chars
@@ -58,12 +61,15 @@ failed_line = refl
 
 -- ---- edges
 
+-- a text is filled up on the right
 one_below : left 3 (codes "ab") ≡ codes "ab "
 one_below = refl
 
+-- one of the width stays
 just_so_wide : left 3 (codes "abc") ≡ codes "abc"
 just_so_wide = refl
 
+-- and a longer one is cut
 one_above : left 3 (codes "abcd") ≡ codes "abc"
 one_above = refl
 
@@ -72,15 +78,19 @@ not_printed : left 4 (chars (97 ∷ 195 ∷ 169 ∷ 9 ∷ [])) ≡ codes "a?? "
 unfolding chars
 not_printed = refl
 
+-- a text is filled up on the left
 at_the_right : right 3 (codes "ab") ≡ codes " ab"
 at_the_right = refl
 
+-- a number is filled up with zeros
 two_digits : zeros 2 5 ≡ codes "05"
 unfolding digits
 two_digits = refl
 
+-- 0 is no state, and shows as `?`
 no_state : letter_of 0 ≡ 63
 no_state = refl
 
+-- nor is 9
 past_the_states : letter_of 9 ≡ 63
 past_the_states = refl

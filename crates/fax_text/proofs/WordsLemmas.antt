@@ -21,14 +21,17 @@ use Rattle.fax_text.specs.declared.words.Plan.{Plan}
 use Rattle.fax_text.specs.declared.words.WordsFault.{WordsFault}
 use Rattle.fax_text.specs.declared.words.WordsFault.TheVariants.{Help, Usage, NoMemory}
 
+-- the command line is simple, and its options free
 pub is_free : is_simple_and_free program ≡ true
 unfolding clap_on_literals
 is_free = refl
 
+-- it is simple
 pub is_plain : is_simple program ≡ true
 unfolding clap_on_literals
 is_plain = refl
 
+-- what isn't true is false
 not_true : (b : Bool) → not b ≡ true → b ≡ false
 not_true true e = absurd (let no = e in cc)
 not_true false e = refl
