@@ -11,11 +11,13 @@ use Rattle.fax_text.specs.declared.status.Status.TheVariants.{Success, Fault}
 
 module _ {R W : Type 0} (remaining : R → Option (List ℕ)) (contents : W → Option (List ℕ)) (reader reader₂ : Watched R) (out out₂ : Watched W)
     (office : Office) (status : Status) where
+  -- a replay that ends badly ends the program with a fault
   at_fault : (end : End) → ¬ (end ≡ Closed) → IsReplayed remaining contents reader reader₂ out out₂ office end → (¬ (end ≡ Closed) → status ≡ Fault)
       → EndsWith remaining contents reader reader₂ out out₂ office status
   at_fault end not replayed fault =
       subst (EndsWith remaining contents reader reader₂ out out₂ office) (sym (fault not)) (record { end = end; badly = not; replayed = replayed })
 
+  -- and one whose input was served to its end with success
   pub ends_by : (end : End) → IsReplayed remaining contents reader reader₂ out out₂ office end
       → (end ≡ Closed → status ≡ Success) → (¬ (end ≡ Closed) → status ≡ Fault) → EndsWith remaining contents reader reader₂ out out₂ office status
   ends_by Closed replayed success fault = subst (EndsWith remaining contents reader reader₂ out out₂ office) (sym (success refl)) replayed

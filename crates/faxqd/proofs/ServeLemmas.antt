@@ -40,9 +40,11 @@ record IsOne {C : Type 0} (gives : C → List ℕ → ℕ → C → Type 0) (set
 
 module _ {C : Type 0} (gives : C → List ℕ → ℕ → C → Type 0) (settings : Settings) (m : Queue) (k : Ledger) (clock : C) (turn : Turn) (later : C) (new : State)
     (moment : ℕ) (given : gives clock (said_in turn) moment later) (a : Arrival) (comes : IsArrival turn.head turn.body moment a) (sound : Sound m) where
+  -- where it stands before
   start : Start
   start = record { queue = m; kept = k }
 
+  -- what a verdict leaves is one message answered
   by_verdict : (v : Verdict) → IsVerdict settings a m k v → Leaves m k turn.reply new v → IsOne gives settings m k clock turn later new
   unfolding start
   by_verdict (Told told) is leaves = record {
@@ -64,6 +66,7 @@ module _ {C : Type 0} (gives : C → List ℕ → ℕ → C → Type 0) (setting
     means = λ serves. leaves.2;
   }
 
+  -- so is what handling it leaves, with a verdict or without
   one_of : Handles settings a m k turn.reply new → IsOne gives settings m k clock turn later new
   unfolding start
   one_of (inl (v, is, leaves)) = by_verdict v is leaves
@@ -88,10 +91,12 @@ module _ {H C : Type 0} (answers : Answering H) (gives : C → List ℕ → ℕ 
     (same : (old : H) (turn : Turn) (new : H) → answers old turn.head turn.body turn.reply new → settings new ≡ settings old)
     (handled : (old : H) (turn : Turn) (new : H) → answers old turn.head turn.body turn.reply new
     → (moment : ℕ) × gives (clock_of old) (said_in turn) moment (clock_of new) × HandlesAt moment (settings old) (of old) turn.head turn.body turn.reply (of new)) where
+  -- a disk that is clean in the end was so all along
   clean_before : (old : H) (turns : List Turn) (new : H) → Answers answers old turns new → HasCleanDisk (of new) → HasCleanDisk (of old)
   clean_before old [] new e now = subst (λ h. HasCleanDisk (of h)) e now
   clean_before old (turn ∷ turns) new (next, here, behind) now = clean old turn next here (clean_before next turns new behind now)
 
+  -- messages that are answered one after the other were served from a sound queue
   served_from : (old : H) (turns : List Turn) (new : H) → Answers answers old turns new → (m : Queue) (k : Ledger) → Sound m → Means (of old) m k → HasCleanDisk (of new)
       → HasServed gives (settings old) m k (clock_of old) turns (of new)
   served_from old [] new e m k sound means now = record {
@@ -112,6 +117,7 @@ module _ {H C : Type 0} (answers : Answering H) (gives : C → List ℕ → ℕ 
         means = rest.means;
       }
 
+  -- so they were from whatever sound queue the store means
   pub serves_from : (old : H) (turns : List Turn) (new : H) → Answers answers old turns new → ServesFrom gives (settings old) (clock_of old) (of old) turns (of new)
   serves_from old turns new answered = record {
     clean = clean_before old turns new answered;
@@ -149,6 +155,7 @@ module _ {W : Type 0} (contents : W → Option (List ℕ)) (out out₂ : Watched
         (held_by gives (settings_in held) image clock served.0 opened new found served.2 clean);
   }
 
+  -- what was served ends the program
   ends_by : (status : Status) (office : Office) (new : State) (shut : Bool) → ServesBy contents out out₂ did gives image plan clock status office new shut → Ends contents out out₂ plan status
   ends_by Success office new shut by = ((office, by.comes), by.told.0.said)
   ends_by Fault office new shut by = elim by.told [
@@ -157,6 +164,7 @@ module _ {W : Type 0} (contents : W → Option (List ℕ)) (out out₂ : Watched
   ]
   ends_by Usage office new shut by = absurd by.told
 
+  -- where no queue was there, it ends with a fault
   no_queue : (status : Status) → status ≡ Fault → out₂ ≡ out → Ends contents out out₂ plan status
   no_queue status fault same = subst (Ends contents out out₂ plan) (sym fault) (inl (inl same))
 
