@@ -25,43 +25,53 @@ entry_lines (Stated blanks p) = continued (p.tag ++ 58 ∷ blanks) p.value
 
 -- ---- bytes that are not there
 
+-- bytes without one lack it in each place
 pub Lacks-from : (c : ℕ) (bs : List ℕ) → has_byte c bs ≡ false → Lacks c bs
 Lacks-from c [] h i lt = absurd (omega arith)
 Lacks-from c (b ∷ bs) h zero lt = eqb-false b c (or_parts (eqb b c) (has_byte c bs) h).0
 Lacks-from c (b ∷ bs) h (suc i) lt = Lacks-from c bs (or_parts (eqb b c) (has_byte c bs) h).1 i (omega arith)
 
+-- where two texts lack a byte, both together do
 pub lacks_append : (c : ℕ) (xs ys : List ℕ) → has_byte c xs ≡ false → has_byte c ys ≡ false → has_byte c (xs ++ ys) ≡ false
 lacks_append c [] ys p q = q
 lacks_append c (x ∷ xs) ys p q =
     let parts = or_parts (eqb x c) (has_byte c xs) p in
     or_from (eqb x c) (has_byte c (xs ++ ys)) parts.0 (lacks_append c xs ys parts.1 q)
 
+-- a byte that is another lacks it
 pub lacks_one : (c b : ℕ) → eqb b c ≡ false → has_byte c (b ∷ []) ≡ false
 lacks_one c b e = or_from (eqb b c) false e refl
 
+-- a tag lacks a byte that none of a tag is
 tag_lacks : (c : ℕ) (bs : List ℕ) → ((b : ℕ) → is_tag_byte b ≡ true → eqb b c ≡ false) → list_all is_tag_byte bs ≡ true → has_byte c bs ≡ false
 tag_lacks c [] never h = refl
 tag_lacks c (b ∷ bs) never h =
     let parts = and_parts (is_tag_byte b) (list_all is_tag_byte bs) h in
     or_from (eqb b c) (has_byte c bs) (never b parts.0) (tag_lacks c bs never parts.1)
 
+-- a byte of a tag is no LF
 tag_no_feed : (b : ℕ) → is_tag_byte b ≡ true → eqb b 10 ≡ false
 tag_no_feed b h =
     let low = leb-true 33 b (and_parts (leb 33 b) (leb b 126) (and_parts (leb 33 b && leb b 126) (not (eqb b 58)) h).0).0 in
     ne_eqb b 10 (λ e. absurd (omega (arith, low, e)))
 
+-- nor a colon
 tag_no_colon : (b : ℕ) → is_tag_byte b ≡ true → eqb b 58 ≡ false
 tag_no_colon b h = not-true (eqb b 58) (and_parts (leb 33 b && leb b 126) (not (eqb b 58)) h).1
 
+-- a tag is of such bytes
 tag_bytes : (tag : List ℕ) → is_tag tag ≡ true → list_all is_tag_byte tag ≡ true
 tag_bytes tag h = (and_parts (leb 1 (length tag) && leb (length tag) 64) (list_all is_tag_byte tag) h).1
 
+-- so a tag has no LF
 pub tag_lacks_feed : (tag : List ℕ) → is_tag tag ≡ true → has_byte 10 tag ≡ false
 tag_lacks_feed tag h = tag_lacks 10 tag tag_no_feed (tag_bytes tag h)
 
+-- and no colon
 pub tag_lacks_colon : (tag : List ℕ) → is_tag tag ≡ true → has_byte 58 tag ≡ false
 tag_lacks_colon tag h = tag_lacks 58 tag tag_no_colon (tag_bytes tag h)
 
+-- nor have blanks an LF
 pub blanks_lack_feed : (bs : List ℕ) → list_all is_blank bs ≡ true → has_byte 10 bs ≡ false
 blanks_lack_feed [] h = refl
 blanks_lack_feed (b ∷ bs) h =
@@ -75,6 +85,7 @@ blanks_lack_feed (b ∷ bs) h =
 
 -- ---- lines of an entry
 
+-- a text is cut behind its first line
 cut : (x y : List ℕ) → has_byte 10 x ≡ false → lines (x ++ 10 ∷ y) ≡ x ∷ lines y
 cut x y h = lines_cut x y (Lacks-from 10 x h)
 
@@ -89,15 +100,18 @@ value_step b bs begun rest false e lacks ih =
     let regrouped : begun ++ b ∷ (escaped bs ++ 10 ∷ rest) ≡ (begun ++ b ∷ []) ++ (escaped bs ++ 10 ∷ rest) = sym (append_assoc begun (b ∷ []) (escaped bs ++ 10 ∷ rest)) in
     ap lines regrouped ∙ ih (begun ++ b ∷ []) (lacks_append 10 begun (b ∷ []) lacks (lacks_one 10 b e))
 
+-- a value behind what its line has begun with has these lines
 value_lines : (v begun rest : List ℕ) → has_byte 10 begun ≡ false → lines (begun ++ (escaped v ++ 10 ∷ rest)) ≡ continued begun v ++ lines rest
 value_lines [] begun rest lacks = cut begun rest lacks
 value_lines (b ∷ bs) begun rest lacks =
     ap (λ (x : List ℕ). lines (begun ++ (x ++ 10 ∷ rest))) (flat_map-cons escaped_byte b bs)
     ∙ value_step b bs begun rest (eqb b 10) refl lacks (λ more h. value_lines bs more rest h)
 
+-- a pair has a tag
 pair_tag : (p : Pair) → is_pair p ≡ true → is_tag p.tag ≡ true
 pair_tag p h = (and_parts (is_tag p.tag) (not (begins_with_hash p.tag)) (and_parts (is_tag p.tag && not (begins_with_hash p.tag)) (cond (bytes_eq p.tag (codes "status")) (is_status p.value) (is_value p.value)) h).0).0
 
+-- the text of an entry has its lines, and what follows has its own
 pub entry_lines_are : (e : Entry) (rest : List ℕ) → IsFormed e → lines (entry_text e ++ rest) ≡ entry_lines e ++ lines rest
 entry_lines_are (Skipped line) rest h = ap lines (append_assoc line (10 ∷ []) rest) ∙ cut line rest h.1
 entry_lines_are (Stated blanks p) rest h =
@@ -110,6 +124,7 @@ abbrev pub all_lines : List Entry → List (List ℕ)
 all_lines [] = []
 all_lines (e ∷ es) = entry_lines e ++ all_lines es
 
+-- the texts of entries have their lines
 pub all_lines_are : (es : List Entry) → AllByRecursion IsFormed es → lines (texts es) ≡ all_lines es
 all_lines_are [] h = refl
 all_lines_are (e ∷ es) h =

@@ -4,6 +4,7 @@ use Rattle.fax_lines.specs.Reading as reading
 use Rattle.fax_job.specs.declared.lines.LineKind.{LineKind}
 use Rattle.fax_job.specs.declared.lines.LineKind.TheVariants as kind
 
+-- a fault of a line that counts as want of memory is just that
 pub memory_of_line : (fault : LineKind) → reading.is_memory fault ≡ true → fault ≡ kind.NoMemory
 memory_of_line kind.NoMemory h = refl
 memory_of_line kind.NotText h = cc

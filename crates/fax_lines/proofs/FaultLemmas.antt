@@ -32,11 +32,13 @@ record IsMore (v begun c w : List ℕ) : Type 0 where
   pub plain : is_plain c ≡ true
   pub bytes : list_all is_status_byte v ≡ true
 
+-- a line of the value that ends with a backslash, and those behind, open it
 more_feed : (v begun c bs : List ℕ) (n : ℕ) (seen : List Pair) (X : List (List ℕ)) → is_plain c ≡ true → Opens (closed [] bs ++ X) (n + 1) seen (Some (begun ++ c ++ 10 ∷ [])) X v (length (closed [] bs)) → Opens ((c ++ 92 ∷ []) ∷ (closed [] bs ++ X)) n seen (Some begun) X v (length ((c ++ 92 ∷ []) ∷ closed [] bs))
 unfolding read_on go_on_step
 more_feed v begun c bs n seen X plain rest =
     record { place = rest.place; counted = omega (arith, rest.counted); same = rw (plain_append c (92 ∷ []) plain refl, before_backslash_some c) rest.same }
 
+-- the next byte of the value, an LF or not, goes on opening it
 more_by : (v begun c : List ℕ) (b : ℕ) (bs : List ℕ) (n : ℕ) (seen : List Pair) (X : List (List ℕ)) (t : Bool) → eqb b 10 ≡ t → IsMore v begun c (b ∷ bs) → cond t (last [] bs) (last (c ++ b ∷ []) bs) ≡ []
     → ((begun c : List ℕ) (n : ℕ) → IsMore v begun c bs → last c bs ≡ [] → Opens (closed c bs ++ X) n seen (Some begun) X v (length (closed c bs)))
     → Opens (cond t ((c ++ 92 ∷ []) ∷ closed [] bs) (closed (c ++ b ∷ []) bs) ++ X) n seen (Some begun) X v (length (cond t ((c ++ 92 ∷ []) ∷ closed [] bs) (closed (c ++ b ∷ []) bs)))
@@ -51,6 +53,7 @@ more_by v begun c b bs n seen X false e h over ih =
       bytes = h.bytes;
     }) over
 
+-- the lines of a value that ends with an LF open it, behind what it has begun with
 more : (w v begun c : List ℕ) (n : ℕ) (seen : List Pair) (X : List (List ℕ)) → IsMore v begun c w → last c w ≡ [] → Opens (closed c w ++ X) n seen (Some begun) X v (length (closed c w))
 unfolding closed last
 more [] v begun c n seen X h over =
@@ -67,12 +70,14 @@ record IsStart (v c w : List ℕ) : Type 0 where
 abbrev status_head : List ℕ → List ℕ
 status_head blanks = codes "status" ++ 58 ∷ blanks
 
+-- the first line, with the tag and a backslash at its end, opens a status
 first_feed : (blanks v c bs : List ℕ) (n : ℕ) (seen : List Pair) (X : List (List ℕ)) → IsHead seen (codes "status") blanks → begins_with_blank (c ++ 92 ∷ []) ≡ false → is_plain c ≡ true → Opens (closed [] bs ++ X) (n + 1) seen (Some (c ++ 10 ∷ [])) X v (length (closed [] bs)) → Opens ((status_head blanks ++ c ++ 92 ∷ []) ∷ (closed [] bs ++ X)) n seen None X v (length ((status_head blanks ++ c ++ 92 ∷ []) ∷ closed [] bs))
 unfolding read_on
 first_feed blanks v c bs n seen X head start plain rest =
     let line = begun (n + 1) seen (codes "status") blanks (c ++ 92 ∷ []) head start (plain_append c (92 ∷ []) plain refl) in
     record { place = rest.place; counted = omega (arith, rest.counted); same = rw (append_assoc (status_head blanks) c (92 ∷ []), line, first_part (codes "status") c refl) rest.same }
 
+-- the next byte of its first line, an LF or not, goes on opening it
 first_by : (blanks v c : List ℕ) (b : ℕ) (bs : List ℕ) (n : ℕ) (seen : List Pair) (X : List (List ℕ)) (t : Bool) → eqb b 10 ≡ t → IsHead seen (codes "status") blanks → IsStart v c (b ∷ bs) → cond t (last [] bs) (last (status_head blanks ++ c ++ b ∷ []) bs) ≡ []
     → ((c : List ℕ) → IsStart v c bs → last (status_head blanks ++ c) bs ≡ [] → Opens (closed (status_head blanks ++ c) bs ++ X) n seen None X v (length (closed (status_head blanks ++ c) bs)))
     → Opens (cond t ((status_head blanks ++ c ++ 92 ∷ []) ∷ closed [] bs) (closed (status_head blanks ++ c ++ b ∷ []) bs) ++ X) n seen None X v (length (cond t ((status_head blanks ++ c ++ 92 ∷ []) ∷ closed [] bs) (closed (status_head blanks ++ c ++ b ∷ []) bs)))
@@ -85,6 +90,7 @@ first_by blanks v c b bs n seen X false e head h over ih =
     let next : IsStart v (c ++ b ∷ []) bs = record { made = h.made ∙ sym (append_assoc c (b ∷ []) bs); plain = plain_append c (b ∷ []) h.plain (plain_one b (plain_of_status b byte e)); start = h.start; bytes = h.bytes } in
     subst (λ (x : List ℕ). Opens (closed x bs ++ X) n seen None X v (length (closed x bs))) (sym longer) (ih (c ++ b ∷ []) next (ap (λ (x : List ℕ). last x bs) (sym longer) ∙ over))
 
+-- the lines of a status that ends with an LF open it
 first : (w blanks v c : List ℕ) (n : ℕ) (seen : List Pair) (X : List (List ℕ)) → IsHead seen (codes "status") blanks → IsStart v c w → last (status_head blanks ++ c) w ≡ [] → Opens (closed (status_head blanks ++ c) w ++ X) n seen None X v (length (closed (status_head blanks ++ c) w))
 unfolding closed last
 first [] blanks v c n seen X head h over = absurd cc
@@ -95,6 +101,7 @@ record SameEnds (xs ys : List (List ℕ)) (x y : List ℕ) : Type 0 where
   pub front : xs ≡ ys
   pub end : x ≡ y
 
+-- lists with one more element each that are the same are so in both parts
 ends_same : (xs ys : List (List ℕ)) (x y : List ℕ) → xs ++ x ∷ [] ≡ ys ++ y ∷ [] → SameEnds xs ys x y
 ends_same [] [] x y e = record { front = refl; end = cc }
 ends_same [] (b ∷ ys) x y e = absurd (omega (arith, ap length e, length-append ys (y ∷ [])))
@@ -105,6 +112,7 @@ ends_same (a ∷ xs) (b ∷ ys) x y e =
     let rest = ends_same xs ys x y tails in
     record { front = rw heads (ap (λ (ls : List (List ℕ)). b ∷ ls) rest.front); end = rest.end }
 
+-- the lines that begin a status open it
 opens : (o X : List (List ℕ)) (n : ℕ) (seen : List Pair) (h : Begins seen o) → Opens (o ++ X) n seen None X h.value (length o)
 opens o X n seen h =
     let e : Entry = Stated h.blanks (pair (codes "status") h.value) in
@@ -118,49 +126,60 @@ opens o X n seen h =
 
 -- ---- one line
 
+-- with a byte more in front, a text is plain just where it is without its blanks
 plain_behind_by : (b : ℕ) (bs : List ℕ) (t : Bool) → is_blank b ≡ t → is_plain (without_blanks bs) ≡ is_plain bs → is_plain (cond t (without_blanks bs) (b ∷ bs)) ≡ is_plain (b ∷ bs)
 plain_behind_by b bs true e h = h ∙ sym (rw (plain_blank b e) refl)
 plain_behind_by b bs false e h = refl
 
+-- a text is plain just where it is without the blanks in front
 plain_behind : (bs : List ℕ) → is_plain (without_blanks bs) ≡ is_plain bs
 plain_behind [] = refl
 plain_behind (b ∷ bs) = plain_behind_by b bs (is_blank b) refl (plain_behind bs)
 
+-- where a line that counts is no entry, the lines have its fault
 one_line : (line : List ℕ) (behind rest : List (List ℕ)) (n : ℕ) (seen : List Pair) (kind : LineKind) (number : ℕ) → rest ≡ line ∷ behind → number ≡ 1 → is_skipped line ≡ false → entry_of seen line ≡ Err kind → read_on rest n seen None ≡ Err (fault_at (n + number) kind)
 unfolding read_on begin_step
 one_line line behind rest n seen kind number here counted counts e = rw (here, counted, counts, e) refl
 
+-- a line without a colon has that fault
 no_colon : (seen : List Pair) (line : List ℕ) → has_byte 58 line ≡ false → entry_of seen line ≡ Err NoColon
 unfolding entry_of
 no_colon seen line h = ap (at_parts seen) (at_colon_none line (Lacks-from 58 line h))
 
+-- a line with a colon is read in its two parts
 with_colon : (seen : List Pair) (front back : List ℕ) → has_byte 58 front ≡ false → entry_of seen (front ++ 58 ∷ back) ≡ parts_of seen front back
 unfolding entry_of
 with_colon seen front back h = ap (at_parts seen) (at_colon_some front back (Lacks-from 58 front h))
 
+-- where the two parts have a fault, the lines do
 faced : (seen : List Pair) (rest : List (List ℕ)) (front back : List ℕ) (n number : ℕ) (kind : LineKind) → Faces rest front back → number ≡ 1 → parts_of seen front back ≡ Err kind → read_on rest n seen None ≡ Err (fault_at (n + number) kind)
 faced seen rest front back n number kind h counted e = one_line (front ++ 58 ∷ back) h.behind rest n seen kind number h.first counted h.counts (with_colon seen front back h.colon ∙ e)
 
+-- a line that isn't plain is a fault of the status that it goes on
 bad_line : (line : List ℕ) (behind : List (List ℕ)) (m : ℕ) (seen : List Pair) (value : List ℕ) → is_plain line ≡ false → read_on (line ∷ behind) m seen (Some value) ≡ Err (fault_at (m + 1) BadValue)
 unfolding read_on go_on_step
 bad_line line behind m seen value bad = rw bad refl
 
+-- so a bad part of a status is one
 bad_part : (seen : List Pair) (rest : List (List ℕ)) (number n : ℕ) → HasBadPart seen rest number → read_on rest n seen None ≡ Err (fault_at (n + number) BadValue)
 bad_part seen rest number n h =
     let opened = opens h.begun (h.line ∷ h.behind) n seen h.begins in
     let place : opened.place + 1 ≡ n + number = omega (arith, opened.counted, h.counted) in
     ap (λ (ls : List (List ℕ)). read_on ls n seen None) h.here ∙ opened.same ∙ bad_line h.line h.behind opened.place seen h.begins.value h.bad ∙ ap (λ (k : ℕ). Err (fault_at k BadValue)) place
 
+-- lines that end while a status goes on have an open end
 ended_open : (m : ℕ) (seen : List Pair) (value : List ℕ) → read_on [] m seen (Some value) ≡ Err (fault_at m OpenEnd)
 unfolding read_on
 ended_open m seen value = refl
 
+-- so lines that begin a status and end have one
 open_end : (seen : List Pair) (rest : List (List ℕ)) (number n : ℕ) → number ≡ length rest → Begins seen rest → read_on rest n seen None ≡ Err (fault_at (n + number) OpenEnd)
 open_end seen rest number n counted h =
     let opened = opens rest [] n seen h in
     let place : opened.place ≡ n + number = omega (arith, opened.counted, counted) in
     ap (λ (ls : List (List ℕ)). read_on ls n seen None) (sym (append-nil rest)) ∙ opened.same ∙ ended_open opened.place seen h.value ∙ ap (λ (k : ℕ). Err (fault_at k OpenEnd)) place
 
+-- each fault is what reading tells
 told : (kind : LineKind) (seen : List Pair) (rest : List (List ℕ)) (number n : ℕ) → IsFault kind seen rest number → read_on rest n seen None ≡ Err (fault_at (n + number) kind)
 told NotText seen rest number n h = absurd h
 told NoColon seen rest number n h = one_line h.1.line h.1.behind rest n seen NoColon number h.1.first h.0 h.1.counts (no_colon seen h.1.line h.1.colon)
@@ -176,6 +195,7 @@ told NoMemory seen rest number n h = absurd h
 
 -- ---- the text
 
+-- a fault behind entries is what reading the text tells
 fault_told : (text : List ℕ) (fault : LineFault) → IsFaultBehind text fault → Read text ≡ Err fault
 fault_told text fault h =
     let lines_of = all_lines_are h.entries h.formed in
@@ -189,9 +209,11 @@ fault_told text fault h =
 abbrev failed : LineFault → Result (List Pair) LineFault
 failed fault = Err fault
 
+-- what fails with one fault fails with that alone
 failed_is : (f g : LineFault) → failed f ≡ failed g → f ≡ g
 failed_is f g e = cc
 
+-- a text has one first fault
 pub first_fault_alone : (text : List ℕ) (f g : LineFault) → IsFirstFault text f → IsFirstFault text g → f ≡ g
 first_fault_alone text f g p q =
     elim p [
@@ -202,6 +224,7 @@ first_fault_alone text f g p q =
       ]
     ]
 
+-- a text with a fault spells no list
 pub fault_or_list : (text : List ℕ) (fault : LineFault) (ps : List Pair) → IsFirstFault text fault → Spells text ps → ⊥
 fault_or_list text fault ps p h =
     elim p [
