@@ -59,7 +59,7 @@ abbrev pub chosen : List ℕ → List (List ℕ × Entry) → Option Entry
 chosen text [] = None
 chosen text (leaf ∷ more) = or_else (cond (bytes_eq text leaf.0) (Some leaf.1) None) (chosen text more)
 
--- the word that the text is has its route
+-- what is found of a text is the route of the word that it is
 leaf_found : (ws : List (List ℕ × Entry)) (text : List ℕ) → AreApart ws → has_slash text ≡ false → first (leaves ws) text ≡ chosen text ws
 leaf_found [] text apart f = seek_empty 0 text
 leaf_found (([], route) ∷ more) text apart f = absurd apart

@@ -55,7 +55,7 @@ abbrev IsLimit : ℕ → Type 0
 IsLimit n = (1 ≤ n) × (n ≤ most_attempts)
 
 module _ (default : ℕ) (fault : OrderFault) (lawful : IsLimit default) where
-  -- a limit of 0 is the default, and so it is lawful
+  -- a limit up to the most is lawful, where 0 is the default
   limit_of_number : (number : ℕ) (none : Bool) → eqb number 0 ≡ none → leb number most_attempts ≡ true → IsLimit (cond none default number)
   limit_of_number number true e h = lawful
   limit_of_number number false e h = let not_zero = eqb-false number 0 e in (omega arith, leb-true number 1000 h)

@@ -75,7 +75,6 @@ taken_middle w s text more shown name h f =
     (from_start w (47 ∷ s) (text ++ 47 ∷ more) h)
     ∙ ap (λ (part : List ℕ). (part_of shown name.0 name.1, part) ∷ []) (part_is w text (47 ∷ more) _ stop)
 
--- an and with false is false
 none_behind : (a b : Bool) → (a && b && false) ≡ false
 none_behind true true = refl
 none_behind true false = refl

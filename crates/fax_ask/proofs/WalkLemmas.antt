@@ -80,7 +80,7 @@ cut_has_slash (b ∷ text) rest = by (b == 47) (cut_has_slash text rest)
     by true ih = refl
     by false ih = ih
 
--- a slash alone is no better suffix than none
+-- in a segment that is a slash alone, no suffix is better than none
 one_is_short : (suffix : List ℕ) → better (47 ∷ []) [] suffix ≡ []
 one_is_short [] = refl
 one_is_short (b ∷ suffix) =
@@ -91,7 +91,7 @@ one_is_short (b ∷ suffix) =
     either true = refl
     either false = refl
 
--- in a segment without a slash, none is best
+-- in a segment without a slash, a slash is no better than none
 free_is_best : (seg : List ℕ) → has_slash seg ≡ false → better seg [] (47 ∷ []) ≡ []
 free_is_best seg f =
     let e = no_end_slash seg f in
@@ -101,7 +101,7 @@ free_is_best seg f =
     by true = refl
     by false = refl
 
--- in one with a slash at its end, that is
+-- in one with a slash at its end, it is
 cut_is_best : (b : ℕ) (text : List ℕ) → better (b ∷ (text ++ 47 ∷ [])) [] (47 ∷ []) ≡ 47 ∷ []
 cut_is_best b text =
     let e = end_slash (b ∷ text) in
@@ -131,7 +131,7 @@ module _ {K : Type 0} where
 
   -- ---- steps
 
-  -- no rows step nowhere with a parameter
+  -- without rows a parameter steps to none
   param_step_empty : (p : List ℕ) → (param_step {K = K} [] p).1 ≡ []
   unfolding param_step
   param_step_empty p =
@@ -140,7 +140,7 @@ module _ {K : Type 0} where
         | false ↦ refl
       ]
 
-  -- no rows find nothing
+  -- without rows nothing is found
   pub seek_empty : (k : ℕ) (p : List ℕ) → seek {K = K} k [] p ≡ None
   unfolding seek
   seek_empty k [] = refl
@@ -195,7 +195,6 @@ module _ {K : Type 0} where
   led_by_none [] = refl
   led_by_none ((t, key) ∷ rs) = ap (λ rows. (t, key) ∷ rows) (led_by_none rs)
 
-  -- rows with none behind are the rows
   append_none : (rs : RowsOf K) → rs ++ [] ≡ rs
   append_none [] = refl
   append_none (r ∷ rs) = ap (λ rows. r ∷ rows) (append_none rs)
@@ -322,7 +321,7 @@ module _ {K : Type 0} where
 
   -- ---- parameters
 
-  -- a slash is no better suffix of itself than none
+  -- of a segment that is a slash alone no suffix is found
   longest_one : (rs : RowsOf K) → longest_from (47 ∷ []) [] rs ≡ []
   longest_one [] = refl
   longest_one ((t, key) ∷ rs) = ap (λ best. longest_from (47 ∷ []) best rs) (one_is_short (segment t)) ∙ longest_one rs

@@ -217,7 +217,6 @@ granted_fits j modem n e h =
 
 -- ---- reports
 
--- what isn't some is none
 none_is : {A : Type 0} (o : Option A) → is_some o ≡ false → o ≡ None
 none_is None e = refl
 none_is (Some x) e = cc

@@ -144,7 +144,7 @@ new_or_old : {A : Type 0} (P : A → Type 0) (o : Option A) (old : A) → IfSome
 new_or_old P None old h was = was
 new_or_old P (Some new) old h was = h
 
--- what a number isn't at most, it is over
+-- a number that another isn't at most is at most that
 not_over : (x y : ℕ) → leb y x ≡ false → x ≤ y
 not_over x y e = omega (arith, leb-false y x e)
 

@@ -22,7 +22,7 @@ use Rattle.fax_core.proofs.RecordLemmas.{IsKilltime, IsWithin, lawful_from}
 
 -- ---- the values
 
--- a kill time of 0 is none, and so it is lawful
+-- a kill time is lawful, where 0 is none
 zero_is_none : (seconds : ℕ) (none : Bool) → eqb seconds 0 ≡ none → IsKilltime (cond none None (Some seconds))
 zero_is_none seconds true e = refl
 zero_is_none seconds false e = le-leb 1 seconds (omega (arith, eqb-false seconds 0 e))
@@ -33,7 +33,7 @@ killtime_of true number = refl
 killtime_of false None = tt
 killtime_of false (Some seconds) = zero_is_none seconds (eqb seconds 0) refl
 
--- a number of pages that isn't 0 is within its limits
+-- pages up to the most are within their limits, unless they are 0
 pages_of_number : (number : ℕ) (none : Bool) → eqb number 0 ≡ none → leb number most_pages ≡ true → IfOk (cond none (Err NoPages) (Ok number)) (IsWithin most_pages)
 pages_of_number number true e h = tt
 pages_of_number number false e h = and_from (leb 1 number) (leb number most_pages) (le-leb 1 number (omega (arith, eqb-false number 0 e))) h
@@ -50,7 +50,7 @@ totpages_of false None = tt
 totpages_of false (Some n) = pages_of n (leb n most_pages) refl
 
 module _ (default : ℕ) (fault : OrderFault) (lawful : IsWithin most_attempts default) where
-  -- a limit of 0 is the default, and so it is within its limits
+  -- a limit up to the most is within its limits, where 0 is the default
   limit_of_number : (number : ℕ) (none : Bool) → eqb number 0 ≡ none → leb number most_attempts ≡ true → IsWithin most_attempts (cond none default number)
   limit_of_number number true e h = lawful
   limit_of_number number false e h = and_from (leb 1 number) (leb number most_attempts) (le-leb 1 number (omega (arith, eqb-false number 0 e))) h

@@ -45,7 +45,6 @@ numbered_map num f same a (x ∷ xs) e =
     let after = numbered_map num f same (a + 1) xs rest in
     cc (same x)
 
--- a mapped list has as many elements
 pub length_map : {X : Type 0} (f : X → X) (xs : List X) → length (map f xs) ≡ length xs
 length_map f [] = refl
 length_map f (x ∷ xs) = ap suc (length_map f xs)
@@ -59,7 +58,6 @@ numbered_more num a (y ∷ ys) x e n =
     let after = numbered_more num (a + 1) ys x rest (omega arith) in
     cc
 
--- one more at the end makes one more
 pub length_more : {X : Type 0} (xs : List X) (x : X) → length (xs ++ x ∷ []) ≡ length xs + 1
 length_more xs x = length-append xs (x ∷ [])
 

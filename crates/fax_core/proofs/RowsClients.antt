@@ -43,7 +43,7 @@ alter_and_suspend_row : told (Submission (order long_number 3) at 1000 ∷ later
     Replied (Submitted 1) ∷ Denied NotSuspended NoKeys ∷ Replied (Stands 1 1) ∷ Replied (Stands 1 1) ∷ Replied (Stands 1 5) ∷ Denied NotSuspended NoKeys ∷ []
 alter_and_suspend_row = refl
 
--- a limit that is reached already isn't altered
+-- an alteration to a limit that is reached already changes nothing
 alter_to_the_limit_row : map (λ j. j.maxdials) (after (Submission (order long_number 3) at 1000 ∷ Next ttyS0 at 1000 ∷ CallReport 1 Busy at 1000 ∷ OutcomeReport 1 (report true Retry 0 []) at 1000 ∷ Suspend 1 at 1000 ∷ Alteration 1 (record no_change { maxdials = Some 1 }) at 1000 ∷ [])).jobs ≡ 12 ∷ []
 alter_to_the_limit_row = refl
 

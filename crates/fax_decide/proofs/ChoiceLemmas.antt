@@ -80,7 +80,6 @@ due_parts j t e =
     let c = and_parts (is_waiting j.phase) _ b.0 in
     (c.0, not-true (is_past j.killtime t) c.1)
 
--- an and with false is false
 and_false : (a b : Bool) → b ≡ false → (a && b) ≡ false
 and_false true b e = e
 and_false false b e = refl
@@ -367,7 +366,6 @@ first_known s m t modem asked ends busy found same but (is, first) = (
   λ free. subst (λ (x : ℕ). IsFirst s m x modem found) same (first_of_all s m asked modem found (subst (λ (x : ℕ). IsBusy s m x asked.but) (sym same) but) (first free)),
 )
 
--- what is none isn't some
 pub none_is_one : {X : Type 0} (o : Option X) → o ≡ None → is_some o ≡ true → ⊥
 none_is_one None none one = true≢false (sym one)
 none_is_one (Some x) none one = none-some x (sym none)

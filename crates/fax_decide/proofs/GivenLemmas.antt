@@ -155,7 +155,7 @@ held_told P m t modem g one hold f sound held is_hold is_one is_job told =
 -- ---- a modem of the setup that isn't down
 
 module _ (s : Settings) (m : Queue) (t : ℕ) (modem : List ℕ) (has : s.has_modem modem ≡ true) (up : is_down modem m ≡ false) where
-  -- such a modem is given work where it holds no grant
+  -- what such a modem is given is by the grant that it holds, if any
   given_up : given_to s (aged t m) t modem ≡ given_free s (aged t m) t modem (held_by modem m)
   given_up =
       let down = cond (is_down modem m) (machine.Refused ModemDown machine.NoKeys) (given_free s (aged t m) t modem (held_by modem m)) in

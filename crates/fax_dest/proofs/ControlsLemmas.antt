@@ -108,7 +108,6 @@ has_rule-with_last [] p = refl
 has_rule-with_last (r ∷ []) p = refl
 has_rule-with_last (r ∷ q ∷ rs) p = refl
 
--- true, or anything, is true
 or_true : (b : Bool) → true ≡ (b || true)
 or_true true = refl
 or_true false = refl

@@ -76,7 +76,7 @@ filter_next : {X : Type 0} (test : X → Bool) (xs : List X) (i : ℕ) (x : X) (
 filter_next test xs i x b h here =
     ap (filter test) (take_next xs i x h) ∙ filter-append test (take i xs) (x ∷ []) ∙ ap (λ c. filter test (take i xs) ++ cond c (x ∷ []) []) here
 
--- a line with another tag is one more extra line
+-- a line with an unknown tag is one more extra line
 pub extra_next : (ps : List Pair) (i : ℕ) (p : Pair) → slice_get ps i ≡ Some p → is_known p.tag ≡ false → extra_of (take (i + 1) ps) ≡ extra_of (take i ps) ++ p ∷ []
 extra_next ps i p h here = filter_next (λ (q : Pair). not (is_known q.tag)) ps i p true h (ap not here)
 

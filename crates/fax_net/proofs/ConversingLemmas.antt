@@ -204,7 +204,6 @@ module _ {P H : Type 0} (did : P → Step → P → Type 0) (answers : Answering
 
 -- ---- all that is done for a connection at its turn
 
--- where neither of two is, both aren't
 neither : (a b : Bool) → (a || b) ≡ false → (a ≡ false) × (b ≡ false)
 neither true b e = absurd cc
 neither false b e = (refl, e)

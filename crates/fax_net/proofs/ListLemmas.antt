@@ -32,13 +32,11 @@ pub some_in_front : (front back all : List ℕ) → front ++ back ≡ all → (l
 some_in_front [] back all e n = absurd cc
 some_in_front (x ∷ xs) back all e n = ap is_none e
 
--- an and is true only where both are
 pub both : (a b : Bool) → (a && b) ≡ true → (a ≡ true) × (b ≡ true)
 both true true e = (refl, refl)
 both true false e = absurd cc
 both false b e = absurd cc
 
--- what isn't true is false
 pub not_true : (a : Bool) → not a ≡ true → a ≡ false
 not_true true e = absurd cc
 not_true false e = refl

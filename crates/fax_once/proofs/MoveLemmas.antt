@@ -90,7 +90,6 @@ jobs_same m n ask same none x y found =
 
 -- ---- requests on a job
 
--- no more, or what there was, is what there was
 or_none : (b : Bool) → b ≡ (false || b)
 or_none b = refl
 

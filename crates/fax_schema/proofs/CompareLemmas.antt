@@ -67,7 +67,6 @@ same_number a b h = let e = sym (equal_numbers a b) ∙ h in grind (arith, nat_t
 pub number_same : (a : ℕ) → are_equal (Int (pos a)) (Int (pos a)) ≡ true
 number_same a = equal_numbers a a ∙ grind (arith, nat_tests)
 
--- a choice of two alike is the one
 either : (b : Bool) (x : Value) → cond b x x ≡ x
 either true x = refl
 either false x = refl

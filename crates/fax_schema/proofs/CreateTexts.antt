@@ -88,7 +88,7 @@ pub makes_floors : Makes first_bare CREATE_FLOORS.now floors
 unfolding understood everything
 makes_floors = record { command = refl; statement = refl; defined = refl; plain = (refl, refl) }
 
--- and leaves the seven tables without indexes
+-- and leaves the seven tables without the indexes of jobs
 pub created_floors : created first_bare floors ≡ bare_tables
 unfolding everything
 created_floors = refl

@@ -90,7 +90,6 @@ none_shown p show table rows shows empty r has = elim (cases_Bool (p r)) [
 
 -- ---- rows that are taken out
 
--- an order that tests as equal is equal
 is_equal : (o : Ordering) → is_eq o ≡ true → o ≡ Equal
 is_equal Less h = absurd cc
 is_equal Equal h = refl

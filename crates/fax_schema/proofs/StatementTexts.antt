@@ -171,7 +171,7 @@ expired_tests = equals (col 1 18) (col 0 1) ∷ op2 (Compare Ge Binary) (col 1 8
 abbrev pub killtime_project : List Term
 killtime_project = col 1 8 ∷ []
 
--- SELECT_EXPIRED reads the jobs of a phase whose kill time is past
+-- SELECT_EXPIRED reads the kill times of jobs of a phase that are past
 pub select_expired : Selects SELECT_EXPIRED.now jobs_tree expired_tests killtime_project (codes "killtime" ∷ [])
 unfolding understood everything
 select_expired = record { command = refl; plain = (refl, refl); unlisted = refl }

@@ -240,7 +240,6 @@ told_strange (Err e) fault told is = ap Err (sym told) ∙ is
 
 -- ---- reading the version
 
--- a filter that all pass keeps the list
 every : {A : Type 0} (xs : List A) → filter (λ _. true) xs ≡ xs
 every [] = refl
 every (x ∷ xs) = ap (λ ys. x ∷ ys) (every xs)

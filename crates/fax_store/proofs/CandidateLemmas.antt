@@ -68,7 +68,7 @@ order = then_cmp (on (λ (j : Job). j.priority) nat_cmp) (then_cmp (on (λ (j : 
 is_total : IsTotalOrder order
 is_total = then_total (on_total (λ (j : Job). j.priority) nat_cmp_total) (then_total (on_total (λ (j : Job). j.tts) nat_cmp_total) (on_total (λ (j : Job). j.number) nat_cmp_total))
 
--- one job is less by priority, then time to send, then number: so the comparison in turn says
+-- three numbers compared in turn are less by the first, else by the second, else by the third
 less : (p q s u n k : ℕ) → is_lt (ordering_then (nat_cmp p q) (ordering_then (nat_cmp s u) (nat_cmp n k))) ≡ (nat_lt p q || ((p == q) && (nat_lt s u || ((s == u) && nat_lt n k))))
 less p q s u n k = grind (arith, nat_tests)
 
@@ -76,7 +76,7 @@ less p q s u n k = grind (arith, nat_tests)
 by_less : (a b : Job) → is_lt (order a b) ≡ better a b
 by_less a b = less a.priority b.priority a.tts b.tts a.number b.number
 
--- jobs whose numbers rise are never equal in this order
+-- three numbers compared in turn are never equal where the third rises
 apart : (p q s u n k : ℕ) → n < k → is_eq (ordering_then (nat_cmp p q) (ordering_then (nat_cmp s u) (nat_cmp n k))) ≡ false
 apart p q s u n k low = grind (arith, nat_tests)
 
@@ -329,7 +329,6 @@ past_time p t q u k r v l n goes past = grind (arith, nat_tests)
 past_priority : (p t q u k r v l : ℕ) → lex q u k r v l ≡ true → nat_lt p q ≡ true → ((r == p) && nat_lt t v) ≡ false
 past_priority p t q u k r v l goes past = grind (arith, nat_tests)
 
--- or, turned round
 or_turned : (a b : Bool) → (a || b) ≡ (b || a)
 or_turned true true = refl
 or_turned true false = refl

@@ -109,7 +109,7 @@ module _ (f : JobFields) (lines : List Pair) where
     | inr off ↦ ap (λ b. (if b then job_of whole else x).dial) off
   ]
 
-  -- a job's lawful limits stay lawful where its lines stay and the change is lawful
+  -- a lawful change of a lawful job, with the job's lines, is lawful
   change_limits : IsLawful f → (x : Job) → KeepsOrder x → IsLawful (fields_of x) → IsLawful whole
   change_limits now x same was = ap₂ ◌&&◌ (and_parts _ _ now).0 (subst (λ e. IsTrue (are_unknown e)) same.extra (and_parts _ _ was).1)
 

@@ -179,7 +179,6 @@ module _ (n : ℕ) where
   none_shut [] off = refl
   none_shut (x ∷ xs) off = ap₂ ◌∷◌ (ap (λ b. if b then record x { is_open = false } else x) (off x (inl refl))) (none_shut xs (λ y has. off y (inr has)))
 
-  -- Some of two grants is the same only where they are
   same_some : (a b : Grant) → ◌≡◌ {A = Option Grant} (Some a) (Some b) → a ≡ b
   same_some a b e = cc
 

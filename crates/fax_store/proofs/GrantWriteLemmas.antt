@@ -328,12 +328,10 @@ module _ (g : Grant) where
 
 -- ---- a grant that is closed
 
--- two functions that agree on a list make the same of it
 map_same : {X : Type 0} (f g : X → X) (xs : List X) → ((x : X) → Has xs x → f x ≡ g x) → map f xs ≡ map g xs
 map_same f g [] same = refl
 map_same f g (x ∷ xs) same = ap₂ ◌∷◌ (same x (inl refl)) (map_same f g xs (λ y has. same y (inr has)))
 
--- mapping each to itself changes nothing
 map_none : {X : Type 0} (xs : List X) → map (λ x. x) xs ≡ xs
 map_none [] = refl
 map_none (x ∷ xs) = ap (λ rest. x ∷ rest) (map_none xs)
@@ -389,7 +387,6 @@ module _ (n : ℕ) where
     only : (x : Grant) → Has m.grants x → x.number ≡ n → grant_numbered n m ≡ Some x
     only x has is = subst (λ i. find (λ (y : Grant). y.number == i) m.grants ≡ Some x) is (only_numbered grant_row (λ (y : Grant). y.number) (λ y. refl) m.grants x rise has)
 
-    -- Some of two grants is the same only where they are
     same_some : (a b : Grant) → ◌≡◌ {A = Option Grant} (Some a) (Some b) → a ≡ b
     same_some a b e = cc
 

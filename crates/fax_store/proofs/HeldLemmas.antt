@@ -54,7 +54,6 @@ use Rattle.fax_store.proofs.CandidateLemmas.{within}
 use Rattle.fax_store.proofs.CountLemmas.{at_most_all, grants_few, one, turned}
 use Rattle.fax_schema.proofs.StatementTexts.{dial_project, held_project, job_tests, lost_on, lost_query, lost_tests, select_dial, select_held, select_lost}
 
--- a filter that all pass keeps the list
 every : {A : Type 0} (xs : List A) → filter (λ _. true) xs ≡ xs
 every [] = refl
 every (x ∷ xs) = ap (λ ys. x ∷ ys) (every xs)
@@ -201,7 +200,6 @@ second : (r : Row) → column r 2 ≡ column (drop 1 r) 1
 second [] = refl
 second (v ∷ r) = refl
 
--- two functions that agree make the same of a list
 map_same : {A B : Type 0} (f g : A → B) (xs : List A) → ((x : A) → f x ≡ g x) → map f xs ≡ map g xs
 map_same f g [] same = refl
 map_same f g (x ∷ xs) same = ap₂ ◌∷◌ (same x) (map_same f g xs same)
@@ -252,7 +250,7 @@ module _ (old new : State) (m : Queue) (k : Ledger) (has : old.now.schema ≡ ou
       IsPermutation-trans (map (λ (g : Grant). number g.job ∷ []) (open_grants m)) (map (λ r. column r 2 ∷ []) held) rows
       (subst (λ xs. IsPermutation xs (map (λ r. column r 2 ∷ []) held)) left (subst (IsPermutation (map (λ columns. column columns 1 ∷ []) (map hold_columns (open_grants m)))) right by_columns)) (held_shown old new has rows shown)
 
-  -- there are fewer than 2³² of them
+  -- there are fewer than 2 ^ 32 of them
   pub held_few : length rows < 2 ^ 32
   held_few =
       let count : length rows ≡ length (open_grants m) = length_permutation (map (λ (g : Grant). number g.job ∷ []) (open_grants m)) rows permuted ∙ length_map (λ (g : Grant). number g.job ∷ []) (open_grants m) in

@@ -22,15 +22,12 @@ through : {A B : Type 0} (x : Checked A) (f : A → Checked B) (b : B) → and_t
 through (Ok a) f b h = (a, refl, h)
 through (Err e) f b h = absurd cc
 
--- what is done with one value is done with that alone
 same_value : {A : Type 0} {a b : A} → ◌≡◌ {A = Checked A} (Ok a) (Ok b) → a ≡ b
 same_value e = cc
 
--- what failed wasn't done
 not_ok : {A : Type 0} {a : A} {f : CompileError} → ◌≡◌ {A = Checked A} (Err f) (Ok a) → ⊥
 not_ok e = cc
 
--- what is given isn't none
 some_none : {A : Type 0} {a : A} → ◌≡◌ {A = Checked (Option A)} (Ok (Some a)) (Ok None) → ⊥
 some_none e = cc
 

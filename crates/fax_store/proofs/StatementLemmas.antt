@@ -21,7 +21,6 @@ use Rattle.fax_schema.proofs.StatementForms.{Commands}
 use Rattle.fax_schema.proofs.WriteLemmas.{went}
 use Rattle.sqlite_resolve.specs.declared.error.CompileError.{CompileError}
 
--- what is done with one value is done with that alone
 same_value : {B E : Type 0} {a b : B} → ◌≡◌ {A = Result B E} (Ok a) (Ok b) → a ≡ b
 same_value e = cc
 
@@ -131,7 +130,7 @@ module _ (old new : State) (sql : List ℕ) (params : Row) where
     writes_of (Delete at q) text full count is h = h
     writes_of _ text full count is h = absurd is
 
-    -- once it has run, the schema is kept, and what is committed is the same inside a work and all outside one
+    -- once it has run, the tables are as before; inside a work nothing is committed, and outside one all is
     pub edit_shows : (count : ℕ) → Executes sql params old new (Ok count) → (new.now.schema ≡ old.now.schema) × Shows old new new.now (if old.in_transaction then old.committed else new.now) old.in_transaction
     unfolding ExecutesIn
     edit_shows count h =

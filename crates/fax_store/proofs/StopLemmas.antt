@@ -33,7 +33,6 @@ shows_none : (sql : List ℕ) (c : Compiled) (known : Result Compiled CompileErr
 shows_none sql c (Ok e) is plain s at = shows_nothing our_tables s sql e c is plain.0 at
 shows_none sql c (Err f) is plain s at = absurd plain
 
--- what is none isn't some
 none_is_none : (o : Option Returning) → o ≡ None → IsSome o → ⊥
 none_is_none None e h = absurd cc
 none_is_none (Some r) e h = absurd cc

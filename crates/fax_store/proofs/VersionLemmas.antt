@@ -38,7 +38,7 @@ use Rattle.sqlite.proofs.InsideLemmas.{unchanged_keeps}
 
 -- ---- a value of its type is stored as it is
 
--- an integer is stored as it is
+-- a value of the type of integers is stored as it is
 typed_same : (v : Value) → is_of Integer v ≡ true → cast Integer v ≡ v
 typed_same Null h = cast_null
 typed_same (Int n) h = cast_int n
@@ -46,7 +46,7 @@ typed_same (Real x) h = absurd cc
 typed_same (Text t) h = absurd cc
 typed_same (Blob b) h = absurd cc
 
--- the same, as SQL tests it
+-- an integer is stored as it is
 int_same : (v : Value) → IsTrue (is_int v) → cast Integer v ≡ v
 int_same Null h = absurd cc
 int_same (Int n) h = cast_int n
@@ -60,7 +60,6 @@ record AreTyped (r : Row) : Type 0 where
   next_job : is_of Integer (column r 3) ≡ true
   next_grant : is_of Integer (column r 4) ≡ true
 
--- an and is true only where both are
 two : {a b : Bool} → (a && b) ≡ true → (a ≡ true) × (b ≡ true)
 two {a} {b} h = and_parts a b h
 
@@ -73,7 +72,6 @@ row_typed (i ∷ a ∷ b ∷ []) h = record { clock = (two (two h).1).0; next_jo
 row_typed (i ∷ a ∷ b ∷ c ∷ []) h = let more = two (two h).1 in record { clock = more.0; next_job = (two more.1).0; next_grant = refl }
 row_typed (i ∷ a ∷ b ∷ c ∷ d ∷ rest) h = let more = two (two h).1 in let last = two more.1 in record { clock = more.0; next_job = last.0; next_grant = (two last.1).0 }
 
--- mapping each row to itself changes nothing
 same_map : (rows : List Row) → map (λ (r : Row). r) rows ≡ rows
 same_map [] = refl
 same_map (r ∷ rows) = ap (λ rs. r ∷ rs) (same_map rows)

@@ -45,7 +45,6 @@ use Rattle.fax_schema.proofs.WriteLemmas.{went, unreferred, inserts}
 pub clean_before : (old new : State) → doubt old.is_clean ≤ doubt new.is_clean → HasCleanDisk new → HasCleanDisk old
 clean_before old new kept clean = omega arith
 
--- what is done with one value is done with that alone
 same_ok : {A E : Type 0} {a b : A} → ◌≡◌ {A = Result A E} (Ok a) (Ok b) → a ≡ b
 same_ok e = cc
 

@@ -4,7 +4,6 @@ use Rattle.std.proofs.lemmas.List.{take_more}
 use Rattle.sqlite_rules.specs.Lists.{Has}
 use Rattle.sqlite_rules.proofs.ListLemmas.{has_at}
 
--- a mapped list has as many elements
 pub length_map : {X Y : Type 0} (f : X → Y) (xs : List X) → length (map f xs) ≡ length xs
 length_map f [] = refl
 length_map f (x ∷ xs) = ap suc (length_map f xs)
@@ -27,7 +26,7 @@ mapped_at f [] i x low is d = absurd (omega arith)
 mapped_at f (y ∷ xs) zero x low is d = ap f (sym is)
 mapped_at f (y ∷ xs) (suc i) x low is d = mapped_at f xs i x (omega arith) is d
 
--- a place within a list has an element, and what the record says of it
+-- a place within a list has an element that stands there in each of these ways
 pub at_index : {X Y : Type 0} (f : X → Y) (xs : List X) (i : ℕ) → i < length xs → (x : X) × IsAt f xs i x
 at_index f xs i low =
     let it = picked xs i low in (

@@ -52,15 +52,12 @@ pub record MayStand (schema : Schema) (db : Trees) (table : Table) (row : Row) :
   pub fresh : is_taken (db table.tree) row ≡ false
   pub unique : Keeps Unique schema (with_tree db table.tree (put_row row (db table.tree)))
 
--- what is refused with one fault is refused with that alone
 same_stop : {B E : Type 0} {a b : E} → ◌≡◌ {A = Result B E} (Err a) (Err b) → a ≡ b
 same_stop e = cc
 
--- what was refused wasn't done
 never : {B E : Type 0} {a : E} {b : B} → ◌≡◌ {A = Result B E} (Err a) (Ok b) → ⊥
 never e = cc
 
--- Some of two values is the same only where they are
 same_some : {A : Type 0} {a b : A} → ◌≡◌ {A = Option A} (Some a) (Some b) → a ≡ b
 same_some e = cc
 

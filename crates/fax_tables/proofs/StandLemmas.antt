@@ -58,7 +58,7 @@ module _ (db : Database) (ours : db.schema ≡ our_tables) (sound : IsDatabase d
     unique = unique_still our_tables db.trees schema.holds (Int (next_rowid (db.trees holds_tree)) ∷ hold_columns g) apart (no_other _) (λ g. modem, (λ g. job, (λ g. id, (λ g. absurd (false≢true g), (λ g. absurd (false≢true g), (λ g. absurd (false≢true g), (λ g. absurd (false≢true g), (λ g. absurd (false≢true g), (λ g. absurd (false≢true g), tt)))))))));
   }
 
-  -- a modem is marked down once
+  -- a mark may, where the modem has none
   pub down_may : (modem : List ℕ) → IsByRowid (db.trees down_tree) → ((x : Row) → Has (db.trees down_tree) x → agree plain (1 ∷ []) x (1 ∷ []) (Int (next_rowid (db.trees down_tree)) ∷ down_columns modem) ≡ false)
       → MayStand our_tables db.trees schema.down (Int (next_rowid (db.trees down_tree)) ∷ down_columns modem)
   down_may modem by free = record {
@@ -69,7 +69,7 @@ module _ (db : Database) (ours : db.schema ≡ our_tables) (sound : IsDatabase d
     unique = unique_still our_tables db.trees schema.down (Int (next_rowid (db.trees down_tree)) ∷ down_columns modem) apart (no_other _) (λ g. absurd (false≢true g), (λ g. absurd (false≢true g), (λ g. absurd (false≢true g), (λ g. free, (λ g. absurd (false≢true g), (λ g. absurd (false≢true g), (λ g. absurd (false≢true g), (λ g. absurd (false≢true g), (λ g. absurd (false≢true g), tt)))))))));
   }
 
-  -- a client's number has one reply
+  -- a reply may, where its client's number has none
   pub reply_may : (e : Entry) → IsByRowid (db.trees replies_tree) → ((x : Row) → Has (db.trees replies_tree) x → agree plain (1 ∷ 2 ∷ []) x (1 ∷ 2 ∷ []) (Int (next_rowid (db.trees replies_tree)) ∷ entry_columns e) ≡ false)
       → MayStand our_tables db.trees schema.replies (Int (next_rowid (db.trees replies_tree)) ∷ entry_columns e)
   reply_may e by free = record {
@@ -80,7 +80,7 @@ module _ (db : Database) (ours : db.schema ≡ our_tables) (sound : IsDatabase d
     unique = unique_still our_tables db.trees schema.replies (Int (next_rowid (db.trees replies_tree)) ∷ entry_columns e) apart (no_other _) (λ g. absurd (false≢true g), (λ g. absurd (false≢true g), (λ g. absurd (false≢true g), (λ g. absurd (false≢true g), (λ g. free, (λ g. absurd (false≢true g), (λ g. absurd (false≢true g), (λ g. absurd (false≢true g), (λ g. absurd (false≢true g), tt)))))))));
   }
 
-  -- a number to dial is counted once
+  -- a count may, where its number to dial has none
   pub call_may : (dial : List ℕ) (n : ℕ) → IsByRowid (db.trees calls_tree) → ((x : Row) → Has (db.trees calls_tree) x → agree plain (1 ∷ []) x (1 ∷ []) (Int (next_rowid (db.trees calls_tree)) ∷ call_columns dial n) ≡ false)
       → MayStand our_tables db.trees schema.calls (Int (next_rowid (db.trees calls_tree)) ∷ call_columns dial n)
   call_may dial n by free = record {

@@ -31,7 +31,6 @@ pub is_plain : is_simple program ≡ true
 unfolding clap_on_literals
 is_plain = refl
 
--- what isn't true is false
 not_true : (b : Bool) → not b ≡ true → b ≡ false
 not_true true e = absurd (let no = e in cc)
 not_true false e = refl
