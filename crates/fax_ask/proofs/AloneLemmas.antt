@@ -117,7 +117,7 @@ ask_or_refusal (Next modem) body a refusal h r = r
 
 -- ---- the whole
 
--- the same whether the path has a request or not
+-- a body asks for one thing, whether the path has a request or not
 one_by : (o : Option Request) (body : List ℕ) (a b : Ask) → MatchOption o ⊥ (λ request. Asks request body a) → MatchOption o ⊥ (λ request. Asks request body b) → a ≡ b
 one_by None body a b h g = absurd h
 one_by (Some request) body a b h g = asks_alone request body a b h g

@@ -52,7 +52,7 @@ of_number : (text : List ℕ) (n : ℕ) (is : Bool) → is_number text ≡ is �
 of_number text n true e h = digits_lack_lf text (and_parts (leb 1 (length text) && leb (length text) 18) (list_all is_ascii_digit text) e).1
 of_number text n false e h = absurd cc
 
--- so has what is read as one without a zero in front
+-- nor has what is read as one without a zero in front
 numbers_lack_lf : (text : List ℕ) (n : ℕ) (zero : Bool) → cond zero None (number_of text) ≡ Some n → has_byte 10 text ≡ false
 numbers_lack_lf text n true h = absurd cc
 numbers_lack_lf text n false h = of_number text n (is_number text) refl h
@@ -80,14 +80,14 @@ in_job Post job (action ∷ []) request is =
 in_job Post job (action ∷ more ∷ rest) request is = absurd cc
 in_job Another job rest request is = absurd cc
 
--- so have the number and the texts
+-- nor have the number and the texts
 in_id : (method : Method) (id : List ℕ) (rest : List (List ℕ)) (request : Request) (number : Option ℕ) → request_number_of id ≡ number
     → option_and_then (λ job. job_request method job rest) number ≡ Some request → lacks_lf (id ∷ rest)
 in_id method id rest request None e is = absurd cc
 in_id method id rest request (Some job) e is =
     one_more id rest (numbers_lack_lf id job (begins_with_zero id) e) (in_job method job rest request is)
 
--- so have the texts behind `jobs`
+-- nor have the texts behind `jobs`
 in_jobs : (method : Method) (rest : List (List ℕ)) (request : Request) → jobs_request method rest ≡ Some request → lacks_lf rest
 in_jobs Get [] request is = refl
 in_jobs Post [] request is = refl
@@ -133,19 +133,19 @@ in_modem_action modem action request false true c e f g is = same_text action (c
 in_modem_action modem action request false false true e f g is = same_text action (codes "next") g refl
 in_modem_action modem action request false false false e f g is = absurd cc
 
--- so have a modem's name and its action
+-- nor have a modem's name and its action
 in_named : (rest : List (List ℕ)) (texts : List ℕ × List ℕ) (request : Request) (named : Bool) → two_texts rest ≡ Some texts → is_name texts.0 ≡ named
     → cond named (modem_action texts.0 texts.1) None ≡ Some request → lacks_lf rest
 in_named rest texts request true e n is =
     in_two rest texts e (names_lack_lf texts.0 n) (in_modem_action texts.0 texts.1 request _ _ _ refl refl refl is)
 in_named rest texts request false e n is = absurd cc
 
--- so have two texts that name a request of a modem, if they are two
+-- nor have two texts that name a request of a modem, if they are two
 in_modem : (rest : List (List ℕ)) (request : Request) (o : Option (List ℕ × List ℕ)) → two_texts rest ≡ o → modem_request o ≡ Some request → lacks_lf rest
 in_modem rest request None e is = absurd cc
 in_modem rest request (Some texts) e is = in_named rest texts request (is_name texts.0) e refl is
 
--- so have the texts behind `modems`
+-- nor have the texts behind `modems`
 in_modems : (method : Method) (rest : List (List ℕ)) (request : Request) → modems_request method rest ≡ Some request → lacks_lf rest
 in_modems Get rest request is = absurd cc
 in_modems Post rest request is = in_modem rest request (two_texts rest) refl is
@@ -161,14 +161,14 @@ in_report grant report request false true c e f g is = same_text report (codes "
 in_report grant report request false false true e f g is = same_text report (codes "outcome") g refl
 in_report grant report request false false false e f g is = absurd cc
 
--- so have a grant's number and its report
+-- nor have a grant's number and its report
 in_numbered : (rest : List (List ℕ)) (texts : List ℕ × List ℕ) (request : Request) (number : Option ℕ) → two_texts rest ≡ Some texts → request_number_of texts.0 ≡ number
     → option_and_then (λ grant. grant_report grant texts.1) number ≡ Some request → lacks_lf rest
 in_numbered rest texts request None e n is = absurd cc
 in_numbered rest texts request (Some grant) e n is =
     in_two rest texts e (numbers_lack_lf texts.0 grant (begins_with_zero texts.0) n) (in_report grant texts.1 request _ _ _ refl refl refl is)
 
--- so have two texts that name a request on a grant, if they are two
+-- nor have two texts that name a request on a grant, if they are two
 in_grant : (rest : List (List ℕ)) (request : Request) (o : Option (List ℕ × List ℕ)) → two_texts rest ≡ o → grant_request o ≡ Some request → lacks_lf rest
 in_grant rest request None e is = absurd cc
 in_grant rest request (Some texts) e is = in_numbered rest texts request (request_number_of texts.0) e refl is
@@ -184,7 +184,7 @@ in_imports Another rest request is = absurd cc
 
 -- ---- numbers
 
--- so have those behind `numbers`
+-- nor have those behind `numbers`
 in_numbers : (method : Method) (rest : List (List ℕ)) (request : Request) → numbers_request method rest ≡ Some request → lacks_lf rest
 in_numbers Get rest request is = absurd cc
 in_numbers Post [] request is = absurd cc
@@ -196,7 +196,7 @@ in_numbers Post (text ∷ []) request is = by (bytes_eq text (codes "floor")) re
 in_numbers Post (text ∷ other ∷ rest) request is = absurd cc
 in_numbers Another rest request is = absurd cc
 
--- and those behind `grants`
+-- nor have those behind `grants`
 in_grants : (method : Method) (rest : List (List ℕ)) (request : Request) → grants_request method rest ≡ Some request → lacks_lf rest
 in_grants Get rest request is = absurd cc
 in_grants Post rest request is = in_grant rest request (two_texts rest) refl is
@@ -216,19 +216,19 @@ in_collection method collection rest request false false false true numbers e f 
 in_collection method collection rest request false false false false true e f g h i is = one_more collection rest (same_text collection (codes "numbers") i refl) (in_numbers method rest request is)
 in_collection method collection rest request false false false false false e f g h i is = absurd cc
 
--- so have the texts behind the first slash
+-- nor have the texts behind the first slash
 in_root : (method : Method) (rest : List (List ℕ)) (request : Request) → root_request method rest ≡ Some request → lacks_lf rest
 in_root method [] request is = refl
 in_root method (collection ∷ rest) request is = in_collection method collection rest request _ _ _ _ _ refl refl refl refl refl is
 
--- so have these with the nothing in front of it
+-- nor have these with the empty text in front of them
 in_lead : (method : Method) (lead : List ℕ) (rest : List (List ℕ)) (request : Request) (empty : Bool) → eqb (length lead) 0 ≡ empty
     → cond empty (root_request method rest) None ≡ Some request → lacks_lf (lead ∷ rest)
 in_lead method lead rest request true e is =
     one_more lead rest (ap (has_byte 10) (nil_from_length lead (eqb-true (length lead) 0 e))) (in_root method rest request is)
 in_lead method lead rest request false e is = absurd cc
 
--- so have all texts of a path
+-- nor has any text of a path
 in_path : (method : Method) (texts : List (List ℕ)) (request : Request) → path_request method texts ≡ Some request → lacks_lf texts
 in_path method [] request is = refl
 in_path method (lead ∷ rest) request is = in_lead method lead rest request (eqb (length lead) 0) refl is

@@ -333,7 +333,7 @@ module _ {K : Type 0} where
   longest_last seg ((t, key) ∷ next) end f =
       ap (λ best. longest_from seg best (led_by (47 ∷ []) next ++ ends_of end)) (free_is_best seg f) ∙ longest_last seg next end f
 
-  -- of one with a slash at its end, that is
+  -- where a slash is the best so far, it is the suffix that is found
   longest_slash : (seg : List ℕ) (next : RowsOf K) (end : Option K) → longest_from seg (47 ∷ []) (led_by (47 ∷ []) next ++ ends_of end) ≡ 47 ∷ []
   longest_slash seg [] None = refl
   longest_slash seg [] (Some key) = refl

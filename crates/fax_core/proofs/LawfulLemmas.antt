@@ -324,7 +324,7 @@ ended_if false false false true e v w x y z both h = tt
 ended_if false false false false true v w x y z both h = tt
 ended_if false false false false false v w x y z both h = h
 
--- and an outcome
+-- an outcome that is taken leaves a job with a record
 outcome_kept : (o : Outcome) (j : Job) (g : Grant) (delay t : ℕ) → t + delay ≤ last_next → HasRecord j → IfOk (outcome o j g delay t) HasJobRecord
 outcome_kept o j g delay t late h =
     ended_if (not g.is_open) (not o.dialed && is_some g.call) (o.dialed && is_none g.call) (not (eqb o.pages g.confirmed)) (is_done o.ending && not (is_empty j.left))

@@ -95,7 +95,7 @@ module _ (P : Refusal → Keys → Type 0) where
   no_job m a g h is none p true o = let old = h.held a g (is, o) in cc (none, old.1)
   no_job m a g h is none p false o = p
 
-  -- the same of a grant whose job is there or not
+  -- a report on a grant whose job is there or not is refused by the decision, or as closed
   on_both_refused : (m : Queue) (decide : Job → Grant → Result JobAndGrant Refusal) (reply : Queue → JobAndGrant → Reply) (a : ℕ) (g : Grant) (o : Option Job) (e : Refusal) (k : Keys) → Sound m → grant_numbered a m ≡ Some g → job_numbered g.job m ≡ o → P GrantClosed NoKeys → ((j : Job) (x : Refusal) → decide j g ≡ Err x → P x (keys_of_job x j)) → on_both m decide reply g o ≡ Refused e k → P e k
   on_both_refused m decide reply a g None e k s is none p f h = refused_is P (without_job g.is_open) e NoKeys k h (no_job m a g s is none p g.is_open refl)
   on_both_refused m decide reply a g (Some j) e k s is there p f h = reported_refused m reply j (decide j g) e k (f j) h

@@ -108,7 +108,7 @@ expired_while_granted_row = refl
 expired_while_granted_shown : shown (after (Submission (record (order long_number 3) { killtime = Some 1500 }) at 1000 ∷ Next ttyS0 at 1000 ∷ CallReport 1 Connected at 1500 ∷ [])) 1500 ≡ 6 ∷ []
 expired_while_granted_shown = refl
 
--- its status tells so
+-- then its status tells why
 expired_while_granted_status : statuses (after expired_while_granted) 1501 ≡ codes "Kill time expired" ∷ []
 expired_while_granted_status = refl
 

@@ -111,7 +111,7 @@ module _ (lines : List Pair) where
   both_lined (Ok b) = Ok (record b { job = lined b.job })
   both_lined (Err e) = Err e
 
-  -- so does what is refused by a test of no lines, where the rest does
+  -- what a test may refuse before decides the same with them, where what is behind does
   unless : (b : Bool) (e : Refusal) (x y : Result JobAndGrant Refusal) → both_lined x ≡ y → both_lined (cond b (Err e) x) ≡ cond b (Err e) y
   unless true e x y same = refl
   unless false e x y same = same

@@ -37,7 +37,7 @@ call_plain said j g e h = call_refused IsPlain refl refl said j g e h
 pub page_plain : (said : ℕ) (j : Job) (g : Grant) (e : Refusal) → page said j g ≡ Err e → ¬ (e ≡ PageOrder) → has_detail e ≡ false
 page_plain said j g e h = page_refused (λ x. ¬ (x ≡ PageOrder) → has_detail x ≡ false) (λ _. refl) (λ _. refl) (λ no. absurd (no refl)) said j g e h
 
--- nor of a refused outcome
+-- of a refused outcome no more is told than number and word
 pub outcome_plain : (said : Outcome) (j : Job) (g : Grant) (delay t : ℕ) (e : Refusal) → outcome said j g delay t ≡ Err e → has_detail e ≡ false
 outcome_plain said j g delay t e h = outcome_refused IsPlain refl refl refl refl refl said j g delay t e h
 
@@ -72,7 +72,7 @@ module _ (o : Order) (rule : Rule) (next max t : ℕ) (e : Refusal) (h : recorde
           refused_or (λ y. ¬ (y ≡ Rejected)) (is_over o.totpages rule.pages) TooManyPages e _ x (λ n. cc) (λ x.
           refused_or (λ y. ¬ (y ≡ Rejected)) (nat_lt max next) Full e (Ok (new_job o next t)) x (λ n. cc) (λ x. absurd cc))
 
-  -- nor of a refused submission, but where the rule rejected it
+  -- of a refused submission no more is told, unless the rule rejected it
   pub submit_plain : ¬ (e ≡ Rejected) → has_detail e ≡ false
   submit_plain not = elim (recorded_or (submit o rule next max t) e h) [
     | inl refused ↦ submit_refused (λ x. ¬ (x ≡ Rejected) → has_detail x ≡ false) (λ no. absurd (no refl)) (λ _. refl) (λ _. refl) o rule next max t e refused not

@@ -45,7 +45,7 @@ use Rattle.fax_decide.proofs.RecordLemmas.{found_itself}
 
 -- ---- reports that leave the grant open
 
--- the same grant with what a report changes reports on the one of its number
+-- the grant as a report leaves it differs from the one of its number in what is reported alone
 reports_on : (m n : Queue) (before grant : Grant) → n.grants ≡ m.grants → grant_numbered before.number m ≡ Some before → IsSameGrant before grant → grant.number ≡ before.number → IsReport grant n
 reports_on m n before grant grants there same number h is =
     let of : grant_numbered before.number m ≡ Some h = subst (λ (a : ℕ). grant_numbered a m ≡ Some h) number (subst (λ gs. find (λ (g : Grant). g.number == grant.number) gs ≡ Some h) grants is) in

@@ -84,7 +84,7 @@ split_input : (input taken : List ℕ) (after : Option (List ℕ)) → Consumes 
 split_input input taken None c = absurd c
 split_input input taken (Some left) c = (left, refl, c)
 
--- so it is of each input
+-- each whole input was served, where neither side failed and there was memory
 pub serves_whole_inputs : {R W H : Type 0} (remaining : R → Option (List ℕ)) (contents : W → Option (List ℕ)) (answers : Answering H) (over : H → Bool) → ServesWholeInputs remaining contents answers over
 serves_whole_inputs remaining contents answers over bound input reader reader₂ writer writer₂ old new served s known r w on m =
     let parts = split_input input s.taken (remaining reader₂.device) (subst (λ k. Consumes k (remaining reader₂.device) s.taken) known s.took.consumed) in

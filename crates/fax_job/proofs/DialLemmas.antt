@@ -113,10 +113,10 @@ with_no_plus b kept rest e other = rw (e, ne_eqb b 43 other) refl
 pub keys_behind_plus : (bytes : List ℕ) (place : ℕ) → first_from 0 bytes ≡ Some place → get_or bytes place 0 ≡ 43 → are_keys (without_separators (drop (place + 1) bytes)) ≡ is_canonical (without_separators bytes)
 keys_behind_plus bytes place e plus = behind_plus (get_or bytes place 0) (without_separators bytes) (without_separators (drop (place + 1) bytes)) (kept_from bytes place e) plus
 
--- and else all that is kept are
+-- where it isn't, the keys are all that is kept
 pub keys_without_plus : (bytes : List ℕ) (place : ℕ) → first_from 0 bytes ≡ Some place → get_or bytes place 0 ≢ 43 → are_keys (without_separators bytes) ≡ is_canonical (without_separators bytes)
 keys_without_plus bytes place e other = with_no_plus (get_or bytes place 0) (without_separators bytes) (without_separators (drop (place + 1) bytes)) (kept_from bytes place e) other
 
--- where nothing is kept, there is no number
+-- where nothing is kept, there are neither keys nor a number
 pub no_keys : (bytes : List ℕ) → first_from 0 bytes ≡ None → are_keys (without_separators bytes) ≡ is_canonical (without_separators bytes)
 no_keys bytes e = rw (none_kept bytes 0 e) refl

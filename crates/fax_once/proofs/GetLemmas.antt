@@ -18,7 +18,7 @@ use Rattle.fax_once.specs.Reading.{IsForRoute, IsReading, Post, Reading, Faulty,
 use Rattle.fax_once.specs.declared.arrival.Arrival.{Arrival}
 use Rattle.fax_ask.specs.Request.{grants_request, imports_request, job_request, jobs_request, modems_request, numbers_request, path_request, request_of, root_request}
 
--- it asks for a view
+-- the request asks for a view
 IsShow : Request → Type 0
 IsShow r = (what : View) × (r ≡ Show what)
 

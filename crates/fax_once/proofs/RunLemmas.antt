@@ -112,7 +112,7 @@ module _ (s : Settings) (start : Start) (earlier : List Post) where
     abbrev if_taken : Bool → Bool → List Post
     if_taken new low = if new && (low && takes (decided s m p.request)) then p ∷ earlier else earlier
 
-    -- so is the post
+    -- the post is taken as it was where its floor is raised, and leaves the same queue
     same : (left_by m (decided s m it.request) ≡ left_by m (decided s m p.request)) × (takes (decided s m it.request) ≡ takes (decided s m p.request))
     same = raised_step s m (decided_at m.clock p.request.moment) (k.floor p.client) p.request.ask
 

@@ -180,13 +180,11 @@ module _ (g : Grant) where
     modem_agrees [] h id is = absurd cc
     modem_agrees (i ∷ columns) h id is = ap (λ rest. agree plain (1 ∷ []) (i ∷ rest) (1 ∷ []) (Int id ∷ hold_columns g)) is ∙ and_true (are_equal (Text h.modem) (Text g.modem)) ∙ equal_texts h.modem g.modem
 
-    -- the same of its job
     job_agrees : (r : Row) (h : Grant) (id : ℤ) → drop 1 r ≡ hold_columns h → agree plain (2 ∷ []) r (2 ∷ []) (Int id ∷ hold_columns g) ≡ (h.job == g.job)
     unfolding first_key
     job_agrees [] h id is = absurd cc
     job_agrees (i ∷ columns) h id is = ap (λ rest. agree plain (2 ∷ []) (i ∷ rest) (2 ∷ []) (Int id ∷ hold_columns g)) is ∙ and_true (are_equal (number h.job) (number g.job)) ∙ is_number h.job g.job
 
-    -- and of its grant
     number_agrees : (r : Row) (h : Grant) (id : ℤ) → drop 1 r ≡ hold_columns h → agree plain (3 ∷ []) r (3 ∷ []) (Int id ∷ hold_columns g) ≡ (h.number == g.number)
     unfolding first_key
     number_agrees [] h id is = absurd cc

@@ -336,7 +336,6 @@ rows_still a b m k count set mean = (mean.0, mean.1, kept_rows core_tables.table
 pub dial_formed : (db : Database) (m : Queue) (k : Ledger) → TablesMean db m k → (n : ℕ) (j : Job) → job_numbered n m ≡ Some j → IsText IsCanonical j.dial
 dial_formed db m k means n j found = (found_holds IsLawfulJob (λ (x : Job). x.number == n) m.jobs j means.lawful.jobs found).formed.dial
 
--- and its own number has 32 bits
 pub job_low : (db : Database) (m : Queue) (k : Ledger) → TablesMean db m k → (n : ℕ) (j : Job) → job_numbered n m ≡ Some j → j.number < 2 ^ 32
 job_low db m k means n j found =
     let most = within j (found_holds IsLawfulJob (λ (x : Job). x.number == n) m.jobs j means.lawful.jobs found) in

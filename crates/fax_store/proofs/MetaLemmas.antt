@@ -86,7 +86,7 @@ module _ (old new : State) (m : Queue) (k : Ledger) (means : TablesMean old.now 
         let done = written h in
         means_of new.now (put m) k means.held (meta_changed old new m (open_grants m) (calls_of m) k (parts_of old.now m k means) done.0 clock next_job next_grant done.1 lawful)
 
-    -- it touches meta alone
+    -- the text touches meta alone
     pub meta_shows : HasRun UPDATE_META.now params old new → KeepsOthers our_tables meta_tree old new
     meta_shows h = (written h).0
 

@@ -40,7 +40,6 @@ module _ (old new : State) (sql : List ℕ) (params : Row) where
   unfolding Shown
   shown_still rows h = shows_still h.0 _ rows h.0.returning h.2
 
-  -- and it was before
   pub shown_open : (rows : List Row) → Shown sql params old new rows → IsTrue old.is_open
   unfolding Shown
   shown_open rows h = shows_open h.0 _ rows h.0.returning h.2

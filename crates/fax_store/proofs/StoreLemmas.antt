@@ -86,7 +86,6 @@ module _ (old new : State) (kept : doubt old.is_clean ≤ doubt new.is_clean) wh
   pub begun_served : (n : ℕ) → (HasCleanDisk new → Executes BEGIN.now [] old new (Ok n)) → Serves new → Serves old
   begun_served n ran s = served s (begins old new n (ran s.clean)).1.was_open
 
-  -- the same behind a commit
   pub commit_served : (n : ℕ) → (HasCleanDisk new → Executes COMMIT.now [] old new (Ok n)) → Serves new → Serves old
   commit_served n ran s = served s (commits old new n (ran s.clean)).was_open
 
@@ -138,7 +137,7 @@ undoes old new failed served back m₀ m k₀ k works s = at_rest_of new old.com
 pub forgets_commit : (old new : State) → ((Serves old → IsTrue old.in_transaction) → GoesBack old new) → Forgets old false new
 forgets_commit old new back db over s = back (λ was. ((over was).goes_on refl).0) db (λ was. (over was).began) s
 
--- and it means what it did where the work began
+-- the store then means what it did where the work began
 pub undoes_commit : (old new : State) → (Serves new → Serves old) → ((Serves old → IsTrue old.in_transaction) → GoesBack old new) → Undoes old false new
 undoes_commit old new served back m₀ m k₀ k works s =
     at_rest_of new old.committed m₀ k₀ (back (λ was. ((works was).goes_on refl).inside) old.committed (λ _. refl) s) (works (served s)).began

@@ -31,7 +31,6 @@ pub ok_as : {A : Type 0} {P Q : Type 0} (result : Result A StoreFault) → (P �
 ok_as (Ok a) more h = more h
 ok_as (Err e) more h = tt
 
--- the same where it is refused
 pub err_as : {A : Type 0} {P Q : Type 0} (result : Result A StoreFault) → (P → Q) → OnErr result P → OnErr result Q
 err_as (Ok a) more h = tt
 err_as (Err e) more h = more h
@@ -66,7 +65,6 @@ pub told_ok : {A : Type 0} (P : A → Type 0) (result : Result A StoreFault) →
 told_ok P (Ok a) told = told
 told_ok P (Err e) told = tt
 
--- and of a refusal alone
 pub told_cause : {A : Type 0} (P : A → Type 0) (result : Result A StoreFault) → OrUnavailable result P → IfErr result (λ e. e ≡ Unavailable)
 told_cause P (Ok a) told = tt
 told_cause P (Err e) told = told
@@ -162,7 +160,7 @@ module _ (old new : State) (served : Serves new → Serves old) {A : Type 0} (re
     works_now : (m₀ m : Queue) (k₀ k : Ledger) → Works old false m₀ k₀ m k → MeansNow old m k
     works_now m₀ m k₀ k works was = ((works was).goes_on refl).means
 
-    -- it keeps what a work means
+    -- a call that only reads keeps what a work means
     pub keeps_by : Keeps old false new (is_err result)
     keeps_by m₀ m k₀ k works s = kept result (read (was.goes_on refl).means.schema s.clean)
       where
