@@ -120,12 +120,12 @@ ready_waits Held j h c l t e = absurd (held (is_past j.killtime t) e)
     held false e = omega (arith, e)
 ready_waits Waiting j h c l t e = refl
 
--- where a case that isn't 5 is put before a number, and 5 comes of it, the case doesn't hold
+-- where 5 comes of a choice of 8 or a number, it is the number
 not_8 : (b : Bool) (n : ℕ) → Path ℕ (cond b 8 n) 5 → (b ≡ false) × (n ≡ 5)
 not_8 true n e = absurd (omega (arith, e))
 not_8 false n e = (refl, e)
 
--- where 5 comes of the cases of a waiting job, it isn't too early, by time to send or next time
+-- where 5 comes of the cases of a waiting job, it is too early neither by time to send nor by next time
 due_by : (a b c d : Bool) → Path ℕ (cond a 2 (cond b 3 (cond (not c) 2 (cond d 4 5)))) 5 → (a ≡ false) × (b ≡ false)
 due_by true b c d e = absurd (omega (arith, e))
 due_by false true c d e = absurd (omega (arith, e))

@@ -361,7 +361,7 @@ goes_back wish.Go k h = h
 goes_back wish.Hold k h = h
 goes_back wish.Kill k h = h
 
--- so does one that is tried again, where a page is left
+-- a job that is tried again keeps its number and pages too, and fits so, where a page is left
 over_retried : (j : Job) (reason : List ℕ) (delay t : ℕ) → 1 ≤ length j.left → IsOver j (retried j reason delay t)
 over_retried j reason delay t some =
     cond_both (is_kill j.wish) _ _ (IsOver j) (λ e. over_failed j killed) (λ e.

@@ -38,12 +38,12 @@ pages_of_number : (number : ℕ) (none : Bool) → eqb number 0 ≡ none → leb
 pages_of_number number true e h = tt
 pages_of_number number false e h = and_from (leb 1 number) (leb number most_pages) (le-leb 1 number (omega (arith, eqb-false number 0 e))) h
 
--- so is one that may be too great
+-- so are pages that may be too many
 pages_of : (number : ℕ) (within : Bool) → leb number most_pages ≡ within → IfOk (pages (cond within (Some number) None)) (IsWithin most_pages)
 pages_of number false h = tt
 pages_of number true h = pages_of_number number (eqb number 0) refl h
 
--- so is what is read of the pages
+-- so are pages that are read
 totpages_of : (empty : Bool) (number : Option ℕ) → IfOk (cond empty (Err NoPages) (pages (option_and_then (λ n. cond (leb n most_pages) (Some n) None) number))) (IsWithin most_pages)
 totpages_of true number = tt
 totpages_of false None = tt

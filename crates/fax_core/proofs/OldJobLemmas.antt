@@ -17,7 +17,7 @@ recorded_again f = ap (λ (g : JobFields). cond (is_lawful g) (Ok (job_of f)) (E
 pub made_of : (j : Job) (f g : JobFields) → job_of f ≡ j → cond (is_lawful f) (Some f) None ≡ Some g → Ok (job_of g) ≡ recorded (Ok j)
 made_of j f g same e = made (job_of f) f g (is_lawful f) refl e ∙ sym (recorded_again f) ∙ ap (λ (k : Job). recorded (Ok k)) same
 
--- where no record is made, the record isn't lawful
+-- where no record is made, a choice by its lawfulness is the other
 not_made : {A : Type 0} (lawful : Bool) (f : JobFields) (x y : A) → cond lawful (Some f) None ≡ None → cond lawful x y ≡ y
 not_made true f x y e = cc
 not_made false f x y e = refl

@@ -74,7 +74,7 @@ one_taken s start earlier (Posts p) is are = by (is_taken s start earlier p) ref
 
 -- ---- one more arrival
 
--- an arrival that is answered 27 goes on a run, and isn't heard
+-- a run goes on by an arrival that is answered 27, which isn't heard
 unheard_more : (s : Settings) (start : Start) (past : List Reading) (arrivals : List Arrival) (replies : List Response) (heard : List Reading) (a : Arrival) (reply : Response)
     → IsRun s start past arrivals replies heard → reply ≡ refused_response Unavailable NoKeys → IsRun s start past (arrivals ++ a ∷ []) (replies ++ reply ∷ []) heard
 unheard_more s start past [] [] heard a reply is gone = inl (gone, is)
@@ -83,7 +83,7 @@ unheard_more s start past (b ∷ arrivals) [] heard a reply is gone = absurd is
 unheard_more s start past (b ∷ arrivals) (q ∷ replies) heard a reply (inl (lost, is)) gone = inl (lost, unheard_more s start past arrivals replies heard a reply is gone)
 unheard_more s start past (b ∷ arrivals) (q ∷ replies) heard a reply (inr (r, reads, told, is)) gone = inr (r, reads, told, unheard_more s start (r ∷ past) arrivals replies heard a reply is gone)
 
--- one that is answered as what it reads as goes on a run, and is heard as that
+-- a run goes on by one that is answered as what it reads as, which is heard
 heard_more : (s : Settings) (start : Start) (past : List Reading) (arrivals : List Arrival) (replies : List Response) (heard : List Reading) (a : Arrival) (reply : Response) (r : Reading)
     → IsRun s start past arrivals replies heard → IsReading a r → reply ≡ reply_at s start heard r → IsRun s start past (arrivals ++ a ∷ []) (replies ++ reply ∷ []) (r ∷ heard)
 heard_more s start past [] [] heard a reply r is reads told = inr (r, reads, told ∙ ap (λ (before : List Reading). reply_at s start before r) is, ap (λ (before : List Reading). r ∷ before) is)
@@ -102,7 +102,7 @@ module _ (s : Settings) (start : Start) (arrivals : List Arrival) (replies : Lis
   abbrev here : Start
   here = end_of s start ran.heard
 
-  -- what is read and answered by its verdict goes on a run
+  -- a run goes on by an arrival that is read and answered by its verdict
   handled : (r : Reading) → IsReading a r → (reply ≡ reply_of (verdict s here.queue here.kept r)) × Means new (left_of here (verdict s here.queue here.kept r)).queue (left_of here (verdict s here.queue here.kept r)).kept
       → HasRun s start (arrivals ++ a ∷ []) (replies ++ reply ∷ []) new
   handled r reads (told, rests) =
@@ -114,7 +114,7 @@ module _ (s : Settings) (start : Start) (arrivals : List Arrival) (replies : Lis
         are_taken = one_taken s start (taken s start ran.heard) r (lawful_by a r (says a r reads)) ran.are_taken;
       }
 
-  -- what is handled goes on a run
+  -- a run goes on by an arrival that is handled
   pub runs_on : Handles s a here.queue here.kept reply new → HasRun s start (arrivals ++ a ∷ []) (replies ++ reply ∷ []) new
   runs_on (inl (v, (r, reads, is), leaves)) = handled r reads (leaves_at here reply new (verdict s here.queue here.kept r) (subst (λ (w : Verdict). Leaves here.queue here.kept reply new w) is leaves))
   runs_on (inr (gone, left)) = record {

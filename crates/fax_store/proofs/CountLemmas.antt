@@ -130,7 +130,7 @@ module _ (x : Job) where
 
 -- each grant became another of its job, open where it was
 module _ (f : Grant → Grant) (m : Queue) (same : (x : Grant) → Has m.grants x → ((f x).is_open ≡ x.is_open) × ((f x).job ≡ x.job)) where
-  -- changed grants of the same jobs, open as before, are as many to each number
+  -- changed grants of the same jobs, open as before, are as many by any test of their jobs
   open_mapped : (of : ℕ → Bool) (gs : List Grant) → ((x : Grant) → Has gs x → ((f x).is_open ≡ x.is_open) × ((f x).job ≡ x.job)) → open_to (λ g. of g.job) gs ≡ open_to (λ g. of g.job) (map f gs)
   open_mapped of [] as_it = refl
   open_mapped of (x ∷ xs) as_it =

@@ -50,7 +50,7 @@ moves_by old new (Err e) m₀ m after k₀ k kept served holds works s means =
     let over : IsOver old false old.committed = record { began = refl; goes_on = λ _. (inside.inside, inside.means.schema) } in
     same_tables m₀ k₀ (holds old.committed (λ _. over) s).began was.began
 
--- the same of both
+-- what holds where a call is done and what holds where it is refused each say more
 pub both_as : {A : Type 0} {P Q R S : Type 0} (result : Result A StoreFault) → (P → R) → (Q → S) → MatchResult result (λ _. P) (λ _. Q) → MatchResult result (λ _. R) (λ _. S)
 both_as (Ok a) done refused h = done h
 both_as (Err e) done refused h = refused h

@@ -21,7 +21,7 @@ phases = refl
 wishes : map wish_number (Go ∷ Hold ∷ Kill ∷ []) ≡ 0 ∷ 1 ∷ 2 ∷ []
 wishes = refl
 
--- how a call ended has the numbers 0 to 5, where 0 is not yet
+-- the calls have the numbers 0 to 5, where 0 is none
 calls : map call_number (None ∷ Some Connected ∷ Some Busy ∷ Some NoAnswer ∷ Some NoCarrier ∷ Some Other ∷ []) ≡ 0 ∷ 1 ∷ 2 ∷ 3 ∷ 4 ∷ 5 ∷ []
 calls = refl
 
