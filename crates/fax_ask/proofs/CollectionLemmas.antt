@@ -67,7 +67,7 @@ leaf_found ((x ∷ w, route) ∷ more) text apart f =
     branch x w (led_by (47 ∷ []) [] ++ ends_of (Some route)) (leaves more) text (word_parts x w apart.0).0 apart.1 apart.2
     ∙ ap₂ or_else (word (x ∷ w) text [] (Some route) None apart.0 f) (leaf_found more text apart.3 f)
 
--- behind a word with a slash is no route
+-- a word with a slash behind it has no route
 leaf_missed : (ws : List (List ℕ × Entry)) (text rest : List ℕ) → AreApart ws → has_slash text ≡ false → first (leaves ws) (text ++ 47 ∷ rest) ≡ None
 leaf_missed [] text rest apart f = seek_empty 0 (text ++ 47 ∷ rest)
 leaf_missed (([], route) ∷ more) text rest apart f = absurd apart

@@ -195,7 +195,7 @@ modem_word id u f name value post get key =
     middle_says (codes "/modems/") name value (λ method. modems_request method (id ∷ name ∷ [])) id refl key u f
     (by_method (λ method. modems_request method (id ∷ name ∷ [])) value id (sym get) post refl)
 
--- no name is no modem
+-- with an empty name there is no request of a modem
 no_modem : (rest : List (List ℕ)) → modem_request (two_texts ([] ∷ rest)) ≡ None
 no_modem [] = refl
 no_modem (x ∷ []) = refl
@@ -241,7 +241,7 @@ grant_word id u f name value post get key =
     middle_says (codes "/grants/") name value (λ method. grants_request method (id ∷ name ∷ [])) id refl key u f
     (by_method (λ method. grants_request method (id ∷ name ∷ [])) value id (sym get) post refl)
 
--- no number is no grant
+-- with an empty number there is no request on a grant
 no_grant : (rest : List (List ℕ)) → grant_request (two_texts ([] ∷ rest)) ≡ None
 no_grant [] = refl
 no_grant (x ∷ []) = refl

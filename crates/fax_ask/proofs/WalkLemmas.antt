@@ -71,7 +71,6 @@ segment_cut (b ∷ text) rest f =
     let e : (b == 47) ≡ false = ne_eqb b 47 p.0 in
     rw e (ap (λ more. b ∷ more) (segment_cut text rest p.1))
 
--- a text with a slash has one
 cut_has_slash : (text rest : List ℕ) → has_slash (text ++ 47 ∷ rest) ≡ true
 cut_has_slash [] rest = refl
 cut_has_slash (b ∷ text) rest = by (b == 47) (cut_has_slash text rest)

@@ -124,7 +124,7 @@ abbrev pub behind : List Line → Result (List Line) FileFault → Result (List 
 behind done (Ok ls) = Ok (done ++ ls)
 behind done (Err fault) = Err fault
 
--- behind no lines, what is read is what is read
+-- what is read behind no lines is as it was read
 behind_none : (r : Result (List Line) FileFault) → r ≡ behind [] r
 behind_none (Ok ls) = refl
 behind_none (Err fault) = refl

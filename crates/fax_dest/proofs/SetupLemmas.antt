@@ -97,7 +97,7 @@ abbrev pub behind : List Setting → Result (List Setting) FileFault → Result 
 behind done (Ok settings) = Ok (done ++ settings)
 behind done (Err fault) = Err fault
 
--- behind no settings, what is read is what is read
+-- what is read behind no settings is as it was read
 behind_none : (r : Result (List Setting) FileFault) → r ≡ behind [] r
 behind_none (Ok settings) = refl
 behind_none (Err fault) = refl

@@ -46,7 +46,7 @@ counted_on : (a b c m n k : ℕ) → counted b ≡ counted (a + m) → counted c
 counted_on a b c m n k p q e = omega (arith, p, q, e)
 
 module _ {W : Type 0} (contents : W → Option (List ℕ)) where
-  -- a writer that hasn't failed wrote no bytes
+  -- a writer that stays, and hasn't failed, has written nothing more
   pub put_none : (w : Watched W) → w.failed ≡ false → Put contents w w [] false
   put_none w going = record { appended = appends_none (contents w.device); passed = omega arith; failed_is = going }
 
@@ -115,7 +115,7 @@ module _ {W : Type 0} (contents : W → Option (List ℕ)) where
   }
 
 module _ {R : Type 0} (remaining : R → Option (List ℕ)) where
-  -- a reader that hasn't failed read no bytes
+  -- a reader that stays, and hasn't failed, has read nothing more
   pub took_none : (r : Watched R) → r.failed ≡ false → Took remaining r r [] false
   took_none r going = record { consumed = consumes_none (remaining r.device); passed = omega arith; failed_is = going }
 

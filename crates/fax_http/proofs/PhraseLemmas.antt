@@ -12,7 +12,7 @@ short_if : (b : Bool) (phrase : List ℕ) (rest : Option (List ℕ)) → length 
 short_if b phrase rest here there =
     elim b as (λ c. IsShort (if c then Some phrase else rest)) [ true ↦ record { short = here } | false ↦ there ]
 
--- no phrase is short
+-- where there is no phrase, that is short
 none : IsShort None
 none = record { short = lit≤ tt }
 

@@ -44,7 +44,7 @@ least_size = refl
 least_message : IsMessage least []
 least_message = record { is_head = record { grammar = least_is; bytes = omega (arith, least_size); fields = omega arith }; frames = refl }
 
--- no bytes at all aren't bad whatever follows: a message may
+-- an empty input isn't bad whatever follows: a message may
 none_stays : ¬ (StaysBad [])
 none_stays bad = (bad (print_request least ++ ([] ++ []))).none least [] [] (record { message = least_message; bytes = refl })
 

@@ -47,7 +47,7 @@ canonical_utf8 bs h = IsUtf8-from_ascii bs (canonical_ascii bs h)
 
 -- ---- with separators
 
--- a byte more is a separator or a key where it is kept as a key
+-- with a byte more in front, bytes are separators and keys just where those kept are keys
 all_kept : (b : ℕ) (bytes : List ℕ) (separator : Bool) → is_separator b ≡ separator → list_all (λ byte. is_separator byte || is_key byte) bytes ≡ list_all is_key (without_separators bytes)
     → list_all (λ byte. is_separator byte || is_key byte) (b ∷ bytes) ≡ list_all is_key (without_separators (b ∷ bytes))
 all_kept b bytes true s e = rw s e

@@ -96,7 +96,7 @@ lacks_known tag (q ∷ qs) k u =
     let parts = and_parts (not (is_known q.tag)) (are_unknown qs) u in
     or_from (bytes_eq q.tag tag) (has_tag tag qs) (other_tag tag q.tag k (not-true (is_known q.tag) parts.0)) (lacks_known tag qs k parts.1)
 
--- a known tag that the first list doesn't have comes once in both
+-- a known tag that the first list lacks, both lack, where the second has none that is known
 first_once : (p : Pair) (ps qs : List Pair) → (is_known p.tag && has_tag p.tag ps) ≡ false → are_unknown qs ≡ true → (is_known p.tag && has_tag p.tag (ps ++ qs)) ≡ false
 first_once p ps qs h u =
     elim (and_cases (is_known p.tag) (has_tag p.tag ps) h) [

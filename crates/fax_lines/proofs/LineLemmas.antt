@@ -139,7 +139,6 @@ pub start_append : (x y : List ℕ) → 0 < length x → begins_with_blank (x ++
 start_append [] y some = absurd (omega arith)
 start_append (b ∷ x) y some = refl
 
--- a byte that is no backslash isn't one
 one_lacks : (b : ℕ) (t : Bool) → eqb b 92 ≡ t → cond t (Some []) none_yet ≡ None → eqb b 92 ≡ false
 one_lacks b true e given = absurd cc
 one_lacks b false e given = e

@@ -128,7 +128,7 @@ refused_holds link link₂ t broken g none ending is = held (acted (Refused brok
 module _ {P H : Type 0} (did : P → Step → P → Type 0) (answers : Answering H) (over : H → Bool) (place : ℕ) (below : place < 64) (start : P) (first : H) (earlier : List Step)
     (p : P) (h : H) (runs : Runs did answers over start first earlier p h) (link : Link) (kept : Holds (talk place earlier) link) where
   module _ (h₂ : H) (link₂ : Link) (on₁ : over h ≡ false) where
-    -- what was found and kept of it goes on the history
+    -- the history goes on by what was found and kept of it
     found_goes : (f : Found) (moved : Bool) → is_due link ≡ true → (talk place earlier).replies ≡ 0 → Finds answers over h h₂ link.said link₂.said f → Keeps f link link₂ moved
         → GoesFrom did answers over place p h₂ link₂ 0 0 moved (λ t. ⊤) start first earlier
     found_goes (found.Answered bytes) moved due fresh (it, going, on) keeps =
@@ -177,7 +177,7 @@ module _ {P H : Type 0} (did : P → Step → P → Type 0) (answers : Answering
     same_goes still unmoved =
         goes_still did answers over place below start first earlier p h runs link₂ 0 moved (λ t. ⊤) (subst (λ l. Holds (talk place earlier) l) (sym still) kept) unmoved tt
 
-    -- what is kept of an end goes on the history
+    -- the history goes on by what is kept of an end
     ended_goes : (s : Stage) → link.stage ≡ s → EndsAt s link link₂ moved → GoesFrom did answers over place p h link₂ 0 0 moved (λ t. ⊤) start first earlier
     ended_goes Free is (unmoved, still) = same_goes still unmoved
     ended_goes Open is (unmoved, still) = same_goes still unmoved
@@ -302,7 +302,7 @@ module _ {P H : Type 0} (did : P → Step → P → Type 0) (answers : Answering
   closed : (talk place earlier).is_open ≡ false
   closed = holds (talk place earlier) link Free free kept
 
-  -- whoever came or didn't goes on the history
+  -- the history goes on by whoever came or didn't
   pub admitted : Admits did place p p₂ link link₂ left left₂ moved → GoesFrom did answers over place p₂ h link₂ left left₂ moved (IsAttended moved) start first earlier
   admitted (inl (happens, unused, one, has)) =
       goes_by did answers over place below start first earlier Came p₂ h link₂ left left₂ moved (IsAttended moved) runs.right (p, runs.happens, happens) runs.answered closed

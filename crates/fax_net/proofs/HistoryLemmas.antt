@@ -17,7 +17,7 @@ pub talk_here : (place : ℕ) (act : Act) (earlier : List Step) → talk place (
 talk_here place act earlier =
     ap (λ (b : Bool). if b then acted act (talk place earlier) else talk place earlier) (eq-eqb place place refl)
 
--- and of no other
+-- and at no other place
 pub talk_there : (place k : ℕ) (act : Act) (earlier : List Step) → ¬ (place ≡ k) → talk k (At place act ∷ earlier) ≡ talk k earlier
 talk_there place k act earlier n =
     ap (λ (b : Bool). if b then acted act (talk k earlier) else talk k earlier) (unlike place k n)

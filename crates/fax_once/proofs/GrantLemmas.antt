@@ -35,7 +35,7 @@ use Rattle.fax_once.specs.Run.{queue_after}
 same_itself : (g : Grant) → IsSameGrant g g
 same_itself g = record { number = refl; job = refl; modem = refl; first_page = refl; last_page = refl; confirmed = omega arith; closed = λ off. refl }
 
--- what is as a grant that is as another is as the other
+-- where a grant is as a second, and that as a third, it is as the third
 same_through : (f g h : Grant) → IsSameGrant f g → IsSameGrant g h → IsSameGrant f h
 same_through f g h a b = record {
   number = b.number ∙ a.number;

@@ -53,7 +53,7 @@ kept_permuted columns p q agree rows xs same =
 pub all_kept : {X : Type 0} (P : X → Type 0) (q : X → Bool) (xs : List X) → All P xs → All P (filter q xs)
 all_kept P q xs all = All-from_recursion P (filter q xs) (all-filter P q xs (recursion_from_All P xs all))
 
--- where no record passes, none does
+-- where no element passes, the list has none that passes
 pub none_holds : {X : Type 0} (q : X → Bool) (xs : List X) → ((x : X) → Has xs x → q x ≡ false) → list_any q xs ≡ false
 none_holds q [] none = refl
 none_holds q (x ∷ xs) none = rw (none x (inl refl)) (none_holds q xs (λ y has. none y (inr has)))

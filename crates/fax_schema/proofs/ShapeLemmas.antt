@@ -2,7 +2,6 @@
 use Rattle.std.proofs.Common.{◌≡◌, ℕ, zero, suc, ◌<◌, List, [], ◌∷◌, length, get_or, map, Some, Option, refl, ap, ap₂, ◌∙◌, arith}
 use Rattle.std.specs.List.{slice_get}
 
--- Some of two elements is the same only where they are
 same_head : {X : Type 0} {x y : X} → ◌≡◌ {A = Option X} (Some x) (Some y) → x ≡ y
 same_head e = cc
 
