@@ -137,7 +137,7 @@ first_number = omega (arith, signed_arith)
 one_back : (day before : ℤ) → day ≡ pos 0 → day ≡ before +ℤ pos 1 → before ≡ neg_ℤ (pos 1)
 one_back day before start next = omega (arith, signed_arith)
 
--- the day before has the number -1
+-- 31 December 1969 has the number -1
 pub last_number : days_from_civil (pos 1969) 12 31 ≡ neg_ℤ (pos 1)
 last_number = one_back _ _ first_number (days_from_civil-next_year (pos 1969) (pos 1970) (search rules) refl)
 
@@ -145,7 +145,7 @@ last_number = one_back _ _ first_number (days_from_civil-next_year (pos 1969) (p
 two_back : (day before : ℤ) → day ≡ neg_ℤ (pos 1) → before +ℤ pos 31 ≡ day +ℤ pos 30 → before ≡ neg_ℤ (pos 2)
 two_back day before start same = omega (arith, signed_arith)
 
--- the day before that has the number -2
+-- 30 December 1969 has the number -2
 third_last_number : days_from_civil (pos 1969) 12 30 ≡ neg_ℤ (pos 2)
 third_last_number = two_back _ _ last_number (days_from_civil-day (pos 1969) 12 30 31 (omega arith) (omega arith))
 

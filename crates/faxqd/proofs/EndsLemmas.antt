@@ -17,7 +17,7 @@ module _ {R W : Type 0} (remaining : R → Option (List ℕ)) (contents : W → 
   at_fault end not replayed fault =
       subst (EndsWith remaining contents reader reader₂ out out₂ office) (sym (fault not)) (record { end = end; badly = not; replayed = replayed })
 
-  -- and one whose input was served to its end with success
+  -- a replay ends it with success where the input was served to its end, and else with a fault
   pub ends_by : (end : End) → IsReplayed remaining contents reader reader₂ out out₂ office end
       → (end ≡ Closed → status ≡ Success) → (¬ (end ≡ Closed) → status ≡ Fault) → EndsWith remaining contents reader reader₂ out out₂ office status
   ends_by Closed replayed success fault = subst (EndsWith remaining contents reader reader₂ out out₂ office) (sym (success refl)) replayed
