@@ -387,9 +387,11 @@ rows_callable db m k mean hold there_is =
 
 -- ---- counts of 32 bits
 
+-- where nothing is counted, each count has 32 bits
 pub none_small : AreSmall (λ _. 0)
 none_small dial = let low : 0 < 4294967296 = omega arith in low
 
+-- where one is set to a number of 32 bits, each has them still
 pub count_small : (dial : List ℕ) (n : ℕ) (count : List ℕ → ℕ) → n < 2 ^ 32 → AreSmall count → AreSmall (with_count dial n count)
 count_small dial n count low small other = by (bytes_eq other dial)
   where
