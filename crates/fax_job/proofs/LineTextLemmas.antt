@@ -55,7 +55,7 @@ Keeps-then a b c first second = record {
   pair = λ place h. second.pair place (first.place place h) ∙ first.pair place h;
 }
 
--- and of one that grew by a tag and then a value
+-- a text that grew by a tag and then a value keeps its places
 pub Keeps-grown_twice : (old middle new tag value : List ℕ) → IsUtf8 old → IsUtf8 tag → IsUtf8 middle → IsUtf8 value → middle ≡ old ++ tag → new ≡ middle ++ value → Keeps old new
 Keeps-grown_twice old middle new tag value old_utf8 tag_utf8 middle_utf8 value_utf8 first second =
     Keeps-then old middle new (Keeps-grown old middle tag old_utf8 tag_utf8 first) (Keeps-grown middle new value middle_utf8 value_utf8 second)
