@@ -114,7 +114,7 @@ module _ {H : Type 0} (answers : Answering H) (over : H → Bool) (h h₂ : H) (
       done (inl last) = inr (inr (inl (record { earlier = t.turns; last = it.turn; parts = refl; going = g.goes_on.going; is_last = last })))
       done (inr o) = inr (inr (inr (inl o)))
 
--- what begins unmoved message is refused
+-- what begins no message is refused
 refused_holds : (link link₂ : Link) (t : Talk) (broken : Broken) → IsGoing t link → link.pending ≡ [] → link₂.stage ≡ Ending → link₂.pending ≡ failure_of broken
     → Holds (acted (Refused broken) t) link₂
 refused_holds link link₂ t broken g none ending is = held (acted (Refused broken) t) link₂ Ending ending (record {

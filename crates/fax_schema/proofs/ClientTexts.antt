@@ -4,15 +4,16 @@ use Rattle.sqlite.specs.Collation.TheVariants.{Binary}
 use Rattle.sqlite.specs.Command.TheVariants.{Insert, Delete}
 use Rattle.sqlite.specs.Listing.{understood}
 use Rattle.sqlite.specs.Source.TheVariants.{Values}
+use Rattle.sqlite.proofs.Callers.{IsPlain}
 use Rattle.sqlite_sql.specs.Term.{Term, col, op2}
 use Rattle.sqlite_sql.specs.declared.ops.BinaryOp.TheVariants.{Compare}
 use Rattle.sqlite_sql.specs.declared.ops.CompareOp.TheVariants.{Le}
 use Rattle.sqlite_tied.specs.Compute.{everything}
-use Rattle.fax_schema.specs.declared.statements.TheConstants.{DELETE_REPLIES, SELECT_FLOOR, DELETE_FLOOR, INSERT_FLOOR}
+use Rattle.fax_schema.specs.declared.statements.TheConstants.{DELETE_REPLIES, SELECT_HUNDREDTH, SELECT_FLOOR, DELETE_FLOOR, INSERT_FLOOR}
 use Rattle.fax_schema.proofs.GrantTexts.{call_tests, call_project, call_terms}
 use Rattle.fax_schema.proofs.StatementForms.{equals, Selects, Commands}
 use Rattle.fax_schema.proofs.UpdateLemmas.{program_of, gone_project}
-use Rattle.fax_schema.specs.Schema.{floors_tree, replies_tree}
+use Rattle.fax_schema.specs.Schema.{floors_tree, our_tables, replies_tree}
 
 abbrev pub given_up_tests : List Term
 given_up_tests = equals (col 1 1) (col 0 0) ∷ op2 (Compare Le Binary) (col 1 2) (col 0 1) ∷ []
@@ -20,6 +21,11 @@ given_up_tests = equals (col 1 1) (col 0 0) ∷ op2 (Compare Le Binary) (col 1 2
 pub delete_replies : Commands DELETE_REPLIES.now (Delete 4 (program_of replies_tree given_up_tests gone_project))
 unfolding understood everything
 delete_replies = record { is = refl; plain = (refl, refl) }
+
+-- the text shows rows and writes none
+pub select_hundredth : IsPlain (understood our_tables SELECT_HUNDREDTH.now)
+unfolding understood everything
+select_hundredth = (refl, refl)
 
 -- floors stand as the counts of calls do
 pub select_floor : Selects SELECT_FLOOR.now floors_tree call_tests call_project (codes "upto" ∷ [])

@@ -150,6 +150,10 @@ pub const INSERT_REPLY: &str =
 
 pub const DELETE_REPLIES: &str = "DELETE FROM replies WHERE client = ?1 AND number <= ?2";
 
+// The hundredth of them. The unique index has all that it asks, and in its order.
+pub const SELECT_HUNDREDTH: &str =
+    "SELECT number FROM replies WHERE client = ?1 AND number <= ?2 ORDER BY number LIMIT 1 OFFSET 99";
+
 // ---- floors
 
 pub const SELECT_FLOOR: &str = "SELECT upto FROM floors WHERE client = ?1";

@@ -11,7 +11,7 @@ use Rattle.fax_store.specs.declared.store.Store.{Store}
 use Rattle.fax_store.specs.declared.work.Work.{Work}
 use Rattle.fax_tables.specs.declared.fault.StoreFault.{StoreFault}
 use Rattle.fax_store.proofs.StopLemmas.{withholds_by, withholds_then}
-use Rattle.fax_store.proofs.WorkLemmas.{found_in, holds_by, keeps_by, reads_same, stays_by}
+use Rattle.fax_store.proofs.WorkLemmas.{found_in, holds_by, holds_then, keeps_by, reads_same, stays_by}
 
 -- the tables of a store that means something mean it now
 pub means_now : {s : State} {m : Queue} {k : Ledger} → Means s m k → MeansNow s m k
@@ -59,6 +59,15 @@ module _ {S : Type 0} (g : Ghosts S) where
     clean = finds.clean;
     holds = holds_by (shown g old) (shown g new) finds.served result finds.reads;
     crash = withholds_by (shown g old) (shown g new) finds.clean result finds.reads finds.crash;
+  }
+
+  -- and so do two changes within a work
+  pub runs_then : (old mid new : Store S) {A B : Type 0} (a : A) (result : Result B StoreFault) → Runs g old mid (Ok a) → Runs g mid new result → Runs g old new result
+  runs_then old mid new a result first next = record {
+    served = λ serves. first.served (next.served serves);
+    clean = λ clean. first.clean (next.clean clean);
+    holds = holds_then (shown g old) (shown g mid) (shown g new) (is_err result) next.served first.holds next.holds;
+    crash = withholds_then (shown g old) (shown g mid) (shown g new) (is_err result) first.crash next.crash;
   }
 
   -- ---- of a work

@@ -26,3 +26,4 @@ pub mod AdoptLemmas
 mod ShutLemmas
 pub mod VersionLemmas
 pub mod FloorLemmas
+mod ThinLemmas

@@ -5,5 +5,6 @@ pub mod Job
 pub mod Candidates
 pub mod Grant
 pub mod Kept
+pub mod Floors
 pub mod Meta
 pub mod Adopt

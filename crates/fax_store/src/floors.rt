@@ -1,19 +1,32 @@
 //! The floors: through which number each client has given up its replies.
 
-ghost use Rattle.std.specs.Prelude.{◌≡◌, ◌≤◌, ◌<◌, ◌^◌, false, IfErr, IfOk};
+ghost use Rattle.std.specs.Prelude.{◌≡◌, ◌≤◌, ◌<◌, ◌^◌, false, IfErr, IfOk, IfSome};
 ghost use Rattle.fax_core.specs.Ledger.{Ledger, floors_with, given_up, with_floor, without_replies};
 ghost use Rattle.fax_core.specs.Queue.{Queue};
 ghost use Rattle.fax_job.specs.Name.{IsName};
 ghost use Rattle.fax_store.specs.Calls.{Answers, Calls, FailsOnly, Finds, Makes, Runs, Tells, shown};
+ghost use Rattle.fax_store.specs.Floors.{Thins};
 ghost use Rattle.fax_store.specs.Store.{Serves};
 ghost use Rattle.fax_store.specs.Work.{IsOnlyUnavailable, Moves, Steps, Works};
 
 use crate::store::Store;
 use crate::work::Work;
 use fax_job::{RequestNumber, is_name};
-use fax_schema::statements::{DELETE_FLOOR, DELETE_REPLIES, INSERT_FLOOR, SELECT_FLOOR};
+use fax_schema::statements::{
+    DELETE_FLOOR, DELETE_REPLIES, INSERT_FLOOR, SELECT_FLOOR, SELECT_HUNDREDTH,
+};
 use fax_tables::{StoreFault, floor_in, floor_value};
-use sqlite::{Alter, params};
+use sqlite::{Alter, Row, params};
+
+/// The number in the row, where it is at most this one.
+fn number_through(row: &Row, floor: u64) -> Option<u64>
+    ensures { IfSome result (λ number. number ≤ floor) }
+{
+    match floor_in(row) {
+        Ok(number) if number <= floor => Some(number),
+        _ => None,
+    }
+}
 
 impl<S: Alter> Store<S> {
     /// Through which number the client has given up its replies: 0, where it has given up none.
@@ -32,8 +45,21 @@ impl<S: Alter> Store<S> {
         }
     }
 
-    /// Takes the client's replies with numbers through this one away.
-    fn drop_replies(&mut self, client: &str, floor: u64) -> Result<(), StoreFault>
+    /// The number of the hundredth of the client's replies with numbers through this one, where there are so many.
+    fn hundredth(&mut self, client: &str, floor: u64) -> Result<Option<u64>, StoreFault>
+        requires { floor < 10 ^ 18 }
+        ensures leaves { Finds S.Store self.old self.new result }
+        ensures within { IfOk result (λ found. IfSome found (λ number. number ≤ floor)) }
+        ensures cause { IfErr result (λ fault. fault ≡ StoreFault.Unavailable) }
+    {
+        match self.find(SELECT_HUNDREDTH, params![client, floor_value(floor)])? {
+            Some(row) => Ok(number_through(&row, floor)),
+            None => Ok(None),
+        }
+    }
+
+    /// Takes the client's replies with numbers through this one away, all at once.
+    fn drop_through(&mut self, client: &str, floor: u64) -> Result<(), StoreFault>
         requires { floor < 10 ^ 18 }
         ensures leaves { Runs S.Store self.old self.new result }
         ensures written { (m₀ m : Queue) (k₀ k : Ledger) → Works (shown S.Store self.old) false m₀ k₀ m k
@@ -42,6 +68,49 @@ impl<S: Alter> Store<S> {
         ensures cause { IfErr result (λ fault. fault ≡ StoreFault.Unavailable) }
     {
         self.run(DELETE_REPLIES, params![client, floor_value(floor)])
+    }
+
+    /// Takes a hundred of the client's replies with numbers through this one away, and gives whether there were so many.
+    fn drop_hundred(&mut self, client: &str, floor: u64) -> Result<bool, StoreFault>
+        requires { floor < 10 ^ 18 }
+        ensures thins { Thins S.Store client.now floor self.old self.new result }
+        ensures cause { IfErr result (λ fault. fault ≡ StoreFault.Unavailable) }
+    {
+        match self.hundredth(client, floor)? {
+            Some(last) => {
+                self.drop_through(client, last)?;
+                Ok(true)
+            }
+            None => Ok(false),
+        }
+    }
+
+    /// Takes the client's replies with numbers through this one away, a hundred at a time and all but the last few.
+    fn drop_hundreds(&mut self, client: &str, floor: u64) -> Result<(), StoreFault>
+        requires { floor < 10 ^ 18 }
+        ensures thins { Thins S.Store client.now floor self.old self.new result }
+        ensures cause { IfErr result (λ fault. fault ≡ StoreFault.Unavailable) }
+    {
+        for _ in 0..u64::MAX {
+            if !self.drop_hundred(client, floor)? {
+                return Ok(());
+            }
+        }
+        Ok(())
+    }
+
+    /// Takes the client's replies with numbers through this one away. The engine has each row that a statement takes away
+    /// in memory until it ends, so no statement takes more than a hundred.
+    fn drop_replies(&mut self, client: &str, floor: u64) -> Result<(), StoreFault>
+        requires { floor < 10 ^ 18 }
+        ensures leaves { Runs S.Store self.old self.new result }
+        ensures written { (m₀ m : Queue) (k₀ k : Ledger) → Works (shown S.Store self.old) false m₀ k₀ m k
+            → Serves (shown S.Store self.new)
+            → Steps (shown S.Store self.new) result m₀ k₀ m (without_replies client.now floor k) }
+        ensures cause { IfErr result (λ fault. fault ≡ StoreFault.Unavailable) }
+    {
+        self.drop_hundreds(client, floor)?;
+        self.drop_through(client, floor)
     }
 
     /// Has the client's floor be this one, whatever it was.
