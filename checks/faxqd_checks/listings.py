@@ -1,21 +1,11 @@
-#!/usr/bin/env python3
-"""Prints listings of files whose jobs stand at the edges of their columns: numbers, tags and statuses of every length
-and with characters that ASCII doesn't print, times in zones, each state, and jobs out of order.
-
-    checks/listings [PROGRAM]
-
-The system's sqlite writes the jobs into a file that `list` has made. It wants python3 with sqlite3, and takes a second.
-"""
-import contextlib
-import pathlib
+"""Listings of files whose jobs stand at the edges of their columns. The system's sqlite writes the jobs into a file that
+`list` has made."""
 import shutil
-import sqlite3
-import subprocess
-import sys
-import tempfile
 
-TOP = pathlib.Path(__file__).resolve().parent.parent
-PROGRAM = pathlib.Path(sys.argv[1] if len(sys.argv) > 1 else TOP / "crates/faxqd/out/faxqd").resolve()
+from .runner import group
+from .shared import attempt, database_of, expect, expect_same, run
+
+check = group("listings", "Prints listings of jobs at the edges of their columns, in each state, and in zones.", "computing")
 HEADING = "   JID Pri S Number               Tag              Pages     Dials TTS              Status\n"
 HELD, WAITING, GRANTED, DONE, FAILED = range(5)
 PLAIN = {
@@ -78,43 +68,43 @@ STATE_LINES = """\
 
 def listed(folder, *words):
     """What `list` prints of the file."""
-    ran = subprocess.run([PROGRAM, "list", "--db", folder / "queue.db", *words], capture_output=True, timeout=60)
-    if ran.returncode or ran.stderr:
-        sys.exit(f"listings: 'list' ends with {ran.returncode}, and says {ran.stderr!r}")
-    return ran.stdout.decode()
+    status, out, err, _ = run("list", "--db", folder / "queue.db", *words, patience=60)
+    expect(status == 0 and err == b"", f"'list' ends with {status}, and says {err!r}")
+    return out.decode()
 
 
 def listing(empty, folder, jobs, zone, more=""):
     """The listing of these jobs at the moment 1000."""
     shutil.copytree(empty, folder)
-    with contextlib.closing(sqlite3.connect(folder / "queue.db")) as database:
+    with database_of(folder / "queue.db") as database:
         for job in jobs:
             row = {**PLAIN, **job}
             names = ", ".join(row)
             database.execute(f"INSERT INTO jobs ({names}) VALUES ({', '.join('?' * len(row))})", list(row.values()))
-        database.commit()
         database.executescript(f"UPDATE meta SET next_job = 1000000, next_grant = 2; {more}")
     (folder / "setup").write_text(f"Modem: ttyS0\nTimeZone: {zone}\n")
     return listed(folder, "--setup", folder / "setup", "--moment", "1000")
 
 
-def main():
-    wrong = 0
-    cases = [([job], zone, "", line) for job, zone, line in LINES]
-    cases += [(jobs, "UTC0", GRANT, STATE_LINES) for jobs in (STATES, STATES[::-1])]
-    with tempfile.TemporaryDirectory() as work:
-        empty = pathlib.Path(work) / "empty"
-        empty.mkdir()
-        (empty / "queue.db").touch()
-        wrong += listed(empty) != HEADING
-        for number, (jobs, zone, more, lines) in enumerate(cases):
-            found = listing(empty, pathlib.Path(work) / str(number), jobs, zone, more)
-            if found != HEADING + lines:
-                wrong += 1
-                print(f"listings: {jobs} in {zone} is listed as\n{found}", file=sys.stderr)
-    if wrong:
-        sys.exit(f"listings: {wrong} of {len(cases) + 1} differ")
-    print(f"listings: all {len(cases) + 1} as expected")
+@check
+def edges(folder):
+    """Numbers, tags and statuses of every length and with characters that ASCII doesn't print, and times in zones, stand in
+    their columns."""
+    lists(folder, [([job], zone, "", line) for job, zone, line in LINES])
 
 
-main()
+@check
+def states(folder):
+    """A job in each state is listed by its number, however the jobs stand in the file."""
+    lists(folder, [(jobs, "UTC0", GRANT, STATE_LINES) for jobs in (STATES, STATES[::-1])])
+
+
+def lists(folder, cases):
+    """An empty queue has the heading alone, and each of these has its lines."""
+    empty = folder / "empty"
+    empty.mkdir()
+    (empty / "queue.db").touch()
+    expect_same(listed(empty), HEADING, "a queue without jobs is listed as")
+    for number, (jobs, zone, more, lines) in enumerate(cases):
+        with attempt(f"{jobs} in {zone}"):
+            expect_same(listing(empty, folder / str(number), jobs, zone, more), HEADING + lines, "the listing")

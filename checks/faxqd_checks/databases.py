@@ -1,23 +1,9 @@
-#!/usr/bin/env python3
-"""Lists the jobs of databases that the system's sqlite changed. One that differs from a queue's in one thing isn't taken,
-and stays as it was; one whose texts are spelled otherwise is taken. In one that is taken, calls are counted by what is
-held, whatever the table of calls said before.
+"""Databases that the system's sqlite changed, and their listings. The group `server` has databases of other programs, older
+versions and VACUUM."""
+from .runner import group
+from .shared import attempt, changed, database_of, empty_queue, expect, run
 
-    checks/databases [PROGRAM]
-
-It wants python3 with sqlite3, and takes some seconds. `checks/server` has databases of other programs, older versions
-and VACUUM.
-"""
-import contextlib
-import pathlib
-import shutil
-import sqlite3
-import subprocess
-import sys
-import tempfile
-
-TOP = pathlib.Path(__file__).resolve().parent.parent
-PROGRAM = pathlib.Path(sys.argv[1] if len(sys.argv) > 1 else TOP / "crates/faxqd/out/faxqd").resolve()
+check = group("databases", "Lists the jobs of databases that the system's sqlite changed.", "computing")
 
 META = "clock INTEGER NOT NULL, next_job INTEGER NOT NULL, next_grant INTEGER NOT NULL, version INTEGER NOT NULL"
 CALLS = "CREATE TABLE calls (dial TEXT PRIMARY KEY NOT NULL, open INTEGER NOT NULL) STRICT"
@@ -104,71 +90,51 @@ CALLS_NONE = [
 ]
 
 
-class Wrong(Exception):
-    """What the program does wrong."""
-
-
-def changed(empty, folder, statements):
-    """The file of an empty queue once these have run."""
-    shutil.copytree(empty, folder)
-    file = folder / "queue.db"
-    with contextlib.closing(sqlite3.connect(file, isolation_level=None)) as database:
-        database.executescript(statements)
-    return file
-
-
 def lists(file):
     """Whether `list` ends well; else it tells that something is wrong with the database."""
-    ran = subprocess.run([PROGRAM, "list", "--db", file, "--moment", "1000"], capture_output=True, timeout=60)
-    if (ran.returncode, ran.stderr) not in ((0, b""), (1, b"faxqd: database\n")):
-        raise Wrong(f"'list' ends with {ran.returncode}, and says {ran.stderr!r}")
-    return ran.returncode == 0
+    status, _, err, _ = run("list", "--db", file, "--moment", "1000", patience=60)
+    expect((status, err) in ((0, b""), (1, b"faxqd: database\n")), f"'list' ends with {status}, and says {err!r}")
+    return status == 0
 
 
-def is_strange(empty, folder, statements):
-    file = changed(empty, folder, statements)
-    before = file.read_bytes()
-    if lists(file):
-        raise Wrong("it is taken")
-    if file.read_bytes() != before:
-        raise Wrong("it isn't as it was")
+def each(folder, cases, holds):
+    """Each of these holds of the file of an empty queue on which its statements ran."""
+    empty = empty_queue(folder / "empty")
+    for number, (statements, *wanted) in enumerate(cases):
+        with attempt(statements):
+            holds(changed(empty, folder / str(number), statements), *wanted)
 
 
-def is_taken(empty, folder, statements):
-    if not lists(changed(empty, folder, statements)):
-        raise Wrong("it isn't taken")
+@check
+def strange(folder):
+    """A database that differs from a queue's in one thing isn't taken, and stays as it was."""
+    def is_strange(file):
+        before = file.read_bytes()
+        expect(not lists(file), "it is taken")
+        expect(file.read_bytes() == before, "it isn't as it was")
+    each(folder, [(statements,) for statements in STRANGE + [TWO_CALLS + more for more in CALLS_NONE]], is_strange)
 
 
-def counts(empty, folder, statements, listed, calls):
-    file = changed(empty, folder, TWO_CALLS + statements)
-    if lists(file) != listed:
-        raise Wrong("its jobs are listed" if not listed else "its jobs aren't listed")
-    with contextlib.closing(sqlite3.connect(file)) as database:
+@check
+def spelled(folder):
+    """A database whose texts are spelled otherwise is taken."""
+    each(folder, [(SPELLED,)], lambda file: expect(lists(file), "it isn't taken"))
+
+
+@check
+def counted(folder):
+    """In a database that is taken calls are counted by what is held, whatever the table of calls said before."""
+    each(folder, [(TWO_CALLS + statements, True, calls) for statements, calls in COUNTED], counts)
+
+
+@check
+def counted_strange(folder):
+    """So they are where other rows are such as no job and no clock has, and then the listing isn't made."""
+    each(folder, [(TWO_CALLS + statements, False, calls) for statements, calls in COUNTED_STRANGE], counts)
+
+
+def counts(file, listed, calls):
+    expect(lists(file) == listed, "its jobs are listed" if not listed else "its jobs aren't listed")
+    with database_of(file) as database:
         found = database.execute("SELECT * FROM calls ORDER BY dial").fetchall()
-    if found != calls:
-        raise Wrong(f"the calls are {found}")
-
-
-def main():
-    cases = [(is_strange, statements) for statements in STRANGE + [TWO_CALLS + more for more in CALLS_NONE]]
-    cases.append((is_taken, SPELLED))
-    cases += [(counts, statements, True, calls) for statements, calls in COUNTED]
-    cases += [(counts, statements, False, calls) for statements, calls in COUNTED_STRANGE]
-    wrong = 0
-    with tempfile.TemporaryDirectory() as work:
-        empty = pathlib.Path(work) / "empty"
-        empty.mkdir()
-        (empty / "queue.db").touch()
-        lists(empty / "queue.db")
-        for number, (case, statements, *more) in enumerate(cases):
-            try:
-                case(empty, pathlib.Path(work) / str(number), statements, *more)
-            except (Wrong, sqlite3.Error) as fault:
-                wrong += 1
-                print(f"databases: {statements}: {fault}", file=sys.stderr)
-    if wrong:
-        sys.exit(f"databases: {wrong} of {len(cases)} differ")
-    print(f"databases: all {len(cases)} as expected")
-
-
-main()
+    expect(found == calls, f"the calls are {found}")

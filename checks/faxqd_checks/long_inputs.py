@@ -1,21 +1,15 @@
-#!/usr/bin/env python3
-"""Runs the program on inputs that reach past the short ones: many lines, long lines, and texts and numbers at their
-limits and one past them. A body that gives up there without a cause would be proved, so it has to be seen here.
+"""Inputs past the short ones: many lines, long lines, and texts and numbers at their limits and one past them. A body that
+gives up there without a cause would be proved, so it has to be seen here."""
+import functools
 
-    checks/long-inputs [PROGRAM]
-"""
-import pathlib
-import subprocess
-import sys
-import tempfile
+from .runner import group
+from .shared import SETUP, attempt, expect, run
 
-TOP = pathlib.Path(__file__).resolve().parent.parent
-PROGRAM = pathlib.Path(sys.argv[1] if len(sys.argv) > 1 else TOP / "crates/faxqd/out/faxqd").resolve()
+check = group("long-inputs", "Sends inputs past the short ones, on both sides of their limits.", "computing")
 PHRASES = {
     200: "OK", 201: "Created", 400: "Bad Request", 403: "Forbidden", 404: "Not Found", 409: "Conflict",
     413: "Payload Too Large",
 }
-SETUP = "Modem: ttyS0\nModem: ttyS1\n"
 
 
 # ---- messages and replies
@@ -88,6 +82,29 @@ def granted(name, pages=1):
     return talk.gives(200, f'{{"from":1,"grant":1,"job":1,"number":"5550111","to":{pages}}}')
 
 
+def agrees(talk, folder):
+    """The program answers as it should."""
+    (folder / "setup").write_text(talk.setup)
+    (folder / "controls").write_text(talk.controls)
+    words = "--setup", folder / "setup", "--controls", folder / "controls"
+    status, out, err, _ = run("replay", *words, input=talk.sent, patience=120)
+    place = next((at for at, pair in enumerate(zip(out, talk.wanted)) if pair[0] != pair[1]), len(out))
+    expect((status, err, out) == (1 if talk.error else 0, talk.error, talk.wanted),
+           f"status {status}, error '{err.decode()}', differs at byte {place}: {out[max(0, place - 60):place + 60]}")
+
+
+def conversations(part):
+    """A check that has these conversations."""
+    @functools.wraps(part)
+    def tried(folder):
+        talks = list(part())
+        for talk in talks:
+            with attempt(talk.name):
+                agrees(talk, folder)
+        return f"{len(talks)} conversations"
+    return check(tried)
+
+
 def filled(size, front, back="\n"):
     """A text of that many bytes between a front and a back."""
     return front + "y" * (size - len(front) - len(back)) + back
@@ -95,7 +112,9 @@ def filled(size, front, back="\n"):
 
 # ---- key lines
 
+@conversations
 def key_lines():
+    """A body of many and of long key lines is kept as it came, and its fault is told by its line."""
     for count in (1001, 4097):
         extra = "".join(f"x-{number}:{number}\n" for number in range(count))
         yield submitted(f"{count} extra lines", extra).get("/jobs/1").shows(extra=extra)
@@ -121,7 +140,9 @@ def key_lines():
 
 # ---- values of an order
 
+@conversations
 def orders():
+    """A job tag, a number to dial, a modem and a number of pages are taken up to their limits, and no further."""
     yield submitted("a job tag of 200 bytes", f"jobtag:{'g' * 200}\n").get("/jobs/1").shows(jobtag="g" * 200)
     yield submitted("a job tag of 100 characters in 200 bytes", f"jobtag:{'é' * 100}\n").get("/jobs/1").shows(jobtag="é" * 100)
     for tag in ("g" * 201, "é" * 100 + "g", "g" * 60000):
@@ -151,7 +172,9 @@ def orders():
 
 # ---- fields and paths
 
+@conversations
 def fields():
+    """Clients, modems and numbers in a path are taken up to their limits, and no further."""
     talk = Conversation("names of clients").post("/jobs", SUBMISSION, client="c" * 32).gives(201, '{"job":1}')
     for name in ("c" * 33, "c" * 16000):
         talk.post("/jobs", SUBMISSION, client=name).gives(400, '{"no":4,"word":"bad-client"}')
@@ -169,8 +192,9 @@ def fields():
     yield talk.get("/jobs/" + "1" * 16000).gives(404, '{"no":3,"word":"no-route"}')
 
 
+@conversations
 def heads():
-    """Heads and bodies at their limits, behind an accepted submission."""
+    """Heads and bodies are taken up to their limits, behind an accepted submission, and no further."""
     bad, large = '{"no":1,"word":"bad-http"}', '{"no":2,"word":"too-large"}'
     lost = '{"no":8,"word":"no-job"}'
     for size in (16384, 16385):
@@ -192,8 +216,9 @@ def heads():
     yield talk.gives(404, lost)
 
 
+@conversations
 def moments():
-    """What a message says of its moment, seen in the time to send of the job that it hands in."""
+    """What a message says of its moment is the time to send of the job that it hands in, if it is a moment."""
     cases = (("5", 5), ("0", 0), ("0" * 17 + "7", 7), ("4102444800", 4102444800), ("4102444801", 4102444800),
              ("9" * 18, 4102444800), ("9" * 19, 0), ("", 0), ("-1", 0), ("+1", 0), ("1.5", 0), ("5 5", 0), ("5\r\nFax-Moment: 5", 0),
              ("5\r\nfax-moment: 6", 0), ("1" * 16000, 0))
@@ -206,7 +231,9 @@ def moments():
 
 # ---- reports
 
+@conversations
 def reports():
+    """Reports are taken with reasons, pages, numbers and levels up to their limits, and no further."""
     talk = granted("empty bodies and bodies of blanks")
     for path in ("call", "page", "outcome"):
         for body in ("", " ", "\n" * 65000 if path == "page" else "\t"):
@@ -244,7 +271,9 @@ def reports():
 
 # ---- files
 
+@conversations
 def files():
+    """Notices, rules, modems and classes are taken however many there are, up to their limits."""
     for notice in ("n" * 200, "é" * 100, "n" + '"' * 198 + "\\"):
         talk = Conversation("a notice of 200 bytes", controls=f"^5 RejectNotice = {notice}\n").post("/jobs", SUBMISSION)
         text = notice.replace("\\", "\\\\").replace('"', '\\"')
@@ -262,8 +291,9 @@ def files():
     yield talk.post("/modems/ttyS0/next").gives(200, '{"from":1,"grant":1,"job":1,"number":"5550111","to":1}')
 
 
+@conversations
 def many_jobs():
-    """As many submissions as one input may have, each shown by its state."""
+    """As many submissions as one input may have are each a job, and each again is the same job."""
     talk = Conversation("five hundred jobs")
     for number in range(1, 501):
         talk.post("/jobs", f"number:{number}\ntotpages:1\n").gives(201, f'{{"job":{number}}}')
@@ -275,34 +305,3 @@ def many_jobs():
         for number in range(1, 500):
             talk.post("/jobs", SUBMISSION).gives(201, f'{{"job":{number}}}')
     yield talk.get("/jobs/500").gives(404, '{"no":8,"word":"no-job"}')
-
-
-# ---- running them
-
-def differs(talk, folder):
-    """What is wrong with the program's answers, or nothing."""
-    (folder / "setup").write_text(talk.setup)
-    (folder / "controls").write_text(talk.controls)
-    words = [PROGRAM, "replay", "--setup", folder / "setup", "--controls", folder / "controls"]
-    run = subprocess.run(words, input=talk.sent, capture_output=True, timeout=120)
-    if (run.returncode, run.stderr, run.stdout) == (1 if talk.error else 0, talk.error, talk.wanted):
-        return None
-    place = next((at for at, pair in enumerate(zip(run.stdout, talk.wanted)) if pair[0] != pair[1]), len(run.stdout))
-    return f"status {run.returncode}, error '{run.stderr.decode()}', differs at byte {place}: {run.stdout[max(0, place - 60):place + 60]}"
-
-
-def main():
-    talks = [talk for part in (key_lines, orders, fields, heads, moments, reports, files, many_jobs) for talk in part()]
-    wrong = 0
-    with tempfile.TemporaryDirectory() as folder:
-        for talk in talks:
-            found = differs(talk, pathlib.Path(folder))
-            if found:
-                wrong += 1
-                print(f"long-inputs: {talk.name}: {found}", file=sys.stderr)
-    if wrong:
-        sys.exit(f"long-inputs: {wrong} of {len(talks)} differ")
-    print(f"long-inputs: all {len(talks)} as expected")
-
-
-main()

@@ -1,0 +1,166 @@
+"""Which checks there are, and how they are run: side by side or alone, each with its time, and each fault told."""
+import argparse
+import concurrent.futures
+import functools
+import importlib
+import itertools
+import multiprocessing
+import os
+import pathlib
+import re
+import shutil
+import sys
+import time
+import typing
+
+from . import shared
+from .shared import NotTried, fault, said, told
+
+MOST_TOLD = 20  # faults of one check
+
+
+class Check(typing.NamedTuple):
+    """A function that looks at the program, with what stands before it in the list."""
+    name: str
+    function: typing.Callable
+    beside: str | None  # checks with the same word are run side by side, those without one alone
+    by_hand: bool
+
+    @property
+    def sentence(self):
+        return " ".join(self.function.__doc__.split("\n\n")[0].split())
+
+
+checks, groups = {}, {}
+
+
+def group(name, sentence, beside=None, by_hand=False):
+    """What registers the checks of a group, which may be named together."""
+    groups.setdefault(name, sentence)
+
+    def register(function=None, *, beside=beside, by_hand=by_hand):
+        if function is None:
+            return functools.partial(register, beside=beside, by_hand=by_hand)
+        full = f"{name}.{function.__name__.strip('_').replace('_', '-')}"
+        checks[full] = Check(full, function, beside, by_hand)
+        return function
+    return register
+
+
+def chosen(names):
+    """The checks of these names, or all but those by hand where there are none."""
+    if not names:
+        return [check for check in checks.values() if not check.by_hand]
+    for name in names:
+        if name not in groups and name not in checks:
+            sys.exit(f"checks/run: there is no check {name}; see --list")
+    of_groups = [check for check in checks.values() if check.name.split(".")[0] in names
+                 and (not check.by_hand or all(other.by_hand for other in of_group(check.name.split(".")[0])))]
+    named = {check.name for check in of_groups} | set(names)
+    return [check for check in checks.values() if check.name in named]
+
+
+def of_group(name):
+    return [check for check in checks.values() if check.name.split(".")[0] == name]
+
+
+def tried(name, place):
+    """Runs one check, in a process of its own: its faults, what it says or why it isn't tried, and its seconds."""
+    start, says, lacks = time.monotonic(), "", ""
+    first = 10000 + (os.getppid() * 7919) % 6000 + place % 16 * 1000
+    shared.ports, shared.faults[:] = itertools.cycle(range(first, first + 1000)), []
+    try:
+        with shared.new_folder(shared.option("folder")) as folder:
+            says = checks[name].function(folder) or ""
+    except NotTried as wrong:
+        lacks = str(wrong)
+    except Exception as wrong:
+        fault(told(wrong))
+    return shared.faults[:], says, lacks, time.monotonic() - start
+
+
+class Report:
+    """What became of the checks."""
+
+    def __init__(self):
+        self.passed, self.failed, self.faults = 0, 0, []
+
+    def take(self, name, faults, says, lacks, seconds):
+        """Says how a check went, and keeps its faults for the end."""
+        self.failed += bool(faults)
+        self.passed += not faults and not lacks
+        how = "FAULT" if faults else "-" if lacks else "ok"
+        more = f"not tried: {lacks}" if lacks else says
+        print(f"{how:5} {seconds:6.1f} s  {name}{': ' if more else ''}{more}", flush=True)
+        shown = [f"{name}: {text}" for text in faults[:MOST_TOLD]]
+        if len(faults) > MOST_TOLD:
+            shown.append(f"{name}: and {len(faults) - MOST_TOLD} more")
+        for line in shown:
+            print(line, file=sys.stderr, flush=True)
+        self.faults += shown
+
+
+def run_all(wanted):
+    """Runs these checks, those with the same word side by side."""
+    report, places = Report(), itertools.count()
+    fork = multiprocessing.get_context("fork")
+    for beside in dict.fromkeys(check.beside or check.name for check in wanted):
+        part = [check for check in wanted if (check.beside or check.name) == beside]
+        most = len(os.sched_getaffinity(0)) if beside == "computing" else len(part)
+        with concurrent.futures.ProcessPoolExecutor(min(most, len(part)), mp_context=fork) as pool:
+            going = {pool.submit(tried, check.name, next(places)): check.name for check in part}
+            for done in concurrent.futures.as_completed(going):
+                try:
+                    report.take(going[done], *done.result())
+                except concurrent.futures.process.BrokenProcessPool:
+                    report.take(going[done], ["its process ended"], "", "", 0)
+    return report
+
+
+def listed(wanted):
+    """Says each check with its sentence."""
+    for name, sentence in groups.items():
+        part = [check for check in wanted if check.name.split(".")[0] == name]
+        if part:
+            print(f"{name}: {sentence}")
+        for check in part:
+            print(f"  {check.name}{' (by hand)' if check.by_hand else ''}: {check.sentence}")
+
+
+def words(arguments, modules):
+    """The words of the run, with the check modules loaded."""
+    parser = argparse.ArgumentParser(prog="checks/run", description=__doc__, formatter_class=argparse.RawTextHelpFormatter,
+                                     epilog=(shared.CHECKS / "faxqd_checks/help.txt").read_text())
+    parser.add_argument("names", nargs="*", metavar="NAME", help="a check, a group of them, or OPTION=VALUE; without a name, all "
+                        "but those by hand")
+    parser.add_argument("--list", action="store_true", help="say each check with its sentence")
+    parser.add_argument("--all", action="store_true", help="try all of what a check else tries a part of")
+    parser.add_argument("--program", metavar="FILE", type=pathlib.Path, default=said.program, help="another program")
+    given = parser.parse_args(arguments)
+    for module in modules:
+        importlib.import_module(f".{module}", __package__)
+    return given
+
+
+def main(arguments, modules):
+    given = words(arguments, modules)
+    said.program, said.all = given.program.resolve(), given.all
+    said.options = dict(word.split("=", 1) for word in given.names if re.match(r"\w+=", word))
+    names = [word for word in given.names if not re.match(r"\w+=", word)]
+    if given.list:
+        listed(chosen(names) if names else list(checks.values()))
+        return 0
+    wanted, start = chosen(names), time.monotonic()
+    if not os.access(said.program, os.X_OK):
+        sys.exit(f"checks/run: there is no program {said.program}")
+    with shared.new_folder() as folder:
+        said.libraries = folder
+        if shutil.which("gcc"):
+            shared.compile_libraries(folder)
+        shared.slack()
+        report = run_all(wanted)
+    for line in report.faults:
+        print(line)
+    print(f"{len(wanted)} checks in {time.monotonic() - start:.0f} s")
+    print(f"{report.passed} passed, {report.failed} failed")
+    return 1 if report.failed or not report.passed else 0
