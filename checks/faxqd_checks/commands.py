@@ -5,7 +5,7 @@ import time
 
 from .runner import group
 from .place import Place, open_folder
-from .shared import attempt, expect, expect_same, submission
+from .shared import attempt, expect, expect_same, say, submission
 
 check = group("commands", "Compares each fault line, each status and both streams, among them help, usage, and files missing or "
               "exchanged.", "computing")
@@ -73,7 +73,7 @@ def helps(folder):
             out, err = place.run(0, *words)
             expect(text in f"\n{out.decode()}", f"it doesn't say {text!r}")
             expect_same(err, b"", "standard error")
-    return f"{len(wanted)} texts"
+    say(f"{len(wanted)} texts")
 
 
 @check

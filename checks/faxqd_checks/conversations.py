@@ -1,6 +1,6 @@
 """The conversations of conversations/."""
 from .runner import group
-from .shared import CONVERSATIONS, attempt, expect, expect_same, run, words_of
+from .shared import CONVERSATIONS, attempt, expect, expect_same, run, say, words_of
 
 check = group("conversations", "Sends each conversation of conversations/, and compares the replies byte for byte.", "computing")
 
@@ -14,7 +14,7 @@ def replies(folder):
     for name in names:
         with attempt(name):
             agrees(name)
-    return f"{len(names)} conversations"
+    say(f"{len(names)} conversations")
 
 
 def agrees(name):

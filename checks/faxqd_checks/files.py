@@ -1,7 +1,7 @@
 """What the program says of setups and controls: a faulty text is told with its first faulty line and the kind of the fault,
 and nothing is answered; a text without a fault is read in silence."""
 from .runner import group
-from .shared import attempt, expect_same, run
+from .shared import attempt, expect_same, run, say
 
 check = group("files", "Compares the first fault of texts of setup and controls.", "computing")
 
@@ -157,19 +157,19 @@ def tells(folder, option, cases):
             status, out, err, _ = run("replay", f"--{option}", folder / "file", patience=60)
             wanted = f"faxqd: {option} line {fault}\n".encode() if fault else b""
             expect_same((status, out, err), (1 if fault else 0, b"", wanted), "it ends, and says")
-    return f"{len(cases)} texts"
+    say(f"{len(cases)} texts")
 
 
 @check
 def setups(folder):
     """The first faulty line of a setup is told with the kind of its fault: of its lines, modems, classes, numbers and zones."""
-    return tells(folder, "setup", SETUPS)
+    tells(folder, "setup", SETUPS)
 
 
 @check
 def controls(folder):
     """The first faulty line of controls is told with the kind of its fault: of their lines, numbers, notices and hours."""
-    return tells(folder, "controls", CONTROLS)
+    tells(folder, "controls", CONTROLS)
 
 
 def kinds():

@@ -3,7 +3,7 @@ gives up there without a cause would be proved, so it has to be seen here."""
 import functools
 
 from .runner import group
-from .shared import SETUP, attempt, expect, run
+from .shared import SETUP, attempt, expect, run, say
 
 check = group("long-inputs", "Sends inputs past the short ones, on both sides of their limits.", "computing")
 PHRASES = {
@@ -101,7 +101,7 @@ def conversations(part):
         for talk in talks:
             with attempt(talk.name):
                 agrees(talk, folder)
-        return f"{len(talks)} conversations"
+        say(f"{len(talks)} conversations")
     return check(tried)
 
 

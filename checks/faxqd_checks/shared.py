@@ -50,7 +50,7 @@ class NotServing(Wrong):
         super().__init__(f"says {told!r} and {self.err!r} where it should listen")
 
 
-faults = []  # those of the check that runs
+faults, seen = [], []  # those of the check that runs, and what it saw
 lock = threading.Lock()
 
 
@@ -58,6 +58,12 @@ def fault(text):
     """A fault of the check that runs, which goes on."""
     with lock:
         faults.append(text)
+
+
+def say(text):
+    """What the check that runs has seen, which is told behind its time."""
+    with lock:
+        seen.append(text)
 
 
 def expect(right, what):
@@ -340,8 +346,9 @@ class Server:
     """`faxqd serve` on a file and a port, from when it listens until it ends or this ends it. Where `waits` is no, who
     starts it asks whether it listens."""
 
-    def __init__(self, file, *words, port=None, before=(), folder=None, limits=None, waits=True, patience=PATIENCE):
-        self.file, self.chosen, self.port, self.patience = pathlib.Path(file), port is None, port, patience
+    def __init__(self, file, *words, port=None, host="127.0.0.1", before=(), folder=None, limits=None, waits=True,
+                 patience=PATIENCE):
+        self.file, self.chosen, self.host, self.port, self.patience = file, port is None, host, port, patience
         self.rest, self.before, self.folder, self.limits = words, before, folder, limits
         self.process, self.said = None, b""
         if waits:
@@ -361,7 +368,7 @@ class Server:
         """Runs it, and doesn't wait until it listens."""
         if self.port is None:
             self.port = free_port()
-        words = [*self.before, said.program, "serve", "--db", self.file, "--listen", f"127.0.0.1:{self.port}", *self.rest]
+        words = [*self.before, said.program, "serve", "--db", self.file, "--listen", f"{self.host}:{self.port}", *self.rest]
         self.process = subprocess.Popen(words, bufsize=0, cwd=self.folder, stdin=subprocess.DEVNULL,
                                         stdout=subprocess.PIPE, stderr=subprocess.PIPE, preexec_fn=self.limits)
 
@@ -376,6 +383,7 @@ class Server:
         while True:
             self.run()
             if self.listens():
+                self.chosen = False  # whoever asks it knows the port
                 return
             wrong = NotServing(self.said, self.process, self.patience)
             if not self.chosen or is_free(self.port):

@@ -1,81 +1,41 @@
-#!/usr/bin/env python3
-"""Takes what is over out of a queue's file by examples/purge: what isn't over goes on, kept replies that are younger
-stay kept, numbers aren't given again, and a purge that is killed leaves a queue that has lost nothing else.
-
-    checks/purge [PROGRAM [PURGE]]
-
-It wants python3 with sqlite3, and takes some seconds.
-"""
-import concurrent.futures
-import contextlib
+"""examples/purge takes out of a stopped queue's file what is over."""
 import json
 import pathlib
 import random
 import re
-import select
-import socket
-import sqlite3
 import subprocess
 import sys
-import tempfile
 import time
 
-TOP = pathlib.Path(__file__).resolve().parent.parent
-PROGRAM = pathlib.Path(sys.argv[1] if len(sys.argv) > 1 else TOP / "crates/faxqd/out/faxqd").resolve()
-PURGE = pathlib.Path(sys.argv[2] if len(sys.argv) > 2 else TOP / "examples/purge").resolve()
-PATIENCE = 20
+from .runner import group
+from .shared import (CLOSE, EXAMPLES, PATIENCE, Server, answer_to, attempt, database_of, expect, free_port, get, option, post,
+                     rows_of)
 
-
-class Wrong(Exception):
-    """What the purge does wrong."""
-
-
-def expect(right, what):
-    if not right:
-        raise Wrong(what)
+check = group("purge", "Has examples/purge take out of a stopped file what is over, and nothing else, also where it is killed.", "waiting")
 
 
 class Queue:
     """`faxqd serve` on a file, and what was asked of it and answered."""
 
     def __init__(self, folder):
-        with socket.socket() as probe:
-            probe.bind(("127.0.0.1", 0))
-            self.port = probe.getsockname()[1]
-        self.file, self.setup, self.kept, self.numbers = folder / "queue.db", folder / "setup", {}, {}
+        self.port, self.file, self.setup, self.kept, self.numbers = free_port(), folder / "queue.db", folder / "setup", {}, {}
         self.setup.write_text("Modem: ttyS0\nJobReqProto: 0\n")
 
-    @contextlib.contextmanager
     def serving(self):
-        process = subprocess.Popen([PROGRAM, "serve", "--db", self.file, "--listen", f"127.0.0.1:{self.port}", "--setup",
-                                    self.setup, "--connections", "100000"], stdout=subprocess.PIPE, bufsize=0)
-        try:
-            ready, _, _ = select.select([process.stdout], [], [], PATIENCE)
-            expect(ready and process.stdout.read(100) == b"faxqd: listening\n", "the server doesn't start")
-            yield
-        finally:
-            process.kill()
-            process.wait()
-            process.stdout.close()
+        return Server(self.file, "--connections", "100000", "--setup", self.setup, port=self.port)
 
     def send(self, data):
-        with socket.create_connection(("127.0.0.1", self.port), PATIENCE) as peer:
-            peer.sendall(data)
-            got = b""
-            while piece := peer.recv(65536):
-                got += piece
-        head, _, body = got.partition(b"\r\n\r\n")
-        return int(head.split()[1]), body.decode()
+        status, body = answer_to(self.port, data)
+        return status, body.decode()
 
     def show(self, job):
-        return self.send(f"GET /jobs/{job} HTTP/1.1\r\nConnection: close\r\n\r\n".encode())
+        return self.send(get(f"/jobs/{job}", CLOSE))
 
     def ask(self, client, path, body=""):
         """A new request of a client, and its reply; both are remembered."""
         number = self.numbers[client] = self.numbers.get(client, 0) + 1
         body = body if isinstance(body, str) else json.dumps(body)
-        data = (f"POST {path} HTTP/1.1\r\nFax-Client: {client}\r\nFax-Number: {number}\r\nConnection: close\r\n"
-                f"Content-Length: {len(body)}\r\n\r\n{body}").encode()
+        data = post(path, number, body, client, CLOSE)
         reply = self.send(data)
         expect(reply[0] in (200, 201), f"{path} of {client} is answered {reply}")
         self.kept[client, number] = data, reply
@@ -102,25 +62,39 @@ class Queue:
             expect(got == reply, f"request {key} was answered {reply}, and is answered {got}")
 
     def rows(self, text):
-        with contextlib.closing(sqlite3.connect(self.file)) as database:
-            return database.execute(text).fetchall()
+        return rows_of(self.file, text)
+
+
+def purge(file, days):
+    words = [sys.executable, pathlib.Path(option("purge", EXAMPLES / "purge")).resolve(), file, "--days", str(days)]
+    return subprocess.Popen(words, stdout=subprocess.PIPE, stderr=subprocess.PIPE, text=True)
+
+
+def told_by(file, days):
+    """How a purge ends, and what it says."""
+    ran = purge(file, days)
+    out, err = ran.communicate(timeout=PATIENCE)
+    return ran.returncode, out, err
 
 
 def purged(queue, days):
-    ran = subprocess.run([sys.executable, PURGE, queue.file, "--days", str(days)], capture_output=True, text=True)
-    expect(ran.returncode == 0, f"the purge ends with {ran.returncode}, and says {ran.stderr}")
-    counts = re.fullmatch(r"purge: (\d+) jobs, (\d+) grants and (\d+) replies are out\n", ran.stdout)
-    expect(counts, f"the purge says {ran.stdout!r}")
+    status, out, err = told_by(queue.file, days)
+    expect(status == 0, f"the purge ends with {status}, and says {err}")
+    counts = re.fullmatch(r"purge: (\d+) jobs, (\d+) grants and (\d+) replies are out\n", out)
+    expect(counts, f"the purge says {out!r}")
     return tuple(map(int, counts.groups()))
 
 
 def older(queue, days):
     """All that is noted was noted so many days before."""
-    with contextlib.closing(sqlite3.connect(f"{queue.file}.ages")) as ages:
+    with database_of(f"{queue.file}.ages") as ages:
         ages.executescript(f"UPDATE jobs SET seen = seen - {days} * 86400; UPDATE replies SET seen = seen - {days} * 86400;")
 
 
+@check
 def what_is_over(folder):
+    """What is over and older is taken out of a stopped file, and nothing else: jobs go on, numbers aren't given again, and replies
+    that are younger stay kept."""
     queue = Queue(folder)
     with queue.serving():
         done, failed, tried, held, waiting = (queue.submit() for _ in range(5))
@@ -130,8 +104,8 @@ def what_is_over(folder):
         queue.ask("desk", f"/jobs/{tried}/suspend")
         grant = queue.work(1, None)[1]
         before = {job: queue.show(job) for job in (tried, held, waiting)}
-        ran = subprocess.run([sys.executable, PURGE, queue.file, "--days", "0"], capture_output=True, text=True)
-        expect(ran.returncode == 1 and "locked" in ran.stderr, f"while a server runs: {ran}")
+        status, _, err = told_by(queue.file, 0)
+        expect(status == 1 and "locked" in err, f"while a server runs it ends with {status} and says {err}")
     expect(purged(queue, 30) == (0, 0, 0), "the first purge takes something out")
     older(queue, 40)
     old = set(queue.kept)
@@ -150,21 +124,32 @@ def what_is_over(folder):
             expect(queue.show(job) == before[job], f"job {job} isn't as it was")
         for job in done, failed:
             expect(queue.show(job)[0] == 404, f"job {job} is still there")
-        queue.repeats(set(queue.kept) - old)
-        expect(queue.submit() == young + 1, "a number of a job is given again")
-        queue.ask("ttyS0", f"/grants/{grant}/page", {"page": 2})
-        queue.ask("ttyS0", f"/grants/{grant}/outcome", {"dialed": True, "outcome": "done", "pages": 2})
-        expect(queue.work(2, "done") == (waiting, grant + 1), "another job or grant comes next")
-        # What it means: an old submission that comes again is a new fax.
-        expect(queue.send(queue.kept["desk", 1][0]) == (201, f'{{"job":{young + 2}}}'), "an old submission isn't new")
+        goes_on(queue, grant, waiting, young, old)
+
+
+def goes_on(queue, grant, waiting, young, old):
+    """Behind a purge the younger replies are kept, numbers go on, and an old submission that comes again is a new fax."""
+    queue.repeats(set(queue.kept) - old)
+    expect(queue.submit() == young + 1, "a number of a job is given again")
+    queue.ask("ttyS0", f"/grants/{grant}/page", {"page": 2})
+    queue.ask("ttyS0", f"/grants/{grant}/outcome", {"dialed": True, "outcome": "done", "pages": 2})
+    expect(queue.work(2, "done") == (waiting, grant + 1), "another job or grant comes next")
+    expect(queue.send(queue.kept["desk", 1][0]) == (201, f'{{"job":{young + 2}}}'), "an old submission isn't new")
+
+
+@check
+def no_queue(folder):
+    """Of what isn't there or is no database it says so, and makes no file."""
     (folder / "text").write_text("This is no database. " * 100)
     for file, wanted in ((folder / "none", "isn't there"), (folder / "text", "not a database")):
-        ran = subprocess.run([sys.executable, PURGE, file, "--days", "0"], capture_output=True, text=True)
-        expect(ran.returncode == 1 and wanted in ran.stderr, f"of {file.name} it says {ran}")
+        with attempt(file.name):
+            status, _, err = told_by(file, 0)
+            expect(status == 1 and wanted in err, f"it ends with {status}, and says {err}")
     expect(not (folder / "none").exists(), "it makes a file")
 
 
-def killed(folder, times):
+@check
+def killed(folder):
     """Killed at some moment, it has taken out what it was to, or nothing."""
     chance, queue = random.Random(1), Queue(folder)
     with queue.serving():
@@ -177,11 +162,11 @@ def killed(folder, times):
     with queue.serving():
         queue.submit()
     young = {("desk", queue.numbers["desk"])}
-    for _ in range(times):
-        one = subprocess.Popen([sys.executable, PURGE, queue.file, "--days", "30"], stdout=subprocess.DEVNULL)
+    for _ in range(8):
+        one = purge(queue.file, 30)
         time.sleep(chance.uniform(0.02, 0.2))
         one.kill()
-        one.wait()
+        one.communicate()
         with queue.serving():
             queue.repeats(young)
             expect("\nstate:5\n" in queue.show(waiting)[1], f"job {waiting} is {queue.show(waiting)}")
@@ -190,21 +175,3 @@ def killed(folder, times):
         expect(queue.rows("PRAGMA integrity_check") == [("ok",)], "the file is unsound")
     purged(queue, 30)
     expect(queue.rows("SELECT count(*) FROM jobs") == [(2,)], "a purge behind killed ones leaves old jobs")
-
-
-def main():
-    def tried(part):
-        with tempfile.TemporaryDirectory() as name:
-            try:
-                part(pathlib.Path(name))
-            except Wrong as fault:
-                return f"purge: {fault}"
-
-    with concurrent.futures.ThreadPoolExecutor() as pool:
-        faults = list(filter(None, pool.map(tried, (what_is_over, lambda folder: killed(folder, 8)))))
-    if faults:
-        sys.exit("\n".join(faults))
-    print("purge: as expected")
-
-
-main()

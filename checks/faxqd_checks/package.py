@@ -1,34 +1,15 @@
-#!/usr/bin/env python3
-"""Builds the Debian package and tries it in a throwaway root of Debian's own packages: installed, started by its unit's own
-command line as its unit's user, used, upgraded with a changed setup, removed, put back and purged; and a typo in the setup
-is told by the unit's first command. `lintian` finds no error.
-
-    checks/package [PROGRAM]
-
-By hand, as root: it wants dpkg-deb, lintian, mmdebstrap and iproute2, and a mirror of Debian that apt reaches. The program
-is a built one, and no script. It takes one to two minutes.
-"""
+"""The Debian package, in a throwaway root of Debian's own packages. As root: it wants dpkg-deb, lintian, mmdebstrap and iproute2, and a
+mirror of Debian that apt reaches. The program is a built one, and no script. It takes one to two minutes."""
 import contextlib
 import os
-import pathlib
 import shutil
 import subprocess
-import sys
-import tempfile
 import time
 
-TOP = pathlib.Path(__file__).resolve().parent.parent
-PROGRAM = pathlib.Path(sys.argv[1] if len(sys.argv) > 1 else TOP / "crates/faxqd/out/faxqd").resolve()
-PATIENCE = 20
+from .runner import group
+from .shared import TOP, expect, said, wants, within
 
-
-class Wrong(Exception):
-    """What is wrong with the package."""
-
-
-def expect(right, what):
-    if not right:
-        raise Wrong(what)
+check = group("package", "Builds the Debian package, and tries it in a root of Debian's packages.", by_hand=True)
 
 
 def run(*words, **more):
@@ -42,7 +23,7 @@ def done(*words, **more):
 
 
 def build(folder, version):
-    done(TOP / "packaging/build", PROGRAM, folder, env={**os.environ, "VERSION": version})
+    done(TOP / "packaging/build", said.program, folder, env={**os.environ, "VERSION": version})
     package, = folder.glob(f"faxqd_{version}_*.deb")
     return package
 
@@ -99,8 +80,8 @@ class Root:
         process = subprocess.Popen(self.inside(*unit["ExecStart"][0].split(), user="faxqd"), stdin=subprocess.DEVNULL,
                                    stdout=subprocess.PIPE, stderr=subprocess.PIPE, text=True, cwd="/")
         try:
-            said = process.stdout.readline()
-            expect(said == "faxqd: listening\n", f"the service says {said!r} and {process.poll() and process.stderr.read()!r}")
+            first = process.stdout.readline()
+            expect(first == "faxqd: listening\n", f"the service says {first!r} and {process.poll() and process.stderr.read()!r}")
             yield
         finally:
             process.kill()
@@ -111,8 +92,9 @@ class Root:
         return self.does("env", "HOME=/root", "faxq", "--client", "desk", *words)
 
 
-def tried(root, one, two):
-    root.install(one)
+def is_installed(root, package):
+    """What it installs stands where it should, with its owners and modes."""
+    root.install(package)
     for name, mode, owner in (("/usr/bin/faxqd", 0o755, 0), ("/etc/faxqd/office.setup", 0o644, 0), ("/usr/bin/faxq", 0o755, 0)):
         there = root.path(name).stat()
         expect((there.st_mode & 0o777, there.st_uid) == (mode, owner), f"{name} is of {there.st_uid}, {there.st_mode & 0o777:o}")
@@ -121,6 +103,10 @@ def tried(root, one, two):
     expect((folder.st_mode & 0o777, folder.st_uid) == (0o700, faxqd) and faxqd, "the queue's folder isn't the user's alone")
     for page in ("man5/faxqd.5.gz", "man8/faxqd.8.gz"):
         expect(root.path(f"/usr/share/man/{page}").exists(), f"{page} isn't there")
+
+
+def is_used(root):
+    """A fax is handed in, and the worker sends it, where its number may be called now."""
     with root.serving():
         expect(root.asks("submit", "5550111", "--pages", "2") == "1\n", "the first fax isn't job 1")
         shown = root.asks("why", "1", "--setup", "/etc/faxqd/office.setup", "--controls", "/etc/faxqd/office.controls")
@@ -130,27 +116,25 @@ def tried(root, one, two):
         root.path("/etc/faxqd/modem").write_text("#!/bin/sh\necho \"$@\" >> /tmp/did\n[ \"$1\" != dial ] || echo connected\n")
         with subprocess.Popen(root.inside("env", "WAIT=0.2", "LOG=/tmp/calls", *worker.replace("%i", "ttyS0").split()),
                               stdin=subprocess.DEVNULL) as process:
-            until = time.monotonic() + PATIENCE
-            job = "status", "1"
-            if "waits for the hours" not in shown:
-                while "is done" not in root.asks(*job) and time.monotonic() < until:
-                    time.sleep(0.2)
-                expect("is done: 2 of 2 pages" in root.asks(*job), f"the worker doesn't send it: {root.asks(*job)}")
-                expect(root.path("/tmp/calls").read_text().count("\tSEND\t") == 1, "the worker's log hasn't the call")
-            process.kill()
+            try:
+                if "waits for the hours" not in shown:
+                    within("the worker sends it", lambda: "is done: 2 of 2 pages" in root.asks("status", "1"), pause=0.2)
+                    expect(root.path("/tmp/calls").read_text().count("\tSEND\t") == 1, "the worker's log hasn't the call")
+            finally:
+                process.kill()
 
-    # Upgraded: what the office changed stays, and so does the queue.
+
+def is_upgraded(root, package):
+    """What the office changed stays, and so does the queue; a typo is told before the service starts."""
     setup = root.path("/etc/faxqd/office.setup")
     setup.write_text(setup.read_text() + "Modem: ttyS2\n")
-    root.install(two)
+    root.install(package)
     expect("Modem: ttyS2" in setup.read_text(), "the changed setup is gone")
     expect("2.0" in root.does("dpkg-query", "--show", "faxqd"), "it isn't upgraded")
     with root.serving():
         expect(root.asks("status", "1").startswith("job 1 to 5550111 is "), "job 1 is gone")
         expect(root.asks("modems", "down", "ttyS2") == "modem ttyS2 is down\n", "the changed setup isn't read")
         expect(root.asks("submit", "5550112", "--pages", "1") == "2\n", "the second fax isn't job 2")
-
-    # A typo is told before the service starts.
     sound = setup.read_text()
     setup.write_text(sound + "TimeZone: nowhere\n")
     ran = run(*root.inside(*root.unit()["ExecStartPre"][0].split(), user="faxqd"))
@@ -158,11 +142,14 @@ def tried(root, one, two):
     expect(ran.returncode == 1 and ran.stderr.endswith(f"faxqd: setup line {line}: bad-zone\n"), f"of a typo it says {ran}")
     setup.write_text(sound)
 
-    # Removed, put back, purged.
+
+def is_removed(root, package):
+    """The queue and its setup outlast the package, until it is purged."""
     root.does("dpkg", "--remove", "faxqd")
     expect(not root.path("/usr/bin/faxqd").exists(), "the program is still there")
-    expect(root.path("/var/lib/faxqd/queue.db").exists() and setup.exists(), "the queue or its setup is gone before a purge")
-    root.install(two)
+    expect(root.path("/var/lib/faxqd/queue.db").exists() and root.path("/etc/faxqd/office.setup").exists(),
+           "the queue or its setup is gone before a purge")
+    root.install(package)
     with root.serving():
         expect(root.asks("submit", "5550113", "--pages", "1") == "3\n", "the queue isn't the one from before")
     root.does("dpkg", "--purge", "faxqd")
@@ -170,25 +157,19 @@ def tried(root, one, two):
         expect(not root.path(name).exists(), f"{name} is there behind a purge")
 
 
-def main():
-    missing = [name for name in ("dpkg-deb", "lintian", "mmdebstrap", "objdump", "ip") if not shutil.which(name)]
-    if missing:
-        print(f"package: {', '.join(missing)} isn't there, so nothing is tried")
-        return
-    with tempfile.TemporaryDirectory() as name:
-        place = pathlib.Path(name)
-        place.chmod(0o755)
-        try:
-            one, two = build(place, "1.0"), build(place, "2.0")
-            again = run("sha256sum", build(place, "1.0")).stdout.split()[0]
-            expect(again == run("sha256sum", one).stdout.split()[0], "the same program makes two packages")
-            ran = run("lintian", "--allow-root", "--fail-on", "error", one)
-            expect(ran.returncode == 0, f"lintian says {ran.stdout}")
-            with Root(place / "root") as root:
-                tried(root, one, two)
-        except Wrong as fault:
-            sys.exit(f"package: {fault}")
-    print("package: as expected")
-
-
-main()
+@check
+def debian(folder):
+    """The Debian package is the same for the same program, and `lintian` finds no error; it is installed, started by its unit's own
+    command line as its unit's user, used, upgraded, removed, put back and purged."""
+    wants("dpkg-deb", "lintian", "mmdebstrap", "objdump", "ip")
+    folder.chmod(0o755)
+    one, two = build(folder, "1.0"), build(folder, "2.0")
+    before = one.read_bytes()
+    expect(build(folder, "1.0").read_bytes() == before, "the same program makes two packages")
+    ran = run("lintian", "--allow-root", "--fail-on", "error", one)
+    expect(ran.returncode == 0, f"lintian says {ran.stdout}")
+    with Root(folder / "root") as root:
+        is_installed(root, one)
+        is_used(root)
+        is_upgraded(root, two)
+        is_removed(root, two)
