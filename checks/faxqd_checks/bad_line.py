@@ -11,8 +11,8 @@ import time
 from .runner import group
 from .shared import CLOSE, EXAMPLES, MANY, Peer, Server, answer_to, attempt, expect, free_port, get, post, within
 
-check = group("bad-line", "Has examples/client.sh and worker.sh send faxes over a line that loses, doubles and delays messages, and "
-              "import.sh bring an older queue's files in.", "waiting")
+check = group("bad-line", "Has examples/client.sh and worker.sh send faxes over a line that loses, doubles and delays "
+              "messages, and import.sh bring an older queue's files in.", "waiting")
 PATIENCE = 15  # seconds until a fax that isn't sent counts as never sent
 FAX = "number:555-0111\ntotpages:3\njobtag:over a bad line\nmaxtries:100\nmaxdials:100\n"
 NO_JOB = b'{"no":8,"word":"no-job"}'
@@ -117,8 +117,8 @@ class Office:
 
 @check
 def faxes(folder):
-    """However the line behaves there is one job, it is called for once, each page is sent and confirmed once, and one line of it is
-    logged."""
+    """However the line behaves there is one job, it is called for once, each page is sent and confirmed once, and one line of
+    it is logged."""
     for seed in 1, 2, 3:
         place = folder / str(seed)
         place.mkdir()
@@ -138,8 +138,8 @@ def faxes(folder):
 
 @check
 def worker_killed(folder):
-    """Killed at some moment of its work, a worker goes on where it was: what was confirmed isn't sent again, though a page may be sent
-    twice where the worker was killed before it had noted that the page was confirmed."""
+    """Killed at some moment of its work, a worker goes on where it was: what was confirmed isn't sent again, though a page
+    may be sent twice where the worker was killed before it had noted that the page was confirmed."""
     with Office(folder, 4) as office:
         office.submits()
         office.page_takes = "0.2"
@@ -156,8 +156,8 @@ def worker_killed(folder):
 
 @check
 def imports(folder):
-    """Twelve files of an older queue, brought in by examples/import.sh, which is killed again and again, come in once each, and the
-    first of their pages isn't granted."""
+    """Twelve files of an older queue, brought in by examples/import.sh, which is killed again and again, come in once each,
+    and the first of their pages isn't granted."""
     with Office(folder, 5) as office:
         spool = folder / "sendq"
         spool.mkdir()

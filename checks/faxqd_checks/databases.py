@@ -97,22 +97,30 @@ def lists(file):
     return status == 0
 
 
-def each(folder, cases, holds):
-    """Each of these holds of the file of an empty queue on which its statements ran."""
+def each(folder, cases, holds, before=""):
+    """This holds of the file of an empty queue on which these statements ran, and behind them those of each case."""
     empty = empty_queue(folder / "empty")
     for number, (statements, *wanted) in enumerate(cases):
         with attempt(statements):
-            holds(changed(empty, folder / str(number), statements), *wanted)
+            holds(changed(empty, folder / str(number), before + statements), *wanted)
 
 
 @check
 def strange(folder):
     """A database that differs from a queue's in one thing isn't taken, and stays as it was."""
-    def is_strange(file):
-        before = file.read_bytes()
-        expect(not lists(file), "it is taken")
-        expect(file.read_bytes() == before, "it isn't as it was")
-    each(folder, [(statements,) for statements in STRANGE + [TWO_CALLS + more for more in CALLS_NONE]], is_strange)
+    each(folder, [(statements,) for statements in STRANGE], is_strange)
+
+
+@check
+def strange_holds(folder):
+    """A database with a hold that calls no number isn't taken, and stays as it was."""
+    each(folder, [(statements,) for statements in CALLS_NONE], is_strange, TWO_CALLS)
+
+
+def is_strange(file):
+    before = file.read_bytes()
+    expect(not lists(file), "it is taken")
+    expect(file.read_bytes() == before, "it isn't as it was")
 
 
 @check
@@ -124,13 +132,13 @@ def spelled(folder):
 @check
 def counted(folder):
     """In a database that is taken calls are counted by what is held, whatever the table of calls said before."""
-    each(folder, [(TWO_CALLS + statements, True, calls) for statements, calls in COUNTED], counts)
+    each(folder, [(statements, True, calls) for statements, calls in COUNTED], counts, TWO_CALLS)
 
 
 @check
 def counted_strange(folder):
-    """So they are where other rows are such as no job and no clock has, and then the listing isn't made."""
-    each(folder, [(TWO_CALLS + statements, False, calls) for statements, calls in COUNTED_STRANGE], counts)
+    """Calls are counted too where other rows are such as no job and no clock has, and then the listing isn't made."""
+    each(folder, [(statements, False, calls) for statements, calls in COUNTED_STRANGE], counts, TWO_CALLS)
 
 
 def counts(file, listed, calls):

@@ -1,6 +1,6 @@
 """The example files."""
 from .runner import group
-from .shared import EXAMPLES, TOP, attempt, expect_same, run
+from .shared import EXAMPLES, TOP, attempt, expect, expect_same, run
 
 check = group("example-files", "Runs the examples.", "computing")
 SETUP = "--setup", EXAMPLES / "office.setup"
@@ -19,4 +19,6 @@ def replies(folder):
     with the controls and without, and what it hears of a fax over a bad line as bad-line.replies says."""
     for requests, replies_file, *words in ANSWERED:
         with attempt(f"{requests} with {words}"), open(EXAMPLES / requests, "rb") as messages:
-            expect_same(run("replay", *words, stdin=messages)[1], replies_file.read_bytes(), "the replies")
+            status, out, err, _ = run("replay", *words, stdin=messages)
+            expect_same(out, replies_file.read_bytes(), "the replies")
+            expect((status, err) == (0, b""), f"it ends with {status}, and says {err!r}")

@@ -1,8 +1,8 @@
-"""One call of the disk fails in a conversation with `serve`, each one in turn, and so in a start on no file. Each reply is right
-until one is 503. Behind that either the server goes on, and the same request under the same number gets its reply; or the connection
-ends with no more replies, and the server with `faxqd: database` and status 1, though it may have more connections. The files are then
-left as the disk may have them, and the server starts on them. Each request sent again under its number gets its reply, twice, and the
-rows are those of a server that met no fault: one job, one grant."""
+"""One call of the disk fails in a conversation with `serve`, each one in turn, and so in a start on no file. Each reply is
+right until one is 503. Behind that either the server goes on, and the same request under the same number gets its reply; or
+the connection ends with no more replies, and the server with `faxqd: database` and status 1, though it may have more
+connections. The files are then left as the disk may have them, and the server starts on them. Each request sent again under
+its number gets its reply, twice, and the rows are those of a server that met no fault: one job, one grant."""
 import contextlib
 import errno
 import re
@@ -14,8 +14,9 @@ from .disk import Disk, Office, PATIENCE, Tools, difference, lay, undisturbed
 from .runner import group
 from .shared import NO_JOB, Wrong, expect, fault, get, post, say, told
 
-check = group("failing-disk", "Fails each call of the disk of a conversation and of a start in turn, and has writes find no room; the server "
-              "ends where its store is shut, and goes on else, and each request sent again gets its one reply.", "computing")
+check = group("failing-disk", "Fails each call of the disk of a conversation and of a start in turn, and has writes find no "
+              "room; the server ends where its store is shut, and goes on else, and each request sent again "
+              "gets its one reply.", "computing")
 # Each accepted request once, in order.
 CONVERSATION = list({said[1:3]: said for said in disks.CONVERSATION if said[5] in (200, 201)}.values())
 MODES = {name: disks.MODES[name] for name in ("kept", "lost", "sectors")}

@@ -14,7 +14,8 @@ from .fax_line import Office, TEXT, Tools, render
 from .runner import group
 from .shared import Wrong, expect, fault, new_folder, said, say, told
 
-check = group("fax", "Sends real faxes over spandsp's soft modems and a line in memory; each page comes once and as it was sent.", "fax")
+check = group("fax", "Sends real faxes over spandsp's soft modems and a line in memory; each page comes once and as it was "
+              "sent.", "fax")
 
 
 def fault_of(part, tools, folder):

@@ -14,8 +14,8 @@ import tempfile
 import threading
 import time
 
-from .shared import (CHECKS, CLOSE, EXAMPLES, MANY, NO_WAITS, NotTried, Peer, Server, expect, get, is_whole, library, option, post, said,
-                     wants, within)
+from .shared import (CHECKS, CLOSE, EXAMPLES, MANY, NO_WAITS, NotTried, Peer, Server, expect, get, is_whole, library, option,
+                     post, said, wants, within)
 
 PATIENCE = 100  # seconds until whatever is awaited counts as never coming
 SPEED = 3  # times as fast as a telephone line; efax waits in real time, and takes no more

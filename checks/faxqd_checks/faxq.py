@@ -1,6 +1,6 @@
-"""`examples/faxq` against `serve`: over examples/bad-line.py each command is done once; killed before it is answered it goes on, and
-makes one job; replies that aren't the queue's own say nothing of a request, and those that have to be mended are told at once; `why`
-says why a job isn't sent; `again` hands in the pages that weren't confirmed."""
+"""`examples/faxq` against `serve`: over examples/bad-line.py each command is done once; killed before it is answered it goes
+on, and makes one job; replies that aren't the queue's own say nothing of a request, and those that have to be mended are told
+at once; `why` says why a job isn't sent; `again` hands in the pages that weren't confirmed."""
 import contextlib
 import json
 import os
@@ -16,10 +16,11 @@ import time
 
 from .bad_line import line_to
 from .runner import group
-from .shared import (CLOSE, EXAMPLES, Server, Wrong, answer_to, attempt, expect, free_port, is_whole, option, post, rows_of_copy, run, wants)
+from .shared import (CLOSE, EXAMPLES, Server, Wrong, answer_to, attempt, expect, free_port, is_whole, option, post,
+                     rows_of_copy, run, wants)
 
-check = group("faxq", "Has examples/faxq do each command once over a bad line and through stops, say why a job isn't sent, and take no "
-              "answer but the queue's own.", "waiting")
+check = group("faxq", "Has examples/faxq do each command once over a bad line and through stops, say why a job isn't sent, "
+              "and take no answer but the queue's own.", "waiting")
 PATIENCE = 30
 SETUP = "Modem: ttyS0\nModem: ttyS1\nModemClass: fast:^ttyS0$\nModemClass: none:^x\nJobReqProto: 0\nJobReqBusy: 3000\n"
 CONTROLS = "^666$\n  RejectNotice = Not to them\n^777$\n  TimeOfDay = Never\n^888$\n  MaxConcurrentCalls = 1\n"

@@ -11,11 +11,11 @@ import threading
 import time
 
 from .runner import group
-from .shared import (CLOSE, MANY, NO_WAITS, Peer, SETUP, Server, Wrong, copied, database_of, exchange, expect, get, option, post, said,
-                     say, told)
+from .shared import (CLOSE, MANY, NO_WAITS, Peer, SETUP, Server, Wrong, copied, database_of, exchange, expect, get, option,
+                     post, said, say, told)
 
-check = group("killed", "Kills `serve` under the load of six clients, an office that moves its jobs in, and two workers at once; then its "
-              "file can't grow for a while.")
+check = group("killed", "Kills `serve` under the load of six clients, an office that moves its jobs in, and two workers at "
+              "once; then its file can't grow for a while.")
 PATIENCE = 60  # seconds until whatever is awaited counts as never coming
 UNAVAILABLE = b'{"no":27,"word":"unavailable"}'
 GIVEN_UP = b'{"no":28,"word":"given-up"}'

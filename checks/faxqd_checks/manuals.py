@@ -6,8 +6,8 @@ from .files import kinds
 from .runner import group
 from .shared import TOP, attempt, expect, post, run, said, wants
 
-check = group("manuals", "Compares man/ with each command, option, default and fault that the program has, and so the words that the shell "
-              "completes.", "waiting")
+check = group("manuals", "Compares man/ with each command, option, default and fault that the program has, and so the words "
+              "that the shell completes.", "waiting")
 COMMANDS = TOP / "man/faxqd.8"
 FORMATS = TOP / "man/faxqd.5"
 COMPLETION = TOP / "man/completion.bash"

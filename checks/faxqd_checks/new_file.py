@@ -6,8 +6,8 @@ from .disk import NAME, PATIENCE, lay, taken
 from .runner import group
 from .shared import Peer, Server, attempt, database_of, expect, rows_of, said, submission
 
-check = group("new-file", "Compares the empty database that a new queue begins as with the one that the system's sqlite makes; what else "
-              "stands under the names that a start uses, and several starts at once.", "computing")
+check = group("new-file", "Compares the empty database that a new queue begins as with the one that the system's sqlite "
+              "makes; what else stands under the names that a start uses, and several starts at once.", "computing")
 PAGE = 512
 LOG, BESIDE = "queue.db-wal", "queue.db-empty"
 VERSION = slice(96, 100)  # the number of the sqlite that has written the file

@@ -1,5 +1,5 @@
-"""examples/office.html in Chromium. By hand: it wants chromium, chromedriver (Debian's chromium-driver), nginx and openssl, and takes half
-a minute."""
+"""examples/office.html in Chromium. By hand: it wants chromium, chromedriver (Debian's chromium-driver), nginx and openssl,
+and takes half a minute."""
 import pathlib
 import re
 import time
@@ -9,15 +9,16 @@ from .browser import Browser, ENTER, Office, until
 from .runner import group
 from .shared import EXAMPLES, expect, option, wants
 
-check = group("office", "Tries examples/office.html in Chromium, through nginx as docs/OPERATIONS.md sets it up and over a bad line.",
-              by_hand=True)
+check = group("office", "Tries examples/office.html in Chromium, through nginx as docs/OPERATIONS.md sets it up and over a "
+              "bad line.", by_hand=True)
 
 
 @check
 def page(folder):
-    """A fax whose reply is lost is one job, also when the page is loaded again and when the browser is killed; what a user writes is text
-    and one line; a refused fax is mended under its number; jobs are suspended, resumed and killed by the keyboard; each control has a
-    name, nothing is wider than a telephone, and over examples/bad-line.py each fax is one job."""
+    """A fax whose reply is lost is one job, also when the page is loaded again and when the browser is killed; what a user
+    writes is text and one line; a refused fax is mended under its number; jobs are suspended, resumed and killed by the
+    keyboard; each control has a name, nothing is wider than a telephone, and over examples/bad-line.py each fax is one
+    job."""
     wants("chromium", "chromedriver", "nginx", "openssl")
     with Office(pathlib.Path(option("page", EXAMPLES / "office.html")).resolve(), folder) as office:
         lost_replies(office, option("picture"))

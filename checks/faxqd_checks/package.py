@@ -1,5 +1,5 @@
-"""The Debian package, in a throwaway root of Debian's own packages. As root: it wants dpkg-deb, lintian, mmdebstrap and iproute2, and a
-mirror of Debian that apt reaches. The program is a built one, and no script. It takes one to two minutes."""
+"""The Debian package, in a throwaway root of Debian's own packages. As root: it wants dpkg-deb, lintian, mmdebstrap and
+iproute2, and a mirror of Debian that apt reaches. The program is a built one, and no script. It takes one to two minutes."""
 import contextlib
 import os
 import shutil
@@ -159,8 +159,8 @@ def is_removed(root, package):
 
 @check
 def debian(folder):
-    """The Debian package is the same for the same program, and `lintian` finds no error; it is installed, started by its unit's own
-    command line as its unit's user, used, upgraded, removed, put back and purged."""
+    """The Debian package is the same for the same program, and `lintian` finds no error; it is installed, started by its
+    unit's own command line as its unit's user, used, upgraded, removed, put back and purged."""
     wants("dpkg-deb", "lintian", "mmdebstrap", "objdump", "ip")
     folder.chmod(0o755)
     one, two = build(folder, "1.0"), build(folder, "2.0")

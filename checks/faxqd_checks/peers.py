@@ -12,8 +12,8 @@ import time
 from .runner import group
 from .shared import CLOSE, MANY, PATIENCE, Peer, SETUP, Server, Wrong, answer_to, expect, get, post, preload, say
 
-check = group("peers", "Runs `serve` beside slow peers, greedy ones and more than it has places for: how long a request takes, and "
-              "what memory they take.")
+check = group("peers", "Runs `serve` beside slow peers, greedy ones and more than it has places for: how long a request "
+              "takes, and what memory they take.")
 LIMIT = 0.02  # seconds that a request may take at the 99th percentile
 ASK = get("/jobs/999999", CLOSE)
 
@@ -185,7 +185,8 @@ def kept_open(folder):
 
 @check
 def memory(folder):
-    """Sixty-four connections that have each sent 80 kB of a message take less than 24 MB, and a message is answered behind them."""
+    """Sixty-four connections that have each sent 80 kB of a message take less than 24 MB, and a message is answered behind
+    them."""
     with serving(folder) as server, contextlib.ExitStack() as stack:
         before = server.memory()
         fields = "".join(f"X-{place}: {240 * 'x'}\r\n" for place in range(60))

@@ -11,7 +11,8 @@ from .runner import group
 from .shared import (CLOSE, EXAMPLES, PATIENCE, Server, answer_to, attempt, database_of, expect, free_port, get, option, post,
                      rows_of)
 
-check = group("purge", "Has examples/purge take out of a stopped file what is over, and nothing else, also where it is killed.", "waiting")
+check = group("purge", "Has examples/purge take out of a stopped file what is over, and nothing else, also where it is "
+              "killed.", "waiting")
 
 
 class Queue:
@@ -93,8 +94,8 @@ def older(queue, days):
 
 @check
 def what_is_over(folder):
-    """What is over and older is taken out of a stopped file, and nothing else: jobs go on, numbers aren't given again, and replies
-    that are younger stay kept."""
+    """What is over and older is taken out of a stopped file, and nothing else: jobs go on, numbers aren't given again, and
+    replies that are younger stay kept."""
     queue = Queue(folder)
     with queue.serving():
         done, failed, tried, held, waiting = (queue.submit() for _ in range(5))

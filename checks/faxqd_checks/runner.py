@@ -1,7 +1,7 @@
 """Which checks there are, and how they are run: side by side or alone, each with its time, and each fault told."""
 import argparse
-import concurrent.futures
 import contextlib
+import fnmatch
 import functools
 import importlib
 import itertools
@@ -10,9 +10,11 @@ import os
 import pathlib
 import re
 import shutil
+import signal
 import sys
 import time
 import typing
+from multiprocessing import connection
 
 from . import shared
 from .shared import NotTried, fault, said, told
@@ -50,20 +52,18 @@ def group(name, sentence, beside=None, by_hand=False):
 
 
 def chosen(names):
-    """The checks of these names, or all but those by hand where there are none."""
+    """The checks of these names, groups or patterns; all but those by hand where there are none."""
     if not names:
         return [check for check in checks.values() if not check.by_hand]
+    found = set()
     for name in names:
-        if name not in groups and name not in checks:
+        part = [check for check in checks.values() if check.name.split(".")[0] == name]
+        by_name = {check.name for check in part if not check.by_hand} or {check.name for check in part}
+        by_name |= set(fnmatch.filter(checks, name))
+        if not by_name:
             sys.exit(f"checks/run: there is no check {name}; see --list")
-    of_groups = [check for check in checks.values() if check.name.split(".")[0] in names
-                 and (not check.by_hand or all(other.by_hand for other in of_group(check.name.split(".")[0])))]
-    named = {check.name for check in of_groups} | set(names)
-    return [check for check in checks.values() if check.name in named]
-
-
-def of_group(name):
-    return [check for check in checks.values() if check.name.split(".")[0] == name]
+        found |= by_name
+    return [check for check in checks.values() if check.name in found]
 
 
 def folder_of(name):
@@ -79,8 +79,8 @@ def folder_of(name):
 def tried(name, place):
     """Runs one check, in a process of its own: its faults, what it says or why it isn't tried, and its seconds."""
     start, lacks = time.monotonic(), ""
-    first = 10000 + (os.getppid() * 7919) % 6000 + place % 16 * 1000
-    shared.ports, shared.faults[:], shared.seen[:] = itertools.cycle(range(first, first + 1000)), [], []
+    first = 10000 + os.getppid() * 7919 % 6000 + place % 32 * 500  # checks side by side have no port in common
+    shared.ports, shared.faults[:], shared.seen[:] = itertools.cycle(range(first, first + 500)), [], []
     try:
         with folder_of(name) as folder:
             checks[name].function(folder)
@@ -104,29 +104,49 @@ class Report:
         how = "FAULT" if faults else "-" if lacks else "ok"
         more = f"not tried: {lacks}" if lacks else says
         print(f"{how:5} {seconds:6.1f} s  {name}{': ' if more else ''}{more}", flush=True)
-        shown = [f"{name}: {text}" for text in faults[:MOST_TOLD]]
+        self.faults += [f"{name}: {text}" for text in faults[:MOST_TOLD]]
         if len(faults) > MOST_TOLD:
-            shown.append(f"{name}: and {len(faults) - MOST_TOLD} more")
-        for line in shown:
-            print(line, file=sys.stderr, flush=True)
-        self.faults += shown
+            self.faults.append(f"{name}: and {len(faults) - MOST_TOLD} more")
+
+    def end(self, seconds):
+        """Says all faults, and how many checks passed and failed."""
+        for line in self.faults:
+            print(line)
+        print(f"{seconds:.0f} s")
+        print(f"{self.passed} passed, {self.failed} failed")
 
 
-def run_all(wanted):
+def run_all(wanted, report):
     """Runs these checks, those with the same word side by side."""
-    report, places = Report(), itertools.count()
-    fork = multiprocessing.get_context("fork")
+    places = itertools.count()
     for beside in dict.fromkeys(check.beside or check.name for check in wanted):
-        part = [check for check in wanted if (check.beside or check.name) == beside]
-        most = len(os.sched_getaffinity(0)) if beside == "computing" else len(part)
-        with concurrent.futures.ProcessPoolExecutor(min(most, len(part)), mp_context=fork) as pool:
-            going = {pool.submit(tried, check.name, next(places)): check.name for check in part}
-            for done in concurrent.futures.as_completed(going):
+        part = [check.name for check in wanted if (check.beside or check.name) == beside]
+        run_part(part, len(os.sched_getaffinity(0)) if beside == "computing" else len(part), places, report)
+
+
+def run_part(names, most, places, report):
+    """Runs these checks, so many at a time, each in a process of its own."""
+    fork, waiting, going = multiprocessing.get_context("fork"), list(names), {}
+    try:
+        while waiting or going:
+            while waiting and len(going) < most:
+                here, there = fork.Pipe(duplex=False)
+                process = fork.Process(target=lambda *words: there.send(tried(*words)), args=(waiting[0], next(places)))
+                process.start()
+                there.close()
+                going[here] = waiting.pop(0), process
+            for here in connection.wait(going):
+                name, process = going.pop(here)
                 try:
-                    report.take(going[done], *done.result())
-                except concurrent.futures.process.BrokenProcessPool:
-                    report.take(going[done], ["its process ended"], "", "", 0)
-    return report
+                    found = here.recv()
+                except EOFError:
+                    found = ["its process ended"], "", "", 0
+                process.join()
+                here.close()
+                report.take(name, *found)
+    finally:
+        for _, process in going.values():
+            process.terminate()
 
 
 def listed(wanted):
@@ -141,8 +161,9 @@ def listed(wanted):
 
 def words(arguments, modules):
     """The words of the run, with the check modules loaded."""
-    parser = argparse.ArgumentParser(prog="checks/run", description="Runs the checks of the program.", formatter_class=argparse.RawTextHelpFormatter,
-                                     epilog=(shared.CHECKS / "faxqd_checks/help.txt").read_text())
+    parser = argparse.ArgumentParser(
+        prog="checks/run", description="Runs the checks of the program.", formatter_class=argparse.RawTextHelpFormatter,
+        epilog=(shared.CHECKS / "faxqd_checks/help.txt").read_text())
     parser.add_argument("names", nargs="*", metavar="NAME", help="a check, a group of them, or OPTION=VALUE; without a name, all "
                         "but those by hand")
     parser.add_argument("--list", action="store_true", help="say each check with its sentence")
@@ -164,17 +185,17 @@ def main(arguments, modules):
     if given.list:
         listed(chosen(names) if names else list(checks.values()))
         return 0
-    wanted, start = chosen(names), time.monotonic()
+    wanted, report, start = chosen(names), Report(), time.monotonic()
     if not os.access(said.program, os.X_OK):
         sys.exit(f"checks/run: there is no program {said.program}")
+    signal.signal(signal.SIGTERM, lambda *_: sys.exit(1))  # so that no server and no folder is left
     with shared.new_folder() as folder:
         said.libraries = folder
         if shutil.which("gcc"):
             shared.compile_libraries(folder)
         shared.slack()
-        report = run_all(wanted)
-    for line in report.faults:
-        print(line)
-    print(f"{len(wanted)} checks in {time.monotonic() - start:.0f} s")
-    print(f"{report.passed} passed, {report.failed} failed")
+        try:
+            run_all(wanted, report)
+        finally:
+            report.end(time.monotonic() - start)
     return 1 if report.failed else 0

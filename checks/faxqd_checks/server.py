@@ -10,8 +10,8 @@ import time
 
 from .serving import HEADING, check, fails, row, served
 from .shared import (ASK, BAD_LAST, CONVERSATIONS, EXAMPLES, LARGE_LAST, NO_JOB, NO_JOB_LAST, PATIENCE, Peer, Server, Wrong,
-                     attempt, created, database_of, expect, expect_same, free_port, get, post, reply, run, said, slack, submission,
-                     whole)
+                     attempt, created, database_of, expect, expect_same, free_port, get, post, reply, run, said, slack,
+                     submission, whole)
 
 
 @check
@@ -304,8 +304,8 @@ def full(folder):
 
 @check
 def addresses(folder):
-    """An address that can't be had is told; of several faults that of the setup is told first, then the controls, the database and the
-    address."""
+    """An address that can't be had is told; of several faults that of the setup is told first, then the controls, the
+    database and the address."""
     file = folder / "queue.db"
     with attempt("an address in use"), socket.create_server(("127.0.0.1", 0)) as taken:
         fails("faxqd: cannot listen", "--db", file, "--listen", f"127.0.0.1:{taken.getsockname()[1]}")

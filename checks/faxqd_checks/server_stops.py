@@ -8,8 +8,8 @@ import subprocess
 import time
 
 from .serving import check, kept, reads
-from .shared import (NO_JOB, NotTried, PATIENCE, Peer, Server, Wrong, attempt, copied, created, expect, expect_same, free_port, get,
-                     new_folder, option, post, slack, submission, whole)
+from .shared import (NO_JOB, NotTried, PATIENCE, Peer, Server, Wrong, attempt, copied, created, expect, expect_same,
+                     free_port, get, new_folder, option, post, slack, submission, whole)
 
 
 SUBMISSIONS = 200

@@ -7,9 +7,9 @@ import time
 from .runner import group
 from .shared import ASK, NO_JOB, Peer, Wrong, expect, expect_same, get, run, slack, submission
 
-check = group("server", "Runs `faxqd serve` over TCP: whole connections, listings, what `sendfax` sends and `list` prints, the "
-              "examples of the help texts, broken messages, slow peers, files that it doesn't take, an address in use, and a stop "
-              "in the middle.")
+check = group("server", "Runs `faxqd serve` over TCP: whole connections, listings, what `sendfax` sends and `list` prints, "
+              "the examples of the help texts, broken messages, slow peers, files that it doesn't take, an "
+              "address in use, and a stop in the middle.")
 HEADING = "   JID Pri S Number               Tag              Pages     Dials TTS              Status\n"
 
 

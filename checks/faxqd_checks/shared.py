@@ -72,14 +72,23 @@ def expect(right, what):
 
 
 def expect_same(got, wanted, what):
-    if got != wanted:
-        raise Wrong(f"{what}: {got[:400]!r} in place of {wanted[:400]!r}")
+    if got == wanted:
+        return
+    start, more = 0, ""
+    if isinstance(got, (bytes, str)) and isinstance(wanted, type(got)) and max(len(got), len(wanted)) > 400:
+        place = next((at for at, pair in enumerate(zip(got, wanted)) if pair[0] != pair[1]), min(len(got), len(wanted)))
+        start, more = max(0, place - 100), f"differs at {place}, "
+    raise Wrong(f"{what}: {more}{got[start:start + 400]!r} in place of {wanted[start:start + 400]!r}")
+
+
+def one_line(text, most=2000):
+    text = str(text).replace("\n", "\\n")
+    return text if len(text) <= most else f"{text[:most]}..."
 
 
 def told(wrong):
     """What an exception says, on one line."""
-    text = str(wrong) if isinstance(wrong, Wrong) else f"{type(wrong).__name__}: {wrong}"
-    return text.replace("\n", "\\n")[:2000]
+    return one_line(wrong if isinstance(wrong, Wrong) else f"{type(wrong).__name__}: {wrong}")
 
 
 @contextlib.contextmanager
@@ -90,7 +99,7 @@ def attempt(what):
     except NotTried:
         raise
     except Exception as wrong:
-        fault(f"{what}: {told(wrong)}")
+        fault(f"{one_line(what, 200)}: {told(wrong)}")
 
 
 def within(what, holds, patience=PATIENCE, pause=0.05):
@@ -300,13 +309,17 @@ def conversed(port, *messages):
     return got
 
 
+HEAD = re.compile(rb"HTTP/1\.1 (\d{3}) ([A-Za-z ]+)\r\nContent-Type: (application/json|text/plain)\r\n"
+                  rb"Content-Length: (0|[1-9]\d*)\r\n(Connection: close\r\n)?\r\n")
+
+
 def reply_bytes(data):
     """The bytes of each of these replies, of which none is to HEAD."""
     found, at = [], 0
     while at < len(data):
-        head = data[at:].partition(b"\r\n\r\n")[0]
-        expect(head.startswith(b"HTTP/1.1 "), f"no head of a reply: {data[at:at + 200]!r}")
-        end = at + len(head) + 4 + length_of(head)
+        head = HEAD.match(data, at)
+        expect(head, f"no head of a reply: {data[at:at + 200]!r}")
+        end = head.end() + int(head[4])
         found.append(data[at:end])
         at = end
     return found
@@ -531,5 +544,5 @@ def empty_queue(folder):
     """The folder of a queue without jobs."""
     folder.mkdir()
     (folder / "queue.db").touch()
-    expect(run("list", "--db", folder / "queue.db")[0] == 0, "an empty file isn't listed")
+    expect(run("list", "--db", folder / "queue.db", patience=60)[0] == 0, "an empty file isn't listed")
     return folder

@@ -1,7 +1,7 @@
-"""`serve` is stopped at each call of the disk that a request or a start makes, before the call and in the midst of it, and the files
-are laid out as a power loss may leave them. Each time the system's sqlite finds the file sound, with all rows as they were before
-or all as they are behind it, and behind it where the reply had come. The program then starts on it, the same request gets its
-reply, and there is one job, one grant or one counted page."""
+"""`serve` is stopped at each call of the disk that a request or a start makes, before the call and in the midst of it, and
+the files are laid out as a power loss may leave them. Each time the system's sqlite finds the file sound, with all rows as
+they were before or all as they are behind it, and behind it where the reply had come. The program then starts on it, the same
+request gets its reply, and there is one job, one grant or one counted page."""
 import sqlite3
 
 from .disk import (BROKEN_MODES, CONVERSATION, Disk, MODES, MORE_MODES, NAME, Office, Tools, difference, every, lay, rows, taken,
@@ -9,8 +9,8 @@ from .disk import (BROKEN_MODES, CONVERSATION, Disk, MODES, MORE_MODES, NAME, Of
 from .runner import group
 from .shared import Wrong, attempt, database_of, expect, fault, option, said, say, told
 
-check = group("stops", "Stops `serve` at each call of the disk that a request or a start makes; the files are then left as a power loss may "
-              "leave them, and it starts on them.", "computing")
+check = group("stops", "Stops `serve` at each call of the disk that a request or a start makes; the files are then left as "
+              "a power loss may leave them, and it starts on them.", "computing")
 INDEXES = "DROP TABLE calls; DROP INDEX jobs_by_choice; DROP INDEX jobs_by_killtime"
 FIRST_VERSION = (f"{INDEXES}; DROP TABLE floors; UPDATE meta SET version = 1; CREATE INDEX jobs_by_killtime ON jobs "
                  "(phase, killtime); CREATE INDEX jobs_by_choice ON jobs (phase, priority, tts, job, next, killtime, dial, "

@@ -1,5 +1,5 @@
-"""Two machines with one queue, and two queues with one address. As root: it wants glusterfs-server and iproute2, or nginx and openssl.
-It takes three minutes; a program that is built with checks starts slowly, and takes longer."""
+"""Two machines with one queue, and two queues with one address. As root: it wants glusterfs-server and iproute2, or nginx and
+openssl. It takes three minutes; a program that is built with checks starts slowly, and takes longer."""
 import base64
 import contextlib
 import os
@@ -13,18 +13,18 @@ from .machines import Asker, Desk, Machine, PATIENCE, Place, SETUP, Volume, Work
 from .runner import group
 from .shared import CHECKS, TOP, expect, free_port, option, rows_of, said, say, wants
 
-check = group("two-machines", "A queue on a replicated volume is taken over by a second machine under load; and nginx gives eight clients two "
-              "queues, which are killed.", by_hand=True)
+check = group("two-machines", "A queue on a replicated volume is taken over by a second machine under load; and nginx gives "
+              "eight clients two queues, which are killed.", by_hand=True)
 
 
 # ---- one queue, two machines
 
 @check
 def volume(folder):
-    """Two machines mount one replicated volume. Under the load of a client and two workers the server is killed and taken over by
-    the other machine again and again; a brick is lost and comes back; a machine is lost with its mount; and one is cut off from the
-    others, whose server has to end when it is back. Nothing that was accepted is lost, nothing is accepted twice, and no page is
-    granted again."""
+    """Two machines mount one replicated volume. Under the load of a client and two workers the server is killed and taken
+    over by the other machine again and again; a brick is lost and comes back; a machine is lost with its mount; and one is
+    cut off from the others, whose server has to end when it is back. Nothing that was accepted is lost, nothing is accepted
+    twice, and no page is granted again."""
     wants("glusterd", "gluster", "glusterfs", "ip")
     if "FAXQD_APART" not in os.environ:  # once more, in namespaces of its own
         words = ["unshare", "--mount", "--net", "--pid", "--fork", "--kill-child", "--mount-proc", sys.executable, CHECKS / "run",
