@@ -7,7 +7,7 @@ check = group("conversations", "Sends each conversation of conversations/, and c
 
 @check
 def replies(folder):
-    """On NAME.in the program writes NAME.out, and NAME.err to standard error, where there is such a file; then it ends
+    """The program answers each NAME.in by NAME.out, says NAME.err on standard error where there is such a file, and then ends
     with 1, else with 0."""
     names = [file.stem for file in sorted(CONVERSATIONS.glob("*.in"))]
     expect(names, "there are no conversations")

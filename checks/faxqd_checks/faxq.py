@@ -282,7 +282,7 @@ def answers(folder):
 
 @check
 def faults(folder):
-    """Where nobody listens it is told at once, and goes on trying; words at fault are told, and nothing is sent."""
+    """Where nobody listens faxq tells it at once, and goes on trying; words at fault are told, and nothing is sent."""
     port, desk = free_port(), Desk(folder)
     asker = desk.start(f"http://127.0.0.1:{port}", *FAX)
     said = asker.stderr.readline()

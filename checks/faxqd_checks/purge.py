@@ -140,7 +140,7 @@ def goes_on(queue, grant, waiting, young, old):
 
 @check
 def no_queue(folder):
-    """Of what isn't there or is no database it says so, and makes no file."""
+    """Of a file that isn't there or is no database a purge says so, and makes none."""
     (folder / "text").write_text("This is no database. " * 100)
     for file, wanted in ((folder / "none", "isn't there"), (folder / "text", "not a database")):
         with attempt(file.name):
@@ -151,7 +151,7 @@ def no_queue(folder):
 
 @check
 def killed(folder):
-    """Killed at some moment, it has taken out what it was to, or nothing."""
+    """Killed at some moment, a purge has taken out what it was to, or nothing."""
     chance, queue = random.Random(1), Queue(folder)
     with queue.serving():
         for _ in range(12):

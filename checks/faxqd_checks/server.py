@@ -259,7 +259,7 @@ def leaving(folder):
 
 @check
 def count(folder):
-    """It ends behind its last connection, whatever became of the others."""
+    """The server ends behind its last connection, whatever became of the others."""
     file = folder / "queue.db"
     with Server(file, "--connections", "4", "--timeout", "1") as server:
         port = server.port

@@ -1,45 +1,27 @@
-#!/usr/bin/env python3
-"""Has the program meet what nobody should do to it: memory that gives out within a conversation, broken and changed
-messages, cut files, strange rows, peers that say nothing, and sockets that fail.
-
-    checks/hostile [PROGRAM [GROUP..]] [--all]
-
-The groups are memory, input, files, peers and devices. Without --all a part of each is tried, the same part each time.
-That takes a minute on two processors, and --all takes far longer.
-It wants python3 with sqlite3, and gcc. Its limits of time and memory are those of a program that LLVM built. What
-`checks/long-inputs` and `server` try isn't tried here.
-"""
+"""Messages, peers and connections that nobody should have. What the groups `long-inputs` and `server` try isn't tried here. The
+limits of time and memory are those of a program that LLVM built."""
 import contextlib
 import random
 import re
 import select
-import shutil
-import subprocess
-import sys
 import threading
 import time
 
-sys.dont_write_bytecode = True
-
-import hostile_shared as shared
-from hostile_files import files
-from hostile_memory import memory
-from hostile_shared import (ALL, CHECKS, CONVERSATIONS, LIMIT, Peer, Server, TOP, WORK, Wrong, attempt, attempts,
-                            chosen, conversed, copied, ended, expect, expect_rows, expect_same, faults, folder, get,
-                            limited, port, post, preload, replay, serving, tables, tried, whole, words_of)
-
-
-# ---- input
+from .hostile_shared import (Limited, SLACK, check, chosen, copied, count, ended, expect_rows, folder, serving, tables, try_all,
+                             try_one)
+from .shared import (BAD_LAST, CONVERSATIONS, Peer, TOP, conversed, expect, expect_same, get, post, preload, replay, reply,
+                     reply_bytes, said, whole, words_of)
 
 SUBMISSION = (CONVERSATIONS / "submit.in").read_bytes()
 NEXT = (CONVERSATIONS / "first-grant.in").read_bytes()[len(SUBMISSION):]
 SETUP = ("--setup", CONVERSATIONS / "office.setup")
-BAD = shared.server.BAD_LAST
+BAD = BAD_LAST
 GRANT = post("/jobs", 1, "number:5550111\ntotpages:1\n") + post("/modems/ttyS0/next", 1, client="w0")
 
 
-def input_group():
-    """Cut, changed and mixed messages."""
+@check
+def input_():
+    """Cut, changed and mixed messages are answered as the protocol says, through `replay` and through `serve`, and in time."""
     tasks = []
     for name, front, message in ("a submission", b"", SUBMISSION), ("a next", SUBMISSION, NEXT):
         served = set(chosen(range(len(message)), 20))
@@ -60,9 +42,9 @@ def input_group():
             data = head % (number, len(body)) + body
             tasks.append((f"{front.decode()} of {size}", alike, data, SETUP, [201 if size <= most else 400]))
     sources = {file.stem: file.read_bytes() for file in sorted(CONVERSATIONS.glob("*.in"))}
-    tasks += [(f"stream {number}", mixed, sources, number, number % (2 if ALL else 100) == 0)
-              for number in range(0, 10000, 1 if ALL else 5)]
-    attempts("input", tasks)
+    tasks += [(f"stream {number}", mixed, sources, number, number % (2 if said.all else 100) == 0)
+              for number in range(0, 10000, 1 if said.all else 5)]
+    try_all(tasks)
 
 
 def named():
@@ -80,14 +62,14 @@ def named():
 
 
 def refused(kind, more=""):
-    return shared.server.reply("400 Bad Request", f'{{"kind":"{kind}",{more}"no":6,"word":"bad-body"}}')
+    return reply("400 Bad Request", f'{{"kind":"{kind}",{more}"no":6,"word":"bad-body"}}')
 
 
 def answers(data, wanted):
     """The replies are these, byte for byte, and any where there is None; through `serve` too."""
     ran = replay(data, *SETUP)
     ended(ran)
-    got = shared.reply_bytes(ran.out)
+    got = reply_bytes(ran.out)
     expect(len(got) == len(wanted), f"{len(got)} replies")
     for reply, wanted_one in zip(got, wanted):
         expect_same(reply, wanted_one or reply, "a reply")
@@ -195,11 +177,13 @@ def mixed(sources, number, is_served):
 
 # ---- peers
 
+@check
 def peers():
-    """Many peers that stay as long as they may, with good ones among them. Time runs faster for the server."""
-    many = 1000 if ALL else 200
+    """Among hundreds of peers that stay as long as they may, good ones are answered at once, and the server ends by itself; time
+    runs fifty times as fast for it."""
+    many = 1000 if said.all else 200
     kinds = ("say nothing", silent), ("say half a request", half), ("never read", unread)
-    threads = [threading.Thread(target=attempt, args=("peers", f"{many} peers that {what}", crowd, talk, many))
+    threads = [threading.Thread(target=try_one, args=(f"{many} peers that {what}", crowd, talk, many))
                for what, talk in kinds]
     for thread in threads:
         thread.start()
@@ -224,8 +208,8 @@ def crowd(talk, many):
     Then the server ends by itself."""
     faster, ahead, good = 50, 100, 10
     file = folder() / "queue.db"
-    before = [*limited(LIMIT, 600), *preload(["clocks"], FASTER=faster)]
-    with Server(file, "--timeout", "1", "--connections", str(many + good + 1), port=port(), before=before) as served:
+    before = preload(["clocks"], FASTER=faster)
+    with Limited(file, "--timeout", "1", "--connections", str(many + good + 1), before=before, seconds=600) as served:
         large = post("/jobs", 1, f"number:1\ntotpages:1\nnote:{60000 * 'x'}\n")
         expect(whole(served.port, large).startswith(b"HTTP/1.1 201 "), "the first of the peers isn't answered")
         waiting, made, answered = {}, 0, 0
@@ -235,7 +219,7 @@ def crowd(talk, many):
                 talk(peer)
                 waiting[peer.socket.fileno()] = peer
                 made += 1
-                tried["peers"] += 1
+                count()
                 if made % (many // good) == 0:
                     answered += behind(served.port, len(waiting))
             ready, _, _ = select.select(list(waiting), [], [], 10)
@@ -261,15 +245,16 @@ def behind(at, ahead):
         peer.say(get("/jobs/2"))
         expect(peer.reply().startswith(b"HTTP/1.1 404 "), "a good request isn't answered 404")
     took = time.monotonic() - start
-    expect(took <= shared.server.slack, f"a good request behind {ahead} peers is answered after {took:.1f} s")
+    expect(took <= SLACK, f"a good request behind {ahead} peers is answered after {took:.1f} s")
     return 1
 
 
 # ---- devices
 
+@check
 def devices():
-    """A connection that fails after each number of bytes, of a message and of its reply, while the server serves a
-    file. Behind its fault the connection works again, so that what the server then takes or sends is seen."""
+    """A connection fails after each number of bytes of a message and of its reply, and the message that is sent again gets
+    its one reply. Behind its fault the connection works again, so that what the server then takes or sends is seen."""
     for name, front, message in ("a submission", [], SUBMISSION), ("a next", [SUBMISSION], NEXT):
         before, _ = served_file(folder() / "queue.db", *front)
         after, (reply,) = served_file(copied(before), message)
@@ -282,7 +267,7 @@ def devices():
                  for size in range(len(reply))]
         ways += [("breaks off", size, {}) for size in range(len(message))]
         tasks += chosen(ways, 80)
-        attempts("devices", [(f"{name}, {way} {size} bytes, {more}", failing, before, rows, message, reply, way, size,
+        try_all([(f"{name}, {way} {size} bytes, {more}", failing, before, rows, message, reply, way, size,
                               more) for way, size, more in tasks])
 
 
@@ -321,28 +306,3 @@ def failing(before, rows, message, reply, way, size, settings):
     expect_same(shown[:13], b"HTTP/1.1 200 " if is_there else b"HTTP/1.1 404 ", "the job behind the fault")
     expect_rows(tables(kept), rows[way == "writes"], "behind the fault")
     expect_rows(tables(file), rows[1], "behind the message that is sent again")
-
-
-GROUPS = {"memory": memory, "input": input_group, "files": files, "peers": peers, "devices": devices}
-
-
-def main():
-    for name in "refuse_memory", "clocks", "fail_device":
-        subprocess.run(["gcc", "-shared", "-fPIC", "-O1", "-o", WORK / f"{name}.so", CHECKS / f"{name}.c"], check=True)
-    counts = []
-    for group in sys.argv[2:] or GROUPS:
-        start = time.monotonic()
-        try:
-            GROUPS[group]()
-        except Wrong as fault:
-            shared.told(f"{group}: {fault}")
-        counts.append(f"{group} {tried[group]} in {time.monotonic() - start:.0f} s")
-    times = "; ".join(f"{kind} took {seconds:.2f} s at most" for kind, seconds in sorted(shared.longest.items()))
-    print(f"hostile: tried {', '.join(counts)}; {times}; {len(faults) or 'no'} faults")
-    sys.exit(1 if faults else 0)
-
-
-try:
-    main()
-finally:
-    shutil.rmtree(WORK, ignore_errors=True)

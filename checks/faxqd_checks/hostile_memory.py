@@ -1,12 +1,12 @@
-"""The group of `checks/hostile` for memory: each request for memory is refused in turn, one in each run."""
+"""Memory that gives out: each request for memory is refused in turn, one in each run."""
 import collections
 import contextlib
 import functools
 import re
 
-from hostile_shared import (ALL, CONVERSATIONS, NotServing, Peer, TOP, UNAVAILABLE, attempts, chosen, copied,
-                            expect, expect_rows, expect_same, folder, lock, preload, replay, reply_bytes, serving,
-                            tables, words_of)
+from .hostile_shared import check, chosen, copied, expect_rows, folder, serving, tables, try_all
+from .shared import (CONVERSATIONS, NotServing, Peer, TOP, UNAVAILABLE, expect, expect_same, lock, preload, replay,
+                     reply_bytes, said, words_of)
 
 # The messages of `retry-goes-on` begin with those of `submit`, `first-grant`, `page-before-call` and
 # `outcome-before-page`, so these aren't tried by themselves.
@@ -110,9 +110,10 @@ def new_file():
     return file
 
 
+@check
 def memory():
-    """Each request for memory refused in turn: in whole conversations, through `replay` and through `serve` on a file,
-    and while files are read."""
+    """Each request for memory is refused in turn, in whole conversations through `replay` and through `serve` on a file, and
+    while files are read: one message at most is lost, and is answered as ever when it comes again."""
     for front in "submit", "first-grant", "page-before-call", "outcome-before-page":
         longer = (CONVERSATIONS / "retry-goes-on.in").read_bytes()
         expect(longer.startswith((CONVERSATIONS / f"{front}.in").read_bytes()), f"{front} isn't tried")
@@ -126,10 +127,10 @@ def memory():
                  for number in chosen(requests(talk, is_new and talk is once), 40)]
         tasks += [(f"{name} served, request {number} refused", refused_serve, once, number)
                   for number in chosen(served_requests(once, is_new), 32)]
-        attempts("memory", tasks)
-        wanted = set(range(len(once.messages))) if ALL else set()
+        try_all(tasks)
+        wanted = set(range(len(once.messages))) if said.all else set()
         expect(lost_places[once.name] and lost_places[once.name] >= wanted, f"no run loses each message of {name}")
-    attempts("memory", [(f"{option} {text[-20:]!r}, request {number} refused", refused_reading, file, ample, number)
+    try_all([(f"{option} {text[-20:]!r}, request {number} refused", refused_reading, file, ample, number)
                         for option, text in FILES for file, ample, numbers in [read_ample(option, text)]
                         for number in chosen(numbers, 60)])
     expect(len(not_read) == len(FILES) and all(not_read.values()), "no start with a file ends for want of memory")

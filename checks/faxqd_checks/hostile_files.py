@@ -1,13 +1,13 @@
-"""The group of `checks/hostile` for files: setups, controls and databases."""
+"""Setups, controls and databases that nobody should have."""
 import collections
 import contextlib
 import random
 import re
 import sqlite3
 
-from hostile_shared import (CHECKS, LIMIT, NotServing, SECOND, TOP, UNAVAILABLE, attempts, chosen, conversed, copied,
-                            ended, expect, expect_rows, expect_same, folder, get, post, replay, replies, server,
-                            serving, tables)
+from .hostile_shared import SECOND, check, chosen, copied, ended, expect_rows, folder, replies, serving, tables, try_all
+from .shared import (CHECKS, LIMIT, NotServing, TOP, UNAVAILABLE, conversed, database_of, expect, expect_same, get, post,
+                     replay, run)
 
 KINDS = {"setup": "not-text bad-quote bad-value bad-pattern no-colon bad-zone",
          "controls": "not-text bad-quote bad-value bad-pattern no-rule no-equals bad-hours"}
@@ -111,7 +111,7 @@ def queue_file():
         expect(all(answer.startswith(b"HTTP/1.1 20") for answer in conversed(served.port, *asked)),
             "a file can't be prepared")
         served.ends("behind a file's preparation")
-    with contextlib.closing(sqlite3.connect(file)) as database:
+    with database_of(file) as database:
         database.execute("PRAGMA wal_checkpoint(TRUNCATE)")
     return file
 
@@ -145,7 +145,7 @@ def asked_of(file, has_sound_replies=True, limit=LIMIT):
         beside = [(part.name, part.stat().st_size) for part in file.parent.iterdir() if part != file]
         expect(has_log or all(name == "queue.db-wal" and size < 512 for name, size in beside),
             f"beside the file stands {beside}")
-        status, out, err, _ = server.run("list", "--db", file)
+        status, out, err, _ = run("list", "--db", file)
         expect_same((status, out, err), (1, b"", b"faxqd: database\n"), "'list'")
         expect(file.read_bytes() == before, "the file isn't as it was behind 'list'")
         return Answers({}, fault.err)
@@ -287,18 +287,20 @@ NULLS = (("jobs", "dial TEXT NOT NULL", "dial", "job = 3"), ("jobs", "extra TEXT
          ("replies", "body BLOB NOT NULL", "body", "1"), ("meta", "clock INTEGER NOT NULL", "clock", "1"))
 
 
+@check
 def files():
-    """Setups, controls and databases."""
+    """Cut setups and controls, costly patterns, and strange and damaged databases are told, or taken as what they are, in
+    time and in little memory."""
     tasks = [(f"{option}, line {line}, {len(data)} bytes", example_line, option, line, data)
              for option in KINDS for line, data in chosen(lines_of(option), 250)]
     tasks += [(f"{option}, pattern {text[:40]!r} of {len(text)} characters", pattern, text, option)
               for option in KINDS for text in PATTERNS]
     tasks += [(f"pattern {text[:40]!r} of {len(text)} characters in its memory", groups, text) for text in GROUPED]
-    attempts("files", tasks)
+    try_all(tasks)
     sound = queue_file()
     wanted = asked_of(copied(sound)).got
     expect(sum(answer.startswith(b"HTTP/1.1 20") for answer in wanted.values()) == 9, f"a sound file: {wanted!r}")
-    attempts("files", [*schemas(sound, wanted), *rows(sound, wanted), *damages(sound.read_bytes(), wanted)])
+    try_all([*schemas(sound, wanted), *rows(sound, wanted), *damages(sound.read_bytes(), wanted)])
 
 
 def schemas(sound, wanted):
