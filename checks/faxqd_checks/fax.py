@@ -1,0 +1,275 @@
+"""Real faxes: a PDF goes through examples/fax, the queue, examples/efax-worker, efax and a telephone line in memory to another
+efax. Each third reply of the queue is lost on its way. Each part has a queue, a worker and a line of its own."""
+import functools
+import os
+import random
+import re
+import shutil
+import signal
+import subprocess
+import threading
+import time
+
+from .fax_line import Office, TEXT, Tools, render
+from .runner import group
+from .shared import Wrong, expect, fault, new_folder, said, say, told
+
+check = group("fax", "Sends real faxes over spandsp's soft modems and a line in memory; each page comes once and as it was "
+              "sent.", "fax")
+
+
+def fault_of(part, tools, folder):
+    """What goes wrong in a part, or nothing."""
+    office = Office(tools, folder)
+    try:
+        office.start()
+        part(office)
+        office.recorder.look()
+    except Exception as wrong:
+        says = (folder / "worker").read_text().strip() if office.worker else ""
+        return told(wrong) + (f"; the worker says {says}" if says else "")
+    finally:
+        office.stop()
+
+
+def part(function):
+    """A check of an office of its own; the parts run side by side."""
+    @functools.wraps(function)
+    def tried(folder):
+        if wrong := fault_of(function, Tools(), folder):
+            raise Wrong(wrong)
+    check(tried)
+    return function
+
+
+@part
+def busy_and_cut(office):
+    """The number is busy, then the line is cut in page 2, then all goes well, and each page comes once."""
+    office.line.say("busy")
+    office.send()
+    office.await_line("a page is under way", 2)
+    office.line.say("cut")
+    office.has_sent([1, 2, 3], dials=3, tries=2)
+    expect(office.line.happened("the number is busy") == 1, "the number wasn't busy")
+    wanted = ["busy", "page 2 isn't confirmed: no command/response from remote", ""]
+    expect(office.reasons() == wanted, f"the reasons are {office.reasons()}")
+
+
+@part
+def worker_killed(office):
+    """The worker is killed twice within a call, which goes on, and each page comes once."""
+    office.send()
+    office.await_report("page", 1)
+    office.kill(office.worker)
+    office.start_worker()
+    time.sleep(2)
+    expect(len(office.calls()) == 1, f"there are {len(office.calls())} calls at a time")
+    office.await_report("page", 2)
+    office.kill(office.worker)
+    office.start_worker()
+    office.has_sent([1, 2, 3], dials=1, tries=1)
+
+
+@part
+def often_killed(office):
+    """The worker is killed at a random moment again and again, and each page comes once."""
+    chance = random.Random(7)
+    office.send()
+    while office.job().get("state") not in ("7", "8"):
+        time.sleep(chance.uniform(0.2, 1.5))
+        office.kill(office.worker)
+        office.start_worker()
+    office.has_received([1, 2, 3])
+    office.ends_with(0, "1\n", "")
+
+
+@part
+def both_killed(office):
+    """The worker and efax are killed within a call, and each page comes once, in two calls."""
+    office.send()
+    office.await_line("the call is connected")
+    efax, = office.calls()
+    office.worker.send_signal(signal.SIGSTOP)
+    office.await_line("a page is under way", 2)
+    os.kill(efax, signal.SIGKILL)
+    office.kill(office.worker)
+    office.start_worker()
+    office.has_sent([1, 2, 3], dials=2, tries=2)
+
+
+@part
+def server_killed(office):
+    """The server is killed within a call, which goes on, and each page comes once."""
+    office.send()
+    office.await_line("a page is confirmed")
+    office.server.kill()
+    time.sleep(2)
+    office.server.start()
+    office.has_sent([1, 2, 3], dials=1, tries=1)
+
+
+@part
+def suspended(office):
+    """The job is suspended within a call, and resumed, and each page comes once."""
+    office.send()
+    office.await_report("call", 1)
+    office.ask("/jobs/1/suspend")
+    job = office.is_in("1")
+    expect(job["npages"] == "1" and job["status"] == "stopped", f"the suspended job is {job}")
+    office.has_received([1])
+    office.ask("/jobs/1/resume")
+    office.has_sent([1, 2, 3], dials=2, tries=2)
+
+
+@part
+def killed(office):
+    """The job is killed within a call, and no page comes behind the one that is under way."""
+    office.send()
+    office.await_report("call", 1)
+    office.ask("/jobs/1/kill")
+    job = office.is_in("8")
+    expect(job["npages"] == "1" and job["status"] == "Killed", f"the killed job is {job}")
+    office.has_received([1])
+    expect(office.reasons() == ["stopped"], f"the reasons are {office.reasons()}")
+    office.ends_with(1, "1\n", "fax: job 1 failed: Killed\n")
+
+
+@part
+def confirmation_lost(office):
+    """The confirmation of page 2 is lost for good, so that the page comes twice, and the others once."""
+    office.send()
+    office.await_line("a page is under way", 2)
+    office.line.say("deaf")
+    office.has_sent([1, 2, 2, 3], dials=2, tries=2)
+
+
+# What a job says of its document, and what becomes of the job.
+UNFIT = [
+    ("", "the job names 0 documents"), ("tiff:0::good.tif\ntiff:0::half.tif\n", "the job names 2 documents"),
+    ("tiff:0::none.tif\n", "there is no document none.tif"), ("tiff:0::inner\n", "there is no document inner"),
+    (f"tiff:0::{'x' * 5000}\n", "there is no document x"), ("tiff:0::\n", "there is no document"),
+    ("tiff:0::../../../../../../etc/passwd\n", "there is no document ../"),
+    ("tiff:0::/etc/passwd\n", "there is no document /etc/passwd"),
+    ("tiff:0::text.tif\n", "the document can't be read: .*text.tif"),
+    ("tiff:0::half.tif\n", "the document can't be read: "),
+    ("tiff:0::colour.tif\n", "the document can't be read: "),
+    ("totpages:4\ntiff:0::good.tif\n", "the document has 3 pages, and the job 4"),
+    ("totpages:2\ntiff:0::good.tif\n", "the document has 3 pages, and the job 2"),
+]
+
+
+@part
+def unfit_documents(office):
+    """No call is made for a document that can't be sent, and none can be without a modem."""
+    render(office.tools.document, office.folder / "good.tif", "-sDEVICE=tiffg3")
+    render(office.tools.document, office.folder / "colour.tif", "-sDEVICE=tiff24nc", "-r20")
+    (office.folder / "half.tif").write_bytes((office.folder / "good.tif").read_bytes()[:9000])
+    (office.folder / "text.tif").write_text("no TIFF")
+    (office.folder / "inner").mkdir()
+    def fails(number, lines, status):
+        office.ask("/jobs", "number:5550111\n" + ("" if "totpages" in lines else "totpages:3\n") + lines)
+        job = office.is_in("8", number)
+        expect(re.match(status, job["status"]) and job["totdials"] == "0", f"with {lines!r} the job is {job}")
+
+    for number, (lines, status) in enumerate(UNFIT, 1):
+        fails(number, lines, status)
+    office.kill(office.worker)
+    tiffcp = office.folder / "tiffcp"  # makes pages that efax can't read
+    tiffcp.write_text(f'#!/bin/sh\nshift 4\nexec {shutil.which("tiffcp")} -c lzw "$@"\n')
+    tiffcp.chmod(0o755)
+    office.start_worker(PATH=f"{office.folder}:{os.environ['PATH']}")
+    fails(len(UNFIT) + 1, "tiff:0::good.tif\n", "the document can't be read: .*TIFF")
+    office.kill(office.worker)
+    office.start_worker("/dev/nothing")
+    office.ask("/jobs", "number:5550111\ntotpages:3\nmaxdials:2\ntiff:0::good.tif\n")
+    job = office.is_in("8", len(UNFIT) + 2)
+    expect((job["status"], job["totdials"]) == ("Too many attempts to dial", "2"), f"without a modem the job is {job}")
+    why = "the call failed: can't open serial port /dev/nothing: No such file or directory"
+    expect(office.reasons()[-2:] == [why, why], f"without a modem the reasons are {office.reasons()[-2:]}")
+    expect(office.line.happened("caller dials 5550111") == 0, "there was a call")
+
+
+@part
+def handed_in(office):
+    """examples/fax makes faxes of a PDF, PostScript and TIFF, by its letters."""
+    pdf, text, tiff = (office.folder / name for name in ("a report.pdf", "text.ps", "colour.tif"))
+    shutil.copy(office.tools.document, pdf)
+    text.write_text(TEXT)
+    render(pdf, tiff, "-sDEVICE=tiff24nc", "-r50")
+    letters = "-d", "+1 555-0111", "-i", "two words", "-P", "5", "-t", "2", "-T", "4", "-a", "now + 2 hours"
+    lines = {"number": "+15550111", "jobtag": "two words", "priority": "5", "maxtries": "2", "maxdials": "4",
+             "totpages": "3", "state": "2"}
+    for number, (words, file, size) in enumerate([((), pdf, (1728, 2292, 196)), (("-l",), text, (1728, 1146, 98)),
+                                                  (("-m", "-s", "letter"), tiff, (1728, 2156, 196))], 1):
+        office.submit(*letters, *words, file)
+        office.ends_with(0, f"{number}\n", "")
+        job = office.job(number)
+        expect({tag: job.get(tag) for tag in lines} == lines, f"{file.name} becomes job {job}")
+        looked = subprocess.run(["tiffinfo", job["tiff"].split("::")[1]], capture_output=True, text=True).stdout
+        found = re.findall(r"Image Width: (\d+) Image Length: (\d+)\n +Resolution: 204, (\d+) pixels", looked)
+        expect([tuple(map(int, page)) for page in found] == 3 * [size], f"of {file.name} the pages are {found}")
+    office.submit("-d", "nobody", pdf)
+    office.ends_with(1, "", f"faxqd: bad destination\nfax: {said.program} fails\n")
+    office.submit("-d", "5550111", office.tools.modems)
+    expect(office.client.communicate()[1].endswith("fax: gs fails\n"), "a file that is no document is taken")
+    expect(len(list((office.folder / "desk/documents").iterdir())) == 3, "a refused document stays")
+
+
+# Wrong workers: the part that finds each out, a text of the worker, and what stands in its place.
+WRONG = {
+    "reports a page before it is confirmed": (
+        busy_and_cut,
+        """while f" sent -> {page:04}.tif\\n" in said:""",
+        """while page in pages and said.count(" header:[") > page - pages[0]:"""),
+    "reports a page twice under two numbers": (
+        server_killed,
+        """stop, page = report("page", page=page)["stop"], page + 1""",
+        """stop, page = (report("page", page=page), report("page", page=page))[1]["stop"], page + 1"""),
+    "sends a request that wasn't answered under a new number": (
+        server_killed,
+        """        time.sleep(PAUSE)""",
+        """        fields = fields and {**fields, "Fax-Number": str(int(fields["Fax-Number"]) + 9)}"""),
+    "forgets what efax wrote": (
+        worker_killed,
+        """said = log.read_text(errors="replace")""",
+        """said = "" if call is None else log.read_text(errors="replace")"""),
+    "leaves the directory of a page behind it": (
+        killed,
+        """            directory_first(file)""",
+        """            pass"""),
+    "doesn't hand on its lock": (
+        worker_killed,
+        """pass_fds=[self.lock.fileno()]""",
+        """pass_fds=[]"""),
+}
+
+
+def try_wrong(name, tools):
+    """A worker that is wrong has to be found out by its part."""
+    part, right, edit = WRONG[name]
+    text = tools.worker.read_text()
+    if text.count(right) != 1:
+        fault(f"a worker that {name}: the worker has {text.count(right)} times {right}")
+        return
+    with new_folder() as folder:
+        edited = Tools()
+        edited.worker = folder / "worker.py"
+        edited.worker.write_text(text.replace(right, edit))
+        edited.worker.chmod(0o755)
+        (folder / "office").mkdir()
+        found = fault_of(part, edited, folder / "office")
+    if found:
+        say(f"a worker that {name} is found out: {found}")
+    else:
+        fault(f"a worker that {name} isn't found out by {part.__name__}")
+
+
+@check(by_hand=True)
+def wrong(folder):
+    """Wrong workers, which are copies with an edit, are each found out."""
+    tools = Tools()
+    threads = [threading.Thread(target=try_wrong, args=(name, tools)) for name in WRONG]
+    for thread in threads:
+        thread.start()
+    for thread in threads:
+        thread.join()

@@ -1,0 +1,420 @@
+"""`examples/faxq` against `serve`: over examples/bad-line.py each command is done once; killed before it is answered it goes
+on, and makes one job; replies that aren't the queue's own say nothing of a request, and those that have to be mended are told
+at once; `why` says why a job isn't sent; `again` hands in the pages that weren't confirmed."""
+import contextlib
+import json
+import os
+import pathlib
+import re
+import socket
+import ssl
+import struct
+import subprocess
+import sys
+import threading
+import time
+
+from .bad_line import line_to
+from .runner import group
+from .shared import (CLOSE, EXAMPLES, Server, Wrong, answer_to, attempt, expect, free_port, is_whole, option, post,
+                     rows_of_copy, run, wants)
+
+check = group("faxq", "Has examples/faxq do each command once over a bad line and through stops, say why a job isn't sent, "
+              "and take no answer but the queue's own.", "waiting")
+PATIENCE = 30
+SETUP = "Modem: ttyS0\nModem: ttyS1\nModemClass: fast:^ttyS0$\nModemClass: none:^x\nJobReqProto: 0\nJobReqBusy: 3000\n"
+CONTROLS = "^666$\n  RejectNotice = Not to them\n^777$\n  TimeOfDay = Never\n^888$\n  MaxConcurrentCalls = 1\n"
+
+
+def faxq_file():
+    return pathlib.Path(option("faxq", EXAMPLES / "faxq")).resolve()
+
+
+def rows(folder, text, *values):
+    """What the file has, which a server may have open."""
+    return rows_of_copy(folder / "queue.db", text, *values)
+
+
+def serving(folder, port):
+    (folder / "setup").write_text(SETUP)
+    (folder / "controls").write_text(CONTROLS)
+    return Server(folder / "queue.db", "--connections", "100000", "--setup", folder / "setup", "--controls", folder / "controls",
+                  port=port, patience=PATIENCE)
+
+
+class Desk:
+    """Who calls faxq, with a folder of his own."""
+
+    def __init__(self, folder, client="desk", home=None):
+        self.folder, self.client, self.home = folder / f"of-{client}", client, home or folder
+
+    def words(self, url, *words):
+        own = "--server", url, "--client", self.client, "--folder", self.folder, "--limit", "2", "--pause", "0.05"
+        return [sys.executable, str(faxq_file()), *map(str, own), *map(str, words)]
+
+    def start(self, url, *words):
+        return subprocess.Popen(self.words(url, *words), stdin=subprocess.DEVNULL, stdout=subprocess.PIPE,
+                                stderr=subprocess.PIPE, text=True, env={**os.environ, "HOME": str(self.home)})
+
+    def says(self, url, *words):
+        """Its status, and what it says on both streams."""
+        process = self.start(url, *words)
+        try:
+            out, err = process.communicate(timeout=PATIENCE)
+        except subprocess.TimeoutExpired:
+            process.kill()
+            raise Wrong(f"'{words}' doesn't end, and says {process.communicate()}") from None
+        return process.returncode, out, err
+
+    def does(self, wanted, url, *words):
+        status, out, err = self.says(url, *words)
+        expect(status == 0 and out == f"{wanted}\n", f"{words} ends with {status}, and says {out!r} and {err!r}")
+
+    def fails(self, wanted, status, url, *words):
+        start = time.monotonic()
+        got, out, err = self.says(url, *words)
+        expect(got == status and out == "" and re.search(wanted, err), f"{words} ends with {got}, and says {out!r}, {err!r}")
+        expect(time.monotonic() - start < 5, f"{words} isn't told at once")
+
+    def left(self):
+        return sorted(file.name for file in self.folder.glob("waiting/*"))
+
+
+def tiff(file, pages):
+    """A TIFF that has just the directories of its pages, each with its number as the height."""
+    data = struct.pack("<2sHI", b"II", 42, 8)
+    for page in range(1, pages + 1):
+        following = len(data) + 18 if page < pages else 0
+        data += struct.pack("<HHHIII", 1, 257, 4, 1, page, following)
+    file.write_bytes(data)
+
+
+def heights(file):
+    """The heights of the pages of such a TIFF."""
+    data = pathlib.Path(file).read_bytes()
+    place, = struct.unpack_from("<I", data, 4)
+    found = []
+    while place:
+        found.append(struct.unpack_from("<I", data, place + 10)[0])
+        place, = struct.unpack_from("<I", data, place + 14)
+    return found
+
+
+def ask(port, path, number, body="", client="ttyS0"):
+    """A worker's request, past the line."""
+    body = body if isinstance(body, str) else json.dumps(body)
+    return json.loads(answer_to(port, post(path, number, body, client, CLOSE))[1])
+
+
+# ---- parts
+
+@check
+def over_the_line(folder):
+    """Each command is done once, however the line behaves."""
+    tiff(folder / "letter.tif", 3)
+    for seed in 1, 2:
+        place = folder / str(seed)
+        place.mkdir()
+        with attempt(f"seed {seed}"):
+            commands_once(place, folder / "letter.tif", seed)
+
+
+def commands_once(place, letter, seed):
+    port, desk = free_port(), Desk(place)
+    with serving(place, port), line_to(port, seed, 0.3) as (line, _):
+        url = f"http://127.0.0.1:{line}"
+        desk.does("1", url, "submit", "+1 415 555-0100", letter, "-i", "Quarterly report", "-P", "10")
+        desk.does("2", url, "submit", "5550111", "--pages", "2", "-a", "now + 2 hours")
+        desk.does("job 1 is suspended", url, "suspend", "1")
+        desk.does("job 1 is suspended", url, "alter", "1", "priority=20", "jobtag=Report")
+        desk.does("job 1 is ready", url, "resume", "1")
+        desk.does("job 2 is failed", url, "kill", "2")
+        desk.does("modem ttyS0 is down", url, "modems", "down", "ttyS0")
+        desk.does("modem ttyS0 is up", url, "modems", "up", "ttyS0")
+        desk.does("job 1 to +14155550100 (Report) is ready: 0 of 3 pages confirmed, 0 of 12 calls, 0 of 3 tries", url,
+                  "status", "1")
+        status, out, _ = desk.says(url, "status")
+        expect(status == 0 and out.count("\n") == 3 and out.startswith("   JID Pri S Number"), f"status says {out!r}")
+        status, out, _ = desk.says(url, "wait", "2", "--every", "0.1")
+        expect(status == 1 and "is failed (Killed)" in out, f"wait says {out!r}")
+        status, out, err = desk.says(url, "kill", "2")
+        expect(status == 1 and "refused: job-over" in err, f"a second kill: {status} {out!r} {err!r}")
+        time.sleep(0.4)  # late ones come
+    expect(rows(place, "SELECT count(*) FROM jobs") == [(2,)], "there are other jobs than two")
+    expect(rows(place, "SELECT count(*) FROM replies") == [(8,)], "other than 8 requests were accepted")
+    shown = run("list", "--db", place / "queue.db")[1].decode()
+    expect("     1  20 W" in shown, shown)
+    expect(not desk.left(), f"{desk.left()} is left")
+
+
+@check
+def stopped(folder):
+    """Stopped before there was a reply, the same words go on, and there is one job."""
+    port, desk = free_port(), Desk(folder)
+    url = f"http://127.0.0.1:{port}"
+    fax = "submit", "5550111", "--pages", "1", "-a", "now + 1 hour"
+    for job, comes in enumerate((True, False, True), 1):
+        with socket.create_server(("127.0.0.1", port)) as deaf:
+            held = desk.start(url, *fax)
+            peer, _ = deaf.accept()
+            with peer:
+                data = b""
+                while b"tts:" not in data:
+                    data += peer.recv(65536)
+                held.kill()
+                held.communicate()
+        number = re.search(rb"Fax-Number: (\d+)", data)[1].decode()
+        expect(desk.left() == [number], f"request {number} was sent, and {desk.left()} is kept")
+        with serving(folder, port):
+            if comes:
+                with socket.create_connection(("127.0.0.1", port), PATIENCE) as peer:
+                    peer.sendall(data)
+                    peer.recv(65536)
+            time.sleep(1.1)  # `now` is another moment
+            desk.does(job, url, *fax)
+            expect(rows(folder, "SELECT count(*) FROM jobs") == [(job,)], f"{rows(folder, 'SELECT job FROM jobs')} are the jobs")
+            expect(not desk.left(), "an answered request is left")
+
+
+@check
+def left_before(folder):
+    """What other words have left goes on before new ones, a refused submission is kept, and of two at once one waits."""
+    port, desk = free_port(), Desk(folder)
+    url = f"http://127.0.0.1:{port}"
+    with serving(folder, port):
+        # Two with other words are left, and a new one comes.
+        desk.does("1", url, "submit", "5550111", "--pages", "1")
+        for number, words in (("17", "submit 1 --pages 1"), ("18", "submit 2 --pages 1")):
+            request = {"server": url, "client": "desk", "words": words.split(), "path": "/jobs",
+                       "body": f"number:{number}\ntotpages:1\n"}
+            (desk.folder / "waiting" / number).write_text(json.dumps(request))
+        status, out, err = desk.says(url, "submit", "3", "--pages", "1")
+        expect((status, out) == (0, "4\n") and err.count("left from before") == 2, f"{status} {out!r} {err!r}")
+        (desk.folder / "waiting" / "19").write_text(json.dumps({**request, "body": "number:19\n"}))
+        status, out, err = desk.says(url, "left")
+        expect(status == 1 and "bad-body kind no-pages" in out, f"left says {status} {out!r} {err!r}")
+        expect((desk.folder / "refused" / "19").exists(), "a refused submission isn't kept")
+        desk.does(5, url, *"submit 2 --pages 1".split())
+        expect(rows(folder, "SELECT number FROM replies ORDER BY rowid DESC LIMIT 1")[0][0] in (19, "19"),
+               "a submission that was refused has another number when it is sent again")
+        # Two at once: one waits for the other.
+        both = [desk.start(url, "submit", "5550111", "--pages", "1") for _ in "ab"]
+        jobs = sorted(int(one.communicate(timeout=PATIENCE)[0]) for one in both)
+        expect(jobs == [6, 7], f"two at once are jobs {jobs}")
+
+
+class Answers:
+    """A peer that gives these answers one after the other, the last for ever, and keeps what it was sent."""
+
+    def __init__(self, *answers, tls=None):
+        self.answers, self.seen, self.tls = list(answers), [], tls
+        self.listener = socket.create_server(("127.0.0.1", 0))
+        self.port = self.listener.getsockname()[1]
+        threading.Thread(target=self.serve, daemon=True).start()
+
+    def serve(self):
+        with contextlib.suppress(OSError):
+            while True:
+                peer, _ = self.listener.accept()
+                with contextlib.suppress(OSError), peer:
+                    peer.settimeout(PATIENCE)
+                    if self.tls:
+                        peer = self.tls.wrap_socket(peer, server_side=True)
+                    data = b""
+                    while not is_whole(data):
+                        if not (piece := peer.recv(65536)):
+                            break
+                        data += piece
+                    if not data:
+                        continue
+                    self.seen.append(data)
+                    peer.sendall(self.answers.pop(0) if len(self.answers) > 1 else self.answers[0])
+                    with contextlib.suppress(OSError):
+                        peer.close()
+
+    def __enter__(self):
+        return self
+
+    def __exit__(self, *_):
+        self.listener.close()
+
+
+def reply(status, body, kind="application/json", length=None):
+    return (f"HTTP/1.1 {status} X\r\nContent-Type: {kind}\r\nContent-Length: {len(body) if length is None else length}\r\n"
+            f"\r\n{body}").encode()
+
+
+FAX, TAKEN = ("submit", "5550111", "--pages", "1"), reply(201, '{"job":5}')
+NOTHING = [
+    b"", reply(503, '{"no":27,"word":"unavailable"}'), reply(502, "<html>", "text/html"), reply(504, "<html>", "text/html"),
+    reply(201, '{"job":', length=9), reply(500, "[]"), b"HTTP/1.1 201 Cre",
+]
+# What has to be mended, and how it is told.
+MENDED = [
+    (reply(401, "<html>", "text/html"), "password"), (reply(403, "<html>", "text/html"), "password"),
+    (reply(403, '{"error":"blocked"}'), "password"), (reply(200, "<html>", "text/html"), "isn't a fax queue"),
+    (reply(201, "{}"), "isn't a fax queue"), (reply(404, "<html>", "text/html"), "isn't a fax queue"),
+    (reply(301, ""), "isn't a fax queue"), (b"SSH-2.0-OpenSSH\r\n", "isn't HTTP"),
+]
+
+
+@check
+def answers(folder):
+    """What isn't the queue's own says nothing of a request; what has to be mended is told at once, and the request is kept."""
+    desk = Desk(folder)
+    with attempt("what says nothing"), Answers(*NOTHING, TAKEN) as peer:
+        status, out, err = desk.says(f"http://127.0.0.1:{peer.port}", *FAX)
+        expect((status, out) == (0, "5\n"), f"behind what says nothing: {status} {out!r} {err!r}")
+        expect(len(peer.seen) == len(NOTHING) + 1 and len(set(peer.seen)) == 1, f"other requests are sent: {peer.seen}")
+    for number, (answer, wanted) in enumerate(MENDED):
+        desk = Desk(folder, f"desk{number}")
+        with attempt(answer), Answers(answer, TAKEN) as peer:
+            desk.fails(wanted, 3, f"http://127.0.0.1:{peer.port}", *FAX)
+            expect(len(desk.left()) == 1, f"{desk.left()} is kept")
+            desk.does("5", f"http://127.0.0.1:{peer.port}", *FAX)
+            expect(len(set(peer.seen)) == 1, f"other requests are sent: {peer.seen}")
+    desk = Desk(folder, "told")
+    with attempt("a refusal"), Answers(reply(403, '{"no":11,"notice":"No","word":"rejected"}')) as peer:
+        desk.fails("refused: rejected notice No", 1, f"http://127.0.0.1:{peer.port}", *FAX)
+    with attempt("a refusal for now"), Answers(b"", reply(507, '{"no":26,"word":"full"}')) as peer:
+        desk.fails("refused: full.*may still come", 1, f"http://127.0.0.1:{peer.port}", *FAX)
+
+
+@check
+def faults(folder):
+    """Where nobody listens faxq tells it at once, and goes on trying; words at fault are told, and nothing is sent."""
+    port, desk = free_port(), Desk(folder)
+    asker = desk.start(f"http://127.0.0.1:{port}", *FAX)
+    said = asker.stderr.readline()
+    asker.kill()
+    asker.communicate()
+    expect("nobody listens" in said, f"where nobody listens it says {said!r}")
+    for words, wanted in ((("submit", "5550111", "--pages", "1", "-i", "a\nnumber:1"), "jobtag has a line feed"),
+                          (("submit", "5550111"), "--pages"), (("alter", "1", "priority"), "TAG=VALUE"),
+                          (("submit", "5550111", folder / "none.tif"), "No such file"), (("submit", "5", faxq_file()), "isn't a TIFF"),
+                          (("submit", "5", "--pages", "1", "-a", "soon"), "is no time"), (("kill", "0"), "no number of a job")):
+        with attempt(words):
+            desk.fails(wanted, 2, f"http://127.0.0.1:{port}", *words)
+    desk.fails("is no address", 2, "127.0.0.1:4559", *FAX)
+
+
+@check
+def tls(folder):
+    """A certificate has to be known, and name and password come from ~/.netrc."""
+    wants("openssl")
+    made = subprocess.run(["openssl", "req", "-x509", "-newkey", "ec", "-pkeyopt", "ec_paramgen_curve:P-256", "-nodes", "-keyout",
+                           folder / "key", "-out", folder / "pem", "-days", "2", "-subj", "/CN=localhost", "-addext",
+                           "subjectAltName=DNS:localhost"], capture_output=True, text=True)
+    expect(made.returncode == 0, f"openssl says {made.stderr}")
+    context = ssl.SSLContext(ssl.PROTOCOL_TLS_SERVER)
+    context.load_cert_chain(folder / "pem", folder / "key")
+    (folder / ".netrc").write_text("machine localhost login front password secret\n")
+    (folder / ".netrc").chmod(0o600)
+    desk = Desk(folder)
+    port = free_port()
+    with Answers(TAKEN, tls=context) as peer, serving(folder, port):
+        desk.fails("certificate of localhost isn't known", 3, f"https://localhost:{peer.port}", *FAX)
+        expect(not peer.seen and len(desk.left()) == 1, f"without trust is sent {peer.seen}, and kept {desk.left()}")
+        desk.fails("certificate of 127.0.0.1 isn't known", 3, f"https://127.0.0.1:{peer.port}", "--ca", folder / "pem", *FAX)
+        desk.does("5", f"https://localhost:{peer.port}", "--ca", folder / "pem", *FAX)
+        expect(b"Authorization: Basic ZnJvbnQ6c2VjcmV0" in peer.seen[0], f"the password isn't said: {peer.seen}")
+        desk.fails("no TLS is spoken", 3, f"https://127.0.0.1:{port}", *FAX)
+    (folder / ".netrc").chmod(0o644)
+    desk.fails("netrc", 3, "https://localhost:1", *FAX)
+
+
+class Queue:
+    """A queue whose jobs are asked after, with a desk and two modems."""
+
+    def __init__(self, folder, port):
+        self.port, self.desk, self.url, self.numbers = port, Desk(folder), f"http://127.0.0.1:{port}", iter(range(1, 1000))
+        self.office = "--setup", folder / "setup", "--controls", folder / "controls"
+
+    def does(self, wanted, *words):
+        self.desk.does(wanted, self.url, *words)
+
+    def fails(self, wanted, status, *words):
+        self.desk.fails(wanted, status, self.url, *words)
+
+    def why(self, job, wanted, *words):
+        status, out, err = self.desk.says(self.url, "why", job, *words)
+        expect(status == 0 and re.fullmatch(f"job {job} {wanted}\n", out), f"why {job} says {status} {out!r} {err!r}")
+
+    def grant(self, modem, job):
+        told = ask(self.port, f"/modems/{modem}/next", next(self.numbers))
+        expect(told.get("job") == job, f"{modem} gets {told}, and should get job {job}")
+        return told["grant"]
+
+    def report(self, grant, what, **body):
+        said = ask(self.port, f"/grants/{grant}/{what}", next(self.numbers), body)
+        expect("no" not in said, f"{what} {body} is answered {said}")
+
+
+@check
+def reasons(folder):
+    """`why` says why a job isn't sent, and what became of it; `again` hands in the pages that weren't confirmed."""
+    port = free_port()
+    with serving(folder, port):
+        queue = Queue(folder, port)
+        tiff(folder / "letter.tif", 3)
+        called_and_tried(queue, folder / "letter.tif")
+        waiting(queue)
+        again(queue, folder)
+        expect(not queue.desk.left(), f"{queue.desk.left()} is left")
+
+
+def called_and_tried(queue, letter):
+    """Two jobs of one number: the first fails behind its first page, and the second finds the number busy."""
+    queue.does("1", "submit", "888", letter, "-P", "1", "-t", "1")
+    queue.why(1, r"is ready, and goes when a modem \(ttyS0, ttyS1\) asks .* 0 other .* 0 are being sent.*", *queue.office)
+    queue.why(1, "is ready, .*")
+    queue.does("2", "submit", "888", "--pages", "1", "-P", "2")
+    queue.why(2, "is ready, .*; 1 other ready jobs have its priority.*")
+    first = queue.grant("ttyS0", 1)
+    queue.why(1, "is being sent: a modem has it, and 0 of 3 pages were confirmed")
+    queue.why(2, r"waits since 888 is being called: job 1, of 1 that there may be \(rule \^888\$ of .*controls\)", *queue.office)
+    queue.why(2, r"waits since 888 is being called: job 1")
+    queue.does("job 1 is active: a modem has it, and is told to stop", "suspend", "1")
+    queue.does("job 1 is active", "resume", "1")
+    queue.report(first, "call", result="connected")
+    queue.report(first, "page", page=1)
+    queue.report(first, "outcome", dialed=True, outcome="retry", pages=1, reason="The line dropped")
+    queue.why(1, "failed: Too many attempts to transmit; 1 of 12 calls and 1 of 1 tries are used, 1 of 3 pages were confirmed")
+    second = queue.grant("ttyS0", 2)
+    queue.report(second, "call", result="busy")
+    queue.report(second, "outcome", dialed=True, outcome="retry", pages=0, reason="Busy")
+    queue.why(2, r"was tried and waits until \d{4}-\d\d-\d\d \d\d:\d\d for its next try; 1 of 12 calls and 0 of 3 tries are used; "
+              "the last one: Busy")
+
+
+def waiting(queue):
+    """Jobs that wait for their hours, their modem and their time, one that is suspended, and two that aren't there."""
+    queue.does("3", "submit", "777", "--pages", "1")
+    queue.why(3, r"waits for the hours in which 777 may be called: Never \(rule \^777\$ of .*\)", *queue.office)
+    queue.does("4", "submit", "555", "--pages", "1", "--modem", "none")
+    queue.why(4, r"waits for a modem 'none', and no modem of .*setup is one or in such a class", *queue.office)
+    queue.does("5", "submit", "555", "--pages", "1", "--modem", "fast", "-a", "2033-05-18 03:33")
+    queue.why(5, r"waits for its time to send, 2033-05-1\d \d\d:\d\d")
+    queue.does("job 5 is suspended", "suspend", "5")
+    queue.why(5, "is suspended: `faxq resume 5` lets it go on")
+    queue.fails("refused: rejected notice Not to them", 1, "submit", "666", "--pages", "1")
+    queue.fails("no such job", 1, "why", "99")
+
+
+def again(queue, folder):
+    """The two pages of the first job that weren't confirmed are a job of their own, with a document of these alone."""
+    queue.does("6", "again", "1")
+    job = queue.desk.says(queue.url, "status", "6")[1]
+    expect("0 of 2 pages" in job, f"again makes {job}")
+    description, = rows(folder, "SELECT * FROM jobs WHERE job = 6")
+    document = re.search(r"tiff:0::([^\n]*)\n", "\n".join(map(str, description)))
+    expect(document and heights(document[1]) == [2, 3], f"its document is of other pages: {description}")
+    queue.fails("isn't over", 1, "again", "6")
+    third = queue.grant("ttyS1", 6)
+    queue.report(third, "call", result="connected")
+    queue.report(third, "page", page=1)
+    queue.report(third, "page", page=2)
+    queue.report(third, "outcome", dialed=True, outcome="done", pages=2)
+    queue.why(6, "was sent: all 2 pages were confirmed")
+    queue.fails("all 2 pages of job 6 were confirmed", 1, "again", "6")
+    expect(queue.desk.says(queue.url, "wait", "6")[0] == 0, "wait for a done job")

@@ -1,0 +1,164 @@
+"""A job weighs what its row weighs, and one that is passed over costs little. The files, of up to 130 MB, are in /dev/shm where
+that has room, else in the folder of temporary files. They are filled with copies of the rows of a job that the program took. A
+start has as much memory as it wants, since the engine reads each table whole to check it."""
+import pathlib
+import re
+import resource
+import shutil
+import time
+
+from .runner import group
+from .shared import Peer, SETUP, Server, database_of, expect, get, new_folder, post, say
+
+check = group("heavy-jobs", "Has thousands of heavy jobs wait, and tens of thousands for a busy number, and measures what a "
+              "request costs then.")
+HEAVY = 2_000  # jobs
+DATA = 48 << 20  # bytes, of the whole process
+BUSY = 90_000  # jobs to a busy number
+SHOWN = 8 << 20  # bytes more than at rest
+LONGEST = 1.0  # seconds
+PASSED = 0.15  # seconds of a processor
+ROUNDS = 5
+PAGES = 100  # confirmed pages of a heavy job
+REPORTED = 0.1  # seconds of a processor
+EXTRA = "a:\n" * 21_800  # extra lines, as many as a body has room for
+
+
+def room():
+    """A folder for large files."""
+    memory = pathlib.Path("/dev/shm")
+    return new_folder(memory if memory.is_dir() and shutil.disk_usage(memory).free > 1 << 30 else None)
+
+
+class Queue(Server):
+    """The program on a file, with so much data from when it listens, and one connection to it."""
+
+    def __init__(self, folder, data=None):
+        (folder / "setup").write_text(SETUP)
+        super().__init__(folder / "queue.db", "--setup", folder / "setup")
+        if data:
+            resource.prlimit(self.process.pid, resource.RLIMIT_DATA, (data, data))
+            # From here on the most memory counts anew.
+            pathlib.Path(f"/proc/{self.process.pid}/clear_refs").write_text("5")
+        self.peer = Peer(self.port, patience=60)
+
+    def __exit__(self, *_):
+        self.peer.socket.close()
+        super().__exit__()
+
+    def ask(self, what, message, wanted):
+        """Sends a message; gives the body of its reply and how many seconds that took."""
+        start = time.perf_counter()
+        try:
+            self.peer.say(message)
+            got = self.peer.reply()
+        except OSError as fault:
+            self.process.poll()
+            expect(False, f"{what} has no reply: {fault}; the server's status is {self.process.returncode}")
+        taken = time.perf_counter() - start
+        expect(got.startswith(f"HTTP/1.1 {wanted} ".encode()), f"{what} is answered {got[:200]!r}")
+        return got.partition(b"\r\n\r\n")[2], taken
+
+    def most(self):
+        """The most bytes of memory that it has had since it was limited."""
+        return self.memory("VmHWM")
+
+
+def copy_job(folder, job, jobs):
+    """Makes this last job so many."""
+    with database_of(folder / "queue.db") as database:
+        names = ", ".join(f'"{column[1]}"' for column in database.execute("PRAGMA table_info (jobs)"))
+        values = names.replace('"job"', "n")
+        last = job + jobs - 1
+        database.execute("BEGIN")
+        database.execute(f"WITH RECURSIVE more (n) AS (SELECT {job + 1} UNION ALL SELECT n + 1 FROM more WHERE n < {last}) "
+                         f"INSERT INTO jobs ({names}) SELECT {values} FROM more, jobs WHERE job = {job}")
+        database.execute("UPDATE meta SET next_job = ?", (last + 1,))
+        database.execute("COMMIT")
+
+
+def fill(folder):
+    """Makes the file: a heavy job that the program took and copies of it, which go first and to no modem, and a plain
+    job behind them."""
+    with Queue(folder) as server:
+        server.ask("a heavy submission", post("/jobs", 1, f"number:5550111\ntotpages:1\npriority:0\nmodem:nosuch\n{EXTRA}"), 201)
+    copy_job(folder, 1, HEAVY)
+    with Queue(folder) as server:
+        server.ask("a plain submission", post("/jobs", 2, "number:5550222\ntotpages:1\n"), 201)
+
+
+@check
+def waiting(_):
+    """While 2,000 jobs of 64 kB of extra lines wait and the server has 48 MB, the choice, the listing and a submission answer
+    within a second, and what shows one such job takes less than 8 MB more."""
+    with room() as folder:
+        fill(folder)
+        with Queue(folder, DATA) as server:
+            rest = server.most()
+            body, taken = server.ask("a heavy job", get("/jobs/1"), 200)
+            more = server.most() - rest
+            say(f"one of {HEAVY:,} shown in {taken:.3f} s with {more >> 10} kB")
+            expect(EXTRA.encode() in body, "a heavy job isn't shown with its extra lines")
+            expect(more < SHOWN, f"a heavy job takes {more >> 10} kB")
+            for what, message, status, part in (
+                    ("next", post("/modems/ttyS0/next", 1, client="ttyS0"), 200, f'"job":{HEAVY + 1},'),
+                    ("the listing", get("/jobs"), 200, f"{HEAVY + 1} 127 R"),
+                    ("a submission", post("/jobs", 3, "number:5550333\ntotpages:1\n"), 201, f'{{"job":{HEAVY + 2}}}')):
+                body, taken = server.ask(what, message, status)
+                say(f"{what} in {taken:.3f} s")
+                expect(part.encode() in body, f"{what} is answered {body[:300]!r}")
+                expect(taken <= LONGEST, f"{what} takes {taken:.2f} s")
+            say(f"{server.most() >> 20} MB at most, {rest >> 20} MB at rest")
+
+
+@check
+def reported(_):
+    """105 reports and requests on a job of 64 kB of extra lines, which they don't read, take less than 0.1 s of a processor."""
+    with room() as folder, Queue(folder) as server:
+        server.ask("a submission", post("/jobs", 1, f"number:5550111\ntotpages:{PAGES + 1}\n{EXTRA}"), 201)
+        server.ask("next", post("/modems/ttyS0/next", 1, client="ttyS0"), 200)
+        before = server.processor()
+        server.ask("a call", post("/grants/1/call", 2, '{"result":"connected"}', "ttyS0"), 200)
+        for page in range(PAGES):
+            server.ask("a page", post("/grants/1/page", 3 + page, f'{{"page":{page + 1}}}', "ttyS0"), 200)
+        over = f'{{"dialed":true,"outcome":"retry","pages":{PAGES},"reason":"cut"}}'
+        server.ask("an outcome", post("/grants/1/outcome", 3 + PAGES, over, "ttyS0"), 200)
+        for number, what in enumerate(["suspend", "resume", "kill"]):
+            server.ask(what, post(f"/jobs/1/{what}", 2 + number), 200)
+        taken = server.processor() - before
+        expect(EXTRA.encode() in server.ask("the job", get("/jobs/1"), 200)[0], "a job has lost its extra lines")
+    say(f"{taken:.3f} s")
+    expect(taken <= REPORTED, f"{PAGES + 5} reports on a heavy job take {taken:.3f} s")
+
+
+def fill_busy(folder):
+    """Makes the file: a job that the program granted to another modem, and copies of it that wait."""
+    with Queue(folder) as server:
+        for number in 1, 2:
+            server.ask("a submission", post("/jobs", number, "number:5550111\ntotpages:1\npriority:0\n"), 201)
+        server.ask("next", post("/modems/ttyS1/next", 1, client="ttyS1"), 200)
+    copy_job(folder, 2, BUSY)
+    with Queue(folder) as server:
+        for number in range(ROUNDS):
+            server.ask("a submission", post("/jobs", 3 + number, f"number:555{number}\ntotpages:1\n"), 201)
+
+
+@check
+def busy(_):
+    """90,000 jobs to a number that another modem has a call to wait in front of those that may go, and the best of five choices
+    passes them in 0.15 s of a processor."""
+    with room() as folder:
+        fill_busy(folder)
+        taken = []
+        with Queue(folder) as server:
+            for number in range(ROUNDS):
+                before = server.processor()
+                body, _ = server.ask("next", post("/modems/ttyS0/next", 1 + 3 * number, client="ttyS0"), 200)
+                taken.append(server.processor() - before)
+                expect(f'"number":"555{number}"'.encode() in body, f"next is answered {body!r}")
+                grant = re.search(rb'"grant":(\d+)', body)[1].decode()
+                over = '{"dialed":true,"outcome":"fail","pages":0,"reason":"busy"}'
+                server.ask("a call", post(f"/grants/{grant}/call", 2 + 3 * number, '{"result":"busy"}', "ttyS0"), 200)
+                server.ask("an outcome", post(f"/grants/{grant}/outcome", 3 + 3 * number, over, "ttyS0"), 200)
+    say(f"{min(taken):.3f} s")
+    expect(min(taken) <= PASSED, f"a choice behind {BUSY:,} jobs to a busy number takes {min(taken):.3f} s")

@@ -1,0 +1,244 @@
+"""`serve` beside peers that hold nobody: silent ones, such that drip, such that take nothing of what they ask for, and more than
+it has places for."""
+import contextlib
+import http.client
+import itertools
+import json
+import resource
+import signal
+import threading
+import time
+
+from .runner import group
+from .shared import CLOSE, MANY, PATIENCE, Peer, SETUP, Server, Wrong, answer_to, expect, get, post, preload, say
+
+check = group("peers", "Runs `serve` beside slow peers, greedy ones and more than it has places for: how long a request "
+              "takes, and what memory they take.")
+LIMIT = 0.02  # seconds that a request may take at the 99th percentile
+ASK = get("/jobs/999999", CLOSE)
+
+
+def serving(folder, **more):
+    """A server on a new file, with two modems, for as many connections as come."""
+    (folder / "setup").write_text(SETUP)
+    return Server(folder / "queue.db", "--setup", folder / "setup", *MANY, **more)
+
+
+def connect(port, receives=None):
+    return Peer(port, receives).socket
+
+
+def work(port, modem, told):
+    """A worker that finishes a fax of twenty pages."""
+    number = itertools.count(1)
+
+    def ask(path, body=None):
+        text = json.dumps(body) if body else ""
+        status, reply = answer_to(port, post(path, next(number), text, modem, CLOSE))
+        expect(status == 200, f"{path} of {modem} is answered {status} {reply!r}")
+        return json.loads(reply)
+
+    try:
+        grant = ask(f"/modems/{modem}/next")["grant"]
+        ask(f"/grants/{grant}/call", {"result": "connected"})
+        for page in range(1, 21):
+            ask(f"/grants/{grant}/page", {"page": page})
+        end = ask(f"/grants/{grant}/outcome", {"dialed": True, "outcome": "done", "pages": 20})
+        told[modem] = end["state"]
+    except (Wrong, OSError, KeyError) as fault:
+        told[modem] = fault
+
+
+def times(port, count):
+    """How many seconds each of so many requests takes, one connection each, in ascending order."""
+    took = []
+    for _ in range(count):
+        start = time.monotonic()
+        status, _ = answer_to(port, ASK)
+        took.append(time.monotonic() - start)
+        expect(status == 404, f"a look at no job is answered {status}")
+    return sorted(took)
+
+
+@contextlib.contextmanager
+def dripping(peers):
+    """Each of these says a byte of a message in each second, until this ends."""
+    ends = threading.Event()
+
+    def drip():
+        for byte in post("/jobs", 1, "number:5550111\ntotpages:1\n", "drip", CLOSE):
+            for peer in peers:
+                with contextlib.suppress(OSError):
+                    peer.send(bytes([byte]))
+            if ends.wait(1):
+                return
+    thread = threading.Thread(target=drip)
+    thread.start()
+    try:
+        yield
+    finally:
+        ends.set()
+        thread.join()
+
+
+def times_below(port, count, place):
+    """The times of so many requests, once more where that at this place is too long: something else may have had the
+    processors."""
+    took = times(port, count)
+    return took if took[place] < LIMIT else times(port, count)
+
+
+@check
+def crowd(folder):
+    """Behind 40 silent peers, 10 that drip, 3 that take nothing of 12 MB and 200 more for whom there is no place, a request is
+    answered in 20 ms, and two workers finish their faxes."""
+    with serving(folder) as server, contextlib.ExitStack() as stack:
+        port, told = server.port, {}
+        for number in 1, 2:
+            order = f"number:555011{number}\ntotpages:20\nnote:{60000 * 'x'}\n"
+            expect(answer_to(port, post("/jobs", number, order, fields=CLOSE))[0] == 201, "a fax isn't taken")
+        peers = [stack.enter_context(connect(port)) for _ in range(40)]
+        drips = [stack.enter_context(connect(port)) for _ in range(10)]
+        for _ in range(3):
+            stack.enter_context(connect(port, 4096)).sendall(200 * b"GET /jobs/1 HTTP/1.1\r\n\r\n")
+        time.sleep(0.5)  # until what the system buffers for these is full
+        workers = [threading.Thread(target=work, args=(port, modem, told)) for modem in ("ttyS0", "ttyS1")]
+        with dripping(drips):
+            alone = times_below(port, 300, 297)
+            for worker in workers:
+                worker.start()
+            start = time.monotonic()
+            peers += [stack.enter_context(connect(port)) for _ in range(200)]
+            took = times_below(port, 1000, 990)
+            whole = time.monotonic() - start
+            for worker in workers:
+                worker.join(PATIENCE)
+        expect(told == {"ttyS0": 7, "ttyS1": 7}, f"two workers' faxes of twenty pages come to {told}")
+    say(f"behind 53 slow peers a request takes {1e6 * alone[150]:.0f} us, {1e6 * alone[297]:.0f} us at the 99th percentile")
+    say(f"with 200 more that wait {1e6 * took[500]:.0f} us, {1e6 * took[990]:.0f} us at the 99th percentile and "
+        f"{took[-1]:.2f} s at most; 1,000 take {whole:.1f} s")
+    expect(alone[297] < LIMIT, f"behind 53 slow peers a request takes {alone[297]:.3f} s at the 99th percentile")
+    expect(took[990] < LIMIT, f"behind 253 slow peers a request takes {took[990]:.3f} s at the 99th percentile")
+
+
+@check
+def greedy(folder):
+    """Forty peers that ask on and on, a hundred messages at a time, hold nobody, and get all their replies."""
+    with serving(folder) as server:
+        ends, fault = threading.Event(), []
+
+        def ask(place):
+            numbers = itertools.count(1)
+            with connect(server.port) as peer, contextlib.suppress(ConnectionError):
+                for _ in range(9):
+                    part = [next(numbers) for _ in range(100)]
+                    peer.sendall(b"".join(b"GET /jobs/%d HTTP/1.1\r\n\r\n" % (100_000 + n % 7) for n in part))
+                    got = b""
+                    while got.count(b"no-job") < 100:
+                        piece = peer.recv(65536)
+                        if not piece:
+                            fault.append(f"greedy peer {place} gets {got.count(b'no-job')} of 100 replies")
+                            return
+                        got += piece
+                    if ends.is_set():
+                        return
+        threads = [threading.Thread(target=ask, args=(place,)) for place in range(40)]
+        for thread in threads:
+            thread.start()
+        took = times(server.port, 200)
+        ends.set()
+        for thread in threads:
+            thread.join(PATIENCE)
+        expect(not fault, "; ".join(fault[:3]))
+    say(f"beside 40 greedy peers a request takes {1e3 * took[100]:.1f} ms, {1e3 * took[197]:.1f} ms at the 99th percentile")
+
+
+@check
+def kept_open(folder):
+    """Clients that keep their connection open, as a browser does, and are idle for up to a minute, hold nobody; time runs twenty
+    times as fast for the server."""
+    with serving(folder, before=preload(["clocks"], FASTER=20)) as server:
+        clients = [http.client.HTTPConnection("127.0.0.1", server.port, timeout=PATIENCE) for _ in range(6)]
+
+        def fetch(client):
+            """As a browser does: a request on the open connection, and on a new one where that was closed."""
+            for attempt in 1, 2:
+                try:
+                    client.request("GET", "/jobs")
+                    answer = client.getresponse()
+                    return answer.status, answer.read()
+                except (ConnectionError, http.client.HTTPException):
+                    expect(attempt == 1, "a request on a new connection isn't answered")
+                    client.close()
+            raise Wrong("never here")
+
+        for idle in 0.02, 0.2, 3, 0:  # seconds; 3 are a minute for the server
+            for client in clients:
+                status, listing = fetch(client)
+                expect(status == 200 and listing.startswith(b"   JID Pri S "), f"a fetch is answered {status}")
+            took = times(server.port, 50)
+            expect(took[-1] < 0.5, f"behind idle clients a request takes {took[-1]:.3f} s")
+            time.sleep(idle)
+        for client in clients:
+            client.close()
+
+
+@check
+def memory(folder):
+    """Sixty-four connections that have each sent 80 kB of a message take less than 24 MB, and a message is answered behind
+    them."""
+    with serving(folder) as server, contextlib.ExitStack() as stack:
+        before = server.memory()
+        fields = "".join(f"X-{place}: {240 * 'x'}\r\n" for place in range(60))
+        head = f"POST /jobs HTTP/1.1\r\nFax-Client: desk\r\nFax-Number: 1\r\n{fields}Content-Length: 65536\r\n\r\n".encode()
+        part = head + 65_000 * b"x"
+        peers = [stack.enter_context(connect(server.port)) for _ in range(64)]
+        for peer in peers:
+            peer.sendall(part)
+        until = time.monotonic() + 2
+        while time.monotonic() < until:
+            time.sleep(0.1)
+        used = server.memory()
+        say(f"64 connections with {len(part):,} bytes each: {used / 1e6:.1f} MB, {before / 1e6:.1f} MB before")
+        expect(used < 24_000_000, f"64 connections with {len(part)} bytes each take {used / 1e6:.1f} MB")
+        expect(answer_to(server.port, ASK)[0] == 404, "behind them a message isn't answered")
+
+
+@check
+def no_files(folder):
+    """A server that may open no file more goes on with who is there, doesn't spin, and accepts again once one leaves."""
+    def few():
+        resource.setrlimit(resource.RLIMIT_NOFILE, (20, 20))
+
+    with serving(folder, limits=few) as server, contextlib.ExitStack() as stack:
+        peers = [stack.enter_context(connect(server.port)) for _ in range(30)]
+        time.sleep(0.2)
+        start, used = time.monotonic(), server.processor()
+        for _ in range(20):
+            peers[0].sendall(ASK.replace(b"Connection: close\r\n", b""))
+            expect(peers[0].recv(65536).startswith(b"HTTP/1.1 404 "), "who is there isn't answered")
+            time.sleep(0.05)
+        used = server.processor() - used
+        say(f"without files it uses {used:.2f} s of a processor in {time.monotonic() - start:.1f} s")
+        expect(used < 0.5, f"without files it uses {used:.2f} s of a processor in a second")
+        for peer in peers:
+            peer.close()
+        expect(answer_to(server.port, ASK)[0] == 404, "once they have left a message isn't answered")
+
+
+@check
+def idle(folder):
+    """A server with nothing to do does nothing."""
+    with serving(folder) as server, contextlib.ExitStack() as stack:
+        for place in range(70):
+            peer = stack.enter_context(connect(server.port))
+            with contextlib.suppress(OSError):
+                peer.sendall(b"GET /jobs" if place % 2 else b"")
+        time.sleep(1.5)
+        used = server.processor()
+        time.sleep(1)
+        used = server.processor() - used
+        say(f"with 70 silent peers it uses {used:.2f} s of a processor in a second")
+        expect(used < 0.1, f"with 70 silent peers it uses {used:.2f} s of a processor in a second")
+        server.process.send_signal(signal.SIGTERM)
+        server.process.wait(PATIENCE)
