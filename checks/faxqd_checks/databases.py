@@ -1,7 +1,9 @@
 """Databases that the system's sqlite changed, and their listings. The group `server` has databases of other programs, older
 versions and VACUUM."""
+import subprocess
+
 from .runner import group
-from .shared import attempt, changed, database_of, empty_queue, expect, run
+from .shared import attempt, changed, database_of, empty_queue, expect, rows_of, run, wants
 
 check = group("databases", "Lists the jobs of databases that the system's sqlite changed.", "computing")
 
@@ -146,3 +148,19 @@ def counts(file, listed, calls):
     with database_of(file) as database:
         found = database.execute("SELECT * FROM calls ORDER BY dial").fetchall()
     expect(found == calls, f"the calls are {found}")
+
+
+@check
+def dumped(folder):
+    """A database of either version that was made anew by sqlite3's `.dump` is taken, with its jobs, floors and calls."""
+    wants("sqlite3")
+    empty = empty_queue(folder / "empty")
+    for version, statements in (2, f"{TWO_CALLS}; INSERT INTO floors VALUES ('desk', 3)"), (1, TWO_CALLS + FIRST):
+        with attempt(f"version {version}"):
+            copy = folder / f"copy-{version}.db"
+            file = changed(empty, folder / str(version), statements)
+            dump = subprocess.run(["sqlite3", file, ".dump"], check=True, capture_output=True)
+            subprocess.run(["sqlite3", copy], input=dump.stdout, check=True, capture_output=True)
+            counts(copy, True, BOTH)
+            found = rows_of(copy, "SELECT version, (SELECT count(*) FROM floors), (SELECT count(*) FROM jobs) FROM meta")
+            expect(found == [(2, version - 1, 2)], f"its version, floors and jobs are {found}")

@@ -21,6 +21,8 @@ PASSED = 0.15  # seconds of a processor
 ROUNDS = 5
 PAGES = 100  # confirmed pages of a heavy job
 REPORTED = 0.1  # seconds of a processor
+GIVEN = 100_000  # kept replies of a client
+GIVEN_UP = 4 << 20  # bytes more than before
 EXTRA = "a:\n" * 21_800  # extra lines, as many as a body has room for
 
 
@@ -162,3 +164,32 @@ def busy(_):
                 server.ask("an outcome", post(f"/grants/{grant}/outcome", 3 + 3 * number, over, "ttyS0"), 200)
     say(f"{min(taken):.3f} s")
     expect(min(taken) <= PASSED, f"a choice behind {BUSY:,} jobs to a busy number takes {min(taken):.3f} s")
+
+
+def copy_reply(folder, replies):
+    """Makes the first reply of ttyS0 so many, under the numbers from 1 on."""
+    with database_of(folder / "queue.db") as database:
+        database.execute("BEGIN")
+        database.execute(f"WITH RECURSIVE more (n) AS (SELECT 2 UNION ALL SELECT n + 1 FROM more WHERE n < {replies}) "
+                         "INSERT INTO replies (client, number, said, status, body) "
+                         "SELECT client, n, said, status, body FROM more, replies WHERE client = 'ttyS0' AND number = 1")
+        database.execute("COMMIT")
+
+
+@check
+def given_up(_):
+    """A client that gives up 100,000 replies at once has its answer within two seconds, for less than 4 MB of memory."""
+    with room() as folder:
+        with Queue(folder) as server:
+            server.ask("next", post("/modems/ttyS0/next", 1, client="ttyS0"), 200)
+        copy_reply(folder, GIVEN)
+        with Queue(folder, DATA) as server:
+            rest = server.most()
+            body, taken = server.ask("a floor", post("/numbers/floor", GIVEN + 1, f'{{"upto":{GIVEN}}}', "ttyS0"), 200)
+            more = server.most() - rest
+        with database_of(folder / "queue.db") as database:
+            left = database.execute("SELECT number FROM replies WHERE client = 'ttyS0'").fetchall()
+    say(f"{taken:.3f} s with {more >> 10} kB")
+    expect(left == [(GIVEN + 1,)], f"the replies that are left have the numbers {left[:10]}")
+    expect(taken <= 2 * LONGEST, f"{GIVEN:,} replies are given up in {taken:.2f} s")
+    expect(more < GIVEN_UP, f"{GIVEN:,} replies are given up with {more >> 10} kB")
