@@ -21,6 +21,8 @@ PASSED = 0.15  # seconds of a processor
 ROUNDS = 5
 PAGES = 100  # confirmed pages of a heavy job
 REPORTED = 0.1  # seconds of a processor
+PLAIN = 10_000  # jobs of a listing
+LISTED = 16 << 20  # bytes more than at rest
 GIVEN = 100_000  # kept replies of a client
 GIVEN_UP = 4 << 20  # bytes more than before
 EXTRA = "a:\n" * 21_800  # extra lines, as many as a body has room for
@@ -193,3 +195,21 @@ def given_up(_):
     expect(left == [(GIVEN + 1,)], f"the replies that are left have the numbers {left[:10]}")
     expect(taken <= 2 * LONGEST, f"{GIVEN:,} replies are given up in {taken:.2f} s")
     expect(more < GIVEN_UP, f"{GIVEN:,} replies are given up with {more >> 10} kB")
+
+
+@check
+def listed(_):
+    """A listing of 10,000 jobs has them all, within a second and for less than 16 MB."""
+    with room() as folder:
+        with Queue(folder) as server:
+            server.ask("a submission", post("/jobs", 1, "number:5550111\ntotpages:1\n"), 201)
+        copy_job(folder, 1, PLAIN)
+        with Queue(folder, DATA) as server:
+            rest = server.most()
+            body, taken = server.ask("the listing", get("/jobs"), 200)
+            more = server.most() - rest
+    say(f"{len(body) >> 10} kB in {taken:.3f} s with {more >> 10} kB")
+    numbers = [int(line[:6]) for line in body.splitlines()[1:]]
+    expect(numbers == list(range(1, PLAIN + 1)), f"the listing has {len(numbers)} jobs, from {numbers[:3]} to {numbers[-3:]}")
+    expect(taken <= LONGEST, f"a listing of {PLAIN:,} jobs takes {taken:.2f} s")
+    expect(more < LISTED, f"a listing of {PLAIN:,} jobs takes {more >> 10} kB")

@@ -21,12 +21,12 @@ class Conversation:
         self.name, self.setup, self.controls = name, setup, controls
         self.sent, self.wanted, self.error, self.number = b"", b"", b"", 0
 
-    def post(self, path, body="", client="desk"):
+    def post(self, path, body="", client="desk", moment=1000):
         """Sends a request with the next number."""
         self.number += 1
         body = body.encode()
         head = f"POST {path} HTTP/1.1\r\nFax-Client: {client}\r\nFax-Number: {self.number}\r\n"
-        self.sent += f"{head}Fax-Moment: 1000\r\nContent-Length: {len(body)}\r\n\r\n".encode() + body
+        self.sent += f"{head}Fax-Moment: {moment}\r\nContent-Length: {len(body)}\r\n\r\n".encode() + body
         return self
 
     def get(self, path):
@@ -227,6 +227,38 @@ def moments():
         head = f"POST /jobs HTTP/1.1\r\nFax-Client: desk\r\nFax-Number: 1\r\nFax-Moment: {said}\r\n"
         talk.sent = f"{head}Content-Length: {len(SUBMISSION)}\r\n\r\n{SUBMISSION}GET /jobs/1 HTTP/1.1\r\n\r\n".encode()
         yield talk.gives(201, '{"job":1}').shows(tts=moment)
+
+
+@conversations
+def repeats():
+    """A request as long as may be gets its reply again, and a byte of it less gets none; one from years before the clock is taken at
+    the clock."""
+    body = SUBMISSION + filled(65536 - len(SUBMISSION), "x-note:")
+    talk = Conversation("65,536 bytes, repeated")
+    for said, status, answer in ((body, 201, '{"job":1}'), (body, 201, '{"job":1}'), (body[:-2] + "\n", 409, '{"no":7,"word":"number-reused"}')):
+        talk.number = 0
+        talk.post("/jobs", said).gives(status, answer)
+    yield talk.get("/jobs/2").gives(404, '{"no":8,"word":"no-job"}')
+    late = 1000 + 10 * 366 * 86400
+    talk = Conversation("ten years behind the clock").post("/jobs", SUBMISSION, moment=late).gives(201, '{"job":1}')
+    talk.post("/jobs", SUBMISSION).gives(201, '{"job":2}').get("/jobs/2").shows(jobid=2, tts=late)
+    talk.post("/jobs/2/kill").gives(200, '{"job":2,"state":8}')
+    yield talk.post("/modems/ttyS0/next").gives(200, '{"from":1,"grant":1,"job":1,"number":"5550111","to":1}')
+
+
+@conversations
+def longest():
+    """A job with the longest modem, tag, client and reason is shown, chosen and reported on."""
+    modem, tag, client, reason = "m" * 32, "t" * 200, "c" * 32, "r" * 200
+    long = {"modem": modem, "jobtag": tag}
+    talk = Conversation("the longest of all", setup=f"Modem: {modem}\n")
+    talk.post("/jobs", f"{SUBMISSION}modem:{modem}\njobtag:{tag}\n", client).gives(201, '{"job":1}').get("/jobs/1").shows(**long)
+    talk.post(f"/modems/{modem}/next", client=client).gives(200, '{"from":1,"grant":1,"job":1,"number":"5550111","to":1}')
+    talk.get("/jobs/1").shows(state=6, **long)
+    talk.post("/grants/1/call", '{"result":"connected"}', client).gives(200, '{"stop":false}')
+    talk.post("/grants/1/outcome", f'{{"dialed":true,"outcome":"fail","pages":0,"reason":"{reason}"}}', client)
+    talk.gives(200, '{"job":1,"state":8}')
+    yield talk.get("/jobs/1").shows(state=8, status=reason, ntries=1, tottries=1, totdials=1, **long)
 
 
 # ---- reports
