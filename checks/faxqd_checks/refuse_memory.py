@@ -3,7 +3,7 @@ Either it reports that memory ran out and has written nothing; or it answers as 
 by 503, which counts as lost: the other replies are those to the stream without that message. Each message has to be lost in
 some run."""
 from .runner import group
-from .shared import CHECKS, UNAVAILABLE, attempt, expect, fault, get, post, preload, run, say
+from .shared import CHECKS, UNAVAILABLE, attempt, expect, fault, get, loading, post, replay, run, say
 
 check = group("refuse-memory", "Refuses each request for memory in turn, in streams of messages.", "computing")
 SETUP = "--setup", CHECKS / "small.setup"
@@ -132,8 +132,8 @@ class Sweep:
 
     def refused(self, number, messages):
         """How a run ends whose request of this number is refused."""
-        loaded = preload(["refuse_memory"], REFUSE_REQUEST=number, COUNT_REQUESTS=self.count)
-        return run("replay", *self.words, before=loaded, input=b"".join(messages), patience=60)[:3]
+        loaded = loading(["refuse_memory"], REFUSE_REQUEST=number, COUNT_REQUESTS=self.count)
+        return replay(b"".join(messages), *self.words, limit=None, environment=loaded)[:3]
 
     def requests(self, messages):
         """How many requests for memory there are, none refused."""

@@ -7,6 +7,7 @@ import itertools
 import os
 import pathlib
 import re
+import resource
 import select
 import shutil
 import socket
@@ -335,10 +336,15 @@ def library(name):
     return file
 
 
-def preload(names, **settings):
-    """The words before a program that has these loaded first, with these settings."""
+def loading(names, **settings):
+    """The environment of a program that has these loaded first, as it differs, with these settings."""
     loaded = ":".join(str(library(name)) for name in names)
-    return ["env", f"LD_PRELOAD={loaded}", *(f"{name}={value}" for name, value in settings.items())]
+    return {"LD_PRELOAD": loaded, **{name: str(value) for name, value in settings.items()}}
+
+
+def preload(names, **settings):
+    """The words before such a program."""
+    return ["env", *(f"{name}={value}" for name, value in loading(names, **settings).items())]
 
 
 def compile_libraries(folder):
@@ -470,14 +476,17 @@ Ran = collections.namedtuple("Ran", "status out err seconds")
 longest = collections.Counter()  # of each kind of run, the most seconds of the processor
 
 
-def replay(data, *words, before=(), limit=LIMIT, kind="replay"):
-    """A run of `replay` on these bytes, which may take so many kilobytes and 20 seconds of the processor."""
+def replay(data, *words, before=(), limit=LIMIT, kind="replay", environment=None):
+    """A run of `replay` on these bytes, which may take so many kilobytes, if that is said, and 20 seconds of the processor."""
     files = [os.memfd_create(name) for name in ("input", "output", "error")]
     try:
         os.write(files[0], data)
         os.lseek(files[0], 0, os.SEEK_SET)
-        process = subprocess.Popen([*limited(limit), *before, said.program, "replay", *words],
-                                   stdin=files[0], stdout=files[1], stderr=files[2])
+        process = subprocess.Popen([*(limited(limit) if limit else ()), *before, said.program, "replay", *words], stdin=files[0],
+                                   stdout=files[1], stderr=files[2], env={**os.environ, **environment} if environment else None)
+        if not limit:
+            with contextlib.suppress(ProcessLookupError):
+                resource.prlimit(process.pid, resource.RLIMIT_CPU, (20, 20))
         _, ended, usage = os.wait4(process.pid, 0)
         process.returncode = os.waitstatus_to_exitcode(ended)
         out, err = (os.pread(file, os.fstat(file).st_size, 0) for file in files[1:])
