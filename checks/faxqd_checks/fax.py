@@ -12,7 +12,7 @@ import time
 
 from .fax_line import Office, TEXT, Tools, render
 from .runner import group
-from .shared import Wrong, expect, fault, new_folder, said, say, told
+from .shared import Wrong, expect, fault, new_folder, said, say, told, within
 
 check = group("fax", "Sends real faxes over spandsp's soft modems and a line in memory; each page comes once and as it was "
               "sent.", "fax")
@@ -185,7 +185,7 @@ def unfit_documents(office):
     job = office.is_in("8", len(UNFIT) + 2)
     expect((job["status"], job["totdials"]) == ("Too many attempts to dial", "2"), f"without a modem the job is {job}")
     why = "the call failed: can't open serial port /dev/nothing: No such file or directory"
-    expect(office.reasons()[-2:] == [why, why], f"without a modem the reasons are {office.reasons()[-2:]}")
+    within(lambda: f"two reasons without a modem: {office.reasons()[-2:]}", lambda: office.reasons()[-2:] == [why, why], 10)
     expect(office.line.happened("caller dials 5550111") == 0, "there was a call")
 
 
