@@ -4,6 +4,9 @@ pub mod RequestLemmas
 mod StopLemmas
 mod ReadingLemmas
 pub mod OneVerdictLemmas
+mod OneRunLemmas
+mod RowsRuns
+mod RowsCounts
 pub mod AcceptedLemmas
 mod EachVerdictLemmas
 mod GetLemmas

@@ -1,13 +1,14 @@
 -- What is proved of the definitions.
 use Rattle.std.specs.Prelude.{true, false, ⊤, ◌≡◌, ◌≢◌, ◌≤◌, ◌<◌, ◌⊎◌, ℕ, List, [], ◌∷◌, All, ◌++◌, None, Some, Ok}
 use Rattle.sqlite.specs.State.{State}
-use Rattle.fax_ask.specs.Response.{Response}
+use Rattle.fax_job.specs.declared.refusal.Refusal.TheVariants.{Unavailable}
+use Rattle.fax_ask.specs.Response.{Response, refused_response}
 use Rattle.fax_core.specs.Ask.{IsLawfulAsk}
 use Rattle.fax_core.specs.Job.{Job}
 use Rattle.fax_core.specs.Laws.{HoldsOnce}
 use Rattle.fax_core.specs.Ledger.{Ledger, with_reply}
 use Rattle.fax_core.specs.Queue.{Queue, Entry, empty_queue, grant_numbered}
-use Rattle.fax_core.specs.Reply.{Given, Handed, Reply, Taken}
+use Rattle.fax_core.specs.Reply.{Given, Handed, NoKeys, Reply, Taken}
 use Rattle.fax_core.specs.declared.ask.Ask.TheVariants.{Next, PageReport}
 use Rattle.fax_core.specs.declared.ask.Ask.{Ask}
 use Rattle.fax_core.specs.declared.grants.Grant.{Grant}
@@ -102,6 +103,19 @@ RunsSplit = (s : Settings) (start : Start) (rest beginning : List Reading) (r : 
     (taken s start (rest ++ beginning) ≡ taken s later rest ++ taken s start beginning)
     × (end_of s start (rest ++ beginning) ≡ end_of s later rest)
     × (reply_at s start (rest ++ beginning) r ≡ reply_at s later rest r)
+
+-- the reply doesn't say that memory or the store gave out
+abbrev pub IsAvailable : Response → Type 0
+IsAvailable reply = reply ≢ refused_response Unavailable NoKeys
+
+abbrev pub AreAvailable : List Response → Type 0
+AreAvailable replies = All IsAvailable replies
+
+-- Two runs of the same arrivals from the same start, in which no reply is 27, hear the same and answer the same: so they lead to the same end.
+abbrev pub OneRun : Type 0
+OneRun = (s : Settings) (start : Start) (arrivals : List Arrival) (replies others : List Response) (heard also_heard : List Reading)
+    → IsRun s start [] arrivals replies heard → IsRun s start [] arrivals others also_heard → AreAvailable replies → AreAvailable others
+    → (replies ≡ others) × (heard ≡ also_heard)
 
 -- the post is taken behind that past
 abbrev pub IsTakenAt : Settings → Start → List Reading → Post → Type 0

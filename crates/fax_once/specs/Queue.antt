@@ -1,5 +1,5 @@
 -- The queue, as the contracts of its calls speak of it.
-use Rattle.std.specs.Prelude.{◌≡◌, List, Result}
+use Rattle.std.specs.Prelude.{◌≡◌, Result}
 use Rattle.sqlite.specs.State.{State, HasCleanDisk}
 use Rattle.sqlite_trees.specs.declared.store.Store.{Ghosts}
 use Rattle.fax_ask.specs.Response.{Response}

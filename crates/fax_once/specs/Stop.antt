@@ -1,5 +1,5 @@
 -- What a crash may leave behind an arrival.
-use Rattle.std.specs.Prelude.{◌≡◌, List, ◌∷◌, ◌++◌}
+use Rattle.std.specs.Prelude.{◌≡◌, Bool, true, false, List, ◌∷◌, ◌++◌}
 use Rattle.sqlite.specs.State.{State}
 use Rattle.sqlite_trees.specs.Tree.{Trees}
 use Rattle.fax_core.specs.Ledger.{Ledger}
@@ -10,13 +10,23 @@ use Rattle.fax_store.specs.Store.{MayMake, RowsFound, Serves}
 use Rattle.fax_once.specs.Laws.{HasRun}
 use Rattle.fax_once.specs.Reading.{Reading}
 use Rattle.fax_once.specs.Run.{Start, end_of}
-use Rattle.fax_once.specs.Verdict.{Verdict, Accepted, IsVerdict}
+use Rattle.fax_once.specs.Verdict.{Verdict, Told, Repeated, Accepted, IsVerdict}
 use Rattle.fax_once.specs.declared.arrival.Arrival.{Arrival}
 
 -- these are the rows of what the verdict accepts, its reply kept. A refusal, a view and a repeat make none.
 abbrev pub AreMadeBy : Verdict → Trees → Type 0
 AreMadeBy (Accepted after kept reply) found = RowsFound found after kept
 AreMadeBy other found = ⊥
+
+-- it accepts
+abbrev pub accepts : Verdict → Bool
+accepts (Told reply) = false
+accepts (Repeated reply) = false
+accepts (Accepted after kept reply) = true
+
+-- only what is accepted makes rows
+abbrev pub OnlyAcceptedMakeRows : Type 0
+OnlyAcceptedMakeRows = (v : Verdict) (found : Trees) → AreMadeBy v found → accepts v ≡ true
 
 -- A crash leaves what a crash before could leave, or, where the store served, what the verdict makes.
 abbrev pub StopsBy : State → State → Verdict → Type 0

@@ -3,7 +3,8 @@
 //! Such a function changes nothing: its contract is the law. The statements stand in
 //! `specs/Laws.antt`.
 
-ghost use Rattle.fax_once.specs.Laws.{AcceptedOnce, CopiesLeaveNoTrace, CountersAreCounts, HasVerdict, NoVerdictIsUnavailable, NumbersHaveOneReply, OneReading, OneVerdict, RepeatsGetTheirReply, RunsAreSound, RunsKeepGrants, RunsSendOnce, RunsSplit, RunsThread, UntakenLeaveNoTrace};
+ghost use Rattle.fax_once.specs.Laws.{AcceptedOnce, CopiesLeaveNoTrace, CountersAreCounts, HasVerdict, NoVerdictIsUnavailable, NumbersHaveOneReply, OneReading, OneRun, OneVerdict, RepeatsGetTheirReply, RunsAreSound, RunsKeepGrants, RunsSendOnce, RunsSplit, RunsThread, UntakenLeaveNoTrace};
+ghost use Rattle.fax_once.specs.Stop.{OnlyAcceptedMakeRows};
 
 use crate::arrival::Arrival;
 use fax_ask::laws::{asks, each_asks_or_has_fault, statuses};
@@ -41,10 +42,23 @@ pub fn accepted_once()
 {}
 
 /// A repeat of what was accepted gets the reply to it, byte for byte, and changes nothing: whatever its
-/// moment, and whatever was accepted since.
+/// moment, and whatever was accepted since, as long as the client hasn't given the number up.
 pub fn repeats_get_their_reply()
     ensures { RepeatsGetTheirReply }
 {}
+
+/// Only what is accepted makes rows: a refusal, a view and a repeat leave none that a crash could find.
+pub fn only_accepted_make_rows()
+    ensures { OnlyAcceptedMakeRows }
+{}
+
+/// Two runs of the same arrivals from the same start, in which nothing is answered 27, are one: they have the same
+/// replies and lead to the same end.
+pub fn one_run()
+    ensures { OneRun }
+{
+    asks();
+}
 
 /// A run in two parts is the first part, and then the second from where the first leads. And looking back over what
 /// was heard leads where taking one arrival after the other leads.

@@ -1,0 +1,94 @@
+-- Worked rows of counters: what is counted of the reports on a job, and what came in with it. Of posts the newest comes first.
+use Rattle.std.specs.Prelude.{◌≡◌, refl, ℕ, ◌+◌, ◌*◌, true, List, [], ◌∷◌, length, codes}
+use Rattle.fax_job.specs.declared.import.Import.{Import}
+use Rattle.fax_job.specs.declared.job.Call.TheVariants.{Busy, Connected}
+use Rattle.fax_core.specs.declared.ask.Ask.{Ask}
+use Rattle.fax_core.specs.declared.ask.Ask.TheVariants.{Bring, CallReport, Next, OutcomeReport, PageReport, Submission}
+use Rattle.fax_core.specs.declared.report.Ending.TheVariants.{Retry}
+use Rattle.fax_core.specs.Queue.{empty_queue}
+use Rattle.fax_core.proofs.RowWords.{◌at◌, order, report, settings, ttyS0, ttyS1}
+use Rattle.fax_once.specs.Counts.{Counters, Called, Confirmed, brought_with, counts, reports_of}
+use Rattle.fax_once.specs.Reading.{Post}
+
+-- ---- words
+
+-- somebody asks for this at 1000, an hour later for each post before it
+abbrev posts : List Ask → List Post
+posts [] = []
+posts (ask ∷ earlier) = record { client = codes "w0"; number = length earlier + 1; said = []; request = ask at (1000 + 3600 * length earlier) } ∷ posts earlier
+
+-- the counters of a job behind these
+abbrev counted : ℕ → List Ask → Counters
+counted job asks = counts (brought_with settings empty_queue job (posts asks)) (reports_of settings empty_queue job (posts asks))
+
+-- the calls, the connected ones, each in all and since the last that came further, and the pages
+abbrev these : ℕ → ℕ → ℕ → ℕ → ℕ → Counters
+these totdials ndials tottries ntries npages = record { totdials = totdials; tottries = tottries; ndials = ndials; npages = npages; ntries = ntries }
+
+-- ---- a submission
+
+-- a busy call, and the grant is over
+abbrev busy_once : List Ask
+busy_once = OutcomeReport 1 (report true Retry 0 []) ∷ CallReport 1 Busy ∷ Next ttyS0 ∷ Submission (order (codes "5550111") 3) ∷ []
+
+-- a call is a dial
+busy_row : counted 1 busy_once ≡ these 1 1 0 0 0
+busy_row = refl
+
+-- a connected one is a try, and no dial in a row is left
+abbrev connected : List Ask
+connected = CallReport 2 Connected ∷ Next ttyS0 ∷ busy_once
+
+connected_row : counted 1 connected ≡ these 2 0 1 1 0
+connected_row = refl
+
+-- a page leaves no try in a row
+page_row : counted 1 (PageReport 2 1 ∷ connected) ≡ these 2 0 1 0 1
+page_row = refl
+
+-- the next try is one, in a row, and two in all
+abbrev twice : List Ask
+twice = CallReport 3 Connected ∷ Next ttyS0 ∷ OutcomeReport 2 (report true Retry 1 []) ∷ PageReport 2 1 ∷ connected
+
+twice_row : counted 1 twice ≡ these 3 0 2 1 1
+twice_row = refl
+
+-- what isn't a report on its grants counts for no job
+others_row : counted 2 (Submission (order (codes "5550112") 1) ∷ twice) ≡ these 0 0 0 0 0
+others_row = refl
+
+-- a report on a grant that was never given counts for nothing
+never_given_row : reports_of settings empty_queue 1 (posts (CallReport 7 Busy ∷ busy_once)) ≡ Called Busy ∷ []
+never_given_row = refl
+
+-- of reports the newest comes first
+reports_row : reports_of settings empty_queue 1 (posts (PageReport 2 1 ∷ connected)) ≡ Confirmed ∷ Called Connected ∷ Called Busy ∷ []
+reports_row = refl
+
+-- ---- an import
+
+-- one page of three was sent, in the third of four calls; the fourth one was busy
+abbrev older : Import
+older = record { order = order (codes "5550111") 3; npages = 1; ntries = 0; tottries = 1; ndials = 1; totdials = 4; state = 5; status = [] }
+
+abbrev brought : List Ask
+brought = Bring older ∷ []
+
+-- a job comes in with its counters
+brought_row : counted 1 brought ≡ these 4 1 1 0 1
+brought_row = refl
+
+-- a call is one more, in a row too
+brought_busy_row : counted 1 (CallReport 1 Busy ∷ Next ttyS1 ∷ brought) ≡ these 5 2 1 0 1
+brought_busy_row = refl
+
+-- behind a connected one what came in counts in all, and in a row no more
+brought_connected_row : counted 1 (CallReport 1 Connected ∷ Next ttyS1 ∷ brought) ≡ these 5 0 2 1 1
+brought_connected_row = refl
+
+brought_page_row : counted 1 (PageReport 1 2 ∷ CallReport 1 Connected ∷ Next ttyS1 ∷ brought) ≡ these 5 0 2 0 2
+brought_page_row = refl
+
+-- the next job didn't come in with them
+brought_alone_row : counted 2 (Submission (order (codes "5550112") 1) ∷ brought) ≡ these 0 0 0 0 0
+brought_alone_row = refl

@@ -1,0 +1,5 @@
+use Rattle.fax_once.proofs.OneRunLemmas as lemma
+use Rattle.fax_once.proofs.laws.only_accepted_make_rows.Goals as goal
+
+pub returns : goal.returns
+returns c = lemma.only_accepted
