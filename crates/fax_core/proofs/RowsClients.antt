@@ -47,6 +47,17 @@ alter_and_suspend_row = refl
 alter_to_the_limit_row : map (λ j. j.maxdials) (after (Submission (order long_number 3) at 1000 ∷ Next ttyS0 at 1000 ∷ CallReport 1 Busy at 1000 ∷ OutcomeReport 1 (report true Retry 0 []) at 1000 ∷ Suspend 1 at 1000 ∷ Alteration 1 (record no_change { maxdials = Some 1 }) at 1000 ∷ [])).jobs ≡ 12 ∷ []
 alter_to_the_limit_row = refl
 
+-- a job that is suspended while it waits since its number was busy, and gets another time to send
+abbrev busy_altered : List Request
+busy_altered = Submission (order long_number 3) at 1000 ∷ Next ttyS0 at 1000 ∷ CallReport 1 Busy at 1000 ∷ OutcomeReport 1 (report true Retry 0 []) at 1000 ∷ Suspend 1 at 1001 ∷ Alteration 1 (record no_change { tts = Some (Some 5000) }) at 1002 ∷ []
+
+alter_later_tts_row : map (λ j. j.tts) (after busy_altered).jobs ≡ 5000 ∷ []
+alter_later_tts_row = refl
+
+-- its next time stays
+alter_leaves_next_row : map (λ j. j.next) (after busy_altered).jobs ≡ 1180 ∷ []
+alter_leaves_next_row = refl
+
 -- a time to send of 0, which a submission at moment 0 has, stays
 abbrev suspended_at_0 : List Request
 suspended_at_0 = Submission (order (codes "5550111") 1) at 0 ∷ Suspend 1 at 0 ∷ []
