@@ -31,7 +31,7 @@ module _ (one_reading : OneReading) (s : Settings) (start : Start) where
   one_run_behind past (a ∷ arrivals) (reply ∷ replies) (told ∷ others) heard also_heard (inr (r, is, answered, run)) (inr (q, also_is, also_answered, other)) well also_well =
       let same : r ≡ q = one_reading a r q is also_is in
       let rest = one_run_behind (r ∷ past) arrivals replies others heard also_heard run (subst (λ v. IsRun s start (v ∷ past) arrivals others also_heard) (sym same) other)
-          (All-tail IsAvailable reply replies well) (All-tail IsAvailable told others also_well) in
+      (All-tail IsAvailable reply replies well) (All-tail IsAvailable told others also_well) in
       (ap₂ (λ x xs. x ∷ xs) (answered ∙ ap (reply_at s start past) same ∙ sym also_answered) rest.0, rest.1)
 
 -- two runs of the same arrivals are one
