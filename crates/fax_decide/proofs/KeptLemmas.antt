@@ -18,7 +18,7 @@ use Rattle.fax_core.specs.declared.report.Outcome.{Outcome}
 use Rattle.fax_core.specs.Ageing.{aged}
 use Rattle.fax_core.specs.Best.{best}
 use Rattle.fax_core.specs.Change.{changed, decided, decided_with}
-use Rattle.fax_core.specs.Decisions.{JobAndGrant, call, grant, granted, is_over, new_job, outcome, page, submit}
+use Rattle.fax_core.specs.Decisions.{JobAndGrant, call, grant, is_over, new_job, outcome, page, submit}
 use Rattle.fax_core.specs.Fits.{fits}
 use Rattle.fax_core.specs.Import.{bring, brought, is_ended, old_job}
 use Rattle.fax_core.specs.Job.{Job, job_of}

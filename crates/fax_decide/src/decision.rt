@@ -26,10 +26,7 @@ pub enum Decision {
 }
 
 /// A request is taken for this effect, with that reply, if there is one.
-pub(crate) fn take(
-    effect: Effect,
-    reply: Result<Reply, Fault>,
-) -> Result<Decision, Fault>
+pub(crate) fn take(effect: Effect, reply: Result<Reply, Fault>) -> Result<Decision, Fault>
     ensures { MatchResult reply (λ reply. result ≡ Ok (Decision.Taken effect reply)) (λ fault. result ≡ Err fault) }
 {
     match reply {
