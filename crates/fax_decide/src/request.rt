@@ -30,6 +30,10 @@ use sqlite::Alter;
 use std::alloc::Global;
 
 /// What is decided of a request at `t`, by the rows that it is about.
+///
+/// # Errors
+///
+/// [`Fault`].
 pub fn decide<S: Alter>(
     store: &mut Store<S>,
     office: &Office,
@@ -44,7 +48,7 @@ pub fn decide<S: Alter>(
         → Means (shown S.Store store.old) m k → Serves (shown S.Store store.new)
         → meta.now ≡ meta_of m
         → IfOk result (Decides (step_of (settings_of office.now.setup office.now.controls) m t ask) m t) }
-    // Of a sound queue, a request that was read wants memory or the store alone.
+    // In a sound queue no rows are strange to a request that was read.
     ensures cause { (m : Queue) (k : Ledger) → Sound m
         → Means (shown S.Store store.old) m k → Serves (shown S.Store store.new)
         → meta.now ≡ meta_of m → IsRead ask → OnlyNoAnswer result }
