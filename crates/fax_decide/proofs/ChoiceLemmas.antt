@@ -347,7 +347,7 @@ module _ (asked : Asked) (m : Queue) (given : List Job) (j : Job) (page : List R
 -- ---- how many there are
 
 -- no more pass a test than there are
-pub few_pass : {X : Type 0} (p : X → Bool) (xs : List X) → length (filter p xs) ≤ length xs
+few_pass : {X : Type 0} (p : X → Bool) (xs : List X) → length (filter p xs) ≤ length xs
 few_pass p [] = omega arith
 few_pass p (x ∷ xs) = by (p x) (few_pass p xs)
   where

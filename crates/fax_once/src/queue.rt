@@ -195,12 +195,7 @@ impl<S: Alter> Queue<S> {
         }
     }
 
-    fn answer_ask(
-        &mut self,
-        alloc: Global,
-        arrival: &Arrival<'_>,
-        ask: Ask,
-    ) -> Result<Reply, Fault>
+    fn answer_ask(&mut self, alloc: Global, arrival: &Arrival<'_>, ask: Ask) -> Result<Reply, Fault>
         ensures leaves { Replies S.Store self.old self.new result }
         ensures seen { arrival.now.method ≡ Get → IsAsk arrival.now.method arrival.now.path.now arrival.now.body.now ask
             → Stays (tables S.Store self.old) (tables S.Store self.new) }
