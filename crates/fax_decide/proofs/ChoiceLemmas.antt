@@ -1,5 +1,5 @@
 -- Which job is the best: the first that may go among the waiting jobs in the order of the choice.
-use Rattle.std.proofs.Common.{◌≡◌, ◌⊎◌, inl, inr, ℕ, zero, suc, ◌+◌, ◌<◌, Bool, true, false, not, cond, ◌&&◌, ◌||◌, eqb, leb, ltb, All, List, [], ◌∷◌, ◌++◌, map, get_or, refl, sym, ap, ap₂, subst, ◌∙◌, arith, append_assoc}
+use Rattle.std.proofs.Common.{◌≡◌, ◌⊎◌, inl, inr, ℕ, zero, suc, ◌+◌, ◌<◌, ◌≤◌, Bool, true, false, not, cond, ◌&&◌, ◌||◌, eqb, leb, ltb, All, List, [], ◌∷◌, ◌++◌, length, map, get_or, refl, sym, ap, ap₂, subst, ◌∙◌, arith, append_assoc}
 use Rattle.std.specs.Prelude.{Option, Some, None, IsTrue, find, filter, is_some, nat_lt}
 use Rattle.std.specs.Str.{bytes_eq}
 use Rattle.std.specs.List.Sorted.{IsPermutation, IsSortedBy}
@@ -7,7 +7,8 @@ use Rattle.std.specs.Option.{option_map}
 use Rattle.std.proofs.lemmas.Bool.{and_parts, eqb-true, not-false, not-true, true≢false}
 use Rattle.std.proofs.lemmas.Option.{none-some, same_Some}
 use Rattle.std.proofs.lemmas.Bool.Decides.{nat_tests}
-use Rattle.std.proofs.lemmas.List.Sorted.{IsPermutation-sym, All-permutation}
+use Rattle.std.proofs.lemmas.List.{length-append}
+use Rattle.std.proofs.lemmas.List.Sorted.{IsPermutation-sym, All-permutation, length_permutation}
 use Rattle.std.proofs.lemmas.Slice.Eq.{bytes_eq-Decides}
 use Rattle.fax_job.specs.Status.{kill_time_expired}
 use Rattle.fax_job.specs.declared.job.JobFields.{JobFields}
@@ -285,6 +286,18 @@ module _ (s : Settings) (m : Queue) (t : ℕ) (modem : List ℕ) (sound : Sound 
           ap (λ (f : JobFields). Some (job_of f)) same ∙ ap (λ (x : Job). Some x) (job_again j (in_all IsLawfulJob m.jobs j lawful there).pages)
           ∙ sym e ∙ first_waiting s m t modem first.0 sound first.1
 
+  -- where the first has a number, its job is there
+  pub first_there : (n : ℕ) → IsFirst s m t modem (Some n) → None ≡ option_map fields_of (job_numbered n m) → ⊥
+  first_there n first none = by (find (may_go s m t modem) first.0) refl
+    where
+      by : (o : Option Job) → find (may_go s m t modem) first.0 ≡ o → ⊥
+      by None e = none-some n (sym (first.2 ∙ ap (option_map number_of) e))
+      by (Some j) e =
+          let there = (waiting_due m t first.0 first.1 j (found_in (may_go s m t modem) first.0 j e)).0 in
+          let numbered : n ≡ j.number = same_Some n j.number (first.2 ∙ ap (option_map number_of) e) in
+          let found : job_numbered n m ≡ Some j = ap (λ (i : ℕ). job_numbered i m) numbered ∙ in_found number_of 1 m.jobs j sound.jobs there in
+          none-some (fields_of j) (none ∙ ap (option_map fields_of) found)
+
   -- where there is none, no job may go
   pub none_best : IsFirst s m t modem None → None ≡ best s (aged t m) t modem
   none_best first = by (find (may_go s m t modem) first.0) refl
@@ -295,15 +308,15 @@ module _ (s : Settings) (m : Queue) (t : ℕ) (modem : List ℕ) (sound : Sound 
 
 -- ---- candidates
 
--- the candidates that were given so far, none of which may go
-abbrev pub NoneWent : (Job → Bool) → Asked → Queue → List Row → Front → ℕ → Type 0
-NoneWent p asked m page front most = (given : List Job) × StandsAt asked m given page front most × (find p given ≡ None)
+-- that many candidates were given so far, none of which may go
+abbrev pub NoneWent : (Job → Bool) → ℕ → Asked → Queue → List Row → Front → ℕ → Type 0
+NoneWent p count asked m page front most = (given : List Job) × StandsAt asked m given page front most × (find p given ≡ None) × (length given ≡ count)
 
 -- what is given next
-pub next_given : (p : Job → Bool) (asked now : Asked) (m : Queue) (page after : List Row) (front then : Front) (most more : ℕ) (o : Option Prospect) → now ≡ asked → NoneWent p asked m page front most
-    → ((given : List Job) → StandsAt now m given page front most → Gives IsProspect now m given after then more o) → (given : List Job) × Gives IsProspect asked m given after then more o × (find p given ≡ None)
-next_given p asked now m page after front then most more o same none next =
-    (none.0, subst (λ (x : Asked). Gives IsProspect x m none.0 after then more o) same (next none.0 (subst (λ (x : Asked). StandsAt x m none.0 page front most) (sym same) none.1)), none.2)
+pub next_given : (p : Job → Bool) (count : ℕ) (asked now : Asked) (m : Queue) (page after : List Row) (front then : Front) (most more : ℕ) (o : Option Prospect) → now ≡ asked → NoneWent p count asked m page front most
+    → ((given : List Job) → StandsAt now m given page front most → Gives IsProspect now m given after then more o) → (given : List Job) × Gives IsProspect asked m given after then more o × (find p given ≡ None) × (length given ≡ count)
+next_given p count asked now m page after front then most more o same none next =
+    (none.0, subst (λ (x : Asked). Gives IsProspect x m none.0 after then more o) same (next none.0 (subst (λ (x : Asked). StandsAt x m none.0 page front most) (sym same) none.1)), none.2, none.3)
 
 -- each that is asked for waits, so it is due
 asked_due : (asked : Asked) (m : Queue) (jobs : List Job) (j : Job) → AreAsked asked m jobs → In j jobs → is_due j asked.t ≡ true
@@ -330,6 +343,30 @@ module _ (asked : Asked) (m : Queue) (given : List Job) (j : Job) (page : List R
   pub went : (s : Settings) (modem : List ℕ) → find (may_go s m asked.t modem) given ≡ None → may_go s m asked.t modem j ≡ true → IsFirstAsked s asked m modem (Some j.number)
   went s modem none passes =
       (h.all, h.waiting, ap (option_map number_of) (sym (ap (find (may_go s m asked.t modem)) amid ∙ found_next (may_go s m asked.t modem) given rest j none passes)))
+
+-- ---- how many there are
+
+-- no more pass a test than there are
+few_pass : {X : Type 0} (p : X → Bool) (xs : List X) → length (filter p xs) ≤ length xs
+few_pass p [] = omega arith
+few_pass p (x ∷ xs) = by (p x) (few_pass p xs)
+  where
+    by : (b : Bool) → length (filter p xs) ≤ length xs → length (cond b (x ∷ filter p xs) (filter p xs)) ≤ suc (length xs)
+    by true few = omega (arith, few)
+    by false few = omega (arith, few)
+
+-- no more candidates are given than the queue has jobs
+pub few_given : (asked : Asked) (m : Queue) (given : List Job) (page : List Row) (front : Front) (most : ℕ) → StandsAt asked m given page front most → length given ≤ length m.jobs
+few_given asked m given page front most h =
+    let w = h.waiting in
+    let rest = h.read ++ filter (is_behind front) h.all in
+    let due = filter (λ (j : Job). is_due j asked.t) m.jobs in
+    let all : length h.all ≡ length given + length rest = ap (λ (js : List Job). length js) h.parts ∙ length-append given rest in
+    let others : length h.all ≡ length (filter (is_other asked.but) w.all) = ap (λ (js : List Job). length js) w.is in
+    let fewer : length (filter (is_other asked.but) w.all) ≤ length w.all = few_pass (is_other asked.but) w.all in
+    let same : length w.all ≡ length due = length_permutation due w.all w.waiting.due in
+    let waiting : length due ≤ length m.jobs = few_pass (λ (j : Job). is_due j asked.t) m.jobs in
+    omega (arith, all, others, fewer, same, waiting)
 
 -- ---- those to a busy number are passed over
 

@@ -1,6 +1,6 @@
 -- What is decided, where there is a reply.
 use Rattle.std.proofs.Common.{◌≡◌, ℕ, false, Ok, Err, refl, sym, ap, subst, ◌∙◌}
-use Rattle.std.specs.Prelude.{Result, IfOk, IsErr, IsOk, MatchResult}
+use Rattle.std.specs.Prelude.{Result, IfOk, IsOk, MatchResult}
 use Rattle.fax_job.specs.declared.refusal.Refusal.{Refusal}
 use Rattle.fax_job.specs.declared.refusal.Refusal.TheVariants.{PageOrder}
 use Rattle.fax_ask.specs.Detail.{has_detail}
@@ -12,20 +12,40 @@ use Rattle.fax_core.specs.Queue.{Queue}
 use Rattle.fax_core.specs.Reply as machine
 use Rattle.fax_core.specs.Reply.{Step}
 use Rattle.fax_decide.specs.Decision.{Decides, IsRefused}
+use Rattle.fax_decide.specs.Fault.{OnlyNoAnswer, OrNoAnswer}
 use Rattle.fax_decide.specs.declared.decision.Decision.{Decision}
 use Rattle.fax_decide.specs.declared.decision.Decision.TheVariants.{Refused}
+use Rattle.fax_decide.specs.declared.fault.Fault.{Fault}
+use Rattle.fax_decide.proofs.FaultLemmas.{if_answered}
 
 -- the decision is the step, where it is by the reply that there is
-pub decided_by : {E F : Type 0} (decision : Response → Decision) (told : Response) (step : Step) (m : Queue) (t : ℕ) (reply : Result Response E) (result : Result Decision F)
-    → MatchResult reply (λ r. result ≡ Ok (decision r)) (λ _. IsErr result) → IfOk reply (λ r. r ≡ told) → (IsOk reply → Decides step m t (decision told))
+pub decided_by : (decision : Response → Decision) (told : Response) (step : Step) (m : Queue) (t : ℕ) (reply : Result Response Fault) (result : Result Decision Fault)
+    → MatchResult reply (λ r. result ≡ Ok (decision r)) (λ e. result ≡ Err e) → IfOk reply (λ r. r ≡ told) → (IsOk reply → Decides step m t (decision told))
     → IfOk result (Decides step m t)
 decided_by decision told step m t (Ok r) result is same holds = subst (λ d. IfOk d (Decides step m t)) (sym (is ∙ ap (λ (x : Response). Ok (decision x)) same)) (holds refl)
-decided_by decision told step m t (Err e) (Ok d) is same holds = absurd (let no = is in cc)
-decided_by decision told step m t (Err e) (Err f) is same holds = _
+decided_by decision told step m t (Err e) result is same holds = subst (λ d. IfOk d (Decides step m t)) (sym is) tt
+
+-- the same where memory or the store alone may leave none
+pub decided_or : (decision : Response → Decision) (told : Response) (step : Step) (m : Queue) (t : ℕ) (reply : Result Response Fault) (result : Result Decision Fault)
+    → MatchResult reply (λ r. result ≡ Ok (decision r)) (λ e. result ≡ Err e) → OrNoAnswer reply (λ r. r ≡ told) → (IsOk reply → Decides step m t (decision told))
+    → OrNoAnswer result (Decides step m t)
+decided_or decision told step m t (Ok r) result is same holds = subst (λ d. OrNoAnswer d (Decides step m t)) (sym (is ∙ ap (λ (x : Response). Ok (decision x)) same)) (holds refl)
+decided_or decision told step m t (Err e) result is why holds = subst (λ d. OrNoAnswer d (Decides step m t)) (sym is) why
+
+pub decided_of : (decision : Response → Decision) (told : Response) (step : Step) (m : Queue) (t : ℕ) (reply : Result Response Fault) (result : Result Decision Fault)
+    → MatchResult reply (λ r. result ≡ Ok (decision r)) (λ e. result ≡ Err e) → OrNoAnswer reply (λ r. r ≡ told) → (IsOk reply → Decides step m t (decision told))
+    → IfOk result (Decides step m t)
+decided_of decision told step m t reply result is same holds = if_answered result (Decides step m t) (decided_or decision told step m t reply result is same holds)
+
+-- there is none for want of what the reply wants
+pub wants_reply : (decision : Response → Decision) (reply : Result Response Fault) (result : Result Decision Fault)
+    → MatchResult reply (λ r. result ≡ Ok (decision r)) (λ e. result ≡ Err e) → OnlyNoAnswer reply → OnlyNoAnswer result
+wants_reply decision (Ok r) result is why = subst (λ d. OnlyNoAnswer d) (sym is) tt
+wants_reply decision (Err e) result is why = subst (λ d. OnlyNoAnswer d) (sym is) why
 
 -- there is a decision where there is a reply
-pub decided_where : {E F : Type 0} (decision : Response → Decision) (reply : Result Response E) (result : Result Decision F)
-    → MatchResult reply (λ r. result ≡ Ok (decision r)) (λ _. IsErr result) → IsOk reply → IsOk result
+pub decided_where : (decision : Response → Decision) (reply : Result Response Fault) (result : Result Decision Fault)
+    → MatchResult reply (λ r. result ≡ Ok (decision r)) (λ e. result ≡ Err e) → IsOk reply → IsOk result
 decided_where decision (Ok r) result is ok = subst (λ d. IsOk d) (sym is) refl
 decided_where decision (Err e) result is ok = absurd (let no = ok in cc)
 

@@ -134,6 +134,18 @@ held_there m modem g sound is =
     let open' = found_in (λ (x : Grant). bytes_eq x.modem modem) (open_grants m) g is in
     in_found (λ (x : Grant). x.number) 1 m.grants g sound.grants (of_filter (λ (x : Grant). x.is_open) m.grants g open').0
 
+module _ (m : Queue) (modem : List ℕ) (g : Grant) (hold : Hold) (sound : Sound m) (held : held_by modem m ≡ Some g) (is : hold ≡ as_hold g) where
+  -- a hold has its grant
+  pub hold_has_grant : None ≡ grant_numbered hold.grant m → ⊥
+  hold_has_grant none = none-some g (none ∙ ap (λ (x : Hold). grant_numbered x.grant m) is ∙ held_there m modem g sound held)
+
+  -- and its job
+  pub hold_has_job : None ≡ option_map (λ j. brief (fields_of j)) (job_numbered hold.job m) → ⊥
+  hold_has_job none =
+      let open' = found_in (λ (x : Grant). bytes_eq x.modem modem) (open_grants m) g held in
+      let job = sound.held g.number g (held_there m modem g sound held, (of_filter (λ (x : Grant). x.is_open) m.grants g open').1) in
+      none-some (brief (fields_of job.0)) (none ∙ ap (λ (x : Hold). option_map (λ j. brief (fields_of j)) (job_numbered x.job m)) is ∙ ap (option_map (λ j. brief (fields_of j))) job.1)
+
 -- the number that is dialed doesn't age
 dialed : (t : ℕ) (f : JobFields) (o : Option Job) → Some f ≡ option_map (λ j. brief (fields_of j)) o → dial_of (option_map (aged_job t) o) ≡ f.dial
 dialed t f None e = absurd (none-some f (sym e))

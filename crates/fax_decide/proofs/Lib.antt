@@ -1,4 +1,5 @@
 pub mod WorkLemmas
+pub mod FaultLemmas
 mod DecisionLemmas
 mod LinesLemmas
 mod RecordLemmas
@@ -11,6 +12,7 @@ mod ReportLemmas
 mod PlacedLemmas
 mod ChoiceLemmas
 mod GivenLemmas
+mod KeptLemmas
 mod PlainLemmas
 mod ImportLemmas
 pub mod OpenLemmas

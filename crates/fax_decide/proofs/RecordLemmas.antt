@@ -1,7 +1,6 @@
 -- Jobs and grants of a queue, as the store finds them.
 use Rattle.std.proofs.Common.{◌≡◌, inl, inr, ℕ, suc, ◌<◌, ◌≤◌, ◌==◌, ◌&&◌, Bool, true, false, All, List, [], ◌∷◌, Option, Some, None, find, refl, sym, ap, subst, ◌∙◌, arith}
 use Rattle.std.specs.Option.{option_map}
-use Rattle.std.specs.Prelude.{Result, Ok, Err, MatchResult, IfOk}
 use Rattle.std.proofs.lemmas.Bool.{cases_Bool, and_parts, leb-true, eqb-true}
 use Rattle.fax_job.specs.Pair.{Pair}
 use Rattle.fax_job.specs.declared.job.JobFields.{JobFields}
@@ -118,10 +117,3 @@ pub found_itself : (m : Queue) (n : ℕ) (f : JobFields) (found : Option JobFiel
 found_itself m n f found is one =
     let there : job_numbered n m ≡ Some (job_in m f) = sym is ∙ ap (option_map (job_in m)) one in
     subst (λ (a : ℕ). job_numbered a m ≡ Some (job_in m f)) (sym (numbered_job m n (job_in m f) there)) there
-
--- ---- what is had where a call succeeds
-
--- what is had where a call succeeds or is refused is had where it succeeds
-pub if_ok : {A E : Type 0} (r : Result A E) (P : A → Type 0) (Q : E → Type 0) → MatchResult r P Q → IfOk r P
-if_ok (Ok x) P Q h = h
-if_ok (Err e) P Q h = _

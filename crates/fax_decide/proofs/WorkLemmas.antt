@@ -1,5 +1,5 @@
 -- What calls of a work make of the queue, one after the other.
-use Rattle.std.proofs.Common.{◌≡◌, Bool, true, List, Err, Ok, Result, IsErr, MatchResult, sym, ◌∙◌}
+use Rattle.std.proofs.Common.{◌≡◌, Bool, true, Err, Ok, Result, IsErr, MatchResult, sym, ◌∙◌}
 use Rattle.sqlite.specs.State.{State}
 use Rattle.fax_core.specs.Ledger.{Ledger}
 use Rattle.fax_core.specs.Queue.{Queue}

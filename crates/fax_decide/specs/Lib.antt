@@ -1,3 +1,5 @@
+pub mod Fault
+pub mod Read
 pub mod Choice
 pub mod Settings
 pub mod State

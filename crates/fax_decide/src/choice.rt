@@ -18,6 +18,7 @@ ghost use Rattle.fax_core.specs.Reply.{HeldGrant};
 ghost use Rattle.fax_core.specs.Sound.{Sound};
 ghost use Rattle.fax_core.specs.State.{calls_to};
 ghost use Rattle.fax_core.specs.declared.grants.Grant.{Grant as OneGrant};
+ghost use Rattle.fax_job.specs.declared.job.Phase.TheVariants.{Waiting};
 ghost use Rattle.fax_job.specs.declared.refusal.Refusal.TheVariants.{ModemBusy};
 ghost use Rattle.fax_tables.specs.Grant.{as_hold};
 ghost use Rattle.fax_store.specs.Calls.{Looks, shown};
@@ -26,12 +27,14 @@ ghost use Rattle.fax_store.specs.Store.{Means, Serves, StaysOpen};
 ghost use Rattle.fax_dest.specs.Setup.{admits};
 ghost use Rattle.fax_decide.specs.Choice.{IsBusy, IsFirst, IsFirstAsked};
 ghost use Rattle.fax_decide.specs.Decision.{Decides};
+ghost use Rattle.fax_decide.specs.Fault.{OnlyNoAnswer, OrNoAnswer};
+ghost use Rattle.fax_decide.specs.Records.{KeepsRecord};
 ghost use Rattle.fax_decide.specs.Settings.{settings_of};
 ghost use Rattle.fax_decide.specs.State.{may_call};
 
-use crate::decision::{Decision, answered, refuse, take};
+use crate::decision::{Decision, answered, applied, refuse, take};
 use crate::effect::Effect;
-use crate::fault::Unavailable;
+use crate::fault::Fault;
 use crate::office::Office;
 use fax_ask::{Answer, Detail, Handed, Reply};
 use fax_core::{Change, Grant, fits, grant};
@@ -50,12 +53,12 @@ pub(crate) fn decide_next<S: Alter>(
     modem: Name,
     next_grant: u32,
     t: Moment,
-) -> Result<Decision, Unavailable>
+) -> Result<Decision, Fault>
     ensures leaves { Looks S.Store store.old store.new }
     ensures opens { OnOk result (StaysOpen (shown S.Store store.old) (shown S.Store store.new)) }
     ensures decided { (m : Queue) (k : Ledger) → Sound m → Means (shown S.Store store.old) m k
         → Serves (shown S.Store store.new) → next_grant ≡ m.next_grant
-        → IfOk result (Decides
+        → OrNoAnswer result (Decides
         (given_to (settings_of office.now.setup office.now.controls) (aged t m) t modem) m t) }
 {
     if !office.setup.has_modem(modem.as_str()) {
@@ -72,28 +75,28 @@ pub(crate) fn decide_next<S: Alter>(
 
 /// The reply to a modem that holds a grant: it is told which. Where the grant or its job isn't there, as in no
 /// sound queue, there is none.
-fn busy<S: Alter>(store: &mut Store<S>, alloc: Global, hold: Hold) -> Result<Reply, Unavailable>
+fn busy<S: Alter>(store: &mut Store<S>, alloc: Global, hold: Hold) -> Result<Reply, Fault>
     ensures leaves { Looks S.Store store.old store.new }
     ensures opens { OnOk result (StaysOpen (shown S.Store store.old) (shown S.Store store.new)) }
     ensures decided { (m : Queue) (k : Ledger) (t : ℕ) (modem : List ℕ) (g : OneGrant) → Sound m
         → Means (shown S.Store store.old) m k → Serves (shown S.Store store.new)
         → held_by modem m ≡ Some g → hold ≡ as_hold g
-        → IfOk result (λ reply. reply
+        → OrNoAnswer result (λ reply. reply
         ≡ refused_response ModemBusy (HeldGrant (is_some g.call) (handed g (aged t m)))) }
 {
     let Some(grant) = store.grant(hold.grant)? else {
-        return Err(Unavailable);
+        return Err(Fault::Strange);
     };
     let Some(job) = store.brief(hold.job)? else {
-        return Err(Unavailable);
+        return Err(Fault::Strange);
     };
     held(alloc, &grant, &job)
 }
 
 /// The reply that tells which grant of a job is held.
-fn held(alloc: Global, grant: &Grant, job: &Job) -> Result<Reply, Unavailable>
+fn held(alloc: Global, grant: &Grant, job: &Job) -> Result<Reply, Fault>
     ensures { (m : Queue) → dial_of (job_numbered grant.now.job m) ≡ job.now.dial
-        → IfOk result (λ reply. reply
+        → OrNoAnswer result (λ reply. reply
         ≡ refused_response ModemBusy (HeldGrant (is_some grant.now.call) (handed grant.now m))) }
 {
     let detail = Detail::Held {
@@ -111,12 +114,12 @@ fn decide_free<S: Alter>(
     modem: Name,
     next_grant: u32,
     t: Moment,
-) -> Result<Decision, Unavailable>
+) -> Result<Decision, Fault>
     ensures leaves { Looks S.Store store.old store.new }
     ensures opens { OnOk result (StaysOpen (shown S.Store store.old) (shown S.Store store.new)) }
     ensures decided { (m : Queue) (k : Ledger) → Sound m → Means (shown S.Store store.old) m k
         → Serves (shown S.Store store.new) → next_grant ≡ m.next_grant
-        → IfOk result (Decides (given_best (settings_of office.now.setup office.now.controls) (aged t m) modem
+        → OrNoAnswer result (Decides (given_best (settings_of office.now.setup office.now.controls) (aged t m) modem
         (best (settings_of office.now.setup office.now.controls) (aged t m) t modem)) m t) }
 {
     match best(store, office, alloc, &modem, t)? {
@@ -132,12 +135,12 @@ fn best<S: Alter>(
     alloc: Global,
     modem: &Name,
     t: Moment,
-) -> Result<Option<Job>, Unavailable>
+) -> Result<Option<Job>, Fault>
     ensures leaves { Looks S.Store store.old store.new }
     ensures opens { OnOk result (StaysOpen (shown S.Store store.old) (shown S.Store store.new)) }
     ensures found { (m : Queue) (k : Ledger) → Sound m → Means (shown S.Store store.old) m k
         → Serves (shown S.Store store.new)
-        → IfOk result (λ found. option_map (λ f. job_of f) found
+        → OrNoAnswer result (λ found. option_map (λ f. job_of f) found
         ≡ best (settings_of office.now.setup office.now.controls) (aged t m) t modem.now) }
 {
     let Some(number) = first(store, office, alloc, modem, t)? else {
@@ -145,7 +148,7 @@ fn best<S: Alter>(
     };
     match store.job(number)? {
         Some(job) => Ok(Some(job)),
-        None => Err(Unavailable),
+        None => Err(Fault::Strange),
     }
 }
 
@@ -157,12 +160,14 @@ fn first<S: Alter>(
     alloc: Global,
     modem: &Name,
     t: Moment,
-) -> Result<Option<u32>, Unavailable>
+) -> Result<Option<u32>, Fault>
     ensures leaves { Looks S.Store store.old store.new }
     ensures opens { OnOk result (StaysOpen (shown S.Store store.old) (shown S.Store store.new)) }
     ensures found { (m : Queue) (k : Ledger) → Means (shown S.Store store.old) m k
         → Serves (shown S.Store store.new)
         → IfOk result (IsFirst (settings_of office.now.setup office.now.controls) m t modem.now) }
+    ensures cause { (m : Queue) (k : Ledger) → Sound m → Means (shown S.Store store.old) m k
+        → Serves (shown S.Store store.new) → OnlyNoAnswer result }
 {
     let mut busy = None;
     let found = first_or_busy(store, office, alloc, &mut busy, modem, t)?;
@@ -181,7 +186,7 @@ fn first_or_busy<S: Alter>(
     busy: &mut Option<Dial>,
     modem: &Name,
     t: Moment,
-) -> Result<Option<u32>, Unavailable>
+) -> Result<Option<u32>, Fault>
     ensures leaves { Looks S.Store store.old store.new }
     ensures opens { OnOk result (StaysOpen (shown S.Store store.old) (shown S.Store store.new)) }
     ensures found { (m : Queue) (k : Ledger) → Means (shown S.Store store.old) m k
@@ -189,6 +194,9 @@ fn first_or_busy<S: Alter>(
         → IsBusy (settings_of office.now.setup office.now.controls) m t busy.old
         → IfOk result (λ found. IsBusy (settings_of office.now.setup office.now.controls) m t busy.new
         × (busy.new ≡ None → IsFirst (settings_of office.now.setup office.now.controls) m t modem.now found)) }
+    ensures cause { (m : Queue) (k : Ledger) → Sound m → Means (shown S.Store store.old) m k
+        → Serves (shown S.Store store.new)
+        → IsBusy (settings_of office.now.setup office.now.controls) m t busy.old → OnlyNoAnswer result }
 {
     let mut candidates = store.candidates(t);
     first_of(&mut candidates, office, alloc, busy, true, modem, t)
@@ -202,13 +210,16 @@ fn first_but<S: Alter>(
     busy: Dial,
     modem: &Name,
     t: Moment,
-) -> Result<Option<u32>, Unavailable>
+) -> Result<Option<u32>, Fault>
     ensures leaves { Looks S.Store store.old store.new }
     ensures opens { OnOk result (StaysOpen (shown S.Store store.old) (shown S.Store store.new)) }
     ensures found { (m : Queue) (k : Ledger) → Means (shown S.Store store.old) m k
         → Serves (shown S.Store store.new)
         → IsBusy (settings_of office.now.setup office.now.controls) m t (Some busy)
         → IfOk result (IsFirst (settings_of office.now.setup office.now.controls) m t modem.now) }
+    ensures cause { (m : Queue) (k : Ledger) → Sound m → Means (shown S.Store store.old) m k
+        → Serves (shown S.Store store.new)
+        → IsBusy (settings_of office.now.setup office.now.controls) m t (Some busy) → OnlyNoAnswer result }
 {
     let mut other = None;
     let mut candidates = store.candidates_but(t, busy);
@@ -225,7 +236,7 @@ fn first_of<S: Alter>(
     ends_at_busy: bool,
     modem: &Name,
     t: Moment,
-) -> Result<Option<u32>, Unavailable>
+) -> Result<Option<u32>, Fault>
     ensures same_reference { candidates.new.store.ghost_name ≡ candidates.old.store.ghost_name }
     ensures leaves { Looks S.Store candidates.old.store.now candidates.new.store.now }
     ensures opens { OnOk result (StaysOpen (shown S.Store candidates.old.store.now) (shown S.Store candidates.new.store.now)) }
@@ -236,8 +247,12 @@ fn first_of<S: Alter>(
         → IfOk result (λ found. IsBusy (settings_of office.now.setup office.now.controls) m t busy.new
         × ((IsTrue ends_at_busy → busy.new ≡ None)
         → IsFirstAsked (settings_of office.now.setup office.now.controls) candidates.old.asked m modem.now found)) }
+    ensures cause { (m : Queue) (k : Ledger) → Sound m → Means (shown S.Store candidates.old.store.now) m k
+        → Serves (shown S.Store candidates.new.store.now) → candidates.old.asked.t ≡ t
+        → StandsAt candidates.old.asked m [] (into_iter_items candidates.old.page) candidates.old.front candidates.old.most
+        → IsBusy (settings_of office.now.setup office.now.controls) m t busy.old → OnlyNoAnswer result }
 {
-    // Each job has a number of its own, so no queue has more.
+    // Each job has a number of its own, so no sound queue has more.
     for _ in 0..LAST_JOB + 1 {
         let Some(prospect) = candidates.prospect()? else {
             return Ok(None);
@@ -250,7 +265,7 @@ fn first_of<S: Alter>(
             return Ok(None);
         }
     }
-    Err(Unavailable)
+    Err(Fault::Strange)
 }
 
 /// Whether a job that is due may go to the modem at `t`: a call to its number may begin, and its modem value admits the
@@ -264,7 +279,7 @@ fn goes<S: Alter>(
     busy: &mut Option<Dial>,
     modem: &Name,
     t: Moment,
-) -> Result<bool, Unavailable>
+) -> Result<bool, Fault>
     ensures same_reference { candidates.new.store.ghost_name ≡ candidates.old.store.ghost_name }
     ensures leaves { Looks S.Store candidates.old.store.now candidates.new.store.now }
     ensures opens { OnOk result (StaysOpen (shown S.Store candidates.old.store.now) (shown S.Store candidates.new.store.now)) }
@@ -273,7 +288,7 @@ fn goes<S: Alter>(
     ensures told { (m : Queue) (k : Ledger) → Means (shown S.Store candidates.old.store.now) m k
         → Serves (shown S.Store candidates.new.store.now)
         → IsBusy (settings_of office.now.setup office.now.controls) m t busy.old
-        → IfOk result (λ goes. (goes ≡ (may_call (settings_of office.now.setup office.now.controls) prospect.dial
+        → OrNoAnswer result (λ goes. (goes ≡ (may_call (settings_of office.now.setup office.now.controls) prospect.dial
         (calls_to prospect.dial m) t && admits office.now.setup prospect.modem modem.now))
         × IsBusy (settings_of office.now.setup office.now.controls) m t busy.new) }
 {
@@ -313,14 +328,16 @@ fn give(
     job: Job,
     modem: Name,
     next_grant: u32,
-) -> Result<Decision, Unavailable>
+) -> Result<Decision, Fault>
     ensures decided { (m : Queue) (t : ℕ) → Sound m → job_numbered job.job (aged t m) ≡ Some (job_of job)
         → next_grant ≡ m.next_grant → IfOk result (Decides
         (given (aged t m) (granted_if (job_of job) modem next_grant office.now.setup.max_grants)) m t) }
+    ensures cause { (m : Queue) (t : ℕ) → Sound m → job_numbered job.job (aged t m) ≡ Some (job_of job)
+        → job.phase ≡ Waiting → OnlyNoAnswer result }
     ensures misfit { fits job None ≡ false → IsErr result }
 {
     if !fits(&job, None) {
-        return Err(Unavailable);
+        return Err(Fault::Strange);
     }
     match grant(&job, next_grant, office.setup.max_grants()) {
         Ok(change) => {
@@ -332,14 +349,13 @@ fn give(
 }
 
 /// The job is changed, and the modem is told of its grant.
-fn given(alloc: Global, job: Job, change: Change, grant: Grant) -> Result<Decision, Unavailable>
-    ensures { (m : Queue) (t : ℕ) → Sound m → job_numbered job.job (aged t m) ≡ Some (job_of job)
+fn given(alloc: Global, job: Job, change: Change, grant: Grant) -> Result<Decision, Fault>
+    ensures decided { (m : Queue) (t : ℕ) → Sound m → job_numbered job.job (aged t m) ≡ Some (job_of job)
         → grant.job ≡ job.job → grant.number ≡ m.next_grant
         → IfOk result (Decides (given (aged t m) (decided_with grant (job_of job) (Ok change))) m t) }
+    ensures cause { KeepsRecord change job → OnlyNoAnswer result }
 {
-    let Ok(job) = change.applied_to(job) else {
-        return Err(Unavailable);
-    };
+    let job = applied(change, job)?;
     let reply = answered(alloc, &Answer::Given(handed(&grant, &job)));
     take(Effect::NewGrant { job, grant }, reply)
 }

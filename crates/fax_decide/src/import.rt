@@ -18,11 +18,13 @@ ghost use Rattle.fax_tables.specs.Meta.{meta_of};
 ghost use Rattle.fax_store.specs.Calls.{Looks, shown};
 ghost use Rattle.fax_store.specs.Store.{Means, Serves, StaysOpen};
 ghost use Rattle.fax_decide.specs.Decision.{Decides};
+ghost use Rattle.fax_decide.specs.Fault.{OnlyNoAnswer, OrNoAnswer};
+ghost use Rattle.fax_decide.specs.Read.{IsReadImport};
 ghost use Rattle.fax_decide.specs.Settings.{machine_rule, rule_for, settings_of};
 
 use crate::decision::{Decision, answered, refuse, take};
 use crate::effect::Effect;
-use crate::fault::Unavailable;
+use crate::fault::Fault;
 use crate::office::Office;
 use crate::state::state_of;
 use crate::submission::refused;
@@ -41,7 +43,7 @@ pub(crate) fn decide_import<S: Alter>(
     import: Import,
     meta: &Meta,
     t: Moment,
-) -> Result<Decision, Unavailable>
+) -> Result<Decision, Fault>
     ensures leaves { Looks S.Store store.old store.new }
     ensures opens { OnOk result (StaysOpen (shown S.Store store.old) (shown S.Store store.new)) }
     ensures decided { (m : Queue) (k : Ledger) → Sound m → Means (shown S.Store store.old) m k
@@ -50,6 +52,8 @@ pub(crate) fn decide_import<S: Alter>(
         (machine_rule office.now.setup (rule_for office.now.controls import.order.dial))
         (bring import (machine_rule office.now.setup (rule_for office.now.controls import.order.dial))
         m.next_job office.now.setup.max_jobs t)) m t) }
+    ensures cause { (m : Queue) (k : Ledger) → Sound m → Means (shown S.Store store.old) m k
+        → Serves (shown S.Store store.new) → meta.now ≡ meta_of m → IsReadImport import → OnlyNoAnswer result }
 {
     let rule = office.rule_of(alloc, &import.order.dial)?;
     match bring(import, rule, meta.next_job, office.setup.max_jobs(), t) {
@@ -66,12 +70,12 @@ fn brought<S: Alter>(
     job: Job,
     meta: Meta,
     t: Moment,
-) -> Result<Decision, Unavailable>
+) -> Result<Decision, Fault>
     ensures leaves { Looks S.Store store.old store.new }
     ensures opens { OnOk result (StaysOpen (shown S.Store store.old) (shown S.Store store.new)) }
     ensures decided { (m : Queue) (k : Ledger) (rule : MachineRule) → Sound m
         → Means (shown S.Store store.old) m k → Serves (shown S.Store store.new)
-        → meta ≡ meta_of m → job.job ≡ m.next_job → IfOk result (Decides
+        → meta ≡ meta_of m → job.job ≡ m.next_job → OrNoAnswer result (Decides
         (brought_in (settings_of office.now.setup office.now.controls) (aged t m) t rule (Ok (job_of job))) m t) }
 {
     let reply = told(store, office, alloc, &job, t);
@@ -85,11 +89,11 @@ fn told<S: Alter>(
     alloc: Global,
     job: &Job,
     t: Moment,
-) -> Result<Reply, Unavailable>
+) -> Result<Reply, Fault>
     ensures leaves { Looks S.Store store.old store.new }
     ensures opens { OnOk result (StaysOpen (shown S.Store store.old) (shown S.Store store.new)) }
     ensures told { (m : Queue) (k : Ledger) → Means (shown S.Store store.old) m k
-        → Serves (shown S.Store store.new) → IfOk result (λ reply. reply ≡ accepted_response
+        → Serves (shown S.Store store.new) → OrNoAnswer result (λ reply. reply ≡ accepted_response
         (Replied (Brought job.now.job
         (job_state (settings_of office.now.setup office.now.controls) m t (job_of job.now))))) }
 {

@@ -15,13 +15,15 @@ ghost use Rattle.fax_core.specs.State.{state as job_state};
 ghost use Rattle.fax_store.specs.Calls.{Looks, shown};
 ghost use Rattle.fax_store.specs.Store.{Means, Serves, StaysOpen};
 ghost use Rattle.fax_decide.specs.Decision.{Decides};
+ghost use Rattle.fax_decide.specs.Fault.{OnlyNoAnswer, OrNoAnswer};
 ghost use Rattle.fax_decide.specs.JobAsk.{decision_on};
-ghost use Rattle.fax_decide.specs.Records.{job_in};
+ghost use Rattle.fax_decide.specs.Read.{IsReadOn};
+ghost use Rattle.fax_decide.specs.Records.{KeepsRecord, job_in};
 ghost use Rattle.fax_decide.specs.Settings.{settings_of};
 
-use crate::decision::{Decision, answered, refuse, take};
+use crate::decision::{Decision, answered, applied, take};
 use crate::effect::Effect;
-use crate::fault::Unavailable;
+use crate::fault::Fault;
 use crate::office::Office;
 use crate::records::brief_at;
 use crate::state::state_of;
@@ -63,13 +65,15 @@ pub(crate) fn decide_on_job<S: Alter>(
     number: u64,
     ask: JobAsk,
     t: Moment,
-) -> Result<Decision, Unavailable>
+) -> Result<Decision, Fault>
     ensures leaves { Looks S.Store store.old store.new }
     ensures opens { OnOk result (StaysOpen (shown S.Store store.old) (shown S.Store store.new)) }
     ensures decided { (m : Queue) (k : Ledger) → Means (shown S.Store store.old) m k
         → Serves (shown S.Store store.new)
         → IfOk result (Decides (on_job (settings_of office.now.setup office.now.controls) (aged t m) t
         (decision_on ask t) (job_numbered number (aged t m))) m t) }
+    ensures cause { (m : Queue) (k : Ledger) → Means (shown S.Store store.old) m k
+        → Serves (shown S.Store store.new) → IsReadOn ask → OnlyNoAnswer result }
 {
     let Some(job) = brief_at(store, number, t)? else {
         return Ok(Decision::Refused(Reply::refused(Refusal::NoJob)));
@@ -88,17 +92,17 @@ fn changed<S: Alter>(
     job: Job,
     change: Change,
     t: Moment,
-) -> Result<Decision, Unavailable>
+) -> Result<Decision, Fault>
     ensures leaves { Looks S.Store store.old store.new }
     ensures opens { OnOk result (StaysOpen (shown S.Store store.old) (shown S.Store store.new)) }
     ensures decided { (m : Queue) (k : Ledger) → Means (shown S.Store store.old) m k
         → Serves (shown S.Store store.new) → job_numbered job.job (aged t m) ≡ Some (job_in (aged t m) job)
         → IfOk result (Decides (change_step (settings_of office.now.setup office.now.controls) (aged t m) t
         (Ok (changed_by change (job_in (aged t m) job)))) m t) }
+    ensures cause { (m : Queue) (k : Ledger) → Means (shown S.Store store.old) m k
+        → Serves (shown S.Store store.new) → KeepsRecord change job → OnlyNoAnswer result }
 {
-    let Ok(job) = change.applied_to(job) else {
-        return Err(Unavailable);
-    };
+    let job = applied(change, job)?;
     let reply = stands(store, office, alloc, &job, t);
     take(Effect::ChangedJob(job), reply)
 }
@@ -110,11 +114,11 @@ fn stands<S: Alter>(
     alloc: Global,
     job: &Job,
     t: Moment,
-) -> Result<Reply, Unavailable>
+) -> Result<Reply, Fault>
     ensures leaves { Looks S.Store store.old store.new }
     ensures opens { OnOk result (StaysOpen (shown S.Store store.old) (shown S.Store store.new)) }
     ensures told { (m : Queue) (k : Ledger) → Means (shown S.Store store.old) m k
-        → Serves (shown S.Store store.new) → IfOk result (λ reply. reply ≡ accepted_response
+        → Serves (shown S.Store store.new) → OrNoAnswer result (λ reply. reply ≡ accepted_response
         (Replied (Stands job.now.job
         (job_state (settings_of office.now.setup office.now.controls) m t (job_of job.now))))) }
 {

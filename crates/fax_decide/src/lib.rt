@@ -23,7 +23,7 @@ mod view;
 
 pub use decision::Decision;
 pub use effect::Effect;
-pub use fault::Unavailable;
+pub use fault::Fault;
 pub use office::Office;
 pub use request::decide;
 pub use view::show;

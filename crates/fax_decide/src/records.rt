@@ -1,6 +1,6 @@
 //! Jobs and grants by the numbers that requests name.
 
-ghost use Rattle.std.specs.Prelude.{◌≡◌, ◌<◌, ◌≤◌, List, MatchOption, IfOk, OnOk};
+ghost use Rattle.std.specs.Prelude.{◌≡◌, ◌<◌, ◌≤◌, List, MatchOption, OnOk};
 ghost use Rattle.std.specs.Option.{option_map};
 ghost use Rattle.fax_core.specs.Ageing.{aged};
 ghost use Rattle.fax_core.specs.Job.{job_of};
@@ -9,6 +9,7 @@ ghost use Rattle.fax_core.specs.Queue.{Queue, job_numbered, grant_numbered};
 ghost use Rattle.fax_job.specs.Limits.{last_grant, last_job};
 ghost use Rattle.fax_store.specs.Calls.{Looks, shown};
 ghost use Rattle.fax_store.specs.Store.{Means, Serves, StaysOpen};
+ghost use Rattle.fax_tables.specs.Fault.{OrUnavailable};
 ghost use Rattle.fax_decide.specs.Records.{job_in};
 
 use fax_core::{Grant, aged_job};
@@ -37,7 +38,7 @@ pub(crate) fn job_at<S: Alter>(
     ensures opens { OnOk result (StaysOpen (shown S.Store store.old) (shown S.Store store.new)) }
     ensures found { (m : Queue) (k : Ledger) → Means (shown S.Store store.old) m k
         → Serves (shown S.Store store.new)
-        → IfOk result (λ found. option_map (λ f. job_of f) found ≡ job_numbered number (aged t m)) }
+        → OrUnavailable result (λ found. option_map (λ f. job_of f) found ≡ job_numbered number (aged t m)) }
     ensures past { last_job < number → result ≡ Ok None }
 {
     let Some(number) = job_number(number) else {
@@ -59,7 +60,7 @@ pub(crate) fn brief_at<S: Alter>(
     ensures opens { OnOk result (StaysOpen (shown S.Store store.old) (shown S.Store store.new)) }
     ensures found { (m : Queue) (k : Ledger) → Means (shown S.Store store.old) m k
         → Serves (shown S.Store store.new)
-        → IfOk result (λ found. option_map (job_in (aged t m)) found ≡ job_numbered number (aged t m)) }
+        → OrUnavailable result (λ found. option_map (job_in (aged t m)) found ≡ job_numbered number (aged t m)) }
     ensures past { last_job < number → result ≡ Ok None }
 {
     let Some(number) = job_number(number) else {
@@ -79,7 +80,7 @@ pub(crate) fn grant_at<S: Alter>(
     ensures leaves { Looks S.Store store.old store.new }
     ensures opens { OnOk result (StaysOpen (shown S.Store store.old) (shown S.Store store.new)) }
     ensures found { (m : Queue) (k : Ledger) → Means (shown S.Store store.old) m k
-        → Serves (shown S.Store store.new) → IfOk result (λ found. found ≡ grant_numbered number m) }
+        → Serves (shown S.Store store.new) → OrUnavailable result (λ found. found ≡ grant_numbered number m) }
     ensures past { last_grant < number → result ≡ Ok None }
 {
     if number > u64::from(LAST_GRANT) {

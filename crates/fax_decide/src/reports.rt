@@ -23,14 +23,15 @@ ghost use Rattle.fax_store.specs.Calls.{Looks, shown};
 ghost use Rattle.fax_store.specs.Grant.{IsSameGrant};
 ghost use Rattle.fax_store.specs.Store.{Means, Serves, StaysOpen};
 ghost use Rattle.fax_decide.specs.Decision.{Decides};
-ghost use Rattle.fax_decide.specs.Records.{job_in};
+ghost use Rattle.fax_decide.specs.Fault.{OnlyNoAnswer, OrNoAnswer};
+ghost use Rattle.fax_decide.specs.Records.{KeepsRecord, job_in};
 ghost use Rattle.fax_decide.specs.Report.{AreThere, report_both, report_step};
 ghost use Rattle.fax_decide.specs.Settings.{settings_of};
 ghost use Rattle.fax_decide.specs.State.{state_with};
 
-use crate::decision::{Decision, answered, refuse, take};
+use crate::decision::{Decision, answered, applied, refuse, take};
 use crate::effect::Effect;
-use crate::fault::Unavailable;
+use crate::fault::Fault;
 use crate::office::Office;
 use crate::records::{brief_at, grant_at};
 use fax_ask::{Answer, Detail, Reply};
@@ -56,12 +57,12 @@ pub(crate) fn decide_report<S: Alter>(
     number: u64,
     report: Report,
     t: Moment,
-) -> Result<Decision, Unavailable>
+) -> Result<Decision, Fault>
     ensures leaves { Looks S.Store store.old store.new }
     ensures opens { OnOk result (StaysOpen (shown S.Store store.old) (shown S.Store store.new)) }
     ensures decided { (m : Queue) (k : Ledger) → Sound m → Means (shown S.Store store.old) m k
         → Serves (shown S.Store store.new)
-        → IfOk result (Decides (report_step (settings_of office.now.setup office.now.controls) (aged t m) t
+        → OrNoAnswer result (Decides (report_step (settings_of office.now.setup office.now.controls) (aged t m) t
         report (grant_numbered number m)) m t) }
 {
     let Some(grant) = grant_at(store, number)? else {
@@ -83,18 +84,18 @@ fn report_on<S: Alter>(
     grant: Grant,
     report: Report,
     t: Moment,
-) -> Result<Decision, Unavailable>
+) -> Result<Decision, Fault>
     ensures leaves { Looks S.Store store.old store.new }
     ensures opens { OnOk result (StaysOpen (shown S.Store store.old) (shown S.Store store.new)) }
     ensures decided { (m : Queue) (k : Ledger) → Sound m → Means (shown S.Store store.old) m k
         → Serves (shown S.Store store.new) → AreThere m t job grant → grant.confirmed ≤ most_pages
-        → IfOk result (Decides (report_both (settings_of office.now.setup office.now.controls) (aged t m) t
+        → OrNoAnswer result (Decides (report_both (settings_of office.now.setup office.now.controls) (aged t m) t
         report (job_in (aged t m) job) grant) m t) }
     ensures closed { grant.is_open ≡ false → IsOk result }
     ensures misfit { grant.is_open ≡ true → fits job (Some grant) ≡ false → IsErr result }
 {
     if grant.is_open && !fits(&job, Some(&grant)) {
-        return Err(Unavailable);
+        return Err(Fault::Strange);
     }
     match report {
         Report::Call(said) => decide_call(alloc, job, grant, said, t),
@@ -104,13 +105,13 @@ fn report_on<S: Alter>(
 }
 
 /// An open grant has its job in every sound queue: where it has none, nothing is decided.
-fn without_job(grant: &Grant) -> Result<Decision, Unavailable>
+fn without_job(grant: &Grant) -> Result<Decision, Fault>
     ensures decided { (m : Queue) (t : ℕ)
         → IfOk result (Decides (Refused (without_job grant.now.is_open) NoKeys) m t) }
     ensures misfit { IsErr result ↔ (grant.now.is_open ≡ true) }
 {
     if grant.is_open {
-        return Err(Unavailable);
+        return Err(Fault::Strange);
     }
     Ok(Decision::Refused(Reply::refused(Refusal::GrantClosed)))
 }
@@ -121,11 +122,12 @@ fn decide_call(
     grant: Grant,
     said: Call,
     t: Moment,
-) -> Result<Decision, Unavailable>
+) -> Result<Decision, Fault>
     ensures decided { (m : Queue) → AreThere m t job grant
         → IfOk result (Decides (reported (aged t m) (call_reply t) (job_in (aged t m) job)
         (call_of said (job_in (aged t m) job) grant)) m t) }
     ensures closed { grant.is_open ≡ false → IsOk result }
+    ensures cause { fits job (Some grant) ≡ true → OnlyNoAnswer result }
 {
     match call(&job, &grant, said) {
         Ok(change) => called(alloc, job, change, grant.with_call(said), t),
@@ -139,15 +141,14 @@ fn called(
     change: Change,
     grant: Grant,
     t: Moment,
-) -> Result<Decision, Unavailable>
-    ensures { (m : Queue) (before : GrantOf) → AreThere m t job before → IsSameGrant before grant
+) -> Result<Decision, Fault>
+    ensures decided { (m : Queue) (before : GrantOf) → AreThere m t job before → IsSameGrant before grant
         → grant.number ≡ before.number
         → IfOk result (Decides (reported (aged t m) (call_reply t) (job_in (aged t m) job)
         (Ok (record { job = changed change (job_in (aged t m) job); grant = grant }))) m t) }
+    ensures cause { KeepsRecord change job → OnlyNoAnswer result }
 {
-    let Ok(job) = change.applied_to(job) else {
-        return Err(Unavailable);
-    };
+    let job = applied(change, job)?;
     let answer = Answer::Called {
         stop: stops(&job, t),
     };
@@ -160,11 +161,12 @@ fn decide_page(
     grant: Grant,
     said: u16,
     t: Moment,
-) -> Result<Decision, Unavailable>
+) -> Result<Decision, Fault>
     ensures decided { (m : Queue) → AreThere m t job grant → grant.confirmed ≤ most_pages
         → IfOk result (Decides (reported (aged t m) (page_reply t) (job_in (aged t m) job)
         (page_of said (job_in (aged t m) job) grant)) m t) }
     ensures closed { grant.is_open ≡ false → IsOk result }
+    ensures cause { fits job (Some grant) ≡ true → OnlyNoAnswer result }
 {
     match page(&job, &grant, said) {
         Ok(change) => confirmed(alloc, job, change, grant.with_page(), t),
@@ -173,9 +175,9 @@ fn decide_page(
 }
 
 /// The reply to a page report that is refused: where it is no page that comes next, how many are confirmed.
-fn page_refused(alloc: Global, job: &Job, refusal: Refusal) -> Result<Reply, Unavailable>
+fn page_refused(alloc: Global, job: &Job, refusal: Refusal) -> Result<Reply, Fault>
     requires { ¬ (refusal ≡ Refusal.PageOrder) → has_detail refusal ≡ false }
-    ensures reply { IfOk result (λ reply.
+    ensures reply { OrNoAnswer result (λ reply.
         reply ≡ refused_response refusal (keys_of_job refusal (job_of job.now))) }
     ensures made { ¬ (refusal ≡ Refusal.PageOrder) → IsOk result }
 {
@@ -186,8 +188,8 @@ fn page_refused(alloc: Global, job: &Job, refusal: Refusal) -> Result<Reply, Una
 }
 
 /// The reply to a page that isn't the next one: how many are confirmed.
-fn page_order(alloc: Global, job: &Job) -> Result<Reply, Unavailable>
-    ensures { IfOk result (λ reply. reply ≡ refused_response Refusal.PageOrder (Pages job.now.npages)) }
+fn page_order(alloc: Global, job: &Job) -> Result<Reply, Fault>
+    ensures { OrNoAnswer result (λ reply. reply ≡ refused_response Refusal.PageOrder (Pages job.now.npages)) }
 {
     let detail = Detail::PageOrder {
         npages: job.fields().npages,
@@ -201,15 +203,14 @@ fn confirmed(
     change: Change,
     grant: Grant,
     t: Moment,
-) -> Result<Decision, Unavailable>
-    ensures { (m : Queue) (before : GrantOf) → AreThere m t job before → IsSameGrant before grant
+) -> Result<Decision, Fault>
+    ensures decided { (m : Queue) (before : GrantOf) → AreThere m t job before → IsSameGrant before grant
         → grant.number ≡ before.number
         → IfOk result (Decides (reported (aged t m) (page_reply t) (job_in (aged t m) job)
         (Ok (record { job = changed change (job_in (aged t m) job); grant = grant }))) m t) }
+    ensures cause { KeepsRecord change job → OnlyNoAnswer result }
 {
-    let Ok(job) = change.applied_to(job) else {
-        return Err(Unavailable);
-    };
+    let job = applied(change, job)?;
     let answer = Answer::Confirmed {
         npages: job.fields().npages,
         stop: stops(&job, t),
@@ -225,16 +226,18 @@ fn decide_outcome<S: Alter>(
     grant: Grant,
     said: Outcome,
     t: Moment,
-) -> Result<Decision, Unavailable>
+) -> Result<Decision, Fault>
     ensures leaves { Looks S.Store store.old store.new }
     ensures opens { OnOk result (StaysOpen (shown S.Store store.old) (shown S.Store store.new)) }
     ensures decided { (m : Queue) (k : Ledger) → Sound m → Means (shown S.Store store.old) m k
         → Serves (shown S.Store store.new) → AreThere m t job grant
-        → IfOk result (Decides (reported (aged t m)
+        → OrNoAnswer result (Decides (reported (aged t m)
         (outcome_reply (settings_of office.now.setup office.now.controls) t) (job_in (aged t m) job)
         (outcome_of said (job_in (aged t m) job) grant (delay_of office.now.setup grant.call) t)) m t) }
     ensures closed { grant.is_open ≡ false → IsOk result }
 {
+    // It is within its bound, and so is the moment from which the job may be tried again.
+    let _seconds = t.seconds();
     let delay = office.setup.delay(grant.call);
     match outcome(&job, &grant, said, delay, t) {
         Ok(change) => ended(store, office, alloc, job, change, &grant, t),
@@ -251,7 +254,7 @@ fn ended<S: Alter>(
     change: Change,
     grant: &Grant,
     t: Moment,
-) -> Result<Decision, Unavailable>
+) -> Result<Decision, Fault>
     ensures leaves { Looks S.Store store.old store.new }
     ensures opens { OnOk result (StaysOpen (shown S.Store store.old) (shown S.Store store.new)) }
     ensures decided { (m : Queue) (k : Ledger) → Sound m → Means (shown S.Store store.old) m k
@@ -259,10 +262,10 @@ fn ended<S: Alter>(
         → IfOk result (Decides (reported (aged t m)
         (outcome_reply (settings_of office.now.setup office.now.controls) t) (job_in (aged t m) job)
         (Ok (record { job = changed change (job_in (aged t m) job); grant = record grant.now { is_open = false } }))) m t) }
+    ensures cause { (m : Queue) (k : Ledger) → Means (shown S.Store store.old) m k
+        → Serves (shown S.Store store.new) → KeepsRecord change job → OnlyNoAnswer result }
 {
-    let Ok(job) = change.applied_to(job) else {
-        return Err(Unavailable);
-    };
+    let job = applied(change, job)?;
     let reply = stands(store, office, alloc, &job, t);
     let effect = Effect::Closed {
         job,
@@ -278,11 +281,11 @@ fn stands<S: Alter>(
     alloc: Global,
     job: &Job,
     t: Moment,
-) -> Result<Reply, Unavailable>
+) -> Result<Reply, Fault>
     ensures leaves { Looks S.Store store.old store.new }
     ensures opens { OnOk result (StaysOpen (shown S.Store store.old) (shown S.Store store.new)) }
     ensures told { (m : Queue) (k : Ledger) → Means (shown S.Store store.old) m k
-        → Serves (shown S.Store store.new) → IfOk result (λ reply. reply ≡ accepted_response
+        → Serves (shown S.Store store.new) → OrNoAnswer result (λ reply. reply ≡ accepted_response
         (Replied (Stands job.now.job (state_with (settings_of office.now.setup office.now.controls)
         (job_of job.now) (calls_to job.now.dial m - 1) t)))) }
 {

@@ -9,11 +9,13 @@ ghost use Rattle.fax_tables.specs.Meta.{meta_of};
 ghost use Rattle.fax_store.specs.Calls.{Looks, shown};
 ghost use Rattle.fax_store.specs.Store.{Means, Serves, StaysOpen};
 ghost use Rattle.fax_decide.specs.Decision.{Decides};
+ghost use Rattle.fax_decide.specs.Fault.{OnlyNoAnswer};
+ghost use Rattle.fax_decide.specs.Read.{IsRead};
 ghost use Rattle.fax_decide.specs.Settings.{settings_of};
 
 use crate::choice::decide_next;
 use crate::decision::Decision;
-use crate::fault::Unavailable;
+use crate::fault::Fault;
 use crate::floors::decide_floor;
 use crate::import::decide_import;
 use crate::jobs::{JobAsk, decide_on_job};
@@ -28,6 +30,10 @@ use sqlite::Alter;
 use std::alloc::Global;
 
 /// What is decided of a request at `t`, by the rows that it is about.
+///
+/// # Errors
+///
+/// [`Fault`].
 pub fn decide<S: Alter>(
     store: &mut Store<S>,
     office: &Office,
@@ -35,13 +41,17 @@ pub fn decide<S: Alter>(
     ask: Ask,
     meta: &Meta,
     t: Moment,
-) -> Result<Decision, Unavailable>
+) -> Result<Decision, Fault>
     ensures leaves { Looks S.Store store.old store.new }
     ensures opens { OnOk result (StaysOpen (shown S.Store store.old) (shown S.Store store.new)) }
     ensures decided { (m : Queue) (k : Ledger) → Sound m
         → Means (shown S.Store store.old) m k → Serves (shown S.Store store.new)
         → meta.now ≡ meta_of m
         → IfOk result (Decides (step_of (settings_of office.now.setup office.now.controls) m t ask) m t) }
+    // In a sound queue no rows are strange to a request that was read.
+    ensures cause { (m : Queue) (k : Ledger) → Sound m
+        → Means (shown S.Store store.old) m k → Serves (shown S.Store store.new)
+        → meta.now ≡ meta_of m → IsRead ask → OnlyNoAnswer result }
 {
     match ask {
         Ask::Submission(order) => decide_submission(office, alloc, order, meta, t),

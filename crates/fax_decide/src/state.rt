@@ -1,6 +1,6 @@
 //! The state of a job, by sendq(5), and whether a call may begin.
 
-ghost use Rattle.std.specs.Prelude.{◌≡◌, List, IfOk, OnOk};
+ghost use Rattle.std.specs.Prelude.{◌≡◌, List, OnOk};
 ghost use Rattle.sqlite.specs.Held.{state};
 ghost use Rattle.fax_core.specs.Job.{job_of};
 ghost use Rattle.fax_core.specs.Ledger.{Ledger};
@@ -8,10 +8,11 @@ ghost use Rattle.fax_core.specs.Queue.{Queue};
 ghost use Rattle.fax_core.specs.State.{state as job_state};
 ghost use Rattle.fax_store.specs.Calls.{Looks, shown};
 ghost use Rattle.fax_store.specs.Store.{Means, Serves, StaysOpen};
+ghost use Rattle.fax_decide.specs.Fault.{OrNoAnswer};
 ghost use Rattle.fax_decide.specs.Settings.{settings_of};
 ghost use Rattle.fax_decide.specs.State.{may_call, state_with};
 
-use crate::fault::Unavailable;
+use crate::fault::Fault;
 use crate::office::Office;
 use fax_core::state_at;
 use fax_job::{Dial, Job, Moment};
@@ -27,8 +28,8 @@ impl Office {
         job: &Job,
         calls: u64,
         t: Moment,
-    ) -> Result<u8, Unavailable>
-        ensures { IfOk result (λ found.
+    ) -> Result<u8, Fault>
+        ensures { OrNoAnswer result (λ found.
             found ≡ state_with (settings_of self.now.setup self.now.controls) (job_of job.now) calls t) }
     {
         let rule = self.rule_of(alloc, &job.fields().dial)?;
@@ -43,8 +44,8 @@ impl Office {
         dial: &Dial,
         calls: u64,
         t: Moment,
-    ) -> Result<bool, Unavailable>
-        ensures { IfOk result (λ may.
+    ) -> Result<bool, Fault>
+        ensures { OrNoAnswer result (λ may.
             may ≡ may_call (settings_of self.now.setup self.now.controls) dial.now calls t) }
     {
         let rule = self.rule_of(alloc, dial)?;
@@ -60,11 +61,11 @@ pub(crate) fn state_of<S: Alter>(
     alloc: Global,
     job: &Job,
     t: Moment,
-) -> Result<u8, Unavailable>
+) -> Result<u8, Fault>
     ensures leaves { Looks S.Store store.old store.new }
     ensures opens { OnOk result (StaysOpen (shown S.Store store.old) (shown S.Store store.new)) }
     ensures found { (m : Queue) (k : Ledger) → Means (shown S.Store store.old) m k
-        → Serves (shown S.Store store.new) → IfOk result (λ found.
+        → Serves (shown S.Store store.new) → OrNoAnswer result (λ found.
         found ≡ job_state (settings_of office.now.setup office.now.controls) m t (job_of job.now)) }
 {
     let calls = store.active_to(&job.fields().dial)?;

@@ -13,11 +13,13 @@ ghost use Rattle.fax_core.specs.Sound.{Sound};
 ghost use Rattle.fax_core.specs.Submission.{rule_of};
 ghost use Rattle.fax_tables.specs.Meta.{meta_of};
 ghost use Rattle.fax_decide.specs.Decision.{Decides};
+ghost use Rattle.fax_decide.specs.Fault.{OnlyNoAnswer, OrNoAnswer};
+ghost use Rattle.fax_decide.specs.Read.{IsReadOrder};
 ghost use Rattle.fax_decide.specs.Settings.{machine_rule, rule_for};
 
 use crate::decision::{Decision, answered, refuse, take};
 use crate::effect::Effect;
-use crate::fault::Unavailable;
+use crate::fault::Fault;
 use crate::office::Office;
 use fax_ask::{Answer, Detail, Reply};
 use fax_core::submit;
@@ -33,11 +35,12 @@ pub(crate) fn decide_submission(
     order: Order,
     meta: &Meta,
     t: Moment,
-) -> Result<Decision, Unavailable>
-    ensures { (m : Queue) → Sound m → meta.now ≡ meta_of m → IfOk result (Decides
+) -> Result<Decision, Fault>
+    ensures decided { (m : Queue) → Sound m → meta.now ≡ meta_of m → IfOk result (Decides
         (submitted (aged t m) (machine_rule office.now.setup (rule_for office.now.controls order.dial))
         (submit order (machine_rule office.now.setup (rule_for office.now.controls order.dial))
         m.next_job office.now.setup.max_jobs t)) m t) }
+    ensures cause { (m : Queue) → Sound m → meta.now ≡ meta_of m → IsReadOrder order → OnlyNoAnswer result }
 {
     let rule = office.rule_of(alloc, &order.dial)?;
     match submit(order, rule, meta.next_job, office.setup.max_jobs(), t) {
@@ -47,9 +50,9 @@ pub(crate) fn decide_submission(
 }
 
 /// The job is new, and its number is told.
-fn taken(alloc: Global, job: Job, meta: Meta) -> Result<Decision, Unavailable>
+fn taken(alloc: Global, job: Job, meta: Meta) -> Result<Decision, Fault>
     ensures { (m : Queue) (t : ℕ) (rule : MachineRule) → Sound m → meta ≡ meta_of m → job.job ≡ m.next_job
-        → IfOk result (Decides (submitted (aged t m) rule (Ok (job_of job))) m t) }
+        → OrNoAnswer result (Decides (submitted (aged t m) rule (Ok (job_of job))) m t) }
 {
     let answer = Answer::Submitted {
         job: job.fields().job,
@@ -59,25 +62,26 @@ fn taken(alloc: Global, job: Job, meta: Meta) -> Result<Decision, Unavailable>
 
 /// The reply to a refused submission or import: a rejected one is told the notice of its rule. Where the job
 /// would be no lawful record, which what was read never gives, there is none.
-pub(crate) fn refused(alloc: Global, refusal: Refusal, rule: &Rule) -> Result<Reply, Unavailable>
+pub(crate) fn refused(alloc: Global, refusal: Refusal, rule: &Rule) -> Result<Reply, Fault>
     requires notice { refusal ≡ Refusal.Rejected → IsSome rule.now.notice }
     requires plain { ¬ (refusal ≡ Refusal.Rejected) → has_detail refusal ≡ false }
     ensures reply { (hours : ℕ → Bool) → IfOk result (λ reply.
         reply ≡ refused_response refusal (keys_of_rule refusal (rule_of rule.now hours))) }
     ensures recorded { IsOk result → ¬ (refusal ≡ Refusal.Unavailable) }
     ensures made { ¬ (refusal ≡ Refusal.Rejected) → ¬ (refusal ≡ Refusal.Unavailable) → IsOk result }
+    ensures cause { ¬ (refusal ≡ Refusal.Unavailable) → OnlyNoAnswer result }
 {
     match refusal {
-        Refusal::Unavailable => Err(Unavailable),
+        Refusal::Unavailable => Err(Fault::Strange),
         Refusal::Rejected => rejected(alloc, rule),
         _ => Ok(Reply::refused(refusal)),
     }
 }
 
 /// The reply to a rejected submission, with the notice of its rule.
-fn rejected(alloc: Global, rule: &Rule) -> Result<Reply, Unavailable>
+fn rejected(alloc: Global, rule: &Rule) -> Result<Reply, Fault>
     requires { IsSome rule.now.notice }
-    ensures { (hours : ℕ → Bool) → IfOk result (λ reply.
+    ensures { (hours : ℕ → Bool) → OrNoAnswer result (λ reply.
         reply ≡ refused_response Refusal.Rejected (keys_of_rule Refusal.Rejected (rule_of rule.now hours))) }
 {
     let notice = rule.notice.as_ref().unwrap();

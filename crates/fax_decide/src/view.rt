@@ -17,10 +17,11 @@ ghost use Rattle.fax_job.specs.Spelling.{printed};
 ghost use Rattle.fax_store.specs.Calls.{Looks, shown};
 ghost use Rattle.fax_store.specs.Store.{Means, Serves, StaysOpen};
 ghost use Rattle.fax_text.specs.Listing.{listing_of, number_of};
+ghost use Rattle.fax_decide.specs.Fault.{OrNoAnswer};
 ghost use Rattle.fax_decide.specs.Settings.{settings_of};
 ghost use Rattle.fax_decide.specs.View.{view, with_state};
 
-use crate::fault::Unavailable;
+use crate::fault::Fault;
 use crate::office::Office;
 use crate::records::job_at;
 use crate::state::state_of;
@@ -36,18 +37,18 @@ use std::alloc::{AllocError, Global};
 ///
 /// # Errors
 ///
-/// [`Unavailable`].
+/// [`Fault`].
 pub fn show<S: Alter>(
     store: &mut Store<S>,
     office: &Office,
     alloc: Global,
     asked: View,
     t: Moment,
-) -> Result<Reply, Unavailable>
+) -> Result<Reply, Fault>
     ensures leaves { Looks S.Store store.old store.new }
     ensures opens { OnOk result (StaysOpen (shown S.Store store.old) (shown S.Store store.new)) }
     ensures viewed { (m : Queue) (k : Ledger) → Sound m → Means (shown S.Store store.old) m k
-        → Serves (shown S.Store store.new) → IfOk result (λ reply.
+        → Serves (shown S.Store store.new) → OrNoAnswer result (λ reply.
         reply ≡ view (settings_of office.now.setup office.now.controls) m t asked) }
 {
     match asked {
@@ -64,11 +65,11 @@ fn show_job<S: Alter>(
     alloc: Global,
     number: u64,
     t: Moment,
-) -> Result<Reply, Unavailable>
+) -> Result<Reply, Fault>
     ensures leaves { Looks S.Store store.old store.new }
     ensures opens { OnOk result (StaysOpen (shown S.Store store.old) (shown S.Store store.new)) }
     ensures viewed { (m : Queue) (k : Ledger) → Means (shown S.Store store.old) m k
-        → Serves (shown S.Store store.new) → IfOk result (λ reply.
+        → Serves (shown S.Store store.new) → OrNoAnswer result (λ reply.
         reply ≡ view (settings_of office.now.setup office.now.controls) m t (OneJob number)) }
 {
     match job_at(store, number, t)? {
@@ -84,11 +85,11 @@ fn shown<S: Alter>(
     alloc: Global,
     job: &Job,
     t: Moment,
-) -> Result<Reply, Unavailable>
+) -> Result<Reply, Fault>
     ensures leaves { Looks S.Store store.old store.new }
     ensures opens { OnOk result (StaysOpen (shown S.Store store.old) (shown S.Store store.new)) }
     ensures told { (m : Queue) (k : Ledger) → Means (shown S.Store store.old) m k
-        → Serves (shown S.Store store.new) → IfOk result (λ reply.
+        → Serves (shown S.Store store.new) → OrNoAnswer result (λ reply.
         reply ≡ accepted_response (Shown (printed (job_lines job.now
         (job_state (settings_of office.now.setup office.now.controls) m t (job_of job.now)))))) }
 {
@@ -114,11 +115,11 @@ fn show_jobs<S: Alter>(
     office: &Office,
     alloc: Global,
     t: Moment,
-) -> Result<Reply, Unavailable>
+) -> Result<Reply, Fault>
     ensures leaves { Looks S.Store store.old store.new }
     ensures opens { OnOk result (StaysOpen (shown S.Store store.old) (shown S.Store store.new)) }
     ensures viewed { (m : Queue) (k : Ledger) → Sound m → Means (shown S.Store store.old) m k
-        → Serves (shown S.Store store.new) → IfOk result (λ reply.
+        → Serves (shown S.Store store.new) → OrNoAnswer result (λ reply.
         reply ≡ view (settings_of office.now.setup office.now.controls) m t AllJobs) }
 {
     let jobs = store.briefs()?;
@@ -133,11 +134,11 @@ fn with_states<S: Alter>(
     alloc: Global,
     jobs: Vec<Job>,
     t: Moment,
-) -> Result<Vec<(Job, u8)>, Unavailable>
+) -> Result<Vec<(Job, u8)>, Fault>
     ensures leaves { Looks S.Store store.old store.new }
     ensures opens { OnOk result (StaysOpen (shown S.Store store.old) (shown S.Store store.new)) }
     ensures rows { (m : Queue) (k : Ledger) → Means (shown S.Store store.old) m k
-        → Serves (shown S.Store store.new) → IfOk result (λ rows. rows.items
+        → Serves (shown S.Store store.new) → OrNoAnswer result (λ rows. rows.items
         ≡ map (λ job. with_state (settings_of office.now.setup office.now.controls) m t (aged_job t (job_of job))) jobs.items) }
 {
     let mut rows = Vec::with_capacity(alloc, jobs.len())?;

@@ -19,7 +19,7 @@ ghost use Rattle.fax_once.specs.Verdict.{IsNotAccepted, without};
 use crate::arrival::Arrival;
 use crate::sender::Sender;
 use fax_ask::Reply;
-use fax_decide::{Effect, Unavailable};
+use fax_decide::{Effect, Fault};
 use fax_job::{Moment, RequestNumber};
 use fax_store::{Store, StoreFault, Work};
 use sqlite::Alter;
@@ -47,7 +47,7 @@ pub(crate) fn accept<S: Alter>(
     t: Moment,
     change: &Change,
     reply: Reply,
-) -> Result<Reply, Unavailable>
+) -> Result<Reply, Fault>
     ensures served { OnOk result (Serves (shown S.Store store.new) → Serves (shown S.Store store.old)) }
     ensures clean { HasCleanDisk (shown S.Store store.new) → HasCleanDisk (shown S.Store store.old) }
     ensures opens { OnOk result (HasCleanDisk (shown S.Store store.new) → Serves (shown S.Store store.new)) }

@@ -33,7 +33,7 @@ use crate::refusing::refuse_ask;
 use crate::sender::Sender;
 use fax_ask::{Ask, Reply, Routes, View};
 use fax_core::Ask as Step;
-use fax_decide::{Decision, Office, Unavailable, decide, show};
+use fax_decide::{Decision, Fault, Office, decide, show};
 use fax_dest::{Controls, Setup};
 use fax_job::{Moment, Refusal, RequestNumber};
 use fax_store::{Kept, Meta, Store};
@@ -116,7 +116,7 @@ impl<S: Alter> Queue<S> {
                 self.is_shut = false;
                 reply
             }
-            Err(Unavailable) => {
+            Err(_) => {
                 self.is_shut = self.store.is_shut() == Ok(true);
                 Reply::refused(Refusal::Unavailable)
             }
@@ -176,7 +176,7 @@ impl<S: Alter> Queue<S> {
         Ok(replies)
     }
 
-    fn answer(&mut self, alloc: Global, arrival: &Arrival<'_>) -> Result<Reply, Unavailable>
+    fn answer(&mut self, alloc: Global, arrival: &Arrival<'_>) -> Result<Reply, Fault>
         ensures leaves { Replies S.Store self.old self.new result }
         ensures seen { arrival.now.method ≡ Get → Stays (tables S.Store self.old) (tables S.Store self.new) }
         ensures repeated { (db : Database) → db.schema ≡ our_tables → Rests (tables S.Store self.old) db
@@ -195,12 +195,7 @@ impl<S: Alter> Queue<S> {
         }
     }
 
-    fn answer_ask(
-        &mut self,
-        alloc: Global,
-        arrival: &Arrival<'_>,
-        ask: Ask,
-    ) -> Result<Reply, Unavailable>
+    fn answer_ask(&mut self, alloc: Global, arrival: &Arrival<'_>, ask: Ask) -> Result<Reply, Fault>
         ensures leaves { Replies S.Store self.old self.new result }
         ensures seen { arrival.now.method ≡ Get → IsAsk arrival.now.method arrival.now.path.now arrival.now.body.now ask
             → Stays (tables S.Store self.old) (tables S.Store self.new) }
@@ -223,7 +218,7 @@ impl<S: Alter> Queue<S> {
     }
 
     /// Shows what a client asks to see, at the later of that moment and the clock. Nothing changes.
-    fn show(&mut self, alloc: Global, asked: View, moment: Moment) -> Result<Reply, Unavailable>
+    fn show(&mut self, alloc: Global, asked: View, moment: Moment) -> Result<Reply, Fault>
         ensures office { self.new.office ≡ self.old.office }
         ensures leaves { Looks S.Store self.old.store self.new.store }
         ensures opens { OnOk result (HasCleanDisk (tables S.Store self.new) → Serves (tables S.Store self.new)) }
@@ -243,7 +238,7 @@ impl<S: Alter> Queue<S> {
         arrival: &Arrival<'_>,
         sender: &Sender<'_>,
         ask: Step,
-    ) -> Result<Reply, Unavailable>
+    ) -> Result<Reply, Fault>
         ensures leaves { Replies S.Store self.old self.new result }
         ensures repeated { (db : Database) → db.schema ≡ our_tables → Rests (tables S.Store self.old) db
             → HasReply db sender.now.client.now sender.now.number → Rests (tables S.Store self.new) db }
@@ -270,7 +265,7 @@ impl<S: Alter> Queue<S> {
         sender: &Sender<'_>,
         ask: Step,
         floor: u64,
-    ) -> Result<Reply, Unavailable>
+    ) -> Result<Reply, Fault>
         requires { floor < 10 ^ 18 }
         ensures leaves { Replies S.Store self.old self.new result }
         ensures repeated { (db : Database) → db.schema ≡ our_tables → Rests (tables S.Store self.old) db
@@ -297,7 +292,7 @@ impl<S: Alter> Queue<S> {
         sender: &Sender<'_>,
         ask: Step,
         floor: u64,
-    ) -> Result<Reply, Unavailable>
+    ) -> Result<Reply, Fault>
         requires { floor < 10 ^ 18 }
         ensures leaves { Replies S.Store self.old self.new result }
         ensures crash { From S.Store self.old (λ m k. IsSender arrival.now sender.now
@@ -323,7 +318,7 @@ impl<S: Alter> Queue<S> {
         arrival: &Arrival<'_>,
         sender: &Sender<'_>,
         ask: Step,
-    ) -> Result<Reply, Unavailable>
+    ) -> Result<Reply, Fault>
         ensures leaves { Replies S.Store self.old self.new result }
         ensures crash { From S.Store self.old (λ m k. IsSender arrival.now sender.now
             → StopsBy (tables S.Store self.old) (tables S.Store self.new) (decided_new (settings self.old) m k

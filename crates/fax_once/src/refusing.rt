@@ -13,7 +13,7 @@ ghost use Rattle.fax_once.specs.Verdict.{IsVerdict, Told};
 use crate::arrival::Arrival;
 use crate::sender::Sender;
 use fax_ask::{Detail, Reply};
-use fax_decide::Unavailable;
+use fax_decide::Fault;
 use fax_job::{BodyFault, Refusal};
 use std::alloc::Global;
 
@@ -23,7 +23,7 @@ pub(crate) fn refuse_ask(
     alloc: Global,
     arrival: &Arrival<'_>,
     refusal: Refusal,
-) -> Result<Reply, Unavailable>
+) -> Result<Reply, Fault>
     ensures verdict { (s : Settings) (m : Queue) (k : Ledger)
         → IsRefused arrival.now.method arrival.now.path.now arrival.now.body.now refusal
         → IfOk result (λ reply. IsVerdict s arrival.now m k (Told reply)) }
@@ -33,7 +33,7 @@ pub(crate) fn refuse_ask(
     match refusal {
         Refusal::NoRoute => Ok(Reply::refused(Refusal::NoRoute)),
         Refusal::BadBody(fault) => Ok(refuse_body(alloc, arrival, fault)),
-        _ => Err(Unavailable),
+        _ => Err(Fault::NoAnswer),
     }
 }
 

@@ -38,3 +38,12 @@ returns-clause-opens g c =
     let opens : OnOk c.first_of.result (StaysOpen (state g.S.Store c.candidates_but-candidates.result.store.now.conn) (state g.S.Store c.first_of.new.candidates.store.now.conn)) = c.first_of.ensures.opens in
     subst (λ v. OnOk c.first_of.result (StaysOpen (state g.S.Store c.args.store.now.conn) (state g.S.Store v.conn))) same
     (subst (λ v. OnOk c.first_of.result (StaysOpen (state g.S.Store v.conn) (state g.S.Store c.first_of.new.candidates.store.now.conn))) c.candidates_but-candidates.ensures.same opens)
+
+pub returns-clause-cause : goal.returns-clause-cause
+returns-clause-cause g c m k sound means serves busy =
+    let is = c.candidates_but-candidates.ensures.same in
+    let same : c.first_of.new.candidates.store.now ≡ c.store-1.given.0 = search rules in
+    let begun : Means (state g.S.Store c.candidates_but-candidates.result.store.now.conn) m k = subst (λ v. Means (state g.S.Store v.conn) m k) (sym is) means in
+    let served : Serves (state g.S.Store c.first_of.new.candidates.store.now.conn) = subst (λ v. Serves (state g.S.Store v.conn)) (sym same) serves in
+    let before : Serves (state g.S.Store c.args.store.now.conn) = subst (λ v. Serves (state g.S.Store v.conn)) is (c.first_of.ensures.leaves.served served) in
+    c.first_of.ensures.cause m k sound begun served c.candidates_but-candidates.ensures.asked.0 (c.candidates_but-candidates.ensures.stands m k means before) tt

@@ -1,4 +1,4 @@
-use Rattle.std.proofs.Common.{◌≡◌, List, []}
+use Rattle.std.proofs.Common.{◌≡◌, []}
 use Rattle.std.specs.Vec.Iter.{into_iter_items}
 use Rattle.sqlite.specs.Held.{state}
 use Rattle.fax_core.specs.Best.{may_go}
@@ -22,5 +22,5 @@ invariant-loop g l = record {
       → IsBusy (settings_of l.office.setup l.office.controls) m l.t l.initial.busy → IsBusy (settings_of l.office.setup l.office.controls) m l.t l.busy;
   none : (m : Queue) (k : Ledger) → Means (state g.S.Store l.initial.candidates.store.now.conn) m k → Serves (state g.S.Store l.candidates.store.now.conn) → l.initial.candidates.asked.t ≡ l.t
       → StandsAt l.initial.candidates.asked m [] (into_iter_items l.initial.candidates.page) l.initial.candidates.front l.initial.candidates.most → IsBusy (settings_of l.office.setup l.office.controls) m l.t l.initial.busy
-      → NoneWent (may_go (settings_of l.office.setup l.office.controls) m l.initial.candidates.asked.t l.modem) l.initial.candidates.asked m (into_iter_items l.candidates.page) l.candidates.front l.candidates.most;
+      → NoneWent (may_go (settings_of l.office.setup l.office.controls) m l.initial.candidates.asked.t l.modem) l.counter l.initial.candidates.asked m (into_iter_items l.candidates.page) l.candidates.front l.candidates.most;
 }

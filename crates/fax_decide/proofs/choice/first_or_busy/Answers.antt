@@ -32,3 +32,12 @@ returns-clause-found g c m k means serves busy =
     (λ found. IsBusy s m c.args.t c.first_of.new.busy × (c.first_of.new.busy ≡ None → IsFirst s m c.args.t modem found))
     (λ found told. let known = first_known s m c.args.t modem asked true c.first_of.new.busy found moment but told in (known.0, λ none. known.1 (λ _. none)))
     (c.first_of.ensures.found m k begun served moment stands busy)
+
+pub returns-clause-cause : goal.returns-clause-cause
+returns-clause-cause g c m k sound means serves busy =
+    let is = c.candidates-candidates.ensures.same in
+    let same : c.first_of.new.candidates.store.now ≡ c.store-1.given.0 = search rules in
+    let begun : Means (state g.S.Store c.candidates-candidates.result.store.now.conn) m k = subst (λ v. Means (state g.S.Store v.conn) m k) (sym is) means in
+    let served : Serves (state g.S.Store c.first_of.new.candidates.store.now.conn) = subst (λ v. Serves (state g.S.Store v.conn)) (sym same) serves in
+    let before : Serves (state g.S.Store c.args.store.now.conn) = subst (λ v. Serves (state g.S.Store v.conn)) is (c.first_of.ensures.leaves.served served) in
+    c.first_of.ensures.cause m k sound begun served c.candidates-candidates.ensures.asked.0 (c.candidates-candidates.ensures.stands m k means before) busy

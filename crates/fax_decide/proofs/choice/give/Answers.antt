@@ -8,13 +8,15 @@ use Rattle.fax_decide.specs.Decision.{Decides}
 use Rattle.fax_decide.specs.declared.decision.Decision.TheVariants.{Refused}
 use Rattle.fax_decide.proofs.GivenLemmas.{given_by, given_not}
 use Rattle.fax_decide.proofs.PlainLemmas.{grant_plain}
+use Rattle.fax_decide.proofs.KeptLemmas.{fits_alone, grant_keeps}
+use Rattle.std.proofs.lemmas.Bool.{true≢false}
 use Rattle.fax_decide.proofs.choice.give.Goals as goal
 
 pub returns-in-Ok-clause-decided : goal.returns-in-Ok-clause-decided
 returns-in-Ok-clause-decided c m t sound there next =
     given_by (λ step. IfOk c.given.result (Decides step m t)) (aged t m) (job_of c.args.job) c.args.modem c.args.next_grant c.max_grants.result c.args.office.now.setup.max_grants
     (Ok c.in-Ok.change) c.new-grant.result c.new-grant.ensures (c.in-Ok.ensures c.args.modem) c.max_grants.ensures.number
-    (c.given.ensures m t sound there (ap (λ (g : Grant). g.job) c.new-grant.ensures) (ap (λ (g : Grant). g.number) c.new-grant.ensures ∙ next))
+    (c.given.ensures.decided m t sound there (ap (λ (g : Grant). g.job) c.new-grant.ensures) (ap (λ (g : Grant). g.number) c.new-grant.ensures ∙ next))
 
 pub refused-requires : goal.refused-requires
 refused-requires c = grant_plain (job_of c.args.job) c.args.modem c.args.next_grant c.max_grants.result c.in-Err.refusal (sym (c.in-Err.ensures c.args.modem))
@@ -24,3 +26,11 @@ returns-in-Err-clause-decided c m t sound there next =
     subst (λ reply. Decides (given (aged t m) (grant (job_of c.args.job) c.args.modem c.args.next_grant c.args.office.now.setup.max_grants)) m t (Refused reply)) (sym c.refused.ensures)
     (given_not (aged t m) (job_of c.args.job) c.args.modem c.args.next_grant c.max_grants.result c.args.office.now.setup.max_grants
     c.in-Err.refusal _ (c.in-Err.ensures c.args.modem) c.max_grants.ensures.number refl)
+
+pub returns-then-not-fits-clause-cause : goal.returns-then-not-fits-clause-cause
+returns-then-not-fits-clause-cause c m t sound there waits =
+    absurd (true≢false (sym (c.fits.ensures ∙ fits_alone m t c.args.job sound there waits) ∙ c.if-not-fits.true))
+
+pub returns-in-Ok-clause-cause : goal.returns-in-Ok-clause-cause
+returns-in-Ok-clause-cause c m t sound there waits =
+    c.given.ensures.cause (grant_keeps c.args.job c.args.modem c.args.next_grant c.max_grants.result _ c.in-Ok.change (c.in-Ok.ensures c.args.modem))

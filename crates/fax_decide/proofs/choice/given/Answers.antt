@@ -1,15 +1,22 @@
-use Rattle.std.proofs.Common.{refl}
+use Rattle.std.proofs.Common.{Ok, refl}
 use Rattle.fax_ask.specs.Answer.{grant_told}
 use Rattle.fax_core.specs.Change.{changed}
 use Rattle.fax_core.specs.Job.{job_of}
 use Rattle.fax_decide.specs.declared.decision.Decision.TheVariants.{Taken}
 use Rattle.fax_decide.specs.declared.effect.Effect.TheVariants.{NewGrant}
-use Rattle.fax_decide.proofs.DecisionLemmas.{decided_by}
+use Rattle.fax_decide.proofs.DecisionLemmas.{decided_of, wants_reply}
 use Rattle.fax_decide.proofs.GivenLemmas.{given_new, is_recorded}
+use Rattle.fax_decide.proofs.FaultLemmas.{only_no_answer}
 use Rattle.fax_decide.proofs.choice.given.Goals as goal
 
-pub returns : goal.returns
-returns c m t sound there of n =
-    decided_by (Taken (NewGrant c.in-Ok.job c.args.grant)) _ _ m t c.answered-reply.result _ c.take.ensures c.answered-reply.ensures
-    (λ _. given_new m t c.args.change c.args.job c.in-Ok.job c.args.grant _ (grant_told c.handed.result) sound there of n
-    (is_recorded c.in-Ok.job (changed c.args.change (job_of c.args.job)) c.applied_to.result c.in-Ok.is c.applied_to.ensures) refl c.handed.ensures)
+pub returns-clause-decided : goal.returns-clause-decided
+returns-clause-decided c m t sound there of n =
+    decided_of (Taken (NewGrant c.in_ok-job.job c.args.grant)) _ _ m t c.answered-reply.result _ c.take.ensures c.answered-reply.ensures
+    (λ _. given_new m t c.args.change c.args.job c.in_ok-job.job c.args.grant _ (grant_told c.handed.result) sound there of n
+    (is_recorded c.in_ok-job.job (changed c.args.change (job_of c.args.job)) (Ok c.in_ok-job.job) refl c.in_ok-job.ensures.after) refl c.handed.ensures)
+
+pub returns-clause-cause : goal.returns-clause-cause
+returns-clause-cause c keeps = wants_reply (Taken (NewGrant c.in_ok-job.job c.args.grant)) c.answered-reply.result _ c.take.ensures (only_no_answer c.answered-reply.result _ c.answered-reply.ensures)
+
+pub returns-in_err-job-clause-cause : goal.returns-in_err-job-clause-cause
+returns-in_err-job-clause-cause c keeps = absurd (let no = c.in_err-job.ensures.kept keeps in cc)

@@ -1,4 +1,4 @@
-use Rattle.std.proofs.Common.{◌≡◌, true, Ok, Err, ap, subst, sym}
+use Rattle.std.proofs.Common.{◌≡◌, ◌≤◌, true, Ok, Err, ap, subst, sym, arith}
 use Rattle.std.specs.Prelude.{IfOk}
 use Rattle.fax_ask.specs.Response.{refused_response}
 use Rattle.fax_core.specs.Ageing.{aged}
@@ -10,8 +10,10 @@ use Rattle.fax_tables.specs.declared.meta.Meta.{Meta}
 use Rattle.fax_decide.specs.Decision.{Decides}
 use Rattle.fax_decide.specs.Settings.{have_moment, machine_rule, rule_for, settings_of}
 use Rattle.fax_decide.specs.declared.decision.Decision.TheVariants.{Refused}
-use Rattle.fax_decide.proofs.DecisionLemmas.{decided_by}
+use Rattle.fax_decide.proofs.DecisionLemmas.{decided_by, wants_reply}
 use Rattle.fax_decide.proofs.ImportLemmas.{bring_number, bring_plain, moved, refused_import, rejected_has}
+use Rattle.fax_decide.proofs.FaultLemmas.{if_answered, no_memory, only_no_answer}
+use Rattle.fax_decide.proofs.KeptLemmas.{bring_known}
 use Rattle.fax_decide.proofs.import.decide_import.Goals as goal
 
 pub refused-requires-clause-notice : goal.refused-requires-clause-notice
@@ -30,7 +32,7 @@ returns-in-Ok-clause-decided g c m k sound means serves these =
     let is = bring_number c.args.import here m.next_job c.args.office.now.setup.max_jobs c.args.t c.in-Ok.job
     (moved (Ok (job_of c.in-Ok.job)) c.args.import (rule_of c.in_ok-rule.rule.now hours) here c.args.meta.now.next_job m.next_job c.max_jobs.result c.args.office.now.setup.max_jobs c.args.t
     (ap (λ r. rule_of r hours) c.in_ok-rule.ensures) next c.max_jobs.ensures.number (c.in-Ok.ensures hours)) in
-    subst (λ r. IfOk c.brought.result (Decides (brought_in s (aged c.args.t m) c.args.t here r) m c.args.t)) (sym is.0) (c.brought.ensures.decided m k here sound means serves these is.1)
+    subst (λ r. IfOk c.brought.result (Decides (brought_in s (aged c.args.t m) c.args.t here r) m c.args.t)) (sym is.0) (if_answered c.brought.result _ (c.brought.ensures.decided m k here sound means serves these is.1))
 
 pub returns-in-Err-clause-decided : goal.returns-in-Err-clause-decided
 returns-in-Err-clause-decided g c m k sound means serves these =
@@ -44,3 +46,24 @@ returns-in-Err-clause-decided g c m k sound means serves these =
     (moved (Err c.in-Err.refusal) c.args.import (rule_of c.in_ok-rule.rule.now hours) here c.args.meta.now.next_job m.next_job c.max_jobs.result c.args.office.now.setup.max_jobs c.args.t
     (ap (λ r. rule_of r hours) c.in_ok-rule.ensures) next c.max_jobs.ensures.number (c.in-Err.ensures hours))
     (c.refused.ensures.recorded ok) (ap (λ r. refused_response c.in-Err.refusal (keys_of_rule c.in-Err.refusal (rule_of r hours))) c.in_ok-rule.ensures))
+
+pub returns-in_err-rule-clause-cause : goal.returns-in_err-rule-clause-cause
+returns-in_err-rule-clause-cause g c m k sound means serves these read = no_memory c.from_residual.result _ c.from_residual.ensures.1
+
+pub returns-in-Ok-clause-cause : goal.returns-in-Ok-clause-cause
+returns-in-Ok-clause-cause g c m k sound means serves these read =
+    let next : c.args.meta.now.next_job ≡ m.next_job = ap (λ (x : Meta). x.next_job) these in
+    let rule = rule_for c.args.office.now.controls c.args.import.order.dial in
+    let here = machine_rule c.args.office.now.setup rule in
+    let hours = have_moment c.args.office.now.setup rule.hours in
+    let is = bring_number c.args.import here m.next_job c.args.office.now.setup.max_jobs c.args.t c.in-Ok.job
+    (moved (Ok (job_of c.in-Ok.job)) c.args.import (rule_of c.in_ok-rule.rule.now hours) here c.args.meta.now.next_job m.next_job c.max_jobs.result c.args.office.now.setup.max_jobs c.args.t
+    (ap (λ r. rule_of r hours) c.in_ok-rule.ensures) next c.max_jobs.ensures.number (c.in-Ok.ensures hours)) in
+    only_no_answer c.brought.result _ (c.brought.ensures.decided m k here sound means serves these is.1)
+
+pub returns-in-Err-clause-cause : goal.returns-in-Err-clause-cause
+returns-in-Err-clause-cause g c m k sound means serves these read =
+    let next : c.args.meta.now.next_job ≡ m.next_job = ap (λ (x : Meta). x.next_job) these in
+    let first : 1 ≤ c.args.meta.now.next_job = omega (arith, next, sound.next_job) in
+    wants_reply (λ reply. Refused reply) c.refused.result _ c.refuse.ensures
+    (c.refused.ensures.cause (bring_known c.args.import (rule_of c.in_ok-rule.rule.now (λ _. true)) c.args.meta.now.next_job c.max_jobs.result c.args.t c.in-Err.refusal read first c.max_jobs.ensures.bounds.1 (c.in-Err.ensures (λ _. true))))

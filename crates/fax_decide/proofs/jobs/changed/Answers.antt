@@ -4,12 +4,20 @@ use Rattle.fax_core.specs.State.{state}
 use Rattle.fax_decide.specs.Settings.{settings_of}
 use Rattle.fax_decide.specs.declared.decision.Decision.TheVariants.{Taken}
 use Rattle.fax_decide.specs.declared.effect.Effect.TheVariants.{ChangedJob}
-use Rattle.fax_decide.proofs.DecisionLemmas.{decided_by}
+use Rattle.fax_decide.proofs.DecisionLemmas.{decided_of, wants_reply}
 use Rattle.fax_decide.proofs.JobLemmas.{job_taken}
+use Rattle.fax_decide.proofs.FaultLemmas.{only_no_answer}
 use Rattle.fax_decide.proofs.jobs.changed.Goals as goal
 
 pub returns-clause-decided : goal.returns-clause-decided
 returns-clause-decided g c m k means serves is =
     let settings = settings_of c.args.office.now.setup c.args.office.now.controls in
-    decided_by (Taken (ChangedJob c.in-Ok.job)) _ _ m c.args.t c.stands-reply.result _ c.take.ensures (c.stands-reply.ensures.told m k means serves)
-    (λ _. job_taken settings m c.args.t c.args.change c.args.job c.in-Ok.job (state settings m c.args.t (job_of c.in-Ok.job)) _ is c.in-Ok.ensures refl refl)
+    decided_of (Taken (ChangedJob c.in_ok-job.job)) _ _ m c.args.t c.stands-reply.result _ c.take.ensures (c.stands-reply.ensures.told m k means serves)
+    (λ _. job_taken settings m c.args.t c.args.change c.args.job c.in_ok-job.job (state settings m c.args.t (job_of c.in_ok-job.job)) _ is c.in_ok-job.ensures.after refl refl)
+
+pub returns-clause-cause : goal.returns-clause-cause
+returns-clause-cause g c m k means serves keeps =
+    wants_reply (Taken (ChangedJob c.in_ok-job.job)) c.stands-reply.result _ c.take.ensures (only_no_answer c.stands-reply.result _ (c.stands-reply.ensures.told m k means serves))
+
+pub returns-in_err-job-clause-cause : goal.returns-in_err-job-clause-cause
+returns-in_err-job-clause-cause g c m k means serves keeps = absurd (let no = c.in_err-job.ensures.kept keeps in cc)

@@ -12,6 +12,8 @@ use Rattle.fax_decide.proofs.DecisionLemmas.{refused_like}
 use Rattle.fax_decide.proofs.JobLemmas.{on_job_is}
 use Rattle.fax_decide.proofs.OpenLemmas.{opens_then}
 use Rattle.fax_decide.proofs.RecordLemmas.{found_itself}
+use Rattle.fax_decide.proofs.FaultLemmas.{store_gave_out}
+use Rattle.fax_decide.proofs.KeptLemmas.{job_keeps}
 use Rattle.fax_decide.proofs.jobs.decide_on_job.Goals as goal
 
 pub returns-in-Ok-clause-decided : goal.returns-in-Ok-clause-decided
@@ -33,3 +35,11 @@ returns-in-Ok-clause-opens g c = opens_then (state g.S.Store c.args.store.now.co
 
 pub returns-in-Ok-clause-leaves : goal.returns-in-Ok-clause-leaves
 returns-in-Ok-clause-leaves g c = looks_then g.S.Store _ _ _ c.brief_at.ensures.leaves c.changed.ensures.leaves
+
+pub returns-in_err-job-clause-cause : goal.returns-in_err-job-clause-cause
+returns-in_err-job-clause-cause g c m k means serves read = store_gave_out c.from_residual.result c.in_err-job.field-0.0 _ c.from_residual.ensures.1 (c.in_err-job.ensures.found m k means serves)
+
+pub returns-in-Ok-clause-cause : goal.returns-in-Ok-clause-cause
+returns-in-Ok-clause-cause g c m k means serves read =
+    c.changed.ensures.cause m k (means_stay c.brief_at.ensures.leaves.served c.brief_at.ensures.leaves.stays m k means) serves
+    (job_keeps c.args.ask c.args.t c.in-Some.job c.in-Ok.change read c.in-Ok.ensures)

@@ -6,6 +6,7 @@ use Rattle.fax_job.specs.Limits.{last_job}
 use Rattle.fax_tables.specs.Job.{brief}
 use Rattle.fax_store.proofs.FrameLemmas.{means_now}
 use Rattle.fax_decide.proofs.RecordLemmas.{no_job, found_brief, found_no_job}
+use Rattle.fax_tables.proofs.ResultLemmas.{passes_on}
 use Rattle.fax_decide.proofs.records.brief_at.Goals as goal
 
 pub returns-in_default-clause-found : goal.returns-in_default-clause-found
@@ -25,3 +26,6 @@ returns-in-None-clause-found g c m k means serves =
     let same : c.in-Some.number ≡ c.args.number = search rules in
     found_no_job m c.args.t c.args.number (λ j. brief (fields_of j)) _
     (subst (λ n. c.in_ok-brief.field-0 ≡ option_map (λ j. brief (fields_of j)) (job_numbered n m)) same (c.in_ok-brief.ensures.answers m k (means_now means) serves)) c.in-None.is
+
+pub returns-in_err-brief-clause-found : goal.returns-in_err-brief-clause-found
+returns-in_err-brief-clause-found g c m k means serves = passes_on c.from_residual.result c.in_err-brief.field-0.0 _ c.from_residual.ensures.1 (c.in_err-brief.ensures.answers m k (means_now means) serves)

@@ -1,7 +1,7 @@
 use Rattle.std.proofs.Common.{◌<◌, rules}
 use Rattle.fax_job.specs.Limits.{last_grant}
 use Rattle.fax_store.proofs.FrameLemmas.{means_now}
-use Rattle.fax_decide.proofs.RecordLemmas.{no_grant, if_ok}
+use Rattle.fax_decide.proofs.RecordLemmas.{no_grant}
 use Rattle.fax_decide.proofs.records.grant_at.Goals as goal
 
 pub returns-then-number-from-clause-found : goal.returns-then-number-from-clause-found
@@ -10,4 +10,4 @@ returns-then-number-from-clause-found g c m k means serves =
     no_grant m c.args.number (means serves).means.lawful.grants past
 
 pub returns-clause-found : goal.returns-clause-found
-returns-clause-found g c m k means serves = if_ok c.grant.result _ _ (c.grant.ensures.answers m k (means_now means) serves)
+returns-clause-found g c m k means serves = c.grant.ensures.answers m k (means_now means) serves

@@ -5,6 +5,7 @@ use Rattle.fax_core.specs.Queue.{job_numbered}
 use Rattle.fax_job.specs.Limits.{last_job}
 use Rattle.fax_store.proofs.FrameLemmas.{means_now}
 use Rattle.fax_decide.proofs.RecordLemmas.{no_job, found_job, found_no_job}
+use Rattle.fax_tables.proofs.ResultLemmas.{passes_on}
 use Rattle.fax_decide.proofs.records.job_at.Goals as goal
 
 pub returns-in_default-clause-found : goal.returns-in_default-clause-found
@@ -24,3 +25,6 @@ returns-in-None-clause-found g c m k means serves =
     let same : c.in-Some.number ≡ c.args.number = search rules in
     found_no_job m c.args.t c.args.number fields_of _
     (subst (λ n. c.in_ok-job.field-0 ≡ option_map fields_of (job_numbered n m)) same (c.in_ok-job.ensures.answers m k (means_now means) serves)) c.in-None.is
+
+pub returns-in_err-job-clause-found : goal.returns-in_err-job-clause-found
+returns-in_err-job-clause-found g c m k means serves = passes_on c.from_residual.result c.in_err-job.field-0.0 _ c.from_residual.ensures.1 (c.in_err-job.ensures.answers m k (means_now means) serves)

@@ -13,6 +13,7 @@ use Rattle.fax_decide.proofs.DecisionLemmas.{report_refused}
 use Rattle.fax_decide.proofs.LinesLemmas.{both_lined, call_lined}
 use Rattle.fax_decide.proofs.PlainLemmas.{call_plain}
 use Rattle.fax_decide.proofs.ReportLemmas.{reported_on, same_call}
+use Rattle.fax_decide.proofs.KeptLemmas.{call_keeps}
 use Rattle.fax_decide.proofs.reports.decide_call.Goals as goal
 
 pub refused-requires : goal.refused-requires
@@ -23,10 +24,13 @@ returns-in-Ok-clause-decided c m there =
     let lines = lines_of (job_numbered c.args.job.job (aged c.args.t m)) in
     reported_on (λ step. IfOk c.called.result (Decides step m c.args.t)) (aged c.args.t m) (call_reply c.args.t) lines (job_of c.args.job) c.in-Ok.change _ c.with_call.result _ _
     c.with_call.ensures c.in-Ok.ensures (call_lined lines c.args.said (job_of c.args.job) c.args.grant)
-    (c.called.ensures m c.args.grant there (subst (IsSameGrant c.args.grant) (sym c.with_call.ensures) (same_call c.args.grant (Some c.args.said))) (ap (λ (g : Grant). g.number) c.with_call.ensures))
+    (c.called.ensures.decided m c.args.grant there (subst (IsSameGrant c.args.grant) (sym c.with_call.ensures) (same_call c.args.grant (Some c.args.said))) (ap (λ (g : Grant). g.number) c.with_call.ensures))
 
 pub returns-in-Err-clause-decided : goal.returns-in-Err-clause-decided
 returns-in-Err-clause-decided c m there =
     let lines = lines_of (job_numbered c.args.job.job (aged c.args.t m)) in
     report_refused (aged c.args.t m) (call_reply c.args.t) (job_in (aged c.args.t m) c.args.job) _ c.in-Err.refusal m c.args.t c.refused.result
     (call_plain c.args.said (job_of c.args.job) _ c.in-Err.refusal (sym c.in-Err.ensures)) c.refused.ensures (ap (both_lined lines) c.in-Err.ensures ∙ call_lined lines c.args.said (job_of c.args.job) c.args.grant)
+
+pub returns-in-Ok-clause-cause : goal.returns-in-Ok-clause-cause
+returns-in-Ok-clause-cause c fit = c.called.ensures.cause (call_keeps c.args.job c.args.grant _ c.in-Ok.change fit c.args.said c.in-Ok.ensures)

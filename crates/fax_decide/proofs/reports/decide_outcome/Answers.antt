@@ -1,5 +1,4 @@
-use Rattle.std.proofs.Common.{ℕ, refl, sym, ap, ◌∙◌}
-use Rattle.std.specs.Prelude.{IfOk}
+use Rattle.std.proofs.Common.{ℕ, ◌+◌, ◌≤◌, refl, sym, ap, ◌∙◌, arith}
 use Rattle.fax_core.specs.Ageing.{aged}
 use Rattle.fax_core.specs.Decisions.{outcome}
 use Rattle.fax_core.specs.Job.{job_of}
@@ -13,6 +12,9 @@ use Rattle.fax_decide.proofs.DecisionLemmas.{report_refused}
 use Rattle.fax_decide.proofs.LinesLemmas.{both_lined, outcome_lined}
 use Rattle.fax_decide.proofs.PlainLemmas.{outcome_plain}
 use Rattle.fax_decide.proofs.ReportLemmas.{open_outcome, reported_on}
+use Rattle.fax_decide.specs.Fault.{OrNoAnswer}
+use Rattle.fax_decide.proofs.FaultLemmas.{or_no_answer}
+use Rattle.fax_decide.proofs.KeptLemmas.{fits_there, outcome_keeps}
 use Rattle.fax_decide.proofs.reports.decide_outcome.Goals as goal
 
 pub refused-requires : goal.refused-requires
@@ -22,10 +24,13 @@ pub returns-in-Ok-clause-decided : goal.returns-in-Ok-clause-decided
 returns-in-Ok-clause-decided g c m k sound means serves there =
     let s = settings_of c.args.office.now.setup c.args.office.now.controls in
     let lines = lines_of (job_numbered c.args.job.job (aged c.args.t m)) in
+    let is_open = open_outcome c.args.said (job_of c.args.job) c.args.grant c.delay-delay.result c.args.t _ c.in-Ok.ensures in
+    let late : c.args.t + c.delay-delay.result ≤ 4102531200 = omega (arith, c.seconds-seconds.ensures.seconds, c.seconds-seconds.ensures.bound, c.delay-delay.ensures.bound) in
     let delayed = λ (delay : ℕ). outcome c.args.said (job_in (aged c.args.t m) c.args.job) c.args.grant delay c.args.t in
-    reported_on (λ step. IfOk c.ended.result (Decides step m c.args.t)) (aged c.args.t m) (outcome_reply s c.args.t) lines (job_of c.args.job) c.in-Ok.change _ _ _ _
+    reported_on (λ step. OrNoAnswer c.ended.result (Decides step m c.args.t)) (aged c.args.t m) (outcome_reply s c.args.t) lines (job_of c.args.job) c.in-Ok.change _ _ _ _
     refl c.in-Ok.ensures (outcome_lined lines c.args.said (job_of c.args.job) c.args.grant c.delay-delay.result c.args.t ∙ ap delayed c.delay-delay.ensures.seconds)
-    (c.ended.ensures.decided m k sound means serves there (open_outcome c.args.said (job_of c.args.job) c.args.grant c.delay-delay.result c.args.t _ c.in-Ok.ensures))
+    (or_no_answer c.ended.result _ (c.ended.ensures.decided m k sound means serves there is_open)
+    (c.ended.ensures.cause m k means serves (outcome_keeps c.args.job c.args.grant _ c.in-Ok.change (fits_there m c.args.t c.args.job c.args.grant sound there is_open) c.args.said c.delay-delay.result c.args.t late c.in-Ok.ensures)))
 
 pub returns-in-Err-clause-decided : goal.returns-in-Err-clause-decided
 returns-in-Err-clause-decided g c m k sound means serves there =

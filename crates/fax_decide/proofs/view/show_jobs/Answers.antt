@@ -9,6 +9,7 @@ use Rattle.fax_decide.specs.Settings.{settings_of}
 use Rattle.fax_store.proofs.StoreLemmas.{means_stay}
 use Rattle.fax_store.proofs.FrameLemmas.{looks_of, looks_then, means_now}
 use Rattle.fax_decide.proofs.ViewLemmas.{briefs_seen, listing_thin, numbers_thin, rows_ascend}
+use Rattle.fax_decide.proofs.FaultLemmas.{no_memory, passed_on, store_gave_out}
 use Rattle.fax_decide.proofs.view.show_jobs.Goals as goal
 
 pub returns-clause-viewed : goal.returns-clause-viewed
@@ -31,3 +32,14 @@ returns-in_err-rows-clause-leaves g c = looks_then g.S.Store _ _ _ (looks_of g.S
 
 pub returns-in_err-listed-clause-leaves : goal.returns-in_err-listed-clause-leaves
 returns-in_err-listed-clause-leaves g c = looks_then g.S.Store _ _ _ (looks_of g.S.Store _ _ _ c.briefs.ensures.leaves) c.with_states.ensures.leaves
+
+pub returns-in_err-jobs-clause-viewed : goal.returns-in_err-jobs-clause-viewed
+returns-in_err-jobs-clause-viewed g c m k sound means serves = store_gave_out c.from_residual.result c.in_err-jobs.field-0.0 _ c.from_residual.ensures.1 (c.in_err-jobs.ensures.answers m k (means_now means) serves)
+
+pub returns-in_err-rows-clause-viewed : goal.returns-in_err-rows-clause-viewed
+returns-in_err-rows-clause-viewed g c m k sound means serves =
+    passed_on c.from_residual-in_err-rows.result c.in_err-rows.field-0.0 _ c.from_residual-in_err-rows.ensures.1
+    (c.in_err-rows.ensures.rows m k (means_stay c.briefs.ensures.leaves.served c.briefs.ensures.leaves.stays m k means) serves)
+
+pub returns-in_err-listed-clause-viewed : goal.returns-in_err-listed-clause-viewed
+returns-in_err-listed-clause-viewed g c m k sound means serves = no_memory c.from_residual-in_err-listed.result _ c.from_residual-in_err-listed.ensures.1

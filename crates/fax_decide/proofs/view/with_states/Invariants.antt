@@ -1,4 +1,4 @@
-use Rattle.std.proofs.Common.{◌≡◌, List, ◌++◌, map}
+use Rattle.std.proofs.Common.{◌≡◌, ◌++◌, map}
 use Rattle.sqlite.specs.Held.{state}
 use Rattle.fax_core.specs.Ageing.{aged_job}
 use Rattle.fax_core.specs.Job.{job_of}

@@ -2,7 +2,7 @@ use Rattle.std.proofs.Common.{Ok, inl, subst}
 use Rattle.sqlite.specs.Held.{state}
 use Rattle.sqlite.specs.State.{HasCleanDisk}
 use Rattle.fax_store.specs.Store.{Serves}
-use Rattle.fax_decide.specs.declared.fault.Unavailable.{Unavailable}
+use Rattle.fax_decide.specs.declared.fault.Fault.{Fault}
 use Rattle.fax_ask.specs.Ask.{IsAsk, IsLawful}
 use Rattle.fax_decide.specs.Settings.{settings_of}
 use Rattle.fax_store.proofs.StoreLemmas.{means_stay}
@@ -25,7 +25,7 @@ returns-in-Ok-clause-answered g c m k sound means clean is lawful =
 
 pub returns-in-Err-clause-answered : goal.returns-in-Err-clause-answered
 returns-in-Err-clause-answered g c m k sound means clean is lawful =
-    sender_answers {E = Unavailable} (Ok c.refused.result) (settings_of c.args.self.now.office.setup c.args.self.now.office.controls) c.args.arrival.now m k c.args.ask c.in-Step.ask c.in-Err.refusal (state g.S.Store c.args.self.now.store.conn)
+    sender_answers {E = Fault} (Ok c.refused.result) (settings_of c.args.self.now.office.setup c.args.self.now.office.controls) c.args.arrival.now m k c.args.ask c.in-Step.ask c.in-Err.refusal (state g.S.Store c.args.self.now.store.conn)
     is c.in-Step.is c.in-Err.ensures.refused c.refused.ensures means
 
 pub refused-requires : goal.refused-requires

@@ -1,0 +1,57 @@
+-- What is said of a call that memory or the store may leave without an answer.
+use Rattle.std.proofs.Common.{◌≡◌, Bool, true, false, Ok, Err, Result, IfOk, IsErr, IsErrAnd, IsOk, refl, ap, ◌∙◌}
+use Rattle.fax_tables.specs.declared.fault.StoreFault.{StoreFault}
+use Rattle.fax_tables.specs.declared.fault.StoreFault.TheVariants.{Unavailable}
+use Rattle.fax_decide.specs.Fault.{OnlyNoAnswer, OrNoAnswer, fault_of}
+use Rattle.fax_decide.specs.declared.fault.Fault.{Fault}
+use Rattle.fax_decide.specs.declared.fault.Fault.TheVariants.{NoAnswer}
+
+-- ---- what a `?` passes on
+
+-- want of memory
+pub no_memory : {A : Type 0} (r : Result A Fault) (P : A → Type 0) → IsErrAnd r (λ e. e ≡ NoAnswer) → OrNoAnswer r P
+no_memory (Ok x) P is = absurd is
+no_memory (Err e) P is = is
+
+-- a fault of the store
+pub store_gave_out : {A : Type 0} (r : Result A Fault) (fault : StoreFault) (P : A → Type 0) → IsErrAnd r (λ e. e ≡ fault_of fault) → fault ≡ Unavailable → OrNoAnswer r P
+store_gave_out (Ok x) fault P is why = absurd is
+store_gave_out (Err e) fault P is why = is ∙ ap fault_of why
+
+-- a fault of another call
+pub passed_on : {A : Type 0} (r : Result A Fault) (fault : Fault) (P : A → Type 0) → IsErrAnd r (λ e. e ≡ fault) → fault ≡ NoAnswer → OrNoAnswer r P
+passed_on (Ok x) fault P is why = absurd is
+passed_on (Err e) fault P is why = is ∙ why
+
+-- ---- the two sides
+
+-- what is had of a value
+pub if_answered : {A : Type 0} (r : Result A Fault) (P : A → Type 0) → OrNoAnswer r P → IfOk r P
+if_answered (Ok x) P h = h
+if_answered (Err e) P h = tt
+
+-- why there is none
+pub only_no_answer : {A : Type 0} (r : Result A Fault) (P : A → Type 0) → OrNoAnswer r P → OnlyNoAnswer r
+only_no_answer (Ok x) P h = tt
+only_no_answer (Err e) P h = h
+
+-- both
+pub or_no_answer : {A : Type 0} (r : Result A Fault) (P : A → Type 0) → IfOk r P → OnlyNoAnswer r → OrNoAnswer r P
+or_no_answer (Ok x) P h why = h
+or_no_answer (Err e) P h why = why
+
+-- what is less
+pub or_weaker : {A : Type 0} (r : Result A Fault) (P Q : A → Type 0) → ((x : A) → P x → Q x) → OrNoAnswer r P → OrNoAnswer r Q
+or_weaker (Ok x) P Q less h = less x h
+or_weaker (Err e) P Q less h = h
+
+-- what is had of a value that is there
+pub always_answered : {A : Type 0} (r : Result A Fault) (P : A → Type 0) → IfOk r P → (IsErr r → ⊥) → OrNoAnswer r P
+always_answered (Ok x) P h never = h
+always_answered (Err e) P h never = absurd (never refl)
+
+-- by cases: a value is there, or memory or the store gave no answer
+pub in_either : {A : Type 0} (b : Bool) (r : Result A Fault) → (b ≡ false → IsOk r) → (b ≡ true → OnlyNoAnswer r) → OnlyNoAnswer r
+in_either true r ok why = why refl
+in_either false (Ok x) ok why = tt
+in_either false (Err e) ok why = absurd (let no = ok refl in cc)
