@@ -5,10 +5,12 @@ ghost use Rattle.sqlite.specs.State.{HasCleanDisk};
 ghost use Rattle.sqlite_wal.specs.Files.{image_at};
 ghost use Rattle.fax_files.specs.Database.{IsFound};
 
+use crate::connection::connect;
 use fax_once::{Office, Queue};
 use fax_store::Store;
 use fax_text::{Status, fail};
-use sqlite::{Connection, Error, ErrorCode, FileFrom, FileStore, Start};
+use sqlite::{Error, ErrorCode, FileFrom, FileStore, Start};
+use sqlite_std_file::OpenError;
 use std::alloc::AllocError;
 use std::fs;
 use std::io::{self, ErrorKind, Write};
@@ -45,6 +47,16 @@ impl From<Error> for OpenFault {
     }
 }
 
+impl From<OpenError> for OpenFault {
+    fn from(error: OpenError) -> OpenFault {
+        match error {
+            OpenError::OutOfMemory => OpenFault::NoMemory,
+            OpenError::Io(error) => error.into(),
+            OpenError::Busy | OpenError::HotJournal => OpenFault::Database,
+        }
+    }
+}
+
 /// The queue in the file of this name, by that office. Where it has no tables yet, it gets those of an empty queue; else
 /// it keeps its rows, and the queue is the one that they mean.
 pub fn open_queue<S: Start>(
@@ -58,10 +70,7 @@ pub fn open_queue<S: Start>(
     ensures found { IfOk result (λ queue. HasCleanDisk (file_state queue.store.conn)
         → IsFound (image_at S.Start) (file_state queue.store.conn)) }
 {
-    let conn = match Connection::open_from(rt, name, false, start) {
-        Ok(conn) => conn,
-        Err((error, _)) => return Err(error.into()),
-    };
+    let conn = connect(rt, name, start)?;
     let store = match Store::adopt(rt.alloc(), conn) {
         Ok(store) => store,
         Err(_) => return Err(OpenFault::Database),

@@ -1,6 +1,7 @@
 //! The files that a command names: setup, controls, the queue's database, and the jobs of an older queue.
 #![tactic(auto)]
 
+mod connection;
 mod database;
 mod new_file;
 mod office;
