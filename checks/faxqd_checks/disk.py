@@ -11,6 +11,7 @@ from .shared import Peer, SETUP, Server, Wrong, database_of, expect, free_port, 
 
 PATIENCE = 60  # seconds until whatever is awaited counts as never coming
 STOPPED = 77  # the status with which the library ends the process
+PER_CONNECTION = 1000  # messages that a connection has at most
 SECTOR = 512
 PAGE = 4096
 NAME = "queue.db"
@@ -280,8 +281,14 @@ class Office(Server):
         is_there = super().listens()
         expect(is_there or self.said == b"", f"it says {self.said!r} where it should listen")
         if is_there:
-            self.peer = Peer(self.port, patience=PATIENCE).socket
+            self.connects()
         return is_there
+
+    def connects(self):
+        """Makes a connection, in place of the one before."""
+        if self.peer:
+            self.peer.close()
+        self.peer = Peer(self.port, patience=PATIENCE).socket
 
     def starts(self):
         if not self.listens():
@@ -314,11 +321,13 @@ class Office(Server):
 
 
 def undisturbed(tools, files, conversation):
-    """What a server leaves that takes the whole conversation."""
+    """What a server leaves that takes the whole conversation, by as many connections as it takes."""
     folder = lay(tools.folder / "undisturbed", files)
-    with Office(tools, folder) as server:
+    with Office(tools, folder, connections=1 + max(0, len(conversation) - 1) // PER_CONNECTION) as server:
         server.starts()
-        for said in conversation:
+        for place, said in enumerate(conversation):
+            if place and place % PER_CONNECTION == 0:
+                server.connects()
             expect(server.replies(said), f"number {said[2]} of {said[1]} isn't answered")
         expect(server.is_over(), "it is stopped without a reason")
     return taken(folder)

@@ -17,9 +17,11 @@ FIRST_VERSION = (f"{INDEXES}; DROP TABLE floors; UPDATE meta SET version = 1; CR
                  "modem); CREATE TABLE calls (dial TEXT PRIMARY KEY NOT NULL, open INTEGER NOT NULL) STRICT")
 # Behind the first of these it gives its replies up.
 FLOORS = [CONVERSATION[0], ("floor", "desk", 5, "/numbers/floor", '{"upto":3}', 200, '{"floor":3}')]
-# So many requests fill the log but for what a start writes, so that the next start copies it into the database file.
-FILLING = [(None, "w9", number, f"/modems/ttyS1/{'down' if number % 2 else 'ready'}", "", 200,
-            f'{{"down":{"true" if number % 2 else "false"}}}') for number in range(1, 183)]
+# So many requests fill the log but for what a start writes, so that the next start copies it into the database file. Each
+# fiftieth gives up the replies to the others, so that the file stays small.
+FILLING = [(None, "w9", number, "/numbers/floor", f'{{"upto":{number - 1}}}', 200, f'{{"floor":{number - 1}}}') if number % 50 == 0
+           else (None, "w9", number, f"/modems/ttyS1/{'down' if number % 2 else 'ready'}", "", 200,
+                 f'{{"down":{"true" if number % 2 else "false"}}}') for number in range(1, 1458)]
 AGAIN = "outcome, first", "outcome, later", "new-file"  # with --all the start on what these leave is swept too
 FEW = "kept", "lost", "lost-db", "sectors"  # without --all a full log, which is large, is left in these
 

@@ -1,19 +1,20 @@
-//! The queue in a file.
-ghost use Rattle.std.specs.Prelude.{◌≡◌, false, IfOk};
+//! The queue's tables in a file.
+ghost use Rattle.std.specs.Prelude.{◌≡◌, IfOk};
 ghost use Rattle.sqlite.specs.Files.{file_state};
 ghost use Rattle.sqlite.specs.State.{HasCleanDisk};
 ghost use Rattle.sqlite_wal.specs.Files.{image_at};
 ghost use Rattle.fax_files.specs.Database.{IsFound};
 
-use fax_once::{Office, Queue};
+use crate::connection::connect;
 use fax_store::Store;
 use fax_text::{Status, fail};
-use sqlite::{Connection, Error, ErrorCode, FileFrom, FileStore, Start};
+use sqlite::{Error, ErrorCode, FileFrom, FileStore, Start};
+use sqlite_std_file::OpenError;
 use std::alloc::AllocError;
 use std::fs;
 use std::io::{self, ErrorKind, Write};
 
-/// Why there is no queue over a file.
+/// Why a file's tables can't be had.
 #[derive(Clone, Copy, Debug, PartialEq, Eq)]
 pub enum OpenFault {
     /// The file can't be opened, or has no queue of this version.
@@ -45,47 +46,46 @@ impl From<Error> for OpenFault {
     }
 }
 
-/// The queue in the file of this name, by that office. Where it has no tables yet, it gets those of an empty queue; else
-/// it keeps its rows, and the queue is the one that they mean.
-pub fn open_queue<S: Start>(
-    rt: &HostRuntime,
-    name: &str,
-    start: S,
-    office: Office,
-) -> Result<Queue<FileStore<FileFrom<S>>>, OpenFault>
-    ensures office { IfOk result (λ queue. queue.office ≡ office) }
-    ensures open { IfOk result (λ queue. queue.is_shut ≡ false) }
-    ensures found { IfOk result (λ queue. HasCleanDisk (file_state queue.store.conn)
-        → IsFound (image_at S.Start) (file_state queue.store.conn)) }
-{
-    let conn = match Connection::open_from(rt, name, false, start) {
-        Ok(conn) => conn,
-        Err((error, _)) => return Err(error.into()),
-    };
-    let store = match Store::adopt(rt.alloc(), conn) {
-        Ok(store) => store,
-        Err(_) => return Err(OpenFault::Database),
-    };
-    Ok(Queue::new(rt.alloc(), store, office.setup, office.controls)?)
+impl From<OpenError> for OpenFault {
+    fn from(error: OpenError) -> OpenFault {
+        match error {
+            OpenError::OutOfMemory => OpenFault::NoMemory,
+            OpenError::Io(error) => error.into(),
+            OpenError::Busy | OpenError::HotJournal => OpenFault::Database,
+        }
+    }
 }
 
-/// The queue in the file of this name, as [`open_queue`] gives it, where there is such a file.
-pub fn open_found_queue<S: Start>(
+/// The tables in the file of this name. Where it has none yet, it gets those of an empty queue; else it keeps its rows.
+pub fn open_store<S: Start>(
     rt: &HostRuntime,
     name: &str,
     start: S,
-    office: Office,
-) -> Result<Queue<FileStore<FileFrom<S>>>, OpenFault>
-    ensures office { IfOk result (λ queue. queue.office ≡ office) }
-    ensures open { IfOk result (λ queue. queue.is_shut ≡ false) }
-    ensures found { IfOk result (λ queue. HasCleanDisk (file_state queue.store.conn)
-        → IsFound (image_at S.Start) (file_state queue.store.conn)) }
+) -> Result<Store<FileStore<FileFrom<S>>>, OpenFault>
+    ensures { IfOk result (λ store. HasCleanDisk (file_state store.conn)
+        → IsFound (image_at S.Start) (file_state store.conn)) }
+{
+    let conn = connect(rt, name, start)?;
+    match Store::adopt(rt.alloc(), conn) {
+        Ok(store) => Ok(store),
+        Err(_) => Err(OpenFault::Database),
+    }
+}
+
+/// The tables in the file of this name, as [`open_store`] gives them, where there is such a file.
+pub fn open_found_store<S: Start>(
+    rt: &HostRuntime,
+    name: &str,
+    start: S,
+) -> Result<Store<FileStore<FileFrom<S>>>, OpenFault>
+    ensures { IfOk result (λ store. HasCleanDisk (file_state store.conn)
+        → IsFound (image_at S.Start) (file_state store.conn)) }
 {
     fs::metadata(rt, name)?;
-    open_queue(rt, name, start, office)
+    open_store(rt, name, start)
 }
 
-/// Says on one line why there is no queue.
+/// Says on one line why a file's tables can't be had.
 pub fn tell_fault<E: Write>(err: &mut E, fault: OpenFault) -> Status
     ensures { result ≡ Status.Fault }
 {

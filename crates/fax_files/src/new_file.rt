@@ -29,7 +29,7 @@ fn make_new(rt: &HostRuntime, name: &str) -> io::Result<()> {
 }
 
 /// Whether the engine takes this for the name of a file.
-fn is_file_name(name: &str) -> bool {
+pub(crate) fn is_file_name(name: &str) -> bool {
     !name.is_empty() && name != ":memory:" && !name.starts_with("file:")
 }
 

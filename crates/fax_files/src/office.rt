@@ -2,8 +2,8 @@
 ghost use Rattle.std.specs.Prelude.{◌≡◌};
 ghost use Rattle.fax_files.specs.Office.{ComesOf, ControlsOf, IsOfficeOf, IsReadOf, SetupOf};
 
+use fax_decide::Office;
 use fax_dest::{Controls, FileFault, FileKind, Setup};
-use fax_once::Office;
 use fax_text::{OfficeFiles, Status, fail};
 use std::alloc::Global;
 use std::fs;

@@ -7,4 +7,4 @@ mod MessageLemmas
 mod PhraseLemmas
 pub mod ServingLemmas
 mod WholeLemmas
-mod TurnLemmas
+pub mod TurnLemmas

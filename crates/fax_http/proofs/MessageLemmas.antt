@@ -13,7 +13,7 @@ use Rattle.fax_http.specs.declared.message.Broken.TheVariants.{BadHttp, TooLarge
 use Rattle.fax_http.specs.Message.{Fields, IsBad, IsHead, IsUnfinished, NeverHasHead, StaysBad, bounded, fields_of, framed, said_length, uncoded, values_of}
 
 -- a front that fits into the bytes before what follows is theirs
-front_of : (input more front behind : List ℕ) → input ++ more ≡ front ++ behind → length front ≤ length input
+pub front_of : (input more front behind : List ℕ) → input ++ more ≡ front ++ behind → length front ≤ length input
     → input ≡ front ++ drop (length front) input
 front_of input more front behind e fits =
     sym (take-append-drop (length front) input)

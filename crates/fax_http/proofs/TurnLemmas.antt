@@ -1,5 +1,5 @@
 -- What the front of some bytes comes to.
-use Rattle.std.proofs.Common.{◌≡◌, ℕ, ◌-◌, ◌<◌, Bool, codes, List, [], ◌∷◌, ◌++◌, length, drop, Result, Err, refl, ap, subst, sym, ◌∙◌, append_assoc, arith, length-append}
+use Rattle.std.proofs.Common.{◌≡◌, ℕ, ◌-◌, ◌<◌, Bool, codes, List, [], ◌∷◌, ◌++◌, length, drop, Result, Err, refl, ap, inl, subst, sym, ◌∙◌, append-nil, append_assoc, arith, length-append}
 use Rattle.std.proofs.Math.Seq.{drop-append_seam}
 use Rattle.std.proofs.lemmas.List.Sums.{AllPass-from_list_all}
 use Rattle.httparse.specs.Grammar.{AllPass, RequestHead, IsRequestHead, crlf, is_token_byte, is_uri_byte, print_request}
@@ -10,7 +10,7 @@ use Rattle.fax_http.specs.declared.turn.Found.{Found}
 use Rattle.fax_http.specs.declared.turn.Found.TheVariants.{Answered, Last, Refused, NotYet}
 use Rattle.fax_http.specs.Cut.{ArePartsOf, HoldsMessage}
 use Rattle.fax_http.specs.Found.{Finds, HandsOver, NeverBegins}
-use Rattle.fax_http.specs.Message.{BeginsWith, IsMessage, IsTooLarge, StaysBad}
+use Rattle.fax_http.specs.Message.{BeginsWith, IsMessage, IsTooLarge, IsUnfinished, StaysBad}
 use Rattle.fax_http.specs.Serving.{Answering}
 use Rattle.fax_http.proofs.DivisionLemmas.{some_head}
 
@@ -47,6 +47,21 @@ least_message = record { is_head = record { grammar = least_is; bytes = omega (a
 -- an empty input isn't bad whatever follows: a message may
 none_stays : ¬ (StaysBad [])
 none_stays bad = (bad (print_request least ++ ([] ++ []))).none least [] [] (record { message = least_message; bytes = refl })
+
+-- it may be the front of a message
+pub none_unfinished : IsUnfinished []
+none_unfinished = record {
+  none = record {
+    none = λ head body rest begins. some_head head (body ++ rest) begins.bytes;
+    not_too_large = λ large. some_head large.head large.rest large.bytes;
+  };
+  within = omega arith;
+  part = inl (record {
+    none = λ head rest is_head begins. some_head head rest begins;
+    within = omega arith;
+    grammar = inl (print_request least, least, (least_is, sym (append-nil (print_request least))));
+  });
+}
 
 -- bytes that aren't none are some
 some_bytes : (input : List ℕ) → ¬ (input ≡ []) → 0 < length input

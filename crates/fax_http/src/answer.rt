@@ -1,6 +1,6 @@
 //! The reply to one request that was sent.
-ghost use Rattle.std.specs.Prelude.{◌≡◌, ◌<◌, ◌+◌, false, length, IfOk};
-ghost use Rattle.fax_http.specs.Answer.{BeginsWithAnswer, Gives, IfAnswer};
+ghost use Rattle.std.specs.Prelude.{◌≡◌, ◌<◌, ◌+◌, false, length, Err, IfOk};
+ghost use Rattle.fax_http.specs.Answer.{BeginsNoAnswer, BeginsWithAnswer, Gives, GivesNone, IfAnswer, NeverBeginsAnswer};
 
 use crate::buffer::Buffer;
 use crate::device::{ReadFailed, Watched};
@@ -46,7 +46,7 @@ enum AnswerRead<'b> {
     Whole(u16, &'b [u8]),
     /// No reply yet: its head or its body isn't there to its end.
     NotYet,
-    /// No reply within its limits.
+    /// No reply within its limits, whatever bytes follow.
     Never,
 }
 
@@ -60,6 +60,7 @@ pub fn read_answer<R: Read + Drop>(
 ) -> Result<Answer, AnswerFault>
     requires { reader.old.failed ≡ false }
     ensures answer { IfOk result (Gives R.remaining reader.old reader.new) }
+    ensures none { result ≡ Err AnswerFault.NoReply → GivesNone R.remaining reader.old reader.new }
 {
     let mut buffer = Buffer::new(alloc)?;
     loop {
@@ -84,7 +85,9 @@ pub fn read_answer<R: Read + Drop>(
 /// Finds the reply that `input` begins with, where it is there to its end.
 fn split_answer(input: &[u8]) -> AnswerRead<'_>
     ensures answer { IfAnswer result (BeginsWithAnswer input.now) }
-    ensures not_yet { result ≡ AnswerRead.NotYet → length input.now < 16384 + 65536 }
+    ensures within { result ≡ AnswerRead.NotYet → length input.now < 16384 + 65536 }
+    ensures not_yet { result ≡ AnswerRead.NotYet → BeginsNoAnswer input.now }
+    ensures never { result ≡ AnswerRead.Never → NeverBeginsAnswer input.now }
 {
     let mut room = [EMPTY_HEADER_SPAN; FIELD_LIMIT];
     let head = match parse_response(input, &mut room) {

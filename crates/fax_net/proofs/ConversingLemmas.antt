@@ -1,5 +1,5 @@
 -- What becomes of one connection, as its messages are answered.
-use Rattle.std.proofs.Common.{◌≡◌, ◌⊎◌, ℕ, ◌+◌, ◌<◌, Bool, true, false, ◌||◌, List, [], ◌∷◌, ◌++◌, length, None, refl, ap, sym, ◌∙◌, subst, inl, inr, append-nil, arith}
+use Rattle.std.proofs.Common.{◌≡◌, ◌⊎◌, ℕ, ◌+◌, ◌<◌, Bool, true, false, not, ◌&&◌, ◌||◌, List, [], ◌∷◌, ◌++◌, length, None, refl, ap, sym, ◌∙◌, subst, inl, inr, append-nil, arith}
 use Rattle.std.specs.Prelude.{⊤}
 use Rattle.fax_http.specs.declared.message.Broken.{Broken}
 use Rattle.fax_http.specs.declared.message.Broken.TheVariants.{BadHttp, TooLarge}
@@ -9,16 +9,17 @@ use Rattle.fax_http.specs.Conversation.{Turn, failure_of, spelled_turn, spelled_
 use Rattle.fax_http.specs.Found.{Finds, HasAnswered as HasTurned, NeverBegins}
 use Rattle.fax_http.specs.Message.{IsUnfinished, is_last}
 use Rattle.fax_http.specs.Serving.{Answering}
+use Rattle.fax_http.proofs.TurnLemmas.{none_unfinished}
 use Rattle.fax_http.proofs.ServingLemmas.{go_on_one_more, length_one_more, reads_one_more, spelled_one_more}
 use Rattle.fax_net.specs.Deeds.{Admits}
 use Rattle.fax_net.specs.History.{Answered, AreAnswered, Came, FailsIn, GoesOn, IsAttended, IsDone, IsNext, IsQuiet, Missed, Refused, Step, Talk, Waits, acted, owed, refusal, talk}
-use Rattle.fax_net.specs.Link.{EndsAt, HasAnswered, HasEnded, HasSaidAll, Holds, IsGoing, IsUnused, Keeps, awaits, is_done, is_due}
+use Rattle.fax_net.specs.Link.{AwaitsNext, EndsAt, HasAnswered, HasEnded, HasSaidAll, Holds, IsGoing, IsUnused, Keeps, awaits, is_done, is_due}
 use Rattle.fax_net.specs.Many.{GoesFrom, Runs}
 use Rattle.fax_net.specs.declared.link.Link.{Link}
 use Rattle.fax_net.specs.declared.link.Stage.{Stage}
 use Rattle.fax_net.specs.declared.link.Stage.TheVariants.{Free, Open, Ended, Ending}
-use Rattle.fax_net.proofs.HistoryLemmas.{goes_by, goes_still}
-use Rattle.fax_net.proofs.LinkLemmas.{due_parts, held, holds, quiet}
+use Rattle.fax_net.proofs.HistoryLemmas.{HasTaken, goes_by, goes_still}
+use Rattle.fax_net.proofs.LinkLemmas.{awaits_parts, due_parts, held, holds, quiet}
 
 -- ---- what is owed
 
@@ -246,32 +247,83 @@ ended_none Ended link link₂ moved is (inl (n, all, still)) unmoved none =
     ((λ e. absurd (let never = sym (ap (λ l. l.stage) still) ∙ e in cc)), ending_not_due link₂ (ap (λ l. l.stage) still))
 ended_none Ended link link₂ moved is (inr (has, some, owes)) unmoved none = absurd (let never = sym has ∙ unmoved in cc)
 
+-- where nothing was due, nothing is awaited anew
+next_still : (link link₂ : Link) → AwaitsNext link link₂ → is_due link ≡ false → link₂ ≡ link
+next_still link link₂ (inl still) none = still
+next_still link link₂ (inr (due, unsaid, awaited)) none = absurd (let never = sym none ∙ due in cc)
+
+-- where the next message is awaited of which nothing was said, what is kept is what became of the connection
+awaited_holds : (t : Talk) (link link₂ : Link) → AwaitsNext link link₂ → Holds t link → Holds t link₂
+awaited_holds t link link₂ (inl still) h = subst (λ l. Holds t l) (sym still) h
+awaited_holds t link link₂ (inr (due, unsaid, awaited)) h =
+    let parts = due_parts link due in
+    let g : IsGoing t link = holds t link Open parts.0 h in
+    subst (λ l. Holds t l) (sym awaited) (held t (record link { is_awaited = true }) Open parts.0 (record {
+      is_open = g.is_open;
+      goes_on = g.goes_on;
+      counted = g.counted;
+      owes = g.owes;
+      awaited = λ waits. subst IsUnfinished (sym unsaid) none_unfinished;
+    }))
+
+module _ {P H : Type 0} (did : P → Step → P → Type 0) (answers : Answering H) (over : H → Bool) (place : ℕ) (start : P) (first : H) (earlier : List Step) (p : P) (h : H) where
+  -- the history goes on as it did where the next message is awaited
+  pub goes_awaiting : (link link₂ : Link) (moved : Bool) (Wanted : Talk → Type 0) → GoesFrom did answers over place p h link 0 0 moved Wanted start first earlier
+      → AwaitsNext link link₂ → GoesFrom did answers over place p h link₂ 0 0 moved Wanted start first earlier
+  goes_awaiting link link₂ moved Wanted g next = record {
+    later = g.later;
+    runs = g.runs;
+    holds = awaited_holds (talk place g.later) link link₂ next g.holds;
+    others = g.others;
+    left_is = g.left_is;
+    looks_are = g.looks_are;
+    stays_moved = g.stays_moved;
+    has_moved = g.has_moved;
+    also = g.also;
+  }
+
 module _ {P H : Type 0} (did : P → Step → P → Type 0) (answers : Answering H) (over : H → Bool) (place : ℕ) (start : P) (first : H) (earlier : List Step)
-    (p : P) (h h₂ : H) (l₀ l₁ l₂ l₃ l₄ l₅ : Link) (a r w e d : Bool)
+    (p : P) (h h₂ : H) (l₀ l₁ l₂ l₃ l₄ l₅ l₆ : Link) (c a r w e d : Bool) (before : Talk)
     (answered : HasAnswered answers over h h₂ l₀ l₁ a) (refused : HasEnded l₁ l₂ r) (written : w ≡ false → l₃ ≡ l₂) (left : e ≡ false → l₄ ≡ l₃)
-    (gone : e ≡ false → is_done l₃ ≡ false) (read : d ≡ false → l₅ ≡ l₄)
-    (g : GoesFrom did answers over place p h₂ l₅ 0 0 ((((a || r) || w) || e) || d) (λ t. d ≡ false → awaits l₄ ≡ true → t.is_dry ≡ true) start first earlier) where
+    (gone : e ≡ false → is_done l₃ ≡ false) (next : AwaitsNext l₄ l₅) (read : d ≡ false → l₆ ≡ l₅)
+    (g : GoesFrom did answers over place p h₂ l₆ 0 0 (((((c || a) || r) || w) || e) || d) (HasTaken l₅ d before) start first earlier) where
   -- where nothing moved, there is nothing to do for the connection
-  quietly : ((((a || r) || w) || e) || d) ≡ false → IsQuiet (talk place g.later)
+  quietly : (((((c || a) || r) || w) || e) || d) ≡ false → IsQuiet (talk place g.later)
   quietly none =
-      let four = neither (((a || r) || w) || e) d none in
-      let three = neither ((a || r) || w) e four.0 in
-      let two = neither (a || r) w three.0 in
-      let one = neither a r two.0 in
-      let settled = ended_none l₁.stage l₁ l₂ r refl refused one.1 (answered_none answers over h h₂ l₀ l₁ a answered one.0) in
-      let as_left : l₅ ≡ l₃ = read four.1 ∙ left three.1 in
-      let as_ended : l₅ ≡ l₂ = as_left ∙ written two.1 in
-      quiet (talk place g.later) l₅ g.holds (λ is. settled.0 (sym (ap (λ l. l.stage) as_ended) ∙ is)) (ap is_due as_ended ∙ settled.1)
-      (ap is_done as_left ∙ gone three.1) (λ waits. g.also four.1 (sym (ap awaits (read four.1)) ∙ waits))
+      let five = neither ((((c || a) || r) || w) || e) d none in
+      let four = neither (((c || a) || r) || w) e five.0 in
+      let three = neither ((c || a) || r) w four.0 in
+      let two = neither (c || a) r three.0 in
+      let one = neither c a two.0 in
+      let settled = ended_none l₁.stage l₁ l₂ r refl refused two.1 (answered_none answers over h h₂ l₀ l₁ a answered one.1) in
+      let as_ended : l₄ ≡ l₂ = left four.1 ∙ written three.1 in
+      let as_left : l₆ ≡ l₄ = read five.1 ∙ next_still l₄ l₅ next (ap is_due as_ended ∙ settled.1) in
+      quiet (talk place g.later) l₆ g.holds (λ is. settled.0 (sym (ap (λ l. l.stage) (as_left ∙ as_ended)) ∙ is)) (ap is_due (as_left ∙ as_ended) ∙ settled.1)
+      (ap is_done (as_left ∙ left four.1) ∙ gone four.1) (λ waits. g.also.0 five.1 (sym (ap awaits (read five.1)) ∙ waits))
+
+  -- so it is where its next message is awaited, and nothing of it was there to be read
+  dryly : d ≡ false → awaits l₆ ≡ true → IsQuiet (talk place g.later)
+  dryly unread waits =
+      let parts = awaits_parts l₆ waits in
+      let going : IsGoing (talk place g.later) l₆ = holds (talk place g.later) l₆ Open parts.0 g.holds in
+      inr (inr ((l₆.said, going.goes_on, going.awaited parts.2), g.also.0 unread (sym (ap awaits (read unread)) ∙ waits)))
 
   -- something moved there, or there is nothing to do
-  attended_by : (m : Bool) → ((((a || r) || w) || e) || d) ≡ m → IsAttended m (talk place g.later)
-  attended_by true is = inl (refl, g.has_moved is)
-  attended_by false is = inr (quietly is)
+  attended_by : (m d₂ waits : Bool) → (((((c || a) || r) || w) || e) || d) ≡ m → d ≡ d₂ → awaits l₆ ≡ waits → IsAttended (m && (d₂ || not waits)) (talk place g.later)
+  attended_by false d₂ waits is read_is waits_is = inr (quietly is)
+  attended_by true true waits is read_is waits_is = inl (refl, g.has_moved is)
+  attended_by true false true is read_is waits_is = inr (dryly read_is waits_is)
+  attended_by true false false is read_is waits_is = inl (refl, g.has_moved is)
+
+  -- what is both is the first
+  first_of : (m b : Bool) → (m && b) ≡ true → m ≡ true
+  first_of true b both = refl
+  first_of false b both = absurd cc
 
   -- the history goes on so
-  pub attended : GoesFrom did answers over place p h₂ l₅ 0 0 ((((a || r) || w) || e) || d) (IsAttended ((((a || r) || w) || e) || d)) start first earlier
-  attended = record {
+  pub attended : (waits : Bool) → waits ≡ awaits l₆
+      → GoesFrom did answers over place p h₂ l₆ 0 0 ((((((c || a) || r) || w) || e) || d) && (d || not waits)) (IsAttended ((((((c || a) || r) || w) || e) || d) && (d || not waits))) start first earlier
+  attended waits waits_is = record {
     later = g.later;
     runs = g.runs;
     holds = g.holds;
@@ -279,8 +331,8 @@ module _ {P H : Type 0} (did : P → Step → P → Type 0) (answers : Answering
     left_is = g.left_is;
     looks_are = g.looks_are;
     stays_moved = g.stays_moved;
-    has_moved = g.has_moved;
-    also = attended_by ((((a || r) || w) || e) || d) refl;
+    has_moved = λ has. g.has_moved (first_of (((((c || a) || r) || w) || e) || d) (d || not waits) has);
+    also = attended_by (((((c || a) || r) || w) || e) || d) d waits refl refl (sym waits_is);
   }
 
 -- ---- a free place

@@ -50,6 +50,23 @@ has_moved (Refused broken) t e = refl
 
 -- ---- deeds
 
+-- by a deed no message more is answered
+replies_deed : (act : Act) (t : Talk) → is_deed act ≡ true → (acted act t).replies ≡ t.replies
+replies_deed Came t e = absurd cc
+replies_deed (Said bytes) t e = refl
+replies_deed Dry t e = refl
+replies_deed Ended t e = refl
+replies_deed (Took bytes) t e = refl
+replies_deed Waits t e = refl
+replies_deed Failed t e = refl
+replies_deed Left t e = refl
+replies_deed (Answered turn is_over) t e = absurd cc
+replies_deed (Refused broken) t e = absurd cc
+
+-- what is known behind a read, where `before` was known: whether nothing more is there, and as many answers as before
+abbrev pub HasTaken : Link → Bool → Talk → Talk → Type 0
+HasTaken link moved before t = (moved ≡ false → awaits link ≡ true → t.is_dry ≡ true) × (t.replies ≡ before.replies)
+
 module _ {P : Type 0} (did : P → Step → P → Type 0) (start p p₂ : P) (earlier : List Step) (place : ℕ) where
   -- a deed happens behind the others
   pub happens_deed : (act : Act) → is_deed act ≡ true → Happens did start earlier p → did p (At place act) p₂ → Happens did start (At place act ∷ earlier) p₂
@@ -145,16 +162,16 @@ module _ {P H : Type 0} (did : P → Step → P → Type 0) (answers : Answering
         subst (λ v. GoesFrom did answers over place v h link₂ 0 0 moved (λ t. ⊤) start first earlier) (sym same)
         (goes_still link₂ 0 moved (λ t. ⊤) (subst (λ l. Holds (talk place earlier) l) (sym still) holds) unmoved tt)
 
-    -- the same of a read, after which nothing more was said where nothing moved
+    -- the same of a read, by which nothing is answered; where nothing moved, nothing more was said
     pub goes_takes : (p₂ : P) (link link₂ : Link) (moved : Bool) → TakesIn did place p p₂ link link₂ moved → Holds (talk place earlier) link
-        → GoesFrom did answers over place p₂ h link₂ 0 0 moved (λ t. moved ≡ false → awaits link ≡ true → t.is_dry ≡ true) start first earlier
+        → GoesFrom did answers over place p₂ h link₂ 0 0 moved (HasTaken link moved (talk place earlier)) start first earlier
     goes_takes p₂ link link₂ moved (inl (act, acts, dry)) holds =
-        goes_deed p₂ link link₂ act moved (λ t. moved ≡ false → awaits link ≡ true → t.is_dry ≡ true) acts holds
-        (λ unmoved waits. ap (λ a. (acted a (talk place earlier)).is_dry) (dry unmoved))
+        goes_deed p₂ link link₂ act moved (HasTaken link moved (talk place earlier)) acts holds
+        ((λ unmoved waits. ap (λ a. (acted a (talk place earlier)).is_dry) (dry unmoved)), replies_deed act (talk place earlier) acts.is_deed)
     goes_takes p₂ link link₂ moved (inr (none, (same, still, unmoved))) holds =
-        subst (λ v. GoesFrom did answers over place v h link₂ 0 0 moved (λ t. moved ≡ false → awaits link ≡ true → t.is_dry ≡ true) start first earlier) (sym same)
-        (goes_still link₂ 0 moved (λ t. moved ≡ false → awaits link ≡ true → t.is_dry ≡ true) (subst (λ l. Holds (talk place earlier) l) (sym still) holds) unmoved
-        (λ b waits. absurd (let c = sym none ∙ waits in cc)))
+        subst (λ v. GoesFrom did answers over place v h link₂ 0 0 moved (HasTaken link moved (talk place earlier)) start first earlier) (sym same)
+        (goes_still link₂ 0 moved (HasTaken link moved (talk place earlier)) (subst (λ l. Holds (talk place earlier) l) (sym still) holds) unmoved
+        ((λ b waits. absurd (let c = sym none ∙ waits in cc)), refl))
 
 -- ---- one after the other
 

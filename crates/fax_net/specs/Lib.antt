@@ -5,5 +5,6 @@ pub mod Link
 pub mod Listening
 pub mod Lists
 pub mod Many
+pub mod Patience
 pub mod Peers
 pub mod Sendfax

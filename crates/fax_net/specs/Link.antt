@@ -108,6 +108,10 @@ EndsAt Ending link link₂ moved = (moved ≡ false) × (link₂ ≡ link)
 abbrev pub HasEnded : Link → Link → Bool → Type 0
 HasEnded link link₂ moved = EndsAt link.stage link link₂ moved
 
+-- where a message is due and nothing was said of it, it is awaited
+abbrev pub AwaitsNext : Link → Link → Type 0
+AwaitsNext link link₂ = (link₂ ≡ link) ⊎ ((is_due link ≡ true) × (link.said ≡ []) × (link₂ ≡ record link { is_awaited = true }))
+
 -- what is kept of what was found
 abbrev pub Keeps : Found → Link → Link → Bool → Type 0
 Keeps (Answered bytes) link link₂ moved =

@@ -9,16 +9,15 @@ use crate::link::{Link, Stage, stage_behind};
 use crate::peers::{Coming, Moved, Peers};
 use fax_http::{Found, Handler, answer_front};
 
-/// The most bytes of one read.
-const PIECE_LIMIT: usize = 4_096;
-
-/// Does what there is to do at a place, and gives whether anything moved there.
+/// Does what there is to do at a place, and gives whether more may be to do there at once. What is read goes through
+/// `piece`.
 pub(crate) fn serve_place<P: Peers, H: Handler>(
     peers: &mut P,
     place: usize,
     link: &mut Link,
     left: &mut u64,
     handler: &mut H,
+    piece: &mut [u8],
 ) -> bool
     requires { H.over handler.old ≡ false }
     ensures { Moves P.did H.answers H.over place peers.old peers.new handler.old handler.new link.old link.new left.old left.new result (IsAttended result) }
@@ -26,7 +25,7 @@ pub(crate) fn serve_place<P: Peers, H: Handler>(
     if link.is_free() {
         admit(peers, place, link, left)
     } else {
-        converse(peers, place, link, handler)
+        converse(peers, place, link, handler, piece)
     }
 }
 
@@ -52,22 +51,27 @@ fn admit<P: Peers>(peers: &mut P, place: usize, link: &mut Link, left: &mut u64)
     }
 }
 
-/// Answers a message that is there, writes what is owed, ends what is done, and reads where a message is awaited.
+/// Reads where a message is awaited, answers one that is there, writes what is owed, ends what is done, and reads again:
+/// where nothing more came then, there is nothing to do until the peer says more.
 fn converse<P: Peers, H: Handler>(
     peers: &mut P,
     place: usize,
     link: &mut Link,
     handler: &mut H,
+    piece: &mut [u8],
 ) -> bool
     requires { H.over handler.old ≡ false }
     ensures { Moves P.did H.answers H.over place peers.old peers.new handler.old handler.new link.old link.new 0 0 result (IsAttended result) }
 {
+    let came = take_in(peers, place, link, piece);
     let answered = answer(link, handler);
     let refused = link.end_input();
     let written = write(peers, place, link);
     let ended = leave(peers, place, link);
-    let read = take_in(peers, place, link);
-    answered | refused | written | ended | read
+    link.await_next();
+    let read = take_in(peers, place, link, piece);
+    let moved = came | answered | refused | written | ended | read;
+    moved & (read | !link.awaits())
 }
 
 /// Looks for the next message, and has it answered.
@@ -136,15 +140,14 @@ fn leave<P: Peers>(peers: &mut P, place: usize, link: &mut Link) -> bool
 }
 
 /// Reads once where a message is awaited.
-fn take_in<P: Peers>(peers: &mut P, place: usize, link: &mut Link) -> bool
+fn take_in<P: Peers>(peers: &mut P, place: usize, link: &mut Link, piece: &mut [u8]) -> bool
     ensures does { TakesIn P.did place peers.old peers.new link.old link.new result }
     ensures still { result ≡ false → link.new ≡ link.old }
 {
     if !link.awaits() {
         return false;
     }
-    let mut piece = [0; PIECE_LIMIT];
-    let room = link.said.room().min(PIECE_LIMIT);
+    let room = link.said.room().min(piece.len());
     match peers.read(place, &mut piece[..room]) {
         Moved::Bytes(count) => {
             link.said.put(&piece[..count]);

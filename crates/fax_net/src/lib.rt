@@ -8,6 +8,7 @@ pub mod laws;
 mod link;
 mod listening;
 mod many;
+mod patience;
 mod peers;
 mod pending;
 mod seat;

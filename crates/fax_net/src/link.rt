@@ -1,6 +1,6 @@
 //! What a server keeps of one connection: what it said and isn't answered yet, and what is still to be written to it.
 ghost use Rattle.std.specs.Prelude.{◌≡◌, ◌≤◌, ◌<◌, ◌⊎◌, IsTrue, ◌↔◌, IfOk};
-ghost use Rattle.fax_net.specs.Link.{HasEnded, IsUnused, Owes, awaits, is_done, is_due, is_owing};
+ghost use Rattle.fax_net.specs.Link.{AwaitsNext, HasEnded, IsUnused, Owes, awaits, is_done, is_due, is_owing};
 
 use crate::pending::Pending;
 use fax_http::{Broken, Buffer, Outgoing};
@@ -82,6 +82,15 @@ impl Link {
         }
         self.owe(Outgoing::refusal(Broken::BadHttp), Stage::Ending);
         true
+    }
+
+    /// Awaits the next message where nothing of it was said.
+    pub(crate) fn await_next(&mut self)
+        ensures { AwaitsNext self.old self.new }
+    {
+        if self.is_due() && self.said.bytes().is_empty() {
+            self.is_awaited = true;
+        }
     }
 
     pub(crate) fn is_free(&self) -> bool

@@ -12,6 +12,9 @@ use std::alloc::{AllocError, Global};
 /// How many connections are served at once.
 pub(crate) const PLACES: usize = 64;
 
+/// The most bytes of one read.
+const PIECE_LIMIT: usize = 4_096;
+
 /// Serves connections until so many have come and are served to their end, or the handler is over. One that can't be
 /// accepted counts as served. The server waits only where it has nothing to do for any of them.
 pub(crate) fn serve_many<P: Peers, H: Handler>(
@@ -26,6 +29,7 @@ pub(crate) fn serve_many<P: Peers, H: Handler>(
 {
     let mut left = count;
     let mut is_busy = true;
+    let mut piece = [0; PIECE_LIMIT];
     for _ in 0..u64::MAX {
         if handler.is_over() {
             return;
@@ -34,16 +38,17 @@ pub(crate) fn serve_many<P: Peers, H: Handler>(
             return;
         }
         peers.look(is_busy, left > 0);
-        is_busy = serve_round(peers, links, &mut left, handler);
+        is_busy = serve_round(peers, links, &mut left, handler, &mut piece);
     }
 }
 
-/// Gives each place its turn, until the handler is over. Gives whether anything moved.
+/// Gives each place its turn, until the handler is over. Gives whether more may be to do at once.
 fn serve_round<P: Peers, H: Handler>(
     peers: &mut P,
     links: &mut [Link],
     left: &mut u64,
     handler: &mut H,
+    piece: &mut [u8],
 ) -> bool
     requires { length links.old ≡ PLACES }
     ensures { Rounds P.did H.answers H.over peers.old peers.new handler.old handler.new links.old links.new left.old left.new result }
@@ -53,7 +58,7 @@ fn serve_round<P: Peers, H: Handler>(
         if handler.is_over() {
             return true;
         }
-        is_busy |= serve_place(peers, place, &mut links[place], left, handler);
+        is_busy |= serve_place(peers, place, &mut links[place], left, handler, piece);
     }
     is_busy
 }

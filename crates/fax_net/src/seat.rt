@@ -1,7 +1,11 @@
 //! One connection's socket, which never waits, and how long its peer may go on.
-ghost use Rattle.std.specs.Prelude.{◌++◌, length};
+ghost use Rattle.std.specs.Duration.{as_nanos};
+ghost use Rattle.std.specs.Prelude.{◌≡◌, ◌≤◌, ◌↔◌, ◌⊎◌, ◌++◌, ◌-◌, length, IsTrue};
+ghost use Rattle.std.specs.Time.{instant_nanos};
+ghost use Rattle.fax_net.specs.Patience.{left};
 ghost use Rattle.fax_net.specs.Peers.{IsWithin};
 
+use crate::patience::Patience;
 use crate::peers::Moved;
 use mio::net::TcpStream;
 use std::io::{ErrorKind, IoSlice, Read};
@@ -15,13 +19,6 @@ const LEAVE_LIMIT: u64 = 1;
 const LEAVE_READS: u32 = 64;
 
 const LEAVE_PIECE: usize = 4_096;
-
-/// How long a peer may move nothing, and how long it may go on in all.
-#[derive(Clone, Copy, Debug)]
-pub(crate) struct Patience {
-    pub(crate) silent: Duration,
-    pub(crate) whole: Duration,
-}
 
 /// A connection's socket. The system says when it may be read or written again; until then it isn't tried.
 #[derive(Drop)]
@@ -57,28 +54,36 @@ impl Seat {
     }
 
     /// How long it may go on without moving anything.
-    pub(crate) fn time_left(&self, now: Instant) -> Duration {
-        let silent = self.patience.silent.saturating_sub(self.silence(now));
-        let whole = self
-            .patience
-            .whole
-            .saturating_sub(now.saturating_duration_since(self.begun));
-        silent.min(whole)
+    pub(crate) fn time_left(&self, now: Instant) -> Duration
+        ensures { as_nanos result ≡ left self.now.patience (instant_nanos now - instant_nanos self.now.moved)
+            (instant_nanos now - instant_nanos self.now.begun) }
+    {
+        let taken = now.saturating_duration_since(self.begun);
+        self.patience.left(self.silence(now), taken)
     }
 
     /// How long nothing has moved.
-    pub(crate) fn silence(&self, now: Instant) -> Duration {
+    pub(crate) fn silence(&self, now: Instant) -> Duration
+        ensures { as_nanos result ≡ instant_nanos now - instant_nanos self.now.moved }
+    {
         now.saturating_duration_since(self.moved)
     }
 
     /// Whether its time is over, or its place is wanted.
-    pub(crate) fn is_late(&self, now: Instant) -> bool {
+    pub(crate) fn is_late(&self, now: Instant) -> bool
+        ensures { IsTrue result ↔ ((IsTrue self.now.is_sent_away) ⊎ (left self.now.patience
+            (instant_nanos now - instant_nanos self.now.moved) (instant_nanos now - instant_nanos self.now.begun) ≡ 0)) }
+    {
         self.is_sent_away || self.time_left(now).is_zero()
     }
 
     /// Whether the time of the whole connection is over.
-    fn is_over(&self, now: Instant) -> bool {
-        self.is_sent_away || now.saturating_duration_since(self.begun) >= self.patience.whole
+    fn is_over(&self, now: Instant) -> bool
+        ensures { IsTrue result ↔ ((IsTrue self.now.is_sent_away) ⊎ (as_nanos self.now.patience.whole
+            - (instant_nanos now - instant_nanos self.now.begun) ≡ 0)) }
+    {
+        let taken = now.saturating_duration_since(self.begun);
+        self.is_sent_away || self.patience.is_over(taken)
     }
 
     /// Has it leave.
@@ -158,14 +163,10 @@ impl Seat {
         if self.has_ended || self.stream.shutdown(Shutdown::Write).is_err() {
             return false;
         }
-        let wait = Duration::from_secs(LEAVE_LIMIT);
         self.is_leaving = true;
         self.begun = now;
         self.moved = now;
-        self.patience = Patience {
-            silent: wait,
-            whole: wait,
-        };
+        self.patience = Patience::in_all(LEAVE_LIMIT);
         true
     }
 

@@ -2,6 +2,7 @@
 ghost use Rattle.std.specs.Prelude.{◌≡◌, false};
 ghost use Rattle.fax_net.specs.Sendfax.{Handed, Hands, Replies, Tells, refused};
 
+use crate::patience::Patience;
 use crate::timed::Timed;
 use fax_http::{Answer, AnswerFault, Watched, moment_of, read_answer};
 use fax_text::{SendFault, SendPlan, Status, fail, request};
@@ -10,11 +11,8 @@ use std::io::{self, ErrorKind, Write};
 use std::net::{TcpStream, ToSocketAddrs};
 use std::time::Duration;
 
-/// How many seconds it may take to connect, and each read and write.
+/// How many seconds it may take to connect, and each read and write. Request and reply may take six times as many.
 const WAIT_LIMIT: u64 = 10;
-
-/// How many seconds request and reply may take.
-const WHOLE_LIMIT: u64 = 60;
 
 /// The status of a reply to a request that made a job (RFC 9110, section 15.3.2).
 const CREATED: u16 = 201;
@@ -123,10 +121,9 @@ fn send(rt: &HostRuntime, address: &str, text: &[u8]) -> Result<Answer, AnswerFa
     let Ok(stream) = connect(rt, address) else {
         return Err(AnswerFault::NoReply);
     };
-    let wait = Duration::from_secs(WAIT_LIMIT);
-    let whole = Duration::from_secs(WHOLE_LIMIT);
-    let mut writer = Timed::new(rt, &stream, wait, whole);
-    let reader = Timed::new(rt, &stream, wait, whole);
+    let patience = Patience::limits(WAIT_LIMIT);
+    let mut writer = Timed::new(rt, &stream, patience);
+    let reader = Timed::new(rt, &stream, patience);
     let _ = writer.write_all(text);
     read_answer(rt.alloc(), &mut Watched::new(reader))
 }

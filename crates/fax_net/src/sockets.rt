@@ -1,8 +1,12 @@
 //! The sockets of a server: where connections come from, which of them are ready, and who has to leave.
 
+ghost use Rattle.std.specs.Prelude.{IfOk};
+ghost use Rattle.fax_net.specs.Patience.{IsFor};
+
 use crate::many::PLACES;
+use crate::patience::{Patience, shorter};
 use crate::peers::{Coming, Moved, Peers};
-use crate::seat::{Patience, Seat};
+use crate::seat::Seat;
 use mio::net::{TcpListener, TcpStream};
 use mio::{Events, Interest, Poll, Token};
 use std::alloc::{AllocError, Global};
@@ -15,9 +19,6 @@ const DOOR: usize = PLACES;
 
 /// The most events of one look.
 const EVENT_LIMIT: usize = PLACES + 1;
-
-/// How much longer a whole connection may take than a peer may move nothing.
-const WHOLE_FACTOR: u64 = 6;
 
 /// How many milliseconds a peer may move nothing where all places are taken and another one waits.
 const CROWD_LIMIT: u64 = 500;
@@ -75,7 +76,9 @@ impl<'r> Sockets<'r> {
         rt: &'r HostRuntime,
         address: &str,
         timeout: u64,
-    ) -> Result<Sockets<'r>, BindFault> {
+    ) -> Result<Sockets<'r>, BindFault>
+        ensures { IfOk result (λ sockets. IsFor timeout sockets.patience) }
+    {
         let poll = Poll::new(rt)?;
         let mut door = listener(rt, address)?;
         poll.registry()
@@ -86,10 +89,7 @@ impl<'r> Sockets<'r> {
             events: Events::with_capacity(rt.alloc(), EVENT_LIMIT)?,
             door,
             seats: empty_seats(rt.alloc())?,
-            patience: Patience {
-                silent: Duration::from_secs(timeout),
-                whole: Duration::from_secs(timeout.saturating_mul(WHOLE_FACTOR)),
-            },
+            patience: Patience::limits(timeout),
             now: Instant::now(rt)?,
             may_accept: true,
             is_asked: false,
@@ -365,7 +365,7 @@ impl Peers for Sockets<'_> {
 /// The lesser of a time, if there is one, and another.
 fn sooner(least: Option<Duration>, left: Duration) -> Duration {
     match least {
-        Some(least) => least.min(left),
+        Some(least) => shorter(least, left),
         None => left,
     }
 }

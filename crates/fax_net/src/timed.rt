@@ -1,6 +1,8 @@
 //! One end of a connection, whose peer has only so much time.
-ghost use Rattle.std.specs.Prelude.{◌≡◌};
+ghost use Rattle.std.specs.Duration.{as_nanos};
+ghost use Rattle.std.specs.Prelude.{◌≡◌, ◌≤◌, ◌<◌, IfOk};
 
+use crate::patience::Patience;
 use std::io::{self, ErrorKind, Read, Write};
 use std::net::TcpStream;
 use std::time::{Duration, Instant};
@@ -11,30 +13,23 @@ use std::time::{Duration, Instant};
 pub struct Timed<'c> {
     rt: &'c HostRuntime,
     stream: &'c TcpStream,
-    /// How long one read or write may wait.
-    wait: Duration,
+    /// How long one read or write may wait, and how long the connection may take from when it was begun.
+    patience: Patience,
     /// When the connection began, where the machine's clock could be read.
     begun: Option<Instant>,
-    /// How long the connection may take, from when it was begun.
-    whole: Duration,
 }
 
 impl<'c> Timed<'c> {
     /// The end of a connection that begins now.
-    pub fn new(
-        rt: &'c HostRuntime,
-        stream: &'c TcpStream,
-        wait: Duration,
-        whole: Duration,
-    ) -> Timed<'c>
-        ensures { result.stream.now ≡ stream.now }
+    pub fn new(rt: &'c HostRuntime, stream: &'c TcpStream, patience: Patience) -> Timed<'c>
+        ensures stream { result.stream.now ≡ stream.now }
+        ensures patience { result.patience ≡ patience }
     {
         Timed {
             rt,
             stream,
-            wait,
+            patience,
             begun: Instant::now(rt).ok(),
-            whole,
         }
     }
 
@@ -43,15 +38,20 @@ impl<'c> Timed<'c> {
     /// # Errors
     ///
     /// `TimedOut` where the connection's time is over, or there is no clock to tell it.
-    fn time_left(&self) -> io::Result<Duration> {
+    fn time_left(&self) -> io::Result<Duration>
+        ensures some { IfOk result (λ left. 0 < as_nanos left) }
+        ensures silent { IfOk result (λ left. as_nanos left ≤ as_nanos self.now.patience.silent) }
+        ensures whole { IfOk result (λ left. as_nanos left ≤ as_nanos self.now.patience.whole) }
+    {
         let Some(begun) = self.begun else {
             return Err(ErrorKind::TimedOut.into());
         };
         let taken = begun.elapsed(self.rt)?;
-        match self.whole.checked_sub(taken) {
-            Some(left) if !left.is_zero() => Ok(left.min(self.wait)),
-            _ => Err(ErrorKind::TimedOut.into()),
+        let left = self.patience.left(Duration::ZERO, taken);
+        if left.is_zero() {
+            return Err(ErrorKind::TimedOut.into());
         }
+        Ok(left)
     }
 }
 

@@ -1,16 +1,22 @@
 -- How a listing ends the command `list`.
-use Rattle.std.proofs.Common.{inl, inr, ℕ, List, Option, Ok}
+use Rattle.std.proofs.Common.{◌≡◌, ◌∙◌, inl, inr, sym, subst, ℕ, List, Option, Some, None, Ok}
+use Rattle.std.specs.Prelude.{MatchOption}
 use Rattle.sqlite.specs.State.{State, HasCleanDisk}
+use Rattle.sqlite_wal.specs.Recovery.{Image}
 use Rattle.fax_ask.specs.Response.{Response}
-use Rattle.fax_core.specs.Ledger.{Ledger}
-use Rattle.fax_core.specs.Queue.{Queue}
+use Rattle.fax_core.specs.Ledger.{Ledger, empty_ledger}
+use Rattle.fax_core.specs.Queue.{Queue, empty_queue}
+use Rattle.fax_core.proofs.StepLemmas.{empty_sound}
 use Rattle.fax_core.specs.Settings.{Settings}
 use Rattle.fax_core.specs.Sound.{Sound}
 use Rattle.fax_decide.specs.declared.office.Office.{Office}
+use Rattle.fax_desk.specs.Replaying.{settings_in}
+use Rattle.fax_files.specs.Database.{IsFound}
+use Rattle.fax_http.specs.Clock.{IsMoment}
 use Rattle.fax_http.specs.declared.device.Watched.{Watched}
 use Rattle.fax_store.specs.Store.{Means, Stays}
 use Rattle.fax_text.specs.declared.list_words.ListPlan.{ListPlan}
-use Rattle.faxqd.specs.List.{IsReply, IsSeen, Lists, Shows}
+use Rattle.faxqd.specs.List.{IsHeldIn, IsReply, IsSeen, Lists, ListsBy, Shows}
 use Rattle.fax_files.specs.Office.{ComesOf}
 use Rattle.fax_text.specs.declared.status.Status.{Status}
 use Rattle.fax_text.specs.declared.status.Status.TheVariants.{Success, Fault, Usage}
@@ -20,10 +26,52 @@ pub is_seen : (s : Settings) (moment : ℕ) (old new : State) (reply : Response)
     → ((m : Queue) (k : Ledger) → Sound m → Means old m k → HasCleanDisk new → IsReply s moment m k new reply) → IsSeen s moment old new reply
 is_seen s moment old new reply stays clean seen = record { stays = stays; clean = clean; seen = seen }
 
--- what is shown of a listing ends `list`
-pub lists_of : {W : Type 0} (contents : W → Option (List ℕ)) (out out₂ : Watched W) (plan : ListPlan) (office : Office) → ComesOf plan.files (Ok office)
-    → (s : Settings) (moment : ℕ) (old new : State) (status : Status) → Shows contents out out₂ s moment old new status → Lists contents out out₂ plan status
-lists_of contents out out₂ plan office comes s moment old new Success (reply, seen, printed) = ((office, comes), reply, printed)
-lists_of contents out out₂ plan office comes s moment old new Fault (reply, seen, inl same) = inl same
-lists_of contents out out₂ plan office comes s moment old new Fault (reply, seen, inr broke) = inr (reply, broke)
-lists_of contents out out₂ plan office comes s moment old new Usage (reply, seen, none) = absurd none
+-- the queue of what the files held is the one that is listed
+listed_by : (image : Image) (s : Settings) (moment : ℕ) (opened new : State) (reply : Response) → (HasCleanDisk opened → IsFound image opened)
+    → IsSeen s moment opened new reply → HasCleanDisk new → IsHeldIn image s moment new reply
+listed_by image s moment opened new reply found is clean =
+    let it = found (is.clean clean) in
+    record {
+      found = it.found;
+      held = it.held;
+      sound = it.sound;
+      seen = elim it.taken [
+        | inl (none, rest) ↦ inl (none, is.seen empty_queue empty_ledger empty_sound (λ serves. rest) clean)
+        | inr (ours, whole) ↦ inr (ours, λ m k sound rows. is.seen m k sound (it.means m k ours.schema_is rows) clean)
+      ];
+    }
+
+module _ {W : Type 0} (contents : W → Option (List ℕ)) (out out₂ : Watched W) (image : Image) (plan : ListPlan) where
+  -- a listing that is shown is of the files that the plan names
+  pub lists_by : (status : Status) (said held left : Office) (moment : ℕ) (opened new : State) → ComesOf plan.files (Ok said) → held ≡ said → left ≡ held
+      → IsMoment plan.moment moment → (HasCleanDisk opened → IsFound image opened) → Shows contents out out₂ (settings_in held) moment opened new status
+      → ListsBy contents out out₂ image plan status left new
+  lists_by status said held left moment opened new comes is same its found (reply, seen, prints) = record {
+    comes = subst (λ (o : Office). ComesOf plan.files (Ok o)) (sym (same ∙ is)) comes;
+    moment = moment;
+    its = its;
+    reply = reply;
+    prints = prints;
+    held = λ clean. subst (λ o. IsHeldIn image (settings_in o) moment new reply) (sym same)
+        (listed_by image (settings_in held) moment opened new reply found seen clean);
+  }
+
+  -- what is shown of a listing ends the program
+  lists_of : (status : Status) (office : Office) (new : State) → ListsBy contents out out₂ image plan status office new → Lists contents out out₂ plan status
+  lists_of Success office new by = ((office, by.comes), by.reply, by.prints)
+  lists_of Fault office new by = elim by.prints [
+    | inl same ↦ inl same
+    | inr broke ↦ inr (by.reply, broke)
+  ]
+  lists_of Usage office new by = absurd by.prints
+
+  -- where no queue was there, it ends with a fault
+  no_listing : (status : Status) → status ≡ Fault → out₂ ≡ out → Lists contents out out₂ plan status
+  no_listing status fault same = subst (Lists contents out out₂ plan) (sym fault) (inl same)
+
+  -- however it ends, that is its end
+  pub lists_with : {Q : Type 0} (office_of : Q → Office) (state_of : Q → State) (status : Status) (left : Option Q)
+      → MatchOption left ((status ≡ Fault) × (out₂ ≡ out)) (λ queue. ListsBy contents out out₂ image plan status (office_of queue) (state_of queue))
+      → Lists contents out out₂ plan status
+  lists_with office_of state_of status (Some queue) by = lists_of status (office_of queue) (state_of queue) by
+  lists_with office_of state_of status None (fault, same) = no_listing status fault same

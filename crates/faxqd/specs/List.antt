@@ -1,18 +1,26 @@
 -- How the command `list` ends, and what it prints.
 use Rattle.std.specs.Prelude.{◌≡◌, ◌⊎◌, ℕ, false, List, Option, Ok, codes}
+use Rattle.sqlite.specs.Effect.{Database, IsDatabase}
 use Rattle.sqlite.specs.State.{State, HasCleanDisk}
+use Rattle.sqlite_wal.specs.Recovery.{Image}
 use Rattle.fax_ask.specs.Response.{Response}
 use Rattle.fax_ask.specs.declared.method.Method.TheVariants.{Get}
-use Rattle.fax_core.specs.Ledger.{Ledger}
-use Rattle.fax_core.specs.Queue.{Queue}
+use Rattle.fax_core.specs.Ledger.{Ledger, empty_ledger}
+use Rattle.fax_core.specs.Queue.{Queue, empty_queue}
 use Rattle.fax_core.specs.Settings.{Settings}
 use Rattle.fax_core.specs.Sound.{Sound}
 use Rattle.fax_decide.specs.declared.office.Office.{Office}
+use Rattle.fax_desk.specs.Replaying.{settings_in}
+use Rattle.fax_files.specs.Database.{AreHeld}
+use Rattle.fax_http.specs.Clock.{IsMoment}
 use Rattle.fax_http.specs.Device.{BrokeOff, Put}
 use Rattle.fax_http.specs.declared.device.Watched.{Watched}
 use Rattle.fax_once.specs.Verdict.{Handles}
 use Rattle.fax_once.specs.declared.arrival.Arrival.{Arrival}
+use Rattle.fax_schema.specs.Schema.{no_tables}
+use Rattle.fax_store.specs.Adopt.{IsOurs}
 use Rattle.fax_store.specs.Store.{Means, Stays}
+use Rattle.fax_tables.specs.Tables.{RowsMean}
 use Rattle.fax_files.specs.Office.{ComesOf}
 use Rattle.fax_text.specs.declared.status.Status.{Status}
 use Rattle.fax_text.specs.declared.status.Status.TheVariants.{Success, Fault, Usage}
@@ -29,6 +37,15 @@ pub record IsSeen (s : Settings) (moment : ℕ) (old new : State) (reply : Respo
   pub clean : HasCleanDisk new → HasCleanDisk old
   pub seen : (m : Queue) (k : Ledger) → Sound m → Means old m k → HasCleanDisk new → IsReply s moment m k new reply
 
+-- the reply is that of an empty queue where the files had no tables, or of the sound one that their rows mean
+pub record IsHeldIn (image : Image) (s : Settings) (moment : ℕ) (new : State) (reply : Response) : Type 0 where
+  pub found : Database
+  pub held : AreHeld image found.trees
+  pub sound : IsDatabase found
+  pub seen :
+      ((found.schema ≡ no_tables) × IsReply s moment empty_queue empty_ledger new reply)
+      ⊎ (IsOurs found × ((m : Queue) (k : Ledger) → Sound m → RowsMean found m k → IsReply s moment m k new reply))
+
 module _ {W : Type 0} (contents : W → Option (List ℕ)) (out out₂ : Watched W) where
   -- a reply of status 200 is printed; or there is another reply, or the output failed
   abbrev pub Prints : Response → Status → Type 0
@@ -40,7 +57,16 @@ module _ {W : Type 0} (contents : W → Option (List ℕ)) (out out₂ : Watched
   abbrev pub Shows : Settings → ℕ → State → State → Status → Type 0
   Shows s moment old new status = (reply : Response) × IsSeen s moment old new reply × Prints reply status
 
-  -- where it succeeds, the files say an office, and a reply is printed
+  -- It listed by the office that the files say, at the moment that the plan says, the queue of the database's files.
+  pub record ListsBy (image : Image) (plan : ListPlan) (status : Status) (office : Office) (new : State) : Type 0 where
+    pub comes : ComesOf plan.files (Ok office)
+    pub moment : ℕ
+    pub its : IsMoment plan.moment moment
+    pub reply : Response
+    pub prints : Prints reply status
+    pub held : HasCleanDisk new → IsHeldIn image (settings_in office) moment new reply
+
+  -- so where it succeeds, the files say an office, and a reply is printed
   abbrev pub Lists : ListPlan → Status → Type 0
   Lists plan Success = ((office : Office) × ComesOf plan.files (Ok office)) × (reply : Response) × Prints reply Success
   Lists plan Fault = (out₂ ≡ out) ⊎ ((reply : Response) × BrokeOff contents out out₂ reply.body)

@@ -50,7 +50,7 @@ fn carry_out<S: Start, R: Read + Drop, W: Write + Drop, E: Write>(
     match plan {
         Plan::Replay(files) => replay(rt, files, reader, out, err),
         Plan::Serve(plan) => serve(rt, plan, MachineClock::new(rt), start, out, err).0,
-        Plan::List(plan) => list(rt, plan, start, out, err),
+        Plan::List(plan) => list(rt, plan, start, out, err).0,
         Plan::Sendfax(plan) => sendfax(rt, &plan, out, err),
         Plan::Import(plan) => import(rt, &plan, out, err),
     }

@@ -1,40 +1,48 @@
 //! `faxqd list`: prints the listing of the jobs in a file.
-ghost use Rattle.std.specs.Prelude.{◌≡◌, false};
+ghost use Rattle.std.specs.Prelude.{◌≡◌, false, MatchOption};
+ghost use Rattle.sqlite.specs.Files.{file_state};
 ghost use Rattle.sqlite.specs.Held.{state};
+ghost use Rattle.sqlite_wal.specs.Files.{image_at};
 ghost use Rattle.fax_desk.specs.Replaying.{settings_in};
-ghost use Rattle.faxqd.specs.List.{Lists, Prints, Shows};
+ghost use Rattle.faxqd.specs.List.{ListsBy, Shows};
 
-use fax_files::{open_found_queue, read_office, report, tell_fault};
+use crate::queue::open_found_queue;
+use fax_files::{read_office, report, tell_fault};
 use fax_http::{Watched, moment_of};
 use fax_job::Moment;
 use fax_once::Queue;
 use fax_text::{ListPlan, Status, fail};
-use sqlite::{Alter, Start};
+use sqlite::{Alter, FileFrom, FileStore, Start};
 use std::alloc::Global;
 use std::io::Write;
 
 /// Reads the files, opens the database, and prints the listing of its jobs at the moment that the plan says, or else at
-/// the machine's. A fault is one line to `err`. `start` stands for what the database's files hold.
+/// the machine's. The queue is given back, if there is one. A fault is one line to `err`. `start` stands for what the
+/// database's files hold.
 pub fn list<S: Start, W: Write + Drop, E: Write>(
     rt: &HostRuntime,
     plan: ListPlan<'_>,
     start: S,
     out: &mut Watched<W>,
     err: &mut E,
-) -> Status
+) -> (Status, Option<Queue<FileStore<FileFrom<S>>>>)
     requires { out.old.failed ≡ false }
-    ensures ends { Lists W.contents out.old out.new plan.entry result }
-    ensures silent { result ≡ Status.Success → err.new ≡ err.old }
+    ensures lists { MatchOption result.1 ((result.0 ≡ Status.Fault) × (out.new ≡ out.old))
+        (λ queue. ListsBy W.contents out.old out.new (image_at S.Start) plan.entry result.0 queue.office
+        (file_state queue.store.conn)) }
+    ensures silent { result.0 ≡ Status.Success → err.new ≡ err.old }
 {
     let office = match read_office(rt, plan.files) {
         Ok(office) => office,
-        Err(fault) => return report(err, fault),
+        Err(fault) => return (report(err, fault), None),
     };
     let moment = moment_of(rt, plan.moment);
-    match open_found_queue(rt, plan.database, start, office) {
-        Ok(queue) => list_queue(rt.alloc(), queue, moment, out, err).0,
-        Err(fault) => tell_fault(err, fault),
-    }
+    let queue = match open_found_queue(rt, plan.database, start, office) {
+        Ok(queue) => queue,
+        Err(fault) => return (tell_fault(err, fault), None),
+    };
+    let (status, queue) = list_queue(rt.alloc(), queue, moment, out, err);
+    (status, Some(queue))
 }
 
 /// Prints the listing of that queue, which is given back.

@@ -4,6 +4,7 @@
 mod command;
 mod import;
 mod list;
+mod queue;
 mod replay;
 mod serve;
 

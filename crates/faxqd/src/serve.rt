@@ -9,8 +9,9 @@ ghost use Rattle.fax_http.specs.Device.{IsFresh};
 ghost use Rattle.fax_net.specs.Listening.{Listens};
 ghost use Rattle.faxqd.specs.Serve.{ServesBy, ServesFrom};
 
+use crate::queue::open_queue;
 use fax_desk::Desk;
-use fax_files::{make_file, open_queue, read_office, report, tell_fault};
+use fax_files::{make_file, read_office, report, tell_fault};
 use fax_http::{Clock, Watched};
 use fax_net::{Peers, Sockets, listen};
 use fax_once::Queue;

@@ -1,5 +1,9 @@
-use Rattle.faxqd.proofs.ListLemmas.{lists_of}
+use Rattle.sqlite.specs.Files.{file_state}
+use Rattle.faxqd.proofs.ListLemmas.{lists_by}
 use Rattle.faxqd.proofs.list.list.Goals as goal
 
-pub returns-in-Ok-open_found_queue-clause-ends : goal.returns-in-Ok-open_found_queue-clause-ends
-returns-in-Ok-open_found_queue-clause-ends g c = lists_of _ _ _ c.args.plan c.in-Ok.office c.in-Ok.ensures _ _ _ _ c.list_queue.result.0 c.list_queue.ensures.shown
+pub returns-clause-lists : goal.returns-clause-lists
+returns-clause-lists g c =
+    lists_by _ _ _ _ c.args.plan c.list_queue-status.result.0 c.in-Ok.office c.in-Ok-open_found_queue.queue.office c.list_queue-status.result.1.office c.moment_of.result
+    (file_state c.in-Ok-open_found_queue.queue.store.conn) (file_state c.list_queue-status.result.1.store.conn)
+    c.in-Ok.ensures c.in-Ok-open_found_queue.ensures.office c.list_queue-status.ensures.office c.moment_of.ensures c.in-Ok-open_found_queue.ensures.found c.list_queue-status.ensures.shown
