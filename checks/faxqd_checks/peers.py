@@ -1,5 +1,5 @@
 """`serve` beside peers that hold nobody: silent ones, such that drip, such that take nothing of what they ask for, and more than
-it has places for."""
+it has places for; and which connections it counts."""
 import concurrent.futures
 import contextlib
 import http.client
@@ -18,7 +18,7 @@ from .shared import (CLOSE, MANY, NO_JOB, NO_JOB_LAST, PATIENCE, Peer, SETUP, Se
                      post, preload, say)
 
 check = group("peers", "Runs `serve` beside slow peers, greedy ones and more than it has places for: how long a request "
-              "takes, and what memory they take.")
+              "takes, what memory they take, and how connections are counted.")
 LIMIT = 0.02  # seconds that a request may take at the 99th percentile
 ASK = get("/jobs/999999", CLOSE)
 
