@@ -361,8 +361,9 @@ def closed_files(folder):
             out, err = place.run(1, *words, before=NOBODY)
             expect_same((out, err), (b"", f"faxqd: {text}\n".encode()), "it says")
             expect(files_in(folder) == before, "not all files are as they were")
-    for words in ["replay", "--setup", "closed"], *(["list", "--db", name] for name in ("closed.db", "read.db", "inner/queue.db")):
-        place.run(0, *words)  # which has no fault for who may read it
+    place.run(0, "replay", "--setup", "closed")  # which has no fault for who may read it
+    for name in "closed.db", "read.db", "inner/queue.db":
+        place.run(0, "list", "--db", name)
 
 
 def message(path, body=""):

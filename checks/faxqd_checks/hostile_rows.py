@@ -17,7 +17,8 @@ REPORTED = {1: (409, 200, 200), 2: (409, 409, 409)}  # the statuses of these on 
 NOTHING = reply("200 OK", '{"grant":0}')
 NOT_CHOSEN = {  # what job 3 gets where it waits still
     "alter 3": reply("409 Conflict", '{"no":15,"word":"not-suspended"}'),
-    **{f"{what} 3": reply("200 OK", f'{{"job":3,"state":{state}}}') for what, state in (("suspend", 1), ("resume", 5), ("kill", 8))}}
+    **{f"{what} 3": reply("200 OK", f'{{"job":3,"state":{state}}}')
+       for what, state in (("suspend", 1), ("resume", 5), ("kill", 8))}}
 
 
 def requests():
