@@ -1,11 +1,14 @@
 """What the program says of its words and files, and how it ends: help, usage, the first fault of its files with its line,
 and inputs past their limits."""
+import os
 import re
+import shutil
+import subprocess
 import time
 
 from .runner import group
 from .place import Place, open_folder
-from .shared import attempt, expect, expect_same, say, submission
+from .shared import NotTried, attempt, expect, expect_same, said, say, submission, wants
 
 check = group("commands", "Compares each fault line, each status and both streams, among them help, usage, and files missing or "
               "exchanged.", "computing")
@@ -304,6 +307,63 @@ def file_faults(folder):
     for text, words in SERVED:
         with attempt(words):
             place.fails(text, "serve", "--connections", "1", *words)
+
+
+NOBODY = "setpriv", "--reuid=nobody", "--regid=nogroup", "--clear-groups"
+# Where the user may read `setup` and `controls` alone, may write no file, and may not enter `inner`.
+CLOSED = [
+    ("cannot read closed", ["replay", "--setup", "closed"]), ("cannot read closed", ["replay", "--controls", "closed"]),
+    ("cannot read closed", ["replay", "--setup", "setup", "--controls", "closed"]),
+    ("cannot read inner/setup", ["replay", "--setup", "inner/setup"]), ("cannot read inner", ["replay", "--controls", "inner"]),
+    ("cannot read closed", ["list", "--db", "closed.db", "--setup", "closed"]), ("database", ["list", "--db", "closed.db"]),
+    ("database", ["list", "--db", "inner/queue.db"]), ("database", ["list", "--db", "inner/none.db"]),
+    ("cannot read closed", ["import", "--client", "old", "--request", "1", "closed"]),
+    ("cannot read closed", ["serve", *ADDRESS, "--db", "closed.db", "--controls", "closed"]),
+    *(("database", ["serve", *ADDRESS, "--db", file])
+      for file in ("closed.db", "read.db", "inner/queue.db", "inner/none.db", "new.db")),
+]
+
+
+def closed_place(folder):
+    """A place that another user may look at, with files that he may not read, and the program, which he may run."""
+    place = with_files(folder)
+    place.program.unlink()
+    shutil.copy(said.program, place.program)
+    (folder / "inner").mkdir()
+    for name in "closed", "inner/setup":
+        (folder / name).write_bytes(GOOD_SETUP)
+    for name in "closed.db", "read.db", "inner/queue.db":
+        (folder / name).touch()
+        place.run(0, "list", "--db", name)  # so it is a queue
+    for name, mode in (".", 0o755), ("faxqd", 0o755), ("inner", 0o700), ("closed", 0o600), ("closed.db", 0o600):
+        (folder / name).chmod(mode)
+    return place
+
+
+def files_in(folder):
+    """All files of a folder, with their bytes."""
+    return {file: file.read_bytes() for file in folder.glob("**/*") if file.is_file()}
+
+
+@check
+def closed_files(folder):
+    """A setup, controls or a database that the user may not read, and a database that he may not write, are told in one line, and
+    all files stay as they are."""
+    wants("setpriv")
+    place = closed_place(folder)
+    if os.getuid() != 0 or subprocess.run([*NOBODY, folder / "faxqd", "--help"], capture_output=True).returncode != 0:
+        raise NotTried("no other user may run the program")
+    out, err = place.run(0, "replay", "--setup", "setup", "--controls", "controls", data=READY, before=NOBODY)
+    expect((out[:13], err) == (b"HTTP/1.1 200 ", b""), f"with files that may be read it answers {out!r}, and says {err!r}")
+    before = files_in(folder)
+    for text, words in CLOSED:
+        with attempt(words):
+            out, err = place.run(1, *words, before=NOBODY)
+            expect_same((out, err), (b"", f"faxqd: {text}\n".encode()), "it says")
+            expect(files_in(folder) == before, "not all files are as they were")
+    place.run(0, "replay", "--setup", "closed")  # which has no fault for who may read it
+    for name in "closed.db", "read.db", "inner/queue.db":
+        place.run(0, "list", "--db", name)
 
 
 def message(path, body=""):

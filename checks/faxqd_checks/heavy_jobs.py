@@ -8,13 +8,14 @@ import shutil
 import time
 
 from .runner import group
-from .shared import Peer, SETUP, Server, database_of, expect, get, new_folder, post, say
+from .shared import Peer, SETUP, Server, attempt, database_of, expect, get, new_folder, post, say
 
 check = group("heavy-jobs", "Has thousands of heavy jobs wait, and tens of thousands for a busy number, and measures what a "
               "request costs then.")
 HEAVY = 2_000  # jobs
 DATA = 48 << 20  # bytes, of the whole process
 BUSY = 90_000  # jobs to a busy number
+OTHERS = 5_000  # jobs for another modem
 SHOWN = 8 << 20  # bytes more than at rest
 LONGEST = 1.0  # seconds
 PASSED = 0.15  # seconds of a processor
@@ -166,6 +167,33 @@ def busy(_):
                 server.ask("an outcome", post(f"/grants/{grant}/outcome", 3 + 3 * number, over, "ttyS0"), 200)
     say(f"{min(taken):.3f} s")
     expect(min(taken) <= PASSED, f"a choice behind {BUSY:,} jobs to a busy number takes {min(taken):.3f} s")
+
+
+# How the jobs that are passed over stand: all alike, or in each order of the choice.
+STANDING = {"alike": "priority = 0", "by priority": "priority = job % 127", "by time": "tts = tts - job % 1000",
+            "by priority and time": "priority = job % 5, tts = tts - job % 7"}
+
+
+@check
+def passed(_):
+    """A job behind 5,000 that only another modem may have is given, however these stand, within a second; and that modem gets the
+    best of these."""
+    for how, change in STANDING.items():
+        with attempt(f"5,000 jobs {how}"), room() as folder:
+            with Queue(folder) as server:
+                server.ask("a submission", post("/jobs", 1, "number:5550111\ntotpages:1\npriority:0\nmodem:ttyS1\n"), 201)
+            copy_job(folder, 1, OTHERS)
+            with database_of(folder / "queue.db") as database:
+                database.execute(f"UPDATE jobs SET {change}")
+                best, = database.execute("SELECT job FROM jobs ORDER BY priority, tts, job").fetchone()
+            with Queue(folder) as server:
+                server.ask("a submission", post("/jobs", 2, "number:5550222\ntotpages:1\n"), 201)
+                body, taken = server.ask("next", post("/modems/ttyS0/next", 1, client="ttyS0"), 200)
+                expect(f'"job":{OTHERS + 1},"number":"5550222"'.encode() in body, f"next is answered {body!r}")
+                expect(taken <= LONGEST, f"next takes {taken:.2f} s")
+                say(f"{how} in {taken:.3f} s")
+                body, _ = server.ask("next", post("/modems/ttyS1/next", 1, client="ttyS1"), 200)
+                expect(f'"job":{best},"number":"5550111"'.encode() in body, f"next of the other modem is answered {body!r}")
 
 
 def copy_reply(folder, replies):

@@ -1,13 +1,13 @@
-"""Setups, controls and databases that nobody should have."""
+"""Setups, controls and databases that nobody should have. `hostile_rows` has the rows that nobody should have."""
 import collections
 import contextlib
+import functools
 import random
 import re
 import sqlite3
 
-from .hostile_shared import SECOND, check, chosen, copied, ended, expect_rows, folder, replies, serving, tables, try_all
-from .shared import (CHECKS, LIMIT, NotServing, TOP, UNAVAILABLE, conversed, database_of, expect, expect_same, get, post,
-                     replay, run)
+from .hostile_shared import SECOND, check, chosen, copied, ended, folder, replies, serving, try_all
+from .shared import LIMIT, NotServing, TOP, UNAVAILABLE, conversed, database_of, expect, expect_same, get, post, replay, run
 
 KINDS = {"setup": "not-text bad-quote bad-value bad-pattern no-colon bad-zone",
          "controls": "not-text bad-quote bad-value bad-pattern no-rule no-equals bad-hours"}
@@ -92,26 +92,41 @@ def groups(text):
         expect_same((ran.status, ran.out), (0, UNAVAILABLE), f"with half of {kilobytes} kB, it ends")
 
 
+@functools.cache
+def setup():
+    """The words for a setup with a modem that is free."""
+    file = folder() / "setup"
+    file.write_text("Modem: ttyS0\nModem: ttyS1\nModem: ttyS2\nJobReqBusy: 90\nTimeZone: EST5EDT,M3.2.0,M11.1.0\n")
+    return "--setup", file
+
+
+# Lawful numbers of a job that isn't over, none of them at an end of its range.
+COUNTS = "npages = 2, ntries = 1, tottries = 2, maxtries = 5, ndials = 1, totdials = 4, maxdials = 8"
+
+
 def queue_file():
-    """A file with a job that a modem has, one that is done and one that waits, in itself alone; and the requests that
-    are asked of it."""
+    """A file with a job that a modem has, one that is done, one that waits, one that is suspended and one that was killed, in
+    itself alone."""
     file = folder() / "queue.db"
-    words = ("--setup", CHECKS / "small.setup", "--connections", "1")
-    job = "number:555011{}\ntotpages:3\ntts:500\n{}"
-    with serving(file, *words) as served:
-        asked = [post("/jobs", 1, job.format(1, "")), post("/jobs", 2, "number:5550112\ntotpages:1\ntts:600\n"),
-                 post("/jobs", 3, job.replace("500", "800").format(3, f"x-note:{'n' * 9000}\n")),
+    waiting, held, killed = (f"number:555011{job}\ntotpages:3\ntts:800\n" for job in (3, 4, 5))
+    with serving(file, *setup(), "--connections", "1") as served:
+        asked = [post("/jobs", 1, "number:5550111\ntotpages:3\ntts:500\n"),
+                 post("/jobs", 2, "number:5550112\ntotpages:1\ntts:600\n"),
+                 post("/jobs", 3, f"{waiting}x-note:{'n' * 9000}\n"), post("/jobs", 4, held), post("/jobs", 5, killed),
+                 post("/jobs/4/suspend", 6), post("/jobs/5/kill", 7),
                  post("/modems/ttyS0/next", 1, client="w0"),
                  post("/modems/ttyS1/next", 1, client="w1"), post("/grants/2/call", 2, '{"result":"connected"}', "w1"),
                  post("/grants/2/page", 3, '{"page":1}', "w1"),
                  post("/grants/2/outcome", 4, '{"dialed":true,"outcome":"done","pages":1}', "w1"),
                  post("/grants/1/call", 2, '{"result":"connected"}', "w0"),
                  post("/grants/1/page", 3, '{"page":1}', "w0"),
-                 post("/modems/ttyS1/down", 5, client="w1")]
+                 post("/modems/ttyS1/down", 5, client="w1"),
+                 post("/numbers/floor", 5, '{"upto":3}', "old")]
         expect(all(answer.startswith(b"HTTP/1.1 20") for answer in conversed(served.port, *asked)),
             "a file can't be prepared")
         served.ends("behind a file's preparation")
     with database_of(file) as database:
+        database.execute(f"UPDATE jobs SET {COUNTS} WHERE job IN (3, 4)")
         database.execute("PRAGMA wal_checkpoint(TRUNCATE)")
     return file
 
@@ -131,13 +146,13 @@ PAGES = 2200  # so many pages of its file a server may have in memory
 PLACES = 6000  # and so many kilobytes for the connections that may come
 
 
-def asked_of(file, has_sound_replies=True, limit=LIMIT):
+def asked_of(file, has_sound_replies=True, limit=LIMIT, asked=ASKED):
     """What a server on this file answers, or says where it doesn't start. A file that it doesn't take stays as it is;
     its log may come, without a page. A kept reply that was damaged is sent as it stands."""
     before, has_log = file.read_bytes(), file.with_name("queue.db-wal").exists()
     try:
-        with serving(file, "--setup", CHECKS / "small.setup", "--connections", "1", limit=limit) as served:
-            got = dict(zip(ASKED, conversed(served.port, *ASKED.values())))
+        with serving(file, *setup(), "--connections", "1", limit=limit) as served:
+            got = dict(zip(asked, conversed(served.port, *asked.values())))
             served.ends("behind these requests")
     except NotServing as fault:
         expect_same((fault.status, fault.said, fault.err), (1, b"", b"faxqd: database\n"), "it ends")
@@ -149,7 +164,7 @@ def asked_of(file, has_sound_replies=True, limit=LIMIT):
         expect_same((status, out, err), (1, b"", b"faxqd: database\n"), "'list'")
         expect(file.read_bytes() == before, "the file isn't as it was behind 'list'")
         return Answers({}, fault.err)
-    expect(len(got) == len(ASKED), f"only {len(got)} requests are answered")
+    expect(len(got) == len(asked), f"only {len(got)} requests are answered")
     replies(b"".join(answer for name, answer in got.items() if has_sound_replies or name != "a repeat"))
     return Answers(got, b"")
 
@@ -205,32 +220,6 @@ def with_log(sound, *statements):
         expect(list(database.iterdump()) == rows, "rows of its log are lost")
 
 
-def strange_row(sound, wanted, meets, is_moved, *statements):
-    """Each request is answered as by the sound file, or 503; 503 where it meets the row. Where a row was moved, a job
-    may be shown otherwise, and a request refused otherwise. Or the file isn't taken."""
-    file = changed_file(sound, *statements)
-    answers = asked_of(copied(file))
-    if answers.err:
-        return
-    lost = [name for name, got in answers.got.items() if got == UNAVAILABLE]
-    others = [name for name, got in answers.got.items() if got not in (UNAVAILABLE, wanted[name])
-              and not (is_moved and (b" 20" not in got[:11] or "job" in name))]
-    expect(not others, f"'{others[:1]}' gets {answers.got[others[0]][-200:]!r}" if others else "")
-    expect(set(meets) <= set(lost), f"503 for {lost}, and should be for {meets}")
-    expect(len(lost) < len(ASKED) and "no route" not in lost, "503 for each request")
-    refuses_alone(file, lost)
-
-
-def refuses_alone(file, lost):
-    """The requests that meet a row get 503 where nothing else is asked, and all rows are as they were."""
-    rows = tables(copied(file))
-    with serving(file, "--setup", CHECKS / "small.setup", "--connections", "1") as served:
-        got = conversed(served.port, *(ASKED[name] for name in lost))
-        served.ends("behind the requests that meet a row")
-    expect(got == [UNAVAILABLE] * len(lost), f"{lost} alone get {got!r}")
-    expect_rows(tables(file), rows, f"behind 503 for {lost}")
-
-
 def another_reply(wanted, data):
     """A kept reply that was overwritten is sent as it stands, and all else is answered as ever."""
     expect(b'{"job":2}' in data, "the file has no kept reply to overwrite")
@@ -253,43 +242,15 @@ def damaged(wanted, is_changed, data):
 
 
 BIG = 2 ** 63 - 1
-JOB_ROWS = {  # values that no lawful job has
-    "priority": (300, 256, -1, BIG), "totpages": (10000, 0, -1, BIG), "npages": (4, 10000, -1),
-    "maxtries": (0, 1001, -1), "maxdials": (0, 1001, BIG), "killtime": (-1, 4102444801, -BIG - 1),
-    "tts": (-1, 4102444801, BIG), "phase": (9, -1, 255, BIG), "wish": (9, -1, 255), "next": (-1, 4102531201),
-    "ntries": (-1, 65536), "tottries": (-1, 4), "ndials": (-1, 65536), "totdials": (-1, 13),
-    "dial": ("''", "'12x'", f"'{33 * '1'}'", "'+'", "CAST(X'FF' AS TEXT)"),
-    "modem": ("''", "'a b'", f"'{33 * 'm'}'", "CAST(X'C3' AS TEXT)"),
-    "jobtag": (f"'{201 * 't'}'", "'a' || char(10)", "CAST(X'FF' AS TEXT)", "' a'"),
-    "status": ("'a' || char(1)", "CAST(X'ED' AS TEXT)", "' a'"),
-    "extra": ("'none'", "'number:1' || char(10)", "'a:b'", "CAST(X'FF0A' AS TEXT)")}
-OTHER_ROWS = (  # the requests that meet the row, and what makes it
-    *((["all jobs"], f"UPDATE jobs SET job = {job} WHERE job = 3") for job in (0, -1, 1000000, BIG)),
-    *((["a busy modem"], statement) for statement in (
-        "UPDATE holds SET job = 99", "UPDATE holds SET id = 99", "UPDATE holds SET job = 0", "UPDATE holds SET id = -1",
-        "DELETE FROM grants WHERE id = 1")),
-    (["a page"], "DELETE FROM jobs WHERE job = 1"),
-    *((["a page"], f"UPDATE grants SET {change} WHERE id = 1") for change in (
-        "job = 99", "first_page = 0", "last_page = 10000", "last_page = 0", "call = 9", "pages = 10000", "shut = 2",
-        "modem = ''", "job = 0", "modem = CAST(X'FF' AS TEXT)")),
-    (["a closed grant"], "UPDATE grants SET shut = -1 WHERE id = 2"),
-    (["a repeat"], "UPDATE replies SET status = 404 WHERE number = 2 AND client = 'desk'"),
-    *((["a repeat"], f"UPDATE replies SET status = {status}") for status in (0, BIG, 202)),
-    ([], "UPDATE replies SET number = -number WHERE client = 'w0'"), ([], "INSERT INTO down VALUES ('')"),
-    ([], "INSERT INTO down VALUES (CAST(X'FF' AS TEXT))"),
-    *((["a submission"], f"UPDATE meta SET {change}") for change in (
-        "clock = -1", "clock = 4102444801", "next_job = 0", "next_job = 1000001", "next_grant = 0",
-        f"next_grant = {BIG}", "next_job = 2")))
 TABLES = ("jobs", "grants", "holds", "down", "replies", "meta", "floors", "calls")
-NULLS = (("jobs", "dial TEXT NOT NULL", "dial", "job = 3"), ("jobs", "extra TEXT NOT NULL", "extra", "job = 3"),
-         ("jobs", "priority INTEGER NOT NULL", "priority", "job = 3"),
-         ("grants", "call INTEGER NOT NULL", "call", "id = 1"), ("holds", "id INTEGER NOT NULL UNIQUE", "id", "1"),
-         ("replies", "body BLOB NOT NULL", "body", "1"), ("meta", "clock INTEGER NOT NULL", "clock", "1"))
+LOOSE = (("jobs", "dial TEXT NOT NULL"), ("jobs", "extra TEXT NOT NULL"), ("jobs", "priority INTEGER NOT NULL"),
+         ("grants", "call INTEGER NOT NULL"), ("holds", "id INTEGER NOT NULL UNIQUE"), ("replies", "body BLOB NOT NULL"),
+         ("meta", "clock INTEGER NOT NULL"))
 
 
 @check
 def files():
-    """Cut setups and controls, costly patterns, and strange and damaged databases are told, or taken as what they are, in
+    """Cut setups and controls, costly patterns, and other and damaged databases are told, or taken as what they are, in
     time and in little memory."""
     tasks = [(f"{option}, line {line}, {len(data)} bytes", example_line, option, line, data)
              for option in KINDS for line, data in chosen(lines_of(option), 250)]
@@ -300,7 +261,7 @@ def files():
     sound = queue_file()
     wanted = asked_of(copied(sound)).got
     expect(sum(answer.startswith(b"HTTP/1.1 20") for answer in wanted.values()) == 9, f"a sound file: {wanted!r}")
-    try_all([*schemas(sound, wanted), *rows(sound, wanted), *damages(sound.read_bytes(), wanted)])
+    try_all([*schemas(sound, wanted), *damages(sound.read_bytes(), wanted)])
 
 
 def schemas(sound, wanted):
@@ -309,7 +270,7 @@ def schemas(sound, wanted):
     statements += [f"ALTER TABLE {name} ADD COLUMN more INTEGER" for name in TABLES]
     statements += [f"ALTER TABLE {name} RENAME COLUMN {old} TO other"
                    for name, old in zip(TABLES, ("extra", "call", "id", "modem", "said", "clock", "upto", "open"))]
-    statements += [f"schema |{table}|{column}|{column.replace(' NOT NULL', '')}" for table, column, _, _ in NULLS]
+    statements += [f"schema |{table}|{column}|{column.replace(' NOT NULL', '')}" for table, column in LOOSE]
     statements += [
         "CREATE INDEX more ON jobs (tts)", "CREATE VIEW more AS SELECT job FROM jobs", "DELETE FROM meta",
         "UPDATE meta SET version = 0", "CREATE TRIGGER more AFTER INSERT ON jobs BEGIN DELETE FROM grants; END",
@@ -328,21 +289,6 @@ def schemas(sound, wanted):
             ("PRAGMA user_version = 7",), ("PRAGMA application_id = 7",), ("VACUUM",),
             ("CREATE TABLE more (a)", "DROP TABLE more"), ("ANALYZE",), ("REINDEX",)):
         yield "; ".join(ways), another_way, sound, wanted, *ways
-
-
-def rows(sound, wanted):
-    """Files with rows that no request of ours makes."""
-    changes = [(3, column, value) for column, values in JOB_ROWS.items() for value in values] + [(1, "priority", 300)]
-    for job, column, value in changes:
-        meets = [f"job {job}"] if column == "extra" else [f"job {job}", "all jobs"]  # no other request reads extra lines
-        yield (f"job {job} with {column} {value}", strange_row, sound, wanted, meets, False,
-               f"UPDATE jobs SET {column} = {value} WHERE job = {job}")
-    for meets, statement in OTHER_ROWS:
-        yield statement, strange_row, sound, wanted, meets, True, statement
-    for table, column, name, where in NULLS:
-        loose = column.replace(" NOT NULL", "")
-        yield (f"{name} of {table} is NULL", strange_row, sound, wanted, [], False, f"schema |{table}|{column}|{loose}",
-               f"UPDATE {table} SET {name} = NULL WHERE {where}", f"schema |{table}|{loose}|{column}")
 
 
 def damages(data, wanted):

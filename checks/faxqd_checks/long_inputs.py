@@ -323,6 +323,33 @@ def files():
     yield talk.post("/modems/ttyS0/next").gives(200, '{"from":1,"grant":1,"job":1,"number":"5550111","to":1}')
 
 
+LAST_RULE, LAST_MODEM = '^555 RejectNotice = "No longer served"', "Modem: last"
+# What stands before the last line of a setup and of controls.
+BEFORE_LAST = (
+    ("# a comment\n", "# a comment\n"), (f"# {'c' * 999}\n", f"# {'c' * 70000}\n"), ("Modem: ttyS0\n", "^6 MaxSendPages = 1\n"),
+    ("FaxNumber: +1.415.555.0100\n", "  \t\n"), ("\n", "^6\n  RejectNotice = \"Another\"\n  MaxSendPages = 1\n"),
+)
+
+
+def ending_with(last, line, size):
+    """A text of so many bytes, of this line again and again, and behind a comment of the last one."""
+    times = (size - len(last) - 2) // len(line)
+    return filled(size, times * line + "#", f"\n{last}")
+
+
+@conversations
+def large_files():
+    """Of a setup and controls of 140 kB each, and of such as are as long as what a program reads at once, the last line holds."""
+    for setup_line, controls_line in BEFORE_LAST:
+        for size in (65536, 65537, 131072, 131073, 140000):
+            setup = ending_with(LAST_MODEM, setup_line, size)
+            talk = Conversation(f"files of {size} bytes", setup, ending_with(LAST_RULE, controls_line, size))
+            assert len(talk.setup) == len(talk.controls) == size
+            talk.post("/jobs", SUBMISSION).gives(403, '{"no":11,"notice":"No longer served","word":"rejected"}')
+            talk.post("/jobs", "number:7\ntotpages:1\n").gives(201, '{"job":1}')
+            yield talk.post("/modems/last/next").gives(200, '{"from":1,"grant":1,"job":1,"number":"7","to":1}')
+
+
 @conversations
 def many_jobs():
     """As many submissions as one input may have are each a job, and each again is the same job."""

@@ -1,19 +1,24 @@
 """`serve` beside peers that hold nobody: silent ones, such that drip, such that take nothing of what they ask for, and more than
-it has places for."""
+it has places for; and which connections it counts."""
+import concurrent.futures
 import contextlib
 import http.client
 import itertools
 import json
+import multiprocessing
 import resource
+import select
 import signal
+import socket
 import threading
 import time
 
 from .runner import group
-from .shared import CLOSE, MANY, PATIENCE, Peer, SETUP, Server, Wrong, answer_to, expect, get, post, preload, say
+from .shared import (CLOSE, MANY, NO_JOB, NO_JOB_LAST, PATIENCE, Peer, SETUP, Server, Wrong, answer_to, attempt, expect, get,
+                     post, preload, say)
 
 check = group("peers", "Runs `serve` beside slow peers, greedy ones and more than it has places for: how long a request "
-              "takes, and what memory they take.")
+              "takes, what memory they take, and how connections are counted.")
 LIMIT = 0.02  # seconds that a request may take at the 99th percentile
 ASK = get("/jobs/999999", CLOSE)
 
@@ -204,13 +209,14 @@ def memory(folder):
         expect(answer_to(server.port, ASK)[0] == 404, "behind them a message isn't answered")
 
 
+def few_files():
+    resource.setrlimit(resource.RLIMIT_NOFILE, (20, 20))
+
+
 @check
 def no_files(folder):
     """A server that may open no file more goes on with who is there, doesn't spin, and accepts again once one leaves."""
-    def few():
-        resource.setrlimit(resource.RLIMIT_NOFILE, (20, 20))
-
-    with serving(folder, limits=few) as server, contextlib.ExitStack() as stack:
+    with serving(folder, limits=few_files) as server, contextlib.ExitStack() as stack:
         peers = [stack.enter_context(connect(server.port)) for _ in range(30)]
         time.sleep(0.2)
         start, used = time.monotonic(), server.processor()
@@ -242,3 +248,96 @@ def idle(folder):
         expect(used < 0.1, f"with 70 silent peers it uses {used:.2f} s of a processor in a second")
         server.process.send_signal(signal.SIGTERM)
         server.process.wait(PATIENCE)
+
+
+REFUSED = 0.05  # seconds behind an accept that fails
+
+
+def failing(file, refused, count):
+    """A server for so many connections, of which the first can't be accepted."""
+    return Server(file, "--connections", str(count), before=preload(["refuse_accept"], REFUSE_ACCEPTS=refused))
+
+
+@check
+def misses(folder):
+    """Each accept that fails counts as a served connection, 50 milliseconds pass behind it, and the server doesn't spin
+    meanwhile; those that are left are served, and it ends behind the last."""
+    for refused in 1, 7, 20:
+        least = refused * REFUSED
+        with attempt(f"{refused} accepts that fail"), failing(folder / f"{refused}.db", refused, refused + 3) as server:
+            start = time.monotonic()
+            with contextlib.ExitStack() as stack:
+                for peer in [stack.enter_context(Peer(server.port)) for _ in range(3)]:
+                    peer.say(ASK)
+                    expect(peer.rest() == NO_JOB_LAST, f"one that is left gets {peer.got!r}")
+            took, used = time.monotonic() - start, server.processor()
+            server.ends("behind those that are left")
+            expect(0.9 * least <= took <= least + 0.5, f"those that are left are served after {took:.2f} s, not {least:.2f} s")
+            expect(used < 0.1, f"the server uses {used:.2f} s of a processor")
+    with attempt("each accept fails"), failing(folder / "all.db", 1000, 20) as server, Peer(server.port) as peer:
+        start = time.monotonic()
+        server.ends("behind twenty accepts that fail")
+        took = time.monotonic() - start
+        expect(peer.rest() == b"", f"a peer that wasn't accepted gets {peer.got!r}")
+        expect(0.9 * 19 * REFUSED <= took <= 20 * REFUSED + 0.5, f"it ends after {took:.2f} s, not {20 * REFUSED:.2f} s")
+
+
+@check
+def misses_files(folder):
+    """Accepts for want of a file count, too: with all of 40 connections accepted or missed, those that wait aren't served when
+    others leave, and the server ends."""
+    with Server(folder / "queue.db", "--connections", "40", limits=few_files) as server, contextlib.ExitStack() as stack:
+        start = time.monotonic()
+        peers = [stack.enter_context(Peer(server.port)) for _ in range(30)]
+        for peer in peers:
+            peer.say(get("/jobs/999999"))
+        time.sleep(0.3)
+        served = [peer for peer in peers if select.select([peer.socket], [], [], 0)[0]]
+        expect(1 <= len(served) < 20, f"with 20 files {len(served)} of 30 peers are served")
+        time.sleep(max(0, start + (40 - len(served)) * REFUSED + 0.5 - time.monotonic()))
+        expect(server.process.poll() is None, "it ends while peers are there")
+        used = server.processor()
+        for peer in served:
+            peer.say(get("/jobs/999999"))
+            expect(peer.reply() + peer.reply() == 2 * NO_JOB, "who is there isn't answered")
+            peer.socket.close()
+        server.ends("once they have left")
+        expect(used < 0.2, f"without files it uses {used:.2f} s of a processor")
+        for peer in peers:
+            expect(peer in served or peer.rest() == b"", f"one that waits gets {peer.got!r}")
+
+
+CONNECTIONS = 66_000
+ASKING = 4  # processes
+
+
+def ask_each(port, count):
+    """How many of so many connections, one after the other, get their reply."""
+    answered = 0
+    for _ in range(count):
+        with socket.socket() as peer:
+            peer.settimeout(PATIENCE)
+            peer.connect(("127.0.0.1", port))
+            peer.sendall(ASK)
+            got = b""
+            while piece := peer.recv(4096):
+                got += piece
+            answered += got == NO_JOB_LAST
+    return answered
+
+
+@check
+def counted(folder):
+    """A server for 66,000 connections, more than a number of two bytes counts, answers each, and ends behind the last one, not
+    before."""
+    with Server(folder / "queue.db", "--connections", str(CONNECTIONS)) as server:
+        fork, share = multiprocessing.get_context("fork"), CONNECTIONS // ASKING - 1
+        with concurrent.futures.ProcessPoolExecutor(ASKING, fork) as pool:
+            answered = sum(pool.map(ask_each, ASKING * [server.port], ASKING * [share]))
+        expect(answered == ASKING * share, f"of {ASKING * share} connections {answered} are answered")
+        left = CONNECTIONS - answered
+        expect(ask_each(server.port, left - 1) == left - 1, "one of the last connections isn't answered")
+        time.sleep(0.2)
+        expect(server.process.poll() is None, f"it ends before its last connection, with {server.process.returncode}")
+        expect(ask_each(server.port, 1) == 1, "the last connection isn't answered")
+        server.ends(f"behind {CONNECTIONS:,} connections")

@@ -6,12 +6,13 @@ import shutil
 import signal
 import socket
 import subprocess
+import threading
 import time
 
 from .serving import HEADING, check, fails, row, served
 from .shared import (ASK, BAD_LAST, CONVERSATIONS, EXAMPLES, LARGE_LAST, NO_JOB, NO_JOB_LAST, PATIENCE, Peer, Server, Wrong,
-                     attempt, created, database_of, expect, expect_same, free_port, get, post, reply, run, said, slack,
-                     submission, whole)
+                     attempt, created, database_of, expect, expect_same, free_port, get, post, reply, reply_bytes, run, said,
+                     slack, submission, whole)
 
 
 @check
@@ -129,6 +130,29 @@ def connections(folder):
             peer.say(1001 * ASK)
             expect_same(peer.rest(), 1000 * NO_JOB, "a connection with 1,001 messages")
         served(port, "a connection with 1,001 messages")
+
+
+def noted(number):
+    """A submission with a note of so many bytes that messages end at all places of what is read."""
+    return post("/jobs", number, f"number:5550111\ntotpages:1\nx-note:{37 * number % 1601 * 'n'}\n")
+
+
+@check
+def thousand(folder):
+    """A thousand messages that are sent at once, ten times as long as what the server reads ahead, are each answered in their
+    order, and the next one isn't."""
+    data = b"".join(noted(number) for number in range(1, 1002))
+    expect(len(data) > 10 * 81920, f"the messages have {len(data)} bytes")
+    with Server(folder / "queue.db") as server:
+        with Peer(server.port) as peer:
+            sending = threading.Thread(target=peer.say, args=(data,))
+            sending.start()
+            got = reply_bytes(peer.rest())
+            sending.join()
+        expect(len(got) == 1000, f"a connection with 1,001 messages has {len(got)} replies")
+        wrong = [(job, answer) for job, answer in enumerate(got, 1) if answer != created(job)]
+        expect(not wrong, f"of a thousand replies these are wrong: {wrong[:3]}")
+        expect_same(whole(server.port, noted(1001)), created(1001), "the message behind the last of a connection, sent again")
 
 
 @check

@@ -229,3 +229,51 @@ def one_at_a_time(folder):
         fails("faxqd: database", "--db", locked, "--listen", address)
     with Server(locked) as server:
         expect_same(whole(server.port, submission(3)), created(3), "a file whose server is gone")
+
+
+# Names that a shell, a reader of lines or the engine would take for others.
+NAMES = ("queue.db ", " queue.db", "queue.db\n", "queue.db\t", "queue.db\r", "queue\n.db", "queue .db ", "queue.db;", "$(date)",
+         "`date`", "$HOME", "*", "?.db", "[q].db", "'queue.db'", '"queue.db"', "queue.db\\", "queue\\n.db", "a&b", "a|b", "<a>",
+         "#q", "~", "%41.db", "q.db?mode=ro", "q.db#a", "\x01\x7f", "é", "\u2028", "...", "--db", 200 * "q")
+# A modem of the setup, a number that the controls reject, and a job.
+SAID = (post("/modems/last/down", 3), submission(1), post("/jobs", 2, "number:7\ntotpages:1\ntts:2000000000\n"))
+ANSWERED = (reply("200 OK", '{"down":true}'), reply("403 Forbidden", '{"no":11,"notice":"No","word":"rejected"}'), created(1))
+LISTED = (HEADING + row(1, "P", "7", "", "0:1", "2033-05-18 03:33")).encode()
+
+
+def others_of(name):
+    """The names that it would be taken for, and that are no names of its own."""
+    taken = {name.strip(), name.split("\n")[0], name.strip("'\""), name.rstrip("\\; "), name.replace("%41", "A"),
+             name.partition("?")[0], name.partition("#")[0], name.replace("\\n", "\n")}
+    return taken - {name, ""}
+
+
+def used_by_name(folder, name):
+    """The database, setup and controls of just this name are used, and beside the database stands its log alone."""
+    for part in "database", "setup", "controls":
+        (folder / part).mkdir(parents=True)
+        for other in others_of(name):
+            (folder / part / other).write_text(TEXT)
+    (folder / "setup" / name).write_text("Modem: last\n")
+    (folder / "controls" / name).write_text("^555 RejectNotice = No\n")
+    files = "--setup", f"setup/{name}", "--controls", f"controls/{name}"
+    with Server(f"database/{name}", "--connections", "1", *files, folder=folder) as server:
+        expect_same(whole(server.port, b"".join(SAID)), b"".join(ANSWERED), "it is answered")
+        server.ends("behind the only connection")
+    status, out, err, _ = run("list", "--db", f"database/{name}", cwd=folder)
+    expect_same((status, out, err), (0, LISTED, b""), "'list' ends, and says")
+    found = {file.name: file.read_bytes() for file in (folder / "database").iterdir()}
+    expect(set(found) == {name, f"{name}-wal", *others_of(name)}, f"beside it stand {sorted(found)}")
+    expect(all(found[other] == TEXT.encode() for other in others_of(name)), "another file isn't as it was")
+
+
+@check
+def names(folder):
+    """A database, a setup and controls are the files of just the names that are said, whatever characters these have, and no
+    other file is made or changed."""
+    for place, name in enumerate(NAMES):
+        with attempt(repr(name)):
+            used_by_name(folder / str(place), name)
+            (folder / str(place) / "setup" / name).unlink()
+            status, out, err, _ = run("replay", "--setup", f"setup/{name}", cwd=folder / str(place))
+            expect_same((status, out, err), (1, b"", f"faxqd: cannot read setup/{name}\n".encode()), "without its setup it ends")

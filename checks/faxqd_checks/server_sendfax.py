@@ -1,11 +1,13 @@
 """What `sendfax --to` hands in, prints and says."""
 import contextlib
 import socket
+import subprocess
 import threading
 import time
 
 from .serving import HEADING, check, prints, row, says
-from .shared import PATIENCE, Peer, Server, attempt, created, expect_same, free_port, get, is_whole, reply, run, whole
+from .shared import (ASK, NO_JOB, NotTried, PATIENCE, Peer, Server, attempt, created, expect_same, free_port, get, is_whole,
+                     reply, run, wants, whole)
 
 
 def line_that(answers, port=None):
@@ -85,3 +87,55 @@ def sends_to_others(folder):
     with attempt("a proxy's refusal"):
         says(b"no", "faxqd: refused 503", "'sendfax'", *fax,
              line_that(lambda _: [b"HTTP/1.0 503 Service Unavailable\r\nContent-Length: 2\r\n\r\nno"]))
+
+
+BOTH = "127.0.0.1", "::1"
+
+
+def two_named(folder):
+    """The words before a program for which localhost has two addresses."""
+    wants("unshare", "getent")
+    (folder / "hosts").write_text("".join(f"{address} localhost\n" for address in BOTH))
+    words = ["unshare", "--mount", "sh", "-c", 'mount --bind "$0" /etc/hosts && exec "$@"', str(folder / "hosts")]
+    found = subprocess.run([*words, "getent", "ahosts", "localhost"], capture_output=True, text=True).stdout
+    if {line.split()[0] for line in found.splitlines()} != set(BOTH):
+        raise NotTried("localhost can't be given two addresses")
+    return words
+
+
+def listening(port, *addresses):
+    """Listens at this port of these addresses, until this ends."""
+    stack = contextlib.ExitStack()
+    for address in addresses:
+        family = socket.AF_INET6 if ":" in address else socket.AF_INET
+        stack.enter_context(socket.create_server((address, port), family=family))
+    return stack
+
+
+def answered_at(address, port):
+    """A server answers at this address."""
+    with socket.create_connection((address, port), timeout=PATIENCE) as peer:
+        peer.sendall(ASK)
+        expect_same(peer.recv(65536), NO_JOB, f"at {address}")
+
+
+@check
+def two_addresses(folder):
+    """Where localhost has two addresses `serve` listens on one that is free, and `sendfax` reaches it there."""
+    before = two_named(folder)
+    for place, address in enumerate(BOTH):
+        with attempt(f"a server at {address}, where the other address is taken"):
+            port = free_port()
+            with listening(port, *(other for other in BOTH if other != address)):
+                server = Server(folder / f"{place}.db", port=port, host="localhost", before=before)
+            with server:
+                answered_at(address, port)
+                ran = run(*FAX, "--request", "7", "--to", f"localhost:{port}", before=before)
+                expect_same(ran[:3], (0, b'{"job":1}', b""), "'sendfax' ends, and says")
+    port = free_port()
+    with attempt("both addresses taken"), listening(port, *BOTH):
+        ran = run("serve", "--db", folder / "queue.db", "--listen", f"localhost:{port}", before=before)
+        expect_same(ran[:3], (1, b"", b"faxqd: cannot listen\n"), "'serve' ends, and says")
+    with attempt("nobody at either address"):
+        ran = run(*FAX, "--request", "7", "--to", f"localhost:{port}", before=before)
+        expect_same(ran[:3], (1, b"", b"faxqd: no reply\n"), "'sendfax' ends, and says")

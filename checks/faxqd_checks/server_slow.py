@@ -1,12 +1,14 @@
 """Slow peers of `serve`, and slow servers of `sendfax`. Each has a server of its own, and all are tried at the same time."""
 import contextlib
+import select
 import socket
 import subprocess
 import threading
 import time
 
 from .serving import check, ended, served
-from .shared import (ASK, NO_JOB, Peer, Server, created, expect, expect_same, get, post, preload, run, slack, submission)
+from .shared import (ASK, NO_JOB, Peer, Server, Wrong, attempt, created, expect, expect_same, get, library, post, preload, run,
+                     slack, submission)
 from .server_sendfax import line_that
 
 slow = check(beside="slow peers")
@@ -166,3 +168,104 @@ def slow_reader(folder):
             while peer.socket.recv(2048):
                 time.sleep(0.1)
     unread(folder, "reader", "a peer that reads slowly", 6, sip)
+
+
+# ---- exactly its time
+
+EARLY = 0.95  # of its time a peer is still served
+# The words, how many times as fast time runs for the server, and how many seconds a silent peer then has.
+SILENT = ((("--timeout", "1"), 1, 1), (("--timeout", "4"), 1, 4), ((), 2, 5), (("--timeout", "60"), 20, 3),
+          (("--timeout", "3600"), 900, 4))
+WHOLE = ((("--timeout", "1"), 1), ((), 10), (("--timeout", "60"), 60))  # such that a silent peer has one second
+
+
+def after(start, seconds):
+    """Waits until so many seconds have passed since then."""
+    time.sleep(max(0, start + seconds - time.monotonic()))
+
+
+def is_ended(peer, seconds):
+    """Whether the connection ends within these seconds; nothing more comes."""
+    ready, _, _ = select.select([peer.socket], [], [], seconds)
+    if ready:
+        with contextlib.suppress(ConnectionError):
+            expect(not peer.take(), f"a peer gets {peer.got!r}")
+    return bool(ready)
+
+
+def ends_at(peer, what, start, wanted, span):
+    """The connection ends so many seconds behind that start, of which the last part was to be so long."""
+    most = wanted + 2 * span
+    expect(is_ended(peer, max(0, start + most - time.monotonic())), f"{what} has more than {most:.1f} s")
+    took, more = time.monotonic() - start, max(0.05 * span, 0.2)
+    expect(wanted - (1 - EARLY) * span <= took <= wanted + more, f"{what} has {took:.2f} s, and should have {wanted:.2f} s")
+
+
+def silence(file, words, faster, seconds):
+    """A peer that moves nothing for so long, from when it connected or moved something last, is closed then, and not a
+    little before."""
+    with contextlib.ExitStack() as stack:
+        server = stack.enter_context(Server(file, *words, before=preload(["clocks"], FASTER=faster)))
+        start = time.monotonic()
+        never, asking, part, whole = (stack.enter_context(Peer(server.port)) for _ in range(4))
+        after(start, 0.5 * seconds)
+        part.say(submission(1)[:-1])
+        whole.say(submission(1)[:-1])
+        after(start, EARLY * seconds)
+        asking.asks(ASK, NO_JOB, f"a peer that was silent for {EARLY} of its time")
+        ends_at(never, "a silent peer", start, seconds, seconds)
+        after(start, (0.5 + EARLY) * seconds)
+        whole.asks(submission(1)[-1:], created(1), f"a peer that was silent for {EARLY} of its time within a message")
+        ends_at(part, "a peer that is silent within a message", start, 1.5 * seconds, seconds)
+        ends_at(asking, "a peer that is silent behind its reply", start, (1 + EARLY) * seconds, seconds)
+
+
+def whole_time(file, words, faster):
+    """A peer that goes on and on is closed when six times as long have passed, and not a little before."""
+    with contextlib.ExitStack() as stack:
+        server = stack.enter_context(Server(file, *words, before=preload(["clocks"], FASTER=faster)))
+        start = time.monotonic()
+        drips, ends, asking = (stack.enter_context(Peer(server.port)) for _ in range(3))
+        message = submission(1)
+        for place in range(27):
+            after(start, 0.2 * place)
+            drips.say(b"x")
+            ends.say(message[place:place + 1])
+            asking.asks(ASK, NO_JOB, "a peer that asks again and again")
+        after(start, 6 * EARLY)
+        ends.asks(message[27:], created(1), f"a peer whose message ends at {EARLY} of its whole time")
+        asking.asks(ASK, NO_JOB, f"a peer that asks at {EARLY} of its whole time")
+        while not is_ended(drips, 0.02) and time.monotonic() < start + 12:
+            with contextlib.suppress(OSError):
+                drips.say(b"x")
+        ends_at(drips, "a peer that drips", start, 6, 6)
+        ends_at(asking, "a peer that asks again and again", start, 6, 6)
+
+
+def exact(folder, tried, cases):
+    """Tries all of these at once, and once more what goes wrong: something else may have had the processors."""
+    library("clocks")
+
+    def both(place, case):
+        with attempt(f"with the words {case[0]}, and time {case[1]} times as fast"):
+            try:
+                tried(folder / f"{place}.db", *case)
+            except (Wrong, OSError):
+                tried(folder / f"{place}-again.db", *case)
+    threads = [threading.Thread(target=both, args=(place, case)) for place, case in enumerate(cases)]
+    for thread in threads:
+        thread.start()
+    for thread in threads:
+        thread.join()
+
+
+@slow
+def slow_to_the_end(folder):
+    """A silent peer has just the time that `--timeout` says, from when it moved something last, whatever that is."""
+    exact(folder, silence, SILENT)
+
+
+@slow
+def slow_whole(folder):
+    """A peer that drips or asks again and again has just six times as long in all, whatever `--timeout` says."""
+    exact(folder, whole_time, WHOLE)
