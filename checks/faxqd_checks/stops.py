@@ -21,7 +21,7 @@ FLOORS = [CONVERSATION[0], ("floor", "desk", 5, "/numbers/floor", '{"upto":3}', 
 # fiftieth gives up the replies to the others, so that the file stays small.
 FILLING = [(None, "w9", number, "/numbers/floor", f'{{"upto":{number - 1}}}', 200, f'{{"floor":{number - 1}}}') if number % 50 == 0
            else (None, "w9", number, f"/modems/ttyS1/{'down' if number % 2 else 'ready'}", "", 200,
-                 f'{{"down":{"true" if number % 2 else "false"}}}') for number in range(1, 1458)]
+                 f'{{"down":{"true" if number % 2 else "false"}}}') for number in range(1, 1452)]
 AGAIN = "outcome, first", "outcome, later", "new-file"  # with --all the start on what these leave is swept too
 FEW = "kept", "lost", "lost-db", "sectors"  # without --all a full log, which is large, is left in these
 
