@@ -186,10 +186,10 @@ def waiting(folder):
                 other.say(submission(job, fields="Connection: close\r\n"))
                 expect_same(other.rest(), created(job, last=True), "a peer that comes beside another one")
             first.asks(submission(1), created(1), "the peer that stays, behind others")
-        late = [stack.enter_context(Peer(server.port)) for _ in range(100)]
+        late = [stack.enter_context(Peer(server.port)) for _ in range(60)]  # fewer than its places, so that none has to leave
         for _ in range(3):
-            for peer in late[::9]:
-                peer.asks(ASK, NO_JOB, "one of a hundred peers")
+            for peer in late[::6]:
+                peer.asks(ASK, NO_JOB, "one of sixty peers")
 
 
 @check
