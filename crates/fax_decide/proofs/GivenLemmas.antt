@@ -1,8 +1,9 @@
 -- What a new grant makes of the queue, and what is told of a grant.
-use Rattle.std.proofs.Common.{◌≡◌, ℕ, ◌+◌, Bool, true, false, cond, not, List, refl, sym, ap, subst, ◌∙◌}
+use Rattle.std.proofs.Common.{◌≡◌, ℕ, ◌+◌, ◌<◌, ◌==◌, ◌&&◌, Bool, true, false, cond, not, List, refl, sym, ap, subst, ◌∙◌, arith}
 use Rattle.std.specs.Prelude.{Option, Some, None, is_some, Result, Ok, Err}
 use Rattle.std.specs.Option.{option_map}
 use Rattle.std.specs.Str.{bytes_eq}
+use Rattle.std.proofs.lemmas.Bool.{and_from, eq-eqb}
 use Rattle.std.proofs.lemmas.Option.{none-some, same_Some}
 use Rattle.fax_ask.specs.Answer.{Replied}
 use Rattle.fax_ask.specs.Response.{Response, accepted_response, refused_response}
@@ -10,6 +11,7 @@ use Rattle.fax_job.specs.declared.job.JobFields.{JobFields}
 use Rattle.fax_job.specs.declared.refusal.Refusal.{Refusal}
 use Rattle.fax_job.specs.declared.refusal.Refusal.TheVariants.{ModemBusy, ModemDown, NoModem, Unavailable}
 use Rattle.fax_job.specs.Job.{is_lawful}
+use Rattle.fax_job.specs.Limits.{last_grant}
 use Rattle.fax_core.specs.declared.change.Change.{Change}
 use Rattle.fax_core.specs.declared.grants.Grant.{Grant}
 use Rattle.fax_core.specs.Ageing.{aged, aged_job}
@@ -25,12 +27,14 @@ use Rattle.fax_core.specs.Settings.{Settings}
 use Rattle.fax_core.specs.Sound.{Sound}
 use Rattle.fax_core.specs.Submission.{submitted, recorded}
 use Rattle.fax_core.proofs.BestLemmas.{best_is}
-use Rattle.fax_core.proofs.PlaceLemmas.{found_in, in_found, of_filter, placed_here}
+use Rattle.fax_core.proofs.KeepLemmas.{numbered_job}
+use Rattle.fax_core.proofs.PlaceLemmas.{found as found_by, found_in, in_found, of_filter, placed_here}
 use Rattle.fax_core.proofs.StepLemmas.{aged_sound}
 use Rattle.fax_tables.specs.declared.grants.Hold.{Hold}
-use Rattle.fax_tables.specs.Grant.{as_hold}
+use Rattle.fax_tables.specs.Grant.{IsOpenGrant, as_hold}
 use Rattle.fax_tables.specs.Job.{brief}
 use Rattle.fax_store.specs.Job.{IsChange, IsSameOrder, lines_of, with_expired, with_its_lines}
+use Rattle.fax_decide.specs.Choice.{is_held_by}
 use Rattle.fax_decide.specs.Records.{job_in}
 use Rattle.fax_decide.specs.Decision.{Decides, IsRefused, IsTaken}
 use Rattle.fax_decide.specs.Effect.{accepted}
@@ -76,15 +80,16 @@ dial_there m c j f g there of is =
 -- the changed job and its new grant are given
 pub given_new : (m : Queue) (t : ℕ) (c : Change) (old f : JobFields) (g : Grant) (reply : Response) (h : machine.Handed)
     → Sound m → job_numbered old.job (aged t m) ≡ Some (job_of old) → g.job ≡ old.job → g.number ≡ m.next_grant
-    → job_of f ≡ changed c (job_of old) → reply ≡ accepted_response (Replied (machine.Given h))
+    → job_of f ≡ changed c (job_of old) → IsOpenGrant g → reply ≡ accepted_response (Replied (machine.Given h))
     → ((n : Queue) → dial_of (job_numbered g.job n) ≡ f.dial → h ≡ handed g n)
     → Decides (given (aged t m) (decided_with g (job_of old) (Ok c))) m t (Taken (NewGrant f g) reply)
-given_new m t c old f g reply h sound there of n is is_reply told =
+given_new m t c old f g reply h sound there of n is new is_reply told =
     let j = job_of old in
     let whole : job_in (aged t m) f ≡ changed c j = ap (with_its_lines (aged t m)) is ∙ ap (λ (o : Option Job). lined (lines_of o) (changed c j)) there in
     let after = with_new_grant (both (changed c j) g) (aged t m) in
     record {
       suits = subst (λ (k : Job). IsChange k (with_expired t m)) (sym is) (change_suits m t c j there);
+      within = λ _. (new, (let left : m.next_grant < last_grant + 1 = omega (arith, n, new.limits.number.1) in left));
       told = machine.Given (handed g after);
       taken = ap (λ (q : Queue). machine.Taken q (machine.Given (handed g after))) (queue_is m t f (changed c j) g sound whole n);
       replied = is_reply ∙ ap (λ (x : machine.Handed). accepted_response (Replied (machine.Given x))) (told after (dial_there (aged t m) c j f g there of is));
@@ -124,7 +129,7 @@ none_given P s m t modem none holds = subst (λ (o : Option Job). P (given_best 
 
 -- where no job may go, the aged queue is left, and the modem is told so
 pub none_taken : (m : Queue) (t : ℕ) → IsTaken (machine.Taken (aged t m) machine.NoneToSend) m t Nothing (accepted_response (Replied machine.NoneToSend))
-none_taken m t = record { suits = _; told = machine.NoneToSend; taken = refl; replied = refl }
+none_taken m t = record { suits = _; within = λ _. tt; told = machine.NoneToSend; taken = refl; replied = refl }
 
 -- ---- the grant that a modem holds
 
@@ -145,6 +150,22 @@ module _ (m : Queue) (modem : List ℕ) (g : Grant) (hold : Hold) (sound : Sound
       let open' = found_in (λ (x : Grant). bytes_eq x.modem modem) (open_grants m) g held in
       let job = sound.held g.number g (held_there m modem g sound held, (of_filter (λ (x : Grant). x.is_open) m.grants g open').1) in
       none-some (brief (fields_of job.0)) (none ∙ ap (λ (x : Hold). option_map (λ j. brief (fields_of j)) (job_numbered x.job m)) is ∙ ap (option_map (λ j. brief (fields_of j))) job.1)
+
+  -- a job that is found under a number has it
+  number_of : (f : JobFields) (n : ℕ) (o : Option Job) → job_numbered n m ≡ o → Some f ≡ option_map (λ j. brief (fields_of j)) o → f.job ≡ n
+  number_of f n None there found = absurd (none-some f (sym found))
+  number_of f n (Some j) there found = ap (λ (x : JobFields). x.job) (same_Some f (brief (fields_of j)) found) ∙ numbered_job m n j there
+
+  -- where both are found, the grant is open, of that job, and the modem's
+  pub hold_is_its : (one : Grant) (f : JobFields) → Some one ≡ grant_numbered hold.grant m → Some f ≡ option_map (λ j. brief (fields_of j)) (job_numbered hold.job m)
+      → is_held_by modem f one ≡ true
+  hold_is_its one f found job_found =
+      let same : one ≡ g = same_Some one g (found ∙ ap (λ (x : Hold). grant_numbered x.grant m) is ∙ held_there m modem g sound held) in
+      let opened = (of_filter (λ (x : Grant). x.is_open) m.grants g (found_in (λ (x : Grant). bytes_eq x.modem modem) (open_grants m) g held)).1 in
+      let its = found_by (λ (x : Grant). bytes_eq x.modem modem) (open_grants m) g held in
+      let number : g.job ≡ f.job = sym (ap (λ (x : Hold). x.job) is) ∙ sym (number_of f hold.job (job_numbered hold.job m) refl job_found) in
+      let job : (g.job == f.job) ≡ true = eq-eqb g.job f.job number in
+      subst (λ (x : Grant). is_held_by modem f x ≡ true) (sym same) (and_from (g.is_open && (g.job == f.job)) (bytes_eq g.modem modem) (and_from g.is_open (g.job == f.job) opened job) its)
 
 -- the number that is dialed doesn't age
 dialed : (t : ℕ) (f : JobFields) (o : Option Job) → Some f ≡ option_map (λ j. brief (fields_of j)) o → dial_of (option_map (aged_job t) o) ≡ f.dial

@@ -1,7 +1,8 @@
 -- What is decided of an import.
-use Rattle.std.proofs.Common.{◌≡◌, inl, inr, ℕ, ◌+◌, Bool, false, cond, not, ◌&&◌, eqb, List, [], ◌∷◌, length, filter, Ok, Err, refl, sym, ap, ◌∙◌}
+use Rattle.std.proofs.Common.{◌≡◌, inl, inr, ℕ, ◌+◌, ◌≤◌, ◌<◌, Bool, false, cond, not, ◌&&◌, eqb, List, [], ◌∷◌, length, filter, Ok, Err, refl, sym, ap, ◌∙◌, arith}
 use Rattle.std.specs.Prelude.{IsSome, Result, is_some, nat_lt}
 use Rattle.std.proofs.lemmas.Bool.{and_parts, cases_Bool}
+use Rattle.fax_job.specs.Limits.{last_job}
 use Rattle.fax_job.specs.declared.import.Import.{Import}
 use Rattle.fax_job.specs.declared.job.JobFields.{JobFields}
 use Rattle.fax_job.specs.declared.refusal.Refusal.{Refusal}
@@ -60,11 +61,12 @@ state_new s m t j sound =
     ap (λ calls. state_at j ((s.rule j.dial).hours t) calls (s.rule j.dial).calls t) (calls_new j.dial (aged t m) j (aged_sound t m sound) ∙ calls_aged j.dial t m)
 
 -- a new job that is next is taken, and its state is told
-pub job_brought : (s : Settings) (m : Queue) (t : ℕ) (rule : Rule) (f : JobFields) (meta : Meta) (st : ℕ) (reply : Response) → Sound m → meta ≡ meta_of m → f.job ≡ m.next_job
+pub job_brought : (s : Settings) (m : Queue) (t : ℕ) (rule : Rule) (f : JobFields) (meta : Meta) (st : ℕ) (reply : Response) → Sound m → meta ≡ meta_of m → f.job ≡ m.next_job → f.job ≤ last_job
     → st ≡ state s m t (job_of f) → reply ≡ accepted_response (Replied (Brought f.job st))
     → IsTaken (brought_in s (aged t m) t rule (Ok (job_of f))) m t (NewJob f meta) reply
-job_brought s m t rule f meta st reply sound these next st_is replied = record {
+job_brought s m t rule f meta st reply sound these next limit st_is replied = record {
   suits = these;
+  within = λ _. let left : m.next_job < last_job + 1 = omega (arith, next, limit) in left;
   told = Brought f.job st;
   taken = ap (λ (n : ℕ). Taken (with_new_job (job_of f) (aged t m)) (Brought f.job n)) (state_new s m t (job_of f) sound ∙ sym st_is)
       ∙ ap (λ (js : List Job). Taken (record (aged t m) { jobs = js; next_job = m.next_job + 1 }) (Brought f.job st)) (sym (aged_job_placed t m (job_of f) sound next));

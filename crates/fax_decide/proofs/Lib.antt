@@ -18,3 +18,4 @@ mod ImportLemmas
 pub mod OpenLemmas
 pub mod FreeLemmas
 mod FloorLemmas
+mod WithinLemmas

@@ -1,11 +1,12 @@
 -- What is decided of a submission.
-use Rattle.std.proofs.Common.{◌≡◌, ℕ, ◌+◌, Bool, true, false, cond, List, Ok, Err, sym, ap, ◌∙◌}
+use Rattle.std.proofs.Common.{◌≡◌, ℕ, ◌+◌, ◌≤◌, ◌<◌, Bool, true, false, cond, List, Ok, Err, sym, ap, ◌∙◌, arith}
 use Rattle.std.specs.Prelude.{Result, nat_lt, is_some}
 use Rattle.fax_job.specs.declared.order.Order.{Order}
 use Rattle.fax_job.specs.declared.job.JobFields.{JobFields}
 use Rattle.fax_job.specs.declared.refusal.Refusal.{Refusal}
 use Rattle.fax_job.specs.declared.refusal.Refusal.TheVariants.{Unavailable, Rejected, TooManyPages, Full}
 use Rattle.fax_job.specs.Job.{is_lawful}
+use Rattle.fax_job.specs.Limits.{last_job}
 use Rattle.fax_ask.specs.Answer.{Replied}
 use Rattle.fax_ask.specs.Response.{Response, accepted_response, refused_response}
 use Rattle.fax_core.specs.Ageing.{aged}
@@ -26,10 +27,11 @@ use Rattle.fax_decide.proofs.PlacedLemmas.{aged_job_placed}
 use Rattle.fax_decide.specs.declared.effect.Effect.TheVariants.{NewJob}
 
 -- a new job that is next is taken
-pub job_new : (m : Queue) (t : ℕ) (rule : Rule) (f : JobFields) (meta : Meta) (reply : Response) → Sound m → meta ≡ meta_of m → f.job ≡ m.next_job → reply ≡ accepted_response (Replied (Submitted f.job))
+pub job_new : (m : Queue) (t : ℕ) (rule : Rule) (f : JobFields) (meta : Meta) (reply : Response) → Sound m → meta ≡ meta_of m → f.job ≡ m.next_job → f.job ≤ last_job → reply ≡ accepted_response (Replied (Submitted f.job))
     → IsTaken (machine.submitted (aged t m) rule (Ok (job_of f))) m t (NewJob f meta) reply
-job_new m t rule f meta reply sound these next replied = record {
+job_new m t rule f meta reply sound these next limit replied = record {
   suits = these;
+  within = λ _. let left : m.next_job < last_job + 1 = omega (arith, next, limit) in left;
   told = Submitted f.job;
   taken = ap (λ (js : List Job). Taken (record (aged t m) { jobs = js; next_job = m.next_job + 1 }) (Submitted f.job)) (sym (aged_job_placed t m (job_of f) sound next));
   replied = replied;

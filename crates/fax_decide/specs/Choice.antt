@@ -1,13 +1,18 @@
 -- Which of the jobs that wait goes.
-use Rattle.std.specs.Prelude.{◌≡◌, ℕ, false, List, Option, IfSome, find}
+use Rattle.std.specs.Prelude.{◌≡◌, ◌<◌, ◌≤◌, ℕ, ◌==◌, Bool, false, ◌&&◌, List, Option, IfSome, find}
+use Rattle.std.specs.Str.{bytes_eq}
+use Rattle.fax_job.specs.Limits.{last_grant}
+use Rattle.fax_job.specs.declared.job.JobFields.{JobFields}
 use Rattle.std.specs.Option.{option_map}
 use Rattle.fax_core.specs.Best.{may_go}
-use Rattle.fax_core.specs.Job.{Job}
+use Rattle.fax_core.specs.Decisions.{granted}
+use Rattle.fax_core.specs.Job.{Job, job_of}
 use Rattle.fax_core.specs.Queue.{Queue}
 use Rattle.fax_core.specs.Settings.{Settings}
 use Rattle.fax_core.specs.State.{calls_to}
 use Rattle.fax_store.specs.Candidates.{AreAsked}
 use Rattle.fax_store.specs.Job.{AreWaiting}
+use Rattle.fax_core.specs.declared.grants.Grant.{Grant}
 use Rattle.fax_store.specs.declared.candidates.Asked.{Asked}
 use Rattle.fax_decide.specs.State.{may_call}
 
@@ -22,3 +27,13 @@ IsFirst s m t modem found = (jobs : List Job) × AreWaiting t m jobs × (found �
 -- the same, of those that are asked for
 abbrev pub IsFirstAsked : Settings → Asked → Queue → List ℕ → Option ℕ → Type 0
 IsFirstAsked s asked m modem found = (jobs : List Job) × AreAsked asked m jobs × (found ≡ option_map (λ j. j.number) (find (may_go s m asked.t modem) jobs))
+
+-- a grant is open, of that job, and the modem's
+abbrev pub is_held_by : List ℕ → JobFields → Grant → Bool
+is_held_by modem job g = g.is_open && (g.job == job.job) && bytes_eq g.modem modem
+
+-- a new grant of the pages that a job has left, of which there is one, under a number within the limits
+pub record IsGrantOf (job : JobFields) (g : Grant) : Type 0 where
+  pub is : g ≡ (granted (job_of job) g.modem g.number).grant
+  pub page : job.npages < job.totpages
+  pub last : g.number ≤ last_grant

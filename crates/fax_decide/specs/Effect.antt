@@ -1,8 +1,9 @@
 -- What an accepted request changes in the queue, beside ageing it and setting the clock.
-use Rattle.std.specs.Prelude.{◌≡◌, ◌≤◌, ℕ, ⊤}
+use Rattle.std.specs.Prelude.{◌≡◌, ◌≤◌, ℕ, ⊤, Some}
 use Rattle.fax_core.specs.Job.{job_of}
 use Rattle.fax_core.specs.Machine.{with_grant, with_mark}
-use Rattle.fax_core.specs.Queue.{Queue}
+use Rattle.fax_core.specs.Queue.{Queue, grant_numbered}
+use Rattle.fax_core.specs.declared.grants.Grant.{Grant}
 use Rattle.fax_job.specs.Limits.{most_pages}
 use Rattle.fax_store.specs.Grant.{IsNewGrant, IsReport, with_closed, with_one_more_grant}
 use Rattle.fax_store.specs.Job.{IsChange, IsNewJob, with_change, with_expired, with_one_more_job}
@@ -52,6 +53,10 @@ IsWithin (Marked modem down) m = ⊤
 IsWithin (NewGrant job grant) m = IsOpenGrant grant × IsGrantLeft m
 IsWithin (Reported job grant) m = grant.confirmed ≤ most_pages
 IsWithin (Closed job grant) m = ⊤
+
+-- each grant begins at a page, as each does that a queue has given
+abbrev pub BeginAtPages : Queue → Type 0
+BeginAtPages m = (number : ℕ) (g : Grant) → grant_numbered number m ≡ Some g → 1 ≤ g.first_page
 
 -- The tables take the change: it suits the queue, no key of what is new is taken, and all is within its limits.
 pub record IsWritable (effect : Effect) (m : Queue) : Type 0 where

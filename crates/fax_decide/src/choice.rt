@@ -1,6 +1,6 @@
 //! Which job a modem is given: a modem asks for work.
 
-ghost use Rattle.std.specs.Prelude.{◌≡◌, ◌&&◌, ℕ, List, [], false, IfOk, IsErr, IsTrue, Ok, None, Some, is_some, OnOk};
+ghost use Rattle.std.specs.Prelude.{◌≡◌, ◌&&◌, ℕ, List, [], false, true, IfOk, IsErr, IsTrue, Ok, None, Some, is_some, OnOk};
 ghost use Rattle.std.specs.Option.{option_map};
 ghost use Rattle.std.specs.Vec.Iter.{into_iter_items};
 ghost use Rattle.fax_ask.specs.Answer.{grant_told};
@@ -25,7 +25,7 @@ ghost use Rattle.fax_store.specs.Calls.{Looks, shown};
 ghost use Rattle.fax_store.specs.Candidates.{StandsAt};
 ghost use Rattle.fax_store.specs.Store.{Means, Serves, StaysOpen};
 ghost use Rattle.fax_dest.specs.Setup.{admits};
-ghost use Rattle.fax_decide.specs.Choice.{IsBusy, IsFirst, IsFirstAsked};
+ghost use Rattle.fax_decide.specs.Choice.{IsBusy, IsFirst, IsFirstAsked, IsGrantOf, is_held_by};
 ghost use Rattle.fax_decide.specs.Decision.{Decides};
 ghost use Rattle.fax_decide.specs.Fault.{OnlyNoAnswer, OrNoAnswer};
 ghost use Rattle.fax_decide.specs.Records.{KeepsRecord};
@@ -68,19 +68,24 @@ pub(crate) fn decide_next<S: Alter>(
         return Ok(Decision::Refused(Reply::refused(Refusal::ModemDown)));
     }
     match store.hold_of(modem.as_str())? {
-        Some(hold) => refuse(busy(store, alloc, hold)),
+        Some(hold) => refuse(busy(store, alloc, hold, &modem)),
         None => decide_free(store, office, alloc, modem, next_grant, t),
     }
 }
 
-/// The reply to a modem that holds a grant: it is told which. Where the grant or its job isn't there, as in no
-/// sound queue, there is none.
-fn busy<S: Alter>(store: &mut Store<S>, alloc: Global, hold: Hold) -> Result<Reply, Fault>
+/// The reply to a modem that holds a grant: it is told which. Where the grant or its job isn't there, or the grant is
+/// not the modem's or not of that job, as in no sound queue, there is none.
+fn busy<S: Alter>(
+    store: &mut Store<S>,
+    alloc: Global,
+    hold: Hold,
+    modem: &Name,
+) -> Result<Reply, Fault>
     ensures leaves { Looks S.Store store.old store.new }
     ensures opens { OnOk result (StaysOpen (shown S.Store store.old) (shown S.Store store.new)) }
-    ensures decided { (m : Queue) (k : Ledger) (t : ℕ) (modem : List ℕ) (g : OneGrant) → Sound m
+    ensures decided { (m : Queue) (k : Ledger) (t : ℕ) (g : OneGrant) → Sound m
         → Means (shown S.Store store.old) m k → Serves (shown S.Store store.new)
-        → held_by modem m ≡ Some g → hold ≡ as_hold g
+        → held_by modem.now m ≡ Some g → hold ≡ as_hold g
         → OrNoAnswer result (λ reply. reply
         ≡ refused_response ModemBusy (HeldGrant (is_some g.call) (handed g (aged t m)))) }
 {
@@ -90,11 +95,23 @@ fn busy<S: Alter>(store: &mut Store<S>, alloc: Global, hold: Hold) -> Result<Rep
     let Some(job) = store.brief(hold.job)? else {
         return Err(Fault::Strange);
     };
+    if !is_held(&grant, &job, modem) {
+        return Err(Fault::Strange);
+    }
     held(alloc, &grant, &job)
+}
+
+/// Whether a grant is open, of that job, and the modem's.
+fn is_held(grant: &Grant, job: &Job, modem: &Name) -> bool
+    ensures { result ≡ is_held_by modem.now job.now grant.now }
+{
+    grant.is_open && grant.job == job.fields().job && grant.modem.as_str() == modem.as_str()
 }
 
 /// The reply that tells which grant of a job is held.
 fn held(alloc: Global, grant: &Grant, job: &Job) -> Result<Reply, Fault>
+    requires open { grant.now.is_open ≡ true }
+    requires job { grant.now.job ≡ job.now.job }
     ensures { (m : Queue) → dial_of (job_numbered grant.now.job m) ≡ job.now.dial
         → OrNoAnswer result (λ reply. reply
         ≡ refused_response ModemBusy (HeldGrant (is_some grant.now.call) (handed grant.now m))) }
@@ -330,7 +347,7 @@ fn give(
     next_grant: u32,
 ) -> Result<Decision, Fault>
     ensures decided { (m : Queue) (t : ℕ) → Sound m → job_numbered job.job (aged t m) ≡ Some (job_of job)
-        → next_grant ≡ m.next_grant → IfOk result (Decides
+        → next_grant ≡ m.next_grant → job.phase ≡ Waiting → IfOk result (Decides
         (given (aged t m) (granted_if (job_of job) modem next_grant office.now.setup.max_grants)) m t) }
     ensures cause { (m : Queue) (t : ℕ) → Sound m → job_numbered job.job (aged t m) ≡ Some (job_of job)
         → job.phase ≡ Waiting → OnlyNoAnswer result }
@@ -351,7 +368,7 @@ fn give(
 /// The job is changed, and the modem is told of its grant.
 fn given(alloc: Global, job: Job, change: Change, grant: Grant) -> Result<Decision, Fault>
     ensures decided { (m : Queue) (t : ℕ) → Sound m → job_numbered job.job (aged t m) ≡ Some (job_of job)
-        → grant.job ≡ job.job → grant.number ≡ m.next_grant
+        → grant.number ≡ m.next_grant → IsGrantOf job grant
         → IfOk result (Decides (given (aged t m) (decided_with grant (job_of job) (Ok change))) m t) }
     ensures cause { KeepsRecord change job → OnlyNoAnswer result }
 {

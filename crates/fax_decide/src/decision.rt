@@ -6,6 +6,7 @@ ghost use Rattle.fax_ask.specs.Response.{accepted_response};
 ghost use Rattle.fax_core.specs.Change.{changed};
 ghost use Rattle.fax_core.specs.Job.{job_of};
 ghost use Rattle.fax_core.specs.Submission.{recorded};
+ghost use Rattle.fax_job.specs.Job.{IsLawful};
 ghost use Rattle.fax_decide.specs.Fault.{OrNoAnswer};
 ghost use Rattle.fax_decide.specs.Records.{KeepsRecord};
 
@@ -56,6 +57,7 @@ pub(crate) fn answered(alloc: Global, answer: &Answer<'_>) -> Result<Reply, Faul
 pub(crate) fn applied(change: Change, job: Job) -> Result<Job, Fault>
     ensures after { IfOk result (λ after. Ok (job_of after) ≡ recorded (Ok (changed change (job_of job)))) }
     ensures kept { KeepsRecord change job → IsOk result }
+    ensures lawful { IsLawful job }
 {
     // The job itself is lawful.
     let _fields = job.fields();

@@ -14,6 +14,7 @@ ghost use Rattle.fax_core.specs.Reply.{Brought};
 ghost use Rattle.fax_core.specs.Settings.{Rule as MachineRule};
 ghost use Rattle.fax_core.specs.Sound.{Sound};
 ghost use Rattle.fax_core.specs.State.{state as job_state};
+ghost use Rattle.fax_job.specs.Job.{IsLawful};
 ghost use Rattle.fax_tables.specs.Meta.{meta_of};
 ghost use Rattle.fax_store.specs.Calls.{Looks, shown};
 ghost use Rattle.fax_store.specs.Store.{Means, Serves, StaysOpen};
@@ -96,11 +97,10 @@ fn told<S: Alter>(
         → Serves (shown S.Store store.new) → OrNoAnswer result (λ reply. reply ≡ accepted_response
         (Replied (Brought job.now.job
         (job_state (settings_of office.now.setup office.now.controls) m t (job_of job.now))))) }
+    ensures lawful { IsLawful job.now }
 {
+    let number = job.fields().job;
     let state = state_of(store, office, alloc, job, t)?;
-    let answer = Answer::Brought {
-        job: job.fields().job,
-        state,
-    };
+    let answer = Answer::Brought { job: number, state };
     answered(alloc, &answer)
 }

@@ -1,6 +1,6 @@
 //! A worker's reports on a grant.
 
-ghost use Rattle.std.specs.Prelude.{◌≡◌, ◌≤◌, ◌-◌, ◌↔◌, ℕ, List, Some, true, false, Ok, IfOk, IsErr, IsOk, OnOk};
+ghost use Rattle.std.specs.Prelude.{◌≡◌, ◌≤◌, ◌+◌, ◌-◌, ◌↔◌, ℕ, List, length, Some, true, false, Ok, IfOk, IsErr, IsOk, OnOk};
 ghost use Rattle.sqlite.specs.Held.{state};
 ghost use Rattle.fax_ask.specs.Answer.{Replied};
 ghost use Rattle.fax_ask.specs.Response.{accepted_response, refused_response};
@@ -123,7 +123,7 @@ fn decide_call(
     said: Call,
     t: Moment,
 ) -> Result<Decision, Fault>
-    ensures decided { (m : Queue) → AreThere m t job grant
+    ensures decided { (m : Queue) → AreThere m t job grant → grant.confirmed ≤ most_pages
         → IfOk result (Decides (reported (aged t m) (call_reply t) (job_in (aged t m) job)
         (call_of said (job_in (aged t m) job) grant)) m t) }
     ensures closed { grant.is_open ≡ false → IsOk result }
@@ -143,7 +143,7 @@ fn called(
     t: Moment,
 ) -> Result<Decision, Fault>
     ensures decided { (m : Queue) (before : GrantOf) → AreThere m t job before → IsSameGrant before grant
-        → grant.number ≡ before.number
+        → grant.number ≡ before.number → grant.confirmed ≤ most_pages
         → IfOk result (Decides (reported (aged t m) (call_reply t) (job_in (aged t m) job)
         (Ok (record { job = changed change (job_in (aged t m) job); grant = grant }))) m t) }
     ensures cause { KeepsRecord change job → OnlyNoAnswer result }
@@ -163,6 +163,7 @@ fn decide_page(
     t: Moment,
 ) -> Result<Decision, Fault>
     ensures decided { (m : Queue) → AreThere m t job grant → grant.confirmed ≤ most_pages
+        → (grant.is_open ≡ true → fits job (Some grant) ≡ true)
         → IfOk result (Decides (reported (aged t m) (page_reply t) (job_in (aged t m) job)
         (page_of said (job_in (aged t m) job) grant)) m t) }
     ensures closed { grant.is_open ≡ false → IsOk result }
@@ -206,6 +207,7 @@ fn confirmed(
 ) -> Result<Decision, Fault>
     ensures decided { (m : Queue) (before : GrantOf) → AreThere m t job before → IsSameGrant before grant
         → grant.number ≡ before.number
+        → grant.first_page + grant.confirmed ≡ length (changed change (job_of job)).sent + 1
         → IfOk result (Decides (reported (aged t m) (page_reply t) (job_in (aged t m) job)
         (Ok (record { job = changed change (job_in (aged t m) job); grant = grant }))) m t) }
     ensures cause { KeepsRecord change job → OnlyNoAnswer result }

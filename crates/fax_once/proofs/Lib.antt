@@ -22,3 +22,5 @@ mod OnceLemmas
 mod GrantLemmas
 mod HandledLemmas
 mod SaidLemmas
+mod CauseLemmas
+mod ProgressLemmas

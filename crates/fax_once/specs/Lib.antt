@@ -8,3 +8,4 @@ pub mod Run
 pub mod Counts
 pub mod Laws
 pub mod Queue
+pub mod Progress

@@ -12,6 +12,7 @@ ghost use Rattle.fax_tables.specs.Kept.{entry};
 ghost use Rattle.fax_tables.specs.Tables.{IsKeptStatus};
 ghost use Rattle.fax_store.specs.Store.{Means, Serves, Stays};
 ghost use Rattle.fax_decide.specs.Effect.{IsWritable, Suits, accepted};
+ghost use Rattle.fax_decide.specs.Fault.{OnlyNoAnswer};
 ghost use Rattle.fax_once.specs.Arrival.{said_of};
 ghost use Rattle.fax_once.specs.Stop.{MayLeave};
 ghost use Rattle.fax_once.specs.Verdict.{IsNotAccepted, without};
@@ -64,6 +65,11 @@ pub(crate) fn accept<S: Alter>(
         → MayLeave (shown S.Store store.old) (shown S.Store store.new) (accepted t change.now.effect m)
         (with_reply (entry sender.now.client.now sender.now.number (said_of arrival.now) reply.status reply.body)
         (without sender.now.client.now change.now.given k)) }
+    ensures cause { (m : Queue) (k : Ledger) → Means (shown S.Store store.old) m k
+        → (Serves (shown S.Store store.old) → IsWritable change.now.effect (with_expired t m)
+        × IsName sender.now.client.now × IsKeptStatus reply.status
+        × IsUnkept sender.now.client.now sender.now.number k.replies) → Serves (shown S.Store store.new)
+        → OnlyNoAnswer result }
 {
     let said = arrival.said(alloc)?;
     commit_accepted(store, t, change, sender, &said, &reply)?;

@@ -4,6 +4,7 @@
 //! `specs/Laws.antt`.
 
 ghost use Rattle.fax_once.specs.Laws.{AcceptedOnce, CopiesLeaveNoTrace, CountersAreCounts, HasVerdict, NoVerdictIsUnavailable, NumbersHaveOneReply, OneReading, OneRun, OneVerdict, RepeatsGetTheirReply, RunsAreSound, RunsKeepGrants, RunsSendOnce, RunsSplit, RunsThread, UntakenLeaveNoTrace};
+ghost use Rattle.fax_once.specs.Progress.{BusyModemsFindTheirs, FreeModemsAreServed, OpenGrantsCanEnd, WaitingJobsGetReady};
 ghost use Rattle.fax_once.specs.Stop.{OnlyAcceptedMakeRows};
 
 use crate::arrival::Arrival;
@@ -93,4 +94,15 @@ pub fn no_page_twice()
 /// back, and a closed grant stays as it is.
 pub fn grants_stay()
     ensures { RunsKeepGrants }
+{}
+
+/// No modem and no job is stuck but by its worker, its times or its number's rule. A modem that is up and free is given
+/// a job where one may go to it. One that holds a grant is told it. Each open grant has an outcome that is taken, and
+/// closes it. A waiting job is ready once its times have come, in the hours of its number's rule, while fewer calls to
+/// the number are open than the rule allows.
+pub fn progress()
+    ensures free { FreeModemsAreServed }
+    ensures busy { BusyModemsFindTheirs }
+    ensures open { OpenGrantsCanEnd }
+    ensures waiting { WaitingJobsGetReady }
 {}

@@ -9,5 +9,5 @@ mod refusing;
 mod sender;
 
 pub use arrival::Arrival;
-pub use fax_decide::Office;
+pub use fax_decide::{Fault, Office};
 pub use queue::Queue;

@@ -14,11 +14,14 @@ ghost use Rattle.fax_ask.specs.declared.method.Method.TheVariants.{Get};
 ghost use Rattle.fax_core.specs.Clock.{decided_at};
 ghost use Rattle.fax_core.specs.Reply.{NoKeys};
 ghost use Rattle.fax_store.specs.Calls.{Looks};
-ghost use Rattle.fax_store.specs.Kept.{HasReply};
+ghost use Rattle.fax_store.specs.Kept.{HasReply, IsUnkept};
 ghost use Rattle.fax_store.specs.Store.{CommitsNothing, LeavesAlone, Rests, Serves, Stays};
 ghost use Rattle.fax_schema.specs.Schema.{our_tables};
 ghost use Rattle.fax_tables.specs.Tables.{IsKeptStatus};
 ghost use Rattle.fax_once.specs.Laws.{IsSoundWith, RunsWell};
+ghost use Rattle.fax_decide.specs.Effect.{BeginAtPages};
+ghost use Rattle.fax_decide.specs.Fault.{OnlyNoAnswer};
+ghost use Rattle.fax_decide.specs.Read.{IsRead};
 ghost use Rattle.fax_decide.specs.View.{view};
 ghost use Rattle.fax_once.specs.Arrival.{IsSender, said_of};
 ghost use Rattle.fax_once.specs.Queue.{From, Replies, settings, tables};
@@ -176,7 +179,13 @@ impl<S: Alter> Queue<S> {
         Ok(replies)
     }
 
-    fn answer(&mut self, alloc: Global, arrival: &Arrival<'_>) -> Result<Reply, Fault>
+    /// Answers the request, as [`Queue::handle`] does, or says why there is no answer but 27.
+    ///
+    /// # Errors
+    ///
+    /// [`Fault::NoAnswer`] where memory or the store gave out, and [`Fault::Strange`] where rows aren't lawful or
+    /// contradict each other; nothing has changed.
+    pub fn answer(&mut self, alloc: Global, arrival: &Arrival<'_>) -> Result<Reply, Fault>
         ensures leaves { Replies S.Store self.old self.new result }
         ensures seen { arrival.now.method ≡ Get → Stays (tables S.Store self.old) (tables S.Store self.new) }
         ensures repeated { (db : Database) → db.schema ≡ our_tables → Rests (tables S.Store self.old) db
@@ -185,6 +194,9 @@ impl<S: Alter> Queue<S> {
             (tables S.Store self.old) (tables S.Store self.new)) }
         ensures answered { From S.Store self.old (λ m k. HasCleanDisk (tables S.Store self.new)
             → Answers (settings self.old) arrival.now m k result (tables S.Store self.new)) }
+        // No rows of a sound queue are strange, while the store serves.
+        ensures cause { From S.Store self.old (λ m k. BeginAtPages m → Serves (tables S.Store self.new)
+            → OnlyNoAnswer result) }
     {
         let asked = self
             .routes
@@ -207,6 +219,9 @@ impl<S: Alter> Queue<S> {
         ensures answered { From S.Store self.old (λ m k. HasCleanDisk (tables S.Store self.new)
             → IsAsk arrival.now.method arrival.now.path.now arrival.now.body.now ask → IsLawful ask
             → Answers (settings self.old) arrival.now m k result (tables S.Store self.new)) }
+        ensures cause { From S.Store self.old (λ m k. BeginAtPages m
+            → IsAsk arrival.now.method arrival.now.path.now arrival.now.body.now ask → IsLawful ask
+            → Serves (tables S.Store self.new) → OnlyNoAnswer result) }
     {
         match ask {
             Ask::View(asked) => self.show(alloc, asked, arrival.moment),
@@ -224,6 +239,7 @@ impl<S: Alter> Queue<S> {
         ensures opens { OnOk result (HasCleanDisk (tables S.Store self.new) → Serves (tables S.Store self.new)) }
         ensures viewed { From S.Store self.old (λ m k. Serves (tables S.Store self.new)
             → IfOk result (λ reply. reply ≡ view (settings self.old) m (decided_at m.clock moment) asked)) }
+        ensures cause { From S.Store self.old (λ m k. Serves (tables S.Store self.new) → OnlyNoAnswer result) }
     {
         let meta = self.store.meta()?;
         let t = moment_at(&meta, moment);
@@ -249,6 +265,8 @@ impl<S: Alter> Queue<S> {
             → IsSender arrival.now sender.now → IsLawfulStep ask
             → LeavesBy m k result (tables S.Store self.new) (asked_for (settings self.old) m k
             (post_of arrival.now sender.now.number ask))) }
+        ensures cause { From S.Store self.old (λ m k. BeginAtPages m → IsSender arrival.now sender.now
+            → IsLawfulStep ask → IsRead ask → Serves (tables S.Store self.new) → OnlyNoAnswer result) }
     {
         let floor = self.store.floor(sender.client)?;
         if sender.number.get() <= floor {
@@ -277,6 +295,8 @@ impl<S: Alter> Queue<S> {
             → IsSender arrival.now sender.now → IsLawfulStep ask
             → LeavesBy m k result (tables S.Store self.new) (asked_above (settings self.old) m k floor
             (post_of arrival.now sender.now.number ask))) }
+        ensures cause { From S.Store self.old (λ m k. BeginAtPages m → IsSender arrival.now sender.now
+            → IsLawfulStep ask → IsRead ask → Serves (tables S.Store self.new) → OnlyNoAnswer result) }
     {
         match self.store.kept(sender.client, sender.number)? {
             Some(kept) => Ok(repeat(arrival, kept)),
@@ -303,6 +323,9 @@ impl<S: Alter> Queue<S> {
             → IsSender arrival.now sender.now → IsLawfulStep ask
             → LeavesBy m k result (tables S.Store self.new) (new_asked (settings self.old) m k floor
             (post_of arrival.now sender.now.number ask))) }
+        ensures cause { From S.Store self.old (λ m k. BeginAtPages m → IsSender arrival.now sender.now
+            → IsUnkept sender.now.client.now sender.now.number k.replies → IsLawfulStep ask → IsRead ask
+            → Serves (tables S.Store self.new) → OnlyNoAnswer result) }
     {
         match raised(ask, sender.number, floor) {
             Some(ask) => self.step_once(alloc, arrival, sender, ask),
@@ -328,6 +351,9 @@ impl<S: Alter> Queue<S> {
             → IsSender arrival.now sender.now → IsLawfulStep ask
             → LeavesBy m k result (tables S.Store self.new) (decided_new (settings self.old) m k
             (post_of arrival.now sender.now.number ask))) }
+        ensures cause { From S.Store self.old (λ m k. BeginAtPages m → IsSender arrival.now sender.now
+            → IsUnkept sender.now.client.now sender.now.number k.replies → IsLawfulStep ask → IsRead ask
+            → Serves (tables S.Store self.new) → OnlyNoAnswer result) }
     {
         let given = given_by(&ask);
         let meta = self.store.meta()?;

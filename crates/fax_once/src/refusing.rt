@@ -7,6 +7,7 @@ ghost use Rattle.fax_core.specs.Ledger.{Ledger};
 ghost use Rattle.fax_core.specs.Queue.{Queue};
 ghost use Rattle.fax_core.specs.Reply.{NoKeys};
 ghost use Rattle.fax_core.specs.Settings.{Settings};
+ghost use Rattle.fax_decide.specs.Fault.{OnlyNoAnswer};
 ghost use Rattle.fax_once.specs.Arrival.{number_of};
 ghost use Rattle.fax_once.specs.Verdict.{IsVerdict, Told};
 
@@ -29,6 +30,7 @@ pub(crate) fn refuse_ask(
         → IfOk result (λ reply. IsVerdict s arrival.now m k (Told reply)) }
     ensures cause { IsRefused arrival.now.method arrival.now.path.now arrival.now.body.now refusal → IsErr result
         → refusal ≡ Refusal.Unavailable }
+    ensures fault { OnlyNoAnswer result }
 {
     match refusal {
         Refusal::NoRoute => Ok(Reply::refused(Refusal::NoRoute)),

@@ -17,8 +17,9 @@ returns-in-Some-clause-decided g c m k sound means serves next =
     let is = sym (ap (option_map (λ f. job_of f)) c.in-Some.is) ∙ c.in_ok-job.ensures.found m k sound means serves in
     best_given (λ step. OrNoAnswer c.give.result (Decides step m c.args.t)) (settings_of c.args.office.now.setup c.args.office.now.controls) m c.args.t c.args.modem c.in-Some.job c.args.next_grant sound
     is next
-    (λ there. or_no_answer c.give.result _ (c.give.ensures.decided m c.args.t sound there next)
-    (c.give.ensures.cause m c.args.t sound there (best_waits (settings_of c.args.office.now.setup c.args.office.now.controls) m c.args.t c.args.modem c.in-Some.job sound is)))
+    (λ there.
+    let waits = best_waits (settings_of c.args.office.now.setup c.args.office.now.controls) m c.args.t c.args.modem c.in-Some.job sound is in
+    or_no_answer c.give.result _ (c.give.ensures.decided m c.args.t sound there next waits) (c.give.ensures.cause m c.args.t sound there waits))
 
 pub returns-in-None-clause-decided : goal.returns-in-None-clause-decided
 returns-in-None-clause-decided g c m k sound means serves next =

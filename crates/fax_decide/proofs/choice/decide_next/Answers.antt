@@ -30,7 +30,7 @@ returns-in-Some-clause-decided g c m k sound means serves next =
     (λ step. OrNoAnswer c.refuse.result (Decides step m c.args.t)) c.in-Some.hold
     (sym c.in-Some.is ∙ c.in_ok-hold.ensures.answers m k (means_now looked) serves_hold ∙ ap (λ (name : List ℕ). option_map as_hold (held_by name m)) c.as_str-3.ensures.text)
     (λ one is same.
-    decided_or (λ reply. Refused reply) _ _ m c.args.t c.busy.result _ c.refuse.ensures (c.busy.ensures.decided m k c.args.t c.args.modem one sound held serves is same)
+    decided_or (λ reply. Refused reply) _ _ m c.args.t c.busy.result _ c.refuse.ensures (c.busy.ensures.decided m k c.args.t one sound held serves is same)
     (λ _. refused_as ModemBusy (HeldGrant (is_some one.call) (handed one (aged c.args.t m)))))
 
 pub returns-in-None-clause-decided : goal.returns-in-None-clause-decided

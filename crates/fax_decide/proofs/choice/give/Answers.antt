@@ -1,28 +1,38 @@
-use Rattle.std.proofs.Common.{IfOk, Ok, refl, sym, subst, ap, ◌∙◌}
+use Rattle.std.proofs.Common.{◌≡◌, IfOk, Ok, refl, sym, subst, ap, ◌∙◌, arith}
 use Rattle.fax_core.specs.Ageing.{aged}
-use Rattle.fax_core.specs.Decisions.{grant}
+use Rattle.fax_core.specs.Decisions.{grant, granted}
 use Rattle.fax_core.specs.Job.{job_of}
 use Rattle.fax_core.specs.Machine.{given}
 use Rattle.fax_core.specs.declared.grants.Grant.{Grant}
+use Rattle.fax_decide.specs.Choice.{IsGrantOf}
 use Rattle.fax_decide.specs.Decision.{Decides}
 use Rattle.fax_decide.specs.declared.decision.Decision.TheVariants.{Refused}
 use Rattle.fax_decide.proofs.GivenLemmas.{given_by, given_not}
 use Rattle.fax_decide.proofs.PlainLemmas.{grant_plain}
 use Rattle.fax_decide.proofs.KeptLemmas.{fits_alone, grant_keeps}
+use Rattle.fax_decide.proofs.WithinLemmas.{number_within, page_left}
 use Rattle.std.proofs.lemmas.Bool.{true≢false}
 use Rattle.fax_decide.proofs.choice.give.Goals as goal
 
 pub returns-in-Ok-clause-decided : goal.returns-in-Ok-clause-decided
-returns-in-Ok-clause-decided c m t sound there next =
+returns-in-Ok-clause-decided c m t sound there next waits =
+    let new : IsGrantOf c.args.job c.new-grant.result = record {
+      is = subst (λ (g : Grant). g ≡ (granted (job_of c.args.job) g.modem g.number).grant) (sym c.new-grant.ensures) refl;
+      page = page_left c.args.job (fits_alone m t c.args.job sound there waits) waits;
+      last =
+          let number : c.new-grant.result.number ≡ c.args.next_grant = ap (λ (g : Grant). g.number) c.new-grant.ensures in
+          let few = number_within (job_of c.args.job) c.args.modem c.args.next_grant c.max_grants.result _ (sym (c.in-Ok.ensures c.args.modem)) in
+          omega (arith, number, few, c.max_grants.ensures.bounds.1);
+    } in
     given_by (λ step. IfOk c.given.result (Decides step m t)) (aged t m) (job_of c.args.job) c.args.modem c.args.next_grant c.max_grants.result c.args.office.now.setup.max_grants
     (Ok c.in-Ok.change) c.new-grant.result c.new-grant.ensures (c.in-Ok.ensures c.args.modem) c.max_grants.ensures.number
-    (c.given.ensures.decided m t sound there (ap (λ (g : Grant). g.job) c.new-grant.ensures) (ap (λ (g : Grant). g.number) c.new-grant.ensures ∙ next))
+    (c.given.ensures.decided m t sound there (ap (λ (g : Grant). g.number) c.new-grant.ensures ∙ next) new)
 
 pub refused-requires : goal.refused-requires
 refused-requires c = grant_plain (job_of c.args.job) c.args.modem c.args.next_grant c.max_grants.result c.in-Err.refusal (sym (c.in-Err.ensures c.args.modem))
 
 pub returns-in-Err-clause-decided : goal.returns-in-Err-clause-decided
-returns-in-Err-clause-decided c m t sound there next =
+returns-in-Err-clause-decided c m t sound there next waits =
     subst (λ reply. Decides (given (aged t m) (grant (job_of c.args.job) c.args.modem c.args.next_grant c.args.office.now.setup.max_grants)) m t (Refused reply)) (sym c.refused.ensures)
     (given_not (aged t m) (job_of c.args.job) c.args.modem c.args.next_grant c.max_grants.result c.args.office.now.setup.max_grants
     c.in-Err.refusal _ (c.in-Err.ensures c.args.modem) c.max_grants.ensures.number refl)

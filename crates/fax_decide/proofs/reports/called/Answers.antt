@@ -7,9 +7,9 @@ use Rattle.fax_decide.proofs.FaultLemmas.{only_no_answer}
 use Rattle.fax_decide.proofs.reports.called.Goals as goal
 
 pub returns-clause-decided : goal.returns-clause-decided
-returns-clause-decided c m before there same number =
+returns-clause-decided c m before there same number few =
     decided_of (Taken (Reported c.in_ok-job.job c.args.grant)) _ _ m c.args.t c.answered.result _ c.take.ensures c.answered.ensures
-    (λ _. call_taken m c.args.t c.args.change c.args.job c.in_ok-job.job before c.args.grant c.stops.result _ there same number c.in_ok-job.ensures.after c.stops.ensures refl)
+    (λ _. call_taken m c.args.t c.args.change c.args.job c.in_ok-job.job before c.args.grant c.stops.result _ there same number few c.in_ok-job.ensures.after c.stops.ensures refl)
 
 pub returns-clause-cause : goal.returns-clause-cause
 returns-clause-cause c keeps = wants_reply (Taken (Reported c.in_ok-job.job c.args.grant)) c.answered.result _ c.take.ensures (only_no_answer c.answered.result _ c.answered.ensures)

@@ -1,5 +1,6 @@
-use Rattle.std.proofs.Common.{Some, sym, ap, subst, ◌∙◌}
+use Rattle.std.proofs.Common.{Some, ◌≤◌, sym, ap, subst, ◌∙◌}
 use Rattle.std.specs.Prelude.{IfOk}
+use Rattle.fax_job.specs.Limits.{most_pages}
 use Rattle.fax_core.specs.Ageing.{aged}
 use Rattle.fax_core.specs.Job.{job_of}
 use Rattle.fax_core.specs.Machine.{call_reply}
@@ -20,14 +21,15 @@ pub refused-requires : goal.refused-requires
 refused-requires c = call_plain c.args.said (job_of c.args.job) _ c.in-Err.refusal (sym c.in-Err.ensures)
 
 pub returns-in-Ok-clause-decided : goal.returns-in-Ok-clause-decided
-returns-in-Ok-clause-decided c m there =
+returns-in-Ok-clause-decided c m there few =
     let lines = lines_of (job_numbered c.args.job.job (aged c.args.t m)) in
     reported_on (λ step. IfOk c.called.result (Decides step m c.args.t)) (aged c.args.t m) (call_reply c.args.t) lines (job_of c.args.job) c.in-Ok.change _ c.with_call.result _ _
     c.with_call.ensures c.in-Ok.ensures (call_lined lines c.args.said (job_of c.args.job) c.args.grant)
-    (c.called.ensures.decided m c.args.grant there (subst (IsSameGrant c.args.grant) (sym c.with_call.ensures) (same_call c.args.grant (Some c.args.said))) (ap (λ (g : Grant). g.number) c.with_call.ensures))
+    (c.called.ensures.decided m c.args.grant there (subst (IsSameGrant c.args.grant) (sym c.with_call.ensures) (same_call c.args.grant (Some c.args.said))) (ap (λ (g : Grant). g.number) c.with_call.ensures)
+    (subst (λ (g : Grant). g.confirmed ≤ most_pages) (sym c.with_call.ensures) few))
 
 pub returns-in-Err-clause-decided : goal.returns-in-Err-clause-decided
-returns-in-Err-clause-decided c m there =
+returns-in-Err-clause-decided c m there few =
     let lines = lines_of (job_numbered c.args.job.job (aged c.args.t m)) in
     report_refused (aged c.args.t m) (call_reply c.args.t) (job_in (aged c.args.t m) c.args.job) _ c.in-Err.refusal m c.args.t c.refused.result
     (call_plain c.args.said (job_of c.args.job) _ c.in-Err.refusal (sym c.in-Err.ensures)) c.refused.ensures (ap (both_lined lines) c.in-Err.ensures ∙ call_lined lines c.args.said (job_of c.args.job) c.args.grant)

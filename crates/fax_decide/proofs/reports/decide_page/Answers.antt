@@ -1,6 +1,7 @@
-use Rattle.std.proofs.Common.{◌≡◌, ◌+◌, ℕ, min, refl, sym, ap, subst, ◌∙◌, arith}
+use Rattle.std.proofs.Common.{◌≡◌, ◌+◌, ℕ, length, min, refl, sym, ap, subst, ◌∙◌, arith}
 use Rattle.std.specs.Prelude.{IfOk}
 use Rattle.fax_core.specs.Ageing.{aged}
+use Rattle.fax_core.specs.Change.{changed}
 use Rattle.fax_core.specs.Job.{job_of}
 use Rattle.fax_core.specs.Queue.{job_numbered}
 use Rattle.fax_core.specs.Machine.{page_reply}
@@ -15,22 +16,25 @@ use Rattle.fax_decide.proofs.PlainLemmas.{page_plain}
 use Rattle.fax_decide.proofs.ReportLemmas.{closed_page, page_refused_is, reported_on, same_page}
 use Rattle.fax_decide.proofs.FaultLemmas.{only_no_answer}
 use Rattle.fax_decide.proofs.KeptLemmas.{page_keeps}
+use Rattle.fax_decide.proofs.WithinLemmas.{page_goes}
 use Rattle.fax_decide.proofs.reports.decide_page.Goals as goal
 
 pub page_refused-requires : goal.page_refused-requires
 page_refused-requires c = page_plain c.args.said (job_of c.args.job) _ c.in-Err.refusal (sym c.in-Err.ensures)
 
 pub returns-in-Ok-clause-decided : goal.returns-in-Ok-clause-decided
-returns-in-Ok-clause-decided c m there few =
+returns-in-Ok-clause-decided c m there few fit =
     let lines = lines_of (job_numbered c.args.job.job (aged c.args.t m)) in
     let one : min (c.args.grant.confirmed + 1) 65535 ≡ c.args.grant.confirmed + 1 = omega (arith, few) in
     let next : c.with_page.result ≡ record c.args.grant { confirmed = c.args.grant.confirmed + 1 } = c.with_page.ensures ∙ ap (λ (n : ℕ). record c.args.grant { confirmed = n }) one in
+    let far = subst (λ (g : Grant). g.first_page + g.confirmed ≡ length (changed c.in-Ok.change (job_of c.args.job)).sent + 1) (sym next)
+    (page_goes c.args.said c.args.job c.args.grant c.in-Ok.change fit c.in-Ok.ensures) in
     reported_on (λ step. IfOk c.confirmed.result (Decides step m c.args.t)) (aged c.args.t m) (page_reply c.args.t) lines (job_of c.args.job) c.in-Ok.change _ c.with_page.result _ _
     next c.in-Ok.ensures (page_lined lines c.args.said (job_of c.args.job) c.args.grant)
-    (c.confirmed.ensures.decided m c.args.grant there (subst (IsSameGrant c.args.grant) (sym next) (same_page c.args.grant (c.args.grant.confirmed + 1))) (ap (λ (g : Grant). g.number) next))
+    (c.confirmed.ensures.decided m c.args.grant there (subst (IsSameGrant c.args.grant) (sym next) (same_page c.args.grant (c.args.grant.confirmed + 1))) (ap (λ (g : Grant). g.number) next) far)
 
 pub returns-in-Err-clause-decided : goal.returns-in-Err-clause-decided
-returns-in-Err-clause-decided c m there few =
+returns-in-Err-clause-decided c m there few fit =
     let lines = lines_of (job_numbered c.args.job.job (aged c.args.t m)) in
     decided_of (λ reply. Refused reply) _ _ m c.args.t c.page_refused.result _ c.refuse.ensures c.page_refused.ensures.reply
     (λ _. page_refused_is (aged c.args.t m) c.args.t lines (job_of c.args.job) _ c.in-Err.refusal (ap (both_lined lines) c.in-Err.ensures ∙ page_lined lines c.args.said (job_of c.args.job) c.args.grant))

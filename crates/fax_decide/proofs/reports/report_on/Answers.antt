@@ -15,14 +15,14 @@ pub returns-in-Call-clause-decided : goal.returns-in-Call-clause-decided
 returns-in-Call-clause-decided g c m k sound means serves there few =
     subst (λ (report : Report). OrNoAnswer c.decide_call.result (Decides (report_both (settings_of c.args.office.now.setup c.args.office.now.controls) (aged c.args.t m) c.args.t report (job_in (aged c.args.t m) c.args.job) c.args.grant) m c.args.t))
     (sym c.in-Call.is)
-    (or_no_answer c.decide_call.result _ (c.decide_call.ensures.decided m there)
+    (or_no_answer c.decide_call.result _ (c.decide_call.ensures.decided m there few)
     (in_either c.args.grant.is_open c.decide_call.result c.decide_call.ensures.closed (λ is_open. c.decide_call.ensures.cause (fits_there m c.args.t c.args.job c.args.grant sound there is_open))))
 
 pub returns-in-Page-clause-decided : goal.returns-in-Page-clause-decided
 returns-in-Page-clause-decided g c m k sound means serves there few =
     subst (λ (report : Report). OrNoAnswer c.decide_page.result (Decides (report_both (settings_of c.args.office.now.setup c.args.office.now.controls) (aged c.args.t m) c.args.t report (job_in (aged c.args.t m) c.args.job) c.args.grant) m c.args.t))
     (sym c.in-Page.is)
-    (or_no_answer c.decide_page.result _ (c.decide_page.ensures.decided m there few)
+    (or_no_answer c.decide_page.result _ (c.decide_page.ensures.decided m there few (fits_there m c.args.t c.args.job c.args.grant sound there))
     (in_either c.args.grant.is_open c.decide_page.result c.decide_page.ensures.closed (λ is_open. c.decide_page.ensures.cause (fits_there m c.args.t c.args.job c.args.grant sound there is_open))))
 
 pub returns-in-Outcome-clause-decided : goal.returns-in-Outcome-clause-decided

@@ -7,6 +7,9 @@ use Rattle.fax_store.specs.Store.{Means}
 use Rattle.fax_decide.specs.Effect.{accepted}
 use Rattle.fax_decide.proofs.WorkLemmas.{refused_with}
 use Rattle.fax_once.specs.Stop.{MayLeave}
+use Rattle.std.specs.Prelude.{⊤}
+use Rattle.fax_ask.specs.Response.{Response}
+use Rattle.fax_decide.proofs.FaultLemmas.{no_memory, only_no_answer, store_gave_out}
 use Rattle.fax_once.proofs.acceptance.accept.Goals as goal
 
 pub returns-in_err-commit_accepted-clause-accepted : goal.returns-in_err-commit_accepted-clause-accepted
@@ -35,3 +38,11 @@ returns-clause-crash g c m k means suits =
     subst (λ said. MayLeave (state g.S.Store c.args.store.now.conn) (state g.S.Store c.commit_accepted.new.store.conn) (accepted c.args.t c.args.change.now.effect m)
     (with_reply (entry c.args.sender.now.client.now c.args.sender.now.number said c.args.reply.status c.args.reply.body) (without c.args.sender.now.client.now c.args.change.now.given k)))
     (c.deref.ensures.value ∙ c.in_ok-said.ensures) (c.commit_accepted.ensures.crash m k means suits)
+
+pub returns-in_err-said-clause-cause : goal.returns-in_err-said-clause-cause
+returns-in_err-said-clause-cause g c m k means fits s = only_no_answer {A = Response} c.from_residual.result (λ _. ⊤) (no_memory c.from_residual.result (λ _. ⊤) c.from_residual.ensures.1)
+
+pub returns-in_err-commit_accepted-clause-cause : goal.returns-in_err-commit_accepted-clause-cause
+returns-in_err-commit_accepted-clause-cause g c m k means fits s =
+    only_no_answer c.from_residual-in_err-commit_accepted.result (λ _. ⊤)
+    (store_gave_out c.from_residual-in_err-commit_accepted.result c.in_err-commit_accepted.field-0.0 (λ _. ⊤) c.from_residual-in_err-commit_accepted.ensures.1 (c.in_err-commit_accepted.ensures.cause m k means fits s))

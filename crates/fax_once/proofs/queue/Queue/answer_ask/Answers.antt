@@ -10,6 +10,7 @@ use Rattle.fax_once.proofs.GetLemmas.{no_step}
 use Rattle.fax_once.proofs.SenderLemmas.{its_reply, sender_plain}
 use Rattle.fax_once.proofs.RequestLemmas.{view_answers, step_answers, sender_answers, where_open}
 use Rattle.fax_once.proofs.StopLemmas.{asked_stops}
+use Rattle.fax_once.proofs.CauseLemmas.{ask_read}
 use Rattle.fax_once.proofs.queue.Queue.answer_ask.Goals as goal
 
 pub returns-in-View-clause-answered : goal.returns-in-View-clause-answered
@@ -53,3 +54,12 @@ returns-in-Ok-clause-crash g c m k sound means is lawful =
 
 pub returns-in-Err-clause-crash : goal.returns-in-Err-clause-crash
 returns-in-Err-clause-crash g c m k sound means is lawful found may = inl may
+
+pub returns-in-Ok-clause-cause : goal.returns-in-Ok-clause-cause
+returns-in-Ok-clause-cause g c m k sound means begin is lawful serves =
+    c.step.ensures.cause m k sound means begin c.in-Ok.ensures.sender (subst IsLawful c.in-Step.is lawful)
+    (ask_read c.args.arrival.now.method c.args.arrival.now.path.now c.args.arrival.now.body.now c.in-Step.ask
+    (subst (IsAsk c.args.arrival.now.method c.args.arrival.now.path.now c.args.arrival.now.body.now) c.in-Step.is is)) serves
+
+pub returns-in-View-clause-cause : goal.returns-in-View-clause-cause
+returns-in-View-clause-cause g c m k sound means begin is lawful serves = c.show.ensures.cause m k sound means serves

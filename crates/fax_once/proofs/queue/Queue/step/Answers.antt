@@ -7,6 +7,8 @@ use Rattle.fax_once.proofs.VerdictLemmas.{above_is, given_up_is}
 use Rattle.fax_once.proofs.StopLemmas.{then_stops}
 use Rattle.fax_once.specs.Verdict.{Leaves, LeavesBy}
 use Rattle.fax_store.proofs.FrameLemmas.{means_now}
+use Rattle.std.specs.Prelude.{⊤}
+use Rattle.fax_decide.proofs.FaultLemmas.{only_no_answer, store_gave_out}
 use Rattle.fax_once.proofs.queue.Queue.step.Goals as goal
 
 pub returns-clause-stepped : goal.returns-clause-stepped
@@ -64,3 +66,11 @@ returns-then-get-floor-clause-crash g c m k sound means from found may = inl (c.
 
 pub returns-in_err-floor-clause-crash : goal.returns-in_err-floor-clause-crash
 returns-in_err-floor-clause-crash g c m k sound means from found may = inl (c.floor.ensures.leaves.crash found may)
+
+pub returns-clause-cause : goal.returns-clause-cause
+returns-clause-cause g c m k sound means begin from lawful read serves =
+    c.step_above.ensures.cause m k sound (means_stay c.floor.ensures.leaves.served c.floor.ensures.leaves.stays m k means) begin from lawful read serves
+
+pub returns-in_err-floor-clause-cause : goal.returns-in_err-floor-clause-cause
+returns-in_err-floor-clause-cause g c m k sound means begin from lawful read serves =
+    only_no_answer c.from_residual.result (λ _. ⊤) (store_gave_out c.from_residual.result c.in_err-floor.field-0.0 (λ _. ⊤) c.from_residual.ensures.1 (c.in_err-floor.ensures.answers m k (means_now means) serves))

@@ -4,6 +4,7 @@ use Rattle.fax_decide.specs.Settings.{settings_of}
 use Rattle.fax_once.proofs.VerdictLemmas.{raised_is, raised_lawful, too_high_is}
 use Rattle.fax_once.proofs.StopLemmas.{then_stops}
 use Rattle.fax_once.specs.Verdict.{Leaves, LeavesBy}
+use Rattle.fax_once.proofs.CauseLemmas.{raised_read}
 use Rattle.fax_once.proofs.queue.Queue.step_new.Goals as goal
 
 pub returns-in-Some-clause-stepped : goal.returns-in-Some-clause-stepped
@@ -30,3 +31,9 @@ returns-in-Some-clause-crash g c m k sound means from =
 
 pub returns-in-None-clause-crash : goal.returns-in-None-clause-crash
 returns-in-None-clause-crash g c m k sound means from found may = inl may
+
+pub returns-in-Some-clause-cause : goal.returns-in-Some-clause-cause
+returns-in-Some-clause-cause g c m k sound means begin from unkept lawful read serves =
+    let is = sym c.in-Some.is ∙ c.raised.ensures in
+    let number = c.args.sender.now.number in
+    c.step_once.ensures.cause m k sound means begin from unkept (raised_lawful c.args.floor number c.args.ask c.in-Some.ask is lawful) (raised_read c.args.floor number c.args.ask c.in-Some.ask is read) serves
