@@ -1,3 +1,4 @@
 pub mod Database
+pub mod FaultLine
 pub mod Office
 pub mod Spool

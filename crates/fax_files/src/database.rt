@@ -4,10 +4,12 @@ ghost use Rattle.sqlite.specs.Files.{file_state};
 ghost use Rattle.sqlite.specs.State.{HasCleanDisk};
 ghost use Rattle.sqlite_wal.specs.Files.{image_at};
 ghost use Rattle.fax_files.specs.Database.{IsFound};
+ghost use Rattle.fax_files.specs.FaultLine.{open_line, spelled};
 
 use crate::connection::connect;
+use crate::fault_line::FaultLine;
 use fax_store::Store;
-use fax_text::{Status, fail};
+use fax_text::Status;
 use sqlite::{Error, ErrorCode, FileFrom, FileStore, Start};
 use sqlite_std_file::OpenError;
 use std::alloc::AllocError;
@@ -89,8 +91,16 @@ pub fn open_found_store<S: Start>(
 pub fn tell_fault<E: Write>(err: &mut E, fault: OpenFault) -> Status
     ensures { result ≡ Status.Fault }
 {
+    line_of(fault).say(err);
+    Status::Fault
+}
+
+/// The line that tells why.
+fn line_of(fault: OpenFault) -> FaultLine<'static>
+    ensures { spelled result ≡ open_line fault }
+{
     match fault {
-        OpenFault::Database => fail(err, "faxqd: database\n"),
-        OpenFault::NoMemory => fail(err, "faxqd: no memory\n"),
+        OpenFault::Database => FaultLine::of("faxqd: database", ""),
+        OpenFault::NoMemory => FaultLine::of("faxqd: no memory", ""),
     }
 }

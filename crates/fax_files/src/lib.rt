@@ -3,6 +3,7 @@
 
 mod connection;
 mod database;
+mod fault_line;
 mod new_file;
 mod office;
 mod spool;

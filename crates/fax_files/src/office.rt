@@ -1,10 +1,12 @@
 //! The setup and the destination controls that a command runs with.
 ghost use Rattle.std.specs.Prelude.{◌≡◌};
+ghost use Rattle.fax_files.specs.FaultLine.{file_line, office_line, spelled};
 ghost use Rattle.fax_files.specs.Office.{ComesOf, ControlsOf, IsOfficeOf, IsReadOf, SetupOf};
 
+use crate::fault_line::FaultLine;
 use fax_decide::Office;
 use fax_dest::{Controls, FileFault, FileKind, Setup};
-use fax_text::{OfficeFiles, Status, fail};
+use fax_text::{OfficeFiles, Status};
 use std::alloc::Global;
 use std::fs;
 use std::io::{ErrorKind, Write};
@@ -95,25 +97,31 @@ fn controls_in<'a>(
 pub fn report<E: Write>(err: &mut E, fault: OfficeFault<'_>) -> Status
     ensures { result ≡ Status.Fault }
 {
+    let mut digits = itoa::Buffer::new();
+    line_of(fault, &mut digits).say(err);
+    Status::Fault
+}
+
+/// The line that tells why. `digits` has room for the number of a line.
+fn line_of<'a>(fault: OfficeFault<'a>, digits: &'a mut itoa::Buffer) -> FaultLine<'a>
+    ensures { spelled result ≡ office_line fault.entry }
+{
     match fault {
-        OfficeFault::Unreadable(name) => {
-            let _ = err.write_all(b"faxqd: cannot read ");
-            let _ = err.write_all(name.as_bytes());
-            fail(err, "\n")
-        }
-        OfficeFault::Setup(fault) => report_line(err, "faxqd: setup line ", fault),
-        OfficeFault::Controls(fault) => report_line(err, "faxqd: controls line ", fault),
-        OfficeFault::NoMemory => fail(err, "faxqd: no memory\n"),
+        OfficeFault::Unreadable(name) => FaultLine::of("faxqd: cannot read ", name),
+        OfficeFault::Setup(fault) => file_line("faxqd: setup line ", fault, digits),
+        OfficeFault::Controls(fault) => file_line("faxqd: controls line ", fault, digits),
+        OfficeFault::NoMemory => FaultLine::of("faxqd: no memory", ""),
     }
 }
 
-fn report_line<E: Write>(err: &mut E, file: &str, fault: FileFault) -> Status
-    ensures { result ≡ Status.Fault }
+/// The line that tells which line of a file is at fault, and why.
+fn file_line<'a>(what: &'a str, fault: FileFault, digits: &'a mut itoa::Buffer) -> FaultLine<'a>
+    ensures { spelled result ≡ file_line what.now fault }
 {
-    let mut number = itoa::Buffer::new();
-    let _ = err.write_all(file.as_bytes());
-    let _ = err.write_all(number.format(fault.line).as_bytes());
-    let _ = err.write_all(b": ");
-    let _ = err.write_all(fault.kind.word().as_bytes());
-    fail(err, "\n")
+    FaultLine {
+        what,
+        place: digits.format(fault.line),
+        between: ": ",
+        word: fault.kind.word(),
+    }
 }

@@ -1,8 +1,10 @@
 //! The files of an older queue's jobs, and the requests that bring these in.
 ghost use Rattle.std.specs.Prelude.{◌≡◌, ◌≤◌, IfOk, length};
+ghost use Rattle.fax_files.specs.FaultLine.{spelled, spool_line, words_line};
 ghost use Rattle.fax_files.specs.Spool.{AreImports, IsNamed, MakesImports, longest_body, refused};
 
-use fax_text::{ImportFault, ImportPlan, Status, fail, first_number, import_request};
+use crate::fault_line::FaultLine;
+use fax_text::{ImportFault, ImportPlan, Status, first_number, import_request};
 use std::alloc::{AllocError, AllocFailed, Global};
 use std::fs::File;
 use std::io::{self, ErrorKind, Read, Write};
@@ -86,23 +88,33 @@ fn read_some(rt: &HostRuntime, name: &str, body: &mut Vec<u8>) -> io::Result<usi
 pub fn report_spool<E: Write>(err: &mut E, fault: SpoolFault<'_>) -> Status
     ensures { result ≡ refused fault.entry }
 {
+    line_of(fault).say(err);
     match fault {
-        SpoolFault::Words(fault) => {
-            let _ = err.write_all(b"faxqd: bad ");
-            let _ = err.write_all(fault.word().as_bytes());
-            let _ = err.write_all(b"\n");
-            Status::Usage
-        }
-        SpoolFault::Unreadable(name) => report_file(err, "faxqd: cannot read ", name),
-        SpoolFault::TooLarge(name) => report_file(err, "faxqd: too large ", name),
-        SpoolFault::NoMemory => fail(err, "faxqd: no memory\n"),
+        SpoolFault::Words(_) => Status::Usage,
+        _ => Status::Fault,
     }
 }
 
-fn report_file<E: Write>(err: &mut E, what: &str, name: &str) -> Status
-    ensures { result ≡ Status.Fault }
+/// The line that tells why.
+fn line_of<'a>(fault: SpoolFault<'a>) -> FaultLine<'a>
+    ensures { spelled result ≡ spool_line fault.entry }
 {
-    let _ = err.write_all(what.as_bytes());
-    let _ = err.write_all(name.as_bytes());
-    fail(err, "\n")
+    match fault {
+        SpoolFault::Words(fault) => words_line(fault),
+        SpoolFault::Unreadable(name) => FaultLine::of("faxqd: cannot read ", name),
+        SpoolFault::TooLarge(name) => FaultLine::of("faxqd: too large ", name),
+        SpoolFault::NoMemory => FaultLine::of("faxqd: no memory", ""),
+    }
+}
+
+/// The line that tells what is wrong with the words.
+fn words_line<'a>(fault: ImportFault) -> FaultLine<'a>
+    ensures { spelled result ≡ words_line fault }
+{
+    FaultLine {
+        what: "faxqd: bad ",
+        place: "",
+        between: "",
+        word: fault.word(),
+    }
 }
