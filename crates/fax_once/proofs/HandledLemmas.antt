@@ -13,7 +13,6 @@ use Rattle.fax_ask.proofs.LimitLemmas.{order_limits}
 use Rattle.fax_core.specs.Ask.{IsLawfulAsk}
 use Rattle.fax_core.specs.declared.ask.Ask.{Ask}
 use Rattle.fax_core.specs.Reply.{NoKeys}
-use Rattle.fax_core.specs.Run.{decided}
 use Rattle.fax_core.specs.Settings.{Settings}
 use Rattle.fax_core.proofs.ReadImportLemmas.{read_counts}
 use Rattle.fax_core.specs.Queue.{Queue}
@@ -23,9 +22,9 @@ use Rattle.fax_once.proofs.OnceLemmas.{runs_are_sound, runs_send_once, sound_aft
 use Rattle.fax_once.proofs.ReadingLemmas.{Says, Says_fault, Says_post, Says_view, same_ask, says}
 use Rattle.fax_once.proofs.SumLemmas.{counters_are_counts}
 use Rattle.fax_once.proofs.RunLemmas.{runs_thread}
-use Rattle.fax_once.specs.Laws.{AreTaken, HasRun, KeepsGrants, RunsWell, left_of}
-use Rattle.fax_once.specs.Reading.{Post, Reading, Faulty, Sees, Posts, IsReading}
-use Rattle.fax_once.specs.Run.{Start, IsRun, end_of, is_new, is_taken, queue_after, reply_at, taken, takes}
+use Rattle.fax_once.specs.Laws.{AreAccepted, AreTaken, GoesWell, HasRun, KeepsGrants, RunsWell, left_of}
+use Rattle.fax_once.specs.Reading.{Reading, Faulty, Sees, Posts, IsReading}
+use Rattle.fax_once.specs.Run.{Fed, Start, IsRun, end_of, is_new, is_taken, queue_after, reply_at, step_of, taken, takes, under, with_taken}
 use Rattle.fax_once.specs.Verdict.{Verdict, Told, Repeated, Accepted, Handles, Leaves, is_too_high, reply_of, verdict}
 use Rattle.fax_once.specs.declared.arrival.Arrival.{Arrival}
 use Rattle.fax_once.specs.Stop.{IsMadeIn, Stops}
@@ -51,7 +50,8 @@ lawful_ask (Down modem) body ask h = subst IsLawfulAsk (sym (same_ask h)) tt
 lawful_ask (Next modem) body ask h = subst IsLawfulAsk (sym (same_ask h)) tt
 lawful_ask (Show job) body ask h = absurd cc
 
-abbrev IsLawful : Reading → Type 0
+-- what it asks for is
+abbrev pub IsLawful : Reading → Type 0
 IsLawful (Faulty refusal) = ⊤
 IsLawful (Sees moment what) = ⊤
 IsLawful (Posts p) = IsLawfulAsk p.request.ask
@@ -62,15 +62,28 @@ lawful_by a r (Says_fault refusal cause is) = subst IsLawful (sym is) tt
 lawful_by a r (Says_view what is) = subst IsLawful (sym is) tt
 lawful_by a r (Says_post number route ask its asks is) = subst IsLawful (sym is) (lawful_ask route a.body.now ask asks)
 
--- so what is taken is lawful, and taken
-one_taken : (s : Settings) (start : Start) (earlier : List Post) (r : Reading) → IsLawful r → AreTaken s start.queue earlier → AreTaken s start.queue (Rattle.fax_once.specs.Run.with_taken s start earlier r)
-one_taken s start earlier (Faulty refusal) is are = are
-one_taken s start earlier (Sees moment what) is are = are
-one_taken s start earlier (Posts p) is are = by (is_taken s start earlier p) refl
+-- and so is what it reads as
+pub lawful_reading : (a : Arrival) (r : Reading) → IsReading a r → IsLawful r
+lawful_reading a r reads = lawful_by a r (says a r reads)
+
+-- so what is taken is lawful, and was new
+pub accepted_more : (s : Settings) (start : Start) (earlier : List Fed) (r : Reading) → IsLawful r → AreAccepted start earlier → AreAccepted start (with_taken s start earlier r)
+accepted_more s start earlier (Faulty refusal) is are = are
+accepted_more s start earlier (Sees moment what) is are = are
+accepted_more s start earlier (Posts p) is are = by (is_taken start earlier (under s p)) refl
   where
-    by : (b : Bool) → is_taken s start earlier p ≡ b → AreTaken s start.queue (if b then p ∷ earlier else earlier)
-    by true on = (is, (and_parts (not (is_too_high p.number p.request.ask)) (takes (decided s (queue_after s start.queue earlier) p.request)) (and_parts (is_new start earlier p) _ on).1).1, are)
+    by : (b : Bool) → is_taken start earlier (under s p) ≡ b → AreAccepted start (if b then under s p ∷ earlier else earlier)
+    by true on = (is, on, are)
     by false off = are
+
+-- what is accepted is taken
+pub are_taken : (start : Start) (fed : List Fed) → AreAccepted start fed → AreTaken start.queue fed
+are_taken start [] are = tt
+are_taken start (f ∷ earlier) (lawful, on, are) = (
+  lawful,
+  (and_parts (not (is_too_high f.post.number f.post.request.ask)) (takes (step_of (queue_after start.queue earlier) f)) (and_parts (is_new start earlier f.post) _ on).1).1,
+  are_taken start earlier are,
+)
 
 -- ---- one more arrival
 
@@ -111,7 +124,7 @@ module _ (s : Settings) (start : Start) (arrivals : List Arrival) (replies : Lis
         heard = r ∷ ran.heard;
         answered = heard_more s start [] arrivals replies ran.heard a reply r ran.answered reads told;
         means = subst (λ (e : Start). Means new e.queue e.kept) (sym thread) rests;
-        are_taken = one_taken s start (taken s start ran.heard) r (lawful_by a r (says a r reads)) ran.are_taken;
+        accepted = accepted_more s start (taken s start ran.heard) r (lawful_reading a r reads) ran.accepted;
       }
 
   -- a run goes on by an arrival that is handled
@@ -121,7 +134,7 @@ module _ (s : Settings) (start : Start) (arrivals : List Arrival) (replies : Lis
     heard = ran.heard;
     answered = unheard_more s start [] arrivals replies ran.heard a reply ran.answered gone;
     means = still_means new here.queue here.kept left;
-    are_taken = ran.are_taken;
+    accepted = ran.accepted;
   }
 
   -- what is heard then goes on from what was heard before
@@ -157,22 +170,28 @@ module _ (s : Settings) (start : Start) (arrivals : List Arrival) (replies : Lis
       ]
 
 -- where a run leads is sound
-pub run_sound : (s : Settings) (start : Start) (arrivals : List Arrival) (replies : List Response) (store : State) → Sound start.queue → (ran : HasRun s start arrivals replies store) → Sound (end_of s start ran.heard).queue
-run_sound s start arrivals replies store sound ran = sound_after s start.queue (taken s start ran.heard) sound ran.are_taken
+pub run_sound : (s : Settings) (start : Start) (arrivals : List Arrival) (replies : List Response) (store : State) → Sound start.queue
+    → (ran : HasRun s start arrivals replies store) → Sound (end_of s start ran.heard).queue
+run_sound s start arrivals replies store sound ran = sound_after start.queue (taken s start ran.heard) sound (are_taken start (taken s start ran.heard) ran.accepted)
 
--- what holds of each run
-pub runs_well : (s : Settings) (start : Start) (arrivals : List Arrival) (replies : List Response) (store : State) → Sound start.queue → HasRun s start arrivals replies store → RunsWell s start arrivals replies store
-runs_well s start arrivals replies store sound ran =
-    let posts = taken s start ran.heard in
-    let after = runs_are_sound s start.queue posts sound ran.are_taken in
+-- what holds behind requests that were taken
+pub goes_well : (m : Queue) (fed : List Fed) → Sound m → AreTaken m fed → GoesWell m fed
+goes_well m fed sound are =
+    let after = runs_are_sound m fed sound are in
     record {
-      run = ran;
       sound = after.0;
       held_once = after.1;
-      sent_once = runs_send_once s start.queue posts sound ran.are_taken;
+      sent_once = runs_send_once m fed sound are;
       grants_stay = λ later earlier split.
-          subst (λ (ps : List Post). KeepsGrants (queue_after s start.queue earlier) (queue_after s start.queue ps)) (sym split)
-          (runs_keep_grants s start.queue later earlier sound (subst (AreTaken s start.queue) split ran.are_taken));
+          subst (λ (fs : List Fed). KeepsGrants (queue_after m earlier) (queue_after m fs)) (sym split)
+          (runs_keep_grants m later earlier sound (subst (AreTaken m) split are));
       counted = λ empty number j there.
-          counters_are_counts s posts (subst (λ (m : Queue). AreTaken s m posts) empty ran.are_taken) number j (subst (λ (m : Queue). IsJob (queue_after s m posts) number j) empty there);
+          counters_are_counts fed (subst (λ (q : Queue). AreTaken q fed) empty are) number j (subst (λ (q : Queue). IsJob (queue_after q fed) number j) empty there);
     }
+
+-- what holds of each run
+pub runs_well : (s : Settings) (start : Start) (arrivals : List Arrival) (replies : List Response) (store : State) → Sound start.queue
+    → HasRun s start arrivals replies store → RunsWell s start arrivals replies store
+runs_well s start arrivals replies store sound ran =
+    let fed = taken s start ran.heard in
+    record { run = ran; well = goes_well start.queue fed sound (are_taken start fed ran.accepted) }
