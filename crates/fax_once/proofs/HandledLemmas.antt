@@ -1,8 +1,10 @@
 -- A run goes on by one arrival that is handled.
-use Rattle.std.proofs.Common.{◌≡◌, inl, inr, ℕ, Bool, true, false, not, List, [], ◌∷◌, ◌++◌, refl, sym, ap, subst, ◌∙◌, append_assoc, if◌then◌else◌}
+use Rattle.std.proofs.Common.{◌≡◌, ◌⊎◌, inl, inr, ℕ, Bool, true, false, not, List, [], ◌∷◌, ◌++◌, refl, sym, ap, subst, ◌∙◌, append_assoc, true≢false, if◌then◌else◌}
 use Rattle.std.specs.Prelude.{⊤}
 use Rattle.std.proofs.lemmas.Bool.{and_parts}
+use Rattle.sqlite.specs.Effect.{Database}
 use Rattle.sqlite.specs.State.{State}
+use Rattle.sqlite_trees.specs.Tree.{Trees}
 use Rattle.fax_job.specs.declared.refusal.Refusal.TheVariants.{Unavailable}
 use Rattle.fax_ask.specs.Ask.{Asks}
 use Rattle.fax_ask.specs.declared.ask.Ask.TheVariants.{Step}
@@ -25,10 +27,10 @@ use Rattle.fax_once.proofs.RunLemmas.{runs_thread}
 use Rattle.fax_once.specs.Laws.{AreAccepted, AreTaken, GoesWell, HasRun, KeepsGrants, RunsWell, left_of}
 use Rattle.fax_once.specs.Reading.{Reading, Faulty, Sees, Posts, IsReading}
 use Rattle.fax_once.specs.Run.{Fed, Start, IsRun, end_of, is_new, is_taken, queue_after, reply_at, step_of, taken, takes, under, with_taken}
-use Rattle.fax_once.specs.Verdict.{Verdict, Told, Repeated, Accepted, Handles, Leaves, is_too_high, reply_of, verdict}
+use Rattle.fax_once.specs.Verdict.{Verdict, Told, Repeated, Accepted, Handles, IsVerdict, Leaves, is_too_high, reply_of, verdict}
 use Rattle.fax_once.specs.declared.arrival.Arrival.{Arrival}
-use Rattle.fax_once.specs.Stop.{IsMadeIn, Stops}
-use Rattle.fax_store.specs.Store.{MayMake, Means}
+use Rattle.fax_once.specs.Stop.{AreMadeBy, AtEnd, Before, Besides, IsLeftBehind, IsMadeIn, Stops, StopsIn}
+use Rattle.fax_store.specs.Store.{LeavesAlone, MayFind, Means, RowsFound, Serves}
 use Rattle.fax_once.proofs.VerdictLemmas.{still_means}
 
 -- ---- what is posted is lawful
@@ -111,6 +113,14 @@ leaves_at here reply store (Told told) (is, rest) = (is, rest)
 leaves_at here reply store (Repeated told) (is, serves, rest) = (is, λ _. rest)
 leaves_at here reply store (Accepted after kept told) (is, serves, rest, sound) = (is, λ _. rest)
 
+-- what a crash leaves of a store that is open: what it means
+open_stops : (store : State) (e : Start) → Means store e.queue e.kept → (Serves store → LeavesAlone store store.committed.trees)
+    → (found : Trees) → MayFind store found → store.is_open ≡ true → RowsFound found e.queue e.kept
+open_stops store e means alone found may is_open =
+    let serves : Serves store = record { clean = may.0; is_open = is_open } in
+    let rests = means serves in
+    (store.now, ap (λ (db : Database). db.trees) rests.settled ∙ sym (alone serves found may.1), rests.means)
+
 module _ (s : Settings) (start : Start) (arrivals : List Arrival) (replies : List Response) (a : Arrival) (reply : Response) (old new : State) (ran : HasRun s start arrivals replies old) where
   abbrev here : Start
   here = end_of s start ran.heard
@@ -143,31 +153,98 @@ module _ (s : Settings) (start : Start) (arrivals : List Arrival) (replies : Lis
   heard_on (inl (v, (r, reads, is), leaves)) = (r ∷ [], refl)
   heard_on (inr (gone, left)) = ([], refl)
 
-  -- a crash leaves what one of the arrivals makes, this one among them
-  pub stops_on : (first : State) → MayMake first old (IsMadeIn s start arrivals ran.heard) → Stops s a here.queue here.kept old new → (h : Handles s a here.queue here.kept reply new)
-      → MayMake first new (IsMadeIn s start (arrivals ++ a ∷ []) (runs_on h).heard)
-  stops_on first before stops h found may =
-      let on = heard_on h in
-      elim (stops found may) [
-        | inl may_old ↦
-            elim (before found may_old) [
-              | inl may_first ↦ inl may_first
-              | inr it ↦
-                  inr (record {
-                    before = it.before;
-                    arrival = it.arrival;
-                    behind = it.behind ++ a ∷ [];
-                    one = ap (λ (xs : List Arrival). xs ++ a ∷ []) it.one ∙ append_assoc it.before (it.arrival ∷ it.behind) (a ∷ []);
-                    later = on.0 ++ it.later;
-                    earlier = it.earlier;
-                    then = on.1 ∙ ap (λ (xs : List Reading). on.0 ++ xs) it.then ∙ sym (append_assoc on.0 it.later it.earlier);
-                    verdict = it.verdict;
-                    is = it.is;
-                    made = it.made;
-                  })
-            ]
-        | inr it ↦ inr (record { before = arrivals; arrival = a; behind = []; one = refl; later = on.0; earlier = ran.heard; then = on.1; verdict = it.0; is = it.1; made = it.2 })
-      ]
+  -- where a verdict leaves a shut store, it leads nowhere
+  led_nowhere : (v : Verdict) → Leaves here.queue here.kept reply new v → new.is_open ≡ false → left_of here v ≡ here
+  led_nowhere (Told told) leaves shut = refl
+  led_nowhere (Repeated told) (is, serves, rests) shut = absurd (true≢false (sym serves.is_open ∙ shut))
+  led_nowhere (Accepted after kept told) (is, serves, rests, sound) shut = absurd (true≢false (sym serves.is_open ∙ shut))
+
+  -- so an arrival that shuts the store leads nowhere
+  same_end : (h : Handles s a here.queue here.kept reply new) → new.is_open ≡ false → end_of s start (runs_on h).heard ≡ here
+  unfolding runs_on handled
+  same_end (inl (v, (r, reads, is), leaves)) shut = runs_thread s start ran.heard r ∙ ap (left_of here) (sym is) ∙ led_nowhere v leaves shut
+  same_end (inr (gone, left)) shut = refl
+
+  module _ (first : State) (before : (found : Trees) → MayFind old found → IsLeftBehind s start arrivals replies ran.heard first found)
+      (stops : Stops s a here.queue here.kept old new) (h : Handles s a here.queue here.kept reply new) where
+    -- the run with this arrival
+    abbrev on : HasRun s start (arrivals ++ a ∷ []) (replies ++ reply ∷ []) new
+    on = runs_on h
+
+    -- the end, which stays where the store is shut
+    abbrev Stays : Type 0
+    Stays = end_of s start on.heard ≡ here
+
+    -- what one of the arrivals before made stays what it makes
+    made_before : Stays → (found : Trees) → IsMadeIn s start arrivals replies ran.heard found → IsMadeIn s start (arrivals ++ a ∷ []) (replies ++ reply ∷ []) on.heard found
+    made_before stays found it =
+        let more = heard_on h in
+        record {
+          before = it.before;
+          arrival = it.arrival;
+          behind = it.behind ++ a ∷ [];
+          one = ap (λ (xs : List Arrival). xs ++ a ∷ []) it.one ∙ append_assoc it.before (it.arrival ∷ it.behind) (a ∷ []);
+          told = it.told;
+          more = it.more ++ reply ∷ [];
+          answers = ap (λ (xs : List Response). xs ++ reply ∷ []) it.answers ∙ append_assoc it.told it.more (reply ∷ []);
+          later = more.0 ++ it.later;
+          earlier = it.earlier;
+          then = more.1 ∙ ap (λ (xs : List Reading). more.0 ++ xs) it.then ∙ sym (append_assoc more.0 it.later it.earlier);
+          answered = it.answered;
+          still = stays ∙ it.still;
+          verdict = it.verdict;
+          is = it.is;
+          made = it.made;
+        }
+
+    -- and this one may have made what it makes
+    made_now : Stays → (found : Trees) (v : Verdict) → IsVerdict s a here.queue here.kept v → AreMadeBy v found → IsMadeIn s start (arrivals ++ a ∷ []) (replies ++ reply ∷ []) on.heard found
+    made_now stays found v is made =
+        let more = heard_on h in
+        record {
+          before = arrivals;
+          arrival = a;
+          behind = [];
+          one = refl;
+          told = replies;
+          more = reply ∷ [];
+          answers = refl;
+          later = more.0;
+          earlier = ran.heard;
+          then = more.1;
+          answered = ran.answered;
+          still = stays;
+          verdict = v;
+          is = is;
+          made = made;
+        }
+
+    -- so a shut store's crash leaves what a crash before left, or what this one made
+    shut_stops : (found : Trees) → new.is_open ≡ false → MayFind old found ⊎ ((v : Verdict) × IsVerdict s a here.queue here.kept v × AreMadeBy v found)
+        → IsLeftBehind s start (arrivals ++ a ∷ []) (replies ++ reply ∷ []) on.heard first found
+    shut_stops found shut (inl may) = by (before found may)
+      where
+        stays : Stays
+        stays = same_end h shut
+
+        by : IsLeftBehind s start arrivals replies ran.heard first found → IsLeftBehind s start (arrivals ++ a ∷ []) (replies ++ reply ∷ []) on.heard first found
+        by (Before may_first none) = Before may_first (stays ∙ none)
+        by (AtEnd rows) = AtEnd (subst (λ (e : Start). RowsFound found e.queue e.kept) (sym stays) rows)
+        by (Besides it) = Besides (made_before stays found it)
+    shut_stops found shut (inr (v, is, made)) = Besides (made_now (same_end h shut) found v is made)
+
+    -- what a crash leaves behind this arrival
+    pub stops_on : (Serves new → LeavesAlone new new.committed.trees) → (found : Trees) → MayFind new found
+        → IsLeftBehind s start (arrivals ++ a ∷ []) (replies ++ reply ∷ []) on.heard first found
+    stops_on alone found may = by new.is_open refl
+      where
+        by : (b : Bool) → new.is_open ≡ b → IsLeftBehind s start (arrivals ++ a ∷ []) (replies ++ reply ∷ []) on.heard first found
+        by true is_open = AtEnd (open_stops new (end_of s start on.heard) on.means alone found may is_open)
+        by false shut = shut_stops found shut (stops found may)
+
+-- a run of no arrivals is done, and leaves what was left
+pub stops_at_first : (s : Settings) (start : Start) (store : State) → Means store start.queue start.kept → StopsIn s start [] [] store store
+stops_at_first s start store means = (record { heard = []; answered = refl; means = means; accepted = tt }, λ found may. Before may refl)
 
 -- where a run leads is sound
 pub run_sound : (s : Settings) (start : Start) (arrivals : List Arrival) (replies : List Response) (store : State) → Sound start.queue
