@@ -21,4 +21,6 @@ mod SumLemmas
 mod OnceLemmas
 mod GrantLemmas
 mod HandledLemmas
+mod SessionsLemmas
+mod RowsSessions
 mod SaidLemmas

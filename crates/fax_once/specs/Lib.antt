@@ -7,4 +7,5 @@ pub mod Stop
 pub mod Run
 pub mod Counts
 pub mod Laws
+pub mod Sessions
 pub mod Queue

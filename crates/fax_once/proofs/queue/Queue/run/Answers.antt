@@ -6,6 +6,7 @@ use Rattle.fax_ask.specs.Response.{Response}
 use Rattle.fax_decide.specs.Settings.{settings_of}
 use Rattle.fax_decide.specs.declared.office.Office.{Office}
 use Rattle.fax_once.proofs.HandledLemmas.{run_sound, runs_on, runs_well, stops_at_first, stops_on}
+use Rattle.fax_once.proofs.SessionsLemmas.{runs_as_session}
 use Rattle.fax_once.proofs.queue.Queue.run.Goals as goal
 use Rattle.fax_once.specs.Laws.{HasRun}
 use Rattle.fax_once.specs.Stop.{Stops, StopsIn}
@@ -80,3 +81,10 @@ returns-clause-crash g c m k sound means clean =
     let store = state g.S.Store c.loop-arrival.self.store.conn in
     subst (λ (arrivals : List Arrival). StopsIn s start arrivals c.loop-arrival.replies.items (state g.S.Store c.args.self.now.store.conn) store)
     (take_all c.loop-arrival.arrival-index c.args.arrivals.now all) (c.loop-arrival.invariant.ran m k sound means clean)
+
+pub returns-clause-session : goal.returns-clause-session
+returns-clause-session g c m k sound means clean =
+    let s = settings_of c.args.self.now.office.setup c.args.self.now.office.controls in
+    let start : Start = record { queue = m; kept = k } in
+    runs_as_session s start c.args.arrivals.now c.loop-arrival.replies.items (state g.S.Store c.args.self.now.store.conn) (state g.S.Store c.loop-arrival.self.store.conn)
+    (returns-clause-crash g c m k sound means clean)
