@@ -17,7 +17,7 @@ use Rattle.fax_core.specs.Job.{Job}
 use Rattle.fax_core.specs.Machine.{act, brought_in, call_reply, changed, on_job, outcome_reply, page_reply, step, submitted, with_both, with_job, with_mark, with_new_job}
 use Rattle.fax_core.specs.Queue.{Queue, grant_numbered, job_numbered}
 use Rattle.fax_core.specs.Reply.{Marked, NoKeys, Refused, Reply, Step, Taken}
-use Rattle.fax_core.specs.Run.{decided, left_by}
+use Rattle.fax_core.specs.Run.{left_by}
 use Rattle.fax_core.specs.Settings.{Rule, Settings}
 use Rattle.fax_core.specs.Sound.{Sound}
 use Rattle.fax_core.proofs.DecisionLemmas.{not_refused, ok_same}
@@ -27,7 +27,7 @@ use Rattle.fax_core.proofs.PlaceLemmas.{placed_here, placed_other, stays}
 use Rattle.fax_core.proofs.StepLemmas.{Best_to, GivenTo, None_to, aged_sound, given_is, taken_same}
 use Rattle.fax_once.proofs.OnceLemmas.{sound_after}
 use Rattle.fax_once.specs.Laws.{IsSameGrant, KeepsGrants, RunsKeepGrants}
-use Rattle.fax_once.specs.Run.{queue_after}
+use Rattle.fax_once.specs.Run.{queue_after, step_of}
 
 -- ---- the same grant
 
@@ -193,8 +193,9 @@ left_grants m (Refused e k) keeps = kept_all m m refl
 -- ---- a run
 
 pub runs_keep_grants : RunsKeepGrants
-runs_keep_grants s m [] earlier h are = kept_all (queue_after s m earlier) (queue_after s m earlier) refl
-runs_keep_grants s m (p ∷ later) earlier h are =
-    let here = queue_after s m (later ++ earlier) in
-    through (queue_after s m earlier) here (left_by here (decided s here p.request)) (runs_keep_grants s m later earlier h are.2)
-    (left_grants here (decided s here p.request) (λ n r e. step_keeps_grants s here n (decided_at here.clock p.request.moment) p.request.ask r (sound_after s m (later ++ earlier) h are.2) e))
+runs_keep_grants m [] earlier h are = kept_all (queue_after m earlier) (queue_after m earlier) refl
+runs_keep_grants m (f ∷ later) earlier h are =
+    let here = queue_after m (later ++ earlier) in
+    let t = decided_at here.clock f.post.request.moment in
+    through (queue_after m earlier) here (left_by here (step_of here f)) (runs_keep_grants m later earlier h are.2)
+    (left_grants here (step_of here f) (λ n r e. step_keeps_grants f.settings here n t f.post.request.ask r (sound_after m (later ++ earlier) h are.2) e))

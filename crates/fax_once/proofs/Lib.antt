@@ -21,6 +21,8 @@ mod SumLemmas
 mod OnceLemmas
 mod GrantLemmas
 mod HandledLemmas
+mod SessionsLemmas
+mod RowsSessions
 mod SaidLemmas
 mod CauseLemmas
 mod ProgressLemmas

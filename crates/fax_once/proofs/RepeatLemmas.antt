@@ -14,8 +14,9 @@ use Rattle.fax_ask.specs.Request.{request_of}
 use Rattle.fax_ask.specs.Answer.{Replied}
 use Rattle.fax_ask.specs.Response.{Response, accepted_response, kept_response}
 use Rattle.fax_core.specs.Ledger.{Ledger}
-use Rattle.fax_core.specs.Queue.{Entry}
+use Rattle.fax_core.specs.Queue.{Entry, Queue}
 use Rattle.fax_core.specs.Reply.{Reply}
+use Rattle.fax_core.specs.Settings.{Settings}
 use Rattle.fax_store.specs.Kept.{kept_for}
 use Rattle.fax_tables.specs.Kept.{entry}
 use Rattle.fax_once.proofs.AcceptedLemmas.{acceptance, is_posted}
@@ -95,6 +96,11 @@ kept_since p k reply none =
 
 -- ---- the repeat
 
+-- who says under a number above the floor what its entry has said gets the entry's reply
+pub gets_kept : (s : Settings) (m : Queue) (k : Ledger) (p : Post) (e : Entry) → nat_lt (k.floor p.client) p.number ≡ true
+    → kept_for p.client p.number k.replies ≡ Some e → bytes_eq e.said p.said ≡ true → verdict s m k (Posts p) ≡ Repeated (kept_response e.status e.body)
+gets_kept s m k p e above found said = rw (above, found, said) refl
+
 -- what was accepted is JSON, so it comes back whole from its status and its body
 whole : (told : Reply) (reply : Response) → reply ≡ accepted_response (Replied told) → kept_response reply.status reply.body ≡ reply
 whole told reply is = ap (λ r. kept_response r.status r.body) is ∙ sym is
@@ -119,6 +125,8 @@ repeats_get_their_reply s a b m after queue k kept later reply (r, is, v_is) sam
     let found : kept_for p.client p.number later.replies ≡ Some (entry p.client p.number p.said reply.status reply.body) =
     ap₂ (λ c n. kept_for c n later.replies) (sym client) (sym number) ∙ still.same ∙ ap₂ (λ c n. kept_for c n kept.replies) client number ∙ put in
     let above : nat_lt (later.floor p.client) p.number ≡ true = is_below (later.floor p.client) p.number (subst (λ n. later.floor p.client < n) number (subst (λ c. later.floor c < still.number) client still.above)) in
-    let said : bytes_eq p.said p.said ≡ true = (bytes_decides p.said p.said).1 refl in
-    let repeats : verdict s queue later (moved b.moment (Posts p)) ≡ Repeated reply = rw (above, found, said) (ap Repeated (whole it.told reply it.replied)) in
-    (moved b.moment (Posts p), same_reading a b (Posts p) same (subst (IsReading a) it.posts is), sym repeats)
+    let its = entry p.client p.number p.said reply.status reply.body in
+    let again : Post = record p { request = record p.request { moment = b.moment } } in
+    let repeats : verdict s queue later (Posts again) ≡ Repeated reply =
+    gets_kept s queue later again its above found ((bytes_decides p.said p.said).1 refl) ∙ ap Repeated (whole it.told reply it.replied) in
+    (Posts again, same_reading a b (Posts p) same (subst (IsReading a) it.posts is), sym repeats)

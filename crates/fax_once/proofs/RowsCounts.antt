@@ -1,4 +1,4 @@
--- Worked rows of counters: what is counted of the reports on a job, and what came in with it. Of posts the newest comes first.
+-- Worked rows of counters: what is counted of the reports on a job, and what came in with it. Of requests the newest comes first.
 use Rattle.std.specs.Prelude.{◌≡◌, refl, ℕ, ◌+◌, ◌*◌, true, List, [], ◌∷◌, length, codes}
 use Rattle.fax_job.specs.declared.import.Import.{Import}
 use Rattle.fax_job.specs.declared.job.Call.TheVariants.{Busy, Connected}
@@ -8,18 +8,19 @@ use Rattle.fax_core.specs.declared.report.Ending.TheVariants.{Retry}
 use Rattle.fax_core.specs.Queue.{empty_queue}
 use Rattle.fax_core.proofs.RowWords.{◌at◌, order, report, settings, ttyS0, ttyS1}
 use Rattle.fax_once.specs.Counts.{Counters, Called, Confirmed, brought_with, counts, reports_of}
-use Rattle.fax_once.specs.Reading.{Post}
+use Rattle.fax_once.specs.Run.{Fed, under}
 
 -- ---- words
 
--- somebody asks for this at 1000, an hour later for each post before it
-abbrev posts : List Ask → List Post
-posts [] = []
-posts (ask ∷ earlier) = record { client = codes "w0"; number = length earlier + 1; said = []; request = ask at (1000 + 3600 * length earlier) } ∷ posts earlier
+-- somebody asks for this at 1000, an hour later for each request before it
+abbrev fed : List Ask → List Fed
+fed [] = []
+fed (ask ∷ earlier) =
+    under settings (record { client = codes "w0"; number = length earlier + 1; said = []; request = ask at (1000 + 3600 * length earlier) }) ∷ fed earlier
 
 -- the counters of a job behind these
 abbrev counted : ℕ → List Ask → Counters
-counted job asks = counts (brought_with settings empty_queue job (posts asks)) (reports_of settings empty_queue job (posts asks))
+counted job asks = counts (brought_with empty_queue job (fed asks)) (reports_of empty_queue job (fed asks))
 
 -- the calls, the connected ones, each in all and since the last that came further, and the pages
 abbrev these : ℕ → ℕ → ℕ → ℕ → ℕ → Counters
@@ -58,11 +59,11 @@ others_row : counted 2 (Submission (order (codes "5550112") 1) ∷ twice) ≡ th
 others_row = refl
 
 -- a report on a grant that was never given counts for nothing
-never_given_row : reports_of settings empty_queue 1 (posts (CallReport 7 Busy ∷ busy_once)) ≡ Called Busy ∷ []
+never_given_row : reports_of empty_queue 1 (fed (CallReport 7 Busy ∷ busy_once)) ≡ Called Busy ∷ []
 never_given_row = refl
 
 -- of reports the newest comes first
-reports_row : reports_of settings empty_queue 1 (posts (PageReport 2 1 ∷ connected)) ≡ Confirmed ∷ Called Connected ∷ Called Busy ∷ []
+reports_row : reports_of empty_queue 1 (fed (PageReport 2 1 ∷ connected)) ≡ Confirmed ∷ Called Connected ∷ Called Busy ∷ []
 reports_row = refl
 
 -- ---- an import

@@ -24,24 +24,24 @@ use Rattle.fax_once.specs.declared.arrival.Arrival.{Arrival}
 -- ---- words
 
 -- an empty queue, of which nothing is kept
-abbrev start : Start
+abbrev pub start : Start
 start = record { queue = empty_queue; kept = empty_ledger }
 
 -- a client asks for this under its number, in these bytes, at this moment
-abbrev post : List ℕ → ℕ → List ℕ → ℕ → Ask → Reading
+abbrev pub post : List ℕ → ℕ → List ℕ → ℕ → Ask → Reading
 post client number said moment ask = Posts (record { client = client; number = number; said = said; request = ask at moment })
 
-abbrev desk : List ℕ
+abbrev pub desk : List ℕ
 desk = codes "desk"
 
-abbrev lab : List ℕ
+abbrev pub lab : List ℕ
 lab = codes "lab"
 
-abbrev fax : Ask
+abbrev pub fax : Ask
 fax = Submission (order (codes "5550111") 2)
 
 -- the desk submits a fax
-abbrev submitted : Reading
+abbrev pub submitted : Reading
 submitted = post desk 1 (codes "a fax") 1000 fax
 
 -- what is answered to a reading behind these
@@ -49,10 +49,10 @@ abbrev answered : List Reading → Reading → Response
 answered past r = reply_at settings start past r
 
 -- an accepted request's reply
-abbrev accepted : Reply → Response
+abbrev pub accepted : Reply → Response
 accepted reply = accepted_response (Replied reply)
 
-abbrev refused : Refusal → Response
+abbrev pub refused : Refusal → Response
 refused refusal = refused_response refusal NoKeys
 
 -- the clients and the numbers whose replies are kept behind these
@@ -81,7 +81,7 @@ repeat_row : answered (submitted ∷ []) (post desk 1 (codes "a fax") 9000 fax) 
 repeat_row = refl
 
 -- and it is not taken
-repeat_untaken_row : map (λ p. p.number) (taken settings start (post desk 1 (codes "a fax") 9000 fax ∷ submitted ∷ [])) ≡ 1 ∷ []
+repeat_untaken_row : map (λ f. f.post.number) (taken settings start (post desk 1 (codes "a fax") 9000 fax ∷ submitted ∷ [])) ≡ 1 ∷ []
 repeat_untaken_row = refl
 
 -- so the clock doesn't move by it

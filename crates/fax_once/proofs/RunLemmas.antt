@@ -15,7 +15,7 @@ use Rattle.fax_core.specs.Settings.{Settings}
 use Rattle.fax_once.specs.Laws.{RunsThread, left_of}
 use Rattle.fax_once.specs.Reading.{Post, Reading, Faulty, Sees, Posts}
 use Rattle.fax_once.proofs.LedgerLemmas.{floors_rise, floors_same, given_finds, gives}
-use Rattle.fax_once.specs.Run.{Start, floors_after, floors_by, is_new, is_of, kept_after, queue_after, taken, takes, with_taken}
+use Rattle.fax_once.specs.Run.{Fed, Start, end_after, floors_after, floors_by, is_new, is_of, kept_after, kept_once, queue_after, reply_to, step_of, taken, takes, under, with_taken}
 use Rattle.fax_once.specs.Verdict.{asked_above, decided_new, denied, is_too_high, kept_with, new_asked, raised, raised_ask, repeated, step_reply, stepped, taken_once, verdict, without_given}
 use Rattle.fax_store.specs.Kept.{kept_for}
 
@@ -44,10 +44,11 @@ regroup true false false = refl
 
 -- ---- floors
 
--- the floors that are kept are those after the posts
-pub kept_floors : (s : Settings) (start : Start) (posts : List Post) → (kept_after s start posts).floor ≡ floors_after start posts
-kept_floors s start [] = refl
-kept_floors s start (p ∷ earlier) = floors_same p.client p.request.ask (kept_after s start earlier) ∙ ap (floors_by p.client p.request.ask) (kept_floors s start earlier)
+-- the floors that are kept are those after the requests
+pub kept_floors : (start : Start) (fed : List Fed) → (kept_after start fed).floor ≡ floors_after start fed
+kept_floors start [] = refl
+kept_floors start (f ∷ earlier) =
+    floors_same f.post.client f.post.request.ask (kept_after start earlier) ∙ ap (floors_by f.post.client f.post.request.ask) (kept_floors start earlier)
 
 -- a number is free: above the client's floor, and with no kept reply
 abbrev pub is_free : Ledger → List ℕ → ℕ → Bool
@@ -59,25 +60,40 @@ one_more false k n n' a b x up same is = refl
 one_more true k n n' a b x up same is = let found : n ≡ (a && not b) = rw (up refl) at is in ap (λ y. y && not x) (same refl ∙ found) ∙ regroup a b x
 
 -- a number that is free is one that is new
-pub new_is_free : (s : Settings) (start : Start) (earlier : List Post) (p : Post) → is_free (kept_after s start earlier) p.client p.number ≡ is_new start earlier p
-new_is_free s start [] p = ap (λ b. nat_lt (start.kept.floor p.client) p.number && b) (by (is_none (kept_for p.client p.number start.kept.replies)))
+pub new_is_free : (start : Start) (earlier : List Fed) (p : Post) → is_free (kept_after start earlier) p.client p.number ≡ is_new start earlier p
+new_is_free start [] p = ap (λ b. nat_lt (start.kept.floor p.client) p.number && b) (by (is_none (kept_for p.client p.number start.kept.replies)))
   where
     by : (b : Bool) → b ≡ (b && true)
     by true = refl
     by false = refl
-new_is_free s start (q ∷ earlier) p =
-    let k = kept_after s start earlier in
+new_is_free start (f ∷ earlier) p =
+    let k = kept_after start earlier in
+    let q = f.post in
     let r = raised (k.floor q.client) q in
-    let reply = step_reply (decided s (queue_after s start.queue earlier) r.request) in
+    let reply = reply_to (end_after start earlier) f in
     let given = without_given q.client r.request.ask k in
     let is = λ (e : Entry). bytes_eq e.client p.client && eqb e.number p.number in
-    let before : is_free k p.client p.number ≡ (nat_lt (k.floor p.client) p.number && (is_none (kept_for p.client p.number start.kept.replies) && not (list_any (is_of p.client p.number) earlier))) = new_is_free s start earlier p
-    ∙ ap (λ (floors : List ℕ → ℕ). nat_lt (floors p.client) p.number && (is_none (kept_for p.client p.number start.kept.replies) && not (list_any (is_of p.client p.number) earlier))) (sym (kept_floors s start earlier)) in
-    ap (λ b. nat_lt (given.floor p.client) p.number && b) (none_behind is given.replies (record { client = q.client; number = q.number; said = q.said; status = reply.status; body = reply.body }))
-    ∙ one_more (nat_lt (given.floor p.client) p.number) (nat_lt (k.floor p.client) p.number) (is_none (kept_for p.client p.number k.replies)) (is_none (kept_for p.client p.number given.replies))
-    (is_none (kept_for p.client p.number start.kept.replies)) (list_any (is_of p.client p.number) earlier) (is_of p.client p.number q)
+    let kept = is_none (kept_for p.client p.number start.kept.replies) in
+    let used = list_any (is_of p.client p.number) earlier in
+    let before : is_free k p.client p.number ≡ (nat_lt (k.floor p.client) p.number && (kept && not used)) = new_is_free start earlier p
+    ∙ ap (λ (floors : List ℕ → ℕ). nat_lt (floors p.client) p.number && (kept && not used)) (sym (kept_floors start earlier)) in
+    ap (λ b. nat_lt (given.floor p.client) p.number && b)
+    (none_behind is given.replies (record { client = q.client; number = q.number; said = q.said; status = reply.status; body = reply.body }))
+    ∙ one_more (nat_lt (given.floor p.client) p.number) (nat_lt (k.floor p.client) p.number)
+    (is_none (kept_for p.client p.number k.replies)) (is_none (kept_for p.client p.number given.replies)) kept used (is_of p.client p.number f)
     (floors_rise q.client r.request.ask k p.client p.number) (λ above. ap is_none (given_finds q.client r.request.ask k p.client p.number above)) before
-    ∙ ap (λ (floors : List ℕ → ℕ). nat_lt (floors p.client) p.number && (is_none (kept_for p.client p.number start.kept.replies) && not (is_of p.client p.number q || list_any (is_of p.client p.number) earlier))) (kept_floors s start (q ∷ earlier))
+    ∙ ap (λ (floors : List ℕ → ℕ). nat_lt (floors p.client) p.number && (kept && not (is_of p.client p.number f || used))) (kept_floors start (f ∷ earlier))
+
+-- ---- one list behind another
+
+-- where one more request leads
+abbrev fed_to : Start → Fed → Start
+fed_to here f = record { queue = left_by here.queue (step_of here.queue f); kept = kept_once here f }
+
+-- newer requests lead on from where the older lead
+pub ends_after : (start : Start) (newer older : List Fed) → end_after start (newer ++ older) ≡ end_after (end_after start older) newer
+ends_after start [] older = refl
+ends_after start (f ∷ newer) older = ap (λ (here : Start). fed_to here f) (ends_after start newer older)
 
 -- ---- a request that is raised is taken as it was, and leaves the same queue
 
@@ -90,27 +106,23 @@ raised_step s m t floor ask = elim (gives ask) [
 
 -- ---- one more arrival
 
-module _ (s : Settings) (start : Start) (earlier : List Post) where
+module _ (s : Settings) (start : Start) (earlier : List Fed) where
   abbrev m : Queue
-  m = queue_after s start.queue earlier
+  m = queue_after start.queue earlier
 
   abbrev k : Ledger
-  k = kept_after s start earlier
+  k = kept_after start earlier
 
   abbrev here : Start
-  here = record { queue = m; kept = k }
-
-  -- what was taken, and where it leads
-  abbrev after : List Post → Start
-  after posts = record { queue = queue_after s start.queue posts; kept = kept_after s start posts }
+  here = end_after start earlier
 
   module _ (p : Post) where
     abbrev it : Post
     it = raised (k.floor p.client) p
 
     -- the post is taken, by what of it is so
-    abbrev if_taken : Bool → Bool → List Post
-    if_taken new low = if new && (low && takes (decided s m p.request)) then p ∷ earlier else earlier
+    abbrev if_taken : Bool → Bool → List Fed
+    if_taken new low = if new && (low && takes (decided s m p.request)) then under s p ∷ earlier else earlier
 
     -- the post is taken as it was where its floor is raised, and leaves the same queue
     same : (left_by m (decided s m it.request) ≡ left_by m (decided s m p.request)) × (takes (decided s m it.request) ≡ takes (decided s m p.request))
@@ -122,7 +134,7 @@ module _ (s : Settings) (start : Start) (earlier : List Post) where
     by_bytes e false is = rw is refl
 
     -- where the step takes it, it leads where the step does
-    by_step : (x : Step) → decided s m it.request ≡ x → after (if takes x then p ∷ earlier else earlier) ≡ left_of here (stepped it k x)
+    by_step : (x : Step) → decided s m it.request ≡ x → end_after start (if takes x then under s p ∷ earlier else earlier) ≡ left_of here (stepped it k x)
     by_step (Taken q told) is =
         let queue : left_by m (decided s m p.request) ≡ q = sym same.0 ∙ ap (left_by m) is in
         ap (λ (x : Queue). record { queue = x; kept = kept_with it k (step_reply (decided s m it.request)) }) queue
@@ -130,30 +142,32 @@ module _ (s : Settings) (start : Start) (earlier : List Post) where
     by_step (Refused refusal keys) is = refl
 
     -- what gives up its own reply leads nowhere, and all else where it is decided
-    by_high : (b : Bool) → is_too_high p.number p.request.ask ≡ b → after (if_taken true (not b)) ≡ left_of here (if b then denied FloorHigh else decided_new s m k it)
+    by_high : (b : Bool) → is_too_high p.number p.request.ask ≡ b
+        → end_after start (if_taken true (not b)) ≡ left_of here (if b then denied FloorHigh else decided_new s m k it)
     by_high true is = refl
-    by_high false is = ap (λ (b : Bool). after (if b then p ∷ earlier else earlier)) (sym same.1) ∙ by_step (decided s m it.request) refl
+    by_high false is = ap (λ (b : Bool). end_after start (if b then under s p ∷ earlier else earlier)) (sym same.1) ∙ by_step (decided s m it.request) refl
 
     -- the same whether a reply is kept for the number or not
-    by_entry : (o : Option Entry) → kept_for p.client p.number k.replies ≡ o → after (if_taken (is_none o) (not (is_too_high p.number p.request.ask))) ≡ left_of here (taken_once o p.said (new_asked s m k (k.floor p.client) p))
+    by_entry : (o : Option Entry) → kept_for p.client p.number k.replies ≡ o
+        → end_after start (if_taken (is_none o) (not (is_too_high p.number p.request.ask))) ≡ left_of here (taken_once o p.said (new_asked s m k (k.floor p.client) p))
     by_entry None is = by_high (is_too_high p.number p.request.ask) refl
     by_entry (Some e) is = by_bytes e (bytes_eq e.said p.said) refl
 
     -- the same whether the number is above the floor or not
     by_floor : (b : Bool) → nat_lt (k.floor p.client) p.number ≡ b
-        → after (if_taken (b && is_none (kept_for p.client p.number k.replies)) (not (is_too_high p.number p.request.ask)))
+        → end_after start (if_taken (b && is_none (kept_for p.client p.number k.replies)) (not (is_too_high p.number p.request.ask)))
         ≡ left_of here (if b then asked_above s m k (k.floor p.client) p else denied GivenUp)
     by_floor true is = by_entry (kept_for p.client p.number k.replies) refl
     by_floor false is = refl
 
     -- a post leads where its verdict does
-    posted : after (with_taken s start earlier (Posts p)) ≡ left_of here (verdict s m k (Posts p))
+    posted : end_after start (with_taken s start earlier (Posts p)) ≡ left_of here (verdict s m k (Posts p))
     posted =
-        ap (λ (b : Bool). after (if_taken b (not (is_too_high p.number p.request.ask)))) (sym (new_is_free s start earlier p))
+        ap (λ (b : Bool). end_after start (if_taken b (not (is_too_high p.number p.request.ask)))) (sym (new_is_free start earlier p))
         ∙ by_floor (nat_lt (k.floor p.client) p.number) refl
 
   -- each reading leads where its verdict does
-  pub behind : (r : Reading) → after (with_taken s start earlier r) ≡ left_of here (verdict s m k r)
+  pub behind : (r : Reading) → end_after start (with_taken s start earlier r) ≡ left_of here (verdict s m k r)
   behind (Faulty refusal) = refl
   behind (Sees moment what) = refl
   behind (Posts p) = posted p

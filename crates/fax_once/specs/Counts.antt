@@ -1,4 +1,4 @@
--- The counters of a job are what it came in with, and sums over the reports on its grants that were taken. Of posts and of reports the newest comes first.
+-- The counters of a job are what it came in with, and sums over the reports on its grants that were taken. Of requests and of reports the newest comes first.
 use Rattle.std.specs.Prelude.{ℕ, ◌+◌, ◌==◌, Bool, true, false, ◌&&◌, ◌||◌, List, [], ◌∷◌, ◌++◌, length, filter, if◌then◌else◌}
 use Rattle.std.specs.List.{list_any}
 use Rattle.fax_job.specs.declared.job.Call.{Call}
@@ -8,10 +8,7 @@ use Rattle.fax_core.specs.declared.ask.Ask.TheVariants.{Bring, CallReport, PageR
 use Rattle.fax_core.specs.Job.{Job}
 use Rattle.fax_core.specs.Queue.{Queue}
 use Rattle.fax_core.specs.Reply.{Reply, Brought, Given, Step, Taken, Refused}
-use Rattle.fax_core.specs.Run.{decided}
-use Rattle.fax_core.specs.Settings.{Settings}
-use Rattle.fax_once.specs.Reading.{Post}
-use Rattle.fax_once.specs.Run.{queue_after}
+use Rattle.fax_once.specs.Run.{Fed, queue_after, step_of}
 
 -- the reply hands out this grant of this job
 abbrev pub hands : Reply → ℕ → ℕ → Bool
@@ -22,10 +19,10 @@ abbrev pub gives : Step → ℕ → ℕ → Bool
 gives (Taken after reply) grant job = hands reply grant job
 gives (Refused refusal keys) grant job = false
 
--- one of these posts was given this grant of this job
-abbrev pub was_given : Settings → Queue → List Post → ℕ → ℕ → Bool
-was_given s m [] grant job = false
-was_given s m (p ∷ earlier) grant job = gives (decided s (queue_after s m earlier) p.request) grant job || was_given s m earlier grant job
+-- one of these requests was given this grant of this job
+abbrev pub was_given : Queue → List Fed → ℕ → ℕ → Bool
+was_given m [] grant job = false
+was_given m (f ∷ earlier) grant job = gives (step_of (queue_after m earlier) f) grant job || was_given m earlier grant job
 
 -- a call, or a page that is confirmed
 pub data Report : Type 0 where
@@ -39,9 +36,9 @@ reported is_its (PageReport grant page) = if is_its grant then Confirmed ∷ [] 
 reported is_its other = []
 
 -- the reports of a job: each is on a grant that was given with it before
-abbrev pub reports_of : Settings → Queue → ℕ → List Post → List Report
-reports_of s m job [] = []
-reports_of s m job (p ∷ earlier) = reported (λ grant. was_given s m earlier grant job) p.request.ask ++ reports_of s m job earlier
+abbrev pub reports_of : Queue → ℕ → List Fed → List Report
+reports_of m job [] = []
+reports_of m job (f ∷ earlier) = reported (λ grant. was_given m earlier grant job) f.post.request.ask ++ reports_of m job earlier
 
 abbrev pub is_call : Report → Bool
 is_call (Called call) = true
@@ -95,9 +92,9 @@ takes_in (Taken after reply) job = brings reply job
 takes_in (Refused refusal keys) job = false
 
 -- the counters with which a job came in, which are none where no import made it
-abbrev pub brought_with : Settings → Queue → ℕ → List Post → Counters
-brought_with s m job [] = no_counters
-brought_with s m job (p ∷ earlier) = if takes_in (decided s (queue_after s m earlier) p.request) job then came_in p.request.ask else brought_with s m job earlier
+abbrev pub brought_with : Queue → ℕ → List Fed → Counters
+brought_with m job [] = no_counters
+brought_with m job (f ∷ earlier) = if takes_in (step_of (queue_after m earlier) f) job then came_in f.post.request.ask else brought_with m job earlier
 
 -- ---- what is counted
 

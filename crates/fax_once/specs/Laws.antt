@@ -12,7 +12,6 @@ use Rattle.fax_core.specs.Reply.{Given, Handed, NoKeys, Reply, Taken}
 use Rattle.fax_core.specs.declared.ask.Ask.TheVariants.{Next, PageReport}
 use Rattle.fax_core.specs.declared.ask.Ask.{Ask}
 use Rattle.fax_core.specs.declared.grants.Grant.{Grant}
-use Rattle.fax_core.specs.Run.{decided}
 use Rattle.fax_core.specs.Settings.{Settings}
 use Rattle.fax_core.specs.Sound.{IsJob, Sound}
 use Rattle.fax_store.specs.Kept.{kept_for}
@@ -22,7 +21,7 @@ use Rattle.fax_tables.specs.Tables.{IsKeptStatus, IsLawfulEntry}
 use Rattle.fax_once.specs.Arrival.{number_of, said_of}
 use Rattle.fax_once.specs.Reading.{Post, Reading, Posts, IsReading, post_of}
 use Rattle.fax_once.specs.Counts.{brought_with, counters_of, counts, reports_of}
-use Rattle.fax_once.specs.Run.{Start, IsRun, end_of, is_taken, queue_after, reply_at, taken, takes}
+use Rattle.fax_once.specs.Run.{Fed, Start, IsRun, end_of, is_taken, queue_after, reply_at, step_of, taken, takes, under}
 use Rattle.fax_once.specs.Verdict.{Verdict, Told, Repeated, Accepted, IsVerdict, reply_of, verdict, without_given}
 use Rattle.fax_once.specs.declared.arrival.Arrival.{Arrival}
 
@@ -119,7 +118,7 @@ OneRun = (s : Settings) (start : Start) (arrivals : List Arrival) (replies other
 
 -- the post is taken behind that past
 abbrev pub IsTakenAt : Settings → Start → List Reading → Post → Type 0
-IsTakenAt s start past p = is_taken s start (taken s start past) p ≡ true
+IsTakenAt s start past p = is_taken start (taken s start past) (under s p) ≡ true
 
 -- all else is left and answered as if that had not been heard
 abbrev pub LeavesNoTrace : Settings → Start → List Reading → List Reading → Reading → Type 0
@@ -146,21 +145,27 @@ NumbersHaveOneReply = (s : Settings) (start : Start) (later past : List Reading)
 
 -- ---- counters
 
--- each of these posts was taken behind the earlier ones, and what it asks for is lawful
-abbrev pub AreTaken : Settings → Queue → List Post → Type 0
-AreTaken s m [] = ⊤
-AreTaken s m (p ∷ earlier) = IsLawfulAsk p.request.ask × (takes (decided s (queue_after s m earlier) p.request) ≡ true) × AreTaken s m earlier
+-- each of these requests was taken behind the earlier ones, and what it asks for is lawful
+abbrev pub AreTaken : Queue → List Fed → Type 0
+AreTaken m [] = ⊤
+AreTaken m (f ∷ earlier) = IsLawfulAsk f.post.request.ask × (takes (step_of (queue_after m earlier) f) ≡ true) × AreTaken m earlier
 
--- from the empty queue the counters of each job are what it came in with and the counts of its reports
+-- the same, and its number was new there
+abbrev pub AreAccepted : Start → List Fed → Type 0
+AreAccepted start [] = ⊤
+AreAccepted start (f ∷ earlier) = IsLawfulAsk f.post.request.ask × (is_taken start earlier f ≡ true) × AreAccepted start earlier
+
+-- from the empty queue the counters of each job are what it came in with and the counts of its reports, whatever the settings of each step
 abbrev pub CountersAreCounts : Type 0
-CountersAreCounts = (s : Settings) (posts : List Post) → AreTaken s empty_queue posts
-    → (number : ℕ) (j : Job) → IsJob (queue_after s empty_queue posts) number j → counters_of j ≡ counts (brought_with s empty_queue number posts) (reports_of s empty_queue number posts)
+CountersAreCounts = (fed : List Fed) → AreTaken empty_queue fed
+    → (number : ℕ) (j : Job) → IsJob (queue_after empty_queue fed) number j
+    → counters_of j ≡ counts (brought_with empty_queue number fed) (reports_of empty_queue number fed)
 
 -- ---- modems, jobs and pages
 
 -- after each run the queue is sound, so a modem holds one open grant at most, and so does a job
 abbrev pub RunsAreSound : Type 0
-RunsAreSound = (s : Settings) (m : Queue) (posts : List Post) → Sound m → AreTaken s m posts → Sound (queue_after s m posts) × HoldsOnce (queue_after s m posts)
+RunsAreSound = (m : Queue) (fed : List Fed) → Sound m → AreTaken m fed → Sound (queue_after m fed) × HoldsOnce (queue_after m fed)
 
 -- The grant is as it was given: its number, its job, its modem and its pages. Pages confirmed under it may have come. Once it is closed, nothing of it changes.
 pub record IsSameGrant (g h : Grant) : Type 0 where
@@ -178,41 +183,49 @@ KeepsGrants m n = (number : ℕ) (g : Grant) → grant_numbered number m ≡ Som
 
 -- what is given in a run stays there, as it was given
 abbrev pub RunsKeepGrants : Type 0
-RunsKeepGrants = (s : Settings) (m : Queue) (later earlier : List Post) → Sound m → AreTaken s m (later ++ earlier) → KeepsGrants (queue_after s m earlier) (queue_after s m (later ++ earlier))
+RunsKeepGrants = (m : Queue) (later earlier : List Fed) → Sound m → AreTaken m (later ++ earlier)
+    → KeepsGrants (queue_after m earlier) (queue_after m (later ++ earlier))
 
--- the post reports this page of this grant
-abbrev pub IsConfirmed : Queue → Post → ℕ → ℕ → Grant → Type 0
-IsConfirmed m p grant page g = (p.request.ask ≡ PageReport grant page) × (grant_numbered grant m ≡ Some g)
+-- the request reports this page of this grant
+abbrev pub IsConfirmed : Queue → Fed → ℕ → ℕ → Grant → Type 0
+IsConfirmed m f grant page g = (f.post.request.ask ≡ PageReport grant page) × (grant_numbered grant m ≡ Some g)
 
--- where the post is given the job, its pages lie behind that page; where it reports a page of the job, that lies behind it too
-pub record GoesBehind (s : Settings) (m : Queue) (q : Post) (job page : ℕ) : Type 0 where
-  pub given : (modem : List ℕ) (n : Queue) (handed : Handed) → q.request.ask ≡ Next modem → decided s m q.request ≡ Taken n (Given handed) → handed.job ≡ job → page < handed.from
-  pub confirmed : (grant more : ℕ) (n : Queue) (told : Reply) (g : Grant) → q.request.ask ≡ PageReport grant more → decided s m q.request ≡ Taken n told → grant_numbered grant m ≡ Some g → g.job ≡ job → page < more
+-- where the request is given the job, its pages lie behind that page; where it reports a page of the job, that lies behind it too
+pub record GoesBehind (m : Queue) (f : Fed) (job page : ℕ) : Type 0 where
+  pub given : (modem : List ℕ) (n : Queue) (handed : Handed)
+      → f.post.request.ask ≡ Next modem → step_of m f ≡ Taken n (Given handed) → handed.job ≡ job → page < handed.from
+  pub confirmed : (grant more : ℕ) (n : Queue) (told : Reply) (g : Grant)
+      → f.post.request.ask ≡ PageReport grant more → step_of m f ≡ Taken n told → grant_numbered grant m ≡ Some g → g.job ≡ job → page < more
 
--- behind each page report that was taken, each post that was taken goes behind its page: no page is confirmed twice, and none that was is granted again
-abbrev pub NoPageTwice : Settings → Queue → List Post → Type 0
-NoPageTwice s m posts = (newer between earlier : List Post) (p q : Post) (grant page : ℕ) (g : Grant)
-    → posts ≡ newer ++ q ∷ (between ++ p ∷ earlier) → IsConfirmed (queue_after s m earlier) p grant page g
-    → GoesBehind s (queue_after s m (between ++ p ∷ earlier)) q g.job page
+-- behind each page report that was taken, each request that was taken goes behind its page: no page is confirmed twice, and none that was is granted again
+abbrev pub NoPageTwice : Queue → List Fed → Type 0
+NoPageTwice m fed = (newer between earlier : List Fed) (e f : Fed) (grant page : ℕ) (g : Grant)
+    → fed ≡ newer ++ f ∷ (between ++ e ∷ earlier) → IsConfirmed (queue_after m earlier) e grant page g
+    → GoesBehind (queue_after m (between ++ e ∷ earlier)) f g.job page
 
 abbrev pub RunsSendOnce : Type 0
-RunsSendOnce = (s : Settings) (m : Queue) (posts : List Post) → Sound m → AreTaken s m posts → NoPageTwice s m posts
+RunsSendOnce = (m : Queue) (fed : List Fed) → Sound m → AreTaken m fed → NoPageTwice m fed
+
+-- What holds behind requests that were taken: the queue is sound, a modem and a job hold one open grant at most, no page goes twice, each grant is as it was
+-- given, and from the empty queue on the counters count.
+pub record GoesWell (m : Queue) (fed : List Fed) : Type 0 where
+  pub sound : Sound (queue_after m fed)
+  pub held_once : HoldsOnce (queue_after m fed)
+  pub sent_once : NoPageTwice m fed
+  pub grants_stay : (later earlier : List Fed) → fed ≡ later ++ earlier → KeepsGrants (queue_after m earlier) (queue_after m fed)
+  pub counted : m ≡ empty_queue → (number : ℕ) (j : Job) → IsJob (queue_after m fed) number j
+      → counters_of j ≡ counts (brought_with empty_queue number fed) (reports_of empty_queue number fed)
 
 -- ---- a run of a queue
 
--- What a run has done: each reply is by what was heard before, and the store has where that leads. What was taken is lawful.
+-- What a run has done: each reply is by what was heard before, and the store has where that leads. What was taken is lawful, each under a new number.
 pub record HasRun (s : Settings) (start : Start) (arrivals : List Arrival) (replies : List Response) (store : State) : Type 0 where
   pub heard : List Reading
   pub answered : IsRun s start [] arrivals replies heard
   pub means : Means store (end_of s start heard).queue (end_of s start heard).kept
-  pub are_taken : AreTaken s start.queue (taken s start heard)
+  pub accepted : AreAccepted start (taken s start heard)
 
--- So the queue there is sound, a modem and a job hold one open grant at most, no page goes twice, each grant is as it was given, and from the empty queue on the counters count.
+-- so it went well
 pub record RunsWell (s : Settings) (start : Start) (arrivals : List Arrival) (replies : List Response) (store : State) : Type 0 where
   pub run : HasRun s start arrivals replies store
-  pub sound : Sound (end_of s start run.heard).queue
-  pub held_once : HoldsOnce (end_of s start run.heard).queue
-  pub sent_once : NoPageTwice s start.queue (taken s start run.heard)
-  pub grants_stay : (later earlier : List Post) → taken s start run.heard ≡ later ++ earlier → KeepsGrants (queue_after s start.queue earlier) (end_of s start run.heard).queue
-  pub counted : start.queue ≡ empty_queue → (number : ℕ) (j : Job) → IsJob (end_of s start run.heard).queue number j
-      → counters_of j ≡ counts (brought_with s empty_queue number (taken s start run.heard)) (reports_of s empty_queue number (taken s start run.heard))
+  pub well : GoesWell start.queue (taken s start run.heard)

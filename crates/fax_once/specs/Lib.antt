@@ -7,5 +7,6 @@ pub mod Stop
 pub mod Run
 pub mod Counts
 pub mod Laws
+pub mod Sessions
 pub mod Queue
 pub mod Progress

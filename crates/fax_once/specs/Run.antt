@@ -22,66 +22,87 @@ pub record Start : Type 0 where
   pub queue : Queue
   pub kept : Ledger
 
+-- a request that the machine was fed, with the setup and controls of that time
+pub record Fed : Type 0 where
+  pub settings : Settings
+  pub post : Post
+
+abbrev pub under : Settings → Post → Fed
+under s p = record { settings = s; post = p }
+
+-- what the machine makes of it in a queue
+abbrev pub step_of : Queue → Fed → Step
+step_of m f = decided f.settings m f.post.request
+
 -- ---- what is taken
 
--- the queue after the steps of these posts
-abbrev pub queue_after : Settings → Queue → List Post → Queue
-queue_after s m [] = m
-queue_after s m (p ∷ earlier) = left_by (queue_after s m earlier) (decided s (queue_after s m earlier) p.request)
+-- the queue after the steps of these requests
+abbrev pub queue_after : Queue → List Fed → Queue
+queue_after m [] = m
+queue_after m (f ∷ earlier) = left_by (queue_after m earlier) (step_of (queue_after m earlier) f)
 
 -- the step takes it
 abbrev pub takes : Step → Bool
 takes (Taken after reply) = true
 takes (Refused refusal keys) = false
 
--- the post is of this client, under this number
-abbrev pub is_of : List ℕ → ℕ → Post → Bool
-is_of client number p = bytes_eq p.client client && (p.number == number)
+-- the request is of this client, under this number
+abbrev pub is_of : List ℕ → ℕ → Fed → Bool
+is_of client number f = bytes_eq f.post.client client && (f.post.number == number)
 
 -- the floors, once a client has asked for this
 abbrev pub floors_by : List ℕ → Ask → (List ℕ → ℕ) → List ℕ → ℕ
 floors_by client (GiveUp upto) floors = floors_with client (greater (floors client) upto) floors
 floors_by client other floors = floors
 
--- the floors after these posts
-abbrev pub floors_after : Start → List Post → List ℕ → ℕ
+-- the floors after these requests
+abbrev pub floors_after : Start → List Fed → List ℕ → ℕ
 floors_after start [] = start.kept.floor
-floors_after start (p ∷ earlier) = floors_by p.client p.request.ask (floors_after start earlier)
+floors_after start (f ∷ earlier) = floors_by f.post.client f.post.request.ask (floors_after start earlier)
 
 -- the number is above the client's floor, and neither where the run begins nor among these is it used
-abbrev pub is_new : Start → List Post → Post → Bool
+abbrev pub is_new : Start → List Fed → Post → Bool
 is_new start earlier p =
     nat_lt (floors_after start earlier p.client) p.number
     && (is_none (kept_for p.client p.number start.kept.replies) && not (list_any (is_of p.client p.number) earlier))
 
--- Where these were taken before it, a post is taken when its number is new, it doesn't give up its own, and the step takes it in the queue after them.
-abbrev pub is_taken : Settings → Start → List Post → Post → Bool
-is_taken s start earlier p = is_new start earlier p && (not (is_too_high p.number p.request.ask) && takes (decided s (queue_after s start.queue earlier) p.request))
+-- Where these were taken before it, a request is taken when its number is new, it doesn't give up its own, and the step takes it in the queue after them.
+abbrev pub is_taken : Start → List Fed → Fed → Bool
+is_taken start earlier f =
+    is_new start earlier f.post && (not (is_too_high f.post.number f.post.request.ask) && takes (step_of (queue_after start.queue earlier) f))
 
 -- and else nothing is taken
-abbrev pub with_taken : Settings → Start → List Post → Reading → List Post
-with_taken s start earlier (Posts p) = if is_taken s start earlier p then p ∷ earlier else earlier
+abbrev pub with_taken : Settings → Start → List Fed → Reading → List Fed
+with_taken s start earlier (Posts p) = if is_taken start earlier (under s p) then under s p ∷ earlier else earlier
 with_taken s start earlier other = earlier
 
--- what was taken of all that was heard
-abbrev pub taken : Settings → Start → List Reading → List Post
+-- what was taken of all that was heard under these settings
+abbrev pub taken : Settings → Start → List Reading → List Fed
 taken s start [] = []
 taken s start (r ∷ past) = with_taken s start (taken s start past) r
 
 -- ---- what is answered
 
--- what a post that is taken leaves of what was kept: one entry more, with the reply to its step
-abbrev pub kept_once : Settings → Queue → Ledger → Post → Ledger
-kept_once s m k p = kept_with p k (step_reply (decided s m p.request))
+-- the reply to the step of a request that is taken there, with its floor raised to that of its client
+abbrev pub reply_to : Start → Fed → Response
+reply_to here f = step_reply (decided f.settings here.queue (raised (here.kept.floor f.post.client) f.post).request)
 
--- what is kept after these posts
-abbrev pub kept_after : Settings → Start → List Post → Ledger
-kept_after s start [] = start.kept
-kept_after s start (p ∷ earlier) = kept_once s (queue_after s start.queue earlier) (kept_after s start earlier) (raised ((kept_after s start earlier).floor p.client) p)
+-- what it leaves of what was kept: one entry more, with that reply
+abbrev pub kept_once : Start → Fed → Ledger
+kept_once here f = kept_with (raised (here.kept.floor f.post.client) f.post) here.kept (reply_to here f)
+
+-- what is kept after these requests
+abbrev pub kept_after : Start → List Fed → Ledger
+kept_after start [] = start.kept
+kept_after start (f ∷ earlier) = kept_once (record { queue = queue_after start.queue earlier; kept = kept_after start earlier }) f
+
+-- where they lead
+abbrev pub end_after : Start → List Fed → Start
+end_after start fed = record { queue = queue_after start.queue fed; kept = kept_after start fed }
 
 -- where a run leads that begins there
 abbrev pub end_of : Settings → Start → List Reading → Start
-end_of s start past = record { queue = queue_after s start.queue (taken s start past); kept = kept_after s start (taken s start past) }
+end_of s start past = end_after start (taken s start past)
 
 -- the reply at a position, with what was heard before it: that of its verdict where this leads
 abbrev pub reply_at : Settings → Start → List Reading → Reading → Response

@@ -1,15 +1,15 @@
 -- What a crash may leave behind an arrival.
-use Rattle.std.specs.Prelude.{◌≡◌, Bool, true, false, List, ◌∷◌, ◌++◌}
+use Rattle.std.specs.Prelude.{◌≡◌, Bool, true, false, List, [], ◌∷◌, ◌++◌}
 use Rattle.sqlite.specs.State.{State}
 use Rattle.sqlite_trees.specs.Tree.{Trees}
 use Rattle.fax_core.specs.Ledger.{Ledger}
 use Rattle.fax_core.specs.Queue.{Queue}
 use Rattle.fax_core.specs.Settings.{Settings}
 use Rattle.fax_ask.specs.Response.{Response}
-use Rattle.fax_store.specs.Store.{MayMake, RowsFound, Serves}
+use Rattle.fax_store.specs.Store.{MayFind, MayMake, RowsFound, Serves}
 use Rattle.fax_once.specs.Laws.{HasRun}
 use Rattle.fax_once.specs.Reading.{Reading}
-use Rattle.fax_once.specs.Run.{Start, end_of}
+use Rattle.fax_once.specs.Run.{IsRun, Start, end_of}
 use Rattle.fax_once.specs.Verdict.{Verdict, Told, Repeated, Accepted, IsVerdict}
 use Rattle.fax_once.specs.declared.arrival.Arrival.{Arrival}
 
@@ -40,19 +40,34 @@ Stops s a m k old new = MayMake old new (λ found. (v : Verdict) × IsVerdict s 
 abbrev pub MayLeave : State → State → Queue → Ledger → Type 0
 MayLeave old new m k = MayMake old new (λ found. Serves old × RowsFound found m k)
 
--- These are the rows that one of the arrivals makes, by its verdict behind some of what was heard.
-pub record IsMadeIn (s : Settings) (start : Start) (arrivals : List Arrival) (heard : List Reading) (found : Trees) : Type 0 where
+-- These are the rows that one of the arrivals makes, by its verdict behind what was heard of those before it, by their replies. Nothing was taken since.
+pub record IsMadeIn (s : Settings) (start : Start) (arrivals : List Arrival) (replies : List Response) (heard : List Reading) (found : Trees) : Type 0 where
   pub before : List Arrival
   pub arrival : Arrival
   pub behind : List Arrival
   pub one : arrivals ≡ before ++ arrival ∷ behind
+  pub told : List Response
+  pub more : List Response
+  pub answers : replies ≡ told ++ more
   pub later : List Reading
   pub earlier : List Reading
   pub then : heard ≡ later ++ earlier
+  pub answered : IsRun s start [] before told earlier
+  pub still : end_of s start heard ≡ end_of s start earlier
   pub verdict : Verdict
   pub is : IsVerdict s arrival (end_of s start earlier).queue (end_of s start earlier).kept verdict
   pub made : AreMadeBy verdict found
 
--- A run is done. A crash behind it leaves what a crash before it could leave, or what one of its arrivals makes.
+-- what a crash behind a run may leave
+pub data IsLeftBehind (s : Settings) (start : Start) (arrivals : List Arrival) (replies : List Response) (heard : List Reading) (old : State) (found : Trees) : Type 0 where
+  -- what a crash before the run could leave, where nothing was taken
+  Before : MayFind old found → end_of s start heard ≡ start → IsLeftBehind s start arrivals replies heard old found
+  -- the rows of where it leads
+  AtEnd : RowsFound found (end_of s start heard).queue (end_of s start heard).kept → IsLeftBehind s start arrivals replies heard old found
+  -- or those that one of its arrivals makes besides
+  Besides : IsMadeIn s start arrivals replies heard found → IsLeftBehind s start arrivals replies heard old found
+
+-- A run is done, and a crash behind it leaves such rows.
 abbrev pub StopsIn : Settings → Start → List Arrival → List Response → State → State → Type 0
-StopsIn s start arrivals replies old new = (ran : HasRun s start arrivals replies new) × MayMake old new (IsMadeIn s start arrivals ran.heard)
+StopsIn s start arrivals replies old new =
+    (ran : HasRun s start arrivals replies new) × ((found : Trees) → MayFind new found → IsLeftBehind s start arrivals replies ran.heard old found)

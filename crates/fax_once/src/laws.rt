@@ -1,10 +1,11 @@
 //! Laws of the definitions.
 //!
 //! Such a function changes nothing: its contract is the law. The statements stand in
-//! `specs/Laws.antt`.
+//! `specs/Laws.antt`, `Sessions.antt` and `Progress.antt`.
 
 ghost use Rattle.fax_once.specs.Laws.{AcceptedOnce, CopiesLeaveNoTrace, CountersAreCounts, HasVerdict, NoVerdictIsUnavailable, NumbersHaveOneReply, OneReading, OneRun, OneVerdict, RepeatsGetTheirReply, RunsAreSound, RunsKeepGrants, RunsSendOnce, RunsSplit, RunsThread, UntakenLeaveNoTrace};
 ghost use Rattle.fax_once.specs.Progress.{BusyModemsFindTheirs, FreeModemsAreServed, OpenGrantsCanEnd, WaitingJobsGetReady};
+ghost use Rattle.fax_once.specs.Sessions.{SessionsHaveOneList};
 ghost use Rattle.fax_once.specs.Stop.{OnlyAcceptedMakeRows};
 
 use crate::arrival::Arrival;
@@ -105,4 +106,12 @@ pub fn progress()
     ensures busy { BusyModemsFindTheirs }
     ensures open { OpenGrantsCanEnd }
     ensures waiting { WaitingJobsGetReady }
+{}
+
+/// However often the program is stopped or killed and started again, with whatever setup and controls each time, there is
+/// one list of accepted requests, and all that was answered and is kept is what the machine makes of it: no number of a
+/// client is in it twice, and who was answered 200 or 201 has the reply of its request there. So a request whose answer
+/// was lost or was 27 stands in the list, and gets its reply when it is sent again, or it left nothing.
+pub fn sessions()
+    ensures { SessionsHaveOneList }
 {}

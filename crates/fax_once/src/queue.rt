@@ -26,6 +26,7 @@ ghost use Rattle.fax_decide.specs.View.{view};
 ghost use Rattle.fax_once.specs.Arrival.{IsSender, said_of};
 ghost use Rattle.fax_once.specs.Queue.{From, Replies, settings, tables};
 ghost use Rattle.fax_once.specs.Reading.{post_of};
+ghost use Rattle.fax_once.specs.Sessions.{RunsAsSession};
 ghost use Rattle.fax_once.specs.Stop.{Stops, StopsBy, StopsIn};
 ghost use Rattle.fax_once.specs.Verdict.{Answers, Handles, IsUsed, LeavesBy, asked_above, asked_for, decided_new, given_by, is_too_high, new_asked, raised_ask};
 ghost use Rattle.fax_once.specs.declared.arrival.Arrival.{Arrival as ArrivalOf};
@@ -168,6 +169,11 @@ impl<S: Alter> Queue<S> {
             (record { queue = m; kept = k }) arrivals.now replies.items (tables S.Store self.new))) }
         ensures crash { From S.Store self.old (λ m k. HasCleanDisk (tables S.Store self.new)
             → IfOk result (λ replies. StopsIn (settings self.old)
+            (record { queue = m; kept = k }) arrivals.now replies.items (tables S.Store self.old)
+            (tables S.Store self.new))) }
+        // So it is one of the sessions of which `laws::sessions` tells, also where it was broken off.
+        ensures session { From S.Store self.old (λ m k. HasCleanDisk (tables S.Store self.new)
+            → IfOk result (λ replies. RunsAsSession (settings self.old)
             (record { queue = m; kept = k }) arrivals.now replies.items (tables S.Store self.old)
             (tables S.Store self.new))) }
     {

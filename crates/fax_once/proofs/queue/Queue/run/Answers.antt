@@ -1,17 +1,31 @@
-use Rattle.std.proofs.Common.{◌≡◌, ◌+◌, ◌<◌, ◌≤◌, arith, true, List, [], ◌∷◌, ◌++◌, length, take, if◌then◌else◌, sym, ap, subst, ◌∙◌, rules}
+use Rattle.std.proofs.Common.{◌≡◌, refl, ◌+◌, ◌<◌, ◌≤◌, arith, true, List, [], ◌∷◌, ◌++◌, length, take, if◌then◌else◌, sym, ap, subst, ◌∙◌, rules}
 use Rattle.std.proofs.lemmas.List.{take_all, take_more}
 use Rattle.std.specs.Result.{is_ok}
 use Rattle.sqlite.specs.Held.{state}
 use Rattle.fax_ask.specs.Response.{Response}
 use Rattle.fax_decide.specs.Settings.{settings_of}
 use Rattle.fax_decide.specs.declared.office.Office.{Office}
-use Rattle.fax_once.proofs.HandledLemmas.{run_sound, runs_on, runs_well, stops_on}
+use Rattle.fax_once.proofs.HandledLemmas.{run_sound, runs_on, runs_well, stops_at_first, stops_on}
+use Rattle.fax_once.proofs.SessionsLemmas.{runs_as_session}
 use Rattle.fax_once.proofs.queue.Queue.run.Goals as goal
 use Rattle.fax_once.specs.Laws.{HasRun}
 use Rattle.fax_once.specs.Stop.{Stops, StopsIn}
 use Rattle.fax_once.specs.Run.{Start, end_of}
 use Rattle.fax_once.specs.Verdict.{Handles}
 use Rattle.fax_once.specs.declared.arrival.Arrival.{Arrival}
+
+pub loop-arrival-init : goal.loop-arrival-init
+loop-arrival-init g c = record {
+  filled = c.in_ok-replies.ensures.len;
+  room = search rules;
+  office = refl;
+  clean = λ now. now;
+  ran = λ m k sound means clean.
+      let s = settings_of c.args.self.now.office.setup c.args.self.now.office.controls in
+      let start : Start = record { queue = m; kept = k } in
+      let store = state g.S.Store c.args.self.now.store.conn in
+      subst (λ (rs : List Response). StopsIn s start [] rs store store) (sym c.in_ok-replies.ensures.items) (stops_at_first s start store means);
+}
 
 pub loop-arrival-preserved : goal.loop-arrival-preserved
 loop-arrival-preserved g c =
@@ -41,7 +55,7 @@ loop-arrival-preserved g c =
           (c.handle-reply.ensures.crash here.queue here.kept here_sound before.0.means) in
           let on : StopsIn s start (front ++ c.arrival-item.result ∷ []) (replies ++ c.handle-reply.result ∷ []) initial new = (
             runs_on s start front replies c.arrival-item.result c.handle-reply.result old new before.0 handled,
-            stops_on s start front replies c.arrival-item.result c.handle-reply.result old new before.0 initial before.1 stops handled,
+            stops_on s start front replies c.arrival-item.result c.handle-reply.result old new before.0 initial before.1 stops handled c.handle-reply.ensures.alone,
           ) in
           let low : i < length c.args.arrivals.now = search rules in
           let seen : take (i + 1) c.args.arrivals.now ≡ front ++ c.arrival-item.result ∷ [] = take_more c.args.arrivals.now i c.arrival-item.result low ∙ ap (λ (a : Arrival). front ++ a ∷ []) (sym c.arrival-item.is) in
@@ -67,3 +81,10 @@ returns-clause-crash g c m k sound means clean =
     let store = state g.S.Store c.loop-arrival.self.store.conn in
     subst (λ (arrivals : List Arrival). StopsIn s start arrivals c.loop-arrival.replies.items (state g.S.Store c.args.self.now.store.conn) store)
     (take_all c.loop-arrival.arrival-index c.args.arrivals.now all) (c.loop-arrival.invariant.ran m k sound means clean)
+
+pub returns-clause-session : goal.returns-clause-session
+returns-clause-session g c m k sound means clean =
+    let s = settings_of c.args.self.now.office.setup c.args.self.now.office.controls in
+    let start : Start = record { queue = m; kept = k } in
+    runs_as_session s start c.args.arrivals.now c.loop-arrival.replies.items (state g.S.Store c.args.self.now.store.conn) (state g.S.Store c.loop-arrival.self.store.conn)
+    (returns-clause-crash g c m k sound means clean)

@@ -1,0 +1,92 @@
+-- Worked rows of sessions: a restart by another setup, and a session that was broken off. Of sessions and of what was heard the newest comes first.
+use Rattle.std.proofs.Common.{inl, inr}
+use Rattle.std.specs.Prelude.{◌≡◌, refl, ℕ, List, [], ◌∷◌, false, map, codes, Option, Some, None}
+use Rattle.std.specs.Str.{bytes_eq}
+use Rattle.fax_job.specs.declared.refusal.Refusal.TheVariants.{NoModem}
+use Rattle.fax_ask.specs.Response.{Response}
+use Rattle.fax_core.specs.declared.ask.Ask.TheVariants.{Next}
+use Rattle.fax_core.specs.Reply.{Given, Submitted}
+use Rattle.fax_core.specs.Settings.{Settings}
+use Rattle.fax_core.proofs.RowWords.{hand, settings, ttyS0, ttyS1}
+use Rattle.fax_once.proofs.RowsRuns.{accepted, desk, fax, lab, post, refused, start, submitted}
+use Rattle.fax_once.specs.Reading.{IsReading, Reading}
+use Rattle.fax_once.specs.Run.{Start, end_of, taken}
+use Rattle.fax_once.specs.Sessions.{Follow, Session}
+use Rattle.fax_once.specs.declared.arrival.Arrival.{Arrival}
+
+-- ---- words
+
+-- a setup in which one modem is gone
+abbrev other : Settings
+other = record settings { has_modem = λ modem. bytes_eq modem ttyS1 }
+
+abbrev session : Settings → List Arrival → List Response → Option Arrival → Session
+session s arrivals replies under_way = record { settings = s; arrivals = arrivals; replies = replies; under_way = under_way }
+
+-- a worker of the lab asks for work
+abbrev asks : List ℕ → Reading
+asks modem = post lab 1 (codes "next") 2000 (Next modem)
+
+-- the desk says the same again, later
+abbrev again : Reading
+again = post desk 1 (codes "a fax") 9000 fax
+
+-- ---- a restart by another setup
+
+-- the desk submits a fax
+abbrev day : Start
+day = end_of settings start (submitted ∷ [])
+
+-- and behind the restart work is asked for at both modems
+abbrev night : Start
+night = end_of other day (asks ttyS1 ∷ asks ttyS0 ∷ [])
+
+-- the second session begins from what the first left, and answers by its own setup
+restart_row : (a b c : Arrival) → IsReading a submitted → IsReading b (asks ttyS0) → IsReading c (asks ttyS1)
+    → Follow start
+    (session other (b ∷ c ∷ []) (refused NoModem ∷ accepted (Given (hand 1 1 (codes "5550111") 1 2)) ∷ []) None ∷ session settings (a ∷ []) (accepted (Submitted 1) ∷ []) None ∷ [])
+    night
+restart_row a b c says_fax says_old says_new = (
+  day,
+  (start, refl, record { heard = submitted ∷ []; answered = inr (submitted, says_fax, refl, refl); leaves = refl }),
+  record {
+    heard = asks ttyS1 ∷ asks ttyS0 ∷ [];
+    answered = inr (asks ttyS0, says_old, refl, inr (asks ttyS1, says_new, refl, refl));
+    leaves = refl;
+  },
+)
+
+-- what was taken of the second was fed under its own setup
+other_setup_row : map (λ f. f.settings.has_modem ttyS0) (taken other day (asks ttyS1 ∷ asks ttyS0 ∷ [])) ≡ false ∷ []
+other_setup_row = refl
+
+-- ---- a session that was broken off, with the fax under way
+
+abbrev broken : Arrival → Session
+broken a = session settings [] [] (Some a)
+
+-- it was taken, and the same again gets its reply, by the other setup
+taken_row : (a b : Arrival) → IsReading a submitted → IsReading b again
+    → Follow start (session other (b ∷ []) (accepted (Submitted 1) ∷ []) None ∷ broken a ∷ []) (end_of other day (again ∷ []))
+taken_row a b says_fax says_again = (
+  day,
+  (start, refl, record { heard = []; answered = refl; leaves = inr (submitted, says_fax, refl) }),
+  record { heard = again ∷ []; answered = inr (again, says_again, refl, refl); leaves = refl },
+)
+
+-- so it is one job, of the time before
+taken_once_row : (end_of other day (again ∷ [])).queue.clock ≡ 1000
+taken_once_row = refl
+
+-- or it was lost, and the same again is decided anew
+lost_row : (a b : Arrival) → IsReading b again
+    → Follow start (session other (b ∷ []) (accepted (Submitted 1) ∷ []) None ∷ broken a ∷ []) (end_of other start (again ∷ []))
+lost_row a b says_again = (
+  start,
+  (start, refl, record { heard = []; answered = refl; leaves = inl refl }),
+  record { heard = again ∷ []; answered = inr (again, says_again, refl, refl); leaves = refl },
+)
+
+-- so it is one job, of the time afterwards
+lost_once_row : (end_of other start (again ∷ [])).queue.clock ≡ 9000
+lost_once_row = refl
