@@ -8,7 +8,7 @@ use Rattle.fax_tables.specs.declared.fault.StoreFault.TheVariants.{Unavailable}
 use Rattle.fax_schema.specs.declared.statements.TheConstants.{SELECT_JOB}
 use Rattle.fax_tables.specs.Job.{IsLawfulJob, job_shown}
 use Rattle.fax_store.specs.Store.{FindsRow}
-use Rattle.fax_store.proofs.JobLemmas.{params, job_found}
+use Rattle.fax_store.proofs.JobLemmas.{params, job_found, no_job}
 use Rattle.fax_tables.proofs.KeyLemmas.{is_there, is_none, found_holds}
 use Rattle.fax_tables.proofs.ResultLemmas.{passes_on}
 use Rattle.fax_schema.proofs.StatementTexts.{select_job}
@@ -45,6 +45,13 @@ returns-in-None-clause-answers g c m k means s =
     let found : FindsRow SELECT_JOB.now (params c.args.job) old new c.in_ok-row.field-0 = subst (λ p. FindsRow SELECT_JOB.now p old new c.in_ok-row.field-0) (search rules) (c.in_ok-row.ensures.found s.clean) in
     let none = is_none (λ j. job_shown (fields_of j)) (job_numbered c.args.job m) (sym c.in-None.is ∙ job_found c.args.job old new m k means_now c.in_ok-row.field-0 found) in
     sym (ap (option_map fields_of) none)
+
+pub returns-in-None-clause-missing : goal.returns-in-None-clause-missing
+returns-in-None-clause-missing g c db ours now clean =
+    let old = state g.S.Store c.args.self.now.conn in
+    let new = state g.S.Store c.find.new.self.conn in
+    let found : FindsRow SELECT_JOB.now (params c.args.job) old new c.in_ok-row.field-0 = subst (λ p. FindsRow SELECT_JOB.now p old new c.in_ok-row.field-0) (search rules) (c.in_ok-row.ensures.found clean) in
+    no_job c.args.job old new db ours now (subst (FindsRow SELECT_JOB.now (params c.args.job) old new) c.in-None.is found)
 
 pub returns-in_err-job_in-in-Some-clause-leaves : goal.returns-in_err-job_in-in-Some-clause-leaves
 returns-in_err-job_in-in-Some-clause-leaves g c = finds_as g.S.Store _ _ _ _ c.in_ok-row.ensures.leaves
