@@ -1,6 +1,7 @@
 -- What the texts on grants read.
-use Rattle.std.proofs.Common.{◌≡◌, ℕ, List, [], ◌∷◌, Option, refl}
+use Rattle.std.proofs.Common.{◌≡◌, ℕ, List, [], ◌∷◌, Option, None, refl}
 use Rattle.std.specs.Option.{option_map}
+use Rattle.sqlite.specs.Effect.{Database}
 use Rattle.sqlite.specs.Order.{Row}
 use Rattle.sqlite.specs.State.{State}
 use Rattle.sqlite.proofs.Callers.{reads_as}
@@ -11,9 +12,12 @@ use Rattle.fax_schema.specs.declared.statements.TheConstants.{SELECT_GRANT}
 use Rattle.fax_tables.specs.Grant.{grant_shown}
 use Rattle.fax_tables.specs.Row.{number, grant_row}
 use Rattle.fax_schema.specs.Schema.{our_tables, grants_tree}
+use Rattle.fax_store.specs.Grant.{HasGrantRow}
 use Rattle.fax_store.specs.Store.{FindsRow}
 use Rattle.fax_tables.specs.Tables.{TablesMean}
-use Rattle.fax_schema.proofs.GrantTexts.{grant_tests, grant_project, select_grant}
+use Rattle.fax_schema.proofs.CompareLemmas.{number_same}
+use Rattle.fax_schema.proofs.GrantTexts.{grant_names, grant_tests, grant_project, select_grant}
+use Rattle.fax_store.proofs.FoundLemmas.{none_keyed}
 use Rattle.fax_tables.proofs.KeyLemmas.{numbered_found}
 use Rattle.fax_schema.proofs.SelectLemmas.{passes, show, answers}
 
@@ -28,3 +32,8 @@ module _ (n : ℕ) where
         numbered_found grant_row (λ (g : Grant). g.number) (λ g. refl) n (passes grants_tree grant_tests grant_project params) (λ r. refl) m.grants (old.now.trees grants_tree) h.0 means.grants means.ordered.grants.rise (show grants_tree grant_tests grant_project params)
         (answers grants_tree grant_tests grant_project params old.now (old.now.trees grants_tree) refl [] h.0 (reads_as SELECT_GRANT.now params old new our_tables means.schema _ select_grant.command select_grant.plain select_grant.unlisted h.0 h.1))
         found h.2
+
+  module _ (old new : State) (db : Database) (ours : db.schema ≡ our_tables) (now : old.now ≡ db) where
+    -- whatever the rows say, where none is found there is no grant of this number
+    pub no_grant : FindsRow SELECT_GRANT.now params old new None → ¬ HasGrantRow db n
+    no_grant = none_keyed SELECT_GRANT.now grants_tree grant_tests grant_project grant_names select_grant (λ trees. refl) params old new db ours now 0 (number n) (λ r. refl) (number_same n)

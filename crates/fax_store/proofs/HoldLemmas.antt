@@ -36,6 +36,7 @@ use Rattle.fax_schema.specs.declared.statements.TheConstants.{SELECT_HOLD}
 use Rattle.fax_tables.specs.Grant.{hold_shown}
 use Rattle.fax_tables.specs.Row.{hold_columns}
 use Rattle.fax_schema.specs.Schema.{our_tables, holds_tree}
+use Rattle.fax_store.specs.Grant.{HasHoldRow}
 use Rattle.fax_store.specs.Store.{FindsRow}
 use Rattle.fax_tables.specs.Tables.{TablesMean}
 use Rattle.fax_schema.specs.ByRowid.{IsByRowid}
@@ -44,6 +45,7 @@ use Rattle.fax_schema.proofs.CompareLemmas.{are_equal, compared, equal_texts}
 use Rattle.fax_schema.proofs.EditLemmas.{shown_one, none_shown}
 use Rattle.fax_schema.proofs.GrantTexts.{hold_tests, hold_project, select_hold}
 use Rattle.fax_schema.proofs.SelectLemmas.{passes, show, answers}
+use Rattle.fax_store.proofs.FoundLemmas.{none_keyed}
 
 -- ---- a modem stands in one row
 
@@ -158,3 +160,8 @@ module _ (modem : List ℕ) where
             let its = row_of hold_columns (old.now.trees holds_tree) (open_grants m) means.holds one.0 held.0 in
             let same = one_of_modem old.now means.schema means.sound means.ordered.holds modem its.0 shown.0 its.1 shown.1 (modem_of its.0 one.0 its.2 held.1) (modem_of shown.0 it.0 it.2 on) in
             ap Some (shown.3 ∙ shown_as shown.0 one.0 (ap (drop 1) same ∙ its.2)) ∙ sym (ap (option_map hold_shown) one.1)
+
+  module _ (old new : State) (db : Database) (ours : db.schema ≡ our_tables) (now : old.now ≡ db) where
+    -- whatever the rows say, where none is found no row has the modem
+    pub no_hold : FindsRow SELECT_HOLD.now params old new None → ¬ HasHoldRow db modem
+    no_hold = none_keyed SELECT_HOLD.now holds_tree hold_tests hold_project _ select_hold (λ trees. refl) params old new db ours now 1 (Text modem) (λ r. refl) (equal_texts modem modem ∙ (bytes_eq-Decides modem modem).1 refl)

@@ -1,8 +1,9 @@
 -- What the texts on jobs read and write.
-use Rattle.std.proofs.Common.{◌≡◌, ℕ, zero, suc, pos, ◌+◌, ◌-◌, ◌≤◌, List, [], ◌∷◌, ◌++◌, map, arith, false, Option, Err, refl, sym, ap, ap₂, subst, ◌∙◌}
+use Rattle.std.proofs.Common.{◌≡◌, ℕ, zero, suc, pos, ◌+◌, ◌-◌, ◌≤◌, List, [], ◌∷◌, ◌++◌, map, arith, false, Option, None, Err, refl, sym, ap, ap₂, subst, ◌∙◌}
 use Rattle.std.specs.Option.{option_map}
 use Rattle.std.specs.List.{range_with_len}
 use Rattle.std.proofs.lemmas.List.FromFn.{length-range_with_len}
+use Rattle.sqlite.specs.Effect.{Database}
 use Rattle.sqlite.specs.Order.{Row}
 use Rattle.sqlite.specs.State.{State, Executes}
 use Rattle.sqlite.specs.Tree.{put_row}
@@ -22,11 +23,11 @@ use Rattle.fax_schema.specs.Schema.{our_tables, jobs_tree}
 use Rattle.fax_tables.specs.Place.{placed}
 use Rattle.fax_tables.specs.Row.{number, job_row}
 use Rattle.fax_tables.specs.Job.{IsFormed, IsLawfulJob, brief_shown, job_shown}
-use Rattle.fax_store.specs.Job.{IsNewJob, with_placed}
+use Rattle.fax_store.specs.Job.{HasJobRow, IsNewJob, with_placed}
 use Rattle.fax_tables.specs.Tables.{TablesMean}
 use Rattle.fax_schema.specs.ByRowid.{IsByRowid}
 use Rattle.fax_store.specs.Store.{FindsRow, HasRun}
-use Rattle.fax_schema.proofs.CompareLemmas.{same_row, cast_int, cast_null}
+use Rattle.fax_schema.proofs.CompareLemmas.{same_row, cast_int, cast_null, number_same}
 use Rattle.fax_tables.proofs.FreeLemmas.{free_row, untaken}
 use Rattle.fax_tables.proofs.RefusalLemmas.{no_rule_broken}
 use Rattle.fax_tables.proofs.StandLemmas.{job_may}
@@ -36,6 +37,7 @@ use Rattle.sqlite.specs.declared.error.Error.{Error}
 use Rattle.fax_tables.proofs.KeyLemmas.{numbered_found, free_of, row_placed, all_placed}
 use Rattle.fax_tables.proofs.TablesLemmas.{AreRecords, row_of, parts_of, means_of, calls_as, calls_of, jobs_changed, by_rowid_put}
 use Rattle.fax_store.proofs.CountLemmas.{calls_placed, jobs_placed}
+use Rattle.fax_store.proofs.FoundLemmas.{none_keyed}
 use Rattle.fax_tables.proofs.RowLemmas.{sent_low}
 use Rattle.fax_schema.proofs.WriteLemmas.{KeepsOthers, InsertsRow, unreferred, inserts}
 use Rattle.fax_schema.proofs.SelectLemmas.{passes, show, answers}
@@ -63,6 +65,19 @@ module _ (n : ℕ) where
     -- what the text on a job in brief finds is the job of this number, in brief, or nothing
     pub brief_found : (found : Option Row) → FindsRow SELECT_BRIEF.now params old new found → found ≡ option_map (λ j. brief_shown (fields_of j)) (job_numbered n m)
     brief_found = row_found SELECT_BRIEF.now brief_project brief_names select_brief
+
+  module _ (old new : State) (db : Database) (ours : db.schema ≡ our_tables) (now : old.now ≡ db) where
+    -- whatever the rows say, where none is found there is no job of this number
+    none_found : (sql : List ℕ) (project : List Term) (names : List (List ℕ)) → Selects sql jobs_tree job_tests project names → FindsRow sql params old new None → ¬ HasJobRow db n
+    none_found sql project names selects = none_keyed sql jobs_tree job_tests project names selects (λ trees. refl) params old new db ours now 0 (number n) (λ r. refl) (number_same n)
+
+    -- so says the text on a job
+    pub no_job : FindsRow SELECT_JOB.now params old new None → ¬ HasJobRow db n
+    no_job = none_found SELECT_JOB.now job_project job_names select_job
+
+    -- and the text on a job in brief
+    pub no_brief : FindsRow SELECT_BRIEF.now params old new None → ¬ HasJobRow db n
+    no_brief = none_found SELECT_BRIEF.now brief_project brief_names select_brief
 
 -- ---- one more row
 

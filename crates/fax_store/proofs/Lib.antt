@@ -7,6 +7,7 @@ pub mod StopLemmas
 pub mod MetaLemmas
 pub mod WorkLemmas
 pub mod FrameLemmas
+pub mod FoundLemmas
 pub mod KeptLemmas
 pub mod RepliesLemmas
 pub mod JobLemmas

@@ -30,6 +30,7 @@ use Rattle.sqlite.specs.declared.error.Error.{Error}
 use Rattle.sqlite_schema.specs.Rules.{agree}
 use Rattle.sqlite_value.specs.Keys.{first_key, plain}
 use Rattle.fax_schema.proofs.SelectLemmas.{passes, show, answers}
+use Rattle.fax_store.proofs.FoundLemmas.{none_passes}
 use Rattle.fax_store.proofs.KeptLemmas.{row_of}
 use Rattle.fax_schema.proofs.StatementTexts.{reply_tests, reply_project, reply_terms, select_reply, insert_reply}
 use Rattle.fax_schema.proofs.WriteLemmas.{KeepsOthers, InsertsRow, unreferred, inserts}
@@ -112,10 +113,7 @@ module _ (client : List ℕ) (n : ℕ) where
   -- so where none is found there is no such row
   pub none_found : (old new : State) (db : Database) → db.schema ≡ our_tables → old.now ≡ db → FindsRow SELECT_REPLY.now params old new None → ¬ HasReply db client n
   none_found old new db six now h row =
-      let same : IsPermutation (map (show replies_tree reply_tests reply_project params) (filter (passes replies_tree reply_tests reply_project params) (old.now.trees replies_tree))) h.0 =
-      answers replies_tree reply_tests reply_project params old.now (old.now.trees replies_tree) refl [] h.0 (reads_as SELECT_REPLY.now params old new our_tables (ap (λ (d : Database). d.schema) now ∙ six) _ select_reply.command select_reply.plain select_reply.unlisted h.0 h.1) in
-      let there = subst (λ (d : Database). Has (d.trees replies_tree) (row.id ∷ Text client ∷ number n ∷ row.said ∷ row.status ∷ row.body ∷ [])) (sym now) row.has in
-      both_ways _ (none_shown is_asked (show replies_tree reply_tests reply_project params) (old.now.trees replies_tree) h.0 same h.2 _ there) (key_passes row.id row.said row.status row.body)
+      both_ways _ (none_passes SELECT_REPLY.now replies_tree reply_tests reply_project _ select_reply (λ trees. refl) params old new db six now h _ row.has) (key_passes row.id row.said row.status row.body)
 
 -- an entry among lawful ones is lawful
 pub lawful_of : (k : List Entry) (e : Entry) → All IsLawfulEntry k → Has k e → IsLawfulEntry e

@@ -1,10 +1,12 @@
 -- What a call leaves of a store, and of a work on it.
-use Rattle.std.specs.Prelude.{◌≡◌, false, List, OnOk, Err, Result, is_err, IsTrue}
+use Rattle.std.specs.Prelude.{◌≡◌, false, List, IfOk, OnOk, Err, Result, is_err, IsTrue}
+use Rattle.sqlite.specs.Effect.{Database}
 use Rattle.sqlite.specs.Held.{state}
 use Rattle.sqlite.specs.State.{State, HasCleanDisk}
 use Rattle.sqlite_trees.specs.declared.store.Store.{Ghosts}
 use Rattle.fax_core.specs.Ledger.{Ledger}
 use Rattle.fax_core.specs.Queue.{Queue}
+use Rattle.fax_schema.specs.Schema.{our_tables}
 use Rattle.fax_store.specs.Store.{CommitsNothing, HasTables, MeansNow, Reads, Serves, Stays}
 use Rattle.fax_store.specs.Work.{AnswersIn, Changes, ChangesWhere, Holds, IsOnlyUnavailable, Keeps, Withholds}
 use Rattle.fax_store.specs.declared.store.Store.{Store}
@@ -42,6 +44,10 @@ module _ {S : Type 0} (g : Ghosts S) where
   -- Of tables that mean a queue and kept replies the answer is one of which this holds, unless the store was unavailable.
   abbrev pub Answers : {A : Type 0} → Store S → Store S → Result A StoreFault → (Queue → Ledger → A → Type 0) → Type 0
   Answers old new result P = (m : Queue) (k : Ledger) → MeansNow (shown old) m k → Serves (shown new) → OrUnavailable result (P m k)
+
+  -- Whatever the rows of the eight tables say, the answer is one of which this holds of them.
+  abbrev pub AnswersRows : {A : Type 0} → Store S → Store S → Result A StoreFault → (Database → A → Type 0) → Type 0
+  AnswersRows old new result P = (db : Database) → db.schema ≡ our_tables → (shown old).now ≡ db → HasCleanDisk (shown new) → IfOk result (P db)
 
   -- The call changes rows within a work, and commits nothing.
   pub record Runs {A : Type 0} (old new : Store S) (result : Result A StoreFault) : Type 0 where

@@ -1,8 +1,9 @@
 -- What is made of the grants of a queue.
-use Rattle.std.specs.Prelude.{◌≡◌, ◌≢◌, ℕ, ◌+◌, true, false, List, Option, Some, None, IsTrue, if◌then◌else◌}
+use Rattle.std.specs.Prelude.{◌≡◌, ◌≢◌, ℕ, ◌+◌, true, false, List, [], ◌∷◌, Option, Some, None, IsTrue, if◌then◌else◌}
 use Rattle.std.specs.Str.{bytes_eq}
-use Rattle.sqlite.specs.Effect.{IsDatabase}
+use Rattle.sqlite.specs.Effect.{Database, IsDatabase}
 use Rattle.sqlite.specs.State.{State}
+use Rattle.sqlite.specs.declared.types.Value.TheVariants.{Text}
 use Rattle.sqlite_catalog.specs.Change.{KeepsRows}
 use Rattle.sqlite_rules.specs.Lists.{Has}
 use Rattle.fax_core.specs.Machine.{held_by, with_grant}
@@ -10,9 +11,10 @@ use Rattle.fax_core.specs.Job.{Job}
 use Rattle.fax_core.specs.Queue.{Queue, grant_numbered, job_numbered, open_grants}
 use Rattle.fax_core.specs.declared.grants.Grant.{Grant}
 use Rattle.fax_tables.specs.Place.{placed}
-use Rattle.fax_schema.specs.Schema.{calls_tree, our_tables, core_tables}
+use Rattle.fax_tables.specs.Row.{number}
+use Rattle.fax_schema.specs.Schema.{calls_tree, grants_tree, holds_tree, our_tables, core_tables}
 use Rattle.fax_tables.specs.Tables.{AreCalls, GoesOn}
-use Rattle.fax_store.specs.Store.{HasTables}
+use Rattle.fax_store.specs.Store.{HasRow, HasTables}
 
 -- the queue with one more grant
 abbrev pub with_placed : Grant → Queue → Queue
@@ -82,3 +84,13 @@ pub record HasCalls (s : State) (count : List ℕ → ℕ) : Type 0 where
   pub tables : HasTables s
   pub sound : IsDatabase s.now
   pub calls : AreCalls count (s.now.trees calls_tree)
+
+-- ---- the rows, whatever they say
+
+-- a row of grants has this number
+abbrev pub HasGrantRow : Database → ℕ → Type 0
+HasGrantRow db n = HasRow db grants_tree (0 ∷ []) (number n ∷ [])
+
+-- a row of holds has this modem
+abbrev pub HasHoldRow : Database → List ℕ → Type 0
+HasHoldRow db modem = HasRow db holds_tree (1 ∷ []) (Text modem ∷ [])

@@ -1,6 +1,7 @@
 -- What is made of the jobs of a queue, and which of them wait.
-use Rattle.std.specs.Prelude.{◌≡◌, ℕ, List, [], ◌+◌, ◌==◌, ◌&&◌, map, filter, Option, Some, None, if◌then◌else◌}
+use Rattle.std.specs.Prelude.{◌≡◌, ℕ, List, [], ◌∷◌, ◌+◌, ◌==◌, ◌&&◌, map, filter, Option, Some, None, if◌then◌else◌}
 use Rattle.std.specs.List.Sorted.{IsPermutation, IsSortedBy}
+use Rattle.sqlite.specs.Effect.{Database}
 use Rattle.fax_core.specs.Job.{Job, fields_of}
 use Rattle.fax_core.specs.Ageing.{aged_job, is_past}
 use Rattle.fax_core.specs.Best.{better}
@@ -12,8 +13,10 @@ use Rattle.fax_job.specs.Status.{kill_time_expired}
 use Rattle.fax_job.specs.declared.job.JobFields.{JobFields}
 use Rattle.fax_job.specs.declared.job.Phase.{Phase}
 use Rattle.fax_job.specs.declared.job.Phase.TheVariants.{Failed}
+use Rattle.fax_schema.specs.Schema.{jobs_tree}
+use Rattle.fax_store.specs.Store.{HasRow}
 use Rattle.fax_tables.specs.Place.{placed}
-use Rattle.fax_tables.specs.Row.{phase_number}
+use Rattle.fax_tables.specs.Row.{number, phase_number}
 
 -- the queue with one more job
 abbrev pub with_placed : Job → Queue → Queue
@@ -69,3 +72,9 @@ pub record AreWaiting (t : ℕ) (m : Queue) (jobs : List Job) : Type 0 where
 -- the records of these
 abbrev pub IsWaiting : ℕ → Queue → List JobFields → Type 0
 IsWaiting t m found = (jobs : List Job) × (found ≡ map fields_of jobs) × AreWaiting t m jobs
+
+-- ---- the rows, whatever they say
+
+-- a row of jobs has this number
+abbrev pub HasJobRow : Database → ℕ → Type 0
+HasJobRow db n = HasRow db jobs_tree (0 ∷ []) (number n ∷ [])

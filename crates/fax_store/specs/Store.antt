@@ -1,11 +1,11 @@
 -- What a store shows.
-use Rattle.std.specs.Prelude.{◌≡◌, ◌⊎◌, ⊤, ℕ, false, List, [], Option, None, Ok, Err, Result, MatchResult, MatchOption, IsTrue}
+use Rattle.std.specs.Prelude.{◌≡◌, ◌⊎◌, ⊤, ℕ, false, List, [], map, Option, None, Ok, Err, Result, MatchResult, MatchOption, IsTrue}
 use Rattle.sqlite.specs.Command.{Command}
 use Rattle.sqlite.specs.Command.TheVariants.{Insert, Update, Delete}
 use Rattle.sqlite.specs.Effect.{Database}
 use Rattle.sqlite.specs.Given.{IsPlain}
 use Rattle.sqlite.specs.Listing.{understood}
-use Rattle.sqlite.specs.Order.{Row}
+use Rattle.sqlite.specs.Order.{Row, column}
 use Rattle.sqlite.specs.State.{State, HasCleanDisk, IsUnchanged, IsRolledBack, Shown, Executes}
 use Rattle.sqlite_resolve.specs.declared.compiled.Compiled.{Compiled}
 use Rattle.sqlite_resolve.specs.declared.error.CompileError.{CompileError}
@@ -40,6 +40,12 @@ pub record HasRows (s : State) (db : Database) : Type 0 where
 -- the store has these rows, as long as it serves
 abbrev pub Rests : State → Database → Type 0
 Rests s db = Serves s → HasRows s db
+
+-- a row of the table has these values in these places, whatever stands beside them
+pub record HasRow (db : Database) (tree : ℕ) (places : List ℕ) (values : Row) : Type 0 where
+  pub row : Row
+  pub has : Has (db.trees tree) row
+  pub is : map (column row) places ≡ values
 
 -- the rows of the seven tables stay as they are, whatever they say
 abbrev pub Stays : State → State → Type 0

@@ -1,6 +1,6 @@
 //! The grants, and what modems and jobs hold of those that are open.
 
-ghost use Rattle.std.specs.Prelude.{◌≡◌, ◌<◌, ◌≤◌, ◌+◌, ◌-◌, ◌^◌, ⊤, ℕ, List, false, Err, IfErr, IfOk, IfSome, is_err, OnErr, OnOk};
+ghost use Rattle.std.specs.Prelude.{◌≡◌, ◌<◌, ◌≤◌, ◌+◌, ◌-◌, ◌^◌, ⊤, ℕ, List, false, Err, IfErr, IfNone, IfOk, IfSome, is_err, OnErr, OnOk};
 ghost use Rattle.std.specs.Option.{option_map};
 ghost use Rattle.sqlite.specs.State.{HasCleanDisk, KeepsCommit};
 ghost use Rattle.fax_core.specs.Machine.{held_by, with_grant};
@@ -8,8 +8,8 @@ ghost use Rattle.fax_core.specs.Ledger.{Ledger};
 ghost use Rattle.fax_core.specs.Queue.{Queue, grant_numbered};
 ghost use Rattle.fax_core.specs.State.{calls_to};
 ghost use Rattle.fax_job.specs.Limits.{most_pages};
-ghost use Rattle.fax_store.specs.Calls.{Answers, Calls, FailsOnly, Finds, Makes, MakesWhere, Runs, Tells, shown};
-ghost use Rattle.fax_store.specs.Grant.{HasCalls, IsCalled, IsHeld, IsHeldBy, IsNewGrant, IsReport, SetsCalls, with_count, with_placed, with_one_more_grant, with_closed};
+ghost use Rattle.fax_store.specs.Calls.{Answers, AnswersRows, Calls, FailsOnly, Finds, Makes, MakesWhere, Runs, Tells, shown};
+ghost use Rattle.fax_store.specs.Grant.{HasCalls, HasGrantRow, HasHoldRow, IsCalled, IsHeld, IsHeldBy, IsNewGrant, IsReport, SetsCalls, with_count, with_placed, with_one_more_grant, with_closed};
 ghost use Rattle.fax_store.specs.Meta.{IsGrantLeft};
 ghost use Rattle.fax_store.specs.Store.{Serves, HasTables};
 ghost use Rattle.fax_store.specs.Work.{Works, IsOnlyUnavailable, Moves, Steps};
@@ -42,6 +42,8 @@ impl<S: Alter> Store<S> {
         ensures leaves { Finds S.Store self.old self.new result }
         ensures answers { Answers S.Store self.old self.new result (λ m k found. found ≡ option_map as_hold
             (held_by modem.now m)) }
+        ensures missing { AnswersRows S.Store self.old self.new result (λ db found. IfNone found
+            (¬ HasHoldRow db modem.now)) }
         ensures lawful { IfOk result (λ found. IfSome found IsLawfulHold) }
     {
         match self.find(SELECT_HOLD, params![modem])? {
@@ -58,6 +60,8 @@ impl<S: Alter> Store<S> {
     pub fn grant(&mut self, number: u32) -> Result<Option<Grant>, StoreFault>
         ensures leaves { Finds S.Store self.old self.new result }
         ensures answers { Answers S.Store self.old self.new result (λ m k found. found ≡ grant_numbered number m) }
+        ensures missing { AnswersRows S.Store self.old self.new result (λ db found. IfNone found
+            (¬ HasGrantRow db number)) }
         ensures lawful { IfOk result (λ found. IfSome found IsWithinLimits) }
     {
         match self.find(SELECT_GRANT, params![number])? {

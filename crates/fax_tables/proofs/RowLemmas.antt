@@ -1,6 +1,7 @@
 -- What a row of a job's columns has in each place.
-use Rattle.std.proofs.Common.{◌≡◌, ℕ, [], ◌∷◌, ◌++◌, unwrap_or, ◌<◌, ◌≤◌, ◌^◌, true, ◌&&◌, if◌then◌else◌, List, Option, Some, None, length, length-append, leb, refl, sym, ap, subst, ◌∙◌, arith}
+use Rattle.std.proofs.Common.{◌≡◌, ℕ, suc, [], ◌∷◌, ◌++◌, map, take, drop, get_or, unwrap_or, ◌+◌, ◌<◌, ◌≤◌, ◌^◌, Bool, true, false, ◌&&◌, if◌then◌else◌, List, Option, Some, None, length, length-append, leb, refl, sym, ap, ap₂, subst, add-one, drop-cons, ◌∙◌, arith}
 use Rattle.std.proofs.lemmas.Bool.{and_parts, leb-true}
+use Rattle.std.proofs.lemmas.List.{map-append, take_more}
 use Rattle.std.proofs.lemmas.Option.{none-some, same_Some}
 use Rattle.sqlite.specs.Order.{Row, column}
 use Rattle.sqlite.specs.declared.types.Value.{Value}
@@ -11,9 +12,9 @@ use Rattle.fax_job.specs.declared.job.Phase.{Phase}
 use Rattle.fax_job.specs.declared.job.Wish.{Wish}
 use Rattle.fax_tables.specs.Job.{brief, brief_shown, job_shown, prospect}
 use Rattle.fax_tables.specs.declared.prospect.Prospect.{Prospect}
-use Rattle.fax_tables.specs.Row.{HasValue, HasNumber, number, phase_number, wish_number}
+use Rattle.fax_tables.specs.Row.{HasValue, HasValues, HasNumber, number, phase_number, wish_number}
 use Rattle.fax_job.specs.Spelling.{printed}
-use Rattle.sqlite.specs.declared.types.Value.TheVariants.{Text}
+use Rattle.sqlite.specs.declared.types.Value.TheVariants.{Null, Text}
 
 -- a row that is this one has the value of this one in its place
 pub has_value : (row shown : Row) (at : ℕ) (v : Value) → row ≡ shown → at < length shown → column shown at ≡ v → HasValue row at v
@@ -22,6 +23,27 @@ has_value row shown at v is within there = record { within = subst (λ r. at < l
 -- the same of a number
 pub has_number : (row shown : Row) (at n : ℕ) → row ≡ shown → at < length shown → column shown at ≡ number n → HasNumber row at n
 has_number row shown at n is within there = has_value row shown at (number n) is within there
+
+-- values that stand one behind the other are what is left of the row there, as far as they go
+pub first_from : (row values : Row) (at : ℕ) → HasValues row at values → take (length values) (drop at row) ≡ values
+first_from row [] at has = refl
+first_from row (value ∷ values) at has =
+    ap (take (suc (length values))) (drop-cons row at Null has.0.within)
+    ∙ ap₂ ◌∷◌ has.0.is (first_from row values (suc at) (subst (λ i. HasValues row i values) (add-one at) has.1))
+
+-- values that stand one behind the other, and one more
+pub one_more_value : (row values : Row) (at : ℕ) (value : Value) → HasValues row at values → HasValue row (at + length values) value → HasValues row at (values ++ value ∷ [])
+one_more_value row [] at value has last = let e : at + 0 ≡ at = omega arith in (subst (λ i. HasValue row i value) e last, tt)
+one_more_value row (first ∷ values) at value has last =
+    let e : at + suc (length values) ≡ (at + 1) + length values = omega arith in
+    (has.0, one_more_value row values (at + 1) value has.1 (subst (λ i. HasValue row i value) e last))
+
+-- rows that begin with what elements show, and one more
+pub one_more_row : {X : Type 0} (n : ℕ) (shown : X → Row) (rows : List Row) (i : ℕ) (row : Row) (xs : List X) (x : X) → i < length rows → row ≡ get_or rows i row
+    → map (take n) (take i rows) ≡ map shown xs → take n row ≡ shown x → map (take n) (take (i + 1) rows) ≡ map shown (xs ++ x ∷ [])
+one_more_row n shown rows i row xs x low is before here =
+    ap (map (take n)) (take_more rows i row low ∙ ap (λ (r : Row). take i rows ++ r ∷ []) (sym is)) ∙ map-append (take n) (take i rows) (row ∷ [])
+    ∙ ap₂ (λ front (r : Row). front ++ r ∷ []) before here ∙ sym (map-append shown xs (x ∷ []))
 
 -- the same of a row that begins with all columns of a job but its extra lines
 pub brief_value : (row : Row) (job : JobFields) (behind : Row) (at : ℕ) (v : Value) → row ≡ brief_shown job ++ behind → at < 19 → column (brief_shown job ++ behind) at ≡ v → HasValue row at v
@@ -35,9 +57,13 @@ brief_number row job behind at n is low there = brief_value row job behind at (n
 pub brief_lawful : (job : JobFields) → IsLawful job → IsLawful (brief job)
 brief_lawful job h = ap (λ b. b && true) (and_parts _ _ h).0
 
--- what is made of fields that are those of a lawful job
-pub made : (f g : JobFields) (r : Option JobFields) (j : JobFields) → r ≡ (if is_lawful f then Some f else None) → f ≡ g → IsLawful g → r ≡ Some j → j ≡ g
-made f g r j new same lawful is = let yes : is_lawful f ≡ true = ap is_lawful same ∙ lawful in let some : Some j ≡ Some f = sym is ∙ new ∙ ap (λ b. if b then Some f else None) yes in same_Some j f some ∙ same
+-- what is made of fields has them
+pub made : (f : JobFields) (r : Option JobFields) (j : JobFields) → r ≡ (if is_lawful f then Some f else None) → r ≡ Some j → j ≡ f
+made f r j new is = by (is_lawful f) (sym is ∙ new)
+  where
+    by : (b : Bool) → Some j ≡ (if b then Some f else None) → j ≡ f
+    by true h = same_Some j f h
+    by false h = absurd cc
 
 -- fields of a lawful job are a job
 pub not_none : (f g : JobFields) (r : Option JobFields) → r ≡ (if is_lawful f then Some f else None) → f ≡ g → IsLawful g → r ≡ None → ⊥

@@ -1,5 +1,5 @@
 -- Texts that are read back as they were written.
-use Rattle.std.proofs.Common.{◌≡◌, ℕ, Bool, true, false, not, ◌&&◌, leb, List, [], ◌∷◌, length, filter, Result, Ok, Err, IsTrue, refl, ap, arith, inl, inr, zero, suc, ◌<◌}
+use Rattle.std.proofs.Common.{◌≡◌, ℕ, Bool, true, false, not, ◌&&◌, leb, List, [], ◌∷◌, length, filter, Result, Ok, Err, IsTrue, if◌then◌else◌, refl, ap, arith, inl, inr, zero, suc, ◌<◌}
 use Rattle.std.specs.Prelude.{⊤}
 use Rattle.std.specs.Bool.{MatchBool}
 use Rattle.std.proofs.lemmas.Bool.{and_parts, cases_Bool}
@@ -48,6 +48,11 @@ canonical_stays (b ∷ bs) h = elim (cases_Bool (b == 43)) [
 -- a canonical number is what it spells
 pub dial_kept : (text : List ℕ) → IsCanonical text → dial_of text ≡ Ok text
 dial_kept text h = rw (canonical_stays text h, h) refl
+
+-- what is given of a text where it passes a test is the text
+pub given_same : {E : Type 0} (passes : Bool) (text found : List ℕ) (fault : E) → ◌≡◌ {A = Result (List ℕ) E} (if passes then Ok text else Err fault) (Ok found) → found ≡ text
+given_same true text found fault h = cc
+given_same false text found fault h = absurd (let no = h in cc)
 
 -- a name is ASCII
 name_byte_small : (b : ℕ) → is_name_byte b ≡ true → b < 128

@@ -12,8 +12,12 @@ abbrev pub as_hold : Grant → Hold
 as_hold g = record { grant = g.number; job = g.job }
 
 -- the row of a query for a hold
+abbrev pub held_shown : Hold → Row
+held_shown h = number h.grant ∷ number h.job ∷ []
+
+-- the same of a grant's
 abbrev pub hold_shown : Grant → Row
-hold_shown g = number g.number ∷ number g.job ∷ []
+hold_shown g = held_shown (as_hold g)
 
 -- the row of a query for a grant
 abbrev pub grant_shown : Grant → Row

@@ -57,5 +57,8 @@ job_shown job = brief_shown job ++ Text (printed job.extra) ∷ []
 abbrev pub prospect : JobFields → Prospect
 prospect job = record { job = job.job; dial = job.dial; modem = job.modem; priority = job.priority; tts = job.tts }
 
+abbrev pub asked_shown : Prospect → Row
+asked_shown p = number p.job ∷ Text p.dial ∷ Text p.modem ∷ number p.priority ∷ number p.tts ∷ []
+
 abbrev pub prospect_shown : JobFields → Row
-prospect_shown job = number job.job ∷ Text job.dial ∷ Text job.modem ∷ number job.priority ∷ number job.tts ∷ []
+prospect_shown job = asked_shown (prospect job)

@@ -12,6 +12,10 @@ pub record Tells (kept : Kept) (e : Entry) : Type 0 where
   pub status : kept.status ≡ e.status
   pub body : kept.body.items ≡ e.body
 
+-- the row of a query for a kept reply
+abbrev pub kept_shown : Kept → Row
+kept_shown kept = Blob kept.said.items ∷ number kept.status ∷ Blob kept.body.items ∷ []
+
 -- the row of a query for an entry
 abbrev pub entry_shown : Entry → Row
 entry_shown e = Blob e.said ∷ number e.status ∷ Blob e.body ∷ []

@@ -10,8 +10,12 @@ abbrev pub meta_of : Queue → Meta
 meta_of m = record { clock = m.clock; next_job = m.next_job; next_grant = m.next_grant }
 
 -- the row of a query for these
+abbrev pub numbers_shown : Meta → Row
+numbers_shown meta = number meta.clock ∷ number meta.next_job ∷ number meta.next_grant ∷ []
+
+-- the same of a queue's
 abbrev pub meta_shown : Queue → Row
-meta_shown m = number m.clock ∷ number m.next_job ∷ number m.next_grant ∷ []
+meta_shown m = numbers_shown (meta_of m)
 
 -- the queue with these
 abbrev pub with_meta : Meta → Queue → Queue

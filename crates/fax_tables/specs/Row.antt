@@ -1,5 +1,5 @@
 -- How records stand in rows. A row is its rowid and then its columns, where the column that is the rowid is NULL.
-use Rattle.std.specs.Prelude.{◌≡◌, ℕ, ◌<◌, pos, List, [], ◌∷◌, ◌++◌, length, Option, Some, None, unwrap_or, if◌then◌else◌}
+use Rattle.std.specs.Prelude.{◌≡◌, ⊤, ℕ, ◌+◌, ◌<◌, pos, List, [], ◌∷◌, ◌++◌, length, Option, Some, None, unwrap_or, if◌then◌else◌}
 use Rattle.sqlite.specs.Order.{Row, column}
 use Rattle.sqlite.specs.declared.types.Value.{Value}
 use Rattle.sqlite.specs.declared.types.Value.TheVariants.{Null, Int, Text, Blob}
@@ -25,6 +25,11 @@ pub record HasValue (row : Row) (at : ℕ) (value : Value) : Type 0 where
 -- the row has this number in this place
 abbrev pub HasNumber : Row → ℕ → ℕ → Type 0
 HasNumber row at n = HasValue row at (number n)
+
+-- the row has these values, one behind the other, from this place on
+abbrev pub HasValues : Row → ℕ → List Value → Type 0
+HasValues row at [] = ⊤
+HasValues row at (value ∷ values) = HasValue row at value × HasValues row (at + 1) values
 
 abbrev pub phase_number : Phase → ℕ
 phase_number Held = 0

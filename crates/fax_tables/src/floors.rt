@@ -2,7 +2,7 @@
 
 ghost use Rattle.std.specs.Prelude.{◌≡◌, ℕ, ◌<◌, ◌^◌, [], ◌∷◌, pos, IfOk};
 ghost use Rattle.fax_tables.specs.Fault.{OrUnavailable};
-ghost use Rattle.fax_tables.specs.Row.{number};
+ghost use Rattle.fax_tables.specs.Row.{HasNumber, number};
 
 use crate::fault::StoreFault;
 use crate::row::value_at;
@@ -14,6 +14,7 @@ const PAST_NUMBERS: u64 = 1_000_000_000_000_000_000;
 /// The floor in a row of it: below one above the greatest request number.
 pub fn floor_in(row: &Row) -> Result<u64, StoreFault>
     ensures found { (n : ℕ) → row.now ≡ number n ∷ [] → n < 10 ^ 18 → OrUnavailable result (λ floor. floor ≡ n) }
+    ensures stands { IfOk result (HasNumber row.now 0) }
     ensures lawful { IfOk result (λ floor. floor < 10 ^ 18) }
 {
     let value: i64 = value_at(row, 0)?;

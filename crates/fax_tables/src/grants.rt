@@ -1,11 +1,11 @@
 //! The grants in rows, and what modems and jobs hold of those that are open.
 
-ghost use Rattle.std.specs.Prelude.{◌≡◌, ◌<◌, ◌^◌, ℕ, [], ◌∷◌, Option, IfOk, IsTrue};
+ghost use Rattle.std.specs.Prelude.{◌≡◌, ◌<◌, ◌^◌, ℕ, [], ◌∷◌, Option, IfOk, IsTrue, if◌then◌else◌};
 ghost use Rattle.fax_core.specs.declared.grants.Grant.{Grant as Granted};
 ghost use Rattle.fax_job.specs.declared.job.Call.{Call as HowItWent};
 ghost use Rattle.fax_tables.specs.Fault.{OrUnavailable};
-ghost use Rattle.fax_tables.specs.Grant.{as_hold, hold_shown, grant_shown, IsWithinLimits, IsLawfulHold, IsOpenGrant};
-ghost use Rattle.fax_tables.specs.Row.{HasNumber, call_number, number, shut_number};
+ghost use Rattle.fax_tables.specs.Grant.{as_hold, held_shown, hold_shown, grant_shown, IsWithinLimits, IsLawfulHold, IsOpenGrant};
+ghost use Rattle.fax_tables.specs.Row.{HasNumber, HasValues, call_number, number, shut_number};
 ghost use Rattle.fax_tables.specs.Tables.{IsLawfulGrant};
 
 use crate::fault::StoreFault;
@@ -64,8 +64,9 @@ pub fn is_open_grant(grant: &Grant) -> bool
 
 /// How the call in a column went, where 0 is not known.
 fn call_at(row: &Row, at: usize) -> Result<Option<Call>, StoreFault>
-    ensures { (call : Option HowItWent) → HasNumber row.now at (call_number call)
+    ensures found { (call : Option HowItWent) → HasNumber row.now at (call_number call)
         → OrUnavailable result (λ found. found ≡ call) }
+    ensures stands { IfOk result (λ found. HasNumber row.now at (call_number found)) }
 {
     match number_at(row, at)? {
         0 => Ok(None),
@@ -80,7 +81,9 @@ fn call_at(row: &Row, at: usize) -> Result<Option<Call>, StoreFault>
 
 /// Whether the grant of a row is open, by the column that says whether it is shut.
 fn open_at(row: &Row, at: usize) -> Result<bool, StoreFault>
-    ensures { (g : Granted) → HasNumber row.now at (shut_number g) → OrUnavailable result (λ found. found ≡ g.is_open) }
+    ensures found { (g : Granted) → HasNumber row.now at (shut_number g)
+        → OrUnavailable result (λ found. found ≡ g.is_open) }
+    ensures stands { IfOk result (λ found. HasNumber row.now at (if found then 0 else 1)) }
 {
     match number_at(row, at)? {
         0 => Ok(true),
@@ -92,6 +95,7 @@ fn open_at(row: &Row, at: usize) -> Result<bool, StoreFault>
 /// The grant in a row of all columns.
 pub fn grant_in(alloc: Global, row: &Row) -> Result<Grant, StoreFault>
     ensures found { (g : Granted) → row.now ≡ grant_shown g → IsLawfulGrant g → OrUnavailable result (λ grant. grant ≡ g) }
+    ensures stands { IfOk result (λ grant. HasValues row.now 0 (grant_shown grant)) }
     ensures lawful { IfOk result IsWithinLimits }
 {
     let grant = Grant {
@@ -113,14 +117,16 @@ pub fn grant_in(alloc: Global, row: &Row) -> Result<Grant, StoreFault>
 
 /// How many grants are open, in a row of that number.
 pub fn calls_in(row: &Row) -> Result<u32, StoreFault>
-    ensures { (n : ℕ) → row.now ≡ number n ∷ [] → n < 2 ^ 32 → OrUnavailable result (λ calls. calls ≡ n) }
+    ensures found { (n : ℕ) → row.now ≡ number n ∷ [] → n < 2 ^ 32 → OrUnavailable result (λ calls. calls ≡ n) }
+    ensures stands { IfOk result (HasNumber row.now 0) }
 {
     number_at(row, 0)
 }
 
 /// The number of the job that a hold is of, in a row of it.
 pub fn held_job_in(row: &Row) -> Result<u32, StoreFault>
-    ensures { (n : ℕ) → row.now ≡ number n ∷ [] → n < 2 ^ 32 → OrUnavailable result (λ job. job ≡ n) }
+    ensures found { (n : ℕ) → row.now ≡ number n ∷ [] → n < 2 ^ 32 → OrUnavailable result (λ job. job ≡ n) }
+    ensures stands { IfOk result (HasNumber row.now 0) }
 {
     number_at(row, 0)
 }
@@ -130,6 +136,7 @@ impl Hold {
     pub fn in_row(row: &Row) -> Result<Hold, StoreFault>
         ensures found { (g : Granted) → row.now ≡ hold_shown g → IsLawfulGrant g
             → OrUnavailable result (λ hold. hold ≡ as_hold g) }
+        ensures stands { IfOk result (λ hold. HasValues row.now 0 (held_shown hold)) }
         ensures lawful { IfOk result IsLawfulHold }
     {
         let grant = number_at(row, 0)?;

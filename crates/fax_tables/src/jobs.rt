@@ -1,6 +1,6 @@
 //! The jobs in rows.
 
-ghost use Rattle.std.specs.Prelude.{◌≡◌, ℕ, ◌≤◌, ◌<◌, List, [], ◌∷◌, ◌++◌, All, map, Option, IsTrue, unwrap_or};
+ghost use Rattle.std.specs.Prelude.{◌≡◌, ℕ, ◌≤◌, ◌<◌, List, [], ◌∷◌, ◌++◌, All, map, take, Option, IfOk, IsTrue, unwrap_or};
 ghost use Rattle.std.specs.Str.{IsUtf8};
 ghost use Rattle.std.specs.String.{string_bytes};
 ghost use Rattle.sqlite.specs.Order.{Row as Values};
@@ -18,7 +18,7 @@ ghost use Rattle.fax_job.specs.declared.job.Phase.{Phase as JobPhase};
 ghost use Rattle.fax_job.specs.declared.job.Wish.{Wish as JobWish};
 ghost use Rattle.fax_tables.specs.Fault.{OrUnavailable};
 ghost use Rattle.fax_tables.specs.Job.{IsText, IsFormed, IsLawfulJob, brief, brief_shown, job_shown};
-ghost use Rattle.fax_tables.specs.Row.{HasValue, HasNumber, phase_number, wish_number};
+ghost use Rattle.fax_tables.specs.Row.{HasValue, HasValues, HasNumber, phase_number, wish_number};
 
 use crate::fault::StoreFault;
 use crate::row::{moment_at, name_at, number_at, small_at, text_at};
@@ -42,8 +42,9 @@ pub fn phase_number(phase: Phase) -> u32
 
 /// The phase that a number stands for.
 fn phase_at(row: &Row, at: usize) -> Result<Phase, StoreFault>
-    ensures { (phase : JobPhase) → HasNumber row.now at (phase_number phase)
+    ensures found { (phase : JobPhase) → HasNumber row.now at (phase_number phase)
         → OrUnavailable result (λ found. found ≡ phase) }
+    ensures stands { IfOk result (λ found. HasNumber row.now at (phase_number found)) }
 {
     match number_at(row, at)? {
         0 => Ok(Phase::Held),
@@ -68,8 +69,9 @@ pub fn wish_number(wish: Wish) -> u32
 
 /// The wish that a number stands for.
 fn wish_at(row: &Row, at: usize) -> Result<Wish, StoreFault>
-    ensures { (wish : JobWish) → HasNumber row.now at (wish_number wish)
+    ensures found { (wish : JobWish) → HasNumber row.now at (wish_number wish)
         → OrUnavailable result (λ found. found ≡ wish) }
+    ensures stands { IfOk result (λ found. HasNumber row.now at (wish_number found)) }
 {
     match number_at(row, at)? {
         0 => Ok(Wish::Go),
@@ -92,9 +94,10 @@ pub fn killtime_number(killtime: Option<Moment>) -> u32
 
 /// The kill time in a column, where 0 is none.
 fn killtime_at(row: &Row, at: usize) -> Result<Option<Moment>, StoreFault>
-    ensures { (killtime : Option ℕ) → HasNumber row.now at (unwrap_or killtime 0)
+    ensures found { (killtime : Option ℕ) → HasNumber row.now at (unwrap_or killtime 0)
         → unwrap_or killtime 0 ≤ last_moment → IsTrue (is_lawful_killtime killtime)
         → OrUnavailable result (λ found. found ≡ killtime) }
+    ensures stands { IfOk result (λ found. HasNumber row.now at (unwrap_or found 0)) }
 {
     let moment = moment_at(row, at)?;
     if moment.seconds() == 0 {
@@ -106,8 +109,9 @@ fn killtime_at(row: &Row, at: usize) -> Result<Option<Moment>, StoreFault>
 
 /// The number to dial in a column, which has it in canonical form.
 pub(crate) fn dial_at(alloc: Global, row: &Row, at: usize) -> Result<Dial, StoreFault>
-    ensures { (text : List ℕ) → HasValue row.now at (Text text) → IsText IsCanonical text
+    ensures found { (text : List ℕ) → HasValue row.now at (Text text) → IsText IsCanonical text
         → OrUnavailable result (λ found. found ≡ text) }
+    ensures stands { IfOk result (λ found. HasValue row.now at (Text found)) }
 {
     let text = text_at(row, at)?;
     canonical(alloc, text.as_str())
@@ -115,8 +119,9 @@ pub(crate) fn dial_at(alloc: Global, row: &Row, at: usize) -> Result<Dial, Store
 
 /// The number to dial in a row of it.
 pub fn dial_in(alloc: Global, row: &Row) -> Result<Dial, StoreFault>
-    ensures { (text : List ℕ) → row.now ≡ Text text ∷ [] → IsText IsCanonical text
+    ensures found { (text : List ℕ) → row.now ≡ Text text ∷ [] → IsText IsCanonical text
         → OrUnavailable result (λ found. found ≡ text) }
+    ensures stands { IfOk result (λ found. HasValue row.now 0 (Text found)) }
 {
     dial_at(alloc, row, 0)
 }
@@ -124,8 +129,9 @@ pub fn dial_in(alloc: Global, row: &Row) -> Result<Dial, StoreFault>
 /// The number that a text in canonical form is.
 #[tactic(auto, using(crate::proofs::TextLemmas::dial_kept))]
 fn canonical(alloc: Global, text: &str) -> Result<Dial, StoreFault>
-    ensures { (number : List ℕ) → text.now ≡ number → IsText IsCanonical number
+    ensures found { (number : List ℕ) → text.now ≡ number → IsText IsCanonical number
         → OrUnavailable result (λ dial. dial ≡ number) }
+    ensures stands { IfOk result (λ dial. dial ≡ text.now) }
 {
     let dial = Dial::read(alloc, text)?;
     if dial.text() == text {
@@ -137,8 +143,9 @@ fn canonical(alloc: Global, text: &str) -> Result<Dial, StoreFault>
 
 /// The client's tag in a column.
 fn jobtag_at(alloc: Global, row: &Row, at: usize) -> Result<JobTag, StoreFault>
-    ensures { (text : List ℕ) → HasValue row.now at (Text text) → IsText IsJobTag text
+    ensures found { (text : List ℕ) → HasValue row.now at (Text text) → IsText IsJobTag text
         → OrUnavailable result (λ found. found ≡ text) }
+    ensures stands { IfOk result (λ found. HasValue row.now at (Text found)) }
 {
     let text = text_at(row, at)?;
     Ok(JobTag::read(alloc, text.as_str())?)
@@ -146,8 +153,9 @@ fn jobtag_at(alloc: Global, row: &Row, at: usize) -> Result<JobTag, StoreFault>
 
 /// The status in a column.
 fn status_at(alloc: Global, row: &Row, at: usize) -> Result<Status, StoreFault>
-    ensures { (text : List ℕ) → HasValue row.now at (Text text) → IsText IsStatus text
+    ensures found { (text : List ℕ) → HasValue row.now at (Text text) → IsText IsStatus text
         → OrUnavailable result (λ found. found ≡ text) }
+    ensures stands { IfOk result (λ found. HasValue row.now at (Text found)) }
 {
     let text = text_at(row, at)?;
     status_of(alloc, text.as_str())
@@ -155,16 +163,18 @@ fn status_at(alloc: Global, row: &Row, at: usize) -> Result<Status, StoreFault>
 
 /// The status that a text is.
 fn status_of(alloc: Global, text: &str) -> Result<Status, StoreFault>
-    ensures { (status : List ℕ) → text.now ≡ status → IsText IsStatus status
+    ensures found { (status : List ℕ) → text.now ≡ status → IsText IsStatus status
         → OrUnavailable result (λ found. found ≡ status) }
+    ensures stands { IfOk result (λ found. found ≡ text.now) }
 {
     Ok(Status::read(alloc, text)?)
 }
 
 /// The lines in a column, which has their printed spelling.
 fn lines_at(alloc: Global, row: &Row, at: usize) -> Result<Lines, StoreFault>
-    ensures { (lines : List Pair) → HasValue row.now at (Text (printed lines)) → IsUtf8 (printed lines)
+    ensures found { (lines : List Pair) → HasValue row.now at (Text (printed lines)) → IsUtf8 (printed lines)
         → ArePairs lines → OrUnavailable result (λ found. found ≡ lines) }
+    ensures stands { IfOk result (λ found. HasValue row.now at (Text (printed found))) }
 {
     let text = text_at(row, at)?;
     spelled(alloc, text.as_bytes())
@@ -172,8 +182,9 @@ fn lines_at(alloc: Global, row: &Row, at: usize) -> Result<Lines, StoreFault>
 
 /// The lines that a text in printed spelling spells.
 fn spelled(alloc: Global, text: &[u8]) -> Result<Lines, StoreFault>
-    ensures { (lines : List Pair) → text.now ≡ printed lines → ArePairs lines
+    ensures found { (lines : List Pair) → text.now ≡ printed lines → ArePairs lines
         → OrUnavailable result (λ found. found ≡ lines) }
+    ensures stands { IfOk result (λ found. printed found ≡ text.now) }
 {
     let lines = read_lines(alloc, text)?;
     let spelling = write_lines(alloc, &lines)?;
@@ -199,7 +210,8 @@ pub fn spelling(alloc: Global, lines: &Lines) -> Result<String, StoreFault>
 
 /// The priority in a column.
 pub(crate) fn priority_at(row: &Row, at: usize) -> Result<u8, StoreFault>
-    ensures { (n : ℕ) → HasNumber row.now at n → n < 256 → OrUnavailable result (λ priority. priority ≡ n) }
+    ensures found { (n : ℕ) → HasNumber row.now at n → n < 256 → OrUnavailable result (λ priority. priority ≡ n) }
+    ensures stands { IfOk result (HasNumber row.now at) }
 {
     let number = number_at(row, at)?;
     match u8::try_from(number) {
@@ -210,8 +222,9 @@ pub(crate) fn priority_at(row: &Row, at: usize) -> Result<u8, StoreFault>
 
 /// The job in a row of all columns, the extra lines last.
 pub fn job_in(alloc: Global, row: &Row) -> Result<Job, StoreFault>
-    ensures { (job : Fields) → row.now ≡ job_shown job → IsLawful job → IsFormed job
+    ensures found { (job : Fields) → row.now ≡ job_shown job → IsLawful job → IsFormed job
         → OrUnavailable result (λ found. found ≡ job) }
+    ensures stands { IfOk result (λ found. HasValues row.now 0 (job_shown found)) }
 {
     let extra = lines_at(alloc, row, 19)?;
     let fields = fields_in(alloc, row, extra)?;
@@ -223,8 +236,9 @@ pub fn job_in(alloc: Global, row: &Row) -> Result<Job, StoreFault>
 
 /// The job in a row of all columns but the extra lines, without any.
 pub fn brief_in(alloc: Global, row: &Row) -> Result<Job, StoreFault>
-    ensures { (job : Fields) → row.now ≡ brief_shown job → IsLawful job → IsFormed job
+    ensures found { (job : Fields) → row.now ≡ brief_shown job → IsLawful job → IsFormed job
         → OrUnavailable result (λ found. found ≡ brief job) }
+    ensures stands { IfOk result (λ found. HasValues row.now 0 (brief_shown found) × (found.extra ≡ [])) }
 {
     let fields = fields_in(alloc, row, Lines::new(alloc))?;
     match Job::new(fields) {
@@ -235,8 +249,9 @@ pub fn brief_in(alloc: Global, row: &Row) -> Result<Job, StoreFault>
 
 /// The jobs in rows of all columns, in their order.
 pub fn jobs_in(alloc: Global, rows: &[Row]) -> Result<Vec<Job>, StoreFault>
-    ensures { (jobs : List OneJob) → rows.now ≡ map (λ j. job_shown (fields_of j)) jobs → All IsLawfulJob jobs
+    ensures found { (jobs : List OneJob) → rows.now ≡ map (λ j. job_shown (fields_of j)) jobs → All IsLawfulJob jobs
         → OrUnavailable result (λ found. found.items ≡ map fields_of jobs) }
+    ensures stands { IfOk result (λ found. map (take 20) rows.now ≡ map job_shown found.items) }
 {
     let mut jobs = Vec::new(alloc);
     for row in rows {
@@ -250,8 +265,9 @@ pub fn jobs_in(alloc: Global, rows: &[Row]) -> Result<Vec<Job>, StoreFault>
 
 /// The jobs in rows of all columns but the extra lines, without any, in their order.
 pub fn briefs_in(alloc: Global, rows: &[Row]) -> Result<Vec<Job>, StoreFault>
-    ensures { (jobs : List OneJob) → rows.now ≡ map (λ j. brief_shown (fields_of j)) jobs → All IsLawfulJob jobs
+    ensures found { (jobs : List OneJob) → rows.now ≡ map (λ j. brief_shown (fields_of j)) jobs → All IsLawfulJob jobs
         → OrUnavailable result (λ found. found.items ≡ map (λ j. brief (fields_of j)) jobs) }
+    ensures stands { IfOk result (λ found. map (take 19) rows.now ≡ map brief_shown found.items) }
 {
     let mut jobs = Vec::new(alloc);
     for row in rows {
@@ -265,8 +281,9 @@ pub fn briefs_in(alloc: Global, rows: &[Row]) -> Result<Vec<Job>, StoreFault>
 
 /// The fields in a row that begins with all columns but the extra lines, with these extra lines.
 fn fields_in(alloc: Global, row: &Row, extra: Lines) -> Result<JobFields, StoreFault>
-    ensures { (job : Fields) (behind : Values) → row.now ≡ brief_shown job ++ behind → IsLawful job → IsFormed job
+    ensures found { (job : Fields) (behind : Values) → row.now ≡ brief_shown job ++ behind → IsLawful job → IsFormed job
         → OrUnavailable result (λ found. found ≡ record job { extra = extra }) }
+    ensures stands { IfOk result (λ found. HasValues row.now 0 (brief_shown found) × (found.extra ≡ extra)) }
 {
     Ok(JobFields {
         job: number_at(row, 0)?,

@@ -3,7 +3,7 @@
 ghost use Rattle.std.specs.Prelude.{◌≡◌, ◌↔◌, [], ◌∷◌, IfOk, IsTrue};
 ghost use Rattle.fax_core.specs.Queue.{Queue};
 ghost use Rattle.fax_tables.specs.Fault.{OrUnavailable};
-ghost use Rattle.fax_tables.specs.Row.{number};
+ghost use Rattle.fax_tables.specs.Row.{HasValues, number};
 ghost use Rattle.fax_tables.specs.Tables.{IsLawfulMeta};
 
 use crate::fault::StoreFault;
@@ -31,12 +31,13 @@ pub struct Meta {
 }
 
 impl Meta {
-    ghost use Rattle.fax_tables.specs.Meta.{meta_of, meta_shown, with_meta};
+    ghost use Rattle.fax_tables.specs.Meta.{meta_of, meta_shown, numbers_shown, with_meta};
 
     /// The clock and next numbers in a row of these three.
     pub fn in_row(row: &Row) -> Result<Meta, StoreFault>
         ensures found { (m : Queue) → row.now ≡ meta_shown m → IsLawfulMeta m
             → OrUnavailable result (λ meta. meta ≡ meta_of m) }
+        ensures stands { IfOk result (λ meta. HasValues row.now 0 (numbers_shown meta)) }
         ensures lawful { IfOk result (λ meta. (m : Queue) → IsLawfulMeta (with_meta meta m)) }
     {
         let clock = moment_at(row, 0)?;

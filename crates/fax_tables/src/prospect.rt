@@ -1,10 +1,11 @@
 //! A job that waits, as the choice looks at it.
 
-ghost use Rattle.std.specs.Prelude.{◌≡◌};
+ghost use Rattle.std.specs.Prelude.{◌≡◌, IfOk};
 ghost use Rattle.fax_job.specs.Job.{IsLawful};
 ghost use Rattle.fax_job.specs.declared.job.JobFields.{JobFields as Fields};
 ghost use Rattle.fax_tables.specs.Fault.{OrUnavailable};
-ghost use Rattle.fax_tables.specs.Job.{IsFormed, prospect, prospect_shown};
+ghost use Rattle.fax_tables.specs.Job.{IsFormed, asked_shown, prospect, prospect_shown};
+ghost use Rattle.fax_tables.specs.Row.{HasValues};
 
 use crate::fault::StoreFault;
 use crate::jobs::{dial_at, priority_at};
@@ -30,8 +31,9 @@ pub struct Prospect {
 
 /// The prospect in a row of its columns.
 pub fn prospect_in(alloc: Global, row: &Row) -> Result<Prospect, StoreFault>
-    ensures { (job : Fields) → row.now ≡ prospect_shown job → IsLawful job → IsFormed job
+    ensures found { (job : Fields) → row.now ≡ prospect_shown job → IsLawful job → IsFormed job
         → OrUnavailable result (λ found. found ≡ prospect job) }
+    ensures stands { IfOk result (λ found. HasValues row.now 0 (asked_shown found)) }
 {
     Ok(Prospect {
         job: number_at(row, 0)?,

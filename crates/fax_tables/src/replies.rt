@@ -3,6 +3,7 @@
 ghost use Rattle.std.specs.Prelude.{◌≡◌, ◌↔◌, ◌≤◌, ◌<◌, ◌^◌, pos, IfOk, IsTrue};
 ghost use Rattle.fax_core.specs.Queue.{Entry};
 ghost use Rattle.fax_tables.specs.Fault.{OrUnavailable};
+ghost use Rattle.fax_tables.specs.Row.{HasValues};
 ghost use Rattle.fax_tables.specs.Tables.{IsKeptStatus, IsLawfulEntry};
 
 use crate::fault::StoreFault;
@@ -37,12 +38,13 @@ pub fn number_value(number: RequestNumber) -> i64
 }
 
 impl Kept {
-    ghost use Rattle.fax_tables.specs.Kept.{Tells, entry_shown};
+    ghost use Rattle.fax_tables.specs.Kept.{Tells, entry_shown, kept_shown};
 
     /// The kept reply in a row of what was said, status and body.
     pub fn in_row(row: &Row) -> Result<Kept, StoreFault>
         ensures found { (e : Entry) → row.now ≡ entry_shown e → IsLawfulEntry e
             → OrUnavailable result (λ kept. Tells kept e) }
+        ensures stands { IfOk result (λ kept. HasValues row.now 0 (kept_shown kept)) }
         ensures lawful { IfOk result (λ kept. IsKeptStatus kept.status) }
     {
         let said = value_at(row, 0)?;

@@ -1,6 +1,6 @@
 //! The values of a row.
 
-ghost use Rattle.std.specs.Prelude.{◌≡◌, ℕ, ◌<◌, ◌≤◌, ◌^◌, List, length};
+ghost use Rattle.std.specs.Prelude.{◌≡◌, ℕ, ◌<◌, ◌≤◌, ◌^◌, List, IfOk, length};
 ghost use Rattle.std.specs.Str.{IsUtf8};
 ghost use Rattle.std.specs.String.{string_bytes};
 ghost use Rattle.sqlite.specs.declared.types.Value.TheVariants.{Text};
@@ -19,8 +19,9 @@ use std::alloc::Global;
 
 /// The value in a column. One that does not read as `T` is strange.
 pub(crate) fn value_at<T: FromSql>(row: &Row, at: usize) -> Result<T, StoreFault>
-    ensures { at < length row.now → T.FromSql.is_readable (column row.now at)
+    ensures found { at < length row.now → T.FromSql.is_readable (column row.now at)
         → OrUnavailable result (T.FromSql.reads_as (column row.now at)) }
+    ensures stands { IfOk result (λ found. (at < length row.now) × T.FromSql.reads_as (column row.now at) found) }
 {
     match row.get(at) {
         Ok(value) => Ok(value),
@@ -31,22 +32,25 @@ pub(crate) fn value_at<T: FromSql>(row: &Row, at: usize) -> Result<T, StoreFault
 
 /// The text in a column.
 pub(crate) fn text_at(row: &Row, at: usize) -> Result<String, StoreFault>
-    ensures { (text : List ℕ) → HasValue row.now at (Text text) → IsUtf8 text
+    ensures found { (text : List ℕ) → HasValue row.now at (Text text) → IsUtf8 text
         → OrUnavailable result (λ found. string_bytes found ≡ text) }
+    ensures stands { IfOk result (λ found. HasValue row.now at (Text (string_bytes found))) }
 {
     value_at(row, at)
 }
 
 /// The number in a column, which fits 32 bits.
 pub(crate) fn number_at(row: &Row, at: usize) -> Result<u32, StoreFault>
-    ensures { (n : ℕ) → HasNumber row.now at n → n < 2 ^ 32 → OrUnavailable result (λ number. number ≡ n) }
+    ensures found { (n : ℕ) → HasNumber row.now at n → n < 2 ^ 32 → OrUnavailable result (λ number. number ≡ n) }
+    ensures stands { IfOk result (HasNumber row.now at) }
 {
     value_at(row, at)
 }
 
 /// The number in a column, which fits 16 bits.
 pub(crate) fn small_at(row: &Row, at: usize) -> Result<u16, StoreFault>
-    ensures { (n : ℕ) → HasNumber row.now at n → n < 2 ^ 16 → OrUnavailable result (λ small. small ≡ n) }
+    ensures found { (n : ℕ) → HasNumber row.now at n → n < 2 ^ 16 → OrUnavailable result (λ small. small ≡ n) }
+    ensures stands { IfOk result (HasNumber row.now at) }
 {
     let number = number_at(row, at)?;
     match u16::try_from(number) {
@@ -57,7 +61,9 @@ pub(crate) fn small_at(row: &Row, at: usize) -> Result<u16, StoreFault>
 
 /// The moment in a column.
 pub(crate) fn moment_at(row: &Row, at: usize) -> Result<Moment, StoreFault>
-    ensures { (n : ℕ) → HasNumber row.now at n → n ≤ last_moment → OrUnavailable result (λ moment. moment ≡ n) }
+    ensures found { (n : ℕ) → HasNumber row.now at n → n ≤ last_moment
+        → OrUnavailable result (λ moment. moment ≡ n) }
+    ensures stands { IfOk result (HasNumber row.now at) }
 {
     let seconds = number_at(row, at)?;
     let moment = Moment::new(u64::from(seconds));
@@ -70,8 +76,9 @@ pub(crate) fn moment_at(row: &Row, at: usize) -> Result<Moment, StoreFault>
 
 /// The name in a column.
 pub(crate) fn name_at(alloc: Global, row: &Row, at: usize) -> Result<Name, StoreFault>
-    ensures { (text : List ℕ) → HasValue row.now at (Text text) → IsText IsName text
+    ensures found { (text : List ℕ) → HasValue row.now at (Text text) → IsText IsName text
         → OrUnavailable result (λ found. found ≡ text) }
+    ensures stands { IfOk result (λ found. HasValue row.now at (Text found)) }
 {
     let text = text_at(row, at)?;
     Ok(Name::read(alloc, text.as_str())?)

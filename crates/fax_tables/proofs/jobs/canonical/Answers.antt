@@ -4,8 +4,8 @@ use Rattle.std.proofs.lemmas.Slice.Eq.{bytes_eq-Decides}
 use Rattle.fax_tables.proofs.TextLemmas.{dial_kept}
 use Rattle.fax_tables.proofs.jobs.canonical.Goals as goal
 
-pub returns-else-eq : goal.returns-else-eq
-returns-else-eq c number is text =
+pub returns-else-eq-clause-found : goal.returns-else-eq-clause-found
+returns-else-eq-clause-found c number is text =
     let kept = dial_kept number text.formed in
     let read = c.in_ok-dial.ensures.read in
     let same : c.in_ok-dial.dial ≡ c.args.text.now = cc in

@@ -21,7 +21,7 @@ returns-in_err-prospect_in-in-Some-clause-found g c m k given means serves stand
     let it = one_given asked m given c.in-Some.row page front most (subst (λ rows. StandsAt asked m given rows front most) c.in-Some.ensures.items found.0) in
     let lawful = given_lawful _ m k (means (c.refill.ensures.leaves.served serves)).means asked given it.0 page front most it.2 in
     passes_on c.from_residual-in_err-prospect_in-in-Some.result c.in_err-prospect_in-in-Some.field-0.0 _ c.from_residual-in_err-prospect_in-in-Some.ensures.1
-    (c.in_err-prospect_in-in-Some.ensures (fields_of it.0) it.1 lawful.limits lawful.formed)
+    (c.in_err-prospect_in-in-Some.ensures.found (fields_of it.0) it.1 lawful.limits lawful.formed)
 
 pub returns-in_ok-prospect_in-in-Some-clause-found : goal.returns-in_ok-prospect_in-in-Some-clause-found
 returns-in_ok-prospect_in-in-Some-clause-found g c m k given means serves stands =
@@ -32,7 +32,7 @@ returns-in_ok-prospect_in-in-Some-clause-found g c m k given means serves stands
     let found = c.in_ok-refill.ensures.found m k given means serves stands in
     let it = one_given asked m given c.in-Some.row page front most (subst (λ rows. StandsAt asked m given rows front most) c.in-Some.ensures.items found.0) in
     let lawful = given_lawful _ m k (means (c.refill.ensures.leaves.served serves)).means asked given it.0 page front most it.2 in
-    (it.0, c.in_ok-prospect_in-in-Some.ensures (fields_of it.0) it.1 lawful.limits lawful.formed, it.2)
+    (it.0, c.in_ok-prospect_in-in-Some.ensures.found (fields_of it.0) it.1 lawful.limits lawful.formed, it.2)
 
 pub returns-in-None-clause-found : goal.returns-in-None-clause-found
 returns-in-None-clause-found g c m k given means serves stands =

@@ -18,7 +18,7 @@ returns-in_err-prospect_in-in-Some-clause-found g c m k given means serves stand
     let it = page_ends rows _ c.in-Some.row.now next.is last in
     let lawful = page_lawful c.args.self.now.asked m c.args.self.now.front c.args.self.now.most next.all it.0 it.1 (means (c.page.ensures.leaves.served serves)).means.lawful.jobs next.waiting it.2 in
     passes_on c.from_residual-in_err-prospect_in-in-Some.result c.in_err-prospect_in-in-Some.field-0.0 _ c.from_residual-in_err-prospect_in-in-Some.ensures.1
-    (c.in_err-prospect_in-in-Some.ensures (fields_of it.1) it.3 lawful.limits lawful.formed)
+    (c.in_err-prospect_in-in-Some.ensures.found (fields_of it.1) it.3 lawful.limits lawful.formed)
 
 pub returns-clause-found : goal.returns-clause-found
 returns-clause-found g c m k given means serves stands =
@@ -37,7 +37,7 @@ returns-clause-found g c m k given means serves stands =
                 let last : Some w.in-Some.row.now ≡ slice_get rows (length rows - 1) = subst (λ (xs : List Row). Some w.in-Some.row.now ≡ slice_get xs (length xs - 1)) c.deref.ensures.value w.in-Some.ensures.value in
                 let it = page_ends rows _ w.in-Some.row.now next.is last in
                 let lawful = page_lawful asked m front most next.all it.0 it.1 means_now.lawful.jobs next.waiting it.2 in
-                let prospect = w.in_ok-prospect_in-in-Some.ensures (fields_of it.1) it.3 lawful.limits lawful.formed in
+                let prospect = w.in_ok-prospect_in-in-Some.ensures.found (fields_of it.1) it.3 lawful.limits lawful.formed in
                 subst (λ f. StandsAt asked m given rows f c.min-self.result) (sym (w.self-is ∙ w.of-self.ensures ∙ ap front_of prospect)) (stands_page _ m k means_now asked given front most stands rows next it.0 it.1 it.2 c.min-self.result more)
             | in-None w ↦
                 let empty = page_empty rows (subst (λ (xs : List Row). None ≡ slice_get xs (length xs - 1)) c.deref.ensures.value w.in-None.ensures.value) in

@@ -11,7 +11,7 @@ returns-clause-answers g c m k means s =
     let new = state g.S.Store c.show.new.self.conn in
     let means_now = means (c.in_ok-shown.ensures.leaves.served s) in
     let rows = briefs_found old new m k means_now c.in_ok-shown.shown.items (c.in_ok-shown.ensures.shown s.clean) in
-    c.briefs_in.ensures m.jobs (search rules) means_now.lawful.jobs
+    c.briefs_in.ensures.found m.jobs (search rules) means_now.lawful.jobs
 
 pub returns-clause-leaves : goal.returns-clause-leaves
 returns-clause-leaves g c = finds_as g.S.Store _ _ _ _ c.in_ok-shown.ensures.leaves

@@ -9,12 +9,12 @@ use Rattle.fax_store.proofs.WorkLemmas.{ok_as, refused_as}
 use Rattle.fax_store.proofs.store.Store.count_hold.Goals as goal
 
 pub returns-in_err-job-clause-cause : goal.returns-in_err-job-clause-cause
-returns-in_err-job-clause-cause g c n count is can has small clean = refused_as c.from_residual.result c.in_err-job.field-0.0 c.from_residual.ensures.1 (c.in_err-job.ensures n is can.low)
+returns-in_err-job-clause-cause g c n count is can has small clean = refused_as c.from_residual.result c.in_err-job.field-0.0 c.from_residual.ensures.1 (c.in_err-job.ensures.found n is can.low)
 
 pub returns-in_err-dial-clause-cause : goal.returns-in_err-dial-clause-cause
 returns-in_err-dial-clause-cause g c n count is can has small clean =
     let old = state g.S.Store c.args.self.now.conn in
-    let job : c.in_ok-job.job ≡ n = c.in_ok-job.ensures n is can.low in
+    let job : c.in_ok-job.job ≡ n = c.in_ok-job.ensures.found n is can.low in
     refused_as c.from_residual-in_err-dial.result c.in_err-dial.field-0.0 c.from_residual-in_err-dial.ensures.1 (c.in_err-dial.ensures.cause has.tables (subst (CanBeCalled old.now) (sym job) can) clean)
 
 pub returns-clause-cause : goal.returns-clause-cause
@@ -30,7 +30,7 @@ returns-clause-counted g c m k j count rows is found few has clean =
     let mid = state g.S.Store c.dial_of.new.self.conn in
     let new = state g.S.Store c.add_call.new.self.conn in
     let at_mid = c.add_call.ensures.clean clean in
-    let job : c.in_ok-job.job ≡ j.number = c.in_ok-job.ensures j.number is (job_low rows.0 m k rows.1 j.number j found) in
+    let job : c.in_ok-job.job ≡ j.number = c.in_ok-job.ensures.found j.number is (job_low rows.0 m k rows.1 j.number j found) in
     let dial = c.in_ok-dial.ensures.answers m k j has.tables rows (ap (λ n. job_numbered n m) job ∙ found) at_mid in
     let first = set_still old mid count has (c.in_ok-dial.ensures.reads has.tables at_mid) in
     let low = subst (λ d. count d + 1 < 2 ^ 32) (sym dial) few in

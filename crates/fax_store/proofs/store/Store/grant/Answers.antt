@@ -46,6 +46,13 @@ returns-in-None-clause-answers g c m k means s =
     let none = is_none grant_shown (grant_numbered c.args.number m) (sym c.in-None.is ∙ texts.grant_found c.args.number old new m k means_now c.in_ok-row.field-0 found) in
     sym (none)
 
+pub returns-in-None-clause-missing : goal.returns-in-None-clause-missing
+returns-in-None-clause-missing g c db ours now clean =
+    let old = state g.S.Store c.args.self.now.conn in
+    let new = state g.S.Store c.find.new.self.conn in
+    let found : FindsRow SELECT_GRANT.now (texts.params c.args.number) old new c.in_ok-row.field-0 = subst (λ p. FindsRow SELECT_GRANT.now p old new c.in_ok-row.field-0) (search rules) (c.in_ok-row.ensures.found clean) in
+    texts.no_grant c.args.number old new db ours now (subst (FindsRow SELECT_GRANT.now (texts.params c.args.number) old new) c.in-None.is found)
+
 pub returns-in_err-grant_in-in-Some-clause-leaves : goal.returns-in_err-grant_in-in-Some-clause-leaves
 returns-in_err-grant_in-in-Some-clause-leaves g c = finds_as g.S.Store _ _ _ _ c.in_ok-row.ensures.leaves
 

@@ -49,6 +49,13 @@ returns-in-None-clause-answers g c m k means s =
     let none = is_none hold_shown (held_by c.args.modem.now m) (sym c.in-None.is ∙ texts.hold_found c.args.modem.now old new m k means_now c.in_ok-row.field-0 found) in
     sym (ap (option_map as_hold) none)
 
+pub returns-in-None-clause-missing : goal.returns-in-None-clause-missing
+returns-in-None-clause-missing g c db ours now clean =
+    let old = state g.S.Store c.args.self.now.conn in
+    let new = state g.S.Store c.find.new.self.conn in
+    let found : FindsRow SELECT_HOLD.now (texts.params c.args.modem.now) old new c.in_ok-row.field-0 = subst (λ p. FindsRow SELECT_HOLD.now p old new c.in_ok-row.field-0) (search rules) (c.in_ok-row.ensures.found clean) in
+    texts.no_hold c.args.modem.now old new db ours now (subst (FindsRow SELECT_HOLD.now (texts.params c.args.modem.now) old new) c.in-None.is found)
+
 pub returns-in_err-in_row-in-Some-clause-leaves : goal.returns-in_err-in_row-in-Some-clause-leaves
 returns-in_err-in_row-in-Some-clause-leaves g c = finds_as g.S.Store _ _ _ _ c.in_ok-row.ensures.leaves
 

@@ -19,7 +19,7 @@ returns-in-Some-clause-counted g c count tables counted low clean =
     let dial = c.args.dial.now in
     let found : FindsRow SELECT_OPEN.now (calls.params dial) old new c.in_ok-row.field-0 = subst (λ p. FindsRow SELECT_OPEN.now p old new c.in_ok-row.field-0) (search rules) (c.in_ok-row.ensures.found clean) in
     let row = subst (λ o. MatchOption o (count dial ≡ 0) (λ r. r ≡ number (count dial) ∷ [])) c.in-Some.is (calls.calls_found dial old new count tables counted.is c.in_ok-row.field-0 found) in
-    c.calls_in.ensures (count dial) row low
+    c.calls_in.ensures.found (count dial) row low
 
 pub returns-in-None-clause-counted : goal.returns-in-None-clause-counted
 returns-in-None-clause-counted g c count tables counted low clean =
