@@ -1,2 +1,3 @@
 mod OneReplayLemmas
 mod ReplayingLemmas
+mod TurnsLemmas

@@ -12,7 +12,7 @@ mod EachVerdictLemmas
 mod GetLemmas
 mod RepeatLemmas
 mod LedgerLemmas
-mod RunLemmas
+pub mod RunLemmas
 mod PastLemmas
 mod CountLemmas
 mod MoveLemmas

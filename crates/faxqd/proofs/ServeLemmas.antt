@@ -10,6 +10,7 @@ use Rattle.fax_core.specs.Settings.{Settings}
 use Rattle.fax_core.specs.Sound.{Sound}
 use Rattle.fax_desk.specs.Desk.{HandlesAt, IsArrival}
 use Rattle.fax_desk.specs.Replaying.{settings_in}
+use Rattle.fax_desk.specs.Turns.{AreTurns, IsTurn, said_in}
 use Rattle.fax_http.specs.Conversation.{Turn}
 use Rattle.fax_http.specs.Serving.{Answering, Answers}
 use Rattle.fax_once.proofs.VerdictLemmas.{still_means}
@@ -24,7 +25,7 @@ use Rattle.fax_files.specs.Office.{ComesOf}
 use Rattle.fax_net.specs.History.{Step}
 use Rattle.fax_net.specs.Listening.{Listens}
 use Rattle.fax_net.specs.declared.sockets.Sockets.{Sockets}
-use Rattle.faxqd.specs.Serve.{AreTurns, Ends, HasServed, IsTurn, ServesBy, ServesFrom, ServesHeld, said_in}
+use Rattle.faxqd.specs.Serve.{Ends, HasServed, ServesBy, ServesFrom, ServesHeld}
 use Rattle.fax_text.specs.declared.status.Status.{Status}
 use Rattle.fax_text.specs.declared.status.Status.TheVariants.{Success, Fault, Usage}
 use Rattle.fax_text.specs.declared.server.ServePlan.{ServePlan}

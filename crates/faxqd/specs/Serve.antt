@@ -1,26 +1,19 @@
 -- How the command `serve` ends, and what it answers.
-use Rattle.std.specs.Prelude.{◌≡◌, ◌⊎◌, ℕ, Bool, true, false, List, [], ◌∷◌, Option, Ok, codes}
+use Rattle.std.specs.Prelude.{◌≡◌, ◌⊎◌, ℕ, Bool, true, false, List, Option, Ok}
 use Rattle.sqlite.specs.Effect.{Database, IsDatabase}
 use Rattle.sqlite.specs.State.{State, HasCleanDisk}
 use Rattle.sqlite_wal.specs.Recovery.{Image}
-use Rattle.fax_job.specs.declared.refusal.Refusal.TheVariants.{Unavailable}
-use Rattle.fax_ask.specs.Response.{refused_response}
 use Rattle.fax_core.specs.Ledger.{Ledger, empty_ledger}
 use Rattle.fax_core.specs.Queue.{Queue, empty_queue}
-use Rattle.fax_core.specs.Reply.{NoKeys}
 use Rattle.fax_core.specs.Settings.{Settings}
 use Rattle.fax_core.specs.Sound.{Sound}
 use Rattle.fax_decide.specs.declared.office.Office.{Office}
-use Rattle.fax_desk.specs.Desk.{IsArrival}
 use Rattle.fax_desk.specs.Replaying.{settings_in}
+use Rattle.fax_desk.specs.Turns.{AreTurns}
 use Rattle.fax_http.specs.Conversation.{Turn}
 use Rattle.fax_http.specs.Device.{Put}
-use Rattle.fax_http.specs.Message.{fields_of, sole, values_of}
 use Rattle.fax_http.specs.declared.device.Watched.{Watched}
-use Rattle.fax_once.specs.Laws.{left_of}
 use Rattle.fax_once.specs.Run.{Start}
-use Rattle.fax_once.specs.Verdict.{Verdict, IsVerdict, reply_of}
-use Rattle.fax_once.specs.declared.arrival.Arrival.{Arrival}
 use Rattle.fax_store.specs.Adopt.{IsOurs}
 use Rattle.fax_store.specs.Store.{Means}
 use Rattle.fax_tables.specs.Tables.{RowsMean}
@@ -36,30 +29,11 @@ use Rattle.fax_text.specs.declared.server.ServePlan.{ServePlan}
 
 -- ---- messages
 
--- what a message says of its moment
-abbrev pub said_in : Turn → List ℕ
-said_in turn = sole (values_of (codes "Fax-Moment") (fields_of turn.head))
-
 module _ {C : Type 0} (gives : C → List ℕ → ℕ → C → Type 0) (settings : Settings) where
-  -- A message is answered as an arrival at the moment that the clock gives: by its verdict, which leads on; or memory or the store gave out, and nothing changes.
-  pub record IsTurn (start : Start) (clock : C) (turn : Turn) (next : Start) (later : C) : Type 0 where
-    pub moment : ℕ
-    pub given : gives clock (said_in turn) moment later
-    pub arrival : Arrival
-    pub comes : IsArrival turn.head turn.body moment arrival
-    pub answered :
-        ((v : Verdict) × IsVerdict settings arrival start.queue start.kept v × (turn.reply ≡ reply_of v) × (next ≡ left_of start v))
-        ⊎ ((turn.reply ≡ refused_response Unavailable NoKeys) × (next ≡ start))
-
-  -- the messages are answered one after the other, and this is what they leave
-  abbrev pub AreTurns : Start → C → List Turn → Start → Type 0
-  AreTurns start clock [] end = end ≡ start
-  AreTurns start clock (turn ∷ turns) end = (next : Start) × (later : C) × IsTurn start clock turn next later × AreTurns next later turns end
-
   -- these messages were answered one after the other, from this queue and these kept replies on
   pub record HasServed (m : Queue) (k : Ledger) (clock : C) (turns : List Turn) (new : State) : Type 0 where
     pub end : Start
-    pub answered : AreTurns (record { queue = m; kept = k }) clock turns end
+    pub answered : AreTurns gives settings (record { queue = m; kept = k }) clock turns end
     pub sound : Sound end.queue
     pub means : Means new end.queue end.kept
 

@@ -1,0 +1,44 @@
+-- Messages that the queue answers one after the other, each at the moment that a clock gives. They are a session.
+use Rattle.std.specs.Prelude.{◌≡◌, ◌⊎◌, ℕ, List, [], ◌∷◌, map, None, codes}
+use Rattle.std.specs.List.{AllZip}
+use Rattle.fax_job.specs.declared.refusal.Refusal.TheVariants.{Unavailable}
+use Rattle.fax_ask.specs.Response.{refused_response}
+use Rattle.fax_core.specs.Reply.{NoKeys}
+use Rattle.fax_core.specs.Settings.{Settings}
+use Rattle.fax_http.specs.Conversation.{Turn}
+use Rattle.fax_http.specs.Message.{fields_of, sole, values_of}
+use Rattle.fax_once.specs.Laws.{left_of}
+use Rattle.fax_once.specs.Run.{Start}
+use Rattle.fax_once.specs.Sessions.{IsSession, session_of}
+use Rattle.fax_once.specs.Verdict.{Verdict, IsVerdict, reply_of}
+use Rattle.fax_once.specs.declared.arrival.Arrival.{Arrival}
+use Rattle.fax_desk.specs.Desk.{IsArrival}
+
+-- what a message says of its moment
+abbrev pub said_in : Turn → List ℕ
+said_in turn = sole (values_of (codes "Fax-Moment") (fields_of turn.head))
+
+module _ {C : Type 0} (gives : C → List ℕ → ℕ → C → Type 0) (settings : Settings) where
+  -- A message is answered as an arrival at the moment that the clock gives: by its verdict, which leads on; or memory or the store gave out, and nothing changes.
+  pub record IsTurn (start : Start) (clock : C) (turn : Turn) (next : Start) (later : C) : Type 0 where
+    pub moment : ℕ
+    pub given : gives clock (said_in turn) moment later
+    pub arrival : Arrival
+    pub comes : IsArrival turn.head turn.body moment arrival
+    pub answered :
+        ((v : Verdict) × IsVerdict settings arrival start.queue start.kept v × (turn.reply ≡ reply_of v) × (next ≡ left_of start v))
+        ⊎ ((turn.reply ≡ refused_response Unavailable NoKeys) × (next ≡ start))
+
+  -- the messages are answered one after the other, and this is what they leave
+  abbrev pub AreTurns : Start → C → List Turn → Start → Type 0
+  AreTurns start clock [] end = end ≡ start
+  AreTurns start clock (turn ∷ turns) end = (next : Start) × (later : C) × IsTurn start clock turn next later × AreTurns next later turns end
+
+-- these are their arrivals, each at a moment
+abbrev pub AreArrivals : List Turn → List Arrival → Type 0
+AreArrivals turns arrivals = AllZip (λ turn a. (moment : ℕ) × IsArrival turn.head turn.body moment a) turns arrivals
+
+-- such messages are a session: their arrivals, with their replies
+abbrev pub TurnsAreASession : {C : Type 0} → (C → List ℕ → ℕ → C → Type 0) → Type 0
+TurnsAreASession {C} gives = (settings : Settings) (start end : Start) (clock : C) (turns : List Turn) → AreTurns gives settings start clock turns end
+    → (arrivals : List Arrival) × AreArrivals turns arrivals × IsSession start (session_of settings arrivals (map (λ turn. turn.reply) turns) None) end
