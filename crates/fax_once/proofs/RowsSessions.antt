@@ -44,7 +44,8 @@ night = end_of other day (asks ttyS1 ∷ asks ttyS0 ∷ [])
 -- the second session begins from what the first left, and answers by its own setup
 restart_row : (a b c : Arrival) → IsReading a submitted → IsReading b (asks ttyS0) → IsReading c (asks ttyS1)
     → Follow start
-    (session other (b ∷ c ∷ []) (refused NoModem ∷ accepted (Given (hand 1 1 (codes "5550111") 1 2)) ∷ []) None ∷ session settings (a ∷ []) (accepted (Submitted 1) ∷ []) None ∷ [])
+    (session other (b ∷ c ∷ []) (refused NoModem ∷ accepted (Given (hand 1 1 (codes "5550111") 1 2)) ∷ []) None
+    ∷ session settings (a ∷ []) (accepted (Submitted 1) ∷ []) None ∷ [])
     night
 restart_row a b c says_fax says_old says_new = (
   day,
