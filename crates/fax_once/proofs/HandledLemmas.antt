@@ -69,7 +69,8 @@ pub lawful_reading : (a : Arrival) (r : Reading) → IsReading a r → IsLawful 
 lawful_reading a r reads = lawful_by a r (says a r reads)
 
 -- so what is taken is lawful, and was new
-pub accepted_more : (s : Settings) (start : Start) (earlier : List Fed) (r : Reading) → IsLawful r → AreAccepted start earlier → AreAccepted start (with_taken s start earlier r)
+pub accepted_more : (s : Settings) (start : Start) (earlier : List Fed) (r : Reading) → IsLawful r
+    → AreAccepted start earlier → AreAccepted start (with_taken s start earlier r)
 accepted_more s start earlier (Faulty refusal) is are = are
 accepted_more s start earlier (Sees moment what) is are = are
 accepted_more s start earlier (Posts p) is are = by (is_taken start earlier (under s p)) refl
@@ -83,7 +84,8 @@ pub are_taken : (start : Start) (fed : List Fed) → AreAccepted start fed → A
 are_taken start [] are = tt
 are_taken start (f ∷ earlier) (lawful, on, are) = (
   lawful,
-  (and_parts (not (is_too_high f.post.number f.post.request.ask)) (takes (step_of (queue_after start.queue earlier) f)) (and_parts (is_new start earlier f.post) _ on).1).1,
+  (and_parts (not (is_too_high f.post.number f.post.request.ask)) (takes (step_of (queue_after start.queue earlier) f))
+      (and_parts (is_new start earlier f.post) _ on).1).1,
   are_taken start earlier are,
 )
 
@@ -176,7 +178,8 @@ module _ (s : Settings) (start : Start) (arrivals : List Arrival) (replies : Lis
     Stays = end_of s start on.heard ≡ here
 
     -- what one of the arrivals before made stays what it makes
-    made_before : Stays → (found : Trees) → IsMadeIn s start arrivals replies ran.heard found → IsMadeIn s start (arrivals ++ a ∷ []) (replies ++ reply ∷ []) on.heard found
+    made_before : Stays → (found : Trees) → IsMadeIn s start arrivals replies ran.heard found
+        → IsMadeIn s start (arrivals ++ a ∷ []) (replies ++ reply ∷ []) on.heard found
     made_before stays found it =
         let more = heard_on h in
         record {
@@ -198,7 +201,8 @@ module _ (s : Settings) (start : Start) (arrivals : List Arrival) (replies : Lis
         }
 
     -- and this one may have made what it makes
-    made_now : Stays → (found : Trees) (v : Verdict) → IsVerdict s a here.queue here.kept v → AreMadeBy v found → IsMadeIn s start (arrivals ++ a ∷ []) (replies ++ reply ∷ []) on.heard found
+    made_now : Stays → (found : Trees) (v : Verdict) → IsVerdict s a here.queue here.kept v → AreMadeBy v found
+        → IsMadeIn s start (arrivals ++ a ∷ []) (replies ++ reply ∷ []) on.heard found
     made_now stays found v is made =
         let more = heard_on h in
         record {
@@ -227,7 +231,8 @@ module _ (s : Settings) (start : Start) (arrivals : List Arrival) (replies : Lis
         stays : Stays
         stays = same_end h shut
 
-        by : IsLeftBehind s start arrivals replies ran.heard first found → IsLeftBehind s start (arrivals ++ a ∷ []) (replies ++ reply ∷ []) on.heard first found
+        by : IsLeftBehind s start arrivals replies ran.heard first found
+            → IsLeftBehind s start (arrivals ++ a ∷ []) (replies ++ reply ∷ []) on.heard first found
         by (Before may_first none) = Before may_first (stays ∙ none)
         by (AtEnd rows) = AtEnd (subst (λ (e : Start). RowsFound found e.queue e.kept) (sym stays) rows)
         by (Besides it) = Besides (made_before stays found it)
@@ -249,7 +254,9 @@ stops_at_first s start store means = (record { heard = []; answered = refl; mean
 -- where a run leads is sound
 pub run_sound : (s : Settings) (start : Start) (arrivals : List Arrival) (replies : List Response) (store : State) → Sound start.queue
     → (ran : HasRun s start arrivals replies store) → Sound (end_of s start ran.heard).queue
-run_sound s start arrivals replies store sound ran = sound_after start.queue (taken s start ran.heard) sound (are_taken start (taken s start ran.heard) ran.accepted)
+run_sound s start arrivals replies store sound ran =
+    let fed = taken s start ran.heard in
+    sound_after start.queue fed sound (are_taken start fed ran.accepted)
 
 -- what holds behind requests that were taken
 pub goes_well : (m : Queue) (fed : List Fed) → Sound m → AreTaken m fed → GoesWell m fed
@@ -263,7 +270,8 @@ goes_well m fed sound are =
           subst (λ (fs : List Fed). KeepsGrants (queue_after m earlier) (queue_after m fs)) (sym split)
           (runs_keep_grants m later earlier sound (subst (AreTaken m) split are));
       counted = λ empty number j there.
-          counters_are_counts fed (subst (λ (q : Queue). AreTaken q fed) empty are) number j (subst (λ (q : Queue). IsJob (queue_after q fed) number j) empty there);
+          counters_are_counts fed (subst (λ (q : Queue). AreTaken q fed) empty are) number j
+          (subst (λ (q : Queue). IsJob (queue_after q fed) number j) empty there);
     }
 
 -- what holds of each run

@@ -56,7 +56,8 @@ keeps_sent : (m : Queue) (newer older : List Fed) → Sound m → AreTaken m (ne
 keeps_sent m [] older h are = sent_still (queue_after m older)
 keeps_sent m (f ∷ newer) older h (lawful, on, are) =
     let here = queue_after m (newer ++ older) in
-    through (queue_after m older) here (left_by here (step_of here f)) (keeps_sent m newer older h are) (one_keeps here f (sound_after m (newer ++ older) h are) on)
+    through (queue_after m older) here (left_by here (step_of here f)) (keeps_sent m newer older h are)
+    (one_keeps here f (sound_after m (newer ++ older) h are) on)
 
 -- ---- the place of a page
 

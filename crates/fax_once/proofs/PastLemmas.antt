@@ -35,7 +35,8 @@ taken_in here f = is_free here.kept f.post.client f.post.number && (not (is_too_
 -- a request is taken by where those before it lead
 pub taken_by : (start : Start) (earlier : List Fed) (f : Fed) → is_taken start earlier f ≡ taken_in (end_after start earlier) f
 taken_by start earlier f =
-    ap (λ b. b && (not (is_too_high f.post.number f.post.request.ask) && takes (step_of (queue_after start.queue earlier) f))) (sym (new_is_free start earlier f.post))
+    ap (λ b. b && (not (is_too_high f.post.number f.post.request.ask) && takes (step_of (queue_after start.queue earlier) f)))
+    (sym (new_is_free start earlier f.post))
 
 module _ (s : Settings) (start : Start) (before : List Fed) where
   -- where they lead
@@ -130,7 +131,8 @@ one_goes_on s start earlier (Posts p) = by (is_taken start earlier (under s p))
     by false = ([], refl)
 
 -- and so do more
-grows : (s : Settings) (start : Start) (earlier : List Fed) (later past : List Reading) → GoesOn (taken s start past) earlier → GoesOn (taken s start (later ++ past)) earlier
+grows : (s : Settings) (start : Start) (earlier : List Fed) (later past : List Reading) → GoesOn (taken s start past) earlier
+    → GoesOn (taken s start (later ++ past)) earlier
 grows s start earlier [] past is = is
 grows s start earlier (r ∷ later) past is =
     let before = taken s start (later ++ past) in
@@ -242,12 +244,14 @@ module _ (start : Start) (earlier : List Fed) (f : Fed) (at : is_taken start ear
       (given_finds q.client r.request.ask k p.client p.number high ∙ before)
 
   -- whoever says the same under its client and number then gets its reply, by whatever settings
-  pub repeats : (more : List Fed) (q : Post) (t : Settings) → p.client ≡ q.client → p.number ≡ q.number → p.said ≡ q.said → let here = end_after start (more ++ f ∷ earlier) in
+  pub repeats : (more : List Fed) (q : Post) (t : Settings) → p.client ≡ q.client → p.number ≡ q.number → p.said ≡ q.said →
+      let here = end_after start (more ++ f ∷ earlier) in
       nat_lt (here.kept.floor q.client) q.number ≡ true → verdict t here.queue here.kept (Posts q) ≡ Repeated reply
   repeats more q t client number same high =
       let here = end_after start (more ++ f ∷ earlier) in
       let found : kept_for q.client q.number here.kept.replies ≡ Some its =
-      ap₂ (λ c n. kept_for c n here.kept.replies) (sym client) (sym number) ∙ found_after more (ap₂ (λ c n. nat_lt (here.kept.floor c) n) client number ∙ high) in
+      ap₂ (λ c n. kept_for c n here.kept.replies) (sym client) (sym number)
+      ∙ found_after more (ap₂ (λ c n. nat_lt (here.kept.floor c) n) client number ∙ high) in
       gets_kept t here.queue here.kept q its high found ((bytes_decides p.said q.said).1 same) ∙ ap Repeated whole
 
 -- ---- numbers that were taken
@@ -271,7 +275,8 @@ module _ (s : Settings) (start : Start) (later past : List Reading) (p : Post) (
       nat_lt (k.floor p.client) p.number ≡ true → kept_for p.client p.number k.replies ≡ Some entry_of
   found =
       let since = grows s start (under s p ∷ first) later (Posts p ∷ past) ([], taken_here) in
-      subst (λ (fs : List Fed). nat_lt ((kept_after start fs).floor p.client) p.number ≡ true → kept_for p.client p.number (kept_after start fs).replies ≡ Some entry_of)
+      subst
+      (λ (fs : List Fed). nat_lt ((kept_after start fs).floor p.client) p.number ≡ true → kept_for p.client p.number (kept_after start fs).replies ≡ Some entry_of)
       (sym since.1) (found_after start first (under s p) at since.0)
 
   module _ (q : Post) (client : q.client ≡ p.client) (number : q.number ≡ p.number) where
@@ -318,7 +323,8 @@ module _ (s : Settings) (start : Start) (later past : List Reading) (p : Post) (
         ∙ again (bytes_eq p.said q.said) (kept_response first_reply.status first_reply.body)
 
     -- where it is answered with a kept status, it gets that reply, whatever the floor
-    by_floor : (b : Bool) → nat_lt (k.floor q.client) q.number ≡ b → IsKeptStatus (reply_of (if b then asked_above s n k (k.floor q.client) q else denied GivenUp)).status
+    by_floor : (b : Bool) → nat_lt (k.floor q.client) q.number ≡ b
+        → IsKeptStatus (reply_of (if b then asked_above s n k (k.floor q.client) q else denied GivenUp)).status
         → reply_of (if b then asked_above s n k (k.floor q.client) q else denied GivenUp) ≡ first_reply
     by_floor true high status = looked_up high ∙ by (bytes_eq p.said q.said) (subst (λ (r : Response). IsKeptStatus r.status) (looked_up high) status)
     by_floor false low status = absurd (refused_unkept GivenUp NoKeys status)

@@ -1,6 +1,6 @@
 -- Worked rows of sessions: a restart by another setup, and a session that was broken off. Of sessions and of what was heard the newest comes first.
-use Rattle.std.proofs.Common.{inl, inr}
-use Rattle.std.specs.Prelude.{◌≡◌, refl, ℕ, List, [], ◌∷◌, false, map, codes, Option, Some, None}
+use Rattle.std.proofs.Common.{inl, inr, subst}
+use Rattle.std.specs.Prelude.{◌≡◌, ◌⊎◌, refl, ℕ, List, [], ◌∷◌, false, map, codes, Option, Some, None}
 use Rattle.std.specs.Str.{bytes_eq}
 use Rattle.fax_job.specs.declared.refusal.Refusal.TheVariants.{NoModem}
 use Rattle.fax_ask.specs.Response.{Response}
@@ -11,7 +11,7 @@ use Rattle.fax_core.proofs.RowWords.{hand, settings, ttyS0, ttyS1}
 use Rattle.fax_once.proofs.RowsRuns.{accepted, desk, fax, lab, post, refused, start, submitted}
 use Rattle.fax_once.specs.Reading.{IsReading, Reading}
 use Rattle.fax_once.specs.Run.{Start, end_of, taken}
-use Rattle.fax_once.specs.Sessions.{Follow, Session}
+use Rattle.fax_once.specs.Sessions.{Follow, IsSession, LeavesOff, Session}
 use Rattle.fax_once.specs.declared.arrival.Arrival.{Arrival}
 
 -- ---- words
@@ -44,7 +44,8 @@ night = end_of other day (asks ttyS1 ∷ asks ttyS0 ∷ [])
 -- the second session begins from what the first left, and answers by its own setup
 restart_row : (a b c : Arrival) → IsReading a submitted → IsReading b (asks ttyS0) → IsReading c (asks ttyS1)
     → Follow start
-    (session other (b ∷ c ∷ []) (refused NoModem ∷ accepted (Given (hand 1 1 (codes "5550111") 1 2)) ∷ []) None ∷ session settings (a ∷ []) (accepted (Submitted 1) ∷ []) None ∷ [])
+    (session other (b ∷ c ∷ []) (refused NoModem ∷ accepted (Given (hand 1 1 (codes "5550111") 1 2)) ∷ []) None
+    ∷ session settings (a ∷ []) (accepted (Submitted 1) ∷ []) None ∷ [])
     night
 restart_row a b c says_fax says_old says_new = (
   day,
@@ -64,6 +65,11 @@ other_setup_row = refl
 
 abbrev broken : Arrival → Session
 broken a = session settings [] [] (Some a)
+
+-- it leaves the one or the other, and nothing else
+one_of_two_row : (a : Arrival) (left : Start) → IsSession start (broken a) left
+    → (left ≡ start) ⊎ ((r : Reading) × IsReading a r × (left ≡ end_of settings start (r ∷ [])))
+one_of_two_row a left session = subst (λ heard. LeavesOff settings start heard (Some a) left) session.answered session.leaves
 
 -- it was taken, and the same again gets its reply, by the other setup
 taken_row : (a b : Arrival) → IsReading a submitted → IsReading b again

@@ -1,7 +1,7 @@
 -- Over all sessions there is one list of requests that were accepted.
-use Rattle.std.proofs.Common.{◌≡◌, ◌⊎◌, inl, inr, ℕ, eqb, Bool, true, false, not, ◌&&◌, nat_lt, List, [], ◌∷◌, ◌++◌, Option, Some, None, refl, sym, ap, ap₂, subst, ◌∙◌, append_assoc, if◌then◌else◌}
+use Rattle.std.proofs.Common.{◌≡◌, ◌⊎◌, inl, inr, eqb, Bool, true, false, not, ◌&&◌, nat_lt, List, [], ◌∷◌, ◌++◌, Option, Some, None, refl, sym, ap, subst, ◌∙◌, append_assoc, if◌then◌else◌}
 use Rattle.std.specs.Prelude.{is_none}
-use Rattle.std.specs.List.{AllByRecursion, AllZip, find, list_any}
+use Rattle.std.specs.List.{AllByRecursion, AllZip, list_any}
 use Rattle.std.specs.Str.{bytes_eq}
 use Rattle.std.specs.Cmp.Lexicographic.{bytes_decides}
 use Rattle.std.proofs.lemmas.Bool.{and_from, and_parts, cases_Bool, eqb-true, not-true}
@@ -16,7 +16,6 @@ use Rattle.fax_core.specs.Queue.{Entry, Queue}
 use Rattle.fax_core.specs.Reply.{NoKeys, Step, Taken, Refused}
 use Rattle.fax_core.specs.Run.{decided}
 use Rattle.fax_core.specs.Settings.{Settings}
-use Rattle.fax_core.specs.Sound.{Sound}
 use Rattle.fax_core.proofs.PlaceLemmas.{either}
 use Rattle.fax_store.specs.Kept.{kept_for}
 use Rattle.fax_store.specs.Store.{MayFind, RowsFound}
@@ -24,12 +23,12 @@ use Rattle.fax_tables.specs.Kept.{entry}
 use Rattle.fax_tables.specs.Tables.{IsKeptStatus}
 use Rattle.fax_once.proofs.HandledLemmas.{accepted_more, are_taken, goes_well, lawful_reading}
 use Rattle.fax_once.proofs.LedgerLemmas.{floors_rise, given_finds}
-use Rattle.fax_once.proofs.PastLemmas.{GoesOn, ends_joined, its_reply, one_goes_on, refused_unkept, repeats, taken_by, taken_on, told, through, whole}
+use Rattle.fax_once.proofs.PastLemmas.{GoesOn, ends_joined, one_goes_on, refused_unkept, repeats, taken_by, taken_on, told, through, whole}
 use Rattle.fax_once.proofs.RunLemmas.{is_free, raised_step, runs_thread}
 use Rattle.fax_once.specs.Laws.{AreAccepted, left_of}
 use Rattle.fax_once.specs.Reading.{Post, Reading, Faulty, Sees, Posts, IsReading}
 use Rattle.fax_once.specs.Run.{Fed, Start, IsRun, end_after, end_of, floors_after, is_new, is_of, is_taken, kept_after, queue_after, reply_to, takes, under, with_taken}
-use Rattle.fax_once.specs.Sessions.{Adds, AreAdded, CameIn, EachOnce, Follow, HasIts, HasReplyOf, HaveOneList, IsAnsweredBy, IsSession, IsSettled, IsToldBy, LeavesOff, Session, LeftBySession, RunsAsSession, SessionsHaveOneList, WasKept, all_of}
+use Rattle.fax_once.specs.Sessions.{Adds, AreAdded, CameIn, EachOnce, Follow, HasIts, HasReplyOf, IsAnsweredBy, IsSession, IsSettled, IsToldBy, LeavesOff, Session, LeftBySession, RunsAsSession, SessionsHaveOneList, WasKept, all_of}
 use Rattle.fax_once.specs.Stop.{AreMadeBy, AtEnd, Before, Besides, IsLeftBehind, StopsIn}
 use Rattle.fax_once.specs.Verdict.{Verdict, Told, Repeated, Accepted, asked_above, decided_new, denied, is_too_high, new_asked, raised, reply_of, step_reply, taken_once, verdict, without_given}
 use Rattle.fax_once.specs.declared.arrival.Arrival.{Arrival}
@@ -149,7 +148,8 @@ module _ (first : Start) (earlier : List Fed) (are : AreAccepted first earlier) 
   of_taken on = record { later = []; it = f; earlier = earlier; one = rw on refl; client = refl; number = refl; told = refl }
 
   -- it is taken where its number is free, its floor isn't too high and the step takes it
-  is_taken_by : (x : Step) → decided s m it.request ≡ x → takes x ≡ true → nat_lt (k.floor p.client) p.number ≡ true → kept_for p.client p.number k.replies ≡ None
+  is_taken_by : (x : Step) → decided s m it.request ≡ x → takes x ≡ true → nat_lt (k.floor p.client) p.number ≡ true
+      → kept_for p.client p.number k.replies ≡ None
       → is_too_high p.number p.request.ask ≡ false → is_taken first earlier f ≡ true
   is_taken_by x is on high none low =
       let taken : takes (decided s m p.request) ≡ true =
@@ -307,7 +307,8 @@ record OneList (first : Start) (sessions : List Session) (last : Start) : Type 0
   accepted : AreAccepted first fed
   answered : AllByRecursion (IsAnsweredBy first fed) sessions
 
-module _ (first : Start) (x : Session) (earlier : List Session) (middle last : Start) (old : OneList first earlier middle) (session : IsSession (end_after first old.fed) x last) where
+module _ (first : Start) (x : Session) (earlier : List Session) (middle last : Start) (old : OneList first earlier middle)
+    (session : IsSession (end_after first old.fed) x last) where
   -- what is taken behind what was heard, with what was taken before
   abbrev since : List Reading → List Fed
   since past = taken_on x.settings first old.fed past
@@ -363,7 +364,8 @@ each_once first (f ∷ earlier) (lawful, at, are) =
     (not-true _ (and_parts (is_none (kept_for p.client p.number first.kept.replies)) _ unused).1, each_once first earlier are)
 
 -- what passes in a list stands somewhere in it
-somewhere : (q : Fed → Bool) (fed : List Fed) → list_any q fed ≡ true → (later : List Fed) × (it : Fed) × (earlier : List Fed) × (fed ≡ later ++ it ∷ earlier) × (q it ≡ true)
+somewhere : (q : Fed → Bool) (fed : List Fed) → list_any q fed ≡ true
+    → (later : List Fed) × (it : Fed) × (earlier : List Fed) × (fed ≡ later ++ it ∷ earlier) × (q it ≡ true)
 somewhere q [] any = absurd cc
 somewhere q (f ∷ earlier) any = elim (cases_Bool (q f)) [
   | inl on ↦ ([], f, earlier, refl, on)
@@ -391,7 +393,8 @@ stands first fed p later it earlier are split its =
       record { later = later; it = it; earlier = earlier; one = split; client = client; number = number; told = refl },
       λ same high s.
           subst (λ (fs : List Fed). verdict s (queue_after first.queue fs) (kept_after first fs) (Posts p) ≡ Repeated reply) (sym split)
-          (repeats first earlier it at later p s client number same (subst (λ (fs : List Fed). nat_lt ((kept_after first fs).floor p.client) p.number ≡ true) split high)),
+          (repeats first earlier it at later p s client number same
+          (subst (λ (fs : List Fed). nat_lt ((kept_after first fs).floor p.client) p.number ≡ true) split high)),
     )
 
 -- whatever became of a post is settled
@@ -419,27 +422,36 @@ sessions_have_one_list first last sessions sound follow =
 
 -- ---- what a crash leaves
 
+-- an arrival is one of those that it stands among
+one_of : (before : List Arrival) (a : Arrival) (behind : List Arrival) → Has (before ++ a ∷ behind) a
+one_of [] a behind = inl refl
+one_of (b ∷ before) a behind = inr (one_of before a behind)
+
 -- what a verdict makes are the rows of where it leads
 rows_of : (here : Start) (v : Verdict) (found : Trees) → AreMadeBy v found → RowsFound found (left_of here v).queue (left_of here v).kept
 rows_of here (Told reply) found made = absurd made
 rows_of here (Repeated reply) found made = absurd made
 rows_of here (Accepted after kept reply) found made = made
 
-module _ (s : Settings) (start : Start) (arrivals : List Arrival) (replies : List Response) (heard : List Reading) (answered : IsRun s start [] arrivals replies heard)
-    (old : State) (found : Trees) where
+module _ (s : Settings) (start : Start) (arrivals : List Arrival) (replies : List Response) (heard : List Reading)
+    (answered : IsRun s start [] arrivals replies heard) (old : State) (found : Trees) where
   -- what is left behind a run is what such a session leaves
   left_by_session : (MayFind old found → RowsFound found start.queue start.kept) → IsLeftBehind s start arrivals replies heard old found
       → LeftBySession s start arrivals replies found
-  left_by_session rests (Before may none) = (None, start, record { heard = heard; answered = answered; leaves = sym none }, rests may)
-  left_by_session rests (AtEnd rows) = (None, end_of s start heard, record { heard = heard; answered = answered; leaves = refl }, rows)
+  left_by_session rests (Before may none) = (None, tt, (start, record { heard = heard; answered = answered; leaves = sym none }, rests may))
+  left_by_session rests (AtEnd rows) = (None, tt, (end_of s start heard, record { heard = heard; answered = answered; leaves = refl }, rows))
   left_by_session rests (Besides it) =
       let r = it.is.0 in
       let same : end_of s start (r ∷ heard) ≡ left_of (end_of s start it.earlier) it.verdict =
-      runs_thread s start heard r ∙ ap (λ (e : Start). left_of e (verdict s e.queue e.kept r)) it.still ∙ ap (left_of (end_of s start it.earlier)) (sym it.is.2) in (
+      runs_thread s start heard r ∙ ap (λ (e : Start). left_of e (verdict s e.queue e.kept r)) it.still
+      ∙ ap (left_of (end_of s start it.earlier)) (sym it.is.2) in (
         Some it.arrival,
-        end_of s start (r ∷ heard),
-        record { heard = heard; answered = answered; leaves = inr (r, it.is.1, refl) },
-        subst (λ (e : Start). RowsFound found e.queue e.kept) (sym same) (rows_of (end_of s start it.earlier) it.verdict found it.made),
+        subst (λ (xs : List Arrival). Has xs it.arrival) (sym it.one) (one_of it.before it.arrival it.behind),
+        (
+          end_of s start (r ∷ heard),
+          record { heard = heard; answered = answered; leaves = inr (r, it.is.1, refl) },
+          subst (λ (e : Start). RowsFound found e.queue e.kept) (sym same) (rows_of (end_of s start it.earlier) it.verdict found it.made),
+        ),
       )
 
 -- a run is a session, also where it was broken off

@@ -117,7 +117,8 @@ module _ (f : Fed) (earlier : List Fed) (lawful : IsLawfulAsk f.post.request.ask
         none_fresh = reported_same (λ a. has_job x (grant_numbered a m)) (λ a. false) not_its ask ∙ reported_none ask
 
     -- what came in with a job, this request aside and with it
-    brought_more : (x : ℕ) → brought_with empty_queue x (f ∷ earlier) ≡ (if is_import ask && (m.next_job == x) then came_in ask else brought_with empty_queue x earlier)
+    brought_more : (x : ℕ) → brought_with empty_queue x (f ∷ earlier)
+        ≡ (if is_import ask && (m.next_job == x) then came_in ask else brought_with empty_queue x earlier)
     brought_more x =
         ap (λ (y : Step). if takes_in y x then came_in ask else brought_with empty_queue x earlier) is
         ∙ ap (λ (b : Bool). if b then came_in ask else brought_with empty_queue x earlier) (step_brings f.settings m n moment ask r sums.sound is x)
@@ -160,7 +161,8 @@ module _ (f : Fed) (earlier : List Fed) (lawful : IsLawfulAsk f.post.request.ask
           brought_before x (ne_eqb m.next_job x (λ q. omega (arith, beyond, high, q))) ∙ sums.none_in x (omega (arith, beyond, high))
       | inr off ↦
           let more = moved.numbers in
-          brought_more x ∙ ap (λ (b : Bool). if b && (m.next_job == x) then came_in ask else brought_with empty_queue x earlier) off ∙ sums.none_in x (omega (arith, more, high))
+          brought_more x ∙ ap (λ (b : Bool). if b && (m.next_job == x) then came_in ask else brought_with empty_queue x earlier) off
+          ∙ sums.none_in x (omega (arith, more, high))
     ]
 
     -- so the sums hold with this request

@@ -1,6 +1,6 @@
 -- Sessions: the program is started, serves, and is stopped or killed, over and over, by whatever setup and controls.
 -- Of sessions and of the requests that the machine was fed the newest comes first.
-use Rattle.std.specs.Prelude.{◌≡◌, ◌⊎◌, ⊤, true, false, nat_lt, List, [], ◌∷◌, ◌++◌, Option, Some, None}
+use Rattle.std.specs.Prelude.{◌≡◌, ◌⊎◌, ⊤, true, false, nat_lt, List, [], ◌∷◌, ◌++◌, Option, Some, None, IfSome}
 use Rattle.std.specs.List.{AllByRecursion, AllZip, list_any}
 use Rattle.sqlite.specs.State.{State}
 use Rattle.sqlite_rules.specs.Lists.{Has}
@@ -114,7 +114,8 @@ IsSettled first fed p =
     let here = end_after first fed in
     (list_any (is_of p.client p.number) fed ≡ false)
     ⊎ ((reply : Response) × (stands : HasReplyOf first fed p reply)
-    × (stands.it.post.said ≡ p.said → nat_lt (here.kept.floor p.client) p.number ≡ true → (s : Settings) → verdict s here.queue here.kept (Posts p) ≡ Repeated reply))
+    × (stands.it.post.said ≡ p.said → nat_lt (here.kept.floor p.client) p.number ≡ true → (s : Settings)
+    → verdict s here.queue here.kept (Posts p) ≡ Repeated reply))
 
 -- ---- what is proved
 
@@ -139,10 +140,11 @@ SessionsHaveOneList = (first last : Start) (sessions : List Session) → Sound f
 abbrev pub session_of : Settings → List Arrival → List Response → Option Arrival → Session
 session_of s arrivals replies under_way = record { settings = s; arrivals = arrivals; replies = replies; under_way = under_way }
 
--- such a session left these rows
+-- such a session left these rows, with one of its arrivals under way, if one was
 abbrev pub LeftBySession : Settings → Start → List Arrival → List Response → Trees → Type 0
 LeftBySession s start arrivals replies found =
-    (under_way : Option Arrival) × (left : Start) × IsSession start (session_of s arrivals replies under_way) left × RowsFound found left.queue left.kept
+    (under_way : Option Arrival) × IfSome under_way (Has arrivals)
+    × ((left : Start) × IsSession start (session_of s arrivals replies under_way) left × RowsFound found left.queue left.kept)
 
 -- A run is done, as a session. What a crash behind it leaves, such a session left, where a crash before it could leave just what it began from.
 pub record RunsAsSession (s : Settings) (start : Start) (arrivals : List Arrival) (replies : List Response) (old new : State) : Type 0 where

@@ -59,7 +59,8 @@ pub record IsMadeIn (s : Settings) (start : Start) (arrivals : List Arrival) (re
   pub made : AreMadeBy verdict found
 
 -- what a crash behind a run may leave
-pub data IsLeftBehind (s : Settings) (start : Start) (arrivals : List Arrival) (replies : List Response) (heard : List Reading) (old : State) (found : Trees) : Type 0 where
+pub data IsLeftBehind (s : Settings) (start : Start) (arrivals : List Arrival) (replies : List Response) (heard : List Reading) (old : State)
+    (found : Trees) : Type 0 where
   -- what a crash before the run could leave, where nothing was taken
   Before : MayFind old found → end_of s start heard ≡ start → IsLeftBehind s start arrivals replies heard old found
   -- the rows of where it leads

@@ -55,7 +55,8 @@ loop-arrival-preserved g c =
           (c.handle-reply.ensures.crash here.queue here.kept here_sound before.0.means) in
           let on : StopsIn s start (front ++ c.arrival-item.result ∷ []) (replies ++ c.handle-reply.result ∷ []) initial new = (
             runs_on s start front replies c.arrival-item.result c.handle-reply.result old new before.0 handled,
-            stops_on s start front replies c.arrival-item.result c.handle-reply.result old new before.0 initial before.1 stops handled c.handle-reply.ensures.alone,
+            stops_on s start front replies c.arrival-item.result c.handle-reply.result old new before.0 initial before.1 stops handled
+                c.handle-reply.ensures.alone,
           ) in
           let low : i < length c.args.arrivals.now = search rules in
           let seen : take (i + 1) c.args.arrivals.now ≡ front ++ c.arrival-item.result ∷ [] = take_more c.args.arrivals.now i c.arrival-item.result low ∙ ap (λ (a : Arrival). front ++ a ∷ []) (sym c.arrival-item.is) in
@@ -86,5 +87,5 @@ pub returns-clause-session : goal.returns-clause-session
 returns-clause-session g c m k sound means clean =
     let s = settings_of c.args.self.now.office.setup c.args.self.now.office.controls in
     let start : Start = record { queue = m; kept = k } in
-    runs_as_session s start c.args.arrivals.now c.loop-arrival.replies.items (state g.S.Store c.args.self.now.store.conn) (state g.S.Store c.loop-arrival.self.store.conn)
-    (returns-clause-crash g c m k sound means clean)
+    runs_as_session s start c.args.arrivals.now c.loop-arrival.replies.items (state g.S.Store c.args.self.now.store.conn)
+    (state g.S.Store c.loop-arrival.self.store.conn) (returns-clause-crash g c m k sound means clean)
