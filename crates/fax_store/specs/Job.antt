@@ -3,6 +3,8 @@ use Rattle.std.specs.Prelude.{◌≡◌, ℕ, List, [], ◌∷◌, ◌++◌, ◌
 use Rattle.std.specs.List.{range_with_len}
 use Rattle.std.specs.List.Sorted.{IsPermutation, IsSortedBy}
 use Rattle.sqlite.specs.Effect.{Database}
+use Rattle.sqlite.specs.Order.{column}
+use Rattle.sqlite.specs.Order.{column}
 use Rattle.fax_core.specs.Job.{Job, fields_of}
 use Rattle.fax_core.specs.Ageing.{aged_job, is_past}
 use Rattle.fax_core.specs.Best.{better}
@@ -96,3 +98,11 @@ JobStands db n job = (job.job ≡ n) × HasRow db jobs_tree job_places (job_show
 -- the same of a job without its extra lines
 abbrev pub BriefStands : Database → ℕ → JobFields → Type 0
 BriefStands db n job = (job.job ≡ n) × (job.extra ≡ []) × HasRow db jobs_tree brief_places (brief_shown job)
+
+-- there are as many jobs as rows, and each stands in its row, in any order
+abbrev pub JobsStand : Database → List JobFields → Type 0
+JobsStand db jobs = IsPermutation (map (λ row. map (column row) job_places) (db.trees jobs_tree)) (map job_shown jobs)
+
+-- the same of jobs without their extra lines
+abbrev pub BriefsStand : Database → List JobFields → Type 0
+BriefsStand db jobs = IsPermutation (map (λ row. map (column row) brief_places) (db.trees jobs_tree)) (map brief_shown jobs)

@@ -6,7 +6,7 @@ ghost use Rattle.fax_core.specs.Job.{job_of, fields_of};
 ghost use Rattle.fax_core.specs.Ledger.{Ledger};
 ghost use Rattle.fax_core.specs.Queue.{Queue, job_numbered};
 ghost use Rattle.fax_store.specs.Calls.{Answers, AnswersRows, Calls, FailsOnly, Finds, Makes, MakesWhere, Runs, Tells, shown};
-ghost use Rattle.fax_store.specs.Job.{BriefStands, HasJobRow, JobStands, IsChange, IsNewJob, IsWaiting, with_change, with_placed, with_one_more_job, with_expired, with_expired_in};
+ghost use Rattle.fax_store.specs.Job.{BriefStands, BriefsStand, HasJobRow, JobStands, JobsStand, IsChange, IsNewJob, IsWaiting, with_change, with_placed, with_one_more_job, with_expired, with_expired_in};
 ghost use Rattle.fax_store.specs.Meta.{IsJobLeft, with_clock};
 ghost use Rattle.fax_store.specs.Store.{Serves};
 ghost use Rattle.fax_store.specs.Work.{Works, IsOnlyUnavailable, Moves, Steps};
@@ -85,6 +85,7 @@ impl<S: Alter> Store<S> {
     pub fn jobs(&mut self) -> Result<Vec<Job>, StoreFault>
         ensures leaves { Finds S.Store self.old self.new result }
         ensures answers { Answers S.Store self.old self.new result (λ m k found. found.items ≡ map fields_of m.jobs) }
+        ensures stands { AnswersRows S.Store self.old self.new result (λ db found. JobsStand db found.items) }
     {
         let shown = self.show(SELECT_JOBS, &[])?;
         jobs_in(self.alloc, shown.as_slice())
@@ -99,6 +100,7 @@ impl<S: Alter> Store<S> {
         ensures leaves { Finds S.Store self.old self.new result }
         ensures answers { Answers S.Store self.old self.new result (λ m k found. found.items ≡ map (λ j. brief
             (fields_of j)) m.jobs) }
+        ensures stands { AnswersRows S.Store self.old self.new result (λ db found. BriefsStand db found.items) }
     {
         let shown = self.show(SELECT_BRIEFS, &[])?;
         briefs_in(self.alloc, shown.as_slice())
