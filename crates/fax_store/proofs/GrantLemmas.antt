@@ -1,5 +1,5 @@
 -- What the texts on grants read.
-use Rattle.std.proofs.Common.{◌≡◌, ℕ, List, [], ◌∷◌, Option, None, refl}
+use Rattle.std.proofs.Common.{◌≡◌, ℕ, [], ◌∷◌, Option, Some, None, drop, refl}
 use Rattle.std.specs.Option.{option_map}
 use Rattle.sqlite.specs.Effect.{Database}
 use Rattle.sqlite.specs.Order.{Row}
@@ -10,14 +10,14 @@ use Rattle.fax_core.specs.Queue.{Queue, grant_numbered}
 use Rattle.fax_core.specs.declared.grants.Grant.{Grant}
 use Rattle.fax_schema.specs.declared.statements.TheConstants.{SELECT_GRANT}
 use Rattle.fax_tables.specs.Grant.{grant_shown}
-use Rattle.fax_tables.specs.Row.{number, grant_row}
+use Rattle.fax_tables.specs.Row.{HasValues, number, grant_row}
 use Rattle.fax_schema.specs.Schema.{our_tables, grants_tree}
-use Rattle.fax_store.specs.Grant.{HasGrantRow}
+use Rattle.fax_store.specs.Grant.{GrantStands, HasGrantRow}
 use Rattle.fax_store.specs.Store.{FindsRow}
 use Rattle.fax_tables.specs.Tables.{TablesMean}
 use Rattle.fax_schema.proofs.CompareLemmas.{number_same}
 use Rattle.fax_schema.proofs.GrantTexts.{grant_names, grant_tests, grant_project, select_grant}
-use Rattle.fax_store.proofs.FoundLemmas.{none_keyed}
+use Rattle.fax_store.proofs.FoundLemmas.{none_keyed, one_numbered}
 use Rattle.fax_tables.proofs.KeyLemmas.{numbered_found}
 use Rattle.fax_schema.proofs.SelectLemmas.{passes, show, answers}
 
@@ -37,3 +37,7 @@ module _ (n : ℕ) where
     -- whatever the rows say, where none is found there is no grant of this number
     pub no_grant : FindsRow SELECT_GRANT.now params old new None → ¬ HasGrantRow db n
     no_grant = none_keyed SELECT_GRANT.now grants_tree grant_tests grant_project grant_names select_grant (λ trees. refl) params old new db ours now 0 (number n) (λ r. refl) (number_same n)
+
+    -- the grant that is read of the row that is found stands in a row
+    pub grant_stands : (row : Row) (g : Grant) → FindsRow SELECT_GRANT.now params old new (Some row) → HasValues row 0 (grant_shown g) → GrantStands db n g
+    grant_stands row g = one_numbered SELECT_GRANT.now grants_tree grant_tests grant_project grant_names select_grant (λ trees. refl) params old new db ours now n (2 ∷ 3 ∷ 4 ∷ 5 ∷ 6 ∷ 7 ∷ 8 ∷ []) (λ r. refl) row g.number (drop 1 (grant_shown g)) (λ r. refl)

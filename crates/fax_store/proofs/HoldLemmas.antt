@@ -1,8 +1,8 @@
 -- What the text on holds reads.
-use Rattle.std.proofs.Common.{◌≡◌, inl, inr, ℕ, List, [], ◌∷◌, map, filter, drop, Bool, true, false, not, ◌&&◌, Option, Some, None, MatchOption, refl, sym, ap, ap₂, subst, ◌∙◌}
+use Rattle.std.proofs.Common.{◌≡◌, inl, inr, ℕ, List, [], ◌∷◌, map, filter, drop, Bool, true, false, not, ◌&&◌, Option, Some, None, MatchOption, refl, sym, ap, ap₂, subst, arith, ◌∙◌}
 use Rattle.std.specs.Prelude.{find}
 use Rattle.std.specs.Option.{option_map}
-use Rattle.std.specs.Ordering.{is_ne}
+use Rattle.std.specs.Ordering.{is_eq, is_ne, nat_cmp}
 use Rattle.std.specs.Str.{bytes_eq}
 use Rattle.std.specs.declared.cmp.Ordering.{Ordering}
 use Rattle.std.specs.declared.cmp.Ordering.TheVariants.{Less, Equal, Greater}
@@ -14,7 +14,8 @@ use Rattle.sqlite.specs.Effect.{Database, IsDatabase}
 use Rattle.sqlite.specs.Order.{Row, column}
 use Rattle.sqlite.specs.State.{State}
 use Rattle.sqlite.specs.Tree.{rowid}
-use Rattle.sqlite.specs.declared.types.Value.TheVariants.{Text}
+use Rattle.sqlite.specs.declared.types.Value.{Value}
+use Rattle.sqlite.specs.declared.types.Value.TheVariants.{Null, Int, Real, Text, Blob}
 use Rattle.sqlite.proofs.Callers.{reads_as}
 use Rattle.sqlite_rules.specs.Lists.{Has}
 use Rattle.sqlite_rules.proofs.ListLemmas.{all_has, some_from, has_found}
@@ -22,21 +23,22 @@ use Rattle.sqlite_rules.proofs.PlaceLemmas.{tied_same}
 use Rattle.sqlite_rules.proofs.TableLemmas.{int_is}
 use Rattle.sqlite_schema.specs.Rules.{Keeps, agree, differ, equal, clashes}
 use Rattle.sqlite_schema.specs.declared.schema.Constraint.TheVariants.{Unique}
-use Rattle.sqlite_sql.specs.Ops.{is_null}
+use Rattle.sqlite_sql.specs.Ops.{binary, is_null}
 use Rattle.sqlite_sql.specs.Term.{Term}
-use Rattle.sqlite_sql.specs.declared.ops.CompareOp.TheVariants.{Ne}
+use Rattle.sqlite_sql.specs.declared.ops.CompareOp.TheVariants.{Eq, Ne}
 use Rattle.sqlite_value.specs.Keys.{plain}
-use Rattle.sqlite_value.specs.Order.{value_cmp}
+use Rattle.sqlite_value.specs.Order.{class, value_cmp}
 use Rattle.sqlite_value.proofs.KeyLemmas.{first_key-plain}
+use Rattle.sqlite_value.proofs.OrderLemmas.{value_cmp-apart}
 use Rattle.fax_core.specs.Machine.{held_by}
 use Rattle.fax_core.specs.Ledger.{Ledger}
 use Rattle.fax_core.specs.Queue.{Queue, open_grants}
 use Rattle.fax_core.specs.declared.grants.Grant.{Grant}
 use Rattle.fax_schema.specs.declared.statements.TheConstants.{SELECT_HOLD}
-use Rattle.fax_tables.specs.Grant.{hold_shown}
-use Rattle.fax_tables.specs.Row.{hold_columns}
+use Rattle.fax_tables.specs.Grant.{held_shown, hold_shown}
+use Rattle.fax_tables.specs.Row.{HasValues, hold_columns}
 use Rattle.fax_schema.specs.Schema.{our_tables, holds_tree}
-use Rattle.fax_store.specs.Grant.{HasHoldRow}
+use Rattle.fax_store.specs.Grant.{HasHoldRow, HoldStands}
 use Rattle.fax_store.specs.Store.{FindsRow}
 use Rattle.fax_tables.specs.Tables.{TablesMean}
 use Rattle.fax_schema.specs.ByRowid.{IsByRowid}
@@ -45,7 +47,8 @@ use Rattle.fax_schema.proofs.CompareLemmas.{are_equal, compared, equal_texts}
 use Rattle.fax_schema.proofs.EditLemmas.{shown_one, none_shown}
 use Rattle.fax_schema.proofs.GrantTexts.{hold_tests, hold_project, select_hold}
 use Rattle.fax_schema.proofs.SelectLemmas.{passes, show, answers}
-use Rattle.fax_store.proofs.FoundLemmas.{none_keyed}
+use Rattle.fax_store.proofs.FoundLemmas.{key_of, none_keyed, one_passes}
+use Rattle.fax_tables.specs.declared.grants.Hold.{Hold}
 
 -- ---- a modem stands in one row
 
@@ -121,6 +124,25 @@ second : (r : Row) → column r 1 ≡ column (drop 1 r) 0
 second [] = refl
 second (v ∷ r) = refl
 
+-- ---- what is equal to a text
+
+-- NULL isn't
+null_apart : (t : List ℕ) → are_equal Null (Text t) ≡ false
+unfolding binary
+null_apart t = refl
+
+-- no value of another class is
+class_apart : (v : Value) (t : List ℕ) → is_null v ≡ false → (class v ≡ 2 → ⊥) → is_eq (nat_cmp (class v) 2) ≡ false → are_equal v (Text t) ≡ false
+class_apart v t whole apart other = compared Eq v (Text t) whole refl ∙ ap is_eq (value_cmp-apart v (Text t) apart) ∙ other
+
+-- only the text itself is
+text_same : (v : Value) (t : List ℕ) → are_equal v (Text t) ≡ true → v ≡ Text t
+text_same Null t h = absurd (both_ways _ (null_apart t) h)
+text_same (Int n) t h = absurd (both_ways _ (class_apart (Int n) t refl (λ e. omega arith) refl) h)
+text_same (Real x) t h = absurd (both_ways _ (class_apart (Real x) t refl (λ e. omega arith) refl) h)
+text_same (Text s) t h = ap Text ((bytes_eq-Decides s t).0 (sym (equal_texts s t) ∙ h))
+text_same (Blob b) t h = absurd (both_ways _ (class_apart (Blob b) t refl (λ e. omega arith) refl) h)
+
 module _ (modem : List ℕ) where
   abbrev pub params : Row
   params = Text modem ∷ []
@@ -165,3 +187,10 @@ module _ (modem : List ℕ) where
     -- whatever the rows say, where none is found no row has the modem
     pub no_hold : FindsRow SELECT_HOLD.now params old new None → ¬ HasHoldRow db modem
     no_hold = none_keyed SELECT_HOLD.now holds_tree hold_tests hold_project _ select_hold (λ trees. refl) params old new db ours now 1 (Text modem) (λ r. refl) (equal_texts modem modem ∙ (bytes_eq-Decides modem modem).1 refl)
+
+    -- the hold that is read of the row that is found stands in a row
+    pub hold_stands : (row : Row) (h : Hold) → FindsRow SELECT_HOLD.now params old new (Some row) → HasValues row 0 (held_shown h) → HoldStands db modem h
+    hold_stands row h found has =
+        let it = one_passes SELECT_HOLD.now holds_tree hold_tests hold_project _ select_hold (λ trees. refl) params old new db ours now row (held_shown h) found has in
+        let key = text_same (column it.0 1) modem (key_of SELECT_HOLD.now holds_tree hold_tests hold_project _ select_hold (λ trees. refl) params old new db ours now 1 (Text modem) (λ r. refl) it.0 it.2) in
+        record { row = it.0; has = it.1; is = ap₂ ◌∷◌ key it.3 }

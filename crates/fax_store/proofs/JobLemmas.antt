@@ -1,5 +1,5 @@
 -- What the texts on jobs read and write.
-use Rattle.std.proofs.Common.{◌≡◌, ℕ, zero, suc, pos, ◌+◌, ◌-◌, ◌≤◌, List, [], ◌∷◌, ◌++◌, map, arith, false, Option, None, Err, refl, sym, ap, ap₂, subst, ◌∙◌}
+use Rattle.std.proofs.Common.{◌≡◌, ℕ, zero, suc, pos, ◌+◌, ◌-◌, ◌≤◌, List, [], ◌∷◌, ◌++◌, map, arith, false, Option, Some, None, Err, drop, refl, sym, ap, ap₂, subst, ◌∙◌}
 use Rattle.std.specs.Option.{option_map}
 use Rattle.std.specs.List.{range_with_len}
 use Rattle.std.proofs.lemmas.List.FromFn.{length-range_with_len}
@@ -21,9 +21,9 @@ use Rattle.fax_schema.specs.declared.statements.TheConstants.{SELECT_JOB, SELECT
 use Rattle.fax_schema.specs.Schema as schema
 use Rattle.fax_schema.specs.Schema.{our_tables, jobs_tree}
 use Rattle.fax_tables.specs.Place.{placed}
-use Rattle.fax_tables.specs.Row.{number, job_row}
+use Rattle.fax_tables.specs.Row.{HasValues, number, job_row}
 use Rattle.fax_tables.specs.Job.{IsFormed, IsLawfulJob, brief_shown, job_shown}
-use Rattle.fax_store.specs.Job.{HasJobRow, IsNewJob, with_placed}
+use Rattle.fax_store.specs.Job.{HasJobRow, IsNewJob, JobStands, BriefStands, brief_places, job_places, with_placed}
 use Rattle.fax_tables.specs.Tables.{TablesMean}
 use Rattle.fax_schema.specs.ByRowid.{IsByRowid}
 use Rattle.fax_store.specs.Store.{FindsRow, HasRun}
@@ -37,7 +37,7 @@ use Rattle.sqlite.specs.declared.error.Error.{Error}
 use Rattle.fax_tables.proofs.KeyLemmas.{numbered_found, free_of, row_placed, all_placed}
 use Rattle.fax_tables.proofs.TablesLemmas.{AreRecords, row_of, parts_of, means_of, calls_as, calls_of, jobs_changed, by_rowid_put}
 use Rattle.fax_store.proofs.CountLemmas.{calls_placed, jobs_placed}
-use Rattle.fax_store.proofs.FoundLemmas.{none_keyed}
+use Rattle.fax_store.proofs.FoundLemmas.{none_keyed, one_numbered}
 use Rattle.fax_tables.proofs.RowLemmas.{sent_low}
 use Rattle.fax_schema.proofs.WriteLemmas.{KeepsOthers, InsertsRow, unreferred, inserts}
 use Rattle.fax_schema.proofs.SelectLemmas.{passes, show, answers}
@@ -78,6 +78,16 @@ module _ (n : ℕ) where
     -- and the text on a job in brief
     pub no_brief : FindsRow SELECT_BRIEF.now params old new None → ¬ HasJobRow db n
     no_brief = none_found SELECT_BRIEF.now brief_project brief_names select_brief
+
+    -- the job that is read of the row that is found stands in a row
+    pub job_stands : (row : Row) (f : JobFields) → FindsRow SELECT_JOB.now params old new (Some row) → HasValues row 0 (job_shown f) → JobStands db n f
+    job_stands row f = one_numbered SELECT_JOB.now jobs_tree job_tests job_project job_names select_job (λ trees. refl) params old new db ours now n (drop 1 job_places) (λ r. refl) row f.job (drop 1 (job_shown f)) (λ r. refl)
+
+    -- so does the job in brief
+    pub brief_stands : (row : Row) (f : JobFields) → FindsRow SELECT_BRIEF.now params old new (Some row) → HasValues row 0 (brief_shown f) × (f.extra ≡ []) → BriefStands db n f
+    brief_stands row f h has =
+        let it = one_numbered SELECT_BRIEF.now jobs_tree job_tests brief_project brief_names select_brief (λ trees. refl) params old new db ours now n (drop 1 brief_places) (λ r. refl) row f.job (drop 1 (brief_shown f)) (λ r. refl) h has.0 in
+        (it.0, has.1, it.1)
 
 -- ---- one more row
 

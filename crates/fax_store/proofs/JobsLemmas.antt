@@ -1,12 +1,13 @@
 -- What the texts on all jobs read.
-use Rattle.std.proofs.Common.{◌≡◌, ◌<◌, ◌+◌, ℕ, pos, List, [], map, filter, true, false, nat_lt, get_or, refl, sym, ap, ap₂, subst, ◌∙◌, arith}
+use Rattle.std.proofs.Common.{◌≡◌, ◌<◌, ◌+◌, ℕ, pos, List, [], map, take, filter, true, false, nat_lt, get_or, refl, sym, ap, ap₂, subst, ◌∙◌, arith}
 use Rattle.std.specs.Ordering.{is_lt, int_cmp, ordering_then}
 use Rattle.std.specs.declared.cmp.Ordering.TheVariants.{Less, Equal}
-use Rattle.std.specs.List.Sorted.{IsSorted, IsNonDecreasingBy}
+use Rattle.std.specs.List.Sorted.{IsPermutation, IsSorted, IsNonDecreasingBy}
 use Rattle.std.proofs.lemmas.Bool.Decides.{nat_tests}
 use Rattle.std.proofs.lemmas.List.{get_or-map}
-use Rattle.std.proofs.lemmas.List.Sorted.{IsNonDecreasingBy-from_all_adjacent}
-use Rattle.sqlite.specs.Order.{Row}
+use Rattle.std.proofs.lemmas.List.Sorted.{IsNonDecreasingBy-from_all_adjacent, IsPermutation-map}
+use Rattle.sqlite.specs.Effect.{Database}
+use Rattle.sqlite.specs.Order.{Row, column}
 use Rattle.sqlite.specs.Query.{output_cmp, Output}
 use Rattle.sqlite.specs.State.{State, Shown}
 use Rattle.sqlite.specs.Tree.{rowid, IsTable}
@@ -27,6 +28,7 @@ use Rattle.sqlite_sql.specs.Term.{Term}
 use Rattle.fax_schema.proofs.SelectLemmas.{rows_by, passes, show, put_out, in_order}
 use Rattle.fax_schema.proofs.StatementForms.{SelectsBy}
 use Rattle.fax_tables.proofs.TablesLemmas.{row_of}
+use Rattle.fax_store.specs.Job.{brief_places, job_places}
 use Rattle.fax_store.proofs.OrderLemmas.{Below, only_order}
 use Rattle.fax_schema.proofs.StatementTexts.{brief_names, brief_project, job_names, job_project, jobs_order, select_briefs, select_jobs}
 
@@ -92,3 +94,27 @@ module _ (old new : State) (m : Queue) (k : Ledger) (means : TablesMean old.now 
   -- the text on all jobs in brief shows them in brief, in the queue's order
   pub briefs_found : Shown SELECT_BRIEFS.now [] old new rows → rows ≡ map (λ j. brief_shown (fields_of j)) m.jobs
   briefs_found = all_found old new m k means SELECT_BRIEFS.now brief_project brief_names select_briefs rows
+
+module _ (old new : State) (db : Database) (ours : db.schema ≡ our_tables) (now : old.now ≡ db) where
+  -- whatever the rows say, each is shown once, in some order
+  each_shown : (sql : List ℕ) (project : List Term) (names : List (List ℕ)) → SelectsBy sql jobs_tree [] project jobs_order names
+      → (n : ℕ) → ((rs : List Row) → map (λ r. take n (show jobs_tree [] project [] r)) rs ≡ map (show jobs_tree [] project []) rs)
+      → (rows : List Row) → Shown sql [] old new rows → IsPermutation (map (show jobs_tree [] project []) (db.trees jobs_tree)) (map (take n) rows)
+  each_shown sql project names selects n whole rows h =
+      let table = old.now.trees jobs_tree in
+      let of = show jobs_tree [] project [] in
+      let is_asked = passes jobs_tree [] project [] in
+      let read = reads_as sql [] old new our_tables (ap (λ (d : Database). d.schema) now ∙ ours) _ selects.command selects.plain selects.unlisted rows h in
+      let shown = in_order jobs_tree [] project [] old.now table refl jobs_order names rows read in
+      let all : filter is_asked table ≡ table = filter_all is_asked table (all_of (λ r. is_asked r ≡ true) (λ r. refl) table) in
+      let same : IsPermutation (map of table) (map of shown.0) = IsPermutation-map of table shown.0 (subst (λ (rs : List Row). IsPermutation rs shown.0) all shown.1) in
+      let told : map (take n) rows ≡ map of shown.0 = ap (map (take n)) shown.2 ∙ map-map (take n) of shown.0 ∙ whole shown.0 in
+      subst (λ (d : Database). IsPermutation (map of (d.trees jobs_tree)) (map (take n) rows)) now (subst (IsPermutation (map of table)) (sym told) same)
+
+  -- so does the text on all jobs
+  pub jobs_shown : (rows : List Row) → Shown SELECT_JOBS.now [] old new rows → IsPermutation (map (λ row. map (column row) job_places) (db.trees jobs_tree)) (map (take 20) rows)
+  jobs_shown = each_shown SELECT_JOBS.now job_project job_names select_jobs 20 (λ rs. refl)
+
+  -- and the text on all jobs in brief
+  pub briefs_shown : (rows : List Row) → Shown SELECT_BRIEFS.now [] old new rows → IsPermutation (map (λ row. map (column row) brief_places) (db.trees jobs_tree)) (map (take 19) rows)
+  briefs_shown = each_shown SELECT_BRIEFS.now brief_project brief_names select_briefs 19 (λ rs. refl)

@@ -1,10 +1,11 @@
 -- What the texts on the row of the clock and the next numbers read and write.
-use Rattle.std.proofs.Common.{◌≡◌, ◌≤◌, inl, inr, ℕ, pos, List, [], ◌∷◌, true, false, not, ◌&&◌, Some, Option, refl, sym, ap, ap₂, subst, ◌∙◌, arith}
+use Rattle.std.proofs.Common.{◌≡◌, ◌≤◌, inl, inr, ℕ, pos, [], ◌∷◌, true, false, not, ◌&&◌, Some, Option, refl, sym, ap, ap₂, subst, ◌∙◌, arith}
 use Rattle.std.specs.Prelude.{◌==◌}
 use Rattle.std.specs.Ordering.{is_ne}
 use Rattle.std.proofs.lemmas.Bool.{both_ways, cases_Bool, eqb-true, true≢false}
 use Rattle.std.proofs.lemmas.Bool.Decides.{nat_tests}
 use Rattle.sqlite.specs.Collation.TheVariants.{Binary}
+use Rattle.sqlite.specs.Effect.{Database}
 use Rattle.sqlite.specs.Order.{Row}
 use Rattle.sqlite.specs.Cast.{cast_row}
 use Rattle.sqlite.specs.State.{State}
@@ -18,14 +19,16 @@ use Rattle.fax_schema.specs.Schema as schema
 use Rattle.fax_schema.specs.Schema.{our_tables, meta_tree}
 use Rattle.fax_core.specs.Ledger.{Ledger}
 use Rattle.fax_core.specs.Queue.{Queue, open_grants}
-use Rattle.fax_tables.specs.Row.{number, meta_row}
-use Rattle.fax_store.specs.Meta.{with_clock}
-use Rattle.fax_tables.specs.Meta.{meta_shown}
+use Rattle.fax_tables.specs.Row.{HasValues, number, meta_row}
+use Rattle.fax_store.specs.Meta.{MetaStands, with_clock}
+use Rattle.fax_tables.specs.Meta.{meta_shown, numbers_shown}
+use Rattle.fax_tables.specs.declared.meta.Meta.{Meta}
 use Rattle.fax_tables.specs.Tables.{TablesMean, IsLawfulMeta}
 use Rattle.fax_schema.specs.ByRowid.{IsByRowid}
 use Rattle.fax_store.specs.Store.{FindsRow, HasRun}
 use Rattle.fax_schema.proofs.CompareLemmas.{compared, number_same, same_row, cast_int, cast_null}
 use Rattle.fax_schema.proofs.SelectLemmas.{passes, answers, only_row, only_found}
+use Rattle.fax_store.proofs.FoundLemmas.{one_passes}
 use Rattle.fax_schema.proofs.StatementTexts.{meta_tests, meta_project, select_meta, update_meta, update_project, update_clock, clock_project, clock_tests}
 use Rattle.fax_tables.proofs.TablesLemmas.{parts_of, means_of, calls_of, meta_changed}
 use Rattle.fax_schema.proofs.UpdateLemmas.{updated}
@@ -56,6 +59,12 @@ clock_kept clock m off =
 -- the one row of a table stands by its rowid
 alone : (m : Queue) → IsByRowid (meta_row m ∷ [])
 alone m = record { rise = (tt, tt); integers = (refl, tt) }
+
+-- whatever the rows say, what is read of the row that is found stands in a row
+pub meta_stands : (old new : State) (db : Database) → db.schema ≡ our_tables → old.now ≡ db → (row : Row) (meta : Meta) → FindsRow SELECT_META.now [] old new (Some row) → HasValues row 0 (numbers_shown meta) → MetaStands db meta
+meta_stands old new db ours now row meta h has =
+    let it = one_passes SELECT_META.now meta_tree meta_tests meta_project _ select_meta (λ trees. refl) [] old new db ours now row (numbers_shown meta) h has in
+    record { row = it.0; has = it.1; is = it.3 }
 
 module _ (old new : State) (m : Queue) (k : Ledger) (means : TablesMean old.now m k) where
   -- what the text on meta finds is its one row

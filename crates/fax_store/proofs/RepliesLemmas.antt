@@ -34,7 +34,7 @@ use Rattle.fax_store.proofs.FoundLemmas.{none_passes}
 use Rattle.fax_store.proofs.KeptLemmas.{row_of}
 use Rattle.fax_schema.proofs.StatementTexts.{reply_tests, reply_project, reply_terms, select_reply, insert_reply}
 use Rattle.fax_schema.proofs.WriteLemmas.{KeepsOthers, InsertsRow, unreferred, inserts}
-use Rattle.fax_tables.proofs.TablesLemmas.{Name, replies, parts_of, means_of, calls_of, replies_changed, one_more}
+use Rattle.fax_tables.proofs.TablesLemmas.{replies, parts_of, means_of, calls_of, replies_changed, one_more}
 use Rattle.sqlite.specs.Cast.{cast_row}
 use Rattle.sqlite.specs.Edit.{with_rowid, next_rowid}
 use Rattle.sqlite.specs.Rowids.TheVariants.{Chosen}

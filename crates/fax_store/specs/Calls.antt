@@ -1,5 +1,5 @@
 -- What a call leaves of a store, and of a work on it.
-use Rattle.std.specs.Prelude.{◌≡◌, false, List, IfOk, OnOk, Err, Result, is_err, IsTrue}
+use Rattle.std.specs.Prelude.{◌≡◌, false, IfOk, OnOk, Err, Result, is_err, IsTrue}
 use Rattle.sqlite.specs.Effect.{Database}
 use Rattle.sqlite.specs.Held.{state}
 use Rattle.sqlite.specs.State.{State, HasCleanDisk}

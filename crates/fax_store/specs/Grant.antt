@@ -10,8 +10,10 @@ use Rattle.fax_core.specs.Machine.{held_by, with_grant}
 use Rattle.fax_core.specs.Job.{Job}
 use Rattle.fax_core.specs.Queue.{Queue, grant_numbered, job_numbered, open_grants}
 use Rattle.fax_core.specs.declared.grants.Grant.{Grant}
+use Rattle.fax_tables.specs.Grant.{grant_shown, held_shown}
 use Rattle.fax_tables.specs.Place.{placed}
 use Rattle.fax_tables.specs.Row.{number}
+use Rattle.fax_tables.specs.declared.grants.Hold.{Hold}
 use Rattle.fax_schema.specs.Schema.{calls_tree, grants_tree, holds_tree, our_tables, core_tables}
 use Rattle.fax_tables.specs.Tables.{AreCalls, GoesOn}
 use Rattle.fax_store.specs.Store.{HasRow, HasTables}
@@ -94,3 +96,11 @@ HasGrantRow db n = HasRow db grants_tree (0 ∷ []) (number n ∷ [])
 -- a row of holds has this modem
 abbrev pub HasHoldRow : Database → List ℕ → Type 0
 HasHoldRow db modem = HasRow db holds_tree (1 ∷ []) (Text modem ∷ [])
+
+-- the grant is of this number, and stands in a row
+abbrev pub GrantStands : Database → ℕ → Grant → Type 0
+GrantStands db n g = (g.number ≡ n) × HasRow db grants_tree (0 ∷ 2 ∷ 3 ∷ 4 ∷ 5 ∷ 6 ∷ 7 ∷ 8 ∷ []) (grant_shown g)
+
+-- the hold stands in a row, beside this modem
+abbrev pub HoldStands : Database → List ℕ → Hold → Type 0
+HoldStands db modem h = HasRow db holds_tree (1 ∷ 3 ∷ 2 ∷ []) (Text modem ∷ held_shown h)

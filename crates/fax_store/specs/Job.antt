@@ -1,7 +1,10 @@
 -- What is made of the jobs of a queue, and which of them wait.
-use Rattle.std.specs.Prelude.{◌≡◌, ℕ, List, [], ◌∷◌, ◌+◌, ◌==◌, ◌&&◌, map, filter, Option, Some, None, if◌then◌else◌}
+use Rattle.std.specs.Prelude.{◌≡◌, ℕ, List, [], ◌∷◌, ◌++◌, ◌+◌, ◌==◌, ◌&&◌, map, filter, Option, Some, None, if◌then◌else◌}
+use Rattle.std.specs.List.{range_with_len}
 use Rattle.std.specs.List.Sorted.{IsPermutation, IsSortedBy}
 use Rattle.sqlite.specs.Effect.{Database}
+use Rattle.sqlite.specs.Order.{column}
+use Rattle.sqlite.specs.Order.{column}
 use Rattle.fax_core.specs.Job.{Job, fields_of}
 use Rattle.fax_core.specs.Ageing.{aged_job, is_past}
 use Rattle.fax_core.specs.Best.{better}
@@ -15,6 +18,7 @@ use Rattle.fax_job.specs.declared.job.Phase.{Phase}
 use Rattle.fax_job.specs.declared.job.Phase.TheVariants.{Failed}
 use Rattle.fax_schema.specs.Schema.{jobs_tree}
 use Rattle.fax_store.specs.Store.{HasRow}
+use Rattle.fax_tables.specs.Job.{brief_shown, job_shown}
 use Rattle.fax_tables.specs.Place.{placed}
 use Rattle.fax_tables.specs.Row.{number, phase_number}
 
@@ -75,6 +79,30 @@ IsWaiting t m found = (jobs : List Job) × (found ≡ map fields_of jobs) × Are
 
 -- ---- the rows, whatever they say
 
+-- where a row of jobs has what a query for a job in brief shows, in that order
+abbrev pub brief_places : List ℕ
+brief_places = 0 ∷ range_with_len 2 4 ++ range_with_len 7 14
+
+-- the same of a whole job
+abbrev pub job_places : List ℕ
+job_places = brief_places ++ 6 ∷ []
+
 -- a row of jobs has this number
 abbrev pub HasJobRow : Database → ℕ → Type 0
 HasJobRow db n = HasRow db jobs_tree (0 ∷ []) (number n ∷ [])
+
+-- the job is of this number, and stands in a row
+abbrev pub JobStands : Database → ℕ → JobFields → Type 0
+JobStands db n job = (job.job ≡ n) × HasRow db jobs_tree job_places (job_shown job)
+
+-- the same of a job without its extra lines
+abbrev pub BriefStands : Database → ℕ → JobFields → Type 0
+BriefStands db n job = (job.job ≡ n) × (job.extra ≡ []) × HasRow db jobs_tree brief_places (brief_shown job)
+
+-- there are as many jobs as rows, and each stands in its row, in any order
+abbrev pub JobsStand : Database → List JobFields → Type 0
+JobsStand db jobs = IsPermutation (map (λ row. map (column row) job_places) (db.trees jobs_tree)) (map job_shown jobs)
+
+-- the same of jobs without their extra lines
+abbrev pub BriefsStand : Database → List JobFields → Type 0
+BriefsStand db jobs = IsPermutation (map (λ row. map (column row) brief_places) (db.trees jobs_tree)) (map brief_shown jobs)

@@ -9,7 +9,7 @@ ghost use Rattle.fax_core.specs.Queue.{Queue, grant_numbered};
 ghost use Rattle.fax_core.specs.State.{calls_to};
 ghost use Rattle.fax_job.specs.Limits.{most_pages};
 ghost use Rattle.fax_store.specs.Calls.{Answers, AnswersRows, Calls, FailsOnly, Finds, Makes, MakesWhere, Runs, Tells, shown};
-ghost use Rattle.fax_store.specs.Grant.{HasCalls, HasGrantRow, HasHoldRow, IsCalled, IsHeld, IsHeldBy, IsNewGrant, IsReport, SetsCalls, with_count, with_placed, with_one_more_grant, with_closed};
+ghost use Rattle.fax_store.specs.Grant.{GrantStands, HasCalls, HasGrantRow, HasHoldRow, HoldStands, IsCalled, IsHeld, IsHeldBy, IsNewGrant, IsReport, SetsCalls, with_count, with_placed, with_one_more_grant, with_closed};
 ghost use Rattle.fax_store.specs.Meta.{IsGrantLeft};
 ghost use Rattle.fax_store.specs.Store.{Serves, HasTables};
 ghost use Rattle.fax_store.specs.Work.{Works, IsOnlyUnavailable, Moves, Steps};
@@ -44,6 +44,8 @@ impl<S: Alter> Store<S> {
             (held_by modem.now m)) }
         ensures missing { AnswersRows S.Store self.old self.new result (λ db found. IfNone found
             (¬ HasHoldRow db modem.now)) }
+        ensures stands { AnswersRows S.Store self.old self.new result (λ db found. IfSome found
+            (HoldStands db modem.now)) }
         ensures lawful { IfOk result (λ found. IfSome found IsLawfulHold) }
     {
         match self.find(SELECT_HOLD, params![modem])? {
@@ -62,6 +64,8 @@ impl<S: Alter> Store<S> {
         ensures answers { Answers S.Store self.old self.new result (λ m k found. found ≡ grant_numbered number m) }
         ensures missing { AnswersRows S.Store self.old self.new result (λ db found. IfNone found
             (¬ HasGrantRow db number)) }
+        ensures stands { AnswersRows S.Store self.old self.new result (λ db found. IfSome found
+            (GrantStands db number)) }
         ensures lawful { IfOk result (λ found. IfSome found IsWithinLimits) }
     {
         match self.find(SELECT_GRANT, params![number])? {

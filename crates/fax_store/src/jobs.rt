@@ -1,12 +1,12 @@
 //! The jobs.
 
-ghost use Rattle.std.specs.Prelude.{◌≡◌, ◌<◌, List, map, false, Err, IfErr, IfNone, is_err};
+ghost use Rattle.std.specs.Prelude.{◌≡◌, ◌<◌, List, map, false, Err, IfErr, IfNone, IfSome, is_err};
 ghost use Rattle.std.specs.Option.{option_map};
 ghost use Rattle.fax_core.specs.Job.{job_of, fields_of};
 ghost use Rattle.fax_core.specs.Ledger.{Ledger};
 ghost use Rattle.fax_core.specs.Queue.{Queue, job_numbered};
 ghost use Rattle.fax_store.specs.Calls.{Answers, AnswersRows, Calls, FailsOnly, Finds, Makes, MakesWhere, Runs, Tells, shown};
-ghost use Rattle.fax_store.specs.Job.{HasJobRow, IsChange, IsNewJob, IsWaiting, with_change, with_placed, with_one_more_job, with_expired, with_expired_in};
+ghost use Rattle.fax_store.specs.Job.{BriefStands, BriefsStand, HasJobRow, JobStands, JobsStand, IsChange, IsNewJob, IsWaiting, with_change, with_placed, with_one_more_job, with_expired, with_expired_in};
 ghost use Rattle.fax_store.specs.Meta.{IsJobLeft, with_clock};
 ghost use Rattle.fax_store.specs.Store.{Serves};
 ghost use Rattle.fax_store.specs.Work.{Works, IsOnlyUnavailable, Moves, Steps};
@@ -37,6 +37,7 @@ impl<S: Alter> Store<S> {
         ensures answers { Answers S.Store self.old self.new result (λ m k found. found ≡ option_map fields_of
             (job_numbered job m)) }
         ensures missing { AnswersRows S.Store self.old self.new result (λ db found. IfNone found (¬ HasJobRow db job)) }
+        ensures stands { AnswersRows S.Store self.old self.new result (λ db found. IfSome found (JobStands db job)) }
     {
         match self.find(SELECT_JOB, params![job])? {
             Some(row) => Ok(Some(job_in(self.alloc, &row)?)),
@@ -54,6 +55,7 @@ impl<S: Alter> Store<S> {
         ensures answers { Answers S.Store self.old self.new result (λ m k found. found ≡ option_map (λ j. brief
             (fields_of j)) (job_numbered job m)) }
         ensures missing { AnswersRows S.Store self.old self.new result (λ db found. IfNone found (¬ HasJobRow db job)) }
+        ensures stands { AnswersRows S.Store self.old self.new result (λ db found. IfSome found (BriefStands db job)) }
     {
         match self.find(SELECT_BRIEF, params![job])? {
             Some(row) => Ok(Some(brief_in(self.alloc, &row)?)),
@@ -83,6 +85,7 @@ impl<S: Alter> Store<S> {
     pub fn jobs(&mut self) -> Result<Vec<Job>, StoreFault>
         ensures leaves { Finds S.Store self.old self.new result }
         ensures answers { Answers S.Store self.old self.new result (λ m k found. found.items ≡ map fields_of m.jobs) }
+        ensures stands { AnswersRows S.Store self.old self.new result (λ db found. JobsStand db found.items) }
     {
         let shown = self.show(SELECT_JOBS, &[])?;
         jobs_in(self.alloc, shown.as_slice())
@@ -97,6 +100,7 @@ impl<S: Alter> Store<S> {
         ensures leaves { Finds S.Store self.old self.new result }
         ensures answers { Answers S.Store self.old self.new result (λ m k found. found.items ≡ map (λ j. brief
             (fields_of j)) m.jobs) }
+        ensures stands { AnswersRows S.Store self.old self.new result (λ db found. BriefsStand db found.items) }
     {
         let shown = self.show(SELECT_BRIEFS, &[])?;
         briefs_in(self.alloc, shown.as_slice())

@@ -3,8 +3,8 @@
 ghost use Rattle.std.specs.Prelude.{◌≡◌, List, false, Err, IfErr, IfOk, is_err};
 ghost use Rattle.fax_core.specs.Ledger.{Ledger};
 ghost use Rattle.fax_core.specs.Queue.{Queue};
-ghost use Rattle.fax_store.specs.Calls.{Answers, Calls, Finds, Makes, Runs, Tells, shown};
-ghost use Rattle.fax_store.specs.Meta.{with_clock};
+ghost use Rattle.fax_store.specs.Calls.{Answers, AnswersRows, Calls, Finds, Makes, Runs, Tells, shown};
+ghost use Rattle.fax_store.specs.Meta.{MetaStands, with_clock};
 ghost use Rattle.fax_store.specs.Store.{Serves};
 ghost use Rattle.fax_store.specs.Work.{Works, Steps};
 ghost use Rattle.fax_tables.specs.Meta.{meta_of, with_meta};
@@ -26,6 +26,7 @@ impl<S: Alter> Store<S> {
     pub fn meta(&mut self) -> Result<Meta, StoreFault>
         ensures leaves { Finds S.Store self.old self.new result }
         ensures answers { Answers S.Store self.old self.new result (λ m k meta. meta ≡ meta_of m) }
+        ensures stands { AnswersRows S.Store self.old self.new result MetaStands }
         ensures lawful { IfOk result (λ meta. (m : Queue) → IsLawfulMeta (with_meta meta m)) }
     {
         match self.find(SELECT_META, &[])? {

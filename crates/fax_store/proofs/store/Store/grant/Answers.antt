@@ -53,6 +53,13 @@ returns-in-None-clause-missing g c db ours now clean =
     let found : FindsRow SELECT_GRANT.now (texts.params c.args.number) old new c.in_ok-row.field-0 = subst (λ p. FindsRow SELECT_GRANT.now p old new c.in_ok-row.field-0) (search rules) (c.in_ok-row.ensures.found clean) in
     texts.no_grant c.args.number old new db ours now (subst (FindsRow SELECT_GRANT.now (texts.params c.args.number) old new) c.in-None.is found)
 
+pub returns-in_ok-grant_in-in-Some-clause-stands : goal.returns-in_ok-grant_in-in-Some-clause-stands
+returns-in_ok-grant_in-in-Some-clause-stands g c db ours now clean =
+    let old = state g.S.Store c.args.self.now.conn in
+    let new = state g.S.Store c.find.new.self.conn in
+    let found : FindsRow SELECT_GRANT.now (texts.params c.args.number) old new c.in_ok-row.field-0 = subst (λ p. FindsRow SELECT_GRANT.now p old new c.in_ok-row.field-0) (search rules) (c.in_ok-row.ensures.found clean) in
+    texts.grant_stands c.args.number old new db ours now c.in-Some.row _ (subst (FindsRow SELECT_GRANT.now (texts.params c.args.number) old new) c.in-Some.is found) c.in_ok-grant_in-in-Some.ensures.stands
+
 pub returns-in_err-grant_in-in-Some-clause-leaves : goal.returns-in_err-grant_in-in-Some-clause-leaves
 returns-in_err-grant_in-in-Some-clause-leaves g c = finds_as g.S.Store _ _ _ _ c.in_ok-row.ensures.leaves
 

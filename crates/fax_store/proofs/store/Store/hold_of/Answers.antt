@@ -56,6 +56,13 @@ returns-in-None-clause-missing g c db ours now clean =
     let found : FindsRow SELECT_HOLD.now (texts.params c.args.modem.now) old new c.in_ok-row.field-0 = subst (λ p. FindsRow SELECT_HOLD.now p old new c.in_ok-row.field-0) (search rules) (c.in_ok-row.ensures.found clean) in
     texts.no_hold c.args.modem.now old new db ours now (subst (FindsRow SELECT_HOLD.now (texts.params c.args.modem.now) old new) c.in-None.is found)
 
+pub returns-in_ok-in_row-in-Some-clause-stands : goal.returns-in_ok-in_row-in-Some-clause-stands
+returns-in_ok-in_row-in-Some-clause-stands g c db ours now clean =
+    let old = state g.S.Store c.args.self.now.conn in
+    let new = state g.S.Store c.find.new.self.conn in
+    let found : FindsRow SELECT_HOLD.now (texts.params c.args.modem.now) old new c.in_ok-row.field-0 = subst (λ p. FindsRow SELECT_HOLD.now p old new c.in_ok-row.field-0) (search rules) (c.in_ok-row.ensures.found clean) in
+    texts.hold_stands c.args.modem.now old new db ours now c.in-Some.row _ (subst (FindsRow SELECT_HOLD.now (texts.params c.args.modem.now) old new) c.in-Some.is found) c.in_ok-in_row-in-Some.ensures.stands
+
 pub returns-in_err-in_row-in-Some-clause-leaves : goal.returns-in_err-in_row-in-Some-clause-leaves
 returns-in_err-in_row-in-Some-clause-leaves g c = finds_as g.S.Store _ _ _ _ c.in_ok-row.ensures.leaves
 

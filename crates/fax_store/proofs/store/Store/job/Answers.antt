@@ -8,7 +8,7 @@ use Rattle.fax_tables.specs.declared.fault.StoreFault.TheVariants.{Unavailable}
 use Rattle.fax_schema.specs.declared.statements.TheConstants.{SELECT_JOB}
 use Rattle.fax_tables.specs.Job.{IsLawfulJob, job_shown}
 use Rattle.fax_store.specs.Store.{FindsRow}
-use Rattle.fax_store.proofs.JobLemmas.{params, job_found, no_job}
+use Rattle.fax_store.proofs.JobLemmas.{params, job_found, no_job, job_stands}
 use Rattle.fax_tables.proofs.KeyLemmas.{is_there, is_none, found_holds}
 use Rattle.fax_tables.proofs.ResultLemmas.{passes_on}
 use Rattle.fax_schema.proofs.StatementTexts.{select_job}
@@ -52,6 +52,13 @@ returns-in-None-clause-missing g c db ours now clean =
     let new = state g.S.Store c.find.new.self.conn in
     let found : FindsRow SELECT_JOB.now (params c.args.job) old new c.in_ok-row.field-0 = subst (λ p. FindsRow SELECT_JOB.now p old new c.in_ok-row.field-0) (search rules) (c.in_ok-row.ensures.found clean) in
     no_job c.args.job old new db ours now (subst (FindsRow SELECT_JOB.now (params c.args.job) old new) c.in-None.is found)
+
+pub returns-in_ok-job_in-in-Some-clause-stands : goal.returns-in_ok-job_in-in-Some-clause-stands
+returns-in_ok-job_in-in-Some-clause-stands g c db ours now clean =
+    let old = state g.S.Store c.args.self.now.conn in
+    let new = state g.S.Store c.find.new.self.conn in
+    let found : FindsRow SELECT_JOB.now (params c.args.job) old new c.in_ok-row.field-0 = subst (λ p. FindsRow SELECT_JOB.now p old new c.in_ok-row.field-0) (search rules) (c.in_ok-row.ensures.found clean) in
+    job_stands c.args.job old new db ours now c.in-Some.row c.in_ok-job_in-in-Some.field-0 (subst (FindsRow SELECT_JOB.now (params c.args.job) old new) c.in-Some.is found) c.in_ok-job_in-in-Some.ensures.stands
 
 pub returns-in_err-job_in-in-Some-clause-leaves : goal.returns-in_err-job_in-in-Some-clause-leaves
 returns-in_err-job_in-in-Some-clause-leaves g c = finds_as g.S.Store _ _ _ _ c.in_ok-row.ensures.leaves

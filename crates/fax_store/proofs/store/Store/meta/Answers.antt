@@ -1,6 +1,12 @@
-use Rattle.std.proofs.Common.{sym, ◌∙◌}
+use Rattle.std.proofs.Common.{[], sym, subst, ◌∙◌}
+use Rattle.std.proofs.lemmas.Result.{IfOk-weaker}
 use Rattle.sqlite.specs.Held.{state}
-use Rattle.fax_store.proofs.MetaLemmas.{meta_found}
+use Rattle.fax_schema.specs.declared.statements.TheConstants.{SELECT_META}
+use Rattle.fax_store.specs.Meta.{MetaStands}
+use Rattle.fax_store.specs.Store.{FindsRow}
+use Rattle.fax_store.proofs.MetaLemmas.{meta_found, meta_stands}
+use Rattle.fax_tables.specs.Meta.{numbers_shown}
+use Rattle.fax_tables.specs.Row.{HasValues}
 use Rattle.fax_schema.proofs.StatementTexts.{select_meta}
 use Rattle.fax_store.proofs.FrameLemmas.{finds_as}
 use Rattle.fax_store.proofs.store.Store.meta.Goals as goal
@@ -15,6 +21,13 @@ pub returns-in-None-clause-answers : goal.returns-in-None-clause-answers
 returns-in-None-clause-answers g c m k means s =
     let is = sym c.in-None.is ∙ meta_found (state g.S.Store c.args.self.now.conn) (state g.S.Store c.find.new.self.conn) m k (means (c.in_ok-row.ensures.leaves.served s)) c.in_ok-row.field-0 (c.in_ok-row.ensures.found s.clean) in
     absurd (let it = is in cc)
+
+pub returns-in-Some-clause-stands : goal.returns-in-Some-clause-stands
+returns-in-Some-clause-stands g c db ours now clean =
+    let old = state g.S.Store c.args.self.now.conn in
+    let new = state g.S.Store c.find.new.self.conn in
+    let found = subst (FindsRow SELECT_META.now [] old new) c.in-Some.is (c.in_ok-row.ensures.found clean) in
+    IfOk-weaker c.in_row.result (λ meta. HasValues c.in-Some.row 0 (numbers_shown meta)) (MetaStands db) (λ meta has. meta_stands old new db ours now c.in-Some.row meta found has) c.in_row.ensures.stands
 
 pub returns-in-Some-clause-leaves : goal.returns-in-Some-clause-leaves
 returns-in-Some-clause-leaves g c = finds_as g.S.Store _ _ _ _ c.in_ok-row.ensures.leaves
