@@ -36,8 +36,12 @@ module _ (n : ℕ) where
   module _ (old new : State) (db : Database) (ours : db.schema ≡ our_tables) (now : old.now ≡ db) where
     -- whatever the rows say, where none is found there is no grant of this number
     pub no_grant : FindsRow SELECT_GRANT.now params old new None → ¬ HasGrantRow db n
-    no_grant = none_keyed SELECT_GRANT.now grants_tree grant_tests grant_project grant_names select_grant (λ trees. refl) params old new db ours now 0 (number n) (λ r. refl) (number_same n)
+    no_grant =
+        none_keyed SELECT_GRANT.now grants_tree grant_tests grant_project grant_names select_grant (λ trees. refl) params old new db ours now
+        0 (number n) (λ r. refl) (number_same n)
 
     -- the grant that is read of the row that is found stands in a row
     pub grant_stands : (row : Row) (g : Grant) → FindsRow SELECT_GRANT.now params old new (Some row) → HasValues row 0 (grant_shown g) → GrantStands db n g
-    grant_stands row g = one_numbered SELECT_GRANT.now grants_tree grant_tests grant_project grant_names select_grant (λ trees. refl) params old new db ours now n (2 ∷ 3 ∷ 4 ∷ 5 ∷ 6 ∷ 7 ∷ 8 ∷ []) (λ r. refl) row g.number (drop 1 (grant_shown g)) (λ r. refl)
+    grant_stands row g =
+        one_numbered SELECT_GRANT.now grants_tree grant_tests grant_project grant_names select_grant (λ trees. refl) params old new db ours now
+        n (2 ∷ 3 ∷ 4 ∷ 5 ∷ 6 ∷ 7 ∷ 8 ∷ []) (λ r. refl) row g.number (drop 1 (grant_shown g)) (λ r. refl)

@@ -186,11 +186,14 @@ module _ (modem : List ℕ) where
   module _ (old new : State) (db : Database) (ours : db.schema ≡ our_tables) (now : old.now ≡ db) where
     -- whatever the rows say, where none is found no row has the modem
     pub no_hold : FindsRow SELECT_HOLD.now params old new None → ¬ HasHoldRow db modem
-    no_hold = none_keyed SELECT_HOLD.now holds_tree hold_tests hold_project _ select_hold (λ trees. refl) params old new db ours now 1 (Text modem) (λ r. refl) (equal_texts modem modem ∙ (bytes_eq-Decides modem modem).1 refl)
+    no_hold =
+        none_keyed SELECT_HOLD.now holds_tree hold_tests hold_project _ select_hold (λ trees. refl) params old new db ours now
+        1 (Text modem) (λ r. refl) (equal_texts modem modem ∙ (bytes_eq-Decides modem modem).1 refl)
 
     -- the hold that is read of the row that is found stands in a row
     pub hold_stands : (row : Row) (h : Hold) → FindsRow SELECT_HOLD.now params old new (Some row) → HasValues row 0 (held_shown h) → HoldStands db modem h
     hold_stands row h found has =
         let it = one_passes SELECT_HOLD.now holds_tree hold_tests hold_project _ select_hold (λ trees. refl) params old new db ours now row (held_shown h) found has in
-        let key = text_same (column it.0 1) modem (key_of SELECT_HOLD.now holds_tree hold_tests hold_project _ select_hold (λ trees. refl) params old new db ours now 1 (Text modem) (λ r. refl) it.0 it.2) in
+        let equal = key_of SELECT_HOLD.now holds_tree hold_tests hold_project _ select_hold (λ trees. refl) params old new db ours now 1 (Text modem) (λ r. refl) it.0 it.2 in
+        let key = text_same (column it.0 1) modem equal in
         record { row = it.0; has = it.1; is = ap₂ ◌∷◌ key it.3 }

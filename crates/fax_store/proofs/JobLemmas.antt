@@ -69,7 +69,8 @@ module _ (n : ℕ) where
   module _ (old new : State) (db : Database) (ours : db.schema ≡ our_tables) (now : old.now ≡ db) where
     -- whatever the rows say, where none is found there is no job of this number
     none_found : (sql : List ℕ) (project : List Term) (names : List (List ℕ)) → Selects sql jobs_tree job_tests project names → FindsRow sql params old new None → ¬ HasJobRow db n
-    none_found sql project names selects = none_keyed sql jobs_tree job_tests project names selects (λ trees. refl) params old new db ours now 0 (number n) (λ r. refl) (number_same n)
+    none_found sql project names selects =
+        none_keyed sql jobs_tree job_tests project names selects (λ trees. refl) params old new db ours now 0 (number n) (λ r. refl) (number_same n)
 
     -- so says the text on a job
     pub no_job : FindsRow SELECT_JOB.now params old new None → ¬ HasJobRow db n
@@ -81,12 +82,16 @@ module _ (n : ℕ) where
 
     -- the job that is read of the row that is found stands in a row
     pub job_stands : (row : Row) (f : JobFields) → FindsRow SELECT_JOB.now params old new (Some row) → HasValues row 0 (job_shown f) → JobStands db n f
-    job_stands row f = one_numbered SELECT_JOB.now jobs_tree job_tests job_project job_names select_job (λ trees. refl) params old new db ours now n (drop 1 job_places) (λ r. refl) row f.job (drop 1 (job_shown f)) (λ r. refl)
+    job_stands row f =
+        one_numbered SELECT_JOB.now jobs_tree job_tests job_project job_names select_job (λ trees. refl) params old new db ours now
+        n (drop 1 job_places) (λ r. refl) row f.job (drop 1 (job_shown f)) (λ r. refl)
 
     -- so does the job in brief
     pub brief_stands : (row : Row) (f : JobFields) → FindsRow SELECT_BRIEF.now params old new (Some row) → HasValues row 0 (brief_shown f) × (f.extra ≡ []) → BriefStands db n f
     brief_stands row f h has =
-        let it = one_numbered SELECT_BRIEF.now jobs_tree job_tests brief_project brief_names select_brief (λ trees. refl) params old new db ours now n (drop 1 brief_places) (λ r. refl) row f.job (drop 1 (brief_shown f)) (λ r. refl) h has.0 in
+        let it =
+        one_numbered SELECT_BRIEF.now jobs_tree job_tests brief_project brief_names select_brief (λ trees. refl) params old new db ours now
+        n (drop 1 brief_places) (λ r. refl) row f.job (drop 1 (brief_shown f)) (λ r. refl) h has.0 in
         (it.0, has.1, it.1)
 
 -- ---- one more row

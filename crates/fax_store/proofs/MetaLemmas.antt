@@ -61,7 +61,8 @@ alone : (m : Queue) → IsByRowid (meta_row m ∷ [])
 alone m = record { rise = (tt, tt); integers = (refl, tt) }
 
 -- whatever the rows say, what is read of the row that is found stands in a row
-pub meta_stands : (old new : State) (db : Database) → db.schema ≡ our_tables → old.now ≡ db → (row : Row) (meta : Meta) → FindsRow SELECT_META.now [] old new (Some row) → HasValues row 0 (numbers_shown meta) → MetaStands db meta
+pub meta_stands : (old new : State) (db : Database) → db.schema ≡ our_tables → old.now ≡ db → (row : Row) (meta : Meta)
+    → FindsRow SELECT_META.now [] old new (Some row) → HasValues row 0 (numbers_shown meta) → MetaStands db meta
 meta_stands old new db ours now row meta h has =
     let it = one_passes SELECT_META.now meta_tree meta_tests meta_project _ select_meta (λ trees. refl) [] old new db ours now row (numbers_shown meta) h has in
     record { row = it.0; has = it.1; is = it.3 }

@@ -1,6 +1,6 @@
 //! The jobs.
 
-ghost use Rattle.std.specs.Prelude.{◌≡◌, ◌<◌, List, map, false, Err, IfErr, IfNone, IfSome, is_err};
+ghost use Rattle.std.specs.Prelude.{◌≡◌, ◌<◌, List, map, false, Err, IfErr, IfNone, IfOk, IfSome, is_err};
 ghost use Rattle.std.specs.Option.{option_map};
 ghost use Rattle.fax_core.specs.Job.{job_of, fields_of};
 ghost use Rattle.fax_core.specs.Ledger.{Ledger};
@@ -101,6 +101,7 @@ impl<S: Alter> Store<S> {
         ensures answers { Answers S.Store self.old self.new result (λ m k found. found.items ≡ map (λ j. brief
             (fields_of j)) m.jobs) }
         ensures stands { AnswersRows S.Store self.old self.new result (λ db found. BriefsStand db found.items) }
+        ensures bare { IfOk result (λ found. map brief found.items ≡ found.items) }
     {
         let shown = self.show(SELECT_BRIEFS, &[])?;
         briefs_in(self.alloc, shown.as_slice())

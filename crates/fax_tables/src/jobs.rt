@@ -268,6 +268,7 @@ pub fn briefs_in(alloc: Global, rows: &[Row]) -> Result<Vec<Job>, StoreFault>
     ensures found { (jobs : List OneJob) → rows.now ≡ map (λ j. brief_shown (fields_of j)) jobs → All IsLawfulJob jobs
         → OrUnavailable result (λ found. found.items ≡ map (λ j. brief (fields_of j)) jobs) }
     ensures stands { IfOk result (λ found. map (take 19) rows.now ≡ map brief_shown found.items) }
+    ensures bare { IfOk result (λ found. map brief found.items ≡ found.items) }
 {
     let mut jobs = Vec::new(alloc);
     for row in rows {

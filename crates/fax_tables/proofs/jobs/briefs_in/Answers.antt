@@ -1,9 +1,11 @@
-use Rattle.std.proofs.Common.{◌≡◌, ◌<◌, ◌++◌, [], ◌∷◌, length, map, take, get_or, true, if◌then◌else◌, sym, ap, ap₂, subst, ◌∙◌, rules}
+use Rattle.std.proofs.Common.{◌≡◌, ◌<◌, ◌++◌, List, [], ◌∷◌, length, map, take, get_or, true, if◌then◌else◌, sym, ap, ap₂, subst, ◌∙◌, rules}
 use Rattle.std.proofs.lemmas.List.{map-append}
 use Rattle.std.proofs.lemmas.List.Elements.{recursion_from_All}
 use Rattle.std.specs.Result.{is_ok}
 use Rattle.sqlite_rules.proofs.ListLemmas.{all_has}
 use Rattle.fax_core.specs.Job.{Job, fields_of}
+use Rattle.fax_job.specs.Pair.{Pair}
+use Rattle.fax_job.specs.declared.job.JobFields.{JobFields}
 use Rattle.fax_tables.specs.Job.{IsLawfulJob, brief, brief_shown}
 use Rattle.fax_tables.proofs.IndexLemmas.{at_index, length_map}
 use Rattle.fax_tables.proofs.ResultLemmas.{passes_on}
@@ -38,5 +40,11 @@ loop-row-preserved c =
           more
           ∙ ap₂ (λ front j. front ++ j ∷ []) (c.loop-row.invariant.found jobs is all) (c.in_ok-job.ensures.found (fields_of it.0) row lawful.limits lawful.formed)
           ∙ sym (ap (map (λ (j : Job). brief (fields_of j))) it.1.more ∙ map-append (λ (j : Job). brief (fields_of j)) (take i jobs) (it.0 ∷ []));
-      stands = one_more_row 19 brief_shown c.args.rows.now i c.row-item.result before c.in_ok-job.job within c.row-item.is c.loop-row.invariant.stands (first_from c.row-item.result (brief_shown c.in_ok-job.job) 0 c.in_ok-job.ensures.stands.0) ∙ sym (ap (map brief_shown) more);
+      stands =
+          one_more_row 19 brief_shown c.args.rows.now i c.row-item.result before c.in_ok-job.job within c.row-item.is c.loop-row.invariant.stands
+          (first_from c.row-item.result (brief_shown c.in_ok-job.job) 0 c.in_ok-job.ensures.stands.0) ∙ sym (ap (map brief_shown) more);
+      bare =
+          ap (map brief) more ∙ map-append brief before (c.in_ok-job.job ∷ [])
+          ∙ ap₂ (λ front (j : JobFields). front ++ j ∷ []) c.loop-row.invariant.bare
+          (ap (λ (lines : List Pair). record c.in_ok-job.job { extra = lines }) (sym c.in_ok-job.ensures.stands.1)) ∙ sym more;
     }

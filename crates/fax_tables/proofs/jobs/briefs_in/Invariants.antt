@@ -8,4 +8,5 @@ abbrev pub invariant-loop-row : goal.invariant-loop-row
 invariant-loop-row l = record {
   found : (jobs : List Job) → l.rows ≡ map (λ j. brief_shown (fields_of j)) jobs → All IsLawfulJob jobs → l.jobs.items ≡ map (λ j. brief (fields_of j)) (take l.row-index jobs);
   stands : map (take 19) (take l.row-index l.rows) ≡ map brief_shown l.jobs.items;
+  bare : map brief l.jobs.items ≡ l.jobs.items;
 }

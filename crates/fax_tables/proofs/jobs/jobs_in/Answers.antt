@@ -38,5 +38,7 @@ loop-row-preserved c =
           more
           ∙ ap₂ (λ front j. front ++ j ∷ []) (c.loop-row.invariant.found jobs is all) (c.in_ok-job.ensures.found (fields_of it.0) row lawful.limits lawful.formed)
           ∙ sym (ap (map fields_of) it.1.more ∙ map-append fields_of (take i jobs) (it.0 ∷ []));
-      stands = one_more_row 20 job_shown c.args.rows.now i c.row-item.result before c.in_ok-job.job within c.row-item.is c.loop-row.invariant.stands (first_from c.row-item.result (job_shown c.in_ok-job.job) 0 c.in_ok-job.ensures.stands) ∙ sym (ap (map job_shown) more);
+      stands =
+          one_more_row 20 job_shown c.args.rows.now i c.row-item.result before c.in_ok-job.job within c.row-item.is c.loop-row.invariant.stands
+          (first_from c.row-item.result (job_shown c.in_ok-job.job) 0 c.in_ok-job.ensures.stands) ∙ sym (ap (map job_shown) more);
     }
