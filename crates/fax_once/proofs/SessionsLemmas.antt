@@ -423,9 +423,9 @@ sessions_have_one_list first last sessions sound follow =
 -- ---- what a crash leaves
 
 -- an arrival is one of those that it stands among
-one_of : (before : List Arrival) (a : Arrival) (behind : List Arrival) → Has (before ++ a ∷ behind) a
-one_of [] a behind = inl refl
-one_of (b ∷ before) a behind = inr (one_of before a behind)
+one_of : (before : List Arrival) (a : Arrival) (after : List Arrival) → Has (before ++ a ∷ after) a
+one_of [] a after = inl refl
+one_of (b ∷ before) a after = inr (one_of before a after)
 
 -- what a verdict makes are the rows of where it leads
 rows_of : (here : Start) (v : Verdict) (found : Trees) → AreMadeBy v found → RowsFound found (left_of here v).queue (left_of here v).kept
