@@ -1,6 +1,6 @@
 -- Worked rows of sessions: a restart by another setup, and a session that was broken off. Of sessions and of what was heard the newest comes first.
 use Rattle.std.proofs.Common.{inl, inr, subst}
-use Rattle.std.specs.Prelude.{◌≡◌, ◌⊎◌, refl, ℕ, List, [], ◌∷◌, false, map, codes, Option, Some, None}
+use Rattle.std.specs.Prelude.{◌≡◌, ◌⊎◌, refl, ℕ, List, [], ◌∷◌, ◌++◌, false, map, codes, Option, Some, None}
 use Rattle.std.specs.Str.{bytes_eq}
 use Rattle.fax_job.specs.declared.refusal.Refusal.TheVariants.{NoModem}
 use Rattle.fax_ask.specs.Response.{Response}
@@ -10,7 +10,7 @@ use Rattle.fax_core.specs.Settings.{Settings}
 use Rattle.fax_core.proofs.RowWords.{hand, settings, ttyS0, ttyS1}
 use Rattle.fax_once.proofs.RowsRuns.{accepted, desk, fax, lab, post, refused, start, submitted}
 use Rattle.fax_once.specs.Reading.{IsReading, Reading}
-use Rattle.fax_once.specs.Run.{Start, end_of, taken}
+use Rattle.fax_once.specs.Run.{Start, end_after, end_of, taken}
 use Rattle.fax_once.specs.Sessions.{Follow, IsSession, LeavesOff, Session}
 use Rattle.fax_once.specs.declared.arrival.Arrival.{Arrival}
 
@@ -60,6 +60,10 @@ restart_row a b c says_fax says_old says_new = (
 -- what was taken of the second was fed under its own setup
 other_setup_row : map (λ f. f.settings.has_modem ttyS0) (taken other day (asks ttyS1 ∷ asks ttyS0 ∷ [])) ≡ false ∷ []
 other_setup_row = refl
+
+-- so one list leads where both sessions lead
+one_list_row : end_after start (taken other day (asks ttyS1 ∷ asks ttyS0 ∷ []) ++ taken settings start (submitted ∷ [])) ≡ night
+one_list_row = refl
 
 -- ---- a session that was broken off, with the fax under way
 
