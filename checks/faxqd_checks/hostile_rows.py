@@ -188,8 +188,8 @@ def text_rows():
 MOVED = (  # rows that contradict others, or that no request can name: the requests that meet them, and what makes them
     *((["all jobs", "a choice"], f"UPDATE jobs SET job = {job} WHERE job = 3") for job in (0, -1, 1000000, 2 ** 32 + 3, BIG)),
     *((["a busy modem"], statement) for statement in (
-        "UPDATE holds SET job = 99", "UPDATE holds SET job = 2 WHERE modem = 'ttyS0'", "UPDATE holds SET id = 99",
-        "DELETE FROM grants WHERE id = 1", "UPDATE grants SET modem = 'ttyS2' WHERE id = 1", "UPDATE grants SET shut = 1 WHERE id = 1")),
+        "UPDATE holds SET job = 99", "UPDATE holds SET id = 99", "DELETE FROM grants WHERE id = 1",
+        "UPDATE grants SET modem = 'ttyS2' WHERE id = 1", "UPDATE grants SET shut = 1 WHERE id = 1")),
     (ON_GRANT[1], "DELETE FROM jobs WHERE job = 1"),
     *((ON_GRANT[1], f"UPDATE grants SET {change} WHERE id = 1") for change in ("job = 99", "first_page = 0", "last_page = 0")),
     (["a submission"], "UPDATE meta SET next_job = 2"), (["a choice"], "UPDATE meta SET next_grant = 2"),
