@@ -18,6 +18,7 @@ pub mod BroughtLemmas
 pub mod ClockLemmas
 pub mod FitsLemmas
 pub mod RefusalLemmas
+mod ReasonLemmas
 pub mod ReportLemmas
 pub mod ChangeLemmas
 pub mod RecordLemmas

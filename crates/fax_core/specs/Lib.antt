@@ -15,6 +15,7 @@ pub mod Sound
 pub mod Fits
 pub mod Run
 pub mod Refusals
+pub mod Reasons
 pub mod Laws
 pub mod Change
 pub mod Submission

@@ -5,6 +5,7 @@
 
 ghost use Rattle.fax_core.specs.Laws.{StepsStaySound, RunsStaySound, RunsHoldOnce, GivenJobsAreFree, PageReportsConfirm, StepsKeepSent, RunsKeepSent, PagesAreGrantedNoMore, BroughtPagesAreNotGranted, PagesRise, RefusalsAreMet, KeysGoWithRefusals, BusyModemsAreTold, BestIsGiven, OneIsBest, NothingIsLeftOut, ReadyJobsAreDue, TakenStepsSetTheClock, RequestsSetTheClock, ClocksGoForward, RecordsAreJobs, JobsAreRecords, FitsIsDecided, RequestsKeepRecords, AlterationsKeepRecords, GrantsKeepRecords, ReportsKeepRecords};
 ghost use Rattle.fax_core.specs.Import.{ReadImportsAreLawful};
+ghost use Rattle.fax_core.specs.Reasons.{RefusalsHaveReasons};
 ghost use Rattle.fax_core.specs.Queue.{empty_queue};
 ghost use Rattle.fax_core.specs.Sound.{Sound};
 ghost use Rattle.fax_core.specs.Submission.{ReadOrdersAreLawful};
@@ -39,10 +40,12 @@ pub fn no_page_twice()
     ensures rise { PagesRise }
 {}
 
-/// A refused request meets one of the refusals that are listed for it, and what is told with it is what
-/// goes with that refusal. A busy modem is told the open grant that it holds, and its job's number to dial.
+/// A refused request meets one of the refusals that are listed for it, and only for its reason; what is told
+/// with it is what goes with that refusal. A busy modem is told the open grant that it holds, and its job's
+/// number to dial.
 pub fn refusals()
     ensures number { RefusalsAreMet }
+    ensures reason { RefusalsHaveReasons }
     ensures keys { KeysGoWithRefusals }
     ensures held { BusyModemsAreTold }
 {}
