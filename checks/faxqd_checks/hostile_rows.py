@@ -67,7 +67,7 @@ LIMITS = {  # the least and the greatest value of each column; a name stands for
              "ntries": (0, "tottries"), "tottries": ("ntries", "maxtries"), "maxtries": ("tottries", 1000),
              "ndials": (0, "totdials"), "totdials": ("ndials", "maxdials"), "maxdials": ("totdials", 1000),
              "killtime": (0, LAST_MOMENT), "tts": (0, LAST_MOMENT), "next": (0, LAST_MOMENT + LAST_DELAY)},
-    "grants": {"job": (1, LAST_JOB), "first_page": (0, 9999), "last_page": (0, 9999), "call": (0, 5), "pages": (0, 9999),
+    "grants": {"job": (1, LAST_JOB), "first_page": (1, 9999), "last_page": (0, 9999), "call": (0, 5), "pages": (0, 9999),
                "shut": (0, 1)},
     "holds": {"job": (1, LAST_JOB), "id": (1, LAST_GRANT)}, "replies": {"status": (200, 201)},
     "floors": {"upto": (0, LAST_NUMBER)},
@@ -191,7 +191,7 @@ MOVED = (  # rows that contradict others, or that no request can name: the reque
         "UPDATE holds SET job = 99", "UPDATE holds SET id = 99", "DELETE FROM grants WHERE id = 1",
         "UPDATE grants SET modem = 'ttyS2' WHERE id = 1", "UPDATE grants SET shut = 1 WHERE id = 1")),
     (ON_GRANT[1], "DELETE FROM jobs WHERE job = 1"),
-    *((ON_GRANT[1], f"UPDATE grants SET {change} WHERE id = 1") for change in ("job = 99", "first_page = 0", "last_page = 0")),
+    *((ON_GRANT[1], f"UPDATE grants SET {change} WHERE id = 1") for change in ("job = 99", "last_page = 0")),
     (["a submission"], "UPDATE meta SET next_job = 2"), (["a choice"], "UPDATE meta SET next_grant = 2"),
     ([], "UPDATE replies SET number = -number WHERE client = 'w0'"),
     *(([], f"INSERT INTO {row} VALUES ({name}{more})") for row, more in (("down", ""), ("floors", ", 3")) for name in NAMES))

@@ -10,4 +10,4 @@ use Rattle.fax_decide.specs.declared.effect.Effect.TheVariants as effect
 
 -- giving up replies leaves the aged queue, and tells the floor
 pub floor_raised : (m : Queue) (t upto : ℕ) (reply : Response) → reply ≡ accepted_response (Replied (Floored upto)) → IsTaken (Taken (aged t m) (Floored upto)) m t effect.Nothing reply
-floor_raised m t upto reply replied = record { suits = _; within = λ _. tt; told = Floored upto; taken = refl; replied = replied }
+floor_raised m t upto reply replied = record { suits = _; within = tt; told = Floored upto; taken = refl; replied = replied }

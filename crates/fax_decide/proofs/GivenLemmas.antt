@@ -89,7 +89,7 @@ given_new m t c old f g reply h sound there of n is new is_reply told =
     let after = with_new_grant (both (changed c j) g) (aged t m) in
     record {
       suits = subst (λ (k : Job). IsChange k (with_expired t m)) (sym is) (change_suits m t c j there);
-      within = λ _. (new, (let left : m.next_grant < last_grant + 1 = omega (arith, n, new.limits.number.1) in left));
+      within = (new, (let left : m.next_grant < last_grant + 1 = omega (arith, n, new.limits.number.1) in left));
       told = machine.Given (handed g after);
       taken = ap (λ (q : Queue). machine.Taken q (machine.Given (handed g after))) (queue_is m t f (changed c j) g sound whole n);
       replied = is_reply ∙ ap (λ (x : machine.Handed). accepted_response (Replied (machine.Given x))) (told after (dial_there (aged t m) c j f g there of is));
@@ -129,7 +129,7 @@ none_given P s m t modem none holds = subst (λ (o : Option Job). P (given_best 
 
 -- where no job may go, the aged queue is left, and the modem is told so
 pub none_taken : (m : Queue) (t : ℕ) → IsTaken (machine.Taken (aged t m) machine.NoneToSend) m t Nothing (accepted_response (Replied machine.NoneToSend))
-none_taken m t = record { suits = _; within = λ _. tt; told = machine.NoneToSend; taken = refl; replied = refl }
+none_taken m t = record { suits = _; within = tt; told = machine.NoneToSend; taken = refl; replied = refl }
 
 -- ---- the grant that a modem holds
 

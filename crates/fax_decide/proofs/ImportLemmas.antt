@@ -66,7 +66,7 @@ pub job_brought : (s : Settings) (m : Queue) (t : ℕ) (rule : Rule) (f : JobFie
     → IsTaken (brought_in s (aged t m) t rule (Ok (job_of f))) m t (NewJob f meta) reply
 job_brought s m t rule f meta st reply sound these next limit st_is replied = record {
   suits = these;
-  within = λ _. let left : m.next_job < last_job + 1 = omega (arith, next, limit) in left;
+  within = let left : m.next_job < last_job + 1 = omega (arith, next, limit) in left;
   told = Brought f.job st;
   taken = ap (λ (n : ℕ). Taken (with_new_job (job_of f) (aged t m)) (Brought f.job n)) (state_new s m t (job_of f) sound ∙ sym st_is)
       ∙ ap (λ (js : List Job). Taken (record (aged t m) { jobs = js; next_job = m.next_job + 1 }) (Brought f.job st)) (sym (aged_job_placed t m (job_of f) sound next));

@@ -54,7 +54,7 @@ taken_of : (s : Settings) (m : Queue) (t : ℕ) (c : Change) (j : Job) (g : JobF
     → IsTaken (machine.changed s (aged t m) t (Ok (changed c j))) m t (ChangedJob g) reply
 taken_of s m t c j g st reply is one st_is replied = record {
   suits = of_order (with_expired t m) g (subst (λ (x : Job). IsChange x (with_expired t m)) (sym one) (same_order m t c j is));
-  within = λ _. tt;
+  within = tt;
   told = Stands g.job st;
   taken = ap (λ (x : Job). Taken (with_job x (aged t m)) (Stands x.number (state s (with_job x (aged t m)) t x))) (sym one)
       ∙ ap (λ (n : ℕ). Taken (with_job whole (aged t m)) (Stands g.job n)) (state_changed s m t whole j there dial ∙ alike ∙ sym st_is);

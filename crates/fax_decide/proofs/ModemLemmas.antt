@@ -22,7 +22,7 @@ pub modem_marked : (s : Settings) (m : Queue) (t : ℕ) (modem : List ℕ) (down
     → IsTaken (marked s (aged t m) modem down) m t (effect.Marked modem down) reply
 modem_marked s m t modem down reply is replied = record {
   suits = _;
-  within = λ _. tt;
+  within = tt;
   told = Marked down;
   taken = (rw is refl) ∙ ap (λ (n : Queue). Taken n (Marked down)) (with_mark_aged modem down t m);
   replied = replied;

@@ -33,7 +33,6 @@ use Rattle.fax_store.specs.Job.{IsChange, lines_of, with_change, with_expired}
 use Rattle.fax_store.specs.Meta.{with_clock}
 use Rattle.fax_tables.specs.Tables.{IsLawfulGrant}
 use Rattle.fax_decide.specs.Decision.{IsTaken, IsRefused}
-use Rattle.fax_decide.specs.Effect.{BeginAtPages}
 use Rattle.fax_decide.specs.Records.{job_in}
 use Rattle.fax_decide.specs.Report.{AreThere, report_both, report_step}
 use Rattle.fax_decide.specs.State.{state_with}
@@ -56,7 +55,7 @@ reports_on m n before grant grants there same number h is =
 
 -- job and grant are put in their places
 report_taken : (m : Queue) (t : ℕ) (c : Change) (f g : JobFields) (before grant : Grant) (reply_to : Queue → JobAndGrant → Reply) (told : Reply) (reply : Response)
-    → AreThere m t f before → IsSameGrant before grant → grant.number ≡ before.number → (BeginAtPages m → grant.confirmed ≤ most_pages) → job_in (aged t m) g ≡ changed c (job_in (aged t m) f)
+    → AreThere m t f before → IsSameGrant before grant → grant.number ≡ before.number → grant.confirmed ≤ most_pages → job_in (aged t m) g ≡ changed c (job_in (aged t m) f)
     → ((n : Queue) → reply_to n (record { job = job_in (aged t m) g; grant = grant }) ≡ told) → reply ≡ accepted_response (Replied told)
     → IsTaken (reported (aged t m) reply_to (job_in (aged t m) f) (Ok (record { job = changed c (job_in (aged t m) f); grant = grant }))) m t (Reported g grant) reply
 report_taken m t c f g before grant reply_to told reply there same number few one says replied = record {
@@ -77,11 +76,11 @@ pub call_taken : (m : Queue) (t : ℕ) (c : Change) (f g : JobFields) (before gr
     → stop ≡ stops (job_of g) t → reply ≡ accepted_response (Replied (Called stop))
     → IsTaken (reported (aged t m) (call_reply t) (job_in (aged t m) f) (Ok (record { job = changed c (job_in (aged t m) f); grant = grant }))) m t (Reported g grant) reply
 call_taken m t c f g before grant stop reply there same number few one stop_is replied =
-    report_taken m t c f g before grant (call_reply t) (Called stop) reply there same number (λ _. few) (with_lines (aged t m) c f g one) (λ n. ap (λ (b : Bool). Called b) (sym stop_is)) replied
+    report_taken m t c f g before grant (call_reply t) (Called stop) reply there same number few (with_lines (aged t m) c f g one) (λ n. ap (λ (b : Bool). Called b) (sym stop_is)) replied
 
 -- a report of a page is taken, and tells the pages sent and whether to stop
 pub page_taken : (m : Queue) (t : ℕ) (c : Change) (f g : JobFields) (before grant : Grant) (stop : Bool) (reply : Response)
-    → AreThere m t f before → IsSameGrant before grant → grant.number ≡ before.number → (BeginAtPages m → grant.confirmed ≤ most_pages) → Ok (job_of g) ≡ recorded (Ok (changed c (job_of f)))
+    → AreThere m t f before → IsSameGrant before grant → grant.number ≡ before.number → grant.confirmed ≤ most_pages → Ok (job_of g) ≡ recorded (Ok (changed c (job_of f)))
     → stop ≡ stops (job_of g) t → reply ≡ accepted_response (Replied (Confirmed g.npages stop))
     → IsTaken (reported (aged t m) (page_reply t) (job_in (aged t m) f) (Ok (record { job = changed c (job_in (aged t m) f); grant = grant }))) m t (Reported g grant) reply
 page_taken m t c f g before grant stop reply there same number few one stop_is replied =
@@ -101,7 +100,7 @@ ended_taken : (s : Settings) (m : Queue) (t : ℕ) (c : Change) (f g : JobFields
     → IsTaken (reported (aged t m) (outcome_reply s t) (job_in (aged t m) f) (Ok (record { job = changed c (job_in (aged t m) f); grant = record grant { is_open = false } }))) m t (Closed g grant.number) reply
 ended_taken s m t c f g grant calls st reply sound there open' one calls_is st_is replied = record {
   suits = of_order (with_expired t m) g (subst (λ (x : Job). IsChange x (with_expired t m)) (sym one) (same_order m t c (job_in (aged t m) f) there.job_there));
-  within = λ _. tt;
+  within = tt;
   told = Stands g.job st;
   taken = ap (λ (x : Job). Taken (both x) (Stands x.number (state s (both x) t x))) (sym one)
       ∙ ap (λ (n : ℕ). Taken (both whole) (Stands g.job n)) (state_ended s m t whole (job_in (aged t m) f) grant calls sound job_there dial of there.grant_there open' calls_is ∙ alike ∙ sym st_is)

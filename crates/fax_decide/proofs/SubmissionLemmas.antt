@@ -31,7 +31,7 @@ pub job_new : (m : Queue) (t : ℕ) (rule : Rule) (f : JobFields) (meta : Meta) 
     → IsTaken (machine.submitted (aged t m) rule (Ok (job_of f))) m t (NewJob f meta) reply
 job_new m t rule f meta reply sound these next limit replied = record {
   suits = these;
-  within = λ _. let left : m.next_job < last_job + 1 = omega (arith, next, limit) in left;
+  within = let left : m.next_job < last_job + 1 = omega (arith, next, limit) in left;
   told = Submitted f.job;
   taken = ap (λ (js : List Job). Taken (record (aged t m) { jobs = js; next_job = m.next_job + 1 }) (Submitted f.job)) (sym (aged_job_placed t m (job_of f) sound next));
   replied = replied;

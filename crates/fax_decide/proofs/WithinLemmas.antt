@@ -26,7 +26,6 @@ use Rattle.fax_core.proofs.RecordLemmas.{within_limits_of}
 use Rattle.fax_store.specs.Grant.{IsSameGrant}
 use Rattle.fax_tables.specs.Grant.{IsOpenGrant}
 use Rattle.fax_decide.specs.Choice.{IsGrantOf}
-use Rattle.fax_decide.specs.Effect.{BeginAtPages}
 use Rattle.fax_decide.proofs.JobLemmas.{recorded_is}
 
 -- ---- a lawful job
@@ -53,10 +52,11 @@ grant_within f g lawful of first =
     let sent = length-range_with_len 1 f.npages in
     let left = of.page in
     let front : length (range_with_len 1 f.npages) + 1 ≤ most_pages = omega (arith, pages.1, sent, left) in
+    let begins : 1 ≤ length (range_with_len 1 f.npages) + 1 = omega arith in
     let none : 0 ≤ most_pages = omega arith in
     subst IsOpenGrant (sym of.is) (record {
       is_open = refl;
-      limits = record { number = (first, of.last); job = job_within f lawful; pages = (front, pages.1, none) };
+      limits = record { number = (first, of.last); job = job_within f lawful; pages = (begins, front, pages.1, none) };
     })
 
 -- a waiting job that fits alone has a page left
@@ -83,11 +83,10 @@ page_goes said f g c fit is =
     ((report.reports ((fits_decides f (Some g)).0 (fit report.was_open))).held report.was_open).confirmed
 
 -- so they are within the limits, where the grant begins at a page
-pub confirmed_within : (m : Queue) (before g : Grant) (c : Change) (f after : JobFields) → IsLawful after → Ok (job_of after) ≡ recorded (Ok (changed c (job_of f)))
-    → grant_numbered before.number m ≡ Some before → IsSameGrant before g → g.first_page + g.confirmed ≡ length (changed c (job_of f)).sent + 1
-    → BeginAtPages m → g.confirmed ≤ most_pages
-confirmed_within m before g c f after lawful is there same far begin =
-    let first : 1 ≤ g.first_page = subst (λ (n : ℕ). 1 ≤ n) same.first_page (begin before.number before there) in
+pub confirmed_within : (before g : Grant) (c : Change) (f after : JobFields) → IsLawful after → Ok (job_of after) ≡ recorded (Ok (changed c (job_of f)))
+    → IsSameGrant before g → 1 ≤ before.first_page → g.first_page + g.confirmed ≡ length (changed c (job_of f)).sent + 1 → g.confirmed ≤ most_pages
+confirmed_within before g c f after lawful is same begins far =
+    let first : 1 ≤ g.first_page = subst (λ (n : ℕ). 1 ≤ n) same.first_page begins in
     let sent : length (changed c (job_of f)).sent ≡ after.npages = ap (λ (j : Job). length j.sent) (sym (recorded_is (job_of after) (changed c (job_of f)) is)) ∙ length-range_with_len 1 after.npages in
     let pages = pages_within after lawful in
     omega (arith, first, sent, far, pages.0, pages.1)

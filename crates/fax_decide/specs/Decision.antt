@@ -7,7 +7,7 @@ use Rattle.fax_core.specs.Queue.{Queue}
 use Rattle.fax_core.specs.Reply as machine
 use Rattle.fax_core.specs.Reply.{Step}
 use Rattle.fax_store.specs.Job.{with_expired}
-use Rattle.fax_decide.specs.Effect.{BeginAtPages, IsWithin, Suits, accepted}
+use Rattle.fax_decide.specs.Effect.{IsWithin, Suits, accepted}
 use Rattle.fax_decide.specs.declared.effect.Effect.{Effect}
 use Rattle.fax_decide.specs.declared.decision.Decision.{Decision}
 use Rattle.fax_decide.specs.declared.decision.Decision.TheVariants.{Taken, Refused}
@@ -15,7 +15,7 @@ use Rattle.fax_decide.specs.declared.decision.Decision.TheVariants.{Taken, Refus
 -- The step is taken: it leaves what the effect makes of the queue at t, and its reply is this. What is written then is within its limits.
 pub record IsTaken (step : Step) (m : Queue) (t : ℕ) (effect : Effect) (reply : Response) : Type 0 where
   pub suits : Suits effect (with_expired t m)
-  pub within : BeginAtPages m → IsWithin effect (with_expired t m)
+  pub within : IsWithin effect (with_expired t m)
   pub told : machine.Reply
   pub taken : step ≡ machine.Taken (accepted t effect m) told
   pub replied : reply ≡ accepted_response (Replied told)

@@ -54,10 +54,6 @@ IsWithin (NewGrant job grant) m = IsOpenGrant grant × IsGrantLeft m
 IsWithin (Reported job grant) m = grant.confirmed ≤ most_pages
 IsWithin (Closed job grant) m = ⊤
 
--- each grant begins at a page, as each does that a queue has given
-abbrev pub BeginAtPages : Queue → Type 0
-BeginAtPages m = (number : ℕ) (g : Grant) → grant_numbered number m ≡ Some g → 1 ≤ g.first_page
-
 -- The tables take the change: it suits the queue, no key of what is new is taken, and all is within its limits.
 pub record IsWritable (effect : Effect) (m : Queue) : Type 0 where
   pub suits : Suits effect m

@@ -1,5 +1,6 @@
 -- What a worker reports on a grant.
-use Rattle.std.specs.Prelude.{◌≡◌, ℕ, Option, Some}
+use Rattle.std.specs.Prelude.{◌≡◌, ◌≤◌, ℕ, Option, Some}
+use Rattle.fax_job.specs.Limits.{most_pages}
 use Rattle.fax_job.specs.declared.job.JobFields.{JobFields}
 use Rattle.fax_core.specs.Ageing.{aged}
 use Rattle.fax_core.specs.Decisions.{call, page, outcome}
@@ -24,6 +25,10 @@ abbrev pub report_both : Settings → Queue → ℕ → Report → Job → Grant
 report_both s m t (Call said) j g = reported m (call_reply t) j (call said j g)
 report_both s m t (Page said) j g = reported m (page_reply t) j (page said j g)
 report_both s m t (Outcome said) j g = reported m (outcome_reply s t) j (outcome said j g (s.delay g.call) t)
+
+-- the grant begins at a page, and no more of its pages are confirmed than there may be
+abbrev pub ArePagesWithin : Grant → Type 0
+ArePagesWithin g = (1 ≤ g.first_page) × (g.confirmed ≤ most_pages)
 
 -- the records of a grant and of its job, as it is at t, which may lack its extra lines
 pub record AreThere (m : Queue) (t : ℕ) (job : JobFields) (grant : Grant) : Type 0 where

@@ -25,7 +25,7 @@ ghost use Rattle.fax_store.specs.Store.{Means, Serves, StaysOpen};
 ghost use Rattle.fax_decide.specs.Decision.{Decides};
 ghost use Rattle.fax_decide.specs.Fault.{OnlyNoAnswer, OrNoAnswer};
 ghost use Rattle.fax_decide.specs.Records.{KeepsRecord, job_in};
-ghost use Rattle.fax_decide.specs.Report.{AreThere, report_both, report_step};
+ghost use Rattle.fax_decide.specs.Report.{ArePagesWithin, AreThere, report_both, report_step};
 ghost use Rattle.fax_decide.specs.Settings.{settings_of};
 ghost use Rattle.fax_decide.specs.State.{state_with};
 
@@ -88,7 +88,7 @@ fn report_on<S: Alter>(
     ensures leaves { Looks S.Store store.old store.new }
     ensures opens { OnOk result (StaysOpen (shown S.Store store.old) (shown S.Store store.new)) }
     ensures decided { (m : Queue) (k : Ledger) → Sound m → Means (shown S.Store store.old) m k
-        → Serves (shown S.Store store.new) → AreThere m t job grant → grant.confirmed ≤ most_pages
+        → Serves (shown S.Store store.new) → AreThere m t job grant → ArePagesWithin grant
         → OrNoAnswer result (Decides (report_both (settings_of office.now.setup office.now.controls) (aged t m) t
         report (job_in (aged t m) job) grant) m t) }
     ensures closed { grant.is_open ≡ false → IsOk result }
@@ -123,7 +123,7 @@ fn decide_call(
     said: Call,
     t: Moment,
 ) -> Result<Decision, Fault>
-    ensures decided { (m : Queue) → AreThere m t job grant → grant.confirmed ≤ most_pages
+    ensures decided { (m : Queue) → AreThere m t job grant → ArePagesWithin grant
         → IfOk result (Decides (reported (aged t m) (call_reply t) (job_in (aged t m) job)
         (call_of said (job_in (aged t m) job) grant)) m t) }
     ensures closed { grant.is_open ≡ false → IsOk result }
@@ -162,7 +162,7 @@ fn decide_page(
     said: u16,
     t: Moment,
 ) -> Result<Decision, Fault>
-    ensures decided { (m : Queue) → AreThere m t job grant → grant.confirmed ≤ most_pages
+    ensures decided { (m : Queue) → AreThere m t job grant → ArePagesWithin grant
         → (grant.is_open ≡ true → fits job (Some grant) ≡ true)
         → IfOk result (Decides (reported (aged t m) (page_reply t) (job_in (aged t m) job)
         (page_of said (job_in (aged t m) job) grant)) m t) }
@@ -206,7 +206,7 @@ fn confirmed(
     t: Moment,
 ) -> Result<Decision, Fault>
     ensures decided { (m : Queue) (before : GrantOf) → AreThere m t job before → IsSameGrant before grant
-        → grant.number ≡ before.number
+        → grant.number ≡ before.number → 1 ≤ before.first_page
         → grant.first_page + grant.confirmed ≡ length (changed change (job_of job)).sent + 1
         → IfOk result (Decides (reported (aged t m) (page_reply t) (job_in (aged t m) job)
         (Ok (record { job = changed change (job_in (aged t m) job); grant = grant }))) m t) }

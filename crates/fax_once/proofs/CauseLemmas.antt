@@ -30,7 +30,7 @@ use Rattle.fax_store.specs.Job.{with_expired}
 use Rattle.fax_store.specs.Kept.{IsOf, IsUnkept, kept_for}
 use Rattle.fax_tables.specs.Tables.{IsKeptStatus}
 use Rattle.fax_decide.specs.Decision.{IsTaken}
-use Rattle.fax_decide.specs.Effect.{BeginAtPages, IsWritable}
+use Rattle.fax_decide.specs.Effect.{IsWritable}
 use Rattle.fax_decide.specs.Read.{IsRead}
 use Rattle.fax_decide.specs.declared.effect.Effect.{Effect}
 use Rattle.fax_decide.proofs.FreeLemmas.{keys_free}
@@ -120,8 +120,7 @@ pub taken_status : (s : Settings) (m : Queue) (t : ℕ) (ask : Ask) (effect : Ef
 taken_status s m t ask effect reply by = subst (λ (r : Response). IsKeptStatus r.status) (sym by.replied) (kept_status by.told)
 
 -- and what it changes may be written
-pub taken_writable : (s : Settings) (m : Queue) (t : ℕ) (ask : Ask) (effect : Effect) (reply : Response) → Sound m → IsLawfulAsk ask → BeginAtPages m → IsTaken (step s m t ask) m t effect reply
+pub taken_writable : (s : Settings) (m : Queue) (t : ℕ) (ask : Ask) (effect : Effect) (reply : Response) → Sound m → IsLawfulAsk ask → IsTaken (step s m t ask) m t effect reply
     → IsWritable effect (with_expired t m)
-taken_writable s m t ask effect reply sound lawful begin by =
-    let within = by.within begin in
-    record { suits = by.suits; free = keys_free t effect m sound (step_sound s m _ t ask by.told sound lawful by.taken) within; within = within }
+taken_writable s m t ask effect reply sound lawful by =
+    record { suits = by.suits; free = keys_free t effect m sound (step_sound s m _ t ask by.told sound lawful by.taken) by.within; within = by.within }

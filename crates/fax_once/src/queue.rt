@@ -19,7 +19,6 @@ ghost use Rattle.fax_store.specs.Store.{CommitsNothing, LeavesAlone, Rests, Serv
 ghost use Rattle.fax_schema.specs.Schema.{our_tables};
 ghost use Rattle.fax_tables.specs.Tables.{IsKeptStatus};
 ghost use Rattle.fax_once.specs.Laws.{IsSoundWith, RunsWell};
-ghost use Rattle.fax_decide.specs.Effect.{BeginAtPages};
 ghost use Rattle.fax_decide.specs.Fault.{OnlyNoAnswer};
 ghost use Rattle.fax_decide.specs.Read.{IsRead};
 ghost use Rattle.fax_decide.specs.View.{view};
@@ -201,7 +200,7 @@ impl<S: Alter> Queue<S> {
         ensures answered { From S.Store self.old (λ m k. HasCleanDisk (tables S.Store self.new)
             → Answers (settings self.old) arrival.now m k result (tables S.Store self.new)) }
         // No rows of a sound queue are strange, while the store serves.
-        ensures cause { From S.Store self.old (λ m k. BeginAtPages m → Serves (tables S.Store self.new)
+        ensures cause { From S.Store self.old (λ m k. Serves (tables S.Store self.new)
             → OnlyNoAnswer result) }
     {
         let asked = self
@@ -225,8 +224,7 @@ impl<S: Alter> Queue<S> {
         ensures answered { From S.Store self.old (λ m k. HasCleanDisk (tables S.Store self.new)
             → IsAsk arrival.now.method arrival.now.path.now arrival.now.body.now ask → IsLawful ask
             → Answers (settings self.old) arrival.now m k result (tables S.Store self.new)) }
-        ensures cause { From S.Store self.old (λ m k. BeginAtPages m
-            → IsAsk arrival.now.method arrival.now.path.now arrival.now.body.now ask → IsLawful ask
+        ensures cause { From S.Store self.old (λ m k. IsAsk arrival.now.method arrival.now.path.now arrival.now.body.now ask → IsLawful ask
             → Serves (tables S.Store self.new) → OnlyNoAnswer result) }
     {
         match ask {
@@ -271,7 +269,7 @@ impl<S: Alter> Queue<S> {
             → IsSender arrival.now sender.now → IsLawfulStep ask
             → LeavesBy m k result (tables S.Store self.new) (asked_for (settings self.old) m k
             (post_of arrival.now sender.now.number ask))) }
-        ensures cause { From S.Store self.old (λ m k. BeginAtPages m → IsSender arrival.now sender.now
+        ensures cause { From S.Store self.old (λ m k. IsSender arrival.now sender.now
             → IsLawfulStep ask → IsRead ask → Serves (tables S.Store self.new) → OnlyNoAnswer result) }
     {
         let floor = self.store.floor(sender.client)?;
@@ -301,7 +299,7 @@ impl<S: Alter> Queue<S> {
             → IsSender arrival.now sender.now → IsLawfulStep ask
             → LeavesBy m k result (tables S.Store self.new) (asked_above (settings self.old) m k floor
             (post_of arrival.now sender.now.number ask))) }
-        ensures cause { From S.Store self.old (λ m k. BeginAtPages m → IsSender arrival.now sender.now
+        ensures cause { From S.Store self.old (λ m k. IsSender arrival.now sender.now
             → IsLawfulStep ask → IsRead ask → Serves (tables S.Store self.new) → OnlyNoAnswer result) }
     {
         match self.store.kept(sender.client, sender.number)? {
@@ -329,7 +327,7 @@ impl<S: Alter> Queue<S> {
             → IsSender arrival.now sender.now → IsLawfulStep ask
             → LeavesBy m k result (tables S.Store self.new) (new_asked (settings self.old) m k floor
             (post_of arrival.now sender.now.number ask))) }
-        ensures cause { From S.Store self.old (λ m k. BeginAtPages m → IsSender arrival.now sender.now
+        ensures cause { From S.Store self.old (λ m k. IsSender arrival.now sender.now
             → IsUnkept sender.now.client.now sender.now.number k.replies → IsLawfulStep ask → IsRead ask
             → Serves (tables S.Store self.new) → OnlyNoAnswer result) }
     {
@@ -357,7 +355,7 @@ impl<S: Alter> Queue<S> {
             → IsSender arrival.now sender.now → IsLawfulStep ask
             → LeavesBy m k result (tables S.Store self.new) (decided_new (settings self.old) m k
             (post_of arrival.now sender.now.number ask))) }
-        ensures cause { From S.Store self.old (λ m k. BeginAtPages m → IsSender arrival.now sender.now
+        ensures cause { From S.Store self.old (λ m k. IsSender arrival.now sender.now
             → IsUnkept sender.now.client.now sender.now.number k.replies → IsLawfulStep ask → IsRead ask
             → Serves (tables S.Store self.new) → OnlyNoAnswer result) }
     {

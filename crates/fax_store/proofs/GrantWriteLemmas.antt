@@ -265,7 +265,7 @@ module _ (g : Grant) where
     limits = record {
       number = subst (λ n. (1 ≤ n) × (n ≤ 999999999)) is was.limits.number;
       job = subst (λ n. (1 ≤ n) × (n ≤ 999999)) same.job was.limits.job;
-      pages = (subst (λ n. n ≤ 9999) same.first_page was.limits.pages.0, subst (λ n. n ≤ 9999) same.last_page was.limits.pages.1, few);
+      pages = (subst (λ n. 1 ≤ n) same.first_page was.limits.pages.0, subst (λ n. n ≤ 9999) same.first_page was.limits.pages.1, subst (λ n. n ≤ 9999) same.last_page was.limits.pages.2, few);
     };
     modem = subst IsName same.modem was.modem;
   }

@@ -17,9 +17,9 @@ pub fits : (g : Grant) → IsLawfulGrant g → Fits g
 fits g lawful = record {
   number = let a = lawful.limits.number.1 in omega arith;
   job = let a = lawful.limits.job.1 in omega arith;
-  first_page = let a = lawful.limits.pages.0 in omega arith;
-  last_page = let a = lawful.limits.pages.1 in omega arith;
-  confirmed = let a = lawful.limits.pages.2 in omega arith;
+  first_page = let a = lawful.limits.pages.1 in omega arith;
+  last_page = let a = lawful.limits.pages.2 in omega arith;
+  confirmed = let a = lawful.limits.pages.3 in omega arith;
 }
 
 -- a grant with the fields of another is the other

@@ -24,11 +24,11 @@ abbrev pub grant_shown : Grant → Row
 grant_shown g =
     number g.number ∷ number g.job ∷ Text g.modem ∷ number g.first_page ∷ number g.last_page ∷ number (call_number g.call) ∷ number g.confirmed ∷ number (shut_number g) ∷ []
 
--- its numbers are within their limits
+-- its numbers are within their limits, and it begins at a page
 pub record IsWithinLimits (g : Grant) : Type 0 where
   pub number : (1 ≤ g.number) × (g.number ≤ last_grant)
   pub job : (1 ≤ g.job) × (g.job ≤ last_job)
-  pub pages : (g.first_page ≤ most_pages) × (g.last_page ≤ most_pages) × (g.confirmed ≤ most_pages)
+  pub pages : (1 ≤ g.first_page) × (g.first_page ≤ most_pages) × (g.last_page ≤ most_pages) × (g.confirmed ≤ most_pages)
 
 -- the same of a hold
 pub record IsLawfulHold (h : Hold) : Type 0 where

@@ -40,7 +40,7 @@ pub fn call_number(call: Option<Call>) -> u32
     }
 }
 
-/// Whether the numbers of a grant are within their limits.
+/// Whether the numbers of a grant are within their limits. Its first page is 1 at least.
 fn is_within_limits(grant: &Grant) -> bool
     ensures fits { IsTrue result → IsWithinLimits grant.now }
     ensures alone { IsWithinLimits grant.now → IsTrue result }
@@ -49,6 +49,7 @@ fn is_within_limits(grant: &Grant) -> bool
         && grant.number < PAST_GRANTS
         && 1 <= grant.job
         && grant.job < PAST_JOBS
+        && 1 <= grant.first_page
         && grant.first_page <= MOST_PAGES
         && grant.last_page <= MOST_PAGES
         && grant.confirmed <= MOST_PAGES

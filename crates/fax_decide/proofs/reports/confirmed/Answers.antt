@@ -11,10 +11,10 @@ use Rattle.fax_decide.proofs.WithinLemmas.{confirmed_within}
 use Rattle.fax_decide.proofs.reports.confirmed.Goals as goal
 
 pub returns-clause-decided : goal.returns-clause-decided
-returns-clause-decided c m before there same number far =
+returns-clause-decided c m before there same number begins far =
     decided_of (Taken (Reported c.in_ok-job.job c.args.grant)) _ _ m c.args.t c.answered.result _ c.take.ensures c.answered.ensures
     (λ _. page_taken m c.args.t c.args.change c.args.job c.in_ok-job.job before c.args.grant c.stops.result _ there same number
-    (confirmed_within m before c.args.grant c.args.change c.args.job c.in_ok-job.job c.fields.ensures.lawful c.in_ok-job.ensures.after there.grant_there same far) c.in_ok-job.ensures.after c.stops.ensures
+    (confirmed_within before c.args.grant c.args.change c.args.job c.in_ok-job.job c.fields.ensures.lawful c.in_ok-job.ensures.after same begins far) c.in_ok-job.ensures.after c.stops.ensures
     (ap (λ f. accepted_response (Replied (Confirmed f.npages c.stops.result))) c.fields.ensures.fields))
 
 pub returns-clause-cause : goal.returns-clause-cause

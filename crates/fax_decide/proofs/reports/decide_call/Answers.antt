@@ -26,7 +26,7 @@ returns-in-Ok-clause-decided c m there few =
     reported_on (λ step. IfOk c.called.result (Decides step m c.args.t)) (aged c.args.t m) (call_reply c.args.t) lines (job_of c.args.job) c.in-Ok.change _ c.with_call.result _ _
     c.with_call.ensures c.in-Ok.ensures (call_lined lines c.args.said (job_of c.args.job) c.args.grant)
     (c.called.ensures.decided m c.args.grant there (subst (IsSameGrant c.args.grant) (sym c.with_call.ensures) (same_call c.args.grant (Some c.args.said))) (ap (λ (g : Grant). g.number) c.with_call.ensures)
-    (subst (λ (g : Grant). g.confirmed ≤ most_pages) (sym c.with_call.ensures) few))
+    (subst (λ (g : Grant). g.confirmed ≤ most_pages) (sym c.with_call.ensures) few.1))
 
 pub returns-in-Err-clause-decided : goal.returns-in-Err-clause-decided
 returns-in-Err-clause-decided c m there few =

@@ -25,13 +25,13 @@ page_refused-requires c = page_plain c.args.said (job_of c.args.job) _ c.in-Err.
 pub returns-in-Ok-clause-decided : goal.returns-in-Ok-clause-decided
 returns-in-Ok-clause-decided c m there few fit =
     let lines = lines_of (job_numbered c.args.job.job (aged c.args.t m)) in
-    let one : min (c.args.grant.confirmed + 1) 65535 ≡ c.args.grant.confirmed + 1 = omega (arith, few) in
+    let one : min (c.args.grant.confirmed + 1) 65535 ≡ c.args.grant.confirmed + 1 = let low = few.1 in omega (arith, low) in
     let next : c.with_page.result ≡ record c.args.grant { confirmed = c.args.grant.confirmed + 1 } = c.with_page.ensures ∙ ap (λ (n : ℕ). record c.args.grant { confirmed = n }) one in
     let far = subst (λ (g : Grant). g.first_page + g.confirmed ≡ length (changed c.in-Ok.change (job_of c.args.job)).sent + 1) (sym next)
     (page_goes c.args.said c.args.job c.args.grant c.in-Ok.change fit c.in-Ok.ensures) in
     reported_on (λ step. IfOk c.confirmed.result (Decides step m c.args.t)) (aged c.args.t m) (page_reply c.args.t) lines (job_of c.args.job) c.in-Ok.change _ c.with_page.result _ _
     next c.in-Ok.ensures (page_lined lines c.args.said (job_of c.args.job) c.args.grant)
-    (c.confirmed.ensures.decided m c.args.grant there (subst (IsSameGrant c.args.grant) (sym next) (same_page c.args.grant (c.args.grant.confirmed + 1))) (ap (λ (g : Grant). g.number) next) far)
+    (c.confirmed.ensures.decided m c.args.grant there (subst (IsSameGrant c.args.grant) (sym next) (same_page c.args.grant (c.args.grant.confirmed + 1))) (ap (λ (g : Grant). g.number) next) few.0 far)
 
 pub returns-in-Err-clause-decided : goal.returns-in-Err-clause-decided
 returns-in-Err-clause-decided c m there few fit =

@@ -26,7 +26,7 @@ returns-in-Some-2-clause-decided g c m k sound means serves =
     let few = (lawful_grant m.grants c.in-Some.grant.number c.in-Some.grant (looked serves_grant).means.lawful.grants there.grant_there).limits.pages in
     subst (λ step. OrNoAnswer c.report_on.result (Decides step m c.args.t))
     (on_grant_is (settings_of c.args.office.now.setup c.args.office.now.controls) m c.args.t c.args.number c.args.report c.in-Some.grant c.in-Some-2.job _ _ grant c.in-Some.is job c.in-Some-2.is)
-    (c.report_on.ensures.decided m k sound (means_stay c.brief_at.ensures.leaves.served c.brief_at.ensures.leaves.stays m k looked) serves there few.2)
+    (c.report_on.ensures.decided m k sound (means_stay c.brief_at.ensures.leaves.served c.brief_at.ensures.leaves.stays m k looked) serves there (few.0, few.3))
 
 pub returns-in-None-clause-decided : goal.returns-in-None-clause-decided
 returns-in-None-clause-decided g c m k sound means serves =

@@ -23,7 +23,7 @@ pub returns-in-Err-clause-crash : goal.returns-in-Err-clause-crash
 returns-in-Err-clause-crash g c m k sound means found may = inl may
 
 pub returns-in-Ok-clause-cause : goal.returns-in-Ok-clause-cause
-returns-in-Ok-clause-cause g c m k sound means begin serves = c.answer_ask.ensures.cause m k sound means begin c.in-Ok.ensures.ask c.in-Ok.ensures.lawful serves
+returns-in-Ok-clause-cause g c m k sound means serves = c.answer_ask.ensures.cause m k sound means c.in-Ok.ensures.ask c.in-Ok.ensures.lawful serves
 
 pub returns-in-Err-clause-cause : goal.returns-in-Err-clause-cause
-returns-in-Err-clause-cause g c m k sound means begin serves = c.refuse_ask.ensures.fault
+returns-in-Err-clause-cause g c m k sound means serves = c.refuse_ask.ensures.fault

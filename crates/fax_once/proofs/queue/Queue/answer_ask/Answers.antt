@@ -56,10 +56,10 @@ pub returns-in-Err-clause-crash : goal.returns-in-Err-clause-crash
 returns-in-Err-clause-crash g c m k sound means is lawful found may = inl may
 
 pub returns-in-Ok-clause-cause : goal.returns-in-Ok-clause-cause
-returns-in-Ok-clause-cause g c m k sound means begin is lawful serves =
-    c.step.ensures.cause m k sound means begin c.in-Ok.ensures.sender (subst IsLawful c.in-Step.is lawful)
+returns-in-Ok-clause-cause g c m k sound means is lawful serves =
+    c.step.ensures.cause m k sound means c.in-Ok.ensures.sender (subst IsLawful c.in-Step.is lawful)
     (ask_read c.args.arrival.now.method c.args.arrival.now.path.now c.args.arrival.now.body.now c.in-Step.ask
     (subst (IsAsk c.args.arrival.now.method c.args.arrival.now.path.now c.args.arrival.now.body.now) c.in-Step.is is)) serves
 
 pub returns-in-View-clause-cause : goal.returns-in-View-clause-cause
-returns-in-View-clause-cause g c m k sound means begin is lawful serves = c.show.ensures.cause m k sound means serves
+returns-in-View-clause-cause g c m k sound means is lawful serves = c.show.ensures.cause m k sound means serves

@@ -68,9 +68,9 @@ pub returns-in_err-floor-clause-crash : goal.returns-in_err-floor-clause-crash
 returns-in_err-floor-clause-crash g c m k sound means from found may = inl (c.floor.ensures.leaves.crash found may)
 
 pub returns-clause-cause : goal.returns-clause-cause
-returns-clause-cause g c m k sound means begin from lawful read serves =
-    c.step_above.ensures.cause m k sound (means_stay c.floor.ensures.leaves.served c.floor.ensures.leaves.stays m k means) begin from lawful read serves
+returns-clause-cause g c m k sound means from lawful read serves =
+    c.step_above.ensures.cause m k sound (means_stay c.floor.ensures.leaves.served c.floor.ensures.leaves.stays m k means) from lawful read serves
 
 pub returns-in_err-floor-clause-cause : goal.returns-in_err-floor-clause-cause
-returns-in_err-floor-clause-cause g c m k sound means begin from lawful read serves =
+returns-in_err-floor-clause-cause g c m k sound means from lawful read serves =
     only_no_answer c.from_residual.result (λ _. ⊤) (store_gave_out c.from_residual.result c.in_err-floor.field-0.0 (λ _. ⊤) c.from_residual.ensures.1 (c.in_err-floor.ensures.answers m k (means_now means) serves))

@@ -68,12 +68,12 @@ pub returns-in_err-kept-clause-crash : goal.returns-in_err-kept-clause-crash
 returns-in_err-kept-clause-crash g c m k sound means from found may = inl (c.kept.ensures.leaves.crash found may)
 
 pub returns-in-None-clause-cause : goal.returns-in-None-clause-cause
-returns-in-None-clause-cause g c m k sound means begin from lawful read serves =
+returns-in-None-clause-cause g c m k sound means from lawful read serves =
     let found = c.in_ok-kept.ensures.leaves.opens (c.step_new.ensures.leaves.clean serves.clean) in
     let unused = subst (IsKeptFor k.replies c.args.sender.now.client.now c.args.sender.now.number) c.in-None.is (c.in_ok-kept.ensures.answers m k (means_now means) found) in
-    c.step_new.ensures.cause m k sound (means_stay c.kept.ensures.leaves.served c.kept.ensures.leaves.stays m k means) begin from
+    c.step_new.ensures.cause m k sound (means_stay c.kept.ensures.leaves.served c.kept.ensures.leaves.stays m k means) from
     (unkept_by c.args.sender.now.client.now c.args.sender.now.number k.replies unused) lawful read serves
 
 pub returns-in_err-kept-clause-cause : goal.returns-in_err-kept-clause-cause
-returns-in_err-kept-clause-cause g c m k sound means begin from lawful read serves =
+returns-in_err-kept-clause-cause g c m k sound means from lawful read serves =
     only_no_answer c.from_residual.result (λ _. ⊤) (store_gave_out c.from_residual.result c.in_err-kept.field-0.0 (λ _. ⊤) c.from_residual.ensures.1 (c.in_err-kept.ensures.answers m k (means_now means) serves))

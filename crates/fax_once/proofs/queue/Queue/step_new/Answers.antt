@@ -33,7 +33,7 @@ pub returns-in-None-clause-crash : goal.returns-in-None-clause-crash
 returns-in-None-clause-crash g c m k sound means from found may = inl may
 
 pub returns-in-Some-clause-cause : goal.returns-in-Some-clause-cause
-returns-in-Some-clause-cause g c m k sound means begin from unkept lawful read serves =
+returns-in-Some-clause-cause g c m k sound means from unkept lawful read serves =
     let is = sym c.in-Some.is ∙ c.raised.ensures in
     let number = c.args.sender.now.number in
-    c.step_once.ensures.cause m k sound means begin from unkept (raised_lawful c.args.floor number c.args.ask c.in-Some.ask is lawful) (raised_read c.args.floor number c.args.ask c.in-Some.ask is read) serves
+    c.step_once.ensures.cause m k sound means from unkept (raised_lawful c.args.floor number c.args.ask c.in-Some.ask is lawful) (raised_read c.args.floor number c.args.ask c.in-Some.ask is read) serves

@@ -103,7 +103,7 @@ pub returns-in_err-decision-clause-crash : goal.returns-in_err-decision-clause-c
 returns-in_err-decision-clause-crash g c m k sound means from found may = inl (c.meta.ensures.leaves.crash found (c.decide.ensures.leaves.crash found may))
 
 pub returns-in-Taken-clause-cause : goal.returns-in-Taken-clause-cause
-returns-in-Taken-clause-cause g c m k sound means begin from unkept lawful read serves =
+returns-in-Taken-clause-cause g c m k sound means from unkept lawful read serves =
     let settings = settings_of c.args.self.now.office.setup c.args.self.now.office.controls in
     let t = c.moment_at-t.result in
     let looked = means_stay c.meta.ensures.leaves.served c.meta.ensures.leaves.stays m k means in
@@ -113,18 +113,18 @@ returns-in-Taken-clause-cause g c m k sound means begin from unkept lawful read 
     (subst (λ r. IfOk r (Decides (step settings m t c.args.ask) m t)) c.in_ok-decision.was (c.decide.ensures.decided m k sound looked at (meta at))) in
     c.accept.ensures.cause m k (means_stay c.decide.ensures.leaves.served c.decide.ensures.leaves.stays m k looked)
     (λ at. (
-      taken_writable settings m t c.args.ask c.in-Taken.effect c.in-Taken.reply sound (lawful_ask c.args.ask lawful) begin (decides at),
+      taken_writable settings m t c.args.ask c.in-Taken.effect c.in-Taken.reply sound (lawful_ask c.args.ask lawful) (decides at),
       sender_named c.args.arrival.now c.args.sender.now from,
       taken_status settings m t c.args.ask c.in-Taken.effect c.in-Taken.reply (decides at),
       unkept,
     )) serves
 
 pub returns-in_err-meta-clause-cause : goal.returns-in_err-meta-clause-cause
-returns-in_err-meta-clause-cause g c m k sound means begin from unkept lawful read serves =
+returns-in_err-meta-clause-cause g c m k sound means from unkept lawful read serves =
     only_no_answer c.from_residual.result (λ _. ⊤) (store_gave_out c.from_residual.result c.in_err-meta.field-0.0 (λ _. ⊤) c.from_residual.ensures.1 (c.in_err-meta.ensures.answers m k (means_now means) serves))
 
 pub returns-in_err-decision-clause-cause : goal.returns-in_err-decision-clause-cause
-returns-in_err-decision-clause-cause g c m k sound means begin from unkept lawful read serves =
+returns-in_err-decision-clause-cause g c m k sound means from unkept lawful read serves =
     let looked = means_stay c.meta.ensures.leaves.served c.meta.ensures.leaves.stays m k means in
     let meta = c.in_ok-meta.ensures.answers m k (means_now means) (c.decide.ensures.leaves.served serves) in
     only_no_answer c.from_residual-in_err-decision.result (λ _. ⊤)
