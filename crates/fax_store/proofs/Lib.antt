@@ -28,3 +28,4 @@ mod ShutLemmas
 pub mod VersionLemmas
 pub mod FloorLemmas
 mod ThinLemmas
+mod MeaningLemmas

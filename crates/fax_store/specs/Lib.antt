@@ -8,3 +8,4 @@ pub mod Kept
 pub mod Floors
 pub mod Meta
 pub mod Adopt
+pub mod Meaning

@@ -1,0 +1,218 @@
+-- Rows have one meaning: each record stands in one row, and each row has one record.
+use Rattle.std.proofs.Common.{◌≡◌, ℕ, zero, suc, ◌+◌, ◌≤◌, ◌==◌, pos, Bool, true, false, List, [], ◌∷◌, length, map, drop, unwrap_or, Option, Some, None, if◌then◌else◌, All, refl, sym, ap, ap₂, subst, ◌∙◌, inl, inr, arith, ℤ}
+use Rattle.std.proofs.Math.Path.{fun_ext}
+use Rattle.std.proofs.lemmas.List.Elements.{All-head, All-tail}
+use Rattle.std.specs.Prelude.{nat_le}
+use Rattle.sqlite.specs.Effect.{Database}
+use Rattle.sqlite.specs.Order.{Row, column}
+use Rattle.sqlite.specs.declared.types.Value.{Value}
+use Rattle.sqlite.specs.declared.types.Value.TheVariants.{Blob, Int, Text}
+use Rattle.sqlite_rules.specs.Lists.{Has}
+use Rattle.fax_job.specs.Job.{is_lawful_killtime}
+use Rattle.fax_job.specs.Name.{IsName}
+use Rattle.fax_job.specs.Pair.{Pair, ArePairs}
+use Rattle.fax_job.specs.Spelling.{printed}
+use Rattle.fax_job.specs.declared.job.Call.{Call}
+use Rattle.fax_job.specs.declared.job.Call.TheVariants.{Connected, Busy, NoAnswer, NoCarrier, Other}
+use Rattle.fax_job.specs.declared.job.JobFields.{JobFields}
+use Rattle.fax_job.specs.declared.job.Phase.{Phase}
+use Rattle.fax_job.specs.declared.job.Phase.TheVariants.{Held, Waiting, Granted, Done, Failed}
+use Rattle.fax_job.specs.declared.job.Wish.{Wish}
+use Rattle.fax_job.specs.declared.job.Wish.TheVariants.{Go, Hold, Kill}
+use Rattle.fax_lines.proofs.PrintedLemmas.{printed_spells}
+use Rattle.fax_lines.proofs.TextLemmas.{spelled_alone}
+use Rattle.fax_lines.specs.Spells.{Spells}
+use Rattle.fax_core.proofs.FitsLemmas.{job_again}
+use Rattle.fax_core.specs.Job.{Job, fields_of, job_of}
+use Rattle.fax_core.specs.Ledger.{Ledger}
+use Rattle.fax_core.specs.Queue.{Queue, Entry}
+use Rattle.fax_core.specs.declared.grants.Grant.{Grant}
+use Rattle.fax_schema.specs.Schema.{down_tree, floors_tree, grants_tree, jobs_tree, meta_tree, replies_tree}
+use Rattle.fax_store.specs.Meaning.{RowsHaveOneMeaning}
+use Rattle.fax_tables.proofs.GrantRowLemmas.{same_grant}
+use Rattle.fax_tables.proofs.RowLemmas.{killtime_of, same_fields}
+use Rattle.fax_tables.specs.Job.{IsLawfulJob}
+use Rattle.fax_tables.specs.Row.{call_columns, call_number, down_columns, entry_columns, grant_row, job_row, meta_row, phase_number, wish_number}
+use Rattle.fax_tables.specs.Tables.{AreCounted, IsLawfulEntry, IsLawfulGrant, RowsMean, TablesMean}
+
+-- ---- values
+
+-- the text, the bytes, and the number of a value
+abbrev text_in : Value → List ℕ
+text_in (Text text) = text
+text_in other = []
+
+abbrev blob_in : Value → List ℕ
+blob_in (Blob bytes) = bytes
+blob_in other = []
+
+abbrev whole : ℤ → ℕ
+whole (pos n) = n
+whole other = 0
+
+abbrev number_in : Value → ℕ
+number_in (Int n) = whole n
+number_in other = 0
+
+-- ---- what a number stands for
+
+abbrev phase_at : ℕ → Phase
+phase_at n = if n == 0 then Held else if n == 1 then Waiting else if n == 2 then Granted else if n == 3 then Done else Failed
+
+phase_back : (phase : Phase) → phase_at (phase_number phase) ≡ phase
+phase_back Held = refl
+phase_back Waiting = refl
+phase_back Granted = refl
+phase_back Done = refl
+phase_back Failed = refl
+
+abbrev wish_at : ℕ → Wish
+wish_at n = if n == 0 then Go else if n == 1 then Hold else Kill
+
+wish_back : (wish : Wish) → wish_at (wish_number wish) ≡ wish
+wish_back Go = refl
+wish_back Hold = refl
+wish_back Kill = refl
+
+abbrev call_at : ℕ → Option Call
+call_at n = if n == 0 then None else if n == 1 then Some Connected else if n == 2 then Some Busy else if n == 3 then Some NoAnswer else if n == 4 then Some NoCarrier else Some Other
+
+call_back : (call : Option Call) → call_at (call_number call) ≡ call
+call_back None = refl
+call_back (Some Connected) = refl
+call_back (Some Busy) = refl
+call_back (Some NoAnswer) = refl
+call_back (Some NoCarrier) = refl
+call_back (Some Other) = refl
+
+-- a number stands for one of them
+one_of : {X : Type 0} (number : X → ℕ) (at : ℕ → X) → ((x : X) → at (number x) ≡ x) → (x y : X) → number x ≡ number y → x ≡ y
+one_of number at back x y is = sym (back x) ∙ ap at is ∙ back y
+
+-- 0 is written for no kill time, and no kill time is 0
+one_killtime : (a b : Option ℕ) → is_lawful_killtime a ≡ true → is_lawful_killtime b ≡ true → unwrap_or a 0 ≡ unwrap_or b 0 → a ≡ b
+one_killtime None None lawful other is = refl
+one_killtime None (Some t) lawful other is = absurd (zero_not t other is)
+  where
+    zero_not : (t : ℕ) → nat_le 1 t ≡ true → 0 ≡ t → ⊥
+    zero_not t low is = let no : nat_le 1 0 ≡ true = subst (λ n. nat_le 1 n ≡ true) (sym is) low in absurd cc
+one_killtime (Some t) None lawful other is = absurd (zero_not t lawful is)
+  where
+    zero_not : (t : ℕ) → nat_le 1 t ≡ true → t ≡ 0 → ⊥
+    zero_not t low is = let no : nat_le 1 0 ≡ true = subst (λ n. nat_le 1 n ≡ true) is low in absurd cc
+one_killtime (Some t) (Some u) lawful other is = ap Some is
+
+-- pairs that are printed alike are the same
+one_list : (a b : List Pair) → ArePairs a → ArePairs b → printed a ≡ printed b → a ≡ b
+one_list a b are others is = spelled_alone (printed a) a b (printed_spells a are) (subst (λ text. Spells text b) (sym is) (printed_spells b others))
+
+-- ---- records
+
+-- a row has one job
+one_job : (a b : Job) → IsLawfulJob a → IsLawfulJob b → job_row (fields_of a) ≡ job_row (fields_of b) → a ≡ b
+one_job a b lawful other is =
+    let f = fields_of a in
+    let g = fields_of b in
+    let number = λ (at : ℕ). ap (λ row. number_in (column row at)) is in
+    let text = λ (at : ℕ). ap (λ row. text_in (column row at)) is in
+    let killtime = one_killtime f.killtime g.killtime (killtime_of f lawful.limits) (killtime_of g other.limits) (number 8) in
+    let extra = one_list f.extra g.extra lawful.formed.extra other.formed.extra (text 6) in
+    let phase = one_of phase_number phase_at phase_back f.phase g.phase (number 18) in
+    let wish = one_of wish_number wish_at wish_back f.wish g.wish (number 19) in
+    let same : f ≡ g =
+    same_fields g f.job f.dial f.modem f.jobtag f.tts f.killtime f.priority f.npages f.totpages f.ntries f.tottries f.maxtries f.ndials f.totdials f.maxdials f.phase f.wish f.next f.status f.extra
+    (number 0) (text 2) (text 3) (text 4) (number 7) killtime (number 9) (number 10) (number 11) (number 12) (number 13) (number 14) (number 15) (number 16) (number 17) phase wish (number 20) (text 5) extra in
+    sym (job_again a lawful.pages) ∙ ap job_of same ∙ job_again b other.pages
+
+-- a row has one grant
+open_back : (is_open : Bool) → ((if is_open then 0 else 1) == 0) ≡ is_open
+open_back true = refl
+open_back false = refl
+
+one_grant : (a b : Grant) → grant_row a ≡ grant_row b → a ≡ b
+one_grant a b is =
+    let number = λ (at : ℕ). ap (λ row. number_in (column row at)) is in
+    let call = one_of call_number call_at call_back a.call b.call (number 6) in
+    let is_open = sym (open_back a.is_open) ∙ ap (λ n. n == 0) (number 8) ∙ open_back b.is_open in
+    same_grant b a.number a.job a.modem a.first_page a.last_page a.call a.confirmed a.is_open
+    (number 0) (number 2) (ap (λ row. text_in (column row 3)) is) (number 4) (number 5) call (number 7) is_open
+
+-- and one kept reply
+same_entry : (e : Entry) (client : List ℕ) (number : ℕ) (said : List ℕ) (status : ℕ) (body : List ℕ) → client ≡ e.client → number ≡ e.number → said ≡ e.said → status ≡ e.status → body ≡ e.body
+    → ◌≡◌ {A = Entry} (record { client = client; number = number; said = said; status = status; body = body }) e
+same_entry e client number said status body e0 e1 e2 e3 e4 = rw (e0, e1, e2, e3, e4) refl
+
+one_entry : (a b : Entry) → entry_columns a ≡ entry_columns b → a ≡ b
+one_entry a b is =
+    same_entry b a.client a.number a.said a.status a.body (ap (λ row. text_in (column row 0)) is) (ap (λ row. number_in (column row 1)) is) (ap (λ row. blob_in (column row 2)) is)
+    (ap (λ row. number_in (column row 3)) is) (ap (λ row. blob_in (column row 4)) is)
+
+-- rows have one list of records
+one_of_each : {X : Type 0} (show : X → Row) (Lawful : X → Type 0) → ((a b : X) → Lawful a → Lawful b → show a ≡ show b → a ≡ b)
+    → (xs ys : List X) → All Lawful xs → All Lawful ys → map show xs ≡ map show ys → xs ≡ ys
+one_of_each show Lawful each [] [] are others is = refl
+one_of_each show Lawful each [] (y ∷ ys) are others is = absurd cc
+one_of_each show Lawful each (x ∷ xs) [] are others is = absurd cc
+one_of_each show Lawful each (x ∷ xs) (y ∷ ys) are others is =
+    let here : show x ≡ show y = cc in
+    let behind : map show xs ≡ map show ys = cc in
+    ap₂ ◌∷◌ (each x y (All-head Lawful x xs are) (All-head Lawful y ys others) here) (one_of_each show Lawful each xs ys (All-tail Lawful x xs are) (All-tail Lawful y ys others) behind)
+
+-- ---- floors
+
+-- where one of two counts of the same rows isn't 0, the other is the same
+counted_once : (count other : List ℕ → ℕ) (columns : List Row) → AreCounted count columns → AreCounted other columns → (text : List ℕ) → 1 ≤ count text → count text ≡ other text
+counted_once count other columns are others text some =
+    let it = others.each (call_columns text (count text)) (are.all text some) in
+    let same : text ≡ it.0 = ap (λ row. text_in (column row 0)) it.1 in
+    ap (λ row. number_in (column row 1)) it.1 ∙ ap other (sym same)
+
+-- so the same rows count the same
+counted_alike : (count other : List ℕ → ℕ) (columns : List Row) → AreCounted count columns → AreCounted other columns → (text : List ℕ) → count text ≡ other text
+counted_alike count other columns are others text = by (count text) refl (other text) refl
+  where
+    by : (n : ℕ) → count text ≡ n → (o : ℕ) → other text ≡ o → count text ≡ other text
+    by zero none zero nothing = none ∙ sym nothing
+    by zero none (suc o) more = sym (counted_once other count columns others are text (omega (arith, more)))
+    by (suc n) some o more = counted_once count other columns are others text (omega (arith, some))
+
+-- ---- all tables
+
+-- two databases with the same rows in all tables but `holds` and `calls` mean the same
+same_meaning : (a b : Database) (m n : Queue) (k l : Ledger) → TablesMean a m k → TablesMean b n l
+    → a.trees jobs_tree ≡ b.trees jobs_tree → a.trees grants_tree ≡ b.trees grants_tree → a.trees down_tree ≡ b.trees down_tree → a.trees replies_tree ≡ b.trees replies_tree
+    → a.trees meta_tree ≡ b.trees meta_tree → a.trees floors_tree ≡ b.trees floors_tree → (m ≡ n) × (k ≡ l)
+same_meaning a b m n k l here there jobs grants down replies meta floors =
+    let row : meta_row m ∷ [] ≡ meta_row n ∷ [] = sym here.meta ∙ meta ∙ there.meta in
+    let number = λ (at : ℕ). ap (λ rows. number_in (column (first rows) at)) row in
+    let all_jobs : m.jobs ≡ n.jobs =
+    one_of_each (λ j. job_row (fields_of j)) IsLawfulJob one_job m.jobs n.jobs here.lawful.jobs there.lawful.jobs (sym here.jobs ∙ jobs ∙ there.jobs) in
+    let all_grants : m.grants ≡ n.grants = one_of_each grant_row IsLawfulGrant (λ x y _ _. one_grant x y) m.grants n.grants here.lawful.grants there.lawful.grants (sym here.grants ∙ grants ∙ there.grants) in
+    let all_down : m.down ≡ n.down =
+    one_of_each down_columns IsName (λ x y _ _ is. ap (λ row. text_in (column row 0)) is) m.down n.down here.lawful.down there.lawful.down (sym here.down ∙ ap (map (drop 1)) down ∙ there.down) in
+    let all_replies : k.replies ≡ l.replies = one_of_each entry_columns IsLawfulEntry (λ x y _ _. one_entry x y) k.replies l.replies here.lawful.replies there.lawful.replies (sym here.replies ∙ ap (map (drop 1)) replies ∙ there.replies) in
+    let counts = subst (AreCounted k.floor) (ap (map (drop 1)) floors) here.floors in
+    let all_floors : k.floor ≡ l.floor = fun_ext (counted_alike k.floor l.floor _ counts there.floors) in (
+      same_queue n m.jobs m.grants m.down m.clock m.next_job m.next_grant all_jobs all_grants all_down (number 2) (number 3) (number 4),
+      same_ledger l k.replies k.floor all_replies all_floors,
+    )
+  where
+    first : List Row → Row
+    first [] = []
+    first (r ∷ rows) = r
+
+    same_queue : (q : Queue) (jobs : List Job) (grants : List Grant) (down : List (List ℕ)) (clock next_job next_grant : ℕ)
+        → jobs ≡ q.jobs → grants ≡ q.grants → down ≡ q.down → clock ≡ q.clock → next_job ≡ q.next_job → next_grant ≡ q.next_grant
+        → ◌≡◌ {A = Queue} (record { jobs = jobs; grants = grants; down = down; clock = clock; next_job = next_job; next_grant = next_grant }) q
+    same_queue q jobs grants down clock next_job next_grant e0 e1 e2 e3 e4 e5 = rw (e0, e1, e2, e3, e4, e5) refl
+
+    same_ledger : (k : Ledger) (replies : List Entry) (floor : List ℕ → ℕ) → replies ≡ k.replies → floor ≡ k.floor → ◌≡◌ {A = Ledger} (record { replies = replies; floor = floor }) k
+    same_ledger k replies floor e0 e1 = rw (e0, e1) refl
+
+pub rows_have_one_meaning : RowsHaveOneMeaning
+rows_have_one_meaning db m n k l here there =
+    let a = here.same in
+    let b = there.same in
+    same_meaning here.full there.full m n k l here.means there.means
+    (a.rows.0 ∙ sym b.rows.0) (a.rows.1.0 ∙ sym b.rows.1.0) (a.rows.1.1.1.0 ∙ sym b.rows.1.1.1.0) (a.rows.1.1.1.1.0 ∙ sym b.rows.1.1.1.1.0)
+    (a.meta ∙ sym b.meta) (a.floors ∙ sym b.floors)
