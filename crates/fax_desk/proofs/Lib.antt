@@ -1,3 +1,4 @@
 mod OneReplayLemmas
 mod ReplayingLemmas
+pub mod ServedLemmas
 mod TurnsLemmas

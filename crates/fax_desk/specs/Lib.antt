@@ -1,3 +1,4 @@
+pub mod Conversing
 pub mod Desk
 pub mod Replaying
 pub mod Turns

@@ -1,15 +1,17 @@
 -- Messages that the queue answers one after the other, each at the moment that a clock gives. They are a session.
 use Rattle.std.specs.Prelude.{◌≡◌, ◌⊎◌, ℕ, List, [], ◌∷◌, map, None, codes}
 use Rattle.std.specs.List.{AllZip}
+use Rattle.sqlite.specs.State.{State}
 use Rattle.fax_job.specs.declared.refusal.Refusal.TheVariants.{Unavailable}
-use Rattle.fax_ask.specs.Response.{refused_response}
+use Rattle.fax_ask.specs.Response.{Response, refused_response}
 use Rattle.fax_core.specs.Reply.{NoKeys}
 use Rattle.fax_core.specs.Settings.{Settings}
+use Rattle.fax_core.specs.Sound.{Sound}
 use Rattle.fax_http.specs.Conversation.{Turn}
 use Rattle.fax_http.specs.Message.{fields_of, sole, values_of}
 use Rattle.fax_once.specs.Laws.{left_of}
 use Rattle.fax_once.specs.Run.{Start}
-use Rattle.fax_once.specs.Sessions.{IsSession, session_of}
+use Rattle.fax_once.specs.Sessions.{IsSession, RunsAsSession, session_of}
 use Rattle.fax_once.specs.Verdict.{Verdict, IsVerdict, reply_of}
 use Rattle.fax_once.specs.declared.arrival.Arrival.{Arrival}
 use Rattle.fax_desk.specs.Desk.{IsArrival}
@@ -38,7 +40,19 @@ module _ {C : Type 0} (gives : C → List ℕ → ℕ → C → Type 0) (setting
 abbrev pub AreArrivals : List Turn → List Arrival → Type 0
 AreArrivals turns arrivals = AllZip (λ turn a. (moment : ℕ) × IsArrival turn.head turn.body moment a) turns arrivals
 
+-- what was replied to them
+abbrev pub replies_of : List Turn → List Response
+replies_of turns = map (λ turn. turn.reply) turns
+
 -- such messages are a session: their arrivals, with their replies
 abbrev pub TurnsAreASession : {C : Type 0} → (C → List ℕ → ℕ → C → Type 0) → Type 0
 TurnsAreASession {C} gives = (settings : Settings) (start end : Start) (clock : C) (turns : List Turn) → AreTurns gives settings start clock turns end
-    → (arrivals : List Arrival) × AreArrivals turns arrivals × IsSession start (session_of settings arrivals (map (λ turn. turn.reply) turns) None) end
+    → (arrivals : List Arrival) × AreArrivals turns arrivals × IsSession start (session_of settings arrivals (replies_of turns) None) end
+
+-- The messages were answered from this start on, and are a session, also where it was broken off. The tables mean the sound queue that it leads to.
+pub record AreServed {C : Type 0} (gives : C → List ℕ → ℕ → C → Type 0) (settings : Settings) (start : Start) (clock : C) (turns : List Turn) (old new : State) : Type 0 where
+  pub arrivals : List Arrival
+  pub are : AreArrivals turns arrivals
+  pub session : RunsAsSession settings start arrivals (replies_of turns) old new
+  pub answered : AreTurns gives settings start clock turns session.left
+  pub sound : Sound session.left.queue

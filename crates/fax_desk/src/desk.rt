@@ -53,14 +53,18 @@ impl<C: Clock + Drop, S: Alter> Handler for Desk<C, S> {
     ghost use Rattle.sqlite.specs.State.{HasCleanDisk};
     ghost use Rattle.fax_decide.specs.Settings.{settings_of};
     ghost use Rattle.fax_desk.specs.Desk.{IsHandled};
+    ghost use Rattle.fax_store.specs.Store.{LeavesAlone, Serves};
 
     // The queue handles the message's arrival at the clock's moment, by the same setup and controls as ever. Where the disk
-    // has returned what was written, it had before. The queue says that its store is shut only where it is.
+    // has returned what was written, it had before. The queue says that its store is shut only where it is. While the
+    // store is open, a crash leaves the last commit alone.
     ghost answers = { λ old head body reply new.
         (new.queue.office ≡ old.queue.office)
         × (HasCleanDisk (state S.Store new.queue.store.conn) → HasCleanDisk (state S.Store old.queue.store.conn))
         × (IsTrue new.queue.is_shut → HasCleanDisk (state S.Store new.queue.store.conn)
         → (state S.Store new.queue.store.conn).is_open ≡ false)
+        × (Serves (state S.Store new.queue.store.conn)
+        → LeavesAlone (state S.Store new.queue.store.conn) (state S.Store new.queue.store.conn).committed.trees)
         × IsHandled (λ said moment. C.gives old.clock said moment new.clock)
         (settings_of old.queue.office.setup old.queue.office.controls)
         (state S.Store old.queue.store.conn) head body reply (state S.Store new.queue.store.conn) };

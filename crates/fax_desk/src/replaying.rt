@@ -9,8 +9,9 @@ ghost use Rattle.fax_desk.specs.Replaying.{IsReplayed};
 ghost use Rattle.fax_http.specs.Device.{IsFresh};
 ghost use Rattle.fax_tables.specs.Tables.{IsAtRest};
 
+use crate::conversing::converse;
 use crate::desk::Desk;
-use fax_http::{Bounds, End, SaidClock, Watched, serve};
+use fax_http::{Bounds, End, SaidClock, Watched};
 use fax_once::{Office, Queue};
 use fax_store::{Store, StoreFault};
 use sqlite::MemStore;
@@ -39,7 +40,7 @@ pub fn replay<R: Read + Drop, W: Write + Drop>(
     let bounds = Bounds {
         messages: MESSAGE_LIMIT,
     };
-    let served = serve(alloc, reader, out, &mut desk, bounds);
+    let served = converse(alloc, reader, out, &mut desk, bounds);
     served.end
 }
 

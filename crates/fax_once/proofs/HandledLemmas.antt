@@ -116,7 +116,7 @@ leaves_at here reply store (Repeated told) (is, serves, rest) = (is, λ _. rest)
 leaves_at here reply store (Accepted after kept told) (is, serves, rest, sound) = (is, λ _. rest)
 
 -- what a crash leaves of a store that is open: what it means
-open_stops : (store : State) (e : Start) → Means store e.queue e.kept → (Serves store → LeavesAlone store store.committed.trees)
+pub open_stops : (store : State) (e : Start) → Means store e.queue e.kept → (Serves store → LeavesAlone store store.committed.trees)
     → (found : Trees) → MayFind store found → store.is_open ≡ true → RowsFound found e.queue e.kept
 open_stops store e means alone found may is_open =
     let serves : Serves store = record { clean = may.0; is_open = is_open } in
@@ -166,6 +166,15 @@ module _ (s : Settings) (start : Start) (arrivals : List Arrival) (replies : Lis
   unfolding runs_on handled
   same_end (inl (v, (r, reads, is), leaves)) shut = runs_thread s start ran.heard r ∙ ap (left_of here) (sym is) ∙ led_nowhere v leaves shut
   same_end (inr (gone, left)) shut = refl
+
+  -- So it leads on from there by its verdict, which is its reply, or it was lost.
+  pub leads_by : (h : Handles s a here.queue here.kept reply new)
+      → ((v : Verdict) × IsVerdict s a here.queue here.kept v × (reply ≡ reply_of v) × (end_of s start (runs_on h).heard ≡ left_of here v))
+      ⊎ ((reply ≡ refused_response Unavailable NoKeys) × (end_of s start (runs_on h).heard ≡ here))
+  unfolding runs_on handled
+  leads_by (inl (v, (r, reads, is), leaves)) =
+      inl (v, (r, reads, is), (leaves_at here reply new v leaves).0, runs_thread s start ran.heard r ∙ ap (left_of here) (sym is))
+  leads_by (inr (gone, left)) = inr (gone, refl)
 
   module _ (first : State) (before : (found : Trees) → MayFind old found → IsLeftBehind s start arrivals replies ran.heard first found)
       (stops : Stops s a here.queue here.kept old new) (h : Handles s a here.queue here.kept reply new) where

@@ -20,8 +20,8 @@ mod BroughtLemmas
 mod SumLemmas
 mod OnceLemmas
 mod GrantLemmas
-mod HandledLemmas
-mod SessionsLemmas
+pub mod HandledLemmas
+pub mod SessionsLemmas
 mod RowsSessions
 mod SaidLemmas
 mod CauseLemmas

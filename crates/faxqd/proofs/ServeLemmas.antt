@@ -1,129 +1,81 @@
 -- What serving shows.
-use Rattle.std.proofs.Common.{◌≡◌, ℕ, Bool, List, [], ◌∷◌, Option, Some, None, Ok, ap, ◌∙◌, refl, subst, sym, inl, inr}
-use Rattle.std.specs.Prelude.{MatchOption}
+use Rattle.std.proofs.Common.{◌≡◌, ◌⊎◌, ℕ, Bool, true, List, [], ◌∷◌, length, Option, Some, None, Ok, refl, ◌∙◌, ap, subst, sym, inl, inr, true≢false}
+use Rattle.std.specs.List.{AllByRecursion}
+use Rattle.std.specs.Prelude.{IsTrue, MatchOption, nat_lt}
+use Rattle.sqlite.specs.Effect.{Database}
 use Rattle.sqlite.specs.State.{State, HasCleanDisk}
+use Rattle.sqlite_rules.specs.Lists.{Has}
+use Rattle.sqlite_schema.specs.declared.schema.Schema.{Schema}
 use Rattle.sqlite_wal.specs.Recovery.{Image}
-use Rattle.fax_core.specs.Ledger.{Ledger, empty_ledger}
-use Rattle.fax_core.specs.Queue.{Queue, empty_queue}
-use Rattle.fax_core.proofs.StepLemmas.{empty_sound}
 use Rattle.fax_core.specs.Settings.{Settings}
 use Rattle.fax_core.specs.Sound.{Sound}
-use Rattle.fax_desk.specs.Desk.{HandlesAt, IsArrival}
-use Rattle.fax_desk.specs.Replaying.{settings_in}
-use Rattle.fax_desk.specs.Turns.{AreTurns, IsTurn, said_in}
-use Rattle.fax_http.specs.Conversation.{Turn}
-use Rattle.fax_http.specs.Serving.{Answering, Answers}
-use Rattle.fax_once.proofs.VerdictLemmas.{still_means}
-use Rattle.fax_once.specs.Run.{Start}
-use Rattle.fax_once.specs.Verdict.{Handles, IsVerdict, Leaves, Told, Repeated, Accepted, Verdict}
-use Rattle.fax_once.specs.declared.arrival.Arrival.{Arrival}
-use Rattle.fax_store.specs.Store.{Means}
 use Rattle.fax_decide.specs.declared.office.Office.{Office}
+use Rattle.fax_desk.specs.Conversing.{ServesFrom}
+use Rattle.fax_desk.specs.Replaying.{settings_in}
+use Rattle.fax_desk.specs.Turns.{AreServed}
+use Rattle.fax_http.specs.Conversation.{Turn}
 use Rattle.fax_http.specs.declared.device.Watched.{Watched}
+use Rattle.fax_once.proofs.HandledLemmas.{open_stops}
+use Rattle.fax_once.specs.Run.{Start}
+use Rattle.fax_store.specs.Adopt.{Adopts, IsOurs}
+use Rattle.fax_store.specs.Store.{LeavesAlone, Means}
+use Rattle.fax_schema.specs.Schema.{AreOurs, indexed_last, no_tables, with_calls, without_calls}
 use Rattle.fax_files.specs.Database.{IsFound}
 use Rattle.fax_files.specs.Office.{ComesOf}
 use Rattle.fax_net.specs.History.{Step}
 use Rattle.fax_net.specs.Listening.{Listens}
 use Rattle.fax_net.specs.declared.sockets.Sockets.{Sockets}
-use Rattle.faxqd.specs.Serve.{Ends, HasServed, ServesBy, ServesFrom, ServesHeld}
+use Rattle.faxqd.specs.Serve.{Ends, HasServed, IsFoundAs, ServesBy, ServesHeld}
 use Rattle.fax_text.specs.declared.status.Status.{Status}
 use Rattle.fax_text.specs.declared.status.Status.TheVariants.{Success, Fault, Usage}
 use Rattle.fax_text.specs.declared.server.ServePlan.{ServePlan}
 
--- ---- one message
+-- ---- what was found
 
--- a message was answered, and what it leaves is a sound queue, which the store means
-record IsOne {C : Type 0} (gives : C → List ℕ → ℕ → C → Type 0) (settings : Settings) (m : Queue) (k : Ledger) (clock : C) (turn : Turn) (later : C) (new : State) : Type 0 where
-  next : Start
-  turned : IsTurn gives settings (record { queue = m; kept = k }) clock turn next later
-  sound : Sound next.queue
-  means : Means new next.queue next.kept
+-- each of these schemas has tables
+some_tables : (layouts : List Schema) → AllByRecursion (λ (l : Schema). nat_lt 0 (length l.tables) ≡ true) layouts → (schema : Schema) → Has layouts schema
+    → nat_lt 0 (length schema.tables) ≡ true
+some_tables [] all schema has = absurd has
+some_tables (l ∷ layouts) all schema (inl is) = subst (λ (s : Schema). nat_lt 0 (length s.tables) ≡ true) (sym is) all.0
+some_tables (l ∷ layouts) all schema (inr has) = some_tables layouts all.1 schema has
 
-module _ {C : Type 0} (gives : C → List ℕ → ℕ → C → Type 0) (settings : Settings) (m : Queue) (k : Ledger) (clock : C) (turn : Turn) (later : C) (new : State)
-    (moment : ℕ) (given : gives clock (said_in turn) moment later) (a : Arrival) (comes : IsArrival turn.head turn.body moment a) (sound : Sound m) where
-  -- where it stands before
-  start : Start
-  start = record { queue = m; kept = k }
+-- so no tables are none of a queue's
+not_ours : (schema : Schema) → schema ≡ no_tables → AreOurs schema → ⊥
+not_ours schema none ours =
+    let some : nat_lt 0 (length schema.tables) ≡ true = elim ours [
+      | inl (inl has) ↦ some_tables with_calls (refl, (refl, (refl, (refl, (refl, tt))))) schema has
+      | inl (inr has) ↦ some_tables without_calls (refl, (refl, (refl, tt))) schema has
+      | inr has ↦ some_tables indexed_last (refl, (refl, (refl, (refl, (refl, tt))))) schema has
+    ] in
+    true≢false (sym some ∙ ap (λ (s : Schema). nat_lt 0 (length s.tables)) none)
 
-  -- what a verdict leaves is one message answered
-  by_verdict : (v : Verdict) → IsVerdict settings a m k v → Leaves m k turn.reply new v → IsOne gives settings m k clock turn later new
-  unfolding start
-  by_verdict (Told told) is leaves = record {
-    next = start;
-    turned = record { moment = moment; given = given; arrival = a; comes = comes; answered = inl (Told told, is, leaves.0, refl) };
-    sound = sound;
-    means = leaves.1;
-  }
-  by_verdict (Repeated told) is leaves = record {
-    next = start;
-    turned = record { moment = moment; given = given; arrival = a; comes = comes; answered = inl (Repeated told, is, leaves.0, refl) };
-    sound = sound;
-    means = λ serves. leaves.2;
-  }
-  by_verdict (Accepted after kept told) is leaves = record {
-    next = record { queue = after; kept = kept };
-    turned = record { moment = moment; given = given; arrival = a; comes = comes; answered = inl (Accepted after kept told, is, leaves.0, refl) };
-    sound = leaves.3;
-    means = λ serves. leaves.2;
-  }
+-- from a start that an opened store means the messages were served, and a crash leaves what such a session left: as it was opened, a crash left just what it means
+has_served : {C : Type 0} (gives : C → List ℕ → ℕ → C → Type 0) (settings : Settings) (clock : C) (turns : List Turn) (opened new : State) (start : Start)
+    → IsTrue opened.is_open → LeavesAlone opened opened.committed.trees → Means opened start.queue start.kept
+    → AreServed gives settings start clock turns opened new → HasServed gives settings start clock turns new
+has_served gives settings clock turns opened new start is_open alone means it = record {
+  arrivals = it.arrivals;
+  are = it.are;
+  end = it.session.left;
+  answered = it.answered;
+  session = it.session.session;
+  sound = it.sound;
+  means = it.session.means;
+  stopped = it.session.stopped (λ found may. open_stops opened start means (λ _. alone) found may is_open);
+}
 
-  -- so is what handling it leaves, with a verdict or without
-  one_of : Handles settings a m k turn.reply new → IsOne gives settings m k clock turn later new
-  unfolding start
-  one_of (inl (v, is, leaves)) = by_verdict v is leaves
-  one_of (inr gone) = record {
-    next = start;
-    turned = record { moment = moment; given = given; arrival = a; comes = comes; answered = inr (gone.0, refl) };
-    sound = sound;
-    means = still_means new m k gone.1;
-  }
+-- what the files held means a start, and so does the store that was opened over it
+means_found : (image : Image) (opened : State) (it : IsFound image opened) (start : Start) → IsFoundAs it.found start → Means opened start.queue start.kept
+means_found image opened it start (inr (ours, rows)) = it.means start.queue start.kept ours rows
+means_found image opened it start (inl (none, is)) = elim it.taken [
+  | inl (_, rest) ↦ subst (λ (e : Start). Means opened e.queue e.kept) (sym is) (λ _. rest)
+  | inr (ours, _) ↦ absurd (not_ours it.found.schema none ours.schema_is)
+]
 
--- ---- all messages
-
--- what no message changes stays
-pub stays : {H X : Type 0} (answers : Answering H) (what : H → X)
-    → ((old : H) (turn : Turn) (new : H) → answers old turn.head turn.body turn.reply new → what new ≡ what old)
-    → (old : H) (turns : List Turn) (new : H) → Answers answers old turns new → what new ≡ what old
-stays answers what same old [] new e = ap what e
-stays answers what same old (turn ∷ turns) new (next, here, behind) = stays answers what same next turns new behind ∙ same old turn next here
-
-module _ {H C : Type 0} (answers : Answering H) (gives : C → List ℕ → ℕ → C → Type 0) (of : H → State) (settings : H → Settings) (clock_of : H → C)
-    (clean : (old : H) (turn : Turn) (new : H) → answers old turn.head turn.body turn.reply new → HasCleanDisk (of new) → HasCleanDisk (of old))
-    (same : (old : H) (turn : Turn) (new : H) → answers old turn.head turn.body turn.reply new → settings new ≡ settings old)
-    (handled : (old : H) (turn : Turn) (new : H) → answers old turn.head turn.body turn.reply new
-    → (moment : ℕ) × gives (clock_of old) (said_in turn) moment (clock_of new) × HandlesAt moment (settings old) (of old) turn.head turn.body turn.reply (of new)) where
-  -- a disk that is clean in the end was so all along
-  clean_before : (old : H) (turns : List Turn) (new : H) → Answers answers old turns new → HasCleanDisk (of new) → HasCleanDisk (of old)
-  clean_before old [] new e now = subst (λ h. HasCleanDisk (of h)) e now
-  clean_before old (turn ∷ turns) new (next, here, behind) now = clean old turn next here (clean_before next turns new behind now)
-
-  -- messages that are answered one after the other were served from a sound queue
-  served_from : (old : H) (turns : List Turn) (new : H) → Answers answers old turns new → (m : Queue) (k : Ledger) → Sound m → Means (of old) m k → HasCleanDisk (of new)
-      → HasServed gives (settings old) m k (clock_of old) turns (of new)
-  served_from old [] new e m k sound means now = record {
-    end = record { queue = m; kept = k };
-    answered = refl;
-    sound = sound;
-    means = subst (λ h. Means (of h) m k) (sym e) means;
-  }
-  served_from old (turn ∷ turns) new (next, here, behind) m k sound means now =
-      let it = handled old turn next here in
-      let comes = it.2 m k sound means (clean_before next turns new behind now) in
-      let one = one_of gives (settings old) m k (clock_of old) turn (clock_of next) (of next) it.0 it.1 comes.0 comes.1 sound comes.2 in
-      let rest = served_from next turns new behind one.next.queue one.next.kept one.sound one.means now in
-      record {
-        end = rest.end;
-        answered = (one.next, clock_of next, one.turned, subst (λ s. AreTurns gives s one.next (clock_of next) turns rest.end) (same old turn next here) rest.answered);
-        sound = rest.sound;
-        means = rest.means;
-      }
-
-  -- so they were from whatever sound queue the store means
-  pub serves_from : (old : H) (turns : List Turn) (new : H) → Answers answers old turns new → ServesFrom gives (settings old) (clock_of old) (of old) turns (of new)
-  serves_from old turns new answered = record {
-    clean = clean_before old turns new answered;
-    served = λ m k sound means now. served_from old turns new answered m k sound means now;
-  }
+-- what was found had no tables, or is ours
+taken_as : (found : Database) (opened : State) → Adopts found opened → (found.schema ≡ no_tables) ⊎ IsOurs found
+taken_as found opened (inl (none, rest)) = inl none
+taken_as found opened (inr (ours, whole)) = inr ours
 
 -- the queue of what the files held is the one that was served
 pub held_by : {C : Type 0} (gives : C → List ℕ → ℕ → C → Type 0) (settings : Settings) (image : Image) (clock : C) (turns : List Turn) (opened new : State)
@@ -134,10 +86,10 @@ held_by gives settings image clock turns opened new found from clean =
       found = it.found;
       held = it.held;
       sound = it.sound;
-      served = elim it.taken [
-        | inl (none, rest) ↦ inl (none, from.served empty_queue empty_ledger empty_sound (λ serves. rest) clean)
-        | inr (ours, whole) ↦ inr (ours, λ m k sound rows. from.served m k sound (it.means m k ours.schema_is rows) clean)
-      ];
+      taken = taken_as it.found opened it.taken;
+      served = λ start sound as.
+          let means = means_found image opened it start as in
+          has_served gives settings clock turns opened new start it.serves.is_open it.alone means (from.served start.queue start.kept sound means clean);
     }
 
 -- ---- the end

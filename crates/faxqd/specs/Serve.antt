@@ -1,23 +1,24 @@
 -- How the command `serve` ends, and what it answers.
-use Rattle.std.specs.Prelude.{◌≡◌, ◌⊎◌, ℕ, Bool, true, false, List, Option, Ok}
+use Rattle.std.specs.Prelude.{◌≡◌, ◌⊎◌, ℕ, Bool, List, None, Option, Ok}
 use Rattle.sqlite.specs.Effect.{Database, IsDatabase}
 use Rattle.sqlite.specs.State.{State, HasCleanDisk}
+use Rattle.sqlite_trees.specs.Tree.{Trees}
 use Rattle.sqlite_wal.specs.Recovery.{Image}
-use Rattle.fax_core.specs.Ledger.{Ledger, empty_ledger}
-use Rattle.fax_core.specs.Queue.{Queue, empty_queue}
 use Rattle.fax_core.specs.Settings.{Settings}
 use Rattle.fax_core.specs.Sound.{Sound}
 use Rattle.fax_decide.specs.declared.office.Office.{Office}
-use Rattle.fax_desk.specs.Replaying.{settings_in}
-use Rattle.fax_desk.specs.Turns.{AreTurns}
+use Rattle.fax_desk.specs.Replaying.{empty_start, settings_in}
+use Rattle.fax_desk.specs.Turns.{AreArrivals, AreTurns, replies_of}
 use Rattle.fax_http.specs.Conversation.{Turn}
 use Rattle.fax_http.specs.Device.{Put}
 use Rattle.fax_http.specs.declared.device.Watched.{Watched}
 use Rattle.fax_once.specs.Run.{Start}
+use Rattle.fax_once.specs.Sessions.{IsSession, LeftBySession, session_of}
+use Rattle.fax_once.specs.declared.arrival.Arrival.{Arrival}
 use Rattle.fax_store.specs.Adopt.{IsOurs}
-use Rattle.fax_store.specs.Store.{Means}
+use Rattle.fax_store.specs.Store.{MayFind, Means}
 use Rattle.fax_tables.specs.Tables.{RowsMean}
-use Rattle.fax_schema.specs.Schema.{no_tables}
+use Rattle.fax_schema.specs.Schema.{AreOurs, no_tables}
 use Rattle.fax_net.specs.Listening.{Listens, SaidNothing, listening}
 use Rattle.fax_files.specs.Database.{AreHeld}
 use Rattle.fax_files.specs.Office.{ComesOf}
@@ -29,27 +30,29 @@ use Rattle.fax_text.specs.declared.server.ServePlan.{ServePlan}
 
 -- ---- messages
 
+-- what was found in a database's files means this start: the empty queue, where it had no tables, or what its rows mean
+abbrev pub IsFoundAs : Database → Start → Type 0
+IsFoundAs found start = ((found.schema ≡ no_tables) × (start ≡ empty_start)) ⊎ (AreOurs found.schema × RowsMean found start.queue start.kept)
+
 module _ {C : Type 0} (gives : C → List ℕ → ℕ → C → Type 0) (settings : Settings) where
-  -- these messages were answered one after the other, from this queue and these kept replies on
-  pub record HasServed (m : Queue) (k : Ledger) (clock : C) (turns : List Turn) (new : State) : Type 0 where
+  -- These messages were answered one after the other from this start on, and the tables mean the sound queue that they lead to. They are a session, and what a crash leaves, such a session left.
+  pub record HasServed (start : Start) (clock : C) (turns : List Turn) (new : State) : Type 0 where
+    pub arrivals : List Arrival
+    pub are : AreArrivals turns arrivals
     pub end : Start
-    pub answered : AreTurns gives settings (record { queue = m; kept = k }) clock turns end
+    pub answered : AreTurns gives settings start clock turns end
+    pub session : IsSession start (session_of settings arrivals (replies_of turns) None) end
     pub sound : Sound end.queue
     pub means : Means new end.queue end.kept
+    pub stopped : (found : Trees) → MayFind new found → LeftBySession settings start arrivals (replies_of turns) found
 
-  -- From a store that means a sound queue they were. Where the disk has returned what was written, it had before.
-  pub record ServesFrom (clock : C) (old : State) (turns : List Turn) (new : State) : Type 0 where
-    pub clean : HasCleanDisk new → HasCleanDisk old
-    pub served : (m : Queue) (k : Ledger) → Sound m → Means old m k → HasCleanDisk new → HasServed m k clock turns new
-
-  -- So they were from what a database's files held: from an empty queue where that had no tables, or from the one that its rows mean.
+  -- so they were from what a database's files held
   pub record ServesHeld (image : Image) (clock : C) (turns : List Turn) (new : State) : Type 0 where
     pub found : Database
     pub held : AreHeld image found.trees
     pub sound : IsDatabase found
-    pub served :
-        ((found.schema ≡ no_tables) × HasServed empty_queue empty_ledger clock turns new)
-        ⊎ (IsOurs found × ((m : Queue) (k : Ledger) → Sound m → RowsMean found m k → HasServed m k clock turns new))
+    pub taken : (found.schema ≡ no_tables) ⊎ IsOurs found
+    pub served : (start : Start) → Sound start.queue → IsFoundAs found start → HasServed start clock turns new
 
 -- ---- the end
 

@@ -3,6 +3,7 @@
 
 mod command;
 mod import;
+mod laws;
 mod list;
 mod queue;
 mod replay;

@@ -7,7 +7,8 @@ ghost use Rattle.fax_desk.specs.Replaying.{settings_in};
 ghost use Rattle.fax_http.specs.Conversation.{Turn};
 ghost use Rattle.fax_http.specs.Device.{IsFresh};
 ghost use Rattle.fax_net.specs.Listening.{Listens};
-ghost use Rattle.faxqd.specs.Serve.{ServesBy, ServesFrom};
+ghost use Rattle.fax_desk.specs.Conversing.{ServesFrom};
+ghost use Rattle.faxqd.specs.Serve.{ServesBy};
 
 use crate::queue::open_queue;
 use fax_desk::Desk;

@@ -1,8 +1,8 @@
 use Rattle.std.proofs.Common.{◌∙◌, ap, subst}
 use Rattle.sqlite.specs.Held.{state}
 use Rattle.fax_desk.specs.Replaying.{settings_in}
-use Rattle.faxqd.specs.Serve.{ServesFrom}
-use Rattle.faxqd.proofs.ServeLemmas.{serves_from, stays}
+use Rattle.fax_desk.proofs.ServedLemmas.{serves_from, stays}
+use Rattle.fax_desk.specs.Conversing.{ServesFrom}
 use Rattle.faxqd.proofs.serve.serve_queue.Goals as goal
 
 pub returns-clause-office : goal.returns-clause-office
@@ -16,7 +16,7 @@ returns-clause-served g c =
     let turns = c.listen-status.ensures.served.0 in
     let left = state g.S.Store c.listen-status.new.handler.queue.store.conn in
     let served = serves_from _ g.C.Clock.gives (λ desk. state g.S.Store desk.queue.store.conn) (λ desk. settings_in desk.queue.office) (λ desk. desk.clock)
-    (λ old turn new it. it.1) (λ old turn new it. ap settings_in it.0) (λ old turn new it. (it.3.0, it.3.1, it.3.2)) _ turns _ c.listen-status.ensures.served.2 in
+    (λ old turn new it. it.1) (λ old turn new it. ap settings_in it.0) (λ old turn new it. it.3) (λ old turn new it. it.4) _ turns _ c.listen-status.ensures.served.2 in
     rw c.close.ensures (
       turns,
       c.listen-status.ensures.served.1,

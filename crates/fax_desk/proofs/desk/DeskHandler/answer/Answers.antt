@@ -7,9 +7,10 @@ returns g c head body parts = (
   c.handle.ensures.office,
   c.handle.ensures.clean,
   c.handle.ensures.shut,
+  c.handle.ensures.alone,
   (
     c.moment-moment.result,
     subst (λ (said : List ℕ). g.C.Clock.gives c.args.self.now.clock said c.moment-moment.result c.moment-moment.new.self) parts.moment c.moment-moment.ensures,
-    λ m k sound means serves. (c.arrival_of-arrival.result, c.arrival_of-arrival.ensures head body parts, c.handle.ensures.handled m k sound means serves),
+    λ m k sound means serves. (c.arrival_of-arrival.result, c.arrival_of-arrival.ensures head body parts, c.handle.ensures.handled m k sound means serves, c.handle.ensures.crash m k sound means),
   ),
 )
