@@ -1,3 +1,4 @@
 mod OneReplayLemmas
 mod ReplayingLemmas
 mod TurnsLemmas
+mod RowsTurns
