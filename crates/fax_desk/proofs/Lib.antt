@@ -2,3 +2,4 @@ mod OneReplayLemmas
 mod ReplayingLemmas
 pub mod ServedLemmas
 mod TurnsLemmas
+mod RowsTurns

@@ -26,3 +26,7 @@ mod RowsSessions
 mod SaidLemmas
 mod CauseLemmas
 mod ProgressLemmas
+mod RowsLeft
+mod RowsOneList
+mod RowsProgress
+mod RowsReading

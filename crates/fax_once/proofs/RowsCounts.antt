@@ -1,5 +1,5 @@
 -- Worked rows of counters: what is counted of the reports on a job, and what came in with it. Of requests the newest comes first.
-use Rattle.std.specs.Prelude.{◌≡◌, refl, ℕ, ◌+◌, ◌*◌, true, List, [], ◌∷◌, length, codes}
+use Rattle.std.specs.Prelude.{◌≡◌, refl, ℕ, ◌+◌, ◌*◌, true, List, [], ◌∷◌, length, map, codes}
 use Rattle.fax_job.specs.declared.import.Import.{Import}
 use Rattle.fax_job.specs.declared.job.Call.TheVariants.{Busy, Connected}
 use Rattle.fax_core.specs.declared.ask.Ask.{Ask}
@@ -7,8 +7,8 @@ use Rattle.fax_core.specs.declared.ask.Ask.TheVariants.{Bring, CallReport, Next,
 use Rattle.fax_core.specs.declared.report.Ending.TheVariants.{Retry}
 use Rattle.fax_core.specs.Queue.{empty_queue}
 use Rattle.fax_core.proofs.RowWords.{◌at◌, order, report, settings, ttyS0, ttyS1}
-use Rattle.fax_once.specs.Counts.{Counters, Called, Confirmed, brought_with, counts, reports_of}
-use Rattle.fax_once.specs.Run.{Fed, under}
+use Rattle.fax_once.specs.Counts.{Counters, Called, Confirmed, brought_with, counters_of, counts, reports_of}
+use Rattle.fax_once.specs.Run.{Fed, queue_after, under}
 
 -- ---- words
 
@@ -68,27 +68,46 @@ reports_row = refl
 
 -- ---- an import
 
--- one page of three was sent, in the third of four calls; the fourth one was busy
+-- four pages of six were sent; of seven calls three were connected, the last of them since the fourth page, and then two were busy
 abbrev older : Import
-older = record { order = order (codes "5550111") 3; npages = 1; ntries = 0; tottries = 1; ndials = 1; totdials = 4; state = 5; status = [] }
+older = record { order = record (order (codes "5550111") 6) { maxtries = 9 }; npages = 4; ntries = 1; tottries = 3; ndials = 2; totdials = 7; state = 5; status = [] }
 
 abbrev brought : List Ask
 brought = Bring older ∷ []
 
 -- a job comes in with its counters
-brought_row : counted 1 brought ≡ these 4 1 1 0 1
+brought_row : counted 1 brought ≡ these 7 2 3 1 4
 brought_row = refl
 
+-- they are those of the job
+counters_row : map counters_of (queue_after empty_queue (fed brought)).jobs ≡ these 7 2 3 1 4 ∷ []
+counters_row = refl
+
 -- a call is one more, in a row too
-brought_busy_row : counted 1 (CallReport 1 Busy ∷ Next ttyS1 ∷ brought) ≡ these 5 2 1 0 1
+brought_busy_row : counted 1 (CallReport 1 Busy ∷ Next ttyS1 ∷ brought) ≡ these 8 3 3 1 4
 brought_busy_row = refl
 
--- behind a connected one what came in counts in all, and in a row no more
-brought_connected_row : counted 1 (CallReport 1 Connected ∷ Next ttyS1 ∷ brought) ≡ these 5 0 2 1 1
+-- behind a connected one what came in counts in all, and of the calls in a row no more
+abbrev brought_connected : List Ask
+brought_connected = CallReport 1 Connected ∷ Next ttyS1 ∷ brought
+
+brought_connected_row : counted 1 brought_connected ≡ these 8 0 4 2 4
 brought_connected_row = refl
 
-brought_page_row : counted 1 (PageReport 1 2 ∷ CallReport 1 Connected ∷ Next ttyS1 ∷ brought) ≡ these 5 0 2 0 2
+-- behind a page the tries in a row are none
+brought_page_row : counted 1 (PageReport 1 5 ∷ brought_connected) ≡ these 8 0 4 0 5
 brought_page_row = refl
+
+-- a job may come in behind another
+brought_second_row : counted 2 (Bring older ∷ Submission (order (codes "5550112") 1) ∷ []) ≡ these 7 2 3 1 4
+brought_second_row = refl
+
+-- what is refused brings nothing in, gives no grant and leaves the queue
+refused_row : counted 1 (CallReport 7 Busy ∷ Next (codes "ttyS9") ∷ brought) ≡ these 7 2 3 1 4
+refused_row = refl
+
+refused_left_row : (queue_after empty_queue (fed (Next (codes "ttyS9") ∷ brought))).next_job ≡ 2
+refused_left_row = refl
 
 -- the next job didn't come in with them
 brought_alone_row : counted 2 (Submission (order (codes "5550112") 1) ∷ brought) ≡ these 0 0 0 0 0

@@ -1,10 +1,10 @@
 -- Worked rows of whole runs: what is taken, answered and kept. Of what was heard the newest comes first.
-use Rattle.std.proofs.Common.{inl}
+use Rattle.std.proofs.Common.{inl, inr}
 use Rattle.std.specs.Prelude.{◌≡◌, refl, ℕ, List, [], ◌∷◌, map, codes, false, Some}
 use Rattle.fax_job.specs.JobLines.{job_lines}
 use Rattle.fax_job.specs.Spelling.{printed}
 use Rattle.fax_job.specs.declared.refusal.Refusal.{Refusal}
-use Rattle.fax_job.specs.declared.refusal.Refusal.TheVariants.{FloorHigh, GivenUp, NoModem, NumberReused, Unavailable}
+use Rattle.fax_job.specs.declared.refusal.Refusal.TheVariants.{FloorHigh, GivenUp, ModemBusy, NoJob, NoModem, NumberReused, Unavailable}
 use Rattle.fax_ask.specs.Answer.{Replied, Shown}
 use Rattle.fax_ask.specs.Response.{Response, accepted_response, refused_response}
 use Rattle.fax_ask.specs.declared.view.View.TheVariants.{Job}
@@ -14,11 +14,12 @@ use Rattle.fax_core.specs.declared.ask.Ask.TheVariants.{GiveUp, Next, Ready, Sub
 use Rattle.fax_core.specs.Job.{fields_of}
 use Rattle.fax_core.specs.Ledger.{empty_ledger}
 use Rattle.fax_core.specs.Queue.{Entry, empty_queue}
-use Rattle.fax_core.specs.Reply.{Floored, Given, Marked, NoKeys, Reply, Submitted}
+use Rattle.fax_core.specs.Reply.{Floored, Given, HeldGrant, Marked, NoKeys, Reply, Submitted}
 use Rattle.fax_core.specs.Settings.{Settings}
 use Rattle.fax_core.proofs.RowWords.{◌at◌, hand, order, settings, ttyS0, ttyS1}
-use Rattle.fax_once.specs.Reading.{Posts, Reading, Sees}
+use Rattle.fax_once.specs.Reading.{IsReading, Posts, Reading, Sees}
 use Rattle.fax_once.specs.Run.{IsRun, Start, end_of, reply_at, taken}
+use Rattle.fax_once.specs.Verdict.{Verdict, Told, Repeated, Accepted, verdict}
 use Rattle.fax_once.specs.declared.arrival.Arrival.{Arrival}
 
 -- ---- words
@@ -48,6 +49,10 @@ submitted = post desk 1 (codes "a fax") 1000 fax
 abbrev answered : List Reading → Reading → Response
 answered past r = reply_at settings start past r
 
+-- what comes of it there
+abbrev pub comes_to : List Reading → Reading → Verdict
+comes_to past r = verdict settings (end_of settings start past).queue (end_of settings start past).kept r
+
 -- an accepted request's reply
 abbrev pub accepted : Reply → Response
 accepted reply = accepted_response (Replied reply)
@@ -59,6 +64,10 @@ refused refusal = refused_response refusal NoKeys
 abbrev kept_numbers : List Reading → List (List ℕ × ℕ)
 kept_numbers past = map (λ e. (e.client, e.number)) (end_of settings start past).kept.replies
 
+-- those of what is taken of these
+abbrev taken_numbers : Start → List Reading → List (List ℕ × ℕ)
+taken_numbers from past = map (λ f. (f.post.client, f.post.number)) (taken settings from past)
+
 -- what was said, and the status of the reply
 abbrev said_and_told : Entry → List ℕ × ℕ
 said_and_told e = (e.said, e.status)
@@ -68,6 +77,10 @@ said_and_told e = (e.said, e.status)
 -- a submission makes a job
 submitted_row : answered [] submitted ≡ accepted (Submitted 1)
 submitted_row = refl
+
+-- it is accepted, with the queue and the replies that it leaves
+accepted_row : comes_to [] submitted ≡ Accepted (end_of settings start (submitted ∷ [])).queue (end_of settings start (submitted ∷ [])).kept (accepted (Submitted 1))
+accepted_row = refl
 
 -- its reply is kept, with what was said
 kept_row : map said_and_told (end_of settings start (submitted ∷ [])).kept.replies ≡ (codes "a fax", 201) ∷ []
@@ -80,8 +93,12 @@ kept_number_row = refl
 repeat_row : answered (submitted ∷ []) (post desk 1 (codes "a fax") 9000 fax) ≡ accepted (Submitted 1)
 repeat_row = refl
 
+-- it is told as what it is
+repeated_row : comes_to (submitted ∷ []) (post desk 1 (codes "a fax") 9000 fax) ≡ Repeated (accepted (Submitted 1))
+repeated_row = refl
+
 -- and it is not taken
-repeat_untaken_row : map (λ f. f.post.number) (taken settings start (post desk 1 (codes "a fax") 9000 fax ∷ submitted ∷ [])) ≡ 1 ∷ []
+repeat_untaken_row : taken_numbers start (post desk 1 (codes "a fax") 9000 fax ∷ submitted ∷ []) ≡ (desk, 1) ∷ []
 repeat_untaken_row = refl
 
 -- so the clock doesn't move by it
@@ -89,7 +106,7 @@ repeat_clock_row : (end_of settings start (post desk 1 (codes "a fax") 9000 fax 
 repeat_clock_row = refl
 
 -- other bytes under the number are refused
-reused_row : answered (submitted ∷ []) (post desk 1 (codes "another fax") 1000 fax) ≡ refused NumberReused
+reused_row : comes_to (submitted ∷ []) (post desk 1 (codes "another fax") 1000 fax) ≡ Told (refused NumberReused)
 reused_row = refl
 
 -- under another number, or of another client, they are a new job
@@ -105,11 +122,11 @@ next_row = refl
 
 -- ---- what is refused
 
-abbrev unknown_modem : Reading
+abbrev pub unknown_modem : Reading
 unknown_modem = post lab 1 (codes "next") 3000 (Next (codes "ttyS9"))
 
 -- what is refused leaves its number free, and the clock where it was
-refused_row : answered (submitted ∷ []) unknown_modem ≡ refused NoModem
+refused_row : comes_to (submitted ∷ []) unknown_modem ≡ Told (refused NoModem)
 refused_row = refl
 
 refused_untaken_row : kept_numbers (unknown_modem ∷ submitted ∷ []) ≡ (desk, 1) ∷ []
@@ -120,6 +137,17 @@ refused_clock_row = refl
 
 refused_then_taken_row : answered (unknown_modem ∷ []) (post lab 1 (codes "ready") 1000 (Ready ttyS1)) ≡ accepted (Marked false)
 refused_then_taken_row = refl
+
+-- the desk's fax goes to a modem
+abbrev pub worker : Reading
+worker = post lab 1 (codes "next") 2000 (Next ttyS0)
+
+-- a refusal has its keys
+busy_row : answered (worker ∷ submitted ∷ []) (post lab 2 (codes "next") 2000 (Next ttyS0)) ≡ refused_response ModemBusy (HeldGrant false (hand 1 1 (codes "5550111") 1 2))
+busy_row = refl
+
+busy_untaken_row : taken_numbers start (post lab 2 (codes "next") 2000 (Next ttyS0) ∷ worker ∷ submitted ∷ []) ≡ (lab, 1) ∷ (desk, 1) ∷ []
+busy_untaken_row = refl
 
 -- ---- replies that are given up
 
@@ -159,6 +187,16 @@ lower_floor_row = refl
 lower_floor_kept_row : (end_of settings start (gives_up 6 2 ∷ gives_up 5 3 ∷ [])).kept.floor desk ≡ 3
 lower_floor_kept_row = refl
 
+lower_floor_repeat_row : answered (gives_up 6 2 ∷ gives_up 5 3 ∷ []) (gives_up 6 2) ≡ accepted (Floored 3)
+lower_floor_repeat_row = refl
+
+-- nothing through it is taken, also where it stood as the run began
+floor_untaken_row : taken_numbers start (post desk 3 (codes "a fax") 1500 fax ∷ gives_up 7 7 ∷ gives_up 6 2 ∷ gives_up 5 3 ∷ []) ≡ (desk, 6) ∷ (desk, 5) ∷ []
+floor_untaken_row = refl
+
+first_floor_row : taken_numbers (end_of settings start (gives_up 5 3 ∷ [])) (post desk 3 (codes "a fax") 1500 fax ∷ []) ≡ []
+first_floor_row = refl
+
 -- nobody gives up the reply to the very request by which it does
 floor_high_row : answered (submitted ∷ []) (gives_up 7 7) ≡ refused FloorHigh
 floor_high_row = refl
@@ -173,7 +211,7 @@ floor_below_row = refl
 abbrev timed : Reading
 timed = post desk 1 (codes "a fax") 1000 (Submission (record (order (codes "5550111") 2) { tts = Some 1400; killtime = Some 1500 }))
 
-abbrev looks : ℕ → Reading
+abbrev pub looks : ℕ → Reading
 looks moment = Sees moment (Job 1)
 
 -- the job with the number of this state, as the queue has it at t behind these
@@ -194,6 +232,10 @@ last_view_row = refl
 early_view_row : answered (post lab 1 (codes "ready") 1450 (Ready ttyS1) ∷ timed ∷ []) (looks 1000) ∷ [] ≡ shown_with (timed ∷ []) 1450 5
 early_view_row = refl
 
+-- a view is told, and no job is
+unseen_row : comes_to [] (looks 1000) ≡ Told (refused NoJob)
+unseen_row = refl
+
 -- a view takes nothing, and moves no clock
 view_clock_row : (end_of settings start (looks 1500 ∷ timed ∷ [])).queue.clock ≡ 1000
 view_clock_row = refl
@@ -203,3 +245,12 @@ view_clock_row = refl
 -- an arrival that is answered 27 isn't heard
 unheard_row : (s : Settings) (from : Start) (a : Arrival) → IsRun s from [] (a ∷ []) (refused Unavailable ∷ []) []
 unheard_row s from a = inl (refl, refl)
+
+-- and each has an answer
+unanswered_row : (s : Settings) (from : Start) (a : Arrival) → ¬ IsRun s from [] (a ∷ []) [] []
+unanswered_row s from a run = run
+
+-- each other one is heard as what it says, and answered by what was heard before it
+heard_row : (a b c : Arrival) → IsReading a submitted → IsReading c worker
+    → IsRun settings start [] (a ∷ b ∷ c ∷ []) (accepted (Submitted 1) ∷ refused Unavailable ∷ accepted (Given (hand 1 1 (codes "5550111") 1 2)) ∷ []) (worker ∷ submitted ∷ [])
+heard_row a b c says_fax says_next = inr (submitted, says_fax, refl, inl (refl, inr (worker, says_next, refl, refl)))

@@ -1,17 +1,16 @@
 -- Worked rows of sessions: a restart by another setup, and a session that was broken off. Of sessions and of what was heard the newest comes first.
 use Rattle.std.proofs.Common.{inl, inr, subst}
-use Rattle.std.specs.Prelude.{◌≡◌, ◌⊎◌, refl, ℕ, List, [], ◌∷◌, ◌++◌, false, map, codes, Option, Some, None}
+use Rattle.std.specs.Prelude.{◌≡◌, ◌⊎◌, refl, ℕ, List, [], ◌∷◌, ◌++◌, false, map, codes, Some, None}
 use Rattle.std.specs.Str.{bytes_eq}
 use Rattle.fax_job.specs.declared.refusal.Refusal.TheVariants.{NoModem}
-use Rattle.fax_ask.specs.Response.{Response}
 use Rattle.fax_core.specs.declared.ask.Ask.TheVariants.{Next}
 use Rattle.fax_core.specs.Reply.{Given, Submitted}
 use Rattle.fax_core.specs.Settings.{Settings}
 use Rattle.fax_core.proofs.RowWords.{hand, settings, ttyS0, ttyS1}
-use Rattle.fax_once.proofs.RowsRuns.{accepted, desk, fax, lab, post, refused, start, submitted}
+use Rattle.fax_once.proofs.RowsRuns.{accepted, desk, fax, lab, post, refused, start, submitted, worker}
 use Rattle.fax_once.specs.Reading.{IsReading, Reading}
 use Rattle.fax_once.specs.Run.{Start, end_after, end_of, taken}
-use Rattle.fax_once.specs.Sessions.{Follow, IsSession, LeavesOff, Session}
+use Rattle.fax_once.specs.Sessions.{Follow, IsSession, LeavesOff, Session, session_of}
 use Rattle.fax_once.specs.declared.arrival.Arrival.{Arrival}
 
 -- ---- words
@@ -19,9 +18,6 @@ use Rattle.fax_once.specs.declared.arrival.Arrival.{Arrival}
 -- a setup in which one modem is gone
 abbrev other : Settings
 other = record settings { has_modem = λ modem. bytes_eq modem ttyS1 }
-
-abbrev session : Settings → List Arrival → List Response → Option Arrival → Session
-session s arrivals replies under_way = record { settings = s; arrivals = arrivals; replies = replies; under_way = under_way }
 
 -- a worker of the lab asks for work
 abbrev asks : List ℕ → Reading
@@ -44,8 +40,8 @@ night = end_of other day (asks ttyS1 ∷ asks ttyS0 ∷ [])
 -- the second session begins from what the first left, and answers by its own setup
 restart_row : (a b c : Arrival) → IsReading a submitted → IsReading b (asks ttyS0) → IsReading c (asks ttyS1)
     → Follow start
-    (session other (b ∷ c ∷ []) (refused NoModem ∷ accepted (Given (hand 1 1 (codes "5550111") 1 2)) ∷ []) None
-    ∷ session settings (a ∷ []) (accepted (Submitted 1) ∷ []) None ∷ [])
+    (session_of other (b ∷ c ∷ []) (refused NoModem ∷ accepted (Given (hand 1 1 (codes "5550111") 1 2)) ∷ []) None
+    ∷ session_of settings (a ∷ []) (accepted (Submitted 1) ∷ []) None ∷ [])
     night
 restart_row a b c says_fax says_old says_new = (
   day,
@@ -67,8 +63,8 @@ one_list_row = refl
 
 -- ---- a session that was broken off, with the fax under way
 
-abbrev broken : Arrival → Session
-broken a = session settings [] [] (Some a)
+abbrev pub broken : Arrival → Session
+broken a = session_of settings [] [] (Some a)
 
 -- it leaves the one or the other, and nothing else
 one_of_two_row : (a : Arrival) (left : Start) → IsSession start (broken a) left
@@ -77,7 +73,7 @@ one_of_two_row a left session = subst (λ heard. LeavesOff settings start heard 
 
 -- it was taken, and the same again gets its reply, by the other setup
 taken_row : (a b : Arrival) → IsReading a submitted → IsReading b again
-    → Follow start (session other (b ∷ []) (accepted (Submitted 1) ∷ []) None ∷ broken a ∷ []) (end_of other day (again ∷ []))
+    → Follow start (session_of other (b ∷ []) (accepted (Submitted 1) ∷ []) None ∷ broken a ∷ []) (end_of other day (again ∷ []))
 taken_row a b says_fax says_again = (
   day,
   (start, refl, record { heard = []; answered = refl; leaves = inr (submitted, says_fax, refl) }),
@@ -90,7 +86,7 @@ taken_once_row = refl
 
 -- or it was lost, and the same again is decided anew
 lost_row : (a b : Arrival) → IsReading b again
-    → Follow start (session other (b ∷ []) (accepted (Submitted 1) ∷ []) None ∷ broken a ∷ []) (end_of other start (again ∷ []))
+    → Follow start (session_of other (b ∷ []) (accepted (Submitted 1) ∷ []) None ∷ broken a ∷ []) (end_of other start (again ∷ []))
 lost_row a b says_again = (
   start,
   (start, refl, record { heard = []; answered = refl; leaves = inl refl }),
@@ -100,3 +96,14 @@ lost_row a b says_again = (
 -- so it is one job, of the time afterwards
 lost_once_row : (end_of other start (again ∷ [])).queue.clock ≡ 9000
 lost_once_row = refl
+
+-- ---- the ends
+
+-- no session leaves where all began
+no_session_row : (first last : Start) → Follow first [] last → last ≡ first
+no_session_row first last follow = follow
+
+-- what was under way was heard behind what was answered
+under_way_row : (a b : Arrival) → IsReading a submitted → IsReading b worker
+    → IsSession start (session_of settings (a ∷ []) (accepted (Submitted 1) ∷ []) (Some b)) (end_of settings start (worker ∷ submitted ∷ []))
+under_way_row a b says_fax says_next = record { heard = submitted ∷ []; answered = inr (submitted, says_fax, refl, refl); leaves = inr (worker, says_next, refl) }

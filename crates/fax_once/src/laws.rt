@@ -99,8 +99,8 @@ pub fn grants_stay()
 
 /// No modem and no job is stuck but by its worker, its times or its number's rule. A modem that is up and free is given
 /// a job where one may go to it. One that holds a grant is told it. Each open grant has an outcome that is taken, and
-/// closes it. A waiting job is ready once its times have come, in the hours of its number's rule, while fewer calls to
-/// the number are open than the rule allows.
+/// closes it. A waiting job is ready once its times have come, before its kill time, in the hours of its number's rule,
+/// while fewer calls to the number are open than the rule allows.
 pub fn progress()
     ensures free { FreeModemsAreServed }
     ensures busy { BusyModemsFindTheirs }

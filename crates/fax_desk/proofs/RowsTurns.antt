@@ -1,0 +1,53 @@
+-- Worked rows of turns: what a message says of its moment, and how one turn follows another.
+use Rattle.std.proofs.Common.{◌≡◌, refl, subst, sym, ℕ, List, [], ◌∷◌}
+use Rattle.std.specs.Prelude.{codes, None}
+use Rattle.httparse.specs.Grammar.{Field, RequestHead, crlf, trim_ows}
+use Rattle.fax_ask.specs.Response.{Response}
+use Rattle.fax_core.specs.Settings.{Settings}
+use Rattle.fax_http.specs.Conversation.{Turn}
+use Rattle.fax_once.specs.Run.{Start}
+use Rattle.fax_once.specs.Sessions.{IsSession, session_of}
+use Rattle.fax_once.specs.declared.arrival.Arrival.{Arrival}
+use Rattle.fax_desk.specs.Desk.{IsArrival}
+use Rattle.fax_desk.specs.Turns.{AreArrivals, AreTurns, IsTurn, TurnsAreASession, said_in}
+
+abbrev field : List ℕ → List ℕ → Field
+field name value = record { name = name; raw = value; end = crlf }
+
+-- a message with a moment between two other fields
+abbrev timed : RequestHead
+timed = record {
+  blank = [];
+  method = codes "GET";
+  target = codes "/jobs";
+  minor = 1;
+  line_end = crlf;
+  fields = field (codes "Fax-Number") (codes "7") ∷ field (codes "Fax-Moment") (codes "1400") ∷ field (codes "Fax-Client") (codes "desk") ∷ [];
+  last = crlf;
+}
+
+-- it says that moment
+said_row : (body : List ℕ) (reply : Response) → said_in (record { head = timed; body = body; reply = reply }) ≡ codes "1400"
+unfolding trim_ows
+said_row body reply = refl
+
+module _ {C : Type 0} (gives : C → List ℕ → ℕ → C → Type 0) (s : Settings) where
+  -- the clock gives the moment of an arrival, by what the message says
+  given_row : (start next : Start) (clock later : C) (turn : Turn) → IsTurn gives s start clock turn next later
+      → (moment : ℕ) × gives clock (said_in turn) moment later × ((a : Arrival) × IsArrival turn.head turn.body moment a)
+  given_row start next clock later turn it = (it.moment, it.given, (it.arrival, it.comes))
+
+  -- the second goes on from the queue and the clock that the first left
+  second_row : (start end : Start) (clock : C) (x y : Turn) → AreTurns gives s start clock (x ∷ y ∷ []) end
+      → (between : Start) × (then' : C) × IsTurn gives s start clock x between then' × ((later : C) × IsTurn gives s between then' y end later)
+  second_row start end clock x y (between, then', first, (last, later, second, is)) =
+      (between, then', first, (later, subst (λ e. IsTurn gives s between then' y e later) (sym is) second))
+
+  -- one message is a session of its arrival, with its reply, that was not broken off
+  session_row : TurnsAreASession gives → (start end : Start) (clock : C) (x : Turn) → AreTurns gives s start clock (x ∷ []) end
+      → (arrivals : List Arrival) × AreArrivals (x ∷ []) arrivals × IsSession start (session_of s arrivals (x.reply ∷ []) None) end
+  session_row law start end clock x turns = law s start end clock (x ∷ []) turns
+
+-- an arrival is that of its message
+arrival_row : (x : Turn) (a : Arrival) → AreArrivals (x ∷ []) (a ∷ []) → (moment : ℕ) × IsArrival x.head x.body moment a
+arrival_row x a (its, rest) = its

@@ -1,0 +1,181 @@
+-- Worked rows of what an answer leaves in the store, and of what a crash behind it may leave.
+use Rattle.std.proofs.Common.{arith, ◌≡◌, ◌⊎◌, ◌∙◌, inl, inr, refl, sym, ap, subst, true, false, ℕ, List, [], ◌∷◌, ◌++◌, map}
+use Rattle.std.specs.Prelude.{Ok, Err}
+use Rattle.std.proofs.lemmas.Bool.{true≢false}
+use Rattle.sqlite.specs.Effect.{Database}
+use Rattle.sqlite.specs.State.{State}
+use Rattle.sqlite_trees.specs.Tree.{Trees}
+use Rattle.fax_job.specs.declared.refusal.Refusal.TheVariants.{NoModem, Unavailable}
+use Rattle.fax_ask.specs.Response.{Response, refused_response}
+use Rattle.fax_core.specs.Ledger.{Ledger, empty_ledger}
+use Rattle.fax_core.specs.Queue.{Queue, empty_queue}
+use Rattle.fax_core.specs.Reply.{NoKeys, Submitted}
+use Rattle.fax_core.specs.Settings.{Settings}
+use Rattle.fax_core.specs.Sound.{Sound}
+use Rattle.fax_core.proofs.RowWords.{settings}
+use Rattle.fax_store.specs.Kept.{HasReply}
+use Rattle.fax_store.specs.Store.{MayFind, Means, RowsFound, Serves}
+use Rattle.fax_tables.specs.Tables.{IsAtRest}
+use Rattle.fax_once.proofs.RowsRuns.{accepted, comes_to, looks, refused, start, submitted, unknown_modem, worker}
+use Rattle.fax_once.specs.Arrival.{number_of}
+use Rattle.fax_once.specs.Laws.{left_of}
+use Rattle.fax_once.specs.Reading.{IsReading, Reading}
+use Rattle.fax_once.specs.Run.{IsRun, Start, end_of}
+use Rattle.fax_once.specs.Stop.{AreMadeBy, AtEnd, Before, Besides, IsLeftBehind, IsMadeIn, MayLeave, OnlyAcceptedMakeRows, Stops, StopsBy, StopsIn, accepts}
+use Rattle.fax_once.specs.Verdict.{Verdict, Told, Repeated, Accepted, Answers, GivesOut, Handles, IsNotAccepted, IsUsed, IsVerdict, Leaves, LeavesBy, reply_of, verdict}
+use Rattle.fax_once.specs.declared.arrival.Arrival.{Arrival}
+
+-- ---- an answer
+
+-- from this queue, with these kept replies
+abbrev from : Queue → Ledger → Start
+from m k = record { queue = m; kept = k }
+
+-- what is answered is the verdict's reply, and the store means where the verdict leads
+leaves_row : (m : Queue) (k : Ledger) (reply : Response) (s : State) (v : Verdict) → Leaves m k reply s v
+    → (reply ≡ reply_of v) × Means s (left_of (from m k) v).queue (left_of (from m k) v).kept
+leaves_row m k reply s (Told told) (is, means) = (is, means)
+leaves_row m k reply s (Repeated told) (is, serves, rests) = (is, λ _. rests)
+leaves_row m k reply s (Accepted after kept told) (is, serves, rests, sound) = (is, λ _. rests)
+
+-- a repeat and what is accepted leave a store that serves, and that a sound queue
+repeated_row : (m : Queue) (k : Ledger) (reply told : Response) (s : State) → Leaves m k reply s (Repeated told) → Serves s
+repeated_row m k reply told s (is, serves, rests) = serves
+
+accepted_row : (m after : Queue) (k kept : Ledger) (reply told : Response) (s : State) → Leaves m k reply s (Accepted after kept told) → Serves s × Sound after
+accepted_row m after k kept reply told s (is, serves, rests, sound) = (serves, sound)
+
+-- without an answer the store means what it meant, and with one it is by the verdict
+by_row : (m : Queue) (k : Ledger) (reply : Response) (s : State) (v : Verdict) → LeavesBy {E = ℕ} m k (Ok reply) s v → Leaves m k reply s v
+by_row m k reply s v leaves = leaves
+
+unanswered_by_row : (m : Queue) (k : Ledger) (s : State) (v : Verdict) → LeavesBy {E = ℕ} m k (Err 0) s v → Means s m k
+unanswered_by_row m k s v means = means
+
+answered_row : (set : Settings) (a : Arrival) (m : Queue) (k : Ledger) (reply : Response) (s : State) → Answers {E = ℕ} set a m k (Ok reply) s → Handles set a m k reply s
+answered_row set a m k reply s answers = inl answers
+
+unanswered_row : (set : Settings) (a : Arrival) (m : Queue) (k : Ledger) (s : State) → Answers {E = ℕ} set a m k (Err 0) s → Means s m k
+unanswered_row set a m k s means = means
+
+-- whoever isn't told that the store gave out is told the reply of a verdict, and the store means where it leads
+handled_row : (set : Settings) (a : Arrival) (m : Queue) (k : Ledger) (reply : Response) (s : State) → Handles set a m k reply s → ¬ GivesOut m k reply s
+    → (v : Verdict) × IsVerdict set a m k v × ((reply ≡ reply_of v) × Means s (left_of (from m k) v).queue (left_of (from m k) v).kept)
+handled_row set a m k reply s (inl (v, is, leaves)) not = (v, is, leaves_row m k reply s v leaves)
+handled_row set a m k reply s (inr gives) not = absurd (not gives)
+
+-- who is told 27 by a store that is open finds it as it was
+gives_out_row : (m : Queue) (k : Ledger) (reply : Response) (s : State) → GivesOut m k reply s → s.is_open ≡ true
+    → (reply ≡ refused_response Unavailable NoKeys) × Serves s × IsAtRest s m k
+gives_out_row m k reply s (is, inl (serves, rests)) opened = (is, serves, rests)
+gives_out_row m k reply s (is, inr shut) opened = absurd (true≢false (sym opened ∙ shut))
+
+-- a refusal isn't accepted, and neither is what has no reply; 201 is
+refusal_row : IsNotAccepted {E = ℕ} (Ok (refused NoModem))
+refusal_row (inl is) = absurd (omega (arith, is))
+refusal_row (inr is) = absurd (omega (arith, is))
+
+no_reply_row : IsNotAccepted {E = ℕ} (Err 0)
+no_reply_row = tt
+
+created_row : ¬ IsNotAccepted {E = ℕ} (Ok (accepted (Submitted 1)))
+created_row not = not (inr refl)
+
+-- a number is used where the rows have a reply to it of its client
+used_row : (a : Arrival) (db : Database) → number_of a ≡ Ok 7 → HasReply db a.client.now 7 → IsUsed a db
+used_row a db its kept = record { number = 7; its = its; kept = kept }
+
+number_used_row : (a : Arrival) (db : Database) → number_of a ≡ Ok 7 → IsUsed a db → HasReply db a.client.now 7
+number_used_row a db its used =
+    let both : Ok used.number ≡ number_of a = sym used.its in
+    let same : used.number ≡ 7 = cc in
+    subst (HasReply db a.client.now) same used.kept
+
+-- ---- a crash behind an arrival
+
+-- the rows that a verdict makes mean where it leads
+made_row : (m : Queue) (k : Ledger) (v : Verdict) (found : Trees) → AreMadeBy v found → RowsFound found (left_of (from m k) v).queue (left_of (from m k) v).kept
+made_row m k (Told reply) found none = absurd none
+made_row m k (Repeated reply) found none = absurd none
+made_row m k (Accepted after kept reply) found rows = rows
+
+-- what is accepted is, and no refusal and no repeat
+accepts_row : map accepts (comes_to [] submitted ∷ comes_to (submitted ∷ []) submitted ∷ comes_to [] unknown_modem ∷ []) ≡ true ∷ false ∷ false ∷ []
+accepts_row = refl
+
+-- so what isn't accepted makes no rows
+only_accepted_row : OnlyAcceptedMakeRows → (v : Verdict) (found : Trees) → accepts v ≡ false → ¬ AreMadeBy v found
+only_accepted_row law v found not made = true≢false (sym (law v found made) ∙ not)
+
+-- what no crash before could leave was made by the verdict, in a store that served
+stops_by_row : (old new : State) (v : Verdict) (found : Trees) → StopsBy old new v → MayFind new found → ¬ MayFind old found → Serves old × AreMadeBy v found
+stops_by_row old new v found stops may not = elim (stops found may) [ inl before ↦ absurd (not before) | inr made ↦ made ]
+
+may_leave_row : (old new : State) (m : Queue) (k : Ledger) (found : Trees) → MayLeave old new m k → MayFind new found → ¬ MayFind old found → Serves old × RowsFound found m k
+may_leave_row old new m k found leaves may not = elim (leaves found may) [ inl before ↦ absurd (not before) | inr made ↦ made ]
+
+-- behind a refusal a crash leaves what one before it could leave
+refused_stop_row : (a : Arrival) (old new : State) (found : Trees) → ((r : Reading) → IsReading a r → r ≡ unknown_modem)
+    → Stops settings a empty_queue empty_ledger old new → MayFind new found → MayFind old found
+refused_stop_row a old new found says stops may = elim (stops found may) [
+  | inl before ↦ before
+  | inr (v, (r, reads, is), made) ↦ absurd (subst (λ w. AreMadeBy w found) (is ∙ ap (verdict settings empty_queue empty_ledger) (says r reads)) made)
+]
+
+-- ---- a crash behind a run
+
+-- behind one arrival the rows besides are those that it makes where the run began
+first_made_row : (s : Settings) (a : Arrival) (replies : List Response) (heard : List Reading) (found : Trees) → IsMadeIn s start (a ∷ []) replies heard found
+    → (v : Verdict) × IsVerdict s a start.queue start.kept v × AreMadeBy v found
+first_made_row s a replies heard found made = by made.before made.one made.told made.answered
+  where
+    none : (before behind : List Arrival) (arrival : Arrival) → [] ≡ before ++ arrival ∷ behind → ⊥
+    none [] behind arrival is = cc
+    none (x ∷ before) behind arrival is = cc
+
+    by : (before : List Arrival) → a ∷ [] ≡ before ++ made.arrival ∷ made.behind → (told : List Response) → IsRun s start [] before told made.earlier
+        → (v : Verdict) × IsVerdict s a start.queue start.kept v × AreMadeBy v found
+    by [] one [] answered =
+        let its : a ≡ made.arrival = cc in (
+          made.verdict,
+          subst (λ b. IsVerdict s b start.queue start.kept made.verdict) (sym its)
+              (subst (λ past. IsVerdict s made.arrival (end_of s start past).queue (end_of s start past).kept made.verdict) answered made.is),
+          made.made,
+        )
+    by [] one (reply ∷ told) answered = absurd answered
+    by (x ∷ before) one told answered = absurd (none before made.behind made.arrival cc)
+
+-- a worker's arrival behind a fax makes its rows behind it, also where a view was heard since
+made_in_row : (a b c : Arrival) (found : Trees) → IsReading a submitted → IsReading b worker
+    → AreMadeBy (comes_to (submitted ∷ []) worker) found
+    → IsMadeIn settings start (a ∷ b ∷ c ∷ []) (accepted (Submitted 1) ∷ refused Unavailable ∷ refused NoModem ∷ []) (looks 0 ∷ submitted ∷ []) found
+made_in_row a b c found says_fax says_next made = record {
+  before = a ∷ [];
+  arrival = b;
+  behind = c ∷ [];
+  one = refl;
+  told = accepted (Submitted 1) ∷ [];
+  more = refused Unavailable ∷ refused NoModem ∷ [];
+  answers = refl;
+  later = looks 0 ∷ [];
+  earlier = submitted ∷ [];
+  then = refl;
+  answered = inr (submitted, says_fax, refl, refl);
+  still = refl;
+  verdict = comes_to (submitted ∷ []) worker;
+  is = (worker, says_next, refl);
+  made = made;
+}
+
+-- a crash behind a run leaves what one before it could leave only where it leads nowhere else
+left_behind_row : (s : Settings) (from : Start) (arrivals : List Arrival) (replies : List Response) (heard : List Reading) (old : State) (found : Trees)
+    → IsLeftBehind s from arrivals replies heard old found
+    → (MayFind old found × (end_of s from heard ≡ from)) ⊎ (RowsFound found (end_of s from heard).queue (end_of s from heard).kept ⊎ IsMadeIn s from arrivals replies heard found)
+left_behind_row s from arrivals replies heard old found (Before may nothing) = inl (may, nothing)
+left_behind_row s from arrivals replies heard old found (AtEnd rows) = inr (inl rows)
+left_behind_row s from arrivals replies heard old found (Besides made) = inr (inr made)
+
+-- a crash behind a run of nothing leaves what one before it could leave, or the rows of where it began
+stops_in_row : (s : Settings) (from : Start) (old new : State) (found : Trees) → StopsIn s from [] [] old new → MayFind new found
+    → IsLeftBehind s from [] [] [] old found
+stops_in_row s from old new found (ran, left) may = subst (λ heard. IsLeftBehind s from [] [] heard old found) ran.answered (left found may)
