@@ -1,3 +1,4 @@
 mod EndsLemmas
 mod ListLemmas
+mod SayingLemmas
 mod ServeLemmas

@@ -1,5 +1,7 @@
 pub mod Command
 pub mod Import
 pub mod List
+pub mod NoQueue
 pub mod Replay
+pub mod Saying
 pub mod Serve

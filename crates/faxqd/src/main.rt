@@ -6,6 +6,7 @@ mod import;
 mod list;
 mod queue;
 mod replay;
+mod saying;
 mod serve;
 
 use fax_http::Watched;
@@ -27,9 +28,9 @@ fn main(rt: HostRuntime) -> ExitCode {
             Unknown,
             &mut Watched::new(rt.stdin()),
             &mut Watched::new(rt.stdout()),
-            &mut rt.stderr(),
+            &mut Watched::new(rt.stderr()),
         ),
-        Err(error) => command::refuse_words(&mut rt.stderr(), error.kind()),
+        Err(error) => command::refuse_words(&mut Watched::new(rt.stderr()), error.kind()),
     };
     ExitCode::from(status)
 }
