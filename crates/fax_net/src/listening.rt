@@ -23,7 +23,8 @@ pub fn listen<H: Handler, W: Write + Drop>(
 ) -> Ending<'static>
     requires { IsFresh out.old }
     ensures served { (turns : List Turn)
-        × Listens W.contents out.old out.new ⟦<Sockets<'static> as Peers>⟧.did plan.entry.connections turns (H.over handler.new) result.status (spoken result)
+        × Listens W.contents out.old out.new ⟦<Sockets<'static> as Peers>⟧.did
+        plan.entry.connections turns (H.over handler.new) result.status (spoken result)
         × Answers H.answers handler.old turns handler.new }
 {
     let mut sockets = match Sockets::bind(rt, plan.address, plan.timeout) {

@@ -1,5 +1,5 @@
 //! The program as a function of its words, its input and its outputs.
-ghost use Rattle.std.specs.Prelude.{◌≡◌, ℕ, List, false, map, string_bytes};
+ghost use Rattle.std.specs.Prelude.{◌≡◌, false, map, string_bytes};
 ghost use Rattle.fax_http.specs.Device.{IsFresh};
 ghost use Rattle.fax_ending.specs.Ending.{no_memory, spoken};
 ghost use Rattle.faxqd.specs.Command.{CarriesOut, Runs, Tells, not_utf8};
@@ -30,7 +30,8 @@ pub fn run<S: Start, R: Read + Drop, W: Write + Drop, E: Write + Drop>(
     requires reading { IsFresh reader.old }
     requires writing { IsFresh out.old }
     requires telling { err.old.failed ≡ false }
-    ensures { Runs R.remaining W.contents E.contents reader.old reader.new out.old out.new err.old err.new (map string_bytes words.now) result }
+    ensures { Runs R.remaining W.contents E.contents reader.old reader.new out.old out.new err.old err.new
+        (map string_bytes words.now) result }
 {
     match read_words(rt.alloc(), words) {
         Ok(plan) => say_at_end(carry_out(rt, plan, start, reader, out), err),
@@ -48,7 +49,8 @@ fn carry_out<'a, S: Start, R: Read + Drop, W: Write + Drop>(
 ) -> Ending<'a>
     requires reading { IsFresh reader.old }
     requires writing { IsFresh out.old }
-    ensures { CarriesOut R.remaining W.contents reader.old reader.new out.old out.new plan.entry result.status (spoken result) }
+    ensures { CarriesOut R.remaining W.contents reader.old reader.new out.old out.new plan.entry
+        result.status (spoken result) }
 {
     match plan {
         Plan::Replay(files) => replay(rt, files, reader, out),

@@ -28,9 +28,10 @@ pub fn list<'a, S: Start, W: Write + Drop>(
     out: &mut Watched<W>,
 ) -> (Ending<'a>, Option<Queue<FileStore<FileFrom<S>>>>)
     requires { out.old.failed ≡ false }
-    ensures lists { MatchOption result.1 ((result.0.status ≡ Status.Fault) × (out.new ≡ out.old) × HasNoQueue plan.entry.files (spoken result.0))
-        (λ queue. ListsBy W.contents out.old out.new (image_at S.Start) plan.entry result.0.status (spoken result.0) queue.office
-        (file_state queue.store.conn)) }
+    ensures lists { MatchOption result.1
+        ((result.0.status ≡ Status.Fault) × (out.new ≡ out.old) × HasNoQueue plan.entry.files (spoken result.0))
+        (λ queue. ListsBy W.contents out.old out.new (image_at S.Start) plan.entry result.0.status (spoken result.0)
+        queue.office (file_state queue.store.conn)) }
 {
     let office = match read_office(rt, plan.files) {
         Ok(office) => office,

@@ -21,7 +21,8 @@ pub fn replay<'a, R: Read + Drop, W: Write + Drop>(
 ) -> Ending<'a>
     requires reading { IsFresh reader.old }
     requires writing { IsFresh out.old }
-    ensures { Ends R.remaining W.contents reader.old reader.new out.old out.new files.entry result.status (spoken result) }
+    ensures { Ends R.remaining W.contents reader.old reader.new out.old out.new files.entry
+        result.status (spoken result) }
 {
     match read_office(rt, files) {
         Ok(office) => replay_with(rt.alloc(), office, reader, out),
@@ -38,7 +39,8 @@ fn replay_with<R: Read + Drop, W: Write + Drop>(
 ) -> Ending<'static>
     requires reading { IsFresh reader.old }
     requires writing { IsFresh out.old }
-    ensures { EndsWith R.remaining W.contents reader.old reader.new out.old out.new office result.status (spoken result) }
+    ensures { EndsWith R.remaining W.contents reader.old reader.new out.old out.new office
+        result.status (spoken result) }
 {
     let end = fax_desk::replay(alloc, office, reader, out);
     ending_of(end)

@@ -33,9 +33,10 @@ pub fn serve<'a, S: Start, C: Clock + Drop, W: Write + Drop>(
     out: &mut Watched<W>,
 ) -> (Ending<'a>, Option<Queue<FileStore<FileFrom<S>>>>)
     requires { IsFresh out.old }
-    ensures serves { MatchOption result.1 ((result.0.status ≡ Status.Fault) × (out.new ≡ out.old) × HasNoQueue plan.entry.files (spoken result.0))
-        (λ queue. ServesBy W.contents out.old out.new ⟦<Sockets<'static> as Peers>⟧.did
-        C.gives (image_at S.Start) plan.entry clock result.0.status (spoken result.0) queue.office (file_state queue.store.conn) queue.is_shut) }
+    ensures serves { MatchOption result.1
+        ((result.0.status ≡ Status.Fault) × (out.new ≡ out.old) × HasNoQueue plan.entry.files (spoken result.0))
+        (λ queue. ServesBy W.contents out.old out.new ⟦<Sockets<'static> as Peers>⟧.did C.gives (image_at S.Start)
+        plan.entry clock result.0.status (spoken result.0) queue.office (file_state queue.store.conn) queue.is_shut) }
 {
     let office = match read_office(rt, plan.files) {
         Ok(office) => office,
