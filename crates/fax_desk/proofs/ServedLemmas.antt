@@ -144,7 +144,12 @@ module _ {H C : Type 0} (answers : Answering H) (gives : C → List ℕ → ℕ 
       record {
         arrivals = it.more;
         are = it.are;
-        session = runs_as_session s start it.more (replies_of turns) (of old) (of new) moved.0;
+        session = record {
+          left = end_of s start moved.0.0.heard;
+          session = record { heard = moved.0.0.heard; answered = moved.0.0.answered; leaves = refl };
+          means = moved.0.0.means;
+          stopped = (runs_as_session s start it.more (replies_of turns) (of old) (of new) moved.0).stopped;
+        };
         answered = subst (AreTurns gives s start (clock_of old) turns) (sym moved.1) it.answered;
         sound = run_sound s start it.more (replies_of turns) (of new) sound moved.0.0;
       }

@@ -1,2 +1,3 @@
 mod DatabaseLemmas
+mod RowsLines
 mod SpoolLemmas

@@ -3,22 +3,15 @@ use Rattle.std.specs.Prelude.{ℕ, List, [], ◌∷◌, ◌++◌, codes}
 use Rattle.std.specs.Fmt.{decimal}
 use Rattle.fax_dest.specs.Fault.{kind_word}
 use Rattle.fax_dest.specs.declared.fault.FileFault.{FileFault}
+use Rattle.fax_ending.specs.Ending.{no_database, no_memory}
 use Rattle.fax_text.specs.Import.{fault_word}
 use Rattle.fax_text.specs.declared.import.ImportFault.{ImportFault}
 use Rattle.fax_files.specs.declared.database.OpenFault.{OpenFault}
 use Rattle.fax_files.specs.declared.database.OpenFault.TheVariants as database
-use Rattle.fax_files.specs.declared.fault_line.FaultLine.{FaultLine}
 use Rattle.fax_files.specs.declared.office.OfficeFault.{OfficeFault}
 use Rattle.fax_files.specs.declared.office.OfficeFault.TheVariants as office
 use Rattle.fax_files.specs.declared.spool.SpoolFault.{SpoolFault}
 use Rattle.fax_files.specs.declared.spool.SpoolFault.TheVariants as spool
-
--- its parts, one behind the other, and a line feed
-abbrev pub spelled : FaultLine → List ℕ
-spelled line = line.what.now ++ line.place.now ++ line.between.now ++ line.word.now ++ 10 ∷ []
-
-abbrev pub no_memory : List ℕ
-no_memory = codes "faxqd: no memory" ++ 10 ∷ []
 
 -- a file that can't be read
 abbrev pub unreadable : List ℕ → List ℕ
@@ -37,7 +30,7 @@ office_line office.NoMemory = no_memory
 
 -- why a file's tables can't be had
 abbrev pub open_line : OpenFault → List ℕ
-open_line database.Database = codes "faxqd: database" ++ 10 ∷ []
+open_line database.Database = no_database
 open_line database.NoMemory = no_memory
 
 -- words that are wrong

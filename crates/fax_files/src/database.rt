@@ -4,17 +4,18 @@ ghost use Rattle.sqlite.specs.Files.{file_state};
 ghost use Rattle.sqlite.specs.State.{HasCleanDisk};
 ghost use Rattle.sqlite_wal.specs.Files.{image_at};
 ghost use Rattle.fax_files.specs.Database.{IsFound};
-ghost use Rattle.fax_files.specs.FaultLine.{open_line, spelled};
+ghost use Rattle.fax_files.specs.FaultLine.{open_line};
+ghost use Rattle.fax_ending.specs.Ending.{spoken};
 
 use crate::connection::connect;
-use crate::fault_line::FaultLine;
+use fax_ending::Ending;
 use fax_store::Store;
 use fax_text::Status;
 use sqlite::{Error, ErrorCode, FileFrom, FileStore, Start};
 use sqlite_std_file::OpenError;
 use std::alloc::AllocError;
 use std::fs;
-use std::io::{self, ErrorKind, Write};
+use std::io::{self, ErrorKind};
 
 /// Why a file's tables can't be had.
 #[derive(Clone, Copy, Debug, PartialEq, Eq)]
@@ -87,20 +88,13 @@ pub fn open_found_store<S: Start>(
     open_store(rt, name, start)
 }
 
-/// Says on one line why a file's tables can't be had.
-pub fn tell_fault<E: Write>(err: &mut E, fault: OpenFault) -> Status
-    ensures { result ≡ Status.Fault }
-{
-    line_of(fault).say(err);
-    Status::Fault
-}
-
-/// The line that tells why.
-fn line_of(fault: OpenFault) -> FaultLine<'static>
-    ensures { spelled result ≡ open_line fault }
+/// How a command ends where a file's tables can't be had.
+pub fn open_ending(fault: OpenFault) -> Ending<'static>
+    ensures status { result.status ≡ Status.Fault }
+    ensures says { spoken result ≡ open_line fault }
 {
     match fault {
-        OpenFault::Database => FaultLine::of("faxqd: database", ""),
-        OpenFault::NoMemory => FaultLine::of("faxqd: no memory", ""),
+        OpenFault::Database => Ending::failed("faxqd: database"),
+        OpenFault::NoMemory => Ending::failed("faxqd: no memory"),
     }
 }

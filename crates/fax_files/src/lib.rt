@@ -3,12 +3,11 @@
 
 mod connection;
 mod database;
-mod fault_line;
 mod new_file;
 mod office;
 mod spool;
 
-pub use database::{OpenFault, open_found_store, open_store, tell_fault};
+pub use database::{OpenFault, open_ending, open_found_store, open_store};
 pub use new_file::make_file;
-pub use office::{OfficeFault, read_office, report};
-pub use spool::{SpoolFault, import_requests, report_spool};
+pub use office::{OfficeFault, office_ending, read_office};
+pub use spool::{SpoolFault, import_requests, spool_ending};

@@ -1,15 +1,17 @@
 //! The setup and the destination controls that a command runs with.
 ghost use Rattle.std.specs.Prelude.{◌≡◌};
-ghost use Rattle.fax_files.specs.FaultLine.{file_line, office_line, spelled};
+ghost use Rattle.fax_files.specs.FaultLine.{file_line, office_line};
 ghost use Rattle.fax_files.specs.Office.{ComesOf, ControlsOf, IsOfficeOf, IsReadOf, SetupOf};
+ghost use Rattle.fax_ending.specs.Ending.{spoken};
+ghost use Rattle.fax_ending.specs.FaultLine.{spelled};
 
-use crate::fault_line::FaultLine;
 use fax_decide::Office;
 use fax_dest::{Controls, FileFault, FileKind, Setup};
+use fax_ending::{Ending, FaultLine, Place};
 use fax_text::{OfficeFiles, Status};
 use std::alloc::Global;
 use std::fs;
-use std::io::{ErrorKind, Write};
+use std::io::ErrorKind;
 
 /// Why there is no office.
 #[derive(Clone, Copy, Debug)]
@@ -93,34 +95,33 @@ fn controls_in<'a>(
     }
 }
 
-/// Says on one line why there is no office, as far as `err` takes it. It takes no memory.
-pub fn report<E: Write>(err: &mut E, fault: OfficeFault<'_>) -> Status
-    ensures { result ≡ Status.Fault }
+/// How a command ends where there is no office.
+pub fn office_ending<'a>(fault: OfficeFault<'a>) -> Ending<'a>
+    ensures status { result.status ≡ Status.Fault }
+    ensures says { spoken result ≡ office_line fault.entry }
 {
-    let mut digits = itoa::Buffer::new();
-    line_of(fault, &mut digits).say(err);
-    Status::Fault
+    Ending::fault(line_of(fault))
 }
 
-/// The line that tells why. `digits` has room for the number of a line.
-fn line_of<'a>(fault: OfficeFault<'a>, digits: &'a mut itoa::Buffer) -> FaultLine<'a>
+/// The line that tells why there is none.
+fn line_of<'a>(fault: OfficeFault<'a>) -> FaultLine<'a>
     ensures { spelled result ≡ office_line fault.entry }
 {
     match fault {
-        OfficeFault::Unreadable(name) => FaultLine::of("faxqd: cannot read ", name),
-        OfficeFault::Setup(fault) => file_line("faxqd: setup line ", fault, digits),
-        OfficeFault::Controls(fault) => file_line("faxqd: controls line ", fault, digits),
-        OfficeFault::NoMemory => FaultLine::of("faxqd: no memory", ""),
+        OfficeFault::Unreadable(name) => FaultLine::of("faxqd: cannot read ", Place::File(name)),
+        OfficeFault::Setup(fault) => file_line("faxqd: setup line ", fault),
+        OfficeFault::Controls(fault) => file_line("faxqd: controls line ", fault),
+        OfficeFault::NoMemory => FaultLine::of("faxqd: no memory", Place::Nowhere),
     }
 }
 
 /// The line that tells which line of a file is at fault, and why.
-fn file_line<'a>(what: &'a str, fault: FileFault, digits: &'a mut itoa::Buffer) -> FaultLine<'a>
+fn file_line<'a>(what: &'a str, fault: FileFault) -> FaultLine<'a>
     ensures { spelled result ≡ file_line what.now fault }
 {
     FaultLine {
         what,
-        place: digits.format(fault.line),
+        place: Place::Number(fault.line),
         between: ": ",
         word: fault.kind.word(),
     }

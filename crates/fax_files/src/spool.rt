@@ -1,13 +1,15 @@
 //! The files of an older queue's jobs, and the requests that bring these in.
 ghost use Rattle.std.specs.Prelude.{◌≡◌, ◌≤◌, IfOk, length};
-ghost use Rattle.fax_files.specs.FaultLine.{spelled, spool_line, words_line};
+ghost use Rattle.fax_files.specs.FaultLine.{spool_line, words_line};
 ghost use Rattle.fax_files.specs.Spool.{AreImports, IsNamed, MakesImports, longest_body, refused};
+ghost use Rattle.fax_ending.specs.Ending.{spoken};
+ghost use Rattle.fax_ending.specs.FaultLine.{spelled};
 
-use crate::fault_line::FaultLine;
-use fax_text::{ImportFault, ImportPlan, Status, first_number, import_request};
+use fax_ending::{Ending, FaultLine, Place};
+use fax_text::{ImportFault, ImportPlan, first_number, import_request};
 use std::alloc::{AllocError, AllocFailed, Global};
 use std::fs::File;
-use std::io::{self, ErrorKind, Read, Write};
+use std::io::{self, ErrorKind, Read};
 
 /// The most bytes of a file: what a request's body may have.
 const LONGEST_BODY: u64 = 65_536;
@@ -84,26 +86,20 @@ fn read_some(rt: &HostRuntime, name: &str, body: &mut Vec<u8>) -> io::Result<usi
         .read_to_end(body)
 }
 
-/// Says on one line why there are no requests, as far as `err` takes it. It takes no memory.
-pub fn report_spool<E: Write>(err: &mut E, fault: SpoolFault<'_>) -> Status
-    ensures { result ≡ refused fault.entry }
-{
-    line_of(fault).say(err);
-    match fault {
-        SpoolFault::Words(_) => Status::Usage,
-        _ => Status::Fault,
-    }
-}
-
-/// The line that tells why.
-fn line_of<'a>(fault: SpoolFault<'a>) -> FaultLine<'a>
-    ensures { spelled result ≡ spool_line fault.entry }
+/// How a command ends where there are no requests.
+pub fn spool_ending<'a>(fault: SpoolFault<'a>) -> Ending<'a>
+    ensures status { result.status ≡ refused fault.entry }
+    ensures says { spoken result ≡ spool_line fault.entry }
 {
     match fault {
-        SpoolFault::Words(fault) => words_line(fault),
-        SpoolFault::Unreadable(name) => FaultLine::of("faxqd: cannot read ", name),
-        SpoolFault::TooLarge(name) => FaultLine::of("faxqd: too large ", name),
-        SpoolFault::NoMemory => FaultLine::of("faxqd: no memory", ""),
+        SpoolFault::Words(fault) => Ending::usage(words_line(fault)),
+        SpoolFault::Unreadable(name) => {
+            Ending::fault(FaultLine::of("faxqd: cannot read ", Place::File(name)))
+        }
+        SpoolFault::TooLarge(name) => {
+            Ending::fault(FaultLine::of("faxqd: too large ", Place::File(name)))
+        }
+        SpoolFault::NoMemory => Ending::failed("faxqd: no memory"),
     }
 }
 
@@ -113,7 +109,7 @@ fn words_line<'a>(fault: ImportFault) -> FaultLine<'a>
 {
     FaultLine {
         what: "faxqd: bad ",
-        place: "",
+        place: Place::Nowhere,
         between: "",
         word: fault.word(),
     }

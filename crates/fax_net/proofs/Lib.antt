@@ -5,4 +5,5 @@ mod LinkLemmas
 mod ListLemmas
 mod ListeningLemmas
 mod ManyLemmas
+mod RowsLines
 mod SendfaxLemmas

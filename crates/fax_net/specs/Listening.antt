@@ -1,10 +1,13 @@
 -- How listening ends, and what it answers.
-use Rattle.std.specs.Prelude.{◌≡◌, ◌⊎◌, ℕ, ◌-◌, ◌^◌, ◌<◌, ◌≤◌, Bool, true, false, List, [], Option, codes}
+use Rattle.std.specs.Prelude.{◌≡◌, ◌⊎◌, ℕ, ◌-◌, ◌^◌, ◌<◌, ◌≤◌, Bool, true, false, List, [], ◌∷◌, ◌++◌, Option, codes}
 use Rattle.fax_http.specs.Conversation.{Turn}
 use Rattle.fax_http.specs.Device.{BrokeOff, Put}
 use Rattle.fax_http.specs.declared.device.Watched.{Watched}
 use Rattle.fax_net.specs.History.{Happens, IsOverAtLast, IsRight, Step, comings, looks, talk, turns_of}
+use Rattle.fax_net.specs.declared.sockets.BindFault.{BindFault}
+use Rattle.fax_net.specs.declared.sockets.BindFault.TheVariants.{Refused, NoMemory}
 use Rattle.fax_net.specs.declared.sockets.Sockets.{Sockets}
+use Rattle.fax_ending.specs.Ending.{no_database, no_memory, write_failed}
 use Rattle.fax_text.specs.declared.status.Status.{Status}
 use Rattle.fax_text.specs.declared.status.Status.TheVariants.{Success, Fault, Usage}
 
@@ -12,10 +15,16 @@ use Rattle.fax_text.specs.declared.status.Status.TheVariants.{Success, Fault, Us
 abbrev pub listening : List ℕ
 listening = codes "faxqd: listening\n"
 
+-- why it can't listen
+abbrev pub bind_line : BindFault → List ℕ
+bind_line Refused = codes "faxqd: cannot listen" ++ 10 ∷ []
+bind_line NoMemory = no_memory
+
 module _ {W : Type 0} (contents : W → Option (List ℕ)) (out out₂ : Watched W) where
-  -- it said nothing
-  abbrev pub SaidNothing : Type 0
-  SaidNothing = (out₂ ≡ out) ⊎ BrokeOff contents out out₂ listening
+  -- it didn't say that it listens, and so ends with this line: it can't, has no memory for connections, or the output failed
+  abbrev pub SaidNothing : List ℕ → Type 0
+  SaidNothing line =
+      ((out₂ ≡ out) × (((fault : BindFault) × (line ≡ bind_line fault)) ⊎ (line ≡ no_memory))) ⊎ (BrokeOff contents out out₂ listening × (line ≡ write_failed))
 
   module _ (did : Sockets → Step → Sockets → Type 0) where
     -- It said that it listens. So many connections came then, and each was served to its end; unless the store was shut, or it has looked at them 2 ^ 64 - 1 times. These are the messages of all, as they were answered.
@@ -32,8 +41,8 @@ module _ {W : Type 0} (contents : W → Option (List ℕ)) (out out₂ : Watched
       pub all : shut ≡ false → looks history < 2 ^ 64 - 1
           → (comings history ≡ count) × ((place : ℕ) → place < 64 → (talk place history).is_open ≡ false)
 
-    -- it succeeds where all connections were served; else it doesn't listen, or the output failed, or the store was shut
-    abbrev pub Listens : ℕ → List Turn → Bool → Status → Type 0
-    Listens count turns shut Success = HasListened count turns shut × (shut ≡ false)
-    Listens count turns shut Fault = ((turns ≡ []) × SaidNothing) ⊎ (HasListened count turns shut × (shut ≡ true))
-    Listens count turns shut Usage = ⊥
+    -- It succeeds where all connections were served; else it doesn't listen, or the output failed, or the store was shut. The last is what is said at the end.
+    abbrev pub Listens : ℕ → List Turn → Bool → Status → List ℕ → Type 0
+    Listens count turns shut Success line = HasListened count turns shut × (shut ≡ false) × (line ≡ [])
+    Listens count turns shut Fault line = ((turns ≡ []) × SaidNothing line) ⊎ (HasListened count turns shut × (shut ≡ true) × (line ≡ no_database))
+    Listens count turns shut Usage line = ⊥

@@ -3,39 +3,39 @@ ghost use Rattle.std.specs.Prelude.{◌≡◌, List};
 ghost use Rattle.fax_http.specs.Conversation.{Turn};
 ghost use Rattle.fax_http.specs.Device.{IsFresh};
 ghost use Rattle.fax_http.specs.Serving.{Answers};
-ghost use Rattle.fax_net.specs.Listening.{Listens};
+ghost use Rattle.fax_net.specs.Listening.{Listens, bind_line};
+ghost use Rattle.fax_ending.specs.Ending.{spoken};
 
 use crate::many::{free_places, serve_many};
 use crate::peers::Peers;
 use crate::sockets::{BindFault, Sockets};
+use fax_ending::Ending;
 use fax_http::{Handler, Watched};
-use fax_text::{ServePlan, Status, fail};
+use fax_text::{ServePlan, Status};
 use std::io::Write;
 
 /// Listens, says so, and serves the connections. All memory for them is taken before.
-pub fn listen<H: Handler, W: Write + Drop, E: Write>(
+pub fn listen<'a, H: Handler, W: Write + Drop>(
     rt: &HostRuntime,
-    plan: ServePlan<'_>,
+    plan: ServePlan<'a>,
     handler: &mut H,
     out: &mut Watched<W>,
-    err: &mut E,
-) -> Status
+) -> Ending<'a>
     requires { IsFresh out.old }
     ensures served { (turns : List Turn)
-        × Listens W.contents out.old out.new ⟦<Sockets<'static> as Peers>⟧.did plan.entry.connections turns (H.over handler.new) result
+        × Listens W.contents out.old out.new ⟦<Sockets<'static> as Peers>⟧.did
+        plan.entry.connections turns (H.over handler.new) result.status (spoken result)
         × Answers H.answers handler.old turns handler.new }
-    ensures silent { result ≡ Status.Success → err.new ≡ err.old }
 {
     let mut sockets = match Sockets::bind(rt, plan.address, plan.timeout) {
         Ok(sockets) => sockets,
-        Err(BindFault::Refused) => return fail(err, "faxqd: cannot listen\n"),
-        Err(BindFault::NoMemory) => return fail(err, "faxqd: no memory\n"),
+        Err(fault) => return bind_ending(fault),
     };
     let Ok(mut links) = free_places(rt.alloc()) else {
-        return fail(err, "faxqd: no memory\n");
+        return Ending::failed("faxqd: no memory");
     };
     let Ok(()) = out.put(b"faxqd: listening\n") else {
-        return fail(err, "faxqd: ended write-failed\n");
+        return Ending::failed("faxqd: ended write-failed");
     };
     serve_many(
         &mut sockets,
@@ -45,7 +45,18 @@ pub fn listen<H: Handler, W: Write + Drop, E: Write>(
     );
     sockets.finish();
     if handler.is_over() {
-        return fail(err, "faxqd: database\n");
+        return Ending::failed("faxqd: database");
     }
-    Status::Success
+    Ending::well()
+}
+
+/// How a command ends that can't listen.
+fn bind_ending(fault: BindFault) -> Ending<'static>
+    ensures status { result.status ≡ Status.Fault }
+    ensures says { spoken result ≡ bind_line fault }
+{
+    match fault {
+        BindFault::Refused => Ending::failed("faxqd: cannot listen"),
+        BindFault::NoMemory => Ending::failed("faxqd: no memory"),
+    }
 }

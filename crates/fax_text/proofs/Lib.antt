@@ -5,6 +5,7 @@ pub mod OrderLemmas
 pub mod RefusedWords
 pub mod ReplayWords
 mod RowsCivil
+mod RowsLines
 mod RowsListing
 pub mod RowsSendfax
 mod RowsWords

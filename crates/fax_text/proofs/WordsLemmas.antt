@@ -14,6 +14,7 @@ use Rattle.std.proofs.Common.{◌∷◌, Result}
 use Rattle.fax_text.proofs.RefusedWords.{gives_help, gives_usage}
 use Rattle.fax_text.proofs.ReplayWords.{gives_replay}
 use Rattle.fax_text.specs.CommandLine.{IsFixed}
+use Rattle.fax_text.specs.Misuse.{IsMisuseOf}
 use Rattle.fax_text.specs.Words.{IsNoPlan, Reads, TellsKind, TellsMisuse, program}
 use Rattle.fax_text.specs.declared.words.Misuse.{Misuse}
 use Rattle.fax_text.specs.declared.words.Misuse.TheVariants as misuse
@@ -50,10 +51,11 @@ reads_fault words kind (Usage text) (inr among) tells = inl (kind, among, tells.
 reads_fault words kind NoMemory has tells = tt
 
 -- so does a fault of options, where no rule of the command line is broken
-pub reads_misuse : (words : List Text) (m : Misuse) (fault : WordsFault) → fault_of program words ≡ [] → (¬ (m ≡ misuse.NoMemory) → IsNoPlan (subcommand_of program words)) → TellsMisuse m fault → Reads words (Err fault)
-reads_misuse words m (Help text) whole none tells = absurd tells
-reads_misuse words m (Usage text) whole none tells = inr (whole, none tells)
-reads_misuse words m NoMemory whole none tells = tt
+pub reads_misuse : (words : List Text) (m : Misuse) (fault : WordsFault) → fault_of program words ≡ [] → (¬ (m ≡ misuse.NoMemory) → IsNoPlan (subcommand_of program words))
+    → IsMisuseOf (subcommand_of program words) m → TellsMisuse m fault → Reads words (Err fault)
+reads_misuse words m (Help text) whole none is tells = absurd tells
+reads_misuse words m (Usage text) whole none is tells = inr (whole, none tells.0, (m, is, tells.1))
+reads_misuse words m NoMemory whole none is tells = tt
 
 -- the text of an option, or another text where it is missing
 pub or_else_text : (option : Option (Bor Text)) (found : Option Text) (other result : Bor Text)

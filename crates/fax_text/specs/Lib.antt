@@ -5,6 +5,7 @@ pub mod Import
 pub mod ImportWords
 pub mod ListWords
 pub mod Listing
+pub mod Misuse
 pub mod Option
 pub mod Sendfax
 pub mod Server

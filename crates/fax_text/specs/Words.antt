@@ -1,5 +1,5 @@
 -- What the words of the command line ask for, read as clap reads them.
-use Rattle.std.specs.Prelude.{◌≡◌, ◌⊎◌, true, List, [], codes, Option, Some, option_and_then, unwrap_or, Result, Ok, Err, ⊤}
+use Rattle.std.specs.Prelude.{◌≡◌, ◌⊎◌, ℕ, true, List, [], codes, Option, Some, option_and_then, unwrap_or, Result, Ok, Err, string_bytes, ⊤}
 use Rattle.std.specs.Option.{option_copied}
 use Rattle.clap.specs.Faults.{fault_of}
 use Rattle.clap.specs.Kinds.{IsAmong}
@@ -13,6 +13,7 @@ use Rattle.fax_text.specs.declared.sendfax.SendPlan.{SendPlan}
 use Rattle.fax_text.specs.declared.server.ServePlan.{ServePlan}
 use Rattle.fax_text.specs.ImportWords.{IsImportPlan, import_command}
 use Rattle.fax_text.specs.ListWords.{IsListPlan, list_command}
+use Rattle.fax_text.specs.Misuse.{IsMisuseOf, usage_line}
 use Rattle.fax_text.specs.Option.{long_option, moment_or_none, number_from, number_or, required, short_option}
 use Rattle.fax_text.specs.Server.{IsServePlan, file_names, files_in, replay_command, serve_command}
 use Rattle.fax_text.specs.declared.words.Misuse.{Misuse}
@@ -86,14 +87,18 @@ pub record IsNoPlan (found : Option (Text × List Row)) : Type 0 where
 abbrev pub IsAsked : ErrorKind → Type 0
 IsAsked kind = (kind ≡ DisplayHelp) ⊎ (kind ≡ DisplayVersion)
 
+-- the text is the line of something that is wrong with what was found
+abbrev pub TellsOf : Option (Text × List Row) → List ℕ → Type 0
+TellsOf found text = (m : Misuse) × IsMisuseOf found m × (text ≡ usage_line m)
+
 -- What comes of words: the plan of their command and its options where no rule of the command line is broken, help
--- where it is asked for, else a usage fault.
+-- where it is asked for, else a usage fault. Where the options are wrong, its text is a line of what is.
 abbrev pub Reads : List Text → Result Plan WordsFault → Type 0
 Reads words (Ok plan) = IsPlanOf (subcommand_of program words) plan × (fault_of program words ≡ [])
 Reads words (Err (Help text)) = (kind : ErrorKind) × IsAmong kind (fault_of program words) × IsAsked kind
 Reads words (Err (Usage text)) =
     ((kind : ErrorKind) × IsAmong kind (fault_of program words) × ¬ (IsAsked kind))
-    ⊎ ((fault_of program words ≡ []) × IsNoPlan (subcommand_of program words))
+    ⊎ ((fault_of program words ≡ []) × IsNoPlan (subcommand_of program words) × TellsOf (subcommand_of program words) (string_bytes text))
 Reads words (Err NoMemory) = ⊤
 
 -- the fault of an error of that kind
@@ -105,5 +110,5 @@ TellsKind kind NoMemory = kind ≡ OutOfMemory
 -- the fault of options that are wrong
 abbrev pub TellsMisuse : Misuse → WordsFault → Type 0
 TellsMisuse m (Help text) = ⊥
-TellsMisuse m (Usage text) = ¬ (m ≡ misuse.NoMemory)
+TellsMisuse m (Usage text) = ¬ (m ≡ misuse.NoMemory) × (string_bytes text ≡ usage_line m)
 TellsMisuse m NoMemory = ⊤

@@ -5,6 +5,7 @@ ghost use Rattle.clap.specs.Words.{app_of, found_of, rows_of, rule_of};
 ghost use Rattle.clap.specs.declared.builder.command.Command.TheViews.{out-Command as fields_of};
 ghost use Rattle.fax_text.specs.declared.import_words.ImportPlan.{ImportPlan};
 ghost use Rattle.fax_text.specs.ImportWords.{IsImportPlan, files_argument, import_command};
+ghost use Rattle.fax_text.specs.Misuse.{IsMisuse};
 
 use crate::words::{Misuse, long_option, text_of};
 use clap::{Arg, ArgMatches, Command};
@@ -36,6 +37,7 @@ pub(crate) fn import_plan_in<'a>(
     ensures ok { IfOk result (IsImportPlan (rows_of (found_of options.now))) }
     ensures err { IfErr result (λ misuse. ¬ (misuse ≡ Misuse.NoMemory)
         → (plan : ImportPlan) → ¬ (IsImportPlan (rows_of (found_of options.now)) plan)) }
+    ensures misuse { IfErr result (IsMisuse (rows_of (found_of options.now))) }
 {
     let Some(client) = text_of(options, "client") else {
         return Err(Misuse::Client);

@@ -20,5 +20,5 @@ pub use list_words::ListPlan;
 pub use listing::{ListFault, list};
 pub use sendfax::{SendFault, SendPlan, request};
 pub use server::{OfficeFiles, ServePlan};
-pub use status::{Status, fail};
+pub use status::Status;
 pub use words::{Plan, WordsFault, read_words};

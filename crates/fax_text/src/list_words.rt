@@ -1,10 +1,11 @@
 //! The words of the command `list`.
 
-ghost use Rattle.std.specs.Prelude.{◌≡◌, false, IfOk, IsErr};
+ghost use Rattle.std.specs.Prelude.{◌≡◌, false, IfErr, IfOk, IsErr};
 ghost use Rattle.clap.specs.Words.{app_of, found_of, rows_of};
 ghost use Rattle.clap.specs.declared.builder.command.Command.TheViews.{out-Command as fields_of};
 ghost use Rattle.fax_text.specs.declared.list_words.ListPlan.{ListPlan};
 ghost use Rattle.fax_text.specs.ListWords.{IsListPlan, list_command};
+ghost use Rattle.fax_text.specs.Misuse.{IsMisuse};
 
 use crate::server::{OfficeFiles, files_in, with_files};
 use crate::words::{Misuse, long_option, moment_in, text_of};
@@ -28,6 +29,7 @@ pub struct ListPlan<'a> {
 pub(crate) fn list_plan_in<'a>(options: &ArgMatches<'a>) -> Result<ListPlan<'a>, Misuse>
     ensures ok { IfOk result (IsListPlan (rows_of (found_of options.now))) }
     ensures err { IsErr result → (plan : ListPlan) → ¬ (IsListPlan (rows_of (found_of options.now)) plan) }
+    ensures misuse { IfErr result (IsMisuse (rows_of (found_of options.now))) }
 {
     let Some(database) = text_of(options, "db") else {
         return Err(Misuse::Database);

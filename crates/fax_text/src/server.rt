@@ -1,11 +1,12 @@
 //! The words of the commands that serve: `replay` and `serve`.
 
-ghost use Rattle.std.specs.Prelude.{◌≡◌, false, IfOk, IsErr};
+ghost use Rattle.std.specs.Prelude.{◌≡◌, false, IfErr, IfOk, IsErr};
 ghost use Rattle.std.specs.Option.{option_copied};
 ghost use Rattle.clap.specs.Words.{app_of, found_of, rows_of};
 ghost use Rattle.clap.specs.declared.builder.command.Command.TheViews.{out-Command as fields_of};
 ghost use Rattle.fax_text.specs.declared.server.ServePlan.{ServePlan};
 ghost use Rattle.fax_text.specs.Server.{IsServePlan, file_names, files_in, replay_command, serve_command, with_files};
+ghost use Rattle.fax_text.specs.Misuse.{IsMisuse};
 ghost use Rattle.fax_text.specs.Option.{number_or};
 
 use crate::words::{Misuse, long_option, text_of};
@@ -50,6 +51,7 @@ pub struct ServePlan<'a> {
 pub(crate) fn serve_plan_in<'a>(options: &ArgMatches<'a>) -> Result<ServePlan<'a>, Misuse>
     ensures ok { IfOk result (IsServePlan (rows_of (found_of options.now))) }
     ensures err { IsErr result → (plan : ServePlan) → ¬ (IsServePlan (rows_of (found_of options.now)) plan) }
+    ensures misuse { IfErr result (IsMisuse (rows_of (found_of options.now))) }
 {
     let Some(database) = text_of(options, "db") else {
         return Err(Misuse::Database);

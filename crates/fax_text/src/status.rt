@@ -1,7 +1,4 @@
-//! How a command ends.
-ghost use Rattle.std.specs.Prelude.{◌≡◌};
-
-use std::io::Write;
+//! The exit status of a command.
 use std::process::ExitCode;
 
 /// The exit status of a command.
@@ -13,6 +10,7 @@ pub enum Status {
 }
 
 impl From<Status> for ExitCode {
+    ghost use Rattle.std.specs.Prelude.{◌≡◌};
     ghost use Rattle.std.specs.Process.{exit_status};
     ghost use Rattle.fax_text.specs.Status.{status_number};
 
@@ -21,12 +19,4 @@ impl From<Status> for ExitCode {
     fn from(status: Status) -> ExitCode {
         ExitCode::from(status as u8)
     }
-}
-
-/// Says on one line what went wrong, as far as `err` takes it.
-pub fn fail<E: Write>(err: &mut E, line: &str) -> Status
-    ensures { result ≡ Status.Fault }
-{
-    let _ = err.write_all(line.as_bytes());
-    Status::Fault
 }

@@ -5,6 +5,7 @@ ghost use Rattle.std.specs.Option.{option_copied};
 ghost use Rattle.clap.specs.Words.{app_of, first_of, found_of, kind_of, rows_of, rule_of, subcommand_rows_of};
 ghost use Rattle.fax_text.specs.declared.sendfax.SendPlan.{SendPlan};
 ghost use Rattle.fax_text.specs.CommandLine.{IsFixed};
+ghost use Rattle.fax_text.specs.Misuse.{IsMisuse, IsMisuseOf, misuse_text};
 ghost use Rattle.fax_text.specs.Option.{long_option, moment_or_none, number_from, number_or, short_option};
 ghost use Rattle.fax_text.specs.Words.{IsNoPlan, IsPlanOf, IsSendPlan, Reads, TellsKind, TellsMisuse, program, sendfax_command, with_fax, with_limits, with_request, with_times};
 
@@ -90,7 +91,11 @@ impl From<AllocError> for Misuse {
 }
 
 impl Misuse {
-    fn text(self) -> &'static str {
+    /// What is wrong, in words.
+    #[tactic(auto, unfolding(crate::specs::Misuse::misuse_text))]
+    fn text(self) -> &'static str
+        ensures { result.now ≡ misuse_text self }
+    {
         match self {
             Misuse::Command => "no such command",
             Misuse::Database => "--db is missing",
@@ -134,6 +139,7 @@ pub fn read_words<'a>(alloc: Global, words: &'a [String]) -> Result<Plan<'a>, Wo
 fn plan_in<'a>(alloc: Global, matches: &ArgMatches<'a>) -> Result<Plan<'a>, Misuse>
     ensures ok { IfOk result (IsPlanOf (subcommand_rows_of matches.now)) }
     ensures err { IfErr result (λ misuse. ¬ (misuse ≡ Misuse.NoMemory) → IsNoPlan (subcommand_rows_of matches.now)) }
+    ensures misuse { IfErr result (IsMisuseOf (subcommand_rows_of matches.now)) }
 {
     if let Some(options) = matches.subcommand_matches(REPLAY) {
         return Ok(Plan::Replay(files_in(options)));
@@ -159,6 +165,7 @@ fn plan_in<'a>(alloc: Global, matches: &ArgMatches<'a>) -> Result<Plan<'a>, Misu
 fn send_plan_in<'a>(options: &ArgMatches<'a>) -> Result<SendPlan<'a>, Misuse>
     ensures ok { IfOk result (IsSendPlan (rows_of (found_of options.now))) }
     ensures err { IsErr result → (plan : SendPlan) → ¬ (IsSendPlan (rows_of (found_of options.now)) plan) }
+    ensures misuse { IfErr result (IsMisuse (rows_of (found_of options.now))) }
 {
     let Some(destination) = text_of(options, "destination") else {
         return Err(Misuse::Destination);

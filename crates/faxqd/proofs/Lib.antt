@@ -1,4 +1,5 @@
 mod EndsLemmas
 mod ListLemmas
 mod RestartsLemmas
+mod SayingLemmas
 mod ServeLemmas

@@ -16,6 +16,7 @@ use Rattle.fax_http.specs.Clock.{IsMoment}
 use Rattle.fax_http.specs.declared.device.Watched.{Watched}
 use Rattle.fax_store.specs.Store.{Means, Stays}
 use Rattle.fax_text.specs.declared.list_words.ListPlan.{ListPlan}
+use Rattle.faxqd.specs.NoQueue.{HasNoQueue}
 use Rattle.faxqd.specs.List.{IsHeldIn, IsReply, IsSeen, Lists, ListsBy, Shows}
 use Rattle.fax_files.specs.Office.{ComesOf}
 use Rattle.fax_text.specs.declared.status.Status.{Status}
@@ -43,10 +44,10 @@ listed_by image s moment opened new reply found is clean =
 
 module _ {W : Type 0} (contents : W → Option (List ℕ)) (out out₂ : Watched W) (image : Image) (plan : ListPlan) where
   -- a listing that is shown is of the files that the plan names
-  pub lists_by : (status : Status) (said held left : Office) (moment : ℕ) (opened new : State) → ComesOf plan.files (Ok said) → held ≡ said → left ≡ held
-      → IsMoment plan.moment moment → (HasCleanDisk opened → IsFound image opened) → Shows contents out out₂ (settings_in held) moment opened new status
-      → ListsBy contents out out₂ image plan status left new
-  lists_by status said held left moment opened new comes is same its found (reply, seen, prints) = record {
+  pub lists_by : (status : Status) (line : List ℕ) (said held left : Office) (moment : ℕ) (opened new : State) → ComesOf plan.files (Ok said) → held ≡ said → left ≡ held
+      → IsMoment plan.moment moment → (HasCleanDisk opened → IsFound image opened) → Shows contents out out₂ (settings_in held) moment opened new status line
+      → ListsBy contents out out₂ image plan status line left new
+  lists_by status line said held left moment opened new comes is same its found (reply, seen, prints) = record {
     comes = subst (λ (o : Office). ComesOf plan.files (Ok o)) (sym (same ∙ is)) comes;
     moment = moment;
     its = its;
@@ -57,21 +58,18 @@ module _ {W : Type 0} (contents : W → Option (List ℕ)) (out out₂ : Watched
   }
 
   -- what is shown of a listing ends the program
-  lists_of : (status : Status) (office : Office) (new : State) → ListsBy contents out out₂ image plan status office new → Lists contents out out₂ plan status
-  lists_of Success office new by = ((office, by.comes), by.reply, by.prints)
-  lists_of Fault office new by = elim by.prints [
-    | inl same ↦ inl same
-    | inr broke ↦ inr (by.reply, broke)
-  ]
-  lists_of Usage office new by = absurd by.prints
+  lists_of : (status : Status) (line : List ℕ) (office : Office) (new : State) → ListsBy contents out out₂ image plan status line office new → Lists contents out out₂ plan status line
+  lists_of Success line office new by = ((office, by.comes), by.reply, by.prints)
+  lists_of Fault line office new by = inr (by.reply, by.prints)
+  lists_of Usage line office new by = absurd by.prints
 
   -- where no queue was there, it ends with a fault
-  no_listing : (status : Status) → status ≡ Fault → out₂ ≡ out → Lists contents out out₂ plan status
-  no_listing status fault same = subst (Lists contents out out₂ plan) (sym fault) (inl same)
+  no_listing : (status : Status) (line : List ℕ) → status ≡ Fault → out₂ ≡ out → HasNoQueue plan.files line → Lists contents out out₂ plan status line
+  no_listing status line fault same none = subst (λ s. Lists contents out out₂ plan s line) (sym fault) (inl (same, none))
 
   -- however it ends, that is its end
-  pub lists_with : {Q : Type 0} (office_of : Q → Office) (state_of : Q → State) (status : Status) (left : Option Q)
-      → MatchOption left ((status ≡ Fault) × (out₂ ≡ out)) (λ queue. ListsBy contents out out₂ image plan status (office_of queue) (state_of queue))
-      → Lists contents out out₂ plan status
-  lists_with office_of state_of status (Some queue) by = lists_of status (office_of queue) (state_of queue) by
-  lists_with office_of state_of status None (fault, same) = no_listing status fault same
+  pub lists_with : {Q : Type 0} (office_of : Q → Office) (state_of : Q → State) (status : Status) (line : List ℕ) (left : Option Q)
+      → MatchOption left ((status ≡ Fault) × (out₂ ≡ out) × HasNoQueue plan.files line) (λ queue. ListsBy contents out out₂ image plan status line (office_of queue) (state_of queue))
+      → Lists contents out out₂ plan status line
+  lists_with office_of state_of status line (Some queue) by = lists_of status line (office_of queue) (state_of queue) by
+  lists_with office_of state_of status line None (fault, same, none) = no_listing status line fault same none

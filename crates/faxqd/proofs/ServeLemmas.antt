@@ -25,6 +25,7 @@ use Rattle.fax_files.specs.Office.{ComesOf}
 use Rattle.fax_net.specs.History.{Step}
 use Rattle.fax_net.specs.Listening.{Listens}
 use Rattle.fax_net.specs.declared.sockets.Sockets.{Sockets}
+use Rattle.faxqd.specs.NoQueue.{HasNoQueue}
 use Rattle.faxqd.specs.Serve.{Ends, HasServed, IsFoundAs, ServesBy, ServesHeld}
 use Rattle.fax_text.specs.declared.status.Status.{Status}
 use Rattle.fax_text.specs.declared.status.Status.TheVariants.{Success, Fault, Usage}
@@ -87,8 +88,8 @@ held_by gives settings image clock turns opened new found from clean =
       held = it.held;
       sound = it.sound;
       taken = taken_as it.found opened it.taken;
-      served = λ start sound as.
-          let means = means_found image opened it start as in
+      served = λ start sound found_as.
+          let means = means_found image opened it start found_as in
           has_served gives settings clock turns opened new start it.serves.is_open it.alone means (from.served start.queue start.kept sound means clean);
     }
 
@@ -97,10 +98,10 @@ held_by gives settings image clock turns opened new found from clean =
 module _ {W : Type 0} (contents : W → Option (List ℕ)) (out out₂ : Watched W) (did : Sockets → Step → Sockets → Type 0)
     {C : Type 0} (gives : C → List ℕ → ℕ → C → Type 0) (image : Image) (plan : ServePlan) (clock : C) where
   -- what the files say, what was found and what was served are of one office and one database
-  pub serves_by : (status : Status) (said held left : Office) (opened new : State) (shut : Bool) → ComesOf plan.files (Ok said) → held ≡ said → left ≡ held
-      → ((turns : List Turn) × Listens contents out out₂ did plan.connections turns shut status × ServesFrom gives (settings_in held) clock opened turns new)
-      → (HasCleanDisk opened → IsFound image opened) → ServesBy contents out out₂ did gives image plan clock status left new shut
-  serves_by status said held left opened new shut comes is same served found = record {
+  pub serves_by : (status : Status) (line : List ℕ) (said held left : Office) (opened new : State) (shut : Bool) → ComesOf plan.files (Ok said) → held ≡ said → left ≡ held
+      → ((turns : List Turn) × Listens contents out out₂ did plan.connections turns shut status line × ServesFrom gives (settings_in held) clock opened turns new)
+      → (HasCleanDisk opened → IsFound image opened) → ServesBy contents out out₂ did gives image plan clock status line left new shut
+  serves_by status line said held left opened new shut comes is same served found = record {
     comes = subst (λ (o : Office). ComesOf plan.files (Ok o)) (sym (same ∙ is)) comes;
     turns = served.0;
     told = served.1;
@@ -109,21 +110,23 @@ module _ {W : Type 0} (contents : W → Option (List ℕ)) (out out₂ : Watched
   }
 
   -- what was served ends the program
-  ends_by : (status : Status) (office : Office) (new : State) (shut : Bool) → ServesBy contents out out₂ did gives image plan clock status office new shut → Ends contents out out₂ plan status
-  ends_by Success office new shut by = ((office, by.comes), by.told.0.said)
-  ends_by Fault office new shut by = elim by.told [
-    | inl (none, nothing) ↦ inl nothing
-    | inr (listened, is) ↦ inr listened.said
+  ends_by : (status : Status) (line : List ℕ) (office : Office) (new : State) (shut : Bool)
+      → ServesBy contents out out₂ did gives image plan clock status line office new shut → Ends contents out out₂ plan status line
+  ends_by Success line office new shut by = ((office, by.comes), by.told.0.said, by.told.2)
+  ends_by Fault line office new shut by = elim by.told [
+    | inl (none, nothing) ↦ inr (inl nothing)
+    | inr (listened, is, says) ↦ inr (inr (listened.said, says))
   ]
-  ends_by Usage office new shut by = absurd by.told
+  ends_by Usage line office new shut by = absurd by.told
 
   -- where no queue was there, it ends with a fault
-  no_queue : (status : Status) → status ≡ Fault → out₂ ≡ out → Ends contents out out₂ plan status
-  no_queue status fault same = subst (Ends contents out out₂ plan) (sym fault) (inl (inl same))
+  no_queue : (status : Status) (line : List ℕ) → status ≡ Fault → out₂ ≡ out → HasNoQueue plan.files line → Ends contents out out₂ plan status line
+  no_queue status line fault same none = subst (λ s. Ends contents out out₂ plan s line) (sym fault) (inl (same, none))
 
   -- however it ends, that is its end
-  pub ends_with : {Q : Type 0} (office_of : Q → Office) (state_of : Q → State) (is_shut : Q → Bool) (status : Status) (left : Option Q)
-      → MatchOption left ((status ≡ Fault) × (out₂ ≡ out)) (λ queue. ServesBy contents out out₂ did gives image plan clock status (office_of queue) (state_of queue) (is_shut queue))
-      → Ends contents out out₂ plan status
-  ends_with office_of state_of is_shut status (Some queue) by = ends_by status (office_of queue) (state_of queue) (is_shut queue) by
-  ends_with office_of state_of is_shut status None (fault, same) = no_queue status fault same
+  pub ends_with : {Q : Type 0} (office_of : Q → Office) (state_of : Q → State) (is_shut : Q → Bool) (status : Status) (line : List ℕ) (left : Option Q)
+      → MatchOption left ((status ≡ Fault) × (out₂ ≡ out) × HasNoQueue plan.files line)
+      (λ queue. ServesBy contents out out₂ did gives image plan clock status line (office_of queue) (state_of queue) (is_shut queue))
+      → Ends contents out out₂ plan status line
+  ends_with office_of state_of is_shut status line (Some queue) by = ends_by status line (office_of queue) (state_of queue) (is_shut queue) by
+  ends_with office_of state_of is_shut status line None (fault, same, none) = no_queue status line fault same none

@@ -1,5 +1,5 @@
 -- How the command `list` ends, and what it prints.
-use Rattle.std.specs.Prelude.{◌≡◌, ◌⊎◌, ℕ, false, List, Option, Ok, codes}
+use Rattle.std.specs.Prelude.{◌≡◌, ◌⊎◌, ℕ, false, List, [], Option, Ok, codes}
 use Rattle.sqlite.specs.Effect.{Database, IsDatabase}
 use Rattle.sqlite.specs.State.{State, HasCleanDisk}
 use Rattle.sqlite_wal.specs.Recovery.{Image}
@@ -22,6 +22,8 @@ use Rattle.fax_store.specs.Adopt.{IsOurs}
 use Rattle.fax_store.specs.Store.{Means, Stays}
 use Rattle.fax_tables.specs.Tables.{RowsMean}
 use Rattle.fax_files.specs.Office.{ComesOf}
+use Rattle.faxqd.specs.NoQueue.{HasNoQueue}
+use Rattle.fax_ending.specs.Ending.{no_database, write_failed}
 use Rattle.fax_text.specs.declared.status.Status.{Status}
 use Rattle.fax_text.specs.declared.status.Status.TheVariants.{Success, Fault, Usage}
 use Rattle.fax_text.specs.declared.list_words.ListPlan.{ListPlan}
@@ -48,26 +50,27 @@ pub record IsHeldIn (image : Image) (s : Settings) (moment : ℕ) (new : State) 
 
 module _ {W : Type 0} (contents : W → Option (List ℕ)) (out out₂ : Watched W) where
   -- a reply of status 200 is printed; or there is another reply, or the output failed
-  abbrev pub Prints : Response → Status → Type 0
-  Prints reply Success = (reply.status ≡ 200) × Put contents out out₂ reply.body false
-  Prints reply Fault = (out₂ ≡ out) ⊎ BrokeOff contents out out₂ reply.body
-  Prints reply Usage = ⊥
+  abbrev pub Prints : Response → Status → List ℕ → Type 0
+  Prints reply Success line = (reply.status ≡ 200) × Put contents out out₂ reply.body false × (line ≡ [])
+  Prints reply Fault line =
+      (¬ (reply.status ≡ 200) × (out₂ ≡ out) × (line ≡ no_database)) ⊎ ((reply.status ≡ 200) × BrokeOff contents out out₂ reply.body × (line ≡ write_failed))
+  Prints reply Usage line = ⊥
 
   -- what the queue replies is printed
-  abbrev pub Shows : Settings → ℕ → State → State → Status → Type 0
-  Shows s moment old new status = (reply : Response) × IsSeen s moment old new reply × Prints reply status
+  abbrev pub Shows : Settings → ℕ → State → State → Status → List ℕ → Type 0
+  Shows s moment old new status line = (reply : Response) × IsSeen s moment old new reply × Prints reply status line
 
   -- It listed by the office that the files say, at the moment that the plan says, the queue of the database's files.
-  pub record ListsBy (image : Image) (plan : ListPlan) (status : Status) (office : Office) (new : State) : Type 0 where
+  pub record ListsBy (image : Image) (plan : ListPlan) (status : Status) (line : List ℕ) (office : Office) (new : State) : Type 0 where
     pub comes : ComesOf plan.files (Ok office)
     pub moment : ℕ
     pub its : IsMoment plan.moment moment
     pub reply : Response
-    pub prints : Prints reply status
+    pub prints : Prints reply status line
     pub held : HasCleanDisk new → IsHeldIn image (settings_in office) moment new reply
 
-  -- so where it succeeds, the files say an office, and a reply is printed
-  abbrev pub Lists : ListPlan → Status → Type 0
-  Lists plan Success = ((office : Office) × ComesOf plan.files (Ok office)) × (reply : Response) × Prints reply Success
-  Lists plan Fault = (out₂ ≡ out) ⊎ ((reply : Response) × BrokeOff contents out out₂ reply.body)
-  Lists plan Usage = ⊥
+  -- So where it succeeds, the files say an office, and a reply is printed. Where it doesn't, it has no queue, or this replied something else, or the output failed.
+  abbrev pub Lists : ListPlan → Status → List ℕ → Type 0
+  Lists plan Success line = ((office : Office) × ComesOf plan.files (Ok office)) × (reply : Response) × Prints reply Success line
+  Lists plan Fault line = ((out₂ ≡ out) × HasNoQueue plan.files line) ⊎ ((reply : Response) × Prints reply Fault line)
+  Lists plan Usage line = ⊥

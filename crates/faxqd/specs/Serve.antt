@@ -1,5 +1,5 @@
 -- How the command `serve` ends, and what it answers.
-use Rattle.std.specs.Prelude.{◌≡◌, ◌⊎◌, ℕ, Bool, List, None, Option, Ok}
+use Rattle.std.specs.Prelude.{◌≡◌, ◌⊎◌, ℕ, Bool, true, false, List, [], None, Option, Ok}
 use Rattle.sqlite.specs.Effect.{Database, IsDatabase}
 use Rattle.sqlite.specs.State.{State, HasCleanDisk}
 use Rattle.sqlite_trees.specs.Tree.{Trees}
@@ -22,6 +22,8 @@ use Rattle.fax_schema.specs.Schema.{AreOurs, no_tables}
 use Rattle.fax_net.specs.Listening.{Listens, SaidNothing, listening}
 use Rattle.fax_files.specs.Database.{AreHeld}
 use Rattle.fax_files.specs.Office.{ComesOf}
+use Rattle.faxqd.specs.NoQueue.{HasNoQueue}
+use Rattle.fax_ending.specs.Ending.{no_database}
 use Rattle.fax_text.specs.declared.status.Status.{Status}
 use Rattle.fax_text.specs.declared.status.Status.TheVariants.{Success, Fault, Usage}
 use Rattle.fax_net.specs.History.{Step}
@@ -57,17 +59,18 @@ module _ {C : Type 0} (gives : C → List ℕ → ℕ → C → Type 0) (setting
 -- ---- the end
 
 module _ {W : Type 0} (contents : W → Option (List ℕ)) (out out₂ : Watched W) where
-  -- where it succeeds, the files say an office, and it said that it listens
-  abbrev pub Ends : ServePlan → Status → Type 0
-  Ends plan Success = ((office : Office) × ComesOf plan.files (Ok office)) × Put contents out out₂ listening false
-  Ends plan Fault = SaidNothing contents out out₂ ⊎ Put contents out out₂ listening false
-  Ends plan Usage = ⊥
+  -- Where it succeeds, the files say an office, and it said that it listens. Where it doesn't, it has no queue, or didn't say so, or its store was shut.
+  abbrev pub Ends : ServePlan → Status → List ℕ → Type 0
+  Ends plan Success line = ((office : Office) × ComesOf plan.files (Ok office)) × Put contents out out₂ listening false × (line ≡ [])
+  Ends plan Fault line =
+      ((out₂ ≡ out) × HasNoQueue plan.files line) ⊎ (SaidNothing contents out out₂ line ⊎ (Put contents out out₂ listening false × (line ≡ no_database)))
+  Ends plan Usage line = ⊥
 
   module _ (did : Sockets → Step → Sockets → Type 0) where
-    module _ {C : Type 0} (gives : C → List ℕ → ℕ → C → Type 0) (image : Image) (plan : ServePlan) (clock : C) (status : Status) where
+    module _ {C : Type 0} (gives : C → List ℕ → ℕ → C → Type 0) (image : Image) (plan : ServePlan) (clock : C) (status : Status) (line : List ℕ) where
       -- It served by the office that the files say, from what the database's files held on, each message at the moment that the clock gave.
       pub record ServesBy (office : Office) (new : State) (shut : Bool) : Type 0 where
         pub comes : ComesOf plan.files (Ok office)
         pub turns : List Turn
-        pub told : Listens contents out out₂ did plan.connections turns shut status
+        pub told : Listens contents out out₂ did plan.connections turns shut status line
         pub served : HasCleanDisk new → ServesHeld gives (settings_in office) image clock turns new

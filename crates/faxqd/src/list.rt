@@ -4,67 +4,66 @@ ghost use Rattle.sqlite.specs.Files.{file_state};
 ghost use Rattle.sqlite.specs.Held.{state};
 ghost use Rattle.sqlite_wal.specs.Files.{image_at};
 ghost use Rattle.fax_desk.specs.Replaying.{settings_in};
+ghost use Rattle.fax_ending.specs.Ending.{spoken};
 ghost use Rattle.faxqd.specs.List.{ListsBy, Shows};
+ghost use Rattle.faxqd.specs.NoQueue.{HasNoQueue};
 
 use crate::queue::open_found_queue;
-use fax_files::{read_office, report, tell_fault};
+use fax_ending::Ending;
+use fax_files::{office_ending, open_ending, read_office};
 use fax_http::{Watched, moment_of};
 use fax_job::Moment;
 use fax_once::Queue;
-use fax_text::{ListPlan, Status, fail};
+use fax_text::{ListPlan, Status};
 use sqlite::{Alter, FileFrom, FileStore, Start};
 use std::alloc::Global;
 use std::io::Write;
 
 /// Reads the files, opens the database, and prints the listing of its jobs at the moment that the plan says, or else at
-/// the machine's. The queue is given back, if there is one. A fault is one line to `err`. `start` stands for what the
-/// database's files hold.
-pub fn list<S: Start, W: Write + Drop, E: Write>(
+/// the machine's. The queue is given back, if there is one. `start` stands for what the database's files hold.
+pub fn list<'a, S: Start, W: Write + Drop>(
     rt: &HostRuntime,
-    plan: ListPlan<'_>,
+    plan: ListPlan<'a>,
     start: S,
     out: &mut Watched<W>,
-    err: &mut E,
-) -> (Status, Option<Queue<FileStore<FileFrom<S>>>>)
+) -> (Ending<'a>, Option<Queue<FileStore<FileFrom<S>>>>)
     requires { out.old.failed ≡ false }
-    ensures lists { MatchOption result.1 ((result.0 ≡ Status.Fault) × (out.new ≡ out.old))
-        (λ queue. ListsBy W.contents out.old out.new (image_at S.Start) plan.entry result.0 queue.office
-        (file_state queue.store.conn)) }
-    ensures silent { result.0 ≡ Status.Success → err.new ≡ err.old }
+    ensures lists { MatchOption result.1
+        ((result.0.status ≡ Status.Fault) × (out.new ≡ out.old) × HasNoQueue plan.entry.files (spoken result.0))
+        (λ queue. ListsBy W.contents out.old out.new (image_at S.Start) plan.entry result.0.status (spoken result.0)
+        queue.office (file_state queue.store.conn)) }
 {
     let office = match read_office(rt, plan.files) {
         Ok(office) => office,
-        Err(fault) => return (report(err, fault), None),
+        Err(fault) => return (office_ending(fault), None),
     };
     let moment = moment_of(rt, plan.moment);
     let queue = match open_found_queue(rt, plan.database, start, office) {
         Ok(queue) => queue,
-        Err(fault) => return (tell_fault(err, fault), None),
+        Err(fault) => return (open_ending(fault), None),
     };
-    let (status, queue) = list_queue(rt.alloc(), queue, moment, out, err);
-    (status, Some(queue))
+    let (ending, queue) = list_queue(rt.alloc(), queue, moment, out);
+    (ending, Some(queue))
 }
 
 /// Prints the listing of that queue, which is given back.
-fn list_queue<S: Alter + Drop, W: Write + Drop, E: Write>(
+fn list_queue<S: Alter + Drop, W: Write + Drop>(
     alloc: Global,
     mut queue: Queue<S>,
     moment: Moment,
     out: &mut Watched<W>,
-    err: &mut E,
-) -> (Status, Queue<S>)
+) -> (Ending<'static>, Queue<S>)
     requires { out.old.failed ≡ false }
     ensures office { result.1.office ≡ queue.office }
     ensures shown { Shows W.contents out.old out.new (settings_in queue.office) moment
-        (state S.Store queue.store.conn) (state S.Store result.1.store.conn) result.0 }
-    ensures silent { result.0 ≡ Status.Success → err.new ≡ err.old }
+        (state S.Store queue.store.conn) (state S.Store result.1.store.conn) result.0.status (spoken result.0) }
 {
     let reply = queue.view(alloc, "/jobs", moment);
     if reply.status() != 200 {
-        return (fail(err, "faxqd: database\n"), queue);
+        return (Ending::failed("faxqd: database"), queue);
     }
     match out.put(reply.body()) {
-        Ok(()) => (Status::Success, queue),
-        Err(_) => (fail(err, "faxqd: ended write-failed\n"), queue),
+        Ok(()) => (Ending::well(), queue),
+        Err(_) => (Ending::failed("faxqd: ended write-failed"), queue),
     }
 }

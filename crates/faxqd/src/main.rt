@@ -7,6 +7,7 @@ mod laws;
 mod list;
 mod queue;
 mod replay;
+mod saying;
 mod serve;
 
 use fax_http::Watched;
@@ -28,9 +29,9 @@ fn main(rt: HostRuntime) -> ExitCode {
             Unknown,
             &mut Watched::new(rt.stdin()),
             &mut Watched::new(rt.stdout()),
-            &mut rt.stderr(),
+            &mut Watched::new(rt.stderr()),
         ),
-        Err(error) => command::refuse_words(&mut rt.stderr(), error.kind()),
+        Err(error) => command::refuse_words(&mut Watched::new(rt.stderr()), error.kind()),
     };
     ExitCode::from(status)
 }

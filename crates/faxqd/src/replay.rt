@@ -1,64 +1,63 @@
 //! `faxqd replay`: answers one input from empty tables in memory on.
 ghost use Rattle.std.specs.Prelude.{◌≡◌};
 ghost use Rattle.fax_http.specs.Device.{IsFresh};
-ghost use Rattle.faxqd.specs.Replay.{Ends, EndsWith};
+ghost use Rattle.fax_ending.specs.Ending.{spoken};
+ghost use Rattle.faxqd.specs.Replay.{Ends, EndsWith, end_line};
 
-use fax_files::{read_office, report};
+use fax_ending::Ending;
+use fax_files::{office_ending, read_office};
 use fax_http::{End, Watched};
 use fax_once::Office;
-use fax_text::{OfficeFiles, Status, fail};
+use fax_text::{OfficeFiles, Status};
 use std::alloc::Global;
 use std::io::{Read, Write};
 
-/// Reads the files, then messages from `reader`, writes the reply to each to `out`, and a fault as one line
-/// to `err`.
-pub fn replay<R: Read + Drop, W: Write + Drop, E: Write>(
+/// Reads the files, then messages from `reader`, and writes the reply to each to `out`.
+pub fn replay<'a, R: Read + Drop, W: Write + Drop>(
     rt: &HostRuntime,
-    files: OfficeFiles<'_>,
+    files: OfficeFiles<'a>,
     reader: &mut Watched<R>,
     out: &mut Watched<W>,
-    err: &mut E,
-) -> Status
+) -> Ending<'a>
     requires reading { IsFresh reader.old }
     requires writing { IsFresh out.old }
-    ensures ends { Ends R.remaining W.contents reader.old reader.new out.old out.new files.entry result }
-    ensures silent { result ≡ Status.Success → err.new ≡ err.old }
+    ensures { Ends R.remaining W.contents reader.old reader.new out.old out.new files.entry
+        result.status (spoken result) }
 {
     match read_office(rt, files) {
-        Ok(office) => replay_with(rt.alloc(), office, reader, out, err),
-        Err(fault) => report(err, fault),
+        Ok(office) => replay_with(rt.alloc(), office, reader, out),
+        Err(fault) => office_ending(fault),
     }
 }
 
 /// Answers the messages by that office.
-fn replay_with<R: Read + Drop, W: Write + Drop, E: Write>(
+fn replay_with<R: Read + Drop, W: Write + Drop>(
     alloc: Global,
     office: Office,
     reader: &mut Watched<R>,
     out: &mut Watched<W>,
-    err: &mut E,
-) -> Status
+) -> Ending<'static>
     requires reading { IsFresh reader.old }
     requires writing { IsFresh out.old }
-    ensures ends { EndsWith R.remaining W.contents reader.old reader.new out.old out.new office result }
-    ensures silent { result ≡ Status.Success → err.new ≡ err.old }
+    ensures { EndsWith R.remaining W.contents reader.old reader.new out.old out.new office
+        result.status (spoken result) }
 {
     let end = fax_desk::replay(alloc, office, reader, out);
-    tell(err, end)
+    ending_of(end)
 }
 
-/// Says on one line how an input ended, where it didn't end as it should.
-fn tell<E: Write>(err: &mut E, end: End) -> Status
-    ensures success { end ≡ End.Closed → result ≡ Status.Success }
-    ensures fault { ¬ (end ≡ End.Closed) → result ≡ Status.Fault }
-    ensures silent { end ≡ End.Closed → err.new ≡ err.old }
+/// How the command ends where an input ended so.
+fn ending_of(end: End) -> Ending<'static>
+    ensures success { end ≡ End.Closed → result.status ≡ Status.Success }
+    ensures fault { ¬ (end ≡ End.Closed) → result.status ≡ Status.Fault }
+    ensures says { spoken result ≡ end_line end }
 {
     match end {
-        End::Closed => Status::Success,
-        End::Bad => fail(err, "faxqd: ended bad\n"),
-        End::Bound => fail(err, "faxqd: ended bound\n"),
-        End::ReadFailed => fail(err, "faxqd: ended read-failed\n"),
-        End::WriteFailed { .. } => fail(err, "faxqd: ended write-failed\n"),
-        End::NoMemory => fail(err, "faxqd: no memory\n"),
+        End::Closed => Ending::well(),
+        End::Bad => Ending::failed("faxqd: ended bad"),
+        End::Bound => Ending::failed("faxqd: ended bound"),
+        End::ReadFailed => Ending::failed("faxqd: ended read-failed"),
+        End::WriteFailed { .. } => Ending::failed("faxqd: ended write-failed"),
+        End::NoMemory => Ending::failed("faxqd: no memory"),
     }
 }

@@ -7,12 +7,15 @@ ghost use Rattle.fax_desk.specs.Replaying.{settings_in};
 ghost use Rattle.fax_http.specs.Conversation.{Turn};
 ghost use Rattle.fax_http.specs.Device.{IsFresh};
 ghost use Rattle.fax_net.specs.Listening.{Listens};
+ghost use Rattle.fax_ending.specs.Ending.{spoken};
 ghost use Rattle.fax_desk.specs.Conversing.{ServesFrom};
+ghost use Rattle.faxqd.specs.NoQueue.{HasNoQueue};
 ghost use Rattle.faxqd.specs.Serve.{ServesBy};
 
 use crate::queue::open_queue;
 use fax_desk::Desk;
-use fax_files::{make_file, read_office, report, tell_fault};
+use fax_ending::Ending;
+use fax_files::{make_file, office_ending, open_ending, read_office};
 use fax_http::{Clock, Watched};
 use fax_net::{Peers, Sockets, listen};
 use fax_once::Queue;
@@ -21,55 +24,52 @@ use sqlite::{Alter, FileFrom, FileStore, Start};
 use std::io::Write;
 
 /// Reads the files, opens the database, listens, says so on `out`, and serves the connections, each message at the moment
-/// that `clock` gives. The queue is given back as it is then, if there is one. A fault is one line
-/// to `err`. `start` stands for what the database's files hold.
-pub fn serve<S: Start, C: Clock + Drop, W: Write + Drop, E: Write>(
+/// that `clock` gives. The queue is given back as it is then, if there is one. `start` stands for what the database's
+/// files hold.
+pub fn serve<'a, S: Start, C: Clock + Drop, W: Write + Drop>(
     rt: &HostRuntime,
-    plan: ServePlan<'_>,
+    plan: ServePlan<'a>,
     clock: C,
     start: S,
     out: &mut Watched<W>,
-    err: &mut E,
-) -> (Status, Option<Queue<FileStore<FileFrom<S>>>>)
+) -> (Ending<'a>, Option<Queue<FileStore<FileFrom<S>>>>)
     requires { IsFresh out.old }
-    ensures serves { MatchOption result.1 ((result.0 ≡ Status.Fault) × (out.new ≡ out.old))
-        (λ queue. ServesBy W.contents out.old out.new ⟦<Sockets<'static> as Peers>⟧.did
-        C.gives (image_at S.Start) plan.entry clock result.0 queue.office (file_state queue.store.conn) queue.is_shut) }
-    ensures silent { result.0 ≡ Status.Success → err.new ≡ err.old }
+    ensures serves { MatchOption result.1
+        ((result.0.status ≡ Status.Fault) × (out.new ≡ out.old) × HasNoQueue plan.entry.files (spoken result.0))
+        (λ queue. ServesBy W.contents out.old out.new ⟦<Sockets<'static> as Peers>⟧.did C.gives (image_at S.Start)
+        plan.entry clock result.0.status (spoken result.0) queue.office (file_state queue.store.conn) queue.is_shut) }
 {
     let office = match read_office(rt, plan.files) {
         Ok(office) => office,
-        Err(fault) => return (report(err, fault), None),
+        Err(fault) => return (office_ending(fault), None),
     };
     if let Err(fault) = make_file(rt, plan.database) {
-        return (tell_fault(err, fault), None);
+        return (open_ending(fault), None);
     }
     let queue = match open_queue(rt, plan.database, start, office) {
         Ok(queue) => queue,
-        Err(fault) => return (tell_fault(err, fault), None),
+        Err(fault) => return (open_ending(fault), None),
     };
-    let (status, queue) = serve_queue(rt, plan, clock, queue, out, err);
-    (status, Some(queue))
+    let (ending, queue) = serve_queue(rt, plan, clock, queue, out);
+    (ending, Some(queue))
 }
 
 /// Listens, says so, and answers connections by that queue, which is given back.
-fn serve_queue<S: Alter + Drop, C: Clock + Drop, W: Write + Drop, E: Write>(
+fn serve_queue<'a, S: Alter + Drop, C: Clock + Drop, W: Write + Drop>(
     rt: &HostRuntime,
-    plan: ServePlan<'_>,
+    plan: ServePlan<'a>,
     clock: C,
     queue: Queue<S>,
     out: &mut Watched<W>,
-    err: &mut E,
-) -> (Status, Queue<S>)
+) -> (Ending<'a>, Queue<S>)
     requires { IsFresh out.old }
     ensures office { result.1.office ≡ queue.office }
     ensures served { (turns : List Turn)
         × Listens W.contents out.old out.new ⟦<Sockets<'static> as Peers>⟧.did
-        plan.entry.connections turns result.1.is_shut result.0
+        plan.entry.connections turns result.1.is_shut result.0.status (spoken result.0)
         × ServesFrom C.gives (settings_in queue.office) clock (state S.Store queue.store.conn) turns (state S.Store result.1.store.conn) }
-    ensures silent { result.0 ≡ Status.Success → err.new ≡ err.old }
 {
     let mut desk = Desk::new(rt.alloc(), clock, queue);
-    let status = listen(rt, plan, &mut desk, out, err);
-    (status, desk.close())
+    let ending = listen(rt, plan, &mut desk, out);
+    (ending, desk.close())
 }

@@ -20,11 +20,11 @@ returns g c =
     let last : desk.clock.last ≡ 0 = ap (λ clock. clock.last) c.new-desk.ensures.clock ∙ c.new.ensures in
     let office = ap (λ q. settings_in q.office) c.new-desk.ensures.queue ∙ ap settings_in c.in-Ok.ensures.office in
     replayed_of _ _ _ _ c.args.office _ _ _ _ _ _ _ _ _ (λ turns from.
-        let served = from.served empty_start.queue empty_start.kept empty_sound (λ _. rw c.new-desk.ensures.queue c.in-Ok.ensures.empty) (memory_serves left.store.conn).clean in (
-          served.session.left,
-          subst (λ s. AreTurns gives_said s empty_start 0 turns served.session.left) office
-              (subst (λ t. AreTurns gives_said (settings_in desk.queue.office) empty_start t turns served.session.left) last
-              (turns_by _ gives_said (λ clock. clock.last) (λ clock said moment later given. given) _ empty_start desk.clock turns served.session.left served.answered)),
-        ))
+    let served = from.served empty_start.queue empty_start.kept empty_sound (λ _. rw c.new-desk.ensures.queue c.in-Ok.ensures.empty) (memory_serves left.store.conn).clean in (
+      served.session.left,
+      subst (λ s. AreTurns gives_said s empty_start 0 turns served.session.left) office
+          (subst (λ t. AreTurns gives_said (settings_in desk.queue.office) empty_start t turns served.session.left) last
+          (turns_by _ gives_said (λ clock. clock.last) (λ clock said moment later given. given) _ empty_start desk.clock turns served.session.left served.answered)),
+    ))
     (not_shut left.is_shut left.store.conn c.converse-served.ensures.shut)
     c.converse-served.ensures.served

@@ -1,28 +1,35 @@
 use Rattle.std.proofs.Common.{◌∙◌, inr, subst, sym}
+use Rattle.fax_ending.specs.Ending.{spoken}
 use Rattle.fax_net.specs.History.{turns_of}
 use Rattle.fax_net.specs.Listening.{Listens}
 use Rattle.fax_net.proofs.ListeningLemmas.{answers_of, has_listened}
 use Rattle.fax_net.proofs.listening.listen.Goals as goal
 
-pub returns-clause-served : goal.returns-clause-served
-returns-clause-served g c =
-    let s = c.serve_many.ensures in (
-      turns_of s.history,
-      (
-        has_listened g.W.Write.contents c.args.out.now c.put.new.self _ g.H.Handler.answers g.H.Handler.over _ _ _ c.args.handler.now c.serve_many.new.handler c.in-Ok-put.ensures.ok s,
-        sym c.is_over.ensures ∙ c.if-is_over.false,
-      ),
-      answers_of g.H.Handler.answers g.H.Handler.over c.args.handler.now s.history c.serve_many.new.handler s.runs.answered,
-    )
+pub returns : goal.returns
+returns g c =
+    let s = c.serve_many.ensures in record {
+      served = (
+        turns_of s.history,
+        subst (λ status. Listens g.W.Write.contents c.args.out.now c.put.new.self _ c.args.plan.connections (turns_of s.history) (g.H.Handler.over c.serve_many.new.handler) status (spoken c.well.result)) (sym c.well.ensures.status) (
+          has_listened g.W.Write.contents c.args.out.now c.put.new.self _ g.H.Handler.answers g.H.Handler.over _ _ _ c.args.handler.now c.serve_many.new.handler c.in-Ok-put.ensures.ok s,
+          sym c.is_over.ensures ∙ c.if-is_over.false,
+          c.well.ensures.says,
+        ),
+        answers_of g.H.Handler.answers g.H.Handler.over c.args.handler.now s.history c.serve_many.new.handler s.runs.answered,
+      );
+    }
 
-pub returns-then-is_over-clause-served : goal.returns-then-is_over-clause-served
-returns-then-is_over-clause-served g c =
-    let s = c.serve_many.ensures in (
-      turns_of s.history,
-      subst (Listens g.W.Write.contents c.args.out.now c.put.new.self _ c.args.plan.connections (turns_of s.history) (g.H.Handler.over c.serve_many.new.handler)) (sym c.fail-then-is_over.ensures)
-          (inr (
-            has_listened g.W.Write.contents c.args.out.now c.put.new.self _ g.H.Handler.answers g.H.Handler.over _ _ _ c.args.handler.now c.serve_many.new.handler c.in-Ok-put.ensures.ok s,
-            sym c.is_over.ensures ∙ c.if-is_over.true,
-          )),
-      answers_of g.H.Handler.answers g.H.Handler.over c.args.handler.now s.history c.serve_many.new.handler s.runs.answered,
-    )
+pub returns-then-is_over : goal.returns-then-is_over
+returns-then-is_over g c =
+    let s = c.serve_many.ensures in record {
+      served = (
+        turns_of s.history,
+        subst (λ status. Listens g.W.Write.contents c.args.out.now c.put.new.self _ c.args.plan.connections (turns_of s.history) (g.H.Handler.over c.serve_many.new.handler) status (spoken c.failed-then-is_over.result)) (sym c.failed-then-is_over.ensures.status)
+            (inr (
+              has_listened g.W.Write.contents c.args.out.now c.put.new.self _ g.H.Handler.answers g.H.Handler.over _ _ _ c.args.handler.now c.serve_many.new.handler c.in-Ok-put.ensures.ok s,
+              sym c.is_over.ensures ∙ c.if-is_over.true,
+              c.failed-then-is_over.ensures.says,
+            )),
+        answers_of g.H.Handler.answers g.H.Handler.over c.args.handler.now s.history c.serve_many.new.handler s.runs.answered,
+      );
+    }

@@ -16,3 +16,6 @@ returns-clause-ok c =
       request = sym c.in-Some-text_of.ensures;
       files = sym found ∙ ap (λ files. Some (map (λ file. file.now) files)) (sym c.in_ok-from_slice.ensures.items);
     }
+
+pub returns-in_default-get_strs-clause-misuse : goal.returns-in_default-get_strs-clause-misuse
+returns-in_default-get_strs-clause-misuse c = sym (c.in_default-get_strs.ensures ∙ raw_values-rows (found_of c.args.options.now) (codes "file"))

@@ -5,6 +5,7 @@ use Rattle.clap.specs.Simple.{is_simple, subcommand_of, subcommand_rows_of}
 use Rattle.clap.specs.Values.{kind_of}
 use Rattle.clap.specs.declared.error.kind.ErrorKind.TheVariants.{OutOfMemory}
 use Rattle.fax_text.proofs.WordsLemmas.{fixed_of, is_free, is_plain, reads_fault, reads_misuse}
+use Rattle.fax_text.specs.Misuse.{IsMisuseOf}
 use Rattle.fax_text.specs.Words.{IsNoPlan, IsPlanOf, Reads, program}
 use Rattle.fax_text.proofs.words.read_words.Goals as goal
 
@@ -41,5 +42,6 @@ returns c =
     let fault = c.in_ok-tell-in-Err-plan_in.field-0 in
     let reads : Reads words (Err fault) = reads_misuse words c.in-Err-plan_in.misuse fault
     (ap (λ a. fault_of a words) (sym is_program) ∙ c.in-Ok.ensures.kinds (ap is_simple_and_free is_program ∙ is_free))
-    (λ other. subst IsNoPlan found (c.in-Err-plan_in.ensures.err other)) c.in_ok-tell-in-Err-plan_in.ensures in
+    (λ other. subst IsNoPlan found (c.in-Err-plan_in.ensures.err other)) (subst (λ f. IsMisuseOf f c.in-Err-plan_in.misuse) found c.in-Err-plan_in.ensures.misuse)
+    c.in_ok-tell-in-Err-plan_in.ensures in
     record { reads = reads; fixed = fixed_of words (Err fault) reads }

@@ -1,16 +1,19 @@
 use Rattle.std.proofs.Common.{refl, subst, sym}
 use Rattle.sqlite.specs.Files.{file_state}
+use Rattle.fax_ending.specs.Ending.{spoken}
 use Rattle.faxqd.specs.Command.{CarriesOut}
 use Rattle.faxqd.proofs.ListLemmas.{lists_with}
 use Rattle.faxqd.proofs.ServeLemmas.{ends_with}
 use Rattle.faxqd.proofs.command.carry_out.Goals as goal
 
-pub returns-in-Serve-clause-done : goal.returns-in-Serve-clause-done
-returns-in-Serve-clause-done g c =
-    subst (λ plan. CarriesOut g.R.Read.remaining g.W.Write.contents c.args.reader.now c.args.reader.now c.args.out.now c.serve.new.out plan c.serve.result.0) (sym c.in-Serve.is)
-    (refl, ends_with _ _ _ _ _ _ c.in-Serve.plan _ (λ queue. queue.office) (λ queue. file_state queue.store.conn) (λ queue. queue.is_shut) c.serve.result.0 c.serve.result.1 c.serve.ensures.serves)
+pub returns-in-Serve : goal.returns-in-Serve
+returns-in-Serve g c =
+    let ending = c.serve.result.0 in
+    subst (λ plan. CarriesOut g.R.Read.remaining g.W.Write.contents c.args.reader.now c.args.reader.now c.args.out.now c.serve.new.out plan ending.status (spoken ending)) (sym c.in-Serve.is)
+    (refl, ends_with _ _ _ _ _ _ c.in-Serve.plan _ (λ queue. queue.office) (λ queue. file_state queue.store.conn) (λ queue. queue.is_shut) ending.status (spoken ending) c.serve.result.1 c.serve.ensures.serves)
 
-pub returns-in-List-clause-done : goal.returns-in-List-clause-done
-returns-in-List-clause-done g c =
-    subst (λ plan. CarriesOut g.R.Read.remaining g.W.Write.contents c.args.reader.now c.args.reader.now c.args.out.now c.list.new.out plan c.list.result.0) (sym c.in-List.is)
-    (refl, lists_with _ _ _ _ c.in-List.plan (λ queue. queue.office) (λ queue. file_state queue.store.conn) c.list.result.0 c.list.result.1 c.list.ensures.lists)
+pub returns-in-List : goal.returns-in-List
+returns-in-List g c =
+    let ending = c.list.result.0 in
+    subst (λ plan. CarriesOut g.R.Read.remaining g.W.Write.contents c.args.reader.now c.args.reader.now c.args.out.now c.list.new.out plan ending.status (spoken ending)) (sym c.in-List.is)
+    (refl, lists_with _ _ _ _ c.in-List.plan (λ queue. queue.office) (λ queue. file_state queue.store.conn) ending.status (spoken ending) c.list.result.1 c.list.ensures.lists)

@@ -1,4 +1,6 @@
 use Rattle.std.proofs.Common.{Ok}
+use Rattle.fax_ending.specs.Ending.{spoken}
+use Rattle.faxqd.specs.Command.{CarriesOut}
 use Rattle.faxqd.proofs.command.run.Goals as goal
 
 pub returns-in-Ok : goal.returns-in-Ok
@@ -6,5 +8,10 @@ returns-in-Ok g c = record {
   read = Ok c.in-Ok.plan;
   reads = c.in-Ok.ensures.reads;
   fixed = c.in-Ok.ensures.fixed;
-  does = (c.carry_out.ensures.done, c.carry_out.ensures.silent);
+  does = record {
+    line = spoken c.carry_out.result;
+    done = rw c.say_at_end.ensures.status c.carry_out.ensures;
+    said = c.say_at_end.ensures.says;
+    silent = c.say_at_end.ensures.silent;
+  };
 }

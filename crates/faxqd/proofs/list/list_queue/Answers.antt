@@ -10,7 +10,7 @@ returns-then-status-ne200-clause-shown g c = (
   c.view-reply.result,
   is_seen (settings_in c.args.queue.office) c.args.moment (state g.S.Store c.args.queue.store.conn) (state g.S.Store c.view-reply.new.self.store.conn) c.view-reply.result
       c.view-reply.ensures.stays c.view-reply.ensures.clean c.view-reply.ensures.viewed,
-  rw c.fail.ensures (inl refl),
+  rw c.failed.ensures.status (inl (λ e. c.if-status-ne200.true (c.status.ensures ∙ e), refl, c.failed.ensures.says)),
 )
 
 pub returns-in-Ok-clause-shown : goal.returns-in-Ok-clause-shown
@@ -18,7 +18,11 @@ returns-in-Ok-clause-shown g c = (
   c.view-reply.result,
   is_seen (settings_in c.args.queue.office) c.args.moment (state g.S.Store c.args.queue.store.conn) (state g.S.Store c.view-reply.new.self.store.conn) c.view-reply.result
       c.view-reply.ensures.stays c.view-reply.ensures.clean c.view-reply.ensures.viewed,
-  (sym c.status.ensures ∙ c.if-status-ne200.false, subst (λ (bytes : List ℕ). Put g.W.Write.contents c.args.out.now c.put.new.self bytes false) c.body.ensures c.in-Ok.ensures.ok),
+  rw c.well.ensures.status (
+    sym c.status.ensures ∙ c.if-status-ne200.false,
+    subst (λ (bytes : List ℕ). Put g.W.Write.contents c.args.out.now c.put.new.self bytes false) c.body.ensures c.in-Ok.ensures.ok,
+    c.well.ensures.says,
+  ),
 )
 
 pub returns-clause-shown : goal.returns-clause-shown
@@ -26,5 +30,9 @@ returns-clause-shown g c = (
   c.view-reply.result,
   is_seen (settings_in c.args.queue.office) c.args.moment (state g.S.Store c.args.queue.store.conn) (state g.S.Store c.view-reply.new.self.store.conn) c.view-reply.result
       c.view-reply.ensures.stays c.view-reply.ensures.clean c.view-reply.ensures.viewed,
-  rw c.fail-in-Err.ensures (inr (subst (λ (bytes : List ℕ). BrokeOff g.W.Write.contents c.args.out.now c.put.new.self bytes) c.body.ensures c.in-Err.ensures.err)),
+  rw c.failed-in-Err.ensures.status (inr (
+    sym c.status.ensures ∙ c.if-status-ne200.false,
+    subst (λ (bytes : List ℕ). BrokeOff g.W.Write.contents c.args.out.now c.put.new.self bytes) c.body.ensures c.in-Err.ensures.err,
+    c.failed-in-Err.ensures.says,
+  )),
 )
