@@ -19,7 +19,10 @@ use Rattle.fax_http.specs.Conversation.{Turn}
 use Rattle.fax_once.proofs.SessionsLemmas.{sessions_have_one_list}
 use Rattle.fax_once.specs.Run.{Start, end_after}
 use Rattle.fax_once.specs.Sessions.{Follow, LeftBySession, Session, session_of}
-use Rattle.fax_store.proofs.AdoptLemmas.{means_rows, rows_reopened}
+use Rattle.fax_schema.specs.Schema.{AreOurs}
+use Rattle.fax_store.proofs.AdoptLemmas.{means_rows}
+use Rattle.fax_tables.proofs.TablesLemmas.{same_database}
+use Rattle.fax_tables.specs.Tables.{RowsMean}
 use Rattle.faxqd.specs.Restarts.{AreOf, HaveNone, HaveOneHistory, HaveTables, HoldStart, IsOf, LeadOn, LeadsFrom, LeavesFiles, RestartsHaveOneHistory}
 use Rattle.faxqd.specs.Serve.{HasServed, IsFoundAs, ServesHeld}
 
@@ -30,9 +33,8 @@ module _ {C : Type 0} (gives : C → List ℕ → ℕ → C → Type 0) (s : Set
   found_as : {new : _} (it : ServesHeld gives s from clock turns new) (start : Start) → HoldStart from start → IsFoundAs it.found start
   found_as it start (inr none) = inl (none.none it.found it.held it.sound, none.empty)
   found_as it start (inl have) =
-      let same = it.held.holds have.db.trees have.holds in
-      let means = rows_reopened it.found start.queue start.kept (have.db, sym same, have.means) it.sound in
-      inr (means_rows it.found start.queue start.kept means)
+      let same = same_database have.db it.found (sym (it.held.holds have.db.trees have.holds)) have.sound it.sound in
+      inr (subst (λ (db : Database). AreOurs db.schema × RowsMean db start.queue start.kept) same (have.ours, have.means))
 
   -- what a crash leaves in the files means what such a session left
   pub leaves_files : {D : Type 0} {g : Ghosts D} (conn : Held (FileStore D g)) → LeavesFiles gives s from clock turns conn
@@ -40,10 +42,11 @@ module _ {C : Type 0} (gives : C → List ℕ → ℕ → C → Type 0) (s : Set
       let served = held.served start first (found_as held start holds) in
       ∥∥₁_map (opens_again conn.store kept.numbered kept.sound left may) (λ it.
       let by = served.stopped it.0 (clean, it.1) in
-      let rows = by.2.2 in (
+      let rows = by.2.2 in
+      let means = means_rows rows.0 by.2.0.queue by.2.0.kept rows.2 in (
         session_of s served.arrivals (replies_of turns) by.0,
         record { settings = refl; arrivals = served.are; replies = refl; under_way = by.1 },
-        (by.2.0, by.2.1, record { db = rows.0; holds = subst (HoldsDatabase left) (sym rows.1) it.2; means = rows.2 }),
+        (by.2.0, by.2.1, record { db = rows.0; holds = subst (HoldsDatabase left) (sym rows.1) it.2; sound = rows.2.sound; ours = means.0; means = means.1 }),
       ))
 
 -- ---- all of them

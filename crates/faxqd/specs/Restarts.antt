@@ -17,17 +17,19 @@ use Rattle.fax_files.specs.Database.{AreHeld}
 use Rattle.fax_http.specs.Conversation.{Turn}
 use Rattle.fax_once.specs.Run.{Start}
 use Rattle.fax_once.specs.Sessions.{Follow, HaveOneList, IsSession, Session}
-use Rattle.fax_schema.specs.Schema.{no_tables}
-use Rattle.fax_tables.specs.Tables.{TablesMean}
+use Rattle.fax_schema.specs.Schema.{AreOurs, no_tables}
+use Rattle.fax_tables.specs.Tables.{RowsMean}
 use Rattle.faxqd.specs.Serve.{ServesHeld}
 
 -- ---- what files hold
 
--- a database whose tables mean this
+-- a database with a queue's tables, of either version, whose rows mean this
 pub record HaveTables (image : Image) (start : Start) : Type 0 where
   pub db : Database
   pub holds : HoldsDatabase image db.trees
-  pub means : TablesMean db start.queue start.kept
+  pub sound : IsDatabase db
+  pub ours : AreOurs db.schema
+  pub means : RowsMean db start.queue start.kept
 
 -- or nothing yet, so that the queue is the empty one: whatever an open finds in them has no tables
 pub record HaveNone (image : Image) (start : Start) : Type 0 where
