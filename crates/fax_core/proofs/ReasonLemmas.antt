@@ -1,5 +1,5 @@
 -- A refusal is met only for its reason.
-use Rattle.std.proofs.Common.{◌≡◌, ◌≢◌, ◌⊎◌, inl, inr, ℕ, ◌<◌, Bool, true, false, cond, not, ◌&&◌, ◌||◌, eqb, leb, List, [], ◌∷◌, refl, ap, subst, sym, ◌∙◌}
+use Rattle.std.proofs.Common.{◌≡◌, ◌≢◌, ◌⊎◌, inl, inr, ℕ, ◌<◌, Bool, true, false, cond, not, ◌&&◌, ◌||◌, eqb, leb, List, [], ◌∷◌, refl, ap, subst}
 use Rattle.std.proofs.lemmas.Bool.{and_parts, eq-eqb, leb-true, ltb-true}
 use Rattle.std.specs.Prelude.{Option, Some, None, Result, Ok, Err, is_some, is_none, nat_lt}
 use Rattle.fax_job.specs.declared.alter.Alter.{Alter}
@@ -18,12 +18,12 @@ use Rattle.fax_core.specs.Best.{best}
 use Rattle.fax_core.specs.Decisions.{JobAndGrant, after_call, alter, alter_in, altered, call, ended, grant, granted, is_connected, is_done, is_empty, is_over, kill, kill_in, new_job, outcome, page, page_of, resume, resume_in, submit, suspend, suspend_in}
 use Rattle.fax_core.specs.Import.{bring, brought, is_ended, old_job}
 use Rattle.fax_core.specs.Job.{Job}
-use Rattle.fax_core.specs.Machine.{act, brought_in, call_reply, changed, given, given_best, given_free, given_to, handed, held_by, is_down, marked, on_both, on_grant, on_job, outcome_reply, page_reply, reported, step, submitted, with_mark, without_job}
-use Rattle.fax_core.specs.Queue.{Queue, grant_numbered, job_numbered, open_grants}
-use Rattle.fax_core.specs.Reasons.{IsAtLimit, IsNotNext, IsOver, RefusalsHaveReasons, When, WhenCalled, WhenEnded, WhenNew, WhenNext, WhenPaged}
+use Rattle.fax_core.specs.Machine.{act, brought_in, call_reply, changed, given, given_best, given_free, given_to, handed, held_by, is_down, marked, on_both, on_grant, on_job, outcome_reply, page_reply, reported, submitted, with_mark, without_job}
+use Rattle.fax_core.specs.Queue.{Queue, grant_numbered, job_numbered}
+use Rattle.fax_core.specs.Reasons.{IsAtLimit, IsNotNext, RefusalsHaveReasons, When, WhenEnded, WhenNew, WhenNext}
 use Rattle.fax_core.specs.Reply.{Keys, Marked, NoKeys, Reply, Step, Taken, Refused}
 use Rattle.fax_core.specs.Settings.{Rule, Settings}
-use Rattle.fax_core.specs.Sound.{IsOpen, Sound}
+use Rattle.fax_core.specs.Sound.{Sound}
 use Rattle.fax_core.specs.declared.ask.Ask.{Ask}
 use Rattle.fax_core.specs.declared.ask.Ask.TheVariants.{Submission, Bring, Suspend, Resume, Kill, Alteration, Ready, Down, Next, CallReport, PageReport, OutcomeReport, GiveUp}
 use Rattle.fax_core.specs.declared.grants.Grant.{Grant}

@@ -1,10 +1,8 @@
 -- Messages that the queue answers one after the other are a run, so they are a session.
-use Rattle.std.proofs.Common.{◌≡◌, ◌∙◌, inl, inr, ℕ, List, [], ◌∷◌, ◌++◌, ap, refl, subst, sym, append_assoc}
+use Rattle.std.proofs.Common.{◌≡◌, ◌∙◌, ℕ, List, [], ◌∷◌, ◌++◌, ap, refl, subst, sym, append_assoc}
 use Rattle.std.proofs.lemmas.List.{append-nil}
 use Rattle.sqlite.specs.State.{State, HasCleanDisk}
 use Rattle.fax_ask.specs.Response.{Response}
-use Rattle.fax_core.specs.Ledger.{Ledger}
-use Rattle.fax_core.specs.Queue.{Queue}
 use Rattle.fax_core.specs.Settings.{Settings}
 use Rattle.fax_core.specs.Sound.{Sound}
 use Rattle.fax_desk.specs.Conversing.{ServesFrom}

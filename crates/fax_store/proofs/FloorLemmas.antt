@@ -21,14 +21,14 @@ use Rattle.fax_schema.specs.Schema.{our_tables, floors_tree, replies_tree}
 use Rattle.fax_schema.proofs.AppendLemmas.{appended}
 use Rattle.fax_schema.proofs.ClientTexts.{delete_floor, delete_replies, given_up_tests, insert_floor, select_floor}
 use Rattle.fax_schema.proofs.ColumnLemmas.{all_kept, kept_columns}
-use Rattle.fax_schema.proofs.CompareLemmas.{are_equal, at_most, cast_int, cast_null, equal_texts, same_row}
+use Rattle.fax_schema.proofs.CompareLemmas.{at_most, cast_int, cast_null, equal_texts, same_row}
 use Rattle.fax_schema.proofs.GrantTexts.{call_terms, call_tests}
 use Rattle.fax_schema.proofs.SelectLemmas.{passes}
 use Rattle.fax_schema.proofs.UpdateLemmas.{gone_project, deleted}
 use Rattle.fax_schema.proofs.WriteLemmas.{KeepsOthers, unreferred, inserts}
 use Rattle.fax_tables.specs.Row.{number, entry_columns, floor_columns}
 use Rattle.fax_tables.specs.Tables.{AreCounted, AreLawfulFloors, IsLawfulEntry, TablesMean}
-use Rattle.fax_tables.proofs.TablesLemmas.{AreColumns, AreFloors, Name, Parts, floors, replies, by_rowid_put, calls_of, floors_changed, means_of, parts_of, replies_changed}
+use Rattle.fax_tables.proofs.TablesLemmas.{AreColumns, AreFloors, by_rowid_put, calls_of, floors_changed, means_of, parts_of, replies_changed}
 use Rattle.fax_store.specs.Store.{FindsRow, HasRun}
 use Rattle.fax_store.proofs.CallLemmas.{beside, counted_found, is_asked, others, params, without}
 

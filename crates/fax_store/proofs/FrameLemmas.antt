@@ -1,5 +1,5 @@
 -- What calls leave, one after the other.
-use Rattle.std.proofs.Common.{◌≡◌, List, false, Ok, Err, Result, OnOk, is_err, sym, ◌∙◌}
+use Rattle.std.proofs.Common.{◌≡◌, false, Ok, Err, Result, OnOk, is_err, sym, ◌∙◌}
 use Rattle.std.proofs.lemmas.Bool.{false≢true}
 use Rattle.sqlite.specs.State.{State, HasCleanDisk}
 use Rattle.sqlite_trees.specs.declared.store.Store.{Ghosts}

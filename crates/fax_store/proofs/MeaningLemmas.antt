@@ -1,5 +1,5 @@
 -- Rows have one meaning: each record stands in one row, and each row has one record.
-use Rattle.std.proofs.Common.{◌≡◌, ℕ, zero, suc, ◌+◌, ◌≤◌, ◌==◌, pos, Bool, true, false, List, [], ◌∷◌, length, map, drop, unwrap_or, Option, Some, None, if◌then◌else◌, All, refl, sym, ap, ap₂, subst, ◌∙◌, inl, inr, arith, ℤ}
+use Rattle.std.proofs.Common.{◌≡◌, ℕ, zero, suc, ◌≤◌, ◌==◌, pos, Bool, true, false, List, [], ◌∷◌, map, drop, unwrap_or, Option, Some, None, if◌then◌else◌, All, refl, sym, ap, ap₂, subst, ◌∙◌, arith, ℤ}
 use Rattle.std.proofs.Math.Path.{fun_ext}
 use Rattle.std.proofs.lemmas.List.Elements.{All-head, All-tail}
 use Rattle.std.specs.Prelude.{nat_le}
@@ -7,14 +7,12 @@ use Rattle.sqlite.specs.Effect.{Database}
 use Rattle.sqlite.specs.Order.{Row, column}
 use Rattle.sqlite.specs.declared.types.Value.{Value}
 use Rattle.sqlite.specs.declared.types.Value.TheVariants.{Blob, Int, Text}
-use Rattle.sqlite_rules.specs.Lists.{Has}
 use Rattle.fax_job.specs.Job.{is_lawful_killtime}
 use Rattle.fax_job.specs.Name.{IsName}
 use Rattle.fax_job.specs.Pair.{Pair, ArePairs}
 use Rattle.fax_job.specs.Spelling.{printed}
 use Rattle.fax_job.specs.declared.job.Call.{Call}
 use Rattle.fax_job.specs.declared.job.Call.TheVariants.{Connected, Busy, NoAnswer, NoCarrier, Other}
-use Rattle.fax_job.specs.declared.job.JobFields.{JobFields}
 use Rattle.fax_job.specs.declared.job.Phase.{Phase}
 use Rattle.fax_job.specs.declared.job.Phase.TheVariants.{Held, Waiting, Granted, Done, Failed}
 use Rattle.fax_job.specs.declared.job.Wish.{Wish}
@@ -33,7 +31,7 @@ use Rattle.fax_tables.proofs.GrantRowLemmas.{same_grant}
 use Rattle.fax_tables.proofs.RowLemmas.{killtime_of, same_fields}
 use Rattle.fax_tables.specs.Job.{IsLawfulJob}
 use Rattle.fax_tables.specs.Row.{call_columns, call_number, down_columns, entry_columns, grant_row, job_row, meta_row, phase_number, wish_number}
-use Rattle.fax_tables.specs.Tables.{AreCounted, IsLawfulEntry, IsLawfulGrant, RowsMean, TablesMean}
+use Rattle.fax_tables.specs.Tables.{AreCounted, IsLawfulEntry, IsLawfulGrant, TablesMean}
 
 -- ---- values
 

@@ -1,5 +1,5 @@
 -- What a work shows.
-use Rattle.std.specs.Prelude.{◌≡◌, Bool, false, List, Result, MatchResult, IfErr, IsTrue}
+use Rattle.std.specs.Prelude.{◌≡◌, Bool, false, Result, MatchResult, IfErr, IsTrue}
 use Rattle.sqlite.specs.Effect.{Database}
 use Rattle.sqlite.specs.State.{State, HasCleanDisk}
 use Rattle.fax_tables.specs.declared.fault.StoreFault.{StoreFault}

@@ -1,7 +1,5 @@
-use Rattle.std.proofs.Common.{subst, ap, ◌∙◌, refl, sym}
-use Rattle.std.specs.Prelude.{◌≡◌, false, ℕ, List}
-use Rattle.sqlite.specs.Held.{state}
-use Rattle.sqlite.specs.Steps.{over_memory}
+use Rattle.std.proofs.Common.{subst, ap, ◌∙◌}
+use Rattle.std.specs.Prelude.{◌≡◌}
 use Rattle.fax_core.proofs.StepLemmas.{empty_sound}
 use Rattle.fax_desk.specs.Replaying.{empty_start, gives_said, settings_in}
 use Rattle.fax_desk.specs.Turns.{AreTurns}

@@ -1,4 +1,4 @@
-use Rattle.std.proofs.Common.{◌≤◌, OnOk, subst, rules}
+use Rattle.std.proofs.Common.{OnOk, subst, rules}
 use Rattle.sqlite.specs.Held.{state}
 use Rattle.fax_core.specs.Ledger.{without_replies}
 use Rattle.fax_schema.specs.declared.statements.TheConstants.{DELETE_REPLIES}

@@ -6,7 +6,6 @@ use Rattle.fax_store.proofs.AdoptLemmas.{none_still, told_strange}
 use Rattle.fax_store.proofs.HeldLemmas.{called_jobs, held_still}
 use Rattle.fax_store.proofs.VersionLemmas.{filled_by, kept_by, settled_means, settled_none}
 use Rattle.fax_store.proofs.WorkLemmas.{both_as, given_ok, not_strange}
-use Rattle.fax_tables.proofs.CreateLemmas.{commit_kept}
 use Rattle.fax_store.proofs.store.Store.fill.Goals as goal
 
 pub returns-in_err-test_holds-clause-strange : goal.returns-in_err-test_holds-clause-strange

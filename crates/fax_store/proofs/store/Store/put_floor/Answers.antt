@@ -1,5 +1,5 @@
 use Rattle.std.proofs.Common.{rules}
-use Rattle.std.specs.Prelude.{is_err, false}
+use Rattle.std.specs.Prelude.{is_err}
 use Rattle.sqlite.specs.Held.{state}
 use Rattle.fax_core.specs.Ledger.{without_replies}
 use Rattle.fax_store.proofs.WorkLemmas.{holds_then}

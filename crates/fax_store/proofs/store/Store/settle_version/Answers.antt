@@ -1,8 +1,8 @@
-use Rattle.std.proofs.Common.{◌≡◌, ◌≢◌, OnOk, rules, subst, []}
+use Rattle.std.proofs.Common.{◌≡◌, OnOk, rules, subst, []}
 use Rattle.sqlite.specs.Held.{state}
 use Rattle.fax_schema.specs.declared.statements.TheConstants.{UPDATE_VERSION}
 use Rattle.fax_store.specs.Store.{HasRun}
-use Rattle.fax_store.proofs.VersionLemmas.{raised_by, version_stays}
+use Rattle.fax_store.proofs.VersionLemmas.{raised_by}
 use Rattle.fax_store.proofs.StatementLemmas.{edit_text}
 use Rattle.fax_schema.proofs.StatementTexts as texts
 use Rattle.fax_store.proofs.store.Store.settle_version.Goals as goal

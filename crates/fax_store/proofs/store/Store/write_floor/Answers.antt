@@ -1,4 +1,4 @@
-use Rattle.std.proofs.Common.{◌≤◌, OnOk, subst, rules}
+use Rattle.std.proofs.Common.{OnOk, subst, rules}
 use Rattle.std.specs.Prelude.{is_err}
 use Rattle.sqlite.specs.Held.{state}
 use Rattle.fax_core.specs.Ledger.{floors_with}
@@ -8,7 +8,7 @@ use Rattle.fax_store.specs.Store.{HasRun}
 use Rattle.fax_store.proofs.CallLemmas.{params}
 use Rattle.fax_store.proofs.FloorLemmas.{floor_gone, floor_params, floor_set}
 use Rattle.fax_store.proofs.StatementLemmas.{edit_text}
-use Rattle.fax_store.proofs.WorkLemmas.{holds_then, refused_as, refused_step, two_steps}
+use Rattle.fax_store.proofs.WorkLemmas.{holds_then, refused_step, two_steps}
 use Rattle.fax_store.proofs.store.Store.write_floor.Goals as goal
 
 pub run-requires : goal.run-requires

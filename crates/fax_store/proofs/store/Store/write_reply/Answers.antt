@@ -1,4 +1,4 @@
-use Rattle.std.proofs.Common.{[], ◌∷◌, ◌++◌, OnOk, IfErr, subst, rules}
+use Rattle.std.proofs.Common.{[], ◌∷◌, OnOk, IfErr, subst, rules}
 use Rattle.sqlite.specs.Held.{state}
 use Rattle.sqlite.specs.State.{HasCleanDisk}
 use Rattle.fax_core.specs.Ledger.{with_reply}

@@ -1,7 +1,7 @@
-use Rattle.std.proofs.Common.{refl, List, [], ◌∷◌, ◌++◌, subst}
+use Rattle.std.proofs.Common.{refl, subst}
 use Rattle.sqlite.specs.Held.{state}
 use Rattle.fax_tables.specs.Kept.{entry}
-use Rattle.fax_core.specs.Ledger.{Ledger, with_reply}
+use Rattle.fax_core.specs.Ledger.{with_reply}
 use Rattle.fax_core.specs.Queue.{Queue}
 use Rattle.fax_store.specs.Work.{Works}
 use Rattle.fax_store.proofs.WorkLemmas.{moved_by}

@@ -1,4 +1,4 @@
-use Rattle.std.proofs.Common.{refl, List, subst}
+use Rattle.std.proofs.Common.{refl, subst}
 use Rattle.sqlite.specs.Held.{state}
 use Rattle.fax_core.specs.Job.{job_of}
 use Rattle.fax_core.specs.Ledger.{Ledger}

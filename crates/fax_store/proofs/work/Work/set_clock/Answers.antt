@@ -1,4 +1,4 @@
-use Rattle.std.proofs.Common.{refl, List}
+use Rattle.std.proofs.Common.{refl}
 use Rattle.sqlite.specs.Held.{state}
 use Rattle.fax_store.specs.Meta.{with_clock}
 use Rattle.fax_core.specs.Ledger.{Ledger}
