@@ -1,0 +1,93 @@
+-- What is read of meta.
+use Rattle.std.proofs.Common.{◌≡◌, inl, inr, ℕ, ℤ, pos, negsuc, List, [], ◌∷◌, map, Bool, true, ◌&&◌, Option, Some, None, Ok, Err, Result, IfOk, refl, sym, ap, ap₂, subst, ◌∙◌}
+use Rattle.std.proofs.lemmas.Bool.{and_parts}
+use Rattle.sqlite.specs.Effect.{Database}
+use Rattle.sqlite.specs.Order.{Row, column}
+use Rattle.sqlite.specs.State.{State}
+use Rattle.sqlite.specs.Tree.{rowid}
+use Rattle.sqlite.specs.declared.types.Value.{Value}
+use Rattle.sqlite.specs.declared.types.Value.TheVariants.{Int, Null}
+use Rattle.sqlite_rules.specs.Lists.{Has}
+use Rattle.sqlite_rules.proofs.ListLemmas.{all_has}
+use Rattle.sqlite_rules.proofs.TableLemmas.{int_is}
+use Rattle.sqlite_sql.specs.declared.ops.CompareOp.TheVariants.{Eq}
+use Rattle.sqlite_value.proofs.OrderLemmas.{value_cmp-Int}
+use Rattle.std.specs.Ordering.{int_cmp, is_eq}
+use Rattle.fax_schema.specs.ByRowid.{IsByRowid}
+use Rattle.fax_check.specs.Check.{AreNumbers, HasNumbers, IsOfVersion}
+use Rattle.fax_check.specs.Reading.{known_of}
+use Rattle.fax_check.specs.Sound.{IsSound, IsStored}
+use Rattle.fax_check.specs.Whole.{numbers_row}
+use Rattle.fax_check.proofs.LookLemmas.{same_some}
+use Rattle.fax_check.proofs.ShapeLemmas as shape
+use Rattle.fax_core.specs.Queue.{Queue}
+use Rattle.fax_schema.specs.Schema.{meta_tree, our_tables}
+use Rattle.fax_schema.specs.declared.statements.TheConstants.{SELECT_META}
+use Rattle.fax_schema.proofs.CompareLemmas.{are_equal, compared, same_number}
+use Rattle.fax_schema.proofs.StatementTexts.{meta_project, meta_tests, select_meta}
+use Rattle.fax_store.specs.Store.{FindsRow}
+use Rattle.fax_store.proofs.FoundLemmas.{one_passes}
+use Rattle.fax_store.proofs.MetaLemmas.{meta_found}
+use Rattle.fax_tables.specs.Fault.{OrUnavailable}
+use Rattle.fax_tables.specs.Meta.{meta_of, meta_shown, numbers_shown, with_meta}
+use Rattle.fax_tables.specs.Row.{HasValues, meta_row, number}
+use Rattle.fax_tables.specs.Tables.{IsLawfulMeta, TablesMean, versions}
+use Rattle.fax_tables.specs.declared.fault.StoreFault.{StoreFault}
+use Rattle.fax_tables.specs.declared.fault.StoreFault.TheVariants.{Strange, Unavailable}
+use Rattle.fax_tables.specs.declared.meta.Meta.{Meta}
+
+-- an integer that is equal to 1 is 1
+one_int : (n : ℤ) → are_equal (Int n) (number 1) ≡ true → n ≡ pos 1
+one_int (pos k) same = ap pos (same_number k 1 same)
+one_int (negsuc k) same =
+    let less : are_equal (Int (negsuc k)) (number 1) ≡ is_eq (int_cmp (negsuc k) (pos 1)) = compared Eq (Int (negsuc k)) (number 1) refl refl ∙ ap is_eq (value_cmp-Int (negsuc k) (pos 1)) in
+    absurd (let no = sym less ∙ same in cc)
+
+one_is : (v : Value) (n : ℤ) → v ≡ Int n → are_equal v (number 1) ≡ true → v ≡ number 1
+one_is v n is same = is ∙ ap Int (one_int n (ap (λ a. are_equal a (number 1)) (sym is) ∙ same))
+
+-- a list of one element
+alone : (rows : List Row) → map (λ r. column r 5) rows ≡ number 2 ∷ [] → (r : Row) → Has rows r → (rows ≡ r ∷ []) × (column r 5 ≡ number 2)
+alone [] is r has = absurd has
+alone (x ∷ []) is r (inl same) = (ap (λ (y : Row). y ∷ []) (sym same), ap (λ (y : Row). column y 5) same ∙ first is)
+  where
+    first : {a b : Value} {xs ys : List Value} → a ∷ xs ≡ b ∷ ys → a ≡ b
+    first h = cc
+alone (x ∷ []) is r (inr none) = absurd none
+alone (x ∷ y ∷ rows) is r has = absurd cc
+
+module _ (old new : State) (db : Database) (stored : IsStored db) (now : old.now ≡ db) (version : IsOfVersion db) where
+  -- the numbers that are read of the row that is found are those of the one row of meta
+  numbers_are : (row : Row) (meta : Meta) → FindsRow SELECT_META.now [] old new (Some row) → HasValues row 0 (numbers_shown meta) → db.trees meta_tree ≡ numbers_row meta ∷ []
+  numbers_are row meta h has =
+      let it = one_passes SELECT_META.now meta_tree meta_tests meta_project _ select_meta (λ trees. refl) [] old new db stored.schema_is now row (numbers_shown meta) h has in
+      let r = it.0 in
+      let only = alone (db.trees meta_tree) version r it.1 in
+      let id : column r 0 ≡ number 1 = one_is (rowid r) _ (int_is (rowid r) (all_has _ (db.trees meta_tree) r stored.meta_ordered.integers it.1)) (and_parts (are_equal (column r 0) (number 1)) true it.2).0 in
+      let clock : column r 2 ≡ number meta.clock = ap (λ values. column values 0) it.3 in
+      let next_job : column r 3 ≡ number meta.next_job = ap (λ values. column values 1) it.3 in
+      let next_grant : column r 4 ≡ number meta.next_grant = ap (λ values. column values 2) it.3 in
+      only.0 ∙ ap (λ (x : Row). x ∷ []) (shape.meta_columns_of db stored r it.1 ∙ rw (id, clock, next_job, next_grant, only.1) refl)
+
+  -- what is read of it, or that the rows mean no queue
+  pub numbers_known : (row : Row) (read : Result Meta StoreFault) → FindsRow SELECT_META.now [] old new (Some row)
+      → ((m : Queue) → row ≡ meta_shown m → IsLawfulMeta m → OrUnavailable read (λ meta. meta ≡ meta_of m)) → IfOk read (λ meta. HasValues row 0 (numbers_shown meta))
+      → IfOk read (λ meta. (m : Queue) → IsLawfulMeta (with_meta meta m)) → IfOk (known_of read) (AreNumbers db)
+  numbers_known row (Ok meta) h found stands lawful = record { is = numbers_are row meta h stands; lawful = lawful }
+  numbers_known row (Err Unavailable) h found stands lawful = tt
+  numbers_known row (Err Strange) h found stands lawful = λ sound.
+      let means : TablesMean old.now sound.0 sound.1 = subst (λ d. TablesMean d sound.0 sound.1) (sym now) sound.2 in
+      absurd (let no = found sound.0 (same_some (meta_found old new sound.0 sound.1 means (Some row) h)) sound.2.lawful.meta in cc)
+
+  pub no_numbers : FindsRow SELECT_META.now [] old new None → ¬ IsSound db
+  no_numbers h sound =
+      let means : TablesMean old.now sound.0 sound.1 = subst (λ d. TablesMean d sound.0 sound.1) (sym now) sound.2 in
+      absurd (let no = meta_found old new sound.0 sound.1 means None h in cc)
+
+-- a database whose rows mean a queue is of the second version
+pub other_version : (db : Database) → ¬ IsOfVersion db → ¬ IsSound db
+other_version db other sound = other (ap (map (λ (r : Row). column r 5)) sound.2.meta)
+
+-- and stored as it has to be
+pub sound_stored : (db : Database) → IsSound db → IsStored db
+sound_stored db sound = record { schema_is = sound.2.schema; sound = sound.2.sound; ordered = sound.2.ordered; meta_ordered = subst IsByRowid (sym sound.2.meta) (record { rise = (tt, tt); integers = (refl, tt) }) }

@@ -1,0 +1,363 @@
+-- Rows that are each as they have to be mean a sound queue.
+use Rattle.std.proofs.Common.{◌≡◌, ◌≢◌, inl, inr, ◌+◌, ◌<◌, ◌≤◌, ℕ, List, leb, length, map, filter, drop, Bool, true, Option, Some, None, IsTrue, refl, sym, ap, subst, ◌∙◌, arith}
+use Rattle.std.specs.Prelude.{◌==◌}
+use Rattle.std.specs.List.{range_with_len}
+use Rattle.std.specs.List.Sorted.{IsPermutation}
+use Rattle.std.specs.Str.{bytes_eq}
+use Rattle.std.proofs.lemmas.Bool.{and_parts, eqb-true, leb-true}
+use Rattle.std.proofs.lemmas.List.{length-map}
+use Rattle.std.proofs.lemmas.List.Elements.{recursion_from_All}
+use Rattle.std.proofs.lemmas.List.Sorted.{IsPermutation-map, IsPermutation-trans, length_permutation}
+use Rattle.std.proofs.lemmas.Slice.Eq.{bytes_eq-Decides}
+use Rattle.sqlite.specs.Effect.{Database}
+use Rattle.sqlite.specs.Order.{Row}
+use Rattle.sqlite.specs.Tree.{IsTable}
+use Rattle.sqlite_rules.specs.Lists.{Has}
+use Rattle.sqlite_rules.proofs.ListLemmas.{all_from, all_has, has_filtered, has_found, has_kept}
+use Rattle.sqlite_rules.proofs.ProbeLemmas.{mapped_has}
+use Rattle.sqlite_trees.proofs.ListLemmas.{IsPermutation-filter, ascending-filter, ascending-map, ascending_weaker, filter-map, filter_same, map-map}
+use Rattle.fax_check.specs.Sound.{IsSound, IsStored}
+use Rattle.fax_check.specs.Whole.{AreWhole, Holder, IsHeld, IsRightHolder, Stands, dialing, holder_columns}
+use Rattle.fax_check.proofs.FieldLemmas.{dial_of as dialed_by, fit_of, number_of, numbers, one_grant, same_holder}
+use Rattle.fax_check.proofs.FloorLemmas.{IsLawfulFloor, columns_of, floor_in, floors_counted, floors_lawful}
+use Rattle.fax_check.proofs.HeldLemmas.{held_apart, one_of_job, one_of_modem}
+use Rattle.fax_check.proofs.MadeLemmas.{AreApart, Made, all_each, made, made_columns, numbered, one_there, rising, same_elements, some_length}
+use Rattle.fax_check.proofs.OnceLemmas.{clients_once}
+use Rattle.fax_core.specs.Fits.{fits}
+use Rattle.fax_core.specs.Job.{Job, fields_of, job_of}
+use Rattle.fax_core.specs.Ledger.{Ledger}
+use Rattle.fax_core.specs.Machine.{dial_of}
+use Rattle.fax_core.specs.Queue.{Queue, grant_numbered, job_numbered, open_grants}
+use Rattle.fax_core.specs.Sound.{Fits, FitsFree, IsJob, IsOpen, Sound}
+use Rattle.fax_core.specs.State.{calls_to, is_of_number}
+use Rattle.fax_core.specs.declared.grants.Grant.{Grant}
+use Rattle.fax_core.proofs.FitsLemmas.{fits_decides, record_again}
+use Rattle.fax_core.proofs.RecordLemmas.{within_limits_of}
+use Rattle.fax_job.specs.Limits.{last_job}
+use Rattle.fax_job.specs.Name.{IsName}
+use Rattle.fax_job.specs.declared.job.JobFields.{JobFields}
+use Rattle.fax_schema.specs.Schema.{calls_tree, down_tree, floors_tree, grants_tree, holds_tree, jobs_tree, replies_tree}
+use Rattle.fax_schema.proofs.EditLemmas.{has_mapped}
+use Rattle.fax_tables.specs.Job.{IsLawfulJob}
+use Rattle.fax_tables.specs.Row.{number, job_row, grant_row, hold_columns, down_columns, entry_columns, call_columns}
+use Rattle.fax_tables.specs.Tables.{AreCounted, HaveJobs, IsLawfulEntry, IsLawfulGrant, TablesMean}
+use Rattle.fax_tables.specs.declared.meta.Meta.{Meta}
+use Rattle.fax_tables.proofs.KeyLemmas.{only_numbered}
+use Rattle.fax_tables.proofs.TablesLemmas.{counted_as, row_of}
+
+-- what a holder has in a queue that is made of jobs: its open grant, and the job, whose number it dials, which fits that grant
+record Its (m : Queue) (fs : List JobFields) (h : Holder) : Type 0 where
+  grant : Grant
+  has_grant : Has m.grants grant
+  number_is : grant.number ≡ h.grant
+  modem_is : grant.modem ≡ h.modem
+  job_is : grant.job ≡ h.job
+  is_open : grant.is_open ≡ true
+  job : JobFields
+  has_job : Has fs job
+  its_number : job.job ≡ h.job
+  dials : job.dial ≡ h.dial
+  fit : fits job (Some grant) ≡ true
+
+module _ (db : Database) (meta : Meta) (held : List Holder) (stored : IsStored db) (whole : AreWhole db meta held) where
+  -- ---- the queue
+
+  abbrev IsJobOf : JobFields → Type 0
+  IsJobOf f = IsLawfulJob (job_of f) × (f.job < meta.next_job) × Stands held f
+
+  jobs_made : Made job_row IsJobOf (db.trees jobs_tree)
+  jobs_made = made job_row IsJobOf (db.trees jobs_tree) (λ r has. let it = whole.jobs r has in (it.job, it.is, (it.lawful, it.before, it.stands)))
+
+  abbrev IsGrantOf : Grant → Type 0
+  IsGrantOf g = IsLawfulGrant g × (g.number < meta.next_grant) × (IsTrue g.is_open → IsHeld held g)
+
+  grants_made : Made grant_row IsGrantOf (db.trees grants_tree)
+  grants_made = made grant_row IsGrantOf (db.trees grants_tree) (λ r has. let it = whole.grants r has in (it.grant, it.is, (it.lawful, it.before, it.is_held)))
+
+  down_made : Made down_columns IsName (map (drop 1) (db.trees down_tree))
+  down_made = made_columns down_columns IsName (db.trees down_tree) whole.down
+
+  replies_made : Made entry_columns IsLawfulEntry (map (drop 1) (db.trees replies_tree))
+  replies_made = made_columns entry_columns IsLawfulEntry (db.trees replies_tree) whole.replies
+
+  floors_made : Made columns_of IsLawfulFloor (map (drop 1) (db.trees floors_tree))
+  floors_made = made_columns columns_of IsLawfulFloor (db.trees floors_tree) (λ r has.
+      let it = whole.floors r has in
+      (record { client = it.0; upto = it.1 }, it.2, record { name = it.3; some = it.4; low = it.5 }))
+
+  abbrev queue : Queue
+  queue = record { jobs = map job_of jobs_made.of; grants = grants_made.of; down = down_made.of; clock = meta.clock; next_job = meta.next_job; next_grant = meta.next_grant }
+
+  abbrev ledger : Ledger
+  ledger = record { replies = replies_made.of; floor = floor_in floors_made.of }
+
+  -- the grants that are open
+  abbrev opened : List Grant
+  opened = open_grants queue
+
+  -- ---- its jobs and grants
+
+  -- each record is that of its job
+  again : map (λ (f : JobFields). row_of (job_of f)) jobs_made.of ≡ map job_row jobs_made.of
+  again = λ i. map (λ (f : JobFields). job_row (record_again f i)) jobs_made.of
+
+  jobs_are : db.trees jobs_tree ≡ map row_of queue.jobs
+  jobs_are = jobs_made.is ∙ sym (map-map row_of job_of jobs_made.of ∙ again)
+
+  jobs_rise : IsTable (map row_of queue.jobs)
+  jobs_rise = subst IsTable jobs_are stored.ordered.jobs.rise
+
+  grants_rise : IsTable (map grant_row queue.grants)
+  grants_rise = subst IsTable grants_made.is stored.ordered.grants.rise
+
+  -- a job is found by its number
+  job_found : (f : JobFields) → Has jobs_made.of f → job_numbered f.job queue ≡ Some (job_of f)
+  job_found f has = only_numbered row_of (λ (j : Job). j.number) (λ j. refl) queue.jobs (job_of f) jobs_rise (mapped_has job_of jobs_made.of f has)
+
+  -- so is a grant
+  grant_found : (g : Grant) → Has queue.grants g → grant_numbered g.number queue ≡ Some g
+  grant_found g has = only_numbered grant_row (λ (x : Grant). x.number) (λ x. refl) queue.grants g grants_rise has
+
+  -- there are as many jobs as there are rows
+  jobs_long : length (db.trees jobs_tree) ≡ length queue.jobs
+  jobs_long = ap length jobs_are ∙ length-map queue.jobs row_of
+
+  grants_long : length (db.trees grants_tree) ≡ length queue.grants
+  grants_long = ap length grants_made.is ∙ length-map queue.grants grant_row
+
+  -- jobs are numbered from 1
+  jobs_numbered : map (λ (j : Job). j.number) queue.jobs ≡ range_with_len 1 (length queue.jobs)
+  jobs_numbered = numbered (λ (j : Job). j.number) 1 queue.jobs (rising row_of (λ (j : Job). j.number) (λ j. refl) queue.jobs jobs_rise) within
+    where
+      within : (j : Job) → Has queue.jobs j → (1 ≤ j.number) × (j.number < length queue.jobs + 1)
+      within j has =
+          let f = has_mapped job_of jobs_made.of j has in
+          let it = jobs_made.each f.0 f.1 in
+          let least : 1 ≤ (f.0).job = leb-true 1 (f.0).job (and_parts (leb 1 (f.0).job) (leb (f.0).job last_job) (within_limits_of (fields_of (job_of f.0)) it.0.limits).number).0 in
+          let same : j.number ≡ (f.0).job = ap (λ (x : Job). x.number) f.2 in
+          let before : (f.0).job < meta.next_job = it.1 in
+          (omega (arith, least, same), omega (arith, before, same, whole.all_jobs, jobs_long))
+
+  -- so are grants
+  grants_numbered : map (λ (g : Grant). g.number) queue.grants ≡ range_with_len 1 (length queue.grants)
+  grants_numbered = numbered (λ (g : Grant). g.number) 1 queue.grants (rising grant_row (λ (g : Grant). g.number) (λ g. refl) queue.grants grants_rise) within
+    where
+      within : (g : Grant) → Has queue.grants g → (1 ≤ g.number) × (g.number < length queue.grants + 1)
+      within g has =
+          let it = grants_made.each g has in
+          let before : g.number < meta.next_grant = it.1 in
+          (it.0.limits.number.0, omega (arith, before, whole.all_grants, grants_long))
+
+  -- ---- holders
+
+  -- a holder has an open grant and a job
+  its : (h : Holder) → Has held h → Its queue jobs_made.of h
+  its h has =
+      let it : IsRightHolder db h = all_has (IsRightHolder db) held h (recursion_from_All (IsRightHolder db) held whole.right) has in
+      let g = has_mapped grant_row grants_made.of (grant_row it.grant) (subst (λ rows. Has rows (grant_row it.grant)) grants_made.is it.has_grant) in
+      let f = has_mapped job_row jobs_made.of (job_row it.job) (subst (λ rows. Has rows (job_row it.job)) jobs_made.is it.has_job) in
+      record {
+        grant = it.grant;
+        has_grant = subst (Has queue.grants) (sym (one_grant it.grant g.0 g.2)) g.1;
+        number_is = it.number_is;
+        modem_is = it.modem_is;
+        job_is = it.job_is;
+        is_open = it.is_open;
+        job = f.0;
+        has_job = f.1;
+        its_number = number_of f.0 it.job (sym f.2) ∙ it.its_number;
+        dials = dialed_by f.0 it.job (sym f.2) ∙ it.dials;
+        fit = fit_of f.0 it.job (sym f.2) it.grant it.fit;
+      }
+
+  -- an open grant is held
+  held_by : (g : Grant) → Has opened g → IsHeld held g
+  held_by g has = let it = has_filtered (λ (x : Grant). x.is_open) queue.grants g has in (grants_made.each g it.0).2 it.1
+
+  -- a grant that is found open is one of those
+  open_has : (n : ℕ) (g : Grant) → IsOpen queue n g → Has opened g × (g.number ≡ n)
+  open_has n g it =
+      let there = has_found (λ (x : Grant). x.number == n) queue.grants g it.0 in
+      (has_kept (λ (x : Grant). x.is_open) queue.grants g there.0 it.1, eqb-true g.number n there.1)
+
+  -- ---- open grants and holders are the same
+
+  -- what holds a grant
+  abbrev holder_of : Grant → Holder
+  holder_of g = record { modem = g.modem; job = g.job; grant = g.number; dial = dial_of (job_numbered g.job queue) }
+
+  -- the job of a held grant is there
+  job_of_held : (g : Grant) (h : Holder) → Has held h → g.job ≡ h.job → (f : JobFields) × (job_numbered g.job queue ≡ Some (job_of f)) × (f.dial ≡ h.dial)
+  job_of_held g h has job = let it = its h has in (it.job, ap (λ n. job_numbered n queue) (job ∙ sym it.its_number) ∙ job_found it.job it.has_job, it.dials)
+
+  is_holder : (g : Grant) (h : Holder) → Has held h → g.modem ≡ h.modem → g.job ≡ h.job → g.number ≡ h.grant → holder_of g ≡ h
+  is_holder g h has modem job grant = let f = job_of_held g h has job in same_holder h g.modem g.job g.number (dial_of (job_numbered g.job queue)) modem job grant (ap dial_of f.1 ∙ f.2)
+
+  -- each open grant has its job
+  has_its_job : (g : Grant) → Has opened g → (f : JobFields) × (job_numbered g.job queue ≡ Some (job_of f))
+  has_its_job g has = let h = held_by g has in let f = job_of_held g h.0 h.1 (sym h.3) in (f.0, f.1)
+
+  -- no grant is held twice
+  grants_apart : AreApart (map holder_of opened)
+  grants_apart =
+      ascending-map (λ a b. a ≢ b) holder_of opened
+      (ascending_weaker (λ (x y : Grant). x.number < y.number) (λ x y. holder_of x ≢ holder_of y)
+      (λ x y low same. let e : x.number ≡ y.number = ap (λ (h : Holder). h.grant) same in omega (arith, low, e)) opened
+      (ascending-filter (λ (x y : Grant). x.number < y.number) (λ (g : Grant). g.is_open) queue.grants (rising grant_row (λ (g : Grant). g.number) (λ g. refl) queue.grants grants_rise)))
+
+  -- the open grants are held by the holders, and these hold no other
+  same_held : IsPermutation (map holder_of opened) held
+  same_held = same_elements (map holder_of opened) held grants_apart (held_apart db stored held whole.holders) to back
+    where
+      to : (h : Holder) → Has (map holder_of opened) h → Has held h
+      to h has =
+          let g = has_mapped holder_of opened h has in
+          let x = held_by g.0 g.1 in
+          subst (Has held) (sym (g.2 ∙ is_holder g.0 x.0 x.1 (sym x.2) (sym x.3) (sym x.4))) x.1
+
+      back : (h : Holder) → Has held h → Has (map holder_of opened) h
+      back h has =
+          let it = its h has in
+          let there = has_kept (λ (x : Grant). x.is_open) queue.grants it.grant it.has_grant it.is_open in
+          subst (Has (map holder_of opened)) (is_holder it.grant h has it.modem_is it.job_is it.number_is) (mapped_has holder_of opened it.grant there)
+
+  -- so the rows of holds are the open grants, in any order
+  holds_are : IsPermutation (map hold_columns opened) (map (drop 1) (db.trees holds_tree))
+  holds_are =
+      IsPermutation-trans (map hold_columns opened) (map holder_columns held) (map (drop 1) (db.trees holds_tree))
+      (subst (λ columns. IsPermutation columns (map holder_columns held)) (map-map holder_columns holder_of opened)
+      (IsPermutation-map holder_columns (map holder_of opened) held same_held))
+      whole.holders
+
+  -- ---- calls
+
+  module _ (dial : List ℕ) where
+    abbrev dials_it : Holder → Bool
+    dials_it h = bytes_eq h.dial dial
+
+    -- a grant is of a job to the number just where its holder dials it
+    of_number : (g : Grant) → Has opened g → dials_it (holder_of g) ≡ is_of_number dial (job_numbered g.job queue)
+    of_number g has = let f = has_its_job g has in ap (λ o. bytes_eq (dial_of o) dial) f.1 ∙ sym (ap (is_of_number dial) f.1)
+
+    -- as many holders dial a number as grants are open to it
+    calls_are : dialing dial held ≡ calls_to dial queue
+    calls_are =
+        length_permutation (filter dials_it (map holder_of opened)) (filter dials_it held) (IsPermutation-filter dials_it (map holder_of opened) held same_held)
+        ∙ ap length (filter-map dials_it holder_of opened) ∙ length-map (filter (λ g. dials_it (holder_of g)) opened) holder_of
+        ∙ ap length (filter_same (λ g. dials_it (holder_of g)) (λ g. is_of_number dial (job_numbered g.job queue)) opened
+        (all_from (λ g. dials_it (holder_of g) ≡ is_of_number dial (job_numbered g.job queue)) opened of_number))
+
+  -- each number that a holder dials stands in a row of calls
+  abbrev IsCalled : Holder → Type 0
+  IsCalled h = (row : Row) × Has (db.trees calls_tree) row × (drop 1 row ≡ call_columns h.dial (dialing h.dial held))
+
+  dialed : AreCounted (λ dial. dialing dial held) (map (drop 1) (db.trees calls_tree))
+  dialed = record {
+    each = λ row has.
+        let r = has_mapped (drop 1) (db.trees calls_tree) row has in
+        let it = whole.calls r.0 r.1 in
+        ((it.0).dial, r.2 ∙ it.2, some_length (filter (dials_it (it.0).dial) held) it.0 (has_kept (dials_it (it.0).dial) held it.0 it.1 ((bytes_eq-Decides (it.0).dial (it.0).dial).1 refl)));
+    all = λ dial some.
+        let x = one_there (filter (dials_it dial) held) some in
+        let h = has_filtered (dials_it dial) held x.0 x.1 in
+        let it = all_has IsCalled held x.0 (recursion_from_All IsCalled held whole.called) h.0 in
+        subst (λ d. Has (map (drop 1) (db.trees calls_tree)) (call_columns d (dialing d held))) ((bytes_eq-Decides (x.0).dial dial).0 h.1)
+        (subst (Has (map (drop 1) (db.trees calls_tree))) it.2 (mapped_has (drop 1) (db.trees calls_tree) it.0 it.1));
+  }
+
+  -- ---- what the tables mean
+
+  have_jobs : HaveJobs queue
+  have_jobs g has = let f = has_its_job g has in (job_of f.0, f.1)
+
+  lawful_job : (j : Job) → Has queue.jobs j → IsLawfulJob j
+  lawful_job j has = let f = has_mapped job_of jobs_made.of j has in subst IsLawfulJob (sym f.2) (jobs_made.each f.0 f.1).0
+
+  tables_mean : TablesMean db queue ledger
+  tables_mean = record {
+    schema = stored.schema_is;
+    sound = stored.sound;
+    jobs = jobs_are;
+    grants = grants_made.is;
+    holds = holds_are;
+    down = down_made.is;
+    replies = replies_made.is;
+    floors = floors_counted (db.trees floors_tree) stored.ordered.floors (clients_once db stored.schema_is stored.sound) floors_made.of floors_made.is floors_made.each;
+    meta = whole.meta_is;
+    held = have_jobs;
+    calls = counted_as (λ dial. dialing dial held) (λ dial. calls_to dial queue) (map (drop 1) (db.trees calls_tree)) calls_are dialed;
+    ordered = stored.ordered;
+    lawful = record {
+      jobs = all_each IsLawfulJob queue.jobs lawful_job;
+      grants = all_each IsLawfulGrant queue.grants (λ g has. (grants_made.each g has).0);
+      down = all_each IsName queue.down down_made.each;
+      replies = all_each IsLawfulEntry ledger.replies replies_made.each;
+      meta = whole.numbers queue;
+      floors = floors_lawful (db.trees floors_tree) stored.ordered.floors (clients_once db stored.schema_is stored.sound) floors_made.of floors_made.is floors_made.each;
+    };
+  }
+
+  -- ---- that the queue is sound
+
+  -- open grants of one modem are one
+  one_to_a_modem : (a b : ℕ) (g h : Grant) → IsOpen queue a g → IsOpen queue b h → g.modem ≡ h.modem → a ≡ b
+  one_to_a_modem a b g h is_g is_h same =
+      let of_g = open_has a g is_g in
+      let of_h = open_has b h is_h in
+      let x = held_by g of_g.0 in
+      let y = held_by h of_h.0 in
+      sym of_g.1 ∙ sym x.4 ∙ one_of_modem db stored held whole.holders x.0 y.0 x.1 y.1 (x.2 ∙ same ∙ sym y.2) ∙ y.4 ∙ of_h.1
+
+  -- so are those of one job
+  one_of_a_job : (a b : ℕ) (g h : Grant) → IsOpen queue a g → IsOpen queue b h → g.job ≡ h.job → a ≡ b
+  one_of_a_job a b g h is_g is_h same =
+      let of_g = open_has a g is_g in
+      let of_h = open_has b h is_h in
+      let x = held_by g of_g.0 in
+      let y = held_by h of_h.0 in
+      sym of_g.1 ∙ sym x.4 ∙ one_of_job db stored held whole.holders x.0 y.0 x.1 y.1 (x.3 ∙ same ∙ sym y.3) ∙ y.4 ∙ of_h.1
+
+  same_some : {A : Type 0} (a b : A) → ◌≡◌ {A = Option A} (Some a) (Some b) → a ≡ b
+  same_some a b e = cc
+
+  -- an open grant fits its job
+  held_fits : (a : ℕ) (g : Grant) → IsOpen queue a g → (j : Job) × IsJob queue g.job j × Fits j (Some g)
+  held_fits a g is =
+      let of_g = open_has a g is in
+      let x = held_by g of_g.0 in
+      let it = its x.0 x.1 in
+      let there = has_filtered (λ (y : Grant). y.is_open) queue.grants g of_g.0 in
+      let same : it.grant ≡ g =
+      same_some it.grant g (sym (grant_found it.grant it.has_grant) ∙ ap (λ n. grant_numbered n queue) (it.number_is ∙ x.4) ∙ grant_found g there.0) in
+      let found : job_numbered g.job queue ≡ Some (job_of it.job) = ap (λ n. job_numbered n queue) (sym x.3 ∙ sym it.its_number) ∙ job_found it.job it.has_job in
+      (job_of it.job, found, (fits_decides it.job (Some g)).0 (subst (λ (y : Grant). fits it.job (Some y) ≡ true) same it.fit))
+
+  -- a job that no open grant has fits alone
+  free_fits : (n : ℕ) (j : Job) → IsJob queue n j → ((a : ℕ) (g : Grant) → IsOpen queue a g → g.job ≢ n) → Fits j None
+  free_fits n j is none =
+      let there = has_found (λ (x : Job). x.number == n) queue.jobs j is in
+      let f = has_mapped job_of jobs_made.of j there.0 in
+      let of : (f.0).job ≡ n = sym (ap (λ (x : Job). x.number) f.2) ∙ eqb-true j.number n there.1 in
+      subst FitsFree (sym f.2) (alone f.0 of (jobs_made.each f.0 f.1).2)
+    where
+      alone : (f : JobFields) → f.job ≡ n → Stands held f → FitsFree (job_of f)
+      alone f of (inl granted) =
+          let h = granted.1 in
+          let it = its h.0 h.1 in
+          absurd (none (it.grant).number it.grant (grant_found it.grant it.has_grant, it.is_open) (it.job_is ∙ h.2 ∙ of))
+      alone f of (inr fit) = (fits_decides f None).0 fit
+
+  queue_sound : Sound queue
+  queue_sound = record {
+    jobs = jobs_numbered;
+    next_job = sym whole.all_jobs ∙ ap (λ n. n + 1) jobs_long;
+    grants = grants_numbered;
+    next_grant = sym whole.all_grants ∙ ap (λ n. n + 1) grants_long;
+    one_to_a_modem = one_to_a_modem;
+    one_of_a_job = one_of_a_job;
+    held = held_fits;
+    free = free_fits;
+  }
+
+  pub rows_are_sound : IsSound db
+  rows_are_sound = (queue, ledger, tables_mean, queue_sound)

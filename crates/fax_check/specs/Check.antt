@@ -1,0 +1,92 @@
+-- What a check decides.
+use Rattle.std.specs.Prelude.{◌≡◌, ℕ, ℤ, ◌+◌, ◌==◌, Bool, true, List, [], ◌∷◌, All, codes, Option, Some, None, drop, map, if◌then◌else◌}
+use Rattle.std.specs.List.Sorted.{IsPermutation}
+use Rattle.sqlite.specs.Effect.{Database}
+use Rattle.sqlite.specs.Order.{Row}
+use Rattle.sqlite_rules.specs.Lists.{Has}
+use Rattle.fax_core.specs.Queue.{Queue}
+use Rattle.fax_check.specs.Sound.{IsSound}
+use Rattle.fax_check.specs.Table.{IsWholeTable}
+use Rattle.fax_check.specs.Whole.{Holder, IsRightHolder, dialing, holder_columns, numbers_row}
+use Rattle.fax_check.specs.declared.pass.Tally.{Tally}
+use Rattle.fax_check.specs.declared.tables.Flaw.{Flaw}
+use Rattle.fax_check.specs.declared.tables.Table.{Table}
+use Rattle.fax_check.specs.declared.tables.Table.TheVariants.{Calls, Down, Floors, Grants, Holds, Jobs, Meta as TheMeta, Replies}
+use Rattle.fax_schema.specs.Schema.{calls_tree, holds_tree, meta_tree}
+use Rattle.fax_tables.specs.Meta.{with_meta}
+use Rattle.fax_tables.specs.Row.{call_columns, number}
+use Rattle.fax_tables.specs.Tables.{IsLawfulMeta, versions}
+use Rattle.fax_tables.specs.declared.meta.Meta.{Meta}
+
+-- the name of a table
+abbrev pub table_name : Table → List ℕ
+table_name Jobs = codes "jobs"
+table_name Grants = codes "grants"
+table_name Holds = codes "holds"
+table_name Down = codes "down"
+table_name Replies = codes "replies"
+table_name Floors = codes "floors"
+table_name Calls = codes "calls"
+table_name TheMeta = codes "meta"
+
+-- this holds where no flaw is told, and doesn't where one is
+abbrev pub Told : Type 0 → Option Flaw → Type 0
+Told P None = P
+Told P (Some flaw) = ¬ P
+
+-- whether the rows mean a sound queue
+abbrev pub IsChecked : Database → Option Flaw → Type 0
+IsChecked db found = Told (IsSound db) found
+
+-- the one row of meta has these lawful numbers
+pub record HasNumbers (db : Database) (meta : Meta) : Type 0 where
+  pub is : db.trees meta_tree ≡ numbers_row meta ∷ []
+  pub lawful : (m : Queue) → IsLawfulMeta (with_meta meta m)
+
+abbrev pub AreNumbers : Database → Option Meta → Type 0
+AreNumbers db (Some meta) = HasNumbers db meta
+AreNumbers db None = ¬ IsSound db
+
+-- meta has one row, of the second version
+abbrev pub IsOfVersion : Database → Type 0
+IsOfVersion db = versions db ≡ number 2 ∷ []
+
+-- the rows of holds have these holders, in any order, and each is right
+pub record HasHolders (db : Database) (held : List Holder) : Type 0 where
+  pub holders : IsPermutation (map holder_columns held) (map (drop 1) (db.trees holds_tree))
+  pub right : All (IsRightHolder db) held
+
+-- the number that a holder dials is counted
+abbrev pub IsCalled : Database → List Holder → Holder → Type 0
+IsCalled db held h = (row : Row) × Has (db.trees calls_tree) row × (drop 1 row ≡ call_columns h.dial (dialing h.dial held))
+
+abbrev pub AreCalled : Database → List Holder → Type 0
+AreCalled db held = All (IsCalled db held) held
+
+-- ---- the tables that are read a row at a time
+
+-- there are as many jobs, or grants, as have been numbered
+abbrev pub are_all : Table → Meta → ℕ → Bool
+are_all Jobs meta rows = rows + 1 == meta.next_job
+are_all Grants meta rows = rows + 1 == meta.next_grant
+are_all _ meta rows = true
+
+-- what a tally says of its table
+abbrev pub flaw_in : Table → Bool → Option ℤ → Option Flaw
+flaw_in table whole (Some row) = Some (record { table = table; row = Some row })
+flaw_in table whole None = if whole then None else Some (record { table = table; row = None })
+
+abbrev pub flaw_of : Table → Meta → Tally → Option Flaw
+flaw_of table meta tally = flaw_in table (are_all table meta tally.rows) tally.flaw
+
+-- whether it is whole
+abbrev pub IsTableChecked : Meta → List Holder → Table → Database → Option Flaw → Type 0
+IsTableChecked meta held table db found = Told (IsWholeTable meta held db table) found
+
+-- in this order
+abbrev pub passed : List Table
+passed = Grants ∷ Jobs ∷ Down ∷ Replies ∷ Floors ∷ Calls ∷ []
+
+-- whether all of these are
+abbrev pub AreTablesChecked : Meta → List Holder → Database → Option Flaw → Type 0
+AreTablesChecked meta held db found = Told (All (IsWholeTable meta held db) passed) found

@@ -1,0 +1,53 @@
+-- What a pass over the rows of a table finds.
+use Rattle.std.specs.Prelude.{◌≡◌, ℕ, List, [], ◌∷◌, ◌++◌, All, MatchOption, IfErr, IfOk, OnOk, OnErr, Result, length}
+use Rattle.sqlite.specs.Effect.{Database}
+use Rattle.sqlite.specs.Given.{HasGiven}
+use Rattle.sqlite.specs.Held.{Held, state}
+use Rattle.sqlite.specs.Order.{Row}
+use Rattle.sqlite.specs.State.{HasCleanDisk, IsUnchanged, Shown}
+use Rattle.sqlite_trees.specs.declared.store.Store.{Ghosts}
+use Rattle.fax_check.specs.declared.pass.Step.{Step}
+use Rattle.fax_check.specs.declared.pass.Step.TheVariants.{End, Right, Wrong}
+use Rattle.fax_check.specs.declared.pass.Tally.{Tally}
+use Rattle.fax_check.specs.declared.tables.Table.{Table}
+use Rattle.fax_check.specs.declared.tables.Table.TheVariants.{Calls, Down, Floors, Grants, Holds, Jobs, Meta as TheMeta, Replies}
+use Rattle.fax_check.specs.declared.statements.TheConstants.{SELECT_ALL_CALLS, SELECT_ALL_DOWN, SELECT_ALL_FLOORS, SELECT_ALL_GRANTS, SELECT_ALL_HOLDS, SELECT_ALL_JOBS, SELECT_ALL_REPLIES}
+use Rattle.fax_schema.specs.declared.statements.TheConstants.{SELECT_META}
+use Rattle.fax_store.specs.Store.{CommitsNothing, LeavesCommit}
+use Rattle.fax_tables.specs.declared.fault.StoreFault.{StoreFault}
+use Rattle.fax_tables.specs.declared.fault.StoreFault.TheVariants.{Unavailable}
+
+-- the query for all rows of a table
+abbrev pub text_of : Table → List ℕ
+text_of Jobs = SELECT_ALL_JOBS.now
+text_of Grants = SELECT_ALL_GRANTS.now
+text_of Holds = SELECT_ALL_HOLDS.now
+text_of Down = SELECT_ALL_DOWN.now
+text_of Replies = SELECT_ALL_REPLIES.now
+text_of Floors = SELECT_ALL_FLOORS.now
+text_of Calls = SELECT_ALL_CALLS.now
+text_of TheMeta = SELECT_META.now
+
+-- so many rows were read, and each is as it has to be, or one isn't
+pub record IsTally (P : Row → Type 0) (rows : List Row) (tally : Tally) : Type 0 where
+  pub count : tally.rows ≡ length rows
+  pub flaw : MatchOption tally.flaw (All P rows) (λ _. ¬ All P rows)
+
+-- a query has shown these rows of the database
+abbrev pub AreRead : {S : Type 0} → Ghosts S → List ℕ → Database → Held S → List Row → Type 0
+AreRead {S} g sql db new rows = (mid : Held S) × ((state g mid).now ≡ db) × Shown sql [] (state g mid) (state g new) rows
+
+module _ {S : Type 0} (g : Ghosts S) (P : Row → Type 0) where
+  -- no row is left of the query, or the next one is as it has to be, or isn't
+  abbrev pub IsStep : List ℕ → List Row → Held S → Held S → Step → Type 0
+  IsStep sql given old new End = Shown sql [] (state g old) (state g new) given
+  IsStep sql given old new Right = (row : Row) × HasGiven g sql [] new (given ++ row ∷ []) × P row
+  IsStep sql given old new (Wrong id) = (row : Row) × HasGiven g sql [] new (given ++ row ∷ []) × ¬ P row
+
+-- what goes on with a query under way leaves all as it is, or what was committed where it is refused
+pub record GoesOn {S A : Type 0} (g : Ghosts S) (old new : Held S) (result : Result A StoreFault) : Type 0 where
+  pub clean : HasCleanDisk (state g new) → HasCleanDisk (state g old)
+  pub same : HasCleanDisk (state g new) → OnOk result (IsUnchanged (state g old) (state g new))
+  pub left : HasCleanDisk (state g new) → OnErr result (LeavesCommit (state g old) (state g new))
+  pub crash : CommitsNothing (state g old) (state g new)
+  pub cause : IfErr result (λ fault. fault ≡ Unavailable)

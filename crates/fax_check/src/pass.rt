@@ -1,0 +1,135 @@
+//! A pass over the rows of a table, one at a time.
+
+ghost use Rattle.std.specs.Prelude.{◌≡◌, ℕ, List, [], IfOk};
+ghost use Rattle.sqlite.specs.Given.{HasGiven};
+ghost use Rattle.sqlite.specs.Held.{state};
+ghost use Rattle.sqlite.specs.Order.{Row as Values};
+ghost use Rattle.sqlite.specs.State.{HasCleanDisk};
+ghost use Rattle.fax_check.specs.Pass.{AreRead, GoesOn, IsStep, IsTally, text_of};
+ghost use Rattle.fax_check.specs.Reading.{Tells};
+ghost use Rattle.fax_check.specs.Table.{Shows};
+
+use crate::holders::Holder;
+use crate::rows::shows;
+use crate::tables::Table;
+use crate::statements::{SELECT_ALL_CALLS, SELECT_ALL_DOWN, SELECT_ALL_FLOORS, SELECT_ALL_GRANTS, SELECT_ALL_HOLDS, SELECT_ALL_JOBS, SELECT_ALL_REPLIES};
+use fax_schema::statements::{SELECT_META};
+use fax_tables::{Meta, StoreFault};
+use sqlite::types::ValueRef;
+use sqlite::{Alter, Connection, Row, Rows};
+use std::alloc::Global;
+
+/// What was found in a table's rows.
+#[derive(Clone, Copy, Debug)]
+pub(crate) struct Tally {
+    /// How many there are.
+    pub(crate) rows: u64,
+    /// The rowid of the first that isn't as it has to be.
+    pub(crate) flaw: Option<i64>,
+}
+
+/// What the next row of a pass is.
+#[derive(Clone, Copy, Debug)]
+enum Step {
+    /// There is none.
+    End,
+    /// It is as it has to be.
+    Right,
+    /// It isn't. It has this rowid.
+    Wrong(i64),
+}
+
+/// The query for all rows of a table.
+fn text_of(table: Table) -> &'static str
+    ensures { result.now ≡ text_of table }
+{
+    match table {
+        Table::Jobs => SELECT_ALL_JOBS,
+        Table::Grants => SELECT_ALL_GRANTS,
+        Table::Holds => SELECT_ALL_HOLDS,
+        Table::Down => SELECT_ALL_DOWN,
+        Table::Replies => SELECT_ALL_REPLIES,
+        Table::Floors => SELECT_ALL_FLOORS,
+        Table::Calls => SELECT_ALL_CALLS,
+        Table::Meta => SELECT_META,
+    }
+}
+
+/// Reads each row of a table once.
+pub(crate) fn pass<S: Alter>(
+    alloc: Global,
+    conn: &mut Connection<S>,
+    table: Table,
+    meta: &Meta,
+    held: &[Holder],
+) -> Result<Tally, StoreFault>
+    ensures { Tells (state S.Store conn.old) (state S.Store conn.new) result (λ db tally. (rows : List Values)
+        × AreRead S.Store (text_of table) db conn.new rows × IsTally (Shows meta.now held.now table) rows tally) }
+{
+    let mut rows = conn.query(text_of(table), &[])?;
+    count(alloc, &mut rows, table, meta, held)
+}
+
+/// Reads the rows that are left of a query.
+fn count<S: Alter>(
+    alloc: Global,
+    rows: &mut Rows<'_, S>,
+    table: Table,
+    meta: &Meta,
+    held: &[Holder],
+) -> Result<Tally, StoreFault>
+    ensures same_reference { rows.new.conn.ghost_name ≡ rows.old.conn.ghost_name }
+    ensures leaves { GoesOn S.Store rows.old.conn.now rows.new.conn.now result }
+    ensures counted { (sql : List ℕ) → HasGiven S.Store sql [] rows.old.conn.now [] → HasCleanDisk
+        (state S.Store rows.new.conn.now) → IfOk result (λ tally. (given : List Values) × AreRead S.Store sql
+        (state S.Store rows.new.conn.now).now rows.new.conn.now given × IsTally (Shows meta.now held.now table) given
+        tally) }
+{
+    let mut flaw = None;
+    for count in 0..u64::MAX {
+        match next_step(alloc, rows, table, meta, held)? {
+            Step::End => return Ok(Tally { rows: count, flaw }),
+            Step::Right => {}
+            Step::Wrong(row) => flaw = flaw.or(Some(row)),
+        }
+    }
+    Err(StoreFault::Unavailable)
+}
+
+/// Reads the next row.
+fn next_step<S: Alter>(
+    alloc: Global,
+    rows: &mut Rows<'_, S>,
+    table: Table,
+    meta: &Meta,
+    held: &[Holder],
+) -> Result<Step, StoreFault>
+    ensures same_reference { rows.new.conn.ghost_name ≡ rows.old.conn.ghost_name }
+    ensures leaves { GoesOn S.Store rows.old.conn.now rows.new.conn.now result }
+    ensures steps { (sql : List ℕ) (given : List Values) → HasGiven S.Store sql [] rows.old.conn.now given
+        → HasCleanDisk (state S.Store rows.new.conn.now) → IfOk result (IsStep S.Store (Shows meta.now held.now table) sql
+        given rows.old.conn.now rows.new.conn.now) }
+{
+    rows.advance()?;
+    match rows.get() {
+        None => Ok(Step::End),
+        Some(row) if shows(alloc, table, meta, held, row)? => Ok(Step::Right),
+        Some(row) => Ok(Step::Wrong(rowid_in(table, row))),
+    }
+}
+
+/// The rowid that a row is shown with.
+fn rowid_in(table: Table, row: &Row) -> i64 {
+    match table {
+        Table::Jobs | Table::Grants => number_in(row, 0),
+        _ => number_in(row, row.column_count().saturating_sub(1)),
+    }
+}
+
+/// The number in a column, or 0.
+pub(crate) fn number_in(row: &Row, at: usize) -> i64 {
+    match row.get_ref(at) {
+        Ok(ValueRef::Int(number)) => number,
+        _ => 0,
+    }
+}
