@@ -1,8 +1,7 @@
 -- Whether a number that is dialed is counted.
-use Rattle.std.proofs.Common.{◌≡◌, inl, inr, ℕ, pos, List, [], ◌∷◌, map, filter, drop, Bool, true, ◌&&◌, refl, sym, ap, ap₂, subst, ◌∙◌, arith}
+use Rattle.std.proofs.Common.{◌≡◌, ℕ, List, [], ◌∷◌, map, filter, drop, Bool, true, ◌&&◌, refl, sym, ap, subst, ◌∙◌, arith}
 use Rattle.std.specs.List.Sorted.{IsPermutation}
 use Rattle.std.specs.Bool.{Decides}
-use Rattle.std.specs.Str.{bytes_eq}
 use Rattle.std.proofs.lemmas.Bool.{and_parts}
 use Rattle.std.proofs.lemmas.Slice.Eq.{bytes_eq-Decides}
 use Rattle.sqlite.specs.Effect.{Database}
@@ -23,7 +22,8 @@ use Rattle.fax_schema.proofs.GrantTexts.{call_tests, call_project, select_open}
 use Rattle.fax_schema.proofs.SelectLemmas.{passes, show}
 use Rattle.fax_tables.specs.Row.{HasNumber, HasValue, call_columns, number}
 
-module _ (old new : State) (db : Database) (stored : IsStored db) (now : old.now ≡ db) (held : List Holder) (h : Holder) (rows : List Row) (shown : Shown SELECT_OPEN.now (Text h.dial ∷ []) old new rows) where
+module _ (old new : State) (db : Database) (stored : IsStored db) (now : old.now ≡ db) (held : List Holder) (h : Holder) (rows : List Row)
+    (shown : Shown SELECT_OPEN.now (Text h.dial ∷ []) old new rows) where
   abbrev params : Row
   params = Text h.dial ∷ []
 
@@ -47,10 +47,11 @@ module _ (old new : State) (db : Database) (stored : IsStored db) (now : old.now
       let r = it.0 in
       let dial : column r 1 ≡ Text h.dial = at_is r 0 (call_columns h.dial (dialing h.dial held)) it.2 in
       let calls : column r 2 ≡ number (dialing h.dial held) = at_is r 1 (call_columns h.dial (dialing h.dial held)) it.2 in
-      let on : passes calls_tree call_tests call_project params r ≡ true = ap (λ v. are_equal v (Text h.dial) && true) dial ∙ ap (λ b. b && true) (equal_texts h.dial h.dial ∙ (bytes_eq-Decides h.dial h.dial).1 refl) in
-      (show calls_tree call_tests call_project params r,
-      one_shown (passes calls_tree call_tests call_project params) (show calls_tree call_tests call_project params) (db.trees calls_tree) rows permuted r it.1 on,
-      record { within = omega arith; is = calls })
+      let on : passes calls_tree call_tests call_project params r ≡ true = ap (λ v. are_equal v (Text h.dial) && true) dial ∙ ap (λ b. b && true) (equal_texts h.dial h.dial ∙ (bytes_eq-Decides h.dial h.dial).1 refl) in (
+        show calls_tree call_tests call_project params r,
+        one_shown (passes calls_tree call_tests call_project params) (show calls_tree call_tests call_project params) (db.trees calls_tree) rows permuted r it.1 on,
+        record { within = omega arith; is = calls },
+      )
 
   -- so the test of the rows decides it
   pub called_decides : (b : Bool) (count : ℕ) → count ≡ dialing h.dial held → Decides b ((row : Row) × Has rows row × HasNumber row 0 count) → Decides b (IsCalled db held h)

@@ -1,5 +1,5 @@
 -- What the texts mean that read all rows of a table.
-use Rattle.std.proofs.Common.{List, [], ◌∷◌, ◌++◌, codes, refl}
+use Rattle.std.proofs.Common.{List, [], ◌∷◌, codes, refl}
 use Rattle.sqlite.specs.Listing.{understood}
 use Rattle.sqlite_sql.specs.Term.{Term, col}
 use Rattle.sqlite_tied.specs.Compute.{everything}

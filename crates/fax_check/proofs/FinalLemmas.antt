@@ -1,11 +1,10 @@
 -- What a check of all tables comes to.
-use Rattle.std.proofs.Common.{◌≡◌, inl, inr, ℕ, pos, List, [], ◌∷◌, map, drop, All, true, Option, Some, None, Ok, Err, Result, IfOk, IsTrue, refl, sym, ap, subst, ◌∙◌, arith}
+use Rattle.std.proofs.Common.{◌≡◌, List, [], ◌∷◌, All, Option, Some, Ok, Err, Result, IfOk, refl, sym, subst, ◌∙◌, arith}
 use Rattle.std.specs.Prelude.{◌==◌}
 use Rattle.std.proofs.lemmas.Bool.{eqb-true}
 use Rattle.std.proofs.lemmas.List.Elements.{All-from_recursion}
 use Rattle.sqlite.specs.Effect.{Database}
-use Rattle.sqlite.specs.Order.{Row, column}
-use Rattle.sqlite.specs.declared.types.Value.TheVariants.{Text}
+use Rattle.sqlite.specs.Order.{Row}
 use Rattle.sqlite_rules.specs.Lists.{Has}
 use Rattle.sqlite_rules.proofs.ListLemmas.{has_filtered, has_found}
 use Rattle.fax_check.specs.Check.{AreCalled, HasHolders, HasNumbers, IsChecked, passed}
@@ -20,8 +19,7 @@ use Rattle.fax_tables.specs.declared.fault.StoreFault.{StoreFault}
 use Rattle.fax_check.specs.Sound.{IsSound, IsStored}
 use Rattle.fax_check.specs.Table.{IsWholeTable}
 use Rattle.fax_check.specs.Whole.{AreWhole, Holder, numbers_row}
-use Rattle.fax_check.specs.declared.tables.Table.{Table}
-use Rattle.fax_check.specs.declared.tables.Table.TheVariants.{Calls, Down, Floors, Grants, Jobs, Replies}
+use Rattle.fax_check.specs.declared.tables.Table.TheVariants.{Grants, Jobs}
 use Rattle.fax_check.proofs.BridgeLemmas.{at_is}
 use Rattle.fax_check.proofs.MeantLemmas as meant
 use Rattle.fax_check.proofs.WholeLemmas.{rows_are_sound}
@@ -37,7 +35,7 @@ use Rattle.fax_schema.proofs.SelectLemmas.{show}
 use Rattle.fax_schema.specs.Schema.{holds_tree}
 use Rattle.fax_tables.specs.Job.{IsLawfulJob}
 use Rattle.fax_tables.specs.Meta.{meta_of}
-use Rattle.fax_tables.specs.Row.{hold_columns, meta_row, number}
+use Rattle.fax_tables.specs.Row.{hold_columns, meta_row}
 use Rattle.fax_tables.specs.Tables.{IsLawfulGrant, TablesMean}
 use Rattle.fax_tables.specs.declared.meta.Meta.{Meta}
 
@@ -139,7 +137,8 @@ module _ (db : Database) (stored : IsStored db) (meta : Meta) (held : List Holde
   sound_called sound = (meant_whole sound).called
 
 -- what is told of the rows of one database is told of another that is the same
-pub checked_rows : (db now : Database) → db ≡ now → (meta : Meta) (held : List Holder) → HasHolders db held → (r : Result (Option Flaw) StoreFault) → IfOk r (λ found. HasNumbers now meta → HasHolders now held → IsChecked now found)
+pub checked_rows : (db now : Database) → db ≡ now → (meta : Meta) (held : List Holder) → HasHolders db held → (r : Result (Option Flaw) StoreFault)
+    → IfOk r (λ found. HasNumbers now meta → HasHolders now held → IsChecked now found)
     → IfOk r (λ found. HasNumbers db meta → IsChecked db found)
 checked_rows db now is meta held holders (Ok found) told = λ numbers. subst (λ d. HasNumbers d meta → HasHolders d held → IsChecked d found) (sym is) told numbers holders
 checked_rows db now is meta held holders (Err e) told = tt

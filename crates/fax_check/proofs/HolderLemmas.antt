@@ -1,15 +1,14 @@
 -- What the rows of holds tell of the holders.
-use Rattle.std.proofs.Common.{◌≡◌, inl, inr, ℕ, pos, suc, ◌<◌, ◌^◌, List, [], ◌∷◌, map, drop, take, length, All, Bool, true, false, Option, Some, None, Ok, Err, Result, IfOk, IsTrue, refl, sym, ap, ap₂, subst, ◌∙◌, arith}
+use Rattle.std.proofs.Common.{◌≡◌, inl, inr, ℕ, ◌<◌, ◌^◌, List, [], ◌∷◌, map, drop, take, true, false, Option, Some, None, Ok, Err, Result, IfOk, IsTrue, refl, sym, ap, ap₂, subst, ◌∙◌, arith}
 use Rattle.std.specs.List.Sorted.{IsPermutation}
 use Rattle.std.proofs.lemmas.List.Sorted.{IsPermutation-map, IsPermutation-sym}
 use Rattle.sqlite.specs.Effect.{Database}
-use Rattle.sqlite.specs.Order.{Row, column}
+use Rattle.sqlite.specs.Order.{Row}
 use Rattle.sqlite.specs.State.{State, Shown}
 use Rattle.sqlite.specs.declared.types.Value.TheVariants.{Text}
 use Rattle.sqlite_rules.specs.Lists.{Has}
-use Rattle.sqlite_trees.proofs.ListLemmas.{map-map}
 use Rattle.std.proofs.lemmas.Bool.{true≢false}
-use Rattle.fax_check.specs.Holders.{Grants, HasItsJob, IsGrantFound, IsGrantHeld, IsHolderFor, IsHolderFound, IsHolderOf, IsHoldShown, IsJobFound, IsShownBy}
+use Rattle.fax_check.specs.Holders.{Grants, HasItsJob, IsGrantFound, IsGrantHeld, IsHolderFor, IsHolderFound, IsHolderOf, IsJobFound, IsShownBy}
 use Rattle.fax_check.proofs.FieldLemmas.{fit_of, one_grant as same_grant}
 use Rattle.fax_check.proofs.LookLemmas.{one_row}
 use Rattle.fax_core.specs.Fits.{fits}
@@ -91,7 +90,8 @@ module _ (db : Database) (stored : IsStored db) where
   no_job_found g none f lawful its = none f its.has its.its lawful
 
   -- the holder of the grant that a row shows is what is found
-  pub holder_found : (now : Database) → db ≡ now → (row : Row) (g : Grant) → Grants db row g → (r : Result (Option Holder) StoreFault) → IfOk r (λ found. IsHolderOf now g found) → IfOk r (λ found. IsHolderFound db row found)
+  pub holder_found : (now : Database) → db ≡ now → (row : Row) (g : Grant) → Grants db row g → (r : Result (Option Holder) StoreFault) → IfOk r (λ found. IsHolderOf now g found)
+      → IfOk r (λ found. IsHolderFound db row found)
   holder_found now is row g grants (Ok (Some h)) of =
       let it = subst (λ d. IsHolderOf d g (Some h)) (sym is) of in
       (shows_holder db row g it.0 h grants it.2, right_holder db row g it.0 h grants it.1 it.2)

@@ -1,16 +1,14 @@
 -- What is found by a number: the grant, or the job, that has it.
-use Rattle.std.proofs.Common.{◌≡◌, inl, inr, ℕ, ℤ, pos, List, [], ◌∷◌, map, Bool, true, false, ◌&&◌, Option, Some, None, Ok, Err, Result, IfOk, IsTrue, refl, sym, ap, ap₂, subst, ◌∙◌}
-use Rattle.std.specs.Prelude.{⊤}
+use Rattle.std.proofs.Common.{◌≡◌, ℕ, List, [], ◌∷◌, true, false, ◌&&◌, Option, Some, None, Ok, Err, Result, IfOk, refl, sym, ap, ap₂, subst, ◌∙◌}
 use Rattle.std.specs.Ordering.{is_eq}
 use Rattle.std.specs.declared.cmp.Ordering.{Ordering}
 use Rattle.std.specs.declared.cmp.Ordering.TheVariants.{Less, Equal, Greater}
 use Rattle.std.proofs.lemmas.Bool.{and_parts, both_ways}
 use Rattle.sqlite.specs.Effect.{Database}
-use Rattle.sqlite.specs.Order.{Row, column}
+use Rattle.sqlite.specs.Order.{Row}
 use Rattle.sqlite.specs.Program.{overlay}
 use Rattle.sqlite.specs.State.{State}
 use Rattle.sqlite.specs.Tree.{rowid}
-use Rattle.sqlite.specs.declared.types.Value.{Value}
 use Rattle.sqlite_rules.specs.Lists.{Has}
 use Rattle.sqlite_rules.proofs.ListLemmas.{all_has}
 use Rattle.sqlite_rules.proofs.PlaceLemmas.{tied_same}
@@ -26,7 +24,6 @@ use Rattle.fax_check.specs.Sound.{IsStored}
 use Rattle.fax_check.proofs.BridgeLemmas.{shows, unshown_grant, unshown_job}
 use Rattle.fax_check.proofs.ShapeLemmas as shape
 use Rattle.fax_core.proofs.FitsLemmas.{record_again}
-use Rattle.fax_core.specs.Job.{job_of, fields_of}
 use Rattle.fax_core.specs.declared.grants.Grant.{Grant}
 use Rattle.fax_job.specs.Job.{IsLawful}
 use Rattle.fax_job.specs.declared.job.JobFields.{JobFields}
@@ -47,7 +44,7 @@ use Rattle.fax_store.proofs.GrantLemmas as grants
 use Rattle.fax_store.proofs.JobLemmas as jobs
 use Rattle.fax_tables.specs.Fault.{OrUnavailable}
 use Rattle.fax_tables.specs.Grant.{grant_shown}
-use Rattle.fax_tables.specs.Job.{IsFormed, IsLawfulJob, job_shown}
+use Rattle.fax_tables.specs.Job.{IsFormed, job_shown}
 use Rattle.fax_tables.specs.Row.{HasValues, grant_row, job_row, number}
 use Rattle.fax_tables.specs.Tables.{IsLawfulGrant}
 use Rattle.fax_tables.specs.declared.fault.StoreFault.{StoreFault}

@@ -1,12 +1,12 @@
 -- What is read of meta.
-use Rattle.std.proofs.Common.{◌≡◌, inl, inr, ℕ, ℤ, pos, negsuc, List, [], ◌∷◌, map, Bool, true, ◌&&◌, Option, Some, None, Ok, Err, Result, IfOk, refl, sym, ap, ap₂, subst, ◌∙◌}
+use Rattle.std.proofs.Common.{◌≡◌, inl, inr, ℤ, pos, negsuc, List, [], ◌∷◌, map, true, Some, None, Ok, Err, Result, IfOk, refl, sym, ap, subst, ◌∙◌}
 use Rattle.std.proofs.lemmas.Bool.{and_parts}
 use Rattle.sqlite.specs.Effect.{Database}
 use Rattle.sqlite.specs.Order.{Row, column}
 use Rattle.sqlite.specs.State.{State}
 use Rattle.sqlite.specs.Tree.{rowid}
 use Rattle.sqlite.specs.declared.types.Value.{Value}
-use Rattle.sqlite.specs.declared.types.Value.TheVariants.{Int, Null}
+use Rattle.sqlite.specs.declared.types.Value.TheVariants.{Int}
 use Rattle.sqlite_rules.specs.Lists.{Has}
 use Rattle.sqlite_rules.proofs.ListLemmas.{all_has}
 use Rattle.sqlite_rules.proofs.TableLemmas.{int_is}
@@ -14,14 +14,14 @@ use Rattle.sqlite_sql.specs.declared.ops.CompareOp.TheVariants.{Eq}
 use Rattle.sqlite_value.proofs.OrderLemmas.{value_cmp-Int}
 use Rattle.std.specs.Ordering.{int_cmp, is_eq}
 use Rattle.fax_schema.specs.ByRowid.{IsByRowid}
-use Rattle.fax_check.specs.Check.{AreNumbers, HasNumbers, IsOfVersion}
+use Rattle.fax_check.specs.Check.{AreNumbers, IsOfVersion}
 use Rattle.fax_check.specs.Reading.{known_of}
 use Rattle.fax_check.specs.Sound.{IsSound, IsStored}
 use Rattle.fax_check.specs.Whole.{numbers_row}
 use Rattle.fax_check.proofs.LookLemmas.{same_some}
 use Rattle.fax_check.proofs.ShapeLemmas as shape
 use Rattle.fax_core.specs.Queue.{Queue}
-use Rattle.fax_schema.specs.Schema.{meta_tree, our_tables}
+use Rattle.fax_schema.specs.Schema.{meta_tree}
 use Rattle.fax_schema.specs.declared.statements.TheConstants.{SELECT_META}
 use Rattle.fax_schema.proofs.CompareLemmas.{are_equal, compared, same_number}
 use Rattle.fax_schema.proofs.StatementTexts.{meta_project, meta_tests, select_meta}
@@ -30,8 +30,8 @@ use Rattle.fax_store.proofs.FoundLemmas.{one_passes}
 use Rattle.fax_store.proofs.MetaLemmas.{meta_found}
 use Rattle.fax_tables.specs.Fault.{OrUnavailable}
 use Rattle.fax_tables.specs.Meta.{meta_of, meta_shown, numbers_shown, with_meta}
-use Rattle.fax_tables.specs.Row.{HasValues, meta_row, number}
-use Rattle.fax_tables.specs.Tables.{IsLawfulMeta, TablesMean, versions}
+use Rattle.fax_tables.specs.Row.{HasValues, number}
+use Rattle.fax_tables.specs.Tables.{IsLawfulMeta, TablesMean}
 use Rattle.fax_tables.specs.declared.fault.StoreFault.{StoreFault}
 use Rattle.fax_tables.specs.declared.fault.StoreFault.TheVariants.{Strange, Unavailable}
 use Rattle.fax_tables.specs.declared.meta.Meta.{Meta}

@@ -1,8 +1,7 @@
 -- What the tests of a row decide.
-use Rattle.std.proofs.Common.{◌≡◌, inl, inr, ℕ, ◌<◌, List, [], ◌∷◌, filter, length, take, Bool, true, false, not, ◌&&◌, ◌||◌, nat_lt, Option, Some, None, Ok, Err, Result, IfErr, IfOk, IsTrue, refl, sym, ap, ap₂, subst, ◌∙◌, if◌then◌else◌, arith}
+use Rattle.std.proofs.Common.{◌≡◌, inl, inr, ℕ, List, [], ◌∷◌, filter, length, Bool, true, not, ◌&&◌, ◌||◌, nat_lt, Option, Some, None, Ok, Err, Result, IfErr, IfOk, refl, sym, ap, subst, ◌∙◌, arith}
 use Rattle.std.specs.Prelude.{◌==◌}
 use Rattle.std.specs.Bool.{Decides}
-use Rattle.std.specs.List.{list_any}
 use Rattle.std.specs.Str.{bytes_eq}
 use Rattle.std.proofs.lemmas.Bool.{and_from, and_parts, cases_Bool, eq-eqb, eqb-true, true≢false}
 use Rattle.std.proofs.lemmas.Bool.Decides.{nat_tests}
@@ -15,7 +14,7 @@ use Rattle.sqlite_rules.proofs.ListLemmas.{has_filtered, has_kept, some_from, so
 use Rattle.fax_check.specs.Reading.{known_of}
 use Rattle.fax_check.specs.Table.{ShowsCall, ShowsGrant, ShowsJob, has_holder, holds, is_held, stands}
 use Rattle.fax_check.specs.Whole.{HasHolder, Holder, IsHeld, Stands, dialing}
-use Rattle.fax_core.specs.Fits.{fits, fits_phase, is_granted}
+use Rattle.fax_core.specs.Fits.{fits_phase, is_granted}
 use Rattle.fax_core.specs.Job.{job_of}
 use Rattle.fax_core.specs.declared.grants.Grant.{Grant}
 use Rattle.fax_job.specs.declared.job.JobFields.{JobFields}
@@ -25,7 +24,7 @@ use Rattle.fax_tables.proofs.RowLemmas.{first_from}
 use Rattle.fax_tables.specs.Fault.{OrUnavailable}
 use Rattle.fax_tables.specs.Grant.{grant_shown}
 use Rattle.fax_tables.specs.Job.{IsLawfulJob, job_shown}
-use Rattle.fax_tables.specs.Row.{HasNumber, HasValue, HasValues, number}
+use Rattle.fax_tables.specs.Row.{HasNumber, HasValue, HasValues}
 use Rattle.fax_tables.specs.Tables.{IsLawfulGrant}
 use Rattle.fax_tables.specs.declared.fault.StoreFault.{StoreFault}
 use Rattle.fax_tables.specs.declared.fault.StoreFault.TheVariants.{Strange, Unavailable}
@@ -93,12 +92,12 @@ has_decides held n = (
 pub stands_decides : (held : List Holder) (f : JobFields) → Decides (stands held f) (Stands held f)
 stands_decides held f = elim (cases_Bool (is_granted f.phase)) [
   | inl on ↦ (
-      λ h. inl (on, (has_decides held f.job).0 (rw on at h)),
-      λ it. rw on (elim it [
-        | inl granted ↦ (has_decides held f.job).1 granted.1
-        | inr fit ↦ absurd (misfit f.phase f on (and_parts _ (fits_phase f.phase f) fit).1)
-      ]),
-    )
+    λ h. inl (on, (has_decides held f.job).0 (rw on at h)),
+    λ it. rw on (elim it [
+      | inl granted ↦ (has_decides held f.job).1 granted.1
+      | inr fit ↦ absurd (misfit f.phase f on (and_parts _ (fits_phase f.phase f) fit).1)
+    ]),
+  )
   | inr off ↦ (λ h. inr (rw off at h), λ it. rw off (elim it [ inl granted ↦ absurd (true≢false (sym granted.0 ∙ off)) | inr fit ↦ fit ]))
 ]
 
@@ -140,7 +139,8 @@ grant_decides row meta held g b shown lawful found is = (to, from)
         ])
 
 -- whether a row shows a job as it has to be
-pub job_decides : (row : Row) (meta : Meta) (held : List Holder) (f : JobFields) (b : Bool) → row ≡ job_shown f → IsLawfulJob (job_of f) → ((x : JobFields) → row ≡ job_shown x → IsLawfulJob (job_of x) → f ≡ x)
+pub job_decides : (row : Row) (meta : Meta) (held : List Holder) (f : JobFields) (b : Bool) → row ≡ job_shown f → IsLawfulJob (job_of f)
+    → ((x : JobFields) → row ≡ job_shown x → IsLawfulJob (job_of x) → f ≡ x)
     → b ≡ (nat_lt f.job meta.next_job && stands held f) → Decides b (ShowsJob meta held row)
 job_decides row meta held f b shown lawful found is = (to, from)
   where

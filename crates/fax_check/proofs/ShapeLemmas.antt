@@ -1,5 +1,5 @@
 -- The rules of our tables say that each of their rows has all its columns.
-use Rattle.std.proofs.Common.{◌≡◌, inl, inr, ℕ, zero, suc, ◌+◌, ◌≤◌, ◌<◌, List, [], ◌∷◌, map, drop, length, Bool, true, false, not, ◌&&◌, ◌||◌, Option, Some, None, refl, sym, ap, ap₂, subst, length-drop, add-one, ◌∙◌, arith}
+use Rattle.std.proofs.Common.{◌≡◌, ℕ, zero, suc, ◌+◌, ◌≤◌, List, [], ◌∷◌, map, drop, length, true, false, not, ◌||◌, Option, Some, None, refl, sym, ap, ap₂, subst, length-drop, add-one, ◌∙◌, arith}
 use Rattle.std.specs.List.{list_all, range_with_len}
 use Rattle.std.proofs.lemmas.Bool.{and_parts}
 use Rattle.std.proofs.lemmas.Bool.Decides.{nat_tests}
@@ -14,7 +14,6 @@ use Rattle.sqlite_schema.specs.Names.{is_key}
 use Rattle.sqlite_schema.specs.Rules.{Keeps, are_present, are_typed, is_of, passes as obeys}
 use Rattle.sqlite_schema.specs.declared.schema.Kind.TheVariants as kind
 use Rattle.sqlite_schema.specs.declared.schema.Column.{Column}
-use Rattle.sqlite_schema.specs.declared.schema.Constraint.{Constraint}
 use Rattle.sqlite_schema.specs.declared.schema.Constraint.TheVariants.{Datatype, NotNull}
 use Rattle.sqlite_schema.specs.declared.schema.Table.{Table}
 use Rattle.sqlite_sql.specs.Ops.{is_null}
@@ -64,7 +63,8 @@ module _ (key : Option ℕ) where
       ap suc (filled cs (at + 1) row vs next (λ i low. off i (omega arith)) (and_parts c.not_null _ need).1 (and_parts _ (are_typed key (at + 1) cs vs) typed).1 (and_parts _ (are_present key (at + 1) cs row) present).1)
 
 -- a row of a table without a key has a rowid before its columns
-free_row : (cs : List Column) (row : Row) → 1 ≤ length cs → list_all (λ c. c.not_null) cs ≡ true → are_typed None 0 cs (drop 1 row) ≡ true → are_present None 0 cs row ≡ true → length row ≡ suc (length cs)
+free_row : (cs : List Column) (row : Row) → 1 ≤ length cs → list_all (λ c. c.not_null) cs ≡ true → are_typed None 0 cs (drop 1 row) ≡ true → are_present None 0 cs row ≡ true
+    → length row ≡ suc (length cs)
 free_row cs row some need typed present =
     let n = filled None cs 0 row (drop 1 row) refl (λ i low. refl) need typed present in
     let e = length-drop 1 row in
@@ -83,7 +83,8 @@ not_first zero low = absurd (omega arith)
 not_first (suc i) low = grind (arith, nat_tests)
 
 -- a row of a table whose first column is the rowid has NULL there, and the other columns
-keyed_by : (k c : Column) (cs : List Column) (row vs : Row) → drop 1 row ≡ vs → list_all (λ c. c.not_null) (c ∷ cs) ≡ true → are_typed (Some 0) 0 (k ∷ c ∷ cs) vs ≡ true → are_present (Some 0) 1 (c ∷ cs) row ≡ true
+keyed_by : (k c : Column) (cs : List Column) (row vs : Row) → drop 1 row ≡ vs → list_all (λ c. c.not_null) (c ∷ cs) ≡ true → are_typed (Some 0) 0 (k ∷ c ∷ cs) vs ≡ true
+    → are_present (Some 0) 1 (c ∷ cs) row ≡ true
     → (length row ≡ suc (suc (suc (length cs)))) × (column row 1 ≡ Null)
 keyed_by k c cs row [] is need typed shown =
     let short : length row ≤ 1 = let e = length-drop 1 row in let z = ap length is in omega (arith, e, z) in

@@ -1,5 +1,5 @@
 -- What a pass decides of a table.
-use Rattle.std.proofs.Common.{◌≡◌, inl, inr, ℕ, ℤ, ◌+◌, ◌==◌, List, [], All, Bool, true, false, Option, Some, None, length, MatchOption, refl, sym, ap, subst, ◌∙◌, if◌then◌else◌, arith}
+use Rattle.std.proofs.Common.{◌≡◌, inl, inr, ℕ, ℤ, ◌+◌, ◌==◌, List, [], All, true, Option, Some, None, length, MatchOption, refl, sym, subst, ◌∙◌, arith}
 use Rattle.std.specs.Prelude.{⊤}
 use Rattle.std.proofs.lemmas.Bool.{cases_Bool, eqb-true, true≢false}
 use Rattle.std.proofs.lemmas.Bool.Decides.{nat_tests}
@@ -10,10 +10,10 @@ use Rattle.sqlite.specs.State.{State, Shown}
 use Rattle.sqlite_rules.specs.Lists.{Has}
 use Rattle.sqlite_sql.specs.Term.{Term}
 use Rattle.sqlite_trees.specs.Tree.{Trees}
-use Rattle.fax_check.specs.Check.{IsTableChecked, Told, are_all, flaw_in, flaw_of}
+use Rattle.fax_check.specs.Check.{IsTableChecked, Told, flaw_in, flaw_of}
 use Rattle.fax_check.specs.Pass.{IsTally, text_of}
 use Rattle.fax_check.specs.Sound.{IsStored}
-use Rattle.fax_check.specs.Table.{IsWholeTable, Shows}
+use Rattle.fax_check.specs.Table.{Shows}
 use Rattle.fax_check.specs.Whole.{Each, Holder, IsCallRow, IsDownRow, IsFloorRow, IsGrantRow, IsJobRow, IsReplyRow}
 use Rattle.fax_check.specs.declared.pass.Tally.{Tally}
 use Rattle.fax_check.specs.declared.tables.Table.{Table}
@@ -24,7 +24,7 @@ use Rattle.fax_schema.proofs.GrantTexts.{grant_names, grant_project}
 use Rattle.fax_schema.proofs.SelectLemmas.{show}
 use Rattle.fax_schema.proofs.StatementForms.{Selects}
 use Rattle.fax_schema.proofs.StatementTexts.{job_names, job_project}
-use Rattle.fax_schema.specs.Schema.{our_tables, calls_tree, down_tree, floors_tree, grants_tree, jobs_tree, replies_tree}
+use Rattle.fax_schema.specs.Schema.{calls_tree, down_tree, floors_tree, grants_tree, jobs_tree, replies_tree}
 use Rattle.fax_tables.specs.declared.meta.Meta.{Meta}
 
 -- where the rows that are read are as they have to be just where the table is whole, so it is told
@@ -68,7 +68,8 @@ module _ (old new : State) (db : Database) (stored : IsStored db) (now : old.now
         (told_all table (All P rows) (Each db tree Q) (tally.rows + 1) m each_is all_is tally.flaw t.flaw)
 
   -- a table is told to be whole just where it is
-  pub table_checked : (table : Table) (tally : Tally) → Shown (text_of table) [] old new rows → IsTally (Shows meta held table) rows tally → IsTableChecked meta held table db (flaw_of table meta tally)
+  pub table_checked : (table : Table) (tally : Tally) → Shown (text_of table) [] old new rows → IsTally (Shows meta held table) rows tally
+      → IsTableChecked meta held table db (flaw_of table meta tally)
   table_checked Jobs tally shown t =
       checked_all (text_of Jobs) jobs_tree job_project job_names texts.select_all_jobs (λ trees. refl) (Shows meta held Jobs) (IsJobRow meta held) (bridge.job_is db stored meta held) (bridge.job_shows db stored meta held) shown Jobs meta.next_job tally t
   table_checked Grants tally shown t =

@@ -1,16 +1,10 @@
 -- What is known of the rows that a pass has read.
-use Rattle.std.proofs.Common.{◌≡◌, inl, inr, ℕ, ℤ, ◌++◌, List, [], ◌∷◌, All, Option, Some, None, MatchOption, Result, Ok, refl, sym, ap, subst, ◌∙◌}
+use Rattle.std.proofs.Common.{inl, ℤ, ◌++◌, List, [], ◌∷◌, All, Option, Some, None, MatchOption, refl}
 use Rattle.std.specs.Option.{option_or}
-use Rattle.std.proofs.lemmas.List.Elements.{All-append, All-cons, All-from_recursion, All-nil, recursion_from_All}
-use Rattle.sqlite.specs.Effect.{Database}
-use Rattle.sqlite.specs.Held.{Held, state}
+use Rattle.std.proofs.lemmas.List.Elements.{All-append, All-cons, All-nil, recursion_from_All}
 use Rattle.sqlite.specs.Order.{Row}
-use Rattle.sqlite.specs.State.{State, HasCleanDisk, IsUnchanged, Shown}
-use Rattle.sqlite_rules.specs.Lists.{Has}
 use Rattle.sqlite_rules.proofs.ListLemmas.{all_has, has_left, has_right}
-use Rattle.sqlite_trees.specs.declared.store.Store.{Ghosts}
 use Rattle.fax_check.proofs.BridgeLemmas.{of_all}
-use Rattle.fax_check.proofs.TellsLemmas.{Passed}
 
 -- what holds of all of a list holds of its front, and of its last
 front_all : {X : Type 0} (P : X → Type 0) (xs : List X) (x : X) → All P (xs ++ x ∷ []) → All P xs

@@ -5,7 +5,7 @@ use Rattle.sqlite.specs.Held.{Held, state}
 use Rattle.sqlite.specs.Given.{HasBegun, HasGiven, IsPlain}
 use Rattle.sqlite.specs.Listing.{understood}
 use Rattle.sqlite.specs.Order.{Row}
-use Rattle.sqlite.specs.State.{State, CommitsShowing, FailsToQuery, HasCleanDisk, IsRolledBack, IsUnchanged, Shown, Survives}
+use Rattle.sqlite.specs.State.{State, CommitsShowing, FailsToQuery, HasCleanDisk, IsUnchanged, Shown, Survives}
 use Rattle.sqlite.specs.declared.error.Error.{Error}
 use Rattle.sqlite.specs.declared.rows.Row.{Row as SqlRow}
 use Rattle.sqlite.proofs.Callers.{begun_plain, unchanged_then}
@@ -75,7 +75,8 @@ tells_then old mid new a result P Q R first next so = record {
 -- ---- a query under way
 
 module _ {S : Type 0} (g : Ghosts S) (a b c : Held S) where
-  goes_left : {A : Type 0} (result : Result A StoreFault) → IsUnchanged (state g a) (state g b) → OnErr result (LeavesCommit (state g b) (state g c)) → OnErr result (LeavesCommit (state g a) (state g c))
+  goes_left : {A : Type 0} (result : Result A StoreFault) → IsUnchanged (state g a) (state g b) → OnErr result (LeavesCommit (state g b) (state g c))
+      → OnErr result (LeavesCommit (state g a) (state g c))
   goes_left (Ok x) same left = tt
   goes_left (Err e) same left = left_then (state g a) (state g b) (state g c) same left
 
@@ -119,7 +120,8 @@ module _ (old new : State) (sql : List ℕ) (params : Row) (query : IsQueryText 
   }
 
   -- one that doesn't leaves what was committed
-  pub unshown_tells : {A : Type 0} (e : Error) (r : Result A StoreFault) (P : Database → A → Type 0) → (HasCleanDisk new → FailsToQuery sql params old new e) → IsErrAnd r (λ fault. fault ≡ Unavailable) → Tells old new r P
+  pub unshown_tells : {A : Type 0} (e : Error) (r : Result A StoreFault) (P : Database → A → Type 0) → (HasCleanDisk new → FailsToQuery sql params old new e)
+      → IsErrAnd r (λ fault. fault ≡ Unavailable) → Tells old new r P
   unshown_tells e r P fails is = record {
     clean = cleaner old new survives.clean;
     reads = λ tables clean. reads_refused old new r _ is (query_fails old new sql params e (fails clean));
@@ -129,13 +131,15 @@ module _ (old new : State) (sql : List ℕ) (params : Row) (query : IsQueryText 
   }
 
 -- what is made of an answer, or of a want of memory behind it
-pub made_of : (old new : State) {A B : Type 0} (a : A) (r : Result B StoreFault) (P : Database → A → Type 0) (Q : Database → B → Type 0) → Tells old new (Ok a) P → IfErr r (λ fault. fault ≡ Unavailable)
+pub made_of : (old new : State) {A B : Type 0} (a : A) (r : Result B StoreFault) (P : Database → A → Type 0) (Q : Database → B → Type 0) → Tells old new (Ok a) P
+    → IfErr r (λ fault. fault ≡ Unavailable)
     → (IsStored old.now → P old.now a → IfOk r (Q old.now)) → Tells old new r Q
 made_of old new a (Ok b) P Q first cause so = record { clean = first.clean; reads = first.reads; crash = first.crash; cause = tt; tells = λ stored clean. so stored (first.tells stored clean) }
 made_of old new a (Err e) P Q first cause so = record { clean = first.clean; reads = λ tables clean. inl (first.reads tables clean); crash = first.crash; cause = cause; tells = λ stored clean. tt }
 
 -- the reading that was refused is refused still
-pub refused_tells : (old new : State) {A B : Type 0} (e : StoreFault) (r : Result B StoreFault) (P : Database → A → Type 0) (Q : Database → B → Type 0) → Tells old new (Err e) P → IsErrAnd r (λ fault. fault ≡ e) → Tells old new r Q
+pub refused_tells : (old new : State) {A B : Type 0} (e : StoreFault) (r : Result B StoreFault) (P : Database → A → Type 0) (Q : Database → B → Type 0) → Tells old new (Err e) P
+    → IsErrAnd r (λ fault. fault ≡ e) → Tells old new r Q
 refused_tells old new e (Ok b) P Q first is = absurd is
 refused_tells old new e (Err f) P Q first is = record { clean = first.clean; reads = first.reads; crash = first.crash; cause = is ∙ first.cause; tells = λ stored clean. tt }
 
@@ -198,14 +202,16 @@ module _ {S : Type 0} (g : Ghosts S) where
   }
 
   -- the last reading, or nothing more
-  pub looks_since : (a b : Held S) {A : Type 0} (x : A) (P : Database → A → Type 0) → Since (Tables a) a b → (IsStored (state g a).now → HasCleanDisk (state g b) → P (state g a).now x) → Looks g a b (Ok x) P
+  pub looks_since : (a b : Held S) {A : Type 0} (x : A) (P : Database → A → Type 0) → Since (Tables a) a b
+      → (IsStored (state g a).now → HasCleanDisk (state g b) → P (state g a).now x) → Looks g a b (Ok x) P
   looks_since a b x P since told = record { clean = since.clean; reads = λ tables clean. since.same tables clean; crash = since.crash; cause = tt; tells = told }
 
   looks_result : (a b c : Held S) {A : Type 0} (r : Result A StoreFault) → Same a b → Reads (state g b) (state g c) r → MatchResult r (λ _. Same a c) (λ _. LeavesCommit (state g a) (state g c))
   looks_result a b c (Ok x) same next = same_then a b c same (inr next)
   looks_result a b c (Err e) same next = left_behind a b c same next
 
-  pub looks_tells : (a b c : Held S) {A B : Type 0} (r : Result A StoreFault) (s : Result B StoreFault) (P : Database → A → Type 0) (Q : Database → B → Type 0) → Since (Tables a) a b → Tells (state g b) (state g c) r P → IfErr s (λ fault. fault ≡ Unavailable)
+  pub looks_tells : (a b c : Held S) {A B : Type 0} (r : Result A StoreFault) (s : Result B StoreFault) (P : Database → A → Type 0) (Q : Database → B → Type 0)
+      → Since (Tables a) a b → Tells (state g b) (state g c) r P → IfErr s (λ fault. fault ≡ Unavailable)
       → ((x : Held S) → MatchResult r (λ _. Same x c) (λ _. LeavesCommit (state g x) (state g c)) → MatchResult s (λ _. Same x c) (λ _. LeavesCommit (state g x) (state g c)))
       → (IsStored (state g a).now → HasCleanDisk (state g b) → (state g a).now ≡ (state g b).now → IfOk r (P (state g b).now) → IfOk s (Q (state g a).now)) → Looks g a c s Q
   looks_tells a b c r s P Q since next cause keep told = record {
@@ -219,13 +225,15 @@ module _ {S : Type 0} (g : Ghosts S) where
         told stored (next.clean clean) is (next.tells (subst IsStored is stored) clean);
   }
 
-  looked_result : (a b c : Held S) {A : Type 0} (r : Result A StoreFault) → IsUnchanged (state g a) (state g b) → MatchResult r (λ _. Same b c) (λ _. LeavesCommit (state g b) (state g c)) → Reads (state g a) (state g c) r
+  looked_result : (a b c : Held S) {A : Type 0} (r : Result A StoreFault) → IsUnchanged (state g a) (state g b)
+      → MatchResult r (λ _. Same b c) (λ _. LeavesCommit (state g b) (state g c)) → Reads (state g a) (state g c) r
   looked_result a b c (Ok x) same (inl is) = subst (λ y. IsUnchanged (state g a) (state g y)) (sym is) same
   looked_result a b c (Ok x) same (inr next) = unchanged_then (state g a) (state g b) (state g c) same next
   looked_result a b c (Err e) same next = left_then (state g a) (state g b) (state g c) same next
 
   -- behind a reading that does something, one that may do nothing
-  pub tells_looks : (a b c : Held S) {A B : Type 0} (x : A) (r : Result B StoreFault) (P : Database → A → Type 0) (Q R : Database → B → Type 0) → Tells (state g a) (state g b) (Ok x) P → Looks g b c r Q
+  pub tells_looks : (a b c : Held S) {A B : Type 0} (x : A) (r : Result B StoreFault) (P : Database → A → Type 0) (Q R : Database → B → Type 0)
+      → Tells (state g a) (state g b) (Ok x) P → Looks g b c r Q
       → (IsStored (state g a).now → (state g a).now ≡ (state g b).now → P (state g a).now x → IfOk r (Q (state g b).now) → IfOk r (R (state g a).now)) → Tells (state g a) (state g c) r R
   tells_looks a b c x r P Q R first next so = record {
     clean = λ clean. first.clean (next.clean clean);
@@ -239,7 +247,8 @@ module _ {S : Type 0} (g : Ghosts S) where
         so stored (sym same.0.now_is) (first.tells stored (next.clean clean)) (next.tells (subst IsStored (sym same.0.now_is) stored) clean);
   }
 
-  looks_looks_result : (a b c : Held S) {A : Type 0} (r : Result A StoreFault) → Same a b → MatchResult r (λ _. Same b c) (λ _. LeavesCommit (state g b) (state g c)) → MatchResult r (λ _. Same a c) (λ _. LeavesCommit (state g a) (state g c))
+  looks_looks_result : (a b c : Held S) {A : Type 0} (r : Result A StoreFault) → Same a b → MatchResult r (λ _. Same b c) (λ _. LeavesCommit (state g b) (state g c))
+      → MatchResult r (λ _. Same a c) (λ _. LeavesCommit (state g a) (state g c))
   looks_looks_result a b c (Ok x) same next = same_then a b c same next
   looks_looks_result a b c (Err e) same next = left_behind a b c same next
 
@@ -258,19 +267,23 @@ module _ {S : Type 0} (g : Ghosts S) where
   }
 
   -- what is made of such an answer, or of a refusal
-  pub looks_as : (a b : Held S) {A B : Type 0} (x : A) (y : B) (P : Database → A → Type 0) (Q : Database → B → Type 0) → Looks g a b (Ok x) P → (IsStored (state g a).now → P (state g a).now x → Q (state g a).now y) → Looks g a b (Ok y) Q
+  pub looks_as : (a b : Held S) {A B : Type 0} (x : A) (y : B) (P : Database → A → Type 0) (Q : Database → B → Type 0) → Looks g a b (Ok x) P
+      → (IsStored (state g a).now → P (state g a).now x → Q (state g a).now y) → Looks g a b (Ok y) Q
   looks_as a b x y P Q h so = record { clean = h.clean; reads = h.reads; crash = h.crash; cause = tt; tells = λ stored clean. so stored (h.tells stored clean) }
 
-  pub looks_refused : (a b : Held S) {A B : Type 0} (e : StoreFault) (r : Result B StoreFault) (P : Database → A → Type 0) (Q : Database → B → Type 0) → Looks g a b (Err e) P → IsErrAnd r (λ fault. fault ≡ e) → Looks g a b r Q
+  pub looks_refused : (a b : Held S) {A B : Type 0} (e : StoreFault) (r : Result B StoreFault) (P : Database → A → Type 0) (Q : Database → B → Type 0) → Looks g a b (Err e) P
+      → IsErrAnd r (λ fault. fault ≡ e) → Looks g a b r Q
   looks_refused a b e (Ok y) P Q h is = absurd is
   looks_refused a b e (Err f) P Q h is = record { clean = h.clean; reads = h.reads; crash = h.crash; cause = is ∙ h.cause; tells = λ stored clean. tt }
 
-  pub refused_since : (a b c : Held S) {A B : Type 0} (e : StoreFault) (r : Result B StoreFault) (P : Database → A → Type 0) (Q : Database → B → Type 0) → Since (Tables a) a b → Tells (state g b) (state g c) (Err e) P → IsErrAnd r (λ fault. fault ≡ e) → Looks g a c r Q
+  pub refused_since : (a b c : Held S) {A B : Type 0} (e : StoreFault) (r : Result B StoreFault) (P : Database → A → Type 0) (Q : Database → B → Type 0) → Since (Tables a) a b
+      → Tells (state g b) (state g c) (Err e) P → IsErrAnd r (λ fault. fault ≡ e) → Looks g a c r Q
   refused_since a b c e (Ok y) P Q since next is = absurd is
   refused_since a b c e (Err f) P Q since next is = looks_tells a b c (Err e) (Err f) P Q since next (is ∙ next.cause) (λ x left. left) (λ stored clean same none. tt)
 
   -- what one more reading tells of the first rows
-  pub since_told : (a b c : Held S) {A : Type 0} (x : A) (P : Database → A → Type 0) → Since (Tables a) a b → Tells (state g b) (state g c) (Ok x) P → IsStored (state g a).now → HasCleanDisk (state g c) → P (state g a).now x
+  pub since_told : (a b c : Held S) {A : Type 0} (x : A) (P : Database → A → Type 0) → Since (Tables a) a b → Tells (state g b) (state g c) (Ok x) P → IsStored (state g a).now
+      → HasCleanDisk (state g c) → P (state g a).now x
   since_told a b c x P since next stored clean =
       let is = same_now a b (since.same stored.schema_is (next.clean clean)) in
       subst (λ d. P d x) (sym is) (next.tells (subst IsStored is stored) clean)
@@ -286,12 +299,14 @@ module _ {S : Type 0} (g : Ghosts S) where
   pub pass_start : (a : Held S) → Passed 0 a a
   pass_start a = record { clean = λ clean. clean; same = λ clean. inl (refl, refl); crash = λ found may. may }
 
-  passed_ok : (n : ℕ) (a b c : Held S) {A : Type 0} (r : Result A StoreFault) → ((n ≡ 0) × (b ≡ a)) ⊎ IsUnchanged (state g a) (state g b) → OnOk r (IsUnchanged (state g b) (state g c)) → OnOk r (IsUnchanged (state g a) (state g c))
+  passed_ok : (n : ℕ) (a b c : Held S) {A : Type 0} (r : Result A StoreFault) → ((n ≡ 0) × (b ≡ a)) ⊎ IsUnchanged (state g a) (state g b)
+      → OnOk r (IsUnchanged (state g b) (state g c)) → OnOk r (IsUnchanged (state g a) (state g c))
   passed_ok n a b c (Ok x) (inl start) next = subst (λ y. IsUnchanged (state g y) (state g c)) start.1 next
   passed_ok n a b c (Ok x) (inr same) next = unchanged_then (state g a) (state g b) (state g c) same next
   passed_ok n a b c (Err e) same next = tt
 
-  passed_err : (n : ℕ) (a b c : Held S) {A : Type 0} (r : Result A StoreFault) → ((n ≡ 0) × (b ≡ a)) ⊎ IsUnchanged (state g a) (state g b) → OnErr r (LeavesCommit (state g b) (state g c)) → OnErr r (LeavesCommit (state g a) (state g c))
+  passed_err : (n : ℕ) (a b c : Held S) {A : Type 0} (r : Result A StoreFault) → ((n ≡ 0) × (b ≡ a)) ⊎ IsUnchanged (state g a) (state g b)
+      → OnErr r (LeavesCommit (state g b) (state g c)) → OnErr r (LeavesCommit (state g a) (state g c))
   passed_err n a b c (Ok x) same next = tt
   passed_err n a b c (Err e) (inl start) next = subst (λ y. LeavesCommit (state g y) (state g c)) start.1 next
   passed_err n a b c (Err e) (inr same) next = left_then (state g a) (state g b) (state g c) same next
@@ -331,17 +346,20 @@ module _ {S : Type 0} (g : Ghosts S) where
   plain_begins : (old begun : Held S) (sql : List ℕ) → IsQueryText sql → Tables old → HasBegun g sql [] old begun → HasGiven g sql [] begun [] × IsUnchanged (state g old) (state g begun)
   plain_begins old begun sql query tables starts = begun_plain g sql [] old begun (subst (λ s. IsPlain (understood s sql)) (sym tables) query) starts
 
-  goes_reads : (old begun new : Held S) {A : Type 0} (r : Result A StoreFault) → IsUnchanged (state g old) (state g begun) → OnOk r (IsUnchanged (state g begun) (state g new)) → OnErr r (LeavesCommit (state g begun) (state g new)) → Reads (state g old) (state g new) r
+  goes_reads : (old begun new : Held S) {A : Type 0} (r : Result A StoreFault) → IsUnchanged (state g old) (state g begun) → OnOk r (IsUnchanged (state g begun) (state g new))
+      → OnErr r (LeavesCommit (state g begun) (state g new)) → Reads (state g old) (state g new) r
   goes_reads old begun new (Ok x) same next left = unchanged_then (state g old) (state g begun) (state g new) same next
   goes_reads old begun new (Err e) same next left = left_then (state g old) (state g begun) (state g new) same left
 
-  read_of : (old begun new : Held S) (sql : List ℕ) (r : Result Tally StoreFault) (P : List Row → Tally → Type 0) → IsUnchanged (state g old) (state g begun) → OnOk r (IsUnchanged (state g begun) (state g new))
+  read_of : (old begun new : Held S) (sql : List ℕ) (r : Result Tally StoreFault) (P : List Row → Tally → Type 0) → IsUnchanged (state g old) (state g begun)
+      → OnOk r (IsUnchanged (state g begun) (state g new))
       → IfOk r (λ tally. (given : List Row) × AreRead g sql (state g new).now new given × P given tally) → IfOk r (λ tally. (given : List Row) × AreRead g sql (state g old).now new given × P given tally)
   read_of old begun new sql (Ok tally) P same next told = (told.0, ((told.1).0, (told.1).1 ∙ next.0.now_is ∙ same.0.now_is, (told.1).2), told.2)
   read_of old begun new sql (Err e) P same next told = tt
 
   -- a pass over a query's rows
-  pub pass_tells : (old begun new : Held S) (sql : List ℕ) (r : Result Tally StoreFault) (P : List Row → Tally → Type 0) → IsQueryText sql → Survives (state g old) (state g begun) (CommitsShowing sql [] (state g old))
+  pub pass_tells : (old begun new : Held S) (sql : List ℕ) (r : Result Tally StoreFault) (P : List Row → Tally → Type 0) → IsQueryText sql
+      → Survives (state g old) (state g begun) (CommitsShowing sql [] (state g old))
       → (HasCleanDisk (state g begun) → HasBegun g sql [] old begun) → GoesOn g begun new r
       → ((text : List ℕ) → HasGiven g text [] begun [] → HasCleanDisk (state g new) → IfOk r (λ tally. (given : List Row) × AreRead g text (state g new).now new given × P given tally))
       → Tells (state g old) (state g new) r (λ db tally. (given : List Row) × AreRead g sql db new given × P given tally)

@@ -18,7 +18,7 @@ use Rattle.sqlite_rules.proofs.ProbeLemmas.{mapped_has}
 use Rattle.sqlite_trees.proofs.ListLemmas.{IsPermutation-filter, ascending-filter, ascending-map, ascending_weaker, filter-map, filter_same, map-map}
 use Rattle.fax_check.specs.Sound.{IsSound, IsStored}
 use Rattle.fax_check.specs.Whole.{AreWhole, Holder, IsHeld, IsRightHolder, Stands, dialing, holder_columns}
-use Rattle.fax_check.proofs.FieldLemmas.{dial_of as dialed_by, fit_of, number_of, numbers, one_grant, same_holder}
+use Rattle.fax_check.proofs.FieldLemmas.{dial_of as dialed_by, fit_of, number_of, one_grant, same_holder}
 use Rattle.fax_check.proofs.FloorLemmas.{IsLawfulFloor, columns_of, floor_in, floors_counted, floors_lawful}
 use Rattle.fax_check.proofs.HeldLemmas.{held_apart, one_of_job, one_of_modem}
 use Rattle.fax_check.proofs.MadeLemmas.{AreApart, Made, all_each, made, made_columns, numbered, one_there, rising, same_elements, some_length}
@@ -39,7 +39,7 @@ use Rattle.fax_job.specs.declared.job.JobFields.{JobFields}
 use Rattle.fax_schema.specs.Schema.{calls_tree, down_tree, floors_tree, grants_tree, holds_tree, jobs_tree, replies_tree}
 use Rattle.fax_schema.proofs.EditLemmas.{has_mapped}
 use Rattle.fax_tables.specs.Job.{IsLawfulJob}
-use Rattle.fax_tables.specs.Row.{number, job_row, grant_row, hold_columns, down_columns, entry_columns, call_columns}
+use Rattle.fax_tables.specs.Row.{job_row, grant_row, hold_columns, down_columns, entry_columns, call_columns}
 use Rattle.fax_tables.specs.Tables.{AreCounted, HaveJobs, IsLawfulEntry, IsLawfulGrant, TablesMean}
 use Rattle.fax_tables.specs.declared.meta.Meta.{Meta}
 use Rattle.fax_tables.proofs.KeyLemmas.{only_numbered}

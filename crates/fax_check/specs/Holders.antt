@@ -1,5 +1,5 @@
 -- How the rows of holds are read: each shows the open grant that it holds, whose job is there.
-use Rattle.std.specs.Prelude.{◌≡◌, ℕ, ◌<◌, ◌^◌, List, All, Option, Some, None, IsTrue, map, drop, take}
+use Rattle.std.specs.Prelude.{◌≡◌, ℕ, List, All, Option, Some, None, IsTrue, map, drop, take}
 use Rattle.std.specs.List.Sorted.{IsPermutation}
 use Rattle.sqlite.specs.Effect.{Database}
 use Rattle.sqlite.specs.Order.{Row}

@@ -1,5 +1,5 @@
 -- What a pass over the rows of a table finds.
-use Rattle.std.specs.Prelude.{◌≡◌, ℕ, List, [], ◌∷◌, ◌++◌, All, MatchOption, IfErr, IfOk, OnOk, OnErr, Result, length}
+use Rattle.std.specs.Prelude.{◌≡◌, ℕ, List, [], ◌∷◌, ◌++◌, All, MatchOption, IfErr, OnOk, OnErr, Result, length}
 use Rattle.sqlite.specs.Effect.{Database}
 use Rattle.sqlite.specs.Given.{HasGiven}
 use Rattle.sqlite.specs.Held.{Held, state}

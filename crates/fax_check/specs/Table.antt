@@ -14,7 +14,7 @@ use Rattle.fax_job.specs.declared.job.JobFields.{JobFields}
 use Rattle.fax_check.specs.Whole.{Each, Holder, IsCallRow, IsDownRow, IsFloorRow, IsGrantRow, IsHeld, IsJobRow, IsReplyRow, Stands, dialing}
 use Rattle.fax_check.specs.declared.tables.Table.{Table}
 use Rattle.fax_check.specs.declared.tables.Table.TheVariants.{Calls, Down, Floors, Grants, Holds, Jobs, Meta as TheMeta, Replies}
-use Rattle.fax_schema.specs.Schema.{calls_tree, down_tree, floors_tree, grants_tree, holds_tree, jobs_tree, meta_tree, replies_tree}
+use Rattle.fax_schema.specs.Schema.{calls_tree, down_tree, floors_tree, grants_tree, jobs_tree, replies_tree}
 use Rattle.fax_tables.specs.Grant.{grant_shown}
 use Rattle.fax_tables.specs.Job.{IsLawfulJob, job_shown}
 use Rattle.fax_tables.specs.Row.{HasNumber, HasValue}

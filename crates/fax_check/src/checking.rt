@@ -38,10 +38,7 @@ const PASSED: &[Table] = &[
 /// # Errors
 ///
 /// `Unavailable`.
-pub fn check<S: Alter>(
-    alloc: Global,
-    conn: &mut Connection<S>,
-) -> Result<Option<Flaw>, StoreFault>
+pub fn check<S: Alter>(alloc: Global, conn: &mut Connection<S>) -> Result<Option<Flaw>, StoreFault>
     ensures { Tells (state S.Store conn.old) (state S.Store conn.new) result IsChecked }
 {
     match numbers(conn)? {

@@ -11,9 +11,12 @@ ghost use Rattle.fax_check.specs.Table.{Shows};
 
 use crate::holders::Holder;
 use crate::rows::shows;
+use crate::statements::{
+    SELECT_ALL_CALLS, SELECT_ALL_DOWN, SELECT_ALL_FLOORS, SELECT_ALL_GRANTS, SELECT_ALL_HOLDS,
+    SELECT_ALL_JOBS, SELECT_ALL_REPLIES,
+};
 use crate::tables::Table;
-use crate::statements::{SELECT_ALL_CALLS, SELECT_ALL_DOWN, SELECT_ALL_FLOORS, SELECT_ALL_GRANTS, SELECT_ALL_HOLDS, SELECT_ALL_JOBS, SELECT_ALL_REPLIES};
-use fax_schema::statements::{SELECT_META};
+use fax_schema::statements::SELECT_META;
 use fax_tables::{Meta, StoreFault};
 use sqlite::types::ValueRef;
 use sqlite::{Alter, Connection, Row, Rows};

@@ -83,12 +83,7 @@ fn has_holder(held: &[Holder], job: u32) -> bool
     held.iter().any(|holder| holder.job == job)
 }
 
-fn shows_grant(
-    alloc: Global,
-    meta: &Meta,
-    held: &[Holder],
-    row: &Row,
-) -> Result<bool, StoreFault>
+fn shows_grant(alloc: Global, meta: &Meta, held: &[Holder], row: &Row) -> Result<bool, StoreFault>
     ensures right { IfOk result (λ right. Decides right (ShowsGrant meta.now held.now row.now)) }
     ensures cause { IfErr result (λ fault. fault ≡ StoreFault.Unavailable) }
 {

@@ -1,4 +1,4 @@
-use Rattle.std.proofs.Common.{Ok, subst, sym}
+use Rattle.std.proofs.Common.{subst, sym}
 use Rattle.fax_check.specs.Check.{HasHolders}
 use Rattle.sqlite.specs.Held.{state}
 use Rattle.fax_check.specs.Holders.{AreHolders}

@@ -1,7 +1,6 @@
-use Rattle.std.proofs.Common.{◌≡◌, Ok, Some, None, true, false, refl, sym, ap, subst, ◌∙◌, rules}
+use Rattle.std.proofs.Common.{Ok, None, sym, subst}
 use Rattle.sqlite.specs.Held.{state}
 use Rattle.fax_check.specs.Check.{AreCalled, AreTablesChecked}
-use Rattle.fax_check.specs.Reading.{Looks}
 use Rattle.fax_check.proofs.FinalLemmas.{all_sound, sound_called, sound_whole}
 use Rattle.fax_check.proofs.TellsLemmas.{looks_as, looks_then}
 use Rattle.fax_check.proofs.checking.check_rows.Goals as goal

@@ -1,4 +1,4 @@
-use Rattle.std.proofs.Common.{◌≡◌, subst, sym, refl}
+use Rattle.std.proofs.Common.{subst, sym}
 use Rattle.sqlite.specs.Held.{state}
 use Rattle.fax_check.specs.Check.{IsTableChecked}
 use Rattle.fax_check.proofs.TableLemmas.{table_checked}
@@ -10,5 +10,5 @@ returns g c =
     let old = state g.S.Store c.args.conn.now in
     let new = state g.S.Store c.pass.new.conn in
     ok_as old new _ _ _ _ c.in_ok-tally.ensures (λ stored told.
-        subst (IsTableChecked c.args.meta.now c.args.held.now c.args.table old.now) (sym c.flaw_of.ensures)
-        (table_checked (state g.S.Store (told.1).0) new old.now stored (told.1).1 c.args.meta.now c.args.held.now told.0 c.args.table c.in_ok-tally.tally (told.1).2 told.2))
+    subst (IsTableChecked c.args.meta.now c.args.held.now c.args.table old.now) (sym c.flaw_of.ensures)
+    (table_checked (state g.S.Store (told.1).0) new old.now stored (told.1).1 c.args.meta.now c.args.held.now told.0 c.args.table c.in_ok-tally.tally (told.1).2 told.2))

@@ -1,4 +1,4 @@
-use Rattle.std.proofs.Common.{◌≡◌, ◌+◌, ◌<◌, ◌≤◌, List, All, get_or, length, take, Ok, Some, None, refl, sym, ap, subst, ◌∙◌, rules}
+use Rattle.std.proofs.Common.{◌<◌, ◌≤◌, All, get_or, length, Ok, Some, None, sym, subst, rules}
 use Rattle.std.proofs.lemmas.List.{take_all}
 use Rattle.sqlite.specs.Held.{state}
 use Rattle.fax_check.specs.Check.{IsTableChecked, passed}
@@ -35,5 +35,5 @@ returns g c =
     let first = c.args.conn.now in
     let db = (state g.S.Store first).now in
     looks_since g.S.Store first c.loop-table.conn None _ c.loop-table.invariant.since (λ stored clean.
-        let all : length passed ≤ c.loop-table.table-index = search rules in
-        subst (All (IsWholeTable c.args.meta.now c.args.held.now db)) (take_all c.loop-table.table-index passed all) (c.loop-table.invariant.told stored clean))
+    let all : length passed ≤ c.loop-table.table-index = search rules in
+    subst (All (IsWholeTable c.args.meta.now c.args.held.now db)) (take_all c.loop-table.table-index passed all) (c.loop-table.invariant.told stored clean))

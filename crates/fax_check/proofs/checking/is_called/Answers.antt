@@ -1,8 +1,7 @@
-use Rattle.std.proofs.Common.{◌≡◌, ◌+◌, ◌<◌, ◌≤◌, ◌++◌, List, [], ◌∷◌, All, length, take, Ok, true, false, refl, sym, ap, subst, ◌∙◌, rules}
+use Rattle.std.proofs.Common.{◌<◌, ◌≤◌, All, length, Ok, true, false, refl, subst, rules}
 use Rattle.std.proofs.lemmas.List.{take_all}
 use Rattle.sqlite.specs.Held.{state}
-use Rattle.sqlite_rules.proofs.ListLemmas.{has_at}
-use Rattle.fax_check.specs.Check.{AreCalled, IsCalled}
+use Rattle.fax_check.specs.Check.{IsCalled}
 use Rattle.fax_check.proofs.BridgeLemmas.{all_grown, at_all}
 use Rattle.fax_check.proofs.TellsLemmas.{looks_since, looks_tells, since_tells, since_told}
 use Rattle.fax_check.proofs.checking.is_called.Goals as goal
@@ -36,5 +35,5 @@ returns g c =
     let first = c.args.conn.now in
     let db = (state g.S.Store first).now in
     looks_since g.S.Store first c.loop-holder.conn true _ c.loop-holder.invariant.since (λ stored clean.
-        let all : length c.args.held.now ≤ c.loop-holder.holder-index = search rules in
-        (λ _. subst (All (IsCalled db c.args.held.now)) (take_all c.loop-holder.holder-index c.args.held.now all) (c.loop-holder.invariant.told stored clean), λ _. refl))
+    let all : length c.args.held.now ≤ c.loop-holder.holder-index = search rules in
+    (λ _. subst (All (IsCalled db c.args.held.now)) (take_all c.loop-holder.holder-index c.args.held.now all) (c.loop-holder.invariant.told stored clean), λ _. refl))

@@ -1,4 +1,4 @@
-use Rattle.std.proofs.Common.{◌≡◌, ◌∷◌, List, [], subst, sym, ◌∙◌, ap, refl, rules}
+use Rattle.std.proofs.Common.{◌≡◌, ◌∷◌, List, [], subst, ◌∙◌, ap, refl, rules}
 use Rattle.sqlite.specs.Held.{state}
 use Rattle.sqlite.specs.State.{Shown}
 use Rattle.sqlite.specs.declared.types.Value.TheVariants.{Text}
@@ -24,5 +24,5 @@ returns g c =
     let rows = c.in_ok-rows.rows.items in
     let count : c.dialing-count.result ≡ dialing h.dial c.args.held.now = c.dialing-count.ensures ∙ ap (λ d. dialing d c.args.held.now) (search rules) in
     made_of old new c.in_ok-rows.rows _ _ _ c.in_ok-rows.ensures tt (λ stored shown.
-        let told : Shown SELECT_OPEN.now (Text h.dial ∷ []) old new rows = subst (λ p. Shown SELECT_OPEN.now p old new rows) (search rules) shown in
-        called_decides old new old.now stored refl c.args.held.now h rows told c.counts.result c.dialing-count.result count (subst (λ (rs : List Row). Decides c.counts.result ((row : Row) × Has rs row × HasNumber row 0 c.dialing-count.result)) c.as_slice.ensures.value c.counts.ensures))
+    let told : Shown SELECT_OPEN.now (Text h.dial ∷ []) old new rows = subst (λ p. Shown SELECT_OPEN.now p old new rows) (search rules) shown in
+    called_decides old new old.now stored refl c.args.held.now h rows told c.counts.result c.dialing-count.result count (subst (λ (rs : List Row). Decides c.counts.result ((row : Row) × Has rs row × HasNumber row 0 c.dialing-count.result)) c.as_slice.ensures.value c.counts.ensures))

@@ -1,6 +1,6 @@
-use Rattle.std.proofs.Common.{◌≡◌, ◌∙◌, Ok, Some, None, subst, sym, refl, ap, rules}
+use Rattle.std.proofs.Common.{subst}
 use Rattle.sqlite.specs.Held.{state}
-use Rattle.fax_check.specs.Holders.{IsGrantFound, IsGrantHeld}
+use Rattle.fax_check.specs.Holders.{IsGrantFound}
 use Rattle.fax_check.proofs.HolderLemmas.{no_grant_held, not_held}
 use Rattle.fax_check.proofs.TellsLemmas.{ok_as}
 use Rattle.fax_check.proofs.holders.grant_held.Goals.{in_default-via-in-Some+then-branch+else-is_shown, in_default-via-in-Some+else-branch, in_default-via-in_default}

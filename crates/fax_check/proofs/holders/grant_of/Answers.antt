@@ -22,9 +22,9 @@ returns-in-Some g c =
     let new = state g.S.Store c.show.new.conn in
     let rows = c.in_ok-rows.rows.items in
     made_of old new c.in_ok-rows.rows c.known.result _ _ c.in_ok-rows.ensures (known_cause c.grant_in.result c.known.result c.known.ensures) (λ stored shown.
-        let told : Shown SELECT_GRANT.now (number c.args.number ∷ []) old new rows = subst (λ p. Shown SELECT_GRANT.now p old new rows) (search rules) shown in
-        let finds : FindsRow SELECT_GRANT.now (number c.args.number ∷ []) old new (Some c.in-Some.row) = (rows, told, subst (λ o. MatchOption o (rows ≡ []) (Has rows)) c.in-Some.is (popped rows c.pop.new.self.items c.pop.result _ _ _ c.pop.ensures.items (search rules) c.pop.ensures.cases)) in
-        subst (λ r. IfOk r (IsGrantFound old.now c.args.number)) (sym c.known.ensures) (grant_known old.now stored c.args.number old new refl c.in-Some.row c.grant_in.result finds c.grant_in.ensures.found c.grant_in.ensures.stands))
+    let told : Shown SELECT_GRANT.now (number c.args.number ∷ []) old new rows = subst (λ p. Shown SELECT_GRANT.now p old new rows) (search rules) shown in
+    let finds : FindsRow SELECT_GRANT.now (number c.args.number ∷ []) old new (Some c.in-Some.row) = (rows, told, subst (λ o. MatchOption o (rows ≡ []) (Has rows)) c.in-Some.is (popped rows c.pop.new.self.items c.pop.result _ _ _ c.pop.ensures.items (search rules) c.pop.ensures.cases)) in
+    subst (λ r. IfOk r (IsGrantFound old.now c.args.number)) (sym c.known.ensures) (grant_known old.now stored c.args.number old new refl c.in-Some.row c.grant_in.result finds c.grant_in.ensures.found c.grant_in.ensures.stands))
 
 pub returns : goal.returns
 returns g c =
@@ -32,6 +32,6 @@ returns g c =
     let new = state g.S.Store c.show.new.conn in
     let rows = c.in_ok-rows.rows.items in
     made_of old new c.in_ok-rows.rows _ _ _ c.in_ok-rows.ensures tt (λ stored shown.
-        let told : Shown SELECT_GRANT.now (number c.args.number ∷ []) old new rows = subst (λ p. Shown SELECT_GRANT.now p old new rows) (search rules) shown in
-        let finds : FindsRow SELECT_GRANT.now (number c.args.number ∷ []) old new None = (rows, told, subst (λ o. MatchOption o (rows ≡ []) (Has rows)) c.in-None.is (popped rows c.pop.new.self.items c.pop.result _ _ _ c.pop.ensures.items (search rules) c.pop.ensures.cases)) in
-        no_grant_known old.now stored c.args.number old new refl finds)
+    let told : Shown SELECT_GRANT.now (number c.args.number ∷ []) old new rows = subst (λ p. Shown SELECT_GRANT.now p old new rows) (search rules) shown in
+    let finds : FindsRow SELECT_GRANT.now (number c.args.number ∷ []) old new None = (rows, told, subst (λ o. MatchOption o (rows ≡ []) (Has rows)) c.in-None.is (popped rows c.pop.new.self.items c.pop.result _ _ _ c.pop.ensures.items (search rules) c.pop.ensures.cases)) in
+    no_grant_known old.now stored c.args.number old new refl finds)

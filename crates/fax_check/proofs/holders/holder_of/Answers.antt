@@ -1,8 +1,7 @@
-use Rattle.std.proofs.Common.{◌≡◌, Ok, Some, None, subst, sym, refl, ap, rules}
+use Rattle.std.proofs.Common.{Some, subst, refl, rules}
 use Rattle.std.specs.Prelude.{IsTrue}
 use Rattle.sqlite.specs.Held.{state}
-use Rattle.fax_check.specs.Holders.{IsHolderOf, IsJobFound}
-use Rattle.fax_check.specs.Reading.{Tells}
+use Rattle.fax_check.specs.Holders.{IsJobFound}
 use Rattle.fax_check.proofs.HolderLemmas.{misfit_found, no_job_found}
 use Rattle.fax_check.proofs.TellsLemmas.{ok_as}
 use Rattle.fax_core.specs.Fits.{fits}
@@ -15,9 +14,9 @@ returns-in-Some g c =
     let new = state g.S.Store c.job_of.new.conn in
     let grant = c.args.grant in
     ok_as old new _ _ _ _ c.in_ok-job.ensures (λ stored found.
-        let there = subst (IsJobFound old.now grant.job) c.in-Some.is found in
-        let fit : IsTrue (fits c.in-Some.job (Some grant)) = search rules in
-        (c.in-Some.job, record { has = there.0; its = there.1; fit = fit }, record { modem = refl; job = refl; grant = refl; dial = search rules }))
+    let there = subst (IsJobFound old.now grant.job) c.in-Some.is found in
+    let fit : IsTrue (fits c.in-Some.job (Some grant)) = search rules in
+    (c.in-Some.job, record { has = there.0; its = there.1; fit = fit }, record { modem = refl; job = refl; grant = refl; dial = search rules }))
 
 pub returns-in_default : goal.returns-in_default
 returns-in_default g c =

@@ -1,14 +1,11 @@
-use Rattle.std.proofs.Common.{◌≡◌, ◌+◌, ◌<◌, ◌≤◌, ◌++◌, List, [], ◌∷◌, All, length, map, take, Ok, Some, None, true, if◌then◌else◌, refl, sym, ap, ap₂, subst, ◌∙◌, rules}
+use Rattle.std.proofs.Common.{◌≡◌, ◌<◌, ◌++◌, [], ◌∷◌, All, length, map, None, true, if◌then◌else◌, sym, ap, subst, ◌∙◌, rules}
 use Rattle.std.specs.Result.{is_ok}
-use Rattle.std.proofs.lemmas.List.{map-append, take_all}
 use Rattle.std.proofs.lemmas.List.Elements.{All-append, All-cons, All-nil}
 use Rattle.sqlite.specs.Held.{state}
-use Rattle.sqlite.specs.Order.{Row}
 use Rattle.sqlite_rules.proofs.ListLemmas.{has_at}
-use Rattle.fax_check.specs.Holders.{AreHoldersIn, IsHolderFound}
-use Rattle.fax_check.specs.Reading.{Tells}
-use Rattle.fax_check.specs.Whole.{Holder, IsRightHolder, holder_columns}
-use Rattle.fax_check.proofs.TellsLemmas.{looks_since, looks_tells, since_tells, since_told}
+use Rattle.fax_check.specs.Holders.{IsHolderFound}
+use Rattle.fax_check.specs.Whole.{IsRightHolder, holder_columns}
+use Rattle.fax_check.proofs.TellsLemmas.{looks_tells, since_tells, since_told}
 use Rattle.fax_tables.proofs.RowLemmas.{first_from, one_more_row}
 use Rattle.fax_check.proofs.holders.holders_in.Goals as goal
 

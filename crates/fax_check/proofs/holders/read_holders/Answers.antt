@@ -1,4 +1,4 @@
-use Rattle.std.proofs.Common.{List, IfOk, refl, subst, sym, rules}
+use Rattle.std.proofs.Common.{List, IfOk, subst, rules}
 use Rattle.sqlite.specs.Order.{Row}
 use Rattle.fax_check.specs.Holders.{AreHoldersIn}
 use Rattle.sqlite.specs.Held.{state}

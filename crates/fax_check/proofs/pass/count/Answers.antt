@@ -1,8 +1,4 @@
-use Rattle.std.proofs.Common.{◌≡◌, ◌+◌, ◌++◌, ℕ, List, [], ◌∷◌, All, length, length-append, MatchOption, Some, None, Ok, refl, sym, ap, subst, ◌∙◌, rules, arith}
-use Rattle.sqlite.specs.Given.{HasGiven}
-use Rattle.sqlite.specs.Held.{state}
-use Rattle.sqlite.specs.Order.{Row}
-use Rattle.sqlite.specs.State.{Shown}
+use Rattle.std.proofs.Common.{◌+◌, ◌++◌, [], ◌∷◌, All, length-append, MatchOption, sym, ap, subst, ◌∙◌}
 use Rattle.fax_check.specs.Pass.{IsStep}
 use Rattle.fax_check.specs.Table.{Shows}
 use Rattle.fax_check.proofs.TellsLemmas.{pass_more}

@@ -1,8 +1,8 @@
-use Rattle.std.proofs.Common.{◌≡◌, ◌∙◌, List, [], IfOk, refl, sym, ap, subst, rules}
+use Rattle.std.proofs.Common.{◌≡◌, List, [], subst, rules}
 use Rattle.sqlite.specs.Given.{HasBegun}
 use Rattle.sqlite.specs.Order.{Row}
 use Rattle.sqlite.specs.Held.{state}
-use Rattle.sqlite.specs.State.{CommitsShowing, FailsToQuery, HasCleanDisk, IsUnchanged, Survives}
+use Rattle.sqlite.specs.State.{CommitsShowing, FailsToQuery, HasCleanDisk, Survives}
 use Rattle.fax_check.specs.Pass.{AreRead, IsTally, text_of}
 use Rattle.fax_check.specs.Reading.{Tells}
 use Rattle.fax_check.specs.Table.{Shows}

@@ -1,4 +1,3 @@
-use Rattle.std.proofs.Common.{rules}
 use Rattle.sqlite.specs.Values.{bound}
 use Rattle.fax_check.proofs.TellsLemmas.{shown_tells, unshown_tells}
 use Rattle.fax_check.proofs.reading.show.Goals as goal
