@@ -10,12 +10,13 @@ _faxqd() {
         -*) [[ $word == -* ]] || return ;;&
         *)
             if [ "$COMP_CWORD" = 1 ]; then
-                words=$(compgen -W "serve replay list sendfax import help" -- "$word")
+                words=$(compgen -W "serve replay list check sendfax import help" -- "$word")
             else
                 case ${COMP_WORDS[1]} in
                     serve) words="--db --listen --connections --timeout --setup --controls --help" ;;
                     replay) words="--setup --controls --help" ;;
                     list) words="--db --moment --setup --controls --help" ;;
+                    check) words="--db --help" ;;
                     sendfax) words="-d --pages -i -P -t -T -a -k --moment --request --client --to --help" ;;
                     import) words="--client --request --help" ;;
                     *) return ;;

@@ -28,6 +28,8 @@ FAULTY = [
     ["serve", "--db", "queue.db", *ADDRESS, "--moment", "1"],
     ["list"], ["list", "--db"], ["list", "queue.db"], ["list", "--db", "queue.db", "more"],
     ["list", "--db", "queue.db", "--db", "queue.db"], ["list", "--db", "queue.db", *ADDRESS],
+    ["check"], ["check", "--db"], ["check", "queue.db"], ["check", "--db", "queue.db", "more"],
+    ["check", "--db", "queue.db", "--db", "queue.db"], ["check", "--db", "queue.db", "--moment", "1"],
 ]
 FAULTY += [["serve", "--db", "queue.db", *ADDRESS, f"--connections={number}"]
            for number in ("0", "1000001", "-1", "+1", "", " 1", "1.0", "1e3", "x", "99999999999999999999")]
@@ -53,10 +55,11 @@ def usage(folder):
 
 
 HELPED = [("\nThe send queue of a fax server\n", [words]) for words in ("--help", "-h", "help")]
-HELPED += [(f"\n  {command} ", ["--help"]) for command in ("replay", "serve", "list", "sendfax", "import")]
+HELPED += [(f"\n  {command} ", ["--help"]) for command in ("replay", "serve", "list", "check", "sendfax", "import")]
 OPTIONS = {
     "replay": ("--setup <FILE>", "--controls <FILE>"), "serve": SERVE,
     "list": ("--db <FILE>", "--moment <SECONDS>", "--setup <FILE>", "--controls <FILE>"),
+    "check": ("--db <FILE>",),
     "sendfax": ("-d <NUMBER>", "--pages <PAGES>", "-i <TAG>", "-P <PRIORITY>", "-t <TRIES>", "-T <DIALS>", "-a <TIME>",
                 "-k <TIME>", "--moment <SECONDS>", "--request <NUMBER>", "--client <NAME>"),
     "import": ("--client <NAME>", "--request <NUMBER>", "<FILE>..."),

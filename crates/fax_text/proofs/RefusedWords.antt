@@ -33,7 +33,9 @@ asks name words (inr (inr (inr (inr (inr (inr (inr (inl e)))))))) = ap (λ w. fa
 asks name words (inr (inr (inr (inr (inr (inr (inr (inr (inl e))))))))) = ap (λ w. fault_of program (name ∷ w)) e
 asks name words (inr (inr (inr (inr (inr (inr (inr (inr (inr (inl e)))))))))) = ap (λ w. fault_of program (name ∷ w)) e
 asks name words (inr (inr (inr (inr (inr (inr (inr (inr (inr (inr (inl e))))))))))) = ap (λ w. fault_of program (name ∷ w)) e
-asks name words (inr (inr (inr (inr (inr (inr (inr (inr (inr (inr (inr e))))))))))) = ap (λ w. fault_of program (name ∷ w)) e
+asks name words (inr (inr (inr (inr (inr (inr (inr (inr (inr (inr (inr (inl e)))))))))))) = ap (λ w. fault_of program (name ∷ w)) e
+asks name words (inr (inr (inr (inr (inr (inr (inr (inr (inr (inr (inr (inr (inl e))))))))))))) = ap (λ w. fault_of program (name ∷ w)) e
+asks name words (inr (inr (inr (inr (inr (inr (inr (inr (inr (inr (inr (inr (inr e))))))))))))) = ap (λ w. fault_of program (name ∷ w)) e
 
 -- where help is asked for, no command is entered that has no fault
 helped : (words : List Text) (result : Result Plan WordsFault) → fault_of program words ≡ kind.DisplayHelp ∷ [] → Reads words result → GivesHelp result
@@ -75,13 +77,15 @@ module _ (word : Text) (unknown : NamesNoCommand word) where
       let help = met (bytes_eq (codes "help") word) (codes "help") None in
       let import = met (bytes_eq (codes "import") word) (codes "import") help in
       let sendfax = met (bytes_eq (codes "sendfax") word) (codes "sendfax") import in
-      let list = met (bytes_eq (codes "list") word) (codes "list") sendfax in
+      let check = met (bytes_eq (codes "check") word) (codes "check") sendfax in
+      let list = met (bytes_eq (codes "list") word) (codes "list") check in
       ap (λ b. name (met b (codes "replay") (met (bytes_eq (codes "serve") word) (codes "serve") list))) (not_named (codes "replay") word unknown.1)
       ∙ ap (λ b. name (met b (codes "serve") list)) (not_named (codes "serve") word unknown.2)
-      ∙ ap (λ b. name (met b (codes "list") sendfax)) (not_named (codes "list") word unknown.3)
-      ∙ ap (λ b. name (met b (codes "sendfax") import)) (not_named (codes "sendfax") word unknown.4)
-      ∙ ap (λ b. name (met b (codes "import") help)) (not_named (codes "import") word unknown.5)
-      ∙ ap (λ b. name (met b (codes "help") None)) (not_named (codes "help") word unknown.6)
+      ∙ ap (λ b. name (met b (codes "list") check)) (not_named (codes "list") word unknown.3)
+      ∙ ap (λ b. name (met b (codes "check") sendfax)) (not_named (codes "check") word unknown.4)
+      ∙ ap (λ b. name (met b (codes "sendfax") import)) (not_named (codes "sendfax") word unknown.5)
+      ∙ ap (λ b. name (met b (codes "import") help)) (not_named (codes "import") word unknown.6)
+      ∙ ap (λ b. name (met b (codes "help") None)) (not_named (codes "help") word unknown.7)
 
   -- it is met as a value
   word_stray : word_met app.top.rules (names_of app) false idle 1 word nothing_held ≡ (nothing_held, value)
@@ -160,7 +164,9 @@ gives_usage name words result reads (inr (inr (inr (inr (inr (inl e)))))) =
     refused (name ∷ words) (kind.MissingRequiredArgument ∷ []) result (not_asked _ (λ e. cc) (λ e. cc)) (ap (λ w. fault_of program (name ∷ w)) e) reads
 gives_usage name words result reads (inr (inr (inr (inr (inr (inr (inl e))))))) =
     refused (name ∷ words) (kind.MissingRequiredArgument ∷ []) result (not_asked _ (λ e. cc) (λ e. cc)) (ap (λ w. fault_of program (name ∷ w)) e) reads
-gives_usage name words result reads (inr (inr (inr (inr (inr (inr (inr e))))))) =
+gives_usage name words result reads (inr (inr (inr (inr (inr (inr (inr (inl e)))))))) =
+    refused (name ∷ words) (kind.MissingRequiredArgument ∷ []) result (not_asked _ (λ e. cc) (λ e. cc)) (ap (λ w. fault_of program (name ∷ w)) e) reads
+gives_usage name words result reads (inr (inr (inr (inr (inr (inr (inr (inr e)))))))) =
     refused (name ∷ words) (kind.MissingRequiredArgument ∷ []) result (not_asked _ (λ e. cc) (λ e. cc)) (ap (λ w. fault_of program (name ∷ w)) e) reads
 gives_usage name words result reads (inr (inr (inr (inr (inl e))))) =
     refused (name ∷ words) (kind.MissingRequiredArgument ∷ []) result (not_asked _ (λ e. cc) (λ e. cc)) (ap (λ w. fault_of program (name ∷ w)) e) reads

@@ -10,7 +10,7 @@ use Rattle.fax_text.specs.CommandLine.{AskForReplay, GivesReplay, IsPlainWord}
 use Rattle.fax_text.specs.Server.{files_in}
 use Rattle.fax_text.specs.Words.{Reads, program}
 use Rattle.fax_text.specs.declared.words.Plan.{Plan}
-use Rattle.fax_text.specs.declared.words.Plan.TheVariants.{List as ListJobs, Replay, Serve, Sendfax, Import}
+use Rattle.fax_text.specs.declared.words.Plan.TheVariants.{Check, List as ListJobs, Replay, Serve, Sendfax, Import}
 use Rattle.fax_text.specs.declared.words.WordsFault.{WordsFault}
 use Rattle.fax_text.specs.declared.words.WordsFault.TheVariants.{Help, Usage, NoMemory}
 
@@ -117,6 +117,11 @@ no_list : (rows other : List Row) → ¬ (Some (codes "list", rows) ≡ entered 
 unfolding name_in
 no_list rows other e = let no : codes "list" ≡ codes "replay" = ap name_in e in cc
 
+-- nor `check`
+no_check : (rows other : List Row) → ¬ (Some (codes "check", rows) ≡ entered other)
+unfolding name_in
+no_check rows other e = let no : codes "check" ≡ codes "replay" = ap name_in e in cc
+
 -- nor `sendfax`
 no_sendfax : (rows other : List Row) → ¬ (Some (codes "sendfax", rows) ≡ entered other)
 unfolding name_in
@@ -132,6 +137,7 @@ given : (words : List Text) (setup controls : Option Text) (result : Result Plan
     → Reads words result → GivesReplay setup controls result
 given words setup controls (Ok (Serve plan)) is reads = no_serve reads.0.0 is.rows (sym reads.0.1 ∙ is.command)
 given words setup controls (Ok (ListJobs plan)) is reads = no_list reads.0.0 is.rows (sym reads.0.1 ∙ is.command)
+given words setup controls (Ok (Check plan)) is reads = no_check reads.0.0 is.rows (sym reads.0.1 ∙ is.command)
 given words setup controls (Ok (Sendfax plan)) is reads = no_sendfax reads.0.0 is.rows (sym reads.0.1 ∙ is.command)
 given words setup controls (Ok (Import plan)) is reads = no_import reads.0.0 is.rows (sym reads.0.1 ∙ is.command)
 given words setup controls (Ok (Replay files)) is reads =

@@ -7,7 +7,7 @@ use Rattle.clap.specs.Walk.{Text, first_of}
 use Rattle.clap.specs.declared.error.kind.ErrorKind.TheVariants as kind
 use Rattle.fax_text.specs.Option.{moment_or_none, number_or}
 use Rattle.fax_text.specs.Words.{IsPlanOf, program}
-use Rattle.fax_text.specs.declared.words.Plan.TheVariants.{List as ListJobs, Sendfax}
+use Rattle.fax_text.specs.declared.words.Plan.TheVariants.{Check, List as ListJobs, Sendfax}
 use Rattle.fax_text.proofs.RowsSendfax.{of_desk, text}
 
 abbrev desk_words : List Text
@@ -76,6 +76,20 @@ list_plan = (_, refl, record { files = refl; database = refl; moment = refl })
 no_database : fault_of program (codes "faxqd" ∷ codes "list" ∷ []) ≡ kind.MissingRequiredArgument ∷ []
 unfolding clap_on_literals
 no_database = refl
+
+-- words that ask for a check
+check_words : List Text
+check_words = codes "faxqd" ∷ codes "check" ∷ codes "--db" ∷ codes "queue.db" ∷ []
+
+-- have no fault
+check_has_no_fault : fault_of program check_words ≡ []
+unfolding clap_on_literals check_words
+check_has_no_fault = refl
+
+-- and spell this plan
+check_plan : IsPlanOf (subcommand_of program check_words) (Check (record { database = text (codes "queue.db") }))
+unfolding clap_on_literals check_words
+check_plan = (_, refl, record { database = refl })
 
 -- an option of sendfax(1) that isn't here
 cover_page : fault_of program (codes "faxqd" ∷ codes "sendfax" ∷ codes "-n" ∷ []) ≡ kind.UnknownArgument ∷ []

@@ -4,7 +4,7 @@ use Rattle.clap.specs.Lexer.{strip_byte}
 use Rattle.clap.specs.Walk.{Text}
 use Rattle.fax_text.specs.Server.{file_names}
 use Rattle.fax_text.specs.declared.words.Plan.{Plan}
-use Rattle.fax_text.specs.declared.words.Plan.TheVariants.{List as ListJobs, Replay, Serve, Sendfax, Import}
+use Rattle.fax_text.specs.declared.words.Plan.TheVariants.{Check, List as ListJobs, Replay, Serve, Sendfax, Import}
 use Rattle.fax_text.specs.declared.words.WordsFault.{WordsFault}
 use Rattle.fax_text.specs.declared.words.WordsFault.TheVariants.{Help, Usage, NoMemory}
 
@@ -41,28 +41,30 @@ AskForHelp words =
     ⊎ (words ≡ codes "replay" ∷ codes "--help" ∷ []) ⊎ (words ≡ codes "replay" ∷ codes "-h" ∷ [])
     ⊎ (words ≡ codes "serve" ∷ codes "--help" ∷ []) ⊎ (words ≡ codes "serve" ∷ codes "-h" ∷ [])
     ⊎ (words ≡ codes "list" ∷ codes "--help" ∷ []) ⊎ (words ≡ codes "list" ∷ codes "-h" ∷ [])
+    ⊎ (words ≡ codes "check" ∷ codes "--help" ∷ []) ⊎ (words ≡ codes "check" ∷ codes "-h" ∷ [])
     ⊎ (words ≡ codes "sendfax" ∷ codes "--help" ∷ []) ⊎ (words ≡ codes "sendfax" ∷ codes "-h" ∷ [])
     ⊎ (words ≡ codes "import" ∷ codes "--help" ∷ []) ⊎ (words ≡ codes "import" ∷ codes "-h" ∷ [])
 
 -- a word that names no command
 abbrev pub NamesNoCommand : Text → Type 0
 NamesNoCommand word =
-    IsPlainWord word × ¬ (word ≡ codes "replay") × ¬ (word ≡ codes "serve") × ¬ (word ≡ codes "list") × ¬ (word ≡ codes "sendfax")
-    × ¬ (word ≡ codes "import") × ¬ (word ≡ codes "help")
+    IsPlainWord word × ¬ (word ≡ codes "replay") × ¬ (word ≡ codes "serve") × ¬ (word ≡ codes "list") × ¬ (word ≡ codes "check")
+    × ¬ (word ≡ codes "sendfax") × ¬ (word ≡ codes "import") × ¬ (word ≡ codes "help")
 
 -- words that no command has: none, an unknown command, an option without its value, or a command without what it needs
 abbrev pub BreakTheUsage : List Text → Type 0
 BreakTheUsage words =
     (words ≡ []) ⊎ ((word : Text) × (behind : List Text) × NamesNoCommand word × (words ≡ word ∷ behind))
     ⊎ (words ≡ codes "replay" ∷ codes "--setup" ∷ []) ⊎ (words ≡ codes "replay" ∷ codes "--controls" ∷ [])
-    ⊎ (words ≡ codes "serve" ∷ []) ⊎ (words ≡ codes "list" ∷ []) ⊎ (words ≡ codes "sendfax" ∷ [])
-    ⊎ (words ≡ codes "import" ∷ [])
+    ⊎ (words ≡ codes "serve" ∷ []) ⊎ (words ≡ codes "list" ∷ []) ⊎ (words ≡ codes "check" ∷ [])
+    ⊎ (words ≡ codes "sendfax" ∷ []) ⊎ (words ≡ codes "import" ∷ [])
 
 -- a plan with these files, unless memory ran out
 abbrev pub GivesReplay : Option Text → Option Text → Result Plan WordsFault → Type 0
 GivesReplay setup controls (Ok (Replay files)) = file_names files ≡ (setup, controls)
 GivesReplay setup controls (Ok (Serve plan)) = ⊥
 GivesReplay setup controls (Ok (ListJobs plan)) = ⊥
+GivesReplay setup controls (Ok (Check plan)) = ⊥
 GivesReplay setup controls (Ok (Sendfax plan)) = ⊥
 GivesReplay setup controls (Ok (Import plan)) = ⊥
 GivesReplay setup controls (Err (Help text)) = ⊥

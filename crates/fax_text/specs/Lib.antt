@@ -1,3 +1,4 @@
+pub mod CheckWords
 pub mod Civil
 pub mod Column
 pub mod CommandLine

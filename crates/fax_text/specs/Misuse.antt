@@ -50,6 +50,7 @@ pub record IsNoCommand (found : Option (Text × List Row)) : Type 0 where
   pub replay : (rows : List Row) → ¬ (found ≡ Some (codes "replay", rows))
   pub serve : (rows : List Row) → ¬ (found ≡ Some (codes "serve", rows))
   pub list : (rows : List Row) → ¬ (found ≡ Some (codes "list", rows))
+  pub check : (rows : List Row) → ¬ (found ≡ Some (codes "check", rows))
   pub sendfax : (rows : List Row) → ¬ (found ≡ Some (codes "sendfax", rows))
   pub import : (rows : List Row) → ¬ (found ≡ Some (codes "import", rows))
 

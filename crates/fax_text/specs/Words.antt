@@ -7,10 +7,12 @@ use Rattle.clap.specs.Simple.{App, new_app, on_top, subcommand_of, with_rule, wi
 use Rattle.clap.specs.Walk.{Row, Text, first_of}
 use Rattle.clap.specs.declared.error.kind.ErrorKind.{ErrorKind}
 use Rattle.clap.specs.declared.error.kind.ErrorKind.TheVariants.{DisplayHelp, DisplayVersion, OutOfMemory}
+use Rattle.fax_text.specs.declared.check_words.CheckPlan.{CheckPlan}
 use Rattle.fax_text.specs.declared.import_words.ImportPlan.{ImportPlan}
 use Rattle.fax_text.specs.declared.list_words.ListPlan.{ListPlan}
 use Rattle.fax_text.specs.declared.sendfax.SendPlan.{SendPlan}
 use Rattle.fax_text.specs.declared.server.ServePlan.{ServePlan}
+use Rattle.fax_text.specs.CheckWords.{IsCheckPlan, check_command}
 use Rattle.fax_text.specs.ImportWords.{IsImportPlan, import_command}
 use Rattle.fax_text.specs.ListWords.{IsListPlan, list_command}
 use Rattle.fax_text.specs.Misuse.{IsMisuseOf, usage_line}
@@ -19,7 +21,7 @@ use Rattle.fax_text.specs.Server.{IsServePlan, file_names, files_in, replay_comm
 use Rattle.fax_text.specs.declared.words.Misuse.{Misuse}
 use Rattle.fax_text.specs.declared.words.Misuse.TheVariants as misuse
 use Rattle.fax_text.specs.declared.words.Plan.{Plan}
-use Rattle.fax_text.specs.declared.words.Plan.TheVariants.{List as ListJobs, Replay, Serve, Sendfax, Import}
+use Rattle.fax_text.specs.declared.words.Plan.TheVariants.{Check, List as ListJobs, Replay, Serve, Sendfax, Import}
 use Rattle.fax_text.specs.declared.words.WordsFault.{WordsFault}
 use Rattle.fax_text.specs.declared.words.WordsFault.TheVariants.{Help, Usage, NoMemory}
 
@@ -47,8 +49,8 @@ sendfax_command = with_request (with_times (with_limits (with_fax (new_app (code
 -- `faxqd COMMAND`
 abbrev pub program : App
 program =
-    with_subcommand (with_subcommand (with_subcommand (with_subcommand (with_subcommand (on_top (λ s. record s { subcommand_required = true }) (new_app (codes "faxqd")))
-    replay_command.top) serve_command.top) list_command.top) sendfax_command.top) import_command.top
+    with_subcommand (with_subcommand (with_subcommand (with_subcommand (with_subcommand (with_subcommand (on_top (λ s. record s { subcommand_required = true }) (new_app (codes "faxqd")))
+    replay_command.top) serve_command.top) list_command.top) check_command.top) sendfax_command.top) import_command.top
 
 -- ---- what the words ask for
 
@@ -72,6 +74,7 @@ abbrev pub IsPlanOf : Option (Text × List Row) → Plan → Type 0
 IsPlanOf found (Replay files) = (rows : List Row) × (found ≡ Some (codes "replay", rows)) × (file_names files ≡ files_in rows)
 IsPlanOf found (Serve plan) = (rows : List Row) × (found ≡ Some (codes "serve", rows)) × IsServePlan rows plan
 IsPlanOf found (ListJobs plan) = (rows : List Row) × (found ≡ Some (codes "list", rows)) × IsListPlan rows plan
+IsPlanOf found (Check plan) = (rows : List Row) × (found ≡ Some (codes "check", rows)) × IsCheckPlan rows plan
 IsPlanOf found (Sendfax plan) = (rows : List Row) × (found ≡ Some (codes "sendfax", rows)) × IsSendPlan rows plan
 IsPlanOf found (Import plan) = (rows : List Row) × (found ≡ Some (codes "import", rows)) × IsImportPlan rows plan
 
@@ -80,6 +83,7 @@ pub record IsNoPlan (found : Option (Text × List Row)) : Type 0 where
   pub replay : (rows : List Row) → ¬ (found ≡ Some (codes "replay", rows))
   pub serve : (plan : ServePlan) → ¬ (IsPlanOf found (Serve plan))
   pub list : (plan : ListPlan) → ¬ (IsPlanOf found (ListJobs plan))
+  pub check : (plan : CheckPlan) → ¬ (IsPlanOf found (Check plan))
   pub sendfax : (plan : SendPlan) → ¬ (IsPlanOf found (Sendfax plan))
   pub import : (plan : ImportPlan) → ¬ (IsPlanOf found (Import plan))
 

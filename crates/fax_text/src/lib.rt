@@ -3,6 +3,7 @@
 //! the command line are read into a [`Plan`], and a command ends with a [`Status`].
 #![tactic(auto)]
 
+mod check_words;
 mod column;
 mod import;
 mod import_words;
@@ -14,6 +15,7 @@ mod status;
 mod time;
 mod words;
 
+pub use check_words::CheckPlan;
 pub use import::{ImportFault, first_number, import_request};
 pub use import_words::ImportPlan;
 pub use list_words::ListPlan;

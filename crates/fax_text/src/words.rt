@@ -9,6 +9,7 @@ ghost use Rattle.fax_text.specs.Misuse.{IsMisuse, IsMisuseOf, misuse_text};
 ghost use Rattle.fax_text.specs.Option.{long_option, moment_or_none, number_from, number_or, short_option};
 ghost use Rattle.fax_text.specs.Words.{IsNoPlan, IsPlanOf, IsSendPlan, Reads, TellsKind, TellsMisuse, program, sendfax_command, with_fax, with_limits, with_request, with_times};
 
+use crate::check_words::{CHECK, CheckPlan, check_command, check_plan_in};
 use crate::import_words::{IMPORT, ImportPlan, import_command, import_plan_in};
 use crate::list_words::{LIST, ListPlan, list_command, list_plan_in};
 use crate::sendfax::SendPlan;
@@ -32,6 +33,8 @@ pub enum Plan<'a> {
     Serve(ServePlan<'a>),
     /// List the jobs in a database.
     List(ListPlan<'a>),
+    /// Test the rows of a database.
+    Check(CheckPlan<'a>),
     /// Hand in a job, or print the request that does.
     Sendfax(SendPlan<'a>),
     /// Print the requests that bring the jobs of an older queue in.
@@ -149,6 +152,9 @@ fn plan_in<'a>(alloc: Global, matches: &ArgMatches<'a>) -> Result<Plan<'a>, Misu
     }
     if let Some(options) = matches.subcommand_matches(LIST) {
         return Ok(Plan::List(list_plan_in(options)?));
+    }
+    if let Some(options) = matches.subcommand_matches(CHECK) {
+        return Ok(Plan::Check(check_plan_in(options)?));
     }
     if let Some(options) = matches.subcommand_matches(SENDFAX) {
         return Ok(Plan::Sendfax(send_plan_in(options)?));
@@ -273,6 +279,7 @@ fn command<'a>(alloc: Global) -> Result<Command<'a>, AllocError>
         .subcommand(replay_command(alloc)?)?
         .subcommand(serve_command(alloc)?)?
         .subcommand(list_command(alloc)?)?
+        .subcommand(check_command(alloc)?)?
         .subcommand(sendfax_command(alloc)?)?
         .subcommand(import_command(alloc)?)
 }

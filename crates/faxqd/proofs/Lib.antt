@@ -1,3 +1,4 @@
+mod CheckLemmas
 mod EndsLemmas
 mod ListLemmas
 mod RestartsLemmas

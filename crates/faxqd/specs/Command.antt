@@ -2,6 +2,7 @@
 use Rattle.std.specs.Prelude.{◌≡◌, ℕ, false, List, [], ◌∷◌, codes, Option, Result, Ok, Err, string_bytes}
 use Rattle.fax_http.specs.Device.{BrokeOff, Put}
 use Rattle.fax_http.specs.declared.device.Watched.{Watched}
+use Rattle.faxqd.specs.Check.{Checks}
 use Rattle.faxqd.specs.Import.{Imports}
 use Rattle.faxqd.specs.List.{Lists}
 use Rattle.faxqd.specs.Replay.{Ends}
@@ -14,7 +15,7 @@ use Rattle.fax_text.specs.Words.{Reads}
 use Rattle.fax_text.specs.declared.status.Status.{Status}
 use Rattle.fax_text.specs.declared.status.Status.TheVariants.{Success, Fault, Usage as Misused}
 use Rattle.fax_text.specs.declared.words.Plan.{Plan}
-use Rattle.fax_text.specs.declared.words.Plan.TheVariants.{Replay, Serve, List as ListJobs, Sendfax, Import}
+use Rattle.fax_text.specs.declared.words.Plan.TheVariants.{Check, Replay, Serve, List as ListJobs, Sendfax, Import}
 use Rattle.fax_text.specs.declared.words.WordsFault.{WordsFault}
 use Rattle.fax_text.specs.declared.words.WordsFault.TheVariants.{Help, Usage, NoMemory}
 
@@ -42,6 +43,7 @@ module _ {R W : Type 0} (remaining : R → Option (List ℕ)) (contents : W → 
   CarriesOut (Replay files) status line = Ends remaining contents reader reader₂ out out₂ files status line
   CarriesOut (Serve plan) status line = (reader₂ ≡ reader) × EndsServing contents out out₂ plan status line
   CarriesOut (ListJobs plan) status line = (reader₂ ≡ reader) × Lists contents out out₂ plan status line
+  CarriesOut (Check plan) status line = (reader₂ ≡ reader) × Checks contents out out₂ status line
   CarriesOut (Sendfax plan) status line = (reader₂ ≡ reader) × Hands contents out out₂ plan status line
   CarriesOut (Import plan) status line = (reader₂ ≡ reader) × Imports contents out out₂ plan status line
 

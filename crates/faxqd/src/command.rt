@@ -5,6 +5,7 @@ ghost use Rattle.fax_ending.specs.Ending.{no_memory, spoken};
 ghost use Rattle.faxqd.specs.Command.{CarriesOut, Runs, Tells, not_utf8};
 ghost use Rattle.faxqd.specs.Saying.{Says};
 
+use crate::check::check;
 use crate::import::import;
 use crate::list::list;
 use crate::replay::replay;
@@ -56,6 +57,7 @@ fn carry_out<'a, S: Start, R: Read + Drop, W: Write + Drop>(
         Plan::Replay(files) => replay(rt, files, reader, out),
         Plan::Serve(plan) => serve(rt, plan, MachineClock::new(rt), start, out).0,
         Plan::List(plan) => list(rt, plan, start, out).0,
+        Plan::Check(plan) => check(rt, plan, start, out).0,
         Plan::Sendfax(plan) => sendfax(rt, &plan, out),
         Plan::Import(plan) => import(rt, &plan, out),
     }

@@ -1,6 +1,7 @@
 //! faxqd: the send queue of a fax server.
 #![tactic(auto)]
 
+mod check;
 mod command;
 mod import;
 mod laws;

@@ -17,8 +17,10 @@ returns c =
     ∙ ap₂ with_subcommand first (ap (λ (a : App). a.top) c.in_ok-serve_command.ensures.shape) in
     let third = c.in_ok-subcommand-3.ensures.shape c.in_ok-list_command.ensures.local
     ∙ ap₂ with_subcommand second (ap (λ (a : App). a.top) c.in_ok-list_command.ensures.shape) in
-    let fourth = c.in_ok-subcommand-4.ensures.shape (plain_is_local _ _ _ _ (ap (λ (a : App). a.top.is_plain) sendfax))
-    ∙ ap₂ with_subcommand third (ap (λ (a : App). a.top) sendfax) in
-    IfOk-weaker c.subcommand-5.result _ _
-    (λ made h. h.shape c.in_ok-import_command.ensures.local ∙ ap₂ with_subcommand fourth (ap (λ (a : App). a.top) c.in_ok-import_command.ensures.shape))
-    c.subcommand-5.ensures
+    let fourth = c.in_ok-subcommand-4.ensures.shape c.in_ok-check_command.ensures.local
+    ∙ ap₂ with_subcommand third (ap (λ (a : App). a.top) c.in_ok-check_command.ensures.shape) in
+    let fifth = c.in_ok-subcommand-5.ensures.shape (plain_is_local _ _ _ _ (ap (λ (a : App). a.top.is_plain) sendfax))
+    ∙ ap₂ with_subcommand fourth (ap (λ (a : App). a.top) sendfax) in
+    IfOk-weaker c.subcommand-6.result _ _
+    (λ made h. h.shape c.in_ok-import_command.ensures.local ∙ ap₂ with_subcommand fifth (ap (λ (a : App). a.top) c.in_ok-import_command.ensures.shape))
+    c.subcommand-6.ensures

@@ -1,0 +1,135 @@
+-- What a check tells of what the files held.
+use Rattle.std.proofs.Common.{◌≡◌, ◌==◌, inl, inr, refl, sym, subst, ℕ, List, [], ◌∷◌, map, Bool, if◌then◌else◌, Option, Some, None, Result, Ok, Err}
+use Rattle.std.proofs.lemmas.Bool.{cases_Bool}
+use Rattle.std.specs.Prelude.{IfOk, MatchOption, false}
+use Rattle.sqlite.specs.Effect.{Database}
+use Rattle.sqlite.specs.Order.{Row, column}
+use Rattle.sqlite.specs.State.{State, HasCleanDisk}
+use Rattle.sqlite.specs.declared.types.Value.{Value}
+use Rattle.sqlite_wal.specs.Recovery.{Image}
+use Rattle.fax_check.proofs.NumberLemmas.{sound_stored}
+use Rattle.fax_check.specs.Check.{IsChecked}
+use Rattle.fax_check.specs.Reading.{Tells}
+use Rattle.fax_check.specs.Sound.{IsSound, IsStored}
+use Rattle.fax_check.specs.declared.tables.Flaw.{Flaw}
+use Rattle.fax_core.proofs.StepLemmas.{empty_sound}
+use Rattle.fax_core.specs.Ledger.{Ledger, empty_ledger}
+use Rattle.fax_core.specs.Queue.{Queue, empty_queue}
+use Rattle.fax_files.specs.Database.{IsFound}
+use Rattle.fax_http.specs.Device.{Put}
+use Rattle.fax_http.specs.declared.device.Watched.{Watched}
+use Rattle.fax_schema.specs.ByRowid.{IsByRowid}
+use Rattle.fax_schema.specs.Schema.{AreOurs, meta_tree}
+use Rattle.fax_store.specs.Adopt.{HasTaken, IsOurs, IsTaken}
+use Rattle.fax_store.specs.Store.{Means, Serves}
+use Rattle.fax_tables.specs.Row.{number, raised}
+use Rattle.fax_tables.specs.Tables.{RowsMean, TablesMean, meta_as, version_of}
+use Rattle.fax_tables.specs.declared.fault.StoreFault.{StoreFault}
+use Rattle.fax_text.specs.declared.status.Status.{Status}
+use Rattle.fax_text.specs.declared.status.Status.TheVariants.{Success, Fault, Usage}
+use Rattle.faxqd.specs.Check.{Checks, ChecksBy, HasNoDatabase, IsTrueOf, IsVerdictOn, MeanSound, Prints, StandByRowid, sound_line}
+
+-- ---- rows that were taken
+
+-- one row of meta stands by rowid, as the second version has it
+raised_by : (rows : List Row) (v : Value) → map (λ r. column r 5) rows ≡ v ∷ [] → IsByRowid rows → IsByRowid (map raised rows)
+raised_by [] v one by = absurd cc
+raised_by (r ∷ []) v one by = record { rise = (tt, tt); integers = (by.integers.0, tt) }
+raised_by (r ∷ s ∷ rows) v one by = absurd cc
+
+-- so it does, of whatever version it is
+meta_by : (version : ℕ) (rows : List Row) (v : Value) → map (λ r. column r 5) rows ≡ v ∷ [] → IsByRowid rows → IsByRowid (meta_as version rows)
+meta_by version rows v one by =
+    let raises = λ (is : Bool). IsByRowid (if is then map raised rows else rows) in
+    elim (cases_Bool (version == 1)) [
+      | inl first ↦ subst raises (sym first) (raised_by rows v one by)
+      | inr second ↦ subst raises (sym second) by
+    ]
+
+module _ (found now : Database) (ours : IsOurs found) (taken : IsTaken found now) where
+  -- the tables that were taken are stored as a check wants them
+  taken_stored : StandByRowid found now → IsStored now
+  taken_stored by = record {
+    schema_is = taken.schema_is;
+    sound = taken.sound;
+    ordered = by.rows;
+    meta_ordered = subst IsByRowid (sym (taken.meta (inr by.meta))) (meta_by (version_of found.schema) (found.trees meta_tree) (number (version_of found.schema)) ours.version by.meta);
+  }
+
+  -- where they mean a sound queue, so do the rows that were found
+  found_sound : IsByRowid (found.trees meta_tree) → IsSound now → MeanSound found
+  found_sound by sound = (
+    sound.0,
+    sound.1,
+    record { version = ours.version; full = now; means = sound.2; same = record { rows = taken.rows; meta = taken.meta (inr by); floors = taken.floors } },
+    sound.3,
+  )
+
+-- ---- what is told
+
+-- of an empty queue no flaw is told
+no_flaw : (opened new : State) (verdict : Option Flaw) → TablesMean opened.now empty_queue empty_ledger → Tells opened new (Ok verdict) IsChecked → HasCleanDisk new → verdict ≡ None
+no_flaw opened new None means it clean = refl
+no_flaw opened new (Some flaw) means it clean =
+    let sound : IsSound opened.now = (empty_queue, empty_ledger, means, empty_sound) in
+    absurd (it.tells (sound_stored opened.now sound) clean sound)
+
+-- of a queue's rows what is told is true
+is_true : (found : Database) (opened new : State) (verdict : Option Flaw) → IsOurs found → HasTaken opened found → Serves opened
+    → ((m : Queue) (k : Ledger) → AreOurs found.schema → RowsMean found m k → Means opened m k)
+    → Tells opened new (Ok verdict) IsChecked → HasCleanDisk new → IsTrueOf found new.now verdict
+is_true found opened new None ours has serves means it clean = λ by.
+    let same = (it.reads has.taken.schema_is clean).0.now_is in
+    let here : StandByRowid found opened.now = subst (λ (now : Database). StandByRowid found now) same by in
+    found_sound found opened.now ours has.taken here.meta (it.tells (taken_stored found opened.now ours has.taken here) clean)
+is_true found opened new (Some flaw) ours has serves means it clean = λ mean.
+    let sound : IsSound opened.now = (mean.0, mean.1, (means mean.0 mean.1 ours.schema_is mean.2 serves).means, mean.3) in
+    it.tells (sound_stored opened.now sound) clean sound
+
+-- so it is of whatever the files held
+verdict_on : (image : Image) (opened new : State) (verdict : Result (Option Flaw) StoreFault) → (HasCleanDisk opened → IsFound image opened)
+    → Tells opened new verdict IsChecked → HasCleanDisk new → IfOk verdict (IsVerdictOn image new.now)
+verdict_on image opened new (Err fault) found it clean = tt
+verdict_on image opened new (Ok verdict) found it clean =
+    let was = found (it.clean clean) in
+    record {
+      found = was.found;
+      held = was.held;
+      sound = was.sound;
+      told = elim was.taken [
+        | inl (none, rest) ↦ inl (none, no_flaw opened new verdict rest.means it clean)
+        | inr (ours, has) ↦ inr (ours, is_true was.found opened new verdict ours has was.serves was.means it clean)
+      ];
+    }
+
+-- ---- the end
+
+module _ {W : Type 0} (contents : W → Option (List ℕ)) (out out₂ : Watched W) (image : Image) where
+  -- what is told of the opened database is told of its files
+  pub checks_by : (status : Status) (line : List ℕ) (opened new : State) (verdict : Result (Option Flaw) StoreFault) → (HasCleanDisk opened → IsFound image opened)
+      → Tells opened new verdict IsChecked → Prints contents out out₂ verdict status line → ChecksBy contents out out₂ image status line new
+  checks_by status line opened new verdict found it prints = record { verdict = verdict; prints = prints; held = verdict_on image opened new verdict found it }
+
+  -- a check succeeds where it prints that there is no flaw
+  well : (verdict : Result (Option Flaw) StoreFault) (line : List ℕ) → Prints contents out out₂ verdict Success line → Put contents out out₂ sound_line false × (line ≡ [])
+  well (Ok None) line prints = prints
+  well (Ok (Some flaw)) line prints = absurd prints
+  well (Err fault) line prints = absurd prints
+
+  -- and is no usage fault
+  no_usage : (verdict : Result (Option Flaw) StoreFault) (line : List ℕ) → Prints contents out out₂ verdict Usage line → ⊥
+  no_usage (Ok None) line prints = prints
+  no_usage (Ok (Some flaw)) line prints = prints
+  no_usage (Err fault) line prints = prints
+
+  checks_of : (status : Status) (line : List ℕ) (new : State) → ChecksBy contents out out₂ image status line new → Checks contents out out₂ status line
+  checks_of Success line new by = well by.verdict line by.prints
+  checks_of Fault line new by = inr (by.verdict, by.prints)
+  checks_of Usage line new by = no_usage by.verdict line by.prints
+
+  -- however it ends, that is its end
+  pub checks_with : {Q : Type 0} (state_of : Q → State) (status : Status) (line : List ℕ) (left : Option Q)
+      → MatchOption left ((status ≡ Fault) × (out₂ ≡ out) × HasNoDatabase line) (λ conn. ChecksBy contents out out₂ image status line (state_of conn))
+      → Checks contents out out₂ status line
+  checks_with state_of status line (Some conn) by = checks_of status line (state_of conn) by
+  checks_with state_of status line None (fault, same, none) = subst (λ s. Checks contents out out₂ s line) (sym fault) (inl (same, none))

@@ -1,0 +1,86 @@
+-- How the command `check` ends, and what it tells.
+use Rattle.std.specs.Prelude.{◌≡◌, ◌⊎◌, ℕ, ℤ, pos, negsuc, false, List, [], ◌∷◌, ◌++◌, codes, Option, Some, None, Result, Ok, Err, IfOk}
+use Rattle.std.specs.Fmt.{decimal}
+use Rattle.sqlite.specs.Effect.{Database, IsDatabase}
+use Rattle.sqlite.specs.State.{State, HasCleanDisk}
+use Rattle.sqlite_wal.specs.Recovery.{Image}
+use Rattle.fax_check.specs.Check.{table_name}
+use Rattle.fax_check.specs.declared.tables.Flaw.{Flaw}
+use Rattle.fax_core.specs.Ledger.{Ledger}
+use Rattle.fax_core.specs.Queue.{Queue}
+use Rattle.fax_core.specs.Sound.{Sound}
+use Rattle.fax_ending.specs.Ending.{no_database, write_failed}
+use Rattle.fax_files.specs.Database.{AreHeld}
+use Rattle.fax_files.specs.FaultLine.{open_line}
+use Rattle.fax_files.specs.declared.database.OpenFault.{OpenFault}
+use Rattle.fax_http.specs.Device.{BrokeOff, Put}
+use Rattle.fax_http.specs.declared.device.Watched.{Watched}
+use Rattle.fax_schema.specs.ByRowid.{IsByRowid}
+use Rattle.fax_schema.specs.Schema.{meta_tree, no_tables}
+use Rattle.fax_store.specs.Adopt.{IsOurs}
+use Rattle.fax_tables.specs.Tables.{AreByRowid, RowsMean}
+use Rattle.fax_tables.specs.declared.fault.StoreFault.{StoreFault}
+use Rattle.fax_text.specs.declared.status.Status.{Status}
+use Rattle.fax_text.specs.declared.status.Status.TheVariants.{Success, Fault, Usage}
+
+-- ---- what is told
+
+-- the rows that were found mean a sound queue
+abbrev pub MeanSound : Database → Type 0
+MeanSound found = (m : Queue) × (k : Ledger) × RowsMean found m k × Sound m
+
+-- Rows stand by rowid, as `sqlite` keeps those of every table: those that are checked, and those of meta as they were found.
+pub record StandByRowid (found now : Database) : Type 0 where
+  pub rows : AreByRowid now
+  pub meta : IsByRowid (found.trees meta_tree)
+
+-- where no flaw is told the rows mean a sound queue, and where one is they mean none
+abbrev pub IsTrueOf : Database → Database → Option Flaw → Type 0
+IsTrueOf found now None = StandByRowid found now → MeanSound found
+IsTrueOf found now (Some flaw) = ¬ MeanSound found
+
+-- What the files held has no tables, and no flaw is told; or it is a queue's, and that is true of it. The rows that are checked are these.
+pub record IsVerdictOn (image : Image) (now : Database) (verdict : Option Flaw) : Type 0 where
+  pub found : Database
+  pub held : AreHeld image found.trees
+  pub sound : IsDatabase found
+  pub told : ((found.schema ≡ no_tables) × (verdict ≡ None)) ⊎ (IsOurs found × IsTrueOf found now verdict)
+
+-- ---- the end
+
+abbrev pub sound_line : List ℕ
+sound_line = codes "faxqd: sound\n"
+
+-- the row of the table with this number, if it isn't below 0; or one is missing
+abbrev pub row_line : List ℕ → Option ℤ → List ℕ
+row_line table (Some (pos number)) = codes "faxqd: unsound: row " ++ decimal number ++ codes " of " ++ table ++ 10 ∷ []
+row_line table (Some (negsuc number)) = codes "faxqd: unsound: a row of " ++ table ++ 10 ∷ []
+row_line table None = codes "faxqd: unsound: a row of " ++ table ++ codes " is missing" ++ 10 ∷ []
+
+abbrev pub flaw_line : Flaw → List ℕ
+flaw_line flaw = row_line (table_name flaw.table) flaw.row
+
+-- what is wrong with the database
+abbrev pub HasNoDatabase : List ℕ → Type 0
+HasNoDatabase line = (cause : OpenFault) × (line ≡ open_line cause)
+
+module _ {W : Type 0} (contents : W → Option (List ℕ)) (out out₂ : Watched W) where
+  -- That no row has a flaw is printed, or the output failed. A flaw is said, and so is it where the database gave no answer, and nothing is printed.
+  abbrev pub Prints : Result (Option Flaw) StoreFault → Status → List ℕ → Type 0
+  Prints (Ok None) Success line = Put contents out out₂ sound_line false × (line ≡ [])
+  Prints (Ok None) Fault line = BrokeOff contents out out₂ sound_line × (line ≡ write_failed)
+  Prints (Ok (Some flaw)) Fault line = (out₂ ≡ out) × (line ≡ flaw_line flaw)
+  Prints (Err fault) Fault line = (out₂ ≡ out) × (line ≡ no_database)
+  Prints verdict status line = ⊥
+
+  -- It told what is true of the rows that the database's files held.
+  pub record ChecksBy (image : Image) (status : Status) (line : List ℕ) (new : State) : Type 0 where
+    pub verdict : Result (Option Flaw) StoreFault
+    pub prints : Prints verdict status line
+    pub held : HasCleanDisk new → IfOk verdict (IsVerdictOn image new.now)
+
+  -- So where it succeeds, it printed that they are sound. Where it doesn't, it has no database, or told something else, or the output failed.
+  abbrev pub Checks : Status → List ℕ → Type 0
+  Checks Success line = Put contents out out₂ sound_line false × (line ≡ [])
+  Checks Fault line = ((out₂ ≡ out) × HasNoDatabase line) ⊎ ((verdict : Result (Option Flaw) StoreFault) × Prints verdict Fault line)
+  Checks Usage line = ⊥
