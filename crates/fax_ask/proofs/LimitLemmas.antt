@@ -11,8 +11,8 @@ use Rattle.fax_job.specs.declared.order.OrderFault.TheVariants.{NotAlterable}
 use Rattle.fax_job.specs.declared.refusal.Refusal.TheVariants.{Unavailable}
 use Rattle.fax_job.specs.Alter.{if_there, is_alterable, changes_of, alter_of}
 use Rattle.fax_job.specs.Job.{is_lawful, are_lawful_pages, are_lawful_tries, are_lawful_dials}
-use Rattle.fax_job.specs.Limits.{last_next, most_attempts, most_pages}
-use Rattle.fax_job.specs.Number.{number_of}
+use Rattle.fax_value.specs.Limits.{last_next, most_attempts, most_pages}
+use Rattle.fax_value.specs.Number.{number_of}
 use Rattle.fax_job.specs.Order.{◌>>=◌, modem_in, jobtag_in, tts_in, killtime_in, priority_in, limit_in, maxtries_in, maxdials_in, number_within, order_of}
 use Rattle.fax_job.specs.Pair.{Pair, value_of, are_unknown}
 use Rattle.fax_core.specs.Ask as machine

@@ -1,7 +1,7 @@
 -- Why a body of JSON is refused.
 use Rattle.std.proofs.Common.{◌≡◌, ℕ, Bool, true, false, cond, List, sym, subst, inl, inr}
 use Rattle.std.specs.Prelude.{Option, Ok, Err}
-use Rattle.fax_job.specs.declared.text_fault.TextFault.TheVariants.{Bad}
+use Rattle.fax_value.specs.declared.text_fault.TextFault.TheVariants.{Bad}
 use Rattle.serde_json.specs.Data.{Data}
 use Rattle.fax_job.specs.declared.refusal.Refusal.{Refusal}
 use Rattle.fax_ask.specs.Report.{IsJsonRefusal, IsReportRefusal}

@@ -10,8 +10,8 @@ use Rattle.std.proofs.lemmas.Bool.{and_parts, or_from, ne_eqb, eqb-true, leb-tru
 use Rattle.std.proofs.lemmas.List.{nil_from_length}
 use Rattle.std.proofs.lemmas.Bool.{false≢true}
 use Rattle.std.proofs.lemmas.Option.{same_Some}
-use Rattle.fax_job.specs.Name.{is_name, is_name_byte}
-use Rattle.fax_job.specs.Number.{begins_with_zero, is_number, number_of, request_number_of}
+use Rattle.fax_value.specs.Name.{is_name, is_name_byte}
+use Rattle.fax_value.specs.Number.{begins_with_zero, is_number, number_of, request_number_of}
 use Rattle.fax_lines.specs.Spells.{has_byte}
 use Rattle.fax_ask.specs.Laws.{RoutedPathsLackLf}
 use Rattle.fax_ask.specs.declared.method.Method.{Method}

@@ -7,8 +7,8 @@ use Rattle.matchit.specs.Params.{AllText, named, part_of, walk}
 use Rattle.matchit.specs.Rows.{RowsOf, catch_all_token, param_token}
 use Rattle.matchit.specs.Seek.{first, has_slash, or_else, step}
 use Rattle.matchit.proofs.OnLiterals.{matchit_on_literals}
-use Rattle.fax_job.specs.Name.{is_name}
-use Rattle.fax_job.specs.Number.{request_number_of}
+use Rattle.fax_value.specs.Name.{is_name}
+use Rattle.fax_value.specs.Number.{request_number_of}
 use Rattle.fax_ask.specs.declared.method.Method.{Method}
 use Rattle.fax_ask.specs.declared.method.Method.TheVariants.{Get, Post, Another}
 use Rattle.fax_ask.specs.declared.request.Request.{Request}

@@ -11,7 +11,7 @@ use Rattle.fax_job.specs.declared.refusal.Refusal.{Refusal}
 use Rattle.fax_job.specs.declared.refusal.Refusal.TheVariants.{NoRoute, BadBody, Unavailable}
 use Rattle.fax_job.specs.Alter.{alter_of}
 use Rattle.fax_job.specs.Import.{import_of}
-use Rattle.fax_job.specs.Limits.{most_attempts}
+use Rattle.fax_value.specs.Limits.{most_attempts}
 use Rattle.fax_job.specs.Order.{order_of}
 use Rattle.fax_job.specs.Pair.{Pair}
 use Rattle.fax_lines.specs.Reading.{fault_at}

@@ -8,9 +8,9 @@ use Rattle.serde_json.specs.Find.{as_bool, as_number, as_str, as_u64, get}
 use Rattle.serde_json.specs.Read.{read}
 use Rattle.fax_job.specs.declared.job.Call.{Call}
 use Rattle.fax_job.specs.declared.job.Call.TheVariants.{Connected, Busy, NoAnswer, NoCarrier, Other}
-use Rattle.fax_job.specs.Limits.{most_pages}
-use Rattle.fax_job.specs.Number.{request_number}
-use Rattle.fax_job.specs.Value.{ends_with_backslash}
+use Rattle.fax_value.specs.Limits.{most_pages}
+use Rattle.fax_value.specs.Number.{request_number}
+use Rattle.fax_value.specs.Value.{ends_with_backslash}
 use Rattle.fax_job.specs.declared.refusal.BodyFault.{BodyFault}
 use Rattle.fax_job.specs.declared.refusal.BodyFault.TheVariants.{Line, Order, BadJson, BadField}
 use Rattle.fax_job.specs.declared.refusal.Refusal.{Refusal}

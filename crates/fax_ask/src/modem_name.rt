@@ -1,7 +1,7 @@
 //! Names of modems where a path has them.
 
 ghost use Rattle.std.specs.Prelude.{◌≡◌, IfOk, if◌then◌else◌, Some, None, ℕ, List};
-ghost use Rattle.fax_job.specs.Name.{IsName, is_name};
+ghost use Rattle.fax_value.specs.Name.{IsName, is_name};
 ghost use Rattle.fax_job.specs.declared.refusal.Refusal.TheVariants.{Unavailable};
 ghost use Rattle.std.specs.Prelude.{IfErr};
 

@@ -14,7 +14,7 @@ use Rattle.sqlite_trees.proofs.ListLemmas.{IsPermutation-same}
 use Rattle.sqlite_value.specs.Keys.{plain}
 use Rattle.fax_check.proofs.FieldLemmas.{numbers}
 use Rattle.fax_check.proofs.OnceLemmas.{behind, one_of_key, text_same}
-use Rattle.fax_job.specs.Name.{IsName}
+use Rattle.fax_value.specs.Name.{IsName}
 use Rattle.fax_schema.specs.ByRowid.{IsByRowid}
 use Rattle.fax_schema.proofs.ColumnLemmas.{row_of as row_with}
 use Rattle.fax_schema.proofs.EditLemmas.{has_mapped}

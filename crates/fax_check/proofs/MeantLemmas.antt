@@ -26,7 +26,7 @@ use Rattle.fax_core.specs.Queue.{Queue, grant_numbered, job_numbered, open_grant
 use Rattle.fax_core.specs.Sound.{FitsFree, FitsGrant, IsJob, IsOpen, Sound}
 use Rattle.fax_core.specs.State.{calls_to, is_of_number}
 use Rattle.fax_core.specs.declared.grants.Grant.{Grant}
-use Rattle.fax_job.specs.Name.{IsName}
+use Rattle.fax_value.specs.Name.{IsName}
 use Rattle.fax_job.specs.declared.job.JobFields.{JobFields}
 use Rattle.fax_schema.proofs.ColumnLemmas.{record_of}
 use Rattle.fax_schema.proofs.EditLemmas.{has_mapped, has_permuted}

@@ -33,8 +33,8 @@ use Rattle.fax_core.specs.State.{calls_to, is_of_number}
 use Rattle.fax_core.specs.declared.grants.Grant.{Grant}
 use Rattle.fax_core.proofs.FitsLemmas.{fits_decides, record_again}
 use Rattle.fax_core.proofs.RecordLemmas.{within_limits_of}
-use Rattle.fax_job.specs.Limits.{last_job}
-use Rattle.fax_job.specs.Name.{IsName}
+use Rattle.fax_value.specs.Limits.{last_job}
+use Rattle.fax_value.specs.Name.{IsName}
 use Rattle.fax_job.specs.declared.job.JobFields.{JobFields}
 use Rattle.fax_schema.specs.Schema.{calls_tree, down_tree, floors_tree, grants_tree, holds_tree, jobs_tree, replies_tree}
 use Rattle.fax_schema.proofs.EditLemmas.{has_mapped}

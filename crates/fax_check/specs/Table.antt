@@ -9,7 +9,7 @@ use Rattle.sqlite_rules.specs.Lists.{Has}
 use Rattle.fax_core.specs.Fits.{fits, is_granted}
 use Rattle.fax_core.specs.Job.{job_of}
 use Rattle.fax_core.specs.declared.grants.Grant.{Grant}
-use Rattle.fax_job.specs.Name.{IsName}
+use Rattle.fax_value.specs.Name.{IsName}
 use Rattle.fax_job.specs.declared.job.JobFields.{JobFields}
 use Rattle.fax_check.specs.Whole.{Each, Holder, IsCallRow, IsDownRow, IsFloorRow, IsGrantRow, IsHeld, IsJobRow, IsReplyRow, Stands, dialing}
 use Rattle.fax_check.specs.declared.tables.Table.{Table}

@@ -10,7 +10,7 @@ use Rattle.fax_core.specs.Fits.{fits, is_granted}
 use Rattle.fax_core.specs.Job.{job_of}
 use Rattle.fax_core.specs.Queue.{Entry, Queue}
 use Rattle.fax_core.specs.declared.grants.Grant.{Grant}
-use Rattle.fax_job.specs.Name.{IsName}
+use Rattle.fax_value.specs.Name.{IsName}
 use Rattle.fax_job.specs.declared.job.JobFields.{JobFields}
 use Rattle.fax_schema.specs.Schema.{calls_tree, down_tree, floors_tree, grants_tree, holds_tree, jobs_tree, meta_tree, replies_tree}
 use Rattle.fax_tables.specs.Job.{IsLawfulJob}

@@ -13,7 +13,7 @@ use Rattle.fax_job.specs.declared.job.Wish.{Wish}
 use Rattle.fax_job.specs.declared.job.Wish.TheVariants as wish
 use Rattle.fax_job.specs.declared.order.Order.{Order}
 use Rattle.fax_job.specs.declared.refusal.Refusal.{Refusal}
-use Rattle.fax_job.specs.Status.{killed, kill_time_expired, too_many_dials, too_many_tries, unable_to_transmit}
+use Rattle.fax_value.specs.Status.{killed, kill_time_expired, too_many_dials, too_many_tries, unable_to_transmit}
 use Rattle.fax_core.specs.declared.grants.Grant.{Grant}
 use Rattle.fax_core.specs.declared.report.Ending.{Ending}
 use Rattle.fax_core.specs.declared.report.Ending.TheVariants as ending

@@ -7,7 +7,7 @@ use Rattle.fax_job.specs.declared.import.Import.{Import}
 use Rattle.fax_job.specs.declared.job.Phase.{Phase}
 use Rattle.fax_job.specs.declared.job.Phase.TheVariants as phase
 use Rattle.fax_job.specs.declared.job.Wish.TheVariants.{Go}
-use Rattle.fax_job.specs.Status.{too_many_dials, too_many_tries}
+use Rattle.fax_value.specs.Status.{too_many_dials, too_many_tries}
 use Rattle.fax_core.specs.declared.state.State.TheVariants as sendq
 use Rattle.fax_core.specs.Ask.{HasCounts}
 use Rattle.fax_core.specs.Decisions.{is_over, is_empty}

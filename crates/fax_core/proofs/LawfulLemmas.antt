@@ -4,7 +4,7 @@ use Rattle.std.specs.Prelude.{Option, Some, None, Result, Ok, Err, IfOk, IfSome,
 use Rattle.std.proofs.lemmas.Bool.{and_parts, and_from, leb-true, leb-false, le-leb}
 use Rattle.std.proofs.lemmas.List.{length-append}
 use Rattle.std.proofs.lemmas.List.FromFn.{length-range_with_len}
-use Rattle.fax_job.specs.Limits.{last_next, most_attempts, most_pages}
+use Rattle.fax_value.specs.Limits.{last_next, most_attempts, most_pages}
 use Rattle.fax_job.specs.Alter.{alter_of, changes_of, if_there}
 use Rattle.fax_job.specs.Order.{◌>>=◌, modem_in, jobtag_in, tts_in, killtime_in, priority_in, maxtries_in, maxdials_in}
 use Rattle.fax_job.specs.Pair.{Pair, value_of}
@@ -22,7 +22,7 @@ use Rattle.fax_core.specs.declared.grants.Grant.{Grant}
 use Rattle.fax_core.specs.declared.report.Ending.{Ending}
 use Rattle.fax_core.specs.declared.report.Ending.TheVariants as ending
 use Rattle.fax_core.specs.declared.report.Outcome.{Outcome}
-use Rattle.fax_job.specs.Status.{killed, kill_time_expired, too_many_dials, too_many_tries, unable_to_transmit}
+use Rattle.fax_value.specs.Status.{killed, kill_time_expired, too_many_dials, too_many_tries, unable_to_transmit}
 use Rattle.fax_core.specs.Ageing.{is_past}
 use Rattle.fax_core.specs.Decisions.{JobAndGrant, suspend_in, resume_in, kill_in, altered, alter_in, granted, after_call, call, is_connected, page_of, page, is_kill, phase_after, failed, retried, ended, ended_by, is_done, is_empty, outcome}
 use Rattle.fax_core.specs.Job.{Job, HasPages, fields_of}

@@ -8,10 +8,10 @@ use Rattle.fax_job.specs.declared.order.Order.{Order}
 use Rattle.fax_job.specs.declared.order.OrderFault.{OrderFault}
 use Rattle.fax_job.specs.declared.order.OrderFault.TheVariants.{NoPages, BadKilltime}
 use Rattle.fax_job.specs.declared.refusal.Refusal.TheVariants.{Unavailable}
-use Rattle.fax_job.specs.Limits.{last_job, last_moment, most_attempts, most_pages}
+use Rattle.fax_value.specs.Limits.{last_job, last_moment, most_attempts, most_pages}
 use Rattle.fax_job.specs.Job.{is_lawful}
 use Rattle.fax_job.specs.Order.{◌>>=◌, pages, dial_in, modem_in, jobtag_in, tts_in, killtime_in, priority_in, totpages_in, limit_in, maxtries_in, maxdials_in, moment_in, number_within, value_or_none, order_of}
-use Rattle.fax_job.specs.Number.{number_of}
+use Rattle.fax_value.specs.Number.{number_of}
 use Rattle.fax_job.specs.Pair.{Pair, are_unknown, extra_of}
 use Rattle.fax_job.specs.Tag.{is_known}
 use Rattle.fax_core.specs.Decisions.{new_job}

@@ -10,8 +10,8 @@ use Rattle.fax_job.specs.declared.order.OrderFault.{OrderFault}
 use Rattle.fax_job.specs.declared.refusal.Refusal.TheVariants.{Unavailable}
 use Rattle.fax_job.specs.Import.{count_in, npages_in, ntries_in, tottries_in, ndials_in, totdials_in, state_in, raised, import_of}
 use Rattle.fax_job.specs.Job.{is_lawful}
-use Rattle.fax_job.specs.Limits.{last_job, most_attempts, most_pages}
-use Rattle.fax_job.specs.Number.{number_of}
+use Rattle.fax_value.specs.Limits.{last_job, most_attempts, most_pages}
+use Rattle.fax_value.specs.Number.{number_of}
 use Rattle.fax_job.specs.Order.{◌>>=◌, number_within, value_or_none, order_of}
 use Rattle.fax_job.specs.Pair.{Pair}
 use Rattle.fax_core.specs.Ask.{HasCounts}

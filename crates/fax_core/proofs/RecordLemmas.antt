@@ -3,7 +3,7 @@ use Rattle.std.proofs.Common.{◌≡◌, ℕ, true, ◌&&◌, leb}
 use Rattle.std.specs.Prelude.{Option}
 use Rattle.std.proofs.lemmas.Bool.{and_parts, and_from}
 use Rattle.fax_job.specs.declared.job.JobFields.{JobFields}
-use Rattle.fax_job.specs.Limits.{last_job, last_next}
+use Rattle.fax_value.specs.Limits.{last_job, last_next}
 use Rattle.fax_job.specs.Job.{is_lawful, is_lawful_killtime, are_lawful_pages, are_lawful_tries, are_lawful_dials}
 use Rattle.fax_job.specs.Pair.{are_unknown}
 

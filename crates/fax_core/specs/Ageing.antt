@@ -2,7 +2,7 @@
 use Rattle.std.specs.Prelude.{ℕ, Bool, true, false, ◌&&◌, map, nat_le, Option, Some, None, if◌then◌else◌}
 use Rattle.fax_job.specs.declared.job.Phase.{Phase}
 use Rattle.fax_job.specs.declared.job.Phase.TheVariants.{Held, Waiting, Failed}
-use Rattle.fax_job.specs.Status.{kill_time_expired}
+use Rattle.fax_value.specs.Status.{kill_time_expired}
 use Rattle.fax_core.specs.declared.ageing.Aging.{Aging}
 use Rattle.fax_core.specs.declared.ageing.Aging.TheVariants.{Stays, Expires}
 use Rattle.fax_core.specs.Job.{Job}

@@ -10,7 +10,8 @@ use Rattle.fax_job.specs.declared.job.Wish.TheVariants as wish
 use Rattle.fax_job.specs.declared.order.Order.{Order}
 use Rattle.fax_job.specs.declared.refusal.Refusal.{Refusal}
 use Rattle.fax_job.specs.declared.refusal.Refusal.TheVariants.{Rejected, TooManyPages, JobOver, JobActive, NotSuspended, LimitReached, GrantClosed, CallKnown, NotConnected, PageOrder, CallMissing, PagesMismatch, PagesLeft, Full}
-use Rattle.fax_job.specs.Status.{killed, kill_time_expired, too_many_dials, too_many_tries, unable_to_transmit}
+use Rattle.fax_value.specs.Limits.{tries_of_page}
+use Rattle.fax_value.specs.Status.{killed, kill_time_expired, too_many_dials, too_many_tries, unable_to_transmit}
 use Rattle.fax_core.specs.declared.grants.Grant.{Grant}
 use Rattle.fax_core.specs.declared.report.Ending.{Ending}
 use Rattle.fax_core.specs.declared.report.Ending.TheVariants as ending
@@ -212,7 +213,7 @@ retried j reason delay t =
     else if is_past j.killtime t then failed j kill_time_expired
     else if nat_le j.maxdials j.totdials then failed j too_many_dials
     else if nat_le j.maxtries j.tottries then failed j too_many_tries
-    else if nat_le 3 j.ntries then failed j unable_to_transmit
+    else if nat_le tries_of_page j.ntries then failed j unable_to_transmit
     else record j { phase = phase_after j.wish; wish = wish.Go; next = t + delay; status = reason }
 
 -- with pages left (then `done` is refused before this is asked)

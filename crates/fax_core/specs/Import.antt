@@ -6,9 +6,9 @@ use Rattle.fax_job.specs.declared.job.Phase.TheVariants as phase
 use Rattle.fax_job.specs.declared.refusal.Refusal.{Refusal}
 use Rattle.fax_job.specs.declared.refusal.Refusal.TheVariants.{Rejected, TooManyPages, Full}
 use Rattle.fax_job.specs.Import.{import_of}
-use Rattle.fax_job.specs.Limits.{last_job}
+use Rattle.fax_value.specs.Limits.{last_job}
 use Rattle.fax_job.specs.Pair.{Pair}
-use Rattle.fax_job.specs.Status.{too_many_dials, too_many_tries}
+use Rattle.fax_value.specs.Status.{too_many_dials, too_many_tries}
 use Rattle.fax_core.specs.declared.state.State.TheVariants as sendq
 use Rattle.fax_core.specs.Decisions.{refuse_if◌because◌otherwise◌, is_over, is_empty, new_job}
 use Rattle.fax_core.specs.Job.{Job, pages_to}

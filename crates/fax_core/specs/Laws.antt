@@ -3,7 +3,7 @@ use Rattle.std.specs.Prelude.{◌≡◌, ◌≢◌, ◌⊎◌, ℕ, ◌+◌, ◌
 use Rattle.std.specs.List.{range_with_len}
 use Rattle.fax_job.specs.Alter.{alter_of}
 use Rattle.fax_job.specs.Job.{is_lawful}
-use Rattle.fax_job.specs.Limits.{last_next}
+use Rattle.fax_value.specs.Limits.{last_next}
 use Rattle.fax_job.specs.Pair.{Pair}
 use Rattle.fax_job.specs.declared.alter.Alter.{Alter}
 use Rattle.fax_job.specs.declared.import.Import.{Import}

@@ -6,7 +6,7 @@ use Rattle.fax_job.specs.declared.order.Order.{Order}
 use Rattle.fax_job.specs.declared.refusal.Refusal.{Refusal}
 use Rattle.fax_job.specs.declared.refusal.Refusal.TheVariants.{Unavailable}
 use Rattle.fax_job.specs.Job.{is_lawful}
-use Rattle.fax_job.specs.Limits.{last_job}
+use Rattle.fax_value.specs.Limits.{last_job}
 use Rattle.fax_job.specs.Order.{order_of}
 use Rattle.fax_job.specs.Pair.{Pair}
 use Rattle.fax_core.specs.Decisions.{new_job}

@@ -6,12 +6,13 @@ ghost use Rattle.fax_core.specs.Decisions.{call, after_call, is_connected, is_do
 ghost use Rattle.fax_core.specs.Job.{job_of};
 ghost use Rattle.fax_core.specs.declared.grants.Grant.{Grant};
 ghost use Rattle.fax_job.specs.declared.job.Wish.TheVariants.{Go};
-ghost use Rattle.fax_job.specs.Limits.{longest_delay};
+ghost use Rattle.fax_value.specs.Limits.{longest_delay};
 
 use crate::ageing::is_past;
 use crate::change::Change;
 use crate::grants::Grant;
 use crate::report::{Ending, Outcome};
+use fax_job::limits::TRIES_OF_PAGE;
 use fax_job::{Call, Job, JobFields, Moment, Phase, Refusal, Status, Wish};
 
 /// Takes the report of a call, which goes with [`Grant::with_call`]. A connected call is a try, and ends
@@ -200,7 +201,7 @@ fn retried(fields: &JobFields, reason: Status, delay: u64, t: Moment) -> Change
         over(fields, Phase::Failed, Status::too_many_dials())
     } else if fields.maxtries <= fields.tottries {
         over(fields, Phase::Failed, Status::too_many_tries())
-    } else if 3 <= fields.ntries {
+    } else if TRIES_OF_PAGE <= fields.ntries {
         over(fields, Phase::Failed, Status::unable_to_transmit())
     } else {
         Change {

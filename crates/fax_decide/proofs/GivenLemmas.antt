@@ -11,7 +11,7 @@ use Rattle.fax_job.specs.declared.job.JobFields.{JobFields}
 use Rattle.fax_job.specs.declared.refusal.Refusal.{Refusal}
 use Rattle.fax_job.specs.declared.refusal.Refusal.TheVariants.{ModemBusy, ModemDown, NoModem, Unavailable}
 use Rattle.fax_job.specs.Job.{is_lawful}
-use Rattle.fax_job.specs.Limits.{last_grant}
+use Rattle.fax_value.specs.Limits.{last_grant}
 use Rattle.fax_core.specs.declared.change.Change.{Change}
 use Rattle.fax_core.specs.declared.grants.Grant.{Grant}
 use Rattle.fax_core.specs.Ageing.{aged, aged_job}

@@ -4,7 +4,7 @@ use Rattle.std.specs.Prelude.{Some, None, is_some, nat_lt, not, ◌&&◌}
 use Rattle.std.proofs.lemmas.Bool.{ltb-false}
 use Rattle.std.proofs.lemmas.Option.{none-some}
 use Rattle.fax_job.specs.Job.{is_lawful}
-use Rattle.fax_job.specs.Limits.{last_job, last_next}
+use Rattle.fax_value.specs.Limits.{last_job, last_next}
 use Rattle.fax_job.specs.declared.import.Import.{Import}
 use Rattle.fax_job.specs.declared.job.Call.{Call}
 use Rattle.fax_job.specs.declared.job.JobFields.{JobFields}

@@ -2,7 +2,7 @@
 use Rattle.std.proofs.Common.{◌≡◌, ℕ, Bool, true, false, cond, not, ◌&&◌, ◌||◌, ◌==◌, List, [], ◌∷◌, Some, Result, Ok, Err, refl, ap}
 use Rattle.std.specs.Prelude.{is_none, is_some, nat_le}
 use Rattle.fax_job.specs.Pair.{Pair}
-use Rattle.fax_job.specs.Status.{kill_time_expired, killed, too_many_dials, too_many_tries, unable_to_transmit}
+use Rattle.fax_value.specs.Status.{kill_time_expired, killed, too_many_dials, too_many_tries, unable_to_transmit}
 use Rattle.fax_job.specs.declared.alter.Alter.{Alter}
 use Rattle.fax_job.specs.declared.job.Call.{Call}
 use Rattle.fax_job.specs.declared.job.Call.TheVariants as calls

@@ -6,7 +6,7 @@ use Rattle.fax_job.specs.declared.job.JobFields.{JobFields}
 use Rattle.fax_job.specs.declared.refusal.Refusal.{Refusal}
 use Rattle.fax_job.specs.declared.refusal.Refusal.TheVariants.{Unavailable, Rejected, TooManyPages, Full}
 use Rattle.fax_job.specs.Job.{is_lawful}
-use Rattle.fax_job.specs.Limits.{last_job}
+use Rattle.fax_value.specs.Limits.{last_job}
 use Rattle.fax_ask.specs.Answer.{Replied}
 use Rattle.fax_ask.specs.Response.{Response, accepted_response, refused_response}
 use Rattle.fax_core.specs.Ageing.{aged}

@@ -10,7 +10,7 @@ use Rattle.fax_job.specs.declared.job.Phase.TheVariants.{Waiting}
 use Rattle.fax_job.specs.declared.refusal.Refusal.{Refusal}
 use Rattle.fax_job.specs.declared.refusal.Refusal.TheVariants.{Full}
 use Rattle.fax_job.specs.Job.{IsLawful}
-use Rattle.fax_job.specs.Limits.{last_grant, last_job, most_pages}
+use Rattle.fax_value.specs.Limits.{last_grant, last_job, most_pages}
 use Rattle.fax_core.specs.declared.change.Change.{Change}
 use Rattle.fax_core.specs.declared.grants.Grant.{Grant}
 use Rattle.fax_core.specs.Change.{changed}

@@ -1,7 +1,7 @@
 -- Which of the jobs that wait goes.
 use Rattle.std.specs.Prelude.{◌≡◌, ◌<◌, ◌≤◌, ℕ, ◌==◌, Bool, false, ◌&&◌, List, Option, IfSome, find}
 use Rattle.std.specs.Str.{bytes_eq}
-use Rattle.fax_job.specs.Limits.{last_grant}
+use Rattle.fax_value.specs.Limits.{last_grant}
 use Rattle.fax_job.specs.declared.job.JobFields.{JobFields}
 use Rattle.std.specs.Option.{option_map}
 use Rattle.fax_core.specs.Best.{may_go}

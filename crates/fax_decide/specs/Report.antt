@@ -1,6 +1,6 @@
 -- What a worker reports on a grant.
 use Rattle.std.specs.Prelude.{◌≡◌, ◌≤◌, ℕ, Option, Some}
-use Rattle.fax_job.specs.Limits.{most_pages}
+use Rattle.fax_value.specs.Limits.{most_pages}
 use Rattle.fax_job.specs.declared.job.JobFields.{JobFields}
 use Rattle.fax_core.specs.Ageing.{aged}
 use Rattle.fax_core.specs.Decisions.{call, page, outcome}

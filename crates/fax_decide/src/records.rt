@@ -6,7 +6,7 @@ ghost use Rattle.fax_core.specs.Ageing.{aged};
 ghost use Rattle.fax_core.specs.Job.{job_of};
 ghost use Rattle.fax_core.specs.Ledger.{Ledger};
 ghost use Rattle.fax_core.specs.Queue.{Queue, job_numbered, grant_numbered};
-ghost use Rattle.fax_job.specs.Limits.{last_grant, last_job};
+ghost use Rattle.fax_value.specs.Limits.{last_grant, last_job};
 ghost use Rattle.fax_store.specs.Calls.{Looks, shown};
 ghost use Rattle.fax_store.specs.Store.{Means, Serves, StaysOpen};
 ghost use Rattle.fax_tables.specs.Fault.{OrUnavailable};

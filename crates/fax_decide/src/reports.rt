@@ -18,7 +18,7 @@ ghost use Rattle.fax_core.specs.Sound.{Sound};
 ghost use Rattle.fax_core.specs.State.{calls_to};
 ghost use Rattle.fax_core.specs.declared.grants.Grant.{Grant as GrantOf};
 ghost use Rattle.fax_dest.specs.Setup.{delay_of};
-ghost use Rattle.fax_job.specs.Limits.{most_pages};
+ghost use Rattle.fax_value.specs.Limits.{most_pages};
 ghost use Rattle.fax_store.specs.Calls.{Looks, shown};
 ghost use Rattle.fax_store.specs.Grant.{IsSameGrant};
 ghost use Rattle.fax_store.specs.Store.{Means, Serves, StaysOpen};

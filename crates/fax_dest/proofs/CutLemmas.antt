@@ -6,7 +6,7 @@ use Rattle.std.proofs.lemmas.Bool.{ne_eqb, eq-eqb, or_from}
 use Rattle.std.proofs.lemmas.Str.Pattern.{IsSplitOnceResult, split_parts}
 use Rattle.std.proofs.Math.ListN.{get_or-append}
 use denote.Ref.{Bor}
-use Rattle.fax_job.specs.Blank.{is_blank, before_blanks}
+use Rattle.fax_value.specs.Blank.{is_blank, before_blanks}
 use Rattle.fax_lines.proofs.LineLemmas.{Lacks, Lacks-tail}
 use Rattle.fax_dest.specs.Line.{at_byte, at_blank, value_from}
 

@@ -5,7 +5,7 @@ use Rattle.regex.specs.Strings.{regex_source}
 use Rattle.fax_lines.specs.Reading.{lines}
 use Rattle.fax_dest.specs.Fault.{at_line}
 use Rattle.fax_dest.specs.Line.{is_skipped, at_blank}
-use Rattle.fax_job.specs.Blank.{begins_with_blank}
+use Rattle.fax_value.specs.Blank.{begins_with_blank}
 use Rattle.fax_dest.specs.Parameter.{parameter_of}
 use Rattle.fax_dest.specs.Pattern.{is_found, Compiling}
 use Rattle.fax_dest.specs.Rule.{rule_of}

@@ -1,8 +1,8 @@
 -- What is wrong with a file.
 use Rattle.std.specs.Prelude.{◌≡◌, ℕ, Bool, true, false, List, Result, Ok, Err, ⊤, codes}
 use Rattle.std.specs.Bool.{MatchBool}
-use Rattle.fax_job.specs.declared.text_fault.TextFault.{TextFault}
-use Rattle.fax_job.specs.declared.text_fault.TextFault.TheVariants as text
+use Rattle.fax_value.specs.declared.text_fault.TextFault.{TextFault}
+use Rattle.fax_value.specs.declared.text_fault.TextFault.TheVariants as text
 use Rattle.fax_dest.specs.Pattern.{IsGrammar, Compiling, compiled}
 use Rattle.fax_dest.specs.declared.fault.FileFault.{FileFault}
 use Rattle.fax_dest.specs.declared.fault.FileKind.{FileKind}

@@ -2,8 +2,8 @@
 use Rattle.std.specs.Prelude.{ℕ, Bool, true, ◌==◌, ◌&&◌, List, [], ◌∷◌, nat_le, Option, Some, None, Result, Ok, Err, if◌then◌else◌}
 use Rattle.std.specs.List.{list_all}
 use Rattle.std.specs.Option.{option_map}
-use Rattle.fax_job.specs.Number.{number_of}
-use Rattle.fax_job.specs.Blank.{without_blanks, is_blank, before_blanks}
+use Rattle.fax_value.specs.Number.{number_of}
+use Rattle.fax_value.specs.Blank.{without_blanks, is_blank, before_blanks}
 use Rattle.fax_dest.specs.declared.fault.FileKind.{FileKind}
 use Rattle.fax_dest.specs.declared.fault.FileKind.TheVariants.{BadValue}
 

@@ -3,9 +3,9 @@ use Rattle.std.specs.Prelude.{ℕ, ◌||◌, ◌==◌, List, length, codes, Opti
 use Rattle.std.specs.Str.{str_eq_ignore_ascii_case}
 use Rattle.fax_hours.specs.Hours.{hours_of}
 use Rattle.fax_hours.specs.declared.hours.HoursFault.{HoursFault}
-use Rattle.fax_job.specs.Limits.{most_attempts, most_pages}
+use Rattle.fax_value.specs.Limits.{most_attempts, most_pages}
 use Rattle.fax_dest.specs.Line.{at_byte, value_of, number_in}
-use Rattle.fax_job.specs.Blank.{trimmed}
+use Rattle.fax_value.specs.Blank.{trimmed}
 use Rattle.fax_rule.specs.Notice.{is_notice}
 use Rattle.fax_dest.specs.declared.fault.FileKind.{FileKind}
 use Rattle.fax_dest.specs.declared.fault.FileKind.TheVariants.{NoEquals, BadQuote, BadValue, BadHours}

@@ -3,7 +3,7 @@ use Rattle.std.specs.Prelude.{ℕ, List, codes, Option, Some, None, Result, Ok, 
 use Rattle.std.specs.Str.{str_eq_ignore_ascii_case}
 use Rattle.fax_job.specs.declared.job.Call.{Call}
 use Rattle.fax_job.specs.declared.job.Call.TheVariants.{Connected, Busy, NoAnswer, NoCarrier, Other}
-use Rattle.fax_job.specs.Limits.{last_grant, last_job, longest_delay}
+use Rattle.fax_value.specs.Limits.{last_grant, last_job, longest_delay}
 use Rattle.fax_dest.specs.Line.{is_skipped, at_byte, value_of, number_in}
 use Rattle.fax_dest.specs.Pattern.{Compiling}
 use Rattle.fax_dest.specs.Value.{name_in, is_zone, is_line_name}

@@ -4,7 +4,7 @@ use Rattle.std.specs.List.{list_any}
 use Rattle.std.specs.Str.{bytes_eq}
 use Rattle.jiff.specs.Types.{TimeZone as JiffZone, UTC}
 use Rattle.regex.specs.Strings.{regex_source}
-use Rattle.fax_job.specs.Limits.{last_grant, last_job}
+use Rattle.fax_value.specs.Limits.{last_grant, last_job}
 use Rattle.fax_lines.specs.Reading.{lines}
 use Rattle.fax_job.specs.declared.job.Call.{Call}
 use Rattle.fax_job.specs.declared.job.Call.TheVariants.{Connected, Busy, NoAnswer, NoCarrier, Other}

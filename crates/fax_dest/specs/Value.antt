@@ -2,8 +2,8 @@
 use Rattle.std.specs.Prelude.{ℕ, Bool, not, ◌==◌, ◌&&◌, List, length, is_some, Result, Ok, Err, if◌then◌else◌}
 use Rattle.std.specs.List.{list_any}
 use Rattle.jiff.specs.Words.{read_whole}
-use Rattle.fax_job.specs.Name.{is_name}
-use Rattle.fax_job.specs.Blank.{is_blank}
+use Rattle.fax_value.specs.Name.{is_name}
+use Rattle.fax_value.specs.Blank.{is_blank}
 use Rattle.fax_dest.specs.declared.fault.FileKind.{FileKind}
 use Rattle.fax_dest.specs.declared.fault.FileKind.TheVariants.{BadValue, BadZone}
 

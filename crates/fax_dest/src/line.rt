@@ -2,7 +2,7 @@
 
 ghost use Rattle.std.specs.Prelude.{◌≡◌, ◌≤◌, IfOk, Some, None, Ok, Err};
 ghost use Rattle.std.specs.Option.{option_map, option_copied};
-ghost use Rattle.fax_job.specs.Blank.{begins_with_blank, trimmed};
+ghost use Rattle.fax_value.specs.Blank.{begins_with_blank, trimmed};
 ghost use Rattle.fax_dest.specs.Line.{at_byte, at_blank, is_skipped, is_nothing, value_of, inside_quotes, number_in};
 
 use crate::fault::FileKind;

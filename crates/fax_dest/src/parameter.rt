@@ -55,7 +55,7 @@ impl ParameterName {
 
 impl Parameter {
     ghost use Rattle.std.specs.Prelude.{◌≡◌};
-    ghost use Rattle.fax_job.specs.Gives.{Gives};
+    ghost use Rattle.fax_value.specs.Gives.{Gives};
     ghost use Rattle.fax_dest.specs.Fault.{is_memory};
     ghost use Rattle.fax_dest.specs.Parameter.{parameter_of, parameter_in, hours_in, notice_in};
     ghost use Rattle.fax_dest.specs.Rule.{with_parameter};

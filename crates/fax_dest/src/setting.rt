@@ -2,8 +2,8 @@
 
 ghost use Rattle.std.specs.Prelude.{◌≡◌, Ok, Err, MatchResult};
 ghost use Rattle.std.specs.List.{list_any};
-ghost use Rattle.fax_job.specs.Gives.{Gives, Tells};
-ghost use Rattle.fax_job.specs.Blank.{is_blank};
+ghost use Rattle.fax_value.specs.Gives.{Gives, Tells};
+ghost use Rattle.fax_value.specs.Blank.{is_blank};
 ghost use Rattle.fax_hours.specs.Zone.{IsZoneOf};
 ghost use Rattle.fax_dest.specs.Fault.{is_memory};
 ghost use Rattle.fax_dest.specs.Value.{name_in, is_line_name, is_zone};

@@ -1,7 +1,7 @@
 //! The setup of modems.
 
 ghost use Rattle.std.specs.Prelude.{◌≤◌};
-ghost use Rattle.fax_job.specs.Limits.{last_grant, last_job, longest_delay};
+ghost use Rattle.fax_value.specs.Limits.{last_grant, last_job, longest_delay};
 ghost use Rattle.fax_dest.specs.Pattern.{IsPlain};
 
 use crate::fault::{FileFault, FileKind};

@@ -9,7 +9,7 @@ use Rattle.std.proofs.lemmas.List.{get_or-replicate, length-replicate}
 use Rattle.std.proofs.lemmas.List.FromFn.{get_or-map-range_with_len, length-map-range_with_len}
 use Rattle.std.proofs.lemmas.Nat.Bits.{bit_at_or, bit_at-zero, bit_at-lt, bit_at_ones}
 use Rattle.std.specs.List.{range_with_len, list_any}
-use Rattle.fax_job.specs.Comma.{parts_of, parts_left}
+use Rattle.fax_value.specs.Comma.{parts_of, parts_left}
 use Rattle.fax_hours.specs.Item.{item_of, has_day, covers}
 use Rattle.fax_hours.specs.Range.{has_minute}
 use Rattle.fax_hours.specs.Hours.{then_items, items_in, items_of, names, is_in, with_days, days_at, week_of, week_in, hours_of, IsNamedBy}

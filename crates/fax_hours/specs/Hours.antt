@@ -2,7 +2,7 @@
 use Rattle.std.specs.Prelude.{◌≡◌, ℕ, ◌<◌, Bool, ◌==◌, List, [], ◌∷◌, fold, map, replicate, slice_index, Option, Some, None, Result, Ok, Err, if◌then◌else◌}
 use Rattle.std.specs.Int.Bits.{bit_or}
 use Rattle.std.specs.List.{list_any, range_with_len}
-use Rattle.fax_job.specs.Comma.{parts_of}
+use Rattle.fax_value.specs.Comma.{parts_of}
 use Rattle.fax_hours.specs.Item.{item_of, covers, has_day}
 use Rattle.fax_hours.specs.Range.{has_minute}
 use Rattle.fax_hours.specs.declared.hours.HoursFault.{HoursFault}

@@ -3,7 +3,7 @@ use Rattle.std.specs.Prelude.{ℕ, Bool, ◌==◌, ◌&&◌, List, length, take,
 use Rattle.std.specs.Char.{is_ascii_alphabetic}
 use Rattle.std.specs.List.{prefix_len}
 use Rattle.std.specs.Int.{bit_at}
-use Rattle.fax_job.specs.Blank.{trimmed}
+use Rattle.fax_value.specs.Blank.{trimmed}
 use Rattle.fax_hours.specs.Days.{days_of}
 use Rattle.fax_hours.specs.Range.{range_of, has_minute}
 use Rattle.fax_hours.specs.declared.hours.HoursFault.{HoursFault}

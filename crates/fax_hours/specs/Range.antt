@@ -2,7 +2,7 @@
 use Rattle.std.specs.Prelude.{ℕ, ◌+◌, ◌*◌, Bool, ◌==◌, ◌&&◌, ◌||◌, nat_lt, nat_le, List, length, take, drop, slice_index, codes, Option, Some, None, option_and_then, if◌then◌else◌}
 use Rattle.std.specs.Option.{option_map}
 use Rattle.std.specs.Str.{bytes_eq}
-use Rattle.fax_job.specs.Number.{number_of}
+use Rattle.fax_value.specs.Number.{number_of}
 use Rattle.fax_hours.specs.declared.range.Range.{Range}
 
 -- the start is in, the end is out; a start that isn't before the end goes over midnight

@@ -4,7 +4,7 @@ ghost use Rattle.std.specs.Prelude.{◌≡◌, ◌<◌, ℕ, List, true, IfOk, l
 ghost use Rattle.fax_hours.specs.Hours.{IsNamedBy, hours_of, every_hour, with_days, is_in};
 
 use crate::item::{Item, item_of};
-use fax_job::at_comma;
+use fax_value::at_comma;
 use std::marker::Model;
 use thiserror::Error;
 

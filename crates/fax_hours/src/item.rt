@@ -6,7 +6,7 @@ ghost use Rattle.fax_hours.specs.Item.{item_of, letter_count, range_or_all};
 use crate::days::days_of;
 use crate::hours::HoursFault;
 use crate::range::{Range, range_of};
-use fax_job::trimmed;
+use fax_value::trimmed;
 
 /// Days, with bit d for day d, and the minutes on each of them.
 #[derive(Clone, Copy, Debug)]

@@ -3,7 +3,7 @@
 ghost use Rattle.std.specs.Prelude.{◌≡◌, length};
 ghost use Rattle.fax_hours.specs.Range.{minute_of, end_of, range_of};
 
-use fax_job::read_number;
+use fax_value::read_number;
 
 /// The minutes from a start on and before an end. Where the start isn't before the end, those from the
 /// start to midnight and from midnight to the end.

@@ -5,7 +5,7 @@ ghost use Rattle.jiff.specs.Words.{read_whole};
 ghost use Rattle.jiff.specs.Types.{UTC};
 ghost use Rattle.fax_hours.specs.Zone.{IsZoneOf, IsShown, IsCivil, IsWeekMinute, CanBeShown, IsInWeek, pair, week_minute_at};
 
-use fax_job::Moment;
+use fax_value::Moment;
 use jiff::Timestamp;
 use jiff::civil::DateTime;
 use jiff::tz::TimeZone;

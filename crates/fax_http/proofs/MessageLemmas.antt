@@ -8,7 +8,7 @@ use Rattle.httparse.specs.Spans.{IsRequestOf}
 use Rattle.httparse.specs.declared.spans.HeaderSpan.{HeaderSpan}
 use Rattle.httparse.specs.declared.spans.RequestSpans.{RequestSpans}
 use Rattle.httparse.proofs.GrammarLemmas.{ReadsRequest-append, request_prefix_free, request_unique}
-use Rattle.fax_job.specs.Number.{number_of}
+use Rattle.fax_value.specs.Number.{number_of}
 use Rattle.fax_http.specs.declared.message.Broken.TheVariants.{BadHttp, TooLarge}
 use Rattle.fax_http.specs.Message.{Fields, IsBad, IsHead, IsUnfinished, NeverHasHead, StaysBad, bounded, fields_of, framed, said_length, uncoded, values_of}
 

@@ -1,7 +1,7 @@
 -- The moment of a message, by what it says of it.
 use Rattle.std.specs.Prelude.{◌≡◌, ℕ, List, Option, Some, None, min, IfSome}
-use Rattle.fax_job.specs.Limits.{last_moment}
-use Rattle.fax_job.specs.Number.{number_of}
+use Rattle.fax_value.specs.Limits.{last_moment}
+use Rattle.fax_value.specs.Number.{number_of}
 
 -- the moment of that many seconds, the last there is where they are more; or the last answer
 abbrev pub said_or : ℕ → Option ℕ → ℕ

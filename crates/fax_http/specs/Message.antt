@@ -4,9 +4,9 @@ use Rattle.std.specs.List.{list_any}
 use Rattle.std.specs.Str.{str_eq_ignore_ascii_case}
 use Rattle.httparse.specs.Grammar.{RequestHead, IsRequestHead, MayBecomeRequest, print_request}
 use Rattle.httparse.specs.Spans.{name_and_value}
-use Rattle.fax_job.specs.Blank.{trimmed}
-use Rattle.fax_job.specs.Comma.{parts_of}
-use Rattle.fax_job.specs.Number.{number_of}
+use Rattle.fax_value.specs.Blank.{trimmed}
+use Rattle.fax_value.specs.Comma.{parts_of}
+use Rattle.fax_value.specs.Number.{number_of}
 use Rattle.fax_http.specs.declared.message.Broken.{Broken}
 use Rattle.fax_http.specs.declared.message.Broken.TheVariants.{BadHttp, TooLarge}
 

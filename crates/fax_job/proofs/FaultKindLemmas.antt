@@ -1,9 +1,9 @@
 -- Only want of memory excuses a call: no other fault of any kind counts as that.
 use Rattle.std.proofs.Common.{◌≡◌, true, refl}
 use Rattle.fax_job.specs.Order as order
-use Rattle.fax_job.specs.TextFault as text
-use Rattle.fax_job.specs.declared.text_fault.TextFault.{TextFault}
-use Rattle.fax_job.specs.declared.text_fault.TextFault.TheVariants as text_fault
+use Rattle.fax_value.specs.TextFault as text
+use Rattle.fax_value.specs.declared.text_fault.TextFault.{TextFault}
+use Rattle.fax_value.specs.declared.text_fault.TextFault.TheVariants as text_fault
 use Rattle.fax_job.specs.declared.order.OrderFault.{OrderFault}
 use Rattle.fax_job.specs.declared.order.OrderFault.TheVariants as order_fault
 

@@ -7,7 +7,7 @@ use Rattle.std.proofs.lemmas.Bool.{and_parts}
 use Rattle.fax_job.specs.declared.job.JobFields.{JobFields}
 use Rattle.fax_job.specs.Job.{is_lawful, is_lawful_killtime, are_lawful_pages, are_lawful_tries, are_lawful_dials}
 use Rattle.fax_job.specs.JobLines.{order_lines, counter_lines, state_lines, job_lines}
-use Rattle.fax_job.specs.Limits.{last_job, last_next}
+use Rattle.fax_value.specs.Limits.{last_job, last_next}
 use Rattle.fax_job.specs.Pair.{pair, IsPair, is_once, are_unknown, ArePairs}
 use Rattle.fax_job.specs.Tag.{is_known}
 use Rattle.fax_job.proofs.PairLemmas.{each_append, once_append}

@@ -1,8 +1,3 @@
-pub mod NumberLemmas
-pub mod ValueLemmas
-pub mod DialLemmas
-pub mod BlankLemmas
-mod CommaLemmas
 pub mod PairLemmas
 pub mod ListLemmas
 pub mod LineTextLemmas

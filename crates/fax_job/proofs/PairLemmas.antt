@@ -1,11 +1,17 @@
 -- Lists of pairs that grow at their end.
-use Rattle.std.proofs.Common.{◌≡◌, ℕ, true, false, not, ◌&&◌, List, [], ◌∷◌, ◌++◌, refl, sym, ap, ◌∙◌, inl, inr}
+use Rattle.std.proofs.Common.{◌≡◌, ℕ, ◌<◌, ◌^◌, true, false, not, ◌&&◌, List, [], ◌∷◌, ◌++◌, refl, sym, ap, ◌∙◌, inl, inr}
+use Rattle.std.specs.Prelude.{codes}
+use Rattle.std.specs.Fmt.{decimal}
 use Rattle.std.specs.List.{AllByRecursion}
-use Rattle.std.specs.Str.{bytes_eq}
+use Rattle.std.specs.Str.{IsUtf8, bytes_eq}
 use Rattle.std.proofs.lemmas.Bool.{and_parts, and_from, and_cases, and_left, and_right, or_parts, or_from, not-true, not_from_false, cases_Bool, both_ways}
 use Rattle.std.proofs.lemmas.Slice.Eq.{bytes_eq-Decides}
-use Rattle.fax_job.specs.Pair.{Pair, IsPair, has_tag, is_once, are_unknown, ArePairs}
-use Rattle.fax_job.specs.Tag.{is_known}
+use Rattle.std.proofs.lemmas.Fmt.{IsAscii-decimal}
+use Rattle.std.proofs.lemmas.Str.{IsUtf8-from_ascii}
+use Rattle.fax_value.specs.Value.{is_status, is_value}
+use Rattle.fax_value.proofs.ValueLemmas.{value_of_number}
+use Rattle.fax_job.specs.Pair.{Pair, pair, IsPair, begins_with_hash, has_tag, is_once, are_unknown, ArePairs}
+use Rattle.fax_job.specs.Tag.{is_known, is_tag}
 
 -- texts that test as equal are equal
 bytes_eq-true : (xs ys : List ℕ) → bytes_eq xs ys ≡ true → xs ≡ ys
@@ -113,3 +119,20 @@ once_append [] qs p q u = q
 once_append (x ∷ ps) qs p q u =
     let parts = and_parts (not (is_known x.tag && has_tag x.tag ps)) (is_once ps) p in
     and_from _ (is_once (ps ++ qs)) (not_from_false _ (first_once x ps qs (not-true _ parts.0) u)) (once_append ps qs parts.1 q u)
+
+-- ---- a tag with its value
+
+-- a tag with a value, and no status, is a pair
+pub pair_of_value : (tag value : List ℕ) → is_tag tag ≡ true → begins_with_hash tag ≡ false → bytes_eq tag (codes "status") ≡ false → is_value value ≡ true → IsUtf8 value → IsPair (pair tag value)
+pair_of_value tag value formed hash other h utf8 = record {
+  formed = and_from (is_tag tag && not (begins_with_hash tag)) _ (and_from (is_tag tag) (not (begins_with_hash tag)) formed (not_from_false (begins_with_hash tag) hash)) (rw other h);
+  utf8 = utf8;
+}
+
+-- so is one with a number
+pub pair_of_number : (tag : List ℕ) (n : ℕ) → is_tag tag ≡ true → begins_with_hash tag ≡ false → bytes_eq tag (codes "status") ≡ false → n < 2 ^ 64 → IsPair (pair tag (decimal n))
+pair_of_number tag n formed hash other small = pair_of_value tag (decimal n) formed hash other (value_of_number n small) (IsUtf8-from_ascii (decimal n) (IsAscii-decimal n small))
+
+-- a status is a pair
+pub pair_of_state : (value : List ℕ) → is_status value ≡ true → IsUtf8 value → IsPair (pair (codes "status") value)
+pair_of_state value h utf8 = record { formed = h; utf8 = utf8 }

@@ -7,7 +7,7 @@ use Rattle.std.specs.Str.{bytes_eq}
 use Rattle.std.proofs.lemmas.Bool.{and_parts}
 use Rattle.fax_job.specs.Pair.{Pair, IsPair, is_pair, begins_with_hash, value_of, ArePairs}
 use Rattle.fax_job.specs.Tag.{is_tag}
-use Rattle.fax_job.specs.Value.{is_value, is_status}
+use Rattle.fax_value.specs.Value.{is_value, is_status}
 
 -- a pair with the tag of a status has a status
 of_status : (p : Pair) → is_pair p ≡ true → bytes_eq p.tag (codes "status") ≡ true → is_status p.value ≡ true

@@ -4,7 +4,7 @@ use Rattle.std.specs.Option.{option_map, ok_or}
 use Rattle.fax_job.specs.declared.import.Import.{Import}
 use Rattle.fax_job.specs.declared.order.OrderFault.{OrderFault}
 use Rattle.fax_job.specs.declared.order.OrderFault.TheVariants.{BadNpages, BadNtries, BadTottries, BadNdials, BadTotdials, BadState}
-use Rattle.fax_job.specs.Limits.{most_attempts, most_pages}
+use Rattle.fax_value.specs.Limits.{most_attempts, most_pages}
 use Rattle.fax_job.specs.Order.{◌>>=◌, number_within, value_or_none, order_of}
 use Rattle.fax_job.specs.Pair.{Pair}
 

@@ -1,7 +1,7 @@
 -- Jobs within the limits of the queue.
 use Rattle.std.specs.Prelude.{ℕ, Bool, true, IsTrue, ◌&&◌, nat_le, Option, Some, None}
 use Rattle.fax_job.specs.declared.job.JobFields.{JobFields}
-use Rattle.fax_job.specs.Limits.{last_job, last_next, most_attempts, most_pages}
+use Rattle.fax_value.specs.Limits.{last_job, last_next, most_attempts, most_pages}
 use Rattle.fax_job.specs.Pair.{are_unknown}
 
 abbrev pub are_lawful_pages : JobFields → Bool

@@ -3,14 +3,14 @@ use Rattle.std.specs.Prelude.{ℕ, Bool, true, false, ◌==◌, List, length, co
 use Rattle.std.specs.Option.{option_map, ok_or}
 use Rattle.fax_job.specs.declared.order.Order.{Order}
 use Rattle.fax_job.specs.declared.order.OrderFault.{OrderFault}
-use Rattle.fax_job.specs.declared.text_fault.TextFault.{TextFault}
-use Rattle.fax_job.specs.declared.text_fault.TextFault.TheVariants as text
+use Rattle.fax_value.specs.declared.text_fault.TextFault.{TextFault}
+use Rattle.fax_value.specs.declared.text_fault.TextFault.TheVariants as text
 use Rattle.fax_job.specs.declared.order.OrderFault.TheVariants.{NoNumber, BadDial, BadModem, BadJobtag, BadTts, BadKilltime, BadPriority, NoPages, BadPages, BadMaxtries, BadMaxdials, NotAlterable, BadNpages, BadNtries, BadTottries, BadNdials, BadTotdials, BadState, NoMemory}
-use Rattle.fax_job.specs.Dial.{is_canonical, without_separators}
-use Rattle.fax_job.specs.JobTag.{is_job_tag}
-use Rattle.fax_job.specs.Limits.{last_moment, most_attempts, most_pages}
-use Rattle.fax_job.specs.Name.{is_name}
-use Rattle.fax_job.specs.Number.{number_of}
+use Rattle.fax_value.specs.Dial.{is_canonical, without_separators}
+use Rattle.fax_value.specs.JobTag.{is_job_tag}
+use Rattle.fax_value.specs.Limits.{last_moment, most_attempts, most_pages}
+use Rattle.fax_value.specs.Name.{is_name}
+use Rattle.fax_value.specs.Number.{number_of}
 use Rattle.fax_job.specs.Pair.{Pair, value_of, extra_of}
 
 abbrev pub is_no_memory : OrderFault → Bool

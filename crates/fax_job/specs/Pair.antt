@@ -4,7 +4,7 @@ use Rattle.std.specs.List.{AllByRecursion, list_all, list_any}
 use Rattle.std.specs.Option.{option_map}
 use Rattle.std.specs.Str.{IsUtf8, bytes_eq}
 use Rattle.fax_job.specs.Tag.{is_tag, is_known}
-use Rattle.fax_job.specs.Value.{is_value, is_status}
+use Rattle.fax_value.specs.Value.{is_value, is_status}
 
 -- a tag and its value
 pub record Pair : Type 0 where

@@ -3,15 +3,13 @@
 ghost use Rattle.std.specs.Prelude.{◌≡◌};
 ghost use Rattle.fax_job.specs.Alter.{is_alterable};
 
-use crate::job_tag::JobTag;
 use crate::lines::Lines;
-use crate::moment::Moment;
-use crate::name::Name;
 use crate::order::OrderFault;
 use crate::tag::is_among;
 use crate::values::{
     jobtag_of, killtime_of, maxdials_of, maxtries_of, modem_of, priority_of, tts_of,
 };
+use fax_value::{JobTag, Moment, Name};
 use std::alloc::Global;
 
 /// What is to change in a job. `None` changes nothing.
@@ -38,7 +36,7 @@ static ALTERABLE_TAGS: [&str; 7] = [
 impl Lines {
     ghost use Rattle.std.specs.Prelude.{◌≡◌, codes};
     ghost use Rattle.std.specs.List.{list_all};
-    ghost use Rattle.fax_job.specs.Gives.{Gives};
+    ghost use Rattle.fax_value.specs.Gives.{Gives};
     ghost use Rattle.fax_job.specs.Alter.{is_alterable, if_there, changes_of, alter_of};
     ghost use Rattle.fax_job.specs.Order.{is_no_memory, modem_in, jobtag_in, tts_in, killtime_in, priority_in, maxtries_in, maxdials_in};
     ghost use Rattle.fax_job.specs.Pair.{value_of};

@@ -3,11 +3,11 @@
 ghost use Rattle.std.specs.Prelude.{◌≡◌};
 ghost use Rattle.fax_job.specs.Import.{count_in, npages_in, ntries_in, tottries_in, ndials_in, totdials_in, state_in, raised};
 
-use crate::limits::{MOST_ATTEMPTS, MOST_PAGES};
 use crate::lines::Lines;
 use crate::order::{Order, OrderFault};
-use crate::status::Status;
 use crate::values::number_within;
+use fax_value::Status;
+use fax_value::limits::{MOST_ATTEMPTS, MOST_PAGES};
 use std::alloc::Global;
 
 /// What an older queue recorded of a job: its order, and how far it had come.
@@ -32,7 +32,7 @@ pub struct Import {
 
 impl Lines {
     ghost use Rattle.std.specs.Prelude.{◌≡◌};
-    ghost use Rattle.fax_job.specs.Gives.{Gives};
+    ghost use Rattle.fax_value.specs.Gives.{Gives};
     ghost use Rattle.fax_job.specs.Import.{import_of};
     ghost use Rattle.fax_job.specs.Order.{is_no_memory};
 

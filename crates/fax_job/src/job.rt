@@ -8,15 +8,11 @@ ghost use Rattle.fax_job.specs.Job.{is_lawful_killtime};
 ghost use Rattle.fax_job.specs.JobLines.{order_lines, counter_lines};
 ghost use Rattle.fax_job.specs.Pair.{pair, IsPair, are_unknown};
 
-use crate::dial::Dial;
-use crate::job_tag::JobTag;
-use crate::limits::{LAST_JOB, LAST_NEXT, MOST_ATTEMPTS, MOST_PAGES};
 use crate::line_text::LineText;
 use crate::lines::Lines;
-use crate::moment::Moment;
-use crate::name::Name;
-use crate::status::Status;
 use crate::tag::is_known;
+use fax_value::limits::{LAST_JOB, LAST_NEXT, MOST_ATTEMPTS, MOST_PAGES};
+use fax_value::{Dial, JobTag, Moment, Name, Status};
 use std::alloc::{AllocError, Global};
 use std::marker::Model;
 

@@ -6,45 +6,27 @@
 #![tactic(auto)]
 
 mod alter;
-mod blank;
-mod comma;
-mod dial;
 mod import;
 mod job;
-mod job_tag;
-pub mod limits;
 mod line_text;
 mod lines;
-mod moment;
-mod name;
-mod number;
 mod order;
 mod refusal;
-mod request_number;
-mod status;
 mod tag;
-mod text_fault;
-mod value;
 mod values;
 mod writing;
 
 pub use alter::Alter;
-pub use blank::{before_blanks, begins_with_blank, is_blank, is_of_blanks, without_blanks};
-pub use comma::{at_comma, trimmed};
-pub use dial::{Dial, DialFault};
+pub use fax_value::{
+    Dial, DialFault, JobTag, Moment, Name, RequestNumber, Status, TextFault, at_comma,
+    before_blanks, begins_with_blank, ends_with_backslash, is_blank, is_name, is_of_blanks,
+    is_plain, limits, read_number, trimmed, without_blanks,
+};
 pub use import::Import;
 pub use job::{Call, Job, JobFields, Phase, Wish};
-pub use job_tag::JobTag;
 pub use line_text::Line;
 pub use lines::{LineFault, LineKind, Lines};
-pub use moment::Moment;
-pub use name::{Name, is_name};
-pub use number::number as read_number;
 pub use order::{Order, OrderFault};
 pub use refusal::{BodyFault, Refusal};
-pub use request_number::RequestNumber;
-pub use status::Status;
 pub use tag::{is_known, is_tag};
-pub use text_fault::TextFault;
-pub use value::{ends_with_backslash, is_plain};
 pub use writing::write_lines;

@@ -108,7 +108,7 @@ impl Lines {
     ghost use Rattle.std.specs.Str.{bytes_eq};
     ghost use Rattle.fax_job.specs.Pair.{pair, is_pair, ArePairs, has_tag, value_of};
     ghost use Rattle.fax_job.specs.Tag.{is_known};
-    ghost use Rattle.fax_job.specs.Value.{IsStatus};
+    ghost use Rattle.fax_value.specs.Value.{IsStatus};
 
     /// No lines.
     pub fn new(alloc: Global) -> Lines

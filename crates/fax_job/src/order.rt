@@ -1,15 +1,12 @@
 //! Orders, what a submission asks for.
 
-use crate::dial::Dial;
-use crate::job_tag::JobTag;
 use crate::lines::Lines;
-use crate::moment::Moment;
-use crate::name::Name;
 use crate::tag::is_known;
 use crate::values::{
     dial_of, jobtag_of, killtime_of, maxdials_of, maxtries_of, modem_of, priority_of, totpages_of,
     tts_of,
 };
+use fax_value::{Dial, JobTag, Moment, Name};
 use std::alloc::{AllocError, Global};
 use thiserror::Error;
 
@@ -123,7 +120,7 @@ impl From<AllocError> for OrderFault {
 
 impl Lines {
     ghost use Rattle.std.specs.Prelude.{◌≡◌, IfOk};
-    ghost use Rattle.fax_job.specs.Gives.{Gives};
+    ghost use Rattle.fax_value.specs.Gives.{Gives};
     ghost use Rattle.fax_job.specs.Order.{is_no_memory, value_or_none, order_of};
     ghost use Rattle.fax_job.specs.Pair.{extra_of};
 

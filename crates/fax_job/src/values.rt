@@ -1,17 +1,12 @@
 //! The values of an order, tag by tag. An empty value counts as none.
 
 ghost use Rattle.std.specs.Prelude.{◌≡◌, ◌≤◌, IfSome};
-ghost use Rattle.fax_job.specs.Gives.{Gives, Tells};
+ghost use Rattle.fax_value.specs.Gives.{Gives, Tells};
 ghost use Rattle.fax_job.specs.Order.{is_no_memory, fault_of, number_within, dial_in, modem_in, jobtag_in, moment_in, tts_in, killtime_in, priority_in, totpages_in, limit_in, maxtries_in, maxdials_in};
 
-use crate::dial::Dial;
-use crate::job_tag::JobTag;
-use crate::limits::{LAST_MOMENT, MOST_ATTEMPTS, MOST_PAGES};
-use crate::moment::Moment;
-use crate::name::Name;
-use crate::number::number;
 use crate::order::OrderFault;
-use crate::text_fault::TextFault;
+use fax_value::limits::{LAST_MOMENT, MOST_ATTEMPTS, MOST_PAGES};
+use fax_value::{Dial, JobTag, Moment, Name, TextFault, read_number};
 use std::alloc::Global;
 
 /// The fault of an order whose text is at fault: this one, where the text is bad.
@@ -156,7 +151,7 @@ pub(crate) fn number_within(value: &str, greatest: u64) -> Option<u64>
     ensures value { result ≡ number_within value.now greatest }
     ensures bound { IfSome result (λ number. number ≤ greatest) }
 {
-    let number = number(value.as_bytes())?;
+    let number = read_number(value.as_bytes())?;
     if number <= greatest {
         Some(number)
     } else {

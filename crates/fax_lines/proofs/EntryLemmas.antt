@@ -10,8 +10,8 @@ use Rattle.fax_lines.specs.Reading.{lines}
 use Rattle.fax_job.specs.Spelling.{escaped_byte, escaped}
 use Rattle.fax_lines.specs.Spells.{Entry, Skipped, Stated, entry_text, has_byte, IsFormed, texts}
 use Rattle.fax_job.specs.Tag.{is_tag_byte, is_tag}
-use Rattle.fax_job.specs.Value.{is_value, is_status}
-use Rattle.fax_job.specs.Blank.{is_blank}
+use Rattle.fax_value.specs.Value.{is_value, is_status}
+use Rattle.fax_value.specs.Blank.{is_blank}
 use Rattle.fax_lines.proofs.LineLemmas.{Lacks, lines_cut}
 
 -- the lines of a value, the first behind what it has begun with

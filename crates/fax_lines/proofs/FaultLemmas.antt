@@ -9,10 +9,10 @@ use Rattle.fax_job.specs.declared.lines.LineKind.{LineKind}
 use Rattle.fax_job.specs.declared.lines.LineKind.TheVariants.{NotText, NoColon, BadTag, Twice, BadValue, OpenEnd, NoMemory}
 use Rattle.fax_job.specs.Pair.{Pair, pair, has_tag}
 use Rattle.fax_lines.specs.Reading.{lines, is_skipped, parts_of, at_parts, entry_of, begin_step, go_on_step, read_on, fault_at}
-use Rattle.fax_job.specs.Blank.{without_blanks, is_blank, begins_with_blank}
+use Rattle.fax_value.specs.Blank.{without_blanks, is_blank, begins_with_blank}
 use Rattle.fax_lines.specs.Spells.{Entry, Stated, entry_text, has_byte, Faces, Begins, HasBadPart, IsFault, IsFaultBehind, IsFirstFault, Spells, pairs}
 use Rattle.fax_job.specs.Tag.{is_known}
-use Rattle.fax_job.specs.Value.{is_plain, is_status_byte}
+use Rattle.fax_value.specs.Value.{is_plain, is_status_byte}
 use Rattle.fax_lines.proofs.EntryLemmas.{continued, entry_lines, entry_lines_are, all_lines_are, Lacks-from}
 use Rattle.fax_lines.proofs.FoundLemmas.{closed, last, continued_is, plain_blank}
 use Rattle.fax_lines.proofs.LineLemmas.{at_colon_some, at_colon_none, before_backslash_some}

@@ -14,10 +14,10 @@ use Rattle.fax_job.specs.declared.lines.LineKind.{LineKind}
 use Rattle.fax_job.specs.declared.lines.LineKind.TheVariants.{NoColon, BadTag, Twice, BadValue, OpenEnd}
 use Rattle.fax_job.specs.Pair.{Pair, pair, has_tag, is_once}
 use Rattle.fax_lines.specs.Reading.{onto, lines, is_skipped, at_colon, before_backslash, begun_part, parts_of, at_parts, entry_of, taken_part, entered, begin_step, gone_on, go_on_step, step, ended, then_read, read_on, fault_at, IsEntry, IsOpen}
-use Rattle.fax_job.specs.Blank.{without_blanks, is_blank}
+use Rattle.fax_value.specs.Blank.{without_blanks, is_blank}
 use Rattle.fax_lines.specs.Spells.{Entry, Skipped, Stated, entry_text, has_byte, IsFormed, stated, pairs, Faces, Begins, IsFault, Spells, IsFaultBehind}
 use Rattle.fax_job.specs.Tag.{is_tag, is_known}
-use Rattle.fax_job.specs.Value.{is_plain_byte, is_plain}
+use Rattle.fax_value.specs.Value.{is_plain_byte, is_plain}
 use Rattle.fax_lines.proofs.EntryLemmas.{continued, entry_lines, entry_lines_are, all_lines, all_lines_are}
 use Rattle.fax_lines.proofs.LineLemmas.{done, two, some_is, at_colon_parts, before_backslash_parts}
 use Rattle.fax_job.proofs.PairLemmas.{once_push}

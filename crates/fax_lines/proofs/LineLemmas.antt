@@ -6,8 +6,8 @@ use Rattle.std.proofs.lemmas.Bool.{ne_eqb, eqb-true, or_from}
 use Rattle.std.proofs.lemmas.Str.Pattern.{IsSplitOnceResult, split_parts}
 use denote.Ref.{Bor}
 use Rattle.fax_lines.specs.Reading.{onto, lines, at_colon, before_backslash}
-use Rattle.fax_job.specs.Blank.{without_blanks, is_blank, begins_with_blank}
-use Rattle.fax_job.specs.Value.{ends_with_backslash}
+use Rattle.fax_value.specs.Blank.{without_blanks, is_blank, begins_with_blank}
+use Rattle.fax_value.specs.Value.{ends_with_backslash}
 
 -- no byte is c
 abbrev pub Lacks : ℕ → List ℕ → Type 0

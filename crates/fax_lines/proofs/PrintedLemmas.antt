@@ -13,7 +13,7 @@ use Rattle.fax_lines.specs.Reading.{lines}
 use Rattle.fax_job.specs.Spelling.{escaped_byte, escaped, printed_pair, printed}
 use Rattle.fax_lines.specs.Spells.{Entry, Stated, entry_text, IsFormed, stated, texts, pairs, Spells}
 use Rattle.fax_job.specs.Tag.{is_tag_byte, is_tag}
-use Rattle.fax_job.specs.Value.{is_value, is_status}
+use Rattle.fax_value.specs.Value.{is_value, is_status}
 
 -- ---- UTF-8
 

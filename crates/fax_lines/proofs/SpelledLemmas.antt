@@ -11,10 +11,10 @@ use Rattle.std.proofs.lemmas.List.Folds.{list_all-append}
 use Rattle.std.proofs.lemmas.Slice.Eq.{bytes_eq-Decides}
 use Rattle.fax_job.specs.Pair.{Pair, pair, is_pair, has_tag, is_once, begins_with_hash}
 use Rattle.fax_lines.specs.Reading.{is_skipped, at_colon, before_backslash, begun_part, at_parts, entry_of, taken, begin_step, go_on_step, read_on}
-use Rattle.fax_job.specs.Blank.{without_blanks, is_blank, begins_with_blank}
+use Rattle.fax_value.specs.Blank.{without_blanks, is_blank, begins_with_blank}
 use Rattle.fax_lines.specs.Spells.{Entry, Skipped, Stated, IsFormed, stated, pairs}
 use Rattle.fax_job.specs.Tag.{is_tag, is_known}
-use Rattle.fax_job.specs.Value.{ends_with_backslash, is_plain_byte, is_plain, is_value, is_status_byte, is_status}
+use Rattle.fax_value.specs.Value.{ends_with_backslash, is_plain_byte, is_plain, is_value, is_status_byte, is_status}
 use Rattle.fax_lines.proofs.EntryLemmas.{continued, all_lines, Lacks-from, tag_lacks_colon}
 use Rattle.fax_lines.proofs.LineLemmas.{at_colon_some, before_backslash_some, ends_append}
 

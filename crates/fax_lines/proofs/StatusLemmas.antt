@@ -11,9 +11,9 @@ use Rattle.fax_job.specs.declared.lines.LineKind.{LineKind}
 use Rattle.fax_job.specs.declared.lines.LineKind.TheVariants.{BadTag, Twice, BadValue}
 use Rattle.fax_job.specs.Pair.{Pair, pair, is_pair, begins_with_hash, has_tag}
 use Rattle.fax_lines.specs.Reading.{is_skipped, at_colon, before_backslash, begun_part, parts_of, at_parts, entry_of, IsEntry, IsOpen}
-use Rattle.fax_job.specs.Blank.{without_blanks, is_blank, begins_with_blank}
+use Rattle.fax_value.specs.Blank.{without_blanks, is_blank, begins_with_blank}
 use Rattle.fax_job.specs.Tag.{is_tag, is_known}
-use Rattle.fax_job.specs.Value.{ends_with_backslash, is_plain_byte, is_plain, is_value, is_status_byte, is_status}
+use Rattle.fax_value.specs.Value.{ends_with_backslash, is_plain_byte, is_plain, is_value, is_status_byte, is_status}
 use Rattle.fax_lines.proofs.LineLemmas.{at_colon_parts, before_backslash_parts, ends_append, start_append, ends_lacking, without_blanks_start}
 
 -- ---- the parts of a line

@@ -5,7 +5,7 @@ use Rattle.std.specs.Str.{IsUtf8}
 use Rattle.std.proofs.lemmas.Bool.{MatchBool-at_false}
 use Rattle.std.proofs.lemmas.Result.{MatchResult-at_ok, MatchResult-at_err}
 use Rattle.fax_job.specs.declared.lines.LineFault.{LineFault}
-use Rattle.fax_job.specs.Gives.{Gives}
+use Rattle.fax_value.specs.Gives.{Gives}
 use Rattle.fax_job.specs.Pair.{Pair, is_once}
 use Rattle.fax_lines.specs.Reading.{lines, read_on, is_no_memory}
 use Rattle.fax_lines.specs.Spells.{Spells, IsFaultBehind, IsFirstFault}

@@ -9,8 +9,8 @@ use Rattle.fax_job.specs.declared.lines.LineKind.{LineKind}
 use Rattle.fax_job.specs.declared.lines.LineKind.TheVariants.{NotText, NoColon, BadTag, Twice, BadValue, OpenEnd, NoMemory}
 use Rattle.fax_job.specs.Pair.{Pair, pair, begins_with_hash, has_tag}
 use Rattle.fax_job.specs.Tag.{is_tag, is_known}
-use Rattle.fax_job.specs.Value.{ends_with_backslash, is_plain, is_status_byte}
-use Rattle.fax_job.specs.Blank.{is_blank, begins_with_blank, without_blanks}
+use Rattle.fax_value.specs.Value.{ends_with_backslash, is_plain, is_status_byte}
+use Rattle.fax_value.specs.Blank.{is_blank, begins_with_blank, without_blanks}
 
 -- ---- lines
 

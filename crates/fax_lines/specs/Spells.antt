@@ -9,8 +9,8 @@ use Rattle.fax_job.specs.Pair.{Pair, pair, is_pair, has_tag, is_once}
 use Rattle.fax_lines.specs.Reading.{lines, is_skipped, fault_at}
 use Rattle.fax_job.specs.Spelling.{escaped}
 use Rattle.fax_job.specs.Tag.{is_tag, is_known}
-use Rattle.fax_job.specs.Value.{is_plain}
-use Rattle.fax_job.specs.Blank.{is_blank}
+use Rattle.fax_value.specs.Value.{is_plain}
+use Rattle.fax_value.specs.Blank.{is_blank}
 
 -- ---- spelling
 

@@ -3,7 +3,7 @@
 ghost use Rattle.std.specs.Prelude.{ℕ, List, IfErr, ◌≡◌, ◌<◌, ◌++◌, ◌∷◌, ◌&&◌, [], true, false, length, codes, Ok, Err, Some, None, IfOk, IfSome, MatchResult};
 ghost use Rattle.std.specs.Option.{option_map, option_copied};
 ghost use Rattle.std.specs.String.{string_bytes};
-ghost use Rattle.fax_job.specs.Gives.{Gives, GivesBy};
+ghost use Rattle.fax_value.specs.Gives.{Gives, GivesBy};
 ghost use Rattle.fax_job.specs.declared.lines.LineFault.{LineFault};
 ghost use Rattle.fax_lines.specs.Spells.{Spells, IsFirstFault};
 ghost use Rattle.fax_job.specs.Pair.{Pair, pair, is_pair, begins_with_hash, has_tag};

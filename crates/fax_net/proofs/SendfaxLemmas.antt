@@ -6,7 +6,7 @@ use Rattle.std.specs.declared.alloc.Global.{Global}
 use Rattle.fax_http.specs.declared.answer.Answer.{Answer}
 use Rattle.fax_http.specs.declared.answer.AnswerFault.{AnswerFault}
 use Rattle.fax_http.specs.declared.device.Watched.{Watched}
-use Rattle.fax_job.specs.Gives.{GivesBy}
+use Rattle.fax_value.specs.Gives.{GivesBy}
 use Rattle.fax_text.specs.Sendfax.{fault_word, is_no_memory, request_of}
 use Rattle.fax_text.specs.declared.sendfax.SendFault.{SendFault}
 use Rattle.fax_text.specs.declared.sendfax.SendPlan.{SendPlan}

@@ -6,8 +6,8 @@ use Rattle.std.specs.Str.{bytes_eq}
 use Rattle.std.proofs.lemmas.Bool.{eq-eqb}
 use Rattle.std.proofs.lemmas.Slice.Eq.{bytes_eq-Decides}
 use Rattle.sqlite_rules.specs.Lists.{Has}
-use Rattle.fax_job.specs.Name.{IsName, is_name}
-use Rattle.fax_job.specs.Number.{request_number_of}
+use Rattle.fax_value.specs.Name.{IsName, is_name}
+use Rattle.fax_value.specs.Number.{request_number_of}
 use Rattle.fax_job.specs.declared.refusal.Refusal.TheVariants.{BadClient}
 use Rattle.fax_ask.specs.Ask.{Asks, IsAsk}
 use Rattle.fax_ask.specs.Request.{request_of}

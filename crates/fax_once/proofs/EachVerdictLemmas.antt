@@ -3,8 +3,8 @@ use Rattle.std.proofs.Common.{All, ◌≡◌, ◌≢◌, ◌⊎◌, inl, inr, �
 use Rattle.std.specs.Prelude.{Result, MatchOption, MatchResult}
 use Rattle.fax_job.specs.declared.refusal.Refusal.{Refusal}
 use Rattle.fax_job.specs.declared.refusal.Refusal.TheVariants.{BadBody, BadClient, FloorHigh, GivenUp, NoRoute, NumberReused, NoJob, Unavailable}
-use Rattle.fax_job.specs.Name.{is_name}
-use Rattle.fax_job.specs.Number.{request_number_of}
+use Rattle.fax_value.specs.Name.{is_name}
+use Rattle.fax_value.specs.Number.{request_number_of}
 use Rattle.fax_ask.specs.declared.request.Request.{Request}
 use Rattle.fax_ask.specs.declared.request.Request.TheVariants.{Submit, Import, Suspend, Resume, Kill, Alter, Show, Ready, Down, Next, Call, Page, Outcome, Floor}
 use Rattle.fax_ask.specs.declared.view.View.{View}

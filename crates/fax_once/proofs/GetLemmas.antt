@@ -3,7 +3,7 @@ use Rattle.std.proofs.Common.{◌≡◌, ◌∙◌, ℕ, Bool, true, false, List
 use Rattle.std.specs.Prelude.{MatchOption, codes, length, option_and_then, ◌==◌}
 use Rattle.std.specs.Str.{bytes_eq}
 use Rattle.fax_core.specs.declared.ask.Ask.{Ask}
-use Rattle.fax_job.specs.Number.{request_number_of}
+use Rattle.fax_value.specs.Number.{request_number_of}
 use Rattle.fax_ask.specs.declared.method.Method.{Method}
 use Rattle.fax_ask.specs.declared.method.Method.TheVariants.{Get}
 use Rattle.fax_ask.specs.declared.request.Request.{Request}

@@ -2,7 +2,7 @@
 use Rattle.std.proofs.Common.{◌≡◌, ℕ, ◌<◌, List, [], ◌∷◌, Bool, true, false, refl, sym, ap, subst, ◌∙◌, ◌&&◌, zero, suc, arith, lit<, Option, Some, None, Err, if◌then◌else◌}
 use Rattle.fax_job.specs.declared.refusal.Refusal.{Refusal}
 use Rattle.fax_job.specs.declared.refusal.Refusal.TheVariants.{BadClient, BadNumber}
-use Rattle.fax_job.specs.Number.{request_number_of}
+use Rattle.fax_value.specs.Number.{request_number_of}
 use Rattle.fax_ask.specs.Detail.{has_detail}
 use Rattle.sqlite.specs.Effect.{Database}
 use Rattle.fax_core.proofs.DecisionLemmas.{ok_same}
@@ -15,7 +15,7 @@ use Rattle.std.specs.Prelude.{IsUtf8, slice_index}
 use Rattle.std.specs.List.{list_all}
 use Rattle.std.proofs.lemmas.Bool.Decides.{nat_tests}
 use Rattle.std.proofs.lemmas.Str.{IsUtf8-from_ascii}
-use Rattle.fax_job.specs.Name.{is_name, is_name_byte}
+use Rattle.fax_value.specs.Name.{is_name, is_name_byte}
 
 -- where both are true, the first is
 left_true : (a b : Bool) → (a && b) ≡ true → a ≡ true

@@ -6,7 +6,7 @@ ghost use Rattle.fax_core.specs.Ledger.{Ledger, with_reply};
 ghost use Rattle.fax_core.specs.Queue.{Queue};
 ghost use Rattle.fax_store.specs.Calls.{FailsOnly, Follows, Makes, MakesWhere, shown};
 ghost use Rattle.fax_store.specs.Job.{with_expired};
-ghost use Rattle.fax_job.specs.Name.{IsName};
+ghost use Rattle.fax_value.specs.Name.{IsName};
 ghost use Rattle.fax_store.specs.Kept.{IsUnkept};
 ghost use Rattle.fax_tables.specs.Kept.{entry};
 ghost use Rattle.fax_tables.specs.Tables.{IsKeptStatus};

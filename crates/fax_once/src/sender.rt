@@ -1,7 +1,7 @@
 //! Who sent a request.
 
 ghost use Rattle.std.specs.Prelude.{◌≡◌, Err, IfErr, IfOk, IfSome, is_some};
-ghost use Rattle.fax_job.specs.Name.{is_name as is_name_of};
+ghost use Rattle.fax_value.specs.Name.{is_name as is_name_of};
 ghost use Rattle.fax_once.specs.Arrival.{IsSender, number_of};
 
 use crate::arrival::Arrival;

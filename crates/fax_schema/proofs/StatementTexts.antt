@@ -13,7 +13,7 @@ use Rattle.sqlite.specs.Listing.{understood}
 use Rattle.sqlite_tied.specs.Compute.{everything}
 use Rattle.sqlite_value.specs.Keys.{ascending}
 use Rattle.sqlite_value.specs.declared.keys.Key.{Key}
-use Rattle.fax_job.specs.Status.{kill_time_expired}
+use Rattle.fax_value.specs.Status.{kill_time_expired}
 use Rattle.fax_schema.specs.declared.statements.TheConstants.{SELECT_DIAL, SELECT_HELD, SELECT_LOST, SELECT_VERSION, UPDATE_VERSION}
 use Rattle.fax_schema.specs.declared.statements.TheConstants.{SELECT_META, UPDATE_CLOCK, UPDATE_META}
 use Rattle.fax_schema.specs.declared.statements.TheConstants.{SELECT_REPLY, INSERT_REPLY}

@@ -39,7 +39,7 @@ use Rattle.fax_core.specs.Ledger.{Ledger}
 use Rattle.fax_core.specs.Queue.{Queue, job_numbered}
 use Rattle.fax_core.specs.State.{is_due}
 use Rattle.fax_core.proofs.RecordLemmas.{within_limits_of}
-use Rattle.fax_job.specs.Limits.{last_job}
+use Rattle.fax_value.specs.Limits.{last_job}
 use Rattle.fax_store.specs.Candidates.{AreAsked, IsPage, StandsAt, front_of, is_behind, is_beyond, is_last, is_near, is_other, next_front, value_of}
 use Rattle.fax_store.specs.declared.candidates.Asked.{Asked}
 use Rattle.fax_store.specs.Job.{AreWaiting}

@@ -15,17 +15,17 @@ use Rattle.fax_core.specs.Ageing.{aged_job, expires, is_past}
 use Rattle.fax_core.specs.Job.{Job, job_of, fields_of}
 use Rattle.fax_core.specs.Ledger.{Ledger}
 use Rattle.fax_core.specs.Queue.{Queue, job_numbered, open_grants}
-use Rattle.fax_job.specs.Status.{kill_time_expired}
+use Rattle.fax_value.specs.Status.{kill_time_expired}
 use Rattle.fax_job.specs.declared.job.JobFields.{JobFields}
 use Rattle.fax_job.specs.declared.job.Phase.{Phase}
 use Rattle.fax_job.specs.declared.job.Phase.TheVariants.{Held, Waiting, Granted, Done, Failed}
 use Rattle.fax_schema.specs.declared.statements.TheConstants.{UPDATE_JOB, SELECT_EXPIRED, EXPIRE_JOBS}
-use Rattle.fax_job.specs.Dial.{IsCanonical}
+use Rattle.fax_value.specs.Dial.{IsCanonical}
 use Rattle.fax_job.specs.Job.{IsLawful}
-use Rattle.fax_job.specs.JobTag.{IsJobTag}
-use Rattle.fax_job.specs.Name.{IsName}
+use Rattle.fax_value.specs.JobTag.{IsJobTag}
+use Rattle.fax_value.specs.Name.{IsName}
 use Rattle.fax_job.specs.Pair.{Pair, ArePairs, are_unknown}
-use Rattle.fax_job.specs.Value.{IsStatus}
+use Rattle.fax_value.specs.Value.{IsStatus}
 use Rattle.fax_tables.specs.Job.{IsText, IsLawfulJob}
 use Rattle.fax_store.specs.Job.{IsSameOrder, IsChange, expired_in, lines_of, with_change, with_expired, with_expired_in}
 use Rattle.fax_tables.specs.Row.{number, job_row, phase_number}

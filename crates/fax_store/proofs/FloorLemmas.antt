@@ -13,7 +13,7 @@ use Rattle.sqlite.proofs.Callers.{runs_as}
 use Rattle.sqlite_trees.proofs.ListLemmas.{all_of, filter-map, filter_same}
 use Rattle.fax_core.specs.Ledger.{Ledger, floors_with, is_through, without_replies}
 use Rattle.fax_core.specs.Queue.{Queue, Entry, open_grants}
-use Rattle.fax_job.specs.Name.{IsName}
+use Rattle.fax_value.specs.Name.{IsName}
 use Rattle.fax_schema.specs.declared.statements.TheConstants.{DELETE_FLOOR, DELETE_REPLIES, INSERT_FLOOR, SELECT_FLOOR}
 use Rattle.fax_schema.specs.ByRowid.{IsByRowid}
 use Rattle.fax_schema.specs.Schema as schema

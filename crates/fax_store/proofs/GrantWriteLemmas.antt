@@ -21,7 +21,7 @@ use Rattle.fax_core.specs.Ledger.{Ledger}
 use Rattle.fax_core.specs.Queue.{Queue, open_grants, grant_numbered, job_numbered}
 use Rattle.fax_core.specs.State.{is_of_number}
 use Rattle.fax_core.specs.declared.grants.Grant.{Grant}
-use Rattle.fax_job.specs.Name.{IsName}
+use Rattle.fax_value.specs.Name.{IsName}
 use Rattle.fax_schema.specs.declared.statements.TheConstants.{INSERT_GRANT, INSERT_HOLD, UPDATE_REPORT, SHUT_GRANT, DELETE_HOLD}
 use Rattle.fax_store.specs.Grant.{IsNewGrant, IsSameGrant, IsReport, SetsCalls, with_count, with_placed, with_shut, with_closed}
 use Rattle.fax_tables.specs.Place.{placed}

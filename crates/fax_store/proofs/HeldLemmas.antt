@@ -37,7 +37,7 @@ use Rattle.fax_store.specs.Adopt.{AreCallable, AreOfJobs, AreSmall, CanBeCalled,
 use Rattle.fax_store.specs.Grant.{SetsCalls, with_count}
 use Rattle.fax_store.specs.Store.{FindsRow}
 use Rattle.fax_schema.specs.declared.statements.TheConstants.{SELECT_DIAL, SELECT_HELD, SELECT_LOST}
-use Rattle.fax_job.specs.Dial.{IsCanonical}
+use Rattle.fax_value.specs.Dial.{IsCanonical}
 use Rattle.fax_tables.specs.Job.{IsLawfulJob, IsText}
 use Rattle.fax_tables.specs.Row.{number, hold_columns}
 use Rattle.fax_schema.specs.Schema.{alike_list, calls_tree, holds_tree, jobs_tree, our_tables, core_tables}

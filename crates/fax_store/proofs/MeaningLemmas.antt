@@ -8,7 +8,7 @@ use Rattle.sqlite.specs.Order.{Row, column}
 use Rattle.sqlite.specs.declared.types.Value.{Value}
 use Rattle.sqlite.specs.declared.types.Value.TheVariants.{Blob, Int, Text}
 use Rattle.fax_job.specs.Job.{is_lawful_killtime}
-use Rattle.fax_job.specs.Name.{IsName}
+use Rattle.fax_value.specs.Name.{IsName}
 use Rattle.fax_job.specs.Pair.{Pair, ArePairs}
 use Rattle.fax_job.specs.Spelling.{printed}
 use Rattle.fax_job.specs.declared.job.Call.{Call}

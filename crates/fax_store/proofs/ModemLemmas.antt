@@ -17,7 +17,7 @@ use Rattle.sqlite_trees.proofs.ListLemmas.{IsPermutation-same}
 use Rattle.fax_core.specs.Machine.{is_down, with_mark}
 use Rattle.fax_core.specs.Ledger.{Ledger}
 use Rattle.fax_core.specs.Queue.{Queue, open_grants}
-use Rattle.fax_job.specs.Name.{IsName}
+use Rattle.fax_value.specs.Name.{IsName}
 use Rattle.fax_schema.specs.declared.statements.TheConstants.{SELECT_DOWN, INSERT_DOWN, DELETE_DOWN}
 use Rattle.fax_tables.specs.Row.{down_columns}
 use Rattle.fax_schema.specs.Schema as schema

@@ -17,7 +17,7 @@ use Rattle.fax_core.specs.Job.{Job}
 use Rattle.fax_core.specs.Ledger.{Ledger, empty_ledger}
 use Rattle.fax_core.specs.Queue.{Queue, empty_queue, job_numbered}
 use Rattle.fax_core.specs.State.{is_of_number}
-use Rattle.fax_job.specs.Dial.{IsCanonical}
+use Rattle.fax_value.specs.Dial.{IsCanonical}
 use Rattle.fax_tables.specs.Job.{IsText}
 use Rattle.fax_tables.specs.Row.{number}
 use Rattle.fax_schema.specs.ByRowid.{IsByRowid}

@@ -12,7 +12,7 @@ use Rattle.fax_core.specs.State.{is_due}
 use Rattle.fax_core.specs.Machine.{with_job}
 use Rattle.fax_core.specs.Queue.{Queue, job_numbered}
 use Rattle.fax_job.specs.Pair.{Pair}
-use Rattle.fax_job.specs.Status.{kill_time_expired}
+use Rattle.fax_value.specs.Status.{kill_time_expired}
 use Rattle.fax_job.specs.declared.job.JobFields.{JobFields}
 use Rattle.fax_job.specs.declared.job.Phase.{Phase}
 use Rattle.fax_job.specs.declared.job.Phase.TheVariants.{Failed}

@@ -2,7 +2,7 @@
 use Rattle.std.specs.Prelude.{ℕ, ◌+◌, ◌<◌, [], ◌∷◌}
 use Rattle.sqlite.specs.Effect.{Database}
 use Rattle.fax_core.specs.Queue.{Queue}
-use Rattle.fax_job.specs.Limits.{last_grant, last_job}
+use Rattle.fax_value.specs.Limits.{last_grant, last_job}
 use Rattle.fax_schema.specs.Schema.{meta_tree}
 use Rattle.fax_store.specs.Store.{HasRow}
 use Rattle.fax_tables.specs.Meta.{numbers_shown}

@@ -3,7 +3,7 @@
 ghost use Rattle.std.specs.Prelude.{◌≡◌, ◌≤◌, ◌<◌, ◌^◌, false, IfErr, IfOk, IfSome};
 ghost use Rattle.fax_core.specs.Ledger.{Ledger, floors_with, given_up, with_floor, without_replies};
 ghost use Rattle.fax_core.specs.Queue.{Queue};
-ghost use Rattle.fax_job.specs.Name.{IsName};
+ghost use Rattle.fax_value.specs.Name.{IsName};
 ghost use Rattle.fax_store.specs.Calls.{Answers, Calls, FailsOnly, Finds, Makes, Runs, Tells, shown};
 ghost use Rattle.fax_store.specs.Floors.{Thins};
 ghost use Rattle.fax_store.specs.Store.{Serves};

@@ -7,7 +7,7 @@ ghost use Rattle.fax_core.specs.Machine.{held_by, with_grant};
 ghost use Rattle.fax_core.specs.Ledger.{Ledger};
 ghost use Rattle.fax_core.specs.Queue.{Queue, grant_numbered};
 ghost use Rattle.fax_core.specs.State.{calls_to};
-ghost use Rattle.fax_job.specs.Limits.{most_pages};
+ghost use Rattle.fax_value.specs.Limits.{most_pages};
 ghost use Rattle.fax_store.specs.Calls.{Answers, AnswersRows, Calls, FailsOnly, Finds, Makes, MakesWhere, Runs, Tells, shown};
 ghost use Rattle.fax_store.specs.Grant.{GrantStands, HasCalls, HasGrantRow, HasHoldRow, HoldStands, IsCalled, IsHeld, IsHeldBy, IsNewGrant, IsReport, SetsCalls, with_count, with_placed, with_one_more_grant, with_closed};
 ghost use Rattle.fax_store.specs.Meta.{IsGrantLeft};

@@ -4,7 +4,7 @@ ghost use Rattle.std.specs.Prelude.{◌≡◌, List, true, false, Err, IfErr, is
 ghost use Rattle.fax_core.specs.Machine.{is_down, with_mark};
 ghost use Rattle.fax_core.specs.Ledger.{Ledger};
 ghost use Rattle.fax_core.specs.Queue.{Queue};
-ghost use Rattle.fax_job.specs.Name.{IsName};
+ghost use Rattle.fax_value.specs.Name.{IsName};
 ghost use Rattle.fax_store.specs.Calls.{Answers, Calls, FailsOnly, Finds, Makes, Runs, Tells, shown};
 ghost use Rattle.fax_store.specs.Store.{Serves};
 ghost use Rattle.fax_store.specs.Work.{Works, IsOnlyUnavailable, Moves, Steps};

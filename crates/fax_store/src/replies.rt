@@ -5,7 +5,7 @@ ghost use Rattle.sqlite.specs.Effect.{Database};
 ghost use Rattle.sqlite.specs.State.{HasCleanDisk};
 ghost use Rattle.fax_core.specs.Ledger.{Ledger, with_reply};
 ghost use Rattle.fax_core.specs.Queue.{Queue};
-ghost use Rattle.fax_job.specs.Name.{IsName};
+ghost use Rattle.fax_value.specs.Name.{IsName};
 ghost use Rattle.fax_store.specs.Calls.{Answers, Calls, FailsOnly, Finds, Makes, Runs, Tells, shown};
 ghost use Rattle.fax_store.specs.Kept.{IsKeptFor, IsUnkept, MissesNone};
 ghost use Rattle.fax_store.specs.Store.{Serves};

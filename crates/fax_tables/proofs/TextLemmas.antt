@@ -6,8 +6,8 @@ use Rattle.std.proofs.lemmas.Bool.{and_parts, cases_Bool}
 use Rattle.std.proofs.lemmas.Bool.Decides.{nat_tests}
 use Rattle.std.specs.List.{list_all}
 use Rattle.std.specs.Prelude.{◌==◌}
-use Rattle.fax_job.specs.Dial.{is_key, is_separator, are_keys, is_canonical, IsCanonical, without_separators, dial_of}
-use Rattle.fax_job.specs.Name.{IsName, is_name_byte}
+use Rattle.fax_value.specs.Dial.{is_key, is_separator, are_keys, is_canonical, IsCanonical, without_separators, dial_of}
+use Rattle.fax_value.specs.Name.{IsName, is_name_byte}
 use Rattle.fax_job.specs.Pair.{Pair, ArePairs}
 use Rattle.fax_tables.specs.Job.{IsText}
 use Rattle.std.specs.Str.{IsAscii}

@@ -3,7 +3,7 @@ use Rattle.std.specs.Prelude.{◌≤◌, [], ◌∷◌, IsTrue}
 use Rattle.sqlite.specs.Order.{Row}
 use Rattle.sqlite.specs.declared.types.Value.TheVariants.{Text}
 use Rattle.fax_core.specs.declared.grants.Grant.{Grant}
-use Rattle.fax_job.specs.Limits.{last_grant, last_job, most_pages}
+use Rattle.fax_value.specs.Limits.{last_grant, last_job, most_pages}
 use Rattle.fax_tables.specs.declared.grants.Hold.{Hold}
 use Rattle.fax_tables.specs.Row.{number, call_number, shut_number}
 

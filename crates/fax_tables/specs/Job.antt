@@ -4,14 +4,14 @@ use Rattle.std.specs.Str.{IsUtf8}
 use Rattle.sqlite.specs.Order.{Row}
 use Rattle.sqlite.specs.declared.types.Value.TheVariants.{Text}
 use Rattle.fax_core.specs.Job.{Job, fields_of, HasPages}
-use Rattle.fax_job.specs.Dial.{IsCanonical}
+use Rattle.fax_value.specs.Dial.{IsCanonical}
 use Rattle.fax_job.specs.Job.{IsLawful}
-use Rattle.fax_job.specs.JobTag.{IsJobTag}
-use Rattle.fax_job.specs.Limits.{last_moment}
-use Rattle.fax_job.specs.Name.{IsName}
+use Rattle.fax_value.specs.JobTag.{IsJobTag}
+use Rattle.fax_value.specs.Limits.{last_moment}
+use Rattle.fax_value.specs.Name.{IsName}
 use Rattle.fax_job.specs.Pair.{ArePairs}
 use Rattle.fax_job.specs.Spelling.{printed}
-use Rattle.fax_job.specs.Value.{IsStatus}
+use Rattle.fax_value.specs.Value.{IsStatus}
 use Rattle.fax_job.specs.declared.job.JobFields.{JobFields}
 use Rattle.fax_tables.specs.Row.{number, counter_columns, phase_number, wish_number}
 use Rattle.fax_tables.specs.declared.prospect.Prospect.{Prospect}

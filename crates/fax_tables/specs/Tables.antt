@@ -14,8 +14,8 @@ use Rattle.fax_core.specs.Ledger.{Ledger}
 use Rattle.fax_core.specs.Queue.{Queue, Entry, job_numbered, open_grants}
 use Rattle.fax_core.specs.State.{calls_to}
 use Rattle.fax_core.specs.declared.grants.Grant.{Grant}
-use Rattle.fax_job.specs.Limits.{last_grant, last_job, last_moment}
-use Rattle.fax_job.specs.Name.{IsName}
+use Rattle.fax_value.specs.Limits.{last_grant, last_job, last_moment}
+use Rattle.fax_value.specs.Name.{IsName}
 use Rattle.fax_tables.specs.Grant.{IsWithinLimits}
 use Rattle.fax_schema.specs.ByRowid.{IsByRowid}
 use Rattle.fax_schema.specs.Schema.{AreIndexedLast, HaveCalls, alike_list, first_list, first_bare, first_core, first_indexed, first_older_core, first_bare_calls, core_tables, bare_tables, our_tables, bare_with_calls, has_floors, calls_tree, down_tree, floors_tree, grants_tree, holds_tree, jobs_tree, meta_tree, replies_tree}

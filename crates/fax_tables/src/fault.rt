@@ -52,7 +52,7 @@ impl From<AllocError> for StoreFault {
 
 impl From<TextFault> for StoreFault {
     ghost use Rattle.std.specs.Prelude.{◌≡◌};
-    ghost use Rattle.fax_job.specs.TextFault.{is_no_memory};
+    ghost use Rattle.fax_value.specs.TextFault.{is_no_memory};
     ghost use Rattle.fax_tables.specs.Fault.{fault_by};
 
     ghost from_gives = { λ given fault. fault ≡ fault_by (is_no_memory given) };

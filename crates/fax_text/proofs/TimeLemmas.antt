@@ -9,7 +9,7 @@ use Rattle.std.specs.List.{list_all}
 use Rattle.std.specs.Option.{IfSome}
 use Rattle.std.specs.Prelude.{Some, None}
 use Rattle.std.specs.Str.Parse.{AllDigits, digits_value}
-use Rattle.fax_job.specs.Number.{is_number, number_of}
+use Rattle.fax_value.specs.Number.{is_number, number_of}
 
 -- a digit's value is below 10
 digit_small : (c : ℕ) → is_ascii_digit c ≡ true → digit_value c < 10

@@ -1,8 +1,8 @@
 -- The requests that import prints.
 use Rattle.std.specs.Prelude.{ℕ, ◌+◌, List, [], ◌∷◌, ◌++◌, codes, length, nat_le, Option, Some, None, Result, Ok, Err, if◌then◌else◌}
 use Rattle.std.specs.Fmt.{decimal}
-use Rattle.fax_job.specs.Name.{is_name}
-use Rattle.fax_job.specs.Number.{request_number_of}
+use Rattle.fax_value.specs.Name.{is_name}
+use Rattle.fax_value.specs.Number.{request_number_of}
 use Rattle.fax_text.specs.declared.import.ImportFault.{ImportFault}
 use Rattle.fax_text.specs.declared.import.ImportFault.TheVariants.{Client, Request}
 use Rattle.fax_text.specs.declared.import_words.ImportPlan.{ImportPlan}

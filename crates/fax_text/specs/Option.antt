@@ -3,7 +3,7 @@ use Rattle.std.specs.Option.{option_map}
 use Rattle.std.specs.Prelude.{ℕ, ◌&&◌, true, nat_le, Option, Some, None, option_and_then, if◌then◌else◌}
 use Rattle.clap.specs.Simple.{new_rule}
 use Rattle.clap.specs.Walk.{Rule, Text}
-use Rattle.fax_job.specs.Number.{number_of}
+use Rattle.fax_value.specs.Number.{number_of}
 
 -- `--NAME VALUE`
 abbrev pub long_option : Text → Rule

@@ -2,10 +2,10 @@
 use Rattle.std.specs.Prelude.{ℕ, Bool, true, false, List, [], ◌++◌, codes, length, Option, Some, None, Result, Ok, Err, if◌then◌else◌}
 use Rattle.std.specs.Fmt.{decimal}
 use Rattle.std.specs.Option.{option_copied, option_map, ok_or}
-use Rattle.fax_job.specs.Dial.{is_canonical, without_separators}
-use Rattle.fax_job.specs.JobTag.{is_job_tag}
-use Rattle.fax_job.specs.Name.{is_name}
-use Rattle.fax_job.specs.Number.{request_number_of}
+use Rattle.fax_value.specs.Dial.{is_canonical, without_separators}
+use Rattle.fax_value.specs.JobTag.{is_job_tag}
+use Rattle.fax_value.specs.Name.{is_name}
+use Rattle.fax_value.specs.Number.{request_number_of}
 use Rattle.fax_text.specs.Time.{time_in}
 use Rattle.fax_text.specs.declared.sendfax.SendFault.{SendFault}
 use Rattle.fax_text.specs.declared.sendfax.SendFault.TheVariants.{Destination, At, Kill, Tag, Client, Request, NoMemory}

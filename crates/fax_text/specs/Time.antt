@@ -5,8 +5,8 @@ use Rattle.std.specs.Option.{option_map}
 use Rattle.std.specs.Result.{result_ok}
 use Rattle.std.specs.Str.{bytes_eq}
 use Rattle.jiff.specs.Words.{parse_timestamp}
-use Rattle.fax_job.specs.Limits.{last_moment}
-use Rattle.fax_job.specs.Number.{number_of}
+use Rattle.fax_value.specs.Limits.{last_moment}
+use Rattle.fax_value.specs.Number.{number_of}
 
 -- how many seconds a unit has
 abbrev pub seconds_in : List ℕ → Option ℕ

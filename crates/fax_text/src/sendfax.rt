@@ -3,7 +3,7 @@
 ghost use Rattle.std.specs.Prelude.{◌≡◌, IfOk, codes, string_bytes};
 ghost use Rattle.std.specs.Fmt.{decimal};
 ghost use Rattle.std.specs.Option.{option_copied, option_map};
-ghost use Rattle.fax_job.specs.Gives.{Gives, GivesBy, Tells};
+ghost use Rattle.fax_value.specs.Gives.{Gives, GivesBy, Tells};
 ghost use Rattle.fax_text.specs.Sendfax.{body, client_in, destination_in, is_no_memory, key_line_of, limit_lines, message, moment_in, number_in, request_of, tag_in};
 
 use crate::time::time_in;

@@ -2,7 +2,7 @@ use Rattle.std.proofs.Common.{◌≡◌, ◌<◌, subst, rules}
 use Rattle.std.specs.Option.{option_map}
 use Rattle.fax_core.specs.Job.{fields_of}
 use Rattle.fax_core.specs.Queue.{job_numbered}
-use Rattle.fax_job.specs.Limits.{last_job}
+use Rattle.fax_value.specs.Limits.{last_job}
 use Rattle.fax_tables.specs.Job.{brief}
 use Rattle.fax_store.proofs.FrameLemmas.{means_now}
 use Rattle.fax_decide.proofs.RecordLemmas.{no_job, found_brief, found_no_job}

@@ -1,5 +1,5 @@
 use Rattle.std.proofs.Common.{◌<◌, rules}
-use Rattle.fax_job.specs.Limits.{last_grant}
+use Rattle.fax_value.specs.Limits.{last_grant}
 use Rattle.fax_store.proofs.FrameLemmas.{means_now}
 use Rattle.fax_decide.proofs.RecordLemmas.{no_grant}
 use Rattle.fax_decide.proofs.records.grant_at.Goals as goal

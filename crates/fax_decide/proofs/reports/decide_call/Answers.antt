@@ -1,6 +1,6 @@
 use Rattle.std.proofs.Common.{Some, ◌≤◌, sym, ap, subst, ◌∙◌}
 use Rattle.std.specs.Prelude.{IfOk}
-use Rattle.fax_job.specs.Limits.{most_pages}
+use Rattle.fax_value.specs.Limits.{most_pages}
 use Rattle.fax_core.specs.Ageing.{aged}
 use Rattle.fax_core.specs.Job.{job_of}
 use Rattle.fax_core.specs.Machine.{call_reply}

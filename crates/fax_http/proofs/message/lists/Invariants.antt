@@ -2,8 +2,8 @@ use Rattle.std.proofs.Common.{◌≡◌, ◌+◌, ℕ, List, length, Option, Som
 use Rattle.std.specs.List.{list_any}
 use Rattle.std.specs.Option.{option_copied}
 use Rattle.std.specs.Str.{str_eq_ignore_ascii_case}
-use Rattle.fax_job.specs.Blank.{trimmed}
-use Rattle.fax_job.specs.Comma.{parts_left}
+use Rattle.fax_value.specs.Blank.{trimmed}
+use Rattle.fax_value.specs.Comma.{parts_left}
 use Rattle.fax_http.specs.Message.{lists}
 use Rattle.fax_http.proofs.message.lists.Given as goal
 

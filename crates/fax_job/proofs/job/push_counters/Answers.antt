@@ -1,6 +1,6 @@
 use Rattle.std.proofs.Common.{append_assoc, refl, arith}
 use Rattle.std.specs.Prelude.{codes}
-use Rattle.fax_job.proofs.ValueLemmas.{pair_of_number}
+use Rattle.fax_job.proofs.PairLemmas.{pair_of_number}
 use Rattle.fax_job.proofs.job.push_counters.Goals as goal
 
 pub returns-clause-pushed : goal.returns-clause-pushed

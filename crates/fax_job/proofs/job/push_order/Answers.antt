@@ -1,7 +1,8 @@
 use Rattle.std.proofs.Common.{append_assoc, refl, arith}
 use Rattle.std.specs.Prelude.{codes, unwrap_or}
 use Rattle.std.specs.Str.{IsUtf8}
-use Rattle.fax_job.proofs.ValueLemmas.{pair_of_number, pair_of_value, value_of_canonical, value_of_name, value_of_job_tag}
+use Rattle.fax_value.proofs.ValueLemmas.{value_of_canonical, value_of_name, value_of_job_tag}
+use Rattle.fax_job.proofs.PairLemmas.{pair_of_number, pair_of_value}
 use Rattle.fax_job.proofs.job.push_order.Goals as goal
 
 pub returns-clause-pushed : goal.returns-clause-pushed

@@ -1,6 +1,6 @@
 use Rattle.std.proofs.Common.{◌≡◌, ◌++◌, true, sym, ◌∙◌}
 use Rattle.std.specs.String.{string_bytes}
-use Rattle.fax_job.specs.Value.{is_plain}
+use Rattle.fax_value.specs.Value.{is_plain}
 use Rattle.fax_lines.proofs.StatusLemmas.{open_more, pair_of_parts, once_of_parts}
 use Rattle.fax_lines.proofs.reading.go_on.Goals as goal
 

@@ -1,5 +1,5 @@
 use Rattle.std.proofs.Common.{List, ℕ, subst, inl, refl}
-use Rattle.fax_job.specs.Gives.{Gives}
+use Rattle.fax_value.specs.Gives.{Gives}
 use Rattle.fax_lines.specs.Reading.{is_no_memory}
 use Rattle.fax_lines.proofs.TextLemmas.{Read, found_in, first_in, only_in}
 use Rattle.fax_lines.proofs.reading.read_lines.Goals as goal

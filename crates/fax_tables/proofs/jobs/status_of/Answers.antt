@@ -1,5 +1,5 @@
-use Rattle.fax_job.specs.Value.{is_status}
-use Rattle.fax_job.specs.declared.text_fault.TextFault.TheVariants.{Bad}
+use Rattle.fax_value.specs.Value.{is_status}
+use Rattle.fax_value.specs.declared.text_fault.TextFault.TheVariants.{Bad}
 use Rattle.fax_tables.proofs.TextLemmas.{given_same}
 use Rattle.fax_tables.proofs.jobs.status_of.Goals as goal
 

@@ -4,7 +4,7 @@ use Rattle.std.specs.Str.{IsUtf8}
 use Rattle.fax_job.specs.declared.job.JobFields.{JobFields}
 use Rattle.fax_job.specs.JobLines.{job_lines}
 use Rattle.fax_job.proofs.JobLemmas.{unknown_of_lawful, ArePairs-job_lines}
-use Rattle.fax_job.proofs.ValueLemmas.{pair_of_number, pair_of_state}
+use Rattle.fax_job.proofs.PairLemmas.{pair_of_number, pair_of_state}
 use Rattle.fax_job.proofs.job.Job.lines_at.Goals as goal
 
 pub from_text-requires : goal.from_text-requires

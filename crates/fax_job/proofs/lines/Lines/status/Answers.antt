@@ -2,7 +2,7 @@
 use Rattle.std.proofs.Common.{rules, ◌≡◌, true, [], sym, subst, List, ℕ}
 use Rattle.std.specs.Prelude.{codes, unwrap_or}
 use Rattle.fax_job.specs.Pair.{value_of, ArePairs}
-use Rattle.fax_job.specs.Value.{is_status}
+use Rattle.fax_value.specs.Value.{is_status}
 use Rattle.fax_job.proofs.StatusLemmas.{status_of_lines}
 use Rattle.fax_job.proofs.lines.Lines.status.Goals as goal
 

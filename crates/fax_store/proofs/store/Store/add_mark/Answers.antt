@@ -2,7 +2,7 @@ use Rattle.std.proofs.Common.{◌≡◌, true, false, Ok, OnOk, IfErr, sym, subs
 use Rattle.sqlite.specs.Held.{state}
 use Rattle.sqlite.specs.State.{HasCleanDisk}
 use Rattle.fax_core.specs.Machine.{is_down, with_mark}
-use Rattle.fax_job.specs.Name.{IsName}
+use Rattle.fax_value.specs.Name.{IsName}
 use Rattle.fax_schema.specs.declared.statements.TheConstants.{INSERT_DOWN}
 use Rattle.fax_store.specs.Store.{HasRun, IsRefusedFor}
 use Rattle.fax_store.specs.Work.{IsUnderWay}

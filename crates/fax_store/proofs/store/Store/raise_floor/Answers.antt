@@ -2,7 +2,7 @@ use Rattle.std.proofs.Common.{◌≡◌, Ok, subst, ap, ◌∙◌, rules}
 use Rattle.std.specs.Prelude.{is_err}
 use Rattle.sqlite.specs.Held.{state}
 use Rattle.fax_core.specs.Ledger.{greater, with_floor}
-use Rattle.fax_job.specs.Name.{IsName}
+use Rattle.fax_value.specs.Name.{IsName}
 use Rattle.fax_store.specs.Work.{Steps}
 use Rattle.fax_store.proofs.WorkLemmas.{goes_on, holds_by, holds_then, moves_of}
 use Rattle.fax_store.proofs.StopLemmas.{withholds_by, withholds_then}

@@ -1,0 +1,11 @@
+pub mod Limits
+pub mod Gives
+pub mod TextFault
+pub mod Blank
+pub mod Comma
+pub mod Number
+pub mod Name
+pub mod Dial
+pub mod Value
+pub mod JobTag
+pub mod Status
