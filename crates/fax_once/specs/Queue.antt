@@ -2,20 +2,42 @@
 use Rattle.std.specs.Prelude.{◌≡◌, Result}
 use Rattle.sqlite.specs.State.{State, HasCleanDisk}
 use Rattle.sqlite_trees.specs.declared.store.Store.{Ghosts}
+use Rattle.fax_ask.specs.Ask.{IsAsk, IsLawful, IsLawfulStep}
 use Rattle.fax_ask.specs.Response.{Response}
+use Rattle.fax_ask.specs.declared.ask.Ask.{Ask}
 use Rattle.fax_core.specs.Ledger.{Ledger}
 use Rattle.fax_core.specs.Queue.{Queue as QueueOf}
 use Rattle.fax_core.specs.Settings.{Settings}
 use Rattle.fax_core.specs.Sound.{Sound}
+use Rattle.fax_core.specs.declared.ask.Ask.{Ask as Step}
+use Rattle.fax_decide.specs.Fault.{OnlyNoAnswer}
+use Rattle.fax_decide.specs.Read.{IsRead}
 use Rattle.fax_decide.specs.Settings.{settings_of}
+use Rattle.fax_decide.specs.declared.fault.Fault.{Fault}
 use Rattle.fax_store.specs.Calls.{shown}
-use Rattle.fax_store.specs.Store.{Means, Stays}
-use Rattle.fax_once.specs.Verdict.{IsNotAccepted}
+use Rattle.fax_store.specs.Kept.{IsUnkept}
+use Rattle.fax_store.specs.Store.{Means, Serves, Stays}
+use Rattle.fax_once.specs.Arrival.{IsSender}
+use Rattle.fax_once.specs.Stop.{Stops, StopsBy}
+use Rattle.fax_once.specs.Verdict.{Answers, IsNotAccepted, LeavesBy, Verdict}
+use Rattle.fax_once.specs.declared.arrival.Arrival.{Arrival}
 use Rattle.fax_once.specs.declared.queue.Queue.{Queue}
+use Rattle.fax_once.specs.declared.sender.Sender.{Sender}
 
 -- the settings that its setup and its controls say
 abbrev pub settings : {S : Type 0} → Queue S → Settings
 settings queue = settings_of queue.office.setup queue.office.controls
+
+-- the arrival's method, path and body ask for this
+pub record AsksFor (a : Arrival) (ask : Ask) : Type 0 where
+  pub is : IsAsk a.method a.path.now a.body.now ask
+  pub lawful : IsLawful ask
+
+-- this sender asks for this step
+pub record AsksStep (a : Arrival) (sender : Sender) (ask : Step) : Type 0 where
+  pub from : IsSender a sender
+  pub lawful : IsLawfulStep ask
+  pub read : IsRead ask
 
 module _ {S : Type 0} (g : Ghosts S) where
   -- what its database shows
@@ -31,3 +53,20 @@ module _ {S : Type 0} (g : Ghosts S) where
     pub office : new.office ≡ old.office
     pub clean : HasCleanDisk (tables new) → HasCleanDisk (tables old)
     pub unchanged : IsNotAccepted result → Stays (tables old) (tables new)
+
+  -- The store serves where its disk is clean, and then no reply is kept to the sender's number.
+  pub record HasNoReply (queue : Queue S) (sender : Sender) (k : Ledger) : Type 0 where
+    pub opens : HasCleanDisk (tables queue) → Serves (tables queue)
+    pub unkept : Serves (tables queue) → IsUnkept sender.client.now sender.number k.replies
+
+  -- A request comes to this verdict. A crash leaves what one before could leave, or what the verdict makes. While the store serves, only want of an answer takes the reply's place.
+  pub record ComesTo (old new : Queue S) (result : Result Response Fault) (m : QueueOf) (k : Ledger) (v : Verdict) : Type 0 where
+    pub crash : StopsBy (tables old) (tables new) v
+    pub leaves : HasCleanDisk (tables new) → LeavesBy m k result (tables new) v
+    pub cause : Serves (tables new) → OnlyNoAnswer result
+
+  -- the same of an arrival
+  pub record ComesOf (old new : Queue S) (result : Result Response Fault) (m : QueueOf) (k : Ledger) (a : Arrival) : Type 0 where
+    pub crash : Stops (settings old) a m k (tables old) (tables new)
+    pub answers : HasCleanDisk (tables new) → Answers (settings old) a m k result (tables new)
+    pub cause : Serves (tables new) → OnlyNoAnswer result

@@ -8,26 +8,25 @@ ghost use Rattle.std.specs.Prelude.{◌≡◌, ◌<◌, ◌^◌, false, IfOk, Is
 ghost use Rattle.std.specs.Str.{bytes_eq};
 ghost use Rattle.sqlite.specs.Effect.{Database};
 ghost use Rattle.sqlite.specs.State.{HasCleanDisk};
-ghost use Rattle.fax_ask.specs.Ask.{IsAsk, IsLawful, IsLawfulStep};
+ghost use Rattle.fax_ask.specs.Ask.{IsAsk};
 ghost use Rattle.fax_ask.specs.Response.{kept_response, refused_response};
 ghost use Rattle.fax_ask.specs.declared.method.Method.TheVariants.{Get};
 ghost use Rattle.fax_core.specs.Clock.{decided_at};
 ghost use Rattle.fax_core.specs.Reply.{NoKeys};
 ghost use Rattle.fax_store.specs.Calls.{Looks};
-ghost use Rattle.fax_store.specs.Kept.{HasReply, IsUnkept};
+ghost use Rattle.fax_store.specs.Kept.{HasReply};
 ghost use Rattle.fax_store.specs.Store.{CommitsNothing, LeavesAlone, Rests, Serves, Stays};
 ghost use Rattle.fax_schema.specs.Schema.{our_tables};
 ghost use Rattle.fax_tables.specs.Tables.{IsKeptStatus};
 ghost use Rattle.fax_once.specs.Laws.{IsSoundWith, RunsWell};
 ghost use Rattle.fax_decide.specs.Fault.{OnlyNoAnswer};
-ghost use Rattle.fax_decide.specs.Read.{IsRead};
 ghost use Rattle.fax_decide.specs.View.{view};
-ghost use Rattle.fax_once.specs.Arrival.{IsSender, said_of};
-ghost use Rattle.fax_once.specs.Queue.{From, Replies, settings, tables};
+ghost use Rattle.fax_once.specs.Arrival.{said_of};
+ghost use Rattle.fax_once.specs.Queue.{AsksFor, AsksStep, ComesOf, ComesTo, From, HasNoReply, Replies, settings, tables};
 ghost use Rattle.fax_once.specs.Reading.{post_of};
 ghost use Rattle.fax_once.specs.Sessions.{RunsAsSession};
-ghost use Rattle.fax_once.specs.Stop.{Stops, StopsBy, StopsIn};
-ghost use Rattle.fax_once.specs.Verdict.{Answers, Handles, IsUsed, LeavesBy, asked_above, asked_for, decided_new, given_by, is_too_high, new_asked, raised_ask};
+ghost use Rattle.fax_once.specs.Stop.{Stops, StopsIn};
+ghost use Rattle.fax_once.specs.Verdict.{Answers, Handles, IsUsed, asked_above, asked_for, decided_new, given_by, is_too_high, new_asked, raised_ask};
 ghost use Rattle.fax_once.specs.declared.arrival.Arrival.{Arrival as ArrivalOf};
 
 use crate::acceptance::{Change, accept};
@@ -218,14 +217,8 @@ impl<S: Alter> Queue<S> {
             → Stays (tables S.Store self.old) (tables S.Store self.new) }
         ensures repeated { (db : Database) → db.schema ≡ our_tables → Rests (tables S.Store self.old) db
             → IsUsed arrival.now db → Rests (tables S.Store self.new) db }
-        ensures crash { From S.Store self.old
-            (λ m k. IsAsk arrival.now.method arrival.now.path.now arrival.now.body.now ask → IsLawful ask
-            → Stops (settings self.old) arrival.now m k (tables S.Store self.old) (tables S.Store self.new)) }
-        ensures answered { From S.Store self.old (λ m k. HasCleanDisk (tables S.Store self.new)
-            → IsAsk arrival.now.method arrival.now.path.now arrival.now.body.now ask → IsLawful ask
-            → Answers (settings self.old) arrival.now m k result (tables S.Store self.new)) }
-        ensures cause { From S.Store self.old (λ m k. IsAsk arrival.now.method arrival.now.path.now arrival.now.body.now ask → IsLawful ask
-            → Serves (tables S.Store self.new) → OnlyNoAnswer result) }
+        ensures answered { From S.Store self.old (λ m k. AsksFor arrival.now ask
+            → ComesOf S.Store self.old self.new result m k arrival.now) }
     {
         match ask {
             Ask::View(asked) => self.show(alloc, asked, arrival.moment),
@@ -262,15 +255,9 @@ impl<S: Alter> Queue<S> {
         ensures leaves { Replies S.Store self.old self.new result }
         ensures repeated { (db : Database) → db.schema ≡ our_tables → Rests (tables S.Store self.old) db
             → HasReply db sender.now.client.now sender.now.number → Rests (tables S.Store self.new) db }
-        ensures crash { From S.Store self.old (λ m k. IsSender arrival.now sender.now
-            → StopsBy (tables S.Store self.old) (tables S.Store self.new) (asked_for (settings self.old) m k
+        ensures comes { From S.Store self.old (λ m k. AsksStep arrival.now sender.now ask
+            → ComesTo S.Store self.old self.new result m k (asked_for (settings self.old) m k
             (post_of arrival.now sender.now.number ask))) }
-        ensures stepped { From S.Store self.old (λ m k. HasCleanDisk (tables S.Store self.new)
-            → IsSender arrival.now sender.now → IsLawfulStep ask
-            → LeavesBy m k result (tables S.Store self.new) (asked_for (settings self.old) m k
-            (post_of arrival.now sender.now.number ask))) }
-        ensures cause { From S.Store self.old (λ m k. IsSender arrival.now sender.now
-            → IsLawfulStep ask → IsRead ask → Serves (tables S.Store self.new) → OnlyNoAnswer result) }
     {
         let floor = self.store.floor(sender.client)?;
         if sender.number.get() <= floor {
@@ -292,15 +279,9 @@ impl<S: Alter> Queue<S> {
         ensures leaves { Replies S.Store self.old self.new result }
         ensures repeated { (db : Database) → db.schema ≡ our_tables → Rests (tables S.Store self.old) db
             → HasReply db sender.now.client.now sender.now.number → Rests (tables S.Store self.new) db }
-        ensures crash { From S.Store self.old (λ m k. IsSender arrival.now sender.now
-            → StopsBy (tables S.Store self.old) (tables S.Store self.new) (asked_above (settings self.old) m k floor
+        ensures comes { From S.Store self.old (λ m k. AsksStep arrival.now sender.now ask
+            → ComesTo S.Store self.old self.new result m k (asked_above (settings self.old) m k floor
             (post_of arrival.now sender.now.number ask))) }
-        ensures stepped { From S.Store self.old (λ m k. HasCleanDisk (tables S.Store self.new)
-            → IsSender arrival.now sender.now → IsLawfulStep ask
-            → LeavesBy m k result (tables S.Store self.new) (asked_above (settings self.old) m k floor
-            (post_of arrival.now sender.now.number ask))) }
-        ensures cause { From S.Store self.old (λ m k. IsSender arrival.now sender.now
-            → IsLawfulStep ask → IsRead ask → Serves (tables S.Store self.new) → OnlyNoAnswer result) }
     {
         match self.store.kept(sender.client, sender.number)? {
             Some(kept) => Ok(repeat(arrival, kept)),
@@ -319,17 +300,10 @@ impl<S: Alter> Queue<S> {
     ) -> Result<Reply, Fault>
         requires { floor < 10 ^ 18 }
         ensures leaves { Replies S.Store self.old self.new result }
-        ensures crash { From S.Store self.old (λ m k. IsSender arrival.now sender.now
-            → StopsBy (tables S.Store self.old) (tables S.Store self.new) (new_asked (settings self.old) m k floor
+        ensures comes { From S.Store self.old (λ m k. AsksStep arrival.now sender.now ask
+            → HasNoReply S.Store self.old sender.now k
+            → ComesTo S.Store self.old self.new result m k (new_asked (settings self.old) m k floor
             (post_of arrival.now sender.now.number ask))) }
-        ensures stepped { From S.Store self.old (λ m k. (HasCleanDisk (tables S.Store self.old)
-            → Serves (tables S.Store self.old)) → HasCleanDisk (tables S.Store self.new)
-            → IsSender arrival.now sender.now → IsLawfulStep ask
-            → LeavesBy m k result (tables S.Store self.new) (new_asked (settings self.old) m k floor
-            (post_of arrival.now sender.now.number ask))) }
-        ensures cause { From S.Store self.old (λ m k. IsSender arrival.now sender.now
-            → IsUnkept sender.now.client.now sender.now.number k.replies → IsLawfulStep ask → IsRead ask
-            → Serves (tables S.Store self.new) → OnlyNoAnswer result) }
     {
         match raised(ask, sender.number, floor) {
             Some(ask) => self.step_once(alloc, arrival, sender, ask),
@@ -347,17 +321,10 @@ impl<S: Alter> Queue<S> {
         ask: Step,
     ) -> Result<Reply, Fault>
         ensures leaves { Replies S.Store self.old self.new result }
-        ensures crash { From S.Store self.old (λ m k. IsSender arrival.now sender.now
-            → StopsBy (tables S.Store self.old) (tables S.Store self.new) (decided_new (settings self.old) m k
+        ensures comes { From S.Store self.old (λ m k. AsksStep arrival.now sender.now ask
+            → HasNoReply S.Store self.old sender.now k
+            → ComesTo S.Store self.old self.new result m k (decided_new (settings self.old) m k
             (post_of arrival.now sender.now.number ask))) }
-        ensures stepped { From S.Store self.old (λ m k. (HasCleanDisk (tables S.Store self.old)
-            → Serves (tables S.Store self.old)) → HasCleanDisk (tables S.Store self.new)
-            → IsSender arrival.now sender.now → IsLawfulStep ask
-            → LeavesBy m k result (tables S.Store self.new) (decided_new (settings self.old) m k
-            (post_of arrival.now sender.now.number ask))) }
-        ensures cause { From S.Store self.old (λ m k. IsSender arrival.now sender.now
-            → IsUnkept sender.now.client.now sender.now.number k.replies → IsLawfulStep ask → IsRead ask
-            → Serves (tables S.Store self.new) → OnlyNoAnswer result) }
     {
         let given = given_by(&ask);
         let meta = self.store.meta()?;

@@ -6,7 +6,7 @@ use Rattle.fax_once.proofs.queue.Queue.answer.Goals as goal
 
 pub returns-in-Ok-clause-answered : goal.returns-in-Ok-clause-answered
 returns-in-Ok-clause-answered g c m k sound means clean =
-    c.answer_ask.ensures.answered m k sound means clean c.in-Ok.ensures.ask c.in-Ok.ensures.lawful
+    (c.answer_ask.ensures.answered m k sound means (record { is = c.in-Ok.ensures.ask; lawful = c.in-Ok.ensures.lawful })).answers clean
 
 pub returns-in-Err-clause-answered : goal.returns-in-Err-clause-answered
 returns-in-Err-clause-answered g c m k sound means clean =
@@ -17,13 +17,13 @@ pub returns-in-Ok-clause-seen : goal.returns-in-Ok-clause-seen
 returns-in-Ok-clause-seen g c get = c.answer_ask.ensures.seen get c.in-Ok.ensures.ask
 
 pub returns-in-Ok-clause-crash : goal.returns-in-Ok-clause-crash
-returns-in-Ok-clause-crash g c m k sound means = c.answer_ask.ensures.crash m k sound means c.in-Ok.ensures.ask c.in-Ok.ensures.lawful
+returns-in-Ok-clause-crash g c m k sound means = (c.answer_ask.ensures.answered m k sound means (record { is = c.in-Ok.ensures.ask; lawful = c.in-Ok.ensures.lawful })).crash
 
 pub returns-in-Err-clause-crash : goal.returns-in-Err-clause-crash
 returns-in-Err-clause-crash g c m k sound means found may = inl may
 
 pub returns-in-Ok-clause-cause : goal.returns-in-Ok-clause-cause
-returns-in-Ok-clause-cause g c m k sound means serves = c.answer_ask.ensures.cause m k sound means c.in-Ok.ensures.ask c.in-Ok.ensures.lawful serves
+returns-in-Ok-clause-cause g c m k sound means = (c.answer_ask.ensures.answered m k sound means (record { is = c.in-Ok.ensures.ask; lawful = c.in-Ok.ensures.lawful })).cause
 
 pub returns-in-Err-clause-cause : goal.returns-in-Err-clause-cause
 returns-in-Err-clause-cause g c m k sound means serves = c.refuse_ask.ensures.fault

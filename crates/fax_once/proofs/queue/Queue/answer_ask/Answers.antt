@@ -14,20 +14,44 @@ use Rattle.fax_once.proofs.CauseLemmas.{ask_read}
 use Rattle.fax_once.proofs.queue.Queue.answer_ask.Goals as goal
 
 pub returns-in-View-clause-answered : goal.returns-in-View-clause-answered
-returns-in-View-clause-answered g c m k sound means clean is lawful =
-    view_answers c.show.result (settings_of c.args.self.now.office.setup c.args.self.now.office.controls) c.args.arrival.now m k c.args.ask c.in-View.asked (state g.S.Store c.show.new.self.store.conn)
-    is c.in-View.is (where_open c.show.result (HasCleanDisk (state g.S.Store c.show.new.self.store.conn)) (Serves (state g.S.Store c.show.new.self.store.conn)) _ c.show.ensures.opens clean (c.show.ensures.viewed m k sound means))
-    (means_stay c.show.ensures.leaves.served c.show.ensures.leaves.stays m k means)
+returns-in-View-clause-answered g c m k sound means asks =
+    let settings = settings_of c.args.self.now.office.setup c.args.self.now.office.controls in
+    let new = state g.S.Store c.show.new.self.store.conn in
+    record {
+      crash = λ found may. inl (c.show.ensures.leaves.crash found may);
+      answers = λ clean. view_answers c.show.result settings c.args.arrival.now m k c.args.ask c.in-View.asked new asks.is c.in-View.is
+          (where_open c.show.result (HasCleanDisk new) (Serves new) _ c.show.ensures.opens clean (c.show.ensures.viewed m k sound means))
+          (means_stay c.show.ensures.leaves.served c.show.ensures.leaves.stays m k means);
+      cause = c.show.ensures.cause m k sound means;
+    }
 
 pub returns-in-Ok-clause-answered : goal.returns-in-Ok-clause-answered
-returns-in-Ok-clause-answered g c m k sound means clean is lawful =
-    step_answers c.step.result (settings_of c.args.self.now.office.setup c.args.self.now.office.controls) c.args.arrival.now m k c.in-Ok.sender c.args.ask c.in-Step.ask (state g.S.Store c.step.new.self.store.conn)
-    is c.in-Step.is c.in-Ok.ensures.sender (c.step.ensures.stepped m k sound means clean c.in-Ok.ensures.sender (subst IsLawful c.in-Step.is lawful))
+returns-in-Ok-clause-answered g c m k sound means asks =
+    let settings = settings_of c.args.self.now.office.setup c.args.self.now.office.controls in
+    let old = state g.S.Store c.args.self.now.store.conn in
+    let new = state g.S.Store c.step.new.self.store.conn in
+    let from = c.in-Ok.ensures.sender in
+    let comes = c.step.ensures.comes m k sound means (record {
+      from = from;
+      lawful = subst IsLawful c.in-Step.is asks.lawful;
+      read = ask_read c.args.arrival.now.method c.args.arrival.now.path.now c.args.arrival.now.body.now c.in-Step.ask
+          (subst (IsAsk c.args.arrival.now.method c.args.arrival.now.path.now c.args.arrival.now.body.now) c.in-Step.is asks.is);
+    }) in
+    record {
+      crash = asked_stops settings c.args.arrival.now m k c.in-Ok.sender c.args.ask c.in-Step.ask old new asks.is c.in-Step.is from comes.crash;
+      answers = λ clean. step_answers c.step.result settings c.args.arrival.now m k c.in-Ok.sender c.args.ask c.in-Step.ask new asks.is c.in-Step.is from (comes.leaves clean);
+      cause = comes.cause;
+    }
 
 pub returns-in-Err-clause-answered : goal.returns-in-Err-clause-answered
-returns-in-Err-clause-answered g c m k sound means clean is lawful =
-    sender_answers {E = Fault} (Ok c.refused.result) (settings_of c.args.self.now.office.setup c.args.self.now.office.controls) c.args.arrival.now m k c.args.ask c.in-Step.ask c.in-Err.refusal (state g.S.Store c.args.self.now.store.conn)
-    is c.in-Step.is c.in-Err.ensures.refused c.refused.ensures means
+returns-in-Err-clause-answered g c m k sound means asks =
+    let settings = settings_of c.args.self.now.office.setup c.args.self.now.office.controls in
+    record {
+      crash = λ found may. inl may;
+      answers = λ clean. sender_answers {E = Fault} (Ok c.refused.result) settings c.args.arrival.now m k c.args.ask c.in-Step.ask c.in-Err.refusal
+          (state g.S.Store c.args.self.now.store.conn) asks.is c.in-Step.is c.in-Err.ensures.refused c.refused.ensures means;
+      cause = λ serves. tt;
+    }
 
 pub refused-requires : goal.refused-requires
 refused-requires g c = sender_plain c.args.arrival.now c.in-Err.refusal c.in-Err.ensures.refused
@@ -43,23 +67,3 @@ returns-in-Ok-clause-repeated g c db ours rests used =
 
 pub returns-in-View-clause-repeated : goal.returns-in-View-clause-repeated
 returns-in-View-clause-repeated g c db ours rests used = c.show.ensures.leaves.stays db ours rests
-
-pub returns-in-View-clause-crash : goal.returns-in-View-clause-crash
-returns-in-View-clause-crash g c m k sound means is lawful found may = inl (c.show.ensures.leaves.crash found may)
-
-pub returns-in-Ok-clause-crash : goal.returns-in-Ok-clause-crash
-returns-in-Ok-clause-crash g c m k sound means is lawful =
-    asked_stops (settings_of c.args.self.now.office.setup c.args.self.now.office.controls) c.args.arrival.now m k c.in-Ok.sender c.args.ask c.in-Step.ask
-    (state g.S.Store c.args.self.now.store.conn) (state g.S.Store c.step.new.self.store.conn) is c.in-Step.is c.in-Ok.ensures.sender (c.step.ensures.crash m k sound means c.in-Ok.ensures.sender)
-
-pub returns-in-Err-clause-crash : goal.returns-in-Err-clause-crash
-returns-in-Err-clause-crash g c m k sound means is lawful found may = inl may
-
-pub returns-in-Ok-clause-cause : goal.returns-in-Ok-clause-cause
-returns-in-Ok-clause-cause g c m k sound means is lawful serves =
-    c.step.ensures.cause m k sound means c.in-Ok.ensures.sender (subst IsLawful c.in-Step.is lawful)
-    (ask_read c.args.arrival.now.method c.args.arrival.now.path.now c.args.arrival.now.body.now c.in-Step.ask
-    (subst (IsAsk c.args.arrival.now.method c.args.arrival.now.path.now c.args.arrival.now.body.now) c.in-Step.is is)) serves
-
-pub returns-in-View-clause-cause : goal.returns-in-View-clause-cause
-returns-in-View-clause-cause g c m k sound means is lawful serves = c.show.ensures.cause m k sound means serves
