@@ -12,7 +12,7 @@ use Rattle.fax_http.specs.Conversation.{EndWithLast, GoOn, Reads, Turn, failure_
 use Rattle.fax_http.specs.Device.{BrokeOff, IsFresh, Put, Took}
 use Rattle.fax_http.specs.Exchange.{HasTurned, HasRead, IsMissing}
 use Rattle.fax_http.specs.Message.{BeginsWith, is_last}
-use Rattle.fax_http.specs.Serving.{Answering, Answers, EndOver, EndsBy, FailedInReply, FailsHere, IsRefused, Serves, failed_to_read}
+use Rattle.fax_http.specs.Serving.{Answering, Answers, EndOver, EndsBy, FailedInReply, FailsHere, IsRefused, ServesOne, failed_to_read}
 use Rattle.fax_http.proofs.DeviceLemmas.{put_both, put_none, took_both, took_none}
 
 -- ---- lists of turns
@@ -115,7 +115,7 @@ module _ {R W H : Type 0} (remaining : R → Option (List ℕ)) (contents : W �
 
     -- where this is the end, so many messages were served, and it ends so
     served_by : (end : End) → failed_to_read end ≡ false → EndsBy contents writer writer₂ bound (p.turns ++ t.turn ∷ []) after (remaining reader₂.device) (over next) end
-        → Serves remaining contents answers over bound reader reader₂ writer writer₂ old next (record { messages = count + 1; end = end })
+        → ServesOne remaining contents answers over bound reader reader₂ writer writer₂ old next (record { messages = count + 1; end = end })
     served_by end e ends = record {
       taken = p.taken ++ t.more;
       turns = p.turns ++ t.turn ∷ [];
@@ -169,7 +169,7 @@ module _ {R W H : Type 0} (remaining : R → Option (List ℕ)) (contents : W �
 
   -- and none follows
   pub ends_last : (end : End) → HasTurned remaining contents answers over reader₁ reader₂ writer₁ writer₂ now next before after (Last end)
-      → Serves remaining contents answers over bound reader reader₂ writer writer₂ old next (record { messages = count + 1; end = end })
+      → ServesOne remaining contents answers over bound reader reader₂ writer writer₂ old next (record { messages = count + 1; end = end })
   ends_last Closed t =
       let put = all_put (Last Closed) t t.replies.0 in
       elim t.replies.1 [
@@ -192,7 +192,7 @@ module _ {R W H : Type 0} (remaining : R → Option (List ℕ)) (contents : W �
     -- where there is no more message, those before were served, and it ends so
     missing_by : (end : End) (failed : Bool) → failed_to_read end ≡ failed → HasRead remaining contents answers over reader₁ reader₂ writer₁ writer₂ now next before after failed
         → EndsBy contents writer writer₂ bound p.turns after (remaining reader₂.device) (over next) end
-        → Serves remaining contents answers over bound reader reader₂ writer writer₂ old next (record { messages = count; end = end })
+        → ServesOne remaining contents answers over bound reader reader₂ writer writer₂ old next (record { messages = count; end = end })
     missing_by end failed e read ends = record {
       taken = p.taken ++ read.0;
       turns = p.turns;
@@ -215,7 +215,7 @@ module _ {R W H : Type 0} (remaining : R → Option (List ℕ)) (contents : W �
 
     -- where no message is there, serving ends so
     pub ends_missing : (end : End) → IsMissing remaining contents answers over reader₁ reader₂ writer₁ writer₂ now next before after end
-        → Serves remaining contents answers over bound reader reader₂ writer writer₂ old next (record { messages = count; end = end })
+        → ServesOne remaining contents answers over bound reader reader₂ writer writer₂ old next (record { messages = count; end = end })
     ends_missing Closed m = missing_by Closed false refl m.0 (inl (p.going, turns_below, m.1, m.2), still_put m.3)
     ends_missing ReadFailed m = missing_by ReadFailed true refl m.0 (record { going = p.going; below = turns_below; unfinished = m.1 }, still_put m.2)
     ends_missing Bad m =
@@ -243,7 +243,7 @@ module _ {R W H : Type 0} (remaining : R → Option (List ℕ)) (contents : W �
 pub ends_bound : {R W H : Type 0} (remaining : R → Option (List ℕ)) (contents : W → Option (List ℕ)) (answers : Answering H) (over : H → Bool)
     (reader reader₁ : Watched R) (writer writer₁ : Watched W) (old now : H) (rest : List ℕ) (count bound : ℕ)
     → Progress remaining contents answers over reader reader₁ writer writer₁ old now rest count → count ≡ bound
-    → Serves remaining contents answers over bound reader reader₁ writer writer₁ old now (record { messages = bound; end = Bound })
+    → ServesOne remaining contents answers over bound reader reader₁ writer writer₁ old now (record { messages = bound; end = Bound })
 ends_bound remaining contents answers over reader reader₁ writer writer₁ old now rest count bound p at = record {
   taken = p.taken;
   turns = p.turns;
@@ -259,7 +259,7 @@ ends_bound remaining contents answers over reader reader₁ writer writer₁ old
 -- there was no memory
 pub gives_out : {R W H : Type 0} (remaining : R → Option (List ℕ)) (contents : W → Option (List ℕ)) (answers : Answering H) (over : H → Bool)
     (reader : Watched R) (writer : Watched W) (handler : H) (bound : ℕ) → IsFresh reader
-    → Serves remaining contents answers over bound reader reader writer writer handler handler (record { messages = 0; end = NoMemory })
+    → ServesOne remaining contents answers over bound reader reader writer writer handler handler (record { messages = 0; end = NoMemory })
 gives_out remaining contents answers over reader writer handler bound r = record {
   taken = [];
   turns = [];

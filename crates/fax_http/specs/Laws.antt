@@ -8,7 +8,7 @@ use Rattle.fax_http.specs.declared.serving.End.TheVariants.{Bad, Bound, Closed, 
 use Rattle.fax_http.specs.declared.serving.Served.{Served}
 use Rattle.fax_http.specs.Conversation.{Divides, Stop, AtBound, AtEnd, AtFailure, AtLast, Turn, spelled_stop, spelled_turns}
 use Rattle.fax_http.specs.Message.{BeginsWith}
-use Rattle.fax_http.specs.Serving.{Answering, Serves}
+use Rattle.fax_http.specs.Serving.{Answering, ServesOne}
 
 -- one message at most begins the bytes
 abbrev pub OneMessage : Type 0
@@ -42,6 +42,6 @@ pub record ServesWhole (bound : ℕ) (input : List ℕ) (before after : Option (
 abbrev pub ServesWholeInputs : {R W H : Type 0} → (R → Option (List ℕ)) → (W → Option (List ℕ)) → Answering H → (H → Bool) → Type 0
 ServesWholeInputs {R} {W} {H} remaining contents answers over =
     (bound : ℕ) (input : List ℕ) (reader reader₂ : Watched R) (writer writer₂ : Watched W) (old new : H) (served : Served)
-    → (s : Serves remaining contents answers over bound reader reader₂ writer writer₂ old new served)
+    → (s : ServesOne remaining contents answers over bound reader reader₂ writer writer₂ old new served)
     → remaining reader.device ≡ Some input → reader₂.failed ≡ false → writer₂.failed ≡ false → over new ≡ false → ¬ (served.end ≡ NoMemory)
     → ServesWhole bound input (contents writer.device) (contents writer₂.device) s.turns served.end

@@ -89,7 +89,7 @@ failed_to_read ReadFailed = true
 failed_to_read other = false
 
 -- The bytes that were read are messages and a rest. Each message was answered in turn, and it ended by these rules.
-pub record Serves {R W H : Type 0} (remaining : R → Option (List ℕ)) (contents : W → Option (List ℕ)) (answers : Answering H) (over : H → Bool) (bound : ℕ)
+pub record ServesOne {R W H : Type 0} (remaining : R → Option (List ℕ)) (contents : W → Option (List ℕ)) (answers : Answering H) (over : H → Bool) (bound : ℕ)
     (reader reader₂ : Watched R) (writer writer₂ : Watched W) (old new : H) (served : Served) : Type 0 where
   pub taken : List ℕ
   pub turns : List Turn

@@ -63,7 +63,7 @@ pub trait Handler {
 }
 
 ghost use Rattle.fax_http.specs.Device.{IsFresh};
-ghost use Rattle.fax_http.specs.Serving.{Serves};
+ghost use Rattle.fax_http.specs.Serving.{ServesOne};
 
 /// Reads messages, has each answered, and writes its reply before it reads on, until the stream ends, a message says
 /// that none follows, the handler answers no more, or the bound is reached. Bytes that begin no message are refused, and
@@ -78,7 +78,7 @@ pub fn serve<R: Read + Drop, W: Write + Drop, H: Handler>(
     requires reading { IsFresh reader.old }
     requires writing { IsFresh writer.old }
     requires going { H.over handler.old ≡ false }
-    ensures { Serves R.remaining W.contents H.answers H.over bounds.messages reader.old reader.new writer.old writer.new handler.old handler.new result }
+    ensures { ServesOne R.remaining W.contents H.answers H.over bounds.messages reader.old reader.new writer.old writer.new handler.old handler.new result }
 {
     let Ok(mut buffer) = Buffer::new(alloc) else {
         return Served {
