@@ -1,7 +1,7 @@
 //! What accepted requests are answered with.
 
 /// A grant, as it is told to a worker.
-#[derive(Clone, Copy, Debug)]
+#[derive(Clone, Copy)]
 pub struct Handed<'a> {
     pub grant: u32,
     pub job: u32,
@@ -14,7 +14,7 @@ pub struct Handed<'a> {
 }
 
 /// What an accepted request is answered with.
-#[derive(Clone, Copy, Debug)]
+#[derive(Clone, Copy)]
 pub enum Answer<'a> {
     /// The number of the job that a submission made.
     Submitted { job: u32 },

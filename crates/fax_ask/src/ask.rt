@@ -18,7 +18,7 @@ use fax_lines::read_lines;
 use std::alloc::Global;
 
 /// What is asked for.
-#[derive(Debug, Drop)]
+#[derive(Drop)]
 pub enum Ask {
     /// A step of the queue. Numbers of jobs and grants are as they were written: from 1, and of 18
     /// digits at most.

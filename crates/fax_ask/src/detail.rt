@@ -4,7 +4,7 @@ use crate::answer::Handed;
 use fax_job::BodyFault;
 
 /// A refusal with what is told of it.
-#[derive(Clone, Copy, Debug)]
+#[derive(Clone, Copy)]
 pub enum Detail<'a> {
     /// A body at fault: the kind of the fault, and its line where it has one.
     Body(BodyFault),

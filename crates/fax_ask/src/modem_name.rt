@@ -10,7 +10,7 @@ use std::alloc::Global;
 use std::marker::Model;
 
 /// The name of a modem, 1 to 32 bytes of `A-Za-z0-9._-`, in the text that it stands in.
-#[derive(Debug, Drop)]
+#[derive(Drop)]
 pub struct ModemName<'a> {
     text: &'a str,
 }

@@ -22,14 +22,14 @@ use std::alloc::{AllocError, Global};
 use std::marker::Model;
 
 /// The answer to one request.
-#[derive(Debug, Drop)]
+#[derive(Drop)]
 pub struct Reply {
     status: StatusCode,
     body: Body,
 }
 
 /// A body: JSON in room of its own or in memory, or a text of key lines or of a listing.
-#[derive(Debug, Drop)]
+#[derive(Drop)]
 enum Body {
     Short(ShortText),
     Made(String),

@@ -16,7 +16,7 @@ use serde_json::{Error, Value};
 use std::alloc::Global;
 
 /// An outcome whose reason still stands in its JSON.
-#[derive(Clone, Copy, Debug)]
+#[derive(Clone, Copy)]
 pub struct OutcomeText<'a> {
     dialed: bool,
     pages: u16,

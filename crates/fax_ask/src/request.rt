@@ -10,7 +10,7 @@ use crate::view::View;
 use fax_job::RequestNumber;
 
 /// What a method and a path ask for, with the number or the name that they give.
-#[derive(Debug, Drop)]
+#[derive(Drop)]
 pub enum Request<'a> {
     Submit,
     Import,

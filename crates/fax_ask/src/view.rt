@@ -1,7 +1,7 @@
 //! What a client may ask to see.
 
 /// What a client asks to see.
-#[derive(Clone, Copy, Debug)]
+#[derive(Clone, Copy)]
 pub enum View {
     /// The key lines of the job of this number (sendq(5)). The number is as it was written: from 1, and
     /// of 18 digits at most.

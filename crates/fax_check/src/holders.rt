@@ -20,7 +20,7 @@ use sqlite::{Alter, Connection, Row, params};
 use std::alloc::Global;
 
 /// A modem that holds a grant.
-#[derive(Debug, Drop)]
+#[derive(Drop)]
 pub struct Holder {
     /// Its name.
     pub modem: Name,
@@ -33,7 +33,7 @@ pub struct Holder {
 }
 
 /// The modems that hold grants, or the rowid of the first row of holds that isn't as it has to be.
-#[derive(Debug, Drop)]
+#[derive(Drop)]
 pub(crate) enum Holders {
     Right(Vec<Holder>),
     Wrong(i64),

@@ -23,7 +23,7 @@ use sqlite::{Alter, Connection, Row, Rows};
 use std::alloc::Global;
 
 /// What was found in a table's rows.
-#[derive(Clone, Copy, Debug)]
+#[derive(Clone, Copy)]
 pub(crate) struct Tally {
     /// How many there are.
     pub(crate) rows: u64,
@@ -32,7 +32,7 @@ pub(crate) struct Tally {
 }
 
 /// What the next row of a pass is.
-#[derive(Clone, Copy, Debug)]
+#[derive(Clone, Copy)]
 enum Step {
     /// There is none.
     End,

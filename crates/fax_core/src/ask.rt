@@ -5,7 +5,7 @@ use fax_job::{Alter, Call, Import, Name, Order, RequestNumber};
 
 /// What is asked of the queue: a client's requests, with the job's number, and a worker's, with the
 /// modem's name or the grant's number. Numbers of jobs and grants are as they were written.
-#[derive(Debug, Drop)]
+#[derive(Drop)]
 pub enum Ask {
     Submission(Order),
     /// A job of an older queue.

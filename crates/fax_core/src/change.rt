@@ -5,7 +5,7 @@ ghost use Rattle.std.specs.Prelude.{◌≡◌, Ok};
 use fax_job::{Job, JobFields, JobTag, Moment, Name, Phase, Refusal, Status, Wish};
 
 /// What a request makes of a job that it is taken for. What isn't named here stays.
-#[derive(Debug, Drop)]
+#[derive(Drop)]
 pub struct Change {
     pub phase: Phase,
     pub wish: Wish,
@@ -26,7 +26,7 @@ pub struct Change {
 }
 
 /// The fields that an alteration sets. `None` stays.
-#[derive(Debug, Drop)]
+#[derive(Drop)]
 pub struct Altered {
     pub modem: Option<Name>,
     pub jobtag: Option<JobTag>,

@@ -7,7 +7,7 @@ ghost use Rattle.fax_core.specs.Job.{job_of};
 use fax_job::{Call, Job, Name};
 
 /// A grant of a job's pages to a modem. It is open until its outcome is accepted.
-#[derive(Debug, Drop)]
+#[derive(Drop)]
 pub struct Grant {
     /// The grant's number, from 1 to 999999999.
     pub number: u32,

@@ -14,7 +14,7 @@ pub enum Ending {
 }
 
 /// What a worker says of a grant when it is over.
-#[derive(Debug, Drop)]
+#[derive(Drop)]
 pub struct Outcome {
     /// Whether it reported a call.
     pub dialed: bool,

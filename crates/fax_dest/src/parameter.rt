@@ -8,7 +8,7 @@ use fax_rule::{Notice, Rule};
 use std::alloc::Global;
 
 /// What a parameter is about.
-#[derive(Clone, Copy, Debug)]
+#[derive(Clone, Copy)]
 pub(crate) enum ParameterName {
     Calls,
     Pages,

@@ -15,7 +15,7 @@ use fax_job::{Call, Name, is_blank};
 use std::alloc::Global;
 
 /// What a line of a setup is about.
-#[derive(Clone, Copy, Debug)]
+#[derive(Clone, Copy)]
 pub(crate) enum SettingName {
     Modem,
     ModemClass,

@@ -7,7 +7,7 @@ use crate::fault_line::{FaultLine, Place};
 use fax_text::Status;
 
 /// How a command ends.
-#[derive(Clone, Copy, Debug)]
+#[derive(Clone, Copy)]
 pub struct Ending<'a> {
     pub status: Status,
     /// What it says, where something went wrong.

@@ -3,7 +3,7 @@ ghost use Rattle.std.specs.Prelude.{◌≡◌, ◌∷◌, ◌++◌, []};
 ghost use Rattle.fax_ending.specs.FaultLine.{spelled, spelled_place};
 
 /// What stands behind the first words of a line.
-#[derive(Clone, Copy, Debug)]
+#[derive(Clone, Copy)]
 pub enum Place<'a> {
     Nowhere,
     /// The name of a file.
@@ -13,7 +13,7 @@ pub enum Place<'a> {
 }
 
 /// A line that says what went wrong, in the parts in which it is written, so that it takes no memory.
-#[derive(Clone, Copy, Debug)]
+#[derive(Clone, Copy)]
 pub struct FaultLine<'a> {
     /// What went wrong, with a blank behind it where more follows.
     pub what: &'a str,

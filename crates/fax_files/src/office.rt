@@ -14,7 +14,7 @@ use std::fs;
 use std::io::ErrorKind;
 
 /// Why there is no office.
-#[derive(Clone, Copy, Debug)]
+#[derive(Clone, Copy)]
 pub enum OfficeFault<'a> {
     /// The file of this name can't be read.
     Unreadable(&'a str),

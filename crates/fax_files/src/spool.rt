@@ -15,7 +15,7 @@ use std::io::{self, ErrorKind, Read};
 const LONGEST_BODY: u64 = 65_536;
 
 /// Why there are no requests.
-#[derive(Clone, Copy, Debug)]
+#[derive(Clone, Copy)]
 pub enum SpoolFault<'a> {
     /// The client or a number is at fault.
     Words(ImportFault),

@@ -9,7 +9,7 @@ use std::marker::Model;
 use thiserror::Error;
 
 /// A set of minutes of the week.
-#[derive(Debug, Drop)]
+#[derive(Drop)]
 pub struct Hours {
     /// For each minute of the day the days of the week, bit d for day d.
     days: [u8; 1440],

@@ -9,7 +9,7 @@ use crate::range::{Range, range_of};
 use fax_value::trimmed;
 
 /// Days, with bit d for day d, and the minutes on each of them.
-#[derive(Clone, Copy, Debug)]
+#[derive(Clone, Copy)]
 pub(crate) struct Item {
     pub(crate) days: u8,
     pub(crate) range: Range,

@@ -7,7 +7,7 @@ use fax_value::read_number;
 
 /// The minutes from a start on and before an end. Where the start isn't before the end, those from the
 /// start to midnight and from midnight to the end.
-#[derive(Clone, Copy, Debug)]
+#[derive(Clone, Copy)]
 pub(crate) struct Range {
     pub(crate) start: u16,
     pub(crate) end: u16,

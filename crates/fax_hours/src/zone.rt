@@ -13,7 +13,7 @@ use std::marker::Model;
 use thiserror::Error;
 
 /// A time zone: a POSIX TZ rule, or UTC.
-#[derive(Debug, Drop)]
+#[derive(Drop)]
 pub struct Zone {
     zone: TimeZone<'static>,
 }

@@ -14,7 +14,7 @@ use std::io::Read;
 const FINAL_STATUS: u16 = 200;
 
 /// A reply that was read: its status (RFC 9110, section 15) and its body.
-#[derive(Debug, Drop)]
+#[derive(Drop)]
 pub struct Answer {
     pub status: u16,
     pub body: Vec<u8>,
@@ -40,7 +40,7 @@ impl From<AllocError> for AnswerFault {
 }
 
 /// What begins some bytes.
-#[derive(Clone, Copy, Debug)]
+#[derive(Clone, Copy)]
 enum AnswerRead<'b> {
     /// A reply of that status and that body.
     Whole(u16, &'b [u8]),

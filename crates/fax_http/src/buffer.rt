@@ -15,7 +15,7 @@ pub const BUFFER_LIMIT: usize = 81_920;
 const PIECE_LIMIT: usize = 4_096;
 
 /// Bytes that were read and aren't answered yet. It takes no memory once it is made.
-#[derive(Debug, Drop)]
+#[derive(Drop)]
 pub struct Buffer {
     bytes: Vec<u8>,
 }

@@ -19,7 +19,7 @@ pub trait Clock {
 }
 
 /// A clock that believes what is said, and else gives its last answer, 0 at first.
-#[derive(Clone, Copy, Debug)]
+#[derive(Clone, Copy)]
 pub struct SaidClock {
     last: Moment,
 }

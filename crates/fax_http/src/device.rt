@@ -14,7 +14,7 @@ pub struct ReadFailed;
 pub struct WriteFailed;
 
 /// A reader or a writer, with how many bytes went through it and whether it has failed.
-#[derive(Debug, Drop)]
+#[derive(Drop)]
 pub struct Watched<D: Drop> {
     device: D,
     passed: u128,

@@ -14,7 +14,7 @@ use crate::turn::{Found, answer_front};
 use std::io::{Read, Write};
 
 /// What came of looking for a message.
-#[derive(Clone, Copy, Debug)]
+#[derive(Clone, Copy)]
 pub(crate) enum Exchange {
     /// It was answered, and another may follow.
     Answered,

@@ -31,7 +31,7 @@ pub enum Broken {
 }
 
 /// A message, its parts borrowed from the bytes that it was read from.
-#[derive(Clone, Copy, Debug)]
+#[derive(Clone, Copy)]
 pub struct Message<'b> {
     pub method: &'b [u8],
     pub target: &'b str,
@@ -47,7 +47,7 @@ pub struct Message<'b> {
 }
 
 /// What begins some bytes.
-#[derive(Clone, Copy, Debug)]
+#[derive(Clone, Copy)]
 pub enum Front<'b> {
     /// A message, and the bytes behind it.
     Whole(Message<'b>, &'b [u8]),
@@ -56,7 +56,7 @@ pub enum Front<'b> {
 }
 
 /// Whether a head begins some bytes.
-#[derive(Clone, Copy, Debug)]
+#[derive(Clone, Copy)]
 enum HeadRead {
     /// A head within its limits.
     Head(RequestSpans),
@@ -67,7 +67,7 @@ enum HeadRead {
 }
 
 /// How often a field occurs in a head, with its value where that is once.
-#[derive(Clone, Copy, Debug)]
+#[derive(Clone, Copy)]
 pub(crate) enum Occurrence<'b> {
     Missing,
     Once(&'b [u8]),

@@ -9,7 +9,7 @@ use fax_job::Refusal;
 use std::marker::Model;
 
 /// Which parts of a reply its message and place call for.
-#[derive(Clone, Copy, Debug)]
+#[derive(Clone, Copy)]
 pub(crate) struct Form {
     pub(crate) has_body: bool,
     pub(crate) is_last: bool,

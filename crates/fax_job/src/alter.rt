@@ -13,7 +13,7 @@ use fax_value::{JobTag, Moment, Name};
 use std::alloc::Global;
 
 /// What is to change in a job. `None` changes nothing.
-#[derive(Debug, Drop)]
+#[derive(Drop)]
 pub struct Alter {
     pub modem: Option<Name>,
     pub jobtag: Option<JobTag>,

@@ -11,7 +11,7 @@ use fax_value::limits::{MOST_ATTEMPTS, MOST_PAGES};
 use std::alloc::Global;
 
 /// What an older queue recorded of a job: its order, and how far it had come.
-#[derive(Debug, Drop)]
+#[derive(Drop)]
 pub struct Import {
     /// What the job asks for. Its limits are at least what is used of them.
     pub order: Order,

@@ -47,7 +47,7 @@ pub enum Call {
 }
 
 /// What is recorded of a job.
-#[derive(Debug, Drop)]
+#[derive(Drop)]
 pub struct JobFields {
     /// The job's number, from 1 to 999999.
     pub job: u32,
@@ -84,7 +84,7 @@ pub struct JobFields {
 }
 
 /// A job within the limits of the queue.
-#[derive(Debug, Drop)]
+#[derive(Drop)]
 pub struct Job {
     fields: JobFields,
 }

@@ -10,7 +10,7 @@ use std::alloc::{AllocError, Global};
 use std::marker::Model;
 
 /// A tag and its value, in the text that they stand in.
-#[derive(Debug, Drop)]
+#[derive(Drop)]
 pub struct Line<'a> {
     tag: &'a str,
     value: &'a str,
@@ -25,7 +25,7 @@ impl<'a> Model for Line<'a> {
 }
 
 /// Where a line stands in the text. Its value follows its tag.
-#[derive(Clone, Copy, Debug, Drop)]
+#[derive(Clone, Copy, Drop)]
 struct Place {
     /// Where the tag begins.
     tag: u32,
@@ -39,7 +39,7 @@ struct Place {
 const LAST_END: usize = u32::MAX as usize;
 
 /// Lines with any tags and values. Bytes of the text where no line stands count for nothing.
-#[derive(Debug, Drop)]
+#[derive(Drop)]
 pub(crate) struct LineText {
     text: String,
     places: Vec<Place>,

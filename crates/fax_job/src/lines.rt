@@ -9,7 +9,7 @@ use std::marker::Model;
 use thiserror::Error;
 
 /// A list of tags with their values.
-#[derive(Debug, Drop)]
+#[derive(Drop)]
 pub struct Lines {
     text: LineText,
 }

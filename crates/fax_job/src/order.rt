@@ -11,7 +11,7 @@ use std::alloc::{AllocError, Global};
 use thiserror::Error;
 
 /// What a submission asks for.
-#[derive(Debug, Drop)]
+#[derive(Drop)]
 pub struct Order {
     pub dial: Dial,
     /// A modem's name, the name of a class of modems, or `any`.

@@ -9,7 +9,7 @@ use std::time::Duration;
 const WHOLE_FACTOR: u64 = 6;
 
 /// How long a peer may move nothing, and how long its connection may go on in all.
-#[derive(Clone, Copy, Debug)]
+#[derive(Clone, Copy)]
 pub(crate) struct Patience {
     silent: Duration,
     whole: Duration,

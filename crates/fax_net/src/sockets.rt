@@ -33,7 +33,7 @@ const ROUNDING: u64 = 1;
 const LAST_LOOKS: u32 = 100_000;
 
 /// Why there are no sockets.
-#[derive(Clone, Copy, Debug)]
+#[derive(Clone, Copy)]
 pub(crate) enum BindFault {
     /// The address can't be listened on, or the system gives no means to wait.
     Refused,

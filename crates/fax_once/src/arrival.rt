@@ -9,7 +9,7 @@ use fax_job::Moment;
 use std::alloc::{AllocError, Global};
 
 /// One request, its parts borrowed from the message that brought it.
-#[derive(Clone, Copy, Debug)]
+#[derive(Clone, Copy)]
 pub struct Arrival<'a> {
     /// The field `Fax-Client` as it was sent, empty where it is missing or occurs twice.
     pub client: &'a [u8],

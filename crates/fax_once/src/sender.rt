@@ -9,7 +9,7 @@ use fax_job::{Refusal, RequestNumber, is_name};
 use std::str;
 
 /// Who sent a request, and the sender's number of it.
-#[derive(Clone, Copy, Debug)]
+#[derive(Clone, Copy)]
 pub(crate) struct Sender<'a> {
     pub client: &'a str,
     pub number: RequestNumber,

@@ -7,7 +7,7 @@ use std::marker::Model;
 
 /// What an administrator says to those whose number isn't served: 1 to 200 bytes without a control
 /// character.
-#[derive(Debug, Drop)]
+#[derive(Drop)]
 pub struct Notice {
     text: String,
 }

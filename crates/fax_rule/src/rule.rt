@@ -4,7 +4,7 @@ use crate::notice::Notice;
 use fax_hours::Hours;
 
 /// What holds for the numbers that a pattern matches.
-#[derive(Debug, Drop)]
+#[derive(Drop)]
 pub struct Rule {
     /// Calls at a time to one number, from 1 to 1000.
     pub calls: u16,

@@ -29,7 +29,7 @@ const LONGEST_PAGE: u32 = 4_096;
 
 /// Which of the jobs that wait are asked for: those that may be tried at a moment, but for those to a number, where one
 /// is named.
-#[derive(Debug, Drop)]
+#[derive(Drop)]
 pub struct Asked {
     t: Moment,
     but: Option<Dial>,
@@ -53,7 +53,7 @@ impl Asked {
 }
 
 /// Behind which of the jobs that wait those stand that are still to be read, in the order of the choice.
-#[derive(Clone, Copy, Debug)]
+#[derive(Clone, Copy)]
 pub enum Front {
     /// Behind none: all are left.
     First,

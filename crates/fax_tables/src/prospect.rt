@@ -16,7 +16,7 @@ use std::alloc::Global;
 
 /// What the choice asks of a job that waits: which it is, to which number it goes, which modems it may have, and where it
 /// stands in the order of the choice.
-#[derive(Debug, Drop)]
+#[derive(Drop)]
 pub struct Prospect {
     /// The job's number, from 1 to 999999.
     pub job: u32,

@@ -12,7 +12,7 @@ use fax_job::RequestNumber;
 use sqlite::Row;
 
 /// What was said under a client's request number, and the reply that is kept for it.
-#[derive(Debug, Drop)]
+#[derive(Drop)]
 pub struct Kept {
     /// What the client said: the path, a line feed and the body.
     pub said: Vec<u8>,

@@ -15,7 +15,7 @@ use std::alloc::{AllocError, Global};
 pub(crate) const CHECK: &str = "check";
 
 /// What `check` is to do.
-#[derive(Clone, Copy, Debug)]
+#[derive(Clone, Copy)]
 pub struct CheckPlan<'a> {
     /// `--db`: the name of the database's file.
     pub database: &'a str,

@@ -15,7 +15,7 @@ use std::alloc::{AllocError, Global};
 pub(crate) const IMPORT: &str = "import";
 
 /// What the words of `import` say.
-#[derive(Debug, Drop)]
+#[derive(Drop)]
 pub struct ImportPlan<'a> {
     /// `--client`: who asks.
     pub client: &'a str,

@@ -16,7 +16,7 @@ use std::alloc::{AllocError, Global};
 pub(crate) const LIST: &str = "list";
 
 /// What `list` is to do.
-#[derive(Clone, Copy, Debug)]
+#[derive(Clone, Copy)]
 pub struct ListPlan<'a> {
     pub files: OfficeFiles<'a>,
     /// `--db`: the name of the database's file.

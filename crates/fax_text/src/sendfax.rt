@@ -12,7 +12,7 @@ use std::alloc::{AllocError, Global};
 use thiserror::Error;
 
 /// What the options of `faxqd sendfax` say, with the letters of sendfax(1) where it has them.
-#[derive(Clone, Copy, Debug)]
+#[derive(Clone, Copy)]
 pub struct SendPlan<'a> {
     /// `-d`: the number to dial.
     pub destination: &'a str,

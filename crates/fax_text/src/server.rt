@@ -27,14 +27,14 @@ const CONNECTION_LIMIT: u64 = 1_000_000;
 const TIMEOUT_LIMIT: u64 = 3_600;
 
 /// The files that a command is told to read. One that isn't named counts as empty.
-#[derive(Clone, Copy, Debug)]
+#[derive(Clone, Copy)]
 pub struct OfficeFiles<'a> {
     pub setup: Option<&'a str>,
     pub controls: Option<&'a str>,
 }
 
 /// What `serve` is to do.
-#[derive(Clone, Copy, Debug)]
+#[derive(Clone, Copy)]
 pub struct ServePlan<'a> {
     pub files: OfficeFiles<'a>,
     /// `--db`: the name of the database's file.

@@ -25,7 +25,7 @@ use std::alloc::{AllocError, Global};
 const SENDFAX: &str = "sendfax";
 
 /// What the words ask for.
-#[derive(Debug, Drop)]
+#[derive(Drop)]
 pub enum Plan<'a> {
     /// Serve the input over a store in memory, by these files.
     Replay(OfficeFiles<'a>),
@@ -42,7 +42,7 @@ pub enum Plan<'a> {
 }
 
 /// Why words ask for no command.
-#[derive(Debug, Drop)]
+#[derive(Drop)]
 pub enum WordsFault {
     /// They ask for help, and this is its text.
     Help(String),

@@ -13,7 +13,7 @@ use std::marker::Model;
 
 /// A number to dial in its canonical form: `+` or nothing, then 1 to 32 of the keys `0` to `9`, `*`
 /// and `#`.
-#[derive(Debug, Drop)]
+#[derive(Drop)]
 pub struct Dial {
     text: String,
 }

@@ -13,7 +13,7 @@ use std::marker::Model;
 
 /// A client's tag of a job: at most 200 bytes, no control character but tab, not beginning with a
 /// blank.
-#[derive(Debug, Drop)]
+#[derive(Drop)]
 pub struct JobTag {
     text: String,
 }

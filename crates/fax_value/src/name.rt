@@ -32,7 +32,7 @@ fn is_name_byte(byte: u8) -> bool
 }
 
 /// The name of a modem or of a class of modems: 1 to 32 bytes of `A-Za-z0-9._-`.
-#[derive(Debug, Drop)]
+#[derive(Drop)]
 pub struct Name {
     text: String,
 }

@@ -11,7 +11,7 @@ use std::alloc::{AllocError, Global};
 use std::marker::Model;
 
 /// What a job's status line says. The texts that the queue itself gives take no memory.
-#[derive(Debug, Drop)]
+#[derive(Drop)]
 pub struct Status {
     text: StatusText,
 }
@@ -29,7 +29,7 @@ impl Model for Status {
     ghost invariant = { λ status. IsStatus (text_of status.text) };
 }
 
-#[derive(Debug, Drop)]
+#[derive(Drop)]
 enum StatusText {
     Empty,
     Killed,
