@@ -1,7 +1,7 @@
 //! The single values of a fax queue: numbers to dial, names, statuses, moments, numbers of requests, and their limits.
 //!
-//! Most are the value of a key line in the manner of HylaFAX's sendq(5). A value is read from a text, which it keeps,
-//! or is none of its kind.
+//! Most are the value of a key line in the manner of HylaFAX's sendq(5). A text is read as a value of its kind, or is
+//! none.
 #![tactic(auto)]
 
 mod blank;

@@ -1,7 +1,7 @@
 //! The limits of the queue, each in one place.
 //!
 //! A definition of the same name in `specs/Limits.antt` has the number that the contracts speak of, so a
-//! constant that is changed here alone is refused by the proofs.
+//! constant that is changed here alone is refused by the proofs of the crates that use it.
 
 /// The greatest number of a job. It is this project's own: sendq(5) has no limit. `MaxJobs` of the setup
 /// may lower it.

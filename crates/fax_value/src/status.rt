@@ -109,7 +109,7 @@ impl Status {
         Ok(Status::given(alloc, text)?)
     }
 
-    /// The status of a text that is one.
+    /// The status of a text that is one. The only error is want of memory.
     pub fn given(alloc: Global, text: &str) -> Result<Status, AllocError>
         requires { IsStatus text.now }
         ensures { IfOk result (λ status. status ≡ text.now) }
