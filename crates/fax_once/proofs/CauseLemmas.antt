@@ -1,7 +1,6 @@
 -- Why a request gets no answer.
 use Rattle.std.proofs.Common.{◌≡◌, inl, inr, ℕ, ◌==◌, ◌&&◌, Bool, true, false, List, [], ◌∷◌, Option, Some, None, Ok, Err, refl, sym, ap, subst, ◌∙◌, if◌then◌else◌}
 use Rattle.std.specs.Prelude.{MatchOption}
-use Rattle.std.specs.List.{find}
 use Rattle.std.specs.Str.{bytes_eq}
 use Rattle.std.proofs.lemmas.Bool.{eq-eqb}
 use Rattle.std.proofs.lemmas.Slice.Eq.{bytes_eq-Decides}
@@ -34,7 +33,7 @@ use Rattle.fax_decide.specs.Effect.{IsWritable}
 use Rattle.fax_decide.specs.Read.{IsRead}
 use Rattle.fax_decide.specs.declared.effect.Effect.{Effect}
 use Rattle.fax_decide.proofs.FreeLemmas.{keys_free}
-use Rattle.fax_once.specs.Arrival.{IsSender, digits_of, number_of}
+use Rattle.fax_once.specs.Arrival.{IsSender, digits_of}
 use Rattle.fax_once.specs.Verdict.{is_too_high, raised_ask}
 use Rattle.fax_once.specs.declared.arrival.Arrival.{Arrival}
 use Rattle.fax_once.specs.declared.sender.Sender.{Sender}

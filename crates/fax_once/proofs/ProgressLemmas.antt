@@ -1,24 +1,22 @@
 -- No modem and no job is stuck but by its worker, its times or its number's rule.
-use Rattle.std.proofs.Common.{◌≡◌, ℕ, ◌<◌, ◌≤◌, Bool, true, false, cond, not, ◌&&◌, eqb, leb, ltb, List, [], Option, Some, None, Ok, Err, refl, sym, ap, subst, ◌∙◌, arith}
+use Rattle.std.proofs.Common.{◌≡◌, ℕ, ◌<◌, ◌≤◌, true, false, cond, not, ◌&&◌, eqb, List, [], Option, Some, None, Ok, Err, refl, sym, ap, ◌∙◌, arith}
 use Rattle.std.specs.Prelude.{Result, is_none, is_some, nat_le, nat_lt}
 use Rattle.std.proofs.lemmas.Bool.{eq-eqb}
 use Rattle.std.proofs.lemmas.Bool.Decides.{nat_tests}
 use Rattle.fax_job.specs.declared.job.Call.{Call}
 use Rattle.fax_job.specs.declared.job.Phase.{Phase}
-use Rattle.fax_job.specs.declared.job.Phase.TheVariants.{Waiting}
 use Rattle.fax_job.specs.declared.refusal.Refusal.{Refusal}
-use Rattle.fax_job.specs.declared.refusal.Refusal.TheVariants.{CallKnown, CallMissing, Full, GrantClosed, ModemBusy, ModemDown, NoModem, PagesLeft, PagesMismatch}
-use Rattle.fax_core.specs.Ageing.{aged, is_past}
-use Rattle.fax_core.specs.Best.{MayGo, best}
+use Rattle.fax_job.specs.declared.refusal.Refusal.TheVariants.{CallKnown, CallMissing, Full, GrantClosed, ModemDown, NoModem, PagesMismatch}
+use Rattle.fax_core.specs.Ageing.{aged}
+use Rattle.fax_core.specs.Best.{best}
 use Rattle.fax_core.specs.Decisions.{JobAndGrant, ended, granted, outcome}
 use Rattle.fax_core.specs.Job.{Job}
-use Rattle.fax_core.specs.Machine.{given, given_best, given_free, given_to, handed, held_by, is_down, on_both, on_grant, outcome_reply, reported, step, with_both, with_job, with_new_grant}
-use Rattle.fax_core.specs.Queue.{Queue, grant_numbered, job_numbered}
-use Rattle.fax_core.specs.Reply.{Given, Handed, HeldGrant, NoKeys, Refused, Reply, Step, Taken}
+use Rattle.fax_core.specs.Machine.{given, given_best, given_free, handed, held_by, is_down, on_both, on_grant, outcome_reply, reported, step, with_both, with_new_grant}
+use Rattle.fax_core.specs.Queue.{Queue, grant_numbered}
+use Rattle.fax_core.specs.Reply.{Given, Handed, NoKeys, Refused, Taken}
 use Rattle.fax_core.specs.Settings.{Settings}
-use Rattle.fax_core.specs.Sound.{IsOpen, Sound}
 use Rattle.fax_core.specs.State.{calls_to, state_in, state_number, waiting_state}
-use Rattle.fax_core.specs.declared.ask.Ask.TheVariants.{Next, OutcomeReport}
+use Rattle.fax_core.specs.declared.ask.Ask.TheVariants.{Next}
 use Rattle.fax_core.specs.declared.grants.Grant.{Grant}
 use Rattle.fax_core.specs.declared.report.Ending.TheVariants.{Fail}
 use Rattle.fax_core.specs.declared.report.Outcome.{Outcome}

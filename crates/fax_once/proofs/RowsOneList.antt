@@ -1,5 +1,5 @@
 -- Worked rows of what one list of accepted requests says of all that was answered and left. Of the list the newest comes first.
-use Rattle.std.proofs.Common.{◌≡◌, ◌∙◌, inl, inr, refl, sym, ap, ap₂, subst, true, false, List, [], ◌∷◌, ◌++◌}
+use Rattle.std.proofs.Common.{◌≡◌, ◌∙◌, inl, inr, refl, sym, ap, ap₂, subst, List, [], ◌∷◌, ◌++◌}
 use Rattle.std.specs.Prelude.{◌≢◌, codes, Some, None}
 use Rattle.std.specs.List.{AllByRecursion}
 use Rattle.std.proofs.lemmas.Bool.{true≢false}

@@ -1,5 +1,5 @@
 -- What may come next: no modem and no job is stuck but by its worker, its times or its number's rule.
-use Rattle.std.specs.Prelude.{◌≡◌, ◌<◌, ◌≤◌, ℕ, false, true, List, Option, None, Some, is_some}
+use Rattle.std.specs.Prelude.{◌≡◌, ◌<◌, ◌≤◌, ℕ, false, true, List, None, Some, is_some}
 use Rattle.fax_job.specs.declared.job.Phase.TheVariants.{Waiting}
 use Rattle.fax_job.specs.declared.refusal.Refusal.TheVariants.{ModemBusy}
 use Rattle.fax_core.specs.Ageing.{aged, is_past}
