@@ -1,18 +1,18 @@
 //! Which databases have no tables, and which have exactly ours: of the first version or of the second, with `calls` or
 //! without, with the indexes of jobs or without.
 
-ghost use Rattle.std.specs.Prelude.{◌≡◌, ◌⊎◌, ◌↔◌, [], ◌∷◌, ◌++◌, map, pos, IsTrue, IfOk};
+ghost use Rattle.std.specs.Prelude.{◌≡◌, ◌↔◌, [], ◌∷◌, map, pos, IsTrue, IfOk};
 ghost use Rattle.sqlite.specs.declared.types.Value.TheVariants.{Int};
 ghost use Rattle.sqlite_sql.specs.Syntax.{term_of, term_at};
 ghost use Rattle.sqlite_sql.specs.Term.{lit, col};
 ghost use Rattle.sqlite_value.specs.Keys.{plain};
 ghost use Rattle.sqlite_rules.specs.Lists.{Has};
 ghost use Rattle.fax_schema.specs.Schema.{AreIndexedLast, AreOurs, HaveCalls, bare_tables, are_with_floors, column_of, first_bare, first_indexed, has_floors, no_tables, without_calls};
-ghost use Rattle.fax_schema.specs.Shape.{HasColumns, HasRules, checks_of, first_is_one, indexed_as, laid_out, no_stamps, shaped, tabled};
+ghost use Rattle.fax_schema.specs.Shape.{HasColumns, HasRules, Passes, PassesAll, PassesIndex, checks_of, first_is_one, indexed_as, laid_out, no_stamps, shaped, tabled};
 
 use crate::shape::{
-    BARE, FIRST_BARE, FIRST_INDEXED, INDEXED_LAST, IndexShape, Layout, PLAIN, Shape, WITH_CALLS,
-    WITHOUT_CALLS,
+    BARE, FIRST_BARE, FIRST_INDEXED, INDEXED_LAST, IndexShape, Layout, PLAIN, Part, Shape,
+    WITH_CALLS, WITHOUT_CALLS,
 };
 use sqlite_items::Items;
 use sqlite_schema::code::Terms;
@@ -22,6 +22,9 @@ use sqlite_sql::ops::{BinaryOp, CompareOp};
 use sqlite_value::keys::{Collation, Order};
 use sqlite_value::value::{Value, ValueRef};
 use std::alloc::{AllocError, Global};
+
+/// The tree of the jobs, which are made first.
+const JOBS_TREE: u64 = 0;
 
 /// Whether a column is NOT NULL in a strict table, with this name and type, and has no other rule.
 fn is_column(column: &Column, name: &str, kind: Kind) -> bool
@@ -95,11 +98,11 @@ fn are_keys(keys: &[Items<usize>], places: &[&[usize]]) -> bool
 }
 
 /// Whether a table has this name, tree and key, and these columns.
-fn has_columns(table: &Table, shape: &Shape) -> bool
-    ensures { IsTrue result ↔ HasColumns table.now shape.now }
+fn has_columns(table: &Table, shape: &Shape, tree: u64) -> bool
+    ensures { IsTrue result ↔ HasColumns table.now shape.now tree }
 {
     table.name.as_slice() == shape.name.as_bytes()
-        && table.tree == shape.tree
+        && u64::from(table.tree) == tree
         && are_columns(table.columns.as_slice(), shape.columns)
         && table.key == shape.key
         && are_places(&table.primary, shape.primary)
@@ -133,11 +136,11 @@ fn has_no_stamps(alloc: Global, stamps: &Stamps) -> Result<bool, AllocError>
 }
 
 /// Whether a table has this shape, whatever its checks are.
-fn is_shaped(alloc: Global, table: &Table, shape: &Shape) -> Result<bool, AllocError>
-    ensures { IfOk result (λ same. IsTrue same ↔ (table.now ≡ shaped shape.now table.now.checks)) }
+fn is_shaped(alloc: Global, table: &Table, shape: &Shape, tree: u64) -> Result<bool, AllocError>
+    ensures { IfOk result (λ same. IsTrue same ↔ (table.now ≡ shaped shape.now tree table.now.checks)) }
 {
     let unstamped = has_no_stamps(alloc, &table.stamps)?;
-    Ok(unstamped && has_columns(table, shape) && has_rules(table, shape))
+    Ok(unstamped && has_columns(table, shape, tree) && has_rules(table, shape))
 }
 
 /// Whether a node is the first column of a row in slot 1.
@@ -195,68 +198,133 @@ fn has_checks(alloc: Global, checks: &Terms, has_one_row: bool) -> Result<bool, 
     }
 }
 
-/// Whether a table has this shape.
-fn is_table(alloc: Global, table: &Table, shape: &Shape) -> Result<bool, AllocError>
-    ensures { IfOk result (λ same. IsTrue same ↔ (table.now ≡ tabled shape.now)) }
+/// Whether a table has this shape, and this tree.
+fn is_table(alloc: Global, table: &Table, shape: &Shape, tree: u64) -> Result<bool, AllocError>
+    ensures { IfOk result (λ same. IsTrue same ↔ (table.now ≡ tabled shape.now tree)) }
 {
     let checked = has_checks(alloc, &table.checks, shape.has_one_row)?;
-    let same = is_shaped(alloc, table, shape)?;
+    let same = is_shaped(alloc, table, shape, tree)?;
     Ok(checked && same)
 }
 
-/// Whether these tables have these shapes.
-fn are_tables(alloc: Global, tables: &[Table], shapes: &[Shape]) -> Result<bool, AllocError>
-    ensures { IfOk result (λ same. IsTrue same ↔ (tables.now ≡ map tabled shapes.now)) }
-{
-    if tables.len() != shapes.len() {
-        return Ok(false);
-    }
-    for (at, table) in tables.iter().enumerate() {
-        if !is_table(alloc, table, &shapes[at])? {
-            return Ok(false);
-        }
-    }
-    Ok(true)
-}
-
-/// Whether an index has this shape.
-fn is_index(index: &Index, shape: &IndexShape) -> bool
-    ensures { IsTrue result ↔ (index.now ≡ indexed_as shape.now) }
+/// Whether an index has this shape, this tree and the table of that tree, and whether it is of a key.
+fn is_index(index: &Index, shape: &IndexShape, tree: u64, table: u64, is_key: bool) -> bool
+    ensures { IsTrue result ↔ (index.now ≡ indexed_as shape.now tree table is_key) }
 {
     index.name.as_slice() == shape.name.as_bytes()
-        && index.tree == shape.tree
-        && index.table == shape.table
+        && u64::from(index.tree) == tree
+        && u64::from(index.table) == table
         && are_places(&index.columns, shape.places)
         && is_plain(&index.order)
-        && index.is_unique == shape.is_unique
+        && index.is_unique == is_key
 }
 
-/// Whether these indexes have these shapes.
-fn are_indexes(indexes: &[Index], shapes: &[IndexShape]) -> bool
-    ensures { IsTrue result ↔ (indexes.now ≡ map indexed_as shapes.now) }
+/// What a look at a database has left: its tables and indexes from this tree on, and the tree of the last table before.
+#[derive(Clone, Copy)]
+struct Left<'s> {
+    tables: &'s [Table],
+    indexes: &'s [Index],
+    tree: u64,
+    table: u64,
+}
+
+/// What is left behind a table of this shape, if that comes next.
+fn behind_table<'s>(
+    alloc: Global,
+    left: Left<'s>,
+    shape: &Shape,
+) -> Result<Option<Left<'s>>, AllocError>
+    ensures { IfOk result (λ behind. Passes left.entry (Part.Table shape.now) behind) }
 {
-    if indexes.len() != shapes.len() {
-        return false;
+    let [table, tables @ ..] = left.tables else {
+        return Ok(None);
+    };
+    if !is_table(alloc, table, shape, left.tree)? {
+        return Ok(None);
     }
-    for (at, index) in indexes.iter().enumerate() {
-        if !is_index(index, &shapes[at]) {
-            return false;
-        }
+    Ok(Some(Left {
+        tables,
+        indexes: left.indexes,
+        tree: u64::from(table.tree) + 1,
+        table: left.tree,
+    }))
+}
+
+/// What is left behind an index of this shape and table, if that comes next.
+fn behind_index<'s>(
+    left: Left<'s>,
+    shape: &IndexShape,
+    table: u64,
+    is_key: bool,
+) -> Option<Left<'s>>
+    ensures { PassesIndex left.entry (indexed_as shape.now left.entry.tree table is_key) result }
+{
+    let [index, indexes @ ..] = left.indexes else {
+        return None;
+    };
+    if !is_index(index, shape, left.tree, table, is_key) {
+        return None;
     }
-    true
+    Some(Left {
+        tables: left.tables,
+        indexes,
+        tree: u64::from(index.tree) + 1,
+        table: left.table,
+    })
+}
+
+/// What is left behind this part, if that comes next.
+fn behind<'s>(alloc: Global, left: Left<'s>, part: &Part) -> Result<Option<Left<'s>>, AllocError>
+    ensures { IfOk result (λ behind. Passes left.entry part.now behind) }
+{
+    match part {
+        Part::Table(shape) => behind_table(alloc, left, shape),
+        Part::Key(shape) => Ok(behind_index(left, shape, left.table, true)),
+        Part::Index(shape) => Ok(behind_index(left, shape, JOBS_TREE, false)),
+    }
+}
+
+/// What is left behind these parts, if they come next.
+fn behind_all<'s>(
+    alloc: Global,
+    mut left: Left<'s>,
+    mut parts: &[Part],
+) -> Result<Option<Left<'s>>, AllocError>
+    ensures { IfOk result (λ behind. PassesAll left.entry parts.entry.now behind) }
+{
+    while let [part, rest @ ..] = parts {
+        let Some(next) = behind(alloc, left, part)? else {
+            return Ok(None);
+        };
+        left = next;
+        parts = rest;
+    }
+    Ok(Some(left))
 }
 
 /// Whether a database has exactly the tables and indexes of this layout.
-fn has_layout(alloc: Global, schema: &Schema, layout: &Layout) -> Result<bool, AllocError>
-    ensures { IfOk result (λ same. IsTrue same ↔ (schema.now ≡ laid_out layout.now)) }
+fn has_layout(alloc: Global, schema: &Schema, mut layout: Layout) -> Result<bool, AllocError>
+    ensures { IfOk result (λ same. IsTrue same ↔ (schema.now ≡ laid_out (map (λ p. p.now) layout.entry.now))) }
 {
-    let same = are_tables(alloc, schema.tables.as_slice(), layout.tables)?;
-    Ok(same && are_indexes(schema.indexes.as_slice(), layout.indexes) && schema.views.is_empty())
+    let mut left = Left {
+        tables: schema.tables.as_slice(),
+        indexes: schema.indexes.as_slice(),
+        tree: 0,
+        table: 0,
+    };
+    while let [parts, rest @ ..] = layout {
+        let Some(next) = behind_all(alloc, left, parts)? else {
+            return Ok(false);
+        };
+        left = next;
+        layout = rest;
+    }
+    Ok(left.tables.is_empty() && left.indexes.is_empty() && schema.views.is_empty())
 }
 
 /// Whether a database has one of these layouts.
 fn has_one_of(alloc: Global, schema: &Schema, mut layouts: &[Layout]) -> Result<bool, AllocError>
-    ensures { IfOk result (λ one. IsTrue one ↔ Has (map laid_out layouts.entry.now) schema.now) }
+    ensures { IfOk result (λ one. IsTrue one ↔ Has (map (λ l. laid_out (map (λ p. p.now) l.now)) layouts.entry.now) schema.now) }
 {
     while let [layout, rest @ ..] = layouts {
         if has_layout(alloc, schema, layout)? {
@@ -298,14 +366,14 @@ pub fn has_floors(schema: &Schema) -> bool
 pub fn has_first_bare(alloc: Global, schema: &Schema) -> Result<bool, AllocError>
     ensures { IfOk result (λ same. IsTrue same ↔ (schema.now ≡ first_bare)) }
 {
-    has_layout(alloc, schema, &FIRST_BARE)
+    has_layout(alloc, schema, FIRST_BARE)
 }
 
 /// Whether a database has exactly the seven tables, with no index but those of their keys.
 pub fn has_bare_tables(alloc: Global, schema: &Schema) -> Result<bool, AllocError>
     ensures { IfOk result (λ same. IsTrue same ↔ (schema.now ≡ bare_tables)) }
 {
-    has_layout(alloc, schema, &BARE)
+    has_layout(alloc, schema, BARE)
 }
 
 /// Whether a database has the tables of a queue with `calls`, and the indexes of jobs before it, or without them.

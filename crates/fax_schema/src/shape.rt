@@ -1,4 +1,4 @@
-//! The shapes of the tables and of their indexes, and the layouts in which a queue's database has them.
+//! The tables and indexes of a queue, and the layouts in which its database has them.
 
 use sqlite_schema::schema::Kind;
 use sqlite_value::keys::Order;
@@ -6,7 +6,6 @@ use sqlite_value::keys::Order;
 /// What a table is. Its one check may be that it has one row, whose first column is 1.
 pub(crate) struct Shape {
     pub(crate) name: &'static str,
-    pub(crate) tree: u32,
     pub(crate) columns: &'static [(&'static str, Kind)],
     pub(crate) key: Option<usize>,
     pub(crate) primary: &'static [usize],
@@ -14,12 +13,25 @@ pub(crate) struct Shape {
     pub(crate) has_one_row: bool,
 }
 
-/// Each column ascends by its bytes.
+/// What an index is: its name and its places, each of which ascends by its bytes.
+pub(crate) struct IndexShape {
+    pub(crate) name: &'static str,
+    pub(crate) places: &'static [usize],
+}
+
+/// A table or an index, which takes one tree of its database.
+pub(crate) enum Part {
+    Table(Shape),
+    /// The index that a key of the table before it has.
+    Key(IndexShape),
+    /// An index by which jobs are found. It holds no rule.
+    Index(IndexShape),
+}
+
 pub(crate) const PLAIN: Order = Order { digits: 0 };
 
-const JOBS: Shape = Shape {
+const JOBS: Part = Part::Table(Shape {
     name: "jobs",
-    tree: 0,
     columns: &[
         ("job", Kind::Integer),
         ("dial", Kind::Text),
@@ -46,11 +58,10 @@ const JOBS: Shape = Shape {
     primary: &[0],
     uniques: &[],
     has_one_row: false,
-};
+});
 
-const GRANTS: Shape = Shape {
+const GRANTS: Part = Part::Table(Shape {
     name: "grants",
-    tree: 1,
     columns: &[
         ("id", Kind::Integer),
         ("job", Kind::Integer),
@@ -65,11 +76,10 @@ const GRANTS: Shape = Shape {
     primary: &[0],
     uniques: &[],
     has_one_row: false,
-};
+});
 
-const HOLDS: Shape = Shape {
+const HOLDS: Part = Part::Table(Shape {
     name: "holds",
-    tree: 2,
     columns: &[
         ("modem", Kind::Text),
         ("job", Kind::Integer),
@@ -79,21 +89,39 @@ const HOLDS: Shape = Shape {
     primary: &[1],
     uniques: &[&[1], &[2], &[3]],
     has_one_row: false,
-};
+});
 
-const DOWN: Shape = Shape {
+const HOLDS_MODEM: Part = Part::Key(IndexShape {
+    name: "sqlite_autoindex_holds_1",
+    places: &[1],
+});
+
+const HOLDS_JOB: Part = Part::Key(IndexShape {
+    name: "sqlite_autoindex_holds_2",
+    places: &[2],
+});
+
+const HOLDS_ID: Part = Part::Key(IndexShape {
+    name: "sqlite_autoindex_holds_3",
+    places: &[3],
+});
+
+const DOWN: Part = Part::Table(Shape {
     name: "down",
-    tree: 6,
     columns: &[("modem", Kind::Text)],
     key: None,
     primary: &[1],
     uniques: &[&[1]],
     has_one_row: false,
-};
+});
 
-const REPLIES: Shape = Shape {
+const DOWN_MODEM: Part = Part::Key(IndexShape {
+    name: "sqlite_autoindex_down_1",
+    places: &[1],
+});
+
+const REPLIES: Part = Part::Table(Shape {
     name: "replies",
-    tree: 8,
     columns: &[
         ("client", Kind::Text),
         ("number", Kind::Integer),
@@ -105,11 +133,15 @@ const REPLIES: Shape = Shape {
     primary: &[1, 2],
     uniques: &[&[1, 2]],
     has_one_row: false,
-};
+});
 
-const META: Shape = Shape {
+const REPLIES_KEY: Part = Part::Key(IndexShape {
+    name: "sqlite_autoindex_replies_1",
+    places: &[1, 2],
+});
+
+const META: Part = Part::Table(Shape {
     name: "meta",
-    tree: 10,
     columns: &[
         ("one", Kind::Integer),
         ("clock", Kind::Integer),
@@ -121,387 +153,117 @@ const META: Shape = Shape {
     primary: &[0],
     uniques: &[],
     has_one_row: true,
-};
+});
 
-const FLOORS: Shape = Shape {
+const FLOORS: Part = Part::Table(Shape {
     name: "floors",
-    tree: 11,
     columns: &[("client", Kind::Text), ("upto", Kind::Integer)],
     key: None,
     primary: &[1],
     uniques: &[&[1]],
     has_one_row: false,
-};
+});
 
-/// The calls, in the tree where the table stands.
-const CALLS_11: Shape = Shape {
-    name: "calls",
-    tree: 11,
-    columns: &[("dial", Kind::Text), ("open", Kind::Integer)],
-    key: None,
-    primary: &[1],
-    uniques: &[&[1]],
-    has_one_row: false,
-};
-
-const CALLS_13: Shape = Shape {
-    name: "calls",
-    tree: 13,
-    columns: &[("dial", Kind::Text), ("open", Kind::Integer)],
-    key: None,
-    primary: &[1],
-    uniques: &[&[1]],
-    has_one_row: false,
-};
-
-const CALLS_15: Shape = Shape {
-    name: "calls",
-    tree: 15,
-    columns: &[("dial", Kind::Text), ("open", Kind::Integer)],
-    key: None,
-    primary: &[1],
-    uniques: &[&[1]],
-    has_one_row: false,
-};
-
-/// The index that a key of a table has, or one that a table has beside its keys.
-pub(crate) struct IndexShape {
-    pub(crate) name: &'static str,
-    pub(crate) tree: u32,
-    pub(crate) table: u32,
-    pub(crate) places: &'static [usize],
-    pub(crate) is_unique: bool,
-}
-
-const HOLDS_MODEM: IndexShape = IndexShape {
-    name: "sqlite_autoindex_holds_1",
-    tree: 3,
-    table: 2,
-    places: &[1],
-    is_unique: true,
-};
-
-const HOLDS_JOB: IndexShape = IndexShape {
-    name: "sqlite_autoindex_holds_2",
-    tree: 4,
-    table: 2,
-    places: &[2],
-    is_unique: true,
-};
-
-const HOLDS_ID: IndexShape = IndexShape {
-    name: "sqlite_autoindex_holds_3",
-    tree: 5,
-    table: 2,
-    places: &[3],
-    is_unique: true,
-};
-
-const DOWN_MODEM: IndexShape = IndexShape {
-    name: "sqlite_autoindex_down_1",
-    tree: 7,
-    table: 6,
-    places: &[1],
-    is_unique: true,
-};
-
-const REPLIES_KEY: IndexShape = IndexShape {
-    name: "sqlite_autoindex_replies_1",
-    tree: 9,
-    table: 8,
-    places: &[1, 2],
-    is_unique: true,
-};
-
-const FLOORS_CLIENT: IndexShape = IndexShape {
+const FLOORS_CLIENT: Part = Part::Key(IndexShape {
     name: "sqlite_autoindex_floors_1",
-    tree: 12,
-    table: 11,
     places: &[1],
-    is_unique: true,
-};
+});
 
-const CALLS_DIAL_12: IndexShape = IndexShape {
+const CALLS: Part = Part::Table(Shape {
+    name: "calls",
+    columns: &[("dial", Kind::Text), ("open", Kind::Integer)],
+    key: None,
+    primary: &[1],
+    uniques: &[&[1]],
+    has_one_row: false,
+});
+
+const CALLS_DIAL: Part = Part::Key(IndexShape {
     name: "sqlite_autoindex_calls_1",
-    tree: 12,
-    table: 11,
     places: &[1],
-    is_unique: true,
-};
+});
 
-const CALLS_DIAL_14: IndexShape = IndexShape {
-    name: "sqlite_autoindex_calls_1",
-    tree: 14,
-    table: 13,
-    places: &[1],
-    is_unique: true,
-};
-
-const CALLS_DIAL_16: IndexShape = IndexShape {
-    name: "sqlite_autoindex_calls_1",
-    tree: 16,
-    table: 15,
-    places: &[1],
-    is_unique: true,
-};
-
-// The indexes by which jobs are found, each in the trees where it may stand.
-
-const KILLTIME_11: IndexShape = IndexShape {
+// By phase and kill time, for those that expire.
+const KILLTIME: Part = Part::Index(IndexShape {
     name: "jobs_by_killtime",
-    tree: 11,
-    table: 0,
     places: &[18, 8],
-    is_unique: false,
-};
+});
 
-const CHOICE_12: IndexShape = IndexShape {
+// In the order of the choice, with all else that it asks of a job.
+const CHOICE: Part = Part::Index(IndexShape {
     name: "jobs_by_choice",
-    tree: 12,
-    table: 0,
     places: &[18, 9, 7, 0, 20, 8, 2, 3],
-    is_unique: false,
-};
+});
 
-const KILLTIME_13: IndexShape = IndexShape {
-    name: "jobs_by_killtime",
-    tree: 13,
-    table: 0,
-    places: &[18, 8],
-    is_unique: false,
-};
-
-const CHOICE_14: IndexShape = IndexShape {
+// As stores made it before.
+const OLDER_CHOICE: Part = Part::Index(IndexShape {
     name: "jobs_by_choice",
-    tree: 14,
-    table: 0,
-    places: &[18, 9, 7, 0, 20, 8, 2, 3],
-    is_unique: false,
-};
-
-const KILLTIME_15: IndexShape = IndexShape {
-    name: "jobs_by_killtime",
-    tree: 15,
-    table: 0,
-    places: &[18, 8],
-    is_unique: false,
-};
-
-const CHOICE_16: IndexShape = IndexShape {
-    name: "jobs_by_choice",
-    tree: 16,
-    table: 0,
-    places: &[18, 9, 7, 0, 20, 8, 2, 3],
-    is_unique: false,
-};
-
-/// As stores made it before.
-const OLDER_CHOICE_12: IndexShape = IndexShape {
-    name: "jobs_by_choice",
-    tree: 12,
-    table: 0,
     places: &[18, 9, 7],
-    is_unique: false,
-};
+});
 
-const OLDER_CHOICE_14: IndexShape = IndexShape {
-    name: "jobs_by_choice",
-    tree: 14,
-    table: 0,
-    places: &[18, 9, 7],
-    is_unique: false,
-};
+// ---- what is made together
 
-/// The tables and indexes that a database has, each in its tree.
-pub(crate) struct Layout {
-    pub(crate) tables: &'static [Shape],
-    pub(crate) indexes: &'static [IndexShape],
-}
+/// The six tables of the first version.
+const FIRST: &[Part] = &[
+    JOBS,
+    GRANTS,
+    HOLDS,
+    HOLDS_MODEM,
+    HOLDS_JOB,
+    HOLDS_ID,
+    DOWN,
+    DOWN_MODEM,
+    REPLIES,
+    REPLIES_KEY,
+    META,
+];
 
-// ---- the first version, without floors
+/// What the second version has beside them.
+const SECOND: &[Part] = &[FLOORS, FLOORS_CLIENT];
 
-/// The six tables, with the indexes of their keys alone.
-pub(crate) const FIRST_BARE: Layout = Layout {
-    tables: &[JOBS, GRANTS, HOLDS, DOWN, REPLIES, META],
-    indexes: &[HOLDS_MODEM, HOLDS_JOB, HOLDS_ID, DOWN_MODEM, REPLIES_KEY],
-};
-
-/// These with the indexes by which jobs are found.
-pub(crate) const FIRST_CORE: Layout = Layout {
-    tables: &[JOBS, GRANTS, HOLDS, DOWN, REPLIES, META],
-    indexes: &[
-        HOLDS_MODEM,
-        HOLDS_JOB,
-        HOLDS_ID,
-        DOWN_MODEM,
-        REPLIES_KEY,
-        KILLTIME_11,
-        CHOICE_12,
-    ],
-};
+/// The indexes by which jobs are found.
+const INDEXES: &[Part] = &[KILLTIME, CHOICE];
 
 /// As stores made them before.
-pub(crate) const FIRST_OLDER_CORE: Layout = Layout {
-    tables: &[JOBS, GRANTS, HOLDS, DOWN, REPLIES, META],
-    indexes: &[
-        HOLDS_MODEM,
-        HOLDS_JOB,
-        HOLDS_ID,
-        DOWN_MODEM,
-        REPLIES_KEY,
-        KILLTIME_11,
-        OLDER_CHOICE_12,
-    ],
-};
+const OLDER_INDEXES: &[Part] = &[KILLTIME, OLDER_CHOICE];
 
-/// All seven tables with all indexes.
-pub(crate) const FIRST_TABLES: Layout = Layout {
-    tables: &[JOBS, GRANTS, HOLDS, DOWN, REPLIES, META, CALLS_13],
-    indexes: &[
-        HOLDS_MODEM,
-        HOLDS_JOB,
-        HOLDS_ID,
-        DOWN_MODEM,
-        REPLIES_KEY,
-        KILLTIME_11,
-        CHOICE_12,
-        CALLS_DIAL_14,
-    ],
-};
+/// The calls, with the index of their key.
+const COUNTS: &[Part] = &[CALLS, CALLS_DIAL];
 
-/// As stores made them before.
-pub(crate) const FIRST_OLDER: Layout = Layout {
-    tables: &[JOBS, GRANTS, HOLDS, DOWN, REPLIES, META, CALLS_13],
-    indexes: &[
-        HOLDS_MODEM,
-        HOLDS_JOB,
-        HOLDS_ID,
-        DOWN_MODEM,
-        REPLIES_KEY,
-        KILLTIME_11,
-        OLDER_CHOICE_12,
-        CALLS_DIAL_14,
-    ],
-};
+/// What a database has, in the order in which it was made: each part in the tree of its place.
+pub(crate) type Layout = &'static [&'static [Part]];
 
-/// All seven, with the indexes of their keys alone.
-pub(crate) const FIRST_BARE_CALLS: Layout = Layout {
-    tables: &[JOBS, GRANTS, HOLDS, DOWN, REPLIES, META, CALLS_11],
-    indexes: &[
-        HOLDS_MODEM,
-        HOLDS_JOB,
-        HOLDS_ID,
-        DOWN_MODEM,
-        REPLIES_KEY,
-        CALLS_DIAL_12,
-    ],
-};
+// ---- the first version
 
-/// All seven with all indexes, as VACUUM orders them.
-pub(crate) const FIRST_VACUUMED: Layout = Layout {
-    tables: &[JOBS, GRANTS, HOLDS, DOWN, REPLIES, META, CALLS_11],
-    indexes: &[
-        HOLDS_MODEM,
-        HOLDS_JOB,
-        HOLDS_ID,
-        DOWN_MODEM,
-        REPLIES_KEY,
-        CALLS_DIAL_12,
-        KILLTIME_13,
-        CHOICE_14,
-    ],
-};
+pub(crate) const FIRST_BARE: Layout = &[FIRST];
 
-/// The same of those that stores made before.
-pub(crate) const FIRST_OLDER_VACUUMED: Layout = Layout {
-    tables: &[JOBS, GRANTS, HOLDS, DOWN, REPLIES, META, CALLS_11],
-    indexes: &[
-        HOLDS_MODEM,
-        HOLDS_JOB,
-        HOLDS_ID,
-        DOWN_MODEM,
-        REPLIES_KEY,
-        CALLS_DIAL_12,
-        KILLTIME_13,
-        OLDER_CHOICE_14,
-    ],
-};
+pub(crate) const FIRST_CORE: Layout = &[FIRST, INDEXES];
+
+pub(crate) const FIRST_OLDER_CORE: Layout = &[FIRST, OLDER_INDEXES];
+
+pub(crate) const FIRST_TABLES: Layout = &[FIRST, INDEXES, COUNTS];
+
+pub(crate) const FIRST_OLDER: Layout = &[FIRST, OLDER_INDEXES, COUNTS];
+
+pub(crate) const FIRST_BARE_CALLS: Layout = &[FIRST, COUNTS];
+
+// VACUUM moves the indexes behind the tables.
+pub(crate) const FIRST_VACUUMED: Layout = &[FIRST, COUNTS, INDEXES];
+
+pub(crate) const FIRST_OLDER_VACUUMED: Layout = &[FIRST, COUNTS, OLDER_INDEXES];
 
 // ---- the second version
 
-/// The seven tables, with the indexes of their keys alone.
-pub(crate) const BARE: Layout = Layout {
-    tables: &[JOBS, GRANTS, HOLDS, DOWN, REPLIES, META, FLOORS],
-    indexes: &[
-        HOLDS_MODEM,
-        HOLDS_JOB,
-        HOLDS_ID,
-        DOWN_MODEM,
-        REPLIES_KEY,
-        FLOORS_CLIENT,
-    ],
-};
+pub(crate) const BARE: Layout = &[FIRST, SECOND];
 
-/// These with the indexes by which jobs are found.
-pub(crate) const CORE: Layout = Layout {
-    tables: &[JOBS, GRANTS, HOLDS, DOWN, REPLIES, META, FLOORS],
-    indexes: &[
-        HOLDS_MODEM,
-        HOLDS_JOB,
-        HOLDS_ID,
-        DOWN_MODEM,
-        REPLIES_KEY,
-        FLOORS_CLIENT,
-        KILLTIME_13,
-        CHOICE_14,
-    ],
-};
+pub(crate) const CORE: Layout = &[FIRST, SECOND, INDEXES];
 
-/// All eight tables with all indexes: those of a store.
-pub(crate) const OURS: Layout = Layout {
-    tables: &[JOBS, GRANTS, HOLDS, DOWN, REPLIES, META, FLOORS, CALLS_15],
-    indexes: &[
-        HOLDS_MODEM,
-        HOLDS_JOB,
-        HOLDS_ID,
-        DOWN_MODEM,
-        REPLIES_KEY,
-        FLOORS_CLIENT,
-        KILLTIME_13,
-        CHOICE_14,
-        CALLS_DIAL_16,
-    ],
-};
+/// All that a store makes.
+pub(crate) const OURS: Layout = &[FIRST, SECOND, INDEXES, COUNTS];
 
-/// All eight, with the indexes of their keys alone.
-pub(crate) const BARE_CALLS: Layout = Layout {
-    tables: &[JOBS, GRANTS, HOLDS, DOWN, REPLIES, META, FLOORS, CALLS_13],
-    indexes: &[
-        HOLDS_MODEM,
-        HOLDS_JOB,
-        HOLDS_ID,
-        DOWN_MODEM,
-        REPLIES_KEY,
-        FLOORS_CLIENT,
-        CALLS_DIAL_14,
-    ],
-};
+pub(crate) const BARE_CALLS: Layout = &[FIRST, SECOND, COUNTS];
 
-/// All eight with all indexes, as VACUUM orders them.
-pub(crate) const VACUUMED: Layout = Layout {
-    tables: &[JOBS, GRANTS, HOLDS, DOWN, REPLIES, META, FLOORS, CALLS_13],
-    indexes: &[
-        HOLDS_MODEM,
-        HOLDS_JOB,
-        HOLDS_ID,
-        DOWN_MODEM,
-        REPLIES_KEY,
-        FLOORS_CLIENT,
-        CALLS_DIAL_14,
-        KILLTIME_15,
-        CHOICE_16,
-    ],
-};
+pub(crate) const VACUUMED: Layout = &[FIRST, SECOND, COUNTS, INDEXES];
 
 // ---- which of them need what
 

@@ -6,7 +6,7 @@ use Rattle.fax_schema.proofs.recognize.has_one_of.Given as goal
 
 -- it has none of the layouts before
 abbrev pub invariant-loop-layouts : goal.invariant-loop-layouts
-invariant-loop-layouts l = Has (map laid_out l.layouts) l.schema ↔ Has (map laid_out l.fn.layouts) l.schema
+invariant-loop-layouts l = Has (map (λ l. laid_out (map (λ p. p.now) l.now)) l.layouts) l.schema ↔ Has (map (λ l. laid_out (map (λ p. p.now) l.now)) l.fn.layouts) l.schema
 
 abbrev pub decreases-loop-layouts : goal.decreases-loop-layouts
 decreases-loop-layouts l = length l.layouts
