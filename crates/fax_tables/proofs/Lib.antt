@@ -11,4 +11,5 @@ pub mod StandLemmas
 pub mod CreateLemmas
 pub mod WayLemmas
 pub mod StopLemmas
+pub mod AlterLemmas
 pub mod Rows

@@ -1,15 +1,11 @@
 //! The eight tables and their indexes.
 
-ghost use Rattle.std.specs.Prelude.{[], ◌≤◌, OnErr, OnOk};
-ghost use Rattle.sqlite.specs.Held.{state};
-ghost use Rattle.sqlite.specs.View.{doubt};
-ghost use Rattle.sqlite.specs.State.{HasCleanDisk, KeepsCommit};
+ghost use Rattle.std.specs.Prelude.{[]};
 ghost use Rattle.fax_core.specs.Ledger.{empty_ledger};
 ghost use Rattle.fax_core.specs.Queue.{empty_queue};
 ghost use Rattle.fax_schema.specs.Schema.{no_tables, with_down, first_bare, our_tables};
 ghost use Rattle.fax_tables.specs.Making.{Alters, Always};
-ghost use Rattle.fax_tables.specs.Stop.{HoldsBack};
-ghost use Rattle.fax_tables.specs.Tables.{GoesOn, HasCallsBeside, HasEmptyTables, HasFirstTables, HasIndexesLast, HasNewCalls, HasNewFloors, HasCoreTables, HasTablesAlone, IsIndexed, LacksCalls, LosesIndexes, TablesMean};
+ghost use Rattle.fax_tables.specs.Tables.{HasCallsBeside, HasEmptyTables, HasFirstTables, HasIndexesLast, HasNewCalls, HasNewFloors, HasCoreTables, HasTablesAlone, IsIndexed, LacksCalls, LosesIndexes, TablesMean};
 
 use fax_schema::statements::{
     CREATE_CALLS, CREATE_CHOICE_INDEX, CREATE_DOWN, CREATE_FLOORS, CREATE_GRANTS, CREATE_HOLDS,
@@ -21,13 +17,8 @@ use sqlite::{Alter, Connection, Error};
 /// Makes the eight tables and their indexes in a database without any, with no rows but the one of meta. Inside a
 /// transaction nothing is committed.
 pub fn create_tables<S: Alter>(conn: &mut Connection<S>) -> Result<(), Error>
-    ensures made { HasCleanDisk (state S.Store conn.new) → OnOk result
-        (HasEmptyTables no_tables (state S.Store conn.old) → GoesOn (state S.Store conn.old) (state S.Store conn.new)
-        × TablesMean (state S.Store conn.new).now empty_queue empty_ledger) }
-    ensures kept { HasCleanDisk (state S.Store conn.new) → OnErr result
-        (HasEmptyTables no_tables (state S.Store conn.old) → KeepsCommit (state S.Store conn.old) (state S.Store conn.new)) }
-    ensures crash { HoldsBack (HasEmptyTables no_tables) (state S.Store conn.old) (state S.Store conn.new) }
-    ensures doubt { doubt (state S.Store conn.old).is_clean ≤ doubt (state S.Store conn.new).is_clean }
+    ensures { Alters S.Store (HasEmptyTables no_tables) (HasEmptyTables no_tables)
+        (λ old new. TablesMean new.now empty_queue empty_ledger) conn.old conn.new result }
 {
     create_first_tables(conn)?;
     create_floors(conn)?;
