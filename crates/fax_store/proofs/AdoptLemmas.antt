@@ -1,10 +1,11 @@
 -- What the statements do by which a store comes to a database.
-use Rattle.std.proofs.Common.{◌≡◌, ◌≢◌, ◌≤◌, inl, inr, ℕ, List, [], ◌∷◌, codes, map, filter, true, arith, Ok, Err, IsErr, IsErrAnd, MatchResult, Result, refl, sym, subst, ap, ◌∙◌}
+use Rattle.std.proofs.Common.{◌≡◌, ◌≢◌, ◌⊎◌, inl, inr, ℕ, List, [], ◌∷◌, codes, map, filter, Bool, true, false, arith, Ok, Err, IsErr, IsErrAnd, IsTrue, MatchResult, Result, refl, sym, subst, ap, ◌∙◌}
+use Rattle.std.specs.List.{AllByRecursion}
 use Rattle.std.specs.List.Sorted.{IsPermutation}
+use Rattle.std.proofs.lemmas.Bool.{false≢true}
 use Rattle.std.proofs.lemmas.List.Sorted.{IsPermutation-sym}
 use Rattle.sqlite.specs.Effect.{Database, IsDatabase}
 use Rattle.sqlite.specs.Order.{Row, column}
-use Rattle.sqlite.specs.View.{doubt}
 use Rattle.sqlite.specs.declared.error.Error.{Error}
 use Rattle.sqlite.specs.State.{State, HasCleanDisk, IsUnchanged, KeepsCommit, Shown, Executes, CommitsBy, Survives}
 use Rattle.sqlite_trees.specs.Tree.{Trees}
@@ -20,7 +21,7 @@ use Rattle.fax_tables.specs.declared.fault.StoreFault.TheVariants.{Strange}
 use Rattle.fax_tables.specs.Row.{number}
 use Rattle.fax_schema.specs.ByRowid.{IsByRowid}
 use Rattle.fax_schema.specs.Schema as schema
-use Rattle.fax_schema.specs.Schema.{AreInOrder, AreOurs, alike_list, bare_with_calls, first_bare, first_bare_calls, has_floors, no_tables, our_tables, calls_tree, floors_tree, meta_tree}
+use Rattle.fax_schema.specs.Schema.{AreInOrder, AreOurs, alike_list, bare_with_calls, first_bare, first_bare_calls, has_floors, indexed_last, no_tables, our_tables, with_calls, without_calls, calls_tree, floors_tree, meta_tree}
 use Rattle.fax_tables.specs.Tables.{GoesOn, HasEmptyTables, HasNewCalls, HasVersion, IsAtRest, Renews, RowsMean, TablesMean, floors_in, meta_as, version_of, versions}
 use Rattle.fax_tables.proofs.CreateLemmas.{commit_kept, floors_there, goes_on, kept_but_last, kept_rows, none_at_first, refused_keeps, renews_then}
 use Rattle.fax_tables.proofs.StopLemmas.{nothing_then}
@@ -29,17 +30,14 @@ use Rattle.fax_tables.specs.Stop.{HoldsBack}
 use Rattle.fax_schema.proofs.SelectLemmas.{answers}
 use Rattle.sqlite_schema.specs.declared.schema.Schema.{Schema}
 use Rattle.sqlite_schema.specs.declared.schema.Table.{Table}
-use Rattle.fax_store.specs.Adopt.{AreTaken, Goes, HasNone, HasTaken, HoldsCanBeCalled, IsFilled, IsIn, IsOurs, IsRaisable, IsRaisableFrom, IsTaken, Leaves, MeansAs, QueuesAreTakeable}
-use Rattle.fax_store.specs.Store.{CommitsNothing, GoesBack, MayMake, RowsFound, Serves}
+use Rattle.fax_store.specs.Adopt.{Adopts, AreAdopted, AreTaken, Founds, HasBecome, HasNone, HasTaken, HoldsCanBeCalled, IsAdoptable, IsFilled, IsIn, IsOurs, IsRaisable, IsRaisableFrom, IsTakeable, IsTaken, Leaves, MeansAs, QueuesAreTakeable, Settles, Takes, TurnsOrUnavailable}
+use Rattle.fax_store.specs.Store.{CommitsNothing, GoesBack, MayFind, MayMake, RowsFound, Serves}
 use Rattle.fax_store.proofs.ControlLemmas.{begins, commits}
 use Rattle.fax_store.proofs.HeldLemmas.{held_still, rows_callable}
 use Rattle.fax_schema.proofs.StatementTexts.{select_version, version_project}
 use Rattle.fax_store.proofs.StopLemmas.{begin_nothing, commit_makes}
 use Rattle.fax_store.proofs.StoreLemmas.{same_tables, served}
-
--- where the commit is kept, a connection that serves did before
-pub kept_served : (old new : State) → doubt old.is_clean ≤ doubt new.is_clean → (HasCleanDisk new → KeepsCommit old new) → Serves new → Serves old
-kept_served old new doubts kept s = served old new doubts s ((kept s.clean).was_open s.is_open)
+use Rattle.fax_store.proofs.WorkLemmas.{not_strange, ok_as, refused_as}
 
 -- what goes back to the commit that a call kept, goes back to that before it
 pub back_over : (old mid new : State) → (Serves mid → Serves old) → (HasCleanDisk mid → KeepsCommit old mid) → GoesBack mid new → GoesBack old new
@@ -50,6 +48,15 @@ pub starts : (s0 s1 : State) (n : ℕ) → Executes BEGIN.now [] s0 s1 (Ok n) �
 starts s0 s1 n began =
     let shown = (begins s0 s1 n began).1 in
     record { was_open = shown.was_open; is_open = shown.is_open; now_is = refl; committed_is = shown.committed_is; mode = shown.mode }
+
+-- where a call is refused and the commit is kept, it settles
+pub settles_refused : {A : Type 0} (old new : State) (r : Result A StoreFault) → IsErr r → (HasCleanDisk new → HasCleanDisk old) → (HasCleanDisk new → KeepsCommit old new) → Settles old new r
+settles_refused old new (Ok x) is clean kept = absurd (let e = is in cc)
+settles_refused old new (Err e) is clean kept = record { kept = kept; served = λ s. record { clean = clean s.clean; is_open = (kept s.clean).was_open s.is_open }; clean = clean; opens = tt }
+
+-- and where it is done in a database that was open
+pub settles_done : {A : Type 0} (old new : State) (x : A) → (HasCleanDisk new → HasCleanDisk old) → (HasCleanDisk new → IsTrue old.is_open) → (HasCleanDisk new → Serves new) → Settles old new (Ok x)
+settles_done old new x clean was opens = record { kept = λ _. tt; served = λ s. record { clean = clean s.clean; is_open = was s.clean }; clean = clean; opens = opens }
 
 -- ---- making the tables
 
@@ -79,15 +86,47 @@ module _ (s0 s1 : State) (none : s0.now.schema ≡ no_tables) (n : ℕ) (began :
 -- ---- one step after the other
 
 -- a step that was done, and then one from what it leaves
-pub goes_then : (a b c : State) (Before Between After : Schema → Type 0) → (HasCleanDisk b → IsIn Before a → GoesOn a b × Leaves Between a.now b.now) → (HasCleanDisk c → HasCleanDisk b)
-    → (r : Result Unit StoreFault) → Goes (IsIn Between) (Leaves After) b c r → Goes (IsIn Before) (Leaves After) a c r
-goes_then a b c Before Between After first cleaner (Ok x) next clean was =
-    let one = first (cleaner clean) was in
-    let two = next clean (record { is_open = one.0.is_open; inside = one.0.mode; schema_is = one.1.0 }) in
-    (goes_on a b c one.0 two.0, (two.1.0, renews_then a.now b.now c.now one.1.1 two.1.1))
-goes_then a b c Before Between After first cleaner (Err e) next clean was =
-    let one = first (cleaner clean) was in
-    commit_kept a b c one.0 (next clean (record { is_open = one.0.is_open; inside = one.0.mode; schema_is = one.1.0 }))
+turns_then : {A B : Type 0} (a b c : State) (P P' : State → Type 0) (Q Q' R : Database → Database → Type 0) (x : A) (r : Result B StoreFault) → (GoesOn a b × Q a.now b.now → P' b) → (Q a.now b.now → Q' b.now c.now → R a.now c.now)
+    → TurnsOrUnavailable P Q a b (Ok x) → TurnsOrUnavailable P' Q' b c r → TurnsOrUnavailable P R a c r
+turns_then a b c P P' Q Q' R x r moves joins first next = record {
+  leaves = record {
+    goes = λ clean was. let one = first.leaves.goes (next.leaves.clean clean) was in goes r one (next.leaves.goes clean (moves one));
+    crash = λ was. nothing_then a b c (first.leaves.crash was) (next.leaves.crash (λ clean. moves (first.leaves.goes clean (was (first.leaves.clean clean)))));
+    clean = λ clean. first.leaves.clean (next.leaves.clean clean);
+  };
+  cause = next.cause;
+}
+  where
+    goes : {B : Type 0} (r : Result B StoreFault) → GoesOn a b × Q a.now b.now → MatchResult r (λ _. GoesOn b c × Q' b.now c.now) (λ _. KeepsCommit b c) → MatchResult r (λ _. GoesOn a c × R a.now c.now) (λ _. KeepsCommit a c)
+    goes (Ok y) one two = (goes_on a b c one.0 two.0, joins one.1 two.1)
+    goes (Err e) one kept = commit_kept a b c one.0 kept
+
+-- where a step was done, the transaction goes on over these tables
+still_in : (a b : State) (Between : Schema → Type 0) → GoesOn a b × Leaves Between a.now b.now → IsIn Between b
+still_in a b Between it = record { is_open = it.0.is_open; inside = it.0.mode; schema_is = it.1.0 }
+
+-- so it is with steps from some tables to others
+pub leaves_then : {A B : Type 0} (a b c : State) (Before Between After : Schema → Type 0) (x : A) (r : Result B StoreFault) → TurnsOrUnavailable (IsIn Before) (Leaves Between) a b (Ok x) → TurnsOrUnavailable (IsIn Between) (Leaves After) b c r
+    → TurnsOrUnavailable (IsIn Before) (Leaves After) a c r
+leaves_then a b c Before Between After x r =
+    turns_then a b c (IsIn Before) (IsIn Between) (Leaves Between) (Leaves After) (Leaves After) x r (still_in a b Between) (λ one two. (two.0, renews_then a.now b.now c.now one.1 two.1))
+
+-- and where the last makes `calls`
+pub calls_then : {A B : Type 0} (a b c : State) (Before Between : Schema → Type 0) (x : A) (r : Result B StoreFault) → TurnsOrUnavailable (IsIn Before) (Leaves Between) a b (Ok x) → TurnsOrUnavailable (IsIn Between) HasNewCalls b c r → TurnsOrUnavailable (IsIn Before) HasNewCalls a c r
+calls_then a b c Before Between x r =
+    turns_then a b c (IsIn Before) (IsIn Between) (Leaves Between) HasNewCalls HasNewCalls x r (still_in a b Between)
+    (λ one two. record { schema_is = two.schema_is; sound = two.sound; renews = renews_then a.now b.now c.now one.1 two.renews; none = two.none })
+
+-- a refusal that is passed on
+pub turns_passed : {A B : Type 0} (a b : State) (P : State → Type 0) (Q R : Database → Database → Type 0) (fault : StoreFault) (r : Result B StoreFault) → IsErrAnd r (λ e. e ≡ fault) → TurnsOrUnavailable {A = A} P Q a b (Err fault) → TurnsOrUnavailable P R a b r
+turns_passed a b P Q R fault r told step = record {
+  leaves = record { goes = λ clean was. kept r told (step.leaves.goes clean was); crash = step.leaves.crash; clean = step.leaves.clean };
+  cause = refused_as r fault told step.cause;
+}
+  where
+    kept : {B : Type 0} (r : Result B StoreFault) → IsErrAnd r (λ e. e ≡ fault) → KeepsCommit a b → MatchResult r (λ _. GoesOn a b × R a.now b.now) (λ _. KeepsCommit a b)
+    kept (Ok y) told k = absurd told
+    kept (Err e) told k = k
 
 -- tables without the indexes of jobs are in order
 pub in_order : (schema : Schema) → Has (bare_with_calls ∷ first_bare_calls ∷ first_bare ∷ []) schema → AreInOrder schema
@@ -95,19 +134,6 @@ in_order schema (inl is) = inl (inr (inl is))
 in_order schema (inr (inl is)) = inl (inr (inr (inr (inl is))))
 in_order schema (inr (inr (inl is))) = inr (inr (inr (inl is)))
 in_order schema (inr (inr (inr none))) = absurd none
-
--- where a step was done, the transaction goes on over these tables
-pub still_in : (a b : State) (Between : Schema → Type 0) → GoesOn a b × Leaves Between a.now b.now → IsIn Between b
-still_in a b Between it = record { is_open = it.0.is_open; inside = it.0.mode; schema_is = it.1.0 }
-
--- a step that commits nothing, and then one that doesn't from what it leaves
-pub holds_then : (a b c : State) (Before Between : State → Type 0) → HoldsBack Before a b → (HasCleanDisk b → HasCleanDisk a) → (HasCleanDisk b → Before a → Between b) → HoldsBack Between b c → HoldsBack Before a c
-holds_then a b c Before Between first cleaner moves next was = nothing_then a b c (first was) (next (λ clean. moves clean (was (cleaner clean))))
-
--- a step that is known to be refused
-pub refused_step : {A E : Type 0} (r : Result A E) (P : A → Type 0) (Q : Type 0) → IsErr r → Q → MatchResult r P (λ _. Q)
-refused_step (Ok x) P Q is q = absurd (let e = is in cc)
-refused_step (Err e) P Q is q = q
 
 -- ---- taking a database with our tables
 
@@ -237,6 +263,61 @@ module _ (s0 s1 : State) (ours : AreOurs s0.now.schema) (n : ℕ) (began : Execu
 pub told_strange : (r : Result (Unit {0}) StoreFault) (fault : StoreFault) → IsErrAnd r (λ e. e ≡ fault) → r ≡ Err Strange → ◌≡◌ {A = Result (Unit {0}) StoreFault} (Err fault) (Err Strange)
 told_strange (Ok x) fault told is = absurd told
 told_strange (Err e) fault told is = ap Err (sym told) ∙ is
+
+-- ---- both together
+
+abbrev any_table : List Table → Bool
+any_table [] = false
+any_table (t ∷ ts) = true
+
+-- one of some schemas that each have a table has one
+some_of : (schemas : List Schema) (s : Schema) → AllByRecursion (λ (x : Schema). IsTrue (any_table x.tables)) schemas → Has schemas s → IsTrue (any_table s.tables)
+some_of [] s all has = absurd has
+some_of (x ∷ xs) s all (inl is) = subst (λ (y : Schema). IsTrue (any_table y.tables)) (sym is) all.0
+some_of (x ∷ xs) s all (inr has) = some_of xs s all.1 has
+
+-- so a database without tables hasn't ours
+not_ours : (s : Schema) → s ≡ no_tables → AreOurs s → ⊥
+not_ours s none ours = absurd (false≢true (subst (λ (x : Schema). IsTrue (any_table x.tables)) none (some ours)))
+  where
+    some : AreOurs s → IsTrue (any_table s.tables)
+    some (inl (inl has)) = some_of with_calls s (refl, (refl, (refl, (refl, (refl, tt))))) has
+    some (inl (inr has)) = some_of without_calls s (refl, (refl, (refl, tt))) has
+    some (inr has) = some_of indexed_last s (refl, (refl, (refl, (refl, (refl, tt))))) has
+
+-- an empty store that was made of a database with no tables
+pub founds_takes : (old new : State) (r : Result (Unit {0}) StoreFault) → old.now.schema ≡ no_tables → Founds old new r → Takes Adopts AreAdopted IsAdoptable old new r
+founds_takes old new r none founds = record {
+  settles = founds.settles;
+  taken = λ clean. ok_as r (λ rest. inl (none, rest)) (founds.made clean);
+  means = λ m k clean. ok_as r (λ rest. λ ours rows. absurd (not_ours old.now.schema none ours)) (founds.made clean);
+  crash = λ found may. either (founds.crash found may);
+  nothing = λ is. absurd (not_strange r founds.cause is);
+  strange = λ clean is. absurd (not_strange r founds.cause is);
+}
+  where
+    either : {found : Trees} → MayFind old found ⊎ RowsFound found empty_queue empty_ledger → MayFind old found ⊎ AreAdopted old.now found
+    either (inl before) = inl before
+    either (inr rows) = inr (inl (none, rows))
+
+-- and ours that was taken
+pub ours_taken : (old new : State) (r : Result (Unit {0}) StoreFault) → AreOurs old.now.schema → Takes HasBecome AreTaken IsTakeable old new r → Takes Adopts AreAdopted IsAdoptable old new r
+ours_taken old new r ours takes = record {
+  settles = takes.settles;
+  taken = λ clean. ok_as r (λ became. inr became) (takes.taken clean);
+  means = takes.means;
+  crash = λ found may. either (takes.crash found may);
+  nothing = takes.nothing;
+  strange = λ clean is. λ fit. takes.strange clean is (fits fit);
+}
+  where
+    either : {found : Trees} → MayFind old found ⊎ AreTaken old.now found → MayFind old found ⊎ AreAdopted old.now found
+    either (inl before) = inl before
+    either (inr taken) = inr (inr taken)
+
+    fits : IsAdoptable old.now → IsTakeable old.now
+    fits (inl none) = absurd (not_ours old.now.schema none ours)
+    fits (inr fit) = fit
 
 -- ---- reading the version
 

@@ -1,17 +1,19 @@
 -- What calls leave, one after the other.
-use Rattle.std.proofs.Common.{◌≡◌, false, Ok, Err, Result, OnOk, is_err, sym, ◌∙◌}
+use Rattle.std.proofs.Common.{◌≡◌, false, Ok, Err, Result, OnOk, IsErrAnd, is_err, subst, sym, ◌∙◌}
 use Rattle.std.proofs.lemmas.Bool.{false≢true}
 use Rattle.sqlite.specs.State.{State, HasCleanDisk}
 use Rattle.sqlite_trees.specs.declared.store.Store.{Ghosts}
 use Rattle.fax_core.specs.Ledger.{Ledger}
 use Rattle.fax_core.specs.Queue.{Queue}
-use Rattle.fax_store.specs.Calls.{Answers, Calls, Finds, Follows, Looks, Runs, Tells, shown, within}
+use Rattle.fax_store.specs.Calls.{Answers, Calls, Finds, Follows, Looks, Makes, MakesIf, MakesIfWhere, MakesWhere, Runs, Tells, Writes, WritesIf, WritesIfWhere, WritesWhere, shown, within}
+use Rattle.fax_store.specs.Work.{IsOnlyUnavailable, Moves, Works}
 use Rattle.fax_store.specs.Store.{CommitsNothing, HasTables, Means, MeansNow, Reads, Serves}
 use Rattle.fax_store.specs.declared.store.Store.{Store}
 use Rattle.fax_store.specs.declared.work.Work.{Work}
 use Rattle.fax_tables.specs.declared.fault.StoreFault.{StoreFault}
-use Rattle.fax_store.proofs.StopLemmas.{withholds_by, withholds_then}
-use Rattle.fax_store.proofs.WorkLemmas.{found_in, holds_by, holds_then, keeps_by, reads_same, stays_by}
+use Rattle.fax_tables.specs.declared.fault.StoreFault.TheVariants.{Unavailable}
+use Rattle.fax_store.proofs.StopLemmas.{withholds_by, withholds_err, withholds_then}
+use Rattle.fax_store.proofs.WorkLemmas.{changes_by, found_in, holds_by, holds_err, holds_then, keeps_by, moved_by, moves_of, reads_same, refused_as, refused_by, stays_by, step_of, steps_where}
 
 -- the tables of a store that means something mean it now
 pub means_now : {s : State} {m : Queue} {k : Ledger} → Means s m k → MeansNow s m k
@@ -70,6 +72,36 @@ module _ {S : Type 0} (g : Ghosts S) where
     crash = withholds_then (shown g old) (shown g mid) (shown g new) (is_err result) first.crash next.crash;
   }
 
+  -- a refusal that is passed on
+  pub runs_err : (old new : Store S) {A B : Type 0} (fault : StoreFault) (result : Result B StoreFault) → IsErrAnd result (λ e. e ≡ fault) → Runs g {A = A} old new (Err fault) → Runs g old new result
+  runs_err old new fault result told runs = record {
+    served = runs.served;
+    clean = runs.clean;
+    holds = holds_err (shown g old) (shown g new) result (λ e. e ≡ fault) told runs.holds;
+    crash = withholds_err (shown g old) (shown g new) result (λ e. e ≡ fault) told runs.crash;
+  }
+
+  -- what is refused makes nothing of what the tables mean, and the last commit stands
+  module _ (old new : Store S) {A : Type 0} (result : Result A StoreFault) (fault : StoreFault) (told : IsErrAnd result (λ e. e ≡ fault)) (runs : Runs g old new result) where
+    moved : (m₀ m after : Queue) (k₀ k kept : Ledger) → Works (shown g old) false m₀ k₀ m k → Serves (shown g new) → Moves (shown g new) result m₀ k₀ after kept
+    moved m₀ m after k₀ k kept works s = refused_by (shown g old) (shown g new) result (λ e. e ≡ fault) m₀ m after k₀ k kept told runs.served runs.holds works s
+
+    pub writes_refused : (f : Queue → Queue) (h : Ledger → Ledger) → fault ≡ Unavailable → Writes g old new result f h
+    writes_refused f h why =
+        let cause = refused_as result fault told why in
+        record { leaves = runs; written = λ m₀ m k₀ k works s. step_of (shown g new) result m₀ (f m) k₀ (h k) cause (moved m₀ m (f m) k₀ k (h k) works s); cause = cause }
+
+    pub writes_where_refused : (P : Queue → Type 0) (f : Queue → Queue) (h : Ledger → Ledger) → fault ≡ Unavailable → WritesWhere g old new result P f h
+    writes_where_refused P f h why =
+        let cause = refused_as result fault told why in
+        record { leaves = runs; written = λ m₀ m k₀ k p works s. step_of (shown g new) result m₀ (f m) k₀ (h k) cause (moved m₀ m (f m) k₀ k (h k) works s); cause = cause }
+
+    pub writes_if_refused : (Fit : Queue → Ledger → Type 0) (f : Queue → Queue) (h : Ledger → Ledger) → IsOnlyUnavailable (shown g old) false (shown g new) result Fit → WritesIf g old new result Fit f h
+    writes_if_refused Fit f h cause = record { leaves = runs; written = λ m₀ m k₀ k works s. moved m₀ m (f m) k₀ k (h k) works s; cause = cause }
+
+    pub writes_if_where_refused : (P : Queue → Type 0) (Fit : Queue → Ledger → Type 0) (f : Queue → Queue) (h : Ledger → Ledger) → IsOnlyUnavailable (shown g old) false (shown g new) result Fit → WritesIfWhere g old new result P Fit f h
+    writes_if_where_refused P Fit f h cause = record { leaves = runs; written = λ m₀ m k₀ k p works s. moved m₀ m (f m) k₀ k (h k) works s; cause = cause }
+
   -- ---- of a work
 
   pub follows_of : (old new : Work S) {A : Type 0} (result : Result A StoreFault) → Calls g old new result → Follows g old new
@@ -98,8 +130,35 @@ module _ {S : Type 0} (g : Ghosts S) where
     }
 
     -- and so is a reading
-    pub tells_by : (P : Queue → Ledger → A → Type 0) → Finds g old.store.now new.store.now result → Answers g old.store.now new.store.now result P → Tells g old new result P
-    tells_by P finds answers = record {
+    pub tells_by : new.store.ghost_name ≡ old.store.ghost_name → (P : Queue → Ledger → A → Type 0) → Finds g old.store.now new.store.now result → Answers g old.store.now new.store.now result P → Tells g old new result P
+    tells_by same P finds answers = record {
+      leaves = calls_by same (runs_of old.store.now new.store.now result finds);
       keeps = rw (on, failed) (keeps_by (within g old) (within g new) finds.served result finds.reads P answers);
       found = rw on (found_in (within g old) (within g new) finds.served result finds.reads P answers);
     }
+
+    -- and so is what the store makes within it
+    module _ (same : new.store.ghost_name ≡ old.store.ghost_name) where
+      pub makes_by : (f : Queue → Queue) (h : Ledger → Ledger) → Writes g old.store.now new.store.now result f h → Makes g old new result f h
+      makes_by f h writes = record { leaves = calls_by same writes.leaves; changes = rw (on, failed) (changes_by (within g old) (within g new) result f h writes.written); cause = writes.cause }
+
+      pub makes_where_by : (P : Queue → Type 0) (f : Queue → Queue) (h : Ledger → Ledger) → WritesWhere g old.store.now new.store.now result P f h → MakesWhere g old new result P f h
+      makes_where_by P f h writes = record {
+        leaves = calls_by same writes.leaves;
+        changes = rw (on, failed) (steps_where (within g old) (within g new) P result f h (λ m₀ m k₀ k p works s. moves_of (within g new) result m₀ (f m) k₀ (h k) (writes.written m₀ m k₀ k p works s)));
+        cause = writes.cause;
+      }
+
+      pub makes_if_by : (Fit : Queue → Ledger → Type 0) (f : Queue → Queue) (h : Ledger → Ledger) → WritesIf g old.store.now new.store.now result Fit f h → MakesIf g old new result Fit f h
+      makes_if_by Fit f h writes = record {
+        leaves = calls_by same writes.leaves;
+        changes = rw (on, failed) (moved_by (within g old) (within g new) result f h writes.written);
+        cause = λ m₀ m k₀ k works s fits. writes.cause m₀ m k₀ k (subst (λ b. Works (within g old) b m₀ k₀ m k) on works) s fits;
+      }
+
+      pub makes_if_where_by : (P : Queue → Type 0) (Fit : Queue → Ledger → Type 0) (f : Queue → Queue) (h : Ledger → Ledger) → WritesIfWhere g old.store.now new.store.now result P Fit f h → MakesIfWhere g old new result P Fit f h
+      makes_if_where_by P Fit f h writes = record {
+        leaves = calls_by same writes.leaves;
+        changes = rw (on, failed) (steps_where (within g old) (within g new) P result f h writes.written);
+        cause = λ m₀ m k₀ k works s fits. writes.cause m₀ m k₀ k (subst (λ b. Works (within g old) b m₀ k₀ m k) on works) s fits;
+      }

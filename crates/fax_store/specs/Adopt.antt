@@ -1,9 +1,9 @@
 -- What becomes of a database that a store adopts.
-use Rattle.std.specs.Prelude.{◌≡◌, ◌≢◌, ◌⊎◌, ◌<◌, ◌^◌, ℕ, pos, Bool, true, false, List, [], ◌∷◌, filter, length, Some, Result, MatchResult, IsTrue}
+use Rattle.std.specs.Prelude.{◌≡◌, ◌≢◌, ◌⊎◌, ◌<◌, ◌^◌, ℕ, pos, Bool, true, false, List, [], ◌∷◌, filter, length, Some, Err, Result, MatchResult, IfErr, OnErr, OnOk, is_err, IsTrue}
 use Rattle.sqlite.specs.Collation.TheVariants.{Binary}
 use Rattle.sqlite.specs.Effect.{Database, IsDatabase}
 use Rattle.sqlite.specs.Order.{Row, column}
-use Rattle.sqlite.specs.State.{State, HasCleanDisk, KeepsCommit}
+use Rattle.sqlite.specs.State.{State, HasCleanDisk, IsUnchanged, KeepsCommit}
 use Rattle.sqlite.specs.Tree.{rowid}
 use Rattle.sqlite.specs.declared.types.Value.{Value}
 use Rattle.sqlite.specs.declared.types.Value.TheVariants.{Int, Text}
@@ -24,8 +24,11 @@ use Rattle.fax_schema.specs.ByRowid.{IsByRowid}
 use Rattle.fax_schema.specs.Schema.{AreOurs, alike_list, no_tables, bare_tables, first_bare, first_core, first_older_core, our_tables, core_tables, calls_tree, floors_tree, has_floors, holds_tree, jobs_tree, meta_tree}
 use Rattle.fax_tables.specs.Tables.{GoesOn, HasVersion, IsAtRest, Renews, RowsMean, TablesMean, floors_in, meta_as, meta_in, versions}
 use Rattle.sqlite_trees.specs.Tree.{Trees}
-use Rattle.fax_store.specs.Grant.{SetsCalls}
-use Rattle.fax_store.specs.Store.{RowsFound}
+use Rattle.fax_store.specs.Grant.{HasCalls, SetsCalls}
+use Rattle.fax_store.specs.Work.{Withholds}
+use Rattle.fax_store.specs.Store.{CommitsNothing, GoesBack, HasTables, LeavesAlone, MayMake, Means, RowsFound, Serves}
+use Rattle.fax_tables.specs.declared.fault.StoreFault.{StoreFault}
+use Rattle.fax_tables.specs.declared.fault.StoreFault.TheVariants.{Strange, Unavailable}
 use Rattle.fax_tables.specs.Stop.{HoldsBack}
 
 -- this value is the number of the job, as SQL compares them
@@ -60,9 +63,13 @@ pub record HasTaken (s : State) (db : Database) : Type 0 where
   pub settled : s.now ≡ s.committed
   pub taken : IsTaken db s.now
 
--- a database with no tables has become an empty store, and one with ours has all tables, and the rows that it had
+-- a database with ours has got all tables, and has the rows that it had
+abbrev pub HasBecome : Database → State → Type 0
+HasBecome db new = IsOurs db × HasTaken new db
+
+-- so it has, or one with no tables has become an empty store
 abbrev pub Adopts : Database → State → Type 0
-Adopts db new = ((db.schema ≡ no_tables) × IsAtRest new empty_queue empty_ledger) ⊎ (IsOurs db × HasTaken new db)
+Adopts db new = ((db.schema ≡ no_tables) × IsAtRest new empty_queue empty_ledger) ⊎ HasBecome db new
 
 -- the job has a canonical number to dial
 abbrev pub HasDial : Row → Type 0
@@ -105,6 +112,19 @@ pub record Turns {A E : Type 0} (P : State → Type 0) (Q : Database → Databas
   pub goes : Goes P Q old new result
   pub crash : HoldsBack P old new
   pub clean : HasCleanDisk new → HasCleanDisk old
+
+-- So does one that is refused only for want of an answer of the database.
+pub record TurnsOrUnavailable {A : Type 0} (P : State → Type 0) (Q : Database → Database → Type 0) (old new : State) (result : Result A StoreFault) : Type 0 where
+  pub leaves : Turns P Q old new result
+  pub cause : IfErr result (λ fault. fault ≡ Unavailable)
+
+-- A look at all tables, within a transaction: the answer tells that X holds of their rows, and all stays as it is. They are strange only where X doesn't hold. Nothing is committed.
+pub record Tests {A : Type 0} (X : Database → Type 0) (old new : State) (result : Result A StoreFault) : Type 0 where
+  pub ours : HasTables old → HasCleanDisk new → OnOk result (X old.now × IsUnchanged old new)
+  pub left : HasCleanDisk new → HasTables old → OnErr result (KeepsCommit old new)
+  pub clean : HasCleanDisk new → HasCleanDisk old
+  pub crash : CommitsNothing old new
+  pub strange : HasTables old → HasCleanDisk new → result ≡ Err Strange → ¬ X old.now
 
 -- a transaction is under way in an open database, over these tables
 pub record IsIn (Ours : Schema → Type 0) (s : State) : Type 0 where
@@ -214,3 +234,57 @@ AreTaken db found = (after : Database) × (after.trees ≡ found) × IsOurs db �
 -- what adopting makes of a database: the rows of an empty store where it had no tables, or those that it had
 abbrev pub AreAdopted : Database → Trees → Type 0
 AreAdopted db found = ((db.schema ≡ no_tables) × RowsFound found empty_queue empty_ledger) ⊎ AreTaken db found
+
+-- ---- what it comes to
+
+-- A call with a transaction of its own. Where it is refused, the last commit stands. Where it is done, the store serves, as long as the disk is clean. A store that serves did before.
+pub record Settles {A : Type 0} (old new : State) (result : Result A StoreFault) : Type 0 where
+  pub kept : HasCleanDisk new → OnErr result (KeepsCommit old new)
+  pub served : Serves new → Serves old
+  pub clean : HasCleanDisk new → HasCleanDisk old
+  pub opens : OnOk result (HasCleanDisk new → Serves new)
+
+-- So are the tables made of an empty store, all or none. That is refused only for want of an answer of the database.
+pub record Founds {A : Type 0} (old new : State) (result : Result A StoreFault) : Type 0 where
+  pub settles : Settles old new result
+  pub made : HasCleanDisk new → OnOk result (IsAtRest new empty_queue empty_ledger)
+  pub crash : MayMake old new (λ found. RowsFound found empty_queue empty_ledger)
+  pub cause : IfErr result (λ fault. fault ≡ Unavailable)
+
+-- So is a database taken: Made holds of what was there and of what it has become, and Left of what was there and of the rows that a crash leaves. Rows that mean a queue and kept replies do so still. It is strange only where it isn't Fit, and then nothing is committed.
+pub record Takes {A : Type 0} (Made : Database → State → Type 0) (Left : Database → Trees → Type 0) (Fit : Database → Type 0) (old new : State) (result : Result A StoreFault) : Type 0 where
+  pub settles : Settles old new result
+  pub taken : HasCleanDisk new → OnOk result (Made old.now new)
+  pub means : (m : Queue) (k : Ledger) → HasCleanDisk new → OnOk result (AreOurs old.now.schema → RowsMean old.now m k → IsAtRest new m k)
+  pub crash : MayMake old new (Left old.now)
+  pub nothing : result ≡ Err Strange → CommitsNothing old new
+  pub strange : HasCleanDisk new → result ≡ Err Strange → ¬ Fit old.now
+
+-- A store has the database, and serves. What it means is what the tables or their rows meant, whether they were a store's or what a crash left.
+pub record IsAdopted (old new : State) : Type 0 where
+  pub adopts : HasCleanDisk new → Adopts old.now new
+  pub means : (m : Queue) (k : Ledger) → Means old m k → Means new m k
+  pub means_rows : (m : Queue) (k : Ledger) → AreOurs old.now.schema → RowsMean old.now m k → Means new m k
+  pub reopens : (m : Queue) (k : Ledger) → RowsFound old.now.trees m k → IsDatabase old.now → Means new m k
+  pub served : Serves new → Serves old
+  pub clean : HasCleanDisk new → HasCleanDisk old
+  pub opens : HasCleanDisk new → Serves new
+  pub crash : MayMake old new (AreAdopted old.now)
+  pub alone : Serves new → LeavesAlone new new.committed.trees
+
+-- The database comes back as it was, with no transaction open. It was strange only where it can't be adopted, and then nothing was committed.
+pub record IsGivenBack (old new : State) (fault : StoreFault) : Type 0 where
+  pub back : GoesBack old new
+  pub crash_before : MayMake old new (AreAdopted old.now)
+  pub nothing : fault ≡ Strange → CommitsNothing old new
+  pub served_before : Serves new → Serves old
+  pub clean_before : HasCleanDisk new → HasCleanDisk old
+  pub strange : HasCleanDisk new → fault ≡ Strange → ¬ IsAdoptable old.now
+
+-- ---- a call counted
+
+-- Calls are counted, from small counts to small ones. Nothing is committed.
+pub record Counts {A : Type 0} (old new : State) (result : Result A StoreFault) : Type 0 where
+  pub set : (count : List ℕ → ℕ) → HasCalls old count → AreSmall count → HasCleanDisk new → MatchResult result (λ _. HasSet old new) (λ _. KeepsCommit old new)
+  pub crash : Withholds old false new (is_err result)
+  pub clean : HasCleanDisk new → HasCleanDisk old

@@ -1,5 +1,5 @@
 -- What a call leaves of a store, and of a work on it.
-use Rattle.std.specs.Prelude.{◌≡◌, false, IfOk, OnOk, Err, Result, is_err, IsTrue}
+use Rattle.std.specs.Prelude.{◌≡◌, false, IfErr, IfOk, OnOk, Err, Result, is_err, IsTrue}
 use Rattle.sqlite.specs.Effect.{Database}
 use Rattle.sqlite.specs.Held.{state}
 use Rattle.sqlite.specs.State.{State, HasCleanDisk}
@@ -8,7 +8,7 @@ use Rattle.fax_core.specs.Ledger.{Ledger}
 use Rattle.fax_core.specs.Queue.{Queue}
 use Rattle.fax_schema.specs.Schema.{our_tables}
 use Rattle.fax_store.specs.Store.{CommitsNothing, HasTables, MeansNow, Reads, Serves, Stays}
-use Rattle.fax_store.specs.Work.{AnswersIn, Changes, ChangesWhere, Holds, IsOnlyUnavailable, Keeps, Withholds}
+use Rattle.fax_store.specs.Work.{AnswersIn, Changes, ChangesWhere, Holds, IsOnlyUnavailable, Keeps, Moves, Steps, Withholds, Works}
 use Rattle.fax_store.specs.declared.store.Store.{Store}
 use Rattle.fax_store.specs.declared.work.Work.{Work}
 use Rattle.fax_tables.specs.Fault.{OrUnavailable}
@@ -49,12 +49,36 @@ module _ {S : Type 0} (g : Ghosts S) where
   abbrev pub AnswersRows : {A : Type 0} → Store S → Store S → Result A StoreFault → (Database → A → Type 0) → Type 0
   AnswersRows old new result P = (db : Database) → db.schema ≡ our_tables → (shown old).now ≡ db → HasCleanDisk (shown new) → IfOk result (P db)
 
-  -- The call changes rows within a work, and commits nothing.
+  -- A call within a work changes rows, and commits nothing.
   pub record Runs {A : Type 0} (old new : Store S) (result : Result A StoreFault) : Type 0 where
     pub served : Serves (shown new) → Serves (shown old)
     pub clean : HasCleanDisk (shown new) → HasCleanDisk (shown old)
     pub holds : Holds (shown old) false (shown new) (is_err result)
     pub crash : Withholds (shown old) false (shown new) (is_err result)
+
+  -- It makes this of what the tables mean. Only for want of an answer of the database is it refused.
+  pub record Writes {A : Type 0} (old new : Store S) (result : Result A StoreFault) (f : Queue → Queue) (h : Ledger → Ledger) : Type 0 where
+    pub leaves : Runs old new result
+    pub written : (m₀ m : Queue) (k₀ k : Ledger) → Works (shown old) false m₀ k₀ m k → Serves (shown new) → Steps (shown new) result m₀ k₀ (f m) (h k)
+    pub cause : IfErr result (λ fault. fault ≡ Unavailable)
+
+  -- So it does of a queue of which P holds.
+  pub record WritesWhere {A : Type 0} (old new : Store S) (result : Result A StoreFault) (P : Queue → Type 0) (f : Queue → Queue) (h : Ledger → Ledger) : Type 0 where
+    pub leaves : Runs old new result
+    pub written : (m₀ m : Queue) (k₀ k : Ledger) → P m → Works (shown old) false m₀ k₀ m k → Serves (shown new) → Steps (shown new) result m₀ k₀ (f m) (h k)
+    pub cause : IfErr result (λ fault. fault ≡ Unavailable)
+
+  -- It makes this of what the tables mean. Where that is Fit, only for want of an answer of the database is it refused.
+  pub record WritesIf {A : Type 0} (old new : Store S) (result : Result A StoreFault) (Fit : Queue → Ledger → Type 0) (f : Queue → Queue) (h : Ledger → Ledger) : Type 0 where
+    pub leaves : Runs old new result
+    pub written : (m₀ m : Queue) (k₀ k : Ledger) → Works (shown old) false m₀ k₀ m k → Serves (shown new) → Moves (shown new) result m₀ k₀ (f m) (h k)
+    pub cause : IsOnlyUnavailable (shown old) false (shown new) result Fit
+
+  -- So it does of a queue of which P holds.
+  pub record WritesIfWhere {A : Type 0} (old new : Store S) (result : Result A StoreFault) (P : Queue → Type 0) (Fit : Queue → Ledger → Type 0) (f : Queue → Queue) (h : Ledger → Ledger) : Type 0 where
+    pub leaves : Runs old new result
+    pub written : (m₀ m : Queue) (k₀ k : Ledger) → P m → Works (shown old) false m₀ k₀ m k → Serves (shown new) → Moves (shown new) result m₀ k₀ (f m) (h k)
+    pub cause : IsOnlyUnavailable (shown old) false (shown new) result Fit
 
   -- ---- calls of a work
 
@@ -76,19 +100,44 @@ module _ {S : Type 0} (g : Ghosts S) where
     pub fails : new.failed ≡ is_err result
     pub refused : IsTrue old.failed → result ≡ Err Unavailable
 
-  -- The work stays as it is, and of what it means the answer is one of which this holds.
+  -- The call leaves what the work means, and of that the answer is one of which this holds.
   pub record Tells {A : Type 0} (old new : Work S) (result : Result A StoreFault) (P : Queue → Ledger → A → Type 0) : Type 0 where
+    pub leaves : Calls old new result
     pub keeps : Keeps (within old) old.failed (within new) new.failed
     pub found : AnswersIn (within old) old.failed (within new) result P
 
   -- what the work means becomes this
-  abbrev pub Makes : Work S → Work S → (Queue → Queue) → (Ledger → Ledger) → Type 0
-  Makes old new f h = Changes (within old) old.failed (within new) new.failed f h
+  abbrev pub Becomes : Work S → Work S → (Queue → Queue) → (Ledger → Ledger) → Type 0
+  Becomes old new f h = Changes (within old) old.failed (within new) new.failed f h
 
   -- so does a queue of which P holds
-  abbrev pub MakesWhere : Work S → Work S → (Queue → Type 0) → (Queue → Queue) → (Ledger → Ledger) → Type 0
-  MakesWhere old new P f h = ChangesWhere P (within old) old.failed (within new) new.failed f h
+  abbrev pub BecomesWhere : Work S → Work S → (Queue → Type 0) → (Queue → Queue) → (Ledger → Ledger) → Type 0
+  BecomesWhere old new P f h = ChangesWhere P (within old) old.failed (within new) new.failed f h
 
   -- where this holds of what the work means, the call is refused for want of an answer of the database alone
   abbrev pub FailsOnly : {A : Type 0} → Work S → Work S → Result A StoreFault → (Queue → Ledger → Type 0) → Type 0
   FailsOnly old new result P = IsOnlyUnavailable (within old) old.failed (within new) result P
+
+  -- The call makes this of what the work means. Only for want of an answer of the database is it refused.
+  pub record Makes {A : Type 0} (old new : Work S) (result : Result A StoreFault) (f : Queue → Queue) (h : Ledger → Ledger) : Type 0 where
+    pub leaves : Calls old new result
+    pub changes : Becomes old new f h
+    pub cause : IfErr result (λ fault. fault ≡ Unavailable)
+
+  -- So it does of a queue of which P holds.
+  pub record MakesWhere {A : Type 0} (old new : Work S) (result : Result A StoreFault) (P : Queue → Type 0) (f : Queue → Queue) (h : Ledger → Ledger) : Type 0 where
+    pub leaves : Calls old new result
+    pub changes : BecomesWhere old new P f h
+    pub cause : IfErr result (λ fault. fault ≡ Unavailable)
+
+  -- The call makes this of what the work means. Where that is Fit, only for want of an answer of the database is it refused.
+  pub record MakesIf {A : Type 0} (old new : Work S) (result : Result A StoreFault) (Fit : Queue → Ledger → Type 0) (f : Queue → Queue) (h : Ledger → Ledger) : Type 0 where
+    pub leaves : Calls old new result
+    pub changes : Becomes old new f h
+    pub cause : FailsOnly old new result Fit
+
+  -- So it does of a queue of which P holds.
+  pub record MakesIfWhere {A : Type 0} (old new : Work S) (result : Result A StoreFault) (P : Queue → Type 0) (Fit : Queue → Ledger → Type 0) (f : Queue → Queue) (h : Ledger → Ledger) : Type 0 where
+    pub leaves : Calls old new result
+    pub changes : BecomesWhere old new P f h
+    pub cause : FailsOnly old new result Fit

@@ -1,21 +1,19 @@
 //! How a store comes to a database, and how it gives it back.
 
-ghost use Rattle.std.specs.Prelude.{◌≡◌, ◌+◌, ◌<◌, ◌^◌, ℕ, false, [], ◌∷◌, length, Err, IfErr, IfOk, is_err, List, MatchResult, OnErr, OnOk, Some};
-ghost use Rattle.sqlite.specs.Effect.{IsDatabase};
+ghost use Rattle.std.specs.Prelude.{◌≡◌, ◌+◌, ◌<◌, ◌^◌, ℕ, false, [], ◌∷◌, length, Err, IfErr, IfOk, List, MatchResult, OnOk, Some};
 ghost use Rattle.sqlite.specs.Held.{state};
-ghost use Rattle.sqlite.specs.State.{HasCleanDisk, IsUnchanged, KeepsCommit};
+ghost use Rattle.sqlite.specs.State.{HasCleanDisk};
 ghost use Rattle.fax_core.specs.Job.{Job as OneJob};
-ghost use Rattle.fax_core.specs.Ledger.{Ledger, empty_ledger};
-ghost use Rattle.fax_core.specs.Queue.{Queue, empty_queue, job_numbered};
-ghost use Rattle.fax_store.specs.Calls.{shown};
+ghost use Rattle.fax_core.specs.Ledger.{Ledger};
+ghost use Rattle.fax_core.specs.Queue.{Queue, job_numbered};
+ghost use Rattle.fax_store.specs.Calls.{Finds, shown};
 ghost use Rattle.sqlite_rules.specs.Lists.{Has};
-ghost use Rattle.fax_store.specs.Adopt.{Adopts, AreAdopted, AreCallable, AreOfJobs, AreCore, AreSmall, AreStores, AreTaken, CanBeCalled, CoreMeans, HasNone, HasSet, HasTaken, HoldJobs, HoldsCanBeCalled, IsAdoptable, IsFilled, IsIn, IsOurs, IsSettled, IsTakeable, IsWhole, Leaves, MeansAs, Turns, held_to};
+ghost use Rattle.fax_store.specs.Adopt.{Adopts, AreAdopted, AreCallable, AreOfJobs, AreCore, AreSmall, AreStores, AreTaken, CanBeCalled, CoreMeans, Counts, Founds, HasBecome, HasNone, HoldJobs, HoldsCanBeCalled, IsAdoptable, IsAdopted, IsFilled, IsGivenBack, IsIn, IsSettled, IsTakeable, IsWhole, Leaves, MeansAs, Takes, Tests, Turns, TurnsOrUnavailable, held_to};
 ghost use Rattle.fax_store.specs.Grant.{HasCalls, SetsCalls, with_count};
-ghost use Rattle.fax_store.specs.Store.{CommitsNothing, GoesBack, HasTables, LeavesAlone, MayMake, Means, Reads, RowsFound, Serves};
-ghost use Rattle.fax_store.specs.Work.{Withholds};
+ghost use Rattle.fax_store.specs.Store.{HasTables};
 ghost use Rattle.fax_tables.specs.Row.{number};
 ghost use Rattle.fax_schema.specs.Schema.{AreInOrder, AreOurs, no_tables, core_tables, without_calls};
-ghost use Rattle.fax_tables.specs.Tables.{HasNewCalls, IsAtRest, RowsMean, TablesMean, version_of, versions};
+ghost use Rattle.fax_tables.specs.Tables.{HasNewCalls, TablesMean, version_of, versions};
 
 use crate::store::{BEGIN, COMMIT, Store};
 use fax_job::Dial;
@@ -52,35 +50,8 @@ impl<S: Alter> Store<S> {
         conn: Connection<S>,
     ) -> Result<Store<S>, (StoreFault, Connection<S>)>
         requires { (state S.Store conn).in_transaction ≡ false }
-        ensures adopts { IfOk result (λ store. HasCleanDisk (state S.Store store.conn)
-            → Adopts (state S.Store conn).now (state S.Store store.conn)) }
-        ensures means { IfOk result (λ store. (m : Queue) (k : Ledger) → Means (state S.Store conn) m k
-            → Means (state S.Store store.conn) m k) }
-        ensures means_rows { IfOk result (λ store. (m : Queue) (k : Ledger)
-            → AreOurs (state S.Store conn).now.schema → RowsMean (state S.Store conn).now m k
-            → Means (state S.Store store.conn) m k) }
-        ensures served { IfOk result (λ store. Serves (state S.Store store.conn) → Serves (state S.Store conn)) }
-        ensures clean { IfOk result (λ store. HasCleanDisk (state S.Store store.conn)
-            → HasCleanDisk (state S.Store conn)) }
-        ensures opens { IfOk result (λ store. HasCleanDisk (state S.Store store.conn)
-            → Serves (state S.Store store.conn)) }
-        ensures reopens { IfOk result (λ store. (m : Queue) (k : Ledger)
-            → RowsFound (state S.Store conn).now.trees m k → IsDatabase (state S.Store conn).now
-            → Means (state S.Store store.conn) m k) }
-        ensures crash { IfOk result (λ store. MayMake (state S.Store conn) (state S.Store store.conn) (AreAdopted
-            (state S.Store conn).now)) }
-        ensures alone { IfOk result (λ store. Serves (state S.Store store.conn)
-            → LeavesAlone (state S.Store store.conn) (state S.Store store.conn).committed.trees) }
-        ensures crash_before { IfErr result (λ e. MayMake (state S.Store conn) (state S.Store e.1) (AreAdopted
-            (state S.Store conn).now)) }
-        ensures nothing { IfErr result (λ e. e.0 ≡ StoreFault.Strange
-            → CommitsNothing (state S.Store conn) (state S.Store e.1)) }
-        ensures back { IfErr result (λ e. GoesBack (state S.Store conn) (state S.Store e.1)) }
-        ensures served_before { IfErr result (λ e. Serves (state S.Store e.1) → Serves (state S.Store conn)) }
-        ensures clean_before { IfErr result (λ e. HasCleanDisk (state S.Store e.1)
-            → HasCleanDisk (state S.Store conn)) }
-        ensures strange { IfErr result (λ e. HasCleanDisk (state S.Store e.1) → e.0 ≡ StoreFault.Strange
-            → ¬ IsAdoptable (state S.Store conn).now) }
+        ensures { MatchResult result (λ store. IsAdopted (state S.Store conn) (state S.Store store.conn))
+            (λ e. IsGivenBack (state S.Store conn) (state S.Store e.1) e.0) }
     {
         // So what it shows is committed.
         let is_idle = conn.is_autocommit();
@@ -105,22 +76,7 @@ impl<S: Alter> Store<S> {
 
     /// Makes the tables in a database with none, and takes one with ours.
     fn take_tables(&mut self) -> Result<(), StoreFault>
-        ensures taken { HasCleanDisk (shown S.Store self.new)
-            → OnOk result (Adopts (shown S.Store self.old).now (shown S.Store self.new)) }
-        ensures means { (m : Queue) (k : Ledger) → HasCleanDisk (shown S.Store self.new)
-            → OnOk result (AreOurs (shown S.Store self.old).now.schema → RowsMean (shown S.Store self.old).now m k
-            → IsAtRest (shown S.Store self.new) m k) }
-        ensures kept { HasCleanDisk (shown S.Store self.new)
-            → OnErr result (KeepsCommit (shown S.Store self.old) (shown S.Store self.new)) }
-        ensures served { Serves (shown S.Store self.new) → Serves (shown S.Store self.old) }
-        ensures clean { HasCleanDisk (shown S.Store self.new) → HasCleanDisk (shown S.Store self.old) }
-        ensures opens { OnOk result (HasCleanDisk (shown S.Store self.new) → Serves (shown S.Store self.new)) }
-        ensures crash { MayMake (shown S.Store self.old) (shown S.Store self.new) (AreAdopted
-            (shown S.Store self.old).now) }
-        ensures nothing { result ≡ Err StoreFault.Strange
-            → CommitsNothing (shown S.Store self.old) (shown S.Store self.new) }
-        ensures strange { HasCleanDisk (shown S.Store self.new) → result ≡ Err StoreFault.Strange
-            → ¬ IsAdoptable (shown S.Store self.old).now }
+        ensures { Takes Adopts AreAdopted IsAdoptable (shown S.Store self.old) (shown S.Store self.new) result }
     {
         if has_no_tables(self.conn.schema()) {
             self.make_tables()
@@ -134,16 +90,7 @@ impl<S: Alter> Store<S> {
     /// Makes the tables of an empty store, all of them or none.
     pub(crate) fn make_tables(&mut self) -> Result<(), StoreFault>
         requires { (shown S.Store self.old).now.schema ≡ no_tables }
-        ensures made { HasCleanDisk (shown S.Store self.new)
-            → OnOk result (IsAtRest (shown S.Store self.new) empty_queue empty_ledger) }
-        ensures kept { HasCleanDisk (shown S.Store self.new)
-            → OnErr result (KeepsCommit (shown S.Store self.old) (shown S.Store self.new)) }
-        ensures served { Serves (shown S.Store self.new) → Serves (shown S.Store self.old) }
-        ensures clean { HasCleanDisk (shown S.Store self.new) → HasCleanDisk (shown S.Store self.old) }
-        ensures opens { OnOk result (HasCleanDisk (shown S.Store self.new) → Serves (shown S.Store self.new)) }
-        ensures crash { MayMake (shown S.Store self.old) (shown S.Store self.new)
-            (λ found. RowsFound found empty_queue empty_ledger) }
-        ensures cause { IfErr result (λ fault. fault ≡ StoreFault.Unavailable) }
+        ensures { Founds (shown S.Store self.old) (shown S.Store self.new) result }
     {
         self.conn.execute(BEGIN, &[])?;
         create_tables(&mut self.conn)?;
@@ -154,21 +101,7 @@ impl<S: Alter> Store<S> {
     /// Takes a database with our tables: it gets what it lacks, and its calls are counted anew.
     fn take_ours(&mut self) -> Result<(), StoreFault>
         requires { AreOurs (shown S.Store self.old).now.schema }
-        ensures made { HasCleanDisk (shown S.Store self.new) → OnOk result (IsOurs (shown S.Store self.old).now
-            × HasTaken (shown S.Store self.new) (shown S.Store self.old).now) }
-        ensures means { (m : Queue) (k : Ledger) → HasCleanDisk (shown S.Store self.new)
-            → OnOk result (RowsMean (shown S.Store self.old).now m k → IsAtRest (shown S.Store self.new) m k) }
-        ensures kept { HasCleanDisk (shown S.Store self.new)
-            → OnErr result (KeepsCommit (shown S.Store self.old) (shown S.Store self.new)) }
-        ensures served { Serves (shown S.Store self.new) → Serves (shown S.Store self.old) }
-        ensures clean { HasCleanDisk (shown S.Store self.new) → HasCleanDisk (shown S.Store self.old) }
-        ensures opens { OnOk result (HasCleanDisk (shown S.Store self.new) → Serves (shown S.Store self.new)) }
-        ensures crash { MayMake (shown S.Store self.old) (shown S.Store self.new) (AreTaken
-            (shown S.Store self.old).now) }
-        ensures nothing { result ≡ Err StoreFault.Strange
-            → CommitsNothing (shown S.Store self.old) (shown S.Store self.new) }
-        ensures strange { HasCleanDisk (shown S.Store self.new) → result ≡ Err StoreFault.Strange
-            → ¬ IsTakeable (shown S.Store self.old).now }
+        ensures { Takes HasBecome AreTaken IsTakeable (shown S.Store self.old) (shown S.Store self.new) result }
     {
         let version = version_in(self.conn.schema());
         self.conn.execute(BEGIN, &[])?;
@@ -180,21 +113,18 @@ impl<S: Alter> Store<S> {
 
     /// Makes `calls` anew, with no rows, floors where the version is 1, and the indexes of jobs where there are none.
     fn renew(&mut self) -> Result<(), StoreFault>
-        ensures leaves { Turns (IsIn AreOurs) HasNewCalls (shown S.Store self.old) (shown S.Store self.new) result }
-        ensures cause { IfErr result (λ fault. fault ≡ StoreFault.Unavailable) }
+        ensures { TurnsOrUnavailable (IsIn AreOurs) HasNewCalls (shown S.Store self.old) (shown S.Store self.new) result }
     {
         self.lose_indexes()?;
         self.lose_calls()?;
         self.get_core()?;
-        create_calls(&mut self.conn)?;
-        Ok(())
+        self.make_calls()
     }
 
     /// Takes the indexes of jobs away where they are the last and not a store's. They are made again before `calls`.
     fn lose_indexes(&mut self) -> Result<(), StoreFault>
-        ensures leaves { Turns (IsIn AreOurs) (Leaves AreInOrder) (shown S.Store self.old)
+        ensures { TurnsOrUnavailable (IsIn AreOurs) (Leaves AreInOrder) (shown S.Store self.old)
             (shown S.Store self.new) result }
-        ensures cause { IfErr result (λ fault. fault ≡ StoreFault.Unavailable) }
     {
         if !has_indexes_last(self.alloc, self.conn.schema())? {
             return Ok(());
@@ -205,9 +135,8 @@ impl<S: Alter> Store<S> {
 
     /// Takes `calls` away where it is there.
     fn lose_calls(&mut self) -> Result<(), StoreFault>
-        ensures leaves { Turns (IsIn AreInOrder) (Leaves AreCore) (shown S.Store self.old)
+        ensures { TurnsOrUnavailable (IsIn AreInOrder) (Leaves AreCore) (shown S.Store self.old)
             (shown S.Store self.new) result }
-        ensures cause { IfErr result (λ fault. fault ≡ StoreFault.Unavailable) }
     {
         if !has_calls(self.alloc, self.conn.schema())? {
             return Ok(());
@@ -218,9 +147,8 @@ impl<S: Alter> Store<S> {
 
     /// Makes floors and the indexes of jobs, where they aren't there.
     fn get_core(&mut self) -> Result<(), StoreFault>
-        ensures leaves { Turns (IsIn AreCore) (Leaves (λ schema. schema ≡ core_tables)) (shown S.Store self.old)
+        ensures { TurnsOrUnavailable (IsIn AreCore) (Leaves (λ schema. schema ≡ core_tables)) (shown S.Store self.old)
             (shown S.Store self.new) result }
-        ensures cause { IfErr result (λ fault. fault ≡ StoreFault.Unavailable) }
     {
         self.lose_first_indexes()?;
         self.get_indexes()
@@ -228,9 +156,8 @@ impl<S: Alter> Store<S> {
 
     /// Takes the indexes of jobs away where the version is 1, so that floors come before them.
     fn lose_first_indexes(&mut self) -> Result<(), StoreFault>
-        ensures leaves { Turns (IsIn AreCore) (Leaves (Has without_calls)) (shown S.Store self.old)
+        ensures { TurnsOrUnavailable (IsIn AreCore) (Leaves (Has without_calls)) (shown S.Store self.old)
             (shown S.Store self.new) result }
-        ensures cause { IfErr result (λ fault. fault ≡ StoreFault.Unavailable) }
     {
         if !has_first_indexes(self.alloc, self.conn.schema())? {
             return Ok(());
@@ -241,9 +168,8 @@ impl<S: Alter> Store<S> {
 
     /// Makes floors where the version is 1, and the indexes of jobs where there are none.
     fn get_indexes(&mut self) -> Result<(), StoreFault>
-        ensures leaves { Turns (IsIn (Has without_calls)) (Leaves (λ schema. schema ≡ core_tables))
+        ensures { TurnsOrUnavailable (IsIn (Has without_calls)) (Leaves (λ schema. schema ≡ core_tables))
             (shown S.Store self.old) (shown S.Store self.new) result }
-        ensures cause { IfErr result (λ fault. fault ≡ StoreFault.Unavailable) }
     {
         self.get_floors()?;
         self.make_indexes()
@@ -251,9 +177,8 @@ impl<S: Alter> Store<S> {
 
     /// Makes floors, with no rows, where the version is 1.
     fn get_floors(&mut self) -> Result<(), StoreFault>
-        ensures leaves { Turns (IsIn (Has without_calls)) (Leaves AreStores) (shown S.Store self.old)
+        ensures { TurnsOrUnavailable (IsIn (Has without_calls)) (Leaves AreStores) (shown S.Store self.old)
             (shown S.Store self.new) result }
-        ensures cause { IfErr result (λ fault. fault ≡ StoreFault.Unavailable) }
     {
         if !has_first_bare(self.alloc, self.conn.schema())? {
             return Ok(());
@@ -264,14 +189,22 @@ impl<S: Alter> Store<S> {
 
     /// Makes the indexes of jobs where there are none.
     fn make_indexes(&mut self) -> Result<(), StoreFault>
-        ensures leaves { Turns (IsIn AreStores) (Leaves (λ schema. schema ≡ core_tables)) (shown S.Store self.old)
+        ensures { TurnsOrUnavailable (IsIn AreStores) (Leaves (λ schema. schema ≡ core_tables)) (shown S.Store self.old)
             (shown S.Store self.new) result }
-        ensures cause { IfErr result (λ fault. fault ≡ StoreFault.Unavailable) }
     {
         if !has_bare_tables(self.alloc, self.conn.schema())? {
             return Ok(());
         }
         create_indexes(&mut self.conn)?;
+        Ok(())
+    }
+
+    /// Makes `calls`, with no rows.
+    fn make_calls(&mut self) -> Result<(), StoreFault>
+        ensures { TurnsOrUnavailable (IsIn (λ schema. schema ≡ core_tables)) HasNewCalls (shown S.Store self.old)
+            (shown S.Store self.new) result }
+    {
+        create_calls(&mut self.conn)?;
         Ok(())
     }
 
@@ -305,15 +238,8 @@ impl<S: Alter> Store<S> {
 
     /// Tests whether meta has one row, of this version.
     fn test_version(&mut self, version: u32) -> Result<(), StoreFault>
-        ensures ours { HasTables (shown S.Store self.old) → HasCleanDisk (shown S.Store self.new)
-            → OnOk result ((versions (shown S.Store self.old).now ≡ number version ∷ [])
-            × IsUnchanged (shown S.Store self.old) (shown S.Store self.new)) }
-        ensures left { HasCleanDisk (shown S.Store self.new) → HasTables (shown S.Store self.old)
-            → OnErr result (KeepsCommit (shown S.Store self.old) (shown S.Store self.new)) }
-        ensures clean { HasCleanDisk (shown S.Store self.new) → HasCleanDisk (shown S.Store self.old) }
-        ensures crash { CommitsNothing (shown S.Store self.old) (shown S.Store self.new) }
-        ensures strange { HasTables (shown S.Store self.old) → HasCleanDisk (shown S.Store self.new)
-            → result ≡ Err StoreFault.Strange → ¬ (versions (shown S.Store self.old).now ≡ number version ∷ []) }
+        ensures { Tests (λ db. versions db ≡ number version ∷ []) (shown S.Store self.old) (shown S.Store self.new)
+            result }
     {
         let rows = self.show(SELECT_VERSION, &[])?;
         if is_version(rows.as_slice(), version) {
@@ -325,15 +251,7 @@ impl<S: Alter> Store<S> {
 
     /// Tests whether each hold is of a job that is there.
     fn test_holds(&mut self) -> Result<(), StoreFault>
-        ensures ours { HasTables (shown S.Store self.old) → HasCleanDisk (shown S.Store self.new)
-            → OnOk result (HoldJobs (shown S.Store self.old).now
-            × IsUnchanged (shown S.Store self.old) (shown S.Store self.new)) }
-        ensures left { HasCleanDisk (shown S.Store self.new) → HasTables (shown S.Store self.old)
-            → OnErr result (KeepsCommit (shown S.Store self.old) (shown S.Store self.new)) }
-        ensures clean { HasCleanDisk (shown S.Store self.new) → HasCleanDisk (shown S.Store self.old) }
-        ensures crash { CommitsNothing (shown S.Store self.old) (shown S.Store self.new) }
-        ensures strange { HasTables (shown S.Store self.old) → HasCleanDisk (shown S.Store self.new)
-            → result ≡ Err StoreFault.Strange → ¬ HoldJobs (shown S.Store self.old).now }
+        ensures { Tests HoldJobs (shown S.Store self.old) (shown S.Store self.new) result }
     {
         let lost = self.show(SELECT_LOST, &[])?;
         if lost.len() > 0 {
@@ -357,16 +275,11 @@ impl<S: Alter> Store<S> {
 
     /// Counts a call for each of these rows, which has the number of a job.
     fn count_rows(&mut self, rows: &[Row]) -> Result<(), StoreFault>
-        ensures set { (count : List ℕ → ℕ) → HasCalls (shown S.Store self.old) count → AreSmall count
-            → HasCleanDisk (shown S.Store self.new)
-            → MatchResult result (λ _. HasSet (shown S.Store self.old) (shown S.Store self.new)) (λ _. KeepsCommit
-            (shown S.Store self.old) (shown S.Store self.new)) }
+        ensures counts { Counts (shown S.Store self.old) (shown S.Store self.new) result }
         ensures counted { (m : Queue) (k : Ledger) → CoreMeans (shown S.Store self.old).now m k
             → AreOfJobs m rows.now → length rows.now < 2 ^ 32 → HasCalls (shown S.Store self.old) (λ _. 0)
             → HasCleanDisk (shown S.Store self.new)
             → OnOk result (SetsCalls (shown S.Store self.old) (shown S.Store self.new) (held_to m rows.now)) }
-        ensures crash { Withholds (shown S.Store self.old) false (shown S.Store self.new) (is_err result) }
-        ensures clean { HasCleanDisk (shown S.Store self.new) → HasCleanDisk (shown S.Store self.old) }
         ensures cause { (count : List ℕ → ℕ) → AreCallable (shown S.Store self.old).now rows.now
             → HasCalls (shown S.Store self.old) count → AreSmall count → HasCleanDisk (shown S.Store self.new)
             → IfErr result (λ fault. fault ≡ StoreFault.Unavailable) }
@@ -379,18 +292,13 @@ impl<S: Alter> Store<S> {
 
     /// Counts a call to the number of the job that a row has.
     fn count_hold(&mut self, row: &Row) -> Result<(), StoreFault>
-        ensures set { (count : List ℕ → ℕ) → HasCalls (shown S.Store self.old) count → AreSmall count
-            → HasCleanDisk (shown S.Store self.new)
-            → MatchResult result (λ _. HasSet (shown S.Store self.old) (shown S.Store self.new)) (λ _. KeepsCommit
-            (shown S.Store self.old) (shown S.Store self.new)) }
+        ensures counts { Counts (shown S.Store self.old) (shown S.Store self.new) result }
         ensures counted { (m : Queue) (k : Ledger) (j : OneJob) (count : List ℕ → ℕ)
             → CoreMeans (shown S.Store self.old).now m k → row.now ≡ number j.number ∷ []
             → job_numbered j.number m ≡ Some j → count j.dial + 1 < 2 ^ 32 → HasCalls (shown S.Store self.old) count
             → HasCleanDisk (shown S.Store self.new)
             → OnOk result (SetsCalls (shown S.Store self.old) (shown S.Store self.new) (with_count j.dial
             (count j.dial + 1) count)) }
-        ensures crash { Withholds (shown S.Store self.old) false (shown S.Store self.new) (is_err result) }
-        ensures clean { HasCleanDisk (shown S.Store self.new) → HasCleanDisk (shown S.Store self.old) }
         ensures cause { (n : ℕ) (count : List ℕ → ℕ) → row.now ≡ number n ∷ []
             → CanBeCalled (shown S.Store self.old).now n → HasCalls (shown S.Store self.old) count → AreSmall count
             → HasCleanDisk (shown S.Store self.new) → IfErr result (λ fault. fault ≡ StoreFault.Unavailable) }
@@ -402,13 +310,10 @@ impl<S: Alter> Store<S> {
 
     /// The number to dial of a job.
     fn dial_of(&mut self, job: u32) -> Result<Dial, StoreFault>
-        ensures reads { HasTables (shown S.Store self.old) → HasCleanDisk (shown S.Store self.new)
-            → Reads (shown S.Store self.old) (shown S.Store self.new) result }
+        ensures leaves { Finds S.Store self.old self.new result }
         ensures answers { (m : Queue) (k : Ledger) (j : OneJob) → HasTables (shown S.Store self.old)
             → CoreMeans (shown S.Store self.old).now m k → job_numbered job m ≡ Some j
             → HasCleanDisk (shown S.Store self.new) → IfOk result (λ dial. dial ≡ j.dial) }
-        ensures crash { CommitsNothing (shown S.Store self.old) (shown S.Store self.new) }
-        ensures clean { HasCleanDisk (shown S.Store self.new) → HasCleanDisk (shown S.Store self.old) }
         ensures cause { HasTables (shown S.Store self.old) → CanBeCalled (shown S.Store self.old).now job
             → HasCleanDisk (shown S.Store self.new) → IfErr result (λ fault. fault ≡ StoreFault.Unavailable) }
     {
@@ -420,16 +325,11 @@ impl<S: Alter> Store<S> {
 
     /// Counts one more call to a number.
     fn add_call(&mut self, dial: &Dial) -> Result<(), StoreFault>
-        ensures set { (count : List ℕ → ℕ) → HasCalls (shown S.Store self.old) count → AreSmall count
-            → HasCleanDisk (shown S.Store self.new)
-            → MatchResult result (λ _. HasSet (shown S.Store self.old) (shown S.Store self.new)) (λ _. KeepsCommit
-            (shown S.Store self.old) (shown S.Store self.new)) }
+        ensures counts { Counts (shown S.Store self.old) (shown S.Store self.new) result }
         ensures counted { (count : List ℕ → ℕ) → HasCalls (shown S.Store self.old) count → count dial.now + 1 < 2 ^ 32
             → HasCleanDisk (shown S.Store self.new)
             → OnOk result (SetsCalls (shown S.Store self.old) (shown S.Store self.new) (with_count dial.now
             (count dial.now + 1) count)) }
-        ensures crash { Withholds (shown S.Store self.old) false (shown S.Store self.new) (is_err result) }
-        ensures clean { HasCleanDisk (shown S.Store self.new) → HasCleanDisk (shown S.Store self.old) }
         ensures cause { (count : List ℕ → ℕ) → HasCalls (shown S.Store self.old) count → AreSmall count
             → HasCleanDisk (shown S.Store self.new) → IfErr result (λ fault. fault ≡ StoreFault.Unavailable) }
     {

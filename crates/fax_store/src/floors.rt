@@ -1,13 +1,10 @@
 //! The floors: through which number each client has given up its replies.
 
 ghost use Rattle.std.specs.Prelude.{◌≡◌, ◌≤◌, ◌<◌, ◌^◌, false, IfErr, IfOk, IfSome};
-ghost use Rattle.fax_core.specs.Ledger.{Ledger, floors_with, given_up, with_floor, without_replies};
-ghost use Rattle.fax_core.specs.Queue.{Queue};
+ghost use Rattle.fax_core.specs.Ledger.{floors_with, given_up, with_floor, without_replies};
 ghost use Rattle.fax_value.specs.Name.{IsName};
-ghost use Rattle.fax_store.specs.Calls.{Answers, Calls, FailsOnly, Finds, Makes, Runs, Tells, shown};
+ghost use Rattle.fax_store.specs.Calls.{Answers, Finds, MakesIf, Tells, Writes, WritesIf, WritesWhere};
 ghost use Rattle.fax_store.specs.Floors.{Thins};
-ghost use Rattle.fax_store.specs.Store.{Serves};
-ghost use Rattle.fax_store.specs.Work.{IsOnlyUnavailable, Moves, Steps, Works};
 
 use crate::store::Store;
 use crate::work::Work;
@@ -61,11 +58,7 @@ impl<S: Alter> Store<S> {
     /// Takes the client's replies with numbers through this one away, all at once.
     fn drop_through(&mut self, client: &str, floor: u64) -> Result<(), StoreFault>
         requires { floor < 10 ^ 18 }
-        ensures leaves { Runs S.Store self.old self.new result }
-        ensures written { (m₀ m : Queue) (k₀ k : Ledger) → Works (shown S.Store self.old) false m₀ k₀ m k
-            → Serves (shown S.Store self.new)
-            → Steps (shown S.Store self.new) result m₀ k₀ m (without_replies client.now floor k) }
-        ensures cause { IfErr result (λ fault. fault ≡ StoreFault.Unavailable) }
+        ensures { Writes S.Store self.old self.new result (λ m. m) (without_replies client.now floor) }
     {
         self.run(DELETE_REPLIES, params![client, floor_value(floor)])
     }
@@ -103,11 +96,7 @@ impl<S: Alter> Store<S> {
     /// in memory until it ends, so no statement takes more than a hundred.
     fn drop_replies(&mut self, client: &str, floor: u64) -> Result<(), StoreFault>
         requires { floor < 10 ^ 18 }
-        ensures leaves { Runs S.Store self.old self.new result }
-        ensures written { (m₀ m : Queue) (k₀ k : Ledger) → Works (shown S.Store self.old) false m₀ k₀ m k
-            → Serves (shown S.Store self.new)
-            → Steps (shown S.Store self.new) result m₀ k₀ m (without_replies client.now floor k) }
-        ensures cause { IfErr result (λ fault. fault ≡ StoreFault.Unavailable) }
+        ensures { Writes S.Store self.old self.new result (λ m. m) (without_replies client.now floor) }
     {
         self.drop_hundreds(client, floor)?;
         self.drop_through(client, floor)
@@ -116,11 +105,8 @@ impl<S: Alter> Store<S> {
     /// Has the client's floor be this one, whatever it was.
     fn write_floor(&mut self, client: &str, floor: u64) -> Result<(), StoreFault>
         requires { (1 ≤ floor) × (floor < 10 ^ 18) }
-        ensures leaves { Runs S.Store self.old self.new result }
-        ensures written { (m₀ m : Queue) (k₀ k : Ledger) → Works (shown S.Store self.old) false m₀ k₀ m k
-            → Serves (shown S.Store self.new) → IsName client.now
-            → Steps (shown S.Store self.new) result m₀ k₀ m (record k { floor = floors_with client.now floor k.floor }) }
-        ensures cause { IfErr result (λ fault. fault ≡ StoreFault.Unavailable) }
+        ensures { WritesWhere S.Store self.old self.new result (λ m. IsName client.now) (λ m. m)
+            (λ k. record k { floor = floors_with client.now floor k.floor }) }
     {
         self.run(DELETE_FLOOR, params![client])?;
         self.run(INSERT_FLOOR, params![client, floor_value(floor)])
@@ -129,23 +115,16 @@ impl<S: Alter> Store<S> {
     /// Has the client's floor be this one, and takes its replies through it away.
     fn put_floor(&mut self, client: &str, floor: u64) -> Result<(), StoreFault>
         requires { (1 ≤ floor) × (floor < 10 ^ 18) }
-        ensures leaves { Runs S.Store self.old self.new result }
-        ensures written { (m₀ m : Queue) (k₀ k : Ledger) → Works (shown S.Store self.old) false m₀ k₀ m k
-            → Serves (shown S.Store self.new) → IsName client.now
-            → Steps (shown S.Store self.new) result m₀ k₀ m (with_floor client.now floor k) }
-        ensures cause { IfErr result (λ fault. fault ≡ StoreFault.Unavailable) }
+        ensures { WritesWhere S.Store self.old self.new result (λ m. IsName client.now) (λ m. m)
+            (with_floor client.now floor) }
     {
         self.drop_replies(client, floor)?;
         self.write_floor(client, floor)
     }
 
     fn raise_floor(&mut self, client: &str, upto: RequestNumber) -> Result<(), StoreFault>
-        ensures leaves { Runs S.Store self.old self.new result }
-        ensures written { (m₀ m : Queue) (k₀ k : Ledger) → Works (shown S.Store self.old) false m₀ k₀ m k
-            → Serves (shown S.Store self.new)
-            → Moves (shown S.Store self.new) result m₀ k₀ m (given_up client.now upto k) }
-        ensures cause { IsOnlyUnavailable (shown S.Store self.old) false (shown S.Store self.new) result
-            (λ m k. IsName client.now) }
+        ensures { WritesIf S.Store self.old self.new result (λ m k. IsName client.now) (λ m. m)
+            (given_up client.now upto) }
     {
         if !is_name(client.as_bytes()) {
             return Err(StoreFault::Strange);
@@ -162,7 +141,6 @@ impl<S: Alter> Work<'_, S> {
     ///
     /// `Unavailable`, or `Strange` where its row is no lawful record.
     pub fn floor(&mut self, client: &str) -> Result<u64, StoreFault>
-        ensures leaves { Calls S.Store self.old self.new result }
         ensures answers { Tells S.Store self.old self.new result (λ m k floor. floor ≡ k.floor client.now) }
         ensures lawful { IfOk result (λ floor. floor < 10 ^ 18) }
     {
@@ -180,9 +158,8 @@ impl<S: Alter> Work<'_, S> {
     ///
     /// `Unavailable`, or `Strange` where the client is no name, or its floor is no lawful record.
     pub fn give_up(&mut self, client: &str, upto: RequestNumber) -> Result<(), StoreFault>
-        ensures leaves { Calls S.Store self.old self.new result }
-        ensures changes { Makes S.Store self.old self.new (λ m. m) (given_up client.now upto) }
-        ensures cause { FailsOnly S.Store self.old self.new result (λ m k. IsName client.now) }
+        ensures { MakesIf S.Store self.old self.new result (λ m k. IsName client.now) (λ m. m)
+            (given_up client.now upto) }
     {
         if self.failed {
             return Err(StoreFault::Unavailable);

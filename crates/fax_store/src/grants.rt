@@ -8,11 +8,11 @@ ghost use Rattle.fax_core.specs.Ledger.{Ledger};
 ghost use Rattle.fax_core.specs.Queue.{Queue, grant_numbered};
 ghost use Rattle.fax_core.specs.State.{calls_to};
 ghost use Rattle.fax_value.specs.Limits.{most_pages};
-ghost use Rattle.fax_store.specs.Calls.{Answers, AnswersRows, Calls, FailsOnly, Finds, Makes, MakesWhere, Runs, Tells, shown};
+ghost use Rattle.fax_store.specs.Calls.{Answers, AnswersRows, BecomesWhere, Calls, Finds, MakesIf, Runs, Tells, WritesIf, WritesIfWhere, WritesWhere, shown};
 ghost use Rattle.fax_store.specs.Grant.{GrantStands, HasCalls, HasGrantRow, HasHoldRow, HoldStands, IsCalled, IsHeld, IsHeldBy, IsNewGrant, IsReport, SetsCalls, with_count, with_placed, with_one_more_grant, with_closed};
 ghost use Rattle.fax_store.specs.Meta.{IsGrantLeft};
 ghost use Rattle.fax_store.specs.Store.{Serves, HasTables};
-ghost use Rattle.fax_store.specs.Work.{Works, IsOnlyUnavailable, Moves, Steps};
+ghost use Rattle.fax_store.specs.Work.{Works, Moves, Steps};
 ghost use Rattle.fax_tables.specs.Fault.{OrUnavailable};
 ghost use Rattle.fax_tables.specs.Grant.{as_hold, IsWithinLimits, IsLawfulHold, IsOpenGrant};
 ghost use Rattle.fax_schema.specs.Schema.{calls_tree};
@@ -120,13 +120,9 @@ impl<S: Alter> Store<S> {
 
     /// Adds an open grant of a job to this number, which has so many calls with it.
     fn place_grant(&mut self, grant: &Grant, dial: &Dial, calls: u32) -> Result<(), StoreFault>
-        ensures leaves { Runs S.Store self.old self.new result }
-        ensures written { (m₀ m : Queue) (k₀ k : Ledger) → Works (shown S.Store self.old) false m₀ k₀ m k
-            → Serves (shown S.Store self.new) → IsOpenGrant grant.now → IsCalled grant.now.job dial.now m
-            → calls ≡ calls_to dial.now m + 1
-            → Moves (shown S.Store self.new) result m₀ k₀ (with_placed grant.now m) k }
-        ensures cause { IsOnlyUnavailable (shown S.Store self.old) false (shown S.Store self.new) result
-            (λ m k. IsOpenGrant grant.now × IsNewGrant grant.now m) }
+        ensures { WritesIfWhere S.Store self.old self.new result (λ m. IsOpenGrant grant.now × IsCalled grant.now.job dial.now m
+            × (calls ≡ calls_to dial.now m + 1)) (λ m k. IsOpenGrant grant.now × IsNewGrant grant.now m)
+            (with_placed grant.now) (λ k. k) }
     {
         self.insert(
             INSERT_HOLD,
@@ -148,12 +144,9 @@ impl<S: Alter> Store<S> {
     }
 
     fn insert_grant(&mut self, grant: &Grant) -> Result<(), StoreFault>
-        ensures leaves { Runs S.Store self.old self.new result }
-        ensures written { (m₀ m : Queue) (k₀ k : Ledger) → Works (shown S.Store self.old) false m₀ k₀ m k
-            → Serves (shown S.Store self.new) → IsOpenGrant grant.now
-            → Moves (shown S.Store self.new) result m₀ k₀ (with_placed grant.now m) k }
-        ensures cause { IsOnlyUnavailable (shown S.Store self.old) false (shown S.Store self.new) result
-            (λ m k. IsOpenGrant grant.now × IsNewGrant grant.now m × HasJob m grant.now) }
+        ensures { WritesIfWhere S.Store self.old self.new result (λ m. IsOpenGrant grant.now)
+            (λ m k. IsOpenGrant grant.now × IsNewGrant grant.now m × HasJob m grant.now) (with_placed grant.now)
+            (λ k. k) }
     {
         let Some(job) = self.job(grant.job)? else {
             return Err(StoreFault::Strange);
@@ -166,12 +159,8 @@ impl<S: Alter> Store<S> {
     }
 
     fn add_grant(&mut self, grant: &Grant) -> Result<(), StoreFault>
-        ensures leaves { Runs S.Store self.old self.new result }
-        ensures written { (m₀ m : Queue) (k₀ k : Ledger) → Works (shown S.Store self.old) false m₀ k₀ m k
-            → Serves (shown S.Store self.new)
-            → Moves (shown S.Store self.new) result m₀ k₀ (with_one_more_grant grant.now m) k }
-        ensures cause { IsOnlyUnavailable (shown S.Store self.old) false (shown S.Store self.new) result
-            (λ m k. IsOpenGrant grant.now × IsNewGrant grant.now m × HasJob m grant.now × IsGrantLeft m) }
+        ensures { WritesIf S.Store self.old self.new result (λ m k. IsOpenGrant grant.now × IsNewGrant grant.now m
+            × HasJob m grant.now × IsGrantLeft m) (with_one_more_grant grant.now) (λ k. k) }
     {
         if !is_open_grant(grant) {
             return Err(StoreFault::Strange);
@@ -209,11 +198,8 @@ impl<S: Alter> Store<S> {
 
     /// Closes an open grant of a job to this number, which has so many calls without it.
     fn close_open(&mut self, number: u32, dial: &Dial, calls: u32) -> Result<(), StoreFault>
-        ensures leaves { Runs S.Store self.old self.new result }
-        ensures written { (m₀ m : Queue) (k₀ k : Ledger) → Works (shown S.Store self.old) false m₀ k₀ m k
-            → Serves (shown S.Store self.new) → IsHeld number dial.now m → calls ≡ calls_to dial.now m - 1
-            → Moves (shown S.Store self.new) result m₀ k₀ (with_closed number m) k }
-        ensures cause { IfErr result (λ fault. fault ≡ StoreFault.Unavailable) }
+        ensures { WritesWhere S.Store self.old self.new result (λ m. IsHeld number dial.now m
+            × (calls ≡ calls_to dial.now m - 1)) (with_closed number) (λ k. k) }
     {
         self.run(SHUT_GRANT, params![number])?;
         self.run(DELETE_HOLD, params![number])?;
@@ -256,7 +242,6 @@ impl<S: Alter> Work<'_, S> {
     ///
     /// `Unavailable`, or `Strange` where its row is no lawful record.
     pub fn hold_of(&mut self, modem: &str) -> Result<Option<Hold>, StoreFault>
-        ensures leaves { Calls S.Store self.old self.new result }
         ensures answers { Tells S.Store self.old self.new result (λ m k found. found ≡ option_map as_hold
             (held_by modem.now m)) }
         ensures lawful { IfOk result (λ found. IfSome found IsLawfulHold) }
@@ -275,7 +260,6 @@ impl<S: Alter> Work<'_, S> {
     ///
     /// `Unavailable`, or `Strange` where its row is no lawful record.
     pub fn grant(&mut self, number: u32) -> Result<Option<Grant>, StoreFault>
-        ensures leaves { Calls S.Store self.old self.new result }
         ensures answers { Tells S.Store self.old self.new result (λ m k found. found ≡ grant_numbered number m) }
         ensures lawful { IfOk result (λ found. IfSome found IsWithinLimits) }
     {
@@ -293,8 +277,7 @@ impl<S: Alter> Work<'_, S> {
     ///
     /// `Unavailable`, or `Strange` where its row is no lawful record.
     pub fn active_to(&mut self, dial: &Dial) -> Result<u64, StoreFault>
-        ensures leaves { Calls S.Store self.old self.new result }
-        ensures answers { Tells S.Store self.old self.new result (λ m k calls. calls ≡ calls_to dial.now m) }
+        ensures { Tells S.Store self.old self.new result (λ m k calls. calls ≡ calls_to dial.now m) }
     {
         if self.failed {
             return Err(StoreFault::Unavailable);
@@ -313,10 +296,8 @@ impl<S: Alter> Work<'_, S> {
     /// job isn't there, the grant is not open, its numbers are past their limits or no next number is
     /// left.
     pub fn put_grant(&mut self, grant: &Grant) -> Result<(), StoreFault>
-        ensures leaves { Calls S.Store self.old self.new result }
-        ensures changes { Makes S.Store self.old self.new (with_one_more_grant grant.now) (λ k. k) }
-        ensures cause { FailsOnly S.Store self.old self.new result (λ m k. IsOpenGrant grant.now
-            × IsNewGrant grant.now m × HasJob m grant.now × IsGrantLeft m) }
+        ensures { MakesIf S.Store self.old self.new result (λ m k. IsOpenGrant grant.now × IsNewGrant grant.now m
+            × HasJob m grant.now × IsGrantLeft m) (with_one_more_grant grant.now) (λ k. k) }
     {
         if self.failed {
             return Err(StoreFault::Unavailable);
@@ -334,7 +315,7 @@ impl<S: Alter> Work<'_, S> {
     /// `Unavailable`, or `Strange` where more pages are confirmed than a grant can have.
     pub fn put_report(&mut self, grant: &Grant) -> Result<(), StoreFault>
         ensures leaves { Calls S.Store self.old self.new result }
-        ensures changes { MakesWhere S.Store self.old self.new (IsReport grant.now) (with_grant grant.now) (λ k. k) }
+        ensures changes { BecomesWhere S.Store self.old self.new (IsReport grant.now) (with_grant grant.now) (λ k. k) }
         ensures cause { grant.now.confirmed ≤ most_pages → IfErr result (λ fault. fault ≡ StoreFault.Unavailable) }
     {
         if self.failed {
@@ -352,9 +333,7 @@ impl<S: Alter> Work<'_, S> {
     ///
     /// `Unavailable`, or `Strange` where its row or that of its job is no lawful record.
     pub fn close_grant(&mut self, number: u32) -> Result<(), StoreFault>
-        ensures leaves { Calls S.Store self.old self.new result }
-        ensures changes { Makes S.Store self.old self.new (with_closed number) (λ k. k) }
-        ensures cause { FailsOnly S.Store self.old self.new result (λ m k. ⊤) }
+        ensures { MakesIf S.Store self.old self.new result (λ m k. ⊤) (with_closed number) (λ k. k) }
     {
         if self.failed {
             return Err(StoreFault::Unavailable);

@@ -1,15 +1,12 @@
 //! The jobs.
 
-ghost use Rattle.std.specs.Prelude.{◌≡◌, ◌<◌, List, map, false, Err, IfErr, IfNone, IfOk, IfSome, is_err};
+ghost use Rattle.std.specs.Prelude.{◌≡◌, ◌<◌, map, false, Err, IfErr, IfNone, IfOk, IfSome, is_err};
 ghost use Rattle.std.specs.Option.{option_map};
 ghost use Rattle.fax_core.specs.Job.{job_of, fields_of};
-ghost use Rattle.fax_core.specs.Ledger.{Ledger};
-ghost use Rattle.fax_core.specs.Queue.{Queue, job_numbered};
-ghost use Rattle.fax_store.specs.Calls.{Answers, AnswersRows, Calls, FailsOnly, Finds, Makes, MakesWhere, Runs, Tells, shown};
+ghost use Rattle.fax_core.specs.Queue.{job_numbered};
+ghost use Rattle.fax_store.specs.Calls.{Answers, AnswersRows, Finds, Makes, MakesIf, MakesIfWhere, MakesWhere, Tells, Writes, WritesIf, WritesIfWhere, WritesWhere};
 ghost use Rattle.fax_store.specs.Job.{BriefStands, BriefsStand, HasJobRow, JobStands, JobsStand, IsChange, IsNewJob, IsWaiting, with_change, with_placed, with_one_more_job, with_expired, with_expired_in};
 ghost use Rattle.fax_store.specs.Meta.{IsJobLeft, with_clock};
-ghost use Rattle.fax_store.specs.Store.{Serves};
-ghost use Rattle.fax_store.specs.Work.{Works, IsOnlyUnavailable, Moves, Steps};
 ghost use Rattle.fax_tables.specs.Job.{brief};
 ghost use Rattle.fax_tables.specs.Meta.{meta_of};
 
@@ -108,12 +105,8 @@ impl<S: Alter> Store<S> {
     }
 
     fn insert_job(&mut self, job: &Job) -> Result<(), StoreFault>
-        ensures leaves { Runs S.Store self.old self.new result }
-        ensures written { (m₀ m : Queue) (k₀ k : Ledger) → Works (shown S.Store self.old) false m₀ k₀ m k
-            → Serves (shown S.Store self.new)
-            → Moves (shown S.Store self.new) result m₀ k₀ (with_placed (job_of job.now) m) k }
-        ensures cause { IsOnlyUnavailable (shown S.Store self.old) false (shown S.Store self.new) result
-            (λ m k. IsNewJob (job_of job.now) m) }
+        ensures { WritesIf S.Store self.old self.new result (λ m k. IsNewJob (job_of job.now) m)
+            (with_placed (job_of job.now)) (λ k. k) }
     {
         let job = job.fields();
         let extra = spelling(self.alloc, &job.extra)?;
@@ -145,11 +138,8 @@ impl<S: Alter> Store<S> {
     }
 
     fn write_change(&mut self, job: &Job) -> Result<(), StoreFault>
-        ensures leaves { Runs S.Store self.old self.new result }
-        ensures written { (m₀ m : Queue) (k₀ k : Ledger) → IsChange (job_of job.now) m
-            → Works (shown S.Store self.old) false m₀ k₀ m k → Serves (shown S.Store self.new)
-            → Steps (shown S.Store self.new) result m₀ k₀ (with_change (job_of job.now) m) k }
-        ensures cause { IfErr result (λ fault. fault ≡ StoreFault.Unavailable) }
+        ensures { WritesWhere S.Store self.old self.new result (IsChange (job_of job.now))
+            (with_change (job_of job.now)) (λ k. k) }
     {
         let job = job.fields();
         self.run(
@@ -177,10 +167,7 @@ impl<S: Alter> Store<S> {
     }
 
     fn write_expired(&mut self, t: Moment) -> Result<(), StoreFault>
-        ensures leaves { Runs S.Store self.old self.new result }
-        ensures written { (m₀ m : Queue) (k₀ k : Ledger) → Works (shown S.Store self.old) false m₀ k₀ m k
-            → Serves (shown S.Store self.new) → Steps (shown S.Store self.new) result m₀ k₀ (with_expired t m) k }
-        ensures cause { IfErr result (λ fault. fault ≡ StoreFault.Unavailable) }
+        ensures { Writes S.Store self.old self.new result (with_expired t) (λ k. k) }
     {
         self.expire_in(Phase::Held, t)?;
         self.expire_in(Phase::Waiting, t)
@@ -200,11 +187,7 @@ impl<S: Alter> Store<S> {
     /// Lets each job of this phase fail whose kill time is from 1 to `t`. One phase at a time, since
     /// the index that finds them is by phase first. Where there is none, a question costs less than the change.
     fn expire_in(&mut self, phase: Phase, t: Moment) -> Result<(), StoreFault>
-        ensures leaves { Runs S.Store self.old self.new result }
-        ensures written { (m₀ m : Queue) (k₀ k : Ledger) → Works (shown S.Store self.old) false m₀ k₀ m k
-            → Serves (shown S.Store self.new)
-            → Steps (shown S.Store self.new) result m₀ k₀ (with_expired_in phase t m) k }
-        ensures cause { IfErr result (λ fault. fault ≡ StoreFault.Unavailable) }
+        ensures { Writes S.Store self.old self.new result (with_expired_in phase t) (λ k. k) }
     {
         if self.has_expired(phase, t)? {
             return self.run(EXPIRE_JOBS, params![t.seconds(), phase_number(phase)]);
@@ -213,24 +196,17 @@ impl<S: Alter> Store<S> {
     }
 
     fn add_job(&mut self, job: &Job) -> Result<(), StoreFault>
-        ensures leaves { Runs S.Store self.old self.new result }
-        ensures written { (m₀ m : Queue) (k₀ k : Ledger) → Works (shown S.Store self.old) false m₀ k₀ m k
-            → Serves (shown S.Store self.new)
-            → Moves (shown S.Store self.new) result m₀ k₀ (with_one_more_job (job_of job.now) m) k }
-        ensures cause { IsOnlyUnavailable (shown S.Store self.old) false (shown S.Store self.new) result
-            (λ m k. IsNewJob (job_of job.now) m × IsJobLeft m) }
+        ensures { WritesIf S.Store self.old self.new result (λ m k. IsNewJob (job_of job.now) m × IsJobLeft m)
+            (with_one_more_job (job_of job.now)) (λ k. k) }
     {
         let meta = self.meta()?;
         self.add_next_job(job, meta, meta.clock)
     }
 
     fn add_next_job(&mut self, job: &Job, meta: Meta, clock: Moment) -> Result<(), StoreFault>
-        ensures leaves { Runs S.Store self.old self.new result }
-        ensures written { (m₀ m : Queue) (k₀ k : Ledger) → meta ≡ meta_of m
-            → Works (shown S.Store self.old) false m₀ k₀ m k → Serves (shown S.Store self.new)
-            → Moves (shown S.Store self.new) result m₀ k₀ (with_clock clock (with_one_more_job (job_of job.now) m)) k }
-        ensures cause { IsOnlyUnavailable (shown S.Store self.old) false (shown S.Store self.new) result (λ m k.
-            (meta ≡ meta_of m) × IsNewJob (job_of job.now) m × IsJobLeft m) }
+        ensures { WritesIfWhere S.Store self.old self.new result (λ m. meta ≡ meta_of m)
+            (λ m k. (meta ≡ meta_of m) × IsNewJob (job_of job.now) m × IsJobLeft m)
+            (λ m. with_clock clock (with_one_more_job (job_of job.now) m)) (λ k. k) }
     {
         if meta.next_job >= PAST_JOBS {
             return Err(StoreFault::Strange);
@@ -251,8 +227,7 @@ impl<S: Alter> Work<'_, S> {
     ///
     /// `Unavailable`, or `Strange` where its row is no lawful record.
     pub fn job(&mut self, job: u32) -> Result<Option<Job>, StoreFault>
-        ensures leaves { Calls S.Store self.old self.new result }
-        ensures answers { Tells S.Store self.old self.new result (λ m k found. found ≡ option_map fields_of
+        ensures { Tells S.Store self.old self.new result (λ m k found. found ≡ option_map fields_of
             (job_numbered job m)) }
     {
         if self.failed {
@@ -270,8 +245,7 @@ impl<S: Alter> Work<'_, S> {
     ///
     /// `Unavailable`, or `Strange` where the row of one is no lawful record.
     pub fn waiting(&mut self, t: Moment) -> Result<Vec<Job>, StoreFault>
-        ensures leaves { Calls S.Store self.old self.new result }
-        ensures answers { Tells S.Store self.old self.new result (λ m k found. IsWaiting t m found.items) }
+        ensures { Tells S.Store self.old self.new result (λ m k found. IsWaiting t m found.items) }
     {
         if self.failed {
             return Err(StoreFault::Unavailable);
@@ -287,8 +261,7 @@ impl<S: Alter> Work<'_, S> {
     ///
     /// `Unavailable`, or `Strange` where the row of one is no lawful record.
     pub fn jobs(&mut self) -> Result<Vec<Job>, StoreFault>
-        ensures leaves { Calls S.Store self.old self.new result }
-        ensures answers { Tells S.Store self.old self.new result (λ m k found. found.items ≡ map fields_of m.jobs) }
+        ensures { Tells S.Store self.old self.new result (λ m k found. found.items ≡ map fields_of m.jobs) }
     {
         if self.failed {
             return Err(StoreFault::Unavailable);
@@ -304,10 +277,8 @@ impl<S: Alter> Work<'_, S> {
     ///
     /// `Unavailable`, or `Strange` where a job has the number or no next number is left.
     pub fn put_job(&mut self, job: &Job) -> Result<(), StoreFault>
-        ensures leaves { Calls S.Store self.old self.new result }
-        ensures changes { Makes S.Store self.old self.new (with_one_more_job (job_of job.now)) (λ k. k) }
-        ensures cause { FailsOnly S.Store self.old self.new result (λ m k. IsNewJob (job_of job.now) m
-            × IsJobLeft m) }
+        ensures { MakesIf S.Store self.old self.new result (λ m k. IsNewJob (job_of job.now) m × IsJobLeft m)
+            (with_one_more_job (job_of job.now)) (λ k. k) }
     {
         if self.failed {
             return Err(StoreFault::Unavailable);
@@ -324,11 +295,9 @@ impl<S: Alter> Work<'_, S> {
     ///
     /// `Unavailable`, or `Strange` where a job has the number or no next number is left.
     pub fn put_next_job(&mut self, job: &Job, meta: Meta, clock: Moment) -> Result<(), StoreFault>
-        ensures leaves { Calls S.Store self.old self.new result }
-        ensures changes { MakesWhere S.Store self.old self.new (λ m. meta ≡ meta_of m) (λ m. with_clock clock
-            (with_one_more_job (job_of job.now) m)) (λ k. k) }
-        ensures cause { FailsOnly S.Store self.old self.new result (λ m k. (meta ≡ meta_of m)
-            × IsNewJob (job_of job.now) m × IsJobLeft m) }
+        ensures { MakesIfWhere S.Store self.old self.new result (λ m. meta ≡ meta_of m)
+            (λ m k. (meta ≡ meta_of m) × IsNewJob (job_of job.now) m × IsJobLeft m)
+            (λ m. with_clock clock (with_one_more_job (job_of job.now) m)) (λ k. k) }
     {
         if self.failed {
             return Err(StoreFault::Unavailable);
@@ -347,10 +316,8 @@ impl<S: Alter> Work<'_, S> {
     ///
     /// `Unavailable`.
     pub fn put_change(&mut self, job: &Job) -> Result<(), StoreFault>
-        ensures leaves { Calls S.Store self.old self.new result }
-        ensures changes { MakesWhere S.Store self.old self.new (IsChange (job_of job.now)) (with_change
-            (job_of job.now)) (λ k. k) }
-        ensures cause { IfErr result (λ fault. fault ≡ StoreFault.Unavailable) }
+        ensures { MakesWhere S.Store self.old self.new result (IsChange (job_of job.now))
+            (with_change (job_of job.now)) (λ k. k) }
     {
         if self.failed {
             return Err(StoreFault::Unavailable);
@@ -366,9 +333,7 @@ impl<S: Alter> Work<'_, S> {
     ///
     /// `Unavailable`.
     pub fn expire_all(&mut self, t: Moment) -> Result<(), StoreFault>
-        ensures leaves { Calls S.Store self.old self.new result }
-        ensures changes { Makes S.Store self.old self.new (with_expired t) (λ k. k) }
-        ensures cause { IfErr result (λ fault. fault ≡ StoreFault.Unavailable) }
+        ensures { Makes S.Store self.old self.new result (with_expired t) (λ k. k) }
     {
         if self.failed {
             return Err(StoreFault::Unavailable);

@@ -1,9 +1,9 @@
 //! The clock and the next numbers.
 
-ghost use Rattle.std.specs.Prelude.{◌≡◌, List, false, Err, IfErr, IfOk, is_err};
+ghost use Rattle.std.specs.Prelude.{◌≡◌, false, Err, IfOk, is_err};
 ghost use Rattle.fax_core.specs.Ledger.{Ledger};
 ghost use Rattle.fax_core.specs.Queue.{Queue};
-ghost use Rattle.fax_store.specs.Calls.{Answers, AnswersRows, Calls, Finds, Makes, Runs, Tells, shown};
+ghost use Rattle.fax_store.specs.Calls.{Answers, AnswersRows, Finds, Makes, Runs, Tells, Writes, shown};
 ghost use Rattle.fax_store.specs.Meta.{MetaStands, with_clock};
 ghost use Rattle.fax_store.specs.Store.{Serves};
 ghost use Rattle.fax_store.specs.Work.{Works, Steps};
@@ -48,10 +48,7 @@ impl<S: Alter> Store<S> {
     }
 
     fn write_clock(&mut self, clock: Moment) -> Result<(), StoreFault>
-        ensures leaves { Runs S.Store self.old self.new result }
-        ensures written { (m₀ m : Queue) (k₀ k : Ledger) → Works (shown S.Store self.old) false m₀ k₀ m k
-            → Serves (shown S.Store self.new) → Steps (shown S.Store self.new) result m₀ k₀ (with_clock clock m) k }
-        ensures cause { IfErr result (λ fault. fault ≡ StoreFault.Unavailable) }
+        ensures { Writes S.Store self.old self.new result (with_clock clock) (λ k. k) }
     {
         self.run(UPDATE_CLOCK, params![clock.seconds()])
     }
@@ -64,7 +61,6 @@ impl<S: Alter> Work<'_, S> {
     ///
     /// `Unavailable`, or `Strange` where their row is no lawful record.
     pub fn meta(&mut self) -> Result<Meta, StoreFault>
-        ensures leaves { Calls S.Store self.old self.new result }
         ensures answers { Tells S.Store self.old self.new result (λ m k meta. meta ≡ meta_of m) }
         ensures lawful { IfOk result (λ meta. (m : Queue) → IsLawfulMeta (with_meta meta m)) }
     {
@@ -82,9 +78,7 @@ impl<S: Alter> Work<'_, S> {
     ///
     /// `Unavailable`.
     pub fn set_clock(&mut self, clock: Moment) -> Result<(), StoreFault>
-        ensures leaves { Calls S.Store self.old self.new result }
-        ensures changes { Makes S.Store self.old self.new (with_clock clock) (λ k. k) }
-        ensures cause { IfErr result (λ fault. fault ≡ StoreFault.Unavailable) }
+        ensures { Makes S.Store self.old self.new result (with_clock clock) (λ k. k) }
     {
         if self.failed {
             return Err(StoreFault::Unavailable);

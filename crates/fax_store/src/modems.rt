@@ -1,13 +1,9 @@
 //! The modems that are down.
 
-ghost use Rattle.std.specs.Prelude.{◌≡◌, List, true, false, Err, IfErr, is_err, IsTrue};
+ghost use Rattle.std.specs.Prelude.{◌≡◌, true, false, Err, IfErr, is_err, IsTrue};
 ghost use Rattle.fax_core.specs.Machine.{is_down, with_mark};
-ghost use Rattle.fax_core.specs.Ledger.{Ledger};
-ghost use Rattle.fax_core.specs.Queue.{Queue};
 ghost use Rattle.fax_value.specs.Name.{IsName};
-ghost use Rattle.fax_store.specs.Calls.{Answers, Calls, FailsOnly, Finds, Makes, Runs, Tells, shown};
-ghost use Rattle.fax_store.specs.Store.{Serves};
-ghost use Rattle.fax_store.specs.Work.{Works, IsOnlyUnavailable, Moves, Steps};
+ghost use Rattle.fax_store.specs.Calls.{Answers, Finds, MakesIf, Tells, Writes, WritesIf};
 
 use crate::store::Store;
 use crate::work::Work;
@@ -32,22 +28,14 @@ impl<S: Alter> Store<S> {
     }
 
     fn clear_mark(&mut self, modem: &str) -> Result<(), StoreFault>
-        ensures leaves { Runs S.Store self.old self.new result }
-        ensures written { (m₀ m : Queue) (k₀ k : Ledger) → Works (shown S.Store self.old) false m₀ k₀ m k
-            → Serves (shown S.Store self.new)
-            → Steps (shown S.Store self.new) result m₀ k₀ (with_mark modem.now false m) k }
-        ensures cause { IfErr result (λ fault. fault ≡ StoreFault.Unavailable) }
+        ensures { Writes S.Store self.old self.new result (with_mark modem.now false) (λ k. k) }
     {
         self.run(DELETE_DOWN, params![modem])
     }
 
     fn add_mark(&mut self, modem: &str) -> Result<(), StoreFault>
-        ensures leaves { Runs S.Store self.old self.new result }
-        ensures written { (m₀ m : Queue) (k₀ k : Ledger) → Works (shown S.Store self.old) false m₀ k₀ m k
-            → Serves (shown S.Store self.new)
-            → Moves (shown S.Store self.new) result m₀ k₀ (with_mark modem.now true m) k }
-        ensures cause { IsOnlyUnavailable (shown S.Store self.old) false (shown S.Store self.new) result
-            (λ m k. IsName modem.now) }
+        ensures { WritesIf S.Store self.old self.new result (λ m k. IsName modem.now)
+            (with_mark modem.now true) (λ k. k) }
     {
         if !is_name(modem.as_bytes()) {
             return Err(StoreFault::Strange);
@@ -59,12 +47,8 @@ impl<S: Alter> Store<S> {
     }
 
     fn write_mark(&mut self, modem: &str, down: bool) -> Result<(), StoreFault>
-        ensures leaves { Runs S.Store self.old self.new result }
-        ensures written { (m₀ m : Queue) (k₀ k : Ledger) → Works (shown S.Store self.old) false m₀ k₀ m k
-            → Serves (shown S.Store self.new)
-            → Moves (shown S.Store self.new) result m₀ k₀ (with_mark modem.now down m) k }
-        ensures cause { IsOnlyUnavailable (shown S.Store self.old) false (shown S.Store self.new) result
-            (λ m k. IsTrue down → IsName modem.now) }
+        ensures writes { WritesIf S.Store self.old self.new result (λ m k. IsTrue down → IsName modem.now)
+            (with_mark modem.now down) (λ k. k) }
         ensures clears { down ≡ false → IfErr result (λ fault. fault ≡ StoreFault.Unavailable) }
     {
         if down {
@@ -82,8 +66,7 @@ impl<S: Alter> Work<'_, S> {
     ///
     /// `Unavailable`.
     pub fn is_down(&mut self, modem: &str) -> Result<bool, StoreFault>
-        ensures leaves { Calls S.Store self.old self.new result }
-        ensures answers { Tells S.Store self.old self.new result (λ m k down. down ≡ is_down modem.now m) }
+        ensures { Tells S.Store self.old self.new result (λ m k down. down ≡ is_down modem.now m) }
     {
         if self.failed {
             return Err(StoreFault::Unavailable);
@@ -99,9 +82,8 @@ impl<S: Alter> Work<'_, S> {
     ///
     /// `Unavailable`, or `Strange` where what is to be marked is no name.
     pub fn set_down(&mut self, modem: &str, down: bool) -> Result<(), StoreFault>
-        ensures leaves { Calls S.Store self.old self.new result }
-        ensures changes { Makes S.Store self.old self.new (with_mark modem.now down) (λ k. k) }
-        ensures cause { FailsOnly S.Store self.old self.new result (λ m k. IsTrue down → IsName modem.now) }
+        ensures makes { MakesIf S.Store self.old self.new result (λ m k. IsTrue down → IsName modem.now)
+            (with_mark modem.now down) (λ k. k) }
         ensures clears { down ≡ false → IfErr result (λ fault. fault ≡ StoreFault.Unavailable) }
     {
         if self.failed {

@@ -1,15 +1,13 @@
 //! The kept replies.
 
-ghost use Rattle.std.specs.Prelude.{◌≡◌, ◌∷◌, ◌++◌, [], false, List, Err, IfOk, IfSome, is_err, OnOk};
+ghost use Rattle.std.specs.Prelude.{◌≡◌, Err, IfOk, IfSome, is_err, OnOk};
 ghost use Rattle.sqlite.specs.Effect.{Database};
 ghost use Rattle.sqlite.specs.State.{HasCleanDisk};
-ghost use Rattle.fax_core.specs.Ledger.{Ledger, with_reply};
-ghost use Rattle.fax_core.specs.Queue.{Queue};
+ghost use Rattle.fax_core.specs.Ledger.{with_reply};
 ghost use Rattle.fax_value.specs.Name.{IsName};
-ghost use Rattle.fax_store.specs.Calls.{Answers, Calls, FailsOnly, Finds, Makes, Runs, Tells, shown};
+ghost use Rattle.fax_store.specs.Calls.{Answers, Finds, MakesIf, Tells, WritesIf, shown};
 ghost use Rattle.fax_store.specs.Kept.{IsKeptFor, IsUnkept, MissesNone};
-ghost use Rattle.fax_store.specs.Store.{Serves};
-ghost use Rattle.fax_store.specs.Work.{Works, Keeps, IsOnlyUnavailable, Moves};
+ghost use Rattle.fax_store.specs.Work.{Keeps};
 ghost use Rattle.fax_tables.specs.Kept.{entry};
 ghost use Rattle.fax_schema.specs.Schema.{our_tables};
 ghost use Rattle.fax_tables.specs.Tables.{IsKeptStatus};
@@ -49,13 +47,9 @@ impl<S: Alter> Store<S> {
         status: u16,
         body: &[u8],
     ) -> Result<(), StoreFault>
-        ensures leaves { Runs S.Store self.old self.new result }
-        ensures written { (m₀ m : Queue) (k₀ k : Ledger) → Works (shown S.Store self.old) false m₀ k₀ m k
-            → Serves (shown S.Store self.new)
-            → Moves (shown S.Store self.new) result m₀ k₀ m
-            (with_reply (entry client.now number said.now status body.now) k) }
-        ensures cause { IsOnlyUnavailable (shown S.Store self.old) false (shown S.Store self.new) result
-            (λ m k. IsName client.now × IsKeptStatus status × IsUnkept client.now number k.replies) }
+        ensures writes { WritesIf S.Store self.old self.new result (λ m k. IsName client.now × IsKeptStatus status
+            × IsUnkept client.now number k.replies) (λ m. m)
+            (with_reply (entry client.now number said.now status body.now)) }
         ensures status { OnOk result (IsKeptStatus status) }
     {
         let number = number_value(number);
@@ -76,7 +70,6 @@ impl<S: Alter> Work<'_, S> {
     ///
     /// `Unavailable`, or `Strange` where its row is no lawful record.
     pub fn kept(&mut self, client: &str, number: RequestNumber) -> Result<Option<Kept>, StoreFault>
-        ensures leaves { Calls S.Store self.old self.new result }
         ensures answers { Tells S.Store self.old self.new result (λ m k found. IsKeptFor k.replies client.now number found) }
         ensures lawful { IfOk result (λ found. IfSome found (λ kept. IsKeptStatus kept.status)) }
     {
@@ -102,11 +95,9 @@ impl<S: Alter> Work<'_, S> {
         status: u16,
         body: &[u8],
     ) -> Result<(), StoreFault>
-        ensures leaves { Calls S.Store self.old self.new result }
-        ensures changes { Makes S.Store self.old self.new (λ m. m)
+        ensures makes { MakesIf S.Store self.old self.new result (λ m k. IsName client.now × IsKeptStatus status
+            × IsUnkept client.now number k.replies) (λ m. m)
             (with_reply (entry client.now number said.now status body.now)) }
-        ensures cause { FailsOnly S.Store self.old self.new result (λ m k. IsName client.now × IsKeptStatus status
-            × IsUnkept client.now number k.replies) }
         ensures status { OnOk result (IsKeptStatus status) }
     {
         if self.failed {

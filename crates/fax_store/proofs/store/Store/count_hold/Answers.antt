@@ -21,7 +21,7 @@ pub returns-clause-cause : goal.returns-clause-cause
 returns-clause-cause g c n count is can has small clean =
     let old = state g.S.Store c.args.self.now.conn in
     let mid = state g.S.Store c.dial_of.new.self.conn in
-    let first = set_still old mid count has (c.in_ok-dial.ensures.reads has.tables (c.add_call.ensures.clean clean)) in
+    let first = set_still old mid count has (c.in_ok-dial.ensures.leaves.reads has.tables (c.add_call.ensures.counts.clean clean)) in
     c.add_call.ensures.cause count (has_calls old mid count first) small clean
 
 pub returns-clause-counted : goal.returns-clause-counted
@@ -29,10 +29,10 @@ returns-clause-counted g c m k j count rows is found few has clean =
     let old = state g.S.Store c.args.self.now.conn in
     let mid = state g.S.Store c.dial_of.new.self.conn in
     let new = state g.S.Store c.add_call.new.self.conn in
-    let at_mid = c.add_call.ensures.clean clean in
+    let at_mid = c.add_call.ensures.counts.clean clean in
     let job : c.in_ok-job.job ≡ j.number = c.in_ok-job.ensures.found j.number is (job_low rows.0 m k rows.1 j.number j found) in
     let dial = c.in_ok-dial.ensures.answers m k j has.tables rows (ap (λ n. job_numbered n m) job ∙ found) at_mid in
-    let first = set_still old mid count has (c.in_ok-dial.ensures.reads has.tables at_mid) in
+    let first = set_still old mid count has (c.in_ok-dial.ensures.leaves.reads has.tables at_mid) in
     let low = subst (λ d. count d + 1 < 2 ^ 32) (sym dial) few in
     let added = c.add_call.ensures.counted count (has_calls old mid count first) low clean in
     ok_as c.add_call.result (λ set. set_then old mid new count (with_count j.dial (count j.dial + 1) count) first set)

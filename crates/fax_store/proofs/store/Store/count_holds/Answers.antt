@@ -18,11 +18,11 @@ returns-clause-leaves g c = record {
   goes = λ clean has. let old = state g.S.Store c.args.self.now.conn in
       let mid = state g.S.Store c.show.new.self.conn in
       let new = state g.S.Store c.count_rows.new.self.conn in
-      let first = set_still old mid (λ _. 0) (no_calls old has) (c.in_ok-held.ensures.leaves.reads has.schema_is (c.count_rows.ensures.clean clean)) in
+      let first = set_still old mid (λ _. 0) (no_calls old has) (c.in_ok-held.ensures.leaves.reads has.schema_is (c.count_rows.ensures.counts.clean clean)) in
       both_as c.count_rows.result
       (λ set. let whole = set_then old mid new (λ _. 0) set.0 first set.1 in (whole.goes_on, whole_of old new set.0 whole))
       (λ kept. commit_kept old mid new first.goes_on kept)
-      (c.count_rows.ensures.set (λ _. 0) (has_calls old mid (λ _. 0) first) none_small clean);
+      (c.count_rows.ensures.counts.set (λ _. 0) (has_calls old mid (λ _. 0) first) none_small clean);
   crash = search rules;
   clean = search rules;
 }
@@ -32,7 +32,7 @@ returns-clause-counted g c m k has clean mean =
     let old = state g.S.Store c.args.self.now.conn in
     let mid = state g.S.Store c.show.new.self.conn in
     let new = state g.S.Store c.count_rows.new.self.conn in
-    let at_mid = c.count_rows.ensures.clean clean in
+    let at_mid = c.count_rows.ensures.counts.clean clean in
     let same = c.in_ok-held.ensures.leaves.reads has.schema_is at_mid in
     let first = set_still old mid (λ _. 0) (no_calls old has) same in
     let rows = c.in_ok-held.held.items in
@@ -46,7 +46,7 @@ pub returns-clause-cause : goal.returns-clause-cause
 returns-clause-cause g c has clean can =
     let old = state g.S.Store c.args.self.now.conn in
     let mid = state g.S.Store c.show.new.self.conn in
-    let at_mid = c.count_rows.ensures.clean clean in
+    let at_mid = c.count_rows.ensures.counts.clean clean in
     let same = c.in_ok-held.ensures.leaves.reads has.schema_is at_mid in
     let first = set_still old mid (λ _. 0) (no_calls old has) same in
     let rows = c.in_ok-held.held.items in

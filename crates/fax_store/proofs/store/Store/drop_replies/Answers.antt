@@ -1,14 +1,13 @@
-use Rattle.std.proofs.Common.{subst}
+use Rattle.std.proofs.Common.{rules, subst}
 use Rattle.fax_store.specs.Calls.{shown}
 use Rattle.fax_store.specs.Work.{Steps}
 use Rattle.fax_store.proofs.FrameLemmas.{runs_then}
 use Rattle.fax_store.proofs.store.Store.drop_replies.Goals as goal
 
-pub returns-clause-leaves : goal.returns-clause-leaves
-returns-clause-leaves g c =
-    runs_then g.S.Store c.args.self.now c.drop_hundreds.new.self c.drop_through.new.self c.in_ok-drop_hundreds.field-0 c.drop_through.result c.in_ok-drop_hundreds.ensures.thins.leaves c.drop_through.ensures.leaves
-
-pub returns-clause-written : goal.returns-clause-written
-returns-clause-written g c m₀ m k₀ k works s =
-    let first = c.in_ok-drop_hundreds.ensures.thins.written m₀ m k₀ k works (c.drop_through.ensures.leaves.served s) in
-    subst (λ kept. Steps (shown g.S.Store c.drop_through.new.self) c.drop_through.result m₀ k₀ m kept) first.1 (c.drop_through.ensures.written m₀ m k₀ first.0 (λ _. first.2) s)
+pub returns : goal.returns
+returns g c = record {
+  leaves = runs_then g.S.Store c.args.self.now c.drop_hundreds.new.self c.drop_through.new.self c.in_ok-drop_hundreds.field-0 c.drop_through.result c.in_ok-drop_hundreds.ensures.thins.leaves c.drop_through.ensures.leaves;
+  written = λ m₀ m k₀ k works s. let first = c.in_ok-drop_hundreds.ensures.thins.written m₀ m k₀ k works (c.drop_through.ensures.leaves.served s) in
+      subst (λ kept. Steps (shown g.S.Store c.drop_through.new.self) c.drop_through.result m₀ k₀ m kept) first.1 (c.drop_through.ensures.written m₀ m k₀ first.0 (λ _. first.2) s);
+  cause = search rules;
+}

@@ -1,4 +1,4 @@
-use Rattle.std.proofs.Common.{rules, ◌≡◌, ◌-◌, Ok, Err, Some, None, Option, refl, sym, ap, ◌∙◌}
+use Rattle.std.proofs.Common.{◌≡◌, ◌-◌, Ok, Err, Some, None, Option, refl, sym, ap, ◌∙◌}
 use Rattle.std.specs.Option.{option_map}
 use Rattle.sqlite.specs.Held.{state}
 use Rattle.fax_core.specs.Job.{fields_of}
@@ -7,8 +7,8 @@ use Rattle.fax_core.specs.State.{calls_to}
 use Rattle.fax_job.specs.declared.job.JobFields.{JobFields}
 use Rattle.fax_store.specs.Grant.{IsCalled, with_closed}
 use Rattle.fax_store.proofs.CountLemmas.{held_job}
-use Rattle.fax_store.proofs.WorkLemmas.{goes_on, holds_by, holds_then, refused_steps, step_of, there_as}
-use Rattle.std.specs.Prelude.{is_err, false}
+use Rattle.fax_store.proofs.FrameLemmas.{runs_of, runs_then}
+use Rattle.fax_store.proofs.WorkLemmas.{goes_on, refused_steps, there_as}
 use Rattle.fax_store.proofs.store.Store.end_call.Goals as goal
 
 pub returns-in_default-clause-written : goal.returns-in_default-clause-written
@@ -20,17 +20,9 @@ returns-in_default-clause-written g c m₀ m k₀ k works s held =
     absurd cc
 
 pub returns-clause-leaves : goal.returns-clause-leaves
-returns-clause-leaves g c = record {
-  served = search rules;
-  clean = search rules;
-  holds = let old = state g.S.Store c.args.self.now.conn in
-      let read = state g.S.Store c.job.new.self.conn in
-      let then = state g.S.Store c.read_calls.new.self.conn in
-      holds_then old then (state g.S.Store c.close_open.new.self.conn) (is_err c.close_open.result) c.close_open.ensures.leaves.served
-      (holds_then old read then false c.read_calls.ensures.leaves.served (holds_by old read c.job.ensures.leaves.served (Ok c.in_ok-job.field-0) c.in_ok-job.ensures.leaves.reads) (holds_by read then c.read_calls.ensures.leaves.served (Ok c.in_ok-calls.calls) c.in_ok-calls.ensures.leaves.reads))
-      c.close_open.ensures.leaves.holds;
-  crash = search rules;
-}
+returns-clause-leaves g c =
+    runs_then g.S.Store c.args.self.now c.read_calls.new.self c.close_open.new.self _ _
+    (runs_then g.S.Store c.args.self.now c.job.new.self c.read_calls.new.self _ _ (runs_of g.S.Store _ _ _ c.in_ok-job.ensures.leaves) (runs_of g.S.Store _ _ _ c.in_ok-calls.ensures.leaves)) c.close_open.ensures.leaves
 
 pub returns-clause-written : goal.returns-clause-written
 returns-clause-written g c m₀ m k₀ k works s held =
@@ -47,9 +39,7 @@ returns-clause-written g c m₀ m k₀ k works s held =
     let of_first : c.fields.result.now.dial ≡ c.in-Some.job.dial = ap (λ (f : JobFields). f.dial) c.fields.ensures.fields in
     let of_second : c.fields-2.result.now.dial ≡ c.in-Some.job.dial = ap (λ (f : JobFields). f.dial) c.fields-2.ensures.fields in
     let called : IsCalled held.0.job c.fields-2.result.now.dial m = (it.0, ap (λ n. job_numbered n m) held.3 ∙ it.1, sym dial ∙ sym of_second) in
-    step_of new c.close_open.result m₀ (with_closed c.args.number m) k₀ k c.close_open.ensures.cause
-    (c.close_open.ensures.written m₀ m k₀ k (λ _. second.1) s (held.0, held.1, held.2, called)
-    (c.saturating_sub.ensures ∙ ap (λ n. n - 1) second.0 ∙ ap (λ d. calls_to d m - 1) (of_first ∙ sym of_second)))
+    c.close_open.ensures.written m₀ m k₀ k ((held.0, held.1, held.2, called), c.saturating_sub.ensures ∙ ap (λ n. n - 1) second.0 ∙ ap (λ d. calls_to d m - 1) (of_first ∙ sym of_second)) (λ _. second.1) s
 
 pub returns-in_err-calls-clause-written : goal.returns-in_err-calls-clause-written
 returns-in_err-calls-clause-written g c m₀ m k₀ k works s held =

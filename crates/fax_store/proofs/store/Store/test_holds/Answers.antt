@@ -1,4 +1,4 @@
-use Rattle.std.proofs.Common.{◌≡◌, [], length, ap, arith}
+use Rattle.std.proofs.Common.{◌≡◌, [], length, ap, arith, rules}
 use Rattle.std.proofs.lemmas.List.{nil_from_length}
 use Rattle.sqlite.specs.Held.{state}
 use Rattle.fax_store.proofs.HeldLemmas.{lost_none, none_lost}
@@ -8,18 +8,24 @@ use Rattle.fax_store.proofs.store.Store.test_holds.Goals as goal
 pub show-requires : goal.show-requires
 show-requires g c = select_lost.plain
 
-pub returns-clause-ours : goal.returns-clause-ours
-returns-clause-ours g c tables clean =
-    let old = state g.S.Store c.args.self.now.conn in
-    let new = state g.S.Store c.show.new.self.conn in
-    let few = c.if-len-gt0.false in
-    let none : c.in_ok-lost.lost.items ≡ [] = nil_from_length c.in_ok-lost.lost.items (omega (arith, few, c.len.ensures)) in
-    (none_lost old new tables c.in_ok-lost.lost.items (c.in_ok-lost.ensures.shown clean) none, c.in_ok-lost.ensures.leaves.reads tables clean)
+pub returns : goal.returns
+returns g c = record {
+  ours = λ tables clean. let few = c.if-len-gt0.false in
+      let none : c.in_ok-lost.lost.items ≡ [] = nil_from_length c.in_ok-lost.lost.items (omega (arith, few, c.len.ensures)) in
+      (none_lost (state g.S.Store c.args.self.now.conn) (state g.S.Store c.show.new.self.conn) tables c.in_ok-lost.lost.items (c.in_ok-lost.ensures.shown clean) none, c.in_ok-lost.ensures.leaves.reads tables clean);
+  left = search rules;
+  clean = search rules;
+  crash = search rules;
+  strange = search rules;
+}
 
-pub returns-then-len-gt0-clause-strange : goal.returns-then-len-gt0-clause-strange
-returns-then-len-gt0-clause-strange g c tables clean is held =
-    let old = state g.S.Store c.args.self.now.conn in
-    let new = state g.S.Store c.show.new.self.conn in
-    let none = ap length (lost_none old new tables c.in_ok-lost.lost.items (c.in_ok-lost.ensures.shown clean) held) in
-    let some = c.if-len-gt0.true in
-    omega (arith, none, some, c.len.ensures)
+pub returns-then-len-gt0 : goal.returns-then-len-gt0
+returns-then-len-gt0 g c = record {
+  ours = search rules;
+  left = search rules;
+  clean = search rules;
+  crash = search rules;
+  strange = λ tables clean is held. let none = ap length (lost_none (state g.S.Store c.args.self.now.conn) (state g.S.Store c.show.new.self.conn) tables c.in_ok-lost.lost.items (c.in_ok-lost.ensures.shown clean) held) in
+      let some = c.if-len-gt0.true in
+      omega (arith, none, some, c.len.ensures);
+}

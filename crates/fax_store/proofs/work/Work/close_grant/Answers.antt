@@ -7,15 +7,11 @@ use Rattle.fax_store.proofs.WorkLemmas.{changes_by, steps_fault}
 use Rattle.fax_store.proofs.FrameLemmas.{calls_by}
 use Rattle.fax_store.proofs.work.Work.close_grant.Goals as goal
 
-pub returns-clause-changes : goal.returns-clause-changes
-returns-clause-changes g c =
-    rw (c.if-self.false, c.is_err-self.ensures.value)
-    (changes_by (state g.S.Store c.args.self.now.store.now.conn) (state g.S.Store c.shut_grant-done.new.self.conn) c.shut_grant-done.result (with_closed c.args.number) (λ (k : Ledger). k) c.shut_grant-done.ensures.written)
-
-pub returns-clause-leaves : goal.returns-clause-leaves
-returns-clause-leaves g c = calls_by g.S.Store _ _ _ c.if-self.false c.is_err-self.ensures.value refl c.shut_grant-done.ensures.leaves
-
-pub returns-clause-cause : goal.returns-clause-cause
-returns-clause-cause g c m₀ m k₀ k works s fits =
-    steps_fault (state g.S.Store c.shut_grant-done.new.self.conn) c.shut_grant-done.result m₀ (with_closed c.args.number m) k₀ k
-    (c.shut_grant-done.ensures.written m₀ m k₀ k (subst (λ b. Works (state g.S.Store c.args.self.now.store.now.conn) b m₀ k₀ m k) c.if-self.false works) s)
+pub returns : goal.returns
+returns g c = record {
+  leaves = calls_by g.S.Store _ _ _ c.if-self.false c.is_err-self.ensures.value refl c.shut_grant-done.ensures.leaves;
+  changes = rw (c.if-self.false, c.is_err-self.ensures.value)
+      (changes_by (state g.S.Store c.args.self.now.store.now.conn) (state g.S.Store c.shut_grant-done.new.self.conn) c.shut_grant-done.result (with_closed c.args.number) (λ (k : Ledger). k) c.shut_grant-done.ensures.written);
+  cause = λ m₀ m k₀ k works s fits. steps_fault (state g.S.Store c.shut_grant-done.new.self.conn) c.shut_grant-done.result m₀ (with_closed c.args.number m) k₀ k
+      (c.shut_grant-done.ensures.written m₀ m k₀ k (subst (λ b. Works (state g.S.Store c.args.self.now.store.now.conn) b m₀ k₀ m k) c.if-self.false works) s);
+}

@@ -1,9 +1,6 @@
 use Rattle.std.proofs.Common.{refl}
-use Rattle.fax_store.proofs.FrameLemmas.{calls_by, runs_of, tells_by}
+use Rattle.fax_store.proofs.FrameLemmas.{tells_by}
 use Rattle.fax_store.proofs.work.Work.hold_of.Goals as goal
 
 pub returns-clause-answers : goal.returns-clause-answers
-returns-clause-answers g c = tells_by g.S.Store _ _ _ c.if-self.false c.is_err-self.ensures.value _ c.hold_of-found.ensures.leaves c.hold_of-found.ensures.answers
-
-pub returns-clause-leaves : goal.returns-clause-leaves
-returns-clause-leaves g c = calls_by g.S.Store _ _ _ c.if-self.false c.is_err-self.ensures.value refl (runs_of g.S.Store _ _ _ c.hold_of-found.ensures.leaves)
+returns-clause-answers g c = tells_by g.S.Store _ _ _ c.if-self.false c.is_err-self.ensures.value refl _ c.hold_of-found.ensures.leaves c.hold_of-found.ensures.answers

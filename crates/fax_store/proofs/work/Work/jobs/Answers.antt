@@ -1,9 +1,6 @@
 use Rattle.std.proofs.Common.{refl}
-use Rattle.fax_store.proofs.FrameLemmas.{calls_by, runs_of, tells_by}
+use Rattle.fax_store.proofs.FrameLemmas.{tells_by}
 use Rattle.fax_store.proofs.work.Work.jobs.Goals as goal
 
-pub returns-clause-answers : goal.returns-clause-answers
-returns-clause-answers g c = tells_by g.S.Store _ _ _ c.if-self.false c.is_err-self.ensures.value _ c.jobs-found.ensures.leaves c.jobs-found.ensures.answers
-
-pub returns-clause-leaves : goal.returns-clause-leaves
-returns-clause-leaves g c = calls_by g.S.Store _ _ _ c.if-self.false c.is_err-self.ensures.value refl (runs_of g.S.Store _ _ _ c.jobs-found.ensures.leaves)
+pub returns : goal.returns
+returns g c = tells_by g.S.Store _ _ _ c.if-self.false c.is_err-self.ensures.value refl _ c.jobs-found.ensures.leaves c.jobs-found.ensures.answers

@@ -1,21 +1,6 @@
-use Rattle.std.proofs.Common.{refl, subst}
-use Rattle.sqlite.specs.Held.{state}
-use Rattle.fax_core.specs.Job.{job_of}
-use Rattle.fax_core.specs.Ledger.{Ledger}
-use Rattle.fax_store.specs.Job.{with_one_more_job}
-use Rattle.fax_store.specs.Work.{Works}
-use Rattle.fax_store.proofs.WorkLemmas.{moved_by}
-use Rattle.fax_store.proofs.FrameLemmas.{calls_by}
+use Rattle.std.proofs.Common.{refl}
+use Rattle.fax_store.proofs.FrameLemmas.{makes_if_by}
 use Rattle.fax_store.proofs.work.Work.put_job.Goals as goal
 
-pub returns-clause-changes : goal.returns-clause-changes
-returns-clause-changes g c =
-    rw (c.if-self.false, c.is_err-self.ensures.value)
-    (moved_by (state g.S.Store c.args.self.now.store.now.conn) (state g.S.Store c.add_job-done.new.self.conn) c.add_job-done.result (with_one_more_job (job_of c.args.job.now)) (λ (k : Ledger). k) (λ m₀ m k₀ k works s. c.add_job-done.ensures.written m₀ m k₀ k works s))
-
-pub returns-clause-cause : goal.returns-clause-cause
-returns-clause-cause g c m₀ m k₀ k works s fits =
-    c.add_job-done.ensures.cause m₀ m k₀ k (subst (λ b. Works (state g.S.Store c.args.self.now.store.now.conn) b m₀ k₀ m k) c.if-self.false works) s fits
-
-pub returns-clause-leaves : goal.returns-clause-leaves
-returns-clause-leaves g c = calls_by g.S.Store _ _ _ c.if-self.false c.is_err-self.ensures.value refl c.add_job-done.ensures.leaves
+pub returns : goal.returns
+returns g c = makes_if_by g.S.Store _ _ _ c.if-self.false c.is_err-self.ensures.value refl _ _ _ c.add_job-done.ensures
