@@ -1,5 +1,5 @@
 -- What is said of a call that memory or the store may leave without an answer.
-use Rattle.std.proofs.Common.{◌≡◌, Bool, true, false, Ok, Err, Result, IfOk, IsErr, IsErrAnd, IsOk, refl, ap, ◌∙◌}
+use Rattle.std.proofs.Common.{◌≡◌, Ok, Err, Result, IfOk, IsErr, IsErrAnd, refl, ap, ◌∙◌}
 use Rattle.fax_tables.specs.declared.fault.StoreFault.{StoreFault}
 use Rattle.fax_tables.specs.declared.fault.StoreFault.TheVariants.{Unavailable}
 use Rattle.fax_decide.specs.Fault.{OnlyNoAnswer, OrNoAnswer, fault_of}
@@ -35,10 +35,9 @@ pub only_no_answer : {A : Type 0} (r : Result A Fault) (P : A → Type 0) → Or
 only_no_answer (Ok x) P h = tt
 only_no_answer (Err e) P h = h
 
--- both
-pub or_no_answer : {A : Type 0} (r : Result A Fault) (P : A → Type 0) → IfOk r P → OnlyNoAnswer r → OrNoAnswer r P
-or_no_answer (Ok x) P h why = h
-or_no_answer (Err e) P h why = why
+-- the two sides of one that is whole, where the second is asked under a premise
+pub both_sides : {A Q : Type 0} (r : Result A Fault) (P : A → Type 0) → OrNoAnswer r P → IfOk r P × (Q → OnlyNoAnswer r)
+both_sides r P h = (if_answered r P h, λ q. only_no_answer r P h)
 
 -- what is less
 pub or_weaker : {A : Type 0} (r : Result A Fault) (P Q : A → Type 0) → ((x : A) → P x → Q x) → OrNoAnswer r P → OrNoAnswer r Q
@@ -49,9 +48,3 @@ or_weaker (Err e) P Q less h = h
 pub always_answered : {A : Type 0} (r : Result A Fault) (P : A → Type 0) → IfOk r P → (IsErr r → ⊥) → OrNoAnswer r P
 always_answered (Ok x) P h never = h
 always_answered (Err e) P h never = absurd (never refl)
-
--- by cases: a value is there, or memory or the store gave no answer
-pub in_either : {A : Type 0} (b : Bool) (r : Result A Fault) → (b ≡ false → IsOk r) → (b ≡ true → OnlyNoAnswer r) → OnlyNoAnswer r
-in_either true r ok why = why refl
-in_either false (Ok x) ok why = tt
-in_either false (Err e) ok why = absurd (let no = ok refl in cc)

@@ -15,7 +15,7 @@ mod GivenLemmas
 mod KeptLemmas
 mod PlainLemmas
 mod ImportLemmas
-pub mod OpenLemmas
+mod LookingLemmas
 pub mod FreeLemmas
 mod FloorLemmas
 mod WithinLemmas

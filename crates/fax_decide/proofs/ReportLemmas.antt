@@ -1,5 +1,5 @@
 -- What is decided of a report on a grant.
-use Rattle.std.proofs.Common.{◌≡◌, ℕ, ◌≤◌, ◌-◌, Bool, true, false, Some, None, Ok, Err, All, List, [], ◌∷◌, suc, find, refl, sym, ap, ap₂, subst, ◌∙◌, arith, inl, inr, ◌==◌}
+use Rattle.std.proofs.Common.{◌≡◌, ℕ, ◌≤◌, ◌-◌, Bool, true, false, not, Some, None, Ok, Err, All, List, [], ◌∷◌, suc, find, refl, sym, ap, ap₂, subst, ◌∙◌, arith, inl, inr, ◌==◌}
 use Rattle.std.specs.Option.{option_map}
 use Rattle.std.specs.Prelude.{Option, Result}
 use Rattle.std.proofs.lemmas.Bool.{cases_Bool}
@@ -8,15 +8,14 @@ use Rattle.fax_job.specs.Pair.{Pair}
 use Rattle.fax_job.specs.declared.job.JobFields.{JobFields}
 use Rattle.fax_job.specs.declared.job.Call.{Call as CallResult}
 use Rattle.fax_job.specs.declared.refusal.Refusal.{Refusal}
-use Rattle.fax_job.specs.declared.refusal.Refusal.TheVariants.{GrantClosed, PageOrder}
+use Rattle.fax_job.specs.declared.refusal.Refusal.TheVariants.{GrantClosed, NoGrant, PageOrder}
 use Rattle.fax_ask.specs.Answer.{Replied}
 use Rattle.fax_ask.specs.Response.{Response, accepted_response, refused_response}
 use Rattle.fax_core.specs.Ageing.{aged}
 use Rattle.fax_core.specs.Change.{changed}
 use Rattle.fax_core.specs.declared.change.Change.{Change}
 use Rattle.fax_core.specs.declared.grants.Grant.{Grant}
-use Rattle.fax_core.specs.declared.report.Outcome.{Outcome as OutcomeSaid}
-use Rattle.fax_core.specs.Decisions.{JobAndGrant, call, page, outcome, stops}
+use Rattle.fax_core.specs.Decisions.{JobAndGrant, refuse_if◌because◌otherwise◌, call, page, outcome, stops}
 use Rattle.fax_core.specs.Job.{Job, job_of}
 use Rattle.fax_core.specs.Machine.{with_grant, with_both, reported, on_grant, on_both, without_job, keys_of_job, call_reply, page_reply, outcome_reply}
 use Rattle.fax_core.specs.Queue.{Queue, job_numbered, grant_numbered}
@@ -185,7 +184,13 @@ pub on_grant_is : (s : Settings) (m : Queue) (t n : ℕ) (report : Report) (g : 
 on_grant_is s m t n report g f found_grant found_job is_grant one_grant is_job one_job =
     both_step s (aged t m) t report (grant_numbered n m) g (job_in (aged t m) f) (sym is_grant ∙ one_grant) (sym is_job ∙ ap (option_map (job_in (aged t m))) one_job)
 
--- a report on a grant whose job isn't there is refused
+-- a report on a grant that isn't there is refused
+pub no_grant_is : (s : Settings) (m : Queue) (t : ℕ) (report : Report) (o : Option Grant) → o ≡ None → machine.Refused NoGrant machine.NoKeys ≡ report_step s m t report o
+no_grant_is s m t (Call said) o is = sym (ap (on_grant m (call said) (call_reply t)) is)
+no_grant_is s m t (Page said) o is = sym (ap (on_grant m (page said) (page_reply t)) is)
+no_grant_is s m t (Outcome said) o is = sym (ap (on_grant m (λ j g. outcome said j g (s.delay g.call) t) (outcome_reply s t)) is)
+
+-- and so is one on a grant whose job isn't there
 alone_step : (s : Settings) (m : Queue) (t : ℕ) (report : Report) (o : Option Grant) (g : Grant) → o ≡ Some g → job_numbered g.job m ≡ None → machine.Refused (without_job g.is_open) machine.NoKeys ≡ report_step s m t report o
 alone_step s m t (Call said) o g is job_is = sym (ap (on_grant m (call said) (call_reply t)) is ∙ ap (on_both m (call said) (call_reply t) g) job_is)
 alone_step s m t (Page said) o g is job_is = sym (ap (on_grant m (page said) (page_reply t)) is ∙ ap (on_both m (page said) (page_reply t) g) job_is)
@@ -217,9 +222,9 @@ reported_on P m reply_to lines j c g h r whole same decided is holds =
     subst (λ (x : Result JobAndGrant Refusal). P (reported m reply_to (lined lines j) x))
     (ap (λ (x : Grant). Ok (record { job = changed c (lined lines j); grant = x })) same ∙ ap (both_lined lines) decided ∙ is) holds
 
--- an outcome is taken of an open grant alone
-pub open_outcome : (o : OutcomeSaid) (j : Job) (g : Grant) (delay t : ℕ) (b : JobAndGrant) → Ok b ≡ outcome o j g delay t → g.is_open ≡ true
-open_outcome o j g delay t b is = by g.is_open refl
+-- a report is taken of an open grant alone
+pub was_open : (g : Grant) (b : JobAndGrant) (rest : Result JobAndGrant Refusal) → Ok b ≡ (refuse_if not g.is_open because GrantClosed otherwise rest) → g.is_open ≡ true
+was_open g b rest is = by g.is_open refl
   where
     by : (b : Bool) → g.is_open ≡ b → g.is_open ≡ true
     by true e = e

@@ -9,3 +9,4 @@ pub mod JobAsk
 pub mod View
 pub mod Records
 pub mod Report
+pub mod Looking

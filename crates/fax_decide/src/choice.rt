@@ -1,6 +1,6 @@
 //! Which job a modem is given: a modem asks for work.
 
-ghost use Rattle.std.specs.Prelude.{◌≡◌, ◌&&◌, ℕ, List, [], false, true, IfOk, IsErr, IsTrue, Ok, None, Some, is_some, OnOk};
+ghost use Rattle.std.specs.Prelude.{◌≡◌, ◌&&◌, ℕ, [], false, true, IsErr, IsTrue, Ok, None, Some, is_some};
 ghost use Rattle.std.specs.Option.{option_map};
 ghost use Rattle.std.specs.Vec.Iter.{into_iter_items};
 ghost use Rattle.fax_ask.specs.Answer.{grant_told};
@@ -12,7 +12,6 @@ ghost use Rattle.fax_core.specs.Decisions.{grant as granted_if};
 ghost use Rattle.fax_core.specs.Job.{job_of};
 ghost use Rattle.fax_core.specs.Fits.{fits};
 ghost use Rattle.fax_core.specs.Machine.{dial_of, given, given_best, given_to, handed, held_by};
-ghost use Rattle.fax_core.specs.Ledger.{Ledger};
 ghost use Rattle.fax_core.specs.Queue.{Queue, job_numbered};
 ghost use Rattle.fax_core.specs.Reply.{HeldGrant};
 ghost use Rattle.fax_core.specs.Sound.{Sound};
@@ -21,13 +20,12 @@ ghost use Rattle.fax_core.specs.declared.grants.Grant.{Grant as OneGrant};
 ghost use Rattle.fax_job.specs.declared.job.Phase.TheVariants.{Waiting};
 ghost use Rattle.fax_job.specs.declared.refusal.Refusal.TheVariants.{ModemBusy};
 ghost use Rattle.fax_tables.specs.Grant.{as_hold};
-ghost use Rattle.fax_store.specs.Calls.{Looks, shown};
 ghost use Rattle.fax_store.specs.Candidates.{StandsAt};
-ghost use Rattle.fax_store.specs.Store.{Means, Serves, StaysOpen};
 ghost use Rattle.fax_dest.specs.Setup.{admits};
 ghost use Rattle.fax_decide.specs.Choice.{IsBusy, IsFirst, IsFirstAsked, IsGrantOf, is_held_by};
 ghost use Rattle.fax_decide.specs.Decision.{Decides};
-ghost use Rattle.fax_decide.specs.Fault.{OnlyNoAnswer, OrNoAnswer};
+ghost use Rattle.fax_decide.specs.Fault.{OrNoAnswer};
+ghost use Rattle.fax_decide.specs.Looking.{Consults};
 ghost use Rattle.fax_decide.specs.Records.{KeepsRecord};
 ghost use Rattle.fax_decide.specs.Settings.{settings_of};
 ghost use Rattle.fax_decide.specs.State.{may_call};
@@ -54,12 +52,9 @@ pub(crate) fn decide_next<S: Alter>(
     next_grant: u32,
     t: Moment,
 ) -> Result<Decision, Fault>
-    ensures leaves { Looks S.Store store.old store.new }
-    ensures opens { OnOk result (StaysOpen (shown S.Store store.old) (shown S.Store store.new)) }
-    ensures decided { (m : Queue) (k : Ledger) → Sound m → Means (shown S.Store store.old) m k
-        → Serves (shown S.Store store.new) → next_grant ≡ m.next_grant
+    ensures { Consults S.Store store.old store.new result (λ m. Sound m → next_grant ≡ m.next_grant
         → OrNoAnswer result (Decides
-        (given_to (settings_of office.now.setup office.now.controls) (aged t m) t modem) m t) }
+        (given_to (settings_of office.now.setup office.now.controls) (aged t m) t modem) m t)) }
 {
     if !office.setup.has_modem(modem.as_str()) {
         return Ok(Decision::Refused(Reply::refused(Refusal::NoModem)));
@@ -81,13 +76,9 @@ fn busy<S: Alter>(
     hold: Hold,
     modem: &Name,
 ) -> Result<Reply, Fault>
-    ensures leaves { Looks S.Store store.old store.new }
-    ensures opens { OnOk result (StaysOpen (shown S.Store store.old) (shown S.Store store.new)) }
-    ensures decided { (m : Queue) (k : Ledger) (t : ℕ) (g : OneGrant) → Sound m
-        → Means (shown S.Store store.old) m k → Serves (shown S.Store store.new)
-        → held_by modem.now m ≡ Some g → hold ≡ as_hold g
-        → OrNoAnswer result (λ reply. reply
-        ≡ refused_response ModemBusy (HeldGrant (is_some g.call) (handed g (aged t m)))) }
+    ensures { Consults S.Store store.old store.new result (λ m. (t : ℕ) (g : OneGrant) → Sound m
+        → held_by modem.now m ≡ Some g → hold ≡ as_hold g → OrNoAnswer result (λ reply. reply
+        ≡ refused_response ModemBusy (HeldGrant (is_some g.call) (handed g (aged t m))))) }
 {
     let Some(grant) = store.grant(hold.grant)? else {
         return Err(Fault::Strange);
@@ -132,12 +123,9 @@ fn decide_free<S: Alter>(
     next_grant: u32,
     t: Moment,
 ) -> Result<Decision, Fault>
-    ensures leaves { Looks S.Store store.old store.new }
-    ensures opens { OnOk result (StaysOpen (shown S.Store store.old) (shown S.Store store.new)) }
-    ensures decided { (m : Queue) (k : Ledger) → Sound m → Means (shown S.Store store.old) m k
-        → Serves (shown S.Store store.new) → next_grant ≡ m.next_grant
+    ensures { Consults S.Store store.old store.new result (λ m. Sound m → next_grant ≡ m.next_grant
         → OrNoAnswer result (Decides (given_best (settings_of office.now.setup office.now.controls) (aged t m) modem
-        (best (settings_of office.now.setup office.now.controls) (aged t m) t modem)) m t) }
+        (best (settings_of office.now.setup office.now.controls) (aged t m) t modem)) m t)) }
 {
     match best(store, office, alloc, &modem, t)? {
         Some(job) => give(office, alloc, job, modem, next_grant),
@@ -153,12 +141,9 @@ fn best<S: Alter>(
     modem: &Name,
     t: Moment,
 ) -> Result<Option<Job>, Fault>
-    ensures leaves { Looks S.Store store.old store.new }
-    ensures opens { OnOk result (StaysOpen (shown S.Store store.old) (shown S.Store store.new)) }
-    ensures found { (m : Queue) (k : Ledger) → Sound m → Means (shown S.Store store.old) m k
-        → Serves (shown S.Store store.new)
-        → OrNoAnswer result (λ found. option_map (λ f. job_of f) found
-        ≡ best (settings_of office.now.setup office.now.controls) (aged t m) t modem.now) }
+    ensures { Consults S.Store store.old store.new result (λ m. Sound m → OrNoAnswer result (λ found.
+        option_map (λ f. job_of f) found
+        ≡ best (settings_of office.now.setup office.now.controls) (aged t m) t modem.now)) }
 {
     let Some(number) = first(store, office, alloc, modem, t)? else {
         return Ok(None);
@@ -178,13 +163,8 @@ fn first<S: Alter>(
     modem: &Name,
     t: Moment,
 ) -> Result<Option<u32>, Fault>
-    ensures leaves { Looks S.Store store.old store.new }
-    ensures opens { OnOk result (StaysOpen (shown S.Store store.old) (shown S.Store store.new)) }
-    ensures found { (m : Queue) (k : Ledger) → Means (shown S.Store store.old) m k
-        → Serves (shown S.Store store.new)
-        → IfOk result (IsFirst (settings_of office.now.setup office.now.controls) m t modem.now) }
-    ensures cause { (m : Queue) (k : Ledger) → Sound m → Means (shown S.Store store.old) m k
-        → Serves (shown S.Store store.new) → OnlyNoAnswer result }
+    ensures { Consults S.Store store.old store.new result (λ m. Sound m
+        → OrNoAnswer result (IsFirst (settings_of office.now.setup office.now.controls) m t modem.now)) }
 {
     let mut busy = None;
     let found = first_or_busy(store, office, alloc, &mut busy, modem, t)?;
@@ -204,16 +184,10 @@ fn first_or_busy<S: Alter>(
     modem: &Name,
     t: Moment,
 ) -> Result<Option<u32>, Fault>
-    ensures leaves { Looks S.Store store.old store.new }
-    ensures opens { OnOk result (StaysOpen (shown S.Store store.old) (shown S.Store store.new)) }
-    ensures found { (m : Queue) (k : Ledger) → Means (shown S.Store store.old) m k
-        → Serves (shown S.Store store.new)
+    ensures { Consults S.Store store.old store.new result (λ m. Sound m
         → IsBusy (settings_of office.now.setup office.now.controls) m t busy.old
-        → IfOk result (λ found. IsBusy (settings_of office.now.setup office.now.controls) m t busy.new
-        × (busy.new ≡ None → IsFirst (settings_of office.now.setup office.now.controls) m t modem.now found)) }
-    ensures cause { (m : Queue) (k : Ledger) → Sound m → Means (shown S.Store store.old) m k
-        → Serves (shown S.Store store.new)
-        → IsBusy (settings_of office.now.setup office.now.controls) m t busy.old → OnlyNoAnswer result }
+        → OrNoAnswer result (λ found. IsBusy (settings_of office.now.setup office.now.controls) m t busy.new
+        × (busy.new ≡ None → IsFirst (settings_of office.now.setup office.now.controls) m t modem.now found))) }
 {
     let mut candidates = store.candidates(t);
     first_of(&mut candidates, office, alloc, busy, true, modem, t)
@@ -228,15 +202,9 @@ fn first_but<S: Alter>(
     modem: &Name,
     t: Moment,
 ) -> Result<Option<u32>, Fault>
-    ensures leaves { Looks S.Store store.old store.new }
-    ensures opens { OnOk result (StaysOpen (shown S.Store store.old) (shown S.Store store.new)) }
-    ensures found { (m : Queue) (k : Ledger) → Means (shown S.Store store.old) m k
-        → Serves (shown S.Store store.new)
+    ensures { Consults S.Store store.old store.new result (λ m. Sound m
         → IsBusy (settings_of office.now.setup office.now.controls) m t (Some busy)
-        → IfOk result (IsFirst (settings_of office.now.setup office.now.controls) m t modem.now) }
-    ensures cause { (m : Queue) (k : Ledger) → Sound m → Means (shown S.Store store.old) m k
-        → Serves (shown S.Store store.new)
-        → IsBusy (settings_of office.now.setup office.now.controls) m t (Some busy) → OnlyNoAnswer result }
+        → OrNoAnswer result (IsFirst (settings_of office.now.setup office.now.controls) m t modem.now)) }
 {
     let mut other = None;
     let mut candidates = store.candidates_but(t, busy);
@@ -255,19 +223,13 @@ fn first_of<S: Alter>(
     t: Moment,
 ) -> Result<Option<u32>, Fault>
     ensures same_reference { candidates.new.store.ghost_name ≡ candidates.old.store.ghost_name }
-    ensures leaves { Looks S.Store candidates.old.store.now candidates.new.store.now }
-    ensures opens { OnOk result (StaysOpen (shown S.Store candidates.old.store.now) (shown S.Store candidates.new.store.now)) }
-    ensures found { (m : Queue) (k : Ledger) → Means (shown S.Store candidates.old.store.now) m k
-        → Serves (shown S.Store candidates.new.store.now) → candidates.old.asked.t ≡ t
+    ensures consults { Consults S.Store candidates.old.store.now candidates.new.store.now result (λ m. Sound m
+        → candidates.old.asked.t ≡ t
         → StandsAt candidates.old.asked m [] (into_iter_items candidates.old.page) candidates.old.front candidates.old.most
         → IsBusy (settings_of office.now.setup office.now.controls) m t busy.old
-        → IfOk result (λ found. IsBusy (settings_of office.now.setup office.now.controls) m t busy.new
+        → OrNoAnswer result (λ found. IsBusy (settings_of office.now.setup office.now.controls) m t busy.new
         × ((IsTrue ends_at_busy → busy.new ≡ None)
-        → IsFirstAsked (settings_of office.now.setup office.now.controls) candidates.old.asked m modem.now found)) }
-    ensures cause { (m : Queue) (k : Ledger) → Sound m → Means (shown S.Store candidates.old.store.now) m k
-        → Serves (shown S.Store candidates.new.store.now) → candidates.old.asked.t ≡ t
-        → StandsAt candidates.old.asked m [] (into_iter_items candidates.old.page) candidates.old.front candidates.old.most
-        → IsBusy (settings_of office.now.setup office.now.controls) m t busy.old → OnlyNoAnswer result }
+        → IsFirstAsked (settings_of office.now.setup office.now.controls) candidates.old.asked m modem.now found))) }
 {
     // Each job has a number of its own, so no sound queue has more.
     for _ in 0..LAST_JOB + 1 {
@@ -298,16 +260,13 @@ fn goes<S: Alter>(
     t: Moment,
 ) -> Result<bool, Fault>
     ensures same_reference { candidates.new.store.ghost_name ≡ candidates.old.store.ghost_name }
-    ensures leaves { Looks S.Store candidates.old.store.now candidates.new.store.now }
-    ensures opens { OnOk result (StaysOpen (shown S.Store candidates.old.store.now) (shown S.Store candidates.new.store.now)) }
     ensures same { (candidates.new.asked ≡ candidates.old.asked) × (candidates.new.page ≡ candidates.old.page)
         × (candidates.new.front ≡ candidates.old.front) × (candidates.new.most ≡ candidates.old.most) }
-    ensures told { (m : Queue) (k : Ledger) → Means (shown S.Store candidates.old.store.now) m k
-        → Serves (shown S.Store candidates.new.store.now)
-        → IsBusy (settings_of office.now.setup office.now.controls) m t busy.old
+    ensures consults { Consults S.Store candidates.old.store.now candidates.new.store.now result (λ m.
+        IsBusy (settings_of office.now.setup office.now.controls) m t busy.old
         → OrNoAnswer result (λ goes. (goes ≡ (may_call (settings_of office.now.setup office.now.controls) prospect.dial
         (calls_to prospect.dial m) t && admits office.now.setup prospect.modem modem.now))
-        × IsBusy (settings_of office.now.setup office.now.controls) m t busy.new) }
+        × IsBusy (settings_of office.now.setup office.now.controls) m t busy.new)) }
 {
     let Prospect {
         job: _,
@@ -347,10 +306,8 @@ fn give(
     next_grant: u32,
 ) -> Result<Decision, Fault>
     ensures decided { (m : Queue) (t : ℕ) → Sound m → job_numbered job.job (aged t m) ≡ Some (job_of job)
-        → next_grant ≡ m.next_grant → job.phase ≡ Waiting → IfOk result (Decides
+        → next_grant ≡ m.next_grant → job.phase ≡ Waiting → OrNoAnswer result (Decides
         (given (aged t m) (granted_if (job_of job) modem next_grant office.now.setup.max_grants)) m t) }
-    ensures cause { (m : Queue) (t : ℕ) → Sound m → job_numbered job.job (aged t m) ≡ Some (job_of job)
-        → job.phase ≡ Waiting → OnlyNoAnswer result }
     ensures misfit { fits job None ≡ false → IsErr result }
 {
     if !fits(&job, None) {
@@ -367,10 +324,9 @@ fn give(
 
 /// The job is changed, and the modem is told of its grant.
 fn given(alloc: Global, job: Job, change: Change, grant: Grant) -> Result<Decision, Fault>
-    ensures decided { (m : Queue) (t : ℕ) → Sound m → job_numbered job.job (aged t m) ≡ Some (job_of job)
-        → grant.number ≡ m.next_grant → IsGrantOf job grant
-        → IfOk result (Decides (given (aged t m) (decided_with grant (job_of job) (Ok change))) m t) }
-    ensures cause { KeepsRecord change job → OnlyNoAnswer result }
+    ensures { (m : Queue) (t : ℕ) → Sound m → job_numbered job.job (aged t m) ≡ Some (job_of job)
+        → grant.number ≡ m.next_grant → IsGrantOf job grant → KeepsRecord change job
+        → OrNoAnswer result (Decides (given (aged t m) (decided_with grant (job_of job) (Ok change))) m t) }
 {
     let job = applied(change, job)?;
     let reply = answered(alloc, &Answer::Given(handed(&grant, &job)));

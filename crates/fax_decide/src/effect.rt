@@ -1,7 +1,7 @@
 //! What an accepted request changes in the tables.
 
 ghost use Rattle.std.specs.Prelude.{◌≡◌, true, OnErr};
-ghost use Rattle.fax_store.specs.Calls.{FailsOnly, Follows, MakesWhere};
+ghost use Rattle.fax_store.specs.Calls.{BecomesWhere, FailsOnly, Follows};
 ghost use Rattle.fax_store.specs.Meta.{with_clock};
 ghost use Rattle.fax_decide.specs.Effect.{IsWritable, Suits, effected};
 
@@ -39,7 +39,7 @@ impl Effect {
     pub fn write<S: Alter>(&self, work: &mut Work<'_, S>, clock: Moment) -> Result<(), StoreFault>
         ensures leaves { Follows S.Store work.old work.new }
         ensures fails { OnErr result (work.new.failed ≡ true) }
-        ensures changes { MakesWhere S.Store work.old work.new (Suits self.now)
+        ensures changes { BecomesWhere S.Store work.old work.new (Suits self.now)
             (λ m. with_clock clock (effected self.now m)) (λ k. k) }
         ensures cause { FailsOnly S.Store work.old work.new result (λ m k. IsWritable self.now m) }
     {
@@ -54,7 +54,7 @@ impl Effect {
     fn change<S: Alter>(&self, work: &mut Work<'_, S>) -> Result<(), StoreFault>
         ensures leaves { Follows S.Store work.old work.new }
         ensures fails { OnErr result (work.new.failed ≡ true) }
-        ensures changes { MakesWhere S.Store work.old work.new (Suits self.now) (effected self.now) (λ k. k) }
+        ensures changes { BecomesWhere S.Store work.old work.new (Suits self.now) (effected self.now) (λ k. k) }
         ensures cause { FailsOnly S.Store work.old work.new result (λ m k. IsWritable self.now m) }
     {
         match self {

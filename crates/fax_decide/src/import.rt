@@ -1,25 +1,21 @@
 //! Imports.
 
-ghost use Rattle.std.specs.Prelude.{◌≡◌, List, Ok, IfOk, OnOk};
-ghost use Rattle.sqlite.specs.Held.{state};
+ghost use Rattle.std.specs.Prelude.{◌≡◌, Ok};
 ghost use Rattle.fax_ask.specs.Answer.{Replied};
 ghost use Rattle.fax_ask.specs.Response.{accepted_response};
 ghost use Rattle.fax_core.specs.Ageing.{aged};
 ghost use Rattle.fax_core.specs.Import.{bring};
 ghost use Rattle.fax_core.specs.Job.{job_of};
 ghost use Rattle.fax_core.specs.Machine.{brought_in};
-ghost use Rattle.fax_core.specs.Ledger.{Ledger};
-ghost use Rattle.fax_core.specs.Queue.{Queue};
 ghost use Rattle.fax_core.specs.Reply.{Brought};
 ghost use Rattle.fax_core.specs.Settings.{Rule as MachineRule};
 ghost use Rattle.fax_core.specs.Sound.{Sound};
 ghost use Rattle.fax_core.specs.State.{state as job_state};
 ghost use Rattle.fax_job.specs.Job.{IsLawful};
 ghost use Rattle.fax_tables.specs.Meta.{meta_of};
-ghost use Rattle.fax_store.specs.Calls.{Looks, shown};
-ghost use Rattle.fax_store.specs.Store.{Means, Serves, StaysOpen};
 ghost use Rattle.fax_decide.specs.Decision.{Decides};
-ghost use Rattle.fax_decide.specs.Fault.{OnlyNoAnswer, OrNoAnswer};
+ghost use Rattle.fax_decide.specs.Fault.{OrNoAnswer};
+ghost use Rattle.fax_decide.specs.Looking.{Consults, DecidesBy};
 ghost use Rattle.fax_decide.specs.Read.{IsReadImport};
 ghost use Rattle.fax_decide.specs.Settings.{machine_rule, rule_for, settings_of};
 
@@ -45,16 +41,11 @@ pub(crate) fn decide_import<S: Alter>(
     meta: &Meta,
     t: Moment,
 ) -> Result<Decision, Fault>
-    ensures leaves { Looks S.Store store.old store.new }
-    ensures opens { OnOk result (StaysOpen (shown S.Store store.old) (shown S.Store store.new)) }
-    ensures decided { (m : Queue) (k : Ledger) → Sound m → Means (shown S.Store store.old) m k
-        → Serves (shown S.Store store.new) → meta.now ≡ meta_of m → IfOk result (Decides
-        (brought_in (settings_of office.now.setup office.now.controls) (aged t m) t
+    ensures { DecidesBy S.Store store.old store.new result meta.now t
+        (λ m. brought_in (settings_of office.now.setup office.now.controls) (aged t m) t
         (machine_rule office.now.setup (rule_for office.now.controls import.order.dial))
         (bring import (machine_rule office.now.setup (rule_for office.now.controls import.order.dial))
-        m.next_job office.now.setup.max_jobs t)) m t) }
-    ensures cause { (m : Queue) (k : Ledger) → Sound m → Means (shown S.Store store.old) m k
-        → Serves (shown S.Store store.new) → meta.now ≡ meta_of m → IsReadImport import → OnlyNoAnswer result }
+        m.next_job office.now.setup.max_jobs t)) (IsReadImport import) }
 {
     let rule = office.rule_of(alloc, &import.order.dial)?;
     match bring(import, rule, meta.next_job, office.setup.max_jobs(), t) {
@@ -72,12 +63,9 @@ fn brought<S: Alter>(
     meta: Meta,
     t: Moment,
 ) -> Result<Decision, Fault>
-    ensures leaves { Looks S.Store store.old store.new }
-    ensures opens { OnOk result (StaysOpen (shown S.Store store.old) (shown S.Store store.new)) }
-    ensures decided { (m : Queue) (k : Ledger) (rule : MachineRule) → Sound m
-        → Means (shown S.Store store.old) m k → Serves (shown S.Store store.new)
+    ensures { Consults S.Store store.old store.new result (λ m. (rule : MachineRule) → Sound m
         → meta ≡ meta_of m → job.job ≡ m.next_job → OrNoAnswer result (Decides
-        (brought_in (settings_of office.now.setup office.now.controls) (aged t m) t rule (Ok (job_of job))) m t) }
+        (brought_in (settings_of office.now.setup office.now.controls) (aged t m) t rule (Ok (job_of job))) m t)) }
 {
     let reply = told(store, office, alloc, &job, t);
     take(Effect::NewJob { job, meta }, reply)
@@ -91,12 +79,9 @@ fn told<S: Alter>(
     job: &Job,
     t: Moment,
 ) -> Result<Reply, Fault>
-    ensures leaves { Looks S.Store store.old store.new }
-    ensures opens { OnOk result (StaysOpen (shown S.Store store.old) (shown S.Store store.new)) }
-    ensures told { (m : Queue) (k : Ledger) → Means (shown S.Store store.old) m k
-        → Serves (shown S.Store store.new) → OrNoAnswer result (λ reply. reply ≡ accepted_response
-        (Replied (Brought job.now.job
-        (job_state (settings_of office.now.setup office.now.controls) m t (job_of job.now))))) }
+    ensures consults { Consults S.Store store.old store.new result (λ m. OrNoAnswer result (λ reply. reply
+        ≡ accepted_response (Replied (Brought job.now.job
+        (job_state (settings_of office.now.setup office.now.controls) m t (job_of job.now)))))) }
     ensures lawful { IsLawful job.now }
 {
     let number = job.fields().job;

@@ -1,22 +1,19 @@
 //! A client's requests on a job.
 
-ghost use Rattle.std.specs.Prelude.{◌≡◌, List, Some, Ok, IfOk, OnOk};
-ghost use Rattle.sqlite.specs.Held.{state};
+ghost use Rattle.std.specs.Prelude.{◌≡◌, Some, Ok, IfOk};
 ghost use Rattle.fax_ask.specs.Answer.{Replied};
 ghost use Rattle.fax_ask.specs.Response.{accepted_response};
 ghost use Rattle.fax_core.specs.Ageing.{aged};
 ghost use Rattle.fax_core.specs.Change.{changed as changed_by, decided};
 ghost use Rattle.fax_core.specs.Job.{job_of};
 ghost use Rattle.fax_core.specs.Machine.{changed as change_step, on_job};
-ghost use Rattle.fax_core.specs.Ledger.{Ledger};
-ghost use Rattle.fax_core.specs.Queue.{Queue, job_numbered};
+ghost use Rattle.fax_core.specs.Queue.{job_numbered};
 ghost use Rattle.fax_core.specs.Reply.{Stands};
 ghost use Rattle.fax_core.specs.State.{state as job_state};
-ghost use Rattle.fax_store.specs.Calls.{Looks, shown};
-ghost use Rattle.fax_store.specs.Store.{Means, Serves, StaysOpen};
 ghost use Rattle.fax_decide.specs.Decision.{Decides};
 ghost use Rattle.fax_decide.specs.Fault.{OnlyNoAnswer, OrNoAnswer};
 ghost use Rattle.fax_decide.specs.JobAsk.{decision_on};
+ghost use Rattle.fax_decide.specs.Looking.{Consults};
 ghost use Rattle.fax_decide.specs.Read.{IsReadOn};
 ghost use Rattle.fax_decide.specs.Records.{KeepsRecord, job_in};
 ghost use Rattle.fax_decide.specs.Settings.{settings_of};
@@ -66,14 +63,9 @@ pub(crate) fn decide_on_job<S: Alter>(
     ask: JobAsk,
     t: Moment,
 ) -> Result<Decision, Fault>
-    ensures leaves { Looks S.Store store.old store.new }
-    ensures opens { OnOk result (StaysOpen (shown S.Store store.old) (shown S.Store store.new)) }
-    ensures decided { (m : Queue) (k : Ledger) → Means (shown S.Store store.old) m k
-        → Serves (shown S.Store store.new)
-        → IfOk result (Decides (on_job (settings_of office.now.setup office.now.controls) (aged t m) t
-        (decision_on ask t) (job_numbered number (aged t m))) m t) }
-    ensures cause { (m : Queue) (k : Ledger) → Means (shown S.Store store.old) m k
-        → Serves (shown S.Store store.new) → IsReadOn ask → OnlyNoAnswer result }
+    ensures { Consults S.Store store.old store.new result (λ m. IfOk result (Decides
+        (on_job (settings_of office.now.setup office.now.controls) (aged t m) t (decision_on ask t)
+        (job_numbered number (aged t m))) m t) × (IsReadOn ask → OnlyNoAnswer result)) }
 {
     let Some(job) = brief_at(store, number, t)? else {
         return Ok(Decision::Refused(Reply::refused(Refusal::NoJob)));
@@ -93,14 +85,10 @@ fn changed<S: Alter>(
     change: Change,
     t: Moment,
 ) -> Result<Decision, Fault>
-    ensures leaves { Looks S.Store store.old store.new }
-    ensures opens { OnOk result (StaysOpen (shown S.Store store.old) (shown S.Store store.new)) }
-    ensures decided { (m : Queue) (k : Ledger) → Means (shown S.Store store.old) m k
-        → Serves (shown S.Store store.new) → job_numbered job.job (aged t m) ≡ Some (job_in (aged t m) job)
-        → IfOk result (Decides (change_step (settings_of office.now.setup office.now.controls) (aged t m) t
-        (Ok (changed_by change (job_in (aged t m) job)))) m t) }
-    ensures cause { (m : Queue) (k : Ledger) → Means (shown S.Store store.old) m k
-        → Serves (shown S.Store store.new) → KeepsRecord change job → OnlyNoAnswer result }
+    ensures { Consults S.Store store.old store.new result (λ m.
+        (job_numbered job.job (aged t m) ≡ Some (job_in (aged t m) job) → IfOk result (Decides
+        (change_step (settings_of office.now.setup office.now.controls) (aged t m) t
+        (Ok (changed_by change (job_in (aged t m) job)))) m t)) × (KeepsRecord change job → OnlyNoAnswer result)) }
 {
     let job = applied(change, job)?;
     let reply = stands(store, office, alloc, &job, t);
@@ -115,12 +103,9 @@ fn stands<S: Alter>(
     job: &Job,
     t: Moment,
 ) -> Result<Reply, Fault>
-    ensures leaves { Looks S.Store store.old store.new }
-    ensures opens { OnOk result (StaysOpen (shown S.Store store.old) (shown S.Store store.new)) }
-    ensures told { (m : Queue) (k : Ledger) → Means (shown S.Store store.old) m k
-        → Serves (shown S.Store store.new) → OrNoAnswer result (λ reply. reply ≡ accepted_response
-        (Replied (Stands job.now.job
-        (job_state (settings_of office.now.setup office.now.controls) m t (job_of job.now))))) }
+    ensures { Consults S.Store store.old store.new result (λ m. OrNoAnswer result (λ reply. reply
+        ≡ accepted_response (Replied (Stands job.now.job
+        (job_state (settings_of office.now.setup office.now.controls) m t (job_of job.now)))))) }
 {
     let state = state_of(store, office, alloc, job, t)?;
     let answer = Answer::Stands {

@@ -1,15 +1,13 @@
 //! Jobs and grants by the numbers that requests name.
 
-ghost use Rattle.std.specs.Prelude.{◌≡◌, ◌<◌, ◌≤◌, List, MatchOption, OnOk};
+ghost use Rattle.std.specs.Prelude.{◌≡◌, ◌<◌, ◌≤◌, MatchOption};
 ghost use Rattle.std.specs.Option.{option_map};
 ghost use Rattle.fax_core.specs.Ageing.{aged};
 ghost use Rattle.fax_core.specs.Job.{job_of};
-ghost use Rattle.fax_core.specs.Ledger.{Ledger};
-ghost use Rattle.fax_core.specs.Queue.{Queue, job_numbered, grant_numbered};
+ghost use Rattle.fax_core.specs.Queue.{job_numbered, grant_numbered};
 ghost use Rattle.fax_value.specs.Limits.{last_grant, last_job};
-ghost use Rattle.fax_store.specs.Calls.{Looks, shown};
-ghost use Rattle.fax_store.specs.Store.{Means, Serves, StaysOpen};
 ghost use Rattle.fax_tables.specs.Fault.{OrUnavailable};
+ghost use Rattle.fax_decide.specs.Looking.{Consults};
 ghost use Rattle.fax_decide.specs.Records.{job_in};
 
 use fax_core::{Grant, aged_job};
@@ -34,11 +32,8 @@ pub(crate) fn job_at<S: Alter>(
     number: u64,
     t: Moment,
 ) -> Result<Option<Job>, StoreFault>
-    ensures leaves { Looks S.Store store.old store.new }
-    ensures opens { OnOk result (StaysOpen (shown S.Store store.old) (shown S.Store store.new)) }
-    ensures found { (m : Queue) (k : Ledger) → Means (shown S.Store store.old) m k
-        → Serves (shown S.Store store.new)
-        → OrUnavailable result (λ found. option_map (λ f. job_of f) found ≡ job_numbered number (aged t m)) }
+    ensures consults { Consults S.Store store.old store.new result (λ m.
+        OrUnavailable result (λ found. option_map (λ f. job_of f) found ≡ job_numbered number (aged t m))) }
     ensures past { last_job < number → result ≡ Ok None }
 {
     let Some(number) = job_number(number) else {
@@ -56,11 +51,8 @@ pub(crate) fn brief_at<S: Alter>(
     number: u64,
     t: Moment,
 ) -> Result<Option<Job>, StoreFault>
-    ensures leaves { Looks S.Store store.old store.new }
-    ensures opens { OnOk result (StaysOpen (shown S.Store store.old) (shown S.Store store.new)) }
-    ensures found { (m : Queue) (k : Ledger) → Means (shown S.Store store.old) m k
-        → Serves (shown S.Store store.new)
-        → OrUnavailable result (λ found. option_map (job_in (aged t m)) found ≡ job_numbered number (aged t m)) }
+    ensures consults { Consults S.Store store.old store.new result (λ m.
+        OrUnavailable result (λ found. option_map (job_in (aged t m)) found ≡ job_numbered number (aged t m))) }
     ensures past { last_job < number → result ≡ Ok None }
 {
     let Some(number) = job_number(number) else {
@@ -77,10 +69,8 @@ pub(crate) fn grant_at<S: Alter>(
     store: &mut Store<S>,
     number: u64,
 ) -> Result<Option<Grant>, StoreFault>
-    ensures leaves { Looks S.Store store.old store.new }
-    ensures opens { OnOk result (StaysOpen (shown S.Store store.old) (shown S.Store store.new)) }
-    ensures found { (m : Queue) (k : Ledger) → Means (shown S.Store store.old) m k
-        → Serves (shown S.Store store.new) → OrUnavailable result (λ found. found ≡ grant_numbered number m) }
+    ensures consults { Consults S.Store store.old store.new result (λ m.
+        OrUnavailable result (λ found. found ≡ grant_numbered number m)) }
     ensures past { last_grant < number → result ≡ Ok None }
 {
     if number > u64::from(LAST_GRANT) {

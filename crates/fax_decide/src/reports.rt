@@ -1,7 +1,6 @@
 //! A worker's reports on a grant.
 
-ghost use Rattle.std.specs.Prelude.{◌≡◌, ◌≤◌, ◌+◌, ◌-◌, ◌↔◌, ℕ, List, length, Some, true, false, Ok, IfOk, IsErr, IsOk, OnOk};
-ghost use Rattle.sqlite.specs.Held.{state};
+ghost use Rattle.std.specs.Prelude.{◌≡◌, ◌≤◌, ◌+◌, ◌-◌, ◌↔◌, ℕ, length, Some, true, false, Ok, IfOk, IsErr, IsOk};
 ghost use Rattle.fax_ask.specs.Answer.{Replied};
 ghost use Rattle.fax_ask.specs.Response.{accepted_response, refused_response};
 ghost use Rattle.fax_core.specs.Ageing.{aged};
@@ -11,7 +10,6 @@ ghost use Rattle.fax_core.specs.Job.{job_of};
 ghost use Rattle.fax_core.specs.Fits.{fits};
 ghost use Rattle.fax_core.specs.Machine.{reported, call_reply, page_reply, outcome_reply, keys_of_job, without_job};
 ghost use Rattle.fax_ask.specs.Detail.{has_detail};
-ghost use Rattle.fax_core.specs.Ledger.{Ledger};
 ghost use Rattle.fax_core.specs.Queue.{Queue, grant_numbered};
 ghost use Rattle.fax_core.specs.Reply.{NoKeys, Pages, Refused, Stands};
 ghost use Rattle.fax_core.specs.Sound.{Sound};
@@ -19,11 +17,10 @@ ghost use Rattle.fax_core.specs.State.{calls_to};
 ghost use Rattle.fax_core.specs.declared.grants.Grant.{Grant as GrantOf};
 ghost use Rattle.fax_dest.specs.Setup.{delay_of};
 ghost use Rattle.fax_value.specs.Limits.{most_pages};
-ghost use Rattle.fax_store.specs.Calls.{Looks, shown};
 ghost use Rattle.fax_store.specs.Grant.{IsSameGrant};
-ghost use Rattle.fax_store.specs.Store.{Means, Serves, StaysOpen};
 ghost use Rattle.fax_decide.specs.Decision.{Decides};
-ghost use Rattle.fax_decide.specs.Fault.{OnlyNoAnswer, OrNoAnswer};
+ghost use Rattle.fax_decide.specs.Fault.{OrNoAnswer};
+ghost use Rattle.fax_decide.specs.Looking.{Consults};
 ghost use Rattle.fax_decide.specs.Records.{KeepsRecord, job_in};
 ghost use Rattle.fax_decide.specs.Report.{ArePagesWithin, AreThere, report_both, report_step};
 ghost use Rattle.fax_decide.specs.Settings.{settings_of};
@@ -58,12 +55,9 @@ pub(crate) fn decide_report<S: Alter>(
     report: Report,
     t: Moment,
 ) -> Result<Decision, Fault>
-    ensures leaves { Looks S.Store store.old store.new }
-    ensures opens { OnOk result (StaysOpen (shown S.Store store.old) (shown S.Store store.new)) }
-    ensures decided { (m : Queue) (k : Ledger) → Sound m → Means (shown S.Store store.old) m k
-        → Serves (shown S.Store store.new)
-        → OrNoAnswer result (Decides (report_step (settings_of office.now.setup office.now.controls) (aged t m) t
-        report (grant_numbered number m)) m t) }
+    ensures { Consults S.Store store.old store.new result (λ m. Sound m → OrNoAnswer result (Decides
+        (report_step (settings_of office.now.setup office.now.controls) (aged t m) t report
+        (grant_numbered number m)) m t)) }
 {
     let Some(grant) = grant_at(store, number)? else {
         return Ok(Decision::Refused(Reply::refused(Refusal::NoGrant)));
@@ -85,12 +79,10 @@ fn report_on<S: Alter>(
     report: Report,
     t: Moment,
 ) -> Result<Decision, Fault>
-    ensures leaves { Looks S.Store store.old store.new }
-    ensures opens { OnOk result (StaysOpen (shown S.Store store.old) (shown S.Store store.new)) }
-    ensures decided { (m : Queue) (k : Ledger) → Sound m → Means (shown S.Store store.old) m k
-        → Serves (shown S.Store store.new) → AreThere m t job grant → ArePagesWithin grant
+    ensures consults { Consults S.Store store.old store.new result (λ m. Sound m
+        → AreThere m t job grant → ArePagesWithin grant
         → OrNoAnswer result (Decides (report_both (settings_of office.now.setup office.now.controls) (aged t m) t
-        report (job_in (aged t m) job) grant) m t) }
+        report (job_in (aged t m) job) grant) m t)) }
     ensures closed { grant.is_open ≡ false → IsOk result }
     ensures misfit { grant.is_open ≡ true → fits job (Some grant) ≡ false → IsErr result }
 {
@@ -124,10 +116,10 @@ fn decide_call(
     t: Moment,
 ) -> Result<Decision, Fault>
     ensures decided { (m : Queue) → AreThere m t job grant → ArePagesWithin grant
-        → IfOk result (Decides (reported (aged t m) (call_reply t) (job_in (aged t m) job)
+        → (grant.is_open ≡ true → fits job (Some grant) ≡ true)
+        → OrNoAnswer result (Decides (reported (aged t m) (call_reply t) (job_in (aged t m) job)
         (call_of said (job_in (aged t m) job) grant)) m t) }
     ensures closed { grant.is_open ≡ false → IsOk result }
-    ensures cause { fits job (Some grant) ≡ true → OnlyNoAnswer result }
 {
     match call(&job, &grant, said) {
         Ok(change) => called(alloc, job, change, grant.with_call(said), t),
@@ -142,11 +134,10 @@ fn called(
     grant: Grant,
     t: Moment,
 ) -> Result<Decision, Fault>
-    ensures decided { (m : Queue) (before : GrantOf) → AreThere m t job before → IsSameGrant before grant
-        → grant.number ≡ before.number → grant.confirmed ≤ most_pages
-        → IfOk result (Decides (reported (aged t m) (call_reply t) (job_in (aged t m) job)
+    ensures { (m : Queue) (before : GrantOf) → AreThere m t job before → IsSameGrant before grant
+        → grant.number ≡ before.number → grant.confirmed ≤ most_pages → KeepsRecord change job
+        → OrNoAnswer result (Decides (reported (aged t m) (call_reply t) (job_in (aged t m) job)
         (Ok (record { job = changed change (job_in (aged t m) job); grant = grant }))) m t) }
-    ensures cause { KeepsRecord change job → OnlyNoAnswer result }
 {
     let job = applied(change, job)?;
     let answer = Answer::Called {
@@ -164,10 +155,9 @@ fn decide_page(
 ) -> Result<Decision, Fault>
     ensures decided { (m : Queue) → AreThere m t job grant → ArePagesWithin grant
         → (grant.is_open ≡ true → fits job (Some grant) ≡ true)
-        → IfOk result (Decides (reported (aged t m) (page_reply t) (job_in (aged t m) job)
+        → OrNoAnswer result (Decides (reported (aged t m) (page_reply t) (job_in (aged t m) job)
         (page_of said (job_in (aged t m) job) grant)) m t) }
     ensures closed { grant.is_open ≡ false → IsOk result }
-    ensures cause { fits job (Some grant) ≡ true → OnlyNoAnswer result }
 {
     match page(&job, &grant, said) {
         Ok(change) => confirmed(alloc, job, change, grant.with_page(), t),
@@ -205,12 +195,11 @@ fn confirmed(
     grant: Grant,
     t: Moment,
 ) -> Result<Decision, Fault>
-    ensures decided { (m : Queue) (before : GrantOf) → AreThere m t job before → IsSameGrant before grant
+    ensures { (m : Queue) (before : GrantOf) → AreThere m t job before → IsSameGrant before grant
         → grant.number ≡ before.number → 1 ≤ before.first_page
-        → grant.first_page + grant.confirmed ≡ length (changed change (job_of job)).sent + 1
-        → IfOk result (Decides (reported (aged t m) (page_reply t) (job_in (aged t m) job)
+        → grant.first_page + grant.confirmed ≡ length (changed change (job_of job)).sent + 1 → KeepsRecord change job
+        → OrNoAnswer result (Decides (reported (aged t m) (page_reply t) (job_in (aged t m) job)
         (Ok (record { job = changed change (job_in (aged t m) job); grant = grant }))) m t) }
-    ensures cause { KeepsRecord change job → OnlyNoAnswer result }
 {
     let job = applied(change, job)?;
     let answer = Answer::Confirmed {
@@ -229,13 +218,10 @@ fn decide_outcome<S: Alter>(
     said: Outcome,
     t: Moment,
 ) -> Result<Decision, Fault>
-    ensures leaves { Looks S.Store store.old store.new }
-    ensures opens { OnOk result (StaysOpen (shown S.Store store.old) (shown S.Store store.new)) }
-    ensures decided { (m : Queue) (k : Ledger) → Sound m → Means (shown S.Store store.old) m k
-        → Serves (shown S.Store store.new) → AreThere m t job grant
+    ensures consults { Consults S.Store store.old store.new result (λ m. Sound m → AreThere m t job grant
         → OrNoAnswer result (Decides (reported (aged t m)
         (outcome_reply (settings_of office.now.setup office.now.controls) t) (job_in (aged t m) job)
-        (outcome_of said (job_in (aged t m) job) grant (delay_of office.now.setup grant.call) t)) m t) }
+        (outcome_of said (job_in (aged t m) job) grant (delay_of office.now.setup grant.call) t)) m t)) }
     ensures closed { grant.is_open ≡ false → IsOk result }
 {
     // It is within its bound, and so is the moment from which the job may be tried again.
@@ -257,15 +243,11 @@ fn ended<S: Alter>(
     grant: &Grant,
     t: Moment,
 ) -> Result<Decision, Fault>
-    ensures leaves { Looks S.Store store.old store.new }
-    ensures opens { OnOk result (StaysOpen (shown S.Store store.old) (shown S.Store store.new)) }
-    ensures decided { (m : Queue) (k : Ledger) → Sound m → Means (shown S.Store store.old) m k
-        → Serves (shown S.Store store.new) → AreThere m t job grant.now → grant.now.is_open ≡ true
-        → IfOk result (Decides (reported (aged t m)
+    ensures { Consults S.Store store.old store.new result (λ m. Sound m → AreThere m t job grant.now
+        → grant.now.is_open ≡ true → KeepsRecord change job
+        → OrNoAnswer result (Decides (reported (aged t m)
         (outcome_reply (settings_of office.now.setup office.now.controls) t) (job_in (aged t m) job)
-        (Ok (record { job = changed change (job_in (aged t m) job); grant = record grant.now { is_open = false } }))) m t) }
-    ensures cause { (m : Queue) (k : Ledger) → Means (shown S.Store store.old) m k
-        → Serves (shown S.Store store.new) → KeepsRecord change job → OnlyNoAnswer result }
+        (Ok (record { job = changed change (job_in (aged t m) job); grant = record grant.now { is_open = false } }))) m t)) }
 {
     let job = applied(change, job)?;
     let reply = stands(store, office, alloc, &job, t);
@@ -284,12 +266,10 @@ fn stands<S: Alter>(
     job: &Job,
     t: Moment,
 ) -> Result<Reply, Fault>
-    ensures leaves { Looks S.Store store.old store.new }
-    ensures opens { OnOk result (StaysOpen (shown S.Store store.old) (shown S.Store store.new)) }
-    ensures told { (m : Queue) (k : Ledger) → Means (shown S.Store store.old) m k
-        → Serves (shown S.Store store.new) → OrNoAnswer result (λ reply. reply ≡ accepted_response
-        (Replied (Stands job.now.job (state_with (settings_of office.now.setup office.now.controls)
-        (job_of job.now) (calls_to job.now.dial m - 1) t)))) }
+    ensures { Consults S.Store store.old store.new result (λ m. OrNoAnswer result (λ reply. reply
+        ≡ accepted_response (Replied (Stands job.now.job
+        (state_with (settings_of office.now.setup office.now.controls) (job_of job.now)
+        (calls_to job.now.dial m - 1) t))))) }
 {
     // The call of the grant that is closed counts no more.
     let calls = store.active_to(&job.fields().dial)?.saturating_sub(1);

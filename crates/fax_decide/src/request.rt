@@ -1,15 +1,7 @@
 //! Any request: what is decided of it.
 
-ghost use Rattle.std.specs.Prelude.{◌≡◌, List, IfOk, OnOk};
 ghost use Rattle.fax_core.specs.Machine.{step as step_of};
-ghost use Rattle.fax_core.specs.Ledger.{Ledger};
-ghost use Rattle.fax_core.specs.Queue.{Queue};
-ghost use Rattle.fax_core.specs.Sound.{Sound};
-ghost use Rattle.fax_tables.specs.Meta.{meta_of};
-ghost use Rattle.fax_store.specs.Calls.{Looks, shown};
-ghost use Rattle.fax_store.specs.Store.{Means, Serves, StaysOpen};
-ghost use Rattle.fax_decide.specs.Decision.{Decides};
-ghost use Rattle.fax_decide.specs.Fault.{OnlyNoAnswer};
+ghost use Rattle.fax_decide.specs.Looking.{DecidesBy};
 ghost use Rattle.fax_decide.specs.Read.{IsRead};
 ghost use Rattle.fax_decide.specs.Settings.{settings_of};
 
@@ -42,16 +34,8 @@ pub fn decide<S: Alter>(
     meta: &Meta,
     t: Moment,
 ) -> Result<Decision, Fault>
-    ensures leaves { Looks S.Store store.old store.new }
-    ensures opens { OnOk result (StaysOpen (shown S.Store store.old) (shown S.Store store.new)) }
-    ensures decided { (m : Queue) (k : Ledger) → Sound m
-        → Means (shown S.Store store.old) m k → Serves (shown S.Store store.new)
-        → meta.now ≡ meta_of m
-        → IfOk result (Decides (step_of (settings_of office.now.setup office.now.controls) m t ask) m t) }
-    // In a sound queue no rows are strange to a request that was read.
-    ensures cause { (m : Queue) (k : Ledger) → Sound m
-        → Means (shown S.Store store.old) m k → Serves (shown S.Store store.new)
-        → meta.now ≡ meta_of m → IsRead ask → OnlyNoAnswer result }
+    ensures { DecidesBy S.Store store.old store.new result meta.now t
+        (λ m. step_of (settings_of office.now.setup office.now.controls) m t ask) (IsRead ask) }
 {
     match ask {
         Ask::Submission(order) => decide_submission(office, alloc, order, meta, t),

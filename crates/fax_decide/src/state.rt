@@ -1,14 +1,10 @@
 //! The state of a job, by sendq(5), and whether a call may begin.
 
-ghost use Rattle.std.specs.Prelude.{◌≡◌, List, OnOk};
-ghost use Rattle.sqlite.specs.Held.{state};
+ghost use Rattle.std.specs.Prelude.{◌≡◌};
 ghost use Rattle.fax_core.specs.Job.{job_of};
-ghost use Rattle.fax_core.specs.Ledger.{Ledger};
-ghost use Rattle.fax_core.specs.Queue.{Queue};
 ghost use Rattle.fax_core.specs.State.{state as job_state};
-ghost use Rattle.fax_store.specs.Calls.{Looks, shown};
-ghost use Rattle.fax_store.specs.Store.{Means, Serves, StaysOpen};
 ghost use Rattle.fax_decide.specs.Fault.{OrNoAnswer};
+ghost use Rattle.fax_decide.specs.Looking.{Consults};
 ghost use Rattle.fax_decide.specs.Settings.{settings_of};
 ghost use Rattle.fax_decide.specs.State.{may_call, state_with};
 
@@ -62,11 +58,8 @@ pub(crate) fn state_of<S: Alter>(
     job: &Job,
     t: Moment,
 ) -> Result<u8, Fault>
-    ensures leaves { Looks S.Store store.old store.new }
-    ensures opens { OnOk result (StaysOpen (shown S.Store store.old) (shown S.Store store.new)) }
-    ensures found { (m : Queue) (k : Ledger) → Means (shown S.Store store.old) m k
-        → Serves (shown S.Store store.new) → OrNoAnswer result (λ found.
-        found ≡ job_state (settings_of office.now.setup office.now.controls) m t (job_of job.now)) }
+    ensures { Consults S.Store store.old store.new result (λ m. OrNoAnswer result (λ found. found
+        ≡ job_state (settings_of office.now.setup office.now.controls) m t (job_of job.now))) }
 {
     let calls = store.active_to(&job.fields().dial)?;
     office.state_with(alloc, job, calls, t)

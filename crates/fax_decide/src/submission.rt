@@ -36,11 +36,10 @@ pub(crate) fn decide_submission(
     meta: &Meta,
     t: Moment,
 ) -> Result<Decision, Fault>
-    ensures decided { (m : Queue) → Sound m → meta.now ≡ meta_of m → IfOk result (Decides
+    ensures { (m : Queue) → Sound m → meta.now ≡ meta_of m → IfOk result (Decides
         (submitted (aged t m) (machine_rule office.now.setup (rule_for office.now.controls order.dial))
         (submit order (machine_rule office.now.setup (rule_for office.now.controls order.dial))
-        m.next_job office.now.setup.max_jobs t)) m t) }
-    ensures cause { (m : Queue) → Sound m → meta.now ≡ meta_of m → IsReadOrder order → OnlyNoAnswer result }
+        m.next_job office.now.setup.max_jobs t)) m t) × (IsReadOrder order → OnlyNoAnswer result) }
 {
     let rule = office.rule_of(alloc, &order.dial)?;
     match submit(order, rule, meta.next_job, office.setup.max_jobs(), t) {

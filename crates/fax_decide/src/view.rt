@@ -1,23 +1,18 @@
 //! What a client sees of the queue: a job, or the listing of all jobs.
 
-ghost use Rattle.std.specs.Prelude.{◌≡◌, List, [], ◌∷◌, ◌++◌, IfOk, OnOk, map};
+ghost use Rattle.std.specs.Prelude.{◌≡◌, [], ◌∷◌, ◌++◌, IfOk, OnOk, map};
 ghost use Rattle.std.specs.List.Sorted.{IsStrictlyIncreasing};
-ghost use Rattle.sqlite.specs.Held.{state};
 ghost use Rattle.fax_ask.specs.Answer.{Listed, Shown};
 ghost use Rattle.fax_ask.specs.Response.{accepted_response};
 ghost use Rattle.fax_ask.specs.declared.view.View.TheVariants.{Job as OneJob, Jobs as AllJobs};
 ghost use Rattle.fax_core.specs.Ageing.{aged_job};
 ghost use Rattle.fax_core.specs.Job.{job_of};
-ghost use Rattle.fax_core.specs.Ledger.{Ledger};
-ghost use Rattle.fax_core.specs.Queue.{Queue};
-ghost use Rattle.fax_core.specs.Sound.{Sound};
 ghost use Rattle.fax_core.specs.State.{state as job_state};
 ghost use Rattle.fax_job.specs.JobLines.{job_lines};
 ghost use Rattle.fax_job.specs.Spelling.{printed};
-ghost use Rattle.fax_store.specs.Calls.{Looks, shown};
-ghost use Rattle.fax_store.specs.Store.{Means, Serves, StaysOpen};
 ghost use Rattle.fax_text.specs.Listing.{listing_of, number_of};
 ghost use Rattle.fax_decide.specs.Fault.{OrNoAnswer};
+ghost use Rattle.fax_decide.specs.Looking.{Consults, Views};
 ghost use Rattle.fax_decide.specs.Settings.{settings_of};
 ghost use Rattle.fax_decide.specs.View.{view, with_state};
 
@@ -45,11 +40,8 @@ pub fn show<S: Alter>(
     asked: View,
     t: Moment,
 ) -> Result<Reply, Fault>
-    ensures leaves { Looks S.Store store.old store.new }
-    ensures opens { OnOk result (StaysOpen (shown S.Store store.old) (shown S.Store store.new)) }
-    ensures viewed { (m : Queue) (k : Ledger) → Sound m → Means (shown S.Store store.old) m k
-        → Serves (shown S.Store store.new) → OrNoAnswer result (λ reply.
-        reply ≡ view (settings_of office.now.setup office.now.controls) m t asked) }
+    ensures { Views S.Store store.old store.new result
+        (λ m. view (settings_of office.now.setup office.now.controls) m t asked) }
 {
     match asked {
         View::Job { job } => show_job(store, office, alloc, job, t),
@@ -66,11 +58,8 @@ fn show_job<S: Alter>(
     number: u64,
     t: Moment,
 ) -> Result<Reply, Fault>
-    ensures leaves { Looks S.Store store.old store.new }
-    ensures opens { OnOk result (StaysOpen (shown S.Store store.old) (shown S.Store store.new)) }
-    ensures viewed { (m : Queue) (k : Ledger) → Means (shown S.Store store.old) m k
-        → Serves (shown S.Store store.new) → OrNoAnswer result (λ reply.
-        reply ≡ view (settings_of office.now.setup office.now.controls) m t (OneJob number)) }
+    ensures { Consults S.Store store.old store.new result (λ m. OrNoAnswer result (λ reply. reply
+        ≡ view (settings_of office.now.setup office.now.controls) m t (OneJob number))) }
 {
     match job_at(store, number, t)? {
         Some(job) => shown(store, office, alloc, &job, t),
@@ -86,12 +75,9 @@ fn shown<S: Alter>(
     job: &Job,
     t: Moment,
 ) -> Result<Reply, Fault>
-    ensures leaves { Looks S.Store store.old store.new }
-    ensures opens { OnOk result (StaysOpen (shown S.Store store.old) (shown S.Store store.new)) }
-    ensures told { (m : Queue) (k : Ledger) → Means (shown S.Store store.old) m k
-        → Serves (shown S.Store store.new) → OrNoAnswer result (λ reply.
-        reply ≡ accepted_response (Shown (printed (job_lines job.now
-        (job_state (settings_of office.now.setup office.now.controls) m t (job_of job.now)))))) }
+    ensures { Consults S.Store store.old store.new result (λ m. OrNoAnswer result (λ reply. reply
+        ≡ accepted_response (Shown (printed (job_lines job.now
+        (job_state (settings_of office.now.setup office.now.controls) m t (job_of job.now))))))) }
 {
     let state = state_of(store, office, alloc, job, t)?;
     Ok(shown_with(alloc, job, state)?)
@@ -116,11 +102,8 @@ fn show_jobs<S: Alter>(
     alloc: Global,
     t: Moment,
 ) -> Result<Reply, Fault>
-    ensures leaves { Looks S.Store store.old store.new }
-    ensures opens { OnOk result (StaysOpen (shown S.Store store.old) (shown S.Store store.new)) }
-    ensures viewed { (m : Queue) (k : Ledger) → Sound m → Means (shown S.Store store.old) m k
-        → Serves (shown S.Store store.new) → OrNoAnswer result (λ reply.
-        reply ≡ view (settings_of office.now.setup office.now.controls) m t AllJobs) }
+    ensures { Views S.Store store.old store.new result
+        (λ m. view (settings_of office.now.setup office.now.controls) m t AllJobs) }
 {
     let jobs = store.briefs()?;
     let rows = with_states(store, office, alloc, jobs, t)?;
@@ -135,11 +118,9 @@ fn with_states<S: Alter>(
     jobs: Vec<Job>,
     t: Moment,
 ) -> Result<Vec<(Job, u8)>, Fault>
-    ensures leaves { Looks S.Store store.old store.new }
-    ensures opens { OnOk result (StaysOpen (shown S.Store store.old) (shown S.Store store.new)) }
-    ensures rows { (m : Queue) (k : Ledger) → Means (shown S.Store store.old) m k
-        → Serves (shown S.Store store.new) → OrNoAnswer result (λ rows. rows.items
-        ≡ map (λ job. with_state (settings_of office.now.setup office.now.controls) m t (aged_job t (job_of job))) jobs.items) }
+    ensures { Consults S.Store store.old store.new result (λ m. OrNoAnswer result (λ rows. rows.items
+        ≡ map (λ job. with_state (settings_of office.now.setup office.now.controls) m t (aged_job t (job_of job)))
+        jobs.items)) }
 {
     let mut rows = Vec::with_capacity(alloc, jobs.len())?;
     for job in jobs {

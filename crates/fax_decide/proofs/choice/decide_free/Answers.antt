@@ -8,24 +8,22 @@ use Rattle.fax_decide.specs.declared.effect.Effect.TheVariants.{Nothing}
 use Rattle.fax_decide.proofs.DecisionLemmas.{decided_or}
 use Rattle.fax_decide.proofs.GivenLemmas.{best_given, none_given, none_taken}
 use Rattle.fax_decide.specs.Fault.{OrNoAnswer}
-use Rattle.fax_decide.proofs.FaultLemmas.{or_no_answer, passed_on}
 use Rattle.fax_decide.proofs.KeptLemmas.{best_waits}
+use Rattle.fax_decide.proofs.LookingLemmas.{goes_on, stops}
 use Rattle.fax_decide.proofs.choice.decide_free.Goals as goal
 
-pub returns-in-Some-clause-decided : goal.returns-in-Some-clause-decided
-returns-in-Some-clause-decided g c m k sound means serves next =
-    let is = sym (ap (option_map (λ f. job_of f)) c.in-Some.is) ∙ c.in_ok-job.ensures.found m k sound means serves in
-    best_given (λ step. OrNoAnswer c.give.result (Decides step m c.args.t)) (settings_of c.args.office.now.setup c.args.office.now.controls) m c.args.t c.args.modem c.in-Some.job c.args.next_grant sound
-    is next
-    (λ there.
-    let waits = best_waits (settings_of c.args.office.now.setup c.args.office.now.controls) m c.args.t c.args.modem c.in-Some.job sound is in
-    or_no_answer c.give.result _ (c.give.ensures.decided m c.args.t sound there next waits) (c.give.ensures.cause m c.args.t sound there waits))
+pub returns-in-Some : goal.returns-in-Some
+returns-in-Some g c = goes_on c.in_ok-job.ensures (λ m k at best sound next.
+    let s = settings_of c.args.office.now.setup c.args.office.now.controls in
+    let is = sym (ap (option_map (λ f. job_of f)) c.in-Some.is) ∙ best sound in
+    best_given (λ step. OrNoAnswer c.give.result (Decides step m c.args.t)) s m c.args.t c.args.modem c.in-Some.job c.args.next_grant sound is next
+    (λ there. c.give.ensures.decided m c.args.t sound there next (best_waits s m c.args.t c.args.modem c.in-Some.job sound is)))
 
-pub returns-in-None-clause-decided : goal.returns-in-None-clause-decided
-returns-in-None-clause-decided g c m k sound means serves next =
+pub returns-in-None : goal.returns-in-None
+returns-in-None g c = goes_on c.in_ok-job.ensures (λ m k at best sound next.
     none_given (λ step. OrNoAnswer c.take.result (Decides step m c.args.t)) (settings_of c.args.office.now.setup c.args.office.now.controls) m c.args.t c.args.modem
-    (sym (ap (option_map (λ f. job_of f)) c.in-None.is) ∙ c.in_ok-job.ensures.found m k sound means serves)
-    (decided_or (Taken Nothing) _ _ m c.args.t c.answered.result _ c.take.ensures c.answered.ensures (λ _. none_taken m c.args.t))
+    (sym (ap (option_map (λ f. job_of f)) c.in-None.is) ∙ best sound)
+    (decided_or (Taken Nothing) _ _ m c.args.t c.answered.result _ c.take.ensures c.answered.ensures (λ _. none_taken m c.args.t)))
 
-pub returns-in_err-job-clause-decided : goal.returns-in_err-job-clause-decided
-returns-in_err-job-clause-decided g c m k sound means serves next = passed_on c.from_residual.result c.in_err-job.field-0.0 _ c.from_residual.ensures.1 (c.in_err-job.ensures.found m k sound means serves)
+pub returns-in_err-job : goal.returns-in_err-job
+returns-in_err-job g c = stops c.from_residual.result _ c.from_residual.ensures.1 c.in_err-job.ensures (λ m k at out why sound next. out _ (why sound))

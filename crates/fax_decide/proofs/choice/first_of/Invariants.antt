@@ -1,13 +1,10 @@
-use Rattle.std.proofs.Common.{◌≡◌, []}
+use Rattle.std.specs.Prelude.{⊤}
+use Rattle.std.proofs.Common.{◌≡◌, [], Ok}
 use Rattle.std.specs.Vec.Iter.{into_iter_items}
-use Rattle.sqlite.specs.Held.{state}
 use Rattle.fax_core.specs.Best.{may_go}
-use Rattle.fax_core.specs.Ledger.{Ledger}
-use Rattle.fax_core.specs.Queue.{Queue}
 use Rattle.fax_store.specs.Candidates.{StandsAt}
-use Rattle.fax_store.specs.Calls.{Looks}
-use Rattle.fax_store.specs.Store.{Means, Serves, StaysOpen}
 use Rattle.fax_decide.specs.Choice.{IsBusy}
+use Rattle.fax_decide.specs.Looking.{Consults}
 use Rattle.fax_decide.specs.Settings.{settings_of}
 use Rattle.fax_decide.proofs.ChoiceLemmas.{NoneWent}
 use Rattle.fax_decide.proofs.choice.first_of.Given as goal
@@ -16,11 +13,8 @@ abbrev pub invariant-loop : goal.invariant-loop
 invariant-loop g l = record {
   same_reference : l.candidates.store.ghost_name ≡ l.initial.candidates.store.ghost_name;
   asked : l.candidates.asked ≡ l.initial.candidates.asked;
-  leaves : Looks g.S.Store l.initial.candidates.store.now l.candidates.store.now;
-  opens : StaysOpen (state g.S.Store l.initial.candidates.store.now.conn) (state g.S.Store l.candidates.store.now.conn);
-  busy : (m : Queue) (k : Ledger) → Means (state g.S.Store l.initial.candidates.store.now.conn) m k → Serves (state g.S.Store l.candidates.store.now.conn)
-      → IsBusy (settings_of l.office.setup l.office.controls) m l.t l.initial.busy → IsBusy (settings_of l.office.setup l.office.controls) m l.t l.busy;
-  none : (m : Queue) (k : Ledger) → Means (state g.S.Store l.initial.candidates.store.now.conn) m k → Serves (state g.S.Store l.candidates.store.now.conn) → l.initial.candidates.asked.t ≡ l.t
+  consults : Consults g.S.Store {A = ⊤} {E = ⊤} l.initial.candidates.store.now l.candidates.store.now (Ok tt) (λ m. l.initial.candidates.asked.t ≡ l.t
       → StandsAt l.initial.candidates.asked m [] (into_iter_items l.initial.candidates.page) l.initial.candidates.front l.initial.candidates.most → IsBusy (settings_of l.office.setup l.office.controls) m l.t l.initial.busy
-      → NoneWent (may_go (settings_of l.office.setup l.office.controls) m l.initial.candidates.asked.t l.modem) l.counter l.initial.candidates.asked m (into_iter_items l.candidates.page) l.candidates.front l.candidates.most;
+      → IsBusy (settings_of l.office.setup l.office.controls) m l.t l.busy
+      × NoneWent (may_go (settings_of l.office.setup l.office.controls) m l.initial.candidates.asked.t l.modem) l.counter l.initial.candidates.asked m (into_iter_items l.candidates.page) l.candidates.front l.candidates.most);
 }

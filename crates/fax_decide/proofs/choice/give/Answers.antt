@@ -1,4 +1,4 @@
-use Rattle.std.proofs.Common.{◌≡◌, IfOk, Ok, refl, sym, subst, ap, ◌∙◌, arith}
+use Rattle.std.proofs.Common.{◌≡◌, Ok, refl, sym, subst, ap, ◌∙◌, arith}
 use Rattle.fax_core.specs.Ageing.{aged}
 use Rattle.fax_core.specs.Decisions.{grant, granted}
 use Rattle.fax_core.specs.Job.{job_of}
@@ -6,6 +6,7 @@ use Rattle.fax_core.specs.Machine.{given}
 use Rattle.fax_core.specs.declared.grants.Grant.{Grant}
 use Rattle.fax_decide.specs.Choice.{IsGrantOf}
 use Rattle.fax_decide.specs.Decision.{Decides}
+use Rattle.fax_decide.specs.Fault.{OrNoAnswer}
 use Rattle.fax_decide.specs.declared.decision.Decision.TheVariants.{Refused}
 use Rattle.fax_decide.proofs.GivenLemmas.{given_by, given_not}
 use Rattle.fax_decide.proofs.PlainLemmas.{grant_plain}
@@ -24,9 +25,10 @@ returns-in-Ok-clause-decided c m t sound there next waits =
           let few = number_within (job_of c.args.job) c.args.modem c.args.next_grant c.max_grants.result _ (sym (c.in-Ok.ensures c.args.modem)) in
           omega (arith, number, few, c.max_grants.ensures.bounds.1);
     } in
-    given_by (λ step. IfOk c.given.result (Decides step m t)) (aged t m) (job_of c.args.job) c.args.modem c.args.next_grant c.max_grants.result c.args.office.now.setup.max_grants
+    given_by (λ step. OrNoAnswer c.given.result (Decides step m t)) (aged t m) (job_of c.args.job) c.args.modem c.args.next_grant c.max_grants.result c.args.office.now.setup.max_grants
     (Ok c.in-Ok.change) c.new-grant.result c.new-grant.ensures (c.in-Ok.ensures c.args.modem) c.max_grants.ensures.number
-    (c.given.ensures.decided m t sound there (ap (λ (g : Grant). g.number) c.new-grant.ensures ∙ next) new)
+    (c.given.ensures m t sound there (ap (λ (g : Grant). g.number) c.new-grant.ensures ∙ next) new
+    (grant_keeps c.args.job c.args.modem c.args.next_grant c.max_grants.result _ c.in-Ok.change (c.in-Ok.ensures c.args.modem)))
 
 pub refused-requires : goal.refused-requires
 refused-requires c = grant_plain (job_of c.args.job) c.args.modem c.args.next_grant c.max_grants.result c.in-Err.refusal (sym (c.in-Err.ensures c.args.modem))
@@ -37,10 +39,6 @@ returns-in-Err-clause-decided c m t sound there next waits =
     (given_not (aged t m) (job_of c.args.job) c.args.modem c.args.next_grant c.max_grants.result c.args.office.now.setup.max_grants
     c.in-Err.refusal _ (c.in-Err.ensures c.args.modem) c.max_grants.ensures.number refl)
 
-pub returns-then-not-fits-clause-cause : goal.returns-then-not-fits-clause-cause
-returns-then-not-fits-clause-cause c m t sound there waits =
+pub returns-then-not-fits-clause-decided : goal.returns-then-not-fits-clause-decided
+returns-then-not-fits-clause-decided c m t sound there next waits =
     absurd (true≢false (sym (c.fits.ensures ∙ fits_alone m t c.args.job sound there waits) ∙ c.if-not-fits.true))
-
-pub returns-in-Ok-clause-cause : goal.returns-in-Ok-clause-cause
-returns-in-Ok-clause-cause c m t sound there waits =
-    c.given.ensures.cause (grant_keeps c.args.job c.args.modem c.args.next_grant c.max_grants.result _ c.in-Ok.change (c.in-Ok.ensures c.args.modem))

@@ -5,27 +5,30 @@ use Rattle.fax_core.specs.Queue.{job_numbered}
 use Rattle.fax_value.specs.Limits.{last_job}
 use Rattle.fax_tables.specs.Job.{brief}
 use Rattle.fax_store.proofs.FrameLemmas.{means_now}
-use Rattle.fax_decide.proofs.RecordLemmas.{no_job, found_brief, found_no_job}
 use Rattle.fax_tables.proofs.ResultLemmas.{passes_on}
+use Rattle.fax_decide.proofs.RecordLemmas.{no_job, found_brief, found_no_job}
+use Rattle.fax_decide.proofs.LookingLemmas.{by_reading, goes_on, no_call}
 use Rattle.fax_decide.proofs.records.brief_at.Goals as goal
 
-pub returns-in_default-clause-found : goal.returns-in_default-clause-found
-returns-in_default-clause-found g c m k means serves =
+pub returns-in_default-clause-consults : goal.returns-in_default-clause-consults
+returns-in_default-clause-consults g c = goes_on no_call (λ m k at none.
     let past : last_job < c.args.number = search rules in
-    no_job m c.args.t c.args.number (means serves).means.lawful.jobs past
+    no_job m c.args.t c.args.number at.means.lawful.jobs past)
 
-pub returns-in-Some-2-clause-found : goal.returns-in-Some-2-clause-found
-returns-in-Some-2-clause-found g c m k means serves =
-    let at_rest = means (c.brief.ensures.leaves.served serves) in
+pub returns-in-Some-2-clause-consults : goal.returns-in-Some-2-clause-consults
+returns-in-Some-2-clause-consults g c = goes_on (by_reading c.in_ok-brief.ensures.leaves c.in_ok-brief.ensures.answers) (λ m k at read.
     let same : c.in-Some.number ≡ c.args.number = search rules in
-    found_brief m c.args.t c.args.number c.in-Some-2.brief c.aged_job.result _ at_rest.means.lawful.jobs
-    (subst (λ n. c.in_ok-brief.field-0 ≡ option_map (λ j. brief (fields_of j)) (job_numbered n m)) same (c.in_ok-brief.ensures.answers m k (means_now means) serves)) c.in-Some-2.is c.aged_job.ensures
+    found_brief m c.args.t c.args.number c.in-Some-2.brief c.aged_job.result _ at.means.lawful.jobs
+    (subst (λ n. c.in_ok-brief.field-0 ≡ option_map (λ j. brief (fields_of j)) (job_numbered n m)) same read) c.in-Some-2.is c.aged_job.ensures)
 
-pub returns-in-None-clause-found : goal.returns-in-None-clause-found
-returns-in-None-clause-found g c m k means serves =
+pub returns-in-None-clause-consults : goal.returns-in-None-clause-consults
+returns-in-None-clause-consults g c = goes_on (by_reading c.in_ok-brief.ensures.leaves c.in_ok-brief.ensures.answers) (λ m k at read.
     let same : c.in-Some.number ≡ c.args.number = search rules in
-    found_no_job m c.args.t c.args.number (λ j. brief (fields_of j)) _
-    (subst (λ n. c.in_ok-brief.field-0 ≡ option_map (λ j. brief (fields_of j)) (job_numbered n m)) same (c.in_ok-brief.ensures.answers m k (means_now means) serves)) c.in-None.is
+    found_no_job m c.args.t c.args.number (λ j. brief (fields_of j)) _ (subst (λ n. c.in_ok-brief.field-0 ≡ option_map (λ j. brief (fields_of j)) (job_numbered n m)) same read) c.in-None.is)
 
-pub returns-in_err-brief-clause-found : goal.returns-in_err-brief-clause-found
-returns-in_err-brief-clause-found g c m k means serves = passes_on c.from_residual.result c.in_err-brief.field-0.0 _ c.from_residual.ensures.1 (c.in_err-brief.ensures.answers m k (means_now means) serves)
+pub returns-in_err-brief-clause-consults : goal.returns-in_err-brief-clause-consults
+returns-in_err-brief-clause-consults g c = record {
+  leaves = search rules;
+  opens = search rules;
+  found = λ m k means serves. passes_on c.from_residual.result c.in_err-brief.field-0.0 _ c.from_residual.ensures.1 (c.in_err-brief.ensures.answers m k (means_now means) serves);
+}

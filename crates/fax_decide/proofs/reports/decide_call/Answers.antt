@@ -1,5 +1,4 @@
 use Rattle.std.proofs.Common.{Some, ◌≤◌, sym, ap, subst, ◌∙◌}
-use Rattle.std.specs.Prelude.{IfOk}
 use Rattle.fax_value.specs.Limits.{most_pages}
 use Rattle.fax_core.specs.Ageing.{aged}
 use Rattle.fax_core.specs.Job.{job_of}
@@ -9,11 +8,12 @@ use Rattle.fax_core.specs.declared.grants.Grant.{Grant}
 use Rattle.fax_store.specs.Grant.{IsSameGrant}
 use Rattle.fax_store.specs.Job.{lines_of}
 use Rattle.fax_decide.specs.Decision.{Decides}
+use Rattle.fax_decide.specs.Fault.{OrNoAnswer}
 use Rattle.fax_decide.specs.Records.{job_in}
 use Rattle.fax_decide.proofs.DecisionLemmas.{report_refused}
 use Rattle.fax_decide.proofs.LinesLemmas.{both_lined, call_lined}
 use Rattle.fax_decide.proofs.PlainLemmas.{call_plain}
-use Rattle.fax_decide.proofs.ReportLemmas.{reported_on, same_call}
+use Rattle.fax_decide.proofs.ReportLemmas.{reported_on, same_call, was_open}
 use Rattle.fax_decide.proofs.KeptLemmas.{call_keeps}
 use Rattle.fax_decide.proofs.reports.decide_call.Goals as goal
 
@@ -21,18 +21,16 @@ pub refused-requires : goal.refused-requires
 refused-requires c = call_plain c.args.said (job_of c.args.job) _ c.in-Err.refusal (sym c.in-Err.ensures)
 
 pub returns-in-Ok-clause-decided : goal.returns-in-Ok-clause-decided
-returns-in-Ok-clause-decided c m there few =
+returns-in-Ok-clause-decided c m there few fit =
     let lines = lines_of (job_numbered c.args.job.job (aged c.args.t m)) in
-    reported_on (λ step. IfOk c.called.result (Decides step m c.args.t)) (aged c.args.t m) (call_reply c.args.t) lines (job_of c.args.job) c.in-Ok.change _ c.with_call.result _ _
+    reported_on (λ step. OrNoAnswer c.called.result (Decides step m c.args.t)) (aged c.args.t m) (call_reply c.args.t) lines (job_of c.args.job) c.in-Ok.change _ c.with_call.result _ _
     c.with_call.ensures c.in-Ok.ensures (call_lined lines c.args.said (job_of c.args.job) c.args.grant)
-    (c.called.ensures.decided m c.args.grant there (subst (IsSameGrant c.args.grant) (sym c.with_call.ensures) (same_call c.args.grant (Some c.args.said))) (ap (λ (g : Grant). g.number) c.with_call.ensures)
-    (subst (λ (g : Grant). g.confirmed ≤ most_pages) (sym c.with_call.ensures) few.1))
+    (c.called.ensures m c.args.grant there (subst (IsSameGrant c.args.grant) (sym c.with_call.ensures) (same_call c.args.grant (Some c.args.said))) (ap (λ (g : Grant). g.number) c.with_call.ensures)
+    (subst (λ (g : Grant). g.confirmed ≤ most_pages) (sym c.with_call.ensures) few.1)
+    (call_keeps c.args.job c.args.grant _ c.in-Ok.change (fit (was_open c.args.grant _ _ c.in-Ok.ensures)) c.args.said c.in-Ok.ensures))
 
 pub returns-in-Err-clause-decided : goal.returns-in-Err-clause-decided
-returns-in-Err-clause-decided c m there few =
+returns-in-Err-clause-decided c m there few fit =
     let lines = lines_of (job_numbered c.args.job.job (aged c.args.t m)) in
     report_refused (aged c.args.t m) (call_reply c.args.t) (job_in (aged c.args.t m) c.args.job) _ c.in-Err.refusal m c.args.t c.refused.result
     (call_plain c.args.said (job_of c.args.job) _ c.in-Err.refusal (sym c.in-Err.ensures)) c.refused.ensures (ap (both_lined lines) c.in-Err.ensures ∙ call_lined lines c.args.said (job_of c.args.job) c.args.grant)
-
-pub returns-in-Ok-clause-cause : goal.returns-in-Ok-clause-cause
-returns-in-Ok-clause-cause c fit = c.called.ensures.cause (call_keeps c.args.job c.args.grant _ c.in-Ok.change fit c.args.said c.in-Ok.ensures)

@@ -1,5 +1,4 @@
 use Rattle.std.proofs.Common.{◌≡◌, ◌+◌, ℕ, length, min, refl, sym, ap, subst, ◌∙◌, arith}
-use Rattle.std.specs.Prelude.{IfOk}
 use Rattle.fax_core.specs.Ageing.{aged}
 use Rattle.fax_core.specs.Change.{changed}
 use Rattle.fax_core.specs.Job.{job_of}
@@ -9,12 +8,12 @@ use Rattle.fax_core.specs.declared.grants.Grant.{Grant}
 use Rattle.fax_store.specs.Grant.{IsSameGrant}
 use Rattle.fax_store.specs.Job.{lines_of}
 use Rattle.fax_decide.specs.Decision.{Decides}
+use Rattle.fax_decide.specs.Fault.{OrNoAnswer}
 use Rattle.fax_decide.specs.declared.decision.Decision.TheVariants.{Refused}
-use Rattle.fax_decide.proofs.DecisionLemmas.{decided_of, decided_where, wants_reply}
+use Rattle.fax_decide.proofs.DecisionLemmas.{decided_or, decided_where}
 use Rattle.fax_decide.proofs.LinesLemmas.{both_lined, page_lined}
 use Rattle.fax_decide.proofs.PlainLemmas.{page_plain}
-use Rattle.fax_decide.proofs.ReportLemmas.{closed_page, page_refused_is, reported_on, same_page}
-use Rattle.fax_decide.proofs.FaultLemmas.{only_no_answer}
+use Rattle.fax_decide.proofs.ReportLemmas.{closed_page, page_refused_is, reported_on, same_page, was_open}
 use Rattle.fax_decide.proofs.KeptLemmas.{page_keeps}
 use Rattle.fax_decide.proofs.WithinLemmas.{page_goes}
 use Rattle.fax_decide.proofs.reports.decide_page.Goals as goal
@@ -29,22 +28,17 @@ returns-in-Ok-clause-decided c m there few fit =
     let next : c.with_page.result ≡ record c.args.grant { confirmed = c.args.grant.confirmed + 1 } = c.with_page.ensures ∙ ap (λ (n : ℕ). record c.args.grant { confirmed = n }) one in
     let far = subst (λ (g : Grant). g.first_page + g.confirmed ≡ length (changed c.in-Ok.change (job_of c.args.job)).sent + 1) (sym next)
     (page_goes c.args.said c.args.job c.args.grant c.in-Ok.change fit c.in-Ok.ensures) in
-    reported_on (λ step. IfOk c.confirmed.result (Decides step m c.args.t)) (aged c.args.t m) (page_reply c.args.t) lines (job_of c.args.job) c.in-Ok.change _ c.with_page.result _ _
+    reported_on (λ step. OrNoAnswer c.confirmed.result (Decides step m c.args.t)) (aged c.args.t m) (page_reply c.args.t) lines (job_of c.args.job) c.in-Ok.change _ c.with_page.result _ _
     next c.in-Ok.ensures (page_lined lines c.args.said (job_of c.args.job) c.args.grant)
-    (c.confirmed.ensures.decided m c.args.grant there (subst (IsSameGrant c.args.grant) (sym next) (same_page c.args.grant (c.args.grant.confirmed + 1))) (ap (λ (g : Grant). g.number) next) few.0 far)
+    (c.confirmed.ensures m c.args.grant there (subst (IsSameGrant c.args.grant) (sym next) (same_page c.args.grant (c.args.grant.confirmed + 1))) (ap (λ (g : Grant). g.number) next) few.0 far
+    (page_keeps c.args.job c.args.grant _ c.in-Ok.change (fit (was_open c.args.grant _ _ c.in-Ok.ensures)) c.args.said c.in-Ok.ensures))
 
 pub returns-in-Err-clause-decided : goal.returns-in-Err-clause-decided
 returns-in-Err-clause-decided c m there few fit =
     let lines = lines_of (job_numbered c.args.job.job (aged c.args.t m)) in
-    decided_of (λ reply. Refused reply) _ _ m c.args.t c.page_refused.result _ c.refuse.ensures c.page_refused.ensures.reply
+    decided_or (λ reply. Refused reply) _ _ m c.args.t c.page_refused.result _ c.refuse.ensures c.page_refused.ensures.reply
     (λ _. page_refused_is (aged c.args.t m) c.args.t lines (job_of c.args.job) _ c.in-Err.refusal (ap (both_lined lines) c.in-Err.ensures ∙ page_lined lines c.args.said (job_of c.args.job) c.args.grant))
 
 pub returns-in-Err-clause-closed : goal.returns-in-Err-clause-closed
 returns-in-Err-clause-closed c off =
     decided_where (λ reply. Refused reply) c.page_refused.result _ c.refuse.ensures (c.page_refused.ensures.made (closed_page _ c.in-Err.refusal c.in-Err.ensures (rw off refl)))
-
-pub returns-in-Ok-clause-cause : goal.returns-in-Ok-clause-cause
-returns-in-Ok-clause-cause c fit = c.confirmed.ensures.cause (page_keeps c.args.job c.args.grant _ c.in-Ok.change fit c.args.said c.in-Ok.ensures)
-
-pub returns-in-Err-clause-cause : goal.returns-in-Err-clause-cause
-returns-in-Err-clause-cause c fit = wants_reply (λ reply. Refused reply) c.page_refused.result _ c.refuse.ensures (only_no_answer c.page_refused.result _ c.page_refused.ensures.reply)

@@ -7,30 +7,28 @@ use Rattle.fax_decide.specs.Records.{job_in}
 use Rattle.fax_decide.specs.Report.{report_both}
 use Rattle.fax_decide.specs.Settings.{settings_of}
 use Rattle.fax_decide.specs.declared.reports.Report.{Report}
-use Rattle.fax_decide.proofs.FaultLemmas.{in_either, or_no_answer}
 use Rattle.fax_decide.proofs.KeptLemmas.{fits_there}
+use Rattle.fax_decide.proofs.LookingLemmas.{gives, goes_on, no_call}
 use Rattle.fax_decide.proofs.reports.report_on.Goals as goal
 
-pub returns-in-Call-clause-decided : goal.returns-in-Call-clause-decided
-returns-in-Call-clause-decided g c m k sound means serves there few =
+pub returns-in-Call-clause-consults : goal.returns-in-Call-clause-consults
+returns-in-Call-clause-consults g c = goes_on no_call (λ m k at none sound there few.
     subst (λ (report : Report). OrNoAnswer c.decide_call.result (Decides (report_both (settings_of c.args.office.now.setup c.args.office.now.controls) (aged c.args.t m) c.args.t report (job_in (aged c.args.t m) c.args.job) c.args.grant) m c.args.t))
     (sym c.in-Call.is)
-    (or_no_answer c.decide_call.result _ (c.decide_call.ensures.decided m there few)
-    (in_either c.args.grant.is_open c.decide_call.result c.decide_call.ensures.closed (λ is_open. c.decide_call.ensures.cause (fits_there m c.args.t c.args.job c.args.grant sound there is_open))))
+    (c.decide_call.ensures.decided m there few (fits_there m c.args.t c.args.job c.args.grant sound there)))
 
-pub returns-in-Page-clause-decided : goal.returns-in-Page-clause-decided
-returns-in-Page-clause-decided g c m k sound means serves there few =
+pub returns-in-Page-clause-consults : goal.returns-in-Page-clause-consults
+returns-in-Page-clause-consults g c = goes_on no_call (λ m k at none sound there few.
     subst (λ (report : Report). OrNoAnswer c.decide_page.result (Decides (report_both (settings_of c.args.office.now.setup c.args.office.now.controls) (aged c.args.t m) c.args.t report (job_in (aged c.args.t m) c.args.job) c.args.grant) m c.args.t))
     (sym c.in-Page.is)
-    (or_no_answer c.decide_page.result _ (c.decide_page.ensures.decided m there few (fits_there m c.args.t c.args.job c.args.grant sound there))
-    (in_either c.args.grant.is_open c.decide_page.result c.decide_page.ensures.closed (λ is_open. c.decide_page.ensures.cause (fits_there m c.args.t c.args.job c.args.grant sound there is_open))))
+    (c.decide_page.ensures.decided m there few (fits_there m c.args.t c.args.job c.args.grant sound there)))
 
-pub returns-in-Outcome-clause-decided : goal.returns-in-Outcome-clause-decided
-returns-in-Outcome-clause-decided g c m k sound means serves there few =
+pub returns-in-Outcome-clause-consults : goal.returns-in-Outcome-clause-consults
+returns-in-Outcome-clause-consults g c = gives c.decide_outcome.ensures.consults (λ m k at decided sound there few.
     subst (λ (report : Report). OrNoAnswer c.decide_outcome.result (Decides (report_both (settings_of c.args.office.now.setup c.args.office.now.controls) (aged c.args.t m) c.args.t report (job_in (aged c.args.t m) c.args.job) c.args.grant) m c.args.t))
     (sym c.in-Outcome.is)
-    (c.decide_outcome.ensures.decided m k sound means serves there)
+    (decided sound there))
 
-pub returns-then-not-fits-clause-decided : goal.returns-then-not-fits-clause-decided
-returns-then-not-fits-clause-decided g c m k sound means serves there few =
-    absurd (true≢false (sym (c.fits.ensures ∙ fits_there m c.args.t c.args.job c.args.grant sound there c.if-grant.true) ∙ c.if-not-fits.true))
+pub returns-then-not-fits-clause-consults : goal.returns-then-not-fits-clause-consults
+returns-then-not-fits-clause-consults g c = goes_on no_call (λ m k at none sound there few.
+    absurd (true≢false (sym (c.fits.ensures ∙ fits_there m c.args.t c.args.job c.args.grant sound there c.if-grant.true) ∙ c.if-not-fits.true)))

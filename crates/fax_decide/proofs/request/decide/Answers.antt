@@ -1,84 +1,58 @@
-use Rattle.std.proofs.Common.{ap, sym, subst}
-use Rattle.std.specs.Prelude.{IfOk}
+use Rattle.std.proofs.Common.{◌≡◌, ℕ, Result, ap, sym, subst}
 use Rattle.fax_core.specs.Machine.{step}
+use Rattle.fax_core.specs.Settings.{Settings}
 use Rattle.fax_core.specs.declared.ask.Ask.{Ask}
+use Rattle.fax_store.specs.declared.store.Store.{Store}
 use Rattle.fax_tables.specs.declared.meta.Meta.{Meta}
-use Rattle.fax_decide.specs.Decision.{Decides}
+use Rattle.fax_decide.specs.Looking.{DecidesBy}
 use Rattle.fax_decide.specs.Read.{IsRead}
 use Rattle.fax_decide.specs.Settings.{settings_of}
-use Rattle.fax_decide.proofs.FaultLemmas.{if_answered, only_no_answer}
+use Rattle.fax_decide.specs.declared.decision.Decision.{Decision}
+use Rattle.fax_decide.specs.declared.fault.Fault.{Fault}
+use Rattle.fax_decide.proofs.FaultLemmas.{both_sides}
+use Rattle.fax_decide.proofs.LookingLemmas.{decides, gives, goes_on, no_call}
 use Rattle.fax_decide.proofs.request.decide.Goals as goal
 
-pub returns-in-Submission-clause-cause : goal.returns-in-Submission-clause-cause
-returns-in-Submission-clause-cause g c m k sound means serves these read = c.decide_submission.ensures.cause m sound these (subst (λ (ask : Ask). IsRead ask) c.in-Submission.is read)
+-- the decision of a request that is this one
+of_ask : {S : Type 0} {g : _} {old new : Store S} {result : Result Decision Fault} {meta : Meta} {t : ℕ} (s : Settings) {ask this : Ask} → ask ≡ this
+    → DecidesBy g old new result meta t (λ m. step s m t this) (IsRead this) → DecidesBy g old new result meta t (λ m. step s m t ask) (IsRead ask)
+of_ask {S} {g} {old} {new} {result} {meta} {t} s is call = subst (λ (ask : Ask). DecidesBy g old new result meta t (λ m. step s m t ask) (IsRead ask)) (sym is) call
 
-pub returns-in-Bring-clause-cause : goal.returns-in-Bring-clause-cause
-returns-in-Bring-clause-cause g c m k sound means serves these read = c.decide_import.ensures.cause m k sound means serves these (subst (λ (ask : Ask). IsRead ask) c.in-Bring.is read)
+pub returns-in-Submission : goal.returns-in-Submission
+returns-in-Submission g c = of_ask (settings_of c.args.office.now.setup c.args.office.now.controls) c.in-Submission.is (decides (goes_on no_call (λ m k at none sound these. c.decide_submission.ensures m sound these)))
 
-pub returns-in-Suspend-clause-cause : goal.returns-in-Suspend-clause-cause
-returns-in-Suspend-clause-cause g c m k sound means serves these read = c.decide_on_job.ensures.cause m k means serves tt
+pub returns-in-Bring : goal.returns-in-Bring
+returns-in-Bring g c = of_ask (settings_of c.args.office.now.setup c.args.office.now.controls) c.in-Bring.is c.decide_import.ensures
 
-pub returns-in-Resume-clause-cause : goal.returns-in-Resume-clause-cause
-returns-in-Resume-clause-cause g c m k sound means serves these read = c.decide_on_job-in-Resume.ensures.cause m k means serves tt
+pub returns-in-Suspend : goal.returns-in-Suspend
+returns-in-Suspend g c = of_ask (settings_of c.args.office.now.setup c.args.office.now.controls) c.in-Suspend.is (decides (gives c.decide_on_job.ensures (λ m k at decided sound these. decided)))
 
-pub returns-in-Kill-clause-cause : goal.returns-in-Kill-clause-cause
-returns-in-Kill-clause-cause g c m k sound means serves these read = c.decide_on_job-in-Kill.ensures.cause m k means serves tt
+pub returns-in-Resume : goal.returns-in-Resume
+returns-in-Resume g c = of_ask (settings_of c.args.office.now.setup c.args.office.now.controls) c.in-Resume.is (decides (gives c.decide_on_job-in-Resume.ensures (λ m k at decided sound these. decided)))
 
-pub returns-in-Alteration-clause-cause : goal.returns-in-Alteration-clause-cause
-returns-in-Alteration-clause-cause g c m k sound means serves these read = c.decide_on_job-in-Alteration.ensures.cause m k means serves (subst (λ (ask : Ask). IsRead ask) c.in-Alteration.is read)
+pub returns-in-Kill : goal.returns-in-Kill
+returns-in-Kill g c = of_ask (settings_of c.args.office.now.setup c.args.office.now.controls) c.in-Kill.is (decides (gives c.decide_on_job-in-Kill.ensures (λ m k at decided sound these. decided)))
 
-pub returns-in-Ready-clause-decided : goal.returns-in-Ready-clause-decided
-returns-in-Ready-clause-decided g c m k sound means serves these =
-    subst (λ (ask : Ask). IfOk c.decide_mark.result (Decides (step (settings_of c.args.office.now.setup c.args.office.now.controls) m c.args.t ask) m c.args.t))
-    (sym c.in-Ready.is) (if_answered c.decide_mark.result _ (c.decide_mark.ensures m c.args.t))
+pub returns-in-Alteration : goal.returns-in-Alteration
+returns-in-Alteration g c = of_ask (settings_of c.args.office.now.setup c.args.office.now.controls) c.in-Alteration.is (decides (gives c.decide_on_job-in-Alteration.ensures (λ m k at decided sound these. decided)))
 
-pub returns-in-Ready-clause-cause : goal.returns-in-Ready-clause-cause
-returns-in-Ready-clause-cause g c m k sound means serves these read = only_no_answer c.decide_mark.result _ (c.decide_mark.ensures m c.args.t)
+pub returns-in-Ready : goal.returns-in-Ready
+returns-in-Ready g c = of_ask (settings_of c.args.office.now.setup c.args.office.now.controls) c.in-Ready.is (decides (goes_on no_call (λ m k at none sound these. both_sides c.decide_mark.result _ (c.decide_mark.ensures m c.args.t))))
 
-pub returns-in-Down-clause-decided : goal.returns-in-Down-clause-decided
-returns-in-Down-clause-decided g c m k sound means serves these =
-    subst (λ (ask : Ask). IfOk c.decide_mark-in-Down.result (Decides (step (settings_of c.args.office.now.setup c.args.office.now.controls) m c.args.t ask) m c.args.t))
-    (sym c.in-Down.is) (if_answered c.decide_mark-in-Down.result _ (c.decide_mark-in-Down.ensures m c.args.t))
+pub returns-in-Down : goal.returns-in-Down
+returns-in-Down g c = of_ask (settings_of c.args.office.now.setup c.args.office.now.controls) c.in-Down.is (decides (goes_on no_call (λ m k at none sound these. both_sides c.decide_mark-in-Down.result _ (c.decide_mark-in-Down.ensures m c.args.t))))
 
-pub returns-in-Down-clause-cause : goal.returns-in-Down-clause-cause
-returns-in-Down-clause-cause g c m k sound means serves these read = only_no_answer c.decide_mark-in-Down.result _ (c.decide_mark-in-Down.ensures m c.args.t)
+pub returns-in-Next : goal.returns-in-Next
+returns-in-Next g c = of_ask (settings_of c.args.office.now.setup c.args.office.now.controls) c.in-Next.is (decides (gives c.decide_next.ensures (λ m k at decided sound these. both_sides c.decide_next.result _ (decided sound (ap (λ (x : Meta). x.next_grant) these)))))
 
-pub returns-in-GiveUp-clause-decided : goal.returns-in-GiveUp-clause-decided
-returns-in-GiveUp-clause-decided g c m k sound means serves these =
-    subst (λ (ask : Ask). IfOk c.decide_floor.result (Decides (step (settings_of c.args.office.now.setup c.args.office.now.controls) m c.args.t ask) m c.args.t))
-    (sym c.in-GiveUp.is) (if_answered c.decide_floor.result _ (c.decide_floor.ensures m c.args.t))
+pub returns-in-CallReport : goal.returns-in-CallReport
+returns-in-CallReport g c = of_ask (settings_of c.args.office.now.setup c.args.office.now.controls) c.in-CallReport.is (decides (gives c.decide_report.ensures (λ m k at decided sound these. both_sides c.decide_report.result _ (decided sound))))
 
-pub returns-in-GiveUp-clause-cause : goal.returns-in-GiveUp-clause-cause
-returns-in-GiveUp-clause-cause g c m k sound means serves these read = only_no_answer c.decide_floor.result _ (c.decide_floor.ensures m c.args.t)
+pub returns-in-PageReport : goal.returns-in-PageReport
+returns-in-PageReport g c = of_ask (settings_of c.args.office.now.setup c.args.office.now.controls) c.in-PageReport.is (decides (gives c.decide_report-in-PageReport.ensures (λ m k at decided sound these. both_sides c.decide_report-in-PageReport.result _ (decided sound))))
 
-pub returns-in-Next-clause-decided : goal.returns-in-Next-clause-decided
-returns-in-Next-clause-decided g c m k sound means serves these =
-    subst (λ (ask : Ask). IfOk c.decide_next.result (Decides (step (settings_of c.args.office.now.setup c.args.office.now.controls) m c.args.t ask) m c.args.t))
-    (sym c.in-Next.is) (if_answered c.decide_next.result _ (c.decide_next.ensures.decided m k sound means serves (ap (λ (x : Meta). x.next_grant) these)))
+pub returns-in-OutcomeReport : goal.returns-in-OutcomeReport
+returns-in-OutcomeReport g c = of_ask (settings_of c.args.office.now.setup c.args.office.now.controls) c.in-OutcomeReport.is (decides (gives c.decide_report-in-OutcomeReport.ensures (λ m k at decided sound these. both_sides c.decide_report-in-OutcomeReport.result _ (decided sound))))
 
-pub returns-in-Next-clause-cause : goal.returns-in-Next-clause-cause
-returns-in-Next-clause-cause g c m k sound means serves these read = only_no_answer c.decide_next.result _ (c.decide_next.ensures.decided m k sound means serves (ap (λ (x : Meta). x.next_grant) these))
-
-pub returns-in-CallReport-clause-decided : goal.returns-in-CallReport-clause-decided
-returns-in-CallReport-clause-decided g c m k sound means serves these =
-    subst (λ (ask : Ask). IfOk c.decide_report.result (Decides (step (settings_of c.args.office.now.setup c.args.office.now.controls) m c.args.t ask) m c.args.t))
-    (sym c.in-CallReport.is) (if_answered c.decide_report.result _ (c.decide_report.ensures.decided m k sound means serves))
-
-pub returns-in-CallReport-clause-cause : goal.returns-in-CallReport-clause-cause
-returns-in-CallReport-clause-cause g c m k sound means serves these read = only_no_answer c.decide_report.result _ (c.decide_report.ensures.decided m k sound means serves)
-
-pub returns-in-PageReport-clause-decided : goal.returns-in-PageReport-clause-decided
-returns-in-PageReport-clause-decided g c m k sound means serves these =
-    subst (λ (ask : Ask). IfOk c.decide_report-in-PageReport.result (Decides (step (settings_of c.args.office.now.setup c.args.office.now.controls) m c.args.t ask) m c.args.t))
-    (sym c.in-PageReport.is) (if_answered c.decide_report-in-PageReport.result _ (c.decide_report-in-PageReport.ensures.decided m k sound means serves))
-
-pub returns-in-PageReport-clause-cause : goal.returns-in-PageReport-clause-cause
-returns-in-PageReport-clause-cause g c m k sound means serves these read = only_no_answer c.decide_report-in-PageReport.result _ (c.decide_report-in-PageReport.ensures.decided m k sound means serves)
-
-pub returns-in-OutcomeReport-clause-decided : goal.returns-in-OutcomeReport-clause-decided
-returns-in-OutcomeReport-clause-decided g c m k sound means serves these =
-    subst (λ (ask : Ask). IfOk c.decide_report-in-OutcomeReport.result (Decides (step (settings_of c.args.office.now.setup c.args.office.now.controls) m c.args.t ask) m c.args.t))
-    (sym c.in-OutcomeReport.is) (if_answered c.decide_report-in-OutcomeReport.result _ (c.decide_report-in-OutcomeReport.ensures.decided m k sound means serves))
-
-pub returns-in-OutcomeReport-clause-cause : goal.returns-in-OutcomeReport-clause-cause
-returns-in-OutcomeReport-clause-cause g c m k sound means serves these read = only_no_answer c.decide_report-in-OutcomeReport.result _ (c.decide_report-in-OutcomeReport.ensures.decided m k sound means serves)
+pub returns-in-GiveUp : goal.returns-in-GiveUp
+returns-in-GiveUp g c = of_ask (settings_of c.args.office.now.setup c.args.office.now.controls) c.in-GiveUp.is (decides (goes_on no_call (λ m k at none sound these. both_sides c.decide_floor.result _ (c.decide_floor.ensures m c.args.t))))

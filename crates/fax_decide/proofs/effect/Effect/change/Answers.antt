@@ -18,7 +18,7 @@ returns-in-ChangedJob-clause-changes g c m₀ m k₀ k suits works =
 
 pub returns-in-Marked-clause-changes : goal.returns-in-Marked-clause-changes
 returns-in-Marked-clause-changes g c m₀ m k₀ k suits works =
-    let named = subst (λ text. Works (state g.S.Store c.set_down.new.self.store.now.conn) c.set_down.new.self.failed m₀ k₀ (with_mark text c.in-Marked.down m) k) c.as_str.ensures.text (c.set_down.ensures.changes m₀ m k₀ k works) in
+    let named = subst (λ text. Works (state g.S.Store c.set_down.new.self.store.now.conn) c.set_down.new.self.failed m₀ k₀ (with_mark text c.in-Marked.down m) k) c.as_str.ensures.text (c.set_down.ensures.makes.changes m₀ m k₀ k works) in
     subst (λ e. Works (state g.S.Store c.set_down.new.self.store.now.conn) c.set_down.new.self.failed m₀ k₀ (effected e m) k) (sym c.in-Marked.is) named
 
 pub returns-in_err-put_change-in-NewGrant-clause-changes : goal.returns-in_err-put_change-in-NewGrant-clause-changes
@@ -66,7 +66,7 @@ returns-in-NewJob-clause-cause g c m₀ m k₀ k works s fits =
     c.put_job.ensures.cause m₀ m k₀ k works s (fit.free, fit.within)
 
 pub returns-in-Marked-clause-cause : goal.returns-in-Marked-clause-cause
-returns-in-Marked-clause-cause g c m₀ m k₀ k works s fits = c.set_down.ensures.cause m₀ m k₀ k works s (λ down. search rules)
+returns-in-Marked-clause-cause g c m₀ m k₀ k works s fits = c.set_down.ensures.makes.cause m₀ m k₀ k works s (λ down. search rules)
 
 pub returns-in_ok-put_change-in-NewGrant-clause-cause : goal.returns-in_ok-put_change-in-NewGrant-clause-cause
 returns-in_ok-put_change-in-NewGrant-clause-cause g c m₀ m k₀ k works s fits =

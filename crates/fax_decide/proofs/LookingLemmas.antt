@@ -1,0 +1,141 @@
+-- Calls that look at the store, one after the other.
+use Rattle.std.proofs.Common.{◌≡◌, ℕ, Ok, Err, Result, IfOk, IsErrAnd, OnOk, subst, sym}
+use Rattle.std.specs.Prelude.{⊤, MatchResult}
+use Rattle.sqlite.specs.State.{State, HasCleanDisk}
+use Rattle.fax_core.specs.Ledger.{Ledger}
+use Rattle.fax_core.specs.Queue.{Queue}
+use Rattle.fax_core.specs.Reply.{Step}
+use Rattle.fax_core.specs.Sound.{Sound}
+use Rattle.fax_store.specs.Calls.{Finds, Looks, shown}
+use Rattle.fax_store.specs.Store.{Means, MeansNow, Serves, StaysOpen}
+use Rattle.fax_store.specs.declared.store.Store.{Store}
+use Rattle.fax_store.proofs.FrameLemmas.{looks_of, looks_then, means_now}
+use Rattle.fax_store.proofs.StoreLemmas.{means_stay}
+use Rattle.fax_tables.specs.Meta.{meta_of}
+use Rattle.fax_tables.specs.Tables.{IsAtRest}
+use Rattle.fax_tables.specs.declared.meta.Meta.{Meta}
+use Rattle.fax_tables.specs.declared.fault.StoreFault.{StoreFault}
+use Rattle.fax_ask.specs.Response.{Response}
+use Rattle.fax_decide.specs.Decision.{Decides}
+use Rattle.fax_decide.specs.Fault.{OnlyNoAnswer, OrNoAnswer}
+use Rattle.fax_decide.specs.Looking.{Consults, DecidesBy, Views}
+use Rattle.fax_decide.specs.declared.decision.Decision.{Decision}
+use Rattle.fax_decide.specs.declared.fault.Fault.{Fault}
+use Rattle.fax_decide.specs.declared.fault.Fault.TheVariants.{NoAnswer}
+use Rattle.fax_decide.proofs.FaultLemmas.{passed_on}
+
+-- what was open at first is open after the second, where it answers
+opens_then : {A E : Type 0} (a b c : State) (r : Result A E) → StaysOpen a b → (HasCleanDisk c → HasCleanDisk b) → OnOk r (StaysOpen b c) → OnOk r (StaysOpen a c)
+opens_then a b c (Ok x) first clean second = λ now serves. second now (first (clean now) serves)
+opens_then a b c (Err e) first clean second = tt
+
+-- an answer leaves the store serving
+opens_of : {A E : Type 0} (a b : State) (r : Result A E) → OnOk r (HasCleanDisk b → Serves b) → OnOk r (StaysOpen a b)
+opens_of a b (Ok x) opens = λ clean serves. opens clean
+opens_of a b (Err e) opens = tt
+
+-- what holds of every answer
+always : {A E P : Type 0} (r : Result A E) → P → OnOk r P
+always (Ok x) p = p
+always (Err e) p = tt
+
+-- nothing holds of the answer where there is none
+never : {A E : Type 0} (r : Result A E) (Is : E → Type 0) (P : Type 0) → IsErrAnd r Is → OnOk r P
+never (Ok x) Is P is = absurd is
+never (Err e) Is P is = tt
+
+-- what holds of a reply holds of the decision with it
+opens_with : (P : Type 0) (decision : Response → Decision) (reply : Result Response Fault) (result : Result Decision Fault) → MatchResult reply (λ r. result ≡ Ok (decision r)) (λ e. result ≡ Err e)
+    → OnOk reply P → OnOk result P
+opens_with P decision (Ok r) result is h = subst (λ d. OnOk d P) (sym is) h
+opens_with P decision (Err e) result is h = subst (λ d. OnOk d P) (sym is) tt
+
+module _ {S : Type 0} {g : _} where
+  -- what is known of the queue before any call
+  pub known : {a : Store S} {P : Queue → Type 0} → ((m : Queue) (k : Ledger) → Means (shown g a) m k → Serves (shown g a) → P m) → Consults g {A = ⊤} {E = ⊤} a a (Ok tt) P
+  known says = record {
+    leaves = record { served = λ serves. serves; clean = λ clean. clean; stays = λ db ours rests. rests; crash = λ found may. may };
+    opens = λ clean serves. serves;
+    found = says;
+  }
+
+  -- no call
+  pub no_call : {a : Store S} → Consults g {A = ⊤} {E = ⊤} a a (Ok tt) (λ m. ⊤)
+  no_call = known (λ m k means serves. tt)
+
+  -- the same stores by other names
+  pub moved : {a b c d : Store S} {A E : Type 0} {result : Result A E} {P : Queue → Type 0} → a ≡ c → b ≡ d → Consults g a b result P → Consults g c d result P
+  moved {a} {b} {c} {d} {A} {E} {result} {P} first last call = subst (λ v. Consults g c v result P) last (subst (λ v. Consults g v b result P) first call)
+
+  -- a reading of the store
+  pub by_reading : {old new : Store S} {A : Type 0} {result : Result A StoreFault} {P : Queue → Type 0} → Finds g old new result
+      → ((m : Queue) (k : Ledger) → MeansNow (shown g old) m k → Serves (shown g new) → P m) → Consults g old new result P
+  by_reading {old} {new} {A} {result} finds answers = record {
+    leaves = looks_of g old new result finds;
+    opens = opens_of (shown g old) (shown g new) result finds.opens;
+    found = λ m k means serves. answers m k (means_now means) serves;
+  }
+
+  -- a step along the candidates, wherever they stand
+  pub by_step : {old new : Store S} {A X : Type 0} {P : Queue → X → Type 0} (result : Result A StoreFault) → Looks g old new → OnOk result (StaysOpen (shown g old) (shown g new))
+      → ((m : Queue) (k : Ledger) (at : X) → Means (shown g old) m k → Serves (shown g new) → P m at) → Consults g old new result (λ m. (at : X) → P m at)
+  by_step result leaves opens found = record { leaves = leaves; opens = opens; found = λ m k means serves at. found m k at means serves }
+
+  -- two calls, of which the first answers
+  pub both : {a b c : Store S} {A B E F : Type 0} {x : A} {result : Result B F} {P Q : Queue → Type 0} → Consults g {E = E} a b (Ok x) P → Consults g b c result Q
+      → Consults g a c result (λ m. P m × Q m)
+  both {a} {b} {c} {result = result} first second = record {
+    leaves = looks_then g a b c first.leaves second.leaves;
+    opens = opens_then (shown g a) (shown g b) (shown g c) result first.opens second.leaves.clean second.opens;
+    found = λ m k means serves. (first.found m k means (second.leaves.served serves), second.found m k (means_stay first.leaves.served first.leaves.stays m k means) serves);
+  }
+
+  -- the result is that of the call
+  pub gives : {old new : Store S} {A E : Type 0} {result : Result A E} {P Q : Queue → Type 0} → Consults g old new result P
+      → ((m : Queue) (k : Ledger) → IsAtRest (shown g old) m k → P m → Q m) → Consults g old new result Q
+  gives call says = record {
+    leaves = call.leaves;
+    opens = call.opens;
+    found = λ m k means serves. says m k (means (call.leaves.served serves)) (call.found m k means serves);
+  }
+
+  -- the call answers, and the result is made of its answer
+  pub goes_on : {old new : Store S} {A B E F : Type 0} {x : A} {result : Result B F} {P Q : Queue → Type 0} → Consults g {E = E} old new (Ok x) P
+      → ((m : Queue) (k : Ledger) → IsAtRest (shown g old) m k → P m → Q m) → Consults g old new result Q
+  goes_on {result = result} call says = record {
+    leaves = call.leaves;
+    opens = always result call.opens;
+    found = λ m k means serves. says m k (means (call.leaves.served serves)) (call.found m k means serves);
+  }
+
+  -- the result is a fault
+  pub stops : {old new : Store S} {A B E : Type 0} {result : Result B E} {P Q : Queue → Type 0} (error : Result A Fault) (fault : Fault) → IsErrAnd error (λ e. e ≡ fault) → Consults g old new result P
+      → ((m : Queue) (k : Ledger) → IsAtRest (shown g old) m k → ((T : A → Type 0) → fault ≡ NoAnswer → OrNoAnswer error T) → P m → Q m) → Consults g old new error Q
+  stops error fault is call says = record {
+    leaves = call.leaves;
+    opens = never error (λ e. e ≡ fault) _ is;
+    found = λ m k means serves. says m k (means (call.leaves.served serves)) (λ T why. passed_on error fault T is why) (call.found m k means serves);
+  }
+
+  -- the result is decided by the reply of the call
+  pub replies : {old new : Store S} {P Q : Queue → Type 0} (decision : Response → Decision) (reply : Result Response Fault) (result : Result Decision Fault)
+      → MatchResult reply (λ r. result ≡ Ok (decision r)) (λ e. result ≡ Err e) → Consults g old new reply P → ((m : Queue) (k : Ledger) → IsAtRest (shown g old) m k → P m → Q m) → Consults g old new result Q
+  replies decision reply result is call says = record {
+    leaves = call.leaves;
+    opens = opens_with _ decision reply result is call.opens;
+    found = λ m k means serves. says m k (means (call.leaves.served serves)) (call.found m k means serves);
+  }
+
+  -- what is seen of the queue
+  pub views : {old new : Store S} {result : Result Response Fault} {view : Queue → Response} → Consults g old new result (λ m. Sound m → OrNoAnswer result (λ reply. reply ≡ view m)) → Views g old new result view
+  views call = record { leaves = call.leaves; opens = call.opens; viewed = λ m k sound means serves. call.found m k means serves sound }
+
+  -- what is decided of a request
+  pub decides : {old new : Store S} {result : Result Decision Fault} {meta : Meta} {t : ℕ} {step : Queue → Step} {IsRead : Type 0}
+      → Consults g old new result (λ m. Sound m → meta ≡ meta_of m → IfOk result (Decides (step m) m t) × (IsRead → OnlyNoAnswer result)) → DecidesBy g old new result meta t step IsRead
+  decides call = record {
+    leaves = call.leaves;
+    opens = call.opens;
+    decided = λ m k sound means serves these. (call.found m k means serves sound these).0;
+    cause = λ m k sound means serves these. (call.found m k means serves sound these).1;
+  }
