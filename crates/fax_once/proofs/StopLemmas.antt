@@ -12,11 +12,12 @@ use Rattle.fax_core.specs.declared.ask.Ask.{Ask}
 use Rattle.fax_ask.specs.Ask.{IsAsk}
 use Rattle.fax_ask.specs.declared.ask.Ask.{Ask as Asked}
 use Rattle.fax_ask.specs.declared.ask.Ask.TheVariants.{Step}
+use Rattle.fax_decide.proofs.WorkLemmas.{works_where}
 use Rattle.fax_decide.specs.Decision.{IsTaken}
 use Rattle.fax_decide.specs.Effect.{accepted}
 use Rattle.fax_decide.specs.declared.effect.Effect.{Effect}
 use Rattle.fax_store.specs.Store.{CommitsNothing, HasTables, Means, RowsFound, Serves}
-use Rattle.fax_store.specs.Work.{MayCommit, Opens, Withholds, Works}
+use Rattle.fax_store.specs.Work.{Begins, ChangesWhere, MayCommit, Opens, Withholds, Works}
 use Rattle.fax_tables.specs.Kept.{entry}
 use Rattle.fax_once.specs.Arrival.{IsSender, said_of}
 use Rattle.fax_once.specs.Reading.{IsReading, Reading, Faulty, Sees, Posts, post_of}
@@ -33,6 +34,12 @@ use Rattle.fax_once.proofs.VerdictLemmas.{decided_is}
 -- the tables are ours where they mean something
 pub has_tables : (s : State) (m : Queue) (k : Ledger) → Means s m k → Serves s → HasTables s
 has_tables s m k means serves = (means serves).means.schema
+
+-- what a work that began at what the store means has made of it
+pub works_by : (s0 s1 s2 : State) (begun written : Bool) (P : Queue → Type 0) (f : Queue → Queue) (h : Ledger → Ledger) → Begins s0 s1 begun → (Serves s1 → Serves s0) → (Serves s2 → Serves s1)
+    → ChangesWhere P s1 begun s2 written f h → (m : Queue) (k : Ledger) → Means s0 m k → (Serves s0 → P m) → Works s2 written m k (f m) (h k)
+works_by s0 s1 s2 begun written P f h begins first next changes m k means suits =
+    works_where P s1 s2 begun written f h m k (λ serves. suits (first serves)) next changes (begins m k means)
 
 module _ (s0 s1 s2 s3 : State) (begun written : Bool) (opens : Opens s0 s1 begun) (tables : Serves s0 → HasTables s0) (writes : Withholds s1 begun s2 written) where
   -- a work that is given up

@@ -9,4 +9,5 @@ pub mod Counts
 pub mod Laws
 pub mod Sessions
 pub mod Queue
+pub mod Acceptance
 pub mod Progress

@@ -1,21 +1,13 @@
 //! Accepting a request: its effect and its kept reply, in one transaction.
 
-ghost use Rattle.std.specs.Prelude.{◌≡◌, true, IfErr, MatchResult, OnErr, OnOk};
-ghost use Rattle.sqlite.specs.State.{HasCleanDisk};
-ghost use Rattle.fax_core.specs.Ledger.{Ledger, with_reply};
-ghost use Rattle.fax_core.specs.Queue.{Queue};
-ghost use Rattle.fax_store.specs.Calls.{FailsOnly, Follows, Makes, MakesWhere, shown};
+ghost use Rattle.std.specs.Prelude.{⊤, OnOk};
+ghost use Rattle.fax_decide.specs.Effect.{Suits, accepted};
 ghost use Rattle.fax_store.specs.Job.{with_expired};
-ghost use Rattle.fax_value.specs.Name.{IsName};
-ghost use Rattle.fax_store.specs.Kept.{IsUnkept};
-ghost use Rattle.fax_tables.specs.Kept.{entry};
 ghost use Rattle.fax_tables.specs.Tables.{IsKeptStatus};
-ghost use Rattle.fax_store.specs.Store.{Means, Serves, Stays};
-ghost use Rattle.fax_decide.specs.Effect.{IsWritable, Suits, accepted};
-ghost use Rattle.fax_decide.specs.Fault.{OnlyNoAnswer};
+ghost use Rattle.fax_value.specs.Name.{IsName};
+ghost use Rattle.fax_once.specs.Acceptance.{Accepts, IsAcceptable, WritesWithin, kept_after};
 ghost use Rattle.fax_once.specs.Arrival.{said_of};
-ghost use Rattle.fax_once.specs.Stop.{MayLeave};
-ghost use Rattle.fax_once.specs.Verdict.{IsNotAccepted, without};
+ghost use Rattle.fax_once.specs.Verdict.{without};
 
 use crate::arrival::Arrival;
 use crate::sender::Sender;
@@ -35,7 +27,8 @@ pub(crate) struct Change {
     pub given: Option<RequestNumber>,
 }
 
-/// Accepts a request that is taken: its effect and its reply are stored together.
+/// Accepts a request that is taken: ages the queue at `decided_at`, makes the change, sets the clock and keeps the reply,
+/// all in one transaction.
 ///
 /// # Errors
 ///
@@ -45,82 +38,21 @@ pub(crate) fn accept<S: Alter>(
     alloc: Global,
     arrival: &Arrival<'_>,
     sender: &Sender<'_>,
-    t: Moment,
+    decided_at: Moment,
     change: &Change,
     reply: Reply,
 ) -> Result<Reply, Fault>
-    ensures served { OnOk result (Serves (shown S.Store store.new) → Serves (shown S.Store store.old)) }
-    ensures clean { HasCleanDisk (shown S.Store store.new) → HasCleanDisk (shown S.Store store.old) }
-    ensures opens { OnOk result (HasCleanDisk (shown S.Store store.new) → Serves (shown S.Store store.new)) }
-    ensures unchanged { IsNotAccepted result → Stays (shown S.Store store.old) (shown S.Store store.new) }
-    ensures accepted { (m : Queue) (k : Ledger) → Means (shown S.Store store.old) m k
-        → (Serves (shown S.Store store.old) → Suits change.now.effect (with_expired t m))
-        → MatchResult result
-        (λ told. (told ≡ reply) × Means (shown S.Store store.new) (accepted t change.now.effect m)
-        (with_reply (entry sender.now.client.now sender.now.number (said_of arrival.now) reply.status reply.body)
-        (without sender.now.client.now change.now.given k)))
-        (λ _. Means (shown S.Store store.new) m k) }
-    ensures crash { (m : Queue) (k : Ledger) → Means (shown S.Store store.old) m k
-        → (Serves (shown S.Store store.old) → Suits change.now.effect (with_expired t m))
-        → MayLeave (shown S.Store store.old) (shown S.Store store.new) (accepted t change.now.effect m)
-        (with_reply (entry sender.now.client.now sender.now.number (said_of arrival.now) reply.status reply.body)
-        (without sender.now.client.now change.now.given k)) }
-    ensures cause { (m : Queue) (k : Ledger) → Means (shown S.Store store.old) m k
-        → (Serves (shown S.Store store.old) → IsWritable change.now.effect (with_expired t m)
-        × IsName sender.now.client.now × IsKeptStatus reply.status
-        × IsUnkept sender.now.client.now sender.now.number k.replies) → Serves (shown S.Store store.new)
-        → OnlyNoAnswer result }
+    ensures { Accepts S.Store store.old store.new result decided_at change.now sender.now (said_of arrival.now) reply }
 {
     let said = arrival.said(alloc)?;
-    commit_accepted(store, t, change, sender, &said, &reply)?;
+    let mut work = store.begin()?;
+    write_accepted(&mut work, decided_at, change, sender, &said, &reply)?;
+    work.commit()?;
     Ok(reply)
 }
 
-/// Ages the queue at `decided_at`, makes the change, sets the clock and keeps the reply, all in one
-/// transaction.
-///
-/// # Errors
-///
-/// Those of the store; the tables are as they were.
-fn commit_accepted<S: Alter>(
-    store: &mut Store<S>,
-    decided_at: Moment,
-    change: &Change,
-    sender: &Sender<'_>,
-    said: &[u8],
-    reply: &Reply,
-) -> Result<(), StoreFault>
-    ensures served { OnOk result (Serves (shown S.Store store.new) → Serves (shown S.Store store.old)) }
-    ensures clean { HasCleanDisk (shown S.Store store.new) → HasCleanDisk (shown S.Store store.old) }
-    ensures opens { OnOk result (HasCleanDisk (shown S.Store store.new) → Serves (shown S.Store store.new)) }
-    ensures unchanged { OnErr result (Stays (shown S.Store store.old) (shown S.Store store.new)) }
-    ensures kept { OnOk result (IsKeptStatus reply.now.status) }
-    ensures taken { (m : Queue) (k : Ledger) → Means (shown S.Store store.old) m k
-        → (Serves (shown S.Store store.old) → Suits change.now.effect (with_expired decided_at m))
-        → MatchResult result
-        (λ _. Means (shown S.Store store.new) (accepted decided_at change.now.effect m)
-        (with_reply (entry sender.now.client.now sender.now.number said.now reply.now.status reply.now.body)
-        (without sender.now.client.now change.now.given k)))
-        (λ _. Means (shown S.Store store.new) m k) }
-    ensures crash { (m : Queue) (k : Ledger) → Means (shown S.Store store.old) m k
-        → (Serves (shown S.Store store.old) → Suits change.now.effect (with_expired decided_at m))
-        → MayLeave (shown S.Store store.old) (shown S.Store store.new) (accepted decided_at change.now.effect m)
-        (with_reply (entry sender.now.client.now sender.now.number said.now reply.now.status reply.now.body)
-        (without sender.now.client.now change.now.given k)) }
-    ensures cause { (m : Queue) (k : Ledger) → Means (shown S.Store store.old) m k
-        → (Serves (shown S.Store store.old) → IsWritable change.now.effect (with_expired decided_at m)
-        × IsName sender.now.client.now × IsKeptStatus reply.now.status
-        × IsUnkept sender.now.client.now sender.now.number k.replies) → Serves (shown S.Store store.new)
-        → IfErr result (λ fault. fault ≡ StoreFault.Unavailable) }
-{
-    let mut work = store.begin()?;
-    write(&mut work, decided_at, change, sender, said, reply)?;
-    work.commit()?;
-    Ok(())
-}
-
 /// The writes of an accepted request.
-fn write<S: Alter>(
+fn write_accepted<S: Alter>(
     work: &mut Work<'_, S>,
     decided_at: Moment,
     change: &Change,
@@ -128,15 +60,10 @@ fn write<S: Alter>(
     said: &[u8],
     reply: &Reply,
 ) -> Result<(), StoreFault>
-    ensures leaves { Follows S.Store work.old work.new }
     ensures kept { OnOk result (IsKeptStatus reply.now.status) }
-    ensures changes { MakesWhere S.Store work.old work.new (λ m. Suits change.now.effect (with_expired decided_at m))
-        (accepted decided_at change.now.effect)
-        (λ k. with_reply (entry sender.now.client.now sender.now.number said.now reply.now.status reply.now.body)
-        (without sender.now.client.now change.now.given k)) }
-    ensures cause { FailsOnly S.Store work.old work.new result (λ m k. IsWritable change.now.effect (with_expired decided_at m)
-        × IsName sender.now.client.now × IsKeptStatus reply.now.status
-        × IsUnkept sender.now.client.now sender.now.number k.replies) }
+    ensures writes { WritesWithin S.Store work.old work.new result (λ m. Suits change.now.effect (with_expired decided_at m))
+        (accepted decided_at change.now.effect) (kept_after sender.now said.now reply.now change.now.given)
+        (IsAcceptable decided_at change.now sender.now reply.now) }
 {
     work.expire_all(decided_at)?;
     change.effect.write(work, decided_at)?;
@@ -156,10 +83,8 @@ fn give_up<S: Alter>(
     client: &str,
     given: Option<RequestNumber>,
 ) -> Result<(), StoreFault>
-    ensures leaves { Follows S.Store work.old work.new }
-    ensures fails { OnErr result (work.new.failed ≡ true) }
-    ensures changes { Makes S.Store work.old work.new (λ m. m) (without client.now given) }
-    ensures cause { FailsOnly S.Store work.old work.new result (λ m k. IsName client.now) }
+    ensures { WritesWithin S.Store work.old work.new result (λ m. ⊤) (λ m. m) (without client.now given)
+        (λ m k. IsName client.now) }
 {
     match given {
         Some(upto) => work.give_up(client, upto),

@@ -4,29 +4,23 @@
 //! bytes are made before its commit. A refused request changes nothing, and neither does a repeat of an
 //! accepted one, which gets the kept reply.
 
-ghost use Rattle.std.specs.Prelude.{◌≡◌, ◌<◌, ◌^◌, false, IfOk, IsTrue, None, Some, OnErr, OnOk, if◌then◌else◌};
+ghost use Rattle.std.specs.Prelude.{◌≡◌, ◌<◌, ◌^◌, false, IfOk, IsTrue, None, Some, OnErr, if◌then◌else◌};
 ghost use Rattle.std.specs.Str.{bytes_eq};
 ghost use Rattle.sqlite.specs.Effect.{Database};
 ghost use Rattle.sqlite.specs.State.{HasCleanDisk};
-ghost use Rattle.fax_ask.specs.Ask.{IsAsk};
 ghost use Rattle.fax_ask.specs.Response.{kept_response, refused_response};
 ghost use Rattle.fax_ask.specs.declared.method.Method.TheVariants.{Get};
-ghost use Rattle.fax_core.specs.Clock.{decided_at};
 ghost use Rattle.fax_core.specs.Reply.{NoKeys};
-ghost use Rattle.fax_store.specs.Calls.{Looks};
-ghost use Rattle.fax_store.specs.Kept.{HasReply};
 ghost use Rattle.fax_store.specs.Store.{CommitsNothing, LeavesAlone, Rests, Serves, Stays};
 ghost use Rattle.fax_schema.specs.Schema.{our_tables};
 ghost use Rattle.fax_tables.specs.Tables.{IsKeptStatus};
 ghost use Rattle.fax_once.specs.Laws.{IsSoundWith, RunsWell};
 ghost use Rattle.fax_decide.specs.Fault.{OnlyNoAnswer};
-ghost use Rattle.fax_decide.specs.View.{view};
 ghost use Rattle.fax_once.specs.Arrival.{said_of};
-ghost use Rattle.fax_once.specs.Queue.{AsksFor, AsksStep, ComesOf, ComesTo, From, HasNoReply, Replies, settings, tables};
-ghost use Rattle.fax_once.specs.Reading.{post_of};
+ghost use Rattle.fax_once.specs.Queue.{AnswersAsk, AnswersNew, AnswersStep, From, Replies, Shows, settings, tables};
 ghost use Rattle.fax_once.specs.Sessions.{RunsAsSession};
 ghost use Rattle.fax_once.specs.Stop.{Stops, StopsIn};
-ghost use Rattle.fax_once.specs.Verdict.{Answers, Handles, IsUsed, asked_above, asked_for, decided_new, given_by, is_too_high, new_asked, raised_ask};
+ghost use Rattle.fax_once.specs.Verdict.{Answers, Handles, IsUsed, given_by, is_too_high, raised_ask};
 ghost use Rattle.fax_once.specs.declared.arrival.Arrival.{Arrival as ArrivalOf};
 
 use crate::acceptance::{Change, accept};
@@ -38,7 +32,7 @@ use fax_core::Ask as Step;
 use fax_decide::{Decision, Fault, Office, decide, show};
 use fax_dest::{Controls, Setup};
 use fax_job::{Moment, Refusal, RequestNumber};
-use fax_store::{Kept, Meta, Store};
+use fax_store::{Kept, Store};
 use sqlite::{Alter, Connection};
 use std::alloc::{AllocError, Global};
 
@@ -212,13 +206,7 @@ impl<S: Alter> Queue<S> {
     }
 
     fn answer_ask(&mut self, alloc: Global, arrival: &Arrival<'_>, ask: Ask) -> Result<Reply, Fault>
-        ensures leaves { Replies S.Store self.old self.new result }
-        ensures seen { arrival.now.method ≡ Get → IsAsk arrival.now.method arrival.now.path.now arrival.now.body.now ask
-            → Stays (tables S.Store self.old) (tables S.Store self.new) }
-        ensures repeated { (db : Database) → db.schema ≡ our_tables → Rests (tables S.Store self.old) db
-            → IsUsed arrival.now db → Rests (tables S.Store self.new) db }
-        ensures answered { From S.Store self.old (λ m k. AsksFor arrival.now ask
-            → ComesOf S.Store self.old self.new result m k arrival.now) }
+        ensures { AnswersAsk S.Store self.old self.new result arrival.now ask }
     {
         match ask {
             Ask::View(asked) => self.show(alloc, asked, arrival.moment),
@@ -231,15 +219,10 @@ impl<S: Alter> Queue<S> {
 
     /// Shows what a client asks to see, at the later of that moment and the clock. Nothing changes.
     fn show(&mut self, alloc: Global, asked: View, moment: Moment) -> Result<Reply, Fault>
-        ensures office { self.new.office ≡ self.old.office }
-        ensures leaves { Looks S.Store self.old.store self.new.store }
-        ensures opens { OnOk result (HasCleanDisk (tables S.Store self.new) → Serves (tables S.Store self.new)) }
-        ensures viewed { From S.Store self.old (λ m k. Serves (tables S.Store self.new)
-            → IfOk result (λ reply. reply ≡ view (settings self.old) m (decided_at m.clock moment) asked)) }
-        ensures cause { From S.Store self.old (λ m k. Serves (tables S.Store self.new) → OnlyNoAnswer result) }
+        ensures { Shows S.Store self.old self.new result asked moment }
     {
         let meta = self.store.meta()?;
-        let t = moment_at(&meta, moment);
+        let t = meta.clock.later(moment);
         show(&mut self.store, &self.office, alloc, asked, t)
     }
 
@@ -252,83 +235,37 @@ impl<S: Alter> Queue<S> {
         sender: &Sender<'_>,
         ask: Step,
     ) -> Result<Reply, Fault>
-        ensures leaves { Replies S.Store self.old self.new result }
-        ensures repeated { (db : Database) → db.schema ≡ our_tables → Rests (tables S.Store self.old) db
-            → HasReply db sender.now.client.now sender.now.number → Rests (tables S.Store self.new) db }
-        ensures comes { From S.Store self.old (λ m k. AsksStep arrival.now sender.now ask
-            → ComesTo S.Store self.old self.new result m k (asked_for (settings self.old) m k
-            (post_of arrival.now sender.now.number ask))) }
+        ensures { AnswersStep S.Store self.old self.new result arrival.now sender.now ask }
     {
         let floor = self.store.floor(sender.client)?;
         if sender.number.get() <= floor {
             return Ok(Reply::refused(Refusal::GivenUp));
         }
-        self.step_above(alloc, arrival, sender, ask, floor)
-    }
-
-    /// Answers a request whose number is above the floor of its client.
-    fn step_above(
-        &mut self,
-        alloc: Global,
-        arrival: &Arrival<'_>,
-        sender: &Sender<'_>,
-        ask: Step,
-        floor: u64,
-    ) -> Result<Reply, Fault>
-        requires { floor < 10 ^ 18 }
-        ensures leaves { Replies S.Store self.old self.new result }
-        ensures repeated { (db : Database) → db.schema ≡ our_tables → Rests (tables S.Store self.old) db
-            → HasReply db sender.now.client.now sender.now.number → Rests (tables S.Store self.new) db }
-        ensures comes { From S.Store self.old (λ m k. AsksStep arrival.now sender.now ask
-            → ComesTo S.Store self.old self.new result m k (asked_above (settings self.old) m k floor
-            (post_of arrival.now sender.now.number ask))) }
-    {
         match self.store.kept(sender.client, sender.number)? {
             Some(kept) => Ok(repeat(arrival, kept)),
-            None => self.step_new(alloc, arrival, sender, ask, floor),
+            None => self.step_once(alloc, arrival, sender, ask, floor),
         }
     }
 
-    /// Decides a request whose number is new. No client gives up the reply to the very request by which it does.
-    fn step_new(
-        &mut self,
-        alloc: Global,
-        arrival: &Arrival<'_>,
-        sender: &Sender<'_>,
-        ask: Step,
-        floor: u64,
-    ) -> Result<Reply, Fault>
-        requires { floor < 10 ^ 18 }
-        ensures leaves { Replies S.Store self.old self.new result }
-        ensures comes { From S.Store self.old (λ m k. AsksStep arrival.now sender.now ask
-            → HasNoReply S.Store self.old sender.now k
-            → ComesTo S.Store self.old self.new result m k (new_asked (settings self.old) m k floor
-            (post_of arrival.now sender.now.number ask))) }
-    {
-        match raised(ask, sender.number, floor) {
-            Some(ask) => self.step_once(alloc, arrival, sender, ask),
-            None => Ok(Reply::refused(Refusal::FloorHigh)),
-        }
-    }
-
-    /// Decides a request at the later of its moment and the clock. It is accepted where it is taken, and changes nothing
-    /// where it is refused.
+    /// Decides a request whose number is new, at the later of its moment and the clock. It is accepted where it is taken,
+    /// and changes nothing where it is refused. No client gives up the reply to the very request by which it does.
     fn step_once(
         &mut self,
         alloc: Global,
         arrival: &Arrival<'_>,
         sender: &Sender<'_>,
         ask: Step,
+        floor: u64,
     ) -> Result<Reply, Fault>
-        ensures leaves { Replies S.Store self.old self.new result }
-        ensures comes { From S.Store self.old (λ m k. AsksStep arrival.now sender.now ask
-            → HasNoReply S.Store self.old sender.now k
-            → ComesTo S.Store self.old self.new result m k (decided_new (settings self.old) m k
-            (post_of arrival.now sender.now.number ask))) }
+        requires { floor < 10 ^ 18 }
+        ensures { AnswersNew S.Store self.old self.new result arrival.now sender.now ask floor }
     {
+        let Some(ask) = raised(ask, sender.number, floor) else {
+            return Ok(Reply::refused(Refusal::FloorHigh));
+        };
         let given = given_by(&ask);
         let meta = self.store.meta()?;
-        let t = moment_at(&meta, arrival.moment);
+        let t = meta.clock.later(arrival.moment);
         let decision = decide(&mut self.store, &self.office, alloc, ask, &meta, t)?;
         match decision {
             Decision::Taken { effect, reply } => {
@@ -379,11 +316,4 @@ fn raised(ask: Step, number: RequestNumber, floor: u64) -> Option<Step>
     Some(Step::GiveUp {
         upto: upto.at_least(floor),
     })
-}
-
-/// The moment at which a request is decided: its own, or the clock's where that is later.
-fn moment_at(meta: &Meta, moment: Moment) -> Moment
-    ensures { result ≡ decided_at meta.now.clock moment }
-{
-    meta.clock.later(moment)
 }

@@ -1,6 +1,6 @@
 //! Arrivals that ask for nothing, since their path names no request or their body is at fault.
 
-ghost use Rattle.std.specs.Prelude.{◌≡◌, List, IfOk, IsErr, MatchResult};
+ghost use Rattle.std.specs.Prelude.{◌≡◌, IfOk, IsErr, MatchResult};
 ghost use Rattle.fax_ask.specs.Ask.{IsRefused};
 ghost use Rattle.fax_ask.specs.Response.{refused_response};
 ghost use Rattle.fax_core.specs.Ledger.{Ledger};
