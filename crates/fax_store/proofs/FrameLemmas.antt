@@ -1,19 +1,25 @@
 -- What calls leave, one after the other.
-use Rattle.std.proofs.Common.{◌≡◌, false, Ok, Err, Result, OnOk, IsErrAnd, is_err, subst, sym, ◌∙◌}
+use Rattle.std.proofs.Common.{◌≡◌, ℕ, List, false, Ok, Err, Result, IfOk, OnOk, IsErrAnd, is_err, subst, sym, ◌∙◌}
 use Rattle.std.proofs.lemmas.Bool.{false≢true}
-use Rattle.sqlite.specs.State.{State, HasCleanDisk}
+use Rattle.sqlite.specs.Order.{Row}
+use Rattle.sqlite.specs.State.{State, Executes, HasCleanDisk}
+use Rattle.sqlite.specs.declared.error.Error.{Error}
 use Rattle.sqlite_trees.specs.declared.store.Store.{Ghosts}
 use Rattle.fax_core.specs.Ledger.{Ledger}
 use Rattle.fax_core.specs.Queue.{Queue}
-use Rattle.fax_store.specs.Calls.{Answers, Calls, Finds, Follows, Looks, Makes, MakesIf, MakesIfWhere, MakesWhere, Runs, Tells, Writes, WritesIf, WritesIfWhere, WritesWhere, shown, within}
+use Rattle.fax_store.specs.Calls.{Answers, Calls, Edits, Finds, Follows, Inserts, Looks, Makes, MakesIf, MakesIfWhere, MakesWhere, Runs, Tells, TellsLawful, Writes, WritesIf, WritesIfWhere, WritesWhere, shown, within}
 use Rattle.fax_store.specs.Work.{IsOnlyUnavailable, Moves, Works}
-use Rattle.fax_store.specs.Store.{CommitsNothing, HasTables, Means, MeansNow, Reads, Serves}
+use Rattle.fax_store.specs.Store.{CommitsNothing, HasRun, HasTables, Means, MeansNow, Reads, Serves}
 use Rattle.fax_store.specs.declared.store.Store.{Store}
 use Rattle.fax_store.specs.declared.work.Work.{Work}
+use Rattle.fax_schema.specs.Schema.{our_tables}
+use Rattle.fax_schema.proofs.WriteLemmas.{KeepsOthers}
+use Rattle.fax_tables.specs.Fault.{fault_of}
+use Rattle.fax_tables.specs.Tables.{TablesMean}
 use Rattle.fax_tables.specs.declared.fault.StoreFault.{StoreFault}
 use Rattle.fax_tables.specs.declared.fault.StoreFault.TheVariants.{Unavailable}
 use Rattle.fax_store.proofs.StopLemmas.{withholds_by, withholds_err, withholds_then}
-use Rattle.fax_store.proofs.WorkLemmas.{changes_by, found_in, holds_by, holds_err, holds_then, keeps_by, moved_by, moves_of, reads_same, refused_as, refused_by, stays_by, step_of, steps_where}
+use Rattle.fax_store.proofs.WorkLemmas.{changes_by, found_in, holds_by, holds_err, holds_then, keeps_by, move_by, moved_by, moves_of, only_unavailable, reads_same, refused_as, refused_by, stays_by, step_by, step_of, steps_where}
 
 -- the tables of a store that means something mean it now
 pub means_now : {s : State} {m : Queue} {k : Ledger} → Means s m k → MeansNow s m k
@@ -102,6 +108,43 @@ module _ {S : Type 0} (g : Ghosts S) where
     pub writes_if_where_refused : (P : Queue → Type 0) (Fit : Queue → Ledger → Type 0) (f : Queue → Queue) (h : Ledger → Ledger) → IsOnlyUnavailable (shown g old) false (shown g new) result Fit → WritesIfWhere g old new result P Fit f h
     writes_if_where_refused P Fit f h cause = record { leaves = runs; written = λ m₀ m k₀ k p works s. moved m₀ m (f m) k₀ k (h k) works s; cause = cause }
 
+  -- a statement that edits rows of one table makes of what the tables mean what it does to the rows
+  module _ (old new : Store S) (result : Result (Unit {0}) StoreFault) (sql : List ℕ) (params : Row) (tree : ℕ) (f : Queue → Queue) (h : Ledger → Ledger) where
+    -- the table's rows mean this
+    abbrev pub Does : Queue → Ledger → Type 0
+    Does m k = TablesMean (shown g old).now m k → HasRun sql params (shown g old) (shown g new) → TablesMean (shown g new).now (f m) (h k) × KeepsOthers our_tables tree (shown g old) (shown g new)
+
+    pub writes_by : Edits g old new result sql params → ((m : Queue) (k : Ledger) → Does m k) → Writes g old new result f h
+    writes_by edits does = record {
+      leaves = edits.leaves;
+      written = λ m₀ m k₀ k works s. step_by (shown g old) (shown g new) sql params tree result m₀ m (f m) k₀ k (h k) edits.leaves.served works s (edits.ran s.clean) (edits.left s.clean) edits.cause (does m k);
+      cause = edits.cause;
+    }
+
+    pub writes_where_by : (P : Queue → Type 0) → Edits g old new result sql params → ((m : Queue) (k : Ledger) → P m → Does m k) → WritesWhere g old new result P f h
+    writes_where_by P edits does = record {
+      leaves = edits.leaves;
+      written = λ m₀ m k₀ k p works s. step_by (shown g old) (shown g new) sql params tree result m₀ m (f m) k₀ k (h k) edits.leaves.served works s (edits.ran s.clean) (edits.left s.clean) edits.cause (does m k p);
+      cause = edits.cause;
+    }
+
+    -- so does one that puts a row in, which breaks no rule where this is fit
+    pub writes_if_by : (Fit : Queue → Ledger → Type 0) → Inserts g old new result sql params → ((m : Queue) (k : Ledger) → Does m k)
+        → ((m : Queue) (k : Ledger) → TablesMean (shown g old).now m k → Fit m k → (e : Error) → Executes sql params (shown g old) (shown g new) (Err e) → fault_of e ≡ Unavailable)
+        → WritesIf g old new result Fit f h
+    writes_if_by Fit inserts does goes = record {
+      leaves = inserts.leaves;
+      written = λ m₀ m k₀ k works s. move_by (shown g old) (shown g new) sql params tree result m₀ m (f m) k₀ k (h k) inserts.leaves.served works s (inserts.ran s.clean) (inserts.left s.clean) (does m k);
+      cause = only_unavailable (shown g old) (shown g new) sql params result Fit inserts.leaves.served inserts.told goes;
+    }
+
+  -- a statement, with its parameters as they are meant
+  pub edits_with : (old new : Store S) (result : Result (Unit {0}) StoreFault) (sql : List ℕ) (params meant : Row) → params ≡ meant → Edits g old new result sql params → Edits g old new result sql meant
+  edits_with old new result sql params meant same = subst (Edits g old new result sql) same
+
+  pub inserts_with : (old new : Store S) (result : Result (Unit {0}) StoreFault) (sql : List ℕ) (params meant : Row) → params ≡ meant → Inserts g old new result sql params → Inserts g old new result sql meant
+  inserts_with old new result sql params meant same = subst (Inserts g old new result sql) same
+
   -- ---- of a work
 
   pub follows_of : (old new : Work S) {A : Type 0} (result : Result A StoreFault) → Calls g old new result → Follows g old new
@@ -136,6 +179,12 @@ module _ {S : Type 0} (g : Ghosts S) where
       keeps = rw (on, failed) (keeps_by (within g old) (within g new) finds.served result finds.reads P answers);
       found = rw on (found_in (within g old) (within g new) finds.served result finds.reads P answers);
     }
+
+    pub tells_lawful_by : new.store.ghost_name ≡ old.store.ghost_name → (P : Queue → Ledger → A → Type 0) (Lawful : A → Type 0) → Finds g old.store.now new.store.now result → Answers g old.store.now new.store.now result P → IfOk result Lawful
+        → TellsLawful g old new result P Lawful
+    tells_lawful_by same P Lawful finds answers lawful =
+        let tells = tells_by same P finds answers in
+        record { leaves = tells.leaves; keeps = tells.keeps; found = tells.found; lawful = lawful }
 
     -- and so is what the store makes within it
     module _ (same : new.store.ghost_name ≡ old.store.ghost_name) where

@@ -18,6 +18,7 @@ use Rattle.sqlite.specs.declared.types.Value.{Value}
 use Rattle.sqlite.specs.declared.types.Value.TheVariants.{Null, Int, Real, Text, Blob}
 use Rattle.sqlite.proofs.Callers.{reads_as}
 use Rattle.sqlite_rules.specs.Lists.{Has}
+use Rattle.sqlite_trees.specs.declared.store.Store.{Ghosts}
 use Rattle.sqlite_rules.proofs.ListLemmas.{all_has, some_from, has_found}
 use Rattle.sqlite_rules.proofs.PlaceLemmas.{tied_same}
 use Rattle.sqlite_rules.proofs.TableLemmas.{int_is}
@@ -39,8 +40,13 @@ use Rattle.fax_tables.specs.Grant.{held_shown, hold_shown}
 use Rattle.fax_tables.specs.Row.{HasValues, hold_columns}
 use Rattle.fax_schema.specs.Schema.{our_tables, holds_tree}
 use Rattle.fax_store.specs.Grant.{HasHoldRow, HoldStands}
+use Rattle.fax_store.specs.Calls.{shown}
 use Rattle.fax_store.specs.Store.{FindsRow}
-use Rattle.fax_tables.specs.Tables.{TablesMean}
+use Rattle.fax_store.specs.declared.store.Store.{Store}
+use Rattle.fax_tables.specs.Tables.{IsLawfulGrant, TablesMean}
+use Rattle.fax_tables.proofs.KeyLemmas.{found_holds}
+use Rattle.fax_store.proofs.LookLemmas.{Keys}
+use Rattle.fax_schema.proofs.ColumnLemmas.{all_kept}
 use Rattle.fax_schema.specs.ByRowid.{IsByRowid}
 use Rattle.fax_schema.proofs.ColumnLemmas.{record_of, row_of}
 use Rattle.fax_schema.proofs.CompareLemmas.{are_equal, compared, equal_texts}
@@ -197,3 +203,12 @@ module _ (modem : List ℕ) where
         let equal = key_of SELECT_HOLD.now holds_tree hold_tests hold_project _ select_hold (λ trees. refl) params old new db ours now 1 (Text modem) (λ r. refl) it.0 it.2 in
         let key = text_same (column it.0 1) modem equal in
         record { row = it.0; has = it.1; is = ap₂ ◌∷◌ key it.3 }
+
+module _ {S : Type 0} (g : Ghosts S) (modem : List ℕ) (old new : Store S) where
+  -- what a modem holds is looked up
+  pub hold_keys : Keys g old new SELECT_HOLD.now (params modem) (held_by modem) hold_shown IsLawfulGrant (λ db. HasHoldRow db modem)
+  hold_keys = record {
+    found = hold_found modem (shown g old) (shown g new);
+    lawful = λ m k means held. found_holds IsLawfulGrant (λ (one : Grant). bytes_eq one.modem modem) (open_grants m) held (all_kept IsLawfulGrant (λ (one : Grant). one.is_open) m.grants means.lawful.grants);
+    none = no_hold modem (shown g old) (shown g new);
+  }

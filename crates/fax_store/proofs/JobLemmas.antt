@@ -1,6 +1,7 @@
 -- What the texts on jobs read and write.
 use Rattle.std.proofs.Common.{◌≡◌, ℕ, zero, suc, pos, ◌+◌, ◌-◌, ◌≤◌, List, [], ◌∷◌, ◌++◌, map, arith, false, Option, Some, None, Err, drop, refl, sym, ap, ap₂, subst, ◌∙◌}
 use Rattle.std.specs.Option.{option_map}
+use Rattle.std.specs.Prelude.{◌==◌}
 use Rattle.std.specs.List.{range_with_len}
 use Rattle.std.proofs.lemmas.List.FromFn.{length-range_with_len}
 use Rattle.sqlite.specs.Effect.{Database}
@@ -12,6 +13,7 @@ use Rattle.sqlite.specs.Edit.{is_taken, with_rowid}
 use Rattle.sqlite.specs.Rowids.TheVariants.{Chosen}
 use Rattle.sqlite.proofs.Callers.{runs_as, reads_as}
 use Rattle.sqlite_rules.specs.Lists.{Has}
+use Rattle.sqlite_trees.specs.declared.store.Store.{Ghosts}
 use Rattle.fax_core.specs.Job.{Job, job_of, fields_of, pages_to, HasPages}
 use Rattle.fax_core.specs.Ledger.{Ledger}
 use Rattle.fax_core.specs.Queue.{Queue, job_numbered, open_grants}
@@ -26,7 +28,9 @@ use Rattle.fax_tables.specs.Job.{IsFormed, IsLawfulJob, brief_shown, job_shown}
 use Rattle.fax_store.specs.Job.{HasJobRow, IsNewJob, JobStands, BriefStands, brief_places, job_places, with_placed}
 use Rattle.fax_tables.specs.Tables.{TablesMean}
 use Rattle.fax_schema.specs.ByRowid.{IsByRowid}
+use Rattle.fax_store.specs.Calls.{shown}
 use Rattle.fax_store.specs.Store.{FindsRow, HasRun}
+use Rattle.fax_store.specs.declared.store.Store.{Store}
 use Rattle.fax_schema.proofs.CompareLemmas.{same_row, cast_int, cast_null, number_same}
 use Rattle.fax_tables.proofs.FreeLemmas.{free_row, untaken}
 use Rattle.fax_tables.proofs.RefusalLemmas.{no_rule_broken}
@@ -34,7 +38,8 @@ use Rattle.fax_tables.proofs.StandLemmas.{job_may}
 use Rattle.fax_tables.specs.Fault.{fault_of}
 use Rattle.fax_tables.specs.declared.fault.StoreFault.TheVariants.{Unavailable}
 use Rattle.sqlite.specs.declared.error.Error.{Error}
-use Rattle.fax_tables.proofs.KeyLemmas.{numbered_found, free_of, row_placed, all_placed}
+use Rattle.fax_store.proofs.LookLemmas.{Keys}
+use Rattle.fax_tables.proofs.KeyLemmas.{found_holds, numbered_found, free_of, row_placed, all_placed}
 use Rattle.fax_tables.proofs.TablesLemmas.{AreRecords, row_of, parts_of, means_of, calls_as, calls_of, jobs_changed, by_rowid_put}
 use Rattle.fax_store.proofs.CountLemmas.{calls_placed, jobs_placed}
 use Rattle.fax_store.proofs.FoundLemmas.{none_keyed, one_numbered}
@@ -93,6 +98,19 @@ module _ (n : ℕ) where
         one_numbered SELECT_BRIEF.now jobs_tree job_tests brief_project brief_names select_brief (λ trees. refl) params old new db ours now
         n (drop 1 brief_places) (λ r. refl) row f.job (drop 1 (brief_shown f)) (λ r. refl) h has.0 in
         (it.0, has.1, it.1)
+
+-- ---- looked up
+
+module _ {S : Type 0} (g : Ghosts S) (n : ℕ) (old new : Store S) where
+  -- a job that is found is lawful
+  job_lawful : (m : Queue) (k : Ledger) → TablesMean (shown g old).now m k → (j : Job) → job_numbered n m ≡ Some j → IsLawfulJob j
+  job_lawful m k means j = found_holds IsLawfulJob (λ (i : Job). i.number == n) m.jobs j means.lawful.jobs
+
+  pub job_keys : Keys g old new SELECT_JOB.now (params n) (job_numbered n) (λ j. job_shown (fields_of j)) IsLawfulJob (λ db. HasJobRow db n)
+  job_keys = record { found = job_found n (shown g old) (shown g new); lawful = job_lawful; none = no_job n (shown g old) (shown g new) }
+
+  pub brief_keys : Keys g old new SELECT_BRIEF.now (params n) (job_numbered n) (λ j. brief_shown (fields_of j)) IsLawfulJob (λ db. HasJobRow db n)
+  brief_keys = record { found = brief_found n (shown g old) (shown g new); lawful = job_lawful; none = no_brief n (shown g old) (shown g new) }
 
 -- ---- one more row
 

@@ -28,4 +28,5 @@ mod ShutLemmas
 pub mod VersionLemmas
 pub mod FloorLemmas
 mod ThinLemmas
+mod LookLemmas
 mod MeaningLemmas

@@ -1,15 +1,14 @@
 //! The jobs that wait, read a few at a time.
 
-ghost use Rattle.std.specs.Prelude.{◌≡◌, List, [], true, None, Some, IfOk, OnOk};
+ghost use Rattle.std.specs.Prelude.{◌≡◌, [], None, Some, OnOk};
 ghost use Rattle.std.specs.Vec.Iter.{into_iter_items};
 ghost use Rattle.sqlite.specs.State.{HasCleanDisk};
-ghost use Rattle.fax_core.specs.Job.{Job as OneJob};
 ghost use Rattle.fax_core.specs.Ledger.{Ledger};
 ghost use Rattle.fax_core.specs.Queue.{Queue};
 ghost use Rattle.fax_core.specs.State.{calls_to};
-ghost use Rattle.fax_store.specs.Calls.{Answers, Finds, Looks, shown};
-ghost use Rattle.fax_store.specs.Candidates.{AreAsked, Gives, IsCounted, IsPage, IsProspect, StandsAt, is_last, next_front};
-ghost use Rattle.fax_store.specs.Store.{Means, Serves, StaysOpen};
+ghost use Rattle.fax_store.specs.Calls.{Looks, Recalls, shown};
+ghost use Rattle.fax_store.specs.Candidates.{Advances, AreAsked, Gives, IsCounted, IsPage, IsProspect, Reaches, ReadsOn, StandsAt, Starts};
+ghost use Rattle.fax_store.specs.Store.{Means, Serves};
 ghost use Rattle.fax_tables.specs.Fault.{OrUnavailable};
 
 use crate::store::Store;
@@ -116,35 +115,20 @@ pub struct Candidates<'s, S: Alter, P: Drop = IntoIter<Row>, A: Drop = Asked> {
 impl<S: Alter> Store<S> {
     /// The jobs that wait and may be tried at `t`, to be read one at a time. None is read yet.
     pub fn candidates(&mut self, t: Moment) -> Candidates<'_, S>
-        ensures same_reference { result.store.ghost_name ≡ self.entry.ghost_name }
-        ensures same { result.store.now ≡ self.old }
-        ensures asked { (result.asked.t ≡ t) × (result.asked.but ≡ None) }
-        ensures stands { (m : Queue) (k : Ledger) → Means (shown S.Store self.old) m k
-            → Serves (shown S.Store self.old)
-            → StandsAt result.asked m [] (into_iter_items result.page) result.front result.most }
+        ensures { Starts S.Store self.entry.ghost_name self.old (record { t = t; but = None }) result }
     {
         self.asked_for(Asked { t, but: None })
     }
 
     /// The jobs that wait and may be tried at `t`, but for those to `dial`, to be read one at a time. None is read yet.
     pub fn candidates_but(&mut self, t: Moment, dial: Dial) -> Candidates<'_, S>
-        ensures same_reference { result.store.ghost_name ≡ self.entry.ghost_name }
-        ensures same { result.store.now ≡ self.old }
-        ensures asked { (result.asked.t ≡ t) × (result.asked.but ≡ Some dial) }
-        ensures stands { (m : Queue) (k : Ledger) → Means (shown S.Store self.old) m k
-            → Serves (shown S.Store self.old)
-            → StandsAt result.asked m [] (into_iter_items result.page) result.front result.most }
+        ensures { Starts S.Store self.entry.ghost_name self.old (record { t = t; but = Some dial }) result }
     {
         self.asked_for(Asked { t, but: Some(dial) })
     }
 
     fn asked_for(&mut self, asked: Asked) -> Candidates<'_, S>
-        ensures same_reference { result.store.ghost_name ≡ self.entry.ghost_name }
-        ensures same { result.store.now ≡ self.old }
-        ensures asked { result.asked ≡ asked }
-        ensures stands { (m : Queue) (k : Ledger) → Means (shown S.Store self.old) m k
-            → Serves (shown S.Store self.old)
-            → StandsAt asked m [] (into_iter_items result.page) result.front result.most }
+        ensures { Starts S.Store self.entry.ghost_name self.old asked result }
     {
         let page = Vec::new(self.alloc);
         Candidates {
@@ -158,9 +142,7 @@ impl<S: Alter> Store<S> {
 
     /// Of the jobs that are asked for, the rows of the first that one statement reads behind a front, at most `most`.
     fn page(&mut self, asked: &Asked, front: Front, most: u32) -> Result<Vec<Row>, StoreFault>
-        ensures leaves { Finds S.Store self.old self.new result }
-        ensures answers { Answers S.Store self.old self.new result
-            (λ m k rows. IsPage asked.now m front most rows.items) }
+        ensures { Recalls S.Store self.old self.new result (λ m k rows. IsPage asked.now m front most rows.items) }
     {
         let (t, but) = (asked.t.seconds(), asked.but());
         match front {
@@ -187,15 +169,7 @@ impl<S: Alter> Candidates<'_, S> {
     ///
     /// `Unavailable`, or `Strange` where the row of a job is no lawful record.
     pub fn next(&mut self) -> Result<Option<(Job, u64)>, StoreFault>
-        ensures same_reference { self.new.store.ghost_name ≡ self.old.store.ghost_name }
-        ensures leaves { Looks S.Store self.old.store.now self.new.store.now }
-        ensures opens { OnOk result (HasCleanDisk (shown S.Store self.new.store.now)
-            → Serves (shown S.Store self.new.store.now)) }
-        ensures asked { self.new.asked ≡ self.old.asked }
-        ensures found { (m : Queue) (k : Ledger) (given : List OneJob)
-            → Means (shown S.Store self.old.store.now) m k → Serves (shown S.Store self.new.store.now)
-            → StandsAt self.old.asked m given (into_iter_items self.old.page) self.old.front self.old.most
-            → OrUnavailable result (Gives (IsCounted m) self.old.asked m given
+        ensures { Advances S.Store self.old self.new result (λ m given. Gives (IsCounted m) self.old.asked m given
             (into_iter_items self.new.page) self.new.front self.new.most) }
     {
         let Some(prospect) = self.prospect()? else {
@@ -214,17 +188,9 @@ impl<S: Alter> Candidates<'_, S> {
     ///
     /// `Unavailable`, or `Strange` where what the choice asks of a job is no part of a lawful record.
     pub fn prospect(&mut self) -> Result<Option<Prospect>, StoreFault>
-        ensures same_reference { self.new.store.ghost_name ≡ self.old.store.ghost_name }
-        ensures leaves { Looks S.Store self.old.store.now self.new.store.now }
-        ensures opens { OnOk result (StaysOpen (shown S.Store self.old.store.now) (shown S.Store self.new.store.now)) }
-        ensures none { IfOk result (λ found. found ≡ None → HasCleanDisk (shown S.Store self.new.store.now)
-            → Serves (shown S.Store self.new.store.now)) }
-        ensures asked { self.new.asked ≡ self.old.asked }
-        ensures found { (m : Queue) (k : Ledger) (given : List OneJob)
-            → Means (shown S.Store self.old.store.now) m k → Serves (shown S.Store self.new.store.now)
-            → StandsAt self.old.asked m given (into_iter_items self.old.page) self.old.front self.old.most
-            → OrUnavailable result (Gives IsProspect self.old.asked m given
-            (into_iter_items self.new.page) self.new.front self.new.most) }
+        ensures { Reaches S.Store self.old self.new result (λ found. found ≡ None)
+            (λ m given. Gives IsProspect self.old.asked m given (into_iter_items self.new.page) self.new.front
+            self.new.most) }
     {
         self.refill()?;
         match self.page.next() {
@@ -253,18 +219,9 @@ impl<S: Alter> Candidates<'_, S> {
 
     /// Reads on, where all that was read is given, until there is a job or none is left.
     fn refill(&mut self) -> Result<(), StoreFault>
-        ensures same_reference { self.new.store.ghost_name ≡ self.old.store.ghost_name }
-        ensures leaves { Looks S.Store self.old.store.now self.new.store.now }
-        ensures opens { OnOk result (StaysOpen (shown S.Store self.old.store.now) (shown S.Store self.new.store.now)) }
-        ensures none { OnOk result (into_iter_items self.new.page ≡ [] → HasCleanDisk (shown S.Store self.new.store.now)
-            → Serves (shown S.Store self.new.store.now)) }
-        ensures asked { self.new.asked ≡ self.old.asked }
-        ensures found { (m : Queue) (k : Ledger) (given : List OneJob)
-            → Means (shown S.Store self.old.store.now) m k → Serves (shown S.Store self.new.store.now)
-            → StandsAt self.old.asked m given (into_iter_items self.old.page) self.old.front self.old.most
-            → OrUnavailable result (λ _. StandsAt self.old.asked m given
-            (into_iter_items self.new.page) self.new.front self.new.most × (into_iter_items self.new.page ≡ []
-            → AreAsked self.old.asked m given)) }
+        ensures { Reaches S.Store self.old self.new result (λ _. into_iter_items self.new.page ≡ [])
+            (λ m given _. StandsAt self.old.asked m given (into_iter_items self.new.page) self.new.front self.new.most
+            × (into_iter_items self.new.page ≡ [] → AreAsked self.old.asked m given)) }
     {
         while self.page.len() == 0 {
             if self.read_on()? {
@@ -276,19 +233,7 @@ impl<S: Alter> Candidates<'_, S> {
 
     /// Reads the next page, where all of the last one is given. Gives whether none is left where it has no job.
     fn read_on(&mut self) -> Result<bool, StoreFault>
-        ensures same_reference { self.new.store.ghost_name ≡ self.old.store.ghost_name }
-        ensures leaves { Looks S.Store self.old.store.now self.new.store.now }
-        ensures opens { OnOk result (HasCleanDisk (shown S.Store self.new.store.now)
-            → Serves (shown S.Store self.new.store.now)) }
-        ensures asked { self.new.asked ≡ self.old.asked }
-        ensures told { IfOk result (λ last. last ≡ is_last self.old.front) }
-        ensures next { OnOk result (into_iter_items self.new.page ≡ [] → self.new.front ≡ next_front self.old.front) }
-        ensures found { (m : Queue) (k : Ledger) (given : List OneJob)
-            → Means (shown S.Store self.old.store.now) m k → Serves (shown S.Store self.new.store.now)
-            → StandsAt self.old.asked m given [] self.old.front self.old.most
-            → OrUnavailable result (λ last. StandsAt self.old.asked m given
-            (into_iter_items self.new.page) self.new.front self.new.most × (into_iter_items self.new.page ≡ []
-            → last ≡ true → AreAsked self.old.asked m given)) }
+        ensures { ReadsOn S.Store self.old self.new result }
     {
         let is_last = self.front.is_last();
         let page = self.store.page(&self.asked, self.front, self.most)?;

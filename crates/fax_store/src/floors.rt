@@ -3,7 +3,7 @@
 ghost use Rattle.std.specs.Prelude.{◌≡◌, ◌≤◌, ◌<◌, ◌^◌, false, IfErr, IfOk, IfSome};
 ghost use Rattle.fax_core.specs.Ledger.{floors_with, given_up, with_floor, without_replies};
 ghost use Rattle.fax_value.specs.Name.{IsName};
-ghost use Rattle.fax_store.specs.Calls.{Answers, Finds, MakesIf, Tells, Writes, WritesIf, WritesWhere};
+ghost use Rattle.fax_store.specs.Calls.{Answers, Finds, MakesIf, TellsLawful, Writes, WritesIf, WritesWhere};
 ghost use Rattle.fax_store.specs.Floors.{Thins};
 
 use crate::store::Store;
@@ -141,8 +141,8 @@ impl<S: Alter> Work<'_, S> {
     ///
     /// `Unavailable`, or `Strange` where its row is no lawful record.
     pub fn floor(&mut self, client: &str) -> Result<u64, StoreFault>
-        ensures answers { Tells S.Store self.old self.new result (λ m k floor. floor ≡ k.floor client.now) }
-        ensures lawful { IfOk result (λ floor. floor < 10 ^ 18) }
+        ensures { TellsLawful S.Store self.old self.new result (λ m k floor. floor ≡ k.floor client.now)
+            (λ floor. floor < 10 ^ 18) }
     {
         if self.failed {
             return Err(StoreFault::Unavailable);

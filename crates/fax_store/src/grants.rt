@@ -1,6 +1,6 @@
 //! The grants, and what modems and jobs hold of those that are open.
 
-ghost use Rattle.std.specs.Prelude.{◌≡◌, ◌<◌, ◌≤◌, ◌+◌, ◌-◌, ◌^◌, ⊤, ℕ, List, false, Err, IfErr, IfNone, IfOk, IfSome, is_err, OnErr, OnOk};
+ghost use Rattle.std.specs.Prelude.{◌≡◌, ◌<◌, ◌≤◌, ◌+◌, ◌-◌, ◌^◌, ⊤, ℕ, List, false, Err, IfErr, IfSome, OnErr, OnOk};
 ghost use Rattle.std.specs.Option.{option_map};
 ghost use Rattle.sqlite.specs.State.{HasCleanDisk, KeepsCommit};
 ghost use Rattle.fax_core.specs.Machine.{held_by, with_grant};
@@ -8,7 +8,7 @@ ghost use Rattle.fax_core.specs.Ledger.{Ledger};
 ghost use Rattle.fax_core.specs.Queue.{Queue, grant_numbered};
 ghost use Rattle.fax_core.specs.State.{calls_to};
 ghost use Rattle.fax_value.specs.Limits.{most_pages};
-ghost use Rattle.fax_store.specs.Calls.{Answers, AnswersRows, BecomesWhere, Calls, Finds, MakesIf, Runs, Tells, WritesIf, WritesIfWhere, WritesWhere, shown};
+ghost use Rattle.fax_store.specs.Calls.{Answers, BecomesWhere, Calls, Finds, LooksUpLawful, MakesIf, Recalls, Runs, Tells, TellsLawful, WritesIf, WritesIfWhere, WritesWhere, shown};
 ghost use Rattle.fax_store.specs.Grant.{GrantStands, HasCalls, HasGrantRow, HasHoldRow, HoldStands, IsCalled, IsHeld, IsHeldBy, IsNewGrant, IsReport, SetsCalls, with_count, with_placed, with_one_more_grant, with_closed};
 ghost use Rattle.fax_store.specs.Meta.{IsGrantLeft};
 ghost use Rattle.fax_store.specs.Store.{Serves, HasTables};
@@ -39,14 +39,8 @@ impl<S: Alter> Store<S> {
     ///
     /// `Unavailable`, or `Strange` where its row is no lawful record.
     pub fn hold_of(&mut self, modem: &str) -> Result<Option<Hold>, StoreFault>
-        ensures leaves { Finds S.Store self.old self.new result }
-        ensures answers { Answers S.Store self.old self.new result (λ m k found. found ≡ option_map as_hold
-            (held_by modem.now m)) }
-        ensures missing { AnswersRows S.Store self.old self.new result (λ db found. IfNone found
-            (¬ HasHoldRow db modem.now)) }
-        ensures stands { AnswersRows S.Store self.old self.new result (λ db found. IfSome found
-            (HoldStands db modem.now)) }
-        ensures lawful { IfOk result (λ found. IfSome found IsLawfulHold) }
+        ensures { LooksUpLawful S.Store self.old self.new result (λ m. option_map as_hold (held_by modem.now m))
+            (λ db. HasHoldRow db modem.now) (λ db. HoldStands db modem.now) IsLawfulHold }
     {
         match self.find(SELECT_HOLD, params![modem])? {
             Some(row) => Ok(Some(Hold::in_row(&row)?)),
@@ -60,13 +54,8 @@ impl<S: Alter> Store<S> {
     ///
     /// `Unavailable`, or `Strange` where its row is no lawful record.
     pub fn grant(&mut self, number: u32) -> Result<Option<Grant>, StoreFault>
-        ensures leaves { Finds S.Store self.old self.new result }
-        ensures answers { Answers S.Store self.old self.new result (λ m k found. found ≡ grant_numbered number m) }
-        ensures missing { AnswersRows S.Store self.old self.new result (λ db found. IfNone found
-            (¬ HasGrantRow db number)) }
-        ensures stands { AnswersRows S.Store self.old self.new result (λ db found. IfSome found
-            (GrantStands db number)) }
-        ensures lawful { IfOk result (λ found. IfSome found IsWithinLimits) }
+        ensures { LooksUpLawful S.Store self.old self.new result (λ m. grant_numbered number m)
+            (λ db. HasGrantRow db number) (λ db. GrantStands db number) IsWithinLimits }
     {
         match self.find(SELECT_GRANT, params![number])? {
             Some(row) => Ok(Some(grant_in(self.alloc, &row)?)),
@@ -80,8 +69,7 @@ impl<S: Alter> Store<S> {
     ///
     /// `Unavailable`, or `Strange` where its row is no lawful record.
     pub fn active_to(&mut self, dial: &Dial) -> Result<u64, StoreFault>
-        ensures leaves { Finds S.Store self.old self.new result }
-        ensures answers { Answers S.Store self.old self.new result (λ m k calls. calls ≡ calls_to dial.now m) }
+        ensures { Recalls S.Store self.old self.new result (λ m k calls. calls ≡ calls_to dial.now m) }
     {
         Ok(u64::from(self.read_calls(dial)?))
     }
@@ -242,9 +230,8 @@ impl<S: Alter> Work<'_, S> {
     ///
     /// `Unavailable`, or `Strange` where its row is no lawful record.
     pub fn hold_of(&mut self, modem: &str) -> Result<Option<Hold>, StoreFault>
-        ensures answers { Tells S.Store self.old self.new result (λ m k found. found ≡ option_map as_hold
-            (held_by modem.now m)) }
-        ensures lawful { IfOk result (λ found. IfSome found IsLawfulHold) }
+        ensures { TellsLawful S.Store self.old self.new result (λ m k found. found ≡ option_map as_hold
+            (held_by modem.now m)) (λ found. IfSome found IsLawfulHold) }
     {
         if self.failed {
             return Err(StoreFault::Unavailable);
@@ -260,8 +247,8 @@ impl<S: Alter> Work<'_, S> {
     ///
     /// `Unavailable`, or `Strange` where its row is no lawful record.
     pub fn grant(&mut self, number: u32) -> Result<Option<Grant>, StoreFault>
-        ensures answers { Tells S.Store self.old self.new result (λ m k found. found ≡ grant_numbered number m) }
-        ensures lawful { IfOk result (λ found. IfSome found IsWithinLimits) }
+        ensures { TellsLawful S.Store self.old self.new result (λ m k found. found ≡ grant_numbered number m)
+            (λ found. IfSome found IsWithinLimits) }
     {
         if self.failed {
             return Err(StoreFault::Unavailable);

@@ -4,7 +4,7 @@ ghost use Rattle.std.specs.Prelude.{◌≡◌, ◌<◌, map, false, Err, IfErr, 
 ghost use Rattle.std.specs.Option.{option_map};
 ghost use Rattle.fax_core.specs.Job.{job_of, fields_of};
 ghost use Rattle.fax_core.specs.Queue.{job_numbered};
-ghost use Rattle.fax_store.specs.Calls.{Answers, AnswersRows, Finds, Makes, MakesIf, MakesIfWhere, MakesWhere, Tells, Writes, WritesIf, WritesIfWhere, WritesWhere};
+ghost use Rattle.fax_store.specs.Calls.{LooksUp, Makes, MakesIf, MakesIfWhere, MakesWhere, Recalls, RecallsLawful, RecallsOnly, RecallsRows, Tells, Writes, WritesIf, WritesIfWhere, WritesWhere};
 ghost use Rattle.fax_store.specs.Job.{BriefStands, BriefsStand, HasJobRow, JobStands, JobsStand, IsChange, IsNewJob, IsWaiting, with_change, with_placed, with_one_more_job, with_expired, with_expired_in};
 ghost use Rattle.fax_store.specs.Meta.{IsJobLeft, with_clock};
 ghost use Rattle.fax_tables.specs.Job.{brief};
@@ -30,11 +30,8 @@ impl<S: Alter> Store<S> {
     ///
     /// `Unavailable`, or `Strange` where its row is no lawful record.
     pub fn job(&mut self, job: u32) -> Result<Option<Job>, StoreFault>
-        ensures leaves { Finds S.Store self.old self.new result }
-        ensures answers { Answers S.Store self.old self.new result (λ m k found. found ≡ option_map fields_of
-            (job_numbered job m)) }
-        ensures missing { AnswersRows S.Store self.old self.new result (λ db found. IfNone found (¬ HasJobRow db job)) }
-        ensures stands { AnswersRows S.Store self.old self.new result (λ db found. IfSome found (JobStands db job)) }
+        ensures { LooksUp S.Store self.old self.new result (λ m. option_map fields_of (job_numbered job m))
+            (λ db. HasJobRow db job) (λ db. JobStands db job) }
     {
         match self.find(SELECT_JOB, params![job])? {
             Some(row) => Ok(Some(job_in(self.alloc, &row)?)),
@@ -48,11 +45,8 @@ impl<S: Alter> Store<S> {
     ///
     /// `Unavailable`, or `Strange` where the rest of its row is no part of a lawful record.
     pub fn brief(&mut self, job: u32) -> Result<Option<Job>, StoreFault>
-        ensures leaves { Finds S.Store self.old self.new result }
-        ensures answers { Answers S.Store self.old self.new result (λ m k found. found ≡ option_map (λ j. brief
-            (fields_of j)) (job_numbered job m)) }
-        ensures missing { AnswersRows S.Store self.old self.new result (λ db found. IfNone found (¬ HasJobRow db job)) }
-        ensures stands { AnswersRows S.Store self.old self.new result (λ db found. IfSome found (BriefStands db job)) }
+        ensures { LooksUp S.Store self.old self.new result (λ m. option_map (λ j. brief (fields_of j))
+            (job_numbered job m)) (λ db. HasJobRow db job) (λ db. BriefStands db job) }
     {
         match self.find(SELECT_BRIEF, params![job])? {
             Some(row) => Ok(Some(brief_in(self.alloc, &row)?)),
@@ -67,8 +61,7 @@ impl<S: Alter> Store<S> {
     ///
     /// `Unavailable`, or `Strange` where the row of one is no lawful record.
     pub fn waiting(&mut self, t: Moment) -> Result<Vec<Job>, StoreFault>
-        ensures leaves { Finds S.Store self.old self.new result }
-        ensures answers { Answers S.Store self.old self.new result (λ m k found. IsWaiting t m found.items) }
+        ensures { Recalls S.Store self.old self.new result (λ m k found. IsWaiting t m found.items) }
     {
         let rows = self.show(SELECT_WAITING, params![t.seconds()])?;
         jobs_in(self.alloc, rows.as_slice())
@@ -80,9 +73,8 @@ impl<S: Alter> Store<S> {
     ///
     /// `Unavailable`, or `Strange` where the row of one is no lawful record.
     pub fn jobs(&mut self) -> Result<Vec<Job>, StoreFault>
-        ensures leaves { Finds S.Store self.old self.new result }
-        ensures answers { Answers S.Store self.old self.new result (λ m k found. found.items ≡ map fields_of m.jobs) }
-        ensures stands { AnswersRows S.Store self.old self.new result (λ db found. JobsStand db found.items) }
+        ensures { RecallsRows S.Store self.old self.new result (λ m k found. found.items ≡ map fields_of m.jobs)
+            (λ db found. JobsStand db found.items) }
     {
         let shown = self.show(SELECT_JOBS, &[])?;
         jobs_in(self.alloc, shown.as_slice())
@@ -94,11 +86,9 @@ impl<S: Alter> Store<S> {
     ///
     /// `Unavailable`, or `Strange` where the rest of a row is no part of a lawful record.
     pub fn briefs(&mut self) -> Result<Vec<Job>, StoreFault>
-        ensures leaves { Finds S.Store self.old self.new result }
-        ensures answers { Answers S.Store self.old self.new result (λ m k found. found.items ≡ map (λ j. brief
-            (fields_of j)) m.jobs) }
-        ensures stands { AnswersRows S.Store self.old self.new result (λ db found. BriefsStand db found.items) }
-        ensures bare { IfOk result (λ found. map brief found.items ≡ found.items) }
+        ensures { RecallsLawful S.Store self.old self.new result (λ m k found. found.items
+            ≡ map (λ j. brief (fields_of j)) m.jobs) (λ db found. BriefsStand db found.items)
+            (λ found. map brief found.items ≡ found.items) }
     {
         let shown = self.show(SELECT_BRIEFS, &[])?;
         briefs_in(self.alloc, shown.as_slice())
@@ -175,10 +165,8 @@ impl<S: Alter> Store<S> {
 
     /// Whether a job of this phase has a kill time from 1 to `t`. An index has the answer.
     fn has_expired(&mut self, phase: Phase, t: Moment) -> Result<bool, StoreFault>
-        ensures leaves { Finds S.Store self.old self.new result }
-        ensures answers { Answers S.Store self.old self.new result (λ m k found. found ≡ false
+        ensures { RecallsOnly S.Store self.old self.new result (λ m k found. found ≡ false
             → with_expired_in phase t m ≡ m) }
-        ensures cause { IfErr result (λ fault. fault ≡ StoreFault.Unavailable) }
     {
         let row = self.find(SELECT_EXPIRED, params![t.seconds(), phase_number(phase)])?;
         Ok(row.is_some())

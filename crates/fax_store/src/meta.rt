@@ -1,9 +1,9 @@
 //! The clock and the next numbers.
 
-ghost use Rattle.std.specs.Prelude.{◌≡◌, false, Err, IfOk, is_err};
+ghost use Rattle.std.specs.Prelude.{◌≡◌, false};
 ghost use Rattle.fax_core.specs.Ledger.{Ledger};
 ghost use Rattle.fax_core.specs.Queue.{Queue};
-ghost use Rattle.fax_store.specs.Calls.{Answers, AnswersRows, Finds, Makes, Runs, Tells, Writes, shown};
+ghost use Rattle.fax_store.specs.Calls.{Makes, RecallsLawful, Runs, TellsLawful, Writes, shown};
 ghost use Rattle.fax_store.specs.Meta.{MetaStands, with_clock};
 ghost use Rattle.fax_store.specs.Store.{Serves};
 ghost use Rattle.fax_store.specs.Work.{Works, Steps};
@@ -24,10 +24,8 @@ impl<S: Alter> Store<S> {
     ///
     /// `Unavailable`, or `Strange` where their row is no lawful record.
     pub fn meta(&mut self) -> Result<Meta, StoreFault>
-        ensures leaves { Finds S.Store self.old self.new result }
-        ensures answers { Answers S.Store self.old self.new result (λ m k meta. meta ≡ meta_of m) }
-        ensures stands { AnswersRows S.Store self.old self.new result MetaStands }
-        ensures lawful { IfOk result (λ meta. (m : Queue) → IsLawfulMeta (with_meta meta m)) }
+        ensures { RecallsLawful S.Store self.old self.new result (λ m k meta. meta ≡ meta_of m) MetaStands
+            (λ meta. (m : Queue) → IsLawfulMeta (with_meta meta m)) }
     {
         match self.find(SELECT_META, &[])? {
             Some(row) => Meta::in_row(&row),
@@ -61,8 +59,8 @@ impl<S: Alter> Work<'_, S> {
     ///
     /// `Unavailable`, or `Strange` where their row is no lawful record.
     pub fn meta(&mut self) -> Result<Meta, StoreFault>
-        ensures answers { Tells S.Store self.old self.new result (λ m k meta. meta ≡ meta_of m) }
-        ensures lawful { IfOk result (λ meta. (m : Queue) → IsLawfulMeta (with_meta meta m)) }
+        ensures { TellsLawful S.Store self.old self.new result (λ m k meta. meta ≡ meta_of m)
+            (λ meta. (m : Queue) → IsLawfulMeta (with_meta meta m)) }
     {
         if self.failed {
             return Err(StoreFault::Unavailable);

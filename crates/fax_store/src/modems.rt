@@ -3,7 +3,7 @@
 ghost use Rattle.std.specs.Prelude.{◌≡◌, true, false, Err, IfErr, is_err, IsTrue};
 ghost use Rattle.fax_core.specs.Machine.{is_down, with_mark};
 ghost use Rattle.fax_value.specs.Name.{IsName};
-ghost use Rattle.fax_store.specs.Calls.{Answers, Finds, MakesIf, Tells, Writes, WritesIf};
+ghost use Rattle.fax_store.specs.Calls.{MakesIf, RecallsOnly, Tells, Writes, WritesIf};
 
 use crate::store::Store;
 use crate::work::Work;
@@ -19,9 +19,7 @@ impl<S: Alter> Store<S> {
     ///
     /// `Unavailable`.
     pub fn is_down(&mut self, modem: &str) -> Result<bool, StoreFault>
-        ensures leaves { Finds S.Store self.old self.new result }
-        ensures answers { Answers S.Store self.old self.new result (λ m k down. down ≡ is_down modem.now m) }
-        ensures cause { IfErr result (λ fault. fault ≡ StoreFault.Unavailable) }
+        ensures { RecallsOnly S.Store self.old self.new result (λ m k down. down ≡ is_down modem.now m) }
     {
         let row = self.find(SELECT_DOWN, params![modem])?;
         Ok(row.is_some())

@@ -1,15 +1,12 @@
 //! The kept replies.
 
 ghost use Rattle.std.specs.Prelude.{◌≡◌, Err, IfOk, IfSome, is_err, OnOk};
-ghost use Rattle.sqlite.specs.Effect.{Database};
-ghost use Rattle.sqlite.specs.State.{HasCleanDisk};
 ghost use Rattle.fax_core.specs.Ledger.{with_reply};
 ghost use Rattle.fax_value.specs.Name.{IsName};
-ghost use Rattle.fax_store.specs.Calls.{Answers, Finds, MakesIf, Tells, WritesIf, shown};
+ghost use Rattle.fax_store.specs.Calls.{MakesIf, RecallsLawful, TellsLawful, WritesIf};
 ghost use Rattle.fax_store.specs.Kept.{IsKeptFor, IsUnkept, MissesNone};
 ghost use Rattle.fax_store.specs.Work.{Keeps};
 ghost use Rattle.fax_tables.specs.Kept.{entry};
-ghost use Rattle.fax_schema.specs.Schema.{our_tables};
 ghost use Rattle.fax_tables.specs.Tables.{IsKeptStatus};
 
 use crate::store::Store;
@@ -26,11 +23,8 @@ impl<S: Alter> Store<S> {
     ///
     /// `Unavailable`, or `Strange` where its row is no lawful record.
     pub fn kept(&mut self, client: &str, number: RequestNumber) -> Result<Option<Kept>, StoreFault>
-        ensures leaves { Finds S.Store self.old self.new result }
-        ensures answers { Answers S.Store self.old self.new result (λ m k. IsKeptFor k.replies client.now number) }
-        ensures unkept { (db : Database) → db.schema ≡ our_tables → (shown S.Store self.old).now ≡ db
-            → HasCleanDisk (shown S.Store self.new) → IfOk result (MissesNone db client.now number) }
-        ensures lawful { IfOk result (λ found. IfSome found (λ kept. IsKeptStatus kept.status)) }
+        ensures { RecallsLawful S.Store self.old self.new result (λ m k. IsKeptFor k.replies client.now number)
+            (λ db. MissesNone db client.now number) (λ found. IfSome found (λ kept. IsKeptStatus kept.status)) }
     {
         let number = number_value(number);
         match self.find(SELECT_REPLY, params![client, number])? {
@@ -70,8 +64,8 @@ impl<S: Alter> Work<'_, S> {
     ///
     /// `Unavailable`, or `Strange` where its row is no lawful record.
     pub fn kept(&mut self, client: &str, number: RequestNumber) -> Result<Option<Kept>, StoreFault>
-        ensures answers { Tells S.Store self.old self.new result (λ m k found. IsKeptFor k.replies client.now number found) }
-        ensures lawful { IfOk result (λ found. IfSome found (λ kept. IsKeptStatus kept.status)) }
+        ensures { TellsLawful S.Store self.old self.new result (λ m k. IsKeptFor k.replies client.now number)
+            (λ found. IfSome found (λ kept. IsKeptStatus kept.status)) }
     {
         if self.failed {
             return Err(StoreFault::Unavailable);

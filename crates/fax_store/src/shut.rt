@@ -2,8 +2,7 @@
 
 ghost use Rattle.std.specs.Prelude.{◌≡◌, not, IfErr, IfOk};
 ghost use Rattle.sqlite.specs.State.{HasCleanDisk};
-ghost use Rattle.fax_store.specs.Calls.{shown};
-ghost use Rattle.fax_store.specs.Store.{CommitsNothing, Serves, Stays};
+ghost use Rattle.fax_store.specs.Calls.{Looks, shown};
 
 use crate::store::{COMMIT, Store};
 use fax_tables::StoreFault;
@@ -17,10 +16,7 @@ impl<S: Alter> Store<S> {
     ///
     /// `Unavailable`, where it can't be told.
     pub fn is_shut(&mut self) -> Result<bool, StoreFault>
-        ensures served { Serves (shown S.Store self.new) → Serves (shown S.Store self.old) }
-        ensures clean { HasCleanDisk (shown S.Store self.new) → HasCleanDisk (shown S.Store self.old) }
-        ensures stays { Stays (shown S.Store self.old) (shown S.Store self.new) }
-        ensures crash { CommitsNothing (shown S.Store self.old) (shown S.Store self.new) }
+        ensures leaves { Looks S.Store self.old self.new }
         ensures told { HasCleanDisk (shown S.Store self.new)
             → IfOk result (λ shut. (shown S.Store self.new).is_open ≡ not shut) }
         ensures cause { IfErr result (λ fault. fault ≡ StoreFault.Unavailable) }

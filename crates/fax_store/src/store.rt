@@ -1,17 +1,16 @@
 //! A database with the seven tables.
 
-ghost use Rattle.std.specs.Prelude.{◌≡◌, false, [], IfOk, IfErr, OnOk, OnErr};
+ghost use Rattle.std.specs.Prelude.{◌≡◌, [], IfOk, IfErr};
 ghost use Rattle.std.specs.Borrow.{sem, RestsIfErr};
 ghost use Rattle.sqlite.specs.Held.{state};
-ghost use Rattle.fax_store.specs.Calls.{Finds, Runs, shown, within};
+ghost use Rattle.fax_store.specs.Calls.{Edits, Inserts, IsBegun, Queries, RollsBack, shown};
 ghost use Rattle.fax_store.specs.contracts.store.Store.{the_row};
 ghost use Rattle.sqlite.specs.Values.{bound};
-ghost use Rattle.sqlite.specs.State.{HasCleanDisk, Shown};
+ghost use Rattle.sqlite.specs.State.{Shown};
 ghost use Rattle.sqlite.specs.Steps.{over_memory};
 ghost use Rattle.fax_core.specs.Ledger.{empty_ledger};
 ghost use Rattle.fax_core.specs.Queue.{empty_queue};
-ghost use Rattle.fax_store.specs.Store.{Serves, StaysAsItWas, CommitsNothing, GoesBack, LeavesCommit, FindsRow, HasRun, IsEditText, IsQueryText, IsRefusedFor};
-ghost use Rattle.fax_store.specs.Work.{Begins, BeginsAt, Opens};
+ghost use Rattle.fax_store.specs.Store.{Serves, StaysAsItWas, FindsRow, IsEditText, IsQueryText};
 ghost use Rattle.fax_tables.specs.Tables.{IsAtRest};
 
 use crate::work::Work;
@@ -64,13 +63,7 @@ impl<S: Alter> Store<S> {
         ensures* refused { sem 𝓛 (RestsIfErr (the_row S.row S.Store) self.entry (λ work. work.store.ghost_name) result
             (λ last. StaysAsItWas (shown S.Store self.old) (shown S.Store last))) }
         ensures same_reference { IfOk result (λ work. work.store.ghost_name ≡ self.entry.ghost_name) }
-        ensures begun { IfOk result (λ work. Begins (shown S.Store self.old) (within S.Store work) work.failed) }
-        ensures at { IfOk result (λ work. BeginsAt (shown S.Store self.old) (within S.Store work) work.failed) }
-        ensures opens { IfOk result (λ work. Opens (shown S.Store self.old) (within S.Store work) work.failed) }
-        ensures served { IfOk result (λ work. Serves (within S.Store work) → Serves (shown S.Store self.old)) }
-        ensures clean { IfOk result (λ work. HasCleanDisk (within S.Store work)
-            → HasCleanDisk (shown S.Store self.old)) }
-        ensures goes_on { IfOk result (λ work. work.failed ≡ false) }
+        ensures work { IfOk result (IsBegun S.Store self.old) }
         ensures cause { IfErr result (λ fault. fault ≡ StoreFault.Unavailable) }
     {
         self.conn.execute(BEGIN, &[])?;
@@ -79,10 +72,7 @@ impl<S: Alter> Store<S> {
 
     /// Undoes what was not committed.
     pub(crate) fn roll_back(&mut self)
-        ensures back { GoesBack (shown S.Store self.old) (shown S.Store self.new) }
-        ensures crash { CommitsNothing (shown S.Store self.old) (shown S.Store self.new) }
-        ensures served { Serves (shown S.Store self.new) → Serves (shown S.Store self.old) }
-        ensures clean { HasCleanDisk (shown S.Store self.new) → HasCleanDisk (shown S.Store self.old) }
+        ensures { RollsBack S.Store self.old self.new }
     {
         if !self.conn.is_autocommit() {
             let _ = self.conn.execute(ROLLBACK, &[]);
@@ -96,13 +86,8 @@ impl<S: Alter> Store<S> {
         params: &[ValueRef<'_>],
     ) -> Result<Vec<Row>, StoreFault>
         requires { IsQueryText sql.now }
-        ensures leaves { Finds S.Store self.old self.new result }
-        ensures shown { HasCleanDisk (shown S.Store self.new)
-            → IfOk result (λ rows. Shown sql.now (bound params.now) (shown S.Store self.old)
-            (shown S.Store self.new) rows.items) }
-        ensures left { HasCleanDisk (shown S.Store self.new)
-            → OnErr result (LeavesCommit (shown S.Store self.old) (shown S.Store self.new)) }
-        ensures cause { IfErr result (λ fault. fault ≡ StoreFault.Unavailable) }
+        ensures { Queries S.Store self.old self.new result (λ rows. Shown sql.now (bound params.now)
+            (shown S.Store self.old) (shown S.Store self.new) rows.items) }
     {
         let rows = self.conn.query_all(sql, params)?;
         Ok(rows)
@@ -115,12 +100,8 @@ impl<S: Alter> Store<S> {
         params: &[ValueRef<'_>],
     ) -> Result<Option<Row>, StoreFault>
         requires { IsQueryText sql.now }
-        ensures leaves { Finds S.Store self.old self.new result }
-        ensures found { HasCleanDisk (shown S.Store self.new)
-            → IfOk result (FindsRow sql.now (bound params.now) (shown S.Store self.old) (shown S.Store self.new)) }
-        ensures left { HasCleanDisk (shown S.Store self.new)
-            → OnErr result (LeavesCommit (shown S.Store self.old) (shown S.Store self.new)) }
-        ensures cause { IfErr result (λ fault. fault ≡ StoreFault.Unavailable) }
+        ensures { Queries S.Store self.old self.new result (FindsRow sql.now (bound params.now)
+            (shown S.Store self.old) (shown S.Store self.new)) }
     {
         let mut rows = self.show(sql, params)?;
         Ok(rows.pop())
@@ -133,13 +114,7 @@ impl<S: Alter> Store<S> {
     /// `Unavailable`, or `Strange` where the row breaks a rule of its table, as a key that is taken.
     pub(crate) fn insert(&mut self, sql: &str, params: &[ValueRef<'_>]) -> Result<(), StoreFault>
         requires { IsEditText sql.now }
-        ensures leaves { Runs S.Store self.old self.new result }
-        ensures ran { HasCleanDisk (shown S.Store self.new)
-            → OnOk result (HasRun sql.now (bound params.now) (shown S.Store self.old) (shown S.Store self.new)) }
-        ensures left { HasCleanDisk (shown S.Store self.new)
-            → OnErr result (LeavesCommit (shown S.Store self.old) (shown S.Store self.new)) }
-        ensures told { HasCleanDisk (shown S.Store self.new)
-            → IfErr result (IsRefusedFor sql.now (bound params.now) (shown S.Store self.old) (shown S.Store self.new)) }
+        ensures { Inserts S.Store self.old self.new result sql.now (bound params.now) }
     {
         match self.conn.execute(sql, params) {
             Ok(_) => Ok(()),
@@ -150,12 +125,7 @@ impl<S: Alter> Store<S> {
     /// Runs a statement that updates or deletes rows, or puts in one whose key is free.
     pub(crate) fn run(&mut self, sql: &str, params: &[ValueRef<'_>]) -> Result<(), StoreFault>
         requires { IsEditText sql.now }
-        ensures leaves { Runs S.Store self.old self.new result }
-        ensures ran { HasCleanDisk (shown S.Store self.new)
-            → OnOk result (HasRun sql.now (bound params.now) (shown S.Store self.old) (shown S.Store self.new)) }
-        ensures left { HasCleanDisk (shown S.Store self.new)
-            → OnErr result (LeavesCommit (shown S.Store self.old) (shown S.Store self.new)) }
-        ensures cause { IfErr result (λ fault. fault ≡ StoreFault.Unavailable) }
+        ensures { Edits S.Store self.old self.new result sql.now (bound params.now) }
     {
         self.conn.execute(sql, params)?;
         Ok(())

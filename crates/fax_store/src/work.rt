@@ -1,10 +1,7 @@
 //! Changes that are made together.
 
-ghost use Rattle.std.specs.Prelude.{◌≡◌, false, IsTrue, IfErr, OnOk, OnErr};
-ghost use Rattle.sqlite.specs.State.{HasCleanDisk};
-ghost use Rattle.fax_store.specs.Calls.{shown, within};
-ghost use Rattle.fax_store.specs.Store.{CommitsNothing, LeavesAlone, Serves};
-ghost use Rattle.fax_store.specs.Work.{Commits, Forgets, MayCommit, Undoes};
+ghost use Rattle.std.specs.Prelude.{◌≡◌, false};
+ghost use Rattle.fax_store.specs.Calls.{Drops, Ends};
 
 use crate::store::{COMMIT, Store};
 use fax_tables::StoreFault;
@@ -36,21 +33,7 @@ impl<'s, S: Alter> Work<'s, S> {
     ///
     /// `Unavailable`; the tables are as they were at `begin`.
     pub fn commit(self) -> Result<(), StoreFault>
-        ensures committed { OnOk result (Commits (within S.Store self.entry) self.entry.failed
-            (shown S.Store self.exit.0.now)) }
-        ensures served { OnOk result (Serves (shown S.Store self.exit.0.now) → Serves (within S.Store self.entry)) }
-        ensures clean { HasCleanDisk (shown S.Store self.exit.0.now) → HasCleanDisk (within S.Store self.entry) }
-        ensures opens { OnOk result (HasCleanDisk (shown S.Store self.exit.0.now)
-            → Serves (shown S.Store self.exit.0.now)) }
-        ensures forgets { OnErr result (Forgets (within S.Store self.entry) self.entry.failed
-            (shown S.Store self.exit.0.now)) }
-        ensures undone { OnErr result (Undoes (within S.Store self.entry) self.entry.failed
-            (shown S.Store self.exit.0.now)) }
-        ensures crash { MayCommit (within S.Store self.entry) self.entry.failed (shown S.Store self.exit.0.now) }
-        ensures alone { OnOk result (Serves (shown S.Store self.exit.0.now)
-            → LeavesAlone (shown S.Store self.exit.0.now) (within S.Store self.entry).now.trees) }
-        ensures refused { IsTrue self.entry.failed → result ≡ Err StoreFault.Unavailable }
-        ensures cause { IfErr result (λ fault. fault ≡ StoreFault.Unavailable) }
+        ensures { Ends S.Store self.entry self.exit.0.now result }
     {
         let Work { store, failed } = self;
         if failed {
@@ -64,11 +47,7 @@ impl<'s, S: Alter> Work<'s, S> {
 
 impl<S: Alter> Drop for Work<'_, S> {
     fn drop(self)
-        ensures forgets { Forgets (within S.Store self.entry) self.entry.failed (shown S.Store self.exit.0.now) }
-        ensures undone { Undoes (within S.Store self.entry) self.entry.failed (shown S.Store self.exit.0.now) }
-        ensures crash { CommitsNothing (within S.Store self.entry) (shown S.Store self.exit.0.now) }
-        ensures clean { HasCleanDisk (shown S.Store self.exit.0.now) → HasCleanDisk (within S.Store self.entry) }
-        ensures served { Serves (shown S.Store self.exit.0.now) → Serves (within S.Store self.entry) }
+        ensures { Drops S.Store self.entry self.exit.0.now }
     {
         let Work { store, failed: _ } = self;
         store.roll_back();

@@ -14,7 +14,7 @@ returns-in-Err-clause-handled g c m k sound means clean =
     inr (
       c.refused.ensures,
       gives_out (state g.S.Store c.is_shut.new.self.conn) m k clean
-          (means_stay c.is_shut.ensures.served c.is_shut.ensures.stays m k (c.in-Err.ensures.answered m k sound means (c.is_shut.ensures.clean clean))),
+          (means_stay c.is_shut.ensures.leaves.served c.is_shut.ensures.leaves.stays m k (c.in-Err.ensures.answered m k sound means (c.is_shut.ensures.leaves.clean clean))),
     )
 
 pub returns-in-Ok-clause-sound : goal.returns-in-Ok-clause-sound
@@ -28,16 +28,16 @@ returns-in-Err-clause-sound g c m k sound means clean =
     (returns-in-Err-clause-handled g c m k sound means clean)
 
 pub returns-in-Err-clause-refused : goal.returns-in-Err-clause-refused
-returns-in-Err-clause-refused g c refused db ours rests = c.is_shut.ensures.stays db ours (c.in-Err.ensures.leaves.unchanged tt db ours rests)
+returns-in-Err-clause-refused g c refused db ours rests = c.is_shut.ensures.leaves.stays db ours (c.in-Err.ensures.leaves.unchanged tt db ours rests)
 
 pub returns-in-Err-clause-seen : goal.returns-in-Err-clause-seen
-returns-in-Err-clause-seen g c get db ours rests = c.is_shut.ensures.stays db ours (c.in-Err.ensures.seen get db ours rests)
+returns-in-Err-clause-seen g c get db ours rests = c.is_shut.ensures.leaves.stays db ours (c.in-Err.ensures.seen get db ours rests)
 
 pub returns-in-Err-clause-repeated : goal.returns-in-Err-clause-repeated
-returns-in-Err-clause-repeated g c db ours rests used = c.is_shut.ensures.stays db ours (c.in-Err.ensures.repeated db ours rests used)
+returns-in-Err-clause-repeated g c db ours rests used = c.is_shut.ensures.leaves.stays db ours (c.in-Err.ensures.repeated db ours rests used)
 
 pub returns-in-Err-clause-crash : goal.returns-in-Err-clause-crash
-returns-in-Err-clause-crash g c m k sound means found may = c.in-Err.ensures.crash m k sound means found (c.is_shut.ensures.crash found may)
+returns-in-Err-clause-crash g c m k sound means found may = c.in-Err.ensures.crash m k sound means found (c.is_shut.ensures.leaves.crash found may)
 
 pub returns-in-Ok-clause-idle : goal.returns-in-Ok-clause-idle
 returns-in-Ok-clause-idle g c m k sound means serves =

@@ -94,7 +94,7 @@ returns-in-None g c =
       repeated = λ db ours rests used serves.
           let read = opens (c.step_once.ensures.leaves.clean serves.clean) in
           absurd (subst (MissesNone db c.args.sender.now.client.now c.args.sender.now.number) c.in-None.is
-          (c.in_ok-kept.ensures.unkept db ours (first.stays db ours rests (c.kept.ensures.leaves.served read)).now read.clean) used);
+          (c.in_ok-kept.ensures.stands db ours (first.stays db ours rests (c.kept.ensures.leaves.served read)).now read.clean) used);
       comes = λ m k sound means asks.
           let settings = settings_of c.args.self.now.office.setup c.args.self.now.office.controls in
           let floor = c.in_ok-floor.floor in

@@ -1,4 +1,4 @@
-use Rattle.std.proofs.Common.{ℕ, List, sym, subst, ap, ◌∙◌}
+use Rattle.std.proofs.Common.{ℕ, List, sym, subst, ap, ◌∙◌, rules}
 use Rattle.std.proofs.lemmas.Option.{none-some, same_Some}
 use Rattle.std.specs.Option.{option_map}
 use Rattle.std.specs.Vec.Iter.{into_iter_items}
@@ -10,65 +10,84 @@ use Rattle.fax_tables.specs.declared.prospect.Prospect.{Prospect}
 use Rattle.fax_tables.proofs.ResultLemmas.{passes_on}
 use Rattle.fax_store.proofs.CandidateLemmas.{given_there}
 use Rattle.fax_store.proofs.StoreLemmas.{means_stay}
+use Rattle.fax_store.proofs.WorkLemmas.{never_ok}
 use Rattle.fax_store.proofs.FrameLemmas.{looks_of, looks_then, means_now}
 use Rattle.fax_store.proofs.candidates.Candidates+S.next.Goals as goal
 
-pub returns-in_err-prospect-clause-found : goal.returns-in_err-prospect-clause-found
-returns-in_err-prospect-clause-found g c m k given means serves stands =
-    passes_on c.from_residual.result c.in_err-prospect.field-0.0 _ c.from_residual.ensures.1 (c.in_err-prospect.ensures.found m k given means serves stands)
+pub returns-in_err-prospect : goal.returns-in_err-prospect
+returns-in_err-prospect g c = record {
+  same_reference = search rules;
+  leaves = search rules;
+  opens = search rules;
+  asked = search rules;
+  found = λ m k given means serves stands. passes_on c.from_residual.result c.in_err-prospect.field-0.0 _ c.from_residual.ensures.1 (c.in_err-prospect.ensures.found m k given means serves stands);
+}
 
-pub returns-in_default-clause-found : goal.returns-in_default-clause-found
-returns-in_default-clause-found g c m k given means serves stands =
-    subst (λ o. Gives IsProspect c.args.self.now.asked m given (into_iter_items c.prospect.new.self.page) c.prospect.new.self.front c.prospect.new.self.most o) c.in_default.is
-    (c.in_ok-prospect.ensures.found m k given means serves stands)
+pub returns-in_default : goal.returns-in_default
+returns-in_default g c = record {
+  same_reference = search rules;
+  leaves = search rules;
+  opens = search rules;
+  asked = search rules;
+  found = λ m k given means serves stands. subst (λ o. Gives IsProspect c.args.self.now.asked m given (into_iter_items c.prospect.new.self.page) c.prospect.new.self.front c.prospect.new.self.most o) c.in_default.is
+      (c.in_ok-prospect.ensures.found m k given means serves stands);
+}
 
-pub returns-in_err-job-clause-leaves : goal.returns-in_err-job-clause-leaves
-returns-in_err-job-clause-leaves g c = looks_then g.S.Store _ _ _ c.prospect.ensures.leaves (looks_of g.S.Store _ _ _ c.job.ensures.leaves)
+pub returns-in_err-job : goal.returns-in_err-job
+returns-in_err-job g c = record {
+  same_reference = search rules;
+  leaves = looks_then g.S.Store _ _ _ c.prospect.ensures.leaves (looks_of g.S.Store _ _ _ c.job.ensures.leaves);
+  opens = search rules;
+  asked = search rules;
+  found = λ m k given means serves stands. passes_on c.from_residual-in_err-job.result c.in_err-job.field-0.0 _ c.from_residual-in_err-job.ensures.1
+      (c.in_err-job.ensures.answers m k (means_now (means_stay c.prospect.ensures.leaves.served c.prospect.ensures.leaves.stays m k means)) serves);
+}
 
-pub returns-in_err-job-clause-found : goal.returns-in_err-job-clause-found
-returns-in_err-job-clause-found g c m k given means serves stands =
-    passes_on c.from_residual-in_err-job.result c.in_err-job.field-0.0 _ c.from_residual-in_err-job.ensures.1
-    (c.in_err-job.ensures.answers m k (means_now (means_stay c.prospect.ensures.leaves.served c.prospect.ensures.leaves.stays m k means)) serves)
+pub returns-in_default-2 : goal.returns-in_default-2
+returns-in_default-2 g c = record {
+  same_reference = search rules;
+  leaves = looks_then g.S.Store _ _ _ c.prospect.ensures.leaves (looks_of g.S.Store _ _ _ c.job.ensures.leaves);
+  opens = search rules;
+  asked = search rules;
+  found = λ m k given means serves stands. let asked = c.args.self.now.asked in
+      let page = into_iter_items c.prospect.new.self.page in
+      let front = c.prospect.new.self.front in
+      let most = c.prospect.new.self.most in
+      let between = c.job.ensures.leaves.served serves in
+      let it = subst (λ o. Gives IsProspect asked m given page front most o) c.in-Some.is (c.in_ok-prospect.ensures.found m k given means between stands) in
+      let there = given_there _ m k (means (c.prospect.ensures.leaves.served between)).means asked given it.0 page front most it.2 in
+      let job = c.in_ok-job.ensures.answers m k (means_now (means_stay c.prospect.ensures.leaves.served c.prospect.ensures.leaves.stays m k means)) serves in
+      absurd (none-some (fields_of it.0) (sym c.in_default-2.is ∙ job ∙ ap (λ (n : ℕ). option_map fields_of (job_numbered n m)) (ap (λ (p : Prospect). p.job) it.1) ∙ ap (option_map fields_of) there));
+}
 
-pub returns-in_default-2-clause-leaves : goal.returns-in_default-2-clause-leaves
-returns-in_default-2-clause-leaves g c = looks_then g.S.Store _ _ _ c.prospect.ensures.leaves (looks_of g.S.Store _ _ _ c.job.ensures.leaves)
+pub returns-in_err-calls : goal.returns-in_err-calls
+returns-in_err-calls g c = record {
+  same_reference = search rules;
+  leaves = looks_then g.S.Store _ _ _ (looks_then g.S.Store _ _ _ c.prospect.ensures.leaves (looks_of g.S.Store _ _ _ c.job.ensures.leaves)) (looks_of g.S.Store _ _ _ c.active_to.ensures.leaves);
+  opens = never_ok _ c.from_residual-in_err-calls.result _ c.from_residual-in_err-calls.ensures.1;
+  asked = search rules;
+  found = λ m k given means serves stands. let looked = means_stay c.prospect.ensures.leaves.served c.prospect.ensures.leaves.stays m k means in
+      passes_on c.from_residual-in_err-calls.result c.in_err-calls.field-0.0 _ c.from_residual-in_err-calls.ensures.1
+      (c.in_err-calls.ensures.answers m k (means_now (means_stay c.job.ensures.leaves.served c.job.ensures.leaves.stays m k looked)) serves);
+}
 
-pub returns-in_default-2-clause-found : goal.returns-in_default-2-clause-found
-returns-in_default-2-clause-found g c m k given means serves stands =
-    let asked = c.args.self.now.asked in
-    let page = into_iter_items c.prospect.new.self.page in
-    let front = c.prospect.new.self.front in
-    let most = c.prospect.new.self.most in
-    let between = c.job.ensures.leaves.served serves in
-    let it = subst (λ o. Gives IsProspect asked m given page front most o) c.in-Some.is (c.in_ok-prospect.ensures.found m k given means between stands) in
-    let there = given_there _ m k (means (c.prospect.ensures.leaves.served between)).means asked given it.0 page front most it.2 in
-    let job = c.in_ok-job.ensures.answers m k (means_now (means_stay c.prospect.ensures.leaves.served c.prospect.ensures.leaves.stays m k means)) serves in
-    absurd (none-some (fields_of it.0) (sym c.in_default-2.is ∙ job ∙ ap (λ (n : ℕ). option_map fields_of (job_numbered n m)) (ap (λ (p : Prospect). p.job) it.1) ∙ ap (option_map fields_of) there))
-
-pub returns-in_err-calls-clause-leaves : goal.returns-in_err-calls-clause-leaves
-returns-in_err-calls-clause-leaves g c = looks_then g.S.Store _ _ _ (looks_then g.S.Store _ _ _ c.prospect.ensures.leaves (looks_of g.S.Store _ _ _ c.job.ensures.leaves)) (looks_of g.S.Store _ _ _ c.active_to.ensures.leaves)
-
-pub returns-in_err-calls-clause-found : goal.returns-in_err-calls-clause-found
-returns-in_err-calls-clause-found g c m k given means serves stands =
-    let looked = means_stay c.prospect.ensures.leaves.served c.prospect.ensures.leaves.stays m k means in
-    passes_on c.from_residual-in_err-calls.result c.in_err-calls.field-0.0 _ c.from_residual-in_err-calls.ensures.1
-    (c.in_err-calls.ensures.answers m k (means_now (means_stay c.job.ensures.leaves.served c.job.ensures.leaves.stays m k looked)) serves)
-
-pub returns-clause-leaves : goal.returns-clause-leaves
-returns-clause-leaves g c = looks_then g.S.Store _ _ _ (looks_then g.S.Store _ _ _ c.prospect.ensures.leaves (looks_of g.S.Store _ _ _ c.job.ensures.leaves)) (looks_of g.S.Store _ _ _ c.active_to.ensures.leaves)
-
-pub returns-clause-found : goal.returns-clause-found
-returns-clause-found g c m k given means serves stands =
-    let asked = c.args.self.now.asked in
-    let page = into_iter_items c.prospect.new.self.page in
-    let front = c.prospect.new.self.front in
-    let most = c.prospect.new.self.most in
-    let at_job = c.active_to.ensures.leaves.served serves in
-    let between = c.job.ensures.leaves.served at_job in
-    let looked = means_stay c.prospect.ensures.leaves.served c.prospect.ensures.leaves.stays m k means in
-    let it = subst (λ o. Gives IsProspect asked m given page front most o) c.in-Some.is (c.in_ok-prospect.ensures.found m k given means between stands) in
-    let there = given_there _ m k (means (c.prospect.ensures.leaves.served between)).means asked given it.0 page front most it.2 in
-    let job = c.in_ok-job.ensures.answers m k (means_now looked) at_job in
-    let whole = same_Some c.in-Some-2.job (fields_of it.0) (sym c.in-Some-2.is ∙ job ∙ ap (λ (n : ℕ). option_map fields_of (job_numbered n m)) (ap (λ (p : Prospect). p.job) it.1) ∙ ap (option_map fields_of) there) in
-    let calls = c.in_ok-calls.ensures.answers m k (means_now (means_stay c.job.ensures.leaves.served c.job.ensures.leaves.stays m k looked)) serves in
-    (it.0, (whole, calls ∙ ap (λ (dial : List ℕ). calls_to dial m) (ap (λ (p : Prospect). p.dial) it.1)), it.2)
+pub returns : goal.returns
+returns g c = record {
+  same_reference = search rules;
+  leaves = looks_then g.S.Store _ _ _ (looks_then g.S.Store _ _ _ c.prospect.ensures.leaves (looks_of g.S.Store _ _ _ c.job.ensures.leaves)) (looks_of g.S.Store _ _ _ c.active_to.ensures.leaves);
+  opens = search rules;
+  asked = search rules;
+  found = λ m k given means serves stands. let asked = c.args.self.now.asked in
+      let page = into_iter_items c.prospect.new.self.page in
+      let front = c.prospect.new.self.front in
+      let most = c.prospect.new.self.most in
+      let at_job = c.active_to.ensures.leaves.served serves in
+      let between = c.job.ensures.leaves.served at_job in
+      let looked = means_stay c.prospect.ensures.leaves.served c.prospect.ensures.leaves.stays m k means in
+      let it = subst (λ o. Gives IsProspect asked m given page front most o) c.in-Some.is (c.in_ok-prospect.ensures.found m k given means between stands) in
+      let there = given_there _ m k (means (c.prospect.ensures.leaves.served between)).means asked given it.0 page front most it.2 in
+      let job = c.in_ok-job.ensures.answers m k (means_now looked) at_job in
+      let whole = same_Some c.in-Some-2.job (fields_of it.0) (sym c.in-Some-2.is ∙ job ∙ ap (λ (n : ℕ). option_map fields_of (job_numbered n m)) (ap (λ (p : Prospect). p.job) it.1) ∙ ap (option_map fields_of) there) in
+      let calls = c.in_ok-calls.ensures.answers m k (means_now (means_stay c.job.ensures.leaves.served c.job.ensures.leaves.stays m k looked)) serves in
+      (it.0, (whole, calls ∙ ap (λ (dial : List ℕ). calls_to dial m) (ap (λ (p : Prospect). p.dial) it.1)), it.2);
+}

@@ -1,4 +1,4 @@
-use Rattle.std.proofs.Common.{◌≡◌, ◌∙◌, [], sym, subst, arith}
+use Rattle.std.proofs.Common.{◌≡◌, ◌∙◌, [], sym, subst, arith, rules}
 use Rattle.std.specs.Vec.Iter.{into_iter_items}
 use Rattle.std.proofs.lemmas.List.{nil_from_length}
 use Rattle.fax_store.specs.Candidates.{AreAsked, StandsAt}
@@ -8,21 +8,45 @@ use Rattle.fax_store.proofs.FrameLemmas.{looks_then}
 use Rattle.fax_store.proofs.StoreLemmas.{means_stay}
 use Rattle.fax_store.proofs.candidates.Candidates+S.refill.Goals as goal
 
-pub returns-in_err-read_on-clause-leaves : goal.returns-in_err-read_on-clause-leaves
-returns-in_err-read_on-clause-leaves g c = looks_then g.S.Store _ _ _ c.loop-self.invariant.leaves c.read_on.ensures.leaves
+pub returns-in_err-read_on : goal.returns-in_err-read_on
+returns-in_err-read_on g c = record {
+  same_reference = search rules;
+  leaves = looks_then g.S.Store _ _ _ c.loop-self.invariant.leaves c.read_on.ensures.leaves;
+  opens = search rules;
+  none = search rules;
+  asked = search rules;
+  found = λ m k given means serves stands. let before = into_iter_items c.loop-self.self.page in
+      let front = c.loop-self.self.front in
+      let most = c.loop-self.self.most in
+      let none = c.loop-self-test.true in
+      let long = c.loop-self.self.page.rest.ok.0 in
+      let empty : before ≡ [] = nil_from_length before (omega (arith, none, long, c.len.ensures)) in
+      let at = c.loop-self.invariant.found m k given means (c.read_on.ensures.leaves.served serves) stands in
+      let stood = subst (λ (asked : Asked). StandsAt asked m given [] front most) (sym c.loop-self.invariant.asked) (subst (λ rows. StandsAt c.args.self.now.asked m given rows front most) empty at) in
+      passes_on c.from_residual.result c.in_err-read_on.field-0.0 _ c.from_residual.ensures.1
+      (c.in_err-read_on.ensures.found m k given (means_stay c.loop-self.invariant.leaves.served c.loop-self.invariant.leaves.stays m k means) serves stood);
+}
 
-pub returns-in_err-read_on-clause-found : goal.returns-in_err-read_on-clause-found
-returns-in_err-read_on-clause-found g c m k given means serves stands =
-    let before = into_iter_items c.loop-self.self.page in
-    let front = c.loop-self.self.front in
-    let most = c.loop-self.self.most in
-    let none = c.loop-self-test.true in
-    let long = c.loop-self.self.page.rest.ok.0 in
-    let empty : before ≡ [] = nil_from_length before (omega (arith, none, long, c.len.ensures)) in
-    let at = c.loop-self.invariant.found m k given means (c.read_on.ensures.leaves.served serves) stands in
-    let stood = subst (λ (asked : Asked). StandsAt asked m given [] front most) (sym c.loop-self.invariant.asked) (subst (λ rows. StandsAt c.args.self.now.asked m given rows front most) empty at) in
-    passes_on c.from_residual.result c.in_err-read_on.field-0.0 _ c.from_residual.ensures.1
-    (c.in_err-read_on.ensures.found m k given (means_stay c.loop-self.invariant.leaves.served c.loop-self.invariant.leaves.stays m k means) serves stood)
+pub returns-then-branch : goal.returns-then-branch
+returns-then-branch g c = record {
+  same_reference = search rules;
+  leaves = looks_then g.S.Store _ _ _ c.loop-self.invariant.leaves c.read_on.ensures.leaves;
+  opens = search rules;
+  none = search rules;
+  asked = search rules;
+  found = λ m k given means serves stands. let before = into_iter_items c.loop-self.self.page in
+      let front = c.loop-self.self.front in
+      let most = c.loop-self.self.most in
+      let none = c.loop-self-test.true in
+      let long = c.loop-self.self.page.rest.ok.0 in
+      let empty : before ≡ [] = nil_from_length before (omega (arith, none, long, c.len.ensures)) in
+      let at = c.loop-self.invariant.found m k given means (c.read_on.ensures.leaves.served serves) stands in
+      let stood = subst (λ (asked : Asked). StandsAt asked m given [] front most) (sym c.loop-self.invariant.asked) (subst (λ rows. StandsAt c.args.self.now.asked m given rows front most) empty at) in
+      let found = c.in_ok-read_on.ensures.found m k given (means_stay c.loop-self.invariant.leaves.served c.loop-self.invariant.leaves.stays m k means) serves stood in (
+        subst (λ (asked : Asked). StandsAt asked m given (into_iter_items c.read_on.new.self.page) c.read_on.new.self.front c.read_on.new.self.most) c.loop-self.invariant.asked found.0,
+        λ empty. subst (λ (asked : Asked). AreAsked asked m given) c.loop-self.invariant.asked (found.1 empty c.if-branch.true),
+      );
+}
 
 pub loop-self-preserved : goal.loop-self-preserved
 loop-self-preserved g c = record {
@@ -42,21 +66,3 @@ loop-self-preserved g c = record {
       subst (λ (asked : Asked). StandsAt asked m given (into_iter_items c.read_on.new.self.page) c.read_on.new.self.front c.read_on.new.self.most) c.loop-self.invariant.asked
       (c.in_ok-read_on.ensures.found m k given (means_stay c.loop-self.invariant.leaves.served c.loop-self.invariant.leaves.stays m k means) serves stood).0;
 }
-
-pub returns-then-branch-clause-leaves : goal.returns-then-branch-clause-leaves
-returns-then-branch-clause-leaves g c = looks_then g.S.Store _ _ _ c.loop-self.invariant.leaves c.read_on.ensures.leaves
-
-pub returns-then-branch-clause-found : goal.returns-then-branch-clause-found
-returns-then-branch-clause-found g c m k given means serves stands =
-    let before = into_iter_items c.loop-self.self.page in
-    let front = c.loop-self.self.front in
-    let most = c.loop-self.self.most in
-    let none = c.loop-self-test.true in
-    let long = c.loop-self.self.page.rest.ok.0 in
-    let empty : before ≡ [] = nil_from_length before (omega (arith, none, long, c.len.ensures)) in
-    let at = c.loop-self.invariant.found m k given means (c.read_on.ensures.leaves.served serves) stands in
-    let stood = subst (λ (asked : Asked). StandsAt asked m given [] front most) (sym c.loop-self.invariant.asked) (subst (λ rows. StandsAt c.args.self.now.asked m given rows front most) empty at) in
-    let found = c.in_ok-read_on.ensures.found m k given (means_stay c.loop-self.invariant.leaves.served c.loop-self.invariant.leaves.stays m k means) serves stood in (
-      subst (λ (asked : Asked). StandsAt asked m given (into_iter_items c.read_on.new.self.page) c.read_on.new.self.front c.read_on.new.self.most) c.loop-self.invariant.asked found.0,
-      λ empty. subst (λ (asked : Asked). AreAsked asked m given) c.loop-self.invariant.asked (found.1 empty c.if-branch.true),
-    )

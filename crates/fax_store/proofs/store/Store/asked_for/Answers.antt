@@ -5,7 +5,11 @@ use Rattle.fax_store.specs.declared.candidates.Front.TheVariants.{First}
 use Rattle.fax_store.proofs.CandidateLemmas.{stands_first}
 use Rattle.fax_store.proofs.store.Store.asked_for.Goals as goal
 
-pub returns-clause-stands : goal.returns-clause-stands
-returns-clause-stands g c m k means serves =
-    let empty : into_iter_items c.into_iter.result ≡ [] = search rules in
-    subst (λ rows. StandsAt c.args.asked m [] rows First 16) (sym empty) (stands_first _ m k (means serves).means c.args.asked 16 (omega arith))
+pub returns : goal.returns
+returns g c = record {
+  same_reference = search rules;
+  same = search rules;
+  asked = search rules;
+  stands = λ m k means serves. let empty : into_iter_items c.into_iter.result ≡ [] = search rules in
+      subst (λ rows. StandsAt c.args.asked m [] rows First 16) (sym empty) (stands_first _ m k (means serves).means c.args.asked 16 (omega arith));
+}

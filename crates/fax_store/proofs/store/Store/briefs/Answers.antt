@@ -11,26 +11,23 @@ use Rattle.fax_schema.proofs.StatementTexts.{select_briefs}
 use Rattle.fax_store.proofs.FrameLemmas.{finds_as}
 use Rattle.fax_store.proofs.store.Store.briefs.Goals as goal
 
-pub returns-clause-answers : goal.returns-clause-answers
-returns-clause-answers g c m k means s =
-    let old = state g.S.Store c.args.self.now.conn in
-    let new = state g.S.Store c.show.new.self.conn in
-    let means_now = means (c.in_ok-shown.ensures.leaves.served s) in
-    let rows = briefs_found old new m k means_now c.in_ok-shown.shown.items (c.in_ok-shown.ensures.shown s.clean) in
-    c.briefs_in.ensures.found m.jobs (search rules) means_now.lawful.jobs
-
-pub returns-clause-stands : goal.returns-clause-stands
-returns-clause-stands g c db ours now clean =
-    let old = state g.S.Store c.args.self.now.conn in
-    let new = state g.S.Store c.show.new.self.conn in
-    let rows = c.in_ok-shown.shown.items in
-    let same = briefs_shown old new db ours now rows (c.in_ok-shown.ensures.shown clean) in
-    let read = subst (λ (rs : List Row). IfOk c.briefs_in.result (λ found. map (take 19) rs ≡ map brief_shown found.items)) c.as_slice.ensures.value c.briefs_in.ensures.stands in
-    IfOk-weaker c.briefs_in.result (λ found. map (take 19) rows ≡ map brief_shown found.items) (λ found. BriefsStand db found.items)
-    (λ found is. subst (IsPermutation (map (λ row. map (column row) brief_places) (db.trees jobs_tree))) is same) read
-
-pub returns-clause-leaves : goal.returns-clause-leaves
-returns-clause-leaves g c = finds_as g.S.Store _ _ _ _ c.in_ok-shown.ensures.leaves
+pub returns : goal.returns
+returns g c = record {
+  leaves = finds_as g.S.Store _ _ _ _ c.in_ok-shown.ensures.leaves;
+  answers = λ m k means s. let old = state g.S.Store c.args.self.now.conn in
+      let new = state g.S.Store c.show.new.self.conn in
+      let means_now = means (c.in_ok-shown.ensures.leaves.served s) in
+      let rows = briefs_found old new m k means_now c.in_ok-shown.shown.items (c.in_ok-shown.ensures.found s.clean) in
+      c.briefs_in.ensures.found m.jobs (search rules) means_now.lawful.jobs;
+  stands = λ db ours now clean. let old = state g.S.Store c.args.self.now.conn in
+      let new = state g.S.Store c.show.new.self.conn in
+      let rows = c.in_ok-shown.shown.items in
+      let same = briefs_shown old new db ours now rows (c.in_ok-shown.ensures.found clean) in
+      let read = subst (λ (rs : List Row). IfOk c.briefs_in.result (λ found. map (take 19) rs ≡ map brief_shown found.items)) c.as_slice.ensures.value c.briefs_in.ensures.stands in
+      IfOk-weaker c.briefs_in.result (λ found. map (take 19) rows ≡ map brief_shown found.items) (λ found. BriefsStand db found.items)
+      (λ found is. subst (IsPermutation (map (λ row. map (column row) brief_places) (db.trees jobs_tree))) is same) read;
+  lawful = c.briefs_in.ensures.bare;
+}
 
 pub show-requires : goal.show-requires
 show-requires g c = select_briefs.plain

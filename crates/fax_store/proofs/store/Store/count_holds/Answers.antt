@@ -36,7 +36,7 @@ returns-clause-counted g c m k has clean mean =
     let same = c.in_ok-held.ensures.leaves.reads has.schema_is at_mid in
     let first = set_still old mid (λ _. 0) (no_calls old has) same in
     let rows = c.in_ok-held.held.items in
-    let shown = c.in_ok-held.ensures.shown at_mid in
+    let shown = c.in_ok-held.ensures.found at_mid in
     let jobs = subst (AreOfJobs m) (sym c.as_slice.ensures.value) (held_jobs old mid m k has.schema_is mean rows shown) in
     let few = subst (λ rs. length rs < 2 ^ 32) (sym c.as_slice.ensures.value) (held_few old mid m k has.schema_is mean rows shown) in
     ok_as c.count_rows.result (λ set. held_counted old mid m k has.schema_is mean rows shown mid new same.0.now_is (subst (λ rs. SetsCalls mid new (held_to m rs)) c.as_slice.ensures.value set))
@@ -50,5 +50,5 @@ returns-clause-cause g c has clean can =
     let same = c.in_ok-held.ensures.leaves.reads has.schema_is at_mid in
     let first = set_still old mid (λ _. 0) (no_calls old has) same in
     let rows = c.in_ok-held.held.items in
-    let callable = held_callable old mid has.schema_is rows (c.in_ok-held.ensures.shown at_mid) can in
+    let callable = held_callable old mid has.schema_is rows (c.in_ok-held.ensures.found at_mid) can in
     c.count_rows.ensures.cause (λ _. 0) (subst (AreCallable mid.now) (sym c.as_slice.ensures.value) (subst (λ (d : Database). AreCallable d rows) (sym same.0.now_is) callable)) (has_calls old mid (λ _. 0) first) none_small clean

@@ -1,61 +1,46 @@
-use Rattle.std.proofs.Common.{◌≡◌, [], ◌∷◌, OnOk, IfErr, sym, subst, rules}
+use Rattle.std.proofs.Common.{◌≡◌, [], ◌∷◌, subst, rules}
 use Rattle.std.specs.String.{string_bytes}
 use Rattle.sqlite.specs.Held.{state}
-use Rattle.sqlite.specs.State.{HasCleanDisk}
 use Rattle.sqlite.specs.Order.{Row}
 use Rattle.sqlite.specs.declared.types.Value.TheVariants.{Text}
 use Rattle.fax_core.specs.Job.{job_of}
+use Rattle.fax_job.specs.declared.job.JobFields.{JobFields}
 use Rattle.fax_schema.specs.declared.statements.TheConstants.{INSERT_JOB}
 use Rattle.fax_tables.specs.Job.{IsFormed, IsLawfulJob, job_shown}
+use Rattle.fax_store.specs.Calls.{WritesIf}
 use Rattle.fax_store.specs.Job.{IsNewJob, with_placed}
 use Rattle.fax_tables.specs.Row.{number}
-use Rattle.fax_store.specs.Store.{HasRun, IsRefusedFor}
-use Rattle.fax_store.specs.Work.{Moves}
 use Rattle.fax_store.proofs.JobLemmas.{job_put, job_goes, lawful_of_fields}
 use Rattle.fax_tables.proofs.RowLemmas.{shown_by}
-use Rattle.fax_store.proofs.WorkLemmas.{move_by, only_unavailable}
 use Rattle.fax_store.proofs.StatementLemmas.{edit_text}
 use Rattle.fax_schema.proofs.StatementTexts as texts
+use Rattle.fax_store.proofs.FrameLemmas.{inserts_with, writes_if_by}
 use Rattle.fax_store.proofs.store.Store.insert_job.Goals as goal
 
 pub returns : goal.returns
-returns g c = record {
-  leaves = search rules;
-  written = λ m₀ m k₀ k works s. let old = state g.S.Store c.args.self.now.conn in
-      let new = state g.S.Store c.insert.new.self.conn in
-      let j = c.fields-job.result.now in
-      let same : j ≡ c.args.job.now = c.fields-job.ensures.fields in
-      let params : Row = number j.job ∷ Text c.text.result.now ∷ Text c.as_str.result.now ∷ Text c.as_str-2.result.now ∷ Text c.text-2.result.now ∷ number c.seconds.result ∷ number c.killtime_number.result ∷ number c.from.result ∷ number c.from-2.result ∷ number c.from-3.result ∷ number c.from-4.result ∷ number c.from-5.result ∷ number c.from-6.result ∷ number c.from-7.result ∷ number c.from-8.result ∷ number c.from-9.result ∷ number c.phase_number.result ∷ number c.wish_number.result ∷ number j.next ∷ Text (string_bytes c.in_ok-extra.extra) ∷ [] in
-      let ran : OnOk c.insert.result (HasRun INSERT_JOB.now params old new) = subst (λ p. OnOk c.insert.result (HasRun INSERT_JOB.now p old new)) (search rules) (c.insert.ensures.ran s.clean) in
-      let shown : params ≡ job_shown j = shown_by j _ _ _ _ _ _ _ _ _ _ _ _ _ _ _ _ _ _
-      c.text.ensures.text c.as_str.ensures.text c.as_str-2.ensures.text c.text-2.ensures.text c.in_ok-extra.ensures.spelled c.seconds.ensures.seconds c.killtime_number.ensures.number
-      c.from.ensures c.from-2.ensures c.from-3.ensures c.from-4.ensures c.from-5.ensures c.from-6.ensures c.from-7.ensures c.from-8.ensures c.from-9.ensures c.phase_number.ensures c.wish_number.ensures in
-      let formed : IsFormed j = record {
-        dial = record { formed = search rules; utf8 = search rules };
-        modem = record { formed = search rules; utf8 = search rules };
-        jobtag = record { formed = search rules; utf8 = search rules };
-        status = record { formed = search rules; utf8 = search rules };
-        extra = c.in_ok-extra.ensures.lawful;
-        tts = search rules;
-        killtime = search rules;
-        priority = search rules;
-      } in
-      let lawful : IsLawfulJob (job_of j) = lawful_of_fields j (search rules) formed in
-      let done : OnOk c.insert.result (HasRun INSERT_JOB.now (job_shown j) old new) = subst (λ p. OnOk c.insert.result (HasRun INSERT_JOB.now p old new)) shown ran in
-      subst (λ f. Moves new c.insert.result m₀ k₀ (with_placed (job_of f) m) k) same
-      (move_by old new INSERT_JOB.now (job_shown j) 0 c.insert.result m₀ m (with_placed (job_of j) m) k₀ k k c.insert.ensures.leaves.served works s done (c.insert.ensures.left s.clean) (λ means has. job_put old new m k means j lawful has));
-  cause = λ m₀ m k₀ k works s free. let old = state g.S.Store c.args.self.now.conn in
-      let new = state g.S.Store c.insert.new.self.conn in
-      let j = c.fields-job.result.now in
-      let same : j ≡ c.args.job.now = c.fields-job.ensures.fields in
-      let params : Row = number j.job ∷ Text c.text.result.now ∷ Text c.as_str.result.now ∷ Text c.as_str-2.result.now ∷ Text c.text-2.result.now ∷ number c.seconds.result ∷ number c.killtime_number.result ∷ number c.from.result ∷ number c.from-2.result ∷ number c.from-3.result ∷ number c.from-4.result ∷ number c.from-5.result ∷ number c.from-6.result ∷ number c.from-7.result ∷ number c.from-8.result ∷ number c.from-9.result ∷ number c.phase_number.result ∷ number c.wish_number.result ∷ number j.next ∷ Text (string_bytes c.in_ok-extra.extra) ∷ [] in
-      let shown : params ≡ job_shown j = shown_by j _ _ _ _ _ _ _ _ _ _ _ _ _ _ _ _ _ _
-      c.text.ensures.text c.as_str.ensures.text c.as_str-2.ensures.text c.text-2.ensures.text c.in_ok-extra.ensures.spelled c.seconds.ensures.seconds c.killtime_number.ensures.number
-      c.from.ensures c.from-2.ensures c.from-3.ensures c.from-4.ensures c.from-5.ensures c.from-6.ensures c.from-7.ensures c.from-8.ensures c.from-9.ensures c.phase_number.ensures c.wish_number.ensures in
-      let told : HasCleanDisk new → IfErr c.insert.result (IsRefusedFor INSERT_JOB.now params old new) = λ clean. subst (λ p. IfErr c.insert.result (IsRefusedFor INSERT_JOB.now p old new)) (search rules) (c.insert.ensures.told clean) in
-      only_unavailable old new INSERT_JOB.now (job_shown j) c.insert.result (λ m k. IsNewJob (job_of j) m) c.insert.ensures.leaves.served (subst (λ p. HasCleanDisk new → IfErr c.insert.result (IsRefusedFor INSERT_JOB.now p old new)) shown told)
-      (λ m k means free e h. job_goes old new m k means j free e h) m₀ m k₀ k works s (subst (λ f. IsNewJob (job_of f) m) (sym same) free);
-}
+returns g c =
+    let old = state g.S.Store c.args.self.now.conn in
+    let new = state g.S.Store c.insert.new.self.conn in
+    let j = c.fields-job.result.now in
+    let same : j ≡ c.args.job.now = c.fields-job.ensures.fields in
+    let params : Row = number j.job ∷ Text c.text.result.now ∷ Text c.as_str.result.now ∷ Text c.as_str-2.result.now ∷ Text c.text-2.result.now ∷ number c.seconds.result ∷ number c.killtime_number.result ∷ number c.from.result ∷ number c.from-2.result ∷ number c.from-3.result ∷ number c.from-4.result ∷ number c.from-5.result ∷ number c.from-6.result ∷ number c.from-7.result ∷ number c.from-8.result ∷ number c.from-9.result ∷ number c.phase_number.result ∷ number c.wish_number.result ∷ number j.next ∷ Text (string_bytes c.in_ok-extra.extra) ∷ [] in
+    let shown : params ≡ job_shown j = shown_by j _ _ _ _ _ _ _ _ _ _ _ _ _ _ _ _ _ _
+    c.text.ensures.text c.as_str.ensures.text c.as_str-2.ensures.text c.text-2.ensures.text c.in_ok-extra.ensures.spelled c.seconds.ensures.seconds c.killtime_number.ensures.number
+    c.from.ensures c.from-2.ensures c.from-3.ensures c.from-4.ensures c.from-5.ensures c.from-6.ensures c.from-7.ensures c.from-8.ensures c.from-9.ensures c.phase_number.ensures c.wish_number.ensures in
+    let formed : IsFormed j = record {
+      dial = record { formed = search rules; utf8 = search rules };
+      modem = record { formed = search rules; utf8 = search rules };
+      jobtag = record { formed = search rules; utf8 = search rules };
+      status = record { formed = search rules; utf8 = search rules };
+      extra = c.in_ok-extra.ensures.lawful;
+      tts = search rules;
+      killtime = search rules;
+      priority = search rules;
+    } in
+    let lawful : IsLawfulJob (job_of j) = lawful_of_fields j (search rules) formed in
+    let inserts = inserts_with g.S.Store _ _ _ INSERT_JOB.now params (job_shown j) shown (inserts_with g.S.Store _ _ _ _ _ _ (search rules) c.insert.ensures) in
+    subst (λ (f : JobFields). WritesIf g.S.Store c.args.self.now c.insert.new.self c.insert.result (λ m k. IsNewJob (job_of f) m) (with_placed (job_of f)) (λ k. k)) same
+    (writes_if_by g.S.Store _ _ _ INSERT_JOB.now (job_shown j) 0 _ _ _ inserts (λ m k means has. job_put old new m k means j lawful has) (λ m k means free e h. job_goes old new m k means j free e h))
 
 pub insert-requires : goal.insert-requires
 insert-requires g c = edit_text INSERT_JOB.now _ tt texts.insert_job

@@ -8,18 +8,18 @@ pub returns-then-eq-clause-told : goal.returns-then-eq-clause-told
 returns-then-eq-clause-told g c clean =
     is_closed (state g.S.Store c.args.self.now.conn) (state g.S.Store c.prepare.new.self) COMMIT.now c.in-Err.error (search rules) (c.in-Err.ensures.err clean [])
 
-pub returns-then-eq-clause-served : goal.returns-then-eq-clause-served
-returns-then-eq-clause-served g c =
-    was_served (state g.S.Store c.args.self.now.conn) (state g.S.Store c.prepare.new.self) c.prepare.ensures.survives.clean COMMIT.now c.in-Err.error (λ clean. c.in-Err.ensures.err clean [])
+pub returns-then-eq-clause-leaves : goal.returns-then-eq-clause-leaves
+returns-then-eq-clause-leaves g c = record {
+  served = was_served (state g.S.Store c.args.self.now.conn) (state g.S.Store c.prepare.new.self) c.prepare.ensures.survives.clean COMMIT.now c.in-Err.error (λ clean. c.in-Err.ensures.err clean []);
+  clean = search rules;
+  stays = still_rests (state g.S.Store c.args.self.now.conn) (state g.S.Store c.prepare.new.self) c.prepare.ensures.survives.clean COMMIT.now c.in-Err.error (λ clean. c.in-Err.ensures.err clean []);
+  crash = search rules;
+}
 
-pub returns-then-eq-clause-stays : goal.returns-then-eq-clause-stays
-returns-then-eq-clause-stays g c =
-    still_rests (state g.S.Store c.args.self.now.conn) (state g.S.Store c.prepare.new.self) c.prepare.ensures.survives.clean COMMIT.now c.in-Err.error (λ clean. c.in-Err.ensures.err clean [])
-
-pub returns-clause-served : goal.returns-clause-served
-returns-clause-served g c =
-    was_served (state g.S.Store c.args.self.now.conn) (state g.S.Store c.prepare.new.self) c.prepare.ensures.survives.clean COMMIT.now c.in-Err.error (λ clean. c.in-Err.ensures.err clean [])
-
-pub returns-clause-stays : goal.returns-clause-stays
-returns-clause-stays g c =
-    still_rests (state g.S.Store c.args.self.now.conn) (state g.S.Store c.prepare.new.self) c.prepare.ensures.survives.clean COMMIT.now c.in-Err.error (λ clean. c.in-Err.ensures.err clean [])
+pub returns-clause-leaves : goal.returns-clause-leaves
+returns-clause-leaves g c = record {
+  served = was_served (state g.S.Store c.args.self.now.conn) (state g.S.Store c.prepare.new.self) c.prepare.ensures.survives.clean COMMIT.now c.in-Err.error (λ clean. c.in-Err.ensures.err clean []);
+  clean = search rules;
+  stays = still_rests (state g.S.Store c.args.self.now.conn) (state g.S.Store c.prepare.new.self) c.prepare.ensures.survives.clean COMMIT.now c.in-Err.error (λ clean. c.in-Err.ensures.err clean []);
+  crash = search rules;
+}

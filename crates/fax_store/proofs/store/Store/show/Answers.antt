@@ -2,7 +2,9 @@ use Rattle.std.proofs.Common.{rules, sym, subst}
 use Rattle.sqlite.specs.Given.{IsPlain}
 use Rattle.sqlite.specs.Held.{state}
 use Rattle.sqlite.specs.Listing.{understood}
+use Rattle.sqlite.specs.State.{HasCleanDisk}
 use Rattle.sqlite.specs.Values.{bound}
+use Rattle.fax_store.specs.Store.{LeavesCommit}
 use Rattle.fax_tables.proofs.ResultLemmas.{on_err}
 use Rattle.fax_store.proofs.StatementLemmas.{query_fails, left_open, shown_keeps, shown_open, shown_still}
 use Rattle.fax_store.proofs.StoreLemmas.{cleaner, served}
@@ -11,29 +13,31 @@ use Rattle.fax_store.proofs.StopLemmas.{queries_nothing}
 use Rattle.fax_store.proofs.FrameLemmas.{finds_by}
 use Rattle.fax_store.proofs.store.Store.show.Goals as goal
 
-pub returns-in_err-rows-clause-left : goal.returns-in_err-rows-clause-left
-returns-in_err-rows-clause-left g c clean =
-    on_err c.from_residual.result
-    (query_fails (state g.S.Store c.args.self.now.conn) (state g.S.Store c.query_all.new.self) c.args.sql.now (bound c.args.params.now) c.in_err-rows.field-0.0 (c.in_err-rows.ensures.err clean))
-
-pub returns-in_err-rows-clause-leaves : goal.returns-in_err-rows-clause-leaves
-returns-in_err-rows-clause-leaves g c =
+pub returns-in_err-rows : goal.returns-in_err-rows
+returns-in_err-rows g c =
     let old = state g.S.Store c.args.self.now.conn in
     let new = state g.S.Store c.query_all.new.self in
-    finds_by g.S.Store _ _ _
-    (λ s. let left = query_fails old new c.args.sql.now (bound c.args.params.now) c.in_err-rows.field-0.0 (c.in_err-rows.ensures.err s.clean) in served old new c.query_all.ensures.survives.clean s (left_open old new c.args.sql.now (bound c.args.params.now) left s.is_open))
-    (cleaner old new c.query_all.ensures.survives.clean)
-    (search rules)
-    (λ tables clean. reads_refused old new c.from_residual.result _ c.from_residual.ensures.1 (query_fails old new c.args.sql.now (bound c.args.params.now) c.in_err-rows.field-0.0 (c.in_err-rows.ensures.err clean)))
-    (queries_nothing old new c.args.sql.now (bound c.args.params.now) c.requires c.query_all.ensures.survives)
+    let left : HasCleanDisk new → LeavesCommit old new = λ clean. query_fails old new c.args.sql.now (bound c.args.params.now) c.in_err-rows.field-0.0 (c.in_err-rows.ensures.err clean) in
+    record {
+      leaves = finds_by g.S.Store _ _ _ (λ s. served old new c.query_all.ensures.survives.clean s (left_open old new c.args.sql.now (bound c.args.params.now) (left s.clean) s.is_open))
+          (cleaner old new c.query_all.ensures.survives.clean) (search rules) (λ tables clean. reads_refused old new c.from_residual.result _ c.from_residual.ensures.1 (left clean))
+          (queries_nothing old new c.args.sql.now (bound c.args.params.now) c.requires c.query_all.ensures.survives);
+      found = search rules;
+      left = λ clean. on_err c.from_residual.result (left clean);
+      cause = search rules;
+    }
 
-pub returns-clause-leaves : goal.returns-clause-leaves
-returns-clause-leaves g c =
+pub returns : goal.returns
+returns g c =
     let old = state g.S.Store c.args.self.now.conn in
     let new = state g.S.Store c.query_all.new.self in
-    finds_by g.S.Store _ _ _
-    (λ s. served old new c.query_all.ensures.survives.clean s (shown_open old new c.args.sql.now (bound c.args.params.now) c.in_ok-rows.rows.items (c.in_ok-rows.ensures.ok s.clean)))
-    (cleaner old new c.query_all.ensures.survives.clean)
-    (λ clean. record { clean = clean; is_open = shown_still old new c.args.sql.now (bound c.args.params.now) c.in_ok-rows.rows.items (c.in_ok-rows.ensures.ok clean) })
-    (λ tables clean. shown_keeps old new c.args.sql.now (bound c.args.params.now) (subst (λ s. IsPlain (understood s c.args.sql.now)) (sym tables) c.requires) c.in_ok-rows.rows.items (c.in_ok-rows.ensures.ok clean))
-    (queries_nothing old new c.args.sql.now (bound c.args.params.now) c.requires c.query_all.ensures.survives)
+    record {
+      leaves = finds_by g.S.Store _ _ _ (λ s. served old new c.query_all.ensures.survives.clean s (shown_open old new c.args.sql.now (bound c.args.params.now) c.in_ok-rows.rows.items (c.in_ok-rows.ensures.ok s.clean)))
+          (cleaner old new c.query_all.ensures.survives.clean)
+          (λ clean. record { clean = clean; is_open = shown_still old new c.args.sql.now (bound c.args.params.now) c.in_ok-rows.rows.items (c.in_ok-rows.ensures.ok clean) })
+          (λ tables clean. shown_keeps old new c.args.sql.now (bound c.args.params.now) (subst (λ s. IsPlain (understood s c.args.sql.now)) (sym tables) c.requires) c.in_ok-rows.rows.items (c.in_ok-rows.ensures.ok clean))
+          (queries_nothing old new c.args.sql.now (bound c.args.params.now) c.requires c.query_all.ensures.survives);
+      found = c.in_ok-rows.ensures.ok;
+      left = search rules;
+      cause = search rules;
+    }

@@ -10,19 +10,18 @@ use Rattle.fax_schema.proofs.StatementTexts.{job_project, select_waiting}
 use Rattle.fax_store.proofs.FrameLemmas.{finds_as}
 use Rattle.fax_store.proofs.store.Store.waiting.Goals as goal
 
-pub returns-clause-answers : goal.returns-clause-answers
-returns-clause-answers g c m k means s =
-    let old = state g.S.Store c.args.self.now.conn in
-    let new = state g.S.Store c.show.new.self.conn in
-    let t = c.args.t in
-    let means_now = means (c.in_ok-rows.ensures.leaves.served s) in
-    let shown : Shown SELECT_WAITING.now (waiting.params t [] [] job_project) old new c.in_ok-rows.rows.items = subst (λ p. Shown SELECT_WAITING.now p old new c.in_ok-rows.rows.items) (search rules) (c.in_ok-rows.ensures.shown s.clean) in
-    let it = waiting.waiting_found t old new m k means_now c.in_ok-rows.rows.items shown in
-    let lawful = waiting.all_waiting t m it.0 it.2 means_now.lawful.jobs in
-    or_weaker c.jobs_in.result (λ found. found.items ≡ map fields_of it.0) (λ found. IsWaiting t m found.items) (λ found is. (it.0, is, it.2)) (c.jobs_in.ensures.found it.0 (search rules) lawful)
-
-pub returns-clause-leaves : goal.returns-clause-leaves
-returns-clause-leaves g c = finds_as g.S.Store _ _ _ _ c.in_ok-rows.ensures.leaves
+pub returns : goal.returns
+returns g c = record {
+  leaves = finds_as g.S.Store _ _ _ _ c.in_ok-rows.ensures.leaves;
+  answers = λ m k means s. let old = state g.S.Store c.args.self.now.conn in
+      let new = state g.S.Store c.show.new.self.conn in
+      let t = c.args.t in
+      let means_now = means (c.in_ok-rows.ensures.leaves.served s) in
+      let shown : Shown SELECT_WAITING.now (waiting.params t [] [] job_project) old new c.in_ok-rows.rows.items = subst (λ p. Shown SELECT_WAITING.now p old new c.in_ok-rows.rows.items) (search rules) (c.in_ok-rows.ensures.found s.clean) in
+      let it = waiting.waiting_found t old new m k means_now c.in_ok-rows.rows.items shown in
+      let lawful = waiting.all_waiting t m it.0 it.2 means_now.lawful.jobs in
+      or_weaker c.jobs_in.result (λ found. found.items ≡ map fields_of it.0) (λ found. IsWaiting t m found.items) (λ found is. (it.0, is, it.2)) (c.jobs_in.ensures.found it.0 (search rules) lawful);
+}
 
 pub show-requires : goal.show-requires
 show-requires g c = select_waiting.plain

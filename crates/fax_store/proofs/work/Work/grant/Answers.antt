@@ -1,6 +1,6 @@
 use Rattle.std.proofs.Common.{refl}
-use Rattle.fax_store.proofs.FrameLemmas.{tells_by}
+use Rattle.fax_store.proofs.FrameLemmas.{tells_lawful_by}
 use Rattle.fax_store.proofs.work.Work.grant.Goals as goal
 
-pub returns-clause-answers : goal.returns-clause-answers
-returns-clause-answers g c = tells_by g.S.Store _ _ _ c.if-self.false c.is_err-self.ensures.value refl _ c.grant-found.ensures.leaves c.grant-found.ensures.answers
+pub returns : goal.returns
+returns g c = tells_lawful_by g.S.Store _ _ _ c.if-self.false c.is_err-self.ensures.value refl _ _ c.grant-found.ensures.leaves c.grant-found.ensures.answers c.grant-found.ensures.lawful

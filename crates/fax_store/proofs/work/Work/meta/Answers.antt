@@ -1,6 +1,6 @@
 use Rattle.std.proofs.Common.{refl}
-use Rattle.fax_store.proofs.FrameLemmas.{tells_by}
+use Rattle.fax_store.proofs.FrameLemmas.{tells_lawful_by}
 use Rattle.fax_store.proofs.work.Work.meta.Goals as goal
 
-pub returns-clause-answers : goal.returns-clause-answers
-returns-clause-answers g c = tells_by g.S.Store _ _ _ c.if-self.false c.is_err-self.ensures.value refl _ c.meta-found.ensures.leaves c.meta-found.ensures.answers
+pub returns : goal.returns
+returns g c = tells_lawful_by g.S.Store _ _ _ c.if-self.false c.is_err-self.ensures.value refl _ _ c.meta-found.ensures.leaves c.meta-found.ensures.answers c.meta-found.ensures.lawful
