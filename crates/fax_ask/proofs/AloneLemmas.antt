@@ -17,13 +17,17 @@ use Rattle.fax_lines.specs.Reading.{fault_at}
 use Rattle.fax_lines.proofs.FaultLemmas.{fault_or_list, first_fault_alone}
 use Rattle.fax_lines.proofs.TextLemmas.{spelled_alone}
 use Rattle.fax_core.specs.declared.ask.Ask.TheVariants as machine
+use Rattle.fax_core.specs.declared.ask.JobAsk.{JobAsk}
+use Rattle.fax_core.specs.declared.ask.JobAsk.TheVariants as asked
+use Rattle.fax_ask.specs.declared.request.Action.{Action}
+use Rattle.fax_ask.specs.declared.request.Action.TheVariants.{Suspend, Resume, Kill, Alter}
 use Rattle.fax_ask.specs.declared.request.Request.{Request}
-use Rattle.fax_ask.specs.declared.request.Request.TheVariants.{Submit, Import, Suspend, Resume, Kill, Alter, Show, Ready, Down, Next, Call, Page, Outcome, Floor}
+use Rattle.fax_ask.specs.declared.request.Request.TheVariants.{Show, Submit, Import, OnJob, Mark, Next, OnGrant, Floor}
 use Rattle.fax_ask.specs.declared.ask.Ask.{Ask}
 use Rattle.fax_ask.specs.declared.ask.Ask.TheVariants.{Step}
-use Rattle.fax_ask.specs.Ask.{States, HasFault, IsLinesFault, IsLinesRefusal, Asks, IsBodyRefusal}
+use Rattle.fax_ask.specs.Ask.{States, HasFault, IsLinesFault, IsLinesRefusal, Asks, AsksOfJob, IsActionRefusal, IsBodyRefusal}
 use Rattle.fax_ask.specs.Laws.{OneAsk, OneFault, AskOrRefusal}
-use Rattle.fax_ask.specs.Report.{IsJson, IsReportFault, IsReportRefusal, Reports, call_in, outcome_in, page_in, upto_in}
+use Rattle.fax_ask.specs.Report.{IsJson, IsReportFault, IsReportRefusal, Reports, report_in, upto_in}
 use Rattle.fax_ask.specs.Request.{request_of}
 
 abbrev well : {T : Type 0} → T → Result T OrderFault
@@ -81,39 +85,41 @@ module _ {T : Type 0} (report_in : Data → Option T) (body : List ℕ) where
 
 -- ---- requests with their bodies
 
+-- a client asks one thing of a job
+job_alone : (action : Action) (body : List ℕ) (a b : JobAsk) → AsksOfJob action body a → AsksOfJob action body b → a ≡ b
+job_alone Suspend body a b h g = h ∙ sym g
+job_alone Resume body a b h g = h ∙ sym g
+job_alone Kill body a b h g = h ∙ sym g
+job_alone Alter body a b h g = h.2 ∙ (ap (λ o. asked.Alter o) (states_alone alter_of body h.0 g.0 h.1 g.1) ∙ sym g.2)
+
 -- a request with its body asks for one thing
 asks_alone : (request : Request) (body : List ℕ) (a b : Ask) → Asks request body a → Asks request body b → a ≡ b
+asks_alone (Show job) body a b h g = h ∙ sym g
 asks_alone Submit body a b h g = h.2 ∙ (ap (λ o. Step (machine.Submission o)) (states_alone order_of body h.0 g.0 h.1 g.1) ∙ sym g.2)
 asks_alone Import body a b h g = h.2 ∙ (ap (λ i. Step (machine.Bring i)) (states_alone import_of body h.0 g.0 h.1 g.1) ∙ sym g.2)
-asks_alone (Alter job) body a b h g = h.2 ∙ (ap (λ o. Step (machine.Alteration job o)) (states_alone alter_of body h.0 g.0 h.1 g.1) ∙ sym g.2)
-asks_alone (Call grant) body a b h g = h.2 ∙ (ap (λ o. Step (machine.CallReport grant o)) (reports_alone call_in body h.0 g.0 h.1 g.1) ∙ sym g.2)
-asks_alone (Page grant) body a b h g = h.2 ∙ (ap (λ o. Step (machine.PageReport grant o)) (reports_alone page_in body h.0 g.0 h.1 g.1) ∙ sym g.2)
-asks_alone (Outcome grant) body a b h g = h.2 ∙ (ap (λ o. Step (machine.OutcomeReport grant o)) (reports_alone outcome_in body h.0 g.0 h.1 g.1) ∙ sym g.2)
-asks_alone Floor body a b h g = h.2 ∙ (ap (λ n. Step (machine.GiveUp n)) (reports_alone upto_in body h.0 g.0 h.1 g.1) ∙ sym g.2)
-asks_alone (Suspend job) body a b h g = h ∙ sym g
-asks_alone (Resume job) body a b h g = h ∙ sym g
-asks_alone (Kill job) body a b h g = h ∙ sym g
-asks_alone (Show job) body a b h g = h ∙ sym g
-asks_alone (Ready modem) body a b h g = h ∙ sym g
-asks_alone (Down modem) body a b h g = h ∙ sym g
+asks_alone (OnJob job action) body a b h g = h.2 ∙ (ap (λ o. Step (machine.OnJob job o)) (job_alone action body h.0 g.0 h.1 g.1) ∙ sym g.2)
+asks_alone (Mark modem down) body a b h g = h ∙ sym g
 asks_alone (Next modem) body a b h g = h ∙ sym g
+asks_alone (OnGrant grant kind) body a b h g = h.2 ∙ (ap (λ o. Step (machine.OnGrant grant o)) (reports_alone (report_in kind) body h.0 g.0 h.1 g.1) ∙ sym g.2)
+asks_alone Floor body a b h g = h.2 ∙ (ap (λ n. Step (machine.GiveUp n)) (reports_alone upto_in body h.0 g.0 h.1 g.1) ∙ sym g.2)
 
--- what asks for something is refused for want of memory alone
+-- what a client asks of a job is refused for want of memory alone
+job_or_refusal : (action : Action) (body : List ℕ) (a : JobAsk) (refusal : Refusal) → AsksOfJob action body a → IsActionRefusal action body refusal → refusal ≡ Unavailable
+job_or_refusal Suspend body a refusal h r = absurd r
+job_or_refusal Resume body a refusal h r = absurd r
+job_or_refusal Kill body a refusal h r = absurd r
+job_or_refusal Alter body a refusal h r = states_or_refusal alter_of body h.0 refusal h.1 r
+
+-- so is what asks for something
 ask_or_refusal : (request : Request) (body : List ℕ) (a : Ask) (refusal : Refusal) → Asks request body a → IsBodyRefusal request body refusal → refusal ≡ Unavailable
+ask_or_refusal (Show job) body a refusal h r = absurd r
 ask_or_refusal Submit body a refusal h r = states_or_refusal order_of body h.0 refusal h.1 r
 ask_or_refusal Import body a refusal h r = states_or_refusal import_of body h.0 refusal h.1 r
-ask_or_refusal (Alter job) body a refusal h r = states_or_refusal alter_of body h.0 refusal h.1 r
-ask_or_refusal (Call grant) body a refusal h r = reports_or_refusal call_in body h.0 refusal h.1 r
-ask_or_refusal (Page grant) body a refusal h r = reports_or_refusal page_in body h.0 refusal h.1 r
-ask_or_refusal (Outcome grant) body a refusal h r = reports_or_refusal outcome_in body h.0 refusal h.1 r
-ask_or_refusal Floor body a refusal h r = reports_or_refusal upto_in body h.0 refusal h.1 r
-ask_or_refusal (Suspend job) body a refusal h r = absurd r
-ask_or_refusal (Resume job) body a refusal h r = absurd r
-ask_or_refusal (Kill job) body a refusal h r = absurd r
-ask_or_refusal (Show job) body a refusal h r = absurd r
-ask_or_refusal (Ready modem) body a refusal h r = r
-ask_or_refusal (Down modem) body a refusal h r = r
+ask_or_refusal (OnJob job action) body a refusal h r = job_or_refusal action body h.0 refusal h.1 r
+ask_or_refusal (Mark modem down) body a refusal h r = r
 ask_or_refusal (Next modem) body a refusal h r = r
+ask_or_refusal (OnGrant grant kind) body a refusal h r = reports_or_refusal (report_in kind) body h.0 refusal h.1 r
+ask_or_refusal Floor body a refusal h r = reports_or_refusal upto_in body h.0 refusal h.1 r
 
 -- ---- the whole
 
@@ -172,22 +178,23 @@ module _ {T : Type 0} (report_in : Data → Option T) (body : List ℕ) where
   one_report_fault BadField (Line line kind) h g = absurd g
   one_report_fault BadField (Order fault) h g = absurd g
 
+-- an action with its body has one fault
+action_fault : (action : Action) (body : List ℕ) (f g : BodyFault) → IsActionRefusal action body (BadBody f) → IsActionRefusal action body (BadBody g) → f ≡ g
+action_fault Suspend body f g h r = absurd h
+action_fault Resume body f g h r = absurd h
+action_fault Kill body f g h r = absurd h
+action_fault Alter body f g h r = one_lines_fault alter_of body f g h r
+
 -- a request with its body has one fault
 fault_alone : (request : Request) (body : List ℕ) (f g : BodyFault) → IsBodyRefusal request body (BadBody f) → IsBodyRefusal request body (BadBody g) → f ≡ g
+fault_alone (Show job) body f g h r = absurd h
 fault_alone Submit body f g h r = one_lines_fault order_of body f g h r
 fault_alone Import body f g h r = one_lines_fault import_of body f g h r
-fault_alone (Alter job) body f g h r = one_lines_fault alter_of body f g h r
-fault_alone (Call grant) body f g h r = one_report_fault call_in body f g h r
-fault_alone (Page grant) body f g h r = one_report_fault page_in body f g h r
-fault_alone (Outcome grant) body f g h r = one_report_fault outcome_in body f g h r
-fault_alone Floor body f g h r = one_report_fault upto_in body f g h r
-fault_alone (Suspend job) body f g h r = absurd h
-fault_alone (Resume job) body f g h r = absurd h
-fault_alone (Kill job) body f g h r = absurd h
-fault_alone (Show job) body f g h r = absurd h
-fault_alone (Ready modem) body f g h r = absurd cc
-fault_alone (Down modem) body f g h r = absurd cc
+fault_alone (OnJob job action) body f g h r = action_fault action body f g h r
+fault_alone (Mark modem down) body f g h r = absurd cc
 fault_alone (Next modem) body f g h r = absurd cc
+fault_alone (OnGrant grant kind) body f g h r = one_report_fault (report_in kind) body f g h r
+fault_alone Floor body f g h r = one_report_fault upto_in body f g h r
 
 -- the same whether the path has a request or not
 fault_by : (o : Option Request) (body : List ℕ) (f g : BodyFault) → MatchOption o (BadBody f ≡ NoRoute) (λ request. IsBodyRefusal request body (BadBody f)) → MatchOption o (BadBody g ≡ NoRoute) (λ request. IsBodyRefusal request body (BadBody g)) → f ≡ g

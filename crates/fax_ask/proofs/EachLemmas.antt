@@ -18,11 +18,15 @@ use Rattle.fax_lines.specs.Reading.{lines, read_on}
 use Rattle.fax_lines.specs.Spells.{Spells, IsFaultBehind}
 use Rattle.fax_lines.proofs.FoundLemmas.{found}
 use Rattle.fax_core.specs.declared.ask.Ask.TheVariants as machine
-use Rattle.fax_ask.specs.declared.request.Request.TheVariants.{Submit, Import, Suspend, Resume, Kill, Alter, Show, Ready, Down, Next, Call, Page, Outcome, Floor}
+use Rattle.fax_core.specs.declared.ask.JobAsk.{JobAsk}
+use Rattle.fax_core.specs.declared.ask.JobAsk.TheVariants as asked
+use Rattle.fax_ask.specs.declared.request.Action.{Action}
+use Rattle.fax_ask.specs.declared.request.Action.TheVariants.{Suspend, Resume, Kill, Alter}
+use Rattle.fax_ask.specs.declared.request.Request.TheVariants.{Show, Submit, Import, OnJob, Mark, Next, OnGrant, Floor}
 use Rattle.fax_ask.specs.declared.ask.Ask.TheVariants.{Step, View}
-use Rattle.fax_ask.specs.Ask.{States, IsLinesRefusal}
+use Rattle.fax_ask.specs.Ask.{AsksOfJob, IsActionRefusal, IsLinesRefusal, States}
 use Rattle.fax_ask.specs.Laws.{AsksOrHasFault}
-use Rattle.fax_ask.specs.Report.{IsJson, IsReportRefusal, Reports, call_in, outcome_in, page_in, upto_in}
+use Rattle.fax_ask.specs.Report.{IsJson, IsReportRefusal, Reports, report_in, upto_in}
 
 module _ {T : Type 0} (value_of : List Pair → Result T OrderFault) (body : List ℕ) where
   abbrev IsRead : Type 0
@@ -70,19 +74,20 @@ text_or_none (Err fault) P Q body h = inr h.0
 
 -- ---- requests with their bodies
 
+-- so does an action on a job
+action_of : (body : List ℕ) → IsUtf8 body ⊎ (¬ (IsUtf8 body)) → (action : Action) → ((ask : JobAsk) × AsksOfJob action body ask) ⊎ ((fault : BodyFault) × IsActionRefusal action body (BadBody fault))
+action_of body utf8 Suspend = inl (asked.Suspend, refl)
+action_of body utf8 Resume = inl (asked.Resume, refl)
+action_of body utf8 Kill = inl (asked.Kill, refl)
+action_of body utf8 Alter = elim (states_or_fault alter_of body utf8) [ inl x ↦ inl (asked.Alter x.0, (x.0, x.1, refl)) | inr f ↦ inr f ]
+
 -- each request asks for something, or its body has a fault
 pub each_of : (body : List ℕ) → IsUtf8 body ⊎ (¬ (IsUtf8 body)) → AsksOrHasFault body
+each_of body utf8 (Show view) = inl (View view, refl)
 each_of body utf8 Submit = elim (states_or_fault order_of body utf8) [ inl x ↦ inl (Step (machine.Submission x.0), (x.0, x.1, refl)) | inr f ↦ inr f ]
 each_of body utf8 Import = elim (states_or_fault import_of body utf8) [ inl x ↦ inl (Step (machine.Bring x.0), (x.0, x.1, refl)) | inr f ↦ inr f ]
-each_of body utf8 (Alter job) = elim (states_or_fault alter_of body utf8) [ inl x ↦ inl (Step (machine.Alteration job x.0), (x.0, x.1, refl)) | inr f ↦ inr f ]
-each_of body utf8 (Call grant) = elim (says_or_fault call_in body utf8) [ inl x ↦ inl (Step (machine.CallReport grant x.0), (x.0, x.1, refl)) | inr f ↦ inr f ]
-each_of body utf8 (Page grant) = elim (says_or_fault page_in body utf8) [ inl x ↦ inl (Step (machine.PageReport grant x.0), (x.0, x.1, refl)) | inr f ↦ inr f ]
-each_of body utf8 (Outcome grant) = elim (says_or_fault outcome_in body utf8) [ inl x ↦ inl (Step (machine.OutcomeReport grant x.0), (x.0, x.1, refl)) | inr f ↦ inr f ]
-each_of body utf8 Floor = elim (says_or_fault upto_in body utf8) [ inl x ↦ inl (Step (machine.GiveUp x.0), (x.0, x.1, refl)) | inr f ↦ inr f ]
-each_of body utf8 (Suspend job) = inl (Step (machine.Suspend job), refl)
-each_of body utf8 (Resume job) = inl (Step (machine.Resume job), refl)
-each_of body utf8 (Kill job) = inl (Step (machine.Kill job), refl)
-each_of body utf8 (Show view) = inl (View view, refl)
-each_of body utf8 (Ready modem) = inl (Step (machine.Ready modem), refl)
-each_of body utf8 (Down modem) = inl (Step (machine.Down modem), refl)
+each_of body utf8 (OnJob job action) = elim (action_of body utf8 action) [ inl x ↦ inl (Step (machine.OnJob job x.0), (x.0, x.1, refl)) | inr f ↦ inr f ]
+each_of body utf8 (Mark modem down) = inl (Step (machine.Mark modem down), refl)
 each_of body utf8 (Next modem) = inl (Step (machine.Next modem), refl)
+each_of body utf8 (OnGrant grant kind) = elim (says_or_fault (report_in kind) body utf8) [ inl x ↦ inl (Step (machine.OnGrant grant x.0), (x.0, x.1, refl)) | inr f ↦ inr f ]
+each_of body utf8 Floor = elim (says_or_fault upto_in body utf8) [ inl x ↦ inl (Step (machine.GiveUp x.0), (x.0, x.1, refl)) | inr f ↦ inr f ]

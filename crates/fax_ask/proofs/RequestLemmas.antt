@@ -16,8 +16,10 @@ use Rattle.fax_lines.specs.Spells.{has_byte}
 use Rattle.fax_ask.specs.Laws.{RoutedPathsLackLf}
 use Rattle.fax_ask.specs.declared.method.Method.{Method}
 use Rattle.fax_ask.specs.declared.method.Method.TheVariants.{Get, Post, Another}
+use Rattle.fax_ask.specs.declared.request.Action.TheVariants.{Suspend, Resume, Kill, Alter}
+use Rattle.fax_ask.specs.declared.request.ReportKind.TheVariants.{Call, Page, Outcome}
 use Rattle.fax_ask.specs.declared.request.Request.{Request}
-use Rattle.fax_ask.specs.declared.request.Request.TheVariants.{Suspend, Resume, Kill, Alter, Ready, Down, Next, Call, Page, Outcome, Floor}
+use Rattle.fax_ask.specs.declared.request.Request.TheVariants.{OnJob, Mark, Next, OnGrant, Floor}
 use Rattle.fax_ask.specs.Path.{parts, two_texts}
 use Rattle.fax_ask.specs.Request.{job_request, jobs_request, modem_action, modem_request, modems_request, grant_report, grant_request, grants_request, imports_request, numbers_request, root_request, path_request, request_of}
 use Rattle.fax_ask.proofs.PathLemmas.{byte_of_parts}
@@ -62,7 +64,7 @@ numbers_lack_lf text n false h = of_number text n (is_number text) refl h
 -- an action on a job that names a request has no LF
 in_action : (job : ℕ) (action : List ℕ) (request : Request) (a b c d : Bool)
     → bytes_eq action (codes "suspend") ≡ a → bytes_eq action (codes "resume") ≡ b → bytes_eq action (codes "kill") ≡ c → bytes_eq action (codes "alter") ≡ d
-    → cond a (Some (Suspend job)) (cond b (Some (Resume job)) (cond c (Some (Kill job)) (cond d (Some (Alter job)) None))) ≡ Some request
+    → cond a (Some (OnJob job Suspend)) (cond b (Some (OnJob job Resume)) (cond c (Some (OnJob job Kill)) (cond d (Some (OnJob job Alter)) None))) ≡ Some request
     → has_byte 10 action ≡ false
 in_action job action request true b c d e f g h is = same_text action (codes "suspend") e refl
 in_action job action request false true c d e f g h is = same_text action (codes "resume") f refl
@@ -126,7 +128,7 @@ in_two (first ∷ second ∷ third ∷ more) texts e h g = absurd cc
 -- an action on a modem that names a request has none
 in_modem_action : (modem action : List ℕ) (request : Request) (a b c : Bool)
     → bytes_eq action (codes "ready") ≡ a → bytes_eq action (codes "down") ≡ b → bytes_eq action (codes "next") ≡ c
-    → cond a (Some (Ready modem)) (cond b (Some (Down modem)) (cond c (Some (Next modem)) None)) ≡ Some request
+    → cond a (Some (Mark modem false)) (cond b (Some (Mark modem true)) (cond c (Some (Next modem)) None)) ≡ Some request
     → has_byte 10 action ≡ false
 in_modem_action modem action request true b c e f g is = same_text action (codes "ready") e refl
 in_modem_action modem action request false true c e f g is = same_text action (codes "down") f refl
@@ -154,7 +156,7 @@ in_modems Another rest request is = absurd cc
 -- a report on a grant that names a request has none
 in_report : (grant : ℕ) (report : List ℕ) (request : Request) (a b c : Bool)
     → bytes_eq report (codes "call") ≡ a → bytes_eq report (codes "page") ≡ b → bytes_eq report (codes "outcome") ≡ c
-    → cond a (Some (Call grant)) (cond b (Some (Page grant)) (cond c (Some (Outcome grant)) None)) ≡ Some request
+    → cond a (Some (OnGrant grant Call)) (cond b (Some (OnGrant grant Page)) (cond c (Some (OnGrant grant Outcome)) None)) ≡ Some request
     → has_byte 10 report ≡ false
 in_report grant report request true b c e f g is = same_text report (codes "call") e refl
 in_report grant report request false true c e f g is = same_text report (codes "page") f refl

@@ -11,10 +11,12 @@ use Rattle.fax_value.specs.Name.{is_name}
 use Rattle.fax_value.specs.Number.{request_number_of}
 use Rattle.fax_ask.specs.declared.method.Method.{Method}
 use Rattle.fax_ask.specs.declared.method.Method.TheVariants.{Get, Post, Another}
+use Rattle.fax_ask.specs.declared.request.Action.TheVariants.{Suspend, Resume, Kill, Alter}
+use Rattle.fax_ask.specs.declared.request.ReportKind.TheVariants.{Call, Page, Outcome}
 use Rattle.fax_ask.specs.declared.request.Request.{Request}
 use Rattle.fax_ask.specs.declared.request.Request.TheVariants as request
 use Rattle.fax_ask.specs.declared.routes.Route.{Route}
-use Rattle.fax_ask.specs.declared.routes.Route.TheVariants.{Jobs, Job, Suspend, Resume, Kill, Alter, Ready, Down, Next, Call, Page, Outcome, Imports, Floor}
+use Rattle.fax_ask.specs.declared.routes.Route.TheVariants.{Jobs, Job, OnJob, Mark, Next, OnGrant, Imports, Floor}
 use Rattle.fax_ask.specs.Path.{parts, two_texts}
 use Rattle.fax_ask.specs.Request.{grant_report, grant_request, job_action, job_request, jobs_request, modem_action, modem_request, modems_request, grants_request, imports_request, numbers_request, root_request, path_request, request_of}
 use Rattle.fax_ask.specs.Routes.{posted, route_request, shown, table}
@@ -38,18 +40,18 @@ action w name value = (name, id_route w (47 ∷ name) value)
 
 abbrev of_jobs : List (List ℕ × Entry)
 of_jobs =
-    action (codes "/jobs/") (codes "alter") Alter ∷ action (codes "/jobs/") (codes "kill") Kill
-    ∷ action (codes "/jobs/") (codes "resume") Resume ∷ action (codes "/jobs/") (codes "suspend") Suspend ∷ []
+    action (codes "/jobs/") (codes "alter") (OnJob Alter) ∷ action (codes "/jobs/") (codes "kill") (OnJob Kill)
+    ∷ action (codes "/jobs/") (codes "resume") (OnJob Resume) ∷ action (codes "/jobs/") (codes "suspend") (OnJob Suspend) ∷ []
 
 abbrev of_modems : List (List ℕ × Entry)
 of_modems =
-    action (codes "/modems/") (codes "down") Down ∷ action (codes "/modems/") (codes "next") Next
-    ∷ action (codes "/modems/") (codes "ready") Ready ∷ []
+    action (codes "/modems/") (codes "down") (Mark true) ∷ action (codes "/modems/") (codes "next") Next
+    ∷ action (codes "/modems/") (codes "ready") (Mark false) ∷ []
 
 abbrev of_grants : List (List ℕ × Entry)
 of_grants =
-    action (codes "/grants/") (codes "call") Call ∷ action (codes "/grants/") (codes "outcome") Outcome
-    ∷ action (codes "/grants/") (codes "page") Page ∷ []
+    action (codes "/grants/") (codes "call") (OnGrant Call) ∷ action (codes "/grants/") (codes "outcome") (OnGrant Outcome)
+    ∷ action (codes "/grants/") (codes "page") (OnGrant Page) ∷ []
 
 -- what follows the name of each collection
 abbrev jobs_end : Option Entry
@@ -173,12 +175,12 @@ jobs_are = record {
   last = λ id u. last_says (codes "/jobs/") Job (λ method. jobs_request method (id ∷ [])) id refl refl u
       (by_method (λ method. jobs_request method (id ∷ [])) Job id refl (always_none (request_number_of id)) (always_none (request_number_of id)));
   words = λ id u f. (
-    job_word id u f (codes "alter") Alter refl refl refl,
+    job_word id u f (codes "alter") (OnJob Alter) refl refl refl,
     (
-      job_word id u f (codes "kill") Kill refl refl refl,
+      job_word id u f (codes "kill") (OnJob Kill) refl refl refl,
       (
-        job_word id u f (codes "resume") Resume refl refl refl,
-        (job_word id u f (codes "suspend") Suspend refl refl refl, tt),
+        job_word id u f (codes "resume") (OnJob Resume) refl refl refl,
+        (job_word id u f (codes "suspend") (OnJob Suspend) refl refl refl, tt),
       ),
     ),
   );
@@ -222,10 +224,10 @@ modems_are = record {
   no_id = λ rest method. elim method as (λ m. modems_request m ([] ∷ rest) ≡ None) [ Get ↦ refl | Post ↦ no_modem rest | Another ↦ refl ];
   last = λ id u method. elim method as (λ m. modems_request m (id ∷ []) ≡ None) [ Get ↦ refl | Post ↦ refl | Another ↦ refl ];
   words = λ id u f. (
-    modem_word id u f (codes "down") Down (on_name (is_name id) request.Down id) refl refl,
+    modem_word id u f (codes "down") (Mark true) (on_name (is_name id) (λ modem. request.Mark modem true) id) refl refl,
     (
       modem_word id u f (codes "next") Next (on_name (is_name id) request.Next id) refl refl,
-      (modem_word id u f (codes "ready") Ready (on_name (is_name id) request.Ready id) refl refl, tt),
+      (modem_word id u f (codes "ready") (Mark false) (on_name (is_name id) (λ modem. request.Mark modem false) id) refl refl, tt),
     ),
   );
   others = λ id text none method. elim method as (λ m. modems_request m (id ∷ text ∷ []) ≡ None) [ Get ↦ refl | Post ↦ no_modem_word id text none | Another ↦ refl ];
@@ -260,10 +262,10 @@ grants_are = record {
   no_id = λ rest method. elim method as (λ m. grants_request m ([] ∷ rest) ≡ None) [ Get ↦ refl | Post ↦ no_grant rest | Another ↦ refl ];
   last = λ id u method. elim method as (λ m. grants_request m (id ∷ []) ≡ None) [ Get ↦ refl | Post ↦ refl | Another ↦ refl ];
   words = λ id u f. (
-    grant_word id u f (codes "call") Call refl refl refl,
+    grant_word id u f (codes "call") (OnGrant Call) refl refl refl,
     (
-      grant_word id u f (codes "outcome") Outcome refl refl refl,
-      (grant_word id u f (codes "page") Page refl refl refl, tt),
+      grant_word id u f (codes "outcome") (OnGrant Outcome) refl refl refl,
+      (grant_word id u f (codes "page") (OnGrant Page) refl refl refl, tt),
     ),
   );
   others = λ id text none method. elim method as (λ m. grants_request m (id ∷ text ∷ []) ≡ None) [ Get ↦ refl | Post ↦ no_grant_word (request_number_of id) text none | Another ↦ refl ];

@@ -1,7 +1,9 @@
 -- Worked rows: which method and path name which request.
 use Rattle.std.specs.Prelude.{◌≡◌, refl, codes, Some, None}
 use Rattle.fax_ask.specs.declared.method.Method.TheVariants.{Get, Post, Another}
-use Rattle.fax_ask.specs.declared.request.Request.TheVariants.{Submit, Import, Kill, Alter, Show, Next, Call, Floor}
+use Rattle.fax_ask.specs.declared.request.Action.TheVariants.{Kill, Alter}
+use Rattle.fax_ask.specs.declared.request.ReportKind.TheVariants.{Call}
+use Rattle.fax_ask.specs.declared.request.Request.TheVariants.{Submit, Import, OnJob, Show, Next, OnGrant, Floor}
 use Rattle.fax_ask.specs.declared.view.View.TheVariants as view
 use Rattle.fax_ask.specs.Request.{request_of}
 
@@ -21,11 +23,11 @@ import : request_of Post (codes "/imports") ≡ Some Import
 unfolding request_of
 import = refl
 
-kill : request_of Post (codes "/jobs/9/kill") ≡ Some (Kill 9)
+kill : request_of Post (codes "/jobs/9/kill") ≡ Some (OnJob 9 Kill)
 unfolding request_of
 kill = refl
 
-alter : request_of Post (codes "/jobs/1/alter") ≡ Some (Alter 1)
+alter : request_of Post (codes "/jobs/1/alter") ≡ Some (OnJob 1 Alter)
 unfolding request_of
 alter = refl
 
@@ -41,7 +43,7 @@ next : request_of Post (codes "/modems/ttyS0/next") ≡ Some (Next (codes "ttyS0
 unfolding request_of
 next = refl
 
-call : request_of Post (codes "/grants/9/call") ≡ Some (Call 9)
+call : request_of Post (codes "/grants/9/call") ≡ Some (OnGrant 9 Call)
 unfolding request_of
 call = refl
 

@@ -2,7 +2,6 @@
 use Rattle.std.specs.Prelude.{◌≡◌, ◌≤◌, ℕ, List, Result, Ok, Err, ⊤, IfSome, MatchOption}
 use Rattle.fax_job.specs.declared.alter.Alter as alter
 use Rattle.fax_job.specs.declared.import.Import.{Import as ImportFields}
-use Rattle.fax_job.specs.declared.job.Call.{Call as CallEnd}
 use Rattle.fax_job.specs.declared.order.Order.{Order as OrderFields}
 use Rattle.fax_job.specs.declared.order.OrderFault.{OrderFault}
 use Rattle.fax_job.specs.declared.refusal.BodyFault.{BodyFault}
@@ -17,15 +16,19 @@ use Rattle.fax_job.specs.Pair.{Pair}
 use Rattle.fax_lines.specs.Reading.{fault_at}
 use Rattle.fax_lines.specs.Spells.{Spells, IsFirstFault}
 use Rattle.fax_core.specs.Ask.{IsLawfulAsk}
-use Rattle.fax_core.specs.declared.ask.Ask as asked
+use Rattle.fax_core.specs.declared.ask.Ask as step
 use Rattle.fax_core.specs.declared.ask.Ask.TheVariants as machine
-use Rattle.fax_core.specs.declared.report.Outcome.{Outcome as Said}
+use Rattle.fax_core.specs.declared.ask.JobAsk.{JobAsk}
+use Rattle.fax_core.specs.declared.ask.JobAsk.TheVariants as asked
+use Rattle.fax_core.specs.declared.report.Report.{Report}
 use Rattle.fax_ask.specs.declared.ask.Ask.{Ask}
 use Rattle.fax_ask.specs.declared.ask.Ask.TheVariants.{Step, View}
 use Rattle.fax_ask.specs.declared.method.Method.{Method}
+use Rattle.fax_ask.specs.declared.request.Action.{Action}
+use Rattle.fax_ask.specs.declared.request.Action.TheVariants.{Suspend, Resume, Kill, Alter}
 use Rattle.fax_ask.specs.declared.request.Request.{Request}
-use Rattle.fax_ask.specs.declared.request.Request.TheVariants.{Submit, Import, Suspend, Resume, Kill, Alter, Show, Ready, Down, Next, Call, Page, Outcome, Floor}
-use Rattle.fax_ask.specs.Report.{IsReportRefusal, Reports, call_in, outcome_in, page_in, upto_in}
+use Rattle.fax_ask.specs.declared.request.Request.TheVariants.{Show, Submit, Import, OnJob, Mark, Next, OnGrant, Floor}
+use Rattle.fax_ask.specs.Report.{IsReportRefusal, Reports, report_in, upto_in}
 use Rattle.fax_ask.specs.Request.{request_of}
 
 -- ---- bodies
@@ -57,37 +60,40 @@ IsLinesRefusal value_of body other = ⊥
 
 -- ---- requests with their bodies
 
+-- what a client asks of a job with this body: an alteration alone reads it
+abbrev pub AsksOfJob : Action → List ℕ → JobAsk → Type 0
+AsksOfJob Suspend body ask = ask ≡ asked.Suspend
+AsksOfJob Resume body ask = ask ≡ asked.Resume
+AsksOfJob Kill body ask = ask ≡ asked.Kill
+AsksOfJob Alter body ask = (changes : alter.Alter) × States alter_of body changes × (ask ≡ asked.Alter changes)
+
 -- what a request with this body asks for
 abbrev pub Asks : Request → List ℕ → Ask → Type 0
+Asks (Show view) body ask = ask ≡ View view
 Asks Submit body ask = (order : OrderFields) × States order_of body order × (ask ≡ Step (machine.Submission order))
 Asks Import body ask = (import : ImportFields) × States import_of body import × (ask ≡ Step (machine.Bring import))
-Asks (Suspend job) body ask = ask ≡ Step (machine.Suspend job)
-Asks (Resume job) body ask = ask ≡ Step (machine.Resume job)
-Asks (Kill job) body ask = ask ≡ Step (machine.Kill job)
-Asks (Alter job) body ask = (changes : alter.Alter) × States alter_of body changes × (ask ≡ Step (machine.Alteration job changes))
-Asks (Show view) body ask = ask ≡ View view
-Asks (Ready modem) body ask = ask ≡ Step (machine.Ready modem)
-Asks (Down modem) body ask = ask ≡ Step (machine.Down modem)
+Asks (OnJob job action) body ask = (what : JobAsk) × AsksOfJob action body what × (ask ≡ Step (machine.OnJob job what))
+Asks (Mark modem down) body ask = ask ≡ Step (machine.Mark modem down)
 Asks (Next modem) body ask = ask ≡ Step (machine.Next modem)
-Asks (Call grant) body ask = (call : CallEnd) × Reports call_in body call × (ask ≡ Step (machine.CallReport grant call))
-Asks (Page grant) body ask = (page : ℕ) × Reports page_in body page × (ask ≡ Step (machine.PageReport grant page))
-Asks (Outcome grant) body ask = (outcome : Said) × Reports outcome_in body outcome × (ask ≡ Step (machine.OutcomeReport grant outcome))
+Asks (OnGrant grant kind) body ask = (report : Report) × Reports (report_in kind) body report × (ask ≡ Step (machine.OnGrant grant report))
 Asks Floor body ask = (upto : ℕ) × Reports upto_in body upto × (ask ≡ Step (machine.GiveUp upto))
+
+-- why an action with this body is refused
+abbrev pub IsActionRefusal : Action → List ℕ → Refusal → Type 0
+IsActionRefusal Alter body refusal = IsLinesRefusal alter_of body refusal
+IsActionRefusal other body refusal = ⊥
 
 -- why a request with this body is refused: a body that isn't read has no fault
 abbrev pub IsBodyRefusal : Request → List ℕ → Refusal → Type 0
+IsBodyRefusal (Show view) body refusal = ⊥
 IsBodyRefusal Submit body refusal = IsLinesRefusal order_of body refusal
 IsBodyRefusal Import body refusal = IsLinesRefusal import_of body refusal
-IsBodyRefusal (Alter job) body refusal = IsLinesRefusal alter_of body refusal
-IsBodyRefusal (Call grant) body refusal = IsReportRefusal call_in body refusal
-IsBodyRefusal (Page grant) body refusal = IsReportRefusal page_in body refusal
-IsBodyRefusal (Outcome grant) body refusal = IsReportRefusal outcome_in body refusal
-IsBodyRefusal Floor body refusal = IsReportRefusal upto_in body refusal
+IsBodyRefusal (OnJob job action) body refusal = IsActionRefusal action body refusal
 -- a modem's name is kept in memory
-IsBodyRefusal (Ready modem) body refusal = refusal ≡ Unavailable
-IsBodyRefusal (Down modem) body refusal = refusal ≡ Unavailable
+IsBodyRefusal (Mark modem down) body refusal = refusal ≡ Unavailable
 IsBodyRefusal (Next modem) body refusal = refusal ≡ Unavailable
-IsBodyRefusal other body refusal = ⊥
+IsBodyRefusal (OnGrant grant kind) body refusal = IsReportRefusal (report_in kind) body refusal
+IsBodyRefusal Floor body refusal = IsReportRefusal upto_in body refusal
 
 -- ---- the whole
 
@@ -106,9 +112,12 @@ pub record HasLimits (changes : alter.Alter) : Type 0 where
   pub tries : IfSome changes.maxtries (λ tries. (1 ≤ tries) × (tries ≤ most_attempts))
   pub dials : IfSome changes.maxdials (λ dials. (1 ≤ dials) × (dials ≤ most_attempts))
 
-abbrev pub IsLawfulStep : asked.Ask → Type 0
-IsLawfulStep (machine.Submission order) = IsLawfulAsk (machine.Submission order)
-IsLawfulStep (machine.Alteration job changes) = HasLimits changes
+abbrev pub IsLawfulOn : JobAsk → Type 0
+IsLawfulOn (asked.Alter changes) = HasLimits changes
+IsLawfulOn other = ⊤
+
+abbrev pub IsLawfulStep : step.Ask → Type 0
+IsLawfulStep (machine.OnJob job ask) = IsLawfulOn ask
 IsLawfulStep other = IsLawfulAsk other
 
 abbrev pub IsLawful : Ask → Type 0

@@ -16,7 +16,11 @@ use Rattle.fax_job.specs.declared.refusal.BodyFault.TheVariants.{Line, Order, Ba
 use Rattle.fax_job.specs.declared.refusal.Refusal.{Refusal}
 use Rattle.fax_job.specs.declared.refusal.Refusal.TheVariants.{BadBody, Unavailable}
 use Rattle.fax_core.specs.declared.report.Outcome.{Outcome}
+use Rattle.fax_core.specs.declared.report.Report.{Report}
+use Rattle.fax_core.specs.declared.report.Report.TheVariants as report
 use Rattle.fax_ask.specs.declared.report.OutcomeText.{OutcomeText}
+use Rattle.fax_ask.specs.declared.request.ReportKind.{ReportKind}
+use Rattle.fax_ask.specs.declared.request.ReportKind.TheVariants as kind
 use Rattle.fax_core.specs.declared.report.Ending.{Ending}
 use Rattle.fax_core.specs.declared.report.Ending.TheVariants.{Done, Retry, Fail}
 
@@ -95,6 +99,12 @@ outcome_in json =
 
 abbrev pub outcome_read : OutcomeText → Outcome
 outcome_read outcome = record { dialed = outcome.dialed; pages = outcome.pages; ending = outcome.ending; reason = outcome.reason.now }
+
+-- what a worker reports, where the path says which report it is
+abbrev pub report_in : ReportKind → Data → Option Report
+report_in kind.Call json = option_map report.Call (call_in json)
+report_in kind.Page json = option_map report.Page (page_in json)
+report_in kind.Outcome json = option_map report.Outcome (outcome_in json)
 
 -- ---- bodies
 

@@ -1,22 +1,24 @@
 -- The table of requests: which method and path name which.
-use Rattle.std.specs.Prelude.{ℕ, List, [], ◌∷◌, ◌==◌, length, codes, Option, Some, None, option_and_then, if◌then◌else◌}
+use Rattle.std.specs.Prelude.{ℕ, true, false, List, [], ◌∷◌, ◌==◌, length, codes, Option, Some, None, option_and_then, if◌then◌else◌}
 use Rattle.std.specs.Str.{bytes_eq}
 use Rattle.fax_value.specs.Name.{is_name}
 use Rattle.fax_value.specs.Number.{request_number_of}
 use Rattle.fax_ask.specs.declared.method.Method.{Method}
 use Rattle.fax_ask.specs.declared.method.Method.TheVariants.{Get, Post, Another}
+use Rattle.fax_ask.specs.declared.request.Action.TheVariants.{Suspend, Resume, Kill, Alter}
+use Rattle.fax_ask.specs.declared.request.ReportKind.TheVariants.{Call, Page, Outcome}
 use Rattle.fax_ask.specs.declared.request.Request.{Request}
-use Rattle.fax_ask.specs.declared.request.Request.TheVariants.{Submit, Import, Suspend, Resume, Kill, Alter, Show, Ready, Down, Next, Call, Page, Outcome, Floor}
+use Rattle.fax_ask.specs.declared.request.Request.TheVariants.{Show, Submit, Import, OnJob, Mark, Next, OnGrant, Floor}
 use Rattle.fax_ask.specs.declared.view.View.TheVariants as view
 use Rattle.fax_ask.specs.Path.{parts, two_texts}
 
 -- POST /jobs/{id}/ACTION
 abbrev pub job_action : ℕ → List ℕ → Option Request
 job_action job action =
-    if bytes_eq action (codes "suspend") then Some (Suspend job)
-    else if bytes_eq action (codes "resume") then Some (Resume job)
-    else if bytes_eq action (codes "kill") then Some (Kill job)
-    else if bytes_eq action (codes "alter") then Some (Alter job)
+    if bytes_eq action (codes "suspend") then Some (OnJob job Suspend)
+    else if bytes_eq action (codes "resume") then Some (OnJob job Resume)
+    else if bytes_eq action (codes "kill") then Some (OnJob job Kill)
+    else if bytes_eq action (codes "alter") then Some (OnJob job Alter)
     else None
 
 -- GET /jobs/{id}, and what is posted below it
@@ -35,8 +37,8 @@ jobs_request method [] = None
 -- POST /modems/{m}/ACTION
 abbrev pub modem_action : List ℕ → List ℕ → Option Request
 modem_action modem action =
-    if bytes_eq action (codes "ready") then Some (Ready modem)
-    else if bytes_eq action (codes "down") then Some (Down modem)
+    if bytes_eq action (codes "ready") then Some (Mark modem false)
+    else if bytes_eq action (codes "down") then Some (Mark modem true)
     else if bytes_eq action (codes "next") then Some (Next modem)
     else None
 
@@ -53,9 +55,9 @@ modems_request Another rest = None
 -- POST /grants/{g}/REPORT
 abbrev pub grant_report : ℕ → List ℕ → Option Request
 grant_report grant report =
-    if bytes_eq report (codes "call") then Some (Call grant)
-    else if bytes_eq report (codes "page") then Some (Page grant)
-    else if bytes_eq report (codes "outcome") then Some (Outcome grant)
+    if bytes_eq report (codes "call") then Some (OnGrant grant Call)
+    else if bytes_eq report (codes "page") then Some (OnGrant grant Page)
+    else if bytes_eq report (codes "outcome") then Some (OnGrant grant Outcome)
     else None
 
 -- {g} is written as {id} is

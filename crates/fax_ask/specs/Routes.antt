@@ -12,7 +12,7 @@ use Rattle.fax_ask.specs.declared.method.Method.TheVariants.{Get, Post, Another}
 use Rattle.fax_ask.specs.declared.request.Request.{Request}
 use Rattle.fax_ask.specs.declared.request.Request.TheVariants as request
 use Rattle.fax_ask.specs.declared.routes.Route.{Route}
-use Rattle.fax_ask.specs.declared.routes.Route.TheVariants.{Jobs, Job, Suspend, Resume, Kill, Alter, Ready, Down, Next, Call, Page, Outcome, Imports, Floor}
+use Rattle.fax_ask.specs.declared.routes.Route.TheVariants.{Jobs, Job, OnJob, Mark, Next, OnGrant, Imports, Floor}
 use Rattle.fax_ask.specs.declared.routes.TheConstants.{ROUTES}
 use Rattle.fax_ask.specs.declared.view.View.TheVariants as view
 
@@ -46,16 +46,10 @@ posted Jobs id = Some request.Submit
 posted Job id = None
 posted Imports id = Some request.Import
 posted Floor id = Some request.Floor
-posted Suspend id = option_map request.Suspend (number_in id)
-posted Resume id = option_map request.Resume (number_in id)
-posted Kill id = option_map request.Kill (number_in id)
-posted Alter id = option_map request.Alter (number_in id)
-posted Ready id = option_map request.Ready (modem_in id)
-posted Down id = option_map request.Down (modem_in id)
+posted (OnJob action) id = option_map (λ job. request.OnJob job action) (number_in id)
+posted (Mark down) id = option_map (λ modem. request.Mark modem down) (modem_in id)
 posted Next id = option_map request.Next (modem_in id)
-posted Call id = option_map request.Call (number_in id)
-posted Page id = option_map request.Page (number_in id)
-posted Outcome id = option_map request.Outcome (number_in id)
+posted (OnGrant kind) id = option_map (λ grant. request.OnGrant grant kind) (number_in id)
 
 -- what GET names on it
 abbrev pub shown : Route → Option (List ℕ) → Option Request

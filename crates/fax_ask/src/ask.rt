@@ -5,14 +5,14 @@ ghost use Rattle.fax_job.specs.Alter.{alter_of};
 ghost use Rattle.fax_job.specs.Import.{import_of};
 ghost use Rattle.fax_job.specs.Order.{order_of};
 ghost use Rattle.fax_core.specs.Ask.{HasCounts, HasLimits as HasOrderLimits};
-ghost use Rattle.fax_ask.specs.Ask.{Asks, HasLimits, States, IsAsk, IsBodyRefusal, IsLawful, IsLinesRefusal, IsRefused};
+ghost use Rattle.fax_ask.specs.Ask.{Asks, AsksOfJob, HasLimits, States, IsActionRefusal, IsAsk, IsBodyRefusal, IsLawful, IsLawfulOn, IsLinesRefusal, IsRefused};
 
 use crate::method::Method;
-use crate::report::{read_call, read_outcome, read_page, read_upto};
-use crate::request::Request;
+use crate::report::{read_report, read_upto};
+use crate::request::{Action, Request};
 use crate::routes::Routes;
 use crate::view::View;
-use fax_core::Ask as Step;
+use fax_core::{Ask as Step, JobAsk};
 use fax_job::{Alter, Import, Order, Refusal};
 use fax_lines::read_lines;
 use std::alloc::Global;
@@ -64,39 +64,40 @@ fn read_body(alloc: Global, request: Request<'_>, body: &[u8]) -> Result<Ask, Re
         Request::Show(view) => return Ok(Ask::View(view)),
         Request::Submit => Step::Submission(read_order(alloc, body)?),
         Request::Import => Step::Bring(read_import(alloc, body)?),
-        Request::Suspend { job } => Step::Suspend { job },
-        Request::Resume { job } => Step::Resume { job },
-        Request::Kill { job } => Step::Kill { job },
-        Request::Alter { job } => {
-            let alter = read_alter(alloc, body)?;
-            Step::Alteration { job, alter }
-        }
-        Request::Ready { modem } => Step::Ready {
-            modem: modem.keep(alloc)?,
+        Request::OnJob { job, action } => Step::OnJob {
+            job,
+            ask: read_action(alloc, action, body)?,
         },
-        Request::Down { modem } => Step::Down {
+        Request::Mark { modem, down } => Step::Mark {
             modem: modem.keep(alloc)?,
+            down,
         },
         Request::Next { modem } => Step::Next {
             modem: modem.keep(alloc)?,
         },
-        Request::Call { grant } => {
-            let call = read_call(alloc, body)?;
-            Step::CallReport { grant, call }
-        }
-        Request::Page { grant } => {
-            let page = read_page(alloc, body)?;
-            Step::PageReport { grant, page }
-        }
-        Request::Outcome { grant } => {
-            let outcome = read_outcome(alloc, body)?;
-            Step::OutcomeReport { grant, outcome }
-        }
+        Request::OnGrant { grant, kind } => Step::OnGrant {
+            grant,
+            report: read_report(alloc, kind, body)?,
+        },
         Request::Floor => Step::GiveUp {
             upto: read_upto(alloc, body)?,
         },
     };
     Ok(Ask::Step(step))
+}
+
+/// What a client asks of a job with this body.
+fn read_action(alloc: Global, action: Action, body: &[u8]) -> Result<JobAsk, Refusal>
+    ensures ask { IfOk result (AsksOfJob action body.now) }
+    ensures refused { IfErr result (IsActionRefusal action body.now) }
+    ensures lawful { IfOk result (λ ask. IsLawfulOn ask) }
+{
+    match action {
+        Action::Suspend => Ok(JobAsk::Suspend),
+        Action::Resume => Ok(JobAsk::Resume),
+        Action::Kill => Ok(JobAsk::Kill),
+        Action::Alter => Ok(JobAsk::Alter(read_alter(alloc, body)?)),
+    }
 }
 
 /// The order that a body of key lines states.

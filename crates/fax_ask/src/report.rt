@@ -3,13 +3,14 @@
 ghost use Rattle.std.specs.Prelude.{◌≡◌, ◌≤◌, IfOk, IfErr};
 ghost use Rattle.std.specs.List.{list_all};
 ghost use Rattle.std.specs.Option.{option_copied, option_map};
-ghost use Rattle.fax_ask.specs.Report.{IsJson, IsJsonRefusal, IsReportRefusal, Reports, begins_with_space, bool_at, call_in, call_named, ending_named, is_reason, is_reason_byte, number_at, outcome_in, outcome_read, page_in, reason_at, reason_of, text_at, upto_in, within};
+ghost use Rattle.fax_ask.specs.Report.{IsJson, IsJsonRefusal, IsReportRefusal, Reports, begins_with_space, bool_at, call_in, call_named, ending_named, is_reason, is_reason_byte, number_at, outcome_in, outcome_read, page_in, reason_at, reason_of, report_in, text_at, upto_in, within};
 ghost use Rattle.fax_job.specs.declared.refusal.Refusal.TheVariants.{Unavailable};
 ghost use Rattle.serde_json.specs.Errors.{IsMemory};
 ghost use Rattle.serde_json.specs.Find.{get};
 ghost use Rattle.serde_json.specs.View.{view};
 
-use fax_core::{Ending, Outcome};
+use crate::request::ReportKind;
+use fax_core::{Ending, Outcome, Report};
 use fax_job::limits::MOST_PAGES;
 use fax_job::{BodyFault, Call, Refusal, RequestNumber, Status, ends_with_backslash};
 use serde_json::{Error, Value};
@@ -28,42 +29,20 @@ const BAD_JSON: Refusal = Refusal::BadBody(BodyFault::BadJson);
 
 const BAD_FIELD: Refusal = Refusal::BadBody(BodyFault::BadField);
 
-/// How a call went, by a body.
+/// What a worker reports, by a body.
 #[tactic(auto, using(crate::proofs::ReportLemmas::json_refused))]
-pub(crate) fn read_call(alloc: Global, body: &[u8]) -> Result<Call, Refusal>
-    ensures call { IfOk result (Reports call_in body.now) }
-    ensures refused { IfErr result (IsReportRefusal call_in body.now) }
+pub(crate) fn read_report(alloc: Global, kind: ReportKind, body: &[u8]) -> Result<Report, Refusal>
+    ensures report { IfOk result (Reports (report_in kind) body.now) }
+    ensures refused { IfErr result (IsReportRefusal (report_in kind) body.now) }
 {
     let json = read_json(alloc, body)?;
-    match call_in(&json) {
-        Some(call) => Ok(call),
-        None => Err(BAD_FIELD),
-    }
-}
-
-/// Which page was sent, by a body.
-#[tactic(auto, using(crate::proofs::ReportLemmas::json_refused))]
-pub(crate) fn read_page(alloc: Global, body: &[u8]) -> Result<u16, Refusal>
-    ensures page { IfOk result (Reports page_in body.now) }
-    ensures refused { IfErr result (IsReportRefusal page_in body.now) }
-{
-    let json = read_json(alloc, body)?;
-    match page_in(&json) {
-        Some(page) => Ok(page),
-        None => Err(BAD_FIELD),
-    }
-}
-
-/// How a grant ended, by a body.
-#[tactic(auto, using(crate::proofs::ReportLemmas::json_refused))]
-pub(crate) fn read_outcome(alloc: Global, body: &[u8]) -> Result<Outcome, Refusal>
-    ensures outcome { IfOk result (Reports outcome_in body.now) }
-    ensures refused { IfErr result (IsReportRefusal outcome_in body.now) }
-{
-    let json = read_json(alloc, body)?;
-    match outcome_in(&json) {
-        Some(outcome) => keep_reason(alloc, outcome),
-        None => Err(BAD_FIELD),
+    match kind {
+        ReportKind::Call => Ok(Report::Call(call_in(&json).ok_or(BAD_FIELD)?)),
+        ReportKind::Page => Ok(Report::Page(page_in(&json).ok_or(BAD_FIELD)?)),
+        ReportKind::Outcome => {
+            let outcome = outcome_in(&json).ok_or(BAD_FIELD)?;
+            Ok(Report::Outcome(keep_reason(alloc, outcome)?))
+        }
     }
 }
 

@@ -12,20 +12,31 @@ use fax_job::RequestNumber;
 /// What a method and a path ask for, with the number or the name that they give.
 #[derive(Drop)]
 pub enum Request<'a> {
+    Show(View),
     Submit,
     Import,
-    Suspend { job: u64 },
-    Resume { job: u64 },
-    Kill { job: u64 },
-    Alter { job: u64 },
-    Show(View),
-    Ready { modem: ModemName<'a> },
-    Down { modem: ModemName<'a> },
+    OnJob { job: u64, action: Action },
+    Mark { modem: ModemName<'a>, down: bool },
     Next { modem: ModemName<'a> },
-    Call { grant: u64 },
-    Page { grant: u64 },
-    Outcome { grant: u64 },
+    OnGrant { grant: u64, kind: ReportKind },
     Floor,
+}
+
+/// What a path asks of a job.
+#[derive(Clone, Copy, Debug, PartialEq, Eq)]
+pub enum Action {
+    Suspend,
+    Resume,
+    Kill,
+    Alter,
+}
+
+/// What a path reports on a grant.
+#[derive(Clone, Copy, Debug, PartialEq, Eq)]
+pub enum ReportKind {
+    Call,
+    Page,
+    Outcome,
 }
 
 impl<'a> Request<'a> {
@@ -61,16 +72,19 @@ fn posted(route: Route, id: Option<&str>) -> Option<Request<'_>>
         Route::Jobs => Some(Request::Submit),
         Route::Job => None,
         Route::Imports => Some(Request::Import),
-        Route::Suspend => Some(Request::Suspend { job: number(id)? }),
-        Route::Resume => Some(Request::Resume { job: number(id)? }),
-        Route::Kill => Some(Request::Kill { job: number(id)? }),
-        Route::Alter => Some(Request::Alter { job: number(id)? }),
-        Route::Ready => Some(Request::Ready { modem: modem(id)? }),
-        Route::Down => Some(Request::Down { modem: modem(id)? }),
+        Route::OnJob(action) => Some(Request::OnJob {
+            job: number(id)?,
+            action,
+        }),
+        Route::Mark { down } => Some(Request::Mark {
+            modem: modem(id)?,
+            down,
+        }),
         Route::Next => Some(Request::Next { modem: modem(id)? }),
-        Route::Call => Some(Request::Call { grant: number(id)? }),
-        Route::Page => Some(Request::Page { grant: number(id)? }),
-        Route::Outcome => Some(Request::Outcome { grant: number(id)? }),
+        Route::OnGrant(kind) => Some(Request::OnGrant {
+            grant: number(id)?,
+            kind,
+        }),
         Route::Floor => Some(Request::Floor),
     }
 }

@@ -4,7 +4,7 @@ ghost use Rattle.std.specs.Prelude.{◌≡◌, IfOk};
 ghost use Rattle.fax_ask.specs.Request.{request_of};
 
 use crate::method::Method;
-use crate::request::Request;
+use crate::request::{Action, ReportKind, Request};
 use matchit::{InsertError, MatchError, Router};
 use std::alloc::{AllocError, Global};
 use std::marker::Model;
@@ -14,16 +14,10 @@ use std::marker::Model;
 pub(crate) enum Route {
     Jobs,
     Job,
-    Suspend,
-    Resume,
-    Kill,
-    Alter,
-    Ready,
-    Down,
+    OnJob(Action),
+    Mark { down: bool },
     Next,
-    Call,
-    Page,
-    Outcome,
+    OnGrant(ReportKind),
     Imports,
     Floor,
 }
@@ -32,16 +26,16 @@ pub(crate) enum Route {
 static ROUTES: [(&str, Route); 14] = [
     ("/jobs", Route::Jobs),
     ("/jobs/{id}", Route::Job),
-    ("/jobs/{id}/suspend", Route::Suspend),
-    ("/jobs/{id}/resume", Route::Resume),
-    ("/jobs/{id}/kill", Route::Kill),
-    ("/jobs/{id}/alter", Route::Alter),
-    ("/modems/{id}/ready", Route::Ready),
-    ("/modems/{id}/down", Route::Down),
+    ("/jobs/{id}/suspend", Route::OnJob(Action::Suspend)),
+    ("/jobs/{id}/resume", Route::OnJob(Action::Resume)),
+    ("/jobs/{id}/kill", Route::OnJob(Action::Kill)),
+    ("/jobs/{id}/alter", Route::OnJob(Action::Alter)),
+    ("/modems/{id}/ready", Route::Mark { down: false }),
+    ("/modems/{id}/down", Route::Mark { down: true }),
     ("/modems/{id}/next", Route::Next),
-    ("/grants/{id}/call", Route::Call),
-    ("/grants/{id}/page", Route::Page),
-    ("/grants/{id}/outcome", Route::Outcome),
+    ("/grants/{id}/call", Route::OnGrant(ReportKind::Call)),
+    ("/grants/{id}/page", Route::OnGrant(ReportKind::Page)),
+    ("/grants/{id}/outcome", Route::OnGrant(ReportKind::Outcome)),
     ("/imports", Route::Imports),
     ("/numbers/floor", Route::Floor),
 ];

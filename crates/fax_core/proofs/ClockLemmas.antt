@@ -6,12 +6,14 @@ use Rattle.fax_job.specs.declared.refusal.Refusal.TheVariants as refusal
 use Rattle.fax_core.specs.declared.grants.Grant.{Grant}
 use Rattle.fax_core.specs.Ageing.{aged}
 use Rattle.fax_core.specs.declared.ask.Ask.{Ask}
-use Rattle.fax_core.specs.declared.ask.Ask.TheVariants.{Submission, Bring, Suspend, Resume, Kill, Alteration, Ready, Down, Next, CallReport, PageReport, OutcomeReport, GiveUp}
+use Rattle.fax_core.specs.declared.ask.Ask.TheVariants.{Submission, Bring, OnJob, Mark, Next, OnGrant, GiveUp}
+use Rattle.fax_core.specs.declared.ask.JobAsk.{JobAsk}
+use Rattle.fax_core.specs.declared.report.Report.{Report}
 use Rattle.fax_core.specs.Best.{best}
-use Rattle.fax_core.specs.Decisions.{JobAndGrant, submit, suspend, resume, kill, alter, grant, call, page, outcome}
+use Rattle.fax_core.specs.Decisions.{JobAndGrant, submit, job_asked, grant, grant_reported}
 use Rattle.fax_core.specs.Import.{bring}
 use Rattle.fax_core.specs.Job.{Job}
-use Rattle.fax_core.specs.Machine.{with_mark, is_down, held_by, submitted, brought_in, changed, on_job, reported, on_both, on_grant, given, given_best, given_free, call_reply, page_reply, outcome_reply, act, step}
+use Rattle.fax_core.specs.Machine.{with_mark, is_down, held_by, submitted, brought_in, changed, on_job, reported, on_both, on_grant, given, given_best, given_free, report_reply, act, step}
 use Rattle.fax_core.specs.Queue.{Queue, job_numbered, grant_numbered}
 use Rattle.fax_core.specs.Reply.{Reply, Marked, NoKeys, Step, Taken, Refused}
 use Rattle.fax_core.specs.Run.{Request, left_by, decided, queue_after}
@@ -37,9 +39,9 @@ changed_clock s m t (Ok j) = refl
 changed_clock s m t (Err e) = refl
 
 -- and a request on a job
-on_job_clock : (s : Settings) (m : Queue) (t : ℕ) (decide : Job → Result Job Refusal) (o : Option Job) → clock_left m (on_job s m t decide o) ≡ m.clock
-on_job_clock s m t decide None = refl
-on_job_clock s m t decide (Some j) = changed_clock s m t (decide j)
+on_job_clock : (s : Settings) (m : Queue) (t : ℕ) (ask : JobAsk) (o : Option Job) → clock_left m (on_job s m t ask o) ≡ m.clock
+on_job_clock s m t ask None = refl
+on_job_clock s m t ask (Some j) = changed_clock s m t (job_asked ask t j)
 
 -- and a report of a job that is there
 reported_clock : (m : Queue) (reply : Queue → JobAndGrant → Reply) (j : Job) (d : Result JobAndGrant Refusal) → clock_left m (reported m reply j d) ≡ m.clock
@@ -47,14 +49,14 @@ reported_clock m reply j (Ok b) = refl
 reported_clock m reply j (Err e) = refl
 
 -- and of a grant whose job is there or not
-on_both_clock : (m : Queue) (decide : Job → Grant → Result JobAndGrant Refusal) (reply : Queue → JobAndGrant → Reply) (g : Grant) (o : Option Job) → clock_left m (on_both m decide reply g o) ≡ m.clock
-on_both_clock m decide reply g None = refl
-on_both_clock m decide reply g (Some j) = reported_clock m reply j (decide j g)
+on_both_clock : (s : Settings) (m : Queue) (t : ℕ) (report : Report) (g : Grant) (o : Option Job) → clock_left m (on_both s m t report g o) ≡ m.clock
+on_both_clock s m t report g None = refl
+on_both_clock s m t report g (Some j) = reported_clock m (report_reply s t report) j (grant_reported report s.delay t j g)
 
 -- and of a grant that is there or not
-on_grant_clock : (m : Queue) (decide : Job → Grant → Result JobAndGrant Refusal) (reply : Queue → JobAndGrant → Reply) (o : Option Grant) → clock_left m (on_grant m decide reply o) ≡ m.clock
-on_grant_clock m decide reply None = refl
-on_grant_clock m decide reply (Some g) = on_both_clock m decide reply g (job_numbered g.job m)
+on_grant_clock : (s : Settings) (m : Queue) (t : ℕ) (report : Report) (o : Option Grant) → clock_left m (on_grant s m t report o) ≡ m.clock
+on_grant_clock s m t report None = refl
+on_grant_clock s m t report (Some g) = on_both_clock s m t report g (job_numbered g.job m)
 
 -- and a mark
 mark_clock : (m : Queue) (modem : List ℕ) (down b : Bool) → clock_left m (cond b (Taken (with_mark modem down m) (Marked down)) (Refused refusal.NoModem NoKeys)) ≡ m.clock
@@ -88,16 +90,10 @@ next_clock s m t modem false false = free_clock s m t modem (held_by modem m)
 act_clock : (s : Settings) (m : Queue) (t : ℕ) (ask : Ask) → clock_left m (act s m t ask) ≡ m.clock
 act_clock s m t (Submission o) = submitted_clock m (s.rule o.dial) (submit o (s.rule o.dial) m.next_job s.max_jobs t)
 act_clock s m t (Bring i) = import_clock s m t (s.rule i.order.dial) (bring i (s.rule i.order.dial) m.next_job s.max_jobs t)
-act_clock s m t (Suspend n) = on_job_clock s m t suspend (job_numbered n m)
-act_clock s m t (Resume n) = on_job_clock s m t resume (job_numbered n m)
-act_clock s m t (Kill n) = on_job_clock s m t kill (job_numbered n m)
-act_clock s m t (Alteration n c) = on_job_clock s m t (λ j. alter c j t) (job_numbered n m)
-act_clock s m t (Ready modem) = mark_clock m modem false (s.has_modem modem)
-act_clock s m t (Down modem) = mark_clock m modem true (s.has_modem modem)
+act_clock s m t (OnJob n ask) = on_job_clock s m t ask (job_numbered n m)
+act_clock s m t (Mark modem down) = mark_clock m modem down (s.has_modem modem)
 act_clock s m t (Next modem) = next_clock s m t modem (not (s.has_modem modem)) (is_down modem m)
-act_clock s m t (CallReport n c) = on_grant_clock m (call c) (call_reply t) (grant_numbered n m)
-act_clock s m t (PageReport n p) = on_grant_clock m (page p) (page_reply t) (grant_numbered n m)
-act_clock s m t (OutcomeReport n o) = on_grant_clock m (λ j g. outcome o j g (s.delay g.call) t) (outcome_reply s t) (grant_numbered n m)
+act_clock s m t (OnGrant n report) = on_grant_clock s m t report (grant_numbered n m)
 act_clock s m t (GiveUp floor) = refl
 
 -- a step that is taken sets the clock to its moment

@@ -14,13 +14,17 @@ use Rattle.fax_job.specs.declared.job.Wish.TheVariants as wish
 use Rattle.fax_job.specs.declared.order.Order.{Order}
 use Rattle.fax_job.specs.declared.refusal.Refusal.{Refusal}
 use Rattle.fax_value.specs.Status.{killed, kill_time_expired, too_many_dials, too_many_tries, unable_to_transmit}
+use Rattle.fax_core.specs.declared.ask.JobAsk.{JobAsk}
+use Rattle.fax_core.specs.declared.ask.JobAsk.TheVariants as ask
 use Rattle.fax_core.specs.declared.grants.Grant.{Grant}
 use Rattle.fax_core.specs.declared.report.Ending.{Ending}
 use Rattle.fax_core.specs.declared.report.Ending.TheVariants as ending
+use Rattle.fax_core.specs.declared.report.Report.{Report}
+use Rattle.fax_core.specs.declared.report.Report.TheVariants as report
 use Rattle.fax_core.specs.Ageing.{is_past, expires, aged_job}
 use Rattle.fax_core.specs.Ask.{HasLimits}
 use Rattle.fax_core.specs.declared.report.Outcome.{Outcome}
-use Rattle.fax_core.specs.Decisions.{JobAndGrant, is_over, new_job, submit, suspend_in, resume_in, kill_in, altered, alter_in, granted, after_call, call, is_connected, page_of, page, is_kill, phase_after, failed, retried, ended_by, ended, is_done, is_empty, outcome}
+use Rattle.fax_core.specs.Decisions.{JobAndGrant, is_over, new_job, submit, suspend_in, resume_in, kill_in, altered, alter_in, job_asked, granted, after_call, call, is_connected, page_of, page, is_kill, phase_after, failed, retried, ended_by, ended, is_done, is_empty, outcome, grant_reported}
 use Rattle.fax_core.specs.Job.{Job}
 use Rattle.fax_core.specs.Settings.{Rule}
 use Rattle.fax_core.specs.Sound.{IsCounted, HasCallLeft, CanGoOn, FitsPhase, FitsFree, FitsGrant}
@@ -180,6 +184,13 @@ altered_in phase.Waiting a j k t e h = cc
 altered_in phase.Granted a j k t e h = cc
 altered_in phase.Done a j k t e h = cc
 altered_in phase.Failed a j k t e h = cc
+
+-- what a client asks of a job leaves it where it may be
+pub asked_in : (a : JobAsk) (t : ℕ) (j k : Job) → job_asked a t j ≡ Ok k → Keeps j k
+asked_in ask.Suspend t j k h = suspended_in j.phase j.wish j k refl h
+asked_in ask.Resume t j k h = resumed_in j.phase j.wish j k refl h
+asked_in ask.Kill t j k h = killed_in j.phase j k refl h
+asked_in (ask.Alter changes) t j k h = altered_in j.phase changes j k t refl h
 
 -- ---- submission
 
@@ -414,3 +425,9 @@ outcome_is o j g delay t b h =
       more = [];
       sent = k.sent ∙ sym (append-nil j.sent);
     })
+
+-- what a worker reports on a grant and is taken is one
+pub reported_in : (r : Report) (delay : Option Call → ℕ) (t : ℕ) (j : Job) (g : Grant) (b : JobAndGrant) → grant_reported r delay t j g ≡ Ok b → IsReport j g b
+reported_in (report.Call c) delay t j g b h = called c j g b h
+reported_in (report.Page n) delay t j g b h = (paged n j g b h).0
+reported_in (report.Outcome o) delay t j g b h = outcome_is o j g (delay g.call) t b h

@@ -10,18 +10,21 @@ use Rattle.fax_job.specs.declared.refusal.Refusal.TheVariants as refusal
 use Rattle.fax_core.specs.declared.grants.Grant.{Grant}
 use Rattle.fax_core.specs.Ageing.{aged, aged_job}
 use Rattle.fax_core.specs.declared.ask.Ask.{Ask}
-use Rattle.fax_core.specs.declared.ask.Ask.TheVariants.{Submission, Bring, Suspend, Resume, Kill, Alteration, Ready, Down, Next, CallReport, PageReport, OutcomeReport, GiveUp}
-use Rattle.fax_core.specs.Decisions.{JobAndGrant, submit, suspend, resume, kill, alter, granted, call, page, outcome}
+use Rattle.fax_core.specs.declared.ask.Ask.TheVariants.{Submission, Bring, OnJob, Mark, Next, OnGrant, GiveUp}
+use Rattle.fax_core.specs.declared.ask.JobAsk.{JobAsk}
+use Rattle.fax_core.specs.declared.report.Report.{Report}
+use Rattle.fax_core.specs.declared.report.Report.TheVariants.{Page}
+use Rattle.fax_core.specs.Decisions.{JobAndGrant, submit, job_asked, granted, grant_reported}
 use Rattle.fax_core.specs.Import.{bring}
 use Rattle.fax_core.specs.Job.{Job, HasPages, pages_to}
 use Rattle.fax_core.specs.Laws.{HasSent, ConfirmsPage, GivesJob}
-use Rattle.fax_core.specs.Machine.{with_job, with_both, with_new_job, with_new_grant, with_mark, dial_of, handed, submitted, brought_in, changed, on_job, reported, on_both, on_grant, call_reply, page_reply, outcome_reply, act, step}
+use Rattle.fax_core.specs.Machine.{with_job, with_both, with_new_job, with_new_grant, with_mark, dial_of, handed, submitted, brought_in, changed, on_job, reported, on_both, on_grant, report_reply, act, step}
 use Rattle.fax_core.specs.Queue.{Queue, job_numbered, grant_numbered}
 use Rattle.fax_core.specs.Reply.{Reply, Marked, Handed, Given, NoKeys, Step, Taken, Refused}
 use Rattle.fax_core.specs.Run.{Request, left_by, decided, queue_after, AreLawful}
 use Rattle.fax_core.specs.Settings.{Rule, Settings}
 use Rattle.fax_core.specs.Sound.{IsJob, IsOpen, Sound}
-use Rattle.fax_core.proofs.DecisionLemmas.{Keeps, IsReport, aged_number, aged_sent, suspended_in, resumed_in, killed_in, altered_in, called, paged, outcome_is}
+use Rattle.fax_core.proofs.DecisionLemmas.{Keeps, aged_number, aged_sent, asked_in, paged, reported_in}
 use Rattle.fax_core.proofs.KeepLemmas.{same_job, numbered_job, looked_up, Grants, found_new}
 use Rattle.fax_core.proofs.PlaceLemmas.{stays, placed_here, placed_other}
 use Rattle.fax_core.proofs.StepLemmas.{taken_same, aged_sound, GivenTo, None_to, Best_to, given_is, given_grants, run_sound, step_sound, decided_sound}
@@ -67,40 +70,41 @@ changed_keeps s m t a j (Ok k) n r is keeps e =
 changed_keeps s m t a j (Err x) n r is keeps e = cc
 
 -- so does a request on a job
-on_job_keeps : (s : Settings) (m : Queue) (t : ℕ) (a : ℕ) (decide : Job → Result Job Refusal) (o : Option Job) (n : Queue) (r : Reply) → job_numbered a m ≡ o → ((j k : Job) → decide j ≡ Ok k → Keeps j k) → on_job s m t decide o ≡ Taken n r → KeepsSent m n
-on_job_keeps s m t a decide None n r is keeps e = cc
-on_job_keeps s m t a decide (Some j) n r is keeps e = changed_keeps s m t a j (decide j) n r is (keeps j) e
+on_job_keeps : (s : Settings) (m : Queue) (t : ℕ) (a : ℕ) (ask : JobAsk) (o : Option Job) (n : Queue) (r : Reply) → job_numbered a m ≡ o → on_job s m t ask o ≡ Taken n r → KeepsSent m n
+on_job_keeps s m t a ask None n r is e = cc
+on_job_keeps s m t a ask (Some j) n r is e = changed_keeps s m t a j (job_asked ask t j) n r is (asked_in ask t j) e
 
 -- what a taken report is
-pub record Reported (m n : Queue) (a : ℕ) (decide : Job → Grant → Result JobAndGrant Refusal) : Type 0 where
+pub record Reported (s : Settings) (m n : Queue) (t a : ℕ) (report : Report) : Type 0 where
   pub grant : Grant
   pub is : grant_numbered a m ≡ Some grant
   pub job : Job
   pub of : IsJob m grant.job job
   pub both : JobAndGrant
-  pub made : decide job grant ≡ Ok both
+  pub made : grant_reported report s.delay t job grant ≡ Ok both
   pub left : with_both both m ≡ n
 
 -- a report that is taken is one of a job that is there
-reported_is : (m : Queue) (decide : Job → Grant → Result JobAndGrant Refusal) (reply : Queue → JobAndGrant → Reply) (a : ℕ) (g : Grant) (j : Job) (d : Result JobAndGrant Refusal) (n : Queue) (r : Reply) → grant_numbered a m ≡ Some g → IsJob m g.job j → decide j g ≡ d → reported m reply j d ≡ Taken n r → Reported m n a decide
-reported_is m decide reply a g j (Ok b) n r is of made e = record { grant = g; is = is; job = j; of = of; both = b; made = made; left = (taken_same (with_both b m) n _ r e).0 }
-reported_is m decide reply a g j (Err x) n r is of made e = cc
+reported_is : (s : Settings) (m : Queue) (t a : ℕ) (x : Report) (g : Grant) (j : Job) (d : Result JobAndGrant Refusal) (n : Queue) (r : Reply)
+    → grant_numbered a m ≡ Some g → IsJob m g.job j → grant_reported x s.delay t j g ≡ d → reported m (report_reply s t x) j d ≡ Taken n r → Reported s m n t a x
+reported_is s m t a x g j (Ok b) n r is of made e = record { grant = g; is = is; job = j; of = of; both = b; made = made; left = (taken_same (with_both b m) n _ r e).0 }
+reported_is s m t a x g j (Err f) n r is of made e = cc
 
 -- the same of a grant whose job is there or not
-on_both_is : (m : Queue) (decide : Job → Grant → Result JobAndGrant Refusal) (reply : Queue → JobAndGrant → Reply) (a : ℕ) (g : Grant) (o : Option Job) (n : Queue) (r : Reply) → grant_numbered a m ≡ Some g → job_numbered g.job m ≡ o → on_both m decide reply g o ≡ Taken n r → Reported m n a decide
-on_both_is m decide reply a g None n r is of e = cc
-on_both_is m decide reply a g (Some j) n r is of e = reported_is m decide reply a g j (decide j g) n r is of refl e
+on_both_is : (s : Settings) (m : Queue) (t a : ℕ) (x : Report) (g : Grant) (o : Option Job) (n : Queue) (r : Reply) → grant_numbered a m ≡ Some g → job_numbered g.job m ≡ o → on_both s m t x g o ≡ Taken n r → Reported s m n t a x
+on_both_is s m t a x g None n r is of e = cc
+on_both_is s m t a x g (Some j) n r is of e = reported_is s m t a x g j (grant_reported x s.delay t j g) n r is of refl e
 
 -- the same of a grant that is there or not
-pub on_grant_is : (m : Queue) (decide : Job → Grant → Result JobAndGrant Refusal) (reply : Queue → JobAndGrant → Reply) (a : ℕ) (o : Option Grant) (n : Queue) (r : Reply) → grant_numbered a m ≡ o → on_grant m decide reply o ≡ Taken n r → Reported m n a decide
-on_grant_is m decide reply a None n r is e = cc
-on_grant_is m decide reply a (Some g) n r is e = on_both_is m decide reply a g (job_numbered g.job m) n r is refl e
+pub on_grant_is : (s : Settings) (m : Queue) (t a : ℕ) (x : Report) (o : Option Grant) (n : Queue) (r : Reply) → grant_numbered a m ≡ o → on_grant s m t x o ≡ Taken n r → Reported s m n t a x
+on_grant_is s m t a x None n r is e = cc
+on_grant_is s m t a x (Some g) n r is e = on_both_is s m t a x g (job_numbered g.job m) n r is refl e
 
 -- a report leaves what is sent
-report_keeps : (m n : Queue) (a : ℕ) (decide : Job → Grant → Result JobAndGrant Refusal) → ((j : Job) (g : Grant) (b : JobAndGrant) → decide j g ≡ Ok b → IsReport j g b) → ((j : Job) (g : Grant) (b : JobAndGrant) → decide j g ≡ Ok b → b.job.number ≡ j.number) → Reported m n a decide → KeepsSent m n
-report_keeps m n a decide report number x =
-    let f = report x.job x.grant x.both x.made in
-    let k = placed_keeps m x.grant.job x.job x.both.job f.more x.of (number x.job x.grant x.both x.made ∙ numbered_job m x.grant.job x.job x.of) f.sent in
+report_keeps : (s : Settings) (m n : Queue) (t a : ℕ) (report : Report) → Reported s m n t a report → KeepsSent m n
+report_keeps s m n t a report x =
+    let f = reported_in report s.delay t x.job x.grant x.both x.made in
+    let k = placed_keeps m x.grant.job x.job x.both.job f.more x.of (f.number ∙ numbered_job m x.grant.job x.job x.of) f.sent in
     through m (with_job x.both.job m) n k (same_sent (with_job x.both.job m) n (ap (λ (q : Queue). q.jobs) (sym x.left)))
 
 -- so does a request for work
@@ -134,16 +138,10 @@ mark_keeps m modem down false n r e = cc
 act_keeps : (s : Settings) (m n : Queue) (t : ℕ) (ask : Ask) (r : Reply) → Sound m → act s m t ask ≡ Taken n r → KeepsSent m n
 act_keeps s m n t (Submission o) r h e = submission_keeps m (s.rule o.dial) (submit o (s.rule o.dial) m.next_job s.max_jobs t) n r e
 act_keeps s m n t (Bring i) r h e = import_keeps s m t (s.rule i.order.dial) (bring i (s.rule i.order.dial) m.next_job s.max_jobs t) n r e
-act_keeps s m n t (Suspend a) r h e = on_job_keeps s m t a suspend (job_numbered a m) n r refl (λ j k. suspended_in j.phase j.wish j k refl) e
-act_keeps s m n t (Resume a) r h e = on_job_keeps s m t a resume (job_numbered a m) n r refl (λ j k. resumed_in j.phase j.wish j k refl) e
-act_keeps s m n t (Kill a) r h e = on_job_keeps s m t a kill (job_numbered a m) n r refl (λ j k. killed_in j.phase j k refl) e
-act_keeps s m n t (Alteration a c) r h e = on_job_keeps s m t a (λ j. alter c j t) (job_numbered a m) n r refl (λ j k. altered_in j.phase c j k t refl) e
-act_keeps s m n t (Ready modem) r h e = mark_keeps m modem false (s.has_modem modem) n r e
-act_keeps s m n t (Down modem) r h e = mark_keeps m modem true (s.has_modem modem) n r e
+act_keeps s m n t (OnJob a ask) r h e = on_job_keeps s m t a ask (job_numbered a m) n r refl e
+act_keeps s m n t (Mark modem down) r h e = mark_keeps m modem down (s.has_modem modem) n r e
 act_keeps s m n t (Next modem) r h e = given_keeps s m t modem n r (given_is s m t modem n r h e)
-act_keeps s m n t (CallReport a c) r h e = report_keeps m n a (call c) (λ j g b. called c j g b) (λ j g b d. (called c j g b d).number) (on_grant_is m (call c) (call_reply t) a (grant_numbered a m) n r refl e)
-act_keeps s m n t (PageReport a p) r h e = report_keeps m n a (page p) (λ j g b d. (paged p j g b d).0) (λ j g b d. (paged p j g b d).0.number) (on_grant_is m (page p) (page_reply t) a (grant_numbered a m) n r refl e)
-act_keeps s m n t (OutcomeReport a o) r h e = report_keeps m n a (λ j g. outcome o j g (s.delay g.call) t) (λ j g b. outcome_is o j g (s.delay g.call) t b) (λ j g b d. (outcome_is o j g (s.delay g.call) t b d).number) (on_grant_is m (λ j g. outcome o j g (s.delay g.call) t) (outcome_reply s t) a (grant_numbered a m) n r refl e)
+act_keeps s m n t (OnGrant a report) r h e = report_keeps s m n t a report (on_grant_is s m t a report (grant_numbered a m) n r refl e)
 act_keeps s m n t (GiveUp floor) r h e = same_sent m n (ap (λ (q : Queue). q.jobs) (sym (taken_same m n _ r e).0))
 
 -- so does a step
@@ -203,9 +201,9 @@ tail_is (x ∷ xs) ys a (suc n) e =
 -- ---- a taken page report
 
 -- a page report that is taken confirms the first page left
-pub confirmed : (s : Settings) (m n : Queue) (t a p : ℕ) (r : Reply) → step s m t (PageReport a p) ≡ Taken n r → ConfirmsPage (aged t m) n a p
+pub confirmed : (s : Settings) (m n : Queue) (t a p : ℕ) (r : Reply) → step s m t (OnGrant a (Page p)) ≡ Taken n r → ConfirmsPage (aged t m) n a p
 confirmed s m n t a p r e =
-    let x = on_grant_is (aged t m) (page p) (page_reply t) a (grant_numbered a (aged t m)) n r refl e in
+    let x = on_grant_is s (aged t m) t a (Page p) (grant_numbered a (aged t m)) n r refl e in
     let f = paged p x.job x.grant x.both x.made in
     let here : x.both.job.number ≡ x.grant.job = f.0.number ∙ numbered_job (aged t m) x.grant.job x.job x.of in
     let there : IsJob (with_job x.both.job (aged t m)) x.grant.job x.both.job = placed_here (λ (y : Job). y.number) x.grant.job x.both.job x.job (aged t m).jobs x.of here in
@@ -294,11 +292,11 @@ record Later (s : Settings) (n : Queue) (rs : List Request) (u a page : ℕ) : T
 
 -- whatever comes behind a confirmed page, as many pages of its job are sent
 later_of : (s : Settings) (m n : Queue) (t grant page : ℕ) (reply : Reply) (g : Grant) (rs : List Request) (u : ℕ)
-    → Sound m → AreLawful rs → step s m t (PageReport grant page) ≡ Taken n reply → grant_numbered grant m ≡ Some g → Later s n rs u g.job page
+    → Sound m → AreLawful rs → step s m t (OnGrant grant (Page page)) ≡ Taken n reply → grant_numbered grant m ≡ Some g → Later s n rs u g.job page
 later_of s m n t grant page reply g rs u sound lawful taken is =
     let c = confirmed s m n t grant page reply taken in
     let it : c.grant ≡ g = cc (c.open_grant.0, is) in
-    let after : Sound n = step_sound s m n t (PageReport grant page) reply sound tt taken in
+    let after : Sound n = step_sound s m n t (OnGrant grant (Page page)) reply sound tt taken in
     let end : Sound (queue_after s n rs) = run_sound s n rs after lawful in
     let kept : KeepsSent n (aged u (queue_after s n rs)) = through n (queue_after s n rs) (aged u (queue_after s n rs)) (run_keeps s n rs after lawful) (aged_keeps u (queue_after s n rs)) in
     let place = page_counted (aged t m) n grant page c (aged_sound t m sound) in
@@ -312,7 +310,7 @@ later_of s m n t grant page reply g rs u sound lawful taken is =
 
 -- a page that was confirmed lies before each grant that its job gets later
 pub not_again : (s : Settings) (m n : Queue) (t grant page : ℕ) (reply : Reply) (g : Grant) (rs : List Request) (u : ℕ) (modem : List ℕ) (l : Queue) (h : Handed)
-    → Sound m → AreLawful rs → step s m t (PageReport grant page) ≡ Taken n reply → step s (queue_after s n rs) u (Next modem) ≡ Taken l (Given h)
+    → Sound m → AreLawful rs → step s m t (OnGrant grant (Page page)) ≡ Taken n reply → step s (queue_after s n rs) u (Next modem) ≡ Taken l (Given h)
     → grant_numbered grant m ≡ Some g → h.job ≡ g.job → page < h.from
 not_again s m n t grant page reply g rs u modem l h sound lawful taken given is same =
     let later : Later s n rs u g.job page = later_of s m n t grant page reply g rs u sound lawful taken is in
@@ -322,7 +320,7 @@ not_again s m n t grant page reply g rs u modem l h sound lawful taken given is 
 
 -- a page that is confirmed later, of the same job, lies behind it
 pub rises : (s : Settings) (m n : Queue) (t grant page : ℕ) (reply : Reply) (g : Grant) (rs : List Request) (u other more : ℕ) (l : Queue) (answer : Reply) (h : Grant)
-    → Sound m → AreLawful rs → step s m t (PageReport grant page) ≡ Taken n reply → step s (queue_after s n rs) u (PageReport other more) ≡ Taken l answer
+    → Sound m → AreLawful rs → step s m t (OnGrant grant (Page page)) ≡ Taken n reply → step s (queue_after s n rs) u (OnGrant other (Page more)) ≡ Taken l answer
     → grant_numbered grant m ≡ Some g → grant_numbered other (queue_after s n rs) ≡ Some h → h.job ≡ g.job → page < more
 rises s m n t grant page reply g rs u other more l answer h sound lawful taken again is at same =
     let later : Later s n rs u g.job page = later_of s m n t grant page reply g rs u sound lawful taken is in

@@ -15,21 +15,25 @@ use Rattle.fax_job.specs.declared.refusal.Refusal.{Refusal}
 use Rattle.fax_job.specs.declared.refusal.Refusal.TheVariants.{NoJob, NoModem, NoGrant, Rejected, TooManyPages, JobOver, JobActive, NotSuspended, LimitReached, ModemDown, ModemBusy, GrantClosed, CallKnown, NotConnected, PageOrder, CallMissing, PagesMismatch, PagesLeft, Full}
 use Rattle.fax_core.specs.Ageing.{aged}
 use Rattle.fax_core.specs.Best.{best}
-use Rattle.fax_core.specs.Decisions.{JobAndGrant, after_call, alter, alter_in, altered, call, ended, grant, granted, is_connected, is_done, is_empty, is_over, kill, kill_in, new_job, outcome, page, page_of, resume, resume_in, submit, suspend, suspend_in}
+use Rattle.fax_core.specs.Decisions.{JobAndGrant, after_call, alter_in, altered, call, ended, grant, grant_reported, granted, is_connected, is_done, is_empty, is_over, job_asked, kill_in, new_job, outcome, page, page_of, resume_in, submit, suspend_in}
 use Rattle.fax_core.specs.Import.{bring, brought, is_ended, old_job}
 use Rattle.fax_core.specs.Job.{Job}
-use Rattle.fax_core.specs.Machine.{act, brought_in, call_reply, changed, given, given_best, given_free, given_to, handed, held_by, is_down, marked, on_both, on_grant, on_job, outcome_reply, page_reply, reported, submitted, with_mark, without_job}
+use Rattle.fax_core.specs.Machine.{act, brought_in, changed, given, given_best, given_free, given_to, handed, held_by, is_down, marked, on_both, on_grant, on_job, report_reply, reported, submitted, with_mark, without_job}
 use Rattle.fax_core.specs.Queue.{Queue, grant_numbered, job_numbered}
-use Rattle.fax_core.specs.Reasons.{IsAtLimit, IsNotNext, RefusalsHaveReasons, When, WhenEnded, WhenNew, WhenNext}
+use Rattle.fax_core.specs.Reasons.{IsAtLimit, IsNotNext, RefusalsHaveReasons, When, WhenAsked, WhenNew, WhenNext, WhenReported}
 use Rattle.fax_core.specs.Reply.{Keys, Marked, NoKeys, Reply, Step, Taken, Refused}
 use Rattle.fax_core.specs.Settings.{Rule, Settings}
 use Rattle.fax_core.specs.Sound.{Sound}
 use Rattle.fax_core.specs.declared.ask.Ask.{Ask}
-use Rattle.fax_core.specs.declared.ask.Ask.TheVariants.{Submission, Bring, Suspend, Resume, Kill, Alteration, Ready, Down, Next, CallReport, PageReport, OutcomeReport, GiveUp}
+use Rattle.fax_core.specs.declared.ask.Ask.TheVariants.{Submission, Bring, OnJob, Mark, Next, OnGrant, GiveUp}
+use Rattle.fax_core.specs.declared.ask.JobAsk.{JobAsk}
+use Rattle.fax_core.specs.declared.ask.JobAsk.TheVariants as ask
 use Rattle.fax_core.specs.declared.grants.Grant.{Grant}
 use Rattle.fax_core.specs.declared.report.Ending.{Ending}
 use Rattle.fax_core.specs.declared.report.Ending.TheVariants as ending
 use Rattle.fax_core.specs.declared.report.Outcome.{Outcome}
+use Rattle.fax_core.specs.declared.report.Report.{Report}
+use Rattle.fax_core.specs.declared.report.Report.TheVariants as report
 use Rattle.fax_core.proofs.RefusalLemmas.{Decided, held_told}
 use Rattle.fax_core.proofs.StepLemmas.{aged_sound}
 
@@ -178,14 +182,14 @@ module _ (P : Refusal → Type 0) where
 
   -- an outcome
   outcome_by : (m : Queue) (n : ℕ) (o : Outcome) (j : Job) (g : Grant) (delay t : ℕ) (e : Refusal) → outcome o j g delay t ≡ Err e → grant_numbered n m ≡ Some g → job_numbered g.job m ≡ Some j
-      → ((x : Refusal) → WhenEnded m n o x → P x) → P e
+      → ((x : Refusal) → WhenReported m n (report.Outcome o) x → P x) → P e
   outcome_by m n o j g delay t e h there its p =
       by_test P (not g.is_open) GrantClosed e _ h (λ b. p GrantClosed (g, there, not_is g.is_open b)) (λ h.
       by_test P (not o.dialed && is_some g.call) CallKnown e _ h
-      (λ b. let both = and_parts (not o.dialed) (is_some g.call) b in p CallKnown (g, there, (not_is o.dialed both.0, is_not_none g.call both.1))) (λ h.
+      (λ b. let both = and_parts (not o.dialed) (is_some g.call) b in p CallKnown (g, there, (j, its, (not_is o.dialed both.0, is_not_none g.call both.1)))) (λ h.
       by_test P (o.dialed && is_none g.call) CallMissing e _ h
-      (λ b. let both = and_parts o.dialed (is_none g.call) b in p CallMissing (g, there, (both.0, none_is g.call both.1))) (λ h.
-      by_test P (not (eqb o.pages g.confirmed)) PagesMismatch e _ h (λ b. p PagesMismatch (g, there, not_equal o.pages g.confirmed b)) (λ h.
+      (λ b. let both = and_parts o.dialed (is_none g.call) b in p CallMissing (g, there, (j, its, (both.0, none_is g.call both.1)))) (λ h.
+      by_test P (not (eqb o.pages g.confirmed)) PagesMismatch e _ h (λ b. p PagesMismatch (g, there, (j, its, not_equal o.pages g.confirmed b))) (λ h.
       by_test P (is_done o.ending && not (is_empty j.left)) PagesLeft e (Ok (record { job = ended j.left o j delay t; grant = record g { is_open = false } })) h
       (λ b. let both = and_parts (is_done o.ending) (not (is_empty j.left)) b in p PagesLeft (g, there, (j, its, (done_is o.ending both.0, not_empty j.left both.1)))) (λ x. cc x)))))
 
@@ -207,10 +211,10 @@ module _ (P : Refusal → Type 0) where
   changed_by s m t (Err x) e k h f = step_told P x e NoKeys k h (f x refl)
 
   -- a request on a job
-  on_job_by : (s : Settings) (m : Queue) (t : ℕ) (decide : Job → Result Job Refusal) (o : Option Job) (e : Refusal) (k : Keys) → on_job s m t decide o ≡ Refused e k
-      → (o ≡ None → P NoJob) → ((j : Job) (x : Refusal) → o ≡ Some j → decide j ≡ Err x → P x) → P e
-  on_job_by s m t decide None e k h p f = step_told P NoJob e NoKeys k h (p refl)
-  on_job_by s m t decide (Some j) e k h p f = changed_by s m t (decide j) e k h (λ x d. f j x refl d)
+  on_job_by : (s : Settings) (m : Queue) (t : ℕ) (a : JobAsk) (o : Option Job) (e : Refusal) (k : Keys) → on_job s m t a o ≡ Refused e k
+      → (o ≡ None → P NoJob) → ((j : Job) (x : Refusal) → o ≡ Some j → job_asked a t j ≡ Err x → P x) → P e
+  on_job_by s m t a None e k h p f = step_told P NoJob e NoKeys k h (p refl)
+  on_job_by s m t a (Some j) e k h p f = changed_by s m t (job_asked a t j) e k h (λ x d. f j x refl d)
 
   reported_by : (m : Queue) (reply : Queue → JobAndGrant → Reply) (j : Job) (d : Result JobAndGrant Refusal) (e : Refusal) (k : Keys) → reported m reply j d ≡ Refused e k
       → ((x : Refusal) → d ≡ Err x → P x) → P e
@@ -218,21 +222,21 @@ module _ (P : Refusal → Type 0) where
   reported_by m reply j (Err x) e k h f = step_told P x e _ k h (f x refl)
 
   -- a report on a grant, with its job: in a sound queue an open grant has it
-  on_both_by : (m : Queue) (n : ℕ) (decide : Job → Grant → Result JobAndGrant Refusal) (reply : Queue → JobAndGrant → Reply) (g : Grant) (o : Option Job) (b : Bool) (e : Refusal) (k : Keys)
-      → on_both m decide reply g o ≡ Refused e k → Sound m → grant_numbered n m ≡ Some g → job_numbered g.job m ≡ o → g.is_open ≡ b
-      → (g.is_open ≡ false → P GrantClosed) → ((j : Job) (x : Refusal) → job_numbered g.job m ≡ Some j → decide j g ≡ Err x → P x) → P e
-  on_both_by m n decide reply g None true e k h sound is none was p f = let held = sound.held n g (is, was) in cc (none, held.1)
-  on_both_by m n decide reply g None false e k h sound is none shut p f =
+  on_both_by : (s : Settings) (m : Queue) (t n : ℕ) (r : Report) (g : Grant) (o : Option Job) (b : Bool) (e : Refusal) (k : Keys)
+      → on_both s m t r g o ≡ Refused e k → Sound m → grant_numbered n m ≡ Some g → job_numbered g.job m ≡ o → g.is_open ≡ b
+      → (g.is_open ≡ false → P GrantClosed) → ((j : Job) (x : Refusal) → job_numbered g.job m ≡ Some j → grant_reported r s.delay t j g ≡ Err x → P x) → P e
+  on_both_by s m t n r g None true e k h sound is none was p f = let held = sound.held n g (is, was) in cc (none, held.1)
+  on_both_by s m t n r g None false e k h sound is none shut p f =
       step_told P GrantClosed e NoKeys k (subst (λ (b : Bool). Refused (without_job b) NoKeys ≡ Refused e k) shut h) (p shut)
-  on_both_by m n decide reply g (Some j) b e k h sound is there was p f = reported_by m reply j (decide j g) e k h (λ x d. f j x there d)
+  on_both_by s m t n r g (Some j) b e k h sound is there was p f = reported_by m (report_reply s t r) j (grant_reported r s.delay t j g) e k h (λ x d. f j x there d)
 
   -- a report on a grant
-  on_grant_by : (m : Queue) (n : ℕ) (decide : Job → Grant → Result JobAndGrant Refusal) (reply : Queue → JobAndGrant → Reply) (o : Option Grant) (e : Refusal) (k : Keys)
-      → on_grant m decide reply o ≡ Refused e k → Sound m → grant_numbered n m ≡ o → (o ≡ None → P NoGrant) → ((g : Grant) → o ≡ Some g → g.is_open ≡ false → P GrantClosed)
-      → ((j : Job) (g : Grant) (x : Refusal) → o ≡ Some g → job_numbered g.job m ≡ Some j → decide j g ≡ Err x → P x) → P e
-  on_grant_by m n decide reply None e k h sound is p q f = step_told P NoGrant e NoKeys k h (p refl)
-  on_grant_by m n decide reply (Some g) e k h sound is p q f =
-      on_both_by m n decide reply g (job_numbered g.job m) g.is_open e k h sound is refl refl (q g refl) (λ j x there d. f j g x refl there d)
+  on_grant_by : (s : Settings) (m : Queue) (t n : ℕ) (r : Report) (o : Option Grant) (e : Refusal) (k : Keys)
+      → on_grant s m t r o ≡ Refused e k → Sound m → grant_numbered n m ≡ o → (o ≡ None → P NoGrant) → ((g : Grant) → o ≡ Some g → g.is_open ≡ false → P GrantClosed)
+      → ((j : Job) (g : Grant) (x : Refusal) → o ≡ Some g → job_numbered g.job m ≡ Some j → grant_reported r s.delay t j g ≡ Err x → P x) → P e
+  on_grant_by s m t n r None e k h sound is p q f = step_told P NoGrant e NoKeys k h (p refl)
+  on_grant_by s m t n r (Some g) e k h sound is p q f =
+      on_both_by s m t n r g (job_numbered g.job m) g.is_open e k h sound is refl refl (q g refl) (λ j x there d. f j g x refl there d)
 
   -- a mark of a modem
   mark_by : (s : Settings) (m : Queue) (modem : List ℕ) (down b : Bool) (e : Refusal) (k : Keys) → s.has_modem modem ≡ b → marked s m modem down ≡ Refused e k → (s.has_modem modem ≡ false → P NoModem) → P e
@@ -269,6 +273,21 @@ next_by s m t modem e k sound h =
 
 -- ---- each request
 
+-- what a client asks of a job that is there
+ask_by : (m : Queue) (t n : ℕ) (a : JobAsk) (j : Job) (x : Refusal) → job_numbered n m ≡ Some j → job_asked a t j ≡ Err x → WhenAsked m t n a x
+ask_by m t n ask.Suspend j x there d = suspend_by (WhenAsked m t n ask.Suspend) j.phase j.wish j x d (λ is w. (j, there, (is, w))) (λ over. (j, there, over))
+ask_by m t n ask.Resume j x there d = resume_by (WhenAsked m t n ask.Resume) j.phase j.wish j x d (λ is w. (j, there, (is, w))) (λ over. (j, there, over)) (λ is. (j, there, is))
+ask_by m t n ask.Kill j x there d = kill_by (WhenAsked m t n ask.Kill) j.phase j x d (λ over. (j, there, over))
+ask_by m t n (ask.Alter c) j x there d =
+    alter_by (WhenAsked m t n (ask.Alter c)) j.phase c j t x d (λ is. (j, there, is)) (λ over. (j, there, over)) (λ is. (j, there, is)) (λ is limit. (j, there, (is, limit)))
+
+-- what a worker reports on a grant that is there
+report_by : (s : Settings) (m : Queue) (t n : ℕ) (r : Report) (j : Job) (g : Grant) (x : Refusal) → grant_numbered n m ≡ Some g → job_numbered g.job m ≡ Some j → grant_reported r s.delay t j g ≡ Err x → WhenReported m n r x
+report_by s m t n (report.Call c) j g x there its d = call_by (WhenReported m n (report.Call c)) c j g x d (λ shut. (g, there, shut)) (λ known. (g, there, (j, its, known)))
+report_by s m t n (report.Page p) j g x there its d =
+    page_by (WhenReported m n (report.Page p)) p j g x d (λ shut. (g, there, shut)) (λ other. (g, there, (j, its, other))) (λ order. (g, there, (j, its, order)))
+report_by s m t n (report.Outcome o) j g x there its d = outcome_by (WhenReported m n (report.Outcome o)) m n o j g (s.delay g.call) t x d there its (λ y w. w)
+
 reason : (s : Settings) (m : Queue) (t : ℕ) (ask : Ask) (e : Refusal) (k : Keys) → Sound m → act s m t ask ≡ Refused e k → When s m t ask e
 reason s m t (Submission o) e k sound h =
     let P = When s m t (Submission o) in
@@ -276,36 +295,11 @@ reason s m t (Submission o) e k sound h =
 reason s m t (Bring i) e k sound h =
     let P = When s m t (Bring i) in
     brought_by P s m t (s.rule i.order.dial) (bring i (s.rule i.order.dial) m.next_job s.max_jobs t) e k h (λ x d. import_by P s m t i x d (λ y w. w))
-reason s m t (Suspend n) e k sound h =
-    let P = When s m t (Suspend n) in
-    on_job_by P s m t suspend (job_numbered n m) e k h (λ none. none)
-    (λ j x there d. suspend_by P j.phase j.wish j x d (λ is w. (j, there, (is, w))) (λ over. (j, there, over)))
-reason s m t (Resume n) e k sound h =
-    let P = When s m t (Resume n) in
-    on_job_by P s m t resume (job_numbered n m) e k h (λ none. none)
-    (λ j x there d. resume_by P j.phase j.wish j x d (λ is w. (j, there, (is, w))) (λ over. (j, there, over)) (λ is. (j, there, is)))
-reason s m t (Kill n) e k sound h =
-    let P = When s m t (Kill n) in
-    on_job_by P s m t kill (job_numbered n m) e k h (λ none. none) (λ j x there d. kill_by P j.phase j x d (λ over. (j, there, over)))
-reason s m t (Alteration n c) e k sound h =
-    let P = When s m t (Alteration n c) in
-    on_job_by P s m t (λ j. alter c j t) (job_numbered n m) e k h (λ none. none)
-    (λ j x there d. alter_by P j.phase c j t x d (λ is. (j, there, is)) (λ over. (j, there, over)) (λ is. (j, there, is)) (λ is limit. (j, there, (is, limit))))
-reason s m t (Ready modem) e k sound h = mark_by (When s m t (Ready modem)) s m modem false (s.has_modem modem) e k refl h (λ none. none)
-reason s m t (Down modem) e k sound h = mark_by (When s m t (Down modem)) s m modem true (s.has_modem modem) e k refl h (λ none. none)
+reason s m t (OnJob n a) e k sound h = on_job_by (WhenAsked m t n a) s m t a (job_numbered n m) e k h (λ none. none) (λ j x there d. ask_by m t n a j x there d)
+reason s m t (Mark modem down) e k sound h = mark_by (When s m t (Mark modem down)) s m modem down (s.has_modem modem) e k refl h (λ none. none)
 reason s m t (Next modem) e k sound h = next_by s m t modem e k sound h
-reason s m t (CallReport n c) e k sound h =
-    let P = When s m t (CallReport n c) in
-    on_grant_by P m n (call c) (call_reply t) (grant_numbered n m) e k h sound refl (λ none. none) (λ g there shut. (g, there, shut))
-    (λ j g x there its d. call_by P c j g x d (λ shut. (g, there, shut)) (λ known. (g, there, known)))
-reason s m t (PageReport n p) e k sound h =
-    let P = When s m t (PageReport n p) in
-    on_grant_by P m n (page p) (page_reply t) (grant_numbered n m) e k h sound refl (λ none. none) (λ g there shut. (g, there, shut))
-    (λ j g x there its d. page_by P p j g x d (λ shut. (g, there, shut)) (λ other. (g, there, other)) (λ order. (g, there, (j, its, order))))
-reason s m t (OutcomeReport n o) e k sound h =
-    let P = When s m t (OutcomeReport n o) in
-    on_grant_by P m n (λ j g. outcome o j g (s.delay g.call) t) (outcome_reply s t) (grant_numbered n m) e k h sound refl (λ none. none) (λ g there shut. (g, there, shut))
-    (λ j g x there its d. outcome_by P m n o j g (s.delay g.call) t x d there its (λ y w. w))
+reason s m t (OnGrant n r) e k sound h =
+    on_grant_by (WhenReported m n r) s m t n r (grant_numbered n m) e k h sound refl (λ none. none) (λ g there shut. (g, there, shut)) (λ j g x there its d. report_by s m t n r j g x there its d)
 reason s m t (GiveUp floor) e k sound h = cc
 
 -- so has each step, in the queue as it is at its moment

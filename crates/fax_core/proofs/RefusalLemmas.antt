@@ -15,14 +15,18 @@ use Rattle.fax_job.specs.Refusal.{refusal_number}
 use Rattle.fax_core.specs.declared.grants.Grant.{Grant}
 use Rattle.fax_core.specs.Ageing.{aged}
 use Rattle.fax_core.specs.declared.ask.Ask.{Ask}
-use Rattle.fax_core.specs.declared.ask.Ask.TheVariants.{Submission, Bring, Suspend, Resume, Kill, Alteration, Ready, Down, Next, CallReport, PageReport, OutcomeReport, GiveUp}
+use Rattle.fax_core.specs.declared.ask.Ask.TheVariants.{Submission, Bring, OnJob, Mark, Next, OnGrant, GiveUp}
+use Rattle.fax_core.specs.declared.ask.JobAsk.{JobAsk}
+use Rattle.fax_core.specs.declared.ask.JobAsk.TheVariants as ask
 use Rattle.fax_core.specs.declared.report.Outcome.{Outcome}
+use Rattle.fax_core.specs.declared.report.Report.{Report}
+use Rattle.fax_core.specs.declared.report.Report.TheVariants as report
 use Rattle.fax_core.specs.Best.{best}
-use Rattle.fax_core.specs.Decisions.{JobAndGrant, is_over, new_job, submit, suspend_in, suspend, resume_in, resume, kill_in, kill, altered, alter_in, alter, granted, grant, after_call, call, is_connected, page_of, page, ended, is_done, is_empty, outcome}
+use Rattle.fax_core.specs.Decisions.{JobAndGrant, is_over, new_job, submit, suspend_in, resume_in, kill_in, altered, alter_in, job_asked, granted, grant, after_call, call, is_connected, page_of, page, ended, is_done, is_empty, outcome, grant_reported}
 use Rattle.fax_core.specs.Import.{old_job, is_ended, brought, bring}
 use Rattle.fax_core.specs.Job.{Job}
 use Rattle.fax_core.specs.Laws.{TellsHeld}
-use Rattle.fax_core.specs.Machine.{with_mark, is_down, held_by, dial_of, handed, keys_of_rule, keys_of_job, submitted, brought_in, changed, on_job, reported, without_job, on_both, on_grant, given, given_best, given_free, given_to, call_reply, page_reply, outcome_reply, act, step}
+use Rattle.fax_core.specs.Machine.{with_mark, is_down, held_by, dial_of, handed, keys_of_rule, keys_of_job, submitted, brought_in, changed, on_job, reported, without_job, on_both, on_grant, given, given_best, given_free, given_to, report_reply, act, step}
 use Rattle.fax_core.specs.Queue.{Queue, open_grants, job_numbered, grant_numbered}
 use Rattle.fax_core.specs.Refusals.{may_meet, goes_with}
 use Rattle.fax_core.specs.Reply.{Handed, Reply, Marked, Keys, NoKeys, HeldGrant, Step, Taken, Refused}
@@ -81,9 +85,9 @@ module _ (P : Refusal → Keys → Type 0) where
   changed_refused s m t (Err x) e k f h = refused_is P x e NoKeys k h (f x refl)
 
   -- so has a refused request on a job, where the job is there
-  on_job_refused : (s : Settings) (m : Queue) (t : ℕ) (decide : Job → Result Job Refusal) (o : Option Job) (e : Refusal) (k : Keys) → P NoJob NoKeys → ((j : Job) (x : Refusal) → decide j ≡ Err x → P x NoKeys) → on_job s m t decide o ≡ Refused e k → P e k
-  on_job_refused s m t decide None e k p f h = refused_is P NoJob e NoKeys k h p
-  on_job_refused s m t decide (Some j) e k p f h = changed_refused s m t (decide j) e k (f j) h
+  on_job_refused : (s : Settings) (m : Queue) (t : ℕ) (a : JobAsk) (o : Option Job) (e : Refusal) (k : Keys) → P NoJob NoKeys → ((j : Job) (x : Refusal) → job_asked a t j ≡ Err x → P x NoKeys) → on_job s m t a o ≡ Refused e k → P e k
+  on_job_refused s m t a None e k p f h = refused_is P NoJob e NoKeys k h p
+  on_job_refused s m t a (Some j) e k p f h = changed_refused s m t (job_asked a t j) e k (f j) h
 
   -- a refused report has its decision's refusal, with the job's keys
   reported_refused : (m : Queue) (reply : Queue → JobAndGrant → Reply) (j : Job) (d : Result JobAndGrant Refusal) (e : Refusal) (k : Keys) → ((x : Refusal) → d ≡ Err x → P x (keys_of_job x j)) → reported m reply j d ≡ Refused e k → P e k
@@ -96,14 +100,16 @@ module _ (P : Refusal → Keys → Type 0) where
   no_job m a g h is none p false o = p
 
   -- a report on a grant whose job is there or not is refused by the decision, or as closed
-  on_both_refused : (m : Queue) (decide : Job → Grant → Result JobAndGrant Refusal) (reply : Queue → JobAndGrant → Reply) (a : ℕ) (g : Grant) (o : Option Job) (e : Refusal) (k : Keys) → Sound m → grant_numbered a m ≡ Some g → job_numbered g.job m ≡ o → P GrantClosed NoKeys → ((j : Job) (x : Refusal) → decide j g ≡ Err x → P x (keys_of_job x j)) → on_both m decide reply g o ≡ Refused e k → P e k
-  on_both_refused m decide reply a g None e k s is none p f h = refused_is P (without_job g.is_open) e NoKeys k h (no_job m a g s is none p g.is_open refl)
-  on_both_refused m decide reply a g (Some j) e k s is there p f h = reported_refused m reply j (decide j g) e k (f j) h
+  on_both_refused : (s : Settings) (m : Queue) (t a : ℕ) (r : Report) (g : Grant) (o : Option Job) (e : Refusal) (k : Keys) → Sound m → grant_numbered a m ≡ Some g → job_numbered g.job m ≡ o → P GrantClosed NoKeys
+      → ((j : Job) (x : Refusal) → grant_reported r s.delay t j g ≡ Err x → P x (keys_of_job x j)) → on_both s m t r g o ≡ Refused e k → P e k
+  on_both_refused s m t a r g None e k sound is none p f h = refused_is P (without_job g.is_open) e NoKeys k h (no_job m a g sound is none p g.is_open refl)
+  on_both_refused s m t a r g (Some j) e k sound is there p f h = reported_refused m (report_reply s t r) j (grant_reported r s.delay t j g) e k (f j) h
 
   -- the same of a grant that is there or not
-  on_grant_refused : (m : Queue) (decide : Job → Grant → Result JobAndGrant Refusal) (reply : Queue → JobAndGrant → Reply) (a : ℕ) (o : Option Grant) (e : Refusal) (k : Keys) → Sound m → grant_numbered a m ≡ o → P NoGrant NoKeys → P GrantClosed NoKeys → ((j : Job) (g : Grant) (x : Refusal) → decide j g ≡ Err x → P x (keys_of_job x j)) → on_grant m decide reply o ≡ Refused e k → P e k
-  on_grant_refused m decide reply a None e k s is p q f h = refused_is P NoGrant e NoKeys k h p
-  on_grant_refused m decide reply a (Some g) e k s is p q f h = on_both_refused m decide reply a g (job_numbered g.job m) e k s is refl q (λ j x. f j g x) h
+  on_grant_refused : (s : Settings) (m : Queue) (t a : ℕ) (r : Report) (o : Option Grant) (e : Refusal) (k : Keys) → Sound m → grant_numbered a m ≡ o → P NoGrant NoKeys → P GrantClosed NoKeys
+      → ((j : Job) (g : Grant) (x : Refusal) → grant_reported r s.delay t j g ≡ Err x → P x (keys_of_job x j)) → on_grant s m t r o ≡ Refused e k → P e k
+  on_grant_refused s m t a r None e k sound is p q f h = refused_is P NoGrant e NoKeys k h p
+  on_grant_refused s m t a r (Some g) e k sound is p q f h = on_both_refused s m t a r g (job_numbered g.job m) e k sound is refl q (λ j x. f j g x) h
 
   -- a refused mark is of no modem
   mark_refused : (m : Queue) (modem : List ℕ) (down b : Bool) (e : Refusal) (k : Keys) → P NoModem NoKeys → cond b (Taken (with_mark modem down m) (Marked down)) (Refused NoModem NoKeys) ≡ Refused e k → P e k
@@ -216,6 +222,19 @@ next_refused s m t modem e k h =
 
 -- ---- each request
 
+-- what a client asks of a job that is there has one of its refusals
+ask_refused : (n t : ℕ) (a : JobAsk) (j : Job) (x : Refusal) → job_asked a t j ≡ Err x → IsOf (OnJob n a) x NoKeys
+ask_refused n t ask.Suspend j = suspend_refused (λ y. IsOf (OnJob n ask.Suspend) y NoKeys) (record { met = refl; keys = refl }) (record { met = refl; keys = refl }) j.phase j.wish j
+ask_refused n t ask.Resume j = resume_refused (λ y. IsOf (OnJob n ask.Resume) y NoKeys) (record { met = refl; keys = refl }) (record { met = refl; keys = refl }) (record { met = refl; keys = refl }) j.phase j.wish j
+ask_refused n t ask.Kill j = kill_refused (λ y. IsOf (OnJob n ask.Kill) y NoKeys) (record { met = refl; keys = refl }) j.phase j
+ask_refused n t (ask.Alter c) j = alter_refused (λ y. IsOf (OnJob n (ask.Alter c)) y NoKeys) (record { met = refl; keys = refl }) (record { met = refl; keys = refl }) (record { met = refl; keys = refl }) (record { met = refl; keys = refl }) j.phase c j t
+
+-- so has what a worker reports on a grant that is there
+report_refused : (n : ℕ) (s : Settings) (t : ℕ) (r : Report) (j : Job) (g : Grant) (x : Refusal) → grant_reported r s.delay t j g ≡ Err x → IsOf (OnGrant n r) x (keys_of_job x j)
+report_refused n s t (report.Call c) j g = call_refused (λ y. IsOf (OnGrant n (report.Call c)) y (keys_of_job y j)) (record { met = refl; keys = refl }) (record { met = refl; keys = refl }) c j g
+report_refused n s t (report.Page p) j g = page_refused (λ y. IsOf (OnGrant n (report.Page p)) y (keys_of_job y j)) (record { met = refl; keys = refl }) (record { met = refl; keys = refl }) (record { met = refl; keys = refl }) p j g
+report_refused n s t (report.Outcome o) j g = outcome_refused (λ y. IsOf (OnGrant n (report.Outcome o)) y (keys_of_job y j)) (record { met = refl; keys = refl }) (record { met = refl; keys = refl }) (record { met = refl; keys = refl }) (record { met = refl; keys = refl }) (record { met = refl; keys = refl }) o j g (s.delay g.call) t
+
 -- each refused request has one of its refusals, with its keys
 act_refused : (s : Settings) (m : Queue) (t : ℕ) (ask : Ask) (e : Refusal) (k : Keys) → Sound m → act s m t ask ≡ Refused e k → IsOf ask e k
 act_refused s m t (Submission o) e k h x =
@@ -226,30 +245,10 @@ act_refused s m t (Bring i) e k h x =
     let P = λ (y : Refusal). IsOf (Bring i) y (keys_of_rule y (s.rule i.order.dial)) in
     import_refused (IsOf (Bring i)) s m t (s.rule i.order.dial) (bring i (s.rule i.order.dial) m.next_job s.max_jobs t) e k
     (bring_refused P (record { met = refl; keys = refl }) (record { met = refl; keys = refl }) (record { met = refl; keys = refl }) i (s.rule i.order.dial) m.next_job s.max_jobs t) x
-act_refused s m t (Suspend n) e k h x =
-    on_job_refused (IsOf (Suspend n)) s m t suspend (job_numbered n m) e k (record { met = refl; keys = refl })
-    (λ j. suspend_refused (λ y. IsOf (Suspend n) y NoKeys) (record { met = refl; keys = refl }) (record { met = refl; keys = refl }) j.phase j.wish j) x
-act_refused s m t (Resume n) e k h x =
-    on_job_refused (IsOf (Resume n)) s m t resume (job_numbered n m) e k (record { met = refl; keys = refl })
-    (λ j. resume_refused (λ y. IsOf (Resume n) y NoKeys) (record { met = refl; keys = refl }) (record { met = refl; keys = refl }) (record { met = refl; keys = refl }) j.phase j.wish j) x
-act_refused s m t (Kill n) e k h x =
-    on_job_refused (IsOf (Kill n)) s m t kill (job_numbered n m) e k (record { met = refl; keys = refl })
-    (λ j. kill_refused (λ y. IsOf (Kill n) y NoKeys) (record { met = refl; keys = refl }) j.phase j) x
-act_refused s m t (Alteration n c) e k h x =
-    on_job_refused (IsOf (Alteration n c)) s m t (λ j. alter c j t) (job_numbered n m) e k (record { met = refl; keys = refl })
-    (λ j. alter_refused (λ y. IsOf (Alteration n c) y NoKeys) (record { met = refl; keys = refl }) (record { met = refl; keys = refl }) (record { met = refl; keys = refl }) (record { met = refl; keys = refl }) j.phase c j t) x
-act_refused s m t (Ready modem) e k h x = mark_refused (IsOf (Ready modem)) m modem false (s.has_modem modem) e k (record { met = refl; keys = refl }) x
-act_refused s m t (Down modem) e k h x = mark_refused (IsOf (Down modem)) m modem true (s.has_modem modem) e k (record { met = refl; keys = refl }) x
+act_refused s m t (OnJob n a) e k h x = on_job_refused (IsOf (OnJob n a)) s m t a (job_numbered n m) e k (record { met = refl; keys = refl }) (λ j. ask_refused n t a j) x
+act_refused s m t (Mark modem down) e k h x = mark_refused (IsOf (Mark modem down)) m modem down (s.has_modem modem) e k (record { met = refl; keys = refl }) x
 act_refused s m t (Next modem) e k h x = next_refused s m t modem e k x
-act_refused s m t (CallReport n c) e k h x =
-    on_grant_refused (IsOf (CallReport n c)) m (call c) (call_reply t) n (grant_numbered n m) e k h refl (record { met = refl; keys = refl }) (record { met = refl; keys = refl })
-    (λ j. call_refused (λ y. IsOf (CallReport n c) y (keys_of_job y j)) (record { met = refl; keys = refl }) (record { met = refl; keys = refl }) c j) x
-act_refused s m t (PageReport n p) e k h x =
-    on_grant_refused (IsOf (PageReport n p)) m (page p) (page_reply t) n (grant_numbered n m) e k h refl (record { met = refl; keys = refl }) (record { met = refl; keys = refl })
-    (λ j. page_refused (λ y. IsOf (PageReport n p) y (keys_of_job y j)) (record { met = refl; keys = refl }) (record { met = refl; keys = refl }) (record { met = refl; keys = refl }) p j) x
-act_refused s m t (OutcomeReport n o) e k h x =
-    on_grant_refused (IsOf (OutcomeReport n o)) m (λ j g. outcome o j g (s.delay g.call) t) (outcome_reply s t) n (grant_numbered n m) e k h refl (record { met = refl; keys = refl }) (record { met = refl; keys = refl })
-    (λ j g. outcome_refused (λ y. IsOf (OutcomeReport n o) y (keys_of_job y j)) (record { met = refl; keys = refl }) (record { met = refl; keys = refl }) (record { met = refl; keys = refl }) (record { met = refl; keys = refl }) (record { met = refl; keys = refl }) o j g (s.delay g.call) t) x
+act_refused s m t (OnGrant n r) e k h x = on_grant_refused (IsOf (OnGrant n r)) s m t n r (grant_numbered n m) e k h refl (record { met = refl; keys = refl }) (record { met = refl; keys = refl }) (λ j g. report_refused n s t r j g) x
 act_refused s m t (GiveUp floor) e k h x = cc
 
 -- so has each refused step

@@ -1,13 +1,15 @@
 -- Worked rows: what stands in a job after a submission, an alteration and an outcome, and which modems are down.
 use Rattle.std.specs.Prelude.{◌≡◌, refl, true, false, List, [], ◌∷◌, ◌++◌, map, codes, Some, None}
-use Rattle.fax_job.specs.declared.alter.Alter.{Alter}
+use Rattle.fax_job.specs.declared.alter.Alter as changes
 use Rattle.fax_job.specs.declared.job.Phase.TheVariants.{Held, Waiting, Failed}
 use Rattle.fax_job.specs.declared.job.Wish.TheVariants.{Go}
 use Rattle.fax_job.specs.Pair.{Pair}
 use Rattle.fax_job.specs.declared.order.Order.{Order}
 use Rattle.fax_job.specs.declared.job.Call.TheVariants.{Connected}
 use Rattle.fax_core.specs.declared.report.Ending.TheVariants.{Retry}
-use Rattle.fax_core.specs.declared.ask.Ask.TheVariants.{Submission, Suspend, Resume, Kill, Alteration, Ready, Down, Next, CallReport, PageReport, OutcomeReport}
+use Rattle.fax_core.specs.declared.ask.Ask.TheVariants.{Submission, OnJob, Mark, Next, OnGrant}
+use Rattle.fax_core.specs.declared.ask.JobAsk.TheVariants.{Suspend, Resume, Kill, Alter}
+use Rattle.fax_core.specs.declared.report.Report.TheVariants.{Call, Page, Outcome}
 use Rattle.fax_core.specs.Job.{Job}
 use Rattle.fax_core.specs.Queue.{empty_queue}
 use Rattle.fax_core.specs.Reply.{Submitted, Stands, Given, NoneToSend}
@@ -54,29 +56,29 @@ submission_sets = refl
 
 -- ---- an alteration
 
-abbrev other : Alter
+abbrev other : changes.Alter
 other = record { modem = Some (codes "any"); jobtag = Some []; tts = Some (Some 3000); killtime = Some None; priority = Some 90; maxtries = Some 2; maxdials = Some 7 }
 
 -- an alteration sets all that it says
-alteration_sets : (after (Submission whole at 1000 ∷ Suspend 1 at 1000 ∷ Alteration 1 other at 1000 ∷ [])).jobs ≡
+alteration_sets : (after (Submission whole at 1000 ∷ OnJob 1 Suspend at 1000 ∷ OnJob 1 (Alter other) at 1000 ∷ [])).jobs ≡
     record whole_job { modem = codes "any"; jobtag = []; tts = 3000; killtime = None; priority = 90; maxtries = 2; maxdials = 7; phase = Held } ∷ []
 alteration_sets = refl
 
 -- one that says nothing leaves all
-alteration_leaves : (after (Submission whole at 1000 ∷ Suspend 1 at 1000 ∷ Alteration 1 (record { modem = None; jobtag = None; tts = None; killtime = None; priority = None; maxtries = None; maxdials = None }) at 1000 ∷ [])).jobs ≡
+alteration_leaves : (after (Submission whole at 1000 ∷ OnJob 1 Suspend at 1000 ∷ OnJob 1 (Alter (record { modem = None; jobtag = None; tts = None; killtime = None; priority = None; maxtries = None; maxdials = None })) at 1000 ∷ [])).jobs ≡
     record whole_job { phase = Held } ∷ []
 alteration_leaves = refl
 
 -- a kill sets the status
-kill_sets : (after (Submission whole at 1000 ∷ Kill 1 at 1000 ∷ [])).jobs ≡ record whole_job { phase = Failed; status = codes "Killed" } ∷ []
+kill_sets : (after (Submission whole at 1000 ∷ OnJob 1 Kill at 1000 ∷ [])).jobs ≡ record whole_job { phase = Failed; status = codes "Killed" } ∷ []
 kill_sets = refl
 
 -- a held job's too
-kill_sets_held : (after (Submission whole at 1000 ∷ Suspend 1 at 1000 ∷ Kill 1 at 1000 ∷ [])).jobs ≡ record whole_job { phase = Failed; status = codes "Killed" } ∷ []
+kill_sets_held : (after (Submission whole at 1000 ∷ OnJob 1 Suspend at 1000 ∷ OnJob 1 Kill at 1000 ∷ [])).jobs ≡ record whole_job { phase = Failed; status = codes "Killed" } ∷ []
 kill_sets_held = refl
 
 -- the status and the next time stay with a job that is suspended, resumed and granted again
-suspension_leaves : after (outcome_before_page ++ Suspend 1 at 1022 ∷ Resume 1 at 1022 ∷ []) ≡ after outcome_before_page
+suspension_leaves : after (outcome_before_page ++ OnJob 1 Suspend at 1022 ∷ OnJob 1 Resume at 1022 ∷ []) ≡ after outcome_before_page
 suspension_leaves = refl
 
 -- the status of the last grant stays with a job that is granted again
@@ -86,7 +88,7 @@ granted_again = refl
 -- ---- outcomes
 
 -- with no delay a job may go at once: its own call is over
-own_call_is_over : answers (record settings { delay = λ call. 0 }) empty_queue (first_grant ++ OutcomeReport 1 (report false Retry 0 []) at 1000 ∷ []) ≡ Replied (Submitted 1) ∷ Replied (Given (hand 1 1 long_number 1 3)) ∷ Replied (Stands 1 5) ∷ []
+own_call_is_over : answers (record settings { delay = λ call. 0 }) empty_queue (first_grant ++ OnGrant 1 (Outcome (report false Retry 0 [])) at 1000 ∷ []) ≡ Replied (Submitted 1) ∷ Replied (Given (hand 1 1 long_number 1 3)) ∷ Replied (Stands 1 5) ∷ []
 own_call_is_over = refl
 
 -- the reason of a retry is the status
@@ -98,17 +100,17 @@ done_status : statuses (after retry_goes_on) 1083 ≡ [] ∷ []
 done_status = refl
 
 -- a job that is done has the wish to go, though it was to be killed
-done_wish : map (λ j. j.wish) (after (first_grant ++ Kill 1 at 1005 ∷ CallReport 1 Connected at 1006 ∷ PageReport 1 1 at 1007 ∷ PageReport 1 2 at 1007 ∷ PageReport 1 3 at 1007 ∷ OutcomeReport 1 (report true Retry 3 []) at 1007 ∷ [])).jobs ≡ Go ∷ []
+done_wish : map (λ j. j.wish) (after (first_grant ++ OnJob 1 Kill at 1005 ∷ OnGrant 1 (Call Connected) at 1006 ∷ OnGrant 1 (Page 1) at 1007 ∷ OnGrant 1 (Page 2) at 1007 ∷ OnGrant 1 (Page 3) at 1007 ∷ OnGrant 1 (Outcome (report true Retry 3 [])) at 1007 ∷ [])).jobs ≡ Go ∷ []
 done_wish = refl
 
 -- ---- modems
 
 -- a modem is marked down once
-down_once : (after (Down ttyS0 at 0 ∷ Down ttyS1 at 0 ∷ Down ttyS0 at 0 ∷ [])).down ≡ ttyS0 ∷ ttyS1 ∷ []
+down_once : (after (Mark ttyS0 true at 0 ∷ Mark ttyS1 true at 0 ∷ Mark ttyS0 true at 0 ∷ [])).down ≡ ttyS0 ∷ ttyS1 ∷ []
 down_once = refl
 
 -- a modem that is ready is down no more
-ready_again : (after (Down ttyS0 at 0 ∷ Down ttyS1 at 0 ∷ Down ttyS0 at 0 ∷ Ready ttyS0 at 0 ∷ [])).down ≡ ttyS1 ∷ []
+ready_again : (after (Mark ttyS0 true at 0 ∷ Mark ttyS1 true at 0 ∷ Mark ttyS0 true at 0 ∷ Mark ttyS0 false at 0 ∷ [])).down ≡ ttyS1 ∷ []
 ready_again = refl
 
 -- ---- calls to one number

@@ -3,7 +3,9 @@ use Rattle.std.specs.Prelude.{◌≡◌, refl, ℕ, true, false, List, [], ◌�
 use Rattle.fax_job.specs.declared.job.Call.TheVariants.{Connected, Busy}
 use Rattle.fax_job.specs.declared.refusal.Refusal.TheVariants.{ModemBusy, NotConnected, PagesMismatch}
 use Rattle.fax_core.specs.declared.report.Ending.TheVariants.{Done, Retry}
-use Rattle.fax_core.specs.declared.ask.Ask.TheVariants.{Submission, Kill, Next, CallReport, PageReport, OutcomeReport}
+use Rattle.fax_core.specs.declared.ask.Ask.TheVariants.{Submission, OnJob, Next, OnGrant}
+use Rattle.fax_core.specs.declared.ask.JobAsk.TheVariants.{Kill}
+use Rattle.fax_core.specs.declared.report.Report.TheVariants.{Call, Page, Outcome}
 use Rattle.fax_core.specs.Reply.{Submitted, Stands, NoneToSend, Given, Called, Confirmed, NoKeys, HeldGrant}
 use Rattle.fax_core.specs.Run.{Request, Replied, Denied}
 use Rattle.fax_core.proofs.RowWords.{ttyS0, ttyS1, order, report, hand, ◌at◌, told, after, shown, statuses}
@@ -48,7 +50,7 @@ choice_shown : shown (after choice) 1000 ≡ 6 ∷ 4 ∷ 5 ∷ 6 ∷ []
 choice_shown = refl
 
 abbrev pub page_before_call : List Request
-page_before_call = first_grant ++ PageReport 1 1 at 1010 ∷ CallReport 1 Connected at 1011 ∷ PageReport 1 1 at 1012 ∷ []
+page_before_call = first_grant ++ OnGrant 1 (Page 1) at 1010 ∷ OnGrant 1 (Call Connected) at 1011 ∷ OnGrant 1 (Page 1) at 1012 ∷ []
 
 -- a page isn't confirmed before the call is
 page_before_call_row : told page_before_call ≡
@@ -59,8 +61,8 @@ page_before_call_row = refl
 abbrev pub outcome_before_page : List Request
 outcome_before_page =
     page_before_call
-    ++ OutcomeReport 1 (report true Retry 2 (codes "line dropped")) at 1020 ∷ PageReport 1 2 at 1021
-    ∷ OutcomeReport 1 (report true Retry 2 (codes "line dropped")) at 1022 ∷ []
+    ++ OnGrant 1 (Outcome (report true Retry 2 (codes "line dropped"))) at 1020 ∷ OnGrant 1 (Page 2) at 1021
+    ∷ OnGrant 1 (Outcome (report true Retry 2 (codes "line dropped"))) at 1022 ∷ []
 
 -- an outcome is refused until its pages are those confirmed
 outcome_before_page_row : told outcome_before_page ≡
@@ -76,8 +78,8 @@ outcome_before_page_next = refl
 abbrev pub retry_goes_on : List Request
 retry_goes_on =
     outcome_before_page
-    ++ Next ttyS0 at 1081 ∷ Next ttyS0 at 1082 ∷ CallReport 2 Connected at 1083 ∷ PageReport 2 3 at 1083
-    ∷ OutcomeReport 2 (report true Done 1 []) at 1083 ∷ []
+    ++ Next ttyS0 at 1081 ∷ Next ttyS0 at 1082 ∷ OnGrant 2 (Call Connected) at 1083 ∷ OnGrant 2 (Page 3) at 1083
+    ∷ OnGrant 2 (Outcome (report true Done 1 [])) at 1083 ∷ []
 
 -- then it goes on with the page behind those sent
 retry_goes_on_row : told retry_goes_on ≡
@@ -89,24 +91,24 @@ retry_goes_on_row : told retry_goes_on ≡
 retry_goes_on_row = refl
 
 -- a job that is killed while granted stops, and fails when its grant ends
-kill_while_granted_row : told (first_grant ++ Kill 1 at 1005 ∷ CallReport 1 Connected at 1006 ∷ OutcomeReport 1 (report true Retry 0 []) at 1007 ∷ []) ≡
+kill_while_granted_row : told (first_grant ++ OnJob 1 Kill at 1005 ∷ OnGrant 1 (Call Connected) at 1006 ∷ OnGrant 1 (Outcome (report true Retry 0 [])) at 1007 ∷ []) ≡
     Replied (Submitted 1) ∷ Replied (Given (hand 1 1 long_number 1 3))
     ∷ Replied (Stands 1 6) ∷ Replied (Called true) ∷ Replied (Stands 1 8) ∷ []
 kill_while_granted_row = refl
 
 -- its status tells so
-kill_while_granted_status : statuses (after (first_grant ++ Kill 1 at 1005 ∷ CallReport 1 Connected at 1006 ∷ OutcomeReport 1 (report true Retry 0 []) at 1007 ∷ [])) 1007 ≡ codes "Killed" ∷ []
+kill_while_granted_status : statuses (after (first_grant ++ OnJob 1 Kill at 1005 ∷ OnGrant 1 (Call Connected) at 1006 ∷ OnGrant 1 (Outcome (report true Retry 0 [])) at 1007 ∷ [])) 1007 ≡ codes "Killed" ∷ []
 kill_while_granted_status = refl
 
 -- all pages are confirmed all the same
-killed_but_sent_row : told (first_grant ++ Kill 1 at 1005 ∷ CallReport 1 Connected at 1006 ∷ PageReport 1 1 at 1007 ∷ PageReport 1 2 at 1007 ∷ PageReport 1 3 at 1007 ∷ OutcomeReport 1 (report true Retry 3 []) at 1007 ∷ []) ≡
+killed_but_sent_row : told (first_grant ++ OnJob 1 Kill at 1005 ∷ OnGrant 1 (Call Connected) at 1006 ∷ OnGrant 1 (Page 1) at 1007 ∷ OnGrant 1 (Page 2) at 1007 ∷ OnGrant 1 (Page 3) at 1007 ∷ OnGrant 1 (Outcome (report true Retry 3 [])) at 1007 ∷ []) ≡
     Replied (Submitted 1) ∷ Replied (Given (hand 1 1 long_number 1 3))
     ∷ Replied (Stands 1 6) ∷ Replied (Called true) ∷ Replied (Confirmed 1 true) ∷ Replied (Confirmed 2 true) ∷ Replied (Confirmed 3 true)
     ∷ Replied (Stands 1 7) ∷ []
 killed_but_sent_row = refl
 
 abbrev connected_round : ℕ → ℕ → List Request
-connected_round grant moment = Next ttyS0 at moment ∷ CallReport grant Connected at moment ∷ OutcomeReport grant (report true Retry 0 []) at moment ∷ []
+connected_round grant moment = Next ttyS0 at moment ∷ OnGrant grant (Call Connected) at moment ∷ OnGrant grant (Outcome (report true Retry 0 [])) at moment ∷ []
 
 abbrev three_tries : ℕ → List Request
 three_tries maxtries = Submission (record (order (codes "5550111") 2) { maxtries = maxtries }) at 1000 ∷ connected_round 1 1000 ++ connected_round 2 1060 ++ connected_round 3 1120
@@ -128,7 +130,7 @@ too_many_tries_in_all : statuses (after (three_tries 3)) 1120 ≡ codes "Too man
 too_many_tries_in_all = refl
 
 abbrev busy_round : ℕ → ℕ → List Request
-busy_round grant moment = Next ttyS0 at moment ∷ CallReport grant Busy at moment ∷ OutcomeReport grant (report true Retry 0 []) at moment ∷ []
+busy_round grant moment = Next ttyS0 at moment ∷ OnGrant grant (Call Busy) at moment ∷ OnGrant grant (Outcome (report true Retry 0 [])) at moment ∷ []
 
 abbrev twelve_dials : List Request
 twelve_dials =
@@ -145,7 +147,7 @@ too_many_dials_status : statuses (after twelve_dials) 2980 ≡ codes "Too many a
 too_many_dials_status = refl
 
 -- a modem that holds a grant is told of it, and whether its call is known
-modem_busy_row : told (first_grant ++ Next ttyS0 at 1100 ∷ CallReport 1 Busy at 1100 ∷ Next ttyS0 at 1100 ∷ []) ≡
+modem_busy_row : told (first_grant ++ Next ttyS0 at 1100 ∷ OnGrant 1 (Call Busy) at 1100 ∷ Next ttyS0 at 1100 ∷ []) ≡
     Replied (Submitted 1) ∷ Replied (Given (hand 1 1 long_number 1 3))
     ∷ Denied ModemBusy (HeldGrant false (hand 1 1 long_number 1 3)) ∷ Replied (Called false) ∷ Denied ModemBusy (HeldGrant true (hand 1 1 long_number 1 3)) ∷ []
 modem_busy_row = refl

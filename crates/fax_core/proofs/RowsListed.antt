@@ -14,7 +14,9 @@ use Rattle.fax_core.specs.Submission.{rule_of}
 use Rattle.fax_core.specs.declared.report.Ending.TheVariants.{Done, Retry, Fail}
 use Rattle.fax_core.specs.Ask.{HasLimits}
 use Rattle.fax_core.specs.declared.ask.Ask.{Ask}
-use Rattle.fax_core.specs.declared.ask.Ask.TheVariants.{Submission, Suspend, Resume, Kill, Alteration, Ready, Down, Next, CallReport, PageReport, OutcomeReport}
+use Rattle.fax_core.specs.declared.ask.Ask.TheVariants.{Submission, OnJob, Mark, Next, OnGrant}
+use Rattle.fax_core.specs.declared.ask.JobAsk.TheVariants.{Suspend, Resume, Kill, Alter}
+use Rattle.fax_core.specs.declared.report.Report.TheVariants.{Call, Page, Outcome}
 use Rattle.fax_core.specs.Decisions.{new_job, retried}
 use Rattle.fax_core.specs.Machine.{step}
 use Rattle.fax_core.specs.Queue.{Queue, empty_queue}
@@ -42,11 +44,11 @@ tight = record settings {
 -- job 1 failed, and its grant is closed; 2 is to be killed, and its call connected; 3 is granted, with no call; 4 waits; 5 is held
 abbrev five_jobs : Queue
 five_jobs = queue_after tight empty_queue (
-    Submission (order (codes "5550101") 2) at 0 ∷ Next ttyS0 at 0 ∷ OutcomeReport 1 (report false Fail 0 []) at 0
-    ∷ Submission (order (codes "5550102") 2) at 0 ∷ Next ttyS0 at 0 ∷ CallReport 2 Connected at 0 ∷ Kill 2 at 0
+    Submission (order (codes "5550101") 2) at 0 ∷ Next ttyS0 at 0 ∷ OnGrant 1 (Outcome (report false Fail 0 [])) at 0
+    ∷ Submission (order (codes "5550102") 2) at 0 ∷ Next ttyS0 at 0 ∷ OnGrant 2 (Call Connected) at 0 ∷ OnJob 2 Kill at 0
     ∷ Submission (order (codes "5550103") 2) at 0 ∷ Next ttyS1 at 0
-    ∷ Submission (order (codes "5550104") 2) at 0 ∷ Submission (order (codes "5550105") 2) at 0 ∷ Suspend 5 at 0
-    ∷ Down (codes "ttyS2") at 0 ∷ [])
+    ∷ Submission (order (codes "5550104") 2) at 0 ∷ Submission (order (codes "5550105") 2) at 0 ∷ OnJob 5 Suspend at 0
+    ∷ Mark (codes "ttyS2") true at 0 ∷ [])
 
 abbrev number_told : Step → ℕ
 number_told (Taken after reply) = 0
@@ -60,27 +62,27 @@ submission_listed : refused_with (Submission (order (codes "5559000") 2) ∷ Sub
 submission_listed = refl
 
 -- so does a suspension
-suspend_listed : refused_with (Suspend 9 ∷ Suspend 1 ∷ Suspend 2 ∷ []) ≡ refusals_of (Suspend 1)
+suspend_listed : refused_with (OnJob 9 Suspend ∷ OnJob 1 Suspend ∷ OnJob 2 Suspend ∷ []) ≡ refusals_of (OnJob 1 Suspend)
 suspend_listed = refl
 
 -- and a resumption
-resume_listed : refused_with (Resume 9 ∷ Resume 1 ∷ Resume 2 ∷ Resume 4 ∷ []) ≡ refusals_of (Resume 1)
+resume_listed : refused_with (OnJob 9 Resume ∷ OnJob 1 Resume ∷ OnJob 2 Resume ∷ OnJob 4 Resume ∷ []) ≡ refusals_of (OnJob 1 Resume)
 resume_listed = refl
 
 -- and a kill
-kill_listed : refused_with (Kill 9 ∷ Kill 1 ∷ []) ≡ refusals_of (Kill 1)
+kill_listed : refused_with (OnJob 9 Kill ∷ OnJob 1 Kill ∷ []) ≡ refusals_of (OnJob 1 Kill)
 kill_listed = refl
 
 -- and an alteration
-alteration_listed : refused_with (Alteration 9 no_change ∷ Alteration 1 no_change ∷ Alteration 2 no_change ∷ Alteration 4 no_change ∷ Alteration 5 (record no_change { maxtries = Some 0 }) ∷ []) ≡ refusals_of (Alteration 1 no_change)
+alteration_listed : refused_with (OnJob 9 (Alter no_change) ∷ OnJob 1 (Alter no_change) ∷ OnJob 2 (Alter no_change) ∷ OnJob 4 (Alter no_change) ∷ OnJob 5 (Alter (record no_change { maxtries = Some 0 })) ∷ []) ≡ refusals_of (OnJob 1 (Alter no_change))
 alteration_listed = refl
 
 -- and a modem that is ready
-ready_listed : refused_with (Ready (codes "ttyS9") ∷ []) ≡ refusals_of (Ready [])
+ready_listed : refused_with (Mark (codes "ttyS9") false ∷ []) ≡ refusals_of (Mark [] false)
 ready_listed = refl
 
 -- and one that is down
-down_listed : refused_with (Down (codes "ttyS9") ∷ []) ≡ refusals_of (Down [])
+down_listed : refused_with (Mark (codes "ttyS9") true ∷ []) ≡ refusals_of (Mark [] true)
 down_listed = refl
 
 -- and a request for work
@@ -88,18 +90,18 @@ next_listed : refused_with (Next (codes "ttyS9") ∷ Next (codes "ttyS2") ∷ Ne
 next_listed = refl
 
 -- and a report of a call
-call_listed : refused_with (CallReport 9 Busy ∷ CallReport 1 Busy ∷ CallReport 2 Busy ∷ []) ≡ refusals_of (CallReport 1 Busy)
+call_listed : refused_with (OnGrant 9 (Call Busy) ∷ OnGrant 1 (Call Busy) ∷ OnGrant 2 (Call Busy) ∷ []) ≡ refusals_of (OnGrant 1 (Call Busy))
 call_listed = refl
 
 -- and of a page
-page_listed : refused_with (PageReport 9 1 ∷ PageReport 1 1 ∷ PageReport 3 1 ∷ PageReport 2 2 ∷ []) ≡ refusals_of (PageReport 1 1)
+page_listed : refused_with (OnGrant 9 (Page 1) ∷ OnGrant 1 (Page 1) ∷ OnGrant 3 (Page 1) ∷ OnGrant 2 (Page 2) ∷ []) ≡ refusals_of (OnGrant 1 (Page 1))
 page_listed = refl
 
 -- and of an outcome
 outcome_listed :
-    refused_with (OutcomeReport 9 (report false Retry 0 []) ∷ OutcomeReport 1 (report false Retry 0 []) ∷ OutcomeReport 2 (report false Retry 0 [])
-    ∷ OutcomeReport 3 (report true Retry 0 []) ∷ OutcomeReport 2 (report true Retry 1 []) ∷ OutcomeReport 2 (report true Done 0 []) ∷ [])
-    ≡ refusals_of (OutcomeReport 1 (report false Retry 0 []))
+    refused_with (OnGrant 9 (Outcome (report false Retry 0 [])) ∷ OnGrant 1 (Outcome (report false Retry 0 [])) ∷ OnGrant 2 (Outcome (report false Retry 0 []))
+    ∷ OnGrant 3 (Outcome (report true Retry 0 [])) ∷ OnGrant 2 (Outcome (report true Retry 1 [])) ∷ OnGrant 2 (Outcome (report true Done 0 [])) ∷ [])
+    ≡ refusals_of (OnGrant 1 (Outcome (report false Retry 0 [])))
 outcome_listed = refl
 
 -- what is told with a refusal is left out with none that has it
@@ -124,7 +126,7 @@ abbrev jobless : Bool → Queue
 jobless is_open = record empty_queue { grants = record { number = 1; job = 1; modem = ttyS0; first_page = 1; last_page = 1; call = None; confirmed = 0; is_open = is_open } ∷ []; next_grant = 2 }
 
 -- a report on an open grant without its job is unavailable, and on a closed one it is closed
-without_a_job : map (λ is_open. answer_of (step settings (jobless is_open) 0 (CallReport 1 Busy))) (true ∷ false ∷ []) ≡ Denied Unavailable NoKeys ∷ Denied GrantClosed NoKeys ∷ []
+without_a_job : map (λ is_open. answer_of (step settings (jobless is_open) 0 (OnGrant 1 (Call Busy)))) (true ∷ false ∷ []) ≡ Denied Unavailable NoKeys ∷ Denied GrantClosed NoKeys ∷ []
 without_a_job = refl
 
 -- a modem that is down and no more in the setup
@@ -137,7 +139,7 @@ abbrev plain : Job
 plain = new_job (order (codes "5550111") 2) 1 0
 
 -- a held job expires as a waiting one does
-held_expires : statuses (after (Submission (record (order (codes "5550111") 1) { killtime = Some 1500 }) at 1000 ∷ Suspend 1 at 1000 ∷ [])) 1500 ≡ codes "Kill time expired" ∷ []
+held_expires : statuses (after (Submission (record (order (codes "5550111") 1) { killtime = Some 1500 }) at 1000 ∷ OnJob 1 Suspend at 1000 ∷ [])) 1500 ≡ codes "Kill time expired" ∷ []
 held_expires = refl
 
 -- the next time stays with a job that expires, is killed or is done
@@ -145,7 +147,7 @@ next_of_expired : (aged_job 50 (record plain { killtime = Some 50; next = 20 }))
 next_of_expired = refl
 
 -- it stays with one that is killed
-next_of_killed : map (λ j. j.next) (after (outcome_before_page ++ Kill 1 at 1022 ∷ [])).jobs ≡ 1082 ∷ []
+next_of_killed : map (λ j. j.next) (after (outcome_before_page ++ OnJob 1 Kill at 1022 ∷ [])).jobs ≡ 1082 ∷ []
 next_of_killed = refl
 
 -- and with one that is done

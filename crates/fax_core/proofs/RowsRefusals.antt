@@ -5,7 +5,9 @@ use Rattle.std.specs.Prelude.{nat_eq}
 use Rattle.fax_job.specs.declared.job.Call.TheVariants.{Connected, Busy}
 use Rattle.fax_job.specs.declared.refusal.Refusal.TheVariants.{NoJob, NoModem, NoGrant, Rejected, TooManyPages, JobOver, JobActive, NotSuspended, LimitReached, ModemDown, ModemBusy, GrantClosed, CallKnown, NotConnected, PageOrder, CallMissing, PagesMismatch, PagesLeft, Full}
 use Rattle.fax_core.specs.declared.report.Ending.TheVariants.{Done, Retry, Fail}
-use Rattle.fax_core.specs.declared.ask.Ask.TheVariants.{Submission, Suspend, Resume, Kill, Alteration, Ready, Down, Next, CallReport, PageReport, OutcomeReport}
+use Rattle.fax_core.specs.declared.ask.Ask.TheVariants.{Submission, OnJob, Mark, Next, OnGrant}
+use Rattle.fax_core.specs.declared.ask.JobAsk.TheVariants.{Suspend, Resume, Kill, Alter}
+use Rattle.fax_core.specs.declared.report.Report.TheVariants.{Call, Page, Outcome}
 use Rattle.fax_core.specs.Queue.{empty_queue}
 use Rattle.fax_core.specs.Reply.{Submitted, Stands, Marked, NoneToSend, Given, Called, Confirmed, NoKeys, Notice, HeldGrant, Pages}
 use Rattle.fax_core.specs.Run.{Answer, Replied, Denied, answers}
@@ -18,15 +20,15 @@ abbrev after_grant : List Answer → List Answer
 after_grant rest = Replied (Submitted 1) ∷ Replied (Given (hand 1 1 long_number 1 3)) ∷ rest
 
 -- a request on a job that isn't there
-refused_8 : told (Kill 9 at 1000 ∷ []) ≡ Denied NoJob NoKeys ∷ []
+refused_8 : told (OnJob 9 Kill at 1000 ∷ []) ≡ Denied NoJob NoKeys ∷ []
 refused_8 = refl
 
 -- a modem that isn't in the setup
-refused_9 : told (Ready (codes "ttyS9") at 1000 ∷ []) ≡ Denied NoModem NoKeys ∷ []
+refused_9 : told (Mark (codes "ttyS9") false at 1000 ∷ []) ≡ Denied NoModem NoKeys ∷ []
 refused_9 = refl
 
 -- a report on a grant that isn't there
-refused_10 : told (CallReport 9 Busy at 1000 ∷ []) ≡ Denied NoGrant NoKeys ∷ []
+refused_10 : told (OnGrant 9 (Call Busy) at 1000 ∷ []) ≡ Denied NoGrant NoKeys ∷ []
 refused_10 = refl
 
 -- numbers that begin with 5559 aren't served, and to those that begin with 5558 two pages may be sent
@@ -47,25 +49,25 @@ refused_12 : answers controlled empty_queue (Submission (order (codes "5558000")
 refused_12 = refl
 
 -- each request on a job that is over
-refused_13 : told (Submission (order long_number 3) at 1000 ∷ Kill 1 at 1000 ∷ Suspend 1 at 1000 ∷ Resume 1 at 1000 ∷ Kill 1 at 1000 ∷ Alteration 1 no_change at 1000 ∷ []) ≡
+refused_13 : told (Submission (order long_number 3) at 1000 ∷ OnJob 1 Kill at 1000 ∷ OnJob 1 Suspend at 1000 ∷ OnJob 1 Resume at 1000 ∷ OnJob 1 Kill at 1000 ∷ OnJob 1 (Alter no_change) at 1000 ∷ []) ≡
     Replied (Submitted 1) ∷ Replied (Stands 1 8) ∷ Denied JobOver NoKeys ∷ Denied JobOver NoKeys ∷ Denied JobOver NoKeys ∷ Denied JobOver NoKeys ∷ []
 refused_13 = refl
 
 -- an alteration of a granted job
-refused_14 : told (first_grant ++ Alteration 1 (record no_change { priority = Some 1 }) at 1000 ∷ []) ≡ after_grant (Denied JobActive NoKeys ∷ [])
+refused_14 : told (first_grant ++ OnJob 1 (Alter (record no_change { priority = Some 1 })) at 1000 ∷ []) ≡ after_grant (Denied JobActive NoKeys ∷ [])
 refused_14 = refl
 
 -- an alteration of a job that isn't suspended
-refused_15 : told (Submission (order long_number 3) at 1000 ∷ Alteration 1 (record no_change { priority = Some 10 }) at 1001 ∷ []) ≡ Replied (Submitted 1) ∷ Denied NotSuspended NoKeys ∷ []
+refused_15 : told (Submission (order long_number 3) at 1000 ∷ OnJob 1 (Alter (record no_change { priority = Some 10 })) at 1001 ∷ []) ≡ Replied (Submitted 1) ∷ Denied NotSuspended NoKeys ∷ []
 refused_15 = refl
 
 -- a limit that is reached already
-refused_16 : told (first_grant ++ CallReport 1 Busy at 1000 ∷ OutcomeReport 1 (report true Retry 0 []) at 1000 ∷ Suspend 1 at 1000 ∷ Alteration 1 (record no_change { maxdials = Some 1 }) at 1000 ∷ []) ≡
+refused_16 : told (first_grant ++ OnGrant 1 (Call Busy) at 1000 ∷ OnGrant 1 (Outcome (report true Retry 0 [])) at 1000 ∷ OnJob 1 Suspend at 1000 ∷ OnJob 1 (Alter (record no_change { maxdials = Some 1 })) at 1000 ∷ []) ≡
     after_grant (Replied (Called false) ∷ Replied (Stands 1 3) ∷ Replied (Stands 1 1) ∷ Denied LimitReached NoKeys ∷ [])
 refused_16 = refl
 
 -- a modem that is down, until it is ready
-refused_17 : told (Down ttyS0 at 1000 ∷ Next ttyS0 at 1000 ∷ Ready ttyS0 at 1000 ∷ Next ttyS0 at 1000 ∷ []) ≡
+refused_17 : told (Mark ttyS0 true at 1000 ∷ Next ttyS0 at 1000 ∷ Mark ttyS0 false at 1000 ∷ Next ttyS0 at 1000 ∷ []) ≡
     Replied (Marked true) ∷ Denied ModemDown NoKeys ∷ Replied (Marked false) ∷ Replied NoneToSend ∷ []
 refused_17 = refl
 
@@ -74,37 +76,37 @@ refused_18 : told (first_grant ++ Next ttyS0 at 1100 ∷ []) ≡ after_grant (De
 refused_18 = refl
 
 -- a report on a closed grant
-refused_19 : told (first_grant ++ CallReport 1 Connected at 1000 ∷ OutcomeReport 1 (report true Fail 0 (codes "No fax tone")) at 1000 ∷ CallReport 1 Connected at 1000 ∷ []) ≡
+refused_19 : told (first_grant ++ OnGrant 1 (Call Connected) at 1000 ∷ OnGrant 1 (Outcome (report true Fail 0 (codes "No fax tone"))) at 1000 ∷ OnGrant 1 (Call Connected) at 1000 ∷ []) ≡
     after_grant (Replied (Called false) ∷ Replied (Stands 1 8) ∷ Denied GrantClosed NoKeys ∷ [])
 refused_19 = refl
 
 -- a failure has its reason as its status
-failed_by_reason : statuses (after (first_grant ++ CallReport 1 Connected at 1000 ∷ OutcomeReport 1 (report true Fail 0 (codes "No fax tone")) at 1000 ∷ [])) 1000 ≡ codes "No fax tone" ∷ []
+failed_by_reason : statuses (after (first_grant ++ OnGrant 1 (Call Connected) at 1000 ∷ OnGrant 1 (Outcome (report true Fail 0 (codes "No fax tone"))) at 1000 ∷ [])) 1000 ≡ codes "No fax tone" ∷ []
 failed_by_reason = refl
 
 -- a second call on a grant, and an outcome without it
-refused_20 : told (first_grant ++ CallReport 1 Connected at 1000 ∷ CallReport 1 Connected at 1000 ∷ OutcomeReport 1 (report false Retry 0 []) at 1000 ∷ []) ≡
+refused_20 : told (first_grant ++ OnGrant 1 (Call Connected) at 1000 ∷ OnGrant 1 (Call Connected) at 1000 ∷ OnGrant 1 (Outcome (report false Retry 0 [])) at 1000 ∷ []) ≡
     after_grant (Replied (Called false) ∷ Denied CallKnown NoKeys ∷ Denied CallKnown NoKeys ∷ [])
 refused_20 = refl
 
 -- a page without a connection
-refused_21 : told (first_grant ++ PageReport 1 1 at 1010 ∷ []) ≡ after_grant (Denied NotConnected NoKeys ∷ [])
+refused_21 : told (first_grant ++ OnGrant 1 (Page 1) at 1010 ∷ []) ≡ after_grant (Denied NotConnected NoKeys ∷ [])
 refused_21 = refl
 
 -- a page out of order, with the number of those sent
-refused_22 : told (first_grant ++ CallReport 1 Connected at 1000 ∷ PageReport 1 2 at 1000 ∷ []) ≡ after_grant (Replied (Called false) ∷ Denied PageOrder (Pages 0) ∷ [])
+refused_22 : told (first_grant ++ OnGrant 1 (Call Connected) at 1000 ∷ OnGrant 1 (Page 2) at 1000 ∷ []) ≡ after_grant (Replied (Called false) ∷ Denied PageOrder (Pages 0) ∷ [])
 refused_22 = refl
 
 -- an outcome of a call that wasn't reported
-refused_23 : told (first_grant ++ OutcomeReport 1 (report true Retry 0 []) at 1000 ∷ []) ≡ after_grant (Denied CallMissing NoKeys ∷ [])
+refused_23 : told (first_grant ++ OnGrant 1 (Outcome (report true Retry 0 [])) at 1000 ∷ []) ≡ after_grant (Denied CallMissing NoKeys ∷ [])
 refused_23 = refl
 
 -- an outcome of pages that weren't confirmed
-refused_24 : told (first_grant ++ CallReport 1 Connected at 1000 ∷ OutcomeReport 1 (report true Retry 2 []) at 1000 ∷ []) ≡ after_grant (Replied (Called false) ∷ Denied PagesMismatch NoKeys ∷ [])
+refused_24 : told (first_grant ++ OnGrant 1 (Call Connected) at 1000 ∷ OnGrant 1 (Outcome (report true Retry 2 [])) at 1000 ∷ []) ≡ after_grant (Replied (Called false) ∷ Denied PagesMismatch NoKeys ∷ [])
 refused_24 = refl
 
 -- a job that is done with pages left
-refused_25 : told (first_grant ++ CallReport 1 Connected at 1000 ∷ OutcomeReport 1 (report true Done 0 []) at 1000 ∷ []) ≡ after_grant (Replied (Called false) ∷ Denied PagesLeft NoKeys ∷ [])
+refused_25 : told (first_grant ++ OnGrant 1 (Call Connected) at 1000 ∷ OnGrant 1 (Outcome (report true Done 0 [])) at 1000 ∷ []) ≡ after_grant (Replied (Called false) ∷ Denied PagesLeft NoKeys ∷ [])
 refused_25 = refl
 
 -- one job more than there may be
@@ -130,7 +132,7 @@ pages_before_full : answers (record strict { rule = λ dial. record default_rule
 pages_before_full = refl
 
 -- a modem that is down comes before one that holds a grant
-down_before_busy : told (first_grant ++ Down ttyS0 at 1000 ∷ Next ttyS0 at 1000 ∷ []) ≡ after_grant (Replied (Marked true) ∷ Denied ModemDown NoKeys ∷ [])
+down_before_busy : told (first_grant ++ Mark ttyS0 true at 1000 ∷ Next ttyS0 at 1000 ∷ []) ≡ after_grant (Replied (Marked true) ∷ Denied ModemDown NoKeys ∷ [])
 down_before_busy = refl
 
 -- and that before the number of grants
@@ -139,22 +141,22 @@ busy_before_full : answers (record settings { max_grants = 1 }) empty_queue (fir
 busy_before_full = refl
 
 -- without a call: a page out of order isn't connected, and a call that is claimed is missing
-without_a_call : told (first_grant ++ PageReport 1 2 at 1000 ∷ OutcomeReport 1 (report true Done 2 []) at 1000 ∷ OutcomeReport 1 (report false Done 2 []) at 1000 ∷ OutcomeReport 1 (report false Done 0 []) at 1000 ∷ []) ≡
+without_a_call : told (first_grant ++ OnGrant 1 (Page 2) at 1000 ∷ OnGrant 1 (Outcome (report true Done 2 [])) at 1000 ∷ OnGrant 1 (Outcome (report false Done 2 [])) at 1000 ∷ OnGrant 1 (Outcome (report false Done 0 [])) at 1000 ∷ []) ≡
     after_grant (Denied NotConnected NoKeys ∷ Denied CallMissing NoKeys ∷ Denied PagesMismatch NoKeys ∷ Denied PagesLeft NoKeys ∷ [])
 without_a_call = refl
 
 -- with a call: what is claimed of it is known, then pages and what is left of them
-with_a_call : told (first_grant ++ CallReport 1 Connected at 1000 ∷ OutcomeReport 1 (report false Done 2 []) at 1000 ∷ OutcomeReport 1 (report true Done 2 []) at 1000 ∷ OutcomeReport 1 (report true Done 0 []) at 1000 ∷ []) ≡
+with_a_call : told (first_grant ++ OnGrant 1 (Call Connected) at 1000 ∷ OnGrant 1 (Outcome (report false Done 2 [])) at 1000 ∷ OnGrant 1 (Outcome (report true Done 2 [])) at 1000 ∷ OnGrant 1 (Outcome (report true Done 0 [])) at 1000 ∷ []) ≡
     after_grant (Replied (Called false) ∷ Denied CallKnown NoKeys ∷ Denied PagesMismatch NoKeys ∷ Denied PagesLeft NoKeys ∷ [])
 with_a_call = refl
 
 -- on a closed grant: each report is refused as closed
-on_a_closed_grant : told (first_grant ++ OutcomeReport 1 (report false Retry 0 []) at 1000 ∷ CallReport 1 Busy at 1000 ∷ PageReport 1 9 at 1000 ∷ OutcomeReport 1 (report true Done 9 []) at 1000 ∷ []) ≡
+on_a_closed_grant : told (first_grant ++ OnGrant 1 (Outcome (report false Retry 0 [])) at 1000 ∷ OnGrant 1 (Call Busy) at 1000 ∷ OnGrant 1 (Page 9) at 1000 ∷ OnGrant 1 (Outcome (report true Done 9 [])) at 1000 ∷ []) ≡
     after_grant (Replied (Stands 1 3) ∷ Denied GrantClosed NoKeys ∷ Denied GrantClosed NoKeys ∷ Denied GrantClosed NoKeys ∷ [])
 on_a_closed_grant = refl
 
 -- each page is confirmed once, in its order
-all_pages_confirmed : told (first_grant ++ CallReport 1 Connected at 1000 ∷ PageReport 1 1 at 1000 ∷ PageReport 1 1 at 1000 ∷ PageReport 1 2 at 1000 ∷ PageReport 1 3 at 1000 ∷ PageReport 1 4 at 1000 ∷ []) ≡
+all_pages_confirmed : told (first_grant ++ OnGrant 1 (Call Connected) at 1000 ∷ OnGrant 1 (Page 1) at 1000 ∷ OnGrant 1 (Page 1) at 1000 ∷ OnGrant 1 (Page 2) at 1000 ∷ OnGrant 1 (Page 3) at 1000 ∷ OnGrant 1 (Page 4) at 1000 ∷ []) ≡
     after_grant (Replied (Called false) ∷ Replied (Confirmed 1 false) ∷ Denied PageOrder (Pages 1) ∷ Replied (Confirmed 2 false) ∷ Replied (Confirmed 3 false) ∷ Denied PageOrder (Pages 3) ∷ [])
 all_pages_confirmed = refl
 
@@ -162,15 +164,15 @@ all_pages_confirmed = refl
 
 -- a grant of three pages, reported on in every wrong way
 refusals_row : told (first_grant
-    ++ Alteration 1 (record no_change { priority = Some 1 }) at 1000
-    ∷ OutcomeReport 1 (report true Retry 0 []) at 1000
-    ∷ CallReport 1 Connected at 1000
-    ∷ CallReport 1 Connected at 1000
-    ∷ OutcomeReport 1 (report false Retry 0 []) at 1000
-    ∷ PageReport 1 2 at 1000
-    ∷ OutcomeReport 1 (report true Done 0 []) at 1000
-    ∷ OutcomeReport 1 (report true Fail 0 (codes "No fax tone")) at 1000
-    ∷ CallReport 1 Busy at 1000 ∷ []) ≡
+    ++ OnJob 1 (Alter (record no_change { priority = Some 1 })) at 1000
+    ∷ OnGrant 1 (Outcome (report true Retry 0 [])) at 1000
+    ∷ OnGrant 1 (Call Connected) at 1000
+    ∷ OnGrant 1 (Call Connected) at 1000
+    ∷ OnGrant 1 (Outcome (report false Retry 0 [])) at 1000
+    ∷ OnGrant 1 (Page 2) at 1000
+    ∷ OnGrant 1 (Outcome (report true Done 0 [])) at 1000
+    ∷ OnGrant 1 (Outcome (report true Fail 0 (codes "No fax tone"))) at 1000
+    ∷ OnGrant 1 (Call Busy) at 1000 ∷ []) ≡
     after_grant (Denied JobActive NoKeys
     ∷ Denied CallMissing NoKeys
     ∷ Replied (Called false)

@@ -10,12 +10,14 @@ use Rattle.fax_core.specs.declared.grants.Grant.{Grant}
 use Rattle.fax_core.specs.Ageing.{aged, aged_job}
 use Rattle.fax_core.specs.Ask.{IsLawfulAsk}
 use Rattle.fax_core.specs.declared.ask.Ask.{Ask}
-use Rattle.fax_core.specs.declared.ask.Ask.TheVariants.{Submission, Bring, Suspend, Resume, Kill, Alteration, Ready, Down, Next, CallReport, PageReport, OutcomeReport, GiveUp}
+use Rattle.fax_core.specs.declared.ask.Ask.TheVariants.{Submission, Bring, OnJob, Mark, Next, OnGrant, GiveUp}
+use Rattle.fax_core.specs.declared.ask.JobAsk.{JobAsk}
+use Rattle.fax_core.specs.declared.report.Report.{Report}
 use Rattle.fax_core.specs.Best.{best, MayGo, IsBest}
-use Rattle.fax_core.specs.Decisions.{JobAndGrant, submit, suspend, resume, kill, alter, grant, granted, call, page, outcome}
+use Rattle.fax_core.specs.Decisions.{JobAndGrant, submit, job_asked, grant, granted, grant_reported}
 use Rattle.fax_core.specs.Import.{bring}
 use Rattle.fax_core.specs.Job.{Job}
-use Rattle.fax_core.specs.Machine.{with_job, with_both, with_new_job, with_new_grant, with_mark, is_down, held_by, handed, submitted, brought_in, changed, on_job, reported, on_both, on_grant, given, given_best, given_free, given_to, call_reply, page_reply, outcome_reply, act, step}
+use Rattle.fax_core.specs.Machine.{with_job, with_both, with_new_job, with_new_grant, with_mark, is_down, held_by, handed, submitted, brought_in, changed, on_job, reported, on_both, on_grant, given, given_best, given_free, given_to, report_reply, act, step}
 use Rattle.fax_core.specs.Queue.{Queue, open_grants, job_numbered, grant_numbered}
 use Rattle.fax_core.specs.Reply.{Reply, Handed, Marked, NoneToSend, Given, Keys, NoKeys, Step, Taken, Refused}
 use Rattle.fax_core.specs.Run.{Request, left_by, decided, queue_after, AreLawful}
@@ -23,7 +25,7 @@ use Rattle.fax_core.specs.Settings.{Rule, Settings}
 use Rattle.fax_core.specs.Sound.{FitsFree, FitsGrant, IsJob, IsOpen, Sound}
 use Rattle.fax_core.proofs.BestLemmas.{best_is, none_goes, ready_waits}
 use Rattle.fax_core.proofs.DecisionLemmas as decision
-use Rattle.fax_core.proofs.DecisionLemmas.{Keeps, IsReport, aged_number, aged_free, aged_held, suspended_in, resumed_in, killed_in, altered_in, called, paged, outcome_is, granted_fits, not_refused, ok_same}
+use Rattle.fax_core.proofs.DecisionLemmas.{Keeps, IsReport, aged_number, aged_free, aged_held, asked_in, reported_in, granted_fits, not_refused, ok_same}
 use Rattle.fax_core.proofs.ImportLemmas.{bring_counts, bring_fits}
 use Rattle.fax_core.proofs.KeepLemmas.{same_job, numbered_job, keeps_mapped, keeps_job, keeps_both, keeps_new_job, Grants, keeps_new_grant}
 use Rattle.fax_core.proofs.PlaceLemmas.{In, found_in, none_passes, in_filter}
@@ -65,9 +67,9 @@ changed_sound s m t a j (Ok k) n r is keeps h e =
 changed_sound s m t a j (Err x) n r is keeps h e = cc
 
 -- so does a request on a job
-on_job_sound : (s : Settings) (m : Queue) (t : ℕ) (a : ℕ) (decide : Job → Result Job Refusal) (o : Option Job) (n : Queue) (r : Reply) → job_numbered a m ≡ o → ((j k : Job) → decide j ≡ Ok k → Keeps j k) → Sound m → on_job s m t decide o ≡ Taken n r → Sound n
-on_job_sound s m t a decide None n r is keeps h e = cc
-on_job_sound s m t a decide (Some j) n r is keeps h e = changed_sound s m t a j (decide j) n r is (keeps j) h e
+on_job_sound : (s : Settings) (m : Queue) (t : ℕ) (a : ℕ) (ask : JobAsk) (o : Option Job) (n : Queue) (r : Reply) → job_numbered a m ≡ o → Sound m → on_job s m t ask o ≡ Taken n r → Sound n
+on_job_sound s m t a ask None n r is h e = cc
+on_job_sound s m t a ask (Some j) n r is h e = changed_sound s m t a j (job_asked ask t j) n r is (asked_in ask t j) h e
 
 -- ---- reports
 
@@ -82,14 +84,14 @@ reported_sound m reply a g j (Ok b) n r is of report h e =
 reported_sound m reply a g j (Err x) n r is of report h e = cc
 
 -- the same of a grant whose job is there or not
-on_both_sound : (m : Queue) (decide : Job → Grant → Result JobAndGrant Refusal) (reply : Queue → JobAndGrant → Reply) (a : ℕ) (g : Grant) (o : Option Job) (n : Queue) (r : Reply) → grant_numbered a m ≡ Some g → job_numbered g.job m ≡ o → ((j : Job) (b : JobAndGrant) → decide j g ≡ Ok b → IsReport j g b) → Sound m → on_both m decide reply g o ≡ Taken n r → Sound n
-on_both_sound m decide reply a g None n r is of report h e = cc
-on_both_sound m decide reply a g (Some j) n r is of report h e = reported_sound m reply a g j (decide j g) n r is of (report j) h e
+on_both_sound : (s : Settings) (m : Queue) (t : ℕ) (a : ℕ) (x : Report) (g : Grant) (o : Option Job) (n : Queue) (r : Reply) → grant_numbered a m ≡ Some g → job_numbered g.job m ≡ o → Sound m → on_both s m t x g o ≡ Taken n r → Sound n
+on_both_sound s m t a x g None n r is of h e = cc
+on_both_sound s m t a x g (Some j) n r is of h e = reported_sound m (report_reply s t x) a g j (grant_reported x s.delay t j g) n r is of (reported_in x s.delay t j g) h e
 
 -- the same of a grant that is there or not
-on_grant_sound : (m : Queue) (decide : Job → Grant → Result JobAndGrant Refusal) (reply : Queue → JobAndGrant → Reply) (a : ℕ) (o : Option Grant) (n : Queue) (r : Reply) → grant_numbered a m ≡ o → ((j : Job) (g : Grant) (b : JobAndGrant) → decide j g ≡ Ok b → IsReport j g b) → Sound m → on_grant m decide reply o ≡ Taken n r → Sound n
-on_grant_sound m decide reply a None n r is report h e = cc
-on_grant_sound m decide reply a (Some g) n r is report h e = on_both_sound m decide reply a g (job_numbered g.job m) n r is refl (λ j b. report j g b) h e
+on_grant_sound : (s : Settings) (m : Queue) (t : ℕ) (a : ℕ) (x : Report) (o : Option Grant) (n : Queue) (r : Reply) → grant_numbered a m ≡ o → Sound m → on_grant s m t x o ≡ Taken n r → Sound n
+on_grant_sound s m t a x None n r is h e = cc
+on_grant_sound s m t a x (Some g) n r is h e = on_both_sound s m t a x g (job_numbered g.job m) n r is refl h e
 
 -- ---- modems
 
@@ -176,16 +178,10 @@ given_sound s m t modem n r h (Best_to j b none same told) = subst Sound same (k
 act_sound : (s : Settings) (m n : Queue) (t : ℕ) (ask : Ask) (r : Reply) → Sound m → IsLawfulAsk ask → act s m t ask ≡ Taken n r → Sound n
 act_sound s m n t (Submission o) r h lawful e = submission_sound m (s.rule o.dial) (submit o (s.rule o.dial) m.next_job s.max_jobs t) n r (λ j. decision.submitted o (s.rule o.dial) m.next_job s.max_jobs t j lawful) h e
 act_sound s m n t (Bring i) r h lawful e = import_sound s m t (s.rule i.order.dial) (bring i (s.rule i.order.dial) m.next_job s.max_jobs t) n r (λ j is. ((bring_counts i (s.rule i.order.dial) m.next_job s.max_jobs t j is).number, bring_fits i (s.rule i.order.dial) m.next_job s.max_jobs t j lawful is)) h e
-act_sound s m n t (Suspend a) r h lawful e = on_job_sound s m t a suspend (job_numbered a m) n r refl (λ j k. suspended_in j.phase j.wish j k refl) h e
-act_sound s m n t (Resume a) r h lawful e = on_job_sound s m t a resume (job_numbered a m) n r refl (λ j k. resumed_in j.phase j.wish j k refl) h e
-act_sound s m n t (Kill a) r h lawful e = on_job_sound s m t a kill (job_numbered a m) n r refl (λ j k. killed_in j.phase j k refl) h e
-act_sound s m n t (Alteration a c) r h lawful e = on_job_sound s m t a (λ j. alter c j t) (job_numbered a m) n r refl (λ j k. altered_in j.phase c j k t refl) h e
-act_sound s m n t (Ready modem) r h lawful e = marked_by m modem false (s.has_modem modem) n r h e
-act_sound s m n t (Down modem) r h lawful e = marked_by m modem true (s.has_modem modem) n r h e
+act_sound s m n t (OnJob a ask) r h lawful e = on_job_sound s m t a ask (job_numbered a m) n r refl h e
+act_sound s m n t (Mark modem down) r h lawful e = marked_by m modem down (s.has_modem modem) n r h e
 act_sound s m n t (Next modem) r h lawful e = given_sound s m t modem n r h (given_is s m t modem n r h e)
-act_sound s m n t (CallReport a c) r h lawful e = on_grant_sound m (call c) (call_reply t) a (grant_numbered a m) n r refl (λ j g b. called c j g b) h e
-act_sound s m n t (PageReport a p) r h lawful e = on_grant_sound m (page p) (page_reply t) a (grant_numbered a m) n r refl (λ j g b d. (paged p j g b d).0) h e
-act_sound s m n t (OutcomeReport a o) r h lawful e = on_grant_sound m (λ j g. outcome o j g (s.delay g.call) t) (outcome_reply s t) a (grant_numbered a m) n r refl (λ j g b. outcome_is o j g (s.delay g.call) t b) h e
+act_sound s m n t (OnGrant a report) r h lawful e = on_grant_sound s m t a report (grant_numbered a m) n r refl h e
 act_sound s m n t (GiveUp floor) r h lawful e = subst Sound (taken_same m n _ r e).0 h
 
 -- so does a step

@@ -12,9 +12,13 @@ use Rattle.fax_job.specs.declared.refusal.Refusal.{Refusal}
 use Rattle.fax_job.specs.declared.refusal.Refusal.TheVariants.{Rejected, TooManyPages, JobOver, JobActive, NotSuspended, LimitReached, GrantClosed, CallKnown, NotConnected, PageOrder, CallMissing, PagesMismatch, PagesLeft, Full}
 use Rattle.fax_value.specs.Limits.{tries_of_page}
 use Rattle.fax_value.specs.Status.{killed, kill_time_expired, too_many_dials, too_many_tries, unable_to_transmit}
+use Rattle.fax_core.specs.declared.ask.JobAsk.{JobAsk}
+use Rattle.fax_core.specs.declared.ask.JobAsk.TheVariants as ask
 use Rattle.fax_core.specs.declared.grants.Grant.{Grant}
 use Rattle.fax_core.specs.declared.report.Ending.{Ending}
 use Rattle.fax_core.specs.declared.report.Ending.TheVariants as ending
+use Rattle.fax_core.specs.declared.report.Report.{Report}
+use Rattle.fax_core.specs.declared.report.Report.TheVariants as report
 use Rattle.fax_core.specs.Ageing.{is_past}
 use Rattle.fax_core.specs.declared.report.Outcome.{Outcome}
 use Rattle.fax_core.specs.Job.{Job, pages_to}
@@ -146,6 +150,13 @@ alter_in phase.Failed a j t = Err JobOver
 abbrev pub alter : Alter → Job → ℕ → Result Job Refusal
 alter a j t = alter_in j.phase a j t
 
+-- what a client asks of a job at t
+abbrev pub job_asked : JobAsk → ℕ → Job → Result Job Refusal
+job_asked ask.Suspend t j = suspend j
+job_asked ask.Resume t j = resume j
+job_asked ask.Kill t j = kill j
+job_asked (ask.Alter changes) t j = alter changes j t
+
 -- ---- a grant
 
 -- the job is granted, and its pages from the one after those sent to the last go to the modem
@@ -246,6 +257,12 @@ outcome o j g delay t =
     refuse_if not (o.pages == g.confirmed) because PagesMismatch otherwise
     refuse_if is_done o.ending && not (is_empty j.left) because PagesLeft otherwise
     Ok (record { job = ended j.left o j delay t; grant = record g { is_open = false } })
+
+-- what a worker reports on a grant at t, with the delay behind each call
+abbrev pub grant_reported : Report → (Option Call → ℕ) → ℕ → Job → Grant → Result JobAndGrant Refusal
+grant_reported (report.Call c) delay t j g = call c j g
+grant_reported (report.Page n) delay t j g = page n j g
+grant_reported (report.Outcome o) delay t j g = outcome o j g (delay g.call) t
 
 -- the client lets the job go on
 abbrev pub is_go : Wish → Bool

@@ -13,10 +13,11 @@ use Rattle.fax_job.specs.declared.refusal.Refusal.{Refusal}
 use Rattle.fax_job.specs.Refusal.{refusal_number}
 use Rattle.fax_core.specs.declared.grants.Grant.{Grant}
 use Rattle.fax_core.specs.declared.report.Outcome.{Outcome}
+use Rattle.fax_core.specs.declared.report.Report.TheVariants.{Page}
 use Rattle.fax_core.specs.Ageing.{aged}
 use Rattle.fax_core.specs.Ask.{IsLawfulAsk}
 use Rattle.fax_core.specs.declared.ask.Ask.{Ask}
-use Rattle.fax_core.specs.declared.ask.Ask.TheVariants.{Bring, Next, PageReport}
+use Rattle.fax_core.specs.declared.ask.Ask.TheVariants.{Bring, Next, OnGrant}
 use Rattle.fax_core.specs.Best.{MayGo, IsBest}
 use Rattle.fax_core.specs.Clock.{decided_at}
 use Rattle.fax_core.specs.Decisions.{JobAndGrant, suspend, resume, kill, alter, grant, call, page, outcome}
@@ -99,7 +100,7 @@ pub record ConfirmsPage (before after : Queue) (number page : ℕ) : Type 0 wher
 abbrev pub PageReportsConfirm : Type 0
 PageReportsConfirm =
     (s : Settings) (m n : Queue) (t grant page : ℕ) (reply : Reply)
-    → step s m t (PageReport grant page) ≡ Taken n reply
+    → step s m t (OnGrant grant (Page page)) ≡ Taken n reply
     → ConfirmsPage (aged t m) n grant page
 
 -- the job of a number has sent these pages first, in this order
@@ -129,7 +130,7 @@ abbrev pub PagesAreGrantedNoMore : Type 0
 PagesAreGrantedNoMore =
     (s : Settings) (m n : Queue) (t grant page : ℕ) (reply : Reply) (g : Grant) (rs : List Request) (u : ℕ) (modem : List ℕ) (l : Queue) (h : Handed)
     → Sound m → AreLawful rs
-    → step s m t (PageReport grant page) ≡ Taken n reply
+    → step s m t (OnGrant grant (Page page)) ≡ Taken n reply
     → step s (queue_after s n rs) u (Next modem) ≡ Taken l (Given h)
     → grant_numbered grant m ≡ Some g → h.job ≡ g.job
     → page < h.from
@@ -149,8 +150,8 @@ abbrev pub PagesRise : Type 0
 PagesRise =
     (s : Settings) (m n : Queue) (t grant page : ℕ) (reply : Reply) (g : Grant) (rs : List Request) (u other later : ℕ) (l : Queue) (answer : Reply) (h : Grant)
     → Sound m → AreLawful rs
-    → step s m t (PageReport grant page) ≡ Taken n reply
-    → step s (queue_after s n rs) u (PageReport other later) ≡ Taken l answer
+    → step s m t (OnGrant grant (Page page)) ≡ Taken n reply
+    → step s (queue_after s n rs) u (OnGrant other (Page later)) ≡ Taken l answer
     → grant_numbered grant m ≡ Some g → grant_numbered other (queue_after s n rs) ≡ Some h → h.job ≡ g.job
     → page < later
 

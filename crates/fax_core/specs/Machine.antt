@@ -7,9 +7,12 @@ use Rattle.fax_job.specs.declared.refusal.Refusal.TheVariants as refusal
 use Rattle.fax_core.specs.declared.grants.Grant.{Grant}
 use Rattle.fax_core.specs.Ageing.{aged}
 use Rattle.fax_core.specs.declared.ask.Ask.{Ask}
-use Rattle.fax_core.specs.declared.ask.Ask.TheVariants.{Submission, Bring, Suspend, Resume, Kill, Alteration, Ready, Down, Next, CallReport, PageReport, OutcomeReport, GiveUp}
+use Rattle.fax_core.specs.declared.ask.Ask.TheVariants.{Submission, Bring, OnJob, Mark, Next, OnGrant, GiveUp}
+use Rattle.fax_core.specs.declared.ask.JobAsk.{JobAsk}
+use Rattle.fax_core.specs.declared.report.Report.{Report}
+use Rattle.fax_core.specs.declared.report.Report.TheVariants.{Call, Page, Outcome}
 use Rattle.fax_core.specs.Best.{best}
-use Rattle.fax_core.specs.Decisions.{JobAndGrant, submit, suspend, resume, kill, alter, grant, call, page, outcome, stops}
+use Rattle.fax_core.specs.Decisions.{JobAndGrant, submit, job_asked, grant, grant_reported, stops}
 use Rattle.fax_core.specs.Import.{bring}
 use Rattle.fax_core.specs.Job.{Job}
 use Rattle.fax_core.specs.Queue.{Queue, open_grants, job_numbered, grant_numbered}
@@ -90,10 +93,25 @@ abbrev pub changed : Settings → Queue → ℕ → Result Job Refusal → Step
 changed s m t (Ok j) = Taken (with_job j m) (Stands j.number (state s (with_job j m) t j))
 changed s m t (Err e) = Refused e NoKeys
 
--- a request on a job, if it is there
-abbrev pub on_job : Settings → Queue → ℕ → (Job → Result Job Refusal) → Option Job → Step
-on_job s m t decide None = Refused refusal.NoJob NoKeys
-on_job s m t decide (Some j) = changed s m t (decide j)
+-- a client's request on a job, if it is there
+abbrev pub on_job : Settings → Queue → ℕ → JobAsk → Option Job → Step
+on_job s m t ask None = Refused refusal.NoJob NoKeys
+on_job s m t ask (Some j) = changed s m t (job_asked ask t j)
+
+-- the replies to reports
+abbrev pub call_reply : ℕ → Queue → JobAndGrant → Reply
+call_reply t m b = Called (stops b.job t)
+
+abbrev pub page_reply : ℕ → Queue → JobAndGrant → Reply
+page_reply t m b = Confirmed (length b.job.sent) (stops b.job t)
+
+abbrev pub outcome_reply : Settings → ℕ → Queue → JobAndGrant → Reply
+outcome_reply s t m b = Stands b.job.number (state s m t b.job)
+
+abbrev pub report_reply : Settings → ℕ → Report → (Queue → JobAndGrant → Reply)
+report_reply s t (Call c) = call_reply t
+report_reply s t (Page p) = page_reply t
+report_reply s t (Outcome o) = outcome_reply s t
 
 -- job and grant are put in their places
 abbrev pub reported : Queue → (Queue → JobAndGrant → Reply) → Job → Result JobAndGrant Refusal → Step
@@ -105,17 +123,17 @@ abbrev pub without_job : Bool → Refusal
 without_job true = refusal.Unavailable
 without_job false = refusal.GrantClosed
 
--- a report on a grant, with its job
-abbrev pub on_both : Queue → (Job → Grant → Result JobAndGrant Refusal) → (Queue → JobAndGrant → Reply) → Grant → Option Job → Step
-on_both m decide reply g None = Refused (without_job g.is_open) NoKeys
-on_both m decide reply g (Some j) = reported m reply j (decide j g)
+-- a worker's report on a grant, with its job
+abbrev pub on_both : Settings → Queue → ℕ → Report → Grant → Option Job → Step
+on_both s m t r g None = Refused (without_job g.is_open) NoKeys
+on_both s m t r g (Some j) = reported m (report_reply s t r) j (grant_reported r s.delay t j g)
 
--- a report on a grant, if it is there
-abbrev pub on_grant : Queue → (Job → Grant → Result JobAndGrant Refusal) → (Queue → JobAndGrant → Reply) → Option Grant → Step
-on_grant m decide reply None = Refused refusal.NoGrant NoKeys
-on_grant m decide reply (Some g) = on_both m decide reply g (job_numbered g.job m)
+-- a worker's report on a grant, if it is there
+abbrev pub on_grant : Settings → Queue → ℕ → Report → Option Grant → Step
+on_grant s m t r None = Refused refusal.NoGrant NoKeys
+on_grant s m t r (Some g) = on_both s m t r g (job_numbered g.job m)
 
--- ready and down, of a modem of the setup
+-- a modem of the setup is marked as down, or no more
 abbrev pub marked : Settings → Queue → List ℕ → Bool → Step
 marked s m modem down = if s.has_modem modem then Taken (with_mark modem down m) (Marked down) else Refused refusal.NoModem NoKeys
 
@@ -141,32 +159,16 @@ given_to s m t modem =
     else if is_down modem m then Refused refusal.ModemDown NoKeys
     else given_free s m t modem (held_by modem m)
 
--- the replies to reports
-abbrev pub call_reply : ℕ → Queue → JobAndGrant → Reply
-call_reply t m b = Called (stops b.job t)
-
-abbrev pub page_reply : ℕ → Queue → JobAndGrant → Reply
-page_reply t m b = Confirmed (length b.job.sent) (stops b.job t)
-
-abbrev pub outcome_reply : Settings → ℕ → Queue → JobAndGrant → Reply
-outcome_reply s t m b = Stands b.job.number (state s m t b.job)
-
 -- ---- the machine
 
 -- by cases on what is asked, over the aged queue
 abbrev pub act : Settings → Queue → ℕ → Ask → Step
 act s m t (Submission order) = submitted m (s.rule order.dial) (submit order (s.rule order.dial) m.next_job s.max_jobs t)
 act s m t (Bring i) = brought_in s m t (s.rule i.order.dial) (bring i (s.rule i.order.dial) m.next_job s.max_jobs t)
-act s m t (Suspend n) = on_job s m t suspend (job_numbered n m)
-act s m t (Resume n) = on_job s m t resume (job_numbered n m)
-act s m t (Kill n) = on_job s m t kill (job_numbered n m)
-act s m t (Alteration n changes) = on_job s m t (λ j. alter changes j t) (job_numbered n m)
-act s m t (Ready modem) = marked s m modem false
-act s m t (Down modem) = marked s m modem true
+act s m t (OnJob n ask) = on_job s m t ask (job_numbered n m)
+act s m t (Mark modem down) = marked s m modem down
 act s m t (Next modem) = given_to s m t modem
-act s m t (CallReport n c) = on_grant m (call c) (call_reply t) (grant_numbered n m)
-act s m t (PageReport n p) = on_grant m (page p) (page_reply t) (grant_numbered n m)
-act s m t (OutcomeReport n o) = on_grant m (λ j g. outcome o j g (s.delay g.call) t) (outcome_reply s t) (grant_numbered n m)
+act s m t (OnGrant n report) = on_grant s m t report (grant_numbered n m)
 act s m t (GiveUp floor) = Taken m (Floored floor)
 
 -- a request at t, on the queue as it is at t

@@ -1,6 +1,5 @@
 -- Why a request is refused: what is so in the queue, as it is at the request's moment, where the request meets a refusal.
 use Rattle.std.specs.Prelude.{◌≡◌, ◌≢◌, ◌⊎◌, ℕ, ◌≤◌, ◌<◌, Bool, true, false, List, [], ◌∷◌, Some, None}
-use Rattle.fax_job.specs.declared.alter.Alter.{Alter}
 use Rattle.fax_job.specs.declared.job.Call.TheVariants.{Connected}
 use Rattle.fax_job.specs.declared.job.Phase.TheVariants as phase
 use Rattle.fax_job.specs.declared.job.Wish.TheVariants as wish
@@ -17,10 +16,13 @@ use Rattle.fax_core.specs.Reply.{Keys, Refused}
 use Rattle.fax_core.specs.Settings.{Settings}
 use Rattle.fax_core.specs.Sound.{IsOpen, Sound}
 use Rattle.fax_core.specs.declared.ask.Ask.{Ask}
-use Rattle.fax_core.specs.declared.ask.Ask.TheVariants.{Submission, Bring, Suspend, Resume, Kill, Alteration, Ready, Down, Next, CallReport, PageReport, OutcomeReport, GiveUp}
+use Rattle.fax_core.specs.declared.ask.Ask.TheVariants.{Submission, Bring, OnJob, Mark, Next, OnGrant, GiveUp}
+use Rattle.fax_core.specs.declared.ask.JobAsk.{JobAsk}
+use Rattle.fax_core.specs.declared.ask.JobAsk.TheVariants.{Suspend, Resume, Alter}
 use Rattle.fax_core.specs.declared.grants.Grant.{Grant}
 use Rattle.fax_core.specs.declared.report.Ending.TheVariants as ending
-use Rattle.fax_core.specs.declared.report.Outcome.{Outcome}
+use Rattle.fax_core.specs.declared.report.Report.{Report}
+use Rattle.fax_core.specs.declared.report.Report.TheVariants.{Call, Page, Outcome}
 
 -- the job of that number is there, and this holds of it
 abbrev pub OfJob : Queue → ℕ → (Job → Type 0) → Type 0
@@ -49,35 +51,24 @@ WhenNew s m o was_over other = ⊥
 abbrev pub IsOver : Job → Type 0
 IsOver j = (j.phase ≡ phase.Done) ⊎ (j.phase ≡ phase.Failed)
 
-abbrev pub WhenSuspended : Queue → ℕ → Refusal → Type 0
-WhenSuspended m n NoJob = job_numbered n m ≡ None
-WhenSuspended m n JobOver = OfJob m n IsOver
-WhenSuspended m n JobActive = OfJob m n (λ j. (j.phase ≡ phase.Granted) × (j.wish ≡ wish.Kill))
-WhenSuspended m n other = ⊥
-
-abbrev pub WhenResumed : Queue → ℕ → Refusal → Type 0
-WhenResumed m n NoJob = job_numbered n m ≡ None
-WhenResumed m n JobOver = OfJob m n IsOver
-WhenResumed m n JobActive = OfJob m n (λ j. (j.phase ≡ phase.Granted) × ((j.wish ≡ wish.Go) ⊎ (j.wish ≡ wish.Kill)))
-WhenResumed m n NotSuspended = OfJob m n (λ j. j.phase ≡ phase.Waiting)
-WhenResumed m n other = ⊥
-
-abbrev pub WhenKilled : Queue → ℕ → Refusal → Type 0
-WhenKilled m n NoJob = job_numbered n m ≡ None
-WhenKilled m n JobOver = OfJob m n IsOver
-WhenKilled m n other = ⊥
-
 -- no dial is left, or no try
 abbrev pub IsAtLimit : Job → Type 0
 IsAtLimit j = (j.maxdials ≤ j.totdials) ⊎ (j.maxtries ≤ j.tottries)
 
-abbrev pub WhenAltered : Queue → ℕ → ℕ → Alter → Refusal → Type 0
-WhenAltered m t n a NoJob = job_numbered n m ≡ None
-WhenAltered m t n a JobOver = OfJob m n IsOver
-WhenAltered m t n a JobActive = OfJob m n (λ j. j.phase ≡ phase.Granted)
-WhenAltered m t n a NotSuspended = OfJob m n (λ j. j.phase ≡ phase.Waiting)
-WhenAltered m t n a LimitReached = OfJob m n (λ j. (j.phase ≡ phase.Held) × IsAtLimit (altered a j t))
-WhenAltered m t n a other = ⊥
+-- why a job that isn't over refuses it
+abbrev pub Refuses : JobAsk → ℕ → Refusal → Job → Type 0
+Refuses Suspend t JobActive j = (j.phase ≡ phase.Granted) × (j.wish ≡ wish.Kill)
+Refuses Resume t JobActive j = (j.phase ≡ phase.Granted) × ((j.wish ≡ wish.Go) ⊎ (j.wish ≡ wish.Kill))
+Refuses Resume t NotSuspended j = j.phase ≡ phase.Waiting
+Refuses (Alter a) t JobActive j = j.phase ≡ phase.Granted
+Refuses (Alter a) t NotSuspended j = j.phase ≡ phase.Waiting
+Refuses (Alter a) t LimitReached j = (j.phase ≡ phase.Held) × IsAtLimit (altered a j t)
+Refuses ask t other j = ⊥
+
+abbrev pub WhenAsked : Queue → ℕ → ℕ → JobAsk → Refusal → Type 0
+WhenAsked m t n ask NoJob = job_numbered n m ≡ None
+WhenAsked m t n ask JobOver = OfJob m n IsOver
+WhenAsked m t n ask other = OfJob m n (Refuses ask t other)
 
 -- ---- modems
 
@@ -96,47 +87,35 @@ WhenNext s m modem other = ⊥
 
 -- ---- reports
 
-abbrev pub WhenCalled : Queue → ℕ → Refusal → Type 0
-WhenCalled m n NoGrant = grant_numbered n m ≡ None
-WhenCalled m n GrantClosed = OfGrant m n (λ g. g.is_open ≡ false)
-WhenCalled m n CallKnown = OfGrant m n (λ g. g.call ≢ None)
-WhenCalled m n other = ⊥
-
 -- another page is next, or none
 abbrev pub IsNotNext : ℕ → Job → Type 0
 IsNotNext page j = (rest : List ℕ) → j.left ≢ page ∷ rest
 
-abbrev pub WhenPaged : Queue → ℕ → ℕ → Refusal → Type 0
-WhenPaged m n page NoGrant = grant_numbered n m ≡ None
-WhenPaged m n page GrantClosed = OfGrant m n (λ g. g.is_open ≡ false)
-WhenPaged m n page NotConnected = OfGrant m n (λ g. g.call ≢ Some Connected)
-WhenPaged m n page PageOrder = OfBoth m n (λ j g. IsNotNext page j)
-WhenPaged m n page other = ⊥
+-- the report contradicts the open grant, or its job
+abbrev pub Contradicts : Report → Refusal → Job → Grant → Type 0
+Contradicts (Call c) CallKnown j g = g.call ≢ None
+Contradicts (Page n) NotConnected j g = g.call ≢ Some Connected
+Contradicts (Page n) PageOrder j g = IsNotNext n j
+Contradicts (Outcome o) CallKnown j g = (o.dialed ≡ false) × (g.call ≢ None)
+Contradicts (Outcome o) CallMissing j g = (o.dialed ≡ true) × (g.call ≡ None)
+Contradicts (Outcome o) PagesMismatch j g = o.pages ≢ g.confirmed
+Contradicts (Outcome o) PagesLeft j g = (o.ending ≡ ending.Done) × (j.left ≢ [])
+Contradicts report other j g = ⊥
 
-abbrev pub WhenEnded : Queue → ℕ → Outcome → Refusal → Type 0
-WhenEnded m n o NoGrant = grant_numbered n m ≡ None
-WhenEnded m n o GrantClosed = OfGrant m n (λ g. g.is_open ≡ false)
-WhenEnded m n o CallKnown = OfGrant m n (λ g. (o.dialed ≡ false) × (g.call ≢ None))
-WhenEnded m n o CallMissing = OfGrant m n (λ g. (o.dialed ≡ true) × (g.call ≡ None))
-WhenEnded m n o PagesMismatch = OfGrant m n (λ g. o.pages ≢ g.confirmed)
-WhenEnded m n o PagesLeft = OfBoth m n (λ j g. (o.ending ≡ ending.Done) × (j.left ≢ []))
-WhenEnded m n o other = ⊥
+abbrev pub WhenReported : Queue → ℕ → Report → Refusal → Type 0
+WhenReported m n report NoGrant = grant_numbered n m ≡ None
+WhenReported m n report GrantClosed = OfGrant m n (λ g. g.is_open ≡ false)
+WhenReported m n report other = OfBoth m n (Contradicts report other)
 
 -- ---- each request
 
 abbrev pub When : Settings → Queue → ℕ → Ask → Refusal → Type 0
 When s m t (Submission order) refusal = WhenNew s m order false refusal
 When s m t (Bring i) refusal = WhenNew s m i.order (is_ended i.state) refusal
-When s m t (Suspend n) refusal = WhenSuspended m n refusal
-When s m t (Resume n) refusal = WhenResumed m n refusal
-When s m t (Kill n) refusal = WhenKilled m n refusal
-When s m t (Alteration n changes) refusal = WhenAltered m t n changes refusal
-When s m t (Ready modem) refusal = WhenMarked s modem refusal
-When s m t (Down modem) refusal = WhenMarked s modem refusal
+When s m t (OnJob n ask) refusal = WhenAsked m t n ask refusal
+When s m t (Mark modem down) refusal = WhenMarked s modem refusal
 When s m t (Next modem) refusal = WhenNext s m modem refusal
-When s m t (CallReport n call) refusal = WhenCalled m n refusal
-When s m t (PageReport n page) refusal = WhenPaged m n page refusal
-When s m t (OutcomeReport n o) refusal = WhenEnded m n o refusal
+When s m t (OnGrant n report) refusal = WhenReported m n report refusal
 When s m t (GiveUp floor) refusal = ⊥
 
 -- a refusal is met only for its reason

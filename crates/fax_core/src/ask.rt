@@ -1,27 +1,31 @@
 //! What is asked of the queue.
 
-use crate::report::Outcome;
-use fax_job::{Alter, Call, Import, Name, Order, RequestNumber};
+use crate::report::Report;
+use fax_job::{Alter, Import, Name, Order, RequestNumber};
 
-/// What is asked of the queue: a client's requests, with the job's number, and a worker's, with the
-/// modem's name or the grant's number. Numbers of jobs and grants are as they were written.
+/// What is asked of the queue. Numbers of jobs and grants are as they were written.
 #[derive(Drop)]
 pub enum Ask {
     Submission(Order),
     /// A job of an older queue.
     Bring(Import),
-    Suspend { job: u64 },
-    Resume { job: u64 },
-    Kill { job: u64 },
-    Alteration { job: u64, alter: Alter },
-    Ready { modem: Name },
-    Down { modem: Name },
+    /// A client's request on the job of that number.
+    OnJob { job: u64, ask: JobAsk },
+    /// Whether the modem is down from now on.
+    Mark { modem: Name, down: bool },
     /// What the modem is to send.
     Next { modem: Name },
-    CallReport { grant: u64, call: Call },
-    /// A page that was confirmed; pages count from 1.
-    PageReport { grant: u64, page: u16 },
-    OutcomeReport { grant: u64, outcome: Outcome },
+    /// A worker's report on the grant of that number.
+    OnGrant { grant: u64, report: Report },
     /// The client has no use for its replies through this number. It is the client's floor from now on.
     GiveUp { upto: RequestNumber },
+}
+
+/// What a client asks of a job.
+#[derive(Drop)]
+pub enum JobAsk {
+    Suspend,
+    Resume,
+    Kill,
+    Alter(Alter),
 }

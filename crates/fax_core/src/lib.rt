@@ -24,14 +24,14 @@ mod submission;
 mod worker;
 
 pub use ageing::{Aging, aged, aged_job};
-pub use ask::Ask;
+pub use ask::{Ask, JobAsk};
 pub use change::{Altered, Change};
 pub use choice::{better, due, grant};
 pub use client::{alter, kill, resume, suspend};
 pub use fit::fits;
 pub use grants::Grant;
 pub use import::bring;
-pub use report::{Ending, Outcome};
+pub use report::{Ending, Outcome, Report};
 pub use state::{State, state_at};
 pub use submission::submit;
 pub use worker::{call, outcome, page, stops};

@@ -1,6 +1,15 @@
 //! What a worker reports.
 
-use fax_job::Status;
+use fax_job::{Call, Status};
+
+/// What a worker reports on a grant.
+#[derive(Drop)]
+pub enum Report {
+    Call(Call),
+    /// A page that was confirmed; pages count from 1.
+    Page(u16),
+    Outcome(Outcome),
+}
 
 /// How a worker says that a grant ended.
 #[derive(Clone, Copy, Debug, PartialEq, Eq)]
