@@ -11,6 +11,7 @@ use Rattle.fax_ask.specs.Response.{Response, accepted_response}
 use Rattle.fax_core.specs.Ageing.{aged}
 use Rattle.fax_core.specs.Change.{changed}
 use Rattle.fax_core.specs.declared.change.Change.{Change}
+use Rattle.fax_core.specs.Decisions.{job_asked}
 use Rattle.fax_core.specs.Job.{Job, job_of, fields_of}
 use Rattle.fax_core.specs.Machine as machine
 use Rattle.fax_core.specs.Machine.{with_job}
@@ -21,9 +22,8 @@ use Rattle.fax_core.specs.State.{calls_to, state}
 use Rattle.fax_core.specs.Submission.{recorded}
 use Rattle.fax_store.specs.Job.{IsChange, IsSameOrder, lines_of, with_expired, with_its_lines}
 use Rattle.fax_decide.specs.Decision.{IsTaken}
-use Rattle.fax_decide.specs.JobAsk.{decision_on}
 use Rattle.fax_decide.specs.Records.{job_in}
-use Rattle.fax_decide.specs.declared.jobs.JobAsk.{JobAsk}
+use Rattle.fax_core.specs.declared.ask.JobAsk.{JobAsk}
 use Rattle.fax_decide.specs.declared.effect.Effect.TheVariants.{ChangedJob}
 use Rattle.fax_decide.proofs.CallLemmas.{state_changed}
 use Rattle.fax_decide.proofs.LinesLemmas.{decision_lined, job_lined, state_lined}
@@ -81,9 +81,9 @@ job_taken s m t c f g st reply is one st_is replied = taken_of s m t c (job_in (
 
 -- the job that is there is decided on
 pub on_job_is : (s : Settings) (m : Queue) (t : ℕ) (ask : JobAsk) (n : ℕ) (r : Result Job Refusal) (f : JobFields) (found : Option JobFields)
-    → option_map (job_in (aged t m)) found ≡ job_numbered n (aged t m) → found ≡ Some f → r ≡ decision_on ask t (job_of f)
-    → machine.changed s (aged t m) t (job_lined (lines_of (job_numbered f.job (aged t m))) r) ≡ machine.on_job s (aged t m) t (decision_on ask t) (job_numbered n (aged t m))
+    → option_map (job_in (aged t m)) found ≡ job_numbered n (aged t m) → found ≡ Some f → r ≡ job_asked ask t (job_of f)
+    → machine.changed s (aged t m) t (job_lined (lines_of (job_numbered f.job (aged t m))) r) ≡ machine.on_job s (aged t m) t ask (job_numbered n (aged t m))
 on_job_is s m t ask n r f found is one decided =
     let lines = lines_of (job_numbered f.job (aged t m)) in
     ap (machine.changed s (aged t m) t) (ap (job_lined lines) decided ∙ decision_lined lines ask t (job_of f))
-    ∙ ap (machine.on_job s (aged t m) t (decision_on ask t)) (ap (option_map (job_in (aged t m))) (sym one) ∙ is)
+    ∙ ap (machine.on_job s (aged t m) t ask) (ap (option_map (job_in (aged t m))) (sym one) ∙ is)

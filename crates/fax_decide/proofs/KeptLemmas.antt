@@ -18,7 +18,7 @@ use Rattle.fax_core.specs.declared.report.Outcome.{Outcome}
 use Rattle.fax_core.specs.Ageing.{aged}
 use Rattle.fax_core.specs.Best.{best}
 use Rattle.fax_core.specs.Change.{changed, decided, decided_with}
-use Rattle.fax_core.specs.Decisions.{JobAndGrant, call, grant, is_over, new_job, outcome, page, submit}
+use Rattle.fax_core.specs.Decisions.{JobAndGrant, call, grant, is_over, job_asked, new_job, outcome, page, submit}
 use Rattle.fax_core.specs.Fits.{fits}
 use Rattle.fax_core.specs.Import.{bring, brought, is_ended, old_job}
 use Rattle.fax_core.specs.Job.{Job, job_of}
@@ -35,23 +35,22 @@ use Rattle.fax_core.proofs.NewJobLemmas.{read_recorded}
 use Rattle.fax_core.proofs.ReadImportLemmas.{read_old_recorded}
 use Rattle.fax_core.proofs.KeepLemmas.{same_job}
 use Rattle.fax_core.proofs.StepLemmas.{aged_sound}
-use Rattle.fax_decide.specs.JobAsk.{decision_on}
 use Rattle.fax_decide.specs.Read.{IsReadImport, IsReadOn, IsReadOrder}
 use Rattle.fax_decide.specs.Records.{KeepsRecord, job_in}
 use Rattle.fax_decide.specs.Report.{AreThere}
-use Rattle.fax_decide.specs.declared.jobs.JobAsk.{JobAsk}
-use Rattle.fax_decide.specs.declared.jobs.JobAsk.TheVariants.{Suspend, Resume, Kill, Alter}
+use Rattle.fax_core.specs.declared.ask.JobAsk.{JobAsk}
+use Rattle.fax_core.specs.declared.ask.JobAsk.TheVariants.{Suspend, Resume, Kill, Alter}
 
 -- ---- a client's requests
 
 -- what is decided of a job with a lawful record has one
-decision_keeps : (ask : JobAsk) (t : ℕ) (j : Job) → IsReadOn ask → HasRecord j → IfOk (decision_on ask t j) HasRecord
+decision_keeps : (ask : JobAsk) (t : ℕ) (j : Job) → IsReadOn ask → HasRecord j → IfOk (job_asked ask t j) HasRecord
 decision_keeps Suspend t j read h = (requests_keep j h).0
 decision_keeps Resume t j read h = (requests_keep j h).1
 decision_keeps Kill t j read h = (requests_keep j h).2
 decision_keeps (Alter changes) t j read h = alterations_keep read.0 changes j t read.1 h
 
-pub job_keeps : (ask : JobAsk) (t : ℕ) (f : JobFields) (c : Change) → IsReadOn ask → decided (job_of f) (Ok c) ≡ decision_on ask t (job_of f) → KeepsRecord c f
+pub job_keeps : (ask : JobAsk) (t : ℕ) (f : JobFields) (c : Change) → IsReadOn ask → decided (job_of f) (Ok c) ≡ job_asked ask t (job_of f) → KeepsRecord c f
 job_keeps ask t f c read is h = subst (λ (r : Result Job Refusal). IfOk r HasRecord) (sym is) (decision_keeps ask t (job_of f) read h)
 
 -- ---- a grant and its reports

@@ -17,13 +17,12 @@ use Rattle.fax_core.specs.declared.report.Ending.{Ending}
 use Rattle.fax_core.specs.declared.report.Ending.TheVariants as ending
 use Rattle.fax_core.specs.declared.report.Outcome.{Outcome}
 use Rattle.fax_core.specs.Ageing.{aged_job, expires, is_past}
-use Rattle.fax_core.specs.Decisions.{JobAndGrant, after_call, altered, alter_in, call, ended, failed, is_connected, is_done, is_empty, is_kill, kill_in, outcome, page, page_of, resume_in, retried, suspend_in}
+use Rattle.fax_core.specs.Decisions.{JobAndGrant, after_call, alter_in, altered, call, ended, failed, is_connected, is_done, is_empty, is_kill, job_asked, kill_in, outcome, page, page_of, resume_in, retried, suspend_in}
 use Rattle.fax_core.specs.Job.{Job}
 use Rattle.fax_core.specs.Machine.{keys_of_job}
 use Rattle.fax_core.specs.State.{state_in}
-use Rattle.fax_decide.specs.JobAsk.{decision_on}
-use Rattle.fax_decide.specs.declared.jobs.JobAsk.{JobAsk}
-use Rattle.fax_decide.specs.declared.jobs.JobAsk.TheVariants.{Suspend, Resume, Kill, Alter as Alteration}
+use Rattle.fax_core.specs.declared.ask.JobAsk.{JobAsk}
+use Rattle.fax_core.specs.declared.ask.JobAsk.TheVariants.{Suspend, Resume, Kill, Alter as Alteration}
 
 module _ (lines : List Pair) where
   -- the job with these lines
@@ -99,7 +98,7 @@ module _ (lines : List Pair) where
   alter_lined Failed changes j t = refl
 
   -- each request on a job decides the same with them
-  pub decision_lined : (ask : JobAsk) (t : ℕ) (j : Job) → job_lined (decision_on ask t j) ≡ decision_on ask t (lined j)
+  pub decision_lined : (ask : JobAsk) (t : ℕ) (j : Job) → job_lined (job_asked ask t j) ≡ job_asked ask t (lined j)
   decision_lined Suspend t j = suspend_lined j.phase j.wish j
   decision_lined Resume t j = resume_lined j.phase j.wish j
   decision_lined Kill t j = kill_lined j.phase j

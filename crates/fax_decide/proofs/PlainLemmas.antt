@@ -8,22 +8,21 @@ use Rattle.fax_job.specs.declared.order.Order.{Order}
 use Rattle.fax_job.specs.declared.refusal.Refusal.{Refusal}
 use Rattle.fax_job.specs.declared.refusal.Refusal.TheVariants.{Full, PageOrder, Rejected, TooManyPages, Unavailable}
 use Rattle.fax_ask.specs.Detail.{has_detail}
-use Rattle.fax_core.specs.Decisions.{call, grant, granted, is_over, new_job, outcome, page, submit}
+use Rattle.fax_core.specs.Decisions.{call, grant, granted, is_over, job_asked, new_job, outcome, page, submit}
 use Rattle.fax_core.specs.Job.{Job, fields_of}
 use Rattle.fax_core.specs.Submission.{recorded}
 use Rattle.fax_core.specs.Settings.{Rule}
 use Rattle.fax_core.specs.declared.grants.Grant.{Grant}
 use Rattle.fax_core.specs.declared.report.Outcome.{Outcome}
 use Rattle.fax_core.proofs.RefusalLemmas.{alter_refused, call_refused, kill_refused, outcome_refused, page_refused, refused_or, resume_refused, submit_refused, suspend_refused}
-use Rattle.fax_decide.specs.JobAsk.{decision_on}
-use Rattle.fax_decide.specs.declared.jobs.JobAsk.{JobAsk}
-use Rattle.fax_decide.specs.declared.jobs.JobAsk.TheVariants.{Suspend, Resume, Kill, Alter}
+use Rattle.fax_core.specs.declared.ask.JobAsk.{JobAsk}
+use Rattle.fax_core.specs.declared.ask.JobAsk.TheVariants.{Suspend, Resume, Kill, Alter}
 
 abbrev IsPlain : Refusal → Type 0
 IsPlain e = has_detail e ≡ false
 
 -- of a refused request on a job no more is told than number and word
-pub on_job_plain : (ask : JobAsk) (t : ℕ) (j : Job) (e : Refusal) → decision_on ask t j ≡ Err e → has_detail e ≡ false
+pub on_job_plain : (ask : JobAsk) (t : ℕ) (j : Job) (e : Refusal) → job_asked ask t j ≡ Err e → has_detail e ≡ false
 on_job_plain Suspend t j e h = suspend_refused IsPlain refl refl j.phase j.wish j e h
 on_job_plain Resume t j e h = resume_refused IsPlain refl refl refl j.phase j.wish j e h
 on_job_plain Kill t j e h = kill_refused IsPlain refl j.phase j e h

@@ -15,7 +15,8 @@ use Rattle.fax_core.specs.Ageing.{aged}
 use Rattle.fax_core.specs.Change.{changed}
 use Rattle.fax_core.specs.declared.change.Change.{Change}
 use Rattle.fax_core.specs.declared.grants.Grant.{Grant}
-use Rattle.fax_core.specs.Decisions.{JobAndGrant, refuse_if◌because◌otherwise◌, call, page, outcome, stops}
+use Rattle.fax_core.specs.declared.report.Report.{Report}
+use Rattle.fax_core.specs.Decisions.{JobAndGrant, refuse_if◌because◌otherwise◌, stops}
 use Rattle.fax_core.specs.Job.{Job, job_of}
 use Rattle.fax_core.specs.Machine.{with_grant, with_both, reported, on_grant, on_both, without_job, keys_of_job, call_reply, page_reply, outcome_reply}
 use Rattle.fax_core.specs.Queue.{Queue, job_numbered, grant_numbered}
@@ -33,10 +34,8 @@ use Rattle.fax_store.specs.Meta.{with_clock}
 use Rattle.fax_tables.specs.Tables.{IsLawfulGrant}
 use Rattle.fax_decide.specs.Decision.{IsTaken, IsRefused}
 use Rattle.fax_decide.specs.Records.{job_in}
-use Rattle.fax_decide.specs.Report.{AreThere, report_both, report_step}
+use Rattle.fax_decide.specs.Report.{AreThere}
 use Rattle.fax_decide.specs.State.{state_with}
-use Rattle.fax_decide.specs.declared.reports.Report.{Report}
-use Rattle.fax_decide.specs.declared.reports.Report.TheVariants.{Call, Page, Outcome}
 use Rattle.fax_decide.specs.declared.effect.Effect.TheVariants.{Reported, Closed}
 use Rattle.fax_decide.proofs.CallLemmas.{state_ended}
 use Rattle.fax_decide.proofs.JobLemmas.{of_order, same_order, with_lines}
@@ -171,38 +170,27 @@ are_there m t n g f found_grant found_job is_grant one_grant is_job one_job = re
 -- ---- the step of a report
 
 -- a report on a grant whose job is there is the machine's step
-both_step : (s : Settings) (m : Queue) (t : ℕ) (report : Report) (o : Option Grant) (g : Grant) (j : Job) → o ≡ Some g → job_numbered g.job m ≡ Some j → report_both s m t report j g ≡ report_step s m t report o
-both_step s m t (Call said) o g j is job_is = sym (ap (on_grant m (call said) (call_reply t)) is ∙ ap (on_both m (call said) (call_reply t) g) job_is)
-both_step s m t (Page said) o g j is job_is = sym (ap (on_grant m (page said) (page_reply t)) is ∙ ap (on_both m (page said) (page_reply t) g) job_is)
-both_step s m t (Outcome said) o g j is job_is =
-    sym (ap (on_grant m (λ j g. outcome said j g (s.delay g.call) t) (outcome_reply s t)) is ∙ ap (on_both m (λ j g. outcome said j g (s.delay g.call) t) (outcome_reply s t) g) job_is)
+both_step : (s : Settings) (m : Queue) (t : ℕ) (report : Report) (o : Option Grant) (g : Grant) (j : Option Job)
+    → o ≡ Some g → job_numbered g.job m ≡ j → on_both s m t report g j ≡ on_grant s m t report o
+both_step s m t report o g j is job_is = sym (ap (on_grant s m t report) is ∙ ap (on_both s m t report g) job_is)
 
 -- the same of the grant and the job that were found
 pub on_grant_is : (s : Settings) (m : Queue) (t n : ℕ) (report : Report) (g : Grant) (f : JobFields) (found_grant : Option Grant) (found_job : Option JobFields)
     → found_grant ≡ grant_numbered n m → found_grant ≡ Some g → option_map (job_in (aged t m)) found_job ≡ job_numbered g.job (aged t m) → found_job ≡ Some f
-    → report_both s (aged t m) t report (job_in (aged t m) f) g ≡ report_step s (aged t m) t report (grant_numbered n m)
+    → on_both s (aged t m) t report g (Some (job_in (aged t m) f)) ≡ on_grant s (aged t m) t report (grant_numbered n m)
 on_grant_is s m t n report g f found_grant found_job is_grant one_grant is_job one_job =
-    both_step s (aged t m) t report (grant_numbered n m) g (job_in (aged t m) f) (sym is_grant ∙ one_grant) (sym is_job ∙ ap (option_map (job_in (aged t m))) one_job)
+    both_step s (aged t m) t report (grant_numbered n m) g (Some (job_in (aged t m) f)) (sym is_grant ∙ one_grant) (sym is_job ∙ ap (option_map (job_in (aged t m))) one_job)
 
 -- a report on a grant that isn't there is refused
-pub no_grant_is : (s : Settings) (m : Queue) (t : ℕ) (report : Report) (o : Option Grant) → o ≡ None → machine.Refused NoGrant machine.NoKeys ≡ report_step s m t report o
-no_grant_is s m t (Call said) o is = sym (ap (on_grant m (call said) (call_reply t)) is)
-no_grant_is s m t (Page said) o is = sym (ap (on_grant m (page said) (page_reply t)) is)
-no_grant_is s m t (Outcome said) o is = sym (ap (on_grant m (λ j g. outcome said j g (s.delay g.call) t) (outcome_reply s t)) is)
+pub no_grant_is : (s : Settings) (m : Queue) (t : ℕ) (report : Report) (o : Option Grant) → o ≡ None → machine.Refused NoGrant machine.NoKeys ≡ on_grant s m t report o
+no_grant_is s m t report o is = sym (ap (on_grant s m t report) is)
 
--- and so is one on a grant whose job isn't there
-alone_step : (s : Settings) (m : Queue) (t : ℕ) (report : Report) (o : Option Grant) (g : Grant) → o ≡ Some g → job_numbered g.job m ≡ None → machine.Refused (without_job g.is_open) machine.NoKeys ≡ report_step s m t report o
-alone_step s m t (Call said) o g is job_is = sym (ap (on_grant m (call said) (call_reply t)) is ∙ ap (on_both m (call said) (call_reply t) g) job_is)
-alone_step s m t (Page said) o g is job_is = sym (ap (on_grant m (page said) (page_reply t)) is ∙ ap (on_both m (page said) (page_reply t) g) job_is)
-alone_step s m t (Outcome said) o g is job_is =
-    sym (ap (on_grant m (λ j g. outcome said j g (s.delay g.call) t) (outcome_reply s t)) is ∙ ap (on_both m (λ j g. outcome said j g (s.delay g.call) t) (outcome_reply s t) g) job_is)
-
--- the same of the grant that was found
+-- and so is one on a grant that was found, whose job isn't there
 pub without_job_is : (s : Settings) (m : Queue) (t n : ℕ) (report : Report) (g : Grant) (found_grant : Option Grant) (found_job : Option JobFields)
     → found_grant ≡ grant_numbered n m → found_grant ≡ Some g → option_map (job_in (aged t m)) found_job ≡ job_numbered g.job (aged t m) → found_job ≡ None
-    → machine.Refused (without_job g.is_open) machine.NoKeys ≡ report_step s (aged t m) t report (grant_numbered n m)
+    → machine.Refused (without_job g.is_open) machine.NoKeys ≡ on_grant s (aged t m) t report (grant_numbered n m)
 without_job_is s m t n report g found_grant found_job is_grant one_grant is_job one_job =
-    alone_step s (aged t m) t report (grant_numbered n m) g (sym is_grant ∙ one_grant) (sym is_job ∙ ap (option_map (job_in (aged t m))) one_job)
+    both_step s (aged t m) t report (grant_numbered n m) g None (sym is_grant ∙ one_grant) (sym is_job ∙ ap (option_map (job_in (aged t m))) one_job)
 
 -- ---- what is decided without the extra lines
 

@@ -1,23 +1,21 @@
 -- What is written is within its limits.
-use Rattle.std.proofs.Common.{◌≡◌, ℕ, ◌+◌, ◌≤◌, ◌<◌, ◌-◌, Bool, true, not, ◌&&◌, leb, List, length, Ok, refl, sym, ap, subst, ◌∙◌, arith}
-use Rattle.std.specs.Prelude.{Option, Some, None, Result, nat_lt}
+use Rattle.std.proofs.Common.{◌≡◌, ℕ, ◌+◌, ◌≤◌, ◌<◌, ◌-◌, true, ◌&&◌, leb, List, length, Ok, refl, sym, ap, subst, ◌∙◌, arith}
+use Rattle.std.specs.Prelude.{Some, None, nat_lt}
 use Rattle.std.specs.List.{range_with_len}
 use Rattle.std.proofs.lemmas.Bool.{and_parts, leb-true, ltb-false}
 use Rattle.std.proofs.lemmas.List.FromFn.{length-range_with_len}
 use Rattle.fax_job.specs.declared.job.JobFields.{JobFields}
 use Rattle.fax_job.specs.declared.job.Phase.{Phase}
 use Rattle.fax_job.specs.declared.job.Phase.TheVariants.{Waiting}
-use Rattle.fax_job.specs.declared.refusal.Refusal.{Refusal}
 use Rattle.fax_job.specs.declared.refusal.Refusal.TheVariants.{Full}
 use Rattle.fax_job.specs.Job.{IsLawful}
-use Rattle.fax_value.specs.Limits.{last_grant, last_job, most_pages}
+use Rattle.fax_value.specs.Limits.{last_job, most_pages}
 use Rattle.fax_core.specs.declared.change.Change.{Change}
 use Rattle.fax_core.specs.declared.grants.Grant.{Grant}
 use Rattle.fax_core.specs.Change.{changed}
 use Rattle.fax_core.specs.Decisions.{JobAndGrant, grant, granted, page}
 use Rattle.fax_core.specs.Fits.{fits}
 use Rattle.fax_core.specs.Job.{Job, job_of}
-use Rattle.fax_core.specs.Queue.{Queue, grant_numbered}
 use Rattle.fax_core.specs.Sound.{CanGoOn, FitsFree, FitsPhase}
 use Rattle.fax_core.specs.Submission.{recorded}
 use Rattle.fax_core.proofs.DecisionLemmas.{not_refused, paged}

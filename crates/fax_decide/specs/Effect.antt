@@ -1,9 +1,8 @@
 -- What an accepted request changes in the queue, beside ageing it and setting the clock.
-use Rattle.std.specs.Prelude.{◌≡◌, ◌≤◌, ℕ, ⊤, Some}
+use Rattle.std.specs.Prelude.{◌≡◌, ◌≤◌, ℕ, ⊤}
 use Rattle.fax_core.specs.Job.{job_of}
 use Rattle.fax_core.specs.Machine.{with_grant, with_mark}
-use Rattle.fax_core.specs.Queue.{Queue, grant_numbered}
-use Rattle.fax_core.specs.declared.grants.Grant.{Grant}
+use Rattle.fax_core.specs.Queue.{Queue}
 use Rattle.fax_value.specs.Limits.{most_pages}
 use Rattle.fax_store.specs.Grant.{IsNewGrant, IsReport, with_closed, with_one_more_grant}
 use Rattle.fax_store.specs.Job.{IsChange, IsNewJob, with_change, with_expired, with_one_more_job}

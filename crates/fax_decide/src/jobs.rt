@@ -5,6 +5,7 @@ ghost use Rattle.fax_ask.specs.Answer.{Replied};
 ghost use Rattle.fax_ask.specs.Response.{accepted_response};
 ghost use Rattle.fax_core.specs.Ageing.{aged};
 ghost use Rattle.fax_core.specs.Change.{changed as changed_by, decided};
+ghost use Rattle.fax_core.specs.Decisions.{job_asked};
 ghost use Rattle.fax_core.specs.Job.{job_of};
 ghost use Rattle.fax_core.specs.Machine.{changed as change_step, on_job};
 ghost use Rattle.fax_core.specs.Queue.{job_numbered};
@@ -12,7 +13,6 @@ ghost use Rattle.fax_core.specs.Reply.{Stands};
 ghost use Rattle.fax_core.specs.State.{state as job_state};
 ghost use Rattle.fax_decide.specs.Decision.{Decides};
 ghost use Rattle.fax_decide.specs.Fault.{OnlyNoAnswer, OrNoAnswer};
-ghost use Rattle.fax_decide.specs.JobAsk.{decision_on};
 ghost use Rattle.fax_decide.specs.Looking.{Consults};
 ghost use Rattle.fax_decide.specs.Read.{IsReadOn};
 ghost use Rattle.fax_decide.specs.Records.{KeepsRecord, job_in};
@@ -25,32 +25,21 @@ use crate::office::Office;
 use crate::records::brief_at;
 use crate::state::state_of;
 use fax_ask::{Answer, Reply};
-use fax_core::{Change, alter, kill, resume, suspend};
+use fax_core::{Change, JobAsk, alter, kill, resume, suspend};
 use fax_job::{Job, Moment, Refusal};
 use fax_store::Store;
 use sqlite::Alter;
 use std::alloc::Global;
 
-/// What a client asks of a job.
-#[derive(Drop)]
-pub(crate) enum JobAsk {
-    Suspend,
-    Resume,
-    Kill,
-    Alter(fax_job::Alter),
-}
-
-impl JobAsk {
-    /// What it makes of the job at `t`.
-    fn decide(self, job: &Job, t: Moment) -> Result<Change, Refusal>
-        ensures { decided (job_of job.now) result ≡ decision_on self t (job_of job.now) }
-    {
-        match self {
-            JobAsk::Suspend => suspend(job),
-            JobAsk::Resume => resume(job),
-            JobAsk::Kill => kill(job),
-            JobAsk::Alter(changes) => alter(job, changes, t),
-        }
+/// What a client's request makes of the job at `t`.
+fn asked(job: &Job, ask: JobAsk, t: Moment) -> Result<Change, Refusal>
+    ensures { decided (job_of job.now) result ≡ job_asked ask t (job_of job.now) }
+{
+    match ask {
+        JobAsk::Suspend => suspend(job),
+        JobAsk::Resume => resume(job),
+        JobAsk::Kill => kill(job),
+        JobAsk::Alter(changes) => alter(job, changes, t),
     }
 }
 
@@ -64,13 +53,13 @@ pub(crate) fn decide_on_job<S: Alter>(
     t: Moment,
 ) -> Result<Decision, Fault>
     ensures { Consults S.Store store.old store.new result (λ m. IfOk result (Decides
-        (on_job (settings_of office.now.setup office.now.controls) (aged t m) t (decision_on ask t)
+        (on_job (settings_of office.now.setup office.now.controls) (aged t m) t ask
         (job_numbered number (aged t m))) m t) × (IsReadOn ask → OnlyNoAnswer result)) }
 {
     let Some(job) = brief_at(store, number, t)? else {
         return Ok(Decision::Refused(Reply::refused(Refusal::NoJob)));
     };
-    match ask.decide(&job, t) {
+    match asked(&job, ask, t) {
         Ok(change) => changed(store, office, alloc, job, change, t),
         Err(refusal) => Ok(Decision::Refused(Reply::refused(refusal))),
     }

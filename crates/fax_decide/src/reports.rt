@@ -8,7 +8,7 @@ ghost use Rattle.fax_core.specs.Change.{changed};
 ghost use Rattle.fax_core.specs.Decisions.{call as call_of, page as page_of, outcome as outcome_of};
 ghost use Rattle.fax_core.specs.Job.{job_of};
 ghost use Rattle.fax_core.specs.Fits.{fits};
-ghost use Rattle.fax_core.specs.Machine.{reported, call_reply, page_reply, outcome_reply, keys_of_job, without_job};
+ghost use Rattle.fax_core.specs.Machine.{on_both, on_grant, reported, call_reply, page_reply, outcome_reply, keys_of_job, without_job};
 ghost use Rattle.fax_ask.specs.Detail.{has_detail};
 ghost use Rattle.fax_core.specs.Queue.{Queue, grant_numbered};
 ghost use Rattle.fax_core.specs.Reply.{NoKeys, Pages, Refused, Stands};
@@ -22,7 +22,7 @@ ghost use Rattle.fax_decide.specs.Decision.{Decides};
 ghost use Rattle.fax_decide.specs.Fault.{OrNoAnswer};
 ghost use Rattle.fax_decide.specs.Looking.{Consults};
 ghost use Rattle.fax_decide.specs.Records.{KeepsRecord, job_in};
-ghost use Rattle.fax_decide.specs.Report.{ArePagesWithin, AreThere, report_both, report_step};
+ghost use Rattle.fax_decide.specs.Report.{ArePagesWithin, AreThere};
 ghost use Rattle.fax_decide.specs.Settings.{settings_of};
 ghost use Rattle.fax_decide.specs.State.{state_with};
 
@@ -32,19 +32,11 @@ use crate::fault::Fault;
 use crate::office::Office;
 use crate::records::{brief_at, grant_at};
 use fax_ask::{Answer, Detail, Reply};
-use fax_core::{Change, Grant, Outcome, call, fits, outcome, page, stops};
+use fax_core::{Change, Grant, Outcome, Report, call, fits, outcome, page, stops};
 use fax_job::{Call, Job, Moment, Refusal};
 use fax_store::Store;
 use sqlite::Alter;
 use std::alloc::Global;
-
-/// What a worker reports on a grant.
-#[derive(Drop)]
-pub(crate) enum Report {
-    Call(Call),
-    Page(u16),
-    Outcome(Outcome),
-}
 
 /// Decides a report on the grant of that number at `t`.
 pub(crate) fn decide_report<S: Alter>(
@@ -56,7 +48,7 @@ pub(crate) fn decide_report<S: Alter>(
     t: Moment,
 ) -> Result<Decision, Fault>
     ensures { Consults S.Store store.old store.new result (λ m. Sound m → OrNoAnswer result (Decides
-        (report_step (settings_of office.now.setup office.now.controls) (aged t m) t report
+        (on_grant (settings_of office.now.setup office.now.controls) (aged t m) t report
         (grant_numbered number m)) m t)) }
 {
     let Some(grant) = grant_at(store, number)? else {
@@ -81,8 +73,8 @@ fn report_on<S: Alter>(
 ) -> Result<Decision, Fault>
     ensures consults { Consults S.Store store.old store.new result (λ m. Sound m
         → AreThere m t job grant → ArePagesWithin grant
-        → OrNoAnswer result (Decides (report_both (settings_of office.now.setup office.now.controls) (aged t m) t
-        report (job_in (aged t m) job) grant) m t)) }
+        → OrNoAnswer result (Decides (on_both (settings_of office.now.setup office.now.controls) (aged t m) t
+        report grant (Some (job_in (aged t m) job))) m t)) }
     ensures closed { grant.is_open ≡ false → IsOk result }
     ensures misfit { grant.is_open ≡ true → fits job (Some grant) ≡ false → IsErr result }
 {

@@ -10,10 +10,10 @@ use crate::decision::Decision;
 use crate::fault::Fault;
 use crate::floors::decide_floor;
 use crate::import::decide_import;
-use crate::jobs::{JobAsk, decide_on_job};
+use crate::jobs::decide_on_job;
 use crate::modems::decide_mark;
 use crate::office::Office;
-use crate::reports::{Report, decide_report};
+use crate::reports::decide_report;
 use crate::submission::decide_submission;
 use fax_core::Ask;
 use fax_job::Moment;
@@ -40,24 +40,10 @@ pub fn decide<S: Alter>(
     match ask {
         Ask::Submission(order) => decide_submission(office, alloc, order, meta, t),
         Ask::Bring(import) => decide_import(store, office, alloc, import, meta, t),
-        Ask::Suspend { job } => decide_on_job(store, office, alloc, job, JobAsk::Suspend, t),
-        Ask::Resume { job } => decide_on_job(store, office, alloc, job, JobAsk::Resume, t),
-        Ask::Kill { job } => decide_on_job(store, office, alloc, job, JobAsk::Kill, t),
-        Ask::Alteration { job, alter } => {
-            decide_on_job(store, office, alloc, job, JobAsk::Alter(alter), t)
-        }
-        Ask::Ready { modem } => decide_mark(office, alloc, modem, false),
-        Ask::Down { modem } => decide_mark(office, alloc, modem, true),
+        Ask::OnJob { job, ask } => decide_on_job(store, office, alloc, job, ask, t),
+        Ask::Mark { modem, down } => decide_mark(office, alloc, modem, down),
         Ask::Next { modem } => decide_next(store, office, alloc, modem, meta.next_grant, t),
-        Ask::CallReport { grant, call } => {
-            decide_report(store, office, alloc, grant, Report::Call(call), t)
-        }
-        Ask::PageReport { grant, page } => {
-            decide_report(store, office, alloc, grant, Report::Page(page), t)
-        }
-        Ask::OutcomeReport { grant, outcome } => {
-            decide_report(store, office, alloc, grant, Report::Outcome(outcome), t)
-        }
+        Ask::OnGrant { grant, report } => decide_report(store, office, alloc, grant, report, t),
         Ask::GiveUp { upto } => decide_floor(alloc, upto),
     }
 }

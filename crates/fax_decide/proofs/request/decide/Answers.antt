@@ -24,35 +24,17 @@ returns-in-Submission g c = of_ask (settings_of c.args.office.now.setup c.args.o
 pub returns-in-Bring : goal.returns-in-Bring
 returns-in-Bring g c = of_ask (settings_of c.args.office.now.setup c.args.office.now.controls) c.in-Bring.is c.decide_import.ensures
 
-pub returns-in-Suspend : goal.returns-in-Suspend
-returns-in-Suspend g c = of_ask (settings_of c.args.office.now.setup c.args.office.now.controls) c.in-Suspend.is (decides (gives c.decide_on_job.ensures (λ m k at decided sound these. decided)))
+pub returns-in-OnJob : goal.returns-in-OnJob
+returns-in-OnJob g c = of_ask (settings_of c.args.office.now.setup c.args.office.now.controls) c.in-OnJob.is (decides (gives c.decide_on_job.ensures (λ m k at decided sound these. decided)))
 
-pub returns-in-Resume : goal.returns-in-Resume
-returns-in-Resume g c = of_ask (settings_of c.args.office.now.setup c.args.office.now.controls) c.in-Resume.is (decides (gives c.decide_on_job-in-Resume.ensures (λ m k at decided sound these. decided)))
-
-pub returns-in-Kill : goal.returns-in-Kill
-returns-in-Kill g c = of_ask (settings_of c.args.office.now.setup c.args.office.now.controls) c.in-Kill.is (decides (gives c.decide_on_job-in-Kill.ensures (λ m k at decided sound these. decided)))
-
-pub returns-in-Alteration : goal.returns-in-Alteration
-returns-in-Alteration g c = of_ask (settings_of c.args.office.now.setup c.args.office.now.controls) c.in-Alteration.is (decides (gives c.decide_on_job-in-Alteration.ensures (λ m k at decided sound these. decided)))
-
-pub returns-in-Ready : goal.returns-in-Ready
-returns-in-Ready g c = of_ask (settings_of c.args.office.now.setup c.args.office.now.controls) c.in-Ready.is (decides (goes_on no_call (λ m k at none sound these. both_sides c.decide_mark.result _ (c.decide_mark.ensures m c.args.t))))
-
-pub returns-in-Down : goal.returns-in-Down
-returns-in-Down g c = of_ask (settings_of c.args.office.now.setup c.args.office.now.controls) c.in-Down.is (decides (goes_on no_call (λ m k at none sound these. both_sides c.decide_mark-in-Down.result _ (c.decide_mark-in-Down.ensures m c.args.t))))
+pub returns-in-Mark : goal.returns-in-Mark
+returns-in-Mark g c = of_ask (settings_of c.args.office.now.setup c.args.office.now.controls) c.in-Mark.is (decides (goes_on no_call (λ m k at none sound these. both_sides c.decide_mark.result _ (c.decide_mark.ensures m c.args.t))))
 
 pub returns-in-Next : goal.returns-in-Next
 returns-in-Next g c = of_ask (settings_of c.args.office.now.setup c.args.office.now.controls) c.in-Next.is (decides (gives c.decide_next.ensures (λ m k at decided sound these. both_sides c.decide_next.result _ (decided sound (ap (λ (x : Meta). x.next_grant) these)))))
 
-pub returns-in-CallReport : goal.returns-in-CallReport
-returns-in-CallReport g c = of_ask (settings_of c.args.office.now.setup c.args.office.now.controls) c.in-CallReport.is (decides (gives c.decide_report.ensures (λ m k at decided sound these. both_sides c.decide_report.result _ (decided sound))))
-
-pub returns-in-PageReport : goal.returns-in-PageReport
-returns-in-PageReport g c = of_ask (settings_of c.args.office.now.setup c.args.office.now.controls) c.in-PageReport.is (decides (gives c.decide_report-in-PageReport.ensures (λ m k at decided sound these. both_sides c.decide_report-in-PageReport.result _ (decided sound))))
-
-pub returns-in-OutcomeReport : goal.returns-in-OutcomeReport
-returns-in-OutcomeReport g c = of_ask (settings_of c.args.office.now.setup c.args.office.now.controls) c.in-OutcomeReport.is (decides (gives c.decide_report-in-OutcomeReport.ensures (λ m k at decided sound these. both_sides c.decide_report-in-OutcomeReport.result _ (decided sound))))
+pub returns-in-OnGrant : goal.returns-in-OnGrant
+returns-in-OnGrant g c = of_ask (settings_of c.args.office.now.setup c.args.office.now.controls) c.in-OnGrant.is (decides (gives c.decide_report.ensures (λ m k at decided sound these. both_sides c.decide_report.result _ (decided sound))))
 
 pub returns-in-GiveUp : goal.returns-in-GiveUp
 returns-in-GiveUp g c = of_ask (settings_of c.args.office.now.setup c.args.office.now.controls) c.in-GiveUp.is (decides (goes_on no_call (λ m k at none sound these. both_sides c.decide_floor.result _ (c.decide_floor.ensures m c.args.t))))
