@@ -6,11 +6,14 @@ use Rattle.fax_job.specs.declared.refusal.Refusal.TheVariants as refusal
 use Rattle.fax_core.specs.declared.grants.Grant.{Grant}
 use Rattle.fax_core.specs.Ageing.{aged}
 use Rattle.fax_core.specs.declared.ask.Ask.{Ask}
-use Rattle.fax_core.specs.declared.ask.Ask.TheVariants.{Submission, Bring, Suspend, Resume, Kill, Alteration, Ready, Down, Next, CallReport, PageReport, OutcomeReport, GiveUp}
-use Rattle.fax_core.specs.Decisions.{JobAndGrant, alter, call, kill, outcome, page, resume, submit, suspend}
+use Rattle.fax_core.specs.declared.ask.Ask.TheVariants.{Submission, Bring, OnJob, Mark, Next, OnGrant, GiveUp}
+use Rattle.fax_core.specs.declared.ask.JobAsk.{JobAsk}
+use Rattle.fax_core.specs.declared.report.Report.{Report}
+use Rattle.fax_core.specs.declared.report.Report.TheVariants as report
+use Rattle.fax_core.specs.Decisions.{JobAndGrant, job_asked, submit}
 use Rattle.fax_core.specs.Import.{bring}
 use Rattle.fax_core.specs.Job.{Job}
-use Rattle.fax_core.specs.Machine.{act, brought_in, call_reply, changed, on_grant, on_job, outcome_reply, page_reply, step, submitted, with_both, with_job, with_mark, with_new_job}
+use Rattle.fax_core.specs.Machine.{act, brought_in, changed, on_grant, on_job, report_reply, step, submitted, with_both, with_job, with_mark, with_new_job}
 use Rattle.fax_core.specs.Queue.{Queue, grant_numbered, job_numbered}
 use Rattle.fax_core.specs.Reply.{Marked, NoKeys, Refused, Reply, Taken}
 use Rattle.fax_core.specs.Settings.{Rule, Settings}
@@ -29,16 +32,10 @@ is_import other = false
 pub none_came : (ask : Ask) → is_import ask ≡ false → came_in ask ≡ no_counters
 none_came (Bring i) e = absurd cc
 none_came (Submission o) e = refl
-none_came (Suspend a) e = refl
-none_came (Resume a) e = refl
-none_came (Kill a) e = refl
-none_came (Alteration a c) e = refl
-none_came (Ready modem) e = refl
-none_came (Down modem) e = refl
+none_came (OnJob a ask) e = refl
+none_came (Mark modem down) e = refl
 none_came (Next modem) e = refl
-none_came (CallReport a c) e = refl
-none_came (PageReport a p) e = refl
-none_came (OutcomeReport a o) e = refl
+none_came (OnGrant a report) e = refl
 none_came (GiveUp upto) e = refl
 
 -- the reply brings no job in
@@ -51,9 +48,9 @@ changed_brings s m n t (Ok k) r e x = ap (λ (q : Reply). brings q x) (sym (take
 changed_brings s m n t (Err y) r e x = cc
 
 -- nor does a request on a job
-on_job_brings : (s : Settings) (m n : Queue) (t : ℕ) (decide : Job → Result Job Refusal) (o : Option Job) (r : Reply) → on_job s m t decide o ≡ Taken n r → BringsNone r
-on_job_brings s m n t decide None r e x = cc
-on_job_brings s m n t decide (Some j) r e x = changed_brings s m n t (decide j) r e x
+on_job_brings : (s : Settings) (m n : Queue) (t : ℕ) (ask : JobAsk) (o : Option Job) (r : Reply) → on_job s m t ask o ≡ Taken n r → BringsNone r
+on_job_brings s m n t ask None r e x = cc
+on_job_brings s m n t ask (Some j) r e x = changed_brings s m n t (job_asked ask t j) r e x
 
 -- nor a submission
 submission_brings : (m n : Queue) (rule : Rule) (d : Result Job Refusal) (r : Reply) → submitted m rule d ≡ Taken n r → BringsNone r
@@ -70,11 +67,17 @@ given_brings : (s : Settings) (m n : Queue) (t : ℕ) (modem : List ℕ) (r : Re
 given_brings s m n t modem r (None_to none same told) x = ap (λ (q : Reply). brings q x) (sym told)
 given_brings s m n t modem r (Best_to j best none same told) x = ap (λ (q : Reply). brings q x) (sym told)
 
--- nor a report
-report_brings : (m n : Queue) (decide : Job → Grant → Result JobAndGrant Refusal) (reply : Queue → JobAndGrant → Reply) (o : Option Grant) (r : Reply) → ((q : Queue) (b : JobAndGrant) (x : ℕ) → brings (reply q b) x ≡ false) → on_grant m decide reply o ≡ Taken n r → BringsNone r
-report_brings m n decide reply o r none e x =
-    let told = on_grant_told m n decide reply o r e in
-    ap (λ (q : Reply). brings q x) (sym told.1) ∙ none (with_both told.0 m) told.0 x
+-- nor the reply to a report
+reply_brings : (s : Settings) (t : ℕ) (x : Report) (q : Queue) (b : JobAndGrant) → BringsNone (report_reply s t x q b)
+reply_brings s t (report.Call c) q b i = refl
+reply_brings s t (report.Page p) q b i = refl
+reply_brings s t (report.Outcome o) q b i = refl
+
+-- so no report does
+report_brings : (s : Settings) (m n : Queue) (t : ℕ) (x : Report) (o : Option Grant) (r : Reply) → on_grant s m t x o ≡ Taken n r → BringsNone r
+report_brings s m n t x o r e i =
+    let told = on_grant_told s m n t x o r e in
+    ap (λ (q : Reply). brings q i) (sym told.1) ∙ reply_brings s t x (with_both told.0 m) told.0 i
 
 -- an import brings in just the job with the next number
 import_brings : (s : Settings) (m n : Queue) (t : ℕ) (rule : Rule) (d : Result Job Refusal) (r : Reply) → ((k : Job) → d ≡ Ok k → k.number ≡ m.next_job) → brought_in s m t rule d ≡ Taken n r → (x : ℕ) → brings r x ≡ eqb m.next_job x
@@ -85,16 +88,10 @@ import_brings s m n t rule (Err y) r is e x = cc
 act_brings : (s : Settings) (m n : Queue) (t : ℕ) (ask : Ask) (r : Reply) → Sound m → act s m t ask ≡ Taken n r → (x : ℕ) → brings r x ≡ (is_import ask && eqb m.next_job x)
 act_brings s m n t (Submission o) r h e x = submission_brings m n (s.rule o.dial) (submit o (s.rule o.dial) m.next_job s.max_jobs t) r e x
 act_brings s m n t (Bring i) r h e x = import_brings s m n t (s.rule i.order.dial) (bring i (s.rule i.order.dial) m.next_job s.max_jobs t) r (λ k is. (bring_counts i (s.rule i.order.dial) m.next_job s.max_jobs t k is).number) e x
-act_brings s m n t (Suspend a) r h e x = on_job_brings s m n t suspend (job_numbered a m) r e x
-act_brings s m n t (Resume a) r h e x = on_job_brings s m n t resume (job_numbered a m) r e x
-act_brings s m n t (Kill a) r h e x = on_job_brings s m n t kill (job_numbered a m) r e x
-act_brings s m n t (Alteration a c) r h e x = on_job_brings s m n t (λ j. alter c j t) (job_numbered a m) r e x
-act_brings s m n t (Ready modem) r h e x = mark_brings m n modem false (s.has_modem modem) r e x
-act_brings s m n t (Down modem) r h e x = mark_brings m n modem true (s.has_modem modem) r e x
+act_brings s m n t (OnJob a ask) r h e x = on_job_brings s m n t ask (job_numbered a m) r e x
+act_brings s m n t (Mark modem down) r h e x = mark_brings m n modem down (s.has_modem modem) r e x
 act_brings s m n t (Next modem) r h e x = given_brings s m n t modem r (given_is s m t modem n r h e) x
-act_brings s m n t (CallReport a c) r h e x = report_brings m n (call c) (call_reply t) (grant_numbered a m) r (λ q b y. refl) e x
-act_brings s m n t (PageReport a p) r h e x = report_brings m n (page p) (page_reply t) (grant_numbered a m) r (λ q b y. refl) e x
-act_brings s m n t (OutcomeReport a o) r h e x = report_brings m n (λ j g. outcome o j g (s.delay g.call) t) (outcome_reply s t) (grant_numbered a m) r (λ q b y. refl) e x
+act_brings s m n t (OnGrant a report) r h e x = report_brings s m n t report (grant_numbered a m) r e x
 act_brings s m n t (GiveUp upto) r h e x = ap (λ (q : Reply). brings q x) (sym (taken_same m n _ r e).1)
 
 -- the same of a step, which ages the jobs first
@@ -112,14 +109,8 @@ import_numbers s m n t rule (Err y) r e = cc
 pub step_numbers : (s : Settings) (m n : Queue) (t : ℕ) (ask : Ask) (r : Reply) → is_import ask ≡ true → step s m t ask ≡ Taken n r → m.next_job < n.next_job
 step_numbers s m n t (Bring i) r on e = import_numbers s (aged t m) n t (s.rule i.order.dial) (bring i (s.rule i.order.dial) m.next_job s.max_jobs t) r e
 step_numbers s m n t (Submission o) r on e = absurd cc
-step_numbers s m n t (Suspend a) r on e = absurd cc
-step_numbers s m n t (Resume a) r on e = absurd cc
-step_numbers s m n t (Kill a) r on e = absurd cc
-step_numbers s m n t (Alteration a c) r on e = absurd cc
-step_numbers s m n t (Ready modem) r on e = absurd cc
-step_numbers s m n t (Down modem) r on e = absurd cc
+step_numbers s m n t (OnJob a ask) r on e = absurd cc
+step_numbers s m n t (Mark modem down) r on e = absurd cc
 step_numbers s m n t (Next modem) r on e = absurd cc
-step_numbers s m n t (CallReport a c) r on e = absurd cc
-step_numbers s m n t (PageReport a p) r on e = absurd cc
-step_numbers s m n t (OutcomeReport a o) r on e = absurd cc
+step_numbers s m n t (OnGrant a report) r on e = absurd cc
 step_numbers s m n t (GiveUp upto) r on e = absurd cc

@@ -9,13 +9,15 @@ use Rattle.sqlite_trees.specs.declared.store.Store.{Ghosts}
 use Rattle.fax_value.specs.Name.{IsName, is_name}
 use Rattle.fax_value.specs.Number.{request_number_of}
 use Rattle.fax_job.specs.declared.refusal.Refusal.TheVariants.{BadClient}
-use Rattle.fax_ask.specs.Ask.{Asks, IsAsk}
+use Rattle.fax_ask.specs.Ask.{Asks, AsksOfJob, IsAsk}
 use Rattle.fax_ask.specs.Request.{request_of}
 use Rattle.fax_ask.specs.Response.{Response, reply_status}
 use Rattle.fax_ask.specs.declared.ask.Ask.TheVariants.{Step}
 use Rattle.fax_ask.specs.declared.method.Method.{Method}
 use Rattle.fax_ask.specs.declared.request.Request.{Request as Route}
-use Rattle.fax_ask.specs.declared.request.Request.TheVariants.{Submit, Import, Suspend, Resume, Kill, Alter, Show, Ready, Down, Next, Call, Page, Outcome, Floor}
+use Rattle.fax_ask.specs.declared.request.Request.TheVariants.{Show, Submit, Import, OnJob, Mark, Next, OnGrant, Floor}
+use Rattle.fax_ask.specs.declared.request.Action.{Action}
+use Rattle.fax_ask.specs.declared.request.Action.TheVariants.{Suspend, Resume, Kill, Alter}
 use Rattle.fax_core.specs.Ask.{IsLawfulAsk}
 use Rattle.fax_core.specs.Ledger.{Ledger, greater}
 use Rattle.fax_core.specs.Machine.{step}
@@ -24,6 +26,7 @@ use Rattle.fax_core.specs.Reply.{Brought, Reply, Submitted}
 use Rattle.fax_core.specs.Settings.{Settings}
 use Rattle.fax_core.specs.Sound.{Sound}
 use Rattle.fax_core.specs.declared.ask.Ask.{Ask}
+use Rattle.fax_core.specs.declared.ask.JobAsk.{JobAsk}
 use Rattle.fax_core.specs.declared.ask.Ask.TheVariants.{GiveUp}
 use Rattle.fax_core.proofs.StepLemmas.{step_sound}
 use Rattle.fax_store.proofs.StoreLemmas.{means_stay}
@@ -36,7 +39,7 @@ use Rattle.fax_tables.specs.declared.fault.StoreFault.{StoreFault}
 use Rattle.fax_tables.specs.declared.fault.StoreFault.TheVariants.{Unavailable}
 use Rattle.fax_decide.specs.Decision.{IsTaken}
 use Rattle.fax_decide.specs.Effect.{IsWritable}
-use Rattle.fax_decide.specs.Read.{IsRead}
+use Rattle.fax_decide.specs.Read.{IsRead, IsReadOn}
 use Rattle.fax_decide.specs.declared.effect.Effect.{Effect}
 use Rattle.fax_decide.proofs.FreeLemmas.{keys_free}
 use Rattle.fax_decide.proofs.WorkLemmas.{refused_with}
@@ -53,22 +56,23 @@ use Rattle.fax_once.proofs.ReadingLemmas.{same_ask}
 
 -- ---- what was asked was read
 
--- what a body asks for was read
+-- what a client asks of a job
+read_of : (action : Action) (body : List ℕ) (ask : JobAsk) → AsksOfJob action body ask → IsReadOn ask
+read_of Suspend body ask h = subst IsReadOn (sym h) tt
+read_of Resume body ask h = subst IsReadOn (sym h) tt
+read_of Kill body ask h = subst IsReadOn (sym h) tt
+read_of Alter body ask h = subst IsReadOn (sym h.2) (h.1.lines, h.1.stated)
+
+-- what a body asks for
 asked_read : (route : Route) (body : List ℕ) (ask : Ask) → Asks route body (Step ask) → IsRead ask
+asked_read (Show job) body ask h = absurd cc
 asked_read Submit body ask h = subst IsRead (sym (same_ask h.2)) (h.1.lines, h.1.stated)
 asked_read Import body ask h = subst IsRead (sym (same_ask h.2)) (h.1.lines, h.1.stated)
-asked_read (Alter job) body ask h = subst IsRead (sym (same_ask h.2)) (h.1.lines, h.1.stated)
-asked_read (Call grant) body ask h = subst IsRead (sym (same_ask h.2)) tt
-asked_read (Page grant) body ask h = subst IsRead (sym (same_ask h.2)) tt
-asked_read (Outcome grant) body ask h = subst IsRead (sym (same_ask h.2)) tt
-asked_read Floor body ask h = subst IsRead (sym (same_ask h.2)) tt
-asked_read (Suspend job) body ask h = subst IsRead (sym (same_ask h)) tt
-asked_read (Resume job) body ask h = subst IsRead (sym (same_ask h)) tt
-asked_read (Kill job) body ask h = subst IsRead (sym (same_ask h)) tt
-asked_read (Ready modem) body ask h = subst IsRead (sym (same_ask h)) tt
-asked_read (Down modem) body ask h = subst IsRead (sym (same_ask h)) tt
+asked_read (OnJob job action) body ask h = subst IsRead (sym (same_ask h.2)) (read_of action body h.0 h.1)
+asked_read (Mark modem down) body ask h = subst IsRead (sym (same_ask h)) tt
 asked_read (Next modem) body ask h = subst IsRead (sym (same_ask h)) tt
-asked_read (Show job) body ask h = absurd cc
+asked_read (OnGrant grant kind) body ask h = subst IsRead (sym (same_ask h.2)) tt
+asked_read Floor body ask h = subst IsRead (sym (same_ask h.2)) tt
 
 -- so what a method, a path and a body ask for was read
 pub ask_read : (method : Method) (path body : List ℕ) (ask : Ask) → IsAsk method path body (Step ask) → IsRead ask

@@ -6,7 +6,7 @@ use Rattle.fax_job.specs.declared.refusal.Refusal.TheVariants.{BadBody, BadClien
 use Rattle.fax_value.specs.Name.{is_name}
 use Rattle.fax_value.specs.Number.{request_number_of}
 use Rattle.fax_ask.specs.declared.request.Request.{Request}
-use Rattle.fax_ask.specs.declared.request.Request.TheVariants.{Submit, Import, Suspend, Resume, Kill, Alter, Show, Ready, Down, Next, Call, Page, Outcome, Floor}
+use Rattle.fax_ask.specs.declared.request.Request.TheVariants.{Show, Submit, Import, OnJob, Mark, Next, OnGrant, Floor}
 use Rattle.fax_ask.specs.declared.view.View.{View}
 use Rattle.fax_ask.specs.declared.view.View.TheVariants as sight
 use Rattle.fax_ask.specs.Ask.{Asks}
@@ -18,6 +18,8 @@ use Rattle.fax_ask.specs.Request.{request_of}
 use Rattle.fax_core.specs.Clock.{decided_at}
 use Rattle.fax_core.specs.declared.ask.Ask.{Ask}
 use Rattle.fax_core.specs.declared.ask.Ask.TheVariants as machine
+use Rattle.fax_core.specs.declared.ask.JobAsk.TheVariants as ask
+use Rattle.fax_core.specs.declared.report.Report.TheVariants as report
 use Rattle.fax_core.specs.Job.{Job}
 use Rattle.fax_core.specs.Laws.{RefusalsAreMet}
 use Rattle.fax_core.specs.Ageing.{aged}
@@ -45,20 +47,14 @@ use Rattle.fax_once.specs.declared.arrival.Arrival.{Arrival}
 
 -- what isn't seen is a step
 step_of : (request : Request) (body : List ℕ) (asked : Asked) → seen_by request ≡ None → Asks request body asked → (ask : Ask) × (asked ≡ Step ask)
+step_of (Show job) body asked is h = absurd cc
 step_of Submit body asked is h = (machine.Submission h.0, h.2)
 step_of Import body asked is h = (machine.Bring h.0, h.2)
-step_of (Alter job) body asked is h = (machine.Alteration job h.0, h.2)
-step_of (Call grant) body asked is h = (machine.CallReport grant h.0, h.2)
-step_of (Page grant) body asked is h = (machine.PageReport grant h.0, h.2)
-step_of (Outcome grant) body asked is h = (machine.OutcomeReport grant h.0, h.2)
-step_of Floor body asked is h = (machine.GiveUp h.0, h.2)
-step_of (Suspend job) body asked is h = (machine.Suspend job, h)
-step_of (Resume job) body asked is h = (machine.Resume job, h)
-step_of (Kill job) body asked is h = (machine.Kill job, h)
-step_of (Ready modem) body asked is h = (machine.Ready modem, h)
-step_of (Down modem) body asked is h = (machine.Down modem, h)
+step_of (OnJob job action) body asked is h = (machine.OnJob job h.0, h.2)
+step_of (Mark modem down) body asked is h = (machine.Mark modem down, h)
 step_of (Next modem) body asked is h = (machine.Next modem, h)
-step_of (Show job) body asked is h = absurd cc
+step_of (OnGrant grant kind) body asked is h = (machine.OnGrant grant h.0, h.2)
+step_of Floor body asked is h = (machine.GiveUp h.0, h.2)
 
 module _ (a : Arrival) (each : AsksOrHasFault a.body.now) where
   -- a body under a number is read as something, where no view is asked for
@@ -97,16 +93,15 @@ each_verdict a each s m k = let one = for_route a each (request_of a.method a.pa
 never_met : (ask : Ask) → may_meet ask Unavailable ≡ true → ⊥
 never_met (machine.Submission order) met = absurd cc
 never_met (machine.Bring i) met = absurd cc
-never_met (machine.Suspend job) met = absurd cc
-never_met (machine.Resume job) met = absurd cc
-never_met (machine.Kill job) met = absurd cc
-never_met (machine.Alteration job changes) met = absurd cc
-never_met (machine.Ready modem) met = absurd cc
-never_met (machine.Down modem) met = absurd cc
+never_met (machine.OnJob job ask.Suspend) met = absurd cc
+never_met (machine.OnJob job ask.Resume) met = absurd cc
+never_met (machine.OnJob job ask.Kill) met = absurd cc
+never_met (machine.OnJob job (ask.Alter changes)) met = absurd cc
+never_met (machine.Mark modem down) met = absurd cc
 never_met (machine.Next modem) met = absurd cc
-never_met (machine.CallReport grant call) met = absurd cc
-never_met (machine.PageReport grant page) met = absurd cc
-never_met (machine.OutcomeReport grant outcome) met = absurd cc
+never_met (machine.OnGrant grant (report.Call c)) met = absurd cc
+never_met (machine.OnGrant grant (report.Page page)) met = absurd cc
+never_met (machine.OnGrant grant (report.Outcome o)) met = absurd cc
 never_met (machine.GiveUp upto) met = absurd cc
 
 -- the reply's status isn't 503

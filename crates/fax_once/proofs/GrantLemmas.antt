@@ -7,14 +7,17 @@ use Rattle.fax_job.specs.declared.refusal.Refusal.{Refusal}
 use Rattle.fax_job.specs.declared.refusal.Refusal.TheVariants as refusal
 use Rattle.fax_core.specs.declared.grants.Grant.{Grant}
 use Rattle.fax_core.specs.declared.report.Outcome.{Outcome}
+use Rattle.fax_core.specs.declared.report.Report.{Report}
+use Rattle.fax_core.specs.declared.report.Report.TheVariants as report
 use Rattle.fax_core.specs.Ageing.{aged}
 use Rattle.fax_core.specs.Clock.{decided_at}
 use Rattle.fax_core.specs.declared.ask.Ask.{Ask}
-use Rattle.fax_core.specs.declared.ask.Ask.TheVariants.{Submission, Bring, Suspend, Resume, Kill, Alteration, Ready, Down, Next, CallReport, PageReport, OutcomeReport, GiveUp}
-use Rattle.fax_core.specs.Decisions.{JobAndGrant, after_call, alter, call, ended, granted, is_connected, kill, outcome, page, page_of, resume, submit, suspend}
+use Rattle.fax_core.specs.declared.ask.Ask.TheVariants.{Submission, Bring, OnJob, Mark, Next, OnGrant, GiveUp}
+use Rattle.fax_core.specs.declared.ask.JobAsk.{JobAsk}
+use Rattle.fax_core.specs.Decisions.{JobAndGrant, after_call, call, ended, grant_reported, granted, is_connected, job_asked, outcome, page, page_of, submit}
 use Rattle.fax_core.specs.Import.{bring}
 use Rattle.fax_core.specs.Job.{Job}
-use Rattle.fax_core.specs.Machine.{act, brought_in, call_reply, changed, on_job, outcome_reply, page_reply, step, submitted, with_both, with_job, with_mark, with_new_job}
+use Rattle.fax_core.specs.Machine.{act, brought_in, changed, on_job, step, submitted, with_both, with_job, with_mark, with_new_job}
 use Rattle.fax_core.specs.Queue.{Queue, grant_numbered, job_numbered}
 use Rattle.fax_core.specs.Reply.{Marked, NoKeys, Refused, Reply, Step, Taken}
 use Rattle.fax_core.specs.Run.{left_by}
@@ -66,9 +69,9 @@ changed_grants s m n t (Ok k) r e = ap (λ (q : Queue). q.grants) (sym (taken_sa
 changed_grants s m n t (Err x) r e = cc
 
 -- a request on a job keeps them
-on_job_grants : (s : Settings) (m n : Queue) (t : ℕ) (decide : Job → Result Job Refusal) (o : Option Job) (r : Reply) → on_job s m t decide o ≡ Taken n r → KeepsGrants m n
-on_job_grants s m n t decide None r e = cc
-on_job_grants s m n t decide (Some j) r e = kept_all m n (changed_grants s m n t (decide j) r e)
+on_job_grants : (s : Settings) (m n : Queue) (t : ℕ) (ask : JobAsk) (o : Option Job) (r : Reply) → on_job s m t ask o ≡ Taken n r → KeepsGrants m n
+on_job_grants s m n t ask None r e = cc
+on_job_grants s m n t ask (Some j) r e = kept_all m n (changed_grants s m n t (job_asked ask t j) r e)
 
 -- so does a submission
 submission_grants : (m n : Queue) (rule : Rule) (d : Result Job Refusal) (r : Reply) → submitted m rule d ≡ Taken n r → KeepsGrants m n
@@ -131,6 +134,12 @@ outcome_same o j g delay t b e =
     subst (λ (x : JobAndGrant). IsSameGrant g x.grant) (ok_same new b u.1)
     (record { number = refl; job = refl; modem = refl; first_page = refl; last_page = refl; confirmed = omega arith; closed = λ off. absurd (true≢false (sym on ∙ off)) })
 
+-- so does whatever a worker reports
+report_same : (x : Report) (delay : Option Call → ℕ) (t : ℕ) (j : Job) (g : Grant) (b : JobAndGrant) → grant_reported x delay t j g ≡ Ok b → IsSameGrant g b.grant
+report_same (report.Call c) delay t j g b e = called_same c j g b e
+report_same (report.Page n) delay t j g b e = paged_same n j g b e
+report_same (report.Outcome o) delay t j g b e = outcome_same o j g (delay g.call) t b e
+
 module _ (m : Queue) (b : ℕ) (g : Grant) (both : JobAndGrant) (is : grant_numbered b m ≡ Some g) (same : IsSameGrant g both.grant) where
   -- the number finds this grant alone
   it_is : (x : Grant) → grant_numbered b m ≡ Some x → g ≡ x
@@ -150,8 +159,8 @@ module _ (m : Queue) (b : ℕ) (g : Grant) (both : JobAndGrant) (is : grant_numb
       by (inr other) = (x, placed_other (λ (z : Grant). z.number) a both.grant x m.grants there other, same_itself x)
 
 -- a report keeps the grants
-report_grants : (m n : Queue) (b : ℕ) (decide : Job → Grant → Result JobAndGrant Refusal) → ((j : Job) (g : Grant) (both : JobAndGrant) → decide j g ≡ Ok both → IsSameGrant g both.grant) → Reported m n b decide → KeepsGrants m n
-report_grants m n b decide same it = subst (KeepsGrants m) it.left (placed_grants m b it.grant it.both it.is (same it.job it.grant it.both it.made))
+report_grants : (s : Settings) (m n : Queue) (t b : ℕ) (x : Report) → Reported s m n t b x → KeepsGrants m n
+report_grants s m n t b x it = subst (KeepsGrants m) it.left (placed_grants m b it.grant it.both it.is (report_same x s.delay t it.job it.grant it.both it.made))
 
 -- ---- a request for work
 
@@ -167,18 +176,10 @@ given_grants s m n t modem r (Best_to j best none same told) =
 act_grants : (s : Settings) (m n : Queue) (t : ℕ) (ask : Ask) (r : Reply) → Sound m → act s m t ask ≡ Taken n r → KeepsGrants m n
 act_grants s m n t (Submission o) r h e = submission_grants m n (s.rule o.dial) (submit o (s.rule o.dial) m.next_job s.max_jobs t) r e
 act_grants s m n t (Bring i) r h e = import_grants s m n t (s.rule i.order.dial) (bring i (s.rule i.order.dial) m.next_job s.max_jobs t) r e
-act_grants s m n t (Suspend a) r h e = on_job_grants s m n t suspend (job_numbered a m) r e
-act_grants s m n t (Resume a) r h e = on_job_grants s m n t resume (job_numbered a m) r e
-act_grants s m n t (Kill a) r h e = on_job_grants s m n t kill (job_numbered a m) r e
-act_grants s m n t (Alteration a c) r h e = on_job_grants s m n t (λ j. alter c j t) (job_numbered a m) r e
-act_grants s m n t (Ready modem) r h e = mark_grants m n modem false (s.has_modem modem) r e
-act_grants s m n t (Down modem) r h e = mark_grants m n modem true (s.has_modem modem) r e
+act_grants s m n t (OnJob a ask) r h e = on_job_grants s m n t ask (job_numbered a m) r e
+act_grants s m n t (Mark modem down) r h e = mark_grants m n modem down (s.has_modem modem) r e
 act_grants s m n t (Next modem) r h e = given_grants s m n t modem r (given_is s m t modem n r h e)
-act_grants s m n t (CallReport a c) r h e = report_grants m n a (call c) (called_same c) (on_grant_is m (call c) (call_reply t) a (grant_numbered a m) n r refl e)
-act_grants s m n t (PageReport a p) r h e = report_grants m n a (page p) (paged_same p) (on_grant_is m (page p) (page_reply t) a (grant_numbered a m) n r refl e)
-act_grants s m n t (OutcomeReport a o) r h e =
-    report_grants m n a (λ j g. outcome o j g (s.delay g.call) t) (λ j g b. outcome_same o j g (s.delay g.call) t b)
-    (on_grant_is m (λ j g. outcome o j g (s.delay g.call) t) (outcome_reply s t) a (grant_numbered a m) n r refl e)
+act_grants s m n t (OnGrant a report) r h e = report_grants s m n t a report (on_grant_is s m t a report (grant_numbered a m) n r refl e)
 act_grants s m n t (GiveUp upto) r h e = kept_all m n (ap (λ (q : Queue). q.grants) (sym (taken_same m n _ r e).0))
 
 -- ageing leaves the grants

@@ -9,7 +9,7 @@ use Rattle.fax_job.specs.declared.refusal.Refusal.TheVariants.{Unavailable}
 use Rattle.fax_ask.specs.Ask.{Asks}
 use Rattle.fax_ask.specs.declared.ask.Ask.TheVariants.{Step}
 use Rattle.fax_ask.specs.declared.request.Request.{Request as Route}
-use Rattle.fax_ask.specs.declared.request.Request.TheVariants.{Submit, Import, Suspend, Resume, Kill, Alter, Show, Ready, Down, Next, Call, Page, Outcome, Floor}
+use Rattle.fax_ask.specs.declared.request.Request.TheVariants.{Show, Submit, Import, OnJob, Mark, Next, OnGrant, Floor}
 use Rattle.fax_ask.specs.Response.{Response, refused_response}
 use Rattle.fax_ask.proofs.LimitLemmas.{order_limits}
 use Rattle.fax_core.specs.Ask.{IsLawfulAsk}
@@ -37,20 +37,14 @@ use Rattle.fax_once.proofs.VerdictLemmas.{still_means}
 
 -- what a body asks for of the queue is lawful
 lawful_ask : (route : Route) (body : List ℕ) (ask : Ask) → Asks route body (Step ask) → IsLawfulAsk ask
+lawful_ask (Show job) body ask h = absurd cc
 lawful_ask Submit body ask h = subst IsLawfulAsk (sym (same_ask h.2)) (order_limits h.1.lines h.0 h.1.stated)
 lawful_ask Import body ask h = subst IsLawfulAsk (sym (same_ask h.2)) (read_counts h.1.lines h.0 h.1.stated)
-lawful_ask (Alter job) body ask h = subst IsLawfulAsk (sym (same_ask h.2)) tt
-lawful_ask (Call grant) body ask h = subst IsLawfulAsk (sym (same_ask h.2)) tt
-lawful_ask (Page grant) body ask h = subst IsLawfulAsk (sym (same_ask h.2)) tt
-lawful_ask (Outcome grant) body ask h = subst IsLawfulAsk (sym (same_ask h.2)) tt
-lawful_ask Floor body ask h = subst IsLawfulAsk (sym (same_ask h.2)) tt
-lawful_ask (Suspend job) body ask h = subst IsLawfulAsk (sym (same_ask h)) tt
-lawful_ask (Resume job) body ask h = subst IsLawfulAsk (sym (same_ask h)) tt
-lawful_ask (Kill job) body ask h = subst IsLawfulAsk (sym (same_ask h)) tt
-lawful_ask (Ready modem) body ask h = subst IsLawfulAsk (sym (same_ask h)) tt
-lawful_ask (Down modem) body ask h = subst IsLawfulAsk (sym (same_ask h)) tt
+lawful_ask (OnJob job action) body ask h = subst IsLawfulAsk (sym (same_ask h.2)) tt
+lawful_ask (Mark modem down) body ask h = subst IsLawfulAsk (sym (same_ask h)) tt
 lawful_ask (Next modem) body ask h = subst IsLawfulAsk (sym (same_ask h)) tt
-lawful_ask (Show job) body ask h = absurd cc
+lawful_ask (OnGrant grant kind) body ask h = subst IsLawfulAsk (sym (same_ask h.2)) tt
+lawful_ask Floor body ask h = subst IsLawfulAsk (sym (same_ask h.2)) tt
 
 -- what it asks for is
 abbrev pub IsLawful : Reading → Type 0

@@ -7,7 +7,7 @@ use Rattle.std.proofs.lemmas.Bool.{and_parts, cases_Bool, eqb-true}
 use Rattle.std.proofs.lemmas.Bool.Decides.{nat_tests}
 use Rattle.sqlite_rules.specs.Lists.{Has}
 use Rattle.fax_core.specs.declared.ask.Ask.{Ask}
-use Rattle.fax_core.specs.declared.ask.Ask.TheVariants.{Submission, Bring, Suspend, Resume, Kill, Alteration, Ready, Down, Next, CallReport, PageReport, OutcomeReport, GiveUp}
+use Rattle.fax_core.specs.declared.ask.Ask.TheVariants.{Submission, Bring, OnJob, Mark, Next, OnGrant, GiveUp}
 use Rattle.fax_core.specs.Ledger.{Ledger, floors_with, greater, is_through}
 use Rattle.fax_core.specs.Queue.{Entry}
 use Rattle.fax_store.specs.Kept.{IsUnkept, kept_for}
@@ -27,16 +27,10 @@ pub gives : (ask : Ask) → ((upto : ℕ) × (ask ≡ GiveUp upto)) ⊎ GivesNon
 gives (GiveUp upto) = inl (upto, refl)
 gives (Submission o) = inr (record { kept = λ c k. refl; raised = λ f. refl; low = λ n. refl; floors = λ c f. refl })
 gives (Bring i) = inr (record { kept = λ c k. refl; raised = λ f. refl; low = λ n. refl; floors = λ c f. refl })
-gives (Suspend a) = inr (record { kept = λ c k. refl; raised = λ f. refl; low = λ n. refl; floors = λ c f. refl })
-gives (Resume a) = inr (record { kept = λ c k. refl; raised = λ f. refl; low = λ n. refl; floors = λ c f. refl })
-gives (Kill a) = inr (record { kept = λ c k. refl; raised = λ f. refl; low = λ n. refl; floors = λ c f. refl })
-gives (Alteration a b) = inr (record { kept = λ c k. refl; raised = λ f. refl; low = λ n. refl; floors = λ c f. refl })
-gives (Ready modem) = inr (record { kept = λ c k. refl; raised = λ f. refl; low = λ n. refl; floors = λ c f. refl })
-gives (Down modem) = inr (record { kept = λ c k. refl; raised = λ f. refl; low = λ n. refl; floors = λ c f. refl })
+gives (OnJob a ask) = inr (record { kept = λ c k. refl; raised = λ f. refl; low = λ n. refl; floors = λ c f. refl })
+gives (Mark modem down) = inr (record { kept = λ c k. refl; raised = λ f. refl; low = λ n. refl; floors = λ c f. refl })
 gives (Next modem) = inr (record { kept = λ c k. refl; raised = λ f. refl; low = λ n. refl; floors = λ c f. refl })
-gives (CallReport a b) = inr (record { kept = λ c k. refl; raised = λ f. refl; low = λ n. refl; floors = λ c f. refl })
-gives (PageReport a b) = inr (record { kept = λ c k. refl; raised = λ f. refl; low = λ n. refl; floors = λ c f. refl })
-gives (OutcomeReport a b) = inr (record { kept = λ c k. refl; raised = λ f. refl; low = λ n. refl; floors = λ c f. refl })
+gives (OnGrant a report) = inr (record { kept = λ c k. refl; raised = λ f. refl; low = λ n. refl; floors = λ c f. refl })
 
 -- ---- the greater of two
 

@@ -9,27 +9,30 @@ use Rattle.fax_job.specs.declared.order.Order.{Order}
 use Rattle.fax_job.specs.declared.refusal.Refusal.{Refusal}
 use Rattle.fax_job.specs.declared.refusal.Refusal.TheVariants as refusal
 use Rattle.fax_core.specs.declared.grants.Grant.{Grant}
+use Rattle.fax_core.specs.declared.report.Report.{Report}
+use Rattle.fax_core.specs.declared.report.Report.TheVariants as report
 use Rattle.fax_core.specs.Ageing.{aged, aged_job}
 use Rattle.fax_core.specs.declared.ask.Ask.{Ask}
-use Rattle.fax_core.specs.declared.ask.Ask.TheVariants.{Submission, Bring, Suspend, Resume, Kill, Alteration, Ready, Down, Next, CallReport, PageReport, OutcomeReport, GiveUp}
-use Rattle.fax_core.specs.Decisions.{JobAndGrant, alter, call, granted, kill, outcome, page, resume, submit, suspend}
+use Rattle.fax_core.specs.declared.ask.Ask.TheVariants.{Submission, Bring, OnJob, Mark, Next, OnGrant, GiveUp}
+use Rattle.fax_core.specs.declared.ask.JobAsk.{JobAsk}
+use Rattle.fax_core.specs.Decisions.{JobAndGrant, grant_reported, granted, job_asked, submit}
 use Rattle.fax_core.specs.Import.{bring}
 use Rattle.fax_core.specs.Job.{Job}
 use Rattle.fax_core.specs.Machine as machine
-use Rattle.fax_core.specs.Machine.{act, brought_in, call_reply, changed, handed, on_job, outcome_reply, page_reply, step, submitted, with_both, with_job, with_mark, with_new_grant, with_new_job}
+use Rattle.fax_core.specs.Machine.{act, brought_in, changed, handed, on_job, report_reply, step, submitted, with_both, with_job, with_mark, with_new_grant, with_new_job}
 use Rattle.fax_core.specs.Queue.{Queue, grant_numbered, job_numbered}
 use Rattle.fax_core.specs.Reply.{Brought, Floored, Given, Marked, NoKeys, NoneToSend, Refused, Reply, Stands, Submitted, Taken}
 use Rattle.fax_core.specs.Settings.{Rule, Settings}
 use Rattle.fax_core.specs.Sound.{IsJob, Sound}
 use Rattle.fax_core.specs.State.{state}
-use Rattle.fax_core.proofs.DecisionLemmas.{aged_number, altered_in, killed_in, resumed_in, suspended_in}
+use Rattle.fax_core.proofs.DecisionLemmas.{aged_number, asked_in}
 use Rattle.fax_core.proofs.KeepLemmas.{looked_up, numbered_grant, numbered_job, same_job}
 use Rattle.fax_core.proofs.PageLemmas.{on_grant_is}
 use Rattle.fax_core.proofs.PlaceLemmas.{absent, comes, either, find_placed, in_place, mapped, placed, stays}
 use Rattle.fax_core.proofs.StepLemmas.{Best_to, GivenTo, None_to, aged_sound, given_is, taken_same}
-use Rattle.fax_once.proofs.CountLemmas.{Same, aged_same, altered_same, brought_counters, called_counted, counted_all, killed_same, outcome_counted, paged_counted, resumed_same, submitted_none, suspended_same}
+use Rattle.fax_once.proofs.CountLemmas.{Same, aged_same, asked_same, brought_counters, counted_all, report_counted, submitted_none}
 use Rattle.fax_once.proofs.CountLemmas as count
-use Rattle.fax_once.specs.Counts.{Called, Confirmed, Report, came_in, counters_of, hands, no_counters, reported}
+use Rattle.fax_once.specs.Counts.{came_in, counters_of, hands, no_counters, reported}
 
 -- the grant that is found is of that job
 abbrev pub has_job : ℕ → Option Grant → Bool
@@ -108,11 +111,10 @@ changed_moves s m n t ask b j (Ok k) r is none keeps e =
     }))
 changed_moves s m n t ask b j (Err x) r is none keeps e = cc
 
--- a request on a job that leaves its number and counters moves none
-on_job_moves : (s : Settings) (m n : Queue) (t : ℕ) (ask : Ask) (b : ℕ) (decide : Job → Result Job Refusal) (o : Option Job) (r : Reply) → job_numbered b m ≡ o → ((x : ℕ) → fresh m ask x ≡ [])
-    → ((j k : Job) → decide j ≡ Ok k → Same j k × (k.number ≡ j.number)) → on_job s m t decide o ≡ Taken n r → Moved m n ask r
-on_job_moves s m n t ask b decide None r is none keeps e = cc
-on_job_moves s m n t ask b decide (Some j) r is none keeps e = changed_moves s m n t ask b j (decide j) r is none (keeps j) e
+-- so no request on a job moves any
+on_job_moves : (s : Settings) (m n : Queue) (t b : ℕ) (a : JobAsk) (o : Option Job) (r : Reply) → job_numbered b m ≡ o → on_job s m t a o ≡ Taken n r → Moved m n (OnJob b a) r
+on_job_moves s m n t b a None r is e = cc
+on_job_moves s m n t b a (Some j) r is e = changed_moves s m n t (OnJob b a) b j (job_asked a t j) r is (λ x. refl) (λ k d. (asked_same a t j k d, (asked_in a t j k d).number)) e
 
 -- ---- submissions and marks
 
@@ -170,17 +172,23 @@ mark_moves m n ask modem down false r none e = cc
 
 -- ---- reports
 
-module _ (m : Queue) (ask : Ask) (b : ℕ) (g : Grant) (j : Job) (both : JobAndGrant) (reports : List Report) (is : grant_numbered b m ≡ Some g) (of : IsJob m g.job j) (made : count.Reported j g both reports)
-    (fronts : (x : ℕ) → fresh m ask x ≡ cond (eqb g.job x) reports []) where
+module _ (m : Queue) (b : ℕ) (x : Report) (g : Grant) (j : Job) (both : JobAndGrant) (is : grant_numbered b m ≡ Some g) (of : IsJob m g.job j) (made : count.Reported j g both x) where
+  abbrev ask : Ask
+  ask = OnGrant b x
+
+  -- the report is one on the grant's job
+  fronts : (i : ℕ) → fresh m ask i ≡ cond (eqb g.job i) (x ∷ []) []
+  fronts i = ap (λ (o : Option Grant). cond (has_job i o) (x ∷ []) []) is
+
   -- the grant's job counts what was reported
-  at_its : (x : ℕ) → x ≡ g.job → counters_of both.job ≡ counted_all (fresh m ask x) (counters_of j)
-  at_its x here = made.counted_now ∙ ap (λ (rs : List Report). counted_all rs (counters_of j)) (sym (fronts x ∙ ap (λ (q : Bool). cond q reports []) (eq-eqb g.job x (sym here))))
+  at_its : (i : ℕ) → i ≡ g.job → counters_of both.job ≡ counted_all (fresh m ask i) (counters_of j)
+  at_its i here = made.counted_now ∙ ap (λ (rs : List Report). counted_all rs (counters_of j)) (sym (fronts i ∙ ap (λ (q : Bool). cond q (x ∷ []) []) (eq-eqb g.job i (sym here))))
 
   -- and no other job has a report
-  off_its : (x : ℕ) → x ≢ g.job → fresh m ask x ≡ []
-  off_its x other = elim (cases_Bool (eqb g.job x)) [
-    | inl on ↦ absurd (other (sym (eqb-true g.job x on)))
-    | inr off ↦ fronts x ∙ ap (λ (q : Bool). cond q reports []) off
+  off_its : (i : ℕ) → i ≢ g.job → fresh m ask i ≡ []
+  off_its i other = elim (cases_Bool (eqb g.job i)) [
+    | inl on ↦ absurd (other (sym (eqb-true g.job i on)))
+    | inr off ↦ fronts i ∙ ap (λ (q : Bool). cond q (x ∷ []) []) off
   ]
 
   -- a grant keeps its job where the reported one is put in its place
@@ -214,36 +222,31 @@ reported_told m n reply j (Ok b) r e = (b, (taken_same (with_both b m) n _ r e).
 reported_told m n reply j (Err x) r e = cc
 
 -- the same where the grant's job is looked up
-on_both_told : (m n : Queue) (decide : Job → Grant → Result JobAndGrant Refusal) (reply : Queue → JobAndGrant → Reply) (g : Grant) (o : Option Job) (r : Reply) → machine.on_both m decide reply g o ≡ Taken n r → (b : JobAndGrant) × (reply (with_both b m) b ≡ r)
-on_both_told m n decide reply g None r e = cc
-on_both_told m n decide reply g (Some j) r e = reported_told m n reply j (decide j g) r e
+on_both_told : (s : Settings) (m n : Queue) (t : ℕ) (x : Report) (g : Grant) (o : Option Job) (r : Reply)
+    → machine.on_both s m t x g o ≡ Taken n r → (b : JobAndGrant) × (report_reply s t x (with_both b m) b ≡ r)
+on_both_told s m n t x g None r e = cc
+on_both_told s m n t x g (Some j) r e = reported_told m n (report_reply s t x) j (grant_reported x s.delay t j g) r e
 
 -- the same where the grant is looked up
-pub on_grant_told : (m n : Queue) (decide : Job → Grant → Result JobAndGrant Refusal) (reply : Queue → JobAndGrant → Reply) (o : Option Grant) (r : Reply) → machine.on_grant m decide reply o ≡ Taken n r → (b : JobAndGrant) × (reply (with_both b m) b ≡ r)
-on_grant_told m n decide reply None r e = cc
-on_grant_told m n decide reply (Some g) r e = on_both_told m n decide reply g (job_numbered g.job m) r e
+pub on_grant_told : (s : Settings) (m n : Queue) (t : ℕ) (x : Report) (o : Option Grant) (r : Reply)
+    → machine.on_grant s m t x o ≡ Taken n r → (b : JobAndGrant) × (report_reply s t x (with_both b m) b ≡ r)
+on_grant_told s m n t x None r e = cc
+on_grant_told s m n t x (Some g) r e = on_both_told s m n t x g (job_numbered g.job m) r e
 
 -- no report is told a grant
-abbrev TellsNoGrant : (Queue → JobAndGrant → Reply) → Type 0
-TellsNoGrant reply = (q : Queue) (b : JobAndGrant) (a x : ℕ) → hands (reply q b) a x ≡ false
+tells_none : (s : Settings) (t : ℕ) (x : Report) (q : Queue) (b : JobAndGrant) (a i : ℕ) → hands (report_reply s t x q b) a i ≡ false
+tells_none s t (report.Call c) q b a i = refl
+tells_none s t (report.Page p) q b a i = refl
+tells_none s t (report.Outcome o) q b a i = refl
 
--- a report on a grant that counts what was reported moves the job's counters so
-on_grant_moves : (m n : Queue) (ask : Ask) (b : ℕ) (decide : Job → Grant → Result JobAndGrant Refusal) (reply : Queue → JobAndGrant → Reply) (reports : List Report) (r : Reply)
-    → TellsNoGrant reply
-    → ((g : Grant) (x : ℕ) → grant_numbered b m ≡ Some g → fresh m ask x ≡ cond (eqb g.job x) reports [])
-    → ((j : Job) (g : Grant) (both : JobAndGrant) → decide j g ≡ Ok both → count.Reported j g both reports)
-    → machine.on_grant m decide reply (grant_numbered b m) ≡ Taken n r → Moved m n ask r
-on_grant_moves m n ask b decide reply reports r none fronts made e =
-    let it = on_grant_is m decide reply b (grant_numbered b m) n r refl e in
-    let told = on_grant_told m n decide reply (grant_numbered b m) r e in
-    subst (λ (q : Queue). Moved m q ask r) it.left
-    (report_moved m ask b it.grant it.job it.both reports it.is it.of (made it.job it.grant it.both it.made) (λ x. fronts it.grant x it.is) r
-    (λ a x. ap (λ (q : Reply). hands q a x) (sym told.1) ∙ none (with_both told.0 m) told.0 a x))
-
--- no reports are none either way
-either_way : (b : Bool) → ◌≡◌ {A = List Report} [] (cond b [] [])
-either_way true = refl
-either_way false = refl
+-- a report on a grant moves the job's counters by what was reported
+on_grant_moves : (s : Settings) (m n : Queue) (t b : ℕ) (x : Report) (r : Reply) → machine.on_grant s m t x (grant_numbered b m) ≡ Taken n r → Moved m n (OnGrant b x) r
+on_grant_moves s m n t b x r e =
+    let it = on_grant_is s m t b x (grant_numbered b m) n r refl e in
+    let told = on_grant_told s m n t x (grant_numbered b m) r e in
+    subst (λ (q : Queue). Moved m q (OnGrant b x) r) it.left
+    (report_moved m b x it.grant it.job it.both it.is it.of (report_counted x s.delay t it.job it.grant it.both it.made) r
+    (λ a i. ap (λ (q : Reply). hands q a i) (sym told.1) ∙ tells_none s t x (with_both told.0 m) told.0 a i))
 
 -- ---- a request for work
 
@@ -294,20 +297,10 @@ given_moves s m n t modem r h (Best_to j best none same told) =
 act_moves : (s : Settings) (m n : Queue) (t : ℕ) (ask : Ask) (r : Reply) → Sound m → act s m t ask ≡ Taken n r → Moved m n ask r
 act_moves s m n t (Submission o) r h e = submission_moves m n o (s.rule o.dial) s.max_jobs t (submit o (s.rule o.dial) m.next_job s.max_jobs t) r refl e
 act_moves s m n t (Bring i) r h e = import_moves s m n i (s.rule i.order.dial) s.max_jobs t (bring i (s.rule i.order.dial) m.next_job s.max_jobs t) r refl e
-act_moves s m n t (Suspend a) r h e = on_job_moves s m n t (Suspend a) a suspend (job_numbered a m) r refl (λ x. refl) (λ j k d. (suspended_same j.phase j.wish j k d, (suspended_in j.phase j.wish j k refl d).number)) e
-act_moves s m n t (Resume a) r h e = on_job_moves s m n t (Resume a) a resume (job_numbered a m) r refl (λ x. refl) (λ j k d. (resumed_same j.phase j.wish j k d, (resumed_in j.phase j.wish j k refl d).number)) e
-act_moves s m n t (Kill a) r h e = on_job_moves s m n t (Kill a) a kill (job_numbered a m) r refl (λ x. refl) (λ j k d. (killed_same j.phase j k d, (killed_in j.phase j k refl d).number)) e
-act_moves s m n t (Alteration a c) r h e =
-    on_job_moves s m n t (Alteration a c) a (λ j. alter c j t) (job_numbered a m) r refl (λ x. refl) (λ j k d. (altered_same j.phase c j k t d, (altered_in j.phase c j k t refl d).number)) e
-act_moves s m n t (Ready modem) r h e = mark_moves m n (Ready modem) modem false (s.has_modem modem) r (λ x. refl) e
-act_moves s m n t (Down modem) r h e = mark_moves m n (Down modem) modem true (s.has_modem modem) r (λ x. refl) e
+act_moves s m n t (OnJob a ask) r h e = on_job_moves s m n t a ask (job_numbered a m) r refl e
+act_moves s m n t (Mark modem down) r h e = mark_moves m n (Mark modem down) modem down (s.has_modem modem) r (λ x. refl) e
 act_moves s m n t (Next modem) r h e = given_moves s m n t modem r h (given_is s m t modem n r h e)
-act_moves s m n t (CallReport a c) r h e =
-    on_grant_moves m n (CallReport a c) a (call c) (call_reply t) (Called c ∷ []) r (λ q b x y. refl) (λ g x is. ap (λ (o : Option Grant). cond (has_job x o) (Called c ∷ []) []) is) (λ j g b. called_counted c j g b) e
-act_moves s m n t (PageReport a p) r h e =
-    on_grant_moves m n (PageReport a p) a (page p) (page_reply t) (Confirmed ∷ []) r (λ q b x y. refl) (λ g x is. ap (λ (o : Option Grant). cond (has_job x o) (Confirmed ∷ []) []) is) (λ j g b. paged_counted p j g b) e
-act_moves s m n t (OutcomeReport a o) r h e =
-    on_grant_moves m n (OutcomeReport a o) a (λ j g. outcome o j g (s.delay g.call) t) (outcome_reply s t) [] r (λ q b x y. refl) (λ g x is. either_way (eqb g.job x)) (λ j g b. outcome_counted o j g (s.delay g.call) t b) e
+act_moves s m n t (OnGrant a report) r h e = on_grant_moves s m n t a report r e
 act_moves s m n t (GiveUp upto) r h e =
     subst (λ (q : Reply). Moved m n (GiveUp upto) q) (taken_same m n _ r e).1
     (subst (λ (q : Queue). Moved m q (GiveUp upto) (Floored upto)) (taken_same m n _ r e).0 (record { jobs = λ x y found. Was y found refl; numbers = omega arith; grants = λ a x. refl; given = λ a x no. absurd cc }))

@@ -5,7 +5,8 @@ use Rattle.std.proofs.lemmas.List.{append-nil, length-append}
 use Rattle.fax_core.specs.declared.grants.Grant.{Grant}
 use Rattle.fax_core.specs.Ageing.{aged}
 use Rattle.fax_core.specs.Clock.{decided_at}
-use Rattle.fax_core.specs.declared.ask.Ask.TheVariants.{Next, PageReport}
+use Rattle.fax_core.specs.declared.ask.Ask.TheVariants.{Next, OnGrant}
+use Rattle.fax_core.specs.declared.report.Report.TheVariants.{Page}
 use Rattle.fax_core.specs.Job.{HasPages, Job, pages_to}
 use Rattle.fax_core.specs.Laws.{ConfirmsPage, HasSent}
 use Rattle.fax_core.specs.Machine.{step}
@@ -86,7 +87,7 @@ sent_before m a pages j x is =
 -- ---- behind a page that was confirmed
 
 module _ (m : Queue) (between earlier : List Fed) (e : Fed) (grant page : ℕ) (g : Grant) (h : Sound m) (are : AreTaken m (between ++ e ∷ earlier))
-    (asks : e.post.request.ask ≡ PageReport grant page) (is : grant_numbered grant (queue_after m earlier) ≡ Some g) where
+    (asks : e.post.request.ask ≡ OnGrant grant (Page page)) (is : grant_numbered grant (queue_after m earlier) ≡ Some g) where
   abbrev was : Queue
   was = queue_after m earlier
 
@@ -109,7 +110,7 @@ module _ (m : Queue) (between earlier : List Fed) (e : Fed) (grant page : ℕ) (
   sound = sound_after m earlier h its.2
 
   -- its report was taken
-  report : (r : Reply) × (step e.settings was t (PageReport grant page) ≡ Taken then' r)
+  report : (r : Reply) × (step e.settings was t (OnGrant grant (Page page)) ≡ Taken then' r)
   report =
       let it = taken_step was (step_of was e) its.1 in
       (it.0, ap (step e.settings was t) (sym asks) ∙ it.1)
@@ -149,7 +150,7 @@ module _ (m : Queue) (between earlier : List Fed) (e : Fed) (grant page : ℕ) (
 
     -- a later report of a page of the job is of one behind it
     pub confirmed_no_more : (other more : ℕ) (n : Queue) (told : Reply) (i : Grant)
-        → f.post.request.ask ≡ PageReport other more → step_of now f ≡ Taken n told → grant_numbered other now ≡ Some i → i.job ≡ g.job → page < more
+        → f.post.request.ask ≡ OnGrant other (Page more) → step_of now f ≡ Taken n told → grant_numbered other now ≡ Some i → i.job ≡ g.job → page < more
     confirmed_no_more other more n told i asked again at same =
         let c = confirmed f.settings now n u other more told (ap (step f.settings now u) (sym asked) ∙ again) in
         let it : c.grant ≡ i = cc (c.open_grant.0, at) in

@@ -20,6 +20,7 @@ use Rattle.fax_core.specs.declared.ask.Ask.TheVariants.{Next}
 use Rattle.fax_core.specs.declared.grants.Grant.{Grant}
 use Rattle.fax_core.specs.declared.report.Ending.TheVariants.{Fail}
 use Rattle.fax_core.specs.declared.report.Outcome.{Outcome}
+use Rattle.fax_core.specs.declared.report.Report.TheVariants as report
 use Rattle.fax_core.specs.declared.state.State.TheVariants as sendq
 use Rattle.fax_core.proofs.BestLemmas.{none_goes}
 use Rattle.fax_core.proofs.KeepLemmas.{numbered_grant}
@@ -90,9 +91,8 @@ open_grants_can_end s m t number g sound is =
     let closed : Grant = record g { is_open = false } in
     let both : JobAndGrant = record { job = ended j.left (failed g) j (s.delay g.call) t; grant = closed } in
     let after = with_both both (aged t m) in
-    let decide = λ (x : Job) (h : Grant). outcome (failed g) x h (s.delay h.call) t in
-    let taken = ap (λ o. on_grant (aged t m) decide (outcome_reply s t) o) is.0
-    ∙ ap (on_both (aged t m) decide (outcome_reply s t) g) held.1
+    let taken = ap (on_grant s (aged t m) t (report.Outcome (failed g))) is.0
+    ∙ ap (on_both s (aged t m) t (report.Outcome (failed g)) g) held.1
     ∙ ap (reported (aged t m) (outcome_reply s t) j) (takes_failed j g (s.delay g.call) t is.1) in
     let there : grant_numbered number after ≡ Some closed = placed_here (λ (x : Grant). x.number) number closed g m.grants is.0 (numbered_grant m number g is.0) in
     (failed g, after, outcome_reply s t after both, taken, λ h found. let same : closed ≡ h = (let both = sym there ∙ found in cc) in sym (ap (λ (x : Grant). x.is_open) same))

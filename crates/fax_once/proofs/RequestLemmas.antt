@@ -6,7 +6,8 @@ use Rattle.fax_job.specs.declared.refusal.Refusal.{Refusal}
 use Rattle.fax_job.specs.declared.refusal.Refusal.TheVariants.{BadBody, NoRoute}
 use Rattle.fax_job.specs.declared.refusal.BodyFault.{BodyFault}
 use Rattle.fax_ask.specs.declared.request.Request.{Request}
-use Rattle.fax_ask.specs.declared.request.Request.TheVariants.{Submit, Import, Suspend, Resume, Kill, Alter, Show, Ready, Down, Next, Call, Page, Outcome, Floor}
+use Rattle.fax_ask.specs.declared.request.Request.TheVariants.{Show, Submit, Import, OnJob, Mark, Next, OnGrant, Floor}
+use Rattle.fax_ask.specs.declared.request.Action.TheVariants.{Suspend, Resume, Kill, Alter}
 use Rattle.fax_ask.specs.Ask.{Asks, IsAsk, IsBodyRefusal, IsRefused}
 use Rattle.fax_ask.specs.declared.ask.Ask.{Ask as Asked}
 use Rattle.fax_ask.specs.declared.ask.Ask.TheVariants.{Step, View}
@@ -31,36 +32,24 @@ use Rattle.fax_once.specs.declared.sender.Sender.{Sender}
 
 -- where the body asks to see something, the request asks for that view
 seen : (r : Request) (body : List ℕ) (what : Sight) → Asks r body (View what) → seen_by r ≡ Some what
+seen (Show n) body what is = cc
 seen Submit body what is = absurd (let e = is.2 in cc)
 seen Import body what is = absurd (let e = is.2 in cc)
-seen (Suspend n) body what is = absurd cc
-seen (Resume n) body what is = absurd cc
-seen (Kill n) body what is = absurd cc
-seen (Alter n) body what is = absurd (let e = is.2 in cc)
-seen (Show n) body what is = cc
-seen (Ready n) body what is = absurd cc
-seen (Down n) body what is = absurd cc
+seen (OnJob n action) body what is = absurd (let e = is.2 in cc)
+seen (Mark n down) body what is = absurd cc
 seen (Next n) body what is = absurd cc
-seen (Call n) body what is = absurd (let e = is.2 in cc)
-seen (Page n) body what is = absurd (let e = is.2 in cc)
-seen (Outcome n) body what is = absurd (let e = is.2 in cc)
+seen (OnGrant n kind) body what is = absurd (let e = is.2 in cc)
 seen Floor body what is = absurd (let e = is.2 in cc)
 
 -- where the body asks for a step, the request asks for no view
 unseen : (r : Request) (body : List ℕ) (ask : Ask) → Asks r body (Step ask) → seen_by r ≡ None
+unseen (Show n) body ask is = absurd cc
 unseen Submit body ask is = refl
 unseen Import body ask is = refl
-unseen (Suspend n) body ask is = refl
-unseen (Resume n) body ask is = refl
-unseen (Kill n) body ask is = refl
-unseen (Alter n) body ask is = refl
-unseen (Show n) body ask is = absurd cc
-unseen (Ready n) body ask is = refl
-unseen (Down n) body ask is = refl
+unseen (OnJob n action) body ask is = refl
+unseen (Mark n down) body ask is = refl
 unseen (Next n) body ask is = refl
-unseen (Call n) body ask is = refl
-unseen (Page n) body ask is = refl
-unseen (Outcome n) body ask is = refl
+unseen (OnGrant n kind) body ask is = refl
 unseen Floor body ask is = refl
 
 -- ---- readings
@@ -157,16 +146,10 @@ unseen_fault : (r : Request) (body : List ℕ) (fault : BodyFault) → IsBodyRef
 unseen_fault (Show n) body fault is = absurd is
 unseen_fault Submit body fault is = refl
 unseen_fault Import body fault is = refl
-unseen_fault (Suspend n) body fault is = refl
-unseen_fault (Resume n) body fault is = refl
-unseen_fault (Kill n) body fault is = refl
-unseen_fault (Alter n) body fault is = refl
-unseen_fault (Ready n) body fault is = refl
-unseen_fault (Down n) body fault is = refl
+unseen_fault (OnJob n action) body fault is = refl
+unseen_fault (Mark n down) body fault is = refl
 unseen_fault (Next n) body fault is = refl
-unseen_fault (Call n) body fault is = refl
-unseen_fault (Page n) body fault is = refl
-unseen_fault (Outcome n) body fault is = refl
+unseen_fault (OnGrant n kind) body fault is = refl
 unseen_fault Floor body fault is = refl
 
 -- the client and the number come before the body
@@ -188,20 +171,17 @@ body_told s a m k fault reply refused told = sent (number_of a) refl told
 
 -- a body has no such fault
 no_body_fault : (r : Request) (body : List ℕ) → IsBodyRefusal r body NoRoute → ⊥
+no_body_fault (Show n) body is = is
 no_body_fault Submit body is = is
 no_body_fault Import body is = is
-no_body_fault (Alter n) body is = is
-no_body_fault (Call n) body is = is
-no_body_fault (Page n) body is = is
-no_body_fault (Outcome n) body is = is
-no_body_fault Floor body is = is
-no_body_fault (Suspend n) body is = is
-no_body_fault (Resume n) body is = is
-no_body_fault (Kill n) body is = is
-no_body_fault (Show n) body is = is
-no_body_fault (Ready n) body is = absurd (let no = is in cc)
-no_body_fault (Down n) body is = absurd (let no = is in cc)
+no_body_fault (OnJob n Suspend) body is = is
+no_body_fault (OnJob n Resume) body is = is
+no_body_fault (OnJob n Kill) body is = is
+no_body_fault (OnJob n Alter) body is = is
+no_body_fault (Mark n down) body is = absurd (let no = is in cc)
 no_body_fault (Next n) body is = absurd (let no = is in cc)
+no_body_fault (OnGrant n kind) body is = is
+no_body_fault Floor body is = is
 
 -- an arrival with no route is refused so
 pub unrouted : (s : Settings) (a : Arrival) (m : Queue) (k : Ledger) (reply : Response) → IsRefused a.method a.path.now a.body.now NoRoute → reply ≡ refused_response NoRoute NoKeys → IsVerdict s a m k (Told reply)

@@ -3,11 +3,12 @@ use Rattle.std.specs.Prelude.{◌≡◌, refl, ℕ, ◌+◌, ◌*◌, true, List
 use Rattle.fax_job.specs.declared.import.Import.{Import}
 use Rattle.fax_job.specs.declared.job.Call.TheVariants.{Busy, Connected}
 use Rattle.fax_core.specs.declared.ask.Ask.{Ask}
-use Rattle.fax_core.specs.declared.ask.Ask.TheVariants.{Bring, CallReport, Next, OutcomeReport, PageReport, Submission}
+use Rattle.fax_core.specs.declared.ask.Ask.TheVariants.{Bring, Next, OnGrant, Submission}
+use Rattle.fax_core.specs.declared.report.Report.TheVariants.{Call, Page, Outcome}
 use Rattle.fax_core.specs.declared.report.Ending.TheVariants.{Retry}
 use Rattle.fax_core.specs.Queue.{empty_queue}
 use Rattle.fax_core.proofs.RowWords.{◌at◌, order, report, settings, ttyS0, ttyS1}
-use Rattle.fax_once.specs.Counts.{Counters, Called, Confirmed, brought_with, counters_of, counts, reports_of}
+use Rattle.fax_once.specs.Counts.{Counters, brought_with, counters_of, counts, reports_of}
 use Rattle.fax_once.specs.Run.{Fed, queue_after, under}
 
 -- ---- words
@@ -30,7 +31,7 @@ these totdials ndials tottries ntries npages = record { totdials = totdials; tot
 
 -- a busy call, and the grant is over
 abbrev busy_once : List Ask
-busy_once = OutcomeReport 1 (report true Retry 0 []) ∷ CallReport 1 Busy ∷ Next ttyS0 ∷ Submission (order (codes "5550111") 3) ∷ []
+busy_once = OnGrant 1 (Outcome (report true Retry 0 [])) ∷ OnGrant 1 (Call Busy) ∷ Next ttyS0 ∷ Submission (order (codes "5550111") 3) ∷ []
 
 -- a call is a dial
 busy_row : counted 1 busy_once ≡ these 1 1 0 0 0
@@ -38,18 +39,18 @@ busy_row = refl
 
 -- a connected one is a try, and no dial in a row is left
 abbrev connected : List Ask
-connected = CallReport 2 Connected ∷ Next ttyS0 ∷ busy_once
+connected = OnGrant 2 (Call Connected) ∷ Next ttyS0 ∷ busy_once
 
 connected_row : counted 1 connected ≡ these 2 0 1 1 0
 connected_row = refl
 
 -- a page leaves no try in a row
-page_row : counted 1 (PageReport 2 1 ∷ connected) ≡ these 2 0 1 0 1
+page_row : counted 1 (OnGrant 2 (Page 1) ∷ connected) ≡ these 2 0 1 0 1
 page_row = refl
 
 -- the next try is one, in a row, and two in all
 abbrev twice : List Ask
-twice = CallReport 3 Connected ∷ Next ttyS0 ∷ OutcomeReport 2 (report true Retry 1 []) ∷ PageReport 2 1 ∷ connected
+twice = OnGrant 3 (Call Connected) ∷ Next ttyS0 ∷ OnGrant 2 (Outcome (report true Retry 1 [])) ∷ OnGrant 2 (Page 1) ∷ connected
 
 twice_row : counted 1 twice ≡ these 3 0 2 1 1
 twice_row = refl
@@ -59,11 +60,11 @@ others_row : counted 2 (Submission (order (codes "5550112") 1) ∷ twice) ≡ th
 others_row = refl
 
 -- a report on a grant that was never given counts for nothing
-never_given_row : reports_of empty_queue 1 (fed (CallReport 7 Busy ∷ busy_once)) ≡ Called Busy ∷ []
+never_given_row : reports_of empty_queue 1 (fed (OnGrant 7 (Call Busy) ∷ busy_once)) ≡ Outcome (report true Retry 0 []) ∷ Call Busy ∷ []
 never_given_row = refl
 
 -- of reports the newest comes first
-reports_row : reports_of empty_queue 1 (fed (PageReport 2 1 ∷ connected)) ≡ Confirmed ∷ Called Connected ∷ Called Busy ∷ []
+reports_row : reports_of empty_queue 1 (fed (OnGrant 2 (Page 1) ∷ connected)) ≡ Page 1 ∷ Call Connected ∷ Outcome (report true Retry 0 []) ∷ Call Busy ∷ []
 reports_row = refl
 
 -- ---- an import
@@ -84,18 +85,18 @@ counters_row : map counters_of (queue_after empty_queue (fed brought)).jobs ≡ 
 counters_row = refl
 
 -- a call is one more, in a row too
-brought_busy_row : counted 1 (CallReport 1 Busy ∷ Next ttyS1 ∷ brought) ≡ these 8 3 3 1 4
+brought_busy_row : counted 1 (OnGrant 1 (Call Busy) ∷ Next ttyS1 ∷ brought) ≡ these 8 3 3 1 4
 brought_busy_row = refl
 
 -- behind a connected one what came in counts in all, and of the calls in a row no more
 abbrev brought_connected : List Ask
-brought_connected = CallReport 1 Connected ∷ Next ttyS1 ∷ brought
+brought_connected = OnGrant 1 (Call Connected) ∷ Next ttyS1 ∷ brought
 
 brought_connected_row : counted 1 brought_connected ≡ these 8 0 4 2 4
 brought_connected_row = refl
 
 -- behind a page the tries in a row are none
-brought_page_row : counted 1 (PageReport 1 5 ∷ brought_connected) ≡ these 8 0 4 0 5
+brought_page_row : counted 1 (OnGrant 1 (Page 5) ∷ brought_connected) ≡ these 8 0 4 0 5
 brought_page_row = refl
 
 -- a job may come in behind another
@@ -103,7 +104,7 @@ brought_second_row : counted 2 (Bring older ∷ Submission (order (codes "555011
 brought_second_row = refl
 
 -- what is refused brings nothing in, gives no grant and leaves the queue
-refused_row : counted 1 (CallReport 7 Busy ∷ Next (codes "ttyS9") ∷ brought) ≡ these 7 2 3 1 4
+refused_row : counted 1 (OnGrant 7 (Call Busy) ∷ Next (codes "ttyS9") ∷ brought) ≡ these 7 2 3 1 4
 refused_row = refl
 
 refused_left_row : (queue_after empty_queue (fed (Next (codes "ttyS9") ∷ brought))).next_job ≡ 2

@@ -12,9 +12,10 @@ use Rattle.fax_core.specs.Reply.{Given, Handed, HeldGrant, Refused, Reply, Taken
 use Rattle.fax_core.specs.Settings.{Settings}
 use Rattle.fax_core.specs.Sound.{IsOpen, Sound}
 use Rattle.fax_core.specs.State.{state, state_number}
-use Rattle.fax_core.specs.declared.ask.Ask.TheVariants.{Next, OutcomeReport, Submission}
+use Rattle.fax_core.specs.declared.ask.Ask.TheVariants.{Next, OnGrant, Submission}
 use Rattle.fax_core.specs.declared.grants.Grant.{Grant}
 use Rattle.fax_core.specs.declared.report.Outcome.{Outcome}
+use Rattle.fax_core.specs.declared.report.Report.TheVariants as report
 use Rattle.fax_core.specs.declared.state.State.TheVariants.{Ready}
 use Rattle.fax_core.proofs.RowWords.{◌at◌, after, default_rule, order, settings, ttyS0}
 use Rattle.fax_once.specs.Progress.{BusyModemsFindTheirs, FreeModemsAreServed, OpenGrantsCanEnd, WaitingJobsGetReady}
@@ -49,7 +50,7 @@ busy_row law g holds = law settings granted 2000 ttyS0 g (record { known = refl;
 
 -- that grant can end
 open_row : OpenGrantsCanEnd → Sound granted → (g : Grant) → IsOpen granted 1 g
-    → (o : Outcome) × (n : Queue) × (reply : Reply) × (step settings granted 2000 (OutcomeReport 1 o) ≡ Taken n reply)
+    → (o : Outcome) × (n : Queue) × (reply : Reply) × (step settings granted 2000 (OnGrant 1 (report.Outcome o)) ≡ Taken n reply)
     × ((h : Grant) → grant_numbered 1 n ≡ Some h → h.is_open ≡ false)
 open_row law sound g opened = law settings granted 2000 1 g sound opened
 

@@ -10,7 +10,7 @@ use Rattle.fax_ask.specs.Response.{Response, accepted_response, refused_response
 use Rattle.fax_ask.specs.declared.view.View.TheVariants.{Job}
 use Rattle.fax_core.specs.Ageing.{aged}
 use Rattle.fax_core.specs.declared.ask.Ask.{Ask}
-use Rattle.fax_core.specs.declared.ask.Ask.TheVariants.{GiveUp, Next, Ready, Submission}
+use Rattle.fax_core.specs.declared.ask.Ask.TheVariants.{GiveUp, Mark, Next, Submission}
 use Rattle.fax_core.specs.Job.{fields_of}
 use Rattle.fax_core.specs.Ledger.{empty_ledger}
 use Rattle.fax_core.specs.Queue.{Entry, empty_queue}
@@ -135,7 +135,7 @@ refused_untaken_row = refl
 refused_clock_row : (end_of settings start (unknown_modem ∷ submitted ∷ [])).queue.clock ≡ 1000
 refused_clock_row = refl
 
-refused_then_taken_row : answered (unknown_modem ∷ []) (post lab 1 (codes "ready") 1000 (Ready ttyS1)) ≡ accepted (Marked false)
+refused_then_taken_row : answered (unknown_modem ∷ []) (post lab 1 (codes "ready") 1000 (Mark ttyS1 false)) ≡ accepted (Marked false)
 refused_then_taken_row = refl
 
 -- the desk's fax goes to a modem
@@ -229,7 +229,7 @@ last_view_row : answered (timed ∷ []) (looks 1500) ∷ [] ≡ shown_with (time
 last_view_row = refl
 
 -- or at the clock, where that is later
-early_view_row : answered (post lab 1 (codes "ready") 1450 (Ready ttyS1) ∷ timed ∷ []) (looks 1000) ∷ [] ≡ shown_with (timed ∷ []) 1450 5
+early_view_row : answered (post lab 1 (codes "ready") 1450 (Mark ttyS1 false) ∷ timed ∷ []) (looks 1000) ∷ [] ≡ shown_with (timed ∷ []) 1450 5
 early_view_row = refl
 
 -- a view is told, and no job is

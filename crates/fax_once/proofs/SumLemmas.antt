@@ -4,7 +4,8 @@ use Rattle.std.proofs.lemmas.Bool.{cases_Bool, eq-eqb, ne_eqb, or_cases}
 use Rattle.fax_core.specs.Ask.{IsLawfulAsk}
 use Rattle.fax_core.specs.Clock.{decided_at}
 use Rattle.fax_core.specs.declared.ask.Ask.{Ask}
-use Rattle.fax_core.specs.declared.ask.Ask.TheVariants.{Submission, Bring, Suspend, Resume, Kill, Alteration, Ready, Down, Next, CallReport, PageReport, OutcomeReport, GiveUp}
+use Rattle.fax_core.specs.declared.ask.Ask.TheVariants.{Submission, Bring, OnJob, Mark, Next, OnGrant, GiveUp}
+use Rattle.fax_core.specs.declared.report.Report.{Report}
 use Rattle.fax_core.specs.Job.{Job}
 use Rattle.fax_core.specs.Queue.{Queue, empty_queue, grant_numbered}
 use Rattle.fax_core.specs.Reply.{Reply, Step, Taken, Refused}
@@ -14,7 +15,7 @@ use Rattle.fax_core.proofs.StepLemmas.{empty_sound, step_sound}
 use Rattle.fax_once.proofs.BroughtLemmas.{is_import, none_came, step_brings, step_numbers}
 use Rattle.fax_once.proofs.CountLemmas.{counted_all, counts_all, counts_none}
 use Rattle.fax_once.proofs.MoveLemmas.{Became, Is_new, Moved, Was, below, fresh, has_job, step_moves}
-use Rattle.fax_once.specs.Counts.{Called, Confirmed, Counters, Report, brought_with, came_in, counters_of, counts, gives, hands, no_counters, reported, reports_of, takes_in, was_given}
+use Rattle.fax_once.specs.Counts.{Counters, brought_with, came_in, counters_of, counts, gives, hands, no_counters, reported, reports_of, takes_in, was_given}
 use Rattle.fax_once.specs.Laws.{AreTaken, CountersAreCounts}
 use Rattle.fax_once.specs.Run.{Fed, queue_after, step_of, takes}
 
@@ -22,33 +23,21 @@ use Rattle.fax_once.specs.Run.{Fed, queue_after, step_of, takes}
 
 -- what is reported is the same for grants that are told apart the same
 reported_same : (f g : ℕ → Bool) → ((a : ℕ) → f a ≡ g a) → (ask : Ask) → reported f ask ≡ reported g ask
-reported_same f g same (CallReport a c) = ap (λ b. if b then Called c ∷ [] else []) (same a)
-reported_same f g same (PageReport a p) = ap (λ b. if b then Confirmed ∷ [] else []) (same a)
-reported_same f g same (OutcomeReport a o) = refl
+reported_same f g same (OnGrant a report) = ap (λ b. if b then report ∷ [] else []) (same a)
 reported_same f g same (Submission o) = refl
 reported_same f g same (Bring i) = refl
-reported_same f g same (Suspend a) = refl
-reported_same f g same (Resume a) = refl
-reported_same f g same (Kill a) = refl
-reported_same f g same (Alteration a c) = refl
-reported_same f g same (Ready modem) = refl
-reported_same f g same (Down modem) = refl
+reported_same f g same (OnJob a ask) = refl
+reported_same f g same (Mark modem down) = refl
 reported_same f g same (Next modem) = refl
 reported_same f g same (GiveUp upto) = refl
 
 -- where no grant is its, nothing is reported
 reported_none : (ask : Ask) → reported (λ a. false) ask ≡ []
-reported_none (CallReport a c) = refl
-reported_none (PageReport a p) = refl
-reported_none (OutcomeReport a o) = refl
+reported_none (OnGrant a report) = refl
 reported_none (Submission o) = refl
 reported_none (Bring i) = refl
-reported_none (Suspend a) = refl
-reported_none (Resume a) = refl
-reported_none (Kill a) = refl
-reported_none (Alteration a c) = refl
-reported_none (Ready modem) = refl
-reported_none (Down modem) = refl
+reported_none (OnJob a ask) = refl
+reported_none (Mark modem down) = refl
 reported_none (Next modem) = refl
 reported_none (GiveUp upto) = refl
 

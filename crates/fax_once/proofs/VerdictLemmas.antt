@@ -199,14 +199,8 @@ accepted_leaves (Err e) s a m k sender t ask effect given reply old new gives_so
 pub lawful_ask : (ask : Ask) → IsLawfulStep ask → IsLawfulAsk ask
 lawful_ask (machine.Submission order) is = is
 lawful_ask (machine.Bring i) is = is
-lawful_ask (machine.Suspend job) is = _
-lawful_ask (machine.Resume job) is = _
-lawful_ask (machine.Kill job) is = _
-lawful_ask (machine.Alteration job changes) is = _
-lawful_ask (machine.Ready modem) is = _
-lawful_ask (machine.Down modem) is = _
+lawful_ask (machine.OnJob job ask) is = _
+lawful_ask (machine.Mark modem down) is = _
 lawful_ask (machine.Next modem) is = _
-lawful_ask (machine.CallReport grant call) is = _
-lawful_ask (machine.PageReport grant page) is = _
-lawful_ask (machine.OutcomeReport grant outcome) is = _
+lawful_ask (machine.OnGrant grant report) is = _
 lawful_ask (machine.GiveUp upto) is = _

@@ -1,10 +1,11 @@
 -- The counters of a job are what it came in with, and sums over the reports on its grants that were taken. Of requests and of reports the newest comes first.
 use Rattle.std.specs.Prelude.{ℕ, ◌+◌, ◌==◌, Bool, true, false, ◌&&◌, ◌||◌, List, [], ◌∷◌, ◌++◌, length, filter, if◌then◌else◌}
 use Rattle.std.specs.List.{list_any}
-use Rattle.fax_job.specs.declared.job.Call.{Call}
 use Rattle.fax_job.specs.declared.job.Call.TheVariants.{Connected}
 use Rattle.fax_core.specs.declared.ask.Ask.{Ask}
-use Rattle.fax_core.specs.declared.ask.Ask.TheVariants.{Bring, CallReport, PageReport}
+use Rattle.fax_core.specs.declared.ask.Ask.TheVariants.{Bring, OnGrant}
+use Rattle.fax_core.specs.declared.report.Report.{Report}
+use Rattle.fax_core.specs.declared.report.Report.TheVariants as report
 use Rattle.fax_core.specs.Job.{Job}
 use Rattle.fax_core.specs.Queue.{Queue}
 use Rattle.fax_core.specs.Reply.{Reply, Brought, Given, Step, Taken, Refused}
@@ -24,15 +25,9 @@ abbrev pub was_given : Queue → List Fed → ℕ → ℕ → Bool
 was_given m [] grant job = false
 was_given m (f ∷ earlier) grant job = gives (step_of (queue_after m earlier) f) grant job || was_given m earlier grant job
 
--- a call, or a page that is confirmed
-pub data Report : Type 0 where
-  Called : (call : Call) → Report
-  Confirmed : Report
-
 -- what is reported of these grants
 abbrev pub reported : (ℕ → Bool) → Ask → List Report
-reported is_its (CallReport grant call) = if is_its grant then Called call ∷ [] else []
-reported is_its (PageReport grant page) = if is_its grant then Confirmed ∷ [] else []
+reported is_its (OnGrant grant r) = if is_its grant then r ∷ [] else []
 reported is_its other = []
 
 -- the reports of a job: each is on a grant that was given with it before
@@ -41,20 +36,16 @@ reports_of m job [] = []
 reports_of m job (f ∷ earlier) = reported (λ grant. was_given m earlier grant job) f.post.request.ask ++ reports_of m job earlier
 
 abbrev pub is_call : Report → Bool
-is_call (Called call) = true
-is_call Confirmed = false
-
-abbrev pub is_connection : Call → Bool
-is_connection Connected = true
-is_connection _ = false
+is_call (report.Call call) = true
+is_call other = false
 
 abbrev pub is_connected : Report → Bool
-is_connected (Called call) = is_connection call
-is_connected Confirmed = false
+is_connected (report.Call Connected) = true
+is_connected other = false
 
 abbrev pub is_page : Report → Bool
-is_page (Called call) = false
-is_page Confirmed = true
+is_page (report.Page page) = true
+is_page other = false
 
 -- those since the last of a kind, or all
 abbrev pub since : (Report → Bool) → List Report → List Report

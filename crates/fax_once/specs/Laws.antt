@@ -9,7 +9,8 @@ use Rattle.fax_core.specs.Laws.{HoldsOnce}
 use Rattle.fax_core.specs.Ledger.{Ledger, with_reply}
 use Rattle.fax_core.specs.Queue.{Queue, Entry, empty_queue, grant_numbered}
 use Rattle.fax_core.specs.Reply.{Given, Handed, NoKeys, Reply, Taken}
-use Rattle.fax_core.specs.declared.ask.Ask.TheVariants.{Next, PageReport}
+use Rattle.fax_core.specs.declared.ask.Ask.TheVariants.{Next, OnGrant}
+use Rattle.fax_core.specs.declared.report.Report.TheVariants.{Page}
 use Rattle.fax_core.specs.declared.ask.Ask.{Ask}
 use Rattle.fax_core.specs.declared.grants.Grant.{Grant}
 use Rattle.fax_core.specs.Settings.{Settings}
@@ -188,14 +189,14 @@ RunsKeepGrants = (m : Queue) (later earlier : List Fed) → Sound m → AreTaken
 
 -- the request reports this page of this grant
 abbrev pub IsConfirmed : Queue → Fed → ℕ → ℕ → Grant → Type 0
-IsConfirmed m f grant page g = (f.post.request.ask ≡ PageReport grant page) × (grant_numbered grant m ≡ Some g)
+IsConfirmed m f grant page g = (f.post.request.ask ≡ OnGrant grant (Page page)) × (grant_numbered grant m ≡ Some g)
 
 -- where the request is given the job, its pages lie behind that page; where it reports a page of the job, that lies behind it too
 pub record GoesBehind (m : Queue) (f : Fed) (job page : ℕ) : Type 0 where
   pub given : (modem : List ℕ) (n : Queue) (handed : Handed)
       → f.post.request.ask ≡ Next modem → step_of m f ≡ Taken n (Given handed) → handed.job ≡ job → page < handed.from
   pub confirmed : (grant more : ℕ) (n : Queue) (told : Reply) (g : Grant)
-      → f.post.request.ask ≡ PageReport grant more → step_of m f ≡ Taken n told → grant_numbered grant m ≡ Some g → g.job ≡ job → page < more
+      → f.post.request.ask ≡ OnGrant grant (Page more) → step_of m f ≡ Taken n told → grant_numbered grant m ≡ Some g → g.job ≡ job → page < more
 
 -- behind each page report that was taken, each request that was taken goes behind its page: no page is confirmed twice, and none that was is granted again
 abbrev pub NoPageTwice : Queue → List Fed → Type 0

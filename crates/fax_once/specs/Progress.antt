@@ -11,9 +11,10 @@ use Rattle.fax_core.specs.Reply.{Given, Handed, HeldGrant, Refused, Reply, Taken
 use Rattle.fax_core.specs.Settings.{Settings}
 use Rattle.fax_core.specs.Sound.{IsOpen, Sound}
 use Rattle.fax_core.specs.State.{calls_to, state, state_number}
-use Rattle.fax_core.specs.declared.ask.Ask.TheVariants.{Next, OutcomeReport}
+use Rattle.fax_core.specs.declared.ask.Ask.TheVariants.{Next, OnGrant}
 use Rattle.fax_core.specs.declared.grants.Grant.{Grant}
 use Rattle.fax_core.specs.declared.report.Outcome.{Outcome}
+use Rattle.fax_core.specs.declared.report.Report.TheVariants as report
 use Rattle.fax_core.specs.declared.state.State.TheVariants.{Ready}
 
 -- the modem is one of the setup, and isn't down
@@ -35,7 +36,7 @@ BusyModemsFindTheirs = (s : Settings) (m : Queue) (t : ℕ) (modem : List ℕ) (
 -- each open grant has an outcome that is taken, and closes it
 abbrev pub OpenGrantsCanEnd : Type 0
 OpenGrantsCanEnd = (s : Settings) (m : Queue) (t number : ℕ) (g : Grant) → Sound m → IsOpen m number g
-    → (o : Outcome) × (n : Queue) × (reply : Reply) × (step s m t (OutcomeReport number o) ≡ Taken n reply)
+    → (o : Outcome) × (n : Queue) × (reply : Reply) × (step s m t (OnGrant number (report.Outcome o)) ≡ Taken n reply)
     × ((h : Grant) → grant_numbered number n ≡ Some h → h.is_open ≡ false)
 
 -- A job that waits is ready from the later of its time to send and its next time on, in the hours of its number's rule, before its kill time and while fewer calls to its number are open than the rule allows.
