@@ -91,7 +91,8 @@ reported_is s m t a x g j (Ok b) n r is of made e = record { grant = g; is = is;
 reported_is s m t a x g j (Err f) n r is of made e = cc
 
 -- the same of a grant whose job is there or not
-on_both_is : (s : Settings) (m : Queue) (t a : ℕ) (x : Report) (g : Grant) (o : Option Job) (n : Queue) (r : Reply) → grant_numbered a m ≡ Some g → job_numbered g.job m ≡ o → on_both s m t x g o ≡ Taken n r → Reported s m n t a x
+on_both_is : (s : Settings) (m : Queue) (t a : ℕ) (x : Report) (g : Grant) (o : Option Job) (n : Queue) (r : Reply)
+    → grant_numbered a m ≡ Some g → job_numbered g.job m ≡ o → on_both s m t x g o ≡ Taken n r → Reported s m n t a x
 on_both_is s m t a x g None n r is of e = cc
 on_both_is s m t a x g (Some j) n r is of e = reported_is s m t a x g j (grant_reported x s.delay t j g) n r is of refl e
 

@@ -282,7 +282,8 @@ ask_by m t n (ask.Alter c) j x there d =
     alter_by (WhenAsked m t n (ask.Alter c)) j.phase c j t x d (λ is. (j, there, is)) (λ over. (j, there, over)) (λ is. (j, there, is)) (λ is limit. (j, there, (is, limit)))
 
 -- what a worker reports on a grant that is there
-report_by : (s : Settings) (m : Queue) (t n : ℕ) (r : Report) (j : Job) (g : Grant) (x : Refusal) → grant_numbered n m ≡ Some g → job_numbered g.job m ≡ Some j → grant_reported r s.delay t j g ≡ Err x → WhenReported m n r x
+report_by : (s : Settings) (m : Queue) (t n : ℕ) (r : Report) (j : Job) (g : Grant) (x : Refusal)
+    → grant_numbered n m ≡ Some g → job_numbered g.job m ≡ Some j → grant_reported r s.delay t j g ≡ Err x → WhenReported m n r x
 report_by s m t n (report.Call c) j g x there its d = call_by (WhenReported m n (report.Call c)) c j g x d (λ shut. (g, there, shut)) (λ known. (g, there, (j, its, known)))
 report_by s m t n (report.Page p) j g x there its d =
     page_by (WhenReported m n (report.Page p)) p j g x d (λ shut. (g, there, shut)) (λ other. (g, there, (j, its, other))) (λ order. (g, there, (j, its, order)))

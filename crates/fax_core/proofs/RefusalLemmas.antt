@@ -42,6 +42,10 @@ pub record IsOf (ask : Ask) (e : Refusal) (k : Keys) : Type 0 where
   pub met : may_meet ask e ≡ true
   pub keys : goes_with k (refusal_number e) ≡ true
 
+-- what may be met, and what goes with it, is the request's
+is_of : {ask : Ask} {e : Refusal} {k : Keys} → may_meet ask e ≡ true → goes_with k (refusal_number e) ≡ true → IsOf ask e k
+is_of met keys = record { met = met; keys = keys }
+
 abbrev pub Decided : Type 0 → Type 0
 Decided A = Result A Refusal
 
@@ -85,7 +89,8 @@ module _ (P : Refusal → Keys → Type 0) where
   changed_refused s m t (Err x) e k f h = refused_is P x e NoKeys k h (f x refl)
 
   -- so has a refused request on a job, where the job is there
-  on_job_refused : (s : Settings) (m : Queue) (t : ℕ) (a : JobAsk) (o : Option Job) (e : Refusal) (k : Keys) → P NoJob NoKeys → ((j : Job) (x : Refusal) → job_asked a t j ≡ Err x → P x NoKeys) → on_job s m t a o ≡ Refused e k → P e k
+  on_job_refused : (s : Settings) (m : Queue) (t : ℕ) (a : JobAsk) (o : Option Job) (e : Refusal) (k : Keys)
+      → P NoJob NoKeys → ((j : Job) (x : Refusal) → job_asked a t j ≡ Err x → P x NoKeys) → on_job s m t a o ≡ Refused e k → P e k
   on_job_refused s m t a None e k p f h = refused_is P NoJob e NoKeys k h p
   on_job_refused s m t a (Some j) e k p f h = changed_refused s m t (job_asked a t j) e k (f j) h
 
@@ -100,7 +105,8 @@ module _ (P : Refusal → Keys → Type 0) where
   no_job m a g h is none p false o = p
 
   -- a report on a grant whose job is there or not is refused by the decision, or as closed
-  on_both_refused : (s : Settings) (m : Queue) (t a : ℕ) (r : Report) (g : Grant) (o : Option Job) (e : Refusal) (k : Keys) → Sound m → grant_numbered a m ≡ Some g → job_numbered g.job m ≡ o → P GrantClosed NoKeys
+  on_both_refused : (s : Settings) (m : Queue) (t a : ℕ) (r : Report) (g : Grant) (o : Option Job) (e : Refusal) (k : Keys)
+      → Sound m → grant_numbered a m ≡ Some g → job_numbered g.job m ≡ o → P GrantClosed NoKeys
       → ((j : Job) (x : Refusal) → grant_reported r s.delay t j g ≡ Err x → P x (keys_of_job x j)) → on_both s m t r g o ≡ Refused e k → P e k
   on_both_refused s m t a r g None e k sound is none p f h = refused_is P (without_job g.is_open) e NoKeys k h (no_job m a g sound is none p g.is_open refl)
   on_both_refused s m t a r g (Some j) e k sound is there p f h = reported_refused m (report_reply s t r) j (grant_reported r s.delay t j g) e k (f j) h
@@ -206,49 +212,50 @@ one_refused m modem (Err x) e k f h = refused_is (IsOf (Next modem)) x e NoKeys 
 -- so is the best job's
 best_refused : (s : Settings) (m : Queue) (modem : List ℕ) (o : Option Job) (e : Refusal) (k : Keys) → given_best s m modem o ≡ Refused e k → IsOf (Next modem) e k
 best_refused s m modem None e k h = cc
-best_refused s m modem (Some j) e k h = one_refused m modem (grant j modem m.next_grant s.max_grants) e k (λ x q. refused_or (λ y. IsOf (Next modem) y NoKeys) (nat_lt s.max_grants m.next_grant) Full x (Ok (granted j modem m.next_grant)) q (record { met = refl; keys = refl }) (λ z. cc z)) h
+best_refused s m modem (Some j) e k h = one_refused m modem (grant j modem m.next_grant s.max_grants) e k (λ x q. refused_or (λ y. IsOf (Next modem) y NoKeys) (nat_lt s.max_grants m.next_grant) Full x (Ok (granted j modem m.next_grant)) q (is_of refl refl) (λ z. cc z)) h
 
 -- so is a modem that holds a grant or none
 free_refused : (s : Settings) (m : Queue) (t : ℕ) (modem : List ℕ) (o : Option Grant) (e : Refusal) (k : Keys) → given_free s m t modem o ≡ Refused e k → IsOf (Next modem) e k
-free_refused s m t modem (Some g) e k h = refused_is (IsOf (Next modem)) ModemBusy e _ k h (record { met = refl; keys = refl })
+free_refused s m t modem (Some g) e k h = refused_is (IsOf (Next modem)) ModemBusy e _ k h (is_of refl refl)
 free_refused s m t modem None e k h = best_refused s m modem (best s m t modem) e k h
 
 -- so is each request for work
 next_refused : (s : Settings) (m : Queue) (t : ℕ) (modem : List ℕ) (e : Refusal) (k : Keys) → given_to s m t modem ≡ Refused e k → IsOf (Next modem) e k
 next_refused s m t modem e k h =
-    step_or (IsOf (Next modem)) (not (s.has_modem modem)) NoModem e NoKeys k _ h (record { met = refl; keys = refl }) (λ h.
-    step_or (IsOf (Next modem)) (is_down modem m) ModemDown e NoKeys k (given_free s m t modem (held_by modem m)) h (record { met = refl; keys = refl }) (λ h.
+    step_or (IsOf (Next modem)) (not (s.has_modem modem)) NoModem e NoKeys k _ h (is_of refl refl) (λ h.
+    step_or (IsOf (Next modem)) (is_down modem m) ModemDown e NoKeys k (given_free s m t modem (held_by modem m)) h (is_of refl refl) (λ h.
     free_refused s m t modem (held_by modem m) e k h))
 
 -- ---- each request
 
 -- what a client asks of a job that is there has one of its refusals
 ask_refused : (n t : ℕ) (a : JobAsk) (j : Job) (x : Refusal) → job_asked a t j ≡ Err x → IsOf (OnJob n a) x NoKeys
-ask_refused n t ask.Suspend j = suspend_refused (λ y. IsOf (OnJob n ask.Suspend) y NoKeys) (record { met = refl; keys = refl }) (record { met = refl; keys = refl }) j.phase j.wish j
-ask_refused n t ask.Resume j = resume_refused (λ y. IsOf (OnJob n ask.Resume) y NoKeys) (record { met = refl; keys = refl }) (record { met = refl; keys = refl }) (record { met = refl; keys = refl }) j.phase j.wish j
-ask_refused n t ask.Kill j = kill_refused (λ y. IsOf (OnJob n ask.Kill) y NoKeys) (record { met = refl; keys = refl }) j.phase j
-ask_refused n t (ask.Alter c) j = alter_refused (λ y. IsOf (OnJob n (ask.Alter c)) y NoKeys) (record { met = refl; keys = refl }) (record { met = refl; keys = refl }) (record { met = refl; keys = refl }) (record { met = refl; keys = refl }) j.phase c j t
+ask_refused n t ask.Suspend j = suspend_refused (λ y. IsOf (OnJob n ask.Suspend) y NoKeys) (is_of refl refl) (is_of refl refl) j.phase j.wish j
+ask_refused n t ask.Resume j = resume_refused (λ y. IsOf (OnJob n ask.Resume) y NoKeys) (is_of refl refl) (is_of refl refl) (is_of refl refl) j.phase j.wish j
+ask_refused n t ask.Kill j = kill_refused (λ y. IsOf (OnJob n ask.Kill) y NoKeys) (is_of refl refl) j.phase j
+ask_refused n t (ask.Alter c) j = alter_refused (λ y. IsOf (OnJob n (ask.Alter c)) y NoKeys) (is_of refl refl) (is_of refl refl) (is_of refl refl) (is_of refl refl) j.phase c j t
 
 -- so has what a worker reports on a grant that is there
 report_refused : (n : ℕ) (s : Settings) (t : ℕ) (r : Report) (j : Job) (g : Grant) (x : Refusal) → grant_reported r s.delay t j g ≡ Err x → IsOf (OnGrant n r) x (keys_of_job x j)
-report_refused n s t (report.Call c) j g = call_refused (λ y. IsOf (OnGrant n (report.Call c)) y (keys_of_job y j)) (record { met = refl; keys = refl }) (record { met = refl; keys = refl }) c j g
-report_refused n s t (report.Page p) j g = page_refused (λ y. IsOf (OnGrant n (report.Page p)) y (keys_of_job y j)) (record { met = refl; keys = refl }) (record { met = refl; keys = refl }) (record { met = refl; keys = refl }) p j g
-report_refused n s t (report.Outcome o) j g = outcome_refused (λ y. IsOf (OnGrant n (report.Outcome o)) y (keys_of_job y j)) (record { met = refl; keys = refl }) (record { met = refl; keys = refl }) (record { met = refl; keys = refl }) (record { met = refl; keys = refl }) (record { met = refl; keys = refl }) o j g (s.delay g.call) t
+report_refused n s t (report.Call c) j g = call_refused (λ y. IsOf (OnGrant n (report.Call c)) y (keys_of_job y j)) (is_of refl refl) (is_of refl refl) c j g
+report_refused n s t (report.Page p) j g = page_refused (λ y. IsOf (OnGrant n (report.Page p)) y (keys_of_job y j)) (is_of refl refl) (is_of refl refl) (is_of refl refl) p j g
+report_refused n s t (report.Outcome o) j g =
+    outcome_refused (λ y. IsOf (OnGrant n (report.Outcome o)) y (keys_of_job y j)) (is_of refl refl) (is_of refl refl) (is_of refl refl) (is_of refl refl) (is_of refl refl) o j g (s.delay g.call) t
 
 -- each refused request has one of its refusals, with its keys
 act_refused : (s : Settings) (m : Queue) (t : ℕ) (ask : Ask) (e : Refusal) (k : Keys) → Sound m → act s m t ask ≡ Refused e k → IsOf ask e k
 act_refused s m t (Submission o) e k h x =
     let P = λ (y : Refusal). IsOf (Submission o) y (keys_of_rule y (s.rule o.dial)) in
     submitted_refused (IsOf (Submission o)) m (s.rule o.dial) (submit o (s.rule o.dial) m.next_job s.max_jobs t) e k
-    (submit_refused P (record { met = refl; keys = refl }) (record { met = refl; keys = refl }) (record { met = refl; keys = refl }) o (s.rule o.dial) m.next_job s.max_jobs t) x
+    (submit_refused P (is_of refl refl) (is_of refl refl) (is_of refl refl) o (s.rule o.dial) m.next_job s.max_jobs t) x
 act_refused s m t (Bring i) e k h x =
     let P = λ (y : Refusal). IsOf (Bring i) y (keys_of_rule y (s.rule i.order.dial)) in
     import_refused (IsOf (Bring i)) s m t (s.rule i.order.dial) (bring i (s.rule i.order.dial) m.next_job s.max_jobs t) e k
-    (bring_refused P (record { met = refl; keys = refl }) (record { met = refl; keys = refl }) (record { met = refl; keys = refl }) i (s.rule i.order.dial) m.next_job s.max_jobs t) x
-act_refused s m t (OnJob n a) e k h x = on_job_refused (IsOf (OnJob n a)) s m t a (job_numbered n m) e k (record { met = refl; keys = refl }) (λ j. ask_refused n t a j) x
-act_refused s m t (Mark modem down) e k h x = mark_refused (IsOf (Mark modem down)) m modem down (s.has_modem modem) e k (record { met = refl; keys = refl }) x
+    (bring_refused P (is_of refl refl) (is_of refl refl) (is_of refl refl) i (s.rule i.order.dial) m.next_job s.max_jobs t) x
+act_refused s m t (OnJob n a) e k h x = on_job_refused (IsOf (OnJob n a)) s m t a (job_numbered n m) e k (is_of refl refl) (λ j. ask_refused n t a j) x
+act_refused s m t (Mark modem down) e k h x = mark_refused (IsOf (Mark modem down)) m modem down (s.has_modem modem) e k (is_of refl refl) x
 act_refused s m t (Next modem) e k h x = next_refused s m t modem e k x
-act_refused s m t (OnGrant n r) e k h x = on_grant_refused (IsOf (OnGrant n r)) s m t n r (grant_numbered n m) e k h refl (record { met = refl; keys = refl }) (record { met = refl; keys = refl }) (λ j g. report_refused n s t r j g) x
+act_refused s m t (OnGrant n r) e k h x = on_grant_refused (IsOf (OnGrant n r)) s m t n r (grant_numbered n m) e k h refl (is_of refl refl) (is_of refl refl) (λ j g. report_refused n s t r j g) x
 act_refused s m t (GiveUp floor) e k h x = cc
 
 -- so has each refused step

@@ -46,12 +46,15 @@ alter_and_suspend_row : told (Submission (order long_number 3) at 1000 ∷ later
 alter_and_suspend_row = refl
 
 -- an alteration to a limit that is reached already changes nothing
-alter_to_the_limit_row : map (λ j. j.maxdials) (after (Submission (order long_number 3) at 1000 ∷ Next ttyS0 at 1000 ∷ OnGrant 1 (Call Busy) at 1000 ∷ OnGrant 1 (Outcome (report true Retry 0 [])) at 1000 ∷ OnJob 1 Suspend at 1000 ∷ OnJob 1 (Alter (record no_change { maxdials = Some 1 })) at 1000 ∷ [])).jobs ≡ 12 ∷ []
+alter_to_the_limit_row : map (λ j. j.maxdials) (after (Submission (order long_number 3) at 1000 ∷ Next ttyS0 at 1000 ∷ OnGrant 1 (Call Busy) at 1000
+    ∷ OnGrant 1 (Outcome (report true Retry 0 [])) at 1000 ∷ OnJob 1 Suspend at 1000 ∷ OnJob 1 (Alter (record no_change { maxdials = Some 1 })) at 1000 ∷ [])).jobs ≡ 12 ∷ []
 alter_to_the_limit_row = refl
 
 -- a job that is suspended while it waits since its number was busy, and gets another time to send
 abbrev busy_altered : List Request
-busy_altered = Submission (order long_number 3) at 1000 ∷ Next ttyS0 at 1000 ∷ OnGrant 1 (Call Busy) at 1000 ∷ OnGrant 1 (Outcome (report true Retry 0 [])) at 1000 ∷ OnJob 1 Suspend at 1001 ∷ OnJob 1 (Alter (record no_change { tts = Some (Some 5000) })) at 1002 ∷ []
+busy_altered =
+    Submission (order long_number 3) at 1000 ∷ Next ttyS0 at 1000 ∷ OnGrant 1 (Call Busy) at 1000 ∷ OnGrant 1 (Outcome (report true Retry 0 [])) at 1000
+    ∷ OnJob 1 Suspend at 1001 ∷ OnJob 1 (Alter (record no_change { tts = Some (Some 5000) })) at 1002 ∷ []
 
 alter_later_tts_row : map (λ j. j.tts) (after busy_altered).jobs ≡ 5000 ∷ []
 alter_later_tts_row = refl

@@ -65,7 +65,8 @@ alteration_sets : (after (Submission whole at 1000 ∷ OnJob 1 Suspend at 1000 �
 alteration_sets = refl
 
 -- one that says nothing leaves all
-alteration_leaves : (after (Submission whole at 1000 ∷ OnJob 1 Suspend at 1000 ∷ OnJob 1 (Alter (record { modem = None; jobtag = None; tts = None; killtime = None; priority = None; maxtries = None; maxdials = None })) at 1000 ∷ [])).jobs ≡
+alteration_leaves : (after (Submission whole at 1000 ∷ OnJob 1 Suspend at 1000
+    ∷ OnJob 1 (Alter (record { modem = None; jobtag = None; tts = None; killtime = None; priority = None; maxtries = None; maxdials = None })) at 1000 ∷ [])).jobs ≡
     record whole_job { phase = Held } ∷ []
 alteration_leaves = refl
 
@@ -88,7 +89,8 @@ granted_again = refl
 -- ---- outcomes
 
 -- with no delay a job may go at once: its own call is over
-own_call_is_over : answers (record settings { delay = λ call. 0 }) empty_queue (first_grant ++ OnGrant 1 (Outcome (report false Retry 0 [])) at 1000 ∷ []) ≡ Replied (Submitted 1) ∷ Replied (Given (hand 1 1 long_number 1 3)) ∷ Replied (Stands 1 5) ∷ []
+own_call_is_over : answers (record settings { delay = λ call. 0 }) empty_queue (first_grant ++ OnGrant 1 (Outcome (report false Retry 0 [])) at 1000
+    ∷ []) ≡ Replied (Submitted 1) ∷ Replied (Given (hand 1 1 long_number 1 3)) ∷ Replied (Stands 1 5) ∷ []
 own_call_is_over = refl
 
 -- the reason of a retry is the status
@@ -100,7 +102,8 @@ done_status : statuses (after retry_goes_on) 1083 ≡ [] ∷ []
 done_status = refl
 
 -- a job that is done has the wish to go, though it was to be killed
-done_wish : map (λ j. j.wish) (after (first_grant ++ OnJob 1 Kill at 1005 ∷ OnGrant 1 (Call Connected) at 1006 ∷ OnGrant 1 (Page 1) at 1007 ∷ OnGrant 1 (Page 2) at 1007 ∷ OnGrant 1 (Page 3) at 1007 ∷ OnGrant 1 (Outcome (report true Retry 3 [])) at 1007 ∷ [])).jobs ≡ Go ∷ []
+done_wish : map (λ j. j.wish) (after (first_grant ++ OnJob 1 Kill at 1005 ∷ OnGrant 1 (Call Connected) at 1006 ∷ OnGrant 1 (Page 1) at 1007
+    ∷ OnGrant 1 (Page 2) at 1007 ∷ OnGrant 1 (Page 3) at 1007 ∷ OnGrant 1 (Outcome (report true Retry 3 [])) at 1007 ∷ [])).jobs ≡ Go ∷ []
 done_wish = refl
 
 -- ---- modems

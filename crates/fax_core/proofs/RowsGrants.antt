@@ -97,11 +97,13 @@ kill_while_granted_row : told (first_grant ++ OnJob 1 Kill at 1005 ∷ OnGrant 1
 kill_while_granted_row = refl
 
 -- its status tells so
-kill_while_granted_status : statuses (after (first_grant ++ OnJob 1 Kill at 1005 ∷ OnGrant 1 (Call Connected) at 1006 ∷ OnGrant 1 (Outcome (report true Retry 0 [])) at 1007 ∷ [])) 1007 ≡ codes "Killed" ∷ []
+kill_while_granted_status : statuses (after (first_grant ++ OnJob 1 Kill at 1005 ∷ OnGrant 1 (Call Connected) at 1006
+    ∷ OnGrant 1 (Outcome (report true Retry 0 [])) at 1007 ∷ [])) 1007 ≡ codes "Killed" ∷ []
 kill_while_granted_status = refl
 
 -- all pages are confirmed all the same
-killed_but_sent_row : told (first_grant ++ OnJob 1 Kill at 1005 ∷ OnGrant 1 (Call Connected) at 1006 ∷ OnGrant 1 (Page 1) at 1007 ∷ OnGrant 1 (Page 2) at 1007 ∷ OnGrant 1 (Page 3) at 1007 ∷ OnGrant 1 (Outcome (report true Retry 3 [])) at 1007 ∷ []) ≡
+killed_but_sent_row : told (first_grant ++ OnJob 1 Kill at 1005 ∷ OnGrant 1 (Call Connected) at 1006 ∷ OnGrant 1 (Page 1) at 1007 ∷ OnGrant 1 (Page 2) at 1007
+    ∷ OnGrant 1 (Page 3) at 1007 ∷ OnGrant 1 (Outcome (report true Retry 3 [])) at 1007 ∷ []) ≡
     Replied (Submitted 1) ∷ Replied (Given (hand 1 1 long_number 1 3))
     ∷ Replied (Stands 1 6) ∷ Replied (Called true) ∷ Replied (Confirmed 1 true) ∷ Replied (Confirmed 2 true) ∷ Replied (Confirmed 3 true)
     ∷ Replied (Stands 1 7) ∷ []

@@ -74,7 +74,8 @@ kill_listed : refused_with (OnJob 9 Kill ∷ OnJob 1 Kill ∷ []) ≡ refusals_o
 kill_listed = refl
 
 -- and an alteration
-alteration_listed : refused_with (OnJob 9 (Alter no_change) ∷ OnJob 1 (Alter no_change) ∷ OnJob 2 (Alter no_change) ∷ OnJob 4 (Alter no_change) ∷ OnJob 5 (Alter (record no_change { maxtries = Some 0 })) ∷ []) ≡ refusals_of (OnJob 1 (Alter no_change))
+alteration_listed : refused_with (OnJob 9 (Alter no_change) ∷ OnJob 1 (Alter no_change) ∷ OnJob 2 (Alter no_change) ∷ OnJob 4 (Alter no_change)
+    ∷ OnJob 5 (Alter (record no_change { maxtries = Some 0 })) ∷ []) ≡ refusals_of (OnJob 1 (Alter no_change))
 alteration_listed = refl
 
 -- and a modem that is ready

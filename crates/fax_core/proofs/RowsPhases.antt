@@ -85,7 +85,8 @@ of_over = refl
 -- ---- when a grant ends
 
 -- suspended while it was granted: it is held, and when it is resumed it sleeps until its next time
-suspended_while_granted : told (first_grant ++ OnJob 1 Suspend at 1005 ∷ OnGrant 1 (Call Connected) at 1006 ∷ OnGrant 1 (Outcome (report true Retry 0 [])) at 1007 ∷ OnJob 1 Resume at 1066 ∷ OnJob 1 Suspend at 1066 ∷ OnJob 1 Resume at 1067 ∷ []) ≡
+suspended_while_granted : told (first_grant ++ OnJob 1 Suspend at 1005 ∷ OnGrant 1 (Call Connected) at 1006 ∷ OnGrant 1 (Outcome (report true Retry 0 [])) at 1007
+    ∷ OnJob 1 Resume at 1066 ∷ OnJob 1 Suspend at 1066 ∷ OnJob 1 Resume at 1067 ∷ []) ≡
     Replied (Submitted 1) ∷ Replied (Given (hand 1 1 long_number 1 3))
     ∷ Replied (Stands 1 6) ∷ Replied (Called true) ∷ Replied (Stands 1 1) ∷ Replied (Stands 1 3) ∷ Replied (Stands 1 1) ∷ Replied (Stands 1 5) ∷ []
 suspended_while_granted = refl

@@ -62,7 +62,8 @@ refused_15 : told (Submission (order long_number 3) at 1000 ∷ OnJob 1 (Alter (
 refused_15 = refl
 
 -- a limit that is reached already
-refused_16 : told (first_grant ++ OnGrant 1 (Call Busy) at 1000 ∷ OnGrant 1 (Outcome (report true Retry 0 [])) at 1000 ∷ OnJob 1 Suspend at 1000 ∷ OnJob 1 (Alter (record no_change { maxdials = Some 1 })) at 1000 ∷ []) ≡
+refused_16 : told (first_grant ++ OnGrant 1 (Call Busy) at 1000 ∷ OnGrant 1 (Outcome (report true Retry 0 [])) at 1000 ∷ OnJob 1 Suspend at 1000
+    ∷ OnJob 1 (Alter (record no_change { maxdials = Some 1 })) at 1000 ∷ []) ≡
     after_grant (Replied (Called false) ∷ Replied (Stands 1 3) ∷ Replied (Stands 1 1) ∷ Denied LimitReached NoKeys ∷ [])
 refused_16 = refl
 
@@ -102,7 +103,8 @@ refused_23 : told (first_grant ++ OnGrant 1 (Outcome (report true Retry 0 [])) a
 refused_23 = refl
 
 -- an outcome of pages that weren't confirmed
-refused_24 : told (first_grant ++ OnGrant 1 (Call Connected) at 1000 ∷ OnGrant 1 (Outcome (report true Retry 2 [])) at 1000 ∷ []) ≡ after_grant (Replied (Called false) ∷ Denied PagesMismatch NoKeys ∷ [])
+refused_24 : told (first_grant ++ OnGrant 1 (Call Connected) at 1000
+    ∷ OnGrant 1 (Outcome (report true Retry 2 [])) at 1000 ∷ []) ≡ after_grant (Replied (Called false) ∷ Denied PagesMismatch NoKeys ∷ [])
 refused_24 = refl
 
 -- a job that is done with pages left
@@ -141,22 +143,26 @@ busy_before_full : answers (record settings { max_grants = 1 }) empty_queue (fir
 busy_before_full = refl
 
 -- without a call: a page out of order isn't connected, and a call that is claimed is missing
-without_a_call : told (first_grant ++ OnGrant 1 (Page 2) at 1000 ∷ OnGrant 1 (Outcome (report true Done 2 [])) at 1000 ∷ OnGrant 1 (Outcome (report false Done 2 [])) at 1000 ∷ OnGrant 1 (Outcome (report false Done 0 [])) at 1000 ∷ []) ≡
+without_a_call : told (first_grant ++ OnGrant 1 (Page 2) at 1000 ∷ OnGrant 1 (Outcome (report true Done 2 [])) at 1000
+    ∷ OnGrant 1 (Outcome (report false Done 2 [])) at 1000 ∷ OnGrant 1 (Outcome (report false Done 0 [])) at 1000 ∷ []) ≡
     after_grant (Denied NotConnected NoKeys ∷ Denied CallMissing NoKeys ∷ Denied PagesMismatch NoKeys ∷ Denied PagesLeft NoKeys ∷ [])
 without_a_call = refl
 
 -- with a call: what is claimed of it is known, then pages and what is left of them
-with_a_call : told (first_grant ++ OnGrant 1 (Call Connected) at 1000 ∷ OnGrant 1 (Outcome (report false Done 2 [])) at 1000 ∷ OnGrant 1 (Outcome (report true Done 2 [])) at 1000 ∷ OnGrant 1 (Outcome (report true Done 0 [])) at 1000 ∷ []) ≡
+with_a_call : told (first_grant ++ OnGrant 1 (Call Connected) at 1000 ∷ OnGrant 1 (Outcome (report false Done 2 [])) at 1000
+    ∷ OnGrant 1 (Outcome (report true Done 2 [])) at 1000 ∷ OnGrant 1 (Outcome (report true Done 0 [])) at 1000 ∷ []) ≡
     after_grant (Replied (Called false) ∷ Denied CallKnown NoKeys ∷ Denied PagesMismatch NoKeys ∷ Denied PagesLeft NoKeys ∷ [])
 with_a_call = refl
 
 -- on a closed grant: each report is refused as closed
-on_a_closed_grant : told (first_grant ++ OnGrant 1 (Outcome (report false Retry 0 [])) at 1000 ∷ OnGrant 1 (Call Busy) at 1000 ∷ OnGrant 1 (Page 9) at 1000 ∷ OnGrant 1 (Outcome (report true Done 9 [])) at 1000 ∷ []) ≡
+on_a_closed_grant : told (first_grant ++ OnGrant 1 (Outcome (report false Retry 0 [])) at 1000 ∷ OnGrant 1 (Call Busy) at 1000 ∷ OnGrant 1 (Page 9) at 1000
+    ∷ OnGrant 1 (Outcome (report true Done 9 [])) at 1000 ∷ []) ≡
     after_grant (Replied (Stands 1 3) ∷ Denied GrantClosed NoKeys ∷ Denied GrantClosed NoKeys ∷ Denied GrantClosed NoKeys ∷ [])
 on_a_closed_grant = refl
 
 -- each page is confirmed once, in its order
-all_pages_confirmed : told (first_grant ++ OnGrant 1 (Call Connected) at 1000 ∷ OnGrant 1 (Page 1) at 1000 ∷ OnGrant 1 (Page 1) at 1000 ∷ OnGrant 1 (Page 2) at 1000 ∷ OnGrant 1 (Page 3) at 1000 ∷ OnGrant 1 (Page 4) at 1000 ∷ []) ≡
+all_pages_confirmed : told (first_grant ++ OnGrant 1 (Call Connected) at 1000 ∷ OnGrant 1 (Page 1) at 1000 ∷ OnGrant 1 (Page 1) at 1000 ∷ OnGrant 1 (Page 2) at 1000
+    ∷ OnGrant 1 (Page 3) at 1000 ∷ OnGrant 1 (Page 4) at 1000 ∷ []) ≡
     after_grant (Replied (Called false) ∷ Replied (Confirmed 1 false) ∷ Denied PageOrder (Pages 1) ∷ Replied (Confirmed 2 false) ∷ Replied (Confirmed 3 false) ∷ Denied PageOrder (Pages 3) ∷ [])
 all_pages_confirmed = refl
 

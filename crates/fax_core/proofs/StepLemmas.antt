@@ -84,7 +84,8 @@ reported_sound m reply a g j (Ok b) n r is of report h e =
 reported_sound m reply a g j (Err x) n r is of report h e = cc
 
 -- the same of a grant whose job is there or not
-on_both_sound : (s : Settings) (m : Queue) (t : ℕ) (a : ℕ) (x : Report) (g : Grant) (o : Option Job) (n : Queue) (r : Reply) → grant_numbered a m ≡ Some g → job_numbered g.job m ≡ o → Sound m → on_both s m t x g o ≡ Taken n r → Sound n
+on_both_sound : (s : Settings) (m : Queue) (t : ℕ) (a : ℕ) (x : Report) (g : Grant) (o : Option Job) (n : Queue) (r : Reply)
+    → grant_numbered a m ≡ Some g → job_numbered g.job m ≡ o → Sound m → on_both s m t x g o ≡ Taken n r → Sound n
 on_both_sound s m t a x g None n r is of h e = cc
 on_both_sound s m t a x g (Some j) n r is of h e = reported_sound m (report_reply s t x) a g j (grant_reported x s.delay t j g) n r is of (reported_in x s.delay t j g) h e
 

@@ -1,8 +1,6 @@
 -- The counters of a job are sums over its reports.
 use Rattle.std.proofs.Common.{◌≡◌, ℕ, suc, ◌+◌, eqb, false, not, ◌&&◌, List, [], ◌∷◌, ◌++◌, Some, Ok, refl, sym, ap, subst, ◌∙◌, arith}
-use Rattle.std.specs.Prelude.{Option, Result, find, is_some, is_none, max, nat_lt}
-use Rattle.std.specs.List.{range_with_len}
-use Rattle.std.specs.Option.{option_map}
+use Rattle.std.specs.Prelude.{Option, Result, is_some, is_none, nat_lt}
 use Rattle.std.proofs.lemmas.Bool.{cond_both}
 use Rattle.std.proofs.lemmas.List.{length-append}
 use Rattle.fax_job.specs.declared.alter.Alter.{Alter}
@@ -22,7 +20,7 @@ use Rattle.fax_core.specs.declared.report.Outcome.{Outcome}
 use Rattle.fax_core.specs.declared.report.Report.{Report}
 use Rattle.fax_core.specs.declared.report.Report.TheVariants as report
 use Rattle.fax_core.specs.Ageing.{aged_job, expires, is_past}
-use Rattle.fax_core.specs.Decisions.{JobAndGrant, after_call, alter_in, altered, call, ended, ended_by, failed, grant_reported, granted, is_kill, is_over, job_asked, kill_in, new_job, outcome, page, page_of, resume_in, retried, submit, suspend_in}
+use Rattle.fax_core.specs.Decisions.{JobAndGrant, after_call, alter_in, altered, call, ended, ended_by, grant_reported, is_kill, is_over, job_asked, kill_in, new_job, outcome, page, page_of, resume_in, retried, submit, suspend_in}
 use Rattle.fax_core.specs.declared.ask.Ask.TheVariants.{Bring}
 use Rattle.fax_core.specs.declared.ask.JobAsk.{JobAsk}
 use Rattle.fax_core.specs.declared.ask.JobAsk.TheVariants as ask
