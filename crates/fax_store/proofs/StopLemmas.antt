@@ -28,7 +28,7 @@ use Rattle.fax_store.proofs.StoreLemmas.{cleaner}
 
 -- ---- reading
 
--- a text that shows rows over the seven tables shows none of a write, whatever the tables are
+-- a text that shows rows over our tables shows none of a write, whatever the tables are
 shows_none : (sql : List ℕ) (c : Compiled) (known : Result Compiled CompileError) → understood our_tables sql ≡ known → IsPlain known → (s : Schema) → understood s sql ≡ Ok c → c.returning ≡ None
 shows_none sql c (Ok e) is plain s at = shows_nothing our_tables s sql e c is plain.0 at
 shows_none sql c (Err f) is plain s at = absurd plain
@@ -86,7 +86,7 @@ begin_nothing old new = control_nothing old new BEGIN.now Begin tt (known BEGIN.
 pub rollback_nothing : (old new : State) → Survives old new (CommitsBy ROLLBACK.now [] old) → CommitsNothing old new
 rollback_nothing old new = control_nothing old new ROLLBACK.now Rollback tt (known ROLLBACK.now Rollback (understood old.now.schema ROLLBACK.now) (rollback_is old.now.schema))
 
--- a begin over the seven tables makes the work active, and commits nothing
+-- a begin over our tables makes the work active, and commits nothing
 pub begun_opens : (old new : State) → Survives old new (CommitsBy BEGIN.now [] old) → (n : ℕ) → (HasCleanDisk new → Executes BEGIN.now [] old new (Ok n)) → Opens old new false
 begun_opens old new survives n ran = (active, begin_nothing old new survives)
   where

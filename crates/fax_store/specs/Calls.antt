@@ -46,7 +46,7 @@ module _ {S : Type 0} (g : Ghosts S) where
   abbrev pub Answers : {A : Type 0} → Store S → Store S → Result A StoreFault → (Queue → Ledger → A → Type 0) → Type 0
   Answers old new result P = (m : Queue) (k : Ledger) → MeansNow (shown old) m k → Serves (shown new) → OrUnavailable result (P m k)
 
-  -- Whatever the rows of the eight tables say, the answer is one of which this holds of them.
+  -- Whatever the rows of our tables say, the answer is one of which this holds of them.
   abbrev pub AnswersRows : {A : Type 0} → Store S → Store S → Result A StoreFault → (Database → A → Type 0) → Type 0
   AnswersRows old new result P = (db : Database) → db.schema ≡ our_tables → (shown old).now ≡ db → HasCleanDisk (shown new) → IfOk result (P db)
 

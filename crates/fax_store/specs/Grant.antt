@@ -71,7 +71,7 @@ IsHeld number dial m = (g : Grant) × (grant_numbered number m ≡ Some g) × (g
 abbrev pub with_count : List ℕ → ℕ → (List ℕ → ℕ) → List ℕ → ℕ
 with_count dial n count other = if bytes_eq other dial then n else count other
 
--- the transaction goes on, the six tables have the rows that they had, and the counts are these
+-- the transaction goes on, the other tables have the rows that they had, and the counts are these
 pub record SetsCalls (old new : State) (count : List ℕ → ℕ) : Type 0 where
   pub goes_on : GoesOn old new
   pub schema_is : new.now.schema ≡ our_tables
@@ -79,7 +79,7 @@ pub record SetsCalls (old new : State) (count : List ℕ → ℕ) : Type 0 where
   pub rows : KeepsRows core_tables.tables old.now.trees new.now.trees
   pub calls : AreCalls count (new.now.trees calls_tree)
 
--- a transaction is under way in an open database over the seven tables, and the counts are these
+-- a transaction is under way in an open database over our tables, and the counts are these
 pub record HasCalls (s : State) (count : List ℕ → ℕ) : Type 0 where
   pub is_open : IsTrue s.is_open
   pub inside : IsTrue s.in_transaction

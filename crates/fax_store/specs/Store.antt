@@ -47,7 +47,7 @@ pub record HasRow (db : Database) (tree : ℕ) (places : List ℕ) (values : Row
   pub has : Has (db.trees tree) row
   pub is : map (column row) places ≡ values
 
--- the rows of the seven tables stay as they are, whatever they say
+-- the rows of our tables stay as they are, whatever they say
 abbrev pub Stays : State → State → Type 0
 Stays old new = (db : Database) → db.schema ≡ our_tables → Rests old db → Rests new db
 
@@ -91,11 +91,11 @@ LeavesCommit old new = IsUnchanged old new ⊎ IsRolledBack old new
 abbrev pub Reads : {A : Type 0} → State → State → Result A StoreFault → Type 0
 Reads old new result = MatchResult result (λ _. IsUnchanged old new) (λ _. LeavesCommit old new)
 
--- the database has the seven tables
+-- the database has our tables
 abbrev pub HasTables : State → Type 0
 HasTables s = s.now.schema ≡ our_tables
 
--- over the seven tables, the text shows rows and writes none
+-- over our tables, the text shows rows and writes none
 abbrev pub IsQueryText : List ℕ → Type 0
 IsQueryText sql = IsPlain (understood our_tables sql)
 
@@ -111,7 +111,7 @@ abbrev pub EditsRows : Result Compiled CompileError → Type 0
 EditsRows (Ok c) = IsEdit c.command × (c.returning ≡ None)
 EditsRows (Err fault) = ⊥
 
--- over the seven tables, the text is one
+-- over our tables, the text is one
 abbrev pub IsEditText : List ℕ → Type 0
 IsEditText sql = EditsRows (understood our_tables sql)
 

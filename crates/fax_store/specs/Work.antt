@@ -32,7 +32,7 @@ Forgets old failed new = (db : Database) → (Serves old → IsOver old failed d
 
 -- ---- a stop
 
--- the work is under way in an open database with the seven tables
+-- the work is under way in an open database with our tables
 pub record IsOn (s : State) : Type 0 where
   pub is_open : IsTrue s.is_open
   pub inside : IsTrue s.in_transaction
@@ -42,7 +42,7 @@ pub record IsOn (s : State) : Type 0 where
 abbrev pub IsActive : State → Bool → Type 0
 IsActive s failed = HasCleanDisk s → failed ≡ false → IsOn s
 
--- a work that begins over the seven tables is active, and nothing is committed
+-- a work that begins over our tables is active, and nothing is committed
 abbrev pub Opens : State → State → Bool → Type 0
 Opens old new failed = ((Serves old → HasTables old) → IsActive new failed) × CommitsNothing old new
 

@@ -1,4 +1,4 @@
-//! A database with the seven tables.
+//! A database with the tables of a queue.
 
 ghost use Rattle.std.specs.Prelude.{◌≡◌, [], IfOk, IfErr};
 ghost use Rattle.std.specs.Borrow.{sem, RestsIfErr};
