@@ -1,14 +1,17 @@
--- What a text is that reads or writes the tables of a store.
-use Rattle.std.proofs.Common.{◌≡◌, ℕ, List, [], false}
+-- What a text is that makes a table, or reads or writes the tables of a store.
+use Rattle.std.proofs.Common.{◌≡◌, ℕ, List, [], Ok, false}
 use Rattle.sqlite.specs.Collation.TheVariants.{Binary}
 use Rattle.sqlite_sql.specs.Term.{Term, op2}
 use Rattle.sqlite_sql.specs.declared.ops.BinaryOp.TheVariants.{Compare}
 use Rattle.sqlite_sql.specs.declared.ops.CompareOp.TheVariants.{Eq}
 use Rattle.sqlite.specs.Query.{Query}
 use Rattle.sqlite.specs.Command.{Command}
-use Rattle.sqlite.specs.Command.TheVariants.{Select}
+use Rattle.sqlite.specs.Command.TheVariants.{CreateTable, Select}
+use Rattle.sqlite.specs.Compile.{table_defined_by}
 use Rattle.sqlite.specs.Listing.{understood, reads_listing}
-use Rattle.sqlite.proofs.Callers.{IsPlain, command_of}
+use Rattle.sqlite.proofs.Callers.{IsPlain, command_of, statement_of}
+use Rattle.sqlite_schema.specs.declared.schema.Schema.{Schema}
+use Rattle.sqlite_schema.specs.declared.schema.Table.{Table}
 use Rattle.sqlite_value.specs.declared.keys.Key.{Key}
 use Rattle.fax_schema.specs.Schema.{our_tables}
 use Rattle.fax_schema.proofs.SelectLemmas.{rows_by, rows_where}
@@ -34,3 +37,10 @@ SelectsBy sql tree tests project order = SelectsAll sql (rows_by tree tests proj
 pub record Commands (sql : List ℕ) (command : Command) : Type 0 where
   pub is : command_of (understood our_tables sql) ≡ command
   pub plain : IsPlain (understood our_tables sql)
+
+-- the text makes this table in any database with this schema
+pub record Makes (schema : Schema) (sql : List ℕ) (table : Table) : Type 0 where
+  pub command : command_of (understood schema sql) ≡ CreateTable
+  pub statement : statement_of sql (understood schema sql) ≡ sql
+  pub defined : table_defined_by sql ≡ Ok (record table { tree = 0 })
+  pub plain : IsPlain (understood schema sql)

@@ -1,5 +1,5 @@
 -- How each layout loses its `calls`, or the indexes of jobs where these are last.
-use Rattle.std.proofs.Common.{◌≡◌, ◌≤◌, inl, inr, ℕ, List, [], ◌∷◌, length, slice_get, Some, true, false, refl, sym, ap, subst, ◌∙◌, arith}
+use Rattle.std.proofs.Common.{◌≡◌, ◌≤◌, inl, inr, ℕ, ◌+◌, List, [], ◌∷◌, length, slice_get, Some, false, refl, sym, ap, subst, ◌∙◌, arith}
 use Rattle.sqlite.specs.Effect.{Database, IsDatabase}
 use Rattle.sqlite_catalog.specs.Change.{without_index, without_table, KeepsRows}
 use Rattle.sqlite_rules.specs.Lists.{Has}
@@ -8,13 +8,13 @@ use Rattle.sqlite_schema.specs.declared.schema.Index.{Index}
 use Rattle.sqlite_schema.specs.declared.schema.Keys.TheVariants.{Enforced}
 use Rattle.sqlite_schema.specs.declared.schema.Schema.{Schema}
 use Rattle.sqlite_schema.specs.declared.schema.Table.{Table}
-use Rattle.sqlite_trees.specs.Tree.{Trees}
 use Rattle.fax_schema.specs.declared.statements.TheConstants.{DROP_CALLS, DROP_CHOICE_INDEX, DROP_KILLTIME_INDEX}
-use Rattle.fax_schema.specs.Schema.{AreIndexedLast, HaveCalls, calls_at, choice_index_at, killtime_index_at, older_choice_index_at, first_list, core_list, has_floors, first_bare, first_with_killtime, first_core, first_indexed, first_older_core, first_tables, first_older, first_bare_calls, first_vacuumed, first_vacuumed_with_killtime, first_older_vacuumed, bare_tables, core_tables, our_tables, bare_with_calls, vacuumed_tables, vacuumed_with_killtime}
+use Rattle.fax_schema.specs.Schema.{AreIndexedLast, HaveCalls, calls_at, calls_place, calls_tree, core_keys, core_past, first_past, choice_index_at, killtime_index_at, older_choice_index_at, first_list, core_list, first_bare, first_with_killtime, first_core, first_indexed, first_older_core, first_tables, first_older, first_bare_calls, first_vacuumed, first_vacuumed_with_killtime, first_older_vacuumed, bare_tables, core_tables, our_tables, bare_with_calls, vacuumed_tables, vacuumed_with_killtime}
 use Rattle.fax_schema.proofs.CreateTexts.{LosesIndex, TakesAway}
 use Rattle.fax_schema.proofs.CreateTexts as text
-use Rattle.fax_tables.specs.Tables.{LacksCalls, LosesIndexes, Renews}
-use Rattle.fax_tables.proofs.CreateLemmas.{kept_but_last, renews_core, renews_first}
+use Rattle.fax_tables.specs.Tables.{LacksCalls, LosesIndexes}
+use Rattle.fax_tables.proofs.CreateLemmas.{renews_core, renews_first}
+use Rattle.fax_schema.proofs.RowsLemmas.{all_front}
 
 -- ---- the indexes of jobs
 
@@ -48,13 +48,13 @@ vacuumed = record {
   middle = vacuumed_with_killtime;
   end = bare_with_calls;
   tables = bare_with_calls.tables;
-  first_at = 8;
-  first = choice_index_at 16;
+  first_at = length core_keys + 2;
+  first = choice_index_at (core_past + 3);
   loses_first = text.drops_choice;
   has_first = refl;
   left_first = text.left_killtime;
-  next_at = 7;
-  next = killtime_index_at 15;
+  next_at = length core_keys + 1;
+  next = killtime_index_at (core_past + 2);
   loses_next = text.drops_killtime;
   has_next = refl;
   left_next = text.left_bare_calls;
@@ -64,7 +64,7 @@ vacuumed = record {
     schema_is = inl is;
     alone = λ six. more_than_six db.schema vacuumed_tables six was (omega arith);
     sound = sound;
-    renews = renews_core db after vacuumed_tables bare_with_calls refl refl was is (kept_but_last core_list (calls_at 13) db.trees after.trees rows);
+    renews = renews_core db after vacuumed_tables bare_with_calls refl refl was is (all_front (λ t. after.trees t.tree ≡ db.trees t.tree) core_list (calls_at core_past ∷ []) rows);
   };
 }
 
@@ -75,12 +75,12 @@ first_vacuumed_loses = record {
   end = first_bare_calls;
   tables = first_bare_calls.tables;
   first_at = 7;
-  first = choice_index_at 14;
+  first = choice_index_at (first_past + 3);
   loses_first = text.drops_first_choice;
   has_first = refl;
   left_first = text.left_first_killtime;
   next_at = 6;
-  next = killtime_index_at 13;
+  next = killtime_index_at (first_past + 2);
   loses_next = text.drops_first_killtime;
   has_next = refl;
   left_next = text.left_first_bare_calls;
@@ -90,7 +90,7 @@ first_vacuumed_loses = record {
     schema_is = inr (inl is);
     alone = λ six. more_than_six db.schema first_vacuumed six was (omega arith);
     sound = sound;
-    renews = renews_first db after first_vacuumed first_bare_calls refl refl was is (kept_but_last first_list (calls_at 11) db.trees after.trees rows);
+    renews = renews_first db after first_vacuumed first_bare_calls refl refl was is (all_front (λ t. after.trees t.tree ≡ db.trees t.tree) first_list (calls_at first_past ∷ []) rows);
   };
 }
 
@@ -101,12 +101,12 @@ older_vacuumed = record {
   end = first_bare_calls;
   tables = first_bare_calls.tables;
   first_at = 7;
-  first = older_choice_index_at 14;
+  first = older_choice_index_at (first_past + 3);
   loses_first = text.drops_first_older_choice;
   has_first = refl;
   left_first = text.left_first_older_killtime;
   next_at = 6;
-  next = killtime_index_at 13;
+  next = killtime_index_at (first_past + 2);
   loses_next = text.drops_first_killtime;
   has_next = refl;
   left_next = text.left_first_bare_calls;
@@ -116,7 +116,7 @@ older_vacuumed = record {
     schema_is = inr (inl is);
     alone = λ six. more_than_six db.schema first_older_vacuumed six was (omega arith);
     sound = sound;
-    renews = renews_first db after first_older_vacuumed first_bare_calls refl refl was is (kept_but_last first_list (calls_at 11) db.trees after.trees rows);
+    renews = renews_first db after first_older_vacuumed first_bare_calls refl refl was is (all_front (λ t. after.trees t.tree ≡ db.trees t.tree) first_list (calls_at first_past ∷ []) rows);
   };
 }
 
@@ -127,12 +127,12 @@ core = record {
   end = first_bare;
   tables = first_list;
   first_at = 6;
-  first = choice_index_at 12;
+  first = choice_index_at (first_past + 1);
   loses_first = text.drops_core_choice;
   has_first = refl;
   left_first = text.left_core_killtime;
   next_at = 5;
-  next = killtime_index_at 11;
+  next = killtime_index_at first_past;
   loses_next = text.drops_core_killtime;
   has_next = refl;
   left_next = text.left_bare_core;
@@ -148,12 +148,12 @@ older_core = record {
   end = first_bare;
   tables = first_list;
   first_at = 6;
-  first = older_choice_index_at 12;
+  first = older_choice_index_at (first_past + 1);
   loses_first = text.drops_older_core_choice;
   has_first = refl;
   left_first = text.left_older_core_killtime;
   next_at = 5;
-  next = killtime_index_at 11;
+  next = killtime_index_at first_past;
   loses_next = text.drops_core_killtime;
   has_next = refl;
   left_next = text.left_bare_core;
@@ -188,8 +188,8 @@ pub record LosesLast (a : Schema) : Type 0 where
 ours : LosesLast our_tables
 ours = record {
   end = core_tables;
-  at = 7;
-  table = calls_at 15;
+  at = calls_place;
+  table = calls_at calls_tree;
   takes = text.drops_calls;
   has = refl;
   unacted = refl;
@@ -202,8 +202,8 @@ ours = record {
 bare_calls : LosesLast bare_with_calls
 bare_calls = record {
   end = bare_tables;
-  at = 7;
-  table = calls_at 13;
+  at = calls_place;
+  table = calls_at core_past;
   takes = text.drops_bare_calls;
   has = refl;
   unacted = refl;
@@ -217,7 +217,7 @@ first : LosesLast first_tables
 first = record {
   end = first_core;
   at = 6;
-  table = calls_at 13;
+  table = calls_at (first_past + 2);
   takes = text.drops_first_calls;
   has = refl;
   unacted = refl;
@@ -231,7 +231,7 @@ first_bare_loses : LosesLast first_bare_calls
 first_bare_loses = record {
   end = first_bare;
   at = 6;
-  table = calls_at 11;
+  table = calls_at first_past;
   takes = text.drops_first_bare_calls;
   has = refl;
   unacted = refl;
@@ -245,7 +245,7 @@ older : LosesLast first_older
 older = record {
   end = first_older_core;
   at = 6;
-  table = calls_at 13;
+  table = calls_at (first_past + 2);
   takes = text.drops_first_older_calls;
   has = refl;
   unacted = refl;

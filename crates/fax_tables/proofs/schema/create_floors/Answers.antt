@@ -7,7 +7,7 @@ use Rattle.sqlite.specs.Command.TheVariants.{CreateTable}
 use Rattle.fax_schema.specs.declared.statements.TheConstants.{CREATE_FLOORS}
 use Rattle.fax_schema.specs.Schema as schema
 use Rattle.fax_schema.specs.Schema.{bare_tables, first_bare}
-use Rattle.fax_schema.proofs.CreateTexts.{created_floors, makes_floors}
+use Rattle.fax_schema.proofs.ClientTexts.{created_floors, makes_floors}
 use Rattle.fax_tables.specs.Tables.{HasFirstTables, HasNewFloors}
 use Rattle.fax_tables.proofs.CreateLemmas.{added, renews_raised}
 use Rattle.fax_tables.proofs.StopLemmas.{step_holds_back}
@@ -21,7 +21,7 @@ step g a b r survives runs =
     statement g a b CREATE_FLOORS.now r HasFirstTables (λ old new. HasNewFloors old.now new.now)
     (λ n ran was.
     let it = added (state g a) (state g b) first_bare bare_tables CREATE_FLOORS.now schema.floors n makes_floors created_floors refl ran was.inside was.schema_is in
-    (it.0, record { schema_is = it.1; sound = it.2; renews = renews_raised (state g a).now (state g b).now was.schema_is it.1 it.3 it.4 }))
+    (it.0, record { schema_is = it.1; sound = it.2; renews = renews_raised (state g a).now (state g b).now was.schema_is it.1 it.3 (it.4, tt) }))
     (step_holds_back (state g a) (state g b) HasFirstTables first_bare CREATE_FLOORS.now CreateTable makes_floors.command (λ e. e) (λ was. (was.inside, was.schema_is)) survives) survives runs
 
 pub returns-in_err-execute : goal.returns-in_err-execute

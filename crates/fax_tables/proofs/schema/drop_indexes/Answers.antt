@@ -1,4 +1,4 @@
-use Rattle.std.proofs.Common.{rules, ◌≡◌, ℕ, [], Ok, IsTrue, refl, sym, ap, subst, ◌∙◌}
+use Rattle.std.proofs.Common.{rules, ◌≡◌, ℕ, [], Ok, IsTrue, refl, ap, subst, ◌∙◌}
 use Rattle.sqlite.specs.Command.TheVariants.{DropIndex}
 use Rattle.sqlite.specs.Held.{state}
 use Rattle.sqlite.specs.Listing.{understood}
@@ -9,7 +9,8 @@ use Rattle.sqlite_schema.specs.declared.schema.Schema.{Schema}
 use Rattle.fax_schema.specs.declared.statements.TheConstants.{DROP_CHOICE_INDEX, DROP_KILLTIME_INDEX}
 use Rattle.fax_tables.specs.Stop.{HoldsBack}
 use Rattle.fax_tables.specs.Tables.{GoesOn, HasIndexesLast, LosesIndexes}
-use Rattle.fax_tables.proofs.CreateLemmas.{clean_before, commit_kept, goes_on, kept_rows, lost_index, refused_keeps}
+use Rattle.fax_tables.proofs.CreateLemmas.{clean_before, commit_kept, goes_on, lost_index, refused_keeps}
+use Rattle.fax_schema.proofs.RowsLemmas.{kept_rows}
 use Rattle.fax_tables.proofs.WayLemmas.{LosesBoth, loses_both}
 use Rattle.fax_tables.proofs.ResultLemmas.{on_err}
 use Rattle.fax_tables.proofs.StopLemmas.{any_holds_back, holds_back_then}
