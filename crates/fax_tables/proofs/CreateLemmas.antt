@@ -35,7 +35,8 @@ use Rattle.fax_schema.proofs.CreateTexts.{LosesIndex, MakesIndexOf, TakesAway}
 use Rattle.fax_schema.proofs.StatementForms.{Makes}
 use Rattle.fax_schema.proofs.CompareLemmas.{same_row, cast_int, cast_null}
 use Rattle.fax_schema.proofs.StatementTexts.{insert_meta}
-use Rattle.fax_schema.proofs.RowsLemmas.{all_behind, all_both, all_front, all_given, all_mapped, at_tree, kept_rows}
+use Rattle.fax_schema.proofs.RowsLemmas.{all_behind, all_both, all_front, all_given, all_mapped, at_tree}
+pub use Rattle.fax_schema.proofs.RowsLemmas.{kept_rows}
 use Rattle.fax_schema.proofs.WriteLemmas.{went, unreferred, inserts}
 
 -- a disk that is clean at the end was clean before
@@ -104,15 +105,14 @@ made old new before after sql table count makes is none h was =
     (it.0, record { inside = it.0.mode; schema_is = it.1; empty = subst (λ s. AllByRecursion (λ t. new.now.trees t.tree ≡ []) s.tables) is all })
 
 -- a table is gone, to which no other refers, and the rows of the others stay
-pub dropped : (old new : State) (before after : Schema) (sql : List ℕ) (at : ℕ) (table : Table) (count : ℕ) → TakesAway before sql at → slice_get before.tables at ≡ Some table → is_acted_on before Enforced table ≡ false → table.is_counted ≡ false
-    → without_table before table.tree ≡ after → Executes sql [] old new (Ok count) → IsTrue old.in_transaction → old.now.schema ≡ before
+pub dropped : (old new : State) (before after : Schema) (sql : List ℕ) (count : ℕ) → TakesAway before sql after → Executes sql [] old new (Ok count) → IsTrue old.in_transaction → old.now.schema ≡ before
     → GoesOn old new × (new.now.schema ≡ after) × IsDatabase new.now × KeepsRows after.tables old.now.trees new.now.trees
-dropped old new before after sql at table count takes last unacted uncounted is h inside has =
-    let ran = runs_as sql [] old new before has (DropTable at) takes.command takes.plain count h in
+dropped old new before after sql count takes h inside has =
+    let ran = runs_as sql [] old new before has (DropTable takes.at) takes.command takes.plain count h in
     let out = Ok (ran.tally, new.now) in
     let task = λ (t : Table). the_task t in
-    let does = subst (λ s. Does old.step_limit (mode_of old) [] (record old.now { schema = s }) (statement_of sql (understood before sql)) None (DropTable at) out) has ran.changed in
-    let on = subst (λ t. AtPlace (λ (u : Table). Drops (task u) (mode_of old) old.now.trees) t out) last does in
+    let does = subst (λ s. Does old.step_limit (mode_of old) [] (record old.now { schema = s }) (statement_of sql (understood before sql)) None (DropTable takes.at) out) has ran.changed in
+    let on = subst (λ t. AtPlace (λ (u : Table). Drops (task u) (mode_of old) old.now.trees) t out) takes.has does in
     let emptied = went on in
     let first : emptied.0 ≡ old.now.trees = same_ok (emptied_as emptied.0 emptied.1) in
     let lessened = went emptied.2 in
@@ -121,35 +121,34 @@ dropped old new before after sql at table count takes last unacted uncounted is 
     let left = went tested.2 in
     let now : new.now ≡ left.0 = ap (λ (p : Tally × Database). p.1) (same_ok left.2) in (
       inside_shown old new _ inside ran.shown,
-      ap (λ (d : Database). d.schema) now ∙ left.1.0 ∙ is,
+      ap (λ (d : Database). d.schema) now ∙ left.1.0 ∙ takes.left,
       ran.sound,
-      subst₂ (λ (ts : Trees) (d : Database). KeepsRows after.tables ts d.trees) (second ∙ first) (sym now) (subst (λ (s : Schema). KeepsRows s.tables lessened.0 left.0.trees) is left.1.1),
+      subst₂ (λ (ts : Trees) (d : Database). KeepsRows after.tables ts d.trees) (second ∙ first) (sym now) (subst (λ (s : Schema). KeepsRows s.tables lessened.0 left.0.trees) takes.left left.1.1),
     )
   where
     the_task : Table → Task
     the_task t = record { limit = old.step_limit; keys = Enforced; schema = before; table = t; params = [] }
 
-    emptied_as : (e : Trees) → Empties (the_task table) old.now.trees (Ok e) → ◌≡◌ {A = Outcome Trees} (Ok e) (Ok old.now.trees)
-    emptied_as e h = rw unacted at h
+    emptied_as : (e : Trees) → Empties (the_task takes.table) old.now.trees (Ok e) → ◌≡◌ {A = Outcome Trees} (Ok e) (Ok old.now.trees)
+    emptied_as e h = rw takes.unacted at h
 
-    uncounted_as : (e l : Trees) → Uncounts (the_task table) e (Ok l) → ◌≡◌ {A = Outcome Trees} (Ok l) (Ok e)
-    uncounted_as e l h = rw uncounted at h
+    uncounted_as : (e l : Trees) → Uncounts (the_task takes.table) e (Ok l) → ◌≡◌ {A = Outcome Trees} (Ok l) (Ok e)
+    uncounted_as e l h = rw takes.uncounted at h
 
 -- an index is gone, and the rows stay
-pub lost_index : (old new : State) (before after : Schema) (sql : List ℕ) (at : ℕ) (index : Index) (count : ℕ) → LosesIndex before sql at → slice_get before.indexes at ≡ Some index → without_index before index.tree ≡ after
-    → Executes sql [] old new (Ok count) → IsTrue old.in_transaction → old.now.schema ≡ before
+pub lost_index : (old new : State) (before after : Schema) (sql : List ℕ) (count : ℕ) → LosesIndex before sql after → Executes sql [] old new (Ok count) → IsTrue old.in_transaction → old.now.schema ≡ before
     → GoesOn old new × (new.now.schema ≡ after) × IsDatabase new.now × KeepsRows after.tables old.now.trees new.now.trees
-lost_index old new before after sql at index count loses there is h inside has =
-    let ran = runs_as sql [] old new before has (DropIndex at) loses.command loses.plain count h in
+lost_index old new before after sql count loses h inside has =
+    let ran = runs_as sql [] old new before has (DropIndex loses.at) loses.command loses.plain count h in
     let out = Ok (ran.tally, new.now) in
-    let does = subst (λ s. Does old.step_limit (mode_of old) [] (record old.now { schema = s }) (statement_of sql (understood before sql)) None (DropIndex at) out) has ran.changed in
-    let on = subst (λ i. AtPlace (λ (x : Index). Defines (mode_of old) (Leaves (without_index before x.tree) old.now.trees (RefusesToAlter (RefusesToDropIndex x)))) i out) there does in
+    let does = subst (λ s. Does old.step_limit (mode_of old) [] (record old.now { schema = s }) (statement_of sql (understood before sql)) None (DropIndex loses.at) out) has ran.changed in
+    let on = subst (λ i. AtPlace (λ (x : Index). Defines (mode_of old) (Leaves (without_index before x.tree) old.now.trees (RefusesToAlter (RefusesToDropIndex x)))) i out) loses.has does in
     let left = went on in
     let now : new.now ≡ left.0 = ap (λ (p : Tally × Database). p.1) (same_ok left.2) in (
       inside_shown old new _ inside ran.shown,
-      ap (λ (d : Database). d.schema) now ∙ left.1.0 ∙ is,
+      ap (λ (d : Database). d.schema) now ∙ left.1.0 ∙ loses.left,
       ran.sound,
-      subst (λ (d : Database). KeepsRows after.tables old.now.trees d.trees) (sym now) (subst (λ (s : Schema). KeepsRows s.tables old.now.trees left.0.trees) is left.1.1),
+      subst (λ (d : Database). KeepsRows after.tables old.now.trees d.trees) (sym now) (subst (λ (s : Schema). KeepsRows s.tables old.now.trees left.0.trees) loses.left left.1.1),
     )
 
 -- one more index of jobs, and the rows that there were
