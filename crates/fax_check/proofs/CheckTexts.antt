@@ -1,12 +1,16 @@
--- What the texts mean that read all rows of a table.
+-- What the texts mean that read all rows of a table: each only reads.
 use Rattle.std.proofs.Common.{List, [], ◌∷◌, codes, refl}
 use Rattle.sqlite.specs.Listing.{understood}
 use Rattle.sqlite_sql.specs.Term.{Term, col}
 use Rattle.sqlite_tied.specs.Compute.{everything}
-use Rattle.fax_check.specs.declared.statements.TheConstants.{SELECT_ALL_JOBS, SELECT_ALL_GRANTS, SELECT_ALL_HOLDS, SELECT_ALL_DOWN, SELECT_ALL_REPLIES, SELECT_ALL_FLOORS, SELECT_ALL_CALLS}
+use Rattle.fax_check.specs.declared.tables.TheConstants.{SELECT_ALL_JOBS, SELECT_ALL_GRANTS, SELECT_ALL_HOLDS, SELECT_ALL_DOWN, SELECT_ALL_REPLIES, SELECT_ALL_FLOORS, SELECT_ALL_CALLS}
+use Rattle.fax_check.specs.Whole.{text_of}
+use Rattle.fax_check.specs.declared.tables.Table.{Table}
+use Rattle.fax_check.specs.declared.tables.Table.TheVariants.{Calls, Down, Floors, Grants, Holds, Jobs, Meta as TheMeta, Replies}
 use Rattle.fax_schema.proofs.GrantTexts.{grant_project, grant_names}
 use Rattle.fax_schema.proofs.StatementForms.{Selects}
-use Rattle.fax_schema.proofs.StatementTexts.{job_project, job_names}
+use Rattle.fax_schema.proofs.StatementTexts.{job_project, job_names, select_meta}
+use Rattle.fax_store.specs.Store.{IsQueryText}
 use Rattle.fax_schema.specs.Schema.{calls_tree, down_tree, floors_tree, grants_tree, holds_tree, jobs_tree, replies_tree}
 
 pub select_all_jobs : Selects SELECT_ALL_JOBS.now jobs_tree [] job_project job_names
@@ -51,3 +55,14 @@ all_calls_project = col 1 1 ∷ col 1 2 ∷ col 1 0 ∷ []
 pub select_all_calls : Selects SELECT_ALL_CALLS.now calls_tree [] all_calls_project (codes "dial" ∷ codes "open" ∷ codes "rowid" ∷ [])
 unfolding understood everything
 select_all_calls = record { command = refl; plain = (refl, refl); unlisted = refl }
+
+-- the query for all rows of a table only reads
+pub is_query : (table : Table) → IsQueryText (text_of table)
+is_query Jobs = select_all_jobs.plain
+is_query Grants = select_all_grants.plain
+is_query Holds = select_all_holds.plain
+is_query Down = select_all_down.plain
+is_query Replies = select_all_replies.plain
+is_query Floors = select_all_floors.plain
+is_query Calls = select_all_calls.plain
+is_query TheMeta = select_meta.plain
