@@ -1,5 +1,5 @@
 -- A row is as it has to be just where it shows what it has to.
-use Rattle.std.proofs.Common.{◌≡◌, inl, inr, ℕ, suc, ◌+◌, ◌<◌, List, [], ◌∷◌, map, filter, drop, take, length, get_or, All, true, refl, sym, ap, subst, ◌∙◌, arith}
+use Rattle.std.proofs.Common.{◌≡◌, inl, inr, ℕ, suc, ◌+◌, ◌<◌, List, [], ◌∷◌, map, filter, drop, take, length, get_or, All, true, refl, sym, ap, subst, ◌∙◌}
 use Rattle.std.specs.List.{AllByRecursion}
 use Rattle.std.specs.List.Sorted.{IsPermutation}
 use Rattle.std.proofs.lemmas.List.Elements.{All-append, All-cons, All-from_recursion, All-nil, recursion_from_All}
@@ -10,7 +10,7 @@ use Rattle.sqlite.specs.Order.{Row, column}
 use Rattle.sqlite.specs.Program.{overlay}
 use Rattle.sqlite.specs.State.{State, Shown}
 use Rattle.sqlite.specs.declared.types.Value.{Value}
-use Rattle.sqlite.specs.declared.types.Value.TheVariants.{Null, Text}
+use Rattle.sqlite.specs.declared.types.Value.TheVariants.{Null}
 use Rattle.sqlite.proofs.Callers.{reads_as}
 use Rattle.sqlite_rules.specs.Lists.{Has}
 use Rattle.sqlite_rules.proofs.ListLemmas.{all_has, has_at}
@@ -18,20 +18,12 @@ use Rattle.sqlite_rules.proofs.ProbeLemmas.{mapped_has}
 use Rattle.sqlite_sql.specs.Term.{Term}
 use Rattle.sqlite_trees.specs.Tree.{Trees}
 use Rattle.sqlite_trees.proofs.ListLemmas.{all_of, filter_all}
-use Rattle.fax_check.specs.Sound.{IsStored}
-use Rattle.fax_check.specs.Whole.{Each, Holder, IsCallRow, IsDownRow, IsFloorRow, IsGrantRow, IsJobRow, IsReplyRow, ShowsCall, ShowsFloor, ShowsGrant, ShowsJob, ShowsName, ShowsReply}
-use Rattle.fax_check.proofs.ShapeLemmas as shape
-use Rattle.fax_core.specs.Queue.{Entry}
-use Rattle.fax_check.proofs.CheckTexts.{all_calls_project, all_down_project, all_floors_project, all_replies_project}
+use Rattle.fax_check.specs.Whole.{Each}
 use Rattle.fax_schema.proofs.EditLemmas.{has_mapped, has_permuted}
-use Rattle.fax_schema.proofs.GrantTexts.{grant_project}
 use Rattle.fax_schema.proofs.SelectLemmas.{answers, passes, show}
 use Rattle.fax_schema.proofs.StatementForms.{Selects}
-use Rattle.fax_schema.proofs.StatementTexts.{job_project}
-use Rattle.fax_schema.specs.Schema.{our_tables, calls_tree, down_tree, floors_tree, grants_tree, jobs_tree, replies_tree}
+use Rattle.fax_schema.specs.Schema.{our_tables}
 use Rattle.fax_tables.proofs.IndexLemmas.{length_map}
-use Rattle.fax_tables.specs.Row.{entry_columns, number}
-use Rattle.fax_tables.specs.declared.meta.Meta.{Meta}
 
 -- a row as a job's stands, of one as it is shown
 abbrev pub unshown_job : Row → Row

@@ -2,7 +2,6 @@
 use Rattle.std.proofs.Common.{◌≡◌, List, [], ◌∷◌, All, Option, Some, Ok, Err, Result, IfOk, refl, sym, subst, ◌∙◌, arith}
 use Rattle.std.specs.Prelude.{◌==◌}
 use Rattle.std.proofs.lemmas.Bool.{eqb-true}
-use Rattle.std.proofs.lemmas.List.Elements.{All-from_recursion}
 use Rattle.sqlite.specs.Effect.{Database}
 use Rattle.sqlite.specs.Order.{Row}
 use Rattle.sqlite_rules.specs.Lists.{Has}
@@ -27,7 +26,7 @@ use Rattle.fax_core.specs.Ledger.{Ledger}
 use Rattle.fax_core.specs.Queue.{Queue, open_grants}
 use Rattle.fax_core.specs.Sound.{FitsGrant, Sound}
 use Rattle.fax_core.specs.declared.grants.Grant.{Grant}
-use Rattle.fax_check.proofs.CheckTexts.{all_holds_project}
+use Rattle.fax_check.proofs.TableLemmas.{all_holds_project}
 use Rattle.fax_schema.proofs.ColumnLemmas.{record_of}
 use Rattle.fax_schema.proofs.SelectLemmas.{show}
 use Rattle.fax_schema.specs.Schema.{holds_tree}

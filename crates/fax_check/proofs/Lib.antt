@@ -1,4 +1,3 @@
-pub mod CheckTexts
 pub mod ShapeLemmas
 pub mod BridgeLemmas
 pub mod TellsLemmas

@@ -1,5 +1,5 @@
--- A row is as it has to be just where it shows what it has to, and so a pass decides whether a table is whole.
-use Rattle.std.proofs.Common.{◌≡◌, inl, inr, ℕ, ℤ, ◌+◌, ◌==◌, List, [], ◌∷◌, All, true, Option, Some, None, length, drop, MatchOption, refl, sym, ap, subst, ◌∙◌, arith}
+-- The queries for all rows of each table, and what a pass over these decides: a row is as it has to be just where it shows what it has to.
+use Rattle.std.proofs.Common.{◌≡◌, inl, inr, ℕ, ℤ, ◌+◌, ◌==◌, List, [], ◌∷◌, All, true, Option, Some, None, length, drop, MatchOption, refl, sym, ap, subst, ◌∙◌, arith, codes}
 use Rattle.std.specs.Prelude.{⊤}
 use Rattle.std.proofs.lemmas.Bool.{cases_Bool, eqb-true, true≢false}
 use Rattle.std.proofs.lemmas.Bool.Decides.{nat_tests}
@@ -9,7 +9,7 @@ use Rattle.sqlite.specs.Program.{overlay}
 use Rattle.sqlite.specs.State.{State, Shown}
 use Rattle.sqlite.specs.declared.types.Value.TheVariants.{Text}
 use Rattle.sqlite_rules.specs.Lists.{Has}
-use Rattle.sqlite_sql.specs.Term.{Term}
+use Rattle.sqlite_sql.specs.Term.{Term, col}
 use Rattle.sqlite_trees.specs.Tree.{Trees}
 use Rattle.fax_check.specs.Check.{IsTableChecked, Told, flaw_in, flaw_of}
 use Rattle.fax_check.specs.Pass.{IsTally}
@@ -21,17 +21,75 @@ use Rattle.fax_check.specs.declared.tables.Table.TheVariants.{Calls, Down, Floor
 use Rattle.fax_check.proofs.BridgeLemmas as bridge
 use Rattle.fax_check.proofs.BridgeLemmas.{at_is, five, two, unshown_grant, unshown_job}
 use Rattle.fax_check.proofs.ShapeLemmas as shape
-use Rattle.fax_check.proofs.CheckTexts as texts
-use Rattle.fax_check.proofs.CheckTexts.{all_calls_project, all_down_project, all_floors_project, all_replies_project}
 use Rattle.fax_schema.proofs.GrantTexts.{grant_names, grant_project}
 use Rattle.fax_schema.proofs.SelectLemmas.{show}
 use Rattle.fax_schema.proofs.StatementForms.{Selects}
-use Rattle.fax_schema.proofs.StatementTexts.{job_names, job_project}
+use Rattle.fax_schema.proofs.StatementTexts.{job_names, job_project, select_meta}
 use Rattle.fax_schema.specs.Schema as schema
-use Rattle.fax_schema.specs.Schema.{calls_tree, down_tree, floors_tree, grants_tree, jobs_tree, replies_tree}
+use Rattle.fax_schema.specs.Schema.{calls_tree, down_tree, floors_tree, grants_tree, jobs_tree, replies_tree, holds_tree}
 use Rattle.fax_tables.specs.Row.{entry_columns, number}
 use Rattle.fax_tables.specs.declared.meta.Meta.{Meta}
 use Rattle.fax_core.specs.Queue.{Entry}
+use Rattle.sqlite.specs.Listing.{understood}
+use Rattle.sqlite_tied.specs.Compute.{everything}
+use Rattle.fax_check.specs.declared.tables.TheConstants.{SELECT_ALL_JOBS, SELECT_ALL_GRANTS, SELECT_ALL_HOLDS, SELECT_ALL_DOWN, SELECT_ALL_REPLIES, SELECT_ALL_FLOORS, SELECT_ALL_CALLS}
+use Rattle.fax_store.specs.Store.{IsQueryText}
+
+-- ---- what the queries mean
+
+pub select_all_jobs : Selects SELECT_ALL_JOBS.now jobs_tree [] job_project job_names
+unfolding understood everything
+select_all_jobs = record { command = refl; plain = (refl, refl); unlisted = refl }
+
+pub select_all_grants : Selects SELECT_ALL_GRANTS.now grants_tree [] grant_project grant_names
+unfolding understood everything
+select_all_grants = record { command = refl; plain = (refl, refl); unlisted = refl }
+
+abbrev pub all_holds_project : List Term
+all_holds_project = col 1 1 ∷ col 1 2 ∷ col 1 3 ∷ col 1 0 ∷ []
+
+pub select_all_holds : Selects SELECT_ALL_HOLDS.now holds_tree [] all_holds_project (codes "modem" ∷ codes "job" ∷ codes "id" ∷ codes "rowid" ∷ [])
+unfolding understood everything
+select_all_holds = record { command = refl; plain = (refl, refl); unlisted = refl }
+
+abbrev pub all_down_project : List Term
+all_down_project = col 1 1 ∷ col 1 0 ∷ []
+
+pub select_all_down : Selects SELECT_ALL_DOWN.now down_tree [] all_down_project (codes "modem" ∷ codes "rowid" ∷ [])
+unfolding understood everything
+select_all_down = record { command = refl; plain = (refl, refl); unlisted = refl }
+
+abbrev pub all_replies_project : List Term
+all_replies_project = col 1 1 ∷ col 1 2 ∷ col 1 3 ∷ col 1 4 ∷ col 1 5 ∷ col 1 0 ∷ []
+
+pub select_all_replies : Selects SELECT_ALL_REPLIES.now replies_tree [] all_replies_project (codes "client" ∷ codes "number" ∷ codes "said" ∷ codes "status" ∷ codes "body" ∷ codes "rowid" ∷ [])
+unfolding understood everything
+select_all_replies = record { command = refl; plain = (refl, refl); unlisted = refl }
+
+abbrev pub all_floors_project : List Term
+all_floors_project = col 1 1 ∷ col 1 2 ∷ col 1 0 ∷ []
+
+pub select_all_floors : Selects SELECT_ALL_FLOORS.now floors_tree [] all_floors_project (codes "client" ∷ codes "upto" ∷ codes "rowid" ∷ [])
+unfolding understood everything
+select_all_floors = record { command = refl; plain = (refl, refl); unlisted = refl }
+
+abbrev pub all_calls_project : List Term
+all_calls_project = col 1 1 ∷ col 1 2 ∷ col 1 0 ∷ []
+
+pub select_all_calls : Selects SELECT_ALL_CALLS.now calls_tree [] all_calls_project (codes "dial" ∷ codes "open" ∷ codes "rowid" ∷ [])
+unfolding understood everything
+select_all_calls = record { command = refl; plain = (refl, refl); unlisted = refl }
+
+-- the query for all rows of a table only reads
+pub is_query : (table : Table) → IsQueryText (text_of table)
+is_query Jobs = select_all_jobs.plain
+is_query Grants = select_all_grants.plain
+is_query Holds = select_all_holds.plain
+is_query Down = select_all_down.plain
+is_query Replies = select_all_replies.plain
+is_query Floors = select_all_floors.plain
+is_query Calls = select_all_calls.plain
+is_query TheMeta = select_meta.plain
 
 -- ---- a row of each table
 
@@ -137,16 +195,16 @@ module _ (old new : State) (db : Database) (stored : IsStored db) (now : old.now
   pub table_checked : (table : Table) (tally : Tally) → Shown (text_of table) [] old new rows → IsTally (Shows meta held table) rows tally
       → IsTableChecked meta held table db (flaw_of table meta tally)
   table_checked Jobs tally shown t =
-      checked_all (text_of Jobs) jobs_tree job_project job_names texts.select_all_jobs (λ trees. refl) (Shows meta held Jobs) (IsJobRow meta held) (job_is db stored meta held) (job_shows db stored meta held) shown Jobs meta.next_job tally t
+      checked_all (text_of Jobs) jobs_tree job_project job_names select_all_jobs (λ trees. refl) (Shows meta held Jobs) (IsJobRow meta held) (job_is db stored meta held) (job_shows db stored meta held) shown Jobs meta.next_job tally t
   table_checked Grants tally shown t =
-      checked_all (text_of Grants) grants_tree grant_project grant_names texts.select_all_grants (λ trees. refl) (Shows meta held Grants) (IsGrantRow meta held) (grant_is db stored meta held) (grant_shows db stored meta held) shown Grants meta.next_grant tally t
+      checked_all (text_of Grants) grants_tree grant_project grant_names select_all_grants (λ trees. refl) (Shows meta held Grants) (IsGrantRow meta held) (grant_is db stored meta held) (grant_shows db stored meta held) shown Grants meta.next_grant tally t
   table_checked Down tally shown t =
-      checked (text_of Down) down_tree all_down_project _ texts.select_all_down (λ trees. refl) (Shows meta held Down) IsDownRow (down_is db stored meta held) (down_shows db stored meta held) shown Down tally t
+      checked (text_of Down) down_tree all_down_project _ select_all_down (λ trees. refl) (Shows meta held Down) IsDownRow (down_is db stored meta held) (down_shows db stored meta held) shown Down tally t
   table_checked Replies tally shown t =
-      checked (text_of Replies) replies_tree all_replies_project _ texts.select_all_replies (λ trees. refl) (Shows meta held Replies) IsReplyRow (reply_is db stored meta held) (reply_shows db stored meta held) shown Replies tally t
+      checked (text_of Replies) replies_tree all_replies_project _ select_all_replies (λ trees. refl) (Shows meta held Replies) IsReplyRow (reply_is db stored meta held) (reply_shows db stored meta held) shown Replies tally t
   table_checked Floors tally shown t =
-      checked (text_of Floors) floors_tree all_floors_project _ texts.select_all_floors (λ trees. refl) (Shows meta held Floors) IsFloorRow (floor_is db stored meta held) (floor_shows db stored meta held) shown Floors tally t
+      checked (text_of Floors) floors_tree all_floors_project _ select_all_floors (λ trees. refl) (Shows meta held Floors) IsFloorRow (floor_is db stored meta held) (floor_shows db stored meta held) shown Floors tally t
   table_checked Calls tally shown t =
-      checked (text_of Calls) calls_tree all_calls_project _ texts.select_all_calls (λ trees. refl) (Shows meta held Calls) (IsCallRow held) (call_is db stored meta held) (call_shows db stored meta held) shown Calls tally t
+      checked (text_of Calls) calls_tree all_calls_project _ select_all_calls (λ trees. refl) (Shows meta held Calls) (IsCallRow held) (call_is db stored meta held) (call_shows db stored meta held) shown Calls tally t
   table_checked Holds tally shown t = no_flaw Holds rows tally t
   table_checked TheMeta tally shown t = no_flaw TheMeta rows tally t

@@ -7,7 +7,7 @@ use Rattle.fax_check.specs.Pass.{AreRead, IsTally}
 use Rattle.fax_check.specs.Whole.{Shows, text_of}
 use Rattle.fax_check.specs.Reading.{Tells}
 use Rattle.fax_check.proofs.TellsLemmas.{pass_tells, unshown_tells}
-use Rattle.fax_check.proofs.CheckTexts.{is_query}
+use Rattle.fax_check.proofs.TableLemmas.{is_query}
 use Rattle.fax_check.proofs.pass.pass.Goals as goal
 
 pub returns-in_err-rows : goal.returns-in_err-rows
