@@ -1,5 +1,5 @@
 -- A row is as it has to be just where it shows what it has to.
-use Rattle.std.proofs.Common.{◌≡◌, inl, inr, ℕ, suc, ◌+◌, ◌<◌, List, [], ◌∷◌, map, filter, drop, take, length, get_or, All, true, refl, sym, ap, subst, ◌∙◌, arith}
+use Rattle.std.proofs.Common.{◌≡◌, inl, inr, ℕ, suc, ◌+◌, ◌<◌, List, [], ◌∷◌, map, filter, drop, take, length, get_or, All, true, refl, sym, ap, subst, ◌∙◌}
 use Rattle.std.specs.List.{AllByRecursion}
 use Rattle.std.specs.List.Sorted.{IsPermutation}
 use Rattle.std.proofs.lemmas.List.Elements.{All-append, All-cons, All-from_recursion, All-nil, recursion_from_All}
@@ -10,7 +10,7 @@ use Rattle.sqlite.specs.Order.{Row, column}
 use Rattle.sqlite.specs.Program.{overlay}
 use Rattle.sqlite.specs.State.{State, Shown}
 use Rattle.sqlite.specs.declared.types.Value.{Value}
-use Rattle.sqlite.specs.declared.types.Value.TheVariants.{Null, Text}
+use Rattle.sqlite.specs.declared.types.Value.TheVariants.{Null}
 use Rattle.sqlite.proofs.Callers.{reads_as}
 use Rattle.sqlite_rules.specs.Lists.{Has}
 use Rattle.sqlite_rules.proofs.ListLemmas.{all_has, has_at}
@@ -18,21 +18,12 @@ use Rattle.sqlite_rules.proofs.ProbeLemmas.{mapped_has}
 use Rattle.sqlite_sql.specs.Term.{Term}
 use Rattle.sqlite_trees.specs.Tree.{Trees}
 use Rattle.sqlite_trees.proofs.ListLemmas.{all_of, filter_all}
-use Rattle.fax_check.specs.Sound.{IsStored}
-use Rattle.fax_check.specs.Table.{ShowsCall, ShowsFloor, ShowsGrant, ShowsJob, ShowsName, ShowsReply}
-use Rattle.fax_check.specs.Whole.{Each, Holder, IsCallRow, IsDownRow, IsFloorRow, IsGrantRow, IsJobRow, IsReplyRow}
-use Rattle.fax_check.proofs.ShapeLemmas as shape
-use Rattle.fax_core.specs.Queue.{Entry}
-use Rattle.fax_check.proofs.CheckTexts.{all_calls_project, all_down_project, all_floors_project, all_replies_project}
+use Rattle.fax_check.specs.Whole.{Each}
 use Rattle.fax_schema.proofs.EditLemmas.{has_mapped, has_permuted}
-use Rattle.fax_schema.proofs.GrantTexts.{grant_project}
 use Rattle.fax_schema.proofs.SelectLemmas.{answers, passes, show}
 use Rattle.fax_schema.proofs.StatementForms.{Selects}
-use Rattle.fax_schema.proofs.StatementTexts.{job_project}
-use Rattle.fax_schema.specs.Schema.{our_tables, calls_tree, down_tree, floors_tree, grants_tree, jobs_tree, replies_tree}
+use Rattle.fax_schema.specs.Schema.{our_tables}
 use Rattle.fax_tables.proofs.IndexLemmas.{length_map}
-use Rattle.fax_tables.specs.Row.{entry_columns, number}
-use Rattle.fax_tables.specs.declared.meta.Meta.{Meta}
 
 -- a row as a job's stands, of one as it is shown
 abbrev pub unshown_job : Row → Row
@@ -48,7 +39,7 @@ unshown_grant s = column s 0 ∷ Null ∷ column s 1 ∷ column s 2 ∷ column s
 pub two : {a b c d : Value} → a ≡ c → b ≡ d → a ∷ b ∷ [] ≡ c ∷ d ∷ []
 two e f = rw (e, f) refl
 
-five : {a b c d e a₂ b₂ c₂ d₂ e₂ : Value} → a ≡ a₂ → b ≡ b₂ → c ≡ c₂ → d ≡ d₂ → e ≡ e₂ → a ∷ b ∷ c ∷ d ∷ e ∷ [] ≡ a₂ ∷ b₂ ∷ c₂ ∷ d₂ ∷ e₂ ∷ []
+pub five : {a b c d e a₂ b₂ c₂ d₂ e₂ : Value} → a ≡ a₂ → b ≡ b₂ → c ≡ c₂ → d ≡ d₂ → e ≡ e₂ → a ∷ b ∷ c ∷ d ∷ e ∷ [] ≡ a₂ ∷ b₂ ∷ c₂ ∷ d₂ ∷ e₂ ∷ []
 five p q r s t = rw (p, q, r, s, t) refl
 
 -- a column of a row whose columns behind the rowid are these
@@ -108,61 +99,3 @@ module _ (sql : List ℕ) (tree : ℕ) (project : List Term) (names : List (List
   -- and the other way round
   pub all_each : (P : Row → Type 0) → Each db tree (λ r. P (of r)) → All P rows
   all_each P each = All-permutation P (map of (db.trees tree)) rows all_shown (of_all P (map of (db.trees tree)) (λ s has. let it = has_mapped of (db.trees tree) s has in subst P (sym it.2) (each it.0 it.1)))
-
--- ---- a row of each table
-
-module _ (db : Database) (stored : IsStored db) (meta : Meta) (held : List Holder) (r : Row) where
-  -- a job's
-  pub job_is : Has (db.trees jobs_tree) r → ShowsJob meta held (show jobs_tree [] job_project [] r) → IsJobRow meta held r
-  job_is has it = record { job = it.job; is = shape.job_columns_of db stored r has ∙ ap unshown_job it.is; lawful = it.lawful; before = it.before; stands = it.stands }
-
-  pub job_shows : IsJobRow meta held r → ShowsJob meta held (show jobs_tree [] job_project [] r)
-  job_shows it = record { job = it.job; is = ap (show jobs_tree [] job_project []) it.is; lawful = it.lawful; before = it.before; stands = it.stands }
-
-  -- a grant's
-  pub grant_is : Has (db.trees grants_tree) r → ShowsGrant meta held (show grants_tree [] grant_project [] r) → IsGrantRow meta held r
-  grant_is has it = record { grant = it.grant; is = shape.grant_columns_of db stored r has ∙ ap unshown_grant it.is; lawful = it.lawful; before = it.before; is_held = it.is_held }
-
-  pub grant_shows : IsGrantRow meta held r → ShowsGrant meta held (show grants_tree [] grant_project [] r)
-  grant_shows it = record { grant = it.grant; is = ap (show grants_tree [] grant_project []) it.is; lawful = it.lawful; before = it.before; is_held = it.is_held }
-
-  -- that of a modem that is down
-  pub down_is : Has (db.trees down_tree) r → ShowsName (show down_tree [] all_down_project [] r) 0 → IsDownRow r
-  down_is has it = (it.0, ap (drop 1) (shape.down_columns_of db stored r has) ∙ ap (λ v. v ∷ []) it.1.is, it.2)
-
-  pub down_shows : IsDownRow r → ShowsName (show down_tree [] all_down_project [] r) 0
-  down_shows it = (it.0, record { within = omega arith; is = at_is r 0 (Text it.0 ∷ []) it.1 }, it.2)
-
-  -- a reply's
-  pub reply_is : Has (db.trees replies_tree) r → ShowsReply (show replies_tree [] all_replies_project [] r) → IsReplyRow r
-  reply_is has it =
-      let blobs = shape.reply_blobs db stored r has in
-      let e : Entry = record { client = it.client.0; number = it.number.0; said = blobs.0; status = it.status.0; body = blobs.1 } in (
-        e,
-        ap (drop 1) (shape.reply_columns_of db stored r has) ∙ five it.client.1.is it.number.1.is blobs.2 it.status.1.is blobs.3,
-        record { client = it.client.2; number = (it.number.2, it.number.3); status = it.status.2 },
-      )
-
-  pub reply_shows : IsReplyRow r → ShowsReply (show replies_tree [] all_replies_project [] r)
-  reply_shows it = record {
-    client = (it.0.client, record { within = omega arith; is = at_is r 0 (entry_columns it.0) it.1 }, it.2.client);
-    number = (it.0.number, record { within = omega arith; is = at_is r 1 (entry_columns it.0) it.1 }, it.2.number.0, it.2.number.1);
-    status = (it.0.status, record { within = omega arith; is = at_is r 3 (entry_columns it.0) it.1 }, it.2.status);
-  }
-
-  -- a floor's
-  pub floor_is : Has (db.trees floors_tree) r → ShowsFloor (show floors_tree [] all_floors_project [] r) → IsFloorRow r
-  floor_is has it = (it.client.0, it.upto.0, ap (drop 1) (shape.floor_columns_of db stored r has) ∙ two it.client.1.is it.upto.1.is, it.client.2, it.upto.2, it.upto.3)
-
-  pub floor_shows : IsFloorRow r → ShowsFloor (show floors_tree [] all_floors_project [] r)
-  floor_shows it = record {
-    client = (it.0, record { within = omega arith; is = at_is r 0 (Text it.0 ∷ number it.1 ∷ []) it.2 }, it.3);
-    upto = (it.1, record { within = omega arith; is = at_is r 1 (Text it.0 ∷ number it.1 ∷ []) it.2 }, it.4, it.5);
-  }
-
-  -- and that of a number that is dialed
-  pub call_is : Has (db.trees calls_tree) r → ShowsCall held (show calls_tree [] all_calls_project [] r) → IsCallRow held r
-  call_is has it = (it.0, it.1, ap (drop 1) (shape.call_columns_of db stored r has) ∙ two it.2.is it.3.is)
-
-  pub call_shows : IsCallRow held r → ShowsCall held (show calls_tree [] all_calls_project [] r)
-  call_shows it = (it.0, it.1, record { within = omega arith; is = at_is r 0 _ it.2 }, record { within = omega arith; is = at_is r 1 _ it.2 })

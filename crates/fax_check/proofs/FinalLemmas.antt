@@ -2,24 +2,21 @@
 use Rattle.std.proofs.Common.{◌≡◌, List, [], ◌∷◌, All, Option, Some, Ok, Err, Result, IfOk, refl, sym, subst, ◌∙◌, arith}
 use Rattle.std.specs.Prelude.{◌==◌}
 use Rattle.std.proofs.lemmas.Bool.{eqb-true}
-use Rattle.std.proofs.lemmas.List.Elements.{All-from_recursion}
 use Rattle.sqlite.specs.Effect.{Database}
 use Rattle.sqlite.specs.Order.{Row}
 use Rattle.sqlite_rules.specs.Lists.{Has}
 use Rattle.sqlite_rules.proofs.ListLemmas.{has_filtered, has_found}
-use Rattle.fax_check.specs.Check.{AreCalled, HasHolders, HasNumbers, IsChecked, passed}
+use Rattle.fax_check.specs.Check.{AreCalled, HasHolders, HasNumbers, IsChecked}
+use Rattle.fax_check.specs.Whole.{AreWhole, Holder, IsWholeTable, numbers_row, passed}
 use Rattle.fax_check.specs.declared.tables.Flaw.{Flaw}
 use Rattle.sqlite.specs.State.{State, Shown}
 use Rattle.fax_check.specs.Holders.{AreHolders, AreHoldersIn, IsHoldShown}
 use Rattle.fax_check.specs.declared.holders.Holders.{Holders}
 use Rattle.fax_check.specs.declared.holders.Holders.TheVariants.{Right, Wrong}
-use Rattle.fax_check.specs.declared.statements.TheConstants.{SELECT_ALL_HOLDS}
+use Rattle.fax_check.specs.declared.tables.TheConstants.{SELECT_ALL_HOLDS}
 use Rattle.fax_check.proofs.HolderLemmas.{hold_of, holders_are}
 use Rattle.fax_tables.specs.declared.fault.StoreFault.{StoreFault}
 use Rattle.fax_check.specs.Sound.{IsSound, IsStored}
-use Rattle.fax_check.specs.Table.{IsWholeTable}
-use Rattle.fax_check.specs.Whole.{AreWhole, Holder, numbers_row}
-use Rattle.fax_check.specs.declared.tables.Table.TheVariants.{Grants, Jobs}
 use Rattle.fax_check.proofs.BridgeLemmas.{at_is}
 use Rattle.fax_check.proofs.MeantLemmas as meant
 use Rattle.fax_check.proofs.WholeLemmas.{rows_are_sound}
@@ -29,7 +26,7 @@ use Rattle.fax_core.specs.Ledger.{Ledger}
 use Rattle.fax_core.specs.Queue.{Queue, open_grants}
 use Rattle.fax_core.specs.Sound.{FitsGrant, Sound}
 use Rattle.fax_core.specs.declared.grants.Grant.{Grant}
-use Rattle.fax_check.proofs.CheckTexts.{all_holds_project}
+use Rattle.fax_check.proofs.TableLemmas.{all_holds_project}
 use Rattle.fax_schema.proofs.ColumnLemmas.{record_of}
 use Rattle.fax_schema.proofs.SelectLemmas.{show}
 use Rattle.fax_schema.specs.Schema.{holds_tree}
@@ -98,23 +95,7 @@ module _ (db : Database) (stored : IsStored db) (meta : Meta) (held : List Holde
   -- whole tables, whose numbers to dial are counted, have whole rows
   whole : All (IsWholeTable meta held db) passed → AreCalled db held → AreWhole db meta held
   whole all called =
-      let grants : IsWholeTable meta held db Grants = all 0 Grants (omega arith) in
-      let jobs : IsWholeTable meta held db Jobs = all 1 Grants (omega arith) in
-      record {
-        meta_is = numbers.is;
-        numbers = numbers.lawful;
-        holders = holders.holders;
-        right = holders.right;
-        grants = grants.0;
-        all_grants = grants.1;
-        jobs = jobs.0;
-        all_jobs = jobs.1;
-        down = all 2 Grants (omega arith);
-        replies = all 3 Grants (omega arith);
-        floors = all 4 Grants (omega arith);
-        calls = all 5 Grants (omega arith);
-        called = called;
-      }
+      record { meta_is = numbers.is; numbers = numbers.lawful; holders = holders.holders; right = holders.right; tables = all; called = called }
 
   -- so they mean a sound queue
   pub all_sound : All (IsWholeTable meta held db) passed → AreCalled db held → IsSound db
@@ -128,9 +109,7 @@ module _ (db : Database) (stored : IsStored db) (meta : Meta) (held : List Holde
 
   -- so are the tables
   pub sound_whole : IsSound db → All (IsWholeTable meta held db) passed
-  sound_whole sound =
-      let w = meant_whole sound in
-      All-from_recursion (IsWholeTable meta held db) passed ((w.grants, w.all_grants), ((w.jobs, w.all_jobs), (w.down, (w.replies, (w.floors, (w.calls, tt))))))
+  sound_whole sound = (meant_whole sound).tables
 
   -- and the numbers to dial are counted
   pub sound_called : IsSound db → AreCalled db held

@@ -1,5 +1,3 @@
-pub mod CheckTexts
-pub mod TextLemmas
 pub mod ShapeLemmas
 pub mod BridgeLemmas
 pub mod TellsLemmas

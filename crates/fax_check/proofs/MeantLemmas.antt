@@ -37,7 +37,7 @@ use Rattle.fax_tables.specs.Meta.{meta_of}
 use Rattle.fax_tables.specs.Row.{call_columns, down_columns, entry_columns, grant_row, hold_columns, job_row}
 use Rattle.fax_tables.specs.Tables.{IsLawfulEntry, IsLawfulGrant, TablesMean}
 use Rattle.fax_check.specs.Meant.{HoldRowsAreRight, SoundRowsAreWhole, holder_of}
-use Rattle.fax_check.specs.Whole.{Holder, IsCallRow, IsDownRow, IsFloorRow, IsGrantRow, IsHeld, IsJobRow, IsReplyRow, IsRightHolder, Stands, dialing, holder_columns}
+use Rattle.fax_check.specs.Whole.{IsWholeTable, passed, Holder, IsCallRow, IsDownRow, IsFloorRow, IsGrantRow, IsHeld, IsJobRow, IsReplyRow, IsRightHolder, Stands, dialing, holder_columns}
 
 -- ---- lists
 
@@ -325,13 +325,12 @@ sound_rows_are_whole db m k held means sound same right = record {
   numbers = λ q. record { clock = means.lawful.meta.clock; next_job = means.lawful.meta.next_job; next_grant = means.lawful.meta.next_grant };
   holders = same;
   right = right;
-  grants = grant_is db m k means sound held same;
-  all_grants = ap (λ n. n + 1) (ap (λ rows. length rows) means.grants ∙ length-map m.grants grant_row) ∙ sym sound.next_grant;
-  jobs = job_is db m k means sound held same;
-  all_jobs = ap (λ n. n + 1) (ap (λ rows. length rows) means.jobs ∙ length-map m.jobs (λ j. job_row (fields_of j))) ∙ sym sound.next_job;
-  down = down_is db m k means;
-  replies = reply_is db m k means;
-  floors = floor_is db m k means;
-  calls = call_is db m k means sound held same right;
+  tables = All-from_recursion (IsWholeTable (meta_of m) held db) passed (
+    (grant_is db m k means sound held same, ap (λ n. n + 1) (ap (λ rows. length rows) means.grants ∙ length-map m.grants grant_row) ∙ sym sound.next_grant),
+    (
+      (job_is db m k means sound held same, ap (λ n. n + 1) (ap (λ rows. length rows) means.jobs ∙ length-map m.jobs (λ j. job_row (fields_of j))) ∙ sym sound.next_job),
+      (down_is db m k means, (reply_is db m k means, (floor_is db m k means, (call_is db m k means sound held same right, tt)))),
+    ),
+  );
   called = All-from_recursion _ held (all_from (IsCalled db held) held (called db m k means sound held same right));
 }

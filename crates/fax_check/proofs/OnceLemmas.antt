@@ -1,9 +1,9 @@
 -- A value of a UNIQUE column stands in one row.
-use Rattle.std.proofs.Common.{◌≡◌, ℕ, suc, List, [], ◌∷◌, drop, Bool, true, false, not, ◌&&◌, refl, ap, ap₂, subst, ◌∙◌}
+use Rattle.std.proofs.Common.{◌≡◌, inl, inr, ℕ, suc, List, [], ◌∷◌, drop, slice_get, Some, Bool, true, false, not, ◌&&◌, refl, sym, ap, ap₂, subst, ◌∙◌}
 use Rattle.std.specs.Ordering.{is_ne}
 use Rattle.std.specs.declared.cmp.Ordering.{Ordering}
 use Rattle.std.specs.declared.cmp.Ordering.TheVariants.{Less, Equal, Greater}
-use Rattle.std.proofs.lemmas.Bool.{and_parts, both_ways, not-true}
+use Rattle.std.proofs.lemmas.Bool.{and_cases, and_parts, both_ways, not-true}
 use Rattle.std.proofs.lemmas.Slice.Eq.{bytes_eq-Decides}
 use Rattle.sqlite.specs.Collation.TheVariants.{Binary}
 use Rattle.sqlite.specs.Effect.{Database, IsDatabase}
@@ -12,10 +12,13 @@ use Rattle.sqlite.specs.Tree.{rowid}
 use Rattle.sqlite.specs.declared.types.Value.{Value}
 use Rattle.sqlite.specs.declared.types.Value.TheVariants.{Text}
 use Rattle.sqlite_rules.specs.Lists.{Has}
-use Rattle.sqlite_rules.proofs.ListLemmas.{all_has, some_from}
+use Rattle.sqlite_rules.proofs.ListLemmas.{all_has, some_from, test_has}
+use Rattle.sqlite_rules.proofs.RuleLemmas.{keeps_at}
 use Rattle.sqlite_rules.proofs.PlaceLemmas.{tied_same}
 use Rattle.sqlite_rules.proofs.TableLemmas.{int_is}
-use Rattle.sqlite_schema.specs.Rules.{Keeps, agree, differ, equal, clashes}
+use Rattle.sqlite_schema.specs.Rules.{Keeps, agree, differ, equal, clashes, guards}
+use Rattle.sqlite_schema.specs.declared.schema.Index.{Index}
+use Rattle.sqlite_schema.specs.declared.schema.Table.{Table}
 use Rattle.sqlite_schema.specs.declared.schema.Constraint.TheVariants.{Unique}
 use Rattle.sqlite_sql.specs.Ops.{is_null}
 use Rattle.sqlite_sql.specs.declared.ops.CompareOp.TheVariants.{Ne}
@@ -23,7 +26,9 @@ use Rattle.sqlite_value.specs.Keys.{plain}
 use Rattle.sqlite_value.specs.Order.{value_cmp}
 use Rattle.sqlite_value.proofs.KeyLemmas.{first_key-plain}
 use Rattle.fax_schema.specs.ByRowid.{IsByRowid}
+use Rattle.fax_schema.specs.Schema as schema
 use Rattle.fax_schema.specs.Schema.{our_tables, floors_tree, holds_tree}
+use Rattle.fax_schema.proofs.RowsLemmas.{listed_at}
 use Rattle.fax_schema.proofs.CompareLemmas.{are_equal, compared, equal_texts}
 
 -- ---- columns
@@ -97,6 +102,14 @@ module _ (db : Database) (has : db.schema ≡ our_tables) (sound : IsDatabase db
   pub grants_once : (r : Row) → Has (db.trees holds_tree) r → clashes plain (3 ∷ []) (db.trees holds_tree) r ≡ false
   grants_once r there = not-true _ (unclashed r there).2
 
-  -- no row of floors clashes with another in its client
+  -- no row of a table clashes with another under the index of one of its keys
+  pub key_apart : (t : Table) (at : ℕ) (i : Index) (place : ℕ) → slice_get our_tables.tables at ≡ Some t → slice_get our_tables.indexes place ≡ Some i → guards i t ≡ true → (r : Row) → Has (db.trees t.tree) r
+      → clashes i.order i.columns (db.trees t.tree) r ≡ false
+  key_apart t at i place there listed guard r has =
+      let all = keeps_at Unique our_tables db.trees t r keeps (listed_at our_tables.tables at t there) has in
+      let one = not-true _ (test_has (λ (j : Index). not (guards j t && clashes j.order j.columns (db.trees t.tree) r)) our_tables.indexes i all (listed_at our_tables.indexes place i listed)) in
+      elim (and_cases (guards i t) _ one) [ inl off ↦ absurd (let no = sym guard ∙ off in cc) | inr free ↦ free ]
+
+  -- so no row of floors in its client
   pub clients_once : (r : Row) → Has (db.trees floors_tree) r → clashes plain (1 ∷ []) (db.trees floors_tree) r ≡ false
-  clients_once r there = not-true _ (and_parts (not (clashes plain (1 ∷ []) (db.trees floors_tree) r)) _ (all_has _ (db.trees floors_tree) r keeps.1.1.1.1.1.1.0 there)).0
+  clients_once = key_apart schema.floors 6 schema.floors_index 5 refl refl refl

@@ -12,8 +12,7 @@ use Rattle.sqlite.specs.declared.types.Value.TheVariants.{Text}
 use Rattle.sqlite_rules.specs.Lists.{Has}
 use Rattle.sqlite_rules.proofs.ListLemmas.{has_filtered, has_kept, some_from, some_has}
 use Rattle.fax_check.specs.Reading.{known_of}
-use Rattle.fax_check.specs.Table.{ShowsCall, ShowsGrant, ShowsJob, has_holder, holds, is_held, stands}
-use Rattle.fax_check.specs.Whole.{HasHolder, Holder, IsHeld, Stands, dialing}
+use Rattle.fax_check.specs.Whole.{HasHolder, Holder, IsHeld, ShowsCall, ShowsGrant, ShowsJob, Stands, dialing, has_holder, holds, is_held, stands}
 use Rattle.fax_core.specs.Fits.{fits_phase, is_granted}
 use Rattle.fax_core.specs.Job.{job_of}
 use Rattle.fax_core.specs.declared.grants.Grant.{Grant}

@@ -1,5 +1,5 @@
 -- The rules of our tables say that each of their rows has all its columns.
-use Rattle.std.proofs.Common.{◌≡◌, ℕ, zero, suc, ◌+◌, ◌≤◌, List, [], ◌∷◌, map, drop, length, true, false, not, ◌||◌, Option, Some, None, refl, sym, ap, ap₂, subst, length-drop, add-one, ◌∙◌, arith}
+use Rattle.std.proofs.Common.{◌≡◌, ℕ, zero, suc, ◌+◌, ◌≤◌, List, [], ◌∷◌, map, drop, length, slice_get, true, false, not, ◌||◌, Option, Some, None, refl, sym, ap, ap₂, subst, length-drop, add-one, ◌∙◌, arith}
 use Rattle.std.specs.List.{list_all, range_with_len}
 use Rattle.std.proofs.lemmas.Bool.{and_parts}
 use Rattle.std.proofs.lemmas.Bool.Decides.{nat_tests}
@@ -10,6 +10,7 @@ use Rattle.sqlite.specs.declared.types.Value.{Value}
 use Rattle.sqlite.specs.declared.types.Value.TheVariants.{Null, Int, Real, Text, Blob}
 use Rattle.sqlite_rules.specs.Lists.{Has}
 use Rattle.sqlite_rules.proofs.ListLemmas.{all_has}
+use Rattle.sqlite_rules.proofs.RuleLemmas.{keeps_at}
 use Rattle.sqlite_schema.specs.Names.{is_key}
 use Rattle.sqlite_schema.specs.Rules.{Keeps, are_present, are_typed, is_of, passes as obeys}
 use Rattle.sqlite_schema.specs.declared.schema.Kind.TheVariants as kind
@@ -18,8 +19,9 @@ use Rattle.sqlite_schema.specs.declared.schema.Constraint.TheVariants.{Datatype,
 use Rattle.sqlite_schema.specs.declared.schema.Table.{Table}
 use Rattle.sqlite_sql.specs.Ops.{is_null}
 use Rattle.fax_check.specs.Sound.{IsStored}
+use Rattle.fax_schema.proofs.RowsLemmas.{listed_at}
 use Rattle.fax_schema.specs.Schema as schema
-use Rattle.fax_schema.specs.Schema.{our_tables, calls_tree, down_tree, floors_tree, grants_tree, holds_tree, jobs_tree, meta_tree, replies_tree}
+use Rattle.fax_schema.specs.Schema.{our_tables, calls_place, calls_tree, grants_tree, holds_tree, jobs_tree, meta_tree, replies_tree}
 
 -- ---- a row is the list of its columns
 
@@ -154,25 +156,26 @@ module _ (db : Database) (stored : IsStored db) where
         let k = keyed_row (schema.meta).columns r (omega arith) refl (typed schema.meta r has (all_has _ (db.trees meta_tree) r types.1.1.1.1.1.0 has)) (all_has _ (db.trees meta_tree) r needs.1.1.1.1.1.0 has) in
         columns_of 6 r k.0 ∙ ap (λ v. column r 0 ∷ v ∷ column r 2 ∷ column r 3 ∷ column r 4 ∷ column r 5 ∷ []) k.1
 
+    -- a row of a table without a key is the list of its columns, behind its rowid
+    pub free_columns : (t : Table) (at : ℕ) → slice_get our_tables.tables at ≡ Some t → t.key ≡ None → 1 ≤ length t.columns → list_all (λ c. c.not_null) t.columns ≡ true → Has (db.trees t.tree) r
+        → r ≡ map (column r) (range_with_len 0 (suc (length t.columns)))
+    free_columns t at there free some need has =
+        let listed = listed_at our_tables.tables at t there in
+        let of_type = subst (λ key. are_typed key 0 t.columns (drop 1 r) ≡ true) free (typed t r has (keeps_at Datatype our_tables db.trees t r types listed has)) in
+        let of_need = subst (λ key. are_present key 0 t.columns r ≡ true) free (keeps_at NotNull our_tables db.trees t r needs listed has) in
+        columns_of (suc (length t.columns)) r (free_row t.columns r some need of_type of_need)
+
     -- a hold's
     pub hold_columns_of : Has (db.trees holds_tree) r → r ≡ column r 0 ∷ column r 1 ∷ column r 2 ∷ column r 3 ∷ []
-    hold_columns_of has = columns_of 4 r (free_row (schema.holds).columns r (omega arith) refl (typed schema.holds r has (all_has _ (db.trees holds_tree) r types.1.1.0 has)) (all_has _ (db.trees holds_tree) r needs.1.1.0 has))
-
-    -- that of a modem that is down
-    pub down_columns_of : Has (db.trees down_tree) r → r ≡ column r 0 ∷ column r 1 ∷ []
-    down_columns_of has = columns_of 2 r (free_row (schema.down).columns r (omega arith) refl (typed schema.down r has (all_has _ (db.trees down_tree) r types.1.1.1.0 has)) (all_has _ (db.trees down_tree) r needs.1.1.1.0 has))
+    hold_columns_of has = free_columns schema.holds 2 refl refl (omega arith) refl has
 
     -- a reply's
     pub reply_columns_of : Has (db.trees replies_tree) r → r ≡ column r 0 ∷ column r 1 ∷ column r 2 ∷ column r 3 ∷ column r 4 ∷ column r 5 ∷ []
-    reply_columns_of has = columns_of 6 r (free_row (schema.replies).columns r (omega arith) refl (typed schema.replies r has (all_has _ (db.trees replies_tree) r types.1.1.1.1.0 has)) (all_has _ (db.trees replies_tree) r needs.1.1.1.1.0 has))
-
-    -- a floor's
-    pub floor_columns_of : Has (db.trees floors_tree) r → r ≡ column r 0 ∷ column r 1 ∷ column r 2 ∷ []
-    floor_columns_of has = columns_of 3 r (free_row (schema.floors).columns r (omega arith) refl (typed schema.floors r has (all_has _ (db.trees floors_tree) r types.1.1.1.1.1.1.0 has)) (all_has _ (db.trees floors_tree) r needs.1.1.1.1.1.1.0 has))
+    reply_columns_of has = free_columns schema.replies 4 refl refl (omega arith) refl has
 
     -- and that of a number that is dialed
     pub call_columns_of : Has (db.trees calls_tree) r → r ≡ column r 0 ∷ column r 1 ∷ column r 2 ∷ []
-    call_columns_of has = columns_of 3 r (free_row (schema.calls).columns r (omega arith) refl (typed schema.calls r has (all_has _ (db.trees calls_tree) r types.1.1.1.1.1.1.1.0 has)) (all_has _ (db.trees calls_tree) r needs.1.1.1.1.1.1.1.0 has))
+    call_columns_of has = free_columns schema.calls calls_place refl refl (omega arith) refl has
 
     -- what was said and the body of a reply are blobs
     pub reply_blobs : Has (db.trees replies_tree) r → (said : List ℕ) × (body : List ℕ) × (column r 3 ≡ Blob said) × (column r 5 ≡ Blob body)
@@ -196,6 +199,6 @@ module _ (db : Database) (stored : IsStored db) where
     -- a number that is dialed is a text
     pub call_text : Has (db.trees calls_tree) r → (dial : List ℕ) × (column r 1 ≡ Text dial)
     call_text has =
-        let of_type = subst (λ (row : Row). are_typed None 0 schema.calls.columns (drop 1 row) ≡ true) (call_columns_of has) (typed schema.calls r has (all_has _ (db.trees calls_tree) r types.1.1.1.1.1.1.1.0 has)) in
-        let of_need : are_present None 0 schema.calls.columns r ≡ true = all_has _ (db.trees calls_tree) r needs.1.1.1.1.1.1.1.0 has in
+        let of_type = subst (λ (row : Row). are_typed None 0 schema.calls.columns (drop 1 row) ≡ true) (call_columns_of has) (typed schema.calls r has (keeps_at Datatype our_tables db.trees schema.calls r types (listed_at our_tables.tables calls_place schema.calls refl) has)) in
+        let of_need : are_present None 0 schema.calls.columns r ≡ true = keeps_at NotNull our_tables db.trees schema.calls r needs (listed_at our_tables.tables calls_place schema.calls refl) has in
         text_is (column r 1) (and_parts _ _ of_type).0 (and_parts _ _ of_need).0

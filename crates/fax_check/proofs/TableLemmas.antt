@@ -1,5 +1,5 @@
--- What a pass decides of a table.
-use Rattle.std.proofs.Common.{◌≡◌, inl, inr, ℕ, ℤ, ◌+◌, ◌==◌, List, [], All, true, Option, Some, None, length, MatchOption, refl, sym, subst, ◌∙◌, arith}
+-- The queries for all rows of each table, and what a pass over these decides: a row is as it has to be just where it shows what it has to.
+use Rattle.std.proofs.Common.{◌≡◌, inl, inr, ℕ, ℤ, ◌+◌, ◌==◌, List, [], ◌∷◌, All, true, Option, Some, None, length, drop, MatchOption, refl, sym, ap, subst, ◌∙◌, arith, codes}
 use Rattle.std.specs.Prelude.{⊤}
 use Rattle.std.proofs.lemmas.Bool.{cases_Bool, eqb-true, true≢false}
 use Rattle.std.proofs.lemmas.Bool.Decides.{nat_tests}
@@ -7,25 +7,149 @@ use Rattle.sqlite.specs.Effect.{Database}
 use Rattle.sqlite.specs.Order.{Row}
 use Rattle.sqlite.specs.Program.{overlay}
 use Rattle.sqlite.specs.State.{State, Shown}
+use Rattle.sqlite.specs.declared.types.Value.TheVariants.{Text}
 use Rattle.sqlite_rules.specs.Lists.{Has}
-use Rattle.sqlite_sql.specs.Term.{Term}
+use Rattle.sqlite_sql.specs.Term.{Term, col}
 use Rattle.sqlite_trees.specs.Tree.{Trees}
 use Rattle.fax_check.specs.Check.{IsTableChecked, Told, flaw_in, flaw_of}
-use Rattle.fax_check.specs.Pass.{IsTally, text_of}
+use Rattle.fax_check.specs.Pass.{IsTally}
+use Rattle.fax_check.specs.Whole.{Each, Holder, IsCallRow, IsDownRow, IsFloorRow, IsGrantRow, IsJobRow, IsReplyRow, Shows, ShowsCall, ShowsFloor, ShowsGrant, ShowsJob, ShowsName, ShowsReply, text_of}
 use Rattle.fax_check.specs.Sound.{IsStored}
-use Rattle.fax_check.specs.Table.{Shows}
-use Rattle.fax_check.specs.Whole.{Each, Holder, IsCallRow, IsDownRow, IsFloorRow, IsGrantRow, IsJobRow, IsReplyRow}
 use Rattle.fax_check.specs.declared.pass.Tally.{Tally}
 use Rattle.fax_check.specs.declared.tables.Table.{Table}
 use Rattle.fax_check.specs.declared.tables.Table.TheVariants.{Calls, Down, Floors, Grants, Holds, Jobs, Meta as TheMeta, Replies}
 use Rattle.fax_check.proofs.BridgeLemmas as bridge
-use Rattle.fax_check.proofs.CheckTexts as texts
+use Rattle.fax_check.proofs.BridgeLemmas.{at_is, five, two, unshown_grant, unshown_job}
+use Rattle.fax_check.proofs.ShapeLemmas as shape
 use Rattle.fax_schema.proofs.GrantTexts.{grant_names, grant_project}
 use Rattle.fax_schema.proofs.SelectLemmas.{show}
 use Rattle.fax_schema.proofs.StatementForms.{Selects}
-use Rattle.fax_schema.proofs.StatementTexts.{job_names, job_project}
-use Rattle.fax_schema.specs.Schema.{calls_tree, down_tree, floors_tree, grants_tree, jobs_tree, replies_tree}
+use Rattle.fax_schema.proofs.StatementTexts.{job_names, job_project, select_meta}
+use Rattle.fax_schema.specs.Schema as schema
+use Rattle.fax_schema.specs.Schema.{calls_tree, down_tree, floors_tree, grants_tree, jobs_tree, replies_tree, holds_tree}
+use Rattle.fax_tables.specs.Row.{entry_columns, number}
 use Rattle.fax_tables.specs.declared.meta.Meta.{Meta}
+use Rattle.fax_core.specs.Queue.{Entry}
+use Rattle.sqlite.specs.Listing.{understood}
+use Rattle.sqlite_tied.specs.Compute.{everything}
+use Rattle.fax_check.specs.declared.tables.TheConstants.{SELECT_ALL_JOBS, SELECT_ALL_GRANTS, SELECT_ALL_HOLDS, SELECT_ALL_DOWN, SELECT_ALL_REPLIES, SELECT_ALL_FLOORS, SELECT_ALL_CALLS}
+use Rattle.fax_store.specs.Store.{IsQueryText}
+
+-- ---- what the queries mean
+
+pub select_all_jobs : Selects SELECT_ALL_JOBS.now jobs_tree [] job_project job_names
+unfolding understood everything
+select_all_jobs = record { command = refl; plain = (refl, refl); unlisted = refl }
+
+pub select_all_grants : Selects SELECT_ALL_GRANTS.now grants_tree [] grant_project grant_names
+unfolding understood everything
+select_all_grants = record { command = refl; plain = (refl, refl); unlisted = refl }
+
+abbrev pub all_holds_project : List Term
+all_holds_project = col 1 1 ∷ col 1 2 ∷ col 1 3 ∷ col 1 0 ∷ []
+
+pub select_all_holds : Selects SELECT_ALL_HOLDS.now holds_tree [] all_holds_project (codes "modem" ∷ codes "job" ∷ codes "id" ∷ codes "rowid" ∷ [])
+unfolding understood everything
+select_all_holds = record { command = refl; plain = (refl, refl); unlisted = refl }
+
+abbrev pub all_down_project : List Term
+all_down_project = col 1 1 ∷ col 1 0 ∷ []
+
+pub select_all_down : Selects SELECT_ALL_DOWN.now down_tree [] all_down_project (codes "modem" ∷ codes "rowid" ∷ [])
+unfolding understood everything
+select_all_down = record { command = refl; plain = (refl, refl); unlisted = refl }
+
+abbrev pub all_replies_project : List Term
+all_replies_project = col 1 1 ∷ col 1 2 ∷ col 1 3 ∷ col 1 4 ∷ col 1 5 ∷ col 1 0 ∷ []
+
+pub select_all_replies : Selects SELECT_ALL_REPLIES.now replies_tree [] all_replies_project (codes "client" ∷ codes "number" ∷ codes "said" ∷ codes "status" ∷ codes "body" ∷ codes "rowid" ∷ [])
+unfolding understood everything
+select_all_replies = record { command = refl; plain = (refl, refl); unlisted = refl }
+
+abbrev pub all_floors_project : List Term
+all_floors_project = col 1 1 ∷ col 1 2 ∷ col 1 0 ∷ []
+
+pub select_all_floors : Selects SELECT_ALL_FLOORS.now floors_tree [] all_floors_project (codes "client" ∷ codes "upto" ∷ codes "rowid" ∷ [])
+unfolding understood everything
+select_all_floors = record { command = refl; plain = (refl, refl); unlisted = refl }
+
+abbrev pub all_calls_project : List Term
+all_calls_project = col 1 1 ∷ col 1 2 ∷ col 1 0 ∷ []
+
+pub select_all_calls : Selects SELECT_ALL_CALLS.now calls_tree [] all_calls_project (codes "dial" ∷ codes "open" ∷ codes "rowid" ∷ [])
+unfolding understood everything
+select_all_calls = record { command = refl; plain = (refl, refl); unlisted = refl }
+
+-- the query for all rows of a table only reads
+pub is_query : (table : Table) → IsQueryText (text_of table)
+is_query Jobs = select_all_jobs.plain
+is_query Grants = select_all_grants.plain
+is_query Holds = select_all_holds.plain
+is_query Down = select_all_down.plain
+is_query Replies = select_all_replies.plain
+is_query Floors = select_all_floors.plain
+is_query Calls = select_all_calls.plain
+is_query TheMeta = select_meta.plain
+
+-- ---- a row of each table
+
+module _ (db : Database) (stored : IsStored db) (meta : Meta) (held : List Holder) (r : Row) where
+  -- a job's
+  pub job_is : Has (db.trees jobs_tree) r → ShowsJob meta held (show jobs_tree [] job_project [] r) → IsJobRow meta held r
+  job_is has it = record { job = it.job; is = shape.job_columns_of db stored r has ∙ ap unshown_job it.is; lawful = it.lawful; before = it.before; stands = it.stands }
+
+  pub job_shows : IsJobRow meta held r → ShowsJob meta held (show jobs_tree [] job_project [] r)
+  job_shows it = record { job = it.job; is = ap (show jobs_tree [] job_project []) it.is; lawful = it.lawful; before = it.before; stands = it.stands }
+
+  -- a grant's
+  pub grant_is : Has (db.trees grants_tree) r → ShowsGrant meta held (show grants_tree [] grant_project [] r) → IsGrantRow meta held r
+  grant_is has it = record { grant = it.grant; is = shape.grant_columns_of db stored r has ∙ ap unshown_grant it.is; lawful = it.lawful; before = it.before; is_held = it.is_held }
+
+  pub grant_shows : IsGrantRow meta held r → ShowsGrant meta held (show grants_tree [] grant_project [] r)
+  grant_shows it = record { grant = it.grant; is = ap (show grants_tree [] grant_project []) it.is; lawful = it.lawful; before = it.before; is_held = it.is_held }
+
+  -- that of a modem that is down
+  pub down_is : Has (db.trees down_tree) r → ShowsName (show down_tree [] all_down_project [] r) 0 → IsDownRow r
+  down_is has it = (it.0, ap (drop 1) (shape.free_columns db stored r schema.down 3 refl refl (omega arith) refl has) ∙ ap (λ v. v ∷ []) it.1.is, it.2)
+
+  pub down_shows : IsDownRow r → ShowsName (show down_tree [] all_down_project [] r) 0
+  down_shows it = (it.0, record { within = omega arith; is = at_is r 0 (Text it.0 ∷ []) it.1 }, it.2)
+
+  -- a reply's
+  pub reply_is : Has (db.trees replies_tree) r → ShowsReply (show replies_tree [] all_replies_project [] r) → IsReplyRow r
+  reply_is has it =
+      let blobs = shape.reply_blobs db stored r has in
+      let e : Entry = record { client = it.client.0; number = it.number.0; said = blobs.0; status = it.status.0; body = blobs.1 } in (
+        e,
+        ap (drop 1) (shape.reply_columns_of db stored r has) ∙ five it.client.1.is it.number.1.is blobs.2 it.status.1.is blobs.3,
+        record { client = it.client.2; number = (it.number.2, it.number.3); status = it.status.2 },
+      )
+
+  pub reply_shows : IsReplyRow r → ShowsReply (show replies_tree [] all_replies_project [] r)
+  reply_shows it = record {
+    client = (it.0.client, record { within = omega arith; is = at_is r 0 (entry_columns it.0) it.1 }, it.2.client);
+    number = (it.0.number, record { within = omega arith; is = at_is r 1 (entry_columns it.0) it.1 }, it.2.number.0, it.2.number.1);
+    status = (it.0.status, record { within = omega arith; is = at_is r 3 (entry_columns it.0) it.1 }, it.2.status);
+  }
+
+  -- a floor's
+  pub floor_is : Has (db.trees floors_tree) r → ShowsFloor (show floors_tree [] all_floors_project [] r) → IsFloorRow r
+  floor_is has it = (it.client.0, it.upto.0, ap (drop 1) (shape.free_columns db stored r schema.floors 6 refl refl (omega arith) refl has) ∙ two it.client.1.is it.upto.1.is, it.client.2, it.upto.2, it.upto.3)
+
+  pub floor_shows : IsFloorRow r → ShowsFloor (show floors_tree [] all_floors_project [] r)
+  floor_shows it = record {
+    client = (it.0, record { within = omega arith; is = at_is r 0 (Text it.0 ∷ number it.1 ∷ []) it.2 }, it.3);
+    upto = (it.1, record { within = omega arith; is = at_is r 1 (Text it.0 ∷ number it.1 ∷ []) it.2 }, it.4, it.5);
+  }
+
+  -- and that of a number that is dialed
+  pub call_is : Has (db.trees calls_tree) r → ShowsCall held (show calls_tree [] all_calls_project [] r) → IsCallRow held r
+  call_is has it = (it.0, it.1, ap (drop 1) (shape.call_columns_of db stored r has) ∙ two it.2.is it.3.is)
+
+  pub call_shows : IsCallRow held r → ShowsCall held (show calls_tree [] all_calls_project [] r)
+  call_shows it = (it.0, it.1, record { within = omega arith; is = at_is r 0 _ it.2 }, record { within = omega arith; is = at_is r 1 _ it.2 })
+
+-- ---- what a pass decides
 
 -- where the rows that are read are as they have to be just where the table is whole, so it is told
 told : (table : Table) (A W : Type 0) → (A → W) → (W → A) → (o : Option ℤ) → MatchOption o A (λ _. ¬ A) → Told W (flaw_in table true o)
@@ -71,16 +195,16 @@ module _ (old new : State) (db : Database) (stored : IsStored db) (now : old.now
   pub table_checked : (table : Table) (tally : Tally) → Shown (text_of table) [] old new rows → IsTally (Shows meta held table) rows tally
       → IsTableChecked meta held table db (flaw_of table meta tally)
   table_checked Jobs tally shown t =
-      checked_all (text_of Jobs) jobs_tree job_project job_names texts.select_all_jobs (λ trees. refl) (Shows meta held Jobs) (IsJobRow meta held) (bridge.job_is db stored meta held) (bridge.job_shows db stored meta held) shown Jobs meta.next_job tally t
+      checked_all (text_of Jobs) jobs_tree job_project job_names select_all_jobs (λ trees. refl) (Shows meta held Jobs) (IsJobRow meta held) (job_is db stored meta held) (job_shows db stored meta held) shown Jobs meta.next_job tally t
   table_checked Grants tally shown t =
-      checked_all (text_of Grants) grants_tree grant_project grant_names texts.select_all_grants (λ trees. refl) (Shows meta held Grants) (IsGrantRow meta held) (bridge.grant_is db stored meta held) (bridge.grant_shows db stored meta held) shown Grants meta.next_grant tally t
+      checked_all (text_of Grants) grants_tree grant_project grant_names select_all_grants (λ trees. refl) (Shows meta held Grants) (IsGrantRow meta held) (grant_is db stored meta held) (grant_shows db stored meta held) shown Grants meta.next_grant tally t
   table_checked Down tally shown t =
-      checked (text_of Down) down_tree texts.all_down_project _ texts.select_all_down (λ trees. refl) (Shows meta held Down) IsDownRow (bridge.down_is db stored meta held) (bridge.down_shows db stored meta held) shown Down tally t
+      checked (text_of Down) down_tree all_down_project _ select_all_down (λ trees. refl) (Shows meta held Down) IsDownRow (down_is db stored meta held) (down_shows db stored meta held) shown Down tally t
   table_checked Replies tally shown t =
-      checked (text_of Replies) replies_tree texts.all_replies_project _ texts.select_all_replies (λ trees. refl) (Shows meta held Replies) IsReplyRow (bridge.reply_is db stored meta held) (bridge.reply_shows db stored meta held) shown Replies tally t
+      checked (text_of Replies) replies_tree all_replies_project _ select_all_replies (λ trees. refl) (Shows meta held Replies) IsReplyRow (reply_is db stored meta held) (reply_shows db stored meta held) shown Replies tally t
   table_checked Floors tally shown t =
-      checked (text_of Floors) floors_tree texts.all_floors_project _ texts.select_all_floors (λ trees. refl) (Shows meta held Floors) IsFloorRow (bridge.floor_is db stored meta held) (bridge.floor_shows db stored meta held) shown Floors tally t
+      checked (text_of Floors) floors_tree all_floors_project _ select_all_floors (λ trees. refl) (Shows meta held Floors) IsFloorRow (floor_is db stored meta held) (floor_shows db stored meta held) shown Floors tally t
   table_checked Calls tally shown t =
-      checked (text_of Calls) calls_tree texts.all_calls_project _ texts.select_all_calls (λ trees. refl) (Shows meta held Calls) (IsCallRow held) (bridge.call_is db stored meta held) (bridge.call_shows db stored meta held) shown Calls tally t
+      checked (text_of Calls) calls_tree all_calls_project _ select_all_calls (λ trees. refl) (Shows meta held Calls) (IsCallRow held) (call_is db stored meta held) (call_shows db stored meta held) shown Calls tally t
   table_checked Holds tally shown t = no_flaw Holds rows tally t
   table_checked TheMeta tally shown t = no_flaw TheMeta rows tally t

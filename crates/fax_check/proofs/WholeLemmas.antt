@@ -17,7 +17,8 @@ use Rattle.sqlite_rules.proofs.ListLemmas.{all_from, all_has, has_filtered, has_
 use Rattle.sqlite_rules.proofs.ProbeLemmas.{mapped_has}
 use Rattle.sqlite_trees.proofs.ListLemmas.{IsPermutation-filter, ascending-filter, ascending-map, ascending_weaker, filter-map, filter_same, map-map}
 use Rattle.fax_check.specs.Sound.{IsSound, IsStored}
-use Rattle.fax_check.specs.Whole.{AreWhole, Holder, IsHeld, IsRightHolder, Stands, dialing, holder_columns}
+use Rattle.fax_check.specs.declared.tables.Table.TheVariants.{Calls, Down, Floors, Grants, Jobs, Replies}
+use Rattle.fax_check.specs.Whole.{AreWhole, Holder, IsWholeTable, IsHeld, IsRightHolder, Stands, dialing, holder_columns}
 use Rattle.fax_check.proofs.FieldLemmas.{dial_of as dialed_by, fit_of, number_of, one_grant, same_holder}
 use Rattle.fax_check.proofs.FloorLemmas.{IsLawfulFloor, columns_of, floor_in, floors_counted, floors_lawful}
 use Rattle.fax_check.proofs.HeldLemmas.{held_apart, one_of_job, one_of_modem}
@@ -60,29 +61,49 @@ record Its (m : Queue) (fs : List JobFields) (h : Holder) : Type 0 where
   fit : fits job (Some grant) ≡ true
 
 module _ (db : Database) (meta : Meta) (held : List Holder) (stored : IsStored db) (whole : AreWhole db meta held) where
+  -- ---- the tables that are passed
+
+  whole_grants : IsWholeTable meta held db Grants
+  whole_grants = whole.tables 0 Grants (omega arith)
+
+  whole_jobs : IsWholeTable meta held db Jobs
+  whole_jobs = whole.tables 1 Grants (omega arith)
+
+  whole_down : IsWholeTable meta held db Down
+  whole_down = whole.tables 2 Grants (omega arith)
+
+  whole_replies : IsWholeTable meta held db Replies
+  whole_replies = whole.tables 3 Grants (omega arith)
+
+  whole_floors : IsWholeTable meta held db Floors
+  whole_floors = whole.tables 4 Grants (omega arith)
+
+  whole_calls : IsWholeTable meta held db Calls
+  whole_calls = whole.tables 5 Grants (omega arith)
+
   -- ---- the queue
 
   abbrev IsJobOf : JobFields → Type 0
   IsJobOf f = IsLawfulJob (job_of f) × (f.job < meta.next_job) × Stands held f
 
   jobs_made : Made job_row IsJobOf (db.trees jobs_tree)
-  jobs_made = made job_row IsJobOf (db.trees jobs_tree) (λ r has. let it = whole.jobs r has in (it.job, it.is, (it.lawful, it.before, it.stands)))
+  jobs_made = made job_row IsJobOf (db.trees jobs_tree) (λ r has. let it = whole_jobs.0 r has in (it.job, it.is, (it.lawful, it.before, it.stands)))
 
   abbrev IsGrantOf : Grant → Type 0
   IsGrantOf g = IsLawfulGrant g × (g.number < meta.next_grant) × (IsTrue g.is_open → IsHeld held g)
 
   grants_made : Made grant_row IsGrantOf (db.trees grants_tree)
-  grants_made = made grant_row IsGrantOf (db.trees grants_tree) (λ r has. let it = whole.grants r has in (it.grant, it.is, (it.lawful, it.before, it.is_held)))
+  grants_made = made grant_row IsGrantOf (db.trees grants_tree) (λ r has. let it = whole_grants.0 r has in (it.grant, it.is, (it.lawful, it.before, it.is_held)))
 
   down_made : Made down_columns IsName (map (drop 1) (db.trees down_tree))
-  down_made = made_columns down_columns IsName (db.trees down_tree) whole.down
+  down_made = made_columns down_columns IsName (db.trees down_tree) whole_down
 
   replies_made : Made entry_columns IsLawfulEntry (map (drop 1) (db.trees replies_tree))
-  replies_made = made_columns entry_columns IsLawfulEntry (db.trees replies_tree) whole.replies
+  replies_made = made_columns entry_columns IsLawfulEntry (db.trees replies_tree) whole_replies
 
   floors_made : Made columns_of IsLawfulFloor (map (drop 1) (db.trees floors_tree))
   floors_made = made_columns columns_of IsLawfulFloor (db.trees floors_tree) (λ r has.
-      let it = whole.floors r has in
+      let it = whole_floors r has in
       (record { client = it.0; upto = it.1 }, it.2, record { name = it.3; some = it.4; low = it.5 }))
 
   abbrev queue : Queue
@@ -136,7 +157,7 @@ module _ (db : Database) (meta : Meta) (held : List Holder) (stored : IsStored d
           let least : 1 ≤ (f.0).job = leb-true 1 (f.0).job (and_parts (leb 1 (f.0).job) (leb (f.0).job last_job) (within_limits_of (fields_of (job_of f.0)) it.0.limits).number).0 in
           let same : j.number ≡ (f.0).job = ap (λ (x : Job). x.number) f.2 in
           let before : (f.0).job < meta.next_job = it.1 in
-          (omega (arith, least, same), omega (arith, before, same, whole.all_jobs, jobs_long))
+          (omega (arith, least, same), omega (arith, before, same, whole_jobs.1, jobs_long))
 
   -- so are grants
   grants_numbered : map (λ (g : Grant). g.number) queue.grants ≡ range_with_len 1 (length queue.grants)
@@ -146,7 +167,7 @@ module _ (db : Database) (meta : Meta) (held : List Holder) (stored : IsStored d
       within g has =
           let it = grants_made.each g has in
           let before : g.number < meta.next_grant = it.1 in
-          (it.0.limits.number.0, omega (arith, before, whole.all_grants, grants_long))
+          (it.0.limits.number.0, omega (arith, before, whole_grants.1, grants_long))
 
   -- ---- holders
 
@@ -255,7 +276,7 @@ module _ (db : Database) (meta : Meta) (held : List Holder) (stored : IsStored d
   dialed = record {
     each = λ row has.
         let r = has_mapped (drop 1) (db.trees calls_tree) row has in
-        let it = whole.calls r.0 r.1 in
+        let it = whole_calls r.0 r.1 in
         ((it.0).dial, r.2 ∙ it.2, some_length (filter (dials_it (it.0).dial) held) it.0 (has_kept (dials_it (it.0).dial) held it.0 it.1 ((bytes_eq-Decides (it.0).dial (it.0).dial).1 refl)));
     all = λ dial some.
         let x = one_there (filter (dials_it dial) held) some in
@@ -350,9 +371,9 @@ module _ (db : Database) (meta : Meta) (held : List Holder) (stored : IsStored d
   queue_sound : Sound queue
   queue_sound = record {
     jobs = jobs_numbered;
-    next_job = sym whole.all_jobs ∙ ap (λ n. n + 1) jobs_long;
+    next_job = sym whole_jobs.1 ∙ ap (λ n. n + 1) jobs_long;
     grants = grants_numbered;
-    next_grant = sym whole.all_grants ∙ ap (λ n. n + 1) grants_long;
+    next_grant = sym whole_grants.1 ∙ ap (λ n. n + 1) grants_long;
     one_to_a_modem = one_to_a_modem;
     one_of_a_job = one_of_a_job;
     held = held_fits;

@@ -1,33 +1,21 @@
 -- What a check decides.
-use Rattle.std.specs.Prelude.{◌≡◌, ℕ, ℤ, ◌+◌, ◌==◌, Bool, true, List, [], ◌∷◌, All, codes, Option, Some, None, drop, map, if◌then◌else◌}
+use Rattle.std.specs.Prelude.{◌≡◌, ℕ, ℤ, ◌+◌, ◌==◌, Bool, true, List, [], ◌∷◌, All, Option, Some, None, drop, map, if◌then◌else◌}
 use Rattle.std.specs.List.Sorted.{IsPermutation}
 use Rattle.sqlite.specs.Effect.{Database}
 use Rattle.sqlite.specs.Order.{Row}
 use Rattle.sqlite_rules.specs.Lists.{Has}
 use Rattle.fax_core.specs.Queue.{Queue}
 use Rattle.fax_check.specs.Sound.{IsSound}
-use Rattle.fax_check.specs.Table.{IsWholeTable}
-use Rattle.fax_check.specs.Whole.{Holder, IsRightHolder, dialing, holder_columns, numbers_row}
+use Rattle.fax_check.specs.Whole.{Holder, IsRightHolder, IsWholeTable, dialing, holder_columns, numbers_row, passed}
 use Rattle.fax_check.specs.declared.pass.Tally.{Tally}
 use Rattle.fax_check.specs.declared.tables.Flaw.{Flaw}
 use Rattle.fax_check.specs.declared.tables.Table.{Table}
-use Rattle.fax_check.specs.declared.tables.Table.TheVariants.{Calls, Down, Floors, Grants, Holds, Jobs, Meta as TheMeta, Replies}
+use Rattle.fax_check.specs.declared.tables.Table.TheVariants.{Grants, Jobs}
 use Rattle.fax_schema.specs.Schema.{calls_tree, holds_tree, meta_tree}
 use Rattle.fax_tables.specs.Meta.{with_meta}
 use Rattle.fax_tables.specs.Row.{call_columns, number}
 use Rattle.fax_tables.specs.Tables.{IsLawfulMeta, versions}
 use Rattle.fax_tables.specs.declared.meta.Meta.{Meta}
-
--- the name of a table
-abbrev pub table_name : Table → List ℕ
-table_name Jobs = codes "jobs"
-table_name Grants = codes "grants"
-table_name Holds = codes "holds"
-table_name Down = codes "down"
-table_name Replies = codes "replies"
-table_name Floors = codes "floors"
-table_name Calls = codes "calls"
-table_name TheMeta = codes "meta"
 
 -- this holds where no flaw is told, and doesn't where one is
 abbrev pub Told : Type 0 → Option Flaw → Type 0
@@ -83,10 +71,6 @@ flaw_of table meta tally = flaw_in table (are_all table meta tally.rows) tally.f
 abbrev pub IsTableChecked : Meta → List Holder → Table → Database → Option Flaw → Type 0
 IsTableChecked meta held table db found = Told (IsWholeTable meta held db table) found
 
--- in this order
-abbrev pub passed : List Table
-passed = Grants ∷ Jobs ∷ Down ∷ Replies ∷ Floors ∷ Calls ∷ []
-
--- whether all of these are
+-- whether all that are passed are
 abbrev pub AreTablesChecked : Meta → List Holder → Database → Option Flaw → Type 0
 AreTablesChecked meta held db found = Told (All (IsWholeTable meta held db) passed) found

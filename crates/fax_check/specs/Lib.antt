@@ -1,7 +1,6 @@
 pub mod Whole
 pub mod Sound
 pub mod Reading
-pub mod Table
 pub mod Holders
 pub mod Pass
 pub mod Check

@@ -9,24 +9,9 @@ use Rattle.sqlite_trees.specs.declared.store.Store.{Ghosts}
 use Rattle.fax_check.specs.declared.pass.Step.{Step}
 use Rattle.fax_check.specs.declared.pass.Step.TheVariants.{End, Right, Wrong}
 use Rattle.fax_check.specs.declared.pass.Tally.{Tally}
-use Rattle.fax_check.specs.declared.tables.Table.{Table}
-use Rattle.fax_check.specs.declared.tables.Table.TheVariants.{Calls, Down, Floors, Grants, Holds, Jobs, Meta as TheMeta, Replies}
-use Rattle.fax_check.specs.declared.statements.TheConstants.{SELECT_ALL_CALLS, SELECT_ALL_DOWN, SELECT_ALL_FLOORS, SELECT_ALL_GRANTS, SELECT_ALL_HOLDS, SELECT_ALL_JOBS, SELECT_ALL_REPLIES}
-use Rattle.fax_schema.specs.declared.statements.TheConstants.{SELECT_META}
 use Rattle.fax_store.specs.Store.{CommitsNothing, LeavesCommit}
 use Rattle.fax_tables.specs.declared.fault.StoreFault.{StoreFault}
 use Rattle.fax_tables.specs.declared.fault.StoreFault.TheVariants.{Unavailable}
-
--- the query for all rows of a table
-abbrev pub text_of : Table → List ℕ
-text_of Jobs = SELECT_ALL_JOBS.now
-text_of Grants = SELECT_ALL_GRANTS.now
-text_of Holds = SELECT_ALL_HOLDS.now
-text_of Down = SELECT_ALL_DOWN.now
-text_of Replies = SELECT_ALL_REPLIES.now
-text_of Floors = SELECT_ALL_FLOORS.now
-text_of Calls = SELECT_ALL_CALLS.now
-text_of TheMeta = SELECT_META.now
 
 -- so many rows were read, and each is as it has to be, or one isn't
 pub record IsTally (P : Row → Type 0) (rows : List Row) (tally : Tally) : Type 0 where

@@ -1,5 +1,6 @@
--- What each row of the eight tables has to be, one by one, so that they are those of a sound queue.
-use Rattle.std.specs.Prelude.{◌≡◌, ◌⊎◌, ℕ, ◌+◌, ◌<◌, ◌≤◌, ◌^◌, List, [], ◌∷◌, All, Some, None, map, filter, length, drop, IsTrue}
+-- What each row of the eight tables has to be, one by one, so that they are those of a sound queue, and what it shows.
+use Rattle.std.specs.Prelude.{◌≡◌, ◌⊎◌, ⊤, ℕ, ◌+◌, ◌<◌, ◌≤◌, ◌^◌, ◌==◌, ◌&&◌, Bool, List, [], ◌∷◌, All, Some, None, codes, map, filter, length, drop, IsTrue, if◌then◌else◌}
+use Rattle.std.specs.List.{list_any}
 use Rattle.std.specs.List.Sorted.{IsPermutation}
 use Rattle.std.specs.Str.{bytes_eq}
 use Rattle.sqlite.specs.Effect.{Database}
@@ -12,11 +13,16 @@ use Rattle.fax_core.specs.Queue.{Entry, Queue}
 use Rattle.fax_core.specs.declared.grants.Grant.{Grant}
 use Rattle.fax_value.specs.Name.{IsName}
 use Rattle.fax_job.specs.declared.job.JobFields.{JobFields}
+use Rattle.fax_check.specs.declared.tables.Table.{Table}
+use Rattle.fax_check.specs.declared.tables.Table.TheVariants.{Calls, Down, Floors, Grants, Holds, Jobs, Meta as TheMeta, Replies}
+use Rattle.fax_check.specs.declared.tables.TheConstants.{PASSED, SELECT_ALL_CALLS, SELECT_ALL_DOWN, SELECT_ALL_FLOORS, SELECT_ALL_GRANTS, SELECT_ALL_HOLDS, SELECT_ALL_JOBS, SELECT_ALL_REPLIES}
+use Rattle.fax_schema.specs.declared.statements.TheConstants.{SELECT_META}
 use Rattle.fax_schema.specs.Schema.{calls_tree, down_tree, floors_tree, grants_tree, holds_tree, jobs_tree, meta_tree, replies_tree}
-use Rattle.fax_tables.specs.Job.{IsLawfulJob}
+use Rattle.fax_tables.specs.Grant.{grant_shown}
+use Rattle.fax_tables.specs.Job.{IsLawfulJob, job_shown}
 use Rattle.fax_tables.specs.Meta.{with_meta}
-use Rattle.fax_tables.specs.Row.{number, job_row, grant_row, down_columns, entry_columns, floor_columns, call_columns}
-use Rattle.fax_tables.specs.Tables.{IsLawfulEntry, IsLawfulGrant, IsLawfulMeta}
+use Rattle.fax_tables.specs.Row.{HasNumber, HasValue, number, job_row, grant_row, down_columns, entry_columns, floor_columns, call_columns}
+use Rattle.fax_tables.specs.Tables.{IsKeptStatus, IsLawfulEntry, IsLawfulGrant, IsLawfulMeta}
 use Rattle.fax_tables.specs.declared.meta.Meta.{Meta}
 pub use Rattle.fax_check.specs.declared.holders.Holder.{Holder}
 
@@ -96,6 +102,111 @@ IsCallRow held row = (h : Holder) × Has held h × (drop 1 row ≡ call_columns 
 abbrev pub Each : Database → ℕ → (Row → Type 0) → Type 0
 Each db tree P = (row : Row) → Has (db.trees tree) row → P row
 
+-- ---- tests of holders
+
+abbrev pub has_holder : List Holder → ℕ → Bool
+has_holder held n = list_any (λ h. h.job == n) held
+
+abbrev pub holds : Grant → Holder → Bool
+holds g h = bytes_eq h.modem g.modem && (h.job == g.job) && (h.grant == g.number)
+
+abbrev pub is_held : List Holder → Grant → Bool
+is_held held g = list_any (holds g) held
+
+abbrev pub stands : List Holder → JobFields → Bool
+stands held f = if is_granted f.phase then has_holder held f.job else fits f None
+
+-- ---- a row as it is shown
+
+pub record ShowsJob (meta : Meta) (held : List Holder) (row : Row) : Type 0 where
+  pub job : JobFields
+  pub is : row ≡ job_shown job
+  pub lawful : IsLawfulJob (job_of job)
+  pub before : job.job < meta.next_job
+  pub stands : Stands held job
+
+pub record ShowsGrant (meta : Meta) (held : List Holder) (row : Row) : Type 0 where
+  pub grant : Grant
+  pub is : row ≡ grant_shown grant
+  pub lawful : IsLawfulGrant grant
+  pub before : grant.number < meta.next_grant
+  pub is_held : IsTrue grant.is_open → IsHeld held grant
+
+-- a name in this place
+abbrev pub ShowsName : Row → ℕ → Type 0
+ShowsName row at = (name : List ℕ) × HasValue row at (Text name) × IsName name
+
+-- a request number: from 1 to the greatest
+abbrev pub HasRequestNumber : Row → ℕ → Type 0
+HasRequestNumber row at = (number : ℕ) × HasNumber row at number × (1 ≤ number) × (number < 10 ^ 18)
+
+-- the status of a kept reply
+abbrev pub HasStatus : Row → ℕ → Type 0
+HasStatus row at = (status : ℕ) × HasNumber row at status × IsKeptStatus status
+
+pub record ShowsReply (row : Row) : Type 0 where
+  pub client : ShowsName row 0
+  pub number : HasRequestNumber row 1
+  pub status : HasStatus row 3
+
+pub record ShowsFloor (row : Row) : Type 0 where
+  pub client : ShowsName row 0
+  pub upto : HasRequestNumber row 1
+
+abbrev pub ShowsCall : List Holder → Row → Type 0
+ShowsCall held row = (h : Holder) × Has held h × HasValue row 0 (Text h.dial) × HasNumber row 1 (dialing h.dial held)
+
+-- ---- the tables
+
+-- the name of a table
+abbrev pub table_name : Table → List ℕ
+table_name Jobs = codes "jobs"
+table_name Grants = codes "grants"
+table_name Holds = codes "holds"
+table_name Down = codes "down"
+table_name Replies = codes "replies"
+table_name Floors = codes "floors"
+table_name Calls = codes "calls"
+table_name TheMeta = codes "meta"
+
+-- the query for all rows of a table
+abbrev pub text_of : Table → List ℕ
+text_of Jobs = SELECT_ALL_JOBS.now
+text_of Grants = SELECT_ALL_GRANTS.now
+text_of Holds = SELECT_ALL_HOLDS.now
+text_of Down = SELECT_ALL_DOWN.now
+text_of Replies = SELECT_ALL_REPLIES.now
+text_of Floors = SELECT_ALL_FLOORS.now
+text_of Calls = SELECT_ALL_CALLS.now
+text_of TheMeta = SELECT_META.now
+
+module _ (meta : Meta) (held : List Holder) where
+  -- what a row of the table has to show; the rows of meta and of holds are read before
+  abbrev pub Shows : Table → Row → Type 0
+  Shows Jobs row = ShowsJob meta held row
+  Shows Grants row = ShowsGrant meta held row
+  Shows Down row = ShowsName row 0
+  Shows Replies row = ShowsReply row
+  Shows Floors row = ShowsFloor row
+  Shows Calls row = ShowsCall held row
+  Shows Holds row = ⊤
+  Shows TheMeta row = ⊤
+
+  -- each row is as it has to be, and there are as many as have been numbered
+  abbrev pub IsWholeTable : Database → Table → Type 0
+  IsWholeTable db Jobs = Each db jobs_tree (IsJobRow meta held) × (length (db.trees jobs_tree) + 1 ≡ meta.next_job)
+  IsWholeTable db Grants = Each db grants_tree (IsGrantRow meta held) × (length (db.trees grants_tree) + 1 ≡ meta.next_grant)
+  IsWholeTable db Down = Each db down_tree IsDownRow
+  IsWholeTable db Replies = Each db replies_tree IsReplyRow
+  IsWholeTable db Floors = Each db floors_tree IsFloorRow
+  IsWholeTable db Calls = Each db calls_tree (IsCallRow held)
+  IsWholeTable db Holds = ⊤
+  IsWholeTable db TheMeta = ⊤
+
+-- those whose rows are read one at a time
+abbrev pub passed : List Table
+passed = PASSED
+
 -- ---- all of them
 
 -- The row of meta has these numbers, and the rows of holds these holders, in any order. Each row is as it has to be, and there are as many jobs and grants as have been numbered.
@@ -104,12 +215,5 @@ pub record AreWhole (db : Database) (meta : Meta) (held : List Holder) : Type 0 
   pub numbers : (m : Queue) → IsLawfulMeta (with_meta meta m)
   pub holders : IsPermutation (map holder_columns held) (map (drop 1) (db.trees holds_tree))
   pub right : All (IsRightHolder db) held
-  pub grants : Each db grants_tree (IsGrantRow meta held)
-  pub all_grants : length (db.trees grants_tree) + 1 ≡ meta.next_grant
-  pub jobs : Each db jobs_tree (IsJobRow meta held)
-  pub all_jobs : length (db.trees jobs_tree) + 1 ≡ meta.next_job
-  pub down : Each db down_tree IsDownRow
-  pub replies : Each db replies_tree IsReplyRow
-  pub floors : Each db floors_tree IsFloorRow
-  pub calls : Each db calls_tree (IsCallRow held)
+  pub tables : All (IsWholeTable meta held db) passed
   pub called : All (λ h. (row : Row) × Has (db.trees calls_tree) row × (drop 1 row ≡ call_columns h.dial (dialing h.dial held))) held

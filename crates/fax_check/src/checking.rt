@@ -13,21 +13,11 @@ use crate::holders::{Holder, Holders, read_holders};
 use crate::pass::{Tally, pass};
 use crate::reading::{known, show};
 use crate::rows::{dialing, has_count};
-use crate::tables::{Flaw, Table};
+use crate::tables::{Flaw, PASSED, Table};
 use fax_schema::statements::{SELECT_META, SELECT_OPEN, SELECT_VERSION};
 use fax_tables::{Meta, StoreFault, is_version};
 use sqlite::{Alter, Connection, Row, params};
 use std::alloc::Global;
-
-/// The tables whose rows are read one at a time.
-const PASSED: &[Table] = &[
-    Table::Grants,
-    Table::Jobs,
-    Table::Down,
-    Table::Replies,
-    Table::Floors,
-    Table::Calls,
-];
 
 /// The first row that keeps the rows of a database from being those of a sound queue with its kept replies,
 /// or none where they are. Each table is read once, a row at a time, and nothing is written. The memory that
@@ -130,7 +120,7 @@ fn check_tables<S: Alter>(
 ) -> Result<Option<Flaw>, StoreFault>
     ensures { Looks S.Store conn.old conn.new result (λ db found. AreTablesChecked meta.now held.now db found) }
 {
-    for table in PASSED {
+    for table in &PASSED {
         if let Some(flaw) = check_table(alloc, conn, *table, meta, held)? {
             return Ok(Some(flaw));
         }

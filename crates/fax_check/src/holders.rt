@@ -10,7 +10,7 @@ ghost use Rattle.fax_check.specs.Reading.{Looks, Tells};
 use crate::pass::number_in;
 use crate::reading::{known, show};
 use crate::rows::{has_number, has_text};
-use crate::statements::SELECT_ALL_HOLDS;
+use crate::tables::SELECT_ALL_HOLDS;
 use fax_core::{Grant, fits};
 use fax_job::{Dial, Job, Name};
 use fax_schema::statements::{SELECT_GRANT, SELECT_JOB};

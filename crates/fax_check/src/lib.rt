@@ -10,7 +10,6 @@ pub mod laws;
 mod pass;
 mod reading;
 mod rows;
-mod statements;
 mod tables;
 
 pub use checking::check;

@@ -5,18 +5,13 @@ ghost use Rattle.sqlite.specs.Given.{HasGiven};
 ghost use Rattle.sqlite.specs.Held.{state};
 ghost use Rattle.sqlite.specs.Order.{Row as Values};
 ghost use Rattle.sqlite.specs.State.{HasCleanDisk};
-ghost use Rattle.fax_check.specs.Pass.{AreRead, GoesOn, IsStep, IsTally, text_of};
+ghost use Rattle.fax_check.specs.Pass.{AreRead, GoesOn, IsStep, IsTally};
 ghost use Rattle.fax_check.specs.Reading.{Tells};
-ghost use Rattle.fax_check.specs.Table.{Shows};
+ghost use Rattle.fax_check.specs.Whole.{Shows, text_of};
 
 use crate::holders::Holder;
 use crate::rows::shows;
-use crate::statements::{
-    SELECT_ALL_CALLS, SELECT_ALL_DOWN, SELECT_ALL_FLOORS, SELECT_ALL_GRANTS, SELECT_ALL_HOLDS,
-    SELECT_ALL_JOBS, SELECT_ALL_REPLIES,
-};
 use crate::tables::Table;
-use fax_schema::statements::SELECT_META;
 use fax_tables::{Meta, StoreFault};
 use sqlite::types::ValueRef;
 use sqlite::{Alter, Connection, Row, Rows};
@@ -42,22 +37,6 @@ enum Step {
     Wrong(i64),
 }
 
-/// The query for all rows of a table.
-fn text_of(table: Table) -> &'static str
-    ensures { result.now ≡ text_of table }
-{
-    match table {
-        Table::Jobs => SELECT_ALL_JOBS,
-        Table::Grants => SELECT_ALL_GRANTS,
-        Table::Holds => SELECT_ALL_HOLDS,
-        Table::Down => SELECT_ALL_DOWN,
-        Table::Replies => SELECT_ALL_REPLIES,
-        Table::Floors => SELECT_ALL_FLOORS,
-        Table::Calls => SELECT_ALL_CALLS,
-        Table::Meta => SELECT_META,
-    }
-}
-
 /// Reads each row of a table once.
 pub(crate) fn pass<S: Alter>(
     alloc: Global,
@@ -69,7 +48,7 @@ pub(crate) fn pass<S: Alter>(
     ensures { Tells (state S.Store conn.old) (state S.Store conn.new) result (λ db tally. (rows : List Values)
         × AreRead S.Store (text_of table) db conn.new rows × IsTally (Shows meta.now held.now table) rows tally) }
 {
-    let mut rows = conn.query(text_of(table), &[])?;
+    let mut rows = conn.query(table.all_rows(), &[])?;
     count(alloc, &mut rows, table, meta, held)
 }
 

@@ -3,8 +3,7 @@
 ghost use Rattle.std.specs.Prelude.{◌≡◌, IfErr, IfOk};
 ghost use Rattle.std.specs.Bool.{Decides};
 ghost use Rattle.sqlite.specs.declared.types.Value.TheVariants.{Int, Text};
-ghost use Rattle.fax_check.specs.Table.{HasRequestNumber, HasStatus, Shows, ShowsCall, ShowsFloor, ShowsGrant, ShowsJob, ShowsName, ShowsReply, has_holder, holds, is_held, stands};
-ghost use Rattle.fax_check.specs.Whole.{dialing};
+ghost use Rattle.fax_check.specs.Whole.{HasRequestNumber, HasStatus, Shows, ShowsCall, ShowsFloor, ShowsGrant, ShowsJob, ShowsName, ShowsReply, dialing, has_holder, holds, is_held, stands};
 ghost use Rattle.fax_tables.specs.Row.{HasNumber, HasValue};
 
 use crate::holders::Holder;

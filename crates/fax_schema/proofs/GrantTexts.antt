@@ -1,15 +1,47 @@
--- What the texts on grants and holds mean.
-use Rattle.std.proofs.Common.{List, [], ◌∷◌, ℕ, pos, codes, refl}
+-- What the texts on grants, holds and calls mean.
+use Rattle.std.proofs.Common.{◌≡◌, List, [], ◌∷◌, ℕ, pos, codes, refl}
 use Rattle.sqlite.specs.Command.TheVariants.{Insert, Update, Delete}
 use Rattle.sqlite.specs.Listing.{understood}
 use Rattle.sqlite.specs.Source.TheVariants.{Values}
 use Rattle.sqlite.specs.declared.types.Value.TheVariants.{Null, Int}
 use Rattle.sqlite_sql.specs.Term.{Term, lit, col}
+use Rattle.sqlite_catalog.specs.Change.{created}
 use Rattle.sqlite_tied.specs.Compute.{everything}
+use Rattle.fax_schema.specs.declared.statements.TheConstants.{CREATE_GRANTS, CREATE_HOLDS, CREATE_CALLS}
 use Rattle.fax_schema.specs.declared.statements.TheConstants.{SELECT_GRANT, INSERT_GRANT, UPDATE_REPORT, SHUT_GRANT, SELECT_HOLD, INSERT_HOLD, DELETE_HOLD, SELECT_OPEN, DELETE_CALLS, INSERT_CALLS}
-use Rattle.fax_schema.proofs.StatementForms.{equals, Selects, Commands}
+use Rattle.fax_schema.proofs.StatementForms.{equals, Makes, Selects, Commands}
 use Rattle.fax_schema.proofs.UpdateLemmas.{program_of, gone_project}
-use Rattle.fax_schema.specs.Schema.{calls_tree, grants_tree, holds_tree}
+use Rattle.fax_schema.specs.Schema.{with_jobs, with_grants, with_holds, core_tables, our_tables, grants, holds, calls, calls_place, calls_tree, grants_tree, holds_tree}
+
+-- CREATE_GRANTS makes that of grants
+pub makes_grants : Makes with_jobs CREATE_GRANTS.now grants
+unfolding understood everything
+makes_grants = record { command = refl; statement = refl; defined = refl; plain = (refl, refl) }
+
+-- and leaves these two
+pub created_grants : created with_jobs grants ≡ with_grants
+unfolding everything
+created_grants = refl
+
+-- CREATE_HOLDS makes that of holds
+pub makes_holds : Makes with_grants CREATE_HOLDS.now holds
+unfolding understood everything
+makes_holds = record { command = refl; statement = refl; defined = refl; plain = (refl, refl) }
+
+-- and leaves these three
+pub created_holds : created with_grants holds ≡ with_holds
+unfolding everything
+created_holds = refl
+
+-- CREATE_CALLS makes the table of calls
+pub makes_calls : Makes core_tables CREATE_CALLS.now calls
+unfolding understood everything
+makes_calls = record { command = refl; statement = refl; defined = refl; plain = (refl, refl) }
+
+-- and leaves all tables of a store
+pub created_calls : created core_tables calls ≡ our_tables
+unfolding everything
+created_calls = refl
 
 abbrev pub grant_tests : List Term
 grant_tests = equals (col 1 0) (col 0 0) ∷ []
@@ -88,7 +120,7 @@ unfolding understood everything
 select_open = record { command = refl; plain = (refl, refl); unlisted = refl }
 
 -- DELETE_CALLS takes out the row of a number
-pub delete_calls : Commands DELETE_CALLS.now (Delete 7 (program_of calls_tree call_tests gone_project))
+pub delete_calls : Commands DELETE_CALLS.now (Delete calls_place (program_of calls_tree call_tests gone_project))
 unfolding understood everything
 delete_calls = record { is = refl; plain = (refl, refl) }
 
@@ -96,6 +128,6 @@ abbrev pub call_terms : List Term
 call_terms = lit Null ∷ col 0 0 ∷ col 0 1 ∷ []
 
 -- INSERT_CALLS puts one in
-pub insert_calls : Commands INSERT_CALLS.now (Insert 7 (Values call_terms 3))
+pub insert_calls : Commands INSERT_CALLS.now (Insert calls_place (Values call_terms 3))
 unfolding understood everything
 insert_calls = record { is = refl; plain = (refl, refl) }

@@ -12,3 +12,4 @@ pub mod GrantTexts
 pub mod ModemTexts
 pub mod ClientTexts
 pub mod ShapeLemmas
+pub mod RowsLemmas

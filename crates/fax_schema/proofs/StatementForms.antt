@@ -1,14 +1,20 @@
--- What a text is that reads or writes the tables of a store.
-use Rattle.std.proofs.Common.{◌≡◌, ℕ, List, [], false}
+-- What a text is that makes a table, or reads or writes the tables of a store.
+use Rattle.std.proofs.Common.{◌≡◌, ℕ, List, [], ◌∷◌, ◌==◌, Ok, false}
+use Rattle.std.specs.List.{list_any}
+use Rattle.sqlite.specs.Does.{lacks_sequence}
+use Rattle.sqlite_catalog.specs.Change.{created, next_tree}
 use Rattle.sqlite.specs.Collation.TheVariants.{Binary}
 use Rattle.sqlite_sql.specs.Term.{Term, op2}
 use Rattle.sqlite_sql.specs.declared.ops.BinaryOp.TheVariants.{Compare}
 use Rattle.sqlite_sql.specs.declared.ops.CompareOp.TheVariants.{Eq}
 use Rattle.sqlite.specs.Query.{Query}
 use Rattle.sqlite.specs.Command.{Command}
-use Rattle.sqlite.specs.Command.TheVariants.{Select}
+use Rattle.sqlite.specs.Command.TheVariants.{CreateTable, Select}
+use Rattle.sqlite.specs.Compile.{table_defined_by}
 use Rattle.sqlite.specs.Listing.{understood, reads_listing}
-use Rattle.sqlite.proofs.Callers.{IsPlain, command_of}
+use Rattle.sqlite.proofs.Callers.{IsPlain, command_of, statement_of}
+use Rattle.sqlite_schema.specs.declared.schema.Schema.{Schema}
+use Rattle.sqlite_schema.specs.declared.schema.Table.{Table}
 use Rattle.sqlite_value.specs.declared.keys.Key.{Key}
 use Rattle.fax_schema.specs.Schema.{our_tables}
 use Rattle.fax_schema.proofs.SelectLemmas.{rows_by, rows_where}
@@ -34,3 +40,23 @@ SelectsBy sql tree tests project order = SelectsAll sql (rows_by tree tests proj
 pub record Commands (sql : List ℕ) (command : Command) : Type 0 where
   pub is : command_of (understood our_tables sql) ≡ command
   pub plain : IsPlain (understood our_tables sql)
+
+-- the text makes this table in any database with this schema
+pub record Makes (schema : Schema) (sql : List ℕ) (table : Table) : Type 0 where
+  pub command : command_of (understood schema sql) ≡ CreateTable
+  pub statement : statement_of sql (understood schema sql) ≡ sql
+  pub defined : table_defined_by sql ≡ Ok (record table { tree = 0 })
+  pub plain : IsPlain (understood schema sql)
+
+-- the text makes a table behind those of a schema, in a tree that none of the first has
+pub record MakesNext (first : List Table) (before : Schema) (sql : List ℕ) (after : Schema) : Type 0 where
+  pub table : Table
+  pub makes : Makes before sql table
+  pub is : created before table ≡ after
+  pub lacks : lacks_sequence after ≡ false
+  pub new : list_any (λ t. t.tree == next_tree before) first ≡ false
+
+-- each of these texts does, behind those before it
+abbrev pub MakeAll : List Table → Schema → List (List ℕ) → Schema → Type 0
+MakeAll first before [] after = before ≡ after
+MakeAll first before (sql ∷ texts) after = (next : Schema) × MakesNext first before sql next × MakeAll first next texts after

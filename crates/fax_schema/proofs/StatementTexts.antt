@@ -1,5 +1,5 @@
--- What the texts mean that read and write jobs, kept replies and meta.
-use Rattle.std.proofs.Common.{ℕ, pos, List, [], ◌∷◌, ◌++◌, codes, refl}
+-- What the texts mean that make jobs, kept replies and meta, and that read and write them.
+use Rattle.std.proofs.Common.{◌≡◌, ℕ, pos, List, [], ◌∷◌, ◌++◌, codes, refl}
 use Rattle.sqlite.specs.Collation.TheVariants.{Binary}
 use Rattle.sqlite.specs.declared.types.Value.TheVariants.{Null, Int, Text}
 use Rattle.sqlite_sql.specs.Term.{Term, lit, col, op1, op2}
@@ -10,19 +10,51 @@ use Rattle.sqlite.specs.Query.{Query, end, inner, left}
 use Rattle.sqlite.specs.Source.TheVariants.{Values}
 use Rattle.sqlite.specs.Command.TheVariants.{Insert, Update}
 use Rattle.sqlite.specs.Listing.{understood}
+use Rattle.sqlite_catalog.specs.Change.{created}
 use Rattle.sqlite_tied.specs.Compute.{everything}
 use Rattle.sqlite_value.specs.Keys.{ascending}
 use Rattle.sqlite_value.specs.declared.keys.Key.{Key}
 use Rattle.fax_value.specs.Status.{kill_time_expired}
 use Rattle.fax_schema.specs.declared.statements.TheConstants.{SELECT_DIAL, SELECT_HELD, SELECT_LOST, SELECT_VERSION, UPDATE_VERSION}
+use Rattle.fax_schema.specs.declared.statements.TheConstants.{CREATE_JOBS, CREATE_REPLIES, CREATE_META, INSERT_META}
 use Rattle.fax_schema.specs.declared.statements.TheConstants.{SELECT_META, UPDATE_CLOCK, UPDATE_META}
 use Rattle.fax_schema.specs.declared.statements.TheConstants.{SELECT_REPLY, INSERT_REPLY}
 use Rattle.fax_schema.specs.declared.statements.TheConstants.{SELECT_FIRST, SELECT_BEHIND_NUMBER, SELECT_BEHIND_TIME, SELECT_BEHIND_PRIORITY}
 use Rattle.fax_schema.specs.declared.statements.TheConstants.{SELECT_JOB, SELECT_BRIEF, INSERT_JOB, UPDATE_JOB, SELECT_EXPIRED, EXPIRE_JOBS, SELECT_WAITING, SELECT_JOBS, SELECT_BRIEFS}
 use Rattle.fax_schema.proofs.SelectLemmas.{rows_by, rows_where}
 use Rattle.fax_schema.proofs.UpdateLemmas.{program_of}
-use Rattle.fax_schema.proofs.StatementForms.{equals, Selects, SelectsAll, SelectsBy, Commands}
-use Rattle.fax_schema.specs.Schema.{holds_tree, jobs_tree, meta_tree, replies_tree}
+use Rattle.fax_schema.proofs.StatementForms.{equals, Makes, Selects, SelectsAll, SelectsBy, Commands}
+use Rattle.fax_schema.specs.Schema.{no_tables, with_jobs, with_down, with_replies, first_bare, jobs, replies, meta, holds_tree, jobs_tree, meta_tree, replies_tree}
+
+-- CREATE_JOBS makes the table of jobs in a database without tables
+pub makes_jobs : Makes no_tables CREATE_JOBS.now jobs
+unfolding understood everything
+makes_jobs = record { command = refl; statement = refl; defined = refl; plain = (refl, refl) }
+
+-- and leaves it with that table
+pub created_jobs : created no_tables jobs ≡ with_jobs
+unfolding everything
+created_jobs = refl
+
+-- CREATE_REPLIES makes that of the kept replies
+pub makes_replies : Makes with_down CREATE_REPLIES.now replies
+unfolding understood everything
+makes_replies = record { command = refl; statement = refl; defined = refl; plain = (refl, refl) }
+
+-- and leaves these five
+pub created_replies : created with_down replies ≡ with_replies
+unfolding everything
+created_replies = refl
+
+-- CREATE_META makes that of the clock and next numbers
+pub makes_meta : Makes with_replies CREATE_META.now meta
+unfolding understood everything
+makes_meta = record { command = refl; statement = refl; defined = refl; plain = (refl, refl) }
+
+-- and leaves the six tables of the first version
+pub created_meta : created with_replies meta ≡ first_bare
+unfolding everything
+created_meta = refl
 
 abbrev pub meta_tests : List Term
 meta_tests = equals (col 1 0) (lit (Int (pos 1))) ∷ []
@@ -257,3 +289,9 @@ select_jobs = record { command = refl; plain = (refl, refl); unlisted = refl }
 pub select_briefs : SelectsBy SELECT_BRIEFS.now jobs_tree [] brief_project jobs_order brief_names
 unfolding understood everything
 select_briefs = record { command = refl; plain = (refl, refl); unlisted = refl }
+
+-- INSERT_META puts the row of an empty store into meta
+pub insert_meta : Commands INSERT_META.now
+    (Insert 5 (Values (lit (Int (pos 1)) ∷ lit Null ∷ lit (Int (pos 0)) ∷ lit (Int (pos 1)) ∷ lit (Int (pos 1)) ∷ lit (Int (pos 2)) ∷ []) 6))
+unfolding understood everything
+insert_meta = record { is = refl; plain = (refl, refl) }

@@ -1,5 +1,5 @@
 -- The eight tables and their indexes as the database knows them, and those of the first version, which had no floors.
-use Rattle.std.specs.Prelude.{◌≡◌, ◌⊎◌, ℕ, ◌+◌, Bool, true, false, List, [], ◌∷◌, ◌++◌, codes, Option, Some, None, pos}
+use Rattle.std.specs.Prelude.{◌⊎◌, ℕ, ◌+◌, Bool, true, false, List, [], ◌∷◌, ◌++◌, codes, length, Option, Some, None, pos}
 use Rattle.std.specs.List.{list_any}
 use Rattle.std.specs.Str.{bytes_eq}
 use Rattle.sqlite.specs.Collation.TheVariants.{Binary}
@@ -68,9 +68,6 @@ meta_tree = 10
 abbrev pub floors_tree : ℕ
 floors_tree = 11
 
-abbrev pub calls_tree : ℕ
-calls_tree = 15
-
 abbrev pub job_columns : List Column
 job_columns =
     integer (codes "job") ∷ text (codes "dial") ∷ text (codes "modem") ∷ text (codes "jobtag") ∷ text (codes "status") ∷ text (codes "extra")
@@ -113,10 +110,6 @@ floors = table_of (codes "floors") floors_tree (text (codes "client") ∷ intege
 -- how many grants are open to each number, in a tree that depends on when the table was made
 abbrev pub calls_at : ℕ → Table
 calls_at tree = table_of (codes "calls") tree (text (codes "dial") ∷ integer (codes "open") ∷ []) None (1 ∷ []) ((1 ∷ []) ∷ []) (plain ∷ []) []
-
--- where it stands behind the indexes
-abbrev pub calls : Table
-calls = calls_at calls_tree
 
 -- the index that a key of a table with hidden rowids has
 abbrev pub key_index : List ℕ → ℕ → ℕ → List ℕ → Index
@@ -162,6 +155,10 @@ indexes_at tree = killtime_index_at tree ∷ choice_index_at (tree + 1) ∷ []
 abbrev pub older_indexes_at : ℕ → List Index
 older_indexes_at tree = killtime_index_at tree ∷ older_choice_index_at (tree + 1) ∷ []
 
+-- The first tree behind these: each of them has one.
+abbrev pub past : List Table → List Index → ℕ
+past tables indexes = length tables + length indexes
+
 -- a database with these tables and indexes, and no view
 abbrev pub laid : List Table → List Index → Schema
 laid tables indexes = record { tables = tables; indexes = indexes; views = [] }
@@ -198,77 +195,99 @@ first_list = alike_list ++ meta ∷ []
 abbrev pub first_keys : List Index
 first_keys = holds_indexes ++ down_index ∷ replies_index ∷ []
 
+abbrev pub first_past : ℕ
+first_past = past first_list first_keys
+
 -- The six tables that say all of a queue, with the indexes of their keys, each with a tree, and no other index.
 abbrev pub first_bare : Schema
 first_bare = laid first_list first_keys
 
 abbrev pub first_with_killtime : Schema
-first_with_killtime = laid first_list (first_keys ++ killtime_index_at 11 ∷ [])
+first_with_killtime = laid first_list (first_keys ++ killtime_index_at first_past ∷ [])
 
 -- with the indexes by which jobs are found
 abbrev pub first_core : Schema
-first_core = laid first_list (first_keys ++ indexes_at 11)
+first_core = laid first_list (first_keys ++ indexes_at first_past)
 
 -- the same as stores made them before
 abbrev pub first_older_core : Schema
-first_older_core = laid first_list (first_keys ++ older_indexes_at 11)
+first_older_core = laid first_list (first_keys ++ older_indexes_at first_past)
 
 -- with `calls` behind them
 abbrev pub first_tables : Schema
-first_tables = laid (first_list ++ calls_at 13 ∷ []) (first_keys ++ indexes_at 11 ++ calls_index_at 13 ∷ [])
+first_tables = laid (first_list ++ calls_at (first_past + 2) ∷ []) (first_keys ++ indexes_at first_past ++ calls_index_at (first_past + 2) ∷ [])
 
 abbrev pub first_older : Schema
-first_older = laid (first_list ++ calls_at 13 ∷ []) (first_keys ++ older_indexes_at 11 ++ calls_index_at 13 ∷ [])
+first_older = laid (first_list ++ calls_at (first_past + 2) ∷ []) (first_keys ++ older_indexes_at first_past ++ calls_index_at (first_past + 2) ∷ [])
 
 -- all seven with the indexes of their keys alone, as another program may make them
 abbrev pub first_bare_calls : Schema
-first_bare_calls = laid (first_list ++ calls_at 11 ∷ []) (first_keys ++ calls_index_at 11 ∷ [])
+first_bare_calls = laid (first_list ++ calls_at first_past ∷ []) (first_keys ++ calls_index_at first_past ∷ [])
 
 -- all seven with those of jobs last, as VACUUM leaves them
 abbrev pub first_vacuumed : Schema
-first_vacuumed = laid (first_list ++ calls_at 11 ∷ []) (first_keys ++ calls_index_at 11 ∷ indexes_at 13)
+first_vacuumed = laid (first_list ++ calls_at first_past ∷ []) (first_keys ++ calls_index_at first_past ∷ indexes_at (first_past + 2))
 
 abbrev pub first_older_vacuumed : Schema
-first_older_vacuumed = laid (first_list ++ calls_at 11 ∷ []) (first_keys ++ calls_index_at 11 ∷ older_indexes_at 13)
+first_older_vacuumed = laid (first_list ++ calls_at first_past ∷ []) (first_keys ++ calls_index_at first_past ∷ older_indexes_at (first_past + 2))
 
 -- with the first of the two
 abbrev pub first_vacuumed_with_killtime : Schema
-first_vacuumed_with_killtime = laid (first_list ++ calls_at 11 ∷ []) (first_keys ++ calls_index_at 11 ∷ killtime_index_at 13 ∷ [])
+first_vacuumed_with_killtime = laid (first_list ++ calls_at first_past ∷ []) (first_keys ++ calls_index_at first_past ∷ killtime_index_at (first_past + 2) ∷ [])
 
--- ---- those of a store: with floors
+-- ---- those of a store: with what the second version has beside the first's
+
+abbrev pub second_list : List Table
+second_list = floors ∷ []
+
+abbrev pub second_keys : List Index
+second_keys = floors_index ∷ []
 
 abbrev pub core_list : List Table
-core_list = first_list ++ floors ∷ []
+core_list = first_list ++ second_list
 
 abbrev pub core_keys : List Index
-core_keys = first_keys ++ floors_index ∷ []
+core_keys = first_keys ++ second_keys
+
+abbrev pub core_past : ℕ
+core_past = past core_list core_keys
+
+-- where `calls` stands behind the indexes of jobs, and its place among the tables
+abbrev pub calls_tree : ℕ
+calls_tree = core_past + 2
+
+abbrev pub calls_place : ℕ
+calls_place = length core_list
+
+abbrev pub calls : Table
+calls = calls_at calls_tree
 
 -- the seven tables that say all of a queue and of its clients, with the indexes of their keys alone
 abbrev pub bare_tables : Schema
 bare_tables = laid core_list core_keys
 
 abbrev pub with_killtime_index : Schema
-with_killtime_index = laid core_list (core_keys ++ killtime_index_at 13 ∷ [])
+with_killtime_index = laid core_list (core_keys ++ killtime_index_at core_past ∷ [])
 
 -- with the indexes by which jobs are found
 abbrev pub core_tables : Schema
-core_tables = laid core_list (core_keys ++ indexes_at 13)
+core_tables = laid core_list (core_keys ++ indexes_at core_past)
 
 -- All eight tables with all indexes: those of a store.
 abbrev pub our_tables : Schema
-our_tables = laid (core_list ++ calls ∷ []) (core_keys ++ indexes_at 13 ++ calls_index_at calls_tree ∷ [])
+our_tables = laid (core_list ++ calls ∷ []) (core_keys ++ indexes_at core_past ++ calls_index_at calls_tree ∷ [])
 
 -- all eight with the indexes of their keys alone, as another program may make them
 abbrev pub bare_with_calls : Schema
-bare_with_calls = laid (core_list ++ calls_at 13 ∷ []) (core_keys ++ calls_index_at 13 ∷ [])
+bare_with_calls = laid (core_list ++ calls_at core_past ∷ []) (core_keys ++ calls_index_at core_past ∷ [])
 
 -- all eight with those of jobs last, as VACUUM leaves them
 abbrev pub vacuumed_tables : Schema
-vacuumed_tables = laid (core_list ++ calls_at 13 ∷ []) (core_keys ++ calls_index_at 13 ∷ indexes_at 15)
+vacuumed_tables = laid (core_list ++ calls_at core_past ∷ []) (core_keys ++ calls_index_at core_past ∷ indexes_at (core_past + 2))
 
 -- with the first of the two
 abbrev pub vacuumed_with_killtime : Schema
-vacuumed_with_killtime = laid (core_list ++ calls_at 13 ∷ []) (core_keys ++ calls_index_at 13 ∷ killtime_index_at 15 ∷ [])
+vacuumed_with_killtime = laid (core_list ++ calls_at core_past ∷ []) (core_keys ++ calls_index_at core_past ∷ killtime_index_at (core_past + 2) ∷ [])
 
 -- ---- the tables of a queue
 

@@ -21,12 +21,13 @@ use Rattle.fax_tables.specs.declared.fault.StoreFault.TheVariants.{Strange}
 use Rattle.fax_tables.specs.Row.{number}
 use Rattle.fax_schema.specs.ByRowid.{IsByRowid}
 use Rattle.fax_schema.specs.Schema as schema
-use Rattle.fax_schema.specs.Schema.{AreInOrder, AreOurs, alike_list, bare_with_calls, first_bare, first_bare_calls, has_floors, indexed_last, no_tables, our_tables, with_calls, without_calls, calls_tree, floors_tree, meta_tree}
-use Rattle.fax_tables.specs.Tables.{GoesOn, HasEmptyTables, HasNewCalls, HasVersion, IsAtRest, Renews, RowsMean, TablesMean, floors_in, meta_as, version_of, versions}
-use Rattle.fax_tables.proofs.CreateLemmas.{commit_kept, floors_there, goes_on, kept_but_last, kept_rows, none_at_first, refused_keeps, renews_then}
+use Rattle.fax_schema.specs.Schema.{AreInOrder, AreOurs, alike_list, bare_with_calls, first_bare, first_bare_calls, first_list, second_list, has_floors, indexed_last, no_tables, our_tables, with_calls, without_calls, calls_tree, meta_tree}
+use Rattle.fax_tables.specs.Tables.{GoesOn, HasEmptyTables, HasNewCalls, HasVersion, IsAtRest, Renews, RowsMean, TablesMean, meta_as, second_in, version_of, versions}
+use Rattle.fax_tables.proofs.CreateLemmas.{commit_kept, goes_on, none_at_first, refused_keeps, renews_then, second_there}
 use Rattle.fax_tables.proofs.StopLemmas.{nothing_then}
 use Rattle.fax_tables.proofs.TablesLemmas.{same_database}
 use Rattle.fax_tables.specs.Stop.{HoldsBack}
+use Rattle.fax_schema.proofs.RowsLemmas.{all_front, all_given, all_mapped, at_tree, kept_back, kept_rows}
 use Rattle.fax_schema.proofs.SelectLemmas.{answers}
 use Rattle.sqlite_schema.specs.declared.schema.Schema.{Schema}
 use Rattle.sqlite_schema.specs.declared.schema.Table.{Table}
@@ -147,14 +148,9 @@ none_still a b has same = record {
   none = ap (λ (d : Database). d.trees calls_tree) same.0.now_is ∙ has.none;
 }
 
--- rows that were kept, the other way round
-kept_back : (tables : List Table) (a b : Trees) → KeepsRows tables a b → KeepsRows tables b a
-kept_back [] a b kept = tt
-kept_back (t ∷ ts) a b kept = (sym kept.0, kept_back ts a b kept.1)
-
 -- the rows that are alike in each version stay
 alike : (db after : Database) → Renews db after → KeepsRows alike_list db.trees after.trees
-alike db after renews = kept_but_last alike_list schema.meta db.trees after.trees renews.rows
+alike db after renews = all_front (λ t. after.trees t.tree ≡ db.trees t.tree) alike_list (schema.meta ∷ []) renews.rows
 
 -- tables with floors are of the second version
 second : (db : Database) → has_floors db.schema ≡ true → version_of db.schema ≢ 1
@@ -188,13 +184,18 @@ module _ (s0 s1 : State) (ours : AreOurs s0.now.schema) (n : ℕ) (began : Execu
       pub has_none : HasNone s2
       has_none = record { is_open = goes_on_renewed.is_open; inside = goes_on_renewed.mode; schema_is = renewed.schema_is; sound = renewed.sound; none = renewed.none }
 
-      -- meta has the versions that it had
-      same_versions : versions s2.now ≡ versions s0.now
-      same_versions = ap (map (λ r. column r 5)) renewed.renews.rows.1.1.1.1.1.0
+      -- meta has the rows that it had
+      same_meta : s2.now.trees meta_tree ≡ s0.now.trees meta_tree
+      same_meta = at_tree (λ tree. s2.now.trees tree ≡ s0.now.trees tree) first_list meta_tree refl renewed.renews.rows
 
-      -- floors has the rows that it had, none where there was no such table
-      same_floors : s2.now.trees floors_tree ≡ floors_in s0.now
-      same_floors = sym (floors_there s2.now our_tables renewed.schema_is refl) ∙ renewed.renews.floors
+      -- and the versions
+      same_versions : versions s2.now ≡ versions s0.now
+      same_versions = ap (map (λ r. column r 5)) same_meta
+
+      -- the tables of the second version have the rows that they had, none where there were no such tables
+      same_second : KeepsRows second_list (second_in s0.now) s2.now.trees
+      same_second = all_mapped (λ t. second_in s2.now t.tree ≡ second_in s0.now t.tree) (λ t. s2.now.trees t.tree ≡ second_in s0.now t.tree) second_list
+          (λ t same. sym (second_there s2.now our_tables t.tree renewed.schema_is refl) ∙ same) renewed.renews.second
 
       -- meta's one row still has the version of the tables that were found
       pub still_version : HasVersion s0.now → versions s2.now ≡ number version ∷ []
@@ -210,14 +211,14 @@ module _ (s0 s1 : State) (ours : AreOurs s0.now.schema) (n : ℕ) (began : Execu
         full = mean.full;
         means = mean.means;
         rows = kept_rows alike_list s2.now.trees s0.now.trees (mean.full).trees (kept_back alike_list s0.now.trees s2.now.trees (alike s0.now s2.now renewed.renews)) mean.same.rows;
-        meta = mean.same.meta ∙ ap (meta_as version) (sym renewed.renews.rows.1.1.1.1.1.0);
-        floors = mean.same.floors ∙ sym same_floors;
+        meta = mean.same.meta ∙ ap (meta_as version) (sym same_meta);
+        second = kept_rows second_list s2.now.trees (second_in s0.now) (mean.full).trees (kept_back second_list (second_in s0.now) s2.now.trees same_second) mean.same.second;
       }
 
       -- meta can be raised in the one where it can in the other
       raisable : IsRaisable s0.now → IsRaisableFrom version s2.now
       raisable (inl there) = inl (second s0.now there)
-      raisable (inr by) = inr (subst IsByRowid (sym renewed.renews.rows.1.1.1.1.1.0) by)
+      raisable (inr by) = inr (subst IsByRowid (sym same_meta) by)
 
       -- where counting the calls keeps the commit, so does all from the begin on
       pub filling_kept : (s3 : State) → KeepsCommit s2 s3 → KeepsCommit s0 s3
@@ -238,8 +239,8 @@ module _ (s0 s1 : State) (ours : AreOurs s0.now.schema) (n : ℕ) (began : Execu
           schema_is = it.schema_is;
           sound = it.sound;
           rows = kept_rows alike_list s0.now.trees s2.now.trees s3.now.trees (alike s0.now s2.now renewed.renews) it.rows;
-          meta = λ can. it.meta (raisable can) ∙ ap (meta_as version) renewed.renews.rows.1.1.1.1.1.0;
-          floors = it.floors ∙ same_floors;
+          meta = λ can. it.meta (raisable can) ∙ ap (meta_as version) same_meta;
+          second = kept_rows second_list (second_in s0.now) s2.now.trees s3.now.trees same_second it.second;
         }
 
         -- where the commit is refused, the commit before the begin stands
@@ -416,9 +417,9 @@ means_rows db m k means = (
     full = db;
     means = means;
     same = record {
-      rows = (refl, (refl, (refl, (refl, (refl, tt)))));
+      rows = all_given (λ t. db.trees t.tree ≡ db.trees t.tree) alike_list (λ t. refl);
       meta = ap (λ s. meta_as (version_of s) (db.trees meta_tree)) (sym means.schema);
-      floors = sym (floors_there db our_tables means.schema refl);
+      second = all_given (λ t. db.trees t.tree ≡ second_in db t.tree) second_list (λ t. sym (second_there db our_tables t.tree means.schema refl));
     };
   },
 )

@@ -4,6 +4,7 @@ use Rattle.std.proofs.Math.Path.{fun_ext}
 use Rattle.std.proofs.lemmas.List.Elements.{All-head, All-tail}
 use Rattle.std.specs.Prelude.{nat_le}
 use Rattle.sqlite.specs.Effect.{Database}
+use Rattle.sqlite_catalog.specs.Change.{KeepsRows}
 use Rattle.sqlite.specs.Order.{Row, column}
 use Rattle.sqlite.specs.declared.types.Value.{Value}
 use Rattle.sqlite.specs.declared.types.Value.TheVariants.{Blob, Int, Text}
@@ -25,13 +26,14 @@ use Rattle.fax_core.specs.Job.{Job, fields_of, job_of}
 use Rattle.fax_core.specs.Ledger.{Ledger}
 use Rattle.fax_core.specs.Queue.{Queue, Entry}
 use Rattle.fax_core.specs.declared.grants.Grant.{Grant}
-use Rattle.fax_schema.specs.Schema.{down_tree, floors_tree, grants_tree, jobs_tree, meta_tree, replies_tree}
+use Rattle.fax_schema.specs.Schema.{down_tree, floors_tree, grants_tree, jobs_tree, meta_tree, replies_tree, second_list}
+use Rattle.fax_schema.proofs.RowsLemmas.{at_tree}
 use Rattle.fax_store.specs.Meaning.{RowsHaveOneMeaning}
 use Rattle.fax_tables.proofs.GrantRowLemmas.{same_grant}
 use Rattle.fax_tables.proofs.RowLemmas.{killtime_of, same_fields}
 use Rattle.fax_tables.specs.Job.{IsLawfulJob}
 use Rattle.fax_tables.specs.Row.{call_columns, call_number, down_columns, entry_columns, grant_row, job_row, meta_row, phase_number, wish_number}
-use Rattle.fax_tables.specs.Tables.{AreCounted, IsLawfulEntry, IsLawfulGrant, TablesMean}
+use Rattle.fax_tables.specs.Tables.{AreCounted, IsLawfulEntry, IsLawfulGrant, TablesMean, second_in}
 
 -- ---- values
 
@@ -213,4 +215,7 @@ rows_have_one_meaning db m n k l here there =
     let b = there.same in
     same_meaning here.full there.full m n k l here.means there.means
     (a.rows.0 ∙ sym b.rows.0) (a.rows.1.0 ∙ sym b.rows.1.0) (a.rows.1.1.1.0 ∙ sym b.rows.1.1.1.0) (a.rows.1.1.1.1.0 ∙ sym b.rows.1.1.1.1.0)
-    (a.meta ∙ sym b.meta) (a.floors ∙ sym b.floors)
+    (a.meta ∙ sym b.meta) (floors here.full a.second ∙ sym (floors there.full b.second))
+  where
+    floors : (full : Database) → KeepsRows second_list (second_in db) full.trees → full.trees floors_tree ≡ second_in db floors_tree
+    floors full kept = at_tree (λ tree. full.trees tree ≡ second_in db tree) second_list floors_tree refl kept

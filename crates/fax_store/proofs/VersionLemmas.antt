@@ -1,5 +1,5 @@
 -- How the version of meta is raised.
-use Rattle.std.proofs.Common.{◌≡◌, ◌≢◌, inl, inr, ℕ, ◌==◌, pos, List, [], ◌∷◌, map, drop, Bool, true, ◌&&◌, IsTrue, Some, Ok, Err, OnOk, OnErr, MatchResult, Result, refl, sym, ap, subst, ◌∙◌, arith}
+use Rattle.std.proofs.Common.{◌≡◌, ◌≢◌, inl, inr, ℕ, ◌==◌, pos, List, [], ◌∷◌, ◌++◌, map, drop, Bool, true, ◌&&◌, IsTrue, Some, Ok, Err, OnOk, OnErr, MatchResult, Result, refl, sym, ap, subst, ◌∙◌, arith}
 use Rattle.std.proofs.lemmas.Bool.{and_parts, cases_Bool, eqb-true}
 use Rattle.sqlite.specs.Cast.{cast_row}
 use Rattle.sqlite.specs.Effect.{Database}
@@ -16,14 +16,16 @@ use Rattle.sqlite_rules.proofs.ListLemmas.{all_has}
 use Rattle.sqlite.specs.View.{is_int}
 use Rattle.sqlite_schema.specs.Rules.{Keeps, are_typed, is_of, passes as obeys}
 use Rattle.sqlite_schema.specs.declared.schema.Constraint.TheVariants.{Datatype}
+use Rattle.sqlite_schema.specs.declared.schema.Table.{Table}
 use Rattle.sqlite_schema.specs.declared.schema.Kind.TheVariants.{Integer}
 use Rattle.fax_core.specs.Ledger.{Ledger}
 use Rattle.fax_core.specs.Queue.{Queue}
 use Rattle.fax_schema.specs.declared.statements.TheConstants.{UPDATE_VERSION}
 use Rattle.fax_schema.specs.ByRowid.{IsByRowid}
 use Rattle.fax_schema.specs.Schema as schema
-use Rattle.fax_schema.specs.Schema.{alike_list, core_tables, our_tables, calls_tree, floors_tree, meta_tree}
+use Rattle.fax_schema.specs.Schema.{alike_list, first_list, second_list, core_tables, our_tables, calls_tree, meta_tree}
 use Rattle.fax_schema.proofs.CompareLemmas.{cast_int, cast_null, same_row}
+use Rattle.fax_schema.proofs.RowsLemmas.{all_behind, all_both, all_front, all_given, at_tree, kept_back, kept_rows, others_kept}
 use Rattle.fax_schema.proofs.StatementTexts.{raise_project, update_version}
 use Rattle.fax_schema.proofs.UpdateLemmas.{program_of, updated}
 use Rattle.fax_schema.proofs.WriteLemmas.{KeepsOthers, unreferred, updates}
@@ -106,21 +108,24 @@ module _ (old new : State) (has : HasNone old) (ran : HasRun UPDATE_VERSION.now 
       (updates our_tables unreferred schema.meta.name meta_tree schema.meta.columns schema.meta.key schema.meta.primary schema.meta.uniques schema.meta.orders schema.meta.checks 5 refl old new has.schema_is [] _ ran.0 (program_of meta_tree [] raise_project)
       (runs_as UPDATE_VERSION.now [] old new our_tables has.schema_is _ update_version.is update_version.plain ran.0 ran.1)).2.keeps
 
+  -- the rows of another table than meta stay
+  abbrev Other : Table → Type 0
+  Other t = t.tree ≢ meta_tree → new.now.trees t.tree ≡ old.now.trees t.tree
+
   -- where the version was 1, it is settled as the second
   pub version_raised : versions old.now ≡ number 1 ∷ [] → GoesOn old new × IsSettled 1 old.now new.now
-  version_raised was =
-      let o = keeps.others in (
-        inside_shown old new _ has.inside keeps.shown,
-        record {
-          was = was;
-          schema_is = keeps.schema_is;
-          sound = keeps.sound;
-          rows = (o.0 (λ e. absurd (omega arith)), (o.1.0 (λ e. absurd (omega arith)), (o.1.1.0 (λ e. absurd (omega arith)), (o.1.1.1.0 (λ e. absurd (omega arith)), (o.1.1.1.1.0 (λ e. absurd (omega arith)), tt)))));
-          meta = raises;
-          floors = o.1.1.1.1.1.1.0 (λ e. absurd (omega arith));
-          none = o.1.1.1.1.1.1.1.0 (λ e. absurd (omega arith)) ∙ has.none;
-        },
-      )
+  version_raised was = (
+    inside_shown old new _ has.inside keeps.shown,
+    record {
+      was = was;
+      schema_is = keeps.schema_is;
+      sound = keeps.sound;
+      rows = others_kept alike_list meta_tree old.now.trees new.now.trees refl (all_front Other alike_list (schema.meta ∷ (second_list ++ (schema.calls ∷ []))) keeps.others);
+      meta = raises;
+      second = others_kept second_list meta_tree old.now.trees new.now.trees refl (all_front Other second_list (schema.calls ∷ []) (all_behind Other first_list (second_list ++ (schema.calls ∷ [])) keeps.others));
+      none = at_tree (λ tree. tree ≢ meta_tree → new.now.trees tree ≡ old.now.trees tree) our_tables.tables calls_tree refl keeps.others (λ e. absurd (omega arith)) ∙ has.none;
+    },
+  )
     where
       raises : IsRaisableFrom 1 old.now → new.now.trees meta_tree ≡ meta_as 1 (old.now.trees meta_tree)
       raises (inl other) = absurd (other refl)
@@ -138,9 +143,9 @@ version_stays version old new has was same other = (
     was = was;
     schema_is = has.schema_is;
     sound = has.sound;
-    rows = (refl, (refl, (refl, (refl, (refl, tt)))));
+    rows = all_given (λ t. old.now.trees t.tree ≡ old.now.trees t.tree) alike_list (λ t. refl);
     meta = λ can. sym (as_it_is version (old.now.trees meta_tree) other);
-    floors = refl;
+    second = all_given (λ t. old.now.trees t.tree ≡ old.now.trees t.tree) second_list (λ t. refl);
     none = has.none;
   }),
 )
@@ -177,12 +182,10 @@ pub settled_means : (version : ℕ) (db after : Database) (m : Queue) (k : Ledge
 settled_means version db after m k settled mean =
     let full = (mean.full).trees in
     let meta : after.trees meta_tree ≡ full meta_tree = settled.meta (can_raise version db m k mean) ∙ sym mean.meta in
-    let r = settled.rows in
-    let f = mean.rows in (
-      mean.full,
-      mean.means,
-      (r.0 ∙ sym f.0, (r.1.0 ∙ sym f.1.0, (r.1.1.0 ∙ sym f.1.1.0, (r.1.1.1.0 ∙ sym f.1.1.1.0, (r.1.1.1.1.0 ∙ sym f.1.1.1.1.0, (meta, (settled.floors ∙ sym mean.floors, tt))))))),
-    )
+    let Same = λ (t : Table). after.trees t.tree ≡ full t.tree in
+    let alike = kept_rows alike_list full db.trees after.trees (kept_back alike_list db.trees full mean.rows) settled.rows in
+    let second = kept_rows second_list full db.trees after.trees (kept_back second_list db.trees full mean.second) settled.second in
+    (mean.full, mean.means, all_both Same first_list second_list (all_both Same alike_list (schema.meta ∷ []) alike (meta, tt)) second)
 
 -- the tables are there without a call counted
 pub settled_none : (version : ℕ) (old new : State) → GoesOn old new → IsSettled version old.now new.now → HasNone new
@@ -199,16 +202,17 @@ pub filled_by : (version : ℕ) (s0 s1 s2 s3 : State) → GoesOn s0 s1 → IsSet
 filled_by version s0 s1 s2 s3 on settled held same next whole =
     let still : GoesOn s1 s2 = record { was_open = on.is_open; is_open = same.0.is_open; now_is = refl; committed_is = same.0.committed_is; mode = same.0.mode ∙ on.mode } in
     let w : KeepsRows core_tables.tables s1.now.trees s3.now.trees = subst (λ (d : Database). KeepsRows core_tables.tables d.trees s3.now.trees) same.0.now_is whole.rows in
-    let r = settled.rows in (
+    let Same = λ (t : Table). s3.now.trees t.tree ≡ s1.now.trees t.tree in
+    let first = all_front Same first_list second_list w in (
       goes_on s0 s1 s3 on (goes_on s1 s2 s3 still next),
       record {
         version_is = settled.was;
         held = held_before s0.now s1.now settled.rows held;
         schema_is = whole.schema_is;
         sound = whole.sound;
-        rows = (w.0 ∙ r.0, (w.1.0 ∙ r.1.0, (w.1.1.0 ∙ r.1.1.0, (w.1.1.1.0 ∙ r.1.1.1.0, (w.1.1.1.1.0 ∙ r.1.1.1.1.0, tt)))));
-        meta = λ can. w.1.1.1.1.1.0 ∙ settled.meta can;
-        floors = w.1.1.1.1.1.1.0 ∙ settled.floors;
+        rows = kept_rows alike_list s0.now.trees s1.now.trees s3.now.trees settled.rows (all_front Same alike_list (schema.meta ∷ []) first);
+        meta = λ can. at_tree (λ tree. s3.now.trees tree ≡ s1.now.trees tree) first_list meta_tree refl first ∙ settled.meta can;
+        second = kept_rows second_list s0.now.trees s1.now.trees s3.now.trees settled.second (all_behind Same first_list second_list w);
       },
     )
 

@@ -21,8 +21,8 @@ use Rattle.fax_value.specs.Dial.{IsCanonical}
 use Rattle.fax_tables.specs.Job.{IsText}
 use Rattle.fax_tables.specs.Row.{number}
 use Rattle.fax_schema.specs.ByRowid.{IsByRowid}
-use Rattle.fax_schema.specs.Schema.{AreOurs, alike_list, no_tables, bare_tables, first_bare, first_core, first_older_core, our_tables, core_tables, calls_tree, floors_tree, has_floors, holds_tree, jobs_tree, meta_tree}
-use Rattle.fax_tables.specs.Tables.{GoesOn, HasVersion, IsAtRest, Renews, RowsMean, TablesMean, floors_in, meta_as, meta_in, versions}
+use Rattle.fax_schema.specs.Schema.{AreOurs, alike_list, second_list, no_tables, bare_tables, first_bare, first_core, first_older_core, our_tables, core_tables, calls_tree, has_floors, holds_tree, jobs_tree, meta_tree}
+use Rattle.fax_tables.specs.Tables.{GoesOn, HasVersion, IsAtRest, Renews, RowsMean, TablesMean, meta_as, meta_in, second_in, versions}
 use Rattle.sqlite_trees.specs.Tree.{Trees}
 use Rattle.fax_store.specs.Grant.{HasCalls, SetsCalls}
 use Rattle.fax_store.specs.Work.{Withholds}
@@ -55,7 +55,7 @@ pub record IsTaken (db after : Database) : Type 0 where
   pub sound : IsDatabase after
   pub rows : KeepsRows alike_list db.trees after.trees
   pub meta : IsRaisable db → after.trees meta_tree ≡ meta_in db
-  pub floors : after.trees floors_tree ≡ floors_in db
+  pub second : KeepsRows second_list (second_in db) after.trees
 
 -- no work is under way, and the database has got all of them
 pub record HasTaken (s : State) (db : Database) : Type 0 where
@@ -169,7 +169,7 @@ pub record IsSettled (version : ℕ) (db after : Database) : Type 0 where
   pub sound : IsDatabase after
   pub rows : KeepsRows alike_list db.trees after.trees
   pub meta : IsRaisableFrom version db → after.trees meta_tree ≡ meta_as version (db.trees meta_tree)
-  pub floors : after.trees floors_tree ≡ db.trees floors_tree
+  pub second : KeepsRows second_list db.trees after.trees
   pub none : after.trees calls_tree ≡ []
 
 -- it was of this version, with a job for each hold, and has all tables
@@ -180,7 +180,7 @@ pub record IsFilled (version : ℕ) (db after : Database) : Type 0 where
   pub sound : IsDatabase after
   pub rows : KeepsRows alike_list db.trees after.trees
   pub meta : IsRaisableFrom version db → after.trees meta_tree ≡ meta_as version (db.trees meta_tree)
-  pub floors : after.trees floors_tree ≡ db.trees floors_tree
+  pub second : KeepsRows second_list db.trees after.trees
 
 -- the rows of all tables but `calls` are those of a database that means this
 abbrev pub CoreMeans : Database → Queue → Ledger → Type 0
@@ -192,7 +192,7 @@ pub record MeansAs (version : ℕ) (db : Database) (m : Queue) (k : Ledger) : Ty
   pub means : TablesMean full m k
   pub rows : KeepsRows alike_list db.trees full.trees
   pub meta : full.trees meta_tree ≡ meta_as version (db.trees meta_tree)
-  pub floors : full.trees floors_tree ≡ db.trees floors_tree
+  pub second : KeepsRows second_list db.trees full.trees
 
 -- ---- the calls, counted anew
 

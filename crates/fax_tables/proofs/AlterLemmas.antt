@@ -9,7 +9,7 @@ use Rattle.sqlite_catalog.specs.Change.{created}
 use Rattle.sqlite_schema.specs.declared.schema.Schema.{Schema}
 use Rattle.sqlite_schema.specs.declared.schema.Table.{Table}
 use Rattle.sqlite_trees.specs.declared.store.Store.{Ghosts}
-use Rattle.fax_schema.proofs.CreateTexts.{Makes}
+use Rattle.fax_schema.proofs.StatementForms.{Makes}
 use Rattle.fax_tables.specs.Making.{Alters, Always}
 use Rattle.fax_tables.specs.Stop.{HoldsBack}
 use Rattle.fax_tables.specs.Tables.{GoesOn, HasEmptyTables}

@@ -1,8 +1,6 @@
 -- What the texts that make the tables leave.
-use Rattle.std.proofs.Common.{◌≡◌, ◌≤◌, ℕ, pos, List, [], ◌∷◌, ◌++◌, map, drop, true, false, IsTrue, slice_get, Some, None, Ok, Err, Result, refl, sym, ap, ap₂, subst, subst₂, ◌∙◌, arith, if◌then◌else◌}
+use Rattle.std.proofs.Common.{◌≡◌, ◌≤◌, ℕ, pos, List, [], ◌∷◌, ◌++◌, true, false, IsTrue, slice_get, Some, None, Ok, Err, Result, refl, sym, ap, ap₂, subst, subst₂, ◌∙◌, arith, if◌then◌else◌}
 use Rattle.std.specs.List.{AllByRecursion}
-use Rattle.std.specs.List.Sorted.{IsPermutation}
-use Rattle.std.proofs.lemmas.List.Sorted.{IsPermutation-refl}
 use Rattle.sqlite.specs.Tree.{Trees, put_row}
 use Rattle.sqlite.specs.Cast.{cast_row}
 use Rattle.sqlite.specs.Edit.{with_rowid}
@@ -13,7 +11,6 @@ use Rattle.sqlite.specs.Listing.{understood}
 use Rattle.sqlite.specs.State.{State, HasCleanDisk, Executes, KeepsCommit, Shows, mode_of}
 use Rattle.sqlite.specs.declared.error.Error.{Error}
 use Rattle.std.specs.Bool.{MatchBool}
-use Rattle.sqlite.specs.Order.{Row}
 use Rattle.sqlite.specs.Rows.{Outcome, Task}
 use Rattle.sqlite.specs.Does.{AtPlace, Defines, Does, Drops, Empties, Leaves, MakesIndex, MakesTable, Tally, Uncounts, is_acted_on, lacks_sequence, sequence_text}
 use Rattle.sqlite.specs.Compile.{table_defined_by, index_defined_by}
@@ -29,16 +26,17 @@ use Rattle.sqlite_schema.specs.declared.schema.Keys.TheVariants.{Enforced}
 use Rattle.fax_schema.specs.declared.statements.TheConstants.{INSERT_META}
 use Rattle.fax_core.specs.Ledger.{empty_ledger}
 use Rattle.fax_core.specs.Queue.{empty_queue}
-use Rattle.fax_core.specs.State.{calls_to}
-use Rattle.sqlite_rules.specs.Lists.{Has}
 use Rattle.fax_schema.specs.Schema as schema
-use Rattle.fax_schema.specs.Schema.{no_tables, first_bare, first_list, core_list, bare_tables, core_tables, our_tables, has_floors, calls_tree, floors_tree, meta_tree}
+use Rattle.fax_schema.specs.Schema.{no_tables, first_bare, first_list, second_list, core_list, bare_tables, core_tables, our_tables, has_floors, meta_tree}
 use Rattle.fax_tables.specs.Row.{meta_row}
-use Rattle.fax_tables.specs.Tables.{GoesOn, HasEmptyTables, AreCounted, HasNewCalls, HasNewFloors, IsIndexed, Renews, TablesMean, floors_in}
-use Rattle.fax_schema.specs.ByRowid.{IsByRowid}
-use Rattle.fax_schema.proofs.CreateTexts.{LosesIndex, Makes, MakesIndexOf, TakesAway}
+use Rattle.fax_tables.specs.Tables.{GoesOn, HasEmptyTables, HasNewCalls, HasNewFloors, IsIndexed, Renews, TablesMean, second_in}
+use Rattle.fax_tables.proofs.TablesLemmas.{Name, founded, is_ours, meta, rows_kept, tree_of}
+use Rattle.fax_schema.proofs.CreateTexts.{LosesIndex, MakesIndexOf, TakesAway}
+use Rattle.fax_schema.proofs.StatementForms.{Makes}
 use Rattle.fax_schema.proofs.CompareLemmas.{same_row, cast_int, cast_null}
-use Rattle.fax_schema.proofs.CreateTexts.{insert_meta}
+use Rattle.fax_schema.proofs.StatementTexts.{insert_meta}
+use Rattle.fax_schema.proofs.RowsLemmas.{all_behind, all_both, all_front, all_given, all_mapped, at_tree}
+pub use Rattle.fax_schema.proofs.RowsLemmas.{kept_rows}
 use Rattle.fax_schema.proofs.WriteLemmas.{went, unreferred, inserts}
 
 -- a disk that is clean at the end was clean before
@@ -57,11 +55,6 @@ still_empty (t ∷ ts) old new kept empty = (kept.0 ∙ empty.0, still_empty ts 
 one_more : (tables : List Table) (new : Trees) (t : Table) → new t.tree ≡ [] → AllByRecursion (λ t. new t.tree ≡ []) tables → AllByRecursion (λ t. new t.tree ≡ []) (tables ++ t ∷ [])
 one_more [] new t own all = (own, tt)
 one_more (x ∷ xs) new t own all = (all.0, one_more xs new t own all.1)
-
--- where none of the tables has rows, none but the last has either
-but_last : (tables : List Table) (new : Trees) (t : Table) → AllByRecursion (λ t. new t.tree ≡ []) (tables ++ t ∷ []) → AllByRecursion (λ t. new t.tree ≡ []) tables
-but_last [] new t all = tt
-but_last (x ∷ xs) new t all = (all.0, but_last xs new t all.1)
 
 -- a transaction that goes on commits nothing
 pub goes_on : (a b c : State) → GoesOn a b → GoesOn b c → GoesOn a c
@@ -112,15 +105,14 @@ made old new before after sql table count makes is none h was =
     (it.0, record { inside = it.0.mode; schema_is = it.1; empty = subst (λ s. AllByRecursion (λ t. new.now.trees t.tree ≡ []) s.tables) is all })
 
 -- a table is gone, to which no other refers, and the rows of the others stay
-pub dropped : (old new : State) (before after : Schema) (sql : List ℕ) (at : ℕ) (table : Table) (count : ℕ) → TakesAway before sql at → slice_get before.tables at ≡ Some table → is_acted_on before Enforced table ≡ false → table.is_counted ≡ false
-    → without_table before table.tree ≡ after → Executes sql [] old new (Ok count) → IsTrue old.in_transaction → old.now.schema ≡ before
+pub dropped : (old new : State) (before after : Schema) (sql : List ℕ) (count : ℕ) → TakesAway before sql after → Executes sql [] old new (Ok count) → IsTrue old.in_transaction → old.now.schema ≡ before
     → GoesOn old new × (new.now.schema ≡ after) × IsDatabase new.now × KeepsRows after.tables old.now.trees new.now.trees
-dropped old new before after sql at table count takes last unacted uncounted is h inside has =
-    let ran = runs_as sql [] old new before has (DropTable at) takes.command takes.plain count h in
+dropped old new before after sql count takes h inside has =
+    let ran = runs_as sql [] old new before has (DropTable takes.at) takes.command takes.plain count h in
     let out = Ok (ran.tally, new.now) in
     let task = λ (t : Table). the_task t in
-    let does = subst (λ s. Does old.step_limit (mode_of old) [] (record old.now { schema = s }) (statement_of sql (understood before sql)) None (DropTable at) out) has ran.changed in
-    let on = subst (λ t. AtPlace (λ (u : Table). Drops (task u) (mode_of old) old.now.trees) t out) last does in
+    let does = subst (λ s. Does old.step_limit (mode_of old) [] (record old.now { schema = s }) (statement_of sql (understood before sql)) None (DropTable takes.at) out) has ran.changed in
+    let on = subst (λ t. AtPlace (λ (u : Table). Drops (task u) (mode_of old) old.now.trees) t out) takes.has does in
     let emptied = went on in
     let first : emptied.0 ≡ old.now.trees = same_ok (emptied_as emptied.0 emptied.1) in
     let lessened = went emptied.2 in
@@ -129,41 +121,35 @@ dropped old new before after sql at table count takes last unacted uncounted is 
     let left = went tested.2 in
     let now : new.now ≡ left.0 = ap (λ (p : Tally × Database). p.1) (same_ok left.2) in (
       inside_shown old new _ inside ran.shown,
-      ap (λ (d : Database). d.schema) now ∙ left.1.0 ∙ is,
+      ap (λ (d : Database). d.schema) now ∙ left.1.0 ∙ takes.left,
       ran.sound,
-      subst₂ (λ (ts : Trees) (d : Database). KeepsRows after.tables ts d.trees) (second ∙ first) (sym now) (subst (λ (s : Schema). KeepsRows s.tables lessened.0 left.0.trees) is left.1.1),
+      subst₂ (λ (ts : Trees) (d : Database). KeepsRows after.tables ts d.trees) (second ∙ first) (sym now) (subst (λ (s : Schema). KeepsRows s.tables lessened.0 left.0.trees) takes.left left.1.1),
     )
   where
     the_task : Table → Task
     the_task t = record { limit = old.step_limit; keys = Enforced; schema = before; table = t; params = [] }
 
-    emptied_as : (e : Trees) → Empties (the_task table) old.now.trees (Ok e) → ◌≡◌ {A = Outcome Trees} (Ok e) (Ok old.now.trees)
-    emptied_as e h = rw unacted at h
+    emptied_as : (e : Trees) → Empties (the_task takes.table) old.now.trees (Ok e) → ◌≡◌ {A = Outcome Trees} (Ok e) (Ok old.now.trees)
+    emptied_as e h = rw takes.unacted at h
 
-    uncounted_as : (e l : Trees) → Uncounts (the_task table) e (Ok l) → ◌≡◌ {A = Outcome Trees} (Ok l) (Ok e)
-    uncounted_as e l h = rw uncounted at h
+    uncounted_as : (e l : Trees) → Uncounts (the_task takes.table) e (Ok l) → ◌≡◌ {A = Outcome Trees} (Ok l) (Ok e)
+    uncounted_as e l h = rw takes.uncounted at h
 
 -- an index is gone, and the rows stay
-pub lost_index : (old new : State) (before after : Schema) (sql : List ℕ) (at : ℕ) (index : Index) (count : ℕ) → LosesIndex before sql at → slice_get before.indexes at ≡ Some index → without_index before index.tree ≡ after
-    → Executes sql [] old new (Ok count) → IsTrue old.in_transaction → old.now.schema ≡ before
+pub lost_index : (old new : State) (before after : Schema) (sql : List ℕ) (count : ℕ) → LosesIndex before sql after → Executes sql [] old new (Ok count) → IsTrue old.in_transaction → old.now.schema ≡ before
     → GoesOn old new × (new.now.schema ≡ after) × IsDatabase new.now × KeepsRows after.tables old.now.trees new.now.trees
-lost_index old new before after sql at index count loses there is h inside has =
-    let ran = runs_as sql [] old new before has (DropIndex at) loses.command loses.plain count h in
+lost_index old new before after sql count loses h inside has =
+    let ran = runs_as sql [] old new before has (DropIndex loses.at) loses.command loses.plain count h in
     let out = Ok (ran.tally, new.now) in
-    let does = subst (λ s. Does old.step_limit (mode_of old) [] (record old.now { schema = s }) (statement_of sql (understood before sql)) None (DropIndex at) out) has ran.changed in
-    let on = subst (λ i. AtPlace (λ (x : Index). Defines (mode_of old) (Leaves (without_index before x.tree) old.now.trees (RefusesToAlter (RefusesToDropIndex x)))) i out) there does in
+    let does = subst (λ s. Does old.step_limit (mode_of old) [] (record old.now { schema = s }) (statement_of sql (understood before sql)) None (DropIndex loses.at) out) has ran.changed in
+    let on = subst (λ i. AtPlace (λ (x : Index). Defines (mode_of old) (Leaves (without_index before x.tree) old.now.trees (RefusesToAlter (RefusesToDropIndex x)))) i out) loses.has does in
     let left = went on in
     let now : new.now ≡ left.0 = ap (λ (p : Tally × Database). p.1) (same_ok left.2) in (
       inside_shown old new _ inside ran.shown,
-      ap (λ (d : Database). d.schema) now ∙ left.1.0 ∙ is,
+      ap (λ (d : Database). d.schema) now ∙ left.1.0 ∙ loses.left,
       ran.sound,
-      subst (λ (d : Database). KeepsRows after.tables old.now.trees d.trees) (sym now) (subst (λ (s : Schema). KeepsRows s.tables old.now.trees left.0.trees) is left.1.1),
+      subst (λ (d : Database). KeepsRows after.tables old.now.trees d.trees) (sym now) (subst (λ (s : Schema). KeepsRows s.tables old.now.trees left.0.trees) loses.left left.1.1),
     )
-
--- rows that were kept in more tables were kept in these
-pub kept_but_last : (tables : List Table) (t : Table) (a b : Trees) → KeepsRows (tables ++ t ∷ []) a b → KeepsRows tables a b
-kept_but_last [] t a b kept = tt
-kept_but_last (x ∷ xs) t a b kept = (kept.0, kept_but_last xs t a b kept.1)
 
 -- one more index of jobs, and the rows that there were
 pub made_index : (old new : State) (before after : Schema) (sql : List ℕ) (index : Index) (count : ℕ) → MakesIndexOf before sql index → slice_get before.tables 0 ≡ Some schema.jobs → indexed before schema.jobs index ≡ after
@@ -183,69 +169,79 @@ made_index old new before after sql index count makes first is h inside has =
       subst (λ (d : Database). KeepsRows before.tables old.now.trees d.trees) (sym now) made.1.rows,
     )
 
--- rows that were kept twice are kept
-pub kept_rows : (tables : List Table) (a b c : Trees) → KeepsRows tables a b → KeepsRows tables b c → KeepsRows tables a c
-kept_rows [] a b c first next = tt
-kept_rows (t ∷ ts) a b c first next = (next.0 ∙ first.0, kept_rows ts a b c first.1 next.1)
-
 -- ---- all rows but those of `calls`
 
--- where the schema has floors, the rows of floors are those of its table
-pub floors_there : (db : Database) (schema : Schema) → db.schema ≡ schema → has_floors schema ≡ true → floors_in db ≡ db.trees floors_tree
-floors_there db schema is there = ap (λ b. if b then db.trees floors_tree else []) (ap has_floors is ∙ there)
+-- where the schema is of the second version, the rows of its tables are those
+pub second_there : (db : Database) (schema : Schema) (tree : ℕ) → db.schema ≡ schema → has_floors schema ≡ true → second_in db tree ≡ db.trees tree
+second_there db schema tree is there = ap (λ b. if b then db.trees tree else []) (ap has_floors is ∙ there)
 
--- and where it has none, there are none
-no_floors : (db : Database) (schema : Schema) → db.schema ≡ schema → has_floors schema ≡ false → floors_in db ≡ []
-no_floors db schema is none = ap (λ b. if b then db.trees floors_tree else []) (ap has_floors is ∙ none)
+-- and where it is of the first, there are none
+second_none : (db : Database) (schema : Schema) (tree : ℕ) → db.schema ≡ schema → has_floors schema ≡ false → second_in db tree ≡ []
+second_none db schema tree is none = ap (λ b. if b then db.trees tree else []) (ap has_floors is ∙ none)
 
 -- of the first version, which stays
 pub renews_first : (db after : Database) (a c : Schema) → has_floors a ≡ false → has_floors c ≡ false → db.schema ≡ a → after.schema ≡ c → KeepsRows first_list db.trees after.trees → Renews db after
-renews_first db after a c none still was is rows = record { rows = rows; floors = no_floors after c is still ∙ sym (no_floors db a was none) }
+renews_first db after a c none still was is rows = record {
+  rows = rows;
+  second = all_given (λ t. second_in after t.tree ≡ second_in db t.tree) second_list (λ t. second_none after c t.tree is still ∙ sym (second_none db a t.tree was none));
+}
 
 -- of the second
 pub renews_core : (db after : Database) (a c : Schema) → has_floors a ≡ true → has_floors c ≡ true → db.schema ≡ a → after.schema ≡ c → KeepsRows core_list db.trees after.trees → Renews db after
 renews_core db after a c there still was is rows = record {
-  rows = kept_but_last first_list schema.floors db.trees after.trees rows;
-  floors = floors_there after c is still ∙ rows.1.1.1.1.1.1.0 ∙ sym (floors_there db a was there);
+  rows = all_front (λ t. after.trees t.tree ≡ db.trees t.tree) first_list second_list rows;
+  second = all_mapped (λ t. after.trees t.tree ≡ db.trees t.tree) (λ t. second_in after t.tree ≡ second_in db t.tree) second_list
+      (λ t same. second_there after c t.tree is still ∙ same ∙ sym (second_there db a t.tree was there)) (all_behind (λ t. after.trees t.tree ≡ db.trees t.tree) first_list second_list rows);
 }
 
--- of the first, to which floors come, with no rows
-pub renews_raised : (db after : Database) → db.schema ≡ first_bare → after.schema ≡ bare_tables → KeepsRows first_list db.trees after.trees → after.trees floors_tree ≡ [] → Renews db after
-renews_raised db after was is rows none = record { rows = rows; floors = floors_there after bare_tables is refl ∙ none ∙ sym (no_floors db first_bare was refl) }
+-- of the first, to which the tables of the second come, with no rows
+pub renews_raised : (db after : Database) → db.schema ≡ first_bare → after.schema ≡ bare_tables → KeepsRows first_list db.trees after.trees → AllByRecursion (λ t. after.trees t.tree ≡ []) second_list → Renews db after
+renews_raised db after was is rows none = record {
+  rows = rows;
+  second = all_mapped (λ t. after.trees t.tree ≡ []) (λ t. second_in after t.tree ≡ second_in db t.tree) second_list (λ t empty. second_there after bare_tables t.tree is refl ∙ empty ∙ sym (second_none db first_bare t.tree was refl)) none;
+}
 
 -- and then again
 pub renews_then : (a b c : Database) → Renews a b → Renews b c → Renews a c
-renews_then a b c first next = record { rows = kept_rows first_list a.trees b.trees c.trees first.rows next.rows; floors = next.floors ∙ first.floors }
+renews_then a b c first next = record {
+  rows = kept_rows first_list a.trees b.trees c.trees first.rows next.rows;
+  second = kept_rows second_list (second_in a) (second_in b) (second_in c) first.second next.second;
+}
 
 -- ---- tables with no rows
 
--- with floors
+-- all tables of the second version have none, where those of the other had none
+core_empty : (db after : Database) (c : Schema) → has_floors c ≡ true → after.schema ≡ c → Renews db after → AllByRecursion (λ t. db.trees t.tree ≡ []) first_list → AllByRecursion (λ t. second_in db t.tree ≡ []) second_list
+    → AllByRecursion (λ t. after.trees t.tree ≡ []) core_list
+core_empty db after c there is renews first second =
+    all_both (λ t. after.trees t.tree ≡ []) first_list second_list (still_empty first_list db.trees after.trees renews.rows first)
+    (all_mapped (λ t. second_in after t.tree ≡ []) (λ t. after.trees t.tree ≡ []) second_list (λ t none. sym (second_there after c t.tree is there) ∙ none) (still_empty second_list (second_in db) (second_in after) renews.second second))
+
+-- so it is behind tables of the second version
+still_core : (db after : Database) (a c : Schema) → has_floors a ≡ true → has_floors c ≡ true → db.schema ≡ a → after.schema ≡ c → Renews db after → AllByRecursion (λ t. db.trees t.tree ≡ []) core_list
+    → AllByRecursion (λ t. after.trees t.tree ≡ []) core_list
+still_core db after a c was there has is renews empty =
+    core_empty db after c there is renews (all_front (λ t. db.trees t.tree ≡ []) first_list second_list empty)
+    (all_mapped (λ t. db.trees t.tree ≡ []) (λ t. second_in db t.tree ≡ []) second_list (λ t none. second_there db a t.tree has was ∙ none) (all_behind (λ t. db.trees t.tree ≡ []) first_list second_list empty))
+
+-- with those of the second version
 pub raised_empty : (old new : State) → HasEmptyTables first_bare old → GoesOn old new → HasNewFloors old.now new.now → HasEmptyTables bare_tables new
 raised_empty old new was on is = record {
   inside = on.mode;
   schema_is = is.schema_is;
-  empty = one_more first_list new.now.trees schema.floors (sym (floors_there new.now bare_tables is.schema_is refl) ∙ is.renews.floors ∙ no_floors old.now first_bare was.schema_is refl)
-      (still_empty first_list old.now.trees new.now.trees is.renews.rows was.empty);
+  empty = core_empty old.now new.now bare_tables refl is.schema_is is.renews was.empty (all_given (λ t. second_in old.now t.tree ≡ []) second_list (λ t. second_none old.now first_bare t.tree was.schema_is refl));
 }
 
 -- and with the indexes
 pub indexed_empty : (old new : State) → HasEmptyTables bare_tables old → GoesOn old new → IsIndexed old.now new.now → HasEmptyTables core_tables new
-indexed_empty old new was on is = record {
-  inside = on.mode;
-  schema_is = is.schema_is;
-  empty = one_more first_list new.now.trees schema.floors
-      (sym (floors_there new.now core_tables is.schema_is refl) ∙ is.renews.floors ∙ floors_there old.now bare_tables was.schema_is refl ∙ was.empty.1.1.1.1.1.1.0)
-      (still_empty first_list old.now.trees new.now.trees is.renews.rows (but_last first_list old.now.trees schema.floors was.empty));
-}
+indexed_empty old new was on is = record { inside = on.mode; schema_is = is.schema_is; empty = still_core old.now new.now bare_tables core_tables refl refl was.schema_is is.schema_is is.renews was.empty }
 
 -- and with `calls`
 pub beside_empty : (old new : State) → HasEmptyTables core_tables old → GoesOn old new → HasNewCalls old.now new.now → HasEmptyTables our_tables new
 beside_empty old new was on is = record {
   inside = on.mode;
   schema_is = is.schema_is;
-  empty = one_more core_list new.now.trees schema.calls is.none (one_more first_list new.now.trees schema.floors
-      (sym (floors_there new.now our_tables is.schema_is refl) ∙ is.renews.floors ∙ floors_there old.now core_tables was.schema_is refl ∙ was.empty.1.1.1.1.1.1.0)
-      (still_empty first_list old.now.trees new.now.trees is.renews.rows (but_last first_list old.now.trees schema.floors was.empty)));
+  empty = one_more core_list new.now.trees schema.calls is.none (still_core old.now new.now core_tables our_tables refl refl was.schema_is is.schema_is is.renews was.empty);
 }
 
 -- the row of meta of an empty store is stored as it is
@@ -256,49 +252,12 @@ stored_meta = same_row (cast_int (pos 1)) (same_row cast_null (same_row (cast_in
 pub filled : (old new : State) (count : ℕ) → Executes INSERT_META.now [] old new (Ok count) → HasEmptyTables our_tables old → GoesOn old new × TablesMean new.now empty_queue empty_ledger
 filled old new count h was =
     let ran = runs_as INSERT_META.now [] old new our_tables was.schema_is _ insert_meta.is insert_meta.plain count h in
-    let done = inserts our_tables unreferred schema.meta.name 10 schema.meta.columns schema.meta.key schema.meta.primary schema.meta.uniques schema.meta.orders schema.meta.checks 5 refl old new was.schema_is [] _ count
+    let done = inserts our_tables unreferred schema.meta.name meta_tree schema.meta.columns schema.meta.key schema.meta.primary schema.meta.uniques schema.meta.orders schema.meta.checks 5 refl old new was.schema_is [] _ count
     _ 6 (meta_row empty_queue) (meta_row empty_queue) refl (ap (with_rowid Chosen (old.now.trees meta_tree)) stored_meta) ran in
-    let others = done.keeps.others in
-    let jobs = others.0 (λ e. absurd (omega arith)) ∙ was.empty.0 in
-    let grants = others.1.0 (λ e. absurd (omega arith)) ∙ was.empty.1.0 in
-    let holds = others.1.1.0 (λ e. absurd (omega arith)) ∙ was.empty.1.1.0 in
-    let down = others.1.1.1.0 (λ e. absurd (omega arith)) ∙ was.empty.1.1.1.0 in
-    let replies = others.1.1.1.1.0 (λ e. absurd (omega arith)) ∙ was.empty.1.1.1.1.0 in
-    let floors = others.1.1.1.1.1.1.0 (λ e. absurd (omega arith)) ∙ was.empty.1.1.1.1.1.1.0 in
-    let calls = others.1.1.1.1.1.1.1.0 (λ e. absurd (omega arith)) ∙ was.empty.1.1.1.1.1.1.1.0 in (
+    let empty = λ (name : Name). at_tree (λ tree. old.now.trees tree ≡ []) our_tables.tables (tree_of name) (is_ours name) was.empty in (
       inside_shown old new _ was.inside done.keeps.shown,
-      record {
-        schema = done.keeps.schema_is;
-        sound = done.keeps.sound;
-        jobs = jobs;
-        grants = grants;
-        holds = subst (λ rows. IsPermutation [] (map (drop 1) rows)) (sym holds) (IsPermutation-refl []);
-        down = ap (map (drop 1)) down;
-        replies = ap (map (drop 1)) replies;
-        meta = done.rows ∙ ap (put_row (meta_row empty_queue)) was.empty.1.1.1.1.1.0;
-        held = λ g none. absurd none;
-        floors = none_given floors;
-        calls = none_counted calls;
-        ordered = record { jobs = rows_none _ jobs; grants = rows_none _ grants; holds = rows_none _ holds; down = rows_none _ down; replies = rows_none _ replies; floors = rows_none _ floors; calls = rows_none _ calls };
-        lawful = record {
-          jobs = λ i d low. absurd (omega arith);
-          grants = λ i d low. absurd (omega arith);
-          down = λ i d low. absurd (omega arith);
-          replies = λ i d low. absurd (omega arith);
-          meta = record { clock = omega arith; next_job = (omega arith, omega arith); next_grant = (omega arith, omega arith) };
-          floors = λ client some. absurd (omega arith);
-        };
-      },
+      founded old.now new.now done.keeps.schema_is done.keeps.sound (done.rows ∙ ap (put_row (meta_row empty_queue)) (empty meta)) empty (rows_kept old new meta_tree done.keeps),
     )
-  where
-    rows_none : (rows : List Row) → rows ≡ [] → IsByRowid rows
-    rows_none rows none = subst IsByRowid (sym none) (record { rise = tt; integers = tt })
-
-    none_given : new.now.trees floors_tree ≡ [] → AreCounted (λ _. 0) (map (drop 1) (new.now.trees floors_tree))
-    none_given none = record { each = λ row has. absurd (subst (λ rows. Has (map (drop 1) rows) row) none has); all = λ client some. absurd (omega arith) }
-
-    none_counted : new.now.trees calls_tree ≡ [] → AreCounted (λ dial. calls_to dial empty_queue) (map (drop 1) (new.now.trees calls_tree))
-    none_counted none = record { each = λ row has. absurd (subst (λ rows. Has (map (drop 1) rows) row) none has); all = λ dial some. absurd (omega arith) }
 
 -- a database with no tables has none with rows
 pub none_at_first : (s : State) → IsTrue s.in_transaction → s.now.schema ≡ no_tables → HasEmptyTables no_tables s

@@ -1,5 +1,5 @@
 -- A row whose keys are free keeps the keys of its table apart.
-use Rattle.std.proofs.Common.{◌≡◌, ◌⊎◌, inl, inr, ℕ, ℤ, pos, List, [], ◌∷◌, map, IsTrue, Bool, true, false, not, ◌&&◌, None, refl, sym, ap, ap₂, subst, ◌∙◌, arith}
+use Rattle.std.proofs.Common.{◌≡◌, ◌⊎◌, inl, inr, ℕ, ℤ, pos, List, [], ◌∷◌, map, filter, IsTrue, Bool, true, false, not, ◌&&◌, None, refl, sym, ap, ap₂, subst, ◌∙◌, arith}
 use Rattle.std.specs.Prelude.{find, ◌==◌, if◌then◌else◌}
 use Rattle.std.specs.List.{AllByRecursion, list_all, list_any}
 use Rattle.std.specs.Ordering.{is_eq}
@@ -74,9 +74,21 @@ module _ (o : Order) (places : List ℕ) (rows : List Row) (new : Row) (itself :
       by (inl is) x among = ap (λ y. clash y x) is ∙ of_new x among
       by (inr old) x among = of_old r old (was old) x among
 
+-- what holds of the indexes of a table's keys holds of all that are such
+guarded : (P : Index → Type 0) (table : Table) (indexes : List Index) → AllByRecursion P (filter (λ i. guards i table) indexes) → AllByRecursion (λ i. guards i table ≡ true → P i) indexes
+guarded P table [] all = tt
+guarded P table (i ∷ is) all = elim (cases_Bool (guards i table)) [
+  | inl on ↦ (let those : AllByRecursion P (i ∷ filter (λ j. guards j table) is) = rw on at all in ((λ _. those.0), guarded P table is those.1))
+  | inr off ↦ (let those : AllByRecursion P (filter (λ j. guards j table) is) = rw off at all in ((λ on. absurd (let no = sym off ∙ on in cc)), guarded P table is those))
+]
+
 -- under all of them
 module _ (schema : Schema) (db : Trees) (table : Table) (new : Row) (was : Keeps Unique schema db) (itself : differ (rowid new) (rowid new) ≡ false)
-    (free : AllByRecursion (λ (i : Index). guards i table ≡ true → (x : Row) → Has (db table.tree) x → agree i.order i.columns x i.columns new ≡ false) schema.indexes) where
+    (alone : AllByRecursion (λ (i : Index). (x : Row) → Has (db table.tree) x → agree i.order i.columns x i.columns new ≡ false) (filter (λ i. guards i table) schema.indexes)) where
+  -- the new row agrees with none in a key
+  free : AllByRecursion (λ (i : Index). guards i table ≡ true → (x : Row) → Has (db table.tree) x → agree i.order i.columns x i.columns new ≡ false) schema.indexes
+  free = guarded (λ i. (x : Row) → Has (db table.tree) x → agree i.order i.columns x i.columns new ≡ false) table schema.indexes alone
+
   abbrev after : Trees
   after = with_tree db table.tree (put_row new (db table.tree))
 

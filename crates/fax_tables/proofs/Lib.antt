@@ -12,4 +12,5 @@ pub mod CreateLemmas
 pub mod WayLemmas
 pub mod StopLemmas
 pub mod AlterLemmas
+pub mod MakingLemmas
 pub mod Rows

@@ -1,6 +1,8 @@
 -- Why an INSERT is refused: a row that may stand in its table breaks none of the rules.
 use Rattle.std.proofs.Common.{◌≡◌, ◌⊎◌, inl, inr, ℕ, zero, suc, ◌/◌, List, [], ◌∷◌, ◌++◌, length, slice_get, true, false, not, ◌&&◌, Option, Some, None, option_map, Ok, Err, Result, refl, sym, ap, subst, subst₂, ◌∙◌, arith, append-nil, length-append}
-use Rattle.std.proofs.lemmas.Bool.{cases_Bool}
+use Rattle.std.specs.Prelude.{◌==◌, ◌||◌}
+use Rattle.std.specs.List.{AllByRecursion, list_all}
+use Rattle.std.proofs.lemmas.Bool.{and_parts, cases_Bool, eqb-true}
 use Rattle.sqlite.specs.Clock.{timed}
 use Rattle.sqlite.specs.Order.{Row}
 use Rattle.sqlite.specs.Tree.{Trees, put_row, with_tree}
@@ -21,11 +23,12 @@ use Rattle.sqlite_resolve.specs.declared.compiled.Compiled.{Compiled}
 use Rattle.sqlite_rules.specs.Action.{works, Leads, Writes}
 use Rattle.sqlite_rules.specs.declared.error.Refusal.{Refusal}
 use Rattle.sqlite_rules.specs.declared.error.Refusal.TheVariants.{Violates, Mismatch, NoRowid, BadReference, TooDeep}
-use Rattle.sqlite_schema.specs.Rules.{passes, Keeps, Refers}
+use Rattle.sqlite_schema.specs.Rules.{passes, Keeps, Refers, has_parent, is_among}
 use Rattle.sqlite_schema.specs.declared.schema.Among.{Among}
 use Rattle.sqlite_schema.specs.declared.schema.Among.TheVariants.{All}
 use Rattle.sqlite_schema.specs.declared.schema.Constraint.TheVariants.{Datatype, NotNull, Check, PrimaryKey, Unique, ForeignKey}
 use Rattle.sqlite_schema.specs.declared.schema.Keys.TheVariants.{Enforced}
+use Rattle.sqlite_schema.specs.declared.schema.Reference.{Reference}
 use Rattle.sqlite_schema.specs.declared.schema.Schema.{Schema}
 use Rattle.sqlite_schema.specs.declared.schema.Table.{Table}
 use Rattle.sqlite_schema.specs.declared.schema.Column.{Column}
@@ -42,7 +45,19 @@ use Rattle.fax_schema.proofs.WriteLemmas.{unreferred}
 
 -- no row refers to another
 pub unasked : (among : Among) (trees : Trees) → Refers among our_tables trees
-unasked among trees = (all_of _ (λ r. refl) (trees 0), (all_of _ (λ r. refl) (trees 1), (all_of _ (λ r. refl) (trees 2), (all_of _ (λ r. refl) (trees 6), (all_of _ (λ r. refl) (trees 8), (all_of _ (λ r. refl) (trees 10), (all_of _ (λ r. refl) (trees 11), (all_of _ (λ r. refl) (trees 15), tt))))))))
+unasked among trees = by our_tables.tables refl
+  where
+    none : {X : Type 0} (xs : List X) → (length xs == 0) ≡ true → xs ≡ []
+    none [] is = refl
+    none (x ∷ xs) is = absurd (let e = eqb-true (length (x ∷ xs)) 0 is in omega (arith, e))
+
+    by : (tables : List Table) → list_all (λ t. length t.references == 0) tables ≡ true
+        → AllByRecursion (λ t. AllByRecursion (λ row. list_all (λ ref. not (is_among among ref) || has_parent our_tables.tables trees row ref) t.references ≡ true) (trees t.tree)) tables
+    by [] bare = tt
+    by (t ∷ ts) bare =
+        let parts = and_parts (length t.references == 0) (list_all (λ u. length u.references == 0) ts) bare in
+        let asks = λ (refs : List Reference). AllByRecursion (λ row. list_all (λ ref. not (is_among among ref) || has_parent our_tables.tables trees row ref) refs ≡ true) (trees t.tree) in
+        (subst asks (sym (none t.references parts.0)) (all_of _ (λ r. refl) (trees t.tree)), by ts parts.1)
 
 -- the row may stand in the table: each column has a value of its type, and no key of it is taken
 pub record MayStand (schema : Schema) (db : Trees) (table : Table) (row : Row) : Type 0 where

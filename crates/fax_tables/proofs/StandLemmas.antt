@@ -1,6 +1,5 @@
 -- Rows that may stand in the tables, where their keys are free.
 use Rattle.std.proofs.Common.{◌≡◌, ℕ, List, [], ◌∷◌, false, refl, subst}
-use Rattle.std.proofs.lemmas.Bool.{false≢true}
 use Rattle.sqlite.specs.Effect.{Database, IsDatabase}
 use Rattle.sqlite.specs.Edit.{is_taken, next_rowid}
 use Rattle.sqlite.specs.Order.{Row}
@@ -31,7 +30,7 @@ module _ (db : Database) (ours : db.schema ≡ our_tables) (sound : IsDatabase d
     present = refl;
     checked = refl;
     fresh = free;
-    unique = unique_still our_tables db.trees schema.jobs (job_row f) apart (no_other _) (λ g. absurd (false≢true g), (λ g. absurd (false≢true g), (λ g. absurd (false≢true g), (λ g. absurd (false≢true g), (λ g. absurd (false≢true g), (λ g. absurd (false≢true g), (λ g. absurd (false≢true g), (λ g. absurd (false≢true g), (λ g. absurd (false≢true g), tt)))))))));
+    unique = unique_still our_tables db.trees schema.jobs (job_row f) apart (no_other _) tt;
   }
 
   -- a grant may stand there where its number isn't taken
@@ -41,7 +40,7 @@ module _ (db : Database) (ours : db.schema ≡ our_tables) (sound : IsDatabase d
     present = refl;
     checked = refl;
     fresh = free;
-    unique = unique_still our_tables db.trees schema.grants (grant_row g) apart (no_other _) (λ g. absurd (false≢true g), (λ g. absurd (false≢true g), (λ g. absurd (false≢true g), (λ g. absurd (false≢true g), (λ g. absurd (false≢true g), (λ g. absurd (false≢true g), (λ g. absurd (false≢true g), (λ g. absurd (false≢true g), (λ g. absurd (false≢true g), tt)))))))));
+    unique = unique_still our_tables db.trees schema.grants (grant_row g) apart (no_other _) tt;
   }
 
   -- a hold's modem, job and grant are each held once
@@ -55,7 +54,7 @@ module _ (db : Database) (ours : db.schema ≡ our_tables) (sound : IsDatabase d
     present = refl;
     checked = refl;
     fresh = chosen_free (db.trees holds_tree) (hold_columns g) by.integers by.rise;
-    unique = unique_still our_tables db.trees schema.holds (Int (next_rowid (db.trees holds_tree)) ∷ hold_columns g) apart (no_other _) (λ g. modem, (λ g. job, (λ g. id, (λ g. absurd (false≢true g), (λ g. absurd (false≢true g), (λ g. absurd (false≢true g), (λ g. absurd (false≢true g), (λ g. absurd (false≢true g), (λ g. absurd (false≢true g), tt)))))))));
+    unique = unique_still our_tables db.trees schema.holds (Int (next_rowid (db.trees holds_tree)) ∷ hold_columns g) apart (no_other _) (modem, (job, (id, tt)));
   }
 
   -- a mark may, where the modem has none
@@ -66,7 +65,7 @@ module _ (db : Database) (ours : db.schema ≡ our_tables) (sound : IsDatabase d
     present = refl;
     checked = refl;
     fresh = chosen_free (db.trees down_tree) (down_columns modem) by.integers by.rise;
-    unique = unique_still our_tables db.trees schema.down (Int (next_rowid (db.trees down_tree)) ∷ down_columns modem) apart (no_other _) (λ g. absurd (false≢true g), (λ g. absurd (false≢true g), (λ g. absurd (false≢true g), (λ g. free, (λ g. absurd (false≢true g), (λ g. absurd (false≢true g), (λ g. absurd (false≢true g), (λ g. absurd (false≢true g), (λ g. absurd (false≢true g), tt)))))))));
+    unique = unique_still our_tables db.trees schema.down (Int (next_rowid (db.trees down_tree)) ∷ down_columns modem) apart (no_other _) (free, tt);
   }
 
   -- a reply may, where its client's number has none
@@ -77,7 +76,7 @@ module _ (db : Database) (ours : db.schema ≡ our_tables) (sound : IsDatabase d
     present = refl;
     checked = refl;
     fresh = chosen_free (db.trees replies_tree) (entry_columns e) by.integers by.rise;
-    unique = unique_still our_tables db.trees schema.replies (Int (next_rowid (db.trees replies_tree)) ∷ entry_columns e) apart (no_other _) (λ g. absurd (false≢true g), (λ g. absurd (false≢true g), (λ g. absurd (false≢true g), (λ g. absurd (false≢true g), (λ g. free, (λ g. absurd (false≢true g), (λ g. absurd (false≢true g), (λ g. absurd (false≢true g), (λ g. absurd (false≢true g), tt)))))))));
+    unique = unique_still our_tables db.trees schema.replies (Int (next_rowid (db.trees replies_tree)) ∷ entry_columns e) apart (no_other _) (free, tt);
   }
 
   -- a count may, where its number to dial has none
@@ -88,5 +87,5 @@ module _ (db : Database) (ours : db.schema ≡ our_tables) (sound : IsDatabase d
     present = refl;
     checked = refl;
     fresh = chosen_free (db.trees calls_tree) (call_columns dial n) by.integers by.rise;
-    unique = unique_still our_tables db.trees schema.calls (Int (next_rowid (db.trees calls_tree)) ∷ call_columns dial n) apart (no_other _) (λ g. absurd (false≢true g), (λ g. absurd (false≢true g), (λ g. absurd (false≢true g), (λ g. absurd (false≢true g), (λ g. absurd (false≢true g), (λ g. absurd (false≢true g), (λ g. absurd (false≢true g), (λ g. absurd (false≢true g), (λ g. free, tt)))))))));
+    unique = unique_still our_tables db.trees schema.calls (Int (next_rowid (db.trees calls_tree)) ∷ call_columns dial n) apart (no_other _) (free, tt);
   }

@@ -1,8 +1,10 @@
 -- What the rows of each table mean, and that they still do where another table changed.
-use Rattle.std.proofs.Common.{◌≡◌, ◌≢◌, ◌⊎◌, inl, inr, ◌+◌, ◌≤◌, ℕ, List, [], ◌∷◌, ◌++◌, map, drop, All, IsTrue, refl, sym, ap, ap₂, subst, ◌∙◌, arith}
+use Rattle.std.proofs.Common.{◌≡◌, ◌≢◌, ◌⊎◌, inl, inr, ◌+◌, ◌≤◌, ◌==◌, ℕ, List, [], ◌∷◌, ◌++◌, map, drop, true, All, IsTrue, refl, sym, ap, ap₂, subst, ◌∙◌, arith}
+use Rattle.std.specs.List.{list_any}
 use Rattle.std.specs.List.Sorted.{IsPermutation}
 use Rattle.std.proofs.lemmas.List.{map-append}
 use Rattle.std.proofs.lemmas.List.Elements.{All-append, All-cons}
+use Rattle.std.proofs.lemmas.List.Sorted.{IsPermutation-refl}
 use Rattle.sqlite.specs.Edit.{next_rowid}
 use Rattle.sqlite.specs.Tree.{rowid, put_row}
 use Rattle.sqlite.specs.View.{is_int}
@@ -18,8 +20,8 @@ use Rattle.sqlite.specs.Effect.{Database, IsDatabase}
 use Rattle.sqlite.specs.State.{State}
 use Rattle.sqlite_catalog.specs.Change.{KeepsRows}
 use Rattle.fax_core.specs.Job.{Job, fields_of}
-use Rattle.fax_core.specs.Ledger.{Ledger}
-use Rattle.fax_core.specs.Queue.{Queue, Entry, open_grants}
+use Rattle.fax_core.specs.Ledger.{Ledger, empty_ledger}
+use Rattle.fax_core.specs.Queue.{Queue, Entry, empty_queue, open_grants}
 use Rattle.fax_core.specs.State.{calls_to}
 use Rattle.fax_core.specs.declared.grants.Grant.{Grant}
 use Rattle.fax_value.specs.Limits.{last_grant, last_job, last_moment}
@@ -30,6 +32,7 @@ use Rattle.fax_tables.specs.Row.{job_row, grant_row, hold_columns, down_columns,
 use Rattle.fax_tables.specs.Tables.{TablesMean, AreCalls, AreCounted, AreLawfulFloors, HaveJobs, IsLawfulGrant, IsLawfulMeta, IsLawfulEntry}
 use Rattle.fax_schema.specs.ByRowid.{IsByRowid}
 use Rattle.fax_schema.proofs.AppendLemmas.{appended}
+use Rattle.fax_schema.proofs.RowsLemmas.{at_tree}
 use Rattle.fax_schema.proofs.WriteLemmas.{KeepsOthers}
 
 abbrev pub row_of : Job → Row
@@ -200,16 +203,14 @@ means_of db m k held parts =
 
 -- ---- one table changed, and what its rows mean now is known
 
+-- its tree is one of theirs
+pub is_ours : (name : Name) → list_any (λ t. t.tree == tree_of name) our_tables.tables ≡ true
+is_ours jobs = refl
+is_ours _ = refl
+
 -- another table has the rows that it had
-rows_kept : (old new : State) (tree : ℕ) → KeepsOthers our_tables tree old new → (name : Name) → tree_of name ≢ tree → new.now.trees (tree_of name) ≡ old.now.trees (tree_of name)
-rows_kept old new tree keeps jobs apart = keeps.others.0 apart
-rows_kept old new tree keeps grants apart = keeps.others.1.0 apart
-rows_kept old new tree keeps holds apart = keeps.others.1.1.0 apart
-rows_kept old new tree keeps down apart = keeps.others.1.1.1.0 apart
-rows_kept old new tree keeps replies apart = keeps.others.1.1.1.1.0 apart
-rows_kept old new tree keeps meta apart = keeps.others.1.1.1.1.1.0 apart
-rows_kept old new tree keeps floors apart = keeps.others.1.1.1.1.1.1.0 apart
-rows_kept old new tree keeps calls apart = keeps.others.1.1.1.1.1.1.1.0 apart
+pub rows_kept : (old new : State) (tree : ℕ) → KeepsOthers our_tables tree old new → (name : Name) → tree_of name ≢ tree → new.now.trees (tree_of name) ≡ old.now.trees (tree_of name)
+rows_kept old new tree keeps name apart = at_tree (λ other. other ≢ tree → new.now.trees other ≡ old.now.trees other) our_tables.tables (tree_of name) (is_ours name) keeps.others apart
 
 -- What is said of the rows of a table now: something new, or, of another than the one that changed, what was said before.
 abbrev Stays : ℕ → State → Content → Content → Name → Type 0
@@ -290,13 +291,7 @@ held_as db m held others count k now parts = record { schema = parts.schema; sou
   where
     each : (name : Name) → Says name (content m others count k) (db.trees (tree_of name))
     each holds = now
-    each jobs = parts.says jobs
-    each grants = parts.says grants
-    each down = parts.says down
-    each replies = parts.says replies
-    each meta = parts.says meta
-    each floors = parts.says floors
-    each calls = parts.says calls
+    each name = parts.says name
 
 -- other counts that are the same, number by number
 pub calls_as : (db : Database) (m : Queue) (held : List Grant) (count other : List ℕ → ℕ) (k : Ledger) → ((dial : List ℕ) → count dial ≡ other dial) → Parts db m held count k → Parts db m held other k
@@ -304,13 +299,7 @@ calls_as db m held count other k same parts = record { schema = parts.schema; so
   where
     each : (name : Name) → Says name (content m held other k) (db.trees (tree_of name))
     each calls = let was = parts.says calls in record { is = counted_as count other (map (drop 1) (db.trees calls_tree)) same was.is; ordered = was.ordered }
-    each jobs = parts.says jobs
-    each grants = parts.says grants
-    each holds = parts.says holds
-    each down = parts.says down
-    each replies = parts.says replies
-    each meta = parts.says meta
-    each floors = parts.says floors
+    each name = parts.says name
 
 -- ---- rows of other databases
 
@@ -320,14 +309,8 @@ pub counts_again : (old new : Database) (m : Queue) (held : List Grant) (count c
 counts_again old new m held count counted k schema_is sound rows now was = record { schema = schema_is; sound = sound; says = each }
   where
     each : (name : Name) → Says name (content m held counted k) (new.trees (tree_of name))
-    each jobs = subst (Says jobs (content m held counted k)) (sym rows.0) (was.says jobs)
-    each grants = subst (Says grants (content m held counted k)) (sym rows.1.0) (was.says grants)
-    each holds = subst (Says holds (content m held counted k)) (sym rows.1.1.0) (was.says holds)
-    each down = subst (Says down (content m held counted k)) (sym rows.1.1.1.0) (was.says down)
-    each replies = subst (Says replies (content m held counted k)) (sym rows.1.1.1.1.0) (was.says replies)
-    each meta = subst (Says meta (content m held counted k)) (sym rows.1.1.1.1.1.0) (was.says meta)
-    each floors = subst (Says floors (content m held counted k)) (sym rows.1.1.1.1.1.1.0) (was.says floors)
     each calls = now
+    each name = subst (Says name (content m held counted k)) (sym (at_tree (λ tree. new.trees tree ≡ old.trees tree) core_tables.tables (tree_of name) refl rows)) (was.says name)
 
 -- `calls` changed alone
 pub calls_changed : (old new : State) (m : Queue) (held : List Grant) (count : List ℕ → ℕ) (k : Ledger) → Parts old.now m held count k → new.now.schema ≡ our_tables → IsDatabase new.now → KeepsRows core_tables.tables old.now.trees new.now.trees
@@ -337,6 +320,36 @@ calls_changed old new m held count k was schema_is sound rows counted now = coun
 -- what rows mean, they mean in another database that has them in all tables but `calls`, and the calls
 pub rows_mean : (full db : Database) (m : Queue) (k : Ledger) → db.schema ≡ our_tables → IsDatabase db → KeepsRows core_tables.tables full.trees db.trees → AreCalls (calls_of m) (db.trees calls_tree) → TablesMean full m k → TablesMean db m k
 rows_mean full db m k schema sound rows counted means = means_of db m k means.held (counts_again full db m (open_grants m) (calls_of m) (calls_of m) k schema sound rows counted (parts_of full m k means))
+
+-- ---- an empty store
+
+abbrev nothing : Content
+nothing = content empty_queue [] (calls_of empty_queue) empty_ledger
+
+none_by_rowid : IsByRowid []
+none_by_rowid = record { rise = tt; integers = tt }
+
+-- meta has its one row
+abbrev SaysOfNone : Name → Type 0
+SaysOfNone meta = Unit {0}
+SaysOfNone name = Says name nothing []
+
+-- what is said of no rows
+says_of_none : (name : Name) → SaysOfNone name
+says_of_none meta = tt
+says_of_none holds = record { is = IsPermutation-refl []; ordered = none_by_rowid }
+says_of_none floors = record { is = record { each = λ row has. absurd has; all = λ client some. absurd (omega arith) }; ordered = none_by_rowid; lawful = λ client some. absurd (omega arith) }
+says_of_none calls = record { is = record { each = λ row has. absurd has; all = λ dial some. absurd (omega arith) }; ordered = none_by_rowid }
+says_of_none _ = record { is = refl; ordered = none_by_rowid; lawful = λ i d low. absurd (omega arith) }
+
+-- where the one row of meta comes to tables with no rows, they mean an empty store
+pub founded : (old new : Database) → new.schema ≡ our_tables → IsDatabase new → new.trees meta_tree ≡ meta_row empty_queue ∷ [] → ((name : Name) → old.trees (tree_of name) ≡ [])
+    → ((name : Name) → tree_of name ≢ meta_tree → new.trees (tree_of name) ≡ old.trees (tree_of name)) → TablesMean new empty_queue empty_ledger
+founded old new schema sound row empty kept = means_of new empty_queue empty_ledger (λ g none. absurd none) (record { schema = schema; sound = sound; says = each })
+  where
+    each : (name : Name) → Says name nothing (new.trees (tree_of name))
+    each meta = (row, record { clock = omega arith; next_job = (omega arith, omega arith); next_grant = (omega arith, omega arith) })
+    each name = subst (Says name nothing) (sym (kept name (λ e. absurd (omega arith)) ∙ empty name)) (says_of_none name)
 
 -- a database is told by its rows, since they list its schema
 pub same_database : (a b : Database) → a.trees ≡ b.trees → IsDatabase a → IsDatabase b → a ≡ b

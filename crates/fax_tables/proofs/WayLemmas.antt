@@ -1,5 +1,5 @@
 -- How each layout loses its `calls`, or the indexes of jobs where these are last.
-use Rattle.std.proofs.Common.{◌≡◌, ◌≤◌, inl, inr, ℕ, List, [], ◌∷◌, length, slice_get, Some, true, false, refl, sym, ap, subst, ◌∙◌, arith}
+use Rattle.std.proofs.Common.{◌≡◌, ◌≤◌, inl, inr, ℕ, ◌+◌, List, [], ◌∷◌, length, slice_get, Some, false, refl, sym, ap, subst, ◌∙◌, arith}
 use Rattle.sqlite.specs.Effect.{Database, IsDatabase}
 use Rattle.sqlite_catalog.specs.Change.{without_index, without_table, KeepsRows}
 use Rattle.sqlite_rules.specs.Lists.{Has}
@@ -8,13 +8,13 @@ use Rattle.sqlite_schema.specs.declared.schema.Index.{Index}
 use Rattle.sqlite_schema.specs.declared.schema.Keys.TheVariants.{Enforced}
 use Rattle.sqlite_schema.specs.declared.schema.Schema.{Schema}
 use Rattle.sqlite_schema.specs.declared.schema.Table.{Table}
-use Rattle.sqlite_trees.specs.Tree.{Trees}
 use Rattle.fax_schema.specs.declared.statements.TheConstants.{DROP_CALLS, DROP_CHOICE_INDEX, DROP_KILLTIME_INDEX}
-use Rattle.fax_schema.specs.Schema.{AreIndexedLast, HaveCalls, calls_at, choice_index_at, killtime_index_at, older_choice_index_at, first_list, core_list, has_floors, first_bare, first_with_killtime, first_core, first_indexed, first_older_core, first_tables, first_older, first_bare_calls, first_vacuumed, first_vacuumed_with_killtime, first_older_vacuumed, bare_tables, core_tables, our_tables, bare_with_calls, vacuumed_tables, vacuumed_with_killtime}
+use Rattle.fax_schema.specs.Schema.{AreIndexedLast, HaveCalls, calls_at, calls_place, calls_tree, core_keys, core_past, first_past, choice_index_at, killtime_index_at, older_choice_index_at, first_list, core_list, first_bare, first_with_killtime, first_core, first_indexed, first_older_core, first_tables, first_older, first_bare_calls, first_vacuumed, first_vacuumed_with_killtime, first_older_vacuumed, bare_tables, core_tables, our_tables, bare_with_calls, vacuumed_tables, vacuumed_with_killtime}
 use Rattle.fax_schema.proofs.CreateTexts.{LosesIndex, TakesAway}
 use Rattle.fax_schema.proofs.CreateTexts as text
-use Rattle.fax_tables.specs.Tables.{LacksCalls, LosesIndexes, Renews}
-use Rattle.fax_tables.proofs.CreateLemmas.{kept_but_last, renews_core, renews_first}
+use Rattle.fax_tables.specs.Tables.{LacksCalls, LosesIndexes}
+use Rattle.fax_tables.proofs.CreateLemmas.{renews_core, renews_first}
+use Rattle.fax_schema.proofs.RowsLemmas.{all_front}
 
 -- ---- the indexes of jobs
 
@@ -22,16 +22,8 @@ pub record LosesBoth (a : Schema) : Type 0 where
   pub middle : Schema
   pub end : Schema
   pub tables : List Table
-  pub first_at : ℕ
-  pub first : Index
-  pub loses_first : LosesIndex a DROP_CHOICE_INDEX.now first_at
-  pub has_first : slice_get a.indexes first_at ≡ Some first
-  pub left_first : without_index a first.tree ≡ middle
-  pub next_at : ℕ
-  pub next : Index
-  pub loses_next : LosesIndex middle DROP_KILLTIME_INDEX.now next_at
-  pub has_next : slice_get middle.indexes next_at ≡ Some next
-  pub left_next : without_index middle next.tree ≡ end
+  pub first : LosesIndex a DROP_CHOICE_INDEX.now middle
+  pub next : LosesIndex middle DROP_KILLTIME_INDEX.now end
   pub same_middle : middle.tables ≡ tables
   pub same_end : end.tables ≡ tables
   pub leaves : (db after : Database) → db.schema ≡ a → after.schema ≡ end → IsDatabase after → KeepsRows tables db.trees after.trees → LosesIndexes db after
@@ -48,23 +40,15 @@ vacuumed = record {
   middle = vacuumed_with_killtime;
   end = bare_with_calls;
   tables = bare_with_calls.tables;
-  first_at = 8;
-  first = choice_index_at 16;
-  loses_first = text.drops_choice;
-  has_first = refl;
-  left_first = text.left_killtime;
-  next_at = 7;
-  next = killtime_index_at 15;
-  loses_next = text.drops_killtime;
-  has_next = refl;
-  left_next = text.left_bare_calls;
+  first = text.drops_choice;
+  next = text.drops_killtime;
   same_middle = refl;
   same_end = refl;
   leaves = λ db after was is sound rows. record {
     schema_is = inl is;
     alone = λ six. more_than_six db.schema vacuumed_tables six was (omega arith);
     sound = sound;
-    renews = renews_core db after vacuumed_tables bare_with_calls refl refl was is (kept_but_last core_list (calls_at 13) db.trees after.trees rows);
+    renews = renews_core db after vacuumed_tables bare_with_calls refl refl was is (all_front (λ t. after.trees t.tree ≡ db.trees t.tree) core_list (calls_at core_past ∷ []) rows);
   };
 }
 
@@ -74,23 +58,15 @@ first_vacuumed_loses = record {
   middle = first_vacuumed_with_killtime;
   end = first_bare_calls;
   tables = first_bare_calls.tables;
-  first_at = 7;
-  first = choice_index_at 14;
-  loses_first = text.drops_first_choice;
-  has_first = refl;
-  left_first = text.left_first_killtime;
-  next_at = 6;
-  next = killtime_index_at 13;
-  loses_next = text.drops_first_killtime;
-  has_next = refl;
-  left_next = text.left_first_bare_calls;
+  first = text.drops_first_choice;
+  next = text.drops_first_killtime;
   same_middle = refl;
   same_end = refl;
   leaves = λ db after was is sound rows. record {
     schema_is = inr (inl is);
     alone = λ six. more_than_six db.schema first_vacuumed six was (omega arith);
     sound = sound;
-    renews = renews_first db after first_vacuumed first_bare_calls refl refl was is (kept_but_last first_list (calls_at 11) db.trees after.trees rows);
+    renews = renews_first db after first_vacuumed first_bare_calls refl refl was is (all_front (λ t. after.trees t.tree ≡ db.trees t.tree) first_list (calls_at first_past ∷ []) rows);
   };
 }
 
@@ -100,23 +76,15 @@ older_vacuumed = record {
   middle = first_vacuumed_with_killtime;
   end = first_bare_calls;
   tables = first_bare_calls.tables;
-  first_at = 7;
-  first = older_choice_index_at 14;
-  loses_first = text.drops_first_older_choice;
-  has_first = refl;
-  left_first = text.left_first_older_killtime;
-  next_at = 6;
-  next = killtime_index_at 13;
-  loses_next = text.drops_first_killtime;
-  has_next = refl;
-  left_next = text.left_first_bare_calls;
+  first = text.drops_first_older_choice;
+  next = text.drops_first_killtime;
   same_middle = refl;
   same_end = refl;
   leaves = λ db after was is sound rows. record {
     schema_is = inr (inl is);
     alone = λ six. more_than_six db.schema first_older_vacuumed six was (omega arith);
     sound = sound;
-    renews = renews_first db after first_older_vacuumed first_bare_calls refl refl was is (kept_but_last first_list (calls_at 11) db.trees after.trees rows);
+    renews = renews_first db after first_older_vacuumed first_bare_calls refl refl was is (all_front (λ t. after.trees t.tree ≡ db.trees t.tree) first_list (calls_at first_past ∷ []) rows);
   };
 }
 
@@ -126,16 +94,8 @@ core = record {
   middle = first_with_killtime;
   end = first_bare;
   tables = first_list;
-  first_at = 6;
-  first = choice_index_at 12;
-  loses_first = text.drops_core_choice;
-  has_first = refl;
-  left_first = text.left_core_killtime;
-  next_at = 5;
-  next = killtime_index_at 11;
-  loses_next = text.drops_core_killtime;
-  has_next = refl;
-  left_next = text.left_bare_core;
+  first = text.drops_core_choice;
+  next = text.drops_core_killtime;
   same_middle = refl;
   same_end = refl;
   leaves = λ db after was is sound rows. record { schema_is = inr (inr (inl is)); alone = λ six. is; sound = sound; renews = renews_first db after first_core first_bare refl refl was is rows };
@@ -147,16 +107,8 @@ older_core = record {
   middle = first_with_killtime;
   end = first_bare;
   tables = first_list;
-  first_at = 6;
-  first = older_choice_index_at 12;
-  loses_first = text.drops_older_core_choice;
-  has_first = refl;
-  left_first = text.left_older_core_killtime;
-  next_at = 5;
-  next = killtime_index_at 11;
-  loses_next = text.drops_core_killtime;
-  has_next = refl;
-  left_next = text.left_bare_core;
+  first = text.drops_older_core_choice;
+  next = text.drops_core_killtime;
   same_middle = refl;
   same_end = refl;
   leaves = λ db after was is sound rows. record { schema_is = inr (inr (inl is)); alone = λ six. is; sound = sound; renews = renews_first db after first_older_core first_bare refl refl was is rows };
@@ -175,26 +127,14 @@ loses_both schema (inr (inr (inr (inr (inr none))))) = absurd none
 
 pub record LosesLast (a : Schema) : Type 0 where
   pub end : Schema
-  pub at : ℕ
-  pub table : Table
-  pub takes : TakesAway a DROP_CALLS.now at
-  pub has : slice_get a.tables at ≡ Some table
-  pub unacted : is_acted_on a Enforced table ≡ false
-  pub uncounted : table.is_counted ≡ false
-  pub left : without_table a table.tree ≡ end
+  pub takes : TakesAway a DROP_CALLS.now end
   pub leaves : (db after : Database) → db.schema ≡ a → after.schema ≡ end → IsDatabase after → KeepsRows end.tables db.trees after.trees → LacksCalls db after
 
 -- the tables of a store lose `calls`
 ours : LosesLast our_tables
 ours = record {
   end = core_tables;
-  at = 7;
-  table = calls_at 15;
   takes = text.drops_calls;
-  has = refl;
-  unacted = refl;
-  uncounted = refl;
-  left = text.left_core;
   leaves = λ db after was is sound rows. record { schema_is = inl is; sound = sound; renews = renews_core db after our_tables core_tables refl refl was is rows };
 }
 
@@ -202,13 +142,7 @@ ours = record {
 bare_calls : LosesLast bare_with_calls
 bare_calls = record {
   end = bare_tables;
-  at = 7;
-  table = calls_at 13;
   takes = text.drops_bare_calls;
-  has = refl;
-  unacted = refl;
-  uncounted = refl;
-  left = text.left_bare;
   leaves = λ db after was is sound rows. record { schema_is = inr (inl is); sound = sound; renews = renews_core db after bare_with_calls bare_tables refl refl was is rows };
 }
 
@@ -216,13 +150,7 @@ bare_calls = record {
 first : LosesLast first_tables
 first = record {
   end = first_core;
-  at = 6;
-  table = calls_at 13;
   takes = text.drops_first_calls;
-  has = refl;
-  unacted = refl;
-  uncounted = refl;
-  left = text.left_first_core;
   leaves = λ db after was is sound rows. record { schema_is = inr (inr (inl is)); sound = sound; renews = renews_first db after first_tables first_core refl refl was is rows };
 }
 
@@ -230,13 +158,7 @@ first = record {
 first_bare_loses : LosesLast first_bare_calls
 first_bare_loses = record {
   end = first_bare;
-  at = 6;
-  table = calls_at 11;
   takes = text.drops_first_bare_calls;
-  has = refl;
-  unacted = refl;
-  uncounted = refl;
-  left = text.left_first_bare;
   leaves = λ db after was is sound rows. record { schema_is = inr (inr (inr (inl is))); sound = sound; renews = renews_first db after first_bare_calls first_bare refl refl was is rows };
 }
 
@@ -244,13 +166,7 @@ first_bare_loses = record {
 older : LosesLast first_older
 older = record {
   end = first_older_core;
-  at = 6;
-  table = calls_at 13;
   takes = text.drops_first_older_calls;
-  has = refl;
-  unacted = refl;
-  uncounted = refl;
-  left = text.left_first_older;
   leaves = λ db after was is sound rows. record { schema_is = inr (inr (inr (inr (inl is)))); sound = sound; renews = renews_first db after first_older first_older_core refl refl was is rows };
 }
 

@@ -8,6 +8,7 @@ use Rattle.sqlite.specs.Effect.{Database, IsDatabase}
 use Rattle.sqlite.specs.State.{State, Shows}
 use Rattle.sqlite_schema.specs.declared.schema.Schema.{Schema}
 use Rattle.sqlite_catalog.specs.Change.{KeepsRows}
+use Rattle.sqlite_trees.specs.Tree.{Trees}
 use Rattle.sqlite_rules.specs.Lists.{Has}
 use Rattle.fax_core.specs.Job.{Job, fields_of}
 use Rattle.fax_core.specs.Ledger.{Ledger}
@@ -18,7 +19,7 @@ use Rattle.fax_value.specs.Limits.{last_grant, last_job, last_moment}
 use Rattle.fax_value.specs.Name.{IsName}
 use Rattle.fax_tables.specs.Grant.{IsWithinLimits}
 use Rattle.fax_schema.specs.ByRowid.{IsByRowid}
-use Rattle.fax_schema.specs.Schema.{AreIndexedLast, HaveCalls, alike_list, first_list, first_bare, first_core, first_indexed, first_older_core, first_bare_calls, core_tables, bare_tables, our_tables, bare_with_calls, has_floors, calls_tree, down_tree, floors_tree, grants_tree, holds_tree, jobs_tree, meta_tree, replies_tree}
+use Rattle.fax_schema.specs.Schema.{AreIndexedLast, HaveCalls, alike_list, first_list, second_list, first_bare, first_core, first_indexed, first_older_core, first_bare_calls, core_tables, bare_tables, our_tables, bare_with_calls, has_floors, calls_tree, down_tree, floors_tree, grants_tree, holds_tree, jobs_tree, meta_tree, replies_tree}
 use Rattle.fax_tables.specs.Job.{IsLawfulJob}
 use Rattle.fax_tables.specs.Row.{number, job_row, grant_row, hold_columns, down_columns, entry_columns, call_columns, meta_row, raised}
 
@@ -100,9 +101,9 @@ pub record TablesMean (db : Database) (m : Queue) (k : Ledger) : Type 0 where
 
 -- ---- the rows, whatever the version is
 
--- those of floors: none where there is no such table
-abbrev pub floors_in : Database → List Row
-floors_in db = if has_floors db.schema then db.trees floors_tree else []
+-- those of the tables that the second version has beside the first's: none where the version is the first
+abbrev pub second_in : Database → Trees
+second_in db tree = if has_floors db.schema then db.trees tree else []
 
 -- the version of these tables
 abbrev pub version_of : Schema → ℕ
@@ -127,7 +128,7 @@ HasVersion db = versions db ≡ number (version_of db.schema) ∷ []
 pub record IsRaised (db after : Database) : Type 0 where
   pub rows : KeepsRows alike_list db.trees after.trees
   pub meta : after.trees meta_tree ≡ meta_in db
-  pub floors : after.trees floors_tree ≡ floors_in db
+  pub second : KeepsRows second_list (second_in db) after.trees
 
 -- Its rows, but those of `calls`, are those of a database that means this, which has `calls` and the indexes, or were in the version before.
 pub record RowsMean (db : Database) (m : Queue) (k : Ledger) : Type 0 where
@@ -177,10 +178,10 @@ pub record HasIndexesLast (s : State) : Type 0 where
   pub inside : IsTrue s.in_transaction
   pub schema_is : AreIndexedLast s.now.schema
 
--- it has the rows of the other in all tables but `calls`: none in floors, where the other has no such table
+-- it has the rows of the other in all tables but `calls`: none in those of the second version, where the other is of the first
 pub record Renews (db after : Database) : Type 0 where
   pub rows : KeepsRows first_list db.trees after.trees
-  pub floors : floors_in after ≡ floors_in db
+  pub second : KeepsRows second_list (second_in db) (second_in after)
 
 -- it has the tables without the indexes of jobs, with `calls` where the other has it
 pub record LosesIndexes (db after : Database) : Type 0 where
@@ -189,7 +190,7 @@ pub record LosesIndexes (db after : Database) : Type 0 where
   pub sound : IsDatabase after
   pub renews : Renews db after
 
--- it has floors too, with no rows
+-- it has the tables of the second version too, with no rows
 pub record HasNewFloors (db after : Database) : Type 0 where
   pub schema_is : after.schema ≡ bare_tables
   pub sound : IsDatabase after

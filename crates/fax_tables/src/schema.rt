@@ -8,9 +8,9 @@ ghost use Rattle.fax_tables.specs.Making.{Alters, Always};
 ghost use Rattle.fax_tables.specs.Tables.{HasCallsBeside, HasEmptyTables, HasFirstTables, HasIndexesLast, HasNewCalls, HasNewFloors, HasCoreTables, HasTablesAlone, IsIndexed, LacksCalls, LosesIndexes, TablesMean};
 
 use fax_schema::statements::{
-    CREATE_CALLS, CREATE_CHOICE_INDEX, CREATE_DOWN, CREATE_FLOORS, CREATE_GRANTS, CREATE_HOLDS,
-    CREATE_JOBS, CREATE_KILLTIME_INDEX, CREATE_META, CREATE_REPLIES, DROP_CALLS, DROP_CHOICE_INDEX,
-    DROP_KILLTIME_INDEX, INSERT_META,
+    CREATE_CALLS, CREATE_CHOICE_INDEX, CREATE_DOWN, CREATE_GRANTS, CREATE_HOLDS, CREATE_JOBS,
+    CREATE_KILLTIME_INDEX, CREATE_META, CREATE_REPLIES, CREATE_SECOND, DROP_CALLS,
+    DROP_CHOICE_INDEX, DROP_KILLTIME_INDEX, INSERT_META,
 };
 use sqlite::{Alter, Connection, Error};
 
@@ -58,13 +58,17 @@ fn create_kept_tables<S: Alter>(conn: &mut Connection<S>) -> Result<(), Error>
     Ok(())
 }
 
-/// Makes the table of floors, with no rows, where the first version had none. The rows of the others stay as they are,
-/// and inside a transaction nothing is committed.
+/// Makes the tables that the second version has beside the first's, with no rows. The rows of the others stay as they
+/// are, and inside a transaction nothing is committed.
 pub fn create_floors<S: Alter>(conn: &mut Connection<S>) -> Result<(), Error>
     ensures { Alters S.Store HasFirstTables HasFirstTables
         (λ old new. HasNewFloors old.now new.now) conn.old conn.new result }
 {
-    conn.execute(CREATE_FLOORS, &[])?;
+    let mut texts: &[&str] = &CREATE_SECOND;
+    while let [text, rest @ ..] = texts {
+        conn.execute(text, &[])?;
+        texts = rest;
+    }
     Ok(())
 }
 

@@ -61,7 +61,7 @@ module _ (found now : Database) (ours : IsOurs found) (taken : IsTaken found now
   found_sound by sound = (
     sound.0,
     sound.1,
-    record { version = ours.version; full = now; means = sound.2; same = record { rows = taken.rows; meta = taken.meta (inr by); floors = taken.floors } },
+    record { version = ours.version; full = now; means = sound.2; same = record { rows = taken.rows; meta = taken.meta (inr by); second = taken.second } },
     sound.3,
   )
 

@@ -1,8 +1,8 @@
 use Rattle.std.proofs.Common.{◌<◌, ◌≤◌, All, get_or, length, Ok, Some, None, sym, subst, rules}
 use Rattle.std.proofs.lemmas.List.{take_all}
 use Rattle.sqlite.specs.Held.{state}
-use Rattle.fax_check.specs.Check.{IsTableChecked, passed}
-use Rattle.fax_check.specs.Table.{IsWholeTable}
+use Rattle.fax_check.specs.Check.{IsTableChecked}
+use Rattle.fax_check.specs.Whole.{IsWholeTable, passed}
 use Rattle.fax_check.specs.declared.tables.Table.TheVariants.{Jobs}
 use Rattle.fax_check.proofs.BridgeLemmas.{all_taken}
 use Rattle.fax_check.proofs.TellsLemmas.{looks_since, looks_tells, since_tells, since_told}

@@ -1,9 +1,8 @@
 use Rattle.std.proofs.Common.{All, take}
 use Rattle.sqlite.specs.Held.{state}
 use Rattle.sqlite.specs.State.{HasCleanDisk}
-use Rattle.fax_check.specs.Check.{passed}
+use Rattle.fax_check.specs.Whole.{IsWholeTable, passed}
 use Rattle.fax_check.specs.Sound.{IsStored}
-use Rattle.fax_check.specs.Table.{IsWholeTable}
 use Rattle.fax_check.proofs.TellsLemmas.{Since}
 use Rattle.fax_store.specs.Store.{HasTables}
 use Rattle.fax_check.proofs.checking.check_tables.Given as goal

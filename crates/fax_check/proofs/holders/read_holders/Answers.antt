@@ -2,7 +2,7 @@ use Rattle.std.proofs.Common.{List, IfOk, subst, rules}
 use Rattle.sqlite.specs.Order.{Row}
 use Rattle.fax_check.specs.Holders.{AreHoldersIn}
 use Rattle.sqlite.specs.Held.{state}
-use Rattle.fax_check.proofs.CheckTexts.{select_all_holds}
+use Rattle.fax_check.proofs.TableLemmas.{select_all_holds}
 use Rattle.fax_check.proofs.FinalLemmas.{holders_of}
 use Rattle.fax_check.proofs.TellsLemmas.{tells_looks}
 use Rattle.fax_check.proofs.holders.read_holders.Goals as goal

@@ -1,6 +1,6 @@
 use Rattle.std.proofs.Common.{◌+◌, ◌++◌, [], ◌∷◌, All, length-append, MatchOption, sym, ap, subst, ◌∙◌}
 use Rattle.fax_check.specs.Pass.{IsStep}
-use Rattle.fax_check.specs.Table.{Shows}
+use Rattle.fax_check.specs.Whole.{Shows}
 use Rattle.fax_check.proofs.TellsLemmas.{pass_more}
 use Rattle.fax_check.proofs.TallyLemmas.{right_flaw, wrong_flaw}
 use Rattle.fax_check.proofs.pass.count.Goals.{in-Right, in-Wrong}

@@ -3,7 +3,7 @@ use Rattle.sqlite.specs.Given.{HasGiven}
 use Rattle.sqlite.specs.Held.{state}
 use Rattle.sqlite.specs.Order.{Row}
 use Rattle.sqlite.specs.State.{HasCleanDisk}
-use Rattle.fax_check.specs.Table.{Shows}
+use Rattle.fax_check.specs.Whole.{Shows}
 use Rattle.fax_check.proofs.TellsLemmas.{Passed}
 use Rattle.fax_check.proofs.pass.count.Given as goal
 

@@ -3,11 +3,11 @@ use Rattle.sqlite.specs.Given.{HasBegun}
 use Rattle.sqlite.specs.Order.{Row}
 use Rattle.sqlite.specs.Held.{state}
 use Rattle.sqlite.specs.State.{CommitsShowing, FailsToQuery, HasCleanDisk, Survives}
-use Rattle.fax_check.specs.Pass.{AreRead, IsTally, text_of}
+use Rattle.fax_check.specs.Pass.{AreRead, IsTally}
+use Rattle.fax_check.specs.Whole.{Shows, text_of}
 use Rattle.fax_check.specs.Reading.{Tells}
-use Rattle.fax_check.specs.Table.{Shows}
 use Rattle.fax_check.proofs.TellsLemmas.{pass_tells, unshown_tells}
-use Rattle.fax_check.proofs.TextLemmas.{is_query}
+use Rattle.fax_check.proofs.TableLemmas.{is_query}
 use Rattle.fax_check.proofs.pass.pass.Goals as goal
 
 pub returns-in_err-rows : goal.returns-in_err-rows
@@ -15,7 +15,7 @@ returns-in_err-rows g c =
     let old = state g.S.Store c.args.conn.now in
     let new = state g.S.Store c.query.follows.lender-at-none in
     let refused = c.query.follows.holds-at-none in
-    let sql : c.text_of.result.now ≡ text_of c.args.table = c.text_of.ensures in
+    let sql : c.all_rows.result.now ≡ text_of c.args.table = c.all_rows.ensures in
     unshown_tells old new (text_of c.args.table) [] (is_query c.args.table) (subst (λ t. Survives old new (CommitsShowing t [] old)) sql (search rules)) c.in_err-rows.field-0.0 c.from_residual.result _
     (λ clean. subst (λ t. FailsToQuery t [] old new c.in_err-rows.field-0.0) sql (search (rules, clean))) c.from_residual.ensures.1
 
@@ -24,7 +24,7 @@ returns g c =
     let old = c.args.conn.now in
     let begun = c.in_ok-rows.rows.conn.now in
     let new = c.count.new.rows.conn.now in
-    let sql : c.text_of.result.now ≡ text_of c.args.table = c.text_of.ensures in
+    let sql : c.all_rows.result.now ≡ text_of c.args.table = c.all_rows.ensures in
     let P = Shows c.args.meta.now c.args.held.now c.args.table in
     let told : Tells (state g.S.Store old) (state g.S.Store new) c.count.result (λ db tally. (rows : List Row) × AreRead g.S.Store (text_of c.args.table) db new rows × IsTally P rows tally) =
     pass_tells g.S.Store old begun new (text_of c.args.table) c.count.result (IsTally P) (is_query c.args.table) (subst (λ t. Survives (state g.S.Store old) (state g.S.Store begun) (CommitsShowing t [] (state g.S.Store old))) sql c.in_ok-rows.ensures.survives)

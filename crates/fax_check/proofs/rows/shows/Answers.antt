@@ -1,6 +1,6 @@
 use Rattle.std.proofs.Common.{IfOk, subst, sym}
 use Rattle.std.specs.Bool.{Decides}
-use Rattle.fax_check.specs.Table.{Shows}
+use Rattle.fax_check.specs.Whole.{Shows}
 use Rattle.fax_check.proofs.rows.shows.Goals as goal
 
 pub returns-in-Jobs-clause-right : goal.returns-in-Jobs-clause-right

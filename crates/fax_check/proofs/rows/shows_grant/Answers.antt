@@ -1,5 +1,5 @@
 use Rattle.std.proofs.Common.{◌≡◌, ◌&&◌, ◌||◌, not, nat_lt, Ok, rules}
-use Rattle.fax_check.specs.Table.{is_held}
+use Rattle.fax_check.specs.Whole.{is_held}
 use Rattle.fax_check.proofs.RowsLemmas.{grant_decides, known_some, read_is, whole_row}
 use Rattle.fax_tables.specs.Grant.{grant_shown}
 use Rattle.fax_tables.specs.Tables.{IsLawfulGrant}

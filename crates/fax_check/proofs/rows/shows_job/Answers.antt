@@ -2,7 +2,7 @@ use Rattle.std.proofs.Common.{◌≡◌, ◌∙◌, ◌&&◌, nat_lt, Ok, subst,
 use Rattle.std.specs.Str.{IsUtf8}
 use Rattle.std.proofs.lemmas.Str.{IsUtf8-string_bytes}
 use Rattle.fax_job.specs.declared.job.JobFields.{JobFields}
-use Rattle.fax_check.specs.Table.{stands}
+use Rattle.fax_check.specs.Whole.{stands}
 use Rattle.fax_check.proofs.RowsLemmas.{job_decides, known_none, known_some, not_strange, read_is, whole_row}
 use Rattle.fax_core.proofs.FitsLemmas.{record_again}
 use Rattle.fax_core.specs.Job.{job_of}

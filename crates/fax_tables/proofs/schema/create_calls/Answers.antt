@@ -7,7 +7,7 @@ use Rattle.sqlite.specs.Command.TheVariants.{CreateTable}
 use Rattle.fax_schema.specs.declared.statements.TheConstants.{CREATE_CALLS}
 use Rattle.fax_schema.specs.Schema as schema
 use Rattle.fax_schema.specs.Schema.{our_tables, core_tables}
-use Rattle.fax_schema.proofs.CreateTexts.{created_calls, makes_calls}
+use Rattle.fax_schema.proofs.GrantTexts.{created_calls, makes_calls}
 use Rattle.fax_tables.specs.Tables.{HasCoreTables, HasNewCalls}
 use Rattle.fax_tables.proofs.CreateLemmas.{added, renews_core}
 use Rattle.fax_tables.proofs.StopLemmas.{step_holds_back}

@@ -1,33 +1,25 @@
-use Rattle.std.proofs.Common.{ℕ, [], Ok, Err, Result, refl}
-use Rattle.sqlite.specs.Held.{Held, state}
-use Rattle.sqlite.specs.State.{HasCleanDisk, CommitsBy, Executes, Survives}
-use Rattle.sqlite.specs.declared.error.Error.{Error}
-use Rattle.sqlite_trees.specs.declared.store.Store.{Ghosts}
-use Rattle.sqlite.specs.Command.TheVariants.{CreateTable}
-use Rattle.fax_schema.specs.declared.statements.TheConstants.{CREATE_FLOORS}
-use Rattle.fax_schema.specs.Schema as schema
-use Rattle.fax_schema.specs.Schema.{bare_tables, first_bare}
-use Rattle.fax_schema.proofs.CreateTexts.{created_floors, makes_floors}
-use Rattle.fax_tables.specs.Tables.{HasFirstTables, HasNewFloors}
-use Rattle.fax_tables.proofs.CreateLemmas.{added, renews_raised}
-use Rattle.fax_tables.proofs.StopLemmas.{step_holds_back}
-use Rattle.fax_tables.specs.Making.{Alters, Always}
-use Rattle.fax_tables.proofs.AlterLemmas.{alters_done, alters_refused, statement}
+use Rattle.std.proofs.Common.{◌≤◌, inl, inr, length, Ok, Err, refl, subst, rules}
+use Rattle.fax_tables.proofs.AlterLemmas.{alters_done, alters_refused}
+use Rattle.fax_tables.proofs.MakingLemmas.{Along, all_along, along, first_and_rest}
 use Rattle.fax_tables.proofs.schema.create_floors.Goals as goal
 
-step : {S : Type 0} (g : Ghosts S) (a b : Held S) (r : Result ℕ Error) → Survives (state g a) (state g b) (CommitsBy CREATE_FLOORS.now [] (state g a)) → (HasCleanDisk (state g b) → Executes CREATE_FLOORS.now [] (state g a) (state g b) r)
-    → Alters g HasFirstTables Always (λ old new. HasNewFloors old.now new.now) a b r
-step g a b r survives runs =
-    statement g a b CREATE_FLOORS.now r HasFirstTables (λ old new. HasNewFloors old.now new.now)
-    (λ n ran was.
-    let it = added (state g a) (state g b) first_bare bare_tables CREATE_FLOORS.now schema.floors n makes_floors created_floors refl ran was.inside was.schema_is in
-    (it.0, record { schema_is = it.1; sound = it.2; renews = renews_raised (state g a).now (state g b).now was.schema_is it.1 it.3 it.4 }))
-    (step_holds_back (state g a) (state g b) HasFirstTables first_bare CREATE_FLOORS.now CreateTable makes_floors.command (λ e. e) (λ was. (was.inside, was.schema_is)) survives) survives runs
+pub loop-texts-init : goal.loop-texts-init
+loop-texts-init g c = inl (refl, refl)
 
 pub returns-in_err-execute : goal.returns-in_err-execute
 returns-in_err-execute g c =
-    alters_refused g.S.Store _ _ _ _ _ _ _ c.in_err-execute.field-0.0 c.from_residual.result c.from_residual.ensures.0 (λ was. tt)
-    (step g.S.Store c.args.conn.now c.execute.new.self (Err c.in_err-execute.field-0.0) c.execute.ensures.survives c.in_err-execute.ensures.runs)
+    let texts = c.loop-texts.texts.now in
+    let some : 1 ≤ length texts = search rules in
+    let here = subst (Along g.S.Store c.args.conn.now c.loop-texts.conn) (first_and_rest (λ text. text.now) texts _ some) c.loop-texts.invariant in
+    alters_refused g.S.Store _ _ _ _ _ _ _ c.in_err-execute.field-0.0 c.from_residual.result c.from_residual.ensures.0 (λ was. was)
+    (along g.S.Store c.args.conn.now c.loop-texts.conn c.execute.new.self _ _ (Err c.in_err-execute.field-0.0) here c.execute.ensures.survives c.in_err-execute.ensures.runs)
+
+pub loop-texts-preserved : goal.loop-texts-preserved
+loop-texts-preserved g c =
+    let texts = c.loop-texts.texts.now in
+    let some : 1 ≤ length texts = search rules in
+    let here = subst (Along g.S.Store c.args.conn.now c.loop-texts.conn) (first_and_rest (λ text. text.now) texts _ some) c.loop-texts.invariant in
+    inr (alters_done g.S.Store _ _ _ _ _ _ _ _ (along g.S.Store c.args.conn.now c.loop-texts.conn c.execute.new.self _ _ (Ok c.in_ok-execute.field-0) here c.execute.ensures.survives c.in_ok-execute.ensures.runs))
 
 pub returns : goal.returns
-returns g c = alters_done g.S.Store _ _ _ _ _ _ _ _ (step g.S.Store c.args.conn.now c.execute.new.self (Ok c.in_ok-execute.field-0) c.execute.ensures.survives c.in_ok-execute.ensures.runs)
+returns g c = all_along g.S.Store c.args.conn.now c.loop-texts.conn (λ text. text.now) c.loop-texts.texts.now (search rules) c.loop-texts.invariant

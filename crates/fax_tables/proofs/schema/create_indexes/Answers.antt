@@ -1,4 +1,4 @@
-use Rattle.std.proofs.Common.{◌≡◌, ℕ, [], Ok, Err, Result, IsTrue, refl}
+use Rattle.std.proofs.Common.{◌≡◌, ℕ, ◌+◌, [], Ok, Err, Result, IsTrue, refl}
 use Rattle.sqlite.specs.Held.{Held, state}
 use Rattle.sqlite.specs.State.{HasCleanDisk, CommitsBy, Executes, Survives}
 use Rattle.sqlite.specs.declared.error.Error.{Error}
@@ -8,12 +8,13 @@ use Rattle.sqlite.specs.Effect.{IsDatabase}
 use Rattle.sqlite.specs.State.{State}
 use Rattle.sqlite_catalog.specs.Change.{KeepsRows}
 use Rattle.fax_schema.specs.declared.statements.TheConstants.{CREATE_KILLTIME_INDEX, CREATE_CHOICE_INDEX}
-use Rattle.fax_schema.specs.Schema.{bare_tables, choice_index_at, killtime_index_at, core_list, core_tables, with_killtime_index}
+use Rattle.fax_schema.specs.Schema.{bare_tables, core_past, choice_index_at, killtime_index_at, core_list, core_tables, with_killtime_index}
 use Rattle.fax_schema.proofs.CreateTexts.{indexed_choice, indexed_killtime, makes_choice_index, makes_killtime_index}
 use Rattle.fax_tables.specs.Making.{Alters, Always}
 use Rattle.fax_tables.specs.Tables.{HasTablesAlone, IsIndexed}
 use Rattle.fax_tables.proofs.AlterLemmas.{alters_done, alters_refused, alters_then, statement}
-use Rattle.fax_tables.proofs.CreateLemmas.{kept_rows, made_index, renews_core}
+use Rattle.fax_tables.proofs.CreateLemmas.{made_index, renews_core}
+use Rattle.fax_schema.proofs.RowsLemmas.{kept_rows}
 use Rattle.fax_tables.proofs.StopLemmas.{step_holds_back}
 use Rattle.fax_tables.proofs.schema.create_indexes.Goals as goal
 
@@ -38,7 +39,7 @@ first : {S : Type 0} (g : Ghosts S) (a b : Held S) (r : Result ℕ Error) → Su
 first g a b r survives runs =
     statement g a b CREATE_KILLTIME_INDEX.now r HasTablesAlone HasGotFirst
     (λ n ran was.
-    let it = made_index (state g a) (state g b) bare_tables with_killtime_index CREATE_KILLTIME_INDEX.now (killtime_index_at 13) n makes_killtime_index refl indexed_killtime ran was.inside was.schema_is in
+    let it = made_index (state g a) (state g b) bare_tables with_killtime_index CREATE_KILLTIME_INDEX.now (killtime_index_at core_past) n makes_killtime_index refl indexed_killtime ran was.inside was.schema_is in
     (it.0, record { was = was.schema_is; schema_is = it.1; rows = it.3 }))
     (step_holds_back (state g a) (state g b) HasTablesAlone bare_tables CREATE_KILLTIME_INDEX.now (CreateIndex 0) makes_killtime_index.command (λ e. e) (λ was. (was.inside, was.schema_is)) survives) survives runs
 
@@ -47,7 +48,7 @@ next : {S : Type 0} (g : Ghosts S) (a b : Held S) (r : Result ℕ Error) → Sur
 next g a b r survives runs =
     statement g a b CREATE_CHOICE_INDEX.now r HasFirstIndex HasGotNext
     (λ n ran was.
-    let it = made_index (state g a) (state g b) with_killtime_index core_tables CREATE_CHOICE_INDEX.now (choice_index_at 14) n makes_choice_index refl indexed_choice ran was.0 was.1 in
+    let it = made_index (state g a) (state g b) with_killtime_index core_tables CREATE_CHOICE_INDEX.now (choice_index_at (core_past + 1)) n makes_choice_index refl indexed_choice ran was.0 was.1 in
     (it.0, record { schema_is = it.1; sound = it.2; rows = it.3 }))
     (step_holds_back (state g a) (state g b) HasFirstIndex with_killtime_index CREATE_CHOICE_INDEX.now (CreateIndex 0) makes_choice_index.command (λ e. e) (λ was. was) survives) survives runs
 

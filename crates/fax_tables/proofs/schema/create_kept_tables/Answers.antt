@@ -2,7 +2,7 @@ use Rattle.std.proofs.Common.{Ok, Err, refl}
 use Rattle.fax_schema.specs.declared.statements.TheConstants.{CREATE_REPLIES, CREATE_META}
 use Rattle.fax_schema.specs.Schema as schema
 use Rattle.fax_schema.specs.Schema.{with_down, with_replies, first_bare}
-use Rattle.fax_schema.proofs.CreateTexts.{makes_replies, created_replies, makes_meta, created_meta}
+use Rattle.fax_schema.proofs.StatementTexts.{makes_replies, created_replies, makes_meta, created_meta}
 use Rattle.fax_tables.proofs.AlterLemmas.{alters_done, alters_refused, table_made, tables_then}
 use Rattle.fax_tables.proofs.schema.create_kept_tables.Goals as goal
 

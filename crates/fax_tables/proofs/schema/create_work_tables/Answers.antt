@@ -2,7 +2,9 @@ use Rattle.std.proofs.Common.{Ok, Err, refl}
 use Rattle.fax_schema.specs.declared.statements.TheConstants.{CREATE_JOBS, CREATE_GRANTS, CREATE_HOLDS, CREATE_DOWN}
 use Rattle.fax_schema.specs.Schema as schema
 use Rattle.fax_schema.specs.Schema.{no_tables, with_jobs, with_grants, with_holds, with_down}
-use Rattle.fax_schema.proofs.CreateTexts.{makes_jobs, created_jobs, makes_grants, created_grants, makes_holds, created_holds, makes_down, created_down}
+use Rattle.fax_schema.proofs.GrantTexts.{makes_grants, created_grants, makes_holds, created_holds}
+use Rattle.fax_schema.proofs.ModemTexts.{makes_down, created_down}
+use Rattle.fax_schema.proofs.StatementTexts.{makes_jobs, created_jobs}
 use Rattle.fax_tables.proofs.AlterLemmas.{alters_done, alters_refused, table_made, tables_then}
 use Rattle.fax_tables.proofs.schema.create_work_tables.Goals as goal
 

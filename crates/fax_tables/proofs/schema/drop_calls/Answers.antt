@@ -19,10 +19,10 @@ step g a b r survives runs =
     statement g a b DROP_CALLS.now r HasCallsBeside (λ old new. LacksCalls old.now new.now)
     (λ n ran was.
     let way = loses_last (state g a).now.schema was.schema_is in
-    let it = dropped (state g a) (state g b) (state g a).now.schema way.end DROP_CALLS.now way.at way.table n way.takes way.has way.unacted way.uncounted way.left ran was.inside refl in
+    let it = dropped (state g a) (state g b) (state g a).now.schema way.end DROP_CALLS.now n way.takes ran was.inside refl in
     (it.0, way.leaves (state g a).now (state g b).now refl it.1 it.2 it.3))
     (any_holds_back (state g a) (state g b) HasCallsBeside DROP_CALLS.now
-    (λ was. let way = loses_last (state g a).now.schema was.schema_is in (was.inside, DropTable way.at, way.takes.command, λ e. e)) survives) survives runs
+    (λ was. let way = loses_last (state g a).now.schema was.schema_is in (was.inside, DropTable (way.takes).at, (way.takes).command, λ e. e)) survives) survives runs
 
 pub returns-in_err-execute : goal.returns-in_err-execute
 returns-in_err-execute g c =

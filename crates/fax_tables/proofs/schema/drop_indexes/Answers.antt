@@ -1,4 +1,4 @@
-use Rattle.std.proofs.Common.{rules, ◌≡◌, ℕ, [], Ok, IsTrue, refl, sym, ap, subst, ◌∙◌}
+use Rattle.std.proofs.Common.{rules, ◌≡◌, ℕ, [], Ok, IsTrue, refl, ap, subst, ◌∙◌}
 use Rattle.sqlite.specs.Command.TheVariants.{DropIndex}
 use Rattle.sqlite.specs.Held.{state}
 use Rattle.sqlite.specs.Listing.{understood}
@@ -9,7 +9,8 @@ use Rattle.sqlite_schema.specs.declared.schema.Schema.{Schema}
 use Rattle.fax_schema.specs.declared.statements.TheConstants.{DROP_CHOICE_INDEX, DROP_KILLTIME_INDEX}
 use Rattle.fax_tables.specs.Stop.{HoldsBack}
 use Rattle.fax_tables.specs.Tables.{GoesOn, HasIndexesLast, LosesIndexes}
-use Rattle.fax_tables.proofs.CreateLemmas.{clean_before, commit_kept, goes_on, kept_rows, lost_index, refused_keeps}
+use Rattle.fax_tables.proofs.CreateLemmas.{clean_before, commit_kept, goes_on, lost_index, refused_keeps}
+use Rattle.fax_schema.proofs.RowsLemmas.{kept_rows}
 use Rattle.fax_tables.proofs.WayLemmas.{LosesBoth, loses_both}
 use Rattle.fax_tables.proofs.ResultLemmas.{on_err}
 use Rattle.fax_tables.proofs.StopLemmas.{any_holds_back, holds_back_then}
@@ -25,14 +26,14 @@ pub record LosesFirst (s0 s1 : State) : Type 0 where
 first_lost : (s0 s1 : State) (n : ℕ) → Executes DROP_CHOICE_INDEX.now [] s0 s1 (Ok n) → HasIndexesLast s0 → LosesFirst s0 s1
 first_lost s0 s1 n ran was =
     let way = loses_both s0.now.schema was.schema_is in
-    let m = lost_index s0 s1 s0.now.schema way.middle DROP_CHOICE_INDEX.now way.first_at way.first n way.loses_first way.has_first way.left_first ran was.inside refl in
+    let m = lost_index s0 s1 s0.now.schema way.middle DROP_CHOICE_INDEX.now n way.first ran was.inside refl in
     record { way = way; on = m.0; schema_is = m.1; rows = subst (λ ts. KeepsRows ts s0.now.trees s1.now.trees) way.same_middle m.3 }
 
 -- and so is the other
 both_lost : (s0 s1 s2 : State) (n : ℕ) → Executes DROP_KILLTIME_INDEX.now [] s1 s2 (Ok n) → LosesFirst s0 s1 → GoesOn s0 s2 × LosesIndexes s0.now s2.now
 both_lost s0 s1 s2 n ran m1 =
     let way = m1.way in
-    let m2 = lost_index s1 s2 way.middle way.end DROP_KILLTIME_INDEX.now way.next_at way.next n way.loses_next way.has_next way.left_next ran m1.on.mode m1.schema_is in
+    let m2 = lost_index s1 s2 way.middle way.end DROP_KILLTIME_INDEX.now n way.next ran m1.on.mode m1.schema_is in
     let rows = subst (λ ts. KeepsRows ts s1.now.trees s2.now.trees) way.same_end m2.3 in
     (goes_on s0 s1 s2 m1.on m2.0, way.leaves s0.now s2.now refl m2.1 m2.2 (kept_rows way.tables s0.now.trees s1.now.trees s2.now.trees m1.rows rows))
 
@@ -47,11 +48,11 @@ pub record HasFirstIndex (s : State) : Type 0 where
 
 first_withheld : (s0 s1 : State) → Survives s0 s1 (CommitsBy DROP_CHOICE_INDEX.now [] s0) → HoldsBack HasIndexesLast s0 s1
 first_withheld s0 s1 = any_holds_back s0 s1 HasIndexesLast DROP_CHOICE_INDEX.now
-    (λ was. let way = loses_both s0.now.schema was.schema_is in (was.inside, DropIndex way.first_at, way.loses_first.command, λ e. e))
+    (λ was. let way = loses_both s0.now.schema was.schema_is in (was.inside, DropIndex (way.first).at, (way.first).command, λ e. e))
 
 next_withheld : (s1 s2 : State) → Survives s1 s2 (CommitsBy DROP_KILLTIME_INDEX.now [] s1) → HoldsBack HasFirstIndex s1 s2
 next_withheld s1 s2 = any_holds_back s1 s2 HasFirstIndex DROP_KILLTIME_INDEX.now
-    (λ was. (was.inside, DropIndex was.way.next_at, ap (λ (s : Schema). command_of (understood s DROP_KILLTIME_INDEX.now)) was.schema_is ∙ was.way.loses_next.command, λ e. e))
+    (λ was. (was.inside, DropIndex (was.way.next).at, ap (λ (s : Schema). command_of (understood s DROP_KILLTIME_INDEX.now)) was.schema_is ∙ (was.way.next).command, λ e. e))
 
 both : (s0 s1 s2 : State) (n : ℕ) → Survives s0 s1 (CommitsBy DROP_CHOICE_INDEX.now [] s0) → Survives s1 s2 (CommitsBy DROP_KILLTIME_INDEX.now [] s1)
     → (HasCleanDisk s1 → Executes DROP_CHOICE_INDEX.now [] s0 s1 (Ok n)) → HoldsBack HasIndexesLast s0 s2
