@@ -37,7 +37,7 @@ use Rattle.fax_store.proofs.ControlLemmas.{begins, commits}
 use Rattle.fax_store.proofs.HeldLemmas.{held_still, rows_callable}
 use Rattle.fax_schema.proofs.StatementTexts.{select_version, version_project}
 use Rattle.fax_store.proofs.StopLemmas.{begin_nothing, commit_makes}
-use Rattle.fax_store.proofs.StoreLemmas.{same_tables, served}
+use Rattle.fax_store.proofs.StoreLemmas.{same_tables}
 use Rattle.fax_store.proofs.WorkLemmas.{not_strange, ok_as, refused_as}
 
 -- what goes back to the commit that a call kept, goes back to that before it

@@ -12,7 +12,7 @@ use Rattle.sqlite.specs.State.{State, HasCleanDisk, Executes, KeepsCommit, Shows
 use Rattle.sqlite.specs.declared.error.Error.{Error}
 use Rattle.std.specs.Bool.{MatchBool}
 use Rattle.sqlite.specs.Rows.{Outcome, Task}
-use Rattle.sqlite.specs.Does.{AtPlace, Defines, Does, Drops, Empties, Leaves, MakesIndex, MakesTable, Tally, Uncounts, is_acted_on, lacks_sequence, sequence_text}
+use Rattle.sqlite.specs.Does.{AtPlace, Defines, Does, Drops, Empties, Leaves, MakesIndex, MakesTable, Tally, Uncounts, lacks_sequence, sequence_text}
 use Rattle.sqlite.specs.Compile.{table_defined_by, index_defined_by}
 use Rattle.sqlite.specs.Command.TheVariants.{CreateTable, CreateIndex, DropIndex, DropTable}
 use Rattle.sqlite.proofs.Callers.{runs_as, statement_of}
@@ -21,7 +21,7 @@ use Rattle.sqlite_schema.specs.declared.schema.Index.{Index}
 use Rattle.sqlite_schema.specs.declared.schema.Table.{Table}
 use Rattle.sqlite_schema.specs.declared.schema.Schema.{Schema}
 use Rattle.sqlite_catalog.specs.Calls.{RefusesToDropIndex}
-use Rattle.sqlite_catalog.specs.Change.{created, indexed, next_tree, without_index, without_table, KeepsRows}
+use Rattle.sqlite_catalog.specs.Change.{created, indexed, next_tree, without_index, KeepsRows}
 use Rattle.sqlite_schema.specs.declared.schema.Keys.TheVariants.{Enforced}
 use Rattle.fax_schema.specs.declared.statements.TheConstants.{INSERT_META}
 use Rattle.fax_core.specs.Ledger.{empty_ledger}

@@ -17,9 +17,9 @@ use Rattle.fax_schema.specs.declared.statements.TheConstants.{CREATE_SECOND}
 use Rattle.fax_schema.specs.Schema.{bare_tables, first_bare, first_list, second_list}
 use Rattle.fax_schema.proofs.ClientTexts.{second_made}
 use Rattle.fax_schema.proofs.RowsLemmas.{all_behind, all_both, all_front, kept_rows}
-use Rattle.fax_schema.proofs.StatementForms.{MakeAll, MakesNext}
+use Rattle.fax_schema.proofs.StatementForms.{MakeAll}
 use Rattle.fax_tables.specs.Making.{Alters, Always}
-use Rattle.fax_tables.specs.Tables.{GoesOn, HasFirstTables, HasNewFloors}
+use Rattle.fax_tables.specs.Tables.{HasFirstTables, HasNewFloors}
 use Rattle.fax_tables.proofs.AlterLemmas.{alters_as, alters_then, statement}
 use Rattle.fax_tables.proofs.CreateLemmas.{added, renews_raised}
 use Rattle.fax_tables.proofs.StopLemmas.{command_holds_back}
