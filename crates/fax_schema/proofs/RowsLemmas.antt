@@ -51,7 +51,8 @@ at_tree P (t ∷ ts) tree there all = elim (cases_Bool (t.tree == tree)) [
 ]
 
 -- tables that don't have this tree keep their rows where all others do
-pub others_kept : (tables : List Table) (tree : ℕ) (old new : Trees) → list_all (λ t. not (t.tree == tree)) tables ≡ true → AllByRecursion (λ t. t.tree ≢ tree → new t.tree ≡ old t.tree) tables → KeepsRows tables old new
+pub others_kept : (tables : List Table) (tree : ℕ) (old new : Trees) → list_all (λ t. not (t.tree == tree)) tables ≡ true → AllByRecursion (λ t. t.tree ≢ tree → new t.tree ≡ old t.tree) tables
+    → KeepsRows tables old new
 others_kept [] tree old new apart all = tt
 others_kept (t ∷ ts) tree old new apart all =
     let parts = and_parts (not (t.tree == tree)) _ apart in

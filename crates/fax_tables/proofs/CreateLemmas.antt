@@ -12,7 +12,7 @@ use Rattle.sqlite.specs.State.{State, HasCleanDisk, Executes, KeepsCommit, Shows
 use Rattle.sqlite.specs.declared.error.Error.{Error}
 use Rattle.std.specs.Bool.{MatchBool}
 use Rattle.sqlite.specs.Rows.{Outcome, Task}
-use Rattle.sqlite.specs.Does.{AtPlace, Defines, Does, Drops, Empties, Leaves, MakesIndex, MakesTable, Tally, Uncounts, is_acted_on, lacks_sequence, sequence_text}
+use Rattle.sqlite.specs.Does.{AtPlace, Defines, Does, Drops, Empties, Leaves, MakesIndex, MakesTable, Tally, Uncounts, lacks_sequence, sequence_text}
 use Rattle.sqlite.specs.Compile.{table_defined_by, index_defined_by}
 use Rattle.sqlite.specs.Command.TheVariants.{CreateTable, CreateIndex, DropIndex, DropTable}
 use Rattle.sqlite.proofs.Callers.{runs_as, statement_of}
@@ -21,7 +21,7 @@ use Rattle.sqlite_schema.specs.declared.schema.Index.{Index}
 use Rattle.sqlite_schema.specs.declared.schema.Table.{Table}
 use Rattle.sqlite_schema.specs.declared.schema.Schema.{Schema}
 use Rattle.sqlite_catalog.specs.Calls.{RefusesToDropIndex}
-use Rattle.sqlite_catalog.specs.Change.{created, indexed, next_tree, without_index, without_table, KeepsRows}
+use Rattle.sqlite_catalog.specs.Change.{created, indexed, next_tree, without_index, KeepsRows}
 use Rattle.sqlite_schema.specs.declared.schema.Keys.TheVariants.{Enforced}
 use Rattle.fax_schema.specs.declared.statements.TheConstants.{INSERT_META}
 use Rattle.fax_core.specs.Ledger.{empty_ledger}
@@ -105,7 +105,8 @@ made old new before after sql table count makes is none h was =
     (it.0, record { inside = it.0.mode; schema_is = it.1; empty = subst (λ s. AllByRecursion (λ t. new.now.trees t.tree ≡ []) s.tables) is all })
 
 -- a table is gone, to which no other refers, and the rows of the others stay
-pub dropped : (old new : State) (before after : Schema) (sql : List ℕ) (count : ℕ) → TakesAway before sql after → Executes sql [] old new (Ok count) → IsTrue old.in_transaction → old.now.schema ≡ before
+pub dropped : (old new : State) (before after : Schema) (sql : List ℕ) (count : ℕ) → TakesAway before sql after → Executes sql [] old new (Ok count) → IsTrue old.in_transaction
+    → old.now.schema ≡ before
     → GoesOn old new × (new.now.schema ≡ after) × IsDatabase new.now × KeepsRows after.tables old.now.trees new.now.trees
 dropped old new before after sql count takes h inside has =
     let ran = runs_as sql [] old new before has (DropTable takes.at) takes.command takes.plain count h in
@@ -136,7 +137,8 @@ dropped old new before after sql count takes h inside has =
     uncounted_as e l h = rw takes.uncounted at h
 
 -- an index is gone, and the rows stay
-pub lost_index : (old new : State) (before after : Schema) (sql : List ℕ) (count : ℕ) → LosesIndex before sql after → Executes sql [] old new (Ok count) → IsTrue old.in_transaction → old.now.schema ≡ before
+pub lost_index : (old new : State) (before after : Schema) (sql : List ℕ) (count : ℕ) → LosesIndex before sql after → Executes sql [] old new (Ok count) → IsTrue old.in_transaction
+    → old.now.schema ≡ before
     → GoesOn old new × (new.now.schema ≡ after) × IsDatabase new.now × KeepsRows after.tables old.now.trees new.now.trees
 lost_index old new before after sql count loses h inside has =
     let ran = runs_as sql [] old new before has (DropIndex loses.at) loses.command loses.plain count h in
@@ -195,7 +197,8 @@ renews_core db after a c there still was is rows = record {
 }
 
 -- of the first, to which the tables of the second come, with no rows
-pub renews_raised : (db after : Database) → db.schema ≡ first_bare → after.schema ≡ bare_tables → KeepsRows first_list db.trees after.trees → AllByRecursion (λ t. after.trees t.tree ≡ []) second_list → Renews db after
+pub renews_raised : (db after : Database) → db.schema ≡ first_bare → after.schema ≡ bare_tables → KeepsRows first_list db.trees after.trees
+    → AllByRecursion (λ t. after.trees t.tree ≡ []) second_list → Renews db after
 renews_raised db after was is rows none = record {
   rows = rows;
   second = all_mapped (λ t. after.trees t.tree ≡ []) (λ t. second_in after t.tree ≡ second_in db t.tree) second_list (λ t empty. second_there after bare_tables t.tree is refl ∙ empty ∙ sym (second_none db first_bare t.tree was refl)) none;
@@ -211,14 +214,16 @@ renews_then a b c first next = record {
 -- ---- tables with no rows
 
 -- all tables of the second version have none, where those of the other had none
-core_empty : (db after : Database) (c : Schema) → has_floors c ≡ true → after.schema ≡ c → Renews db after → AllByRecursion (λ t. db.trees t.tree ≡ []) first_list → AllByRecursion (λ t. second_in db t.tree ≡ []) second_list
+core_empty : (db after : Database) (c : Schema) → has_floors c ≡ true → after.schema ≡ c → Renews db after → AllByRecursion (λ t. db.trees t.tree ≡ []) first_list
+    → AllByRecursion (λ t. second_in db t.tree ≡ []) second_list
     → AllByRecursion (λ t. after.trees t.tree ≡ []) core_list
 core_empty db after c there is renews first second =
     all_both (λ t. after.trees t.tree ≡ []) first_list second_list (still_empty first_list db.trees after.trees renews.rows first)
     (all_mapped (λ t. second_in after t.tree ≡ []) (λ t. after.trees t.tree ≡ []) second_list (λ t none. sym (second_there after c t.tree is there) ∙ none) (still_empty second_list (second_in db) (second_in after) renews.second second))
 
 -- so it is behind tables of the second version
-still_core : (db after : Database) (a c : Schema) → has_floors a ≡ true → has_floors c ≡ true → db.schema ≡ a → after.schema ≡ c → Renews db after → AllByRecursion (λ t. db.trees t.tree ≡ []) core_list
+still_core : (db after : Database) (a c : Schema) → has_floors a ≡ true → has_floors c ≡ true → db.schema ≡ a → after.schema ≡ c → Renews db after
+    → AllByRecursion (λ t. db.trees t.tree ≡ []) core_list
     → AllByRecursion (λ t. after.trees t.tree ≡ []) core_list
 still_core db after a c was there has is renews empty =
     core_empty db after c there is renews (all_front (λ t. db.trees t.tree ≡ []) first_list second_list empty)

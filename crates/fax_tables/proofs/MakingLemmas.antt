@@ -17,9 +17,9 @@ use Rattle.fax_schema.specs.declared.statements.TheConstants.{CREATE_SECOND}
 use Rattle.fax_schema.specs.Schema.{bare_tables, first_bare, first_list, second_list}
 use Rattle.fax_schema.proofs.ClientTexts.{second_made}
 use Rattle.fax_schema.proofs.RowsLemmas.{all_behind, all_both, all_front, kept_rows}
-use Rattle.fax_schema.proofs.StatementForms.{MakeAll, MakesNext}
+use Rattle.fax_schema.proofs.StatementForms.{MakeAll}
 use Rattle.fax_tables.specs.Making.{Alters, Always}
-use Rattle.fax_tables.specs.Tables.{GoesOn, HasFirstTables, HasNewFloors}
+use Rattle.fax_tables.specs.Tables.{HasFirstTables, HasNewFloors}
 use Rattle.fax_tables.proofs.AlterLemmas.{alters_as, alters_then, statement}
 use Rattle.fax_tables.proofs.CreateLemmas.{added, renews_raised}
 use Rattle.fax_tables.proofs.StopLemmas.{command_holds_back}
@@ -56,7 +56,8 @@ pub record HasMade (left : List (List ℕ)) (old new : State) : Type 0 where
   pub makes : MakeAll first_list new.now.schema left bare_tables
   pub sound : IsDatabase new.now
 
-one_more : (left : List (List ℕ)) (old mid new : State) → old.now.schema ≡ first_bare → KeepsRows mid.now.schema.tables (only_in first_list old.now.trees) mid.now.trees → JustMade left mid new → HasMade left old new
+one_more : (left : List (List ℕ)) (old mid new : State) → old.now.schema ≡ first_bare → KeepsRows mid.now.schema.tables (only_in first_list old.now.trees) mid.now.trees → JustMade left mid new
+    → HasMade left old new
 one_more left old mid new was rows it =
     let only = only_in first_list old.now.trees in
     let fresh : new.now.trees (it.table).tree ≡ only (it.table).tree =
@@ -71,7 +72,8 @@ one_more left old mid new was rows it =
 
 module _ {S : Type 0} (g : Ghosts S) where
   -- one text
-  step : (a b : Held S) (sql : List ℕ) (rest : List (List ℕ)) (r : Result ℕ Error) → Survives (state g a) (state g b) (CommitsBy sql [] (state g a)) → (HasCleanDisk (state g b) → Executes sql [] (state g a) (state g b) r)
+  step : (a b : Held S) (sql : List ℕ) (rest : List (List ℕ)) (r : Result ℕ Error) → Survives (state g a) (state g b) (CommitsBy sql [] (state g a))
+      → (HasCleanDisk (state g b) → Executes sql [] (state g a) (state g b) r)
       → Alters g (Expects (sql ∷ rest)) Always (JustMade rest) a b r
   step a b sql rest r survives runs =
       statement g a b sql r (Expects (sql ∷ rest)) (JustMade rest)
@@ -98,7 +100,8 @@ module _ {S : Type 0} (g : Ghosts S) where
   Along a b texts = ((b ≡ a) × (texts ≡ map (λ text. text.now) CREATE_SECOND)) ⊎ Alters g {A = Unit {0}} {E = Error} HasFirstTables HasFirstTables (HasMade texts) a b (Ok tt)
 
   -- and one more
-  pub along : (a b c : Held S) (sql : List ℕ) (rest : List (List ℕ)) (r : Result ℕ Error) → Along a b (sql ∷ rest) → Survives (state g b) (state g c) (CommitsBy sql [] (state g b)) → (HasCleanDisk (state g c) → Executes sql [] (state g b) (state g c) r)
+  pub along : (a b c : Held S) (sql : List ℕ) (rest : List (List ℕ)) (r : Result ℕ Error) → Along a b (sql ∷ rest) → Survives (state g b) (state g c) (CommitsBy sql [] (state g b))
+      → (HasCleanDisk (state g c) → Executes sql [] (state g b) (state g c) r)
       → Alters g HasFirstTables HasFirstTables (HasMade rest) a c r
   along a b c sql rest r (inl (same, all)) survives runs =
       subst (λ x. Alters g HasFirstTables HasFirstTables (HasMade rest) x c r) same
@@ -123,7 +126,8 @@ first_and_rest text [] d some = absurd (omega arith)
 first_and_rest text (x ∷ xs) d some = ap (λ rest. text x ∷ map text rest) (sym (take_all (length (x ∷ xs) - 1) xs (omega arith)))
 
 -- so where no text is left, all are done
-pub all_along : {S X : Type 0} (g : Ghosts S) (a b : Held S) (text : X → List ℕ) (xs : List X) → length xs < 1 → Along g a b (map text xs) → Alters g {A = Unit {0}} {E = Error} HasFirstTables HasFirstTables (λ old new. HasNewFloors old.now new.now) a b (Ok tt)
+pub all_along : {S X : Type 0} (g : Ghosts S) (a b : Held S) (text : X → List ℕ) (xs : List X) → length xs < 1 → Along g a b (map text xs)
+    → Alters g {A = Unit {0}} {E = Error} HasFirstTables HasFirstTables (λ old new. HasNewFloors old.now new.now) a b (Ok tt)
 all_along g a b text [] low (inl (same, all)) = absurd (let none = all in cc)
 all_along g a b text [] low (inr made) = alters_as g a b HasFirstTables HasFirstTables HasFirstTables (HasMade []) (λ old new. HasNewFloors old.now new.now) (Ok tt) (λ was. was) (λ was on it. all_made (state g a) (state g b) it) (λ was. was) made
 all_along g a b text (x ∷ xs) low come = absurd (omega arith)

@@ -1,15 +1,12 @@
 -- How each layout loses its `calls`, or the indexes of jobs where these are last.
-use Rattle.std.proofs.Common.{◌≡◌, ◌≤◌, inl, inr, ℕ, ◌+◌, List, [], ◌∷◌, length, slice_get, Some, false, refl, sym, ap, subst, ◌∙◌, arith}
+use Rattle.std.proofs.Common.{◌≡◌, ◌≤◌, inl, inr, List, [], ◌∷◌, length, refl, sym, ap, subst, ◌∙◌, arith}
 use Rattle.sqlite.specs.Effect.{Database, IsDatabase}
-use Rattle.sqlite_catalog.specs.Change.{without_index, without_table, KeepsRows}
+use Rattle.sqlite_catalog.specs.Change.{KeepsRows}
 use Rattle.sqlite_rules.specs.Lists.{Has}
-use Rattle.sqlite.specs.Does.{is_acted_on}
-use Rattle.sqlite_schema.specs.declared.schema.Index.{Index}
-use Rattle.sqlite_schema.specs.declared.schema.Keys.TheVariants.{Enforced}
 use Rattle.sqlite_schema.specs.declared.schema.Schema.{Schema}
 use Rattle.sqlite_schema.specs.declared.schema.Table.{Table}
 use Rattle.fax_schema.specs.declared.statements.TheConstants.{DROP_CALLS, DROP_CHOICE_INDEX, DROP_KILLTIME_INDEX}
-use Rattle.fax_schema.specs.Schema.{AreIndexedLast, HaveCalls, calls_at, calls_place, calls_tree, core_keys, core_past, first_past, choice_index_at, killtime_index_at, older_choice_index_at, first_list, core_list, first_bare, first_with_killtime, first_core, first_indexed, first_older_core, first_tables, first_older, first_bare_calls, first_vacuumed, first_vacuumed_with_killtime, first_older_vacuumed, bare_tables, core_tables, our_tables, bare_with_calls, vacuumed_tables, vacuumed_with_killtime}
+use Rattle.fax_schema.specs.Schema.{AreIndexedLast, HaveCalls, calls_at, core_past, first_past, first_list, core_list, first_bare, first_with_killtime, first_core, first_indexed, first_older_core, first_tables, first_older, first_bare_calls, first_vacuumed, first_vacuumed_with_killtime, first_older_vacuumed, bare_tables, core_tables, our_tables, bare_with_calls, vacuumed_tables, vacuumed_with_killtime}
 use Rattle.fax_schema.proofs.CreateTexts.{LosesIndex, TakesAway}
 use Rattle.fax_schema.proofs.CreateTexts as text
 use Rattle.fax_tables.specs.Tables.{LacksCalls, LosesIndexes}
