@@ -1,5 +1,5 @@
 -- What the texts on calls read and write.
-use Rattle.std.proofs.Common.{◌≡◌, ◌⊎◌, inl, inr, ◌≤◌, ℕ, zero, suc, pos, List, [], ◌∷◌, ◌++◌, map, filter, drop, Bool, true, false, not, ◌&&◌, if◌then◌else◌, Option, Some, None, MatchOption, IsTrue, refl, sym, ap, ap₂, subst, ◌∙◌, arith}
+use Rattle.std.proofs.Common.{◌≡◌, ◌≢◌, ◌⊎◌, inl, inr, ◌≤◌, ℕ, zero, suc, pos, List, [], ◌∷◌, ◌++◌, map, filter, drop, Bool, true, false, not, ◌&&◌, if◌then◌else◌, Option, Some, None, MatchOption, IsTrue, refl, sym, ap, ap₂, subst, ◌∙◌, arith}
 use Rattle.std.specs.Str.{bytes_eq}
 use Rattle.std.specs.List.Sorted.{IsPermutation}
 use Rattle.std.proofs.lemmas.Bool.{cases_Bool}
@@ -23,7 +23,8 @@ use Rattle.fax_store.specs.Grant.{HasCalls, SetsCalls, with_count}
 use Rattle.fax_store.specs.Store.{FindsRow, HasRun}
 use Rattle.fax_tables.specs.Row.{number, call_columns}
 use Rattle.fax_schema.specs.Schema as schema
-use Rattle.fax_schema.specs.Schema.{core_tables, our_tables, calls_tree}
+use Rattle.fax_schema.specs.Schema.{core_list, core_tables, our_tables, calls_place, calls_tree}
+use Rattle.fax_schema.proofs.RowsLemmas.{all_front, all_given, others_kept}
 use Rattle.fax_tables.specs.Tables.{AreCalls, AreCounted}
 use Rattle.fax_schema.specs.ByRowid.{IsByRowid}
 use Rattle.fax_schema.proofs.AppendLemmas.{appended}
@@ -163,8 +164,7 @@ module _ (dial : List ℕ) where
 
 -- the tables beside it keep their rows
 kept_core : (old new : State) → KeepsOthers our_tables calls_tree old new → KeepsRows core_tables.tables old.now.trees new.now.trees
-kept_core old new keeps = let o = keeps.others in
-    (o.0 (λ e. absurd (omega arith)), (o.1.0 (λ e. absurd (omega arith)), (o.1.1.0 (λ e. absurd (omega arith)), (o.1.1.1.0 (λ e. absurd (omega arith)), (o.1.1.1.1.0 (λ e. absurd (omega arith)), (o.1.1.1.1.1.0 (λ e. absurd (omega arith)), (o.1.1.1.1.1.1.0 (λ e. absurd (omega arith)), tt)))))))
+kept_core old new keeps = others_kept core_list calls_tree old.now.trees new.now.trees refl (all_front (λ t. t.tree ≢ calls_tree → new.now.trees t.tree ≡ old.now.trees t.tree) core_list (schema.calls ∷ []) keeps.others)
 
 -- where the other tables stay and `calls` has these counts, the counts are set
 as_set : (old new : State) (count : List ℕ → ℕ) → IsTrue old.in_transaction → KeepsOthers our_tables calls_tree old new → AreCalls count (new.now.trees calls_tree) → SetsCalls old new count
@@ -193,7 +193,7 @@ set_none s count has = record {
   goes_on = record { was_open = has.is_open; is_open = has.is_open; now_is = refl; committed_is = refl; mode = has.inside };
   schema_is = has.tables;
   sound = has.sound;
-  rows = (refl, (refl, (refl, (refl, (refl, (refl, (refl, tt)))))));
+  rows = all_given (λ t. s.now.trees t.tree ≡ s.now.trees t.tree) core_list (λ t. refl);
   calls = has.calls;
 }
 
@@ -203,7 +203,7 @@ set_still a b count has same = record {
   goes_on = record { was_open = has.is_open; is_open = same.0.is_open; now_is = refl; committed_is = same.0.committed_is; mode = same.0.mode ∙ has.inside };
   schema_is = ap (λ (d : Database). d.schema) same.0.now_is ∙ has.tables;
   sound = subst IsDatabase (sym same.0.now_is) has.sound;
-  rows = subst (λ (d : Database). KeepsRows core_tables.tables a.now.trees d.trees) (sym same.0.now_is) (refl, (refl, (refl, (refl, (refl, (refl, (refl, tt)))))));
+  rows = subst (λ (d : Database). KeepsRows core_tables.tables a.now.trees d.trees) (sym same.0.now_is) (all_given (λ t. a.now.trees t.tree ≡ a.now.trees t.tree) core_list (λ t. refl));
   calls = subst (λ (d : Database). AreCalls count (d.trees calls_tree)) (sym same.0.now_is) has.calls;
 }
 
@@ -238,7 +238,7 @@ module _ (dial : List ℕ) (count : List ℕ → ℕ) where
       let rows = old.now.trees calls_tree in
       let pass = passes calls_tree call_tests gone_project (params dial) in
       let ran = runs_as DELETE_CALLS.now (params dial) old new our_tables was.tables _ delete_calls.is delete_calls.plain h.0 h.1 in
-      let done = deleted schema.calls.name 15 schema.calls.columns schema.calls.key schema.calls.primary schema.calls.uniques schema.calls.orders schema.calls.checks 7 refl old new was.tables refl was.calls.ordered
+      let done = deleted schema.calls.name calls_tree schema.calls.columns schema.calls.key schema.calls.primary schema.calls.uniques schema.calls.orders schema.calls.checks calls_place refl old new was.tables refl was.calls.ordered
       call_tests gone_project (params dial) (λ r. refl) _ h.0 ran in
       let left : map (drop 1) (filter (λ r. not (pass r)) rows) ≡ filter (others dial count) (map (drop 1) rows) =
       ap (map (drop 1)) (filter_same (λ r. not (pass r)) (λ r. others dial count (drop 1 r)) rows (all_of (λ r. not (pass r) ≡ others dial count (drop 1 r)) (λ r. ap not (is_asked dial gone_project r)) rows)) ∙ sym (filter-map (others dial count) (drop 1) rows) in
@@ -251,7 +251,7 @@ module _ (dial : List ℕ) (count : List ℕ → ℕ) where
       let row = Int (next_rowid rows) ∷ call_columns dial n in
       let stored : cast_row schema.calls (Null ∷ call_columns dial n) ≡ Null ∷ call_columns dial n = same_row cast_null (same_row refl (same_row (cast_int (pos n)) refl)) in
       let ran = runs_as INSERT_CALLS.now (Text dial ∷ number n ∷ []) old new our_tables was.tables _ insert_calls.is insert_calls.plain h.0 h.1 in
-      let done = inserts our_tables unreferred schema.calls.name 15 schema.calls.columns schema.calls.key schema.calls.primary schema.calls.uniques schema.calls.orders schema.calls.checks 7 refl old new was.tables (Text dial ∷ number n ∷ []) _ h.0
+      let done = inserts our_tables unreferred schema.calls.name calls_tree schema.calls.columns schema.calls.key schema.calls.primary schema.calls.uniques schema.calls.orders schema.calls.checks calls_place refl old new was.tables (Text dial ∷ number n ∷ []) _ h.0
       call_terms 3 (Null ∷ call_columns dial n) row refl (ap (with_rowid Chosen rows) stored) ran in
       let by = was.calls.ordered in
       as_set old new (with_count dial n count) was.inside done.keeps (record {

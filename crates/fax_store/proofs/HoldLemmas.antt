@@ -142,7 +142,7 @@ class_apart : (v : Value) (t : List ℕ) → is_null v ≡ false → (class v �
 class_apart v t whole apart other = compared Eq v (Text t) whole refl ∙ ap is_eq (value_cmp-apart v (Text t) apart) ∙ other
 
 -- only the text itself is
-text_same : (v : Value) (t : List ℕ) → are_equal v (Text t) ≡ true → v ≡ Text t
+pub text_same : (v : Value) (t : List ℕ) → are_equal v (Text t) ≡ true → v ≡ Text t
 text_same Null t h = absurd (both_ways _ (null_apart t) h)
 text_same (Int n) t h = absurd (both_ways _ (class_apart (Int n) t refl (λ e. omega arith) refl) h)
 text_same (Real x) t h = absurd (both_ways _ (class_apart (Real x) t refl (λ e. omega arith) refl) h)
