@@ -4,7 +4,7 @@ use Rattle.std.specs.Fmt.{decimal}
 use Rattle.sqlite.specs.Effect.{Database, IsDatabase}
 use Rattle.sqlite.specs.State.{State, HasCleanDisk}
 use Rattle.sqlite_wal.specs.Recovery.{Image}
-use Rattle.fax_check.specs.Check.{table_name}
+use Rattle.fax_check.specs.Whole.{table_name}
 use Rattle.fax_check.specs.declared.tables.Flaw.{Flaw}
 use Rattle.fax_core.specs.Ledger.{Ledger}
 use Rattle.fax_core.specs.Queue.{Queue}
