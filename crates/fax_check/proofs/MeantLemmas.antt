@@ -21,7 +21,7 @@ use Rattle.sqlite_trees.proofs.ListLemmas.{IsPermutation-filter, filter-map, fil
 use Rattle.fax_core.proofs.FitsLemmas.{fits_decides, job_again}
 use Rattle.fax_core.specs.Fits.{is_granted}
 use Rattle.fax_core.specs.Job.{Job, fields_of, job_of}
-use Rattle.fax_core.specs.Ledger.{Ledger}
+use Rattle.fax_core.specs.Ledger.{Ledger, IsLawfulEntry}
 use Rattle.fax_core.specs.Queue.{Queue, grant_numbered, job_numbered, open_grants}
 use Rattle.fax_core.specs.Sound.{FitsFree, FitsGrant, IsJob, IsOpen, Sound}
 use Rattle.fax_core.specs.State.{calls_to, is_of_number}
@@ -35,7 +35,7 @@ use Rattle.fax_tables.proofs.KeyLemmas.{only_numbered}
 use Rattle.fax_tables.specs.Job.{IsLawfulJob}
 use Rattle.fax_tables.specs.Meta.{meta_of}
 use Rattle.fax_tables.specs.Row.{call_columns, down_columns, entry_columns, grant_row, hold_columns, job_row}
-use Rattle.fax_tables.specs.Tables.{IsLawfulEntry, IsLawfulGrant, TablesMean}
+use Rattle.fax_tables.specs.Tables.{IsLawfulGrant, TablesMean}
 use Rattle.fax_check.specs.Meant.{HoldRowsAreRight, SoundRowsAreWhole, holder_of}
 use Rattle.fax_check.specs.Whole.{IsWholeTable, passed, Holder, IsCallRow, IsDownRow, IsFloorRow, IsGrantRow, IsHeld, IsJobRow, IsReplyRow, IsRightHolder, Stands, dialing, holder_columns}
 

@@ -26,7 +26,7 @@ use Rattle.fax_check.proofs.MadeLemmas.{AreApart, Made, all_each, made, made_col
 use Rattle.fax_check.proofs.OnceLemmas.{clients_once}
 use Rattle.fax_core.specs.Fits.{fits}
 use Rattle.fax_core.specs.Job.{Job, fields_of, job_of}
-use Rattle.fax_core.specs.Ledger.{Ledger}
+use Rattle.fax_core.specs.Ledger.{Ledger, IsLawfulEntry}
 use Rattle.fax_core.specs.Machine.{dial_of}
 use Rattle.fax_core.specs.Queue.{Queue, grant_numbered, job_numbered, open_grants}
 use Rattle.fax_core.specs.Sound.{Fits, FitsFree, IsJob, IsOpen, Sound}
@@ -41,7 +41,7 @@ use Rattle.fax_schema.specs.Schema.{calls_tree, down_tree, floors_tree, grants_t
 use Rattle.fax_schema.proofs.EditLemmas.{has_mapped}
 use Rattle.fax_tables.specs.Job.{IsLawfulJob}
 use Rattle.fax_tables.specs.Row.{job_row, grant_row, hold_columns, down_columns, entry_columns, call_columns}
-use Rattle.fax_tables.specs.Tables.{AreCounted, HaveJobs, IsLawfulEntry, IsLawfulGrant, TablesMean}
+use Rattle.fax_tables.specs.Tables.{AreCounted, HaveJobs, IsLawfulGrant, TablesMean}
 use Rattle.fax_tables.specs.declared.meta.Meta.{Meta}
 use Rattle.fax_tables.proofs.KeyLemmas.{only_numbered}
 use Rattle.fax_tables.proofs.TablesLemmas.{counted_as, row_of}

@@ -22,7 +22,8 @@ use Rattle.fax_tables.specs.Grant.{grant_shown}
 use Rattle.fax_tables.specs.Job.{IsLawfulJob, job_shown}
 use Rattle.fax_tables.specs.Meta.{with_meta}
 use Rattle.fax_tables.specs.Row.{HasNumber, HasValue, number, job_row, grant_row, down_columns, entry_columns, floor_columns, call_columns}
-use Rattle.fax_tables.specs.Tables.{IsKeptStatus, IsLawfulEntry, IsLawfulGrant, IsLawfulMeta}
+use Rattle.fax_tables.specs.Tables.{IsLawfulGrant, IsLawfulMeta}
+use Rattle.fax_core.specs.Ledger.{IsKeptStatus, IsLawfulEntry}
 use Rattle.fax_tables.specs.declared.meta.Meta.{Meta}
 pub use Rattle.fax_check.specs.declared.holders.Holder.{Holder}
 

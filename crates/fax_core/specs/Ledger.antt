@@ -1,7 +1,26 @@
 -- What is kept of the clients.
-use Rattle.std.specs.Prelude.{ℕ, Bool, ◌&&◌, List, [], ◌∷◌, ◌++◌, filter, not, if◌then◌else◌, nat_le, nat_lt}
+use Rattle.std.specs.Prelude.{◌≡◌, ◌≤◌, ◌<◌, ◌^◌, ◌⊎◌, ℕ, Bool, ◌==◌, ◌&&◌, List, [], ◌∷◌, ◌++◌, Option, filter, not, if◌then◌else◌, nat_le, nat_lt}
+use Rattle.std.specs.List.{find}
 use Rattle.std.specs.Str.{bytes_eq}
+use Rattle.fax_value.specs.Name.{IsName}
 use Rattle.fax_core.specs.Queue.{Entry}
+
+-- the entry that a reply is kept as
+abbrev pub entry : List ℕ → ℕ → List ℕ → ℕ → List ℕ → Entry
+entry client n said status body = record { client = client; number = n; said = said; status = status; body = body }
+
+-- the status of a reply that is kept
+abbrev pub IsKeptStatus : ℕ → Type 0
+IsKeptStatus status = (status ≡ 200) ⊎ (status ≡ 201)
+
+pub record IsLawfulEntry (e : Entry) : Type 0 where
+  pub client : IsName e.client
+  pub number : (1 ≤ e.number) × (e.number < 10 ^ 18)
+  pub status : IsKeptStatus e.status
+
+-- the entry of this number of this client, if there is one
+abbrev pub kept_for : List ℕ → ℕ → List Entry → Option Entry
+kept_for client n k = find (λ e. bytes_eq e.client client && (e.number == n)) k
 
 -- the replies, and of each client the number through which it has given its own up: 0, where it has given up none
 pub record Ledger : Type 0 where

@@ -23,7 +23,7 @@ use Rattle.fax_job.specs.declared.job.Phase.TheVariants.{Failed}
 use Rattle.fax_tables.specs.Job.{IsLawfulJob, brief}
 use Rattle.fax_text.specs.Listing.{Listed, heading, line_of, listing_of, number_of}
 use Rattle.fax_text.proofs.OrderLemmas.{numbered}
-use Rattle.fax_decide.specs.View.{viewed, view, with_state}
+use Rattle.fax_run.specs.View.{viewed, view, with_state}
 use Rattle.fax_decide.proofs.LinesLemmas.{state_lined}
 use Rattle.fax_decide.proofs.CallLemmas.{state_aged}
 use Rattle.fax_decide.proofs.ChoiceLemmas.{jobs_again, jobs_of}

@@ -5,7 +5,6 @@ pub mod Settings
 pub mod State
 pub mod Effect
 pub mod Decision
-pub mod View
 pub mod Records
 pub mod Report
 pub mod Looking

@@ -14,7 +14,7 @@ ghost use Rattle.fax_text.specs.Listing.{listing_of, number_of};
 ghost use Rattle.fax_decide.specs.Fault.{OrNoAnswer};
 ghost use Rattle.fax_decide.specs.Looking.{Consults, Views};
 ghost use Rattle.fax_decide.specs.Settings.{settings_of};
-ghost use Rattle.fax_decide.specs.View.{view, with_state};
+ghost use Rattle.fax_run.specs.View.{view, with_state};
 
 use crate::fault::Fault;
 use crate::office::Office;

@@ -7,11 +7,11 @@ use Rattle.fax_core.specs.Ledger.{Ledger}
 use Rattle.fax_core.specs.Queue.{Queue}
 use Rattle.fax_core.specs.Reply.{NoKeys}
 use Rattle.fax_core.specs.Settings.{Settings}
-use Rattle.fax_once.proofs.OneVerdictLemmas.{one_verdict}
-use Rattle.fax_once.specs.Laws.{left_of}
-use Rattle.fax_once.specs.Run.{Start}
-use Rattle.fax_once.specs.Verdict.{Verdict, IsVerdict, reply_of}
-use Rattle.fax_once.specs.declared.arrival.Arrival.{Arrival}
+use Rattle.fax_run.proofs.OneVerdictLemmas.{one_verdict}
+use Rattle.fax_run.specs.Laws.{left_of}
+use Rattle.fax_run.specs.Run.{Start}
+use Rattle.fax_run.specs.Verdict.{Verdict, IsVerdict, reply_of}
+use Rattle.fax_run.specs.declared.arrival.Arrival.{Arrival}
 use Rattle.fax_http.specs.Clock.{moment_said}
 use Rattle.fax_http.specs.Conversation.{Turn}
 use Rattle.fax_http.specs.Laws.{message_of}

@@ -13,7 +13,7 @@ use Rattle.fax_http.specs.Conversation.{Turn}
 use Rattle.fax_http.specs.Serving.{EndsBy}
 use Rattle.fax_http.specs.declared.device.Watched.{Watched}
 use Rattle.fax_http.specs.declared.serving.Served.{Served}
-use Rattle.fax_once.specs.Run.{Start}
+use Rattle.fax_run.specs.Run.{Start}
 use Rattle.fax_store.proofs.StoreLemmas.{memory_serves}
 
 -- turns by one clock are turns by another that gives the same

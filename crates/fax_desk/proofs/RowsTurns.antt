@@ -5,9 +5,9 @@ use Rattle.httparse.specs.Grammar.{Field, RequestHead, crlf, trim_ows}
 use Rattle.fax_ask.specs.Response.{Response}
 use Rattle.fax_core.specs.Settings.{Settings}
 use Rattle.fax_http.specs.Conversation.{Turn}
-use Rattle.fax_once.specs.Run.{Start}
-use Rattle.fax_once.specs.Sessions.{IsSession, session_of}
-use Rattle.fax_once.specs.declared.arrival.Arrival.{Arrival}
+use Rattle.fax_run.specs.Run.{Start}
+use Rattle.fax_run.specs.Sessions.{IsSession, session_of}
+use Rattle.fax_run.specs.declared.arrival.Arrival.{Arrival}
 use Rattle.fax_desk.specs.Desk.{IsArrival}
 use Rattle.fax_desk.specs.Turns.{AreArrivals, AreTurns, IsTurn, TurnsAreASession, said_in}
 

@@ -12,10 +12,10 @@ use Rattle.fax_http.specs.Conversation.{Turn}
 use Rattle.fax_http.specs.Serving.{Answering, Answers}
 use Rattle.fax_once.proofs.HandledLemmas.{leads_by, run_sound, runs_on, stops_on}
 use Rattle.fax_once.proofs.SessionsLemmas.{runs_as_session}
-use Rattle.fax_once.specs.Run.{Start, end_of}
+use Rattle.fax_run.specs.Run.{Start, end_of}
 use Rattle.fax_once.specs.Stop.{Before, Stops, StopsIn}
-use Rattle.fax_once.specs.Verdict.{Handles}
-use Rattle.fax_once.specs.declared.arrival.Arrival.{Arrival}
+use Rattle.fax_once.specs.Handled.{Handles}
+use Rattle.fax_run.specs.declared.arrival.Arrival.{Arrival}
 use Rattle.fax_store.specs.Store.{LeavesAlone, Means, Serves}
 
 -- what no message changes stays

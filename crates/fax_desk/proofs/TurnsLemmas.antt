@@ -5,12 +5,12 @@ use Rattle.fax_ask.specs.Response.{refused_response}
 use Rattle.fax_core.specs.Reply.{NoKeys}
 use Rattle.fax_core.specs.Settings.{Settings}
 use Rattle.fax_http.specs.Conversation.{Turn}
-use Rattle.fax_once.specs.Laws.{left_of}
-use Rattle.fax_once.specs.Reading.{Reading, IsReading}
-use Rattle.fax_once.specs.Run.{IsRun, Start, end_of}
-use Rattle.fax_once.specs.Verdict.{Verdict, reply_of, verdict}
-use Rattle.fax_once.specs.declared.arrival.Arrival.{Arrival}
-use Rattle.fax_once.proofs.RunLemmas.{runs_thread}
+use Rattle.fax_run.specs.Laws.{left_of}
+use Rattle.fax_run.specs.Reading.{Reading, IsReading}
+use Rattle.fax_run.specs.Run.{IsRun, Start, end_of}
+use Rattle.fax_run.specs.Verdict.{Verdict, reply_of, verdict}
+use Rattle.fax_run.specs.declared.arrival.Arrival.{Arrival}
+use Rattle.fax_run.proofs.RunLemmas.{runs_thread}
 use Rattle.fax_desk.specs.Desk.{IsArrival}
 use Rattle.fax_desk.specs.Turns.{AreArrivals, AreTurns, TurnsAreASession}
 

@@ -9,8 +9,8 @@ use Rattle.fax_core.specs.Queue.{Queue}
 use Rattle.fax_core.specs.Settings.{Settings}
 use Rattle.fax_core.specs.Sound.{Sound}
 use Rattle.fax_once.specs.Stop.{Stops}
-use Rattle.fax_once.specs.Verdict.{Handles}
-use Rattle.fax_once.specs.declared.arrival.Arrival.{Arrival}
+use Rattle.fax_once.specs.Handled.{Handles}
+use Rattle.fax_run.specs.declared.arrival.Arrival.{Arrival}
 use Rattle.fax_store.specs.Store.{Means}
 use Rattle.fax_http.specs.Message.{fields_of, sole, values_of}
 

@@ -13,7 +13,7 @@ use Rattle.fax_http.specs.declared.serving.End.TheVariants.{NoMemory}
 use Rattle.fax_http.specs.Conversation.{Reads, Turn}
 use Rattle.fax_http.specs.Device.{Took}
 use Rattle.fax_http.specs.Serving.{EndsBy, failed_to_read}
-use Rattle.fax_once.specs.Run.{Start}
+use Rattle.fax_run.specs.Run.{Start}
 
 -- the machine's settings in an office
 abbrev pub settings_in : Office → Settings

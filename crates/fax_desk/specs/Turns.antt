@@ -9,11 +9,12 @@ use Rattle.fax_core.specs.Settings.{Settings}
 use Rattle.fax_core.specs.Sound.{Sound}
 use Rattle.fax_http.specs.Conversation.{Turn}
 use Rattle.fax_http.specs.Message.{fields_of, sole, values_of}
-use Rattle.fax_once.specs.Laws.{left_of}
-use Rattle.fax_once.specs.Run.{Start}
-use Rattle.fax_once.specs.Sessions.{IsSession, RunsAsSession, session_of}
-use Rattle.fax_once.specs.Verdict.{Verdict, IsVerdict, reply_of}
-use Rattle.fax_once.specs.declared.arrival.Arrival.{Arrival}
+use Rattle.fax_run.specs.Laws.{left_of}
+use Rattle.fax_run.specs.Run.{Start}
+use Rattle.fax_run.specs.Sessions.{IsSession, session_of}
+use Rattle.fax_once.specs.Ran.{RunsAsSession}
+use Rattle.fax_run.specs.Verdict.{Verdict, IsVerdict, reply_of}
+use Rattle.fax_run.specs.declared.arrival.Arrival.{Arrival}
 use Rattle.fax_desk.specs.Desk.{IsArrival}
 
 -- what a message says of its moment

@@ -19,7 +19,7 @@ use Rattle.fax_ask.specs.declared.request.Request.TheVariants.{Show, Submit, Imp
 use Rattle.fax_ask.specs.declared.request.Action.{Action}
 use Rattle.fax_ask.specs.declared.request.Action.TheVariants.{Suspend, Resume, Kill, Alter}
 use Rattle.fax_core.specs.Ask.{IsLawfulAsk}
-use Rattle.fax_core.specs.Ledger.{Ledger, greater}
+use Rattle.fax_core.specs.Ledger.{Ledger, greater, kept_for, IsKeptStatus}
 use Rattle.fax_core.specs.Machine.{step}
 use Rattle.fax_core.specs.Queue.{Queue, Entry}
 use Rattle.fax_core.specs.Reply.{Brought, Reply, Submitted}
@@ -32,9 +32,8 @@ use Rattle.fax_core.proofs.StepLemmas.{step_sound}
 use Rattle.fax_store.proofs.StoreLemmas.{means_stay}
 use Rattle.fax_store.specs.Calls.{Looks}
 use Rattle.fax_store.specs.Job.{with_expired}
-use Rattle.fax_store.specs.Kept.{IsOf, IsUnkept, kept_for}
+use Rattle.fax_store.specs.Kept.{IsOf, IsUnkept}
 use Rattle.fax_store.specs.Store.{Means, Serves}
-use Rattle.fax_tables.specs.Tables.{IsKeptStatus}
 use Rattle.fax_tables.specs.declared.fault.StoreFault.{StoreFault}
 use Rattle.fax_tables.specs.declared.fault.StoreFault.TheVariants.{Unavailable}
 use Rattle.fax_decide.specs.Decision.{IsTaken}
@@ -45,14 +44,15 @@ use Rattle.fax_decide.proofs.FreeLemmas.{keys_free}
 use Rattle.fax_decide.proofs.WorkLemmas.{refused_with}
 use Rattle.fax_decide.specs.Fault.{OnlyNoAnswer, fault_of}
 use Rattle.fax_decide.specs.declared.fault.Fault.{Fault}
-use Rattle.fax_once.specs.Arrival.{IsSender, digits_of}
+use Rattle.fax_once.specs.Sender.{IsSender}
+use Rattle.fax_run.specs.Arrival.{digits_of}
 use Rattle.fax_once.specs.Queue.{ComesTo, tables}
-use Rattle.fax_once.specs.Verdict.{Verdict, is_too_high, raised_ask}
+use Rattle.fax_run.specs.Verdict.{Verdict, is_too_high, raised_ask}
 use Rattle.fax_once.specs.declared.queue.Queue.{Queue as SendQueue}
-use Rattle.fax_once.specs.declared.arrival.Arrival.{Arrival}
+use Rattle.fax_run.specs.declared.arrival.Arrival.{Arrival}
 use Rattle.fax_once.specs.declared.sender.Sender.{Sender}
-use Rattle.fax_once.proofs.LedgerLemmas.{gives}
-use Rattle.fax_once.proofs.ReadingLemmas.{same_ask}
+use Rattle.fax_run.proofs.LedgerLemmas.{gives}
+use Rattle.fax_run.proofs.ReadingLemmas.{same_ask}
 
 -- ---- what was asked was read
 

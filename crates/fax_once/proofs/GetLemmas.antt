@@ -14,8 +14,8 @@ use Rattle.fax_ask.specs.Ask.{Asks, IsAsk}
 use Rattle.fax_ask.specs.declared.ask.Ask.TheVariants.{Step}
 use Rattle.fax_ask.specs.Path.{parts}
 use Rattle.fax_job.specs.declared.refusal.Refusal.TheVariants.{NoRoute}
-use Rattle.fax_once.specs.Reading.{IsForRoute, IsReading, Post, Reading, Faulty, Posts}
-use Rattle.fax_once.specs.declared.arrival.Arrival.{Arrival}
+use Rattle.fax_run.specs.Reading.{IsForRoute, IsReading, Post, Reading, Faulty, Posts}
+use Rattle.fax_run.specs.declared.arrival.Arrival.{Arrival}
 use Rattle.fax_ask.specs.Request.{grants_request, imports_request, job_request, jobs_request, modems_request, numbers_request, path_request, request_of, root_request}
 
 -- the request asks for a view

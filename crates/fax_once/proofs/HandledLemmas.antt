@@ -1,107 +1,53 @@
--- A run goes on by one arrival that is handled.
-use Rattle.std.proofs.Common.{◌≡◌, ◌⊎◌, inl, inr, ℕ, Bool, true, false, not, List, [], ◌∷◌, ◌++◌, refl, sym, ap, subst, ◌∙◌, append_assoc, true≢false, if◌then◌else◌}
-use Rattle.std.specs.Prelude.{⊤}
-use Rattle.std.proofs.lemmas.Bool.{and_parts}
+-- What an arrival that is handled leaves, and a run that goes on by it.
+use Rattle.std.proofs.Common.{◌≡◌, ◌⊎◌, inl, inr, Bool, true, false, List, [], ◌∷◌, ◌++◌, refl, sym, ap, subst, ◌∙◌, append_assoc, true≢false}
 use Rattle.sqlite.specs.Effect.{Database}
 use Rattle.sqlite.specs.State.{State}
 use Rattle.sqlite_trees.specs.Tree.{Trees}
 use Rattle.fax_job.specs.declared.refusal.Refusal.TheVariants.{Unavailable}
-use Rattle.fax_ask.specs.Ask.{Asks}
-use Rattle.fax_ask.specs.declared.ask.Ask.TheVariants.{Step}
-use Rattle.fax_ask.specs.declared.request.Request.{Request as Route}
-use Rattle.fax_ask.specs.declared.request.Request.TheVariants.{Show, Submit, Import, OnJob, Mark, Next, OnGrant, Floor}
 use Rattle.fax_ask.specs.Response.{Response, refused_response}
-use Rattle.fax_ask.proofs.LimitLemmas.{order_limits}
-use Rattle.fax_core.specs.Ask.{IsLawfulAsk}
-use Rattle.fax_core.specs.declared.ask.Ask.{Ask}
 use Rattle.fax_core.specs.Reply.{NoKeys}
 use Rattle.fax_core.specs.Settings.{Settings}
-use Rattle.fax_core.proofs.ReadImportLemmas.{read_counts}
 use Rattle.fax_core.specs.Queue.{Queue}
-use Rattle.fax_core.specs.Sound.{IsJob, Sound}
-use Rattle.fax_once.proofs.GrantLemmas.{runs_keep_grants}
-use Rattle.fax_once.proofs.OnceLemmas.{runs_are_sound, runs_send_once, sound_after}
-use Rattle.fax_once.proofs.ReadingLemmas.{Says, Says_fault, Says_post, Says_view, same_ask, says}
-use Rattle.fax_once.proofs.SumLemmas.{counters_are_counts}
-use Rattle.fax_once.proofs.RunLemmas.{runs_thread}
-use Rattle.fax_once.specs.Laws.{AreAccepted, AreTaken, GoesWell, HasRun, KeepsGrants, RunsWell, left_of}
-use Rattle.fax_once.specs.Reading.{Reading, Faulty, Sees, Posts, IsReading}
-use Rattle.fax_once.specs.Run.{Fed, Start, IsRun, end_of, is_new, is_taken, queue_after, reply_at, step_of, taken, takes, under, with_taken}
-use Rattle.fax_once.specs.Verdict.{Verdict, Told, Repeated, Accepted, Handles, IsVerdict, Leaves, is_too_high, reply_of, verdict}
-use Rattle.fax_once.specs.declared.arrival.Arrival.{Arrival}
+use Rattle.fax_core.specs.Sound.{Sound}
+use Rattle.fax_run.proofs.OnceLemmas.{sound_after}
+use Rattle.fax_run.proofs.RunLemmas.{runs_thread}
+use Rattle.fax_once.specs.Ran.{HasRun, RunsWell}
+use Rattle.fax_run.specs.Laws.{left_of}
+use Rattle.fax_run.specs.Reading.{Reading, IsReading}
+use Rattle.fax_run.specs.Run.{Start, end_of, taken}
+use Rattle.fax_run.specs.Verdict.{Verdict, Told, Repeated, Accepted, IsVerdict, reply_of, verdict}
+use Rattle.fax_once.specs.Handled.{Handles, Leaves, IsSoundWith}
+use Rattle.fax_run.specs.declared.arrival.Arrival.{Arrival}
 use Rattle.fax_once.specs.Stop.{AreMadeBy, AtEnd, Before, Besides, IsLeftBehind, IsMadeIn, Stops, StopsIn}
 use Rattle.fax_store.specs.Store.{LeavesAlone, MayFind, Means, RowsFound, Serves}
 use Rattle.fax_once.proofs.VerdictLemmas.{still_means}
+use Rattle.fax_core.specs.Ledger.{Ledger, entry}
+use Rattle.fax_run.specs.Arrival.{said_of}
+use Rattle.fax_run.proofs.FedLemmas.{accepted_more, are_taken, goes_well, heard_more, lawful_reading, unheard_more}
+use Rattle.fax_run.proofs.AcceptedLemmas.{accepted_once}
 
--- ---- what is posted is lawful
+-- ---- what is left of what was kept
 
--- what a body asks for of the queue is lawful
-lawful_ask : (route : Route) (body : List ℕ) (ask : Ask) → Asks route body (Step ask) → IsLawfulAsk ask
-lawful_ask (Show job) body ask h = absurd cc
-lawful_ask Submit body ask h = subst IsLawfulAsk (sym (same_ask h.2)) (order_limits h.1.lines h.0 h.1.stated)
-lawful_ask Import body ask h = subst IsLawfulAsk (sym (same_ask h.2)) (read_counts h.1.lines h.0 h.1.stated)
-lawful_ask (OnJob job action) body ask h = subst IsLawfulAsk (sym (same_ask h.2)) tt
-lawful_ask (Mark modem down) body ask h = subst IsLawfulAsk (sym (same_ask h)) tt
-lawful_ask (Next modem) body ask h = subst IsLawfulAsk (sym (same_ask h)) tt
-lawful_ask (OnGrant grant kind) body ask h = subst IsLawfulAsk (sym (same_ask h.2)) tt
-lawful_ask Floor body ask h = subst IsLawfulAsk (sym (same_ask h.2)) tt
+module _ (settings : Settings) (a : Arrival) (m : Queue) (k : Ledger) (reply : Response) (s : State) (sound : Sound m) where
+  -- where the store means what it did, its queue is sound and nothing kept is lost
+  unchanged : Means s m k → IsSoundWith k s
+  unchanged rest = (m, k, rest, sound, inl refl)
 
--- what it asks for is
-abbrev pub IsLawful : Reading → Type 0
-IsLawful (Faulty refusal) = ⊤
-IsLawful (Sees moment what) = ⊤
-IsLawful (Posts p) = IsLawfulAsk p.request.ask
+  -- the same where it has what a verdict leaves
+  left_by : (v : Verdict) → IsVerdict settings a m k v → Leaves m k reply s v → IsSoundWith k s
+  left_by (Told told) is (same, rest) = unchanged rest
+  left_by (Repeated told) is (same, serves, rest) = unchanged (λ _. rest)
+  left_by (Accepted after kept told) is (same, serves, rest, stays) =
+      let once = accepted_once settings a m k after kept told is in
+      (after, kept, (λ _. rest), stays, inr (entry a.client.now once.0 (said_of a) told.status told.body, once.1, once.5))
 
--- what an arrival says is lawful
-lawful_by : (a : Arrival) (r : Reading) → Says a r → IsLawful r
-lawful_by a r (Says_fault refusal cause is) = subst IsLawful (sym is) tt
-lawful_by a r (Says_view what is) = subst IsLawful (sym is) tt
-lawful_by a r (Says_post number route ask its asks is) = subst IsLawful (sym is) (lawful_ask route a.body.now ask asks)
+  -- whatever an arrival comes to, the store has a sound queue afterwards, and no kept reply is lost
+  pub stays_sound : Handles settings a m k reply s → IsSoundWith k s
+  stays_sound (inl (v, is, leaves)) = left_by v is leaves
+  stays_sound (inr (same, left)) = unchanged (still_means s m k left)
 
--- and so is what it reads as
-pub lawful_reading : (a : Arrival) (r : Reading) → IsReading a r → IsLawful r
-lawful_reading a r reads = lawful_by a r (says a r reads)
-
--- so what is taken is lawful, and was new
-pub accepted_more : (s : Settings) (start : Start) (earlier : List Fed) (r : Reading) → IsLawful r
-    → AreAccepted start earlier → AreAccepted start (with_taken s start earlier r)
-accepted_more s start earlier (Faulty refusal) is are = are
-accepted_more s start earlier (Sees moment what) is are = are
-accepted_more s start earlier (Posts p) is are = by (is_taken start earlier (under s p)) refl
-  where
-    by : (b : Bool) → is_taken start earlier (under s p) ≡ b → AreAccepted start (if b then under s p ∷ earlier else earlier)
-    by true on = (is, on, are)
-    by false off = are
-
--- what is accepted is taken
-pub are_taken : (start : Start) (fed : List Fed) → AreAccepted start fed → AreTaken start.queue fed
-are_taken start [] are = tt
-are_taken start (f ∷ earlier) (lawful, on, are) = (
-  lawful,
-  (and_parts (not (is_too_high f.post.number f.post.request.ask)) (takes (step_of (queue_after start.queue earlier) f))
-      (and_parts (is_new start earlier f.post) _ on).1).1,
-  are_taken start earlier are,
-)
 
 -- ---- one more arrival
-
--- a run goes on by an arrival that is answered 27, which isn't heard
-unheard_more : (s : Settings) (start : Start) (past : List Reading) (arrivals : List Arrival) (replies : List Response) (heard : List Reading) (a : Arrival) (reply : Response)
-    → IsRun s start past arrivals replies heard → reply ≡ refused_response Unavailable NoKeys → IsRun s start past (arrivals ++ a ∷ []) (replies ++ reply ∷ []) heard
-unheard_more s start past [] [] heard a reply is gone = inl (gone, is)
-unheard_more s start past [] (q ∷ replies) heard a reply is gone = absurd is
-unheard_more s start past (b ∷ arrivals) [] heard a reply is gone = absurd is
-unheard_more s start past (b ∷ arrivals) (q ∷ replies) heard a reply (inl (lost, is)) gone = inl (lost, unheard_more s start past arrivals replies heard a reply is gone)
-unheard_more s start past (b ∷ arrivals) (q ∷ replies) heard a reply (inr (r, reads, told, is)) gone = inr (r, reads, told, unheard_more s start (r ∷ past) arrivals replies heard a reply is gone)
-
--- a run goes on by one that is answered as what it reads as, which is heard
-heard_more : (s : Settings) (start : Start) (past : List Reading) (arrivals : List Arrival) (replies : List Response) (heard : List Reading) (a : Arrival) (reply : Response) (r : Reading)
-    → IsRun s start past arrivals replies heard → IsReading a r → reply ≡ reply_at s start heard r → IsRun s start past (arrivals ++ a ∷ []) (replies ++ reply ∷ []) (r ∷ heard)
-heard_more s start past [] [] heard a reply r is reads told = inr (r, reads, told ∙ ap (λ (before : List Reading). reply_at s start before r) is, ap (λ (before : List Reading). r ∷ before) is)
-heard_more s start past [] (q ∷ replies) heard a reply r is reads told = absurd is
-heard_more s start past (b ∷ arrivals) [] heard a reply r is reads told = absurd is
-heard_more s start past (b ∷ arrivals) (q ∷ replies) heard a reply r (inl (lost, is)) reads told = inl (lost, heard_more s start past arrivals replies heard a reply r is reads told)
-heard_more s start past (b ∷ arrivals) (q ∷ replies) heard a reply r (inr (x, others, said, is)) reads told = inr (x, others, said, heard_more s start (x ∷ past) arrivals replies heard a reply r is reads told)
 
 -- a verdict is answered, and the store has where it leads
 leaves_at : (here : Start) (reply : Response) (store : State) (v : Verdict) → Leaves here.queue here.kept reply store v → (reply ≡ reply_of v) × Means store (left_of here v).queue (left_of here v).kept
@@ -260,22 +206,6 @@ pub run_sound : (s : Settings) (start : Start) (arrivals : List Arrival) (replie
 run_sound s start arrivals replies store sound ran =
     let fed = taken s start ran.heard in
     sound_after start.queue fed sound (are_taken start fed ran.accepted)
-
--- what holds behind requests that were taken
-pub goes_well : (m : Queue) (fed : List Fed) → Sound m → AreTaken m fed → GoesWell m fed
-goes_well m fed sound are =
-    let after = runs_are_sound m fed sound are in
-    record {
-      sound = after.0;
-      held_once = after.1;
-      sent_once = runs_send_once m fed sound are;
-      grants_stay = λ later earlier split.
-          subst (λ (fs : List Fed). KeepsGrants (queue_after m earlier) (queue_after m fs)) (sym split)
-          (runs_keep_grants m later earlier sound (subst (AreTaken m) split are));
-      counted = λ empty number j there.
-          counters_are_counts fed (subst (λ (q : Queue). AreTaken q fed) empty are) number j
-          (subst (λ (q : Queue). IsJob (queue_after q fed) number j) empty there);
-    }
 
 -- what holds of each run
 pub runs_well : (s : Settings) (start : Start) (arrivals : List Arrival) (replies : List Response) (store : State) → Sound start.queue

@@ -21,11 +21,13 @@ use Rattle.fax_core.specs.Queue.{Queue}
 use Rattle.fax_core.specs.Reply.{NoKeys}
 use Rattle.fax_core.specs.Settings.{Settings}
 use Rattle.fax_store.specs.Store.{Means}
-use Rattle.fax_once.specs.Arrival.{IsSender, number_of}
-use Rattle.fax_once.specs.Reading.{Reading, Faulty, Sees, Posts, post_of, seen_by, IsForBody, IsForRoute}
-use Rattle.fax_once.specs.Verdict.{Told, denied, asked_for, IsVerdict, LeavesBy, Answers}
-use Rattle.fax_decide.specs.View.{view}
-use Rattle.fax_once.specs.declared.arrival.Arrival.{Arrival}
+use Rattle.fax_once.specs.Sender.{IsSender}
+use Rattle.fax_run.specs.Arrival.{number_of}
+use Rattle.fax_run.specs.Reading.{Reading, Faulty, Sees, Posts, post_of, seen_by, IsForBody, IsForRoute}
+use Rattle.fax_run.specs.Verdict.{Told, denied, asked_for, IsVerdict}
+use Rattle.fax_once.specs.Handled.{LeavesBy, Answers}
+use Rattle.fax_run.specs.View.{view}
+use Rattle.fax_run.specs.declared.arrival.Arrival.{Arrival}
 use Rattle.fax_once.specs.declared.sender.Sender.{Sender}
 
 -- ---- which requests ask for a view

@@ -1,6 +1,6 @@
 -- Worked rows of what an answer leaves in the store, and of what a crash behind it may leave.
 use Rattle.std.proofs.Common.{arith, ◌≡◌, ◌⊎◌, ◌∙◌, inl, inr, refl, sym, ap, subst, true, false, ℕ, List, [], ◌∷◌, ◌++◌, map}
-use Rattle.std.specs.Prelude.{Ok, Err}
+use Rattle.std.specs.Prelude.{Ok, Err, ◌≢◌, Some, None}
 use Rattle.std.proofs.lemmas.Bool.{true≢false}
 use Rattle.sqlite.specs.Effect.{Database}
 use Rattle.sqlite.specs.State.{State}
@@ -12,18 +12,21 @@ use Rattle.fax_core.specs.Queue.{Queue, empty_queue}
 use Rattle.fax_core.specs.Reply.{NoKeys, Submitted}
 use Rattle.fax_core.specs.Settings.{Settings}
 use Rattle.fax_core.specs.Sound.{Sound}
-use Rattle.fax_core.proofs.RowWords.{settings}
+use Rattle.fax_core.proofs.RowWords.{settings, ◌at◌}
 use Rattle.fax_store.specs.Kept.{HasReply}
 use Rattle.fax_store.specs.Store.{MayFind, Means, RowsFound, Serves}
 use Rattle.fax_tables.specs.Tables.{IsAtRest}
-use Rattle.fax_once.proofs.RowsRuns.{accepted, comes_to, looks, refused, start, submitted, unknown_modem, worker}
-use Rattle.fax_once.specs.Arrival.{number_of}
-use Rattle.fax_once.specs.Laws.{left_of}
-use Rattle.fax_once.specs.Reading.{IsReading, Reading}
-use Rattle.fax_once.specs.Run.{IsRun, Start, end_of}
+use Rattle.fax_run.proofs.RowsRuns.{accepted, comes_to, looks, refused, start, submitted, unknown_modem, worker, fax}
+use Rattle.fax_run.specs.Arrival.{number_of}
+use Rattle.fax_run.specs.Laws.{left_of}
+use Rattle.fax_run.specs.Reading.{IsReading, Reading}
+use Rattle.fax_run.specs.Run.{IsRun, Start, end_of}
 use Rattle.fax_once.specs.Stop.{AreMadeBy, AtEnd, Before, Besides, IsLeftBehind, IsMadeIn, MayLeave, OnlyAcceptedMakeRows, Stops, StopsBy, StopsIn, accepts}
-use Rattle.fax_once.specs.Verdict.{Verdict, Told, Repeated, Accepted, Answers, GivesOut, Handles, IsNotAccepted, IsUsed, IsVerdict, Leaves, LeavesBy, reply_of, verdict}
-use Rattle.fax_once.specs.declared.arrival.Arrival.{Arrival}
+use Rattle.fax_run.specs.Verdict.{Verdict, Told, Repeated, Accepted, IsVerdict, reply_of, verdict}
+use Rattle.fax_once.specs.Handled.{Answers, GivesOut, Handles, IsNotAccepted, IsUsed, Leaves, LeavesBy}
+use Rattle.fax_run.specs.declared.arrival.Arrival.{Arrival}
+use Rattle.fax_run.specs.Sessions.{IsSession, session_of}
+use Rattle.fax_once.specs.Ran.{LeftBySession, RunsAsSession}
 
 -- ---- an answer
 
@@ -179,3 +182,22 @@ left_behind_row s from arrivals replies heard old found (Besides made) = inr (in
 stops_in_row : (s : Settings) (from : Start) (old new : State) (found : Trees) → StopsIn s from [] [] old new → MayFind new found
     → IsLeftBehind s from [] [] [] old found
 stops_in_row s from old new found (ran, left) may = subst (λ heard. IsLeftBehind s from [] [] heard old found) ran.answered (left found may)
+
+-- ---- a run of nothing
+
+module _ (s : Settings) (from : Start) where
+  -- a session in which nothing came left where it began
+  same : (left : Start) → IsSession from (session_of s [] [] None) left → left ≡ from
+  same left x = x.leaves ∙ ap (end_of s from) x.answered
+
+  -- and so do the rows
+  left_row : (found : Trees) → LeftBySession s from [] [] found → RowsFound found from.queue from.kept
+  left_row found (None, came, (left, session, rows)) = subst (λ (e : Start). RowsFound found e.queue e.kept) (same left session) rows
+  left_row found (Some a, came, gone) = absurd came
+
+  means_row : (old new : State) → RunsAsSession s from [] [] old new → Means new from.queue from.kept
+  means_row old new run = subst (λ (e : Start). Means new e.queue e.kept) (same run.left run.session) run.means
+
+  stopped_row : (old new : State) → RunsAsSession s from [] [] old new → ((found : Trees) → MayFind old found → RowsFound found from.queue from.kept)
+      → (found : Trees) → MayFind new found → RowsFound found from.queue from.kept
+  stopped_row old new run before found may = left_row found (run.stopped before found may)

@@ -7,9 +7,10 @@ use Rattle.fax_ask.specs.Detail.{has_detail}
 use Rattle.sqlite.specs.Effect.{Database}
 use Rattle.fax_core.proofs.DecisionLemmas.{ok_same}
 use Rattle.fax_store.specs.Kept.{HasReply}
-use Rattle.fax_once.specs.Arrival.{IsSender, digits_of, number_of}
-use Rattle.fax_once.specs.Verdict.{IsUsed}
-use Rattle.fax_once.specs.declared.arrival.Arrival.{Arrival}
+use Rattle.fax_once.specs.Sender.{IsSender}
+use Rattle.fax_run.specs.Arrival.{digits_of, number_of}
+use Rattle.fax_once.specs.Handled.{IsUsed}
+use Rattle.fax_run.specs.declared.arrival.Arrival.{Arrival}
 use Rattle.fax_once.specs.declared.sender.Sender.{Sender}
 use Rattle.std.specs.Prelude.{IsUtf8, slice_index}
 use Rattle.std.specs.List.{list_all}

@@ -5,7 +5,7 @@ use Rattle.sqlite.specs.State.{State, HasCleanDisk}
 use Rattle.fax_ask.specs.Response.{Response}
 use Rattle.fax_core.specs.Clock.{decided_at}
 use Rattle.fax_core.specs.Machine.{step}
-use Rattle.fax_core.specs.Ledger.{Ledger, with_reply}
+use Rattle.fax_core.specs.Ledger.{Ledger, with_reply, entry}
 use Rattle.fax_core.specs.Queue.{Queue}
 use Rattle.fax_core.specs.Settings.{Settings}
 use Rattle.fax_core.specs.declared.ask.Ask.{Ask}
@@ -18,18 +18,24 @@ use Rattle.fax_decide.specs.Effect.{accepted}
 use Rattle.fax_decide.specs.declared.effect.Effect.{Effect}
 use Rattle.fax_store.specs.Store.{CommitsNothing, HasTables, Means, RowsFound, Serves}
 use Rattle.fax_store.specs.Work.{Begins, ChangesWhere, MayCommit, Opens, Withholds, Works}
-use Rattle.fax_tables.specs.Kept.{entry}
-use Rattle.fax_once.specs.Arrival.{IsSender, said_of}
-use Rattle.fax_once.specs.Reading.{IsReading, Reading, Faulty, Sees, Posts, post_of}
-use Rattle.fax_once.specs.Stop.{AreMadeBy, MayLeave, Stops, StopsBy}
-use Rattle.fax_once.specs.Verdict.{Verdict, asked_for, decided_new, given_by, kept_with, stepped, verdict, without, without_given}
-use Rattle.fax_once.specs.declared.arrival.Arrival.{Arrival}
+use Rattle.fax_once.specs.Sender.{IsSender}
+use Rattle.fax_run.specs.Arrival.{said_of}
+use Rattle.fax_run.specs.Reading.{IsReading, Reading, Faulty, Sees, Posts, post_of}
+use Rattle.fax_once.specs.Stop.{AreMadeBy, MayLeave, Stops, StopsBy, OnlyAcceptedMakeRows}
+use Rattle.fax_run.specs.Verdict.{Verdict, asked_for, decided_new, given_by, kept_with, stepped, verdict, without, without_given, Told, Repeated, Accepted}
+use Rattle.fax_run.specs.declared.arrival.Arrival.{Arrival}
 use Rattle.fax_once.specs.declared.sender.Sender.{Sender}
 use Rattle.fax_ask.specs.declared.method.Method.TheVariants.{Get}
 use Rattle.sqlite_trees.specs.Tree.{Trees}
 use Rattle.fax_once.proofs.GetLemmas.{no_post}
 use Rattle.fax_once.proofs.RequestLemmas.{is_post}
 use Rattle.fax_once.proofs.VerdictLemmas.{decided_is}
+
+-- what isn't accepted makes no rows
+pub only_accepted : OnlyAcceptedMakeRows
+only_accepted (Told reply) found none = absurd none
+only_accepted (Repeated reply) found none = absurd none
+only_accepted (Accepted after kept reply) found made = refl
 
 -- the tables are ours where they mean something
 pub has_tables : (s : State) (m : Queue) (k : Ledger) → Means s m k → Serves s → HasTables s

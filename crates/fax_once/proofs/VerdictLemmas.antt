@@ -1,5 +1,5 @@
 -- What comes of an arrival.
-use Rattle.std.proofs.Common.{◌≡◌, ◌⊎◌, ◌<◌, ◌≤◌, inl, inr, ℕ, Bool, true, false, nat_lt, List, Option, Some, None, Ok, Err, refl, sym, ap, subst, ◌∙◌, arith, if◌then◌else◌}
+use Rattle.std.proofs.Common.{◌≡◌, ◌⊎◌, ◌<◌, ◌≤◌, inl, inr, ℕ, Bool, true, false, nat_lt, List, Option, Some, None, Ok, Err, refl, sym, ap, subst, ◌∙◌, arith, if◌then◌else◌, not, [], ◌∷◌, filter}
 use Rattle.std.proofs.lemmas.Bool.Decides.{nat_tests}
 use Rattle.std.specs.Prelude.{Result, OnOk, MatchResult}
 use Rattle.std.specs.Str.{bytes_eq}
@@ -13,26 +13,29 @@ use Rattle.fax_core.specs.declared.ask.Ask.TheVariants as machine
 use Rattle.fax_core.specs.declared.ask.Ask.TheVariants.{GiveUp}
 use Rattle.fax_core.specs.Clock.{decided_at}
 use Rattle.fax_core.specs.Machine.{step}
-use Rattle.fax_core.specs.Ledger.{Ledger, greater, with_reply}
+use Rattle.fax_core.specs.Ledger.{Ledger, greater, with_reply, entry, kept_for, is_through}
 use Rattle.fax_core.specs.Queue.{Queue, Entry}
 use Rattle.fax_core.specs.Reply.{NoKeys}
 use Rattle.fax_core.specs.Settings.{Settings}
 use Rattle.fax_core.specs.Sound.{Sound}
 use Rattle.fax_core.proofs.StepLemmas.{step_sound}
-use Rattle.fax_tables.specs.Kept.{Tells, entry}
+use Rattle.fax_tables.specs.Kept.{Tells}
 use Rattle.fax_tables.specs.Tables.{IsAtRest}
-use Rattle.fax_store.specs.Kept.{kept_for}
 use Rattle.fax_store.specs.Store.{Means, Serves}
 use Rattle.fax_tables.specs.declared.replies.Kept.{Kept}
-use Rattle.fax_once.specs.Arrival.{IsSender, said_of}
+use Rattle.fax_once.specs.Sender.{IsSender}
+use Rattle.fax_run.specs.Arrival.{said_of}
 use Rattle.fax_decide.specs.Decision.{IsTaken, IsRefused as IsRefusedBy}
 use Rattle.fax_decide.specs.Effect.{accepted}
-use Rattle.fax_once.specs.Reading.{post_of}
-use Rattle.fax_once.proofs.LedgerLemmas.{gives}
-use Rattle.fax_once.specs.Verdict.{Verdict, Told, Repeated, Accepted, Handles, asked_above, asked_for, decided_new, denied, given_by, is_too_high, kept_with, new_asked, raised_ask, repeated, stepped, taken_once, without, without_given, Leaves, LeavesBy}
-use Rattle.fax_once.specs.declared.arrival.Arrival.{Arrival}
+use Rattle.fax_run.specs.Reading.{post_of}
+use Rattle.fax_run.proofs.LedgerLemmas.{gives}
+use Rattle.fax_run.specs.Verdict.{Verdict, Told, Repeated, Accepted, asked_above, asked_for, decided_new, denied, given_by, is_too_high, kept_with, new_asked, raised_ask, repeated, stepped, taken_once, without, without_given}
+use Rattle.fax_once.specs.Handled.{Handles, Leaves, LeavesBy}
+use Rattle.fax_run.specs.declared.arrival.Arrival.{Arrival}
 use Rattle.fax_decide.specs.declared.effect.Effect.{Effect}
 use Rattle.fax_once.specs.declared.sender.Sender.{Sender}
+use Rattle.sqlite_rules.specs.Lists.{Has}
+use Rattle.fax_store.specs.Kept.{IsUnkept}
 
 -- a number is above another, or through it
 is_below : (a b : ℕ) → a < b → nat_lt a b ≡ true
@@ -204,3 +207,19 @@ lawful_ask (machine.Mark modem down) is = _
 lawful_ask (machine.Next modem) is = _
 lawful_ask (machine.OnGrant grant report) is = _
 lawful_ask (machine.GiveUp upto) is = _
+
+-- ---- what has no reply yet
+
+-- what is among part of the entries is among them
+has_more : (keep : Entry → Bool) (rs : List Entry) (e : Entry) → Has (filter keep rs) e → Has rs e
+has_more keep [] e has = absurd has
+has_more keep (x ∷ rs) e has = by (keep x) refl (has_more keep rs e)
+  where
+    by : (b : Bool) → keep x ≡ b → (Has (filter keep rs) e → Has rs e) → Has (x ∷ rs) e
+    by true on rest = elim (rw on at has) [ inl here ↦ inl here | inr there ↦ inr (rest there) ]
+    by false off rest = inr (rest (rw off at has))
+
+-- a number that has no entry has none then
+pub unkept_still : (c : List ℕ) (n : ℕ) (client : List ℕ) (given : Option ℕ) (k : Ledger) → IsUnkept c n k.replies → IsUnkept c n (without client given k).replies
+unkept_still c n client None k unkept e has = unkept e has
+unkept_still c n client (Some upto) k unkept e has = unkept e (has_more (λ x. not (is_through client (greater (k.floor client) upto) x)) k.replies e has)

@@ -3,7 +3,7 @@ use Rattle.std.specs.Prelude.{◌≡◌, ℕ, true, List, Option, Result, MatchR
 use Rattle.sqlite.specs.State.{HasCleanDisk}
 use Rattle.sqlite_trees.specs.declared.store.Store.{Ghosts}
 use Rattle.fax_ask.specs.Response.{Response}
-use Rattle.fax_core.specs.Ledger.{Ledger, with_reply}
+use Rattle.fax_core.specs.Ledger.{Ledger, with_reply, entry, IsKeptStatus}
 use Rattle.fax_core.specs.Queue.{Queue}
 use Rattle.fax_decide.specs.Effect.{IsWritable, Suits, accepted}
 use Rattle.fax_decide.specs.Fault.{OnlyNoAnswer}
@@ -14,12 +14,11 @@ use Rattle.fax_store.specs.Kept.{IsUnkept}
 use Rattle.fax_store.specs.Store.{Means, Serves, Stays}
 use Rattle.fax_store.specs.declared.store.Store.{Store}
 use Rattle.fax_store.specs.declared.work.Work.{Work}
-use Rattle.fax_tables.specs.Kept.{entry}
-use Rattle.fax_tables.specs.Tables.{IsKeptStatus}
 use Rattle.fax_tables.specs.declared.fault.StoreFault.{StoreFault}
 use Rattle.fax_value.specs.Name.{IsName}
 use Rattle.fax_once.specs.Stop.{MayLeave}
-use Rattle.fax_once.specs.Verdict.{IsNotAccepted, without}
+use Rattle.fax_once.specs.Handled.{IsNotAccepted}
+use Rattle.fax_run.specs.Verdict.{without}
 use Rattle.fax_once.specs.declared.acceptance.Change.{Change}
 use Rattle.fax_once.specs.declared.sender.Sender.{Sender}
 

@@ -1,13 +1,7 @@
 pub use Rattle.fax_decide.specs.Settings
-pub use Rattle.fax_decide.specs.View
-pub mod Arrival
-pub mod Reading
-pub mod Verdict
+pub mod Sender
+pub mod Handled
 pub mod Stop
-pub mod Run
-pub mod Counts
-pub mod Laws
-pub mod Sessions
+pub mod Ran
 pub mod Queue
 pub mod Acceptance
-pub mod Progress

@@ -17,17 +17,18 @@ use Rattle.fax_core.specs.declared.ask.Ask.{Ask as Step}
 use Rattle.fax_decide.specs.Fault.{OnlyNoAnswer, OrNoAnswer}
 use Rattle.fax_decide.specs.Read.{IsRead}
 use Rattle.fax_decide.specs.Settings.{settings_of}
-use Rattle.fax_decide.specs.View.{view}
+use Rattle.fax_run.specs.View.{view}
 use Rattle.fax_decide.specs.declared.fault.Fault.{Fault}
 use Rattle.fax_schema.specs.Schema.{our_tables}
 use Rattle.fax_store.specs.Calls.{Looks, shown}
 use Rattle.fax_store.specs.Kept.{HasReply, IsUnkept}
 use Rattle.fax_store.specs.Store.{Means, Rests, Serves, Stays}
-use Rattle.fax_once.specs.Arrival.{IsSender}
-use Rattle.fax_once.specs.Reading.{post_of}
+use Rattle.fax_once.specs.Sender.{IsSender}
+use Rattle.fax_run.specs.Reading.{post_of}
 use Rattle.fax_once.specs.Stop.{Stops, StopsBy}
-use Rattle.fax_once.specs.Verdict.{Answers, IsNotAccepted, IsUsed, LeavesBy, Verdict, asked_for, new_asked}
-use Rattle.fax_once.specs.declared.arrival.Arrival.{Arrival}
+use Rattle.fax_once.specs.Handled.{Answers, IsNotAccepted, IsUsed, LeavesBy}
+use Rattle.fax_run.specs.Verdict.{Verdict, asked_for, new_asked}
+use Rattle.fax_run.specs.declared.arrival.Arrival.{Arrival}
 use Rattle.fax_once.specs.declared.queue.Queue.{Queue}
 use Rattle.fax_once.specs.declared.sender.Sender.{Sender}
 

@@ -7,11 +7,11 @@ use Rattle.fax_core.specs.Queue.{Queue}
 use Rattle.fax_core.specs.Settings.{Settings}
 use Rattle.fax_ask.specs.Response.{Response}
 use Rattle.fax_store.specs.Store.{MayFind, MayMake, RowsFound, Serves}
-use Rattle.fax_once.specs.Laws.{HasRun}
-use Rattle.fax_once.specs.Reading.{Reading}
-use Rattle.fax_once.specs.Run.{IsRun, Start, end_of}
-use Rattle.fax_once.specs.Verdict.{Verdict, Told, Repeated, Accepted, IsVerdict}
-use Rattle.fax_once.specs.declared.arrival.Arrival.{Arrival}
+use Rattle.fax_once.specs.Ran.{HasRun}
+use Rattle.fax_run.specs.Reading.{Reading}
+use Rattle.fax_run.specs.Run.{IsRun, Start, end_of}
+use Rattle.fax_run.specs.Verdict.{Verdict, Told, Repeated, Accepted, IsVerdict}
+use Rattle.fax_run.specs.declared.arrival.Arrival.{Arrival}
 
 -- these are the rows of what the verdict accepts, its reply kept. A refusal, a view and a repeat make none.
 abbrev pub AreMadeBy : Verdict → Trees → Type 0

@@ -3,17 +3,18 @@
 ghost use Rattle.std.specs.Prelude.{⊤, OnOk};
 ghost use Rattle.fax_decide.specs.Effect.{Suits, accepted};
 ghost use Rattle.fax_store.specs.Job.{with_expired};
-ghost use Rattle.fax_tables.specs.Tables.{IsKeptStatus};
+ghost use Rattle.fax_core.specs.Ledger.{IsKeptStatus};
 ghost use Rattle.fax_value.specs.Name.{IsName};
 ghost use Rattle.fax_once.specs.Acceptance.{Accepts, IsAcceptable, WritesWithin, kept_after};
-ghost use Rattle.fax_once.specs.Arrival.{said_of};
-ghost use Rattle.fax_once.specs.Verdict.{without};
+ghost use Rattle.fax_run.specs.Arrival.{said_of};
+ghost use Rattle.fax_run.specs.Verdict.{without};
 
-use crate::arrival::Arrival;
+use crate::arrival::said_by;
 use crate::sender::Sender;
 use fax_ask::Reply;
 use fax_decide::{Effect, Fault};
 use fax_job::{Moment, RequestNumber};
+use fax_run::Arrival;
 use fax_store::{Store, StoreFault, Work};
 use sqlite::Alter;
 use std::alloc::Global;
@@ -44,7 +45,7 @@ pub(crate) fn accept<S: Alter>(
 ) -> Result<Reply, Fault>
     ensures { Accepts S.Store store.old store.new result decided_at change.now sender.now (said_of arrival.now) reply }
 {
-    let said = arrival.said(alloc)?;
+    let said = said_by(alloc, arrival)?;
     let mut work = store.begin()?;
     write_accepted(&mut work, decided_at, change, sender, &said, &reply)?;
     work.commit()?;

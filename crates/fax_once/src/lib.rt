@@ -8,6 +8,6 @@ mod queue;
 mod refusing;
 mod sender;
 
-pub use arrival::Arrival;
 pub use fax_decide::{Fault, Office};
+pub use fax_run::Arrival;
 pub use queue::Queue;

@@ -13,18 +13,18 @@ ghost use Rattle.fax_ask.specs.declared.method.Method.TheVariants.{Get};
 ghost use Rattle.fax_core.specs.Reply.{NoKeys};
 ghost use Rattle.fax_store.specs.Store.{CommitsNothing, LeavesAlone, Rests, Serves, Stays};
 ghost use Rattle.fax_schema.specs.Schema.{our_tables};
-ghost use Rattle.fax_tables.specs.Tables.{IsKeptStatus};
-ghost use Rattle.fax_once.specs.Laws.{IsSoundWith, RunsWell};
+ghost use Rattle.fax_core.specs.Ledger.{IsKeptStatus};
+ghost use Rattle.fax_once.specs.Handled.{IsSoundWith, Answers, Handles, IsUsed};
+ghost use Rattle.fax_once.specs.Ran.{RunsWell, RunsAsSession};
 ghost use Rattle.fax_decide.specs.Fault.{OnlyNoAnswer};
-ghost use Rattle.fax_once.specs.Arrival.{said_of};
+ghost use Rattle.fax_run.specs.Arrival.{said_of};
 ghost use Rattle.fax_once.specs.Queue.{AnswersAsk, AnswersNew, AnswersStep, From, Replies, Shows, settings, tables};
-ghost use Rattle.fax_once.specs.Sessions.{RunsAsSession};
 ghost use Rattle.fax_once.specs.Stop.{Stops, StopsIn};
-ghost use Rattle.fax_once.specs.Verdict.{Answers, Handles, IsUsed, given_by, is_too_high, raised_ask};
-ghost use Rattle.fax_once.specs.declared.arrival.Arrival.{Arrival as ArrivalOf};
+ghost use Rattle.fax_run.specs.Verdict.{given_by, is_too_high, raised_ask};
+ghost use Rattle.fax_run.specs.declared.arrival.Arrival.{Arrival as ArrivalOf};
 
 use crate::acceptance::{Change, accept};
-use crate::arrival::Arrival;
+use crate::arrival::{get, says};
 use crate::refusing::refuse_ask;
 use crate::sender::Sender;
 use fax_ask::{Ask, Reply, Routes, View};
@@ -32,6 +32,7 @@ use fax_core::Ask as Step;
 use fax_decide::{Decision, Fault, Office, decide, show};
 use fax_dest::{Controls, Setup};
 use fax_job::{Moment, Refusal, RequestNumber};
+use fax_run::Arrival;
 use fax_store::{Kept, Store};
 use sqlite::{Alter, Connection};
 use std::alloc::{AllocError, Global};
@@ -130,7 +131,7 @@ impl<S: Alter> Queue<S> {
             × (a.method ≡ Get) × (a.path.now ≡ path.now) × (a.moment ≡ moment)
             × Handles (settings self.old) a m k result (tables S.Store self.new)) }
     {
-        let arrival = Arrival::get(path, moment);
+        let arrival = get(path, moment);
         self.handle(alloc, &arrival)
     }
 
@@ -284,7 +285,7 @@ fn repeat(arrival: &Arrival<'_>, kept: Kept) -> Reply
     ensures { result ≡ (if bytes_eq kept.said.items
         (said_of arrival.now) then kept_response kept.status kept.body.items else refused_response Refusal.NumberReused NoKeys) }
 {
-    if arrival.says(&kept.said) {
+    if says(arrival, &kept.said) {
         Reply::kept(kept.status, kept.body)
     } else {
         Reply::refused(Refusal::NumberReused)

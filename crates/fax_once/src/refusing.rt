@@ -8,14 +8,14 @@ ghost use Rattle.fax_core.specs.Queue.{Queue};
 ghost use Rattle.fax_core.specs.Reply.{NoKeys};
 ghost use Rattle.fax_core.specs.Settings.{Settings};
 ghost use Rattle.fax_decide.specs.Fault.{OnlyNoAnswer};
-ghost use Rattle.fax_once.specs.Arrival.{number_of};
-ghost use Rattle.fax_once.specs.Verdict.{IsVerdict, Told};
+ghost use Rattle.fax_run.specs.Arrival.{number_of};
+ghost use Rattle.fax_run.specs.Verdict.{IsVerdict, Told};
 
-use crate::arrival::Arrival;
 use crate::sender::Sender;
 use fax_ask::{Detail, Reply};
 use fax_decide::Fault;
 use fax_job::{BodyFault, Refusal};
+use fax_run::Arrival;
 use std::alloc::Global;
 
 /// The reply to an arrival that asks for nothing: a path that names no request comes first, and then the client, the

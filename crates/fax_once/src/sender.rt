@@ -2,10 +2,11 @@
 
 ghost use Rattle.std.specs.Prelude.{◌≡◌, Err, IfErr, IfOk, IfSome, is_some};
 ghost use Rattle.fax_value.specs.Name.{is_name as is_name_of};
-ghost use Rattle.fax_once.specs.Arrival.{IsSender, number_of};
+ghost use Rattle.fax_once.specs.Sender.{IsSender};
+ghost use Rattle.fax_run.specs.Arrival.{number_of};
 
-use crate::arrival::Arrival;
 use fax_job::{Refusal, RequestNumber, is_name};
+use fax_run::Arrival;
 use std::str;
 
 /// Who sent a request, and the sender's number of it.

@@ -11,7 +11,7 @@ use Rattle.sqlite.specs.State.{State}
 use Rattle.sqlite.specs.declared.types.Value.TheVariants.{Null, Int, Text}
 use Rattle.sqlite.proofs.Callers.{runs_as}
 use Rattle.sqlite_trees.proofs.ListLemmas.{all_of, filter-map, filter_same}
-use Rattle.fax_core.specs.Ledger.{Ledger, floors_with, is_through, without_replies}
+use Rattle.fax_core.specs.Ledger.{Ledger, floors_with, is_through, without_replies, IsLawfulEntry}
 use Rattle.fax_core.specs.Queue.{Queue, Entry, open_grants}
 use Rattle.fax_value.specs.Name.{IsName}
 use Rattle.fax_schema.specs.declared.statements.TheConstants.{DELETE_FLOOR, DELETE_REPLIES, INSERT_FLOOR, SELECT_FLOOR}
@@ -27,7 +27,7 @@ use Rattle.fax_schema.proofs.SelectLemmas.{passes}
 use Rattle.fax_schema.proofs.UpdateLemmas.{gone_project, deleted}
 use Rattle.fax_schema.proofs.WriteLemmas.{KeepsOthers, unreferred, inserts}
 use Rattle.fax_tables.specs.Row.{number, entry_columns, floor_columns}
-use Rattle.fax_tables.specs.Tables.{AreCounted, AreLawfulFloors, IsLawfulEntry, TablesMean}
+use Rattle.fax_tables.specs.Tables.{AreCounted, AreLawfulFloors, TablesMean}
 use Rattle.fax_tables.proofs.TablesLemmas.{AreColumns, AreFloors, by_rowid_put, calls_of, floors_changed, means_of, parts_of, replies_changed}
 use Rattle.fax_store.specs.Store.{FindsRow, HasRun}
 use Rattle.fax_store.proofs.CallLemmas.{beside, counted_found, is_asked, others, params, without}

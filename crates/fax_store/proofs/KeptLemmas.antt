@@ -24,7 +24,8 @@ use Rattle.sqlite_value.specs.Keys.{plain}
 use Rattle.sqlite_value.specs.Order.{value_cmp}
 use Rattle.sqlite_value.proofs.KeyLemmas.{first_key-plain}
 use Rattle.fax_core.specs.Queue.{Entry}
-use Rattle.fax_store.specs.Kept.{IsOf, AreKeptOnce, TablesKeepOnce, kept_for}
+use Rattle.fax_store.specs.Kept.{IsOf, AreKeptOnce, TablesKeepOnce}
+use Rattle.fax_core.specs.Ledger.{kept_for}
 use Rattle.fax_tables.specs.Row.{number, entry_columns}
 use Rattle.fax_schema.specs.Schema.{our_tables, replies_tree}
 use Rattle.fax_schema.specs.ByRowid.{IsByRowid}

@@ -23,7 +23,7 @@ use Rattle.fax_lines.proofs.TextLemmas.{spelled_alone}
 use Rattle.fax_lines.specs.Spells.{Spells}
 use Rattle.fax_core.proofs.FitsLemmas.{job_again}
 use Rattle.fax_core.specs.Job.{Job, fields_of, job_of}
-use Rattle.fax_core.specs.Ledger.{Ledger}
+use Rattle.fax_core.specs.Ledger.{Ledger, IsLawfulEntry}
 use Rattle.fax_core.specs.Queue.{Queue, Entry}
 use Rattle.fax_core.specs.declared.grants.Grant.{Grant}
 use Rattle.fax_schema.specs.Schema.{down_tree, floors_tree, grants_tree, jobs_tree, meta_tree, replies_tree, second_list}
@@ -33,7 +33,7 @@ use Rattle.fax_tables.proofs.GrantRowLemmas.{same_grant}
 use Rattle.fax_tables.proofs.RowLemmas.{killtime_of, same_fields}
 use Rattle.fax_tables.specs.Job.{IsLawfulJob}
 use Rattle.fax_tables.specs.Row.{call_columns, call_number, down_columns, entry_columns, grant_row, job_row, meta_row, phase_number, wish_number}
-use Rattle.fax_tables.specs.Tables.{AreCounted, IsLawfulEntry, IsLawfulGrant, TablesMean, second_in}
+use Rattle.fax_tables.specs.Tables.{AreCounted, IsLawfulGrant, TablesMean, second_in}
 
 -- ---- values
 

@@ -13,12 +13,12 @@ use Rattle.sqlite_rules.specs.Lists.{Has}
 use Rattle.fax_schema.specs.declared.statements.TheConstants.{SELECT_REPLY, INSERT_REPLY}
 use Rattle.fax_schema.specs.Schema as schema
 use Rattle.fax_schema.specs.Schema.{our_tables, replies_tree}
-use Rattle.fax_core.specs.Ledger.{Ledger, with_reply}
+use Rattle.fax_core.specs.Ledger.{Ledger, with_reply, IsLawfulEntry}
 use Rattle.fax_core.specs.Queue.{Queue, Entry, open_grants}
 use Rattle.fax_tables.specs.Row.{number, entry_columns}
 use Rattle.fax_tables.specs.Kept.{entry_shown}
 use Rattle.fax_store.specs.Kept.{HasReply, IsOf, IsUnkept}
-use Rattle.fax_tables.specs.Tables.{TablesMean, IsLawfulEntry}
+use Rattle.fax_tables.specs.Tables.{TablesMean}
 use Rattle.fax_store.specs.Store.{FindsRow, HasRun}
 use Rattle.fax_schema.proofs.CompareLemmas.{are_equal, equal_texts, same_number, number_same, same_row, cast_int, cast_null}
 use Rattle.fax_schema.proofs.EditLemmas.{shown_one, none_shown}

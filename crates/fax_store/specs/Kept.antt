@@ -1,12 +1,10 @@
 -- Which reply is kept for a client's request number.
-use Rattle.std.specs.Prelude.{◌≡◌, ⊤, ℕ, ◌==◌, ◌&&◌, List, [], ◌∷◌, Option, Some, None}
-use Rattle.std.specs.List.{find}
-use Rattle.std.specs.Str.{bytes_eq}
+use Rattle.std.specs.Prelude.{◌≡◌, ⊤, ℕ, List, [], ◌∷◌, Option, Some, None}
 use Rattle.sqlite.specs.Effect.{Database}
 use Rattle.sqlite.specs.declared.types.Value.{Value}
 use Rattle.sqlite.specs.declared.types.Value.TheVariants.{Text}
 use Rattle.sqlite_rules.specs.Lists.{Has}
-use Rattle.fax_core.specs.Ledger.{Ledger}
+use Rattle.fax_core.specs.Ledger.{Ledger, kept_for}
 use Rattle.fax_core.specs.Queue.{Queue, Entry}
 use Rattle.fax_tables.specs.Kept.{Tells}
 use Rattle.fax_tables.specs.Row.{number}
@@ -26,10 +24,6 @@ AreKeptOnce k = (client : List ℕ) (n : ℕ) (e f : Entry) → Has k e → Has 
 -- so it is in all tables that mean something, since the two columns are their key
 abbrev pub TablesKeepOnce : Type 0
 TablesKeepOnce = (db : Database) (m : Queue) (k : Ledger) → TablesMean db m k → AreKeptOnce k.replies
-
--- the entry of this number of this client, if there is one
-abbrev pub kept_for : List ℕ → ℕ → List Entry → Option Entry
-kept_for client n k = find (λ e. bytes_eq e.client client && (e.number == n)) k
 
 -- what is found tells that entry
 abbrev pub IsKeptFor : List Entry → List ℕ → ℕ → Option Kept → Type 0

@@ -1,13 +1,11 @@
 //! The kept replies.
 
 ghost use Rattle.std.specs.Prelude.{◌≡◌, Err, IfOk, IfSome, is_err, OnOk};
-ghost use Rattle.fax_core.specs.Ledger.{with_reply};
+ghost use Rattle.fax_core.specs.Ledger.{with_reply, entry, IsKeptStatus};
 ghost use Rattle.fax_value.specs.Name.{IsName};
 ghost use Rattle.fax_store.specs.Calls.{MakesIf, RecallsLawful, TellsLawful, WritesIf};
 ghost use Rattle.fax_store.specs.Kept.{IsKeptFor, IsUnkept, MissesNone};
 ghost use Rattle.fax_store.specs.Work.{Keeps};
-ghost use Rattle.fax_tables.specs.Kept.{entry};
-ghost use Rattle.fax_tables.specs.Tables.{IsKeptStatus};
 
 use crate::store::Store;
 use crate::work::Work;

@@ -8,7 +8,7 @@ use Rattle.fax_job.specs.declared.job.JobFields.{JobFields}
 use Rattle.fax_job.specs.declared.job.Phase.TheVariants.{Held, Waiting, Granted, Done, Failed}
 use Rattle.fax_job.specs.declared.job.Wish.TheVariants.{Go, Hold, Kill}
 use Rattle.fax_job.specs.declared.job.Call.TheVariants.{Connected, Busy, NoAnswer, NoCarrier, Other}
-use Rattle.fax_tables.specs.Kept.{entry}
+use Rattle.fax_core.specs.Ledger.{entry}
 use Rattle.fax_tables.specs.Row.{phase_number, wish_number, call_number, job_row, grant_row, hold_columns, down_columns, entry_columns, call_columns, floor_columns, meta_row, raised}
 
 -- ---- numbers that stand for words

@@ -20,7 +20,7 @@ use Rattle.sqlite.specs.Effect.{Database, IsDatabase}
 use Rattle.sqlite.specs.State.{State}
 use Rattle.sqlite_catalog.specs.Change.{KeepsRows}
 use Rattle.fax_core.specs.Job.{Job, fields_of}
-use Rattle.fax_core.specs.Ledger.{Ledger, empty_ledger}
+use Rattle.fax_core.specs.Ledger.{Ledger, empty_ledger, IsLawfulEntry}
 use Rattle.fax_core.specs.Queue.{Queue, Entry, empty_queue, open_grants}
 use Rattle.fax_core.specs.State.{calls_to}
 use Rattle.fax_core.specs.declared.grants.Grant.{Grant}
@@ -29,7 +29,7 @@ use Rattle.fax_value.specs.Name.{IsName}
 use Rattle.fax_schema.specs.Schema.{core_tables, our_tables, calls_tree, down_tree, floors_tree, grants_tree, holds_tree, jobs_tree, meta_tree, replies_tree}
 use Rattle.fax_tables.specs.Job.{IsLawfulJob}
 use Rattle.fax_tables.specs.Row.{job_row, grant_row, hold_columns, down_columns, entry_columns, call_columns, meta_row}
-use Rattle.fax_tables.specs.Tables.{TablesMean, AreCalls, AreCounted, AreLawfulFloors, HaveJobs, IsLawfulGrant, IsLawfulMeta, IsLawfulEntry}
+use Rattle.fax_tables.specs.Tables.{TablesMean, AreCalls, AreCounted, AreLawfulFloors, HaveJobs, IsLawfulGrant, IsLawfulMeta}
 use Rattle.fax_schema.specs.ByRowid.{IsByRowid}
 use Rattle.fax_schema.proofs.AppendLemmas.{appended}
 use Rattle.fax_schema.proofs.RowsLemmas.{at_tree}

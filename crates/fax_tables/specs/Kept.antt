@@ -19,7 +19,3 @@ kept_shown kept = Blob kept.said.items ∷ number kept.status ∷ Blob kept.body
 -- the row of a query for an entry
 abbrev pub entry_shown : Entry → Row
 entry_shown e = Blob e.said ∷ number e.status ∷ Blob e.body ∷ []
-
--- the entry that a reply is kept as
-abbrev pub entry : List ℕ → ℕ → List ℕ → ℕ → List ℕ → Entry
-entry client n said status body = record { client = client; number = n; said = said; status = status; body = body }

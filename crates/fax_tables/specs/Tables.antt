@@ -1,5 +1,5 @@
 -- What a database with the tables of a queue means.
-use Rattle.std.specs.Prelude.{◌≡◌, ◌⊎◌, ℕ, ◌+◌, ◌≤◌, ◌<◌, ◌^◌, ◌==◌, true, false, List, [], ◌∷◌, All, map, drop, IsTrue, Some, if◌then◌else◌}
+use Rattle.std.specs.Prelude.{◌≡◌, ℕ, ◌+◌, ◌≤◌, ◌<◌, ◌^◌, ◌==◌, true, false, List, [], ◌∷◌, All, map, drop, IsTrue, Some, if◌then◌else◌}
 use Rattle.std.specs.List.{AllByRecursion}
 use Rattle.std.specs.List.Sorted.{IsPermutation}
 use Rattle.sqlite.specs.Order.{Row, column}
@@ -11,8 +11,8 @@ use Rattle.sqlite_catalog.specs.Change.{KeepsRows}
 use Rattle.sqlite_trees.specs.Tree.{Trees}
 use Rattle.sqlite_rules.specs.Lists.{Has}
 use Rattle.fax_core.specs.Job.{Job, fields_of}
-use Rattle.fax_core.specs.Ledger.{Ledger}
-use Rattle.fax_core.specs.Queue.{Queue, Entry, job_numbered, open_grants}
+use Rattle.fax_core.specs.Ledger.{Ledger, IsLawfulEntry}
+use Rattle.fax_core.specs.Queue.{Queue, job_numbered, open_grants}
 use Rattle.fax_core.specs.State.{calls_to}
 use Rattle.fax_core.specs.declared.grants.Grant.{Grant}
 use Rattle.fax_value.specs.Limits.{last_grant, last_job, last_moment}
@@ -32,15 +32,6 @@ pub record IsLawfulMeta (m : Queue) : Type 0 where
   pub clock : m.clock ≤ last_moment
   pub next_job : (1 ≤ m.next_job) × (m.next_job ≤ last_job + 1)
   pub next_grant : (1 ≤ m.next_grant) × (m.next_grant ≤ last_grant + 1)
-
--- the status of a reply that is kept: OK or Created
-abbrev pub IsKeptStatus : ℕ → Type 0
-IsKeptStatus status = (status ≡ 200) ⊎ (status ≡ 201)
-
-pub record IsLawfulEntry (e : Entry) : Type 0 where
-  pub client : IsName e.client
-  pub number : (1 ≤ e.number) × (e.number < 10 ^ 18)
-  pub status : IsKeptStatus e.status
 
 -- a client's floor, where it has one
 abbrev pub AreLawfulFloors : (List ℕ → ℕ) → Type 0

@@ -4,7 +4,7 @@ ghost use Rattle.std.specs.Prelude.{◌≡◌, ◌↔◌, ◌≤◌, ◌<◌, �
 ghost use Rattle.fax_core.specs.Queue.{Entry};
 ghost use Rattle.fax_tables.specs.Fault.{OrUnavailable};
 ghost use Rattle.fax_tables.specs.Row.{HasValues};
-ghost use Rattle.fax_tables.specs.Tables.{IsKeptStatus, IsLawfulEntry};
+ghost use Rattle.fax_core.specs.Ledger.{IsKeptStatus, IsLawfulEntry};
 
 use crate::fault::StoreFault;
 use crate::row::{small_at, value_at};

@@ -16,9 +16,10 @@ use Rattle.fax_core.specs.Sound.{Sound}
 use Rattle.fax_desk.specs.Replaying.{empty_start}
 use Rattle.fax_desk.specs.Turns.{replies_of}
 use Rattle.fax_http.specs.Conversation.{Turn}
-use Rattle.fax_once.proofs.SessionsLemmas.{sessions_have_one_list}
-use Rattle.fax_once.specs.Run.{Start, end_after}
-use Rattle.fax_once.specs.Sessions.{Follow, LeftBySession, Session, session_of}
+use Rattle.fax_run.proofs.SessionsLemmas.{sessions_have_one_list}
+use Rattle.fax_run.specs.Run.{Start, end_after}
+use Rattle.fax_run.specs.Sessions.{Follow, Session, session_of}
+use Rattle.fax_once.specs.Ran.{LeftBySession}
 use Rattle.fax_schema.specs.Schema.{AreOurs}
 use Rattle.fax_store.proofs.AdoptLemmas.{means_rows}
 use Rattle.fax_tables.proofs.TablesLemmas.{same_database}

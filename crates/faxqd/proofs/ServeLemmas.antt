@@ -16,7 +16,7 @@ use Rattle.fax_desk.specs.Turns.{AreServed}
 use Rattle.fax_http.specs.Conversation.{Turn}
 use Rattle.fax_http.specs.declared.device.Watched.{Watched}
 use Rattle.fax_once.proofs.HandledLemmas.{open_stops}
-use Rattle.fax_once.specs.Run.{Start}
+use Rattle.fax_run.specs.Run.{Start}
 use Rattle.fax_store.specs.Adopt.{Adopts, IsOurs}
 use Rattle.fax_store.specs.Store.{LeavesAlone, Means}
 use Rattle.fax_schema.specs.Schema.{AreOurs, indexed_last, no_tables, with_calls, without_calls}

@@ -15,8 +15,8 @@ use Rattle.fax_files.specs.Database.{AreHeld}
 use Rattle.fax_http.specs.Clock.{IsMoment}
 use Rattle.fax_http.specs.Device.{BrokeOff, Put}
 use Rattle.fax_http.specs.declared.device.Watched.{Watched}
-use Rattle.fax_once.specs.Verdict.{Handles}
-use Rattle.fax_once.specs.declared.arrival.Arrival.{Arrival}
+use Rattle.fax_once.specs.Handled.{Handles}
+use Rattle.fax_run.specs.declared.arrival.Arrival.{Arrival}
 use Rattle.fax_schema.specs.Schema.{no_tables}
 use Rattle.fax_store.specs.Adopt.{IsOurs}
 use Rattle.fax_store.specs.Store.{Means, Stays}

@@ -15,8 +15,8 @@ use Rattle.fax_desk.specs.Replaying.{empty_start}
 use Rattle.fax_desk.specs.Turns.{AreArrivals, replies_of}
 use Rattle.fax_files.specs.Database.{AreHeld}
 use Rattle.fax_http.specs.Conversation.{Turn}
-use Rattle.fax_once.specs.Run.{Start}
-use Rattle.fax_once.specs.Sessions.{Follow, HaveOneList, IsSession, Session}
+use Rattle.fax_run.specs.Run.{Start}
+use Rattle.fax_run.specs.Sessions.{Follow, HaveOneList, IsSession, Session}
 use Rattle.fax_schema.specs.Schema.{AreOurs, no_tables}
 use Rattle.fax_tables.specs.Tables.{RowsMean}
 use Rattle.faxqd.specs.Serve.{ServesHeld}

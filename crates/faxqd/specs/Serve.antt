@@ -12,9 +12,10 @@ use Rattle.fax_desk.specs.Turns.{AreArrivals, AreTurns, replies_of}
 use Rattle.fax_http.specs.Conversation.{Turn}
 use Rattle.fax_http.specs.Device.{Put}
 use Rattle.fax_http.specs.declared.device.Watched.{Watched}
-use Rattle.fax_once.specs.Run.{Start}
-use Rattle.fax_once.specs.Sessions.{IsSession, LeftBySession, session_of}
-use Rattle.fax_once.specs.declared.arrival.Arrival.{Arrival}
+use Rattle.fax_run.specs.Run.{Start}
+use Rattle.fax_run.specs.Sessions.{IsSession, session_of}
+use Rattle.fax_once.specs.Ran.{LeftBySession}
+use Rattle.fax_run.specs.declared.arrival.Arrival.{Arrival}
 use Rattle.fax_store.specs.Adopt.{IsOurs}
 use Rattle.fax_store.specs.Store.{MayFind, Means}
 use Rattle.fax_tables.specs.Tables.{RowsMean}

@@ -2,7 +2,7 @@ use Rattle.std.proofs.Common.{◌≡◌, subst, sym}
 use Rattle.fax_ask.specs.declared.view.View.{View}
 use Rattle.fax_decide.specs.Settings.{settings_of}
 use Rattle.fax_decide.specs.Looking.{Views}
-use Rattle.fax_decide.specs.View.{view}
+use Rattle.fax_run.specs.View.{view}
 use Rattle.fax_decide.specs.Fault.{OrNoAnswer}
 use Rattle.fax_decide.proofs.LookingLemmas.{gives, views}
 use Rattle.fax_decide.proofs.view.show.Goals as goal

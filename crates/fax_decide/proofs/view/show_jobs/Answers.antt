@@ -5,7 +5,7 @@ use Rattle.fax_ask.specs.Response.{accepted_response}
 use Rattle.fax_core.specs.Ageing.{aged}
 use Rattle.fax_text.specs.Listing.{listing_of, number_of}
 use Rattle.fax_decide.specs.Fault.{fault_of}
-use Rattle.fax_decide.specs.View.{with_state}
+use Rattle.fax_run.specs.View.{with_state}
 use Rattle.fax_decide.specs.Settings.{settings_of}
 use Rattle.fax_decide.proofs.ViewLemmas.{briefs_seen, listing_thin, numbers_thin, rows_ascend}
 use Rattle.fax_decide.proofs.LookingLemmas.{both, by_reading, goes_on, stops, views}

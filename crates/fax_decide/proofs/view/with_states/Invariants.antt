@@ -4,7 +4,7 @@ use Rattle.fax_core.specs.Ageing.{aged_job}
 use Rattle.fax_core.specs.Job.{job_of}
 use Rattle.fax_decide.specs.Looking.{Consults}
 use Rattle.fax_decide.specs.Settings.{settings_of}
-use Rattle.fax_decide.specs.View.{with_state}
+use Rattle.fax_run.specs.View.{with_state}
 use Rattle.fax_decide.proofs.view.with_states.Given as goal
 
 abbrev pub invariant-loop-job : goal.invariant-loop-job

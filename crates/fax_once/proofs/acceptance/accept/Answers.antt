@@ -6,7 +6,7 @@ use Rattle.fax_store.proofs.StoreLemmas.{means_stay}
 use Rattle.fax_decide.proofs.FaultLemmas.{no_memory, only_no_answer}
 use Rattle.fax_decide.proofs.WorkLemmas.{refused_with}
 use Rattle.fax_once.specs.Acceptance.{Accepts}
-use Rattle.fax_once.specs.Arrival.{said_of}
+use Rattle.fax_run.specs.Arrival.{said_of}
 use Rattle.fax_once.proofs.CauseLemmas.{gave_out}
 use Rattle.fax_once.proofs.StopLemmas.{committed_stops, dropped_stops, has_tables, works_by}
 use Rattle.fax_once.proofs.acceptance.accept.Goals as goal

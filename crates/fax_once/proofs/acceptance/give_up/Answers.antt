@@ -2,7 +2,7 @@ use Rattle.std.proofs.Common.{rules, sym, subst}
 use Rattle.sqlite.specs.Held.{state}
 use Rattle.fax_store.specs.Work.{Works}
 use Rattle.fax_store.proofs.FrameLemmas.{follows_of}
-use Rattle.fax_once.specs.Verdict.{without}
+use Rattle.fax_run.specs.Verdict.{without}
 use Rattle.fax_once.proofs.acceptance.give_up.Goals as goal
 
 pub returns-in-Some : goal.returns-in-Some

@@ -4,13 +4,11 @@ use Rattle.fax_store.proofs.FrameLemmas.{follows_of, follows_then}
 use Rattle.fax_store.proofs.WorkLemmas.{refused_as}
 use Rattle.fax_store.specs.Work.{Works}
 use Rattle.fax_tables.proofs.ResultLemmas.{on_err}
-use Rattle.fax_tables.specs.Tables.{IsKeptStatus}
 use Rattle.fax_decide.proofs.WorkLemmas.{refused_any}
 use Rattle.fax_decide.specs.Effect.{accepted}
-use Rattle.fax_core.specs.Ledger.{with_reply}
-use Rattle.fax_tables.specs.Kept.{entry}
-use Rattle.fax_once.specs.Verdict.{without}
-use Rattle.fax_once.proofs.LedgerLemmas.{unkept_still}
+use Rattle.fax_core.specs.Ledger.{with_reply, IsKeptStatus, entry}
+use Rattle.fax_run.specs.Verdict.{without}
+use Rattle.fax_once.proofs.VerdictLemmas.{unkept_still}
 use Rattle.fax_once.proofs.acceptance.write_accepted.Goals as goal
 
 pub returns-in_err-expire_all-clause-writes : goal.returns-in_err-expire_all-clause-writes

@@ -2,7 +2,7 @@ use Rattle.std.proofs.Common.{inl, inr}
 use Rattle.sqlite.specs.Held.{state}
 use Rattle.fax_decide.specs.Settings.{settings_of}
 use Rattle.fax_store.proofs.StoreLemmas.{means_stay}
-use Rattle.fax_once.proofs.AcceptedLemmas.{stays_sound}
+use Rattle.fax_once.proofs.HandledLemmas.{stays_sound}
 use Rattle.fax_once.proofs.VerdictLemmas.{gives_out, idle_by}
 use Rattle.fax_once.proofs.queue.Queue.handle.Goals as goal
 

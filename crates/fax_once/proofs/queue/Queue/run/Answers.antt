@@ -8,11 +8,11 @@ use Rattle.fax_decide.specs.declared.office.Office.{Office}
 use Rattle.fax_once.proofs.HandledLemmas.{run_sound, runs_on, runs_well, stops_at_first, stops_on}
 use Rattle.fax_once.proofs.SessionsLemmas.{runs_as_session}
 use Rattle.fax_once.proofs.queue.Queue.run.Goals as goal
-use Rattle.fax_once.specs.Laws.{HasRun}
+use Rattle.fax_once.specs.Ran.{HasRun}
 use Rattle.fax_once.specs.Stop.{Stops, StopsIn}
-use Rattle.fax_once.specs.Run.{Start, end_of}
-use Rattle.fax_once.specs.Verdict.{Handles}
-use Rattle.fax_once.specs.declared.arrival.Arrival.{Arrival}
+use Rattle.fax_run.specs.Run.{Start, end_of}
+use Rattle.fax_once.specs.Handled.{Handles}
+use Rattle.fax_run.specs.declared.arrival.Arrival.{Arrival}
 
 pub loop-arrival-init : goal.loop-arrival-init
 loop-arrival-init g c = record {

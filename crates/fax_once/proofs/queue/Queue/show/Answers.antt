@@ -2,7 +2,7 @@ use Rattle.std.proofs.Common.{◌≡◌, ap, rules, subst, ◌∙◌}
 use Rattle.fax_core.specs.Clock.{decided_at}
 use Rattle.fax_decide.specs.Fault.{OrNoAnswer}
 use Rattle.fax_decide.specs.Settings.{settings_of}
-use Rattle.fax_decide.specs.View.{view}
+use Rattle.fax_run.specs.View.{view}
 use Rattle.fax_store.proofs.StoreLemmas.{means_stay}
 use Rattle.fax_store.proofs.FrameLemmas.{looks_of, looks_then, means_now}
 use Rattle.fax_decide.proofs.FaultLemmas.{store_gave_out}

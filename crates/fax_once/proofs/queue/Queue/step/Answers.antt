@@ -8,7 +8,7 @@ use Rattle.fax_store.specs.Store.{Serves}
 use Rattle.fax_once.proofs.CauseLemmas.{gave_out, nothing_comes, unkept_by}
 use Rattle.fax_once.proofs.StopLemmas.{then_stops}
 use Rattle.fax_once.proofs.VerdictLemmas.{above_is, given_up_is, repeated_leaves, unused_is}
-use Rattle.fax_once.specs.Verdict.{Leaves, LeavesBy}
+use Rattle.fax_once.specs.Handled.{Leaves, LeavesBy}
 use Rattle.fax_once.proofs.queue.Queue.step.Goals as goal
 
 pub returns-in_err-floor : goal.returns-in_err-floor

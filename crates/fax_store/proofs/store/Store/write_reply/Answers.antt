@@ -2,9 +2,8 @@ use Rattle.std.proofs.Common.{[], ◌∷◌, rules}
 use Rattle.sqlite.specs.Held.{state}
 use Rattle.sqlite.specs.declared.types.Value.TheVariants.{Text, Blob}
 use Rattle.fax_schema.specs.declared.statements.TheConstants.{INSERT_REPLY}
-use Rattle.fax_tables.specs.Kept.{entry}
+use Rattle.fax_core.specs.Ledger.{entry, IsLawfulEntry}
 use Rattle.fax_tables.specs.Row.{number}
-use Rattle.fax_tables.specs.Tables.{IsLawfulEntry}
 use Rattle.fax_store.proofs.RepliesLemmas.{reply_kept, reply_goes}
 use Rattle.fax_store.proofs.StatementLemmas.{edit_text}
 use Rattle.fax_schema.proofs.StatementTexts as texts

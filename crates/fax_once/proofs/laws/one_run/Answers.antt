@@ -1,6 +1,0 @@
-use Rattle.fax_once.proofs.OneVerdictLemmas.{one_reading}
-use Rattle.fax_once.proofs.OneRunLemmas as lemma
-use Rattle.fax_once.proofs.laws.one_run.Goals as goal
-
-pub returns : goal.returns
-returns c = lemma.one_run (one_reading c.asks.ensures.one c.asks.ensures.refused c.asks.ensures.fault)

@@ -1,5 +1,0 @@
-use Rattle.fax_once.proofs.SessionsLemmas.{sessions_have_one_list}
-use Rattle.fax_once.proofs.laws.sessions.Goals as goal
-
-pub returns : goal.returns
-returns c = sessions_have_one_list

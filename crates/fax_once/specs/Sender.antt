@@ -1,0 +1,10 @@
+-- Who sent an arrival.
+use Rattle.std.specs.Prelude.{◌≡◌, Ok}
+use Rattle.fax_run.specs.declared.arrival.Arrival.{Arrival}
+use Rattle.fax_once.specs.declared.sender.Sender.{Sender}
+use Rattle.fax_run.specs.Arrival.{number_of}
+
+-- the client as it stands, and the number that its digits write
+pub record IsSender (arrival : Arrival) (sender : Sender) : Type 0 where
+  pub client : sender.client.now ≡ arrival.client.now
+  pub number : number_of arrival ≡ Ok sender.number

@@ -1,0 +1,202 @@
+-- A step, and so a run, leaves each grant as it was given.
+use Rattle.std.proofs.Common.{◌≡◌, ◌≢◌, ◌⊎◌, inl, inr, ℕ, ◌+◌, eqb, Bool, true, false, cond, not, ◌&&◌, List, [], ◌∷◌, ◌++◌, Option, Some, None, Ok, Err, refl, sym, ap, subst, ◌∙◌, arith}
+use Rattle.std.specs.Prelude.{Result, find, is_some, is_none}
+use Rattle.std.proofs.lemmas.Bool.{cases_eq, not-false, true≢false}
+use Rattle.fax_job.specs.declared.job.Call.{Call}
+use Rattle.fax_job.specs.declared.refusal.Refusal.{Refusal}
+use Rattle.fax_job.specs.declared.refusal.Refusal.TheVariants as refusal
+use Rattle.fax_core.specs.declared.grants.Grant.{Grant}
+use Rattle.fax_core.specs.declared.report.Outcome.{Outcome}
+use Rattle.fax_core.specs.declared.report.Report.{Report}
+use Rattle.fax_core.specs.declared.report.Report.TheVariants as report
+use Rattle.fax_core.specs.Ageing.{aged}
+use Rattle.fax_core.specs.Clock.{decided_at}
+use Rattle.fax_core.specs.declared.ask.Ask.{Ask}
+use Rattle.fax_core.specs.declared.ask.Ask.TheVariants.{Submission, Bring, OnJob, Mark, Next, OnGrant, GiveUp}
+use Rattle.fax_core.specs.declared.ask.JobAsk.{JobAsk}
+use Rattle.fax_core.specs.Decisions.{JobAndGrant, after_call, call, ended, grant_reported, granted, is_connected, job_asked, outcome, page, page_of, submit}
+use Rattle.fax_core.specs.Import.{bring}
+use Rattle.fax_core.specs.Job.{Job}
+use Rattle.fax_core.specs.Machine.{act, brought_in, changed, on_job, step, submitted, with_both, with_job, with_mark, with_new_job}
+use Rattle.fax_core.specs.Queue.{Queue, grant_numbered, job_numbered}
+use Rattle.fax_core.specs.Reply.{Marked, NoKeys, Refused, Reply, Step, Taken}
+use Rattle.fax_core.specs.Run.{left_by}
+use Rattle.fax_core.specs.Settings.{Rule, Settings}
+use Rattle.fax_core.specs.Sound.{Sound}
+use Rattle.fax_core.proofs.DecisionLemmas.{not_refused, ok_same}
+use Rattle.fax_core.proofs.KeepLemmas.{numbered_grant}
+use Rattle.fax_core.proofs.PageLemmas.{Reported, on_grant_is}
+use Rattle.fax_core.proofs.PlaceLemmas.{placed_here, placed_other, stays}
+use Rattle.fax_core.proofs.StepLemmas.{Best_to, GivenTo, None_to, aged_sound, given_is, taken_same}
+use Rattle.fax_run.proofs.OnceLemmas.{sound_after}
+use Rattle.fax_run.specs.Laws.{IsSameGrant, KeepsGrants, RunsKeepGrants}
+use Rattle.fax_run.specs.Run.{queue_after, step_of}
+
+-- ---- the same grant
+
+-- a grant is as itself
+same_itself : (g : Grant) → IsSameGrant g g
+same_itself g = record { number = refl; job = refl; modem = refl; first_page = refl; last_page = refl; confirmed = omega arith; closed = λ off. refl }
+
+-- where a grant is as a second, and that as a third, it is as the third
+same_through : (f g h : Grant) → IsSameGrant f g → IsSameGrant g h → IsSameGrant f h
+same_through f g h a b = record {
+  number = b.number ∙ a.number;
+  job = b.job ∙ a.job;
+  modem = b.modem ∙ a.modem;
+  first_page = b.first_page ∙ a.first_page;
+  last_page = b.last_page ∙ a.last_page;
+  confirmed = omega (arith, a.confirmed, b.confirmed);
+  closed = λ off. let same = a.closed off in b.closed (ap (λ (z : Grant). z.is_open) same ∙ off) ∙ same;
+}
+
+-- the same grants are all kept
+kept_all : (m n : Queue) → n.grants ≡ m.grants → KeepsGrants m n
+kept_all m n same a g is = (g, subst (λ (gs : List Grant). find (λ (z : Grant). eqb z.number a) gs ≡ Some g) (sym same) is, same_itself g)
+
+-- what is kept twice is kept
+through : (l m n : Queue) → KeepsGrants l m → KeepsGrants m n → KeepsGrants l n
+through l m n first then' a g is =
+    let x = first a g is in
+    let y = then' a x.0 x.1 in
+    (y.0, y.1, same_through g x.0 y.0 x.2 y.2)
+
+-- ---- requests on a job, submissions and marks
+
+-- a change of a job leaves the grants
+changed_grants : (s : Settings) (m n : Queue) (t : ℕ) (d : Result Job Refusal) (r : Reply) → changed s m t d ≡ Taken n r → n.grants ≡ m.grants
+changed_grants s m n t (Ok k) r e = ap (λ (q : Queue). q.grants) (sym (taken_same (with_job k m) n _ r e).0)
+changed_grants s m n t (Err x) r e = cc
+
+-- a request on a job keeps them
+on_job_grants : (s : Settings) (m n : Queue) (t : ℕ) (ask : JobAsk) (o : Option Job) (r : Reply) → on_job s m t ask o ≡ Taken n r → KeepsGrants m n
+on_job_grants s m n t ask None r e = cc
+on_job_grants s m n t ask (Some j) r e = kept_all m n (changed_grants s m n t (job_asked ask t j) r e)
+
+-- so does a submission
+submission_grants : (m n : Queue) (rule : Rule) (d : Result Job Refusal) (r : Reply) → submitted m rule d ≡ Taken n r → KeepsGrants m n
+submission_grants m n rule (Ok k) r e = kept_all m n (ap (λ (q : Queue). q.grants) (sym (taken_same (with_new_job k m) n _ r e).0))
+submission_grants m n rule (Err x) r e = cc
+
+-- and an import
+import_grants : (s : Settings) (m n : Queue) (t : ℕ) (rule : Rule) (d : Result Job Refusal) (r : Reply) → brought_in s m t rule d ≡ Taken n r → KeepsGrants m n
+import_grants s m n t rule (Ok k) r e = kept_all m n (ap (λ (q : Queue). q.grants) (sym (taken_same (with_new_job k m) n _ r e).0))
+import_grants s m n t rule (Err x) r e = cc
+
+-- a mark set or taken off leaves the grants
+mark_same : (m : Queue) (modem : List ℕ) (down : Bool) → (with_mark modem down m).grants ≡ m.grants
+mark_same m modem true = refl
+mark_same m modem false = refl
+
+-- so a request that marks a modem keeps them
+mark_grants : (m n : Queue) (modem : List ℕ) (down b : Bool) (r : Reply) → cond b (Taken (with_mark modem down m) (Marked down)) (Refused refusal.NoModem NoKeys) ≡ Taken n r → KeepsGrants m n
+mark_grants m n modem down true r e = kept_all m n (ap (λ (q : Queue). q.grants) (sym (taken_same (with_mark modem down m) n _ r e).0) ∙ mark_same m modem down)
+mark_grants m n modem down false r e = cc
+
+-- ---- reports
+
+-- a call leaves the grant as it was given
+called_same : (c : Call) (j : Job) (g : Grant) (b : JobAndGrant) → call c j g ≡ Ok b → IsSameGrant g b.grant
+called_same c j g b e =
+    let new : JobAndGrant = record { job = after_call c j; grant = record g { call = Some c } } in
+    let p = not_refused (not g.is_open) _ _ b e in
+    let q = not_refused (is_some g.call) _ (Ok new) b p.1 in
+    let on : g.is_open ≡ true = not-false g.is_open p.0 in
+    subst (λ (x : JobAndGrant). IsSameGrant g x.grant) (ok_same new b q.1)
+    (record { number = refl; job = refl; modem = refl; first_page = refl; last_page = refl; confirmed = omega arith; closed = λ off. absurd (true≢false (sym on ∙ off)) })
+
+-- a page leaves an open grant as it was given, with one more confirmed
+page_same : (ps : List ℕ) (n : ℕ) (j : Job) (g : Grant) (b : JobAndGrant) → g.is_open ≡ true → page_of ps n j g ≡ Ok b → IsSameGrant g b.grant
+page_same [] n j g b on e = cc
+page_same (p ∷ rest) n j g b on e =
+    let new : JobAndGrant = record { job = record j { sent = j.sent ++ p ∷ []; left = rest; ntries = 0 }; grant = record g { confirmed = g.confirmed + 1 } } in
+    let q = not_refused (not (eqb p n)) _ (Ok new) b e in
+    subst (λ (x : JobAndGrant). IsSameGrant g x.grant) (ok_same new b q.1)
+    (record { number = refl; job = refl; modem = refl; first_page = refl; last_page = refl; confirmed = omega arith; closed = λ off. absurd (true≢false (sym on ∙ off)) })
+
+-- so does a report of a page
+paged_same : (n : ℕ) (j : Job) (g : Grant) (b : JobAndGrant) → page n j g ≡ Ok b → IsSameGrant g b.grant
+paged_same n j g b e =
+    let p = not_refused (not g.is_open) _ _ b e in
+    let q = not_refused (not (is_connected g.call)) _ (page_of j.left n j g) b p.1 in
+    page_same j.left n j g b (not-false g.is_open p.0) q.1
+
+-- an outcome leaves the grant as it was given
+outcome_same : (o : Outcome) (j : Job) (g : Grant) (delay t : ℕ) (b : JobAndGrant) → outcome o j g delay t ≡ Ok b → IsSameGrant g b.grant
+outcome_same o j g delay t b e =
+    let new : JobAndGrant = record { job = ended j.left o j delay t; grant = record g { is_open = false } } in
+    let p = not_refused (not g.is_open) _ _ b e in
+    let q = not_refused (not o.dialed && is_some g.call) _ _ b p.1 in
+    let r = not_refused (o.dialed && is_none g.call) _ _ b q.1 in
+    let s = not_refused (not (eqb o.pages g.confirmed)) _ _ b r.1 in
+    let u = not_refused _ _ (Ok new) b s.1 in
+    let on : g.is_open ≡ true = not-false g.is_open p.0 in
+    subst (λ (x : JobAndGrant). IsSameGrant g x.grant) (ok_same new b u.1)
+    (record { number = refl; job = refl; modem = refl; first_page = refl; last_page = refl; confirmed = omega arith; closed = λ off. absurd (true≢false (sym on ∙ off)) })
+
+-- so does whatever a worker reports
+report_same : (x : Report) (delay : Option Call → ℕ) (t : ℕ) (j : Job) (g : Grant) (b : JobAndGrant) → grant_reported x delay t j g ≡ Ok b → IsSameGrant g b.grant
+report_same (report.Call c) delay t j g b e = called_same c j g b e
+report_same (report.Page n) delay t j g b e = paged_same n j g b e
+report_same (report.Outcome o) delay t j g b e = outcome_same o j g (delay g.call) t b e
+
+module _ (m : Queue) (b : ℕ) (g : Grant) (both : JobAndGrant) (is : grant_numbered b m ≡ Some g) (same : IsSameGrant g both.grant) where
+  -- the number finds this grant alone
+  it_is : (x : Grant) → grant_numbered b m ≡ Some x → g ≡ x
+  it_is x there = let found = sym is ∙ there in cc
+
+  -- with job and grant as they are after a report, each grant is as it was given
+  placed_grants : KeepsGrants m (with_both both m)
+  placed_grants a x there = by (cases_eq both.grant.number a)
+    where
+      by : (both.grant.number ≡ a) ⊎ (both.grant.number ≢ a) → (h : Grant) × (grant_numbered a (with_both both m) ≡ Some h) × IsSameGrant x h
+      by (inl here) =
+          let place : a ≡ b = sym here ∙ same.number ∙ numbered_grant m b g is in (
+            both.grant,
+            placed_here (λ (z : Grant). z.number) a both.grant x m.grants there here,
+            subst (λ (z : Grant). IsSameGrant z both.grant) (it_is x (subst (λ (i : ℕ). grant_numbered i m ≡ Some x) place there)) same,
+          )
+      by (inr other) = (x, placed_other (λ (z : Grant). z.number) a both.grant x m.grants there other, same_itself x)
+
+-- a report keeps the grants
+report_grants : (s : Settings) (m n : Queue) (t b : ℕ) (x : Report) → Reported s m n t b x → KeepsGrants m n
+report_grants s m n t b x it = subst (KeepsGrants m) it.left (placed_grants m b it.grant it.both it.is (report_same x s.delay t it.job it.grant it.both it.made))
+
+-- ---- a request for work
+
+-- a request for work keeps them
+given_grants : (s : Settings) (m n : Queue) (t : ℕ) (modem : List ℕ) (r : Reply) → GivenTo s m t modem n r → KeepsGrants m n
+given_grants s m n t modem r (None_to none same told) = kept_all m n (ap (λ (q : Queue). q.grants) (sym same))
+given_grants s m n t modem r (Best_to j best none same told) =
+    subst (KeepsGrants m) same (λ a g is. (g, stays (λ (z : Grant). eqb z.number a) m.grants (granted j modem m.next_grant).grant g is, same_itself g))
+
+-- ---- each request
+
+-- each request keeps them
+act_grants : (s : Settings) (m n : Queue) (t : ℕ) (ask : Ask) (r : Reply) → Sound m → act s m t ask ≡ Taken n r → KeepsGrants m n
+act_grants s m n t (Submission o) r h e = submission_grants m n (s.rule o.dial) (submit o (s.rule o.dial) m.next_job s.max_jobs t) r e
+act_grants s m n t (Bring i) r h e = import_grants s m n t (s.rule i.order.dial) (bring i (s.rule i.order.dial) m.next_job s.max_jobs t) r e
+act_grants s m n t (OnJob a ask) r h e = on_job_grants s m n t ask (job_numbered a m) r e
+act_grants s m n t (Mark modem down) r h e = mark_grants m n modem down (s.has_modem modem) r e
+act_grants s m n t (Next modem) r h e = given_grants s m n t modem r (given_is s m t modem n r h e)
+act_grants s m n t (OnGrant a report) r h e = report_grants s m n t a report (on_grant_is s m t a report (grant_numbered a m) n r refl e)
+act_grants s m n t (GiveUp upto) r h e = kept_all m n (ap (λ (q : Queue). q.grants) (sym (taken_same m n _ r e).0))
+
+-- ageing leaves the grants
+step_keeps_grants : (s : Settings) (m n : Queue) (t : ℕ) (ask : Ask) (r : Reply) → Sound m → step s m t ask ≡ Taken n r → KeepsGrants m n
+step_keeps_grants s m n t ask r h e = through m (aged t m) n (kept_all m (aged t m) refl) (act_grants s (aged t m) n t ask r (aged_sound t m h) e)
+
+-- where a step keeps the grants where it is taken, it does in any case
+left_grants : (m : Queue) (x : Step) → ((n : Queue) (r : Reply) → x ≡ Taken n r → KeepsGrants m n) → KeepsGrants m (left_by m x)
+left_grants m (Taken n r) keeps = keeps n r refl
+left_grants m (Refused e k) keeps = kept_all m m refl
+
+-- ---- a run
+
+pub runs_keep_grants : RunsKeepGrants
+runs_keep_grants m [] earlier h are = kept_all (queue_after m earlier) (queue_after m earlier) refl
+runs_keep_grants m (f ∷ later) earlier h are =
+    let here = queue_after m (later ++ earlier) in
+    let t = decided_at here.clock f.post.request.moment in
+    through (queue_after m earlier) here (left_by here (step_of here f)) (runs_keep_grants m later earlier h are.2)
+    (left_grants here (step_of here f) (λ n r e. step_keeps_grants f.settings here n t f.post.request.ask r (sound_after m (later ++ earlier) h are.2) e))

@@ -1,0 +1,168 @@
+-- Behind requests that were taken no page is confirmed twice, and none that was confirmed is granted again.
+use Rattle.std.proofs.Common.{◌≡◌, ℕ, zero, suc, ◌+◌, ◌-◌, ◌<◌, ◌≤◌, true, List, [], ◌∷◌, ◌++◌, length, Some, refl, sym, ap, subst, ◌∙◌, arith}
+use Rattle.std.specs.List.{range_with_len}
+use Rattle.std.proofs.lemmas.List.{append-nil, length-append}
+use Rattle.fax_core.specs.declared.grants.Grant.{Grant}
+use Rattle.fax_core.specs.Ageing.{aged}
+use Rattle.fax_core.specs.Clock.{decided_at}
+use Rattle.fax_core.specs.declared.ask.Ask.TheVariants.{Next, OnGrant}
+use Rattle.fax_core.specs.declared.report.Report.TheVariants.{Page}
+use Rattle.fax_core.specs.Job.{HasPages, Job, pages_to}
+use Rattle.fax_core.specs.Laws.{ConfirmsPage, HasSent}
+use Rattle.fax_core.specs.Machine.{step}
+use Rattle.fax_core.specs.Queue.{Queue, grant_numbered}
+use Rattle.fax_core.specs.Reply.{Given, Handed, Reply, Step, Taken, Refused}
+use Rattle.fax_core.specs.Run.{left_by}
+use Rattle.fax_core.specs.Sound.{IsJob, Sound}
+use Rattle.fax_core.proofs.KeepLemmas.{same_job}
+use Rattle.fax_core.proofs.PageLemmas.{KeepsSent, aged_keeps, confirmed, one_each, step_gives, step_keeps, tail_is, through}
+use Rattle.fax_core.proofs.StepLemmas.{aged_sound, decided_sound}
+use Rattle.fax_run.specs.Laws.{AreTaken, RunsAreSound, RunsSendOnce}
+use Rattle.fax_run.specs.Run.{Fed, queue_after, step_of, takes}
+
+-- ---- parts of what was taken
+
+-- of requests that were taken, the older were taken
+pub earlier_taken : (m : Queue) (newer older : List Fed) → AreTaken m (newer ++ older) → AreTaken m older
+earlier_taken m [] older are = are
+earlier_taken m (f ∷ newer) older are = earlier_taken m newer older are.2
+
+-- the queue is sound after requests that were taken
+pub sound_after : (m : Queue) (fed : List Fed) → Sound m → AreTaken m fed → Sound (queue_after m fed)
+sound_after m [] h are = h
+sound_after m (f ∷ earlier) h (lawful, on, are) = decided_sound f.settings (queue_after m earlier) f.post.request (sound_after m earlier h are) lawful
+
+pub runs_are_sound : RunsAreSound
+runs_are_sound m fed h are = (sound_after m fed h are, λ a b g i. one_each (queue_after m fed) a b g i (sound_after m fed h are))
+
+-- the step of a request that was taken
+taken_step : (m : Queue) (x : Step) → takes x ≡ true → (r : Reply) × (x ≡ Taken (left_by m x) r)
+taken_step m (Taken n r) on = (r, refl)
+taken_step m (Refused e k) on = absurd cc
+
+-- ---- pages that were sent stay sent
+
+-- they do where nothing is fed
+sent_still : (m : Queue) → KeepsSent m m
+sent_still m a j is = record { job = j; there = is; more = []; begins = sym (append-nil j.sent) }
+
+-- a step that was taken leaves them
+one_keeps : (m : Queue) (f : Fed) → Sound m → takes (step_of m f) ≡ true → KeepsSent m (left_by m (step_of m f))
+one_keeps m f h on =
+    let it = taken_step m (step_of m f) on in
+    step_keeps f.settings m (left_by m (step_of m f)) (decided_at m.clock f.post.request.moment) f.post.request.ask it.0 h it.1
+
+-- and so do all behind an earlier part
+keeps_sent : (m : Queue) (newer older : List Fed) → Sound m → AreTaken m (newer ++ older) → KeepsSent (queue_after m older) (queue_after m (newer ++ older))
+keeps_sent m [] older h are = sent_still (queue_after m older)
+keeps_sent m (f ∷ newer) older h (lawful, on, are) =
+    let here = queue_after m (newer ++ older) in
+    through (queue_after m older) here (left_by here (step_of here f)) (keeps_sent m newer older h are)
+    (one_keeps here f (sound_after m (newer ++ older) h are) on)
+
+-- ---- the place of a page
+
+-- a range begins with its first
+head_is : (p : ℕ) (rest : List ℕ) (a n : ℕ) → p ∷ rest ≡ range_with_len a n → p ≡ a
+head_is p rest a zero e = cc
+head_is p rest a (suc n) e = cc
+
+-- a page that is confirmed is the one after those that were sent
+first_left : (m n : Queue) (a p : ℕ) (c : ConfirmsPage m n a p) → Sound m → p ≡ length c.old.sent + 1
+first_left m n a p c h =
+    let old = h.held a c.grant c.open_grant in
+    let pages : HasPages c.old = subst HasPages (same_job m c.grant.job old.0 c.old old.1 c.was_there) old.2.counted.pages in
+    let split : c.old.sent ++ p ∷ c.rest ≡ pages_to c.old.totpages = ap (λ (ps : List ℕ). c.old.sent ++ ps) (sym c.left) ∙ pages in
+    let place = head_is p c.rest (1 + length c.old.sent) (c.old.totpages - length c.old.sent) (tail_is c.old.sent (p ∷ c.rest) 1 c.old.totpages split) in
+    omega (arith, place)
+
+-- no fewer pages are sent than were at first
+sent_before : (m : Queue) (a : ℕ) (pages : List ℕ) (j : Job) → HasSent m a pages → IsJob m a j → length pages ≤ length j.sent
+sent_before m a pages j x is =
+    let same : x.job.sent ≡ j.sent = ap (λ (k : Job). k.sent) (same_job m a x.job j x.there is) in
+    let long : length x.job.sent ≡ length pages + length x.more = ap length x.begins ∙ length-append pages x.more in
+    let all : length x.job.sent ≡ length j.sent = ap length same in
+    omega (arith, long, all)
+
+-- ---- behind a page that was confirmed
+
+module _ (m : Queue) (between earlier : List Fed) (e : Fed) (grant page : ℕ) (g : Grant) (h : Sound m) (are : AreTaken m (between ++ e ∷ earlier))
+    (asks : e.post.request.ask ≡ OnGrant grant (Page page)) (is : grant_numbered grant (queue_after m earlier) ≡ Some g) where
+  abbrev was : Queue
+  was = queue_after m earlier
+
+  abbrev then' : Queue
+  then' = queue_after m (e ∷ earlier)
+
+  abbrev now : Queue
+  now = queue_after m (between ++ e ∷ earlier)
+
+  -- the moment at which it was
+  abbrev t : ℕ
+  t = decided_at was.clock e.post.request.moment
+
+  -- the request that confirms the page was taken behind the earlier ones
+  its : AreTaken m (e ∷ earlier)
+  its = earlier_taken m between (e ∷ earlier) are
+
+  -- the queue before it was sound
+  sound : Sound was
+  sound = sound_after m earlier h its.2
+
+  -- its report was taken
+  report : (r : Reply) × (step e.settings was t (OnGrant grant (Page page)) ≡ Taken then' r)
+  report =
+      let it = taken_step was (step_of was e) its.1 in
+      (it.0, ap (step e.settings was t) (sym asks) ∙ it.1)
+
+  -- it confirmed its page
+  confirms : ConfirmsPage (aged t was) then' grant page
+  confirms = confirmed e.settings was then' t grant page report.0 report.1
+
+  -- the queue now is sound
+  sound_now : Sound now
+  sound_now = sound_after m (between ++ e ∷ earlier) h are
+
+  -- so whenever one looks now, as many pages of its job are sent
+  counted : (u : ℕ) (j : Job) → IsJob (aged u now) g.job j → page ≤ length j.sent
+  counted u j there =
+      let c = confirms in
+      let it : c.grant ≡ g = cc (c.open_grant.0, is) in
+      let kept : KeepsSent then' (aged u now) = through then' now (aged u now) (keeps_sent m between (e ∷ earlier) h are) (aged_keeps u now) in
+      let place = first_left (aged t was) then' grant page c (aged_sound t was sound) in
+      let long : length c.new.sent ≡ length c.old.sent + 1 = ap length c.sent_now ∙ length-append c.old.sent (page ∷ []) in
+      let same : IsJob (aged u now) c.grant.job j = subst (λ (x : Grant). IsJob (aged u now) x.job j) (sym it) there in
+      let more = sent_before (aged u now) c.grant.job c.new.sent j (kept c.grant.job c.new c.there) same in
+      omega (arith, place, long, more)
+
+  module _ (f : Fed) where
+    -- the moment at which it is decided now
+    abbrev u : ℕ
+    u = decided_at now.clock f.post.request.moment
+
+    -- a later grant of the job begins behind the page
+    pub granted_no_more : (modem : List ℕ) (n : Queue) (handed : Handed)
+        → f.post.request.ask ≡ Next modem → step_of now f ≡ Taken n (Given handed) → handed.job ≡ g.job → page < handed.from
+    granted_no_more modem n handed asked given same =
+        let next = step_gives f.settings now n u modem handed sound_now (ap (step f.settings now u) (sym asked) ∙ given) in
+        let more = counted u next.job (subst (λ (i : ℕ). IsJob (aged u now) i next.job) same next.was_there) in
+        omega (arith, more, next.first)
+
+    -- a later report of a page of the job is of one behind it
+    pub confirmed_no_more : (other more : ℕ) (n : Queue) (told : Reply) (i : Grant)
+        → f.post.request.ask ≡ OnGrant other (Page more) → step_of now f ≡ Taken n told → grant_numbered other now ≡ Some i → i.job ≡ g.job → page < more
+    confirmed_no_more other more n told i asked again at same =
+        let c = confirmed f.settings now n u other more told (ap (step f.settings now u) (sym asked) ∙ again) in
+        let it : c.grant ≡ i = cc (c.open_grant.0, at) in
+        let there : IsJob (aged u now) g.job c.old = subst (λ (x : ℕ). IsJob (aged u now) x c.old) (ap (λ (x : Grant). x.job) it ∙ same) c.was_there in
+        let least = counted u c.old there in
+        let place = first_left (aged u now) n other more c (aged_sound u now sound_now) in
+        omega (arith, least, place)
+
+pub runs_send_once : RunsSendOnce
+runs_send_once m fed h are newer between earlier e f grant page g split reports =
+    let its = earlier_taken m newer (f ∷ (between ++ e ∷ earlier)) (subst (AreTaken m) split are) in
+    record {
+      given = granted_no_more m between earlier e grant page g h its.2 reports.0 reports.1 f;
+      confirmed = confirmed_no_more m between earlier e grant page g h its.2 reports.0 reports.1 f;
+    }

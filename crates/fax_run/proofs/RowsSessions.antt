@@ -1,0 +1,109 @@
+-- Worked rows of sessions: a restart by another setup, and a session that was broken off. Of sessions and of what was heard the newest comes first.
+use Rattle.std.proofs.Common.{inl, inr, subst}
+use Rattle.std.specs.Prelude.{◌≡◌, ◌⊎◌, refl, ℕ, List, [], ◌∷◌, ◌++◌, false, map, codes, Some, None}
+use Rattle.std.specs.Str.{bytes_eq}
+use Rattle.fax_job.specs.declared.refusal.Refusal.TheVariants.{NoModem}
+use Rattle.fax_core.specs.declared.ask.Ask.TheVariants.{Next}
+use Rattle.fax_core.specs.Reply.{Given, Submitted}
+use Rattle.fax_core.specs.Settings.{Settings}
+use Rattle.fax_core.proofs.RowWords.{hand, settings, ttyS0, ttyS1}
+use Rattle.fax_run.proofs.RowsRuns.{accepted, desk, fax, lab, post, refused, start, submitted, worker}
+use Rattle.fax_run.specs.Reading.{IsReading, Reading}
+use Rattle.fax_run.specs.Run.{Start, end_after, end_of, taken}
+use Rattle.fax_run.specs.Sessions.{Follow, IsSession, LeavesOff, Session, session_of}
+use Rattle.fax_run.specs.declared.arrival.Arrival.{Arrival}
+
+-- ---- words
+
+-- a setup in which one modem is gone
+abbrev other : Settings
+other = record settings { has_modem = λ modem. bytes_eq modem ttyS1 }
+
+-- a worker of the lab asks for work
+abbrev asks : List ℕ → Reading
+asks modem = post lab 1 (codes "next") 2000 (Next modem)
+
+-- the desk says the same again, later
+abbrev again : Reading
+again = post desk 1 (codes "a fax") 9000 fax
+
+-- ---- a restart by another setup
+
+-- the desk submits a fax
+abbrev day : Start
+day = end_of settings start (submitted ∷ [])
+
+-- and behind the restart work is asked for at both modems
+abbrev night : Start
+night = end_of other day (asks ttyS1 ∷ asks ttyS0 ∷ [])
+
+-- the second session begins from what the first left, and answers by its own setup
+restart_row : (a b c : Arrival) → IsReading a submitted → IsReading b (asks ttyS0) → IsReading c (asks ttyS1)
+    → Follow start
+    (session_of other (b ∷ c ∷ []) (refused NoModem ∷ accepted (Given (hand 1 1 (codes "5550111") 1 2)) ∷ []) None
+    ∷ session_of settings (a ∷ []) (accepted (Submitted 1) ∷ []) None ∷ [])
+    night
+restart_row a b c says_fax says_old says_new = (
+  day,
+  (start, refl, record { heard = submitted ∷ []; answered = inr (submitted, says_fax, refl, refl); leaves = refl }),
+  record {
+    heard = asks ttyS1 ∷ asks ttyS0 ∷ [];
+    answered = inr (asks ttyS0, says_old, refl, inr (asks ttyS1, says_new, refl, refl));
+    leaves = refl;
+  },
+)
+
+-- what was taken of the second was fed under its own setup
+other_setup_row : map (λ f. f.settings.has_modem ttyS0) (taken other day (asks ttyS1 ∷ asks ttyS0 ∷ [])) ≡ false ∷ []
+other_setup_row = refl
+
+-- so one list leads where both sessions lead
+one_list_row : end_after start (taken other day (asks ttyS1 ∷ asks ttyS0 ∷ []) ++ taken settings start (submitted ∷ [])) ≡ night
+one_list_row = refl
+
+-- ---- a session that was broken off, with the fax under way
+
+abbrev pub broken : Arrival → Session
+broken a = session_of settings [] [] (Some a)
+
+-- it leaves the one or the other, and nothing else
+one_of_two_row : (a : Arrival) (left : Start) → IsSession start (broken a) left
+    → (left ≡ start) ⊎ ((r : Reading) × IsReading a r × (left ≡ end_of settings start (r ∷ [])))
+one_of_two_row a left session = subst (λ heard. LeavesOff settings start heard (Some a) left) session.answered session.leaves
+
+-- it was taken, and the same again gets its reply, by the other setup
+taken_row : (a b : Arrival) → IsReading a submitted → IsReading b again
+    → Follow start (session_of other (b ∷ []) (accepted (Submitted 1) ∷ []) None ∷ broken a ∷ []) (end_of other day (again ∷ []))
+taken_row a b says_fax says_again = (
+  day,
+  (start, refl, record { heard = []; answered = refl; leaves = inr (submitted, says_fax, refl) }),
+  record { heard = again ∷ []; answered = inr (again, says_again, refl, refl); leaves = refl },
+)
+
+-- so it is one job, of the time before
+taken_once_row : (end_of other day (again ∷ [])).queue.clock ≡ 1000
+taken_once_row = refl
+
+-- or it was lost, and the same again is decided anew
+lost_row : (a b : Arrival) → IsReading b again
+    → Follow start (session_of other (b ∷ []) (accepted (Submitted 1) ∷ []) None ∷ broken a ∷ []) (end_of other start (again ∷ []))
+lost_row a b says_again = (
+  start,
+  (start, refl, record { heard = []; answered = refl; leaves = inl refl }),
+  record { heard = again ∷ []; answered = inr (again, says_again, refl, refl); leaves = refl },
+)
+
+-- so it is one job, of the time afterwards
+lost_once_row : (end_of other start (again ∷ [])).queue.clock ≡ 9000
+lost_once_row = refl
+
+-- ---- the ends
+
+-- no session leaves where all began
+no_session_row : (first last : Start) → Follow first [] last → last ≡ first
+no_session_row first last follow = follow
+
+-- what was under way was heard behind what was answered
+under_way_row : (a b : Arrival) → IsReading a submitted → IsReading b worker
+    → IsSession start (session_of settings (a ∷ []) (accepted (Submitted 1) ∷ []) (Some b)) (end_of settings start (worker ∷ submitted ∷ []))
+under_way_row a b says_fax says_next = record { heard = submitted ∷ []; answered = inr (submitted, says_fax, refl, refl); leaves = inr (worker, says_next, refl) }

@@ -1,0 +1,9 @@
+pub mod Arrival
+pub mod Reading
+pub mod View
+pub mod Verdict
+pub mod Run
+pub mod Counts
+pub mod Laws
+pub mod Sessions
+pub mod Progress
