@@ -1,5 +1,5 @@
 -- Worked rows of what arrivals say.
-use Rattle.std.proofs.Common.{inl, inr, refl, List, ℕ, [], ◌∷◌, ◌++◌}
+use Rattle.std.proofs.Common.{◌≡◌, ◌∙◌, inl, inr, refl, ap, List, ℕ, [], ◌∷◌, ◌++◌}
 use Rattle.std.specs.Prelude.{codes}
 use Rattle.fax_job.specs.declared.refusal.BodyFault.{BodyFault}
 use Rattle.fax_job.specs.declared.refusal.Refusal.TheVariants.{BadBody, BadClient, BadNumber, NoRoute}
@@ -11,8 +11,12 @@ use Rattle.fax_ask.specs.declared.method.Method.TheVariants.{Get, Post}
 use Rattle.fax_ask.specs.declared.request.Request.TheVariants.{Submit}
 use Rattle.fax_ask.specs.declared.view.View.TheVariants.{Job}
 use Rattle.fax_core.specs.declared.ask.Ask.{Ask}
+use Rattle.fax_core.specs.Ledger.{Ledger}
+use Rattle.fax_core.specs.Queue.{Queue}
+use Rattle.fax_core.proofs.RowWords.{settings}
 use Rattle.fax_run.proofs.RowsRuns.{desk, post}
 use Rattle.fax_run.specs.Reading.{Faulty, IsReading, Sees}
+use Rattle.fax_run.specs.Verdict.{Verdict, IsVerdict, denied, verdict}
 use Rattle.fax_run.specs.declared.arrival.Arrival.{Arrival}
 
 -- an arrival with this method and path, from this client, under this number
@@ -28,6 +32,11 @@ comes a method path client number = record a {
 no_route_row : (a : Arrival) → IsReading (comes a Post (codes "/nothing") [] []) (Faulty NoRoute)
 unfolding request_of
 no_route_row a = refl
+
+-- so that is what it comes to, at any queue
+no_route_verdict_row : (a : Arrival) (m : Queue) (k : Ledger) (v : Verdict) → IsVerdict settings (comes a Post (codes "/nothing") [] []) m k v → v ≡ denied NoRoute
+unfolding request_of
+no_route_verdict_row a m k v (r, reads, is) = is ∙ ap (verdict settings m k) reads
 
 -- then the client, and then the number
 no_client_row : (a : Arrival) → IsReading (comes a Post (codes "/jobs") [] []) (Faulty BadClient)

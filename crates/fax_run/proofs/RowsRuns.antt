@@ -250,6 +250,13 @@ unheard_row s from a = inl (refl, refl)
 unanswered_row : (s : Settings) (from : Start) (a : Arrival) → ¬ IsRun s from [] (a ∷ []) [] []
 unanswered_row s from a run = run
 
+-- of no arrivals nothing is heard, and none is answered
+nothing_heard_row : (s : Settings) (from : Start) (heard : List Reading) → IsRun s from [] [] [] heard → heard ≡ []
+nothing_heard_row s from heard run = run
+
+nothing_answered_row : (s : Settings) (from : Start) (heard : List Reading) (reply : Response) → ¬ IsRun s from [] [] (reply ∷ []) heard
+nothing_answered_row s from heard reply run = run
+
 -- each other one is heard as what it says, and answered by what was heard before it
 heard_row : (a b c : Arrival) → IsReading a submitted → IsReading c worker
     → IsRun settings start [] (a ∷ b ∷ c ∷ []) (accepted (Submitted 1) ∷ refused Unavailable ∷ accepted (Given (hand 1 1 (codes "5550111") 1 2)) ∷ []) (worker ∷ submitted ∷ [])
