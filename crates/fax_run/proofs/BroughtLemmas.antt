@@ -31,12 +31,7 @@ is_import other = false
 -- what is none brings no counters
 pub none_came : (ask : Ask) → is_import ask ≡ false → came_in ask ≡ no_counters
 none_came (Bring i) e = absurd cc
-none_came (Submission o) e = refl
-none_came (OnJob a ask) e = refl
-none_came (Mark modem down) e = refl
-none_came (Next modem) e = refl
-none_came (OnGrant a report) e = refl
-none_came (GiveUp upto) e = refl
+none_came other e = refl
 
 -- the reply brings no job in
 abbrev BringsNone : Reply → Type 0
@@ -70,8 +65,7 @@ given_brings s m n t modem r (Best_to j best none same told) x = ap (λ (q : Rep
 -- nor the reply to a report
 reply_brings : (s : Settings) (t : ℕ) (x : Report) (q : Queue) (b : JobAndGrant) → BringsNone (report_reply s t x q b)
 reply_brings s t (report.Call c) q b i = refl
-reply_brings s t (report.Page p) q b i = refl
-reply_brings s t (report.Outcome o) q b i = refl
+reply_brings s t other q b i = refl
 
 -- so no report does
 report_brings : (s : Settings) (m n : Queue) (t : ℕ) (x : Report) (o : Option Grant) (r : Reply) → on_grant s m t x o ≡ Taken n r → BringsNone r
@@ -108,9 +102,4 @@ import_numbers s m n t rule (Err y) r e = cc
 -- the same of a step, which ages the jobs first
 pub step_numbers : (s : Settings) (m n : Queue) (t : ℕ) (ask : Ask) (r : Reply) → is_import ask ≡ true → step s m t ask ≡ Taken n r → m.next_job < n.next_job
 step_numbers s m n t (Bring i) r on e = import_numbers s (aged t m) n t (s.rule i.order.dial) (bring i (s.rule i.order.dial) m.next_job s.max_jobs t) r e
-step_numbers s m n t (Submission o) r on e = absurd cc
-step_numbers s m n t (OnJob a ask) r on e = absurd cc
-step_numbers s m n t (Mark modem down) r on e = absurd cc
-step_numbers s m n t (Next modem) r on e = absurd cc
-step_numbers s m n t (OnGrant a report) r on e = absurd cc
-step_numbers s m n t (GiveUp upto) r on e = absurd cc
+step_numbers s m n t other r on e = absurd cc

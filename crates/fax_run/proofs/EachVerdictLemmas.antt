@@ -91,17 +91,9 @@ each_verdict a each s m k = let one = for_route a each (request_of a.method a.pa
 -- no request may be refused for want of the store
 never_met : (ask : Ask) → may_meet ask Unavailable ≡ true → ⊥
 never_met (machine.Submission order) met = absurd cc
-never_met (machine.Bring i) met = absurd cc
 never_met (machine.OnJob job ask.Suspend) met = absurd cc
-never_met (machine.OnJob job ask.Resume) met = absurd cc
-never_met (machine.OnJob job ask.Kill) met = absurd cc
-never_met (machine.OnJob job (ask.Alter changes)) met = absurd cc
-never_met (machine.Mark modem down) met = absurd cc
-never_met (machine.Next modem) met = absurd cc
 never_met (machine.OnGrant grant (report.Call c)) met = absurd cc
-never_met (machine.OnGrant grant (report.Page page)) met = absurd cc
-never_met (machine.OnGrant grant (report.Outcome o)) met = absurd cc
-never_met (machine.GiveUp upto) met = absurd cc
+never_met other met = absurd cc
 
 -- the reply's status isn't 503
 IsOther : Verdict → Type 0

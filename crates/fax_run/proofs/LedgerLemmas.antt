@@ -23,12 +23,7 @@ pub record GivesNone (ask : Ask) : Type 0 where
 -- a request gives up replies, or none
 pub gives : (ask : Ask) → ((upto : ℕ) × (ask ≡ GiveUp upto)) ⊎ GivesNone ask
 gives (GiveUp upto) = inl (upto, refl)
-gives (Submission o) = inr (record { kept = λ c k. refl; raised = λ f. refl; low = λ n. refl; floors = λ c f. refl })
-gives (Bring i) = inr (record { kept = λ c k. refl; raised = λ f. refl; low = λ n. refl; floors = λ c f. refl })
-gives (OnJob a ask) = inr (record { kept = λ c k. refl; raised = λ f. refl; low = λ n. refl; floors = λ c f. refl })
-gives (Mark modem down) = inr (record { kept = λ c k. refl; raised = λ f. refl; low = λ n. refl; floors = λ c f. refl })
-gives (Next modem) = inr (record { kept = λ c k. refl; raised = λ f. refl; low = λ n. refl; floors = λ c f. refl })
-gives (OnGrant a report) = inr (record { kept = λ c k. refl; raised = λ f. refl; low = λ n. refl; floors = λ c f. refl })
+gives other = inr (record { kept = λ c k. refl; raised = λ f. refl; low = λ n. refl; floors = λ c f. refl })
 
 -- ---- the greater of two
 

@@ -236,8 +236,7 @@ on_grant_told s m n t x (Some g) r e = on_both_told s m n t x g (job_numbered g.
 -- no report is told a grant
 tells_none : (s : Settings) (t : ℕ) (x : Report) (q : Queue) (b : JobAndGrant) (a i : ℕ) → hands (report_reply s t x q b) a i ≡ false
 tells_none s t (report.Call c) q b a i = refl
-tells_none s t (report.Page p) q b a i = refl
-tells_none s t (report.Outcome o) q b a i = refl
+tells_none s t other q b a i = refl
 
 -- a report on a grant moves the job's counters by what was reported
 on_grant_moves : (s : Settings) (m n : Queue) (t b : ℕ) (x : Report) (r : Reply) → machine.on_grant s m t x (grant_numbered b m) ≡ Taken n r → Moved m n (OnGrant b x) r

@@ -24,22 +24,12 @@ use Rattle.fax_run.specs.Run.{Fed, queue_after, step_of, takes}
 -- what is reported is the same for grants that are told apart the same
 reported_same : (f g : ℕ → Bool) → ((a : ℕ) → f a ≡ g a) → (ask : Ask) → reported f ask ≡ reported g ask
 reported_same f g same (OnGrant a report) = ap (λ b. if b then report ∷ [] else []) (same a)
-reported_same f g same (Submission o) = refl
-reported_same f g same (Bring i) = refl
-reported_same f g same (OnJob a ask) = refl
-reported_same f g same (Mark modem down) = refl
-reported_same f g same (Next modem) = refl
-reported_same f g same (GiveUp upto) = refl
+reported_same f g same other = refl
 
 -- where no grant is its, nothing is reported
 reported_none : (ask : Ask) → reported (λ a. false) ask ≡ []
 reported_none (OnGrant a report) = refl
-reported_none (Submission o) = refl
-reported_none (Bring i) = refl
-reported_none (OnJob a ask) = refl
-reported_none (Mark modem down) = refl
-reported_none (Next modem) = refl
-reported_none (GiveUp upto) = refl
+reported_none other = refl
 
 -- ---- what holds after each request
 
