@@ -46,13 +46,7 @@ seen Floor body what is = absurd (let e = is.2 in cc)
 -- where the body asks for a step, the request asks for no view
 unseen : (r : Request) (body : List ℕ) (ask : Ask) → Asks r body (Step ask) → seen_by r ≡ None
 unseen (Show n) body ask is = absurd cc
-unseen Submit body ask is = refl
-unseen Import body ask is = refl
-unseen (OnJob n action) body ask is = refl
-unseen (Mark n down) body ask is = refl
-unseen (Next n) body ask is = refl
-unseen (OnGrant n kind) body ask is = refl
-unseen Floor body ask is = refl
+unseen other body ask is = refl
 
 -- ---- readings
 
@@ -146,13 +140,7 @@ told_answers (Err e) s a m k store is rests = rests
 -- what is shown has no fault
 unseen_fault : (r : Request) (body : List ℕ) (fault : BodyFault) → IsBodyRefusal r body (BadBody fault) → seen_by r ≡ None
 unseen_fault (Show n) body fault is = absurd is
-unseen_fault Submit body fault is = refl
-unseen_fault Import body fault is = refl
-unseen_fault (OnJob n action) body fault is = refl
-unseen_fault (Mark n down) body fault is = refl
-unseen_fault (Next n) body fault is = refl
-unseen_fault (OnGrant n kind) body fault is = refl
-unseen_fault Floor body fault is = refl
+unseen_fault other body fault is = refl
 
 -- the client and the number come before the body
 pub body_told : (s : Settings) (a : Arrival) (m : Queue) (k : Ledger) (fault : BodyFault) (reply : Response) → IsRefused a.method a.path.now a.body.now (BadBody fault)

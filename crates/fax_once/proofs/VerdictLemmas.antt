@@ -202,11 +202,7 @@ accepted_leaves (Err e) s a m k sender t ask effect given reply old new gives_so
 pub lawful_ask : (ask : Ask) → IsLawfulStep ask → IsLawfulAsk ask
 lawful_ask (machine.Submission order) is = is
 lawful_ask (machine.Bring i) is = is
-lawful_ask (machine.OnJob job ask) is = _
-lawful_ask (machine.Mark modem down) is = _
-lawful_ask (machine.Next modem) is = _
-lawful_ask (machine.OnGrant grant report) is = _
-lawful_ask (machine.GiveUp upto) is = _
+lawful_ask other is = _
 
 -- ---- what has no reply yet
 

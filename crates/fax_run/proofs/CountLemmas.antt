@@ -183,12 +183,12 @@ pub record Reported (j : Job) (g : Grant) (b : JobAndGrant) (r : Report) : Type 
 -- a call counts once in the job's counters
 after_call_counted : (c : Call) (j : Job) → counters_of (after_call c j) ≡ counted (report.Call c) (counters_of j)
 after_call_counted Connected j = refl
-after_call_counted other j = refl
+after_call_counted _ j = refl
 
 -- a call leaves the job's number
 after_call_number : (c : Call) (j : Job) → (after_call c j).number ≡ j.number
 after_call_number Connected j = refl
-after_call_number other j = refl
+after_call_number _ j = refl
 
 -- a call that is reported counts once, and leaves number, grant and job
 called_counted : (c : Call) (j : Job) (g : Grant) (b : JobAndGrant) → call c j g ≡ Ok b → Reported j g b (report.Call c)
