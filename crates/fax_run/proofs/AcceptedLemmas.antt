@@ -128,11 +128,8 @@ module _ (a : Arrival) (p : Post) where
 -- what is given up is the same, whether the request is raised to the floor before or not
 given_as : (client : List ℕ) (ask : Ask) (k : Ledger) → without_given client (raised_ask (k.floor client) ask) k ≡ without_given client ask k
 given_as client ask k = elim (gives ask) [
-  | inl it ↦
-      ap (λ a. without_given client (raised_ask (k.floor client) a) k) it.1
-      ∙ ap (λ floor. with_floor client floor k) (greater_twice (k.floor client) it.0)
-      ∙ ap (λ a. without_given client a k) (sym it.1)
-  | inr other ↦ ap (λ a. without_given client a k) (other.raised (k.floor client))
+  | inl it ↦ rw (it.1, greater_twice) refl
+  | inr other ↦ rw (other.raised (k.floor client)) refl
 ]
 
 pub accepted_once : AcceptedOnce

@@ -52,51 +52,17 @@ more n brought = omega arith
 nothing : (n : ℕ) → 0 + n ≡ n
 nothing n = omega arith
 
-abbrev made : (totdials tottries ndials npages ntries : ℕ) → Counters
-made totdials tottries ndials npages ntries = record { totdials = totdials; tottries = tottries; ndials = ndials; npages = npages; ntries = ntries }
-
 module _ (b : Counters) where
-  -- how many dials and tries were reported since the last that came further, and what of those that came in still counts
-  abbrev dials : List Report → ℕ
-  dials rs = number_of is_call (since is_connected rs)
-
-  abbrev tries : List Report → ℕ
-  tries rs = number_of is_connected (since is_page rs)
-
-  abbrev old_dials : List Report → ℕ
-  old_dials rs = unless_any is_connected rs b.ndials
-
-  abbrev old_tries : List Report → ℕ
-  old_tries rs = unless_any is_page rs b.ntries
-
-  -- a call without a connection is one more dial
-  unconnected : (c : Call) (rs : List Report) → is_connected (report.Call c) ≡ false
-      → counts b (report.Call c ∷ rs) ≡ record (counts b rs) { totdials = (counts b rs).totdials + 1; ndials = (counts b rs).ndials + 1 }
-  unconnected c rs other = rw other (
-      ap (λ n. record (counts b rs) { totdials = n; ndials = suc (dials rs) + old_dials rs }) (more (number_of is_call rs) b.totdials)
-      ∙ ap (λ n. record (counts b rs) { totdials = (counts b rs).totdials + 1; ndials = n }) (more (dials rs) (old_dials rs)))
-
   -- one more report counts on
   pub counts_more : (r : Report) (rs : List Report) → counts b (r ∷ rs) ≡ counted r (counts b rs)
-  counts_more (report.Call Connected) rs =
-      ap (λ n. record (counts b rs) { totdials = n; tottries = suc (number_of is_connected rs) + b.tottries; ndials = 0; ntries = suc (tries rs) + old_tries rs }) (more (number_of is_call rs) b.totdials)
-      ∙ ap (λ n. record (counts b rs) { totdials = (counts b rs).totdials + 1; tottries = n; ndials = 0; ntries = suc (tries rs) + old_tries rs }) (more (number_of is_connected rs) b.tottries)
-      ∙ ap (λ n. record (counts b rs) { totdials = (counts b rs).totdials + 1; tottries = (counts b rs).tottries + 1; ndials = 0; ntries = n }) (more (tries rs) (old_tries rs))
-  counts_more (report.Call Busy) rs = unconnected Busy rs refl
-  counts_more (report.Call NoAnswer) rs = unconnected NoAnswer rs refl
-  counts_more (report.Call NoCarrier) rs = unconnected NoCarrier rs refl
-  counts_more (report.Call Other) rs = unconnected Other rs refl
+  counts_more (report.Call Connected) rs = simp more
+  counts_more (report.Call _) rs = simp more
   counts_more (report.Outcome o) rs = refl
-  counts_more (report.Page p) rs = ap (λ n. record (counts b rs) { npages = n; ntries = 0 }) (more (number_of is_page rs) b.npages)
+  counts_more (report.Page p) rs = simp more
 
   -- where nothing is reported there is what came in
   pub counts_none : counts b [] ≡ b
-  counts_none =
-      ap (λ n. made n (0 + b.tottries) (0 + b.ndials) (0 + b.npages) (0 + b.ntries)) (nothing b.totdials)
-      ∙ ap (λ n. made b.totdials n (0 + b.ndials) (0 + b.npages) (0 + b.ntries)) (nothing b.tottries)
-      ∙ ap (λ n. made b.totdials b.tottries n (0 + b.npages) (0 + b.ntries)) (nothing b.ndials)
-      ∙ ap (λ n. made b.totdials b.tottries b.ndials n (0 + b.ntries)) (nothing b.npages)
-      ∙ ap (λ n. made b.totdials b.tottries b.ndials b.npages n) (nothing b.ntries)
+  counts_none = simp nothing
 
   -- more reports count on in turn
   pub counts_all : (front rs : List Report) → counts b (front ++ rs) ≡ counted_all front (counts b rs)

@@ -79,22 +79,20 @@ are_taken start (f ∷ earlier) (lawful, on, are) = (
 -- ---- one more arrival
 
 -- a run goes on by an arrival that is answered 27, which isn't heard
-unheard_more : (s : Settings) (start : Start) (past : List Reading) (arrivals : List Arrival) (replies : List Response) (heard : List Reading) (a : Arrival) (reply : Response)
+pub unheard_more : (s : Settings) (start : Start) (past : List Reading) (arrivals : List Arrival) (replies : List Response) (heard : List Reading) (a : Arrival) (reply : Response)
     → IsRun s start past arrivals replies heard → reply ≡ refused_response Unavailable NoKeys → IsRun s start past (arrivals ++ a ∷ []) (replies ++ reply ∷ []) heard
 unheard_more s start past [] [] heard a reply is gone = inl (gone, is)
-unheard_more s start past [] (q ∷ replies) heard a reply is gone = absurd is
-unheard_more s start past (b ∷ arrivals) [] heard a reply is gone = absurd is
 unheard_more s start past (b ∷ arrivals) (q ∷ replies) heard a reply (inl (lost, is)) gone = inl (lost, unheard_more s start past arrivals replies heard a reply is gone)
 unheard_more s start past (b ∷ arrivals) (q ∷ replies) heard a reply (inr (r, reads, told, is)) gone = inr (r, reads, told, unheard_more s start (r ∷ past) arrivals replies heard a reply is gone)
+unheard_more s start past arrivals replies heard a reply is gone = absurd is
 
 -- a run goes on by one that is answered as what it reads as, which is heard
-heard_more : (s : Settings) (start : Start) (past : List Reading) (arrivals : List Arrival) (replies : List Response) (heard : List Reading) (a : Arrival) (reply : Response) (r : Reading)
+pub heard_more : (s : Settings) (start : Start) (past : List Reading) (arrivals : List Arrival) (replies : List Response) (heard : List Reading) (a : Arrival) (reply : Response) (r : Reading)
     → IsRun s start past arrivals replies heard → IsReading a r → reply ≡ reply_at s start heard r → IsRun s start past (arrivals ++ a ∷ []) (replies ++ reply ∷ []) (r ∷ heard)
 heard_more s start past [] [] heard a reply r is reads told = inr (r, reads, told ∙ ap (λ (before : List Reading). reply_at s start before r) is, ap (λ (before : List Reading). r ∷ before) is)
-heard_more s start past [] (q ∷ replies) heard a reply r is reads told = absurd is
-heard_more s start past (b ∷ arrivals) [] heard a reply r is reads told = absurd is
 heard_more s start past (b ∷ arrivals) (q ∷ replies) heard a reply r (inl (lost, is)) reads told = inl (lost, heard_more s start past arrivals replies heard a reply r is reads told)
 heard_more s start past (b ∷ arrivals) (q ∷ replies) heard a reply r (inr (x, others, said, is)) reads told = inr (x, others, said, heard_more s start (x ∷ past) arrivals replies heard a reply r is reads told)
+heard_more s start past arrivals replies heard a reply r is reads told = absurd is
 
 -- ---- what holds of it
 

@@ -135,12 +135,6 @@ module _ (client : List ℕ) (ask : Ask) (k : Ledger) (c : List ℕ) (n : ℕ) w
 -- the floor as it is asked for is the floor as it is raised
 pub floors_same : (client : List ℕ) (ask : Ask) (k : Ledger) → (without_given client (raised_ask (k.floor client) ask) k).floor ≡ floors_by client ask k.floor
 floors_same client ask k = elim (gives ask) [
-  | inl it ↦
-      ap (λ a. (without_given client (raised_ask (k.floor client) a) k).floor) it.1
-      ∙ ap (λ g. floors_with client g k.floor) (greater_twice (k.floor client) it.0)
-      ∙ ap (λ a. floors_by client a k.floor) (sym it.1)
-  | inr other ↦
-      ap (λ a. (without_given client a k).floor) (other.raised (k.floor client))
-      ∙ ap (λ (l : Ledger). l.floor) (other.kept client k)
-      ∙ sym (other.floors client k.floor)
+  | inl it ↦ rw (it.1, greater_twice) refl
+  | inr other ↦ rw (other.raised (k.floor client), other.kept client k, other.floors client k.floor) refl
 ]

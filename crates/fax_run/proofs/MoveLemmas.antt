@@ -91,10 +91,26 @@ jobs_same : (m n : Queue) (ask : Ask) → n.jobs ≡ m.jobs → ((x : ℕ) → f
 jobs_same m n ask same none x y found =
     Was y (subst (λ (js : List Job). find (λ (z : Job). eqb z.number x) js ≡ Some y) same found) (ap (λ (rs : List Report). counted_all rs (counters_of y)) (sym (none x)))
 
--- ---- requests on a job
+-- what moves to the queue that the step made moves to the one that it took
+moved_as : (m q n : Queue) (ask : Ask) (told r : Reply) → Taken q told ≡ Taken n r → Moved m q ask told → Moved m n ask r
+moved_as m q n ask told r e moved =
+    let same = taken_same q n told r e in
+    subst (λ x. Moved m n ask x) same.1 (subst (λ x. Moved m x ask told) same.0 moved)
 
-or_none : (b : Bool) → b ≡ (false || b)
-or_none b = refl
+-- a queue with one job more, which has the next number and what came in
+new_moves : (m : Queue) (ask : Ask) (k : Job) (r : Reply) → ((x : ℕ) → fresh m ask x ≡ []) → ((a x : ℕ) → hands r a x ≡ false)
+    → k.number ≡ m.next_job → counters_of k ≡ came_in ask → Moved m (with_new_job k m) ask r
+new_moves m ask k r none gives_none number came = record {
+  jobs = λ x y found. elim (either (λ (z : Job). eqb z.number x) m.jobs k y found) [
+    | inl old ↦ Was y old (rw (none x) refl)
+    | inr (here, same) ↦ Is_new (sym (eqb-true k.number x here) ∙ number) (ap counters_of (sym same) ∙ came)
+  ];
+  numbers = omega arith;
+  grants = λ a x. rw (gives_none a x) refl;
+  given = λ a x on. absurd (let no = sym (gives_none a x) ∙ on in cc);
+}
+
+-- ---- requests on a job
 
 -- a change of a job with the same number and counters moves none
 changed_moves : (s : Settings) (m n : Queue) (t : ℕ) (ask : Ask) (b : ℕ) (j : Job) (d : Result Job Refusal) (r : Reply) → IsJob m b j → ((x : ℕ) → fresh m ask x ≡ [])
@@ -102,13 +118,12 @@ changed_moves : (s : Settings) (m n : Queue) (t : ℕ) (ask : Ask) (b : ℕ) (j 
 changed_moves s m n t ask b j (Ok k) r is none keeps e =
     let f = keeps k refl in
     let at : (x : ℕ) → x ≡ b → counters_of k ≡ counted_all (fresh m ask x) (counters_of j) = λ x q. f.0 ∙ ap (λ (rs : List Report). counted_all rs (counters_of j)) (sym (none x)) in
-    subst (λ (q : Reply). Moved m n ask q) (taken_same (with_job k m) n _ r e).1
-    (subst (λ (q : Queue). Moved m q ask (Stands k.number (Rattle.fax_core.specs.State.state s (with_job k m) t k))) (taken_same (with_job k m) n _ r e).0 (record {
+    moved_as m (with_job k m) n ask _ r e (record {
       jobs = jobs_placed m ask b j k is (f.1 ∙ numbered_job m b j is) at (λ x q. none x);
       numbers = omega arith;
       grants = λ a x. refl;
       given = λ a x no. absurd cc;
-    }))
+    })
 changed_moves s m n t ask b j (Err x) r is none keeps e = cc
 
 -- so no request on a job moves any
@@ -122,34 +137,15 @@ on_job_moves s m n t b a (Some j) r is e = changed_moves s m n t (OnJob b a) b j
 submission_moves : (m n : Queue) (o : Order) (rule : Rule) (most t : ℕ) (d : Result Job Refusal) (r : Reply) → submit o rule m.next_job most t ≡ d → submitted m rule d ≡ Taken n r → Moved m n (Submission o) r
 submission_moves m n o rule most t (Ok k) r is e =
     let f = submitted_none o rule m.next_job most t k is in
-    subst (λ (q : Reply). Moved m n (Submission o) q) (taken_same (with_new_job k m) n _ r e).1
-    (subst (λ (q : Queue). Moved m q (Submission o) (Submitted k.number)) (taken_same (with_new_job k m) n _ r e).0 (record {
-      jobs = λ x y found. by x y (either (λ (z : Job). eqb z.number x) m.jobs k y found) f;
-      numbers = omega arith;
-      grants = λ a x. refl;
-      given = λ a x no. absurd cc;
-    }))
-  where
-    by : (x : ℕ) (y : Job) → (job_numbered x m ≡ Some y) ⊎ ((eqb k.number x ≡ true) × (k ≡ y)) → (k.number ≡ m.next_job) × (counters_of k ≡ no_counters) → Became m (Submission o) x y
-    by x y (inl old) f = Was y old refl
-    by x y (inr (here, same)) f = Is_new (sym (eqb-true k.number x here) ∙ f.0) (ap counters_of (sym same) ∙ f.1)
+    moved_as m (with_new_job k m) n (Submission o) _ r e (new_moves m (Submission o) k (Submitted k.number) (λ x. refl) (λ a x. refl) f.0 f.1)
 submission_moves m n o rule most t (Err x) r is e = cc
 
 -- an import adds a job with the next number and the counters that came in
 import_moves : (s : Settings) (m n : Queue) (i : Import) (rule : Rule) (most t : ℕ) (d : Result Job Refusal) (r : Reply) → bring i rule m.next_job most t ≡ d → brought_in s m t rule d ≡ Taken n r → Moved m n (Bring i) r
 import_moves s m n i rule most t (Ok k) r is e =
     let f = brought_counters i rule m.next_job most t k is in
-    subst (λ (q : Reply). Moved m n (Bring i) q) (taken_same (with_new_job k m) n _ r e).1
-    (subst (λ (q : Queue). Moved m q (Bring i) (Brought k.number (state s (with_new_job k m) t k))) (taken_same (with_new_job k m) n _ r e).0 (record {
-      jobs = λ x y found. by x y (either (λ (z : Job). eqb z.number x) m.jobs k y found) f;
-      numbers = omega arith;
-      grants = λ a x. refl;
-      given = λ a x no. absurd cc;
-    }))
-  where
-    by : (x : ℕ) (y : Job) → (job_numbered x m ≡ Some y) ⊎ ((eqb k.number x ≡ true) × (k ≡ y)) → (k.number ≡ m.next_job) × (counters_of k ≡ came_in (Bring i)) → Became m (Bring i) x y
-    by x y (inl old) f = Was y old refl
-    by x y (inr (here, same)) f = Is_new (sym (eqb-true k.number x here) ∙ f.0) (ap counters_of (sym same) ∙ f.1)
+    moved_as m (with_new_job k m) n (Bring i) _ r e
+    (new_moves m (Bring i) k (Brought k.number (state s (with_new_job k m) t k)) (λ x. refl) (λ a x. refl) f.0 f.1)
 import_moves s m n i rule most t (Err x) r is e = cc
 
 -- a mark leaves the jobs, the grants and the next number
@@ -161,13 +157,12 @@ mark_same m modem false = (refl, refl, refl)
 mark_moves : (m n : Queue) (ask : Ask) (modem : List ℕ) (down b : Bool) (r : Reply) → ((x : ℕ) → fresh m ask x ≡ []) → cond b (Taken (with_mark modem down m) (Marked down)) (Refused refusal.NoModem NoKeys) ≡ Taken n r → Moved m n ask r
 mark_moves m n ask modem down true r none e =
     let same = mark_same m modem down in
-    subst (λ (q : Reply). Moved m n ask q) (taken_same (with_mark modem down m) n _ r e).1
-    (subst (λ (q : Queue). Moved m q ask (Marked down)) (taken_same (with_mark modem down m) n _ r e).0 (record {
+    moved_as m (with_mark modem down m) n ask _ r e (record {
       jobs = jobs_same m (with_mark modem down m) ask same.0 none;
       numbers = omega (arith, same.2);
       grants = λ a x. ap (λ (gs : List Grant). has_job x (find (λ (g : Grant). eqb g.number a) gs)) same.1;
       given = λ a x no. absurd cc;
-    }))
+    })
 mark_moves m n ask modem down false r none e = cc
 
 -- ---- reports
@@ -301,8 +296,7 @@ act_moves s m n t (Mark modem down) r h e = mark_moves m n (Mark modem down) mod
 act_moves s m n t (Next modem) r h e = given_moves s m n t modem r h (given_is s m t modem n r h e)
 act_moves s m n t (OnGrant a report) r h e = on_grant_moves s m n t a report r e
 act_moves s m n t (GiveUp upto) r h e =
-    subst (λ (q : Reply). Moved m n (GiveUp upto) q) (taken_same m n _ r e).1
-    (subst (λ (q : Queue). Moved m q (GiveUp upto) (Floored upto)) (taken_same m n _ r e).0 (record { jobs = λ x y found. Was y found refl; numbers = omega arith; grants = λ a x. refl; given = λ a x no. absurd cc }))
+    moved_as m m n (GiveUp upto) _ r e (record { jobs = λ x y found. Was y found refl; numbers = omega arith; grants = λ a x. refl; given = λ a x no. absurd cc })
 
 -- ageing moves no counter
 pub step_moves : (s : Settings) (m n : Queue) (t : ℕ) (ask : Ask) (r : Reply) → Sound m → step s m t ask ≡ Taken n r → Moved m n ask r

@@ -222,11 +222,7 @@ module _ (start : Start) (earlier : List Fed) (f : Fed) (at : is_taken start ear
 
   -- it was answered by its step
   pub its_reply : reply_of (verdict f.settings m kept (Posts p)) ≡ reply
-  its_reply =
-      ap (λ b. reply_of (if b then asked_above f.settings m kept (kept.floor p.client) p else denied GivenUp)) above
-      ∙ ap (λ o. reply_of (taken_once o p.said (new_asked f.settings m kept (kept.floor p.client) p))) unused
-      ∙ ap (λ b. reply_of (if b then denied FloorHigh else decided_new f.settings m kept it)) not_high
-      ∙ told it kept (decided f.settings m it.request)
+  its_reply = rw (above, unused, not_high) (told it kept (decided f.settings m it.request))
 
   -- as long as the number is above the floor, the entry is found
   pub found_after : (more : List Fed) → let k = kept_after start (more ++ f ∷ earlier) in

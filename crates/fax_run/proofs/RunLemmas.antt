@@ -99,8 +99,8 @@ ends_after start (f ∷ newer) older = ap (λ (here : Start). fed_to here f) (en
 -- a request whose floor is raised is taken as it was, and leaves the same queue
 pub raised_step : (s : Settings) (m : Queue) (t floor : ℕ) (ask : Ask) → (left_by m (step s m t (raised_ask floor ask)) ≡ left_by m (step s m t ask)) × (takes (step s m t (raised_ask floor ask)) ≡ takes (step s m t ask))
 raised_step s m t floor ask = elim (gives ask) [
-  | inl it ↦ (ap (λ a. left_by m (step s m t (raised_ask floor a))) it.1 ∙ ap (λ a. left_by m (step s m t a)) (sym it.1), ap (λ a. takes (step s m t (raised_ask floor a))) it.1 ∙ ap (λ a. takes (step s m t a)) (sym it.1))
-  | inr other ↦ (ap (λ a. left_by m (step s m t a)) (other.raised floor), ap (λ a. takes (step s m t a)) (other.raised floor))
+  | inl it ↦ rw it.1 (refl, refl)
+  | inr other ↦ rw (other.raised floor) (refl, refl)
 ]
 
 -- ---- one more arrival

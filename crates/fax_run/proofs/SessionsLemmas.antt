@@ -67,10 +67,9 @@ module _ (first : Start) (all fed : List Fed) (on : GoesOn all fed) where
       → AllZip (λ a reply. (reply ≡ refused_response Unavailable NoKeys) ⊎ IsToldBy first fed s a reply) arrivals replies
       → AllZip (λ a reply. (reply ≡ refused_response Unavailable NoKeys) ⊎ IsToldBy first all s a reply) arrivals replies
   all_told_on s [] [] each = tt
-  all_told_on s [] (reply ∷ replies) each = each
-  all_told_on s (a ∷ arrivals) [] each = each
   all_told_on s (a ∷ arrivals) (reply ∷ replies) (inl lost, each) = (inl lost, all_told_on s arrivals replies each)
   all_told_on s (a ∷ arrivals) (reply ∷ replies) (inr by, each) = (inr (told_on s a reply by), all_told_on s arrivals replies each)
+  all_told_on s arrivals replies each = each
 
   -- and of all sessions
   sessions_on : (sessions : List Session) → AllByRecursion (IsAnsweredBy first fed) sessions → AllByRecursion (IsAnsweredBy first all) sessions
@@ -231,11 +230,10 @@ module _ (first : Start) (before : List Fed) (x : Session) where
   accepted_on : (past : List Reading) (arrivals : List Arrival) (replies : List Response) (heard : List Reading)
       → IsRun s from past arrivals replies heard → AreAccepted first (on past) → AreAccepted first (on heard)
   accepted_on past [] [] heard run are = subst (λ rs. AreAccepted first (on rs)) (sym run) are
-  accepted_on past [] (reply ∷ replies) heard run are = absurd run
-  accepted_on past (a ∷ arrivals) [] heard run are = absurd run
   accepted_on past (a ∷ arrivals) (reply ∷ replies) heard (inl (lost, run)) are = accepted_on past arrivals replies heard run are
   accepted_on past (a ∷ arrivals) (reply ∷ replies) heard (inr (r, reads, is, run)) are =
       accepted_on (r ∷ past) arrivals replies heard run (accepted_more s first (on past) r (lawful_reading a r reads) are)
+  accepted_on past arrivals replies heard run are = absurd run
 
   -- one more arrival adds what it posts, if that is taken
   one_adds : (a : Arrival) (past : List Reading) (r : Reading) → Has (all_of x.arrivals x.under_way) a → IsReading a r → Adds x (on (r ∷ past)) (on past)
@@ -251,12 +249,11 @@ module _ (first : Start) (before : List Fed) (x : Session) where
   run_adds : (past : List Reading) (arrivals : List Arrival) (replies : List Response) (heard : List Reading)
       → IsRun s from past arrivals replies heard → ((a : Arrival) → Has arrivals a → Has (all_of x.arrivals x.under_way) a) → Adds x (on heard) (on past)
   run_adds past [] [] heard run came = ([], ap on run, tt)
-  run_adds past [] (reply ∷ replies) heard run came = absurd run
-  run_adds past (a ∷ arrivals) [] heard run came = absurd run
   run_adds past (a ∷ arrivals) (reply ∷ replies) heard (inl (lost, run)) came = run_adds past arrivals replies heard run (λ b has. came b (inr has))
   run_adds past (a ∷ arrivals) (reply ∷ replies) heard (inr (r, reads, is, run)) came =
       adds_on x (on heard) (on (r ∷ past)) (on past) (run_adds (r ∷ past) arrivals replies heard run (λ b has. came b (inr has)))
       (one_adds a past r (came a (inl refl)) reads)
+  run_adds past arrivals replies heard run came = absurd run
 
   -- a reply there is told by the list
   told_here : (past : List Reading) (a : Arrival) (reply : Response) (r : Reading) → AreAccepted first (on past) → IsReading a r
@@ -281,8 +278,6 @@ module _ (first : Start) (before : List Fed) (x : Session) where
       → AreAccepted first (on past) → GoesOn all (on heard)
       → AllZip (λ a reply. (reply ≡ refused_response Unavailable NoKeys) ⊎ IsToldBy first all s a reply) arrivals replies
   run_told all past [] [] heard run came are goes = tt
-  run_told all past [] (reply ∷ replies) heard run came are goes = run
-  run_told all past (a ∷ arrivals) [] heard run came are goes = run
   run_told all past (a ∷ arrivals) (reply ∷ replies) heard (inl (lost, run)) came are goes =
       (inl lost, run_told all past arrivals replies heard run (λ b has. came b (inr has)) are goes)
   run_told all past (a ∷ arrivals) (reply ∷ replies) heard (inr (r, reads, is, run)) came are goes =
@@ -291,6 +286,7 @@ module _ (first : Start) (before : List Fed) (x : Session) where
         inr (told_on first all (on (r ∷ past)) now s a reply (told_here past a reply r are reads is)),
         run_told all (r ∷ past) arrivals replies heard run (λ b has. came b (inr has)) (accepted_more s first (on past) r (lawful_reading a r reads) are) goes,
       )
+  run_told all past arrivals replies heard run came are goes = run
 
 -- what is known of the list of some sessions
 record OneList (first : Start) (sessions : List Session) (last : Start) : Type 0 where
