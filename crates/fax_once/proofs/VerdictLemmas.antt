@@ -42,8 +42,8 @@ is_below : (a b : ℕ) → a < b → nat_lt a b ≡ true
 is_below a b low = grind (arith, nat_tests)
 
 -- a number through another isn't above it
-is_through : (a b : ℕ) → b ≤ a → nat_lt a b ≡ false
-is_through a b low = grind (arith, nat_tests)
+not_above : (a b : ℕ) → b ≤ a → nat_lt a b ≡ false
+not_above a b low = grind (arith, nat_tests)
 
 -- ---- a store that gives out
 
@@ -117,7 +117,7 @@ pub given_up_is : (s : Settings) (a : Arrival) (m : Queue) (k : Ledger) (floor :
     → denied GivenUp ≡ asked_for s m k (post_of a sender.number ask)
 given_up_is s a m k floor sender ask from is through =
     let here : floor ≡ k.floor a.client.now = is ∙ ap k.floor from.client in
-    let low : nat_lt (k.floor a.client.now) sender.number ≡ false = ap (λ f. nat_lt f sender.number) (sym here) ∙ is_through floor sender.number through in
+    let low : nat_lt (k.floor a.client.now) sender.number ≡ false = ap (λ f. nat_lt f sender.number) (sym here) ∙ not_above floor sender.number through in
     ap (λ b. if b then asked_above s m k (k.floor a.client.now) (post_of a sender.number ask) else denied GivenUp) (sym low)
 
 -- what asks for too high a floor is refused, and all else is decided as it is raised
