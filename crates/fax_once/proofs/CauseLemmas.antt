@@ -19,7 +19,7 @@ use Rattle.fax_ask.specs.declared.request.Request.TheVariants.{Show, Submit, Imp
 use Rattle.fax_ask.specs.declared.request.Action.{Action}
 use Rattle.fax_ask.specs.declared.request.Action.TheVariants.{Suspend, Resume, Kill, Alter}
 use Rattle.fax_core.specs.Ask.{IsLawfulAsk}
-use Rattle.fax_core.specs.Ledger.{Ledger, greater, kept_for, IsKeptStatus}
+use Rattle.fax_core.specs.Ledger.{Ledger, kept_for, IsKeptStatus}
 use Rattle.fax_core.specs.Machine.{step}
 use Rattle.fax_core.specs.Queue.{Queue, Entry}
 use Rattle.fax_core.specs.Reply.{Brought, Reply, Submitted}
@@ -27,7 +27,6 @@ use Rattle.fax_core.specs.Settings.{Settings}
 use Rattle.fax_core.specs.Sound.{Sound}
 use Rattle.fax_core.specs.declared.ask.Ask.{Ask}
 use Rattle.fax_core.specs.declared.ask.JobAsk.{JobAsk}
-use Rattle.fax_core.specs.declared.ask.Ask.TheVariants.{GiveUp}
 use Rattle.fax_core.proofs.StepLemmas.{step_sound}
 use Rattle.fax_store.proofs.StoreLemmas.{means_stay}
 use Rattle.fax_store.specs.Calls.{Looks}
@@ -47,11 +46,10 @@ use Rattle.fax_decide.specs.declared.fault.Fault.{Fault}
 use Rattle.fax_once.specs.Sender.{IsSender}
 use Rattle.fax_run.specs.Arrival.{digits_of}
 use Rattle.fax_once.specs.Queue.{ComesTo, tables}
-use Rattle.fax_run.specs.Verdict.{Verdict, is_too_high, raised_ask}
+use Rattle.fax_run.specs.Verdict.{Verdict}
 use Rattle.fax_once.specs.declared.queue.Queue.{Queue as SendQueue}
 use Rattle.fax_run.specs.declared.arrival.Arrival.{Arrival}
 use Rattle.fax_once.specs.declared.sender.Sender.{Sender}
-use Rattle.fax_run.proofs.LedgerLemmas.{gives}
 use Rattle.fax_run.proofs.ReadingLemmas.{same_ask}
 
 -- ---- what was asked was read
@@ -81,20 +79,6 @@ ask_read method path body ask is = by (request_of method path) is
     by : (o : Option Route) → MatchOption o ⊥ (λ route. Asks route body (Step ask)) → IsRead ask
     by None h = absurd h
     by (Some route) h = asked_read route body ask h
-
--- and so was what is raised
-pub raised_read : (floor number : ℕ) (ask raised : Ask) → ◌≡◌ {A = Option Ask} (Some raised) (if is_too_high number ask then None else Some (raised_ask floor ask)) → IsRead ask → IsRead raised
-raised_read floor number ask raised is read = elim (gives ask) [
-  | inl it ↦ by it.0 (is_too_high number (GiveUp it.0)) (is ∙ ap (λ a. if is_too_high number a then None else Some (raised_ask floor a)) it.1)
-  | inr other ↦ subst IsRead (sym (same (is ∙ ap (λ b. if b then None else Some (raised_ask floor ask)) (other.low number)) ∙ other.raised floor)) read
-]
-  where
-    same : {x y : Ask} → ◌≡◌ {A = Option Ask} (Some x) (Some y) → x ≡ y
-    same e = cc
-
-    by : (upto : ℕ) (b : Bool) → ◌≡◌ {A = Option Ask} (Some raised) (if b then None else Some (GiveUp (greater floor upto))) → IsRead raised
-    by upto true e = absurd cc
-    by upto false e = subst IsRead (sym (same e)) tt
 
 -- ---- who asked
 

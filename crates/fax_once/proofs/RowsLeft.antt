@@ -1,6 +1,6 @@
 -- Worked rows of what an answer leaves in the store, and of what a crash behind it may leave.
 use Rattle.std.proofs.Common.{arith, ◌≡◌, ◌⊎◌, ◌∙◌, inl, inr, refl, sym, ap, subst, true, false, ℕ, List, [], ◌∷◌, ◌++◌, map}
-use Rattle.std.specs.Prelude.{Ok, Err, ◌≢◌, Some, None}
+use Rattle.std.specs.Prelude.{Ok, Err, Some, None}
 use Rattle.std.proofs.lemmas.Bool.{true≢false}
 use Rattle.sqlite.specs.Effect.{Database}
 use Rattle.sqlite.specs.State.{State}
@@ -12,11 +12,11 @@ use Rattle.fax_core.specs.Queue.{Queue, empty_queue}
 use Rattle.fax_core.specs.Reply.{NoKeys, Submitted}
 use Rattle.fax_core.specs.Settings.{Settings}
 use Rattle.fax_core.specs.Sound.{Sound}
-use Rattle.fax_core.proofs.RowWords.{settings, ◌at◌}
+use Rattle.fax_core.proofs.RowWords.{settings}
 use Rattle.fax_store.specs.Kept.{HasReply}
 use Rattle.fax_store.specs.Store.{MayFind, Means, RowsFound, Serves}
 use Rattle.fax_tables.specs.Tables.{IsAtRest}
-use Rattle.fax_run.proofs.RowsRuns.{accepted, comes_to, looks, refused, start, submitted, unknown_modem, worker, fax}
+use Rattle.fax_run.proofs.RowsRuns.{accepted, comes_to, looks, refused, start, submitted, unknown_modem, worker}
 use Rattle.fax_run.specs.Arrival.{number_of}
 use Rattle.fax_run.specs.Laws.{left_of}
 use Rattle.fax_run.specs.Reading.{IsReading, Reading}

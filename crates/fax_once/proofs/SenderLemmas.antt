@@ -1,5 +1,5 @@
 -- Which bytes are a client's name, and what is told of those that aren't.
-use Rattle.std.proofs.Common.{◌≡◌, ℕ, ◌<◌, List, [], ◌∷◌, Bool, true, false, refl, sym, ap, subst, ◌∙◌, ◌&&◌, zero, suc, arith, lit<, Option, Some, None, Err, if◌then◌else◌}
+use Rattle.std.proofs.Common.{◌≡◌, ℕ, ◌<◌, List, [], ◌∷◌, Bool, true, false, sym, ap, subst, ◌∙◌, zero, suc, arith, lit<, Option, Some, None, Err, if◌then◌else◌}
 use Rattle.fax_job.specs.declared.refusal.Refusal.{Refusal}
 use Rattle.fax_job.specs.declared.refusal.Refusal.TheVariants.{BadClient, BadNumber}
 use Rattle.fax_value.specs.Number.{request_number_of}
@@ -14,19 +14,10 @@ use Rattle.fax_run.specs.declared.arrival.Arrival.{Arrival}
 use Rattle.fax_once.specs.declared.sender.Sender.{Sender}
 use Rattle.std.specs.Prelude.{IsUtf8, slice_index}
 use Rattle.std.specs.List.{list_all}
+use Rattle.std.proofs.lemmas.Bool.{and_parts}
 use Rattle.std.proofs.lemmas.Bool.Decides.{nat_tests}
 use Rattle.std.proofs.lemmas.Str.{IsUtf8-from_ascii}
 use Rattle.fax_value.specs.Name.{is_name, is_name_byte}
-
--- where both are true, the first is
-left_true : (a b : Bool) → (a && b) ≡ true → a ≡ true
-left_true true b e = refl
-left_true false b e = e
-
--- where both are true, the second is
-right_true : (a b : Bool) → (a && b) ≡ true → b ≡ true
-right_true true b e = e
-right_true false b e = cc
 
 -- a byte of a name is ASCII
 name_byte_ascii : (byte : ℕ) → is_name_byte byte ≡ true → byte < 128
@@ -35,12 +26,12 @@ name_byte_ascii byte e = grind (arith, nat_tests)
 -- so is each byte in it
 name_bytes_ascii : (bytes : List ℕ) → list_all is_name_byte bytes ≡ true → (i : ℕ) → slice_index bytes i < 128
 name_bytes_ascii [] e i = lit< tt
-name_bytes_ascii (byte ∷ bytes) e zero = name_byte_ascii byte (left_true _ _ e)
-name_bytes_ascii (byte ∷ bytes) e (suc i) = name_bytes_ascii bytes (right_true _ _ e) i
+name_bytes_ascii (byte ∷ bytes) e zero = name_byte_ascii byte (and_parts _ _ e).0
+name_bytes_ascii (byte ∷ bytes) e (suc i) = name_bytes_ascii bytes (and_parts _ _ e).1 i
 
 -- a name is ASCII, and so it is text
 pub name_is_text : (bytes : List ℕ) → is_name bytes ≡ true → IsUtf8 bytes
-name_is_text bytes e = IsUtf8-from_ascii bytes (name_bytes_ascii bytes (right_true _ _ e))
+name_is_text bytes e = IsUtf8-from_ascii bytes (name_bytes_ascii bytes (and_parts _ _ e).1)
 
 -- of a client or a number at fault no more is told than the refusal's number and word
 pub sender_plain : (a : Arrival) (e : Refusal) → number_of a ≡ Err e → has_detail e ≡ false

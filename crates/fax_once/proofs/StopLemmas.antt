@@ -22,7 +22,7 @@ use Rattle.fax_once.specs.Sender.{IsSender}
 use Rattle.fax_run.specs.Arrival.{said_of}
 use Rattle.fax_run.specs.Reading.{IsReading, Reading, Faulty, Sees, Posts, post_of}
 use Rattle.fax_once.specs.Stop.{AreMadeBy, MayLeave, Stops, StopsBy, OnlyAcceptedMakeRows}
-use Rattle.fax_run.specs.Verdict.{Verdict, asked_for, decided_new, given_by, kept_with, stepped, verdict, without, without_given, Told, Repeated, Accepted}
+use Rattle.fax_run.specs.Verdict.{Verdict, asked_for, decided_new, given_by, kept_with, stepped, verdict, without, Told, Repeated, Accepted}
 use Rattle.fax_run.specs.declared.arrival.Arrival.{Arrival}
 use Rattle.fax_once.specs.declared.sender.Sender.{Sender}
 use Rattle.fax_ask.specs.declared.method.Method.TheVariants.{Get}
@@ -88,8 +88,7 @@ taken_stops s a m k sender t ask effect given reply old new gives_so from now by
         subst (λ v. AreMadeBy v found)
         (ap (stepped (post_of a sender.number ask) k) (sym taken.taken) ∙ decided_is s a m k sender.number t ask at)
         (subst (λ (r : Response). RowsFound found (accepted t effect m) (kept_with (post_of a sender.number ask) k r)) taken.replied
-        (subst (λ client. RowsFound found (accepted t effect m) (with_reply (entry client sender.number (said_of a) reply.status reply.body) (without_given client ask k))) from.client
-        (subst (λ x. RowsFound found (accepted t effect m) (with_reply (entry sender.client.now sender.number (said_of a) reply.status reply.body) (without sender.client.now x k))) gives_so has)))
+        (rw (← from.client, ← gives_so) has))
 
 -- the verdict is that of the arrival
 pub asked_stops : (s : Settings) (a : Arrival) (m : Queue) (k : Ledger) (sender : Sender) (x : Asked) (ask : Ask) (old new : State)

@@ -1,6 +1,8 @@
 -- What comes of an arrival.
 use Rattle.std.proofs.Common.{◌≡◌, ◌⊎◌, ◌<◌, ◌≤◌, inl, inr, ℕ, Bool, true, false, nat_lt, List, Option, Some, None, Ok, Err, refl, sym, ap, subst, ◌∙◌, arith, if◌then◌else◌, not, [], ◌∷◌, filter}
+use Rattle.std.proofs.lemmas.Bool.{cases_Bool}
 use Rattle.std.proofs.lemmas.Bool.Decides.{nat_tests}
+use Rattle.fax_decide.specs.Read.{IsRead}
 use Rattle.std.specs.Prelude.{Result, OnOk, MatchResult}
 use Rattle.std.specs.Str.{bytes_eq}
 use Rattle.sqlite.specs.State.{State, HasCleanDisk}
@@ -28,8 +30,7 @@ use Rattle.fax_run.specs.Arrival.{said_of}
 use Rattle.fax_decide.specs.Decision.{IsTaken, IsRefused as IsRefusedBy}
 use Rattle.fax_decide.specs.Effect.{accepted}
 use Rattle.fax_run.specs.Reading.{post_of}
-use Rattle.fax_run.proofs.LedgerLemmas.{gives}
-use Rattle.fax_run.specs.Verdict.{Verdict, Told, Repeated, Accepted, asked_above, asked_for, decided_new, denied, given_by, is_too_high, kept_with, new_asked, raised_ask, repeated, stepped, taken_once, without, without_given}
+use Rattle.fax_run.specs.Verdict.{Verdict, Told, Repeated, Accepted, asked_above, asked_for, decided_new, denied, given_by, is_too_high, kept_with, new_asked, raised_ask, repeated, stepped, taken_once, without}
 use Rattle.fax_once.specs.Handled.{Handles, Leaves, LeavesBy}
 use Rattle.fax_run.specs.declared.arrival.Arrival.{Arrival}
 use Rattle.fax_decide.specs.declared.effect.Effect.{Effect}
@@ -49,13 +50,10 @@ not_above a b low = grind (arith, nat_tests)
 
 -- the store serves and has what it means, or it is shut
 pub gives_out : (s : State) (m : Queue) (k : Ledger) → HasCleanDisk s → Means s m k → (Serves s × IsAtRest s m k) ⊎ (s.is_open ≡ false)
-gives_out s m k clean means = by s.is_open refl
-  where
-    by : (b : Bool) → s.is_open ≡ b → (Serves s × IsAtRest s m k) ⊎ (s.is_open ≡ false)
-    by true is_open =
-        let serves : Serves s = record { clean = clean; is_open = is_open } in
-        inl (serves, means serves)
-    by false shut = inr shut
+gives_out s m k clean means = elim (cases_Bool s.is_open) [
+  | inl on ↦ (let serves : Serves s = record { clean = clean; is_open = on } in inl (serves, means serves))
+  | inr shut ↦ inr shut
+]
 
 -- either way it means that as long as it serves
 pub still_means : (s : State) (m : Queue) (k : Ledger) → (Serves s × IsAtRest s m k) ⊎ (s.is_open ≡ false) → Means s m k
@@ -120,39 +118,41 @@ given_up_is s a m k floor sender ask from is through =
     let low : nat_lt (k.floor a.client.now) sender.number ≡ false = ap (λ f. nat_lt f sender.number) (sym here) ∙ not_above floor sender.number through in
     ap (λ b. if b then asked_above s m k (k.floor a.client.now) (post_of a sender.number ask) else denied GivenUp) (sym low)
 
--- what asks for too high a floor is refused, and all else is decided as it is raised
+-- what is raised doesn't ask for too high a floor
+raised_by : (floor number : ℕ) (ask raised : Ask) → ◌≡◌ {A = Option Ask} (Some raised) (if is_too_high number ask then None else Some (raised_ask floor ask))
+    → (is_too_high number ask ≡ false) × (raised ≡ raised_ask floor ask)
+raised_by floor number ask raised is = by (is_too_high number ask) refl is
+  where
+    by : (b : Bool) → is_too_high number ask ≡ b → ◌≡◌ {A = Option Ask} (Some raised) (if b then None else Some (raised_ask floor ask))
+        → (is_too_high number ask ≡ false) × (raised ≡ raised_ask floor ask)
+    by true high e = absurd cc
+    by false low e = (low, cc)
+
+-- it is decided as it is raised
 pub raised_is : (s : Settings) (m : Queue) (k : Ledger) (floor number : ℕ) (a : Arrival) (ask raised : Ask) → ◌≡◌ {A = Option Ask} (Some raised) (if is_too_high number ask then None else Some (raised_ask floor ask))
     → decided_new s m k (post_of a number raised) ≡ new_asked s m k floor (post_of a number ask)
-raised_is s m k floor number a ask raised is = by (is_too_high number ask) is
-  where
-    by : (b : Bool) → ◌≡◌ {A = Option Ask} (Some raised) (if b then None else Some (raised_ask floor ask))
-        → decided_new s m k (post_of a number raised) ≡ (if b then denied FloorHigh else decided_new s m k (post_of a number (raised_ask floor ask)))
-    by true e = absurd cc
-    by false e = let same : raised ≡ raised_ask floor ask = cc in ap (λ x. decided_new s m k (post_of a number x)) same
+raised_is s m k floor number a ask raised is = let it = raised_by floor number ask raised is in rw (it.0, it.1) refl
 
 -- what gives up its own reply is refused
 pub too_high_is : (s : Settings) (m : Queue) (k : Ledger) (floor number : ℕ) (a : Arrival) (ask : Ask) → ◌≡◌ {A = Option Ask} None (if is_too_high number ask then None else Some (raised_ask floor ask))
     → denied FloorHigh ≡ new_asked s m k floor (post_of a number ask)
-too_high_is s m k floor number a ask is = by (is_too_high number ask) is
-  where
-    by : (b : Bool) → ◌≡◌ {A = Option Ask} None (if b then None else Some (raised_ask floor ask))
-        → denied FloorHigh ≡ (if b then denied FloorHigh else decided_new s m k (post_of a number (raised_ask floor ask)))
-    by true e = refl
-    by false e = absurd cc
+too_high_is s m k floor number a ask is = elim (cases_Bool (is_too_high number ask)) [
+  | inl high ↦ rw high refl
+  | inr low ↦ absurd (let no = rw low at is in cc)
+]
+
+-- what holds of a request, and of whatever gives up replies, holds of the request as it is raised
+kept_raised : (P : Ask → Type 0) (floor : ℕ) (ask : Ask) → ((upto : ℕ) → P (GiveUp upto)) → P ask → P (raised_ask floor ask)
+kept_raised P floor (GiveUp upto) any is = any (greater floor upto)
+kept_raised P floor other any is = is
 
 -- what is raised is as lawful
 pub raised_lawful : (floor number : ℕ) (ask raised : Ask) → ◌≡◌ {A = Option Ask} (Some raised) (if is_too_high number ask then None else Some (raised_ask floor ask)) → IsLawfulStep ask → IsLawfulStep raised
-raised_lawful floor number ask raised is lawful = elim (gives ask) [
-  | inl it ↦ by it.0 (is_too_high number (GiveUp it.0)) (is ∙ ap (λ a. if is_too_high number a then None else Some (raised_ask floor a)) it.1)
-  | inr other ↦ subst IsLawfulStep (sym (same (is ∙ ap (λ b. if b then None else Some (raised_ask floor ask)) (other.low number)) ∙ other.raised floor)) lawful
-]
-  where
-    same : {x y : Ask} → ◌≡◌ {A = Option Ask} (Some x) (Some y) → x ≡ y
-    same e = cc
+raised_lawful floor number ask raised is lawful = rw (raised_by floor number ask raised is).1 (kept_raised IsLawfulStep floor ask (λ upto. _) lawful)
 
-    by : (upto : ℕ) (b : Bool) → ◌≡◌ {A = Option Ask} (Some raised) (if b then None else Some (GiveUp (greater floor upto))) → IsLawfulStep raised
-    by upto true e = absurd cc
-    by upto false e = subst IsLawfulStep (sym (same e)) _
+-- and was read as well
+pub raised_read : (floor number : ℕ) (ask raised : Ask) → ◌≡◌ {A = Option Ask} (Some raised) (if is_too_high number ask then None else Some (raised_ask floor ask)) → IsRead ask → IsRead raised
+raised_read floor number ask raised is read = rw (raised_by floor number ask raised is).1 (kept_raised IsRead floor ask (λ upto. tt) read)
 
 -- ---- what is asked for
 
@@ -180,8 +180,7 @@ taken_leaves s a m k sender t ask effect given reply store gives_so sound lawful
       by.replied,
       serves,
       subst (λ (r : Response). IsAtRest store (accepted t effect m) (kept_with (post_of a sender.number ask) k r)) by.replied
-          (subst (λ client. IsAtRest store (accepted t effect m) (with_reply (entry client sender.number (said_of a) reply.status reply.body) (without_given client ask k))) from.client
-          (subst (λ x. IsAtRest store (accepted t effect m) (with_reply (entry sender.client.now sender.number (said_of a) reply.status reply.body) (without sender.client.now x k))) gives_so rests)),
+          (rw (← from.client, ← gives_so) rests),
       step_sound s m (accepted t effect m) t ask by.told sound lawful by.taken,
     )
 

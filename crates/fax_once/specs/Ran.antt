@@ -5,7 +5,7 @@ use Rattle.fax_ask.specs.Response.{Response}
 use Rattle.fax_core.specs.Settings.{Settings}
 use Rattle.fax_store.specs.Store.{Means, MayFind, RowsFound}
 use Rattle.fax_run.specs.Reading.{Reading}
-use Rattle.fax_run.specs.Run.{Start, IsRun, end_of, taken, under}
+use Rattle.fax_run.specs.Run.{Start, IsRun, end_of, taken}
 use Rattle.fax_run.specs.declared.arrival.Arrival.{Arrival}
 use Rattle.sqlite_rules.specs.Lists.{Has}
 use Rattle.sqlite_trees.specs.Tree.{Trees}

@@ -9,9 +9,9 @@ use Rattle.fax_store.specs.Store.{Serves}
 use Rattle.fax_decide.proofs.FaultLemmas.{only_no_answer, passed_on}
 use Rattle.fax_decide.specs.Decision.{Decides}
 use Rattle.fax_decide.specs.Settings.{settings_of}
-use Rattle.fax_once.proofs.CauseLemmas.{gave_out, nothing_comes, raised_read, sender_named, taken_status, taken_writable}
+use Rattle.fax_once.proofs.CauseLemmas.{gave_out, nothing_comes, sender_named, taken_status, taken_writable}
 use Rattle.fax_once.proofs.StopLemmas.{taken_stops, then_stops}
-use Rattle.fax_once.proofs.VerdictLemmas.{accepted_leaves, lawful_ask, raised_is, raised_lawful, refused_leaves, too_high_is}
+use Rattle.fax_once.proofs.VerdictLemmas.{accepted_leaves, lawful_ask, raised_is, raised_lawful, raised_read, refused_leaves, too_high_is}
 use Rattle.fax_once.specs.Handled.{Leaves, LeavesBy}
 use Rattle.fax_once.proofs.queue.Queue.step_once.Goals as goal
 
