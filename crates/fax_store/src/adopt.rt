@@ -25,7 +25,7 @@ use fax_schema::{
     has_no_tables, has_ours,
 };
 use fax_tables::{
-    StoreFault, create_calls, create_floors, create_indexes, create_tables, dial_in, drop_calls,
+    StoreFault, create_calls, create_second_tables, create_indexes, create_tables, dial_in, drop_calls,
     drop_indexes, held_job_in, is_version,
 };
 use sqlite::{Alter, Connection, Row, params};
@@ -145,7 +145,7 @@ impl<S: Alter> Store<S> {
         Ok(())
     }
 
-    /// Makes floors and the indexes of jobs, where they aren't there.
+    /// Makes the tables of the second version and the indexes of jobs, where they aren't there.
     fn get_core(&mut self) -> Result<(), StoreFault>
         ensures { TurnsOrUnavailable (IsIn AreCore) (Leaves (λ schema. schema ≡ core_tables)) (shown S.Store self.old)
             (shown S.Store self.new) result }
@@ -154,7 +154,7 @@ impl<S: Alter> Store<S> {
         self.get_indexes()
     }
 
-    /// Takes the indexes of jobs away where the version is 1, so that floors come before them.
+    /// Takes the indexes of jobs away where the version is 1, so that the tables of the second come before them.
     fn lose_first_indexes(&mut self) -> Result<(), StoreFault>
         ensures { TurnsOrUnavailable (IsIn AreCore) (Leaves (Has without_calls)) (shown S.Store self.old)
             (shown S.Store self.new) result }
@@ -166,24 +166,24 @@ impl<S: Alter> Store<S> {
         Ok(())
     }
 
-    /// Makes floors where the version is 1, and the indexes of jobs where there are none.
+    /// Makes the tables of the second version where it is 1, and the indexes of jobs where there are none.
     fn get_indexes(&mut self) -> Result<(), StoreFault>
         ensures { TurnsOrUnavailable (IsIn (Has without_calls)) (Leaves (λ schema. schema ≡ core_tables))
             (shown S.Store self.old) (shown S.Store self.new) result }
     {
-        self.get_floors()?;
+        self.get_second_tables()?;
         self.make_indexes()
     }
 
-    /// Makes floors, with no rows, where the version is 1.
-    fn get_floors(&mut self) -> Result<(), StoreFault>
+    /// Makes the tables of the second version, with no rows, where it is 1.
+    fn get_second_tables(&mut self) -> Result<(), StoreFault>
         ensures { TurnsOrUnavailable (IsIn (Has without_calls)) (Leaves AreStores) (shown S.Store self.old)
             (shown S.Store self.new) result }
     {
         if !has_first_bare(self.alloc, self.conn.schema())? {
             return Ok(());
         }
-        create_floors(&mut self.conn)?;
+        create_second_tables(&mut self.conn)?;
         Ok(())
     }
 

@@ -21,7 +21,7 @@ pub fn create_tables<S: Alter>(conn: &mut Connection<S>) -> Result<(), Error>
         (λ old new. TablesMean new.now empty_queue empty_ledger) conn.old conn.new result }
 {
     create_first_tables(conn)?;
-    create_floors(conn)?;
+    create_second_tables(conn)?;
     create_indexes(conn)?;
     create_calls(conn)?;
     fill_meta(conn)
@@ -60,7 +60,7 @@ fn create_kept_tables<S: Alter>(conn: &mut Connection<S>) -> Result<(), Error>
 
 /// Makes the tables that the second version has beside the first's, with no rows. The rows of the others stay as they
 /// are, and inside a transaction nothing is committed.
-pub fn create_floors<S: Alter>(conn: &mut Connection<S>) -> Result<(), Error>
+pub fn create_second_tables<S: Alter>(conn: &mut Connection<S>) -> Result<(), Error>
     ensures { Alters S.Store HasFirstTables HasFirstTables
         (λ old new. HasNewFloors old.now new.now) conn.old conn.new result }
 {

@@ -35,24 +35,24 @@ module _ {S : Type 0} (g : Ghosts S) where
       → Alters g (HasEmptyTables between) (HasEmptyTables between) (λ old new. HasEmptyTables after new) b c r → Alters g (HasEmptyTables before) (HasEmptyTables before) (λ old new. HasEmptyTables after new) a c r
   on a b c before between after x r = tables_then g a b c before between after (HasEmptyTables before) (HasEmptyTables between) x r (λ s was. was)
 
-pub returns-in_err-create_floors : goal.returns-in_err-create_floors
-returns-in_err-create_floors g c =
-    alters_refused g.S.Store _ _ _ _ _ _ _ c.in_err-create_floors.field-0.0 c.from_residual-in_err-create_floors.result c.from_residual-in_err-create_floors.ensures.0 (λ was. was)
-    (on g.S.Store c.args.conn.now c.create_first_tables.new.conn c.create_floors.new.conn no_tables first_bare bare_tables _ _ c.in_ok-create_first_tables.ensures (raised g.S.Store _ _ _ c.in_err-create_floors.ensures))
+pub returns-in_err-create_second_tables : goal.returns-in_err-create_second_tables
+returns-in_err-create_second_tables g c =
+    alters_refused g.S.Store _ _ _ _ _ _ _ c.in_err-create_second_tables.field-0.0 c.from_residual-in_err-create_second_tables.result c.from_residual-in_err-create_second_tables.ensures.0 (λ was. was)
+    (on g.S.Store c.args.conn.now c.create_first_tables.new.conn c.create_second_tables.new.conn no_tables first_bare bare_tables _ _ c.in_ok-create_first_tables.ensures (raised g.S.Store _ _ _ c.in_err-create_second_tables.ensures))
 
 pub returns-in_err-create_indexes : goal.returns-in_err-create_indexes
 returns-in_err-create_indexes g c =
     alters_refused g.S.Store _ _ _ _ _ _ _ c.in_err-create_indexes.field-0.0 c.from_residual-in_err-create_indexes.result c.from_residual-in_err-create_indexes.ensures.0 (λ was. was)
-    (on g.S.Store c.args.conn.now c.create_floors.new.conn c.create_indexes.new.conn no_tables bare_tables core_tables _ _
-    (on g.S.Store c.args.conn.now c.create_first_tables.new.conn c.create_floors.new.conn no_tables first_bare bare_tables _ _ c.in_ok-create_first_tables.ensures (raised g.S.Store _ _ _ c.in_ok-create_floors.ensures))
+    (on g.S.Store c.args.conn.now c.create_second_tables.new.conn c.create_indexes.new.conn no_tables bare_tables core_tables _ _
+    (on g.S.Store c.args.conn.now c.create_first_tables.new.conn c.create_second_tables.new.conn no_tables first_bare bare_tables _ _ c.in_ok-create_first_tables.ensures (raised g.S.Store _ _ _ c.in_ok-create_second_tables.ensures))
     (indexed g.S.Store _ _ _ c.in_err-create_indexes.ensures))
 
 pub returns-in_err-create_calls : goal.returns-in_err-create_calls
 returns-in_err-create_calls g c =
     alters_refused g.S.Store _ _ _ _ _ _ _ c.in_err-create_calls.field-0.0 c.from_residual-in_err-create_calls.result c.from_residual-in_err-create_calls.ensures.0 (λ was. was)
     (on g.S.Store c.args.conn.now c.create_indexes.new.conn c.create_calls.new.conn no_tables core_tables our_tables _ _
-    (on g.S.Store c.args.conn.now c.create_floors.new.conn c.create_indexes.new.conn no_tables bare_tables core_tables _ _
-    (on g.S.Store c.args.conn.now c.create_first_tables.new.conn c.create_floors.new.conn no_tables first_bare bare_tables _ _ c.in_ok-create_first_tables.ensures (raised g.S.Store _ _ _ c.in_ok-create_floors.ensures))
+    (on g.S.Store c.args.conn.now c.create_second_tables.new.conn c.create_indexes.new.conn no_tables bare_tables core_tables _ _
+    (on g.S.Store c.args.conn.now c.create_first_tables.new.conn c.create_second_tables.new.conn no_tables first_bare bare_tables _ _ c.in_ok-create_first_tables.ensures (raised g.S.Store _ _ _ c.in_ok-create_second_tables.ensures))
     (indexed g.S.Store _ _ _ c.in_ok-create_indexes.ensures)) (beside g.S.Store _ _ _ c.in_err-create_calls.ensures))
 
 pub returns : goal.returns
@@ -60,6 +60,6 @@ returns g c =
     alters_then g.S.Store c.args.conn.now c.create_calls.new.conn c.fill_meta.new.conn (HasEmptyTables no_tables) (HasEmptyTables our_tables) (HasEmptyTables no_tables) Always (λ old new. HasEmptyTables our_tables new)
     (λ old new. TablesMean new.now empty_queue empty_ledger) (λ old new. TablesMean new.now empty_queue empty_ledger) _ _ (λ it. it.1) (λ was. tt) (λ one two. two)
     (on g.S.Store c.args.conn.now c.create_indexes.new.conn c.create_calls.new.conn no_tables core_tables our_tables _ _
-    (on g.S.Store c.args.conn.now c.create_floors.new.conn c.create_indexes.new.conn no_tables bare_tables core_tables _ _
-    (on g.S.Store c.args.conn.now c.create_first_tables.new.conn c.create_floors.new.conn no_tables first_bare bare_tables _ _ c.in_ok-create_first_tables.ensures (raised g.S.Store _ _ _ c.in_ok-create_floors.ensures))
+    (on g.S.Store c.args.conn.now c.create_second_tables.new.conn c.create_indexes.new.conn no_tables bare_tables core_tables _ _
+    (on g.S.Store c.args.conn.now c.create_first_tables.new.conn c.create_second_tables.new.conn no_tables first_bare bare_tables _ _ c.in_ok-create_first_tables.ensures (raised g.S.Store _ _ _ c.in_ok-create_second_tables.ensures))
     (indexed g.S.Store _ _ _ c.in_ok-create_indexes.ensures)) (beside g.S.Store _ _ _ c.in_ok-create_calls.ensures)) c.fill_meta.ensures

@@ -1,7 +1,7 @@
 use Rattle.std.proofs.Common.{◌≤◌, inl, inr, length, Ok, Err, refl, subst, rules}
 use Rattle.fax_tables.proofs.AlterLemmas.{alters_done, alters_refused}
 use Rattle.fax_tables.proofs.MakingLemmas.{Along, all_along, along, first_and_rest}
-use Rattle.fax_tables.proofs.schema.create_floors.Goals as goal
+use Rattle.fax_tables.proofs.schema.create_second_tables.Goals as goal
 
 pub loop-texts-init : goal.loop-texts-init
 loop-texts-init g c = inl (refl, refl)

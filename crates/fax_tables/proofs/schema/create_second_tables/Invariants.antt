@@ -1,6 +1,6 @@
 use Rattle.std.proofs.Common.{length, map}
 use Rattle.fax_tables.proofs.MakingLemmas.{Along}
-use Rattle.fax_tables.proofs.schema.create_floors.Given as goal
+use Rattle.fax_tables.proofs.schema.create_second_tables.Given as goal
 
 -- the texts before these have made their tables
 abbrev pub invariant-loop-texts : goal.invariant-loop-texts
