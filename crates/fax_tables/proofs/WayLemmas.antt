@@ -1,12 +1,12 @@
 -- How each layout loses its `calls`, or the indexes of jobs where these are last.
-use Rattle.std.proofs.Common.{◌≡◌, ◌≤◌, inl, inr, List, [], ◌∷◌, length, refl, sym, ap, subst, ◌∙◌, arith}
+use Rattle.std.proofs.Common.{◌≡◌, ◌≤◌, false, inl, inr, List, [], ◌∷◌, length, refl, sym, ap, subst, ◌∙◌, arith}
 use Rattle.sqlite.specs.Effect.{Database, IsDatabase}
 use Rattle.sqlite_catalog.specs.Change.{KeepsRows}
 use Rattle.sqlite_rules.specs.Lists.{Has}
 use Rattle.sqlite_schema.specs.declared.schema.Schema.{Schema}
 use Rattle.sqlite_schema.specs.declared.schema.Table.{Table}
 use Rattle.fax_schema.specs.declared.statements.TheConstants.{DROP_CALLS, DROP_CHOICE_INDEX, DROP_KILLTIME_INDEX}
-use Rattle.fax_schema.specs.Schema.{AreIndexedLast, HaveCalls, calls_at, core_past, first_past, first_list, core_list, first_bare, first_with_killtime, first_core, first_indexed, first_older_core, first_tables, first_older, first_bare_calls, first_vacuumed, first_vacuumed_with_killtime, first_older_vacuumed, bare_tables, core_tables, our_tables, bare_with_calls, vacuumed_tables, vacuumed_with_killtime}
+use Rattle.fax_schema.specs.Schema.{AreIndexedLast, HaveCalls, has_floors, calls_at, core_past, first_past, first_list, core_list, first_bare, first_with_killtime, first_core, first_indexed, first_older_core, first_tables, first_older, first_bare_calls, first_vacuumed, first_vacuumed_with_killtime, first_older_vacuumed, bare_tables, core_tables, our_tables, bare_with_calls, vacuumed_tables, vacuumed_with_killtime}
 use Rattle.fax_schema.proofs.CreateTexts.{LosesIndex, TakesAway}
 use Rattle.fax_schema.proofs.CreateTexts as text
 use Rattle.fax_tables.specs.Tables.{LacksCalls, LosesIndexes}
@@ -31,93 +31,45 @@ more_than_six a b (inl core) is more = absurd (let e : length b.tables ≡ 6 = s
 more_than_six a b (inr (inl older)) is more = absurd (let e : length b.tables ≡ 6 = sym (ap (λ (s : Schema). length s.tables) is) ∙ ap (λ (s : Schema). length s.tables) older in omega arith)
 more_than_six a b (inr (inr none)) is more = absurd none
 
--- all eight tables, as VACUUM leaves them, lose both indexes of jobs
+-- a layout that has these two texts loses both indexes of jobs, and keeps the rows of these tables
+loses : (a middle end : Schema) (tables : List Table) → LosesIndex a DROP_CHOICE_INDEX.now middle → LosesIndex middle DROP_KILLTIME_INDEX.now end
+    → middle.tables ≡ tables → end.tables ≡ tables
+    → ((db after : Database) → db.schema ≡ a → after.schema ≡ end → IsDatabase after → KeepsRows tables db.trees after.trees → LosesIndexes db after) → LosesBoth a
+loses a middle end tables first next same_middle same_end leaves =
+    record { middle = middle; end = end; tables = tables; first = first; next = next; same_middle = same_middle; same_end = same_end; leaves = leaves }
+
+-- all eight tables, as VACUUM leaves them, lose both
 vacuumed : LosesBoth vacuumed_tables
-vacuumed = record {
-  middle = vacuumed_with_killtime;
-  end = bare_with_calls;
-  tables = bare_with_calls.tables;
-  first = text.drops_choice;
-  next = text.drops_killtime;
-  same_middle = refl;
-  same_end = refl;
-  leaves = λ db after was is sound rows. record {
-    schema_is = inl is;
-    alone = λ six. more_than_six db.schema vacuumed_tables six was (omega arith);
-    sound = sound;
-    renews = renews_core db after vacuumed_tables bare_with_calls refl refl was is (all_front (λ t. after.trees t.tree ≡ db.trees t.tree) core_list (calls_at core_past ∷ []) rows);
-  };
-}
+vacuumed = loses vacuumed_tables vacuumed_with_killtime bare_with_calls bare_with_calls.tables text.drops_choice text.drops_killtime refl refl
+    (λ db after was is sound rows. record {
+      schema_is = inl is;
+      alone = λ six. more_than_six db.schema vacuumed_tables six was (omega arith);
+      sound = sound;
+      renews = renews_core db after vacuumed_tables bare_with_calls refl refl was is (all_front (λ t. after.trees t.tree ≡ db.trees t.tree) core_list (calls_at core_past ∷ []) rows);
+    })
 
--- so do the seven of the first version
-first_vacuumed_loses : LosesBoth first_vacuumed
-first_vacuumed_loses = record {
-  middle = first_vacuumed_with_killtime;
-  end = first_bare_calls;
-  tables = first_bare_calls.tables;
-  first = text.drops_first_choice;
-  next = text.drops_first_killtime;
-  same_middle = refl;
-  same_end = refl;
-  leaves = λ db after was is sound rows. record {
-    schema_is = inr (inl is);
-    alone = λ six. more_than_six db.schema first_vacuumed six was (omega arith);
-    sound = sound;
-    renews = renews_first db after first_vacuumed first_bare_calls refl refl was is (all_front (λ t. after.trees t.tree ≡ db.trees t.tree) first_list (calls_at first_past ∷ []) rows);
-  };
-}
+-- so do the seven of the first version, with whichever indexes
+first_loses : (a : Schema) → LosesIndex a DROP_CHOICE_INDEX.now first_vacuumed_with_killtime → has_floors a ≡ false → 7 ≤ length a.tables → LosesBoth a
+first_loses a first none more = loses a first_vacuumed_with_killtime first_bare_calls first_bare_calls.tables first text.drops_first_killtime refl refl
+    (λ db after was is sound rows. record {
+      schema_is = inr (inl is);
+      alone = λ six. more_than_six db.schema a six was more;
+      sound = sound;
+      renews = renews_first db after a first_bare_calls none refl was is (all_front (λ t. after.trees t.tree ≡ db.trees t.tree) first_list (calls_at first_past ∷ []) rows);
+    })
 
--- and those with the older indexes
-older_vacuumed : LosesBoth first_older_vacuumed
-older_vacuumed = record {
-  middle = first_vacuumed_with_killtime;
-  end = first_bare_calls;
-  tables = first_bare_calls.tables;
-  first = text.drops_first_older_choice;
-  next = text.drops_first_killtime;
-  same_middle = refl;
-  same_end = refl;
-  leaves = λ db after was is sound rows. record {
-    schema_is = inr (inl is);
-    alone = λ six. more_than_six db.schema first_older_vacuumed six was (omega arith);
-    sound = sound;
-    renews = renews_first db after first_older_vacuumed first_bare_calls refl refl was is (all_front (λ t. after.trees t.tree ≡ db.trees t.tree) first_list (calls_at first_past ∷ []) rows);
-  };
-}
-
--- so do the tables of the first version without `calls`
-core : LosesBoth first_core
-core = record {
-  middle = first_with_killtime;
-  end = first_bare;
-  tables = first_list;
-  first = text.drops_core_choice;
-  next = text.drops_core_killtime;
-  same_middle = refl;
-  same_end = refl;
-  leaves = λ db after was is sound rows. record { schema_is = inr (inr (inl is)); alone = λ six. is; sound = sound; renews = renews_first db after first_core first_bare refl refl was is rows };
-}
-
--- and those with the older indexes
-older_core : LosesBoth first_older_core
-older_core = record {
-  middle = first_with_killtime;
-  end = first_bare;
-  tables = first_list;
-  first = text.drops_older_core_choice;
-  next = text.drops_core_killtime;
-  same_middle = refl;
-  same_end = refl;
-  leaves = λ db after was is sound rows. record { schema_is = inr (inr (inl is)); alone = λ six. is; sound = sound; renews = renews_first db after first_older_core first_bare refl refl was is rows };
-}
+-- and the tables of the first version without `calls`
+core_loses : (a : Schema) → LosesIndex a DROP_CHOICE_INDEX.now first_with_killtime → has_floors a ≡ false → LosesBoth a
+core_loses a first none = loses a first_with_killtime first_bare first_list first text.drops_core_killtime refl refl
+    (λ db after was is sound rows. record { schema_is = inr (inr (inl is)); alone = λ six. is; sound = sound; renews = renews_first db after a first_bare none refl was is rows })
 
 -- each layout with the indexes of jobs last loses both
 pub loses_both : (schema : Schema) → AreIndexedLast schema → LosesBoth schema
 loses_both schema (inl is) = subst LosesBoth (sym is) vacuumed
-loses_both schema (inr (inl is)) = subst LosesBoth (sym is) first_vacuumed_loses
-loses_both schema (inr (inr (inl is))) = subst LosesBoth (sym is) older_vacuumed
-loses_both schema (inr (inr (inr (inl is)))) = subst LosesBoth (sym is) core
-loses_both schema (inr (inr (inr (inr (inl is))))) = subst LosesBoth (sym is) older_core
+loses_both schema (inr (inl is)) = subst LosesBoth (sym is) (first_loses first_vacuumed text.drops_first_choice refl (omega arith))
+loses_both schema (inr (inr (inl is))) = subst LosesBoth (sym is) (first_loses first_older_vacuumed text.drops_first_older_choice refl (omega arith))
+loses_both schema (inr (inr (inr (inl is)))) = subst LosesBoth (sym is) (core_loses first_core text.drops_core_choice refl)
+loses_both schema (inr (inr (inr (inr (inl is))))) = subst LosesBoth (sym is) (core_loses first_older_core text.drops_older_core_choice refl)
 loses_both schema (inr (inr (inr (inr (inr none))))) = absurd none
 
 -- ---- `calls`
@@ -143,35 +95,24 @@ bare_calls = record {
   leaves = λ db after was is sound rows. record { schema_is = inr (inl is); sound = sound; renews = renews_core db after bare_with_calls bare_tables refl refl was is rows };
 }
 
--- so do those of the first version
-first : LosesLast first_tables
-first = record {
-  end = first_core;
-  takes = text.drops_first_calls;
-  leaves = λ db after was is sound rows. record { schema_is = inr (inr (inl is)); sound = sound; renews = renews_first db after first_tables first_core refl refl was is rows };
-}
-
--- and these without the indexes of jobs
-first_bare_loses : LosesLast first_bare_calls
-first_bare_loses = record {
-  end = first_bare;
-  takes = text.drops_first_bare_calls;
-  leaves = λ db after was is sound rows. record { schema_is = inr (inr (inr (inl is))); sound = sound; renews = renews_first db after first_bare_calls first_bare refl refl was is rows };
-}
-
--- and those with the older indexes
-older : LosesLast first_older
-older = record {
-  end = first_older_core;
-  takes = text.drops_first_older_calls;
-  leaves = λ db after was is sound rows. record { schema_is = inr (inr (inr (inr (inl is)))); sound = sound; renews = renews_first db after first_older first_older_core refl refl was is rows };
+-- so do those of the first version, whichever indexes they have
+first_last : (a end : Schema) → TakesAway a DROP_CALLS.now end → has_floors a ≡ false → has_floors end ≡ false → end.tables ≡ first_list
+    → Has (core_tables ∷ bare_tables ∷ first_core ∷ first_bare ∷ first_older_core ∷ []) end → LosesLast a
+first_last a end takes none still same one = record {
+  end = end;
+  takes = takes;
+  leaves = λ db after was is sound rows. record {
+    schema_is = rw is one;
+    sound = sound;
+    renews = renews_first db after a end none still was is (rw same at rows);
+  };
 }
 
 -- each layout with `calls` loses it
 pub loses_last : (schema : Schema) → HaveCalls schema → LosesLast schema
 loses_last schema (inl is) = subst LosesLast (sym is) ours
 loses_last schema (inr (inl is)) = subst LosesLast (sym is) bare_calls
-loses_last schema (inr (inr (inl is))) = subst LosesLast (sym is) first
-loses_last schema (inr (inr (inr (inl is)))) = subst LosesLast (sym is) first_bare_loses
-loses_last schema (inr (inr (inr (inr (inl is))))) = subst LosesLast (sym is) older
+loses_last schema (inr (inr (inl is))) = subst LosesLast (sym is) (first_last first_tables first_core text.drops_first_calls refl refl refl (inr (inr (inl refl))))
+loses_last schema (inr (inr (inr (inl is)))) = subst LosesLast (sym is) (first_last first_bare_calls first_bare text.drops_first_bare_calls refl refl refl (inr (inr (inr (inl refl)))))
+loses_last schema (inr (inr (inr (inr (inl is))))) = subst LosesLast (sym is) (first_last first_older first_older_core text.drops_first_older_calls refl refl refl (inr (inr (inr (inr (inl refl))))))
 loses_last schema (inr (inr (inr (inr (inr none))))) = absurd none
