@@ -1,6 +1,6 @@
 -- Calls that look at the store, one after the other.
-use Rattle.std.proofs.Common.{◌≡◌, ℕ, Ok, Err, Result, IfOk, IsErrAnd, OnOk, subst, sym}
-use Rattle.std.specs.Prelude.{⊤, MatchResult}
+use Rattle.std.proofs.Common.{◌≡◌, ℕ, Ok, Err, Result, IfOk, IsErrAnd, OnOk, subst, sym, MatchResult}
+use Rattle.std.specs.Prelude.{⊤}
 use Rattle.sqlite.specs.State.{State, HasCleanDisk}
 use Rattle.fax_core.specs.Ledger.{Ledger}
 use Rattle.fax_core.specs.Queue.{Queue}
@@ -43,12 +43,6 @@ always (Err e) p = tt
 never : {A E : Type 0} (r : Result A E) (Is : E → Type 0) (P : Type 0) → IsErrAnd r Is → OnOk r P
 never (Ok x) Is P is = absurd is
 never (Err e) Is P is = tt
-
--- what holds of a reply holds of the decision with it
-opens_with : (P : Type 0) (decision : Response → Decision) (reply : Result Response Fault) (result : Result Decision Fault) → MatchResult reply (λ r. result ≡ Ok (decision r)) (λ e. result ≡ Err e)
-    → OnOk reply P → OnOk result P
-opens_with P decision (Ok r) result is h = subst (λ d. OnOk d P) (sym is) h
-opens_with P decision (Err e) result is h = subst (λ d. OnOk d P) (sym is) tt
 
 module _ {S : Type 0} {g : _} where
   -- what is known of the queue before any call
@@ -109,21 +103,12 @@ module _ {S : Type 0} {g : _} where
   }
 
   -- the result is a fault
-  pub stops : {old new : Store S} {A B E : Type 0} {result : Result B E} {P Q : Queue → Type 0} (error : Result A Fault) (fault : Fault) → IsErrAnd error (λ e. e ≡ fault) → Consults g old new result P
-      → ((m : Queue) (k : Ledger) → IsAtRest (shown g old) m k → ((T : A → Type 0) → fault ≡ NoAnswer → OrNoAnswer error T) → P m → Q m) → Consults g old new error Q
-  stops error fault is call says = record {
+  pub stops : {old new : Store S} {A B E : Type 0} {result : Result B E} {P Q : Queue → Type 0} {error : Result A Fault} {fault : Fault} → IsErrAnd error (λ e. e ≡ fault) → Consults g old new result P
+      → ((m : Queue) → ((T : A → Type 0) → fault ≡ NoAnswer → OrNoAnswer error T) → P m → Q m) → Consults g old new error Q
+  stops {error = error} {fault = fault} is call says = record {
     leaves = call.leaves;
     opens = never error (λ e. e ≡ fault) _ is;
-    found = λ m k means serves. says m k (means (call.leaves.served serves)) (λ T why. passed_on error fault T is why) (call.found m k means serves);
-  }
-
-  -- the result is decided by the reply of the call
-  pub replies : {old new : Store S} {P Q : Queue → Type 0} (decision : Response → Decision) (reply : Result Response Fault) (result : Result Decision Fault)
-      → MatchResult reply (λ r. result ≡ Ok (decision r)) (λ e. result ≡ Err e) → Consults g old new reply P → ((m : Queue) (k : Ledger) → IsAtRest (shown g old) m k → P m → Q m) → Consults g old new result Q
-  replies decision reply result is call says = record {
-    leaves = call.leaves;
-    opens = opens_with _ decision reply result is call.opens;
-    found = λ m k means serves. says m k (means (call.leaves.served serves)) (call.found m k means serves);
+    found = λ m k means serves. says m (λ T why. passed_on error fault T is why) (call.found m k means serves);
   }
 
   -- what is seen of the queue

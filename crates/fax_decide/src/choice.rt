@@ -13,7 +13,7 @@ ghost use Rattle.fax_core.specs.Job.{job_of};
 ghost use Rattle.fax_core.specs.Fits.{fits};
 ghost use Rattle.fax_core.specs.Machine.{dial_of, given, given_best, given_to, handed, held_by};
 ghost use Rattle.fax_core.specs.Queue.{Queue, job_numbered};
-ghost use Rattle.fax_core.specs.Reply.{HeldGrant};
+ghost use Rattle.fax_core.specs.Reply.{HeldGrant, NoneToSend, Taken};
 ghost use Rattle.fax_core.specs.Sound.{Sound};
 ghost use Rattle.fax_core.specs.State.{calls_to};
 ghost use Rattle.fax_core.specs.declared.grants.Grant.{Grant as OneGrant};
@@ -30,7 +30,7 @@ ghost use Rattle.fax_decide.specs.Records.{KeepsRecord};
 ghost use Rattle.fax_decide.specs.Settings.{settings_of};
 ghost use Rattle.fax_decide.specs.State.{may_call};
 
-use crate::decision::{Decision, answered, applied, refuse, take};
+use crate::decision::{Decision, answered, applied};
 use crate::effect::Effect;
 use crate::fault::Fault;
 use crate::office::Office;
@@ -63,22 +63,22 @@ pub(crate) fn decide_next<S: Alter>(
         return Ok(Decision::Refused(Reply::refused(Refusal::ModemDown)));
     }
     match store.hold_of(modem.as_str())? {
-        Some(hold) => refuse(busy(store, alloc, hold, &modem)),
+        Some(hold) => busy(store, alloc, hold, &modem),
         None => decide_free(store, office, alloc, modem, next_grant, t),
     }
 }
 
-/// The reply to a modem that holds a grant: it is told which. Where the grant or its job isn't there, or the grant is
-/// not the modem's or not of that job, as in no sound queue, there is none.
+/// A modem that holds a grant gets no other, and is told which it holds. Where the grant or its job isn't there, or the
+/// grant is not the modem's or not of that job, as in no sound queue, nothing is decided.
 fn busy<S: Alter>(
     store: &mut Store<S>,
     alloc: Global,
     hold: Hold,
     modem: &Name,
-) -> Result<Reply, Fault>
+) -> Result<Decision, Fault>
     ensures { Consults S.Store store.old store.new result (λ m. (t : ℕ) (g : OneGrant) → Sound m
-        → held_by modem.now m ≡ Some g → hold ≡ as_hold g → OrNoAnswer result (λ reply. reply
-        ≡ refused_response ModemBusy (HeldGrant (is_some g.call) (handed g (aged t m))))) }
+        → held_by modem.now m ≡ Some g → hold ≡ as_hold g → OrNoAnswer result (λ decision. decision
+        ≡ Decision.Refused (refused_response ModemBusy (HeldGrant (is_some g.call) (handed g (aged t m)))))) }
 {
     let Some(grant) = store.grant(hold.grant)? else {
         return Err(Fault::Strange);
@@ -99,19 +99,19 @@ fn is_held(grant: &Grant, job: &Job, modem: &Name) -> bool
     grant.is_open && grant.job == job.fields().job && grant.modem.as_str() == modem.as_str()
 }
 
-/// The reply that tells which grant of a job is held.
-fn held(alloc: Global, grant: &Grant, job: &Job) -> Result<Reply, Fault>
+/// It is told which grant of a job the modem holds.
+fn held(alloc: Global, grant: &Grant, job: &Job) -> Result<Decision, Fault>
     requires open { grant.now.is_open ≡ true }
     requires job { grant.now.job ≡ job.now.job }
     ensures { (m : Queue) → dial_of (job_numbered grant.now.job m) ≡ job.now.dial
-        → OrNoAnswer result (λ reply. reply
-        ≡ refused_response ModemBusy (HeldGrant (is_some grant.now.call) (handed grant.now m))) }
+        → OrNoAnswer result (λ decision. decision
+        ≡ Decision.Refused (refused_response ModemBusy (HeldGrant (is_some grant.now.call) (handed grant.now m)))) }
 {
     let detail = Detail::Held {
         called: grant.call.is_some(),
         handed: handed(grant, job),
     };
-    Ok(Reply::refused_with(alloc, &detail)?)
+    Ok(Decision::Refused(Reply::refused_with(alloc, &detail)?))
 }
 
 /// A modem that holds no grant gets the best job that may go to it.
@@ -129,8 +129,19 @@ fn decide_free<S: Alter>(
 {
     match best(store, office, alloc, &modem, t)? {
         Some(job) => give(office, alloc, job, modem, next_grant),
-        None => take(Effect::Nothing, answered(alloc, &Answer::NoneToSend)),
+        None => none_to_send(alloc),
     }
+}
+
+/// No job may go, and the modem is told so.
+fn none_to_send(alloc: Global) -> Result<Decision, Fault>
+    ensures { (m : Queue) (t : ℕ) → OrNoAnswer result (Decides (Taken (aged t m) NoneToSend) m t) }
+{
+    let reply = answered(alloc, &Answer::NoneToSend)?;
+    Ok(Decision::Taken {
+        effect: Effect::Nothing,
+        reply,
+    })
 }
 
 /// The best of the waiting jobs that may go to the modem at `t`, if one may.
@@ -329,8 +340,11 @@ fn given(alloc: Global, job: Job, change: Change, grant: Grant) -> Result<Decisi
         → OrNoAnswer result (Decides (given (aged t m) (decided_with grant (job_of job) (Ok change))) m t) }
 {
     let job = applied(change, job)?;
-    let reply = answered(alloc, &Answer::Given(handed(&grant, &job)));
-    take(Effect::NewGrant { job, grant }, reply)
+    let reply = answered(alloc, &Answer::Given(handed(&grant, &job)))?;
+    Ok(Decision::Taken {
+        effect: Effect::NewGrant { job, grant },
+        reply,
+    })
 }
 
 /// A grant of a job, as it is told to a worker.

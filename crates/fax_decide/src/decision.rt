@@ -1,6 +1,6 @@
 //! What is decided of a request.
 
-ghost use Rattle.std.specs.Prelude.{◌≡◌, Err, IfOk, IsOk, MatchResult, Ok};
+ghost use Rattle.std.specs.Prelude.{◌≡◌, IfOk, IsOk, Ok};
 ghost use Rattle.fax_ask.specs.Answer.{told};
 ghost use Rattle.fax_ask.specs.Response.{accepted_response};
 ghost use Rattle.fax_core.specs.Change.{changed};
@@ -24,26 +24,6 @@ pub enum Decision {
     Taken { effect: Effect, reply: Reply },
     /// It is refused, and changes nothing.
     Refused(Reply),
-}
-
-/// A request is taken for this effect, with that reply, if there is one.
-pub(crate) fn take(effect: Effect, reply: Result<Reply, Fault>) -> Result<Decision, Fault>
-    ensures { MatchResult reply (λ reply. result ≡ Ok (Decision.Taken effect reply)) (λ fault. result ≡ Err fault) }
-{
-    match reply {
-        Ok(reply) => Ok(Decision::Taken { effect, reply }),
-        Err(fault) => Err(fault),
-    }
-}
-
-/// A request is refused with that reply, if there is one.
-pub(crate) fn refuse(reply: Result<Reply, Fault>) -> Result<Decision, Fault>
-    ensures { MatchResult reply (λ reply. result ≡ Ok (Decision.Refused reply)) (λ fault. result ≡ Err fault) }
-{
-    match reply {
-        Ok(reply) => Ok(Decision::Refused(reply)),
-        Err(fault) => Err(fault),
-    }
 }
 
 /// The reply that tells an answer.

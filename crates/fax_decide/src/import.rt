@@ -19,7 +19,7 @@ ghost use Rattle.fax_decide.specs.Looking.{Consults, DecidesBy};
 ghost use Rattle.fax_decide.specs.Read.{IsReadImport};
 ghost use Rattle.fax_decide.specs.Settings.{machine_rule, rule_for, settings_of};
 
-use crate::decision::{Decision, answered, refuse, take};
+use crate::decision::{Decision, answered};
 use crate::effect::Effect;
 use crate::fault::Fault;
 use crate::office::Office;
@@ -50,7 +50,7 @@ pub(crate) fn decide_import<S: Alter>(
     let rule = office.rule_of(alloc, &import.order.dial)?;
     match bring(import, rule, meta.next_job, office.setup.max_jobs(), t) {
         Ok(job) => brought(store, office, alloc, job, *meta, t),
-        Err(refusal) => refuse(refused(alloc, refusal, rule)),
+        Err(refusal) => refused(alloc, refusal, rule),
     }
 }
 
@@ -67,8 +67,11 @@ fn brought<S: Alter>(
         → meta ≡ meta_of m → job.job ≡ m.next_job → OrNoAnswer result (Decides
         (brought_in (settings_of office.now.setup office.now.controls) (aged t m) t rule (Ok (job_of job))) m t)) }
 {
-    let reply = told(store, office, alloc, &job, t);
-    take(Effect::NewJob { job, meta }, reply)
+    let reply = told(store, office, alloc, &job, t)?;
+    Ok(Decision::Taken {
+        effect: Effect::NewJob { job, meta },
+        reply,
+    })
 }
 
 /// The reply that tells a new job and its state at `t`.

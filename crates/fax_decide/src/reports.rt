@@ -26,7 +26,7 @@ ghost use Rattle.fax_decide.specs.Report.{ArePagesWithin, AreThere};
 ghost use Rattle.fax_decide.specs.Settings.{settings_of};
 ghost use Rattle.fax_decide.specs.State.{state_with};
 
-use crate::decision::{Decision, answered, applied, refuse, take};
+use crate::decision::{Decision, answered, applied};
 use crate::effect::Effect;
 use crate::fault::Fault;
 use crate::office::Office;
@@ -135,7 +135,11 @@ fn called(
     let answer = Answer::Called {
         stop: stops(&job, t),
     };
-    take(Effect::Reported { job, grant }, answered(alloc, &answer))
+    let reply = answered(alloc, &answer)?;
+    Ok(Decision::Taken {
+        effect: Effect::Reported { job, grant },
+        reply,
+    })
 }
 
 fn decide_page(
@@ -153,31 +157,32 @@ fn decide_page(
 {
     match page(&job, &grant, said) {
         Ok(change) => confirmed(alloc, job, change, grant.with_page(), t),
-        Err(refusal) => refuse(page_refused(alloc, &job, refusal)),
+        Err(refusal) => page_refused(alloc, &job, refusal),
     }
 }
 
-/// The reply to a page report that is refused: where it is no page that comes next, how many are confirmed.
-fn page_refused(alloc: Global, job: &Job, refusal: Refusal) -> Result<Reply, Fault>
+/// A page report is refused: where it is no page that comes next, it is told how many are confirmed.
+fn page_refused(alloc: Global, job: &Job, refusal: Refusal) -> Result<Decision, Fault>
     requires { ¬ (refusal ≡ Refusal.PageOrder) → has_detail refusal ≡ false }
-    ensures reply { OrNoAnswer result (λ reply.
-        reply ≡ refused_response refusal (keys_of_job refusal (job_of job.now))) }
+    ensures reply { OrNoAnswer result (λ decision. decision
+        ≡ Decision.Refused (refused_response refusal (keys_of_job refusal (job_of job.now)))) }
     ensures made { ¬ (refusal ≡ Refusal.PageOrder) → IsOk result }
 {
     if refusal == Refusal::PageOrder {
         return page_order(alloc, job);
     }
-    Ok(Reply::refused(refusal))
+    Ok(Decision::Refused(Reply::refused(refusal)))
 }
 
-/// The reply to a page that isn't the next one: how many are confirmed.
-fn page_order(alloc: Global, job: &Job) -> Result<Reply, Fault>
-    ensures { OrNoAnswer result (λ reply. reply ≡ refused_response Refusal.PageOrder (Pages job.now.npages)) }
+/// A page that isn't the next one is refused, and it is told how many are confirmed.
+fn page_order(alloc: Global, job: &Job) -> Result<Decision, Fault>
+    ensures { OrNoAnswer result (λ decision. decision
+        ≡ Decision.Refused (refused_response Refusal.PageOrder (Pages job.now.npages))) }
 {
     let detail = Detail::PageOrder {
         npages: job.fields().npages,
     };
-    Ok(Reply::refused_with(alloc, &detail)?)
+    Ok(Decision::Refused(Reply::refused_with(alloc, &detail)?))
 }
 
 fn confirmed(
@@ -198,7 +203,11 @@ fn confirmed(
         npages: job.fields().npages,
         stop: stops(&job, t),
     };
-    take(Effect::Reported { job, grant }, answered(alloc, &answer))
+    let reply = answered(alloc, &answer)?;
+    Ok(Decision::Taken {
+        effect: Effect::Reported { job, grant },
+        reply,
+    })
 }
 
 fn decide_outcome<S: Alter>(
@@ -242,12 +251,12 @@ fn ended<S: Alter>(
         (Ok (record { job = changed change (job_in (aged t m) job); grant = record grant.now { is_open = false } }))) m t)) }
 {
     let job = applied(change, job)?;
-    let reply = stands(store, office, alloc, &job, t);
+    let reply = stands(store, office, alloc, &job, t)?;
     let effect = Effect::Closed {
         job,
         grant: grant.number,
     };
-    take(effect, reply)
+    Ok(Decision::Taken { effect, reply })
 }
 
 /// The reply that tells the state of a job from `t` on, where one call to its number ends.

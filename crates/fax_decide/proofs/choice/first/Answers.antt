@@ -9,4 +9,4 @@ returns-in-Some g c = gives (both c.in_ok-found.ensures c.first_but.ensures) (λ
     calls.1 sound (subst (IsBusy (settings_of c.args.office.now.setup c.args.office.now.controls) m c.args.t) c.in-Some.is (calls.0 sound tt).0))
 
 pub returns-in_err-found : goal.returns-in_err-found
-returns-in_err-found g c = stops c.from_residual.result _ c.from_residual.ensures.1 c.in_err-found.ensures (λ m k at out why sound. out _ (why sound tt))
+returns-in_err-found g c = stops c.from_residual.ensures.1 c.in_err-found.ensures (λ m out why sound. out _ (why sound tt))

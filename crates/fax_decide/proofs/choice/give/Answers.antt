@@ -1,7 +1,7 @@
-use Rattle.std.proofs.Common.{◌≡◌, Ok, refl, sym, subst, ap, ◌∙◌, arith}
+use Rattle.std.proofs.Common.{◌≡◌, false, Ok, refl, sym, subst, ap, ◌∙◌, arith, true≢false, Err, List, nat_lt, ℕ}
 use Rattle.fax_core.specs.Ageing.{aged}
 use Rattle.fax_core.specs.Decisions.{grant, granted}
-use Rattle.fax_core.specs.Job.{job_of}
+use Rattle.fax_core.specs.Job.{job_of, Job}
 use Rattle.fax_core.specs.Machine.{given}
 use Rattle.fax_core.specs.declared.grants.Grant.{Grant}
 use Rattle.fax_decide.specs.Choice.{IsGrantOf}
@@ -9,11 +9,16 @@ use Rattle.fax_decide.specs.Decision.{Decides}
 use Rattle.fax_decide.specs.Fault.{OrNoAnswer}
 use Rattle.fax_decide.specs.declared.decision.Decision.TheVariants.{Refused}
 use Rattle.fax_decide.proofs.GivenLemmas.{given_by, given_not}
-use Rattle.fax_decide.proofs.PlainLemmas.{grant_plain}
-use Rattle.fax_decide.proofs.KeptLemmas.{fits_alone, grant_keeps}
-use Rattle.fax_decide.proofs.WithinLemmas.{number_within, page_left}
-use Rattle.std.proofs.lemmas.Bool.{true≢false}
+use Rattle.fax_ask.specs.Detail.{has_detail}
+use Rattle.fax_core.proofs.RefusalLemmas.{refused_or}
+use Rattle.fax_job.specs.declared.refusal.Refusal.TheVariants.{Full}
+use Rattle.fax_decide.proofs.KeptLemmas.{fits_alone, grant_keeps, number_within, page_left}
+use Rattle.fax_job.specs.declared.refusal.Refusal.{Refusal}
 use Rattle.fax_decide.proofs.choice.give.Goals as goal
+
+-- of a refused grant no more is told than number and word
+grant_plain : (j : Job) (modem : List ℕ) (next max : ℕ) (e : Refusal) → grant j modem next max ≡ Err e → has_detail e ≡ false
+grant_plain j modem next max e h = refused_or (λ x. has_detail x ≡ false) (nat_lt max next) Full e (Ok (granted j modem next)) h refl (λ x. cc x)
 
 pub returns-in-Ok-clause-decided : goal.returns-in-Ok-clause-decided
 returns-in-Ok-clause-decided c m t sound there next waits =

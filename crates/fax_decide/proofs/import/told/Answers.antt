@@ -14,4 +14,4 @@ returns-clause-consults g c = goes_on c.in_ok-state.ensures (λ m k at state.
     c.answered.ensures)
 
 pub returns-in_err-state-clause-consults : goal.returns-in_err-state-clause-consults
-returns-in_err-state-clause-consults g c = stops c.from_residual.result _ c.from_residual.ensures.1 c.in_err-state.ensures (λ m k at out why. out _ why)
+returns-in_err-state-clause-consults g c = stops c.from_residual.ensures.1 c.in_err-state.ensures (λ m out why. out _ why)

@@ -1,5 +1,4 @@
-use Rattle.std.proofs.Common.{Some, sym, subst, ◌∙◌}
-use Rattle.std.proofs.lemmas.Bool.{true≢false}
+use Rattle.std.proofs.Common.{Some, sym, subst, ◌∙◌, true≢false}
 use Rattle.fax_core.specs.Ageing.{aged}
 use Rattle.fax_core.specs.Machine.{on_both}
 use Rattle.fax_core.specs.declared.report.Report.{Report}

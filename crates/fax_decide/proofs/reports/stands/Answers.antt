@@ -14,8 +14,8 @@ returns g c = goes_on (by_reading c.in_ok-active_to.ensures.leaves c.in_ok-activ
     c.answered.ensures)
 
 pub returns-in_err-active_to : goal.returns-in_err-active_to
-returns-in_err-active_to g c = stops c.from_residual.result _ c.from_residual.ensures.1 (by_reading c.in_err-active_to.ensures.leaves c.in_err-active_to.ensures.answers) (λ m k at out why. out _ (ap fault_of why))
+returns-in_err-active_to g c = stops c.from_residual.ensures.1 (by_reading c.in_err-active_to.ensures.leaves c.in_err-active_to.ensures.answers) (λ m out why. out _ (ap fault_of why))
 
 pub returns-in_err-state_with : goal.returns-in_err-state_with
 returns-in_err-state_with g c =
-    stops c.from_residual-in_err-state_with.result _ c.from_residual-in_err-state_with.ensures.1 (by_reading c.in_ok-active_to.ensures.leaves c.in_ok-active_to.ensures.answers) (λ m k at out calls. out _ c.in_err-state_with.ensures)
+    stops c.from_residual-in_err-state_with.ensures.1 (by_reading c.in_ok-active_to.ensures.leaves c.in_ok-active_to.ensures.answers) (λ m out calls. out _ c.in_err-state_with.ensures)

@@ -12,4 +12,4 @@ returns-in-Some g c = gives (both c.in_ok-job.ensures.consults c.shown.ensures) 
     (job_viewed (settings_of c.args.office.now.setup c.args.office.now.controls) m c.args.t c.args.number c.in-Some.job _ calls.0 c.in-Some.is) calls.1)
 
 pub returns-in_err-job : goal.returns-in_err-job
-returns-in_err-job g c = stops c.from_residual.result _ c.from_residual.ensures.1 c.in_err-job.ensures.consults (λ m k at out why. out _ (ap fault_of why))
+returns-in_err-job g c = stops c.from_residual.ensures.1 c.in_err-job.ensures.consults (λ m out why. out _ (ap fault_of why))

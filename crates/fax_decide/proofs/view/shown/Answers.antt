@@ -11,7 +11,7 @@ returns g c = goes_on c.in_ok-state.ensures (λ m k at state.
     c.in_ok-shown_with.ensures ∙ ap (λ (state : ℕ). accepted_response (Shown (printed (job_lines c.args.job.now state)))) state)
 
 pub returns-in_err-state : goal.returns-in_err-state
-returns-in_err-state g c = stops c.from_residual.result _ c.from_residual.ensures.1 c.in_err-state.ensures (λ m k at out why. out _ why)
+returns-in_err-state g c = stops c.from_residual.ensures.1 c.in_err-state.ensures (λ m out why. out _ why)
 
 pub returns-in_err-shown_with : goal.returns-in_err-shown_with
-returns-in_err-shown_with g c = stops c.from_residual-in_err-shown_with.result _ c.from_residual-in_err-shown_with.ensures.1 c.in_ok-state.ensures (λ m k at out state. out _ refl)
+returns-in_err-shown_with g c = stops c.from_residual-in_err-shown_with.ensures.1 c.in_ok-state.ensures (λ m out state. out _ refl)

@@ -22,10 +22,10 @@ returns g c = goes_on c.loop-job.invariant.consults (λ m k at rows.
     rows)
 
 pub returns-in_err-rows : goal.returns-in_err-rows
-returns-in_err-rows g c = stops c.from_residual.result _ c.from_residual.ensures.1 no_call (λ m k at out none. out _ refl)
+returns-in_err-rows g c = stops c.from_residual.ensures.1 no_call (λ m out none. out _ refl)
 
 pub returns-in_err-state : goal.returns-in_err-state
-returns-in_err-state g c = stops c.from_residual-in_err-state.result _ c.from_residual-in_err-state.ensures.1 (both c.loop-job.invariant.consults c.in_err-state.ensures) (λ m k at out why. out _ why.1)
+returns-in_err-state g c = stops c.from_residual-in_err-state.ensures.1 (both c.loop-job.invariant.consults c.in_err-state.ensures) (λ m out why. out _ why.1)
 
 pub returns-in_err-add_row : goal.returns-in_err-add_row
-returns-in_err-add_row g c = stops c.from_residual-in_err-add_row.result _ c.from_residual-in_err-add_row.ensures.1 (both c.loop-job.invariant.consults c.in_ok-state.ensures) (λ m k at out calls. out _ refl)
+returns-in_err-add_row g c = stops c.from_residual-in_err-add_row.ensures.1 (both c.loop-job.invariant.consults c.in_ok-state.ensures) (λ m out calls. out _ refl)
