@@ -45,14 +45,17 @@ map_same : {X Y : Type 0} (f g : X → Y) (P : X → Type 0) → ((x : X) → P 
 map_same f g P same [] all = refl
 map_same f g P same (x ∷ xs) all = ap₂ ◌∷◌ (same x (All-head P x xs all)) (map_same f g P same xs (All-tail P x xs all))
 
+-- an aged job with its state is its row
+pub row_is : (s : Settings) (m : Queue) (t : ℕ) (f g : JobFields) (found : ℕ) → job_of g ≡ aged_job t (job_of f) → found ≡ state s m t (job_of g)
+    → ◌≡◌ {A = Listed} (g, found) (with_state s m t (aged_job t (job_of f)))
+row_is s m t f g found old told = ap₂ (λ (x : JobFields) (n : ℕ). (x, n)) (sym (record_again g)) told ∙ ap (with_state s m t) old
+
 -- one more of them
-pub one_more_row : (s : Settings) (m : Queue) (t : ℕ) (before : List JobFields) (f g : JobFields) (found : ℕ) (rows more : List Listed)
-    → rows ≡ map (λ x. with_state s m t (aged_job t (job_of x))) before → job_of g ≡ aged_job t (job_of f) → found ≡ state s m t (job_of g) → more ≡ rows ++ (g, found) ∷ []
+pub one_more_row : (s : Settings) (m : Queue) (t : ℕ) (before : List JobFields) (f : JobFields) (rows more : List Listed)
+    → rows ≡ map (λ x. with_state s m t (aged_job t (job_of x))) before → more ≡ rows ++ with_state s m t (aged_job t (job_of f)) ∷ []
     → more ≡ map (λ x. with_state s m t (aged_job t (job_of x))) (before ++ f ∷ [])
-one_more_row s m t before f g found rows more is old told one =
-    let row : ◌≡◌ {A = Listed} (g, found) (with_state s m t (aged_job t (job_of f))) =
-    ap₂ (λ (x : JobFields) (n : ℕ). (x, n)) (sym (record_again g)) told ∙ ap (with_state s m t) old in
-    one ∙ ap₂ (λ (xs : List Listed) (x : Listed). xs ++ x ∷ []) is row ∙ sym (map-append (λ (x : JobFields). with_state s m t (aged_job t (job_of x))) before (f ∷ []))
+one_more_row s m t before f rows more is one =
+    one ∙ ap (λ (xs : List Listed). xs ++ with_state s m t (aged_job t (job_of f)) ∷ []) is ∙ sym (map-append (λ (x : JobFields). with_state s m t (aged_job t (job_of x))) before (f ∷ []))
 
 -- all of them
 pub all_rows : (s : Settings) (m : Queue) (t : ℕ) (all before : List JobFields) (rows : List Listed) → all ≡ before

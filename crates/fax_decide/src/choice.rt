@@ -68,8 +68,8 @@ pub(crate) fn decide_next<S: Alter>(
     }
 }
 
-/// A modem that holds a grant gets no other, and is told which it holds. Where the grant or its job isn't there, or the
-/// grant is not the modem's or not of that job, as in no sound queue, nothing is decided.
+/// A modem that holds a grant gets no other, and is told which it holds. Where the grant or its job isn't there, as in
+/// no sound queue, nothing is decided.
 fn busy<S: Alter>(
     store: &mut Store<S>,
     alloc: Global,
@@ -86,10 +86,7 @@ fn busy<S: Alter>(
     let Some(job) = store.brief(hold.job)? else {
         return Err(Fault::Strange);
     };
-    if !is_held(&grant, &job, modem) {
-        return Err(Fault::Strange);
-    }
-    held(alloc, &grant, &job)
+    held(alloc, &grant, &job, modem)
 }
 
 /// Whether a grant is open, of that job, and the modem's.
@@ -99,14 +96,17 @@ fn is_held(grant: &Grant, job: &Job, modem: &Name) -> bool
     grant.is_open && grant.job == job.fields().job && grant.modem.as_str() == modem.as_str()
 }
 
-/// It is told which grant of a job the modem holds.
-fn held(alloc: Global, grant: &Grant, job: &Job) -> Result<Decision, Fault>
-    requires open { grant.now.is_open ≡ true }
-    requires job { grant.now.job ≡ job.now.job }
-    ensures { (m : Queue) → dial_of (job_numbered grant.now.job m) ≡ job.now.dial
-        → OrNoAnswer result (λ decision. decision
+/// The modem is told which grant of a job it holds. Where the grant is closed, or not the modem's or not of that job, as
+/// in no sound queue, nothing is decided.
+fn held(alloc: Global, grant: &Grant, job: &Job, modem: &Name) -> Result<Decision, Fault>
+    ensures told { (m : Queue) → is_held_by modem.now job.now grant.now ≡ true
+        → dial_of (job_numbered grant.now.job m) ≡ job.now.dial → OrNoAnswer result (λ decision. decision
         ≡ Decision.Refused (refused_response ModemBusy (HeldGrant (is_some grant.now.call) (handed grant.now m)))) }
+    ensures misfit { is_held_by modem.now job.now grant.now ≡ false → IsErr result }
 {
+    if !is_held(grant, job, modem) {
+        return Err(Fault::Strange);
+    }
     let detail = Detail::Held {
         called: grant.call.is_some(),
         handed: handed(grant, job),

@@ -21,8 +21,10 @@ pub returns : goal.returns
 returns g c = goes_on (both (by_reading c.in_ok-grant.ensures.leaves c.in_ok-grant.ensures.answers) (by_reading c.in_ok-job.ensures.leaves c.in_ok-job.ensures.answers)) (λ m k at calls t one sound is same.
     let it : c.in-Some.grant ≡ one = same_Some _ _ (sym c.in-Some.is ∙ calls.0 ∙ hold_has_grant m c.args.modem.now one c.args.hold sound is same) in
     let Told = λ (x : Grant). OrNoAnswer c.held.result (λ d. d ≡ Refused (refused_response ModemBusy (HeldGrant (is_some x.call) (handed x (aged t m))))) in
-    subst Told it (c.held.ensures (aged t m) (ap (λ (x : Grant). dial_of (job_numbered x.job (aged t m))) it
-    ∙ hold_dials m c.args.modem.now one c.args.hold sound is same t c.in-Some-2.job (sym c.in-Some-2.is ∙ calls.1))))
+    let found = sym c.in-Some-2.is ∙ calls.1 in
+    subst Told it (c.held.ensures.told (aged t m)
+    (ap (is_held_by c.args.modem.now c.in-Some-2.job) it ∙ hold_is_its m c.args.modem.now one c.args.hold sound is same c.in-Some-2.job found)
+    (ap (λ (x : Grant). dial_of (job_numbered x.job (aged t m))) it ∙ hold_dials m c.args.modem.now one c.args.hold sound is same t c.in-Some-2.job found)))
 
 pub returns-in_err-grant : goal.returns-in_err-grant
 returns-in_err-grant g c =
@@ -40,17 +42,3 @@ returns-in_err-job g c =
 pub returns-in_default-2 : goal.returns-in_default-2
 returns-in_default-2 g c = goes_on (both (by_reading c.in_ok-grant.ensures.leaves c.in_ok-grant.ensures.answers) (by_reading c.in_ok-job.ensures.leaves c.in_ok-job.ensures.answers)) (λ m k at calls t one sound is same.
     absurd (none-some _ (sym c.in_default-2.is ∙ calls.1 ∙ ap (option_map (λ j. brief (fields_of j))) (hold_has_job m c.args.modem.now one c.args.hold sound is same).1)))
-
-pub returns-then-not-is_held : goal.returns-then-not-is_held
-returns-then-not-is_held g c = goes_on (both (by_reading c.in_ok-grant.ensures.leaves c.in_ok-grant.ensures.answers) (by_reading c.in_ok-job.ensures.leaves c.in_ok-job.ensures.answers)) (λ m k at calls t one sound is same.
-    let it : c.in-Some.grant ≡ one = same_Some _ _ (sym c.in-Some.is ∙ calls.0 ∙ hold_has_grant m c.args.modem.now one c.args.hold sound is same) in
-    let its = hold_is_its m c.args.modem.now one c.args.hold sound is same c.in-Some-2.job (sym c.in-Some-2.is ∙ calls.1) in
-    absurd (true≢false (sym (c.is_held.ensures ∙ ap (is_held_by c.args.modem.now c.in-Some-2.job) it ∙ its) ∙ c.if-not-is_held.true)))
-
-pub held-requires-clause-open : goal.held-requires-clause-open
-held-requires-clause-open g c = (and_parts c.in-Some.grant.is_open _ (and_parts (c.in-Some.grant.is_open && (c.in-Some.grant.job == c.in-Some-2.job.job)) _ (sym c.is_held.ensures ∙ c.if-not-is_held.false)).0).0
-
-pub held-requires-clause-job : goal.held-requires-clause-job
-held-requires-clause-job g c =
-    eqb-true c.in-Some.grant.job c.in-Some-2.job.job
-    (and_parts c.in-Some.grant.is_open _ (and_parts (c.in-Some.grant.is_open && (c.in-Some.grant.job == c.in-Some-2.job.job)) _ (sym c.is_held.ensures ∙ c.if-not-is_held.false)).0).1
