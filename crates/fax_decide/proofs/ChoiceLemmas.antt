@@ -1,8 +1,7 @@
 -- Which job is the best: the first that may go among the waiting jobs in the order of the choice.
-use Rattle.std.proofs.Common.{◌≡◌, ◌⊎◌, inl, inr, ℕ, suc, ◌+◌, ◌<◌, ◌≤◌, Bool, true, false, not, cond, ◌&&◌, eqb, leb, All, List, [], ◌∷◌, ◌++◌, length, map, get_or, refl, sym, ap, ap₂, subst, ◌∙◌, arith, append_assoc, Option, Some, None, IsTrue, find, filter, is_some, nat_lt, bytes_eq, option_map, IsPermutation, IsSortedBy, eqb-true, length-append, true≢false, MatchOption}
+use Rattle.std.proofs.Common.{◌≡◌, inl, inr, ℕ, suc, ◌+◌, ◌≤◌, Bool, true, false, not, cond, ◌&&◌, eqb, leb, All, List, [], ◌∷◌, ◌++◌, length, get_or, refl, sym, ap, ap₂, subst, ◌∙◌, arith, append_assoc, Option, Some, None, find, filter, nat_lt, bytes_eq, option_map, IsSortedBy, eqb-true, length-append, true≢false, MatchOption}
 use Rattle.std.specs.Option.{option_or}
 use Rattle.std.proofs.lemmas.Bool.{and_parts, and_right, cases_Bool, cond_both, cond-false, not-false, not-true}
-use Rattle.std.proofs.lemmas.Option.{none-some}
 use Rattle.std.proofs.lemmas.Bool.Decides.{nat_tests}
 use Rattle.std.proofs.lemmas.List.Elements.{recursion_from_All}
 use Rattle.std.proofs.lemmas.List.Filters.{length-filter_both}
@@ -315,16 +314,11 @@ busy_stays s m t modem (Some dial) j busy due to =
     let same : j.dial ≡ dial = (bytes_eq-Decides j.dial dial).0 (not-false (bytes_eq j.dial dial) to) in
     goes_due s m t modem j due ∙ ap (λ b. b && s.admits j.modem modem) (ap (λ (d : List ℕ). may_call s d (calls_to d m) t) same ∙ busy)
 
--- so the first of the others is the first of all
-first_of_all : (s : Settings) (m : Queue) (asked : Asked) (modem : List ℕ) (found : Option ℕ) → IsBusy s m asked.t asked.but → IsFirstAsked s asked m modem found → IsFirst s m asked.t modem found
-first_of_all s m asked modem found busy first =
-    let w = first.1 in
-    let p = may_go s m asked.t modem in
-    let same : find p first.0 ≡ find p w.all =
-    ap (find p) w.is ∙ find_others p (is_other asked.but) w.all (λ j has to. busy_stays s m asked.t modem asked.but j busy (waiting_due m asked.t w.all w.waiting j has).1 to) in
-    (w.all, w.waiting, first.2 ∙ ap (option_map number_of) same)
-
--- what a look at those that are asked for tells
+-- so the first of those that are asked for is the first of all
 pub first_known : (s : Settings) (m : Queue) (t : ℕ) (modem : List ℕ) (asked : Asked) (found : Option ℕ) → asked.t ≡ t → IsBusy s m t asked.but → IsFirstAsked s asked m modem found → IsFirst s m t modem found
 first_known s m t modem asked found same but first =
-    subst (λ (x : ℕ). IsFirst s m x modem found) same (first_of_all s m asked modem found (subst (λ (x : ℕ). IsBusy s m x asked.but) (sym same) but) first)
+    let w = first.1 in
+    let p = may_go s m asked.t modem in
+    let busy = subst (λ (x : ℕ). IsBusy s m x asked.but) (sym same) but in
+    let others = find_others p (is_other asked.but) w.all (λ j has to. busy_stays s m asked.t modem asked.but j busy (waiting_due m asked.t w.all w.waiting j has).1 to) in
+    subst (λ (x : ℕ). IsFirst s m x modem found) same (w.all, w.waiting, first.2 ∙ ap (option_map number_of) (ap (find p) w.is ∙ others))

@@ -1,23 +1,22 @@
 -- A new job and a new grant come last, and what is accepted of a sound queue, and leaves one, has keys that were free.
-use Rattle.std.proofs.Common.{◌≡◌, inl, inr, ℕ, ◌+◌, true, List, [], ◌∷◌, ◌++◌, map, length, find, Option, Some, None, refl, sym, ap, subst, ◌∙◌, arith, nat_lt, ◌==◌, bytes_eq, eq-eqb, cond, lt-ltb, ltb}
+use Rattle.std.proofs.Common.{◌≡◌, inl, inr, ℕ, ◌+◌, true, List, [], ◌∷◌, ◌++◌, map, length, find, Some, None, refl, sym, ap, subst, ◌∙◌, arith, nat_lt, ◌==◌, bytes_eq, eq-eqb, cond, lt-ltb, ltb}
 use Rattle.std.specs.List.{range_with_len}
 use Rattle.std.proofs.lemmas.Bool.{cases_Bool}
 use Rattle.std.proofs.lemmas.Slice.Eq.{bytes_eq-Decides}
-use Rattle.sqlite_rules.specs.Lists.{Has}
 use Rattle.fax_core.specs.declared.grants.Grant.{Grant}
 use Rattle.fax_core.specs.Ageing.{aged_job}
 use Rattle.fax_core.specs.Job.{Job, job_of}
 use Rattle.fax_core.specs.Machine.{held_by}
 use Rattle.fax_core.specs.Queue.{Queue, grant_numbered, open_grants}
 use Rattle.fax_core.specs.Sound.{IsOpen, Sound}
-use Rattle.fax_core.proofs.PlaceLemmas.{In, absent, comes, found, found_in, in_found, of_filter, stays}
+use Rattle.fax_core.proofs.PlaceLemmas.{In, absent, comes, found, found_in, stays}
 use Rattle.fax_core.proofs.StepLemmas.{aged_sound}
 use Rattle.fax_tables.specs.Place.{placed}
 use Rattle.fax_store.specs.Grant.{IsNewGrant}
 use Rattle.fax_store.specs.Job.{IsNewJob, with_expired}
 use Rattle.fax_decide.specs.Effect.{IsFree, IsWithin, accepted}
 use Rattle.fax_decide.specs.declared.effect.Effect.{Effect}
-use Rattle.fax_decide.specs.declared.effect.Effect.TheVariants.{Nothing, NewJob, ChangedJob, Marked, NewGrant, Reported, Closed}
+use Rattle.fax_decide.specs.declared.effect.Effect.TheVariants.{NewJob, NewGrant}
 use Rattle.fax_decide.proofs.RecordLemmas.{in_had, none_by, open_there}
 
 -- ---- what is new comes last

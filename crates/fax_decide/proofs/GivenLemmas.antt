@@ -1,13 +1,11 @@
 -- What a new grant makes of the queue, and what is told of a grant.
-use Rattle.std.proofs.Common.{◌≡◌, ℕ, ◌+◌, ◌<◌, ◌==◌, ◌&&◌, Bool, true, false, cond, not, List, refl, sym, ap, subst, ◌∙◌, arith, Option, Some, None, is_some, Result, Ok, Err, option_map, bytes_eq, eq-eqb}
+use Rattle.std.proofs.Common.{◌≡◌, ℕ, ◌+◌, ◌<◌, ◌==◌, ◌&&◌, true, false, cond, not, List, refl, sym, ap, subst, ◌∙◌, arith, Option, Some, None, is_some, Result, Ok, option_map, bytes_eq, eq-eqb}
 use Rattle.std.proofs.lemmas.Bool.{and_from}
-use Rattle.std.proofs.lemmas.Option.{none-some, same_Some}
 use Rattle.fax_ask.specs.Answer.{Replied}
-use Rattle.fax_ask.specs.Response.{Response, accepted_response, refused_response}
+use Rattle.fax_ask.specs.Response.{Response, accepted_response}
 use Rattle.fax_job.specs.declared.job.JobFields.{JobFields}
 use Rattle.fax_job.specs.declared.refusal.Refusal.{Refusal}
-use Rattle.fax_job.specs.declared.refusal.Refusal.TheVariants.{ModemBusy, ModemDown, NoModem, Unavailable}
-use Rattle.fax_job.specs.Job.{is_lawful}
+use Rattle.fax_job.specs.declared.refusal.Refusal.TheVariants.{ModemBusy, ModemDown, NoModem}
 use Rattle.fax_value.specs.Limits.{last_grant}
 use Rattle.fax_core.specs.declared.change.Change.{Change}
 use Rattle.fax_core.specs.declared.grants.Grant.{Grant}
@@ -22,26 +20,24 @@ use Rattle.fax_core.specs.Reply as machine
 use Rattle.fax_core.specs.Reply.{Step}
 use Rattle.fax_core.specs.Settings.{Settings}
 use Rattle.fax_core.specs.Sound.{Sound, IsOpen}
-use Rattle.fax_core.specs.Submission.{submitted, recorded}
+use Rattle.fax_core.specs.Submission.{recorded}
 use Rattle.fax_core.proofs.BestLemmas.{best_is}
 use Rattle.fax_core.proofs.KeepLemmas.{numbered_job}
-use Rattle.fax_core.proofs.PlaceLemmas.{found as found_by, found_in, in_found, of_filter, placed_here}
+use Rattle.fax_core.proofs.PlaceLemmas.{found as found_by, found_in, placed_here}
 use Rattle.fax_core.proofs.StepLemmas.{aged_sound}
 use Rattle.fax_tables.specs.declared.grants.Hold.{Hold}
 use Rattle.fax_tables.specs.Grant.{IsOpenGrant, as_hold}
 use Rattle.fax_tables.specs.Job.{brief}
-use Rattle.fax_store.specs.Job.{IsChange, IsSameOrder, lines_of, with_expired, with_its_lines}
+use Rattle.fax_store.specs.Job.{lines_of}
 use Rattle.fax_decide.specs.Choice.{is_held_by}
 use Rattle.fax_decide.specs.Records.{job_in}
-use Rattle.fax_decide.specs.Decision.{Decides, IsRefused, IsTaken}
+use Rattle.fax_decide.specs.Decision.{IsTaken}
 use Rattle.fax_decide.specs.Effect.{accepted}
-use Rattle.fax_decide.specs.declared.effect.Effect.TheVariants.{NewGrant, Nothing}
-use Rattle.fax_decide.specs.declared.decision.Decision.TheVariants.{Taken}
+use Rattle.fax_decide.specs.declared.effect.Effect.TheVariants.{NewGrant}
 use Rattle.fax_decide.proofs.LinesLemmas.{lined}
 use Rattle.fax_decide.proofs.RecordLemmas.{aged_numbered, aged_same, none_told, open_there}
 use Rattle.fax_decide.proofs.FreeLemmas.{grant_placed}
 use Rattle.fax_decide.proofs.JobLemmas.{order_kept, recorded_is, whole_changed}
-use Rattle.fax_decide.proofs.DecisionLemmas.{refused_as}
 use Rattle.fax_store.proofs.WorkLemmas.{there_as}
 
 abbrev both : Job → Grant → JobAndGrant
@@ -86,12 +82,6 @@ pub given_by : (P : Step → Type 0) (m : Queue) (j : Job) (modem : List ℕ) (n
     → decided_with (granted j modem n).grant j d ≡ grant j modem n limit → limit ≡ max → P (given m (decided_with g j d)) → P (given m (grant j modem n max))
 given_by P m j modem n limit max d g is decided most holds =
     subst (λ (r : Result JobAndGrant Refusal). P (given m r)) (ap (λ (x : Grant). decided_with x j d) is ∙ decided ∙ ap (grant j modem n) most) holds
-
--- and the refusal is the machine's
-pub given_not : (m : Queue) (j : Job) (modem : List ℕ) (n limit max : ℕ) (e : Refusal) (reply : Response)
-    → ◌≡◌ {A = Result JobAndGrant Refusal} (Err e) (grant j modem n limit) → limit ≡ max → reply ≡ refused_response e machine.NoKeys
-    → IsRefused (given m (grant j modem n max)) reply
-given_not m j modem n limit max e reply decided most told = refused_as (ap (given m) (sym (decided ∙ ap (grant j modem n) most))) told
 
 -- what holds of the best job's grant, by its number, holds of what the machine gives
 pub best_given : (P : Step → Type 0) (s : Settings) (m : Queue) (t : ℕ) (modem : List ℕ) (f : JobFields) (n : ℕ)

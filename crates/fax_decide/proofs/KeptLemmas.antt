@@ -1,40 +1,35 @@
 -- A change that is decided of a job leaves a lawful record, and what is written is within its limits.
-use Rattle.std.proofs.Common.{◌≡◌, ℕ, ◌+◌, ◌≤◌, Bool, true, false, cond, List, Ok, Err, IfOk, Result, refl, sym, ap, subst, ◌∙◌, arith, ◌<◌, ◌-◌, ◌&&◌, leb, length, Some, None, is_some, nat_lt, not, ltb-false, leb-true}
+use Rattle.std.proofs.Common.{◌≡◌, ℕ, ◌+◌, ◌≤◌, Bool, true, cond, List, Ok, Err, IfOk, Result, refl, sym, ap, subst, ◌∙◌, arith, ◌<◌, ◌-◌, ◌&&◌, leb, length, Some, None, nat_lt, ltb-false, leb-true}
 use Rattle.std.proofs.lemmas.Bool.{and_parts}
 use Rattle.std.proofs.lemmas.Option.{none-some}
 use Rattle.fax_job.specs.Job.{is_lawful, IsLawful}
 use Rattle.fax_value.specs.Limits.{last_job, last_next, most_pages}
-use Rattle.fax_job.specs.declared.import.Import.{Import}
 use Rattle.fax_job.specs.declared.job.Call.{Call}
 use Rattle.fax_job.specs.declared.job.JobFields.{JobFields}
 use Rattle.fax_job.specs.declared.job.Phase.TheVariants.{Granted, Waiting}
-use Rattle.fax_job.specs.declared.order.Order.{Order}
 use Rattle.fax_job.specs.declared.refusal.Refusal.{Refusal}
-use Rattle.fax_job.specs.declared.refusal.Refusal.TheVariants.{Full, Rejected, TooManyPages, Unavailable}
+use Rattle.fax_job.specs.declared.refusal.Refusal.TheVariants.{Full, Unavailable}
 use Rattle.fax_core.specs.declared.change.Change.{Change}
 use Rattle.fax_core.specs.declared.grants.Grant.{Grant}
 use Rattle.fax_core.specs.declared.report.Outcome.{Outcome}
 use Rattle.fax_core.specs.Ageing.{aged}
 use Rattle.fax_core.specs.Best.{best}
 use Rattle.fax_core.specs.Change.{changed, decided, decided_with}
-use Rattle.fax_core.specs.Decisions.{JobAndGrant, call, grant, is_over, job_asked, new_job, outcome, page, submit, granted}
+use Rattle.fax_core.specs.Decisions.{JobAndGrant, call, grant, job_asked, outcome, page, granted}
 use Rattle.fax_core.specs.Fits.{fits}
-use Rattle.fax_core.specs.Import.{bring, brought, is_ended, old_job}
 use Rattle.fax_core.specs.Job.{Job, job_of}
 use Rattle.fax_core.specs.Laws.{HasJobRecord, HasRecord}
 use Rattle.fax_core.specs.Queue.{Queue, grant_numbered, job_numbered}
-use Rattle.fax_core.specs.Settings.{Rule, Settings}
+use Rattle.fax_core.specs.Settings.{Settings}
 use Rattle.fax_core.specs.Sound.{FitsGrant, Sound, CanGoOn, FitsFree, FitsPhase}
 use Rattle.fax_core.specs.State.{calls_to}
 use Rattle.fax_core.specs.Submission.{recorded}
 use Rattle.fax_core.proofs.BestLemmas.{best_is, ready_waits}
 use Rattle.fax_core.proofs.FitsLemmas.{fits_decides, record_again}
 use Rattle.fax_core.proofs.LawfulLemmas.{alterations_keep, grants_keep, reports_keep, requests_keep}
-use Rattle.fax_core.proofs.NewJobLemmas.{read_recorded}
-use Rattle.fax_core.proofs.ReadImportLemmas.{read_old_recorded}
 use Rattle.fax_core.proofs.KeepLemmas.{same_job}
 use Rattle.fax_core.proofs.StepLemmas.{aged_sound}
-use Rattle.fax_decide.specs.Read.{IsReadImport, IsReadOn, IsReadOrder}
+use Rattle.fax_decide.specs.Read.{IsReadOn}
 use Rattle.fax_decide.specs.Records.{KeepsRecord, job_in}
 use Rattle.fax_decide.specs.Report.{AreThere}
 use Rattle.fax_core.specs.declared.ask.JobAsk.{JobAsk}

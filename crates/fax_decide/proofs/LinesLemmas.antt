@@ -6,7 +6,7 @@ use Rattle.fax_job.specs.declared.alter.Alter.{Alter}
 use Rattle.fax_job.specs.declared.job.Call.{Call}
 use Rattle.fax_job.specs.declared.job.Call.TheVariants as calls
 use Rattle.fax_job.specs.declared.job.Phase.{Phase}
-use Rattle.fax_job.specs.declared.job.Phase.TheVariants.{Held, Waiting, Granted, Done, Failed}
+use Rattle.fax_job.specs.declared.job.Phase.TheVariants.{Held, Granted, Failed}
 use Rattle.fax_job.specs.declared.job.Wish.{Wish}
 use Rattle.fax_job.specs.declared.job.Wish.TheVariants as wish
 use Rattle.fax_job.specs.declared.refusal.Refusal.{Refusal}

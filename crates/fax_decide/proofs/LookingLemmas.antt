@@ -1,7 +1,7 @@
 -- Calls that look at the store, one after the other.
-use Rattle.std.proofs.Common.{◌≡◌, ℕ, Ok, Err, Result, IfOk, IsErrAnd, OnOk, subst, sym, MatchResult}
+use Rattle.std.proofs.Common.{◌≡◌, ℕ, Ok, Err, Result, IfOk, IsErrAnd, OnOk, subst}
 use Rattle.std.specs.Prelude.{⊤}
-use Rattle.sqlite.specs.State.{State, HasCleanDisk}
+use Rattle.std.proofs.lemmas.Result.{on_ok_weaker}
 use Rattle.fax_core.specs.Ledger.{Ledger}
 use Rattle.fax_core.specs.Queue.{Queue}
 use Rattle.fax_core.specs.Reply.{Step}
@@ -23,16 +23,6 @@ use Rattle.fax_decide.specs.declared.decision.Decision.{Decision}
 use Rattle.fax_decide.specs.declared.fault.Fault.{Fault}
 use Rattle.fax_decide.specs.declared.fault.Fault.TheVariants.{NoAnswer}
 use Rattle.fax_decide.proofs.FaultLemmas.{passed_on}
-
--- what was open at first is open after the second, where it answers
-opens_then : {A E : Type 0} (a b c : State) (r : Result A E) → StaysOpen a b → (HasCleanDisk c → HasCleanDisk b) → OnOk r (StaysOpen b c) → OnOk r (StaysOpen a c)
-opens_then a b c (Ok x) first clean second = λ now serves. second now (first (clean now) serves)
-opens_then a b c (Err e) first clean second = tt
-
--- an answer leaves the store serving
-opens_of : {A E : Type 0} (a b : State) (r : Result A E) → OnOk r (HasCleanDisk b → Serves b) → OnOk r (StaysOpen a b)
-opens_of a b (Ok x) opens = λ clean serves. opens clean
-opens_of a b (Err e) opens = tt
 
 -- what holds of every answer
 always : {A E P : Type 0} (r : Result A E) → P → OnOk r P
@@ -66,7 +56,7 @@ module _ {S : Type 0} {g : _} where
       → ((m : Queue) (k : Ledger) → MeansNow (shown g old) m k → Serves (shown g new) → P m) → Consults g old new result P
   by_reading {old} {new} {A} {result} finds answers = record {
     leaves = looks_of g old new result finds;
-    opens = opens_of (shown g old) (shown g new) result finds.opens;
+    opens = on_ok_weaker result (λ opens clean serves. opens clean) finds.opens;
     found = λ m k means serves. answers m k (means_now means) serves;
   }
 
@@ -80,7 +70,7 @@ module _ {S : Type 0} {g : _} where
       → Consults g a c result (λ m. P m × Q m)
   both {a} {b} {c} {result = result} first second = record {
     leaves = looks_then g a b c first.leaves second.leaves;
-    opens = opens_then (shown g a) (shown g b) (shown g c) result first.opens second.leaves.clean second.opens;
+    opens = on_ok_weaker result (λ opens clean serves. opens clean (first.opens (second.leaves.clean clean) serves)) second.opens;
     found = λ m k means serves. (first.found m k means (second.leaves.served serves), second.found m k (means_stay first.leaves.served first.leaves.stays m k means) serves);
   }
 

@@ -1,6 +1,5 @@
 -- What is decided of a new job, which is submitted or brought in.
 use Rattle.std.proofs.Common.{◌≡◌, ℕ, ◌+◌, ◌≤◌, ◌<◌, Bool, true, false, cond, eqb, List, Result, Ok, Err, IfOk, IsOk, refl, sym, ap, subst, ◌∙◌, arith, is_some, nat_lt, not, ◌&&◌}
-use Rattle.sqlite_rules.proofs.ListLemmas.{has_filtered}
 use Rattle.fax_value.specs.Limits.{last_job}
 use Rattle.fax_job.specs.declared.job.JobFields.{JobFields}
 use Rattle.fax_job.specs.declared.refusal.Refusal.{Refusal}
@@ -18,7 +17,6 @@ use Rattle.fax_core.specs.Settings.{Rule, Settings}
 use Rattle.fax_core.specs.Sound.{Sound}
 use Rattle.fax_core.specs.State.{is_of_number, calls_to, state, state_at}
 use Rattle.fax_core.specs.Submission.{recorded, rule_of}
-use Rattle.fax_core.specs.declared.grants.Grant.{Grant}
 use Rattle.fax_core.proofs.DecisionLemmas.{not_refused, ok_same}
 use Rattle.fax_core.proofs.PlaceLemmas.{stays}
 use Rattle.fax_core.proofs.StepLemmas.{aged_sound}

@@ -1,5 +1,5 @@
 -- Jobs and grants of a queue, as the store finds them.
-use Rattle.std.proofs.Common.{◌≡◌, inl, inr, ℕ, ◌<◌, ◌≤◌, ◌==◌, ◌&&◌, leb, Bool, true, All, List, [], ◌∷◌, Option, Some, None, find, option_map, refl, sym, ap, subst, ◌∙◌, arith, leb-true}
+use Rattle.std.proofs.Common.{◌≡◌, inl, inr, ℕ, ◌<◌, ◌==◌, ◌&&◌, leb, Bool, All, List, [], ◌∷◌, Option, Some, None, find, option_map, refl, sym, ap, subst, ◌∙◌, arith, leb-true}
 use Rattle.std.proofs.lemmas.Bool.{and_parts, cond_both}
 use Rattle.std.proofs.lemmas.List.Elements.{recursion_from_All}
 use Rattle.std.proofs.lemmas.Option.{none-some}

@@ -1,12 +1,12 @@
 -- What is decided of a report on a grant.
-use Rattle.std.proofs.Common.{◌≡◌, ℕ, ◌≤◌, ◌-◌, Bool, true, false, not, Some, None, Ok, Err, All, List, [], ◌∷◌, suc, find, refl, sym, ap, ap₂, subst, ◌∙◌, arith, inl, inr, ◌==◌, option_map, Option, Result}
-use Rattle.std.proofs.lemmas.Bool.{cases_Bool, not-false}
+use Rattle.std.proofs.Common.{◌≡◌, ℕ, ◌≤◌, ◌-◌, true, false, not, Some, Ok, Err, List, refl, sym, ap, ap₂, subst, ◌∙◌, Option, Result}
+use Rattle.std.proofs.lemmas.Bool.{not-false}
 use Rattle.fax_value.specs.Limits.{most_pages}
 use Rattle.fax_job.specs.Pair.{Pair}
 use Rattle.fax_job.specs.declared.job.JobFields.{JobFields}
 use Rattle.fax_job.specs.declared.job.Call.{Call as CallResult}
 use Rattle.fax_job.specs.declared.refusal.Refusal.{Refusal}
-use Rattle.fax_job.specs.declared.refusal.Refusal.TheVariants.{GrantClosed, NoGrant, PageOrder}
+use Rattle.fax_job.specs.declared.refusal.Refusal.TheVariants.{GrantClosed, PageOrder}
 use Rattle.fax_ask.specs.Answer.{Replied}
 use Rattle.fax_ask.specs.Response.{Response, accepted_response, refused_response}
 use Rattle.fax_core.specs.Ageing.{aged}
@@ -14,22 +14,21 @@ use Rattle.fax_core.specs.Change.{changed}
 use Rattle.fax_core.specs.declared.change.Change.{Change}
 use Rattle.fax_core.specs.declared.grants.Grant.{Grant}
 use Rattle.fax_core.specs.declared.report.Report.{Report}
-use Rattle.fax_core.specs.Decisions.{JobAndGrant, refuse_if◌because◌otherwise◌, stops}
+use Rattle.fax_core.specs.Decisions.{JobAndGrant, refuse_if◌because◌otherwise◌}
 use Rattle.fax_core.specs.Job.{Job, job_of}
-use Rattle.fax_core.specs.Machine.{with_grant, with_both, reported, on_grant, on_both, without_job, keys_of_job, call_reply, page_reply, outcome_reply}
+use Rattle.fax_core.specs.Machine.{with_both, reported, on_grant, on_both, keys_of_job, page_reply, outcome_reply}
 use Rattle.fax_core.specs.Queue.{Queue, job_numbered, grant_numbered}
 use Rattle.fax_core.specs.Reply as machine
-use Rattle.fax_core.specs.Reply.{Reply, Called, Confirmed, Stands, Step, Taken}
+use Rattle.fax_core.specs.Reply.{Reply, Stands, Step, Taken}
 use Rattle.fax_core.specs.Settings.{Settings}
 use Rattle.fax_core.specs.Sound.{Sound}
 use Rattle.fax_core.specs.State.{calls_to, state}
 use Rattle.fax_core.specs.Submission.{recorded}
 use Rattle.fax_core.proofs.FitsLemmas.{record_again}
 use Rattle.fax_core.proofs.KeepLemmas.{numbered_job, numbered_grant}
-use Rattle.fax_store.specs.Grant.{IsReport, IsSameGrant, with_closed, with_shut}
-use Rattle.fax_store.specs.Job.{IsChange, lines_of, with_change, with_expired}
+use Rattle.fax_store.specs.Grant.{IsSameGrant, with_shut}
+use Rattle.fax_store.specs.Job.{lines_of, with_change, with_expired}
 use Rattle.fax_store.specs.Meta.{with_clock}
-use Rattle.fax_tables.specs.Tables.{IsLawfulGrant}
 use Rattle.fax_decide.specs.Decision.{IsTaken, IsRefused}
 use Rattle.fax_decide.specs.Records.{job_in}
 use Rattle.fax_decide.specs.Report.{AreThere}

@@ -1,5 +1,5 @@
 -- What is shown of a job, and of all jobs.
-use Rattle.std.proofs.Common.{◌≡◌, ℕ, List, [], ◌∷◌, ◌++◌, All, Bool, true, false, cond, ◌&&◌, flat_map, length, map, Option, Some, refl, sym, ap, ap₂, ◌∙◌, option_map}
+use Rattle.std.proofs.Common.{◌≡◌, ℕ, List, [], ◌∷◌, ◌++◌, All, length, map, Option, Some, refl, sym, ap, ap₂, ◌∙◌, option_map}
 use Rattle.std.specs.List.{range_with_len}
 use Rattle.std.specs.List.Sorted.{IsStrictlyIncreasing}
 use Rattle.std.proofs.lemmas.List.{length-map, map-append}
@@ -12,7 +12,7 @@ use Rattle.fax_job.specs.declared.job.JobFields.{JobFields}
 use Rattle.fax_ask.specs.Answer.{Shown}
 use Rattle.fax_ask.specs.Response.{accepted_response}
 use Rattle.fax_ask.specs.declared.view.View.TheVariants as sight
-use Rattle.fax_core.specs.Ageing.{aged, aged_job, expires, is_past}
+use Rattle.fax_core.specs.Ageing.{aged, aged_job}
 use Rattle.fax_core.specs.Job.{Job, fields_of, job_of}
 use Rattle.fax_core.specs.Queue.{Queue, job_numbered}
 use Rattle.fax_core.specs.Settings.{Settings}
@@ -20,8 +20,6 @@ use Rattle.fax_core.specs.Sound.{Sound}
 use Rattle.fax_core.specs.State.{calls_to, state}
 use Rattle.fax_core.proofs.DecisionLemmas.{aged_number}
 use Rattle.fax_core.proofs.FitsLemmas.{job_again, record_again}
-use Rattle.fax_value.specs.Status.{kill_time_expired}
-use Rattle.fax_job.specs.declared.job.Phase.TheVariants.{Failed}
 use Rattle.fax_tables.specs.Job.{IsLawfulJob, brief}
 use Rattle.fax_text.specs.Listing.{Listed, heading, line_of, listing_of, number_of}
 use Rattle.fax_text.proofs.OrderLemmas.{numbered}

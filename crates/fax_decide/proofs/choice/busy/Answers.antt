@@ -1,5 +1,4 @@
-use Rattle.std.proofs.Common.{◌≡◌, ◌==◌, ◌&&◌, ap, option_map, sym, subst, ◌∙◌, eqb-true, true≢false, is_some}
-use Rattle.std.proofs.lemmas.Bool.{and_parts}
+use Rattle.std.proofs.Common.{◌≡◌, ap, option_map, sym, subst, ◌∙◌, is_some}
 use Rattle.std.proofs.lemmas.Option.{none-some, same_Some}
 use Rattle.fax_ask.specs.Response.{refused_response}
 use Rattle.fax_core.specs.Ageing.{aged}

@@ -1,4 +1,4 @@
-use Rattle.std.proofs.Common.{List, ℕ, sym, ap, subst, option_map, ◌∙◌, rules, is_some}
+use Rattle.std.proofs.Common.{List, ℕ, sym, ap, option_map, ◌∙◌, rules, is_some}
 use Rattle.fax_core.specs.Ageing.{aged}
 use Rattle.fax_core.specs.Machine.{handed, held_by, is_down}
 use Rattle.fax_core.specs.Reply.{HeldGrant}

@@ -1,12 +1,9 @@
-use Rattle.std.proofs.Common.{true, rules, ◌≡◌, [], ◌&&◌, ◌≤◌, ℕ, Ok, sym, subst, ap, ◌∙◌, arith, is_some}
+use Rattle.std.proofs.Common.{true, rules, ◌≡◌, ◌≤◌, Ok, sym, subst, ap, ◌∙◌, arith, is_some}
 use Rattle.std.specs.Vec.Iter.{into_iter_items}
-use Rattle.fax_core.specs.State.{calls_to}
 use Rattle.fax_store.specs.Candidates.{StandsAt}
 use Rattle.fax_store.specs.declared.candidates.Asked.{Asked}
 use Rattle.fax_decide.specs.Fault.{fault_of}
-use Rattle.fax_decide.specs.Settings.{settings_of}
-use Rattle.fax_decide.specs.State.{may_call}
-use Rattle.fax_decide.proofs.ChoiceLemmas.{NextIs, NoneWent, few_given, next_given, none_left, none_more, this_went}
+use Rattle.fax_decide.proofs.ChoiceLemmas.{few_given, next_given, none_left, none_more, this_went}
 use Rattle.fax_decide.proofs.LookingLemmas.{both, by_step, goes_on, stops}
 use Rattle.fax_decide.proofs.choice.first_of.Goals as goal
 

@@ -1,5 +1,5 @@
-use Rattle.std.proofs.Common.{◌≡◌, true, rules, subst, sym, None, IsTrue}
-use Rattle.fax_decide.specs.Choice.{IsBusy, IsFirst, IsFirstAsked}
+use Rattle.std.proofs.Common.{◌≡◌, rules, subst, sym, None}
+use Rattle.fax_decide.specs.Choice.{IsBusy, IsFirst}
 use Rattle.fax_decide.specs.Settings.{settings_of}
 use Rattle.fax_decide.proofs.ChoiceLemmas.{first_known}
 use Rattle.fax_decide.proofs.FaultLemmas.{or_weaker}

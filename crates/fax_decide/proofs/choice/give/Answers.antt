@@ -7,8 +7,8 @@ use Rattle.fax_core.specs.declared.grants.Grant.{Grant}
 use Rattle.fax_decide.specs.Choice.{IsGrantOf}
 use Rattle.fax_decide.specs.Decision.{Decides}
 use Rattle.fax_decide.specs.Fault.{OrNoAnswer}
-use Rattle.fax_decide.specs.declared.decision.Decision.TheVariants.{Refused}
-use Rattle.fax_decide.proofs.GivenLemmas.{given_by, given_not}
+use Rattle.fax_decide.proofs.DecisionLemmas.{refused_as}
+use Rattle.fax_decide.proofs.GivenLemmas.{given_by}
 use Rattle.fax_ask.specs.Detail.{has_detail}
 use Rattle.fax_core.proofs.RefusalLemmas.{refused_or}
 use Rattle.fax_job.specs.declared.refusal.Refusal.TheVariants.{Full}
@@ -40,9 +40,7 @@ refused-requires c = grant_plain (job_of c.args.job) c.args.modem c.args.next_gr
 
 pub returns-in-Err-clause-decided : goal.returns-in-Err-clause-decided
 returns-in-Err-clause-decided c m t sound there next waits =
-    subst (λ reply. Decides (given (aged t m) (grant (job_of c.args.job) c.args.modem c.args.next_grant c.args.office.now.setup.max_grants)) m t (Refused reply)) (sym c.refused.ensures)
-    (given_not (aged t m) (job_of c.args.job) c.args.modem c.args.next_grant c.max_grants.result c.args.office.now.setup.max_grants
-    c.in-Err.refusal _ (c.in-Err.ensures c.args.modem) c.max_grants.ensures.number refl)
+    refused_as (ap (given (aged t m)) (sym (c.in-Err.ensures c.args.modem ∙ ap (grant (job_of c.args.job) c.args.modem c.args.next_grant) c.max_grants.ensures.number))) c.refused.ensures
 
 pub returns-then-not-fits-clause-decided : goal.returns-then-not-fits-clause-decided
 returns-then-not-fits-clause-decided c m t sound there next waits =

@@ -1,4 +1,4 @@
-use Rattle.std.proofs.Common.{ℕ, Bool, ap, ap₂, sym, ◌∙◌}
+use Rattle.std.proofs.Common.{Bool, ap₂, sym, ◌∙◌}
 use Rattle.fax_ask.specs.Answer.{Replied}
 use Rattle.fax_ask.specs.Response.{accepted_response}
 use Rattle.fax_core.specs.Machine.{page_reply}

@@ -1,8 +1,7 @@
-use Rattle.std.proofs.Common.{◌≡◌, Some, refl, sym, ap, subst, option_map, ◌∙◌}
+use Rattle.std.proofs.Common.{sym, ap, subst, option_map, ◌∙◌}
 use Rattle.fax_core.specs.Ageing.{aged}
 use Rattle.fax_core.specs.Machine.{on_grant}
 use Rattle.fax_core.specs.Queue.{job_numbered}
-use Rattle.fax_core.specs.declared.grants.Grant.{Grant}
 use Rattle.fax_tables.specs.Tables.{IsLawfulGrant}
 use Rattle.fax_decide.specs.Decision.{Decides}
 use Rattle.fax_decide.specs.Fault.{OrNoAnswer, fault_of}

@@ -1,4 +1,4 @@
-use Rattle.std.proofs.Common.{◌≡◌, ◌≤◌, true, ℕ, Ok, Err, refl, ap, subst, sym, arith, ltb-false, ◌∙◌}
+use Rattle.std.proofs.Common.{◌≡◌, ◌≤◌, true, ℕ, refl, ap, subst, sym, arith, ltb-false}
 use Rattle.fax_core.specs.Ageing.{aged}
 use Rattle.fax_core.specs.Decisions.{submit}
 use Rattle.fax_core.specs.Job.{Job, job_of}
