@@ -2,6 +2,7 @@
 use Rattle.std.proofs.Common.{◌≡◌, ℕ, Ok, Err, Result, IfOk, IsErrAnd, OnOk, subst}
 use Rattle.std.specs.Prelude.{⊤}
 use Rattle.std.proofs.lemmas.Result.{on_ok_weaker}
+use Rattle.sqlite.specs.State.{HasCleanDisk}
 use Rattle.fax_core.specs.Ledger.{Ledger}
 use Rattle.fax_core.specs.Queue.{Queue}
 use Rattle.fax_core.specs.Reply.{Step}
@@ -51,14 +52,15 @@ module _ {S : Type 0} {g : _} where
   pub moved : {a b c d : Store S} {A E : Type 0} {result : Result A E} {P : Queue → Type 0} → a ≡ c → b ≡ d → Consults g a b result P → Consults g c d result P
   moved {a} {b} {c} {d} {A} {E} {result} {P} first last call = subst (λ v. Consults g c v result P) last (subst (λ v. Consults g v b result P) first call)
 
+  -- a call that looks at the store, and leaves it serving where it answers
+  pub by_look : {old new : Store S} {A : Type 0} {P : Queue → Type 0} (result : Result A StoreFault) → Looks g old new → OnOk result (HasCleanDisk (shown g new) → Serves (shown g new))
+      → ((m : Queue) (k : Ledger) → Means (shown g old) m k → Serves (shown g new) → P m) → Consults g old new result P
+  by_look result leaves opens found = record { leaves = leaves; opens = on_ok_weaker result (λ opens clean serves. opens clean) opens; found = found }
+
   -- a reading of the store
   pub by_reading : {old new : Store S} {A : Type 0} {result : Result A StoreFault} {P : Queue → Type 0} → Finds g old new result
       → ((m : Queue) (k : Ledger) → MeansNow (shown g old) m k → Serves (shown g new) → P m) → Consults g old new result P
-  by_reading {old} {new} {A} {result} finds answers = record {
-    leaves = looks_of g old new result finds;
-    opens = on_ok_weaker result (λ opens clean serves. opens clean) finds.opens;
-    found = λ m k means serves. answers m k (means_now means) serves;
-  }
+  by_reading {old} {new} {A} {result} finds answers = by_look result (looks_of g old new result finds) finds.opens (λ m k means serves. answers m k (means_now means) serves)
 
   -- a step along the candidates, wherever they stand
   pub by_step : {old new : Store S} {A X : Type 0} {P : Queue → X → Type 0} (result : Result A StoreFault) → Looks g old new → OnOk result (StaysOpen (shown g old) (shown g new))

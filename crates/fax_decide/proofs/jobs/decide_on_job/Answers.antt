@@ -1,5 +1,6 @@
 use Rattle.std.proofs.Common.{refl, ap, subst, sym, option_map, IfOk, ◌∙◌}
 use Rattle.fax_core.specs.Ageing.{aged}
+use Rattle.fax_core.specs.Machine.{on_job}
 use Rattle.fax_decide.specs.Decision.{Decides}
 use Rattle.fax_decide.specs.Fault.{fault_of}
 use Rattle.fax_decide.specs.Records.{job_in}
@@ -30,6 +31,12 @@ returns-in-Err g c = goes_on c.in_ok-job.ensures.consults (λ m k at found.
           (refused_as refl c.refused-in-Err.ensures),
       λ read. tt,
     ))
+
+pub returns-in_default : goal.returns-in_default
+returns-in_default g c = goes_on c.in_ok-job.ensures.consults (λ m k at found. (
+  refused_as (ap (on_job (settings_of c.args.office.now.setup c.args.office.now.controls) (aged c.args.t m) c.args.t c.args.ask) (sym found ∙ ap (option_map (job_in (aged c.args.t m))) c.in_default.is)) c.refused.ensures,
+  λ read. tt,
+))
 
 pub returns-in_err-job : goal.returns-in_err-job
 returns-in_err-job g c = stops c.from_residual.ensures.1 c.in_err-job.ensures.consults (λ m out why. both_sides c.from_residual.result _ (out _ (ap fault_of why)))
