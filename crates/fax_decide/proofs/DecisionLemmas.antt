@@ -1,5 +1,5 @@
 -- What is decided, and told.
-use Rattle.std.proofs.Common.{◌≡◌, ℕ, false, Result, Err, refl, sym, ap, subst, ◌∙◌}
+use Rattle.std.proofs.Common.{MatchResult, Ok, ◌≡◌, ℕ, false, Result, Err, refl, sym, ap, subst, ◌∙◌}
 use Rattle.fax_job.specs.declared.refusal.Refusal.{Refusal}
 use Rattle.fax_job.specs.declared.refusal.Refusal.TheVariants.{PageOrder}
 use Rattle.fax_ask.specs.Answer.{Replied}
@@ -14,8 +14,17 @@ use Rattle.fax_core.specs.Reply as machine
 use Rattle.fax_core.specs.Reply.{Step}
 use Rattle.fax_decide.specs.Decision.{Decides, IsRefused, IsTaken}
 use Rattle.fax_decide.specs.declared.decision.Decision.{Decision}
-use Rattle.fax_decide.specs.declared.decision.Decision.TheVariants.{Refused}
+use Rattle.fax_decide.specs.declared.decision.Decision.TheVariants.{Refused, Taken}
 use Rattle.fax_decide.specs.declared.effect.Effect.TheVariants.{Nothing}
+use Rattle.fax_decide.specs.declared.effect.Effect.{Effect}
+use Rattle.fax_decide.specs.declared.fault.Fault.{Fault}
+use Rattle.fax_decide.specs.Fault.{OrNoAnswer}
+
+-- what is decided by the reply that there is, where memory or the store alone may leave none
+pub taken_or : (effect : Effect) (P : Response → Type 0) (Q : Decision → Type 0) (reply : Result Response Fault) (result : Result Decision Fault)
+    → MatchResult reply (λ r. result ≡ Ok (Taken effect r)) (λ e. result ≡ Err e) → OrNoAnswer reply P → ((r : Response) → P r → Q (Taken effect r)) → OrNoAnswer result Q
+taken_or effect P Q (Ok r) result is told holds = subst (λ d. OrNoAnswer d Q) (sym is) (holds r told)
+taken_or effect P Q (Err e) result is why holds = subst (λ d. OrNoAnswer d Q) (sym is) why
 
 -- what leaves the aged queue is taken, and told
 pub nothing_taken : (m : Queue) (t : ℕ) (told : machine.Reply) (reply : Response) → reply ≡ accepted_response (Replied told) → IsTaken (machine.Taken (aged t m) told) m t Nothing reply

@@ -1,5 +1,5 @@
 -- Calls that look at the store, one after the other.
-use Rattle.std.proofs.Common.{◌≡◌, ℕ, Ok, Err, Result, IfOk, IsErrAnd, OnOk, subst}
+use Rattle.std.proofs.Common.{◌≡◌, ℕ, Ok, Err, Result, IfOk, IsErrAnd, OnOk, subst, MatchResult, sym}
 use Rattle.std.specs.Prelude.{⊤}
 use Rattle.std.proofs.lemmas.Result.{on_ok_weaker}
 use Rattle.sqlite.specs.State.{HasCleanDisk}
@@ -21,6 +21,8 @@ use Rattle.fax_decide.specs.Decision.{Decides}
 use Rattle.fax_decide.specs.Fault.{OnlyNoAnswer, OrNoAnswer}
 use Rattle.fax_decide.specs.Looking.{Consults, DecidesBy, Views}
 use Rattle.fax_decide.specs.declared.decision.Decision.{Decision}
+use Rattle.fax_decide.specs.declared.decision.Decision.TheVariants.{Taken}
+use Rattle.fax_decide.specs.declared.effect.Effect.{Effect}
 use Rattle.fax_decide.specs.declared.fault.Fault.{Fault}
 use Rattle.fax_decide.specs.declared.fault.Fault.TheVariants.{NoAnswer}
 use Rattle.fax_decide.proofs.FaultLemmas.{passed_on}
@@ -34,6 +36,12 @@ always (Err e) p = tt
 never : {A E : Type 0} (r : Result A E) (Is : E → Type 0) (P : Type 0) → IsErrAnd r Is → OnOk r P
 never (Ok x) Is P is = absurd is
 never (Err e) Is P is = tt
+
+-- what holds where there is a reply holds where the effect is taken with it
+opens_with : (P : Type 0) (effect : Effect) (reply : Result Response Fault) (result : Result Decision Fault) → MatchResult reply (λ r. result ≡ Ok (Taken effect r)) (λ e. result ≡ Err e)
+    → OnOk reply P → OnOk result P
+opens_with P effect (Ok r) result is h = subst (λ d. OnOk d P) (sym is) h
+opens_with P effect (Err e) result is h = subst (λ d. OnOk d P) (sym is) tt
 
 module _ {S : Type 0} {g : _} where
   -- what is known of the queue before any call
@@ -101,6 +109,15 @@ module _ {S : Type 0} {g : _} where
     leaves = call.leaves;
     opens = never error (λ e. e ≡ fault) _ is;
     found = λ m k means serves. says m (λ T why. passed_on error fault T is why) (call.found m k means serves);
+  }
+
+  -- the result is the effect that is taken with the reply of the call
+  pub takes : {old new : Store S} {P Q : Queue → Type 0} (effect : Effect) (reply : Result Response Fault) (result : Result Decision Fault)
+      → MatchResult reply (λ r. result ≡ Ok (Taken effect r)) (λ e. result ≡ Err e) → Consults g old new reply P → ((m : Queue) → P m → Q m) → Consults g old new result Q
+  takes effect reply result is call says = record {
+    leaves = call.leaves;
+    opens = opens_with _ effect reply result is call.opens;
+    found = λ m k means serves. says m (call.found m k means serves);
   }
 
   -- what is seen of the queue

@@ -13,7 +13,7 @@ ghost use Rattle.fax_core.specs.Job.{job_of};
 ghost use Rattle.fax_core.specs.Fits.{fits};
 ghost use Rattle.fax_core.specs.Machine.{dial_of, given, given_best, given_to, handed, held_by};
 ghost use Rattle.fax_core.specs.Queue.{Queue, job_numbered};
-ghost use Rattle.fax_core.specs.Reply.{HeldGrant, NoneToSend, Taken};
+ghost use Rattle.fax_core.specs.Reply.{HeldGrant};
 ghost use Rattle.fax_core.specs.Sound.{Sound};
 ghost use Rattle.fax_core.specs.State.{calls_to};
 ghost use Rattle.fax_core.specs.declared.grants.Grant.{Grant as OneGrant};
@@ -30,7 +30,7 @@ ghost use Rattle.fax_decide.specs.Records.{KeepsRecord};
 ghost use Rattle.fax_decide.specs.Settings.{settings_of};
 ghost use Rattle.fax_decide.specs.State.{may_call};
 
-use crate::decision::{Decision, answered, applied};
+use crate::decision::{Decision, answered, applied, take};
 use crate::effect::Effect;
 use crate::fault::Fault;
 use crate::office::Office;
@@ -129,19 +129,8 @@ fn decide_free<S: Alter>(
 {
     match best(store, office, alloc, &modem, t)? {
         Some(job) => give(office, alloc, job, modem, next_grant),
-        None => none_to_send(alloc),
+        None => take(Effect::Nothing, answered(alloc, &Answer::NoneToSend)),
     }
-}
-
-/// No job may go, and the modem is told so.
-fn none_to_send(alloc: Global) -> Result<Decision, Fault>
-    ensures { (m : Queue) (t : ℕ) → OrNoAnswer result (Decides (Taken (aged t m) NoneToSend) m t) }
-{
-    let reply = answered(alloc, &Answer::NoneToSend)?;
-    Ok(Decision::Taken {
-        effect: Effect::Nothing,
-        reply,
-    })
 }
 
 /// The best of the waiting jobs that may go to the modem at `t`, if one may.
@@ -340,11 +329,8 @@ fn given(alloc: Global, job: Job, change: Change, grant: Grant) -> Result<Decisi
         → OrNoAnswer result (Decides (given (aged t m) (decided_with grant (job_of job) (Ok change))) m t) }
 {
     let job = applied(change, job)?;
-    let reply = answered(alloc, &Answer::Given(handed(&grant, &job)))?;
-    Ok(Decision::Taken {
-        effect: Effect::NewGrant { job, grant },
-        reply,
-    })
+    let reply = answered(alloc, &Answer::Given(handed(&grant, &job)));
+    take(Effect::NewGrant { job, grant }, reply)
 }
 
 /// A grant of a job, as it is told to a worker.

@@ -1,6 +1,6 @@
 //! What is decided of a request.
 
-ghost use Rattle.std.specs.Prelude.{◌≡◌, IfOk, IsOk, Ok};
+ghost use Rattle.std.specs.Prelude.{◌≡◌, Err, IfOk, IsOk, MatchResult, Ok};
 ghost use Rattle.fax_ask.specs.Answer.{told};
 ghost use Rattle.fax_ask.specs.Response.{accepted_response};
 ghost use Rattle.fax_core.specs.Change.{changed};
@@ -24,6 +24,24 @@ pub enum Decision {
     Taken { effect: Effect, reply: Reply },
     /// It is refused, and changes nothing.
     Refused(Reply),
+}
+
+/// A request is taken for this effect, with that reply, if there is one.
+pub(crate) fn take(effect: Effect, reply: Result<Reply, Fault>) -> Result<Decision, Fault>
+    ensures { MatchResult reply (λ reply. result ≡ Ok (Decision.Taken effect reply)) (λ fault. result ≡ Err fault) }
+{
+    let (effect, reply) = beside(effect, reply)?;
+    Ok(Decision::Taken { effect, reply })
+}
+
+/// A value with the reply that goes beside it, if there is one.
+fn beside<T: Drop>(value: T, reply: Result<Reply, Fault>) -> Result<(T, Reply), Fault>
+    ensures { MatchResult reply (λ reply. result ≡ Ok (value, reply)) (λ fault. result ≡ Err fault) }
+{
+    match reply {
+        Ok(reply) => Ok((value, reply)),
+        Err(fault) => Err(fault),
+    }
 }
 
 /// The reply that tells an answer.

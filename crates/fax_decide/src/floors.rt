@@ -7,7 +7,7 @@ ghost use Rattle.fax_core.specs.Reply.{Floored, Taken};
 ghost use Rattle.fax_decide.specs.Decision.{Decides};
 ghost use Rattle.fax_decide.specs.Fault.{OrNoAnswer};
 
-use crate::decision::{Decision, answered};
+use crate::decision::{Decision, answered, take};
 use crate::effect::Effect;
 use crate::fault::Fault;
 use fax_ask::Answer;
@@ -19,9 +19,6 @@ use std::alloc::Global;
 pub(crate) fn decide_floor(alloc: Global, upto: RequestNumber) -> Result<Decision, Fault>
     ensures { (m : Queue) (t : ℕ) → OrNoAnswer result (Decides (Taken (aged t m) (Floored upto)) m t) }
 {
-    let reply = answered(alloc, &Answer::Floored { floor: upto.get() })?;
-    Ok(Decision::Taken {
-        effect: Effect::Nothing,
-        reply,
-    })
+    let reply = answered(alloc, &Answer::Floored { floor: upto.get() });
+    take(Effect::Nothing, reply)
 }

@@ -19,7 +19,7 @@ ghost use Rattle.fax_decide.specs.Looking.{Consults, DecidesBy};
 ghost use Rattle.fax_decide.specs.Read.{IsReadImport};
 ghost use Rattle.fax_decide.specs.Settings.{machine_rule, rule_for, settings_of};
 
-use crate::decision::{Decision, answered};
+use crate::decision::{Decision, answered, take};
 use crate::effect::Effect;
 use crate::fault::Fault;
 use crate::office::Office;
@@ -67,11 +67,8 @@ fn brought<S: Alter>(
         → meta ≡ meta_of m → job.job ≡ m.next_job → OrNoAnswer result (Decides
         (brought_in (settings_of office.now.setup office.now.controls) (aged t m) t rule (Ok (job_of job))) m t)) }
 {
-    let reply = told(store, office, alloc, &job, t)?;
-    Ok(Decision::Taken {
-        effect: Effect::NewJob { job, meta },
-        reply,
-    })
+    let reply = told(store, office, alloc, &job, t);
+    take(Effect::NewJob { job, meta }, reply)
 }
 
 /// The reply that tells a new job and its state at `t`.

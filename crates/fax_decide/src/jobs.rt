@@ -18,7 +18,7 @@ ghost use Rattle.fax_decide.specs.Read.{IsReadOn};
 ghost use Rattle.fax_decide.specs.Records.{KeepsRecord, job_in};
 ghost use Rattle.fax_decide.specs.Settings.{settings_of};
 
-use crate::decision::{Decision, answered, applied};
+use crate::decision::{Decision, answered, applied, take};
 use crate::effect::Effect;
 use crate::fault::Fault;
 use crate::office::Office;
@@ -80,11 +80,8 @@ fn changed<S: Alter>(
         (Ok (changed_by change (job_in (aged t m) job)))) m t)) × (KeepsRecord change job → OnlyNoAnswer result)) }
 {
     let job = applied(change, job)?;
-    let reply = stands(store, office, alloc, &job, t)?;
-    Ok(Decision::Taken {
-        effect: Effect::ChangedJob(job),
-        reply,
-    })
+    let reply = stands(store, office, alloc, &job, t);
+    take(Effect::ChangedJob(job), reply)
 }
 
 /// The reply that tells the state of a job from `t` on.

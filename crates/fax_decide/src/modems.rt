@@ -8,7 +8,7 @@ ghost use Rattle.fax_decide.specs.Decision.{Decides};
 ghost use Rattle.fax_decide.specs.Fault.{OrNoAnswer};
 ghost use Rattle.fax_decide.specs.Settings.{settings_of};
 
-use crate::decision::{Decision, answered};
+use crate::decision::{Decision, answered, take};
 use crate::effect::Effect;
 use crate::fault::Fault;
 use crate::office::Office;
@@ -29,9 +29,6 @@ pub(crate) fn decide_mark(
     if !office.setup.has_modem(modem.as_str()) {
         return Ok(Decision::Refused(Reply::refused(Refusal::NoModem)));
     }
-    let reply = answered(alloc, &Answer::Marked { down })?;
-    Ok(Decision::Taken {
-        effect: Effect::Marked { modem, down },
-        reply,
-    })
+    let reply = answered(alloc, &Answer::Marked { down });
+    take(Effect::Marked { modem, down }, reply)
 }

@@ -26,7 +26,7 @@ ghost use Rattle.fax_decide.specs.Report.{ArePagesWithin, AreThere};
 ghost use Rattle.fax_decide.specs.Settings.{settings_of};
 ghost use Rattle.fax_decide.specs.State.{state_with};
 
-use crate::decision::{Decision, answered, applied};
+use crate::decision::{Decision, answered, applied, take};
 use crate::effect::Effect;
 use crate::fault::Fault;
 use crate::office::Office;
@@ -135,11 +135,7 @@ fn called(
     let answer = Answer::Called {
         stop: stops(&job, t),
     };
-    let reply = answered(alloc, &answer)?;
-    Ok(Decision::Taken {
-        effect: Effect::Reported { job, grant },
-        reply,
-    })
+    take(Effect::Reported { job, grant }, answered(alloc, &answer))
 }
 
 fn decide_page(
@@ -203,11 +199,7 @@ fn confirmed(
         npages: job.fields().npages,
         stop: stops(&job, t),
     };
-    let reply = answered(alloc, &answer)?;
-    Ok(Decision::Taken {
-        effect: Effect::Reported { job, grant },
-        reply,
-    })
+    take(Effect::Reported { job, grant }, answered(alloc, &answer))
 }
 
 fn decide_outcome<S: Alter>(
@@ -251,12 +243,12 @@ fn ended<S: Alter>(
         (Ok (record { job = changed change (job_in (aged t m) job); grant = record grant.now { is_open = false } }))) m t)) }
 {
     let job = applied(change, job)?;
-    let reply = stands(store, office, alloc, &job, t)?;
+    let reply = stands(store, office, alloc, &job, t);
     let effect = Effect::Closed {
         job,
         grant: grant.number,
     };
-    Ok(Decision::Taken { effect, reply })
+    take(effect, reply)
 }
 
 /// The reply that tells the state of a job from `t` on, where one call to its number ends.

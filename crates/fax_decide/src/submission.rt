@@ -17,7 +17,7 @@ ghost use Rattle.fax_decide.specs.Fault.{OnlyNoAnswer, OrNoAnswer};
 ghost use Rattle.fax_decide.specs.Read.{IsReadOrder};
 ghost use Rattle.fax_decide.specs.Settings.{machine_rule, rule_for};
 
-use crate::decision::{Decision, answered};
+use crate::decision::{Decision, answered, take};
 use crate::effect::Effect;
 use crate::fault::Fault;
 use crate::office::Office;
@@ -56,11 +56,7 @@ fn taken(alloc: Global, job: Job, meta: Meta) -> Result<Decision, Fault>
     let answer = Answer::Submitted {
         job: job.fields().job,
     };
-    let reply = answered(alloc, &answer)?;
-    Ok(Decision::Taken {
-        effect: Effect::NewJob { job, meta },
-        reply,
-    })
+    take(Effect::NewJob { job, meta }, answered(alloc, &answer))
 }
 
 /// A submission or an import is refused: a rejected one is told the notice of its rule. Where the job would be no lawful

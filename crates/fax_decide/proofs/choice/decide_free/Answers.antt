@@ -1,10 +1,11 @@
-use Rattle.std.proofs.Common.{sym, ap, subst, option_map, ◌∙◌, Option}
-use Rattle.fax_core.specs.Ageing.{aged}
-use Rattle.fax_core.specs.Job.{Job, job_of}
-use Rattle.fax_core.specs.Machine.{given_best}
+use Rattle.std.proofs.Common.{sym, ap, option_map, ◌∙◌}
+use Rattle.fax_core.specs.Job.{job_of}
 use Rattle.fax_decide.specs.Decision.{Decides}
 use Rattle.fax_decide.specs.Fault.{OrNoAnswer}
 use Rattle.fax_decide.specs.Settings.{settings_of}
+use Rattle.fax_core.specs.Reply.{NoneToSend}
+use Rattle.fax_decide.specs.declared.effect.Effect.TheVariants.{Nothing}
+use Rattle.fax_decide.proofs.DecisionLemmas.{nothing_taken, taken_or}
 use Rattle.fax_decide.proofs.GivenLemmas.{best_given}
 use Rattle.fax_decide.proofs.KeptLemmas.{best_waits}
 use Rattle.fax_decide.proofs.LookingLemmas.{goes_on, stops}
@@ -19,8 +20,8 @@ returns-in-Some g c = goes_on c.in_ok-job.ensures (λ m k at best sound next.
 
 pub returns-in-None : goal.returns-in-None
 returns-in-None g c = goes_on c.in_ok-job.ensures (λ m k at best sound next.
-    subst (λ (o : Option Job). OrNoAnswer c.none_to_send.result (Decides (given_best (settings_of c.args.office.now.setup c.args.office.now.controls) (aged c.args.t m) c.args.modem o) m c.args.t))
-    (sym (ap (option_map (λ f. job_of f)) c.in-None.is) ∙ best sound) (c.none_to_send.ensures m c.args.t))
+    rw (← (sym (ap (option_map (λ f. job_of f)) c.in-None.is) ∙ best sound))
+    (taken_or Nothing _ _ c.answered.result _ c.take.ensures c.answered.ensures (nothing_taken m c.args.t NoneToSend)))
 
 pub returns-in_err-job : goal.returns-in_err-job
 returns-in_err-job g c = stops c.from_residual.ensures.1 c.in_err-job.ensures (λ m out why sound next. out _ (why sound))

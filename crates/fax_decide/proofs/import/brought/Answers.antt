@@ -7,17 +7,17 @@ use Rattle.fax_decide.specs.Decision.{IsTaken}
 use Rattle.fax_decide.specs.Settings.{settings_of}
 use Rattle.fax_decide.specs.declared.effect.Effect.TheVariants.{NewJob}
 use Rattle.fax_decide.proofs.KeptLemmas.{job_within}
-use Rattle.fax_decide.proofs.LookingLemmas.{goes_on, stops}
+use Rattle.fax_decide.proofs.LookingLemmas.{takes}
+use Rattle.fax_decide.proofs.DecisionLemmas.{taken_or}
 use Rattle.fax_decide.proofs.NewJobLemmas.{new_taken, state_new}
 use Rattle.fax_decide.proofs.import.brought.Goals as goal
 
 pub returns : goal.returns
-returns g c = goes_on c.in_ok-reply.ensures.consults (λ m k at told rule sound these next.
+returns g c =
     let t = c.args.t in
     let f = c.args.job in
-    subst (λ (n : ℕ). IsTaken (Taken (with_new_job (job_of f) (aged t m)) (Brought f.job n)) m t (NewJob f c.args.meta) c.in_ok-reply.reply)
+    let effect = NewJob f c.args.meta in
+    takes effect c.told-reply.result _ c.take.ensures c.told-reply.ensures.consults (λ m told rule sound these next. taken_or effect _ _ c.told-reply.result _ c.take.ensures told (λ r told.
+    subst (λ (n : ℕ). IsTaken (Taken (with_new_job (job_of f) (aged t m)) (Brought f.job n)) m t effect r)
     (sym (state_new (settings_of c.args.office.now.setup c.args.office.now.controls) m t (job_of f) sound))
-    (new_taken m t f c.args.meta _ _ sound these next (job_within f c.told.ensures.lawful).1 told))
-
-pub returns-in_err-reply : goal.returns-in_err-reply
-returns-in_err-reply g c = stops c.from_residual.ensures.1 c.in_err-reply.ensures.consults (λ m out why rule sound these next. out _ why)
+    (new_taken m t f c.args.meta _ r sound these next (job_within f c.told-reply.ensures.lawful).1 told)))

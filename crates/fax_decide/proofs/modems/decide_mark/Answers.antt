@@ -6,6 +6,8 @@ use Rattle.fax_core.specs.Reply.{Marked, Taken}
 use Rattle.fax_dest.specs.Setup.{has_modem}
 use Rattle.fax_store.specs.Job.{with_expired}
 use Rattle.fax_store.specs.Meta.{with_clock}
+use Rattle.fax_decide.specs.declared.effect.Effect.TheVariants as effect
+use Rattle.fax_decide.proofs.DecisionLemmas.{taken_or}
 use Rattle.fax_decide.proofs.modems.decide_mark.Goals as goal
 
 -- marking a modem and ageing give the same in either order
@@ -15,10 +17,11 @@ with_mark_aged modem false t m = refl
 
 pub returns : goal.returns
 returns c m t =
-    let there : has_modem c.args.office.now.setup c.args.modem ≡ true = search rules in record {
+    let there : has_modem c.args.office.now.setup c.args.modem ≡ true = search rules in
+    taken_or (effect.Marked c.args.modem c.args.down) _ _ c.answered-reply.result _ c.take.ensures c.answered-reply.ensures (λ r told. record {
       suits = _;
       within = tt;
       told = Marked c.args.down;
       taken = (rw there) ∙ ap (λ (n : Queue). Taken n (Marked c.args.down)) (with_mark_aged c.args.modem c.args.down t m);
-      replied = c.in_ok-reply.ensures;
-    }
+      replied = told;
+    })

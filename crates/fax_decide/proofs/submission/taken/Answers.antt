@@ -4,9 +4,12 @@ use Rattle.fax_ask.specs.Response.{accepted_response}
 use Rattle.fax_core.specs.Reply.{Submitted}
 use Rattle.fax_decide.proofs.KeptLemmas.{job_within}
 use Rattle.fax_decide.proofs.NewJobLemmas.{new_taken}
+use Rattle.fax_decide.specs.declared.effect.Effect.TheVariants.{NewJob}
+use Rattle.fax_decide.proofs.DecisionLemmas.{taken_or}
 use Rattle.fax_decide.proofs.submission.taken.Goals as goal
 
 pub returns : goal.returns
 returns c m t rule sound these next =
-    new_taken m t c.args.job c.args.meta (Submitted c.args.job.job) _ sound these next (job_within c.args.job c.fields.ensures.lawful).1
-    (c.in_ok-reply.ensures ∙ ap (λ f. accepted_response (Replied (Submitted f.job))) c.fields.ensures.fields)
+    taken_or (NewJob c.args.job c.args.meta) _ _ c.answered.result _ c.take.ensures c.answered.ensures
+    (λ r told. new_taken m t c.args.job c.args.meta (Submitted c.args.job.job) r sound these next (job_within c.args.job c.fields.ensures.lawful).1
+    (told ∙ ap (λ f. accepted_response (Replied (Submitted f.job))) c.fields.ensures.fields))
