@@ -1,5 +1,5 @@
 -- What is decided of a report on a grant.
-use Rattle.std.proofs.Common.{◌≡◌, ℕ, ◌≤◌, ◌-◌, true, false, not, Some, Ok, Err, List, refl, sym, ap, ap₂, subst, ◌∙◌, Option, Result}
+use Rattle.std.proofs.Common.{◌≡◌, ℕ, ◌≤◌, ◌-◌, true, false, not, Some, Ok, Err, List, refl, sym, ap, subst, ◌∙◌, Option, Result}
 use Rattle.std.proofs.lemmas.Bool.{not-false}
 use Rattle.fax_value.specs.Limits.{most_pages}
 use Rattle.fax_job.specs.Pair.{Pair}
@@ -92,13 +92,6 @@ outcome_taken s m t c f g grant reply sound there is_open after replied = record
 
     one : whole ≡ changed c (job_in (aged t m) f)
     one = whole_changed m t c f g there.job_there after
-
--- the state is told with one call less
-pub state_told : (s : Settings) (m : Queue) (t : ℕ) (f g h : JobFields) (calls st : ℕ) → g ≡ f → h ≡ f → calls ≡ calls_to g.dial m - 1 → st ≡ state_with s (job_of f) calls t
-    → accepted_response (Replied (Stands h.job st)) ≡ accepted_response (Replied (Stands f.job (state_with s (job_of f) (calls_to f.dial m - 1) t)))
-state_told s m t f g h calls st g_is h_is calls_is st_is =
-    ap₂ (λ (x : JobFields) (n : ℕ). accepted_response (Replied (Stands x.job n))) h_is
-    (st_is ∙ ap (λ (n : ℕ). state_with s (job_of f) n t) (calls_is ∙ ap (λ (x : JobFields). calls_to x.dial m - 1) g_is))
 
 -- ---- the grant and its job
 

@@ -55,11 +55,6 @@ pub one_more_row : (s : Settings) (m : Queue) (t : ℕ) (before : List JobFields
 one_more_row s m t before f rows more is one =
     one ∙ ap (λ (xs : List Listed). xs ++ with_state s m t (aged_job t (job_of f)) ∷ []) is ∙ sym (map-append (λ (x : JobFields). with_state s m t (aged_job t (job_of x))) before (f ∷ []))
 
--- all of them
-pub all_rows : (s : Settings) (m : Queue) (t : ℕ) (all before : List JobFields) (rows : List Listed) → all ≡ before
-    → rows ≡ map (λ x. with_state s m t (aged_job t (job_of x))) before → rows ≡ map (λ x. with_state s m t (aged_job t (job_of x))) all
-all_rows s m t all before rows same is = is ∙ ap (map (λ x. with_state s m t (aged_job t (job_of x)))) (sym same)
-
 -- the rows of the listing have the jobs' numbers
 numbers_seen : (s : Settings) (q : Queue) (t : ℕ) (jobs : List Job) → map number_of (map (with_state s q t) (map (aged_job t) jobs)) ≡ map (λ j. j.number) jobs
 numbers_seen s q t [] = refl

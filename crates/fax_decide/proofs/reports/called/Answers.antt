@@ -1,8 +1,4 @@
-use Rattle.std.proofs.Common.{Bool, ap, ◌∙◌}
-use Rattle.fax_ask.specs.Answer.{Replied}
-use Rattle.fax_ask.specs.Response.{accepted_response}
 use Rattle.fax_core.specs.Machine.{call_reply}
-use Rattle.fax_core.specs.Reply.{Called}
 use Rattle.fax_decide.specs.declared.effect.Effect.TheVariants.{Reported}
 use Rattle.fax_decide.proofs.DecisionLemmas.{taken_or}
 use Rattle.fax_decide.proofs.ReportLemmas.{report_taken}
@@ -12,7 +8,7 @@ pub returns : goal.returns
 returns c m before there same number few keeps =
     taken_or (Reported c.in_ok-job.job c.args.grant) _ _ c.answered.result _ c.take.ensures c.answered.ensures (λ r told.
     report_taken m c.args.t c.args.change c.args.job c.in_ok-job.job before c.args.grant (call_reply c.args.t) r there same number few c.in_ok-job.ensures.after
-    (λ n. told ∙ ap (λ (stop : Bool). accepted_response (Replied (Called stop))) c.stops.ensures))
+    (λ n. rw c.stops.ensures at told))
 
 pub returns-in_err-job : goal.returns-in_err-job
 returns-in_err-job c m before there same number few keeps = absurd (let no = c.in_err-job.ensures.kept keeps in cc)

@@ -1,6 +1,3 @@
-use Rattle.std.proofs.Common.{ap, ◌∙◌}
-use Rattle.fax_ask.specs.Answer.{Replied}
-use Rattle.fax_ask.specs.Response.{accepted_response}
 use Rattle.fax_core.specs.Reply.{Submitted}
 use Rattle.fax_decide.proofs.KeptLemmas.{job_within}
 use Rattle.fax_decide.proofs.NewJobLemmas.{new_taken}
@@ -12,4 +9,4 @@ pub returns : goal.returns
 returns c m t rule sound these next =
     taken_or (NewJob c.args.job c.args.meta) _ _ c.answered.result _ c.take.ensures c.answered.ensures
     (λ r told. new_taken m t c.args.job c.args.meta (Submitted c.args.job.job) r sound these next (job_within c.args.job c.fields.ensures.lawful).1
-    (told ∙ ap (λ f. accepted_response (Replied (Submitted f.job))) c.fields.ensures.fields))
+    (rw c.fields.ensures.fields at told))

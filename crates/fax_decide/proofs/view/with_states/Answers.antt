@@ -2,7 +2,7 @@ use Rattle.std.proofs.Common.{[], ◌∷◌, ◌++◌, ap, refl, sym, ◌∙◌,
 use Rattle.std.proofs.lemmas.List.{nil_from_length}
 use Rattle.fax_decide.specs.Settings.{settings_of}
 use Rattle.fax_decide.proofs.LookingLemmas.{both, goes_on, no_call, stops}
-use Rattle.fax_decide.proofs.ViewLemmas.{all_rows, one_more_row}
+use Rattle.fax_decide.proofs.ViewLemmas.{one_more_row}
 use Rattle.fax_decide.proofs.view.with_states.Goals as goal
 
 pub loop-job-preserved : goal.loop-job-preserved
@@ -16,9 +16,8 @@ loop-job-preserved g c = record {
 
 pub returns : goal.returns
 returns g c = goes_on c.loop-job.invariant.consults (λ m k at rows.
-    all_rows (settings_of c.args.office.now.setup c.args.office.now.controls) m c.args.t c.args.jobs.items c.loop-job.yielded c.loop-job.rows.items
-    (c.loop-job.invariant.items ∙ ap (λ rest. c.loop-job.yielded ++ rest) (nil_from_length c.loop-job.job-iterator.rest.items (sym c.loop-job.job-iterator.rest.ok.0 ∙ c.in-None.ensures.steps.0)) ∙ append-nil c.loop-job.yielded)
-    rows)
+    let none = nil_from_length c.loop-job.job-iterator.rest.items (sym c.loop-job.job-iterator.rest.ok.0 ∙ c.in-None.ensures.steps.0) in
+    rw (c.loop-job.invariant.items ∙ ap (λ rest. c.loop-job.yielded ++ rest) none ∙ append-nil c.loop-job.yielded) rows)
 
 pub returns-in_err-rows : goal.returns-in_err-rows
 returns-in_err-rows g c = stops c.from_residual.ensures.1 no_call (λ m out none. out _ refl)
