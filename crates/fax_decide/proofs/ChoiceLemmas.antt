@@ -265,9 +265,12 @@ module _ (s : Settings) (m : Queue) (modem : List ℕ) (asked : Asked) where
 
     -- where it may go, it is the first that may
     pub this_went : goes ≡ true → IsFirstAsked s asked m modem (Some prospect.job)
-    this_went goes_is = (next.gives.2.all, next.gives.2.waiting,
-        ap (λ (p : Prospect). Some p.job) next.gives.1
-        ∙ ap (option_map number_of) (sym (ap (find going) amid ∙ found_behind going next.given (job ∷ rest) next.none ∙ ap (λ b. cond b (Some job) (find going rest)) (passes ∙ goes_is))))
+    this_went goes_is = (
+      next.gives.2.all,
+      next.gives.2.waiting,
+      ap (λ (p : Prospect). Some p.job) next.gives.1
+          ∙ ap (option_map number_of) (sym (ap (find going) amid ∙ found_behind going next.given (job ∷ rest) next.none ∙ ap (λ b. cond b (Some job) (find going rest)) (passes ∙ goes_is))),
+    )
 
     -- where it may not, none of one more may
     pub none_more : goes ≡ false → NoneWent (count + 1) page front most

@@ -92,6 +92,7 @@ pub record IsNewRefusal (rejected full : Bool) (j : Job) (e : Refusal) : Type 0 
   pub plain : ¬ (e ≡ Rejected) → has_detail e ≡ false
   pub known : (full ≡ false → recorded (Ok j) ≡ Ok j) → ¬ (e ≡ Unavailable)
 
+-- as it is of each
 new_refused : (rejected over full : Bool) (j : Job) (e : Refusal) → Err e ≡ recorded (new_or rejected over full j) → IsNewRefusal rejected full j e
 new_refused rejected over full j e is = record {
   rejects = refused_by (λ x. x ≡ Rejected → rejected ≡ true) rejected over full j e is (λ yes _. yes) (λ no. absurd cc) (λ no. absurd cc) (λ few off no. absurd cc);

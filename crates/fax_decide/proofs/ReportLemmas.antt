@@ -49,9 +49,12 @@ pub report_taken : (m : Queue) (t : ℕ) (c : Change) (f g : JobFields) (before 
     → ((n : Queue) → reply ≡ accepted_response (Replied (reply_to n (record { job = job_in (aged t m) g; grant = grant }))))
     → IsTaken (reported (aged t m) reply_to (job_in (aged t m) f) (Ok (record { job = changed c (job_in (aged t m) f); grant = grant }))) m t (Reported g grant) reply
 report_taken m t c f g before grant reply_to reply there same number few after replied = record {
-  suits = (order_kept m t c f g there.job_there after, λ h is.
-      let one : h ≡ before = (let both = sym (subst (λ (a : ℕ). grant_numbered a m ≡ Some h) number is) ∙ there.grant_there in cc) in
-      subst (λ (x : Grant). IsSameGrant x grant) (sym one) same);
+  suits = (
+    order_kept m t c f g there.job_there after,
+    λ h is.
+        let one : h ≡ before = (let both = sym (subst (λ (a : ℕ). grant_numbered a m ≡ Some h) number is) ∙ there.grant_there in cc) in
+        subst (λ (x : Grant). IsSameGrant x grant) (sym one) same,
+  );
   within = few;
   told = reply_to (both (job_in (aged t m) g)) (record { job = job_in (aged t m) g; grant = grant });
   taken = ap (λ (x : Job). Taken (both x) (reply_to (both x) (record { job = x; grant = grant }))) (sym (whole_changed m t c f g there.job_there after));

@@ -1,4 +1,4 @@
-use Rattle.std.proofs.Common.{◌≡◌, false, true≢false, rules, subst, sym}
+use Rattle.std.proofs.Common.{◌≡◌, true≢false, rules, subst, sym}
 use Rattle.fax_decide.specs.Choice.{IsBusy, IsFirst}
 use Rattle.fax_decide.specs.Settings.{settings_of}
 use Rattle.fax_decide.proofs.ChoiceLemmas.{first_known}

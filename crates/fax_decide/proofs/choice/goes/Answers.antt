@@ -34,6 +34,8 @@ returns-in_err-admits-clause-consults g c =
 pub returns-clause-consults : goal.returns-clause-consults
 returns-clause-consults g c = goes_on (by_look (Ok c.in_ok-calls.calls) c.in_ok-calls.ensures.leaves c.in_ok-calls.ensures.opens c.in_ok-calls.ensures.found) (λ m k at calls busy.
     let s = settings_of c.args.office.now.setup c.args.office.now.controls in
-    let free : may_call s c.args.prospect.dial (calls_to c.args.prospect.dial m) c.args.t ≡ true = rw calls at (sym c.in_ok-may_call.ensures ∙ c.if-not-branch.false) in
-    (c.in_ok-admits.ensures ∙ ap₂ (admits c.args.office.now.setup) c.as_str.ensures.text c.as_str-2.ensures.text
-    ∙ sym (ap (λ b. b && admits c.args.office.now.setup c.args.prospect.modem c.args.modem.now) free), busy))
+    let free : may_call s c.args.prospect.dial (calls_to c.args.prospect.dial m) c.args.t ≡ true = rw calls at (sym c.in_ok-may_call.ensures ∙ c.if-not-branch.false) in (
+      c.in_ok-admits.ensures ∙ ap₂ (admits c.args.office.now.setup) c.as_str.ensures.text c.as_str-2.ensures.text
+          ∙ sym (ap (λ b. b && admits c.args.office.now.setup c.args.prospect.modem c.args.modem.now) free),
+      busy,
+    ))

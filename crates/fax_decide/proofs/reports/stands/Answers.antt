@@ -1,4 +1,4 @@
-use Rattle.std.proofs.Common.{◌-◌, ap}
+use Rattle.std.proofs.Common.{ap}
 use Rattle.fax_decide.specs.Fault.{fault_of}
 use Rattle.fax_decide.proofs.LookingLemmas.{by_reading, goes_on, stops}
 use Rattle.fax_decide.proofs.reports.stands.Goals as goal
