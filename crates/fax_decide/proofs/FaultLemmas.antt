@@ -8,20 +8,18 @@ use Rattle.fax_decide.specs.declared.fault.Fault.TheVariants.{NoAnswer}
 
 -- ---- what a `?` passes on
 
--- want of memory
-pub no_memory : {A : Type 0} (r : Result A Fault) (P : A → Type 0) → IsErrAnd r (λ e. e ≡ NoAnswer) → OrNoAnswer r P
-no_memory (Ok x) P is = absurd is
-no_memory (Err e) P is = is
-
--- a fault of the store
-pub store_gave_out : {A : Type 0} (r : Result A Fault) (fault : StoreFault) (P : A → Type 0) → IsErrAnd r (λ e. e ≡ fault_of fault) → fault ≡ Unavailable → OrNoAnswer r P
-store_gave_out (Ok x) fault P is why = absurd is
-store_gave_out (Err e) fault P is why = is ∙ ap fault_of why
-
 -- a fault of another call
 pub passed_on : {A : Type 0} (r : Result A Fault) (fault : Fault) (P : A → Type 0) → IsErrAnd r (λ e. e ≡ fault) → fault ≡ NoAnswer → OrNoAnswer r P
 passed_on (Ok x) fault P is why = absurd is
 passed_on (Err e) fault P is why = is ∙ why
+
+-- want of memory
+pub no_memory : {A : Type 0} (r : Result A Fault) (P : A → Type 0) → IsErrAnd r (λ e. e ≡ NoAnswer) → OrNoAnswer r P
+no_memory r P is = passed_on r NoAnswer P is refl
+
+-- a fault of the store
+pub store_gave_out : {A : Type 0} (r : Result A Fault) (fault : StoreFault) (P : A → Type 0) → IsErrAnd r (λ e. e ≡ fault_of fault) → fault ≡ Unavailable → OrNoAnswer r P
+store_gave_out r fault P is why = passed_on r (fault_of fault) P is (ap fault_of why)
 
 -- ---- the two sides
 

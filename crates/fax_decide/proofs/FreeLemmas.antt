@@ -1,26 +1,44 @@
--- What is accepted of a sound queue, and leaves one, has keys that were free.
-use Rattle.std.proofs.Common.{◌≡◌, inl, inr, ℕ, ◌+◌, true, List, [], ◌∷◌, ◌++◌, map, length, find, Option, Some, None, refl, sym, ap, subst, ◌∙◌, arith}
-use Rattle.std.specs.Prelude.{nat_lt, ◌==◌}
+-- A new job and a new grant come last, and what is accepted of a sound queue, and leaves one, has keys that were free.
+use Rattle.std.proofs.Common.{◌≡◌, inl, inr, ℕ, ◌+◌, true, List, [], ◌∷◌, ◌++◌, map, length, find, Some, None, refl, sym, ap, subst, ◌∙◌, arith, nat_lt, ◌==◌, bytes_eq, eq-eqb, cond, lt-ltb, ltb}
 use Rattle.std.specs.List.{range_with_len}
-use Rattle.std.specs.Str.{bytes_eq}
-use Rattle.std.proofs.lemmas.Bool.{cases_Bool, eq-eqb}
+use Rattle.std.proofs.lemmas.Bool.{cases_Bool}
 use Rattle.std.proofs.lemmas.Slice.Eq.{bytes_eq-Decides}
-use Rattle.sqlite_rules.specs.Lists.{Has}
 use Rattle.fax_core.specs.declared.grants.Grant.{Grant}
 use Rattle.fax_core.specs.Ageing.{aged_job}
 use Rattle.fax_core.specs.Job.{Job, job_of}
 use Rattle.fax_core.specs.Machine.{held_by}
 use Rattle.fax_core.specs.Queue.{Queue, grant_numbered, open_grants}
 use Rattle.fax_core.specs.Sound.{IsOpen, Sound}
-use Rattle.fax_core.proofs.PlaceLemmas.{In, absent, comes, found, found_in, in_found, of_filter, stays}
+use Rattle.fax_core.proofs.PlaceLemmas.{In, absent, comes, found, found_in, stays}
 use Rattle.fax_core.proofs.StepLemmas.{aged_sound}
 use Rattle.fax_tables.specs.Place.{placed}
 use Rattle.fax_store.specs.Grant.{IsNewGrant}
 use Rattle.fax_store.specs.Job.{IsNewJob, with_expired}
 use Rattle.fax_decide.specs.Effect.{IsFree, IsWithin, accepted}
 use Rattle.fax_decide.specs.declared.effect.Effect.{Effect}
-use Rattle.fax_decide.specs.declared.effect.Effect.TheVariants.{Nothing, NewJob, ChangedJob, Marked, NewGrant, Reported, Closed}
-use Rattle.fax_decide.proofs.PlacedLemmas.{grant_placed}
+use Rattle.fax_decide.specs.declared.effect.Effect.TheVariants.{NewJob, NewGrant}
+use Rattle.fax_decide.proofs.RecordLemmas.{in_had, none_by, open_there}
+
+-- ---- what is new comes last
+
+-- what has the next number among numbers without a gap is put at the end
+last_placed : {X : Type 0} (number : X → ℕ) (a : ℕ) (x : X) (xs : List X) → map number xs ≡ range_with_len a (length xs) → number x ≡ a + length xs → placed number x xs ≡ xs ++ x ∷ []
+last_placed number a x [] e n = refl
+last_placed number a x (y ∷ ys) e n =
+    let head : number y ≡ a = cc in
+    let rest : map number ys ≡ range_with_len (a + 1) (length ys) = cc in
+    let before : ltb (number y) (number x) ≡ true = lt-ltb (number y) (number x) (omega arith) in
+    ap (λ b. cond b (y ∷ placed number x ys) (x ∷ y ∷ ys)) before ∙ ap (λ l. y ∷ l) (last_placed number (a + 1) x ys rest (omega arith))
+
+-- a job of the next number comes after those of a sound queue
+pub job_placed : (m : Queue) (j : Job) → Sound m → j.number ≡ m.next_job → placed (λ (k : Job). k.number) j m.jobs ≡ m.jobs ++ j ∷ []
+job_placed m j h n = last_placed (λ (k : Job). k.number) 1 j m.jobs h.jobs (omega (arith, h.next_job))
+
+-- a grant of the next number comes after those of a sound queue
+pub grant_placed : (m : Queue) (g : Grant) → Sound m → g.number ≡ m.next_grant → placed (λ (h : Grant). h.number) g m.grants ≡ m.grants ++ g ∷ []
+grant_placed m g h n = last_placed (λ (h : Grant). h.number) 1 g m.grants h.grants (omega (arith, h.next_grant))
+
+-- ---- keys that were free
 
 -- what is put among numbers without a gap, so that there is none, comes last
 last_number : {X : Type 0} (number : X → ℕ) (a : ℕ) (x : X) (xs : List X) → map number xs ≡ range_with_len a (length xs) → map number (placed number x xs) ≡ range_with_len a (length (placed number x xs)) → number x ≡ a + length xs
@@ -37,17 +55,6 @@ last_number number a x (y ∷ ys) before after = elim (cases_Bool (nat_lt (numbe
       let first : number y ≡ a = cc in
       absurd (omega (arith, first, second)))
 ]
-
--- where there is none to be found, none is
-none_by : {X : Type 0} (o : Option X) → ((x : X) → o ≡ Some x → ⊥) → o ≡ None
-none_by None never = refl
-none_by (Some x) never = absurd (never x refl)
-
--- what a list has is in it
-in_had : {X : Type 0} (xs : List X) (x : X) → Has xs x → In x xs
-in_had [] x has = has
-in_had (y ∷ ys) x (inl is) = inl (sym is)
-in_had (y ∷ ys) x (inr more) = inr (in_had ys x more)
 
 -- a job that leaves a sound queue has a number that none had
 job_free : (t : ℕ) (j : Job) (m : Queue) → Sound m → map (λ (k : Job). k.number) (placed (λ (k : Job). k.number) j (map (aged_job t) m.jobs)) ≡ range_with_len 1 (length (placed (λ (k : Job). k.number) j (map (aged_job t) m.jobs)))
@@ -78,17 +85,15 @@ module _ (m after : Queue) (g : Grant) (sound : Sound m) (still : Sound after) (
 
   -- one that was open is so still, and is another
   module _ (h : Grant) (there : In h (open_grants m)) where
-    -- the queue has it under its number
-    was : grant_numbered h.number m ≡ Some h
-    was = in_found (λ (x : Grant). x.number) 1 m.grants h sound.grants (of_filter (λ (x : Grant). x.is_open) m.grants h there).0
-
     -- it is open afterwards
     old_open : IsOpen after h.number h
-    old_open = (ap (find (λ (x : Grant). x.number == h.number)) grants_are ∙ stays (λ (x : Grant). x.number == h.number) m.grants g h was, (of_filter (λ (x : Grant). x.is_open) m.grants h there).1)
+    old_open =
+        let was = open_there m h sound there in
+        (ap (find (λ (x : Grant). x.number == h.number)) grants_are ∙ stays (λ (x : Grant). x.number == h.number) m.grants g h was.0, was.1)
 
     -- its number is another
     other : h.number ≡ g.number → ⊥
-    other same = let both = sym (subst (λ n. grant_numbered n m ≡ Some h) same was) ∙ unknown in cc
+    other same = let both = sym (subst (λ n. grant_numbered n m ≡ Some h) same (open_there m h sound there).0) ∙ unknown in cc
 
   -- the new grant takes neither a number, nor a modem or a job that holds one
   pub grant_free : IsNewGrant g m
@@ -103,14 +108,10 @@ module _ (m after : Queue) (g : Grant) (sound : Sound m) (still : Sound after) (
 
 -- so what is accepted takes no key that is taken
 pub keys_free : (t : ℕ) (effect : Effect) (m : Queue) → Sound m → Sound (accepted t effect m) → IsWithin effect (with_expired t m) → IsFree effect (with_expired t m)
-keys_free t Nothing m sound still within = tt
 keys_free t (NewJob f meta) m sound still within = job_free t (job_of f) m sound still.jobs
-keys_free t (ChangedJob f) m sound still within = tt
-keys_free t (Marked modem down) m sound still within = tt
 keys_free t (NewGrant f g) m sound still within =
     let after = accepted t (NewGrant f g) m in
     let free = grant_free m after g sound still refl within.0.is_open in
     let held = still.held g.number g (new_open m after g sound still refl within.0.is_open) in
     (record { number = free.number; modem = free.modem; job = free.job }, (held.0, held.1))
-keys_free t (Reported f g) m sound still within = tt
-keys_free t (Closed f g) m sound still within = tt
+keys_free t effect m sound still within = tt

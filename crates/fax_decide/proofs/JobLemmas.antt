@@ -1,7 +1,5 @@
 -- What is decided of a request on a job.
-use Rattle.std.proofs.Common.{◌≡◌, ℕ, Bool, true, false, cond, Some, Ok, Err, refl, sym, ap, subst, ◌∙◌}
-use Rattle.std.specs.Option.{option_map}
-use Rattle.std.specs.Prelude.{Option, Result}
+use Rattle.std.proofs.Common.{◌≡◌, ℕ, Bool, true, false, cond, Some, Ok, Err, Result, sym, ap, subst, ◌∙◌}
 use Rattle.fax_job.specs.declared.job.JobFields.{JobFields}
 use Rattle.fax_job.specs.declared.refusal.Refusal.{Refusal}
 use Rattle.fax_job.specs.declared.refusal.Refusal.TheVariants.{Unavailable}
@@ -20,7 +18,7 @@ use Rattle.fax_core.specs.Reply.{Stands, Taken}
 use Rattle.fax_core.specs.Settings.{Settings}
 use Rattle.fax_core.specs.State.{calls_to, state}
 use Rattle.fax_core.specs.Submission.{recorded}
-use Rattle.fax_store.specs.Job.{IsChange, IsSameOrder, lines_of, with_expired, with_its_lines}
+use Rattle.fax_store.specs.Job.{IsChange, lines_of, with_expired, with_its_lines}
 use Rattle.fax_decide.specs.Decision.{IsTaken}
 use Rattle.fax_decide.specs.Records.{job_in}
 use Rattle.fax_core.specs.declared.ask.JobAsk.{JobAsk}
@@ -28,62 +26,64 @@ use Rattle.fax_decide.specs.declared.effect.Effect.TheVariants.{ChangedJob}
 use Rattle.fax_decide.proofs.CallLemmas.{state_changed}
 use Rattle.fax_decide.proofs.LinesLemmas.{decision_lined, job_lined, state_lined}
 
--- what is recorded is the job
+-- ---- what is recorded
+
+-- what is recorded was decided, unless no record could hold the job
+pub recorded_as : (r x : Result Job Refusal) → x ≡ recorded r → (x ≡ Err Unavailable → ⊥) → r ≡ x
+recorded_as (Err e) x is never = sym is
+recorded_as (Ok j) x is never = by (is_lawful (fields_of j)) is
+  where
+    by : (b : Bool) → x ≡ cond b (Ok j) (Err Unavailable) → Ok j ≡ x
+    by true e = sym e
+    by false e = absurd (never e)
+
+-- so a job that is recorded was decided
+pub recorded_ok : (r : Result Job Refusal) (x : Job) → Ok x ≡ recorded r → r ≡ Ok x
+recorded_ok r x is = recorded_as r (Ok x) is (λ no. cc)
+
+-- and is the one that was
 pub recorded_is : (x j : Job) → Ok x ≡ recorded (Ok j) → x ≡ j
-recorded_is x j is = by (is_lawful (fields_of j)) is
-  where
-    by : (b : Bool) → ◌≡◌ {A = Result Job Refusal} (Ok x) (cond b (Ok j) (Err Unavailable)) → x ≡ j
-    by true e = cc
-    by false e = absurd cc
+recorded_is x j is = let same = recorded_ok (Ok j) x is in cc
 
--- what is said of a job with its lines is said without them
-pub of_order : (m : Queue) (f : JobFields) → IsChange (job_in m f) m → IsChange (job_of f) m
-of_order m f change k of = let same = change k of in record { dial = same.dial; totpages = same.totpages }
+-- ---- a job that is changed, with its lines
 
--- what a change leaves of a job without its lines, it leaves of the job with them
-pub with_lines : (m : Queue) (c : Change) (f g : JobFields) → Ok (job_of g) ≡ recorded (Ok (changed c (job_of f))) → job_in m g ≡ changed c (job_in m f)
-with_lines m c f g is = ap (with_its_lines m) (recorded_is (job_of g) (changed c (job_of f)) is)
+module _ (m : Queue) (t : ℕ) (c : Change) (f g : JobFields) (there : job_numbered f.job (aged t m) ≡ Some (job_in (aged t m) f)) (after : Ok (job_of g) ≡ recorded (Ok (changed c (job_of f)))) where
+  -- with its lines it is what the change makes of the job with them
+  pub whole_changed : job_in (aged t m) g ≡ changed c (job_in (aged t m) f)
+  whole_changed = ap (with_its_lines (aged t m)) (recorded_is (job_of g) (changed c (job_of f)) after)
 
--- a changed job keeps its order
-pub same_order : (m : Queue) (t : ℕ) (c : Change) (j : Job) → job_numbered j.number (aged t m) ≡ Some j → IsChange (changed c j) (with_expired t m)
-same_order m t c j is k of = let one : k ≡ j = (let both = sym of ∙ is in cc) in subst (λ (x : Job). IsSameOrder x (changed c j)) (sym one) (record { dial = refl; totpages = refl })
+  -- its number has the job as it was
+  pub old_there : job_numbered g.job (aged t m) ≡ Some (job_in (aged t m) f)
+  old_there = subst (λ (n : ℕ). job_numbered n (aged t m) ≡ Some (job_in (aged t m) f)) (sym (ap (λ (x : Job). x.number) whole_changed)) there
 
--- a changed job is taken, and its state is told
-taken_of : (s : Settings) (m : Queue) (t : ℕ) (c : Change) (j : Job) (g : JobFields) (st : ℕ) (reply : Response)
-    → job_numbered j.number (aged t m) ≡ Some j → job_in (aged t m) g ≡ changed c j → st ≡ state s m t (job_of g) → reply ≡ accepted_response (Replied (Stands g.job st))
-    → IsTaken (machine.changed s (aged t m) t (Ok (changed c j))) m t (ChangedJob g) reply
-taken_of s m t c j g st reply is one st_is replied = record {
-  suits = of_order (with_expired t m) g (subst (λ (x : Job). IsChange x (with_expired t m)) (sym one) (same_order m t c j is));
-  within = tt;
-  told = Stands g.job st;
-  taken = ap (λ (x : Job). Taken (with_job x (aged t m)) (Stands x.number (state s (with_job x (aged t m)) t x))) (sym one)
-      ∙ ap (λ (n : ℕ). Taken (with_job whole (aged t m)) (Stands g.job n)) (state_changed s m t whole j there dial ∙ alike ∙ sym st_is);
-  replied = replied;
-}
-  where
-    whole : Job
-    whole = job_in (aged t m) g
+  -- it keeps its order
+  pub order_kept : IsChange (job_of g) (with_expired t m)
+  order_kept k of =
+      let same : k ≡ job_in (aged t m) f = (let both = sym of ∙ old_there in cc) in record {
+        dial = ap (λ (x : Job). x.dial) same ∙ sym (ap (λ (x : Job). x.dial) whole_changed);
+        totpages = ap (λ (x : Job). x.totpages) same ∙ sym (ap (λ (x : Job). x.totpages) whole_changed);
+      }
 
-    alike : state s m t whole ≡ state s m t (job_of g)
-    alike = state_lined (lines_of (job_numbered g.job (aged t m))) g.phase (job_of g) ((s.rule g.dial).hours t) (calls_to g.dial m) (s.rule g.dial).calls t
+  -- it is taken, and its state is told
+  pub job_taken : (s : Settings) (reply : Response) → reply ≡ accepted_response (Replied (Stands g.job (state s m t (job_of g))))
+      → IsTaken (machine.changed s (aged t m) t (Ok (changed c (job_in (aged t m) f)))) m t (ChangedJob g) reply
+  job_taken s reply replied =
+      let whole = job_in (aged t m) g in
+      let lines = lines_of (job_numbered g.job (aged t m)) in record {
+        suits = order_kept;
+        within = tt;
+        told = Stands g.job (state s m t (job_of g));
+        taken = ap (λ (x : Job). Taken (with_job x (aged t m)) (Stands x.number (state s (with_job x (aged t m)) t x))) (sym whole_changed)
+            ∙ ap (λ (n : ℕ). Taken (with_job whole (aged t m)) (Stands g.job n))
+            (state_changed s m t whole (job_in (aged t m) f) old_there (ap (λ (x : Job). x.dial) whole_changed)
+            ∙ state_lined lines g.phase (job_of g) ((s.rule g.dial).hours t) (calls_to g.dial m) (s.rule g.dial).calls t);
+        replied = replied;
+      }
 
-    there : job_numbered g.job (aged t m) ≡ Some j
-    there = subst (λ (x : Job). job_numbered x.number (aged t m) ≡ Some j) (sym one) is
-
-    dial : g.dial ≡ j.dial
-    dial = ap (λ (x : Job). x.dial) one
-
--- the changed job is taken for what the machine makes of it
-pub job_taken : (s : Settings) (m : Queue) (t : ℕ) (c : Change) (f g : JobFields) (st : ℕ) (reply : Response)
-    → job_numbered f.job (aged t m) ≡ Some (job_in (aged t m) f) → Ok (job_of g) ≡ recorded (Ok (changed c (job_of f))) → st ≡ state s m t (job_of g) → reply ≡ accepted_response (Replied (Stands g.job st))
-    → IsTaken (machine.changed s (aged t m) t (Ok (changed c (job_in (aged t m) f)))) m t (ChangedJob g) reply
-job_taken s m t c f g st reply is one st_is replied = taken_of s m t c (job_in (aged t m) f) g st reply is (with_lines (aged t m) c f g one) st_is replied
-
--- the job that is there is decided on
-pub on_job_is : (s : Settings) (m : Queue) (t : ℕ) (ask : JobAsk) (n : ℕ) (r : Result Job Refusal) (f : JobFields) (found : Option JobFields)
-    → option_map (job_in (aged t m)) found ≡ job_numbered n (aged t m) → found ≡ Some f → r ≡ job_asked ask t (job_of f)
+-- the job that is there is decided on, with its lines
+pub on_job_is : (s : Settings) (m : Queue) (t : ℕ) (ask : JobAsk) (n : ℕ) (r : Result Job Refusal) (f : JobFields)
+    → job_numbered n (aged t m) ≡ Some (job_in (aged t m) f) → r ≡ job_asked ask t (job_of f)
     → machine.changed s (aged t m) t (job_lined (lines_of (job_numbered f.job (aged t m))) r) ≡ machine.on_job s (aged t m) t ask (job_numbered n (aged t m))
-on_job_is s m t ask n r f found is one decided =
+on_job_is s m t ask n r f there decided =
     let lines = lines_of (job_numbered f.job (aged t m)) in
-    ap (machine.changed s (aged t m) t) (ap (job_lined lines) decided ∙ decision_lined lines ask t (job_of f))
-    ∙ ap (machine.on_job s (aged t m) t ask) (ap (option_map (job_in (aged t m))) (sym one) ∙ is)
+    ap (machine.changed s (aged t m) t) (ap (job_lined lines) decided ∙ decision_lined lines ask t (job_of f)) ∙ ap (machine.on_job s (aged t m) t ask) (sym there)

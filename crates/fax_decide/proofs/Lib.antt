@@ -5,17 +5,11 @@ mod LinesLemmas
 mod RecordLemmas
 mod CallLemmas
 mod JobLemmas
-mod SubmissionLemmas
-mod ModemLemmas
+mod NewJobLemmas
 mod ViewLemmas
 mod ReportLemmas
-mod PlacedLemmas
 mod ChoiceLemmas
 mod GivenLemmas
 mod KeptLemmas
-mod PlainLemmas
-mod ImportLemmas
 mod LookingLemmas
 pub mod FreeLemmas
-mod FloorLemmas
-mod WithinLemmas

@@ -1,13 +1,12 @@
 -- What is decided of a job doesn't depend on its extra lines, which stay as they are.
-use Rattle.std.proofs.Common.{◌≡◌, ℕ, Bool, true, false, cond, not, ◌&&◌, ◌||◌, ◌==◌, List, [], ◌∷◌, Some, Result, Ok, Err, refl, ap}
-use Rattle.std.specs.Prelude.{is_none, is_some, nat_le}
+use Rattle.std.proofs.Common.{◌≡◌, ℕ, Bool, true, false, cond, not, ◌&&◌, ◌||◌, ◌==◌, List, [], ◌∷◌, Some, Result, Ok, Err, refl, ap, is_none, is_some, nat_le}
 use Rattle.fax_job.specs.Pair.{Pair}
 use Rattle.fax_value.specs.Status.{kill_time_expired, killed, too_many_dials, too_many_tries, unable_to_transmit}
 use Rattle.fax_job.specs.declared.alter.Alter.{Alter}
 use Rattle.fax_job.specs.declared.job.Call.{Call}
 use Rattle.fax_job.specs.declared.job.Call.TheVariants as calls
 use Rattle.fax_job.specs.declared.job.Phase.{Phase}
-use Rattle.fax_job.specs.declared.job.Phase.TheVariants.{Held, Waiting, Granted, Done, Failed}
+use Rattle.fax_job.specs.declared.job.Phase.TheVariants.{Held, Granted, Failed}
 use Rattle.fax_job.specs.declared.job.Wish.{Wish}
 use Rattle.fax_job.specs.declared.job.Wish.TheVariants as wish
 use Rattle.fax_job.specs.declared.refusal.Refusal.{Refusal}
@@ -24,78 +23,58 @@ use Rattle.fax_core.specs.State.{state_in}
 use Rattle.fax_core.specs.declared.ask.JobAsk.{JobAsk}
 use Rattle.fax_core.specs.declared.ask.JobAsk.TheVariants.{Suspend, Resume, Kill, Alter as Alteration}
 
+-- what is made of either of two alike
+either : {A B : Type 0} (f : A → B) (b : Bool) (x y : A) (i j : B) → f x ≡ i → f y ≡ j → f (cond b x y) ≡ cond b i j
+either f true x y i j first second = first
+either f false x y i j first second = second
+
 module _ (lines : List Pair) where
   -- the job with these lines
   abbrev pub lined : Job → Job
   lined j = record j { extra = lines }
-
-  -- lines come to either of two jobs alike
-  either : (b : Bool) (x y i j : Job) → lined x ≡ i → lined y ≡ j → lined (cond b x y) ≡ cond b i j
-  either true x y i j first second = first
-  either false x y i j first second = second
 
   -- ---- its state, and what time does to it
 
   -- the state is the same with these lines
   pub state_lined : (phase : Phase) (j : Job) (hours : Bool) (calls limit t : ℕ) → state_in phase (lined j) hours calls limit t ≡ state_in phase j hours calls limit t
   state_lined Held j hours calls limit t = refl
-  state_lined Waiting j hours calls limit t = refl
-  state_lined Granted j hours calls limit t = refl
-  state_lined Done j hours calls limit t = refl
-  state_lined Failed j hours calls limit t = refl
+  state_lined phase j hours calls limit t = refl
 
   -- ageing leaves them
   pub aged_lined : (t : ℕ) (j : Job) → lined (aged_job t j) ≡ aged_job t (lined j)
-  aged_lined t j = either (expires j.phase && is_past j.killtime t) (record j { phase = Failed; status = kill_time_expired }) j _ _ refl refl
+  aged_lined t j = either lined (expires j.phase && is_past j.killtime t) (record j { phase = Failed; status = kill_time_expired }) j _ _ refl refl
 
-  -- ---- a client's requests
+  -- ---- what is decided
 
   abbrev pub job_lined : Result Job Refusal → Result Job Refusal
   job_lined (Ok j) = Ok (lined j)
   job_lined (Err e) = Err e
 
+  abbrev pub both_lined : Result JobAndGrant Refusal → Result JobAndGrant Refusal
+  both_lined (Ok b) = Ok (record b { job = lined b.job })
+  both_lined (Err e) = Err e
+
+  -- ---- a client's requests
+
   -- a suspension decides the same with them
   suspend_lined : (phase : Phase) (w : Wish) (j : Job) → job_lined (suspend_in phase w j) ≡ suspend_in phase w (lined j)
-  suspend_lined Held w j = refl
-  suspend_lined Waiting w j = refl
   suspend_lined Granted wish.Go j = refl
-  suspend_lined Granted wish.Hold j = refl
-  suspend_lined Granted wish.Kill j = refl
-  suspend_lined Done w j = refl
-  suspend_lined Failed w j = refl
+  suspend_lined phase w j = refl
 
   -- a resumption does
   resume_lined : (phase : Phase) (w : Wish) (j : Job) → job_lined (resume_in phase w j) ≡ resume_in phase w (lined j)
-  resume_lined Held w j = refl
-  resume_lined Waiting w j = refl
   resume_lined Granted wish.Go j = refl
-  resume_lined Granted wish.Hold j = refl
-  resume_lined Granted wish.Kill j = refl
-  resume_lined Done w j = refl
-  resume_lined Failed w j = refl
+  resume_lined phase w j = refl
 
   -- a kill does
   kill_lined : (phase : Phase) (j : Job) → job_lined (kill_in phase j) ≡ kill_in phase (lined j)
   kill_lined Held j = refl
-  kill_lined Waiting j = refl
-  kill_lined Granted j = refl
-  kill_lined Done j = refl
-  kill_lined Failed j = refl
-
-  -- so does the limit of an alteration
-  limits_lined : (b : Bool) (j : Job) → job_lined (cond b (Err LimitReached) (Ok j)) ≡ cond b (Err LimitReached) (Ok (lined j))
-  limits_lined true j = refl
-  limits_lined false j = refl
+  kill_lined phase j = refl
 
   -- an alteration does
   alter_lined : (phase : Phase) (changes : Alter) (j : Job) (t : ℕ) → job_lined (alter_in phase changes j t) ≡ alter_in phase changes (lined j) t
-  alter_lined Held changes j t =
-      let k = altered changes j t in
-      limits_lined (nat_le k.maxdials k.totdials || nat_le k.maxtries k.tottries) k
-  alter_lined Waiting changes j t = refl
-  alter_lined Granted changes j t = refl
-  alter_lined Done changes j t = refl
-  alter_lined Failed changes j t = refl
+  alter_lined Held changes j t = let k = altered changes j t in either job_lined (nat_le k.maxdials k.totdials || nat_le k.maxtries k.tottries) (Err LimitReached) (Ok k) _ _ refl refl
+  alter_lined phase changes j t = refl
 
   -- each request on a job decides the same with them
   pub decision_lined : (ask : JobAsk) (t : ℕ) (j : Job) → job_lined (job_asked ask t j) ≡ job_asked ask t (lined j)
@@ -106,46 +85,34 @@ module _ (lines : List Pair) where
 
   -- ---- a worker's reports
 
-  abbrev pub both_lined : Result JobAndGrant Refusal → Result JobAndGrant Refusal
-  both_lined (Ok b) = Ok (record b { job = lined b.job })
-  both_lined (Err e) = Err e
-
-  -- what a test may refuse before decides the same with them, where what is behind does
-  unless : (b : Bool) (e : Refusal) (x y : Result JobAndGrant Refusal) → both_lined x ≡ y → both_lined (cond b (Err e) x) ≡ cond b (Err e) y
-  unless true e x y same = refl
-  unless false e x y same = same
-
   -- a call leaves them
   called : (c : Call) (j : Job) → lined (after_call c j) ≡ after_call c (lined j)
   called calls.Connected j = refl
-  called calls.Busy j = refl
-  called calls.NoAnswer j = refl
-  called calls.NoCarrier j = refl
-  called calls.Other j = refl
+  called c j = refl
 
   -- a report of a call decides the same with them
   pub call_lined : (c : Call) (j : Job) (g : Grant) → both_lined (call c j g) ≡ call c (lined j) g
   call_lined c j g =
-      unless (not g.is_open) GrantClosed _ _
-      (unless (is_some g.call) CallKnown _ _ (ap (λ (k : Job). Ok (record { job = k; grant = record g { call = Some c } })) (called c j)))
+      either both_lined (not g.is_open) (Err GrantClosed) _ _ _ refl
+      (either both_lined (is_some g.call) (Err CallKnown) _ _ _ refl (ap (λ (k : Job). Ok (record { job = k; grant = record g { call = Some c } })) (called c j)))
 
   -- a page leaves them
   paged : (left : List ℕ) (n : ℕ) (j : Job) (g : Grant) → both_lined (page_of left n j g) ≡ page_of left n (lined j) g
   paged [] n j g = refl
-  paged (p ∷ rest) n j g = unless (not (p == n)) PageOrder _ _ refl
+  paged (p ∷ rest) n j g = either both_lined (not (p == n)) (Err PageOrder) _ _ _ refl refl
 
   -- a report of a page decides the same with them
   pub page_lined : (n : ℕ) (j : Job) (g : Grant) → both_lined (page n j g) ≡ page n (lined j) g
-  page_lined n j g = unless (not g.is_open) GrantClosed _ _ (unless (not (is_connected g.call)) NotConnected _ _ (paged j.left n j g))
+  page_lined n j g = either both_lined (not g.is_open) (Err GrantClosed) _ _ _ refl (either both_lined (not (is_connected g.call)) (Err NotConnected) _ _ _ refl (paged j.left n j g))
 
   -- a job to be tried again keeps them
   retry_lined : (j : Job) (reason : List ℕ) (delay t : ℕ) → lined (retried j reason delay t) ≡ retried (lined j) reason delay t
   retry_lined j reason delay t =
-      either (is_kill j.wish) (failed j killed) _ _ _ refl
-      (either (is_past j.killtime t) (failed j kill_time_expired) _ _ _ refl
-      (either (nat_le j.maxdials j.totdials) (failed j too_many_dials) _ _ _ refl
-      (either (nat_le j.maxtries j.tottries) (failed j too_many_tries) _ _ _ refl
-      (either (nat_le 3 j.ntries) (failed j unable_to_transmit) _ _ _ refl refl))))
+      either lined (is_kill j.wish) (failed j killed) _ _ _ refl
+      (either lined (is_past j.killtime t) (failed j kill_time_expired) _ _ _ refl
+      (either lined (nat_le j.maxdials j.totdials) (failed j too_many_dials) _ _ _ refl
+      (either lined (nat_le j.maxtries j.tottries) (failed j too_many_tries) _ _ _ refl
+      (either lined (nat_le 3 j.ntries) (failed j unable_to_transmit) _ _ _ refl refl))))
 
   -- a job whose grant ended keeps them
   ended_lined : (left : List ℕ) (e : Ending) (o : Outcome) (j : Job) (delay t : ℕ) → o.ending ≡ e → lined (ended left o j delay t) ≡ ended left o (lined j) delay t
@@ -157,11 +124,11 @@ module _ (lines : List Pair) where
   -- a report of an outcome decides the same with them
   pub outcome_lined : (o : Outcome) (j : Job) (g : Grant) (delay t : ℕ) → both_lined (outcome o j g delay t) ≡ outcome o (lined j) g delay t
   outcome_lined o j g delay t =
-      unless (not g.is_open) GrantClosed _ _
-      (unless (not o.dialed && is_some g.call) CallKnown _ _
-      (unless (o.dialed && is_none g.call) CallMissing _ _
-      (unless (not (o.pages == g.confirmed)) PagesMismatch _ _
-      (unless (is_done o.ending && not (is_empty j.left)) PagesLeft _ _
+      either both_lined (not g.is_open) (Err GrantClosed) _ _ _ refl
+      (either both_lined (not o.dialed && is_some g.call) (Err CallKnown) _ _ _ refl
+      (either both_lined (o.dialed && is_none g.call) (Err CallMissing) _ _ _ refl
+      (either both_lined (not (o.pages == g.confirmed)) (Err PagesMismatch) _ _ _ refl
+      (either both_lined (is_done o.ending && not (is_empty j.left)) (Err PagesLeft) _ _ _ refl
       (ap (λ (k : Job). Ok (record { job = k; grant = record g { is_open = false } })) (ended_lined j.left o.ending o j delay t refl))))))
 
   -- the keys of a refusal don't tell them

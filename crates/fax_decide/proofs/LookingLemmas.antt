@@ -1,7 +1,8 @@
 -- Calls that look at the store, one after the other.
-use Rattle.std.proofs.Common.{◌≡◌, ℕ, Ok, Err, Result, IfOk, IsErrAnd, OnOk, subst, sym}
-use Rattle.std.specs.Prelude.{⊤, MatchResult}
-use Rattle.sqlite.specs.State.{State, HasCleanDisk}
+use Rattle.std.proofs.Common.{◌≡◌, ℕ, Ok, Err, Result, IfOk, IsErrAnd, OnOk, subst, MatchResult, sym}
+use Rattle.std.specs.Prelude.{⊤}
+use Rattle.std.proofs.lemmas.Result.{on_ok_weaker}
+use Rattle.sqlite.specs.State.{HasCleanDisk}
 use Rattle.fax_core.specs.Ledger.{Ledger}
 use Rattle.fax_core.specs.Queue.{Queue}
 use Rattle.fax_core.specs.Reply.{Step}
@@ -20,19 +21,11 @@ use Rattle.fax_decide.specs.Decision.{Decides}
 use Rattle.fax_decide.specs.Fault.{OnlyNoAnswer, OrNoAnswer}
 use Rattle.fax_decide.specs.Looking.{Consults, DecidesBy, Views}
 use Rattle.fax_decide.specs.declared.decision.Decision.{Decision}
+use Rattle.fax_decide.specs.declared.decision.Decision.TheVariants.{Taken}
+use Rattle.fax_decide.specs.declared.effect.Effect.{Effect}
 use Rattle.fax_decide.specs.declared.fault.Fault.{Fault}
 use Rattle.fax_decide.specs.declared.fault.Fault.TheVariants.{NoAnswer}
 use Rattle.fax_decide.proofs.FaultLemmas.{passed_on}
-
--- what was open at first is open after the second, where it answers
-opens_then : {A E : Type 0} (a b c : State) (r : Result A E) → StaysOpen a b → (HasCleanDisk c → HasCleanDisk b) → OnOk r (StaysOpen b c) → OnOk r (StaysOpen a c)
-opens_then a b c (Ok x) first clean second = λ now serves. second now (first (clean now) serves)
-opens_then a b c (Err e) first clean second = tt
-
--- an answer leaves the store serving
-opens_of : {A E : Type 0} (a b : State) (r : Result A E) → OnOk r (HasCleanDisk b → Serves b) → OnOk r (StaysOpen a b)
-opens_of a b (Ok x) opens = λ clean serves. opens clean
-opens_of a b (Err e) opens = tt
 
 -- what holds of every answer
 always : {A E P : Type 0} (r : Result A E) → P → OnOk r P
@@ -44,11 +37,11 @@ never : {A E : Type 0} (r : Result A E) (Is : E → Type 0) (P : Type 0) → IsE
 never (Ok x) Is P is = absurd is
 never (Err e) Is P is = tt
 
--- what holds of a reply holds of the decision with it
-opens_with : (P : Type 0) (decision : Response → Decision) (reply : Result Response Fault) (result : Result Decision Fault) → MatchResult reply (λ r. result ≡ Ok (decision r)) (λ e. result ≡ Err e)
+-- what holds where there is a reply holds where the effect is taken with it
+opens_with : (P : Type 0) (effect : Effect) (reply : Result Response Fault) (result : Result Decision Fault) → MatchResult reply (λ r. result ≡ Ok (Taken effect r)) (λ e. result ≡ Err e)
     → OnOk reply P → OnOk result P
-opens_with P decision (Ok r) result is h = subst (λ d. OnOk d P) (sym is) h
-opens_with P decision (Err e) result is h = subst (λ d. OnOk d P) (sym is) tt
+opens_with P effect (Ok r) result is h = subst (λ d. OnOk d P) (sym is) h
+opens_with P effect (Err e) result is h = subst (λ d. OnOk d P) (sym is) tt
 
 module _ {S : Type 0} {g : _} where
   -- what is known of the queue before any call
@@ -67,14 +60,15 @@ module _ {S : Type 0} {g : _} where
   pub moved : {a b c d : Store S} {A E : Type 0} {result : Result A E} {P : Queue → Type 0} → a ≡ c → b ≡ d → Consults g a b result P → Consults g c d result P
   moved {a} {b} {c} {d} {A} {E} {result} {P} first last call = subst (λ v. Consults g c v result P) last (subst (λ v. Consults g v b result P) first call)
 
+  -- a call that looks at the store, and leaves it serving where it answers
+  pub by_look : {old new : Store S} {A : Type 0} {P : Queue → Type 0} (result : Result A StoreFault) → Looks g old new → OnOk result (HasCleanDisk (shown g new) → Serves (shown g new))
+      → ((m : Queue) (k : Ledger) → Means (shown g old) m k → Serves (shown g new) → P m) → Consults g old new result P
+  by_look result leaves opens found = record { leaves = leaves; opens = on_ok_weaker result (λ opens clean serves. opens clean) opens; found = found }
+
   -- a reading of the store
   pub by_reading : {old new : Store S} {A : Type 0} {result : Result A StoreFault} {P : Queue → Type 0} → Finds g old new result
       → ((m : Queue) (k : Ledger) → MeansNow (shown g old) m k → Serves (shown g new) → P m) → Consults g old new result P
-  by_reading {old} {new} {A} {result} finds answers = record {
-    leaves = looks_of g old new result finds;
-    opens = opens_of (shown g old) (shown g new) result finds.opens;
-    found = λ m k means serves. answers m k (means_now means) serves;
-  }
+  by_reading {old} {new} {A} {result} finds answers = by_look result (looks_of g old new result finds) finds.opens (λ m k means serves. answers m k (means_now means) serves)
 
   -- a step along the candidates, wherever they stand
   pub by_step : {old new : Store S} {A X : Type 0} {P : Queue → X → Type 0} (result : Result A StoreFault) → Looks g old new → OnOk result (StaysOpen (shown g old) (shown g new))
@@ -86,7 +80,7 @@ module _ {S : Type 0} {g : _} where
       → Consults g a c result (λ m. P m × Q m)
   both {a} {b} {c} {result = result} first second = record {
     leaves = looks_then g a b c first.leaves second.leaves;
-    opens = opens_then (shown g a) (shown g b) (shown g c) result first.opens second.leaves.clean second.opens;
+    opens = on_ok_weaker result (λ opens clean serves. opens clean (first.opens (second.leaves.clean clean) serves)) second.opens;
     found = λ m k means serves. (first.found m k means (second.leaves.served serves), second.found m k (means_stay first.leaves.served first.leaves.stays m k means) serves);
   }
 
@@ -109,21 +103,21 @@ module _ {S : Type 0} {g : _} where
   }
 
   -- the result is a fault
-  pub stops : {old new : Store S} {A B E : Type 0} {result : Result B E} {P Q : Queue → Type 0} (error : Result A Fault) (fault : Fault) → IsErrAnd error (λ e. e ≡ fault) → Consults g old new result P
-      → ((m : Queue) (k : Ledger) → IsAtRest (shown g old) m k → ((T : A → Type 0) → fault ≡ NoAnswer → OrNoAnswer error T) → P m → Q m) → Consults g old new error Q
-  stops error fault is call says = record {
+  pub stops : {old new : Store S} {A B E : Type 0} {result : Result B E} {P Q : Queue → Type 0} {error : Result A Fault} {fault : Fault} → IsErrAnd error (λ e. e ≡ fault) → Consults g old new result P
+      → ((m : Queue) → ((T : A → Type 0) → fault ≡ NoAnswer → OrNoAnswer error T) → P m → Q m) → Consults g old new error Q
+  stops {error = error} {fault = fault} is call says = record {
     leaves = call.leaves;
     opens = never error (λ e. e ≡ fault) _ is;
-    found = λ m k means serves. says m k (means (call.leaves.served serves)) (λ T why. passed_on error fault T is why) (call.found m k means serves);
+    found = λ m k means serves. says m (λ T why. passed_on error fault T is why) (call.found m k means serves);
   }
 
-  -- the result is decided by the reply of the call
-  pub replies : {old new : Store S} {P Q : Queue → Type 0} (decision : Response → Decision) (reply : Result Response Fault) (result : Result Decision Fault)
-      → MatchResult reply (λ r. result ≡ Ok (decision r)) (λ e. result ≡ Err e) → Consults g old new reply P → ((m : Queue) (k : Ledger) → IsAtRest (shown g old) m k → P m → Q m) → Consults g old new result Q
-  replies decision reply result is call says = record {
+  -- the result is the effect that is taken with the reply of the call
+  pub takes : {old new : Store S} {P Q : Queue → Type 0} (effect : Effect) (reply : Result Response Fault) (result : Result Decision Fault)
+      → MatchResult reply (λ r. result ≡ Ok (Taken effect r)) (λ e. result ≡ Err e) → Consults g old new reply P → ((m : Queue) → P m → Q m) → Consults g old new result Q
+  takes effect reply result is call says = record {
     leaves = call.leaves;
-    opens = opens_with _ decision reply result is call.opens;
-    found = λ m k means serves. says m k (means (call.leaves.served serves)) (call.found m k means serves);
+    opens = opens_with _ effect reply result is call.opens;
+    found = λ m k means serves. says m (call.found m k means serves);
   }
 
   -- what is seen of the queue

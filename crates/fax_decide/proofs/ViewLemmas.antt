@@ -1,16 +1,18 @@
 -- What is shown of a job, and of all jobs.
-use Rattle.std.proofs.Common.{◌≡◌, ℕ, List, [], ◌∷◌, ◌++◌, All, Bool, true, false, cond, ◌&&◌, flat_map, length, map, Option, Some, refl, sym, ap, ap₂, ◌∙◌}
+use Rattle.std.proofs.Common.{◌≡◌, ℕ, List, [], ◌∷◌, ◌++◌, All, length, map, Option, Some, refl, sym, ap, ap₂, ◌∙◌, option_map}
 use Rattle.std.specs.List.{range_with_len}
 use Rattle.std.specs.List.Sorted.{IsStrictlyIncreasing}
 use Rattle.std.proofs.lemmas.List.{length-map, map-append}
-use Rattle.std.specs.Option.{option_map}
+use Rattle.std.proofs.lemmas.List.Elements.{All-head, All-tail}
+use Rattle.std.proofs.lemmas.List.Folds.{flat_map-map}
+use mathlib.Core.List.{map-map}
 use Rattle.fax_job.specs.JobLines.{job_lines}
 use Rattle.fax_job.specs.Spelling.{printed}
 use Rattle.fax_job.specs.declared.job.JobFields.{JobFields}
 use Rattle.fax_ask.specs.Answer.{Shown}
 use Rattle.fax_ask.specs.Response.{accepted_response}
 use Rattle.fax_ask.specs.declared.view.View.TheVariants as sight
-use Rattle.fax_core.specs.Ageing.{aged, aged_job, expires, is_past}
+use Rattle.fax_core.specs.Ageing.{aged, aged_job}
 use Rattle.fax_core.specs.Job.{Job, fields_of, job_of}
 use Rattle.fax_core.specs.Queue.{Queue, job_numbered}
 use Rattle.fax_core.specs.Settings.{Settings}
@@ -18,15 +20,12 @@ use Rattle.fax_core.specs.Sound.{Sound}
 use Rattle.fax_core.specs.State.{calls_to, state}
 use Rattle.fax_core.proofs.DecisionLemmas.{aged_number}
 use Rattle.fax_core.proofs.FitsLemmas.{job_again, record_again}
-use Rattle.fax_value.specs.Status.{kill_time_expired}
-use Rattle.fax_job.specs.declared.job.Phase.TheVariants.{Failed}
 use Rattle.fax_tables.specs.Job.{IsLawfulJob, brief}
 use Rattle.fax_text.specs.Listing.{Listed, heading, line_of, listing_of, number_of}
 use Rattle.fax_text.proofs.OrderLemmas.{numbered}
-use Rattle.fax_run.specs.View.{viewed, view, with_state}
-use Rattle.fax_decide.proofs.LinesLemmas.{state_lined}
+use Rattle.fax_decide.specs.View.{viewed, view, with_state}
+use Rattle.fax_decide.proofs.LinesLemmas.{aged_lined, lined, state_lined}
 use Rattle.fax_decide.proofs.CallLemmas.{state_aged}
-use Rattle.fax_decide.proofs.ChoiceLemmas.{jobs_again, jobs_of}
 
 -- a job that is found is shown with its state
 pub job_viewed : (s : Settings) (m : Queue) (t n : ℕ) (f : JobFields) (found : Option JobFields)
@@ -39,37 +38,22 @@ job_viewed s m t n f found is one =
 
 -- ---- the listing
 
--- mapping twice is mapping by both
-twice : {X Y Z : Type 0} (g : Y → Z) (f : X → Y) (xs : List X) → map (λ x. g (f x)) xs ≡ map g (map f xs)
-twice g f [] = refl
-twice g f (x ∷ xs) = ap (λ zs. g (f x) ∷ zs) (twice g f xs)
+-- mapping by what is alike of each element is alike
+map_same : {X Y : Type 0} (f g : X → Y) (P : X → Type 0) → ((x : X) → P x → f x ≡ g x) → (xs : List X) → All P xs → map f xs ≡ map g xs
+map_same f g P same [] all = refl
+map_same f g P same (x ∷ xs) all = ap₂ ◌∷◌ (same x (All-head P x xs all)) (map_same f g P same xs (All-tail P x xs all))
+
+-- an aged job with its state is its row
+pub row_is : (s : Settings) (m : Queue) (t : ℕ) (f g : JobFields) (found : ℕ) → job_of g ≡ aged_job t (job_of f) → found ≡ state s m t (job_of g)
+    → ◌≡◌ {A = Listed} (g, found) (with_state s m t (aged_job t (job_of f)))
+row_is s m t f g found old told = ap₂ (λ (x : JobFields) (n : ℕ). (x, n)) (sym (record_again g)) told ∙ ap (with_state s m t) old
 
 -- one more of them
-pub one_more_row : (s : Settings) (m : Queue) (t : ℕ) (before : List JobFields) (f g : JobFields) (found : ℕ) (rows more : List Listed)
-    → rows ≡ map (λ x. with_state s m t (aged_job t (job_of x))) before → job_of g ≡ aged_job t (job_of f) → found ≡ state s m t (job_of g) → more ≡ rows ++ (g, found) ∷ []
+pub one_more_row : (s : Settings) (m : Queue) (t : ℕ) (before : List JobFields) (f : JobFields) (rows more : List Listed)
+    → rows ≡ map (λ x. with_state s m t (aged_job t (job_of x))) before → more ≡ rows ++ with_state s m t (aged_job t (job_of f)) ∷ []
     → more ≡ map (λ x. with_state s m t (aged_job t (job_of x))) (before ++ f ∷ [])
-one_more_row s m t before f g found rows more is old told one =
-    let row : ◌≡◌ {A = Listed} (g, found) (with_state s m t (aged_job t (job_of f))) =
-    ap₂ (λ (x : JobFields) (n : ℕ). (x, n)) (sym (record_again g)) told ∙ ap (with_state s m t) old in
-    one ∙ ap₂ (λ (xs : List Listed) (x : Listed). xs ++ x ∷ []) is row ∙ sym (map-append (λ (x : JobFields). with_state s m t (aged_job t (job_of x))) before (f ∷ []))
-
--- all of them
-pub all_rows : (s : Settings) (m : Queue) (t : ℕ) (all before : List JobFields) (rows : List Listed) → all ≡ before
-    → rows ≡ map (λ x. with_state s m t (aged_job t (job_of x))) before → rows ≡ map (λ x. with_state s m t (aged_job t (job_of x))) all
-all_rows s m t all before rows same is = is ∙ ap (map (λ x. with_state s m t (aged_job t (job_of x)))) (sym same)
-
--- the states are those of the aged queue
-same_states : (s : Settings) (m : Queue) (t : ℕ) (jobs : List Job) → map (λ j. with_state s m t (aged_job t j)) jobs ≡ map (with_state s (aged t m) t) (map (aged_job t) jobs)
-same_states s m t [] = refl
-same_states s m t (j ∷ js) = ap₂ ◌∷◌ (ap (λ (n : ℕ). (fields_of (aged_job t j), n)) (sym (state_aged s m t (aged_job t j)))) (same_states s m t js)
-
--- the records of all jobs, aged, are the rows of the listing
-pub rows_seen : (s : Settings) (m : Queue) (t : ℕ) (records : List JobFields) → All IsLawfulJob m.jobs → records ≡ map fields_of m.jobs
-    → map (λ f. with_state s m t (aged_job t (job_of f))) records ≡ map (with_state s (aged t m) t) (aged t m).jobs
-rows_seen s m t records lawful is =
-    twice (λ j. with_state s m t (aged_job t j)) (λ f. job_of f) records
-    ∙ ap (map (λ j. with_state s m t (aged_job t j))) (ap jobs_of is ∙ jobs_again m.jobs (λ k d below. job_again _ (lawful k d below).pages))
-    ∙ same_states s m t m.jobs
+one_more_row s m t before f rows more is one =
+    one ∙ ap (λ (xs : List Listed). xs ++ with_state s m t (aged_job t (job_of f)) ∷ []) is ∙ sym (map-append (λ (x : JobFields). with_state s m t (aged_job t (job_of x))) before (f ∷ []))
 
 -- the rows of the listing have the jobs' numbers
 numbers_seen : (s : Settings) (q : Queue) (t : ℕ) (jobs : List Job) → map number_of (map (with_state s q t) (map (aged_job t) jobs)) ≡ map (λ j. j.number) jobs
@@ -89,39 +73,27 @@ rows_ascend s m t sound =
 abbrev thin : Listed → Listed
 thin row = (brief row.0, row.1)
 
--- a job without its lines is listed without them
-aged_thin : (s : Settings) (m : Queue) (t : ℕ) (f : JobFields) → with_state s m t (aged_job t (job_of (brief f))) ≡ thin (with_state s m t (aged_job t (job_of f)))
-aged_thin s m t f = by (expires f.phase && is_past f.killtime t)
-  where
-    by : (b : Bool) → with_state s m t (cond b (record (job_of (brief f)) { phase = Failed; status = kill_time_expired }) (job_of (brief f)))
-        ≡ thin (with_state s m t (cond b (record (job_of f) { phase = Failed; status = kill_time_expired }) (job_of f)))
-    by true = refl
-    by false = ap (λ (n : ℕ). (brief (fields_of (job_of f)), n)) (state_lined [] f.phase (job_of f) ((s.rule f.dial).hours t) (calls_to f.dial m) (s.rule f.dial).calls t)
-
--- so are all jobs
-all_thin : (s : Settings) (m : Queue) (t : ℕ) (jobs : List Job) → map (λ f. with_state s m t (aged_job t (job_of f))) (map (λ j. brief (fields_of j)) jobs)
-    ≡ map thin (map (λ f. with_state s m t (aged_job t (job_of f))) (map fields_of jobs))
-all_thin s m t [] = refl
-all_thin s m t (j ∷ js) = ap₂ ◌∷◌ (aged_thin s m t (fields_of j)) (all_thin s m t js)
+-- a job without its lines is listed without them, with the state that it has in the aged queue
+row_seen : (s : Settings) (m : Queue) (t : ℕ) (j : Job) → IsLawfulJob j → with_state s m t (aged_job t (job_of (brief (fields_of j)))) ≡ thin (with_state s (aged t m) t (aged_job t j))
+row_seen s m t j lawful =
+    let k = aged_job t j in
+    ap (λ (x : Job). with_state s m t (aged_job t (lined [] x))) (job_again j lawful.pages) ∙ ap (with_state s m t) (sym (aged_lined [] t j))
+    ∙ ap (λ (n : ℕ). (brief (fields_of k), n)) (state_lined [] k.phase k ((s.rule k.dial).hours t) (calls_to k.dial m) (s.rule k.dial).calls t ∙ sym (state_aged s m t k))
 
 -- the records of all jobs but their extra lines, aged, are the rows of the listing but these
 pub briefs_seen : (s : Settings) (m : Queue) (t : ℕ) (records : List JobFields) → All IsLawfulJob m.jobs → records ≡ map (λ j. brief (fields_of j)) m.jobs
     → map (λ f. with_state s m t (aged_job t (job_of f))) records ≡ map thin (map (with_state s (aged t m) t) (aged t m).jobs)
 briefs_seen s m t records lawful is =
-    ap (map (λ f. with_state s m t (aged_job t (job_of f)))) is ∙ all_thin s m t m.jobs
-    ∙ ap (map thin) (rows_seen s m t (map fields_of m.jobs) lawful refl)
-
--- of which the listing shows the same
-lines_thin : (shows : ℕ → List ℕ) (rows : List Listed) → flat_map (line_of shows) (map thin rows) ≡ flat_map (line_of shows) rows
-lines_thin shows [] = refl
-lines_thin shows (row ∷ rows) = ap (λ more. line_of shows row ++ more) (lines_thin shows rows)
+    let seen = with_state s (aged t m) t in
+    ap (map (λ f. with_state s m t (aged_job t (job_of f)))) is ∙ map-map (λ f. with_state s m t (aged_job t (job_of f))) (λ j. brief (fields_of j)) m.jobs
+    ∙ map_same _ (λ j. thin (seen (aged_job t j))) IsLawfulJob (row_seen s m t) m.jobs lawful
+    ∙ sym (ap (map thin) (map-map seen (aged_job t) m.jobs) ∙ map-map thin (λ j. seen (aged_job t j)) m.jobs)
 
 -- the listing shows the same without the extra lines
 pub listing_thin : (shows : ℕ → List ℕ) (rows : List Listed) → listing_of shows (map thin rows) ≡ listing_of shows rows
 unfolding listing_of
-listing_thin shows rows = ap (λ more. heading ++ more) (lines_thin shows rows)
+listing_thin shows rows = ap (λ more. heading ++ more) (flat_map-map (line_of shows) thin rows)
 
 -- and has the same numbers
 pub numbers_thin : (rows : List Listed) → map number_of (map thin rows) ≡ map number_of rows
-numbers_thin [] = refl
-numbers_thin (row ∷ rows) = ap (λ more. number_of row ∷ more) (numbers_thin rows)
+numbers_thin rows = map-map number_of thin rows

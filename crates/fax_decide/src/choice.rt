@@ -30,7 +30,7 @@ ghost use Rattle.fax_decide.specs.Records.{KeepsRecord};
 ghost use Rattle.fax_decide.specs.Settings.{settings_of};
 ghost use Rattle.fax_decide.specs.State.{may_call};
 
-use crate::decision::{Decision, answered, applied, refuse, take};
+use crate::decision::{Decision, answered, applied, take};
 use crate::effect::Effect;
 use crate::fault::Fault;
 use crate::office::Office;
@@ -63,22 +63,22 @@ pub(crate) fn decide_next<S: Alter>(
         return Ok(Decision::Refused(Reply::refused(Refusal::ModemDown)));
     }
     match store.hold_of(modem.as_str())? {
-        Some(hold) => refuse(busy(store, alloc, hold, &modem)),
+        Some(hold) => busy(store, alloc, hold, &modem),
         None => decide_free(store, office, alloc, modem, next_grant, t),
     }
 }
 
-/// The reply to a modem that holds a grant: it is told which. Where the grant or its job isn't there, or the grant is
-/// not the modem's or not of that job, as in no sound queue, there is none.
+/// A modem that holds a grant gets no other, and is told which it holds. Where the grant or its job isn't there, as in
+/// no sound queue, nothing is decided.
 fn busy<S: Alter>(
     store: &mut Store<S>,
     alloc: Global,
     hold: Hold,
     modem: &Name,
-) -> Result<Reply, Fault>
+) -> Result<Decision, Fault>
     ensures { Consults S.Store store.old store.new result (λ m. (t : ℕ) (g : OneGrant) → Sound m
-        → held_by modem.now m ≡ Some g → hold ≡ as_hold g → OrNoAnswer result (λ reply. reply
-        ≡ refused_response ModemBusy (HeldGrant (is_some g.call) (handed g (aged t m))))) }
+        → held_by modem.now m ≡ Some g → hold ≡ as_hold g → OrNoAnswer result (λ decision. decision
+        ≡ Decision.Refused (refused_response ModemBusy (HeldGrant (is_some g.call) (handed g (aged t m)))))) }
 {
     let Some(grant) = store.grant(hold.grant)? else {
         return Err(Fault::Strange);
@@ -86,10 +86,7 @@ fn busy<S: Alter>(
     let Some(job) = store.brief(hold.job)? else {
         return Err(Fault::Strange);
     };
-    if !is_held(&grant, &job, modem) {
-        return Err(Fault::Strange);
-    }
-    held(alloc, &grant, &job)
+    held(alloc, &grant, &job, modem)
 }
 
 /// Whether a grant is open, of that job, and the modem's.
@@ -99,19 +96,22 @@ fn is_held(grant: &Grant, job: &Job, modem: &Name) -> bool
     grant.is_open && grant.job == job.fields().job && grant.modem.as_str() == modem.as_str()
 }
 
-/// The reply that tells which grant of a job is held.
-fn held(alloc: Global, grant: &Grant, job: &Job) -> Result<Reply, Fault>
-    requires open { grant.now.is_open ≡ true }
-    requires job { grant.now.job ≡ job.now.job }
-    ensures { (m : Queue) → dial_of (job_numbered grant.now.job m) ≡ job.now.dial
-        → OrNoAnswer result (λ reply. reply
-        ≡ refused_response ModemBusy (HeldGrant (is_some grant.now.call) (handed grant.now m))) }
+/// The modem is told which grant of a job it holds. Where the grant is closed, or not the modem's or not of that job, as
+/// in no sound queue, nothing is decided.
+fn held(alloc: Global, grant: &Grant, job: &Job, modem: &Name) -> Result<Decision, Fault>
+    ensures told { (m : Queue) → is_held_by modem.now job.now grant.now ≡ true
+        → dial_of (job_numbered grant.now.job m) ≡ job.now.dial → OrNoAnswer result (λ decision. decision
+        ≡ Decision.Refused (refused_response ModemBusy (HeldGrant (is_some grant.now.call) (handed grant.now m)))) }
+    ensures misfit { is_held_by modem.now job.now grant.now ≡ false → IsErr result }
 {
+    if !is_held(grant, job, modem) {
+        return Err(Fault::Strange);
+    }
     let detail = Detail::Held {
         called: grant.call.is_some(),
         handed: handed(grant, job),
     };
-    Ok(Reply::refused_with(alloc, &detail)?)
+    Ok(Decision::Refused(Reply::refused_with(alloc, &detail)?))
 }
 
 /// A modem that holds no grant gets the best job that may go to it.

@@ -30,18 +30,17 @@ pub enum Decision {
 pub(crate) fn take(effect: Effect, reply: Result<Reply, Fault>) -> Result<Decision, Fault>
     ensures { MatchResult reply (λ reply. result ≡ Ok (Decision.Taken effect reply)) (λ fault. result ≡ Err fault) }
 {
-    match reply {
-        Ok(reply) => Ok(Decision::Taken { effect, reply }),
-        Err(fault) => Err(fault),
-    }
+    let (effect, reply) = beside(effect, reply)?;
+    Ok(Decision::Taken { effect, reply })
 }
 
-/// A request is refused with that reply, if there is one.
-pub(crate) fn refuse(reply: Result<Reply, Fault>) -> Result<Decision, Fault>
-    ensures { MatchResult reply (λ reply. result ≡ Ok (Decision.Refused reply)) (λ fault. result ≡ Err fault) }
+/// A value with the reply that goes beside it, if there is one. It may be of any type, so that a proof lets it go in one
+/// step, and not in as many as an effect has parts.
+fn beside<T: Drop>(value: T, reply: Result<Reply, Fault>) -> Result<(T, Reply), Fault>
+    ensures { MatchResult reply (λ reply. result ≡ Ok (value, reply)) (λ fault. result ≡ Err fault) }
 {
     match reply {
-        Ok(reply) => Ok(Decision::Refused(reply)),
+        Ok(reply) => Ok((value, reply)),
         Err(fault) => Err(fault),
     }
 }

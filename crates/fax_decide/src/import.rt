@@ -19,7 +19,7 @@ ghost use Rattle.fax_decide.specs.Looking.{Consults, DecidesBy};
 ghost use Rattle.fax_decide.specs.Read.{IsReadImport};
 ghost use Rattle.fax_decide.specs.Settings.{machine_rule, rule_for, settings_of};
 
-use crate::decision::{Decision, answered, refuse, take};
+use crate::decision::{Decision, answered, take};
 use crate::effect::Effect;
 use crate::fault::Fault;
 use crate::office::Office;
@@ -50,7 +50,7 @@ pub(crate) fn decide_import<S: Alter>(
     let rule = office.rule_of(alloc, &import.order.dial)?;
     match bring(import, rule, meta.next_job, office.setup.max_jobs(), t) {
         Ok(job) => brought(store, office, alloc, job, *meta, t),
-        Err(refusal) => refuse(refused(alloc, refusal, rule)),
+        Err(refusal) => refused(alloc, refusal, rule),
     }
 }
 

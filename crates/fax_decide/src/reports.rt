@@ -26,7 +26,7 @@ ghost use Rattle.fax_decide.specs.Report.{ArePagesWithin, AreThere};
 ghost use Rattle.fax_decide.specs.Settings.{settings_of};
 ghost use Rattle.fax_decide.specs.State.{state_with};
 
-use crate::decision::{Decision, answered, applied, refuse, take};
+use crate::decision::{Decision, answered, applied, take};
 use crate::effect::Effect;
 use crate::fault::Fault;
 use crate::office::Office;
@@ -153,31 +153,32 @@ fn decide_page(
 {
     match page(&job, &grant, said) {
         Ok(change) => confirmed(alloc, job, change, grant.with_page(), t),
-        Err(refusal) => refuse(page_refused(alloc, &job, refusal)),
+        Err(refusal) => page_refused(alloc, &job, refusal),
     }
 }
 
-/// The reply to a page report that is refused: where it is no page that comes next, how many are confirmed.
-fn page_refused(alloc: Global, job: &Job, refusal: Refusal) -> Result<Reply, Fault>
+/// A page report is refused: where it is no page that comes next, it is told how many are confirmed.
+fn page_refused(alloc: Global, job: &Job, refusal: Refusal) -> Result<Decision, Fault>
     requires { ¬ (refusal ≡ Refusal.PageOrder) → has_detail refusal ≡ false }
-    ensures reply { OrNoAnswer result (λ reply.
-        reply ≡ refused_response refusal (keys_of_job refusal (job_of job.now))) }
+    ensures reply { OrNoAnswer result (λ decision. decision
+        ≡ Decision.Refused (refused_response refusal (keys_of_job refusal (job_of job.now)))) }
     ensures made { ¬ (refusal ≡ Refusal.PageOrder) → IsOk result }
 {
     if refusal == Refusal::PageOrder {
         return page_order(alloc, job);
     }
-    Ok(Reply::refused(refusal))
+    Ok(Decision::Refused(Reply::refused(refusal)))
 }
 
-/// The reply to a page that isn't the next one: how many are confirmed.
-fn page_order(alloc: Global, job: &Job) -> Result<Reply, Fault>
-    ensures { OrNoAnswer result (λ reply. reply ≡ refused_response Refusal.PageOrder (Pages job.now.npages)) }
+/// A page that isn't the next one is refused, and it is told how many are confirmed.
+fn page_order(alloc: Global, job: &Job) -> Result<Decision, Fault>
+    ensures { OrNoAnswer result (λ decision. decision
+        ≡ Decision.Refused (refused_response Refusal.PageOrder (Pages job.now.npages))) }
 {
     let detail = Detail::PageOrder {
         npages: job.fields().npages,
     };
-    Ok(Reply::refused_with(alloc, &detail)?)
+    Ok(Decision::Refused(Reply::refused_with(alloc, &detail)?))
 }
 
 fn confirmed(

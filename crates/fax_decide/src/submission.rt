@@ -17,7 +17,7 @@ ghost use Rattle.fax_decide.specs.Fault.{OnlyNoAnswer, OrNoAnswer};
 ghost use Rattle.fax_decide.specs.Read.{IsReadOrder};
 ghost use Rattle.fax_decide.specs.Settings.{machine_rule, rule_for};
 
-use crate::decision::{Decision, answered, refuse, take};
+use crate::decision::{Decision, answered, take};
 use crate::effect::Effect;
 use crate::fault::Fault;
 use crate::office::Office;
@@ -44,7 +44,7 @@ pub(crate) fn decide_submission(
     let rule = office.rule_of(alloc, &order.dial)?;
     match submit(order, rule, meta.next_job, office.setup.max_jobs(), t) {
         Ok(job) => taken(alloc, job, *meta),
-        Err(refusal) => refuse(refused(alloc, refusal, rule)),
+        Err(refusal) => refused(alloc, refusal, rule),
     }
 }
 
@@ -59,13 +59,13 @@ fn taken(alloc: Global, job: Job, meta: Meta) -> Result<Decision, Fault>
     take(Effect::NewJob { job, meta }, answered(alloc, &answer))
 }
 
-/// The reply to a refused submission or import: a rejected one is told the notice of its rule. Where the job
-/// would be no lawful record, which what was read never gives, there is none.
-pub(crate) fn refused(alloc: Global, refusal: Refusal, rule: &Rule) -> Result<Reply, Fault>
+/// A submission or an import is refused: a rejected one is told the notice of its rule. Where the job would be no lawful
+/// record, which what was read never gives, nothing is decided.
+pub(crate) fn refused(alloc: Global, refusal: Refusal, rule: &Rule) -> Result<Decision, Fault>
     requires notice { refusal ≡ Refusal.Rejected → IsSome rule.now.notice }
     requires plain { ¬ (refusal ≡ Refusal.Rejected) → has_detail refusal ≡ false }
-    ensures reply { (hours : ℕ → Bool) → IfOk result (λ reply.
-        reply ≡ refused_response refusal (keys_of_rule refusal (rule_of rule.now hours))) }
+    ensures reply { (hours : ℕ → Bool) → IfOk result (λ decision. decision
+        ≡ Decision.Refused (refused_response refusal (keys_of_rule refusal (rule_of rule.now hours)))) }
     ensures recorded { IsOk result → ¬ (refusal ≡ Refusal.Unavailable) }
     ensures made { ¬ (refusal ≡ Refusal.Rejected) → ¬ (refusal ≡ Refusal.Unavailable) → IsOk result }
     ensures cause { ¬ (refusal ≡ Refusal.Unavailable) → OnlyNoAnswer result }
@@ -73,19 +73,19 @@ pub(crate) fn refused(alloc: Global, refusal: Refusal, rule: &Rule) -> Result<Re
     match refusal {
         Refusal::Unavailable => Err(Fault::Strange),
         Refusal::Rejected => rejected(alloc, rule),
-        _ => Ok(Reply::refused(refusal)),
+        _ => Ok(Decision::Refused(Reply::refused(refusal))),
     }
 }
 
-/// The reply to a rejected submission, with the notice of its rule.
-fn rejected(alloc: Global, rule: &Rule) -> Result<Reply, Fault>
+/// A submission or an import is rejected, and told the notice of its rule.
+fn rejected(alloc: Global, rule: &Rule) -> Result<Decision, Fault>
     requires { IsSome rule.now.notice }
-    ensures { (hours : ℕ → Bool) → OrNoAnswer result (λ reply.
-        reply ≡ refused_response Refusal.Rejected (keys_of_rule Refusal.Rejected (rule_of rule.now hours))) }
+    ensures { (hours : ℕ → Bool) → OrNoAnswer result (λ decision. decision
+        ≡ Decision.Refused (refused_response Refusal.Rejected (keys_of_rule Refusal.Rejected (rule_of rule.now hours)))) }
 {
     let notice = rule.notice.as_ref().unwrap();
     let detail = Detail::Rejected {
         notice: notice.as_str(),
     };
-    Ok(Reply::refused_with(alloc, &detail)?)
+    Ok(Decision::Refused(Reply::refused_with(alloc, &detail)?))
 }

@@ -1,40 +1,43 @@
-use Rattle.std.proofs.Common.{◌≡◌, ◌==◌, ◌&&◌, ap, sym, ◌∙◌}
-use Rattle.std.proofs.lemmas.Bool.{and_parts, eqb-true, true≢false}
-use Rattle.fax_decide.proofs.GivenLemmas.{held_told, hold_has_grant, hold_has_job, hold_is_its}
+use Rattle.std.proofs.Common.{◌≡◌, ap, option_map, sym, subst, ◌∙◌, is_some}
+use Rattle.std.proofs.lemmas.Option.{none-some, same_Some}
+use Rattle.fax_ask.specs.Response.{refused_response}
+use Rattle.fax_core.specs.Ageing.{aged}
+use Rattle.fax_core.specs.Machine.{dial_of, handed}
+use Rattle.fax_core.specs.Job.{fields_of}
+use Rattle.fax_core.specs.Queue.{job_numbered}
+use Rattle.fax_core.specs.Reply.{HeldGrant}
+use Rattle.fax_core.specs.declared.grants.Grant.{Grant}
+use Rattle.fax_job.specs.declared.refusal.Refusal.TheVariants.{ModemBusy}
+use Rattle.fax_tables.specs.Job.{brief}
+use Rattle.fax_decide.specs.Choice.{is_held_by}
 use Rattle.fax_decide.specs.Fault.{OrNoAnswer, fault_of}
+use Rattle.fax_decide.specs.declared.decision.Decision.TheVariants.{Refused}
+use Rattle.fax_decide.proofs.GivenLemmas.{hold_dials, hold_has_grant, hold_has_job, hold_is_its}
 use Rattle.fax_decide.proofs.LookingLemmas.{both, by_reading, goes_on, stops}
 use Rattle.fax_decide.proofs.choice.busy.Goals as goal
 
 pub returns : goal.returns
 returns g c = goes_on (both (by_reading c.in_ok-grant.ensures.leaves c.in_ok-grant.ensures.answers) (by_reading c.in_ok-job.ensures.leaves c.in_ok-job.ensures.answers)) (λ m k at calls t one sound is same.
-    held_told (λ told. OrNoAnswer c.held.result (λ reply. reply ≡ told)) m t c.args.modem.now one c.in-Some.grant c.args.hold c.in-Some-2.job sound is same (sym c.in-Some.is ∙ calls.0) (sym c.in-Some-2.is ∙ calls.1) c.held.ensures)
+    let it : c.in-Some.grant ≡ one = same_Some _ _ (sym c.in-Some.is ∙ calls.0 ∙ hold_has_grant m c.args.modem.now one c.args.hold sound is same) in
+    let Told = λ (x : Grant). OrNoAnswer c.held.result (λ d. d ≡ Refused (refused_response ModemBusy (HeldGrant (is_some x.call) (handed x (aged t m))))) in
+    let found = sym c.in-Some-2.is ∙ calls.1 in
+    subst Told it (c.held.ensures.told (aged t m)
+    (ap (is_held_by c.args.modem.now c.in-Some-2.job) it ∙ hold_is_its m c.args.modem.now one c.args.hold sound is same c.in-Some-2.job found)
+    (ap (λ (x : Grant). dial_of (job_numbered x.job (aged t m))) it ∙ hold_dials m c.args.modem.now one c.args.hold sound is same t c.in-Some-2.job found)))
 
 pub returns-in_err-grant : goal.returns-in_err-grant
 returns-in_err-grant g c =
-    stops c.from_residual.result _ c.from_residual.ensures.1 (by_reading c.in_err-grant.ensures.leaves c.in_err-grant.ensures.answers) (λ m k at out why t one sound is same. out _ (ap fault_of why))
+    stops c.from_residual.ensures.1 (by_reading c.in_err-grant.ensures.leaves c.in_err-grant.ensures.answers) (λ m out why t one sound is same. out _ (ap fault_of why))
 
 pub returns-in_default : goal.returns-in_default
 returns-in_default g c = goes_on (by_reading c.in_ok-grant.ensures.leaves c.in_ok-grant.ensures.answers) (λ m k at grant t one sound is same.
-    absurd (hold_has_grant m c.args.modem.now one c.args.hold sound is same (sym c.in_default.is ∙ grant)))
+    absurd (none-some one (sym c.in_default.is ∙ grant ∙ hold_has_grant m c.args.modem.now one c.args.hold sound is same)))
 
 pub returns-in_err-job : goal.returns-in_err-job
 returns-in_err-job g c =
-    stops c.from_residual-in_err-job.result _ c.from_residual-in_err-job.ensures.1
-    (both (by_reading c.in_ok-grant.ensures.leaves c.in_ok-grant.ensures.answers) (by_reading c.in_err-job.ensures.leaves c.in_err-job.ensures.answers)) (λ m k at out why t one sound is same. out _ (ap fault_of why.1))
+    stops c.from_residual-in_err-job.ensures.1
+    (both (by_reading c.in_ok-grant.ensures.leaves c.in_ok-grant.ensures.answers) (by_reading c.in_err-job.ensures.leaves c.in_err-job.ensures.answers)) (λ m out why t one sound is same. out _ (ap fault_of why.1))
 
 pub returns-in_default-2 : goal.returns-in_default-2
 returns-in_default-2 g c = goes_on (both (by_reading c.in_ok-grant.ensures.leaves c.in_ok-grant.ensures.answers) (by_reading c.in_ok-job.ensures.leaves c.in_ok-job.ensures.answers)) (λ m k at calls t one sound is same.
-    absurd (hold_has_job m c.args.modem.now one c.args.hold sound is same (sym c.in_default-2.is ∙ calls.1)))
-
-pub returns-then-not-is_held : goal.returns-then-not-is_held
-returns-then-not-is_held g c = goes_on (both (by_reading c.in_ok-grant.ensures.leaves c.in_ok-grant.ensures.answers) (by_reading c.in_ok-job.ensures.leaves c.in_ok-job.ensures.answers)) (λ m k at calls t one sound is same.
-    let held = hold_is_its m c.args.modem.now one c.args.hold sound is same c.in-Some.grant c.in-Some-2.job (sym c.in-Some.is ∙ calls.0) (sym c.in-Some-2.is ∙ calls.1) in
-    absurd (true≢false (sym (c.is_held.ensures ∙ held) ∙ c.if-not-is_held.true)))
-
-pub held-requires-clause-open : goal.held-requires-clause-open
-held-requires-clause-open g c = (and_parts c.in-Some.grant.is_open _ (and_parts (c.in-Some.grant.is_open && (c.in-Some.grant.job == c.in-Some-2.job.job)) _ (sym c.is_held.ensures ∙ c.if-not-is_held.false)).0).0
-
-pub held-requires-clause-job : goal.held-requires-clause-job
-held-requires-clause-job g c =
-    eqb-true c.in-Some.grant.job c.in-Some-2.job.job
-    (and_parts c.in-Some.grant.is_open _ (and_parts (c.in-Some.grant.is_open && (c.in-Some.grant.job == c.in-Some-2.job.job)) _ (sym c.is_held.ensures ∙ c.if-not-is_held.false)).0).1
+    absurd (none-some _ (sym c.in_default-2.is ∙ calls.1 ∙ ap (option_map (λ j. brief (fields_of j))) (hold_has_job m c.args.modem.now one c.args.hold sound is same).1)))

@@ -1,13 +1,12 @@
-use Rattle.std.proofs.Common.{sym, ap, ◌∙◌}
-use Rattle.std.specs.Option.{option_map}
+use Rattle.std.proofs.Common.{sym, ap, option_map, ◌∙◌}
 use Rattle.fax_core.specs.Job.{job_of}
 use Rattle.fax_decide.specs.Decision.{Decides}
-use Rattle.fax_decide.specs.Settings.{settings_of}
-use Rattle.fax_decide.specs.declared.decision.Decision.TheVariants.{Taken}
-use Rattle.fax_decide.specs.declared.effect.Effect.TheVariants.{Nothing}
-use Rattle.fax_decide.proofs.DecisionLemmas.{decided_or}
-use Rattle.fax_decide.proofs.GivenLemmas.{best_given, none_given, none_taken}
 use Rattle.fax_decide.specs.Fault.{OrNoAnswer}
+use Rattle.fax_decide.specs.Settings.{settings_of}
+use Rattle.fax_core.specs.Reply.{NoneToSend}
+use Rattle.fax_decide.specs.declared.effect.Effect.TheVariants.{Nothing}
+use Rattle.fax_decide.proofs.DecisionLemmas.{nothing_taken, taken_or}
+use Rattle.fax_decide.proofs.GivenLemmas.{best_given}
 use Rattle.fax_decide.proofs.KeptLemmas.{best_waits}
 use Rattle.fax_decide.proofs.LookingLemmas.{goes_on, stops}
 use Rattle.fax_decide.proofs.choice.decide_free.Goals as goal
@@ -21,9 +20,8 @@ returns-in-Some g c = goes_on c.in_ok-job.ensures (λ m k at best sound next.
 
 pub returns-in-None : goal.returns-in-None
 returns-in-None g c = goes_on c.in_ok-job.ensures (λ m k at best sound next.
-    none_given (λ step. OrNoAnswer c.take.result (Decides step m c.args.t)) (settings_of c.args.office.now.setup c.args.office.now.controls) m c.args.t c.args.modem
-    (sym (ap (option_map (λ f. job_of f)) c.in-None.is) ∙ best sound)
-    (decided_or (Taken Nothing) _ _ m c.args.t c.answered.result _ c.take.ensures c.answered.ensures (λ _. none_taken m c.args.t)))
+    rw (← (sym (ap (option_map (λ f. job_of f)) c.in-None.is) ∙ best sound))
+    (taken_or Nothing _ _ c.answered.result _ c.take.ensures c.answered.ensures (nothing_taken m c.args.t NoneToSend)))
 
 pub returns-in_err-job : goal.returns-in_err-job
-returns-in_err-job g c = stops c.from_residual.result _ c.from_residual.ensures.1 c.in_err-job.ensures (λ m k at out why sound next. out _ (why sound))
+returns-in_err-job g c = stops c.from_residual.ensures.1 c.in_err-job.ensures (λ m out why sound next. out _ (why sound))

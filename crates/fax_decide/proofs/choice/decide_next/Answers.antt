@@ -1,6 +1,4 @@
-use Rattle.std.proofs.Common.{List, ℕ, sym, ap, ◌∙◌, rules}
-use Rattle.std.specs.Option.{option_map}
-use Rattle.std.specs.Prelude.{is_some}
+use Rattle.std.proofs.Common.{List, ℕ, sym, ap, option_map, ◌∙◌, rules, is_some}
 use Rattle.fax_core.specs.Ageing.{aged}
 use Rattle.fax_core.specs.Machine.{handed, held_by, is_down}
 use Rattle.fax_core.specs.Reply.{HeldGrant}
@@ -8,26 +6,24 @@ use Rattle.fax_job.specs.declared.refusal.Refusal.TheVariants.{ModemBusy}
 use Rattle.fax_dest.specs.Setup.{has_modem}
 use Rattle.fax_tables.specs.Grant.{as_hold}
 use Rattle.fax_decide.specs.Decision.{Decides}
-use Rattle.fax_decide.specs.Settings.{settings_of}
-use Rattle.fax_decide.specs.declared.decision.Decision.TheVariants.{Refused}
-use Rattle.fax_decide.proofs.DecisionLemmas.{decided_or, refused_as}
-use Rattle.fax_decide.proofs.GivenLemmas.{goes_free, is_busy}
 use Rattle.fax_decide.specs.Fault.{OrNoAnswer, fault_of}
-use Rattle.fax_decide.proofs.LookingLemmas.{both, by_reading, gives, goes_on, replies, stops}
+use Rattle.fax_decide.specs.Settings.{settings_of}
+use Rattle.fax_decide.proofs.DecisionLemmas.{refusal_decided}
+use Rattle.fax_decide.proofs.FaultLemmas.{or_weaker}
+use Rattle.fax_decide.proofs.GivenLemmas.{goes_free, is_busy}
+use Rattle.fax_decide.proofs.LookingLemmas.{both, by_reading, gives, goes_on, stops}
 use Rattle.fax_decide.proofs.choice.decide_next.Goals as goal
 
 pub returns-in-Some : goal.returns-in-Some
 returns-in-Some g c =
     let looked = both (by_reading c.in_ok-is_down.ensures.leaves c.in_ok-is_down.ensures.answers) (by_reading c.in_ok-hold.ensures.leaves c.in_ok-hold.ensures.answers) in
-    replies (λ reply. Refused reply) c.busy.result c.refuse.result c.refuse.ensures (both looked c.busy.ensures) (λ m k at calls sound next.
+    gives (both looked c.busy.ensures) (λ m k at calls sound next.
     is_busy (settings_of c.args.office.now.setup c.args.office.now.controls) m c.args.t c.args.modem
     (sym (c.has_modem.ensures ∙ ap (has_modem c.args.office.now.setup) c.as_str.ensures.text) ∙ c.if-not-has_modem.false)
     (sym (calls.0.0 ∙ ap (λ (name : List ℕ). is_down name m) c.as_str-2.ensures.text) ∙ c.if-branch.false)
-    (λ step. OrNoAnswer c.refuse.result (Decides step m c.args.t)) c.in-Some.hold
+    (λ step. OrNoAnswer c.busy.result (Decides step m c.args.t)) c.in-Some.hold
     (sym c.in-Some.is ∙ calls.0.1 ∙ ap (λ (name : List ℕ). option_map as_hold (held_by name m)) c.as_str-3.ensures.text)
-    (λ one is same.
-    decided_or (λ reply. Refused reply) _ _ m c.args.t c.busy.result _ c.refuse.ensures (calls.1 c.args.t one sound is same)
-    (λ _. refused_as ModemBusy (HeldGrant (is_some one.call) (handed one (aged c.args.t m))))))
+    (λ one is same. or_weaker c.busy.result _ _ (λ d refused. refusal_decided ModemBusy (HeldGrant (is_some one.call) (handed one (aged c.args.t m))) m c.args.t d refused) (calls.1 c.args.t one sound is same)))
 
 pub returns-in-None : goal.returns-in-None
 returns-in-None g c =
@@ -44,9 +40,9 @@ pub returns-then-branch : goal.returns-then-branch
 returns-then-branch g c = goes_on (by_reading c.in_ok-is_down.ensures.leaves c.in_ok-is_down.ensures.answers) (λ m k at down sound next. search rules)
 
 pub returns-in_err-is_down : goal.returns-in_err-is_down
-returns-in_err-is_down g c = stops c.from_residual.result _ c.from_residual.ensures.1 (by_reading c.in_err-is_down.ensures.leaves c.in_err-is_down.ensures.answers) (λ m k at out why sound next. out _ (ap fault_of why))
+returns-in_err-is_down g c = stops c.from_residual.ensures.1 (by_reading c.in_err-is_down.ensures.leaves c.in_err-is_down.ensures.answers) (λ m out why sound next. out _ (ap fault_of why))
 
 pub returns-in_err-hold : goal.returns-in_err-hold
 returns-in_err-hold g c =
     let looked = both (by_reading c.in_ok-is_down.ensures.leaves c.in_ok-is_down.ensures.answers) (by_reading c.in_err-hold.ensures.leaves c.in_err-hold.ensures.answers) in
-    stops c.from_residual-in_err-hold.result _ c.from_residual-in_err-hold.ensures.1 looked (λ m k at out why sound next. out _ (ap fault_of why.1))
+    stops c.from_residual-in_err-hold.ensures.1 looked (λ m out why sound next. out _ (ap fault_of why.1))

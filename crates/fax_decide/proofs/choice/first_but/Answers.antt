@@ -1,6 +1,5 @@
-use Rattle.std.proofs.Common.{◌≡◌, false, true≢false, rules, subst, sym}
-use Rattle.std.specs.Prelude.{None, IsTrue}
-use Rattle.fax_decide.specs.Choice.{IsBusy, IsFirst, IsFirstAsked}
+use Rattle.std.proofs.Common.{◌≡◌, true≢false, rules, subst, sym}
+use Rattle.fax_decide.specs.Choice.{IsBusy, IsFirst}
 use Rattle.fax_decide.specs.Settings.{settings_of}
 use Rattle.fax_decide.proofs.ChoiceLemmas.{first_known}
 use Rattle.fax_decide.proofs.FaultLemmas.{or_weaker}
@@ -16,6 +15,6 @@ returns g c =
     let asked = c.candidates_but-candidates.result.asked in
     let moment = c.candidates_but-candidates.ensures.asked.0 in
     let but : IsBusy s m c.args.t asked.but = subst (IsBusy s m c.args.t) (sym c.candidates_but-candidates.ensures.asked.1) busy in
-    or_weaker c.first_of.result (λ found. IsBusy s m c.args.t c.first_of.new.busy × ((IsTrue false → c.first_of.new.busy ≡ None) → IsFirstAsked s asked m modem found)) (λ found. IsFirst s m c.args.t modem found)
-    (λ found told. (first_known s m c.args.t modem asked false c.first_of.new.busy found moment but told).1 (λ no. absurd (true≢false (sym no))))
+    or_weaker c.first_of.result _ (λ found. IsFirst s m c.args.t modem found)
+    (λ found told. first_known s m c.args.t modem asked found moment but (told.1 (λ no. absurd (true≢false (sym no)))))
     (calls.1 sound moment calls.0 tt))

@@ -1,7 +1,6 @@
 use Rattle.std.specs.Prelude.{⊤}
 use Rattle.std.proofs.Common.{◌≡◌, [], Ok}
 use Rattle.std.specs.Vec.Iter.{into_iter_items}
-use Rattle.fax_core.specs.Best.{may_go}
 use Rattle.fax_store.specs.Candidates.{StandsAt}
 use Rattle.fax_decide.specs.Choice.{IsBusy}
 use Rattle.fax_decide.specs.Looking.{Consults}
@@ -16,5 +15,5 @@ invariant-loop g l = record {
   consults : Consults g.S.Store {A = ⊤} {E = ⊤} l.initial.candidates.store.now l.candidates.store.now (Ok tt) (λ m. l.initial.candidates.asked.t ≡ l.t
       → StandsAt l.initial.candidates.asked m [] (into_iter_items l.initial.candidates.page) l.initial.candidates.front l.initial.candidates.most → IsBusy (settings_of l.office.setup l.office.controls) m l.t l.initial.busy
       → IsBusy (settings_of l.office.setup l.office.controls) m l.t l.busy
-      × NoneWent (may_go (settings_of l.office.setup l.office.controls) m l.initial.candidates.asked.t l.modem) l.counter l.initial.candidates.asked m (into_iter_items l.candidates.page) l.candidates.front l.candidates.most);
+      × NoneWent (settings_of l.office.setup l.office.controls) m l.modem l.initial.candidates.asked l.counter (into_iter_items l.candidates.page) l.candidates.front l.candidates.most);
 }

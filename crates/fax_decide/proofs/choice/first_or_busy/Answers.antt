@@ -1,6 +1,5 @@
-use Rattle.std.proofs.Common.{◌≡◌, true, rules, subst, sym}
-use Rattle.std.specs.Prelude.{None, IsTrue}
-use Rattle.fax_decide.specs.Choice.{IsBusy, IsFirst, IsFirstAsked}
+use Rattle.std.proofs.Common.{◌≡◌, rules, subst, sym, None}
+use Rattle.fax_decide.specs.Choice.{IsBusy, IsFirst}
 use Rattle.fax_decide.specs.Settings.{settings_of}
 use Rattle.fax_decide.proofs.ChoiceLemmas.{first_known}
 use Rattle.fax_decide.proofs.FaultLemmas.{or_weaker}
@@ -16,7 +15,6 @@ returns g c =
     let asked = c.candidates-candidates.result.asked in
     let moment = c.candidates-candidates.ensures.asked.0 in
     let but : IsBusy s m c.args.t asked.but = subst (IsBusy s m c.args.t) (sym c.candidates-candidates.ensures.asked.1) tt in
-    or_weaker c.first_of.result (λ found. IsBusy s m c.args.t c.first_of.new.busy × ((IsTrue true → c.first_of.new.busy ≡ None) → IsFirstAsked s asked m modem found))
-    (λ found. IsBusy s m c.args.t c.first_of.new.busy × (c.first_of.new.busy ≡ None → IsFirst s m c.args.t modem found))
-    (λ found told. let it = first_known s m c.args.t modem asked true c.first_of.new.busy found moment but told in (it.0, λ none. it.1 (λ _. none)))
+    or_weaker c.first_of.result _ (λ found. IsBusy s m c.args.t c.first_of.new.busy × (c.first_of.new.busy ≡ None → IsFirst s m c.args.t modem found))
+    (λ found told. (told.0, λ none. first_known s m c.args.t modem asked found moment but (told.1 (λ _. none))))
     (calls.1 sound moment calls.0 busy))

@@ -1,19 +1,24 @@
-use Rattle.std.proofs.Common.{◌≡◌, Ok, refl, sym, subst, ap, ◌∙◌, arith}
+use Rattle.std.proofs.Common.{◌≡◌, false, Ok, refl, sym, subst, ap, ◌∙◌, arith, true≢false, Err, List, nat_lt, ℕ}
 use Rattle.fax_core.specs.Ageing.{aged}
 use Rattle.fax_core.specs.Decisions.{grant, granted}
-use Rattle.fax_core.specs.Job.{job_of}
+use Rattle.fax_core.specs.Job.{job_of, Job}
 use Rattle.fax_core.specs.Machine.{given}
 use Rattle.fax_core.specs.declared.grants.Grant.{Grant}
 use Rattle.fax_decide.specs.Choice.{IsGrantOf}
 use Rattle.fax_decide.specs.Decision.{Decides}
 use Rattle.fax_decide.specs.Fault.{OrNoAnswer}
-use Rattle.fax_decide.specs.declared.decision.Decision.TheVariants.{Refused}
-use Rattle.fax_decide.proofs.GivenLemmas.{given_by, given_not}
-use Rattle.fax_decide.proofs.PlainLemmas.{grant_plain}
-use Rattle.fax_decide.proofs.KeptLemmas.{fits_alone, grant_keeps}
-use Rattle.fax_decide.proofs.WithinLemmas.{number_within, page_left}
-use Rattle.std.proofs.lemmas.Bool.{true≢false}
+use Rattle.fax_decide.proofs.DecisionLemmas.{refused_as}
+use Rattle.fax_decide.proofs.GivenLemmas.{given_by}
+use Rattle.fax_ask.specs.Detail.{has_detail}
+use Rattle.fax_core.proofs.RefusalLemmas.{refused_or}
+use Rattle.fax_job.specs.declared.refusal.Refusal.TheVariants.{Full}
+use Rattle.fax_decide.proofs.KeptLemmas.{fits_alone, grant_keeps, number_within, page_left}
+use Rattle.fax_job.specs.declared.refusal.Refusal.{Refusal}
 use Rattle.fax_decide.proofs.choice.give.Goals as goal
+
+-- of a refused grant no more is told than number and word
+grant_plain : (j : Job) (modem : List ℕ) (next max : ℕ) (e : Refusal) → grant j modem next max ≡ Err e → has_detail e ≡ false
+grant_plain j modem next max e h = refused_or (λ x. has_detail x ≡ false) (nat_lt max next) Full e (Ok (granted j modem next)) h refl (λ x. cc x)
 
 pub returns-in-Ok-clause-decided : goal.returns-in-Ok-clause-decided
 returns-in-Ok-clause-decided c m t sound there next waits =
@@ -35,9 +40,7 @@ refused-requires c = grant_plain (job_of c.args.job) c.args.modem c.args.next_gr
 
 pub returns-in-Err-clause-decided : goal.returns-in-Err-clause-decided
 returns-in-Err-clause-decided c m t sound there next waits =
-    subst (λ reply. Decides (given (aged t m) (grant (job_of c.args.job) c.args.modem c.args.next_grant c.args.office.now.setup.max_grants)) m t (Refused reply)) (sym c.refused.ensures)
-    (given_not (aged t m) (job_of c.args.job) c.args.modem c.args.next_grant c.max_grants.result c.args.office.now.setup.max_grants
-    c.in-Err.refusal _ (c.in-Err.ensures c.args.modem) c.max_grants.ensures.number refl)
+    refused_as (ap (given (aged t m)) (sym (c.in-Err.ensures c.args.modem ∙ ap (grant (job_of c.args.job) c.args.modem c.args.next_grant) c.max_grants.ensures.number))) c.refused.ensures
 
 pub returns-then-not-fits-clause-decided : goal.returns-then-not-fits-clause-decided
 returns-then-not-fits-clause-decided c m t sound there next waits =

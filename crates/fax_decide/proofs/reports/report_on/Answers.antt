@@ -1,33 +1,19 @@
-use Rattle.std.proofs.Common.{Some, sym, subst, ◌∙◌}
-use Rattle.std.proofs.lemmas.Bool.{true≢false}
-use Rattle.fax_core.specs.Ageing.{aged}
-use Rattle.fax_core.specs.Machine.{on_both}
-use Rattle.fax_core.specs.declared.report.Report.{Report}
-use Rattle.fax_decide.specs.Decision.{Decides}
-use Rattle.fax_decide.specs.Fault.{OrNoAnswer}
-use Rattle.fax_decide.specs.Records.{job_in}
-use Rattle.fax_decide.specs.Settings.{settings_of}
+use Rattle.std.proofs.Common.{sym, ◌∙◌, true≢false}
 use Rattle.fax_decide.proofs.KeptLemmas.{fits_there}
 use Rattle.fax_decide.proofs.LookingLemmas.{gives, goes_on, no_call}
 use Rattle.fax_decide.proofs.reports.report_on.Goals as goal
 
 pub returns-in-Call-clause-consults : goal.returns-in-Call-clause-consults
 returns-in-Call-clause-consults g c = goes_on no_call (λ m k at none sound there few.
-    subst (λ (report : Report). OrNoAnswer c.decide_call.result (Decides (on_both (settings_of c.args.office.now.setup c.args.office.now.controls) (aged c.args.t m) c.args.t report c.args.grant (Some (job_in (aged c.args.t m) c.args.job))) m c.args.t))
-    (sym c.in-Call.is)
-    (c.decide_call.ensures.decided m there few (fits_there m c.args.t c.args.job c.args.grant sound there)))
+    rw c.in-Call.is (c.decide_call.ensures.decided m there few (fits_there m c.args.t c.args.job c.args.grant sound there)))
 
 pub returns-in-Page-clause-consults : goal.returns-in-Page-clause-consults
 returns-in-Page-clause-consults g c = goes_on no_call (λ m k at none sound there few.
-    subst (λ (report : Report). OrNoAnswer c.decide_page.result (Decides (on_both (settings_of c.args.office.now.setup c.args.office.now.controls) (aged c.args.t m) c.args.t report c.args.grant (Some (job_in (aged c.args.t m) c.args.job))) m c.args.t))
-    (sym c.in-Page.is)
-    (c.decide_page.ensures.decided m there few (fits_there m c.args.t c.args.job c.args.grant sound there)))
+    rw c.in-Page.is (c.decide_page.ensures.decided m there few (fits_there m c.args.t c.args.job c.args.grant sound there)))
 
 pub returns-in-Outcome-clause-consults : goal.returns-in-Outcome-clause-consults
 returns-in-Outcome-clause-consults g c = gives c.decide_outcome.ensures.consults (λ m k at decided sound there few.
-    subst (λ (report : Report). OrNoAnswer c.decide_outcome.result (Decides (on_both (settings_of c.args.office.now.setup c.args.office.now.controls) (aged c.args.t m) c.args.t report c.args.grant (Some (job_in (aged c.args.t m) c.args.job))) m c.args.t))
-    (sym c.in-Outcome.is)
-    (decided sound there))
+    rw c.in-Outcome.is (decided sound there))
 
 pub returns-then-not-fits-clause-consults : goal.returns-then-not-fits-clause-consults
 returns-then-not-fits-clause-consults g c = goes_on no_call (λ m k at none sound there few.

@@ -1,38 +1,35 @@
-use Rattle.std.proofs.Common.{◌≡◌, ◌≤◌, true, Ok, Err, ap, subst, sym, arith}
-use Rattle.fax_ask.specs.Response.{refused_response}
+use Rattle.std.proofs.Common.{◌≡◌, ◌≤◌, true, ℕ, refl, ap, subst, sym, arith, ltb-false}
 use Rattle.fax_core.specs.Ageing.{aged}
 use Rattle.fax_core.specs.Decisions.{submit}
-use Rattle.fax_core.specs.Job.{job_of}
-use Rattle.fax_core.specs.Machine.{keys_of_rule, submitted}
+use Rattle.fax_core.specs.Job.{Job, job_of}
+use Rattle.fax_core.specs.Machine.{submitted}
+use Rattle.fax_core.specs.Settings.{Rule}
 use Rattle.fax_core.specs.Submission.{rule_of}
+use Rattle.fax_core.proofs.NewJobLemmas.{read_recorded}
 use Rattle.fax_tables.specs.declared.meta.Meta.{Meta}
 use Rattle.fax_decide.specs.Decision.{Decides}
 use Rattle.fax_decide.specs.Fault.{OrNoAnswer}
 use Rattle.fax_decide.specs.Settings.{have_moment, machine_rule, rule_for}
-use Rattle.fax_decide.specs.declared.decision.Decision.TheVariants.{Refused}
-use Rattle.fax_decide.proofs.DecisionLemmas.{decided_by, wants_reply}
-use Rattle.fax_decide.proofs.PlainLemmas.{rejected_has, submit_plain}
-use Rattle.fax_decide.proofs.SubmissionLemmas.{moved, submit_is, refused_is}
 use Rattle.fax_decide.proofs.FaultLemmas.{both_sides, no_memory}
-use Rattle.fax_decide.proofs.KeptLemmas.{submit_known}
+use Rattle.fax_decide.proofs.JobLemmas.{recorded_ok}
+use Rattle.fax_decide.proofs.NewJobLemmas.{moved, refused_new, submit_is, submit_refused}
 use Rattle.fax_decide.proofs.submission.decide_submission.Goals as goal
 
 pub refused-requires-clause-notice : goal.refused-requires-clause-notice
-refused-requires-clause-notice c = rejected_has c.args.order (rule_of c.in_ok-rule.rule.now (λ _. true)) c.args.meta.now.next_job c.max_jobs.result c.args.t c.in-Err.refusal (sym (c.in-Err.ensures (λ _. true)))
+refused-requires-clause-notice c = (submit_refused c.args.order (rule_of c.in_ok-rule.rule.now (λ _. true)) c.args.meta.now.next_job c.max_jobs.result c.args.t c.in-Err.refusal (c.in-Err.ensures (λ _. true))).rejects
 
 pub refused-requires-clause-plain : goal.refused-requires-clause-plain
-refused-requires-clause-plain c = submit_plain c.args.order (rule_of c.in_ok-rule.rule.now (λ _. true)) c.args.meta.now.next_job c.max_jobs.result c.args.t c.in-Err.refusal (sym (c.in-Err.ensures (λ _. true)))
+refused-requires-clause-plain c = (submit_refused c.args.order (rule_of c.in_ok-rule.rule.now (λ _. true)) c.args.meta.now.next_job c.max_jobs.result c.args.t c.in-Err.refusal (c.in-Err.ensures (λ _. true))).plain
 
 pub returns-in-Ok : goal.returns-in-Ok
 returns-in-Ok c m sound these =
-    let next : c.args.meta.now.next_job ≡ m.next_job = ap (λ (x : Meta). x.next_job) these in
     let rule = rule_for c.args.office.now.controls c.args.order.dial in
     let here = machine_rule c.args.office.now.setup rule in
     let hours = have_moment c.args.office.now.setup rule.hours in
-    let is = submit_is c.args.order here m.next_job c.args.office.now.setup.max_jobs c.args.t c.in-Ok.job
-    (moved (Ok (job_of c.in-Ok.job)) c.args.order (rule_of c.in_ok-rule.rule.now hours) here c.args.meta.now.next_job m.next_job c.max_jobs.result c.args.office.now.setup.max_jobs c.args.t
-    (ap (λ r. rule_of r hours) c.in_ok-rule.ensures) next c.max_jobs.ensures.number (c.in-Ok.ensures hours)) in
-    both_sides c.taken.result _ (subst (λ r. OrNoAnswer c.taken.result (Decides (submitted (aged c.args.t m) here r) m c.args.t)) (sym is.0) (c.taken.ensures m c.args.t here sound these is.1))
+    let is = recorded_ok (submit c.args.order here m.next_job c.args.office.now.setup.max_jobs c.args.t) (job_of c.in-Ok.job)
+    (moved (λ (r : Rule) (n max : ℕ). submit c.args.order r n max c.args.t) _ (ap (λ r. rule_of r hours) c.in_ok-rule.ensures) (ap (λ (x : Meta). x.next_job) these) c.max_jobs.ensures.number (c.in-Ok.ensures hours)) in
+    both_sides c.taken.result _ (subst (λ r. OrNoAnswer c.taken.result (Decides (submitted (aged c.args.t m) here r) m c.args.t)) (sym is)
+    (c.taken.ensures m c.args.t here sound these (sym (ap (λ (j : Job). j.number) (submit_is c.args.order here m.next_job _ c.args.t (job_of c.in-Ok.job) is)))))
 
 pub returns-in-Err : goal.returns-in-Err
 returns-in-Err c m sound these =
@@ -40,14 +37,13 @@ returns-in-Err c m sound these =
     let rule = rule_for c.args.office.now.controls c.args.order.dial in
     let here = machine_rule c.args.office.now.setup rule in
     let hours = have_moment c.args.office.now.setup rule.hours in
+    let same = ap (λ r. rule_of r hours) c.in_ok-rule.ensures in
     let first : 1 ≤ c.args.meta.now.next_job = omega (arith, next, sound.next_job) in (
-      decided_by (λ reply. Refused reply) _ (submitted (aged c.args.t m) here (submit c.args.order here m.next_job c.args.office.now.setup.max_jobs c.args.t)) m c.args.t c.refused.result _ c.refuse.ensures (c.refused.ensures.reply hours)
-          (λ ok. refused_is (aged c.args.t m) here _ c.in-Err.refusal _
-          (moved (Err c.in-Err.refusal) c.args.order (rule_of c.in_ok-rule.rule.now hours) here c.args.meta.now.next_job m.next_job c.max_jobs.result c.args.office.now.setup.max_jobs c.args.t
-          (ap (λ r. rule_of r hours) c.in_ok-rule.ensures) next c.max_jobs.ensures.number (c.in-Err.ensures hours))
-          (c.refused.ensures.recorded ok) (ap (λ r. refused_response c.in-Err.refusal (keys_of_rule c.in-Err.refusal (rule_of r hours))) c.in_ok-rule.ensures)),
-      λ read. wants_reply (λ reply. Refused reply) c.refused.result _ c.refuse.ensures
-          (c.refused.ensures.cause (submit_known c.args.order (rule_of c.in_ok-rule.rule.now (λ _. true)) c.args.meta.now.next_job c.max_jobs.result c.args.t c.in-Err.refusal read first c.max_jobs.ensures.bounds.1 (c.in-Err.ensures (λ _. true)))),
+      refused_new (submitted (aged c.args.t m) here) _ c.in-Err.refusal c.in_ok-rule.rule.now here hours m c.args.t c.refused.result refl
+          (moved (λ (r : Rule) (n max : ℕ). submit c.args.order r n max c.args.t) _ same next c.max_jobs.ensures.number (c.in-Err.ensures hours)) same c.refused.ensures.recorded (c.refused.ensures.reply hours),
+      λ read. c.refused.ensures.cause ((submit_refused c.args.order (rule_of c.in_ok-rule.rule.now (λ _. true)) c.args.meta.now.next_job c.max_jobs.result c.args.t c.in-Err.refusal (c.in-Err.ensures (λ _. true))).known
+          (λ few. read_recorded read.0 c.args.order c.args.meta.now.next_job c.args.t read.1 first
+          (let low = ltb-false c.max_jobs.result c.args.meta.now.next_job few in let most = c.max_jobs.ensures.bounds.1 in omega (arith, low, most)))),
     )
 
 pub returns-in_err-rule : goal.returns-in_err-rule

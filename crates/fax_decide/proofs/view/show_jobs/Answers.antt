@@ -21,14 +21,14 @@ returns g c = views (goes_on (both (by_reading c.in_ok-jobs.ensures.leaves c.in_
     ∙ ap (λ (text : List ℕ). accepted_response (Listed text)) (ap (listing_of s.shows) rows ∙ listing_thin s.shows seen)))
 
 pub returns-in_err-jobs : goal.returns-in_err-jobs
-returns-in_err-jobs g c = views (stops c.from_residual.result _ c.from_residual.ensures.1 (by_reading c.in_err-jobs.ensures.leaves c.in_err-jobs.ensures.answers) (λ m k at out why sound. out _ (ap fault_of why)))
+returns-in_err-jobs g c = views (stops c.from_residual.ensures.1 (by_reading c.in_err-jobs.ensures.leaves c.in_err-jobs.ensures.answers) (λ m out why sound. out _ (ap fault_of why)))
 
 pub returns-in_err-rows : goal.returns-in_err-rows
 returns-in_err-rows g c =
-    views (stops c.from_residual-in_err-rows.result _ c.from_residual-in_err-rows.ensures.1
-    (both (by_reading c.in_ok-jobs.ensures.leaves c.in_ok-jobs.ensures.answers) c.in_err-rows.ensures) (λ m k at out why sound. out _ why.1))
+    views (stops c.from_residual-in_err-rows.ensures.1
+    (both (by_reading c.in_ok-jobs.ensures.leaves c.in_ok-jobs.ensures.answers) c.in_err-rows.ensures) (λ m out why sound. out _ why.1))
 
 pub returns-in_err-listed : goal.returns-in_err-listed
 returns-in_err-listed g c =
-    views (stops c.from_residual-in_err-listed.result _ c.from_residual-in_err-listed.ensures.1
-    (both (by_reading c.in_ok-jobs.ensures.leaves c.in_ok-jobs.ensures.answers) c.in_ok-rows.ensures) (λ m k at out calls sound. out _ refl))
+    views (stops c.from_residual-in_err-listed.ensures.1
+    (both (by_reading c.in_ok-jobs.ensures.leaves c.in_ok-jobs.ensures.answers) c.in_ok-rows.ensures) (λ m out calls sound. out _ refl))

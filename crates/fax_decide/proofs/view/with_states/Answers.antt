@@ -2,7 +2,7 @@ use Rattle.std.proofs.Common.{[], ◌∷◌, ◌++◌, ap, refl, sym, ◌∙◌,
 use Rattle.std.proofs.lemmas.List.{nil_from_length}
 use Rattle.fax_decide.specs.Settings.{settings_of}
 use Rattle.fax_decide.proofs.LookingLemmas.{both, goes_on, no_call, stops}
-use Rattle.fax_decide.proofs.ViewLemmas.{all_rows, one_more_row}
+use Rattle.fax_decide.proofs.ViewLemmas.{one_more_row}
 use Rattle.fax_decide.proofs.view.with_states.Goals as goal
 
 pub loop-job-preserved : goal.loop-job-preserved
@@ -10,22 +10,17 @@ loop-job-preserved g c = record {
   can = tt;
   ends = tt;
   items = c.loop-job.invariant.items ∙ ap (λ rest. c.loop-job.yielded ++ rest) c.in-Some.ensures.steps.0 ∙ sym (append_assoc c.loop-job.yielded (c.in-Some.job ∷ []) c.next.new.self.rest.items);
-  consults = goes_on (both c.loop-job.invariant.consults c.in_ok-state.ensures) (λ m k at calls.
-      one_more_row (settings_of c.args.office.now.setup c.args.office.now.controls) m c.args.t c.loop-job.yielded c.in-Some.job c.aged_job-job.result c.in_ok-state.state c.loop-job.rows.items _
-      calls.0 c.aged_job-job.ensures calls.1 c.in_ok-add_row.ensures);
+  consults = goes_on (both c.loop-job.invariant.consults c.in_ok-add_row.ensures) (λ m k at calls.
+      one_more_row (settings_of c.args.office.now.setup c.args.office.now.controls) m c.args.t c.loop-job.yielded c.in-Some.job c.loop-job.rows.items _ calls.0 calls.1);
 }
 
 pub returns : goal.returns
 returns g c = goes_on c.loop-job.invariant.consults (λ m k at rows.
-    all_rows (settings_of c.args.office.now.setup c.args.office.now.controls) m c.args.t c.args.jobs.items c.loop-job.yielded c.loop-job.rows.items
-    (c.loop-job.invariant.items ∙ ap (λ rest. c.loop-job.yielded ++ rest) (nil_from_length c.loop-job.job-iterator.rest.items (sym c.loop-job.job-iterator.rest.ok.0 ∙ c.in-None.ensures.steps.0)) ∙ append-nil c.loop-job.yielded)
-    rows)
+    let none = nil_from_length c.loop-job.job-iterator.rest.items (sym c.loop-job.job-iterator.rest.ok.0 ∙ c.in-None.ensures.steps.0) in
+    rw (c.loop-job.invariant.items ∙ ap (λ rest. c.loop-job.yielded ++ rest) none ∙ append-nil c.loop-job.yielded) rows)
 
 pub returns-in_err-rows : goal.returns-in_err-rows
-returns-in_err-rows g c = stops c.from_residual.result _ c.from_residual.ensures.1 no_call (λ m k at out none. out _ refl)
-
-pub returns-in_err-state : goal.returns-in_err-state
-returns-in_err-state g c = stops c.from_residual-in_err-state.result _ c.from_residual-in_err-state.ensures.1 (both c.loop-job.invariant.consults c.in_err-state.ensures) (λ m k at out why. out _ why.1)
+returns-in_err-rows g c = stops c.from_residual.ensures.1 no_call (λ m out none. out _ refl)
 
 pub returns-in_err-add_row : goal.returns-in_err-add_row
-returns-in_err-add_row g c = stops c.from_residual-in_err-add_row.result _ c.from_residual-in_err-add_row.ensures.1 (both c.loop-job.invariant.consults c.in_ok-state.ensures) (λ m k at out calls. out _ refl)
+returns-in_err-add_row g c = stops c.from_residual-in_err-add_row.ensures.1 (both c.loop-job.invariant.consults c.in_err-add_row.ensures) (λ m out why. out _ why.1)

@@ -1,55 +1,41 @@
-use Rattle.std.proofs.Common.{sym, subst, rules}
-use Rattle.sqlite.specs.Held.{state}
-use Rattle.fax_core.specs.Machine.{with_mark}
-use Rattle.fax_store.specs.Work.{Works}
-use Rattle.fax_decide.specs.Effect.{IsWithin, IsWritable, Suits, effected}
+use Rattle.std.proofs.Common.{rules}
 use Rattle.fax_store.proofs.FrameLemmas.{follows_of, follows_then}
 use Rattle.fax_decide.proofs.WorkLemmas.{refused_any}
 use Rattle.fax_decide.proofs.effect.Effect.change.Goals as goal
 
 pub returns-in-NewJob-clause-changes : goal.returns-in-NewJob-clause-changes
-returns-in-NewJob-clause-changes g c m₀ m k₀ k suits works =
-    subst (λ e. Works (state g.S.Store c.put_job.new.self.store.now.conn) c.put_job.new.self.failed m₀ k₀ (effected e m) k) (sym c.in-NewJob.is) (c.put_job.ensures.changes m₀ m k₀ k works)
+returns-in-NewJob-clause-changes g c m₀ m k₀ k suits works = rw c.in-NewJob.is (c.put_job.ensures.changes m₀ m k₀ k works)
 
 pub returns-in-ChangedJob-clause-changes : goal.returns-in-ChangedJob-clause-changes
-returns-in-ChangedJob-clause-changes g c m₀ m k₀ k suits works =
-    let suited = subst (λ e. Suits e m) c.in-ChangedJob.is suits in
-    subst (λ e. Works (state g.S.Store c.put_change.new.self.store.now.conn) c.put_change.new.self.failed m₀ k₀ (effected e m) k) (sym c.in-ChangedJob.is) (c.put_change.ensures.changes m₀ m k₀ k suited works)
+returns-in-ChangedJob-clause-changes g c m₀ m k₀ k suits works = rw c.in-ChangedJob.is (c.put_change.ensures.changes m₀ m k₀ k (rw c.in-ChangedJob.is at suits) works)
 
 pub returns-in-Marked-clause-changes : goal.returns-in-Marked-clause-changes
-returns-in-Marked-clause-changes g c m₀ m k₀ k suits works =
-    let named = subst (λ text. Works (state g.S.Store c.set_down.new.self.store.now.conn) c.set_down.new.self.failed m₀ k₀ (with_mark text c.in-Marked.down m) k) c.as_str.ensures.text (c.set_down.ensures.makes.changes m₀ m k₀ k works) in
-    subst (λ e. Works (state g.S.Store c.set_down.new.self.store.now.conn) c.set_down.new.self.failed m₀ k₀ (effected e m) k) (sym c.in-Marked.is) named
+returns-in-Marked-clause-changes g c m₀ m k₀ k suits works = rw (c.in-Marked.is, ← c.as_str.ensures.text) (c.set_down.ensures.makes.changes m₀ m k₀ k works)
 
 pub returns-in_err-put_change-in-NewGrant-clause-changes : goal.returns-in_err-put_change-in-NewGrant-clause-changes
 returns-in_err-put_change-in-NewGrant-clause-changes g c m₀ m k₀ k suits works =
-    let suited = subst (λ e. Suits e m) c.in-NewGrant.is suits in
-    refused_any (state g.S.Store c.put_change-in-NewGrant.new.self.store.now.conn) c.put_change-in-NewGrant.new.self.failed m₀ _ _ k₀ _ _ c.in_err-put_change-in-NewGrant.ensures.leaves.fails (c.put_change-in-NewGrant.ensures.changes m₀ m k₀ k suited works)
+    refused_any _ _ m₀ _ _ k₀ _ _ c.in_err-put_change-in-NewGrant.ensures.leaves.fails (c.put_change-in-NewGrant.ensures.changes m₀ m k₀ k (rw c.in-NewGrant.is at suits) works)
 
 pub returns-in_ok-put_change-in-NewGrant-clause-changes : goal.returns-in_ok-put_change-in-NewGrant-clause-changes
 returns-in_ok-put_change-in-NewGrant-clause-changes g c m₀ m k₀ k suits works =
-    let suited = subst (λ e. Suits e m) c.in-NewGrant.is suits in
-    subst (λ e. Works (state g.S.Store c.put_grant.new.self.store.now.conn) c.put_grant.new.self.failed m₀ k₀ (effected e m) k) (sym c.in-NewGrant.is) (c.put_grant.ensures.changes m₀ _ k₀ _ (c.put_change-in-NewGrant.ensures.changes m₀ m k₀ k suited works))
+    rw c.in-NewGrant.is (c.put_grant.ensures.changes m₀ _ k₀ _ (c.put_change-in-NewGrant.ensures.changes m₀ m k₀ k (rw c.in-NewGrant.is at suits) works))
 
 pub returns-in_err-put_change-in-Reported-clause-changes : goal.returns-in_err-put_change-in-Reported-clause-changes
 returns-in_err-put_change-in-Reported-clause-changes g c m₀ m k₀ k suits works =
-    let suited = subst (λ e. Suits e m) c.in-Reported.is suits in
-    refused_any (state g.S.Store c.put_change-in-Reported.new.self.store.now.conn) c.put_change-in-Reported.new.self.failed m₀ _ _ k₀ _ _ c.in_err-put_change-in-Reported.ensures.leaves.fails (c.put_change-in-Reported.ensures.changes m₀ m k₀ k suited.0 works)
+    refused_any _ _ m₀ _ _ k₀ _ _ c.in_err-put_change-in-Reported.ensures.leaves.fails (c.put_change-in-Reported.ensures.changes m₀ m k₀ k (rw c.in-Reported.is at suits).0 works)
 
 pub returns-in_ok-put_change-in-Reported-clause-changes : goal.returns-in_ok-put_change-in-Reported-clause-changes
 returns-in_ok-put_change-in-Reported-clause-changes g c m₀ m k₀ k suits works =
-    let suited = subst (λ e. Suits e m) c.in-Reported.is suits in
-    subst (λ e. Works (state g.S.Store c.put_report.new.self.store.now.conn) c.put_report.new.self.failed m₀ k₀ (effected e m) k) (sym c.in-Reported.is) (c.put_report.ensures.changes m₀ _ k₀ _ suited.1 (c.put_change-in-Reported.ensures.changes m₀ m k₀ k suited.0 works))
+    let suited = rw c.in-Reported.is at suits in
+    rw c.in-Reported.is (c.put_report.ensures.changes m₀ _ k₀ _ suited.1 (c.put_change-in-Reported.ensures.changes m₀ m k₀ k suited.0 works))
 
 pub returns-in_err-put_change-in-Closed-clause-changes : goal.returns-in_err-put_change-in-Closed-clause-changes
 returns-in_err-put_change-in-Closed-clause-changes g c m₀ m k₀ k suits works =
-    let suited = subst (λ e. Suits e m) c.in-Closed.is suits in
-    refused_any (state g.S.Store c.put_change-in-Closed.new.self.store.now.conn) c.put_change-in-Closed.new.self.failed m₀ _ _ k₀ _ _ c.in_err-put_change-in-Closed.ensures.leaves.fails (c.put_change-in-Closed.ensures.changes m₀ m k₀ k suited works)
+    refused_any _ _ m₀ _ _ k₀ _ _ c.in_err-put_change-in-Closed.ensures.leaves.fails (c.put_change-in-Closed.ensures.changes m₀ m k₀ k (rw c.in-Closed.is at suits) works)
 
 pub returns-in_ok-put_change-in-Closed-clause-changes : goal.returns-in_ok-put_change-in-Closed-clause-changes
 returns-in_ok-put_change-in-Closed-clause-changes g c m₀ m k₀ k suits works =
-    let suited = subst (λ e. Suits e m) c.in-Closed.is suits in
-    subst (λ e. Works (state g.S.Store c.close_grant.new.self.store.now.conn) c.close_grant.new.self.failed m₀ k₀ (effected e m) k) (sym c.in-Closed.is) (c.close_grant.ensures.changes m₀ _ k₀ _ (c.put_change-in-Closed.ensures.changes m₀ m k₀ k suited works))
+    rw c.in-Closed.is (c.close_grant.ensures.changes m₀ _ k₀ _ (c.put_change-in-Closed.ensures.changes m₀ m k₀ k (rw c.in-Closed.is at suits) works))
 
 pub returns-in_ok-put_change-in-NewGrant-clause-leaves : goal.returns-in_ok-put_change-in-NewGrant-clause-leaves
 returns-in_ok-put_change-in-NewGrant-clause-leaves g c = follows_then g.S.Store _ _ _ (follows_of g.S.Store _ _ _ c.put_change-in-NewGrant.ensures.leaves) (follows_of g.S.Store _ _ _ c.put_grant.ensures.leaves)
@@ -62,7 +48,7 @@ returns-in_ok-put_change-in-Closed-clause-leaves g c = follows_then g.S.Store _ 
 
 pub returns-in-NewJob-clause-cause : goal.returns-in-NewJob-clause-cause
 returns-in-NewJob-clause-cause g c m₀ m k₀ k works s fits =
-    let fit = subst (λ e. IsWritable e m) c.in-NewJob.is fits in
+    let fit = rw c.in-NewJob.is at fits in
     c.put_job.ensures.cause m₀ m k₀ k works s (fit.free, fit.within)
 
 pub returns-in-Marked-clause-cause : goal.returns-in-Marked-clause-cause
@@ -70,13 +56,13 @@ returns-in-Marked-clause-cause g c m₀ m k₀ k works s fits = c.set_down.ensur
 
 pub returns-in_ok-put_change-in-NewGrant-clause-cause : goal.returns-in_ok-put_change-in-NewGrant-clause-cause
 returns-in_ok-put_change-in-NewGrant-clause-cause g c m₀ m k₀ k works s fits =
-    let fit = subst (λ e. IsWritable e m) c.in-NewGrant.is fits in
+    let fit = rw c.in-NewGrant.is at fits in
     c.put_grant.ensures.cause m₀ _ k₀ _ (c.put_change-in-NewGrant.ensures.changes m₀ m k₀ k fit.suits works) s (fit.within.0, fit.free.0, fit.free.1, fit.within.1)
 
 pub returns-in_ok-put_change-in-Reported-clause-cause : goal.returns-in_ok-put_change-in-Reported-clause-cause
-returns-in_ok-put_change-in-Reported-clause-cause g c m₀ m k₀ k works s fits = c.put_report.ensures.cause (subst (λ e. IsWithin e m) c.in-Reported.is fits.within)
+returns-in_ok-put_change-in-Reported-clause-cause g c m₀ m k₀ k works s fits = c.put_report.ensures.cause (rw c.in-Reported.is at fits).within
 
 pub returns-in_ok-put_change-in-Closed-clause-cause : goal.returns-in_ok-put_change-in-Closed-clause-cause
 returns-in_ok-put_change-in-Closed-clause-cause g c m₀ m k₀ k works s fits =
-    let fit = subst (λ e. IsWritable e m) c.in-Closed.is fits in
+    let fit = rw c.in-Closed.is at fits in
     c.close_grant.ensures.cause m₀ _ k₀ _ (c.put_change-in-Closed.ensures.changes m₀ m k₀ k fit.suits works) s tt

@@ -1,21 +1,15 @@
-use Rattle.std.proofs.Common.{sym, subst}
 use Rattle.sqlite.specs.Held.{state}
-use Rattle.fax_store.specs.Meta.{with_clock}
-use Rattle.fax_store.specs.Work.{Works}
-use Rattle.fax_decide.specs.Effect.{IsWritable, Suits, effected}
 use Rattle.fax_store.proofs.FrameLemmas.{follows_of, follows_then}
 use Rattle.fax_decide.proofs.WorkLemmas.{refused_any}
 use Rattle.fax_store.proofs.WorkLemmas.{refused_as}
 use Rattle.fax_decide.proofs.effect.Effect.write.Goals as goal
 
 pub returns-in-NewJob-clause-changes : goal.returns-in-NewJob-clause-changes
-returns-in-NewJob-clause-changes g c m₀ m k₀ k suits works =
-    subst (λ e. Works (state g.S.Store c.put_next_job.new.self.store.now.conn) c.put_next_job.new.self.failed m₀ k₀ (with_clock c.args.clock (effected e m)) k) (sym c.in-NewJob.is)
-    (c.put_next_job.ensures.changes m₀ m k₀ k (subst (λ e. Suits e m) c.in-NewJob.is suits) works)
+returns-in-NewJob-clause-changes g c m₀ m k₀ k suits works = rw c.in-NewJob.is (c.put_next_job.ensures.changes m₀ m k₀ k (rw c.in-NewJob.is at suits) works)
 
 pub returns-in-NewJob-clause-cause : goal.returns-in-NewJob-clause-cause
 returns-in-NewJob-clause-cause g c m₀ m k₀ k works s fits =
-    let fit = subst (λ e. IsWritable e m) c.in-NewJob.is fits in
+    let fit = rw c.in-NewJob.is at fits in
     c.put_next_job.ensures.cause m₀ m k₀ k works s (fit.suits, fit.free, fit.within)
 
 pub returns-in_err-change-clause-changes : goal.returns-in_err-change-clause-changes
