@@ -1,5 +1,6 @@
 -- What the statements do by which a store comes to a database.
-use Rattle.std.proofs.Common.{◌≡◌, ◌≢◌, ◌⊎◌, inl, inr, ℕ, List, [], ◌∷◌, codes, map, filter, Bool, true, false, arith, Ok, Err, IsErr, IsErrAnd, IsTrue, MatchResult, Result, refl, sym, subst, ap, ◌∙◌}
+use Rattle.std.proofs.Common.{◌≡◌, ◌≢◌, ◌⊎◌, inl, inr, ℕ, List, [], ◌∷◌, codes, map, Bool, true, false, arith, Ok, Err, IsErr, IsErrAnd, IsTrue, MatchResult, Result, refl, sym, subst, ap, ◌∙◌}
+use Rattle.sqlite_trees.proofs.ListLemmas.{all_of, filter_all}
 use Rattle.std.specs.List.{AllByRecursion}
 use Rattle.std.specs.List.Sorted.{IsPermutation}
 use Rattle.std.proofs.lemmas.Bool.{false≢true}
@@ -322,10 +323,6 @@ ours_taken old new r ours takes = record {
 
 -- ---- reading the version
 
-every : {A : Type 0} (xs : List A) → filter (λ _. true) xs ≡ xs
-every [] = refl
-every (x ∷ xs) = ap (λ ys. x ∷ ys) (every xs)
-
 -- the one value of a list of one row with one value
 one_version : (v : ℕ) (rows : List Row) → map (λ r. column r 5 ∷ []) rows ≡ (number v ∷ []) ∷ [] → map (λ r. column r 5) rows ≡ number v ∷ []
 one_version v [] e = absurd cc
@@ -343,7 +340,7 @@ module _ (v : ℕ) (old new : State) (ours : old.now.schema ≡ our_tables) (row
   shown_versions : IsPermutation (map (λ r. column r 5 ∷ []) (old.now.trees meta_tree)) rows
   shown_versions =
       let read = reads_as SELECT_VERSION.now [] old new our_tables ours _ select_version.command select_version.plain select_version.unlisted rows shown in
-      subst (λ t. IsPermutation (map (λ r. column r 5 ∷ []) t) rows) (every (old.now.trees meta_tree))
+      subst (λ t. IsPermutation (map (λ r. column r 5 ∷ []) t) rows) (filter_all (λ _. true) (old.now.trees meta_tree) (all_of _ (λ _. refl) (old.now.trees meta_tree)))
       (answers meta_tree [] version_project [] old.now (old.now.trees meta_tree) refl (codes "version" ∷ []) rows read)
 
   -- where the text shows one version, meta has just this one

@@ -1,9 +1,11 @@
 -- What the texts that change jobs write.
-use Rattle.std.proofs.Common.{◌≡◌, ◌≤◌, ◌<◌, inl, inr, ℕ, suc, List, [], ◌∷◌, map, drop, All, Bool, true, false, ◌&&◌, ◌||◌, Option, Some, None, unwrap_or, if◌then◌else◌, refl, sym, ap, ap₂, subst, ◌∙◌, arith}
+use Rattle.std.proofs.Common.{◌≡◌, ◌≤◌, ◌<◌, inl, inr, ℕ, List, [], ◌∷◌, map, drop, All, Bool, true, false, ◌&&◌, ◌||◌, Option, Some, None, unwrap_or, if◌then◌else◌, refl, sym, ap, ap₂, subst, ◌∙◌}
+use Rattle.std.proofs.Math.Bool.{and-true}
 use Rattle.std.specs.Prelude.{IsTrue, is_some, find, ◌==◌, nat_le}
 use Rattle.std.specs.Str.{IsUtf8}
-use Rattle.std.proofs.lemmas.Bool.{and_parts, cases_Bool, eqb-true, eq-eqb}
-use Rattle.std.proofs.lemmas.List.Elements.{All-cons}
+use Rattle.std.proofs.lemmas.Bool.{and_parts, eqb-true, eq-eqb, cond_both}
+use Rattle.std.proofs.lemmas.List.Elements.{All-from_recursion, All-map, recursion_from_All}
+use Rattle.sqlite_rules.proofs.ListLemmas.{all_from, all_has}
 use Rattle.sqlite.specs.Cast.{cast_row}
 use Rattle.sqlite.specs.Order.{Row}
 use Rattle.sqlite.specs.State.{State}
@@ -47,9 +49,7 @@ use Rattle.fax_schema.proofs.WriteLemmas.{KeepsOthers}
 
 -- what a function keeps of each element holds of each that it makes
 pub all_mapped : {X : Type 0} (P : X → Type 0) (f : X → X) (xs : List X) → ((x : X) → Has xs x → P x → P (f x)) → All P xs → All P (map f xs)
-all_mapped P f [] keeps all = λ i d low. absurd (omega arith)
-all_mapped P f (x ∷ xs) keeps all =
-    All-cons P (f x) (map f xs) (keeps x (inl refl) (all 0 x (omega arith))) (all_mapped P f xs (λ y has. keeps y (inr has)) (λ i d low. all (suc i) d (omega arith)))
+all_mapped P f xs keeps all = All-map P f xs (All-from_recursion (λ x. P (f x)) xs (all_from (λ x. P (f x)) xs (λ x has. keeps x has (all_has P xs x (recursion_from_All P xs all) has))))
 
 -- ---- one job
 
@@ -77,37 +77,23 @@ module _ (f : JobFields) (lines : List Pair) where
 
   -- the row of a job of the same order, as it is written
   written : (x : Job) → x.number ≡ f.job → KeepsOrder x → cast_row schema.jobs (drop 1 (show jobs_tree job_tests change_project (change_params f) (row_of x))) ≡ job_row whole
-  written x is same =
-      stored_job (record f { job = x.number; dial = x.dial; totpages = x.totpages; extra = x.extra })
-      ∙ ap (λ n. job_row (record f { job = n; dial = x.dial; totpages = x.totpages; extra = x.extra })) is
-      ∙ ap (λ d. job_row (record f { dial = d; totpages = x.totpages; extra = x.extra })) same.order.dial
-      ∙ ap (λ p. job_row (record f { totpages = p; extra = x.extra })) same.order.totpages
-      ∙ ap (λ e. job_row (record f { extra = e })) same.extra
+  written x is same = rw (is, same.order.dial, same.order.totpages, same.extra) (stored_job whole)
 
   -- the job that is put in place has the written row
   put_there : (x : Job) → x.number ≡ f.job → row_of (put x) ≡ job_row whole
-  put_there x is = ap (λ b. row_of (if b then job_of whole else x)) (eq-eqb x.number f.job is) ∙ ap job_row (fields_back whole)
+  put_there x is = rw (eq-eqb x.number f.job is) (ap job_row (fields_back whole))
 
   -- a job that is put in place keeps the rowid
   put_number : (x : Job) → rowid (row_of (put x)) ≡ rowid (row_of x)
-  put_number x = elim (cases_Bool (x.number == f.job)) [
-    | inl same ↦ ap (λ b. rowid (row_of (if b then job_of whole else x))) same ∙ ap number (sym (eqb-true x.number f.job same))
-    | inr off ↦ ap (λ b. rowid (row_of (if b then job_of whole else x))) off
-  ]
+  put_number x = cond_both (x.number == f.job) (job_of whole) x (λ y. rowid (row_of y) ≡ rowid (row_of x)) (λ same. ap number (sym (eqb-true x.number f.job same))) (λ _. refl)
 
   -- and its number
   same_number : (x : Job) → (put x).number ≡ x.number
-  same_number x = elim (cases_Bool (x.number == f.job)) [
-    | inl same ↦ ap (λ b. (if b then job_of whole else x).number) same ∙ sym (eqb-true x.number f.job same)
-    | inr off ↦ ap (λ b. (if b then job_of whole else x).number) off
-  ]
+  same_number x = cond_both (x.number == f.job) (job_of whole) x (λ y. y.number ≡ x.number) (λ same. sym (eqb-true x.number f.job same)) (λ _. refl)
 
   -- and its number to dial, where it is of the same order
   same_dial : (x : Job) → (x.number ≡ f.job → KeepsOrder x) → (put x).dial ≡ x.dial
-  same_dial x same = elim (cases_Bool (x.number == f.job)) [
-    | inl here ↦ ap (λ b. (if b then job_of whole else x).dial) here ∙ sym (same (eqb-true x.number f.job here)).order.dial
-    | inr off ↦ ap (λ b. (if b then job_of whole else x).dial) off
-  ]
+  same_dial x same = cond_both (x.number == f.job) (job_of whole) x (λ y. y.dial ≡ x.dial) (λ here. sym (same (eqb-true x.number f.job here)).order.dial) (λ _. refl)
 
   -- a lawful change of a lawful job, with the job's lines, is lawful
   change_limits : IsLawful f → (x : Job) → KeepsOrder x → IsLawful (fields_of x) → IsLawful whole
@@ -128,10 +114,7 @@ module _ (f : JobFields) (lines : List Pair) where
 
   -- each job stays lawful, whether it changes or not
   put_lawful : IsFormedChange f → (x : Job) → (x.number ≡ f.job → KeepsOrder x) → IsLawfulJob x → IsLawfulJob (put x)
-  put_lawful lawful x same was = elim (cases_Bool (x.number == f.job)) [
-    | inl here ↦ subst (λ b. IsLawfulJob (if b then job_of whole else x)) (sym here) (change_lawful lawful x (same (eqb-true x.number f.job here)) was)
-    | inr off ↦ subst (λ b. IsLawfulJob (if b then job_of whole else x)) (sym off) was
-  ]
+  put_lawful lawful x same was = cond_both (x.number == f.job) (job_of whole) x IsLawfulJob (λ here. change_lawful lawful x (same (eqb-true x.number f.job here)) was) (λ _. was)
 
 module _ (f : JobFields) (old new : State) (m : Queue) (k : Ledger) (means : TablesMean old.now m k) where
   abbrev its_lines : List Pair
@@ -154,7 +137,7 @@ module _ (f : JobFields) (old new : State) (m : Queue) (k : Ledger) (means : Tab
       let done = updated schema.jobs.name 0 schema.jobs.columns schema.jobs.key schema.jobs.primary schema.jobs.uniques schema.jobs.orders schema.jobs.checks 0 refl old new means.schema refl means.ordered.jobs
       job_tests change_project (change_params f) (λ r. refl) _ h.0 row_of placed m.jobs means.jobs (put_number f its_lines)
       (λ x has on. let is = is_number x on in written f its_lines x is (same x has is) ∙ sym (put_there f its_lines x is))
-      (λ x has off. sym (ap (λ b. row_of (if b then job_of (whole f its_lines) else x)) (is_other x off)))
+      (λ x has off. rw (is_other x off) refl)
       ran in
       let now : AreRecords row_of IsLawfulJob (new.now.trees jobs_tree) (map placed m.jobs) = record { is = done.1; ordered = done.2; lawful = all_mapped IsLawfulJob placed m.jobs (λ x has. put_lawful f its_lines lawful x (same x has)) means.lawful.jobs } in
       let after = with_change (job_of f) m in
@@ -170,14 +153,10 @@ module _ (phase : Phase) (t : ℕ) where
   abbrev pub expired_params : Row
   expired_params = number t ∷ number (phase_number phase) ∷ []
 
-  and_true : (b : Bool) → (b && true) ≡ b
-  and_true true = refl
-  and_true false = refl
-
   -- a kill time is past where it is not 0 and at most this moment
   past : (killtime : Option ℕ) → (nat_le 1 (unwrap_or killtime 0) && (nat_le (unwrap_or killtime 0) t && true)) ≡ is_past killtime t
   past None = refl
-  past (Some s) = ap (λ b. nat_le 1 s && b) (and_true (nat_le s t))
+  past (Some s) = ap (λ b. nat_le 1 s && b) (and-true (nat_le s t))
 
   abbrev expires_here : Job → Bool
   expires_here j = phase_number j.phase == phase_number phase && is_past j.killtime t
@@ -191,21 +170,17 @@ module _ (phase : Phase) (t : ℕ) where
   abbrev expired : Job → Job
   expired j = record j { phase = Failed; status = kill_time_expired }
 
-  -- a job that expires here becomes failed, and another stays
-  expired_by : (j : Job) (b : Bool) → expires_here j ≡ b → expired_in phase t j ≡ (if b then expired j else j)
-  expired_by j b is = ap (λ c. if c then expired j else j) is
-
   -- a job keeps its rowid, whether it expires or not
   expired_number : (j : Job) → rowid (row_of (expired_in phase t j)) ≡ rowid (row_of j)
-  expired_number j = elim (cases_Bool (expires_here j)) [ inl on ↦ ap (λ i. rowid (row_of i)) (expired_by j true on) | inr off ↦ ap (λ i. rowid (row_of i)) (expired_by j false off) ]
+  expired_number j = cond_both (expires_here j) (expired j) j (λ i. rowid (row_of i) ≡ rowid (row_of j)) (λ _. refl) (λ _. refl)
 
   -- and its number
   number_kept : (j : Job) → (expired_in phase t j).number ≡ j.number
-  number_kept j = elim (cases_Bool (expires_here j)) [ inl on ↦ ap (λ (i : Job). i.number) (expired_by j true on) | inr off ↦ ap (λ (i : Job). i.number) (expired_by j false off) ]
+  number_kept j = cond_both (expires_here j) (expired j) j (λ i. i.number ≡ j.number) (λ _. refl) (λ _. refl)
 
   -- and its number to dial
   dial_kept : (j : Job) → (expired_in phase t j).dial ≡ j.dial
-  dial_kept j = elim (cases_Bool (expires_here j)) [ inl on ↦ ap (λ (i : Job). i.dial) (expired_by j true on) | inr off ↦ ap (λ (i : Job). i.dial) (expired_by j false off) ]
+  dial_kept j = cond_both (expires_here j) (expired j) j (λ i. i.dial ≡ j.dial) (λ _. refl) (λ _. refl)
 
   -- the status of a job whose kill time is past is UTF-8
   expired_text : IsUtf8 kill_time_expired
@@ -214,28 +189,25 @@ module _ (phase : Phase) (t : ℕ) where
 
   -- a lawful job stays lawful, whether it expires or not
   expired_lawful : (j : Job) → IsLawfulJob j → IsLawfulJob (expired_in phase t j)
-  expired_lawful j was = elim (cases_Bool (expires_here j)) [
-    | inl on ↦ subst IsLawfulJob (sym (expired_by j true on)) (record {
-      formed = record {
-        dial = was.formed.dial;
-        modem = was.formed.modem;
-        jobtag = was.formed.jobtag;
-        status = record { formed = refl; utf8 = expired_text };
-        extra = was.formed.extra;
-        tts = was.formed.tts;
-        killtime = was.formed.killtime;
-        priority = was.formed.priority;
-      };
-      limits = was.limits;
-      pages = was.pages;
-    })
-    | inr off ↦ subst IsLawfulJob (sym (expired_by j false off)) was
-  ]
+  expired_lawful j was = cond_both (expires_here j) (expired j) j IsLawfulJob (λ _. record {
+    formed = record {
+      dial = was.formed.dial;
+      modem = was.formed.modem;
+      jobtag = was.formed.jobtag;
+      status = record { formed = refl; utf8 = expired_text };
+      extra = was.formed.extra;
+      tts = was.formed.tts;
+      killtime = was.formed.killtime;
+      priority = was.formed.priority;
+    };
+    limits = was.limits;
+    pages = was.pages;
+  }) (λ _. was)
 
   -- where none expires, the jobs stay
   unmoved : (xs : List Job) → ((x : Job) → Has xs x → expires_here x ≡ false) → map (expired_in phase t) xs ≡ xs
   unmoved [] none = refl
-  unmoved (x ∷ xs) none = ap₂ ◌∷◌ (expired_by x false (none x (inl refl))) (unmoved xs (λ y has. none y (inr has)))
+  unmoved (x ∷ xs) none = ap₂ ◌∷◌ (rw (none x (inl refl)) refl) (unmoved xs (λ y has. none y (inr has)))
 
   module _ (old new : State) (m : Queue) (k : Ledger) (means : TablesMean old.now m k) where
     -- where no row is shown, no job expires
@@ -255,8 +227,8 @@ module _ (phase : Phase) (t : ℕ) where
         let ran = runs_as EXPIRE_JOBS.now expired_params old new our_tables means.schema _ expire_jobs.is expire_jobs.plain h.0 h.1 in
         let done = updated schema.jobs.name 0 schema.jobs.columns schema.jobs.key schema.jobs.primary schema.jobs.uniques schema.jobs.orders schema.jobs.checks 0 refl old new means.schema refl means.ordered.jobs
         expired_tests expired_project expired_params (λ r. refl) _ h.0 row_of (expired_in phase t) m.jobs means.jobs expired_number
-        (λ j has on. stored_job (fields_of (expired j)) ∙ sym (ap row_of (expired_by j true (sym (expiring j) ∙ on))))
-        (λ j has off. sym (ap row_of (expired_by j false (sym (expiring j) ∙ off))))
+        (λ j has on. stored_job (fields_of (expired j)) ∙ rw (sym (expiring j) ∙ on) refl)
+        (λ j has off. rw (sym (expiring j) ∙ off) refl)
         ran in
         let now : AreRecords row_of IsLawfulJob (new.now.trees jobs_tree) (map (expired_in phase t) m.jobs) = record { is = done.1; ordered = done.2; lawful = all_mapped IsLawfulJob (expired_in phase t) m.jobs (λ j has. expired_lawful j) means.lawful.jobs } in
         let after = with_expired_in phase t m in
@@ -283,8 +255,8 @@ expired_once t j = by (phase_number j.phase == 0 && is_past j.killtime t) (phase
   where
     by : (held waits : Bool) → (phase_number j.phase == 0 && is_past j.killtime t) ≡ held → (phase_number j.phase == 1 && is_past j.killtime t) ≡ waits
         → expired_in Waiting t (expired_in Held t j) ≡ (if held || waits then expired Held t j else j)
-    by true waits e w = ap (expired_in Waiting t) (expired_by Held t j true e)
-    by false waits e w = ap (expired_in Waiting t) (expired_by Held t j false e) ∙ expired_by Waiting t j waits w
+    by true waits e w = rw e refl
+    by false waits e w = rw (e, w) refl
 
 -- expired while held and then while they wait, all jobs have expired that do
 pub expired_in_turn : (t : ℕ) (m : Queue) → with_expired_in Waiting t (with_expired_in Held t m) ≡ with_expired t m

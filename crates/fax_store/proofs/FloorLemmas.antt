@@ -1,7 +1,8 @@
 -- What the texts on floors, and on the replies that a client gives up, leave.
-use Rattle.std.proofs.Common.{◌≡◌, ◌≤◌, ◌<◌, ◌^◌, inl, inr, ℕ, zero, suc, List, [], ◌∷◌, map, filter, drop, Bool, true, false, not, ◌&&◌, Option, MatchOption, refl, sym, ap, ap₂, subst, ◌∙◌, arith, if◌then◌else◌}
+use Rattle.std.proofs.Common.{◌≡◌, ◌≤◌, ◌<◌, ◌^◌, ℕ, zero, suc, List, [], ◌∷◌, map, filter, drop, false, not, ◌&&◌, Option, MatchOption, refl, sym, ap, ap₂, subst, ◌∙◌, arith}
+use Rattle.std.proofs.Math.Bool.{and-true}
 use Rattle.std.specs.Str.{bytes_eq}
-use Rattle.std.proofs.lemmas.Bool.{cases_Bool}
+use Rattle.std.proofs.lemmas.Bool.{cond_both}
 use Rattle.std.proofs.lemmas.Slice.Eq.{bytes_eq-Decides}
 use Rattle.sqlite.specs.Cast.{cast_row}
 use Rattle.sqlite.specs.Edit.{with_rowid, next_rowid}
@@ -10,7 +11,6 @@ use Rattle.sqlite.specs.Rowids.TheVariants.{Chosen}
 use Rattle.sqlite.specs.State.{State}
 use Rattle.sqlite.specs.declared.types.Value.TheVariants.{Null, Int, Text}
 use Rattle.sqlite.proofs.Callers.{runs_as}
-use Rattle.sqlite_trees.proofs.ListLemmas.{all_of, filter-map, filter_same}
 use Rattle.fax_core.specs.Ledger.{Ledger, floors_with, is_through, without_replies}
 use Rattle.fax_core.specs.Queue.{Queue, Entry, open_grants}
 use Rattle.fax_value.specs.Name.{IsName}
@@ -30,11 +30,7 @@ use Rattle.fax_tables.specs.Row.{number, entry_columns, floor_columns}
 use Rattle.fax_tables.specs.Tables.{AreCounted, AreLawfulFloors, IsLawfulEntry, TablesMean}
 use Rattle.fax_tables.proofs.TablesLemmas.{AreColumns, AreFloors, by_rowid_put, calls_of, floors_changed, means_of, parts_of, replies_changed}
 use Rattle.fax_store.specs.Store.{FindsRow, HasRun}
-use Rattle.fax_store.proofs.CallLemmas.{beside, counted_found, is_asked, others, params, without}
-
-and_true : (b : Bool) → (b && true) ≡ b
-and_true true = refl
-and_true false = refl
+use Rattle.fax_store.proofs.CallLemmas.{beside, counted_found, is_asked, left_without, params}
 
 -- ---- reading
 
@@ -61,7 +57,7 @@ module _ (client : List ℕ) (floor : ℕ) where
   is_given [] e is = absurd cc
   is_given (i ∷ columns) e is =
       ap (λ rest. passes replies_tree given_up_tests gone_project given_params (i ∷ rest)) is
-      ∙ ap₂ (λ a b. a && b) (equal_texts e.client client) (and_true _ ∙ at_most e.number floor)
+      ∙ ap₂ (λ a b. a && b) (equal_texts e.client client) (and-true _ ∙ at_most e.number floor)
 
   pub replies_dropped : (old new : State) (m : Queue) (k : Ledger) → TablesMean old.now m k → HasRun DELETE_REPLIES.now given_params old new → TablesMean new.now m (without_replies client floor k) × KeepsOthers our_tables replies_tree old new
   replies_dropped old new m k means h =
@@ -79,60 +75,47 @@ module _ (client : List ℕ) (floor : ℕ) where
 -- ---- a floor that is set
 
 -- the floors of others stay lawful, and a client's is where it is set to a lawful one
-lawful_with : (client : List ℕ) (floor : ℕ) (of : List ℕ → ℕ) → AreLawfulFloors of → (1 ≤ floor → IsName client × (floor < 10 ^ 18)) → AreLawfulFloors (floors_with client floor of)
-lawful_with client floor of was its other some = elim (cases_Bool (bytes_eq other client)) [
-  | inl on ↦
-      (let here : floors_with client floor of other ≡ floor = ap (λ b. if b then floor else of other) on in
-      let it = its (subst (λ n. 1 ≤ n) here some) in
-      (subst IsName (sym ((bytes_eq-Decides other client).0 on)) it.0, subst (λ n. n < 10 ^ 18) (sym here) it.1))
-  | inr off ↦
-      (let there : floors_with client floor of other ≡ of other = ap (λ b. if b then floor else of other) off in
-      let it = was other (subst (λ n. 1 ≤ n) there some) in
-      (it.0, subst (λ n. n < 10 ^ 18) (sym there) it.1))
-]
+lawful_with : (client : List ℕ) (floor : ℕ) (of : List ℕ → ℕ) → ((other : List ℕ) → bytes_eq other client ≡ false → 1 ≤ of other → IsName other × (of other < 10 ^ 18)) → (1 ≤ floor → IsName client × (floor < 10 ^ 18))
+    → AreLawfulFloors (floors_with client floor of)
+lawful_with client floor of was its other = cond_both (bytes_eq other client) floor (of other) (λ n. 1 ≤ n → IsName other × (n < 10 ^ 18))
+    (λ on some. let it = its some in (rw ((bytes_eq-Decides other client).0 on) it.0, it.1)) (λ off. was other off)
 
 abbrev pub floor_params : List ℕ → ℕ → Row
 floor_params client floor = Text client ∷ number floor ∷ []
 
-module _ (client : List ℕ) (floor : ℕ) (old mid : State) (m : Queue) (k : Ledger) (means : TablesMean old.now m k) where
-  abbrev cleared : List ℕ → ℕ
-  cleared = floors_with client 0 k.floor
+-- the text that takes a client's floor off sets it to 0, and touches floors alone
+pub floor_gone : (client : List ℕ) (old new : State) (m : Queue) (k : Ledger) → TablesMean old.now m k → HasRun DELETE_FLOOR.now (params client) old new
+    → TablesMean new.now m (record k { floor = floors_with client 0 k.floor }) × KeepsOthers our_tables floors_tree old new
+floor_gone client old new m k means h =
+    let rows = old.now.trees floors_tree in
+    let cleared = floors_with client 0 k.floor in
+    let pass = passes floors_tree call_tests gone_project (params client) in
+    let ran = runs_as DELETE_FLOOR.now (params client) old new our_tables means.schema _ delete_floor.is delete_floor.plain h.0 h.1 in
+    let done = deleted schema.floors.name 11 schema.floors.columns schema.floors.key schema.floors.primary schema.floors.uniques schema.floors.orders schema.floors.checks 6 refl old new means.schema refl means.ordered.floors
+    call_tests gone_project (params client) (λ r. refl) _ h.0 ran in
+    let now : AreFloors cleared (new.now.trees floors_tree) = record {
+      is = left_without client k.floor pass (is_asked client gone_project) rows (new.now.trees floors_tree) done.1 means.floors;
+      ordered = done.2;
+      lawful = lawful_with client 0 k.floor (λ other _. means.lawful.floors other) (λ some. absurd (omega (arith, some)));
+    } in
+    (means_of new.now m (record k { floor = cleared }) means.held (floors_changed old new m (open_grants m) (calls_of m) k (parts_of old.now m k means) done.0 cleared now), done.0)
 
-  gone : HasRun DELETE_FLOOR.now (params client) old mid → KeepsOthers our_tables floors_tree old mid × AreFloors cleared (mid.now.trees floors_tree)
-  gone h =
-      let rows = old.now.trees floors_tree in
-      let pass = passes floors_tree call_tests gone_project (params client) in
-      let ran = runs_as DELETE_FLOOR.now (params client) old mid our_tables means.schema _ delete_floor.is delete_floor.plain h.0 h.1 in
-      let done = deleted schema.floors.name 11 schema.floors.columns schema.floors.key schema.floors.primary schema.floors.uniques schema.floors.orders schema.floors.checks 6 refl old mid means.schema refl means.ordered.floors
-      call_tests gone_project (params client) (λ r. refl) _ h.0 ran in
-      let left : map (drop 1) (filter (λ r. not (pass r)) rows) ≡ filter (others client k.floor) (map (drop 1) rows) =
-      ap (map (drop 1)) (filter_same (λ r. not (pass r)) (λ r. others client k.floor (drop 1 r)) rows (all_of (λ r. not (pass r) ≡ others client k.floor (drop 1 r)) (λ r. ap not (is_asked client gone_project r)) rows)) ∙ sym (filter-map (others client k.floor) (drop 1) rows) in (
-        done.0,
-        record {
-          is = subst (AreCounted cleared) (sym (ap (map (drop 1)) done.1 ∙ left)) (without client k.floor (map (drop 1) rows) means.floors);
-          ordered = done.2;
-          lawful = lawful_with client 0 k.floor means.lawful.floors (λ some. absurd (omega (arith, some)));
-        },
-      )
-
-  pub floor_gone : HasRun DELETE_FLOOR.now (params client) old mid → KeepsOthers our_tables floors_tree old mid
-  floor_gone h = (gone h).0
-
-  module _ (new : State) (first : HasRun DELETE_FLOOR.now (params client) old mid) where
-    pub floor_set : IsName client → 1 ≤ floor → floor < 10 ^ 18 → HasRun INSERT_FLOOR.now (floor_params client floor) mid new → TablesMean new.now m (record k { floor = floors_with client floor k.floor }) × KeepsOthers our_tables floors_tree mid new
-    floor_set name some low h =
-        let rows = mid.now.trees floors_tree in
-        let row = Int (next_rowid rows) ∷ floor_columns client floor in
-        let stored : cast_row schema.floors (Null ∷ floor_columns client floor) ≡ Null ∷ floor_columns client floor = same_row cast_null (same_row refl (same_row (cast_int _) refl)) in
-        let between = gone first in
-        let at_mid = floors_changed old mid m (open_grants m) (calls_of m) k (parts_of old.now m k means) between.0 cleared between.1 in
-        let ran = runs_as INSERT_FLOOR.now (floor_params client floor) mid new our_tables at_mid.schema _ insert_floor.is insert_floor.plain h.0 h.1 in
-        let done = inserts our_tables unreferred schema.floors.name 11 schema.floors.columns schema.floors.key schema.floors.primary schema.floors.uniques schema.floors.orders schema.floors.checks 6 refl mid new at_mid.schema (floor_params client floor) _ h.0
-        call_terms 3 (Null ∷ floor_columns client floor) row refl (ap (with_rowid Chosen rows) stored) ran in
-        let by = (between.1).ordered in
-        let now : AreFloors (floors_with client floor k.floor) (new.now.trees floors_tree) = record {
-          is = subst (AreCounted (floors_with client floor k.floor)) (sym (ap (map (drop 1)) done.rows ∙ appended rows (floor_columns client floor) by.integers by.rise)) (beside client k.floor floor (map (drop 1) rows) some (between.1).is);
-          ordered = subst IsByRowid (sym done.rows) (by_rowid_put row rows refl by);
-          lawful = lawful_with client floor k.floor means.lawful.floors (λ _. (name, low));
-        } in
-        (means_of new.now m (record k { floor = floors_with client floor k.floor }) means.held (floors_changed mid new m (open_grants m) (calls_of m) (record k { floor = cleared }) at_mid done.keeps (floors_with client floor k.floor) now), done.keeps)
+-- the text that adds one, where the client has none, sets it, and touches floors alone
+pub floor_set : (client : List ℕ) (floor : ℕ) (old new : State) (m : Queue) (k : Ledger) → TablesMean old.now m (record k { floor = floors_with client 0 k.floor }) → IsName client → 1 ≤ floor → floor < 10 ^ 18
+    → HasRun INSERT_FLOOR.now (floor_params client floor) old new → TablesMean new.now m (record k { floor = floors_with client floor k.floor }) × KeepsOthers our_tables floors_tree old new
+floor_set client floor old new m k means name some low h =
+    let rows = old.now.trees floors_tree in
+    let row = Int (next_rowid rows) ∷ floor_columns client floor in
+    let cleared = record k { floor = floors_with client 0 k.floor } in
+    let set = floors_with client floor k.floor in
+    let stored : cast_row schema.floors (Null ∷ floor_columns client floor) ≡ Null ∷ floor_columns client floor = same_row cast_null (same_row refl (same_row (cast_int _) refl)) in
+    let ran = runs_as INSERT_FLOOR.now (floor_params client floor) old new our_tables means.schema _ insert_floor.is insert_floor.plain h.0 h.1 in
+    let done = inserts our_tables unreferred schema.floors.name 11 schema.floors.columns schema.floors.key schema.floors.primary schema.floors.uniques schema.floors.orders schema.floors.checks 6 refl old new means.schema (floor_params client floor) _ h.0
+    call_terms 3 (Null ∷ floor_columns client floor) row refl (ap (with_rowid Chosen rows) stored) ran in
+    let by = means.ordered.floors in
+    let now : AreFloors set (new.now.trees floors_tree) = record {
+      is = subst (AreCounted set) (sym (ap (map (drop 1)) done.rows ∙ appended rows (floor_columns client floor) by.integers by.rise)) (beside client k.floor floor (map (drop 1) rows) some means.floors);
+      ordered = subst IsByRowid (sym done.rows) (by_rowid_put row rows refl by);
+      lawful = lawful_with client floor k.floor (λ other off. rw off at (means.lawful.floors other)) (λ _. (name, low));
+    } in
+    (means_of new.now m (record k { floor = set }) means.held (floors_changed old new m (open_grants m) (calls_of m) cleared (parts_of old.now m cleared means) done.keeps set now), done.keeps)

@@ -1,5 +1,6 @@
 -- What calls leave, one after the other.
 use Rattle.std.proofs.Common.{◌≡◌, ℕ, List, false, Ok, Err, Result, IfOk, OnOk, IsErrAnd, is_err, subst, sym, ◌∙◌}
+use Rattle.std.specs.Prelude.{⊤}
 use Rattle.std.proofs.lemmas.Bool.{false≢true}
 use Rattle.sqlite.specs.Order.{Row}
 use Rattle.sqlite.specs.State.{State, Executes, HasCleanDisk}
@@ -8,7 +9,7 @@ use Rattle.sqlite_trees.specs.declared.store.Store.{Ghosts}
 use Rattle.fax_core.specs.Ledger.{Ledger}
 use Rattle.fax_core.specs.Queue.{Queue}
 use Rattle.fax_store.specs.Calls.{Answers, Calls, Edits, Finds, Follows, Inserts, Looks, Makes, MakesIf, MakesIfWhere, MakesWhere, Runs, Tells, TellsLawful, Writes, WritesIf, WritesIfWhere, WritesWhere, shown, within}
-use Rattle.fax_store.specs.Work.{IsOnlyUnavailable, Moves, Works}
+use Rattle.fax_store.specs.Work.{IsOnlyUnavailable, IsUnderWay, Moves, Steps, Works}
 use Rattle.fax_store.specs.Store.{CommitsNothing, HasRun, HasTables, Means, MeansNow, Reads, Serves}
 use Rattle.fax_store.specs.declared.store.Store.{Store}
 use Rattle.fax_store.specs.declared.work.Work.{Work}
@@ -19,7 +20,7 @@ use Rattle.fax_tables.specs.Tables.{TablesMean}
 use Rattle.fax_tables.specs.declared.fault.StoreFault.{StoreFault}
 use Rattle.fax_tables.specs.declared.fault.StoreFault.TheVariants.{Unavailable}
 use Rattle.fax_store.proofs.StopLemmas.{withholds_by, withholds_err, withholds_then}
-use Rattle.fax_store.proofs.WorkLemmas.{changes_by, found_in, holds_by, holds_err, holds_then, keeps_by, move_by, moved_by, moves_of, only_unavailable, reads_same, refused_as, refused_by, stays_by, step_by, step_of, steps_where}
+use Rattle.fax_store.proofs.WorkLemmas.{changes_by, found_in, holds_by, holds_err, holds_then, keeps_by, move_by, moved_by, moves_of, only_unavailable, reads_same, refused_as, refused_by, stays_by, step_by, step_of, steps_fault, steps_where, goes_on}
 
 -- the tables of a store that means something mean it now
 pub means_now : {s : State} {m : Queue} {k : Ledger} → Means s m k → MeansNow s m k
@@ -88,7 +89,10 @@ module _ {S : Type 0} (g : Ghosts S) where
   }
 
   -- what is refused makes nothing of what the tables mean, and the last commit stands
-  module _ (old new : Store S) {A : Type 0} (result : Result A StoreFault) (fault : StoreFault) (told : IsErrAnd result (λ e. e ≡ fault)) (runs : Runs g old new result) where
+  module _ (old new : Store S) {A B : Type 0} (result : Result A StoreFault) (fault : StoreFault) (told : IsErrAnd result (λ e. e ≡ fault)) (refused : Runs g {A = B} old new (Err fault)) where
+    runs : Runs g old new result
+    runs = runs_err old new fault result told refused
+
     moved : (m₀ m after : Queue) (k₀ k kept : Ledger) → Works (shown g old) false m₀ k₀ m k → Serves (shown g new) → Moves (shown g new) result m₀ k₀ after kept
     moved m₀ m after k₀ k kept works s = refused_by (shown g old) (shown g new) result (λ e. e ≡ fault) m₀ m after k₀ k kept told runs.served runs.holds works s
 
@@ -107,6 +111,24 @@ module _ {S : Type 0} (g : Ghosts S) where
 
     pub writes_if_where_refused : (P : Queue → Type 0) (Fit : Queue → Ledger → Type 0) (f : Queue → Queue) (h : Ledger → Ledger) → IsOnlyUnavailable (shown g old) false (shown g new) result Fit → WritesIfWhere g old new result P Fit f h
     writes_if_where_refused P Fit f h cause = record { leaves = runs; written = λ m₀ m k₀ k p works s. moved m₀ m (f m) k₀ k (h k) works s; cause = cause }
+
+  -- what is a step of each work is refused only for want of an answer
+  pub writes_if_steps : (old new : Store S) {A : Type 0} (result : Result A StoreFault) (P : Queue → Type 0) (Fit : Queue → Ledger → Type 0) (f : Queue → Queue) (h : Ledger → Ledger) → Runs g old new result → ((m : Queue) (k : Ledger) → Fit m k → P m)
+      → ((m₀ m : Queue) (k₀ k : Ledger) → P m → Works (shown g old) false m₀ k₀ m k → Serves (shown g new) → Steps (shown g new) result m₀ k₀ (f m) (h k)) → WritesIfWhere g old new result P Fit f h
+  writes_if_steps old new result P Fit f h runs fits steps = record {
+    leaves = runs;
+    written = λ m₀ m k₀ k p works s. moves_of (shown g new) result m₀ (f m) k₀ (h k) (steps m₀ m k₀ k p works s);
+    cause = λ m₀ m k₀ k works s fit. steps_fault (shown g new) result m₀ (f m) k₀ (h k) (steps m₀ m k₀ k (fits m k fit) works s);
+  }
+
+  -- of whatever queue
+  pub writes_if_any : (old new : Store S) {A : Type 0} (result : Result A StoreFault) (Fit : Queue → Ledger → Type 0) (f : Queue → Queue) (h : Ledger → Ledger) → WritesIfWhere g old new result (λ _. ⊤) Fit f h → WritesIf g old new result Fit f h
+  writes_if_any old new result Fit f h writes = record { leaves = writes.leaves; written = λ m₀ m k₀ k. writes.written m₀ m k₀ k tt; cause = writes.cause }
+
+  -- a reading within a work tells of what the work means, and the work goes on
+  pub reads_on : (old new : Store S) {A : Type 0} (x : A) (P : Queue → Ledger → A → Type 0) → Finds g old new (Ok x) → Answers g old new (Ok x) P
+      → (m₀ m : Queue) (k₀ k : Ledger) → Works (shown g old) false m₀ k₀ m k → Serves (shown g new) → P m k x × IsUnderWay (shown g new) false m₀ k₀ m k
+  reads_on old new x P finds answers = goes_on (shown g old) (shown g new) finds.served (Ok x) finds.reads P answers
 
   -- a statement that edits rows of one table makes of what the tables mean what it does to the rows
   module _ (old new : Store S) (result : Result (Unit {0}) StoreFault) (sql : List ℕ) (params : Row) (tree : ℕ) (f : Queue → Queue) (h : Ledger → Ledger) where

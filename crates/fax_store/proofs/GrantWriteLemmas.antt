@@ -1,8 +1,11 @@
 -- What the texts on grants and holds write.
-use Rattle.std.proofs.Common.{◌≡◌, ◌≤◌, inl, inr, ℕ, ℤ, pos, List, [], ◌∷◌, ◌++◌, map, filter, drop, Bool, true, false, not, ◌&&◌, Option, Some, None, Err, if◌then◌else◌, IsTrue, refl, sym, ap, ap₂, subst, ◌∙◌, ◌+◌, ◌-◌, arith}
+use Rattle.std.proofs.Common.{◌≡◌, ◌≤◌, inl, inr, ℕ, ℤ, pos, List, [], ◌∷◌, ◌++◌, map, filter, drop, Bool, true, false, not, ◌&&◌, Option, Some, None, Err, if◌then◌else◌, IsTrue, cond, refl, sym, ap, ap₂, subst, ◌∙◌, ◌+◌, ◌-◌, arith}
+use Rattle.std.proofs.lemmas.Option.{same_Some}
+use Rattle.std.proofs.lemmas.List.{map-id}
+use Rattle.std.proofs.Math.Bool.{and-true}
 use Rattle.std.specs.Prelude.{find, ◌==◌}
 use Rattle.std.specs.List.Sorted.{IsPermutation}
-use Rattle.std.proofs.lemmas.Bool.{cases_Bool, eqb-true, eq-eqb, false_from_ne_true}
+use Rattle.std.proofs.lemmas.Bool.{cases_Bool, eqb-true, eq-eqb, false_from_ne_true, cond_both}
 use Rattle.std.proofs.lemmas.List.Sorted.{IsPermutation-sym, IsPermutation-trans, IsPermutation-cons, IsPermutation-to_front, IsPermutation-map}
 use Rattle.sqlite.specs.Cast.{cast_row}
 use Rattle.sqlite.specs.Edit.{is_taken, with_rowid, next_rowid}
@@ -21,7 +24,6 @@ use Rattle.fax_core.specs.Ledger.{Ledger}
 use Rattle.fax_core.specs.Queue.{Queue, open_grants, grant_numbered, job_numbered}
 use Rattle.fax_core.specs.State.{is_of_number}
 use Rattle.fax_core.specs.declared.grants.Grant.{Grant}
-use Rattle.fax_value.specs.Name.{IsName}
 use Rattle.fax_schema.specs.declared.statements.TheConstants.{INSERT_GRANT, INSERT_HOLD, UPDATE_REPORT, SHUT_GRANT, DELETE_HOLD}
 use Rattle.fax_store.specs.Grant.{IsNewGrant, IsSameGrant, IsReport, SetsCalls, with_count, with_placed, with_shut, with_closed}
 use Rattle.fax_tables.specs.Place.{placed}
@@ -33,7 +35,7 @@ use Rattle.fax_tables.specs.Tables.{TablesMean, HaveJobs, IsLawfulGrant}
 use Rattle.fax_schema.specs.ByRowid.{IsByRowid}
 use Rattle.fax_schema.proofs.AppendLemmas.{appended}
 use Rattle.fax_store.proofs.ChangeLemmas.{all_mapped}
-use Rattle.fax_store.proofs.CountLemmas.{calls_reported, closed_count, has_placed, jobs_reported, jobs_shut, one, placed_count, turned}
+use Rattle.fax_store.proofs.CountLemmas.{calls_reported, closed_count, has_placed, jobs_reported, jobs_shut, one, one_less, one_more, placed_count}
 use Rattle.fax_store.proofs.CountLemmas.{shut as shut_at}
 use Rattle.fax_schema.proofs.ColumnLemmas.{kept_permuted, record_of}
 use Rattle.fax_schema.proofs.CompareLemmas.{are_equal, equal_texts, is_number, same_row, cast_int, cast_null}
@@ -47,16 +49,11 @@ use Rattle.sqlite.specs.declared.error.Error.{Error}
 use Rattle.sqlite_schema.specs.Rules.{agree}
 use Rattle.sqlite_value.specs.Keys.{first_key, plain}
 use Rattle.std.specs.Str.{bytes_eq}
-use Rattle.std.proofs.lemmas.Slice.Eq.{bytes_eq-Decides}
 use Rattle.fax_tables.proofs.KeyLemmas.{only_numbered, asked_is, not_asked, row_placed, all_placed, placed_permuted, free_of}
 use Rattle.fax_schema.proofs.SelectLemmas.{passes, show}
 use Rattle.fax_tables.proofs.TablesLemmas.{AreRecords, AreHeld, Parts, grants, holds, parts_of, means_of, calls_as, calls_changed, calls_of, held_as, grants_changed, holds_changed, by_rowid_put}
 use Rattle.fax_schema.proofs.UpdateLemmas.{gone_project, updated, deleted}
 use Rattle.fax_schema.proofs.WriteLemmas.{KeepsOthers, InsertsRow, unreferred, inserts}
-
-and_true : (b : Bool) → (b && true) ≡ b
-and_true true = refl
-and_true false = refl
 
 -- the row of a grant is stored as it is
 stored_grant : (g : Grant) → cast_row schema.grants (grant_row g) ≡ grant_row g
@@ -85,7 +82,7 @@ module _ (g : Grant) where
 
   -- the row of an open grant ends with a 0
   open_row : IsTrue g.is_open → grant_row g ≡ number g.number ∷ Null ∷ number g.job ∷ Text g.modem ∷ number g.first_page ∷ number g.last_page ∷ number (call_number g.call) ∷ number g.confirmed ∷ number 0 ∷ []
-  open_row is_open = ap (λ (b : Bool). number g.number ∷ Null ∷ number g.job ∷ Text g.modem ∷ number g.first_page ∷ number g.last_page ∷ number (call_number g.call) ∷ number g.confirmed ∷ number (if b then 0 else 1) ∷ []) is_open
+  open_row is_open = rw is_open refl
 
   module _ (old mid new : State) (m : Queue) (k : Ledger) (means : TablesMean old.now m k) where
     -- the text that holds inserts the grant's hold, with the next rowid
@@ -94,10 +91,6 @@ module _ (g : Grant) where
         let ran = runs_as INSERT_HOLD.now hold_params old mid our_tables means.schema _ insert_hold.is insert_hold.plain h.0 h.1 in
         inserts our_tables unreferred schema.holds.name 2 schema.holds.columns schema.holds.key schema.holds.primary schema.holds.uniques schema.holds.orders schema.holds.checks 2 refl old mid means.schema hold_params _ h.0
         hold_terms 4 (Null ∷ hold_columns g) (Int (next_rowid (old.now.trees holds_tree)) ∷ hold_columns g) refl (ap (with_rowid Chosen (old.now.trees holds_tree)) stored_hold) ran
-
-    -- it touches holds alone
-    pub hold_keeps : HasRun INSERT_HOLD.now hold_params old mid → KeepsOthers our_tables holds_tree old mid
-    hold_keeps h = (hold_inserted h).keeps
 
     -- its modem and its job hold it, and it is to be put yet
     held : HasRun INSERT_HOLD.now hold_params old mid → Parts mid.now m (g ∷ open_grants m) (calls_of m) k
@@ -138,24 +131,9 @@ module _ (g : Grant) where
 
     -- the calls to each number with this one
     counts_placed : (j : Job) → job_numbered g.job m ≡ Some j → IsTrue g.is_open → (dial : List ℕ) → with_count j.dial (calls_of m j.dial + 1) (calls_of m) dial ≡ calls_of (with_placed g m) dial
-    counts_placed j there is_open dial = by (bytes_eq dial j.dial) refl
-      where
-        of : Grant → Bool
-        of x = is_of_number dial (job_numbered x.job m)
-
-        more : calls_of (with_placed g m) dial ≡ one (bytes_eq j.dial dial) + calls_of m dial
-        more = placed_count of g m.grants ∙ ap₂ (λ b o. one (b && is_of_number dial o) + calls_of m dial) is_open there
-
-        by : (b : Bool) → bytes_eq dial j.dial ≡ b → with_count j.dial (calls_of m j.dial + 1) (calls_of m) dial ≡ calls_of (with_placed g m) dial
-        by true on =
-            let same : dial ≡ j.dial = (bytes_eq-Decides dial j.dial).0 on in
-            let back : bytes_eq j.dial dial ≡ true = (bytes_eq-Decides j.dial dial).1 (sym same) in
-            let total : calls_of (with_placed g m) dial ≡ 1 + calls_of m dial = more ∙ ap (λ b. one b + calls_of m dial) back in
-            ap (λ b. if b then calls_of m j.dial + 1 else calls_of m dial) on ∙ ap (λ d. calls_of m d + 1) (sym same) ∙ omega (arith, total)
-        by false off =
-            let back : bytes_eq j.dial dial ≡ false = turned j.dial dial ∙ off in
-            let total : calls_of (with_placed g m) dial ≡ 0 + calls_of m dial = more ∙ ap (λ b. one b + calls_of m dial) back in
-            ap (λ b. if b then calls_of m j.dial + 1 else calls_of m dial) off ∙ omega (arith, total)
+    counts_placed j there is_open =
+        one_more j.dial (calls_of m) (calls_of (with_placed g m)) (λ dial. placed_count (λ x. is_of_number dial (job_numbered x.job m)) g m.grants
+        ∙ ap₂ (λ b o. one (b && is_of_number dial o) + calls_of m dial) is_open there)
 
     -- once that is counted, the tables mean the queue with the grant
     pub grant_counted : (j : Job) → job_numbered g.job m ≡ Some j → IsTrue g.is_open → Parts new.now (with_placed g m) (open_grants (with_placed g m)) (calls_of m) k → (last : State) → SetsCalls new last (with_count j.dial (calls_of m j.dial + 1) (calls_of m))
@@ -178,17 +156,17 @@ module _ (g : Grant) where
     modem_agrees : (r : Row) (h : Grant) (id : ℤ) → drop 1 r ≡ hold_columns h → agree plain (1 ∷ []) r (1 ∷ []) (Int id ∷ hold_columns g) ≡ bytes_eq h.modem g.modem
     unfolding first_key
     modem_agrees [] h id is = absurd cc
-    modem_agrees (i ∷ columns) h id is = ap (λ rest. agree plain (1 ∷ []) (i ∷ rest) (1 ∷ []) (Int id ∷ hold_columns g)) is ∙ and_true (are_equal (Text h.modem) (Text g.modem)) ∙ equal_texts h.modem g.modem
+    modem_agrees (i ∷ columns) h id is = ap (λ rest. agree plain (1 ∷ []) (i ∷ rest) (1 ∷ []) (Int id ∷ hold_columns g)) is ∙ and-true (are_equal (Text h.modem) (Text g.modem)) ∙ equal_texts h.modem g.modem
 
     job_agrees : (r : Row) (h : Grant) (id : ℤ) → drop 1 r ≡ hold_columns h → agree plain (2 ∷ []) r (2 ∷ []) (Int id ∷ hold_columns g) ≡ (h.job == g.job)
     unfolding first_key
     job_agrees [] h id is = absurd cc
-    job_agrees (i ∷ columns) h id is = ap (λ rest. agree plain (2 ∷ []) (i ∷ rest) (2 ∷ []) (Int id ∷ hold_columns g)) is ∙ and_true (are_equal (number h.job) (number g.job)) ∙ is_number h.job g.job
+    job_agrees (i ∷ columns) h id is = ap (λ rest. agree plain (2 ∷ []) (i ∷ rest) (2 ∷ []) (Int id ∷ hold_columns g)) is ∙ and-true (are_equal (number h.job) (number g.job)) ∙ is_number h.job g.job
 
     number_agrees : (r : Row) (h : Grant) (id : ℤ) → drop 1 r ≡ hold_columns h → agree plain (3 ∷ []) r (3 ∷ []) (Int id ∷ hold_columns g) ≡ (h.number == g.number)
     unfolding first_key
     number_agrees [] h id is = absurd cc
-    number_agrees (i ∷ columns) h id is = ap (λ rest. agree plain (3 ∷ []) (i ∷ rest) (3 ∷ []) (Int id ∷ hold_columns g)) is ∙ and_true (are_equal (number h.number) (number g.number)) ∙ is_number h.number g.number
+    number_agrees (i ∷ columns) h id is = ap (λ rest. agree plain (3 ∷ []) (i ∷ rest) (3 ∷ []) (Int id ∷ hold_columns g)) is ∙ and-true (are_equal (number h.number) (number g.number)) ∙ is_number h.number g.number
 
     -- a hold of a modem and a job that hold none breaks no rule
     pub hold_goes : IsNewGrant g m → (e : Error) → Executes INSERT_HOLD.now hold_params old mid (Err e) → fault_of e ≡ Unavailable
@@ -214,10 +192,6 @@ module _ (g : Grant) where
 
 -- ---- a report
 
--- the first of the open grants
-opens : (x : Grant) (xs : List Grant) (b : Bool) → x.is_open ≡ b → filter (λ y. y.is_open) (x ∷ xs) ≡ (if b then x ∷ filter (λ y. y.is_open) xs else filter (λ y. y.is_open) xs)
-opens x xs b is = ap (λ c. if c then x ∷ filter (λ y. y.is_open) xs else filter (λ y. y.is_open) xs) is
-
 -- grants that changed in neither modem, job nor number, nor in being open
 held_mapped : (f : Grant → Grant) (gs : List Grant) → ((x : Grant) → Has gs x → ((f x).is_open ≡ x.is_open) × (hold_columns (f x) ≡ hold_columns x))
     → map hold_columns (filter (λ x. x.is_open) (map f gs)) ≡ map hold_columns (filter (λ x. x.is_open) gs)
@@ -225,10 +199,9 @@ held_mapped f [] same = refl
 held_mapped f (x ∷ xs) same =
     let first = same x (inl refl) in
     let rest = held_mapped f xs (λ y has. same y (inr has)) in
-    elim (cases_Bool x.is_open) [
-      | inl on ↦ ap (map hold_columns) (opens (f x) (map f xs) true (first.0 ∙ on)) ∙ ap₂ ◌∷◌ first.1 rest ∙ sym (ap (map hold_columns) (opens x xs true on))
-      | inr off ↦ ap (map hold_columns) (opens (f x) (map f xs) false (first.0 ∙ off)) ∙ rest ∙ sym (ap (map hold_columns) (opens x xs false off))
-    ]
+    let those = λ (ys : List Grant). filter (λ y. y.is_open) ys in
+    subst (λ b. map hold_columns (cond b (f x ∷ those (map f xs)) (those (map f xs))) ≡ map hold_columns (cond x.is_open (x ∷ those xs) (those xs))) (sym first.0)
+    (elim x.is_open as (λ b. map hold_columns (cond b (f x ∷ those (map f xs)) (those (map f xs))) ≡ map hold_columns (cond b (x ∷ those xs) (those xs))) [ true ↦ ap₂ ◌∷◌ first.1 rest | false ↦ rest ])
 
 module _ (g : Grant) where
   abbrev pub report_params : Row
@@ -239,60 +212,24 @@ module _ (g : Grant) where
 
   -- a report writes the row of the grant as it then is
   reported : (x : Grant) → x.number ≡ g.number → IsSameGrant x g → cast_row schema.grants (drop 1 (show grants_tree grant_tests report_project report_params (grant_row x))) ≡ grant_row g
-  reported x is same =
-      stored_grant (record g { number = x.number; job = x.job; modem = x.modem; first_page = x.first_page; last_page = x.last_page; is_open = x.is_open })
-      ∙ ap (λ n. grant_row (record g { number = n; job = x.job; modem = x.modem; first_page = x.first_page; last_page = x.last_page; is_open = x.is_open })) is
-      ∙ ap (λ j. grant_row (record g { job = j; modem = x.modem; first_page = x.first_page; last_page = x.last_page; is_open = x.is_open })) same.job
-      ∙ ap (λ n. grant_row (record g { modem = n; first_page = x.first_page; last_page = x.last_page; is_open = x.is_open })) same.modem
-      ∙ ap (λ n. grant_row (record g { first_page = n; last_page = x.last_page; is_open = x.is_open })) same.first_page
-      ∙ ap (λ n. grant_row (record g { last_page = n; is_open = x.is_open })) same.last_page
-      ∙ ap (λ b. grant_row (record g { is_open = b })) same.is_open
-
-  -- a grant is put in the place of the one of its number, and each other stays
-  put_by : (x : Grant) (b : Bool) → (x.number == g.number) ≡ b → put x ≡ (if b then g else x)
-  put_by x b is = ap (λ c. if c then g else x) is
+  reported x is same = rw (is, same.job, same.modem, same.first_page, same.last_page, same.is_open) (stored_grant g)
 
   -- a grant that is put in place keeps the rowid
   put_number : (x : Grant) → rowid (grant_row (put x)) ≡ rowid (grant_row x)
-  put_number x = elim (cases_Bool (x.number == g.number)) [
-    | inl here ↦ ap (λ y. rowid (grant_row y)) (put_by x true here) ∙ ap number (sym (eqb-true x.number g.number here))
-    | inr off ↦ ap (λ y. rowid (grant_row y)) (put_by x false off)
-  ]
+  put_number x = cond_both (x.number == g.number) g x (λ y. rowid (grant_row y) ≡ rowid (grant_row x)) (λ here. ap number (sym (eqb-true x.number g.number here))) (λ _. refl)
 
   -- a lawful grant stays lawful under a report of at most 9999 pages
   report_lawful : g.confirmed ≤ 9999 → (x : Grant) → x.number ≡ g.number → IsSameGrant x g → IsLawfulGrant x → IsLawfulGrant g
-  report_lawful few x is same was = record {
-    limits = record {
-      number = subst (λ n. (1 ≤ n) × (n ≤ 999999999)) is was.limits.number;
-      job = subst (λ n. (1 ≤ n) × (n ≤ 999999)) same.job was.limits.job;
-      pages = (subst (λ n. 1 ≤ n) same.first_page was.limits.pages.0, subst (λ n. n ≤ 9999) same.first_page was.limits.pages.1, subst (λ n. n ≤ 9999) same.last_page was.limits.pages.2, few);
-    };
-    modem = subst IsName same.modem was.modem;
-  }
+  report_lawful few x is same was = record { limits = omega (arith, was.limits); modem = rw same.modem at was.modem }
 
   -- each grant stays lawful, whether it is the one reported or not
   put_lawful : g.confirmed ≤ 9999 → (x : Grant) → (x.number ≡ g.number → IsSameGrant x g) → IsLawfulGrant x → IsLawfulGrant (put x)
-  put_lawful few x same was = elim (cases_Bool (x.number == g.number)) [
-    | inl here ↦ (let is = eqb-true x.number g.number here in subst IsLawfulGrant (sym (put_by x true here)) (report_lawful few x is (same is) was))
-    | inr off ↦ subst IsLawfulGrant (sym (put_by x false off)) was
-  ]
+  put_lawful few x same was = cond_both (x.number == g.number) g x IsLawfulGrant (λ here. let is = eqb-true x.number g.number here in report_lawful few x is (same is) was) (λ _. was)
 
   -- each stays open or shut, with the same columns of a hold
   put_held : (x : Grant) → (x.number ≡ g.number → IsSameGrant x g) → ((put x).is_open ≡ x.is_open) × (hold_columns (put x) ≡ hold_columns x)
-  put_held x same = elim (cases_Bool (x.number == g.number)) [
-    | inl here ↦ (let is = eqb-true x.number g.number here in let as_it = same is in (
-      ap (λ (y : Grant). y.is_open) (put_by x true here) ∙ sym as_it.is_open,
-      ap hold_columns (put_by x true here) ∙ sym (same_row (ap Text as_it.modem) (same_row (ap number as_it.job) (same_row (ap number is) refl))),
-    ))
-    | inr off ↦ (ap (λ (y : Grant). y.is_open) (put_by x false off), ap hold_columns (put_by x false off))
-  ]
-
-  -- each stays open or shut, and of its job
-  same_held : (x : Grant) → (x.number ≡ g.number → IsSameGrant x g) → ((put x).is_open ≡ x.is_open) × ((put x).job ≡ x.job)
-  same_held x same = elim (cases_Bool (x.number == g.number)) [
-    | inl here ↦ (let as_it = same (eqb-true x.number g.number here) in (ap (λ (y : Grant). y.is_open) (put_by x true here) ∙ sym as_it.is_open, ap (λ (y : Grant). y.job) (put_by x true here) ∙ sym as_it.job))
-    | inr off ↦ (ap (λ (y : Grant). y.is_open) (put_by x false off), ap (λ (y : Grant). y.job) (put_by x false off))
-  ]
+  put_held x same = cond_both (x.number == g.number) g x (λ y. (y.is_open ≡ x.is_open) × (hold_columns y ≡ hold_columns x))
+      (λ here. let is = eqb-true x.number g.number here in let as_it = same is in (sym as_it.is_open, rw (is, as_it.modem, as_it.job) refl)) (λ _. (refl, refl))
 
   module _ (old new : State) (m : Queue) (k : Ledger) (means : TablesMean old.now m k) where
     -- the queue's grant of this number is the same but for what a report tells
@@ -308,16 +245,16 @@ module _ (g : Grant) where
         let ran = runs_as UPDATE_REPORT.now report_params old new our_tables means.schema _ update_report.is update_report.plain h.0 h.1 in
         let done = updated schema.grants.name 1 schema.grants.columns schema.grants.key schema.grants.primary schema.grants.uniques schema.grants.orders schema.grants.checks 1 refl old new means.schema refl means.ordered.grants
         grant_tests report_project report_params (λ r. refl) _ h.0 grant_row put m.grants means.grants put_number
-        (λ x has on. let is = is_number x on in reported x is (same_grant report x has is) ∙ sym (ap grant_row (put_by x true (eq-eqb x.number g.number is))))
-        (λ x has off. sym (ap grant_row (put_by x false (is_other x off))))
+        (λ x has on. let is = is_number x on in reported x is (same_grant report x has is) ∙ rw (eq-eqb x.number g.number is) refl)
+        (λ x has off. rw (is_other x off) refl)
         ran in
         let now : AreRecords grant_row IsLawfulGrant (new.now.trees grants_tree) (map put m.grants) = record { is = done.1; ordered = done.2; lawful = all_mapped IsLawfulGrant put m.grants (λ x has. put_lawful few x (same_grant report x has)) means.lawful.grants } in
         let after = grants_changed old new m (open_grants m) (calls_of m) k (parts_of old.now m k means) done.0 (map put m.grants) now in
+        let as_it = λ (x : Grant) (has : Has m.grants x). put_held x (same_grant report x has) in
         let stand : AreHeld (new.now.trees holds_tree) (open_grants (with_grant g m)) = record {
-          is = subst (λ columns. IsPermutation columns (map (drop 1) (new.now.trees holds_tree))) (sym (held_mapped put m.grants (λ x has. put_held x (same_grant report x has)))) (after.says holds).is;
+          is = subst (λ columns. IsPermutation columns (map (drop 1) (new.now.trees holds_tree))) (sym (held_mapped put m.grants as_it)) (after.says holds).is;
           ordered = (after.says holds).ordered;
         } in
-        let as_it = λ (x : Grant) (has : Has m.grants x). same_held x (same_grant report x has) in
         let moved = with_grant g m in (
           means_of new.now moved k (jobs_reported put m as_it means.held)
               (calls_as new.now moved (open_grants moved) (calls_of m) (calls_of moved) k (calls_reported put m as_it) (held_as new.now moved (open_grants m) (open_grants moved) (calls_of m) k stand after)),
@@ -330,10 +267,6 @@ map_same : {X : Type 0} (f g : X → X) (xs : List X) → ((x : X) → Has xs x 
 map_same f g [] same = refl
 map_same f g (x ∷ xs) same = ap₂ ◌∷◌ (same x (inl refl)) (map_same f g xs (λ y has. same y (inr has)))
 
-map_none : {X : Type 0} (xs : List X) → map (λ x. x) xs ≡ xs
-map_none [] = refl
-map_none (x ∷ xs) = ap (λ rest. x ∷ rest) (map_none xs)
-
 module _ (n : ℕ) where
   abbrev pub close_params : Row
   close_params = number n ∷ []
@@ -344,66 +277,47 @@ module _ (n : ℕ) where
   abbrev shut : Grant → Grant
   shut = shut_at n
 
-  -- the grant of the number is shut, and each other stays
-  shut_by : (x : Grant) (b : Bool) → (x.number == n) ≡ b → shut x ≡ (if b then closed x else x)
-  shut_by x b is = ap (λ c. if c then closed x else x) is
-
   -- a grant keeps its rowid, shut or not
   shut_id : (x : Grant) → rowid (grant_row (shut x)) ≡ rowid (grant_row x)
-  shut_id x = elim (cases_Bool (x.number == n)) [ inl here ↦ ap (λ y. rowid (grant_row y)) (shut_by x true here) | inr off ↦ ap (λ y. rowid (grant_row y)) (shut_by x false off) ]
+  shut_id x = cond_both (x.number == n) (closed x) x (λ y. rowid (grant_row y) ≡ rowid (grant_row x)) (λ _. refl) (λ _. refl)
 
   -- a lawful grant stays lawful, shut or not
   shut_lawful : (x : Grant) → IsLawfulGrant x → IsLawfulGrant (shut x)
-  shut_lawful x was = elim (cases_Bool (x.number == n)) [
-    | inl here ↦ subst IsLawfulGrant (sym (shut_by x true here)) (record { limits = record { number = was.limits.number; job = was.limits.job; pages = was.limits.pages }; modem = was.modem })
-    | inr off ↦ subst IsLawfulGrant (sym (shut_by x false off)) was
-  ]
+  shut_lawful x was = cond_both (x.number == n) (closed x) x IsLawfulGrant
+      (λ _. record { limits = record { number = was.limits.number; job = was.limits.job; pages = was.limits.pages }; modem = was.modem }) (λ _. was)
 
   abbrev but_this : List Grant → List Grant
   but_this = filter (λ x. not (x.number == n))
 
-  -- the first of a list is left out where it has the number
-  but_first : (x : Grant) (xs : List Grant) (b : Bool) → (x.number == n) ≡ b → but_this (x ∷ xs) ≡ (if not b then x ∷ but_this xs else but_this xs)
-  but_first x xs b is = ap (λ c. if not c then x ∷ but_this xs else but_this xs) is
-
   -- the open grants but this one
   open_shut : (gs : List Grant) → filter (λ x. x.is_open) (map shut gs) ≡ but_this (filter (λ x. x.is_open) gs)
   open_shut [] = refl
-  open_shut (x ∷ xs) = elim (cases_Bool (x.number == n)) [
-    | inl here ↦ (opens (shut x) (map shut xs) false (ap (λ (y : Grant). y.is_open) (shut_by x true here)) ∙ open_shut xs ∙ elim (cases_Bool x.is_open) [
-      | inl on ↦ sym (ap but_this (opens x xs true on) ∙ but_first x (filter (λ y. y.is_open) xs) true here)
-      | inr off ↦ sym (ap but_this (opens x xs false off))
-    ])
-    | inr other ↦ (ap (λ y. filter (λ z. z.is_open) (y ∷ map shut xs)) (shut_by x false other) ∙ elim (cases_Bool x.is_open) [
-      | inl on ↦ opens x (map shut xs) true on ∙ ap (λ rest. x ∷ rest) (open_shut xs) ∙ sym (ap but_this (opens x xs true on) ∙ but_first x (filter (λ y. y.is_open) xs) false other)
-      | inr off ↦ opens x (map shut xs) false off ∙ open_shut xs ∙ sym (ap but_this (opens x xs false off))
-    ])
-  ]
+  open_shut (x ∷ xs) =
+      let open_ones = filter (λ (y : Grant). y.is_open) xs in
+      let rest = but_this open_ones in
+      rw (open_shut xs) (elim (cases_Bool (x.number == n)) [
+        | inl here ↦ rw here (elim x.is_open as (λ o. rest ≡ but_this (cond o (x ∷ open_ones) open_ones)) [ true ↦ rw here refl | false ↦ refl ])
+        | inr off ↦ rw off (elim x.is_open as (λ o. cond o (x ∷ rest) rest ≡ but_this (cond o (x ∷ open_ones) open_ones)) [ true ↦ rw off refl | false ↦ refl ])
+      ])
 
   module _ (m : Queue) (rise : IsTable (map grant_row m.grants)) where
     -- a grant of this number is the one that the number finds
     only : (x : Grant) → Has m.grants x → x.number ≡ n → grant_numbered n m ≡ Some x
     only x has is = subst (λ i. find (λ (y : Grant). y.number == i) m.grants ≡ Some x) is (only_numbered grant_row (λ (y : Grant). y.number) (λ y. refl) m.grants x rise has)
 
-    same_some : (a b : Grant) → ◌≡◌ {A = Option Grant} (Some a) (Some b) → a ≡ b
-    same_some a b e = cc
-
     -- shutting each grant of the number shuts the one that the number finds, if any
     closed_by : (o : Option Grant) → grant_numbered n m ≡ o → map shut m.grants ≡ (with_shut o m).grants
     closed_by None none =
-        map_same shut (λ x. x) m.grants (λ x has. elim (cases_Bool (x.number == n)) [
-          | inl here ↦ absurd (let no = sym none ∙ only x has (eqb-true x.number n here) in cc)
-          | inr off ↦ shut_by x false off
-        ]) ∙ map_none m.grants
-    closed_by (Some g) one =
-        let found = has_found (λ (y : Grant). y.number == n) m.grants g one in
-        let is : g.number ≡ n = eqb-true g.number n found.1 in
-        map_same shut (λ x. if x.number == g.number then closed g else x) m.grants (λ x has. elim (cases_Bool (x.number == n)) [
-          | inl here ↦
-              (let it : x ≡ g = same_some x g (sym (only x has (eqb-true x.number n here)) ∙ one) in
-              shut_by x true here ∙ ap closed it ∙ sym (ap (λ i. if x.number == i then closed g else x) is ∙ ap (λ b. if b then closed g else x) here))
-          | inr off ↦ shut_by x false off ∙ sym (ap (λ i. if x.number == i then closed g else x) is ∙ ap (λ b. if b then closed g else x) off)
-        ])
+        map_same shut (λ x. x) m.grants (λ x has. cond_both (x.number == n) (closed x) x (λ y. y ≡ x)
+        (λ here. absurd (let no = sym none ∙ only x has (eqb-true x.number n here) in cc)) (λ _. refl)) ∙ map-id m.grants
+    closed_by (Some g) its =
+        let is = eqb-true g.number n (has_found (λ (y : Grant). y.number == n) m.grants g its).1 in
+        map_same shut (λ x. if x.number == g.number then closed g else x) m.grants (λ x has.
+        let same : (x.number == g.number) ≡ (x.number == n) = ap (λ i. x.number == i) is in
+        rw same (elim (cases_Bool (x.number == n)) [
+          | inl here ↦ rw here (ap closed (same_Some x g (sym (only x has (eqb-true x.number n here)) ∙ its)))
+          | inr off ↦ rw off refl
+        ]))
 
     -- shutting what was found changes the grants alone
     as_closed : (o : Option Grant) → record m { grants = (with_shut o m).grants } ≡ with_shut o m
@@ -426,14 +340,10 @@ module _ (n : ℕ) where
         let ran = runs_as SHUT_GRANT.now close_params old mid our_tables means.schema _ shut_grant.is shut_grant.plain h.0 h.1 in
         let done = updated schema.grants.name 1 schema.grants.columns schema.grants.key schema.grants.primary schema.grants.uniques schema.grants.orders schema.grants.checks 1 refl old mid means.schema refl means.ordered.grants
         grant_tests shut_project close_params (λ r. refl) _ h.0 grant_row shut m.grants means.grants shut_id
-        (λ x has on. stored_grant (closed x) ∙ sym (ap grant_row (shut_by x true (eq-eqb x.number n (is_one x on)))))
-        (λ x has off. sym (ap grant_row (shut_by x false (is_other x off))))
+        (λ x has on. stored_grant (closed x) ∙ rw (eq-eqb x.number n (is_one x on)) refl)
+        (λ x has off. rw (is_other x off) refl)
         ran in
         (done.0, record { is = done.1; ordered = done.2; lawful = all_mapped IsLawfulGrant shut m.grants (λ x has. shut_lawful x) means.lawful.grants })
-
-    -- it touches grants alone
-    pub shut_keeps : HasRun SHUT_GRANT.now close_params old mid → KeepsOthers our_tables grants_tree old mid
-    shut_keeps h = (grants_shut h).0
 
     -- a hold passes where its grant is the one of this number
     is_held : (r : Row) → passes holds_tree held_tests gone_project close_params r ≡ (are_equal (column (drop 1 r) 2) (number n) && true)
@@ -450,7 +360,7 @@ module _ (n : ℕ) where
         held_tests gone_project close_params (λ r. refl) _ more.0 ran in
         let others = λ (columns : Row). not (are_equal (column columns 2) (number n) && true) in
         let left : filter (λ x. others (hold_columns x)) (open_grants m) ≡ open_grants after =
-        filter_same (λ x. others (hold_columns x)) (λ x. not (x.number == n)) (open_grants m) (all_of (λ x. others (hold_columns x) ≡ not (x.number == n)) (λ x. ap not (and_true (are_equal (number x.number) (number n)) ∙ is_number x.number n)) (open_grants m))
+        filter_same (λ x. others (hold_columns x)) (λ x. not (x.number == n)) (open_grants m) (all_of (λ x. others (hold_columns x) ≡ not (x.number == n)) (λ x. ap not (and-true (are_equal (number x.number) (number n)) ∙ is_number x.number n)) (open_grants m))
         ∙ sym (open_shut m.grants) in
         let kept = kept_permuted hold_columns (λ r. not (passes holds_tree held_tests gone_project close_params r)) others (λ r. ap not (is_held r)) (mid.now.trees holds_tree) (open_grants m) (was.says holds).is in
         let now : AreHeld (new.now.trees holds_tree) (open_grants after) = record {
@@ -461,24 +371,9 @@ module _ (n : ℕ) where
 
     -- the calls to each number without this one
     counts_closed : (g : Grant) (j : Job) → grant_numbered n m ≡ Some g → g.is_open ≡ true → job_numbered g.job m ≡ Some j → (dial : List ℕ) → with_count j.dial (calls_of m j.dial - 1) (calls_of m) dial ≡ calls_of after dial
-    counts_closed g j found on there dial = by (bytes_eq dial j.dial) refl
-      where
-        of : Grant → Bool
-        of x = is_of_number dial (job_numbered x.job m)
-
-        less : calls_of after dial + one (bytes_eq j.dial dial) ≡ calls_of m dial
-        less = ap (λ o. calls_of after dial + one (is_of_number dial o)) (sym there) ∙ closed_count n of g m.grants (subst IsTable means.grants means.ordered.grants.rise) found on
-
-        by : (b : Bool) → bytes_eq dial j.dial ≡ b → with_count j.dial (calls_of m j.dial - 1) (calls_of m) dial ≡ calls_of after dial
-        by true here =
-            let same : dial ≡ j.dial = (bytes_eq-Decides dial j.dial).0 here in
-            let back : bytes_eq j.dial dial ≡ true = (bytes_eq-Decides j.dial dial).1 (sym same) in
-            let total : calls_of after dial + 1 ≡ calls_of m dial = ap (λ b. calls_of after dial + one b) (sym back) ∙ less in
-            ap (λ b. if b then calls_of m j.dial - 1 else calls_of m dial) here ∙ ap (λ d. calls_of m d - 1) (sym same) ∙ omega (arith, total)
-        by false off =
-            let back : bytes_eq j.dial dial ≡ false = turned j.dial dial ∙ off in
-            let total : calls_of after dial + 0 ≡ calls_of m dial = ap (λ b. calls_of after dial + one b) (sym back) ∙ less in
-            ap (λ b. if b then calls_of m j.dial - 1 else calls_of m dial) off ∙ omega (arith, total)
+    counts_closed g j found on there =
+        one_less j.dial (calls_of m) (calls_of after) (λ dial. ap (λ o. calls_of after dial + one (is_of_number dial o)) (sym there)
+        ∙ closed_count n (λ x. is_of_number dial (job_numbered x.job m)) g m.grants (subst IsTable means.grants means.ordered.grants.rise) found on)
 
     -- once it is taken off, the tables mean the queue without the hold
     pub close_counted : (g : Grant) (j : Job) → grant_numbered n m ≡ Some g → g.is_open ≡ true → job_numbered g.job m ≡ Some j → Parts new.now after (open_grants after) (calls_of m) k → (last : State)
@@ -491,12 +386,8 @@ module _ (n : ℕ) where
 
 -- a grant that is open no more changes nothing where it is closed
 pub closed_already : (n : ℕ) (g : Grant) (m : Queue) → IsTable (map grant_row m.grants) → grant_numbered n m ≡ Some g → g.is_open ≡ false → with_closed n m ≡ m
-closed_already n g m rise found off = sym (closed_is n m rise) ∙ ap (λ gs. record m { grants = gs }) (map_same (shut_at n) (λ x. x) m.grants each ∙ map_none m.grants)
+closed_already n g m rise found off = sym (closed_is n m rise) ∙ ap (λ gs. record m { grants = gs }) (map_same (shut_at n) (λ x. x) m.grants each ∙ map-id m.grants)
   where
     each : (x : Grant) → Has m.grants x → shut_at n x ≡ x
-    each x has = elim (cases_Bool (x.number == n)) [
-      | inl here ↦
-          (let it : x ≡ g = same_some n m rise x g (sym (only n m rise x has (eqb-true x.number n here)) ∙ found) in
-          ap (λ b. if b then record x { is_open = false } else x) here ∙ ap (λ b. record x { is_open = b }) (sym (ap (λ (y : Grant). y.is_open) it ∙ off)))
-      | inr other ↦ ap (λ b. if b then record x { is_open = false } else x) other
-    ]
+    each x has = cond_both (x.number == n) (closed n x) x (λ y. y ≡ x)
+        (λ here. let it = same_Some x g (sym (only n m rise x has (eqb-true x.number n here)) ∙ found) in let shut : x.is_open ≡ false = ap (λ (y : Grant). y.is_open) it ∙ off in rw (← shut) refl) (λ _. refl)

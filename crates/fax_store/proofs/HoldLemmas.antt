@@ -1,34 +1,30 @@
 -- What the text on holds reads.
-use Rattle.std.proofs.Common.{◌≡◌, inl, inr, ℕ, List, [], ◌∷◌, map, filter, drop, Bool, true, false, not, ◌&&◌, Option, Some, None, MatchOption, refl, sym, ap, ap₂, subst, arith, ◌∙◌}
-use Rattle.std.specs.Prelude.{find}
+use Rattle.std.proofs.Common.{◌≡◌, ℕ, List, [], ◌∷◌, map, filter, drop, true, false, not, ◌&&◌, Option, Some, None, MatchOption, refl, sym, ap, ap₂, subst, arith, ◌∙◌}
+use Rattle.fax_store.proofs.KeptLemmas.{find_none, find_some, one_row}
+use Rattle.std.proofs.Math.Bool.{and-true}
 use Rattle.std.specs.Option.{option_map}
-use Rattle.std.specs.Ordering.{is_eq, is_ne, nat_cmp}
+use Rattle.std.specs.Ordering.{is_eq, nat_cmp}
 use Rattle.std.specs.Str.{bytes_eq}
-use Rattle.std.specs.declared.cmp.Ordering.{Ordering}
-use Rattle.std.specs.declared.cmp.Ordering.TheVariants.{Less, Equal, Greater}
 use Rattle.std.specs.List.Sorted.{IsPermutation}
-use Rattle.std.proofs.lemmas.Bool.{and_parts, both_ways, cases_Bool, not-true}
+use Rattle.std.proofs.lemmas.Bool.{and_parts, both_ways, not-true}
 use Rattle.std.proofs.lemmas.Slice.Eq.{bytes_eq-Decides}
 use Rattle.sqlite.specs.Collation.TheVariants.{Binary}
 use Rattle.sqlite.specs.Effect.{Database, IsDatabase}
 use Rattle.sqlite.specs.Order.{Row, column}
 use Rattle.sqlite.specs.State.{State}
-use Rattle.sqlite.specs.Tree.{rowid}
 use Rattle.sqlite.specs.declared.types.Value.{Value}
 use Rattle.sqlite.specs.declared.types.Value.TheVariants.{Null, Int, Real, Text, Blob}
 use Rattle.sqlite.proofs.Callers.{reads_as}
 use Rattle.sqlite_rules.specs.Lists.{Has}
 use Rattle.sqlite_trees.specs.declared.store.Store.{Ghosts}
-use Rattle.sqlite_rules.proofs.ListLemmas.{all_has, some_from, has_found}
-use Rattle.sqlite_rules.proofs.PlaceLemmas.{tied_same}
-use Rattle.sqlite_rules.proofs.TableLemmas.{int_is}
-use Rattle.sqlite_schema.specs.Rules.{Keeps, agree, differ, equal, clashes}
+use Rattle.sqlite_rules.proofs.ListLemmas.{all_has, has_found}
+use Rattle.sqlite_schema.specs.Rules.{Keeps, equal, clashes}
 use Rattle.sqlite_schema.specs.declared.schema.Constraint.TheVariants.{Unique}
 use Rattle.sqlite_sql.specs.Ops.{binary, is_null}
 use Rattle.sqlite_sql.specs.Term.{Term}
-use Rattle.sqlite_sql.specs.declared.ops.CompareOp.TheVariants.{Eq, Ne}
+use Rattle.sqlite_sql.specs.declared.ops.CompareOp.TheVariants.{Eq}
 use Rattle.sqlite_value.specs.Keys.{plain}
-use Rattle.sqlite_value.specs.Order.{class, value_cmp}
+use Rattle.sqlite_value.specs.Order.{class}
 use Rattle.sqlite_value.proofs.KeyLemmas.{first_key-plain}
 use Rattle.sqlite_value.proofs.OrderLemmas.{value_cmp-apart}
 use Rattle.fax_core.specs.Machine.{held_by}
@@ -59,71 +55,18 @@ use Rattle.fax_tables.specs.declared.grants.Hold.{Hold}
 -- ---- a modem stands in one row
 
 module _ (db : Database) (has : db.schema ≡ our_tables) (sound : IsDatabase db) (by : IsByRowid (db.trees holds_tree)) where
-  -- the rules of uniqueness hold
-  keeps : Keeps Unique our_tables db.trees
-  keeps = subst (λ s. Keeps Unique s db.trees) has (sound.obeys.rules Unique)
-
   -- no row of holds clashes with another in its modem
   no_clash : (r : Row) → Has (db.trees holds_tree) r → clashes plain (1 ∷ []) (db.trees holds_tree) r ≡ false
-  no_clash r there = not-true _ (and_parts (not (clashes plain (1 ∷ []) (db.trees holds_tree) r)) _ (all_has _ (db.trees holds_tree) r keeps.1.1.0 there)).0
+  no_clash r there =
+      let keeps : Keeps Unique our_tables db.trees = subst (λ s. Keeps Unique s db.trees) has (sound.obeys.rules Unique) in
+      not-true _ (and_parts (not (clashes plain (1 ∷ []) (db.trees holds_tree) r)) _ (all_has _ (db.trees holds_tree) r keeps.1.1.0 there)).0
 
-  module _ (modem : List ℕ) (r s : Row) (there : Has (db.trees holds_tree) r) (also : Has (db.trees holds_tree) s) (of_r : column r 1 ≡ Text modem) (of_s : column s 1 ≡ Text modem) where
-    -- rows of the same modem agree in it
-    agrees : agree plain (1 ∷ []) s (1 ∷ []) r ≡ true
-    agrees =
-        ap (λ key. equal key.collation (column s 1) (column r 1) && true) first_key-plain
-        ∙ ap₂ (λ a b. equal Binary a b && true) of_s of_r
-        ∙ ap (λ b. b && true) (equal_texts modem modem ∙ (bytes_eq-Decides modem modem).1 refl)
-
-    -- no rowid is NULL
-    whole : (x : Row) → Has (db.trees holds_tree) x → is_null (rowid x) ≡ false
-    whole x has = ap is_null (int_is (rowid x) (all_has _ (db.trees holds_tree) x by.integers has))
-
-    -- rowids differ where they don't compare as equal
-    differs : differ (rowid s) (rowid r) ≡ is_ne (value_cmp (rowid s) (rowid r))
-    differs = compared Ne (rowid s) (rowid r) (whole s also) (whole r there)
-
-    -- two rows of the same modem don't differ in the rowid
-    apart : is_ne (value_cmp (rowid s) (rowid r)) ≡ true → ⊥
-    apart other = both_ways _ (no_clash r there) (some_from (λ o. agree plain (1 ∷ []) o (1 ∷ []) r && differ (rowid o) (rowid r)) (db.trees holds_tree) s also (rw (agrees, differs, other) refl))
-
-    -- so they are one, however their rowids compare
-    by_order : (o : Ordering) → value_cmp (rowid s) (rowid r) ≡ o → s ≡ r
-    by_order Less e = absurd (apart (ap is_ne e))
-    by_order Equal e = tied_same (db.trees holds_tree) s r by.rise also there e
-    by_order Greater e = absurd (apart (ap is_ne e))
-
-    -- a modem stands in one row of holds
-    pub one_of_modem : s ≡ r
-    one_of_modem = by_order (value_cmp (rowid s) (rowid r)) refl
+  -- a modem stands in one row of holds
+  pub one_of_modem : (modem : List ℕ) (r s : Row) → Has (db.trees holds_tree) r → Has (db.trees holds_tree) s → column r 1 ≡ Text modem → column s 1 ≡ Text modem → s ≡ r
+  one_of_modem modem r s there also of_r of_s = one_row (db.trees holds_tree) by (1 ∷ []) r s there also (no_clash r there) (ap (λ key. equal key.collation (column s 1) (column r 1) && true) first_key-plain
+      ∙ ap₂ (λ a b. equal Binary a b && true) of_s of_r ∙ ap (λ b. b && true) (equal_texts modem modem ∙ (bytes_eq-Decides modem modem).1 refl))
 
 -- ---- the hold of a modem
-
-and_true : (b : Bool) → (b && true) ≡ b
-and_true true = refl
-and_true false = refl
-
--- where none passes, none is found
-find_none : {X : Type 0} (q : X → Bool) (xs : List X) → ((x : X) → Has xs x → q x ≡ false) → find q xs ≡ None
-find_none q [] none = refl
-find_none q (x ∷ xs) none = rw (none x (inl refl)) (find_none q xs (λ y has. none y (inr has)))
-
--- where one passes, some is found
-found_off : {X : Type 0} (q : X → Bool) (xs : List X) (x : X) → Has xs x → q x ≡ true → find q xs ≡ None → ⊥
-found_off q [] x has on none = has
-found_off q (y ∷ ys) x (inl is) on none = absurd (let no = rw (ap q (sym is) ∙ on) at none in cc)
-found_off q (y ∷ ys) x (inr more) on none = elim (cases_Bool (q y)) [
-  | inl here ↦ absurd (let no = rw here at none in cc)
-  | inr off ↦ found_off q ys x more on (rw off at none)
-]
-
--- where one passes, there is one that is found
-find_some : {X : Type 0} (q : X → Bool) (xs : List X) (x : X) → Has xs x → q x ≡ true → (y : X) × (find q xs ≡ Some y)
-find_some {X} q xs x has on = by (find q xs) refl
-  where
-    by : (o : Option X) → find q xs ≡ o → (y : X) × (find q xs ≡ Some y)
-    by None none = absurd (found_off q xs x has on none)
-    by (Some y) one = (y, one)
 
 -- the second column is the first behind the rowid
 second : (r : Row) → column r 1 ≡ column (drop 1 r) 0
@@ -156,7 +99,7 @@ module _ (modem : List ℕ) where
   -- the row that passes is that of the grant which the modem holds
   is_asked : (project : List Term) (r : Row) (g : Grant) → drop 1 r ≡ hold_columns g → passes holds_tree hold_tests project params r ≡ bytes_eq g.modem modem
   is_asked project [] g is = absurd cc
-  is_asked project (i ∷ columns) g is = ap (λ rest. passes holds_tree hold_tests project params (i ∷ rest)) is ∙ and_true (are_equal (Text g.modem) (Text modem)) ∙ equal_texts g.modem modem
+  is_asked project (i ∷ columns) g is = ap (λ rest. passes holds_tree hold_tests project params (i ∷ rest)) is ∙ and-true (are_equal (Text g.modem) (Text modem)) ∙ equal_texts g.modem modem
 
   -- the row of a hold is shown as its grant and job
   shown_as : (r : Row) (g : Grant) → drop 1 r ≡ hold_columns g → show holds_tree hold_tests hold_project params r ≡ hold_shown g

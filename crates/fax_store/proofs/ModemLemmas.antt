@@ -1,9 +1,9 @@
 -- What the texts on the modems that are down read and write.
-use Rattle.std.proofs.Common.{◌≡◌, ℕ, ℤ, List, [], ◌∷◌, ◌++◌, if◌then◌else◌, map, filter, drop, Bool, true, false, not, ◌&&◌, Option, Some, None, Err, is_some, MatchOption, refl, sym, ap, subst, ◌∙◌}
+use Rattle.std.proofs.Common.{◌≡◌, ℕ, ℤ, List, [], ◌∷◌, ◌++◌, if◌then◌else◌, map, filter, drop, true, false, not, Option, Some, None, Err, is_some, MatchOption, refl, sym, ap, subst, ◌∙◌}
+use Rattle.fax_store.proofs.CountLemmas.{turned}
+use Rattle.std.proofs.Math.Bool.{and-true}
 use Rattle.std.specs.Str.{bytes_eq}
 use Rattle.std.specs.List.Sorted.{IsPermutation}
-use Rattle.std.proofs.lemmas.Slice.Eq.{bytes_eq-Decides}
-use Rattle.std.specs.Cmp as cmp
 use Rattle.sqlite.specs.Cast.{cast_row}
 use Rattle.sqlite.specs.Edit.{with_rowid, next_rowid}
 use Rattle.sqlite.specs.Order.{Row}
@@ -42,13 +42,6 @@ use Rattle.fax_schema.proofs.UpdateLemmas.{gone_project, deleted}
 use Rattle.fax_schema.proofs.WriteLemmas.{KeepsOthers, unreferred, inserts}
 
 -- texts are equal either way round
-turned : (s t : List ℕ) → bytes_eq s t ≡ bytes_eq t s
-turned s t = cmp.both_ways (bytes_eq s t) (bytes_eq t s) (λ h. (bytes_eq-Decides t s).1 (sym ((bytes_eq-Decides s t).0 h))) (λ h. (bytes_eq-Decides s t).1 (sym ((bytes_eq-Decides t s).0 h)))
-
-and_true : (b : Bool) → (b && true) ≡ b
-and_true true = refl
-and_true false = refl
-
 module _ (modem : List ℕ) where
   abbrev pub params : Row
   params = Text modem ∷ []
@@ -56,7 +49,7 @@ module _ (modem : List ℕ) where
   -- the rows that pass are those of the modem
   is_asked : (project : List _) (r : Row) (name : List ℕ) → drop 1 r ≡ down_columns name → passes down_tree down_tests project params r ≡ bytes_eq modem name
   is_asked project [] name is = absurd cc
-  is_asked project (i ∷ columns) name is = ap (λ rest. passes down_tree down_tests project params (i ∷ rest)) is ∙ and_true (are_equal (Text name) (Text modem)) ∙ equal_texts name modem ∙ turned name modem
+  is_asked project (i ∷ columns) name is = ap (λ rest. passes down_tree down_tests project params (i ∷ rest)) is ∙ and-true (are_equal (Text name) (Text modem)) ∙ equal_texts name modem ∙ turned name modem
 
   module _ (old new : State) (m : Queue) (k : Ledger) (means : TablesMean old.now m k) where
     -- the rows of the modems that are down are theirs, in any order
@@ -109,7 +102,7 @@ module _ (modem : List ℕ) where
     agrees : (r : Row) (name : List ℕ) (id : ℤ) → drop 1 r ≡ down_columns name → agree plain (1 ∷ []) r (1 ∷ []) (Int id ∷ down_columns modem) ≡ bytes_eq name modem
     unfolding first_key
     agrees [] name id is = absurd cc
-    agrees (i ∷ columns) name id is = ap (λ rest. agree plain (1 ∷ []) (i ∷ rest) (1 ∷ []) (Int id ∷ down_columns modem)) is ∙ and_true (are_equal (Text name) (Text modem)) ∙ equal_texts name modem
+    agrees (i ∷ columns) name id is = ap (λ rest. agree plain (1 ∷ []) (i ∷ rest) (1 ∷ []) (Int id ∷ down_columns modem)) is ∙ and-true (are_equal (Text name) (Text modem)) ∙ equal_texts name modem
 
     -- a mark that is new breaks no rule
     pub mark_goes : is_down modem m ≡ false → (e : Error) → Executes INSERT_DOWN.now params old new (Err e) → fault_of e ≡ Unavailable

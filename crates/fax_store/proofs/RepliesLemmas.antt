@@ -1,6 +1,10 @@
 -- What the texts on the kept replies read.
-use Rattle.std.proofs.Common.{◌≡◌, inl, inr, ℕ, ℤ, suc, List, [], ◌∷◌, ◌++◌, map, filter, drop, All, arith, Bool, true, false, ◌&&◌, Option, Some, None, Err, MatchOption, refl, sym, ap, subst, ◌∙◌}
-use Rattle.std.proofs.lemmas.Bool.{both_ways, false_from_ne_true}
+use Rattle.std.proofs.Common.{◌≡◌, ℕ, ℤ, List, [], ◌∷◌, ◌++◌, map, filter, drop, All, Bool, true, ◌&&◌, Option, Some, None, Err, MatchOption, refl, sym, ap, subst, ◌∙◌}
+use Rattle.sqlite_rules.proofs.ListLemmas.{all_has}
+use Rattle.std.proofs.lemmas.List.Elements.{recursion_from_All}
+use Rattle.sqlite_trees.proofs.ListLemmas.{IsPermutation-same}
+use Rattle.fax_schema.proofs.ColumnLemmas.{record_of, row_of}
+use Rattle.std.proofs.lemmas.Bool.{both_ways, false_from_ne_true, and_parts}
 use Rattle.std.proofs.lemmas.Slice.Eq.{bytes_eq-Decides}
 use Rattle.std.specs.List.Sorted.{IsPermutation}
 use Rattle.sqlite.specs.Effect.{Database}
@@ -31,30 +35,12 @@ use Rattle.sqlite_schema.specs.Rules.{agree}
 use Rattle.sqlite_value.specs.Keys.{first_key, plain}
 use Rattle.fax_schema.proofs.SelectLemmas.{passes, show, answers}
 use Rattle.fax_store.proofs.FoundLemmas.{none_passes}
-use Rattle.fax_store.proofs.KeptLemmas.{row_of}
 use Rattle.fax_schema.proofs.StatementTexts.{reply_tests, reply_project, reply_terms, select_reply, insert_reply}
 use Rattle.fax_schema.proofs.WriteLemmas.{KeepsOthers, InsertsRow, unreferred, inserts}
 use Rattle.fax_tables.proofs.TablesLemmas.{replies, parts_of, means_of, calls_of, replies_changed, one_more}
 use Rattle.sqlite.specs.Cast.{cast_row}
 use Rattle.sqlite.specs.Edit.{with_rowid, next_rowid}
 use Rattle.sqlite.specs.Rowids.TheVariants.{Chosen}
-
-both_true : (a b : Bool) → (a && b) ≡ true → (a ≡ true) × (b ≡ true)
-both_true true b h = (refl, h)
-both_true false b h = absurd cc
-
--- rows and entries that stand for each other
-entry_of : (rows : List Row) (k : List Entry) → map (drop 1) rows ≡ map entry_columns k → (r : Row) → Has rows r → (e : Entry) × Has k e × (drop 1 r ≡ entry_columns e)
-entry_of [] k h r has = absurd has
-entry_of (x ∷ xs) [] h r has = absurd cc
-entry_of (x ∷ xs) (e ∷ es) h r (inl is) = (e, inl refl, ap (drop 1) is ∙ first h)
-  where
-    first : {X : Type 0} {a b : X} {xs ys : List X} → a ∷ xs ≡ b ∷ ys → a ≡ b
-    first h = cc
-entry_of (x ∷ xs) (e ∷ es) h r (inr more) = let it = entry_of xs es (rest h) r more in (it.0, inr it.1, it.2)
-  where
-    rest : {X : Type 0} {a b : X} {xs ys : List X} → a ∷ xs ≡ b ∷ ys → xs ≡ ys
-    rest h = cc
 
 module _ (client : List ℕ) (n : ℕ) where
   abbrev pub params : Row
@@ -68,8 +54,8 @@ module _ (client : List ℕ) (n : ℕ) where
   is_of [] e h p = absurd cc
   is_of (x ∷ rest) e h p =
       let q : (are_equal (Text e.client) (Text client) && (are_equal (number e.number) (number n) && true)) ≡ true = subst (λ cols. is_asked (x ∷ cols) ≡ true) h p in
-      let both = both_true _ _ q in
-      let more = both_true _ _ both.1 in (
+      let both = and_parts _ _ q in
+      let more = and_parts _ _ both.1 in (
         record { client_is = (bytes_eq-Decides e.client client).0 (sym (equal_texts e.client client) ∙ both.0); number_is = same_number e.number n more.0 },
         ap (λ cols. show replies_tree reply_tests reply_project params (x ∷ cols)) h,
       )
@@ -94,11 +80,11 @@ module _ (client : List ℕ) (n : ℕ) where
 
         tells : (found : Option Row) → MatchOption found (h.0 ≡ []) (Has h.0) → MatchOption found ((e : Entry) → Has k.replies e → ¬ IsOf client n e) (λ row. (e : Entry) × Has k.replies e × IsOf client n e × (row ≡ entry_shown e))
         tells None empty = λ e has of.
-            let it = row_of (old.now.trees replies_tree) k.replies means.replies e has in
+            let it = row_of entry_columns (old.now.trees replies_tree) k.replies (IsPermutation-same _ _ (sym means.replies)) e has in
             both_ways _ (none_shown is_asked (show replies_tree reply_tests reply_project params) (old.now.trees replies_tree) h.0 same empty it.0 it.1) (asked_for it.0 e it.2 of)
         tells (Some row) has =
             let shown = shown_one is_asked (show replies_tree reply_tests reply_project params) (old.now.trees replies_tree) h.0 same row has in
-            let it = entry_of (old.now.trees replies_tree) k.replies means.replies shown.0 shown.1 in
+            let it = record_of entry_columns (old.now.trees replies_tree) k.replies (IsPermutation-same _ _ (sym means.replies)) shown.0 shown.1 in
             let of = is_of shown.0 it.0 it.2 shown.2 in
             (it.0, it.1, of.0, shown.3 ∙ of.1)
 
@@ -117,9 +103,7 @@ module _ (client : List ℕ) (n : ℕ) where
 
 -- an entry among lawful ones is lawful
 pub lawful_of : (k : List Entry) (e : Entry) → All IsLawfulEntry k → Has k e → IsLawfulEntry e
-lawful_of [] e all has = absurd has
-lawful_of (x ∷ xs) e all (inl is) = subst IsLawfulEntry (sym is) (all 0 x (omega arith))
-lawful_of (x ∷ xs) e all (inr more) = lawful_of xs e (λ i d low. all (suc i) d (omega arith)) more
+lawful_of k e all has = all_has IsLawfulEntry k e (recursion_from_All IsLawfulEntry k all) has
 
 -- the row of one more entry
 stored_reply : (e : Entry) → cast_row schema.replies (Null ∷ entry_columns e) ≡ Null ∷ entry_columns e
@@ -153,8 +137,8 @@ module _ (old new : State) (m : Queue) (k : Ledger) (means : TablesMean old.now 
   agrees (x ∷ rest) other id is on =
       let q : (are_equal (Text other.client) (Text e.client) && (are_equal (number other.number) (number e.number) && true)) ≡ true =
       subst (λ cols. agree plain (1 ∷ 2 ∷ []) (x ∷ cols) (1 ∷ 2 ∷ []) (Int id ∷ entry_columns e) ≡ true) is on in
-      let both = both_true _ _ q in
-      let more = both_true _ _ both.1 in
+      let both = and_parts _ _ q in
+      let more = and_parts _ _ both.1 in
       record { client_is = (bytes_eq-Decides other.client e.client).0 (sym (equal_texts other.client e.client) ∙ both.0); number_is = same_number other.number e.number more.0 }
 
   -- a reply to a number for which none is kept breaks no rule
@@ -162,7 +146,7 @@ module _ (old new : State) (m : Queue) (k : Ledger) (means : TablesMean old.now 
   reply_goes free =
       let rows = old.now.trees replies_tree in
       let may = reply_may old.now means.schema means.sound e means.ordered.replies (λ r has.
-      let it = entry_of rows k.replies means.replies r has in
+      let it = record_of entry_columns rows k.replies (IsPermutation-same _ _ (sym means.replies)) r has in
       false_from_ne_true _ (λ on. free it.0 it.1 (agrees r it.0 (next_rowid rows) it.2 on))) in
       no_rule_broken schema.replies.name 8 schema.replies.columns schema.replies.key schema.replies.primary schema.replies.uniques schema.replies.orders schema.replies.checks 4 refl old means.schema reply_params reply_terms 6
       (Null ∷ entry_columns e) new_reply refl (ap (with_rowid Chosen rows) (stored_reply e)) may INSERT_REPLY.now insert_reply new

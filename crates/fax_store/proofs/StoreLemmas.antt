@@ -13,7 +13,7 @@ use Rattle.fax_store.specs.declared.store.TheConstants.{BEGIN, COMMIT, ROLLBACK}
 use Rattle.fax_core.specs.Ledger.{Ledger}
 use Rattle.fax_core.specs.Queue.{Queue}
 use Rattle.fax_tables.specs.Tables.{TablesMean, IsAtRest}
-use Rattle.fax_store.specs.Store.{Serves, Means, HasRows, Stays, GoesBack}
+use Rattle.fax_store.specs.Store.{Serves, Means, HasRows, LeavesCommit, Stays, GoesBack}
 use Rattle.fax_store.specs.Work.{Begins, BeginsAt, Commits, Forgets, Undoes}
 use Rattle.fax_store.proofs.ControlLemmas.{begins, commits, commit_fails, rolls_back}
 use Rattle.fax_store.proofs.StatementLemmas.{left_open, run_open}
@@ -36,6 +36,13 @@ means_stay {old} {new} served stays m k means s =
     let was = means (served s) in
     at_rest_of new old.now m k (stays old.now was.means.schema (λ at. let here = means at in record { autocommit = here.autocommit; now = refl; committed = sym here.settled }) s) was.means
 
+-- the rows stay where nothing changed, or what was not committed is undone
+pub rows_left : (old new : State) (db : Database) → Serves new → LeavesCommit old new → HasRows old db → HasRows new db
+rows_left old new db s (inl same) was = record { autocommit = same.0.mode ∙ was.autocommit; now = same.0.now_is ∙ was.now; committed = same.0.committed_is ∙ was.committed }
+rows_left old new db s (inr undone) was =
+    let back = undone.undone s.is_open in
+    record { autocommit = undone.autocommit; now = back.0 ∙ was.committed; committed = back.1 ∙ was.committed }
+
 module _ (old new : State) (kept : doubt old.is_clean ≤ doubt new.is_clean) where
   -- the disk was clean, where it still is
   pub cleaner : HasCleanDisk new → HasCleanDisk old
@@ -47,15 +54,7 @@ module _ (old new : State) (kept : doubt old.is_clean ≤ doubt new.is_clean) wh
 
   -- the rows stay where a call changed nothing, or undid what was not committed
   pub rests : (HasCleanDisk new → IsUnchanged old new ⊎ IsRolledBack old new) → Stays old new
-  rests left db six has s = elim (left s.clean) [
-    | inl same ↦
-        (let was = has (served s same.0.was_open) in
-        record { autocommit = same.0.mode ∙ was.autocommit; now = same.0.now_is ∙ was.now; committed = same.0.committed_is ∙ was.committed })
-    | inr undone ↦
-        (let was = has (served s (undone.was_open s.is_open)) in
-        let back = undone.undone s.is_open in
-        record { autocommit = undone.autocommit; now = back.0 ∙ was.committed; committed = back.1 ∙ was.committed })
-  ]
+  rests left db six has s = rows_left old new db s (left s.clean) (has (served s (left_open old new [] [] (left s.clean) s.is_open)))
 
   -- what is not committed is undone where the call undid it
   pub goes_back : (HasCleanDisk new → IsRolledBack old new) → GoesBack old new
@@ -120,10 +119,6 @@ module _ (old new : State) (kept : doubt old.is_clean ≤ doubt new.is_clean) wh
   -- a rollback inside a work undoes it, whatever it answers
   pub rolled : (r : Result ℕ Error) → IsTrue old.in_transaction → (HasCleanDisk new → Executes ROLLBACK.now [] old new r) → GoesBack old new
   rolled r inside ran = goes_back (λ clean. rolls_back old new r inside (ran clean))
-
--- nothing is to be undone
-pub at_rest : (s : State) → s.in_transaction ≡ false → (IsTrue s.is_open → s.now ≡ s.committed) → GoesBack s s
-at_rest s autocommit settled db is serves = record { autocommit = autocommit; now = settled serves.is_open ∙ is serves; committed = is serves }
 
 -- what a drop of a work leaves
 pub forgets : (old new : State) (failed : _) → GoesBack old new → Forgets old failed new

@@ -1,6 +1,8 @@
 -- How the version of meta is raised.
 use Rattle.std.proofs.Common.{◌≡◌, ◌≢◌, inl, inr, ℕ, ◌==◌, pos, List, [], ◌∷◌, ◌++◌, map, drop, Bool, true, ◌&&◌, IsTrue, Some, Ok, Err, OnOk, OnErr, MatchResult, Result, refl, sym, ap, subst, ◌∙◌, arith}
-use Rattle.std.proofs.lemmas.Bool.{and_parts, cases_Bool, eqb-true}
+use Rattle.sqlite_rules.proofs.TableLemmas.{int_is}
+use Rattle.std.proofs.lemmas.List.{map-id}
+use Rattle.std.proofs.lemmas.Bool.{and_parts, cases_Bool}
 use Rattle.sqlite.specs.Cast.{cast_row}
 use Rattle.sqlite.specs.Effect.{Database}
 use Rattle.sqlite.specs.Order.{Row, column}
@@ -25,7 +27,7 @@ use Rattle.fax_schema.specs.ByRowid.{IsByRowid}
 use Rattle.fax_schema.specs.Schema as schema
 use Rattle.fax_schema.specs.Schema.{alike_list, first_list, second_list, core_tables, our_tables, calls_tree, meta_tree}
 use Rattle.fax_schema.proofs.CompareLemmas.{cast_int, cast_null, same_row}
-use Rattle.fax_schema.proofs.RowsLemmas.{all_behind, all_both, all_front, all_given, at_tree, kept_back, kept_rows, others_kept}
+use Rattle.fax_schema.proofs.RowsLemmas.{all_behind, all_both, all_front, at_tree, kept_back, kept_rows, others_kept}
 use Rattle.fax_schema.proofs.StatementTexts.{raise_project, update_version}
 use Rattle.fax_schema.proofs.UpdateLemmas.{program_of, updated}
 use Rattle.fax_schema.proofs.WriteLemmas.{KeepsOthers, unreferred, updates}
@@ -50,11 +52,7 @@ typed_same (Blob b) h = absurd cc
 
 -- an integer is stored as it is
 int_same : (v : Value) → IsTrue (is_int v) → cast Integer v ≡ v
-int_same Null h = absurd cc
-int_same (Int n) h = cast_int n
-int_same (Real x) h = absurd cc
-int_same (Text t) h = absurd cc
-int_same (Blob b) h = absurd cc
+int_same v h = rw (int_is v h) (cast_int _)
 
 -- the clock and next numbers of a row
 record AreTyped (r : Row) : Type 0 where
@@ -73,10 +71,6 @@ row_typed (i ∷ a ∷ []) h = record { clock = refl; next_job = refl; next_gran
 row_typed (i ∷ a ∷ b ∷ []) h = record { clock = (two (two h).1).0; next_job = refl; next_grant = refl }
 row_typed (i ∷ a ∷ b ∷ c ∷ []) h = let more = two (two h).1 in record { clock = more.0; next_job = (two more.1).0; next_grant = refl }
 row_typed (i ∷ a ∷ b ∷ c ∷ d ∷ rest) h = let more = two (two h).1 in let last = two more.1 in record { clock = more.0; next_job = last.0; next_grant = (two last.1).0 }
-
-same_map : (rows : List Row) → map (λ (r : Row). r) rows ≡ rows
-same_map [] = refl
-same_map (r ∷ rows) = ap (λ rs. r ∷ rs) (same_map rows)
 
 -- ---- the text
 
@@ -98,9 +92,9 @@ module _ (old new : State) (has : HasNone old) (ran : HasRun UPDATE_VERSION.now 
   ran_as : IsByRowid (old.now.trees meta_tree) → KeepsOthers our_tables meta_tree old new × (new.now.trees meta_tree ≡ map raised (old.now.trees meta_tree))
   ran_as by =
       let done = updated schema.meta.name meta_tree schema.meta.columns schema.meta.key schema.meta.primary schema.meta.uniques schema.meta.orders schema.meta.checks 5 refl old new has.schema_is refl by
-      [] raise_project [] (λ r. refl) _ ran.0 (λ (r : Row). r) raised (old.now.trees meta_tree) (sym (same_map (old.now.trees meta_tree))) (λ r. refl) (λ r there on. stored by r there) (λ r there off. absurd cc)
+      [] raise_project [] (λ r. refl) _ ran.0 (λ (r : Row). r) raised (old.now.trees meta_tree) (sym (map-id (old.now.trees meta_tree))) (λ r. refl) (λ r there on. stored by r there) (λ r there off. absurd cc)
       (runs_as UPDATE_VERSION.now [] old new our_tables has.schema_is _ update_version.is update_version.plain ran.0 ran.1) in
-      (done.0, done.1 ∙ same_map (map raised (old.now.trees meta_tree)))
+      (done.0, done.1 ∙ map-id (map raised (old.now.trees meta_tree)))
 
   -- it touches meta alone
   keeps : KeepsOthers our_tables meta_tree old new
@@ -130,25 +124,6 @@ module _ (old new : State) (has : HasNone old) (ran : HasRun UPDATE_VERSION.now 
       raises : IsRaisableFrom 1 old.now → new.now.trees meta_tree ≡ meta_as 1 (old.now.trees meta_tree)
       raises (inl other) = absurd (other refl)
       raises (inr by) = (ran_as by).1
-
--- a version that isn't the first stays
-as_it_is : (version : ℕ) (rows : List Row) → version ≢ 1 → meta_as version rows ≡ rows
-as_it_is version rows other = elim (cases_Bool (version == 1)) [ inl one ↦ absurd (other (eqb-true version 1 one)) | inr off ↦ rw off refl ]
-
--- where it wasn't, what only reads leaves it settled
-pub version_stays : (version : ℕ) (old new : State) → HasNone old → versions old.now ≡ number version ∷ [] → IsUnchanged old new → version ≢ 1 → GoesOn old new × IsSettled version old.now new.now
-version_stays version old new has was same other = (
-  record { was_open = has.is_open; is_open = same.0.is_open; now_is = refl; committed_is = same.0.committed_is; mode = same.0.mode ∙ has.inside },
-  subst (IsSettled version old.now) (sym same.0.now_is) (record {
-    was = was;
-    schema_is = has.schema_is;
-    sound = has.sound;
-    rows = all_given (λ t. old.now.trees t.tree ≡ old.now.trees t.tree) alike_list (λ t. refl);
-    meta = λ can. sym (as_it_is version (old.now.trees meta_tree) other);
-    second = all_given (λ t. old.now.trees t.tree ≡ old.now.trees t.tree) second_list (λ t. refl);
-    none = has.none;
-  }),
-)
 
 -- the text, behind the test of the version
 pub raised_by : (version : ℕ) (old mid new : State) (result : Result (Unit {0}) StoreFault) → version ≡ 1 → HasNone old → versions old.now ≡ number version ∷ [] → IsUnchanged old mid

@@ -1,5 +1,6 @@
 -- What the texts on waiting jobs read.
 use Rattle.std.proofs.Common.{◌≡◌, ◌<◌, ◌+◌, ℕ, suc, zero, pos, List, [], ◌∷◌, ◌++◌, map, filter, All, Bool, true, false, not, ◌&&◌, ◌||◌, Option, Some, None, unwrap_or, refl, sym, ap, ap₂, subst, ◌∙◌, arith}
+use Rattle.std.proofs.Math.Bool.{and-true}
 use Rattle.std.specs.Prelude.{◌==◌, nat_le, nat_lt, slice_index_or}
 use Rattle.std.specs.Ordering.{is_lt, is_eq, is_gt, int_cmp, ordering_then}
 use Rattle.std.specs.declared.cmp.Ordering.TheVariants.{Equal}
@@ -133,10 +134,6 @@ module _ (t : ℕ) (more : Row) (tests project : List Term) where
               ∙ sorted i (put d) from (subst (λ n. i + 1 < n) (sym (length_map put jobs)) low),
         )
 
-and_true : (b : Bool) → (b && true) ≡ b
-and_true true = refl
-and_true false = refl
-
 module _ (t : ℕ) (old new : State) (m : Queue) (k : Ledger) (means : TablesMean old.now m k) where
   -- the text on the jobs that wait shows them whole, in the order of the choice
   pub waiting_found : (rows : List Row) → Shown SELECT_WAITING.now (params t [] [] job_project) old new rows → (jobs : List Job) × (rows ≡ map (λ j. job_shown (fields_of j)) jobs) × AreWaiting t m jobs
@@ -144,7 +141,7 @@ module _ (t : ℕ) (old new : State) (m : Queue) (k : Ledger) (means : TablesMea
       let read = reads_as SELECT_WAITING.now (params t [] [] job_project) old new our_tables means.schema _ select_waiting.command select_waiting.plain select_waiting.unlisted rows h in
       let shown = in_order jobs_tree waiting_tests job_project (params t [] [] job_project) old.now (old.now.trees jobs_tree) refl waiting_order job_names rows read in
       let it = are_near t [] [] job_project old.now m k means (λ j. true) (λ j. refl) shown.0 shown.1 shown.3 in
-      let same = filter_same (λ j. is_due j t && true) (λ j. is_due j t) m.jobs (all_of (λ (j : Job). (is_due j t && true) ≡ is_due j t) (λ j. and_true (is_due j t)) m.jobs) in
+      let same = filter_same (λ j. is_due j t && true) (λ j. is_due j t) m.jobs (all_of (λ (j : Job). (is_due j t && true) ≡ is_due j t) (λ j. and-true (is_due j t)) m.jobs) in
       (it.0, shown.2 ∙ it.1, record { due = subst (λ js. IsPermutation js it.0) same it.2; ordered = it.3 })
 
 -- jobs that wait are lawful as all are

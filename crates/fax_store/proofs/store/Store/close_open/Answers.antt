@@ -5,7 +5,7 @@ use Rattle.fax_store.specs.Grant.{SetsCalls, with_closed, with_count}
 use Rattle.fax_store.specs.Store.{HasRun}
 use Rattle.fax_tables.proofs.TablesLemmas.{calls, calls_of}
 use Rattle.fax_store.proofs.GrantWriteLemmas.{close_counted, close_params, grant_closed}
-use Rattle.fax_store.proofs.FrameLemmas.{runs_err, runs_then, writes_where_refused}
+use Rattle.fax_store.proofs.FrameLemmas.{runs_then, writes_where_refused}
 use Rattle.fax_store.proofs.WorkLemmas.{inside_by, moves_by, ok_as, step_of}
 use Rattle.fax_schema.proofs.GrantTexts as texts
 use Rattle.fax_store.proofs.StatementLemmas.{edit_text}
@@ -22,15 +22,14 @@ returns-in_err-run g c =
     let fault = c.in_err-run.field-0.0 in
     let result = c.from_residual.result in
     let told = c.from_residual.ensures.1 in
-    writes_where_refused g.S.Store _ _ result fault told (runs_err g.S.Store _ _ fault result told c.in_err-run.ensures.leaves) _ _ _ c.in_err-run.ensures.cause
+    writes_where_refused g.S.Store _ _ result fault told c.in_err-run.ensures.leaves _ _ _ c.in_err-run.ensures.cause
 
 pub returns-in_err-run-2 : goal.returns-in_err-run-2
 returns-in_err-run-2 g c =
     let fault = c.in_err-run-2.field-0.0 in
     let result = c.from_residual-in_err-run-2.result in
     let told = c.from_residual-in_err-run-2.ensures.1 in
-    writes_where_refused g.S.Store _ _ result fault told
-    (runs_err g.S.Store _ _ fault result told (runs_then g.S.Store c.args.self.now c.run.new.self c.run-2.new.self _ _ c.in_ok-run.ensures.leaves c.in_err-run-2.ensures.leaves)) _ _ _ c.in_err-run-2.ensures.cause
+    writes_where_refused g.S.Store _ _ result fault told (runs_then g.S.Store _ _ _ _ _ c.in_ok-run.ensures.leaves c.in_err-run-2.ensures.leaves) _ _ _ c.in_err-run-2.ensures.cause
 
 pub returns : goal.returns
 returns g c =

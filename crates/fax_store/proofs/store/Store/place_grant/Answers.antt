@@ -6,7 +6,7 @@ use Rattle.fax_store.specs.Store.{HasRun, IsRefusedFor}
 use Rattle.fax_tables.specs.Tables.{IsLawfulGrant}
 use Rattle.fax_tables.proofs.TablesLemmas.{calls, calls_of}
 use Rattle.fax_store.proofs.GrantWriteLemmas.{hold_params, grant_params, hold_goes, grant_counted, grant_put, grant_goes}
-use Rattle.fax_store.proofs.FrameLemmas.{runs_err, runs_then, writes_if_where_refused}
+use Rattle.fax_store.proofs.FrameLemmas.{runs_then, writes_if_where_refused}
 use Rattle.fax_store.proofs.WorkLemmas.{inside_by, moves_by, ok_as, refused_as}
 use Rattle.fax_schema.proofs.GrantTexts as texts
 use Rattle.fax_store.proofs.StatementLemmas.{edit_text}
@@ -20,7 +20,7 @@ insert-requires-2 g c = edit_text INSERT_GRANT.now _ tt texts.insert_grant
 
 pub returns-in_err-insert : goal.returns-in_err-insert
 returns-in_err-insert g c =
-    writes_if_where_refused g.S.Store _ _ c.from_residual.result c.in_err-insert.field-0.0 c.from_residual.ensures.1 (runs_err g.S.Store _ _ c.in_err-insert.field-0.0 c.from_residual.result c.from_residual.ensures.1 c.in_err-insert.ensures.leaves) _ _ _ _
+    writes_if_where_refused g.S.Store _ _ c.from_residual.result c.in_err-insert.field-0.0 c.from_residual.ensures.1 c.in_err-insert.ensures.leaves _ _ _ _
     (λ m₀ m k₀ k works s fit.
     let old = state g.S.Store c.args.self.now.conn in
     let mid = state g.S.Store c.insert.new.self.conn in
@@ -35,7 +35,7 @@ returns-in_err-insert-2 g c =
     let result = c.from_residual-in_err-insert-2.result in
     let told = c.from_residual-in_err-insert-2.ensures.1 in
     writes_if_where_refused g.S.Store _ _ result c.in_err-insert-2.field-0.0 told
-    (runs_err g.S.Store _ _ c.in_err-insert-2.field-0.0 result told (runs_then g.S.Store c.args.self.now c.insert.new.self c.insert-2.new.self _ _ c.in_ok-insert.ensures.leaves c.in_err-insert-2.ensures.leaves)) _ _ _ _
+    (runs_then g.S.Store _ _ _ _ _ c.in_ok-insert.ensures.leaves c.in_err-insert-2.ensures.leaves) _ _ _ _
     (λ m₀ m k₀ k works s fit.
     let old = state g.S.Store c.args.self.now.conn in
     let mid = state g.S.Store c.insert.new.self.conn in

@@ -4,7 +4,7 @@ use Rattle.fax_store.specs.Job.{with_expired_in}
 use Rattle.fax_job.specs.declared.job.Phase.TheVariants.{Held}
 use Rattle.fax_store.specs.Work.{Steps}
 use Rattle.fax_store.proofs.ChangeLemmas.{expired_in_turn}
-use Rattle.fax_store.proofs.FrameLemmas.{runs_err, runs_then, writes_refused}
+use Rattle.fax_store.proofs.FrameLemmas.{runs_then, writes_refused}
 use Rattle.fax_store.proofs.store.Store.write_expired.Goals as goal
 
 pub returns : goal.returns
@@ -19,4 +19,4 @@ returns g c = record {
 
 pub returns-in_err-expire_in : goal.returns-in_err-expire_in
 returns-in_err-expire_in g c =
-    writes_refused g.S.Store _ _ c.from_residual.result c.in_err-expire_in.field-0.0 c.from_residual.ensures.1 (runs_err g.S.Store _ _ c.in_err-expire_in.field-0.0 c.from_residual.result c.from_residual.ensures.1 c.in_err-expire_in.ensures.leaves) _ _ c.in_err-expire_in.ensures.cause
+    writes_refused g.S.Store _ _ c.from_residual.result c.in_err-expire_in.field-0.0 c.from_residual.ensures.1 c.in_err-expire_in.ensures.leaves _ _ c.in_err-expire_in.ensures.cause
