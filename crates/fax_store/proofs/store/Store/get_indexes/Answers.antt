@@ -8,5 +8,5 @@ use Rattle.fax_store.proofs.store.Store.get_indexes.Goals as goal
 
 pub returns : goal.returns
 returns g c =
-    leaves_then (state g.S.Store c.args.self.now.conn) (state g.S.Store c.get_floors.new.self.conn) (state g.S.Store c.make_indexes.new.self.conn) (Has without_calls) AreStores (λ schema. schema ≡ core_tables) _ _
+    leaves_then _ _ _ (Has without_calls) AreStores (λ schema. schema ≡ core_tables) _ _
     c.in_ok-get_floors.ensures c.make_indexes.ensures

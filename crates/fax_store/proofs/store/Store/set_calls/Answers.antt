@@ -33,7 +33,7 @@ pub returns-clause-leaves : goal.returns-clause-leaves
 returns-clause-leaves g c = record {
   served = search rules;
   clean = search rules;
-  holds = holds_then (state g.S.Store c.args.self.now.conn) (state g.S.Store c.run.new.self.conn) (state g.S.Store c.run-2.new.self.conn) (is_err c.run-2.result) c.run-2.ensures.leaves.served
+  holds = holds_then _ _ _ (is_err c.run-2.result) c.run-2.ensures.leaves.served
       (c.in_ok-run.ensures.leaves.holds) (c.run-2.ensures.leaves.holds);
   crash = search rules;
 }

@@ -22,8 +22,6 @@ pub returns-clause-leaves : goal.returns-clause-leaves
 returns-clause-leaves g c = record {
   served = search rules;
   clean = search rules;
-  holds = let old = state g.S.Store c.args.self.now.conn in
-      let read = state g.S.Store c.grant.new.self.conn in
-      holds_then old read (state g.S.Store c.end_call.new.self.conn) (is_err c.end_call.result) c.end_call.ensures.leaves.served (holds_by old read c.grant.ensures.leaves.served (Ok c.in_ok-grant.field-0) c.in_ok-grant.ensures.leaves.reads) c.end_call.ensures.leaves.holds;
+  holds = holds_then _ _ _ (is_err c.end_call.result) c.end_call.ensures.leaves.served (holds_by _ _ c.grant.ensures.leaves.served (Ok c.in_ok-grant.field-0) c.in_ok-grant.ensures.leaves.reads) c.end_call.ensures.leaves.holds;
   crash = search rules;
 }

@@ -12,7 +12,7 @@ pub returns : goal.returns
 returns g c = record {
   ours = λ tables clean. let few = c.if-len-gt0.false in
       let none : c.in_ok-lost.lost.items ≡ [] = nil_from_length c.in_ok-lost.lost.items (omega (arith, few, c.len.ensures)) in
-      (none_lost (state g.S.Store c.args.self.now.conn) (state g.S.Store c.show.new.self.conn) tables c.in_ok-lost.lost.items (c.in_ok-lost.ensures.found clean) none, c.in_ok-lost.ensures.leaves.reads tables clean);
+      (none_lost _ _ tables c.in_ok-lost.lost.items (c.in_ok-lost.ensures.found clean) none, c.in_ok-lost.ensures.leaves.reads tables clean);
   left = search rules;
   clean = search rules;
   crash = search rules;
@@ -25,7 +25,7 @@ returns-then-len-gt0 g c = record {
   left = search rules;
   clean = search rules;
   crash = search rules;
-  strange = λ tables clean is held. let none = ap length (lost_none (state g.S.Store c.args.self.now.conn) (state g.S.Store c.show.new.self.conn) tables c.in_ok-lost.lost.items (c.in_ok-lost.ensures.found clean) held) in
+  strange = λ tables clean is held. let none = ap length (lost_none _ _ tables c.in_ok-lost.lost.items (c.in_ok-lost.ensures.found clean) held) in
       let some = c.if-len-gt0.true in
       omega (arith, none, some, c.len.ensures);
 }
