@@ -1,5 +1,5 @@
 -- What the statements do by which a store comes to a database.
-use Rattle.std.proofs.Common.{◌≡◌, ◌≢◌, ◌⊎◌, inl, inr, ℕ, List, [], ◌∷◌, codes, map, Bool, true, false, arith, Ok, Err, IsErr, IsErrAnd, IsTrue, MatchResult, Result, refl, sym, subst, ap, ◌∙◌}
+use Rattle.std.proofs.Common.{◌≡◌, ◌≢◌, ◌⊎◌, inl, inr, ℕ, List, [], ◌∷◌, codes, map, Bool, true, false, arith, Ok, Err, IsErr, IsErrAnd, IsTrue, MatchResult, Result, refl, sym, subst, ap, ap₂, ◌∙◌, IfErr}
 use Rattle.sqlite_trees.proofs.ListLemmas.{all_of, filter_all}
 use Rattle.std.specs.List.{AllByRecursion}
 use Rattle.std.specs.List.Sorted.{IsPermutation}
@@ -8,7 +8,7 @@ use Rattle.std.proofs.lemmas.List.Sorted.{IsPermutation-sym}
 use Rattle.sqlite.specs.Effect.{Database, IsDatabase}
 use Rattle.sqlite.specs.Order.{Row, column}
 use Rattle.sqlite.specs.declared.error.Error.{Error}
-use Rattle.sqlite.specs.State.{State, HasCleanDisk, IsUnchanged, KeepsCommit, Shown, Executes, CommitsBy, Survives}
+use Rattle.sqlite.specs.State.{State, HasCleanDisk, IsUnchanged, KeepsCommit, Shown, Shows, Executes, CommitsBy, Survives}
 use Rattle.sqlite_trees.specs.Tree.{Trees}
 use Rattle.sqlite.proofs.Callers.{one_permutation, reads_as}
 use Rattle.sqlite_catalog.specs.Change.{KeepsRows}
@@ -18,7 +18,7 @@ use Rattle.fax_core.specs.Queue.{Queue, empty_queue}
 use Rattle.fax_schema.specs.declared.statements.TheConstants.{SELECT_VERSION}
 use Rattle.fax_store.specs.declared.store.TheConstants.{BEGIN, COMMIT}
 use Rattle.fax_tables.specs.declared.fault.StoreFault.{StoreFault}
-use Rattle.fax_tables.specs.declared.fault.StoreFault.TheVariants.{Strange}
+use Rattle.fax_tables.specs.declared.fault.StoreFault.TheVariants.{Strange, Unavailable}
 use Rattle.fax_tables.specs.Row.{number}
 use Rattle.fax_schema.specs.ByRowid.{IsByRowid}
 use Rattle.fax_schema.specs.Schema as schema
@@ -32,7 +32,7 @@ use Rattle.fax_schema.proofs.RowsLemmas.{all_front, all_given, all_mapped, at_tr
 use Rattle.fax_schema.proofs.SelectLemmas.{answers}
 use Rattle.sqlite_schema.specs.declared.schema.Schema.{Schema}
 use Rattle.sqlite_schema.specs.declared.schema.Table.{Table}
-use Rattle.fax_store.specs.Adopt.{Adopts, AreAdopted, AreTaken, Founds, HasBecome, HasNone, HasTaken, HoldsCanBeCalled, IsAdoptable, IsFilled, IsIn, IsOurs, IsRaisable, IsRaisableFrom, IsTakeable, IsTaken, Leaves, MeansAs, QueuesAreTakeable, Settles, Takes, TurnsOrUnavailable}
+use Rattle.fax_store.specs.Adopt.{Adopts, AreAdopted, AreTaken, Founds, HasBecome, HasNone, HasTaken, HoldsCanBeCalled, IsAdoptable, IsFilled, IsIn, IsOurs, IsRaisable, IsRaisableFrom, IsTakeable, IsTaken, Leaves, MeansAs, QueuesAreTakeable, Settles, Takes, Turns, TurnsOrUnavailable}
 use Rattle.fax_store.specs.Store.{CommitsNothing, GoesBack, MayFind, MayMake, RowsFound, Serves}
 use Rattle.fax_store.proofs.ControlLemmas.{begins, commits}
 use Rattle.fax_store.proofs.HeldLemmas.{held_still, rows_callable}
@@ -45,11 +45,24 @@ use Rattle.fax_store.proofs.WorkLemmas.{not_strange, ok_as, refused_as}
 pub back_over : (old mid new : State) → (Serves mid → Serves old) → (HasCleanDisk mid → KeepsCommit old mid) → GoesBack mid new → GoesBack old new
 back_over old mid new was kept back db is s = back db (λ at. (kept at.clean).committed at.is_open ∙ is (was at)) s
 
--- a transaction that has begun goes on
-pub starts : (s0 s1 : State) (n : ℕ) → Executes BEGIN.now [] s0 s1 (Ok n) → GoesOn s0 s1
-starts s0 s1 n began =
-    let shown = (begins s0 s1 n began).1 in
-    record { was_open = shown.was_open; is_open = shown.is_open; now_is = refl; committed_is = shown.committed_is; mode = shown.mode }
+-- A begin over such tables is done.
+pub record HasBegun (Ours : Schema → Type 0) (old new : State) : Type 0 where
+  pub ours : Ours old.now.schema
+  pub count : ℕ
+  pub survives : Survives old new (CommitsBy BEGIN.now [] old)
+  pub began : HasCleanDisk new → Executes BEGIN.now [] old new (Ok count)
+
+module _ {Ours : Schema → Type 0} {s0 s1 : State} (begun : HasBegun Ours s0 s1) (clean : HasCleanDisk s1) where
+  shown : Shows s0 s1 s0.now s0.committed true
+  shown = (begins s0 s1 begun.count (begun.began clean)).1
+
+  -- the transaction goes on
+  pub starts : GoesOn s0 s1
+  starts = record { was_open = shown.was_open; is_open = shown.is_open; now_is = refl; committed_is = shown.committed_is; mode = shown.mode }
+
+  -- over these tables
+  starts_in : IsIn Ours s1
+  starts_in = record { is_open = shown.is_open; inside = shown.mode; schema_is = subst (λ (d : Database). Ours d.schema) (sym shown.now_is) begun.ours }
 
 -- where a call is refused and the commit is kept, it settles
 pub settles_refused : {A : Type 0} (old new : State) (r : Result A StoreFault) → IsErr r → (HasCleanDisk new → HasCleanDisk old) → (HasCleanDisk new → KeepsCommit old new) → Settles old new r
@@ -62,28 +75,49 @@ settles_done old new x clean was opens = record { kept = λ _. tt; served = λ s
 
 -- ---- making the tables
 
-module _ (s0 s1 : State) (none : s0.now.schema ≡ no_tables) (n : ℕ) (began : Executes BEGIN.now [] s0 s1 (Ok n)) where
+-- what is committed is at rest
+pub rests_committed : (old new : State) (k : ℕ) → Executes COMMIT.now [] old new (Ok k) → (m : Queue) (kept : Ledger) → TablesMean old.now m kept → IsAtRest new m kept
+rests_committed old new k committed m kept means =
+    let done = commits old new k committed in
+    record { autocommit = done.mode; settled = done.now_is ∙ sym done.committed_is; means = same_tables m kept done.now_is means }
+
+-- a refusal that keeps the last commit, and commits nothing
+pub founds_refused : (old new : State) (r : Result (Unit {0}) StoreFault) → IsErr r → (HasCleanDisk new → HasCleanDisk old) → (HasCleanDisk new → KeepsCommit old new) → CommitsNothing old new → IfErr r (λ fault. fault ≡ Unavailable) → Founds old new r
+founds_refused old new (Ok x) is clean kept nothing cause = absurd (let e = is in cc)
+founds_refused old new (Err e) is clean kept nothing cause = record { settles = settles_refused old new (Err e) is clean kept; made = λ _. tt; crash = λ found may. inl (nothing found may); cause = cause }
+
+module _ (s0 s1 s2 : State) (begun : HasBegun (λ schema. schema ≡ no_tables) s0 s1) where
   -- after the begin, the database still has no tables
-  pub starts_empty : HasEmptyTables no_tables s1
-  starts_empty =
-      let shown = (begins s0 s1 n began).1 in
-      none_at_first s1 shown.mode (ap (λ (d : Database). d.schema) shown.now_is ∙ none)
+  starts_empty : HasCleanDisk s1 → HasEmptyTables no_tables s1
+  starts_empty clean = let it = starts_in begun clean in none_at_first s1 it.inside it.schema_is
 
-  module _ (s2 : State) where
+  -- making the tables commits nothing before its commit
+  pub tables_hold_back : HoldsBack (HasEmptyTables no_tables) s1 s2 → CommitsNothing s0 s2
+  tables_hold_back made = nothing_then s0 s1 s2 (begin_nothing s0 s1 begun.survives) (made starts_empty)
+
+  module _ (cleaner : HasCleanDisk s2 → HasCleanDisk s1) where
     -- where making the tables keeps the commit, so does the begin with it
-    pub creation_kept : (HasEmptyTables no_tables s1 → KeepsCommit s1 s2) → KeepsCommit s0 s2
-    creation_kept kept = commit_kept s0 s1 s2 (starts s0 s1 n began) (kept starts_empty)
+    pub creation_kept : (HasCleanDisk s2 → HasEmptyTables no_tables s1 → KeepsCommit s1 s2) → HasCleanDisk s2 → KeepsCommit s0 s2
+    creation_kept kept clean = commit_kept s0 s1 s2 (starts begun (cleaner clean)) (kept clean (starts_empty (cleaner clean)))
 
-    module _ (created : HasEmptyTables no_tables s1 → GoesOn s1 s2 × TablesMean s2.now empty_queue empty_ledger) (s3 : State) where
+    module _ (created : HasCleanDisk s2 → HasEmptyTables no_tables s1 → GoesOn s1 s2 × TablesMean s2.now empty_queue empty_ledger) (s3 : State) where
+      here : HasCleanDisk s2 → GoesOn s1 s2 × TablesMean s2.now empty_queue empty_ledger
+      here clean = created clean (starts_empty (cleaner clean))
+
       -- where the commit of new tables is refused, the commit before the begin stands
-      pub commit_kept_before : (e : Error) → Executes COMMIT.now [] s2 s3 (Err e) → KeepsCommit s0 s3
-      commit_kept_before e failed = commit_kept s0 s1 s3 (starts s0 s1 n began) (commit_kept s1 s2 s3 (created starts_empty).0 (refused_keeps s2 s3 COMMIT.now e failed))
+      pub commit_kept_before : HasCleanDisk s2 → (e : Error) → Executes COMMIT.now [] s2 s3 (Err e) → KeepsCommit s0 s3
+      commit_kept_before clean e failed = commit_kept s0 s1 s3 (starts begun (cleaner clean)) (commit_kept s1 s2 s3 (here clean).0 (refused_keeps s2 s3 COMMIT.now e failed))
 
       -- once the tables that were made are committed, they mean the empty queue and no kept replies
-      pub tables_made : (k : ℕ) → Executes COMMIT.now [] s2 s3 (Ok k) → IsAtRest s3 empty_queue empty_ledger
-      tables_made k committed =
-          let done = commits s2 s3 k committed in
-          record { autocommit = done.mode; settled = done.now_is ∙ sym done.committed_is; means = same_tables empty_queue empty_ledger done.now_is (created starts_empty).1 }
+      pub tables_made : HasCleanDisk s2 → (k : ℕ) → Executes COMMIT.now [] s2 s3 (Ok k) → IsAtRest s3 empty_queue empty_ledger
+      tables_made clean k committed = rests_committed s2 s3 k committed empty_queue empty_ledger (here clean).1
+
+      -- a crash while the tables are made leaves what it could leave before, or an empty store
+      pub tables_stop : HoldsBack (HasEmptyTables no_tables) s1 s2 → Survives s2 s3 (CommitsBy COMMIT.now [] s2) → MayMake s0 s3 (λ found. RowsFound found empty_queue empty_ledger)
+      tables_stop made committing found may = elim (commit_makes s2 s3 committing (λ clean. (here clean).0.mode) found may) [
+        | inl before ↦ inl (tables_hold_back made found before)
+        | inr it ↦ inr (s2.now, sym it.1, (here it.0).1)
+      ]
 
 -- ---- one step after the other
 
@@ -157,37 +191,56 @@ alike db after renews = all_front (λ t. after.trees t.tree ≡ db.trees t.tree)
 second : (db : Database) → has_floors db.schema ≡ true → version_of db.schema ≢ 1
 second db there is = let two : version_of db.schema ≡ 2 = rw there refl in absurd (let e : 2 ≡ 1 = sym two ∙ is in omega arith)
 
-module _ (s0 s1 : State) (ours : AreOurs s0.now.schema) (n : ℕ) (began : Executes BEGIN.now [] s0 s1 (Ok n)) where
-  -- after the begin, a transaction is under way over our tables
-  pub starts_ours : IsIn AreOurs s1
-  starts_ours =
-      let shown = (begins s0 s1 n began).1 in
-      record { is_open = shown.is_open; inside = shown.mode; schema_is = subst (λ (d : Database). AreOurs d.schema) (sym shown.now_is) ours }
+-- a refusal that keeps the last commit, and commits nothing
+pub takes_refused : (Made : Database → State → Type 0) (Left : Database → Trees → Type 0) (Fit : Database → Type 0) (old new : State) (r : Result (Unit {0}) StoreFault) → IsErr r → (HasCleanDisk new → HasCleanDisk old)
+    → (HasCleanDisk new → KeepsCommit old new) → CommitsNothing old new → (HasCleanDisk new → r ≡ Err Strange → ¬ Fit old.now) → Takes Made Left Fit old new r
+takes_refused Made Left Fit old new (Ok x) is clean kept nothing strange = absurd (let e = is in cc)
+takes_refused Made Left Fit old new (Err e) is clean kept nothing strange = record {
+  settles = settles_refused old new (Err e) is clean kept;
+  taken = λ _. tt;
+  means = λ _ _ _. tt;
+  crash = λ found may. inl (nothing found may);
+  nothing = λ _. nothing;
+  strange = strange;
+}
 
-  module _ (s2 : State) where
-    -- where making what is missing keeps the commit, so does the begin with it
-    pub renewing_kept : (IsIn AreOurs s1 → KeepsCommit s1 s2) → KeepsCommit s0 s2
-    renewing_kept kept = commit_kept s0 s1 s2 (starts s0 s1 n began) (kept starts_ours)
+-- A database with ours gets what it lacks, behind a begin.
+module _ (s0 s1 s2 : State) (begun : HasBegun AreOurs s0 s1) where
+  -- where that is refused, the commit before the begin stands
+  pub renewing_kept : (e : StoreFault) → Turns {A = Unit {0}} (IsIn AreOurs) HasNewCalls s1 s2 (Err e) → HasCleanDisk s2 → KeepsCommit s0 s2
+  renewing_kept e renews clean = let at = renews.clean clean in commit_kept s0 s1 s2 (starts begun at) (renews.goes clean (starts_in begun at))
 
-    module _ (made : IsIn AreOurs s1 → GoesOn s1 s2 × HasNewCalls s1.now s2.now) where
-      -- from the begin through what is made, the transaction goes on
-      pub goes_on_renewed : GoesOn s0 s2
-      goes_on_renewed = goes_on s0 s1 s2 (starts s0 s1 n began) (made starts_ours).0
+  -- nothing is committed
+  pub renewing_holds_back : (r : Result (Unit {0}) StoreFault) → Turns (IsIn AreOurs) HasNewCalls s1 s2 r → CommitsNothing s0 s2
+  renewing_holds_back r renews = nothing_then s0 s1 s2 (begin_nothing s0 s1 begun.survives) (renews.crash (starts_in begun))
 
-      abbrev version : ℕ
-      version = version_of s0.now.schema
+  -- it is done, in a database of this version
+  module _ (renews : Turns {A = Unit {0}} {E = StoreFault} (IsIn AreOurs) HasNewCalls s1 s2 (Ok tt)) (version : ℕ) (is : version ≡ version_of s0.now.schema) where
+    made : HasCleanDisk s2 → GoesOn s1 s2 × HasNewCalls s1.now s2.now
+    made clean = renews.goes clean (starts_in begun (renews.clean clean))
 
-      -- what is made has the rows that the database had before the begin, and a new `calls`
-      renewed : HasNewCalls s0.now s2.now
-      renewed = subst (λ (d : Database). HasNewCalls d s2.now) (begins s0 s1 n began).1.now_is (made starts_ours).1
+    -- from the begin through what is made, the transaction goes on
+    goes_on_renewed : HasCleanDisk s2 → GoesOn s0 s2
+    goes_on_renewed clean = goes_on s0 s1 s2 (starts begun (renews.clean clean)) (made clean).0
 
-      -- all tables are there, and no call is counted yet
-      pub has_none : HasNone s2
-      has_none = record { is_open = goes_on_renewed.is_open; inside = goes_on_renewed.mode; schema_is = renewed.schema_is; sound = renewed.sound; none = renewed.none }
+    -- what is made has the rows that the database had before the begin, and a new `calls`
+    renewed : HasCleanDisk s2 → HasNewCalls s0.now s2.now
+    renewed clean = subst (λ (d : Database). HasNewCalls d s2.now) (shown begun (renews.clean clean)).now_is (made clean).1
+
+    -- all tables are there, and no call is counted yet
+    pub has_none : HasCleanDisk s2 → HasNone s2
+    has_none clean =
+        let on = goes_on_renewed clean in
+        let it = renewed clean in
+        record { is_open = on.is_open; inside = on.mode; schema_is = it.schema_is; sound = it.sound; none = it.none }
+
+    module _ (clean : HasCleanDisk s2) where
+      still_alike : KeepsRows alike_list s0.now.trees s2.now.trees
+      still_alike = alike s0.now s2.now (renewed clean).renews
 
       -- meta has the rows that it had
       same_meta : s2.now.trees meta_tree ≡ s0.now.trees meta_tree
-      same_meta = at_tree (λ tree. s2.now.trees tree ≡ s0.now.trees tree) first_list meta_tree refl renewed.renews.rows
+      same_meta = at_tree (λ tree. s2.now.trees tree ≡ s0.now.trees tree) first_list meta_tree refl (renewed clean).renews.rows
 
       -- and the versions
       same_versions : versions s2.now ≡ versions s0.now
@@ -196,70 +249,84 @@ module _ (s0 s1 : State) (ours : AreOurs s0.now.schema) (n : ℕ) (began : Execu
       -- the tables of the second version have the rows that they had, none where there were no such tables
       same_second : KeepsRows second_list (second_in s0.now) s2.now.trees
       same_second = all_mapped (λ t. second_in s2.now t.tree ≡ second_in s0.now t.tree) (λ t. s2.now.trees t.tree ≡ second_in s0.now t.tree) second_list
-          (λ t same. sym (second_there s2.now our_tables t.tree renewed.schema_is refl) ∙ same) renewed.renews.second
+          (λ t same. sym (second_there s2.now our_tables t.tree (renewed clean).schema_is refl) ∙ same) (renewed clean).renews.second
 
       -- meta's one row still has the version of the tables that were found
       pub still_version : HasVersion s0.now → versions s2.now ≡ number version ∷ []
-      still_version is = same_versions ∙ is
+      still_version has = same_versions ∙ has ∙ ap (λ v. number v ∷ []) (sym is)
 
       -- where each hold had a job that can be called, it still has
       pub still_callable : HoldsCanBeCalled s0.now → HoldsCanBeCalled s2.now
-      still_callable = held_still s0.now s2.now (alike s0.now s2.now renewed.renews)
+      still_callable = held_still s0.now s2.now still_alike
 
       -- rows that meant a queue and kept replies still mean them, in that version
       pub still_means : (m : Queue) (k : Ledger) → RowsMean s0.now m k → MeansAs version s2.now m k
       still_means m k mean = record {
         full = mean.full;
         means = mean.means;
-        rows = kept_rows alike_list s2.now.trees s0.now.trees (mean.full).trees (kept_back alike_list s0.now.trees s2.now.trees (alike s0.now s2.now renewed.renews)) mean.same.rows;
-        meta = mean.same.meta ∙ ap (meta_as version) (sym same_meta);
+        rows = kept_rows alike_list s2.now.trees s0.now.trees (mean.full).trees (kept_back alike_list s0.now.trees s2.now.trees still_alike) mean.same.rows;
+        meta = mean.same.meta ∙ ap₂ meta_as (sym is) (sym same_meta);
         second = kept_rows second_list s2.now.trees (second_in s0.now) (mean.full).trees (kept_back second_list (second_in s0.now) s2.now.trees same_second) mean.same.second;
       }
 
       -- meta can be raised in the one where it can in the other
       raisable : IsRaisable s0.now → IsRaisableFrom version s2.now
-      raisable (inl there) = inl (second s0.now there)
+      raisable (inl there) = inl (λ one. second s0.now there (sym is ∙ one))
       raisable (inr by) = inr (subst IsByRowid (sym same_meta) by)
 
-      -- where counting the calls keeps the commit, so does all from the begin on
-      pub filling_kept : (s3 : State) → KeepsCommit s2 s3 → KeepsCommit s0 s3
-      filling_kept s3 kept = commit_kept s0 s2 s3 goes_on_renewed kept
+    -- then the calls are counted
+    module _ (s3 : State) where
+      -- where that is refused, the commit before the begin stands
+      pub filling_kept : (e : StoreFault) → Turns {A = Unit {0}} HasNone (IsFilled version) s2 s3 (Err e) → HasCleanDisk s3 → KeepsCommit s0 s3
+      filling_kept e fills clean = let at = fills.clean clean in commit_kept s0 s2 s3 (goes_on_renewed at) (fills.goes clean (has_none at))
 
-      module _ (s3 : State) (filled : GoesOn s2 s3 × IsFilled version s2.now s3.now) where
+      -- nothing is committed
+      pub filling_holds_back : (r : Result (Unit {0}) StoreFault) → Turns HasNone (IsFilled version) s2 s3 r → CommitsNothing s0 s3
+      filling_holds_back r fills = nothing_then s0 s2 s3 (renewing_holds_back (Ok tt) renews) (fills.crash has_none)
+
+      module _ (fills : Turns {A = Unit {0}} {E = StoreFault} HasNone (IsFilled version) s2 s3 (Ok tt)) where
+        filled : HasCleanDisk s3 → GoesOn s2 s3 × IsFilled version s2.now s3.now
+        filled clean = fills.goes clean (has_none (fills.clean clean))
+
         -- a database that was filled had our tables, meta's one version, and a job for each hold
-        pub was_ours : IsOurs s0.now
-        was_ours = record {
-          schema_is = ours;
-          version = sym same_versions ∙ filled.1.version_is;
-          held = λ hold there. let it = filled.1.held hold (subst (λ rows. Has rows hold) (sym renewed.renews.rows.1.1.0) there) in (it.0, subst (λ rows. Has rows it.0) renewed.renews.rows.0 it.1, it.2);
-        }
+        was_ours : HasCleanDisk s3 → IsOurs s0.now
+        was_ours clean =
+            let at = fills.clean clean in
+            let it = (filled clean).1 in
+            let rows = (renewed at).renews.rows in
+            record {
+              schema_is = begun.ours;
+              version = sym (same_versions at) ∙ it.version_is ∙ ap (λ v. number v ∷ []) is;
+              held = λ hold there. let job = it.held hold (subst (λ rows. Has rows hold) (sym rows.1.1.0) there) in (job.0, subst (λ rows. Has rows job.0) rows.0 job.1, job.2);
+            }
 
         -- once filled, it has all tables, with the rows that it had
-        pub is_taken : IsTaken s0.now s3.now
-        is_taken = let it = filled.1 in record {
+        is_taken : HasCleanDisk s3 → IsTaken s0.now s3.now
+        is_taken clean = let at = fills.clean clean in let it = (filled clean).1 in record {
           schema_is = it.schema_is;
           sound = it.sound;
-          rows = kept_rows alike_list s0.now.trees s2.now.trees s3.now.trees (alike s0.now s2.now renewed.renews) it.rows;
-          meta = λ can. it.meta (raisable can) ∙ ap (meta_as version) same_meta;
-          second = kept_rows second_list (second_in s0.now) s2.now.trees s3.now.trees same_second it.second;
+          rows = kept_rows alike_list s0.now.trees s2.now.trees s3.now.trees (still_alike at) it.rows;
+          meta = λ can. it.meta (raisable at can) ∙ ap₂ meta_as is (same_meta at);
+          second = kept_rows second_list (second_in s0.now) s2.now.trees s3.now.trees (same_second at) it.second;
         }
 
-        -- where the commit is refused, the commit before the begin stands
-        pub not_taken : (s4 : State) (e : Error) → Executes COMMIT.now [] s3 s4 (Err e) → KeepsCommit s0 s4
-        not_taken s4 e failed = commit_kept s0 s3 s4 (goes_on s0 s2 s3 goes_on_renewed filled.0) (refused_keeps s3 s4 COMMIT.now e failed)
+        module _ (s4 : State) where
+          -- where the commit is refused, the commit before the begin stands
+          pub not_taken : (e : Error) → HasCleanDisk s3 → Executes COMMIT.now [] s3 s4 (Err e) → KeepsCommit s0 s4
+          not_taken e clean failed = commit_kept s0 s3 s4 (goes_on s0 s2 s3 (goes_on_renewed (fills.clean clean)) (filled clean).0) (refused_keeps s3 s4 COMMIT.now e failed)
 
-        module _ (s4 : State) (k : ℕ) (committed : Executes COMMIT.now [] s3 s4 (Ok k)) where
           -- once committed, the database has all tables with the rows that it had, and no work is under way
-          pub has_taken : HasTaken s4 s0.now
-          has_taken =
+          pub has_taken : (k : ℕ) → HasCleanDisk s3 → Executes COMMIT.now [] s3 s4 (Ok k) → HasBecome s0.now s4
+          has_taken k clean committed =
               let done = commits s3 s4 k committed in
-              record { autocommit = done.mode; settled = done.now_is ∙ sym done.committed_is; taken = subst (λ (d : Database). IsTaken s0.now d) (sym done.now_is) is_taken }
+              (was_ours clean, record { autocommit = done.mode; settled = done.now_is ∙ sym done.committed_is; taken = subst (λ (d : Database). IsTaken s0.now d) (sym done.now_is) (is_taken clean) })
 
-          -- once committed, what the tables meant is at rest
-          pub whole_means : (m : Queue) (kept : Ledger) → TablesMean s3.now m kept → IsAtRest s4 m kept
-          whole_means m kept means =
-              let done = commits s3 s4 k committed in
-              record { autocommit = done.mode; settled = done.now_is ∙ sym done.committed_is; means = same_tables m kept done.now_is means }
+          -- a crash while a database is taken leaves what it could leave before, or the rows that it had
+          pub taking_stops : Survives s3 s4 (CommitsBy COMMIT.now [] s3) → MayMake s0 s4 (AreTaken s0.now)
+          taking_stops committing found may = elim (commit_makes s3 s4 committing (λ clean. (filled clean).0.mode) found may) [
+            | inl before ↦ inl (filling_holds_back (Ok tt) fills found before)
+            | inr it ↦ inr (s3.now, sym it.1, was_ours it.0, is_taken it.0)
+          ]
 
 -- a fault that is passed on is the one that was told
 pub told_strange : (r : Result (Unit {0}) StoreFault) (fault : StoreFault) → IsErrAnd r (λ e. e ≡ fault) → r ≡ Err Strange → ◌≡◌ {A = Result (Unit {0}) StoreFault} (Err fault) (Err Strange)
@@ -355,51 +422,9 @@ module _ (v : ℕ) (old new : State) (ours : old.now.schema ≡ our_tables) (row
 
 -- ---- a stop
 
--- nothing is committed, and so nothing is made
-pub makes_none : (old new : State) (Made : Trees → Type 0) → CommitsNothing old new → MayMake old new Made
-makes_none old new Made nothing found may = inl (nothing found may)
-
--- the same where a call behind it commits nothing
+-- what was made, where a call behind it commits nothing
 pub makes_then : (a b c : State) (Made : Trees → Type 0) → MayMake a b Made → CommitsNothing b c → MayMake a c Made
 makes_then a b c Made first next found may = first found (next found may)
-
-module _ (s0 s1 : State) (none : s0.now.schema ≡ no_tables) (n : ℕ) (survives : Survives s0 s1 (CommitsBy BEGIN.now [] s0)) (began : HasCleanDisk s1 → Executes BEGIN.now [] s0 s1 (Ok n)) (s2 : State) (made : HoldsBack (HasEmptyTables no_tables) s1 s2) where
-  -- making the tables commits nothing before its commit
-  pub tables_hold_back : CommitsNothing s0 s2
-  tables_hold_back = nothing_then s0 s1 s2 (begin_nothing s0 s1 survives) (made (λ clean. starts_empty s0 s1 none n (began clean)))
-
-  -- a crash while the tables are made leaves what it could leave before, or an empty store
-  pub tables_stop : (HasCleanDisk s2 → HasCleanDisk s1) → (HasCleanDisk s2 → HasEmptyTables no_tables s1 → GoesOn s1 s2 × TablesMean s2.now empty_queue empty_ledger)
-      → (s3 : State) → Survives s2 s3 (CommitsBy COMMIT.now [] s2) → MayMake s0 s3 (λ found. RowsFound found empty_queue empty_ledger)
-  tables_stop cleaner done s3 committing found may =
-      let here : HasCleanDisk s2 → GoesOn s1 s2 × TablesMean s2.now empty_queue empty_ledger = λ clean. done clean (starts_empty s0 s1 none n (began (cleaner clean))) in
-      elim (commit_makes s2 s3 committing (λ clean. (here clean).0.mode) found may) [
-        | inl before ↦ inl (tables_hold_back found before)
-        | inr it ↦ inr (s2.now, sym it.1, (here it.0).1)
-      ]
-
-module _ (s0 s1 : State) (ours : AreOurs s0.now.schema) (n : ℕ) (survives : Survives s0 s1 (CommitsBy BEGIN.now [] s0)) (began : HasCleanDisk s1 → Executes BEGIN.now [] s0 s1 (Ok n)) (s2 : State) (made : HoldsBack (IsIn AreOurs) s1 s2) where
-  -- nor does making what is missing
-  pub renewing_holds_back : CommitsNothing s0 s2
-  renewing_holds_back = nothing_then s0 s1 s2 (begin_nothing s0 s1 survives) (made (λ clean. starts_ours s0 s1 ours n (began clean)))
-
-  module _ (cleaner : HasCleanDisk s2 → HasCleanDisk s1) (done : HasCleanDisk s2 → IsIn AreOurs s1 → GoesOn s1 s2 × HasNewCalls s1.now s2.now) (s3 : State) (fills : HoldsBack HasNone s2 s3) where
-    -- nor counting the calls
-    pub filling_holds_back : CommitsNothing s0 s3
-    filling_holds_back = nothing_then s0 s2 s3 renewing_holds_back (fills (λ clean. has_none s0 s1 ours n (began (cleaner clean)) s2 (done clean)))
-
-    -- a crash while a database is taken leaves what it could leave before, or the rows that it had
-    pub taking_stops : (HasCleanDisk s3 → HasCleanDisk s2) → (HasCleanDisk s3 → HasNone s2 → GoesOn s2 s3 × IsFilled (version_of s0.now.schema) s2.now s3.now)
-        → (s4 : State) → Survives s3 s4 (CommitsBy COMMIT.now [] s3) → MayMake s0 s4 (AreTaken s0.now)
-    taking_stops cleaned filled s4 committing found may =
-        let start : (clean : HasCleanDisk s3) → Executes BEGIN.now [] s0 s1 (Ok n) = λ clean. began (cleaner (cleaned clean)) in
-        let fill : HasCleanDisk s3 → GoesOn s2 s3 × IsFilled (version_of s0.now.schema) s2.now s3.now = λ clean. filled clean (has_none s0 s1 ours n (start clean) s2 (done (cleaned clean))) in
-        elim (commit_makes s3 s4 committing (λ clean. (fill clean).0.mode) found may) [
-          | inl before ↦ inl (filling_holds_back found before)
-          | inr it ↦
-              (let clean = it.0 in
-              inr (s3.now, sym it.1, was_ours s0 s1 ours n (start clean) s2 (done (cleaned clean)) s3 (fill clean), is_taken s0 s1 ours n (start clean) s2 (done (cleaned clean)) s3 (fill clean)))
-        ]
 
 -- Rows have one meaning: the tables of any database that has them are ours, where those of one are.
 pub rows_reopened : (db : Database) (m : Queue) (k : Ledger) → RowsFound db.trees m k → IsDatabase db → TablesMean db m k

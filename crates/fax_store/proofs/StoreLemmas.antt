@@ -3,7 +3,8 @@ use Rattle.std.proofs.Common.{◌≡◌, ◌⊎◌, inl, inr, ◌≤◌, ℕ, Li
 use Rattle.sqlite.specs.Effect.{Database}
 use Rattle.sqlite.specs.View.{doubt}
 use Rattle.sqlite.specs.declared.error.Error.{Error}
-use Rattle.sqlite.specs.State.{State, HasCleanDisk, IsUnchanged, IsRolledBack, Executes}
+use Rattle.sqlite.specs.State.{State, HasCleanDisk, IsUnchanged, IsRolledBack, Executes, Survives}
+use Rattle.sqlite_trees.specs.Tree.{Trees}
 use Rattle.sqlite.specs.Held.{Held, state}
 use Rattle.sqlite.specs.Steps.{over_memory}
 use Rattle.sqlite_trees.specs.declared.memory.MemStore.{MemStore}
@@ -42,6 +43,10 @@ rows_left old new db s (inl same) was = record { autocommit = same.0.mode ∙ wa
 rows_left old new db s (inr undone) was =
     let back = undone.undone s.is_open in
     record { autocommit = undone.autocommit; now = back.0 ∙ was.committed; committed = back.1 ∙ was.committed }
+
+-- the disk was clean, where it still is behind a call
+pub clean_in : {old new : State} {P : Trees → Type 0} → Survives old new P → HasCleanDisk new → HasCleanDisk old
+clean_in survives now = let kept = survives.clean in omega arith
 
 module _ (old new : State) (kept : doubt old.is_clean ≤ doubt new.is_clean) where
   -- the disk was clean, where it still is
