@@ -60,8 +60,7 @@ use Rattle.fax_schema.proofs.ColumnLemmas.{all_kept}
 use Rattle.fax_schema.proofs.CompareLemmas.{is_number, more_than}
 use Rattle.fax_schema.proofs.SelectLemmas.{each_passing}
 use Rattle.fax_tables.proofs.TablesLemmas.{row_of}
-use Rattle.fax_store.proofs.JobsLemmas.{number_of, ascend}
-use Rattle.fax_store.proofs.OrderLemmas.{Below}
+use Rattle.fax_store.proofs.JobsLemmas.{number_of, ascend, Below}
 use Rattle.fax_schema.proofs.StatementTexts.{SelectsPage, number_tests, other_tests, page_query, priority_tests, prospect_names, prospect_project, select_behind_number, select_behind_priority, select_behind_time, select_first, time_tests}
 use Rattle.fax_store.proofs.WaitingLemmas as waiting
 

@@ -41,15 +41,13 @@ use Rattle.fax_store.specs.Store.{FindsRow}
 use Rattle.fax_store.specs.declared.store.Store.{Store}
 use Rattle.fax_tables.specs.Tables.{IsLawfulGrant, TablesMean}
 use Rattle.fax_tables.proofs.KeyLemmas.{found_holds}
-use Rattle.fax_store.proofs.LookLemmas.{Keys}
-use Rattle.fax_schema.proofs.ColumnLemmas.{all_kept}
+use Rattle.fax_store.proofs.FoundLemmas.{Keys, key_of, none_keyed, one_passes}
+use Rattle.fax_schema.proofs.ColumnLemmas.{all_kept, record_of, row_of}
 use Rattle.fax_schema.specs.ByRowid.{IsByRowid}
-use Rattle.fax_schema.proofs.ColumnLemmas.{record_of, row_of}
 use Rattle.fax_schema.proofs.CompareLemmas.{are_equal, compared, equal_texts}
 use Rattle.fax_schema.proofs.EditLemmas.{shown_one, none_shown}
 use Rattle.fax_schema.proofs.GrantTexts.{hold_tests, hold_project, select_hold}
 use Rattle.fax_schema.proofs.SelectLemmas.{passes, show, answers}
-use Rattle.fax_store.proofs.FoundLemmas.{key_of, none_keyed, one_passes}
 use Rattle.fax_tables.specs.declared.grants.Hold.{Hold}
 
 -- ---- a modem stands in one row

@@ -4,7 +4,7 @@ use Rattle.fax_schema.specs.declared.statements.TheConstants.{SHUT_GRANT, DELETE
 use Rattle.fax_store.specs.Grant.{SetsCalls, with_closed, with_count}
 use Rattle.fax_store.specs.Store.{HasRun}
 use Rattle.fax_tables.proofs.TablesLemmas.{calls, calls_of}
-use Rattle.fax_store.proofs.GrantWriteLemmas.{close_counted, close_params, grant_closed}
+use Rattle.fax_store.proofs.GrantLemmas.{close_counted, close_params, grant_closed}
 use Rattle.fax_store.proofs.FrameLemmas.{runs_then, writes_where_refused}
 use Rattle.fax_store.proofs.WorkLemmas.{inside_by, moves_by, ok_as, step_of}
 use Rattle.fax_schema.proofs.GrantTexts as texts

@@ -1,7 +1,7 @@
 use Rattle.std.proofs.Common.{◌≡◌, false, rules}
 use Rattle.fax_schema.specs.declared.statements.TheConstants.{EXPIRE_JOBS}
 use Rattle.fax_store.specs.Job.{with_expired_in}
-use Rattle.fax_store.proofs.ChangeLemmas.{expired_params, jobs_expired}
+use Rattle.fax_store.proofs.JobLemmas.{expired_params, jobs_expired}
 use Rattle.fax_store.proofs.StatementLemmas.{edit_text}
 use Rattle.fax_schema.proofs.StatementTexts as texts
 use Rattle.fax_store.proofs.FrameLemmas.{edits_with, reads_on, runs_of, runs_then, writes_by}

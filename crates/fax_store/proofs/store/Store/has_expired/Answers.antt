@@ -2,7 +2,7 @@ use Rattle.std.proofs.Common.{sym, subst, ◌∙◌, rules}
 use Rattle.sqlite.specs.Held.{state}
 use Rattle.fax_schema.specs.declared.statements.TheConstants.{SELECT_EXPIRED}
 use Rattle.fax_store.specs.Store.{FindsRow}
-use Rattle.fax_store.proofs.ChangeLemmas.{expired_params, none_expired}
+use Rattle.fax_store.proofs.JobLemmas.{expired_params, none_expired}
 use Rattle.fax_schema.proofs.StatementTexts.{select_expired}
 use Rattle.fax_store.proofs.FrameLemmas.{finds_as}
 use Rattle.fax_store.proofs.store.Store.has_expired.Goals as goal

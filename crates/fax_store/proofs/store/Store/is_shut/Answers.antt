@@ -1,7 +1,7 @@
 use Rattle.std.proofs.Common.{[], rules}
 use Rattle.sqlite.specs.Held.{state}
 use Rattle.fax_store.specs.declared.store.TheConstants.{COMMIT}
-use Rattle.fax_store.proofs.ShutLemmas.{is_closed, still_rests, was_served}
+use Rattle.fax_store.proofs.StoreLemmas.{is_closed, still_rests, was_served}
 use Rattle.fax_store.proofs.store.Store.is_shut.Goals as goal
 
 pub returns-then-eq-clause-told : goal.returns-then-eq-clause-told

@@ -5,7 +5,7 @@ use Rattle.fax_store.specs.Grant.{SetsCalls, with_count, with_placed}
 use Rattle.fax_store.specs.Store.{HasRun, IsRefusedFor}
 use Rattle.fax_tables.specs.Tables.{IsLawfulGrant}
 use Rattle.fax_tables.proofs.TablesLemmas.{calls, calls_of}
-use Rattle.fax_store.proofs.GrantWriteLemmas.{hold_params, grant_params, hold_goes, grant_counted, grant_put, grant_goes}
+use Rattle.fax_store.proofs.GrantLemmas.{hold_params, grant_params, hold_goes, grant_counted, grant_put, grant_goes}
 use Rattle.fax_store.proofs.FrameLemmas.{runs_then, writes_if_where_refused}
 use Rattle.fax_store.proofs.WorkLemmas.{inside_by, moves_by, ok_as, refused_as}
 use Rattle.fax_schema.proofs.GrantTexts as texts

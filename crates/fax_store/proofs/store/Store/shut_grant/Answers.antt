@@ -3,7 +3,7 @@ use Rattle.sqlite.specs.Held.{state}
 use Rattle.sqlite.specs.Tree.{IsTable}
 use Rattle.fax_core.specs.Queue.{grant_numbered}
 use Rattle.fax_store.specs.Work.{IsUnderWay}
-use Rattle.fax_store.proofs.GrantWriteLemmas.{closed_already}
+use Rattle.fax_store.proofs.GrantLemmas.{closed_already}
 use Rattle.fax_store.proofs.WorkLemmas.{goes_on, holds_by, holds_then}
 use Rattle.std.specs.Prelude.{is_err, false}
 use Rattle.fax_store.proofs.store.Store.shut_grant.Goals as goal

@@ -8,7 +8,7 @@ use Rattle.fax_schema.specs.declared.statements.TheConstants.{UPDATE_JOB}
 use Rattle.fax_store.specs.Calls.{WritesWhere}
 use Rattle.fax_store.specs.Job.{IsChange, with_change}
 use Rattle.fax_tables.specs.Row.{number}
-use Rattle.fax_store.proofs.ChangeLemmas.{IsFormedChange, job_changed}
+use Rattle.fax_store.proofs.JobLemmas.{IsFormedChange, job_changed}
 use Rattle.fax_tables.proofs.RowLemmas.{change_params, changed_by}
 use Rattle.fax_store.proofs.StatementLemmas.{edit_text}
 use Rattle.fax_schema.proofs.StatementTexts as texts

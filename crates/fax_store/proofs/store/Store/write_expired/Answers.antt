@@ -3,7 +3,7 @@ use Rattle.sqlite.specs.Held.{state}
 use Rattle.fax_store.specs.Job.{with_expired_in}
 use Rattle.fax_job.specs.declared.job.Phase.TheVariants.{Held}
 use Rattle.fax_store.specs.Work.{Steps}
-use Rattle.fax_store.proofs.ChangeLemmas.{expired_in_turn}
+use Rattle.fax_store.proofs.JobLemmas.{expired_in_turn}
 use Rattle.fax_store.proofs.FrameLemmas.{runs_then, writes_refused}
 use Rattle.fax_store.proofs.store.Store.write_expired.Goals as goal
 

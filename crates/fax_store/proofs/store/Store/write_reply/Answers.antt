@@ -5,7 +5,7 @@ use Rattle.fax_schema.specs.declared.statements.TheConstants.{INSERT_REPLY}
 use Rattle.fax_tables.specs.Kept.{entry}
 use Rattle.fax_tables.specs.Row.{number}
 use Rattle.fax_tables.specs.Tables.{IsLawfulEntry}
-use Rattle.fax_store.proofs.RepliesLemmas.{reply_kept, reply_goes}
+use Rattle.fax_store.proofs.KeptLemmas.{reply_kept, reply_goes}
 use Rattle.fax_store.proofs.StatementLemmas.{edit_text}
 use Rattle.fax_schema.proofs.StatementTexts as texts
 use Rattle.fax_store.proofs.FrameLemmas.{inserts_with, writes_if_by}

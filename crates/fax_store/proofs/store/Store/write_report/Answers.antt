@@ -3,7 +3,7 @@ use Rattle.sqlite.specs.Held.{state}
 use Rattle.fax_core.specs.Machine.{with_grant}
 use Rattle.fax_schema.specs.declared.statements.TheConstants.{UPDATE_REPORT}
 use Rattle.fax_store.specs.Store.{HasRun}
-use Rattle.fax_store.proofs.GrantWriteLemmas.{report_params, grant_reported}
+use Rattle.fax_store.proofs.GrantLemmas.{report_params, grant_reported}
 use Rattle.fax_store.proofs.WorkLemmas.{step_by, moves_of}
 use Rattle.fax_store.proofs.StatementLemmas.{edit_text}
 use Rattle.fax_schema.proofs.GrantTexts as texts
