@@ -124,7 +124,7 @@ module _ (g : Grant) where
   open_row : IsTrue g.is_open → grant_row g ≡ number g.number ∷ Null ∷ number g.job ∷ Text g.modem ∷ number g.first_page ∷ number g.last_page ∷ number (call_number g.call) ∷ number g.confirmed ∷ number 0 ∷ []
   open_row is_open = rw is_open refl
 
-  module _ (old mid new : State) (m : Queue) (k : Ledger) (means : TablesMean old.now m k) where
+  module _ (old mid : State) (m : Queue) (k : Ledger) (means : TablesMean old.now m k) where
     -- the text that holds inserts the grant's hold, with the next rowid
     hold_inserted : HasRun INSERT_HOLD.now hold_params old mid → InsertsRow our_tables holds_tree old mid (Int (next_rowid (old.now.trees holds_tree)) ∷ hold_columns g)
     hold_inserted h =
@@ -148,8 +148,8 @@ module _ (g : Grant) where
         holds_changed old mid m (open_grants m) (calls_of m) k (parts_of old.now m k means) done.keeps (g ∷ open_grants m) now
 
     -- the grant too, and its call is to be counted yet
-    pub grant_put : IsTrue g.is_open → IsLawfulGrant g → HasRun INSERT_HOLD.now hold_params old mid → HasRun INSERT_GRANT.now grant_params mid new → Parts new.now (with_placed g m) (open_grants (with_placed g m)) (calls_of m) k
-    grant_put is_open lawful h more =
+    pub grant_put : (new : State) → IsTrue g.is_open → IsLawfulGrant g → HasRun INSERT_HOLD.now hold_params old mid → HasRun INSERT_GRANT.now grant_params mid new → Parts new.now (with_placed g m) (open_grants (with_placed g m)) (calls_of m) k
+    grant_put new is_open lawful h more =
         let was = held h in
         let row = open_row is_open in
         let ran = runs_as INSERT_GRANT.now grant_params mid new our_tables was.schema _ insert_grant.is insert_grant.plain more.0 more.1 in
@@ -168,29 +168,6 @@ module _ (g : Grant) where
           ordered = (after.says holds).ordered;
         } in
         held_as new.now (with_placed g m) (g ∷ open_grants m) (open_grants (with_placed g m)) (calls_of m) k stand after
-
-    -- the calls to each number with this one
-    counts_placed : (j : Job) → job_numbered g.job m ≡ Some j → IsTrue g.is_open → (dial : List ℕ) → with_count j.dial (calls_of m j.dial + 1) (calls_of m) dial ≡ calls_of (with_placed g m) dial
-    counts_placed j there is_open =
-        one_more j.dial (calls_of m) (calls_of (with_placed g m)) (λ dial. placed_count (λ x. is_of_number dial (job_numbered x.job m)) g m.grants
-        ∙ ap₂ (λ b o. one (b && is_of_number dial o) + calls_of m dial) is_open there)
-
-    -- once that is counted, the tables mean the queue with the grant
-    pub grant_counted : (j : Job) → job_numbered g.job m ≡ Some j → IsTrue g.is_open → Parts new.now (with_placed g m) (open_grants (with_placed g m)) (calls_of m) k → (last : State) → SetsCalls new last (with_count j.dial (calls_of m j.dial + 1) (calls_of m))
-        → TablesMean last.now (with_placed g m) k
-    grant_counted j there is_open was last set =
-        let after = with_placed g m in
-        means_of last.now after k jobs
-        (calls_as last.now after (open_grants after) (with_count j.dial (calls_of m j.dial + 1) (calls_of m)) (calls_of after) k (counts_placed j there is_open)
-        (calls_changed new last after (open_grants after) (calls_of m) k was set.schema_is set.sound set.rows (with_count j.dial (calls_of m j.dial + 1) (calls_of m)) set.calls))
-      where
-        jobs : HaveJobs (with_placed g m)
-        jobs h has =
-            let kept = has_filtered (λ (x : Grant). x.is_open) (placed (λ (x : Grant). x.number) g m.grants) h has in
-            elim (has_placed g h m.grants kept.0) [
-              | inl is ↦ (j, ap (λ (x : Grant). job_numbered x.job m) is ∙ there)
-              | inr among ↦ means.held h (has_kept (λ (x : Grant). x.is_open) m.grants h among kept.1)
-            ]
 
     -- the row of a hold agrees with the new one where modem, job or grant is the same
     modem_agrees : (r : Row) (h : Grant) (id : ℤ) → drop 1 r ≡ hold_columns h → agree plain (1 ∷ []) r (1 ∷ []) (Int id ∷ hold_columns g) ≡ bytes_eq h.modem g.modem
@@ -222,13 +199,37 @@ module _ (g : Grant) where
         (Int id ∷ hold_columns g) refl (ap (with_rowid Chosen rows) stored_hold) may INSERT_HOLD.now insert_hold mid
 
     -- and then its grant, of a number that none has
-    pub grant_goes : IsTrue g.is_open → IsNewGrant g m → HasRun INSERT_HOLD.now hold_params old mid → (e : Error) → Executes INSERT_GRANT.now grant_params mid new (Err e) → fault_of e ≡ Unavailable
-    grant_goes is_open free h =
+    pub grant_goes : (new : State) → IsTrue g.is_open → IsNewGrant g m → HasRun INSERT_HOLD.now hold_params old mid → (e : Error) → Executes INSERT_GRANT.now grant_params mid new (Err e) → fault_of e ≡ Unavailable
+    grant_goes new is_open free h =
         let was = held h in
         let untaken = free_row grant_row (λ (x : Grant). x.number) (λ x. refl) g m.grants free.number in
         let may = grant_may mid.now was.schema was.sound g (subst (λ rows. is_taken rows (grant_row g) ≡ false) (sym (was.says grants).is) untaken) in
         no_rule_broken schema.grants.name 1 schema.grants.columns schema.grants.key schema.grants.primary schema.grants.uniques schema.grants.orders schema.grants.checks 1 refl mid was.schema grant_params grant_terms 9 (grant_row g) (grant_row g)
         (ap (λ r. r ∷ []) (sym (open_row is_open))) (ap (with_rowid Chosen (mid.now.trees grants_tree)) (stored_grant g)) may INSERT_GRANT.now insert_grant new
+
+  module _ (m : Queue) (have : HaveJobs m) where
+    -- the calls to each number with this one
+    counts_placed : (j : Job) → job_numbered g.job m ≡ Some j → IsTrue g.is_open → (dial : List ℕ) → with_count j.dial (calls_of m j.dial + 1) (calls_of m) dial ≡ calls_of (with_placed g m) dial
+    counts_placed j there is_open =
+        one_more j.dial (calls_of m) (calls_of (with_placed g m)) (λ dial. placed_count (λ x. is_of_number dial (job_numbered x.job m)) g m.grants
+        ∙ ap₂ (λ b o. one (b && is_of_number dial o) + calls_of m dial) is_open there)
+
+    -- once that is counted, the tables mean the queue with the grant
+    pub grant_counted : (new last : State) (k : Ledger) (j : Job) → job_numbered g.job m ≡ Some j → IsTrue g.is_open → Parts new.now (with_placed g m) (open_grants (with_placed g m)) (calls_of m) k → SetsCalls new last (with_count j.dial (calls_of m j.dial + 1) (calls_of m))
+        → TablesMean last.now (with_placed g m) k
+    grant_counted new last k j there is_open was set =
+        let after = with_placed g m in
+        means_of last.now after k jobs
+        (calls_as last.now after (open_grants after) (with_count j.dial (calls_of m j.dial + 1) (calls_of m)) (calls_of after) k (counts_placed j there is_open)
+        (calls_changed new last after (open_grants after) (calls_of m) k was set.schema_is set.sound set.rows (with_count j.dial (calls_of m j.dial + 1) (calls_of m)) set.calls))
+      where
+        jobs : HaveJobs (with_placed g m)
+        jobs h has =
+            let kept = has_filtered (λ (x : Grant). x.is_open) (placed (λ (x : Grant). x.number) g m.grants) h has in
+            elim (has_placed g h m.grants kept.0) [
+              | inl is ↦ (j, ap (λ (x : Grant). job_numbered x.job m) is ∙ there)
+              | inr among ↦ have h (has_kept (λ (x : Grant). x.is_open) m.grants h among kept.1)
+            ]
 
 -- ---- a report
 
@@ -368,10 +369,10 @@ module _ (n : ℕ) where
     pub closed_is : record m { grants = map shut m.grants } ≡ with_closed n m
     closed_is = ap (λ gs. record m { grants = gs }) (closed_by (grant_numbered n m) refl) ∙ as_closed (grant_numbered n m)
 
-  module _ (old mid new : State) (m : Queue) (k : Ledger) (means : TablesMean old.now m k) where
-    abbrev after : Queue
-    after = record m { grants = map shut m.grants }
+  abbrev pub after : Queue → Queue
+  after m = record m { grants = map shut m.grants }
 
+  module _ (old mid new : State) (m : Queue) (k : Ledger) (means : TablesMean old.now m k) where
     -- the text that shuts a grant touches grants alone, and shuts the one of the number
     grants_shut : HasRun SHUT_GRANT.now close_params old mid → KeepsOthers our_tables grants_tree old mid × AreRecords grant_row IsLawfulGrant (mid.now.trees grants_tree) (map shut m.grants)
     grants_shut h =
@@ -391,7 +392,7 @@ module _ (n : ℕ) where
     is_held (v ∷ r) = refl
 
     -- the grant is shut and held no more, and its call is to be taken off yet
-    pub grant_closed : HasRun SHUT_GRANT.now close_params old mid → HasRun DELETE_HOLD.now close_params mid new → Parts new.now after (open_grants after) (calls_of m) k
+    pub grant_closed : HasRun SHUT_GRANT.now close_params old mid → HasRun DELETE_HOLD.now close_params mid new → Parts new.now (after m) (open_grants (after m)) (calls_of m) k
     grant_closed h more =
         let first = grants_shut h in
         let was = grants_changed old mid m (open_grants m) (calls_of m) k (parts_of old.now m k means) first.0 (map shut m.grants) first.1 in
@@ -399,30 +400,30 @@ module _ (n : ℕ) where
         let done = deleted schema.holds.name 2 schema.holds.columns schema.holds.key schema.holds.primary schema.holds.uniques schema.holds.orders schema.holds.checks 2 refl mid new was.schema refl (was.says holds).ordered
         held_tests gone_project close_params (λ r. refl) _ more.0 ran in
         let others = λ (columns : Row). not (are_equal (column columns 2) (number n) && true) in
-        let left : filter (λ x. others (hold_columns x)) (open_grants m) ≡ open_grants after =
+        let left : filter (λ x. others (hold_columns x)) (open_grants m) ≡ open_grants (after m) =
         filter_same (λ x. others (hold_columns x)) (λ x. not (x.number == n)) (open_grants m) (all_of (λ x. others (hold_columns x) ≡ not (x.number == n)) (λ x. ap not (and-true (are_equal (number x.number) (number n)) ∙ is_number x.number n)) (open_grants m))
         ∙ sym (open_shut m.grants) in
         let kept = kept_permuted hold_columns (λ r. not (passes holds_tree held_tests gone_project close_params r)) others (λ r. ap not (is_held r)) (mid.now.trees holds_tree) (open_grants m) (was.says holds).is in
-        let now : AreHeld (new.now.trees holds_tree) (open_grants after) = record {
-          is = subst (λ rows. IsPermutation (map hold_columns (open_grants after)) (map (drop 1) rows)) (sym done.1) (subst (λ gs. IsPermutation (map hold_columns gs) (map (drop 1) (filter (λ r. not (passes holds_tree held_tests gone_project close_params r)) (mid.now.trees holds_tree)))) left kept);
+        let now : AreHeld (new.now.trees holds_tree) (open_grants (after m)) = record {
+          is = subst (λ rows. IsPermutation (map hold_columns (open_grants (after m))) (map (drop 1) rows)) (sym done.1) (subst (λ gs. IsPermutation (map hold_columns gs) (map (drop 1) (filter (λ r. not (passes holds_tree held_tests gone_project close_params r)) (mid.now.trees holds_tree)))) left kept);
           ordered = done.2;
         } in
-        holds_changed mid new after (open_grants m) (calls_of m) k was done.0 (open_grants after) now
+        holds_changed mid new (after m) (open_grants m) (calls_of m) k was done.0 (open_grants (after m)) now
 
+  module _ (db : Database) (m : Queue) (k : Ledger) (means : TablesMean db m k) where
     -- the calls to each number without this one
-    counts_closed : (g : Grant) (j : Job) → grant_numbered n m ≡ Some g → g.is_open ≡ true → job_numbered g.job m ≡ Some j → (dial : List ℕ) → with_count j.dial (calls_of m j.dial - 1) (calls_of m) dial ≡ calls_of after dial
+    counts_closed : (g : Grant) (j : Job) → grant_numbered n m ≡ Some g → g.is_open ≡ true → job_numbered g.job m ≡ Some j → (dial : List ℕ) → with_count j.dial (calls_of m j.dial - 1) (calls_of m) dial ≡ calls_of (after m) dial
     counts_closed g j found on there =
-        one_less j.dial (calls_of m) (calls_of after) (λ dial. ap (λ o. calls_of after dial + one (is_of_number dial o)) (sym there)
+        one_less j.dial (calls_of m) (calls_of (after m)) (λ dial. ap (λ o. calls_of (after m) dial + one (is_of_number dial o)) (sym there)
         ∙ closed_count n (λ x. is_of_number dial (job_numbered x.job m)) g m.grants (subst IsTable means.grants means.ordered.grants.rise) found on)
 
     -- once it is taken off, the tables mean the queue without the hold
-    pub close_counted : (g : Grant) (j : Job) → grant_numbered n m ≡ Some g → g.is_open ≡ true → job_numbered g.job m ≡ Some j → Parts new.now after (open_grants after) (calls_of m) k → (last : State)
-        → SetsCalls new last (with_count j.dial (calls_of m j.dial - 1) (calls_of m)) → TablesMean last.now (with_closed n m) k
-    close_counted g j found on there was last set =
+    pub close_counted : (new last : State) (g : Grant) (j : Job) → grant_numbered n m ≡ Some g → g.is_open ≡ true → job_numbered g.job m ≡ Some j → Parts new.now (after m) (open_grants (after m)) (calls_of m) k → SetsCalls new last (with_count j.dial (calls_of m j.dial - 1) (calls_of m)) → TablesMean last.now (with_closed n m) k
+    close_counted new last g j found on there was set =
         subst (λ it. TablesMean last.now it k) (closed_is m (subst IsTable means.grants means.ordered.grants.rise))
-        (means_of last.now after k (jobs_shut n m means.held)
-        (calls_as last.now after (open_grants after) (with_count j.dial (calls_of m j.dial - 1) (calls_of m)) (calls_of after) k (counts_closed g j found on there)
-        (calls_changed new last after (open_grants after) (calls_of m) k was set.schema_is set.sound set.rows (with_count j.dial (calls_of m j.dial - 1) (calls_of m)) set.calls)))
+        (means_of last.now (after m) k (jobs_shut n m means.held)
+        (calls_as last.now (after m) (open_grants (after m)) (with_count j.dial (calls_of m j.dial - 1) (calls_of m)) (calls_of (after m)) k (counts_closed g j found on there)
+        (calls_changed new last (after m) (open_grants (after m)) (calls_of m) k was set.schema_is set.sound set.rows (with_count j.dial (calls_of m j.dial - 1) (calls_of m)) set.calls)))
 
 -- a grant that is open no more changes nothing where it is closed
 pub closed_already : (n : ℕ) (g : Grant) (m : Queue) → IsTable (map grant_row m.grants) → grant_numbered n m ≡ Some g → g.is_open ≡ false → with_closed n m ≡ m
