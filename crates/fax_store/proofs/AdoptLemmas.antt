@@ -32,7 +32,7 @@ use Rattle.fax_schema.proofs.RowsLemmas.{all_front, all_given, all_mapped, at_tr
 use Rattle.fax_schema.proofs.SelectLemmas.{answers}
 use Rattle.sqlite_schema.specs.declared.schema.Schema.{Schema}
 use Rattle.sqlite_schema.specs.declared.schema.Table.{Table}
-use Rattle.fax_store.specs.Adopt.{Adopts, AreAdopted, AreTaken, Founds, HasBecome, HasNone, HasTaken, HoldsCanBeCalled, IsAdoptable, IsFilled, IsIn, IsOurs, IsRaisable, IsRaisableFrom, IsTakeable, IsTaken, Leaves, MeansAs, QueuesAreTakeable, Settles, Takes, Turns, TurnsOrUnavailable}
+use Rattle.fax_store.specs.Adopt.{Adopts, AreAdopted, AreTaken, Founds, HasBecome, HasNone, HoldsCanBeCalled, IsAdoptable, IsFilled, IsIn, IsOurs, IsRaisable, IsRaisableFrom, IsTakeable, IsTaken, Leaves, MeansAs, QueuesAreTakeable, Settles, Takes, Turns, TurnsOrUnavailable}
 use Rattle.fax_store.specs.Store.{CommitsNothing, GoesBack, MayFind, MayMake, RowsFound, Serves}
 use Rattle.fax_store.proofs.ControlLemmas.{begins, commits}
 use Rattle.fax_store.proofs.HeldLemmas.{held_still, rows_callable}

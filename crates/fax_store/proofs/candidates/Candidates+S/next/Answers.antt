@@ -1,11 +1,9 @@
-use Rattle.std.proofs.Common.{ℕ, List, sym, subst, ap, ◌∙◌, rules}
+use Rattle.std.proofs.Common.{ℕ, List, sym, ap, ◌∙◌, rules}
 use Rattle.std.proofs.lemmas.Option.{none-some, same_Some}
 use Rattle.std.specs.Option.{option_map}
-use Rattle.std.specs.Vec.Iter.{into_iter_items}
 use Rattle.fax_core.specs.Job.{fields_of}
 use Rattle.fax_core.specs.Queue.{job_numbered}
 use Rattle.fax_core.specs.State.{calls_to}
-use Rattle.fax_store.specs.Candidates.{Gives, IsProspect}
 use Rattle.fax_tables.specs.declared.prospect.Prospect.{Prospect}
 use Rattle.fax_tables.proofs.ResultLemmas.{passes_on}
 use Rattle.fax_store.proofs.CandidateLemmas.{given_there}

@@ -1,5 +1,4 @@
 use Rattle.std.proofs.Common.{rules}
-use Rattle.sqlite.specs.Held.{state}
 use Rattle.fax_schema.specs.declared.statements.TheConstants.{DELETE_DOWN}
 use Rattle.fax_store.proofs.ModemLemmas as modems
 use Rattle.fax_store.proofs.StatementLemmas.{edit_text}

@@ -1,9 +1,7 @@
-use Rattle.std.proofs.Common.{◌-◌, sym, subst, rules}
-use Rattle.sqlite.specs.Held.{state}
+use Rattle.std.proofs.Common.{rules}
 use Rattle.fax_store.specs.Calls.{shown}
 use Rattle.fax_schema.specs.declared.statements.TheConstants.{SHUT_GRANT, DELETE_HOLD}
-use Rattle.fax_store.specs.Grant.{SetsCalls, with_closed, with_count}
-use Rattle.fax_store.specs.Store.{HasRun}
+use Rattle.fax_store.specs.Grant.{with_closed}
 use Rattle.fax_tables.proofs.TablesLemmas.{calls, calls_of}
 use Rattle.fax_store.proofs.GrantLemmas.{close_counted, close_params, grant_closed}
 use Rattle.fax_store.proofs.FrameLemmas.{runs_then, writes_where_refused, edits_with}

@@ -1,14 +1,11 @@
-use Rattle.std.proofs.Common.{◌≡◌, [], ◌∷◌, Some, Option, MatchOption, sym, ap, subst, ◌∙◌, rules}
+use Rattle.std.proofs.Common.{◌≡◌, [], ◌∷◌, MatchOption, sym, ap, subst, ◌∙◌, rules}
 use Rattle.std.specs.Option.{option_map}
 use Rattle.std.proofs.lemmas.Option.{same_Some}
 use Rattle.fax_store.proofs.FoundLemmas.{queries_with}
-use Rattle.sqlite.specs.Held.{state}
-use Rattle.sqlite.specs.Order.{Row}
 use Rattle.sqlite.specs.declared.types.Value.TheVariants.{Text}
 use Rattle.sqlite_rules.specs.Lists.{Has}
 use Rattle.fax_core.specs.Job.{Job}
 use Rattle.fax_schema.specs.declared.statements.TheConstants.{SELECT_DIAL}
-use Rattle.fax_store.specs.Store.{FindsRow}
 use Rattle.fax_tables.specs.Row.{number}
 use Rattle.fax_store.proofs.HeldLemmas.{dial_formed, dial_found, dial_there, dial_told}
 use Rattle.fax_schema.proofs.StatementTexts.{select_dial}

@@ -1,5 +1,4 @@
 use Rattle.std.proofs.Common.{rules}
-use Rattle.sqlite.specs.Held.{state}
 use Rattle.fax_schema.specs.declared.statements.TheConstants.{DELETE_REPLIES}
 use Rattle.fax_schema.proofs.ClientTexts as texts
 use Rattle.fax_store.proofs.FloorLemmas.{given_params, replies_dropped}

@@ -1,10 +1,7 @@
-use Rattle.std.proofs.Common.{◌≡◌, [], ◌∷◌, MatchOption, sym, subst, rules}
-use Rattle.sqlite.specs.Held.{state}
+use Rattle.std.proofs.Common.{sym, rules}
 use Rattle.fax_store.proofs.FoundLemmas.{queries_with}
 use Rattle.fax_schema.specs.declared.statements.TheConstants.{SELECT_FLOOR}
 use Rattle.fax_schema.proofs.ClientTexts.{select_floor}
-use Rattle.fax_tables.specs.Row.{number}
-use Rattle.fax_store.specs.Store.{FindsRow}
 use Rattle.fax_store.proofs.CallLemmas.{params}
 use Rattle.fax_store.proofs.FloorLemmas.{floor_found, floor_low}
 use Rattle.fax_store.proofs.store.Store.floor.Goals as goal

@@ -1,5 +1,4 @@
 use Rattle.std.proofs.Common.{◌≡◌}
-use Rattle.sqlite.specs.Held.{state}
 use Rattle.sqlite_rules.specs.Lists.{Has}
 use Rattle.fax_schema.specs.Schema.{core_tables, without_calls}
 use Rattle.fax_store.specs.Adopt.{AreCore}

@@ -1,8 +1,6 @@
-use Rattle.std.proofs.Common.{sym, subst, ◌∙◌, rules}
-use Rattle.sqlite.specs.Held.{state}
+use Rattle.std.proofs.Common.{sym, ◌∙◌, rules}
 use Rattle.fax_store.proofs.FoundLemmas.{queries_with}
 use Rattle.fax_schema.specs.declared.statements.TheConstants.{SELECT_EXPIRED}
-use Rattle.fax_store.specs.Store.{FindsRow}
 use Rattle.fax_store.proofs.JobLemmas.{expired_params, none_expired}
 use Rattle.fax_schema.proofs.StatementTexts.{select_expired}
 use Rattle.fax_store.proofs.FrameLemmas.{finds_as}

@@ -1,8 +1,6 @@
-use Rattle.std.proofs.Common.{subst, ◌∙◌, rules}
-use Rattle.sqlite.specs.Held.{state}
+use Rattle.std.proofs.Common.{◌∙◌, rules}
 use Rattle.fax_store.proofs.FoundLemmas.{queries_with}
 use Rattle.fax_schema.specs.declared.statements.TheConstants.{SELECT_DOWN}
-use Rattle.fax_store.specs.Store.{FindsRow}
 use Rattle.fax_store.proofs.ModemLemmas as modems
 use Rattle.fax_schema.proofs.ModemTexts.{select_down}
 use Rattle.fax_store.proofs.FrameLemmas.{finds_as}

@@ -1,5 +1,4 @@
 use Rattle.std.proofs.Common.{[], rules}
-use Rattle.sqlite.specs.Held.{state}
 use Rattle.fax_store.specs.declared.store.TheConstants.{COMMIT}
 use Rattle.fax_store.proofs.StoreLemmas.{is_closed, still_rests, was_served}
 use Rattle.fax_store.proofs.store.Store.is_shut.Goals as goal

@@ -1,11 +1,8 @@
-use Rattle.std.proofs.Common.{◌+◌, refl, sym, subst, ◌∙◌, rules}
-use Rattle.sqlite.specs.Held.{state}
+use Rattle.std.proofs.Common.{refl, ◌∙◌, rules}
 use Rattle.fax_store.specs.Calls.{shown}
 use Rattle.fax_value.specs.Name.{IsName}
 use Rattle.fax_schema.specs.declared.statements.TheConstants.{INSERT_GRANT, INSERT_HOLD}
-use Rattle.fax_store.specs.Grant.{SetsCalls, with_count, with_placed}
-use Rattle.fax_store.specs.Store.{HasRun, IsRefusedFor}
-use Rattle.fax_tables.specs.Tables.{IsLawfulGrant}
+use Rattle.fax_store.specs.Grant.{with_placed}
 use Rattle.fax_tables.proofs.TablesLemmas.{calls, calls_of}
 use Rattle.fax_store.proofs.GrantLemmas.{hold_params, grant_params, hold_goes, grant_counted, grant_put, grant_goes}
 use Rattle.fax_store.proofs.FrameLemmas.{runs_then, writes_if_where_refused, inserts_with}

@@ -1,10 +1,8 @@
-use Rattle.std.proofs.Common.{◌≡◌, [], ◌∷◌, MatchOption, sym, subst, rules}
+use Rattle.std.proofs.Common.{sym, rules}
 use Rattle.sqlite.specs.Held.{state}
 use Rattle.fax_store.proofs.FoundLemmas.{queries_with}
 use Rattle.fax_core.specs.State.{calls_to}
 use Rattle.fax_schema.specs.declared.statements.TheConstants.{SELECT_OPEN}
-use Rattle.fax_store.specs.Store.{FindsRow}
-use Rattle.fax_tables.specs.Row.{number}
 use Rattle.fax_store.proofs.CallLemmas as calls
 use Rattle.fax_store.proofs.CountLemmas.{calls_fit}
 use Rattle.fax_schema.proofs.GrantTexts.{select_open}

@@ -1,5 +1,4 @@
 use Rattle.std.proofs.Common.{◌≡◌}
-use Rattle.sqlite.specs.Held.{state}
 use Rattle.fax_schema.specs.Schema.{AreInOrder, AreOurs, core_tables}
 use Rattle.fax_store.specs.Adopt.{AreCore}
 use Rattle.fax_store.proofs.AdoptLemmas.{calls_then, leaves_then, turns_passed}

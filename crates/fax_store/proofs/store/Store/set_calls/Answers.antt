@@ -1,18 +1,16 @@
-use Rattle.std.proofs.Common.{◌≡◌, ◌≤◌, OnOk, subst, sym, rules}
-use Rattle.sqlite.specs.Held.{state}
+use Rattle.std.proofs.Common.{◌≡◌, ◌≤◌, rules}
 use Rattle.fax_store.proofs.FrameLemmas.{edits_with, runs_then}
 use Rattle.sqlite.proofs.InsideLemmas.{unchanged_keeps}
-use Rattle.std.specs.Prelude.{is_err, [], ◌∷◌}
+use Rattle.std.specs.Prelude.{[], ◌∷◌}
 use Rattle.sqlite.specs.declared.types.Value.TheVariants.{Text}
 use Rattle.fax_schema.specs.declared.statements.TheConstants.{DELETE_CALLS, INSERT_CALLS}
-use Rattle.fax_store.specs.Grant.{SetsCalls, with_count}
-use Rattle.fax_store.specs.Store.{HasRun}
+use Rattle.fax_store.specs.Grant.{with_count}
 use Rattle.fax_tables.specs.Row.{number}
 use Rattle.fax_tables.proofs.CreateLemmas.{commit_kept}
 use Rattle.fax_store.proofs.CallLemmas.{calls_gone, calls_put, has_calls, params, set_then}
 use Rattle.fax_schema.proofs.GrantTexts as texts
 use Rattle.fax_store.proofs.StatementLemmas.{edit_text}
-use Rattle.fax_store.proofs.WorkLemmas.{err_as, holds_then, ok_as}
+use Rattle.fax_store.proofs.WorkLemmas.{err_as, ok_as}
 use Rattle.fax_store.proofs.store.Store.set_calls.Goals as goal
 
 pub run-requires : goal.run-requires

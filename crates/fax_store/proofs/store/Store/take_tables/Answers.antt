@@ -1,5 +1,4 @@
 use Rattle.std.proofs.Common.{rules}
-use Rattle.sqlite.specs.Held.{state}
 use Rattle.fax_store.proofs.AdoptLemmas.{founds_takes, ours_taken}
 use Rattle.fax_store.proofs.store.Store.take_tables.Goals as goal
 

@@ -1,6 +1,5 @@
 use Rattle.std.proofs.Common.{◌≡◌, [], length, ap, arith, rules}
 use Rattle.std.proofs.lemmas.List.{nil_from_length}
-use Rattle.sqlite.specs.Held.{state}
 use Rattle.fax_store.proofs.HeldLemmas.{lost_none, none_lost}
 use Rattle.fax_schema.proofs.StatementTexts.{select_lost}
 use Rattle.fax_store.proofs.store.Store.test_holds.Goals as goal

@@ -1,5 +1,4 @@
 use Rattle.std.proofs.Common.{sym, ◌∙◌, rules}
-use Rattle.sqlite.specs.Held.{state}
 use Rattle.fax_store.proofs.AdoptLemmas.{version_found, version_shown}
 use Rattle.fax_schema.proofs.StatementTexts.{select_version}
 use Rattle.fax_store.proofs.store.Store.test_version.Goals as goal

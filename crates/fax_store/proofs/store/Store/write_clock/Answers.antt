@@ -1,5 +1,4 @@
 use Rattle.std.proofs.Common.{◌≤◌, subst, rules}
-use Rattle.sqlite.specs.Held.{state}
 use Rattle.fax_schema.specs.declared.statements.TheConstants.{UPDATE_CLOCK}
 use Rattle.fax_store.proofs.MetaLemmas.{clock_params, clock_written}
 use Rattle.fax_store.proofs.StatementLemmas.{edit_text}

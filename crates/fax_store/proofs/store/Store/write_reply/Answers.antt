@@ -1,5 +1,4 @@
 use Rattle.std.proofs.Common.{[], ◌∷◌, rules}
-use Rattle.sqlite.specs.Held.{state}
 use Rattle.sqlite.specs.declared.types.Value.TheVariants.{Text, Blob}
 use Rattle.fax_schema.specs.declared.statements.TheConstants.{INSERT_REPLY}
 use Rattle.fax_tables.specs.Kept.{entry}

@@ -1,4 +1,3 @@
-use Rattle.sqlite.specs.Held.{state}
 use Rattle.fax_store.proofs.StoreLemmas.{forgets, undoes}
 use Rattle.fax_store.proofs.work.Work.drop.Goals as goal
 

@@ -1,5 +1,4 @@
 use Rattle.std.proofs.Common.{refl}
-use Rattle.sqlite.specs.Held.{state}
 use Rattle.fax_core.specs.Machine.{with_grant}
 use Rattle.fax_core.specs.Ledger.{Ledger}
 use Rattle.fax_store.specs.Grant.{IsReport}
