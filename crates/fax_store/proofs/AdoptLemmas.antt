@@ -1,6 +1,6 @@
 -- What the statements do by which a store comes to a database.
 use Rattle.std.proofs.Common.{◌≡◌, ◌≢◌, ◌⊎◌, inl, inr, ℕ, List, [], ◌∷◌, codes, map, Bool, true, false, arith, Ok, Err, IsErr, IsErrAnd, IsTrue, MatchResult, Result, refl, sym, subst, ap, ap₂, ◌∙◌, IfErr}
-use Rattle.sqlite_trees.proofs.ListLemmas.{all_of, filter_all}
+use Rattle.sqlite_trees.proofs.ListLemmas.{all_of, filter_all, map-map}
 use Rattle.std.specs.List.{AllByRecursion}
 use Rattle.std.specs.List.Sorted.{IsPermutation}
 use Rattle.std.proofs.lemmas.Bool.{false≢true}
@@ -392,15 +392,11 @@ ours_taken old new r ours takes = record {
 
 -- the one value of a list of one row with one value
 one_version : (v : ℕ) (rows : List Row) → map (λ r. column r 5 ∷ []) rows ≡ (number v ∷ []) ∷ [] → map (λ r. column r 5) rows ≡ number v ∷ []
-one_version v [] e = absurd cc
-one_version v (r ∷ []) e = let head : column r 5 ≡ number v = cc in ap (λ x. x ∷ []) head
-one_version v (r ∷ s ∷ rows) e = absurd cc
+one_version v rows e = sym (map-map (λ r. column r 0) (λ r. column r 5 ∷ []) rows) ∙ ap (map (λ r. column r 0)) e
 
 -- a list of one value is that of one row with this one value
 in_one_row : (v : ℕ) (rows : List Row) → map (λ r. column r 5) rows ≡ number v ∷ [] → map (λ r. column r 5 ∷ []) rows ≡ (number v ∷ []) ∷ []
-in_one_row v [] e = absurd cc
-in_one_row v (r ∷ []) e = let head : column r 5 ≡ number v = cc in ap (λ x. (x ∷ []) ∷ []) head
-in_one_row v (r ∷ s ∷ rows) e = absurd cc
+in_one_row v rows e = sym (map-map (λ v. v ∷ []) (λ r. column r 5) rows) ∙ ap (map (λ v. v ∷ [])) e
 
 module _ (v : ℕ) (old new : State) (ours : old.now.schema ≡ our_tables) (rows : List Row) (shown : Shown SELECT_VERSION.now [] old new rows) where
   -- the text on the version shows meta's versions, in any order
@@ -421,10 +417,6 @@ module _ (v : ℕ) (old new : State) (ours : old.now.schema ≡ our_tables) (row
   version_shown is = one_permutation (number v ∷ []) rows (subst (λ all. IsPermutation all rows) (in_one_row v (old.now.trees meta_tree) is) shown_versions)
 
 -- ---- a stop
-
--- what was made, where a call behind it commits nothing
-pub makes_then : (a b c : State) (Made : Trees → Type 0) → MayMake a b Made → CommitsNothing b c → MayMake a c Made
-makes_then a b c Made first next found may = first found (next found may)
 
 -- Rows have one meaning: the tables of any database that has them are ours, where those of one are.
 pub rows_reopened : (db : Database) (m : Queue) (k : Ledger) → RowsFound db.trees m k → IsDatabase db → TablesMean db m k

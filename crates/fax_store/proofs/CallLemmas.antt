@@ -148,13 +148,9 @@ module _ (dial : List ℕ) where
 
 -- ---- writing
 
--- the tables beside it keep their rows
-kept_core : (old new : State) → KeepsOthers our_tables calls_tree old new → KeepsRows core_tables.tables old.now.trees new.now.trees
-kept_core old new keeps = others_kept core_list calls_tree old.now.trees new.now.trees refl (all_front (λ t. t.tree ≢ calls_tree → new.now.trees t.tree ≡ old.now.trees t.tree) core_list (schema.calls ∷ []) keeps.others)
-
 -- where the other tables stay and `calls` has these counts, the counts are set
 as_set : (old new : State) (count : List ℕ → ℕ) → IsTrue old.in_transaction → KeepsOthers our_tables calls_tree old new → AreCalls count (new.now.trees calls_tree) → SetsCalls old new count
-as_set old new count inside keeps now = record { goes_on = inside_shown old new _ inside keeps.shown; schema_is = keeps.schema_is; sound = keeps.sound; rows = kept_core old new keeps; calls = now }
+as_set old new count inside keeps now = record { goes_on = inside_shown old new _ inside keeps.shown; schema_is = keeps.schema_is; sound = keeps.sound; rows = others_kept core_list calls_tree old.now.trees new.now.trees refl (all_front (λ t. t.tree ≢ calls_tree → new.now.trees t.tree ≡ old.now.trees t.tree) core_list (schema.calls ∷ []) keeps.others); calls = now }
 
 -- no call is counted yet
 pub no_calls : (s : State) → HasNone s → HasCalls s (λ _. 0)
@@ -169,11 +165,7 @@ no_calls s has = record {
   };
 }
 
--- where counts are set, all tables are there, and those beside `calls` keep their rows
-pub whole_of : (a b : State) (count : List ℕ → ℕ) → SetsCalls a b count → IsWhole a.now b.now
-whole_of a b count set = record { schema_is = set.schema_is; sound = set.sound; rows = set.rows }
-
--- nor by a call that only reads
+-- none is set yet by a call that only reads
 pub set_still : (a b : State) (count : List ℕ → ℕ) → HasCalls a count → IsUnchanged a b → SetsCalls a b count
 set_still a b count has same = record {
   goes_on = record { was_open = has.is_open; is_open = same.0.is_open; now_is = refl; committed_is = same.0.committed_is; mode = same.0.mode ∙ has.inside };

@@ -17,7 +17,7 @@ use Rattle.std.proofs.lemmas.Map.Text.{is_eq-slice_cmp}
 use Rattle.std.proofs.lemmas.Cmp.{nat_cmp_total, on_total, then_total}
 use Rattle.std.proofs.lemmas.List.{map-append, take-map, nil_from_length, length-map, length-take, length_push, get_or_push}
 use Rattle.std.proofs.lemmas.Option.{none-some, same_Some, slice_get_read, slice_get-get_or}
-use Rattle.std.proofs.lemmas.List.Elements.{All-take, recursion_from_All, All-from_recursion, filter_passes}
+use Rattle.std.proofs.lemmas.List.Elements.{All-take, recursion_from_All, All-from_recursion, filter_agree, filter_passes}
 use Rattle.std.proofs.lemmas.List.Sorted.{All-permutation, IsPermutation-sym, IsPermutation-trans}
 use Rattle.sqlite.specs.Command.TheVariants.{Select}
 use Rattle.sqlite.specs.Effect.{Database, Reads}
@@ -38,7 +38,7 @@ use Rattle.sqlite_sql.specs.Term.{Term}
 use Rattle.sqlite_value.specs.Order.{value_cmp}
 use Rattle.sqlite_value.proofs.OrderLemmas.{value_cmp-Text}
 use Rattle.sqlite_trees.specs.Tree.{IsAscending}
-use Rattle.sqlite_trees.proofs.ListLemmas.{all_of, all_both, all_weaker, ascending-filter, ascending-get_or, ascending_weaker, filter_all, filter_none, filter_same, filter-filter, IsPermutation-filter, map-map, pull_back}
+use Rattle.sqlite_trees.proofs.ListLemmas.{all-permutation, all_of, all_both, all_weaker, ascending-filter, ascending-get_or, ascending_weaker, filter_all, filter_none, filter_same, filter-filter, IsPermutation-filter, map-map, pull_back}
 use Rattle.fax_core.specs.Job.{Job, fields_of}
 use Rattle.fax_core.specs.Best.{better}
 use Rattle.fax_core.specs.Ledger.{Ledger}
@@ -101,11 +101,6 @@ all_inserted P new [] h all = (h, tt)
 all_inserted P new (x ∷ xs) h all =
     elim (is_gt (order new x)) as (λ b. AllByRecursion P (cond b (x ∷ insert_sorted order new xs) (new ∷ x ∷ xs))) [ true ↦ (all.0, all_inserted P new xs h all.1) | false ↦ (h, all) ]
 
--- what holds of each in a list holds of each once the list is sorted
-all_sorted : (P : Job → Type 0) (xs : List Job) → AllByRecursion P xs → AllByRecursion P (sort_by order xs)
-all_sorted P [] all = tt
-all_sorted P (x ∷ xs) all = all_inserted P x _ all.0 (all_sorted P xs all.1)
-
 -- a job that ties with none, put into a list that rises, leaves it rising
 rises_inserted : (new : Job) (xs : List Job) → AllByRecursion (λ y. is_eq (order new y) ≡ false) xs → IsAscending Comes xs → IsAscending Comes (insert_sorted order new xs)
 rises_inserted new [] free up = (tt, tt)
@@ -119,7 +114,7 @@ rises_inserted new (x ∷ xs) free up = go (order new x) refl (rises_inserted ne
 -- a list with no ties rises once it is sorted
 rises_sorted : (xs : List Job) → HasNoTies xs → IsAscending Comes (sort_by order xs)
 rises_sorted [] free = tt
-rises_sorted (x ∷ xs) free = rises_inserted x _ (all_sorted _ xs free.0) (rises_sorted xs free.1)
+rises_sorted (x ∷ xs) free = rises_inserted x _ (all-permutation _ xs (sort_by order xs) (IsPermutation-sym (sort_by order xs) xs (IsPermutation-sort_by order is_total xs)) free.0) (rises_sorted xs free.1)
 
 -- a job that comes before another isn't the worse choice
 not_after : (a b : Job) → Comes a b → better b a ≡ false
@@ -155,10 +150,6 @@ module _ (db : Database) (m : Queue) (k : Ledger) (means : TablesMean db m k) (t
   -- the jobs that wait come each before every later one
   come : IsAscending Comes all_wait
   come = rises_sorted all_due no_ties
-
-  -- the jobs that wait stand with the better before the worse
-  pub go_in_order : IsAscending Goes all_wait
-  go_in_order = ascending_weaker Comes Goes (λ a b e. sym (by_less a b) ∙ ap is_lt e) all_wait come
 
   -- the jobs that are due, sorted, are those that wait
   pub they_wait : AreWaiting t m all_wait
@@ -198,7 +189,7 @@ module _ (db : Database) (m : Queue) (k : Ledger) (means : TablesMean db m k) (a
 
   -- the jobs asked for stand with the better before the worse
   asked_in_order : IsAscending Goes all_asked
-  asked_in_order = ascending-filter Goes (is_other asked.but) (all_wait db m k means asked.t) (go_in_order db m k means asked.t)
+  asked_in_order = ascending-filter Goes (is_other asked.but) (all_wait db m k means asked.t) (ascending_weaker Comes Goes (λ a b e. sym (by_less a b) ∙ ap is_lt e) _ (come db m k means asked.t))
 
 -- what holds of each job of the queue holds of each that is asked for
 pub all_hold : (P : Job → Type 0) (asked : Asked) (m : Queue) (jobs : List Job) → AreAsked asked m jobs → All P m.jobs → All P jobs
@@ -373,10 +364,6 @@ last_is (Number p t n) last j = absurd (true≢false (sym last))
 last_is (Time p t) last j = absurd (true≢false (sym last))
 last_is (Priority p) last j = refl
 
--- behind a job is what goes after it
-front_is : (x j : Job) → is_behind (front_of (prospect (fields_of x))) j ≡ better x j
-front_is x j = same_front x.priority x.tts x.number j.priority j.tts j.number
-
 -- in a list in order, what is behind a front is what is near it and then what is beyond
 cut : (f : Front) (xs : List Job) → IsAscending Goes xs → filter (is_behind f) xs ≡ filter (is_near f) xs ++ filter (is_beyond f) xs
 cut f [] up = refl
@@ -411,7 +398,7 @@ rest_behind f all ys x rest up is =
     let whole : filter (is_behind f) all ≡ ys ++ x ∷ rest = is ∙ append_assoc ys (x ∷ []) rest in
     let rises = subst (IsAscending Goes) whole (ascending-filter Goes (is_behind f) all up) in
     let here : is_behind f x ≡ true = amid (λ (j : Job). is_behind f j ≡ true) ys x rest (subst (AllByRecursion (λ (j : Job). is_behind f j ≡ true)) whole (recursion_from_All _ _ (filter_passes (is_behind f) all))) in
-    filter_same (is_behind (front_of (prospect (fields_of x)))) (better x) all (all_of (λ (j : Job). is_behind (front_of (prospect (fields_of x))) j ≡ better x j) (front_is x) all)
+    filter_agree (is_behind (front_of (prospect (fields_of x)))) (better x) (λ j. same_front x.priority x.tts x.number j.priority j.tts j.number) all
     ∙ sym (filter-filter (better x) (is_behind f) (λ b goes. still_behind f x b here goes) all)
     ∙ ap (filter (better x)) whole ∙ behind_it ys x rest rises
   where
@@ -436,10 +423,6 @@ rest_behind f all ys x rest up is =
 -- no rows are of no jobs
 none_shown : {X Y : Type 0} (f : X → Y) (xs : List X) → [] ≡ map f xs → xs ≡ []
 none_shown f xs is = nil_from_length xs (omega (arith, length-map xs f, ap length is))
-
--- where a page of more than none takes nothing, there is nothing
-nothing_taken : {X : Type 0} (n : ℕ) (xs : List X) → 0 < n → take n xs ≡ [] → xs ≡ []
-nothing_taken n xs some none = nil_from_length xs (omega (arith, some, length-take n xs, ap length none))
 
 abbrev shown : Job → Row
 shown j = prospect_shown (fields_of j)
@@ -494,8 +477,9 @@ module _ (db : Database) (m : Queue) (k : Ledger) (means : TablesMean db m k) (a
     -- where the page is empty, no job is near the front
     nothing_near : rows ≡ [] → filter (is_near f) h.all ≡ []
     nothing_near none =
-        nothing_taken most (filter (is_near f) h.all) h.some
-        (ap (λ (all : List Job). take most (filter (is_near f) all)) (sym all_is) ∙ none_shown shown paged (sym none ∙ next.is))
+        let empty = ap (λ (all : List Job). take most (filter (is_near f) all)) (sym all_is) ∙ none_shown shown paged (sym none ∙ next.is) in
+        let some = h.some in
+        nil_from_length (filter (is_near f) h.all) (omega (arith, some, length-take most (filter (is_near f) h.all), ap length empty))
 
     -- it has no job
     pub stands_on : rows ≡ [] → (then : ℕ) → 0 < then → StandsAt asked m given rows (next_front f) then
@@ -599,15 +583,11 @@ one_given asked m given row page f most h = by h.read h.parts h.shown
 pub within : (j : Job) → IsLawfulJob j → j.number ≤ last_job
 within j lawful = let up = (and_parts (leb 1 j.number) (leb j.number last_job) (within_limits_of (fields_of j) lawful.limits).number).1 in leb-true j.number last_job up
 
--- the first of a list is found by its number
-find_first : (n : ℕ) (x : Job) (xs : List Job) → n ≡ x.number → find (λ (j : Job). j.number == n) (x ∷ xs) ≡ Some x
-find_first n x xs is = let e : (x.number == n) ≡ true = grind (arith, nat_tests) in rw e
-
 -- in a list with rising numbers, each job is found by its number
 each_found : (xs : List Job) → IsAscending (Below number_of) xs → AllByRecursion (λ (j : Job). find (λ (k : Job). k.number == j.number) xs ≡ Some j) xs
 each_found [] up = tt
 each_found (x ∷ xs) up = (
-  find_first x.number x xs refl,
+  (let e : (x.number == x.number) ≡ true = grind (arith, nat_tests) in rw e),
   all_both (Below number_of x) (λ (j : Job). find (λ (k : Job). k.number == j.number) xs ≡ Some j) (λ (j : Job). find (λ (k : Job). k.number == j.number) (x ∷ xs) ≡ Some j)
       (λ j low found. let e : (x.number == j.number) ≡ false = grind (arith, nat_tests) in rw (e, found)) xs up.0 (each_found xs up.1),
 )

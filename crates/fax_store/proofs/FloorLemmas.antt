@@ -1,5 +1,6 @@
 -- What the texts on floors, and on the replies that a client gives up, leave; and such replies, some at a time.
 use Rattle.std.proofs.Common.{◌≡◌, ◌≤◌, ◌<◌, ◌^◌, ℕ, zero, suc, List, [], ◌∷◌, map, filter, drop, false, not, ◌&&◌, Option, MatchOption, refl, sym, ap, ap₂, subst, ◌∙◌, arith, Bool, true, cond, Ok, Err, Result, MatchResult}
+use Rattle.sqlite_trees.proofs.ListLemmas.{filter-filter}
 use Rattle.std.proofs.Math.Bool.{and-true}
 use Rattle.std.specs.Str.{bytes_eq}
 use Rattle.std.proofs.lemmas.Bool.{cond_both, false≢true}
@@ -134,15 +135,6 @@ floor_set client floor old new m k means name some low h =
 
 -- ---- what two tests leave, of which one passes whatever the other does
 
-absorbed_by : {A : Type 0} (p : A → Bool) (x : A) (ys xs : List A) (b c : Bool) → p x ≡ b → (b ≡ true → c ≡ true) → filter p ys ≡ filter p xs → filter p (cond c (x ∷ ys) ys) ≡ cond b (x ∷ filter p xs) (filter p xs)
-absorbed_by p x ys xs b true is more same = ap₂ (λ d zs. cond d (x ∷ zs) zs) is same
-absorbed_by p x ys xs true false is more same = absurd (false≢true (more refl))
-absorbed_by p x ys xs false false is more same = same
-
-absorbed : {A : Type 0} (p q : A → Bool) → ((x : A) → p x ≡ true → q x ≡ true) → (xs : List A) → filter p (filter q xs) ≡ filter p xs
-absorbed p q more [] = refl
-absorbed p q more (x ∷ xs) = absorbed_by p x (filter q xs) xs (p x) (q x) refl (more x) (absorbed p q more xs)
-
 -- who keeps a reply through the higher number keeps it through the lower one
 kept_lower : (b : Bool) (n low high : ℕ) → low ≤ high → not (b && nat_le n high) ≡ true → not (b && nat_le n low) ≡ true
 kept_lower false n low high under h = refl
@@ -152,7 +144,7 @@ kept_lower true n low high under h = grind (arith, nat_tests, under, h)
 pub without_lower : (client : List ℕ) (low high : ℕ) (k : Ledger) → low ≤ high → without_replies client high (without_replies client low k) ≡ without_replies client high k
 without_lower client low high k under =
     ap (λ (es : List Entry). record k { replies = es })
-    (absorbed (λ e. not (is_through client high e)) (λ e. not (is_through client low e)) (λ e. kept_lower (bytes_eq e.client client) e.number low high under) k.replies)
+    (filter-filter (λ e. not (is_through client high e)) (λ e. not (is_through client low e)) (λ e. kept_lower (bytes_eq e.client client) e.number low high under) k.replies)
 
 -- ---- calls
 

@@ -255,17 +255,10 @@ module _ (g : Grant) where
   reported : (x : Grant) → x.number ≡ g.number → IsSameGrant x g → cast_row schema.grants (drop 1 (show grants_tree grant_tests report_project report_params (grant_row x))) ≡ grant_row g
   reported x is same = rw (is, same.job, same.modem, same.first_page, same.last_page, same.is_open) (stored_grant g)
 
-  -- a grant that is put in place keeps the rowid
-  put_number : (x : Grant) → rowid (grant_row (put x)) ≡ rowid (grant_row x)
-  put_number x = cond_both (x.number == g.number) g x (λ y. rowid (grant_row y) ≡ rowid (grant_row x)) (λ here. ap number (sym (eqb-true x.number g.number here))) (λ _. refl)
-
-  -- a lawful grant stays lawful under a report of at most 9999 pages
-  report_lawful : g.confirmed ≤ 9999 → (x : Grant) → x.number ≡ g.number → IsSameGrant x g → IsLawfulGrant x → IsLawfulGrant g
-  report_lawful few x is same was = record { limits = omega (arith, was.limits); modem = rw same.modem at was.modem }
-
-  -- each grant stays lawful, whether it is the one reported or not
+  -- each grant stays lawful, whether it is the one reported, with at most 9999 pages, or not
   put_lawful : g.confirmed ≤ 9999 → (x : Grant) → (x.number ≡ g.number → IsSameGrant x g) → IsLawfulGrant x → IsLawfulGrant (put x)
-  put_lawful few x same was = cond_both (x.number == g.number) g x IsLawfulGrant (λ here. let is = eqb-true x.number g.number here in report_lawful few x is (same is) was) (λ _. was)
+  put_lawful few x same was = cond_both (x.number == g.number) g x IsLawfulGrant
+      (λ here. let is = eqb-true x.number g.number here in let as_it = same is in record { limits = omega (arith, was.limits); modem = rw as_it.modem at was.modem }) (λ _. was)
 
   -- each stays open or shut, with the same columns of a hold
   put_held : (x : Grant) → (x.number ≡ g.number → IsSameGrant x g) → ((put x).is_open ≡ x.is_open) × (hold_columns (put x) ≡ hold_columns x)
@@ -285,7 +278,7 @@ module _ (g : Grant) where
         let is_other = not_asked grant_row (λ (y : Grant). y.number) (λ y. refl) g.number (passes grants_tree grant_tests report_project report_params) (λ r. refl) in
         let ran = runs_as UPDATE_REPORT.now report_params old new our_tables means.schema _ update_report.is update_report.plain h.0 h.1 in
         let done = updated schema.grants.name 1 schema.grants.columns schema.grants.key schema.grants.primary schema.grants.uniques schema.grants.orders schema.grants.checks 1 refl old new means.schema refl means.ordered.grants
-        grant_tests report_project report_params (λ r. refl) _ h.0 grant_row put m.grants means.grants put_number
+        grant_tests report_project report_params (λ r. refl) _ h.0 grant_row put m.grants means.grants (λ x. cond_both (x.number == g.number) g x (λ y. rowid (grant_row y) ≡ rowid (grant_row x)) (λ here. ap number (sym (eqb-true x.number g.number here))) (λ _. refl))
         (λ x has on. let is = is_number x on in reported x is (same_grant report x has is) ∙ rw (eq-eqb x.number g.number is) refl)
         (λ x has off. rw (is_other x off) refl)
         ran in
@@ -317,10 +310,6 @@ module _ (n : ℕ) where
 
   abbrev shut : Grant → Grant
   shut = shut_at n
-
-  -- a grant keeps its rowid, shut or not
-  shut_id : (x : Grant) → rowid (grant_row (shut x)) ≡ rowid (grant_row x)
-  shut_id x = cond_both (x.number == n) (closed x) x (λ y. rowid (grant_row y) ≡ rowid (grant_row x)) (λ _. refl) (λ _. refl)
 
   -- a lawful grant stays lawful, shut or not
   shut_lawful : (x : Grant) → IsLawfulGrant x → IsLawfulGrant (shut x)
@@ -380,7 +369,7 @@ module _ (n : ℕ) where
         let is_other = not_asked grant_row (λ (y : Grant). y.number) (λ y. refl) n (passes grants_tree grant_tests shut_project close_params) (λ r. refl) in
         let ran = runs_as SHUT_GRANT.now close_params old mid our_tables means.schema _ shut_grant.is shut_grant.plain h.0 h.1 in
         let done = updated schema.grants.name 1 schema.grants.columns schema.grants.key schema.grants.primary schema.grants.uniques schema.grants.orders schema.grants.checks 1 refl old mid means.schema refl means.ordered.grants
-        grant_tests shut_project close_params (λ r. refl) _ h.0 grant_row shut m.grants means.grants shut_id
+        grant_tests shut_project close_params (λ r. refl) _ h.0 grant_row shut m.grants means.grants (λ x. cond_both (x.number == n) (closed x) x (λ y. rowid (grant_row y) ≡ rowid (grant_row x)) (λ _. refl) (λ _. refl))
         (λ x has on. stored_grant (closed x) ∙ rw (eq-eqb x.number n (is_one x on)) refl)
         (λ x has off. rw (is_other x off) refl)
         ran in

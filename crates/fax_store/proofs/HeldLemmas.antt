@@ -264,15 +264,11 @@ held_more m rows row j is found = one_more j.dial (held_to m rows) (held_to m (r
     ap length (filter-append (is_to m dial) rows (row ∷ [])) ∙ length-append (filter (is_to m dial) rows) (cond (is_to m dial row) (row ∷ []) [])
     ∙ rw to (elim (bytes_eq j.dial dial) as (λ b. held_to m rows dial + length (cond b (row ∷ []) []) ≡ one b + held_to m rows dial) [ true ↦ omega arith | false ↦ omega arith ]))
 
--- no more rows are of jobs to a number than there are rows
-pub held_within : (m : Queue) (rows : List Row) (dial : List ℕ) → held_to m rows dial ≤ length rows
-held_within m rows dial = omega (arith, length-filter (is_to m dial) rows, count_by-le-length (is_to m dial) rows)
-
 -- of the first so many, no more are of jobs to a number
 pub held_first : (m : Queue) (rows : List Row) (i : ℕ) (dial : List ℕ) → i < length rows → length rows < 2 ^ 32 → held_to m (take i rows) dial + 1 < 2 ^ 32
 held_first m rows i dial low few =
     let all : length rows < 4294967296 = few in
-    let sum : held_to m (take i rows) dial + 1 < 4294967296 = omega (arith, low, all, held_within m (take i rows) dial, length-take i rows) in
+    let sum : held_to m (take i rows) dial + 1 < 4294967296 = omega (arith, low, all, length-filter (is_to m dial) (take i rows), count_by-le-length (is_to m dial) (take i rows), length-take i rows) in
     sum
 
 -- what rows mean, they mean where the calls alone were set

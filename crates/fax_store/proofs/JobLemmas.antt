@@ -79,27 +79,11 @@ module _ (n : ℕ) where
         (answers jobs_tree job_tests project params old.now (old.now.trees jobs_tree) refl names h.0 (reads_as sql params old new our_tables means.schema _ selects.command selects.plain selects.unlisted h.0 h.1))
         found h.2
 
-    -- what the text on a job finds is the job of this number, whole, or nothing
-    pub job_found : (found : Option Row) → FindsRow SELECT_JOB.now params old new found → found ≡ option_map (λ j. job_shown (fields_of j)) (job_numbered n m)
-    job_found = row_found SELECT_JOB.now job_project job_names select_job
-
-    -- what the text on a job in brief finds is the job of this number, in brief, or nothing
-    pub brief_found : (found : Option Row) → FindsRow SELECT_BRIEF.now params old new found → found ≡ option_map (λ j. brief_shown (fields_of j)) (job_numbered n m)
-    brief_found = row_found SELECT_BRIEF.now brief_project brief_names select_brief
-
   module _ (old new : State) (db : Database) (ours : db.schema ≡ our_tables) (now : old.now ≡ db) where
     -- whatever the rows say, where none is found there is no job of this number
     none_found : (sql : List ℕ) (project : List Term) (names : List (List ℕ)) → Selects sql jobs_tree job_tests project names → FindsRow sql params old new None → ¬ HasJobRow db n
     none_found sql project names selects =
         none_keyed sql jobs_tree job_tests project names selects (λ trees. refl) params old new db ours now 0 (number n) (λ r. refl) (number_same n)
-
-    -- so says the text on a job
-    pub no_job : FindsRow SELECT_JOB.now params old new None → ¬ HasJobRow db n
-    no_job = none_found SELECT_JOB.now job_project job_names select_job
-
-    -- and the text on a job in brief
-    pub no_brief : FindsRow SELECT_BRIEF.now params old new None → ¬ HasJobRow db n
-    no_brief = none_found SELECT_BRIEF.now brief_project brief_names select_brief
 
     -- the job that is read of the row that is found stands in a row
     pub job_stands : (row : Row) (f : JobFields) → FindsRow SELECT_JOB.now params old new (Some row) → HasValues row 0 (job_shown f) → JobStands db n f
@@ -123,10 +107,18 @@ module _ {S : Type 0} (g : Ghosts S) (n : ℕ) (old new : Store S) where
   job_lawful m k means j = found_holds IsLawfulJob (λ (i : Job). i.number == n) m.jobs j means.lawful.jobs
 
   pub job_keys : Keys g old new SELECT_JOB.now (params n) (job_numbered n) (λ j. job_shown (fields_of j)) IsLawfulJob (λ db. HasJobRow db n)
-  job_keys = record { found = job_found n (shown g old) (shown g new); lawful = job_lawful; none = no_job n (shown g old) (shown g new) }
+  job_keys = record {
+    found = λ m k means. row_found n (shown g old) (shown g new) m k means SELECT_JOB.now job_project job_names select_job;
+    lawful = job_lawful;
+    none = λ db ours now. none_found n (shown g old) (shown g new) db ours now SELECT_JOB.now job_project job_names select_job;
+  }
 
   pub brief_keys : Keys g old new SELECT_BRIEF.now (params n) (job_numbered n) (λ j. brief_shown (fields_of j)) IsLawfulJob (λ db. HasJobRow db n)
-  brief_keys = record { found = brief_found n (shown g old) (shown g new); lawful = job_lawful; none = no_brief n (shown g old) (shown g new) }
+  brief_keys = record {
+    found = λ m k means. row_found n (shown g old) (shown g new) m k means SELECT_BRIEF.now brief_project brief_names select_brief;
+    lawful = job_lawful;
+    none = λ db ours now. none_found n (shown g old) (shown g new) db ours now SELECT_BRIEF.now brief_project brief_names select_brief;
+  }
 
 -- ---- one more row
 
@@ -237,10 +229,6 @@ module _ (f : JobFields) (lines : List Pair) where
   written : (x : Job) → x.number ≡ f.job → KeepsOrder x → cast_row schema.jobs (drop 1 (show jobs_tree job_tests change_project (change_params f) (row_of x))) ≡ job_row whole
   written x is same = rw (is, same.order.dial, same.order.totpages, same.extra) (stored_job whole)
 
-  -- the job that is put in place has the written row
-  put_there : (x : Job) → x.number ≡ f.job → row_of (put x) ≡ job_row whole
-  put_there x is = rw (eq-eqb x.number f.job is) (ap job_row (fields_back whole))
-
   -- a job that is put in place keeps the rowid
   put_number : (x : Job) → rowid (row_of (put x)) ≡ rowid (row_of x)
   put_number x = cond_both (x.number == f.job) (job_of whole) x (λ y. rowid (row_of y) ≡ rowid (row_of x)) (λ same. ap number (sym (eqb-true x.number f.job same))) (λ _. refl)
@@ -249,17 +237,9 @@ module _ (f : JobFields) (lines : List Pair) where
   same_number : (x : Job) → (put x).number ≡ x.number
   same_number x = cond_both (x.number == f.job) (job_of whole) x (λ y. y.number ≡ x.number) (λ same. sym (eqb-true x.number f.job same)) (λ _. refl)
 
-  -- and its number to dial, where it is of the same order
-  same_dial : (x : Job) → (x.number ≡ f.job → KeepsOrder x) → (put x).dial ≡ x.dial
-  same_dial x same = cond_both (x.number == f.job) (job_of whole) x (λ y. y.dial ≡ x.dial) (λ here. sym (same (eqb-true x.number f.job here)).order.dial) (λ _. refl)
-
-  -- a lawful change of a lawful job, with the job's lines, is lawful
-  change_limits : IsLawful f → (x : Job) → KeepsOrder x → IsLawful (fields_of x) → IsLawful whole
-  change_limits now x same was = ap₂ ◌&&◌ (and_parts _ _ now).0 (subst (λ e. IsTrue (are_unknown e)) same.extra (and_parts _ _ was).1)
-
   -- a lawful job stays lawful under a change of its form
   change_lawful : IsFormedChange f → (x : Job) → KeepsOrder x → IsLawfulJob x → IsLawfulJob (job_of whole)
-  change_lawful lawful x same was = lawful_of_fields whole (change_limits lawful.limits x same was.limits) (record {
+  change_lawful lawful x same was = lawful_of_fields whole (ap₂ ◌&&◌ (and_parts _ _ lawful.limits).0 (subst (λ e. IsTrue (are_unknown e)) same.extra (and_parts _ _ was.limits).1)) (record {
     dial = subst (IsText IsCanonical) same.order.dial was.formed.dial;
     modem = lawful.modem;
     jobtag = lawful.jobtag;
@@ -294,14 +274,14 @@ module _ (f : JobFields) (old new : State) (m : Queue) (k : Ledger) (means : Tab
       let ran = runs_as UPDATE_JOB.now (change_params f) old new our_tables means.schema _ update_job.is update_job.plain h.0 h.1 in
       let done = updated schema.jobs.name 0 schema.jobs.columns schema.jobs.key schema.jobs.primary schema.jobs.uniques schema.jobs.orders schema.jobs.checks 0 refl old new means.schema refl means.ordered.jobs
       job_tests change_project (change_params f) (λ r. refl) _ h.0 row_of placed m.jobs means.jobs (put_number f its_lines)
-      (λ x has on. let is = is_number x on in written f its_lines x is (same x has is) ∙ sym (put_there f its_lines x is))
+      (λ x has on. let is = is_number x on in written f its_lines x is (same x has is) ∙ rw (eq-eqb x.number f.job is) (sym (ap job_row (fields_back (whole f its_lines)))))
       (λ x has off. rw (is_other x off) refl)
       ran in
       let now : AreRecords row_of IsLawfulJob (new.now.trees jobs_tree) (map placed m.jobs) = record { is = done.1; ordered = done.2; lawful = all_mapped IsLawfulJob placed m.jobs (λ x has. put_lawful f its_lines lawful x (same x has)) means.lawful.jobs } in
       let after = with_change (job_of f) m in
       let moved = jobs_changed old new m (open_grants m) (calls_of m) k (parts_of old.now m k means) done.0 (map placed m.jobs) now in (
         means_of new.now after k (jobs_mapped placed m (same_number f its_lines) means.held)
-            (calls_as new.now after (open_grants after) (calls_of m) (calls_of after) k (λ dial. calls_mapped placed m (same_number f its_lines) dial (λ x has. same_dial f its_lines x (same x has))) moved),
+            (calls_as new.now after (open_grants after) (calls_of m) (calls_of after) k (λ dial. calls_mapped placed m (same_number f its_lines) dial (λ x has. cond_both (x.number == f.job) (job_of (whole f its_lines)) x (λ y. y.dial ≡ x.dial) (λ here. sym (same x has (eqb-true x.number f.job here)).order.dial) (λ _. refl))) moved),
         done.0,
       )
 
@@ -328,17 +308,9 @@ module _ (phase : Phase) (t : ℕ) where
   abbrev expired : Job → Job
   expired j = record j { phase = Failed; status = kill_time_expired }
 
-  -- a job keeps its rowid, whether it expires or not
-  expired_number : (j : Job) → rowid (row_of (expired_in phase t j)) ≡ rowid (row_of j)
-  expired_number j = cond_both (expires_here j) (expired j) j (λ i. rowid (row_of i) ≡ rowid (row_of j)) (λ _. refl) (λ _. refl)
-
-  -- and its number
+  -- a job keeps its number, whether it expires or not
   number_kept : (j : Job) → (expired_in phase t j).number ≡ j.number
   number_kept j = cond_both (expires_here j) (expired j) j (λ i. i.number ≡ j.number) (λ _. refl) (λ _. refl)
-
-  -- and its number to dial
-  dial_kept : (j : Job) → (expired_in phase t j).dial ≡ j.dial
-  dial_kept j = cond_both (expires_here j) (expired j) j (λ i. i.dial ≡ j.dial) (λ _. refl) (λ _. refl)
 
   -- the status of a job whose kill time is past is UTF-8
   expired_text : IsUtf8 kill_time_expired
@@ -384,7 +356,7 @@ module _ (phase : Phase) (t : ℕ) where
     jobs_expired h =
         let ran = runs_as EXPIRE_JOBS.now expired_params old new our_tables means.schema _ expire_jobs.is expire_jobs.plain h.0 h.1 in
         let done = updated schema.jobs.name 0 schema.jobs.columns schema.jobs.key schema.jobs.primary schema.jobs.uniques schema.jobs.orders schema.jobs.checks 0 refl old new means.schema refl means.ordered.jobs
-        expired_tests expired_project expired_params (λ r. refl) _ h.0 row_of (expired_in phase t) m.jobs means.jobs expired_number
+        expired_tests expired_project expired_params (λ r. refl) _ h.0 row_of (expired_in phase t) m.jobs means.jobs (λ j. cond_both (expires_here j) (expired j) j (λ i. rowid (row_of i) ≡ rowid (row_of j)) (λ _. refl) (λ _. refl))
         (λ j has on. stored_job (fields_of (expired j)) ∙ rw (sym (expiring j) ∙ on) refl)
         (λ j has off. rw (sym (expiring j) ∙ off) refl)
         ran in
@@ -392,7 +364,7 @@ module _ (phase : Phase) (t : ℕ) where
         let after = with_expired_in phase t m in
         let moved = jobs_changed old new m (open_grants m) (calls_of m) k (parts_of old.now m k means) done.0 (map (expired_in phase t) m.jobs) now in (
           means_of new.now after k (jobs_mapped (expired_in phase t) m number_kept means.held)
-              (calls_as new.now after (open_grants after) (calls_of m) (calls_of after) k (λ dial. calls_mapped (expired_in phase t) m number_kept dial (λ j has. dial_kept j)) moved),
+              (calls_as new.now after (open_grants after) (calls_of m) (calls_of after) k (λ dial. calls_mapped (expired_in phase t) m number_kept dial (λ j has. cond_both (expires_here j) (expired j) j (λ i. i.dial ≡ j.dial) (λ _. refl) (λ _. refl))) moved),
           done.0,
         )
 
