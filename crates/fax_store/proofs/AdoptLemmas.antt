@@ -1,5 +1,6 @@
 -- What the statements do by which a store comes to a database.
 use Rattle.std.proofs.Common.{◌≡◌, ◌≢◌, ◌⊎◌, inl, inr, ℕ, List, [], ◌∷◌, codes, map, Bool, true, false, arith, Ok, Err, IsErr, IsErrAnd, IsTrue, MatchResult, Result, refl, sym, subst, ap, ap₂, ◌∙◌, IfErr}
+use Rattle.sqlite_rules.proofs.ListLemmas.{all_has}
 use Rattle.sqlite_trees.proofs.ListLemmas.{all_of, filter_all, map-map}
 use Rattle.std.specs.List.{AllByRecursion}
 use Rattle.std.specs.List.Sorted.{IsPermutation}
@@ -339,20 +340,14 @@ abbrev any_table : List Table → Bool
 any_table [] = false
 any_table (t ∷ ts) = true
 
--- one of some schemas that each have a table has one
-some_of : (schemas : List Schema) (s : Schema) → AllByRecursion (λ (x : Schema). IsTrue (any_table x.tables)) schemas → Has schemas s → IsTrue (any_table s.tables)
-some_of [] s all has = absurd has
-some_of (x ∷ xs) s all (inl is) = subst (λ (y : Schema). IsTrue (any_table y.tables)) (sym is) all.0
-some_of (x ∷ xs) s all (inr has) = some_of xs s all.1 has
-
--- so a database without tables hasn't ours
+-- a database without tables hasn't ours
 not_ours : (s : Schema) → s ≡ no_tables → AreOurs s → ⊥
 not_ours s none ours = absurd (false≢true (subst (λ (x : Schema). IsTrue (any_table x.tables)) none (some ours)))
   where
     some : AreOurs s → IsTrue (any_table s.tables)
-    some (inl (inl has)) = some_of with_calls s (refl, (refl, (refl, (refl, (refl, tt))))) has
-    some (inl (inr has)) = some_of without_calls s (refl, (refl, (refl, tt))) has
-    some (inr has) = some_of indexed_last s (refl, (refl, (refl, (refl, (refl, tt))))) has
+    some (inl (inl has)) = all_has (λ (x : Schema). IsTrue (any_table x.tables)) with_calls s (refl, (refl, (refl, (refl, (refl, tt))))) has
+    some (inl (inr has)) = all_has (λ (x : Schema). IsTrue (any_table x.tables)) without_calls s (refl, (refl, (refl, tt))) has
+    some (inr has) = all_has (λ (x : Schema). IsTrue (any_table x.tables)) indexed_last s (refl, (refl, (refl, (refl, (refl, tt))))) has
 
 -- an empty store that was made of a database with no tables
 pub founds_takes : (old new : State) (r : Result (Unit {0}) StoreFault) → old.now.schema ≡ no_tables → Founds old new r → Takes Adopts AreAdopted IsAdoptable old new r
@@ -360,14 +355,10 @@ founds_takes old new r none founds = record {
   settles = founds.settles;
   taken = λ clean. ok_as r (λ rest. inl (none, rest)) (founds.made clean);
   means = λ m k clean. ok_as r (λ rest. λ ours rows. absurd (not_ours old.now.schema none ours)) (founds.made clean);
-  crash = λ found may. either (founds.crash found may);
+  crash = λ found may. elim (founds.crash found may) [ inl before ↦ inl before | inr rows ↦ inr (inl (none, rows)) ];
   nothing = λ is. absurd (not_strange r founds.cause is);
   strange = λ clean is. absurd (not_strange r founds.cause is);
 }
-  where
-    either : {found : Trees} → MayFind old found ⊎ RowsFound found empty_queue empty_ledger → MayFind old found ⊎ AreAdopted old.now found
-    either (inl before) = inl before
-    either (inr rows) = inr (inl (none, rows))
 
 -- and ours that was taken
 pub ours_taken : (old new : State) (r : Result (Unit {0}) StoreFault) → AreOurs old.now.schema → Takes HasBecome AreTaken IsTakeable old new r → Takes Adopts AreAdopted IsAdoptable old new r
@@ -375,15 +366,11 @@ ours_taken old new r ours takes = record {
   settles = takes.settles;
   taken = λ clean. ok_as r (λ became. inr became) (takes.taken clean);
   means = takes.means;
-  crash = λ found may. either (takes.crash found may);
+  crash = λ found may. elim (takes.crash found may) [ inl before ↦ inl before | inr taken ↦ inr (inr taken) ];
   nothing = takes.nothing;
   strange = λ clean is. λ fit. takes.strange clean is (fits fit);
 }
   where
-    either : {found : Trees} → MayFind old found ⊎ AreTaken old.now found → MayFind old found ⊎ AreAdopted old.now found
-    either (inl before) = inl before
-    either (inr taken) = inr (inr taken)
-
     fits : IsAdoptable old.now → IsTakeable old.now
     fits (inl none) = absurd (not_ours old.now.schema none ours)
     fits (inr fit) = fit

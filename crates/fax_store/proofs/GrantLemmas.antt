@@ -65,21 +65,7 @@ module _ (n : ℕ) where
   abbrev pub params : Row
   params = number n ∷ []
 
-  module _ (old new : State) (m : Queue) (k : Ledger) (means : TablesMean old.now m k) where
-    -- what the text on a grant finds is the grant of this number, as shown, or none
-    pub grant_found : (found : Option Row) → FindsRow SELECT_GRANT.now params old new found → found ≡ option_map grant_shown (grant_numbered n m)
-    grant_found found h =
-        numbered_found grant_row (λ (g : Grant). g.number) (λ g. refl) n (passes grants_tree grant_tests grant_project params) (λ r. refl) m.grants (old.now.trees grants_tree) h.0 means.grants means.ordered.grants.rise (show grants_tree grant_tests grant_project params)
-        (answers grants_tree grant_tests grant_project params old.now (old.now.trees grants_tree) refl [] h.0 (reads_as SELECT_GRANT.now params old new our_tables means.schema _ select_grant.command select_grant.plain select_grant.unlisted h.0 h.1))
-        found h.2
-
   module _ (old new : State) (db : Database) (ours : db.schema ≡ our_tables) (now : old.now ≡ db) where
-    -- whatever the rows say, where none is found there is no grant of this number
-    pub no_grant : FindsRow SELECT_GRANT.now params old new None → ¬ HasGrantRow db n
-    no_grant =
-        none_keyed SELECT_GRANT.now grants_tree grant_tests grant_project grant_names select_grant (λ trees. refl) params old new db ours now
-        0 (number n) (λ r. refl) (number_same n)
-
     -- the grant that is read of the row that is found stands in a row
     pub grant_stands : (row : Row) (g : Grant) → FindsRow SELECT_GRANT.now params old new (Some row) → HasValues row 0 (grant_shown g) → GrantStands db n g
     grant_stands row g =
@@ -90,9 +76,14 @@ module _ {S : Type 0} (g : Ghosts S) (n : ℕ) (old new : Store S) where
   -- a grant is looked up by its number
   pub grant_keys : Keys g old new SELECT_GRANT.now (params n) (grant_numbered n) grant_shown IsLawfulGrant (λ db. HasGrantRow db n)
   grant_keys = record {
-    found = grant_found n (shown g old) (shown g new);
+    found = λ m k means found h.
+        numbered_found grant_row (λ (g : Grant). g.number) (λ g. refl) n (passes grants_tree grant_tests grant_project (params n)) (λ r. refl) m.grants ((shown g old).now.trees grants_tree) h.0 means.grants means.ordered.grants.rise (show grants_tree grant_tests grant_project (params n))
+        (answers grants_tree grant_tests grant_project (params n) (shown g old).now ((shown g old).now.trees grants_tree) refl [] h.0 (reads_as SELECT_GRANT.now (params n) (shown g old) (shown g new) our_tables means.schema _ select_grant.command select_grant.plain select_grant.unlisted h.0 h.1))
+        found h.2;
     lawful = λ m k means one. found_holds IsLawfulGrant (λ (other : Grant). other.number == n) m.grants one means.lawful.grants;
-    none = no_grant n (shown g old) (shown g new);
+    none = λ db ours now.
+        none_keyed SELECT_GRANT.now grants_tree grant_tests grant_project grant_names select_grant (λ trees. refl) (params n) (shown g old) (shown g new) db ours now
+        0 (number n) (λ r. refl) (number_same n);
   }
 
 -- the row of a grant is stored as it is

@@ -25,24 +25,14 @@ same_value : {B E : Type 0} {a b : B} → ◌≡◌ {A = Result B E} (Ok a) (Ok 
 same_value e = cc
 
 module _ (old new : State) (sql : List ℕ) (params : Row) where
-  -- where rows were shown, the database was open
-  shows_open : (c : Compiled) (full : Row) (rows : List Row) (returning : Option Returning) → ShowsRows old new sql c full rows returning → IsTrue old.is_open
-  shows_open c full rows None h = h.3.0.was_open
-  shows_open c full rows (Some what) h = h.1.shown.was_open
-
-  -- and it still is
-  shows_still : (c : Compiled) (full : Row) (rows : List Row) (returning : Option Returning) → ShowsRows old new sql c full rows returning → IsTrue new.is_open
-  shows_still c full rows None h = h.3.0.is_open
-  shows_still c full rows (Some what) h = h.1.shown.is_open
-
   -- the database was open where a query shows its rows, and is
-  pub shown_still : (rows : List Row) → Shown sql params old new rows → IsTrue new.is_open
-  unfolding Shown
-  shown_still rows h = shows_still h.0 _ rows h.0.returning h.2
+  shows_at : (c : Compiled) (full : Row) (rows : List Row) (returning : Option Returning) → ShowsRows old new sql c full rows returning → IsTrue old.is_open × IsTrue new.is_open
+  shows_at c full rows None h = (h.3.0.was_open, h.3.0.is_open)
+  shows_at c full rows (Some what) h = (h.1.shown.was_open, h.1.shown.is_open)
 
-  pub shown_open : (rows : List Row) → Shown sql params old new rows → IsTrue old.is_open
+  pub shown_at : (rows : List Row) → Shown sql params old new rows → IsTrue old.is_open × IsTrue new.is_open
   unfolding Shown
-  shown_open rows h = shows_open h.0 _ rows h.0.returning h.2
+  shown_at rows h = shows_at h.0 _ rows h.0.returning h.2
 
   -- a query with no RETURNING changes nothing
   pub shown_keeps : IsPlain (understood old.now.schema sql) → (rows : List Row) → Shown sql params old new rows → IsUnchanged old new

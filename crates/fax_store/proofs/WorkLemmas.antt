@@ -80,11 +80,6 @@ pub never_ok : {A : Type 0} (X : Type 0) (result : Result A StoreFault) (P : Sto
 never_ok X (Ok a) P is = absurd is
 never_ok X (Err e) P is = tt
 
--- where it was refused, the last commit stands
-pub refused_by : {A : Type 0} (old new : State) (result : Result A StoreFault) (P : StoreFault → Type 0) (m₀ m after : Queue) (k₀ k kept : Ledger) → IsErrAnd result P → (Serves new → Serves old) → Holds old false new (is_err result) → Works old false m₀ k₀ m k → Serves new
-    → Moves new result m₀ k₀ after kept
-refused_by old new result P m₀ m after k₀ k kept is served holds works s = moves_by old new result m₀ m after k₀ k kept served holds works s (λ means inside. never_ok _ result P is)
-
 -- a transaction that a call leaves goes on over the tables
 pub inside_by : (old new : State) → Holds old false new false → Serves new → IsTrue old.in_transaction → HasTables old → IsTrue new.in_transaction × HasTables new
 inside_by old new holds s inside tables = (holds old.committed (λ _. record { began = refl; goes_on = λ _. (inside, tables) }) s).goes_on refl
