@@ -5,7 +5,7 @@ use Rattle.fax_tables.specs.declared.fault.StoreFault.{StoreFault}
 use Rattle.fax_store.specs.Calls.{Queries, Recalls, shown as shown_by}
 use Rattle.fax_store.specs.declared.store.Store.{Store}
 use Rattle.sqlite_trees.specs.declared.store.Store.{Ghosts}
-use Rattle.std.proofs.Math.Bool.{and-true}
+use Rattle.std.proofs.Math.Bool.{and-true, or_comm}
 use Rattle.std.specs.Prelude.{◌==◌, nat_lt, Result, Vec, Option, Some, None, find, slice_get}
 use Rattle.std.specs.Cmp.{IsTotalOrder}
 use Rattle.std.specs.List.{AllByRecursion}
@@ -62,7 +62,7 @@ use Rattle.fax_schema.proofs.SelectLemmas.{each_passing}
 use Rattle.fax_tables.proofs.TablesLemmas.{row_of}
 use Rattle.fax_store.proofs.JobsLemmas.{number_of, ascend, Below}
 use Rattle.fax_schema.proofs.StatementTexts.{SelectsPage, number_tests, other_tests, page_query, priority_tests, prospect_names, prospect_project, select_behind_number, select_behind_priority, select_behind_time, select_first, time_tests}
-use Rattle.fax_store.proofs.WaitingLemmas as waiting
+use Rattle.fax_store.proofs.JobsLemmas as waiting
 
 -- ---- the order of the choice
 
@@ -330,12 +330,6 @@ past_time p t q u k r v l n goes past = grind (arith, nat_tests)
 past_priority : (p t q u k r v l : ℕ) → lex q u k r v l ≡ true → nat_lt p q ≡ true → ((r == p) && nat_lt t v) ≡ false
 past_priority p t q u k r v l goes past = grind (arith, nat_tests)
 
-or_turned : (a b : Bool) → (a || b) ≡ (b || a)
-or_turned true true = refl
-or_turned true false = refl
-or_turned false true = refl
-or_turned false false = refl
-
 -- behind what comes after nothing is near
 after : (f : Front) (a b : Job) → Goes a b → is_beyond f a ≡ true → is_near f b ≡ false
 after First a b goes past = absurd (true≢false (sym past))
@@ -353,8 +347,8 @@ not_both (Priority p) a past = absurd (true≢false (sym past))
 -- what is behind the next front comes after
 next_is : (f : Front) → is_last f ≡ false → (j : Job) → is_beyond f j ≡ is_behind (next_front f) j
 next_is First last j = absurd (true≢false last)
-next_is (Number p t n) last j = or_turned (nat_lt p j.priority) ((j.priority == p) && nat_lt t j.tts)
-next_is (Time p t) last j = or_turned false (nat_lt p j.priority)
+next_is (Number p t n) last j = or_comm (nat_lt p j.priority) ((j.priority == p) && nat_lt t j.tts)
+next_is (Time p t) last j = or_comm false (nat_lt p j.priority)
 next_is (Priority p) last j = absurd (true≢false last)
 
 -- beyond the last front is no job

@@ -62,19 +62,15 @@ module _ (dial : List ℕ) (count after : List ℕ → ℕ) where
 abbrev pub open_to : (Grant → Bool) → List Grant → ℕ
 open_to of gs = length (filter of (filter (λ g. g.is_open) gs))
 
--- one more that passes, or not, is counted as 1 or 0
-passed : (g : Grant) (gs : List Grant) (b : Bool) → length (cond b (g ∷ gs) gs) ≡ one b + length gs
-passed g gs true = omega arith
-passed g gs false = omega arith
-
--- one more that is open, or not, adds 1 or 0 to those that pass
-opened : (of : Grant → Bool) (g : Grant) (gs : List Grant) (b : Bool) → length (filter of (cond b (g ∷ gs) gs)) ≡ one (b && of g) + length (filter of gs)
-opened of g gs true = passed g (filter of gs) (of g)
-opened of g gs false = omega arith
-
 -- one more grant adds 1 where it is open and passes
 pub open_more : (of : Grant → Bool) (g : Grant) (gs : List Grant) → open_to of (g ∷ gs) ≡ one (g.is_open && of g) + open_to of gs
-open_more of g gs = opened of g (filter (λ h. h.is_open) gs) g.is_open
+open_more of g gs =
+    let open_ones = filter (λ h. h.is_open) gs in
+    let rest = filter of open_ones in
+    elim g.is_open as (λ b. length (filter of (cond b (g ∷ open_ones) open_ones)) ≡ one (b && of g) + length rest) [
+      | true ↦ elim (of g) as (λ b. length (cond b (g ∷ rest) rest) ≡ one b + length rest) [ true ↦ omega arith | false ↦ omega arith ]
+      | false ↦ omega arith
+    ]
 
 -- a truth counts for at most 1
 at_most_one : (b : Bool) → one b ≤ 1

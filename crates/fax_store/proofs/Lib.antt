@@ -12,14 +12,11 @@ pub mod KeptLemmas
 pub mod JobLemmas
 pub mod ModemLemmas
 pub mod GrantLemmas
-pub mod HoldLemmas
-pub mod WaitingLemmas
 pub mod JobsLemmas
 pub mod CandidateLemmas
 pub mod CallLemmas
 pub mod Rows
 pub mod HeldLemmas
 pub mod AdoptLemmas
-pub mod VersionLemmas
 pub mod FloorLemmas
 mod MeaningLemmas

@@ -2,9 +2,8 @@ use Rattle.std.proofs.Common.{sym, subst, rules}
 use Rattle.sqlite.specs.Effect.{Database}
 use Rattle.sqlite.specs.Held.{state}
 use Rattle.fax_store.specs.Adopt.{CoreMeans, HoldsCanBeCalled}
-use Rattle.fax_store.proofs.AdoptLemmas.{none_still, told_strange}
+use Rattle.fax_store.proofs.AdoptLemmas.{none_still, told_strange, filled_by, kept_by, settled_means, settled_none}
 use Rattle.fax_store.proofs.HeldLemmas.{called_jobs, held_still}
-use Rattle.fax_store.proofs.VersionLemmas.{filled_by, kept_by, settled_means, settled_none}
 use Rattle.fax_store.proofs.WorkLemmas.{both_as, given_ok, not_strange}
 use Rattle.fax_store.proofs.store.Store.fill.Goals as goal
 

@@ -1,7 +1,7 @@
 use Rattle.std.proofs.Common.{◌≡◌, rules, []}
 use Rattle.fax_store.proofs.FrameLemmas.{edits_with}
 use Rattle.fax_schema.specs.declared.statements.TheConstants.{UPDATE_VERSION}
-use Rattle.fax_store.proofs.VersionLemmas.{raised_by}
+use Rattle.fax_store.proofs.AdoptLemmas.{raised_by}
 use Rattle.fax_store.proofs.StatementLemmas.{edit_text}
 use Rattle.fax_schema.proofs.StatementTexts as texts
 use Rattle.fax_store.proofs.store.Store.settle_version.Goals as goal

@@ -3,7 +3,7 @@ use Rattle.sqlite.specs.Held.{state}
 use Rattle.sqlite.specs.State.{Shown}
 use Rattle.fax_schema.specs.declared.statements.TheConstants.{SELECT_WAITING}
 use Rattle.fax_tables.proofs.ResultLemmas.{or_weaker}
-use Rattle.fax_store.proofs.WaitingLemmas as waiting
+use Rattle.fax_store.proofs.JobsLemmas as waiting
 use Rattle.fax_schema.proofs.StatementTexts.{select_waiting}
 use Rattle.fax_store.proofs.FrameLemmas.{finds_as}
 use Rattle.fax_store.proofs.store.Store.waiting.Goals as goal
