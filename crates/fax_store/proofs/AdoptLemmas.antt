@@ -534,9 +534,8 @@ pub raised_by : (version : ℕ) (old mid new : State) (result : Result (Unit {0}
     → OnOk result (HasRun UPDATE_VERSION.now [] mid new) → OnErr result (LeavesCommit mid new) → MatchResult result (λ _. GoesOn old new × IsSettled version old.now new.now) (λ _. KeepsCommit old new)
 raised_by version old mid new (Ok done) one has was same ran left =
     let still : GoesOn old mid = record { was_open = has.is_open; is_open = same.0.is_open; now_is = refl; committed_is = same.0.committed_is; mode = same.0.mode ∙ has.inside } in
-    let has1 = none_still old mid has same in
     let first : versions mid.now ≡ number 1 ∷ [] = ap (λ (d : Database). versions d) same.0.now_is ∙ was ∙ ap (λ n. number n ∷ []) one in
-    let it = version_raised mid new has1 ran first in
+    let it = version_raised mid new (none_still old mid has same) ran first in
     (goes_on old mid new still it.0, subst (λ (v : ℕ). IsSettled v old.now new.now) (sym one) (subst (λ (d : Database). IsSettled 1 d new.now) same.0.now_is it.1))
 raised_by version old mid new (Err e) one has was same ran left =
     commit_kept old mid new (record { was_open = has.is_open; is_open = same.0.is_open; now_is = refl; committed_is = same.0.committed_is; mode = same.0.mode ∙ has.inside }) (unchanged_keeps mid new left)

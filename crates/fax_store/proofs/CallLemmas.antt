@@ -1,5 +1,7 @@
 -- What the texts on calls read and write.
 use Rattle.std.proofs.Common.{◌≡◌, ◌≢◌, ◌⊎◌, inl, inr, ◌≤◌, ℕ, pos, List, [], ◌∷◌, ◌++◌, map, filter, drop, Bool, true, not, ◌&&◌, Option, Some, None, MatchOption, IsTrue, refl, sym, ap, subst, ◌∙◌, arith}
+use Rattle.sqlite_trees.specs.Tree.{Trees}
+use Rattle.fax_store.proofs.FoundLemmas.{none_passes, row_passes}
 use Rattle.std.proofs.lemmas.List.Elements.{filter_agree}
 use Rattle.std.proofs.Math.Bool.{and-true}
 use Rattle.std.specs.Str.{bytes_eq}
@@ -114,37 +116,26 @@ module _ (dial : List ℕ) where
   shown_as [] d n is = absurd cc
   shown_as (i ∷ r) d n is = ap (λ rest. show calls_tree call_tests call_project params (i ∷ rest)) is
 
-  abbrev pass : Row → Bool
-  pass = passes calls_tree call_tests call_project params
-
-  abbrev shows : Row → Row
-  shows = show calls_tree call_tests call_project params
-
   -- what is found in such a table is the count, or nothing where that is 0
-  pub counted_found : (tree : ℕ) (sql : List ℕ) (names : List (List ℕ)) → Selects sql tree call_tests call_project names → (old new : State) → overlay old.now.trees [] tree ≡ old.now.trees tree → (count : List ℕ → ℕ) → old.now.schema ≡ our_tables
+  pub counted_found : (tree : ℕ) (sql : List ℕ) (names : List (List ℕ)) → Selects sql tree call_tests call_project names → ((trees : Trees) → overlay trees [] tree ≡ trees tree) → (old new : State) (count : List ℕ → ℕ) → old.now.schema ≡ our_tables
       → AreCounted count (map (drop 1) (old.now.trees tree)) → (found : Option Row) → FindsRow sql params old new found → MatchOption found (count dial ≡ 0) (λ row. row ≡ number (count dial) ∷ [])
-  counted_found tree sql names selects old new plain count has counted found h = tells found h.2
-    where
-      shown : IsPermutation (map shows (filter pass (old.now.trees tree))) h.0
-      shown = answers tree call_tests call_project params old.now (old.now.trees tree) plain names h.0 (reads_as sql params old new our_tables has _ selects.command selects.plain selects.unlisted h.0 h.1)
-
-      tells : (found : Option Row) → MatchOption found (h.0 ≡ []) (Has h.0) → MatchOption found (count dial ≡ 0) (λ row. row ≡ number (count dial) ∷ [])
-      tells None empty = elim (cases_eq (count dial) 0) [
-        | inl none ↦ none
-        | inr some ↦
-            (let there = has_mapped (drop 1) (old.now.trees tree) (call_columns dial (count dial)) (counted.all dial (omega (arith, some))) in
-            absurd (both_ways _ (none_shown pass shows (old.now.trees tree) h.0 shown empty there.0 there.1) (of_number call_project there.0 dial (count dial) (sym there.2) ∙ (bytes_eq-Decides dial dial).1 refl)))
-      ]
-      tells (Some row) there =
-          let one = shown_one pass shows (old.now.trees tree) h.0 shown row there in
-          let it = counted.each (drop 1 one.0) (mapped_has (drop 1) (old.now.trees tree) one.0 one.1) in
-          let same : it.0 ≡ dial = (bytes_eq-Decides it.0 dial).0 (sym (of_number call_project one.0 it.0 (count it.0) it.1) ∙ one.2) in
-          one.3 ∙ shown_as one.0 it.0 (count it.0) it.1 ∙ ap (λ d. number (count d) ∷ []) same
+  counted_found tree sql names selects plain old new count has counted None h = elim (cases_eq (count dial) 0) [
+    | inl none ↦ none
+    | inr some ↦
+        (let there = has_mapped (drop 1) (old.now.trees tree) (call_columns dial (count dial)) (counted.all dial (omega (arith, some))) in
+        absurd (both_ways _ (none_passes sql tree call_tests call_project names selects plain params old new old.now has refl h there.0 there.1)
+        (of_number call_project there.0 dial (count dial) (sym there.2) ∙ (bytes_eq-Decides dial dial).1 refl)))
+  ]
+  counted_found tree sql names selects plain old new count has counted (Some row) h =
+      let one = row_passes sql tree call_tests call_project names selects plain params old new old.now has refl row h in
+      let it = counted.each (drop 1 one.0) (mapped_has (drop 1) (old.now.trees tree) one.0 one.1) in
+      let same : it.0 ≡ dial = (bytes_eq-Decides it.0 dial).0 (sym (of_number call_project one.0 it.0 (count it.0) it.1) ∙ one.2) in
+      one.3 ∙ shown_as one.0 it.0 (count it.0) it.1 ∙ ap (λ d. number (count d) ∷ []) same
 
   -- what the text on calls finds is how many are open to the number, or nothing where none is
   pub calls_found : (old new : State) (count : List ℕ → ℕ) → old.now.schema ≡ our_tables → AreCounted count (map (drop 1) (old.now.trees calls_tree)) → (found : Option Row) → FindsRow SELECT_OPEN.now params old new found
       → MatchOption found (count dial ≡ 0) (λ row. row ≡ number (count dial) ∷ [])
-  calls_found old new = counted_found calls_tree SELECT_OPEN.now _ select_open old new refl
+  calls_found old new = counted_found calls_tree SELECT_OPEN.now _ select_open (λ trees. refl) old new
 
 -- ---- writing
 

@@ -236,8 +236,7 @@ module _ (asked : Asked) (most : ℕ) (more : Row) (tests : List Term) where
     -- what it shows is a page behind the front
     page_found : (rows : List Row) → Shown sql params old new rows → IsPage asked m front most rows
     page_found rows h =
-        let read = reads_as sql params old new our_tables means.schema _ selects.command selects.plain selects.unlisted rows h in
-        let shown = in_page old.now rows read in
+        let shown = in_page old.now rows (reads_as sql params old new our_tables means.schema _ selects.command selects.plain selects.unlisted rows h) in
         let is_wanted = λ (j : Job). is_other asked.but j && is_near front j in
         let it = waiting.are_near asked.t rest tests prospect_project old.now m k means is_wanted near shown.0 shown.1 shown.3 in
         let all = all_wait old.now m k means asked.t in
@@ -383,18 +382,16 @@ amid P (y ∷ ys) x zs all = amid P ys x zs all.1
 behind_it : (ys : List Job) (x : Job) (zs : List Job) → IsAscending Goes (ys ++ x ∷ zs) → filter (better x) (ys ++ x ∷ zs) ≡ zs
 behind_it [] x zs up = rw (not_itself x.priority x.tts x.number) (filter_all (better x) zs up.0)
 behind_it (y ∷ ys) x zs up =
-    let goes = amid (Goes y) ys x zs up.0 in
-    rw (not_back y.priority y.tts y.number x.priority x.tts x.number goes) (behind_it ys x zs up.1)
+    rw (not_back y.priority y.tts y.number x.priority x.tts x.number (amid (Goes y) ys x zs up.0)) (behind_it ys x zs up.1)
 
 -- where a list in order, behind a front, goes to a job and then on, the rest is what is behind this job
 rest_behind : (f : Front) (all ys : List Job) (x : Job) (rest : List Job) → IsAscending Goes all → filter (is_behind f) all ≡ (ys ++ x ∷ []) ++ rest → filter (is_behind (front_of (prospect (fields_of x)))) all ≡ rest
 rest_behind f all ys x rest up is =
     let whole : filter (is_behind f) all ≡ ys ++ x ∷ rest = is ∙ append_assoc ys (x ∷ []) rest in
-    let rises = subst (IsAscending Goes) whole (ascending-filter Goes (is_behind f) all up) in
     let here : is_behind f x ≡ true = amid (λ (j : Job). is_behind f j ≡ true) ys x rest (subst (AllByRecursion (λ (j : Job). is_behind f j ≡ true)) whole (recursion_from_All _ _ (filter_passes (is_behind f) all))) in
     filter_agree (is_behind (front_of (prospect (fields_of x)))) (better x) (λ j. same_front x.priority x.tts x.number j.priority j.tts j.number) all
     ∙ sym (filter-filter (better x) (is_behind f) (λ b goes. still_behind f x b here goes) all)
-    ∙ ap (filter (better x)) whole ∙ behind_it ys x rest rises
+    ∙ ap (filter (better x)) whole ∙ behind_it ys x rest (subst (IsAscending Goes) whole (ascending-filter Goes (is_behind f) all up))
   where
     still_number : (p t n q u k r v l : ℕ) → (((q == p) && ((u == t) && nat_lt n k)) || (nat_lt p q || ((q == p) && nat_lt t u))) ≡ true → lex q u k r v l ≡ true
         → (((r == p) && ((v == t) && nat_lt n l)) || (nat_lt p r || ((r == p) && nat_lt t v))) ≡ true
@@ -472,8 +469,7 @@ module _ (db : Database) (m : Queue) (k : Ledger) (means : TablesMean db m k) (a
     nothing_near : rows ≡ [] → filter (is_near f) h.all ≡ []
     nothing_near none =
         let empty = ap (λ (all : List Job). take most (filter (is_near f) all)) (sym all_is) ∙ none_shown shown paged (sym none ∙ next.is) in
-        let some = h.some in
-        nil_from_length (filter (is_near f) h.all) (omega (arith, some, length-take most (filter (is_near f) h.all), ap length empty))
+        nil_from_length (filter (is_near f) h.all) (omega (arith, h.some, length-take most (filter (is_near f) h.all), ap length empty))
 
     -- it has no job
     pub stands_on : rows ≡ [] → (then : ℕ) → 0 < then → StandsAt asked m given rows (next_front f) then

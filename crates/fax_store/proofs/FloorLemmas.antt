@@ -49,7 +49,7 @@ use Rattle.fax_tables.specs.declared.fault.StoreFault.TheVariants.{Unavailable}
 
 pub floor_found : (client : List ℕ) (old new : State) (m : Queue) (k : Ledger) → TablesMean old.now m k → (found : Option Row) → FindsRow SELECT_FLOOR.now (params client) old new found
     → MatchOption found (k.floor client ≡ 0) (λ row. row ≡ number (k.floor client) ∷ [])
-floor_found client old new m k means = counted_found client floors_tree SELECT_FLOOR.now _ select_floor old new refl k.floor means.schema means.floors
+floor_found client old new m k means = counted_found client floors_tree SELECT_FLOOR.now _ select_floor (λ trees. refl) old new k.floor means.schema means.floors
 
 low : (n : ℕ) → (1 ≤ n → n < 10 ^ 18) → n < 10 ^ 18
 low zero some = omega arith

@@ -44,11 +44,16 @@ module _ (sql : List ℕ) (tree : ℕ) (tests project : List Term) (names : List
   pub none_passes : FindsRow sql params old new None → (r : Row) → Has (db.trees tree) r → passes tree tests project params r ≡ false
   none_passes h r has = none_shown (passes tree tests project params) (show tree tests project params) (db.trees tree) h.0 (shows h.0 h.1) h.2 r has
 
-  -- what is read of the row that is found stands in one that passes
+  -- the row that is found is what is shown of one that passes
+  pub row_passes : (row : Row) → FindsRow sql params old new (Some row)
+      → (r : Row) × Has (db.trees tree) r × (passes tree tests project params r ≡ true) × (row ≡ show tree tests project params r)
+  row_passes row h = shown_one (passes tree tests project params) (show tree tests project params) (db.trees tree) h.0 (shows h.0 h.1) row h.2
+
+  -- what is read of it stands in that one
   pub one_passes : (row values : Row) → FindsRow sql params old new (Some row) → HasValues row 0 values
       → (r : Row) × Has (db.trees tree) r × (passes tree tests project params r ≡ true) × (take (length values) (show tree tests project params r) ≡ values)
   one_passes row values h has =
-      let it = shown_one (passes tree tests project params) (show tree tests project params) (db.trees tree) h.0 (shows h.0 h.1) row h.2 in
+      let it = row_passes row h in
       (it.0, it.1, it.2, first_from (show tree tests project params it.0) values 0 (subst (λ (found : Row). HasValues found 0 values) it.3 has))
 
   -- a test of one column alone

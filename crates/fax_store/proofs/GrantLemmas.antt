@@ -21,7 +21,7 @@ use Rattle.fax_store.specs.declared.store.Store.{Store}
 use Rattle.fax_tables.specs.Tables.{IsLawfulGrant, TablesMean, HaveJobs}
 use Rattle.fax_schema.proofs.CompareLemmas.{number_same, are_equal, equal_texts, is_number, same_row, cast_int, cast_null, compared}
 use Rattle.fax_schema.proofs.GrantTexts.{grant_names, grant_tests, grant_project, select_grant, grant_terms, report_project, shut_project, held_tests, hold_terms, insert_grant, insert_hold, update_report, shut_grant, delete_hold, hold_tests, hold_project, select_hold}
-use Rattle.fax_store.proofs.FoundLemmas.{none_keyed, one_numbered, Keys, key_of, one_passes}
+use Rattle.fax_store.proofs.FoundLemmas.{none_keyed, one_numbered, Keys, key_of, one_passes, none_passes, row_passes}
 use Rattle.fax_tables.proofs.KeyLemmas.{found_holds, numbered_found, only_numbered, asked_is, not_asked, row_placed, all_placed, placed_permuted, free_of}
 use Rattle.fax_schema.proofs.SelectLemmas.{passes, show, answers}
 use Rattle.std.proofs.lemmas.Option.{same_Some}
@@ -488,24 +488,19 @@ module _ (modem : List ℕ) where
   module _ (old new : State) (m : Queue) (k : Ledger) (means : TablesMean old.now m k) where
     -- what the text on holds finds is the grant and job that the modem holds, or nothing
     pub hold_found : (found : Option Row) → FindsRow SELECT_HOLD.now modem_params old new found → found ≡ option_map hold_shown (held_by modem m)
-    hold_found found h = tells found h.2
-      where
-        shows : IsPermutation (map (show holds_tree hold_tests hold_project modem_params) (filter (passes holds_tree hold_tests hold_project modem_params) (old.now.trees holds_tree))) h.0
-        shows = answers holds_tree hold_tests hold_project modem_params old.now (old.now.trees holds_tree) refl [] h.0 (reads_as SELECT_HOLD.now modem_params old new our_tables means.schema _ select_hold.command select_hold.plain select_hold.unlisted h.0 h.1)
-
-        tells : (found : Option Row) → MatchOption found (h.0 ≡ []) (Has h.0) → found ≡ option_map hold_shown (held_by modem m)
-        tells None empty = sym (ap (option_map hold_shown) (find_none (λ (g : Grant). bytes_eq g.modem modem) (open_grants m) (λ g has.
-            let it = row_of hold_columns (old.now.trees holds_tree) (open_grants m) means.holds g has in
-            sym (is_asked hold_project it.0 g it.2) ∙ none_shown (passes holds_tree hold_tests hold_project modem_params) (show holds_tree hold_tests hold_project modem_params) (old.now.trees holds_tree) h.0 shows empty it.0 it.1)))
-        tells (Some row) has =
-            let shown = shown_one (passes holds_tree hold_tests hold_project modem_params) (show holds_tree hold_tests hold_project modem_params) (old.now.trees holds_tree) h.0 shows row has in
-            let it = record_of hold_columns (old.now.trees holds_tree) (open_grants m) means.holds shown.0 shown.1 in
-            let on = sym (is_asked hold_project shown.0 it.0 it.2) ∙ shown.2 in
-            let one = find_some (λ (g : Grant). bytes_eq g.modem modem) (open_grants m) it.0 it.1 on in
-            let held = has_found (λ (g : Grant). bytes_eq g.modem modem) (open_grants m) one.0 one.1 in
-            let its = row_of hold_columns (old.now.trees holds_tree) (open_grants m) means.holds one.0 held.0 in
-            let same = one_of_modem old.now means.schema means.sound means.ordered.holds modem its.0 shown.0 its.1 shown.1 (modem_of its.0 one.0 its.2 held.1) (modem_of shown.0 it.0 it.2 on) in
-            ap Some (shown.3 ∙ shown_as shown.0 one.0 (ap (drop 1) same ∙ its.2)) ∙ sym (ap (option_map hold_shown) one.1)
+    hold_found None h = sym (ap (option_map hold_shown) (find_none (λ (g : Grant). bytes_eq g.modem modem) (open_grants m) (λ g has.
+        let it = row_of hold_columns (old.now.trees holds_tree) (open_grants m) means.holds g has in
+        sym (is_asked hold_project it.0 g it.2)
+        ∙ none_passes SELECT_HOLD.now holds_tree hold_tests hold_project _ select_hold (λ trees. refl) modem_params old new old.now means.schema refl h it.0 it.1)))
+    hold_found (Some row) h =
+        let shown = row_passes SELECT_HOLD.now holds_tree hold_tests hold_project _ select_hold (λ trees. refl) modem_params old new old.now means.schema refl row h in
+        let it = record_of hold_columns (old.now.trees holds_tree) (open_grants m) means.holds shown.0 shown.1 in
+        let on = sym (is_asked hold_project shown.0 it.0 it.2) ∙ shown.2 in
+        let one = find_some (λ (g : Grant). bytes_eq g.modem modem) (open_grants m) it.0 it.1 on in
+        let held = has_found (λ (g : Grant). bytes_eq g.modem modem) (open_grants m) one.0 one.1 in
+        let its = row_of hold_columns (old.now.trees holds_tree) (open_grants m) means.holds one.0 held.0 in
+        let same = one_of_modem old.now means.schema means.sound means.ordered.holds modem its.0 shown.0 its.1 shown.1 (modem_of its.0 one.0 its.2 held.1) (modem_of shown.0 it.0 it.2 on) in
+        ap Some (shown.3 ∙ shown_as shown.0 one.0 (ap (drop 1) same ∙ its.2)) ∙ sym (ap (option_map hold_shown) one.1)
 
   module _ (old new : State) (db : Database) (ours : db.schema ≡ our_tables) (now : old.now ≡ db) where
     -- whatever the rows say, where none is found no row has the modem
@@ -519,8 +514,7 @@ module _ (modem : List ℕ) where
     hold_stands row h found has =
         let it = one_passes SELECT_HOLD.now holds_tree hold_tests hold_project _ select_hold (λ trees. refl) modem_params old new db ours now row (held_shown h) found has in
         let equal = key_of SELECT_HOLD.now holds_tree hold_tests hold_project _ select_hold (λ trees. refl) modem_params old new db ours now 1 (Text modem) (λ r. refl) it.0 it.2 in
-        let key = text_same (column it.0 1) modem equal in
-        record { row = it.0; has = it.1; is = ap₂ ◌∷◌ key it.3 }
+        record { row = it.0; has = it.1; is = ap₂ ◌∷◌ (text_same (column it.0 1) modem equal) it.3 }
 
 module _ {S : Type 0} (g : Ghosts S) (modem : List ℕ) (old new : Store S) where
   -- what a modem holds is looked up

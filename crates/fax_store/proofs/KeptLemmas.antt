@@ -51,7 +51,7 @@ use Rattle.fax_tables.specs.Fault.{fault_of}
 use Rattle.fax_tables.specs.declared.fault.StoreFault.TheVariants.{Unavailable}
 use Rattle.sqlite.specs.declared.error.Error.{Error}
 use Rattle.fax_schema.proofs.SelectLemmas.{passes, show, answers}
-use Rattle.fax_store.proofs.FoundLemmas.{none_passes}
+use Rattle.fax_store.proofs.FoundLemmas.{none_passes, row_passes}
 use Rattle.fax_schema.proofs.StatementTexts.{reply_tests, reply_project, reply_terms, select_reply, insert_reply}
 use Rattle.fax_schema.proofs.WriteLemmas.{KeepsOthers, InsertsRow, unreferred, inserts}
 use Rattle.fax_tables.proofs.TablesLemmas.{replies, parts_of, means_of, calls_of, replies_changed, one_more}
@@ -177,41 +177,30 @@ module _ (client : List ℕ) (n : ℕ) where
         ap (λ cols. show replies_tree reply_tests reply_project params (x ∷ cols)) h,
       )
 
-  -- and the row of that entry passes
-  asked_for : (r : Row) (e : Entry) → drop 1 r ≡ entry_columns e → IsOf client n e → is_asked r ≡ true
-  asked_for [] e h of = absurd cc
-  asked_for (x ∷ rest) e h of =
-      let texts : are_equal (Text e.client) (Text client) ≡ true = equal_texts e.client client ∙ (bytes_eq-Decides e.client client).1 of.client_is in
-      let numbers : are_equal (number e.number) (number n) ≡ true = rw of.number_is (number_same n) in
-      let q : (are_equal (Text e.client) (Text client) && (are_equal (number e.number) (number n) && true)) ≡ true = rw (texts, numbers) refl in
-      subst (λ cols. is_asked (x ∷ cols) ≡ true) (sym h) q
-
-  module _ (old new : State) (m : Queue) (k : Ledger) (means : TablesMean old.now m k) where
-    -- what the text on a reply finds is an entry of the client and number; where it finds nothing, there is none
-    pub reply_found : (found : Option Row) → FindsRow SELECT_REPLY.now params old new found
-        → MatchOption found ((e : Entry) → Has k.replies e → ¬ IsOf client n e) (λ row. (e : Entry) × Has k.replies e × IsOf client n e × (row ≡ entry_shown e))
-    reply_found found h = tells found h.2
-      where
-        same : IsPermutation (map (show replies_tree reply_tests reply_project params) (filter (passes replies_tree reply_tests reply_project params) (old.now.trees replies_tree))) h.0
-        same = answers replies_tree reply_tests reply_project params old.now (old.now.trees replies_tree) refl [] h.0 (reads_as SELECT_REPLY.now params old new our_tables means.schema _ select_reply.command select_reply.plain select_reply.unlisted h.0 h.1)
-
-        tells : (found : Option Row) → MatchOption found (h.0 ≡ []) (Has h.0) → MatchOption found ((e : Entry) → Has k.replies e → ¬ IsOf client n e) (λ row. (e : Entry) × Has k.replies e × IsOf client n e × (row ≡ entry_shown e))
-        tells None empty = λ e has of.
-            let it = row_of entry_columns (old.now.trees replies_tree) k.replies (IsPermutation-same _ _ (sym means.replies)) e has in
-            both_ways _ (none_shown is_asked (show replies_tree reply_tests reply_project params) (old.now.trees replies_tree) h.0 same empty it.0 it.1) (asked_for it.0 e it.2 of)
-        tells (Some row) has =
-            let shown = shown_one is_asked (show replies_tree reply_tests reply_project params) (old.now.trees replies_tree) h.0 same row has in
-            let it = record_of entry_columns (old.now.trees replies_tree) k.replies (IsPermutation-same _ _ (sym means.replies)) shown.0 shown.1 in
-            let of = shows_entry shown.0 it.0 it.2 shown.2 in
-            (it.0, it.1, of.0, shown.3 ∙ of.1)
-
   -- a row of the client and the number passes, whatever stands beside them
   key_passes : (id said status body : Value) → is_asked (id ∷ Text client ∷ number n ∷ said ∷ status ∷ body ∷ []) ≡ true
   key_passes id said status body =
       let texts : are_equal (Text client) (Text client) ≡ true = equal_texts client client ∙ (bytes_eq-Decides client client).1 refl in
       let numbers : are_equal (number n) (number n) ≡ true = number_same n in
-      let q : (are_equal (Text client) (Text client) && (are_equal (number n) (number n) && true)) ≡ true = rw (texts, numbers) refl in
-      q
+      rw (texts, numbers) refl
+
+  -- so does that of the entry
+  asked_for : (r : Row) (e : Entry) → drop 1 r ≡ entry_columns e → IsOf client n e → is_asked r ≡ true
+  asked_for [] e h of = absurd cc
+  asked_for (x ∷ rest) e h of = subst (λ cols. is_asked (x ∷ cols) ≡ true) (sym h) (rw (of.client_is, of.number_is) (key_passes x (Blob e.said) (number e.status) (Blob e.body)))
+
+  module _ (old new : State) (m : Queue) (k : Ledger) (means : TablesMean old.now m k) where
+    -- what the text on a reply finds is an entry of the client and number; where it finds nothing, there is none
+    pub reply_found : (found : Option Row) → FindsRow SELECT_REPLY.now params old new found
+        → MatchOption found ((e : Entry) → Has k.replies e → ¬ IsOf client n e) (λ row. (e : Entry) × Has k.replies e × IsOf client n e × (row ≡ entry_shown e))
+    reply_found None h = λ e has of.
+        let it = row_of entry_columns (old.now.trees replies_tree) k.replies (IsPermutation-same _ _ (sym means.replies)) e has in
+        both_ways _ (none_passes SELECT_REPLY.now replies_tree reply_tests reply_project _ select_reply (λ trees. refl) params old new old.now means.schema refl h it.0 it.1) (asked_for it.0 e it.2 of)
+    reply_found (Some row) h =
+        let shown = row_passes SELECT_REPLY.now replies_tree reply_tests reply_project _ select_reply (λ trees. refl) params old new old.now means.schema refl row h in
+        let it = record_of entry_columns (old.now.trees replies_tree) k.replies (IsPermutation-same _ _ (sym means.replies)) shown.0 shown.1 in
+        let of = shows_entry shown.0 it.0 it.2 shown.2 in
+        (it.0, it.1, of.0, shown.3 ∙ of.1)
 
   -- so where none is found there is no such row
   pub none_found : (old new : State) (db : Database) → db.schema ≡ our_tables → old.now ≡ db → FindsRow SELECT_REPLY.now params old new None → ¬ HasReply db client n

@@ -1,5 +1,6 @@
 -- What the texts on the modems that are down read and write.
 use Rattle.std.proofs.Common.{◌≡◌, ℕ, ℤ, List, [], ◌∷◌, ◌++◌, if◌then◌else◌, map, filter, drop, true, false, not, Option, Some, None, Err, is_some, MatchOption, refl, sym, ap, subst, ◌∙◌}
+use Rattle.fax_store.proofs.FoundLemmas.{none_passes, row_passes}
 use Rattle.fax_store.proofs.CountLemmas.{turned}
 use Rattle.std.proofs.Math.Bool.{and-true}
 use Rattle.std.specs.Str.{bytes_eq}
@@ -58,19 +59,14 @@ module _ (modem : List ℕ) where
 
     -- a mark is found just where the modem is down
     pub mark_found : (found : Option Row) → FindsRow SELECT_DOWN.now params old new found → is_some found ≡ is_down modem m
-    mark_found found h = tells found h.2
-      where
-        shows : IsPermutation (map (show down_tree down_tests down_project params) (filter (passes down_tree down_tests down_project params) (old.now.trees down_tree))) h.0
-        shows = answers down_tree down_tests down_project params old.now (old.now.trees down_tree) refl [] h.0 (reads_as SELECT_DOWN.now params old new our_tables means.schema _ select_down.command select_down.plain select_down.unlisted h.0 h.1)
-
-        tells : (found : Option Row) → MatchOption found (h.0 ≡ []) (Has h.0) → is_some found ≡ is_down modem m
-        tells None empty = sym (none_holds (bytes_eq modem) m.down (λ name has.
-            let it = row_of down_columns (old.now.trees down_tree) m.down same name has in
-            sym (is_asked down_project it.0 name it.2) ∙ none_shown (passes down_tree down_tests down_project params) (show down_tree down_tests down_project params) (old.now.trees down_tree) h.0 shows empty it.0 it.1))
-        tells (Some row) has =
-            let shown = shown_one (passes down_tree down_tests down_project params) (show down_tree down_tests down_project params) (old.now.trees down_tree) h.0 shows row has in
-            let it = record_of down_columns (old.now.trees down_tree) m.down same shown.0 shown.1 in
-            sym (some_from (bytes_eq modem) m.down it.0 it.1 (sym (is_asked down_project shown.0 it.0 it.2) ∙ shown.2))
+    mark_found None h = sym (none_holds (bytes_eq modem) m.down (λ name has.
+        let it = row_of down_columns (old.now.trees down_tree) m.down same name has in
+        sym (is_asked down_project it.0 name it.2)
+        ∙ none_passes SELECT_DOWN.now down_tree down_tests down_project _ select_down (λ trees. refl) params old new old.now means.schema refl h it.0 it.1))
+    mark_found (Some row) h =
+        let shown = row_passes SELECT_DOWN.now down_tree down_tests down_project _ select_down (λ trees. refl) params old new old.now means.schema refl row h in
+        let it = record_of down_columns (old.now.trees down_tree) m.down same shown.0 shown.1 in
+        sym (some_from (bytes_eq modem) m.down it.0 it.1 (sym (is_asked down_project shown.0 it.0 it.2) ∙ shown.2))
 
     -- the text that deletes a mark takes it off, and touches `down` alone
     pub mark_cleared : HasRun DELETE_DOWN.now params old new → TablesMean new.now (with_mark modem false m) k × KeepsOthers our_tables down_tree old new

@@ -38,8 +38,7 @@ module _ (old new : State) (sql : List ℕ) (params : Row) where
   pub shown_keeps : IsPlain (understood old.now.schema sql) → (rows : List Row) → Shown sql params old new rows → IsUnchanged old new
   unfolding Shown
   shown_keeps plain rows h =
-      let none = (subst IsPlain h.1.is plain).0 in
-      (subst (ShowsRows old new sql h.0 _ rows) none h.2).3
+      (subst (ShowsRows old new sql h.0 _ rows) ((subst IsPlain h.1.is plain).0) h.2).3
 
   -- what fails to show its rows changes nothing, or undoes what is not committed
   not_shown : (c : Compiled) (full : Row) (e : Error) (returning : Option Returning) → FailsToShow old new sql c full e returning → LeavesCommit old new
@@ -100,8 +99,7 @@ module _ (old new : State) (sql : List ℕ) (params : Row) where
             → AtPlace (λ t. OnRows (task t) (mode_of old) None command old.now.trees) found (Ok (tally, after)) → after.schema ≡ old.now.schema
         on_table task command None same h = absurd cc
         on_table task command (Some t) same h =
-            let done = went h in
-            ap (λ (p : Tally × Database). p.1.schema) (same_value (went (went done.2).2).2) ∙ same t
+            ap (λ (p : Tally × Database). p.1.schema) (same_value (went (went (went h).2).2).2) ∙ same t
 
         task_of : Table → Task
         task_of t = record { limit = old.step_limit; keys = (mode_of old).keys; schema = old.now.schema; table = t; params = full }

@@ -41,8 +41,7 @@ returns g c = record {
       let next = c.in_ok-page.ensures.answers m k (means_now means) serves in
       let rows = c.in_ok-page.page.items in
       let means_now = (means (c.page.ensures.leaves.served serves)).means in
-      let some = stands.some in
-      let more : 0 < c.min-self.result = omega (arith, some, c.saturating_add.ensures, c.min-self.ensures) in
+      let more : 0 < c.min-self.result = omega (arith, stands.some, c.saturating_add.ensures, c.min-self.ensures) in
       let page : into_iter_items c.into_iter.result ≡ rows = c.into_iter.ensures.rest in (
         subst (λ xs. StandsAt asked m given xs c.match-last.self c.min-self.result) (sym page)
             (elim c.match-last.branch [

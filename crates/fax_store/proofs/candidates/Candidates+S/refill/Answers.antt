@@ -16,9 +16,7 @@ returns-in_err-read_on g c = record {
   none = search rules;
   asked = search rules;
   found = λ m k given means serves stands. let before = into_iter_items c.loop-self.self.page in
-      let none = c.loop-self-test.true in
-      let long = c.loop-self.self.page.rest.ok.0 in
-      let empty : before ≡ [] = nil_from_length before (omega (arith, none, long, c.len.ensures)) in
+      let empty : before ≡ [] = nil_from_length before (omega (arith, c.loop-self-test.true, c.loop-self.self.page.rest.ok.0, c.len.ensures)) in
       let stood = rw (← c.loop-self.invariant.asked, empty) at (c.loop-self.invariant.found m k given means (c.read_on.ensures.leaves.served serves) stands) in
       passes_on c.from_residual.result c.in_err-read_on.field-0.0 _ c.from_residual.ensures.1
       (c.in_err-read_on.ensures.found m k given (means_stay c.loop-self.invariant.leaves.served c.loop-self.invariant.leaves.stays m k means) serves stood);
@@ -32,9 +30,7 @@ returns-then-branch g c = record {
   none = search rules;
   asked = search rules;
   found = λ m k given means serves stands. let before = into_iter_items c.loop-self.self.page in
-      let none = c.loop-self-test.true in
-      let long = c.loop-self.self.page.rest.ok.0 in
-      let empty : before ≡ [] = nil_from_length before (omega (arith, none, long, c.len.ensures)) in
+      let empty : before ≡ [] = nil_from_length before (omega (arith, c.loop-self-test.true, c.loop-self.self.page.rest.ok.0, c.len.ensures)) in
       let stood = rw (← c.loop-self.invariant.asked, empty) at (c.loop-self.invariant.found m k given means (c.read_on.ensures.leaves.served serves) stands) in
       let found = c.in_ok-read_on.ensures.found m k given (means_stay c.loop-self.invariant.leaves.served c.loop-self.invariant.leaves.stays m k means) serves stood in (
         subst (λ (asked : Asked). StandsAt asked m given (into_iter_items c.read_on.new.self.page) c.read_on.new.self.front c.read_on.new.self.most) c.loop-self.invariant.asked found.0,
@@ -50,9 +46,7 @@ loop-self-preserved g c = record {
   opens = λ clean serves. c.in_ok-read_on.ensures.opens clean;
   found = λ m k given means serves stands.
       let before = into_iter_items c.loop-self.self.page in
-      let none = c.loop-self-test.true in
-      let long = c.loop-self.self.page.rest.ok.0 in
-      let empty : before ≡ [] = nil_from_length before (omega (arith, none, long, c.len.ensures)) in
+      let empty : before ≡ [] = nil_from_length before (omega (arith, c.loop-self-test.true, c.loop-self.self.page.rest.ok.0, c.len.ensures)) in
       let stood = rw (← c.loop-self.invariant.asked, empty) at (c.loop-self.invariant.found m k given means (c.read_on.ensures.leaves.served serves) stands) in
       subst (λ (asked : Asked). StandsAt asked m given (into_iter_items c.read_on.new.self.page) c.read_on.new.self.front c.read_on.new.self.most) c.loop-self.invariant.asked
       (c.in_ok-read_on.ensures.found m k given (means_stay c.loop-self.invariant.leaves.served c.loop-self.invariant.leaves.stays m k means) serves stood).0;

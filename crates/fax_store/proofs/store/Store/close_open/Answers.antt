@@ -18,10 +18,8 @@ run-requires-2 g c = edit_text DELETE_HOLD.now _ tt texts.delete_hold
 
 pub returns-in_err-run : goal.returns-in_err-run
 returns-in_err-run g c =
-    let fault = c.in_err-run.field-0.0 in
-    let result = c.from_residual.result in
     let told = c.from_residual.ensures.1 in
-    writes_where_refused g.S.Store _ _ result fault told c.in_err-run.ensures.leaves _ _ _ c.in_err-run.ensures.cause
+    writes_where_refused g.S.Store _ _ c.from_residual.result c.in_err-run.field-0.0 told c.in_err-run.ensures.leaves _ _ _ c.in_err-run.ensures.cause
 
 pub returns-in_err-run-2 : goal.returns-in_err-run-2
 returns-in_err-run-2 g c =

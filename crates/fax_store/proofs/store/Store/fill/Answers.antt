@@ -22,9 +22,8 @@ returns-clause-leaves g c = record {
       let settled = c.in_ok-settle_version.ensures.leaves.goes (c.test_holds.ensures.clean clean2) has in
       let has1 = settled_none c.args.version _ _ settled.0 settled.1 in
       let tested = c.in_ok-test_holds.ensures.ours has1.schema_is clean2 in
-      let has2 = none_still _ _ has1 tested.1 in
       both_as c.count_holds.result (λ done. filled_by c.args.version _ _ _ _ settled.0 settled.1 tested.0 tested.1 done.0 done.1) (λ kept. kept_by _ _ _ _ settled.0 tested.1 has1 kept)
-      (c.count_holds.ensures.leaves.goes clean has2);
+      (c.count_holds.ensures.leaves.goes clean (none_still _ _ has1 tested.1));
   crash = search rules;
   clean = search rules;
 }

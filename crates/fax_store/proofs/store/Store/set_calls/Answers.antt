@@ -23,8 +23,7 @@ pub returns-then-calls-eq0-clause-set : goal.returns-then-calls-eq0-clause-set
 returns-then-calls-eq0-clause-set g c count was clean =
     let dial = c.args.dial.now in
     let none : c.args.calls ≡ 0 = search rules in
-    let gone = edits_with g.S.Store _ _ _ DELETE_CALLS.now _ (params dial) (search rules) c.in_ok-run.ensures in
-    rw none (calls_gone dial count _ _ was (gone.ran clean))
+    rw none (calls_gone dial count _ _ was ((edits_with g.S.Store _ _ _ DELETE_CALLS.now _ (params dial) (search rules) c.in_ok-run.ensures).ran clean))
 
 pub returns-clause-leaves : goal.returns-clause-leaves
 returns-clause-leaves g c = runs_then g.S.Store _ _ _ _ _ c.in_ok-run.ensures.leaves c.run-2.ensures.leaves

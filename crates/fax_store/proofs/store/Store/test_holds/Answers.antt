@@ -25,6 +25,5 @@ returns-then-len-gt0 g c = record {
   clean = search rules;
   crash = search rules;
   strange = λ tables clean is held. let none = ap length (lost_none _ _ tables c.in_ok-lost.lost.items (c.in_ok-lost.ensures.found clean) held) in
-      let some = c.if-len-gt0.true in
-      omega (arith, none, some, c.len.ensures);
+      omega (arith, none, c.if-len-gt0.true, c.len.ensures);
 }
