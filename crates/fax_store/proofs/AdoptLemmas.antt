@@ -1,8 +1,7 @@
 -- What the statements do by which a store comes to a database, and raises the version of its meta.
-use Rattle.std.proofs.Common.{◌≡◌, ◌≢◌, ◌⊎◌, inl, inr, ℕ, List, [], ◌∷◌, codes, map, Bool, true, false, arith, Ok, Err, IsErr, IsErrAnd, IsTrue, MatchResult, Result, refl, sym, subst, ap, ap₂, ◌∙◌, IfErr, ◌==◌, pos, ◌++◌, drop, ◌&&◌, Some, OnOk, OnErr}
+use Rattle.std.proofs.Common.{◌≡◌, ◌≢◌, inl, inr, ℕ, List, [], ◌∷◌, codes, map, Bool, true, false, arith, Ok, Err, IsErr, IsErrAnd, IsTrue, MatchResult, Result, refl, sym, subst, ap, ap₂, ◌∙◌, IfErr, ◌==◌, pos, ◌++◌, drop, ◌&&◌, Some, OnOk, OnErr}
 use Rattle.sqlite_rules.proofs.ListLemmas.{all_has}
 use Rattle.sqlite_trees.proofs.ListLemmas.{all_of, filter_all, map-map}
-use Rattle.std.specs.List.{AllByRecursion}
 use Rattle.std.specs.List.Sorted.{IsPermutation}
 use Rattle.std.proofs.lemmas.Bool.{false≢true, and_parts, cases_Bool}
 use Rattle.std.proofs.lemmas.List.Sorted.{IsPermutation-sym}
@@ -34,7 +33,7 @@ use Rattle.fax_schema.proofs.SelectLemmas.{answers}
 use Rattle.sqlite_schema.specs.declared.schema.Schema.{Schema}
 use Rattle.sqlite_schema.specs.declared.schema.Table.{Table}
 use Rattle.fax_store.specs.Adopt.{Adopts, AreAdopted, AreTaken, Founds, HasBecome, HasNone, HoldsCanBeCalled, IsAdoptable, IsFilled, IsIn, IsOurs, IsRaisable, IsRaisableFrom, IsTakeable, IsTaken, Leaves, MeansAs, QueuesAreTakeable, Settles, Takes, Turns, TurnsOrUnavailable, CoreMeans, HoldJobs, IsSettled, IsWhole}
-use Rattle.fax_store.specs.Store.{CommitsNothing, GoesBack, MayFind, MayMake, RowsFound, Serves, HasRun, LeavesCommit}
+use Rattle.fax_store.specs.Store.{CommitsNothing, GoesBack, MayMake, RowsFound, Serves, HasRun, LeavesCommit}
 use Rattle.fax_store.proofs.ControlLemmas.{begins, commits}
 use Rattle.fax_store.proofs.HeldLemmas.{held_still, rows_callable}
 use Rattle.fax_schema.proofs.StatementTexts.{select_version, version_project, raise_project, update_version}
@@ -454,10 +453,6 @@ typed_same (Real x) h = absurd cc
 typed_same (Text t) h = absurd cc
 typed_same (Blob b) h = absurd cc
 
--- an integer is stored as it is
-int_same : (v : Value) → IsTrue (is_int v) → cast Integer v ≡ v
-int_same v h = rw (int_is v h) (cast_int _)
-
 -- the clock and next numbers of a row
 record AreTyped (r : Row) : Type 0 where
   clock : is_of Integer (column r 2) ≡ true
@@ -489,7 +484,7 @@ module _ (old new : State) (has : HasNone old) (ran : HasRun UPDATE_VERSION.now 
   stored : IsByRowid (old.now.trees meta_tree) → (r : Row) → Has (old.now.trees meta_tree) r → cast_row schema.meta (column r 0 ∷ Null ∷ column r 2 ∷ column r 3 ∷ column r 4 ∷ number 2 ∷ []) ≡ raised r
   stored by r there =
       let it = typed r there in
-      let id : cast Integer (column r 0) ≡ column r 0 = int_same (column r 0) (all_has (λ x. IsTrue (is_int (rowid x))) (old.now.trees meta_tree) r by.integers there) in
+      let id : cast Integer (column r 0) ≡ column r 0 = rw (int_is (column r 0) (all_has (λ x. IsTrue (is_int (rowid x))) (old.now.trees meta_tree) r by.integers there)) (cast_int _) in
       same_row id (same_row cast_null (same_row (typed_same (column r 2) it.clock) (same_row (typed_same (column r 3) it.next_job) (same_row (typed_same (column r 4) it.next_grant) (same_row (cast_int (pos 2)) refl)))))
 
   -- the text raises each row of meta, and touches meta alone
@@ -519,15 +514,11 @@ module _ (old new : State) (has : HasNone old) (ran : HasRun UPDATE_VERSION.now 
       schema_is = keeps.schema_is;
       sound = keeps.sound;
       rows = others_kept alike_list meta_tree old.now.trees new.now.trees refl (all_front Other alike_list (schema.meta ∷ (second_list ++ (schema.calls ∷ []))) keeps.others);
-      meta = raises;
+      meta = λ can. elim can [ inl other ↦ absurd (other refl) | inr by ↦ (ran_as by).1 ];
       second = others_kept second_list meta_tree old.now.trees new.now.trees refl (all_front Other second_list (schema.calls ∷ []) (all_behind Other first_list (second_list ++ (schema.calls ∷ [])) keeps.others));
       none = at_tree (λ tree. tree ≢ meta_tree → new.now.trees tree ≡ old.now.trees tree) our_tables.tables calls_tree refl keeps.others (λ e. absurd (omega arith)) ∙ has.none;
     },
   )
-    where
-      raises : IsRaisableFrom 1 old.now → new.now.trees meta_tree ≡ meta_as 1 (old.now.trees meta_tree)
-      raises (inl other) = absurd (other refl)
-      raises (inr by) = (ran_as by).1
 
 -- the text, behind the test of the version
 pub raised_by : (version : ℕ) (old mid new : State) (result : Result (Unit {0}) StoreFault) → version ≡ 1 → HasNone old → versions old.now ≡ number version ∷ [] → IsUnchanged old mid

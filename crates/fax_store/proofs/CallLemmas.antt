@@ -5,7 +5,6 @@ use Rattle.fax_store.proofs.FoundLemmas.{none_passes, row_passes}
 use Rattle.std.proofs.lemmas.List.Elements.{filter_agree}
 use Rattle.std.proofs.Math.Bool.{and-true}
 use Rattle.std.specs.Str.{bytes_eq}
-use Rattle.std.specs.List.Sorted.{IsPermutation}
 use Rattle.std.proofs.lemmas.Bool.{both_ways, cond_both, false_from_ne_true, cases_eq}
 use Rattle.std.proofs.lemmas.Slice.Eq.{bytes_eq-Decides}
 use Rattle.sqlite.specs.Cast.{cast_row}
@@ -15,14 +14,14 @@ use Rattle.sqlite.specs.Rowids.TheVariants.{Chosen}
 use Rattle.sqlite.specs.Effect.{Database, IsDatabase}
 use Rattle.sqlite.specs.State.{State, IsUnchanged}
 use Rattle.sqlite.specs.declared.types.Value.TheVariants.{Null, Int, Text}
-use Rattle.sqlite.proofs.Callers.{runs_as, reads_as}
+use Rattle.sqlite.proofs.Callers.{runs_as}
 use Rattle.sqlite_catalog.specs.Change.{KeepsRows}
 use Rattle.sqlite_rules.specs.Lists.{Has}
 use Rattle.sqlite_rules.proofs.ListLemmas.{has_either, has_filtered, has_kept, has_left, has_right}
 use Rattle.sqlite_rules.proofs.ProbeLemmas.{mapped_has}
 use Rattle.sqlite_trees.proofs.ListLemmas.{filter-map}
 use Rattle.fax_schema.specs.declared.statements.TheConstants.{SELECT_OPEN, DELETE_CALLS, INSERT_CALLS}
-use Rattle.fax_store.specs.Adopt.{HasNone, IsWhole}
+use Rattle.fax_store.specs.Adopt.{HasNone}
 use Rattle.fax_store.specs.Grant.{HasCalls, SetsCalls, with_count}
 use Rattle.fax_store.specs.Store.{FindsRow, HasRun}
 use Rattle.fax_tables.specs.Row.{number, call_columns}
@@ -34,8 +33,8 @@ use Rattle.fax_schema.specs.ByRowid.{IsByRowid}
 use Rattle.fax_schema.proofs.AppendLemmas.{appended}
 use Rattle.fax_schema.proofs.CompareLemmas.{are_equal, cast_int, cast_null, equal_texts, same_row}
 use Rattle.fax_tables.proofs.CreateLemmas.{goes_on, inside_shown, kept_rows}
-use Rattle.fax_schema.proofs.EditLemmas.{has_mapped, none_shown, shown_one}
-use Rattle.fax_schema.proofs.SelectLemmas.{passes, show, answers}
+use Rattle.fax_schema.proofs.EditLemmas.{has_mapped}
+use Rattle.fax_schema.proofs.SelectLemmas.{passes, show}
 use Rattle.fax_tables.proofs.TablesLemmas.{by_rowid_put, counted_as}
 use Rattle.sqlite.specs.Program.{overlay}
 use Rattle.fax_schema.proofs.StatementForms.{Selects}

@@ -1,5 +1,5 @@
 -- What the texts on grants and holds read and write.
-use Rattle.std.proofs.Common.{◌≡◌, ℕ, [], ◌∷◌, Option, Some, None, drop, refl, ◌≤◌, inl, inr, ℤ, pos, List, ◌++◌, map, filter, Bool, true, false, not, ◌&&◌, Err, if◌then◌else◌, IsTrue, cond, sym, ap, ap₂, subst, ◌∙◌, ◌+◌, ◌-◌, arith, MatchOption}
+use Rattle.std.proofs.Common.{◌≡◌, ℕ, [], ◌∷◌, Option, Some, None, drop, refl, ◌≤◌, inl, inr, ℤ, pos, List, ◌++◌, map, filter, Bool, true, false, not, ◌&&◌, Err, if◌then◌else◌, IsTrue, cond, sym, ap, ap₂, subst, ◌∙◌, ◌+◌, ◌-◌, arith}
 use Rattle.std.specs.Option.{option_map}
 use Rattle.std.specs.Prelude.{◌==◌, find}
 use Rattle.sqlite.specs.Effect.{Database, IsDatabase}
@@ -72,7 +72,6 @@ use Rattle.sqlite_sql.specs.declared.ops.CompareOp.TheVariants.{Eq}
 use Rattle.sqlite_value.specs.Order.{class}
 use Rattle.sqlite_value.proofs.KeyLemmas.{first_key-plain}
 use Rattle.sqlite_value.proofs.OrderLemmas.{value_cmp-apart}
-use Rattle.fax_schema.proofs.EditLemmas.{shown_one, none_shown}
 use Rattle.fax_tables.specs.declared.grants.Hold.{Hold}
 
 module _ (n : ℕ) where

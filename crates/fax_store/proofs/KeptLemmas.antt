@@ -1,5 +1,5 @@
 -- What the texts on the kept replies read and write. A request number of a client has one at most, and a look-up finds it.
-use Rattle.std.proofs.Common.{◌≡◌, inl, inr, ℕ, eqb, List, [], ◌∷◌, drop, Bool, true, false, not, ◌&&◌, Some, None, refl, sym, ap, ap₂, subst, ◌∙◌, ℤ, ◌++◌, map, filter, All, Option, Err, MatchOption}
+use Rattle.std.proofs.Common.{◌≡◌, inl, inr, ℕ, eqb, List, [], ◌∷◌, drop, Bool, true, false, not, ◌&&◌, Some, None, refl, sym, ap, ap₂, subst, ◌∙◌, ℤ, ◌++◌, All, Option, Err, MatchOption}
 use Rattle.std.specs.Prelude.{find}
 use Rattle.sqlite_trees.proofs.ListLemmas.{IsPermutation-same}
 use Rattle.fax_schema.proofs.ColumnLemmas.{row_of, record_of}
@@ -34,23 +34,21 @@ use Rattle.fax_schema.specs.Schema.{our_tables, replies_tree}
 use Rattle.fax_schema.specs.ByRowid.{IsByRowid}
 use Rattle.fax_schema.proofs.CompareLemmas.{compared, equal_texts, number_same, are_equal, same_number, same_row, cast_int, cast_null}
 use Rattle.std.proofs.lemmas.List.Elements.{recursion_from_All}
-use Rattle.std.specs.List.Sorted.{IsPermutation}
 use Rattle.sqlite.specs.State.{State, Executes}
 use Rattle.sqlite.specs.declared.types.Value.{Value}
-use Rattle.sqlite.proofs.Callers.{runs_as, reads_as}
+use Rattle.sqlite.proofs.Callers.{runs_as}
 use Rattle.fax_schema.specs.declared.statements.TheConstants.{SELECT_REPLY, INSERT_REPLY}
 use Rattle.fax_schema.specs.Schema as schema
 use Rattle.fax_core.specs.Ledger.{Ledger, with_reply}
 use Rattle.fax_tables.specs.Kept.{entry_shown}
 use Rattle.fax_tables.specs.Tables.{TablesMean, IsLawfulEntry}
 use Rattle.fax_store.specs.Store.{FindsRow, HasRun}
-use Rattle.fax_schema.proofs.EditLemmas.{shown_one, none_shown}
 use Rattle.fax_tables.proofs.RefusalLemmas.{no_rule_broken}
 use Rattle.fax_tables.proofs.StandLemmas.{reply_may}
 use Rattle.fax_tables.specs.Fault.{fault_of}
 use Rattle.fax_tables.specs.declared.fault.StoreFault.TheVariants.{Unavailable}
 use Rattle.sqlite.specs.declared.error.Error.{Error}
-use Rattle.fax_schema.proofs.SelectLemmas.{passes, show, answers}
+use Rattle.fax_schema.proofs.SelectLemmas.{passes, show}
 use Rattle.fax_store.proofs.FoundLemmas.{none_passes, row_passes}
 use Rattle.fax_schema.proofs.StatementTexts.{reply_tests, reply_project, reply_terms, select_reply, insert_reply}
 use Rattle.fax_schema.proofs.WriteLemmas.{KeepsOthers, InsertsRow, unreferred, inserts}

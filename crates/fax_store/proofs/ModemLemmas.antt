@@ -1,5 +1,5 @@
 -- What the texts on the modems that are down read and write.
-use Rattle.std.proofs.Common.{◌≡◌, ℕ, ℤ, List, [], ◌∷◌, ◌++◌, if◌then◌else◌, map, filter, drop, true, false, not, Option, Some, None, Err, is_some, MatchOption, refl, sym, ap, subst, ◌∙◌}
+use Rattle.std.proofs.Common.{◌≡◌, ℕ, ℤ, List, [], ◌∷◌, ◌++◌, if◌then◌else◌, map, filter, drop, true, false, not, Option, Some, None, Err, is_some, refl, sym, ap, subst, ◌∙◌}
 use Rattle.fax_store.proofs.FoundLemmas.{none_passes, row_passes}
 use Rattle.fax_store.proofs.CountLemmas.{turned}
 use Rattle.std.proofs.Math.Bool.{and-true}
@@ -11,8 +11,7 @@ use Rattle.sqlite.specs.Order.{Row}
 use Rattle.sqlite.specs.Rowids.TheVariants.{Chosen}
 use Rattle.sqlite.specs.State.{State, Executes}
 use Rattle.sqlite.specs.declared.types.Value.TheVariants.{Null, Int, Text}
-use Rattle.sqlite.proofs.Callers.{runs_as, reads_as}
-use Rattle.sqlite_rules.specs.Lists.{Has}
+use Rattle.sqlite.proofs.Callers.{runs_as}
 use Rattle.sqlite_rules.proofs.ListLemmas.{some_from}
 use Rattle.sqlite_trees.proofs.ListLemmas.{IsPermutation-same}
 use Rattle.fax_core.specs.Machine.{is_down, with_mark}
@@ -27,7 +26,6 @@ use Rattle.fax_store.specs.Store.{FindsRow, HasRun}
 use Rattle.fax_tables.specs.Tables.{TablesMean}
 use Rattle.fax_schema.proofs.ColumnLemmas.{record_of, row_of, kept_columns, all_kept, none_holds}
 use Rattle.fax_schema.proofs.CompareLemmas.{are_equal, equal_texts, same_row, cast_null}
-use Rattle.fax_schema.proofs.EditLemmas.{shown_one, none_shown}
 use Rattle.fax_tables.proofs.FreeLemmas.{none_of}
 use Rattle.fax_tables.proofs.RefusalLemmas.{no_rule_broken}
 use Rattle.fax_tables.proofs.StandLemmas.{down_may}
@@ -37,7 +35,7 @@ use Rattle.sqlite.specs.declared.error.Error.{Error}
 use Rattle.sqlite_schema.specs.Rules.{agree}
 use Rattle.sqlite_value.specs.Keys.{first_key, plain}
 use Rattle.fax_schema.proofs.ModemTexts.{down_tests, down_project, down_terms, select_down, insert_down, delete_down}
-use Rattle.fax_schema.proofs.SelectLemmas.{passes, show, answers}
+use Rattle.fax_schema.proofs.SelectLemmas.{passes}
 use Rattle.fax_tables.proofs.TablesLemmas.{AreColumns, down, parts_of, means_of, calls_of, down_changed, one_more}
 use Rattle.fax_schema.proofs.UpdateLemmas.{gone_project, deleted}
 use Rattle.fax_schema.proofs.WriteLemmas.{KeepsOthers, unreferred, inserts}

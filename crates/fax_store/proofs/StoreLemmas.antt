@@ -1,5 +1,6 @@
 -- What a store means across the calls of its connection, and what a text that isn't compiled tells of it.
-use Rattle.std.proofs.Common.{◌≡◌, ◌⊎◌, inl, inr, ◌≤◌, ℕ, List, [], false, IsTrue, Ok, Err, Result, refl, sym, subst, ap, ◌∙◌, arith, Bool, true}
+use Rattle.std.proofs.Common.{◌≡◌, ◌⊎◌, inl, inr, ◌≤◌, ℕ, List, [], false, IsTrue, Ok, Err, Result, refl, sym, subst, ap, ◌∙◌, arith}
+use Rattle.std.proofs.lemmas.Bool.{both_ways, false_from_ne_true}
 use Rattle.sqlite.specs.Effect.{Database}
 use Rattle.sqlite.specs.View.{doubt}
 use Rattle.sqlite.specs.declared.error.Error.{Error}
@@ -154,18 +155,13 @@ no_statement s sql e is (inr (c, known, inr (inl (other, said)))) = absurd (let 
 no_statement s sql e is (inr (c, known, inr (inr (times, said)))) = absurd (let both = sym is ∙ said in cc)
 
 module _ (old new : State) where
-  -- a database that wasn't open isn't opened
-  not_open : (b : Bool) → new.is_open ≡ b → (IsTrue new.is_open → IsTrue old.is_open) → old.is_open ≡ false → new.is_open ≡ false
-  not_open true is was shut = absurd (let both = sym (was is) ∙ shut in cc)
-  not_open false is was shut = is
-
   -- where the cause is that the database is closed, it is closed
   closed_for : (cause : StoreError) → SqliteFailure code.Closed ≡ store_error cause → HasCause old new ⊥ cause → IsRolledBack old new → new.is_open ≡ false
   closed_for OutOfMemory e had undone = absurd (let both = e in cc)
   closed_for Io e had undone = absurd (let both = e in cc)
   closed_for Corrupt e had undone = absurd (let both = e in cc)
   closed_for Full e had undone = absurd (let both = e in cc)
-  closed_for Broken e had undone = not_open new.is_open refl undone.was_open had
+  closed_for Broken e had undone = false_from_ne_true new.is_open (λ on. both_ways _ had (undone.was_open on))
   closed_for Unstorable e had undone = absurd (let both = e in cc)
 
   -- it is closed where it says so

@@ -4,11 +4,6 @@ use Rattle.fax_store.proofs.FrameLemmas.{edit_ran, edit_refused}
 use Rattle.sqlite.specs.State.{HasCleanDisk}
 use Rattle.sqlite.specs.Values.{bound}
 use Rattle.sqlite.proofs.InsideLemmas.{fails_whole}
-use Rattle.fax_store.specs.Store.{LeavesCommit, Serves}
-use Rattle.fax_store.proofs.StatementLemmas.{left_open, run_open}
-use Rattle.fax_store.proofs.StoreLemmas.{cleaner, served}
-use Rattle.fax_store.proofs.WorkLemmas.{edit_holds, left_holds}
-use Rattle.fax_store.proofs.StopLemmas.{edit_withholds, refused_withholds}
 use Rattle.fax_store.proofs.store.Store.insert.Goals as goal
 
 pub returns-in-Err : goal.returns-in-Err

@@ -5,11 +5,6 @@ use Rattle.sqlite.specs.State.{HasCleanDisk}
 use Rattle.sqlite.specs.Values.{bound}
 use Rattle.sqlite.proofs.InsideLemmas.{fails_whole}
 use Rattle.fax_tables.proofs.ResultLemmas.{on_err}
-use Rattle.fax_store.specs.Store.{LeavesCommit, Serves}
-use Rattle.fax_store.proofs.StatementLemmas.{left_open, run_open}
-use Rattle.fax_store.proofs.StoreLemmas.{cleaner, served}
-use Rattle.fax_store.proofs.WorkLemmas.{edit_holds, holds_err, left_holds}
-use Rattle.fax_store.proofs.StopLemmas.{edit_withholds, refused_withholds, withholds_err}
 use Rattle.fax_store.proofs.store.Store.run.Goals as goal
 
 pub returns-in_err-execute : goal.returns-in_err-execute

@@ -1,12 +1,9 @@
-use Rattle.std.proofs.Common.{◌≡◌, Ok, Some, refl, sym, subst, ◌∙◌, rules}
-use Rattle.sqlite.specs.Held.{state}
+use Rattle.std.proofs.Common.{◌≡◌, refl, sym, subst, ◌∙◌, rules}
 use Rattle.fax_store.proofs.FrameLemmas.{reads_on, runs_of, runs_then}
 use Rattle.sqlite.specs.Tree.{IsTable}
 use Rattle.fax_core.specs.Queue.{grant_numbered}
-use Rattle.fax_store.specs.Work.{IsUnderWay}
 use Rattle.fax_store.proofs.GrantLemmas.{closed_already}
-use Rattle.fax_store.proofs.WorkLemmas.{goes_on, holds_by, holds_then}
-use Rattle.std.specs.Prelude.{is_err, false}
+use Rattle.std.specs.Prelude.{false}
 use Rattle.fax_store.proofs.store.Store.shut_grant.Goals as goal
 
 pub returns-then-not-grant-clause-written : goal.returns-then-not-grant-clause-written
