@@ -91,7 +91,8 @@ settles_done old new x clean was opens = record { kept = λ _. tt; served = λ s
 -- ---- making the tables
 
 -- what is committed is at rest
-pub rests_committed : (old new : State) (k : ℕ) → Executes COMMIT.now [] old new (Ok k) → (m : Queue) (kept : Ledger) → TablesMean old.now m kept → IsAtRest new m kept
+pub rests_committed : (old new : State) (k : ℕ) → Executes COMMIT.now [] old new (Ok k) → (m : Queue) (kept : Ledger) → TablesMean old.now m kept
+    → IsAtRest new m kept
 rests_committed old new k committed m kept means =
     let done = commits old new k committed in
     record { autocommit = done.mode; settled = done.now_is ∙ sym done.committed_is; means = same_tables m kept done.now_is means }
@@ -99,7 +100,8 @@ rests_committed old new k committed m kept means =
 -- a refusal that keeps the last commit, and commits nothing
 pub founds_refused : (old new : State) (r : Result (Unit {0}) StoreFault) → IsErr r → (HasCleanDisk new → HasCleanDisk old) → (HasCleanDisk new → KeepsCommit old new) → CommitsNothing old new → IfErr r (λ fault. fault ≡ Unavailable) → Founds old new r
 founds_refused old new (Ok x) is clean kept nothing cause = absurd (let e = is in cc)
-founds_refused old new (Err e) is clean kept nothing cause = record { settles = settles_refused old new (Err e) is clean kept; made = λ _. tt; crash = λ found may. inl (nothing found may); cause = cause }
+founds_refused old new (Err e) is clean kept nothing cause =
+    record { settles = settles_refused old new (Err e) is clean kept; made = λ _. tt; crash = λ found may. inl (nothing found may); cause = cause }
 
 module _ (s0 s1 s2 : State) (begun : HasBegun (λ schema. schema ≡ no_tables) s0 s1) where
   -- after the begin, the database still has no tables
@@ -128,7 +130,8 @@ module _ (s0 s1 s2 : State) (begun : HasBegun (λ schema. schema ≡ no_tables) 
       tables_made clean k committed = rests_committed s2 s3 k committed empty_queue empty_ledger (here clean).1
 
       -- a crash while the tables are made leaves what it could leave before, or an empty store
-      pub tables_stop : HoldsBack (HasEmptyTables no_tables) s1 s2 → Survives s2 s3 (CommitsBy COMMIT.now [] s2) → MayMake s0 s3 (λ found. RowsFound found empty_queue empty_ledger)
+      pub tables_stop : HoldsBack (HasEmptyTables no_tables) s1 s2 → Survives s2 s3 (CommitsBy COMMIT.now [] s2)
+          → MayMake s0 s3 (λ found. RowsFound found empty_queue empty_ledger)
       tables_stop made committing found may = elim (commit_makes s2 s3 committing (λ clean. (here clean).0.mode) found may) [
         | inl before ↦ inl (tables_hold_back made found before)
         | inr it ↦ inr (s2.now, sym it.1, (here it.0).1)
@@ -207,7 +210,8 @@ second : (db : Database) → has_floors db.schema ≡ true → version_of db.sch
 second db there is = let two : version_of db.schema ≡ 2 = rw there refl in absurd (let e : 2 ≡ 1 = sym two ∙ is in omega arith)
 
 -- a refusal that keeps the last commit, and commits nothing
-pub takes_refused : (Made : Database → State → Type 0) (Left : Database → Trees → Type 0) (Fit : Database → Type 0) (old new : State) (r : Result (Unit {0}) StoreFault) → IsErr r → (HasCleanDisk new → HasCleanDisk old)
+pub takes_refused : (Made : Database → State → Type 0) (Left : Database → Trees → Type 0) (Fit : Database → Type 0) (old new : State)
+    (r : Result (Unit {0}) StoreFault) → IsErr r → (HasCleanDisk new → HasCleanDisk old)
     → (HasCleanDisk new → KeepsCommit old new) → CommitsNothing old new → (HasCleanDisk new → r ≡ Err Strange → ¬ Fit old.now) → Takes Made Left Fit old new r
 takes_refused Made Left Fit old new (Ok x) is clean kept nothing strange = absurd (let e = is in cc)
 takes_refused Made Left Fit old new (Err e) is clean kept nothing strange = record {
@@ -230,118 +234,120 @@ module _ (s0 s1 s2 : State) (begun : HasBegun AreOurs s0 s1) where
   renewing_holds_back r renews = nothing_then s0 s1 s2 (begin_nothing s0 s1 begun.survives) (renews.crash (starts_in begun))
 
   -- it is done, in a database of this version
-  module _ (renews : Turns {A = Unit {0}} {E = StoreFault} (IsIn AreOurs) HasNewCalls s1 s2 (Ok tt)) (version : ℕ) (is : version ≡ version_of s0.now.schema) where
-    made : HasCleanDisk s2 → GoesOn s1 s2 × HasNewCalls s1.now s2.now
-    made clean = renews.goes clean (starts_in begun (renews.clean clean))
+  module _ (renews : Turns {A = Unit {0}} {E = StoreFault} (IsIn AreOurs) HasNewCalls s1 s2 (Ok tt)) (version : ℕ) (is : version ≡ version_of s0.now.schema)
+    where
+      made : HasCleanDisk s2 → GoesOn s1 s2 × HasNewCalls s1.now s2.now
+      made clean = renews.goes clean (starts_in begun (renews.clean clean))
 
-    -- from the begin through what is made, the transaction goes on
-    goes_on_renewed : HasCleanDisk s2 → GoesOn s0 s2
-    goes_on_renewed clean = goes_on s0 s1 s2 (starts begun (renews.clean clean)) (made clean).0
+      -- from the begin through what is made, the transaction goes on
+      goes_on_renewed : HasCleanDisk s2 → GoesOn s0 s2
+      goes_on_renewed clean = goes_on s0 s1 s2 (starts begun (renews.clean clean)) (made clean).0
 
-    -- what is made has the rows that the database had before the begin, and a new `calls`
-    renewed : HasCleanDisk s2 → HasNewCalls s0.now s2.now
-    renewed clean = subst (λ (d : Database). HasNewCalls d s2.now) (shown begun (renews.clean clean)).now_is (made clean).1
+      -- what is made has the rows that the database had before the begin, and a new `calls`
+      renewed : HasCleanDisk s2 → HasNewCalls s0.now s2.now
+      renewed clean = subst (λ (d : Database). HasNewCalls d s2.now) (shown begun (renews.clean clean)).now_is (made clean).1
 
-    -- all tables are there, and no call is counted yet
-    pub has_none : HasCleanDisk s2 → HasNone s2
-    has_none clean =
-        let on = goes_on_renewed clean in
-        let it = renewed clean in
-        record { is_open = on.is_open; inside = on.mode; schema_is = it.schema_is; sound = it.sound; none = it.none }
+      -- all tables are there, and no call is counted yet
+      pub has_none : HasCleanDisk s2 → HasNone s2
+      has_none clean =
+          let on = goes_on_renewed clean in
+          let it = renewed clean in
+          record { is_open = on.is_open; inside = on.mode; schema_is = it.schema_is; sound = it.sound; none = it.none }
 
-    module _ (clean : HasCleanDisk s2) where
-      still_alike : KeepsRows alike_list s0.now.trees s2.now.trees
-      still_alike = alike s0.now s2.now (renewed clean).renews
+      module _ (clean : HasCleanDisk s2) where
+        still_alike : KeepsRows alike_list s0.now.trees s2.now.trees
+        still_alike = alike s0.now s2.now (renewed clean).renews
 
-      -- meta has the rows that it had
-      same_meta : s2.now.trees meta_tree ≡ s0.now.trees meta_tree
-      same_meta = at_tree (λ tree. s2.now.trees tree ≡ s0.now.trees tree) first_list meta_tree refl (renewed clean).renews.rows
+        -- meta has the rows that it had
+        same_meta : s2.now.trees meta_tree ≡ s0.now.trees meta_tree
+        same_meta = at_tree (λ tree. s2.now.trees tree ≡ s0.now.trees tree) first_list meta_tree refl (renewed clean).renews.rows
 
-      -- and the versions
-      same_versions : versions s2.now ≡ versions s0.now
-      same_versions = ap (map (λ r. column r 5)) same_meta
+        -- and the versions
+        same_versions : versions s2.now ≡ versions s0.now
+        same_versions = ap (map (λ r. column r 5)) same_meta
 
-      -- the tables of the second version have the rows that they had, none where there were no such tables
-      same_second : KeepsRows second_list (second_in s0.now) s2.now.trees
-      same_second = all_mapped (λ t. second_in s2.now t.tree ≡ second_in s0.now t.tree) (λ t. s2.now.trees t.tree ≡ second_in s0.now t.tree) second_list
-          (λ t same. sym (second_there s2.now our_tables t.tree (renewed clean).schema_is refl) ∙ same) (renewed clean).renews.second
+        -- the tables of the second version have the rows that they had, none where there were no such tables
+        same_second : KeepsRows second_list (second_in s0.now) s2.now.trees
+        same_second = all_mapped (λ t. second_in s2.now t.tree ≡ second_in s0.now t.tree) (λ t. s2.now.trees t.tree ≡ second_in s0.now t.tree) second_list
+            (λ t same. sym (second_there s2.now our_tables t.tree (renewed clean).schema_is refl) ∙ same) (renewed clean).renews.second
 
-      -- meta's one row still has the version of the tables that were found
-      pub still_version : HasVersion s0.now → versions s2.now ≡ number version ∷ []
-      still_version has = same_versions ∙ has ∙ ap (λ v. number v ∷ []) (sym is)
+        -- meta's one row still has the version of the tables that were found
+        pub still_version : HasVersion s0.now → versions s2.now ≡ number version ∷ []
+        still_version has = same_versions ∙ has ∙ ap (λ v. number v ∷ []) (sym is)
 
-      -- where each hold had a job that can be called, it still has
-      pub still_callable : HoldsCanBeCalled s0.now → HoldsCanBeCalled s2.now
-      still_callable = held_still s0.now s2.now still_alike
+        -- where each hold had a job that can be called, it still has
+        pub still_callable : HoldsCanBeCalled s0.now → HoldsCanBeCalled s2.now
+        still_callable = held_still s0.now s2.now still_alike
 
-      -- rows that meant a queue and kept replies still mean them, in that version
-      pub still_means : (m : Queue) (k : Ledger) → RowsMean s0.now m k → MeansAs version s2.now m k
-      still_means m k mean = record {
-        full = mean.full;
-        means = mean.means;
-        rows = kept_rows alike_list s2.now.trees s0.now.trees (mean.full).trees (kept_back alike_list s0.now.trees s2.now.trees still_alike) mean.same.rows;
-        meta = mean.same.meta ∙ ap₂ meta_as (sym is) (sym same_meta);
-        second = kept_rows second_list s2.now.trees (second_in s0.now) (mean.full).trees (kept_back second_list (second_in s0.now) s2.now.trees same_second) mean.same.second;
-      }
-
-      -- meta can be raised in the one where it can in the other
-      raisable : IsRaisable s0.now → IsRaisableFrom version s2.now
-      raisable (inl there) = inl (λ one. second s0.now there (sym is ∙ one))
-      raisable (inr by) = inr (subst IsByRowid (sym same_meta) by)
-
-    -- then the calls are counted
-    module _ (s3 : State) where
-      -- where that is refused, the commit before the begin stands
-      pub filling_kept : (e : StoreFault) → Turns {A = Unit {0}} HasNone (IsFilled version) s2 s3 (Err e) → HasCleanDisk s3 → KeepsCommit s0 s3
-      filling_kept e fills clean = let at = fills.clean clean in commit_kept s0 s2 s3 (goes_on_renewed at) (fills.goes clean (has_none at))
-
-      -- nothing is committed
-      pub filling_holds_back : (r : Result (Unit {0}) StoreFault) → Turns HasNone (IsFilled version) s2 s3 r → CommitsNothing s0 s3
-      filling_holds_back r fills = nothing_then s0 s2 s3 (renewing_holds_back (Ok tt) renews) (fills.crash has_none)
-
-      module _ (fills : Turns {A = Unit {0}} {E = StoreFault} HasNone (IsFilled version) s2 s3 (Ok tt)) where
-        filled : HasCleanDisk s3 → GoesOn s2 s3 × IsFilled version s2.now s3.now
-        filled clean = fills.goes clean (has_none (fills.clean clean))
-
-        -- a database that was filled had our tables, meta's one version, and a job for each hold
-        was_ours : HasCleanDisk s3 → IsOurs s0.now
-        was_ours clean =
-            let at = fills.clean clean in
-            let it = (filled clean).1 in
-            let rows = (renewed at).renews.rows in
-            record {
-              schema_is = begun.ours;
-              version = sym (same_versions at) ∙ it.version_is ∙ ap (λ v. number v ∷ []) is;
-              held = λ hold there. let job = it.held hold (subst (λ rows. Has rows hold) (sym rows.1.1.0) there) in (job.0, subst (λ rows. Has rows job.0) rows.0 job.1, job.2);
-            }
-
-        -- once filled, it has all tables, with the rows that it had
-        is_taken : HasCleanDisk s3 → IsTaken s0.now s3.now
-        is_taken clean = let at = fills.clean clean in let it = (filled clean).1 in record {
-          schema_is = it.schema_is;
-          sound = it.sound;
-          rows = kept_rows alike_list s0.now.trees s2.now.trees s3.now.trees (still_alike at) it.rows;
-          meta = λ can. it.meta (raisable at can) ∙ ap₂ meta_as is (same_meta at);
-          second = kept_rows second_list (second_in s0.now) s2.now.trees s3.now.trees (same_second at) it.second;
+        -- rows that meant a queue and kept replies still mean them, in that version
+        pub still_means : (m : Queue) (k : Ledger) → RowsMean s0.now m k → MeansAs version s2.now m k
+        still_means m k mean = record {
+          full = mean.full;
+          means = mean.means;
+          rows = kept_rows alike_list s2.now.trees s0.now.trees (mean.full).trees (kept_back alike_list s0.now.trees s2.now.trees still_alike) mean.same.rows;
+          meta = mean.same.meta ∙ ap₂ meta_as (sym is) (sym same_meta);
+          second = kept_rows second_list s2.now.trees (second_in s0.now) (mean.full).trees (kept_back second_list (second_in s0.now) s2.now.trees same_second) mean.same.second;
         }
 
-        module _ (s4 : State) where
-          -- where the commit is refused, the commit before the begin stands
-          pub not_taken : (e : Error) → HasCleanDisk s3 → Executes COMMIT.now [] s3 s4 (Err e) → KeepsCommit s0 s4
-          not_taken e clean failed = commit_kept s0 s3 s4 (goes_on s0 s2 s3 (goes_on_renewed (fills.clean clean)) (filled clean).0) (refused_keeps s3 s4 COMMIT.now e failed)
+        -- meta can be raised in the one where it can in the other
+        raisable : IsRaisable s0.now → IsRaisableFrom version s2.now
+        raisable (inl there) = inl (λ one. second s0.now there (sym is ∙ one))
+        raisable (inr by) = inr (subst IsByRowid (sym same_meta) by)
 
-          -- once committed, the database has all tables with the rows that it had, and no work is under way
-          pub has_taken : (k : ℕ) → HasCleanDisk s3 → Executes COMMIT.now [] s3 s4 (Ok k) → HasBecome s0.now s4
-          has_taken k clean committed =
-              let done = commits s3 s4 k committed in
-              (was_ours clean, record { autocommit = done.mode; settled = done.now_is ∙ sym done.committed_is; taken = subst (λ (d : Database). IsTaken s0.now d) (sym done.now_is) (is_taken clean) })
+      -- then the calls are counted
+      module _ (s3 : State) where
+        -- where that is refused, the commit before the begin stands
+        pub filling_kept : (e : StoreFault) → Turns {A = Unit {0}} HasNone (IsFilled version) s2 s3 (Err e) → HasCleanDisk s3 → KeepsCommit s0 s3
+        filling_kept e fills clean = let at = fills.clean clean in commit_kept s0 s2 s3 (goes_on_renewed at) (fills.goes clean (has_none at))
 
-          -- a crash while a database is taken leaves what it could leave before, or the rows that it had
-          pub taking_stops : Survives s3 s4 (CommitsBy COMMIT.now [] s3) → MayMake s0 s4 (AreTaken s0.now)
-          taking_stops committing found may = elim (commit_makes s3 s4 committing (λ clean. (filled clean).0.mode) found may) [
-            | inl before ↦ inl (filling_holds_back (Ok tt) fills found before)
-            | inr it ↦ inr (s3.now, sym it.1, was_ours it.0, is_taken it.0)
-          ]
+        -- nothing is committed
+        pub filling_holds_back : (r : Result (Unit {0}) StoreFault) → Turns HasNone (IsFilled version) s2 s3 r → CommitsNothing s0 s3
+        filling_holds_back r fills = nothing_then s0 s2 s3 (renewing_holds_back (Ok tt) renews) (fills.crash has_none)
+
+        module _ (fills : Turns {A = Unit {0}} {E = StoreFault} HasNone (IsFilled version) s2 s3 (Ok tt)) where
+          filled : HasCleanDisk s3 → GoesOn s2 s3 × IsFilled version s2.now s3.now
+          filled clean = fills.goes clean (has_none (fills.clean clean))
+
+          -- a database that was filled had our tables, meta's one version, and a job for each hold
+          was_ours : HasCleanDisk s3 → IsOurs s0.now
+          was_ours clean =
+              let at = fills.clean clean in
+              let it = (filled clean).1 in
+              let rows = (renewed at).renews.rows in
+              record {
+                schema_is = begun.ours;
+                version = sym (same_versions at) ∙ it.version_is ∙ ap (λ v. number v ∷ []) is;
+                held = λ hold there. let job = it.held hold (subst (λ rows. Has rows hold) (sym rows.1.1.0) there) in (job.0, subst (λ rows. Has rows job.0) rows.0 job.1, job.2);
+              }
+
+          -- once filled, it has all tables, with the rows that it had
+          is_taken : HasCleanDisk s3 → IsTaken s0.now s3.now
+          is_taken clean = let at = fills.clean clean in let it = (filled clean).1 in record {
+            schema_is = it.schema_is;
+            sound = it.sound;
+            rows = kept_rows alike_list s0.now.trees s2.now.trees s3.now.trees (still_alike at) it.rows;
+            meta = λ can. it.meta (raisable at can) ∙ ap₂ meta_as is (same_meta at);
+            second = kept_rows second_list (second_in s0.now) s2.now.trees s3.now.trees (same_second at) it.second;
+          }
+
+          module _ (s4 : State) where
+            -- where the commit is refused, the commit before the begin stands
+            pub not_taken : (e : Error) → HasCleanDisk s3 → Executes COMMIT.now [] s3 s4 (Err e) → KeepsCommit s0 s4
+            not_taken e clean failed = commit_kept s0 s3 s4 (goes_on s0 s2 s3 (goes_on_renewed (fills.clean clean)) (filled clean).0)
+                (refused_keeps s3 s4 COMMIT.now e failed)
+
+            -- once committed, the database has all tables with the rows that it had, and no work is under way
+            pub has_taken : (k : ℕ) → HasCleanDisk s3 → Executes COMMIT.now [] s3 s4 (Ok k) → HasBecome s0.now s4
+            has_taken k clean committed =
+                let done = commits s3 s4 k committed in
+                (was_ours clean, record { autocommit = done.mode; settled = done.now_is ∙ sym done.committed_is; taken = subst (λ (d : Database). IsTaken s0.now d) (sym done.now_is) (is_taken clean) })
+
+            -- a crash while a database is taken leaves what it could leave before, or the rows that it had
+            pub taking_stops : Survives s3 s4 (CommitsBy COMMIT.now [] s3) → MayMake s0 s4 (AreTaken s0.now)
+            taking_stops committing found may = elim (commit_makes s3 s4 committing (λ clean. (filled clean).0.mode) found may) [
+              | inl before ↦ inl (filling_holds_back (Ok tt) fills found before)
+              | inr it ↦ inr (s3.now, sym it.1, was_ours it.0, is_taken it.0)
+            ]
 
 -- a fault that is passed on is the one that was told
 pub told_strange : (r : Result (Unit {0}) StoreFault) (fault : StoreFault) → IsErrAnd r (λ e. e ≡ fault) → r ≡ Err Strange → ◌≡◌ {A = Result (Unit {0}) StoreFault} (Err fault) (Err Strange)
@@ -404,7 +410,8 @@ module _ (v : ℕ) (old new : State) (ours : old.now.schema ≡ our_tables) (row
   shown_versions : IsPermutation (map (λ r. column r 5 ∷ []) (old.now.trees meta_tree)) rows
   shown_versions =
       let read = reads_as SELECT_VERSION.now [] old new our_tables ours _ select_version.command select_version.plain select_version.unlisted rows shown in
-      subst (λ t. IsPermutation (map (λ r. column r 5 ∷ []) t) rows) (filter_all (λ _. true) (old.now.trees meta_tree) (all_of _ (λ _. refl) (old.now.trees meta_tree)))
+      subst (λ t. IsPermutation (map (λ r. column r 5 ∷ []) t) rows)
+      (filter_all (λ _. true) (old.now.trees meta_tree) (all_of _ (λ _. refl) (old.now.trees meta_tree)))
       (answers meta_tree [] version_project [] old.now (old.now.trees meta_tree) refl (codes "version" ∷ []) rows read)
 
   -- where the text shows one version, meta has just this one

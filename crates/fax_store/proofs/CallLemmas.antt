@@ -66,13 +66,16 @@ module _ (dial : List ℕ) (count : List ℕ → ℕ) where
 
       all : (d : List ℕ) → 1 ≤ with_count dial 0 count d → Has (filter others columns) (call_columns d (with_count dial 0 count d))
       all d = cond_both (bytes_eq d dial) 0 (count d) (λ n. 1 ≤ n → Has (filter others columns) (call_columns d n))
-          (λ on some. absurd (omega (arith, some))) (λ off some. has_kept others columns (call_columns d (count d)) (was.all d some) (is_other d (count d) ∙ ap not off))
+          (λ on some. absurd (omega (arith, some))) (λ off some. has_kept others columns (call_columns d (count d)) (was.all d some)
+          (is_other d (count d) ∙ ap not off))
 
   -- so is what is left where the rows of the number are deleted
-  pub left_without : (pass : Row → Bool) → ((r : Row) → pass r ≡ (are_equal (column (drop 1 r) 0) (Text dial) && true)) → (rows after : List Row) → after ≡ filter (λ r. not (pass r)) rows
+  pub left_without : (pass : Row → Bool) → ((r : Row) → pass r ≡ (are_equal (column (drop 1 r) 0) (Text dial) && true)) → (rows after : List Row)
+      → after ≡ filter (λ r. not (pass r)) rows
       → AreCounted count (map (drop 1) rows) → AreCounted (with_count dial 0 count) (map (drop 1) after)
   left_without pass is rows after left was =
-      let kept = ap (map (drop 1)) (left ∙ filter_agree (λ r. not (pass r)) (λ r. others (drop 1 r)) (λ r. ap not (is r)) rows) ∙ sym (filter-map others (drop 1) rows) in
+      let kept = ap (map (drop 1)) (left ∙ filter_agree (λ r. not (pass r)) (λ r. others (drop 1 r)) (λ r. ap not (is r)) rows)
+      ∙ sym (filter-map others (drop 1) rows) in
       subst (AreCounted (with_count dial 0 count)) (sym kept) (without (map (drop 1) rows) was)
 
   -- and with another
@@ -140,7 +143,14 @@ module _ (dial : List ℕ) where
 
 -- where the other tables stay and `calls` has these counts, the counts are set
 as_set : (old new : State) (count : List ℕ → ℕ) → IsTrue old.in_transaction → KeepsOthers our_tables calls_tree old new → AreCalls count (new.now.trees calls_tree) → SetsCalls old new count
-as_set old new count inside keeps now = record { goes_on = inside_shown old new _ inside keeps.shown; schema_is = keeps.schema_is; sound = keeps.sound; rows = others_kept core_list calls_tree old.now.trees new.now.trees refl (all_front (λ t. t.tree ≢ calls_tree → new.now.trees t.tree ≡ old.now.trees t.tree) core_list (schema.calls ∷ []) keeps.others); calls = now }
+as_set old new count inside keeps now = record {
+  goes_on = inside_shown old new _ inside keeps.shown;
+  schema_is = keeps.schema_is;
+  sound = keeps.sound;
+  rows = others_kept core_list calls_tree old.now.trees new.now.trees refl
+      (all_front (λ t. t.tree ≢ calls_tree → new.now.trees t.tree ≡ old.now.trees t.tree) core_list (schema.calls ∷ []) keeps.others);
+  calls = now;
+}
 
 -- no call is counted yet
 pub no_calls : (s : State) → HasNone s → HasCalls s (λ _. 0)

@@ -114,7 +114,8 @@ rises_inserted new (x ∷ xs) free up = go (order new x) refl (rises_inserted ne
 -- a list with no ties rises once it is sorted
 rises_sorted : (xs : List Job) → HasNoTies xs → IsAscending Comes (sort_by order xs)
 rises_sorted [] free = tt
-rises_sorted (x ∷ xs) free = rises_inserted x _ (all-permutation _ xs (sort_by order xs) (IsPermutation-sym (sort_by order xs) xs (IsPermutation-sort_by order is_total xs)) free.0) (rises_sorted xs free.1)
+rises_sorted (x ∷ xs) free = rises_inserted x _ (all-permutation _ xs (sort_by order xs)
+    (IsPermutation-sym (sort_by order xs) xs (IsPermutation-sort_by order is_total xs)) free.0) (rises_sorted xs free.1)
 
 -- a job that comes before another isn't the worse choice
 not_after : (a b : Job) → Comes a b → better b a ≡ false
@@ -128,7 +129,8 @@ filter_two p q [] = refl
 filter_two p q (x ∷ xs) =
     let rest = filter (λ j. p j && q j) xs in
     let more = filter_two p q xs in
-    elim (p x) as (λ a. filter q (cond a (x ∷ filter p xs) (filter p xs)) ≡ cond (a && q x) (x ∷ rest) rest) [ true ↦ ap (λ l. cond (q x) (x ∷ l) l) more | false ↦ more ]
+    elim (p x) as (λ a. filter q (cond a (x ∷ filter p xs) (filter p xs)) ≡ cond (a && q x) (x ∷ rest) rest)
+    [ true ↦ ap (λ l. cond (q x) (x ∷ l) l) more | false ↦ more ]
 
 module _ (db : Database) (m : Queue) (k : Ledger) (means : TablesMean db m k) (t : ℕ) where
   abbrev all_due : List Job
@@ -189,7 +191,8 @@ module _ (db : Database) (m : Queue) (k : Ledger) (means : TablesMean db m k) (a
 
   -- the jobs asked for stand with the better before the worse
   asked_in_order : IsAscending Goes all_asked
-  asked_in_order = ascending-filter Goes (is_other asked.but) (all_wait db m k means asked.t) (ascending_weaker Comes Goes (λ a b e. sym (by_less a b) ∙ ap is_lt e) _ (come db m k means asked.t))
+  asked_in_order = ascending-filter Goes (is_other asked.but) (all_wait db m k means asked.t)
+      (ascending_weaker Comes Goes (λ a b e. sym (by_less a b) ∙ ap is_lt e) _ (come db m k means asked.t))
 
 -- what holds of each job of the queue holds of each that is asked for
 pub all_hold : (P : Job → Type 0) (asked : Asked) (m : Queue) (jobs : List Job) → AreAsked asked m jobs → All P m.jobs → All P jobs
@@ -290,9 +293,11 @@ module _ (asked : Asked) (most : ℕ) (old new : State) (m : Queue) (k : Ledger)
       (λ j. ap₂ ◌&&◌ (is_not asked.but j) (ap (λ b. b && true) (more_than j.priority p) ∙ and-true (nat_lt p j.priority))) rows
 
 -- a text that shows the rows of a page answers one
-pub answers_page : {S Z : Type 0} (g : Ghosts S) (asked : Asked) (most : ℕ) (old new : Store S) (result : Result (Vec Row Z) StoreFault) (sql : List ℕ) (params meant : Row) (front of : Front) → of ≡ front → params ≡ meant
+pub answers_page : {S Z : Type 0} (g : Ghosts S) (asked : Asked) (most : ℕ) (old new : Store S) (result : Result (Vec Row Z) StoreFault) (sql : List ℕ)
+    (params meant : Row) (front of : Front) → of ≡ front → params ≡ meant
     → Queries g old new result (λ rows. Shown sql params (shown_by g old) (shown_by g new) rows.items)
-    → ((m : Queue) (k : Ledger) → TablesMean (shown_by g old).now m k → (rows : List Row) → Shown sql meant (shown_by g old) (shown_by g new) rows → IsPage asked m front most rows)
+    → ((m : Queue) (k : Ledger) → TablesMean (shown_by g old).now m k → (rows : List Row) → Shown sql meant (shown_by g old) (shown_by g new) rows → IsPage
+    asked m front most rows)
     → Recalls g old new result (λ m k rows. IsPage asked m of most rows.items)
 answers_page g asked most old new result sql params meant front of is same finds page = record {
   leaves = finds.leaves;
@@ -368,7 +373,8 @@ cut f (x ∷ xs) up =
       | inl past ↦
           (let none = filter_none (is_near f) xs (all_weaker (Goes x) (λ b. is_near f b ≡ false) (λ b goes. after f x b goes past) xs up.0) in
           rw (not_both f x past, past, none) (ap (λ l. x ∷ l) (rw none at more)))
-      | inr off ↦ rw off (elim (is_near f x) as (λ a. cond (a || false) (x ∷ filter (is_behind f) xs) (filter (is_behind f) xs) ≡ cond a (x ∷ near) near ++ beyond) [ true ↦ ap (λ l. x ∷ l) more | false ↦ more ])
+      | inr off ↦ rw off (elim (is_near f x) as (λ a. cond (a || false) (x ∷ filter (is_behind f) xs) (filter (is_behind f) xs) ≡ cond a (x ∷ near)
+          near ++ beyond) [ true ↦ ap (λ l. x ∷ l) more | false ↦ more ])
     ]
 
 -- ---- behind the last job of a page

@@ -81,11 +81,15 @@ module _ (old new : State) (sql : List ℕ) (command : Command) (is : IsControl 
       ]
 
 -- inside a transaction, what ends it isn't misplaced
-not_misplaced : (s : State) (command : Command) → (command ≡ Commit) ⊎ (command ≡ Rollback) → IsTrue s.in_transaction → (e : Error) → IsMisplaced s command e → ⊥
-not_misplaced s command ends inside e (inl (same, inl begins)) = elim ends [ inl commit ↦ absurd (let no = begins.0 in cc) | inr back ↦ absurd (let no = begins.0 in cc) ]
+not_misplaced : (s : State) (command : Command) → (command ≡ Commit) ⊎ (command ≡ Rollback) → IsTrue s.in_transaction → (e : Error) → IsMisplaced s command e
+    → ⊥
+not_misplaced s command ends inside e (inl (same, inl begins)) =
+    elim ends [ inl commit ↦ absurd (let no = begins.0 in cc) | inr back ↦ absurd (let no = begins.0 in cc) ]
 not_misplaced s command ends inside e (inl (same, inr outside)) = both_ways _ outside.1 inside
-not_misplaced s command ends inside e (inr (same, name, inl release, none)) = elim ends [ inl commit ↦ absurd (let no = release in cc) | inr back ↦ absurd (let no = release in cc) ]
-not_misplaced s command ends inside e (inr (same, name, inr to, none)) = elim ends [ inl commit ↦ absurd (let no = to in cc) | inr back ↦ absurd (let no = to in cc) ]
+not_misplaced s command ends inside e (inr (same, name, inl release, none)) =
+    elim ends [ inl commit ↦ absurd (let no = release in cc) | inr back ↦ absurd (let no = release in cc) ]
+not_misplaced s command ends inside e (inr (same, name, inr to, none)) =
+    elim ends [ inl commit ↦ absurd (let no = to in cc) | inr back ↦ absurd (let no = to in cc) ]
 
 module _ (old new : State) where
   -- a begin that is done was made outside a transaction, and leaves one under way over the same rows
@@ -105,7 +109,8 @@ module _ (old new : State) where
   rolls_back (Ok n) inside h =
       let on = runs_so ROLLBACK.now Rollback (understood old.now.schema ROLLBACK.now) (rollback_is old.now.schema) in
       let ran = runs_as ROLLBACK.now [] old new old.now.schema refl Rollback on.0 on.1 n h in ran.1
-  rolls_back (Err e) inside h = fails old new ROLLBACK.now Rollback (rollback_is old.now.schema) (refl, refl, λ w. w) e (not_misplaced old Rollback (inr refl) inside e) h
+  rolls_back (Err e) inside h = fails old new ROLLBACK.now Rollback (rollback_is old.now.schema) (refl, refl, λ w. w) e
+      (not_misplaced old Rollback (inr refl) inside e) h
 
   -- a commit that fails in a transaction undoes it
   pub commit_fails : (e : Error) → IsTrue old.in_transaction → Executes COMMIT.now [] old new (Err e) → IsRolledBack old new

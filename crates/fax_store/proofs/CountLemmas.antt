@@ -115,7 +115,8 @@ module _ (x : Job) where
   found_beside : (n : ℕ) (xs : List Job) → (x.number == n) ≡ false → find (λ (j : Job). j.number == n) (placed (λ (j : Job). j.number) x xs) ≡ find (λ (j : Job). j.number == n) xs
   found_beside n [] off = rw off refl
   found_beside n (y ∷ ys) off = cond_both (nat_lt y.number x.number) (y ∷ placed (λ (j : Job). j.number) x ys) (x ∷ y ∷ ys)
-      (λ js. find (λ (j : Job). j.number == n) js ≡ find (λ (j : Job). j.number == n) (y ∷ ys)) (λ _. ap (cond (y.number == n) (Some y)) (found_beside n ys off)) (λ _. rw off refl)
+      (λ js. find (λ (j : Job). j.number == n) js ≡ find (λ (j : Job). j.number == n) (y ∷ ys))
+      (λ _. ap (cond (y.number == n) (Some y)) (found_beside n ys off)) (λ _. rw off refl)
 
   module _ (m : Queue) (have : HaveJobs m) (free : (y : Job) → Has m.jobs y → (y.number == x.number) ≡ false) where
     -- the new job's number is none of an open grant's job
@@ -162,13 +163,15 @@ module _ (f : Grant → Grant) (m : Queue) (same : (x : Grant) → Has m.grants 
 -- one more grant
 pub placed_count : (of : Grant → Bool) (g : Grant) (gs : List Grant) → open_to of (placed (λ (x : Grant). x.number) g gs) ≡ one (g.is_open && of g) + open_to of gs
 placed_count of g [] = open_more of g []
-placed_count of g (h ∷ hs) = cond_both (nat_lt h.number g.number) (h ∷ placed (λ (x : Grant). x.number) g hs) (g ∷ h ∷ hs) (λ gs. open_to of gs ≡ one (g.is_open && of g) + open_to of (h ∷ hs))
+placed_count of g (h ∷ hs) = cond_both (nat_lt h.number g.number) (h ∷ placed (λ (x : Grant). x.number) g hs) (g ∷ h ∷ hs)
+    (λ gs. open_to of gs ≡ one (g.is_open && of g) + open_to of (h ∷ hs))
     (λ _. omega (arith, open_more of h (placed (λ (x : Grant). x.number) g hs), open_more of h hs, placed_count of g hs)) (λ _. open_more of g (h ∷ hs))
 
 -- a grant among those with one placed is that one or was there
 pub has_placed : (g h : Grant) (gs : List Grant) → Has (placed (λ (x : Grant). x.number) g gs) h → (h ≡ g) ⊎ Has gs h
 has_placed g h [] = λ has. has
-has_placed g h (x ∷ xs) = cond_both (nat_lt x.number g.number) (x ∷ placed (λ (y : Grant). y.number) g xs) (g ∷ x ∷ xs) (λ gs. Has gs h → (h ≡ g) ⊎ Has (x ∷ xs) h)
+has_placed g h (x ∷ xs) = cond_both (nat_lt x.number g.number) (x ∷ placed (λ (y : Grant). y.number) g xs) (g ∷ x ∷ xs)
+    (λ gs. Has gs h → (h ≡ g) ⊎ Has (x ∷ xs) h)
     (λ _ has. elim has [ inl is ↦ inr (inl is) | inr more ↦ elim (has_placed g h xs more) [ inl is ↦ inl is | inr there ↦ inr (inr there) ] ]) (λ _ has. has)
 
 -- a grant of a number that is open no more
@@ -199,7 +202,8 @@ module _ (n : ℕ) where
       later : (y : Grant) → Has hs y → (h.number == n) ≡ true → (y.number == n) ≡ false
       later y has here = false_from_ne_true (y.number == n) (λ same.
           let less = all_has (λ r. value_cmp (rowid (grant_row h)) (rowid r) ≡ Less) (map grant_row hs) (grant_row y) rise.0 (mapped_has grant_row hs y has) in
-          both_ways _ (apart grant_row (λ (x : Grant). x.number) (λ x. refl) h y less) (eq-eqb h.number y.number (eqb-true h.number n here ∙ sym (eqb-true y.number n same))))
+          both_ways _ (apart grant_row (λ (x : Grant). x.number) (λ x. refl) h y less)
+          (eq-eqb h.number y.number (eqb-true h.number n here ∙ sym (eqb-true y.number n same))))
 
   -- open grants keep their jobs where one is shut
   pub jobs_shut : (m : Queue) → HaveJobs m → HaveJobs (record m { grants = map shut m.grants })

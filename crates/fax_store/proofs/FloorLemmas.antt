@@ -49,7 +49,8 @@ use Rattle.fax_tables.specs.declared.fault.StoreFault.TheVariants.{Unavailable}
 
 pub floor_found : (client : List ℕ) (old new : State) (m : Queue) (k : Ledger) → TablesMean old.now m k → (found : Option Row) → FindsRow SELECT_FLOOR.now (params client) old new found
     → MatchOption found (k.floor client ≡ 0) (λ row. row ≡ number (k.floor client) ∷ [])
-floor_found client old new m k means = counted_found client floors_tree SELECT_FLOOR.now _ select_floor (λ trees. refl) old new k.floor means.schema means.floors
+floor_found client old new m k means = counted_found client floors_tree SELECT_FLOOR.now _ select_floor (λ trees. refl) old new k.floor means.schema
+    means.floors
 
 low : (n : ℕ) → (1 ≤ n → n < 10 ^ 18) → n < 10 ^ 18
 low zero some = omega arith
@@ -88,7 +89,8 @@ module _ (client : List ℕ) (floor : ℕ) where
 -- ---- a floor that is set
 
 -- the floors of others stay lawful, and a client's is where it is set to a lawful one
-lawful_with : (client : List ℕ) (floor : ℕ) (of : List ℕ → ℕ) → ((other : List ℕ) → bytes_eq other client ≡ false → 1 ≤ of other → IsName other × (of other < 10 ^ 18)) → (1 ≤ floor → IsName client × (floor < 10 ^ 18))
+lawful_with : (client : List ℕ) (floor : ℕ) (of : List ℕ → ℕ)
+    → ((other : List ℕ) → bytes_eq other client ≡ false → 1 ≤ of other → IsName other × (of other < 10 ^ 18)) → (1 ≤ floor → IsName client × (floor < 10 ^ 18))
     → AreLawfulFloors (floors_with client floor of)
 lawful_with client floor of was its other = cond_both (bytes_eq other client) floor (of other) (λ n. 1 ≤ n → IsName other × (n < 10 ^ 18))
     (λ on some. let it = its some in (rw ((bytes_eq-Decides other client).0 on) it.0, it.1)) (λ off. was other off)
@@ -114,7 +116,8 @@ floor_gone client old new m k means h =
     (means_of new.now m (record k { floor = cleared }) means.held (floors_changed old new m (open_grants m) (calls_of m) k (parts_of old.now m k means) done.0 cleared now), done.0)
 
 -- the text that adds one, where the client has none, sets it, and touches floors alone
-pub floor_set : (client : List ℕ) (floor : ℕ) (old new : State) (m : Queue) (k : Ledger) → TablesMean old.now m (record k { floor = floors_with client 0 k.floor }) → IsName client → 1 ≤ floor → floor < 10 ^ 18
+pub floor_set : (client : List ℕ) (floor : ℕ) (old new : State) (m : Queue) (k : Ledger)
+    → TablesMean old.now m (record k { floor = floors_with client 0 k.floor }) → IsName client → 1 ≤ floor → floor < 10 ^ 18
     → HasRun INSERT_FLOOR.now (floor_params client floor) old new → TablesMean new.now m (record k { floor = floors_with client floor k.floor }) × KeepsOthers our_tables floors_tree old new
 floor_set client floor old new m k means name some low h =
     let rows = old.now.trees floors_tree in

@@ -82,17 +82,31 @@ module _ {S : Type 0} (g : Ghosts S) where
   }
 
   -- a statement that changes rows, as the connection runs it
-  module _ (old new : Store S) (sql : List ℕ) (params : Row) (edit : IsEditText sql) (survives : Survives (shown g old) (shown g new) (CommitsBy sql params (shown g old))) {A : Type 0} where
+  module _ (old new : Store S) (sql : List ℕ) (params : Row) (edit : IsEditText sql)
+      (survives : Survives (shown g old) (shown g new) (CommitsBy sql params (shown g old))) {A : Type 0} where
     pub edit_ran : (x : A) (count : ℕ) → (HasCleanDisk (shown g new) → Executes sql params (shown g old) (shown g new) (Ok count)) → Runs g old new (Ok x)
     edit_ran x count ran =
-        let before = λ (s : Serves (shown g new)). served (shown g old) (shown g new) survives.clean s (run_open (shown g old) (shown g new) sql params count (ran s.clean) s.is_open) in
-        record { served = before; clean = clean_in survives; holds = edit_holds (shown g old) (shown g new) sql params before edit count ran; crash = edit_withholds (shown g old) (shown g new) sql params edit survives count ran }
+        let before = λ (s : Serves (shown g new)). served (shown g old) (shown g new) survives.clean s
+        (run_open (shown g old) (shown g new) sql params count (ran s.clean) s.is_open) in
+        record {
+          served = before;
+          clean = clean_in survives;
+          holds = edit_holds (shown g old) (shown g new) sql params before edit count ran;
+          crash = edit_withholds (shown g old) (shown g new) sql params edit survives count ran;
+        }
 
-    pub edit_refused : (result : Result A StoreFault) → IsErr result → (HasCleanDisk (shown g new) → LeavesCommit (shown g old) (shown g new)) → Runs g old new result
+    pub edit_refused : (result : Result A StoreFault) → IsErr result → (HasCleanDisk (shown g new) → LeavesCommit (shown g old) (shown g new))
+        → Runs g old new result
     edit_refused (Ok x) is left = absurd (let no = is in cc)
     edit_refused (Err e) is left =
-        let before = λ (s : Serves (shown g new)). served (shown g old) (shown g new) survives.clean s (left_open (shown g old) (shown g new) sql params (left s.clean) s.is_open) in
-        record { served = before; clean = clean_in survives; holds = left_holds (shown g old) (shown g new) before left; crash = refused_withholds (shown g old) (shown g new) sql params edit survives }
+        let before = λ (s : Serves (shown g new)). served (shown g old) (shown g new) survives.clean s
+        (left_open (shown g old) (shown g new) sql params (left s.clean) s.is_open) in
+        record {
+          served = before;
+          clean = clean_in survives;
+          holds = left_holds (shown g old) (shown g new) before left;
+          crash = refused_withholds (shown g old) (shown g new) sql params edit survives;
+        }
 
   -- a refusal that is passed on
   pub runs_err : (old new : Store S) {A B : Type 0} (fault : StoreFault) (result : Result B StoreFault) → IsErrAnd result (λ e. e ≡ fault) → Runs g {A = A} old new (Err fault) → Runs g old new result
@@ -109,7 +123,8 @@ module _ {S : Type 0} (g : Ghosts S) where
     runs = runs_err old new fault result told refused
 
     moved : (m₀ m after : Queue) (k₀ k kept : Ledger) → Works (shown g old) false m₀ k₀ m k → Serves (shown g new) → Moves (shown g new) result m₀ k₀ after kept
-    moved m₀ m after k₀ k kept works s = moves_by (shown g old) (shown g new) result m₀ m after k₀ k kept runs.served runs.holds works s (λ means inside. never_ok _ result (λ e. e ≡ fault) told)
+    moved m₀ m after k₀ k kept works s = moves_by (shown g old) (shown g new) result m₀ m after k₀ k kept runs.served runs.holds works s
+        (λ means inside. never_ok _ result (λ e. e ≡ fault) told)
 
     pub writes_refused : (f : Queue → Queue) (h : Ledger → Ledger) → fault ≡ Unavailable → Writes g old new result f h
     writes_refused f h why =
@@ -128,7 +143,8 @@ module _ {S : Type 0} (g : Ghosts S) where
     writes_if_where_refused P Fit f h cause = record { leaves = runs; written = λ m₀ m k₀ k p works s. moved m₀ m (f m) k₀ k (h k) works s; cause = cause }
 
   -- what is a step of each work is refused only for want of an answer
-  pub writes_if_steps : (old new : Store S) {A : Type 0} (result : Result A StoreFault) (P : Queue → Type 0) (Fit : Queue → Ledger → Type 0) (f : Queue → Queue) (h : Ledger → Ledger) → Runs g old new result → ((m : Queue) (k : Ledger) → Fit m k → P m)
+  pub writes_if_steps : (old new : Store S) {A : Type 0} (result : Result A StoreFault) (P : Queue → Type 0) (Fit : Queue → Ledger → Type 0)
+      (f : Queue → Queue) (h : Ledger → Ledger) → Runs g old new result → ((m : Queue) (k : Ledger) → Fit m k → P m)
       → ((m₀ m : Queue) (k₀ k : Ledger) → P m → Works (shown g old) false m₀ k₀ m k → Serves (shown g new) → Steps (shown g new) result m₀ k₀ (f m) (h k)) → WritesIfWhere g old new result P Fit f h
   writes_if_steps old new result P Fit f h runs fits steps = record {
     leaves = runs;
@@ -137,7 +153,8 @@ module _ {S : Type 0} (g : Ghosts S) where
   }
 
   -- of whatever queue
-  pub writes_if_any : (old new : Store S) {A : Type 0} (result : Result A StoreFault) (Fit : Queue → Ledger → Type 0) (f : Queue → Queue) (h : Ledger → Ledger) → WritesIfWhere g old new result (λ _. ⊤) Fit f h → WritesIf g old new result Fit f h
+  pub writes_if_any : (old new : Store S) {A : Type 0} (result : Result A StoreFault) (Fit : Queue → Ledger → Type 0) (f : Queue → Queue)
+      (h : Ledger → Ledger) → WritesIfWhere g old new result (λ _. ⊤) Fit f h → WritesIf g old new result Fit f h
   writes_if_any old new result Fit f h writes = record { leaves = writes.leaves; written = λ m₀ m k₀ k. writes.written m₀ m k₀ k tt; cause = writes.cause }
 
   -- a reading within a work tells of what the work means, and the work goes on

@@ -90,12 +90,14 @@ module _ {S : Type 0} (g : Ghosts S) (n : ℕ) (old new : Store S) where
   pub grant_keys : Keys g old new SELECT_GRANT.now (params n) (grant_numbered n) grant_shown IsLawfulGrant (λ db. HasGrantRow db n)
   grant_keys = record {
     found = λ m k means found h.
-        numbered_found grant_row (λ (g : Grant). g.number) (λ g. refl) n (passes grants_tree grant_tests grant_project (params n)) (λ r. refl) m.grants ((shown g old).now.trees grants_tree) h.0 means.grants means.ordered.grants.rise (show grants_tree grant_tests grant_project (params n))
+        numbered_found grant_row (λ (g : Grant). g.number) (λ g. refl) n (passes grants_tree grant_tests grant_project (params n)) (λ r. refl) m.grants
+        ((shown g old).now.trees grants_tree) h.0 means.grants means.ordered.grants.rise (show grants_tree grant_tests grant_project (params n))
         (answers grants_tree grant_tests grant_project (params n) (shown g old).now ((shown g old).now.trees grants_tree) refl [] h.0 (reads_as SELECT_GRANT.now (params n) (shown g old) (shown g new) our_tables means.schema _ select_grant.command select_grant.plain select_grant.unlisted h.0 h.1))
         found h.2;
     lawful = λ m k means one. found_holds IsLawfulGrant (λ (other : Grant). other.number == n) m.grants one means.lawful.grants;
     none = λ db ours now.
-        none_keyed SELECT_GRANT.now grants_tree grant_tests grant_project grant_names select_grant (λ trees. refl) (params n) (shown g old) (shown g new) db ours now
+        none_keyed SELECT_GRANT.now grants_tree grant_tests grant_project grant_names select_grant (λ trees. refl) (params n) (shown g old) (shown g new) db
+        ours now
         0 (number n) (λ r. refl) (number_same n);
   }
 
@@ -219,7 +221,8 @@ module _ (g : Grant) where
         ∙ ap₂ (λ b o. one (b && is_of_number dial o) + calls_of m dial) is_open there)
 
     -- once that is counted, the tables mean the queue with the grant
-    pub grant_counted : (new last : State) (k : Ledger) (j : Job) → job_numbered g.job m ≡ Some j → IsTrue g.is_open → Parts new.now (with_placed g m) (open_grants (with_placed g m)) (calls_of m) k → SetsCalls new last (with_count j.dial (calls_of m j.dial + 1) (calls_of m))
+    pub grant_counted : (new last : State) (k : Ledger) (j : Job) → job_numbered g.job m ≡ Some j → IsTrue g.is_open → Parts new.now (with_placed g m)
+        (open_grants (with_placed g m)) (calls_of m) k → SetsCalls new last (with_count j.dial (calls_of m j.dial + 1) (calls_of m))
         → TablesMean last.now (with_placed g m) k
     grant_counted new last k j there is_open was set =
         let after = with_placed g m in
@@ -245,8 +248,10 @@ held_mapped f (x ∷ xs) same =
     let first = same x (inl refl) in
     let rest = held_mapped f xs (λ y has. same y (inr has)) in
     let those = λ (ys : List Grant). filter (λ y. y.is_open) ys in
-    subst (λ b. map hold_columns (cond b (f x ∷ those (map f xs)) (those (map f xs))) ≡ map hold_columns (cond x.is_open (x ∷ those xs) (those xs))) (sym first.0)
-    (elim x.is_open as (λ b. map hold_columns (cond b (f x ∷ those (map f xs)) (those (map f xs))) ≡ map hold_columns (cond b (x ∷ those xs) (those xs))) [ true ↦ ap₂ ◌∷◌ first.1 rest | false ↦ rest ])
+    subst (λ b. map hold_columns (cond b (f x ∷ those (map f xs)) (those (map f xs))) ≡ map hold_columns (cond x.is_open (x ∷ those xs) (those xs)))
+    (sym first.0)
+    (elim x.is_open as (λ b. map hold_columns (cond b (f x ∷ those (map f xs)) (those (map f xs))) ≡ map hold_columns (cond b (x ∷ those xs) (those xs)))
+    [ true ↦ ap₂ ◌∷◌ first.1 rest | false ↦ rest ])
 
 module _ (g : Grant) where
   abbrev pub report_params : Row
@@ -262,12 +267,14 @@ module _ (g : Grant) where
   -- each grant stays lawful, whether it is the one reported, with at most 9999 pages, or not
   put_lawful : g.confirmed ≤ 9999 → (x : Grant) → (x.number ≡ g.number → IsSameGrant x g) → IsLawfulGrant x → IsLawfulGrant (put x)
   put_lawful few x same was = cond_both (x.number == g.number) g x IsLawfulGrant
-      (λ here. let is = eqb-true x.number g.number here in let as_it = same is in record { limits = omega (arith, was.limits); modem = rw as_it.modem at was.modem }) (λ _. was)
+      (λ here. let is = eqb-true x.number g.number here in let as_it = same is in
+      record { limits = omega (arith, was.limits); modem = rw as_it.modem at was.modem }) (λ _. was)
 
   -- each stays open or shut, with the same columns of a hold
   put_held : (x : Grant) → (x.number ≡ g.number → IsSameGrant x g) → ((put x).is_open ≡ x.is_open) × (hold_columns (put x) ≡ hold_columns x)
   put_held x same = cond_both (x.number == g.number) g x (λ y. (y.is_open ≡ x.is_open) × (hold_columns y ≡ hold_columns x))
-      (λ here. let is = eqb-true x.number g.number here in let as_it = same is in (sym as_it.is_open, rw (is, as_it.modem, as_it.job) refl)) (λ _. (refl, refl))
+      (λ here. let is = eqb-true x.number g.number here in let as_it = same is in (sym as_it.is_open, rw (is, as_it.modem, as_it.job) refl))
+      (λ _. (refl, refl))
 
   module _ (old new : State) (m : Queue) (k : Ledger) (means : TablesMean old.now m k) where
     -- the queue's grant of this number is the same but for what a report tells
@@ -282,7 +289,9 @@ module _ (g : Grant) where
         let is_other = not_asked grant_row (λ (y : Grant). y.number) (λ y. refl) g.number (passes grants_tree grant_tests report_project report_params) (λ r. refl) in
         let ran = runs_as UPDATE_REPORT.now report_params old new our_tables means.schema _ update_report.is update_report.plain h.0 h.1 in
         let done = updated schema.grants.name 1 schema.grants.columns schema.grants.key schema.grants.primary schema.grants.uniques schema.grants.orders schema.grants.checks 1 refl old new means.schema refl means.ordered.grants
-        grant_tests report_project report_params (λ r. refl) _ h.0 grant_row put m.grants means.grants (λ x. cond_both (x.number == g.number) g x (λ y. rowid (grant_row y) ≡ rowid (grant_row x)) (λ here. ap number (sym (eqb-true x.number g.number here))) (λ _. refl))
+        grant_tests report_project report_params (λ r. refl) _ h.0 grant_row put m.grants means.grants
+        (λ x. cond_both (x.number == g.number) g x (λ y. rowid (grant_row y) ≡ rowid (grant_row x))
+        (λ here. ap number (sym (eqb-true x.number g.number here))) (λ _. refl))
         (λ x has on. let is = is_number x on in reported x is (same_grant report x has is) ∙ rw (eq-eqb x.number g.number is) refl)
         (λ x has off. rw (is_other x off) refl)
         ran in
@@ -331,7 +340,8 @@ module _ (n : ℕ) where
       let rest = but_this open_ones in
       rw (open_shut xs) (elim (cases_Bool (x.number == n)) [
         | inl here ↦ rw here (elim x.is_open as (λ o. rest ≡ but_this (cond o (x ∷ open_ones) open_ones)) [ true ↦ rw here refl | false ↦ refl ])
-        | inr off ↦ rw off (elim x.is_open as (λ o. cond o (x ∷ rest) rest ≡ but_this (cond o (x ∷ open_ones) open_ones)) [ true ↦ rw off refl | false ↦ refl ])
+        | inr off ↦ rw off (elim x.is_open as (λ o. cond o (x ∷ rest) rest ≡ but_this (cond o (x ∷ open_ones) open_ones))
+            [ true ↦ rw off refl | false ↦ refl ])
       ])
 
   module _ (m : Queue) (rise : IsTable (map grant_row m.grants)) where
@@ -373,7 +383,8 @@ module _ (n : ℕ) where
         let is_other = not_asked grant_row (λ (y : Grant). y.number) (λ y. refl) n (passes grants_tree grant_tests shut_project close_params) (λ r. refl) in
         let ran = runs_as SHUT_GRANT.now close_params old mid our_tables means.schema _ shut_grant.is shut_grant.plain h.0 h.1 in
         let done = updated schema.grants.name 1 schema.grants.columns schema.grants.key schema.grants.primary schema.grants.uniques schema.grants.orders schema.grants.checks 1 refl old mid means.schema refl means.ordered.grants
-        grant_tests shut_project close_params (λ r. refl) _ h.0 grant_row shut m.grants means.grants (λ x. cond_both (x.number == n) (closed x) x (λ y. rowid (grant_row y) ≡ rowid (grant_row x)) (λ _. refl) (λ _. refl))
+        grant_tests shut_project close_params (λ r. refl) _ h.0 grant_row shut m.grants means.grants
+        (λ x. cond_both (x.number == n) (closed x) x (λ y. rowid (grant_row y) ≡ rowid (grant_row x)) (λ _. refl) (λ _. refl))
         (λ x has on. stored_grant (closed x) ∙ rw (eq-eqb x.number n (is_one x on)) refl)
         (λ x has off. rw (is_other x off) refl)
         ran in
@@ -411,7 +422,9 @@ module _ (n : ℕ) where
         ∙ closed_count n (λ x. is_of_number dial (job_numbered x.job m)) g m.grants (subst IsTable means.grants means.ordered.grants.rise) found on)
 
     -- once it is taken off, the tables mean the queue without the hold
-    pub close_counted : (new last : State) (g : Grant) (j : Job) → grant_numbered n m ≡ Some g → g.is_open ≡ true → job_numbered g.job m ≡ Some j → Parts new.now (after m) (open_grants (after m)) (calls_of m) k → SetsCalls new last (with_count j.dial (calls_of m j.dial - 1) (calls_of m)) → TablesMean last.now (with_closed n m) k
+    pub close_counted : (new last : State) (g : Grant) (j : Job) → grant_numbered n m ≡ Some g → g.is_open ≡ true → job_numbered g.job m ≡ Some j
+        → Parts new.now (after m) (open_grants (after m)) (calls_of m) k → SetsCalls new last
+        (with_count j.dial (calls_of m j.dial - 1) (calls_of m)) → TablesMean last.now (with_closed n m) k
     close_counted new last g j found on there was set =
         subst (λ it. TablesMean last.now it k) (closed_is m (subst IsTable means.grants means.ordered.grants.rise))
         (means_of last.now (after m) k (jobs_shut n m means.held)
@@ -424,7 +437,8 @@ closed_already n g m rise found off = sym (closed_is n m rise) ∙ ap (λ gs. re
   where
     each : (x : Grant) → Has m.grants x → shut_at n x ≡ x
     each x has = cond_both (x.number == n) (closed n x) x (λ y. y ≡ x)
-        (λ here. let it = same_Some x g (sym (only n m rise x has (eqb-true x.number n here)) ∙ found) in let shut : x.is_open ≡ false = ap (λ (y : Grant). y.is_open) it ∙ off in rw (← shut) refl) (λ _. refl)
+        (λ here. let it = same_Some x g (sym (only n m rise x has (eqb-true x.number n here)) ∙ found) in
+        let shut : x.is_open ≡ false = ap (λ (y : Grant). y.is_open) it ∙ off in rw (← shut) refl) (λ _. refl)
 
 -- ---- a modem stands in one row
 
@@ -437,7 +451,8 @@ module _ (db : Database) (has : db.schema ≡ our_tables) (sound : IsDatabase db
 
   -- a modem stands in one row of holds
   pub one_of_modem : (modem : List ℕ) (r s : Row) → Has (db.trees holds_tree) r → Has (db.trees holds_tree) s → column r 1 ≡ Text modem → column s 1 ≡ Text modem → s ≡ r
-  one_of_modem modem r s there also of_r of_s = one_row (db.trees holds_tree) by (1 ∷ []) r s there also (no_clash r there) (ap (λ key. equal key.collation (column s 1) (column r 1) && true) first_key-plain
+  one_of_modem modem r s there also of_r of_s = one_row (db.trees holds_tree) by (1 ∷ []) r s there also (no_clash r there)
+      (ap (λ key. equal key.collation (column s 1) (column r 1) && true) first_key-plain
       ∙ ap₂ (λ a b. equal Binary a b && true) of_s of_r ∙ ap (λ b. b && true) (equal_texts modem modem ∙ (bytes_eq-Decides modem modem).1 refl))
 
 -- ---- the hold of a modem

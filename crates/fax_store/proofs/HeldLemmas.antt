@@ -139,7 +139,8 @@ module _ (old new : State) (has : old.now.schema ≡ our_tables) (rows : List Ro
   -- and where each hold has its job, it shows none
   pub lost_none : HoldJobs old.now → rows ≡ []
   lost_none have =
-      nil_from_length rows (lost_count ∙ ap length (each_none (λ r. lost (old.now.trees jobs_tree) r (its (old.now.trees jobs_tree) r)) (old.now.trees holds_tree)
+      nil_from_length rows (lost_count ∙ ap length (each_none (λ r. lost (old.now.trees jobs_tree) r (its (old.now.trees jobs_tree) r))
+      (old.now.trees holds_tree)
       (λ r is. let it = have r is in not_there (old.now.trees jobs_tree) r (its (old.now.trees jobs_tree) r) refl it.0 it.1 it.2)))
 
 -- ---- the number that a job is to
@@ -190,7 +191,8 @@ module _ (old new : State) (has : old.now.schema ≡ our_tables) (rows : List Ro
   -- the text shows the job numbers of the holds, in any order
   held_shown : IsPermutation (map (λ r. column r 2 ∷ []) (old.now.trees holds_tree)) rows
   held_shown =
-      subst (λ t. IsPermutation (map (λ r. column r 2 ∷ []) t) rows) (filter_all (λ _. true) (old.now.trees holds_tree) (all_of _ (λ _. refl) (old.now.trees holds_tree)))
+      subst (λ t. IsPermutation (map (λ r. column r 2 ∷ []) t) rows)
+      (filter_all (λ _. true) (old.now.trees holds_tree) (all_of _ (λ _. refl) (old.now.trees holds_tree)))
       (answers holds_tree [] held_project [] old.now (old.now.trees holds_tree) refl (codes "job" ∷ []) rows (reads_as SELECT_HELD.now [] old new our_tables has _ select_held.command select_held.plain select_held.unlisted rows shown))
 
   -- each row is of a hold
@@ -237,7 +239,8 @@ module _ (old new : State) (m : Queue) (k : Ledger) (has : old.now.schema ≡ ou
   held_few =
       let count : length rows ≡ length (open_grants m) = length_permutation (map (λ (g : Grant). number g.job ∷ []) (open_grants m)) rows permuted ∙ length_map (λ (g : Grant). number g.job ∷ []) (open_grants m) in
       let all = at_most_all (λ _. true) m.grants in
-      let whole : length (filter (λ _. true) (open_grants m)) ≡ length (open_grants m) = ap length (filter_all (λ _. true) (open_grants m) (all_of _ (λ _. refl) (open_grants m))) in
+      let whole : length (filter (λ _. true) (open_grants m)) ≡ length (open_grants m) = ap length
+      (filter_all (λ _. true) (open_grants m) (all_of _ (λ _. refl) (open_grants m))) in
       let low : length rows < 4294967296 = omega (arith, count, all, whole, grants_few mean.0 m k mean.1) in
       low
 
@@ -262,13 +265,15 @@ pub held_more : (m : Queue) (rows : List Row) (row : Row) (j : Job) → row ≡ 
 held_more m rows row j is found = one_more j.dial (held_to m rows) (held_to m (rows ++ row ∷ [])) (λ dial.
     let to : is_to m dial row ≡ bytes_eq j.dial dial = ap (is_to m dial) is ∙ ap (is_of_number dial) found in
     ap length (filter-append (is_to m dial) rows (row ∷ [])) ∙ length-append (filter (is_to m dial) rows) (cond (is_to m dial row) (row ∷ []) [])
-    ∙ rw to (elim (bytes_eq j.dial dial) as (λ b. held_to m rows dial + length (cond b (row ∷ []) []) ≡ one b + held_to m rows dial) [ true ↦ omega arith | false ↦ omega arith ]))
+    ∙ rw to (elim (bytes_eq j.dial dial) as (λ b. held_to m rows dial + length (cond b (row ∷ []) []) ≡ one b + held_to m rows dial)
+    [ true ↦ omega arith | false ↦ omega arith ]))
 
 -- of the first so many, no more are of jobs to a number
 pub held_first : (m : Queue) (rows : List Row) (i : ℕ) (dial : List ℕ) → i < length rows → length rows < 2 ^ 32 → held_to m (take i rows) dial + 1 < 2 ^ 32
 held_first m rows i dial low few =
     let all : length rows < 4294967296 = few in
-    let sum : held_to m (take i rows) dial + 1 < 4294967296 = omega (arith, low, all, length-filter (is_to m dial) (take i rows), count_by-le-length (is_to m dial) (take i rows), length-take i rows) in
+    let sum : held_to m (take i rows) dial + 1 < 4294967296 = omega
+    (arith, low, all, length-filter (is_to m dial) (take i rows), count_by-le-length (is_to m dial) (take i rows), length-take i rows) in
     sum
 
 -- what rows mean, they mean where the calls alone were set

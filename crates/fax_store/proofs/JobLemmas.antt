@@ -198,7 +198,8 @@ lawful_of_fields f limits formed = record {
 
 -- what a function keeps of each element holds of each that it makes
 pub all_mapped : {X : Type 0} (P : X → Type 0) (f : X → X) (xs : List X) → ((x : X) → Has xs x → P x → P (f x)) → All P xs → All P (map f xs)
-all_mapped P f xs keeps all = All-map P f xs (All-from_recursion (λ x. P (f x)) xs (all_from (λ x. P (f x)) xs (λ x has. keeps x has (all_has P xs x (recursion_from_All P xs all) has))))
+all_mapped P f xs keeps all = All-map P f xs (All-from_recursion (λ x. P (f x)) xs
+    (all_from (λ x. P (f x)) xs (λ x has. keeps x has (all_has P xs x (recursion_from_All P xs all) has))))
 
 -- ---- one job
 
@@ -230,7 +231,8 @@ module _ (f : JobFields) (lines : List Pair) where
 
   -- a job that is put in place keeps the rowid
   put_number : (x : Job) → rowid (row_of (put x)) ≡ rowid (row_of x)
-  put_number x = cond_both (x.number == f.job) (job_of whole) x (λ y. rowid (row_of y) ≡ rowid (row_of x)) (λ same. ap number (sym (eqb-true x.number f.job same))) (λ _. refl)
+  put_number x = cond_both (x.number == f.job) (job_of whole) x (λ y. rowid (row_of y) ≡ rowid (row_of x))
+      (λ same. ap number (sym (eqb-true x.number f.job same))) (λ _. refl)
 
   -- and its number
   same_number : (x : Job) → (put x).number ≡ x.number
@@ -238,20 +240,22 @@ module _ (f : JobFields) (lines : List Pair) where
 
   -- a lawful job stays lawful under a change of its form
   change_lawful : IsFormedChange f → (x : Job) → KeepsOrder x → IsLawfulJob x → IsLawfulJob (job_of whole)
-  change_lawful lawful x same was = lawful_of_fields whole (ap₂ ◌&&◌ (and_parts _ _ lawful.limits).0 (subst (λ e. IsTrue (are_unknown e)) same.extra (and_parts _ _ was.limits).1)) (record {
-    dial = subst (IsText IsCanonical) same.order.dial was.formed.dial;
-    modem = lawful.modem;
-    jobtag = lawful.jobtag;
-    status = lawful.status;
-    extra = subst ArePairs same.extra was.formed.extra;
-    tts = lawful.tts;
-    killtime = lawful.killtime;
-    priority = lawful.priority;
-  })
+  change_lawful lawful x same was = lawful_of_fields whole (ap₂ ◌&&◌ (and_parts _ _ lawful.limits).0
+      (subst (λ e. IsTrue (are_unknown e)) same.extra (and_parts _ _ was.limits).1)) (record {
+        dial = subst (IsText IsCanonical) same.order.dial was.formed.dial;
+        modem = lawful.modem;
+        jobtag = lawful.jobtag;
+        status = lawful.status;
+        extra = subst ArePairs same.extra was.formed.extra;
+        tts = lawful.tts;
+        killtime = lawful.killtime;
+        priority = lawful.priority;
+      })
 
   -- each job stays lawful, whether it changes or not
   put_lawful : IsFormedChange f → (x : Job) → (x.number ≡ f.job → KeepsOrder x) → IsLawfulJob x → IsLawfulJob (put x)
-  put_lawful lawful x same was = cond_both (x.number == f.job) (job_of whole) x IsLawfulJob (λ here. change_lawful lawful x (same (eqb-true x.number f.job here)) was) (λ _. was)
+  put_lawful lawful x same was = cond_both (x.number == f.job) (job_of whole) x IsLawfulJob
+      (λ here. change_lawful lawful x (same (eqb-true x.number f.job here)) was) (λ _. was)
 
 module _ (f : JobFields) (old new : State) (m : Queue) (k : Ledger) (means : TablesMean old.now m k) where
   abbrev its_lines : List Pair
@@ -272,14 +276,18 @@ module _ (f : JobFields) (old new : State) (m : Queue) (k : Ledger) (means : Tab
       let is_other = not_asked row_of (λ (j : Job). j.number) (λ j. refl) f.job (passes jobs_tree job_tests change_project (change_params f)) (λ r. refl) in
       let done = updated schema.jobs.name 0 schema.jobs.columns schema.jobs.key schema.jobs.primary schema.jobs.uniques schema.jobs.orders schema.jobs.checks 0 refl old new means.schema refl means.ordered.jobs
       job_tests change_project (change_params f) (λ r. refl) _ h.0 row_of placed m.jobs means.jobs (put_number f its_lines)
-      (λ x has on. let is = is_number x on in written f its_lines x is (same x has is) ∙ rw (eq-eqb x.number f.job is) (sym (ap job_row (fields_back (whole f its_lines)))))
+      (λ x has on. let is = is_number x on in written f its_lines x is (same x has is)
+      ∙ rw (eq-eqb x.number f.job is) (sym (ap job_row (fields_back (whole f its_lines)))))
       (λ x has off. rw (is_other x off) refl)
       (runs_as UPDATE_JOB.now (change_params f) old new our_tables means.schema _ update_job.is update_job.plain h.0 h.1) in
       let now : AreRecords row_of IsLawfulJob (new.now.trees jobs_tree) (map placed m.jobs) = record { is = done.1; ordered = done.2; lawful = all_mapped IsLawfulJob placed m.jobs (λ x has. put_lawful f its_lines lawful x (same x has)) means.lawful.jobs } in
       let after = with_change (job_of f) m in
       let moved = jobs_changed old new m (open_grants m) (calls_of m) k (parts_of old.now m k means) done.0 (map placed m.jobs) now in (
         means_of new.now after k (jobs_mapped placed m (same_number f its_lines) means.held)
-            (calls_as new.now after (open_grants after) (calls_of m) (calls_of after) k (λ dial. calls_mapped placed m (same_number f its_lines) dial (λ x has. cond_both (x.number == f.job) (job_of (whole f its_lines)) x (λ y. y.dial ≡ x.dial) (λ here. sym (same x has (eqb-true x.number f.job here)).order.dial) (λ _. refl))) moved),
+            (calls_as new.now after (open_grants after) (calls_of m) (calls_of after) k
+            (λ dial. calls_mapped placed m (same_number f its_lines) dial
+            (λ x has. cond_both (x.number == f.job) (job_of (whole f its_lines)) x (λ y. y.dial ≡ x.dial)
+            (λ here. sym (same x has (eqb-true x.number f.job here)).order.dial) (λ _. refl))) moved),
         done.0,
       )
 
@@ -354,7 +362,8 @@ module _ (phase : Phase) (t : ℕ) where
     jobs_expired h =
         let ran = runs_as EXPIRE_JOBS.now expired_params old new our_tables means.schema _ expire_jobs.is expire_jobs.plain h.0 h.1 in
         let done = updated schema.jobs.name 0 schema.jobs.columns schema.jobs.key schema.jobs.primary schema.jobs.uniques schema.jobs.orders schema.jobs.checks 0 refl old new means.schema refl means.ordered.jobs
-        expired_tests expired_project expired_params (λ r. refl) _ h.0 row_of (expired_in phase t) m.jobs means.jobs (λ j. cond_both (expires_here j) (expired j) j (λ i. rowid (row_of i) ≡ rowid (row_of j)) (λ _. refl) (λ _. refl))
+        expired_tests expired_project expired_params (λ r. refl) _ h.0 row_of (expired_in phase t) m.jobs means.jobs
+        (λ j. cond_both (expires_here j) (expired j) j (λ i. rowid (row_of i) ≡ rowid (row_of j)) (λ _. refl) (λ _. refl))
         (λ j has on. stored_job (fields_of (expired j)) ∙ rw (sym (expiring j) ∙ on) refl)
         (λ j has off. rw (sym (expiring j) ∙ off) refl)
         ran in

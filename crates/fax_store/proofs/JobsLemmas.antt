@@ -124,7 +124,8 @@ module _ (project : List Term) where
       let first = get_or jobs i d in
       let next = get_or jobs (i + 1) d in
       let apart : nat_lt next.number first.number ≡ false =
-      sym (same_as_numbers next first) ∙ sym (ap₂ by (get_or-map out_of jobs (i + 1) d (out_of d) low) (get_or-map out_of jobs i d (out_of d) (omega arith))) ∙ sorted i (out_of d) (omega arith) (omega (arith, length_map out_of jobs)) in
+      sym (same_as_numbers next first) ∙ sym (ap₂ by (get_or-map out_of jobs (i + 1) d (out_of d) low) (get_or-map out_of jobs i d (out_of d) (omega arith)))
+      ∙ sorted i (out_of d) (omega arith) (omega (arith, length_map out_of jobs)) in
       grind (arith, nat_tests))
 
 -- by rowid, one job stands before another only where its number is less

@@ -92,10 +92,12 @@ module _ (db : Database) (has : db.schema ≡ our_tables) (sound : IsDatabase db
   pub one_of_key : (client : List ℕ) (n : ℕ) (r s : Row) → Has (db.trees replies_tree) r → Has (db.trees replies_tree) s
       → column r 1 ≡ Text client → column s 1 ≡ Text client → column r 2 ≡ number n → column s 2 ≡ number n → s ≡ r
   one_of_key client n r s there also client_r client_s number_r number_s =
-      let clients : equal Binary (column s 1) (column r 1) ≡ true = ap₂ (equal Binary) client_s client_r ∙ equal_texts client client ∙ (bytes_eq-Decides client client).1 refl in
+      let clients : equal Binary (column s 1) (column r 1) ≡ true = ap₂ (equal Binary) client_s client_r ∙ equal_texts client client
+      ∙ (bytes_eq-Decides client client).1 refl in
       let numbers : equal Binary (column s 2) (column r 2) ≡ true = ap₂ (equal Binary) number_s number_r ∙ number_same n in
       one_row (db.trees replies_tree) by (1 ∷ 2 ∷ []) r s there also (no_clash r there)
-      (ap (λ key. equal key.collation (column s 1) (column r 1) && (equal key.collation (column s 2) (column r 2) && true)) first_key-plain ∙ ap₂ (λ a b. a && (b && true)) clients numbers)
+      (ap (λ key. equal key.collation (column s 1) (column r 1) && (equal key.collation (column s 2) (column r 2) && true)) first_key-plain
+      ∙ ap₂ (λ a b. a && (b && true)) clients numbers)
 
 -- ---- so it has one entry
 
@@ -185,7 +187,8 @@ module _ (client : List ℕ) (n : ℕ) where
   -- so does that of the entry
   asked_for : (r : Row) (e : Entry) → drop 1 r ≡ entry_columns e → IsOf client n e → is_asked r ≡ true
   asked_for [] e h of = absurd cc
-  asked_for (x ∷ rest) e h of = subst (λ cols. is_asked (x ∷ cols) ≡ true) (sym h) (rw (of.client_is, of.number_is) (key_passes x (Blob e.said) (number e.status) (Blob e.body)))
+  asked_for (x ∷ rest) e h of = subst (λ cols. is_asked (x ∷ cols) ≡ true) (sym h)
+      (rw (of.client_is, of.number_is) (key_passes x (Blob e.said) (number e.status) (Blob e.body)))
 
   module _ (old new : State) (m : Queue) (k : Ledger) (means : TablesMean old.now m k) where
     -- what the text on a reply finds is an entry of the client and number; where it finds nothing, there is none
@@ -195,7 +198,8 @@ module _ (client : List ℕ) (n : ℕ) where
         let it = row_of entry_columns (old.now.trees replies_tree) k.replies (IsPermutation-same _ _ (sym means.replies)) e has in
         both_ways _ (none_passes SELECT_REPLY.now replies_tree reply_tests reply_project _ select_reply (λ trees. refl) params old new old.now means.schema refl h it.0 it.1) (asked_for it.0 e it.2 of)
     reply_found (Some row) h =
-        let shown = row_passes SELECT_REPLY.now replies_tree reply_tests reply_project _ select_reply (λ trees. refl) params old new old.now means.schema refl row h in
+        let shown = row_passes SELECT_REPLY.now replies_tree reply_tests reply_project _ select_reply (λ trees. refl) params old new old.now means.schema refl
+        row h in
         let it = record_of entry_columns (old.now.trees replies_tree) k.replies (IsPermutation-same _ _ (sym means.replies)) shown.0 shown.1 in
         let of = shows_entry shown.0 it.0 it.2 shown.2 in
         (it.0, it.1, of.0, shown.3 ∙ of.1)

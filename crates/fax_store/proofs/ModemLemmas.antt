@@ -62,7 +62,8 @@ module _ (modem : List ℕ) where
         sym (is_asked down_project it.0 name it.2)
         ∙ none_passes SELECT_DOWN.now down_tree down_tests down_project _ select_down (λ trees. refl) params old new old.now means.schema refl h it.0 it.1))
     mark_found (Some row) h =
-        let shown = row_passes SELECT_DOWN.now down_tree down_tests down_project _ select_down (λ trees. refl) params old new old.now means.schema refl row h in
+        let shown = row_passes SELECT_DOWN.now down_tree down_tests down_project _ select_down (λ trees. refl) params old new old.now means.schema refl row
+        h in
         let it = record_of down_columns (old.now.trees down_tree) m.down same shown.0 shown.1 in
         sym (some_from (bytes_eq modem) m.down it.0 it.1 (sym (is_asked down_project shown.0 it.0 it.2) ∙ shown.2))
 

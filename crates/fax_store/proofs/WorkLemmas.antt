@@ -101,7 +101,10 @@ left_by old new (Err e) left = left
 
 -- what a refused statement leaves of a work
 pub left_holds : (old new : State) → (Serves new → Serves old) → (HasCleanDisk new → LeavesCommit old new) → Holds old false new true
-left_holds old new served left db over s = record { began = committed_is old new (left s.clean) s.is_open ∙ (over (served s)).began; goes_on = λ on. absurd cc }
+left_holds old new served left db over s = record {
+  began = committed_is old new (left s.clean) s.is_open ∙ (over (served s)).began;
+  goes_on = λ on. absurd cc;
+}
 
 -- what a statement that changes rows leaves of one
 pub edit_holds : (old new : State) (sql : List ℕ) (params : Row) → (Serves new → Serves old) → IsEditText sql → (count : ℕ) → (HasCleanDisk new → Executes sql params old new (Ok count)) → Holds old false new false
@@ -185,7 +188,8 @@ move_by old new sql params tree (Ok done) m₀ m after k₀ k kept served works 
       began = same_tables m₀ k₀ (shown.committed_is ∙ ap (λ b. if b then old.committed else new.now) inside.inside) was.began;
       goes_on = λ _. record { inside = shown.mode ∙ inside.inside; means = did.0 };
     }
-move_by old new sql params tree (Err e) m₀ m after k₀ k kept served works s ran left does = same_tables m₀ k₀ (committed_is old new left s.is_open) (works (served s)).began
+move_by old new sql params tree (Err e) m₀ m after k₀ k kept served works s ran left does =
+    same_tables m₀ k₀ (committed_is old new left s.is_open) (works (served s)).began
 
 -- a step is a move whose refusal is known
 pub step_of : {A : Type 0} (new : State) (result : Result A StoreFault) (m₀ m : Queue) (k₀ k : Ledger) → IfErr result (λ fault. fault ≡ Unavailable) → Moves new result m₀ k₀ m k → Steps new result m₀ k₀ m k
@@ -243,7 +247,8 @@ moved_by old new result f g moves m₀ m k₀ k works s = under_way new result m
 -- and so does one that steps on
 pub changes_by : (old new : State) {A : Type 0} (result : Result A StoreFault) (f : Queue → Queue) (g : Ledger → Ledger) → ((m₀ m : Queue) (k₀ k : Ledger) → Works old false m₀ k₀ m k → Serves new → Steps new result m₀ k₀ (f m) (g k))
     → Changes old false new (is_err result) f g
-changes_by old new result f g steps m₀ m k₀ k works s = under_way new result m₀ (f m) k₀ (g k) (moves_of new result m₀ (f m) k₀ (g k) (steps m₀ m k₀ k works s))
+changes_by old new result f g steps m₀ m k₀ k works s = under_way new result m₀ (f m) k₀ (g k)
+    (moves_of new result m₀ (f m) k₀ (g k) (steps m₀ m k₀ k works s))
 
 -- a call that moves on each work of a queue of which P holds
 pub steps_where : (old new : State) {A : Type 0} (P : Queue → Type 0) (result : Result A StoreFault) (f : Queue → Queue) (g : Ledger → Ledger)

@@ -23,7 +23,8 @@ returns-in_err-prospect_in-in-Some g c = record {
   opens = search rules;
   none = search rules;
   asked = search rules;
-  found = λ m k given means serves stands. let it = one_given _ m given c.in-Some.row _ _ _ (rw c.in-Some.ensures.items at (c.in_ok-refill.ensures.found m k given means serves stands).0) in
+  found = λ m k given means serves stands. let it = one_given _ m given c.in-Some.row _ _ _
+      (rw c.in-Some.ensures.items at (c.in_ok-refill.ensures.found m k given means serves stands).0) in
       let lawful = given_lawful _ m k (means (c.refill.ensures.leaves.served serves)).means c.args.self.now.asked given it.0 _ _ _ it.2 in
       passes_on c.from_residual-in_err-prospect_in-in-Some.result c.in_err-prospect_in-in-Some.field-0.0 _ c.from_residual-in_err-prospect_in-in-Some.ensures.1
       (c.in_err-prospect_in-in-Some.ensures.found (fields_of it.0) it.1 lawful.limits lawful.formed);
@@ -36,7 +37,8 @@ returns-in_ok-prospect_in-in-Some g c = record {
   opens = search rules;
   none = search rules;
   asked = search rules;
-  found = λ m k given means serves stands. let it = one_given _ m given c.in-Some.row _ _ _ (rw c.in-Some.ensures.items at (c.in_ok-refill.ensures.found m k given means serves stands).0) in
+  found = λ m k given means serves stands. let it = one_given _ m given c.in-Some.row _ _ _
+      (rw c.in-Some.ensures.items at (c.in_ok-refill.ensures.found m k given means serves stands).0) in
       let lawful = given_lawful _ m k (means (c.refill.ensures.leaves.served serves)).means c.args.self.now.asked given it.0 _ _ _ it.2 in
       (it.0, c.in_ok-prospect_in-in-Some.ensures.found (fields_of it.0) it.1 lawful.limits lawful.formed, it.2);
 }
@@ -50,5 +52,6 @@ returns-in-None g c =
       opens = search rules;
       none = λ is. c.in_ok-refill.ensures.none empty;
       asked = search rules;
-      found = λ m k given means serves stands. let found = c.in_ok-refill.ensures.found m k given means serves stands in (found.1 empty, rw c.in-None.ensures.items at found.0);
+      found = λ m k given means serves stands. let found = c.in_ok-refill.ensures.found m k given means serves stands in
+          (found.1 empty, rw c.in-None.ensures.items at found.0);
     }

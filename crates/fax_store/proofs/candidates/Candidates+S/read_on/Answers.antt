@@ -40,7 +40,8 @@ returns g c = record {
               let it = page_ends _ _ _ next.is (rw c.deref.ensures.value at w.in-Some.ensures.value) in
               let lawful = page_lawful _ m _ _ next.all it.0 it.1 means_now.lawful.jobs next.waiting it.2 in
               let prospect = w.in_ok-prospect_in-in-Some.ensures.found (fields_of it.1) it.3 lawful.limits lawful.formed in
-              rw (w.self-is ∙ w.of-self.ensures ∙ ap front_of prospect) (stands_page _ m k means_now _ given _ _ stands _ next it.0 it.1 it.2 c.min-self.result more)
+              rw (w.self-is ∙ w.of-self.ensures ∙ ap front_of prospect) (stands_page _ m k means_now _ given _ _ stands _ next it.0 it.1 it.2
+              c.min-self.result more)
           | in-None w ↦
               let empty = page_empty _ (rw c.deref.ensures.value at w.in-None.ensures.value) in
               rw (w.self-is ∙ w.next-self.ensures) (stands_on _ m k means_now _ given _ _ stands _ next empty c.min-self.result more)

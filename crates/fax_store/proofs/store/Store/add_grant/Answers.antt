@@ -13,7 +13,8 @@ use Rattle.fax_store.proofs.store.Store.add_grant.Goals as goal
 pub returns : goal.returns
 returns g c =
     let put = runs_then g.S.Store _ _ _ _ _ (runs_of g.S.Store _ _ _ c.in_ok-meta.ensures.leaves) c.in_ok-insert_grant.ensures.leaves in
-    writes_if_any g.S.Store _ _ c.write_meta.result _ _ _ (writes_if_steps g.S.Store _ _ c.write_meta.result _ _ _ _ (runs_then g.S.Store _ _ _ _ _ put c.write_meta.ensures.leaves) (λ m k fit. tt)
+    writes_if_any g.S.Store _ _ c.write_meta.result _ _ _ (writes_if_steps g.S.Store _ _ c.write_meta.result _ _ _ _
+    (runs_then g.S.Store _ _ _ _ _ put c.write_meta.ensures.leaves) (λ m k fit. tt)
     (λ m₀ m k₀ k _ works s.
     let new = shown g.S.Store c.write_meta.new.self in
     let grant = c.args.grant.now in
@@ -29,14 +30,17 @@ returns g c =
     let next : meta.next_grant ≡ m.next_grant = ap (λ it. it.next_grant) same in
     let lawful : IsLawfulMeta (with_one_more_grant grant m) = record { clock = was.clock; next_job = was.next_job; next_grant = (omega arith, omega (arith, low, next)) } in
     let with_one = λ (it : Meta). with_meta (record it { next_grant = it.next_grant + 1 }) (with_placed grant m) in
-    subst (λ it. IsLawfulMeta (with_one it) → Steps new c.write_meta.result m₀ k₀ (with_one it) k) same (c.write_meta.ensures.written m₀ (with_placed grant m) k₀ k (λ _. second) s) lawful))
+    subst (λ it. IsLawfulMeta (with_one it) → Steps new c.write_meta.result m₀ k₀ (with_one it) k) same
+    (c.write_meta.ensures.written m₀ (with_placed grant m) k₀ k (λ _. second) s) lawful))
 
 pub returns-in_err-insert_grant : goal.returns-in_err-insert_grant
 returns-in_err-insert_grant g c =
     let fault = c.in_err-insert_grant.field-0.0 in
     let result = c.from_residual-in_err-insert_grant.result in
     let told = c.from_residual-in_err-insert_grant.ensures.1 in
-    writes_if_refused g.S.Store _ _ result fault told (runs_then g.S.Store _ _ _ _ _ (runs_of g.S.Store _ _ _ c.in_ok-meta.ensures.leaves) c.in_err-insert_grant.ensures.leaves) _ _ _
+    writes_if_refused g.S.Store _ _ result fault told (runs_then g.S.Store _ _ _ _ _ (runs_of g.S.Store _ _ _ c.in_ok-meta.ensures.leaves)
+    c.in_err-insert_grant.ensures.leaves) _ _ _
     (λ m₀ m k₀ k works s fits.
-    let first = reads_on g.S.Store _ _ _ (λ m k meta. meta ≡ meta_of m) c.in_ok-meta.ensures.leaves c.in_ok-meta.ensures.answers m₀ m k₀ k works (c.insert_grant.ensures.leaves.served s) in
+    let first = reads_on g.S.Store _ _ _ (λ m k meta. meta ≡ meta_of m) c.in_ok-meta.ensures.leaves c.in_ok-meta.ensures.answers m₀ m k₀ k works
+    (c.insert_grant.ensures.leaves.served s) in
     refused_as result fault told (c.in_err-insert_grant.ensures.cause m₀ m k₀ k (λ _. first.1) s (fits.0, fits.1, fits.2)))

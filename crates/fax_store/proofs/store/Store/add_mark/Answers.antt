@@ -13,7 +13,8 @@ pub returns-then-branch : goal.returns-then-branch
 returns-then-branch g c = record {
   leaves = search rules;
   written = λ m₀ m k₀ k works s. let modem = c.args.modem.now in
-      let first = reads_on g.S.Store _ _ _ (λ m k down. down ≡ is_down modem m) c.in_ok-is_down.ensures.leaves c.in_ok-is_down.ensures.answers m₀ m k₀ k works s in
+      let first = reads_on g.S.Store _ _ _ (λ m k down. down ≡ is_down modem m) c.in_ok-is_down.ensures.leaves c.in_ok-is_down.ensures.answers m₀ m k₀ k works
+      s in
       rw (modems.marked_already modem m (sym first.0 ∙ c.if-branch.true)) first.1;
   cause = search rules;
 }
@@ -27,7 +28,8 @@ returns g c =
     record {
       leaves = runs_then g.S.Store _ _ _ _ _ (runs_of g.S.Store _ _ _ c.in_ok-is_down.ensures.leaves) c.insert.ensures.leaves;
       written = λ m₀ m k₀ k works s. let first = reads m₀ m k₀ k works (inserts.leaves.served s) in
-          move_by _ _ INSERT_DOWN.now (modems.params modem) 6 c.insert.result m₀ m (with_mark modem true m) k₀ k k inserts.leaves.served (λ _. first.1) s (inserts.ran s.clean) (inserts.left s.clean)
+          move_by _ _ INSERT_DOWN.now (modems.params modem) 6 c.insert.result m₀ m (with_mark modem true m) k₀ k k inserts.leaves.served (λ _. first.1) s
+          (inserts.ran s.clean) (inserts.left s.clean)
           (λ means has. modems.mark_added modem _ _ m k means lawful (sym first.0 ∙ c.if-branch.false) has);
       cause = λ m₀ m k₀ k works s named. let first = reads m₀ m k₀ k works (inserts.leaves.served s) in
           only_unavailable _ _ INSERT_DOWN.now (modems.params modem) c.insert.result (λ m k. is_down modem m ≡ false) inserts.leaves.served inserts.told

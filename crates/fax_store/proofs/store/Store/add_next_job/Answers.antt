@@ -12,7 +12,8 @@ use Rattle.fax_store.proofs.FrameLemmas.{runs_then, writes_if_steps, writes_if_w
 use Rattle.fax_store.proofs.store.Store.add_next_job.Goals as goal
 
 pub returns : goal.returns
-returns g c = writes_if_steps g.S.Store _ _ c.write_meta.result _ _ _ _ (runs_then g.S.Store _ _ _ _ _ c.in_ok-insert_job.ensures.leaves c.write_meta.ensures.leaves) (λ m k fits. fits.0)
+returns g c = writes_if_steps g.S.Store _ _ c.write_meta.result _ _ _ _
+    (runs_then g.S.Store _ _ _ _ _ c.in_ok-insert_job.ensures.leaves c.write_meta.ensures.leaves) (λ m k fits. fits.0)
     (λ m₀ m k₀ k same works s.
     let new = shown g.S.Store c.write_meta.new.self in
     let j = job_of c.args.job.now in
@@ -25,7 +26,8 @@ returns g c = writes_if_steps g.S.Store _ _ c.write_meta.result _ _ _ _ (runs_th
     let within : clock ≤ 4102444800 = search rules in
     let lawful : IsLawfulMeta (with_clock clock (with_one_more_job j m)) = record { clock = within; next_job = (omega arith, omega (arith, low, next)); next_grant = was.next_grant } in
     let with_one = λ (it : Meta). with_meta (record it { clock = clock; next_job = it.next_job + 1 }) (with_placed j m) in
-    subst (λ it. IsLawfulMeta (with_one it) → Steps new c.write_meta.result m₀ k₀ (with_one it) k) same (c.write_meta.ensures.written m₀ (with_placed j m) k₀ k (λ _. second) s) lawful)
+    subst (λ it. IsLawfulMeta (with_one it) → Steps new c.write_meta.result m₀ k₀ (with_one it) k) same
+    (c.write_meta.ensures.written m₀ (with_placed j m) k₀ k (λ _. second) s) lawful)
 
 pub returns-in_err-insert_job : goal.returns-in_err-insert_job
 returns-in_err-insert_job g c =

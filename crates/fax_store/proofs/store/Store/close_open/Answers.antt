@@ -48,7 +48,8 @@ returns g c =
           let parts = grant_closed n _ _ _ m k means (shut_one.ran (freed.leaves.clean at_shut.clean)) (freed.ran at_shut.clean) in
           let on = inside_by _ _ before.holds at_shut inside means.schema in
           ok_as c.set_calls.result
-          (λ set. close_counted n _ m k means (shown g.S.Store c.run-2.new.self) (shown g.S.Store c.set_calls.new.self) held.0 called.0 held.1 held.2 called.1 parts (rw (called.2, ← it.1) set))
+          (λ set. close_counted n _ m k means (shown g.S.Store c.run-2.new.self) (shown g.S.Store c.set_calls.new.self) held.0 called.0 held.1 held.2 called.1
+          parts (rw (called.2, ← it.1) set))
           (c.set_calls.ensures.set (calls_of m) (record { is_open = at_shut.is_open; inside = on.0; tables = on.1; sound = parts.sound; calls = parts.says calls }) s.clean)));
       cause = c.set_calls.ensures.cause;
     }

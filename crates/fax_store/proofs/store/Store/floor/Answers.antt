@@ -14,7 +14,8 @@ returns-in-Some-clause-answers g c m k means s =
     let client = c.args.client.now in
     let means_now = means (c.in_ok-row.ensures.leaves.served s) in
     let found = (queries_with g.S.Store _ _ _ SELECT_FLOOR.now _ (params client) (search rules) c.in_ok-row.ensures).found s.clean in
-    c.floor_in.ensures.found (k.floor client) (rw c.in-Some.is at (floor_found client _ _ m k means_now c.in_ok-row.field-0 found)) (floor_low client k.floor means_now.lawful.floors)
+    c.floor_in.ensures.found (k.floor client) (rw c.in-Some.is at (floor_found client _ _ m k means_now c.in_ok-row.field-0 found))
+    (floor_low client k.floor means_now.lawful.floors)
 
 pub returns-in-None-clause-answers : goal.returns-in-None-clause-answers
 returns-in-None-clause-answers g c m k means s =

@@ -15,21 +15,33 @@ returns-in_err-execute g c =
 
 pub returns-in_err-create_tables : goal.returns-in_err-create_tables
 returns-in_err-create_tables g c =
-    let begun : HasBegun (λ schema. schema ≡ no_tables) _ _ = record { ours = c.requires; count = c.in_ok-execute.field-0; survives = c.execute.ensures.survives; began = c.in_ok-execute.ensures.runs } in
+    let begun : HasBegun (λ schema. schema ≡ no_tables) _ _ = record {
+      ours = c.requires;
+      count = c.in_ok-execute.field-0;
+      survives = c.execute.ensures.survives;
+      began = c.in_ok-execute.ensures.runs;
+    } in
     let s2 = state g.S.Store c.create_tables.new.conn in
     let clean1 = cleaner (state g.S.Store c.execute.new.self) s2 c.create_tables.ensures.doubt in
-    founds_refused _ _ c.from_residual-in_err-create_tables.result c.from_residual-in_err-create_tables.ensures.0 (λ clean. clean_in begun.survives (clean1 clean)) (creation_kept _ _ _ begun clean1 c.in_err-create_tables.ensures.kept)
+    founds_refused _ _ c.from_residual-in_err-create_tables.result c.from_residual-in_err-create_tables.ensures.0
+    (λ clean. clean_in begun.survives (clean1 clean)) (creation_kept _ _ _ begun clean1 c.in_err-create_tables.ensures.kept)
     (tables_hold_back _ _ s2 begun c.create_tables.ensures.crash) (search rules)
 
 pub returns-in_err-execute-2 : goal.returns-in_err-execute-2
 returns-in_err-execute-2 g c =
-    let begun : HasBegun (λ schema. schema ≡ no_tables) _ _ = record { ours = c.requires; count = c.in_ok-execute.field-0; survives = c.execute.ensures.survives; began = c.in_ok-execute.ensures.runs } in
+    let begun : HasBegun (λ schema. schema ≡ no_tables) _ _ = record {
+      ours = c.requires;
+      count = c.in_ok-execute.field-0;
+      survives = c.execute.ensures.survives;
+      began = c.in_ok-execute.ensures.runs;
+    } in
     let s2 = state g.S.Store c.create_tables.new.conn in
     let clean2 = clean_in c.execute-2.ensures.survives in
     let clean1 = cleaner (state g.S.Store c.execute.new.self) s2 c.create_tables.ensures.doubt in
     record {
       settles = settles_refused _ _ c.from_residual-in_err-execute-2.result c.from_residual-in_err-execute-2.ensures.0 (λ clean. clean_in begun.survives (clean1 (clean2 clean)))
-          (λ clean. commit_kept_before _ _ s2 begun clean1 c.in_ok-create_tables.ensures.made _ (clean2 clean) c.in_err-execute-2.field-0.0 (c.in_err-execute-2.ensures.runs clean));
+          (λ clean. commit_kept_before _ _ s2 begun clean1 c.in_ok-create_tables.ensures.made _ (clean2 clean) c.in_err-execute-2.field-0.0
+          (c.in_err-execute-2.ensures.runs clean));
       made = search rules;
       crash = tables_stop _ _ s2 begun clean1 c.in_ok-create_tables.ensures.made _ c.create_tables.ensures.crash c.execute-2.ensures.survives;
       cause = search rules;
@@ -37,13 +49,19 @@ returns-in_err-execute-2 g c =
 
 pub returns : goal.returns
 returns g c =
-    let begun : HasBegun (λ schema. schema ≡ no_tables) _ _ = record { ours = c.requires; count = c.in_ok-execute.field-0; survives = c.execute.ensures.survives; began = c.in_ok-execute.ensures.runs } in
+    let begun : HasBegun (λ schema. schema ≡ no_tables) _ _ = record {
+      ours = c.requires;
+      count = c.in_ok-execute.field-0;
+      survives = c.execute.ensures.survives;
+      began = c.in_ok-execute.ensures.runs;
+    } in
     let s2 = state g.S.Store c.create_tables.new.conn in
     let done = c.in_ok-execute-2.ensures.runs in
     let clean2 = clean_in c.execute-2.ensures.survives in
     let clean1 = cleaner (state g.S.Store c.execute.new.self) s2 c.create_tables.ensures.doubt in
     record {
-      settles = settles_done _ _ _ (λ clean. clean_in begun.survives (clean1 (clean2 clean))) (λ clean. (starts begun (clean1 (clean2 clean))).was_open) (commit_opens s2 _ c.execute-2.ensures.survives.clean c.in_ok-execute-2.field-0 done);
+      settles = settles_done _ _ _ (λ clean. clean_in begun.survives (clean1 (clean2 clean))) (λ clean. (starts begun (clean1 (clean2 clean))).was_open)
+          (commit_opens s2 _ c.execute-2.ensures.survives.clean c.in_ok-execute-2.field-0 done);
       made = λ clean. tables_made _ _ s2 begun clean1 c.in_ok-create_tables.ensures.made _ (clean2 clean) c.in_ok-execute-2.field-0 (done clean);
       crash = tables_stop _ _ s2 begun clean1 c.in_ok-create_tables.ensures.made _ c.create_tables.ensures.crash c.execute-2.ensures.survives;
       cause = tt;

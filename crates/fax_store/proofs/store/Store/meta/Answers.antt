@@ -12,7 +12,8 @@ returns-in-Some g c = record {
       let is = sym c.in-Some.is ∙ meta_found _ _ m k means_now c.in_ok-row.field-0 (c.in_ok-row.ensures.found s.clean) in
       c.in_row.ensures.found m (let it = is in cc) means_now.lawful.meta;
   stands = λ db ours now clean.
-      IfOk-weaker c.in_row.result _ _ (λ meta has. meta_stands _ _ db ours now c.in-Some.row meta (rw c.in-Some.is at (c.in_ok-row.ensures.found clean)) has) c.in_row.ensures.stands;
+      IfOk-weaker c.in_row.result _ _ (λ meta has. meta_stands _ _ db ours now c.in-Some.row meta (rw c.in-Some.is at (c.in_ok-row.ensures.found clean)) has)
+      c.in_row.ensures.stands;
   lawful = c.in_row.ensures.lawful;
 }
 

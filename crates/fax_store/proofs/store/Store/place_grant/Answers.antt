@@ -39,7 +39,8 @@ returns-in_err-insert-2 g c =
     writes_if_where_refused g.S.Store _ _ result fault told (runs_then g.S.Store _ _ _ _ _ put_hold.leaves put.leaves) _ _ _ _ (λ m₀ m k₀ k works s fit.
     let at_mid = put.leaves.served s in
     let why = put.told s.clean in
-    refused_as result fault told (why.2 ∙ grant_goes grant _ _ m k ((works (put_hold.leaves.served at_mid)).goes_on refl).means _ fit.0.is_open fit.1 (put_hold.ran at_mid.clean) why.0 why.1))
+    refused_as result fault told (why.2 ∙ grant_goes grant _ _ m k ((works (put_hold.leaves.served at_mid)).goes_on refl).means _ fit.0.is_open fit.1
+    (put_hold.ran at_mid.clean) why.0 why.1))
 
 pub returns : goal.returns
 returns g c =
@@ -58,10 +59,12 @@ returns g c =
           let at_mid = put.leaves.served at_put in
           moves_by _ _ c.set_calls.result m₀ m (with_placed grant m) k₀ k k runs.served runs.holds works s
           (λ means inside.
-          let parts = grant_put grant _ _ m k means _ fit.is_open (record { limits = fit.limits; modem = modem }) (put_hold.ran at_mid.clean) (put.ran at_put.clean) in
+          let parts = grant_put grant _ _ m k means _ fit.is_open (record { limits = fit.limits; modem = modem }) (put_hold.ran at_mid.clean)
+          (put.ran at_put.clean) in
           let on = inside_by _ _ before.holds at_put inside means.schema in
           ok_as c.set_calls.result
-          (λ set. grant_counted grant m means.held (shown g.S.Store c.insert-2.new.self) (shown g.S.Store c.set_calls.new.self) k called.0 called.1 fit.is_open parts (rw (called.2, ← it.2) set))
+          (λ set. grant_counted grant m means.held (shown g.S.Store c.insert-2.new.self) (shown g.S.Store c.set_calls.new.self) k called.0 called.1
+          fit.is_open parts (rw (called.2, ← it.2) set))
           (c.set_calls.ensures.set (calls_of m) (record { is_open = at_put.is_open; inside = on.0; tables = on.1; sound = parts.sound; calls = parts.says calls }) s.clean));
       cause = λ m₀ m k₀ k works s fit. c.set_calls.ensures.cause;
     }

@@ -11,7 +11,8 @@ pub returns-in_err-execute : goal.returns-in_err-execute
 returns-in_err-execute g c =
     let left = λ (clean : HasCleanDisk (state g.S.Store c.execute.new.self)). fails_whole _ _ false _ _ _ (c.in_err-execute.ensures.runs clean) in
     record {
-      leaves = edit_refused g.S.Store _ _ c.args.sql.now (bound c.args.params.now) c.requires c.execute.ensures.survives c.from_residual.result c.from_residual.ensures.0 left;
+      leaves = edit_refused g.S.Store _ _ c.args.sql.now (bound c.args.params.now) c.requires c.execute.ensures.survives c.from_residual.result
+          c.from_residual.ensures.0 left;
       ran = search rules;
       left = λ clean. on_err c.from_residual.result (left clean);
       cause = search rules;

@@ -17,28 +17,46 @@ returns-in_err-execute g c =
 
 pub returns-in_err-renew : goal.returns-in_err-renew
 returns-in_err-renew g c =
-    let begun : HasBegun AreOurs _ _ = record { ours = c.requires; count = c.in_ok-execute.field-0; survives = c.execute.ensures.survives; began = c.in_ok-execute.ensures.runs } in
+    let begun : HasBegun AreOurs _ _ = record {
+      ours = c.requires;
+      count = c.in_ok-execute.field-0;
+      survives = c.execute.ensures.survives;
+      began = c.in_ok-execute.ensures.runs;
+    } in
     let renews = c.in_err-renew.ensures.leaves in
-    takes_refused _ _ _ _ _ c.from_residual-in_err-renew.result c.from_residual-in_err-renew.ensures.0 (λ clean. clean_in begun.survives (renews.clean clean)) (renewing_kept _ _ _ begun _ renews)
+    takes_refused _ _ _ _ _ c.from_residual-in_err-renew.result c.from_residual-in_err-renew.ensures.0 (λ clean. clean_in begun.survives (renews.clean clean))
+    (renewing_kept _ _ _ begun _ renews)
     (renewing_holds_back _ _ _ begun _ renews) (search rules)
 
 pub returns-in_err-fill : goal.returns-in_err-fill
 returns-in_err-fill g c =
     let version : c.version_in-version.result ≡ version_of (state g.S.Store c.args.self.now.conn).now.schema = search rules in
-    let begun : HasBegun AreOurs _ _ = record { ours = c.requires; count = c.in_ok-execute.field-0; survives = c.execute.ensures.survives; began = c.in_ok-execute.ensures.runs } in
+    let begun : HasBegun AreOurs _ _ = record {
+      ours = c.requires;
+      count = c.in_ok-execute.field-0;
+      survives = c.execute.ensures.survives;
+      began = c.in_ok-execute.ensures.runs;
+    } in
     let renews = c.in_ok-renew.ensures.leaves in
     let fills = c.in_err-fill.ensures.leaves in
     let result = c.from_residual-in_err-fill.result in
     let told = c.from_residual-in_err-fill.ensures in
-    takes_refused _ _ _ _ _ result told.0 (λ clean. clean_in begun.survives (renews.clean (fills.clean clean))) (filling_kept _ _ _ begun renews _ version _ _ fills) (filling_holds_back _ _ _ begun renews _ version _ _ fills)
+    takes_refused _ _ _ _ _ result told.0 (λ clean. clean_in begun.survives (renews.clean (fills.clean clean)))
+    (filling_kept _ _ _ begun renews _ version _ _ fills) (filling_holds_back _ _ _ begun renews _ version _ _ fills)
     (λ clean is ours. let at = fills.clean clean in
-    c.in_err-fill.ensures.strange clean (told_strange result c.in_err-fill.field-0.0 told.1 is) (has_none _ _ _ begun renews _ version at) (still_version _ _ _ begun renews _ version at ours.version)
+    c.in_err-fill.ensures.strange clean (told_strange result c.in_err-fill.field-0.0 told.1 is) (has_none _ _ _ begun renews _ version at)
+    (still_version _ _ _ begun renews _ version at ours.version)
     (still_callable _ _ _ begun renews _ version at ours.held))
 
 pub returns-in_err-execute-2 : goal.returns-in_err-execute-2
 returns-in_err-execute-2 g c =
     let version : c.version_in-version.result ≡ version_of (state g.S.Store c.args.self.now.conn).now.schema = search rules in
-    let begun : HasBegun AreOurs _ _ = record { ours = c.requires; count = c.in_ok-execute.field-0; survives = c.execute.ensures.survives; began = c.in_ok-execute.ensures.runs } in
+    let begun : HasBegun AreOurs _ _ = record {
+      ours = c.requires;
+      count = c.in_ok-execute.field-0;
+      survives = c.execute.ensures.survives;
+      began = c.in_ok-execute.ensures.runs;
+    } in
     let renews = c.in_ok-renew.ensures.leaves in
     let fills = c.in_ok-fill.ensures.leaves in
     let clean3 = clean_in c.execute-2.ensures.survives in
@@ -55,14 +73,20 @@ returns-in_err-execute-2 g c =
 pub returns : goal.returns
 returns g c =
     let version : c.version_in-version.result ≡ version_of (state g.S.Store c.args.self.now.conn).now.schema = search rules in
-    let begun : HasBegun AreOurs _ _ = record { ours = c.requires; count = c.in_ok-execute.field-0; survives = c.execute.ensures.survives; began = c.in_ok-execute.ensures.runs } in
+    let begun : HasBegun AreOurs _ _ = record {
+      ours = c.requires;
+      count = c.in_ok-execute.field-0;
+      survives = c.execute.ensures.survives;
+      began = c.in_ok-execute.ensures.runs;
+    } in
     let renews = c.in_ok-renew.ensures.leaves in
     let fills = c.in_ok-fill.ensures.leaves in
     let done = c.in_ok-execute-2.ensures.runs in
     let clean3 = clean_in c.execute-2.ensures.survives in
     let clean1 = λ (clean : HasCleanDisk (state g.S.Store c.execute-2.new.self)). renews.clean (fills.clean (clean3 clean)) in
     record {
-      settles = settles_done _ _ _ (λ clean. clean_in begun.survives (clean1 clean)) (λ clean. (starts begun (clean1 clean)).was_open) (commit_opens _ _ c.execute-2.ensures.survives.clean c.in_ok-execute-2.field-0 done);
+      settles = settles_done _ _ _ (λ clean. clean_in begun.survives (clean1 clean)) (λ clean. (starts begun (clean1 clean)).was_open)
+          (commit_opens _ _ c.execute-2.ensures.survives.clean c.in_ok-execute-2.field-0 done);
       taken = λ clean. has_taken _ _ _ begun renews _ version _ fills _ c.in_ok-execute-2.field-0 (clean3 clean) (done clean);
       means = λ m k clean ours mean. let at = fills.clean (clean3 clean) in
           rests_committed _ _ c.in_ok-execute-2.field-0 (done clean) m k

@@ -15,8 +15,10 @@ returns g c = record {
       let new = state g.S.Store c.show.new.self.conn in
       let t = c.args.t in
       let means_now = means (c.in_ok-rows.ensures.leaves.served s) in
-      let it = waiting.waiting_found t old new m k means_now c.in_ok-rows.rows.items (subst (λ p. Shown SELECT_WAITING.now p old new c.in_ok-rows.rows.items) (search rules) (c.in_ok-rows.ensures.found s.clean)) in
-      or_weaker c.jobs_in.result _ _ (λ found is. (it.0, is, it.2)) (c.jobs_in.ensures.found it.0 (search rules) (waiting.all_waiting t m it.0 it.2 means_now.lawful.jobs));
+      let it = waiting.waiting_found t old new m k means_now c.in_ok-rows.rows.items
+      (subst (λ p. Shown SELECT_WAITING.now p old new c.in_ok-rows.rows.items) (search rules) (c.in_ok-rows.ensures.found s.clean)) in
+      or_weaker c.jobs_in.result _ _ (λ found is. (it.0, is, it.2))
+      (c.jobs_in.ensures.found it.0 (search rules) (waiting.all_waiting t m it.0 it.2 means_now.lawful.jobs));
 }
 
 pub show-requires : goal.show-requires

@@ -22,12 +22,15 @@ returns g c = record {
       let floor = c.args.floor in
       let gone = edits_with g.S.Store _ _ _ DELETE_FLOOR.now _ (params client) (search rules) c.in_ok-run.ensures in
       let set = edits_with g.S.Store _ _ _ INSERT_FLOOR.now _ (floor_params client floor) (search rules) c.run-2.ensures in
-      let first = writes_by g.S.Store _ _ _ DELETE_FLOOR.now (params client) 11 (λ m. m) (λ k. record k { floor = floors_with client 0 k.floor }) gone (λ m k means has. floor_gone client _ _ m k means has) in
-      step_by _ _ INSERT_FLOOR.now (floor_params client floor) 11 c.run-2.result m₀ m m k₀ (record k { floor = floors_with client 0 k.floor }) _ set.leaves.served (λ _. first.written m₀ m k₀ k works (set.leaves.served s)) s
+      let first = writes_by g.S.Store _ _ _ DELETE_FLOOR.now (params client) 11 (λ m. m) (λ k. record k { floor = floors_with client 0 k.floor }) gone
+      (λ m k means has. floor_gone client _ _ m k means has) in
+      step_by _ _ INSERT_FLOOR.now (floor_params client floor) 11 c.run-2.result m₀ m m k₀ (record k { floor = floors_with client 0 k.floor }) _
+      set.leaves.served (λ _. first.written m₀ m k₀ k works (set.leaves.served s)) s
       (set.ran s.clean) (set.left s.clean) set.cause (λ means has. floor_set client floor _ _ m k means name c.requires.0 c.requires.1 has);
   cause = search rules;
 }
 
 pub returns-in_err-run : goal.returns-in_err-run
 returns-in_err-run g c =
-    writes_where_refused g.S.Store _ _ c.from_residual.result c.in_err-run.field-0.0 c.from_residual.ensures.1 c.in_err-run.ensures.leaves _ _ _ c.in_err-run.ensures.cause
+    writes_where_refused g.S.Store _ _ c.from_residual.result c.in_err-run.field-0.0 c.from_residual.ensures.1 c.in_err-run.ensures.leaves _ _ _
+    c.in_err-run.ensures.cause

@@ -14,7 +14,8 @@ returns-clause-written g c m₀ m k₀ k report works s =
     let grant = c.args.grant.now in
     let few : grant.confirmed ≤ 9999 = search rules in
     let edits = edits_with g.S.Store _ _ _ UPDATE_REPORT.now _ (report_params grant) (search rules) c.run.ensures in
-    let writes = writes_where_by g.S.Store _ _ _ UPDATE_REPORT.now (report_params grant) 1 (with_grant grant) (λ k. k) (IsReport grant) edits (λ m k report means has. grant_reported grant _ _ m k means report few has) in
+    let writes = writes_where_by g.S.Store _ _ _ UPDATE_REPORT.now (report_params grant) 1 (with_grant grant) (λ k. k) (IsReport grant) edits
+    (λ m k report means has. grant_reported grant _ _ m k means report few has) in
     moves_of _ c.run.result m₀ (with_grant grant m) k₀ k (writes.written m₀ m k₀ k report works s)
 
 pub returns-clause-cause : goal.returns-clause-cause
