@@ -67,6 +67,11 @@ pub record HasBegun (Ours : Schema → Type 0) (old new : State) : Type 0 where
   pub survives : Survives old new (CommitsBy BEGIN.now [] old)
   pub began : HasCleanDisk new → Executes BEGIN.now [] old new (Ok count)
 
+-- as a begin without an error leaves it
+pub has_begun : {Ours : Schema → Type 0} {old new : State} (k : ℕ) → Ours old.now.schema → Survives old new (CommitsBy BEGIN.now [] old)
+    → (HasCleanDisk new → Executes BEGIN.now [] old new (Ok k)) → HasBegun Ours old new
+has_begun k ours survives began = record { ours = ours; count = k; survives = survives; began = began }
+
 module _ {Ours : Schema → Type 0} {s0 s1 : State} (begun : HasBegun Ours s0 s1) (clean : HasCleanDisk s1) where
   shown : Shows s0 s1 s0.now s0.committed true
   shown = (begins s0 s1 begun.count (begun.began clean)).1

@@ -1,7 +1,7 @@
 -- What the texts on calls read and write.
 use Rattle.std.proofs.Common.{◌≡◌, ◌≢◌, ◌⊎◌, inl, inr, ◌≤◌, ℕ, pos, List, [], ◌∷◌, ◌++◌, map, filter, drop, Bool, true, not, ◌&&◌, Option, Some, None, MatchOption, IsTrue, refl, sym, ap, subst, ◌∙◌, arith}
 use Rattle.sqlite_trees.specs.Tree.{Trees}
-use Rattle.fax_store.proofs.FoundLemmas.{none_passes, row_passes}
+use Rattle.fax_store.proofs.FoundLemmas.{none_passes, row_passes, with_id}
 use Rattle.std.proofs.lemmas.List.Elements.{filter_agree}
 use Rattle.std.proofs.Math.Bool.{and-true}
 use Rattle.std.specs.Str.{bytes_eq}
@@ -115,8 +115,7 @@ module _ (dial : List ℕ) where
 
   -- a row of `calls` is shown as its count
   shown_as : (r : Row) (d : List ℕ) (n : ℕ) → drop 1 r ≡ call_columns d n → show calls_tree call_tests call_project params r ≡ number n ∷ []
-  shown_as [] d n is = absurd cc
-  shown_as (i ∷ r) d n is = ap (λ rest. show calls_tree call_tests call_project params (i ∷ rest)) is
+  shown_as r d n is = ap (show calls_tree call_tests call_project params) (with_id r _ _ is)
 
   -- what is found in such a table is the count, or nothing where that is 0
   pub counted_found : (tree : ℕ) (sql : List ℕ) (names : List (List ℕ)) → Selects sql tree call_tests call_project names → ((trees : Trees) → overlay trees [] tree ≡ trees tree) → (old new : State) (count : List ℕ → ℕ) → old.now.schema ≡ our_tables

@@ -1,5 +1,5 @@
 -- What a look-up tells of the rows, whatever they say: a row is found and read, or none is.
-use Rattle.std.proofs.Common.{◌≡◌, ℕ, List, [], ◌∷◌, map, filter, true, false, ◌&&◌, Some, None, length, suc, take, sym, ap, subst, ◌∙◌, Ok, Err, Option, Result, IfOk, IfSome, IsErrAnd, refl}
+use Rattle.std.proofs.Common.{◌≡◌, ℕ, List, [], ◌∷◌, map, filter, true, false, ◌&&◌, Some, None, length, suc, take, sym, ap, subst, ◌∙◌, Ok, Err, Option, Result, IfOk, IfSome, IsErrAnd, refl, drop}
 use Rattle.std.specs.List.Sorted.{IsPermutation}
 use Rattle.std.proofs.lemmas.Bool.{and_parts, both_ways}
 use Rattle.sqlite.specs.Effect.{Database}
@@ -30,6 +30,11 @@ use Rattle.fax_tables.specs.declared.fault.StoreFault.{StoreFault}
 use Rattle.fax_tables.specs.declared.fault.StoreFault.TheVariants.{Unavailable}
 use Rattle.fax_tables.proofs.KeyLemmas.{is_none, is_there}
 use Rattle.fax_store.proofs.FrameLemmas.{finds_as}
+
+-- a row is its rowid and the columns behind it
+pub with_id : (r : Row) (v : Value) (columns : Row) → drop 1 r ≡ v ∷ columns → r ≡ column r 0 ∷ v ∷ columns
+with_id [] v columns is = absurd cc
+with_id (id ∷ rest) v columns is = ap (λ r. id ∷ r) is
 
 module _ (sql : List ℕ) (tree : ℕ) (tests project : List Term) (names : List (List ℕ)) (selects : Selects sql tree tests project names) (plain : (trees : Trees) → overlay trees [] tree ≡ trees tree)
     (params : Row) (old new : State) (db : Database) (ours : db.schema ≡ our_tables) (now : old.now ≡ db) where

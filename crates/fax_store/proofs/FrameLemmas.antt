@@ -158,9 +158,9 @@ module _ {S : Type 0} (g : Ghosts S) where
   writes_if_any old new result Fit f h writes = record { leaves = writes.leaves; written = λ m₀ m k₀ k. writes.written m₀ m k₀ k tt; cause = writes.cause }
 
   -- a reading within a work tells of what the work means, and the work goes on
-  pub reads_on : (old new : Store S) {A : Type 0} (x : A) (P : Queue → Ledger → A → Type 0) → Finds g old new (Ok x) → Answers g old new (Ok x) P
-      → (m₀ m : Queue) (k₀ k : Ledger) → Works (shown g old) false m₀ k₀ m k → Serves (shown g new) → P m k x × IsUnderWay (shown g new) false m₀ k₀ m k
-  reads_on old new x P finds answers = goes_on (shown g old) (shown g new) finds.served (Ok x) finds.reads P answers
+  pub reads_on : (old new : Store S) {A : Type 0} (x : A) {P : Queue → Ledger → Type 0} → Finds g old new (Ok x) → Answers g old new (Ok x) (λ m k _. P m k)
+      → (m₀ m : Queue) (k₀ k : Ledger) → Works (shown g old) false m₀ k₀ m k → Serves (shown g new) → P m k × IsUnderWay (shown g new) false m₀ k₀ m k
+  reads_on old new x {P} finds answers = goes_on (shown g old) (shown g new) finds.served (Ok x) finds.reads (λ m k _. P m k) answers
 
   -- a statement that edits rows of one table makes of what the tables mean what it does to the rows
   module _ (old new : Store S) (result : Result (Unit {0}) StoreFault) (sql : List ℕ) (params : Row) (tree : ℕ) (f : Queue → Queue) (h : Ledger → Ledger) where

@@ -21,7 +21,7 @@ use Rattle.fax_store.specs.declared.store.Store.{Store}
 use Rattle.fax_tables.specs.Tables.{IsLawfulGrant, TablesMean, HaveJobs}
 use Rattle.fax_schema.proofs.CompareLemmas.{number_same, are_equal, equal_texts, is_number, same_row, cast_int, cast_null, compared}
 use Rattle.fax_schema.proofs.GrantTexts.{grant_names, grant_tests, grant_project, select_grant, grant_terms, report_project, shut_project, held_tests, hold_terms, insert_grant, insert_hold, update_report, shut_grant, delete_hold, hold_tests, hold_project, select_hold}
-use Rattle.fax_store.proofs.FoundLemmas.{none_keyed, one_numbered, Keys, key_of, one_passes, none_passes, row_passes}
+use Rattle.fax_store.proofs.FoundLemmas.{none_keyed, one_numbered, Keys, key_of, one_passes, none_passes, row_passes, with_id}
 use Rattle.fax_tables.proofs.KeyLemmas.{found_holds, numbered_found, only_numbered, asked_is, not_asked, row_placed, all_placed, placed_permuted, free_of}
 use Rattle.fax_schema.proofs.SelectLemmas.{passes, show, answers}
 use Rattle.std.proofs.lemmas.Option.{same_Some}
@@ -178,18 +178,15 @@ module _ (g : Grant) where
     -- the row of a hold agrees with the new one where modem, job or grant is the same
     modem_agrees : (r : Row) (h : Grant) (id : ℤ) → drop 1 r ≡ hold_columns h → agree plain (1 ∷ []) r (1 ∷ []) (Int id ∷ hold_columns g) ≡ bytes_eq h.modem g.modem
     unfolding first_key
-    modem_agrees [] h id is = absurd cc
-    modem_agrees (i ∷ columns) h id is = ap (λ rest. agree plain (1 ∷ []) (i ∷ rest) (1 ∷ []) (Int id ∷ hold_columns g)) is ∙ and-true (are_equal (Text h.modem) (Text g.modem)) ∙ equal_texts h.modem g.modem
+    modem_agrees r h id is = ap (λ r. agree plain (1 ∷ []) r (1 ∷ []) (Int id ∷ hold_columns g)) (with_id r _ _ is) ∙ and-true (are_equal (Text h.modem) (Text g.modem)) ∙ equal_texts h.modem g.modem
 
     job_agrees : (r : Row) (h : Grant) (id : ℤ) → drop 1 r ≡ hold_columns h → agree plain (2 ∷ []) r (2 ∷ []) (Int id ∷ hold_columns g) ≡ (h.job == g.job)
     unfolding first_key
-    job_agrees [] h id is = absurd cc
-    job_agrees (i ∷ columns) h id is = ap (λ rest. agree plain (2 ∷ []) (i ∷ rest) (2 ∷ []) (Int id ∷ hold_columns g)) is ∙ and-true (are_equal (number h.job) (number g.job)) ∙ is_number h.job g.job
+    job_agrees r h id is = ap (λ r. agree plain (2 ∷ []) r (2 ∷ []) (Int id ∷ hold_columns g)) (with_id r _ _ is) ∙ and-true (are_equal (number h.job) (number g.job)) ∙ is_number h.job g.job
 
     number_agrees : (r : Row) (h : Grant) (id : ℤ) → drop 1 r ≡ hold_columns h → agree plain (3 ∷ []) r (3 ∷ []) (Int id ∷ hold_columns g) ≡ (h.number == g.number)
     unfolding first_key
-    number_agrees [] h id is = absurd cc
-    number_agrees (i ∷ columns) h id is = ap (λ rest. agree plain (3 ∷ []) (i ∷ rest) (3 ∷ []) (Int id ∷ hold_columns g)) is ∙ and-true (are_equal (number h.number) (number g.number)) ∙ is_number h.number g.number
+    number_agrees r h id is = ap (λ r. agree plain (3 ∷ []) r (3 ∷ []) (Int id ∷ hold_columns g)) (with_id r _ _ is) ∙ and-true (are_equal (number h.number) (number g.number)) ∙ is_number h.number g.number
 
     -- a hold of a modem and a job that hold none breaks no rule
     pub hold_goes : IsNewGrant g m → (e : Error) → Executes INSERT_HOLD.now hold_params old mid (Err e) → fault_of e ≡ Unavailable
@@ -457,11 +454,6 @@ module _ (db : Database) (has : db.schema ≡ our_tables) (sound : IsDatabase db
 
 -- ---- the hold of a modem
 
--- the second column is the first behind the rowid
-second : (r : Row) → column r 1 ≡ column (drop 1 r) 0
-second [] = refl
-second (v ∷ r) = refl
-
 -- ---- what is equal to a text
 
 -- NULL isn't
@@ -487,17 +479,15 @@ module _ (modem : List ℕ) where
 
   -- the row that passes is that of the grant which the modem holds
   is_asked : (project : List Term) (r : Row) (g : Grant) → drop 1 r ≡ hold_columns g → passes holds_tree hold_tests project modem_params r ≡ bytes_eq g.modem modem
-  is_asked project [] g is = absurd cc
-  is_asked project (i ∷ columns) g is = ap (λ rest. passes holds_tree hold_tests project modem_params (i ∷ rest)) is ∙ and-true (are_equal (Text g.modem) (Text modem)) ∙ equal_texts g.modem modem
+  is_asked project r g is = ap (passes holds_tree hold_tests project modem_params) (with_id r _ _ is) ∙ and-true (are_equal (Text g.modem) (Text modem)) ∙ equal_texts g.modem modem
 
   -- the row of a hold is shown as its grant and job
   shown_as : (r : Row) (g : Grant) → drop 1 r ≡ hold_columns g → show holds_tree hold_tests hold_project modem_params r ≡ hold_shown g
-  shown_as [] g is = absurd cc
-  shown_as (i ∷ columns) g is = ap (λ rest. show holds_tree hold_tests hold_project modem_params (i ∷ rest)) is
+  shown_as r g is = ap (show holds_tree hold_tests hold_project modem_params) (with_id r _ _ is)
 
   -- the row of a grant of this modem names it
   modem_of : (r : Row) (g : Grant) → drop 1 r ≡ hold_columns g → bytes_eq g.modem modem ≡ true → column r 1 ≡ Text modem
-  modem_of r g is same = second r ∙ ap (λ columns. column columns 0) is ∙ ap Text ((bytes_eq-Decides g.modem modem).0 same)
+  modem_of r g is same = ap (λ r. column r 1) (with_id r _ _ is) ∙ ap Text ((bytes_eq-Decides g.modem modem).0 same)
 
   module _ (old new : State) (m : Queue) (k : Ledger) (means : TablesMean old.now m k) where
     -- what the text on holds finds is the grant and job that the modem holds, or nothing

@@ -49,7 +49,7 @@ use Rattle.fax_tables.specs.Fault.{fault_of}
 use Rattle.fax_tables.specs.declared.fault.StoreFault.TheVariants.{Unavailable}
 use Rattle.sqlite.specs.declared.error.Error.{Error}
 use Rattle.fax_schema.proofs.SelectLemmas.{passes, show}
-use Rattle.fax_store.proofs.FoundLemmas.{none_passes, row_passes}
+use Rattle.fax_store.proofs.FoundLemmas.{none_passes, row_passes, with_id}
 use Rattle.fax_schema.proofs.StatementTexts.{reply_tests, reply_project, reply_terms, select_reply, insert_reply}
 use Rattle.fax_schema.proofs.WriteLemmas.{KeepsOthers, InsertsRow, unreferred, inserts}
 use Rattle.fax_tables.proofs.TablesLemmas.{replies, parts_of, means_of, calls_of, replies_changed, one_more}
@@ -101,24 +101,16 @@ module _ (db : Database) (has : db.schema ≡ our_tables) (sound : IsDatabase db
 
 -- ---- so it has one entry
 
--- the row of an entry has its client
-client_in : (r : Row) (e : Entry) → drop 1 r ≡ entry_columns e → column r 1 ≡ Text e.client
-client_in [] e h = absurd cc
-client_in (v ∷ r) e h = ap (λ columns. column columns 0) h
-
--- and its number
-number_in : (r : Row) (e : Entry) → drop 1 r ≡ entry_columns e → column r 2 ≡ number e.number
-number_in [] e h = absurd cc
-number_in (v ∷ r) e h = ap (λ columns. column columns 1) h
-
 -- tables that mean kept replies keep each number of a client once
 pub tables_keep_once : TablesKeepOnce
 tables_keep_once db m k means client n e f has_e has_f of_e of_f =
     let r = row_of entry_columns (db.trees replies_tree) k.replies (IsPermutation-same _ _ (sym means.replies)) e has_e in
     let s = row_of entry_columns (db.trees replies_tree) k.replies (IsPermutation-same _ _ (sym means.replies)) f has_f in
+    let of_r = with_id r.0 _ _ r.2 in
+    let of_s = with_id s.0 _ _ s.2 in
     let same = one_of_key db means.schema means.sound means.ordered.replies client n r.0 s.0 r.1 s.1
-    (client_in r.0 e r.2 ∙ ap Text of_e.client_is) (client_in s.0 f s.2 ∙ ap Text of_f.client_is)
-    (number_in r.0 e r.2 ∙ ap number of_e.number_is) (number_in s.0 f s.2 ∙ ap number of_f.number_is) in
+    (ap (λ r. column r 1) of_r ∙ ap Text of_e.client_is) (ap (λ r. column r 1) of_s ∙ ap Text of_f.client_is)
+    (ap (λ r. column r 2) of_r ∙ ap number of_e.number_is) (ap (λ r. column r 2) of_s ∙ ap number of_f.number_is) in
     one_entry e f (sym r.2 ∙ ap (drop 1) (sym same) ∙ s.2)
 
 -- ---- and a look-up finds it
@@ -168,13 +160,13 @@ module _ (client : List ℕ) (n : ℕ) where
 
   -- a row that passes is that of the entry asked for, and shows it
   shows_entry : (r : Row) (e : Entry) → drop 1 r ≡ entry_columns e → is_asked r ≡ true → IsOf client n e × (show replies_tree reply_tests reply_project params r ≡ entry_shown e)
-  shows_entry [] e h p = absurd cc
-  shows_entry (x ∷ rest) e h p =
-      let q : (are_equal (Text e.client) (Text client) && (are_equal (number e.number) (number n) && true)) ≡ true = subst (λ cols. is_asked (x ∷ cols) ≡ true) h p in
+  shows_entry r e h p =
+      let is = with_id r _ _ h in
+      let q : (are_equal (Text e.client) (Text client) && (are_equal (number e.number) (number n) && true)) ≡ true = sym (ap is_asked is) ∙ p in
       let both = and_parts _ _ q in
       let more = and_parts _ _ both.1 in (
         record { client_is = (bytes_eq-Decides e.client client).0 (sym (equal_texts e.client client) ∙ both.0); number_is = same_number e.number n more.0 },
-        ap (λ cols. show replies_tree reply_tests reply_project params (x ∷ cols)) h,
+        ap (show replies_tree reply_tests reply_project params) is,
       )
 
   -- a row of the client and the number passes, whatever stands beside them
@@ -186,9 +178,8 @@ module _ (client : List ℕ) (n : ℕ) where
 
   -- so does that of the entry
   asked_for : (r : Row) (e : Entry) → drop 1 r ≡ entry_columns e → IsOf client n e → is_asked r ≡ true
-  asked_for [] e h of = absurd cc
-  asked_for (x ∷ rest) e h of = subst (λ cols. is_asked (x ∷ cols) ≡ true) (sym h)
-      (rw (of.client_is, of.number_is) (key_passes x (Blob e.said) (number e.status) (Blob e.body)))
+  asked_for r e h of = ap is_asked (with_id r _ _ h)
+      ∙ rw (of.client_is, of.number_is) (key_passes (column r 0) (Blob e.said) (number e.status) (Blob e.body))
 
   module _ (old new : State) (m : Queue) (k : Ledger) (means : TablesMean old.now m k) where
     -- what the text on a reply finds is an entry of the client and number; where it finds nothing, there is none
@@ -241,10 +232,9 @@ module _ (old new : State) (m : Queue) (k : Ledger) (means : TablesMean old.now 
   -- the row of an entry agrees with the new one where it is of the same number of the same client
   agrees : (r : Row) (other : Entry) (id : ℤ) → drop 1 r ≡ entry_columns other → agree plain (1 ∷ 2 ∷ []) r (1 ∷ 2 ∷ []) (Int id ∷ entry_columns e) ≡ true → IsOf e.client e.number other
   unfolding first_key
-  agrees [] other id is on = absurd cc
-  agrees (x ∷ rest) other id is on =
+  agrees r other id is on =
       let q : (are_equal (Text other.client) (Text e.client) && (are_equal (number other.number) (number e.number) && true)) ≡ true =
-      subst (λ cols. agree plain (1 ∷ 2 ∷ []) (x ∷ cols) (1 ∷ 2 ∷ []) (Int id ∷ entry_columns e) ≡ true) is on in
+      sym (ap (λ r. agree plain (1 ∷ 2 ∷ []) r (1 ∷ 2 ∷ []) (Int id ∷ entry_columns e)) (with_id r _ _ is)) ∙ on in
       let both = and_parts _ _ q in
       let more = and_parts _ _ both.1 in
       record { client_is = (bytes_eq-Decides other.client e.client).0 (sym (equal_texts other.client e.client) ∙ both.0); number_is = same_number other.number e.number more.0 }

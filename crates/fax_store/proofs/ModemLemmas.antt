@@ -1,6 +1,6 @@
 -- What the texts on the modems that are down read and write.
 use Rattle.std.proofs.Common.{◌≡◌, ℕ, ℤ, List, [], ◌∷◌, ◌++◌, if◌then◌else◌, map, filter, drop, true, false, not, Option, Some, None, Err, is_some, refl, sym, ap, subst, ◌∙◌}
-use Rattle.fax_store.proofs.FoundLemmas.{none_passes, row_passes}
+use Rattle.fax_store.proofs.FoundLemmas.{none_passes, row_passes, with_id}
 use Rattle.fax_store.proofs.CountLemmas.{turned}
 use Rattle.std.proofs.Math.Bool.{and-true}
 use Rattle.std.specs.Str.{bytes_eq}
@@ -47,8 +47,7 @@ module _ (modem : List ℕ) where
 
   -- the rows that pass are those of the modem
   is_asked : (project : List _) (r : Row) (name : List ℕ) → drop 1 r ≡ down_columns name → passes down_tree down_tests project params r ≡ bytes_eq modem name
-  is_asked project [] name is = absurd cc
-  is_asked project (i ∷ columns) name is = ap (λ rest. passes down_tree down_tests project params (i ∷ rest)) is ∙ and-true (are_equal (Text name) (Text modem)) ∙ equal_texts name modem ∙ turned name modem
+  is_asked project r name is = ap (passes down_tree down_tests project params) (with_id r _ _ is) ∙ and-true (are_equal (Text name) (Text modem)) ∙ equal_texts name modem ∙ turned name modem
 
   module _ (old new : State) (m : Queue) (k : Ledger) (means : TablesMean old.now m k) where
     -- the rows of the modems that are down are theirs, in any order
@@ -96,8 +95,7 @@ module _ (modem : List ℕ) where
     -- the row of a mark agrees with the new one where it is of the same modem
     agrees : (r : Row) (name : List ℕ) (id : ℤ) → drop 1 r ≡ down_columns name → agree plain (1 ∷ []) r (1 ∷ []) (Int id ∷ down_columns modem) ≡ bytes_eq name modem
     unfolding first_key
-    agrees [] name id is = absurd cc
-    agrees (i ∷ columns) name id is = ap (λ rest. agree plain (1 ∷ []) (i ∷ rest) (1 ∷ []) (Int id ∷ down_columns modem)) is ∙ and-true (are_equal (Text name) (Text modem)) ∙ equal_texts name modem
+    agrees r name id is = ap (λ r. agree plain (1 ∷ []) r (1 ∷ []) (Int id ∷ down_columns modem)) (with_id r _ _ is) ∙ and-true (are_equal (Text name) (Text modem)) ∙ equal_texts name modem
 
     -- a mark that is new breaks no rule
     pub mark_goes : is_down modem m ≡ false → (e : Error) → Executes INSERT_DOWN.now params old new (Err e) → fault_of e ≡ Unavailable

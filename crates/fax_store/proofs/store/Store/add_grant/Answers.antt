@@ -21,7 +21,7 @@ returns g c =
     let meta = c.in_ok-meta.meta in
     let at_put = c.write_meta.ensures.leaves.served s in
     let at_read = c.insert_grant.ensures.leaves.served at_put in
-    let first = reads_on g.S.Store _ _ meta (λ m k meta. meta ≡ meta_of m) c.in_ok-meta.ensures.leaves c.in_ok-meta.ensures.answers m₀ m k₀ k works at_read in
+    let first = reads_on g.S.Store _ _ meta c.in_ok-meta.ensures.leaves c.in_ok-meta.ensures.answers m₀ m k₀ k works at_read in
     let fit : IsOpenGrant grant = search rules in
     let second = c.in_ok-insert_grant.ensures.written m₀ m k₀ k fit (λ _. first.1) at_put in
     let was = (first.1.goes_on refl).means.lawful.meta in
@@ -41,6 +41,5 @@ returns-in_err-insert_grant g c =
     writes_if_refused g.S.Store _ _ result fault told (runs_then g.S.Store _ _ _ _ _ (runs_of g.S.Store _ _ _ c.in_ok-meta.ensures.leaves)
     c.in_err-insert_grant.ensures.leaves) _ _ _
     (λ m₀ m k₀ k works s fits.
-    let first = reads_on g.S.Store _ _ _ (λ m k meta. meta ≡ meta_of m) c.in_ok-meta.ensures.leaves c.in_ok-meta.ensures.answers m₀ m k₀ k works
-    (c.insert_grant.ensures.leaves.served s) in
+    let first = reads_on g.S.Store _ _ _ c.in_ok-meta.ensures.leaves c.in_ok-meta.ensures.answers m₀ m k₀ k works (c.insert_grant.ensures.leaves.served s) in
     refused_as result fault told (c.in_err-insert_grant.ensures.cause m₀ m k₀ k (λ _. first.1) s (fits.0, fits.1, fits.2)))

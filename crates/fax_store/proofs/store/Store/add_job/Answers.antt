@@ -11,7 +11,7 @@ use Rattle.fax_store.proofs.store.Store.add_job.Goals as goal
 
 pub returns : goal.returns
 returns g c =
-    let reads = reads_on g.S.Store _ _ c.in_ok-meta.meta (λ m k meta. meta ≡ meta_of m) c.in_ok-meta.ensures.leaves c.in_ok-meta.ensures.answers in
+    let reads = reads_on g.S.Store _ _ c.in_ok-meta.meta c.in_ok-meta.ensures.leaves c.in_ok-meta.ensures.answers in
     record {
       leaves = runs_then g.S.Store _ _ _ _ _ (runs_of g.S.Store _ _ _ c.in_ok-meta.ensures.leaves) c.add_next_job.ensures.leaves;
       written = λ m₀ m k₀ k works s. let first = reads m₀ m k₀ k works (c.add_next_job.ensures.leaves.served s) in

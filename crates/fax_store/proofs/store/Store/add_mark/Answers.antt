@@ -13,8 +13,7 @@ pub returns-then-branch : goal.returns-then-branch
 returns-then-branch g c = record {
   leaves = search rules;
   written = λ m₀ m k₀ k works s. let modem = c.args.modem.now in
-      let first = reads_on g.S.Store _ _ _ (λ m k down. down ≡ is_down modem m) c.in_ok-is_down.ensures.leaves c.in_ok-is_down.ensures.answers m₀ m k₀ k works
-      s in
+      let first = reads_on g.S.Store _ _ _ c.in_ok-is_down.ensures.leaves c.in_ok-is_down.ensures.answers m₀ m k₀ k works s in
       rw (modems.marked_already modem m (sym first.0 ∙ c.if-branch.true)) first.1;
   cause = search rules;
 }
@@ -23,7 +22,7 @@ pub returns : goal.returns
 returns g c =
     let modem = c.args.modem.now in
     let lawful : IsName modem = search rules in
-    let reads = reads_on g.S.Store _ _ _ (λ m k down. down ≡ is_down modem m) c.in_ok-is_down.ensures.leaves c.in_ok-is_down.ensures.answers in
+    let reads = reads_on g.S.Store _ _ _ c.in_ok-is_down.ensures.leaves c.in_ok-is_down.ensures.answers in
     let inserts = inserts_with g.S.Store _ _ _ INSERT_DOWN.now _ (modems.params modem) (search rules) c.insert.ensures in
     record {
       leaves = runs_then g.S.Store _ _ _ _ _ (runs_of g.S.Store _ _ _ c.in_ok-is_down.ensures.leaves) c.insert.ensures.leaves;

@@ -3,7 +3,7 @@ use Rattle.sqlite.specs.Held.{state}
 use Rattle.fax_schema.specs.Schema.{no_tables}
 use Rattle.fax_tables.proofs.CreateLemmas.{refused_keeps}
 use Rattle.fax_store.specs.declared.store.TheConstants.{BEGIN}
-use Rattle.fax_store.proofs.AdoptLemmas.{HasBegun, commit_kept_before, creation_kept, founds_refused, settles_done, settles_refused, starts, tables_hold_back, tables_made, tables_stop}
+use Rattle.fax_store.proofs.AdoptLemmas.{HasBegun, commit_kept_before, creation_kept, founds_refused, settles_done, settles_refused, starts, tables_hold_back, tables_made, tables_stop, has_begun}
 use Rattle.fax_store.proofs.StoreLemmas.{clean_in, cleaner, commit_opens}
 use Rattle.fax_store.proofs.StopLemmas.{begin_nothing}
 use Rattle.fax_store.proofs.store.Store.make_tables.Goals as goal
@@ -15,12 +15,7 @@ returns-in_err-execute g c =
 
 pub returns-in_err-create_tables : goal.returns-in_err-create_tables
 returns-in_err-create_tables g c =
-    let begun : HasBegun (λ schema. schema ≡ no_tables) _ _ = record {
-      ours = c.requires;
-      count = c.in_ok-execute.field-0;
-      survives = c.execute.ensures.survives;
-      began = c.in_ok-execute.ensures.runs;
-    } in
+    let begun : HasBegun (λ schema. schema ≡ no_tables) _ _ = has_begun c.in_ok-execute.field-0 c.requires c.execute.ensures.survives c.in_ok-execute.ensures.runs in
     let s2 = state g.S.Store c.create_tables.new.conn in
     let clean1 = cleaner (state g.S.Store c.execute.new.self) s2 c.create_tables.ensures.doubt in
     founds_refused _ _ c.from_residual-in_err-create_tables.result c.from_residual-in_err-create_tables.ensures.0
@@ -29,12 +24,7 @@ returns-in_err-create_tables g c =
 
 pub returns-in_err-execute-2 : goal.returns-in_err-execute-2
 returns-in_err-execute-2 g c =
-    let begun : HasBegun (λ schema. schema ≡ no_tables) _ _ = record {
-      ours = c.requires;
-      count = c.in_ok-execute.field-0;
-      survives = c.execute.ensures.survives;
-      began = c.in_ok-execute.ensures.runs;
-    } in
+    let begun : HasBegun (λ schema. schema ≡ no_tables) _ _ = has_begun c.in_ok-execute.field-0 c.requires c.execute.ensures.survives c.in_ok-execute.ensures.runs in
     let s2 = state g.S.Store c.create_tables.new.conn in
     let clean2 = clean_in c.execute-2.ensures.survives in
     let clean1 = cleaner (state g.S.Store c.execute.new.self) s2 c.create_tables.ensures.doubt in
@@ -49,12 +39,7 @@ returns-in_err-execute-2 g c =
 
 pub returns : goal.returns
 returns g c =
-    let begun : HasBegun (λ schema. schema ≡ no_tables) _ _ = record {
-      ours = c.requires;
-      count = c.in_ok-execute.field-0;
-      survives = c.execute.ensures.survives;
-      began = c.in_ok-execute.ensures.runs;
-    } in
+    let begun : HasBegun (λ schema. schema ≡ no_tables) _ _ = has_begun c.in_ok-execute.field-0 c.requires c.execute.ensures.survives c.in_ok-execute.ensures.runs in
     let s2 = state g.S.Store c.create_tables.new.conn in
     let done = c.in_ok-execute-2.ensures.runs in
     let clean2 = clean_in c.execute-2.ensures.survives in

@@ -5,7 +5,7 @@ use Rattle.sqlite.specs.State.{HasCleanDisk}
 use Rattle.fax_tables.proofs.CreateLemmas.{refused_keeps}
 use Rattle.fax_schema.specs.Schema.{AreOurs}
 use Rattle.fax_store.specs.declared.store.TheConstants.{BEGIN}
-use Rattle.fax_store.proofs.AdoptLemmas.{HasBegun, filling_holds_back, filling_kept, has_none, has_taken, not_taken, renewing_holds_back, renewing_kept, rests_committed, settles_done, settles_refused, starts, still_callable, still_means, still_version, takes_refused, taking_stops, told_strange}
+use Rattle.fax_store.proofs.AdoptLemmas.{HasBegun, filling_holds_back, filling_kept, has_none, has_taken, not_taken, renewing_holds_back, renewing_kept, rests_committed, settles_done, settles_refused, starts, still_callable, still_means, still_version, takes_refused, taking_stops, told_strange, has_begun}
 use Rattle.fax_store.proofs.StoreLemmas.{clean_in, commit_opens}
 use Rattle.fax_store.proofs.StopLemmas.{begin_nothing}
 use Rattle.fax_store.proofs.store.Store.take_ours.Goals as goal
@@ -17,12 +17,7 @@ returns-in_err-execute g c =
 
 pub returns-in_err-renew : goal.returns-in_err-renew
 returns-in_err-renew g c =
-    let begun : HasBegun AreOurs _ _ = record {
-      ours = c.requires;
-      count = c.in_ok-execute.field-0;
-      survives = c.execute.ensures.survives;
-      began = c.in_ok-execute.ensures.runs;
-    } in
+    let begun : HasBegun AreOurs _ _ = has_begun c.in_ok-execute.field-0 c.requires c.execute.ensures.survives c.in_ok-execute.ensures.runs in
     let renews = c.in_err-renew.ensures.leaves in
     takes_refused _ _ _ _ _ c.from_residual-in_err-renew.result c.from_residual-in_err-renew.ensures.0 (λ clean. clean_in begun.survives (renews.clean clean))
     (renewing_kept _ _ _ begun _ renews)
@@ -31,12 +26,7 @@ returns-in_err-renew g c =
 pub returns-in_err-fill : goal.returns-in_err-fill
 returns-in_err-fill g c =
     let version : c.version_in-version.result ≡ version_of (state g.S.Store c.args.self.now.conn).now.schema = search rules in
-    let begun : HasBegun AreOurs _ _ = record {
-      ours = c.requires;
-      count = c.in_ok-execute.field-0;
-      survives = c.execute.ensures.survives;
-      began = c.in_ok-execute.ensures.runs;
-    } in
+    let begun : HasBegun AreOurs _ _ = has_begun c.in_ok-execute.field-0 c.requires c.execute.ensures.survives c.in_ok-execute.ensures.runs in
     let renews = c.in_ok-renew.ensures.leaves in
     let fills = c.in_err-fill.ensures.leaves in
     let result = c.from_residual-in_err-fill.result in
@@ -51,12 +41,7 @@ returns-in_err-fill g c =
 pub returns-in_err-execute-2 : goal.returns-in_err-execute-2
 returns-in_err-execute-2 g c =
     let version : c.version_in-version.result ≡ version_of (state g.S.Store c.args.self.now.conn).now.schema = search rules in
-    let begun : HasBegun AreOurs _ _ = record {
-      ours = c.requires;
-      count = c.in_ok-execute.field-0;
-      survives = c.execute.ensures.survives;
-      began = c.in_ok-execute.ensures.runs;
-    } in
+    let begun : HasBegun AreOurs _ _ = has_begun c.in_ok-execute.field-0 c.requires c.execute.ensures.survives c.in_ok-execute.ensures.runs in
     let renews = c.in_ok-renew.ensures.leaves in
     let fills = c.in_ok-fill.ensures.leaves in
     let clean3 = clean_in c.execute-2.ensures.survives in
@@ -73,12 +58,7 @@ returns-in_err-execute-2 g c =
 pub returns : goal.returns
 returns g c =
     let version : c.version_in-version.result ≡ version_of (state g.S.Store c.args.self.now.conn).now.schema = search rules in
-    let begun : HasBegun AreOurs _ _ = record {
-      ours = c.requires;
-      count = c.in_ok-execute.field-0;
-      survives = c.execute.ensures.survives;
-      began = c.in_ok-execute.ensures.runs;
-    } in
+    let begun : HasBegun AreOurs _ _ = has_begun c.in_ok-execute.field-0 c.requires c.execute.ensures.survives c.in_ok-execute.ensures.runs in
     let renews = c.in_ok-renew.ensures.leaves in
     let fills = c.in_ok-fill.ensures.leaves in
     let done = c.in_ok-execute-2.ensures.runs in
