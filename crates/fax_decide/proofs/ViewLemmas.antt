@@ -23,7 +23,7 @@ use Rattle.fax_core.proofs.FitsLemmas.{job_again, record_again}
 use Rattle.fax_tables.specs.Job.{IsLawfulJob, brief}
 use Rattle.fax_text.specs.Listing.{Listed, heading, line_of, listing_of, number_of}
 use Rattle.fax_text.proofs.OrderLemmas.{numbered}
-use Rattle.fax_decide.specs.View.{viewed, view, with_state}
+use Rattle.fax_run.specs.View.{viewed, view, with_state}
 use Rattle.fax_decide.proofs.LinesLemmas.{aged_lined, lined, state_lined}
 use Rattle.fax_decide.proofs.CallLemmas.{state_aged}
 

@@ -1,8 +1,11 @@
 -- What the texts on calls read and write.
-use Rattle.std.proofs.Common.{◌≡◌, ◌≢◌, ◌⊎◌, inl, inr, ◌≤◌, ℕ, zero, suc, pos, List, [], ◌∷◌, ◌++◌, map, filter, drop, Bool, true, false, not, ◌&&◌, if◌then◌else◌, Option, Some, None, MatchOption, IsTrue, refl, sym, ap, ap₂, subst, ◌∙◌, arith}
+use Rattle.std.proofs.Common.{◌≡◌, ◌≢◌, ◌⊎◌, inl, inr, ◌≤◌, ℕ, pos, List, [], ◌∷◌, ◌++◌, map, filter, drop, Bool, true, not, ◌&&◌, Option, Some, None, MatchOption, IsTrue, refl, sym, ap, subst, ◌∙◌, arith}
+use Rattle.sqlite_trees.specs.Tree.{Trees}
+use Rattle.fax_store.proofs.FoundLemmas.{none_passes, row_passes, with_id}
+use Rattle.std.proofs.lemmas.List.Elements.{filter_agree}
+use Rattle.std.proofs.Math.Bool.{and-true}
 use Rattle.std.specs.Str.{bytes_eq}
-use Rattle.std.specs.List.Sorted.{IsPermutation}
-use Rattle.std.proofs.lemmas.Bool.{cases_Bool}
+use Rattle.std.proofs.lemmas.Bool.{both_ways, cond_both, false_from_ne_true, cases_eq}
 use Rattle.std.proofs.lemmas.Slice.Eq.{bytes_eq-Decides}
 use Rattle.sqlite.specs.Cast.{cast_row}
 use Rattle.sqlite.specs.Edit.{with_rowid, next_rowid}
@@ -11,14 +14,14 @@ use Rattle.sqlite.specs.Rowids.TheVariants.{Chosen}
 use Rattle.sqlite.specs.Effect.{Database, IsDatabase}
 use Rattle.sqlite.specs.State.{State, IsUnchanged}
 use Rattle.sqlite.specs.declared.types.Value.TheVariants.{Null, Int, Text}
-use Rattle.sqlite.proofs.Callers.{runs_as, reads_as}
+use Rattle.sqlite.proofs.Callers.{runs_as}
 use Rattle.sqlite_catalog.specs.Change.{KeepsRows}
 use Rattle.sqlite_rules.specs.Lists.{Has}
 use Rattle.sqlite_rules.proofs.ListLemmas.{has_either, has_filtered, has_kept, has_left, has_right}
 use Rattle.sqlite_rules.proofs.ProbeLemmas.{mapped_has}
-use Rattle.sqlite_trees.proofs.ListLemmas.{all_of, filter-map, filter_same}
+use Rattle.sqlite_trees.proofs.ListLemmas.{filter-map}
 use Rattle.fax_schema.specs.declared.statements.TheConstants.{SELECT_OPEN, DELETE_CALLS, INSERT_CALLS}
-use Rattle.fax_store.specs.Adopt.{HasNone, IsWhole}
+use Rattle.fax_store.specs.Adopt.{HasNone}
 use Rattle.fax_store.specs.Grant.{HasCalls, SetsCalls, with_count}
 use Rattle.fax_store.specs.Store.{FindsRow, HasRun}
 use Rattle.fax_tables.specs.Row.{number, call_columns}
@@ -30,8 +33,8 @@ use Rattle.fax_schema.specs.ByRowid.{IsByRowid}
 use Rattle.fax_schema.proofs.AppendLemmas.{appended}
 use Rattle.fax_schema.proofs.CompareLemmas.{are_equal, cast_int, cast_null, equal_texts, same_row}
 use Rattle.fax_tables.proofs.CreateLemmas.{goes_on, inside_shown, kept_rows}
-use Rattle.fax_schema.proofs.EditLemmas.{has_mapped, none_shown, shown_one}
-use Rattle.fax_schema.proofs.SelectLemmas.{passes, show, answers}
+use Rattle.fax_schema.proofs.EditLemmas.{has_mapped}
+use Rattle.fax_schema.proofs.SelectLemmas.{passes, show}
 use Rattle.fax_tables.proofs.TablesLemmas.{by_rowid_put, counted_as}
 use Rattle.sqlite.specs.Program.{overlay}
 use Rattle.fax_schema.proofs.StatementForms.{Selects}
@@ -39,28 +42,16 @@ use Rattle.fax_schema.proofs.UpdateLemmas.{gone_project, deleted}
 use Rattle.fax_schema.proofs.WriteLemmas.{KeepsOthers, unreferred, inserts}
 use Rattle.fax_schema.proofs.GrantTexts.{call_tests, call_project, call_terms, select_open, delete_calls, insert_calls}
 
-and_true : (b : Bool) → (b && true) ≡ b
-and_true true = refl
-and_true false = refl
-
 -- ---- counts
 
 module _ (dial : List ℕ) (count : List ℕ → ℕ) where
-  -- the count that is set is that of the number itself
-  of_this : (n : ℕ) (d : List ℕ) → bytes_eq d dial ≡ true → with_count dial n count d ≡ n
-  of_this n d on = ap (λ b. if b then n else count d) on
-
-  -- another number keeps its count
-  of_other : (n : ℕ) (d : List ℕ) → bytes_eq d dial ≡ false → with_count dial n count d ≡ count d
-  of_other n d off = ap (λ b. if b then n else count d) off
-
   -- the columns are of another number
   abbrev pub others : Row → Bool
   others columns = not (are_equal (column columns 0) (Text dial) && true)
 
   -- the columns of a number are others where it isn't this one
   is_other : (d : List ℕ) (n : ℕ) → others (call_columns d n) ≡ not (bytes_eq d dial)
-  is_other d n = ap not (and_true (are_equal (Text d) (Text dial)) ∙ equal_texts d dial)
+  is_other d n = ap not (and-true (are_equal (Text d) (Text dial)) ∙ equal_texts d dial)
 
   -- without the row of the number
   pub without : (columns : List Row) → AreCounted count columns → AreCounted (with_count dial 0 count) (filter others columns)
@@ -70,17 +61,22 @@ module _ (dial : List ℕ) (count : List ℕ → ℕ) where
       each row has =
           let kept = has_filtered others columns row has in
           let it = was.each row kept.0 in
-          elim (cases_Bool (bytes_eq it.0 dial)) [
-            | inl on ↦ absurd (let e = sym (ap others it.1 ∙ is_other it.0 (count it.0) ∙ ap not on) ∙ kept.1 in cc)
-            | inr off ↦ (it.0, it.1 ∙ ap (call_columns it.0) (sym (of_other 0 it.0 off)), subst (λ n. 1 ≤ n) (sym (of_other 0 it.0 off)) it.2)
-          ]
+          let off = false_from_ne_true (bytes_eq it.0 dial) (λ on. both_ways _ (ap others it.1 ∙ is_other it.0 (count it.0) ∙ ap not on) kept.1) in
+          (it.0, rw off it.1, rw off it.2)
 
       all : (d : List ℕ) → 1 ≤ with_count dial 0 count d → Has (filter others columns) (call_columns d (with_count dial 0 count d))
-      all d some = elim (cases_Bool (bytes_eq d dial)) [
-        | inl on ↦ absurd (omega (arith, of_this 0 d on, some))
-        | inr off ↦ subst (λ n. Has (filter others columns) (call_columns d n)) (sym (of_other 0 d off))
-            (has_kept others columns (call_columns d (count d)) (was.all d (subst (λ n. 1 ≤ n) (of_other 0 d off) some)) (is_other d (count d) ∙ ap not off))
-      ]
+      all d = cond_both (bytes_eq d dial) 0 (count d) (λ n. 1 ≤ n → Has (filter others columns) (call_columns d n))
+          (λ on some. absurd (omega (arith, some))) (λ off some. has_kept others columns (call_columns d (count d)) (was.all d some)
+          (is_other d (count d) ∙ ap not off))
+
+  -- so is what is left where the rows of the number are deleted
+  pub left_without : (pass : Row → Bool) → ((r : Row) → pass r ≡ (are_equal (column (drop 1 r) 0) (Text dial) && true)) → (rows after : List Row)
+      → after ≡ filter (λ r. not (pass r)) rows
+      → AreCounted count (map (drop 1) rows) → AreCounted (with_count dial 0 count) (map (drop 1) after)
+  left_without pass is rows after left was =
+      let kept = ap (map (drop 1)) (left ∙ filter_agree (λ r. not (pass r)) (λ r. others (drop 1 r)) (λ r. ap not (is r)) rows)
+      ∙ sym (filter-map others (drop 1) rows) in
+      subst (AreCounted (with_count dial 0 count)) (sym kept) (without (map (drop 1) rows) was)
 
   -- and with another
   pub beside : (n : ℕ) (columns : List Row) → 1 ≤ n → AreCounted (with_count dial 0 count) columns → AreCounted (with_count dial n count) (columns ++ call_columns dial n ∷ [])
@@ -92,19 +88,15 @@ module _ (dial : List ℕ) (count : List ℕ → ℕ) where
       by : (row : Row) → Has columns row ⊎ Has (call_columns dial n ∷ []) row → (d : List ℕ) × (row ≡ call_columns d (with_count dial n count d)) × (1 ≤ with_count dial n count d)
       by row (inl has) =
           let it = was.each row has in
-          elim (cases_Bool (bytes_eq it.0 dial)) [
-            | inl on ↦ absurd (omega (arith, of_this 0 it.0 on, it.2))
-            | inr off ↦ (it.0, it.1 ∙ ap (call_columns it.0) (of_other 0 it.0 off ∙ sym (of_other n it.0 off)), subst (λ c. 1 ≤ c) (of_other 0 it.0 off ∙ sym (of_other n it.0 off)) it.2)
-          ]
-      by row (inr (inl is)) = (dial, is ∙ ap (call_columns dial) (sym (of_this n dial itself)), subst (λ c. 1 ≤ c) (sym (of_this n dial itself)) some)
+          let off = false_from_ne_true (bytes_eq it.0 dial) (λ on. absurd (let none = rw on at it.2 in omega (arith, none))) in
+          (it.0, rw off (rw off at it.1), rw off (rw off at it.2))
+      by row (inr (inl is)) = (dial, rw itself is, rw itself some)
       by row (inr (inr none)) = absurd none
 
       all : (d : List ℕ) → 1 ≤ with_count dial n count d → Has (columns ++ call_columns dial n ∷ []) (call_columns d (with_count dial n count d))
-      all d more = elim (cases_Bool (bytes_eq d dial)) [
-        | inl on ↦ has_right columns (call_columns dial n ∷ []) (call_columns d (with_count dial n count d)) (inl (ap₂ call_columns ((bytes_eq-Decides d dial).0 on) (of_this n d on)))
-        | inr off ↦ has_left columns (call_columns dial n ∷ []) (call_columns d (with_count dial n count d))
-            (subst (λ c. Has columns (call_columns d c)) (of_other 0 d off ∙ sym (of_other n d off)) (was.all d (subst (λ c. 1 ≤ c) (of_other n d off ∙ sym (of_other 0 d off)) more)))
-      ]
+      all d = cond_both (bytes_eq d dial) n (count d) (λ c. 1 ≤ c → Has (columns ++ call_columns dial n ∷ []) (call_columns d c))
+          (λ on _. has_right columns (call_columns dial n ∷ []) (call_columns d n) (inl (ap (λ text. call_columns text n) ((bytes_eq-Decides d dial).0 on))))
+          (λ off more. has_left columns (call_columns dial n ∷ []) (call_columns d (count d)) ((rw off at (was.all d)) more))
 
 -- ---- reading
 
@@ -119,56 +111,45 @@ module _ (dial : List ℕ) where
 
   -- the row of a number passes where that is the one asked for
   of_number : (project : List _) (r : Row) (d : List ℕ) (n : ℕ) → drop 1 r ≡ call_columns d n → passes calls_tree call_tests project params r ≡ bytes_eq d dial
-  of_number project r d n is = is_asked project r ∙ ap (λ columns. are_equal (column columns 0) (Text dial) && true) is ∙ and_true (are_equal (Text d) (Text dial)) ∙ equal_texts d dial
+  of_number project r d n is = is_asked project r ∙ ap (λ columns. are_equal (column columns 0) (Text dial) && true) is ∙ and-true (are_equal (Text d) (Text dial)) ∙ equal_texts d dial
 
   -- a row of `calls` is shown as its count
   shown_as : (r : Row) (d : List ℕ) (n : ℕ) → drop 1 r ≡ call_columns d n → show calls_tree call_tests call_project params r ≡ number n ∷ []
-  shown_as [] d n is = absurd cc
-  shown_as (i ∷ r) d n is = ap (λ rest. show calls_tree call_tests call_project params (i ∷ rest)) is
-
-  abbrev pass : Row → Bool
-  pass = passes calls_tree call_tests call_project params
-
-  abbrev shows : Row → Row
-  shows = show calls_tree call_tests call_project params
+  shown_as r d n is = ap (show calls_tree call_tests call_project params) (with_id r _ _ is)
 
   -- what is found in such a table is the count, or nothing where that is 0
-  pub counted_found : (tree : ℕ) (sql : List ℕ) (names : List (List ℕ)) → Selects sql tree call_tests call_project names → (old new : State) → overlay old.now.trees [] tree ≡ old.now.trees tree → (count : List ℕ → ℕ) → old.now.schema ≡ our_tables
+  pub counted_found : (tree : ℕ) (sql : List ℕ) (names : List (List ℕ)) → Selects sql tree call_tests call_project names → ((trees : Trees) → overlay trees [] tree ≡ trees tree) → (old new : State) (count : List ℕ → ℕ) → old.now.schema ≡ our_tables
       → AreCounted count (map (drop 1) (old.now.trees tree)) → (found : Option Row) → FindsRow sql params old new found → MatchOption found (count dial ≡ 0) (λ row. row ≡ number (count dial) ∷ [])
-  counted_found tree sql names selects old new plain count has counted found h = tells found h.2
-    where
-      shown : IsPermutation (map shows (filter pass (old.now.trees tree))) h.0
-      shown = answers tree call_tests call_project params old.now (old.now.trees tree) plain names h.0 (reads_as sql params old new our_tables has _ selects.command selects.plain selects.unlisted h.0 h.1)
-
-      tells : (found : Option Row) → MatchOption found (h.0 ≡ []) (Has h.0) → MatchOption found (count dial ≡ 0) (λ row. row ≡ number (count dial) ∷ [])
-      tells None empty = none (count dial) refl
-        where
-          none : (n : ℕ) → count dial ≡ n → count dial ≡ 0
-          none zero e = e
-          none (suc n) e =
-              let there = has_mapped (drop 1) (old.now.trees tree) (call_columns dial (count dial)) (counted.all dial (omega (arith, e))) in
-              absurd (let off = sym (of_number call_project there.0 dial (count dial) (sym there.2)) ∙ none_shown pass shows (old.now.trees tree) h.0 shown empty there.0 there.1 in
-              let on = (bytes_eq-Decides dial dial).1 refl in cc)
-      tells (Some row) there =
-          let one = shown_one pass shows (old.now.trees tree) h.0 shown row there in
-          let it = counted.each (drop 1 one.0) (mapped_has (drop 1) (old.now.trees tree) one.0 one.1) in
-          let same : it.0 ≡ dial = (bytes_eq-Decides it.0 dial).0 (sym (of_number call_project one.0 it.0 (count it.0) it.1) ∙ one.2) in
-          one.3 ∙ shown_as one.0 it.0 (count it.0) it.1 ∙ ap (λ d. number (count d) ∷ []) same
+  counted_found tree sql names selects plain old new count has counted None h = elim (cases_eq (count dial) 0) [
+    | inl none ↦ none
+    | inr some ↦
+        (let there = has_mapped (drop 1) (old.now.trees tree) (call_columns dial (count dial)) (counted.all dial (omega (arith, some))) in
+        absurd (both_ways _ (none_passes sql tree call_tests call_project names selects plain params old new old.now has refl h there.0 there.1)
+        (of_number call_project there.0 dial (count dial) (sym there.2) ∙ (bytes_eq-Decides dial dial).1 refl)))
+  ]
+  counted_found tree sql names selects plain old new count has counted (Some row) h =
+      let one = row_passes sql tree call_tests call_project names selects plain params old new old.now has refl row h in
+      let it = counted.each (drop 1 one.0) (mapped_has (drop 1) (old.now.trees tree) one.0 one.1) in
+      let same : it.0 ≡ dial = (bytes_eq-Decides it.0 dial).0 (sym (of_number call_project one.0 it.0 (count it.0) it.1) ∙ one.2) in
+      one.3 ∙ shown_as one.0 it.0 (count it.0) it.1 ∙ ap (λ d. number (count d) ∷ []) same
 
   -- what the text on calls finds is how many are open to the number, or nothing where none is
   pub calls_found : (old new : State) (count : List ℕ → ℕ) → old.now.schema ≡ our_tables → AreCounted count (map (drop 1) (old.now.trees calls_tree)) → (found : Option Row) → FindsRow SELECT_OPEN.now params old new found
       → MatchOption found (count dial ≡ 0) (λ row. row ≡ number (count dial) ∷ [])
-  calls_found old new = counted_found calls_tree SELECT_OPEN.now _ select_open old new refl
+  calls_found old new = counted_found calls_tree SELECT_OPEN.now _ select_open (λ trees. refl) old new
 
 -- ---- writing
 
--- the tables beside it keep their rows
-kept_core : (old new : State) → KeepsOthers our_tables calls_tree old new → KeepsRows core_tables.tables old.now.trees new.now.trees
-kept_core old new keeps = others_kept core_list calls_tree old.now.trees new.now.trees refl (all_front (λ t. t.tree ≢ calls_tree → new.now.trees t.tree ≡ old.now.trees t.tree) core_list (schema.calls ∷ []) keeps.others)
-
 -- where the other tables stay and `calls` has these counts, the counts are set
 as_set : (old new : State) (count : List ℕ → ℕ) → IsTrue old.in_transaction → KeepsOthers our_tables calls_tree old new → AreCalls count (new.now.trees calls_tree) → SetsCalls old new count
-as_set old new count inside keeps now = record { goes_on = inside_shown old new _ inside keeps.shown; schema_is = keeps.schema_is; sound = keeps.sound; rows = kept_core old new keeps; calls = now }
+as_set old new count inside keeps now = record {
+  goes_on = inside_shown old new _ inside keeps.shown;
+  schema_is = keeps.schema_is;
+  sound = keeps.sound;
+  rows = others_kept core_list calls_tree old.now.trees new.now.trees refl
+      (all_front (λ t. t.tree ≢ calls_tree → new.now.trees t.tree ≡ old.now.trees t.tree) core_list (schema.calls ∷ []) keeps.others);
+  calls = now;
+}
 
 -- no call is counted yet
 pub no_calls : (s : State) → HasNone s → HasCalls s (λ _. 0)
@@ -183,21 +164,7 @@ no_calls s has = record {
   };
 }
 
--- where counts are set, all tables are there, and those beside `calls` keep their rows
-pub whole_of : (a b : State) (count : List ℕ → ℕ) → SetsCalls a b count → IsWhole a.now b.now
-whole_of a b count set = record { schema_is = set.schema_is; sound = set.sound; rows = set.rows }
-
--- none is set yet
-pub set_none : (s : State) (count : List ℕ → ℕ) → HasCalls s count → SetsCalls s s count
-set_none s count has = record {
-  goes_on = record { was_open = has.is_open; is_open = has.is_open; now_is = refl; committed_is = refl; mode = has.inside };
-  schema_is = has.tables;
-  sound = has.sound;
-  rows = all_given (λ t. s.now.trees t.tree ≡ s.now.trees t.tree) core_list (λ t. refl);
-  calls = has.calls;
-}
-
--- nor by a call that only reads
+-- none is set yet by a call that only reads
 pub set_still : (a b : State) (count : List ℕ → ℕ) → HasCalls a count → IsUnchanged a b → SetsCalls a b count
 set_still a b count has same = record {
   goes_on = record { was_open = has.is_open; is_open = same.0.is_open; now_is = refl; committed_is = same.0.committed_is; mode = same.0.mode ∙ has.inside };
@@ -240,9 +207,8 @@ module _ (dial : List ℕ) (count : List ℕ → ℕ) where
       let ran = runs_as DELETE_CALLS.now (params dial) old new our_tables was.tables _ delete_calls.is delete_calls.plain h.0 h.1 in
       let done = deleted schema.calls.name calls_tree schema.calls.columns schema.calls.key schema.calls.primary schema.calls.uniques schema.calls.orders schema.calls.checks calls_place refl old new was.tables refl was.calls.ordered
       call_tests gone_project (params dial) (λ r. refl) _ h.0 ran in
-      let left : map (drop 1) (filter (λ r. not (pass r)) rows) ≡ filter (others dial count) (map (drop 1) rows) =
-      ap (map (drop 1)) (filter_same (λ r. not (pass r)) (λ r. others dial count (drop 1 r)) rows (all_of (λ r. not (pass r) ≡ others dial count (drop 1 r)) (λ r. ap not (is_asked dial gone_project r)) rows)) ∙ sym (filter-map (others dial count) (drop 1) rows) in
-      as_set old new (with_count dial 0 count) was.inside done.0 (record { is = subst (AreCounted (with_count dial 0 count)) (sym (ap (map (drop 1)) done.1 ∙ left)) (without dial count (map (drop 1) rows) was.calls.is); ordered = done.2 })
+      as_set old new (with_count dial 0 count) was.inside done.0
+      (record { is = left_without dial count pass (is_asked dial gone_project) rows (new.now.trees calls_tree) done.1 was.calls.is; ordered = done.2 })
 
   -- the text that adds a number's row, where it has none, sets its count
   pub calls_put : (n : ℕ) (old new : State) → 1 ≤ n → HasCalls old (with_count dial 0 count) → HasRun INSERT_CALLS.now (Text dial ∷ number n ∷ []) old new → SetsCalls old new (with_count dial n count)

@@ -1,17 +1,23 @@
 -- The jobs that wait, read a page at a time.
-use Rattle.std.proofs.Common.{◌≡◌, ◌<◌, ◌≤◌, ◌+◌, ◌-◌, ◌⊎◌, inl, inr, ℕ, suc, zero, List, [], ◌∷◌, ◌++◌, map, filter, take, drop, length, length-append, All, Bool, true, false, cond, not, ◌&&◌, ◌||◌, leb, refl, sym, ap, ap₂, subst, ◌∙◌, arith, append_assoc, append-nil, take-append-drop, get_or, Ordering, Less, Equal, Greater, is_lt, is_gt, is_eq, true≢false}
-use Rattle.std.specs.Prelude.{◌==◌, nat_lt, Option, Some, None, find, slice_get}
+use Rattle.std.proofs.Common.{◌≡◌, ◌<◌, ◌≤◌, ◌+◌, ◌-◌, ◌⊎◌, inl, inr, ℕ, List, [], ◌∷◌, ◌++◌, map, filter, take, drop, length, All, Bool, true, false, cond, not, ◌&&◌, ◌||◌, leb, refl, sym, ap, ap₂, subst, ◌∙◌, arith, append_assoc, append-nil, take-append-drop, get_or, Ordering, Less, Equal, Greater, is_lt, is_gt, is_eq, true≢false}
+use Rattle.fax_tables.proofs.ResultLemmas.{answered}
+use Rattle.fax_tables.specs.declared.fault.StoreFault.{StoreFault}
+use Rattle.fax_store.specs.Calls.{Queries, Recalls, shown as shown_by}
+use Rattle.fax_store.specs.declared.store.Store.{Store}
+use Rattle.sqlite_trees.specs.declared.store.Store.{Ghosts}
+use Rattle.std.proofs.Math.Bool.{and-true, or_comm}
+use Rattle.std.specs.Prelude.{◌==◌, nat_lt, Result, Vec, Option, Some, None, find, slice_get}
 use Rattle.std.specs.Cmp.{IsTotalOrder}
 use Rattle.std.specs.List.{AllByRecursion}
 use Rattle.std.specs.List.Sorted.{IsPermutation, IsSorted, IsSortedBy}
 use Rattle.std.specs.Ordering.{nat_cmp, on, ordering_reverse, ordering_then, then_cmp}
-use Rattle.std.proofs.lemmas.Bool.{and_parts, leb-true}
+use Rattle.std.proofs.lemmas.Bool.{and_parts, leb-true, cases_Bool}
 use Rattle.std.proofs.lemmas.Bool.Decides.{nat_tests}
 use Rattle.std.proofs.lemmas.Map.Text.{is_eq-slice_cmp}
 use Rattle.std.proofs.lemmas.Cmp.{nat_cmp_total, on_total, then_total}
-use Rattle.std.proofs.lemmas.List.{map-append, take-map}
-use Rattle.std.proofs.lemmas.Option.{none-some, same_Some}
-use Rattle.std.proofs.lemmas.List.Elements.{All-take, recursion_from_All, All-from_recursion}
+use Rattle.std.proofs.lemmas.List.{map-append, take-map, nil_from_length, length-map, length-take, length_push, get_or_push}
+use Rattle.std.proofs.lemmas.Option.{none-some, same_Some, slice_get_read, slice_get-get_or}
+use Rattle.std.proofs.lemmas.List.Elements.{All-take, recursion_from_All, All-from_recursion, filter_agree, filter_passes}
 use Rattle.std.proofs.lemmas.List.Sorted.{All-permutation, IsPermutation-sym, IsPermutation-trans}
 use Rattle.sqlite.specs.Command.TheVariants.{Select}
 use Rattle.sqlite.specs.Effect.{Database, Reads}
@@ -32,7 +38,7 @@ use Rattle.sqlite_sql.specs.Term.{Term}
 use Rattle.sqlite_value.specs.Order.{value_cmp}
 use Rattle.sqlite_value.proofs.OrderLemmas.{value_cmp-Text}
 use Rattle.sqlite_trees.specs.Tree.{IsAscending}
-use Rattle.sqlite_trees.proofs.ListLemmas.{all_of, all_both, all_weaker, ascending-filter, ascending-get_or, ascending_weaker, filter_all, filter_none, filter_same, filter-filter, IsPermutation-filter, map-map, pull_back}
+use Rattle.sqlite_trees.proofs.ListLemmas.{all-permutation, all_of, all_both, all_weaker, ascending-filter, ascending-get_or, ascending_weaker, filter_all, filter_none, filter_same, filter-filter, IsPermutation-filter, map-map, pull_back}
 use Rattle.fax_core.specs.Job.{Job, fields_of}
 use Rattle.fax_core.specs.Best.{better}
 use Rattle.fax_core.specs.Ledger.{Ledger}
@@ -54,10 +60,9 @@ use Rattle.fax_schema.proofs.ColumnLemmas.{all_kept}
 use Rattle.fax_schema.proofs.CompareLemmas.{is_number, more_than}
 use Rattle.fax_schema.proofs.SelectLemmas.{each_passing}
 use Rattle.fax_tables.proofs.TablesLemmas.{row_of}
-use Rattle.fax_store.proofs.JobsLemmas.{number_of, ascend}
-use Rattle.fax_store.proofs.OrderLemmas.{Below}
+use Rattle.fax_store.proofs.JobsLemmas.{number_of, ascend, Below}
 use Rattle.fax_schema.proofs.StatementTexts.{SelectsPage, number_tests, other_tests, page_query, priority_tests, prospect_names, prospect_project, select_behind_number, select_behind_priority, select_behind_time, select_first, time_tests}
-use Rattle.fax_store.proofs.WaitingLemmas as waiting
+use Rattle.fax_store.proofs.JobsLemmas as waiting
 
 -- ---- the order of the choice
 
@@ -96,11 +101,6 @@ all_inserted P new [] h all = (h, tt)
 all_inserted P new (x ∷ xs) h all =
     elim (is_gt (order new x)) as (λ b. AllByRecursion P (cond b (x ∷ insert_sorted order new xs) (new ∷ x ∷ xs))) [ true ↦ (all.0, all_inserted P new xs h all.1) | false ↦ (h, all) ]
 
--- what holds of each in a list holds of each once the list is sorted
-all_sorted : (P : Job → Type 0) (xs : List Job) → AllByRecursion P xs → AllByRecursion P (sort_by order xs)
-all_sorted P [] all = tt
-all_sorted P (x ∷ xs) all = all_inserted P x _ all.0 (all_sorted P xs all.1)
-
 -- a job that ties with none, put into a list that rises, leaves it rising
 rises_inserted : (new : Job) (xs : List Job) → AllByRecursion (λ y. is_eq (order new y) ≡ false) xs → IsAscending Comes xs → IsAscending Comes (insert_sorted order new xs)
 rises_inserted new [] free up = (tt, tt)
@@ -114,7 +114,8 @@ rises_inserted new (x ∷ xs) free up = go (order new x) refl (rises_inserted ne
 -- a list with no ties rises once it is sorted
 rises_sorted : (xs : List Job) → HasNoTies xs → IsAscending Comes (sort_by order xs)
 rises_sorted [] free = tt
-rises_sorted (x ∷ xs) free = rises_inserted x _ (all_sorted _ xs free.0) (rises_sorted xs free.1)
+rises_sorted (x ∷ xs) free = rises_inserted x _ (all-permutation _ xs (sort_by order xs)
+    (IsPermutation-sym (sort_by order xs) xs (IsPermutation-sort_by order is_total xs)) free.0) (rises_sorted xs free.1)
 
 -- a job that comes before another isn't the worse choice
 not_after : (a b : Job) → Comes a b → better b a ≡ false
@@ -125,12 +126,11 @@ not_after a b e = sym (by_less b a) ∙ ap is_lt (is_total.antisymm b a ∙ ap o
 -- two filters in turn are one of both
 filter_two : (p q : Job → Bool) (xs : List Job) → filter q (filter p xs) ≡ filter (λ j. p j && q j) xs
 filter_two p q [] = refl
-filter_two p q (x ∷ xs) = by (p x) (q x) refl refl (filter_two p q xs)
-  where
-    by : (a b : Bool) → p x ≡ a → q x ≡ b → filter q (filter p xs) ≡ filter (λ j. p j && q j) xs → filter q (cond a (x ∷ filter p xs) (filter p xs)) ≡ cond (a && q x) (x ∷ filter (λ j. p j && q j) xs) (filter (λ j. p j && q j) xs)
-    by true true e f more = rw f (ap (λ l. x ∷ l) more)
-    by true false e f more = rw f more
-    by false b e f more = more
+filter_two p q (x ∷ xs) =
+    let rest = filter (λ j. p j && q j) xs in
+    let more = filter_two p q xs in
+    elim (p x) as (λ a. filter q (cond a (x ∷ filter p xs) (filter p xs)) ≡ cond (a && q x) (x ∷ rest) rest)
+    [ true ↦ ap (λ l. cond (q x) (x ∷ l) l) more | false ↦ more ]
 
 module _ (db : Database) (m : Queue) (k : Ledger) (means : TablesMean db m k) (t : ℕ) where
   abbrev all_due : List Job
@@ -152,10 +152,6 @@ module _ (db : Database) (m : Queue) (k : Ledger) (means : TablesMean db m k) (t
   -- the jobs that wait come each before every later one
   come : IsAscending Comes all_wait
   come = rises_sorted all_due no_ties
-
-  -- the jobs that wait stand with the better before the worse
-  pub go_in_order : IsAscending Goes all_wait
-  go_in_order = ascending_weaker Comes Goes (λ a b e. sym (by_less a b) ∙ ap is_lt e) all_wait come
 
   -- the jobs that are due, sorted, are those that wait
   pub they_wait : AreWaiting t m all_wait
@@ -195,7 +191,8 @@ module _ (db : Database) (m : Queue) (k : Ledger) (means : TablesMean db m k) (a
 
   -- the jobs asked for stand with the better before the worse
   asked_in_order : IsAscending Goes all_asked
-  asked_in_order = ascending-filter Goes (is_other asked.but) (all_wait db m k means asked.t) (go_in_order db m k means asked.t)
+  asked_in_order = ascending-filter Goes (is_other asked.but) (all_wait db m k means asked.t)
+      (ascending_weaker Comes Goes (λ a b e. sym (by_less a b) ∙ ap is_lt e) _ (come db m k means asked.t))
 
 -- what holds of each job of the queue holds of each that is asked for
 pub all_hold : (P : Job → Type 0) (asked : Asked) (m : Queue) (jobs : List Job) → AreAsked asked m jobs → All P m.jobs → All P jobs
@@ -242,8 +239,7 @@ module _ (asked : Asked) (most : ℕ) (more : Row) (tests : List Term) where
     -- what it shows is a page behind the front
     page_found : (rows : List Row) → Shown sql params old new rows → IsPage asked m front most rows
     page_found rows h =
-        let read = reads_as sql params old new our_tables means.schema _ selects.command selects.plain selects.unlisted rows h in
-        let shown = in_page old.now rows read in
+        let shown = in_page old.now rows (reads_as sql params old new our_tables means.schema _ selects.command selects.plain selects.unlisted rows h) in
         let is_wanted = λ (j : Job). is_other asked.but j && is_near front j in
         let it = waiting.are_near asked.t rest tests prospect_project old.now m k means is_wanted near shown.0 shown.1 shown.3 in
         let all = all_wait old.now m k means asked.t in
@@ -255,10 +251,6 @@ module _ (asked : Asked) (most : ℕ) (more : Row) (tests : List Term) where
               shown.2 ∙ ap (take most) it.1 ∙ take-map (λ (j : Job). prospect_shown (fields_of j)) most it.0
               ∙ ap (λ (js : List Job). map (λ (j : Job). prospect_shown (fields_of j)) (take most js)) is;
         }
-
-and_true : (b : Bool) → (b && true) ≡ b
-and_true true = refl
-and_true false = refl
 
 -- SQL's NOT of a truth is true where the truth is false
 not_is : (b : Bool) → is_true (unary Not (from_truth (Some b))) ≡ not b
@@ -286,19 +278,32 @@ module _ (asked : Asked) (most : ℕ) (old new : State) (m : Queue) (k : Ledger)
   pub number_found : (p s n : ℕ) → Shown SELECT_BEHIND_NUMBER.now (params asked most (number p ∷ number s ∷ number n ∷ []) number_tests) old new rows → IsPage asked m (Number p s n) most rows
   number_found p s n =
       page_found asked most (number p ∷ number s ∷ number n ∷ []) number_tests old new m k means (Number p s n) SELECT_BEHIND_NUMBER.now select_behind_number
-      (λ j. ap₂ ◌&&◌ (is_not asked.but j) (ap₂ ◌&&◌ (is_number j.priority p) (ap₂ ◌&&◌ (is_number j.tts s) (ap (λ b. b && true) (more_than j.number n) ∙ and_true (nat_lt n j.number))))) rows
+      (λ j. ap₂ ◌&&◌ (is_not asked.but j) (ap₂ ◌&&◌ (is_number j.priority p) (ap₂ ◌&&◌ (is_number j.tts s) (ap (λ b. b && true) (more_than j.number n) ∙ and-true (nat_lt n j.number))))) rows
 
   -- what the text behind a time shows is a page of the same priority, with later times
   pub time_found : (p s : ℕ) → Shown SELECT_BEHIND_TIME.now (params asked most (number p ∷ number s ∷ []) time_tests) old new rows → IsPage asked m (Time p s) most rows
   time_found p s =
       page_found asked most (number p ∷ number s ∷ []) time_tests old new m k means (Time p s) SELECT_BEHIND_TIME.now select_behind_time
-      (λ j. ap₂ ◌&&◌ (is_not asked.but j) (ap₂ ◌&&◌ (is_number j.priority p) (ap (λ b. b && true) (more_than j.tts s) ∙ and_true (nat_lt s j.tts)))) rows
+      (λ j. ap₂ ◌&&◌ (is_not asked.but j) (ap₂ ◌&&◌ (is_number j.priority p) (ap (λ b. b && true) (more_than j.tts s) ∙ and-true (nat_lt s j.tts)))) rows
 
   -- what the text behind a priority shows is a page of later priorities
   pub priority_found : (p : ℕ) → Shown SELECT_BEHIND_PRIORITY.now (params asked most (number p ∷ []) priority_tests) old new rows → IsPage asked m (Priority p) most rows
   priority_found p =
       page_found asked most (number p ∷ []) priority_tests old new m k means (Priority p) SELECT_BEHIND_PRIORITY.now select_behind_priority
-      (λ j. ap₂ ◌&&◌ (is_not asked.but j) (ap (λ b. b && true) (more_than j.priority p) ∙ and_true (nat_lt p j.priority))) rows
+      (λ j. ap₂ ◌&&◌ (is_not asked.but j) (ap (λ b. b && true) (more_than j.priority p) ∙ and-true (nat_lt p j.priority))) rows
+
+-- a text that shows the rows of a page answers one
+pub answers_page : {S Z : Type 0} (g : Ghosts S) (asked : Asked) (most : ℕ) (old new : Store S) (result : Result (Vec Row Z) StoreFault) (sql : List ℕ)
+    (params meant : Row) (front of : Front) → of ≡ front → params ≡ meant
+    → Queries g old new result (λ rows. Shown sql params (shown_by g old) (shown_by g new) rows.items)
+    → ((m : Queue) (k : Ledger) → TablesMean (shown_by g old).now m k → (rows : List Row) → Shown sql meant (shown_by g old) (shown_by g new) rows → IsPage
+    asked m front most rows)
+    → Recalls g old new result (λ m k rows. IsPage asked m of most rows.items)
+answers_page g asked most old new result sql params meant front of is same finds page = record {
+  leaves = finds.leaves;
+  answers = λ m k means s. rw is (answered result _ _ (finds.found s.clean) finds.cause
+      (λ rows h. page m k (means (finds.leaves.served s)) rows.items (subst (λ p. Shown sql p (shown_by g old) (shown_by g new) rows.items) same h)));
+}
 
 -- ---- what one statement finds, and what comes after
 
@@ -329,12 +334,6 @@ past_time p t q u k r v l n goes past = grind (arith, nat_tests)
 past_priority : (p t q u k r v l : ℕ) → lex q u k r v l ≡ true → nat_lt p q ≡ true → ((r == p) && nat_lt t v) ≡ false
 past_priority p t q u k r v l goes past = grind (arith, nat_tests)
 
-or_turned : (a b : Bool) → (a || b) ≡ (b || a)
-or_turned true true = refl
-or_turned true false = refl
-or_turned false true = refl
-or_turned false false = refl
-
 -- behind what comes after nothing is near
 after : (f : Front) (a b : Job) → Goes a b → is_beyond f a ≡ true → is_near f b ≡ false
 after First a b goes past = absurd (true≢false (sym past))
@@ -352,8 +351,8 @@ not_both (Priority p) a past = absurd (true≢false (sym past))
 -- what is behind the next front comes after
 next_is : (f : Front) → is_last f ≡ false → (j : Job) → is_beyond f j ≡ is_behind (next_front f) j
 next_is First last j = absurd (true≢false last)
-next_is (Number p t n) last j = or_turned (nat_lt p j.priority) ((j.priority == p) && nat_lt t j.tts)
-next_is (Time p t) last j = or_turned false (nat_lt p j.priority)
+next_is (Number p t n) last j = or_comm (nat_lt p j.priority) ((j.priority == p) && nat_lt t j.tts)
+next_is (Time p t) last j = or_comm false (nat_lt p j.priority)
 next_is (Priority p) last j = absurd (true≢false last)
 
 -- beyond the last front is no job
@@ -363,40 +362,22 @@ last_is (Number p t n) last j = absurd (true≢false (sym last))
 last_is (Time p t) last j = absurd (true≢false (sym last))
 last_is (Priority p) last j = refl
 
--- behind a job is what goes after it
-front_is : (x j : Job) → is_behind (front_of (prospect (fields_of x))) j ≡ better x j
-front_is x j = same_front x.priority x.tts x.number j.priority j.tts j.number
-
 -- in a list in order, what is behind a front is what is near it and then what is beyond
 cut : (f : Front) (xs : List Job) → IsAscending Goes xs → filter (is_behind f) xs ≡ filter (is_near f) xs ++ filter (is_beyond f) xs
 cut f [] up = refl
-cut f (x ∷ xs) up = by (is_near f x) (is_beyond f x) refl refl (cut f xs up.1)
-  where
-    near : List Job
-    near = filter (is_near f) xs
-
-    beyond : List Job
-    beyond = filter (is_beyond f) xs
-
-    by : (a b : Bool) → is_near f x ≡ a → is_beyond f x ≡ b → filter (is_behind f) xs ≡ near ++ beyond
-        → cond (a || b) (x ∷ filter (is_behind f) xs) (filter (is_behind f) xs) ≡ cond a (x ∷ near) near ++ cond b (x ∷ beyond) beyond
-    by true true e g more = absurd (true≢false (sym e ∙ not_both f x g))
-    by true false e g more = ap (λ l. x ∷ l) more
-    by false true e g more =
-        let none : near ≡ [] = filter_none (is_near f) xs (all_weaker (Goes x) (λ b. is_near f b ≡ false) (λ b goes. after f x b goes g) xs up.0) in
-        ap (λ l. x ∷ l) (more ∙ ap (λ l. l ++ beyond) none) ∙ sym (ap (λ l. l ++ x ∷ beyond) none)
-    by false false e g more = more
+cut f (x ∷ xs) up =
+    let near = filter (is_near f) xs in
+    let beyond = filter (is_beyond f) xs in
+    let more = cut f xs up.1 in
+    elim (cases_Bool (is_beyond f x)) [
+      | inl past ↦
+          (let none = filter_none (is_near f) xs (all_weaker (Goes x) (λ b. is_near f b ≡ false) (λ b goes. after f x b goes past) xs up.0) in
+          rw (not_both f x past, past, none) (ap (λ l. x ∷ l) (rw none at more)))
+      | inr off ↦ rw off (elim (is_near f x) as (λ a. cond (a || false) (x ∷ filter (is_behind f) xs) (filter (is_behind f) xs) ≡ cond a (x ∷ near)
+          near ++ beyond) [ true ↦ ap (λ l. x ∷ l) more | false ↦ more ])
+    ]
 
 -- ---- behind the last job of a page
-
--- what a filter leaves passes it
-all_pass : {X : Type 0} (p : X → Bool) (xs : List X) → AllByRecursion (λ x. p x ≡ true) (filter p xs)
-all_pass p [] = tt
-all_pass p (x ∷ xs) = by (p x) refl (all_pass p xs)
-  where
-    by : (b : Bool) → p x ≡ b → AllByRecursion (λ y. p y ≡ true) (filter p xs) → AllByRecursion (λ y. p y ≡ true) (cond b (x ∷ filter p xs) (filter p xs))
-    by true e more = (e, more)
-    by false e more = more
 
 -- what holds of each in a list holds of one amid it
 amid : {X : Type 0} (P : X → Type 0) (ys : List X) (x : X) (zs : List X) → AllByRecursion P (ys ++ x ∷ zs) → P x
@@ -407,18 +388,16 @@ amid P (y ∷ ys) x zs all = amid P ys x zs all.1
 behind_it : (ys : List Job) (x : Job) (zs : List Job) → IsAscending Goes (ys ++ x ∷ zs) → filter (better x) (ys ++ x ∷ zs) ≡ zs
 behind_it [] x zs up = rw (not_itself x.priority x.tts x.number) (filter_all (better x) zs up.0)
 behind_it (y ∷ ys) x zs up =
-    let goes = amid (Goes y) ys x zs up.0 in
-    rw (not_back y.priority y.tts y.number x.priority x.tts x.number goes) (behind_it ys x zs up.1)
+    rw (not_back y.priority y.tts y.number x.priority x.tts x.number (amid (Goes y) ys x zs up.0)) (behind_it ys x zs up.1)
 
 -- where a list in order, behind a front, goes to a job and then on, the rest is what is behind this job
 rest_behind : (f : Front) (all ys : List Job) (x : Job) (rest : List Job) → IsAscending Goes all → filter (is_behind f) all ≡ (ys ++ x ∷ []) ++ rest → filter (is_behind (front_of (prospect (fields_of x)))) all ≡ rest
 rest_behind f all ys x rest up is =
     let whole : filter (is_behind f) all ≡ ys ++ x ∷ rest = is ∙ append_assoc ys (x ∷ []) rest in
-    let rises = subst (IsAscending Goes) whole (ascending-filter Goes (is_behind f) all up) in
-    let here : is_behind f x ≡ true = amid (λ (j : Job). is_behind f j ≡ true) ys x rest (subst (AllByRecursion (λ (j : Job). is_behind f j ≡ true)) whole (all_pass (is_behind f) all)) in
-    filter_same (is_behind (front_of (prospect (fields_of x)))) (better x) all (all_of (λ (j : Job). is_behind (front_of (prospect (fields_of x))) j ≡ better x j) (front_is x) all)
+    let here : is_behind f x ≡ true = amid (λ (j : Job). is_behind f j ≡ true) ys x rest (subst (AllByRecursion (λ (j : Job). is_behind f j ≡ true)) whole (recursion_from_All _ _ (filter_passes (is_behind f) all))) in
+    filter_agree (is_behind (front_of (prospect (fields_of x)))) (better x) (λ j. same_front x.priority x.tts x.number j.priority j.tts j.number) all
     ∙ sym (filter-filter (better x) (is_behind f) (λ b goes. still_behind f x b here goes) all)
-    ∙ ap (filter (better x)) whole ∙ behind_it ys x rest rises
+    ∙ ap (filter (better x)) whole ∙ behind_it ys x rest (subst (IsAscending Goes) whole (ascending-filter Goes (is_behind f) all up))
   where
     still_number : (p t n q u k r v l : ℕ) → (((q == p) && ((u == t) && nat_lt n k)) || (nat_lt p q || ((q == p) && nat_lt t u))) ≡ true → lex q u k r v l ≡ true
         → (((r == p) && ((v == t) && nat_lt n l)) || (nat_lt p r || ((r == p) && nat_lt t v))) ≡ true
@@ -440,14 +419,7 @@ rest_behind f all ys x rest up is =
 
 -- no rows are of no jobs
 none_shown : {X Y : Type 0} (f : X → Y) (xs : List X) → [] ≡ map f xs → xs ≡ []
-none_shown f [] is = refl
-none_shown f (x ∷ xs) is = absurd (let e = is in cc)
-
--- where a page of more than none takes nothing, there is nothing
-nothing_taken : {X : Type 0} (n : ℕ) (xs : List X) → 0 < n → take n xs ≡ [] → xs ≡ []
-nothing_taken zero xs some none = absurd (omega (arith, some))
-nothing_taken (suc n) [] some none = refl
-nothing_taken (suc n) (x ∷ xs) some none = absurd (let e = none in cc)
+none_shown f xs is = nil_from_length xs (omega (arith, length-map xs f, ap length is))
 
 abbrev shown : Job → Row
 shown j = prospect_shown (fields_of j)
@@ -502,8 +474,8 @@ module _ (db : Database) (m : Queue) (k : Ledger) (means : TablesMean db m k) (a
     -- where the page is empty, no job is near the front
     nothing_near : rows ≡ [] → filter (is_near f) h.all ≡ []
     nothing_near none =
-        nothing_taken most (filter (is_near f) h.all) h.some
-        (ap (λ (all : List Job). take most (filter (is_near f) all)) (sym all_is) ∙ none_shown shown paged (sym none ∙ next.is))
+        let empty = ap (λ (all : List Job). take most (filter (is_near f) all)) (sym all_is) ∙ none_shown shown paged (sym none ∙ next.is) in
+        nil_from_length (filter (is_near f) h.all) (omega (arith, h.some, length-take most (filter (is_near f) h.all), ap length empty))
 
     -- it has no job
     pub stands_on : rows ≡ [] → (then : ℕ) → 0 < then → StandsAt asked m given rows (next_front f) then
@@ -547,21 +519,14 @@ ends : {X : Type 0} (xs : List X) → (xs ≡ []) ⊎ ((ys : List X) × (x : X) 
 ends [] = inl refl
 ends (x ∷ xs) = elim (ends xs) [ inl none ↦ inr ([], x, ap (λ l. x ∷ l) none) | inr more ↦ inr (x ∷ more.0, more.1, ap (λ l. x ∷ l) more.2) ]
 
--- the place behind a list's length has the element put at its end
-get_last : {X : Type 0} (xs : List X) (x : X) → slice_get (xs ++ x ∷ []) (length xs) ≡ Some x
-get_last [] x = refl
-get_last (y ∷ ys) x = get_last ys x
-
 -- the place one before the length has the last element
 last_of : {X : Type 0} (xs : List X) (x : X) → slice_get (xs ++ x ∷ []) (length (xs ++ x ∷ []) - 1) ≡ Some x
-last_of xs x = let e : length (xs ++ x ∷ []) - 1 ≡ length xs = omega (arith, length-append xs (x ∷ [])) in ap (slice_get (xs ++ x ∷ [])) e ∙ get_last xs x
+last_of xs x = slice_get_read (xs ++ x ∷ []) _ _ x refl (omega (arith, length_push xs x)) (sym (get_or_push xs x x _ (omega (arith, length_push xs x))))
 
 -- rows with no last one are none
 pub page_empty : (rows : List Row) → None ≡ slice_get rows (length rows - 1) → rows ≡ []
-page_empty rows none = elim (ends rows) [
-  | inl empty ↦ empty
-  | inr it ↦ absurd (none-some it.1 (none ∙ ap (λ (xs : List Row). slice_get xs (length xs - 1)) it.2 ∙ last_of it.0 it.1))
-]
+page_empty [] none = refl
+page_empty (row ∷ rows) none = absurd (none-some _ (none ∙ slice_get-get_or (row ∷ rows) (length (row ∷ rows) - 1) row (omega arith)))
 
 -- where rows have a last one, it is of the last of their jobs
 pub page_ends : (rows : List Row) (jobs : List Job) (row : Row) → rows ≡ map shown jobs → Some row ≡ slice_get rows (length rows - 1) → (ys : List Job) × (x : Job) × (jobs ≡ ys ++ x ∷ []) × (row ≡ shown x)
@@ -593,18 +558,6 @@ abbrev pub turns_left : List Row → Front → ℕ
 turns_left [] f = rank f + 1
 turns_left (row ∷ rows) f = 0
 
--- the next front ranks lower
-lower : (f : Front) → is_last f ≡ false → rank (next_front f) < rank f
-lower First last = absurd (true≢false last)
-lower (Number p t n) last = omega arith
-lower (Time p t) last = omega arith
-lower (Priority p) last = absurd (true≢false last)
-
--- each turn leaves fewer until a page has a job
-pub fewer_turns : (rows : List Row) (f g : Front) → is_last f ≡ false → (rows ≡ [] → g ≡ next_front f) → turns_left rows g < rank f + 1
-fewer_turns [] f g last next = let low = lower f last in let is = next refl in rw is (omega (arith, low))
-fewer_turns (row ∷ rows) f g last next = omega arith
-
 -- ---- what is given
 
 -- the first of the page is given
@@ -626,15 +579,11 @@ one_given asked m given row page f most h = by h.read h.parts h.shown
 pub within : (j : Job) → IsLawfulJob j → j.number ≤ last_job
 within j lawful = let up = (and_parts (leb 1 j.number) (leb j.number last_job) (within_limits_of (fields_of j) lawful.limits).number).1 in leb-true j.number last_job up
 
--- the first of a list is found by its number
-find_first : (n : ℕ) (x : Job) (xs : List Job) → n ≡ x.number → find (λ (j : Job). j.number == n) (x ∷ xs) ≡ Some x
-find_first n x xs is = let e : (x.number == n) ≡ true = grind (arith, nat_tests) in rw e
-
 -- in a list with rising numbers, each job is found by its number
 each_found : (xs : List Job) → IsAscending (Below number_of) xs → AllByRecursion (λ (j : Job). find (λ (k : Job). k.number == j.number) xs ≡ Some j) xs
 each_found [] up = tt
 each_found (x ∷ xs) up = (
-  find_first x.number x xs refl,
+  (let e : (x.number == x.number) ≡ true = grind (arith, nat_tests) in rw e),
   all_both (Below number_of x) (λ (j : Job). find (λ (k : Job). k.number == j.number) xs ≡ Some j) (λ (j : Job). find (λ (k : Job). k.number == j.number) (x ∷ xs) ≡ Some j)
       (λ j low found. let e : (x.number == j.number) ≡ false = grind (arith, nat_tests) in rw (e, found)) xs up.0 (each_found xs up.1),
 )

@@ -1,5 +1,5 @@
 -- What BEGIN, COMMIT and ROLLBACK do, whatever the schema is.
-use Rattle.std.proofs.Common.{◌≡◌, inl, inr, ℕ, List, [], length, nat_le, true, false, None, Ok, Err, Result, IsTrue, refl, sym, ap, subst}
+use Rattle.std.proofs.Common.{◌≡◌, ◌⊎◌, inl, inr, ℕ, List, [], length, nat_le, true, false, None, Ok, Err, Result, IsTrue, refl, sym, ap, subst}
 use Rattle.std.proofs.lemmas.Bool.{both_ways, leb-true}
 use Rattle.sqlite_schema.specs.declared.schema.Schema.{Schema}
 use Rattle.sqlite_resolve.specs.declared.compiled.Compiled.{Compiled}
@@ -35,20 +35,10 @@ pub rollback_is : (schema : Schema) → IsControl ROLLBACK.now Rollback (underst
 unfolding understood everything
 rollback_is schema = (refl, refl, refl, refl, refl)
 
--- it runs as BEGIN, with no RETURNING
-begin_runs : (schema : Schema) → (command_of (understood schema BEGIN.now) ≡ Begin) × IsPlain (understood schema BEGIN.now)
-unfolding understood everything
-begin_runs schema = (refl, (refl, refl))
-
--- and so does COMMIT
-commit_runs : (schema : Schema) → (command_of (understood schema COMMIT.now) ≡ Commit) × IsPlain (understood schema COMMIT.now)
-unfolding understood everything
-commit_runs schema = (refl, (refl, refl))
-
--- and ROLLBACK
-rollback_runs : (schema : Schema) → (command_of (understood schema ROLLBACK.now) ≡ Rollback) × IsPlain (understood schema ROLLBACK.now)
-unfolding understood everything
-rollback_runs schema = (refl, (refl, refl))
+-- so it runs as this command, with no RETURNING
+runs_so : (sql : List ℕ) (command : Command) (r : Result Compiled CompileError) → IsControl sql command r → (command_of r ≡ command) × IsPlain r
+runs_so sql command (Ok c) is = (is.0, (is.1, is.3))
+runs_so sql command (Err e) is = absurd is
 
 -- a command that shows no rows and writes none
 abbrev pub IsBare : Command → Type 0
@@ -90,38 +80,38 @@ module _ (old new : State) (sql : List ℕ) (command : Command) (is : IsControl 
         | inr failed ↦ failed.3
       ]
 
+-- inside a transaction, what ends it isn't misplaced
+not_misplaced : (s : State) (command : Command) → (command ≡ Commit) ⊎ (command ≡ Rollback) → IsTrue s.in_transaction → (e : Error) → IsMisplaced s command e
+    → ⊥
+not_misplaced s command ends inside e (inl (same, inl begins)) =
+    elim ends [ inl commit ↦ absurd (let no = begins.0 in cc) | inr back ↦ absurd (let no = begins.0 in cc) ]
+not_misplaced s command ends inside e (inl (same, inr outside)) = both_ways _ outside.1 inside
+not_misplaced s command ends inside e (inr (same, name, inl release, none)) =
+    elim ends [ inl commit ↦ absurd (let no = release in cc) | inr back ↦ absurd (let no = release in cc) ]
+not_misplaced s command ends inside e (inr (same, name, inr to, none)) =
+    elim ends [ inl commit ↦ absurd (let no = to in cc) | inr back ↦ absurd (let no = to in cc) ]
+
 module _ (old new : State) where
   -- a begin that is done was made outside a transaction, and leaves one under way over the same rows
   pub begins : (n : ℕ) → Executes BEGIN.now [] old new (Ok n) → (old.in_transaction ≡ false) × Shows old new old.now old.committed true
   begins n h =
-      let on = begin_runs old.now.schema in
+      let on = runs_so BEGIN.now Begin (understood old.now.schema BEGIN.now) (begin_is old.now.schema) in
       let ran = runs_as BEGIN.now [] old new old.now.schema refl Begin on.0 on.1 n h in (ran.0, ran.1)
 
   -- a commit that is done commits what is there now
   pub commits : (n : ℕ) → Executes COMMIT.now [] old new (Ok n) → Shows old new old.now old.now false
   commits n h =
-      let on = commit_runs old.now.schema in
+      let on = runs_so COMMIT.now Commit (understood old.now.schema COMMIT.now) (commit_is old.now.schema) in
       let ran = runs_as COMMIT.now [] old new old.now.schema refl Commit on.0 on.1 n h in ran.1
 
   -- a rollback in a transaction undoes it, whatever it answers
   pub rolls_back : (r : Result ℕ Error) → IsTrue old.in_transaction → Executes ROLLBACK.now [] old new r → IsRolledBack old new
   rolls_back (Ok n) inside h =
-      let on = rollback_runs old.now.schema in
+      let on = runs_so ROLLBACK.now Rollback (understood old.now.schema ROLLBACK.now) (rollback_is old.now.schema) in
       let ran = runs_as ROLLBACK.now [] old new old.now.schema refl Rollback on.0 on.1 n h in ran.1
-  rolls_back (Err e) inside h = fails old new ROLLBACK.now Rollback (rollback_is old.now.schema) (refl, refl, λ w. w) e (placed e) h
-    where
-      placed : (e : Error) → IsMisplaced old Rollback e → ⊥
-      placed e (inl (same, inl begins)) = absurd (let no = begins.0 in cc)
-      placed e (inl (same, inr ends)) = both_ways _ ends.1 inside
-      placed e (inr (same, name, inl release, none)) = absurd (let no = release in cc)
-      placed e (inr (same, name, inr back, none)) = absurd (let no = back in cc)
+  rolls_back (Err e) inside h = fails old new ROLLBACK.now Rollback (rollback_is old.now.schema) (refl, refl, λ w. w) e
+      (not_misplaced old Rollback (inr refl) inside e) h
 
   -- a commit that fails in a transaction undoes it
   pub commit_fails : (e : Error) → IsTrue old.in_transaction → Executes COMMIT.now [] old new (Err e) → IsRolledBack old new
-  commit_fails e inside h = fails old new COMMIT.now Commit (commit_is old.now.schema) (refl, refl, λ w. w) e (placed e) h
-    where
-      placed : (e : Error) → IsMisplaced old Commit e → ⊥
-      placed e (inl (same, inl begins)) = absurd (let no = begins.0 in cc)
-      placed e (inl (same, inr ends)) = both_ways _ ends.1 inside
-      placed e (inr (same, name, inl release, none)) = absurd (let no = release in cc)
-      placed e (inr (same, name, inr back, none)) = absurd (let no = back in cc)
+  commit_fails e inside h = fails old new COMMIT.now Commit (commit_is old.now.schema) (refl, refl, λ w. w) e (not_misplaced old Commit (inl refl) inside e) h

@@ -1,5 +1,7 @@
 -- How many grants are open to a number, after a change of the queue.
-use Rattle.std.proofs.Common.{◌≡◌, ◌⊎◌, inl, inr, ℕ, pos, ◌+◌, ◌<◌, ◌≤◌, ◌^◌, List, [], ◌∷◌, map, filter, length, cond, if◌then◌else◌, Bool, true, false, ◌&&◌, Option, Some, None, refl, sym, ap, ap₂, subst, ◌∙◌, arith}
+use Rattle.std.proofs.Common.{◌≡◌, ◌⊎◌, inl, inr, ℕ, pos, ◌+◌, ◌-◌, ◌<◌, ◌≤◌, ◌^◌, List, [], ◌∷◌, map, filter, length, cond, if◌then◌else◌, Bool, true, false, ◌&&◌, Option, Some, None, refl, sym, ap, ap₂, subst, ◌∙◌, arith}
+use Rattle.fax_store.specs.Grant.{with_count}
+use Rattle.std.proofs.lemmas.Option.{same_Some}
 use Rattle.std.specs.Prelude.{find, ◌==◌, nat_lt}
 use Rattle.std.specs.Option.{option_map}
 use Rattle.std.specs.Ordering.{int_cmp}
@@ -7,7 +9,7 @@ use Rattle.std.specs.Cmp as cmp
 use Rattle.std.specs.Str.{bytes_eq}
 use Rattle.std.proofs.lemmas.Slice.Eq.{bytes_eq-Decides}
 use Rattle.std.specs.declared.cmp.Ordering.TheVariants.{Less}
-use Rattle.std.proofs.lemmas.Bool.{cases_Bool, eqb-true, eq-eqb}
+use Rattle.std.proofs.lemmas.Bool.{cases_Bool, eqb-true, eq-eqb, both_ways, cond_both, false_from_ne_true, true≢false}
 use Rattle.std.proofs.lemmas.Bool.Decides.{nat_tests}
 use Rattle.std.proofs.lemmas.List.Elements.{recursion_from_All}
 use Rattle.sqlite.specs.Effect.{Database}
@@ -25,7 +27,7 @@ use Rattle.fax_core.specs.State.{calls_to, is_of_number}
 use Rattle.fax_core.specs.declared.grants.Grant.{Grant}
 use Rattle.fax_core.proofs.PlaceLemmas.{find_map}
 use Rattle.fax_tables.specs.Place.{placed}
-use Rattle.fax_tables.specs.Row.{grant_row}
+use Rattle.fax_tables.specs.Row.{grant_row, hold_columns}
 use Rattle.fax_tables.specs.Tables.{HasJob, HaveJobs, IsLawfulGrant, TablesMean}
 use Rattle.fax_schema.proofs.EditLemmas.{has_mapped}
 use Rattle.fax_tables.proofs.KeyLemmas.{apart}
@@ -35,29 +37,40 @@ use Rattle.fax_store.specs.Job.{with_placed}
 pub turned : (s t : List ℕ) → bytes_eq s t ≡ bytes_eq t s
 turned s t = cmp.both_ways (bytes_eq s t) (bytes_eq t s) (λ h. (bytes_eq-Decides t s).1 (sym ((bytes_eq-Decides s t).0 h))) (λ h. (bytes_eq-Decides s t).1 (sym ((bytes_eq-Decides t s).0 h)))
 
--- ---- among open grants
+-- ---- one call more, or one less
 
 abbrev pub one : Bool → ℕ
 one true = 1
 one false = 0
 
+module _ (dial : List ℕ) (count after : List ℕ → ℕ) where
+  -- a number with one call more
+  pub one_more : ((d : List ℕ) → after d ≡ one (bytes_eq dial d) + count d) → (d : List ℕ) → with_count dial (count dial + 1) count d ≡ after d
+  one_more more d = cond_both (bytes_eq d dial) (count dial + 1) (count d) (λ n. n ≡ after d)
+      (λ on. rw ((bytes_eq-Decides d dial).0 on) (let total = rw ((bytes_eq-Decides dial dial).1 refl) at (more dial) in omega (arith, total)))
+      (λ off. let total = rw (turned dial d ∙ off) at (more d) in omega (arith, total))
+
+  -- and with one less
+  pub one_less : ((d : List ℕ) → after d + one (bytes_eq dial d) ≡ count d) → (d : List ℕ) → with_count dial (count dial - 1) count d ≡ after d
+  one_less less d = cond_both (bytes_eq d dial) (count dial - 1) (count d) (λ n. n ≡ after d)
+      (λ on. rw ((bytes_eq-Decides d dial).0 on) (let total = rw ((bytes_eq-Decides dial dial).1 refl) at (less dial) in omega (arith, total)))
+      (λ off. let total = rw (turned dial d ∙ off) at (less d) in omega (arith, total))
+
+-- ---- among open grants
+
 -- how many of those that are open pass
 abbrev pub open_to : (Grant → Bool) → List Grant → ℕ
 open_to of gs = length (filter of (filter (λ g. g.is_open) gs))
 
--- one more that passes, or not, is counted as 1 or 0
-passed : (g : Grant) (gs : List Grant) (b : Bool) → length (cond b (g ∷ gs) gs) ≡ one b + length gs
-passed g gs true = omega arith
-passed g gs false = omega arith
-
--- one more that is open, or not, adds 1 or 0 to those that pass
-opened : (of : Grant → Bool) (g : Grant) (gs : List Grant) (b : Bool) → length (filter of (cond b (g ∷ gs) gs)) ≡ one (b && of g) + length (filter of gs)
-opened of g gs true = passed g (filter of gs) (of g)
-opened of g gs false = omega arith
-
 -- one more grant adds 1 where it is open and passes
 pub open_more : (of : Grant → Bool) (g : Grant) (gs : List Grant) → open_to of (g ∷ gs) ≡ one (g.is_open && of g) + open_to of gs
-open_more of g gs = opened of g (filter (λ h. h.is_open) gs) g.is_open
+open_more of g gs =
+    let open_ones = filter (λ h. h.is_open) gs in
+    let rest = filter of open_ones in
+    elim g.is_open as (λ b. length (filter of (cond b (g ∷ open_ones) open_ones)) ≡ one (b && of g) + length rest) [
+      | true ↦ elim (of g) as (λ b. length (cond b (g ∷ rest) rest) ≡ one b + length rest) [ true ↦ omega arith | false ↦ omega arith ]
+      | false ↦ omega arith
+    ]
 
 -- a truth counts for at most 1
 at_most_one : (b : Bool) → one b ≤ 1
@@ -101,22 +114,17 @@ module _ (x : Job) where
   -- beside a new job, each other number finds what it found
   found_beside : (n : ℕ) (xs : List Job) → (x.number == n) ≡ false → find (λ (j : Job). j.number == n) (placed (λ (j : Job). j.number) x xs) ≡ find (λ (j : Job). j.number == n) xs
   found_beside n [] off = rw off refl
-  found_beside n (y ∷ ys) off = elim (cases_Bool (nat_lt y.number x.number)) [
-    | inl below ↦ rw below (elim (cases_Bool (y.number == n)) [ inl here ↦ rw here refl | inr other ↦ rw other (found_beside n ys off) ])
-    | inr above ↦ rw (above, off) refl
-  ]
+  found_beside n (y ∷ ys) off = cond_both (nat_lt y.number x.number) (y ∷ placed (λ (j : Job). j.number) x ys) (x ∷ y ∷ ys)
+      (λ js. find (λ (j : Job). j.number == n) js ≡ find (λ (j : Job). j.number == n) (y ∷ ys))
+      (λ _. ap (cond (y.number == n) (Some y)) (found_beside n ys off)) (λ _. rw off refl)
 
   module _ (m : Queue) (have : HaveJobs m) (free : (y : Job) → Has m.jobs y → (y.number == x.number) ≡ false) where
     -- the new job's number is none of an open grant's job
     other : (g : Grant) → Has (open_grants m) g → (x.number == g.job) ≡ false
-    other g has = elim (cases_Bool (x.number == g.job)) [
-      | inl same ↦
-          (let it = have g has in
-          let there = has_found (λ (j : Job). j.number == g.job) m.jobs it.0 it.1 in
-          let number : (it.0).number ≡ x.number = eqb-true (it.0).number g.job there.1 ∙ sym (eqb-true x.number g.job same) in
-          absurd (let e = sym (eq-eqb (it.0).number x.number number) ∙ free it.0 there.0 in cc))
-      | inr off ↦ off
-    ]
+    other g has = false_from_ne_true (x.number == g.job) (λ same.
+        let it = have g has in
+        let there = has_found (λ (j : Job). j.number == g.job) m.jobs it.0 it.1 in
+        both_ways _ (free it.0 there.0) (eq-eqb (it.0).number x.number (eqb-true (it.0).number g.job there.1 ∙ sym (eqb-true x.number g.job same))))
 
     -- open grants keep their jobs beside a new one
     pub jobs_placed : HaveJobs (with_placed x m)
@@ -128,14 +136,15 @@ module _ (x : Job) where
 
 -- ---- the grants changed
 
--- each grant became another of its job, open where it was
-module _ (f : Grant → Grant) (m : Queue) (same : (x : Grant) → Has m.grants x → ((f x).is_open ≡ x.is_open) × ((f x).job ≡ x.job)) where
+-- each grant became another of its modem, job and number, open where it was
+module _ (f : Grant → Grant) (m : Queue) (same : (x : Grant) → Has m.grants x → ((f x).is_open ≡ x.is_open) × (hold_columns (f x) ≡ hold_columns x)) where
   -- changed grants of the same jobs, open as before, are as many by any test of their jobs
-  open_mapped : (of : ℕ → Bool) (gs : List Grant) → ((x : Grant) → Has gs x → ((f x).is_open ≡ x.is_open) × ((f x).job ≡ x.job)) → open_to (λ g. of g.job) gs ≡ open_to (λ g. of g.job) (map f gs)
+  open_mapped : (of : ℕ → Bool) (gs : List Grant) → ((x : Grant) → Has gs x → ((f x).is_open ≡ x.is_open) × (hold_columns (f x) ≡ hold_columns x)) → open_to (λ g. of g.job) gs ≡ open_to (λ g. of g.job) (map f gs)
   open_mapped of [] as_it = refl
   open_mapped of (x ∷ xs) as_it =
       let it = as_it x (inl refl) in
-      open_more (λ g. of g.job) x xs ∙ ap₂ ◌+◌ (sym (ap₂ (λ b j. one (b && of j)) it.0 it.1)) (open_mapped of xs (λ y has. as_it y (inr has))) ∙ sym (open_more (λ g. of g.job) (f x) (map f xs))
+      let job : (f x).job ≡ x.job = let columns = it.1 in cc in
+      open_more (λ g. of g.job) x xs ∙ ap₂ ◌+◌ (sym (ap₂ (λ b j. one (b && of j)) it.0 job)) (open_mapped of xs (λ y has. as_it y (inr has))) ∙ sym (open_more (λ g. of g.job) (f x) (map f xs))
 
   -- where grants change so, each number keeps its calls
   pub calls_reported : (dial : List ℕ) → calls_to dial m ≡ calls_to dial (record m { grants = map f m.grants })
@@ -148,26 +157,22 @@ module _ (f : Grant → Grant) (m : Queue) (same : (x : Grant) → Has m.grants 
       let it = has_mapped f m.grants g is_open.0 in
       let as_it = same it.0 it.1 in
       let was = have it.0 (has_kept (λ (x : Grant). x.is_open) m.grants it.0 it.1 (sym as_it.0 ∙ ap (λ (x : Grant). x.is_open) (sym it.2) ∙ is_open.1)) in
-      (was.0, ap (λ n. job_numbered n m) (ap (λ (x : Grant). x.job) it.2 ∙ as_it.1) ∙ was.1)
+      let job : g.job ≡ it.0.job = let columns = as_it.1 in ap (λ (x : Grant). x.job) it.2 ∙ cc in
+      (was.0, ap (λ n. job_numbered n m) job ∙ was.1)
 
 -- one more grant
 pub placed_count : (of : Grant → Bool) (g : Grant) (gs : List Grant) → open_to of (placed (λ (x : Grant). x.number) g gs) ≡ one (g.is_open && of g) + open_to of gs
 placed_count of g [] = open_more of g []
-placed_count of g (h ∷ hs) = elim (cases_Bool (nat_lt h.number g.number)) [
-  | inl below ↦ rw below (omega (arith, open_more of h (placed (λ (x : Grant). x.number) g hs), open_more of h hs, placed_count of g hs))
-  | inr above ↦ rw above (open_more of g (h ∷ hs))
-]
+placed_count of g (h ∷ hs) = cond_both (nat_lt h.number g.number) (h ∷ placed (λ (x : Grant). x.number) g hs) (g ∷ h ∷ hs)
+    (λ gs. open_to of gs ≡ one (g.is_open && of g) + open_to of (h ∷ hs))
+    (λ _. omega (arith, open_more of h (placed (λ (x : Grant). x.number) g hs), open_more of h hs, placed_count of g hs)) (λ _. open_more of g (h ∷ hs))
 
 -- a grant among those with one placed is that one or was there
 pub has_placed : (g h : Grant) (gs : List Grant) → Has (placed (λ (x : Grant). x.number) g gs) h → (h ≡ g) ⊎ Has gs h
-has_placed g h [] has = has
-has_placed g h (x ∷ xs) has = elim (cases_Bool (nat_lt x.number g.number)) [
-  | inl below ↦ elim (rw below at has) [
-    | inl is ↦ inr (inl is)
-    | inr more ↦ elim (has_placed g h xs more) [ inl is ↦ inl is | inr there ↦ inr (inr there) ]
-  ]
-  | inr above ↦ (rw above at has)
-]
+has_placed g h [] = λ has. has
+has_placed g h (x ∷ xs) = cond_both (nat_lt x.number g.number) (x ∷ placed (λ (y : Grant). y.number) g xs) (g ∷ x ∷ xs)
+    (λ gs. Has gs h → (h ≡ g) ⊎ Has (x ∷ xs) h)
+    (λ _ has. elim has [ inl is ↦ inr (inl is) | inr more ↦ elim (has_placed g h xs more) [ inl is ↦ inl is | inr there ↦ inr (inr there) ] ]) (λ _ has. has)
 
 -- a grant of a number that is open no more
 module _ (n : ℕ) where
@@ -179,54 +184,35 @@ module _ (n : ℕ) where
   none_shut [] off = refl
   none_shut (x ∷ xs) off = ap₂ ◌∷◌ (ap (λ b. if b then record x { is_open = false } else x) (off x (inl refl))) (none_shut xs (λ y has. off y (inr has)))
 
-  same_some : (a b : Grant) → ◌≡◌ {A = Option Grant} (Some a) (Some b) → a ≡ b
-  same_some a b e = cc
+  -- one that is open still is as it was
+  still_open : (x : Grant) → (shut x).is_open ≡ true → shut x ≡ x
+  still_open x = cond_both (x.number == n) (record x { is_open = false }) x (λ y. y.is_open ≡ true → y ≡ x) (λ _ e. absurd (true≢false (sym e))) (λ _ e. refl)
 
   -- shutting an open grant takes it off those that are open
   pub closed_count : (of : Grant → Bool) (g : Grant) (gs : List Grant) → IsTable (map grant_row gs) → find (λ (x : Grant). x.number == n) gs ≡ Some g → g.is_open ≡ true → open_to of (map shut gs) + one (of g) ≡ open_to of gs
   closed_count of g [] rise found on = absurd cc
   closed_count of g (h ∷ hs) rise found on = elim (cases_Bool (h.number == n)) [
     | inl here ↦
-        (let same : h ≡ g = same_some h g (rw here at found) in
-        let rest : map shut hs ≡ hs = none_shut hs (λ y has. later y has here) in
-        let left : open_to of (map shut (h ∷ hs)) ≡ 0 + open_to of hs =
-        ap₂ (λ x xs. open_to of (x ∷ xs)) (ap (λ b. if b then record h { is_open = false } else h) here) rest ∙ open_more of (record h { is_open = false }) hs in
-        let right : open_to of (h ∷ hs) ≡ one (of g) + open_to of hs =
-        open_more of h hs ∙ ap₂ (λ b (x : Grant). one (b && of x) + open_to of hs) (ap (λ (x : Grant). x.is_open) same ∙ on) same in
-        omega (arith, left, right))
-    | inr off ↦
-        (let tail = closed_count of g hs rise.1 (rw off at found) on in
-        let left : open_to of (map shut (h ∷ hs)) ≡ one (h.is_open && of h) + open_to of (map shut hs) =
-        ap (λ x. open_to of (x ∷ map shut hs)) (ap (λ b. if b then record h { is_open = false } else h) off) ∙ open_more of h (map shut hs) in
-        let right = open_more of h hs in
-        omega (arith, left, right, tail))
+        (let same : h ≡ g = same_Some h g (rw here at found) in
+        let more : open_to of (h ∷ hs) ≡ one (of g) + open_to of hs = rw same (open_more of g hs ∙ ap (λ b. one (b && of g) + open_to of hs) on) in
+        rw (here, none_shut hs (λ y has. later y has here)) (omega (arith, more)))
+    | inr off ↦ rw off (omega (arith, open_more of h (map shut hs), open_more of h hs, closed_count of g hs rise.1 (rw off at found) on))
   ]
     where
       later : (y : Grant) → Has hs y → (h.number == n) ≡ true → (y.number == n) ≡ false
-      later y has here = elim (cases_Bool (y.number == n)) [
-        | inl same ↦
-            (let less = all_has (λ r. value_cmp (rowid (grant_row h)) (rowid r) ≡ Less) (map grant_row hs) (grant_row y) rise.0 (mapped_has grant_row hs y has) in
-            let other = apart grant_row (λ (x : Grant). x.number) (λ x. refl) h y less in
-            absurd (let e = sym (eq-eqb h.number y.number (eqb-true h.number n here ∙ sym (eqb-true y.number n same))) ∙ other in cc))
-        | inr off ↦ off
-      ]
+      later y has here = false_from_ne_true (y.number == n) (λ same.
+          let less = all_has (λ r. value_cmp (rowid (grant_row h)) (rowid r) ≡ Less) (map grant_row hs) (grant_row y) rise.0 (mapped_has grant_row hs y has) in
+          both_ways _ (apart grant_row (λ (x : Grant). x.number) (λ x. refl) h y less)
+          (eq-eqb h.number y.number (eqb-true h.number n here ∙ sym (eqb-true y.number n same))))
 
   -- open grants keep their jobs where one is shut
   pub jobs_shut : (m : Queue) → HaveJobs m → HaveJobs (record m { grants = map shut m.grants })
-  jobs_shut m have g has = by (it.0.number == n) refl
-    where
-      opened' : Has (map shut m.grants) g × (g.is_open ≡ true)
-      opened' = has_filtered (λ (x : Grant). x.is_open) (map shut m.grants) g has
-
-      it : (x : Grant) × Has m.grants x × (g ≡ shut x)
-      it = has_mapped shut m.grants g opened'.0
-
-      by : (b : Bool) → (it.0.number == n) ≡ b → HasJob m g
-      by true here = absurd (let e = sym opened'.1 ∙ ap (λ (x : Grant). x.is_open) (it.2 ∙ ap (λ c. if c then record it.0 { is_open = false } else it.0) here) in cc)
-      by false off =
-          let same : g ≡ it.0 = it.2 ∙ ap (λ c. if c then record it.0 { is_open = false } else it.0) off in
-          let was = have it.0 (has_kept (λ (x : Grant). x.is_open) m.grants it.0 it.1 (ap (λ (x : Grant). x.is_open) (sym same) ∙ opened'.1)) in
-          (was.0, ap (λ (x : Grant). job_numbered x.job m) same ∙ was.1)
+  jobs_shut m have g has =
+      let opened = has_filtered (λ (x : Grant). x.is_open) (map shut m.grants) g has in
+      let it = has_mapped shut m.grants g opened.0 in
+      let same : g ≡ it.0 = it.2 ∙ still_open it.0 (sym (ap (λ (x : Grant). x.is_open) it.2) ∙ opened.1) in
+      let was = have it.0 (has_kept (λ (x : Grant). x.is_open) m.grants it.0 it.1 (sym (ap (λ (x : Grant). x.is_open) same) ∙ opened.1)) in
+      (was.0, ap (λ (x : Grant). job_numbered x.job m) same ∙ was.1)
 
 -- the job of an open grant is there
 pub held_job : (m : Queue) → HaveJobs m → (n : ℕ) (g : Grant) → grant_numbered n m ≡ Some g → g.is_open ≡ true → HasJob m g

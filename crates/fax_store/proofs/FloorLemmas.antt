@@ -1,7 +1,9 @@
--- What the texts on floors, and on the replies that a client gives up, leave.
-use Rattle.std.proofs.Common.{◌≡◌, ◌≤◌, ◌<◌, ◌^◌, inl, inr, ℕ, zero, suc, List, [], ◌∷◌, map, filter, drop, Bool, true, false, not, ◌&&◌, Option, MatchOption, refl, sym, ap, ap₂, subst, ◌∙◌, arith, if◌then◌else◌}
+-- What the texts on floors, and on the replies that a client gives up, leave; and such replies, some at a time.
+use Rattle.std.proofs.Common.{◌≡◌, ◌≤◌, ◌<◌, ◌^◌, ℕ, zero, suc, List, [], ◌∷◌, map, filter, drop, false, not, ◌&&◌, Option, MatchOption, refl, sym, ap, ap₂, subst, ◌∙◌, arith, Bool, true, Ok, Err, Result, MatchResult}
+use Rattle.sqlite_trees.proofs.ListLemmas.{filter-filter}
+use Rattle.std.proofs.Math.Bool.{and-true}
 use Rattle.std.specs.Str.{bytes_eq}
-use Rattle.std.proofs.lemmas.Bool.{cases_Bool}
+use Rattle.std.proofs.lemmas.Bool.{cond_both}
 use Rattle.std.proofs.lemmas.Slice.Eq.{bytes_eq-Decides}
 use Rattle.sqlite.specs.Cast.{cast_row}
 use Rattle.sqlite.specs.Edit.{with_rowid, next_rowid}
@@ -10,8 +12,7 @@ use Rattle.sqlite.specs.Rowids.TheVariants.{Chosen}
 use Rattle.sqlite.specs.State.{State}
 use Rattle.sqlite.specs.declared.types.Value.TheVariants.{Null, Int, Text}
 use Rattle.sqlite.proofs.Callers.{runs_as}
-use Rattle.sqlite_trees.proofs.ListLemmas.{all_of, filter-map, filter_same}
-use Rattle.fax_core.specs.Ledger.{Ledger, floors_with, is_through, without_replies, IsLawfulEntry}
+use Rattle.fax_core.specs.Ledger.{Ledger, floors_with, is_through, without_replies}
 use Rattle.fax_core.specs.Queue.{Queue, Entry, open_grants}
 use Rattle.fax_value.specs.Name.{IsName}
 use Rattle.fax_schema.specs.declared.statements.TheConstants.{DELETE_FLOOR, DELETE_REPLIES, INSERT_FLOOR, SELECT_FLOOR}
@@ -29,18 +30,27 @@ use Rattle.fax_schema.proofs.WriteLemmas.{KeepsOthers, unreferred, inserts}
 use Rattle.fax_tables.specs.Row.{number, entry_columns, floor_columns}
 use Rattle.fax_tables.specs.Tables.{AreCounted, AreLawfulFloors, TablesMean}
 use Rattle.fax_tables.proofs.TablesLemmas.{AreColumns, AreFloors, by_rowid_put, calls_of, floors_changed, means_of, parts_of, replies_changed}
-use Rattle.fax_store.specs.Store.{FindsRow, HasRun}
-use Rattle.fax_store.proofs.CallLemmas.{beside, counted_found, is_asked, others, params, without}
-
-and_true : (b : Bool) → (b && true) ≡ b
-and_true true = refl
-and_true false = refl
+use Rattle.fax_store.specs.Store.{FindsRow, HasRun, Serves}
+use Rattle.fax_store.proofs.CallLemmas.{beside, counted_found, is_asked, left_without, params}
+use Rattle.std.specs.Prelude.{IfErr, IsErrAnd, nat_le, ⊤}
+use Rattle.std.proofs.lemmas.Bool.Decides.{nat_tests}
+use Rattle.sqlite_trees.specs.declared.store.Store.{Ghosts}
+use Rattle.fax_store.specs.Calls.{Finds, Runs, shown}
+use Rattle.fax_store.specs.Floors.{Thins}
+use Rattle.fax_store.specs.Work.{IsUnderWay, Steps, Works}
+use Rattle.fax_store.specs.declared.store.Store.{Store}
+use Rattle.fax_store.proofs.FrameLemmas.{runs_of, runs_then}
+use Rattle.fax_store.proofs.WorkLemmas.{goes_on}
+use Rattle.fax_tables.specs.Fault.{OrUnavailable}
+use Rattle.fax_tables.specs.declared.fault.StoreFault.{StoreFault}
+use Rattle.fax_tables.specs.declared.fault.StoreFault.TheVariants.{Unavailable}
 
 -- ---- reading
 
 pub floor_found : (client : List ℕ) (old new : State) (m : Queue) (k : Ledger) → TablesMean old.now m k → (found : Option Row) → FindsRow SELECT_FLOOR.now (params client) old new found
     → MatchOption found (k.floor client ≡ 0) (λ row. row ≡ number (k.floor client) ∷ [])
-floor_found client old new m k means = counted_found client floors_tree SELECT_FLOOR.now _ select_floor old new refl k.floor means.schema means.floors
+floor_found client old new m k means = counted_found client floors_tree SELECT_FLOOR.now _ select_floor (λ trees. refl) old new k.floor means.schema
+    means.floors
 
 low : (n : ℕ) → (1 ≤ n → n < 10 ^ 18) → n < 10 ^ 18
 low zero some = omega arith
@@ -61,7 +71,7 @@ module _ (client : List ℕ) (floor : ℕ) where
   is_given [] e is = absurd cc
   is_given (i ∷ columns) e is =
       ap (λ rest. passes replies_tree given_up_tests gone_project given_params (i ∷ rest)) is
-      ∙ ap₂ (λ a b. a && b) (equal_texts e.client client) (and_true _ ∙ at_most e.number floor)
+      ∙ ap₂ (λ a b. a && b) (equal_texts e.client client) (and-true _ ∙ at_most e.number floor)
 
   pub replies_dropped : (old new : State) (m : Queue) (k : Ledger) → TablesMean old.now m k → HasRun DELETE_REPLIES.now given_params old new → TablesMean new.now m (without_replies client floor k) × KeepsOthers our_tables replies_tree old new
   replies_dropped old new m k means h =
@@ -79,60 +89,125 @@ module _ (client : List ℕ) (floor : ℕ) where
 -- ---- a floor that is set
 
 -- the floors of others stay lawful, and a client's is where it is set to a lawful one
-lawful_with : (client : List ℕ) (floor : ℕ) (of : List ℕ → ℕ) → AreLawfulFloors of → (1 ≤ floor → IsName client × (floor < 10 ^ 18)) → AreLawfulFloors (floors_with client floor of)
-lawful_with client floor of was its other some = elim (cases_Bool (bytes_eq other client)) [
-  | inl on ↦
-      (let here : floors_with client floor of other ≡ floor = ap (λ b. if b then floor else of other) on in
-      let it = its (subst (λ n. 1 ≤ n) here some) in
-      (subst IsName (sym ((bytes_eq-Decides other client).0 on)) it.0, subst (λ n. n < 10 ^ 18) (sym here) it.1))
-  | inr off ↦
-      (let there : floors_with client floor of other ≡ of other = ap (λ b. if b then floor else of other) off in
-      let it = was other (subst (λ n. 1 ≤ n) there some) in
-      (it.0, subst (λ n. n < 10 ^ 18) (sym there) it.1))
-]
+lawful_with : (client : List ℕ) (floor : ℕ) (of : List ℕ → ℕ)
+    → ((other : List ℕ) → bytes_eq other client ≡ false → 1 ≤ of other → IsName other × (of other < 10 ^ 18)) → (1 ≤ floor → IsName client × (floor < 10 ^ 18))
+    → AreLawfulFloors (floors_with client floor of)
+lawful_with client floor of was its other = cond_both (bytes_eq other client) floor (of other) (λ n. 1 ≤ n → IsName other × (n < 10 ^ 18))
+    (λ on some. let it = its some in (rw ((bytes_eq-Decides other client).0 on) it.0, it.1)) (λ off. was other off)
 
 abbrev pub floor_params : List ℕ → ℕ → Row
 floor_params client floor = Text client ∷ number floor ∷ []
 
-module _ (client : List ℕ) (floor : ℕ) (old mid : State) (m : Queue) (k : Ledger) (means : TablesMean old.now m k) where
-  abbrev cleared : List ℕ → ℕ
-  cleared = floors_with client 0 k.floor
+-- the text that takes a client's floor off sets it to 0, and touches floors alone
+pub floor_gone : (client : List ℕ) (old new : State) (m : Queue) (k : Ledger) → TablesMean old.now m k → HasRun DELETE_FLOOR.now (params client) old new
+    → TablesMean new.now m (record k { floor = floors_with client 0 k.floor }) × KeepsOthers our_tables floors_tree old new
+floor_gone client old new m k means h =
+    let rows = old.now.trees floors_tree in
+    let cleared = floors_with client 0 k.floor in
+    let pass = passes floors_tree call_tests gone_project (params client) in
+    let ran = runs_as DELETE_FLOOR.now (params client) old new our_tables means.schema _ delete_floor.is delete_floor.plain h.0 h.1 in
+    let done = deleted schema.floors.name 11 schema.floors.columns schema.floors.key schema.floors.primary schema.floors.uniques schema.floors.orders schema.floors.checks 6 refl old new means.schema refl means.ordered.floors
+    call_tests gone_project (params client) (λ r. refl) _ h.0 ran in
+    let now : AreFloors cleared (new.now.trees floors_tree) = record {
+      is = left_without client k.floor pass (is_asked client gone_project) rows (new.now.trees floors_tree) done.1 means.floors;
+      ordered = done.2;
+      lawful = lawful_with client 0 k.floor (λ other _. means.lawful.floors other) (λ some. absurd (omega (arith, some)));
+    } in
+    (means_of new.now m (record k { floor = cleared }) means.held (floors_changed old new m (open_grants m) (calls_of m) k (parts_of old.now m k means) done.0 cleared now), done.0)
 
-  gone : HasRun DELETE_FLOOR.now (params client) old mid → KeepsOthers our_tables floors_tree old mid × AreFloors cleared (mid.now.trees floors_tree)
-  gone h =
-      let rows = old.now.trees floors_tree in
-      let pass = passes floors_tree call_tests gone_project (params client) in
-      let ran = runs_as DELETE_FLOOR.now (params client) old mid our_tables means.schema _ delete_floor.is delete_floor.plain h.0 h.1 in
-      let done = deleted schema.floors.name 11 schema.floors.columns schema.floors.key schema.floors.primary schema.floors.uniques schema.floors.orders schema.floors.checks 6 refl old mid means.schema refl means.ordered.floors
-      call_tests gone_project (params client) (λ r. refl) _ h.0 ran in
-      let left : map (drop 1) (filter (λ r. not (pass r)) rows) ≡ filter (others client k.floor) (map (drop 1) rows) =
-      ap (map (drop 1)) (filter_same (λ r. not (pass r)) (λ r. others client k.floor (drop 1 r)) rows (all_of (λ r. not (pass r) ≡ others client k.floor (drop 1 r)) (λ r. ap not (is_asked client gone_project r)) rows)) ∙ sym (filter-map (others client k.floor) (drop 1) rows) in (
-        done.0,
-        record {
-          is = subst (AreCounted cleared) (sym (ap (map (drop 1)) done.1 ∙ left)) (without client k.floor (map (drop 1) rows) means.floors);
-          ordered = done.2;
-          lawful = lawful_with client 0 k.floor means.lawful.floors (λ some. absurd (omega (arith, some)));
-        },
-      )
+-- the text that adds one, where the client has none, sets it, and touches floors alone
+pub floor_set : (client : List ℕ) (floor : ℕ) (old new : State) (m : Queue) (k : Ledger)
+    → TablesMean old.now m (record k { floor = floors_with client 0 k.floor }) → IsName client → 1 ≤ floor → floor < 10 ^ 18
+    → HasRun INSERT_FLOOR.now (floor_params client floor) old new → TablesMean new.now m (record k { floor = floors_with client floor k.floor }) × KeepsOthers our_tables floors_tree old new
+floor_set client floor old new m k means name some low h =
+    let rows = old.now.trees floors_tree in
+    let row = Int (next_rowid rows) ∷ floor_columns client floor in
+    let cleared = record k { floor = floors_with client 0 k.floor } in
+    let set = floors_with client floor k.floor in
+    let stored : cast_row schema.floors (Null ∷ floor_columns client floor) ≡ Null ∷ floor_columns client floor = same_row cast_null (same_row refl (same_row (cast_int _) refl)) in
+    let ran = runs_as INSERT_FLOOR.now (floor_params client floor) old new our_tables means.schema _ insert_floor.is insert_floor.plain h.0 h.1 in
+    let done = inserts our_tables unreferred schema.floors.name 11 schema.floors.columns schema.floors.key schema.floors.primary schema.floors.uniques schema.floors.orders schema.floors.checks 6 refl old new means.schema (floor_params client floor) _ h.0
+    call_terms 3 (Null ∷ floor_columns client floor) row refl (ap (with_rowid Chosen rows) stored) ran in
+    let by = means.ordered.floors in
+    let now : AreFloors set (new.now.trees floors_tree) = record {
+      is = subst (AreCounted set) (sym (ap (map (drop 1)) done.rows ∙ appended rows (floor_columns client floor) by.integers by.rise)) (beside client k.floor floor (map (drop 1) rows) some means.floors);
+      ordered = subst IsByRowid (sym done.rows) (by_rowid_put row rows refl by);
+      lawful = lawful_with client floor k.floor (λ other off. rw off at (means.lawful.floors other)) (λ _. (name, low));
+    } in
+    (means_of new.now m (record k { floor = set }) means.held (floors_changed old new m (open_grants m) (calls_of m) cleared (parts_of old.now m cleared means) done.keeps set now), done.keeps)
 
-  pub floor_gone : HasRun DELETE_FLOOR.now (params client) old mid → KeepsOthers our_tables floors_tree old mid
-  floor_gone h = (gone h).0
+-- ---- what two tests leave, of which one passes whatever the other does
 
-  module _ (new : State) (first : HasRun DELETE_FLOOR.now (params client) old mid) where
-    pub floor_set : IsName client → 1 ≤ floor → floor < 10 ^ 18 → HasRun INSERT_FLOOR.now (floor_params client floor) mid new → TablesMean new.now m (record k { floor = floors_with client floor k.floor }) × KeepsOthers our_tables floors_tree mid new
-    floor_set name some low h =
-        let rows = mid.now.trees floors_tree in
-        let row = Int (next_rowid rows) ∷ floor_columns client floor in
-        let stored : cast_row schema.floors (Null ∷ floor_columns client floor) ≡ Null ∷ floor_columns client floor = same_row cast_null (same_row refl (same_row (cast_int _) refl)) in
-        let between = gone first in
-        let at_mid = floors_changed old mid m (open_grants m) (calls_of m) k (parts_of old.now m k means) between.0 cleared between.1 in
-        let ran = runs_as INSERT_FLOOR.now (floor_params client floor) mid new our_tables at_mid.schema _ insert_floor.is insert_floor.plain h.0 h.1 in
-        let done = inserts our_tables unreferred schema.floors.name 11 schema.floors.columns schema.floors.key schema.floors.primary schema.floors.uniques schema.floors.orders schema.floors.checks 6 refl mid new at_mid.schema (floor_params client floor) _ h.0
-        call_terms 3 (Null ∷ floor_columns client floor) row refl (ap (with_rowid Chosen rows) stored) ran in
-        let by = (between.1).ordered in
-        let now : AreFloors (floors_with client floor k.floor) (new.now.trees floors_tree) = record {
-          is = subst (AreCounted (floors_with client floor k.floor)) (sym (ap (map (drop 1)) done.rows ∙ appended rows (floor_columns client floor) by.integers by.rise)) (beside client k.floor floor (map (drop 1) rows) some (between.1).is);
-          ordered = subst IsByRowid (sym done.rows) (by_rowid_put row rows refl by);
-          lawful = lawful_with client floor k.floor means.lawful.floors (λ _. (name, low));
-        } in
-        (means_of new.now m (record k { floor = floors_with client floor k.floor }) means.held (floors_changed mid new m (open_grants m) (calls_of m) (record k { floor = cleared }) at_mid done.keeps (floors_with client floor k.floor) now), done.keeps)
+-- who keeps a reply through the higher number keeps it through the lower one
+kept_lower : (b : Bool) (n low high : ℕ) → low ≤ high → not (b && nat_le n high) ≡ true → not (b && nat_le n low) ≡ true
+kept_lower false n low high under h = refl
+kept_lower true n low high under h = grind (arith, nat_tests, under, h)
+
+-- without the replies through a number, none is through a lower one
+pub without_lower : (client : List ℕ) (low high : ℕ) (k : Ledger) → low ≤ high → without_replies client high (without_replies client low k) ≡ without_replies client high k
+without_lower client low high k under =
+    ap (λ (es : List Entry). record k { replies = es })
+    (filter-filter (λ e. not (is_through client high e)) (λ e. not (is_through client low e)) (λ e. kept_lower (bytes_eq e.client client) e.number low high under) k.replies)
+
+-- ---- calls
+
+module _ {S : Type 0} (g : Ghosts S) (client : List ℕ) (floor : ℕ) where
+  -- nothing is done
+  pub thins_not : (s : Store S) → {A : Type 0} (a : A) → Thins g client floor s s (Ok a)
+  thins_not s a = record {
+    leaves = record { served = λ serves. serves; clean = λ clean. clean; holds = λ db over serves. over serves; crash = λ active. (active, λ found may. may) };
+    written = λ m₀ m k₀ k works serves. (k, refl, works serves);
+  }
+
+  -- a reading takes none away
+  pub thins_none : (old new : Store S) {A : Type 0} (result : Result A StoreFault) → Finds g old new result → IfErr result (λ fault. fault ≡ Unavailable) → Thins g client floor old new result
+  thins_none old new {A} result finds cause = record {
+    leaves = runs_of g old new result finds;
+    written = λ m₀ m k₀ k works s. (
+      k,
+      refl,
+      told m₀ m k₀ k result (goes_on (shown g old) (shown g new) finds.served result finds.reads (λ m k a. ⊤) (λ m k means serves. any result cause) m₀ m k₀ k works s),
+    );
+  }
+    where
+      any : (r : Result A StoreFault) → IfErr r (λ fault. fault ≡ Unavailable) → OrUnavailable r (λ a. ⊤)
+      any (Ok a) h = tt
+      any (Err e) h = h
+
+      told : (m₀ m : Queue) (k₀ k : Ledger) (r : Result A StoreFault) → MatchResult r (λ a. ⊤ × IsUnderWay (shown g new) false m₀ k₀ m k) (λ fault. (fault ≡ Unavailable) × TablesMean (shown g new).committed m₀ k₀)
+          → Steps (shown g new) r m₀ k₀ m k
+      told m₀ m k₀ k (Ok a) h = h.1
+      told m₀ m k₀ k (Err e) h = h
+
+  -- those through a lower number are some of them
+  pub thins_lower : (old new : Store S) {A : Type 0} (result : Result A StoreFault) (last : ℕ) → last ≤ floor → Runs g old new result
+      → ((m₀ m : Queue) (k₀ k : Ledger) → Works (shown g old) false m₀ k₀ m k → Serves (shown g new) → Steps (shown g new) result m₀ k₀ m (without_replies client last k))
+      → Thins g client floor old new result
+  thins_lower old new result last under runs written = record {
+    leaves = runs;
+    written = λ m₀ m k₀ k works s. (without_replies client last k, without_lower client last floor k under, written m₀ m k₀ k works s);
+  }
+
+  -- so does what comes behind it
+  pub thins_then : (old mid new : Store S) {A B : Type 0} (a : A) (result : Result B StoreFault) → Thins g client floor old mid (Ok a) → Thins g client floor mid new result → Thins g client floor old new result
+  thins_then old mid new a result first next = record {
+    leaves = runs_then g old mid new a result first.leaves next.leaves;
+    written = λ m₀ m k₀ k works s.
+        let one = first.written m₀ m k₀ k works (next.leaves.served s) in
+        let two = next.written m₀ m k₀ one.0 (λ _. one.2) s in
+        (two.0, two.1 ∙ one.1, two.2);
+  }
+
+  -- an answer may say something else, and a refusal is handed on
+  pub thins_ok : (old new : Store S) {A B : Type 0} (a : A) (b : B) → Thins g client floor old new (Ok a) → Thins g client floor old new (Ok b)
+  thins_ok old new a b thins = record {
+    leaves = record { served = thins.leaves.served; clean = thins.leaves.clean; holds = thins.leaves.holds; crash = thins.leaves.crash };
+    written = thins.written;
+  }
+
+  pub thins_err : (old new : Store S) {A B : Type 0} (e : StoreFault) (result : Result B StoreFault) → IsErrAnd result (λ f. f ≡ e) → Thins g client floor {A = A} old new (Err e) → Thins g client floor old new result
+  thins_err old new e (Ok b) is thins = absurd is
+  thins_err old new e (Err f) is thins = record {
+    leaves = record { served = thins.leaves.served; clean = thins.leaves.clean; holds = thins.leaves.holds; crash = thins.leaves.crash };
+    written = λ m₀ m k₀ k works s. let h = thins.written m₀ m k₀ k works s in (h.0, h.1, (is ∙ h.2.0, h.2.1));
+  }

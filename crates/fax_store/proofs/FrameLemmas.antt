@@ -1,15 +1,18 @@
 -- What calls leave, one after the other.
-use Rattle.std.proofs.Common.{◌≡◌, ℕ, List, false, Ok, Err, Result, IfOk, OnOk, IsErrAnd, is_err, subst, sym, ◌∙◌}
+use Rattle.std.proofs.Common.{◌≡◌, ℕ, List, false, Ok, Err, Result, IfOk, OnOk, IsErr, IsErrAnd, is_err, subst, sym, ◌∙◌}
+use Rattle.fax_store.proofs.StoreLemmas.{clean_in, served}
+use Rattle.fax_store.proofs.StatementLemmas.{left_open, run_open}
+use Rattle.std.specs.Prelude.{⊤}
 use Rattle.std.proofs.lemmas.Bool.{false≢true}
 use Rattle.sqlite.specs.Order.{Row}
-use Rattle.sqlite.specs.State.{State, Executes, HasCleanDisk}
+use Rattle.sqlite.specs.State.{State, Executes, HasCleanDisk, Survives, CommitsBy}
 use Rattle.sqlite.specs.declared.error.Error.{Error}
 use Rattle.sqlite_trees.specs.declared.store.Store.{Ghosts}
 use Rattle.fax_core.specs.Ledger.{Ledger}
 use Rattle.fax_core.specs.Queue.{Queue}
 use Rattle.fax_store.specs.Calls.{Answers, Calls, Edits, Finds, Follows, Inserts, Looks, Makes, MakesIf, MakesIfWhere, MakesWhere, Runs, Tells, TellsLawful, Writes, WritesIf, WritesIfWhere, WritesWhere, shown, within}
-use Rattle.fax_store.specs.Work.{IsOnlyUnavailable, Moves, Works}
-use Rattle.fax_store.specs.Store.{CommitsNothing, HasRun, HasTables, Means, MeansNow, Reads, Serves}
+use Rattle.fax_store.specs.Work.{IsOnlyUnavailable, IsUnderWay, Moves, Steps, Works}
+use Rattle.fax_store.specs.Store.{CommitsNothing, HasRun, HasTables, Means, MeansNow, Reads, Serves, IsEditText, LeavesCommit}
 use Rattle.fax_store.specs.declared.store.Store.{Store}
 use Rattle.fax_store.specs.declared.work.Work.{Work}
 use Rattle.fax_schema.specs.Schema.{our_tables}
@@ -18,8 +21,8 @@ use Rattle.fax_tables.specs.Fault.{fault_of}
 use Rattle.fax_tables.specs.Tables.{TablesMean}
 use Rattle.fax_tables.specs.declared.fault.StoreFault.{StoreFault}
 use Rattle.fax_tables.specs.declared.fault.StoreFault.TheVariants.{Unavailable}
-use Rattle.fax_store.proofs.StopLemmas.{withholds_by, withholds_err, withholds_then}
-use Rattle.fax_store.proofs.WorkLemmas.{changes_by, found_in, holds_by, holds_err, holds_then, keeps_by, move_by, moved_by, moves_of, only_unavailable, reads_same, refused_as, refused_by, stays_by, step_by, step_of, steps_where}
+use Rattle.fax_store.proofs.StopLemmas.{withholds_by, withholds_err, withholds_then, edit_withholds, refused_withholds}
+use Rattle.fax_store.proofs.WorkLemmas.{changes_by, found_in, holds_by, holds_err, holds_then, keeps_by, move_by, moved_by, moves_of, only_unavailable, reads_same, refused_as, stays_by, step_by, step_of, steps_fault, steps_where, goes_on, edit_holds, left_holds, moves_by, never_ok}
 
 -- the tables of a store that means something mean it now
 pub means_now : {s : State} {m : Queue} {k : Ledger} → Means s m k → MeansNow s m k
@@ -78,6 +81,33 @@ module _ {S : Type 0} (g : Ghosts S) where
     crash = withholds_then (shown g old) (shown g mid) (shown g new) (is_err result) first.crash next.crash;
   }
 
+  -- a statement that changes rows, as the connection runs it
+  module _ (old new : Store S) (sql : List ℕ) (params : Row) (edit : IsEditText sql)
+      (survives : Survives (shown g old) (shown g new) (CommitsBy sql params (shown g old))) {A : Type 0} where
+    pub edit_ran : (x : A) (count : ℕ) → (HasCleanDisk (shown g new) → Executes sql params (shown g old) (shown g new) (Ok count)) → Runs g old new (Ok x)
+    edit_ran x count ran =
+        let before = λ (s : Serves (shown g new)). served (shown g old) (shown g new) survives.clean s
+        (run_open (shown g old) (shown g new) sql params count (ran s.clean) s.is_open) in
+        record {
+          served = before;
+          clean = clean_in survives;
+          holds = edit_holds (shown g old) (shown g new) sql params before edit count ran;
+          crash = edit_withholds (shown g old) (shown g new) sql params edit survives count ran;
+        }
+
+    pub edit_refused : (result : Result A StoreFault) → IsErr result → (HasCleanDisk (shown g new) → LeavesCommit (shown g old) (shown g new))
+        → Runs g old new result
+    edit_refused (Ok x) is left = absurd (let no = is in cc)
+    edit_refused (Err e) is left =
+        let before = λ (s : Serves (shown g new)). served (shown g old) (shown g new) survives.clean s
+        (left_open (shown g old) (shown g new) sql params (left s.clean) s.is_open) in
+        record {
+          served = before;
+          clean = clean_in survives;
+          holds = left_holds (shown g old) (shown g new) before left;
+          crash = refused_withholds (shown g old) (shown g new) sql params edit survives;
+        }
+
   -- a refusal that is passed on
   pub runs_err : (old new : Store S) {A B : Type 0} (fault : StoreFault) (result : Result B StoreFault) → IsErrAnd result (λ e. e ≡ fault) → Runs g {A = A} old new (Err fault) → Runs g old new result
   runs_err old new fault result told runs = record {
@@ -88,9 +118,13 @@ module _ {S : Type 0} (g : Ghosts S) where
   }
 
   -- what is refused makes nothing of what the tables mean, and the last commit stands
-  module _ (old new : Store S) {A : Type 0} (result : Result A StoreFault) (fault : StoreFault) (told : IsErrAnd result (λ e. e ≡ fault)) (runs : Runs g old new result) where
+  module _ (old new : Store S) {A B : Type 0} (result : Result A StoreFault) (fault : StoreFault) (told : IsErrAnd result (λ e. e ≡ fault)) (refused : Runs g {A = B} old new (Err fault)) where
+    runs : Runs g old new result
+    runs = runs_err old new fault result told refused
+
     moved : (m₀ m after : Queue) (k₀ k kept : Ledger) → Works (shown g old) false m₀ k₀ m k → Serves (shown g new) → Moves (shown g new) result m₀ k₀ after kept
-    moved m₀ m after k₀ k kept works s = refused_by (shown g old) (shown g new) result (λ e. e ≡ fault) m₀ m after k₀ k kept told runs.served runs.holds works s
+    moved m₀ m after k₀ k kept works s = moves_by (shown g old) (shown g new) result m₀ m after k₀ k kept runs.served runs.holds works s
+        (λ means inside. never_ok _ result (λ e. e ≡ fault) told)
 
     pub writes_refused : (f : Queue → Queue) (h : Ledger → Ledger) → fault ≡ Unavailable → Writes g old new result f h
     writes_refused f h why =
@@ -107,6 +141,26 @@ module _ {S : Type 0} (g : Ghosts S) where
 
     pub writes_if_where_refused : (P : Queue → Type 0) (Fit : Queue → Ledger → Type 0) (f : Queue → Queue) (h : Ledger → Ledger) → IsOnlyUnavailable (shown g old) false (shown g new) result Fit → WritesIfWhere g old new result P Fit f h
     writes_if_where_refused P Fit f h cause = record { leaves = runs; written = λ m₀ m k₀ k p works s. moved m₀ m (f m) k₀ k (h k) works s; cause = cause }
+
+  -- what is a step of each work is refused only for want of an answer
+  pub writes_if_steps : (old new : Store S) {A : Type 0} (result : Result A StoreFault) (P : Queue → Type 0) (Fit : Queue → Ledger → Type 0)
+      (f : Queue → Queue) (h : Ledger → Ledger) → Runs g old new result → ((m : Queue) (k : Ledger) → Fit m k → P m)
+      → ((m₀ m : Queue) (k₀ k : Ledger) → P m → Works (shown g old) false m₀ k₀ m k → Serves (shown g new) → Steps (shown g new) result m₀ k₀ (f m) (h k)) → WritesIfWhere g old new result P Fit f h
+  writes_if_steps old new result P Fit f h runs fits steps = record {
+    leaves = runs;
+    written = λ m₀ m k₀ k p works s. moves_of (shown g new) result m₀ (f m) k₀ (h k) (steps m₀ m k₀ k p works s);
+    cause = λ m₀ m k₀ k works s fit. steps_fault (shown g new) result m₀ (f m) k₀ (h k) (steps m₀ m k₀ k (fits m k fit) works s);
+  }
+
+  -- of whatever queue
+  pub writes_if_any : (old new : Store S) {A : Type 0} (result : Result A StoreFault) (Fit : Queue → Ledger → Type 0) (f : Queue → Queue)
+      (h : Ledger → Ledger) → WritesIfWhere g old new result (λ _. ⊤) Fit f h → WritesIf g old new result Fit f h
+  writes_if_any old new result Fit f h writes = record { leaves = writes.leaves; written = λ m₀ m k₀ k. writes.written m₀ m k₀ k tt; cause = writes.cause }
+
+  -- a reading within a work tells of what the work means, and the work goes on
+  pub reads_on : (old new : Store S) {A : Type 0} (x : A) {P : Queue → Ledger → Type 0} → Finds g old new (Ok x) → Answers g old new (Ok x) (λ m k _. P m k)
+      → (m₀ m : Queue) (k₀ k : Ledger) → Works (shown g old) false m₀ k₀ m k → Serves (shown g new) → P m k × IsUnderWay (shown g new) false m₀ k₀ m k
+  reads_on old new x {P} finds answers = goes_on (shown g old) (shown g new) finds.served (Ok x) finds.reads (λ m k _. P m k) answers
 
   -- a statement that edits rows of one table makes of what the tables mean what it does to the rows
   module _ (old new : Store S) (result : Result (Unit {0}) StoreFault) (sql : List ℕ) (params : Row) (tree : ℕ) (f : Queue → Queue) (h : Ledger → Ledger) where

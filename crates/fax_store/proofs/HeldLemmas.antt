@@ -1,13 +1,15 @@
 -- What the texts show by which a store counts what is held.
-use Rattle.std.proofs.Common.{◌≡◌, inl, inr, ◌<◌, ◌≤◌, ◌^◌, ◌+◌, ℕ, zero, suc, List, [], ◌∷◌, ◌++◌, map, filter, flat_map, drop, take, length, Bool, true, false, cond, ◌&&◌, if◌then◌else◌, Option, Some, codes, refl, sym, ap, ap₂, subst, ◌∙◌, arith}
+use Rattle.std.proofs.Common.{◌≡◌, inl, inr, ◌<◌, ◌^◌, ◌+◌, ℕ, List, [], ◌∷◌, ◌++◌, map, filter, flat_map, drop, take, length, Bool, true, false, cond, ◌&&◌, Option, Some, codes, refl, sym, ap, ap₂, subst, ◌∙◌, arith, length-append}
+use Rattle.std.proofs.Math.Path.{fun_ext}
+use Rattle.std.proofs.lemmas.List.Sums.{count_by-le-length, length-filter}
+use Rattle.std.proofs.lemmas.List.{nil_from_length, length-take}
 use Rattle.std.specs.Prelude.{◌==◌}
 use Rattle.std.specs.List.{list_all}
 use Rattle.std.specs.Option.{option_map}
 use Rattle.std.specs.Str.{bytes_eq}
 use Rattle.std.specs.List.Sorted.{IsPermutation}
-use Rattle.std.proofs.lemmas.Bool.{cases_Bool, eqb-true}
-use Rattle.std.proofs.lemmas.Slice.Eq.{bytes_eq-Decides}
-use Rattle.std.proofs.lemmas.List.Elements.{recursion_from_All}
+use Rattle.std.proofs.lemmas.Bool.{eqb-true, and_parts, false_from_ne_true}
+use Rattle.std.proofs.lemmas.List.Elements.{recursion_from_All, filter-append}
 use Rattle.std.proofs.lemmas.List.Sorted.{IsPermutation-map, IsPermutation-sym, IsPermutation-trans, length_permutation}
 use Rattle.sqlite.specs.Effect.{Database}
 use Rattle.sqlite.specs.Order.{Row, column}
@@ -27,7 +29,7 @@ use Rattle.sqlite_sql.specs.declared.ops.BinaryOp.TheVariants.{Is}
 use Rattle.sqlite.specs.Collation.TheVariants.{Binary}
 use Rattle.sqlite_sql.specs.Term.{Env, holds}
 use Rattle.sqlite_value.specs.Order.{value_cmp}
-use Rattle.sqlite_trees.proofs.ListLemmas.{IsPermutation-filter, filter-map, map-map}
+use Rattle.sqlite_trees.proofs.ListLemmas.{IsPermutation-filter, filter-map, map-map, all_of, filter_all}
 use Rattle.fax_core.specs.Job.{Job}
 use Rattle.fax_core.specs.Ledger.{Ledger}
 use Rattle.fax_core.specs.Queue.{Queue, job_numbered, open_grants}
@@ -51,12 +53,8 @@ use Rattle.fax_tables.proofs.KeyLemmas.{found_holds, numbered_found}
 use Rattle.fax_schema.proofs.SelectLemmas.{answers, passes, show}
 use Rattle.fax_tables.proofs.TablesLemmas.{counted_as, row_of, rows_mean}
 use Rattle.fax_store.proofs.CandidateLemmas.{within}
-use Rattle.fax_store.proofs.CountLemmas.{at_most_all, grants_few, one, turned}
+use Rattle.fax_store.proofs.CountLemmas.{at_most_all, grants_few, one, one_more}
 use Rattle.fax_schema.proofs.StatementTexts.{dial_project, held_project, job_tests, lost_on, lost_query, lost_tests, select_dial, select_held, select_lost}
-
-every : {A : Type 0} (xs : List A) → filter (λ _. true) xs ≡ xs
-every [] = refl
-every (x ∷ xs) = ap (λ ys. x ∷ ys) (every xs)
 
 -- ---- a hold whose job isn't there
 
@@ -76,10 +74,6 @@ each_none : {A B : Type 0} (f : A → List B) (xs : List A) → ((x : A) → Has
 each_none f [] none = refl
 each_none f (x ∷ xs) none = ap₂ ◌++◌ (none x (inl refl)) (each_none f xs (λ y has. none y (inr has)))
 
-no_length : {A : Type 0} (xs : List A) → length xs ≡ 0 → xs ≡ []
-no_length [] e = refl
-no_length (x ∷ xs) e = absurd (omega (arith, e))
-
 -- SQL's v IS NULL
 abbrev lost_value : Value → Bool
 lost_value v = is_true (binary (Is Binary) v Null)
@@ -96,15 +90,7 @@ is_lost (Blob b) = refl
 -- what SQL finds equal to a value is not NULL
 not_lost : (a b : Value) → are_equal a b ≡ true → is_null a ≡ false
 unfolding binary
-not_lost a b h = elim (cases_Bool (is_null a)) [
-  | inl on ↦ absurd (let no = rw on at h in cc)
-  | inr off ↦ off
-]
-
--- an and with true is true only where the other is
-first_of : (b : Bool) → (b && true) ≡ true → b ≡ true
-first_of true e = refl
-first_of false e = absurd cc
+not_lost a b h = false_from_ne_true (is_null a) (λ on. absurd (let no = rw on at h in cc))
 
 -- with the jobs that a hold is of, or with none
 module _ (jobs : List Row) (r : Row) where
@@ -121,7 +107,7 @@ module _ (jobs : List Row) (r : Row) where
       absurd (let e = rw on at none in cc)
   there (s ∷ more) is none =
       let one = has_filtered (λ s. list_all (holds ([] ∷ r ∷ s ∷ [])) lost_on) jobs s (subst (λ rows. Has rows s) (sym is) (inl refl)) in
-      (s, one.0, first_of _ one.1)
+      (s, one.0, (and_parts _ _ one.1).0)
 
   -- and where its job is there, it shows none
   not_there : (found : List Row) → its ≡ found → (job : Row) → Has jobs job → IsOf (column r 2) job → lost found ≡ []
@@ -130,7 +116,7 @@ module _ (jobs : List Row) (r : Row) where
       each_none (λ s. cond (list_all (holds ([] ∷ r ∷ s ∷ [])) lost_tests) (([] ∷ r ∷ s ∷ []) ∷ []) []) (s ∷ more)
       (λ x among.
       let one = has_filtered (λ s. list_all (holds ([] ∷ r ∷ s ∷ [])) lost_on) jobs x (subst (λ rows. Has rows x) (sym is) among) in
-      let off : (lost_value (column x 0) && true) ≡ false = ap (λ b. b && true) (is_lost (column x 0) ∙ not_lost (column x 0) (column r 2) (first_of _ one.1)) in
+      let off : (lost_value (column x 0) && true) ≡ false = ap (λ b. b && true) (is_lost (column x 0) ∙ not_lost (column x 0) (column r 2) (and_parts _ _ one.1).0) in
       ap (λ b. cond b (([] ∷ r ∷ x ∷ []) ∷ []) []) off)
 
 module _ (old new : State) (has : old.now.schema ≡ our_tables) (rows : List Row) (shown : Shown SELECT_LOST.now [] old new rows) where
@@ -147,13 +133,14 @@ module _ (old new : State) (has : old.now.schema ≡ our_tables) (rows : List Ro
   -- where it shows none, each hold has its job
   pub none_lost : rows ≡ [] → HoldJobs old.now
   none_lost empty hold there_is =
-      let none = no_length all_lost (sym lost_count ∙ ap length empty) in
+      let none = nil_from_length all_lost (sym lost_count ∙ ap length empty) in
       there (old.now.trees jobs_tree) hold (its (old.now.trees jobs_tree) hold) refl (none_each (λ r. lost (old.now.trees jobs_tree) r (its (old.now.trees jobs_tree) r)) (old.now.trees holds_tree) hold none there_is)
 
   -- and where each hold has its job, it shows none
   pub lost_none : HoldJobs old.now → rows ≡ []
   lost_none have =
-      no_length rows (lost_count ∙ ap length (each_none (λ r. lost (old.now.trees jobs_tree) r (its (old.now.trees jobs_tree) r)) (old.now.trees holds_tree)
+      nil_from_length rows (lost_count ∙ ap length (each_none (λ r. lost (old.now.trees jobs_tree) r (its (old.now.trees jobs_tree) r))
+      (old.now.trees holds_tree)
       (λ r is. let it = have r is in not_there (old.now.trees jobs_tree) r (its (old.now.trees jobs_tree) r) refl it.0 it.1 it.2)))
 
 -- ---- the number that a job is to
@@ -183,7 +170,7 @@ module _ (n : ℕ) (old new : State) (has : old.now.schema ≡ our_tables) (can 
   pub dial_told : (row : Row) → Has rows row → (dial : List ℕ) × (row ≡ Text dial ∷ []) × IsText IsCanonical dial
   dial_told row there_is =
       let job = shown_one asked (show jobs_tree job_tests dial_project (number n ∷ [])) (old.now.trees jobs_tree) rows dials_shown row there_is in
-      let dial = can.dials job.0 job.1 (first_of _ job.2) in
+      let dial = can.dials job.0 job.1 (and_parts _ _ job.2).0 in
       (dial.0, job.3 ∙ ap (λ v. v ∷ []) dial.1, dial.2)
 
   -- some row is shown
@@ -200,15 +187,12 @@ second : (r : Row) → column r 2 ≡ column (drop 1 r) 1
 second [] = refl
 second (v ∷ r) = refl
 
-map_same : {A B : Type 0} (f g : A → B) (xs : List A) → ((x : A) → f x ≡ g x) → map f xs ≡ map g xs
-map_same f g [] same = refl
-map_same f g (x ∷ xs) same = ap₂ ◌∷◌ (same x) (map_same f g xs same)
-
 module _ (old new : State) (has : old.now.schema ≡ our_tables) (rows : List Row) (shown : Shown SELECT_HELD.now [] old new rows) where
   -- the text shows the job numbers of the holds, in any order
   held_shown : IsPermutation (map (λ r. column r 2 ∷ []) (old.now.trees holds_tree)) rows
   held_shown =
-      subst (λ t. IsPermutation (map (λ r. column r 2 ∷ []) t) rows) (every (old.now.trees holds_tree))
+      subst (λ t. IsPermutation (map (λ r. column r 2 ∷ []) t) rows)
+      (filter_all (λ _. true) (old.now.trees holds_tree) (all_of _ (λ _. refl) (old.now.trees holds_tree)))
       (answers holds_tree [] held_project [] old.now (old.now.trees holds_tree) refl (codes "job" ∷ []) rows (reads_as SELECT_HELD.now [] old new our_tables has _ select_held.command select_held.plain select_held.unlisted rows shown))
 
   -- each row is of a hold
@@ -246,7 +230,7 @@ module _ (old new : State) (m : Queue) (k : Ledger) (has : old.now.schema ≡ ou
   permuted =
       let by_columns = IsPermutation-map (λ columns. column columns 1 ∷ []) (map hold_columns (open_grants m)) (map (drop 1) held) same in
       let left = map-map (λ columns. column columns 1 ∷ []) hold_columns (open_grants m) in
-      let right = map-map (λ columns. column columns 1 ∷ []) (drop 1) held ∙ map_same (λ r. column (drop 1 r) 1 ∷ []) (λ r. column r 2 ∷ []) held (λ r. ap (λ v. v ∷ []) (sym (second r))) in
+      let right = map-map (λ columns. column columns 1 ∷ []) (drop 1) held ∙ ap (λ of. map of held) (fun_ext (λ r. ap (λ v. v ∷ []) (sym (second r)))) in
       IsPermutation-trans (map (λ (g : Grant). number g.job ∷ []) (open_grants m)) (map (λ r. column r 2 ∷ []) held) rows
       (subst (λ xs. IsPermutation xs (map (λ r. column r 2 ∷ []) held)) left (subst (IsPermutation (map (λ columns. column columns 1 ∷ []) (map hold_columns (open_grants m)))) right by_columns)) (held_shown old new has rows shown)
 
@@ -255,7 +239,8 @@ module _ (old new : State) (m : Queue) (k : Ledger) (has : old.now.schema ≡ ou
   held_few =
       let count : length rows ≡ length (open_grants m) = length_permutation (map (λ (g : Grant). number g.job ∷ []) (open_grants m)) rows permuted ∙ length_map (λ (g : Grant). number g.job ∷ []) (open_grants m) in
       let all = at_most_all (λ _. true) m.grants in
-      let whole : length (filter (λ _. true) (open_grants m)) ≡ length (open_grants m) = ap length (every (open_grants m)) in
+      let whole : length (filter (λ _. true) (open_grants m)) ≡ length (open_grants m) = ap length
+      (filter_all (λ _. true) (open_grants m) (all_of _ (λ _. refl) (open_grants m))) in
       let low : length rows < 4294967296 = omega (arith, count, all, whole, grants_few mean.0 m k mean.1) in
       low
 
@@ -277,55 +262,18 @@ module _ (old new : State) (m : Queue) (k : Ledger) (has : old.now.schema ≡ ou
 -- one more row of a job adds one to the count of the job's number to dial, and to no other
 pub held_more : (m : Queue) (rows : List Row) (row : Row) (j : Job) → row ≡ number j.number ∷ [] → job_numbered j.number m ≡ Some j → (dial : List ℕ)
     → with_count j.dial (held_to m rows j.dial + 1) (held_to m rows) dial ≡ held_to m (rows ++ row ∷ []) dial
-held_more m rows row j is found dial = by (bytes_eq dial j.dial) refl
-  where
-    more : (xs : List Row) → held_to m (xs ++ row ∷ []) dial ≡ held_to m xs dial + one (is_to m dial row)
-    more [] = alone (is_to m dial row)
-      where
-        alone : (b : Bool) → length (cond b (row ∷ []) []) ≡ 0 + one b
-        alone true = refl
-        alone false = refl
-    more (x ∷ xs) = next (is_to m dial x) (more xs)
-      where
-        next : (b : Bool) → held_to m (xs ++ row ∷ []) dial ≡ held_to m xs dial + one (is_to m dial row)
-            → length (cond b (x ∷ filter (is_to m dial) (xs ++ row ∷ [])) (filter (is_to m dial) (xs ++ row ∷ []))) ≡ length (cond b (x ∷ filter (is_to m dial) xs) (filter (is_to m dial) xs)) + one (is_to m dial row)
-        next true e = omega (arith, e)
-        next false e = e
-
-    to : is_to m dial row ≡ bytes_eq j.dial dial
-    to = ap (is_to m dial) is ∙ ap (is_of_number dial) found
-
-    by : (b : Bool) → bytes_eq dial j.dial ≡ b → with_count j.dial (held_to m rows j.dial + 1) (held_to m rows) dial ≡ held_to m (rows ++ row ∷ []) dial
-    by true on =
-        let at : dial ≡ j.dial = (bytes_eq-Decides dial j.dial).0 on in
-        let back : bytes_eq j.dial dial ≡ true = (bytes_eq-Decides j.dial dial).1 (sym at) in
-        let total : held_to m (rows ++ row ∷ []) dial ≡ held_to m rows dial + 1 = more rows ∙ ap (λ b. held_to m rows dial + one b) (to ∙ back) in
-        ap (λ b. if b then held_to m rows j.dial + 1 else held_to m rows dial) on ∙ ap (λ d. held_to m rows d + 1) (sym at) ∙ sym total
-    by false off =
-        let back : bytes_eq j.dial dial ≡ false = turned j.dial dial ∙ off in
-        let total : held_to m (rows ++ row ∷ []) dial ≡ held_to m rows dial + 0 = more rows ∙ ap (λ b. held_to m rows dial + one b) (to ∙ back) in
-        ap (λ b. if b then held_to m rows j.dial + 1 else held_to m rows dial) off ∙ omega (arith, total)
-
--- no more rows are of jobs to a number than there are rows
-pub held_within : (m : Queue) (rows : List Row) (dial : List ℕ) → held_to m rows dial ≤ length rows
-held_within m [] dial = omega arith
-held_within m (x ∷ xs) dial = by (is_to m dial x) (held_within m xs dial)
-  where
-    by : (b : Bool) → held_to m xs dial ≤ length xs → length (cond b (x ∷ filter (is_to m dial) xs) (filter (is_to m dial) xs)) ≤ length (x ∷ xs)
-    by true e = omega (arith, e)
-    by false e = omega (arith, e)
-
--- what is taken is no longer than was asked
-taken : {A : Type 0} (n : ℕ) (xs : List A) → length (take n xs) ≤ n
-taken zero xs = omega arith
-taken (suc n) [] = omega arith
-taken (suc n) (x ∷ xs) = omega (arith, taken n xs)
+held_more m rows row j is found = one_more j.dial (held_to m rows) (held_to m (rows ++ row ∷ [])) (λ dial.
+    let to : is_to m dial row ≡ bytes_eq j.dial dial = ap (is_to m dial) is ∙ ap (is_of_number dial) found in
+    ap length (filter-append (is_to m dial) rows (row ∷ [])) ∙ length-append (filter (is_to m dial) rows) (cond (is_to m dial row) (row ∷ []) [])
+    ∙ rw to (elim (bytes_eq j.dial dial) as (λ b. held_to m rows dial + length (cond b (row ∷ []) []) ≡ one b + held_to m rows dial)
+    [ true ↦ omega arith | false ↦ omega arith ]))
 
 -- of the first so many, no more are of jobs to a number
 pub held_first : (m : Queue) (rows : List Row) (i : ℕ) (dial : List ℕ) → i < length rows → length rows < 2 ^ 32 → held_to m (take i rows) dial + 1 < 2 ^ 32
 held_first m rows i dial low few =
     let all : length rows < 4294967296 = few in
-    let sum : held_to m (take i rows) dial + 1 < 4294967296 = omega (arith, low, all, held_within m (take i rows) dial, taken i rows) in
+    let sum : held_to m (take i rows) dial + 1 < 4294967296 = omega
+    (arith, low, all, length-filter (is_to m dial) (take i rows), count_by-le-length (is_to m dial) (take i rows), length-take i rows) in
     sum
 
 -- what rows mean, they mean where the calls alone were set
@@ -390,11 +338,3 @@ rows_callable db m k mean hold there_is =
 -- where nothing is counted, each count has 32 bits
 pub none_small : AreSmall (λ _. 0)
 none_small dial = let low : 0 < 4294967296 = omega arith in low
-
--- where one is set to a number of 32 bits, each has them still
-pub count_small : (dial : List ℕ) (n : ℕ) (count : List ℕ → ℕ) → n < 2 ^ 32 → AreSmall count → AreSmall (with_count dial n count)
-count_small dial n count low small other = by (bytes_eq other dial)
-  where
-    by : (b : Bool) → (if b then n else count other) < 2 ^ 32
-    by true = low
-    by false = small other

@@ -1,13 +1,13 @@
 -- What the texts on jobs read and write.
-use Rattle.std.proofs.Common.{◌≡◌, ℕ, zero, suc, pos, ◌+◌, ◌-◌, ◌≤◌, List, [], ◌∷◌, ◌++◌, map, arith, false, Option, Some, None, Err, drop, refl, sym, ap, ap₂, subst, ◌∙◌}
+use Rattle.std.proofs.Common.{◌≡◌, ℕ, zero, suc, pos, ◌+◌, ◌-◌, ◌≤◌, List, [], ◌∷◌, ◌++◌, map, arith, false, Option, Some, None, Err, drop, refl, sym, ap, ap₂, subst, ◌∙◌, ◌<◌, inl, inr, All, Bool, true, ◌&&◌, ◌||◌, unwrap_or, if◌then◌else◌}
 use Rattle.std.specs.Option.{option_map}
-use Rattle.std.specs.Prelude.{◌==◌}
+use Rattle.std.specs.Prelude.{◌==◌, IsTrue, is_some, find, nat_le}
 use Rattle.std.specs.List.{range_with_len}
 use Rattle.std.proofs.lemmas.List.FromFn.{length-range_with_len}
 use Rattle.sqlite.specs.Effect.{Database}
 use Rattle.sqlite.specs.Order.{Row}
 use Rattle.sqlite.specs.State.{State, Executes}
-use Rattle.sqlite.specs.Tree.{put_row}
+use Rattle.sqlite.specs.Tree.{put_row, rowid, IsTable}
 use Rattle.sqlite.specs.Cast.{cast_row}
 use Rattle.sqlite.specs.Edit.{is_taken, with_rowid}
 use Rattle.sqlite.specs.Rowids.TheVariants.{Chosen}
@@ -19,36 +19,52 @@ use Rattle.fax_core.specs.Ledger.{Ledger}
 use Rattle.fax_core.specs.Queue.{Queue, job_numbered, open_grants}
 use Rattle.fax_job.specs.Job.{IsLawful}
 use Rattle.fax_job.specs.declared.job.JobFields.{JobFields}
-use Rattle.fax_schema.specs.declared.statements.TheConstants.{SELECT_JOB, SELECT_BRIEF, INSERT_JOB}
+use Rattle.fax_schema.specs.declared.statements.TheConstants.{SELECT_JOB, SELECT_BRIEF, INSERT_JOB, UPDATE_JOB, SELECT_EXPIRED, EXPIRE_JOBS}
 use Rattle.fax_schema.specs.Schema as schema
 use Rattle.fax_schema.specs.Schema.{our_tables, jobs_tree}
 use Rattle.fax_tables.specs.Place.{placed}
-use Rattle.fax_tables.specs.Row.{HasValues, number, job_row}
-use Rattle.fax_tables.specs.Job.{IsFormed, IsLawfulJob, brief_shown, job_shown}
-use Rattle.fax_store.specs.Job.{HasJobRow, IsNewJob, JobStands, BriefStands, brief_places, job_places, with_placed}
+use Rattle.fax_tables.specs.Row.{HasValues, number, job_row, phase_number}
+use Rattle.fax_tables.specs.Job.{IsFormed, IsLawfulJob, brief_shown, job_shown, IsText}
+use Rattle.fax_store.specs.Job.{HasJobRow, IsNewJob, JobStands, BriefStands, brief_places, job_places, with_placed, IsSameOrder, IsChange, expired_in, lines_of, with_change, with_expired, with_expired_in}
 use Rattle.fax_tables.specs.Tables.{TablesMean}
 use Rattle.fax_schema.specs.ByRowid.{IsByRowid}
 use Rattle.fax_store.specs.Calls.{shown}
 use Rattle.fax_store.specs.Store.{FindsRow, HasRun}
 use Rattle.fax_store.specs.declared.store.Store.{Store}
-use Rattle.fax_schema.proofs.CompareLemmas.{same_row, cast_int, cast_null, number_same}
+use Rattle.fax_schema.proofs.CompareLemmas.{same_row, cast_int, cast_null, number_same, at_most, at_least, is_number}
 use Rattle.fax_tables.proofs.FreeLemmas.{free_row, untaken}
 use Rattle.fax_tables.proofs.RefusalLemmas.{no_rule_broken}
 use Rattle.fax_tables.proofs.StandLemmas.{job_may}
 use Rattle.fax_tables.specs.Fault.{fault_of}
 use Rattle.fax_tables.specs.declared.fault.StoreFault.TheVariants.{Unavailable}
 use Rattle.sqlite.specs.declared.error.Error.{Error}
-use Rattle.fax_store.proofs.LookLemmas.{Keys}
-use Rattle.fax_tables.proofs.KeyLemmas.{found_holds, numbered_found, free_of, row_placed, all_placed}
+use Rattle.fax_store.proofs.FoundLemmas.{Keys, none_keyed, one_numbered}
+use Rattle.fax_tables.proofs.KeyLemmas.{found_holds, numbered_found, free_of, row_placed, all_placed, only_numbered, asked_is, not_asked}
 use Rattle.fax_tables.proofs.TablesLemmas.{AreRecords, row_of, parts_of, means_of, calls_as, calls_of, jobs_changed, by_rowid_put}
-use Rattle.fax_store.proofs.CountLemmas.{calls_placed, jobs_placed}
-use Rattle.fax_store.proofs.FoundLemmas.{none_keyed, one_numbered}
-use Rattle.fax_tables.proofs.RowLemmas.{sent_low}
+use Rattle.fax_store.proofs.CountLemmas.{calls_placed, jobs_placed, calls_mapped, jobs_mapped}
+use Rattle.fax_tables.proofs.RowLemmas.{sent_low, change_params}
 use Rattle.fax_schema.proofs.WriteLemmas.{KeepsOthers, InsertsRow, unreferred, inserts}
 use Rattle.fax_schema.proofs.SelectLemmas.{passes, show, answers}
 use Rattle.fax_schema.proofs.StatementForms.{Selects}
 use Rattle.sqlite_sql.specs.Term.{Term}
-use Rattle.fax_schema.proofs.StatementTexts.{brief_names, brief_project, job_names, job_project, job_terms, job_tests, select_brief, select_job, insert_job}
+use Rattle.fax_schema.proofs.StatementTexts.{brief_names, brief_project, job_names, job_project, job_terms, job_tests, select_brief, select_job, insert_job, change_project, update_job, expired_tests, expired_project, expire_jobs, killtime_project, select_expired}
+use Rattle.std.proofs.Math.Bool.{and-true}
+use Rattle.std.specs.Str.{IsUtf8}
+use Rattle.std.proofs.lemmas.Bool.{and_parts, eqb-true, eq-eqb, cond_both}
+use Rattle.std.proofs.lemmas.List.Elements.{All-from_recursion, All-map, recursion_from_All}
+use Rattle.sqlite_rules.proofs.ListLemmas.{all_from, all_has}
+use Rattle.sqlite_rules.proofs.ProbeLemmas.{mapped_has}
+use Rattle.fax_core.specs.Ageing.{aged_job, expires, is_past}
+use Rattle.fax_value.specs.Status.{kill_time_expired}
+use Rattle.fax_job.specs.declared.job.Phase.{Phase}
+use Rattle.fax_job.specs.declared.job.Phase.TheVariants.{Held, Waiting, Granted, Done, Failed}
+use Rattle.fax_value.specs.Dial.{IsCanonical}
+use Rattle.fax_value.specs.JobTag.{IsJobTag}
+use Rattle.fax_value.specs.Name.{IsName}
+use Rattle.fax_job.specs.Pair.{Pair, ArePairs, are_unknown}
+use Rattle.fax_value.specs.Value.{IsStatus}
+use Rattle.fax_schema.proofs.EditLemmas.{none_shown}
+use Rattle.fax_schema.proofs.UpdateLemmas.{updated}
 
 module _ (n : ℕ) where
   abbrev pub params : Row
@@ -63,27 +79,11 @@ module _ (n : ℕ) where
         (answers jobs_tree job_tests project params old.now (old.now.trees jobs_tree) refl names h.0 (reads_as sql params old new our_tables means.schema _ selects.command selects.plain selects.unlisted h.0 h.1))
         found h.2
 
-    -- what the text on a job finds is the job of this number, whole, or nothing
-    pub job_found : (found : Option Row) → FindsRow SELECT_JOB.now params old new found → found ≡ option_map (λ j. job_shown (fields_of j)) (job_numbered n m)
-    job_found = row_found SELECT_JOB.now job_project job_names select_job
-
-    -- what the text on a job in brief finds is the job of this number, in brief, or nothing
-    pub brief_found : (found : Option Row) → FindsRow SELECT_BRIEF.now params old new found → found ≡ option_map (λ j. brief_shown (fields_of j)) (job_numbered n m)
-    brief_found = row_found SELECT_BRIEF.now brief_project brief_names select_brief
-
   module _ (old new : State) (db : Database) (ours : db.schema ≡ our_tables) (now : old.now ≡ db) where
     -- whatever the rows say, where none is found there is no job of this number
     none_found : (sql : List ℕ) (project : List Term) (names : List (List ℕ)) → Selects sql jobs_tree job_tests project names → FindsRow sql params old new None → ¬ HasJobRow db n
     none_found sql project names selects =
         none_keyed sql jobs_tree job_tests project names selects (λ trees. refl) params old new db ours now 0 (number n) (λ r. refl) (number_same n)
-
-    -- so says the text on a job
-    pub no_job : FindsRow SELECT_JOB.now params old new None → ¬ HasJobRow db n
-    no_job = none_found SELECT_JOB.now job_project job_names select_job
-
-    -- and the text on a job in brief
-    pub no_brief : FindsRow SELECT_BRIEF.now params old new None → ¬ HasJobRow db n
-    no_brief = none_found SELECT_BRIEF.now brief_project brief_names select_brief
 
     -- the job that is read of the row that is found stands in a row
     pub job_stands : (row : Row) (f : JobFields) → FindsRow SELECT_JOB.now params old new (Some row) → HasValues row 0 (job_shown f) → JobStands db n f
@@ -107,10 +107,18 @@ module _ {S : Type 0} (g : Ghosts S) (n : ℕ) (old new : Store S) where
   job_lawful m k means j = found_holds IsLawfulJob (λ (i : Job). i.number == n) m.jobs j means.lawful.jobs
 
   pub job_keys : Keys g old new SELECT_JOB.now (params n) (job_numbered n) (λ j. job_shown (fields_of j)) IsLawfulJob (λ db. HasJobRow db n)
-  job_keys = record { found = job_found n (shown g old) (shown g new); lawful = job_lawful; none = no_job n (shown g old) (shown g new) }
+  job_keys = record {
+    found = λ m k means. row_found n (shown g old) (shown g new) m k means SELECT_JOB.now job_project job_names select_job;
+    lawful = job_lawful;
+    none = λ db ours now. none_found n (shown g old) (shown g new) db ours now SELECT_JOB.now job_project job_names select_job;
+  }
 
   pub brief_keys : Keys g old new SELECT_BRIEF.now (params n) (job_numbered n) (λ j. brief_shown (fields_of j)) IsLawfulJob (λ db. HasJobRow db n)
-  brief_keys = record { found = brief_found n (shown g old) (shown g new); lawful = job_lawful; none = no_brief n (shown g old) (shown g new) }
+  brief_keys = record {
+    found = λ m k means. row_found n (shown g old) (shown g new) m k means SELECT_BRIEF.now brief_project brief_names select_brief;
+    lawful = job_lawful;
+    none = λ db ours now. none_found n (shown g old) (shown g new) db ours now SELECT_BRIEF.now brief_project brief_names select_brief;
+  }
 
 -- ---- one more row
 
@@ -155,13 +163,12 @@ module _ (old new : State) (m : Queue) (k : Ledger) (means : TablesMean old.now 
   pub job_put : IsLawfulJob (job_of f) → HasRun INSERT_JOB.now (job_shown f) old new → TablesMean new.now (with_placed (job_of f) m) k × KeepsOthers our_tables jobs_tree old new
   job_put lawful h =
       let done = inserted h in
-      let order = means.ordered.jobs in
       let row : row_of (job_of f) ≡ job_row f = ap job_row (fields_back f) in
       let free : is_taken (map row_of m.jobs) (row_of (job_of f)) ≡ false =
       subst (λ r. is_taken (map row_of m.jobs) r ≡ false) (sym row) (subst (λ rows. is_taken rows (job_row f) ≡ false) means.jobs (free_of (old.now.trees jobs_tree) (job_row f) done.fresh)) in
       let now : AreRecords row_of IsLawfulJob (new.now.trees jobs_tree) (placed (λ (j : Job). j.number) (job_of f) m.jobs) = record {
         is = done.rows ∙ ap₂ put_row (sym row) means.jobs ∙ row_placed row_of (λ (j : Job). j.number) (λ j. refl) (job_of f) m.jobs free;
-        ordered = subst IsByRowid (sym done.rows) (by_rowid_put (job_row f) (old.now.trees jobs_tree) refl order);
+        ordered = subst IsByRowid (sym done.rows) (by_rowid_put (job_row f) (old.now.trees jobs_tree) refl means.ordered.jobs);
         lawful = all_placed row_of (λ (j : Job). j.number) (λ j. refl) IsLawfulJob (job_of f) m.jobs lawful means.lawful.jobs;
       } in
       let apart = λ (y : Job) (has : Has m.jobs y). untaken row_of (λ (j : Job). j.number) (λ j. refl) (job_of f) m.jobs free y has in
@@ -188,3 +195,210 @@ lawful_of_fields f limits formed = record {
   limits = subst IsLawful (sym (fields_back f)) limits;
   pages = pages_of f (sent_low f limits);
 }
+
+-- what a function keeps of each element holds of each that it makes
+pub all_mapped : {X : Type 0} (P : X → Type 0) (f : X → X) (xs : List X) → ((x : X) → Has xs x → P x → P (f x)) → All P xs → All P (map f xs)
+all_mapped P f xs keeps all = All-map P f xs (All-from_recursion (λ x. P (f x)) xs
+    (all_from (λ x. P (f x)) xs (λ x has. keeps x has (all_has P xs x (recursion_from_All P xs all) has))))
+
+-- ---- one job
+
+-- what a change sets is of its form, and the numbers are within their limits
+pub record IsFormedChange (f : JobFields) : Type 0 where
+  pub modem : IsText IsName f.modem
+  pub jobtag : IsText IsJobTag f.jobtag
+  pub status : IsText IsStatus f.status
+  pub tts : f.tts ≤ 4102444800
+  pub killtime : unwrap_or f.killtime 0 ≤ 4102444800
+  pub priority : f.priority < 256
+  pub limits : IsLawful f
+
+-- The job of these fields and lines: in the place of the one with its number, which is of the same order.
+module _ (f : JobFields) (lines : List Pair) where
+  abbrev whole : JobFields
+  whole = record f { extra = lines }
+
+  abbrev put : Job → Job
+  put x = if x.number == f.job then job_of whole else x
+
+  record KeepsOrder (x : Job) : Type 0 where
+    pub order : IsSameOrder x (job_of f)
+    pub extra : x.extra ≡ lines
+
+  -- the row of a job of the same order, as it is written
+  written : (x : Job) → x.number ≡ f.job → KeepsOrder x → cast_row schema.jobs (drop 1 (show jobs_tree job_tests change_project (change_params f) (row_of x))) ≡ job_row whole
+  written x is same = rw (is, same.order.dial, same.order.totpages, same.extra) (stored_job whole)
+
+  -- a job that is put in place keeps the rowid
+  put_number : (x : Job) → rowid (row_of (put x)) ≡ rowid (row_of x)
+  put_number x = cond_both (x.number == f.job) (job_of whole) x (λ y. rowid (row_of y) ≡ rowid (row_of x))
+      (λ same. ap number (sym (eqb-true x.number f.job same))) (λ _. refl)
+
+  -- and its number
+  same_number : (x : Job) → (put x).number ≡ x.number
+  same_number x = cond_both (x.number == f.job) (job_of whole) x (λ y. y.number ≡ x.number) (λ same. sym (eqb-true x.number f.job same)) (λ _. refl)
+
+  -- a lawful job stays lawful under a change of its form
+  change_lawful : IsFormedChange f → (x : Job) → KeepsOrder x → IsLawfulJob x → IsLawfulJob (job_of whole)
+  change_lawful lawful x same was = lawful_of_fields whole (ap₂ ◌&&◌ (and_parts _ _ lawful.limits).0
+      (subst (λ e. IsTrue (are_unknown e)) same.extra (and_parts _ _ was.limits).1)) (record {
+        dial = subst (IsText IsCanonical) same.order.dial was.formed.dial;
+        modem = lawful.modem;
+        jobtag = lawful.jobtag;
+        status = lawful.status;
+        extra = subst ArePairs same.extra was.formed.extra;
+        tts = lawful.tts;
+        killtime = lawful.killtime;
+        priority = lawful.priority;
+      })
+
+  -- each job stays lawful, whether it changes or not
+  put_lawful : IsFormedChange f → (x : Job) → (x.number ≡ f.job → KeepsOrder x) → IsLawfulJob x → IsLawfulJob (put x)
+  put_lawful lawful x same was = cond_both (x.number == f.job) (job_of whole) x IsLawfulJob
+      (λ here. change_lawful lawful x (same (eqb-true x.number f.job here)) was) (λ _. was)
+
+module _ (f : JobFields) (old new : State) (m : Queue) (k : Ledger) (means : TablesMean old.now m k) where
+  abbrev its_lines : List Pair
+  its_lines = lines_of (job_numbered f.job m)
+
+  -- the queue's job of this number is of the same order as the change, with the same lines
+  keeps_order : IsChange (job_of f) m → (x : Job) → Has m.jobs x → x.number ≡ f.job → KeepsOrder f its_lines x
+  keeps_order change x has is =
+      let there = subst (λ n. find (λ (j : Job). j.number == n) m.jobs ≡ Some x) is (only_numbered row_of (λ (j : Job). j.number) (λ j. refl) m.jobs x (subst IsTable means.jobs means.ordered.jobs.rise) has) in
+      record { order = change x there; extra = sym (ap lines_of there) }
+
+  -- the text that updates a job makes the change, and touches jobs alone
+  pub job_changed : IsChange (job_of f) m → IsFormedChange f → HasRun UPDATE_JOB.now (change_params f) old new → TablesMean new.now (with_change (job_of f) m) k × KeepsOthers our_tables jobs_tree old new
+  job_changed change lawful h =
+      let same = keeps_order change in
+      let placed = put f its_lines in
+      let is_number = asked_is row_of (λ (j : Job). j.number) (λ j. refl) f.job (passes jobs_tree job_tests change_project (change_params f)) (λ r. refl) in
+      let is_other = not_asked row_of (λ (j : Job). j.number) (λ j. refl) f.job (passes jobs_tree job_tests change_project (change_params f)) (λ r. refl) in
+      let done = updated schema.jobs.name 0 schema.jobs.columns schema.jobs.key schema.jobs.primary schema.jobs.uniques schema.jobs.orders schema.jobs.checks 0 refl old new means.schema refl means.ordered.jobs
+      job_tests change_project (change_params f) (λ r. refl) _ h.0 row_of placed m.jobs means.jobs (put_number f its_lines)
+      (λ x has on. let is = is_number x on in written f its_lines x is (same x has is)
+      ∙ rw (eq-eqb x.number f.job is) (sym (ap job_row (fields_back (whole f its_lines)))))
+      (λ x has off. rw (is_other x off) refl)
+      (runs_as UPDATE_JOB.now (change_params f) old new our_tables means.schema _ update_job.is update_job.plain h.0 h.1) in
+      let now : AreRecords row_of IsLawfulJob (new.now.trees jobs_tree) (map placed m.jobs) = record { is = done.1; ordered = done.2; lawful = all_mapped IsLawfulJob placed m.jobs (λ x has. put_lawful f its_lines lawful x (same x has)) means.lawful.jobs } in
+      let after = with_change (job_of f) m in
+      let moved = jobs_changed old new m (open_grants m) (calls_of m) k (parts_of old.now m k means) done.0 (map placed m.jobs) now in (
+        means_of new.now after k (jobs_mapped placed m (same_number f its_lines) means.held)
+            (calls_as new.now after (open_grants after) (calls_of m) (calls_of after) k
+            (λ dial. calls_mapped placed m (same_number f its_lines) dial
+            (λ x has. cond_both (x.number == f.job) (job_of (whole f its_lines)) x (λ y. y.dial ≡ x.dial)
+            (λ here. sym (same x has (eqb-true x.number f.job here)).order.dial) (λ _. refl))) moved),
+        done.0,
+      )
+
+-- ---- all jobs of a phase whose kill time is past
+
+module _ (phase : Phase) (t : ℕ) where
+  abbrev pub expired_params : Row
+  expired_params = number t ∷ number (phase_number phase) ∷ []
+
+  -- a kill time is past where it is not 0 and at most this moment
+  past : (killtime : Option ℕ) → (nat_le 1 (unwrap_or killtime 0) && (nat_le (unwrap_or killtime 0) t && true)) ≡ is_past killtime t
+  past None = refl
+  past (Some s) = ap (λ b. nat_le 1 s && b) (and-true (nat_le s t))
+
+  abbrev expires_here : Job → Bool
+  expires_here j = phase_number j.phase == phase_number phase && is_past j.killtime t
+
+  -- the jobs that pass are those that expire
+  expiring : (j : Job) → passes jobs_tree expired_tests expired_project expired_params (row_of j) ≡ expires_here j
+  expiring j =
+      ap₂ ◌&&◌ (is_number (phase_number j.phase) (phase_number phase))
+      (ap₂ ◌&&◌ (at_least (unwrap_or j.killtime 0) 1) (ap (λ b. b && true) (at_most (unwrap_or j.killtime 0) t)) ∙ past j.killtime)
+
+  abbrev expired : Job → Job
+  expired j = record j { phase = Failed; status = kill_time_expired }
+
+  -- a job keeps its number, whether it expires or not
+  number_kept : (j : Job) → (expired_in phase t j).number ≡ j.number
+  number_kept j = cond_both (expires_here j) (expired j) j (λ i. i.number ≡ j.number) (λ _. refl) (λ _. refl)
+
+  -- the status of a job whose kill time is past is UTF-8
+  expired_text : IsUtf8 kill_time_expired
+  unfolding lib.Utf8.encode
+  expired_text = (kill_time_expired, (refl, refl))
+
+  -- a lawful job stays lawful, whether it expires or not
+  expired_lawful : (j : Job) → IsLawfulJob j → IsLawfulJob (expired_in phase t j)
+  expired_lawful j was = cond_both (expires_here j) (expired j) j IsLawfulJob (λ _. record {
+    formed = record {
+      dial = was.formed.dial;
+      modem = was.formed.modem;
+      jobtag = was.formed.jobtag;
+      status = record { formed = refl; utf8 = expired_text };
+      extra = was.formed.extra;
+      tts = was.formed.tts;
+      killtime = was.formed.killtime;
+      priority = was.formed.priority;
+    };
+    limits = was.limits;
+    pages = was.pages;
+  }) (λ _. was)
+
+  -- where none expires, the jobs stay
+  unmoved : (xs : List Job) → ((x : Job) → Has xs x → expires_here x ≡ false) → map (expired_in phase t) xs ≡ xs
+  unmoved [] none = refl
+  unmoved (x ∷ xs) none = ap₂ ◌∷◌ (rw (none x (inl refl)) refl) (unmoved xs (λ y has. none y (inr has)))
+
+  module _ (old new : State) (m : Queue) (k : Ledger) (means : TablesMean old.now m k) where
+    -- where no row is shown, no job expires
+    pub none_expired : (found : Option Row) → FindsRow SELECT_EXPIRED.now expired_params old new found → is_some found ≡ false → with_expired_in phase t m ≡ m
+    none_expired None h e =
+        let is_asked = passes jobs_tree expired_tests killtime_project expired_params in
+        let shown = show jobs_tree expired_tests killtime_project expired_params in
+        let rows = answers jobs_tree expired_tests killtime_project expired_params old.now (old.now.trees jobs_tree) refl [] h.0
+        (reads_as SELECT_EXPIRED.now expired_params old new our_tables means.schema _ select_expired.command select_expired.plain select_expired.unlisted h.0 h.1) in
+        ap (λ jobs. record m { jobs = jobs }) (unmoved m.jobs (λ x has.
+        sym (expiring x) ∙ none_shown is_asked shown (old.now.trees jobs_tree) h.0 rows h.2 (row_of x) (subst (λ table. Has table (row_of x)) (sym means.jobs) (mapped_has row_of m.jobs x has))))
+    none_expired (Some row) h e = absurd cc
+
+    -- the text that expires jobs of a phase does so to each, and touches jobs alone
+    pub jobs_expired : HasRun EXPIRE_JOBS.now expired_params old new → TablesMean new.now (with_expired_in phase t m) k × KeepsOthers our_tables jobs_tree old new
+    jobs_expired h =
+        let ran = runs_as EXPIRE_JOBS.now expired_params old new our_tables means.schema _ expire_jobs.is expire_jobs.plain h.0 h.1 in
+        let done = updated schema.jobs.name 0 schema.jobs.columns schema.jobs.key schema.jobs.primary schema.jobs.uniques schema.jobs.orders schema.jobs.checks 0 refl old new means.schema refl means.ordered.jobs
+        expired_tests expired_project expired_params (λ r. refl) _ h.0 row_of (expired_in phase t) m.jobs means.jobs
+        (λ j. cond_both (expires_here j) (expired j) j (λ i. rowid (row_of i) ≡ rowid (row_of j)) (λ _. refl) (λ _. refl))
+        (λ j has on. stored_job (fields_of (expired j)) ∙ rw (sym (expiring j) ∙ on) refl)
+        (λ j has off. rw (sym (expiring j) ∙ off) refl)
+        ran in
+        let now : AreRecords row_of IsLawfulJob (new.now.trees jobs_tree) (map (expired_in phase t) m.jobs) = record { is = done.1; ordered = done.2; lawful = all_mapped IsLawfulJob (expired_in phase t) m.jobs (λ j has. expired_lawful j) means.lawful.jobs } in
+        let after = with_expired_in phase t m in
+        let moved = jobs_changed old new m (open_grants m) (calls_of m) k (parts_of old.now m k means) done.0 (map (expired_in phase t) m.jobs) now in (
+          means_of new.now after k (jobs_mapped (expired_in phase t) m number_kept means.held)
+              (calls_as new.now after (open_grants after) (calls_of m) (calls_of after) k (λ dial. calls_mapped (expired_in phase t) m number_kept dial (λ j has. cond_both (expires_here j) (expired j) j (λ i. i.dial ≡ j.dial) (λ _. refl) (λ _. refl))) moved),
+          done.0,
+        )
+
+-- ---- the jobs that are held, and then those that wait, are all that expire
+
+-- what ages is in one of the two phases
+either : (phase : Phase) (past : Bool) → (expires phase && past) ≡ ((phase_number phase == 0 && past) || (phase_number phase == 1 && past))
+either Held true = refl
+either Held false = refl
+either Waiting past = refl
+either Granted past = refl
+either Done past = refl
+either Failed past = refl
+
+-- expired while held and then while it waits, a job has aged by the moment
+expired_once : (t : ℕ) (j : Job) → expired_in Waiting t (expired_in Held t j) ≡ aged_job t j
+expired_once t j = by (phase_number j.phase == 0 && is_past j.killtime t) (phase_number j.phase == 1 && is_past j.killtime t) refl refl ∙ ap (λ b. if b then expired Held t j else j) (sym (either j.phase (is_past j.killtime t)))
+  where
+    by : (held waits : Bool) → (phase_number j.phase == 0 && is_past j.killtime t) ≡ held → (phase_number j.phase == 1 && is_past j.killtime t) ≡ waits
+        → expired_in Waiting t (expired_in Held t j) ≡ (if held || waits then expired Held t j else j)
+    by true waits e w = rw e refl
+    by false waits e w = rw (e, w) refl
+
+-- expired while held and then while they wait, all jobs have expired that do
+pub expired_in_turn : (t : ℕ) (m : Queue) → with_expired_in Waiting t (with_expired_in Held t m) ≡ with_expired t m
+expired_in_turn t m = ap (λ jobs. record m { jobs = jobs }) (all m.jobs)
+  where
+    all : (jobs : List Job) → map (expired_in Waiting t) (map (expired_in Held t) jobs) ≡ map (aged_job t) jobs
+    all [] = refl
+    all (j ∷ jobs) = ap₂ (λ i is. i ∷ is) (expired_once t j) (all jobs)

@@ -2,7 +2,6 @@
 use Rattle.std.proofs.Common.{◌≡◌, ℕ, zero, suc, ◌≤◌, ◌==◌, pos, Bool, true, false, List, [], ◌∷◌, map, drop, unwrap_or, Option, Some, None, if◌then◌else◌, All, refl, sym, ap, ap₂, subst, ◌∙◌, arith, ℤ}
 use Rattle.std.proofs.Math.Path.{fun_ext}
 use Rattle.std.proofs.lemmas.List.Elements.{All-head, All-tail}
-use Rattle.std.specs.Prelude.{nat_le}
 use Rattle.sqlite.specs.Effect.{Database}
 use Rattle.sqlite_catalog.specs.Change.{KeepsRows}
 use Rattle.sqlite.specs.Order.{Row, column}
@@ -29,7 +28,6 @@ use Rattle.fax_core.specs.declared.grants.Grant.{Grant}
 use Rattle.fax_schema.specs.Schema.{down_tree, floors_tree, grants_tree, jobs_tree, meta_tree, replies_tree, second_list}
 use Rattle.fax_schema.proofs.RowsLemmas.{at_tree}
 use Rattle.fax_store.specs.Meaning.{RowsHaveOneMeaning}
-use Rattle.fax_tables.proofs.GrantRowLemmas.{same_grant}
 use Rattle.fax_tables.proofs.RowLemmas.{killtime_of, same_fields}
 use Rattle.fax_tables.specs.Job.{IsLawfulJob}
 use Rattle.fax_tables.specs.Row.{call_columns, call_number, down_columns, entry_columns, grant_row, job_row, meta_row, phase_number, wish_number}
@@ -92,14 +90,8 @@ one_of number at back x y is = sym (back x) ∙ ap at is ∙ back y
 -- 0 is written for no kill time, and no kill time is 0
 one_killtime : (a b : Option ℕ) → is_lawful_killtime a ≡ true → is_lawful_killtime b ≡ true → unwrap_or a 0 ≡ unwrap_or b 0 → a ≡ b
 one_killtime None None lawful other is = refl
-one_killtime None (Some t) lawful other is = absurd (zero_not t other is)
-  where
-    zero_not : (t : ℕ) → nat_le 1 t ≡ true → 0 ≡ t → ⊥
-    zero_not t low is = let no : nat_le 1 0 ≡ true = subst (λ n. nat_le 1 n ≡ true) (sym is) low in absurd cc
-one_killtime (Some t) None lawful other is = absurd (zero_not t lawful is)
-  where
-    zero_not : (t : ℕ) → nat_le 1 t ≡ true → t ≡ 0 → ⊥
-    zero_not t low is = let no : nat_le 1 0 ≡ true = subst (λ n. nat_le 1 n ≡ true) is low in absurd cc
+one_killtime None (Some t) lawful other is = absurd (let no = rw (← is) at other in cc)
+one_killtime (Some t) None lawful other is = absurd (let no = rw is at lawful in cc)
 one_killtime (Some t) (Some u) lawful other is = ap Some is
 
 -- pairs that are printed alike are the same
@@ -134,18 +126,26 @@ one_grant a b is =
     let number = λ (at : ℕ). ap (λ row. number_in (column row at)) is in
     let call = one_of call_number call_at call_back a.call b.call (number 6) in
     let is_open = sym (open_back a.is_open) ∙ ap (λ n. n == 0) (number 8) ∙ open_back b.is_open in
-    same_grant b a.number a.job a.modem a.first_page a.last_page a.call a.confirmed a.is_open
-    (number 0) (number 2) (ap (λ row. text_in (column row 3)) is) (number 4) (number 5) call (number 7) is_open
+    λ i. record {
+      number = number 0 i;
+      job = number 2 i;
+      modem = text_in (column (is i) 3);
+      first_page = number 4 i;
+      last_page = number 5 i;
+      call = call i;
+      confirmed = number 7 i;
+      is_open = is_open i;
+    }
 
 -- and one kept reply
-same_entry : (e : Entry) (client : List ℕ) (number : ℕ) (said : List ℕ) (status : ℕ) (body : List ℕ) → client ≡ e.client → number ≡ e.number → said ≡ e.said → status ≡ e.status → body ≡ e.body
-    → ◌≡◌ {A = Entry} (record { client = client; number = number; said = said; status = status; body = body }) e
-same_entry e client number said status body e0 e1 e2 e3 e4 = rw (e0, e1, e2, e3, e4) refl
-
-one_entry : (a b : Entry) → entry_columns a ≡ entry_columns b → a ≡ b
-one_entry a b is =
-    same_entry b a.client a.number a.said a.status a.body (ap (λ row. text_in (column row 0)) is) (ap (λ row. number_in (column row 1)) is) (ap (λ row. blob_in (column row 2)) is)
-    (ap (λ row. number_in (column row 3)) is) (ap (λ row. blob_in (column row 4)) is)
+pub one_entry : (a b : Entry) → entry_columns a ≡ entry_columns b → a ≡ b
+one_entry a b is = λ i. record {
+  client = text_in (column (is i) 0);
+  number = number_in (column (is i) 1);
+  said = blob_in (column (is i) 2);
+  status = number_in (column (is i) 3);
+  body = blob_in (column (is i) 4);
+}
 
 -- rows have one list of records
 one_of_each : {X : Type 0} (show : X → Row) (Lawful : X → Type 0) → ((a b : X) → Lawful a → Lawful b → show a ≡ show b → a ≡ b)
@@ -193,21 +193,13 @@ same_meaning a b m n k l here there jobs grants down replies meta floors =
     let all_replies : k.replies ≡ l.replies = one_of_each entry_columns IsLawfulEntry (λ x y _ _. one_entry x y) k.replies l.replies here.lawful.replies there.lawful.replies (sym here.replies ∙ ap (map (drop 1)) replies ∙ there.replies) in
     let counts = subst (AreCounted k.floor) (ap (map (drop 1)) floors) here.floors in
     let all_floors : k.floor ≡ l.floor = fun_ext (counted_alike k.floor l.floor _ counts there.floors) in (
-      same_queue n m.jobs m.grants m.down m.clock m.next_job m.next_grant all_jobs all_grants all_down (number 2) (number 3) (number 4),
-      same_ledger l k.replies k.floor all_replies all_floors,
+      λ i. record { jobs = all_jobs i; grants = all_grants i; down = all_down i; clock = number 2 i; next_job = number 3 i; next_grant = number 4 i },
+      λ i. record { replies = all_replies i; floor = all_floors i },
     )
   where
     first : List Row → Row
     first [] = []
     first (r ∷ rows) = r
-
-    same_queue : (q : Queue) (jobs : List Job) (grants : List Grant) (down : List (List ℕ)) (clock next_job next_grant : ℕ)
-        → jobs ≡ q.jobs → grants ≡ q.grants → down ≡ q.down → clock ≡ q.clock → next_job ≡ q.next_job → next_grant ≡ q.next_grant
-        → ◌≡◌ {A = Queue} (record { jobs = jobs; grants = grants; down = down; clock = clock; next_job = next_job; next_grant = next_grant }) q
-    same_queue q jobs grants down clock next_job next_grant e0 e1 e2 e3 e4 e5 = rw (e0, e1, e2, e3, e4, e5) refl
-
-    same_ledger : (k : Ledger) (replies : List Entry) (floor : List ℕ → ℕ) → replies ≡ k.replies → floor ≡ k.floor → ◌≡◌ {A = Ledger} (record { replies = replies; floor = floor }) k
-    same_ledger k replies floor e0 e1 = rw (e0, e1) refl
 
 pub rows_have_one_meaning : RowsHaveOneMeaning
 rows_have_one_meaning db m n k l here there =

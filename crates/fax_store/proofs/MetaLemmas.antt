@@ -91,14 +91,10 @@ module _ (old new : State) (m : Queue) (k : Ledger) (means : TablesMean old.now 
 
     -- the tables mean the queue with these
     pub meta_written : IsLawfulMeta (record m { clock = clock; next_job = next_job; next_grant = next_grant }) → HasRun UPDATE_META.now params old new
-        → TablesMean new.now (record m { clock = clock; next_job = next_job; next_grant = next_grant }) k
+        → TablesMean new.now (record m { clock = clock; next_job = next_job; next_grant = next_grant }) k × KeepsOthers our_tables meta_tree old new
     meta_written lawful h =
         let done = written h in
-        means_of new.now (put m) k means.held (meta_changed old new m (open_grants m) (calls_of m) k (parts_of old.now m k means) done.0 clock next_job next_grant done.1 lawful)
-
-    -- the text touches meta alone
-    pub meta_shows : HasRun UPDATE_META.now params old new → KeepsOthers our_tables meta_tree old new
-    meta_shows h = (written h).0
+        (means_of new.now (put m) k means.held (meta_changed old new m (open_grants m) (calls_of m) k (parts_of old.now m k means) done.0 clock next_job next_grant done.1 lawful), done.0)
 
   module _ (clock : ℕ) where
     -- the text writes the clock, and touches meta alone

@@ -1,17 +1,17 @@
 -- What the texts on the modems that are down read and write.
-use Rattle.std.proofs.Common.{◌≡◌, ℕ, ℤ, List, [], ◌∷◌, ◌++◌, if◌then◌else◌, map, filter, drop, Bool, true, false, not, ◌&&◌, Option, Some, None, Err, is_some, MatchOption, refl, sym, ap, subst, ◌∙◌}
+use Rattle.std.proofs.Common.{◌≡◌, ℕ, ℤ, List, [], ◌∷◌, ◌++◌, if◌then◌else◌, map, filter, drop, true, false, not, Option, Some, None, Err, is_some, refl, sym, ap, subst, ◌∙◌}
+use Rattle.fax_store.proofs.FoundLemmas.{none_passes, row_passes, with_id}
+use Rattle.fax_store.proofs.CountLemmas.{turned}
+use Rattle.std.proofs.Math.Bool.{and-true}
 use Rattle.std.specs.Str.{bytes_eq}
 use Rattle.std.specs.List.Sorted.{IsPermutation}
-use Rattle.std.proofs.lemmas.Slice.Eq.{bytes_eq-Decides}
-use Rattle.std.specs.Cmp as cmp
 use Rattle.sqlite.specs.Cast.{cast_row}
 use Rattle.sqlite.specs.Edit.{with_rowid, next_rowid}
 use Rattle.sqlite.specs.Order.{Row}
 use Rattle.sqlite.specs.Rowids.TheVariants.{Chosen}
 use Rattle.sqlite.specs.State.{State, Executes}
 use Rattle.sqlite.specs.declared.types.Value.TheVariants.{Null, Int, Text}
-use Rattle.sqlite.proofs.Callers.{runs_as, reads_as}
-use Rattle.sqlite_rules.specs.Lists.{Has}
+use Rattle.sqlite.proofs.Callers.{runs_as}
 use Rattle.sqlite_rules.proofs.ListLemmas.{some_from}
 use Rattle.sqlite_trees.proofs.ListLemmas.{IsPermutation-same}
 use Rattle.fax_core.specs.Machine.{is_down, with_mark}
@@ -26,7 +26,6 @@ use Rattle.fax_store.specs.Store.{FindsRow, HasRun}
 use Rattle.fax_tables.specs.Tables.{TablesMean}
 use Rattle.fax_schema.proofs.ColumnLemmas.{record_of, row_of, kept_columns, all_kept, none_holds}
 use Rattle.fax_schema.proofs.CompareLemmas.{are_equal, equal_texts, same_row, cast_null}
-use Rattle.fax_schema.proofs.EditLemmas.{shown_one, none_shown}
 use Rattle.fax_tables.proofs.FreeLemmas.{none_of}
 use Rattle.fax_tables.proofs.RefusalLemmas.{no_rule_broken}
 use Rattle.fax_tables.proofs.StandLemmas.{down_may}
@@ -36,27 +35,19 @@ use Rattle.sqlite.specs.declared.error.Error.{Error}
 use Rattle.sqlite_schema.specs.Rules.{agree}
 use Rattle.sqlite_value.specs.Keys.{first_key, plain}
 use Rattle.fax_schema.proofs.ModemTexts.{down_tests, down_project, down_terms, select_down, insert_down, delete_down}
-use Rattle.fax_schema.proofs.SelectLemmas.{passes, show, answers}
+use Rattle.fax_schema.proofs.SelectLemmas.{passes}
 use Rattle.fax_tables.proofs.TablesLemmas.{AreColumns, down, parts_of, means_of, calls_of, down_changed, one_more}
 use Rattle.fax_schema.proofs.UpdateLemmas.{gone_project, deleted}
 use Rattle.fax_schema.proofs.WriteLemmas.{KeepsOthers, unreferred, inserts}
 
 -- texts are equal either way round
-turned : (s t : List ℕ) → bytes_eq s t ≡ bytes_eq t s
-turned s t = cmp.both_ways (bytes_eq s t) (bytes_eq t s) (λ h. (bytes_eq-Decides t s).1 (sym ((bytes_eq-Decides s t).0 h))) (λ h. (bytes_eq-Decides s t).1 (sym ((bytes_eq-Decides t s).0 h)))
-
-and_true : (b : Bool) → (b && true) ≡ b
-and_true true = refl
-and_true false = refl
-
 module _ (modem : List ℕ) where
   abbrev pub params : Row
   params = Text modem ∷ []
 
   -- the rows that pass are those of the modem
   is_asked : (project : List _) (r : Row) (name : List ℕ) → drop 1 r ≡ down_columns name → passes down_tree down_tests project params r ≡ bytes_eq modem name
-  is_asked project [] name is = absurd cc
-  is_asked project (i ∷ columns) name is = ap (λ rest. passes down_tree down_tests project params (i ∷ rest)) is ∙ and_true (are_equal (Text name) (Text modem)) ∙ equal_texts name modem ∙ turned name modem
+  is_asked project r name is = ap (passes down_tree down_tests project params) (with_id r _ _ is) ∙ and-true (are_equal (Text name) (Text modem)) ∙ equal_texts name modem ∙ turned name modem
 
   module _ (old new : State) (m : Queue) (k : Ledger) (means : TablesMean old.now m k) where
     -- the rows of the modems that are down are theirs, in any order
@@ -65,19 +56,15 @@ module _ (modem : List ℕ) where
 
     -- a mark is found just where the modem is down
     pub mark_found : (found : Option Row) → FindsRow SELECT_DOWN.now params old new found → is_some found ≡ is_down modem m
-    mark_found found h = tells found h.2
-      where
-        shows : IsPermutation (map (show down_tree down_tests down_project params) (filter (passes down_tree down_tests down_project params) (old.now.trees down_tree))) h.0
-        shows = answers down_tree down_tests down_project params old.now (old.now.trees down_tree) refl [] h.0 (reads_as SELECT_DOWN.now params old new our_tables means.schema _ select_down.command select_down.plain select_down.unlisted h.0 h.1)
-
-        tells : (found : Option Row) → MatchOption found (h.0 ≡ []) (Has h.0) → is_some found ≡ is_down modem m
-        tells None empty = sym (none_holds (bytes_eq modem) m.down (λ name has.
-            let it = row_of down_columns (old.now.trees down_tree) m.down same name has in
-            sym (is_asked down_project it.0 name it.2) ∙ none_shown (passes down_tree down_tests down_project params) (show down_tree down_tests down_project params) (old.now.trees down_tree) h.0 shows empty it.0 it.1))
-        tells (Some row) has =
-            let shown = shown_one (passes down_tree down_tests down_project params) (show down_tree down_tests down_project params) (old.now.trees down_tree) h.0 shows row has in
-            let it = record_of down_columns (old.now.trees down_tree) m.down same shown.0 shown.1 in
-            sym (some_from (bytes_eq modem) m.down it.0 it.1 (sym (is_asked down_project shown.0 it.0 it.2) ∙ shown.2))
+    mark_found None h = sym (none_holds (bytes_eq modem) m.down (λ name has.
+        let it = row_of down_columns (old.now.trees down_tree) m.down same name has in
+        sym (is_asked down_project it.0 name it.2)
+        ∙ none_passes SELECT_DOWN.now down_tree down_tests down_project _ select_down (λ trees. refl) params old new old.now means.schema refl h it.0 it.1))
+    mark_found (Some row) h =
+        let shown = row_passes SELECT_DOWN.now down_tree down_tests down_project _ select_down (λ trees. refl) params old new old.now means.schema refl row
+        h in
+        let it = record_of down_columns (old.now.trees down_tree) m.down same shown.0 shown.1 in
+        sym (some_from (bytes_eq modem) m.down it.0 it.1 (sym (is_asked down_project shown.0 it.0 it.2) ∙ shown.2))
 
     -- the text that deletes a mark takes it off, and touches `down` alone
     pub mark_cleared : HasRun DELETE_DOWN.now params old new → TablesMean new.now (with_mark modem false m) k × KeepsOthers our_tables down_tree old new
@@ -108,8 +95,7 @@ module _ (modem : List ℕ) where
     -- the row of a mark agrees with the new one where it is of the same modem
     agrees : (r : Row) (name : List ℕ) (id : ℤ) → drop 1 r ≡ down_columns name → agree plain (1 ∷ []) r (1 ∷ []) (Int id ∷ down_columns modem) ≡ bytes_eq name modem
     unfolding first_key
-    agrees [] name id is = absurd cc
-    agrees (i ∷ columns) name id is = ap (λ rest. agree plain (1 ∷ []) (i ∷ rest) (1 ∷ []) (Int id ∷ down_columns modem)) is ∙ and_true (are_equal (Text name) (Text modem)) ∙ equal_texts name modem
+    agrees r name id is = ap (λ r. agree plain (1 ∷ []) r (1 ∷ []) (Int id ∷ down_columns modem)) (with_id r _ _ is) ∙ and-true (are_equal (Text name) (Text modem)) ∙ equal_texts name modem
 
     -- a mark that is new breaks no rule
     pub mark_goes : is_down modem m ≡ false → (e : Error) → Executes INSERT_DOWN.now params old new (Err e) → fault_of e ≡ Unavailable

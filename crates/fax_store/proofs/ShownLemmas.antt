@@ -1,5 +1,5 @@
 -- A text that shows no rows of a write shows none over any schema.
-use Rattle.std.proofs.Common.{◌≡◌, ℕ, ◌+◌, ◌==◌, Bool, true, false, List, length, Option, None, Some, Ok, Err, refl, sym, ap, subst, ◌∙◌, if◌then◌else◌, inl, inr}
+use Rattle.std.proofs.Common.{◌≡◌, ℕ, ◌+◌, ◌==◌, Bool, true, false, List, length, Option, None, Ok, Err, refl, sym, ap, subst, ◌∙◌, if◌then◌else◌, inl, inr}
 use Rattle.std.proofs.lemmas.Bool.{cases_Bool}
 use Rattle.sqlite_ast.specs.declared.Shown.{Shown}
 use Rattle.sqlite_ast.specs.declared.Statement.{Statement}
@@ -27,9 +27,6 @@ same_value e = cc
 
 not_ok : {A : Type 0} {a : A} {f : CompileError} → ◌≡◌ {A = Checked A} (Err f) (Ok a) → ⊥
 not_ok e = cc
-
-some_none : {A : Type 0} {a : A} → ◌≡◌ {A = Checked (Option A)} (Ok (Some a)) (Ok None) → ⊥
-some_none e = cc
 
 -- none is given where each way to one gives none
 refuses : {X A : Type 0} (x : Checked X) (f : X → Checked (Option A)) → ((a : X) → f a ≡ Ok None → ⊥) → and_then x f ≡ Ok None → ⊥
@@ -70,7 +67,7 @@ none_shown : (s : Schema) (base : ℕ) (name : Name) (shown : List Shown) → sh
 unfolding shows
 none_shown s base name shown h = elim (cases_Bool (length shown == 0)) [
   | inl none ↦ none
-  | inr more ↦ absurd (refuses (target s name) _ (λ at. refuses (table_at s at) _ (λ table. refuses (returned s table base shown) _ (λ r. refuses (source_of s (length r.0) r.1) _ (λ source e. some_none e)))) (rw more at h))
+  | inr more ↦ absurd (refuses (target s name) _ (λ at. refuses (table_at s at) _ (λ table. refuses (returned s table base shown) _ (λ r. refuses (source_of s (length r.0) r.1) _ (λ source e. absurd cc)))) (rw more at h))
 ]
 
 -- where none are named, none are shown over any schema

@@ -25,31 +25,20 @@ same_value : {B E : Type 0} {a b : B} → ◌≡◌ {A = Result B E} (Ok a) (Ok 
 same_value e = cc
 
 module _ (old new : State) (sql : List ℕ) (params : Row) where
-  -- where rows were shown, the database was open
-  shows_open : (c : Compiled) (full : Row) (rows : List Row) (returning : Option Returning) → ShowsRows old new sql c full rows returning → IsTrue old.is_open
-  shows_open c full rows None h = h.3.0.was_open
-  shows_open c full rows (Some what) h = h.1.shown.was_open
-
-  -- and it still is
-  shows_still : (c : Compiled) (full : Row) (rows : List Row) (returning : Option Returning) → ShowsRows old new sql c full rows returning → IsTrue new.is_open
-  shows_still c full rows None h = h.3.0.is_open
-  shows_still c full rows (Some what) h = h.1.shown.is_open
-
   -- the database was open where a query shows its rows, and is
-  pub shown_still : (rows : List Row) → Shown sql params old new rows → IsTrue new.is_open
-  unfolding Shown
-  shown_still rows h = shows_still h.0 _ rows h.0.returning h.2
+  shows_at : (c : Compiled) (full : Row) (rows : List Row) (returning : Option Returning) → ShowsRows old new sql c full rows returning → IsTrue old.is_open × IsTrue new.is_open
+  shows_at c full rows None h = (h.3.0.was_open, h.3.0.is_open)
+  shows_at c full rows (Some what) h = (h.1.shown.was_open, h.1.shown.is_open)
 
-  pub shown_open : (rows : List Row) → Shown sql params old new rows → IsTrue old.is_open
+  pub shown_at : (rows : List Row) → Shown sql params old new rows → IsTrue old.is_open × IsTrue new.is_open
   unfolding Shown
-  shown_open rows h = shows_open h.0 _ rows h.0.returning h.2
+  shown_at rows h = shows_at h.0 _ rows h.0.returning h.2
 
   -- a query with no RETURNING changes nothing
   pub shown_keeps : IsPlain (understood old.now.schema sql) → (rows : List Row) → Shown sql params old new rows → IsUnchanged old new
   unfolding Shown
   shown_keeps plain rows h =
-      let none = (subst IsPlain h.1.is plain).0 in
-      (subst (ShowsRows old new sql h.0 _ rows) none h.2).3
+      (subst (ShowsRows old new sql h.0 _ rows) ((subst IsPlain h.1.is plain).0) h.2).3
 
   -- what fails to show its rows changes nothing, or undoes what is not committed
   not_shown : (c : Compiled) (full : Row) (e : Error) (returning : Option Returning) → FailsToShow old new sql c full e returning → LeavesCommit old new
@@ -110,8 +99,7 @@ module _ (old new : State) (sql : List ℕ) (params : Row) where
             → AtPlace (λ t. OnRows (task t) (mode_of old) None command old.now.trees) found (Ok (tally, after)) → after.schema ≡ old.now.schema
         on_table task command None same h = absurd cc
         on_table task command (Some t) same h =
-            let done = went h in
-            ap (λ (p : Tally × Database). p.1.schema) (same_value (went (went done.2).2).2) ∙ same t
+            ap (λ (p : Tally × Database). p.1.schema) (same_value (went (went (went h).2).2).2) ∙ same t
 
         task_of : Table → Task
         task_of t = record { limit = old.step_limit; keys = (mode_of old).keys; schema = old.now.schema; table = t; params = full }

@@ -1,5 +1,5 @@
 -- What a crash behind a call may leave.
-use Rattle.std.proofs.Common.{◌≡◌, ◌⊎◌, inl, inr, ℕ, Bool, List, [], false, true, Option, None, Some, Ok, Err, Result, IsErrAnd, is_err, IsSome, IsTrue, refl, sym, ap, subst, ◌∙◌}
+use Rattle.std.proofs.Common.{◌≡◌, ◌⊎◌, inl, inr, ℕ, Bool, List, [], false, true, None, Ok, Err, Result, IsErrAnd, is_err, IsTrue, refl, sym, ap, subst, ◌∙◌}
 use Rattle.std.specs.Prelude.{⊤}
 use Rattle.std.proofs.lemmas.Bool.{both_ways}
 use Rattle.sqlite_trees.specs.Tree.{Trees}
@@ -13,7 +13,6 @@ use Rattle.sqlite.specs.Clock.{timed}
 use Rattle.sqlite_resolve.specs.declared.compiled.Compiled.{Compiled}
 use Rattle.sqlite_resolve.specs.declared.error.CompileError.{CompileError}
 use Rattle.sqlite.specs.Given.{IsPlain}
-use Rattle.sqlite_schema.specs.declared.command.Returning.{Returning}
 use Rattle.sqlite_schema.specs.declared.schema.Schema.{Schema}
 use Rattle.fax_schema.specs.Schema.{our_tables}
 use Rattle.fax_tables.specs.declared.fault.StoreFault.{StoreFault}
@@ -33,14 +32,10 @@ shows_none : (sql : List ℕ) (c : Compiled) (known : Result Compiled CompileErr
 shows_none sql c (Ok e) is plain s at = shows_nothing our_tables s sql e c is plain.0 at
 shows_none sql c (Err f) is plain s at = absurd plain
 
-none_is_none : (o : Option Returning) → o ≡ None → IsSome o → ⊥
-none_is_none None e h = absurd cc
-none_is_none (Some r) e h = absurd cc
-
 -- a query commits nothing by showing its rows
 pub query_commits_nothing : (s : State) (sql : List ℕ) (params : Row) → IsQueryText sql → (found : Trees) → CommitsShowing sql params s found → ⊥
 unfolding CommitsShowing
-query_commits_nothing s sql params query found h = none_is_none h.0.returning (shows_none sql h.0 (understood our_tables sql) refl query s.now.schema h.1.is) h.2
+query_commits_nothing s sql params query found h = absurd (let no = rw (shows_none sql h.0 (understood our_tables sql) refl query s.now.schema h.1.is) at h.2 in cc)
 
 -- so a crash behind a query leaves what it could leave before
 pub queries_nothing : (old new : State) (sql : List ℕ) (params : Row) → IsQueryText sql → Survives old new (CommitsShowing sql params old) → CommitsNothing old new

@@ -1,9 +1,11 @@
--- What a store means across the calls of its connection.
+-- What a store means across the calls of its connection, and what a text that isn't compiled tells of it.
 use Rattle.std.proofs.Common.{◌≡◌, ◌⊎◌, inl, inr, ◌≤◌, ℕ, List, [], false, IsTrue, Ok, Err, Result, refl, sym, subst, ap, ◌∙◌, arith}
+use Rattle.std.proofs.lemmas.Bool.{both_ways, false_from_ne_true}
 use Rattle.sqlite.specs.Effect.{Database}
 use Rattle.sqlite.specs.View.{doubt}
 use Rattle.sqlite.specs.declared.error.Error.{Error}
-use Rattle.sqlite.specs.State.{State, HasCleanDisk, IsUnchanged, IsRolledBack, Executes}
+use Rattle.sqlite.specs.State.{State, HasCleanDisk, IsUnchanged, IsRolledBack, Executes, Survives, HasCause, IsNoStatement, IsNotRun, store_error}
+use Rattle.sqlite_trees.specs.Tree.{Trees}
 use Rattle.sqlite.specs.Held.{Held, state}
 use Rattle.sqlite.specs.Steps.{over_memory}
 use Rattle.sqlite_trees.specs.declared.memory.MemStore.{MemStore}
@@ -13,10 +15,14 @@ use Rattle.fax_store.specs.declared.store.TheConstants.{BEGIN, COMMIT, ROLLBACK}
 use Rattle.fax_core.specs.Ledger.{Ledger}
 use Rattle.fax_core.specs.Queue.{Queue}
 use Rattle.fax_tables.specs.Tables.{TablesMean, IsAtRest}
-use Rattle.fax_store.specs.Store.{Serves, Means, HasRows, Stays, GoesBack}
+use Rattle.fax_store.specs.Store.{Serves, Means, HasRows, LeavesCommit, Stays, GoesBack}
 use Rattle.fax_store.specs.Work.{Begins, BeginsAt, Commits, Forgets, Undoes}
 use Rattle.fax_store.proofs.ControlLemmas.{begins, commits, commit_fails, rolls_back}
 use Rattle.fax_store.proofs.StatementLemmas.{left_open, run_open}
+use Rattle.sqlite.specs.declared.error.Error.TheVariants.{SqliteFailure}
+use Rattle.sqlite.specs.declared.error.ErrorCode.TheVariants as code
+use Rattle.sqlite_trees.specs.declared.error.StoreError.{StoreError}
+use Rattle.sqlite_trees.specs.declared.error.StoreError.TheVariants.{OutOfMemory, Io, Corrupt, Full, Broken, Unstorable}
 
 -- the tables mean the same in an equal database
 pub same_tables : {a b : Database} (m : Queue) (k : Ledger) → b ≡ a → TablesMean a m k → TablesMean b m k
@@ -36,6 +42,17 @@ means_stay {old} {new} served stays m k means s =
     let was = means (served s) in
     at_rest_of new old.now m k (stays old.now was.means.schema (λ at. let here = means at in record { autocommit = here.autocommit; now = refl; committed = sym here.settled }) s) was.means
 
+-- the rows stay where nothing changed, or what was not committed is undone
+pub rows_left : (old new : State) (db : Database) → Serves new → LeavesCommit old new → HasRows old db → HasRows new db
+rows_left old new db s (inl same) was = record { autocommit = same.0.mode ∙ was.autocommit; now = same.0.now_is ∙ was.now; committed = same.0.committed_is ∙ was.committed }
+rows_left old new db s (inr undone) was =
+    let back = undone.undone s.is_open in
+    record { autocommit = undone.autocommit; now = back.0 ∙ was.committed; committed = back.1 ∙ was.committed }
+
+-- the disk was clean, where it still is behind a call
+pub clean_in : {old new : State} {P : Trees → Type 0} → Survives old new P → HasCleanDisk new → HasCleanDisk old
+clean_in survives now = let kept = survives.clean in omega arith
+
 module _ (old new : State) (kept : doubt old.is_clean ≤ doubt new.is_clean) where
   -- the disk was clean, where it still is
   pub cleaner : HasCleanDisk new → HasCleanDisk old
@@ -47,15 +64,7 @@ module _ (old new : State) (kept : doubt old.is_clean ≤ doubt new.is_clean) wh
 
   -- the rows stay where a call changed nothing, or undid what was not committed
   pub rests : (HasCleanDisk new → IsUnchanged old new ⊎ IsRolledBack old new) → Stays old new
-  rests left db six has s = elim (left s.clean) [
-    | inl same ↦
-        (let was = has (served s same.0.was_open) in
-        record { autocommit = same.0.mode ∙ was.autocommit; now = same.0.now_is ∙ was.now; committed = same.0.committed_is ∙ was.committed })
-    | inr undone ↦
-        (let was = has (served s (undone.was_open s.is_open)) in
-        let back = undone.undone s.is_open in
-        record { autocommit = undone.autocommit; now = back.0 ∙ was.committed; committed = back.1 ∙ was.committed })
-  ]
+  rests left db six has s = rows_left old new db s (left s.clean) (has (served s (left_open old new [] [] (left s.clean) s.is_open)))
 
   -- what is not committed is undone where the call undid it
   pub goes_back : (HasCleanDisk new → IsRolledBack old new) → GoesBack old new
@@ -121,10 +130,6 @@ module _ (old new : State) (kept : doubt old.is_clean ≤ doubt new.is_clean) wh
   pub rolled : (r : Result ℕ Error) → IsTrue old.in_transaction → (HasCleanDisk new → Executes ROLLBACK.now [] old new r) → GoesBack old new
   rolled r inside ran = goes_back (λ clean. rolls_back old new r inside (ran clean))
 
--- nothing is to be undone
-pub at_rest : (s : State) → s.in_transaction ≡ false → (IsTrue s.is_open → s.now ≡ s.committed) → GoesBack s s
-at_rest s autocommit settled db is serves = record { autocommit = autocommit; now = settled serves.is_open ∙ is serves; committed = is serves }
-
 -- what a drop of a work leaves
 pub forgets : (old new : State) (failed : _) → GoesBack old new → Forgets old failed new
 forgets old new failed back db over s = back db (λ was. (over was).began) s
@@ -141,3 +146,44 @@ forgets_commit old new back db over s = back (λ was. ((over was).goes_on refl).
 pub undoes_commit : (old new : State) → (Serves new → Serves old) → ((Serves old → IsTrue old.in_transaction) → GoesBack old new) → Undoes old false new
 undoes_commit old new served back m₀ m k₀ k works s =
     at_rest_of new old.committed m₀ k₀ (back (λ was. ((works was).goes_on refl).inside) old.committed (λ _. refl) s) (works (served s)).began
+
+-- no text is refused for a closed database by what it says
+no_statement : (s : State) (sql : List ℕ) (e : Error) → e ≡ SqliteFailure code.Closed → ¬ (IsNoStatement s sql [] e)
+no_statement s sql e is (inl (fault, unknown, said)) = absurd (let both = sym is ∙ said in cc)
+no_statement s sql e is (inr (c, known, inl (more, said))) = absurd (let both = sym is ∙ said in cc)
+no_statement s sql e is (inr (c, known, inr (inl (other, said)))) = absurd (let both = sym is ∙ said in cc)
+no_statement s sql e is (inr (c, known, inr (inr (times, said)))) = absurd (let both = sym is ∙ said in cc)
+
+module _ (old new : State) where
+  -- where the cause is that the database is closed, it is closed
+  closed_for : (cause : StoreError) → SqliteFailure code.Closed ≡ store_error cause → HasCause old new ⊥ cause → IsRolledBack old new → new.is_open ≡ false
+  closed_for OutOfMemory e had undone = absurd (let both = e in cc)
+  closed_for Io e had undone = absurd (let both = e in cc)
+  closed_for Corrupt e had undone = absurd (let both = e in cc)
+  closed_for Full e had undone = absurd (let both = e in cc)
+  closed_for Broken e had undone = false_from_ne_true new.is_open (λ on. both_ways _ had (undone.was_open on))
+  closed_for Unstorable e had undone = absurd (let both = e in cc)
+
+  -- it is closed where it says so
+  pub is_closed : (sql : List ℕ) (e : Error) → e ≡ SqliteFailure code.Closed → IsNotRun old new sql [] e → new.is_open ≡ false
+  unfolding IsNotRun
+  is_closed sql e is (inl (why, same)) = absurd (no_statement old sql e is why)
+  is_closed sql e is (inr failed) = closed_for failed.0 (sym is ∙ failed.1) failed.2 failed.3
+
+  -- what such a text leaves
+  not_run : (sql : List ℕ) (e : Error) → IsNotRun old new sql [] e → IsUnchanged old new ⊎ IsRolledBack old new
+  unfolding IsNotRun
+  not_run sql e (inl (why, same)) = inl same
+  not_run sql e (inr failed) = inr failed.3
+
+  module _ (kept : doubt old.is_clean ≤ doubt new.is_clean) (sql : List ℕ) (e : Error) (ran : HasCleanDisk new → IsNotRun old new sql [] e) where
+    -- where the database serves behind it, it did before
+    pub was_served : Serves new → Serves old
+    was_served s = served old new kept s (elim (not_run sql e (ran s.clean)) [
+      | inl same ↦ same.0.was_open
+      | inr undone ↦ undone.was_open s.is_open
+    ])
+
+    -- and has the same rows
+    pub still_rests : Stays old new
+    still_rests = rests old new kept (λ clean. not_run sql e (ran clean))

@@ -1,5 +1,6 @@
 -- What a work means across its calls.
 use Rattle.std.proofs.Common.{◌≡◌, inl, inr, ℕ, List, true, false, Ok, Err, Result, MatchResult, OnOk, OnErr, IfErr, IfOk, IsErrAnd, is_err, if◌then◌else◌, ap, refl, sym, ◌∙◌, Bool, IsTrue, Option, Some, None}
+use Rattle.std.proofs.lemmas.Option.{same_Some}
 use Rattle.std.specs.Option.{option_map}
 use Rattle.sqlite.specs.Effect.{Database}
 use Rattle.sqlite.specs.Order.{Row}
@@ -11,20 +12,17 @@ use Rattle.fax_tables.specs.Fault.{OrUnavailable, fault_of}
 use Rattle.fax_core.specs.Ledger.{Ledger}
 use Rattle.fax_core.specs.Queue.{Queue}
 use Rattle.fax_tables.specs.Tables.{TablesMean}
-use Rattle.fax_store.specs.Store.{Serves, Means, MeansNow, HasRows, HasTables, IsEditText, Stays, IsRefusedFor, LeavesCommit, Reads, HasRun}
+use Rattle.fax_store.specs.Store.{Serves, MeansNow, HasTables, IsEditText, Stays, IsRefusedFor, LeavesCommit, Reads, HasRun}
 use Rattle.fax_store.specs.Work.{IsOver, Holds, IsUnderWay, Works, Changes, ChangesWhere, Keeps, AnswersIn, IsOnlyUnavailable, Steps, Moves}
 use Rattle.fax_schema.specs.Schema.{our_tables}
 use Rattle.fax_store.proofs.StatementLemmas.{edit_shows}
-use Rattle.fax_store.proofs.StoreLemmas.{same_tables}
+use Rattle.fax_store.proofs.StoreLemmas.{same_tables, rows_left}
 use Rattle.fax_schema.proofs.WriteLemmas.{KeepsOthers}
 
 -- what is found is made of what is there
 pub there_as : {X Y : Type 0} (f : X → Y) (o : Option X) (y : Y) → Some y ≡ option_map f o → (x : X) × (o ≡ Some x) × (y ≡ f x)
 there_as f None y e = absurd cc
-there_as f (Some x) y e = (x, refl, same e)
-  where
-    same : {A : Type 0} {a b : A} → ◌≡◌ {A = Option A} (Some a) (Some b) → a ≡ b
-    same e = cc
+there_as f (Some x) y e = (x, refl, same_Some y (f x) e)
 
 -- what holds where a call is done, or where it is refused, says more
 pub ok_as : {A : Type 0} {P Q : Type 0} (result : Result A StoreFault) → (P → Q) → OnOk result P → OnOk result Q
@@ -35,20 +33,23 @@ pub err_as : {A : Type 0} {P Q : Type 0} (result : Result A StoreFault) → (P �
 err_as (Ok a) more h = tt
 err_as (Err e) more h = more h
 
+-- what a refusal leaves was committed
+committed_is : (old new : State) → LeavesCommit old new → IsTrue new.is_open → new.committed ≡ old.committed
+committed_is old new (inl same) is_open = same.0.committed_is
+committed_is old new (inr undone) is_open = (undone.undone is_open).1
+
 -- A call of a work that holds moves it on, where what its tables mean then is known.
 pub moves_by : {A : Type 0} (old new : State) (result : Result A StoreFault) (m₀ m after : Queue) (k₀ k kept : Ledger) → (Serves new → Serves old) → Holds old false new (is_err result) → Works old false m₀ k₀ m k → Serves new
     → (TablesMean old.now m k → IsTrue old.in_transaction → OnOk result (TablesMean new.now after kept)) → Moves new result m₀ k₀ after kept
 moves_by old new (Ok a) m₀ m after k₀ k kept served holds works s means =
     let was = works (served s) in
     let inside = was.goes_on refl in
-    let over : IsOver old false old.committed = record { began = refl; goes_on = λ _. (inside.inside, inside.means.schema) } in
-    let now = holds old.committed (λ _. over) s in
+    let now = holds old.committed (λ _. record { began = refl; goes_on = λ _. (inside.inside, inside.means.schema) }) s in
     record { began = same_tables m₀ k₀ now.began was.began; goes_on = λ _. record { inside = (now.goes_on refl).0; means = means inside.means inside.inside } }
 moves_by old new (Err e) m₀ m after k₀ k kept served holds works s means =
     let was = works (served s) in
     let inside = was.goes_on refl in
-    let over : IsOver old false old.committed = record { began = refl; goes_on = λ _. (inside.inside, inside.means.schema) } in
-    same_tables m₀ k₀ (holds old.committed (λ _. over) s).began was.began
+    same_tables m₀ k₀ (holds old.committed (λ _. record { began = refl; goes_on = λ _. (inside.inside, inside.means.schema) }) s).began was.began
 
 -- what holds where a call is done and what holds where it is refused each say more
 pub both_as : {A : Type 0} {P Q R S : Type 0} (result : Result A StoreFault) → (P → R) → (Q → S) → MatchResult result (λ _. P) (λ _. Q) → MatchResult result (λ _. R) (λ _. S)
@@ -79,11 +80,6 @@ pub never_ok : {A : Type 0} (X : Type 0) (result : Result A StoreFault) (P : Sto
 never_ok X (Ok a) P is = absurd is
 never_ok X (Err e) P is = tt
 
--- where it was refused, the last commit stands
-pub refused_by : {A : Type 0} (old new : State) (result : Result A StoreFault) (P : StoreFault → Type 0) (m₀ m after : Queue) (k₀ k kept : Ledger) → IsErrAnd result P → (Serves new → Serves old) → Holds old false new (is_err result) → Works old false m₀ k₀ m k → Serves new
-    → Moves new result m₀ k₀ after kept
-refused_by old new result P m₀ m after k₀ k kept is served holds works s = moves_by old new result m₀ m after k₀ k kept served holds works s (λ means inside. never_ok _ result P is)
-
 -- a transaction that a call leaves goes on over the tables
 pub inside_by : (old new : State) → Holds old false new false → Serves new → IsTrue old.in_transaction → HasTables old → IsTrue new.in_transaction × HasTables new
 inside_by old new holds s inside tables = (holds old.committed (λ _. record { began = refl; goes_on = λ _. (inside, tables) }) s).goes_on refl
@@ -105,11 +101,10 @@ left_by old new (Err e) left = left
 
 -- what a refused statement leaves of a work
 pub left_holds : (old new : State) → (Serves new → Serves old) → (HasCleanDisk new → LeavesCommit old new) → Holds old false new true
-left_holds old new served left db over s = record { began = committed (left s.clean) ∙ (over (served s)).began; goes_on = λ on. absurd cc }
-  where
-    committed : LeavesCommit old new → new.committed ≡ old.committed
-    committed (inl same) = same.0.committed_is
-    committed (inr undone) = (undone.undone s.is_open).1
+left_holds old new served left db over s = record {
+  began = committed_is old new (left s.clean) s.is_open ∙ (over (served s)).began;
+  goes_on = λ on. absurd cc;
+}
 
 -- what a statement that changes rows leaves of one
 pub edit_holds : (old new : State) (sql : List ℕ) (params : Row) → (Serves new → Serves old) → IsEditText sql → (count : ℕ) → (HasCleanDisk new → Executes sql params old new (Ok count)) → Holds old false new false
@@ -121,18 +116,11 @@ edit_holds old new sql params served edit count ran db over s =
 
 -- what a call that only reads tells, and leaves
 module _ (old new : State) (served : Serves new → Serves old) {A : Type 0} (result : Result A StoreFault) (read : HasTables old → HasCleanDisk new → Reads old new result) where
-  -- the rows stay where nothing changed, or what was not committed is undone
-  rests_after : (db : Database) → Serves new → LeavesCommit old new → HasRows old db → HasRows new db
-  rests_after db s (inl same) was = record { autocommit = same.0.mode ∙ was.autocommit; now = same.0.now_is ∙ was.now; committed = same.0.committed_is ∙ was.committed }
-  rests_after db s (inr undone) was =
-      let back = undone.undone s.is_open in
-      record { autocommit = undone.autocommit; now = back.0 ∙ was.committed; committed = back.1 ∙ was.committed }
-
-  -- so the rows of the store stay
+  -- the rows of the store stay
   pub stays_by : Stays old new
   stays_by db ours has s =
       let was = has (served s) in
-      rests_after db s (left_by old new result (read (ap (λ (d : Database). d.schema) was.now ∙ ours) s.clean)) was
+      rows_left old new db s (left_by old new result (read (ap (λ (d : Database). d.schema) was.now ∙ ours) s.clean)) was
 
   -- and inside a work
   pub holds_by : Holds old false new (is_err result)
@@ -145,18 +133,10 @@ module _ (old new : State) (served : Serves new → Serves old) {A : Type 0} (re
       kept (Ok a) same =
           let on = was.goes_on refl in
           record { began = same.0.committed_is ∙ was.began; goes_on = λ _. (same.0.mode ∙ on.0, ap (λ (d : Database). d.schema) same.0.now_is ∙ on.1) }
-      kept (Err e) left = record { began = committed left ∙ was.began; goes_on = λ on. absurd cc }
-        where
-          committed : LeavesCommit old new → new.committed ≡ old.committed
-          committed (inl same) = same.0.committed_is
-          committed (inr undone) = (undone.undone s.is_open).1
+      kept (Err e) left = record { began = committed_is old new left s.is_open ∙ was.began; goes_on = λ on. absurd cc }
 
   module _ (P : Queue → Ledger → A → Type 0) (answers : (m : Queue) (k : Ledger) → MeansNow old m k → Serves new → OrUnavailable result (P m k)) where
-    -- what it answers is so of all that the store means
-    pub found_by : (m : Queue) (k : Ledger) → Means old m k → Serves new → OrUnavailable result (P m k)
-    found_by m k means s = answers m k (λ was. (means was).means) s
-
-    -- and the same inside a work
+    -- what the tables mean inside a work
     works_now : (m₀ m : Queue) (k₀ k : Ledger) → Works old false m₀ k₀ m k → MeansNow old m k
     works_now m₀ m k₀ k works was = ((works was).goes_on refl).means
 
@@ -174,11 +154,7 @@ module _ (old new : State) (served : Serves new → Serves old) {A : Type 0} (re
               began = same_tables m₀ k₀ same.committed_is was.began;
               goes_on = λ _. record { inside = same.mode ∙ inside.inside; means = same_tables m k same.now_is inside.means };
             }
-        kept (Err e) left = record { began = committed left; goes_on = λ on. absurd cc }
-          where
-            committed : LeavesCommit old new → TablesMean new.committed m₀ k₀
-            committed (inl same) = same_tables m₀ k₀ same.0.committed_is was.began
-            committed (inr undone) = same_tables m₀ k₀ (undone.undone s.is_open).1 was.began
+        kept (Err e) left = record { began = same_tables m₀ k₀ (committed_is old new left s.is_open) was.began; goes_on = λ on. absurd cc }
 
     -- inside a work, what it answers is so of all that the work means
     pub found_in : AnswersIn old false new result P
@@ -191,17 +167,6 @@ module _ (old new : State) (served : Serves new → Serves old) {A : Type 0} (re
         stepped : (r : Result A StoreFault) → OrUnavailable r (P m k) → IsUnderWay new (is_err r) m₀ k₀ m k → MatchResult r (λ a. P m k a × IsUnderWay new false m₀ k₀ m k) (λ fault. (fault ≡ Unavailable) × TablesMean new.committed m₀ k₀)
         stepped (Ok a) h after = (h, after)
         stepped (Err e) h after = (h, after.began)
-
--- a step of a work that is a call of it
-module _ (old new : State) {A : Type 0} (result : Result A StoreFault) (f : Queue → Queue) (g : Ledger → Ledger)
-    (steps : (m₀ m : Queue) (k₀ k : Ledger) → Works old false m₀ k₀ m k → Serves new → Steps new result m₀ k₀ (f m) (g k)) where
-  -- where a call moves a work on by these changes, it changes it so
-  pub changes_by : Changes old false new (is_err result) f g
-  changes_by m₀ m k₀ k works s = after result (steps m₀ m k₀ k works s)
-    where
-      after : (r : Result A StoreFault) → Steps new r m₀ k₀ (f m) (g k) → IsUnderWay new (is_err r) m₀ k₀ (f m) (g k)
-      after (Ok a) h = h
-      after (Err e) h = record { began = h.1; goes_on = λ on. absurd cc }
 
 -- calls of a work, one after the other
 pub holds_then : (a b c : State) (failed : Bool) → (Serves c → Serves b) → Holds a false b false → Holds b false c failed → Holds a false c failed
@@ -223,11 +188,8 @@ move_by old new sql params tree (Ok done) m₀ m after k₀ k kept served works 
       began = same_tables m₀ k₀ (shown.committed_is ∙ ap (λ b. if b then old.committed else new.now) inside.inside) was.began;
       goes_on = λ _. record { inside = shown.mode ∙ inside.inside; means = did.0 };
     }
-move_by old new sql params tree (Err e) m₀ m after k₀ k kept served works s ran left does = committed left
-  where
-    committed : LeavesCommit old new → TablesMean new.committed m₀ k₀
-    committed (inl same) = same_tables m₀ k₀ same.0.committed_is (works (served s)).began
-    committed (inr undone) = same_tables m₀ k₀ (undone.undone s.is_open).1 (works (served s)).began
+move_by old new sql params tree (Err e) m₀ m after k₀ k kept served works s ran left does =
+    same_tables m₀ k₀ (committed_is old new left s.is_open) (works (served s)).began
 
 -- a step is a move whose refusal is known
 pub step_of : {A : Type 0} (new : State) (result : Result A StoreFault) (m₀ m : Queue) (k₀ k : Ledger) → IfErr result (λ fault. fault ≡ Unavailable) → Moves new result m₀ k₀ m k → Steps new result m₀ k₀ m k
@@ -272,73 +234,23 @@ pub steps_fault : {A : Type 0} (new : State) (result : Result A StoreFault) (m�
 steps_fault new (Ok a) m₀ m k₀ k h = tt
 steps_fault new (Err e) m₀ m k₀ k h = h.0
 
+-- a move leaves the work under way, unless it is refused
+under_way : {A : Type 0} (new : State) (result : Result A StoreFault) (m₀ m : Queue) (k₀ k : Ledger) → Moves new result m₀ k₀ m k → IsUnderWay new (is_err result) m₀ k₀ m k
+under_way new (Ok a) m₀ m k₀ k h = h
+under_way new (Err e) m₀ m k₀ k h = record { began = h; goes_on = λ on. absurd cc }
+
 -- a call that moves each work on by these changes changes it so
 pub moved_by : (old new : State) {A : Type 0} (result : Result A StoreFault) (f : Queue → Queue) (g : Ledger → Ledger) → ((m₀ m : Queue) (k₀ k : Ledger) → Works old false m₀ k₀ m k → Serves new → Moves new result m₀ k₀ (f m) (g k))
     → Changes old false new (is_err result) f g
-moved_by old new {A} result f g moves m₀ m k₀ k works s = after result (moves m₀ m k₀ k works s)
-  where
-    after : (r : Result A StoreFault) → Moves new r m₀ k₀ (f m) (g k) → IsUnderWay new (is_err r) m₀ k₀ (f m) (g k)
-    after (Ok a) h = h
-    after (Err e) h = record { began = h; goes_on = λ on. absurd cc }
+moved_by old new result f g moves m₀ m k₀ k works s = under_way new result m₀ (f m) k₀ (g k) (moves m₀ m k₀ k works s)
 
--- a step of a work that is made where P holds of its queue
+-- and so does one that steps on
+pub changes_by : (old new : State) {A : Type 0} (result : Result A StoreFault) (f : Queue → Queue) (g : Ledger → Ledger) → ((m₀ m : Queue) (k₀ k : Ledger) → Works old false m₀ k₀ m k → Serves new → Steps new result m₀ k₀ (f m) (g k))
+    → Changes old false new (is_err result) f g
+changes_by old new result f g steps m₀ m k₀ k works s = under_way new result m₀ (f m) k₀ (g k)
+    (moves_of new result m₀ (f m) k₀ (g k) (steps m₀ m k₀ k works s))
+
+-- a call that moves on each work of a queue of which P holds
 pub steps_where : (old new : State) {A : Type 0} (P : Queue → Type 0) (result : Result A StoreFault) (f : Queue → Queue) (g : Ledger → Ledger)
     → ((m₀ m : Queue) (k₀ k : Ledger) → P m → Works old false m₀ k₀ m k → Serves new → Moves new result m₀ k₀ (f m) (g k)) → ChangesWhere P old false new (is_err result) f g
-steps_where old new {A} P result f g moves m₀ m k₀ k holds works s = after result (moves m₀ m k₀ k holds works s)
-  where
-    after : (r : Result A StoreFault) → Moves new r m₀ k₀ (f m) (g k) → IsUnderWay new (is_err r) m₀ k₀ (f m) (g k)
-    after (Ok a) h = h
-    after (Err e) h = record { began = h; goes_on = λ on. absurd cc }
-
--- a step that was refused leaves the last commit
-pub refused_step : (old new : State) {A : Type 0} (result : Result A StoreFault) (fault : StoreFault) (m₀ m after : Queue) (k₀ k kept : Ledger) → (Serves new → Serves old) → Works old false m₀ k₀ m k → Serves new → LeavesCommit old new
-    → IsErrAnd result (λ e. e ≡ fault) → fault ≡ Unavailable → Steps new result m₀ k₀ after kept
-refused_step old new (Ok a) fault m₀ m after k₀ k kept served works s left is why = absurd is
-refused_step old new (Err e) fault m₀ m after k₀ k kept served works s left is why = (is ∙ why, committed left)
-  where
-    committed : LeavesCommit old new → TablesMean new.committed m₀ k₀
-    committed (inl same) = same_tables m₀ k₀ same.0.committed_is (works (served s)).began
-    committed (inr undone) = same_tables m₀ k₀ (undone.undone s.is_open).1 (works (served s)).began
-
--- the same, whatever the fault was
-pub refused_move : (old new : State) {A : Type 0} (result : Result A StoreFault) (fault : StoreFault) (m₀ m after : Queue) (k₀ k kept : Ledger) → (Serves new → Serves old) → Works old false m₀ k₀ m k → Serves new → LeavesCommit old new
-    → IsErrAnd result (λ e. e ≡ fault) → Moves new result m₀ k₀ after kept
-refused_move old new (Ok a) fault m₀ m after k₀ k kept served works s left is = absurd is
-refused_move old new (Err e) fault m₀ m after k₀ k kept served works s left is = committed left
-  where
-    committed : LeavesCommit old new → TablesMean new.committed m₀ k₀
-    committed (inl same) = same_tables m₀ k₀ same.0.committed_is (works (served s)).began
-    committed (inr undone) = same_tables m₀ k₀ (undone.undone s.is_open).1 (works (served s)).began
-
--- Two statements that write rows of one table each move a work on.
-pub two_moves : (old mid new : State) (first second : List ℕ) (params others : Row) (tree other : ℕ) (result : Result (Unit {0}) StoreFault) (m₀ m after : Queue) (k₀ k kept : Ledger) → (Serves mid → Serves old) → (Serves new → Serves mid)
-    → Works old false m₀ k₀ m k → Serves new → HasRun first params old mid → OnOk result (HasRun second others mid new) → OnErr result (LeavesCommit mid new)
-    → (TablesMean old.now m k → KeepsOthers our_tables tree old mid) → (TablesMean old.now m k → HasRun second others mid new → TablesMean new.now after kept × KeepsOthers our_tables other mid new) → Moves new result m₀ k₀ after kept
-two_moves old mid new first second params others tree other (Ok done) m₀ m after k₀ k kept was_mid was_new works s has ran left keeps does =
-    let was = works (was_mid (was_new s)) in
-    let inside = was.goes_on refl in
-    let before = (keeps inside.means).shown in
-    let did = does inside.means ran in
-    let shown = did.1.shown in
-    let still = before.mode ∙ inside.inside in record {
-      began = same_tables m₀ k₀ (shown.committed_is ∙ ap (λ b. if b then mid.committed else new.now) still ∙ before.committed_is ∙ ap (λ b. if b then old.committed else mid.now) inside.inside) was.began;
-      goes_on = λ _. record { inside = shown.mode ∙ still; means = did.0 };
-    }
-two_moves old mid new first second params others tree other (Err e) m₀ m after k₀ k kept was_mid was_new works s has ran left keeps does = committed left
-  where
-    was : IsUnderWay old false m₀ k₀ m k
-    was = works (was_mid (was_new s))
-
-    between : mid.committed ≡ old.committed
-    between = let inside = was.goes_on refl in (keeps inside.means).shown.committed_is ∙ ap (λ b. if b then old.committed else mid.now) inside.inside
-
-    committed : LeavesCommit mid new → TablesMean new.committed m₀ k₀
-    committed (inl same) = same_tables m₀ k₀ (same.0.committed_is ∙ between) was.began
-    committed (inr undone) = same_tables m₀ k₀ ((undone.undone s.is_open).1 ∙ between) was.began
-
--- Two statements that write rows of one table each are a step of a work.
-pub two_steps : (old mid new : State) (first second : List ℕ) (params others : Row) (tree other : ℕ) (result : Result (Unit {0}) StoreFault) (m₀ m after : Queue) (k₀ k kept : Ledger) → (Serves mid → Serves old) → (Serves new → Serves mid)
-    → Works old false m₀ k₀ m k → Serves new → HasRun first params old mid → OnOk result (HasRun second others mid new) → OnErr result (LeavesCommit mid new) → IfErr result (λ fault. fault ≡ Unavailable)
-    → (TablesMean old.now m k → KeepsOthers our_tables tree old mid) → (TablesMean old.now m k → HasRun second others mid new → TablesMean new.now after kept × KeepsOthers our_tables other mid new) → Steps new result m₀ k₀ after kept
-two_steps old mid new first second params others tree other result m₀ m after k₀ k kept was_mid was_new works s has ran left cause keeps does =
-    step_of new result m₀ after k₀ kept cause (two_moves old mid new first second params others tree other result m₀ m after k₀ k kept was_mid was_new works s has ran left keeps does)
+steps_where old new P result f g moves m₀ m k₀ k holds works s = under_way new result m₀ (f m) k₀ (g k) (moves m₀ m k₀ k holds works s)

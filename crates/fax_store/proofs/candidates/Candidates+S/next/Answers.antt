@@ -1,11 +1,9 @@
-use Rattle.std.proofs.Common.{ℕ, List, sym, subst, ap, ◌∙◌, rules}
+use Rattle.std.proofs.Common.{ℕ, List, sym, ap, ◌∙◌, rules}
 use Rattle.std.proofs.lemmas.Option.{none-some, same_Some}
 use Rattle.std.specs.Option.{option_map}
-use Rattle.std.specs.Vec.Iter.{into_iter_items}
 use Rattle.fax_core.specs.Job.{fields_of}
 use Rattle.fax_core.specs.Queue.{job_numbered}
 use Rattle.fax_core.specs.State.{calls_to}
-use Rattle.fax_store.specs.Candidates.{Gives, IsProspect}
 use Rattle.fax_tables.specs.declared.prospect.Prospect.{Prospect}
 use Rattle.fax_tables.proofs.ResultLemmas.{passes_on}
 use Rattle.fax_store.proofs.CandidateLemmas.{given_there}
@@ -29,8 +27,7 @@ returns-in_default g c = record {
   leaves = search rules;
   opens = search rules;
   asked = search rules;
-  found = λ m k given means serves stands. subst (λ o. Gives IsProspect c.args.self.now.asked m given (into_iter_items c.prospect.new.self.page) c.prospect.new.self.front c.prospect.new.self.most o) c.in_default.is
-      (c.in_ok-prospect.ensures.found m k given means serves stands);
+  found = λ m k given means serves stands. rw c.in_default.is at (c.in_ok-prospect.ensures.found m k given means serves stands);
 }
 
 pub returns-in_err-job : goal.returns-in_err-job
@@ -49,13 +46,9 @@ returns-in_default-2 g c = record {
   leaves = looks_then g.S.Store _ _ _ c.prospect.ensures.leaves (looks_of g.S.Store _ _ _ c.job.ensures.leaves);
   opens = search rules;
   asked = search rules;
-  found = λ m k given means serves stands. let asked = c.args.self.now.asked in
-      let page = into_iter_items c.prospect.new.self.page in
-      let front = c.prospect.new.self.front in
-      let most = c.prospect.new.self.most in
-      let between = c.job.ensures.leaves.served serves in
-      let it = subst (λ o. Gives IsProspect asked m given page front most o) c.in-Some.is (c.in_ok-prospect.ensures.found m k given means between stands) in
-      let there = given_there _ m k (means (c.prospect.ensures.leaves.served between)).means asked given it.0 page front most it.2 in
+  found = λ m k given means serves stands. let between = c.job.ensures.leaves.served serves in
+      let it = rw c.in-Some.is at (c.in_ok-prospect.ensures.found m k given means between stands) in
+      let there = given_there _ m k (means (c.prospect.ensures.leaves.served between)).means c.args.self.now.asked given it.0 _ _ _ it.2 in
       let job = c.in_ok-job.ensures.answers m k (means_now (means_stay c.prospect.ensures.leaves.served c.prospect.ensures.leaves.stays m k means)) serves in
       absurd (none-some (fields_of it.0) (sym c.in_default-2.is ∙ job ∙ ap (λ (n : ℕ). option_map fields_of (job_numbered n m)) (ap (λ (p : Prospect). p.job) it.1) ∙ ap (option_map fields_of) there));
 }
@@ -77,15 +70,11 @@ returns g c = record {
   leaves = looks_then g.S.Store _ _ _ (looks_then g.S.Store _ _ _ c.prospect.ensures.leaves (looks_of g.S.Store _ _ _ c.job.ensures.leaves)) (looks_of g.S.Store _ _ _ c.active_to.ensures.leaves);
   opens = search rules;
   asked = search rules;
-  found = λ m k given means serves stands. let asked = c.args.self.now.asked in
-      let page = into_iter_items c.prospect.new.self.page in
-      let front = c.prospect.new.self.front in
-      let most = c.prospect.new.self.most in
-      let at_job = c.active_to.ensures.leaves.served serves in
+  found = λ m k given means serves stands. let at_job = c.active_to.ensures.leaves.served serves in
       let between = c.job.ensures.leaves.served at_job in
       let looked = means_stay c.prospect.ensures.leaves.served c.prospect.ensures.leaves.stays m k means in
-      let it = subst (λ o. Gives IsProspect asked m given page front most o) c.in-Some.is (c.in_ok-prospect.ensures.found m k given means between stands) in
-      let there = given_there _ m k (means (c.prospect.ensures.leaves.served between)).means asked given it.0 page front most it.2 in
+      let it = rw c.in-Some.is at (c.in_ok-prospect.ensures.found m k given means between stands) in
+      let there = given_there _ m k (means (c.prospect.ensures.leaves.served between)).means c.args.self.now.asked given it.0 _ _ _ it.2 in
       let job = c.in_ok-job.ensures.answers m k (means_now looked) at_job in
       let whole = same_Some c.in-Some-2.job (fields_of it.0) (sym c.in-Some-2.is ∙ job ∙ ap (λ (n : ℕ). option_map fields_of (job_numbered n m)) (ap (λ (p : Prospect). p.job) it.1) ∙ ap (option_map fields_of) there) in
       let calls = c.in_ok-calls.ensures.answers m k (means_now (means_stay c.job.ensures.leaves.served c.job.ensures.leaves.stays m k looked)) serves in

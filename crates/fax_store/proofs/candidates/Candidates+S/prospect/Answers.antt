@@ -1,8 +1,7 @@
-use Rattle.std.proofs.Common.{◌≡◌, [], sym, subst, ◌∙◌, rules}
+use Rattle.std.proofs.Common.{◌≡◌, [], sym, ◌∙◌, rules}
 use Rattle.std.specs.Vec.Iter.{into_iter_items}
 use Rattle.std.proofs.lemmas.List.{nil_from_length}
 use Rattle.fax_core.specs.Job.{fields_of}
-use Rattle.fax_store.specs.Candidates.{StandsAt}
 use Rattle.fax_tables.proofs.ResultLemmas.{passes_on}
 use Rattle.fax_store.proofs.CandidateLemmas.{given_lawful, one_given}
 use Rattle.fax_store.proofs.candidates.Candidates+S.prospect.Goals as goal
@@ -24,13 +23,9 @@ returns-in_err-prospect_in-in-Some g c = record {
   opens = search rules;
   none = search rules;
   asked = search rules;
-  found = λ m k given means serves stands. let asked = c.args.self.now.asked in
-      let front = c.refill.new.self.front in
-      let most = c.refill.new.self.most in
-      let page = into_iter_items c.next.new.self in
-      let found = c.in_ok-refill.ensures.found m k given means serves stands in
-      let it = one_given asked m given c.in-Some.row page front most (subst (λ rows. StandsAt asked m given rows front most) c.in-Some.ensures.items found.0) in
-      let lawful = given_lawful _ m k (means (c.refill.ensures.leaves.served serves)).means asked given it.0 page front most it.2 in
+  found = λ m k given means serves stands. let it = one_given _ m given c.in-Some.row _ _ _
+      (rw c.in-Some.ensures.items at (c.in_ok-refill.ensures.found m k given means serves stands).0) in
+      let lawful = given_lawful _ m k (means (c.refill.ensures.leaves.served serves)).means c.args.self.now.asked given it.0 _ _ _ it.2 in
       passes_on c.from_residual-in_err-prospect_in-in-Some.result c.in_err-prospect_in-in-Some.field-0.0 _ c.from_residual-in_err-prospect_in-in-Some.ensures.1
       (c.in_err-prospect_in-in-Some.ensures.found (fields_of it.0) it.1 lawful.limits lawful.formed);
 }
@@ -42,25 +37,21 @@ returns-in_ok-prospect_in-in-Some g c = record {
   opens = search rules;
   none = search rules;
   asked = search rules;
-  found = λ m k given means serves stands. let asked = c.args.self.now.asked in
-      let front = c.refill.new.self.front in
-      let most = c.refill.new.self.most in
-      let page = into_iter_items c.next.new.self in
-      let found = c.in_ok-refill.ensures.found m k given means serves stands in
-      let it = one_given asked m given c.in-Some.row page front most (subst (λ rows. StandsAt asked m given rows front most) c.in-Some.ensures.items found.0) in
-      let lawful = given_lawful _ m k (means (c.refill.ensures.leaves.served serves)).means asked given it.0 page front most it.2 in
+  found = λ m k given means serves stands. let it = one_given _ m given c.in-Some.row _ _ _
+      (rw c.in-Some.ensures.items at (c.in_ok-refill.ensures.found m k given means serves stands).0) in
+      let lawful = given_lawful _ m k (means (c.refill.ensures.leaves.served serves)).means c.args.self.now.asked given it.0 _ _ _ it.2 in
       (it.0, c.in_ok-prospect_in-in-Some.ensures.found (fields_of it.0) it.1 lawful.limits lawful.formed, it.2);
 }
 
 pub returns-in-None : goal.returns-in-None
-returns-in-None g c = record {
-  same_reference = search rules;
-  leaves = search rules;
-  opens = search rules;
-  none = λ is. c.in_ok-refill.ensures.none (nil_from_length (into_iter_items c.refill.new.self.page) (sym c.refill.new.self.page.rest.ok.0 ∙ c.in-None.ensures.cases.0));
-  asked = search rules;
-  found = λ m k given means serves stands. let page = into_iter_items c.refill.new.self.page in
-      let empty : page ≡ [] = nil_from_length page (sym c.refill.new.self.page.rest.ok.0 ∙ c.in-None.ensures.cases.0) in
-      let found = c.in_ok-refill.ensures.found m k given means serves stands in
-      (found.1 empty, subst (λ rows. StandsAt c.args.self.now.asked m given rows c.refill.new.self.front c.refill.new.self.most) c.in-None.ensures.items found.0);
-}
+returns-in-None g c =
+    let empty : into_iter_items c.refill.new.self.page ≡ [] = nil_from_length _ (sym c.refill.new.self.page.rest.ok.0 ∙ c.in-None.ensures.cases.0) in
+    record {
+      same_reference = search rules;
+      leaves = search rules;
+      opens = search rules;
+      none = λ is. c.in_ok-refill.ensures.none empty;
+      asked = search rules;
+      found = λ m k given means serves stands. let found = c.in_ok-refill.ensures.found m k given means serves stands in
+          (found.1 empty, rw c.in-None.ensures.items at found.0);
+    }

@@ -1,9 +1,7 @@
-use Rattle.std.proofs.Common.{◌≡◌, ◌∙◌, ◌<◌, ◌-◌, List, length, ap, sym, subst, arith, rules}
-use Rattle.std.specs.Prelude.{Some, None, slice_get}
+use Rattle.std.proofs.Common.{◌≡◌, ◌∙◌, ◌<◌, ap, sym, arith, rules}
 use Rattle.std.specs.Vec.Iter.{into_iter_items}
-use Rattle.sqlite.specs.Order.{Row}
 use Rattle.fax_core.specs.Job.{fields_of}
-use Rattle.fax_store.specs.Candidates.{StandsAt, front_of}
+use Rattle.fax_store.specs.Candidates.{front_of}
 use Rattle.fax_tables.proofs.ResultLemmas.{passes_on}
 use Rattle.fax_store.proofs.CandidateLemmas.{all_given, page_empty, page_ends, page_lawful, stands_on, stands_page}
 use Rattle.fax_store.proofs.FrameLemmas.{means_now}
@@ -19,10 +17,8 @@ returns-in_err-prospect_in-in-Some g c = record {
   told = search rules;
   next = search rules;
   found = λ m k given means serves stands. let next = c.in_ok-page.ensures.answers m k (means_now means) serves in
-      let rows = c.in_ok-page.page.items in
-      let last : Some c.in-Some.row.now ≡ slice_get rows (length rows - 1) = subst (λ (xs : List Row). Some c.in-Some.row.now ≡ slice_get xs (length xs - 1)) c.deref.ensures.value c.in-Some.ensures.value in
-      let it = page_ends rows _ c.in-Some.row.now next.is last in
-      let lawful = page_lawful c.args.self.now.asked m c.args.self.now.front c.args.self.now.most next.all it.0 it.1 (means (c.page.ensures.leaves.served serves)).means.lawful.jobs next.waiting it.2 in
+      let it = page_ends _ _ _ next.is (rw c.deref.ensures.value at c.in-Some.ensures.value) in
+      let lawful = page_lawful _ m _ _ next.all it.0 it.1 (means (c.page.ensures.leaves.served serves)).means.lawful.jobs next.waiting it.2 in
       passes_on c.from_residual-in_err-prospect_in-in-Some.result c.in_err-prospect_in-in-Some.field-0.0 _ c.from_residual-in_err-prospect_in-in-Some.ensures.1
       (c.in_err-prospect_in-in-Some.ensures.found (fields_of it.1) it.3 lawful.limits lawful.formed);
 }
@@ -35,27 +31,21 @@ returns g c = record {
   asked = search rules;
   told = search rules;
   next = search rules;
-  found = λ m k given means serves stands. let asked = c.args.self.now.asked in
-      let front = c.args.self.now.front in
-      let most = c.args.self.now.most in
-      let next = c.in_ok-page.ensures.answers m k (means_now means) serves in
-      let rows = c.in_ok-page.page.items in
+  found = λ m k given means serves stands. let next = c.in_ok-page.ensures.answers m k (means_now means) serves in
       let means_now = (means (c.page.ensures.leaves.served serves)).means in
-      let some = stands.some in
-      let more : 0 < c.min-self.result = omega (arith, some, c.saturating_add.ensures, c.min-self.ensures) in
-      let page : into_iter_items c.into_iter.result ≡ rows = c.into_iter.ensures.rest in (
-        subst (λ xs. StandsAt asked m given xs c.match-last.self c.min-self.result) (sym page)
-            (elim c.match-last.branch [
-              | in-Some+in_ok-prospect_in-in-Some w ↦
-                  let last : Some w.in-Some.row.now ≡ slice_get rows (length rows - 1) = subst (λ (xs : List Row). Some w.in-Some.row.now ≡ slice_get xs (length xs - 1)) c.deref.ensures.value w.in-Some.ensures.value in
-                  let it = page_ends rows _ w.in-Some.row.now next.is last in
-                  let lawful = page_lawful asked m front most next.all it.0 it.1 means_now.lawful.jobs next.waiting it.2 in
-                  let prospect = w.in_ok-prospect_in-in-Some.ensures.found (fields_of it.1) it.3 lawful.limits lawful.formed in
-                  subst (λ f. StandsAt asked m given rows f c.min-self.result) (sym (w.self-is ∙ w.of-self.ensures ∙ ap front_of prospect)) (stands_page _ m k means_now asked given front most stands rows next it.0 it.1 it.2 c.min-self.result more)
-              | in-None w ↦
-                  let empty = page_empty rows (subst (λ (xs : List Row). None ≡ slice_get xs (length xs - 1)) c.deref.ensures.value w.in-None.ensures.value) in
-                  subst (λ f. StandsAt asked m given rows f c.min-self.result) (sym (w.self-is ∙ w.next-self.ensures)) (stands_on _ m k means_now asked given front most stands rows next empty c.min-self.result more)
-            ]),
-        λ none last. all_given _ m k means_now asked given front most stands rows next (sym page ∙ none) (sym c.is_last-is_last.ensures ∙ last),
+      let more : 0 < c.min-self.result = omega (arith, stands.some, c.saturating_add.ensures, c.min-self.ensures) in
+      let page : into_iter_items c.into_iter.result ≡ c.in_ok-page.page.items = c.into_iter.ensures.rest in (
+        rw page (elim c.match-last.branch [
+          | in-Some+in_ok-prospect_in-in-Some w ↦
+              let it = page_ends _ _ _ next.is (rw c.deref.ensures.value at w.in-Some.ensures.value) in
+              let lawful = page_lawful _ m _ _ next.all it.0 it.1 means_now.lawful.jobs next.waiting it.2 in
+              let prospect = w.in_ok-prospect_in-in-Some.ensures.found (fields_of it.1) it.3 lawful.limits lawful.formed in
+              rw (w.self-is ∙ w.of-self.ensures ∙ ap front_of prospect) (stands_page _ m k means_now _ given _ _ stands _ next it.0 it.1 it.2
+              c.min-self.result more)
+          | in-None w ↦
+              let empty = page_empty _ (rw c.deref.ensures.value at w.in-None.ensures.value) in
+              rw (w.self-is ∙ w.next-self.ensures) (stands_on _ m k means_now _ given _ _ stands _ next empty c.min-self.result more)
+        ]),
+        λ none last. all_given _ m k means_now _ given _ _ stands _ next (sym page ∙ none) (sym c.is_last-is_last.ensures ∙ last),
       );
 }

@@ -1,4 +1,4 @@
-use Rattle.std.proofs.Common.{◌≡◌, ◌∙◌, [], sym, subst, arith, rules}
+use Rattle.std.proofs.Common.{◌≡◌, ◌∙◌, [], subst, arith, rules}
 use Rattle.std.specs.Vec.Iter.{into_iter_items}
 use Rattle.std.proofs.lemmas.List.{nil_from_length}
 use Rattle.fax_store.specs.Candidates.{AreAsked, StandsAt}
@@ -16,13 +16,8 @@ returns-in_err-read_on g c = record {
   none = search rules;
   asked = search rules;
   found = λ m k given means serves stands. let before = into_iter_items c.loop-self.self.page in
-      let front = c.loop-self.self.front in
-      let most = c.loop-self.self.most in
-      let none = c.loop-self-test.true in
-      let long = c.loop-self.self.page.rest.ok.0 in
-      let empty : before ≡ [] = nil_from_length before (omega (arith, none, long, c.len.ensures)) in
-      let at = c.loop-self.invariant.found m k given means (c.read_on.ensures.leaves.served serves) stands in
-      let stood = subst (λ (asked : Asked). StandsAt asked m given [] front most) (sym c.loop-self.invariant.asked) (subst (λ rows. StandsAt c.args.self.now.asked m given rows front most) empty at) in
+      let empty : before ≡ [] = nil_from_length before (omega (arith, c.loop-self-test.true, c.loop-self.self.page.rest.ok.0, c.len.ensures)) in
+      let stood = rw (← c.loop-self.invariant.asked, empty) at (c.loop-self.invariant.found m k given means (c.read_on.ensures.leaves.served serves) stands) in
       passes_on c.from_residual.result c.in_err-read_on.field-0.0 _ c.from_residual.ensures.1
       (c.in_err-read_on.ensures.found m k given (means_stay c.loop-self.invariant.leaves.served c.loop-self.invariant.leaves.stays m k means) serves stood);
 }
@@ -35,13 +30,8 @@ returns-then-branch g c = record {
   none = search rules;
   asked = search rules;
   found = λ m k given means serves stands. let before = into_iter_items c.loop-self.self.page in
-      let front = c.loop-self.self.front in
-      let most = c.loop-self.self.most in
-      let none = c.loop-self-test.true in
-      let long = c.loop-self.self.page.rest.ok.0 in
-      let empty : before ≡ [] = nil_from_length before (omega (arith, none, long, c.len.ensures)) in
-      let at = c.loop-self.invariant.found m k given means (c.read_on.ensures.leaves.served serves) stands in
-      let stood = subst (λ (asked : Asked). StandsAt asked m given [] front most) (sym c.loop-self.invariant.asked) (subst (λ rows. StandsAt c.args.self.now.asked m given rows front most) empty at) in
+      let empty : before ≡ [] = nil_from_length before (omega (arith, c.loop-self-test.true, c.loop-self.self.page.rest.ok.0, c.len.ensures)) in
+      let stood = rw (← c.loop-self.invariant.asked, empty) at (c.loop-self.invariant.found m k given means (c.read_on.ensures.leaves.served serves) stands) in
       let found = c.in_ok-read_on.ensures.found m k given (means_stay c.loop-self.invariant.leaves.served c.loop-self.invariant.leaves.stays m k means) serves stood in (
         subst (λ (asked : Asked). StandsAt asked m given (into_iter_items c.read_on.new.self.page) c.read_on.new.self.front c.read_on.new.self.most) c.loop-self.invariant.asked found.0,
         λ empty. subst (λ (asked : Asked). AreAsked asked m given) c.loop-self.invariant.asked (found.1 empty c.if-branch.true),
@@ -56,13 +46,8 @@ loop-self-preserved g c = record {
   opens = λ clean serves. c.in_ok-read_on.ensures.opens clean;
   found = λ m k given means serves stands.
       let before = into_iter_items c.loop-self.self.page in
-      let front = c.loop-self.self.front in
-      let most = c.loop-self.self.most in
-      let none = c.loop-self-test.true in
-      let long = c.loop-self.self.page.rest.ok.0 in
-      let empty : before ≡ [] = nil_from_length before (omega (arith, none, long, c.len.ensures)) in
-      let at = c.loop-self.invariant.found m k given means (c.read_on.ensures.leaves.served serves) stands in
-      let stood = subst (λ (asked : Asked). StandsAt asked m given [] front most) (sym c.loop-self.invariant.asked) (subst (λ rows. StandsAt c.args.self.now.asked m given rows front most) empty at) in
+      let empty : before ≡ [] = nil_from_length before (omega (arith, c.loop-self-test.true, c.loop-self.self.page.rest.ok.0, c.len.ensures)) in
+      let stood = rw (← c.loop-self.invariant.asked, empty) at (c.loop-self.invariant.found m k given means (c.read_on.ensures.leaves.served serves) stands) in
       subst (λ (asked : Asked). StandsAt asked m given (into_iter_items c.read_on.new.self.page) c.read_on.new.self.front c.read_on.new.self.most) c.loop-self.invariant.asked
       (c.in_ok-read_on.ensures.found m k given (means_stay c.loop-self.invariant.leaves.served c.loop-self.invariant.leaves.stays m k means) serves stood).0;
 }

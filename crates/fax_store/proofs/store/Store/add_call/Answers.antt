@@ -19,8 +19,7 @@ returns-clause-counted g c count has few clean =
     let first = set_still old mid count has (c.in_ok-calls.ensures.leaves.reads has.tables at_mid) in
     let low : count dial + 1 < 4294967296 = few in
     let fits : count dial < 4294967296 = omega (arith, low) in
-    let calls = c.in_ok-calls.ensures.counted count has.tables has.calls fits at_mid in
     let is : c.saturating_add.result ≡ min (c.in_ok-calls.calls + 1) 4294967295 = c.saturating_add.ensures in
-    let sum : c.saturating_add.result ≡ count dial + 1 = omega (arith, is, low, calls) in
+    let sum : c.saturating_add.result ≡ count dial + 1 = omega (arith, is, low, (c.in_ok-calls.ensures.counted count has.tables has.calls fits at_mid)) in
     ok_as c.set_calls.result (λ set. set_then old mid new count (with_count dial (count dial + 1) count) first (subst (λ n. SetsCalls mid new (with_count dial n count)) sum set))
     (c.set_calls.ensures.set count (has_calls old mid count first) clean)

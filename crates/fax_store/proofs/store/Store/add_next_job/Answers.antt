@@ -1,57 +1,37 @@
-use Rattle.std.proofs.Common.{◌≡◌, ◌+◌, ◌<◌, ◌≤◌, false, subst, ap, arith, rules}
-use Rattle.sqlite.specs.Held.{state}
+use Rattle.std.proofs.Common.{◌≡◌, ◌+◌, ◌<◌, ◌≤◌, refl, subst, ap, arith, rules}
 use Rattle.fax_core.specs.Job.{job_of}
+use Rattle.fax_store.specs.Calls.{shown}
 use Rattle.fax_store.specs.Job.{with_placed, with_one_more_job}
 use Rattle.fax_store.specs.Meta.{with_clock}
 use Rattle.fax_tables.specs.Meta.{with_meta}
 use Rattle.fax_tables.specs.declared.meta.Meta.{Meta}
 use Rattle.fax_tables.specs.Tables.{IsLawfulMeta}
 use Rattle.fax_store.specs.Work.{Steps}
-use Rattle.fax_store.proofs.WorkLemmas.{moves_of, refused_as, steps_fault}
-use Rattle.fax_store.proofs.FrameLemmas.{runs_err, runs_then, writes_if_where_refused}
+use Rattle.fax_store.proofs.WorkLemmas.{refused_as}
+use Rattle.fax_store.proofs.FrameLemmas.{runs_then, writes_if_steps, writes_if_where_refused}
 use Rattle.fax_store.proofs.store.Store.add_next_job.Goals as goal
 
 pub returns : goal.returns
-returns g c = record {
-  leaves = runs_then g.S.Store c.args.self.now c.insert_job.new.self c.write_meta.new.self _ _ c.in_ok-insert_job.ensures.leaves c.write_meta.ensures.leaves;
-  written = λ m₀ m k₀ k same works s. let old = state g.S.Store c.args.self.now.conn in
-      let put = state g.S.Store c.insert_job.new.self.conn in
-      let new = state g.S.Store c.write_meta.new.self.conn in
-      let j = job_of c.args.job.now in
-      let clock = c.args.clock in
-      let at_put = c.write_meta.ensures.leaves.served s in
-      let second = c.in_ok-insert_job.ensures.written m₀ m k₀ k works at_put in
-      let went : false ≡ false = λ i. false in
-      let was = (((works (c.insert_job.ensures.leaves.served at_put)).goes_on went).means).lawful.meta in
-      let low : c.args.meta.next_job < 1000000 = search rules in
-      let next : c.args.meta.next_job ≡ m.next_job = ap (λ (it : Meta). it.next_job) same in
-      let within : clock ≤ 4102444800 = search rules in
-      let lawful : IsLawfulMeta (with_clock clock (with_one_more_job j m)) = record { clock = within; next_job = (omega arith, omega (arith, low, next)); next_grant = was.next_grant } in
-      let done : Steps new c.write_meta.result m₀ k₀ (with_clock clock (with_one_more_job j m)) k = subst (λ it. IsLawfulMeta (with_meta (record it { clock = clock; next_job = it.next_job + 1 }) (with_placed j m)) → Steps new c.write_meta.result m₀ k₀ (with_meta (record it { clock = clock; next_job = it.next_job + 1 }) (with_placed j m)) k) same
-      (c.write_meta.ensures.written m₀ (with_placed j m) k₀ k (λ _. second) s) lawful in
-      moves_of new c.write_meta.result m₀ (with_clock clock (with_one_more_job j m)) k₀ k done;
-  cause = λ m₀ m k₀ k works s fits. let same = fits.0 in
-      let old = state g.S.Store c.args.self.now.conn in
-      let put = state g.S.Store c.insert_job.new.self.conn in
-      let new = state g.S.Store c.write_meta.new.self.conn in
-      let j = job_of c.args.job.now in
-      let clock = c.args.clock in
-      let at_put = c.write_meta.ensures.leaves.served s in
-      let second = c.in_ok-insert_job.ensures.written m₀ m k₀ k works at_put in
-      let went : false ≡ false = λ i. false in
-      let was = (((works (c.insert_job.ensures.leaves.served at_put)).goes_on went).means).lawful.meta in
-      let low : c.args.meta.next_job < 1000000 = search rules in
-      let next : c.args.meta.next_job ≡ m.next_job = ap (λ (it : Meta). it.next_job) same in
-      let within : clock ≤ 4102444800 = search rules in
-      let lawful : IsLawfulMeta (with_clock clock (with_one_more_job j m)) = record { clock = within; next_job = (omega arith, omega (arith, low, next)); next_grant = was.next_grant } in
-      let done : Steps new c.write_meta.result m₀ k₀ (with_clock clock (with_one_more_job j m)) k = subst (λ it. IsLawfulMeta (with_meta (record it { clock = clock; next_job = it.next_job + 1 }) (with_placed j m)) → Steps new c.write_meta.result m₀ k₀ (with_meta (record it { clock = clock; next_job = it.next_job + 1 }) (with_placed j m)) k) same
-      (c.write_meta.ensures.written m₀ (with_placed j m) k₀ k (λ _. second) s) lawful in
-      steps_fault new c.write_meta.result m₀ (with_clock clock (with_one_more_job j m)) k₀ k done;
-}
+returns g c = writes_if_steps g.S.Store _ _ c.write_meta.result _ _ _ _
+    (runs_then g.S.Store _ _ _ _ _ c.in_ok-insert_job.ensures.leaves c.write_meta.ensures.leaves) (λ m k fits. fits.0)
+    (λ m₀ m k₀ k same works s.
+    let new = shown g.S.Store c.write_meta.new.self in
+    let j = job_of c.args.job.now in
+    let clock = c.args.clock in
+    let at_put = c.write_meta.ensures.leaves.served s in
+    let second = c.in_ok-insert_job.ensures.written m₀ m k₀ k works at_put in
+    let was = ((works (c.insert_job.ensures.leaves.served at_put)).goes_on refl).means.lawful.meta in
+    let low : c.args.meta.next_job < 1000000 = search rules in
+    let next : c.args.meta.next_job ≡ m.next_job = ap (λ (it : Meta). it.next_job) same in
+    let within : clock ≤ 4102444800 = search rules in
+    let lawful : IsLawfulMeta (with_clock clock (with_one_more_job j m)) = record { clock = within; next_job = (omega arith, omega (arith, low, next)); next_grant = was.next_grant } in
+    let with_one = λ (it : Meta). with_meta (record it { clock = clock; next_job = it.next_job + 1 }) (with_placed j m) in
+    subst (λ it. IsLawfulMeta (with_one it) → Steps new c.write_meta.result m₀ k₀ (with_one it) k) same
+    (c.write_meta.ensures.written m₀ (with_placed j m) k₀ k (λ _. second) s) lawful)
 
 pub returns-in_err-insert_job : goal.returns-in_err-insert_job
 returns-in_err-insert_job g c =
     let fault = c.in_err-insert_job.field-0.0 in
     let result = c.from_residual.result in
     let told = c.from_residual.ensures.1 in
-    writes_if_where_refused g.S.Store _ _ result fault told (runs_err g.S.Store _ _ fault result told c.in_err-insert_job.ensures.leaves) _ _ _ _ (λ m₀ m k₀ k works s fits. refused_as result fault told (c.in_err-insert_job.ensures.cause m₀ m k₀ k works s fits.1))
+    writes_if_where_refused g.S.Store _ _ result fault told c.in_err-insert_job.ensures.leaves _ _ _ _ (λ m₀ m k₀ k works s fits. refused_as result fault told (c.in_err-insert_job.ensures.cause m₀ m k₀ k works s fits.1))

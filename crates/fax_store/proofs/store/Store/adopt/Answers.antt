@@ -1,7 +1,7 @@
 use Rattle.std.proofs.Common.{subst, sym}
 use Rattle.sqlite.specs.Held.{state}
 use Rattle.fax_store.specs.Adopt.{IsGivenBack}
-use Rattle.fax_store.proofs.AdoptLemmas.{back_over, makes_then, means_rows, rows_reopened}
+use Rattle.fax_store.proofs.AdoptLemmas.{back_over, means_rows, rows_reopened}
 use Rattle.fax_tables.proofs.StopLemmas.{nothing_then}
 use Rattle.fax_store.proofs.store.Store.adopt.Goals as goal
 
@@ -28,7 +28,7 @@ returns-in-Err g c =
     let took = c.in-Err.ensures in
     let given : IsGivenBack old new c.in-Err.fault = record {
       back = back_over old mid new took.settles.served took.settles.kept c.roll_back.ensures.back;
-      crash_before = makes_then old mid new _ took.crash c.roll_back.ensures.crash;
+      crash_before = λ found may. took.crash found (c.roll_back.ensures.crash found may);
       nothing = λ is. nothing_then old mid new (took.nothing (let e = is in cc)) c.roll_back.ensures.crash;
       served_before = λ s. took.settles.served (c.roll_back.ensures.served s);
       clean_before = λ clean. took.settles.clean (c.roll_back.ensures.clean clean);

@@ -4,7 +4,7 @@ use Rattle.fax_schema.specs.declared.statements.TheConstants.{SELECT_BRIEF}
 use Rattle.fax_schema.proofs.StatementTexts.{select_brief}
 use Rattle.fax_tables.specs.Job.{brief}
 use Rattle.fax_store.proofs.JobLemmas.{brief_keys, brief_stands}
-use Rattle.fax_store.proofs.LookLemmas.{looks_err, looks_none, looks_up, queries_with}
+use Rattle.fax_store.proofs.FoundLemmas.{looks_err, looks_none, looks_up, queries_with}
 use Rattle.fax_store.proofs.store.Store.brief.Goals as goal
 
 pub returns-in-None : goal.returns-in-None

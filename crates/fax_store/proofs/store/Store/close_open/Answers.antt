@@ -1,11 +1,10 @@
-use Rattle.std.proofs.Common.{◌-◌, sym, subst, rules}
-use Rattle.sqlite.specs.Held.{state}
+use Rattle.std.proofs.Common.{rules}
+use Rattle.fax_store.specs.Calls.{shown}
 use Rattle.fax_schema.specs.declared.statements.TheConstants.{SHUT_GRANT, DELETE_HOLD}
-use Rattle.fax_store.specs.Grant.{SetsCalls, with_closed, with_count}
-use Rattle.fax_store.specs.Store.{HasRun}
+use Rattle.fax_store.specs.Grant.{with_closed}
 use Rattle.fax_tables.proofs.TablesLemmas.{calls, calls_of}
-use Rattle.fax_store.proofs.GrantWriteLemmas.{close_counted, close_params, grant_closed}
-use Rattle.fax_store.proofs.FrameLemmas.{runs_err, runs_then, writes_where_refused}
+use Rattle.fax_store.proofs.GrantLemmas.{close_counted, close_params, grant_closed}
+use Rattle.fax_store.proofs.FrameLemmas.{runs_then, writes_where_refused, edits_with}
 use Rattle.fax_store.proofs.WorkLemmas.{inside_by, moves_by, ok_as, step_of}
 use Rattle.fax_schema.proofs.GrantTexts as texts
 use Rattle.fax_store.proofs.StatementLemmas.{edit_text}
@@ -19,47 +18,38 @@ run-requires-2 g c = edit_text DELETE_HOLD.now _ tt texts.delete_hold
 
 pub returns-in_err-run : goal.returns-in_err-run
 returns-in_err-run g c =
-    let fault = c.in_err-run.field-0.0 in
-    let result = c.from_residual.result in
     let told = c.from_residual.ensures.1 in
-    writes_where_refused g.S.Store _ _ result fault told (runs_err g.S.Store _ _ fault result told c.in_err-run.ensures.leaves) _ _ _ c.in_err-run.ensures.cause
+    writes_where_refused g.S.Store _ _ c.from_residual.result c.in_err-run.field-0.0 told c.in_err-run.ensures.leaves _ _ _ c.in_err-run.ensures.cause
 
 pub returns-in_err-run-2 : goal.returns-in_err-run-2
 returns-in_err-run-2 g c =
     let fault = c.in_err-run-2.field-0.0 in
     let result = c.from_residual-in_err-run-2.result in
     let told = c.from_residual-in_err-run-2.ensures.1 in
-    writes_where_refused g.S.Store _ _ result fault told
-    (runs_err g.S.Store _ _ fault result told (runs_then g.S.Store c.args.self.now c.run.new.self c.run-2.new.self _ _ c.in_ok-run.ensures.leaves c.in_err-run-2.ensures.leaves)) _ _ _ c.in_err-run-2.ensures.cause
+    writes_where_refused g.S.Store _ _ result fault told (runs_then g.S.Store _ _ _ _ _ c.in_ok-run.ensures.leaves c.in_err-run-2.ensures.leaves) _ _ _ c.in_err-run-2.ensures.cause
 
 pub returns : goal.returns
 returns g c =
-    let old = state g.S.Store c.args.self.now.conn in
-    let mid = state g.S.Store c.run.new.self.conn in
-    let shut = state g.S.Store c.run-2.new.self.conn in
-    let new = state g.S.Store c.set_calls.new.self.conn in
     let n = c.args.number in
     let params = close_params n in
-    let before = runs_then g.S.Store c.args.self.now c.run.new.self c.run-2.new.self _ _ c.in_ok-run.ensures.leaves c.in_ok-run-2.ensures.leaves in
-    let runs = runs_then g.S.Store c.args.self.now c.run-2.new.self c.set_calls.new.self _ _ before c.set_calls.ensures.leaves in
+    let shut_one = edits_with g.S.Store _ _ _ SHUT_GRANT.now _ params (search rules) c.in_ok-run.ensures in
+    let freed = edits_with g.S.Store _ _ _ DELETE_HOLD.now _ params (search rules) c.in_ok-run-2.ensures in
+    let before = runs_then g.S.Store _ _ _ _ _ shut_one.leaves freed.leaves in
+    let runs = runs_then g.S.Store _ _ _ _ _ before c.set_calls.ensures.leaves in
     record {
       leaves = runs;
       written = λ m₀ m k₀ k it works s.
           let at_shut = c.set_calls.ensures.leaves.served s in
-          let at_mid = c.run-2.ensures.leaves.served at_shut in
-          let first : HasRun SHUT_GRANT.now params old mid = subst (λ p. HasRun SHUT_GRANT.now p old mid) (search rules) (c.in_ok-run.ensures.ran at_mid.clean) in
-          let second : HasRun DELETE_HOLD.now params mid shut = subst (λ p. HasRun DELETE_HOLD.now p mid shut) (search rules) (c.in_ok-run-2.ensures.ran at_shut.clean) in
           let held = it.0 in
           let called = held.3 in
-          step_of new c.set_calls.result m₀ (with_closed n m) k₀ k c.set_calls.ensures.cause
-          (moves_by old new c.set_calls.result m₀ m (with_closed n m) k₀ k k runs.served runs.holds works s
+          step_of _ c.set_calls.result m₀ (with_closed n m) k₀ k c.set_calls.ensures.cause
+          (moves_by _ _ c.set_calls.result m₀ m (with_closed n m) k₀ k k runs.served runs.holds works s
           (λ means inside.
-          let parts = grant_closed n old mid shut m k means first second in
-          let on = inside_by old shut before.holds at_shut inside means.schema in
+          let parts = grant_closed n _ _ _ m k means (shut_one.ran (freed.leaves.clean at_shut.clean)) (freed.ran at_shut.clean) in
+          let on = inside_by _ _ before.holds at_shut inside means.schema in
           ok_as c.set_calls.result
-          (λ set.
-          let by_count = subst (λ x. SetsCalls shut new (with_count c.args.dial.now x (calls_of m))) it.1 set in
-          close_counted n old mid shut m k means held.0 called.0 held.1 held.2 called.1 parts new (subst (λ d. SetsCalls shut new (with_count d (calls_of m d - 1) (calls_of m))) (sym called.2) by_count))
+          (λ set. close_counted n _ m k means (shown g.S.Store c.run-2.new.self) (shown g.S.Store c.set_calls.new.self) held.0 called.0 held.1 held.2 called.1
+          parts (rw (called.2, ← it.1) set))
           (c.set_calls.ensures.set (calls_of m) (record { is_open = at_shut.is_open; inside = on.0; tables = on.1; sound = parts.sound; calls = parts.says calls }) s.clean)));
       cause = c.set_calls.ensures.cause;
     }

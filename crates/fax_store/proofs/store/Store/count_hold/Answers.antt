@@ -19,10 +19,8 @@ returns-in_err-dial-clause-cause g c n count is can has small clean =
 
 pub returns-clause-cause : goal.returns-clause-cause
 returns-clause-cause g c n count is can has small clean =
-    let old = state g.S.Store c.args.self.now.conn in
-    let mid = state g.S.Store c.dial_of.new.self.conn in
-    let first = set_still old mid count has (c.in_ok-dial.ensures.leaves.reads has.tables (c.add_call.ensures.counts.clean clean)) in
-    c.add_call.ensures.cause count (has_calls old mid count first) small clean
+    let first = set_still _ _ count has (c.in_ok-dial.ensures.leaves.reads has.tables (c.add_call.ensures.counts.clean clean)) in
+    c.add_call.ensures.cause count (has_calls _ _ count first) small clean
 
 pub returns-clause-counted : goal.returns-clause-counted
 returns-clause-counted g c m k j count rows is found few has clean =

@@ -4,7 +4,7 @@ use Rattle.sqlite.specs.Held.{state}
 use Rattle.fax_store.specs.Adopt.{AreCallable, AreOfJobs, held_to}
 use Rattle.fax_store.specs.Grant.{SetsCalls}
 use Rattle.fax_tables.proofs.CreateLemmas.{commit_kept}
-use Rattle.fax_store.proofs.CallLemmas.{has_calls, no_calls, set_still, set_then, whole_of}
+use Rattle.fax_store.proofs.CallLemmas.{has_calls, no_calls, set_still, set_then}
 use Rattle.fax_store.proofs.HeldLemmas.{held_callable, held_counted, held_few, held_jobs, none_small, rows_still}
 use Rattle.fax_schema.proofs.StatementTexts.{select_held}
 use Rattle.fax_store.proofs.WorkLemmas.{both_as, ok_as}
@@ -15,14 +15,12 @@ show-requires g c = select_held.plain
 
 pub returns-clause-leaves : goal.returns-clause-leaves
 returns-clause-leaves g c = record {
-  goes = λ clean has. let old = state g.S.Store c.args.self.now.conn in
-      let mid = state g.S.Store c.show.new.self.conn in
-      let new = state g.S.Store c.count_rows.new.self.conn in
-      let first = set_still old mid (λ _. 0) (no_calls old has) (c.in_ok-held.ensures.leaves.reads has.schema_is (c.count_rows.ensures.counts.clean clean)) in
+  goes = λ clean has. let first = set_still _ _ (λ _. 0) (no_calls _ has) (c.in_ok-held.ensures.leaves.reads has.schema_is (c.count_rows.ensures.counts.clean clean)) in
       both_as c.count_rows.result
-      (λ set. let whole = set_then old mid new (λ _. 0) set.0 first set.1 in (whole.goes_on, whole_of old new set.0 whole))
-      (λ kept. commit_kept old mid new first.goes_on kept)
-      (c.count_rows.ensures.counts.set (λ _. 0) (has_calls old mid (λ _. 0) first) none_small clean);
+      (λ set. let whole = set_then _ _ _ (λ _. 0) set.0 first set.1 in
+      (whole.goes_on, record { schema_is = whole.schema_is; sound = whole.sound; rows = whole.rows }))
+      (λ kept. commit_kept _ _ _ first.goes_on kept)
+      (c.count_rows.ensures.counts.set (λ _. 0) (has_calls _ _ (λ _. 0) first) none_small clean);
   crash = search rules;
   clean = search rules;
 }
@@ -44,11 +42,10 @@ returns-clause-counted g c m k has clean mean =
 
 pub returns-clause-cause : goal.returns-clause-cause
 returns-clause-cause g c has clean can =
-    let old = state g.S.Store c.args.self.now.conn in
     let mid = state g.S.Store c.show.new.self.conn in
     let at_mid = c.count_rows.ensures.counts.clean clean in
     let same = c.in_ok-held.ensures.leaves.reads has.schema_is at_mid in
-    let first = set_still old mid (λ _. 0) (no_calls old has) same in
+    let first = set_still _ mid (λ _. 0) (no_calls _ has) same in
     let rows = c.in_ok-held.held.items in
-    let callable = held_callable old mid has.schema_is rows (c.in_ok-held.ensures.found at_mid) can in
-    c.count_rows.ensures.cause (λ _. 0) (subst (AreCallable mid.now) (sym c.as_slice.ensures.value) (subst (λ (d : Database). AreCallable d rows) (sym same.0.now_is) callable)) (has_calls old mid (λ _. 0) first) none_small clean
+    let callable = held_callable _ mid has.schema_is rows (c.in_ok-held.ensures.found at_mid) can in
+    c.count_rows.ensures.cause (λ _. 0) (subst (AreCallable mid.now) (sym c.as_slice.ensures.value) (subst (λ (d : Database). AreCallable d rows) (sym same.0.now_is) callable)) (has_calls _ mid (λ _. 0) first) none_small clean

@@ -1,6 +1,6 @@
 use Rattle.std.proofs.Common.{◌≤◌, Ok, Err, subst}
 use Rattle.std.specs.Prelude.{IfSome}
-use Rattle.fax_store.proofs.ThinLemmas.{thins_err, thins_lower, thins_none, thins_ok, thins_then}
+use Rattle.fax_store.proofs.FloorLemmas.{thins_err, thins_lower, thins_none, thins_ok, thins_then}
 use Rattle.fax_store.proofs.store.Store.drop_hundred.Goals as goal
 
 pub returns-in_err-last-clause-thins : goal.returns-in_err-last-clause-thins

@@ -1,5 +1,5 @@
 use Rattle.std.proofs.Common.{Ok}
-use Rattle.fax_store.proofs.ThinLemmas.{thins_err, thins_not, thins_ok, thins_then}
+use Rattle.fax_store.proofs.FloorLemmas.{thins_err, thins_not, thins_ok, thins_then}
 use Rattle.fax_store.proofs.store.Store.drop_hundreds.Goals as goal
 
 pub loop-init : goal.loop-init

@@ -1,13 +1,13 @@
-use Rattle.std.proofs.Common.{◌≡◌, ◌-◌, Ok, Err, Some, None, Option, refl, sym, ap, ◌∙◌}
+use Rattle.std.proofs.Common.{◌≡◌, ◌-◌, Err, refl, sym, ap, ◌∙◌}
 use Rattle.std.specs.Option.{option_map}
-use Rattle.sqlite.specs.Held.{state}
+use Rattle.std.proofs.lemmas.Option.{none-some}
 use Rattle.fax_core.specs.Job.{fields_of}
 use Rattle.fax_core.specs.Queue.{job_numbered}
 use Rattle.fax_core.specs.State.{calls_to}
 use Rattle.fax_job.specs.declared.job.JobFields.{JobFields}
 use Rattle.fax_store.specs.Grant.{IsCalled, with_closed}
 use Rattle.fax_store.proofs.CountLemmas.{held_job}
-use Rattle.fax_store.proofs.FrameLemmas.{runs_of, runs_then}
+use Rattle.fax_store.proofs.FrameLemmas.{reads_on, runs_of, runs_then}
 use Rattle.fax_store.proofs.WorkLemmas.{goes_on, refused_steps, there_as}
 use Rattle.fax_store.proofs.store.Store.end_call.Goals as goal
 
@@ -16,24 +16,17 @@ returns-in_default-clause-written g c m₀ m k₀ k works s held =
     let means = ((works (c.in_ok-job.ensures.leaves.served s)).goes_on refl).means in
     let found = c.in_ok-job.ensures.answers m k (λ _. means) s in
     let there = held_job m means.held c.args.number held.0 held.1 held.2 in
-    let none : ◌≡◌ {A = Option JobFields} None (Some (fields_of there.0)) = sym c.in_default.is ∙ found ∙ ap (λ n. option_map fields_of (job_numbered n m)) (sym held.3) ∙ ap (option_map fields_of) there.1 in
-    absurd cc
+    absurd (none-some _ (sym c.in_default.is ∙ found ∙ ap (λ n. option_map fields_of (job_numbered n m)) (sym held.3) ∙ ap (option_map fields_of) there.1))
 
 pub returns-clause-leaves : goal.returns-clause-leaves
 returns-clause-leaves g c =
-    runs_then g.S.Store c.args.self.now c.read_calls.new.self c.close_open.new.self _ _
-    (runs_then g.S.Store c.args.self.now c.job.new.self c.read_calls.new.self _ _ (runs_of g.S.Store _ _ _ c.in_ok-job.ensures.leaves) (runs_of g.S.Store _ _ _ c.in_ok-calls.ensures.leaves)) c.close_open.ensures.leaves
+    runs_then g.S.Store _ _ _ _ _ (runs_then g.S.Store _ _ _ _ _ (runs_of g.S.Store _ _ _ c.in_ok-job.ensures.leaves) (runs_of g.S.Store _ _ _ c.in_ok-calls.ensures.leaves)) c.close_open.ensures.leaves
 
 pub returns-clause-written : goal.returns-clause-written
 returns-clause-written g c m₀ m k₀ k works s held =
-    let old = state g.S.Store c.args.self.now.conn in
-    let read = state g.S.Store c.job.new.self.conn in
-    let then = state g.S.Store c.read_calls.new.self.conn in
-    let new = state g.S.Store c.close_open.new.self.conn in
     let at_then = c.close_open.ensures.leaves.served s in
-    let at_read = c.read_calls.ensures.leaves.served at_then in
-    let first = goes_on old read c.job.ensures.leaves.served (Ok c.in_ok-job.field-0) c.in_ok-job.ensures.leaves.reads (λ m k found. found ≡ option_map fields_of (job_numbered c.args.job m)) c.in_ok-job.ensures.answers m₀ m k₀ k works at_read in
-    let second = goes_on read then c.read_calls.ensures.leaves.served (Ok c.in_ok-calls.calls) c.in_ok-calls.ensures.leaves.reads (λ m k calls. calls ≡ calls_to c.fields.result.now.dial m) c.in_ok-calls.ensures.answers m₀ m k₀ k (λ _. first.1) at_then in
+    let first = reads_on g.S.Store _ _ _ c.in_ok-job.ensures.leaves c.in_ok-job.ensures.answers m₀ m k₀ k works (c.read_calls.ensures.leaves.served at_then) in
+    let second = reads_on g.S.Store _ _ _ c.in_ok-calls.ensures.leaves c.in_ok-calls.ensures.answers m₀ m k₀ k (λ _. first.1) at_then in
     let it = there_as fields_of (job_numbered c.args.job m) c.in-Some.job (sym c.in-Some.is ∙ first.0) in
     let dial : c.in-Some.job.dial ≡ it.0.dial = ap (λ (f : JobFields). f.dial) it.2 in
     let of_first : c.fields.result.now.dial ≡ c.in-Some.job.dial = ap (λ (f : JobFields). f.dial) c.fields.ensures.fields in
@@ -43,10 +36,7 @@ returns-clause-written g c m₀ m k₀ k works s held =
 
 pub returns-in_err-calls-clause-written : goal.returns-in_err-calls-clause-written
 returns-in_err-calls-clause-written g c m₀ m k₀ k works s held =
-    let old = state g.S.Store c.args.self.now.conn in
-    let read = state g.S.Store c.job.new.self.conn in
-    let then = state g.S.Store c.read_calls.new.self.conn in
-    let at_read = c.read_calls.ensures.leaves.served s in
-    let first = goes_on old read c.job.ensures.leaves.served (Ok c.in_ok-job.field-0) c.in_ok-job.ensures.leaves.reads (λ m k found. found ≡ option_map fields_of (job_numbered c.args.job m)) c.in_ok-job.ensures.answers m₀ m k₀ k works at_read in
-    let second = goes_on read then c.read_calls.ensures.leaves.served (Err c.in_err-calls.field-0.0) c.in_err-calls.ensures.leaves.reads (λ m k calls. calls ≡ calls_to c.fields.result.now.dial m) c.in_err-calls.ensures.answers m₀ m k₀ k (λ _. first.1) s in
-    refused_steps then c.from_residual-in_err-calls.result c.in_err-calls.field-0.0 m₀ (with_closed c.args.number m) k₀ k c.from_residual-in_err-calls.ensures.1 second
+    let calls = c.in_err-calls.ensures in
+    let first = reads_on g.S.Store _ _ _ c.in_ok-job.ensures.leaves c.in_ok-job.ensures.answers m₀ m k₀ k works (calls.leaves.served s) in
+    let second = goes_on _ _ calls.leaves.served (Err c.in_err-calls.field-0.0) calls.leaves.reads (λ m k calls. calls ≡ calls_to c.fields.result.now.dial m) calls.answers m₀ m k₀ k (λ _. first.1) s in
+    refused_steps _ c.from_residual-in_err-calls.result c.in_err-calls.field-0.0 m₀ (with_closed c.args.number m) k₀ k c.from_residual-in_err-calls.ensures.1 second

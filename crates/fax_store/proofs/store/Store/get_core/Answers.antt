@@ -1,5 +1,4 @@
 use Rattle.std.proofs.Common.{◌≡◌}
-use Rattle.sqlite.specs.Held.{state}
 use Rattle.sqlite_rules.specs.Lists.{Has}
 use Rattle.fax_schema.specs.Schema.{core_tables, without_calls}
 use Rattle.fax_store.specs.Adopt.{AreCore}
@@ -8,5 +7,5 @@ use Rattle.fax_store.proofs.store.Store.get_core.Goals as goal
 
 pub returns : goal.returns
 returns g c =
-    leaves_then (state g.S.Store c.args.self.now.conn) (state g.S.Store c.lose_first_indexes.new.self.conn) (state g.S.Store c.get_indexes.new.self.conn) AreCore (Has without_calls) (λ schema. schema ≡ core_tables) _ _
+    leaves_then _ _ _ AreCore (Has without_calls) (λ schema. schema ≡ core_tables) _ _
     c.in_ok-lose_first_indexes.ensures c.get_indexes.ensures

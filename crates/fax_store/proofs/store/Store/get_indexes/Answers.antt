@@ -1,5 +1,4 @@
 use Rattle.std.proofs.Common.{◌≡◌}
-use Rattle.sqlite.specs.Held.{state}
 use Rattle.sqlite_rules.specs.Lists.{Has}
 use Rattle.fax_schema.specs.Schema.{core_tables, without_calls}
 use Rattle.fax_store.specs.Adopt.{AreStores}
@@ -8,5 +7,5 @@ use Rattle.fax_store.proofs.store.Store.get_indexes.Goals as goal
 
 pub returns : goal.returns
 returns g c =
-    leaves_then (state g.S.Store c.args.self.now.conn) (state g.S.Store c.get_second_tables.new.self.conn) (state g.S.Store c.make_indexes.new.self.conn) (Has without_calls) AreStores (λ schema. schema ≡ core_tables) _ _
-    c.in_ok-get_second_tables.ensures c.make_indexes.ensures
+    leaves_then _ _ _ (Has without_calls) AreStores (λ schema. schema ≡ core_tables) _ _
+    c.in_ok-get_floors.ensures c.make_indexes.ensures

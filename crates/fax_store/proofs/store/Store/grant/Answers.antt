@@ -2,7 +2,7 @@ use Rattle.std.proofs.Common.{rules}
 use Rattle.fax_schema.specs.declared.statements.TheConstants.{SELECT_GRANT}
 use Rattle.fax_schema.proofs.GrantTexts.{select_grant}
 use Rattle.fax_store.proofs.GrantLemmas.{grant_keys, grant_stands}
-use Rattle.fax_store.proofs.LookLemmas.{as_it_is, looks_err, looks_lawful, looks_none, looks_up, queries_with}
+use Rattle.fax_store.proofs.FoundLemmas.{as_it_is, looks_err, looks_lawful, looks_none, looks_up, queries_with}
 use Rattle.fax_store.proofs.store.Store.grant.Goals as goal
 
 pub returns-in-None : goal.returns-in-None

@@ -1,6 +1,5 @@
 use Rattle.std.proofs.Common.{◌≡◌, [], ◌∷◌, subst, rules}
 use Rattle.std.specs.String.{string_bytes}
-use Rattle.sqlite.specs.Held.{state}
 use Rattle.sqlite.specs.Order.{Row}
 use Rattle.sqlite.specs.declared.types.Value.TheVariants.{Text}
 use Rattle.fax_core.specs.Job.{job_of}
@@ -19,8 +18,6 @@ use Rattle.fax_store.proofs.store.Store.insert_job.Goals as goal
 
 pub returns : goal.returns
 returns g c =
-    let old = state g.S.Store c.args.self.now.conn in
-    let new = state g.S.Store c.insert.new.self.conn in
     let j = c.fields-job.result.now in
     let same : j ≡ c.args.job.now = c.fields-job.ensures.fields in
     let params : Row = number j.job ∷ Text c.text.result.now ∷ Text c.as_str.result.now ∷ Text c.as_str-2.result.now ∷ Text c.text-2.result.now ∷ number c.seconds.result ∷ number c.killtime_number.result ∷ number c.from.result ∷ number c.from-2.result ∷ number c.from-3.result ∷ number c.from-4.result ∷ number c.from-5.result ∷ number c.from-6.result ∷ number c.from-7.result ∷ number c.from-8.result ∷ number c.from-9.result ∷ number c.phase_number.result ∷ number c.wish_number.result ∷ number j.next ∷ Text (string_bytes c.in_ok-extra.extra) ∷ [] in
@@ -40,7 +37,7 @@ returns g c =
     let lawful : IsLawfulJob (job_of j) = lawful_of_fields j (search rules) formed in
     let inserts = inserts_with g.S.Store _ _ _ INSERT_JOB.now params (job_shown j) shown (inserts_with g.S.Store _ _ _ _ _ _ (search rules) c.insert.ensures) in
     subst (λ (f : JobFields). WritesIf g.S.Store c.args.self.now c.insert.new.self c.insert.result (λ m k. IsNewJob (job_of f) m) (with_placed (job_of f)) (λ k. k)) same
-    (writes_if_by g.S.Store _ _ _ INSERT_JOB.now (job_shown j) 0 _ _ _ inserts (λ m k means has. job_put old new m k means j lawful has) (λ m k means free e h. job_goes old new m k means j free e h))
+    (writes_if_by g.S.Store _ _ _ INSERT_JOB.now (job_shown j) 0 _ _ _ inserts (λ m k means has. job_put _ _ m k means j lawful has) (λ m k means free e h. job_goes _ _ m k means j free e h))
 
 pub insert-requires : goal.insert-requires
 insert-requires g c = edit_text INSERT_JOB.now _ tt texts.insert_job

@@ -3,7 +3,7 @@ use Rattle.fax_core.specs.Job.{fields_of}
 use Rattle.fax_schema.specs.declared.statements.TheConstants.{SELECT_JOB}
 use Rattle.fax_schema.proofs.StatementTexts.{select_job}
 use Rattle.fax_store.proofs.JobLemmas.{job_keys, job_stands}
-use Rattle.fax_store.proofs.LookLemmas.{looks_err, looks_none, looks_up, queries_with}
+use Rattle.fax_store.proofs.FoundLemmas.{looks_err, looks_none, looks_up, queries_with}
 use Rattle.fax_store.proofs.store.Store.job.Goals as goal
 
 pub returns-in-None : goal.returns-in-None

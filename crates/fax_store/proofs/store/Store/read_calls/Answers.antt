@@ -1,9 +1,8 @@
-use Rattle.std.proofs.Common.{◌≡◌, [], ◌∷◌, MatchOption, sym, subst, rules}
+use Rattle.std.proofs.Common.{sym, rules}
 use Rattle.sqlite.specs.Held.{state}
+use Rattle.fax_store.proofs.FoundLemmas.{queries_with}
 use Rattle.fax_core.specs.State.{calls_to}
 use Rattle.fax_schema.specs.declared.statements.TheConstants.{SELECT_OPEN}
-use Rattle.fax_store.specs.Store.{FindsRow}
-use Rattle.fax_tables.specs.Row.{number}
 use Rattle.fax_store.proofs.CallLemmas as calls
 use Rattle.fax_store.proofs.CountLemmas.{calls_fit}
 use Rattle.fax_schema.proofs.GrantTexts.{select_open}
@@ -14,20 +13,15 @@ find-requires g c = select_open.plain
 
 pub returns-in-Some-clause-counted : goal.returns-in-Some-clause-counted
 returns-in-Some-clause-counted g c count tables counted low clean =
-    let old = state g.S.Store c.args.self.now.conn in
-    let new = state g.S.Store c.find.new.self.conn in
     let dial = c.args.dial.now in
-    let found : FindsRow SELECT_OPEN.now (calls.params dial) old new c.in_ok-row.field-0 = subst (λ p. FindsRow SELECT_OPEN.now p old new c.in_ok-row.field-0) (search rules) (c.in_ok-row.ensures.found clean) in
-    let row = subst (λ o. MatchOption o (count dial ≡ 0) (λ r. r ≡ number (count dial) ∷ [])) c.in-Some.is (calls.calls_found dial old new count tables counted.is c.in_ok-row.field-0 found) in
-    c.calls_in.ensures.found (count dial) row low
+    let found = (queries_with g.S.Store _ _ _ SELECT_OPEN.now _ (calls.params dial) (search rules) c.in_ok-row.ensures).found clean in
+    c.calls_in.ensures.found (count dial) (rw c.in-Some.is at (calls.calls_found dial _ _ count tables counted.is c.in_ok-row.field-0 found)) low
 
 pub returns-in-None-clause-counted : goal.returns-in-None-clause-counted
 returns-in-None-clause-counted g c count tables counted low clean =
-    let old = state g.S.Store c.args.self.now.conn in
-    let new = state g.S.Store c.find.new.self.conn in
     let dial = c.args.dial.now in
-    let found : FindsRow SELECT_OPEN.now (calls.params dial) old new c.in_ok-row.field-0 = subst (λ p. FindsRow SELECT_OPEN.now p old new c.in_ok-row.field-0) (search rules) (c.in_ok-row.ensures.found clean) in
-    sym (subst (λ o. MatchOption o (count dial ≡ 0) (λ r. r ≡ number (count dial) ∷ [])) c.in-None.is (calls.calls_found dial old new count tables counted.is c.in_ok-row.field-0 found))
+    let found = (queries_with g.S.Store _ _ _ SELECT_OPEN.now _ (calls.params dial) (search rules) c.in_ok-row.ensures).found clean in
+    sym (rw c.in-None.is at (calls.calls_found dial _ _ count tables counted.is c.in_ok-row.field-0 found))
 
 pub returns-in-Some-clause-answers : goal.returns-in-Some-clause-answers
 returns-in-Some-clause-answers g c m k means s =

@@ -6,7 +6,7 @@ use Rattle.sqlite.specs.State.{HasCleanDisk}
 use Rattle.sqlite.specs.Values.{bound}
 use Rattle.fax_store.specs.Store.{LeavesCommit}
 use Rattle.fax_tables.proofs.ResultLemmas.{on_err}
-use Rattle.fax_store.proofs.StatementLemmas.{query_fails, left_open, shown_keeps, shown_open, shown_still}
+use Rattle.fax_store.proofs.StatementLemmas.{query_fails, left_open, shown_keeps, shown_at}
 use Rattle.fax_store.proofs.StoreLemmas.{cleaner, served}
 use Rattle.fax_store.proofs.WorkLemmas.{reads_refused}
 use Rattle.fax_store.proofs.StopLemmas.{queries_nothing}
@@ -32,9 +32,9 @@ returns g c =
     let old = state g.S.Store c.args.self.now.conn in
     let new = state g.S.Store c.query_all.new.self in
     record {
-      leaves = finds_by g.S.Store _ _ _ (λ s. served old new c.query_all.ensures.survives.clean s (shown_open old new c.args.sql.now (bound c.args.params.now) c.in_ok-rows.rows.items (c.in_ok-rows.ensures.ok s.clean)))
+      leaves = finds_by g.S.Store _ _ _ (λ s. served old new c.query_all.ensures.survives.clean s (shown_at old new c.args.sql.now (bound c.args.params.now) c.in_ok-rows.rows.items (c.in_ok-rows.ensures.ok s.clean)).0)
           (cleaner old new c.query_all.ensures.survives.clean)
-          (λ clean. record { clean = clean; is_open = shown_still old new c.args.sql.now (bound c.args.params.now) c.in_ok-rows.rows.items (c.in_ok-rows.ensures.ok clean) })
+          (λ clean. record { clean = clean; is_open = (shown_at old new c.args.sql.now (bound c.args.params.now) c.in_ok-rows.rows.items (c.in_ok-rows.ensures.ok clean)).1 })
           (λ tables clean. shown_keeps old new c.args.sql.now (bound c.args.params.now) (subst (λ s. IsPlain (understood s c.args.sql.now)) (sym tables) c.requires) c.in_ok-rows.rows.items (c.in_ok-rows.ensures.ok clean))
           (queries_nothing old new c.args.sql.now (bound c.args.params.now) c.requires c.query_all.ensures.survives);
       found = c.in_ok-rows.ensures.ok;

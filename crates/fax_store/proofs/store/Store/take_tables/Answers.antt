@@ -1,10 +1,9 @@
 use Rattle.std.proofs.Common.{rules}
-use Rattle.sqlite.specs.Held.{state}
 use Rattle.fax_store.proofs.AdoptLemmas.{founds_takes, ours_taken}
 use Rattle.fax_store.proofs.store.Store.take_tables.Goals as goal
 
 pub returns-then-has_no_tables : goal.returns-then-has_no_tables
-returns-then-has_no_tables g c = founds_takes (state g.S.Store c.args.self.now.conn) (state g.S.Store c.make_tables.new.self.conn) c.make_tables.result (search rules) c.make_tables.ensures
+returns-then-has_no_tables g c = founds_takes _ _ c.make_tables.result (search rules) c.make_tables.ensures
 
 pub returns-then-branch : goal.returns-then-branch
-returns-then-branch g c = ours_taken (state g.S.Store c.args.self.now.conn) (state g.S.Store c.take_ours.new.self.conn) c.take_ours.result (search rules) c.take_ours.ensures
+returns-then-branch g c = ours_taken _ _ c.take_ours.result (search rules) c.take_ours.ensures

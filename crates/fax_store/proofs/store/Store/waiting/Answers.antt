@@ -1,12 +1,10 @@
-use Rattle.std.proofs.Common.{◌≡◌, [], map, subst, rules}
+use Rattle.std.proofs.Common.{subst, rules}
 use Rattle.sqlite.specs.Held.{state}
 use Rattle.sqlite.specs.State.{Shown}
-use Rattle.fax_core.specs.Job.{fields_of}
 use Rattle.fax_schema.specs.declared.statements.TheConstants.{SELECT_WAITING}
-use Rattle.fax_store.specs.Job.{IsWaiting}
 use Rattle.fax_tables.proofs.ResultLemmas.{or_weaker}
-use Rattle.fax_store.proofs.WaitingLemmas as waiting
-use Rattle.fax_schema.proofs.StatementTexts.{job_project, select_waiting}
+use Rattle.fax_store.proofs.JobsLemmas as waiting
+use Rattle.fax_schema.proofs.StatementTexts.{select_waiting}
 use Rattle.fax_store.proofs.FrameLemmas.{finds_as}
 use Rattle.fax_store.proofs.store.Store.waiting.Goals as goal
 
@@ -17,10 +15,10 @@ returns g c = record {
       let new = state g.S.Store c.show.new.self.conn in
       let t = c.args.t in
       let means_now = means (c.in_ok-rows.ensures.leaves.served s) in
-      let shown : Shown SELECT_WAITING.now (waiting.params t [] [] job_project) old new c.in_ok-rows.rows.items = subst (λ p. Shown SELECT_WAITING.now p old new c.in_ok-rows.rows.items) (search rules) (c.in_ok-rows.ensures.found s.clean) in
-      let it = waiting.waiting_found t old new m k means_now c.in_ok-rows.rows.items shown in
-      let lawful = waiting.all_waiting t m it.0 it.2 means_now.lawful.jobs in
-      or_weaker c.jobs_in.result (λ found. found.items ≡ map fields_of it.0) (λ found. IsWaiting t m found.items) (λ found is. (it.0, is, it.2)) (c.jobs_in.ensures.found it.0 (search rules) lawful);
+      let it = waiting.waiting_found t old new m k means_now c.in_ok-rows.rows.items
+      (subst (λ p. Shown SELECT_WAITING.now p old new c.in_ok-rows.rows.items) (search rules) (c.in_ok-rows.ensures.found s.clean)) in
+      or_weaker c.jobs_in.result _ _ (λ found is. (it.0, is, it.2))
+      (c.jobs_in.ensures.found it.0 (search rules) (waiting.all_waiting t m it.0 it.2 means_now.lawful.jobs));
 }
 
 pub show-requires : goal.show-requires

@@ -1,5 +1,4 @@
 use Rattle.std.proofs.Common.{◌≡◌, [], ◌∷◌, subst, rules}
-use Rattle.sqlite.specs.Held.{state}
 use Rattle.sqlite.specs.Order.{Row}
 use Rattle.sqlite.specs.declared.types.Value.TheVariants.{Text}
 use Rattle.fax_core.specs.Job.{job_of}
@@ -8,7 +7,7 @@ use Rattle.fax_schema.specs.declared.statements.TheConstants.{UPDATE_JOB}
 use Rattle.fax_store.specs.Calls.{WritesWhere}
 use Rattle.fax_store.specs.Job.{IsChange, with_change}
 use Rattle.fax_tables.specs.Row.{number}
-use Rattle.fax_store.proofs.ChangeLemmas.{IsFormedChange, job_changed}
+use Rattle.fax_store.proofs.JobLemmas.{IsFormedChange, job_changed}
 use Rattle.fax_tables.proofs.RowLemmas.{change_params, changed_by}
 use Rattle.fax_store.proofs.StatementLemmas.{edit_text}
 use Rattle.fax_schema.proofs.StatementTexts as texts
@@ -17,8 +16,6 @@ use Rattle.fax_store.proofs.store.Store.write_change.Goals as goal
 
 pub returns : goal.returns
 returns g c =
-    let old = state g.S.Store c.args.self.now.conn in
-    let new = state g.S.Store c.run.new.self.conn in
     let j = c.fields-job.result.now in
     let same : j ≡ c.args.job.now = c.fields-job.ensures.fields in
     let params : Row = number j.job ∷ Text c.as_str.result.now ∷ Text c.as_str-2.result.now ∷ Text c.text.result.now ∷ number c.seconds.result ∷ number c.killtime_number.result ∷ number c.from.result ∷ number c.from-2.result ∷ number c.from-3.result ∷ number c.from-4.result ∷ number c.from-5.result ∷ number c.from-6.result ∷ number c.from-7.result ∷ number c.from-8.result ∷ number c.phase_number.result ∷ number c.wish_number.result ∷ number j.next ∷ [] in
@@ -36,7 +33,7 @@ returns g c =
     } in
     let edits = edits_with g.S.Store _ _ _ UPDATE_JOB.now params (change_params j) shown (edits_with g.S.Store _ _ _ _ _ _ (search rules) c.run.ensures) in
     subst (λ (f : JobFields). WritesWhere g.S.Store c.args.self.now c.run.new.self c.run.result (IsChange (job_of f)) (with_change (job_of f)) (λ k. k)) same
-    (writes_where_by g.S.Store _ _ _ UPDATE_JOB.now (change_params j) 0 _ _ _ edits (λ m k fits means has. job_changed j old new m k means fits lawful has))
+    (writes_where_by g.S.Store _ _ _ UPDATE_JOB.now (change_params j) 0 _ _ _ edits (λ m k fits means has. job_changed j _ _ m k means fits lawful has))
 
 pub run-requires : goal.run-requires
 run-requires g c = edit_text UPDATE_JOB.now _ tt texts.update_job

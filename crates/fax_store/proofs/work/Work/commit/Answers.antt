@@ -10,21 +10,7 @@ use Rattle.fax_store.proofs.StopLemmas.{given_up, may_commit}
 use Rattle.fax_store.proofs.work.Work.commit.Goals as goal
 
 pub returns-then-failed : goal.returns-then-failed
-returns-then-failed g c =
-    let old = state g.S.Store c.args.self.store.now.conn in
-    let new = state g.S.Store c.roll_back.new.self.conn in
-    record {
-      committed = search rules;
-      served = search rules;
-      clean = c.roll_back.ensures.clean;
-      opens = search rules;
-      forgets = forgets old new c.args.self.failed c.roll_back.ensures.back;
-      undone = undoes old new c.args.self.failed c.roll_back.ensures.served c.roll_back.ensures.back;
-      crash = given_up old new c.args.self.failed c.roll_back.ensures.crash;
-      alone = search rules;
-      refused = search rules;
-      cause = search rules;
-    }
+returns-then-failed g c = search (rules, forgets, undoes, given_up)
 
 pub returns-in_err-execute : goal.returns-in_err-execute
 returns-in_err-execute g c =
