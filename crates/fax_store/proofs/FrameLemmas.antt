@@ -64,8 +64,8 @@ module _ {S : Type 0} (g : Ghosts S) where
   }
 
   -- a reading commits nothing within a work
-  pub runs_of : (old new : Store S) {A : Type 0} (result : Result A StoreFault) → Finds g old new result → Runs g old new result
-  runs_of old new result finds = record {
+  pub runs_of : {old new : Store S} {A : Type 0} {result : Result A StoreFault} → Finds g old new result → Runs g old new result
+  runs_of {old} {new} {A} {result} finds = record {
     served = finds.served;
     clean = finds.clean;
     holds = holds_by (shown g old) (shown g new) finds.served result finds.reads;
@@ -73,8 +73,8 @@ module _ {S : Type 0} (g : Ghosts S) where
   }
 
   -- and so do two changes within a work
-  pub runs_then : (old mid new : Store S) {A B : Type 0} (a : A) (result : Result B StoreFault) → Runs g old mid (Ok a) → Runs g mid new result → Runs g old new result
-  runs_then old mid new a result first next = record {
+  pub runs_then : {old mid new : Store S} {A B : Type 0} {a : A} {result : Result B StoreFault} → Runs g old mid (Ok a) → Runs g mid new result → Runs g old new result
+  runs_then {old} {mid} {new} {A} {B} {a} {result} first next = record {
     served = λ serves. first.served (next.served serves);
     clean = λ clean. first.clean (next.clean clean);
     holds = holds_then (shown g old) (shown g mid) (shown g new) (is_err result) next.served first.holds next.holds;
@@ -158,9 +158,9 @@ module _ {S : Type 0} (g : Ghosts S) where
   writes_if_any old new result Fit f h writes = record { leaves = writes.leaves; written = λ m₀ m k₀ k. writes.written m₀ m k₀ k tt; cause = writes.cause }
 
   -- a reading within a work tells of what the work means, and the work goes on
-  pub reads_on : (old new : Store S) {A : Type 0} (x : A) {P : Queue → Ledger → Type 0} → Finds g old new (Ok x) → Answers g old new (Ok x) (λ m k _. P m k)
+  pub reads_on : {old new : Store S} {A : Type 0} {x : A} {P : Queue → Ledger → Type 0} → Finds g old new (Ok x) → Answers g old new (Ok x) (λ m k _. P m k)
       → (m₀ m : Queue) (k₀ k : Ledger) → Works (shown g old) false m₀ k₀ m k → Serves (shown g new) → P m k × IsUnderWay (shown g new) false m₀ k₀ m k
-  reads_on old new x {P} finds answers = goes_on (shown g old) (shown g new) finds.served (Ok x) finds.reads (λ m k _. P m k) answers
+  reads_on {old} {new} {A} {x} {P} finds answers = goes_on (shown g old) (shown g new) finds.served (Ok x) finds.reads (λ m k _. P m k) answers
 
   -- a statement that edits rows of one table makes of what the tables mean what it does to the rows
   module _ (old new : Store S) (result : Result (Unit {0}) StoreFault) (sql : List ℕ) (params : Row) (tree : ℕ) (f : Queue → Queue) (h : Ledger → Ledger) where
@@ -229,7 +229,7 @@ module _ {S : Type 0} (g : Ghosts S) where
     -- and so is a reading
     pub tells_by : new.store.ghost_name ≡ old.store.ghost_name → (P : Queue → Ledger → A → Type 0) → Finds g old.store.now new.store.now result → Answers g old.store.now new.store.now result P → Tells g old new result P
     tells_by same P finds answers = record {
-      leaves = calls_by same (runs_of old.store.now new.store.now result finds);
+      leaves = calls_by same (runs_of finds);
       keeps = rw (on, failed) (keeps_by (within g old) (within g new) finds.served result finds.reads P answers);
       found = rw on (found_in (within g old) (within g new) finds.served result finds.reads P answers);
     }

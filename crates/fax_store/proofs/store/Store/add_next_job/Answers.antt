@@ -13,7 +13,7 @@ use Rattle.fax_store.proofs.store.Store.add_next_job.Goals as goal
 
 pub returns : goal.returns
 returns g c = writes_if_steps g.S.Store _ _ c.write_meta.result _ _ _ _
-    (runs_then g.S.Store _ _ _ _ _ c.in_ok-insert_job.ensures.leaves c.write_meta.ensures.leaves) (λ m k fits. fits.0)
+    (runs_then g.S.Store c.in_ok-insert_job.ensures.leaves c.write_meta.ensures.leaves) (λ m k fits. fits.0)
     (λ m₀ m k₀ k same works s.
     let new = shown g.S.Store c.write_meta.new.self in
     let j = job_of c.args.job.now in
