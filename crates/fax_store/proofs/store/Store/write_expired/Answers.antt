@@ -18,5 +18,4 @@ returns g c = record {
 
 pub returns-in_err-expire_in : goal.returns-in_err-expire_in
 returns-in_err-expire_in g c =
-    writes_refused g.S.Store _ _ c.from_residual.result c.in_err-expire_in.field-0.0 c.from_residual.ensures.1 c.in_err-expire_in.ensures.leaves _ _
-    c.in_err-expire_in.ensures.cause
+    writes_refused g.S.Store _ c.from_residual.ensures.1 c.in_err-expire_in.ensures.leaves c.in_err-expire_in.ensures.cause

@@ -32,5 +32,4 @@ returns g c = record {
 
 pub returns-in_err-run : goal.returns-in_err-run
 returns-in_err-run g c =
-    writes_where_refused g.S.Store _ _ c.from_residual.result c.in_err-run.field-0.0 c.from_residual.ensures.1 c.in_err-run.ensures.leaves _ _ _
-    c.in_err-run.ensures.cause
+    writes_where_refused g.S.Store _ c.from_residual.ensures.1 c.in_err-run.ensures.leaves c.in_err-run.ensures.cause
