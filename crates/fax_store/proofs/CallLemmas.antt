@@ -71,8 +71,7 @@ module _ (dial : List ℕ) (count : List ℕ → ℕ) where
 
   -- so is what is left where the rows of the number are deleted
   pub left_without : (pass : Row → Bool) → ((r : Row) → pass r ≡ (are_equal (column (drop 1 r) 0) (Text dial) && true)) → (rows after : List Row)
-      → after ≡ filter (λ r. not (pass r)) rows
-      → AreCounted count (map (drop 1) rows) → AreCounted (with_count dial 0 count) (map (drop 1) after)
+      → after ≡ filter (λ r. not (pass r)) rows → AreCounted count (map (drop 1) rows) → AreCounted (with_count dial 0 count) (map (drop 1) after)
   left_without pass is rows after left was =
       let kept = ap (map (drop 1)) (left ∙ filter_agree (λ r. not (pass r)) (λ r. others (drop 1 r)) (λ r. ap not (is r)) rows)
       ∙ sym (filter-map others (drop 1) rows) in

@@ -297,8 +297,7 @@ pub answers_page : {S Z : Type 0} (g : Ghosts S) (asked : Asked) (most : ℕ) (o
     (params meant : Row) (front of : Front) → of ≡ front → params ≡ meant
     → Queries g old new result (λ rows. Shown sql params (shown_by g old) (shown_by g new) rows.items)
     → ((m : Queue) (k : Ledger) → TablesMean (shown_by g old).now m k → (rows : List Row) → Shown sql meant (shown_by g old) (shown_by g new) rows → IsPage
-    asked m front most rows)
-    → Recalls g old new result (λ m k rows. IsPage asked m of most rows.items)
+    asked m front most rows) → Recalls g old new result (λ m k rows. IsPage asked m of most rows.items)
 answers_page g asked most old new result sql params meant front of is same finds page = record {
   leaves = finds.leaves;
   answers = λ m k means s. rw is (answered result _ _ (finds.found s.clean) finds.cause

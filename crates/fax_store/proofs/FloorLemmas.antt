@@ -162,7 +162,7 @@ module _ {S : Type 0} (g : Ghosts S) (client : List ℕ) (floor : ℕ) where
   -- a reading takes none away
   pub thins_none : (old new : Store S) {A : Type 0} (result : Result A StoreFault) → Finds g old new result → IfErr result (λ fault. fault ≡ Unavailable) → Thins g client floor old new result
   thins_none old new {A} result finds cause = record {
-    leaves = runs_of g old new result finds;
+    leaves = runs_of g finds;
     written = λ m₀ m k₀ k works s. (
       k,
       refl,
@@ -191,7 +191,7 @@ module _ {S : Type 0} (g : Ghosts S) (client : List ℕ) (floor : ℕ) where
   -- so does what comes behind it
   pub thins_then : (old mid new : Store S) {A B : Type 0} (a : A) (result : Result B StoreFault) → Thins g client floor old mid (Ok a) → Thins g client floor mid new result → Thins g client floor old new result
   thins_then old mid new a result first next = record {
-    leaves = runs_then g old mid new a result first.leaves next.leaves;
+    leaves = runs_then g first.leaves next.leaves;
     written = λ m₀ m k₀ k works s.
         let one = first.written m₀ m k₀ k works (next.leaves.served s) in
         let two = next.written m₀ m k₀ one.0 (λ _. one.2) s in

@@ -64,8 +64,8 @@ module _ {S : Type 0} (g : Ghosts S) where
   }
 
   -- a reading commits nothing within a work
-  pub runs_of : (old new : Store S) {A : Type 0} (result : Result A StoreFault) → Finds g old new result → Runs g old new result
-  runs_of old new result finds = record {
+  pub runs_of : {old new : Store S} {A : Type 0} {result : Result A StoreFault} → Finds g old new result → Runs g old new result
+  runs_of {old} {new} {A} {result} finds = record {
     served = finds.served;
     clean = finds.clean;
     holds = holds_by (shown g old) (shown g new) finds.served result finds.reads;
@@ -73,8 +73,8 @@ module _ {S : Type 0} (g : Ghosts S) where
   }
 
   -- and so do two changes within a work
-  pub runs_then : (old mid new : Store S) {A B : Type 0} (a : A) (result : Result B StoreFault) → Runs g old mid (Ok a) → Runs g mid new result → Runs g old new result
-  runs_then old mid new a result first next = record {
+  pub runs_then : {old mid new : Store S} {A B : Type 0} {a : A} {result : Result B StoreFault} → Runs g old mid (Ok a) → Runs g mid new result → Runs g old new result
+  runs_then {old} {mid} {new} {A} {B} {a} {result} first next = record {
     served = λ serves. first.served (next.served serves);
     clean = λ clean. first.clean (next.clean clean);
     holds = holds_then (shown g old) (shown g mid) (shown g new) (is_err result) next.served first.holds next.holds;
@@ -118,7 +118,7 @@ module _ {S : Type 0} (g : Ghosts S) where
   }
 
   -- what is refused makes nothing of what the tables mean, and the last commit stands
-  module _ (old new : Store S) {A B : Type 0} (result : Result A StoreFault) (fault : StoreFault) (told : IsErrAnd result (λ e. e ≡ fault)) (refused : Runs g {A = B} old new (Err fault)) where
+  module _ {old new : Store S} {A B : Type 0} (result : Result A StoreFault) {fault : StoreFault} (told : IsErrAnd result (λ e. e ≡ fault)) (refused : Runs g {A = B} old new (Err fault)) where
     runs : Runs g old new result
     runs = runs_err old new fault result told refused
 
@@ -126,41 +126,41 @@ module _ {S : Type 0} (g : Ghosts S) where
     moved m₀ m after k₀ k kept works s = moves_by (shown g old) (shown g new) result m₀ m after k₀ k kept runs.served runs.holds works s
         (λ means inside. never_ok _ result (λ e. e ≡ fault) told)
 
-    pub writes_refused : (f : Queue → Queue) (h : Ledger → Ledger) → fault ≡ Unavailable → Writes g old new result f h
-    writes_refused f h why =
+    pub writes_refused : {f : Queue → Queue} {h : Ledger → Ledger} → fault ≡ Unavailable → Writes g old new result f h
+    writes_refused {f} {h} why =
         let cause = refused_as result fault told why in
         record { leaves = runs; written = λ m₀ m k₀ k works s. step_of (shown g new) result m₀ (f m) k₀ (h k) cause (moved m₀ m (f m) k₀ k (h k) works s); cause = cause }
 
-    pub writes_where_refused : (P : Queue → Type 0) (f : Queue → Queue) (h : Ledger → Ledger) → fault ≡ Unavailable → WritesWhere g old new result P f h
-    writes_where_refused P f h why =
+    pub writes_where_refused : {P : Queue → Type 0} {f : Queue → Queue} {h : Ledger → Ledger} → fault ≡ Unavailable → WritesWhere g old new result P f h
+    writes_where_refused {P} {f} {h} why =
         let cause = refused_as result fault told why in
         record { leaves = runs; written = λ m₀ m k₀ k p works s. step_of (shown g new) result m₀ (f m) k₀ (h k) cause (moved m₀ m (f m) k₀ k (h k) works s); cause = cause }
 
-    pub writes_if_refused : (Fit : Queue → Ledger → Type 0) (f : Queue → Queue) (h : Ledger → Ledger) → IsOnlyUnavailable (shown g old) false (shown g new) result Fit → WritesIf g old new result Fit f h
-    writes_if_refused Fit f h cause = record { leaves = runs; written = λ m₀ m k₀ k works s. moved m₀ m (f m) k₀ k (h k) works s; cause = cause }
+    pub writes_if_refused : {Fit : Queue → Ledger → Type 0} {f : Queue → Queue} {h : Ledger → Ledger} → IsOnlyUnavailable (shown g old) false (shown g new) result Fit → WritesIf g old new result Fit f h
+    writes_if_refused {Fit} {f} {h} cause = record { leaves = runs; written = λ m₀ m k₀ k works s. moved m₀ m (f m) k₀ k (h k) works s; cause = cause }
 
-    pub writes_if_where_refused : (P : Queue → Type 0) (Fit : Queue → Ledger → Type 0) (f : Queue → Queue) (h : Ledger → Ledger) → IsOnlyUnavailable (shown g old) false (shown g new) result Fit → WritesIfWhere g old new result P Fit f h
-    writes_if_where_refused P Fit f h cause = record { leaves = runs; written = λ m₀ m k₀ k p works s. moved m₀ m (f m) k₀ k (h k) works s; cause = cause }
+    pub writes_if_where_refused : {P : Queue → Type 0} {Fit : Queue → Ledger → Type 0} {f : Queue → Queue} {h : Ledger → Ledger} → IsOnlyUnavailable (shown g old) false (shown g new) result Fit → WritesIfWhere g old new result P Fit f h
+    writes_if_where_refused {P} {Fit} {f} {h} cause = record { leaves = runs; written = λ m₀ m k₀ k p works s. moved m₀ m (f m) k₀ k (h k) works s; cause = cause }
 
   -- what is a step of each work is refused only for want of an answer
-  pub writes_if_steps : (old new : Store S) {A : Type 0} (result : Result A StoreFault) (P : Queue → Type 0) (Fit : Queue → Ledger → Type 0)
-      (f : Queue → Queue) (h : Ledger → Ledger) → Runs g old new result → ((m : Queue) (k : Ledger) → Fit m k → P m)
+  pub writes_if_steps : {old new : Store S} {A : Type 0} {result : Result A StoreFault} {P : Queue → Type 0} {Fit : Queue → Ledger → Type 0}
+      {f : Queue → Queue} {h : Ledger → Ledger} → Runs g old new result → ((m : Queue) (k : Ledger) → Fit m k → P m)
       → ((m₀ m : Queue) (k₀ k : Ledger) → P m → Works (shown g old) false m₀ k₀ m k → Serves (shown g new) → Steps (shown g new) result m₀ k₀ (f m) (h k)) → WritesIfWhere g old new result P Fit f h
-  writes_if_steps old new result P Fit f h runs fits steps = record {
+  writes_if_steps {old} {new} {A} {result} {P} {Fit} {f} {h} runs fits steps = record {
     leaves = runs;
     written = λ m₀ m k₀ k p works s. moves_of (shown g new) result m₀ (f m) k₀ (h k) (steps m₀ m k₀ k p works s);
     cause = λ m₀ m k₀ k works s fit. steps_fault (shown g new) result m₀ (f m) k₀ (h k) (steps m₀ m k₀ k (fits m k fit) works s);
   }
 
   -- of whatever queue
-  pub writes_if_any : (old new : Store S) {A : Type 0} (result : Result A StoreFault) (Fit : Queue → Ledger → Type 0) (f : Queue → Queue)
-      (h : Ledger → Ledger) → WritesIfWhere g old new result (λ _. ⊤) Fit f h → WritesIf g old new result Fit f h
-  writes_if_any old new result Fit f h writes = record { leaves = writes.leaves; written = λ m₀ m k₀ k. writes.written m₀ m k₀ k tt; cause = writes.cause }
+  pub writes_if_any : {old new : Store S} {A : Type 0} {result : Result A StoreFault} {Fit : Queue → Ledger → Type 0} {f : Queue → Queue}
+      {h : Ledger → Ledger} → WritesIfWhere g old new result (λ _. ⊤) Fit f h → WritesIf g old new result Fit f h
+  writes_if_any writes = record { leaves = writes.leaves; written = λ m₀ m k₀ k. writes.written m₀ m k₀ k tt; cause = writes.cause }
 
   -- a reading within a work tells of what the work means, and the work goes on
-  pub reads_on : (old new : Store S) {A : Type 0} (x : A) {P : Queue → Ledger → Type 0} → Finds g old new (Ok x) → Answers g old new (Ok x) (λ m k _. P m k)
+  pub reads_on : {old new : Store S} {A : Type 0} {x : A} {P : Queue → Ledger → Type 0} → Finds g old new (Ok x) → Answers g old new (Ok x) (λ m k _. P m k)
       → (m₀ m : Queue) (k₀ k : Ledger) → Works (shown g old) false m₀ k₀ m k → Serves (shown g new) → P m k × IsUnderWay (shown g new) false m₀ k₀ m k
-  reads_on old new x {P} finds answers = goes_on (shown g old) (shown g new) finds.served (Ok x) finds.reads (λ m k _. P m k) answers
+  reads_on {old} {new} {A} {x} {P} finds answers = goes_on (shown g old) (shown g new) finds.served (Ok x) finds.reads (λ m k _. P m k) answers
 
   -- a statement that edits rows of one table makes of what the tables mean what it does to the rows
   module _ (old new : Store S) (result : Result (Unit {0}) StoreFault) (sql : List ℕ) (params : Row) (tree : ℕ) (f : Queue → Queue) (h : Ledger → Ledger) where
@@ -229,7 +229,7 @@ module _ {S : Type 0} (g : Ghosts S) where
     -- and so is a reading
     pub tells_by : new.store.ghost_name ≡ old.store.ghost_name → (P : Queue → Ledger → A → Type 0) → Finds g old.store.now new.store.now result → Answers g old.store.now new.store.now result P → Tells g old new result P
     tells_by same P finds answers = record {
-      leaves = calls_by same (runs_of old.store.now new.store.now result finds);
+      leaves = calls_by same (runs_of finds);
       keeps = rw (on, failed) (keeps_by (within g old) (within g new) finds.served result finds.reads P answers);
       found = rw on (found_in (within g old) (within g new) finds.served result finds.reads P answers);
     }

@@ -178,8 +178,7 @@ module _ (client : List ℕ) (n : ℕ) where
 
   -- so does that of the entry
   asked_for : (r : Row) (e : Entry) → drop 1 r ≡ entry_columns e → IsOf client n e → is_asked r ≡ true
-  asked_for r e h of = ap is_asked (with_id r _ _ h)
-      ∙ rw (of.client_is, of.number_is) (key_passes (column r 0) (Blob e.said) (number e.status) (Blob e.body))
+  asked_for r e h of = ap is_asked (with_id r _ _ h) ∙ rw (of.client_is, of.number_is) (key_passes (column r 0) (Blob e.said) (number e.status) (Blob e.body))
 
   module _ (old new : State) (m : Queue) (k : Ledger) (means : TablesMean old.now m k) where
     -- what the text on a reply finds is an entry of the client and number; where it finds nothing, there is none

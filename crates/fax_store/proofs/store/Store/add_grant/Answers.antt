@@ -12,16 +12,15 @@ use Rattle.fax_store.proofs.store.Store.add_grant.Goals as goal
 
 pub returns : goal.returns
 returns g c =
-    let put = runs_then g.S.Store _ _ _ _ _ (runs_of g.S.Store _ _ _ c.in_ok-meta.ensures.leaves) c.in_ok-insert_grant.ensures.leaves in
-    writes_if_any g.S.Store _ _ c.write_meta.result _ _ _ (writes_if_steps g.S.Store _ _ c.write_meta.result _ _ _ _
-    (runs_then g.S.Store _ _ _ _ _ put c.write_meta.ensures.leaves) (λ m k fit. tt)
+    let put = runs_then g.S.Store (runs_of g.S.Store c.in_ok-meta.ensures.leaves) c.in_ok-insert_grant.ensures.leaves in
+    writes_if_any g.S.Store (writes_if_steps g.S.Store (runs_then g.S.Store put c.write_meta.ensures.leaves) (λ m k fit. tt)
     (λ m₀ m k₀ k _ works s.
     let new = shown g.S.Store c.write_meta.new.self in
     let grant = c.args.grant.now in
     let meta = c.in_ok-meta.meta in
     let at_put = c.write_meta.ensures.leaves.served s in
     let at_read = c.insert_grant.ensures.leaves.served at_put in
-    let first = reads_on g.S.Store _ _ meta c.in_ok-meta.ensures.leaves c.in_ok-meta.ensures.answers m₀ m k₀ k works at_read in
+    let first = reads_on g.S.Store c.in_ok-meta.ensures.leaves c.in_ok-meta.ensures.answers m₀ m k₀ k works at_read in
     let fit : IsOpenGrant grant = search rules in
     let second = c.in_ok-insert_grant.ensures.written m₀ m k₀ k fit (λ _. first.1) at_put in
     let was = (first.1.goes_on refl).means.lawful.meta in
@@ -35,11 +34,7 @@ returns g c =
 
 pub returns-in_err-insert_grant : goal.returns-in_err-insert_grant
 returns-in_err-insert_grant g c =
-    let fault = c.in_err-insert_grant.field-0.0 in
-    let result = c.from_residual-in_err-insert_grant.result in
     let told = c.from_residual-in_err-insert_grant.ensures.1 in
-    writes_if_refused g.S.Store _ _ result fault told (runs_then g.S.Store _ _ _ _ _ (runs_of g.S.Store _ _ _ c.in_ok-meta.ensures.leaves)
-    c.in_err-insert_grant.ensures.leaves) _ _ _
-    (λ m₀ m k₀ k works s fits.
-    let first = reads_on g.S.Store _ _ _ c.in_ok-meta.ensures.leaves c.in_ok-meta.ensures.answers m₀ m k₀ k works (c.insert_grant.ensures.leaves.served s) in
-    refused_as result fault told (c.in_err-insert_grant.ensures.cause m₀ m k₀ k (λ _. first.1) s (fits.0, fits.1, fits.2)))
+    writes_if_refused g.S.Store _ told (runs_then g.S.Store (runs_of g.S.Store c.in_ok-meta.ensures.leaves) c.in_err-insert_grant.ensures.leaves) (λ m₀ m k₀ k works s fits.
+    let first = reads_on g.S.Store c.in_ok-meta.ensures.leaves c.in_ok-meta.ensures.answers m₀ m k₀ k works (c.insert_grant.ensures.leaves.served s) in
+    refused_as c.from_residual-in_err-insert_grant.result c.in_err-insert_grant.field-0.0 told (c.in_err-insert_grant.ensures.cause m₀ m k₀ k (λ _. first.1) s (fits.0, fits.1, fits.2)))

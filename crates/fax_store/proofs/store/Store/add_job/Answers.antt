@@ -11,9 +11,9 @@ use Rattle.fax_store.proofs.store.Store.add_job.Goals as goal
 
 pub returns : goal.returns
 returns g c =
-    let reads = reads_on g.S.Store _ _ c.in_ok-meta.meta c.in_ok-meta.ensures.leaves c.in_ok-meta.ensures.answers in
+    let reads = reads_on g.S.Store c.in_ok-meta.ensures.leaves c.in_ok-meta.ensures.answers in
     record {
-      leaves = runs_then g.S.Store _ _ _ _ _ (runs_of g.S.Store _ _ _ c.in_ok-meta.ensures.leaves) c.add_next_job.ensures.leaves;
+      leaves = runs_then g.S.Store (runs_of g.S.Store c.in_ok-meta.ensures.leaves) c.add_next_job.ensures.leaves;
       written = λ m₀ m k₀ k works s. let first = reads m₀ m k₀ k works (c.add_next_job.ensures.leaves.served s) in
           subst (λ n. Moves (shown g.S.Store c.add_next_job.new.self) c.add_next_job.result m₀ k₀ (with_clock n (with_one_more_job (job_of c.args.job.now) m)) k) (ap (λ (x : Meta). x.clock) first.0)
           (c.add_next_job.ensures.written m₀ m k₀ k first.0 (λ _. first.1) s);

@@ -12,8 +12,7 @@ use Rattle.fax_store.proofs.FrameLemmas.{runs_then, writes_if_steps, writes_if_w
 use Rattle.fax_store.proofs.store.Store.add_next_job.Goals as goal
 
 pub returns : goal.returns
-returns g c = writes_if_steps g.S.Store _ _ c.write_meta.result _ _ _ _
-    (runs_then g.S.Store _ _ _ _ _ c.in_ok-insert_job.ensures.leaves c.write_meta.ensures.leaves) (λ m k fits. fits.0)
+returns g c = writes_if_steps g.S.Store (runs_then g.S.Store c.in_ok-insert_job.ensures.leaves c.write_meta.ensures.leaves) (λ m k fits. fits.0)
     (λ m₀ m k₀ k same works s.
     let new = shown g.S.Store c.write_meta.new.self in
     let j = job_of c.args.job.now in
@@ -31,7 +30,6 @@ returns g c = writes_if_steps g.S.Store _ _ c.write_meta.result _ _ _ _
 
 pub returns-in_err-insert_job : goal.returns-in_err-insert_job
 returns-in_err-insert_job g c =
-    let fault = c.in_err-insert_job.field-0.0 in
-    let result = c.from_residual.result in
     let told = c.from_residual.ensures.1 in
-    writes_if_where_refused g.S.Store _ _ result fault told c.in_err-insert_job.ensures.leaves _ _ _ _ (λ m₀ m k₀ k works s fits. refused_as result fault told (c.in_err-insert_job.ensures.cause m₀ m k₀ k works s fits.1))
+    writes_if_where_refused g.S.Store _ told c.in_err-insert_job.ensures.leaves (λ m₀ m k₀ k works s fits.
+    refused_as c.from_residual.result c.in_err-insert_job.field-0.0 told (c.in_err-insert_job.ensures.cause m₀ m k₀ k works s fits.1))

@@ -18,15 +18,12 @@ run-requires-2 g c = edit_text DELETE_HOLD.now _ tt texts.delete_hold
 
 pub returns-in_err-run : goal.returns-in_err-run
 returns-in_err-run g c =
-    let told = c.from_residual.ensures.1 in
-    writes_where_refused g.S.Store _ _ c.from_residual.result c.in_err-run.field-0.0 told c.in_err-run.ensures.leaves _ _ _ c.in_err-run.ensures.cause
+    writes_where_refused g.S.Store _ c.from_residual.ensures.1 c.in_err-run.ensures.leaves c.in_err-run.ensures.cause
 
 pub returns-in_err-run-2 : goal.returns-in_err-run-2
 returns-in_err-run-2 g c =
-    let fault = c.in_err-run-2.field-0.0 in
-    let result = c.from_residual-in_err-run-2.result in
     let told = c.from_residual-in_err-run-2.ensures.1 in
-    writes_where_refused g.S.Store _ _ result fault told (runs_then g.S.Store _ _ _ _ _ c.in_ok-run.ensures.leaves c.in_err-run-2.ensures.leaves) _ _ _ c.in_err-run-2.ensures.cause
+    writes_where_refused g.S.Store _ told (runs_then g.S.Store c.in_ok-run.ensures.leaves c.in_err-run-2.ensures.leaves) c.in_err-run-2.ensures.cause
 
 pub returns : goal.returns
 returns g c =
@@ -34,8 +31,8 @@ returns g c =
     let params = close_params n in
     let shut_one = edits_with g.S.Store _ _ _ SHUT_GRANT.now _ params (search rules) c.in_ok-run.ensures in
     let freed = edits_with g.S.Store _ _ _ DELETE_HOLD.now _ params (search rules) c.in_ok-run-2.ensures in
-    let before = runs_then g.S.Store _ _ _ _ _ shut_one.leaves freed.leaves in
-    let runs = runs_then g.S.Store _ _ _ _ _ before c.set_calls.ensures.leaves in
+    let before = runs_then g.S.Store shut_one.leaves freed.leaves in
+    let runs = runs_then g.S.Store before c.set_calls.ensures.leaves in
     record {
       leaves = runs;
       written = λ m₀ m k₀ k it works s.

@@ -18,8 +18,7 @@ returns-clause-leaves g c = record {
   goes = λ clean has. let first = set_still _ _ (λ _. 0) (no_calls _ has) (c.in_ok-held.ensures.leaves.reads has.schema_is (c.count_rows.ensures.counts.clean clean)) in
       both_as c.count_rows.result
       (λ set. let whole = set_then _ _ _ (λ _. 0) set.0 first set.1 in
-      (whole.goes_on, record { schema_is = whole.schema_is; sound = whole.sound; rows = whole.rows }))
-      (λ kept. commit_kept _ _ _ first.goes_on kept)
+      (whole.goes_on, record { schema_is = whole.schema_is; sound = whole.sound; rows = whole.rows })) (λ kept. commit_kept _ _ _ first.goes_on kept)
       (c.count_rows.ensures.counts.set (λ _. 0) (has_calls _ _ (λ _. 0) first) none_small clean);
   crash = search rules;
   clean = search rules;

@@ -6,7 +6,7 @@ use Rattle.fax_store.proofs.store.Store.drop_replies.Goals as goal
 
 pub returns : goal.returns
 returns g c = record {
-  leaves = runs_then g.S.Store c.args.self.now c.drop_hundreds.new.self c.drop_through.new.self c.in_ok-drop_hundreds.field-0 c.drop_through.result c.in_ok-drop_hundreds.ensures.thins.leaves c.drop_through.ensures.leaves;
+  leaves = runs_then g.S.Store c.in_ok-drop_hundreds.ensures.thins.leaves c.drop_through.ensures.leaves;
   written = λ m₀ m k₀ k works s. let first = c.in_ok-drop_hundreds.ensures.thins.written m₀ m k₀ k works (c.drop_through.ensures.leaves.served s) in
       subst (λ kept. Steps (shown g.S.Store c.drop_through.new.self) c.drop_through.result m₀ k₀ m kept) first.1 (c.drop_through.ensures.written m₀ m k₀ first.0 (λ _. first.2) s);
   cause = search rules;

@@ -20,13 +20,13 @@ returns-in_default-clause-written g c m₀ m k₀ k works s held =
 
 pub returns-clause-leaves : goal.returns-clause-leaves
 returns-clause-leaves g c =
-    runs_then g.S.Store _ _ _ _ _ (runs_then g.S.Store _ _ _ _ _ (runs_of g.S.Store _ _ _ c.in_ok-job.ensures.leaves) (runs_of g.S.Store _ _ _ c.in_ok-calls.ensures.leaves)) c.close_open.ensures.leaves
+    runs_then g.S.Store (runs_then g.S.Store (runs_of g.S.Store c.in_ok-job.ensures.leaves) (runs_of g.S.Store c.in_ok-calls.ensures.leaves)) c.close_open.ensures.leaves
 
 pub returns-clause-written : goal.returns-clause-written
 returns-clause-written g c m₀ m k₀ k works s held =
     let at_then = c.close_open.ensures.leaves.served s in
-    let first = reads_on g.S.Store _ _ _ c.in_ok-job.ensures.leaves c.in_ok-job.ensures.answers m₀ m k₀ k works (c.read_calls.ensures.leaves.served at_then) in
-    let second = reads_on g.S.Store _ _ _ c.in_ok-calls.ensures.leaves c.in_ok-calls.ensures.answers m₀ m k₀ k (λ _. first.1) at_then in
+    let first = reads_on g.S.Store c.in_ok-job.ensures.leaves c.in_ok-job.ensures.answers m₀ m k₀ k works (c.read_calls.ensures.leaves.served at_then) in
+    let second = reads_on g.S.Store c.in_ok-calls.ensures.leaves c.in_ok-calls.ensures.answers m₀ m k₀ k (λ _. first.1) at_then in
     let it = there_as fields_of (job_numbered c.args.job m) c.in-Some.job (sym c.in-Some.is ∙ first.0) in
     let dial : c.in-Some.job.dial ≡ it.0.dial = ap (λ (f : JobFields). f.dial) it.2 in
     let of_first : c.fields.result.now.dial ≡ c.in-Some.job.dial = ap (λ (f : JobFields). f.dial) c.fields.ensures.fields in
@@ -37,6 +37,6 @@ returns-clause-written g c m₀ m k₀ k works s held =
 pub returns-in_err-calls-clause-written : goal.returns-in_err-calls-clause-written
 returns-in_err-calls-clause-written g c m₀ m k₀ k works s held =
     let calls = c.in_err-calls.ensures in
-    let first = reads_on g.S.Store _ _ _ c.in_ok-job.ensures.leaves c.in_ok-job.ensures.answers m₀ m k₀ k works (calls.leaves.served s) in
+    let first = reads_on g.S.Store c.in_ok-job.ensures.leaves c.in_ok-job.ensures.answers m₀ m k₀ k works (calls.leaves.served s) in
     let second = goes_on _ _ calls.leaves.served (Err c.in_err-calls.field-0.0) calls.leaves.reads (λ m k calls. calls ≡ calls_to c.fields.result.now.dial m) calls.answers m₀ m k₀ k (λ _. first.1) s in
     refused_steps _ c.from_residual-in_err-calls.result c.in_err-calls.field-0.0 m₀ (with_closed c.args.number m) k₀ k c.from_residual-in_err-calls.ensures.1 second

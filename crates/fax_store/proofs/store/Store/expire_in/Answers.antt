@@ -12,8 +12,9 @@ returns-then-branch g c =
     let params = expired_params c.args.phase c.args.t in
     let edits = edits_with g.S.Store _ _ _ EXPIRE_JOBS.now _ params (search rules) c.run.ensures in
     record {
-      leaves = runs_then g.S.Store _ _ _ _ _ (runs_of g.S.Store _ _ _ c.in_ok-has_expired.ensures.leaves) c.run.ensures.leaves;
-      written = λ m₀ m k₀ k works s. let first = reads_on g.S.Store _ _ _ c.in_ok-has_expired.ensures.leaves c.in_ok-has_expired.ensures.answers m₀ m k₀ k works (c.run.ensures.leaves.served s) in
+      leaves = runs_then g.S.Store (runs_of g.S.Store c.in_ok-has_expired.ensures.leaves) c.run.ensures.leaves;
+      written = λ m₀ m k₀ k works s.
+          let first = reads_on g.S.Store c.in_ok-has_expired.ensures.leaves c.in_ok-has_expired.ensures.answers m₀ m k₀ k works (c.run.ensures.leaves.served s) in
           (writes_by g.S.Store _ _ _ EXPIRE_JOBS.now params 0 (with_expired_in c.args.phase c.args.t) (λ k. k) edits
           (λ m k means has. jobs_expired c.args.phase c.args.t _ _ m k means has)).written m₀ m k₀ k (λ _. first.1) s;
       cause = c.run.ensures.cause;
@@ -22,7 +23,7 @@ returns-then-branch g c =
 pub returns : goal.returns
 returns g c = record {
   leaves = search rules;
-  written = λ m₀ m k₀ k works s. let first = reads_on g.S.Store _ _ _ c.in_ok-has_expired.ensures.leaves c.in_ok-has_expired.ensures.answers m₀ m k₀ k works s in
+  written = λ m₀ m k₀ k works s. let first = reads_on g.S.Store c.in_ok-has_expired.ensures.leaves c.in_ok-has_expired.ensures.answers m₀ m k₀ k works s in
       rw (first.0 c.if-branch.false) first.1;
   cause = search rules;
 }

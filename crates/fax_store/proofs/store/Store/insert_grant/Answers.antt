@@ -23,7 +23,7 @@ returns-in_default-checked_add g c = record {
   leaves = search rules;
   written = search rules;
   cause = λ m₀ m k₀ k works s fit. let means = ((works (c.job.ensures.leaves.served (c.read_calls.ensures.leaves.served s))).goes_on refl).means in
-      let first = reads_on g.S.Store _ _ _ c.in_ok-job.ensures.leaves c.in_ok-job.ensures.answers m₀ m k₀ k works (c.read_calls.ensures.leaves.served s) in
+      let first = reads_on g.S.Store c.in_ok-job.ensures.leaves c.in_ok-job.ensures.answers m₀ m k₀ k works (c.read_calls.ensures.leaves.served s) in
       let counted = c.in_ok-calls.ensures.answers m k (λ _. (first.1.goes_on refl).means) s in
       let low : c.in_ok-calls.calls + 1 < 4294967296 = omega (arith, counted, calls_few _ m k means c.fields.result.now.dial) in
       absurd (c.in_default-checked_add.ensures low);
@@ -31,10 +31,10 @@ returns-in_default-checked_add g c = record {
 
 pub returns : goal.returns
 returns g c =
-    let read_job = reads_on g.S.Store _ _ c.in_ok-job.field-0 c.in_ok-job.ensures.leaves c.in_ok-job.ensures.answers in
-    let read_calls = reads_on g.S.Store _ _ c.in_ok-calls.calls c.in_ok-calls.ensures.leaves c.in_ok-calls.ensures.answers in
+    let read_job = reads_on g.S.Store c.in_ok-job.ensures.leaves c.in_ok-job.ensures.answers in
+    let read_calls = reads_on g.S.Store c.in_ok-calls.ensures.leaves c.in_ok-calls.ensures.answers in
     record {
-      leaves = runs_then g.S.Store _ _ _ _ _ (runs_then g.S.Store _ _ _ _ _ (runs_of g.S.Store _ _ _ c.in_ok-job.ensures.leaves) (runs_of g.S.Store _ _ _ c.in_ok-calls.ensures.leaves)) c.place_grant.ensures.leaves;
+      leaves = runs_then g.S.Store (runs_then g.S.Store (runs_of g.S.Store c.in_ok-job.ensures.leaves) (runs_of g.S.Store c.in_ok-calls.ensures.leaves)) c.place_grant.ensures.leaves;
       written = λ m₀ m k₀ k fit works s. let at_then = c.place_grant.ensures.leaves.served s in
           let first = read_job m₀ m k₀ k works (c.read_calls.ensures.leaves.served at_then) in
           let second = read_calls m₀ m k₀ k (λ _. first.1) at_then in
@@ -53,6 +53,6 @@ pub returns-in_err-calls : goal.returns-in_err-calls
 returns-in_err-calls g c = record {
   leaves = search rules;
   written = search rules;
-  cause = λ m₀ m k₀ k works s fit. let first = reads_on g.S.Store _ _ _ c.in_ok-job.ensures.leaves c.in_ok-job.ensures.answers m₀ m k₀ k works (c.read_calls.ensures.leaves.served s) in
+  cause = λ m₀ m k₀ k works s fit. let first = reads_on g.S.Store c.in_ok-job.ensures.leaves c.in_ok-job.ensures.answers m₀ m k₀ k works (c.read_calls.ensures.leaves.served s) in
       refused_as c.from_residual-in_err-calls.result c.in_err-calls.field-0.0 c.from_residual-in_err-calls.ensures.1 (c.in_err-calls.ensures.answers m k (λ _. (first.1.goes_on refl).means) s);
 }

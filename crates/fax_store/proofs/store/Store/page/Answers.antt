@@ -9,8 +9,7 @@ use Rattle.fax_store.proofs.store.Store.page.Goals as goal
 pub returns-in-First : goal.returns-in-First
 returns-in-First g c =
     answers_page g.S.Store c.args.asked.now c.args.most _ _ _ SELECT_FIRST.now _ (params c.args.asked.now c.args.most [] other_tests) First _ c.in-First.is
-    (search rules) c.show.ensures
-    (λ m k means rows h. first_found c.args.asked.now c.args.most _ _ m k means rows h)
+    (search rules) c.show.ensures (λ m k means rows h. first_found c.args.asked.now c.args.most _ _ m k means rows h)
 
 pub returns-in-Number : goal.returns-in-Number
 returns-in-Number g c =
@@ -30,8 +29,7 @@ pub returns-in-Priority : goal.returns-in-Priority
 returns-in-Priority g c =
     answers_page g.S.Store c.args.asked.now c.args.most _ _ _ SELECT_BEHIND_PRIORITY.now _
     (params c.args.asked.now c.args.most (number c.in-Priority.priority ∷ []) priority_tests) (Priority c.in-Priority.priority) _ c.in-Priority.is
-    (search rules) c.show-in-Priority.ensures
-    (λ m k means rows h. priority_found c.args.asked.now c.args.most _ _ m k means rows c.in-Priority.priority h)
+    (search rules) c.show-in-Priority.ensures (λ m k means rows h. priority_found c.args.asked.now c.args.most _ _ m k means rows c.in-Priority.priority h)
 
 pub show-requires : goal.show-requires
 show-requires g c = select_first.plain

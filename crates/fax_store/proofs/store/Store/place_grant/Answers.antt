@@ -19,36 +19,32 @@ insert-requires-2 g c = edit_text INSERT_GRANT.now _ tt texts.insert_grant
 
 pub returns-in_err-insert : goal.returns-in_err-insert
 returns-in_err-insert g c =
-    let fault = c.in_err-insert.field-0.0 in
-    let result = c.from_residual.result in
     let told = c.from_residual.ensures.1 in
     let grant = c.args.grant.now in
     let put = inserts_with g.S.Store _ _ _ INSERT_HOLD.now _ (hold_params grant) (search rules) c.in_err-insert.ensures in
-    writes_if_where_refused g.S.Store _ _ result fault told put.leaves _ _ _ _ (λ m₀ m k₀ k works s fit.
+    writes_if_where_refused g.S.Store _ told put.leaves (λ m₀ m k₀ k works s fit.
     let why = put.told s.clean in
-    refused_as result fault told (why.2 ∙ hold_goes grant _ _ m k ((works (put.leaves.served s)).goes_on refl).means fit.1 why.0 why.1))
+    refused_as c.from_residual.result c.in_err-insert.field-0.0 told (why.2 ∙ hold_goes grant _ _ m k ((works (put.leaves.served s)).goes_on refl).means fit.1 why.0 why.1))
 
 pub returns-in_err-insert-2 : goal.returns-in_err-insert-2
 returns-in_err-insert-2 g c =
-    let fault = c.in_err-insert-2.field-0.0 in
-    let result = c.from_residual-in_err-insert-2.result in
     let told = c.from_residual-in_err-insert-2.ensures.1 in
     let grant = c.args.grant.now in
     let put_hold = inserts_with g.S.Store _ _ _ INSERT_HOLD.now _ (hold_params grant) (search rules) c.in_ok-insert.ensures in
     let put = inserts_with g.S.Store _ _ _ INSERT_GRANT.now _ (grant_params grant) (search rules) c.in_err-insert-2.ensures in
-    writes_if_where_refused g.S.Store _ _ result fault told (runs_then g.S.Store _ _ _ _ _ put_hold.leaves put.leaves) _ _ _ _ (λ m₀ m k₀ k works s fit.
+    writes_if_where_refused g.S.Store _ told (runs_then g.S.Store put_hold.leaves put.leaves) (λ m₀ m k₀ k works s fit.
     let at_mid = put.leaves.served s in
     let why = put.told s.clean in
-    refused_as result fault told (why.2 ∙ grant_goes grant _ _ m k ((works (put_hold.leaves.served at_mid)).goes_on refl).means _ fit.0.is_open fit.1
-    (put_hold.ran at_mid.clean) why.0 why.1))
+    refused_as c.from_residual-in_err-insert-2.result c.in_err-insert-2.field-0.0 told
+    (why.2 ∙ grant_goes grant _ _ m k ((works (put_hold.leaves.served at_mid)).goes_on refl).means _ fit.0.is_open fit.1 (put_hold.ran at_mid.clean) why.0 why.1))
 
 pub returns : goal.returns
 returns g c =
     let grant = c.args.grant.now in
     let put_hold = inserts_with g.S.Store _ _ _ INSERT_HOLD.now _ (hold_params grant) (search rules) c.in_ok-insert.ensures in
     let put = inserts_with g.S.Store _ _ _ INSERT_GRANT.now _ (grant_params grant) (search rules) c.in_ok-insert-2.ensures in
-    let before = runs_then g.S.Store _ _ _ _ _ put_hold.leaves put.leaves in
-    let runs = runs_then g.S.Store _ _ _ _ _ before c.set_calls.ensures.leaves in
+    let before = runs_then g.S.Store put_hold.leaves put.leaves in
+    let runs = runs_then g.S.Store before c.set_calls.ensures.leaves in
     let modem : IsName grant.modem = search rules in
     record {
       leaves = runs;

@@ -5,7 +5,7 @@ use Rattle.fax_store.proofs.store.Store.put_floor.Goals as goal
 
 pub returns : goal.returns
 returns g c = record {
-  leaves = runs_then g.S.Store c.args.self.now c.drop_replies.new.self c.write_floor.new.self _ _ c.in_ok-drop_replies.ensures.leaves c.write_floor.ensures.leaves;
+  leaves = runs_then g.S.Store c.in_ok-drop_replies.ensures.leaves c.write_floor.ensures.leaves;
   written = λ m₀ m k₀ k name works s. let first = c.in_ok-drop_replies.ensures.written m₀ m k₀ k works (c.write_floor.ensures.leaves.served s) in
       c.write_floor.ensures.written m₀ m k₀ (without_replies c.args.client.now c.args.floor k) name (λ _. first) s;
   cause = search rules;

@@ -9,11 +9,11 @@ use Rattle.fax_store.proofs.store.Store.raise_floor.Goals as goal
 
 pub returns : goal.returns
 returns g c = record {
-  leaves = runs_then g.S.Store _ _ _ _ _ (runs_of g.S.Store _ _ _ c.in_ok-floor.ensures.leaves) c.put_floor.ensures.leaves;
+  leaves = runs_then g.S.Store (runs_of g.S.Store c.in_ok-floor.ensures.leaves) c.put_floor.ensures.leaves;
   written = λ m₀ m k₀ k works s. let new = shown g.S.Store c.put_floor.new.self in
       let client = c.args.client.now in
       let name : IsName client = search rules in
-      let first = reads_on g.S.Store _ _ _ c.in_ok-floor.ensures.leaves c.in_ok-floor.ensures.answers m₀ m k₀ k works (c.put_floor.ensures.leaves.served s) in
+      let first = reads_on g.S.Store c.in_ok-floor.ensures.leaves c.in_ok-floor.ensures.answers m₀ m k₀ k works (c.put_floor.ensures.leaves.served s) in
       let raised : c.get.result ≡ greater (k.floor client) c.args.upto = c.get.ensures.number ∙ c.at_least.ensures ∙ ap (λ f. greater f c.args.upto) first.0 in
       moves_of new c.put_floor.result m₀ m k₀ _ (subst (λ f. Steps new c.put_floor.result m₀ k₀ m (with_floor client f k)) raised (c.put_floor.ensures.written m₀ m k₀ k name (λ _. first.1) s));
   cause = search rules;

@@ -26,7 +26,7 @@ returns-then-calls-eq0-clause-set g c count was clean =
     rw none (calls_gone dial count _ _ was ((edits_with g.S.Store _ _ _ DELETE_CALLS.now _ (params dial) (search rules) c.in_ok-run.ensures).ran clean))
 
 pub returns-clause-leaves : goal.returns-clause-leaves
-returns-clause-leaves g c = runs_then g.S.Store _ _ _ _ _ c.in_ok-run.ensures.leaves c.run-2.ensures.leaves
+returns-clause-leaves g c = runs_then g.S.Store c.in_ok-run.ensures.leaves c.run-2.ensures.leaves
 
 pub returns-clause-set : goal.returns-clause-set
 returns-clause-set g c count was clean =

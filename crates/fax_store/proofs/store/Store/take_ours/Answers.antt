@@ -20,8 +20,7 @@ returns-in_err-renew g c =
     let begun : HasBegun AreOurs _ _ = has_begun c.in_ok-execute.field-0 c.requires c.execute.ensures.survives c.in_ok-execute.ensures.runs in
     let renews = c.in_err-renew.ensures.leaves in
     takes_refused _ _ _ _ _ c.from_residual-in_err-renew.result c.from_residual-in_err-renew.ensures.0 (λ clean. clean_in begun.survives (renews.clean clean))
-    (renewing_kept _ _ _ begun _ renews)
-    (renewing_holds_back _ _ _ begun _ renews) (search rules)
+    (renewing_kept _ _ _ begun _ renews) (renewing_holds_back _ _ _ begun _ renews) (search rules)
 
 pub returns-in_err-fill : goal.returns-in_err-fill
 returns-in_err-fill g c =
@@ -35,8 +34,7 @@ returns-in_err-fill g c =
     (filling_kept _ _ _ begun renews _ version _ _ fills) (filling_holds_back _ _ _ begun renews _ version _ _ fills)
     (λ clean is ours. let at = fills.clean clean in
     c.in_err-fill.ensures.strange clean (told_strange result c.in_err-fill.field-0.0 told.1 is) (has_none _ _ _ begun renews _ version at)
-    (still_version _ _ _ begun renews _ version at ours.version)
-    (still_callable _ _ _ begun renews _ version at ours.held))
+    (still_version _ _ _ begun renews _ version at ours.version) (still_callable _ _ _ begun renews _ version at ours.held))
 
 pub returns-in_err-execute-2 : goal.returns-in_err-execute-2
 returns-in_err-execute-2 g c =

@@ -17,7 +17,7 @@ run-requires-2 g c = edit_text INSERT_FLOOR.now _ tt texts.insert_floor
 
 pub returns : goal.returns
 returns g c = record {
-  leaves = runs_then g.S.Store _ _ _ _ _ c.in_ok-run.ensures.leaves c.run-2.ensures.leaves;
+  leaves = runs_then g.S.Store c.in_ok-run.ensures.leaves c.run-2.ensures.leaves;
   written = λ m₀ m k₀ k name works s. let client = c.args.client.now in
       let floor = c.args.floor in
       let gone = edits_with g.S.Store _ _ _ DELETE_FLOOR.now _ (params client) (search rules) c.in_ok-run.ensures in
@@ -32,5 +32,4 @@ returns g c = record {
 
 pub returns-in_err-run : goal.returns-in_err-run
 returns-in_err-run g c =
-    writes_where_refused g.S.Store _ _ c.from_residual.result c.in_err-run.field-0.0 c.from_residual.ensures.1 c.in_err-run.ensures.leaves _ _ _
-    c.in_err-run.ensures.cause
+    writes_where_refused g.S.Store _ c.from_residual.ensures.1 c.in_err-run.ensures.leaves c.in_err-run.ensures.cause
