@@ -12,7 +12,7 @@ use Rattle.sqlite.specs.Rowids.TheVariants.{Chosen}
 use Rattle.sqlite.specs.State.{State}
 use Rattle.sqlite.specs.declared.types.Value.TheVariants.{Null, Int, Text}
 use Rattle.sqlite.proofs.Callers.{runs_as}
-use Rattle.fax_core.specs.Ledger.{Ledger, floors_with, is_through, without_replies}
+use Rattle.fax_core.specs.Ledger.{Ledger, floors_with, is_through, without_replies, IsLawfulEntry}
 use Rattle.fax_core.specs.Queue.{Queue, Entry, open_grants}
 use Rattle.fax_value.specs.Name.{IsName}
 use Rattle.fax_schema.specs.declared.statements.TheConstants.{DELETE_FLOOR, DELETE_REPLIES, INSERT_FLOOR, SELECT_FLOOR}

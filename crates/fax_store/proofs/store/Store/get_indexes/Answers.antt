@@ -8,4 +8,4 @@ use Rattle.fax_store.proofs.store.Store.get_indexes.Goals as goal
 pub returns : goal.returns
 returns g c =
     leaves_then _ _ _ (Has without_calls) AreStores (λ schema. schema ≡ core_tables) _ _
-    c.in_ok-get_floors.ensures c.make_indexes.ensures
+    c.in_ok-get_second_tables.ensures c.make_indexes.ensures
