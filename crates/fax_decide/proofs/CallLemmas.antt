@@ -25,7 +25,8 @@ calls_aged dial t m = sym (calls_mapped (aged_job t) m (aged_number t) dial (λ 
 -- nor does a change of a job to the same number, which keeps its own
 pub calls_changed : (dial : List ℕ) (m : Queue) (j k : Job) → job_numbered j.number m ≡ Some k → j.dial ≡ k.dial → calls_to dial (with_job j m) ≡ calls_to dial m
 calls_changed dial m j k is same =
-    sym (same_calls dial m (with_job j m).jobs (λ g has. ap (is_of_number dial) (find_placed (λ (x : Job). x.number) g.job j m.jobs) ∙ by g.job (job_numbered g.job m) refl))
+    sym (same_calls dial m (with_job j m).jobs (λ g has. ap (is_of_number dial) (find_placed (λ (x : Job). x.number) g.job j m.jobs)
+    ∙ by g.job (job_numbered g.job m) refl))
   where
     by : (a : ℕ) (o : Option Job) → job_numbered a m ≡ o → is_of_number dial (option_map (in_place (λ (x : Job). x.number) j) o) ≡ is_of_number dial o
     by a None of = refl
@@ -82,13 +83,7 @@ one_less of k g a (h ∷ gs) is found shut open' counts =
           (rw off (omega (arith, left, right, tail)))
     ]
 
--- of the calls to a number, one is over
-pub calls_closed : (dial : List ℕ) (m : Queue) (g : Grant) (j : Job) → map (λ h. h.number) m.grants ≡ range_with_len 1 (length m.grants) → grant_numbered g.number m ≡ Some g → g.is_open ≡ true
-    → job_numbered g.job m ≡ Some j → bytes_eq j.dial dial ≡ true → calls_to dial (with_grant (record g { is_open = false }) m) + 1 ≡ calls_to dial m
-calls_closed dial m g j numbered there open' job_there same =
-    one_less (λ (h : Grant). is_of_number dial (job_numbered h.job m)) (record g { is_open = false }) g 1 m.grants numbered there refl open' (ap (is_of_number dial) job_there ∙ same)
-
--- the state of a job whose grant is closed
+-- the state of a job whose grant is closed: of the calls to its number, one is over
 pub state_ended : (s : Settings) (m : Queue) (t : ℕ) (j k : Job) (g : Grant) → Sound m → job_numbered j.number (aged t m) ≡ Some k → j.dial ≡ k.dial
     → g.job ≡ j.number → grant_numbered g.number m ≡ Some g → g.is_open ≡ true
     → state s (with_grant (record g { is_open = false }) (with_job j (aged t m))) t j ≡ state_with s j (calls_to j.dial m - 1) t
@@ -99,7 +94,10 @@ state_ended s m t j k g sound is same of there open' =
     placed' = subst (λ (n : ℕ). job_numbered n (with_job j (aged t m)) ≡ Some j) (sym of) (placed_here (λ (x : Job). x.number) j.number j k (aged t m).jobs is refl)
 
     less : calls_to j.dial (with_grant (record g { is_open = false }) (with_job j (aged t m))) + 1 ≡ calls_to j.dial (with_job j (aged t m))
-    less = calls_closed j.dial (with_job j (aged t m)) g j sound.grants there open' placed' ((bytes_decides j.dial j.dial).1 refl)
+    less =
+        one_less (λ (h : Grant). is_of_number j.dial (job_numbered h.job (with_job j (aged t m))))
+        (record g { is_open = false }) g 1 m.grants sound.grants there refl open'
+        (ap (is_of_number j.dial) placed' ∙ (bytes_decides j.dial j.dial).1 refl)
 
     before : calls_to j.dial (with_job j (aged t m)) ≡ calls_to j.dial m
     before = calls_changed j.dial (aged t m) j k is same ∙ calls_aged j.dial t m

@@ -57,7 +57,8 @@ due_stays j t e = cond-false (expires j.phase && is_past j.killtime t) (expired 
 -- a job that is due after ageing was so before
 due_was : (k : Job) (t : ℕ) → is_due (aged_job t k) t ≡ true → aged_job t k ≡ k
 due_was k t =
-    cond_both (expires k.phase && is_past k.killtime t) (expired k) k (λ x. is_due x t ≡ true → x ≡ k) (λ is e. absurd (let no = (due_parts (expired k) t e).0 in cc)) (λ is e. refl)
+    cond_both (expires k.phase && is_past k.killtime t) (expired k) k (λ x. is_due x t ≡ true → x ≡ k)
+    (λ is e. absurd (let no = (due_parts (expired k) t e).0 in cc)) (λ is e. refl)
 
 module _ (m : Queue) (t : ℕ) (jobs : List Job) (w : AreWaiting t m jobs) where
   -- each that waits is in the queue, and due
@@ -195,10 +196,11 @@ ready_in Waiting j hours calls limit t waits past tts next =
 ready_in phase j hours calls limit t waits past tts next = absurd cc
 
 -- so it may go where its modem value admits the modem, too
-goes_due : (s : Settings) (m : Queue) (t : ℕ) (modem : List ℕ) (j : Job) → is_due j t ≡ true → may_go s m t modem j ≡ (may_call s j.dial (calls_to j.dial m) t && s.admits j.modem modem)
+goes_due : (s : Settings) (m : Queue) (t : ℕ) (modem : List ℕ) (j : Job) → is_due j t ≡ true
+    → may_go s m t modem j ≡ (may_call s j.dial (calls_to j.dial m) t && s.admits j.modem modem)
 goes_due s m t modem j due =
-    let parts = due_parts j t due in
-    ap (λ b. b && s.admits j.modem modem) (ready_in j.phase j ((s.rule j.dial).hours t) (calls_to j.dial m) (s.rule j.dial).calls t parts.0 parts.1 parts.2 parts.3)
+    let its = due_parts j t due in
+    ap (λ b. b && s.admits j.modem modem) (ready_in j.phase j ((s.rule j.dial).hours t) (calls_to j.dial m) (s.rule j.dial).calls t its.0 its.1 its.2 its.3)
 
 -- ---- a look at the candidates
 
@@ -229,8 +231,10 @@ module _ (s : Settings) (m : Queue) (modem : List ℕ) (asked : Asked) where
     pub counted : length given ≡ count
 
   -- what the next step tells
-  pub next_given : {now : Asked} {count : ℕ} {page : List Row} {front : Front} {most : ℕ} (after : List Row) (then : Front) (more : ℕ) {found next : Option Prospect} → now ≡ asked → found ≡ next
-      → NoneWent count page front most → ((given : List Job) → StandsAt now m given page front most → Gives IsProspect now m given after then more found) → NextIs count after then more next
+  pub next_given : {now : Asked} {count : ℕ} {page : List Row} {front : Front} {most : ℕ} (after : List Row) (then : Front)
+      (more : ℕ) {found next : Option Prospect} → now ≡ asked → found ≡ next
+      → NoneWent count page front most → ((given : List Job) → StandsAt now m given page front most → Gives IsProspect now m given after then more found)
+      → NextIs count after then more next
   next_given {now} {count} {page} {front} {most} after then more {found} {next} same is went says = record {
     given = went.given;
     gives = subst (Gives IsProspect asked m went.given after then more) is
@@ -269,7 +273,8 @@ module _ (s : Settings) (m : Queue) (modem : List ℕ) (asked : Asked) where
       next.gives.2.all,
       next.gives.2.waiting,
       ap (λ (p : Prospect). Some p.job) next.gives.1
-          ∙ ap (option_map number_of) (sym (ap (find going) amid ∙ found_behind going next.given (job ∷ rest) next.none ∙ ap (λ b. cond b (Some job) (find going rest)) (passes ∙ goes_is))),
+          ∙ ap (option_map number_of) (sym (ap (find going) amid ∙ found_behind going next.given (job ∷ rest) next.none
+          ∙ ap (λ b. cond b (Some job) (find going rest)) (passes ∙ goes_is))),
     )
 
     -- where it may not, none of one more may
@@ -318,10 +323,12 @@ busy_stays s m t modem (Some dial) j busy due to =
     goes_due s m t modem j due ∙ ap (λ b. b && s.admits j.modem modem) (ap (λ (d : List ℕ). may_call s d (calls_to d m) t) same ∙ busy)
 
 -- so the first of those that are asked for is the first of all
-pub first_known : (s : Settings) (m : Queue) (t : ℕ) (modem : List ℕ) (asked : Asked) (found : Option ℕ) → asked.t ≡ t → IsBusy s m t asked.but → IsFirstAsked s asked m modem found → IsFirst s m t modem found
+pub first_known : (s : Settings) (m : Queue) (t : ℕ) (modem : List ℕ) (asked : Asked) (found : Option ℕ) → asked.t ≡ t → IsBusy s m t asked.but
+    → IsFirstAsked s asked m modem found → IsFirst s m t modem found
 first_known s m t modem asked found same but first =
     let w = first.1 in
     let p = may_go s m asked.t modem in
     let busy = subst (λ (x : ℕ). IsBusy s m x asked.but) (sym same) but in
-    let others = find_others p (is_other asked.but) w.all (λ j has to. busy_stays s m asked.t modem asked.but j busy (waiting_due m asked.t w.all w.waiting j has).1 to) in
+    let others = find_others p (is_other asked.but) w.all
+    (λ j has to. busy_stays s m asked.t modem asked.but j busy (waiting_due m asked.t w.all w.waiting j has).1 to) in
     subst (λ (x : ℕ). IsFirst s m x modem found) same (w.all, w.waiting, first.2 ∙ ap (option_map number_of) (ap (find p) w.is ∙ others))

@@ -12,9 +12,9 @@ use Rattle.fax_core.specs.Machine.{keys_of_job, reported}
 use Rattle.fax_core.specs.Queue.{Queue}
 use Rattle.fax_core.specs.Reply as machine
 use Rattle.fax_core.specs.Reply.{Step}
-use Rattle.fax_decide.specs.Decision.{Decides, IsRefused, IsTaken}
+use Rattle.fax_decide.specs.Decision.{IsRefused, IsTaken}
 use Rattle.fax_decide.specs.declared.decision.Decision.{Decision}
-use Rattle.fax_decide.specs.declared.decision.Decision.TheVariants.{Refused, Taken}
+use Rattle.fax_decide.specs.declared.decision.Decision.TheVariants.{Taken}
 use Rattle.fax_decide.specs.declared.effect.Effect.TheVariants.{Nothing}
 use Rattle.fax_decide.specs.declared.effect.Effect.{Effect}
 use Rattle.fax_decide.specs.declared.fault.Fault.{Fault}
@@ -27,16 +27,14 @@ taken_or effect P Q (Ok r) result is told holds = subst (λ d. OrNoAnswer d Q) (
 taken_or effect P Q (Err e) result is why holds = subst (λ d. OrNoAnswer d Q) (sym is) why
 
 -- what leaves the aged queue is taken, and told
-pub nothing_taken : (m : Queue) (t : ℕ) (told : machine.Reply) (reply : Response) → reply ≡ accepted_response (Replied told) → IsTaken (machine.Taken (aged t m) told) m t Nothing reply
+pub nothing_taken : (m : Queue) (t : ℕ) (told : machine.Reply) (reply : Response) → reply ≡ accepted_response (Replied told)
+    → IsTaken (machine.Taken (aged t m) told) m t Nothing reply
 nothing_taken m t told reply replied = record { suits = _; within = tt; told = told; taken = refl; replied = replied }
 
 -- what the machine refuses is refused, and told with its keys
-pub refused_as : {step : Step} {e : Refusal} {keys : machine.Keys} {reply : Response} → step ≡ machine.Refused e keys → reply ≡ refused_response e keys → IsRefused step reply
+pub refused_as : {step : Step} {e : Refusal} {keys : machine.Keys} {reply : Response} → step ≡ machine.Refused e keys → reply ≡ refused_response e keys
+    → IsRefused step reply
 refused_as {step} {e} {keys} refused replied = record { refusal = e; keys = keys; refused = refused; replied = replied }
-
--- so a decision that is this refusal
-pub refusal_decided : (e : Refusal) (keys : machine.Keys) (m : Queue) (t : ℕ) (d : Decision) → d ≡ Refused (refused_response e keys) → Decides (machine.Refused e keys) m t d
-refusal_decided e keys m t d is = subst (Decides (machine.Refused e keys) m t) (sym is) (refused_as refl refl)
 
 -- where no more is told of a refusal, no keys of the job are
 pub plain_keys : (e : Refusal) (j : Job) → has_detail e ≡ false → keys_of_job e j ≡ machine.NoKeys
@@ -46,4 +44,5 @@ plain_keys e j is = refl
 -- a report is refused, and no more is told of it
 pub report_refused : (n : Queue) (reply_to : Queue → JobAndGrant → machine.Reply) (j : Job) (r : Result JobAndGrant Refusal) (e : Refusal) (reply : Response)
     → has_detail e ≡ false → reply ≡ refused_response e machine.NoKeys → Err e ≡ r → IsRefused (reported n reply_to j r) reply
-report_refused n reply_to j r e reply alone same refused = refused_as (ap (reported n reply_to j) (sym refused) ∙ ap (λ (k : machine.Keys). machine.Refused e k) (plain_keys e j alone)) same
+report_refused n reply_to j r e reply alone same refused =
+    refused_as (ap (reported n reply_to j) (sym refused) ∙ ap (λ (k : machine.Keys). machine.Refused e k) (plain_keys e j alone)) same

@@ -73,7 +73,8 @@ given_new m t c old f g reply sound there of n after new told =
       suits = order_kept m t c old f here after;
       within = (new, (let left : m.next_grant < last_grant + 1 = omega (arith, n, new.limits.number.1) in left));
       told = machine.Given (handed g left);
-      taken = ap (λ (q : Queue). machine.Taken q (machine.Given (handed g left))) (queue_is m t f (changed c j) g sound (whole_changed m t c old f here after ∙ ap (changed c) bare) n);
+      taken = ap (λ (q : Queue). machine.Taken q (machine.Given (handed g left)))
+          (queue_is m t f (changed c j) g sound (whole_changed m t c old f here after ∙ ap (changed c) bare) n);
       replied = told left (dial_there (aged t m) c j f g there of (recorded_is (job_of f) (changed c j) after));
     }
 

@@ -47,7 +47,8 @@ recorded_is x j is = let same = recorded_ok (Ok j) x is in cc
 
 -- ---- a job that is changed, with its lines
 
-module _ (m : Queue) (t : ℕ) (c : Change) (f g : JobFields) (there : job_numbered f.job (aged t m) ≡ Some (job_in (aged t m) f)) (after : Ok (job_of g) ≡ recorded (Ok (changed c (job_of f)))) where
+module _ (m : Queue) (t : ℕ) (c : Change) (f g : JobFields) (there : job_numbered f.job (aged t m) ≡ Some (job_in (aged t m) f))
+    (after : Ok (job_of g) ≡ recorded (Ok (changed c (job_of f)))) where
   -- with its lines it is what the change makes of the job with them
   pub whole_changed : job_in (aged t m) g ≡ changed c (job_in (aged t m) f)
   whole_changed = ap (with_its_lines (aged t m)) (recorded_is (job_of g) (changed c (job_of f)) after)

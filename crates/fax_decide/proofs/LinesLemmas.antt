@@ -73,7 +73,8 @@ module _ (lines : List Pair) where
 
   -- an alteration does
   alter_lined : (phase : Phase) (changes : Alter) (j : Job) (t : ℕ) → job_lined (alter_in phase changes j t) ≡ alter_in phase changes (lined j) t
-  alter_lined Held changes j t = let k = altered changes j t in either job_lined (nat_le k.maxdials k.totdials || nat_le k.maxtries k.tottries) (Err LimitReached) (Ok k) _ _ refl refl
+  alter_lined Held changes j t = let k = altered changes j t in either job_lined (nat_le k.maxdials k.totdials || nat_le k.maxtries k.tottries)
+      (Err LimitReached) (Ok k) _ _ refl refl
   alter_lined phase changes j t = refl
 
   -- each request on a job decides the same with them
@@ -103,7 +104,8 @@ module _ (lines : List Pair) where
 
   -- a report of a page decides the same with them
   pub page_lined : (n : ℕ) (j : Job) (g : Grant) → both_lined (page n j g) ≡ page n (lined j) g
-  page_lined n j g = either both_lined (not g.is_open) (Err GrantClosed) _ _ _ refl (either both_lined (not (is_connected g.call)) (Err NotConnected) _ _ _ refl (paged j.left n j g))
+  page_lined n j g = either both_lined (not g.is_open) (Err GrantClosed) _ _ _ refl
+      (either both_lined (not (is_connected g.call)) (Err NotConnected) _ _ _ refl (paged j.left n j g))
 
   -- a job to be tried again keeps them
   retry_lined : (j : Job) (reason : List ℕ) (delay t : ℕ) → lined (retried j reason delay t) ≡ retried (lined j) reason delay t

@@ -38,7 +38,8 @@ never (Ok x) Is P is = absurd is
 never (Err e) Is P is = tt
 
 -- what holds where there is a reply holds where the effect is taken with it
-opens_with : (P : Type 0) (effect : Effect) (reply : Result Response Fault) (result : Result Decision Fault) → MatchResult reply (λ r. result ≡ Ok (Taken effect r)) (λ e. result ≡ Err e)
+opens_with : (P : Type 0) (effect : Effect) (reply : Result Response Fault) (result : Result Decision Fault)
+    → MatchResult reply (λ r. result ≡ Ok (Taken effect r)) (λ e. result ≡ Err e)
     → OnOk reply P → OnOk result P
 opens_with P effect (Ok r) result is h = subst (λ d. OnOk d P) (sym is) h
 opens_with P effect (Err e) result is h = subst (λ d. OnOk d P) (sym is) tt
@@ -61,14 +62,16 @@ module _ {S : Type 0} {g : _} where
   moved {a} {b} {c} {d} {A} {E} {result} {P} first last call = subst (λ v. Consults g c v result P) last (subst (λ v. Consults g v b result P) first call)
 
   -- a call that looks at the store, and leaves it serving where it answers
-  pub by_look : {old new : Store S} {A : Type 0} {P : Queue → Type 0} (result : Result A StoreFault) → Looks g old new → OnOk result (HasCleanDisk (shown g new) → Serves (shown g new))
+  pub by_look : {old new : Store S} {A : Type 0} {P : Queue → Type 0} (result : Result A StoreFault) → Looks g old new
+      → OnOk result (HasCleanDisk (shown g new) → Serves (shown g new))
       → ((m : Queue) (k : Ledger) → Means (shown g old) m k → Serves (shown g new) → P m) → Consults g old new result P
   by_look result leaves opens found = record { leaves = leaves; opens = on_ok_weaker result (λ opens clean serves. opens clean) opens; found = found }
 
   -- a reading of the store
   pub by_reading : {old new : Store S} {A : Type 0} {result : Result A StoreFault} {P : Queue → Type 0} → Finds g old new result
       → ((m : Queue) (k : Ledger) → MeansNow (shown g old) m k → Serves (shown g new) → P m) → Consults g old new result P
-  by_reading {old} {new} {A} {result} finds answers = by_look result (looks_of g old new result finds) finds.opens (λ m k means serves. answers m k (means_now means) serves)
+  by_reading {old} {new} {A} {result} finds answers = by_look result (looks_of g old new result finds) finds.opens
+      (λ m k means serves. answers m k (means_now means) serves)
 
   -- a step along the candidates, wherever they stand
   pub by_step : {old new : Store S} {A X : Type 0} {P : Queue → X → Type 0} (result : Result A StoreFault) → Looks g old new → OnOk result (StaysOpen (shown g old) (shown g new))
@@ -103,7 +106,8 @@ module _ {S : Type 0} {g : _} where
   }
 
   -- the result is a fault
-  pub stops : {old new : Store S} {A B E : Type 0} {result : Result B E} {P Q : Queue → Type 0} {error : Result A Fault} {fault : Fault} → IsErrAnd error (λ e. e ≡ fault) → Consults g old new result P
+  pub stops : {old new : Store S} {A B E : Type 0} {result : Result B E} {P Q : Queue → Type 0} {error : Result A Fault} {fault : Fault}
+      → IsErrAnd error (λ e. e ≡ fault) → Consults g old new result P
       → ((m : Queue) → ((T : A → Type 0) → fault ≡ NoAnswer → OrNoAnswer error T) → P m → Q m) → Consults g old new error Q
   stops {error = error} {fault = fault} is call says = record {
     leaves = call.leaves;

@@ -48,7 +48,8 @@ new_taken m t f meta told reply sound these next limit replied = record {
   suits = these;
   within = let left : m.next_job < last_job + 1 = omega (arith, next, limit) in left;
   told = told;
-  taken = ap (λ (js : List Job). Taken (record (aged t m) { jobs = js; next_job = m.next_job + 1 }) told) (sym (job_placed (aged t m) (job_of f) (aged_sound t m sound) next));
+  taken = ap (λ (js : List Job). Taken (record (aged t m) { jobs = js; next_job = m.next_job + 1 }) told)
+      (sym (job_placed (aged t m) (job_of f) (aged_sound t m sound) next));
   replied = replied;
 }
 
@@ -95,20 +96,23 @@ pub record IsNewRefusal (rejected full : Bool) (j : Job) (e : Refusal) : Type 0 
 -- as it is of each
 new_refused : (rejected over full : Bool) (j : Job) (e : Refusal) → Err e ≡ recorded (new_or rejected over full j) → IsNewRefusal rejected full j e
 new_refused rejected over full j e is = record {
-  rejects = refused_by (λ x. x ≡ Rejected → rejected ≡ true) rejected over full j e is (λ yes _. yes) (λ no. absurd cc) (λ no. absurd cc) (λ few off no. absurd cc);
-  plain = refused_by (λ x. ¬ (x ≡ Rejected) → has_detail x ≡ false) rejected over full j e is (λ yes no. absurd (no refl)) (λ _. refl) (λ _. refl) (λ few off _. refl);
-  known = λ holds. refused_by (λ x. ¬ (x ≡ Unavailable)) rejected over full j e is (λ yes no. cc) (λ no. cc) (λ no. cc) (λ few off no. let both = sym (holds few) ∙ off in cc);
+  rejects = refused_by (λ x. x ≡ Rejected → rejected ≡ true) rejected over full j e is (λ yes _. yes) (λ no. absurd cc) (λ no. absurd cc) (λ _ _ no. absurd cc);
+  plain = refused_by (λ x. ¬ (x ≡ Rejected) → has_detail x ≡ false) rejected over full j e is (λ yes no. absurd (no refl)) (λ _. refl) (λ _. refl) (λ _ _ _. refl);
+  known = λ holds. refused_by (λ x. ¬ (x ≡ Unavailable)) rejected over full j e is (λ yes no. cc) (λ no. cc) (λ no. cc)
+      (λ few off no. let both = sym (holds few) ∙ off in cc);
 }
 
 -- so it is of a submission
-pub submit_refused : (o : Order) (rule : Rule) (n max t : ℕ) (e : Refusal) → Err e ≡ recorded (submit o rule n max t) → IsNewRefusal (is_some rule.notice) (nat_lt max n) (new_job o n t) e
+pub submit_refused : (o : Order) (rule : Rule) (n max t : ℕ) (e : Refusal) → Err e ≡ recorded (submit o rule n max t)
+    → IsNewRefusal (is_some rule.notice) (nat_lt max n) (new_job o n t) e
 submit_refused o rule n max t e is = new_refused (is_some rule.notice) (is_over o.totpages rule.pages) (nat_lt max n) (new_job o n t) e is
 
 -- and of an import
 pub bring_refused : (i : Import) (rule : Rule) (n max t : ℕ) (e : Refusal) → Err e ≡ recorded (bring i rule n max t)
     → IsNewRefusal (not (is_ended i.state) && is_some rule.notice) (nat_lt max n) (brought i.state (old_job i n t)) e
 bring_refused i rule n max t e is =
-    new_refused (not (is_ended i.state) && is_some rule.notice) (not (is_ended i.state) && is_over i.order.totpages rule.pages) (nat_lt max n) (brought i.state (old_job i n t)) e is
+    new_refused (not (is_ended i.state) && is_some rule.notice) (not (is_ended i.state) && is_over i.order.totpages rule.pages) (nat_lt max n)
+    (brought i.state (old_job i n t)) e is
 
 -- a submission that is taken is that job
 pub submit_is : (o : Order) (rule : Rule) (n max t : ℕ) (j : Job) → submit o rule n max t ≡ Ok j → new_job o n t ≡ j
@@ -116,15 +120,12 @@ submit_is o rule n max t j is =
     ok_same (new_job o n t) j
     (not_refused (nat_lt max n) Full _ j (not_refused (is_over o.totpages rule.pages) TooManyPages _ j (not_refused (is_some rule.notice) Rejected _ j is).1).1).1
 
--- the same of equal rules and numbers
-pub moved : (decided : Rule → ℕ → ℕ → Result Job Refusal) (r : Result Job Refusal) {rule here : Rule} {n next max limit : ℕ} → rule ≡ here → n ≡ next → max ≡ limit
-    → r ≡ recorded (decided rule n max) → r ≡ recorded (decided here next limit)
-moved decided r {rule} {here} {n} {next} {max} {limit} a b c is = is ∙ ap recorded (let same : decided rule n max ≡ decided here next limit = cc in same)
-
 -- a new job that is refused is refused by the machine, with the keys of its rule
-pub refused_new : (step : Result Job Refusal → Step) (r : Result Job Refusal) (e : Refusal) (rule : dest.Rule) (here : Rule) (hours : ℕ → Bool) (m : Queue) (t : ℕ) (result : Result Decision Fault)
+pub refused_new : (step : Result Job Refusal → Step) (r : Result Job Refusal) (e : Refusal) (rule : dest.Rule) (here : Rule) (hours : ℕ → Bool) (m : Queue)
+    (t : ℕ) (result : Result Decision Fault)
     → step (Err e) ≡ Refused e (keys_of_rule e here) → Err e ≡ recorded r → rule_of rule hours ≡ here
-    → (IsOk result → ¬ (e ≡ Unavailable)) → IfOk result (λ d. d ≡ decision.Refused (refused_response e (keys_of_rule e (rule_of rule hours)))) → IfOk result (Decides (step r) m t)
+    → (IsOk result → ¬ (e ≡ Unavailable)) → IfOk result (λ d. d ≡ decision.Refused (refused_response e (keys_of_rule e (rule_of rule hours))))
+    → IfOk result (Decides (step r) m t)
 refused_new step r e rule here hours m t (Err fault) refuses is same known told = tt
 refused_new step r e rule here hours m t (Ok d) refuses is same known told =
     subst (Decides (step r) m t) (sym told)

@@ -62,7 +62,8 @@ has_job m g sound has = let job = sound.held g.number g (open_there m g sound (i
 
 -- what is the same of an expired job is the same of an aged one
 pub aged_same : {A : Type 0} (f : Job → A) (t : ℕ) (j : Job) → f (record j { phase = Failed; status = kill_time_expired }) ≡ f j → f (aged_job t j) ≡ f j
-aged_same f t j same = cond_both (expires j.phase && is_past j.killtime t) (record j { phase = Failed; status = kill_time_expired }) j (λ (k : Job). f k ≡ f j) (λ e. same) (λ e. refl)
+aged_same f t j same = cond_both (expires j.phase && is_past j.killtime t) (record j { phase = Failed; status = kill_time_expired }) j
+    (λ (k : Job). f k ≡ f j) (λ e. same) (λ e. refl)
 
 -- the job of a number in the aged queue is that of the queue, aged
 pub aged_numbered : (m : Queue) (t n : ℕ) → job_numbered n (aged t m) ≡ option_map (aged_job t) (job_numbered n m)

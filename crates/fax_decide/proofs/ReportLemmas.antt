@@ -80,7 +80,8 @@ outcome_taken s m t c f g grant reply sound there is_open after replied = record
       (state_ended s m t whole (job_in (aged t m) f) grant sound (old_there m t c f g there.job_there after) (ap (λ (x : Job). x.dial) one)
       (there.of_job ∙ sym (ap (λ (x : Job). x.number) one)) there.grant_there is_open
       ∙ state_lined (lines_of (job_numbered g.job (aged t m))) g.phase (job_of g) ((s.rule g.dial).hours t) calls (s.rule g.dial).calls t)
-      ∙ ap (λ (o : Option Grant). Taken (with_clock t (with_shut o (with_change (job_of g) (with_expired t m)))) (Stands g.job (state_with s (job_of g) calls t))) (sym there.grant_there);
+      ∙ ap (λ (o : Option Grant). Taken (with_clock t (with_shut o (with_change (job_of g) (with_expired t m))))
+      (Stands g.job (state_with s (job_of g) calls t))) (sym there.grant_there);
   replied = replied;
 }
   where
@@ -99,7 +100,8 @@ outcome_taken s m t c f g grant reply sound there is_open after replied = record
 -- ---- the grant and its job
 
 -- the grant and its job are there where both were found
-pub are_there : (m : Queue) (t n : ℕ) (g : Grant) (f : JobFields) → grant_numbered n m ≡ Some g → job_numbered g.job (aged t m) ≡ Some (job_in (aged t m) f) → AreThere m t f g
+pub are_there : (m : Queue) (t n : ℕ) (g : Grant) (f : JobFields) → grant_numbered n m ≡ Some g → job_numbered g.job (aged t m) ≡ Some (job_in (aged t m) f)
+    → AreThere m t f g
 are_there m t n g f grant job = record {
   of_job = sym (numbered_job (aged t m) g.job (job_in (aged t m) f) job);
   job_there = found_itself (aged t m) g.job f job;

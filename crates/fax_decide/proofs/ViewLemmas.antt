@@ -1,8 +1,8 @@
 -- What is shown of a job, and of all jobs.
-use Rattle.std.proofs.Common.{◌≡◌, ℕ, List, [], ◌∷◌, ◌++◌, All, length, map, Option, Some, refl, sym, ap, ap₂, ◌∙◌, option_map}
+use Rattle.std.proofs.Common.{◌≡◌, ℕ, List, [], ◌∷◌, ◌++◌, All, map, Option, Some, refl, sym, ap, ap₂, ◌∙◌, option_map}
 use Rattle.std.specs.List.{range_with_len}
 use Rattle.std.specs.List.Sorted.{IsStrictlyIncreasing}
-use Rattle.std.proofs.lemmas.List.{length-map, map-append}
+use Rattle.std.proofs.lemmas.List.{length-map}
 use Rattle.std.proofs.lemmas.List.Elements.{All-head, All-tail}
 use Rattle.std.proofs.lemmas.List.Folds.{flat_map-map}
 use mathlib.Core.List.{map-map}
@@ -48,13 +48,6 @@ pub row_is : (s : Settings) (m : Queue) (t : ℕ) (f g : JobFields) (found : ℕ
     → ◌≡◌ {A = Listed} (g, found) (with_state s m t (aged_job t (job_of f)))
 row_is s m t f g found old told = ap₂ (λ (x : JobFields) (n : ℕ). (x, n)) (sym (record_again g)) told ∙ ap (with_state s m t) old
 
--- one more of them
-pub one_more_row : (s : Settings) (m : Queue) (t : ℕ) (before : List JobFields) (f : JobFields) (rows more : List Listed)
-    → rows ≡ map (λ x. with_state s m t (aged_job t (job_of x))) before → more ≡ rows ++ with_state s m t (aged_job t (job_of f)) ∷ []
-    → more ≡ map (λ x. with_state s m t (aged_job t (job_of x))) (before ++ f ∷ [])
-one_more_row s m t before f rows more is one =
-    one ∙ ap (λ (xs : List Listed). xs ++ with_state s m t (aged_job t (job_of f)) ∷ []) is ∙ sym (map-append (λ (x : JobFields). with_state s m t (aged_job t (job_of x))) before (f ∷ []))
-
 -- the rows of the listing have the jobs' numbers
 numbers_seen : (s : Settings) (q : Queue) (t : ℕ) (jobs : List Job) → map number_of (map (with_state s q t) (map (aged_job t) jobs)) ≡ map (λ j. j.number) jobs
 numbers_seen s q t [] = refl
@@ -63,10 +56,8 @@ numbers_seen s q t (j ∷ js) = ap₂ ◌∷◌ (aged_number t j) (numbers_seen 
 -- and stand in ascending order of their numbers
 pub rows_ascend : (s : Settings) (m : Queue) (t : ℕ) → Sound m → IsStrictlyIncreasing (map number_of (map (with_state s (aged t m) t) (aged t m).jobs))
 rows_ascend s m t sound =
-    numbered (map (with_state s (aged t m) t) (map (aged_job t) m.jobs)) (numbers_seen s (aged t m) t m.jobs ∙ sound.jobs ∙ ap (range_with_len 1) (sym as_many))
-  where
-    as_many : length (map (with_state s (aged t m) t) (map (aged_job t) m.jobs)) ≡ length m.jobs
-    as_many = length-map (map (aged_job t) m.jobs) (with_state s (aged t m) t) ∙ length-map m.jobs (aged_job t)
+    numbered (map (with_state s (aged t m) t) (map (aged_job t) m.jobs)) (numbers_seen s (aged t m) t m.jobs ∙ sound.jobs ∙ ap (range_with_len 1)
+    (sym (length-map (map (aged_job t) m.jobs) (with_state s (aged t m) t) ∙ length-map m.jobs (aged_job t))))
 
 -- ---- without the extra lines
 
@@ -74,7 +65,8 @@ abbrev thin : Listed → Listed
 thin row = (brief row.0, row.1)
 
 -- a job without its lines is listed without them, with the state that it has in the aged queue
-row_seen : (s : Settings) (m : Queue) (t : ℕ) (j : Job) → IsLawfulJob j → with_state s m t (aged_job t (job_of (brief (fields_of j)))) ≡ thin (with_state s (aged t m) t (aged_job t j))
+row_seen : (s : Settings) (m : Queue) (t : ℕ) (j : Job) → IsLawfulJob j
+    → with_state s m t (aged_job t (job_of (brief (fields_of j)))) ≡ thin (with_state s (aged t m) t (aged_job t j))
 row_seen s m t j lawful =
     let k = aged_job t j in
     ap (λ (x : Job). with_state s m t (aged_job t (lined [] x))) (job_again j lawful.pages) ∙ ap (with_state s m t) (sym (aged_lined [] t j))

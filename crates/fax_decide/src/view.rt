@@ -124,31 +124,15 @@ fn with_states<S: Alter>(
 {
     let mut rows = Vec::with_capacity(alloc, jobs.len())?;
     for job in jobs {
-        add_row(store, office, alloc, &mut rows, job, t)?;
+        let job = aged_job(job, t);
+        let state = state_of(store, office, alloc, &job, t)?;
+        add_row(&mut rows, job, state)?;
     }
     Ok(rows)
 }
 
-/// Puts a job aged at `t`, with the number of its state there, behind the others.
-fn add_row<S: Alter>(
-    store: &mut Store<S>,
-    office: &Office,
-    alloc: Global,
-    rows: &mut Vec<(Job, u8)>,
-    job: Job,
-    t: Moment,
-) -> Result<(), Fault>
-    ensures { Consults S.Store store.old store.new result (λ m. OrNoAnswer result (λ _. rows.new.items ≡ rows.old.items
-        ++ with_state (settings_of office.now.setup office.now.controls) m t (aged_job t (job_of job)) ∷ [])) }
-{
-    let job = aged_job(job, t);
-    let state = state_of(store, office, alloc, &job, t)?;
-    push_row(rows, job, state)?;
-    Ok(())
-}
-
-/// Puts a job with the number of its state behind the others.
-fn push_row(rows: &mut Vec<(Job, u8)>, job: Job, state: u8) -> Result<(), AllocError>
+/// Puts a job with its state behind the others.
+fn add_row(rows: &mut Vec<(Job, u8)>, job: Job, state: u8) -> Result<(), AllocError>
     ensures { OnOk result (rows.new.items ≡ rows.old.items ++ (job, state) ∷ []) }
 {
     rows.push((job, state))?;

@@ -18,7 +18,8 @@ pub returns-in-Some-2 : goal.returns-in-Some-2
 returns-in-Some-2 g c = goes_on (both c.in_ok-number.ensures (by_reading c.in_ok-job.ensures.leaves c.in_ok-job.ensures.answers)) (λ m k at calls sound.
     let s = settings_of c.args.office.now.setup c.args.office.now.controls in
     let it = MatchOption-at_some _ _ c.in-Some.number c.in-Some.is (first_read s m c.args.t c.args.modem.now sound at.means.lawful.jobs _ (calls.0 sound)) in
-    ap (λ (f : JobFields). Some (job_of f)) (same_Some _ _ (sym c.in-Some-2.is ∙ calls.1 ∙ ap (option_map fields_of) it.1)) ∙ ap (λ (j : Job). Some j) (job_again it.0 it.2.pages) ∙ it.3)
+    ap (λ (f : JobFields). Some (job_of f)) (same_Some _ _ (sym c.in-Some-2.is ∙ calls.1 ∙ ap (option_map fields_of) it.1))
+    ∙ ap (λ (j : Job). Some j) (job_again it.0 it.2.pages) ∙ it.3)
 
 pub returns-in-None : goal.returns-in-None
 returns-in-None g c = goes_on (both c.in_ok-number.ensures (by_reading c.in_ok-job.ensures.leaves c.in_ok-job.ensures.answers)) (λ m k at calls sound.
@@ -31,4 +32,5 @@ returns-in_err-number g c = stops c.from_residual.ensures.1 c.in_err-number.ensu
 
 pub returns-in_err-job : goal.returns-in_err-job
 returns-in_err-job g c =
-    stops c.from_residual-in_err-job.ensures.1 (both c.in_ok-number.ensures (by_reading c.in_err-job.ensures.leaves c.in_err-job.ensures.answers)) (λ m out why sound. out _ (ap fault_of why.1))
+    stops c.from_residual-in_err-job.ensures.1 (both c.in_ok-number.ensures (by_reading c.in_err-job.ensures.leaves c.in_err-job.ensures.answers))
+    (λ m out why sound. out _ (ap fault_of why.1))

@@ -36,8 +36,10 @@ returns-in_default g c = goes_on (by_reading c.in_ok-grant.ensures.leaves c.in_o
 pub returns-in_err-job : goal.returns-in_err-job
 returns-in_err-job g c =
     stops c.from_residual-in_err-job.ensures.1
-    (both (by_reading c.in_ok-grant.ensures.leaves c.in_ok-grant.ensures.answers) (by_reading c.in_err-job.ensures.leaves c.in_err-job.ensures.answers)) (λ m out why t one sound is same. out _ (ap fault_of why.1))
+    (both (by_reading c.in_ok-grant.ensures.leaves c.in_ok-grant.ensures.answers) (by_reading c.in_err-job.ensures.leaves c.in_err-job.ensures.answers))
+    (λ m out why t one sound is same. out _ (ap fault_of why.1))
 
 pub returns-in_default-2 : goal.returns-in_default-2
 returns-in_default-2 g c = goes_on (both (by_reading c.in_ok-grant.ensures.leaves c.in_ok-grant.ensures.answers) (by_reading c.in_ok-job.ensures.leaves c.in_ok-job.ensures.answers)) (λ m k at calls t one sound is same.
-    absurd (none-some _ (sym c.in_default-2.is ∙ calls.1 ∙ ap (option_map (λ j. brief (fields_of j))) (hold_has_job m c.args.modem.now one c.args.hold sound is same).1)))
+    absurd (none-some _ (sym c.in_default-2.is ∙ calls.1
+    ∙ ap (option_map (λ j. brief (fields_of j))) (hold_has_job m c.args.modem.now one c.args.hold sound is same).1)))

@@ -1,14 +1,11 @@
-use Rattle.std.proofs.Common.{List, ℕ, sym, ap, option_map, ◌∙◌, rules, is_some}
-use Rattle.fax_core.specs.Ageing.{aged}
-use Rattle.fax_core.specs.Machine.{handed, held_by, is_down}
-use Rattle.fax_core.specs.Reply.{HeldGrant}
-use Rattle.fax_job.specs.declared.refusal.Refusal.TheVariants.{ModemBusy}
+use Rattle.std.proofs.Common.{List, ℕ, sym, ap, option_map, ◌∙◌, rules, refl, subst}
+use Rattle.fax_core.specs.Machine.{held_by, is_down}
 use Rattle.fax_dest.specs.Setup.{has_modem}
 use Rattle.fax_tables.specs.Grant.{as_hold}
 use Rattle.fax_decide.specs.Decision.{Decides}
 use Rattle.fax_decide.specs.Fault.{OrNoAnswer, fault_of}
 use Rattle.fax_decide.specs.Settings.{settings_of}
-use Rattle.fax_decide.proofs.DecisionLemmas.{refusal_decided}
+use Rattle.fax_decide.proofs.DecisionLemmas.{refused_as}
 use Rattle.fax_decide.proofs.FaultLemmas.{or_weaker}
 use Rattle.fax_decide.proofs.GivenLemmas.{goes_free, is_busy}
 use Rattle.fax_decide.proofs.LookingLemmas.{both, by_reading, gives, goes_on, stops}
@@ -23,7 +20,7 @@ returns-in-Some g c =
     (sym (calls.0.0 ∙ ap (λ (name : List ℕ). is_down name m) c.as_str-2.ensures.text) ∙ c.if-branch.false)
     (λ step. OrNoAnswer c.busy.result (Decides step m c.args.t)) c.in-Some.hold
     (sym c.in-Some.is ∙ calls.0.1 ∙ ap (λ (name : List ℕ). option_map as_hold (held_by name m)) c.as_str-3.ensures.text)
-    (λ one is same. or_weaker c.busy.result _ _ (λ d refused. refusal_decided ModemBusy (HeldGrant (is_some one.call) (handed one (aged c.args.t m))) m c.args.t d refused) (calls.1 c.args.t one sound is same)))
+    (λ one is same. or_weaker c.busy.result _ _ (λ d refused. subst (Decides _ m c.args.t) (sym refused) (refused_as refl refl)) (calls.1 c.args.t one sound is same)))
 
 pub returns-in-None : goal.returns-in-None
 returns-in-None g c =
@@ -40,7 +37,8 @@ pub returns-then-branch : goal.returns-then-branch
 returns-then-branch g c = goes_on (by_reading c.in_ok-is_down.ensures.leaves c.in_ok-is_down.ensures.answers) (λ m k at down sound next. search rules)
 
 pub returns-in_err-is_down : goal.returns-in_err-is_down
-returns-in_err-is_down g c = stops c.from_residual.ensures.1 (by_reading c.in_err-is_down.ensures.leaves c.in_err-is_down.ensures.answers) (λ m out why sound next. out _ (ap fault_of why))
+returns-in_err-is_down g c = stops c.from_residual.ensures.1 (by_reading c.in_err-is_down.ensures.leaves c.in_err-is_down.ensures.answers)
+    (λ m out why sound next. out _ (ap fault_of why))
 
 pub returns-in_err-hold : goal.returns-in_err-hold
 returns-in_err-hold g c =

@@ -12,12 +12,13 @@ returns-in_err-prospect-clause-consults g c =
     let calls = both c.loop.invariant.consults (by_step c.prospect.result c.prospect.ensures.leaves c.prospect.ensures.opens c.in_err-prospect.ensures.found) in
     stops c.from_residual.ensures.1 calls (λ m out calls sound same stands busy.
     let went = (calls.0 same stands busy).1 in
-    out _ (ap fault_of (calls.1 went.given (subst (λ (x : Asked). StandsAt x m went.given (into_iter_items c.loop.candidates.page) c.loop.candidates.front c.loop.candidates.most) (sym c.loop.invariant.asked) went.stands))))
+    out _ (ap fault_of (calls.1 went.given (subst (λ (x : Asked). StandsAt x m went.given
+    (into_iter_items c.loop.candidates.page) c.loop.candidates.front c.loop.candidates.most) (sym c.loop.invariant.asked) went.stands))))
 
 pub returns-in_default-clause-consults : goal.returns-in_default-clause-consults
 returns-in_default-clause-consults g c = goes_on (both c.loop.invariant.consults (by_step (Ok c.in_ok-prospect.field-0) c.prospect.ensures.leaves c.in_ok-prospect.ensures.opens c.in_ok-prospect.ensures.found)) (λ m k at calls sound same stands busy.
     let before = calls.0 same stands busy in
-    let next = next_given _ m c.args.modem.now c.args.candidates.now.asked (into_iter_items c.prospect.new.self.page) c.prospect.new.self.front c.prospect.new.self.most
+    let next = next_given _ _ _ _ (into_iter_items c.prospect.new.self.page) c.prospect.new.self.front c.prospect.new.self.most
     c.loop.invariant.asked c.in_default.is before.1 calls.1 in
     (before.0, λ free. none_left _ m _ _ next))
 
@@ -29,7 +30,7 @@ returns-in_err-goes-clause-consults g c =
 pub returns-then-branch-clause-consults : goal.returns-then-branch-clause-consults
 returns-then-branch-clause-consults g c = goes_on (both (both c.loop.invariant.consults (by_step (Ok c.in_ok-prospect.field-0) c.prospect.ensures.leaves c.in_ok-prospect.ensures.opens c.in_ok-prospect.ensures.found)) c.in_ok-goes.ensures.consults) (λ m k at calls sound same stands busy.
     let before = calls.0.0 same stands busy in
-    let next = next_given _ m c.args.modem.now c.args.candidates.now.asked (into_iter_items c.prospect.new.self.page) c.prospect.new.self.front c.prospect.new.self.most
+    let next = next_given _ _ _ _ (into_iter_items c.prospect.new.self.page) c.prospect.new.self.front c.prospect.new.self.most
     c.loop.invariant.asked c.in-Some.is before.1 calls.0.1 in
     let told = calls.1 before.0 in
     (told.1, λ free. this_went _ m _ _ next _ c.args.t same told.0 c.if-branch.true))
@@ -40,7 +41,7 @@ loop-preserved g c = record {
   asked = c.goes.ensures.same.0 ∙ c.prospect.ensures.asked ∙ c.loop.invariant.asked;
   consults = goes_on (both (both c.loop.invariant.consults (by_step (Ok c.in_ok-prospect.field-0) c.prospect.ensures.leaves c.in_ok-prospect.ensures.opens c.in_ok-prospect.ensures.found)) c.in_ok-goes.ensures.consults) (λ m k at calls same stands busy.
       let before = calls.0.0 same stands busy in
-      let next = next_given _ m c.args.modem.now c.args.candidates.now.asked (into_iter_items c.prospect.new.self.page) c.prospect.new.self.front c.prospect.new.self.most
+      let next = next_given _ _ _ _ (into_iter_items c.prospect.new.self.page) c.prospect.new.self.front c.prospect.new.self.most
       c.loop.invariant.asked c.in-Some.is before.1 calls.0.1 in
       let told = calls.1 before.0 in
       let went = none_more _ m _ _ next _ c.args.t same told.0 c.if-branch.false in

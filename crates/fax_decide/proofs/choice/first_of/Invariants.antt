@@ -15,5 +15,6 @@ invariant-loop g l = record {
   consults : Consults g.S.Store {A = ⊤} {E = ⊤} l.initial.candidates.store.now l.candidates.store.now (Ok tt) (λ m. l.initial.candidates.asked.t ≡ l.t
       → StandsAt l.initial.candidates.asked m [] (into_iter_items l.initial.candidates.page) l.initial.candidates.front l.initial.candidates.most → IsBusy (settings_of l.office.setup l.office.controls) m l.t l.initial.busy
       → IsBusy (settings_of l.office.setup l.office.controls) m l.t l.busy
-      × NoneWent (settings_of l.office.setup l.office.controls) m l.modem l.initial.candidates.asked l.counter (into_iter_items l.candidates.page) l.candidates.front l.candidates.most);
+      × NoneWent (settings_of l.office.setup l.office.controls) m l.modem l.initial.candidates.asked l.counter
+      (into_iter_items l.candidates.page) l.candidates.front l.candidates.most);
 }

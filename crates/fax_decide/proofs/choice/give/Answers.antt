@@ -40,7 +40,8 @@ refused-requires c = grant_plain (job_of c.args.job) c.args.modem c.args.next_gr
 
 pub returns-in-Err-clause-decided : goal.returns-in-Err-clause-decided
 returns-in-Err-clause-decided c m t sound there next waits =
-    refused_as (ap (given (aged t m)) (sym (c.in-Err.ensures c.args.modem ∙ ap (grant (job_of c.args.job) c.args.modem c.args.next_grant) c.max_grants.ensures.number))) c.refused.ensures
+    refused_as (ap (given (aged t m)) (sym (c.in-Err.ensures c.args.modem
+    ∙ ap (grant (job_of c.args.job) c.args.modem c.args.next_grant) c.max_grants.ensures.number))) c.refused.ensures
 
 pub returns-then-not-fits-clause-decided : goal.returns-then-not-fits-clause-decided
 returns-then-not-fits-clause-decided c m t sound there next waits =

@@ -51,7 +51,8 @@ returns-in-Err g c = goes_on c.in_ok-job.ensures.consults (λ m k at found.
 
 pub returns-in_default : goal.returns-in_default
 returns-in_default g c = goes_on c.in_ok-job.ensures.consults (λ m k at found. (
-  refused_as (ap (on_job (settings_of c.args.office.now.setup c.args.office.now.controls) (aged c.args.t m) c.args.t c.args.ask) (sym found ∙ ap (option_map (job_in (aged c.args.t m))) c.in_default.is)) c.refused.ensures,
+  refused_as (ap (on_job (settings_of c.args.office.now.setup c.args.office.now.controls) (aged c.args.t m) c.args.t c.args.ask)
+      (sym found ∙ ap (option_map (job_in (aged c.args.t m))) c.in_default.is)) c.refused.ensures,
   λ read. tt,
 ))
 

@@ -26,7 +26,8 @@ returns-in-Ok-clause-decided c m there few fit =
     let lines = lines_of (job_numbered c.args.job.job (aged c.args.t m)) in
     reported_on (λ step. OrNoAnswer c.called.result (Decides step m c.args.t)) (aged c.args.t m) (call_reply c.args.t) lines (job_of c.args.job) c.in-Ok.change _ c.with_call.result _ _
     c.with_call.ensures c.in-Ok.ensures (call_lined lines c.args.said (job_of c.args.job) c.args.grant)
-    (c.called.ensures m c.args.grant there (subst (IsSameGrant c.args.grant) (sym c.with_call.ensures) (same_given c.args.grant (Some c.args.said) _)) (ap (λ (g : Grant). g.number) c.with_call.ensures)
+    (c.called.ensures m c.args.grant there (subst (IsSameGrant c.args.grant) (sym c.with_call.ensures) (same_given c.args.grant (Some c.args.said) _))
+    (ap (λ (g : Grant). g.number) c.with_call.ensures)
     (subst (λ (g : Grant). g.confirmed ≤ most_pages) (sym c.with_call.ensures) few.1)
     (call_keeps c.args.job c.args.grant _ c.in-Ok.change (fit (was_open c.args.grant _ _ c.in-Ok.ensures)) c.args.said c.in-Ok.ensures))
 
@@ -34,4 +35,5 @@ pub returns-in-Err-clause-decided : goal.returns-in-Err-clause-decided
 returns-in-Err-clause-decided c m there few fit =
     let lines = lines_of (job_numbered c.args.job.job (aged c.args.t m)) in
     report_refused (aged c.args.t m) (call_reply c.args.t) (job_in (aged c.args.t m) c.args.job) _ c.in-Err.refusal c.refused.result
-    (call_refused (λ e. has_detail e ≡ false) refl refl c.args.said (job_of c.args.job) _ c.in-Err.refusal (sym c.in-Err.ensures)) c.refused.ensures (ap (both_lined lines) c.in-Err.ensures ∙ call_lined lines c.args.said (job_of c.args.job) c.args.grant)
+    (call_refused (λ e. has_detail e ≡ false) refl refl c.args.said (job_of c.args.job) _ c.in-Err.refusal (sym c.in-Err.ensures)) c.refused.ensures
+    (ap (both_lined lines) c.in-Err.ensures ∙ call_lined lines c.args.said (job_of c.args.job) c.args.grant)

@@ -20,7 +20,8 @@ use Rattle.fax_decide.proofs.reports.decide_outcome.Goals as goal
 
 pub refused-requires : goal.refused-requires
 refused-requires g c =
-    outcome_refused (λ e. has_detail e ≡ false) refl refl refl refl refl c.args.said (job_of c.args.job) _ c.delay-delay.result c.args.t c.in-Err.refusal (sym c.in-Err.ensures)
+    outcome_refused (λ e. has_detail e ≡ false) refl refl refl refl refl c.args.said (job_of c.args.job) _ c.delay-delay.result c.args.t c.in-Err.refusal
+    (sym c.in-Err.ensures)
 
 pub returns-in-Ok-clause-consults : goal.returns-in-Ok-clause-consults
 returns-in-Ok-clause-consults g c = gives c.ended.ensures (λ m k at ended sound there.
@@ -37,7 +38,9 @@ returns-in-Ok-clause-consults g c = gives c.ended.ensures (λ m k at ended sound
 pub returns-in-Err-clause-consults : goal.returns-in-Err-clause-consults
 returns-in-Err-clause-consults g c = goes_on no_call (λ m k at none sound there.
     let lines = lines_of (job_numbered c.args.job.job (aged c.args.t m)) in
-    report_refused (aged c.args.t m) (outcome_reply (settings_of c.args.office.now.setup c.args.office.now.controls) c.args.t) (job_in (aged c.args.t m) c.args.job) _ c.in-Err.refusal c.refused.result
-    (outcome_refused (λ e. has_detail e ≡ false) refl refl refl refl refl c.args.said (job_of c.args.job) _ c.delay-delay.result c.args.t c.in-Err.refusal (sym c.in-Err.ensures)) c.refused.ensures
+    report_refused (aged c.args.t m) (outcome_reply (settings_of c.args.office.now.setup c.args.office.now.controls) c.args.t)
+    (job_in (aged c.args.t m) c.args.job) _ c.in-Err.refusal c.refused.result
+    (outcome_refused (λ e. has_detail e ≡ false) refl refl refl refl refl c.args.said (job_of c.args.job) _ c.delay-delay.result c.args.t c.in-Err.refusal
+    (sym c.in-Err.ensures)) c.refused.ensures
     (ap (both_lined lines) c.in-Err.ensures ∙ outcome_lined lines c.args.said (job_of c.args.job) c.args.grant c.delay-delay.result c.args.t
     ∙ ap (λ (delay : ℕ). outcome c.args.said (job_in (aged c.args.t m) c.args.job) c.args.grant delay c.args.t) c.delay-delay.ensures.seconds))

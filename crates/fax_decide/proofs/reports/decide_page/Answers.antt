@@ -20,7 +20,8 @@ use Rattle.fax_decide.proofs.reports.decide_page.Goals as goal
 
 pub page_refused-requires : goal.page_refused-requires
 page_refused-requires c =
-    page_refused (λ e. ¬ (e ≡ PageOrder) → has_detail e ≡ false) (λ _. refl) (λ _. refl) (λ no. absurd (no refl)) c.args.said (job_of c.args.job) _ c.in-Err.refusal (sym c.in-Err.ensures)
+    page_refused (λ e. ¬ (e ≡ PageOrder) → has_detail e ≡ false) (λ _. refl) (λ _. refl) (λ no. absurd (no refl)) c.args.said
+    (job_of c.args.job) _ c.in-Err.refusal (sym c.in-Err.ensures)
 
 pub returns-in-Ok-clause-decided : goal.returns-in-Ok-clause-decided
 returns-in-Ok-clause-decided c m there few fit =
@@ -31,14 +32,16 @@ returns-in-Ok-clause-decided c m there few fit =
     (page_goes c.args.said c.args.job c.args.grant c.in-Ok.change fit c.in-Ok.ensures) in
     reported_on (λ step. OrNoAnswer c.confirmed.result (Decides step m c.args.t)) (aged c.args.t m) (page_reply c.args.t) lines (job_of c.args.job) c.in-Ok.change _ c.with_page.result _ _
     next c.in-Ok.ensures (page_lined lines c.args.said (job_of c.args.job) c.args.grant)
-    (c.confirmed.ensures m c.args.grant there (subst (IsSameGrant c.args.grant) (sym next) (same_given c.args.grant _ (c.args.grant.confirmed + 1))) (ap (λ (g : Grant). g.number) next) few.0 far
+    (c.confirmed.ensures m c.args.grant there (subst (IsSameGrant c.args.grant) (sym next) (same_given c.args.grant _ (c.args.grant.confirmed + 1)))
+    (ap (λ (g : Grant). g.number) next) few.0 far
     (page_keeps c.args.job c.args.grant _ c.in-Ok.change (fit (was_open c.args.grant _ _ c.in-Ok.ensures)) c.args.said c.in-Ok.ensures))
 
 pub returns-in-Err-clause-decided : goal.returns-in-Err-clause-decided
 returns-in-Err-clause-decided c m there few fit =
     let lines = lines_of (job_numbered c.args.job.job (aged c.args.t m)) in
     or_weaker c.page_refused.result _ _ (λ d told. subst (Decides _ m c.args.t) (sym told)
-    (page_refused_is (aged c.args.t m) c.args.t lines (job_of c.args.job) _ c.in-Err.refusal (ap (both_lined lines) c.in-Err.ensures ∙ page_lined lines c.args.said (job_of c.args.job) c.args.grant))) c.page_refused.ensures.reply
+    (page_refused_is (aged c.args.t m) c.args.t lines (job_of c.args.job) _ c.in-Err.refusal
+    (ap (both_lined lines) c.in-Err.ensures ∙ page_lined lines c.args.said (job_of c.args.job) c.args.grant))) c.page_refused.ensures.reply
 
 pub returns-in-Err-clause-closed : goal.returns-in-Err-clause-closed
 returns-in-Err-clause-closed c off = c.page_refused.ensures.made (closed_page _ c.in-Err.refusal c.in-Err.ensures (rw off refl))

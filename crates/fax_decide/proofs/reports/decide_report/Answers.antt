@@ -21,7 +21,8 @@ returns-in-Some-2 g c = gives (both (both c.in_ok-grant.ensures.consults c.in_ok
     let grant = sym calls.0.0 ∙ c.in-Some.is in
     let job = ap (λ n. job_numbered n (aged c.args.t m)) (sym c.from.ensures) ∙ sym calls.0.1 ∙ ap (option_map (job_in (aged c.args.t m))) c.in-Some-2.is in
     let few = (holds_found IsLawfulGrant _ m.grants c.in-Some.grant at.means.lawful.grants grant).limits.pages in
-    subst (λ step. OrNoAnswer c.report_on.result (Decides step m c.args.t)) (on_grant_is s (aged c.args.t m) c.args.t c.args.number c.args.report c.in-Some.grant _ grant job)
+    subst (λ step. OrNoAnswer c.report_on.result (Decides step m c.args.t))
+    (on_grant_is s (aged c.args.t m) c.args.t c.args.number c.args.report c.in-Some.grant _ grant job)
     (calls.1 sound (are_there m c.args.t c.args.number c.in-Some.grant c.in-Some-2.job grant job) (few.0, few.3)))
 
 pub returns-in-None : goal.returns-in-None
@@ -29,16 +30,19 @@ returns-in-None g c = goes_on (both c.in_ok-grant.ensures.consults c.in_ok-job.e
     let s = settings_of c.args.office.now.setup c.args.office.now.controls in
     let grant = sym calls.0 ∙ c.in-Some.is in
     let job = ap (λ n. job_numbered n (aged c.args.t m)) (sym c.from.ensures) ∙ sym calls.1 ∙ ap (option_map (job_in (aged c.args.t m))) c.in-None.is in
-    subst (λ step. OrNoAnswer c.without_job.result (Decides step m c.args.t)) (on_grant_is s (aged c.args.t m) c.args.t c.args.number c.args.report c.in-Some.grant _ grant job)
+    subst (λ step. OrNoAnswer c.without_job.result (Decides step m c.args.t))
+    (on_grant_is s (aged c.args.t m) c.args.t c.args.number c.args.report c.in-Some.grant _ grant job)
     (always_answered c.without_job.result _ (c.without_job.ensures.decided m c.args.t)
     (λ err. job_there m c.args.t c.args.number c.in-Some.grant sound grant (c.without_job.ensures.misfit.0 err) job)))
 
 pub returns-in_default : goal.returns-in_default
 returns-in_default g c = goes_on c.in_ok-grant.ensures.consults (λ m k at grant sound.
-    refused_as (ap (on_grant (settings_of c.args.office.now.setup c.args.office.now.controls) (aged c.args.t m) c.args.t c.args.report) (sym grant ∙ c.in_default.is)) c.refused.ensures)
+    refused_as (ap (on_grant (settings_of c.args.office.now.setup c.args.office.now.controls) (aged c.args.t m) c.args.t c.args.report)
+    (sym grant ∙ c.in_default.is)) c.refused.ensures)
 
 pub returns-in_err-grant : goal.returns-in_err-grant
 returns-in_err-grant g c = stops c.from_residual.ensures.1 c.in_err-grant.ensures.consults (λ m out why sound. out _ (ap fault_of why))
 
 pub returns-in_err-job : goal.returns-in_err-job
-returns-in_err-job g c = stops c.from_residual-in_err-job.ensures.1 (both c.in_ok-grant.ensures.consults c.in_err-job.ensures.consults) (λ m out why sound. out _ (ap fault_of why.1))
+returns-in_err-job g c = stops c.from_residual-in_err-job.ensures.1 (both c.in_ok-grant.ensures.consults c.in_err-job.ensures.consults)
+    (λ m out why sound. out _ (ap fault_of why.1))

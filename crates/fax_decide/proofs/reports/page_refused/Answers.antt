@@ -7,4 +7,5 @@ use Rattle.fax_decide.proofs.reports.page_refused.Goals as goal
 
 pub returns-then-eq-clause-reply : goal.returns-then-eq-clause-reply
 returns-then-eq-clause-reply c =
-    or_weaker c.page_order.result _ _ (λ d same. same ∙ ap (λ (reply : Response). Refused reply) (order_keys c.args.job.now c.args.refusal (search rules))) c.page_order.ensures
+    or_weaker c.page_order.result _ _ (λ d same. same ∙ ap (λ (reply : Response). Refused reply) (order_keys c.args.job.now c.args.refusal (search rules)))
+    c.page_order.ensures

@@ -17,7 +17,8 @@ pub returns-in-Mark : goal.returns-in-Mark
 returns-in-Mark g c = rw c.in-Mark.is (decides (goes_on no_call (λ m k at none sound these. both_sides c.decide_mark.result _ (c.decide_mark.ensures m c.args.t))))
 
 pub returns-in-Next : goal.returns-in-Next
-returns-in-Next g c = rw c.in-Next.is (decides (gives c.decide_next.ensures (λ m k at decided sound these. both_sides c.decide_next.result _ (decided sound (ap (λ (x : Meta). x.next_grant) these)))))
+returns-in-Next g c = rw c.in-Next.is (decides (gives c.decide_next.ensures
+    (λ m k at decided sound these. both_sides c.decide_next.result _ (decided sound (ap (λ (x : Meta). x.next_grant) these)))))
 
 pub returns-in-OnGrant : goal.returns-in-OnGrant
 returns-in-OnGrant g c = rw c.in-OnGrant.is (decides (gives c.decide_report.ensures (λ m k at decided sound these. both_sides c.decide_report.result _ (decided sound))))

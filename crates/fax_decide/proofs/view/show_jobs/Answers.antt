@@ -21,7 +21,8 @@ returns g c = views (goes_on (both (by_reading c.in_ok-jobs.ensures.leaves c.in_
     ∙ ap (λ (text : List ℕ). accepted_response (Listed text)) (ap (listing_of s.shows) rows ∙ listing_thin s.shows seen)))
 
 pub returns-in_err-jobs : goal.returns-in_err-jobs
-returns-in_err-jobs g c = views (stops c.from_residual.ensures.1 (by_reading c.in_err-jobs.ensures.leaves c.in_err-jobs.ensures.answers) (λ m out why sound. out _ (ap fault_of why)))
+returns-in_err-jobs g c =
+    views (stops c.from_residual.ensures.1 (by_reading c.in_err-jobs.ensures.leaves c.in_err-jobs.ensures.answers) (λ m out why sound. out _ (ap fault_of why)))
 
 pub returns-in_err-rows : goal.returns-in_err-rows
 returns-in_err-rows g c =

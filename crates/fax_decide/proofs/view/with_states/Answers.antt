@@ -1,8 +1,9 @@
 use Rattle.std.proofs.Common.{[], ◌∷◌, ◌++◌, ap, refl, sym, ◌∙◌, append_assoc, append-nil}
-use Rattle.std.proofs.lemmas.List.{nil_from_length}
-use Rattle.fax_decide.specs.Settings.{settings_of}
+use Rattle.std.proofs.lemmas.List.{map_push, nil_from_length}
 use Rattle.fax_decide.proofs.LookingLemmas.{both, goes_on, no_call, stops}
-use Rattle.fax_decide.proofs.ViewLemmas.{one_more_row}
+use Rattle.fax_decide.proofs.ViewLemmas.{row_is}
+use Rattle.fax_decide.specs.Settings.{settings_of}
+use Rattle.fax_text.specs.Listing.{Listed}
 use Rattle.fax_decide.proofs.view.with_states.Goals as goal
 
 pub loop-job-preserved : goal.loop-job-preserved
@@ -10,8 +11,10 @@ loop-job-preserved g c = record {
   can = tt;
   ends = tt;
   items = c.loop-job.invariant.items ∙ ap (λ rest. c.loop-job.yielded ++ rest) c.in-Some.ensures.steps.0 ∙ sym (append_assoc c.loop-job.yielded (c.in-Some.job ∷ []) c.next.new.self.rest.items);
-  consults = goes_on (both c.loop-job.invariant.consults c.in_ok-add_row.ensures) (λ m k at calls.
-      one_more_row (settings_of c.args.office.now.setup c.args.office.now.controls) m c.args.t c.loop-job.yielded c.in-Some.job c.loop-job.rows.items _ calls.0 calls.1);
+  consults = goes_on (both c.loop-job.invariant.consults c.in_ok-state.ensures) (λ m k at calls.
+      rw (map_push, ← calls.0) (c.in_ok-add_row.ensures ∙ ap (λ (row : Listed). c.loop-job.rows.items ++ row ∷ [])
+      (row_is (settings_of c.args.office.now.setup c.args.office.now.controls) m c.args.t c.in-Some.job c.aged_job-job.result c.in_ok-state.state
+      c.aged_job-job.ensures calls.1)));
 }
 
 pub returns : goal.returns
@@ -22,5 +25,8 @@ returns g c = goes_on c.loop-job.invariant.consults (λ m k at rows.
 pub returns-in_err-rows : goal.returns-in_err-rows
 returns-in_err-rows g c = stops c.from_residual.ensures.1 no_call (λ m out none. out _ refl)
 
+pub returns-in_err-state : goal.returns-in_err-state
+returns-in_err-state g c = stops c.from_residual-in_err-state.ensures.1 (both c.loop-job.invariant.consults c.in_err-state.ensures) (λ m out why. out _ why.1)
+
 pub returns-in_err-add_row : goal.returns-in_err-add_row
-returns-in_err-add_row g c = stops c.from_residual-in_err-add_row.ensures.1 (both c.loop-job.invariant.consults c.in_err-add_row.ensures) (λ m out why. out _ why.1)
+returns-in_err-add_row g c = stops c.from_residual-in_err-add_row.ensures.1 (both c.loop-job.invariant.consults c.in_ok-state.ensures) (λ m out calls. out _ refl)

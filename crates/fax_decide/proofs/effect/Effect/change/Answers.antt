@@ -14,7 +14,8 @@ returns-in-Marked-clause-changes g c m₀ m k₀ k suits works = rw (c.in-Marked
 
 pub returns-in_err-put_change-in-NewGrant-clause-changes : goal.returns-in_err-put_change-in-NewGrant-clause-changes
 returns-in_err-put_change-in-NewGrant-clause-changes g c m₀ m k₀ k suits works =
-    refused_any _ _ m₀ _ _ k₀ _ _ c.in_err-put_change-in-NewGrant.ensures.leaves.fails (c.put_change-in-NewGrant.ensures.changes m₀ m k₀ k (rw c.in-NewGrant.is at suits) works)
+    refused_any _ _ m₀ _ _ k₀ _ _ c.in_err-put_change-in-NewGrant.ensures.leaves.fails
+    (c.put_change-in-NewGrant.ensures.changes m₀ m k₀ k (rw c.in-NewGrant.is at suits) works)
 
 pub returns-in_ok-put_change-in-NewGrant-clause-changes : goal.returns-in_ok-put_change-in-NewGrant-clause-changes
 returns-in_ok-put_change-in-NewGrant-clause-changes g c m₀ m k₀ k suits works =
@@ -22,7 +23,8 @@ returns-in_ok-put_change-in-NewGrant-clause-changes g c m₀ m k₀ k suits work
 
 pub returns-in_err-put_change-in-Reported-clause-changes : goal.returns-in_err-put_change-in-Reported-clause-changes
 returns-in_err-put_change-in-Reported-clause-changes g c m₀ m k₀ k suits works =
-    refused_any _ _ m₀ _ _ k₀ _ _ c.in_err-put_change-in-Reported.ensures.leaves.fails (c.put_change-in-Reported.ensures.changes m₀ m k₀ k (rw c.in-Reported.is at suits).0 works)
+    refused_any _ _ m₀ _ _ k₀ _ _ c.in_err-put_change-in-Reported.ensures.leaves.fails
+    (c.put_change-in-Reported.ensures.changes m₀ m k₀ k (rw c.in-Reported.is at suits).0 works)
 
 pub returns-in_ok-put_change-in-Reported-clause-changes : goal.returns-in_ok-put_change-in-Reported-clause-changes
 returns-in_ok-put_change-in-Reported-clause-changes g c m₀ m k₀ k suits works =
@@ -31,7 +33,8 @@ returns-in_ok-put_change-in-Reported-clause-changes g c m₀ m k₀ k suits work
 
 pub returns-in_err-put_change-in-Closed-clause-changes : goal.returns-in_err-put_change-in-Closed-clause-changes
 returns-in_err-put_change-in-Closed-clause-changes g c m₀ m k₀ k suits works =
-    refused_any _ _ m₀ _ _ k₀ _ _ c.in_err-put_change-in-Closed.ensures.leaves.fails (c.put_change-in-Closed.ensures.changes m₀ m k₀ k (rw c.in-Closed.is at suits) works)
+    refused_any _ _ m₀ _ _ k₀ _ _ c.in_err-put_change-in-Closed.ensures.leaves.fails
+    (c.put_change-in-Closed.ensures.changes m₀ m k₀ k (rw c.in-Closed.is at suits) works)
 
 pub returns-in_ok-put_change-in-Closed-clause-changes : goal.returns-in_ok-put_change-in-Closed-clause-changes
 returns-in_ok-put_change-in-Closed-clause-changes g c m₀ m k₀ k suits works =
