@@ -39,7 +39,7 @@ use Rattle.fax_store.proofs.HeldLemmas.{held_still, rows_callable}
 use Rattle.fax_schema.proofs.StatementTexts.{select_version, version_project, raise_project, update_version}
 use Rattle.fax_store.proofs.StopLemmas.{begin_nothing, commit_makes}
 use Rattle.fax_store.proofs.StoreLemmas.{same_tables}
-use Rattle.fax_store.proofs.WorkLemmas.{not_strange, ok_as, refused_as}
+use Rattle.fax_store.proofs.WorkLemmas.{not_strange, ok_as, refused_as, both_as}
 use Rattle.sqlite_rules.proofs.TableLemmas.{int_is}
 use Rattle.std.proofs.lemmas.List.{map-id}
 use Rattle.sqlite.specs.Cast.{cast_row}
@@ -149,16 +149,13 @@ turns_then : {A B : Type 0} (a b c : State) (P P' : State → Type 0) (Q Q' R : 
     → TurnsOrUnavailable P Q a b (Ok x) → TurnsOrUnavailable P' Q' b c r → TurnsOrUnavailable P R a c r
 turns_then a b c P P' Q Q' R x r moves joins first next = record {
   leaves = record {
-    goes = λ clean was. let one = first.leaves.goes (next.leaves.clean clean) was in goes r one (next.leaves.goes clean (moves one));
+    goes = λ clean was. let one = first.leaves.goes (next.leaves.clean clean) was in
+        both_as r (λ two. (goes_on a b c one.0 two.0, joins one.1 two.1)) (commit_kept a b c one.0) (next.leaves.goes clean (moves one));
     crash = λ was. nothing_then a b c (first.leaves.crash was) (next.leaves.crash (λ clean. moves (first.leaves.goes clean (was (first.leaves.clean clean)))));
     clean = λ clean. first.leaves.clean (next.leaves.clean clean);
   };
   cause = next.cause;
 }
-  where
-    goes : {B : Type 0} (r : Result B StoreFault) → GoesOn a b × Q a.now b.now → MatchResult r (λ _. GoesOn b c × Q' b.now c.now) (λ _. KeepsCommit b c) → MatchResult r (λ _. GoesOn a c × R a.now c.now) (λ _. KeepsCommit a c)
-    goes (Ok y) one two = (goes_on a b c one.0 two.0, joins one.1 two.1)
-    goes (Err e) one kept = commit_kept a b c one.0 kept
 
 -- where a step was done, the transaction goes on over these tables
 still_in : (a b : State) (Between : Schema → Type 0) → GoesOn a b × Leaves Between a.now b.now → IsIn Between b

@@ -50,7 +50,7 @@ use Rattle.sqlite_sql.specs.Term.{Term}
 use Rattle.fax_schema.proofs.StatementTexts.{brief_names, brief_project, job_names, job_project, job_terms, job_tests, select_brief, select_job, insert_job, change_project, update_job, expired_tests, expired_project, expire_jobs, killtime_project, select_expired}
 use Rattle.std.proofs.Math.Bool.{and-true}
 use Rattle.std.specs.Str.{IsUtf8}
-use Rattle.std.proofs.lemmas.Bool.{and_parts, eqb-true, eq-eqb, cond_both}
+use Rattle.std.proofs.lemmas.Bool.{and_parts, eqb-true, eq-eqb, cond_both, cases_Bool}
 use Rattle.std.proofs.lemmas.List.Elements.{All-from_recursion, All-map, recursion_from_All}
 use Rattle.sqlite_rules.proofs.ListLemmas.{all_from, all_has}
 use Rattle.sqlite_rules.proofs.ProbeLemmas.{mapped_has}
@@ -388,12 +388,8 @@ either Failed past = refl
 
 -- expired while held and then while it waits, a job has aged by the moment
 expired_once : (t : ℕ) (j : Job) → expired_in Waiting t (expired_in Held t j) ≡ aged_job t j
-expired_once t j = by (phase_number j.phase == 0 && is_past j.killtime t) (phase_number j.phase == 1 && is_past j.killtime t) refl refl ∙ ap (λ b. if b then expired Held t j else j) (sym (either j.phase (is_past j.killtime t)))
-  where
-    by : (held waits : Bool) → (phase_number j.phase == 0 && is_past j.killtime t) ≡ held → (phase_number j.phase == 1 && is_past j.killtime t) ≡ waits
-        → expired_in Waiting t (expired_in Held t j) ≡ (if held || waits then expired Held t j else j)
-    by true waits e w = rw e refl
-    by false waits e w = rw (e, w) refl
+expired_once t j = elim (cases_Bool (phase_number j.phase == 0 && is_past j.killtime t))
+    [ inl e ↦ rw (either j.phase (is_past j.killtime t), e) refl | inr e ↦ rw (either j.phase (is_past j.killtime t), e) refl ]
 
 -- expired while held and then while they wait, all jobs have expired that do
 pub expired_in_turn : (t : ℕ) (m : Queue) → with_expired_in Waiting t (with_expired_in Held t m) ≡ with_expired t m

@@ -1,7 +1,6 @@
-use Rattle.std.proofs.Common.{◌≡◌, ap, subst}
+use Rattle.std.proofs.Common.{ap, subst}
 use Rattle.fax_core.specs.Job.{job_of}
 use Rattle.fax_store.specs.Calls.{shown}
-use Rattle.fax_tables.specs.Meta.{meta_of}
 use Rattle.fax_tables.specs.declared.meta.Meta.{Meta}
 use Rattle.fax_store.specs.Job.{with_one_more_job}
 use Rattle.fax_store.specs.Meta.{with_clock}

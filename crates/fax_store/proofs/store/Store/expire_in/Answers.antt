@@ -1,4 +1,4 @@
-use Rattle.std.proofs.Common.{◌≡◌, false, rules}
+use Rattle.std.proofs.Common.{rules}
 use Rattle.fax_schema.specs.declared.statements.TheConstants.{EXPIRE_JOBS}
 use Rattle.fax_store.specs.Job.{with_expired_in}
 use Rattle.fax_store.proofs.JobLemmas.{expired_params, jobs_expired}

@@ -1,7 +1,6 @@
 use Rattle.std.proofs.Common.{◌≡◌, refl, sym, subst, ◌∙◌, rules}
 use Rattle.fax_store.proofs.FrameLemmas.{reads_on, runs_of, runs_then}
 use Rattle.sqlite.specs.Tree.{IsTable}
-use Rattle.fax_core.specs.Queue.{grant_numbered}
 use Rattle.fax_store.proofs.GrantLemmas.{closed_already}
 use Rattle.std.specs.Prelude.{false}
 use Rattle.fax_store.proofs.store.Store.shut_grant.Goals as goal
