@@ -46,7 +46,6 @@ module _ (settings : Settings) (a : Arrival) (m : Queue) (k : Ledger) (reply : R
   stays_sound (inl (v, is, leaves)) = left_by v is leaves
   stays_sound (inr (same, left)) = unchanged (still_means s m k left)
 
-
 -- ---- one more arrival
 
 -- a verdict is answered, and the store has where it leads

@@ -25,8 +25,8 @@ use fax_schema::{
     has_no_tables, has_ours,
 };
 use fax_tables::{
-    StoreFault, create_calls, create_second_tables, create_indexes, create_tables, dial_in, drop_calls,
-    drop_indexes, held_job_in, is_version,
+    StoreFault, create_calls, create_indexes, create_second_tables, create_tables, dial_in,
+    drop_calls, drop_indexes, held_job_in, is_version,
 };
 use sqlite::{Alter, Connection, Row, params};
 use sqlite_schema::schema::Schema;

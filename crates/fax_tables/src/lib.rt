@@ -24,5 +24,5 @@ pub use meta::{Meta, PAST_GRANTS, PAST_JOBS, is_version};
 pub use prospect::{Prospect, prospect_in};
 pub use replies::{Kept, is_kept_status, number_value};
 pub use schema::{
-    create_calls, create_second_tables, create_indexes, create_tables, drop_calls, drop_indexes,
+    create_calls, create_indexes, create_second_tables, create_tables, drop_calls, drop_indexes,
 };
