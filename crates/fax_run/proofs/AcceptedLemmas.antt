@@ -8,7 +8,7 @@ use Rattle.fax_ask.specs.Answer.{Replied}
 use Rattle.fax_ask.specs.declared.view.View.{View}
 use Rattle.fax_ask.specs.Response.{Response, accepted_response, kept_response}
 use Rattle.fax_core.specs.declared.ask.Ask.{Ask}
-use Rattle.fax_core.specs.Ledger.{Ledger, with_floor, with_reply, kept_for, entry}
+use Rattle.fax_core.specs.Ledger.{Ledger, with_reply, kept_for, entry}
 use Rattle.fax_core.specs.Queue.{Queue, Entry}
 use Rattle.fax_core.specs.Reply.{Reply, Step, Taken, Refused}
 use Rattle.fax_core.specs.Run.{decided}

@@ -6,7 +6,7 @@ use Rattle.std.proofs.lemmas.List.{length-append}
 use Rattle.fax_job.specs.declared.alter.Alter.{Alter}
 use Rattle.fax_job.specs.declared.import.Import.{Import}
 use Rattle.fax_job.specs.declared.job.Call.{Call}
-use Rattle.fax_job.specs.declared.job.Call.TheVariants.{Connected, Busy, NoAnswer, NoCarrier, Other}
+use Rattle.fax_job.specs.declared.job.Call.TheVariants.{Connected}
 use Rattle.fax_job.specs.declared.job.Phase.{Phase}
 use Rattle.fax_job.specs.declared.job.Phase.TheVariants as phase
 use Rattle.fax_job.specs.declared.job.Wish.{Wish}
@@ -29,7 +29,7 @@ use Rattle.fax_core.specs.Job.{Job}
 use Rattle.fax_core.specs.Settings.{Rule}
 use Rattle.fax_core.proofs.DecisionLemmas.{IsPage, not_refused, ok_same, paged}
 use Rattle.fax_core.proofs.ImportLemmas.{bring_counts}
-use Rattle.fax_run.specs.Counts.{Counters, came_in, counters_of, counts, is_call, is_connected, is_page, no_counters, number_of, since, unless_any}
+use Rattle.fax_run.specs.Counts.{Counters, came_in, counters_of, counts, no_counters}
 
 -- ---- one more report
 

@@ -22,7 +22,7 @@ use Rattle.fax_run.proofs.ReadingLemmas.{Says, Says_fault, Says_post, Says_view,
 use Rattle.fax_run.proofs.SumLemmas.{counters_are_counts}
 use Rattle.fax_run.specs.Laws.{AreAccepted, AreTaken, GoesWell, KeepsGrants}
 use Rattle.fax_run.specs.Reading.{Reading, Faulty, Sees, Posts, IsReading}
-use Rattle.fax_run.specs.Run.{Fed, Start, IsRun, is_new, is_taken, queue_after, reply_at, step_of, taken, takes, under, with_taken}
+use Rattle.fax_run.specs.Run.{Fed, Start, IsRun, is_new, is_taken, queue_after, reply_at, step_of, takes, under, with_taken}
 use Rattle.fax_run.specs.Verdict.{is_too_high}
 use Rattle.fax_run.specs.declared.arrival.Arrival.{Arrival}
 

@@ -21,7 +21,7 @@ use Rattle.fax_core.specs.Job.{Job}
 use Rattle.fax_core.specs.Machine as machine
 use Rattle.fax_core.specs.Machine.{act, brought_in, changed, handed, on_job, report_reply, step, submitted, with_both, with_job, with_mark, with_new_grant, with_new_job}
 use Rattle.fax_core.specs.Queue.{Queue, grant_numbered, job_numbered}
-use Rattle.fax_core.specs.Reply.{Brought, Floored, Given, Marked, NoKeys, NoneToSend, Refused, Reply, Stands, Submitted, Taken}
+use Rattle.fax_core.specs.Reply.{Brought, Given, Marked, NoKeys, NoneToSend, Refused, Reply, Submitted, Taken}
 use Rattle.fax_core.specs.Settings.{Rule, Settings}
 use Rattle.fax_core.specs.Sound.{IsJob, Sound}
 use Rattle.fax_core.specs.State.{state}
@@ -32,7 +32,7 @@ use Rattle.fax_core.proofs.PlaceLemmas.{absent, comes, either, find_placed, in_p
 use Rattle.fax_core.proofs.StepLemmas.{Best_to, GivenTo, None_to, aged_sound, given_is, taken_same}
 use Rattle.fax_run.proofs.CountLemmas.{Same, aged_same, asked_same, brought_counters, counted_all, report_counted, submitted_none}
 use Rattle.fax_run.proofs.CountLemmas as count
-use Rattle.fax_run.specs.Counts.{came_in, counters_of, hands, no_counters, reported}
+use Rattle.fax_run.specs.Counts.{came_in, counters_of, hands, reported}
 
 -- the grant that is found is of that job
 abbrev pub has_job : ℕ → Option Grant → Bool

@@ -7,7 +7,7 @@ use Rattle.std.specs.Cmp.Lexicographic.{bytes_decides}
 use Rattle.std.proofs.lemmas.Bool.{and_parts, not-true}
 use Rattle.fax_job.specs.Refusal.{refusal_status}
 use Rattle.fax_job.specs.declared.refusal.Refusal.{Refusal}
-use Rattle.fax_job.specs.declared.refusal.Refusal.TheVariants.{FloorHigh, GivenUp, NoRoute, NumberReused}
+use Rattle.fax_job.specs.declared.refusal.Refusal.TheVariants.{GivenUp, NoRoute, NumberReused}
 use Rattle.fax_ask.specs.Response.{Response, kept_response, refused_response}
 use Rattle.fax_core.specs.Clock.{decided_at}
 use Rattle.fax_core.specs.Ledger.{Ledger, kept_for, entry, IsKeptStatus}
@@ -21,7 +21,7 @@ use Rattle.fax_run.proofs.RunLemmas.{ends_after, is_free, new_is_free, raised_st
 use Rattle.fax_run.specs.Laws.{CopiesLeaveNoTrace, IsTakenAt, NumbersHaveOneReply, RunsSplit, UntakenLeaveNoTrace}
 use Rattle.fax_run.specs.Reading.{Post, Reading, Faulty, Sees, Posts}
 use Rattle.fax_run.specs.Run.{Fed, Start, end_after, end_of, is_new, is_taken, kept_after, queue_after, reply_at, reply_to, step_of, taken, takes, under, with_taken}
-use Rattle.fax_run.specs.Verdict.{Repeated, asked_above, decided_new, denied, is_too_high, new_asked, raised, reply_of, step_reply, stepped, taken_once, verdict, without_given}
+use Rattle.fax_run.specs.Verdict.{Repeated, asked_above, denied, is_too_high, new_asked, raised, reply_of, step_reply, stepped, taken_once, verdict, without_given}
 
 -- ---- what is taken behind some requests
 
