@@ -87,7 +87,7 @@ refused_by P false false false j e is first second third last = by (is_lawful (f
     by true lawful is = absurd cc
     by false lawful is = it_is P e Unavailable is (last refl (ap (λ b. cond b (Ok j) (Err Unavailable)) lawful))
 
--- What is known of the refusal: it is rejected where its rule rejects it, of any other no more is told, and one that a record could hold isn't refused as one that none could.
+-- A new job's refusal: it is rejected where the rule rejects it, of no other more is told, and none is refused as unlawful that a record could hold.
 pub record IsNewRefusal (rejected full : Bool) (j : Job) (e : Refusal) : Type 0 where
   pub rejects : e ≡ Rejected → rejected ≡ true
   pub plain : ¬ (e ≡ Rejected) → has_detail e ≡ false
