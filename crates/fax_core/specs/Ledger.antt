@@ -9,7 +9,7 @@ use Rattle.fax_core.specs.Queue.{Entry}
 abbrev pub entry : List ℕ → ℕ → List ℕ → ℕ → List ℕ → Entry
 entry client n said status body = record { client = client; number = n; said = said; status = status; body = body }
 
--- the status of a reply that is kept
+-- the status of a reply that is kept: OK or Created
 abbrev pub IsKeptStatus : ℕ → Type 0
 IsKeptStatus status = (status ≡ 200) ⊎ (status ≡ 201)
 
