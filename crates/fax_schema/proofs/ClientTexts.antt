@@ -1,5 +1,5 @@
 -- What the texts on floors, and on the replies that a client gives up, mean.
-use Rattle.std.proofs.Common.{◌≡◌, List, [], ◌∷◌, codes, map, refl}
+use Rattle.std.proofs.Common.{◌≡◌, List, [], ◌∷◌, codes, refl}
 use Rattle.sqlite.specs.Collation.TheVariants.{Binary}
 use Rattle.sqlite.specs.Command.TheVariants.{Insert, Delete}
 use Rattle.sqlite.specs.Listing.{understood}
@@ -10,11 +10,11 @@ use Rattle.sqlite_sql.specs.declared.ops.BinaryOp.TheVariants.{Compare}
 use Rattle.sqlite_sql.specs.declared.ops.CompareOp.TheVariants.{Le}
 use Rattle.sqlite_catalog.specs.Change.{created}
 use Rattle.sqlite_tied.specs.Compute.{everything}
-use Rattle.fax_schema.specs.declared.statements.TheConstants.{CREATE_FLOORS, CREATE_SECOND, DELETE_REPLIES, SELECT_HUNDREDTH, SELECT_FLOOR, DELETE_FLOOR, INSERT_FLOOR}
+use Rattle.fax_schema.specs.declared.statements.TheConstants.{CREATE_FLOORS, DELETE_REPLIES, SELECT_HUNDREDTH, SELECT_FLOOR, DELETE_FLOOR, INSERT_FLOOR}
 use Rattle.fax_schema.proofs.GrantTexts.{call_tests, call_project, call_terms}
-use Rattle.fax_schema.proofs.StatementForms.{equals, MakeAll, Makes, Selects, Commands}
+use Rattle.fax_schema.proofs.StatementForms.{equals, Makes, Selects, Commands}
 use Rattle.fax_schema.proofs.UpdateLemmas.{program_of, gone_project}
-use Rattle.fax_schema.specs.Schema.{first_bare, first_list, bare_tables, floors, floors_tree, our_tables, replies_tree}
+use Rattle.fax_schema.specs.Schema.{first_bare, bare_tables, floors, floors_tree, our_tables, replies_tree}
 
 -- CREATE_FLOORS makes that of floors
 pub makes_floors : Makes first_bare CREATE_FLOORS.now floors
@@ -25,10 +25,6 @@ makes_floors = record { command = refl; statement = refl; defined = refl; plain 
 pub created_floors : created first_bare floors ≡ bare_tables
 unfolding everything
 created_floors = refl
-
--- so the texts of the second version make its tables behind those of the first
-pub second_made : MakeAll first_list first_bare (map (λ text. text.now) CREATE_SECOND) bare_tables
-second_made = (bare_tables, record { table = floors; makes = makes_floors; is = created_floors; lacks = refl; new = refl }, refl)
 
 abbrev pub given_up_tests : List Term
 given_up_tests = equals (col 1 1) (col 0 0) ∷ op2 (Compare Le Binary) (col 1 2) (col 0 1) ∷ []

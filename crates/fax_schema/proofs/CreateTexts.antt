@@ -1,47 +1,53 @@
--- What the texts mean that make the indexes of jobs, and that take tables and indexes away.
-use Rattle.std.proofs.Common.{◌≡◌, List, ℕ, ◌+◌, length, slice_get, Some, false, Ok, refl}
+-- What the texts mean that make the indexes of jobs, and that take tables and indexes away, and from where to where the texts of each step lead.
+use Rattle.std.proofs.Common.{◌≡◌, ◌⊎◌, inl, inr, List, [], ◌∷◌, ℕ, ◌+◌, length, slice_get, Some, ◌||◌, true, false, not, Ok, refl}
+use Rattle.std.specs.List.{list_all}
 use Rattle.sqlite.specs.Command.TheVariants.{CreateIndex, DropIndex, DropTable}
 use Rattle.sqlite.specs.Compile.{index_defined_by}
-use Rattle.sqlite.specs.Does.{is_acted_on}
+use Rattle.sqlite.specs.Does.{is_acted_on, lacks_sequence}
 use Rattle.sqlite.specs.Listing.{understood}
 use Rattle.sqlite.proofs.Callers.{IsPlain, command_of, statement_of}
 use Rattle.sqlite_schema.specs.declared.schema.Index.{Index}
 use Rattle.sqlite_schema.specs.declared.schema.Keys.TheVariants.{Enforced}
 use Rattle.sqlite_schema.specs.declared.schema.Schema.{Schema}
 use Rattle.sqlite_schema.specs.declared.schema.Table.{Table}
-use Rattle.sqlite_catalog.specs.Change.{indexed, without_table, without_index}
+use Rattle.sqlite_catalog.specs.Change.{created, indexed, next_tree, without_table, without_index}
+use Rattle.sqlite_rules.specs.Lists.{Has}
+use Rattle.sqlite_rules.proofs.ListLemmas.{all_has}
 use Rattle.sqlite_tied.specs.Compute.{everything}
-use Rattle.fax_schema.specs.declared.statements.TheConstants.{CREATE_KILLTIME_INDEX, CREATE_CHOICE_INDEX, DROP_CALLS, DROP_CHOICE_INDEX, DROP_KILLTIME_INDEX}
-use Rattle.fax_schema.specs.Schema.{first_bare, first_with_killtime, first_core, first_older_core, first_tables, first_older, first_bare_calls, first_vacuumed, first_vacuumed_with_killtime, first_older_vacuumed, first_keys, first_list, first_past, bare_tables, with_killtime_index, core_tables, our_tables, bare_with_calls, vacuumed_tables, vacuumed_with_killtime, jobs, calls_at, calls_place, calls_tree, core_keys, core_past, killtime_index_at, choice_index_at, older_choice_index_at}
+use Rattle.fax_schema.specs.declared.statements.TheConstants.{CREATE_JOBS, CREATE_GRANTS, CREATE_HOLDS, CREATE_DOWN, CREATE_REPLIES, CREATE_META, CREATE_FLOORS, CREATE_KILLTIME_INDEX, CREATE_CHOICE_INDEX, DROP_CALLS, DROP_CHOICE_INDEX, DROP_KILLTIME_INDEX}
+use Rattle.fax_schema.specs.declared.way.Step.{Step}
+use Rattle.fax_schema.specs.declared.way.Step.TheVariants.{DropIndexes, DropCalls, CreateFirst, CreateSecond, CreateIndexes}
+use Rattle.fax_schema.specs.Schema.{no_tables, with_jobs, with_grants, with_holds, with_down, with_replies, first_bare, first_with_killtime, first_core, first_older_core, first_tables, first_older, first_bare_calls, first_vacuumed, first_vacuumed_with_killtime, first_older_vacuumed, first_keys, first_list, first_past, bare_tables, with_killtime_index, core_tables, our_tables, bare_with_calls, vacuumed_tables, vacuumed_with_killtime, jobs, grants, holds, down, replies, meta, floors, calls_at, calls_place, calls_tree, core_keys, core_past, killtime_index_at, choice_index_at, older_choice_index_at}
+use Rattle.fax_schema.specs.Way.{changes, texts_of}
+use Rattle.fax_schema.proofs.RowsLemmas.{are_in, is_in}
+use Rattle.fax_schema.proofs.StatementForms.{Makes}
+use Rattle.fax_schema.proofs.StatementTexts.{makes_jobs, created_jobs, makes_replies, created_replies, makes_meta, created_meta}
+use Rattle.fax_schema.proofs.GrantTexts.{makes_grants, created_grants, makes_holds, created_holds}
+use Rattle.fax_schema.proofs.ModemTexts.{makes_down, created_down}
+use Rattle.fax_schema.proofs.ClientTexts.{makes_floors, created_floors}
 
--- the text makes this index of jobs in any database with this schema
-pub record MakesIndexOf (schema : Schema) (sql : List ℕ) (index : Index) : Type 0 where
-  pub command : command_of (understood schema sql) ≡ CreateIndex 0
-  pub statement : statement_of sql (understood schema sql) ≡ sql
+-- ---- one text
+
+-- the text makes a table in any database with this schema, and leaves that
+pub record AddsTable (before : Schema) (sql : List ℕ) (after : Schema) : Type 0 where
+  pub table : Table
+  pub makes : Makes before sql table
+  pub is : created before table ≡ after
+  pub lacks : lacks_sequence after ≡ false
+  pub new : is_in before.tables (next_tree before) ≡ false
+
+-- it makes an index of jobs
+pub record AddsIndex (before : Schema) (sql : List ℕ) (after : Schema) : Type 0 where
+  pub index : Index
+  pub command : command_of (understood before sql) ≡ CreateIndex 0
+  pub statement : statement_of sql (understood before sql) ≡ sql
   pub defined : index_defined_by jobs sql ≡ Ok (record index { tree = 0; table = 0 })
-  pub plain : IsPlain (understood schema sql)
+  pub plain : IsPlain (understood before sql)
+  pub has : slice_get before.tables 0 ≡ Some jobs
+  pub is : indexed before jobs index ≡ after
+  pub tables : before.tables ≡ after.tables
 
--- CREATE_KILLTIME_INDEX makes the index of jobs by kill time
-pub makes_killtime_index : MakesIndexOf bare_tables CREATE_KILLTIME_INDEX.now (killtime_index_at core_past)
-unfolding understood everything
-makes_killtime_index = record { command = refl; statement = refl; defined = refl; plain = (refl, refl) }
-
--- and leaves it with the seven tables
-pub indexed_killtime : indexed bare_tables jobs (killtime_index_at core_past) ≡ with_killtime_index
-unfolding everything
-indexed_killtime = refl
-
--- CREATE_CHOICE_INDEX makes that by the order of the choice
-pub makes_choice_index : MakesIndexOf with_killtime_index CREATE_CHOICE_INDEX.now (choice_index_at (core_past + 1))
-unfolding understood everything
-makes_choice_index = record { command = refl; statement = refl; defined = refl; plain = (refl, refl) }
-
--- and leaves both
-pub indexed_choice : indexed with_killtime_index jobs (choice_index_at (core_past + 1)) ≡ core_tables
-unfolding everything
-indexed_choice = refl
-
--- the text takes one table, to which no other refers, away from any database with this schema, and leaves that
+-- it takes a table away to which no other refers
 pub record TakesAway (before : Schema) (sql : List ℕ) (after : Schema) : Type 0 where
   pub at : ℕ
   pub table : Table
@@ -51,31 +57,9 @@ pub record TakesAway (before : Schema) (sql : List ℕ) (after : Schema) : Type 
   pub unacted : is_acted_on before Enforced table ≡ false
   pub uncounted : table.is_counted ≡ false
   pub left : without_table before table.tree ≡ after
+  pub still : are_in before.tables after.tables ≡ true
 
--- DROP_CALLS takes `calls` from these
-pub drops_calls : TakesAway our_tables DROP_CALLS.now core_tables
-unfolding understood everything
-drops_calls = record { at = calls_place; table = calls_at calls_tree; command = refl; plain = (refl, refl); has = refl; unacted = refl; uncounted = refl; left = refl }
-
--- from those without the indexes of jobs
-pub drops_bare_calls : TakesAway bare_with_calls DROP_CALLS.now bare_tables
-unfolding understood everything
-drops_bare_calls = record { at = calls_place; table = calls_at core_past; command = refl; plain = (refl, refl); has = refl; unacted = refl; uncounted = refl; left = refl }
-
--- and from those of the first version
-pub drops_first_calls : TakesAway first_tables DROP_CALLS.now first_core
-unfolding understood everything
-drops_first_calls = record { at = length first_list; table = calls_at (first_past + 2); command = refl; plain = (refl, refl); has = refl; unacted = refl; uncounted = refl; left = refl }
-
-pub drops_first_bare_calls : TakesAway first_bare_calls DROP_CALLS.now first_bare
-unfolding understood everything
-drops_first_bare_calls = record { at = length first_list; table = calls_at first_past; command = refl; plain = (refl, refl); has = refl; unacted = refl; uncounted = refl; left = refl }
-
-pub drops_first_older_calls : TakesAway first_older DROP_CALLS.now first_older_core
-unfolding understood everything
-drops_first_older_calls = record { at = length first_list; table = calls_at (first_past + 2); command = refl; plain = (refl, refl); has = refl; unacted = refl; uncounted = refl; left = refl }
-
--- the text takes one index away from any database with this schema, and leaves that
+-- it takes an index away
 pub record LosesIndex (before : Schema) (sql : List ℕ) (after : Schema) : Type 0 where
   pub at : ℕ
   pub index : Index
@@ -83,39 +67,123 @@ pub record LosesIndex (before : Schema) (sql : List ℕ) (after : Schema) : Type
   pub plain : IsPlain (understood before sql)
   pub has : slice_get before.indexes at ≡ Some index
   pub left : without_index before index.tree ≡ after
+  pub tables : before.tables ≡ after.tables
+
+-- it does one of these
+abbrev pub Turns : Schema → List ℕ → Schema → Type 0
+Turns before sql after = AddsTable before sql after ⊎ AddsIndex before sql after ⊎ TakesAway before sql after ⊎ LosesIndex before sql after
+
+-- CREATE_KILLTIME_INDEX makes the index of jobs by kill time
+makes_killtime : AddsIndex bare_tables CREATE_KILLTIME_INDEX.now with_killtime_index
+unfolding understood everything
+makes_killtime = record { index = killtime_index_at core_past; command = refl; statement = refl; defined = refl; plain = (refl, refl); has = refl; is = refl; tables = refl }
+
+-- and CREATE_CHOICE_INDEX that by the order of the choice
+makes_choice : AddsIndex with_killtime_index CREATE_CHOICE_INDEX.now core_tables
+unfolding understood everything
+makes_choice = record { index = choice_index_at (core_past + 1); command = refl; statement = refl; defined = refl; plain = (refl, refl); has = refl; is = refl; tables = refl }
+
+-- DROP_CALLS takes `calls` from these
+drops_calls : TakesAway our_tables DROP_CALLS.now core_tables
+unfolding understood everything
+drops_calls = record { at = calls_place; table = calls_at calls_tree; command = refl; plain = (refl, refl); has = refl; unacted = refl; uncounted = refl; left = refl; still = refl }
+
+-- from those without the indexes of jobs
+drops_bare_calls : TakesAway bare_with_calls DROP_CALLS.now bare_tables
+unfolding understood everything
+drops_bare_calls = record { at = calls_place; table = calls_at core_past; command = refl; plain = (refl, refl); has = refl; unacted = refl; uncounted = refl; left = refl; still = refl }
+
+-- and from those of the first version
+drops_first_calls : TakesAway first_tables DROP_CALLS.now first_core
+unfolding understood everything
+drops_first_calls = record { at = length first_list; table = calls_at (first_past + 2); command = refl; plain = (refl, refl); has = refl; unacted = refl; uncounted = refl; left = refl; still = refl }
+
+drops_first_bare_calls : TakesAway first_bare_calls DROP_CALLS.now first_bare
+unfolding understood everything
+drops_first_bare_calls = record { at = length first_list; table = calls_at first_past; command = refl; plain = (refl, refl); has = refl; unacted = refl; uncounted = refl; left = refl; still = refl }
+
+drops_first_older_calls : TakesAway first_older DROP_CALLS.now first_older_core
+unfolding understood everything
+drops_first_older_calls = record { at = length first_list; table = calls_at (first_past + 2); command = refl; plain = (refl, refl); has = refl; unacted = refl; uncounted = refl; left = refl; still = refl }
 
 -- DROP_CHOICE_INDEX takes its index from the tables as VACUUM leaves them
-pub drops_choice : LosesIndex vacuumed_tables DROP_CHOICE_INDEX.now vacuumed_with_killtime
+drops_choice : LosesIndex vacuumed_tables DROP_CHOICE_INDEX.now vacuumed_with_killtime
 unfolding understood everything
-drops_choice = record { at = length core_keys + 2; index = choice_index_at (core_past + 3); command = refl; plain = (refl, refl); has = refl; left = refl }
+drops_choice = record { at = length core_keys + 2; index = choice_index_at (core_past + 3); command = refl; plain = (refl, refl); has = refl; left = refl; tables = refl }
 
 -- and DROP_KILLTIME_INDEX the other
-pub drops_killtime : LosesIndex vacuumed_with_killtime DROP_KILLTIME_INDEX.now bare_with_calls
+drops_killtime : LosesIndex vacuumed_with_killtime DROP_KILLTIME_INDEX.now bare_with_calls
 unfolding understood everything
-drops_killtime = record { at = length core_keys + 1; index = killtime_index_at (core_past + 2); command = refl; plain = (refl, refl); has = refl; left = refl }
+drops_killtime = record { at = length core_keys + 1; index = killtime_index_at (core_past + 2); command = refl; plain = (refl, refl); has = refl; left = refl; tables = refl }
 
 -- so they do from those of the first version, with the newer or the older index
-pub drops_first_choice : LosesIndex first_vacuumed DROP_CHOICE_INDEX.now first_vacuumed_with_killtime
+drops_first_choice : LosesIndex first_vacuumed DROP_CHOICE_INDEX.now first_vacuumed_with_killtime
 unfolding understood everything
-drops_first_choice = record { at = length first_keys + 2; index = choice_index_at (first_past + 3); command = refl; plain = (refl, refl); has = refl; left = refl }
+drops_first_choice = record { at = length first_keys + 2; index = choice_index_at (first_past + 3); command = refl; plain = (refl, refl); has = refl; left = refl; tables = refl }
 
-pub drops_first_older_choice : LosesIndex first_older_vacuumed DROP_CHOICE_INDEX.now first_vacuumed_with_killtime
+drops_first_older_choice : LosesIndex first_older_vacuumed DROP_CHOICE_INDEX.now first_vacuumed_with_killtime
 unfolding understood everything
-drops_first_older_choice = record { at = length first_keys + 2; index = older_choice_index_at (first_past + 3); command = refl; plain = (refl, refl); has = refl; left = refl }
+drops_first_older_choice = record { at = length first_keys + 2; index = older_choice_index_at (first_past + 3); command = refl; plain = (refl, refl); has = refl; left = refl; tables = refl }
 
-pub drops_first_killtime : LosesIndex first_vacuumed_with_killtime DROP_KILLTIME_INDEX.now first_bare_calls
+drops_first_killtime : LosesIndex first_vacuumed_with_killtime DROP_KILLTIME_INDEX.now first_bare_calls
 unfolding understood everything
-drops_first_killtime = record { at = length first_keys + 1; index = killtime_index_at (first_past + 2); command = refl; plain = (refl, refl); has = refl; left = refl }
+drops_first_killtime = record { at = length first_keys + 1; index = killtime_index_at (first_past + 2); command = refl; plain = (refl, refl); has = refl; left = refl; tables = refl }
 
 -- and from those without `calls`
-pub drops_core_choice : LosesIndex first_core DROP_CHOICE_INDEX.now first_with_killtime
+drops_core_choice : LosesIndex first_core DROP_CHOICE_INDEX.now first_with_killtime
 unfolding understood everything
-drops_core_choice = record { at = length first_keys + 1; index = choice_index_at (first_past + 1); command = refl; plain = (refl, refl); has = refl; left = refl }
+drops_core_choice = record { at = length first_keys + 1; index = choice_index_at (first_past + 1); command = refl; plain = (refl, refl); has = refl; left = refl; tables = refl }
 
-pub drops_older_core_choice : LosesIndex first_older_core DROP_CHOICE_INDEX.now first_with_killtime
+drops_older_core_choice : LosesIndex first_older_core DROP_CHOICE_INDEX.now first_with_killtime
 unfolding understood everything
-drops_older_core_choice = record { at = length first_keys + 1; index = older_choice_index_at (first_past + 1); command = refl; plain = (refl, refl); has = refl; left = refl }
+drops_older_core_choice = record { at = length first_keys + 1; index = older_choice_index_at (first_past + 1); command = refl; plain = (refl, refl); has = refl; left = refl; tables = refl }
 
-pub drops_core_killtime : LosesIndex first_with_killtime DROP_KILLTIME_INDEX.now first_bare
+drops_core_killtime : LosesIndex first_with_killtime DROP_KILLTIME_INDEX.now first_bare
 unfolding understood everything
-drops_core_killtime = record { at = length first_keys; index = killtime_index_at first_past; command = refl; plain = (refl, refl); has = refl; left = refl }
+drops_core_killtime = record { at = length first_keys; index = killtime_index_at first_past; command = refl; plain = (refl, refl); has = refl; left = refl; tables = refl }
+
+-- ---- the texts of a step
+
+-- Texts lead from the one schema to the other. None makes a table in a tree that one of the first tables had, unless that still stands.
+abbrev pub Passes : List Table → Schema → List (List ℕ) → Schema → Type 0
+Passes first before [] after = before ≡ after
+Passes first before (sql ∷ texts) after =
+    (next : Schema) × Turns before sql next × (list_all (λ t. is_in before.tables t.tree || not (is_in first t.tree)) next.tables ≡ true) × Passes first next texts after
+
+abbrev Goes : Step → Schema × Schema → Type 0
+Goes step way = Passes (way.0).tables way.0 (texts_of step) way.1
+
+drops_both : (a middle b : Schema) → LosesIndex a DROP_CHOICE_INDEX.now middle → LosesIndex middle DROP_KILLTIME_INDEX.now b
+    → list_all (λ t. is_in a.tables t.tree || not (is_in a.tables t.tree)) middle.tables ≡ true → list_all (λ t. is_in middle.tables t.tree || not (is_in a.tables t.tree)) b.tables ≡ true
+    → Goes DropIndexes (a, b)
+drops_both a middle b first next one two = (middle, inr (inr (inr first)), one, (b, inr (inr (inr next)), two, refl))
+
+drops_last : (a b : Schema) → TakesAway a DROP_CALLS.now b → list_all (λ t. is_in a.tables t.tree || not (is_in a.tables t.tree)) b.tables ≡ true → Goes DropCalls (a, b)
+drops_last a b takes one = (b, inr (inr (inl takes)), one, refl)
+
+makes : (a b : Schema) (sql : List ℕ) (table : Table) → Makes a sql table → created a table ≡ b → lacks_sequence b ≡ false → is_in a.tables (next_tree a) ≡ false → Turns a sql b
+makes a b sql table it is lacks new = inl (record { table = table; makes = it; is = is; lacks = lacks; new = new })
+
+-- the texts of each step lead wherever it leads
+pub passes : (step : Step) (a b : Schema) → Has (changes step) (a, b) → Passes a.tables a (texts_of step) b
+passes DropIndexes a b has = all_has (Goes DropIndexes) (changes DropIndexes) (a, b)
+    (drops_both vacuumed_tables vacuumed_with_killtime bare_with_calls drops_choice drops_killtime refl refl,
+    (drops_both first_vacuumed first_vacuumed_with_killtime first_bare_calls drops_first_choice drops_first_killtime refl refl,
+    (drops_both first_older_vacuumed first_vacuumed_with_killtime first_bare_calls drops_first_older_choice drops_first_killtime refl refl,
+    (drops_both first_core first_with_killtime first_bare drops_core_choice drops_core_killtime refl refl,
+    (drops_both first_older_core first_with_killtime first_bare drops_older_core_choice drops_core_killtime refl refl, tt))))) has
+passes DropCalls a b has = all_has (Goes DropCalls) (changes DropCalls) (a, b)
+    (drops_last our_tables core_tables drops_calls refl,
+    (drops_last bare_with_calls bare_tables drops_bare_calls refl,
+    (drops_last first_tables first_core drops_first_calls refl,
+    (drops_last first_older first_older_core drops_first_older_calls refl,
+    (drops_last first_bare_calls first_bare drops_first_bare_calls refl, tt))))) has
+passes CreateFirst a b has = all_has (Goes CreateFirst) (changes CreateFirst) (a, b) ((
+    with_jobs, makes no_tables with_jobs CREATE_JOBS.now jobs makes_jobs created_jobs refl refl, refl, (
+    with_grants, makes with_jobs with_grants CREATE_GRANTS.now grants makes_grants created_grants refl refl, refl, (
+    with_holds, makes with_grants with_holds CREATE_HOLDS.now holds makes_holds created_holds refl refl, refl, (
+    with_down, makes with_holds with_down CREATE_DOWN.now down makes_down created_down refl refl, refl, (
+    with_replies, makes with_down with_replies CREATE_REPLIES.now replies makes_replies created_replies refl refl, refl, (
+    first_bare, makes with_replies first_bare CREATE_META.now meta makes_meta created_meta refl refl, refl, refl)))))), tt) has
+passes CreateSecond a b has = all_has (Goes CreateSecond) (changes CreateSecond) (a, b) ((bare_tables, makes first_bare bare_tables CREATE_FLOORS.now floors makes_floors created_floors refl refl, refl, refl), tt) has
+passes CreateIndexes a b has = all_has (Goes CreateIndexes) (changes CreateIndexes) (a, b) ((with_killtime_index, inr (inl makes_killtime), refl, (core_tables, inr (inl makes_choice), refl, refl)), tt) has

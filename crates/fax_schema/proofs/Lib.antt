@@ -6,10 +6,10 @@ pub mod UpdateLemmas
 pub mod AppendLemmas
 pub mod ColumnLemmas
 pub mod StatementForms
-pub mod CreateTexts
 pub mod StatementTexts
 pub mod GrantTexts
 pub mod ModemTexts
 pub mod ClientTexts
+pub mod CreateTexts
 pub mod ShapeLemmas
 pub mod RowsLemmas

@@ -1,12 +1,15 @@
 -- What holds of each of some tables: of one by its tree, of some of them, and of all.
-use Rattle.std.proofs.Common.{◌≡◌, ◌≢◌, inl, inr, ℕ, zero, suc, List, [], ◌∷◌, ◌++◌, ◌==◌, slice_get, Option, Some, true, false, not, sym, subst, ◌∙◌, arith}
+use Rattle.std.proofs.Common.{◌≡◌, ◌≢◌, inl, inr, ℕ, zero, suc, Bool, List, [], ◌∷◌, ◌++◌, ◌==◌, slice_get, Option, Some, true, false, length, nat_lt, not, refl, sym, subst, ◌∙◌, arith}
 use Rattle.std.specs.List.{AllByRecursion, list_all, list_any}
-use Rattle.std.proofs.lemmas.Bool.{and_parts, cases_Bool, eqb-true, not-true}
+use Rattle.std.proofs.lemmas.Bool.{and_from, and_parts, cases_Bool, eqb-true, false≢true, not-true}
 use Rattle.std.proofs.lemmas.Bool.Decides.{nat_tests}
 use Rattle.sqlite_catalog.specs.Change.{KeepsRows}
 use Rattle.sqlite_rules.specs.Lists.{Has}
+use Rattle.sqlite_rules.proofs.ListLemmas.{all_has}
+use Rattle.sqlite_schema.specs.declared.schema.Schema.{Schema}
 use Rattle.sqlite_schema.specs.declared.schema.Table.{Table}
 use Rattle.sqlite_trees.specs.Tree.{Trees}
+use Rattle.fax_schema.specs.Schema.{AreOurs, no_tables, our_layouts}
 
 -- ---- of lists
 
@@ -68,3 +71,34 @@ kept_rows (t ∷ ts) a b c first next = (next.0 ∙ first.0, kept_rows ts a b c 
 pub kept_back : (tables : List Table) (a b : Trees) → KeepsRows tables a b → KeepsRows tables b a
 kept_back [] a b kept = tt
 kept_back (t ∷ ts) a b kept = (sym kept.0, kept_back ts a b kept.1)
+
+-- ---- whether a tree is that of some table
+
+-- of one of these
+abbrev pub is_in : List Table → ℕ → Bool
+is_in tables tree = list_any (λ t. t.tree == tree) tables
+
+-- each of some tables has the tree of one of these
+abbrev pub are_in : List Table → List Table → Bool
+are_in tables some = list_all (λ t. is_in tables t.tree) some
+
+-- one more among these makes no difference
+in_more : (x : Table) (all some : List Table) → are_in all some ≡ true → are_in (x ∷ all) some ≡ true
+in_more x all [] there = refl
+in_more x all (t ∷ ts) there =
+    let parts = and_parts (is_in all t.tree) _ there in
+    and_from _ _ (elim (cases_Bool (x.tree == t.tree)) [ | inl on ↦ rw on refl | inr off ↦ rw off parts.0 ]) (in_more x all ts parts.1)
+
+pub are_self : (tables : List Table) → are_in tables tables ≡ true
+are_self [] = refl
+are_self (t ∷ ts) = let on : (t.tree == t.tree) ≡ true = grind (arith, nat_tests) in and_from _ _ (rw on refl) (in_more t ts ts (are_self ts))
+
+-- ---- of a queue's
+
+-- no tables are none of a queue's
+pub not_ours : (schema : Schema) → schema ≡ no_tables → AreOurs schema → ⊥
+not_ours schema none ours =
+    let Some = λ (s : Schema). nat_lt 0 (length s.tables) ≡ true in
+    let some : nat_lt 0 (length schema.tables) ≡ true =
+    all_has Some our_layouts schema (refl, (refl, (refl, (refl, (refl, (refl, (refl, (refl, (refl, (refl, (refl, (refl, (refl, tt))))))))))))) ours in
+    false≢true (subst Some none some)

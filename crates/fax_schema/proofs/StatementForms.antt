@@ -1,8 +1,5 @@
 -- What a text is that makes a table, or reads or writes the tables of a store.
-use Rattle.std.proofs.Common.{◌≡◌, ℕ, List, [], ◌∷◌, ◌==◌, Ok, false}
-use Rattle.std.specs.List.{list_any}
-use Rattle.sqlite.specs.Does.{lacks_sequence}
-use Rattle.sqlite_catalog.specs.Change.{created, next_tree}
+use Rattle.std.proofs.Common.{◌≡◌, ℕ, List, [], Ok, false}
 use Rattle.sqlite.specs.Collation.TheVariants.{Binary}
 use Rattle.sqlite_sql.specs.Term.{Term, op2}
 use Rattle.sqlite_sql.specs.declared.ops.BinaryOp.TheVariants.{Compare}
@@ -47,16 +44,3 @@ pub record Makes (schema : Schema) (sql : List ℕ) (table : Table) : Type 0 whe
   pub statement : statement_of sql (understood schema sql) ≡ sql
   pub defined : table_defined_by sql ≡ Ok (record table { tree = 0 })
   pub plain : IsPlain (understood schema sql)
-
--- the text makes a table behind those of a schema, in a tree that none of the first has
-pub record MakesNext (first : List Table) (before : Schema) (sql : List ℕ) (after : Schema) : Type 0 where
-  pub table : Table
-  pub makes : Makes before sql table
-  pub is : created before table ≡ after
-  pub lacks : lacks_sequence after ≡ false
-  pub new : list_any (λ t. t.tree == next_tree before) first ≡ false
-
--- each of these texts does, behind those before it
-abbrev pub MakeAll : List Table → Schema → List (List ℕ) → Schema → Type 0
-MakeAll first before [] after = before ≡ after
-MakeAll first before (sql ∷ texts) after = (next : Schema) × MakesNext first before sql next × MakeAll first next texts after

@@ -1,3 +1,4 @@
 pub mod Schema
 pub mod Shape
 pub mod ByRowid
+pub mod Way

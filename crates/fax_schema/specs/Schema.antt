@@ -1,5 +1,5 @@
 -- The eight tables and their indexes as the database knows them, and those of the first version, which had no floors.
-use Rattle.std.specs.Prelude.{◌⊎◌, ℕ, ◌+◌, Bool, true, false, List, [], ◌∷◌, ◌++◌, codes, length, Option, Some, None, pos}
+use Rattle.std.specs.Prelude.{ℕ, ◌+◌, Bool, true, false, List, [], ◌∷◌, ◌++◌, codes, length, Option, Some, None, pos}
 use Rattle.std.specs.List.{list_any}
 use Rattle.std.specs.Str.{bytes_eq}
 use Rattle.sqlite.specs.Collation.TheVariants.{Binary}
@@ -299,32 +299,12 @@ are_with_floors tables = list_any (λ t. bytes_eq t.name (codes "floors")) table
 abbrev pub has_floors : Schema → Bool
 has_floors schema = are_with_floors schema.tables
 
--- with `calls`: behind the indexes of jobs, or without these
-abbrev pub with_calls : List Schema
-with_calls = our_tables ∷ bare_with_calls ∷ first_tables ∷ first_bare_calls ∷ first_older ∷ []
-
-abbrev pub HaveCalls : Schema → Type 0
-HaveCalls = Has with_calls
-
--- with the indexes of jobs last, where these are to be made anew: since VACUUM moved them, since stores made others before, or since floors come before them
-abbrev pub indexed_last : List Schema
-indexed_last = vacuumed_tables ∷ first_vacuumed ∷ first_older_vacuumed ∷ first_core ∷ first_older_core ∷ []
-
-abbrev pub AreIndexedLast : Schema → Type 0
-AreIndexedLast = Has indexed_last
-
--- those of the first version without `calls`
-abbrev pub first_indexed : List Schema
-first_indexed = first_core ∷ first_older_core ∷ []
-
--- without `calls`, and with the indexes of jobs where these stand, or without them
-abbrev pub without_calls : List Schema
-without_calls = core_tables ∷ bare_tables ∷ first_bare ∷ []
-
--- in an order that needs no index to be taken away before `calls`
-abbrev pub AreInOrder : Schema → Type 0
-AreInOrder schema = HaveCalls schema ⊎ Has without_calls schema
+-- the layouts that they may have, those of the second version first
+abbrev pub our_layouts : List Schema
+our_layouts =
+    our_tables ∷ core_tables ∷ bare_tables ∷ bare_with_calls ∷ vacuumed_tables
+    ∷ first_tables ∷ first_older ∷ first_core ∷ first_older_core ∷ first_bare ∷ first_bare_calls ∷ first_vacuumed ∷ first_older_vacuumed ∷ []
 
 -- the tables of a queue
 abbrev pub AreOurs : Schema → Type 0
-AreOurs schema = AreInOrder schema ⊎ AreIndexedLast schema
+AreOurs = Has our_layouts

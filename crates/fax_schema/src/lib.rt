@@ -7,8 +7,7 @@
 mod recognize;
 mod shape;
 pub mod statements;
+mod way;
 
-pub use recognize::{
-    has_bare_tables, has_calls, has_first_bare, has_first_indexes, has_floors, has_indexes_last,
-    has_no_tables, has_ours,
-};
+pub use recognize::{has_floors, has_no_tables};
+pub use way::{Step, UPGRADES, Way, way_of};

@@ -1,19 +1,14 @@
-//! Which databases have no tables, and which have exactly ours: of the first version or of the second, with `calls` or
-//! without, with the indexes of jobs or without.
+//! Which databases have no tables, which have exactly those of a layout, and which are of the second version.
 
 ghost use Rattle.std.specs.Prelude.{◌≡◌, ◌↔◌, [], ◌∷◌, map, pos, IsTrue, IfOk};
 ghost use Rattle.sqlite.specs.declared.types.Value.TheVariants.{Int};
 ghost use Rattle.sqlite_sql.specs.Syntax.{term_of, term_at};
 ghost use Rattle.sqlite_sql.specs.Term.{lit, col};
 ghost use Rattle.sqlite_value.specs.Keys.{plain};
-ghost use Rattle.sqlite_rules.specs.Lists.{Has};
-ghost use Rattle.fax_schema.specs.Schema.{AreIndexedLast, AreOurs, HaveCalls, bare_tables, are_with_floors, column_of, first_bare, first_indexed, has_floors, no_tables, without_calls};
+ghost use Rattle.fax_schema.specs.Schema.{are_with_floors, column_of, has_floors, no_tables};
 ghost use Rattle.fax_schema.specs.Shape.{HasColumns, HasRules, Passes, PassesAll, PassesIndex, checks_of, first_is_one, indexed_as, laid_out, no_stamps, shaped, tabled};
 
-use crate::shape::{
-    BARE, FIRST_BARE, FIRST_INDEXED, INDEXED_LAST, IndexShape, Layout, PLAIN, Part, Shape,
-    WITH_CALLS, WITHOUT_CALLS,
-};
+use crate::shape::{IndexShape, Layout, PLAIN, Part, Shape};
 use sqlite_items::Items;
 use sqlite_schema::code::Terms;
 use sqlite_schema::schema::{Column, Index, Kind, Schema, Stamps, Table};
@@ -303,7 +298,7 @@ fn behind_all<'s>(
 }
 
 /// Whether a database has exactly the tables and indexes of this layout.
-fn has_layout(alloc: Global, schema: &Schema, mut layout: Layout) -> Result<bool, AllocError>
+pub(crate) fn has_layout(alloc: Global, schema: &Schema, mut layout: Layout) -> Result<bool, AllocError>
     ensures { IfOk result (λ same. IsTrue same ↔ (schema.now ≡ laid_out (map (λ p. p.now) layout.entry.now))) }
 {
     let mut left = Left {
@@ -320,19 +315,6 @@ fn has_layout(alloc: Global, schema: &Schema, mut layout: Layout) -> Result<bool
         layout = rest;
     }
     Ok(left.tables.is_empty() && left.indexes.is_empty() && schema.views.is_empty())
-}
-
-/// Whether a database has one of these layouts.
-fn has_one_of(alloc: Global, schema: &Schema, mut layouts: &[Layout]) -> Result<bool, AllocError>
-    ensures { IfOk result (λ one. IsTrue one ↔ Has (map (λ l. laid_out (map (λ p. p.now) l.now)) layouts.entry.now) schema.now) }
-{
-    while let [layout, rest @ ..] = layouts {
-        if has_layout(alloc, schema, layout)? {
-            return Ok(true);
-        }
-        layouts = rest;
-    }
-    Ok(false)
 }
 
 /// Whether a database has no tables.
@@ -360,58 +342,4 @@ pub fn has_floors(schema: &Schema) -> bool
     ensures { result ≡ has_floors schema.now }
 {
     are_with_floors(schema.tables.as_slice())
-}
-
-/// Whether a database has exactly the six tables of the first version, with no index but those of their keys.
-pub fn has_first_bare(alloc: Global, schema: &Schema) -> Result<bool, AllocError>
-    ensures { IfOk result (λ same. IsTrue same ↔ (schema.now ≡ first_bare)) }
-{
-    has_layout(alloc, schema, FIRST_BARE)
-}
-
-/// Whether a database has exactly the seven tables, with no index but those of their keys.
-pub fn has_bare_tables(alloc: Global, schema: &Schema) -> Result<bool, AllocError>
-    ensures { IfOk result (λ same. IsTrue same ↔ (schema.now ≡ bare_tables)) }
-{
-    has_layout(alloc, schema, BARE)
-}
-
-/// Whether a database has the tables of a queue with `calls`, and the indexes of jobs before it, or without them.
-pub fn has_calls(alloc: Global, schema: &Schema) -> Result<bool, AllocError>
-    ensures { IfOk result (λ same. IsTrue same ↔ HaveCalls schema.now) }
-{
-    has_one_of(alloc, schema, WITH_CALLS)
-}
-
-/// Whether a database has the tables of a queue, with the indexes of jobs last, where these are to be made anew: since
-/// VACUUM moved them, since stores made them otherwise before, or since floors come before them.
-pub fn has_indexes_last(alloc: Global, schema: &Schema) -> Result<bool, AllocError>
-    ensures { IfOk result (λ same. IsTrue same ↔ AreIndexedLast schema.now) }
-{
-    has_one_of(alloc, schema, INDEXED_LAST)
-}
-
-/// Whether a database has the tables of the first version without `calls`, and the indexes of jobs.
-pub fn has_first_indexes(alloc: Global, schema: &Schema) -> Result<bool, AllocError>
-    ensures { IfOk result (λ same. IsTrue same ↔ Has first_indexed schema.now) }
-{
-    has_one_of(alloc, schema, FIRST_INDEXED)
-}
-
-/// Whether a database has the tables of a queue without `calls`, and the indexes of jobs where a store makes them, or
-/// without these.
-fn has_no_calls(alloc: Global, schema: &Schema) -> Result<bool, AllocError>
-    ensures { IfOk result (λ same. IsTrue same ↔ Has without_calls schema.now) }
-{
-    has_one_of(alloc, schema, WITHOUT_CALLS)
-}
-
-/// Whether a database has the tables of a queue.
-pub fn has_ours(alloc: Global, schema: &Schema) -> Result<bool, AllocError>
-    ensures { IfOk result (λ same. IsTrue same ↔ AreOurs schema.now) }
-{
-    let counted = has_calls(alloc, schema)?;
-    let uncounted = has_no_calls(alloc, schema)?;
-    let indexed_last = has_indexes_last(alloc, schema)?;
-    Ok(counted || uncounted || indexed_last)
 }

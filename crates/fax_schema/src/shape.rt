@@ -264,29 +264,3 @@ pub(crate) const OURS: Layout = &[FIRST, SECOND, INDEXES, COUNTS];
 pub(crate) const BARE_CALLS: Layout = &[FIRST, SECOND, COUNTS];
 
 pub(crate) const VACUUMED: Layout = &[FIRST, SECOND, COUNTS, INDEXES];
-
-// ---- which of them need what
-
-/// With `calls`, behind the indexes of jobs or without these.
-pub(crate) const WITH_CALLS: &[Layout] = &[
-    OURS,
-    BARE_CALLS,
-    FIRST_TABLES,
-    FIRST_BARE_CALLS,
-    FIRST_OLDER,
-];
-
-/// With the indexes of jobs last, where these are to be made anew.
-pub(crate) const INDEXED_LAST: &[Layout] = &[
-    VACUUMED,
-    FIRST_VACUUMED,
-    FIRST_OLDER_VACUUMED,
-    FIRST_CORE,
-    FIRST_OLDER_CORE,
-];
-
-/// Without `calls`, and with the indexes of jobs where these stand, or without them.
-pub(crate) const WITHOUT_CALLS: &[Layout] = &[CORE, BARE, FIRST_BARE];
-
-/// The first version with the indexes of jobs and without `calls`.
-pub(crate) const FIRST_INDEXED: &[Layout] = &[FIRST_CORE, FIRST_OLDER_CORE];

@@ -40,9 +40,6 @@ pub const CREATE_CALLS: &str =
 pub const CREATE_FLOORS: &str =
     "CREATE TABLE floors (client TEXT PRIMARY KEY NOT NULL, upto INTEGER NOT NULL) STRICT";
 
-/// What makes the tables that the second version has beside the first's, one behind the other.
-pub static CREATE_SECOND: [&str; 1] = [CREATE_FLOORS];
-
 pub const DROP_CALLS: &str = "DROP TABLE calls";
 
 pub const DROP_CHOICE_INDEX: &str = "DROP INDEX jobs_by_choice";

@@ -22,17 +22,18 @@ use Rattle.fax_tables.specs.declared.fault.StoreFault.TheVariants.{Strange, Unav
 use Rattle.fax_tables.specs.Row.{number, meta_row, raised}
 use Rattle.fax_schema.specs.ByRowid.{IsByRowid}
 use Rattle.fax_schema.specs.Schema as schema
-use Rattle.fax_schema.specs.Schema.{AreInOrder, AreOurs, alike_list, bare_with_calls, first_bare, first_bare_calls, first_list, second_list, has_floors, indexed_last, no_tables, our_tables, with_calls, without_calls, calls_tree, meta_tree, core_tables}
+use Rattle.fax_schema.specs.Schema.{AreOurs, alike_list, first_list, second_list, has_floors, no_tables, our_tables, calls_tree, meta_tree, core_tables}
+use Rattle.fax_schema.specs.declared.way.Way.{Way}
 use Rattle.fax_tables.specs.Tables.{GoesOn, HasEmptyTables, HasNewCalls, HasVersion, IsAtRest, Renews, RowsMean, TablesMean, meta_as, second_in, version_of, versions}
 use Rattle.fax_tables.proofs.CreateLemmas.{commit_kept, goes_on, none_at_first, refused_keeps, renews_then, second_there, inside_shown}
 use Rattle.fax_tables.proofs.StopLemmas.{nothing_then}
 use Rattle.fax_tables.proofs.TablesLemmas.{same_database}
 use Rattle.fax_tables.specs.Stop.{HoldsBack}
-use Rattle.fax_schema.proofs.RowsLemmas.{all_front, all_given, all_mapped, at_tree, kept_back, kept_rows, all_behind, all_both, others_kept}
+use Rattle.fax_schema.proofs.RowsLemmas.{not_ours, all_front, all_given, all_mapped, at_tree, kept_back, kept_rows, all_behind, all_both, others_kept}
 use Rattle.fax_schema.proofs.SelectLemmas.{answers}
 use Rattle.sqlite_schema.specs.declared.schema.Schema.{Schema}
 use Rattle.sqlite_schema.specs.declared.schema.Table.{Table}
-use Rattle.fax_store.specs.Adopt.{Adopts, AreAdopted, AreTaken, Founds, HasBecome, HasNone, HoldsCanBeCalled, IsAdoptable, IsFilled, IsIn, IsOurs, IsRaisable, IsRaisableFrom, IsTakeable, IsTaken, Leaves, MeansAs, QueuesAreTakeable, Settles, Takes, Turns, TurnsOrUnavailable, CoreMeans, HoldJobs, IsSettled, IsWhole}
+use Rattle.fax_store.specs.Adopt.{Adopts, AreAdopted, AreOnTheWay, AreTaken, Founds, HasBecome, HasNone, HoldsCanBeCalled, IsAdoptable, IsFilled, IsIn, IsOurs, IsRaisable, IsRaisableFrom, IsTakeable, IsTaken, MeansAs, QueuesAreTakeable, Settles, Takes, Turns, TurnsOrUnavailable, CoreMeans, HoldJobs, IsSettled, IsWhole}
 use Rattle.fax_store.specs.Store.{CommitsNothing, GoesBack, MayMake, RowsFound, Serves, HasRun, LeavesCommit}
 use Rattle.fax_store.proofs.ControlLemmas.{begins, commits}
 use Rattle.fax_store.proofs.HeldLemmas.{held_still, rows_callable}
@@ -111,7 +112,7 @@ founds_refused old new (Err e) is clean kept nothing cause =
 module _ (s0 s1 s2 : State) (begun : HasBegun (λ schema. schema ≡ no_tables) s0 s1) where
   -- after the begin, the database still has no tables
   starts_empty : HasCleanDisk s1 → HasEmptyTables no_tables s1
-  starts_empty clean = let it = starts_in begun clean in none_at_first s1 it.inside it.schema_is
+  starts_empty clean = let it = starts_in begun clean in none_at_first s1 it.is_open it.inside it.schema_is
 
   -- making the tables commits nothing before its commit
   pub tables_hold_back : HoldsBack (HasEmptyTables no_tables) s1 s2 → CommitsNothing s0 s2
@@ -141,55 +142,6 @@ module _ (s0 s1 s2 : State) (begun : HasBegun (λ schema. schema ≡ no_tables) 
         | inl before ↦ inl (tables_hold_back made found before)
         | inr it ↦ inr (s2.now, sym it.1, (here it.0).1)
       ]
-
--- ---- one step after the other
-
--- a step that was done, and then one from what it leaves
-turns_then : {A B : Type 0} (a b c : State) (P P' : State → Type 0) (Q Q' R : Database → Database → Type 0) (x : A) (r : Result B StoreFault) → (GoesOn a b × Q a.now b.now → P' b) → (Q a.now b.now → Q' b.now c.now → R a.now c.now)
-    → TurnsOrUnavailable P Q a b (Ok x) → TurnsOrUnavailable P' Q' b c r → TurnsOrUnavailable P R a c r
-turns_then a b c P P' Q Q' R x r moves joins first next = record {
-  leaves = record {
-    goes = λ clean was. let one = first.leaves.goes (next.leaves.clean clean) was in
-        both_as r (λ two. (goes_on a b c one.0 two.0, joins one.1 two.1)) (commit_kept a b c one.0) (next.leaves.goes clean (moves one));
-    crash = λ was. nothing_then a b c (first.leaves.crash was) (next.leaves.crash (λ clean. moves (first.leaves.goes clean (was (first.leaves.clean clean)))));
-    clean = λ clean. first.leaves.clean (next.leaves.clean clean);
-  };
-  cause = next.cause;
-}
-
--- where a step was done, the transaction goes on over these tables
-still_in : (a b : State) (Between : Schema → Type 0) → GoesOn a b × Leaves Between a.now b.now → IsIn Between b
-still_in a b Between it = record { is_open = it.0.is_open; inside = it.0.mode; schema_is = it.1.0 }
-
--- so it is with steps from some tables to others
-pub leaves_then : {A B : Type 0} (a b c : State) (Before Between After : Schema → Type 0) (x : A) (r : Result B StoreFault) → TurnsOrUnavailable (IsIn Before) (Leaves Between) a b (Ok x) → TurnsOrUnavailable (IsIn Between) (Leaves After) b c r
-    → TurnsOrUnavailable (IsIn Before) (Leaves After) a c r
-leaves_then a b c Before Between After x r =
-    turns_then a b c (IsIn Before) (IsIn Between) (Leaves Between) (Leaves After) (Leaves After) x r (still_in a b Between) (λ one two. (two.0, renews_then a.now b.now c.now one.1 two.1))
-
--- and where the last makes `calls`
-pub calls_then : {A B : Type 0} (a b c : State) (Before Between : Schema → Type 0) (x : A) (r : Result B StoreFault) → TurnsOrUnavailable (IsIn Before) (Leaves Between) a b (Ok x) → TurnsOrUnavailable (IsIn Between) HasNewCalls b c r → TurnsOrUnavailable (IsIn Before) HasNewCalls a c r
-calls_then a b c Before Between x r =
-    turns_then a b c (IsIn Before) (IsIn Between) (Leaves Between) HasNewCalls HasNewCalls x r (still_in a b Between)
-    (λ one two. record { schema_is = two.schema_is; sound = two.sound; renews = renews_then a.now b.now c.now one.1 two.renews; none = two.none })
-
--- a refusal that is passed on
-pub turns_passed : {A B : Type 0} (a b : State) (P : State → Type 0) (Q R : Database → Database → Type 0) (fault : StoreFault) (r : Result B StoreFault) → IsErrAnd r (λ e. e ≡ fault) → TurnsOrUnavailable {A = A} P Q a b (Err fault) → TurnsOrUnavailable P R a b r
-turns_passed a b P Q R fault r told step = record {
-  leaves = record { goes = λ clean was. kept r told (step.leaves.goes clean was); crash = step.leaves.crash; clean = step.leaves.clean };
-  cause = refused_as r fault told step.cause;
-}
-  where
-    kept : {B : Type 0} (r : Result B StoreFault) → IsErrAnd r (λ e. e ≡ fault) → KeepsCommit a b → MatchResult r (λ _. GoesOn a b × R a.now b.now) (λ _. KeepsCommit a b)
-    kept (Ok y) told k = absurd told
-    kept (Err e) told k = k
-
--- tables without the indexes of jobs are in order
-pub in_order : (schema : Schema) → Has (bare_with_calls ∷ first_bare_calls ∷ first_bare ∷ []) schema → AreInOrder schema
-in_order schema (inl is) = inl (inr (inl is))
-in_order schema (inr (inl is)) = inl (inr (inr (inr (inl is))))
-in_order schema (inr (inr (inl is))) = inr (inr (inr (inl is)))
-in_order schema (inr (inr (inr none))) = absurd none
 
 -- ---- taking a database with our tables
 
@@ -226,17 +178,17 @@ takes_refused Made Left Fit old new (Err e) is clean kept nothing strange = reco
 }
 
 -- A database with ours gets what it lacks, behind a begin.
-module _ (s0 s1 s2 : State) (begun : HasBegun AreOurs s0 s1) where
+module _ (way : Way) (s0 s1 s2 : State) (begun : HasBegun (AreOnTheWay way) s0 s1) where
   -- where that is refused, the commit before the begin stands
-  pub renewing_kept : (e : StoreFault) → Turns {A = Unit {0}} (IsIn AreOurs) HasNewCalls s1 s2 (Err e) → HasCleanDisk s2 → KeepsCommit s0 s2
+  pub renewing_kept : (e : StoreFault) → Turns {A = Unit {0}} (IsIn (AreOnTheWay way)) HasNewCalls s1 s2 (Err e) → HasCleanDisk s2 → KeepsCommit s0 s2
   renewing_kept e renews clean = let at = renews.clean clean in commit_kept s0 s1 s2 (starts begun at) (renews.goes clean (starts_in begun at))
 
   -- nothing is committed
-  pub renewing_holds_back : (r : Result (Unit {0}) StoreFault) → Turns (IsIn AreOurs) HasNewCalls s1 s2 r → CommitsNothing s0 s2
+  pub renewing_holds_back : (r : Result (Unit {0}) StoreFault) → Turns (IsIn (AreOnTheWay way)) HasNewCalls s1 s2 r → CommitsNothing s0 s2
   renewing_holds_back r renews = nothing_then s0 s1 s2 (begin_nothing s0 s1 begun.survives) (renews.crash (starts_in begun))
 
   -- it is done, in a database of this version
-  module _ (renews : Turns {A = Unit {0}} {E = StoreFault} (IsIn AreOurs) HasNewCalls s1 s2 (Ok tt)) (version : ℕ) (is : version ≡ version_of s0.now.schema)
+  module _ (renews : Turns {A = Unit {0}} {E = StoreFault} (IsIn (AreOnTheWay way)) HasNewCalls s1 s2 (Ok tt)) (version : ℕ) (is : version ≡ version_of s0.now.schema)
     where
       made : HasCleanDisk s2 → GoesOn s1 s2 × HasNewCalls s1.now s2.now
       made clean = renews.goes clean (starts_in begun (renews.clean clean))
@@ -249,6 +201,10 @@ module _ (s0 s1 s2 : State) (begun : HasBegun AreOurs s0 s1) where
       renewed : HasCleanDisk s2 → HasNewCalls s0.now s2.now
       renewed clean = subst (λ (d : Database). HasNewCalls d s2.now) (shown begun (renews.clean clean)).now_is (made clean).1
 
+      -- so it has the rows of a queue's tables
+      same_rows : HasCleanDisk s2 → Renews s0.now s2.now
+      same_rows clean = (renewed clean).renews begun.ours.0
+
       -- all tables are there, and no call is counted yet
       pub has_none : HasCleanDisk s2 → HasNone s2
       has_none clean =
@@ -258,11 +214,11 @@ module _ (s0 s1 s2 : State) (begun : HasBegun AreOurs s0 s1) where
 
       module _ (clean : HasCleanDisk s2) where
         still_alike : KeepsRows alike_list s0.now.trees s2.now.trees
-        still_alike = alike s0.now s2.now (renewed clean).renews
+        still_alike = alike s0.now s2.now (same_rows clean)
 
         -- meta has the rows that it had
         same_meta : s2.now.trees meta_tree ≡ s0.now.trees meta_tree
-        same_meta = at_tree (λ tree. s2.now.trees tree ≡ s0.now.trees tree) first_list meta_tree refl (renewed clean).renews.rows
+        same_meta = at_tree (λ tree. s2.now.trees tree ≡ s0.now.trees tree) first_list meta_tree refl (same_rows clean).rows
 
         -- and the versions
         same_versions : versions s2.now ≡ versions s0.now
@@ -271,7 +227,7 @@ module _ (s0 s1 s2 : State) (begun : HasBegun AreOurs s0 s1) where
         -- the tables of the second version have the rows that they had, none where there were no such tables
         same_second : KeepsRows second_list (second_in s0.now) s2.now.trees
         same_second = all_mapped (λ t. second_in s2.now t.tree ≡ second_in s0.now t.tree) (λ t. s2.now.trees t.tree ≡ second_in s0.now t.tree) second_list
-            (λ t same. sym (second_there s2.now our_tables t.tree (renewed clean).schema_is refl) ∙ same) (renewed clean).renews.second
+            (λ t same. sym (second_there s2.now our_tables t.tree (renewed clean).schema_is refl) ∙ same) (same_rows clean).second
 
         -- meta's one row still has the version of the tables that were found
         pub still_version : HasVersion s0.now → versions s2.now ≡ number version ∷ []
@@ -315,7 +271,7 @@ module _ (s0 s1 s2 : State) (begun : HasBegun AreOurs s0 s1) where
           was_ours clean =
               let at = fills.clean clean in
               let it = (filled clean).1 in
-              let rows = (renewed at).renews.rows in
+              let rows = (same_rows at).rows in
               record {
                 schema_is = begun.ours;
                 version = sym (same_versions at) ∙ it.version_is ∙ ap (λ v. number v ∷ []) is;
@@ -357,19 +313,6 @@ told_strange (Ok x) fault told is = absurd told
 told_strange (Err e) fault told is = ap Err (sym told) ∙ is
 
 -- ---- both together
-
-abbrev any_table : List Table → Bool
-any_table [] = false
-any_table (t ∷ ts) = true
-
--- a database without tables hasn't ours
-not_ours : (s : Schema) → s ≡ no_tables → AreOurs s → ⊥
-not_ours s none ours = absurd (false≢true (subst (λ (x : Schema). IsTrue (any_table x.tables)) none (some ours)))
-  where
-    some : AreOurs s → IsTrue (any_table s.tables)
-    some (inl (inl has)) = all_has (λ (x : Schema). IsTrue (any_table x.tables)) with_calls s (refl, (refl, (refl, (refl, (refl, tt))))) has
-    some (inl (inr has)) = all_has (λ (x : Schema). IsTrue (any_table x.tables)) without_calls s (refl, (refl, (refl, tt))) has
-    some (inr has) = all_has (λ (x : Schema). IsTrue (any_table x.tables)) indexed_last s (refl, (refl, (refl, (refl, (refl, tt))))) has
 
 -- an empty store that was made of a database with no tables
 pub founds_takes : (old new : State) (r : Result (Unit {0}) StoreFault) → old.now.schema ≡ no_tables → Founds old new r → Takes Adopts AreAdopted IsAdoptable old new r
@@ -435,7 +378,7 @@ rows_reopened db m k rows sound = same_tables m k (same_database db rows.0 (sym 
 -- and it has our tables, whose rows mean this
 pub means_rows : (db : Database) (m : Queue) (k : Ledger) → TablesMean db m k → AreOurs db.schema × RowsMean db m k
 means_rows db m k means = (
-  inl (inl (inl means.schema)),
+  inl means.schema,
   record {
     version = ap (map (λ r. column r 5)) means.meta ∙ ap (λ s. number (version_of s) ∷ []) (sym means.schema);
     full = db;

@@ -21,8 +21,10 @@ use Rattle.fax_value.specs.Dial.{IsCanonical}
 use Rattle.fax_tables.specs.Job.{IsText}
 use Rattle.fax_tables.specs.Row.{number}
 use Rattle.fax_schema.specs.ByRowid.{IsByRowid}
-use Rattle.fax_schema.specs.Schema.{AreOurs, alike_list, second_list, no_tables, bare_tables, first_bare, first_core, first_older_core, our_tables, core_tables, calls_tree, has_floors, holds_tree, jobs_tree, meta_tree}
-use Rattle.fax_tables.specs.Tables.{GoesOn, HasVersion, IsAtRest, Renews, RowsMean, TablesMean, meta_as, meta_in, second_in, versions}
+use Rattle.fax_schema.specs.Schema.{AreOurs, alike_list, second_list, no_tables, our_tables, core_tables, calls_tree, has_floors, holds_tree, jobs_tree, meta_tree}
+use Rattle.fax_schema.specs.Way.{IsWay}
+use Rattle.fax_schema.specs.declared.way.Way.{Way}
+use Rattle.fax_tables.specs.Tables.{GoesOn, HasVersion, IsAtRest, RowsMean, TablesMean, meta_as, meta_in, second_in, versions}
 use Rattle.sqlite_trees.specs.Tree.{Trees}
 use Rattle.fax_store.specs.Grant.{HasCalls, SetsCalls}
 use Rattle.fax_store.specs.Work.{Withholds}
@@ -132,17 +134,9 @@ pub record IsIn (Ours : Schema → Type 0) (s : State) : Type 0 where
   pub inside : IsTrue s.in_transaction
   pub schema_is : Ours s.now.schema
 
--- without `calls`, of either version, with the indexes of jobs or without
-abbrev pub AreCore : Schema → Type 0
-AreCore = Has (core_tables ∷ bare_tables ∷ first_core ∷ first_bare ∷ first_older_core ∷ [])
-
--- of the second version
-abbrev pub AreStores : Schema → Type 0
-AreStores schema = (schema ≡ core_tables) ⊎ (schema ≡ bare_tables)
-
--- those tables, and the rows of all but `calls`
-abbrev pub Leaves : (Schema → Type 0) → Database → Database → Type 0
-Leaves Ours db after = Ours after.schema × Renews db after
+-- the tables of a queue, which go this way
+abbrev pub AreOnTheWay : Way → Schema → Type 0
+AreOnTheWay way schema = AreOurs schema × IsWay way schema
 
 -- a transaction is under way over all tables, and no call is counted yet
 pub record HasNone (s : State) : Type 0 where

@@ -7,12 +7,11 @@ ghost use Rattle.fax_core.specs.Job.{Job as OneJob};
 ghost use Rattle.fax_core.specs.Ledger.{Ledger};
 ghost use Rattle.fax_core.specs.Queue.{Queue, job_numbered};
 ghost use Rattle.fax_store.specs.Calls.{Finds, shown};
-ghost use Rattle.sqlite_rules.specs.Lists.{Has};
-ghost use Rattle.fax_store.specs.Adopt.{Adopts, AreAdopted, AreCallable, AreOfJobs, AreCore, AreSmall, AreStores, AreTaken, CanBeCalled, CoreMeans, Counts, Founds, HasBecome, HasNone, HoldJobs, HoldsCanBeCalled, IsAdoptable, IsAdopted, IsFilled, IsGivenBack, IsIn, IsSettled, IsTakeable, IsWhole, Leaves, MeansAs, Takes, Tests, Turns, TurnsOrUnavailable, held_to};
+ghost use Rattle.fax_store.specs.Adopt.{Adopts, AreAdopted, AreCallable, AreOfJobs, AreOnTheWay, AreSmall, AreTaken, CanBeCalled, CoreMeans, Counts, Founds, HasBecome, HasNone, HoldJobs, HoldsCanBeCalled, IsAdoptable, IsAdopted, IsFilled, IsGivenBack, IsIn, IsSettled, IsTakeable, IsWhole, MeansAs, Takes, Tests, Turns, TurnsOrUnavailable, held_to};
 ghost use Rattle.fax_store.specs.Grant.{HasCalls, SetsCalls, with_count};
 ghost use Rattle.fax_store.specs.Store.{HasTables};
 ghost use Rattle.fax_tables.specs.Row.{number};
-ghost use Rattle.fax_schema.specs.Schema.{AreInOrder, AreOurs, no_tables, core_tables, without_calls};
+ghost use Rattle.fax_schema.specs.Schema.{no_tables};
 ghost use Rattle.fax_tables.specs.Tables.{HasNewCalls, TablesMean, version_of, versions};
 
 use crate::store::{BEGIN, COMMIT, Store};
@@ -20,14 +19,8 @@ use fax_job::Dial;
 use fax_schema::statements::{
     SELECT_DIAL, SELECT_HELD, SELECT_LOST, SELECT_VERSION, UPDATE_VERSION,
 };
-use fax_schema::{
-    has_bare_tables, has_calls, has_first_bare, has_first_indexes, has_floors, has_indexes_last,
-    has_no_tables, has_ours,
-};
-use fax_tables::{
-    StoreFault, create_calls, create_indexes, create_second_tables, create_tables, dial_in,
-    drop_calls, drop_indexes, held_job_in, is_version,
-};
+use fax_schema::{Way, has_floors, has_no_tables, way_of};
+use fax_tables::{StoreFault, create_tables, dial_in, held_job_in, is_version, renew_tables};
 use sqlite::{Alter, Connection, Row, params};
 use sqlite_schema::schema::Schema;
 use std::alloc::Global;
@@ -79,11 +72,11 @@ impl<S: Alter> Store<S> {
         ensures { Takes Adopts AreAdopted IsAdoptable (shown S.Store self.old) (shown S.Store self.new) result }
     {
         if has_no_tables(self.conn.schema()) {
-            self.make_tables()
-        } else if has_ours(self.alloc, self.conn.schema())? {
-            self.take_ours()
-        } else {
-            Err(StoreFault::Strange)
+            return self.make_tables();
+        }
+        match way_of(self.alloc, self.conn.schema())? {
+            Some(way) => self.take_ours(way),
+            None => Err(StoreFault::Strange),
         }
     }
 
@@ -99,112 +92,24 @@ impl<S: Alter> Store<S> {
     }
 
     /// Takes a database with our tables: it gets what it lacks, and its calls are counted anew.
-    fn take_ours(&mut self) -> Result<(), StoreFault>
-        requires { AreOurs (shown S.Store self.old).now.schema }
+    fn take_ours(&mut self, way: Way) -> Result<(), StoreFault>
+        requires { AreOnTheWay way (shown S.Store self.old).now.schema }
         ensures { Takes HasBecome AreTaken IsTakeable (shown S.Store self.old) (shown S.Store self.new) result }
     {
         let version = version_in(self.conn.schema());
         self.conn.execute(BEGIN, &[])?;
-        self.renew()?;
+        self.renew(way)?;
         self.fill(version)?;
         self.conn.execute(COMMIT, &[])?;
         Ok(())
     }
 
-    /// Makes `calls` anew, with no rows, floors where the version is 1, and the indexes of jobs where there are none.
-    fn renew(&mut self) -> Result<(), StoreFault>
-        ensures { TurnsOrUnavailable (IsIn AreOurs) HasNewCalls (shown S.Store self.old) (shown S.Store self.new) result }
+    /// Makes what the tables lack of those of a store, and `calls` anew, with no rows.
+    fn renew(&mut self, way: Way) -> Result<(), StoreFault>
+        ensures { TurnsOrUnavailable (IsIn (AreOnTheWay way)) HasNewCalls (shown S.Store self.old) (shown S.Store self.new)
+            result }
     {
-        self.lose_indexes()?;
-        self.lose_calls()?;
-        self.get_core()?;
-        self.make_calls()
-    }
-
-    /// Takes the indexes of jobs away where they are the last and not a store's. They are made again before `calls`.
-    fn lose_indexes(&mut self) -> Result<(), StoreFault>
-        ensures { TurnsOrUnavailable (IsIn AreOurs) (Leaves AreInOrder) (shown S.Store self.old)
-            (shown S.Store self.new) result }
-    {
-        if !has_indexes_last(self.alloc, self.conn.schema())? {
-            return Ok(());
-        }
-        drop_indexes(&mut self.conn)?;
-        Ok(())
-    }
-
-    /// Takes `calls` away where it is there.
-    fn lose_calls(&mut self) -> Result<(), StoreFault>
-        ensures { TurnsOrUnavailable (IsIn AreInOrder) (Leaves AreCore) (shown S.Store self.old)
-            (shown S.Store self.new) result }
-    {
-        if !has_calls(self.alloc, self.conn.schema())? {
-            return Ok(());
-        }
-        drop_calls(&mut self.conn)?;
-        Ok(())
-    }
-
-    /// Makes the tables of the second version and the indexes of jobs, where they aren't there.
-    fn get_core(&mut self) -> Result<(), StoreFault>
-        ensures { TurnsOrUnavailable (IsIn AreCore) (Leaves (λ schema. schema ≡ core_tables)) (shown S.Store self.old)
-            (shown S.Store self.new) result }
-    {
-        self.lose_first_indexes()?;
-        self.get_indexes()
-    }
-
-    /// Takes the indexes of jobs away where the version is 1, so that the tables of the second come before them.
-    fn lose_first_indexes(&mut self) -> Result<(), StoreFault>
-        ensures { TurnsOrUnavailable (IsIn AreCore) (Leaves (Has without_calls)) (shown S.Store self.old)
-            (shown S.Store self.new) result }
-    {
-        if !has_first_indexes(self.alloc, self.conn.schema())? {
-            return Ok(());
-        }
-        drop_indexes(&mut self.conn)?;
-        Ok(())
-    }
-
-    /// Makes the tables of the second version where it is 1, and the indexes of jobs where there are none.
-    fn get_indexes(&mut self) -> Result<(), StoreFault>
-        ensures { TurnsOrUnavailable (IsIn (Has without_calls)) (Leaves (λ schema. schema ≡ core_tables))
-            (shown S.Store self.old) (shown S.Store self.new) result }
-    {
-        self.get_second_tables()?;
-        self.make_indexes()
-    }
-
-    /// Makes the tables of the second version, with no rows, where it is 1.
-    fn get_second_tables(&mut self) -> Result<(), StoreFault>
-        ensures { TurnsOrUnavailable (IsIn (Has without_calls)) (Leaves AreStores) (shown S.Store self.old)
-            (shown S.Store self.new) result }
-    {
-        if !has_first_bare(self.alloc, self.conn.schema())? {
-            return Ok(());
-        }
-        create_second_tables(&mut self.conn)?;
-        Ok(())
-    }
-
-    /// Makes the indexes of jobs where there are none.
-    fn make_indexes(&mut self) -> Result<(), StoreFault>
-        ensures { TurnsOrUnavailable (IsIn AreStores) (Leaves (λ schema. schema ≡ core_tables)) (shown S.Store self.old)
-            (shown S.Store self.new) result }
-    {
-        if !has_bare_tables(self.alloc, self.conn.schema())? {
-            return Ok(());
-        }
-        create_indexes(&mut self.conn)?;
-        Ok(())
-    }
-
-    /// Makes `calls`, with no rows.
-    fn make_calls(&mut self) -> Result<(), StoreFault>
-        ensures { TurnsOrUnavailable (IsIn (λ schema. schema ≡ core_tables)) HasNewCalls (shown S.Store self.old)
-            (shown S.Store self.new) result }
-    {
-        create_calls(&mut self.conn)?;
+        renew_tables(&mut self.conn, way)?;
         Ok(())
     }
 

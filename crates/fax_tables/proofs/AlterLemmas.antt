@@ -1,20 +1,14 @@
 -- Steps that make tables or indexes, or take them away, one after the other.
-use Rattle.std.proofs.Common.{◌≡◌, ℕ, List, [], false, Ok, Err, IsErr, OnErr, OnOk, Result, arith}
-use Rattle.sqlite.specs.Command.TheVariants.{CreateTable}
+use Rattle.std.proofs.Common.{ℕ, List, [], Ok, Err, IsErr, IsTrue, OnErr, OnOk, Result, refl, arith}
 use Rattle.sqlite.specs.Held.{Held, state}
 use Rattle.sqlite.specs.State.{State, HasCleanDisk, CommitsBy, Executes, KeepsCommit, Survives}
-use Rattle.sqlite.specs.Does.{lacks_sequence}
 use Rattle.sqlite.specs.declared.error.Error.{Error}
-use Rattle.sqlite_catalog.specs.Change.{created}
-use Rattle.sqlite_schema.specs.declared.schema.Schema.{Schema}
-use Rattle.sqlite_schema.specs.declared.schema.Table.{Table}
 use Rattle.sqlite_trees.specs.declared.store.Store.{Ghosts}
-use Rattle.fax_schema.proofs.StatementForms.{Makes}
 use Rattle.fax_tables.specs.Making.{Alters, Always}
 use Rattle.fax_tables.specs.Stop.{HoldsBack}
-use Rattle.fax_tables.specs.Tables.{GoesOn, HasEmptyTables}
-use Rattle.fax_tables.proofs.CreateLemmas.{clean_before, commit_kept, goes_on, made, refused_keeps}
-use Rattle.fax_tables.proofs.StopLemmas.{holds_back_then, step_holds_back}
+use Rattle.fax_tables.specs.Tables.{GoesOn}
+use Rattle.fax_tables.proofs.CreateLemmas.{clean_before, commit_kept, goes_on, refused_keeps}
+use Rattle.fax_tables.proofs.StopLemmas.{holds_back_then}
 
 not_done : {A E : Type 0} (X : Type 0) (r : Result A E) → IsErr r → OnOk r X
 not_done X (Ok x) is = absurd (let e = is in cc)
@@ -31,13 +25,6 @@ module _ {S : Type 0} (g : Ghosts S) where
         → HoldsBack P (state g a) (state g b) → Survives (state g a) (state g b) (CommitsBy sql [] (state g a)) → (HasCleanDisk (state g b) → Executes sql [] (state g a) (state g b) r) → Alters g P Always Q a b r
     statement sql (Ok n) P Q does held survives runs = record { made = λ clean. does n (runs clean); kept = λ clean. tt; crash = held; doubt = survives.clean }
     statement sql (Err e) P Q does held survives runs = record { made = λ clean. tt; kept = λ clean _. refused_keeps (state g a) (state g b) sql e (runs clean); crash = held; doubt = survives.clean }
-
-    -- one that makes a table where none has rows
-    pub table_made : (before after : Schema) (sql : List ℕ) (table : Table) (r : Result ℕ Error) → Makes before sql table → created before table ≡ after → lacks_sequence after ≡ false
-        → Survives (state g a) (state g b) (CommitsBy sql [] (state g a)) → (HasCleanDisk (state g b) → Executes sql [] (state g a) (state g b) r) → Alters g (HasEmptyTables before) Always (λ old new. HasEmptyTables after new) a b r
-    table_made before after sql table r makes is none survives runs =
-        statement sql r (HasEmptyTables before) (λ old new. HasEmptyTables after new) (λ n ran was. made (state g a) (state g b) before after sql table n makes is none ran was)
-        (step_holds_back (state g a) (state g b) (HasEmptyTables before) before sql CreateTable makes.command (λ e. e) (λ was. (was.inside, was.schema_is)) survives) survives runs
 
     -- a step that was done, whatever it answered
     pub alters_done : {A B E F : Type 0} (P K L : State → Type 0) (Q : State → State → Type 0) (x : A) (y : B) → Alters g {E = E} P K Q a b (Ok x) → Alters g {E = F} P L Q a b (Ok y)
@@ -72,8 +59,30 @@ module _ {S : Type 0} (g : Ghosts S) where
       refused (Ok y) one kept = tt
       refused (Err e) one kept = λ was. let o = one was in commit_kept (state g a) (state g b) (state g c) o.0 (kept (keeps (moves o)))
 
-  -- steps that each make tables where none has rows
-  pub tables_then : {A B E F : Type 0} (a b c : Held S) (before between after : Schema) (K K' : State → Type 0) (x : A) (r : Result B E) → ((s : State) → HasEmptyTables between s → K' s) → Alters g {E = F} (HasEmptyTables before) K (λ old new. HasEmptyTables between new) a b (Ok x)
-      → Alters g (HasEmptyTables between) K' (λ old new. HasEmptyTables after new) b c r → Alters g (HasEmptyTables before) (HasEmptyTables before) (λ old new. HasEmptyTables after new) a c r
-  tables_then a b c before between after K K' x r keeps =
-      alters_then a b c (HasEmptyTables before) (HasEmptyTables between) K K' (λ old new. HasEmptyTables between new) (λ old new. HasEmptyTables after new) (λ old new. HasEmptyTables after new) x r (λ it. it.1) (keeps (state g b)) (λ one two. two)
+  -- none at all
+  pub alters_none : {A E : Type 0} (a : Held S) (P : State → Type 0) (Q : State → State → Type 0) (x : A) → (P (state g a) → IsTrue (state g a).is_open × IsTrue (state g a).in_transaction × Q (state g a) (state g a))
+      → Alters g {E = E} P P Q a a (Ok x)
+  alters_none a P Q x has = record {
+    made = λ clean was. let it = has was in (record { was_open = it.0; is_open = it.0; now_is = refl; committed_is = refl; mode = it.1 }, it.2);
+    kept = λ clean. tt;
+    crash = λ was found may. may;
+    doubt = omega arith;
+  }
+
+  -- a step that goes wherever one may go, which is told where it goes
+  pub alters_some : {A E X : Type 0} (a b : Held S) (P : X → State → Type 0) (P' : State → Type 0) (Q : X → State → State → Type 0) (Q' : State → State → Type 0) (r : Result A E) → X
+      → (P' (state g a) → (x : X) × P x (state g a) × (Q x (state g a) (state g b) → Q' (state g a) (state g b))) → ((x : X) → Alters g (P x) (P x) (Q x) a b r) → Alters g P' P' Q' a b r
+  alters_some {A} {E} {X} a b P P' Q Q' r any where_to step = record {
+    made = λ clean. done r (λ x. (step x).made clean);
+    kept = λ clean. refused r (λ x. (step x).kept clean);
+    crash = λ was found may. let it = where_to (was (clean_before (state g a) (state g b) (step any).doubt may.0)) in (step it.0).crash (λ clean. it.1) found may;
+    doubt = (step any).doubt;
+  }
+    where
+      done : (r : Result A E) → ((x : X) → OnOk r (P x (state g a) → GoesOn (state g a) (state g b) × Q x (state g a) (state g b))) → OnOk r (P' (state g a) → GoesOn (state g a) (state g b) × Q' (state g a) (state g b))
+      done (Ok y) each = λ was. let it = where_to was in let one = each it.0 it.1 in (one.0, it.2 one.1)
+      done (Err e) each = tt
+
+      refused : (r : Result A E) → ((x : X) → OnErr r (P x (state g a) → KeepsCommit (state g a) (state g b))) → OnErr r (P' (state g a) → KeepsCommit (state g a) (state g b))
+      refused (Ok y) each = tt
+      refused (Err e) each = λ was. let it = where_to was in each it.0 it.1

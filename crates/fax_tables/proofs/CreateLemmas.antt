@@ -1,5 +1,5 @@
 -- What the texts that make the tables leave.
-use Rattle.std.proofs.Common.{◌≡◌, ◌≤◌, ℕ, pos, List, [], ◌∷◌, ◌++◌, true, false, IsTrue, slice_get, Some, None, Ok, Err, Result, refl, sym, ap, ap₂, subst, subst₂, ◌∙◌, arith, if◌then◌else◌}
+use Rattle.std.proofs.Common.{◌≡◌, ◌≤◌, ℕ, pos, List, [], true, false, IsTrue, None, Ok, Err, Result, refl, sym, ap, ap₂, subst, subst₂, ◌∙◌, arith, if◌then◌else◌}
 use Rattle.std.specs.List.{AllByRecursion}
 use Rattle.sqlite.specs.Tree.{Trees, put_row}
 use Rattle.sqlite.specs.Cast.{cast_row}
@@ -29,13 +29,13 @@ use Rattle.fax_core.specs.Queue.{empty_queue}
 use Rattle.fax_schema.specs.Schema as schema
 use Rattle.fax_schema.specs.Schema.{no_tables, first_bare, first_list, second_list, core_list, bare_tables, core_tables, our_tables, has_floors, meta_tree}
 use Rattle.fax_tables.specs.Row.{meta_row}
-use Rattle.fax_tables.specs.Tables.{GoesOn, HasEmptyTables, HasNewCalls, HasNewFloors, IsIndexed, Renews, TablesMean, second_in}
+use Rattle.fax_tables.specs.Tables.{GoesOn, HasEmptyTables, Renews, TablesMean, second_in}
 use Rattle.fax_tables.proofs.TablesLemmas.{Name, founded, is_ours, meta, rows_kept, tree_of}
-use Rattle.fax_schema.proofs.CreateTexts.{LosesIndex, MakesIndexOf, TakesAway}
+use Rattle.fax_schema.proofs.CreateTexts.{AddsIndex, LosesIndex, TakesAway}
 use Rattle.fax_schema.proofs.StatementForms.{Makes}
 use Rattle.fax_schema.proofs.CompareLemmas.{same_row, cast_int, cast_null}
 use Rattle.fax_schema.proofs.StatementTexts.{insert_meta}
-use Rattle.fax_schema.proofs.RowsLemmas.{all_behind, all_both, all_front, all_given, all_mapped, at_tree}
+use Rattle.fax_schema.proofs.RowsLemmas.{all_behind, all_front, all_given, all_mapped, at_tree}
 pub use Rattle.fax_schema.proofs.RowsLemmas.{kept_rows}
 use Rattle.fax_schema.proofs.WriteLemmas.{went, unreferred, inserts}
 
@@ -45,16 +45,6 @@ clean_before old new kept clean = omega arith
 
 same_ok : {A E : Type 0} {a b : A} → ◌≡◌ {A = Result A E} (Ok a) (Ok b) → a ≡ b
 same_ok e = cc
-
--- tables with no rows have none where their rows were kept
-still_empty : (tables : List Table) (old new : Trees) → KeepsRows tables old new → AllByRecursion (λ t. old t.tree ≡ []) tables → AllByRecursion (λ t. new t.tree ≡ []) tables
-still_empty [] old new kept empty = tt
-still_empty (t ∷ ts) old new kept empty = (kept.0 ∙ empty.0, still_empty ts old new kept.1 empty.1)
-
--- with one more table that has no rows, none has
-one_more : (tables : List Table) (new : Trees) (t : Table) → new t.tree ≡ [] → AllByRecursion (λ t. new t.tree ≡ []) tables → AllByRecursion (λ t. new t.tree ≡ []) (tables ++ t ∷ [])
-one_more [] new t own all = (own, tt)
-one_more (x ∷ xs) new t own all = (all.0, one_more xs new t own all.1)
 
 -- a transaction that goes on commits nothing
 pub goes_on : (a b c : State) → GoesOn a b → GoesOn b c → GoesOn a c
@@ -95,14 +85,6 @@ added old new before after sql table count makes is none h inside has =
     let fresh : new.now.trees (next_tree before) ≡ [] = ap (λ d. d.trees (next_tree before)) made_is ∙ ap it.0.trees (ap next_tree (sym has)) ∙ it.1.empty in
     let kept : KeepsRows before.tables old.now.trees new.now.trees = subst₂ (λ ts d. KeepsRows ts old.now.trees d.trees) (ap (λ s. s.tables) has) (sym made_is) it.1.others in
     (inside_shown old new _ inside ran.shown, ap (λ d. d.schema) made_is ∙ schema_is, ran.sound, kept, fresh)
-
--- one more table, where none has rows
-pub made : (old new : State) (before after : Schema) (sql : List ℕ) (table : Table) (count : ℕ) → Makes before sql table → created before table ≡ after → lacks_sequence after ≡ false
-    → Executes sql [] old new (Ok count) → HasEmptyTables before old → GoesOn old new × HasEmptyTables after new
-made old new before after sql table count makes is none h was =
-    let it = added old new before after sql table count makes is none h was.inside was.schema_is in
-    let all = one_more before.tables new.now.trees (record table { tree = next_tree before }) it.4 (still_empty before.tables old.now.trees new.now.trees it.3 was.empty) in
-    (it.0, record { inside = it.0.mode; schema_is = it.1; empty = subst (λ s. AllByRecursion (λ t. new.now.trees t.tree ≡ []) s.tables) is all })
 
 -- a table is gone, to which no other refers, and the rows of the others stay
 pub dropped : (old new : State) (before after : Schema) (sql : List ℕ) (count : ℕ) → TakesAway before sql after → Executes sql [] old new (Ok count) → IsTrue old.in_transaction
@@ -154,19 +136,20 @@ lost_index old new before after sql count loses h inside has =
     )
 
 -- one more index of jobs, and the rows that there were
-pub made_index : (old new : State) (before after : Schema) (sql : List ℕ) (index : Index) (count : ℕ) → MakesIndexOf before sql index → slice_get before.tables 0 ≡ Some schema.jobs → indexed before schema.jobs index ≡ after
-    → Executes sql [] old new (Ok count) → IsTrue old.in_transaction → old.now.schema ≡ before → GoesOn old new × (new.now.schema ≡ after) × IsDatabase new.now × KeepsRows before.tables old.now.trees new.now.trees
-made_index old new before after sql index count makes first is h inside has =
+pub made_index : (old new : State) (before after : Schema) (sql : List ℕ) (count : ℕ) → AddsIndex before sql after → Executes sql [] old new (Ok count) → IsTrue old.in_transaction
+    → old.now.schema ≡ before
+    → GoesOn old new × (new.now.schema ≡ after) × IsDatabase new.now × KeepsRows before.tables old.now.trees new.now.trees
+made_index old new before after sql count makes h inside has =
     let ran = runs_as sql [] old new before has (CreateIndex 0) makes.command makes.plain count h in
     let out = Ok (ran.tally, new.now) in
     let does = subst (λ s. Does old.step_limit (mode_of old) [] (record old.now { schema = s }) (statement_of sql (understood before sql)) None (CreateIndex 0) out) has ran.changed in
-    let on = subst (λ t. AtPlace (λ (table : Table). Defines (mode_of old) (MakesIndex (statement_of sql (understood before sql)) (record old.now { schema = before }) table)) t out) first does in
+    let on = subst (λ t. AtPlace (λ (table : Table). Defines (mode_of old) (MakesIndex (statement_of sql (understood before sql)) (record old.now { schema = before }) table)) t out) makes.has does in
     let made = went on in
     let now : new.now ≡ made.0 = ap (λ (p : Tally × Database). p.1) (same_ok made.2) in
     let text = ap (index_defined_by schema.jobs) makes.statement ∙ makes.defined in
-    let defined : made.1.index ≡ record index { tree = 0; table = 0 } = same_ok (sym made.1.defined ∙ text) in (
+    let defined : made.1.index ≡ record (makes.index) { tree = 0; table = 0 } = same_ok (sym made.1.defined ∙ text) in (
       inside_shown old new _ inside ran.shown,
-      ap (λ (d : Database). d.schema) now ∙ made.1.is ∙ ap (indexed before schema.jobs) defined ∙ is,
+      ap (λ (d : Database). d.schema) now ∙ made.1.is ∙ ap (indexed before schema.jobs) defined ∙ makes.is,
       ran.sound,
       subst (λ (d : Database). KeepsRows before.tables old.now.trees d.trees) (sym now) made.1.rows,
     )
@@ -213,42 +196,6 @@ renews_then a b c first next = record {
 
 -- ---- tables with no rows
 
--- all tables of the second version have none, where those of the other had none
-core_empty : (db after : Database) (c : Schema) → has_floors c ≡ true → after.schema ≡ c → Renews db after → AllByRecursion (λ t. db.trees t.tree ≡ []) first_list
-    → AllByRecursion (λ t. second_in db t.tree ≡ []) second_list
-    → AllByRecursion (λ t. after.trees t.tree ≡ []) core_list
-core_empty db after c there is renews first second =
-    all_both (λ t. after.trees t.tree ≡ []) first_list second_list (still_empty first_list db.trees after.trees renews.rows first)
-    (all_mapped (λ t. second_in after t.tree ≡ []) (λ t. after.trees t.tree ≡ []) second_list (λ t none. sym (second_there after c t.tree is there) ∙ none) (still_empty second_list (second_in db) (second_in after) renews.second second))
-
--- so it is behind tables of the second version
-still_core : (db after : Database) (a c : Schema) → has_floors a ≡ true → has_floors c ≡ true → db.schema ≡ a → after.schema ≡ c → Renews db after
-    → AllByRecursion (λ t. db.trees t.tree ≡ []) core_list
-    → AllByRecursion (λ t. after.trees t.tree ≡ []) core_list
-still_core db after a c was there has is renews empty =
-    core_empty db after c there is renews (all_front (λ t. db.trees t.tree ≡ []) first_list second_list empty)
-    (all_mapped (λ t. db.trees t.tree ≡ []) (λ t. second_in db t.tree ≡ []) second_list (λ t none. second_there db a t.tree has was ∙ none) (all_behind (λ t. db.trees t.tree ≡ []) first_list second_list empty))
-
--- with those of the second version
-pub raised_empty : (old new : State) → HasEmptyTables first_bare old → GoesOn old new → HasNewFloors old.now new.now → HasEmptyTables bare_tables new
-raised_empty old new was on is = record {
-  inside = on.mode;
-  schema_is = is.schema_is;
-  empty = core_empty old.now new.now bare_tables refl is.schema_is is.renews was.empty (all_given (λ t. second_in old.now t.tree ≡ []) second_list (λ t. second_none old.now first_bare t.tree was.schema_is refl));
-}
-
--- and with the indexes
-pub indexed_empty : (old new : State) → HasEmptyTables bare_tables old → GoesOn old new → IsIndexed old.now new.now → HasEmptyTables core_tables new
-indexed_empty old new was on is = record { inside = on.mode; schema_is = is.schema_is; empty = still_core old.now new.now bare_tables core_tables refl refl was.schema_is is.schema_is is.renews was.empty }
-
--- and with `calls`
-pub beside_empty : (old new : State) → HasEmptyTables core_tables old → GoesOn old new → HasNewCalls old.now new.now → HasEmptyTables our_tables new
-beside_empty old new was on is = record {
-  inside = on.mode;
-  schema_is = is.schema_is;
-  empty = one_more core_list new.now.trees schema.calls is.none (still_core old.now new.now core_tables our_tables refl refl was.schema_is is.schema_is is.renews was.empty);
-}
-
 -- the row of meta of an empty store is stored as it is
 stored_meta : cast_row schema.meta (meta_row empty_queue) ≡ meta_row empty_queue
 stored_meta = same_row (cast_int (pos 1)) (same_row cast_null (same_row (cast_int (pos 0)) (same_row (cast_int (pos 1)) (same_row (cast_int (pos 1)) (same_row (cast_int (pos 2)) refl)))))
@@ -259,11 +206,13 @@ filled old new count h was =
     let ran = runs_as INSERT_META.now [] old new our_tables was.schema_is _ insert_meta.is insert_meta.plain count h in
     let done = inserts our_tables unreferred schema.meta.name meta_tree schema.meta.columns schema.meta.key schema.meta.primary schema.meta.uniques schema.meta.orders schema.meta.checks 5 refl old new was.schema_is [] _ count
     _ 6 (meta_row empty_queue) (meta_row empty_queue) refl (ap (with_rowid Chosen (old.now.trees meta_tree)) stored_meta) ran in
-    let empty = λ (name : Name). at_tree (λ tree. old.now.trees tree ≡ []) our_tables.tables (tree_of name) (is_ours name) was.empty in (
+    let empty = λ (name : Name). at_tree (λ tree. old.now.trees tree ≡ []) our_tables.tables (tree_of name) (is_ours name)
+    (subst (λ (s : Schema). AllByRecursion (λ t. old.now.trees t.tree ≡ []) s.tables) was.schema_is was.empty) in (
       inside_shown old new _ was.inside done.keeps.shown,
       founded old.now new.now done.keeps.schema_is done.keeps.sound (done.rows ∙ ap (put_row (meta_row empty_queue)) (empty meta)) empty (rows_kept old new meta_tree done.keeps),
     )
 
 -- a database with no tables has none with rows
-pub none_at_first : (s : State) → IsTrue s.in_transaction → s.now.schema ≡ no_tables → HasEmptyTables no_tables s
-none_at_first s inside none = record { inside = inside; schema_is = none; empty = tt }
+pub none_at_first : (s : State) → IsTrue s.is_open → IsTrue s.in_transaction → s.now.schema ≡ no_tables → HasEmptyTables no_tables s
+none_at_first s is_open inside none =
+    record { is_open = is_open; inside = inside; schema_is = none; empty = subst (λ (a : Schema). AllByRecursion (λ t. s.now.trees t.tree ≡ []) a.tables) (sym none) tt }

@@ -1,118 +1,141 @@
--- How each layout loses its `calls`, or the indexes of jobs where these are last.
-use Rattle.std.proofs.Common.{◌≡◌, ◌≤◌, false, inl, inr, List, [], ◌∷◌, length, refl, sym, ap, subst, ◌∙◌, arith}
-use Rattle.sqlite.specs.Effect.{Database, IsDatabase}
+-- How each step keeps the rows of the tables, and what it leaves of a queue's.
+use Rattle.std.proofs.Common.{◌≡◌, inl, inr, true, false, List, [], ◌∷◌, ◌||◌, not, refl, sym, ap, subst, ◌∙◌, if◌then◌else◌}
+use Rattle.std.specs.List.{AllByRecursion, list_all}
+use Rattle.std.proofs.lemmas.Bool.{and_parts, cases_Bool, not-true}
+use Rattle.sqlite.specs.Effect.{Database}
 use Rattle.sqlite_catalog.specs.Change.{KeepsRows}
 use Rattle.sqlite_rules.specs.Lists.{Has}
+use Rattle.sqlite_rules.proofs.ListLemmas.{all_has}
 use Rattle.sqlite_schema.specs.declared.schema.Schema.{Schema}
 use Rattle.sqlite_schema.specs.declared.schema.Table.{Table}
-use Rattle.fax_schema.specs.declared.statements.TheConstants.{DROP_CALLS, DROP_CHOICE_INDEX, DROP_KILLTIME_INDEX}
-use Rattle.fax_schema.specs.Schema.{AreIndexedLast, HaveCalls, has_floors, calls_at, core_past, first_past, first_list, core_list, first_bare, first_with_killtime, first_core, first_indexed, first_older_core, first_tables, first_older, first_bare_calls, first_vacuumed, first_vacuumed_with_killtime, first_older_vacuumed, bare_tables, core_tables, our_tables, bare_with_calls, vacuumed_tables, vacuumed_with_killtime}
-use Rattle.fax_schema.proofs.CreateTexts.{LosesIndex, TakesAway}
-use Rattle.fax_schema.proofs.CreateTexts as text
-use Rattle.fax_tables.specs.Tables.{LacksCalls, LosesIndexes}
-use Rattle.fax_tables.proofs.CreateLemmas.{renews_core, renews_first}
-use Rattle.fax_schema.proofs.RowsLemmas.{all_front}
+use Rattle.sqlite_trees.specs.Tree.{Trees}
+use Rattle.fax_schema.specs.Schema.{AreOurs, has_floors, first_list, second_list, core_list, no_tables, our_tables, core_tables, bare_tables, bare_with_calls, vacuumed_tables, first_tables, first_older, first_core, first_older_core, first_bare, first_bare_calls, first_vacuumed, first_older_vacuumed}
+use Rattle.fax_schema.specs.Way.{changes}
+use Rattle.fax_schema.specs.declared.way.Step.{Step}
+use Rattle.fax_schema.specs.declared.way.Step.TheVariants.{DropIndexes, DropCalls, CreateFirst, CreateSecond, CreateIndexes}
+use Rattle.fax_schema.proofs.RowsLemmas.{all_given, all_mapped, are_in, at_tree, is_in, not_ours}
+use Rattle.fax_tables.specs.Tables.{ComesTo, Renews, second_in}
+use Rattle.fax_tables.proofs.CreateLemmas.{renews_core, renews_first, renews_raised, renews_then}
 
--- ---- the indexes of jobs
+-- ---- the rows of some tables
 
-pub record LosesBoth (a : Schema) : Type 0 where
-  pub middle : Schema
-  pub end : Schema
-  pub tables : List Table
-  pub first : LosesIndex a DROP_CHOICE_INDEX.now middle
-  pub next : LosesIndex middle DROP_KILLTIME_INDEX.now end
-  pub same_middle : middle.tables ≡ tables
-  pub same_end : end.tables ≡ tables
-  pub leaves : (db after : Database) → db.schema ≡ a → after.schema ≡ end → IsDatabase after → KeepsRows tables db.trees after.trees → LosesIndexes db after
+-- the rows of these tables, and none of others
+abbrev pub only_in : List Table → Trees → Trees
+only_in tables trees tree = if is_in tables tree then trees tree else []
 
--- a layout of more than six tables is none of the two that have six
-more_than_six : (a b : Schema) → Has first_indexed a → a ≡ b → 7 ≤ length b.tables → {X : Type 0} → X
-more_than_six a b (inl core) is more = absurd (let e : length b.tables ≡ 6 = sym (ap (λ (s : Schema). length s.tables) is) ∙ ap (λ (s : Schema). length s.tables) core in omega arith)
-more_than_six a b (inr (inl older)) is more = absurd (let e : length b.tables ≡ 6 = sym (ap (λ (s : Schema). length s.tables) is) ∙ ap (λ (s : Schema). length s.tables) older in omega arith)
-more_than_six a b (inr (inr none)) is more = absurd none
+pub only_there : (all some : List Table) (trees : Trees) → are_in all some ≡ true → KeepsRows some (only_in all trees) trees
+only_there all [] trees there = tt
+only_there all (t ∷ ts) trees there =
+    let parts = and_parts (is_in all t.tree) _ there in
+    (sym (ap (λ b. if b then trees t.tree else []) parts.0), only_there all ts trees parts.1)
 
--- a layout that has these two texts loses both indexes of jobs, and keeps the rows of these tables
-loses : (a middle end : Schema) (tables : List Table) → LosesIndex a DROP_CHOICE_INDEX.now middle → LosesIndex middle DROP_KILLTIME_INDEX.now end
-    → middle.tables ≡ tables → end.tables ≡ tables
-    → ((db after : Database) → db.schema ≡ a → after.schema ≡ end → IsDatabase after → KeepsRows tables db.trees after.trees → LosesIndexes db after) → LosesBoth a
-loses a middle end tables first next same_middle same_end leaves =
-    record { middle = middle; end = end; tables = tables; first = first; next = next; same_middle = same_middle; same_end = same_end; leaves = leaves }
+-- tables of both kept their rows
+pub kept_in : (list first last : List Table) (old new : Trees) → are_in first list ≡ true → are_in last list ≡ true → KeepsRows last (only_in first old) new → KeepsRows list old new
+kept_in [] first last old new was is rows = tt
+kept_in (t ∷ ts) first last old new was is rows =
+    let before = and_parts (is_in first t.tree) _ was in
+    let behind = and_parts (is_in last t.tree) _ is in
+    let same : new t.tree ≡ only_in first old t.tree = at_tree (λ tree. new tree ≡ only_in first old tree) last t.tree behind.0 rows in
+    (same ∙ ap (λ b. if b then old t.tree else []) before.0, kept_in ts first last old new before.1 behind.1 rows)
 
--- all eight tables, as VACUUM leaves them, lose both
-vacuumed : LosesBoth vacuumed_tables
-vacuumed = loses vacuumed_tables vacuumed_with_killtime bare_with_calls bare_with_calls.tables text.drops_choice text.drops_killtime refl refl
-    (λ db after was is sound rows. record {
-      schema_is = inl is;
-      alone = λ six. more_than_six db.schema vacuumed_tables six was (omega arith);
-      sound = sound;
-      renews = renews_core db after vacuumed_tables bare_with_calls refl refl was is (all_front (λ t. after.trees t.tree ≡ db.trees t.tree) core_list (calls_at core_past ∷ []) rows);
-    })
+-- those that are new have none
+none_in : (list first last : List Table) (old new : Trees) → list_all (λ t. not (is_in first t.tree)) list ≡ true → are_in last list ≡ true → KeepsRows last (only_in first old) new
+    → AllByRecursion (λ t. new t.tree ≡ []) list
+none_in [] first last old new off is rows = tt
+none_in (t ∷ ts) first last old new off is rows =
+    let before = and_parts (not (is_in first t.tree)) _ off in
+    let behind = and_parts (is_in last t.tree) _ is in
+    let same : new t.tree ≡ only_in first old t.tree = at_tree (λ tree. new tree ≡ only_in first old tree) last t.tree behind.0 rows in
+    (same ∙ ap (λ b. if b then old t.tree else []) (not-true _ before.0), none_in ts first last old new before.1 behind.1 rows)
 
--- so do the seven of the first version, with whichever indexes
-first_loses : (a : Schema) → LosesIndex a DROP_CHOICE_INDEX.now first_vacuumed_with_killtime → has_floors a ≡ false → 7 ≤ length a.tables → LosesBoth a
-first_loses a first none more = loses a first_vacuumed_with_killtime first_bare_calls first_bare_calls.tables first text.drops_first_killtime refl refl
-    (λ db after was is sound rows. record {
-      schema_is = inr (inl is);
-      alone = λ six. more_than_six db.schema a six was more;
-      sound = sound;
-      renews = renews_first db after a first_bare_calls none refl was is (all_front (λ t. after.trees t.tree ≡ db.trees t.tree) first_list (calls_at first_past ∷ []) rows);
-    })
+-- where none had rows, none has
+pub still_none : (first last : List Table) (old new : Trees) → AllByRecursion (λ t. old t.tree ≡ []) first → KeepsRows last (only_in first old) new → AllByRecursion (λ t. new t.tree ≡ []) last
+still_none first last old new none rows = all_mapped (λ t. new t.tree ≡ only_in first old t.tree) (λ t. new t.tree ≡ []) last (λ t same. same ∙ nothing t) rows
+  where
+    nothing : (t : Table) → only_in first old t.tree ≡ []
+    nothing t = elim (cases_Bool (is_in first t.tree)) [
+      | inl on ↦ ap (λ b. if b then old t.tree else []) on ∙ at_tree (λ tree. old tree ≡ []) first t.tree on none
+      | inr off ↦ ap (λ b. if b then old t.tree else []) off
+    ]
 
--- and the tables of the first version without `calls`
-core_loses : (a : Schema) → LosesIndex a DROP_CHOICE_INDEX.now first_with_killtime → has_floors a ≡ false → LosesBoth a
-core_loses a first none = loses a first_with_killtime first_bare first_list first text.drops_core_killtime refl refl
-    (λ db after was is sound rows. record { schema_is = inr (inr (inl is)); alone = λ six. is; sound = sound; renews = renews_first db after a first_bare none refl was is rows })
+-- one change after the other
+pub kept_twice : (first middle last : List Table) (a b c : Trees) → list_all (λ t. is_in middle t.tree || not (is_in first t.tree)) last ≡ true
+    → KeepsRows middle (only_in first a) b → KeepsRows last (only_in middle b) c → KeepsRows last (only_in first a) c
+kept_twice first middle [] a b c fit one two = tt
+kept_twice first middle (t ∷ ts) a b c fit one two =
+    let parts = and_parts (is_in middle t.tree || not (is_in first t.tree)) _ fit in
+    (two.0 ∙ before t parts.0, kept_twice first middle ts a b c parts.1 one two.1)
+  where
+    before : (t : Table) → (is_in middle t.tree || not (is_in first t.tree)) ≡ true → only_in middle b t.tree ≡ only_in first a t.tree
+    before t fit = elim (cases_Bool (is_in middle t.tree)) [
+      | inl on ↦ ap (λ x. if x then b t.tree else []) on ∙ at_tree (λ tree. b tree ≡ only_in first a tree) middle t.tree on one
+      | inr off ↦ ap (λ x. if x then b t.tree else []) off ∙ sym (ap (λ x. if x then a t.tree else []) (not-true _ (rw off at fit)))
+    ]
 
--- each layout with the indexes of jobs last loses both
-pub loses_both : (schema : Schema) → AreIndexedLast schema → LosesBoth schema
-loses_both schema (inl is) = subst LosesBoth (sym is) vacuumed
-loses_both schema (inr (inl is)) = subst LosesBoth (sym is) (first_loses first_vacuumed text.drops_first_choice refl (omega arith))
-loses_both schema (inr (inr (inl is))) = subst LosesBoth (sym is) (first_loses first_older_vacuumed text.drops_first_older_choice refl (omega arith))
-loses_both schema (inr (inr (inr (inl is)))) = subst LosesBoth (sym is) (core_loses first_core text.drops_core_choice refl)
-loses_both schema (inr (inr (inr (inr (inl is))))) = subst LosesBoth (sym is) (core_loses first_older_core text.drops_older_core_choice refl)
-loses_both schema (inr (inr (inr (inr (inr none))))) = absurd none
+-- ---- what a step keeps of a queue's tables
 
--- ---- `calls`
+abbrev Keeps : Schema × Schema → Type 0
+Keeps way = AreOurs way.0 → AreOurs way.1 × ((db after : Database) → db.schema ≡ way.0 → after.schema ≡ way.1 → KeepsRows (way.1).tables (only_in (way.0).tables db.trees) after.trees → Renews db after)
 
-pub record LosesLast (a : Schema) : Type 0 where
-  pub end : Schema
-  pub takes : TakesAway a DROP_CALLS.now end
-  pub leaves : (db after : Database) → db.schema ≡ a → after.schema ≡ end → IsDatabase after → KeepsRows end.tables db.trees after.trees → LacksCalls db after
+-- the tables of the first version
+first_kept : (a b : Schema) → has_floors a ≡ false → has_floors b ≡ false → are_in a.tables first_list ≡ true → are_in b.tables first_list ≡ true → AreOurs b → Keeps (a, b)
+first_kept a b none still was is ours before =
+    (ours, λ db after from to rows. renews_first db after a b none still from to (kept_in first_list a.tables b.tables db.trees after.trees was is rows))
 
--- the tables of a store lose `calls`
-ours : LosesLast our_tables
-ours = record {
-  end = core_tables;
-  takes = text.drops_calls;
-  leaves = λ db after was is sound rows. record { schema_is = inl is; sound = sound; renews = renews_core db after our_tables core_tables refl refl was is rows };
+-- those of the second
+core_kept : (a b : Schema) → has_floors a ≡ true → has_floors b ≡ true → are_in a.tables core_list ≡ true → are_in b.tables core_list ≡ true → AreOurs b → Keeps (a, b)
+core_kept a b there still was is ours before =
+    (ours, λ db after from to rows. renews_core db after a b there still from to (kept_in core_list a.tables b.tables db.trees after.trees was is rows))
+
+-- what the second has comes to those of the first
+raised : Keeps (first_bare, bare_tables)
+raised before = (inr (inr (inl refl)), λ db after from to rows. renews_raised db after from to
+    (kept_in first_list first_list bare_tables.tables db.trees after.trees refl refl rows) (none_in second_list first_list bare_tables.tables db.trees after.trees refl refl rows))
+
+-- no table was there
+made : Keeps (no_tables, first_bare)
+made ours = absurd (not_ours no_tables refl ours)
+
+keeps : (step : Step) (a b : Schema) → Has (changes step) (a, b) → Keeps (a, b)
+keeps DropIndexes a b = all_has Keeps (changes DropIndexes) (a, b)
+    (core_kept vacuumed_tables bare_with_calls refl refl refl refl (inr (inr (inr (inl refl)))),
+    (first_kept first_vacuumed first_bare_calls refl refl refl refl (inr (inr (inr (inr (inr (inr (inr (inr (inr (inr (inl refl))))))))))),
+    (first_kept first_older_vacuumed first_bare_calls refl refl refl refl (inr (inr (inr (inr (inr (inr (inr (inr (inr (inr (inl refl))))))))))),
+    (first_kept first_core first_bare refl refl refl refl (inr (inr (inr (inr (inr (inr (inr (inr (inr (inl refl)))))))))),
+    (first_kept first_older_core first_bare refl refl refl refl (inr (inr (inr (inr (inr (inr (inr (inr (inr (inl refl)))))))))), tt)))))
+keeps DropCalls a b = all_has Keeps (changes DropCalls) (a, b)
+    (core_kept our_tables core_tables refl refl refl refl (inr (inl refl)),
+    (core_kept bare_with_calls bare_tables refl refl refl refl (inr (inr (inl refl))),
+    (first_kept first_tables first_core refl refl refl refl (inr (inr (inr (inr (inr (inr (inr (inl refl)))))))),
+    (first_kept first_older first_older_core refl refl refl refl (inr (inr (inr (inr (inr (inr (inr (inr (inl refl))))))))),
+    (first_kept first_bare_calls first_bare refl refl refl refl (inr (inr (inr (inr (inr (inr (inr (inr (inr (inl refl)))))))))), tt)))))
+keeps CreateFirst a b = all_has Keeps (changes CreateFirst) (a, b) (made, tt)
+keeps CreateSecond a b = all_has Keeps (changes CreateSecond) (a, b) (raised, tt)
+keeps CreateIndexes a b = all_has Keeps (changes CreateIndexes) (a, b) (core_kept bare_tables core_tables refl refl refl refl (inr (inl refl)), tt)
+
+-- so it comes to where it leads
+pub comes : (step : Step) (to : Schema) (db after : Database) → Has (changes step) (db.schema, to) → after.schema ≡ to → KeepsRows after.schema.tables (only_in db.schema.tables db.trees) after.trees → ComesTo to db after
+comes step to db after has is rows = record {
+  schema_is = is;
+  ours = λ ours. (keeps step db.schema to has ours).0;
+  renews = λ ours. (keeps step db.schema to has ours).1 db after refl is (subst (λ (s : Schema). KeepsRows s.tables (only_in db.schema.tables db.trees) after.trees) is rows);
+  empty = λ none. still_none db.schema.tables after.schema.tables db.trees after.trees none rows;
 }
 
--- so do those without the indexes of jobs
-bare_calls : LosesLast bare_with_calls
-bare_calls = record {
-  end = bare_tables;
-  takes = text.drops_bare_calls;
-  leaves = λ db after was is sound rows. record { schema_is = inr (inl is); sound = sound; renews = renews_core db after bare_with_calls bare_tables refl refl was is rows };
+-- without a step it stays
+pub stays : (db : Database) → ComesTo db.schema db db
+stays db = record {
+  schema_is = refl;
+  ours = λ ours. ours;
+  renews = λ ours. record { rows = all_given (λ t. db.trees t.tree ≡ db.trees t.tree) first_list (λ t. refl); second = all_given (λ t. second_in db t.tree ≡ second_in db t.tree) second_list (λ t. refl) };
+  empty = λ none. none;
 }
 
--- so do those of the first version, whichever indexes they have
-first_last : (a end : Schema) → TakesAway a DROP_CALLS.now end → has_floors a ≡ false → has_floors end ≡ false → end.tables ≡ first_list
-    → Has (core_tables ∷ bare_tables ∷ first_core ∷ first_bare ∷ first_older_core ∷ []) end → LosesLast a
-first_last a end takes none still same one = record {
-  end = end;
-  takes = takes;
-  leaves = λ db after was is sound rows. record {
-    schema_is = rw is one;
-    sound = sound;
-    renews = renews_first db after a end none still was is (rw same at rows);
-  };
+-- and one step after the other
+pub comes_then : (to : Schema) (a b c : Database) → ComesTo b.schema a b → ComesTo to b c → ComesTo to a c
+comes_then to a b c first next = record {
+  schema_is = next.schema_is;
+  ours = λ ours. next.ours (first.ours ours);
+  renews = λ ours. renews_then a b c (first.renews ours) (next.renews (first.ours ours));
+  empty = λ none. next.empty (first.empty none);
 }
-
--- each layout with `calls` loses it
-pub loses_last : (schema : Schema) → HaveCalls schema → LosesLast schema
-loses_last schema (inl is) = subst LosesLast (sym is) ours
-loses_last schema (inr (inl is)) = subst LosesLast (sym is) bare_calls
-loses_last schema (inr (inr (inl is))) = subst LosesLast (sym is) (first_last first_tables first_core text.drops_first_calls refl refl refl (inr (inr (inl refl))))
-loses_last schema (inr (inr (inr (inl is)))) = subst LosesLast (sym is) (first_last first_bare_calls first_bare text.drops_first_bare_calls refl refl refl (inr (inr (inr (inl refl)))))
-loses_last schema (inr (inr (inr (inr (inl is))))) = subst LosesLast (sym is) (first_last first_older first_older_core text.drops_first_older_calls refl refl refl (inr (inr (inr (inr (inl refl))))))
-loses_last schema (inr (inr (inr (inr (inr none))))) = absurd none

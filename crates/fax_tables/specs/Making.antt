@@ -1,11 +1,27 @@
 -- What it leaves to make tables, or to take them away.
-use Rattle.std.specs.Prelude.{◌≤◌, ⊤, OnErr, OnOk, Result}
+use Rattle.std.specs.Prelude.{◌≤◌, ⊤, IsTrue, List, OnErr, OnOk, Result}
 use Rattle.sqlite.specs.Held.{Held, state}
 use Rattle.sqlite.specs.State.{State, HasCleanDisk, KeepsCommit}
 use Rattle.sqlite.specs.View.{doubt}
+use Rattle.sqlite_schema.specs.declared.schema.Schema.{Schema}
 use Rattle.sqlite_trees.specs.declared.store.Store.{Ghosts}
+use Rattle.fax_schema.specs.Way.{IsWay, Leads}
+use Rattle.fax_schema.specs.declared.way.Step.{Step}
+use Rattle.fax_schema.specs.declared.way.Way.{Way}
 use Rattle.fax_tables.specs.Stop.{HoldsBack}
 use Rattle.fax_tables.specs.Tables.{GoesOn}
+
+-- a transaction is under way over tables that these steps lead to those
+pub record IsBefore (steps : List Step) (to : Schema) (s : State) : Type 0 where
+  pub is_open : IsTrue s.is_open
+  pub inside : IsTrue s.in_transaction
+  pub leads : Leads steps s.now.schema to
+
+-- a transaction is under way over tables that go this way
+pub record IsOn (way : Way) (s : State) : Type 0 where
+  pub is_open : IsTrue s.is_open
+  pub inside : IsTrue s.in_transaction
+  pub is_way : IsWay way s.now.schema
 
 -- whatever the state is
 abbrev pub Always : State → Type 0

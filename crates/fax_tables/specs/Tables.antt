@@ -19,7 +19,7 @@ use Rattle.fax_value.specs.Limits.{last_grant, last_job, last_moment}
 use Rattle.fax_value.specs.Name.{IsName}
 use Rattle.fax_tables.specs.Grant.{IsWithinLimits}
 use Rattle.fax_schema.specs.ByRowid.{IsByRowid}
-use Rattle.fax_schema.specs.Schema.{AreIndexedLast, HaveCalls, alike_list, first_list, second_list, first_bare, first_core, first_indexed, first_older_core, first_bare_calls, core_tables, bare_tables, our_tables, bare_with_calls, has_floors, calls_tree, down_tree, floors_tree, grants_tree, holds_tree, jobs_tree, meta_tree, replies_tree}
+use Rattle.fax_schema.specs.Schema.{AreOurs, alike_list, first_list, second_list, core_tables, our_tables, has_floors, calls_tree, down_tree, floors_tree, grants_tree, holds_tree, jobs_tree, meta_tree, replies_tree}
 use Rattle.fax_tables.specs.Job.{IsLawfulJob}
 use Rattle.fax_tables.specs.Row.{number, job_row, grant_row, hold_columns, down_columns, entry_columns, call_columns, meta_row, raised}
 
@@ -138,70 +138,38 @@ pub record IsAtRest (s : State) (m : Queue) (k : Ledger) : Type 0 where
 abbrev pub GoesOn : State → State → Type 0
 GoesOn old new = Shows old new new.now old.committed true
 
+-- no table has rows
+abbrev pub HasNoRows : Database → Type 0
+HasNoRows db = AllByRecursion (λ t. db.trees t.tree ≡ []) db.schema.tables
+
 -- a transaction is under way, and the tables are these, with no rows
 pub record HasEmptyTables (schema : Schema) (s : State) : Type 0 where
+  pub is_open : IsTrue s.is_open
   pub inside : IsTrue s.in_transaction
   pub schema_is : s.now.schema ≡ schema
-  pub empty : AllByRecursion (λ t. s.now.trees t.tree ≡ []) schema.tables
+  pub empty : HasNoRows s.now
 
--- a transaction is under way over the tables of the first version without the indexes of jobs, whatever their rows are
-pub record HasFirstTables (s : State) : Type 0 where
-  pub inside : IsTrue s.in_transaction
-  pub schema_is : s.now.schema ≡ first_bare
-
--- a transaction is under way over the tables without the indexes, whatever their rows are
-pub record HasTablesAlone (s : State) : Type 0 where
-  pub inside : IsTrue s.in_transaction
-  pub schema_is : s.now.schema ≡ bare_tables
-
--- a transaction is under way over the seven tables and the indexes of jobs, whatever their rows are
+-- a transaction is under way over all tables but `calls`, with the indexes of jobs, whatever their rows are
 pub record HasCoreTables (s : State) : Type 0 where
   pub inside : IsTrue s.in_transaction
   pub schema_is : s.now.schema ≡ core_tables
-
--- a transaction is under way over tables with `calls`, of either version
-pub record HasCallsBeside (s : State) : Type 0 where
-  pub inside : IsTrue s.in_transaction
-  pub schema_is : HaveCalls s.now.schema
-
--- a transaction is under way over the tables with the indexes of jobs last
-pub record HasIndexesLast (s : State) : Type 0 where
-  pub inside : IsTrue s.in_transaction
-  pub schema_is : AreIndexedLast s.now.schema
 
 -- it has the rows of the other in all tables but `calls`: none in those of the second version, where the other is of the first
 pub record Renews (db after : Database) : Type 0 where
   pub rows : KeepsRows first_list db.trees after.trees
   pub second : KeepsRows second_list (second_in db) (second_in after)
 
--- it has the tables without the indexes of jobs, with `calls` where the other has it
-pub record LosesIndexes (db after : Database) : Type 0 where
-  pub schema_is : Has (bare_with_calls ∷ first_bare_calls ∷ first_bare ∷ []) after.schema
-  pub alone : Has first_indexed db.schema → after.schema ≡ first_bare
-  pub sound : IsDatabase after
-  pub renews : Renews db after
+-- It has come to these tables: with the rows of a queue's tables, but of `calls`, and with none where there were none.
+pub record ComesTo (to : Schema) (db after : Database) : Type 0 where
+  pub schema_is : after.schema ≡ to
+  pub ours : AreOurs db.schema → AreOurs to
+  pub renews : AreOurs db.schema → Renews db after
+  pub empty : HasNoRows db → HasNoRows after
 
--- it has the tables of the second version too, with no rows
-pub record HasNewFloors (db after : Database) : Type 0 where
-  pub schema_is : after.schema ≡ bare_tables
-  pub sound : IsDatabase after
-  pub renews : Renews db after
-
--- it has the indexes
-pub record IsIndexed (db after : Database) : Type 0 where
-  pub schema_is : after.schema ≡ core_tables
-  pub sound : IsDatabase after
-  pub renews : Renews db after
-
--- it has `calls` too, with no rows
+-- it has come to all tables, and `calls` has no rows
 pub record HasNewCalls (db after : Database) : Type 0 where
   pub schema_is : after.schema ≡ our_tables
   pub sound : IsDatabase after
-  pub renews : Renews db after
+  pub renews : AreOurs db.schema → Renews db after
+  pub empty : HasNoRows db → HasNoRows after
   pub none : after.trees calls_tree ≡ []
-
--- it has `calls` no more
-pub record LacksCalls (db after : Database) : Type 0 where
-  pub schema_is : Has (core_tables ∷ bare_tables ∷ first_core ∷ first_bare ∷ first_older_core ∷ []) after.schema
-  pub sound : IsDatabase after
-  pub renews : Renews db after

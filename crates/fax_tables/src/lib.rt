@@ -23,6 +23,4 @@ pub use jobs::{
 pub use meta::{Meta, PAST_GRANTS, PAST_JOBS, is_version};
 pub use prospect::{Prospect, prospect_in};
 pub use replies::{Kept, is_kept_status, number_value};
-pub use schema::{
-    create_calls, create_indexes, create_second_tables, create_tables, drop_calls, drop_indexes,
-};
+pub use schema::{create_tables, renew_tables};

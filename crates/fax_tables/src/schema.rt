@@ -1,17 +1,15 @@
 //! The eight tables and their indexes.
 
-ghost use Rattle.std.specs.Prelude.{[]};
+ghost use Rattle.std.specs.Prelude.{[], ◌∷◌};
+ghost use Rattle.sqlite_schema.specs.declared.schema.Schema.{Schema};
 ghost use Rattle.fax_core.specs.Ledger.{empty_ledger};
 ghost use Rattle.fax_core.specs.Queue.{empty_queue};
-ghost use Rattle.fax_schema.specs.Schema.{no_tables, with_down, first_bare, our_tables};
-ghost use Rattle.fax_tables.specs.Making.{Alters, Always};
-ghost use Rattle.fax_tables.specs.Tables.{HasCallsBeside, HasEmptyTables, HasFirstTables, HasIndexesLast, HasNewCalls, HasNewFloors, HasCoreTables, HasTablesAlone, IsIndexed, LacksCalls, LosesIndexes, TablesMean};
+ghost use Rattle.fax_schema.specs.Schema.{no_tables, our_tables};
+ghost use Rattle.fax_tables.specs.Making.{Alters, Always, IsBefore, IsOn};
+ghost use Rattle.fax_tables.specs.Tables.{ComesTo, HasCoreTables, HasEmptyTables, HasNewCalls, TablesMean};
 
-use fax_schema::statements::{
-    CREATE_CALLS, CREATE_CHOICE_INDEX, CREATE_DOWN, CREATE_GRANTS, CREATE_HOLDS, CREATE_JOBS,
-    CREATE_KILLTIME_INDEX, CREATE_META, CREATE_REPLIES, CREATE_SECOND, DROP_CALLS,
-    DROP_CHOICE_INDEX, DROP_KILLTIME_INDEX, INSERT_META,
-};
+use fax_schema::statements::{CREATE_CALLS, INSERT_META};
+use fax_schema::{Step, UPGRADES, Way};
 use sqlite::{Alter, Connection, Error};
 
 /// Makes the eight tables and their indexes in a database without any, with no rows but the one of meta. Inside a
@@ -20,51 +18,43 @@ pub fn create_tables<S: Alter>(conn: &mut Connection<S>) -> Result<(), Error>
     ensures { Alters S.Store (HasEmptyTables no_tables) (HasEmptyTables no_tables)
         (λ old new. TablesMean new.now empty_queue empty_ledger) conn.old conn.new result }
 {
-    create_first_tables(conn)?;
-    create_second_tables(conn)?;
-    create_indexes(conn)?;
-    create_calls(conn)?;
+    let all = Way {
+        loses: &[],
+        gains: &UPGRADES,
+    };
+    renew_tables(conn, all)?;
     fill_meta(conn)
 }
 
-/// Makes the tables that the first version has.
-fn create_first_tables<S: Alter>(conn: &mut Connection<S>) -> Result<(), Error>
-    ensures { Alters S.Store (HasEmptyTables no_tables) (HasEmptyTables no_tables)
-        (λ old new. HasEmptyTables first_bare new) conn.old conn.new result }
+/// Makes what the tables lack of those of a store, by the steps of their way, and `calls` anew, with no rows. The rows of
+/// the others stay as they are, and inside a transaction nothing is committed.
+pub fn renew_tables<S: Alter>(conn: &mut Connection<S>, way: Way) -> Result<(), Error>
+    ensures { Alters S.Store (IsOn way) (IsOn way)
+        (λ old new. HasNewCalls old.now new.now) conn.old conn.new result }
 {
-    create_work_tables(conn)?;
-    create_kept_tables(conn)
+    take_steps(conn, way.loses)?;
+    take_steps(conn, way.gains)?;
+    create_calls(conn)
 }
 
-/// Makes the tables of jobs, grants, holds and modems down.
-fn create_work_tables<S: Alter>(conn: &mut Connection<S>) -> Result<(), Error>
-    ensures { Alters S.Store (HasEmptyTables no_tables) (HasEmptyTables no_tables)
-        (λ old new. HasEmptyTables with_down new) conn.old conn.new result }
+/// Takes these steps, one behind the other, wherever they lead.
+fn take_steps<S: Alter>(conn: &mut Connection<S>, mut steps: &[Step]) -> Result<(), Error>
+    ensures { (to : Schema) → Alters S.Store (IsBefore steps.entry.now to) (IsBefore steps.entry.now to)
+        (λ old new. ComesTo to old.now new.now) conn.old conn.new result }
 {
-    conn.execute(CREATE_JOBS, &[])?;
-    conn.execute(CREATE_GRANTS, &[])?;
-    conn.execute(CREATE_HOLDS, &[])?;
-    conn.execute(CREATE_DOWN, &[])?;
+    while let [step, rest @ ..] = steps {
+        take_step(conn, *step)?;
+        steps = rest;
+    }
     Ok(())
 }
 
-/// Makes the tables of replies and of the clock and next numbers.
-fn create_kept_tables<S: Alter>(conn: &mut Connection<S>) -> Result<(), Error>
-    ensures { Alters S.Store (HasEmptyTables with_down) (HasEmptyTables with_down)
-        (λ old new. HasEmptyTables first_bare new) conn.old conn.new result }
+/// Takes a step, by its texts.
+fn take_step<S: Alter>(conn: &mut Connection<S>, step: Step) -> Result<(), Error>
+    ensures { (to : Schema) → Alters S.Store (IsBefore (step ∷ []) to) (IsBefore (step ∷ []) to)
+        (λ old new. ComesTo to old.now new.now) conn.old conn.new result }
 {
-    conn.execute(CREATE_REPLIES, &[])?;
-    conn.execute(CREATE_META, &[])?;
-    Ok(())
-}
-
-/// Makes the tables that the second version has beside the first's, with no rows. The rows of the others stay as they
-/// are, and inside a transaction nothing is committed.
-pub fn create_second_tables<S: Alter>(conn: &mut Connection<S>) -> Result<(), Error>
-    ensures { Alters S.Store HasFirstTables HasFirstTables
-        (λ old new. HasNewFloors old.now new.now) conn.old conn.new result }
-{
-    let mut texts: &[&str] = &CREATE_SECOND;
+    let mut texts = step.texts();
     while let [text, rest @ ..] = texts {
         conn.execute(text, &[])?;
         texts = rest;
@@ -72,44 +62,12 @@ pub fn create_second_tables<S: Alter>(conn: &mut Connection<S>) -> Result<(), Er
     Ok(())
 }
 
-/// Makes the indexes by which jobs are found. The rows stay as they are, and inside a transaction nothing is committed.
-pub fn create_indexes<S: Alter>(conn: &mut Connection<S>) -> Result<(), Error>
-    ensures { Alters S.Store HasTablesAlone HasTablesAlone
-        (λ old new. IsIndexed old.now new.now) conn.old conn.new result }
-{
-    conn.execute(CREATE_KILLTIME_INDEX, &[])?;
-    conn.execute(CREATE_CHOICE_INDEX, &[])?;
-    Ok(())
-}
-
-/// Makes the table of calls, with no rows. Those of the others stay as they are, and inside a transaction nothing is
-/// committed.
-pub fn create_calls<S: Alter>(conn: &mut Connection<S>) -> Result<(), Error>
-    ensures { Alters S.Store HasCoreTables Always
+/// Makes the table of calls, with no rows.
+fn create_calls<S: Alter>(conn: &mut Connection<S>) -> Result<(), Error>
+    ensures { Alters S.Store HasCoreTables HasCoreTables
         (λ old new. HasNewCalls old.now new.now) conn.old conn.new result }
 {
     conn.execute(CREATE_CALLS, &[])?;
-    Ok(())
-}
-
-/// Takes the table of calls away, whatever its rows are. Those of the others stay as they are, and inside a
-/// transaction nothing is committed.
-pub fn drop_calls<S: Alter>(conn: &mut Connection<S>) -> Result<(), Error>
-    ensures { Alters S.Store HasCallsBeside Always
-        (λ old new. LacksCalls old.now new.now) conn.old conn.new result }
-{
-    conn.execute(DROP_CALLS, &[])?;
-    Ok(())
-}
-
-/// Takes the indexes by which jobs are found away, where they are the last. The rows stay as they are, and inside a
-/// transaction nothing is committed.
-pub fn drop_indexes<S: Alter>(conn: &mut Connection<S>) -> Result<(), Error>
-    ensures { Alters S.Store HasIndexesLast HasIndexesLast
-        (λ old new. LosesIndexes old.now new.now) conn.old conn.new result }
-{
-    conn.execute(DROP_CHOICE_INDEX, &[])?;
-    conn.execute(DROP_KILLTIME_INDEX, &[])?;
     Ok(())
 }
 

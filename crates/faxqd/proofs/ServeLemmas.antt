@@ -19,7 +19,8 @@ use Rattle.fax_once.proofs.HandledLemmas.{open_stops}
 use Rattle.fax_run.specs.Run.{Start}
 use Rattle.fax_store.specs.Adopt.{Adopts, IsOurs}
 use Rattle.fax_store.specs.Store.{LeavesAlone, Means}
-use Rattle.fax_schema.specs.Schema.{AreOurs, indexed_last, no_tables, with_calls, without_calls}
+use Rattle.fax_schema.specs.Schema.{AreOurs, no_tables}
+use Rattle.fax_schema.proofs.RowsLemmas.{not_ours}
 use Rattle.fax_files.specs.Database.{IsFound}
 use Rattle.fax_files.specs.Office.{ComesOf}
 use Rattle.fax_net.specs.History.{Step}
@@ -32,23 +33,6 @@ use Rattle.fax_text.specs.declared.status.Status.TheVariants.{Success, Fault, Us
 use Rattle.fax_text.specs.declared.server.ServePlan.{ServePlan}
 
 -- ---- what was found
-
--- each of these schemas has tables
-some_tables : (layouts : List Schema) → AllByRecursion (λ (l : Schema). nat_lt 0 (length l.tables) ≡ true) layouts → (schema : Schema) → Has layouts schema
-    → nat_lt 0 (length schema.tables) ≡ true
-some_tables [] all schema has = absurd has
-some_tables (l ∷ layouts) all schema (inl is) = subst (λ (s : Schema). nat_lt 0 (length s.tables) ≡ true) (sym is) all.0
-some_tables (l ∷ layouts) all schema (inr has) = some_tables layouts all.1 schema has
-
--- so no tables are none of a queue's
-not_ours : (schema : Schema) → schema ≡ no_tables → AreOurs schema → ⊥
-not_ours schema none ours =
-    let some : nat_lt 0 (length schema.tables) ≡ true = elim ours [
-      | inl (inl has) ↦ some_tables with_calls (refl, (refl, (refl, (refl, (refl, tt))))) schema has
-      | inl (inr has) ↦ some_tables without_calls (refl, (refl, (refl, tt))) schema has
-      | inr has ↦ some_tables indexed_last (refl, (refl, (refl, (refl, (refl, tt))))) schema has
-    ] in
-    true≢false (sym some ∙ ap (λ (s : Schema). nat_lt 0 (length s.tables)) none)
 
 -- from a start that an opened store means the messages were served, and a crash leaves what such a session left: as it was opened, a crash left just what it means
 has_served : {C : Type 0} (gives : C → List ℕ → ℕ → C → Type 0) (settings : Settings) (clock : C) (turns : List Turn) (opened new : State) (start : Start)
