@@ -273,7 +273,7 @@ module _ (way : Way) (s0 s1 s2 : State) (begun : HasBegun (AreOnTheWay way) s0 s
               let it = (filled clean).1 in
               let rows = (same_rows at).rows in
               record {
-                schema_is = begun.ours;
+                schema_is = begun.ours.0;
                 version = sym (same_versions at) ∙ it.version_is ∙ ap (λ v. number v ∷ []) is;
                 held = λ hold there. let job = it.held hold (subst (λ rows. Has rows hold) (sym rows.1.1.0) there) in (job.0, subst (λ rows. Has rows job.0) rows.0 job.1, job.2);
               }
