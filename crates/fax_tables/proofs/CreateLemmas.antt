@@ -1,5 +1,5 @@
 -- What the texts that make the tables leave.
-use Rattle.std.proofs.Common.{◌≡◌, ◌≤◌, ℕ, pos, List, [], ◌∷◌, ◌++◌, true, false, IsTrue, slice_get, Some, None, Ok, Err, Result, refl, sym, ap, ap₂, subst, subst₂, ◌∙◌, arith, if◌then◌else◌}
+use Rattle.std.proofs.Common.{◌≡◌, ◌≤◌, ℕ, pos, List, [], ◌∷◌, true, false, IsTrue, slice_get, Some, None, Ok, Err, Result, refl, sym, ap, ap₂, subst, subst₂, ◌∙◌, arith, if◌then◌else◌}
 use Rattle.std.specs.List.{AllByRecursion}
 use Rattle.sqlite.specs.Tree.{Trees, put_row}
 use Rattle.sqlite.specs.Cast.{cast_row}
@@ -46,16 +46,6 @@ clean_before old new kept clean = omega arith
 same_ok : {A E : Type 0} {a b : A} → ◌≡◌ {A = Result A E} (Ok a) (Ok b) → a ≡ b
 same_ok e = cc
 
--- tables with no rows have none where their rows were kept
-still_empty : (tables : List Table) (old new : Trees) → KeepsRows tables old new → AllByRecursion (λ t. old t.tree ≡ []) tables → AllByRecursion (λ t. new t.tree ≡ []) tables
-still_empty [] old new kept empty = tt
-still_empty (t ∷ ts) old new kept empty = (kept.0 ∙ empty.0, still_empty ts old new kept.1 empty.1)
-
--- with one more table that has no rows, none has
-one_more : (tables : List Table) (new : Trees) (t : Table) → new t.tree ≡ [] → AllByRecursion (λ t. new t.tree ≡ []) tables → AllByRecursion (λ t. new t.tree ≡ []) (tables ++ t ∷ [])
-one_more [] new t own all = (own, tt)
-one_more (x ∷ xs) new t own all = (all.0, one_more xs new t own all.1)
-
 -- a transaction that goes on commits nothing
 pub goes_on : (a b c : State) → GoesOn a b → GoesOn b c → GoesOn a c
 goes_on a b c first next = record { was_open = first.was_open; is_open = next.is_open; now_is = refl; committed_is = next.committed_is ∙ first.committed_is; mode = next.mode }
@@ -101,7 +91,8 @@ pub made : (old new : State) (before after : Schema) (sql : List ℕ) (table : T
     → Executes sql [] old new (Ok count) → HasEmptyTables before old → GoesOn old new × HasEmptyTables after new
 made old new before after sql table count makes is none h was =
     let it = added old new before after sql table count makes is none h was.inside was.schema_is in
-    let all = one_more before.tables new.now.trees (record table { tree = next_tree before }) it.4 (still_empty before.tables old.now.trees new.now.trees it.3 was.empty) in
+    let still = kept_rows before.tables (λ tree. []) old.now.trees new.now.trees was.empty it.3 in
+    let all = all_both (λ t. new.now.trees t.tree ≡ []) before.tables (record table { tree = next_tree before } ∷ []) still (it.4, tt) in
     (it.0, record { inside = it.0.mode; schema_is = it.1; empty = subst (λ s. AllByRecursion (λ t. new.now.trees t.tree ≡ []) s.tables) is all })
 
 -- a table is gone, to which no other refers, and the rows of the others stay
@@ -218,8 +209,9 @@ core_empty : (db after : Database) (c : Schema) → has_floors c ≡ true → af
     → AllByRecursion (λ t. second_in db t.tree ≡ []) second_list
     → AllByRecursion (λ t. after.trees t.tree ≡ []) core_list
 core_empty db after c there is renews first second =
-    all_both (λ t. after.trees t.tree ≡ []) first_list second_list (still_empty first_list db.trees after.trees renews.rows first)
-    (all_mapped (λ t. second_in after t.tree ≡ []) (λ t. after.trees t.tree ≡ []) second_list (λ t none. sym (second_there after c t.tree is there) ∙ none) (still_empty second_list (second_in db) (second_in after) renews.second second))
+    let still = kept_rows second_list (λ tree. []) (second_in db) (second_in after) second renews.second in
+    all_both (λ t. after.trees t.tree ≡ []) first_list second_list (kept_rows first_list (λ tree. []) db.trees after.trees first renews.rows)
+    (all_mapped (λ t. second_in after t.tree ≡ []) (λ t. after.trees t.tree ≡ []) second_list (λ t none. sym (second_there after c t.tree is there) ∙ none) still)
 
 -- so it is behind tables of the second version
 still_core : (db after : Database) (a c : Schema) → has_floors a ≡ true → has_floors c ≡ true → db.schema ≡ a → after.schema ≡ c → Renews db after
@@ -246,7 +238,8 @@ pub beside_empty : (old new : State) → HasEmptyTables core_tables old → Goes
 beside_empty old new was on is = record {
   inside = on.mode;
   schema_is = is.schema_is;
-  empty = one_more core_list new.now.trees schema.calls is.none (still_core old.now new.now core_tables our_tables refl refl was.schema_is is.schema_is is.renews was.empty);
+  empty = all_both (λ t. new.now.trees t.tree ≡ []) core_list (schema.calls ∷ [])
+      (still_core old.now new.now core_tables our_tables refl refl was.schema_is is.schema_is is.renews was.empty) (is.none, tt);
 }
 
 -- the row of meta of an empty store is stored as it is

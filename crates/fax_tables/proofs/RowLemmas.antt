@@ -1,5 +1,5 @@
 -- What a row of a job's columns has in each place.
-use Rattle.std.proofs.Common.{◌≡◌, ℕ, suc, [], ◌∷◌, ◌++◌, map, take, drop, get_or, unwrap_or, ◌+◌, ◌<◌, ◌≤◌, ◌^◌, Bool, true, false, ◌&&◌, if◌then◌else◌, List, Option, Some, None, length, length-append, leb, refl, sym, ap, ap₂, subst, add-one, drop-cons, ◌∙◌, arith}
+use Rattle.std.proofs.Common.{◌≡◌, ℕ, suc, [], ◌∷◌, ◌++◌, map, take, drop, get_or, unwrap_or, ◌+◌, ◌<◌, ◌≤◌, ◌^◌, true, false, ◌&&◌, if◌then◌else◌, List, Option, Some, None, length, length-append, leb, refl, sym, ap, ap₂, subst, add-one, drop-cons, ◌∙◌, arith}
 use Rattle.std.proofs.lemmas.Bool.{and_parts, leb-true}
 use Rattle.std.proofs.lemmas.List.{map-append, take_more}
 use Rattle.std.proofs.lemmas.Option.{none-some, same_Some}
@@ -17,12 +17,8 @@ use Rattle.fax_job.specs.Spelling.{printed}
 use Rattle.sqlite.specs.declared.types.Value.TheVariants.{Null, Text}
 
 -- a row that is this one has the value of this one in its place
-pub has_value : (row shown : Row) (at : ℕ) (v : Value) → row ≡ shown → at < length shown → column shown at ≡ v → HasValue row at v
-has_value row shown at v is within there = record { within = subst (λ r. at < length r) (sym is) within; is = ap (λ r. column r at) is ∙ there }
-
--- the same of a number
-pub has_number : (row shown : Row) (at n : ℕ) → row ≡ shown → at < length shown → column shown at ≡ number n → HasNumber row at n
-has_number row shown at n is within there = has_value row shown at (number n) is within there
+pub has_value : {row shown : Row} {at : ℕ} {v : Value} → row ≡ shown → at < length shown → column shown at ≡ v → HasValue row at v
+has_value {at} is within there = record { within = subst (λ r. at < length r) (sym is) within; is = ap (λ r. column r at) is ∙ there }
 
 -- values that stand one behind the other are what is left of the row there, as far as they go
 pub first_from : (row values : Row) (at : ℕ) → HasValues row at values → take (length values) (drop at row) ≡ values
@@ -47,7 +43,7 @@ one_more_row n shown rows i row xs x low is before here =
 
 -- the same of a row that begins with all columns of a job but its extra lines
 pub brief_value : (row : Row) (job : JobFields) (behind : Row) (at : ℕ) (v : Value) → row ≡ brief_shown job ++ behind → at < 19 → column (brief_shown job ++ behind) at ≡ v → HasValue row at v
-brief_value row job behind at v is low there = has_value row (brief_shown job ++ behind) at v is (omega (arith, low, length-append (brief_shown job) behind)) there
+brief_value row job behind at v is low there = has_value is (omega (arith, low, length-append (brief_shown job) behind)) there
 
 -- the same of a number
 pub brief_number : (row : Row) (job : JobFields) (behind : Row) (at n : ℕ) → row ≡ brief_shown job ++ behind → at < 19 → column (brief_shown job ++ behind) at ≡ number n → HasNumber row at n
@@ -59,11 +55,8 @@ brief_lawful job h = ap (λ b. b && true) (and_parts _ _ h).0
 
 -- what is made of fields has them
 pub made : (f : JobFields) (r : Option JobFields) (j : JobFields) → r ≡ (if is_lawful f then Some f else None) → r ≡ Some j → j ≡ f
-made f r j new is = by (is_lawful f) (sym is ∙ new)
-  where
-    by : (b : Bool) → Some j ≡ (if b then Some f else None) → j ≡ f
-    by true h = same_Some j f h
-    by false h = absurd cc
+made f r j new is =
+    (elim (is_lawful f) as (λ b. Some j ≡ (if b then Some f else None) → j ≡ f) [ true ↦ same_Some j f | false ↦ λ no. absurd cc ]) (sym is ∙ new)
 
 -- fields of a lawful job are a job
 pub not_none : (f g : JobFields) (r : Option JobFields) → r ≡ (if is_lawful f then Some f else None) → f ≡ g → IsLawful g → r ≡ None → ⊥
