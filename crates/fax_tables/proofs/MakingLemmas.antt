@@ -1,7 +1,6 @@
 -- Texts that make tables behind those of the first version, one after the other.
-use Rattle.std.proofs.Common.{◌≡◌, ◌⊎◌, ◌≤◌, ◌<◌, ◌-◌, inl, inr, ℕ, List, [], ◌∷◌, ◌++◌, ◌==◌, true, false, map, length, take, drop, get_or, IsTrue, Ok, Result, refl, sym, ap, subst, ◌∙◌, arith, if◌then◌else◌}
-use Rattle.std.specs.List.{list_all, list_any}
-use Rattle.std.proofs.lemmas.Bool.{and_parts}
+use Rattle.std.proofs.Common.{◌≡◌, ◌⊎◌, ◌≤◌, ◌<◌, ◌-◌, inl, inr, ℕ, List, [], ◌∷◌, ◌++◌, ◌==◌, false, map, length, take, drop, get_or, IsTrue, Ok, Result, refl, sym, ap, subst, ◌∙◌, arith, if◌then◌else◌}
+use Rattle.std.specs.List.{list_any}
 use Rattle.std.proofs.lemmas.List.{take_all}
 use Rattle.sqlite.specs.Command.TheVariants.{CreateTable}
 use Rattle.sqlite.specs.Effect.{IsDatabase}
@@ -28,12 +27,6 @@ use Rattle.fax_tables.proofs.StopLemmas.{command_holds_back}
 abbrev only_in : List Table → Trees → Trees
 only_in tables trees tree = if list_any (λ t. t.tree == tree) tables then trees tree else []
 
-only_there : (all some : List Table) (trees : Trees) → list_all (λ t. list_any (λ u. u.tree == t.tree) all) some ≡ true → KeepsRows some (only_in all trees) trees
-only_there all [] trees there = tt
-only_there all (t ∷ ts) trees there =
-    let parts = and_parts (list_any (λ u. u.tree == t.tree) all) _ there in
-    (sym (ap (λ b. if b then trees t.tree else []) parts.0), only_there all ts trees parts.1)
-
 -- inside a transaction, these texts make what the second version lacks
 abbrev Expects : List (List ℕ) → State → Type 0
 Expects texts s = IsTrue s.in_transaction × MakeAll first_list s.now.schema texts bare_tables
@@ -41,11 +34,10 @@ Expects texts s = IsTrue s.in_transaction × MakeAll first_list s.now.schema tex
 -- one has, and these are left
 record JustMade (left : List (List ℕ)) (old new : State) : Type 0 where
   table : Table
-  tree_is : table.tree ≡ next_tree old.now.schema
   tables : new.now.schema.tables ≡ old.now.schema.tables ++ table ∷ []
   rows : KeepsRows old.now.schema.tables old.now.trees new.now.trees
-  fresh : new.now.trees (next_tree old.now.schema) ≡ []
-  new_tree : list_any (λ t. t.tree == next_tree old.now.schema) first_list ≡ false
+  fresh : new.now.trees table.tree ≡ []
+  new_tree : list_any (λ t. t.tree == table.tree) first_list ≡ false
   makes : MakeAll first_list new.now.schema left bare_tables
   sound : IsDatabase new.now
 
@@ -60,12 +52,11 @@ one_more : (left : List (List ℕ)) (old mid new : State) → old.now.schema ≡
     → HasMade left old new
 one_more left old mid new was rows it =
     let only = only_in first_list old.now.trees in
-    let fresh : new.now.trees (it.table).tree ≡ only (it.table).tree =
-    subst (λ tree. new.now.trees tree ≡ only tree) (sym it.tree_is) (it.fresh ∙ sym (ap (λ b. if b then old.now.trees (next_tree mid.now.schema) else []) it.new_tree)) in
+    let still = kept_rows mid.now.schema.tables only mid.now.trees new.now.trees rows it.rows in
+    let fresh = it.fresh ∙ sym (ap (λ b. if b then old.now.trees (it.table).tree else []) it.new_tree) in
     record {
       was = was;
-      rows = subst (λ ts. KeepsRows ts only new.now.trees) (sym it.tables)
-          (all_both (λ t. new.now.trees t.tree ≡ only t.tree) mid.now.schema.tables (it.table ∷ []) (kept_rows mid.now.schema.tables only mid.now.trees new.now.trees rows it.rows) (fresh, tt));
+      rows = subst (λ ts. KeepsRows ts only new.now.trees) (sym it.tables) (all_both (λ t. new.now.trees t.tree ≡ only t.tree) mid.now.schema.tables (it.table ∷ []) still (fresh, tt));
       makes = it.makes;
       sound = it.sound;
     }
@@ -84,7 +75,6 @@ module _ {S : Type 0} (g : Ghosts S) where
         it.0,
         record {
           table = record (makes.table) { tree = next_tree (state g a).now.schema };
-          tree_is = refl;
           tables = ap (λ (s : Schema). s.tables) (it.1 ∙ sym makes.is);
           rows = it.3;
           fresh = it.4;
@@ -107,7 +97,7 @@ module _ {S : Type 0} (g : Ghosts S) where
       subst (λ x. Alters g HasFirstTables HasFirstTables (HasMade rest) x c r) same
       (alters_as g b c (Expects (sql ∷ rest)) HasFirstTables Always (JustMade rest) (HasMade rest) r
       (λ was. (was.inside, subst (λ s. MakeAll first_list s (sql ∷ rest) bare_tables) (sym was.schema_is) (subst (λ texts. MakeAll first_list first_bare texts bare_tables) (sym all) second_made)))
-      (λ was on it. one_more rest (state g b) (state g b) (state g c) was.schema_is (subst (λ (s : Schema). KeepsRows s.tables (only_in first_list (state g b).now.trees) (state g b).now.trees) (sym was.schema_is) (only_there first_list first_list (state g b).now.trees refl)) it)
+      (λ was on it. one_more rest (state g b) (state g b) (state g c) was.schema_is (subst (λ (s : Schema). KeepsRows s.tables (only_in first_list (state g b).now.trees) (state g b).now.trees) (sym was.schema_is) (refl, (refl, (refl, (refl, (refl, (refl, tt))))))) it)
       (λ was. tt) (step b c sql rest r survives runs))
   along a b c sql rest r (inr before) survives runs =
       alters_then g a b c HasFirstTables (Expects (sql ∷ rest)) HasFirstTables Always (HasMade (sql ∷ rest)) (JustMade rest) (HasMade rest) tt r (λ it. (it.0.mode, it.1.makes)) (λ was. tt)

@@ -7,7 +7,7 @@ use Rattle.sqlite.specs.Clock.{timed}
 use Rattle.sqlite.specs.Order.{Row}
 use Rattle.sqlite.specs.Tree.{Trees, put_row, with_tree}
 use Rattle.sqlite.specs.Effect.{Database, edit_error, value_rows}
-use Rattle.sqlite.specs.State.{State, IsNotRun, IsNoStatement, IsMisplaced, RunsCommand, ExecutesIn, Executes, mode_of, shows_rows, store_error, text_of}
+use Rattle.sqlite.specs.State.{State, IsNotRun, IsNoStatement, RunsCommand, ExecutesIn, Executes, mode_of, shows_rows, store_error, text_of}
 use Rattle.sqlite.specs.Does.{Tally, Does, OnRows, AtPlace, Concludes}
 use Rattle.sqlite.specs.Rows.{Task, Inserts, Sourced, Written}
 use Rattle.sqlite.specs.Edit.{Edit, edit_of, is_taken, taken_by, with_rowid, IsRefused}
@@ -101,11 +101,6 @@ store_fault : (cause : StoreError) → fault_of (store_error cause) ≡ Unavaila
 store_fault Full = refl
 store_fault _ = refl
 
--- nor is a statement in the wrong place
-misplaced : (s : State) (command : Command) (e : Error) → IsMisplaced s command e → fault_of e ≡ Unavailable
-misplaced s command e (inl h) = ap fault_of h.0
-misplaced s command e (inr h) = ap fault_of h.0
-
 -- nor a text that is no statement
 no_statement : (s : State) (sql : List ℕ) (params : Row) (e : Error) → IsNoStatement s sql params e → fault_of e ≡ Unavailable
 no_statement s sql params e (inl h) = ap fault_of h.2
@@ -121,7 +116,7 @@ module _ (sql : List ℕ) (params : Row) (old new : State) (schema : Schema) (ha
 
   -- a command that was refused broke no rule, or was refused by what it does
   by_run : (c : Compiled) (full : Row) (e : Error) → RunsCommand old new sql c full (Err e) → (fault_of e ≡ Unavailable) ⊎ Does old.step_limit (mode_of old) full old.now (text_of sql c) c.returning c.command (Err (Some e))
-  by_run c full e (inl h) = elim h.0 [ inl off ↦ inl (misplaced old c.command e off) | inr does ↦ inr does.1 ]
+  by_run c full e (inl h) = elim h.0 [ inl off ↦ elim off [ inl h ↦ inl (ap fault_of h.0) | inr h ↦ inl (ap fault_of h.0) ] | inr does ↦ inr does.1 ]
   by_run c full e (inr h) = inl (ap fault_of h.1 ∙ store_fault h.0)
 
   -- so was the text
