@@ -27,13 +27,6 @@ first_from row (value ∷ values) at has =
     ap (take (suc (length values))) (drop-cons row at Null has.0.within)
     ∙ ap₂ ◌∷◌ has.0.is (first_from row values (suc at) (subst (λ i. HasValues row i values) (add-one at) has.1))
 
--- values that stand one behind the other, and one more
-pub one_more_value : (row values : Row) (at : ℕ) (value : Value) → HasValues row at values → HasValue row (at + length values) value → HasValues row at (values ++ value ∷ [])
-one_more_value row [] at value has last = let e : at + 0 ≡ at = omega arith in (subst (λ i. HasValue row i value) e last, tt)
-one_more_value row (first ∷ values) at value has last =
-    let e : at + suc (length values) ≡ (at + 1) + length values = omega arith in
-    (has.0, one_more_value row values (at + 1) value has.1 (subst (λ i. HasValue row i value) e last))
-
 -- rows that begin with what elements show, and one more
 pub one_more_row : {X : Type 0} (n : ℕ) (shown : X → Row) (rows : List Row) (i : ℕ) (row : Row) (xs : List X) (x : X) → i < length rows → row ≡ get_or rows i row
     → map (take n) (take i rows) ≡ map shown xs → take n row ≡ shown x → map (take n) (take (i + 1) rows) ≡ map shown (xs ++ x ∷ [])

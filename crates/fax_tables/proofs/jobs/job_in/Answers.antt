@@ -1,12 +1,12 @@
-use Rattle.std.proofs.Common.{◌≡◌, ◌∷◌, [], List, ap, arith, refl, subst, sym, ◌∙◌}
+use Rattle.std.proofs.Common.{◌≡◌, ◌∷◌, [], List, ap, arith, refl, rules, subst, sym, ◌∙◌}
 use Rattle.sqlite.specs.declared.types.Value.TheVariants.{Text}
 use Rattle.fax_job.specs.Pair.{Pair}
 use Rattle.fax_job.specs.Spelling.{printed}
 use Rattle.fax_job.specs.declared.job.JobFields.{JobFields}
-use Rattle.fax_tables.specs.Job.{brief_shown, job_shown}
+use Rattle.fax_tables.specs.Job.{job_shown}
 use Rattle.fax_tables.specs.Row.{HasValue, HasValues}
 use Rattle.fax_tables.proofs.ResultLemmas.{passes_on}
-use Rattle.fax_tables.proofs.RowLemmas.{has_value, made, not_none, one_more_value}
+use Rattle.fax_tables.proofs.RowLemmas.{has_value, made, not_none}
 use Rattle.fax_tables.proofs.TextLemmas.{lines_kept}
 use Rattle.fax_tables.proofs.jobs.job_in.Goals as goal
 
@@ -38,4 +38,4 @@ returns-in-Some-clause-stands c =
     let first = c.in_ok-fields.ensures.stands in
     let extra : HasValue row 19 (Text (printed fields.extra)) = subst (λ (lines : List Pair). HasValue row 19 (Text (printed lines))) (sym first.1) c.in_ok-extra.ensures.stands in
     subst (λ (job : JobFields). HasValues row 0 (job_shown job)) (sym (made fields c.new.result c.in-Some.job c.new.ensures c.in-Some.is))
-    (one_more_value row (brief_shown fields) 0 (Text (printed fields.extra)) first.0 extra)
+    (search rules)
