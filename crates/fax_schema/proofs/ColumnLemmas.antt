@@ -29,16 +29,13 @@ pub kept_columns : {X : Type 0} (columns : X → Row) (p : Row → Bool) (q : X 
 kept_columns columns p q agree [] [] is = refl
 kept_columns columns p q agree [] (x ∷ xs) is = absurd cc
 kept_columns columns p q agree (r ∷ rows) [] is = absurd cc
-kept_columns {X} columns p q agree (r ∷ rows) (x ∷ xs) is = elim (cases_Bool (q x)) [
-  | inl on ↦ rw (agree r x (first is) ∙ on, on) (ap₂ ◌∷◌ (first is) (kept_columns columns p q agree rows xs (rest is)))
-  | inr off ↦ rw (agree r x (first is) ∙ off, off) (kept_columns columns p q agree rows xs (rest is))
-]
-  where
-    first : {A : Type 0} {a b : A} {more others : List A} → a ∷ more ≡ b ∷ others → a ≡ b
-    first h = cc
-
-    rest : {A : Type 0} {a b : A} {more others : List A} → a ∷ more ≡ b ∷ others → more ≡ others
-    rest h = cc
+kept_columns columns p q agree (r ∷ rows) (x ∷ xs) is =
+    let first : drop 1 r ≡ columns x = cc in
+    let rest : map (drop 1) rows ≡ map columns xs = cc in
+    elim (cases_Bool (q x)) [
+      | inl on ↦ rw (agree r x first ∙ on, on) (ap₂ ◌∷◌ first (kept_columns columns p q agree rows xs rest))
+      | inr off ↦ rw (agree r x first ∙ off, off) (kept_columns columns p q agree rows xs rest)
+    ]
 
 -- those of which a test holds, in any order
 pub kept_permuted : {X : Type 0} (columns : X → Row) (p : Row → Bool) (q : Row → Bool) → ((r : Row) → p r ≡ q (drop 1 r)) → (rows : List Row) (xs : List X) → IsPermutation (map columns xs) (map (drop 1) rows)

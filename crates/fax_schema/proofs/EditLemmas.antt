@@ -1,5 +1,5 @@
 -- What an UPDATE and a DELETE of the rows that pass a test leave of a table.
-use Rattle.std.proofs.Common.{◌≡◌, ◌⊎◌, inl, inr, ℤ, List, [], ◌∷◌, map, filter, Bool, true, false, not, IsTrue, refl, sym, ap, ap₂, subst, ◌∙◌}
+use Rattle.std.proofs.Common.{◌≡◌, ◌⊎◌, inl, inr, ℤ, List, [], ◌∷◌, map, filter, Bool, true, false, not, IsTrue, refl, sym, ap, ap₂, subst, subst₂, ◌∙◌}
 use Rattle.std.specs.declared.cmp.Ordering.{Ordering}
 use Rattle.std.specs.declared.cmp.Ordering.TheVariants.{Less, Equal, Greater}
 use Rattle.std.specs.Ordering.{is_eq}
@@ -12,27 +12,21 @@ use Rattle.sqlite.specs.Order.{Row}
 use Rattle.sqlite.specs.Tree.{rowid, has_rowid, put_row, without_rowid, IsTable}
 use Rattle.sqlite.specs.View.{is_int}
 use Rattle.sqlite.specs.Edit.{id_in, put_all, without_all, are_fresh}
-use Rattle.sqlite.specs.declared.types.Value.{Value}
 use Rattle.sqlite.specs.declared.types.Value.TheVariants.{Int}
 use Rattle.sqlite_rules.specs.Calls.{ids_of}
 use Rattle.sqlite_rules.specs.Lists.{Has}
 use Rattle.sqlite_rules.proofs.ListLemmas.{all_has, has_filtered, has_kept, has_contained, contains_had}
 use Rattle.sqlite_rules.proofs.PlaceLemmas.{tied_same}
+pub use Rattle.sqlite_rules.proofs.ProbeLemmas.{has_mapped}
 use Rattle.sqlite_rules.proofs.ProbeLemmas.{mapped_has}
 use Rattle.sqlite_rules.proofs.TableLemmas.{int_is, put_all_has, put_all_keeps, put_all_adds}
-use Rattle.sqlite_trees.proofs.ListLemmas.{ascending-filter, all-filter}
+use Rattle.sqlite_trees.proofs.ListLemmas.{all-filter, all-map, all_from_map, all_weaker, ascending-filter, ascending-map, ascending_from_map, ascending_weaker}
 use Rattle.sqlite_trees.proofs.TreeLemmas.{IsTable-put_row}
 use Rattle.sqlite_value.specs.Order.{value_cmp}
 use Rattle.sqlite_value.proofs.OrderLemmas.{value_cmp_total}
 use Rattle.fax_schema.specs.ByRowid.{IsByRowid}
 
 -- ---- lists and what they have
-
--- what a mapped list has is made of what the list has
-pub has_mapped : {X Y : Type 0} (f : X → Y) (xs : List X) (y : Y) → Has (map f xs) y → (x : X) × Has xs x × (y ≡ f x)
-has_mapped f [] y has = absurd has
-has_mapped f (x ∷ xs) y (inl is) = (x, inl refl, is)
-has_mapped f (x ∷ xs) y (inr more) = let it = has_mapped f xs y more in (it.0, inr it.1, it.2)
 
 -- what a list has, it has in any order
 pub has_permuted : {X : Type 0} (xs ys : List X) (x : X) → IsPermutation xs ys → Has xs x → Has ys x
@@ -176,24 +170,23 @@ module _ (table : List Row) (by : IsByRowid table) (p : Row → Bool) (show : Ro
   module _ {X : Type 0} (row : X → Row) (f : X → X) (xs : List X) (is : table ≡ map row xs) (make : Row → Row) (same_number : (x : X) → rowid (row (f x)) ≡ rowid (row x))
       (on : (x : X) → Has xs x → p (row x) ≡ true → make (show (row x)) ≡ row (f x)) (off : (x : X) → Has xs x → p (row x) ≡ false → row x ≡ row (f x))
       (fresh : are_fresh left (map make rows) ≡ true) where
-    -- a value below the rowids of all is below those of what all became
-    below : (v : Value) (xs : List X) → AllByRecursion (λ b. value_cmp v (rowid b) ≡ Less) (map row xs) → AllByRecursion (λ b. value_cmp v (rowid b) ≡ Less) (map row (map f xs))
-    below v [] all = tt
-    below v (x ∷ xs) all = (subst (λ i. value_cmp v i ≡ Less) (sym (same_number x)) all.0, below v xs all.1)
-
     -- where the rows are in order, so are those that they became
-    rises : (xs : List X) → IsTable (map row xs) → IsTable (map row (map f xs))
-    rises [] up = tt
-    rises (x ∷ xs) up = (subst (λ i. AllByRecursion (λ b. value_cmp i (rowid b) ≡ Less) (map row (map f xs))) (sym (same_number x)) (below (rowid (row x)) xs up.0), rises xs up.1)
+    rises : IsTable (map row xs) → IsTable (map row (map f xs))
+    rises up =
+        let Below = λ (a b : Row). value_cmp (rowid a) (rowid b) ≡ Less in
+        let still = λ (x y : X) (less : Below (row x) (row y)). subst₂ (λ i j. value_cmp i j ≡ Less) (sym (same_number x)) (sym (same_number y)) less in
+        ascending-map Below row (map f xs) (ascending-map _ f xs (ascending_weaker _ (λ x y. Below (row (f x)) (row (f y))) still xs (ascending_from_map Below row xs up)))
 
     -- where their rowids are integers, so are the others'
-    integers : (xs : List X) → AllByRecursion (λ r. IsTrue (is_int (rowid r))) (map row xs) → AllByRecursion (λ r. IsTrue (is_int (rowid r))) (map row (map f xs))
-    integers [] all = tt
-    integers (x ∷ xs) all = (subst (λ i. IsTrue (is_int i)) (sym (same_number x)) all.0, integers xs all.1)
+    integers : AllByRecursion (λ r. IsTrue (is_int (rowid r))) (map row xs) → AllByRecursion (λ r. IsTrue (is_int (rowid r))) (map row (map f xs))
+    integers all =
+        let IsKeyed = λ (r : Row). IsTrue (is_int (rowid r)) in
+        let still = λ (x : X) (int : IsKeyed (row x)). subst (λ i. IsTrue (is_int i)) (sym (same_number x)) int in
+        all-map IsKeyed row (map f xs) (all-map (λ x. IsKeyed (row x)) f xs (all_weaker _ (λ x. IsKeyed (row (f x))) still xs (all_from_map IsKeyed row xs all)))
 
     -- so the rows that they became stand by rowid
     pub changed_by : IsByRowid (map row (map f xs))
-    changed_by = record { rise = rises xs (subst IsTable is by.rise); integers = integers xs (subst (AllByRecursion (λ r. IsTrue (is_int (rowid r)))) is by.integers) }
+    changed_by = record { rise = rises (subst IsTable is by.rise); integers = integers (subst (AllByRecursion (λ r. IsTrue (is_int (rowid r)))) is by.integers) }
 
     abbrev after : List Row
     after = map row (map f xs)

@@ -1,13 +1,15 @@
 -- What holds of each of some tables: of one by its tree, of some of them, and of all.
-use Rattle.std.proofs.Common.{◌≡◌, ◌≢◌, inl, inr, ℕ, zero, suc, Bool, List, [], ◌∷◌, ◌++◌, ◌==◌, slice_get, Option, Some, true, false, length, nat_lt, not, refl, sym, subst, ◌∙◌, arith}
+use Rattle.std.proofs.Common.{◌≡◌, ◌≢◌, inl, inr, ℕ, Bool, List, [], ◌∷◌, ◌++◌, ◌==◌, true, false, length, nat_lt, not, refl, sym, subst, ◌∙◌, arith}
 use Rattle.std.specs.List.{AllByRecursion, list_all, list_any}
 use Rattle.std.proofs.lemmas.Bool.{and_from, and_parts, cases_Bool, eqb-true, false≢true, not-true}
 use Rattle.std.proofs.lemmas.Bool.Decides.{nat_tests}
 use Rattle.sqlite_catalog.specs.Change.{KeepsRows}
-use Rattle.sqlite_rules.specs.Lists.{Has}
 use Rattle.sqlite_rules.proofs.ListLemmas.{all_has}
 use Rattle.sqlite_schema.specs.declared.schema.Schema.{Schema}
+pub use Rattle.sqlite_rules.proofs.ListLemmas.{has_got as listed_at}
 use Rattle.sqlite_schema.specs.declared.schema.Table.{Table}
+use Rattle.sqlite_trees.proofs.ListLemmas.{all_of, all_weaker}
+pub use Rattle.sqlite_trees.proofs.ListLemmas.{all-append as all_both}
 use Rattle.sqlite_trees.specs.Tree.{Trees}
 use Rattle.fax_schema.specs.Schema.{AreOurs, no_tables, our_layouts}
 
@@ -21,27 +23,12 @@ pub all_behind : {X : Type 0} (P : X → Type 0) (xs ys : List X) → AllByRecur
 all_behind P [] ys all = all
 all_behind P (x ∷ xs) ys all = all_behind P xs ys all.1
 
-pub all_both : {X : Type 0} (P : X → Type 0) (xs ys : List X) → AllByRecursion P xs → AllByRecursion P ys → AllByRecursion P (xs ++ ys)
-all_both P [] ys front behind = behind
-all_both P (x ∷ xs) ys front behind = (front.0, all_both P xs ys front.1 behind)
-
 -- what follows of each holds of all
 pub all_mapped : {X : Type 0} (P Q : X → Type 0) (xs : List X) → ((x : X) → P x → Q x) → AllByRecursion P xs → AllByRecursion Q xs
-all_mapped P Q [] each all = tt
-all_mapped P Q (x ∷ xs) each all = (each x all.0, all_mapped P Q xs each all.1)
+all_mapped P Q xs each = all_weaker P Q each xs
 
 pub all_given : {X : Type 0} (P : X → Type 0) (xs : List X) → ((x : X) → P x) → AllByRecursion P xs
-all_given P [] each = tt
-all_given P (x ∷ xs) each = (each x, all_given P xs each)
-
--- the element in a place is one of them
-pub listed_at : {X : Type 0} (xs : List X) (at : ℕ) (x : X) → slice_get xs at ≡ Some x → Has xs x
-listed_at [] at x there = absurd cc
-listed_at (y ∷ ys) zero x there = inl (first there)
-  where
-    first : {A : Type 0} {a b : A} → ◌≡◌ {A = Option A} (Some a) (Some b) → b ≡ a
-    first e = cc
-listed_at (y ∷ ys) (suc at) x there = inr (listed_at ys at x there)
+all_given P xs each = all_of P each xs
 
 -- ---- of trees
 

@@ -6,15 +6,14 @@ use Rattle.fax_schema.specs.Shape.{Passes, PassesIndex, Remains, indexes_from, t
 use Rattle.fax_schema.specs.declared.recognize.Left.{Left}
 use Rattle.fax_schema.specs.declared.shape.Part.{Part}
 
-same_head : {X : Type 0} {x y : X} → ◌≡◌ {A = Option X} (Some x) (Some y) → x ≡ y
-same_head e = cc
-
 -- lists of one length are the same where each of their elements is
 pub same_each : {A B : Type 0} (f : A → B) (xs : List B) (ns : List A) → length xs ≡ length ns → ((k : ℕ) → k < length xs → slice_get xs k ≡ slice_get (map f ns) k) → xs ≡ map f ns
 same_each f [] [] long each = refl
 same_each f [] (n ∷ ns) long each = absurd (omega arith)
 same_each f (x ∷ xs) [] long each = absurd (omega arith)
-same_each f (x ∷ xs) (n ∷ ns) long each = ap₂ (λ h t. h ∷ t) (same_head (each 0 (omega arith))) (same_each f xs ns (omega arith) (λ k low. each (suc k) (omega arith)))
+same_each f (x ∷ xs) (n ∷ ns) long each =
+    let first : x ≡ f n = (let e = each 0 (omega arith) in cc) in
+    ap₂ ◌∷◌ first (same_each f xs ns (omega arith) (λ k low. each (suc k) (omega arith)))
 
 -- and so are those whose elements are all this one
 pub all_alike : {A B : Type 0} (d : B) (xs : List B) (ns : List A) → length xs ≡ length ns → ((k : ℕ) → k < length xs → get_or xs k d ≡ d) → xs ≡ map (λ _. d) ns

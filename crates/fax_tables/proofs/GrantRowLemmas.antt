@@ -1,26 +1,7 @@
--- The numbers of a grant fit their columns, and a row has those of one grant.
-use Rattle.std.proofs.Common.{◌≡◌, ◌<◌, ◌^◌, ℕ, List, Bool, Option, refl, arith}
+-- A grant is told by its fields.
+use Rattle.std.proofs.Common.{◌≡◌, ℕ, List, Bool, Option, refl}
 use Rattle.fax_core.specs.declared.grants.Grant.{Grant}
 use Rattle.fax_job.specs.declared.job.Call.{Call}
-use Rattle.fax_tables.specs.Tables.{IsLawfulGrant}
-
--- the numbers of a lawful grant fit their columns
-pub record Fits (g : Grant) : Type 0 where
-  pub number : g.number < 2 ^ 32
-  pub job : g.job < 2 ^ 32
-  pub first_page : g.first_page < 2 ^ 16
-  pub last_page : g.last_page < 2 ^ 16
-  pub confirmed : g.confirmed < 2 ^ 16
-
--- a lawful grant's numbers fit their columns
-pub fits : (g : Grant) → IsLawfulGrant g → Fits g
-fits g lawful = record {
-  number = let a = lawful.limits.number.1 in omega arith;
-  job = let a = lawful.limits.job.1 in omega arith;
-  first_page = let a = lawful.limits.pages.1 in omega arith;
-  last_page = let a = lawful.limits.pages.2 in omega arith;
-  confirmed = let a = lawful.limits.pages.3 in omega arith;
-}
 
 -- a grant with the fields of another is the other
 pub same_grant : (g : Grant) (number job : ℕ) (modem : List ℕ) (first_page last_page : ℕ) (call : Option Call) (confirmed : ℕ) (is_open : Bool)

@@ -1,15 +1,14 @@
 -- Records in rows by number: the one of a number, and what a query by key finds.
-use Rattle.std.proofs.Common.{◌≡◌, inl, inr, ℕ, suc, pos, List, [], ◌∷◌, ◌++◌, map, filter, All, Bool, true, false, not, ◌&&◌, ◌||◌, Option, Some, None, MatchOption, if◌then◌else◌, refl, sym, ap, ap₂, subst, ◌∙◌, arith}
+use Rattle.std.proofs.Common.{◌≡◌, inl, inr, ℕ, suc, pos, List, [], ◌∷◌, map, filter, All, Bool, true, false, not, ◌&&◌, Option, Some, None, MatchOption, refl, sym, ap, ap₂, subst, ◌∙◌, arith}
 use Rattle.std.specs.Prelude.{find, ◌==◌, nat_lt}
 use Rattle.std.specs.Option.{option_map}
 use Rattle.std.specs.Ordering.{is_eq, int_cmp}
-use Rattle.std.specs.declared.cmp.Ordering.{Ordering}
-use Rattle.std.specs.declared.cmp.Ordering.TheVariants.{Less, Equal, Greater}
+use Rattle.std.specs.declared.cmp.Ordering.TheVariants.{Less, Greater}
 use Rattle.std.specs.List.Sorted.{IsPermutation}
-use Rattle.std.proofs.lemmas.Bool.{and_parts, cases_Bool, eqb-true, not-true}
+use Rattle.std.proofs.lemmas.Bool.{and_parts, cases_Bool, eqb-true, not-true, or_parts}
 use Rattle.std.proofs.lemmas.Bool.Decides.{nat_tests}
 use Rattle.std.proofs.lemmas.List.Elements.{All-cons, recursion_from_All}
-use Rattle.std.proofs.lemmas.List.Sorted.{IsPermutation-refl, IsPermutation-sym, IsPermutation-trans, IsPermutation-cons, IsPermutation-to_front}
+use Rattle.std.proofs.lemmas.List.Sorted.{IsPermutation-refl, IsPermutation-trans, IsPermutation-cons, IsPermutation-swap}
 use Rattle.sqlite.specs.Edit.{is_taken, are_fresh}
 use Rattle.sqlite.specs.Order.{Row}
 use Rattle.sqlite.specs.Tree.{rowid, put_row, IsTable}
@@ -45,14 +44,9 @@ module _ {X : Type 0} (row : X → Row) (num : X → ℕ) (ids : (x : X) → row
 
   -- a test of the key alone
   module _ (n : ℕ) (p : Row → Bool) (by_key : (r : Row) → p r ≡ (are_equal (rowid r) (number n) && true)) where
-    -- an and with true is true only where the other is
-    first : (b : Bool) → (b && true) ≡ true → b ≡ true
-    first true h = refl
-    first false h = h
-
     -- a row that passes is of the record with this number
     pub asked_is : (x : X) → p (row x) ≡ true → num x ≡ n
-    asked_is x h = same_number (num x) n (first _ (ap (λ v. are_equal v (number n) && true) (sym (ids x)) ∙ sym (by_key (row x)) ∙ h))
+    asked_is x h = same_number (num x) n (and_parts _ true (ap (λ v. are_equal v (number n) && true) (sym (ids x)) ∙ sym (by_key (row x)) ∙ h)).0
 
     -- the row of that record passes
     pub is_asked : (x : X) → num x ≡ n → p (row x) ≡ true
@@ -82,10 +76,7 @@ module _ {X : Type 0} (row : X → Row) (num : X → ℕ) (ids : (x : X) → row
 -- a row that was found is of a record that was
 pub is_there : {X : Type 0} (shown : X → Row) (o : Option X) (row : Row) → Some row ≡ option_map shown o → (x : X) × (o ≡ Some x) × (row ≡ shown x)
 is_there shown None row h = absurd cc
-is_there shown (Some x) row h = (x, refl, same h)
-  where
-    same : {A : Type 0} {a b : A} → ◌≡◌ {A = Option A} (Some a) (Some b) → a ≡ b
-    same h = cc
+is_there shown (Some x) row h = (x, refl, cc)
 
 -- where no row was found, no record was
 pub is_none : {X : Type 0} (shown : X → Row) (o : Option X) → None ≡ option_map shown o → o ≡ None
@@ -107,26 +98,15 @@ module _ {X : Type 0} (row : X → Row) (num : X → ℕ) (ids : (x : X) → row
   -- the row is put where the record is placed
   pub row_placed : (x : X) (xs : List X) → is_taken (map row xs) (row x) ≡ false → put_row (row x) (map row xs) ≡ map row (placed num x xs)
   row_placed x [] free = refl
-  row_placed x (y ∷ ys) free = by (int_cmp (pos (num y)) (pos (num x))) refl (row_placed x ys parts.1)
-    where
-      both : (a b : Bool) → (a || b) ≡ false → (a ≡ false) × (b ≡ false)
-      both false b h = (refl, h)
-      both true b h = absurd (let no = h in cc)
-
-      parts : (is_eq (value_cmp (rowid (row y)) (rowid (row x))) ≡ false) × (is_taken (map row ys) (row x) ≡ false)
-      parts = both _ _ free
-
-      compare : value_cmp (rowid (row y)) (rowid (row x)) ≡ int_cmp (pos (num y)) (pos (num x))
-      compare = ap₂ value_cmp (ids y) (ids x) ∙ value_cmp-Int (pos (num y)) (pos (num x))
-
-      by : (o : Ordering) → int_cmp (pos (num y)) (pos (num x)) ≡ o → put_row (row x) (map row ys) ≡ map row (placed num x ys) → put_row (row x) (map row (y ∷ ys)) ≡ map row (if nat_lt (num y) (num x) then y ∷ placed num x ys else x ∷ y ∷ ys)
-      by Less e rest =
-          let below : nat_lt (num y) (num x) ≡ true = grind (arith, nat_tests) in
-          rw (compare, e, below) (ap (λ rows. row y ∷ rows) rest)
-      by Equal e rest = absurd (let no = rw (compare, e) at parts.0 in cc)
-      by Greater e rest =
-          let above : nat_lt (num y) (num x) ≡ false = grind (arith, nat_tests) in
-          rw (compare, e, above) refl
+  row_placed x (y ∷ ys) free =
+      let apart = or_parts _ _ free in
+      let rest = row_placed x ys apart.1 in
+      let compare = ap₂ value_cmp (ids y) (ids x) ∙ value_cmp-Int (pos (num y)) (pos (num x)) in
+      let other : is_eq (int_cmp (pos (num y)) (pos (num x))) ≡ false = sym (ap is_eq compare) ∙ apart.0 in
+      elim (cases_Bool (nat_lt (num y) (num x))) [
+        | inl below ↦ (let e : int_cmp (pos (num y)) (pos (num x)) ≡ Less = grind (arith, nat_tests) in rw (compare, e, below) (ap (λ rows. row y ∷ rows) rest))
+        | inr above ↦ (let e : int_cmp (pos (num y)) (pos (num x)) ≡ Greater = grind (arith, nat_tests) in rw (compare, e, above) refl)
+      ]
 
   -- what holds of the record and of the others holds of all once it is placed
   pub all_placed : (P : X → Type 0) (x : X) (xs : List X) → P x → All P xs → All P (placed num x xs)
@@ -140,10 +120,6 @@ module _ {X : Type 0} (row : X → Row) (num : X → ℕ) (ids : (x : X) → row
   pub placed_permuted : (x : X) (xs : List X) → IsPermutation (x ∷ xs) (placed num x xs)
   placed_permuted x [] = IsPermutation-refl (x ∷ [])
   placed_permuted x (y ∷ ys) = elim (cases_Bool (nat_lt (num y) (num x))) [
-    | inl below ↦ rw below (IsPermutation-trans (x ∷ y ∷ ys) (y ∷ x ∷ ys) (y ∷ placed num x ys) (exchanged x y ys) (IsPermutation-cons y (x ∷ ys) (placed num x ys) (placed_permuted x ys)))
+    | inl below ↦ rw below (IsPermutation-trans (x ∷ y ∷ ys) (y ∷ x ∷ ys) (y ∷ placed num x ys) (IsPermutation-swap (x ∷ y ∷ ys) (y ∷ x ∷ ys) 0 1 (omega arith) (omega arith) refl) (IsPermutation-cons y (x ∷ ys) (placed num x ys) (placed_permuted x ys)))
     | inr above ↦ rw above (IsPermutation-refl (x ∷ y ∷ ys))
   ]
-    where
-      exchanged : (x y : X) (ys : List X) → IsPermutation (x ∷ y ∷ ys) (y ∷ x ∷ ys)
-      exchanged x y ys = IsPermutation-sym (y ∷ x ∷ ys) (x ∷ y ∷ ys)
-          (IsPermutation-trans (y ∷ x ∷ ys) (y ∷ (ys ++ x ∷ [])) (x ∷ y ∷ ys) (IsPermutation-cons y (x ∷ ys) (ys ++ x ∷ []) (IsPermutation-sym (ys ++ x ∷ []) (x ∷ ys) (IsPermutation-to_front ys x))) (IsPermutation-to_front (y ∷ ys) x))

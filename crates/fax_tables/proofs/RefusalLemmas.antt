@@ -1,13 +1,13 @@
 -- Why an INSERT is refused: a row that may stand in its table breaks none of the rules.
 use Rattle.std.proofs.Common.{◌≡◌, ◌⊎◌, inl, inr, ℕ, zero, suc, ◌/◌, List, [], ◌∷◌, ◌++◌, length, slice_get, true, false, not, ◌&&◌, Option, Some, None, option_map, Ok, Err, Result, refl, sym, ap, subst, subst₂, ◌∙◌, arith, append-nil, length-append}
-use Rattle.std.specs.Prelude.{◌==◌, ◌||◌}
+use Rattle.std.specs.Prelude.{◌||◌}
 use Rattle.std.specs.List.{AllByRecursion, list_all}
-use Rattle.std.proofs.lemmas.Bool.{and_parts, cases_Bool, eqb-true}
+use Rattle.std.proofs.lemmas.Bool.{cases_Bool}
 use Rattle.sqlite.specs.Clock.{timed}
 use Rattle.sqlite.specs.Order.{Row}
 use Rattle.sqlite.specs.Tree.{Trees, put_row, with_tree}
 use Rattle.sqlite.specs.Effect.{Database, edit_error, value_rows}
-use Rattle.sqlite.specs.State.{State, IsNotRun, IsNoStatement, IsMisplaced, RunsCommand, ExecutesIn, Executes, mode_of, shows_rows, store_error, text_of}
+use Rattle.sqlite.specs.State.{State, IsNotRun, IsNoStatement, RunsCommand, ExecutesIn, Executes, mode_of, shows_rows, store_error, text_of}
 use Rattle.sqlite.specs.Does.{Tally, Does, OnRows, AtPlace, Concludes}
 use Rattle.sqlite.specs.Rows.{Task, Inserts, Sourced, Written}
 use Rattle.sqlite.specs.Edit.{Edit, edit_of, is_taken, taken_by, with_rowid, IsRefused}
@@ -22,7 +22,7 @@ use Rattle.sqlite.proofs.Callers.{IsPlain, command_of, statement_of}
 use Rattle.sqlite_resolve.specs.declared.compiled.Compiled.{Compiled}
 use Rattle.sqlite_rules.specs.Action.{works, Leads, Writes}
 use Rattle.sqlite_rules.specs.declared.error.Refusal.{Refusal}
-use Rattle.sqlite_rules.specs.declared.error.Refusal.TheVariants.{Violates, Mismatch, NoRowid, BadReference, TooDeep}
+use Rattle.sqlite_rules.specs.declared.error.Refusal.TheVariants.{Violates}
 use Rattle.sqlite_schema.specs.Rules.{passes, Keeps, Refers, has_parent, is_among}
 use Rattle.sqlite_schema.specs.declared.schema.Among.{Among}
 use Rattle.sqlite_schema.specs.declared.schema.Among.TheVariants.{All}
@@ -34,30 +34,24 @@ use Rattle.sqlite_schema.specs.declared.schema.Table.{Table}
 use Rattle.sqlite_schema.specs.declared.schema.Column.{Column}
 use Rattle.sqlite_sql.specs.Term.{Term}
 use Rattle.sqlite_trees.specs.declared.error.StoreError.{StoreError}
-use Rattle.sqlite_trees.specs.declared.error.StoreError.TheVariants.{OutOfMemory, Io, Corrupt, Full, Broken, Unstorable}
+use Rattle.sqlite_trees.specs.declared.error.StoreError.TheVariants.{Full}
 use Rattle.sqlite_trees.proofs.ListLemmas.{all_of}
 use Rattle.sqlite_value.specs.declared.keys.Order.{Order}
 use Rattle.fax_tables.specs.Fault.{fault_of}
 use Rattle.fax_schema.specs.Schema.{table_of, our_tables}
 use Rattle.fax_tables.specs.declared.fault.StoreFault.TheVariants.{Unavailable}
+use Rattle.fax_schema.proofs.RowsLemmas.{all_mapped}
 use Rattle.fax_schema.proofs.StatementForms.{Commands}
 use Rattle.fax_schema.proofs.WriteLemmas.{unreferred}
 
 -- no row refers to another
 pub unasked : (among : Among) (trees : Trees) → Refers among our_tables trees
-unasked among trees = by our_tables.tables refl
+unasked among trees =
+    all_mapped (λ t. t.references ≡ []) (λ t. Asks t t.references) our_tables.tables (λ t bare. subst (Asks t) (sym bare) (all_of _ (λ r. refl) (trees t.tree)))
+    (refl, (refl, (refl, (refl, (refl, (refl, (refl, (refl, tt))))))))
   where
-    none : {X : Type 0} (xs : List X) → (length xs == 0) ≡ true → xs ≡ []
-    none [] is = refl
-    none (x ∷ xs) is = absurd (let e = eqb-true (length (x ∷ xs)) 0 is in omega (arith, e))
-
-    by : (tables : List Table) → list_all (λ t. length t.references == 0) tables ≡ true
-        → AllByRecursion (λ t. AllByRecursion (λ row. list_all (λ ref. not (is_among among ref) || has_parent our_tables.tables trees row ref) t.references ≡ true) (trees t.tree)) tables
-    by [] bare = tt
-    by (t ∷ ts) bare =
-        let parts = and_parts (length t.references == 0) (list_all (λ u. length u.references == 0) ts) bare in
-        let asks = λ (refs : List Reference). AllByRecursion (λ row. list_all (λ ref. not (is_among among ref) || has_parent our_tables.tables trees row ref) refs ≡ true) (trees t.tree) in
-        (subst asks (sym (none t.references parts.0)) (all_of _ (λ r. refl) (trees t.tree)), by ts parts.1)
+    Asks : Table → List Reference → Type 0
+    Asks t refs = AllByRecursion (λ row. list_all (λ ref. not (is_among among ref) || has_parent our_tables.tables trees row ref) refs ≡ true) (trees t.tree)
 
 -- the row may stand in the table: each column has a value of its type, and no key of it is taken
 pub record MayStand (schema : Schema) (db : Trees) (table : Table) (row : Row) : Type 0 where
@@ -73,9 +67,6 @@ same_stop e = cc
 never : {B E : Type 0} {a : E} {b : B} → ◌≡◌ {A = Result B E} (Err a) (Ok b) → ⊥
 never e = cc
 
-same_some : {A : Type 0} {a b : A} → ◌≡◌ {A = Option A} (Some a) (Some b) → a ≡ b
-same_some e = cc
-
 -- a fault that stops a part, unless the row can't be stored, is no broken rule
 abbrev IsExcused : Option Error → Type 0
 IsExcused None = Unit {0}
@@ -90,10 +81,7 @@ unbroken schema db table row may (Violates Check) h = absurd (let e = sym (ap (�
 unbroken schema db table row may (Violates PrimaryKey) h = absurd (let e = sym (ap (λ b. not b && true) may.fresh) ∙ h in cc)
 unbroken schema db table row may (Violates Unique) h = absurd (h may.unique)
 unbroken schema db table row may (Violates ForeignKey) h = absurd h
-unbroken schema db table row may Mismatch h = refl
-unbroken schema db table row may NoRowid h = refl
-unbroken schema db table row may BadReference h = refl
-unbroken schema db table row may TooDeep h = refl
+unbroken schema db table row may _ h = refl
 
 -- where no foreign key acts, a write that stops is refused at its one step
 stopped : (schema : Schema) (db : Trees) (edit : Edit) → works schema Enforced 0 edit.table.tree (taken_by db edit) edit.news ≡ [] → (why : Option Refusal) → Writes schema Enforced db edit (Err why)
@@ -110,17 +98,8 @@ stopped schema db edit none why (inr (inr went)) = absurd (settled went.2.0 (rw 
 
 -- a fault of the disk, of memory or of the file is no broken rule
 store_fault : (cause : StoreError) → fault_of (store_error cause) ≡ Unavailable
-store_fault OutOfMemory = refl
-store_fault Io = refl
-store_fault Corrupt = refl
 store_fault Full = refl
-store_fault Broken = refl
-store_fault Unstorable = refl
-
--- nor is a statement in the wrong place
-misplaced : (s : State) (command : Command) (e : Error) → IsMisplaced s command e → fault_of e ≡ Unavailable
-misplaced s command e (inl h) = ap fault_of h.0
-misplaced s command e (inr h) = ap fault_of h.0
+store_fault _ = refl
 
 -- nor a text that is no statement
 no_statement : (s : State) (sql : List ℕ) (params : Row) (e : Error) → IsNoStatement s sql params e → fault_of e ≡ Unavailable
@@ -137,7 +116,7 @@ module _ (sql : List ℕ) (params : Row) (old new : State) (schema : Schema) (ha
 
   -- a command that was refused broke no rule, or was refused by what it does
   by_run : (c : Compiled) (full : Row) (e : Error) → RunsCommand old new sql c full (Err e) → (fault_of e ≡ Unavailable) ⊎ Does old.step_limit (mode_of old) full old.now (text_of sql c) c.returning c.command (Err (Some e))
-  by_run c full e (inl h) = elim h.0 [ inl off ↦ inl (misplaced old c.command e off) | inr does ↦ inr does.1 ]
+  by_run c full e (inl h) = elim h.0 [ inl off ↦ elim off [ inl h ↦ inl (ap fault_of h.0) | inr h ↦ inl (ap fault_of h.0) ] | inr does ↦ inr does.1 ]
   by_run c full e (inr h) = inl (ap fault_of h.1 ∙ store_fault h.0)
 
   -- so was the text

@@ -1,6 +1,7 @@
 -- What is said of a result that is known to be an error.
-use Rattle.std.proofs.Common.{◌≡◌, inl, inr, ℕ, List, [], ◌∷◌, ◌++◌, length, Option, Some, None, MatchOption, option_to_list, Ok, Err, Result, IfErr, IfOk, IsErr, IsErrAnd, OnOk, OnErr, refl, ◌∙◌, arith}
+use Rattle.std.proofs.Common.{◌≡◌, ℕ, List, [], ◌∷◌, ◌++◌, length, Option, Some, None, MatchOption, option_to_list, Ok, Err, Result, IfErr, IfOk, IsErr, IsErrAnd, OnOk, OnErr, refl, ◌∙◌, arith}
 use Rattle.sqlite_rules.specs.Lists.{Has}
+use Rattle.sqlite_rules.proofs.ListLemmas.{has_last}
 use Rattle.fax_tables.specs.declared.fault.StoreFault.{StoreFault}
 use Rattle.fax_tables.specs.declared.fault.StoreFault.TheVariants.{Unavailable}
 use Rattle.fax_tables.specs.Fault.{OrUnavailable}
@@ -17,17 +18,12 @@ pub rests_at_err : {T E R : Type 0} (r : Result T E) (name : T → GName) (now :
 rests_at_err (Ok x) name now is p = absurd (let e = is in cc)
 rests_at_err (Err e) name now is p = (refl, λ w. tt, p)
 
--- a list with one more at its end has it
-has_last : {X : Type 0} (xs : List X) (x : X) → Has (xs ++ x ∷ []) x
-has_last [] x = inl refl
-has_last (y ∷ ys) x = inr (has_last ys x)
-
 -- what a pop gave is an element, or there was none
 pub popped : {X : Type 0} (rows rest : List X) (found : Option X) (len : ℕ) (M : Type 0) (N : X → Type 0) → rows ≡ rest ++ option_to_list found → len ≡ length rows → MatchOption found ((len ≡ 0) × M) N
     → MatchOption found (rows ≡ []) (Has rows)
 popped [] rest None len M N e is cases = refl
 popped (r ∷ rows) rest None len M N e is cases = absurd (omega (arith, is, cases.0))
-popped rows rest (Some x) len M N e is cases = rw e (has_last rest x)
+popped rows rest (Some x) len M N e is cases = has_last rows rest x e
 
 -- an error that is passed on
 pub passes_on : {A : Type 0} (r : Result A StoreFault) (fault : StoreFault) (Q : A → Type 0) → IsErrAnd r (λ e. e ≡ fault) → fault ≡ Unavailable → OrUnavailable r Q

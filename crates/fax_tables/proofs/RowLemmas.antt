@@ -1,6 +1,7 @@
 -- What a row of a job's columns has in each place.
-use Rattle.std.proofs.Common.{◌≡◌, ℕ, suc, [], ◌∷◌, ◌++◌, map, take, drop, get_or, unwrap_or, ◌+◌, ◌<◌, ◌≤◌, ◌^◌, Bool, true, false, ◌&&◌, if◌then◌else◌, List, Option, Some, None, length, length-append, leb, refl, sym, ap, ap₂, subst, add-one, drop-cons, ◌∙◌, arith}
-use Rattle.std.proofs.lemmas.Bool.{and_parts, leb-true}
+use Rattle.std.proofs.Common.{◌≡◌, ℕ, nat_lt, suc, [], ◌∷◌, ◌++◌, map, take, drop, get_or, unwrap_or, ◌+◌, ◌<◌, ◌≤◌, ◌^◌, true, false, ◌&&◌, if◌then◌else◌, List, Option, Some, None, length, length-append, refl, sym, ap, ap₂, subst, add-one, drop-cons, ◌∙◌, arith}
+use Rattle.std.proofs.lemmas.Bool.{and_parts, ltb-true}
+use Rattle.std.proofs.lemmas.Bool.Decides.{nat_tests}
 use Rattle.std.proofs.lemmas.List.{map-append, take_more}
 use Rattle.std.proofs.lemmas.Option.{none-some, same_Some}
 use Rattle.sqlite.specs.Order.{Row, column}
@@ -10,19 +11,14 @@ use Rattle.fax_job.specs.Job.{is_lawful, is_lawful_killtime, IsLawful}
 use Rattle.fax_job.specs.Pair.{Pair}
 use Rattle.fax_job.specs.declared.job.Phase.{Phase}
 use Rattle.fax_job.specs.declared.job.Wish.{Wish}
-use Rattle.fax_tables.specs.Job.{brief, brief_shown, job_shown, prospect}
-use Rattle.fax_tables.specs.declared.prospect.Prospect.{Prospect}
-use Rattle.fax_tables.specs.Row.{HasValue, HasValues, HasNumber, number, phase_number, wish_number}
+use Rattle.fax_tables.specs.Job.{brief, brief_shown, job_shown}
+use Rattle.fax_tables.specs.Row.{HasValue, HasValues, number, phase_number, wish_number}
 use Rattle.fax_job.specs.Spelling.{printed}
 use Rattle.sqlite.specs.declared.types.Value.TheVariants.{Null, Text}
 
 -- a row that is this one has the value of this one in its place
-pub has_value : (row shown : Row) (at : ℕ) (v : Value) → row ≡ shown → at < length shown → column shown at ≡ v → HasValue row at v
-has_value row shown at v is within there = record { within = subst (λ r. at < length r) (sym is) within; is = ap (λ r. column r at) is ∙ there }
-
--- the same of a number
-pub has_number : (row shown : Row) (at n : ℕ) → row ≡ shown → at < length shown → column shown at ≡ number n → HasNumber row at n
-has_number row shown at n is within there = has_value row shown at (number n) is within there
+pub has_value : {row shown : Row} {at : ℕ} {v : Value} → row ≡ shown → at < length shown → column shown at ≡ v → HasValue row at v
+has_value {at} is within there = record { within = subst (λ r. at < length r) (sym is) within; is = ap (λ r. column r at) is ∙ there }
 
 -- values that stand one behind the other are what is left of the row there, as far as they go
 pub first_from : (row values : Row) (at : ℕ) → HasValues row at values → take (length values) (drop at row) ≡ values
@@ -30,13 +26,6 @@ first_from row [] at has = refl
 first_from row (value ∷ values) at has =
     ap (take (suc (length values))) (drop-cons row at Null has.0.within)
     ∙ ap₂ ◌∷◌ has.0.is (first_from row values (suc at) (subst (λ i. HasValues row i values) (add-one at) has.1))
-
--- values that stand one behind the other, and one more
-pub one_more_value : (row values : Row) (at : ℕ) (value : Value) → HasValues row at values → HasValue row (at + length values) value → HasValues row at (values ++ value ∷ [])
-one_more_value row [] at value has last = let e : at + 0 ≡ at = omega arith in (subst (λ i. HasValue row i value) e last, tt)
-one_more_value row (first ∷ values) at value has last =
-    let e : at + suc (length values) ≡ (at + 1) + length values = omega arith in
-    (has.0, one_more_value row values (at + 1) value has.1 (subst (λ i. HasValue row i value) e last))
 
 -- rows that begin with what elements show, and one more
 pub one_more_row : {X : Type 0} (n : ℕ) (shown : X → Row) (rows : List Row) (i : ℕ) (row : Row) (xs : List X) (x : X) → i < length rows → row ≡ get_or rows i row
@@ -46,12 +35,8 @@ one_more_row n shown rows i row xs x low is before here =
     ∙ ap₂ (λ front (r : Row). front ++ r ∷ []) before here ∙ sym (map-append shown xs (x ∷ []))
 
 -- the same of a row that begins with all columns of a job but its extra lines
-pub brief_value : (row : Row) (job : JobFields) (behind : Row) (at : ℕ) (v : Value) → row ≡ brief_shown job ++ behind → at < 19 → column (brief_shown job ++ behind) at ≡ v → HasValue row at v
-brief_value row job behind at v is low there = has_value row (brief_shown job ++ behind) at v is (omega (arith, low, length-append (brief_shown job) behind)) there
-
--- the same of a number
-pub brief_number : (row : Row) (job : JobFields) (behind : Row) (at n : ℕ) → row ≡ brief_shown job ++ behind → at < 19 → column (brief_shown job ++ behind) at ≡ number n → HasNumber row at n
-brief_number row job behind at n is low there = brief_value row job behind at (number n) is low there
+pub begins : {row : Row} {at : ℕ} {v : Value} (job : JobFields) (behind : Row) → row ≡ brief_shown job ++ behind → nat_lt at 19 ≡ true → column (brief_shown job ++ behind) at ≡ v → HasValue row at v
+begins {at} job behind is low there = has_value is (omega (arith, ltb-true at 19 low, length-append (brief_shown job) behind)) there
 
 -- a lawful job is lawful without its extra lines
 pub brief_lawful : (job : JobFields) → IsLawful job → IsLawful (brief job)
@@ -59,20 +44,12 @@ brief_lawful job h = ap (λ b. b && true) (and_parts _ _ h).0
 
 -- what is made of fields has them
 pub made : (f : JobFields) (r : Option JobFields) (j : JobFields) → r ≡ (if is_lawful f then Some f else None) → r ≡ Some j → j ≡ f
-made f r j new is = by (is_lawful f) (sym is ∙ new)
-  where
-    by : (b : Bool) → Some j ≡ (if b then Some f else None) → j ≡ f
-    by true h = same_Some j f h
-    by false h = absurd cc
+made f r j new is =
+    (elim (is_lawful f) as (λ b. Some j ≡ (if b then Some f else None) → j ≡ f) [ true ↦ same_Some j f | false ↦ λ no. absurd cc ]) (sym is ∙ new)
 
 -- fields of a lawful job are a job
 pub not_none : (f g : JobFields) (r : Option JobFields) → r ≡ (if is_lawful f then Some f else None) → f ≡ g → IsLawful g → r ≡ None → ⊥
 not_none f g r new same lawful is = let yes : is_lawful f ≡ true = ap is_lawful same ∙ lawful in none-some f (sym is ∙ new ∙ ap (λ b. if b then Some f else None) yes)
-
--- a prospect with the fields of a job's is the job's
-pub same_prospect : (job : JobFields) (number : ℕ) (dial modem : List ℕ) (priority tts : ℕ) → number ≡ job.job → dial ≡ job.dial → modem ≡ job.modem → priority ≡ job.priority → tts ≡ job.tts
-    → ◌≡◌ {A = Prospect} (record { job = number; dial = dial; modem = modem; priority = priority; tts = tts }) (prospect job)
-same_prospect job number dial modem priority tts e0 e1 e2 e3 e4 = rw (e0, e1, e2, e3, e4) refl
 
 -- the numbers of a lawful job fit their columns
 pub record Fits (job : JobFields) : Type 0 where
@@ -89,34 +66,18 @@ pub record Fits (job : JobFields) : Type 0 where
 
 -- a lawful job's numbers fit their columns
 pub fits : (job : JobFields) → IsLawful job → Fits job
-fits job h =
-    let unknown = and_parts _ _ h in
-    let next = and_parts _ _ unknown.0 in
-    let dials = and_parts _ _ next.0 in
-    let tries = and_parts _ _ dials.0 in
-    let pages = and_parts _ _ tries.0 in
-    let killtime = and_parts _ _ pages.0 in
-    let number = and_parts (leb 1 job.job) (leb job.job 999999) killtime.0 in
-    let p = and_parts _ _ pages.1 in
-    let p0 = and_parts _ _ p.0 in
-    let t = and_parts _ _ tries.1 in
-    let t0 = and_parts _ _ t.0 in
-    let t1 = and_parts _ _ t0.0 in
-    let d = and_parts _ _ dials.1 in
-    let d0 = and_parts _ _ d.0 in
-    let d1 = and_parts _ _ d0.0 in
-    record {
-      number = let a = leb-true _ _ number.1 in omega arith;
-      npages = let a = leb-true job.npages job.totpages p0.0 in let b = leb-true job.totpages 9999 p.1 in omega arith;
-      totpages = let b = leb-true job.totpages 9999 p.1 in omega arith;
-      ntries = let a = leb-true job.ntries job.tottries t1.0 in let b = leb-true job.tottries job.maxtries t1.1 in let e = leb-true job.maxtries 1000 t.1 in omega arith;
-      tottries = let b = leb-true job.tottries job.maxtries t1.1 in let e = leb-true job.maxtries 1000 t.1 in omega arith;
-      maxtries = let e = leb-true job.maxtries 1000 t.1 in omega arith;
-      ndials = let a = leb-true job.ndials job.totdials d1.0 in let b = leb-true job.totdials job.maxdials d1.1 in let e = leb-true job.maxdials 1000 d.1 in omega arith;
-      totdials = let b = leb-true job.totdials job.maxdials d1.1 in let e = leb-true job.maxdials 1000 d.1 in omega arith;
-      maxdials = let e = leb-true job.maxdials 1000 d.1 in omega arith;
-      next = let a = leb-true job.next 4102531200 next.1 in omega arith;
-    }
+fits job h = record {
+  number = grind (arith, nat_tests);
+  npages = grind (arith, nat_tests);
+  totpages = grind (arith, nat_tests);
+  ntries = grind (arith, nat_tests);
+  tottries = grind (arith, nat_tests);
+  maxtries = grind (arith, nat_tests);
+  ndials = grind (arith, nat_tests);
+  totdials = grind (arith, nat_tests);
+  maxdials = grind (arith, nat_tests);
+  next = grind (arith, nat_tests);
+}
 
 -- a lawful job has a lawful kill time
 pub killtime_of : (job : JobFields) → IsLawful job → is_lawful_killtime job.killtime ≡ true
@@ -127,6 +88,14 @@ pub same_fields : (j : JobFields) (job : ℕ) (dial : List ℕ) (modem : List �
     → job ≡ j.job → dial ≡ j.dial → modem ≡ j.modem → jobtag ≡ j.jobtag → tts ≡ j.tts → killtime ≡ j.killtime → priority ≡ j.priority → npages ≡ j.npages → totpages ≡ j.totpages → ntries ≡ j.ntries → tottries ≡ j.tottries → maxtries ≡ j.maxtries → ndials ≡ j.ndials → totdials ≡ j.totdials → maxdials ≡ j.maxdials → phase ≡ j.phase → wish ≡ j.wish → next ≡ j.next → status ≡ j.status → extra ≡ j.extra
     → ◌≡◌ {A = JobFields} (record { job = job; dial = dial; modem = modem; jobtag = jobtag; tts = tts; killtime = killtime; priority = priority; npages = npages; totpages = totpages; ntries = ntries; tottries = tottries; maxtries = maxtries; ndials = ndials; totdials = totdials; maxdials = maxdials; phase = phase; wish = wish; next = next; status = status; extra = extra }) j
 same_fields j job dial modem jobtag tts killtime priority npages totpages ntries tottries maxtries ndials totdials maxdials phase wish next status extra e0 e1 e2 e3 e4 e5 e6 e7 e8 e9 e10 e11 e12 e13 e14 e15 e16 e17 e18 e19 = rw (e0, e1, e2, e3, e4, e5, e6, e7, e8, e9, e10, e11, e12, e13, e14, e15, e16, e17, e18, e19) refl
+
+-- a row that begins with what a job shows has the fields of no other with its kill time, phase and wish
+pub brief_of : (row : Row) (j f : JobFields) (behind : Row) → row ≡ brief_shown j ++ behind → HasValues row 0 (brief_shown f)
+    → f.killtime ≡ j.killtime → f.phase ≡ j.phase → f.wish ≡ j.wish → f ≡ record j { extra = f.extra }
+brief_of row j f behind is has killtime phase wish =
+    let same : brief_shown f ≡ brief_shown j = sym (first_from row (brief_shown f) 0 has) ∙ ap (take 19) is in
+    same_fields (record j { extra = f.extra }) _ _ _ _ _ _ _ _ _ _ _ _ _ _ _ _ _ _ _ _
+    (cc) (cc) (cc) (cc) (cc) killtime (cc) (cc) (cc) (cc) (cc) (cc) (cc) (cc) (cc) phase wish (cc) (cc) refl
 
 -- what a change of a job is told
 abbrev pub change_params : JobFields → Row
@@ -149,6 +118,4 @@ changed_by j modem jobtag status tts killtime priority npages ntries tottries ma
 -- no more pages of a lawful job are sent than it has
 pub sent_low : (job : JobFields) → IsLawful job → job.npages ≤ job.totpages
 sent_low job h =
-    let pages = and_parts _ _ (and_parts _ _ (and_parts _ _ (and_parts _ _ (and_parts _ _ h).0).0).0).0 in
-    let low = and_parts _ _ (and_parts _ _ pages.1).0 in
-    leb-true job.npages job.totpages low.0
+    grind (arith, nat_tests)

@@ -1,5 +1,5 @@
 -- Inside a transaction a statement commits nothing.
-use Rattle.std.proofs.Common.{◌≡◌, inl, inr, ℕ, List, [], Ok, Result, IsTrue, sym, ap, subst, ◌∙◌}
+use Rattle.std.proofs.Common.{◌≡◌, inl, inr, ℕ, List, [], Ok, IsTrue, sym, ap, subst, ◌∙◌}
 use Rattle.std.specs.Prelude.{⊤}
 use Rattle.std.proofs.lemmas.Bool.{both_ways}
 use Rattle.sqlite.specs.Command.{Command}
@@ -9,7 +9,6 @@ use Rattle.sqlite.specs.Order.{Row}
 use Rattle.sqlite.specs.State.{State, HasCleanDisk, CommitsBy, Survives}
 use Rattle.sqlite.proofs.Callers.{command_of}
 use Rattle.sqlite_resolve.specs.declared.compiled.Compiled.{Compiled}
-use Rattle.sqlite_resolve.specs.declared.error.CompileError.{CompileError}
 use Rattle.sqlite_schema.specs.declared.schema.Schema.{Schema}
 use Rattle.sqlite_trees.specs.Tree.{Trees}
 use Rattle.fax_tables.specs.Stop.{CommitsNothing, HoldsBack}
@@ -40,19 +39,12 @@ inside_commits_nothing s sql params never inside found h =
       | inr outside ↦ both_ways _ outside.0 inside
     ]
 
--- what a text is understood as has this command
-known_command : (r : Result Compiled CompileError) (c : Compiled) → r ≡ Ok c → command_of r ≡ c.command
-known_command r c is = ap command_of is
-
 -- one that makes a table or an index, takes one away, or puts a row in
 pub any_holds_back : (old new : State) (P : State → Type 0) (sql : List ℕ)
     → (P old → IsTrue old.in_transaction × (command : Command) × (command_of (understood old.now.schema sql) ≡ command) × (Ends command → ⊥)) → Survives old new (CommitsBy sql [] old) → HoldsBack P old new
-any_holds_back old new P sql known survives was = nothing_by old new (CommitsBy sql [] old) survives by
-  where
-    by : (found : Trees) → HasCleanDisk old → CommitsBy sql [] old found → ⊥
-    by found clean =
-        let on = known (was clean) in
-        inside_commits_nothing old sql [] (λ c understood_as ends. on.3 (subst Ends (sym (known_command (understood old.now.schema sql) c understood_as) ∙ on.2) ends)) on.0 found
+any_holds_back old new P sql known survives was = nothing_by old new (CommitsBy sql [] old) survives (λ found clean.
+    let on = known (was clean) in
+    inside_commits_nothing old sql [] (λ c understood_as ends. on.3 (subst Ends (sym (ap command_of understood_as) ∙ on.2) ends)) on.0 found)
 
 -- the same of a command that is known
 pub command_holds_back : (old new : State) (P : State → Type 0) (sql : List ℕ) (command : Command) → (Ends command → ⊥) → (P old → IsTrue old.in_transaction × (command_of (understood old.now.schema sql) ≡ command))

@@ -1,5 +1,5 @@
 -- What the rows of each table mean, and that they still do where another table changed.
-use Rattle.std.proofs.Common.{◌≡◌, ◌≢◌, ◌⊎◌, inl, inr, ◌+◌, ◌≤◌, ◌==◌, ℕ, List, [], ◌∷◌, ◌++◌, map, drop, true, All, IsTrue, refl, sym, ap, ap₂, subst, ◌∙◌, arith}
+use Rattle.std.proofs.Common.{◌≡◌, ◌≢◌, ◌⊎◌, inl, inr, ◌≤◌, ◌==◌, ℕ, List, [], ◌∷◌, ◌++◌, map, drop, true, All, IsTrue, refl, sym, ap, ap₂, subst, ◌∙◌, arith}
 use Rattle.std.specs.List.{list_any}
 use Rattle.std.specs.List.Sorted.{IsPermutation}
 use Rattle.std.proofs.lemmas.List.{map-append}
@@ -24,10 +24,10 @@ use Rattle.fax_core.specs.Ledger.{Ledger, empty_ledger, IsLawfulEntry}
 use Rattle.fax_core.specs.Queue.{Queue, Entry, empty_queue, open_grants}
 use Rattle.fax_core.specs.State.{calls_to}
 use Rattle.fax_core.specs.declared.grants.Grant.{Grant}
-use Rattle.fax_value.specs.Limits.{last_grant, last_job, last_moment}
 use Rattle.fax_value.specs.Name.{IsName}
 use Rattle.fax_schema.specs.Schema.{core_tables, our_tables, calls_tree, down_tree, floors_tree, grants_tree, holds_tree, jobs_tree, meta_tree, replies_tree}
 use Rattle.fax_tables.specs.Job.{IsLawfulJob}
+use Rattle.fax_tables.specs.Meta.{meta_of, with_meta}
 use Rattle.fax_tables.specs.Row.{job_row, grant_row, hold_columns, down_columns, entry_columns, call_columns, meta_row}
 use Rattle.fax_tables.specs.Tables.{TablesMean, AreCalls, AreCounted, AreLawfulFloors, HaveJobs, IsLawfulGrant, IsLawfulMeta}
 use Rattle.fax_schema.specs.ByRowid.{IsByRowid}
@@ -113,12 +113,6 @@ pub record AreFloors (floor : List ℕ → ℕ) (rows : List Row) : Type 0 where
   pub ordered : IsByRowid rows
   pub lawful : AreLawfulFloors floor
 
--- the clock and next numbers are within their limits
-pub record AreLimited (now job grant : ℕ) : Type 0 where
-  pub clock : now ≤ last_moment
-  pub next_job : (1 ≤ job) × (job ≤ last_job + 1)
-  pub next_grant : (1 ≤ grant) × (grant ≤ last_grant + 1)
-
 -- what `TablesMean` says of the rows of one table
 abbrev pub Says : Name → Content → List Row → Type 0
 Says jobs c rows = AreRecords row_of IsLawfulJob rows c.queue.jobs
@@ -126,7 +120,7 @@ Says grants c rows = AreRecords grant_row IsLawfulGrant rows c.queue.grants
 Says holds c rows = AreHeld rows c.held
 Says down c rows = AreColumns down_columns IsName rows c.queue.down
 Says replies c rows = AreColumns entry_columns IsLawfulEntry rows c.kept.replies
-Says meta c rows = (rows ≡ meta_row c.queue ∷ []) × AreLimited c.queue.clock c.queue.next_job c.queue.next_grant
+Says meta c rows = (rows ≡ meta_row c.queue ∷ []) × IsLawfulMeta (with_meta (meta_of c.queue) empty_queue)
 Says floors c rows = AreFloors c.kept.floor rows
 Says calls c rows = AreCalls c.count rows
 
@@ -161,45 +155,36 @@ parts_of db m k means = record { schema = means.schema; sound = means.sound; say
 
 -- and what is said of the rows of each is what the tables mean, where each open grant has its job
 pub means_of : (db : Database) (m : Queue) (k : Ledger) → HaveJobs m → Parts db m (open_grants m) (calls_of m) k → TablesMean db m k
-means_of db m k held parts =
-    let of_jobs = parts.says jobs in
-    let of_grants = parts.says grants in
-    let of_holds = parts.says holds in
-    let of_down = parts.says down in
-    let of_replies = parts.says replies in
-    let of_meta = parts.says meta in
-    let of_floors = parts.says floors in
-    let of_calls = parts.says calls in
-    record {
-      schema = parts.schema;
-      sound = parts.sound;
-      jobs = of_jobs.is;
-      grants = of_grants.is;
-      holds = of_holds.is;
-      down = of_down.is;
-      replies = of_replies.is;
-      floors = of_floors.is;
-      meta = of_meta.0;
-      held = held;
-      calls = of_calls.is;
-      ordered = record {
-        jobs = of_jobs.ordered;
-        grants = of_grants.ordered;
-        holds = of_holds.ordered;
-        down = of_down.ordered;
-        replies = of_replies.ordered;
-        floors = of_floors.ordered;
-        calls = of_calls.ordered;
-      };
-      lawful = record {
-        jobs = of_jobs.lawful;
-        grants = of_grants.lawful;
-        down = of_down.lawful;
-        replies = of_replies.lawful;
-        meta = record { clock = of_meta.1.clock; next_job = of_meta.1.next_job; next_grant = of_meta.1.next_grant };
-        floors = of_floors.lawful;
-      };
-    }
+means_of db m k held parts = record {
+  schema = parts.schema;
+  sound = parts.sound;
+  jobs = (parts.says jobs).is;
+  grants = (parts.says grants).is;
+  holds = (parts.says holds).is;
+  down = (parts.says down).is;
+  replies = (parts.says replies).is;
+  floors = (parts.says floors).is;
+  meta = (parts.says meta).0;
+  held = held;
+  calls = (parts.says calls).is;
+  ordered = record {
+    jobs = (parts.says jobs).ordered;
+    grants = (parts.says grants).ordered;
+    holds = (parts.says holds).ordered;
+    down = (parts.says down).ordered;
+    replies = (parts.says replies).ordered;
+    floors = (parts.says floors).ordered;
+    calls = (parts.says calls).ordered;
+  };
+  lawful = record {
+    jobs = (parts.says jobs).lawful;
+    grants = (parts.says grants).lawful;
+    down = (parts.says down).lawful;
+    replies = (parts.says replies).lawful;
+    meta = record { clock = (parts.says meta).1.clock; next_job = (parts.says meta).1.next_job; next_grant = (parts.says meta).1.next_grant };
+    floors = (parts.says floors).lawful;
+  };
+}
 
 -- ---- one table changed, and what its rows mean now is known
 
@@ -216,101 +201,74 @@ rows_kept old new tree keeps name apart = at_tree (λ other. other ≢ tree → 
 abbrev Stays : ℕ → State → Content → Content → Name → Type 0
 Stays tree new c after name = Says name after (new.now.trees (tree_of name)) ⊎ ((tree_of name ≢ tree) × ((rows : List Row) → Says name c rows → Says name after rows))
 
--- where one table changed, what is said of the rows of each is said still or anew
-pub changed : (tree : ℕ) (old new : State) (c after : Content) → KeepsOthers our_tables tree old new → ((name : Name) → Stays tree new c after name) → PartsOf old.now c → PartsOf new.now after
-changed tree old new c after keeps each was = record { schema = keeps.schema_is; sound = keeps.sound; says = λ name. by name (each name) }
-  where
-    by : (name : Name) → Stays tree new c after name → Says name after (new.now.trees (tree_of name))
-    by name (inl now) = now
-    by name (inr kept) = subst (Says name after) (sym (rows_kept old new tree keeps name kept.0)) (kept.1 (old.now.trees (tree_of name)) (was.says name))
-
 module _ (old new : State) (m : Queue) (held : List Grant) (count : List ℕ → ℕ) (k : Ledger) (was : Parts old.now m held count k) where
   abbrev before : Content
   before = content m held count k
 
+  -- where one table changed, what is said of the rows of each is said still or anew
+  changed : (tree : ℕ) (after : Content) → KeepsOthers our_tables tree old new → ((name : Name) → Stays tree new before after name) → PartsOf new.now after
+  changed tree after keeps each = record { schema = keeps.schema_is; sound = keeps.sound; says = λ name. by name (each name) }
+    where
+      by : (name : Name) → Stays tree new before after name → Says name after (new.now.trees (tree_of name))
+      by name (inl now) = now
+      by name (inr kept) = subst (Says name after) (sym (rows_kept old new tree keeps name kept.0)) (kept.1 (old.now.trees (tree_of name)) (was.says name))
+
   -- jobs changed alone
   pub jobs_changed : KeepsOthers our_tables jobs_tree old new → (js : List Job) → AreRecords row_of IsLawfulJob (new.now.trees jobs_tree) js → Parts new.now (record m { jobs = js }) held count k
-  jobs_changed keeps js now = changed jobs_tree old new before (content (record m { jobs = js }) held count k) keeps each was
-    where
-      each : (name : Name) → Stays jobs_tree new before (content (record m { jobs = js }) held count k) name
-      each jobs = inl now
-      each _ = inr ((λ e. absurd (omega arith)), λ rows says. says)
+  jobs_changed keeps js now = changed jobs_tree _ keeps (elim [ jobs ↦ inl now | _ ↦ inr ((λ e. cc), λ rows says. says) ])
 
   -- grants changed alone
   pub grants_changed : KeepsOthers our_tables grants_tree old new → (gs : List Grant) → AreRecords grant_row IsLawfulGrant (new.now.trees grants_tree) gs → Parts new.now (record m { grants = gs }) held count k
-  grants_changed keeps gs now = changed grants_tree old new before (content (record m { grants = gs }) held count k) keeps each was
-    where
-      each : (name : Name) → Stays grants_tree new before (content (record m { grants = gs }) held count k) name
-      each grants = inl now
-      each _ = inr ((λ e. absurd (omega arith)), λ rows says. says)
+  grants_changed keeps gs now = changed grants_tree _ keeps (elim [ grants ↦ inl now | _ ↦ inr ((λ e. cc), λ rows says. says) ])
 
   -- holds changed alone
   pub holds_changed : KeepsOthers our_tables holds_tree old new → (now_held : List Grant) → AreHeld (new.now.trees holds_tree) now_held → Parts new.now m now_held count k
-  holds_changed keeps now_held now = changed holds_tree old new before (content m now_held count k) keeps each was
-    where
-      each : (name : Name) → Stays holds_tree new before (content m now_held count k) name
-      each holds = inl now
-      each _ = inr ((λ e. absurd (omega arith)), λ rows says. says)
+  holds_changed keeps now_held now = changed holds_tree _ keeps (elim [ holds ↦ inl now | _ ↦ inr ((λ e. cc), λ rows says. says) ])
 
   -- `down` changed alone
   pub down_changed : KeepsOthers our_tables down_tree old new → (ds : List (List ℕ)) → AreColumns down_columns IsName (new.now.trees down_tree) ds → Parts new.now (record m { down = ds }) held count k
-  down_changed keeps ds now = changed down_tree old new before (content (record m { down = ds }) held count k) keeps each was
-    where
-      each : (name : Name) → Stays down_tree new before (content (record m { down = ds }) held count k) name
-      each down = inl now
-      each _ = inr ((λ e. absurd (omega arith)), λ rows says. says)
+  down_changed keeps ds now = changed down_tree _ keeps (elim [ down ↦ inl now | _ ↦ inr ((λ e. cc), λ rows says. says) ])
 
   -- replies changed alone
   pub replies_changed : KeepsOthers our_tables replies_tree old new → (rs : List Entry) → AreColumns entry_columns IsLawfulEntry (new.now.trees replies_tree) rs → Parts new.now m held count (record k { replies = rs })
-  replies_changed keeps rs now = changed replies_tree old new before (content m held count (record k { replies = rs })) keeps each was
-    where
-      each : (name : Name) → Stays replies_tree new before (content m held count (record k { replies = rs })) name
-      each replies = inl now
-      each _ = inr ((λ e. absurd (omega arith)), λ rows says. says)
+  replies_changed keeps rs now = changed replies_tree _ keeps (elim [ replies ↦ inl now | _ ↦ inr ((λ e. cc), λ rows says. says) ])
 
   -- floors changed alone
   pub floors_changed : KeepsOthers our_tables floors_tree old new → (floor : List ℕ → ℕ) → AreFloors floor (new.now.trees floors_tree) → Parts new.now m held count (record k { floor = floor })
-  floors_changed keeps floor now = changed floors_tree old new before (content m held count (record k { floor = floor })) keeps each was
-    where
-      each : (name : Name) → Stays floors_tree new before (content m held count (record k { floor = floor })) name
-      each floors = inl now
-      each _ = inr ((λ e. absurd (omega arith)), λ rows says. says)
+  floors_changed keeps floor now = changed floors_tree _ keeps (elim [ floors ↦ inl now | _ ↦ inr ((λ e. cc), λ rows says. says) ])
 
   -- meta changed alone
   pub meta_changed : KeepsOthers our_tables meta_tree old new → (clock next_job next_grant : ℕ) → new.now.trees meta_tree ≡ meta_row (record m { clock = clock; next_job = next_job; next_grant = next_grant }) ∷ []
       → IsLawfulMeta (record m { clock = clock; next_job = next_job; next_grant = next_grant }) → Parts new.now (record m { clock = clock; next_job = next_job; next_grant = next_grant }) held count k
-  meta_changed keeps clock next_job next_grant now lawful = changed meta_tree old new before (content (record m { clock = clock; next_job = next_job; next_grant = next_grant }) held count k) keeps each was
-    where
-      each : (name : Name) → Stays meta_tree new before (content (record m { clock = clock; next_job = next_job; next_grant = next_grant }) held count k) name
-      each meta = inl (now, record { clock = lawful.clock; next_job = lawful.next_job; next_grant = lawful.next_grant })
-      each _ = inr ((λ e. absurd (omega arith)), λ rows says. says)
+  meta_changed keeps clock next_job next_grant now lawful =
+      changed meta_tree _ keeps (elim [
+        | meta ↦ inl (now, record { clock = lawful.clock; next_job = lawful.next_job; next_grant = lawful.next_grant })
+        | _ ↦ inr ((λ e. cc), λ rows says. says)
+      ])
 
 -- other grants whose triples are those that stand there
 pub held_as : (db : Database) (m : Queue) (held others : List Grant) (count : List ℕ → ℕ) (k : Ledger) → AreHeld (db.trees holds_tree) others → Parts db m held count k → Parts db m others count k
-held_as db m held others count k now parts = record { schema = parts.schema; sound = parts.sound; says = each }
-  where
-    each : (name : Name) → Says name (content m others count k) (db.trees (tree_of name))
-    each holds = now
-    each name = parts.says name
+held_as db m held others count k now parts = record { schema = parts.schema; sound = parts.sound; says = elim [ holds ↦ now | name ↦ parts.says name ] }
 
 -- other counts that are the same, number by number
 pub calls_as : (db : Database) (m : Queue) (held : List Grant) (count other : List ℕ → ℕ) (k : Ledger) → ((dial : List ℕ) → count dial ≡ other dial) → Parts db m held count k → Parts db m held other k
-calls_as db m held count other k same parts = record { schema = parts.schema; sound = parts.sound; says = each }
-  where
-    each : (name : Name) → Says name (content m held other k) (db.trees (tree_of name))
-    each calls = let was = parts.says calls in record { is = counted_as count other (map (drop 1) (db.trees calls_tree)) same was.is; ordered = was.ordered }
-    each name = parts.says name
+calls_as db m held count other k same parts =
+    let was = parts.says calls in
+    let now : AreCalls other (db.trees calls_tree) = record { is = counted_as count other _ same was.is; ordered = was.ordered } in
+    record { schema = parts.schema; sound = parts.sound; says = elim [ calls ↦ now | name ↦ parts.says name ] }
 
 -- ---- rows of other databases
 
 -- all tables but `calls` have the rows that they had
 pub counts_again : (old new : Database) (m : Queue) (held : List Grant) (count counted : List ℕ → ℕ) (k : Ledger) → new.schema ≡ our_tables → IsDatabase new → KeepsRows core_tables.tables old.trees new.trees → AreCalls counted (new.trees calls_tree) → Parts old m held count k
     → Parts new m held counted k
-counts_again old new m held count counted k schema_is sound rows now was = record { schema = schema_is; sound = sound; says = each }
-  where
-    each : (name : Name) → Says name (content m held counted k) (new.trees (tree_of name))
-    each calls = now
-    each name = subst (Says name (content m held counted k)) (sym (at_tree (λ tree. new.trees tree ≡ old.trees tree) core_tables.tables (tree_of name) refl rows)) (was.says name)
+counts_again old new m held count counted k schema_is sound rows now was =
+    let same = λ (name : Name). at_tree (λ tree. new.trees tree ≡ old.trees tree) core_tables.tables (tree_of name) in
+    record {
+      schema = schema_is;
+      sound = sound;
+      says = elim [ calls ↦ now | name ↦ subst (Says name (content m held counted k)) (sym (same name refl rows)) (was.says name) ];
+    }
 
 -- `calls` changed alone
 pub calls_changed : (old new : State) (m : Queue) (held : List Grant) (count : List ℕ → ℕ) (k : Ledger) → Parts old.now m held count k → new.now.schema ≡ our_tables → IsDatabase new.now → KeepsRows core_tables.tables old.now.trees new.now.trees
@@ -329,27 +287,24 @@ nothing = content empty_queue [] (calls_of empty_queue) empty_ledger
 none_by_rowid : IsByRowid []
 none_by_rowid = record { rise = tt; integers = tt }
 
--- meta has its one row
-abbrev SaysOfNone : Name → Type 0
-SaysOfNone meta = Unit {0}
-SaysOfNone name = Says name nothing []
-
--- what is said of no rows
-says_of_none : (name : Name) → SaysOfNone name
-says_of_none meta = tt
-says_of_none holds = record { is = IsPermutation-refl []; ordered = none_by_rowid }
-says_of_none floors = record { is = record { each = λ row has. absurd has; all = λ client some. absurd (omega arith) }; ordered = none_by_rowid; lawful = λ client some. absurd (omega arith) }
-says_of_none calls = record { is = record { each = λ row has. absurd has; all = λ dial some. absurd (omega arith) }; ordered = none_by_rowid }
-says_of_none _ = record { is = refl; ordered = none_by_rowid; lawful = λ i d low. absurd (omega arith) }
-
 -- where the one row of meta comes to tables with no rows, they mean an empty store
 pub founded : (old new : Database) → new.schema ≡ our_tables → IsDatabase new → new.trees meta_tree ≡ meta_row empty_queue ∷ [] → ((name : Name) → old.trees (tree_of name) ≡ [])
     → ((name : Name) → tree_of name ≢ meta_tree → new.trees (tree_of name) ≡ old.trees (tree_of name)) → TablesMean new empty_queue empty_ledger
 founded old new schema sound row empty kept = means_of new empty_queue empty_ledger (λ g none. absurd none) (record { schema = schema; sound = sound; says = each })
   where
+    -- what is said of no rows
+    still : (name : Name) → tree_of name ≢ meta_tree → Says name nothing [] → Says name nothing (new.trees (tree_of name))
+    still name other says = subst (Says name nothing) (sym (kept name other ∙ empty name)) says
+
+    none_counted : AreCounted (λ text. 0) []
+    none_counted = record { each = λ row has. absurd has; all = λ text some. absurd (omega arith) }
+
     each : (name : Name) → Says name nothing (new.trees (tree_of name))
     each meta = (row, record { clock = omega arith; next_job = (omega arith, omega arith); next_grant = (omega arith, omega arith) })
-    each name = subst (Says name nothing) (sym (kept name (λ e. absurd (omega arith)) ∙ empty name)) (says_of_none name)
+    each holds = still holds (λ e. cc) (record { is = IsPermutation-refl []; ordered = none_by_rowid })
+    each floors = still floors (λ e. cc) (record { is = none_counted; ordered = none_by_rowid; lawful = λ client some. absurd (omega arith) })
+    each calls = still calls (λ e. cc) (record { is = none_counted; ordered = none_by_rowid })
+    each name = still name (λ e. cc) (record { is = refl; ordered = none_by_rowid; lawful = λ i d low. absurd (omega arith) })
 
 -- a database is told by its rows, since they list its schema
 pub same_database : (a b : Database) → a.trees ≡ b.trees → IsDatabase a → IsDatabase b → a ≡ b

@@ -8,15 +8,13 @@ use Rattle.std.specs.List.{list_all}
 use Rattle.std.specs.Prelude.{◌==◌}
 use Rattle.fax_value.specs.Dial.{is_key, is_separator, are_keys, is_canonical, IsCanonical, without_separators, dial_of}
 use Rattle.fax_value.specs.Name.{IsName, is_name_byte}
-use Rattle.fax_job.specs.Pair.{Pair, ArePairs}
+use Rattle.fax_job.specs.Pair.{Pair}
 use Rattle.fax_tables.specs.Job.{IsText}
 use Rattle.std.specs.Str.{IsAscii}
 use Rattle.std.proofs.lemmas.Str.{IsUtf8-from_ascii}
-use Rattle.fax_job.specs.Spelling.{printed}
 use Rattle.fax_lines.specs.Reading.{is_no_memory}
-use Rattle.fax_lines.specs.Spells.{Spells}
 use Rattle.fax_job.specs.declared.lines.LineFault.{LineFault}
-use Rattle.fax_lines.proofs.PrintedLemmas.{printed_spells}
+pub use Rattle.fax_lines.proofs.PrintedLemmas.{printed_spells as lines_kept}
 
 -- a key is no separator
 key_stays : (b : ℕ) → is_key b ≡ true → not (is_separator b) ≡ true
@@ -71,14 +69,7 @@ name_text text h = record {
   utf8 = IsUtf8-from_ascii text (name_bytes_small text (and_parts (leb 1 (length text) && leb (length text) 32) (list_all is_name_byte text) h).1);
 }
 
--- and lines are what their printed spelling spells
-pub lines_kept : (lines : List Pair) → ArePairs lines → Spells (printed lines) lines
-lines_kept lines pairs = printed_spells lines pairs
-
 -- a fault where there is a list is want of memory
 pub wants_memory : (lines : List Pair) (fault : LineFault) → MatchBool (is_no_memory fault) ⊤ (◌≡◌ {A = Result (List Pair) LineFault} (Ok lines) (Err fault)) → IsTrue (is_no_memory fault)
-wants_memory lines fault h = by (is_no_memory fault) refl h
-  where
-    by : (b : Bool) → is_no_memory fault ≡ b → MatchBool b ⊤ (◌≡◌ {A = Result (List Pair) LineFault} (Ok lines) (Err fault)) → IsTrue b
-    by true e h = refl
-    by false e h = absurd (let no = h in cc)
+wants_memory lines fault h =
+    (elim (is_no_memory fault) as (λ b. MatchBool b ⊤ (◌≡◌ {A = Result (List Pair) LineFault} (Ok lines) (Err fault)) → IsTrue b) [ true ↦ λ _. refl | false ↦ λ no. absurd cc ]) h

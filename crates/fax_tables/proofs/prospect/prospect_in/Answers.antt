@@ -1,30 +1,20 @@
 use Rattle.std.proofs.Common.{◌≡◌, refl, arith}
-use Rattle.sqlite.specs.declared.types.Value.TheVariants.{Text}
-use Rattle.fax_tables.specs.Job.{prospect, prospect_shown}
+use Rattle.fax_tables.specs.Job.{prospect}
 use Rattle.fax_tables.proofs.ResultLemmas.{passes_on}
-use Rattle.fax_tables.proofs.RowLemmas.{fits, has_number, has_value, same_prospect}
+use Rattle.fax_tables.proofs.RowLemmas.{fits, has_value}
 use Rattle.fax_tables.proofs.prospect.prospect_in.Goals as goal
 
 pub returns-in_err-number_at-clause-found : goal.returns-in_err-number_at-clause-found
 returns-in_err-number_at-clause-found c job is lawful formed =
     passes_on c.from_residual.result _ (λ found. found ≡ prospect job) c.from_residual.ensures.1
-    (c.in_err-number_at.ensures.found job.job (has_number c.args.row.now (prospect_shown job) 0 job.job is (omega arith) refl) (fits job lawful).number)
+    (c.in_err-number_at.ensures.found job.job (has_value is (omega arith) refl) (fits job lawful).number)
 
 pub returns-in_err-priority_at-clause-found : goal.returns-in_err-priority_at-clause-found
 returns-in_err-priority_at-clause-found c job is lawful formed =
     passes_on c.from_residual-in_err-priority_at.result _ (λ found. found ≡ prospect job) c.from_residual-in_err-priority_at.ensures.1
-    (c.in_err-priority_at.ensures.found job.priority (has_number c.args.row.now (prospect_shown job) 3 job.priority is (omega arith) refl) formed.priority)
+    (c.in_err-priority_at.ensures.found job.priority (has_value is (omega arith) refl) formed.priority)
 
 pub returns-in_err-moment_at-clause-found : goal.returns-in_err-moment_at-clause-found
 returns-in_err-moment_at-clause-found c job is lawful formed =
     passes_on c.from_residual-in_err-moment_at.result _ (λ found. found ≡ prospect job) c.from_residual-in_err-moment_at.ensures.1
-    (c.in_err-moment_at.ensures.found job.tts (has_number c.args.row.now (prospect_shown job) 4 job.tts is (omega arith) refl) formed.tts)
-
-pub returns-clause-found : goal.returns-clause-found
-returns-clause-found c job is lawful formed =
-    same_prospect job _ _ _ _ _
-    (c.in_ok-number_at.ensures.found job.job (has_number c.args.row.now (prospect_shown job) 0 job.job is (omega arith) refl) (fits job lawful).number)
-    (c.in_ok-dial_at.ensures.found job.dial (has_value c.args.row.now (prospect_shown job) 1 (Text job.dial) is (omega arith) refl) formed.dial)
-    (c.in_ok-name_at.ensures.found job.modem (has_value c.args.row.now (prospect_shown job) 2 (Text job.modem) is (omega arith) refl) formed.modem)
-    (c.in_ok-priority_at.ensures.found job.priority (has_number c.args.row.now (prospect_shown job) 3 job.priority is (omega arith) refl) formed.priority)
-    (c.in_ok-moment_at.ensures.found job.tts (has_number c.args.row.now (prospect_shown job) 4 job.tts is (omega arith) refl) formed.tts)
+    (c.in_err-moment_at.ensures.found job.tts (has_value is (omega arith) refl) formed.tts)
