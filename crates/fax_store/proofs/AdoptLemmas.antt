@@ -1,9 +1,9 @@
 -- What the statements do by which a store comes to a database, and raises the version of its meta.
-use Rattle.std.proofs.Common.{◌≡◌, ◌≢◌, inl, inr, ℕ, List, [], ◌∷◌, codes, map, Bool, true, false, arith, Ok, Err, IsErr, IsErrAnd, IsTrue, MatchResult, Result, refl, sym, subst, ap, ap₂, ◌∙◌, IfErr, ◌==◌, pos, ◌++◌, drop, ◌&&◌, Some, OnOk, OnErr}
+use Rattle.std.proofs.Common.{◌≡◌, ◌≢◌, inl, inr, ℕ, List, [], ◌∷◌, codes, map, Bool, true, arith, Ok, Err, IsErr, IsErrAnd, IsTrue, MatchResult, Result, refl, sym, subst, ap, ap₂, ◌∙◌, IfErr, ◌==◌, pos, ◌++◌, drop, ◌&&◌, Some, OnOk, OnErr}
 use Rattle.sqlite_rules.proofs.ListLemmas.{all_has}
 use Rattle.sqlite_trees.proofs.ListLemmas.{all_of, filter_all, map-map}
 use Rattle.std.specs.List.Sorted.{IsPermutation}
-use Rattle.std.proofs.lemmas.Bool.{false≢true, and_parts, cases_Bool}
+use Rattle.std.proofs.lemmas.Bool.{and_parts, cases_Bool}
 use Rattle.std.proofs.lemmas.List.Sorted.{IsPermutation-sym}
 use Rattle.sqlite.specs.Effect.{Database, IsDatabase}
 use Rattle.sqlite.specs.Order.{Row, column}
@@ -25,7 +25,7 @@ use Rattle.fax_schema.specs.Schema as schema
 use Rattle.fax_schema.specs.Schema.{AreOurs, alike_list, first_list, second_list, has_floors, no_tables, our_tables, calls_tree, meta_tree, core_tables}
 use Rattle.fax_schema.specs.declared.way.Way.{Way}
 use Rattle.fax_tables.specs.Tables.{GoesOn, HasEmptyTables, HasNewCalls, HasVersion, IsAtRest, Renews, RowsMean, TablesMean, meta_as, second_in, version_of, versions}
-use Rattle.fax_tables.proofs.CreateLemmas.{commit_kept, goes_on, none_at_first, refused_keeps, renews_then, second_there, inside_shown}
+use Rattle.fax_tables.proofs.CreateLemmas.{commit_kept, goes_on, none_at_first, refused_keeps, second_there, inside_shown}
 use Rattle.fax_tables.proofs.StopLemmas.{nothing_then}
 use Rattle.fax_tables.proofs.TablesLemmas.{same_database}
 use Rattle.fax_tables.specs.Stop.{HoldsBack}
@@ -33,14 +33,14 @@ use Rattle.fax_schema.proofs.RowsLemmas.{not_ours, all_front, all_given, all_map
 use Rattle.fax_schema.proofs.SelectLemmas.{answers}
 use Rattle.sqlite_schema.specs.declared.schema.Schema.{Schema}
 use Rattle.sqlite_schema.specs.declared.schema.Table.{Table}
-use Rattle.fax_store.specs.Adopt.{Adopts, AreAdopted, AreOnTheWay, AreTaken, Founds, HasBecome, HasNone, HoldsCanBeCalled, IsAdoptable, IsFilled, IsIn, IsOurs, IsRaisable, IsRaisableFrom, IsTakeable, IsTaken, MeansAs, QueuesAreTakeable, Settles, Takes, Turns, TurnsOrUnavailable, CoreMeans, HoldJobs, IsSettled, IsWhole}
+use Rattle.fax_store.specs.Adopt.{Adopts, AreAdopted, AreOnTheWay, AreTaken, Founds, HasBecome, HasNone, HoldsCanBeCalled, IsAdoptable, IsFilled, IsIn, IsOurs, IsRaisable, IsRaisableFrom, IsTakeable, IsTaken, MeansAs, QueuesAreTakeable, Settles, Takes, Turns, CoreMeans, HoldJobs, IsSettled, IsWhole}
 use Rattle.fax_store.specs.Store.{CommitsNothing, GoesBack, MayMake, RowsFound, Serves, HasRun, LeavesCommit}
 use Rattle.fax_store.proofs.ControlLemmas.{begins, commits}
 use Rattle.fax_store.proofs.HeldLemmas.{held_still, rows_callable}
 use Rattle.fax_schema.proofs.StatementTexts.{select_version, version_project, raise_project, update_version}
 use Rattle.fax_store.proofs.StopLemmas.{begin_nothing, commit_makes}
 use Rattle.fax_store.proofs.StoreLemmas.{same_tables}
-use Rattle.fax_store.proofs.WorkLemmas.{not_strange, ok_as, refused_as, both_as}
+use Rattle.fax_store.proofs.WorkLemmas.{not_strange, ok_as}
 use Rattle.sqlite_rules.proofs.TableLemmas.{int_is}
 use Rattle.std.proofs.lemmas.List.{map-id}
 use Rattle.sqlite.specs.Cast.{cast_row}
