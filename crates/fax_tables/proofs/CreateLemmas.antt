@@ -204,43 +204,35 @@ renews_then a b c first next = record {
 
 -- ---- tables with no rows
 
--- all tables of the second version have none, where those of the other had none
-core_empty : (db after : Database) (c : Schema) → has_floors c ≡ true → after.schema ≡ c → Renews db after → AllByRecursion (λ t. db.trees t.tree ≡ []) first_list
-    → AllByRecursion (λ t. second_in db t.tree ≡ []) second_list
-    → AllByRecursion (λ t. after.trees t.tree ≡ []) core_list
-core_empty db after c there is renews first second =
-    let still = kept_rows second_list (λ tree. []) (second_in db) (second_in after) second renews.second in
-    all_both (λ t. after.trees t.tree ≡ []) first_list second_list (kept_rows first_list (λ tree. []) db.trees after.trees first renews.rows)
-    (all_mapped (λ t. second_in after t.tree ≡ []) (λ t. after.trees t.tree ≡ []) second_list (λ t none. sym (second_there after c t.tree is there) ∙ none) still)
-
--- so it is behind tables of the second version
-still_core : (db after : Database) (a c : Schema) → has_floors a ≡ true → has_floors c ≡ true → db.schema ≡ a → after.schema ≡ c → Renews db after
-    → AllByRecursion (λ t. db.trees t.tree ≡ []) core_list
-    → AllByRecursion (λ t. after.trees t.tree ≡ []) core_list
-still_core db after a c was there has is renews empty =
-    core_empty db after c there is renews (all_front (λ t. db.trees t.tree ≡ []) first_list second_list empty)
-    (all_mapped (λ t. db.trees t.tree ≡ []) (λ t. second_in db t.tree ≡ []) second_list (λ t none. second_there db a t.tree has was ∙ none) (all_behind (λ t. db.trees t.tree ≡ []) first_list second_list empty))
+-- tables of the second version keep their rows
+core_kept : (db after : Database) (a c : Schema) → has_floors a ≡ true → has_floors c ≡ true → db.schema ≡ a → after.schema ≡ c → Renews db after → KeepsRows core_list db.trees after.trees
+core_kept db after a c there still was is renews =
+    all_both (λ t. after.trees t.tree ≡ db.trees t.tree) first_list second_list renews.rows
+    (all_mapped (λ t. second_in after t.tree ≡ second_in db t.tree) (λ t. after.trees t.tree ≡ db.trees t.tree) second_list
+    (λ t same. sym (second_there after c t.tree is still) ∙ same ∙ second_there db a t.tree was there) renews.second)
 
 -- with those of the second version
 pub raised_empty : (old new : State) → HasEmptyTables first_bare old → GoesOn old new → HasNewFloors old.now new.now → HasEmptyTables bare_tables new
 raised_empty old new was on is = record {
   inside = on.mode;
   schema_is = is.schema_is;
-  empty = core_empty old.now new.now bare_tables refl is.schema_is is.renews was.empty (all_given (λ t. second_in old.now t.tree ≡ []) second_list (λ t. second_none old.now first_bare t.tree was.schema_is refl));
+  empty = all_both (λ t. new.now.trees t.tree ≡ []) first_list second_list (kept_rows first_list (λ tree. []) old.now.trees new.now.trees was.empty (is.renews).rows)
+      (all_mapped (λ t. second_in new.now t.tree ≡ second_in old.now t.tree) (λ t. new.now.trees t.tree ≡ []) second_list
+      (λ t same. sym (second_there new.now bare_tables t.tree is.schema_is refl) ∙ same ∙ second_none old.now first_bare t.tree was.schema_is refl) (is.renews).second);
 }
 
 -- and with the indexes
 pub indexed_empty : (old new : State) → HasEmptyTables bare_tables old → GoesOn old new → IsIndexed old.now new.now → HasEmptyTables core_tables new
-indexed_empty old new was on is = record { inside = on.mode; schema_is = is.schema_is; empty = still_core old.now new.now bare_tables core_tables refl refl was.schema_is is.schema_is is.renews was.empty }
+indexed_empty old new was on is =
+    let kept = core_kept old.now new.now bare_tables core_tables refl refl was.schema_is is.schema_is is.renews in
+    record { inside = on.mode; schema_is = is.schema_is; empty = kept_rows core_list (λ tree. []) old.now.trees new.now.trees was.empty kept }
 
 -- and with `calls`
 pub beside_empty : (old new : State) → HasEmptyTables core_tables old → GoesOn old new → HasNewCalls old.now new.now → HasEmptyTables our_tables new
-beside_empty old new was on is = record {
-  inside = on.mode;
-  schema_is = is.schema_is;
-  empty = all_both (λ t. new.now.trees t.tree ≡ []) core_list (schema.calls ∷ [])
-      (still_core old.now new.now core_tables our_tables refl refl was.schema_is is.schema_is is.renews was.empty) (is.none, tt);
-}
+beside_empty old new was on is =
+    let kept = core_kept old.now new.now core_tables our_tables refl refl was.schema_is is.schema_is is.renews in
+    let core = kept_rows core_list (λ tree. []) old.now.trees new.now.trees was.empty kept in
+    record { inside = on.mode; schema_is = is.schema_is; empty = all_both (λ t. new.now.trees t.tree ≡ []) core_list (schema.calls ∷ []) core (is.none, tt) }
 
 -- the row of meta of an empty store is stored as it is
 stored_meta : cast_row schema.meta (meta_row empty_queue) ≡ meta_row empty_queue
