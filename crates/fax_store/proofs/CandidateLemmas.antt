@@ -1,8 +1,13 @@
 -- The jobs that wait, read a page at a time.
-use Rattle.std.proofs.Common.{◌≡◌, ◌<◌, ◌≤◌, ◌+◌, ◌-◌, ◌⊎◌, inl, inr, ℕ, List, [], ◌∷◌, ◌++◌, map, filter, take, drop, length, All, Bool, true, false, cond, not, ◌&&◌, ◌||◌, leb, refl, sym, ap, ap₂, subst, ◌∙◌, arith, append_assoc, append-nil, take-append-drop, get_or, Ordering, Less, Equal, Greater, is_lt, is_gt, is_eq, true≢false}
+use Rattle.std.proofs.Common.{◌≡◌, Ok, Err, IsErrAnd, ◌<◌, ◌≤◌, ◌+◌, ◌-◌, ◌⊎◌, inl, inr, ℕ, List, [], ◌∷◌, ◌++◌, map, filter, take, drop, length, All, Bool, true, false, cond, not, ◌&&◌, ◌||◌, leb, refl, sym, ap, ap₂, subst, ◌∙◌, arith, append_assoc, append-nil, take-append-drop, get_or, Ordering, Less, Equal, Greater, is_lt, is_gt, is_eq, true≢false}
 use Rattle.fax_tables.proofs.ResultLemmas.{answered}
 use Rattle.fax_tables.specs.declared.fault.StoreFault.{StoreFault}
-use Rattle.fax_store.specs.Calls.{Queries, Recalls, shown as shown_by}
+use Rattle.fax_tables.specs.declared.fault.StoreFault.TheVariants.{Unavailable}
+use Rattle.fax_store.specs.Store.{Means, Serves}
+use Rattle.fax_store.specs.declared.candidates.Candidates.{Candidates}
+use Rattle.std.specs.Vec.Iter.{into_iter_items}
+use Rattle.std.specs.declared.vec.IntoIter.{IntoIter}
+use Rattle.fax_store.specs.Calls.{Looks, Queries, Recalls, shown as shown_by}
 use Rattle.fax_store.specs.declared.store.Store.{Store}
 use Rattle.sqlite_trees.specs.declared.store.Store.{Ghosts}
 use Rattle.std.proofs.Math.Bool.{and-true, or_comm}
@@ -46,7 +51,7 @@ use Rattle.fax_core.specs.Queue.{Queue, job_numbered}
 use Rattle.fax_core.specs.State.{is_due}
 use Rattle.fax_core.proofs.RecordLemmas.{within_limits_of}
 use Rattle.fax_value.specs.Limits.{last_job}
-use Rattle.fax_store.specs.Candidates.{AreAsked, IsPage, StandsAt, front_of, is_behind, is_beyond, is_last, is_near, is_other, next_front, value_of}
+use Rattle.fax_store.specs.Candidates.{Advances, AreAsked, IsPage, Reaches, StandsAt, front_of, is_behind, is_beyond, is_last, is_near, is_other, next_front, value_of}
 use Rattle.fax_store.specs.declared.candidates.Asked.{Asked}
 use Rattle.fax_store.specs.Job.{AreWaiting}
 use Rattle.fax_store.specs.declared.candidates.Front.{Front}
@@ -60,7 +65,7 @@ use Rattle.fax_schema.proofs.ColumnLemmas.{all_kept}
 use Rattle.fax_schema.proofs.CompareLemmas.{is_number, more_than}
 use Rattle.fax_schema.proofs.SelectLemmas.{each_passing}
 use Rattle.fax_tables.proofs.TablesLemmas.{row_of}
-use Rattle.fax_store.proofs.JobsLemmas.{number_of, ascend, Below}
+use Rattle.fax_store.proofs.JobsLemmas.{ascend, Below}
 use Rattle.fax_schema.proofs.StatementTexts.{SelectsPage, number_tests, other_tests, page_query, priority_tests, prospect_names, prospect_project, select_behind_number, select_behind_priority, select_behind_time, select_first, time_tests}
 use Rattle.fax_store.proofs.JobsLemmas as waiting
 
@@ -80,10 +85,6 @@ less p q s u n k = grind (arith, nat_tests)
 -- a job is less in this order where it is the better choice
 by_less : (a b : Job) → is_lt (order a b) ≡ better a b
 by_less a b = less a.priority b.priority a.tts b.tts a.number b.number
-
--- three numbers compared in turn are never equal where the third rises
-apart : (p q s u n k : ℕ) → n < k → is_eq (ordering_then (nat_cmp p q) (ordering_then (nat_cmp s u) (nat_cmp n k))) ≡ false
-apart p q s u n k low = grind (arith, nat_tests)
 
 -- each goes before every later one
 abbrev Goes : Job → Job → Type 0
@@ -125,25 +126,23 @@ not_after a b e = sym (by_less b a) ∙ ap is_lt (is_total.antisymm b a ∙ ap o
 
 -- two filters in turn are one of both
 filter_two : (p q : Job → Bool) (xs : List Job) → filter q (filter p xs) ≡ filter (λ j. p j && q j) xs
-filter_two p q [] = refl
-filter_two p q (x ∷ xs) =
-    let rest = filter (λ j. p j && q j) xs in
-    let more = filter_two p q xs in
-    elim (p x) as (λ a. filter q (cond a (x ∷ filter p xs) (filter p xs)) ≡ cond (a && q x) (x ∷ rest) rest)
-    [ true ↦ ap (λ l. cond (q x) (x ∷ l) l) more | false ↦ more ]
+filter_two p q xs =
+    let passing = recursion_from_All (λ x. p x ≡ true) (filter p xs) (filter_passes p xs) in
+    filter_same q (λ x. p x && q x) (filter p xs) (all_weaker (λ x. p x ≡ true) (λ x. q x ≡ (p x && q x)) (λ x on. rw on refl) (filter p xs) passing)
+    ∙ filter-filter (λ x. p x && q x) p (λ x both. (and_parts (p x) (q x) both).0) xs
 
 module _ (db : Database) (m : Queue) (k : Ledger) (means : TablesMean db m k) (t : ℕ) where
   abbrev all_due : List Job
   all_due = filter (λ (j : Job). is_due j t) m.jobs
 
   -- the jobs of the queue stand with rising numbers
-  rises : IsAscending (Below number_of) m.jobs
+  rises : IsAscending Below m.jobs
   rises = ascend m.jobs (subst IsTable means.jobs means.ordered.jobs.rise)
 
   -- no two of the jobs that are due tie
   no_ties : HasNoTies all_due
-  no_ties = ascending_weaker (Below number_of) (λ (a b : Job). is_eq (order a b) ≡ false) (λ a b low. apart a.priority b.priority a.tts b.tts a.number b.number low) all_due
-      (ascending-filter (Below number_of) (λ (j : Job). is_due j t) m.jobs rises)
+  no_ties = ascending_weaker Below (λ (a b : Job). is_eq (order a b) ≡ false) (λ a b low. grind (arith, nat_tests)) all_due
+      (ascending-filter Below (λ (j : Job). is_due j t) m.jobs rises)
 
   -- in the order of the choice
   abbrev pub all_wait : List Job
@@ -258,15 +257,10 @@ unfolding unary
 not_is true = refl
 not_is false = refl
 
--- IS NOT, of a text and a number that may be named
-is_not_null : (text : List ℕ) → is_true (unary Not (binary (Is Binary) (Text text) Null)) ≡ true
-unfolding unary binary value_cmp
-is_not_null text = refl
-
 -- the job's number IS NOT the one left out: the job is to another number
 is_not : (but : Option (List ℕ)) (j : Job) → is_true (unary Not (binary (Is Binary) (Text j.dial) (value_of but))) ≡ is_other but j
-unfolding binary
-is_not None j = is_not_null j.dial
+unfolding unary binary value_cmp
+is_not None j = refl
 is_not (Some dial) j = not_is (is_eq (value_cmp (Text j.dial) (Text dial))) ∙ ap not (ap is_eq (value_cmp-Text j.dial dial) ∙ is_eq-slice_cmp j.dial dial)
 
 module _ (asked : Asked) (most : ℕ) (old new : State) (m : Queue) (k : Ledger) (means : TablesMean old.now m k) (rows : List Row) where
@@ -325,41 +319,29 @@ through p t n q u k r v l a b = grind (arith, nat_tests)
 same_front : (p t n q u k : ℕ) → (((q == p) && ((u == t) && nat_lt n k)) || (nat_lt p q || ((q == p) && nat_lt t u))) ≡ lex p t n q u k
 same_front p t n q u k = grind (arith, nat_tests)
 
--- after what has a later priority or time comes none of the same priority and time
-past_time : (p t q u k r v l n : ℕ) → lex q u k r v l ≡ true → (nat_lt p q || ((q == p) && nat_lt t u)) ≡ true → ((r == p) && ((v == t) && nat_lt n l)) ≡ false
-past_time p t q u k r v l n goes past = grind (arith, nat_tests)
-
--- after what has a later priority comes none of that priority
-past_priority : (p t q u k r v l : ℕ) → lex q u k r v l ≡ true → nat_lt p q ≡ true → ((r == p) && nat_lt t v) ≡ false
-past_priority p t q u k r v l goes past = grind (arith, nat_tests)
-
 -- behind what comes after nothing is near
 after : (f : Front) (a b : Job) → Goes a b → is_beyond f a ≡ true → is_near f b ≡ false
-after First a b goes past = absurd (true≢false (sym past))
-after (Number p t n) a b goes past = past_time p t a.priority a.tts a.number b.priority b.tts b.number n goes past
-after (Time p t) a b goes past = past_priority p t a.priority a.tts a.number b.priority b.tts b.number goes past
-after (Priority p) a b goes past = absurd (true≢false (sym past))
+after (Number p t n) a b goes past = grind (arith, nat_tests)
+after (Time p t) a b goes past = grind (arith, nat_tests)
+after _ a b goes past = absurd (true≢false (sym past))
 
 -- a job beyond a front isn't near it
 not_both : (f : Front) (a : Job) → is_beyond f a ≡ true → is_near f a ≡ false
-not_both First a past = absurd (true≢false (sym past))
 not_both (Number p t n) a past = let e : (nat_lt p a.priority || ((a.priority == p) && nat_lt t a.tts)) ≡ true = past in grind (arith, nat_tests)
 not_both (Time p t) a past = let e : nat_lt p a.priority ≡ true = past in grind (arith, nat_tests)
-not_both (Priority p) a past = absurd (true≢false (sym past))
+not_both _ a past = absurd (true≢false (sym past))
 
 -- what is behind the next front comes after
 next_is : (f : Front) → is_last f ≡ false → (j : Job) → is_beyond f j ≡ is_behind (next_front f) j
-next_is First last j = absurd (true≢false last)
 next_is (Number p t n) last j = or_comm (nat_lt p j.priority) ((j.priority == p) && nat_lt t j.tts)
 next_is (Time p t) last j = or_comm false (nat_lt p j.priority)
-next_is (Priority p) last j = absurd (true≢false last)
+next_is _ last j = absurd (true≢false last)
 
 -- beyond the last front is no job
 last_is : (f : Front) → is_last f ≡ true → (j : Job) → is_beyond f j ≡ false
-last_is First last j = refl
 last_is (Number p t n) last j = absurd (true≢false (sym last))
 last_is (Time p t) last j = absurd (true≢false (sym last))
-last_is (Priority p) last j = refl
+last_is _ last j = refl
 
 -- in a list in order, what is behind a front is what is near it and then what is beyond
 cut : (f : Front) (xs : List Job) → IsAscending Goes xs → filter (is_behind f) xs ≡ filter (is_near f) xs ++ filter (is_beyond f) xs
@@ -398,21 +380,12 @@ rest_behind f all ys x rest up is =
     ∙ sym (filter-filter (better x) (is_behind f) (λ b goes. still_behind f x b here goes) all)
     ∙ ap (filter (better x)) whole ∙ behind_it ys x rest (subst (IsAscending Goes) whole (ascending-filter Goes (is_behind f) all up))
   where
-    still_number : (p t n q u k r v l : ℕ) → (((q == p) && ((u == t) && nat_lt n k)) || (nat_lt p q || ((q == p) && nat_lt t u))) ≡ true → lex q u k r v l ≡ true
-        → (((r == p) && ((v == t) && nat_lt n l)) || (nat_lt p r || ((r == p) && nat_lt t v))) ≡ true
-    still_number p t n q u k r v l here goes = same_front p t n r v l ∙ through p t n q u k r v l (sym (same_front p t n q u k) ∙ here) goes
-
-    still_time : (p t q u k r v l : ℕ) → (((q == p) && nat_lt t u) || nat_lt p q) ≡ true → lex q u k r v l ≡ true → (((r == p) && nat_lt t v) || nat_lt p r) ≡ true
-    still_time p t q u k r v l here goes = grind (arith, nat_tests)
-
-    still_priority : (p q u k r v l : ℕ) → (nat_lt p q || false) ≡ true → lex q u k r v l ≡ true → (nat_lt p r || false) ≡ true
-    still_priority p q u k r v l here goes = grind (arith, nat_tests)
-
     still_behind : (f : Front) (a b : Job) → is_behind f a ≡ true → Goes a b → is_behind f b ≡ true
     still_behind First a b here goes = refl
-    still_behind (Number p t n) a b here goes = still_number p t n a.priority a.tts a.number b.priority b.tts b.number here goes
-    still_behind (Time p t) a b here goes = still_time p t a.priority a.tts a.number b.priority b.tts b.number here goes
-    still_behind (Priority p) a b here goes = still_priority p a.priority a.tts a.number b.priority b.tts b.number here goes
+    still_behind (Number p t n) a b here goes = same_front p t n b.priority b.tts b.number
+        ∙ through p t n a.priority a.tts a.number b.priority b.tts b.number (sym (same_front p t n a.priority a.tts a.number) ∙ here) goes
+    still_behind (Time p t) a b here goes = grind (arith, nat_tests)
+    still_behind (Priority p) a b here goes = grind (arith, nat_tests)
 
 -- ---- where a reading stands
 
@@ -491,10 +464,9 @@ module _ (db : Database) (m : Queue) (k : Ledger) (means : TablesMean db m k) (a
         }
 
         stays : (g : Front) → is_last g ≡ true → next_front g ≡ g
-        stays First e = refl
         stays (Number p s n) e = absurd (true≢false (sym e))
         stays (Time p s) e = absurd (true≢false (sym e))
-        stays (Priority p) e = refl
+        stays _ e = refl
 
         by : (b : Bool) → is_last f ≡ b → StandsAt asked m given rows (next_front f) then
         by true e = same (next_front f) (ap (λ (g : Front). filter (is_behind g) h.all) (sym (stays f e)))
@@ -548,10 +520,9 @@ page_lawful asked m f most all ys x lawful waits is =
 -- ---- how often there is more to be read until a page has a job
 
 abbrev pub rank : Front → ℕ
-rank First = 0
 rank (Number p t n) = 2
 rank (Time p t) = 1
-rank (Priority p) = 0
+rank _ = 0
 
 abbrev pub turns_left : List Row → Front → ℕ
 turns_left [] f = rank f + 1
@@ -579,11 +550,11 @@ pub within : (j : Job) → IsLawfulJob j → j.number ≤ last_job
 within j lawful = let up = (and_parts (leb 1 j.number) (leb j.number last_job) (within_limits_of (fields_of j) lawful.limits).number).1 in leb-true j.number last_job up
 
 -- in a list with rising numbers, each job is found by its number
-each_found : (xs : List Job) → IsAscending (Below number_of) xs → AllByRecursion (λ (j : Job). find (λ (k : Job). k.number == j.number) xs ≡ Some j) xs
+each_found : (xs : List Job) → IsAscending Below xs → AllByRecursion (λ (j : Job). find (λ (k : Job). k.number == j.number) xs ≡ Some j) xs
 each_found [] up = tt
 each_found (x ∷ xs) up = (
   (let e : (x.number == x.number) ≡ true = grind (arith, nat_tests) in rw e),
-  all_both (Below number_of x) (λ (j : Job). find (λ (k : Job). k.number == j.number) xs ≡ Some j) (λ (j : Job). find (λ (k : Job). k.number == j.number) (x ∷ xs) ≡ Some j)
+  all_both (Below x) (λ (j : Job). find (λ (k : Job). k.number == j.number) xs ≡ Some j) (λ (j : Job). find (λ (k : Job). k.number == j.number) (x ∷ xs) ≡ Some j)
       (λ j low found. let e : (x.number == j.number) ≡ false = grind (arith, nat_tests) in rw (e, found)) xs up.0 (each_found xs up.1),
 )
 
@@ -604,3 +575,20 @@ module _ (db : Database) (m : Queue) (k : Ledger) (means : TablesMean db m k) (a
   given_there =
       of_all (λ (j : Job). job_numbered j.number m ≡ Some j)
       (All-from_recursion (λ (j : Job). job_numbered j.number m ≡ Some j) m.jobs (each_found m.jobs (rises db m k means asked.t)))
+
+-- ---- what a refusal leaves
+
+-- one that is passed on says nothing of an answer, and is for want of the store alone where that was
+module _ {S Z A : Type 0} (g : Ghosts S) {old new : Candidates S (IntoIter Row Z) Asked} {fault : StoreFault} (same : new.store.ghost_name ≡ old.store.ghost_name)
+    (asked : new.asked ≡ old.asked) (leaves : Looks g old.store.now new.store.now)
+    (why : (m : Queue) (k : Ledger) (given : List Job) → Means (shown_by g old.store.now) m k → Serves (shown_by g new.store.now)
+    → StandsAt old.asked m given (into_iter_items old.page) old.front old.most → fault ≡ Unavailable) where
+  pub advances_err : {Finds : Queue → List Job → A → Type 0} (result : Result A StoreFault) → IsErrAnd result (λ e. e ≡ fault) → Advances g old new result Finds
+  advances_err (Ok a) told = absurd told
+  advances_err (Err e) told = record { same_reference = same; leaves = leaves; opens = tt; asked = asked; found = λ m k given means s stands. told ∙ why m k given means s stands }
+
+  pub reaches_err : {IsEnd : A → Type 0} {Finds : Queue → List Job → A → Type 0} (result : Result A StoreFault) → IsErrAnd result (λ e. e ≡ fault)
+      → Reaches g old new result IsEnd Finds
+  reaches_err (Ok a) told = absurd told
+  reaches_err (Err e) told =
+      record { same_reference = same; leaves = leaves; opens = tt; none = tt; asked = asked; found = λ m k given means s stands. told ∙ why m k given means s stands }

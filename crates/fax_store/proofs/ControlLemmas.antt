@@ -58,10 +58,6 @@ module _ (old new : State) (sql : List ℕ) (command : Command) (is : IsControl 
     | inr (inr timed) ↦ timed.0 (known h.0 h.1).3
   ]
 
-  -- it shows no rows
-  hides : (c : Compiled) → IsControl sql command (Ok c) → shows_rows false c ≡ false
-  hides c h = rw (h.0, h.1, bare.0, bare.1) refl
-
   -- it changes nothing
   stays : (c : Compiled) → IsControl sql command (Ok c) → MayChange c → ⊥
   stays c h (inl write) = bare.2 (subst IsWrite h.0 write)
@@ -74,7 +70,8 @@ module _ (old new : State) (sql : List ℕ) (command : Command) (is : IsControl 
   fails e placed (inl (inr failed)) = failed.3
   fails e placed (inr ran) =
       let it = known ran.0 ran.1.is in
-      elim (rw (hides ran.0 it) at ran.2) [
+      let hides : shows_rows false ran.0 ≡ false = rw (it.0, it.1, bare.0, bare.1) refl in
+      elim (rw hides at ran.2) [
         | inl (inl misplaced, same) ↦ absurd (placed (subst (λ k. IsMisplaced old k e) it.0 misplaced))
         | inl (inr (changes, does), same) ↦ absurd (stays ran.0 it changes)
         | inr failed ↦ failed.3

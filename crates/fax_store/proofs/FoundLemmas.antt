@@ -9,6 +9,9 @@ use Rattle.sqlite.specs.State.{State, Shown, HasCleanDisk}
 use Rattle.sqlite.specs.declared.types.Value.{Value}
 use Rattle.sqlite.proofs.Callers.{reads_as}
 use Rattle.sqlite_rules.specs.Lists.{Has}
+use Rattle.sqlite_schema.specs.Rules.{agree}
+use Rattle.sqlite_value.specs.Keys.{first_key, plain}
+use Rattle.std.proofs.Math.Bool.{and-true}
 use Rattle.sqlite_sql.specs.Term.{Term}
 use Rattle.sqlite_trees.specs.Tree.{Trees}
 use Rattle.fax_schema.specs.Schema.{our_tables}
@@ -35,6 +38,11 @@ use Rattle.fax_store.proofs.FrameLemmas.{finds_as}
 pub with_id : (r : Row) (v : Value) (columns : Row) → drop 1 r ≡ v ∷ columns → r ≡ column r 0 ∷ v ∷ columns
 with_id [] v columns is = absurd cc
 with_id (id ∷ rest) v columns is = ap (λ r. id ∷ r) is
+
+-- two rows agree in one column where its values are equal
+pub agree_at : (at : ℕ) (r s : Row) → agree plain (at ∷ []) r (at ∷ []) s ≡ are_equal (column r at) (column s at)
+unfolding first_key
+agree_at at r s = and-true (are_equal (column r at) (column s at))
 
 module _ (sql : List ℕ) (tree : ℕ) (tests project : List Term) (names : List (List ℕ)) (selects : Selects sql tree tests project names) (plain : (trees : Trees) → overlay trees [] tree ≡ trees tree)
     (params : Row) (old new : State) (db : Database) (ours : db.schema ≡ our_tables) (now : old.now ≡ db) where

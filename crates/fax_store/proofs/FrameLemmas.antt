@@ -1,5 +1,5 @@
 -- What calls leave, one after the other.
-use Rattle.std.proofs.Common.{◌≡◌, ℕ, List, false, Ok, Err, Result, IfOk, OnOk, IsErr, IsErrAnd, is_err, subst, sym, ◌∙◌}
+use Rattle.std.proofs.Common.{◌≡◌, inl, MatchResult, ℕ, List, false, Ok, Err, Result, IfOk, OnOk, IsErr, IsErrAnd, is_err, refl, subst, sym, ◌∙◌, Bool}
 use Rattle.fax_store.proofs.StoreLemmas.{clean_in, served}
 use Rattle.fax_store.proofs.StatementLemmas.{left_open, run_open}
 use Rattle.std.specs.Prelude.{⊤}
@@ -10,6 +10,9 @@ use Rattle.sqlite.specs.declared.error.Error.{Error}
 use Rattle.sqlite_trees.specs.declared.store.Store.{Ghosts}
 use Rattle.fax_core.specs.Ledger.{Ledger}
 use Rattle.fax_core.specs.Queue.{Queue}
+use Rattle.sqlite.proofs.InsideLemmas.{unchanged_keeps}
+use Rattle.sqlite.specs.Effect.{Database}
+use Rattle.fax_store.specs.Adopt.{Tests}
 use Rattle.fax_store.specs.Calls.{Answers, Calls, Edits, Finds, Follows, Inserts, Looks, Makes, MakesIf, MakesIfWhere, MakesWhere, Runs, Tells, TellsLawful, Writes, WritesIf, WritesIfWhere, WritesWhere, shown, within}
 use Rattle.fax_store.specs.Work.{IsOnlyUnavailable, IsUnderWay, Moves, Steps, Works}
 use Rattle.fax_store.specs.Store.{CommitsNothing, HasRun, HasTables, Means, MeansNow, Reads, Serves, IsEditText, LeavesCommit}
@@ -49,6 +52,25 @@ module _ {S : Type 0} (g : Ghosts S) where
   pub finds_as : (old new : Store S) {A B : Type 0} (x : A) (result : Result B StoreFault) → Finds g old new (Ok x) → Finds g old new result
   finds_as old new x result finds =
       finds_by old new result finds.served finds.clean (on_any result finds.opens) (λ tables clean. reads_same (shown g old) (shown g new) result (finds.reads tables clean)) finds.crash
+
+  -- a test of what it reads is of the tables
+  pub tests_by : {X : Database → Type 0} {old new : Store S} {A : Type 0} {x : A} (result : Result (Unit {0}) StoreFault) → Finds g old new (Ok x)
+      → (HasTables (shown g old) → HasCleanDisk (shown g new) → MatchResult result (λ _. X (shown g old).now) (λ _. ¬ X (shown g old).now))
+      → Tests X (shown g old) (shown g new) result
+  tests_by (Ok a) finds told = record {
+    ours = λ tables clean. (told tables clean, finds.reads tables clean);
+    left = λ clean tables. tt;
+    clean = finds.clean;
+    crash = finds.crash;
+    strange = λ tables clean is. absurd (let no = is in cc);
+  }
+  tests_by {X} {old} {new} (Err e) finds told = record {
+    ours = λ tables clean. tt;
+    left = λ clean tables. unchanged_keeps (shown g old) (shown g new) (inl (finds.reads tables clean));
+    clean = finds.clean;
+    crash = finds.crash;
+    strange = λ tables clean is. told tables clean;
+  }
 
   -- it changes nothing
   pub looks_of : (old new : Store S) {A : Type 0} (result : Result A StoreFault) → Finds g old new result → Looks g old new
@@ -213,55 +235,65 @@ module _ {S : Type 0} (g : Ghosts S) where
     crash = withholds_then (within g old) (within g between) (within g new) _ first.crash next.crash;
   }
 
-  module _ (old new : Work S) {A : Type 0} (result : Result A StoreFault) (on : old.failed ≡ false) (failed : new.failed ≡ is_err result) where
-    -- a call of its store is one of the work
-    pub calls_by : new.store.ghost_name ≡ old.store.ghost_name → Runs g old.store.now new.store.now result → Calls g old new result
-    calls_by same runs = record {
-      same_reference = same;
+  -- the work, where its store became this one, and the call was refused or not
+  abbrev pub after : Work S → Store S → Bool → Work S
+  after old next failed = record { store = record old.store { now = next }; failed = failed }
+
+  -- where no call was refused before, a call of its store is one of the work
+  module _ {old : Work S} {next : Store S} {failed : Bool} {A : Type 0} {result : Result A StoreFault} (on : old.failed ≡ false) (fails : failed ≡ is_err result) where
+    pub calls_by : Runs g old.store.now next result → Calls g old (after old next failed) result
+    calls_by runs = record {
+      same_reference = refl;
       served = runs.served;
       clean = runs.clean;
-      holds = rw (on, failed) runs.holds;
-      crash = rw (on, failed) runs.crash;
-      fails = failed;
+      holds = rw (on, fails) runs.holds;
+      crash = rw (on, fails) runs.crash;
+      fails = fails;
       refused = λ was. absurd (false≢true (sym on ∙ was));
     }
 
     -- and so is a reading
-    pub tells_by : new.store.ghost_name ≡ old.store.ghost_name → (P : Queue → Ledger → A → Type 0) → Finds g old.store.now new.store.now result → Answers g old.store.now new.store.now result P → Tells g old new result P
-    tells_by same P finds answers = record {
-      leaves = calls_by same (runs_of finds);
-      keeps = rw (on, failed) (keeps_by (within g old) (within g new) finds.served result finds.reads P answers);
-      found = rw on (found_in (within g old) (within g new) finds.served result finds.reads P answers);
+    pub tells_by : {P : Queue → Ledger → A → Type 0} → Finds g old.store.now next result → Answers g old.store.now next result P → Tells g old (after old next failed) result P
+    tells_by {P} finds answers = record {
+      leaves = calls_by (runs_of finds);
+      keeps = rw (on, fails) (keeps_by (shown g old.store.now) (shown g next) finds.served result finds.reads);
+      found = rw on (found_in (shown g old.store.now) (shown g next) finds.served result finds.reads P answers);
     }
 
-    pub tells_lawful_by : new.store.ghost_name ≡ old.store.ghost_name → (P : Queue → Ledger → A → Type 0) (Lawful : A → Type 0) → Finds g old.store.now new.store.now result → Answers g old.store.now new.store.now result P → IfOk result Lawful
-        → TellsLawful g old new result P Lawful
-    tells_lawful_by same P Lawful finds answers lawful =
-        let tells = tells_by same P finds answers in
+    pub tells_lawful_by : {P : Queue → Ledger → A → Type 0} {Lawful : A → Type 0} → Finds g old.store.now next result → Answers g old.store.now next result P
+        → IfOk result Lawful → TellsLawful g old (after old next failed) result P Lawful
+    tells_lawful_by {P} {Lawful} finds answers lawful =
+        let tells = tells_by {P = P} finds answers in
         record { leaves = tells.leaves; keeps = tells.keeps; found = tells.found; lawful = lawful }
 
     -- and so is what the store makes within it
-    module _ (same : new.store.ghost_name ≡ old.store.ghost_name) where
-      pub makes_by : (f : Queue → Queue) (h : Ledger → Ledger) → Writes g old.store.now new.store.now result f h → Makes g old new result f h
-      makes_by f h writes = record { leaves = calls_by same writes.leaves; changes = rw (on, failed) (changes_by (within g old) (within g new) result f h writes.written); cause = writes.cause }
-
-      pub makes_where_by : (P : Queue → Type 0) (f : Queue → Queue) (h : Ledger → Ledger) → WritesWhere g old.store.now new.store.now result P f h → MakesWhere g old new result P f h
-      makes_where_by P f h writes = record {
-        leaves = calls_by same writes.leaves;
-        changes = rw (on, failed) (steps_where (within g old) (within g new) P result f h (λ m₀ m k₀ k p works s. moves_of (within g new) result m₀ (f m) k₀ (h k) (writes.written m₀ m k₀ k p works s)));
+    module _ {f : Queue → Queue} {h : Ledger → Ledger} where
+      pub makes_by : Writes g old.store.now next result f h → Makes g old (after old next failed) result f h
+      makes_by writes = record {
+        leaves = calls_by writes.leaves;
+        changes = rw (on, fails) (changes_by (shown g old.store.now) (shown g next) result f h writes.written);
         cause = writes.cause;
       }
 
-      pub makes_if_by : (Fit : Queue → Ledger → Type 0) (f : Queue → Queue) (h : Ledger → Ledger) → WritesIf g old.store.now new.store.now result Fit f h → MakesIf g old new result Fit f h
-      makes_if_by Fit f h writes = record {
-        leaves = calls_by same writes.leaves;
-        changes = rw (on, failed) (moved_by (within g old) (within g new) result f h writes.written);
-        cause = λ m₀ m k₀ k works s fits. writes.cause m₀ m k₀ k (subst (λ b. Works (within g old) b m₀ k₀ m k) on works) s fits;
+      pub makes_where_by : {P : Queue → Type 0} → WritesWhere g old.store.now next result P f h → MakesWhere g old (after old next failed) result P f h
+      makes_where_by {P} writes = record {
+        leaves = calls_by writes.leaves;
+        changes = rw (on, fails) (steps_where (shown g old.store.now) (shown g next) P result f h
+            (λ m₀ m k₀ k p works s. moves_of (shown g next) result m₀ (f m) k₀ (h k) (writes.written m₀ m k₀ k p works s)));
+        cause = writes.cause;
       }
 
-      pub makes_if_where_by : (P : Queue → Type 0) (Fit : Queue → Ledger → Type 0) (f : Queue → Queue) (h : Ledger → Ledger) → WritesIfWhere g old.store.now new.store.now result P Fit f h → MakesIfWhere g old new result P Fit f h
-      makes_if_where_by P Fit f h writes = record {
-        leaves = calls_by same writes.leaves;
-        changes = rw (on, failed) (steps_where (within g old) (within g new) P result f h writes.written);
-        cause = λ m₀ m k₀ k works s fits. writes.cause m₀ m k₀ k (subst (λ b. Works (within g old) b m₀ k₀ m k) on works) s fits;
+      pub makes_if_by : {Fit : Queue → Ledger → Type 0} → WritesIf g old.store.now next result Fit f h → MakesIf g old (after old next failed) result Fit f h
+      makes_if_by writes = record {
+        leaves = calls_by writes.leaves;
+        changes = rw (on, fails) (moved_by (shown g old.store.now) (shown g next) result f h writes.written);
+        cause = λ m₀ m k₀ k works s fits. writes.cause m₀ m k₀ k (subst (λ b. Works (shown g old.store.now) b m₀ k₀ m k) on works) s fits;
+      }
+
+      pub makes_if_where_by : {P : Queue → Type 0} {Fit : Queue → Ledger → Type 0} → WritesIfWhere g old.store.now next result P Fit f h
+          → MakesIfWhere g old (after old next failed) result P Fit f h
+      makes_if_where_by {P} writes = record {
+        leaves = calls_by writes.leaves;
+        changes = rw (on, fails) (steps_where (shown g old.store.now) (shown g next) P result f h writes.written);
+        cause = λ m₀ m k₀ k works s fits. writes.cause m₀ m k₀ k (subst (λ b. Works (shown g old.store.now) b m₀ k₀ m k) on works) s fits;
       }

@@ -1,5 +1,5 @@
 -- What the texts on grants and holds read and write.
-use Rattle.std.proofs.Common.{◌≡◌, ℕ, [], ◌∷◌, Option, Some, None, drop, refl, ◌≤◌, inl, inr, ℤ, pos, List, ◌++◌, map, filter, Bool, true, false, not, ◌&&◌, Err, if◌then◌else◌, IsTrue, cond, sym, ap, ap₂, subst, ◌∙◌, ◌+◌, ◌-◌, arith}
+use Rattle.std.proofs.Common.{◌≡◌, ℕ, [], ◌∷◌, Option, Some, None, drop, refl, ◌≤◌, inl, inr, pos, List, ◌++◌, map, filter, Bool, true, false, not, ◌&&◌, Err, if◌then◌else◌, IsTrue, cond, sym, ap, ap₂, subst, ◌∙◌, ◌+◌, ◌-◌, arith}
 use Rattle.std.specs.Option.{option_map}
 use Rattle.std.specs.Prelude.{◌==◌, find}
 use Rattle.sqlite.specs.Effect.{Database, IsDatabase}
@@ -21,11 +21,10 @@ use Rattle.fax_store.specs.declared.store.Store.{Store}
 use Rattle.fax_tables.specs.Tables.{IsLawfulGrant, TablesMean, HaveJobs}
 use Rattle.fax_schema.proofs.CompareLemmas.{number_same, are_equal, equal_texts, is_number, same_row, cast_int, cast_null, compared}
 use Rattle.fax_schema.proofs.GrantTexts.{grant_names, grant_tests, grant_project, select_grant, grant_terms, report_project, shut_project, held_tests, hold_terms, insert_grant, insert_hold, update_report, shut_grant, delete_hold, hold_tests, hold_project, select_hold}
-use Rattle.fax_store.proofs.FoundLemmas.{none_keyed, one_numbered, Keys, key_of, one_passes, none_passes, row_passes, with_id}
+use Rattle.fax_store.proofs.FoundLemmas.{agree_at, none_keyed, one_numbered, Keys, key_of, one_passes, none_passes, row_passes, with_id}
 use Rattle.fax_tables.proofs.KeyLemmas.{found_holds, numbered_found, only_numbered, asked_is, not_asked, row_placed, all_placed, placed_permuted, free_of}
 use Rattle.fax_schema.proofs.SelectLemmas.{passes, show, answers}
 use Rattle.std.proofs.lemmas.Option.{same_Some}
-use Rattle.std.proofs.lemmas.List.{map-id}
 use Rattle.std.proofs.Math.Bool.{and-true}
 use Rattle.std.specs.List.Sorted.{IsPermutation}
 use Rattle.std.proofs.lemmas.Bool.{cases_Bool, eqb-true, eq-eqb, false_from_ne_true, cond_both, and_parts, both_ways, not-true}
@@ -34,7 +33,7 @@ use Rattle.sqlite.specs.Cast.{cast_row}
 use Rattle.sqlite.specs.Edit.{is_taken, with_rowid, next_rowid}
 use Rattle.sqlite.specs.Rowids.TheVariants.{Chosen}
 use Rattle.sqlite.specs.Tree.{rowid, put_row, IsTable}
-use Rattle.sqlite.specs.declared.types.Value.TheVariants.{Null, Int, Text, Real, Blob}
+use Rattle.sqlite.specs.declared.types.Value.TheVariants.{Null, Int, Text}
 use Rattle.sqlite_rules.specs.Lists.{Has}
 use Rattle.sqlite_rules.proofs.ListLemmas.{has_filtered, has_found, has_kept, all_has}
 use Rattle.sqlite_trees.proofs.ListLemmas.{IsPermutation-filter, filter_same, all_of}
@@ -46,7 +45,7 @@ use Rattle.fax_schema.specs.Schema as schema
 use Rattle.fax_schema.specs.ByRowid.{IsByRowid}
 use Rattle.fax_schema.proofs.AppendLemmas.{appended}
 use Rattle.fax_store.proofs.JobLemmas.{all_mapped}
-use Rattle.fax_store.proofs.CountLemmas.{calls_reported, closed_count, has_placed, jobs_reported, jobs_shut, one, one_less, one_more, placed_count, shut as shut_at}
+use Rattle.fax_store.proofs.CountLemmas.{calls_reported, closed_count, has_placed, jobs_reported, jobs_shut, one, one_less, one_more, placed_count, shut as shut_at, unmoved}
 use Rattle.fax_schema.proofs.ColumnLemmas.{kept_permuted, record_of, all_kept, row_of}
 use Rattle.fax_tables.proofs.FreeLemmas.{free_row, none_found}
 use Rattle.fax_tables.proofs.RefusalLemmas.{no_rule_broken}
@@ -54,12 +53,12 @@ use Rattle.fax_tables.proofs.StandLemmas.{hold_may, grant_may}
 use Rattle.fax_tables.specs.Fault.{fault_of}
 use Rattle.fax_tables.specs.declared.fault.StoreFault.TheVariants.{Unavailable}
 use Rattle.sqlite.specs.declared.error.Error.{Error}
-use Rattle.sqlite_schema.specs.Rules.{agree, Keeps, equal, clashes}
-use Rattle.sqlite_value.specs.Keys.{first_key, plain}
+use Rattle.sqlite_schema.specs.Rules.{Keeps, equal, clashes}
+use Rattle.sqlite_value.specs.Keys.{plain}
 use Rattle.std.specs.Str.{bytes_eq}
 use Rattle.fax_tables.proofs.TablesLemmas.{AreRecords, AreHeld, Parts, grants, holds, parts_of, means_of, calls_as, calls_changed, calls_of, held_as, grants_changed, holds_changed, by_rowid_put}
 use Rattle.fax_schema.proofs.UpdateLemmas.{gone_project, updated, deleted}
-use Rattle.fax_schema.proofs.WriteLemmas.{KeepsOthers, InsertsRow, unreferred, inserts}
+use Rattle.fax_schema.proofs.WriteLemmas.{KeepsOthers, unreferred, inserts}
 use Rattle.fax_store.proofs.KeptLemmas.{find_none, find_some, one_row}
 use Rattle.std.specs.Ordering.{is_eq, nat_cmp}
 use Rattle.std.proofs.lemmas.Slice.Eq.{bytes_eq-Decides}
@@ -131,17 +130,12 @@ module _ (g : Grant) where
   open_row is_open = rw is_open refl
 
   module _ (old mid : State) (m : Queue) (k : Ledger) (means : TablesMean old.now m k) where
-    -- the text that holds inserts the grant's hold, with the next rowid
-    hold_inserted : HasRun INSERT_HOLD.now hold_params old mid → InsertsRow our_tables holds_tree old mid (Int (next_rowid (old.now.trees holds_tree)) ∷ hold_columns g)
-    hold_inserted h =
-        let ran = runs_as INSERT_HOLD.now hold_params old mid our_tables means.schema _ insert_hold.is insert_hold.plain h.0 h.1 in
-        inserts our_tables unreferred schema.holds.name 2 schema.holds.columns schema.holds.key schema.holds.primary schema.holds.uniques schema.holds.orders schema.holds.checks 2 refl old mid means.schema hold_params _ h.0
-        hold_terms 4 (Null ∷ hold_columns g) (Int (next_rowid (old.now.trees holds_tree)) ∷ hold_columns g) refl (ap (with_rowid Chosen (old.now.trees holds_tree)) stored_hold) ran
-
-    -- its modem and its job hold it, and it is to be put yet
+    -- the text that holds inserts the grant's hold, with the next rowid: its modem and its job hold it, and it is to be put yet
     held : HasRun INSERT_HOLD.now hold_params old mid → Parts mid.now m (g ∷ open_grants m) (calls_of m) k
     held h =
-        let done = hold_inserted h in
+        let ran = runs_as INSERT_HOLD.now hold_params old mid our_tables means.schema _ insert_hold.is insert_hold.plain h.0 h.1 in
+        let done = inserts our_tables unreferred schema.holds.name 2 schema.holds.columns schema.holds.key schema.holds.primary schema.holds.uniques schema.holds.orders schema.holds.checks 2 refl old mid means.schema hold_params _ h.0
+        hold_terms 4 (Null ∷ hold_columns g) (Int (next_rowid (old.now.trees holds_tree)) ∷ hold_columns g) refl (ap (with_rowid Chosen (old.now.trees holds_tree)) stored_hold) ran in
         let by = means.ordered.holds in
         let columns = map (drop 1) (old.now.trees holds_tree) in
         let more : IsPermutation (hold_columns g ∷ map hold_columns (open_grants m)) (columns ++ hold_columns g ∷ []) =
@@ -175,29 +169,21 @@ module _ (g : Grant) where
         } in
         held_as new.now (with_placed g m) (g ∷ open_grants m) (open_grants (with_placed g m)) (calls_of m) k stand after
 
-    -- the row of a hold agrees with the new one where modem, job or grant is the same
-    modem_agrees : (r : Row) (h : Grant) (id : ℤ) → drop 1 r ≡ hold_columns h → agree plain (1 ∷ []) r (1 ∷ []) (Int id ∷ hold_columns g) ≡ bytes_eq h.modem g.modem
-    unfolding first_key
-    modem_agrees r h id is = ap (λ r. agree plain (1 ∷ []) r (1 ∷ []) (Int id ∷ hold_columns g)) (with_id r _ _ is) ∙ and-true (are_equal (Text h.modem) (Text g.modem)) ∙ equal_texts h.modem g.modem
-
-    job_agrees : (r : Row) (h : Grant) (id : ℤ) → drop 1 r ≡ hold_columns h → agree plain (2 ∷ []) r (2 ∷ []) (Int id ∷ hold_columns g) ≡ (h.job == g.job)
-    unfolding first_key
-    job_agrees r h id is = ap (λ r. agree plain (2 ∷ []) r (2 ∷ []) (Int id ∷ hold_columns g)) (with_id r _ _ is) ∙ and-true (are_equal (number h.job) (number g.job)) ∙ is_number h.job g.job
-
-    number_agrees : (r : Row) (h : Grant) (id : ℤ) → drop 1 r ≡ hold_columns h → agree plain (3 ∷ []) r (3 ∷ []) (Int id ∷ hold_columns g) ≡ (h.number == g.number)
-    unfolding first_key
-    number_agrees r h id is = ap (λ r. agree plain (3 ∷ []) r (3 ∷ []) (Int id ∷ hold_columns g)) (with_id r _ _ is) ∙ and-true (are_equal (number h.number) (number g.number)) ∙ is_number h.number g.number
-
     -- a hold of a modem and a job that hold none breaks no rule
     pub hold_goes : IsNewGrant g m → (e : Error) → Executes INSERT_HOLD.now hold_params old mid (Err e) → fault_of e ≡ Unavailable
     hold_goes free =
         let rows = old.now.trees holds_tree in
         let id = next_rowid rows in
         let by = λ (r : Row) (has : Has rows r). record_of hold_columns rows (open_grants m) means.holds r has in
+        let same_at = λ (at : ℕ) (r : Row) (h : Grant) (is : drop 1 r ≡ hold_columns h). agree_at at r (Int id ∷ hold_columns g)
+        ∙ ap (λ r. are_equal (column r at) (column (Int id ∷ hold_columns g) at)) (with_id r _ _ is) in
         let may = hold_may old.now means.schema means.sound g means.ordered.holds
-        (λ r has. let it = by r has in modem_agrees r it.0 id it.2 ∙ none_found (λ (h : Grant). bytes_eq h.modem g.modem) (open_grants m) it.0 free.modem it.1)
-        (λ r has. let it = by r has in job_agrees r it.0 id it.2 ∙ false_from_ne_true _ (λ same. free.job it.0 it.1 (eqb-true it.0.job g.job same)))
-        (λ r has. let it = by r has in number_agrees r it.0 id it.2 ∙ none_found (λ (h : Grant). h.number == g.number) m.grants it.0 free.number (has_filtered (λ (h : Grant). h.is_open) m.grants it.0 it.1).0) in
+        (λ r has. let it = by r has in same_at 1 r it.0 it.2 ∙ equal_texts it.0.modem g.modem
+        ∙ none_found (λ (h : Grant). bytes_eq h.modem g.modem) (open_grants m) it.0 free.modem it.1)
+        (λ r has. let it = by r has in same_at 2 r it.0 it.2 ∙ is_number it.0.job g.job
+        ∙ false_from_ne_true _ (λ same. free.job it.0 it.1 (eqb-true it.0.job g.job same)))
+        (λ r has. let it = by r has in same_at 3 r it.0 it.2 ∙ is_number it.0.number g.number
+        ∙ none_found (λ (h : Grant). h.number == g.number) m.grants it.0 free.number (has_filtered (λ (h : Grant). h.is_open) m.grants it.0 it.1).0) in
         no_rule_broken schema.holds.name 2 schema.holds.columns schema.holds.key schema.holds.primary schema.holds.uniques schema.holds.orders schema.holds.checks 2 refl old means.schema hold_params hold_terms 4 (Null ∷ hold_columns g)
         (Int id ∷ hold_columns g) refl (ap (with_rowid Chosen rows) stored_hold) may INSERT_HOLD.now insert_hold mid
 
@@ -349,8 +335,8 @@ module _ (n : ℕ) where
     -- shutting each grant of the number shuts the one that the number finds, if any
     closed_by : (o : Option Grant) → grant_numbered n m ≡ o → map shut m.grants ≡ (with_shut o m).grants
     closed_by None none =
-        map_same shut (λ x. x) m.grants (λ x has. cond_both (x.number == n) (closed x) x (λ y. y ≡ x)
-        (λ here. absurd (let no = sym none ∙ only x has (eqb-true x.number n here) in cc)) (λ _. refl)) ∙ map-id m.grants
+        unmoved shut m.grants (λ x has. cond_both (x.number == n) (closed x) x (λ y. y ≡ x)
+        (λ here. absurd (let no = sym none ∙ only x has (eqb-true x.number n here) in cc)) (λ _. refl))
     closed_by (Some g) its =
         let is = eqb-true g.number n (has_found (λ (y : Grant). y.number == n) m.grants g its).1 in
         map_same shut (λ x. if x.number == g.number then closed g else x) m.grants (λ x has.
@@ -373,30 +359,26 @@ module _ (n : ℕ) where
   after m = record m { grants = map shut m.grants }
 
   module _ (old mid new : State) (m : Queue) (k : Ledger) (means : TablesMean old.now m k) where
-    -- the text that shuts a grant touches grants alone, and shuts the one of the number
-    grants_shut : HasRun SHUT_GRANT.now close_params old mid → KeepsOthers our_tables grants_tree old mid × AreRecords grant_row IsLawfulGrant (mid.now.trees grants_tree) (map shut m.grants)
-    grants_shut h =
-        let is_one = asked_is grant_row (λ (y : Grant). y.number) (λ y. refl) n (passes grants_tree grant_tests shut_project close_params) (λ r. refl) in
-        let is_other = not_asked grant_row (λ (y : Grant). y.number) (λ y. refl) n (passes grants_tree grant_tests shut_project close_params) (λ r. refl) in
-        let ran = runs_as SHUT_GRANT.now close_params old mid our_tables means.schema _ shut_grant.is shut_grant.plain h.0 h.1 in
-        let done = updated schema.grants.name 1 schema.grants.columns schema.grants.key schema.grants.primary schema.grants.uniques schema.grants.orders schema.grants.checks 1 refl old mid means.schema refl means.ordered.grants
-        grant_tests shut_project close_params (λ r. refl) _ h.0 grant_row shut m.grants means.grants
-        (λ x. cond_both (x.number == n) (closed x) x (λ y. rowid (grant_row y) ≡ rowid (grant_row x)) (λ _. refl) (λ _. refl))
-        (λ x has on. stored_grant (closed x) ∙ rw (eq-eqb x.number n (is_one x on)) refl)
-        (λ x has off. rw (is_other x off) refl)
-        ran in
-        (done.0, record { is = done.1; ordered = done.2; lawful = all_mapped IsLawfulGrant shut m.grants (λ x has. shut_lawful x) means.lawful.grants })
-
     -- a hold passes where its grant is the one of this number
     is_held : (r : Row) → passes holds_tree held_tests gone_project close_params r ≡ (are_equal (column (drop 1 r) 2) (number n) && true)
     is_held [] = refl
     is_held (v ∷ r) = refl
 
-    -- the grant is shut and held no more, and its call is to be taken off yet
+    -- the text that shuts a grant shuts the one of the number; it is held no more, and its call is to be taken off yet
     pub grant_closed : HasRun SHUT_GRANT.now close_params old mid → HasRun DELETE_HOLD.now close_params mid new → Parts new.now (after m) (open_grants (after m)) (calls_of m) k
     grant_closed h more =
-        let first = grants_shut h in
-        let was = grants_changed old mid m (open_grants m) (calls_of m) k (parts_of old.now m k means) first.0 (map shut m.grants) first.1 in
+        let is_one = asked_is grant_row (λ (y : Grant). y.number) (λ y. refl) n (passes grants_tree grant_tests shut_project close_params) (λ r. refl) in
+        let is_other = not_asked grant_row (λ (y : Grant). y.number) (λ y. refl) n (passes grants_tree grant_tests shut_project close_params) (λ r. refl) in
+        let shuts = runs_as SHUT_GRANT.now close_params old mid our_tables means.schema _ shut_grant.is shut_grant.plain h.0 h.1 in
+        let first = updated schema.grants.name 1 schema.grants.columns schema.grants.key schema.grants.primary schema.grants.uniques schema.grants.orders schema.grants.checks 1 refl old mid means.schema refl means.ordered.grants
+        grant_tests shut_project close_params (λ r. refl) _ h.0 grant_row shut m.grants means.grants
+        (λ x. cond_both (x.number == n) (closed x) x (λ y. rowid (grant_row y) ≡ rowid (grant_row x)) (λ _. refl) (λ _. refl))
+        (λ x has on. stored_grant (closed x) ∙ rw (eq-eqb x.number n (is_one x on)) refl)
+        (λ x has off. rw (is_other x off) refl)
+        shuts in
+        let now_shut : AreRecords grant_row IsLawfulGrant (mid.now.trees grants_tree) (map shut m.grants) =
+        record { is = first.1; ordered = first.2; lawful = all_mapped IsLawfulGrant shut m.grants (λ x has. shut_lawful x) means.lawful.grants } in
+        let was = grants_changed old mid m (open_grants m) (calls_of m) k (parts_of old.now m k means) first.0 (map shut m.grants) now_shut in
         let ran = runs_as DELETE_HOLD.now close_params mid new our_tables was.schema _ delete_hold.is delete_hold.plain more.0 more.1 in
         let done = deleted schema.holds.name 2 schema.holds.columns schema.holds.key schema.holds.primary schema.holds.uniques schema.holds.orders schema.holds.checks 2 refl mid new was.schema refl (was.says holds).ordered
         held_tests gone_project close_params (λ r. refl) _ more.0 ran in
@@ -430,7 +412,7 @@ module _ (n : ℕ) where
 
 -- a grant that is open no more changes nothing where it is closed
 pub closed_already : (n : ℕ) (g : Grant) (m : Queue) → IsTable (map grant_row m.grants) → grant_numbered n m ≡ Some g → g.is_open ≡ false → with_closed n m ≡ m
-closed_already n g m rise found off = sym (closed_is n m rise) ∙ ap (λ gs. record m { grants = gs }) (map_same (shut_at n) (λ x. x) m.grants each ∙ map-id m.grants)
+closed_already n g m rise found off = sym (closed_is n m rise) ∙ ap (λ gs. record m { grants = gs }) (unmoved (shut_at n) m.grants each)
   where
     each : (x : Grant) → Has m.grants x → shut_at n x ≡ x
     each x has = cond_both (x.number == n) (closed n x) x (λ y. y ≡ x)
@@ -468,10 +450,8 @@ class_apart v t whole apart other = compared Eq v (Text t) whole refl ∙ ap is_
 -- only the text itself is
 pub text_same : (v : Value) (t : List ℕ) → are_equal v (Text t) ≡ true → v ≡ Text t
 text_same Null t h = absurd (both_ways _ (null_apart t) h)
-text_same (Int n) t h = absurd (both_ways _ (class_apart (Int n) t refl (λ e. omega arith) refl) h)
-text_same (Real x) t h = absurd (both_ways _ (class_apart (Real x) t refl (λ e. omega arith) refl) h)
 text_same (Text s) t h = ap Text ((bytes_eq-Decides s t).0 (sym (equal_texts s t) ∙ h))
-text_same (Blob b) t h = absurd (both_ways _ (class_apart (Blob b) t refl (λ e. omega arith) refl) h)
+text_same other t h = absurd (both_ways _ (class_apart other t refl (λ e. omega arith) refl) h)
 
 module _ (modem : List ℕ) where
   abbrev pub modem_params : Row

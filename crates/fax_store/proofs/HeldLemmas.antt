@@ -18,7 +18,7 @@ use Rattle.sqlite.specs.Query.{IsAnswer, output, Output, or_nulls}
 use Rattle.sqlite.specs.State.{State, Shown}
 use Rattle.sqlite.specs.Tree.{IsTable}
 use Rattle.sqlite.specs.declared.types.Value.{Value}
-use Rattle.sqlite.specs.declared.types.Value.TheVariants.{Null, Int, Real, Text, Blob}
+use Rattle.sqlite.specs.declared.types.Value.TheVariants.{Null, Text}
 use Rattle.sqlite.proofs.Callers.{reads_as}
 use Rattle.sqlite_rules.specs.Lists.{Has}
 use Rattle.sqlite_rules.proofs.ProbeLemmas.{mapped_has}
@@ -82,10 +82,7 @@ lost_value v = is_true (binary (Is Binary) v Null)
 is_lost : (v : Value) → lost_value v ≡ is_null v
 unfolding binary value_cmp lib.Ieee.is_nan lib.Ieee.lt
 is_lost Null = refl
-is_lost (Int n) = refl
-is_lost (Real x) = refl
-is_lost (Text t) = refl
-is_lost (Blob b) = refl
+is_lost _ = refl
 
 -- what SQL finds equal to a value is not NULL
 not_lost : (a b : Value) → are_equal a b ≡ true → is_null a ≡ false

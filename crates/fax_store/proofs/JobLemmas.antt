@@ -41,9 +41,9 @@ use Rattle.sqlite.specs.declared.error.Error.{Error}
 use Rattle.fax_store.proofs.FoundLemmas.{Keys, none_keyed, one_numbered}
 use Rattle.fax_tables.proofs.KeyLemmas.{found_holds, numbered_found, free_of, row_placed, all_placed, only_numbered, asked_is, not_asked}
 use Rattle.fax_tables.proofs.TablesLemmas.{AreRecords, row_of, parts_of, means_of, calls_as, calls_of, jobs_changed, by_rowid_put}
-use Rattle.fax_store.proofs.CountLemmas.{calls_placed, jobs_placed, calls_mapped, jobs_mapped}
+use Rattle.fax_store.proofs.CountLemmas.{calls_placed, jobs_placed, calls_mapped, jobs_mapped, unmoved}
 use Rattle.fax_tables.proofs.RowLemmas.{sent_low, change_params}
-use Rattle.fax_schema.proofs.WriteLemmas.{KeepsOthers, InsertsRow, unreferred, inserts}
+use Rattle.fax_schema.proofs.WriteLemmas.{KeepsOthers, unreferred, inserts}
 use Rattle.fax_schema.proofs.SelectLemmas.{passes, show, answers}
 use Rattle.fax_schema.proofs.StatementForms.{Selects}
 use Rattle.sqlite_sql.specs.Term.{Term}
@@ -57,7 +57,7 @@ use Rattle.sqlite_rules.proofs.ProbeLemmas.{mapped_has}
 use Rattle.fax_core.specs.Ageing.{aged_job, expires, is_past}
 use Rattle.fax_value.specs.Status.{kill_time_expired}
 use Rattle.fax_job.specs.declared.job.Phase.{Phase}
-use Rattle.fax_job.specs.declared.job.Phase.TheVariants.{Held, Waiting, Granted, Done, Failed}
+use Rattle.fax_job.specs.declared.job.Phase.TheVariants.{Held, Waiting, Failed}
 use Rattle.fax_value.specs.Dial.{IsCanonical}
 use Rattle.fax_value.specs.JobTag.{IsJobTag}
 use Rattle.fax_value.specs.Name.{IsName}
@@ -152,17 +152,12 @@ stored_job f =
     (same_row (n _) (same_row (n _) (same_row (n _) (same_row (n _) (same_row (n _) (same_row (n _) refl))))))))))))))))))))
 
 module _ (old new : State) (m : Queue) (k : Ledger) (means : TablesMean old.now m k) (f : JobFields) where
-  -- the text that adds a job inserts its row
-  inserted : HasRun INSERT_JOB.now (job_shown f) old new → InsertsRow our_tables jobs_tree old new (job_row f)
-  inserted h =
-      let ran = runs_as INSERT_JOB.now (job_shown f) old new our_tables means.schema _ insert_job.is insert_job.plain h.0 h.1 in
-      inserts our_tables unreferred schema.jobs.name 0 schema.jobs.columns schema.jobs.key schema.jobs.primary schema.jobs.uniques schema.jobs.orders schema.jobs.checks 0 refl old new means.schema (job_shown f) _ h.0
-      job_terms 21 (job_row f) (job_row f) refl (ap (with_rowid Chosen (old.now.trees jobs_tree)) (stored_job f)) ran
-
-  -- the text that adds a lawful job puts it into the queue, and touches jobs alone
+  -- the text that adds a lawful job inserts its row: it puts the job into the queue, and touches jobs alone
   pub job_put : IsLawfulJob (job_of f) → HasRun INSERT_JOB.now (job_shown f) old new → TablesMean new.now (with_placed (job_of f) m) k × KeepsOthers our_tables jobs_tree old new
   job_put lawful h =
-      let done = inserted h in
+      let ran = runs_as INSERT_JOB.now (job_shown f) old new our_tables means.schema _ insert_job.is insert_job.plain h.0 h.1 in
+      let done = inserts our_tables unreferred schema.jobs.name 0 schema.jobs.columns schema.jobs.key schema.jobs.primary schema.jobs.uniques schema.jobs.orders schema.jobs.checks 0 refl old new means.schema (job_shown f) _ h.0
+      job_terms 21 (job_row f) (job_row f) refl (ap (with_rowid Chosen (old.now.trees jobs_tree)) (stored_job f)) ran in
       let row : row_of (job_of f) ≡ job_row f = ap job_row (fields_back f) in
       let free : is_taken (map row_of m.jobs) (row_of (job_of f)) ≡ false =
       subst (λ r. is_taken (map row_of m.jobs) r ≡ false) (sym row) (subst (λ rows. is_taken rows (job_row f) ≡ false) means.jobs (free_of (old.now.trees jobs_tree) (job_row f) done.fresh)) in
@@ -340,11 +335,6 @@ module _ (phase : Phase) (t : ℕ) where
     pages = was.pages;
   }) (λ _. was)
 
-  -- where none expires, the jobs stay
-  unmoved : (xs : List Job) → ((x : Job) → Has xs x → expires_here x ≡ false) → map (expired_in phase t) xs ≡ xs
-  unmoved [] none = refl
-  unmoved (x ∷ xs) none = ap₂ ◌∷◌ (rw (none x (inl refl)) refl) (unmoved xs (λ y has. none y (inr has)))
-
   module _ (old new : State) (m : Queue) (k : Ledger) (means : TablesMean old.now m k) where
     -- where no row is shown, no job expires
     pub none_expired : (found : Option Row) → FindsRow SELECT_EXPIRED.now expired_params old new found → is_some found ≡ false → with_expired_in phase t m ≡ m
@@ -353,8 +343,8 @@ module _ (phase : Phase) (t : ℕ) where
         let shown = show jobs_tree expired_tests killtime_project expired_params in
         let rows = answers jobs_tree expired_tests killtime_project expired_params old.now (old.now.trees jobs_tree) refl [] h.0
         (reads_as SELECT_EXPIRED.now expired_params old new our_tables means.schema _ select_expired.command select_expired.plain select_expired.unlisted h.0 h.1) in
-        ap (λ jobs. record m { jobs = jobs }) (unmoved m.jobs (λ x has.
-        sym (expiring x) ∙ none_shown is_asked shown (old.now.trees jobs_tree) h.0 rows h.2 (row_of x) (subst (λ table. Has table (row_of x)) (sym means.jobs) (mapped_has row_of m.jobs x has))))
+        ap (λ jobs. record m { jobs = jobs }) (unmoved (expired_in phase t) m.jobs (λ x has. rw (sym (expiring x) ∙ none_shown is_asked shown (old.now.trees jobs_tree) h.0 rows h.2 (row_of x)
+        (subst (λ table. Has table (row_of x)) (sym means.jobs) (mapped_has row_of m.jobs x has))) refl))
     none_expired (Some row) h e = absurd cc
 
     -- the text that expires jobs of a phase does so to each, and touches jobs alone
@@ -381,10 +371,7 @@ module _ (phase : Phase) (t : ℕ) where
 either : (phase : Phase) (past : Bool) → (expires phase && past) ≡ ((phase_number phase == 0 && past) || (phase_number phase == 1 && past))
 either Held true = refl
 either Held false = refl
-either Waiting past = refl
-either Granted past = refl
-either Done past = refl
-either Failed past = refl
+either _ past = refl
 
 -- expired while held and then while it waits, a job has aged by the moment
 expired_once : (t : ℕ) (j : Job) → expired_in Waiting t (expired_in Held t j) ≡ aged_job t j

@@ -51,7 +51,7 @@ use Rattle.sqlite.specs.declared.error.Error.{Error}
 use Rattle.fax_schema.proofs.SelectLemmas.{passes, show}
 use Rattle.fax_store.proofs.FoundLemmas.{none_passes, row_passes, with_id}
 use Rattle.fax_schema.proofs.StatementTexts.{reply_tests, reply_project, reply_terms, select_reply, insert_reply}
-use Rattle.fax_schema.proofs.WriteLemmas.{KeepsOthers, InsertsRow, unreferred, inserts}
+use Rattle.fax_schema.proofs.WriteLemmas.{KeepsOthers, unreferred, inserts}
 use Rattle.fax_tables.proofs.TablesLemmas.{replies, parts_of, means_of, calls_of, replies_changed, one_more}
 use Rattle.sqlite.specs.Cast.{cast_row}
 use Rattle.sqlite.specs.Edit.{with_rowid, next_rowid}
@@ -132,10 +132,6 @@ find_some q (y ∷ ys) x has on = elim (cases_Bool (q y)) [
 abbrev is_of : List ℕ → ℕ → Entry → Bool
 is_of client n e = bytes_eq e.client client && eqb e.number n
 
--- an entry of the client and number passes the test for it
-of_entry : (client : List ℕ) (n : ℕ) (e : Entry) → IsOf client n e → is_of client n e ≡ true
-of_entry client n e of = and_from (bytes_eq e.client client) (eqb e.number n) ((bytes_decides e.client client).1 of.client_is) (eq-eqb e.number n of.number_is)
-
 -- an entry that passes it is of the client and number
 entry_of : (client : List ℕ) (n : ℕ) (e : Entry) → is_of client n e ≡ true → IsOf client n e
 entry_of client n e is = let parts = and_parts (bytes_eq e.client client) (eqb e.number n) is in record { client_is = (bytes_decides e.client client).0 parts.0; number_is = eqb-true e.number n parts.1 }
@@ -147,7 +143,8 @@ none_kept client n k off = find_none (is_of client n) k (λ e has. false_from_ne
 -- where an entry is of them, and each is kept once, it is found
 pub one_kept : (client : List ℕ) (n : ℕ) (k : List Entry) (e : Entry) → AreKeptOnce k → Has k e → IsOf client n e → kept_for client n k ≡ Some e
 one_kept client n k e once has of =
-    let it = find_some (is_of client n) k e has (of_entry client n e of) in
+    let it = find_some (is_of client n) k e has
+    (and_from (bytes_eq e.client client) (eqb e.number n) ((bytes_decides e.client client).1 of.client_is) (eq-eqb e.number n of.number_is)) in
     let found = has_found (is_of client n) k it.0 it.1 in
     it.1 ∙ ap Some (once client n it.0 e found.0 has (entry_of client n it.0 found.1) of)
 
@@ -176,17 +173,14 @@ module _ (client : List ℕ) (n : ℕ) where
       let numbers : are_equal (number n) (number n) ≡ true = number_same n in
       rw (texts, numbers) refl
 
-  -- so does that of the entry
-  asked_for : (r : Row) (e : Entry) → drop 1 r ≡ entry_columns e → IsOf client n e → is_asked r ≡ true
-  asked_for r e h of = ap is_asked (with_id r _ _ h) ∙ rw (of.client_is, of.number_is) (key_passes (column r 0) (Blob e.said) (number e.status) (Blob e.body))
-
   module _ (old new : State) (m : Queue) (k : Ledger) (means : TablesMean old.now m k) where
     -- what the text on a reply finds is an entry of the client and number; where it finds nothing, there is none
     pub reply_found : (found : Option Row) → FindsRow SELECT_REPLY.now params old new found
         → MatchOption found ((e : Entry) → Has k.replies e → ¬ IsOf client n e) (λ row. (e : Entry) × Has k.replies e × IsOf client n e × (row ≡ entry_shown e))
     reply_found None h = λ e has of.
         let it = row_of entry_columns (old.now.trees replies_tree) k.replies (IsPermutation-same _ _ (sym means.replies)) e has in
-        both_ways _ (none_passes SELECT_REPLY.now replies_tree reply_tests reply_project _ select_reply (λ trees. refl) params old new old.now means.schema refl h it.0 it.1) (asked_for it.0 e it.2 of)
+        both_ways _ (none_passes SELECT_REPLY.now replies_tree reply_tests reply_project _ select_reply (λ trees. refl) params old new old.now means.schema refl h it.0 it.1)
+        (ap is_asked (with_id it.0 _ _ it.2) ∙ rw (of.client_is, of.number_is) (key_passes (column it.0 0) (Blob e.said) (number e.status) (Blob e.body)))
     reply_found (Some row) h =
         let shown = row_passes SELECT_REPLY.now replies_tree reply_tests reply_project _ select_reply (λ trees. refl) params old new old.now means.schema refl
         row h in
@@ -214,17 +208,12 @@ module _ (old new : State) (m : Queue) (k : Ledger) (means : TablesMean old.now 
   abbrev new_reply : Row
   new_reply = Int (next_rowid (old.now.trees replies_tree)) ∷ entry_columns e
 
-  -- the text that keeps a reply inserts its row, with the next rowid
-  inserted : HasRun INSERT_REPLY.now reply_params old new → InsertsRow our_tables replies_tree old new new_reply
-  inserted h =
-      let ran = runs_as INSERT_REPLY.now reply_params old new our_tables means.schema _ insert_reply.is insert_reply.plain h.0 h.1 in
-      inserts our_tables unreferred schema.replies.name 8 schema.replies.columns schema.replies.key schema.replies.primary schema.replies.uniques schema.replies.orders schema.replies.checks 4 refl old new means.schema reply_params _ h.0
-      reply_terms 6 (Null ∷ entry_columns e) new_reply refl (ap (with_rowid Chosen (old.now.trees replies_tree)) (stored_reply e)) ran
-
-  -- the text that keeps a lawful reply adds it, and touches replies alone
+  -- the text that keeps a lawful reply inserts its row, with the next rowid: it adds the reply, and touches replies alone
   pub reply_kept : IsLawfulEntry e → HasRun INSERT_REPLY.now reply_params old new → TablesMean new.now m (with_reply e k) × KeepsOthers our_tables replies_tree old new
   reply_kept lawful h =
-      let done = inserted h in
+      let ran = runs_as INSERT_REPLY.now reply_params old new our_tables means.schema _ insert_reply.is insert_reply.plain h.0 h.1 in
+      let done = inserts our_tables unreferred schema.replies.name 8 schema.replies.columns schema.replies.key schema.replies.primary schema.replies.uniques schema.replies.orders schema.replies.checks 4 refl old new means.schema reply_params _ h.0
+      reply_terms 6 (Null ∷ entry_columns e) new_reply refl (ap (with_rowid Chosen (old.now.trees replies_tree)) (stored_reply e)) ran in
       let was = parts_of old.now m k means in
       (means_of new.now m (with_reply e k) means.held (replies_changed old new m (open_grants m) (calls_of m) k was done.keeps (k.replies ++ e ∷ []) (one_more entry_columns IsLawfulEntry e k.replies (old.now.trees replies_tree) (new.now.trees replies_tree) done.rows lawful (was.says replies))), done.keeps)
 

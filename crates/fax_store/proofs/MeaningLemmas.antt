@@ -59,18 +59,14 @@ phase_at n = if n == 0 then Held else if n == 1 then Waiting else if n == 2 then
 
 phase_back : (phase : Phase) → phase_at (phase_number phase) ≡ phase
 phase_back Held = refl
-phase_back Waiting = refl
-phase_back Granted = refl
-phase_back Done = refl
-phase_back Failed = refl
+phase_back _ = refl
 
 abbrev wish_at : ℕ → Wish
 wish_at n = if n == 0 then Go else if n == 1 then Hold else Kill
 
 wish_back : (wish : Wish) → wish_at (wish_number wish) ≡ wish
 wish_back Go = refl
-wish_back Hold = refl
-wish_back Kill = refl
+wish_back _ = refl
 
 abbrev call_at : ℕ → Option Call
 call_at n = if n == 0 then None else if n == 1 then Some Connected else if n == 2 then Some Busy else if n == 3 then Some NoAnswer else if n == 4 then Some NoCarrier else Some Other
@@ -78,10 +74,7 @@ call_at n = if n == 0 then None else if n == 1 then Some Connected else if n == 
 call_back : (call : Option Call) → call_at (call_number call) ≡ call
 call_back None = refl
 call_back (Some Connected) = refl
-call_back (Some Busy) = refl
-call_back (Some NoAnswer) = refl
-call_back (Some NoCarrier) = refl
-call_back (Some Other) = refl
+call_back (Some _) = refl
 
 -- a number stands for one of them
 one_of : {X : Type 0} (number : X → ℕ) (at : ℕ → X) → ((x : X) → at (number x) ≡ x) → (x y : X) → number x ≡ number y → x ≡ y

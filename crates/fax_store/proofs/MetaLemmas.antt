@@ -79,34 +79,23 @@ module _ (old new : State) (m : Queue) (k : Ledger) (means : TablesMean old.now 
     abbrev pub params : Row
     params = number clock ∷ number next_job ∷ number next_grant ∷ []
 
-    abbrev put : Queue → Queue
+    abbrev pub put : Queue → Queue
     put it = record it { clock = clock; next_job = next_job; next_grant = next_grant }
 
-    -- the text writes the clock and the next numbers, and touches meta alone
-    written : HasRun UPDATE_META.now params old new → KeepsOthers our_tables meta_tree old new × (new.now.trees meta_tree ≡ meta_row (put m) ∷ []) × IsByRowid (new.now.trees meta_tree)
-    written h =
-        let ran = runs_as UPDATE_META.now params old new our_tables means.schema _ update_meta.is update_meta.plain h.0 h.1 in
-        updated schema.meta.name 10 schema.meta.columns schema.meta.key schema.meta.primary schema.meta.uniques schema.meta.orders schema.meta.checks 5 refl old new means.schema refl (subst IsByRowid (sym means.meta) (alone m))
-        meta_tests update_project params (λ r. refl) _ h.0 meta_row put (m ∷ []) means.meta (λ it. refl) (λ it has on. stored (put it)) (λ it has off. absurd (both_ways _ off (meta_passes it params))) ran
-
-    -- the tables mean the queue with these
-    pub meta_written : IsLawfulMeta (record m { clock = clock; next_job = next_job; next_grant = next_grant }) → HasRun UPDATE_META.now params old new
-        → TablesMean new.now (record m { clock = clock; next_job = next_job; next_grant = next_grant }) k × KeepsOthers our_tables meta_tree old new
+    -- the text writes the clock and the next numbers, and touches meta alone: the tables mean the queue with these
+    pub meta_written : IsLawfulMeta (put m) → HasRun UPDATE_META.now params old new → TablesMean new.now (put m) k × KeepsOthers our_tables meta_tree old new
     meta_written lawful h =
-        let done = written h in
+        let ran = runs_as UPDATE_META.now params old new our_tables means.schema _ update_meta.is update_meta.plain h.0 h.1 in
+        let done = updated schema.meta.name 10 schema.meta.columns schema.meta.key schema.meta.primary schema.meta.uniques schema.meta.orders schema.meta.checks 5 refl old new means.schema refl (subst IsByRowid (sym means.meta) (alone m))
+        meta_tests update_project params (λ r. refl) _ h.0 meta_row put (m ∷ []) means.meta (λ it. refl) (λ it has on. stored (put it)) (λ it has off. absurd (both_ways _ off (meta_passes it params))) ran in
         (means_of new.now (put m) k means.held (meta_changed old new m (open_grants m) (calls_of m) k (parts_of old.now m k means) done.0 clock next_job next_grant done.1 lawful), done.0)
 
   module _ (clock : ℕ) where
-    -- the text writes the clock, and touches meta alone
-    clocked : HasRun UPDATE_CLOCK.now (clock_params clock) old new → KeepsOthers our_tables meta_tree old new × (new.now.trees meta_tree ≡ meta_row (with_clock clock m) ∷ []) × IsByRowid (new.now.trees meta_tree)
-    clocked h =
-        let ran = runs_as UPDATE_CLOCK.now (clock_params clock) old new our_tables means.schema _ update_clock.is update_clock.plain h.0 h.1 in
-        updated schema.meta.name meta_tree schema.meta.columns schema.meta.key schema.meta.primary schema.meta.uniques schema.meta.orders schema.meta.checks 5 refl old new means.schema refl (subst IsByRowid (sym means.meta) (alone m))
-        clock_tests clock_project (clock_params clock) (λ r. refl) _ h.0 meta_row (with_clock clock) (m ∷ []) means.meta (λ it. refl) (λ it has on. stored (with_clock clock it)) (λ it has off. clock_kept clock it off) ran
-
-    -- the tables mean the queue with this clock
+    -- the text writes the clock, and touches meta alone: the tables mean the queue with this clock
     pub clock_written : clock ≤ 4102444800 → HasRun UPDATE_CLOCK.now (clock_params clock) old new → TablesMean new.now (with_clock clock m) k × KeepsOthers our_tables meta_tree old new
     clock_written within h =
-        let done = clocked h in
+        let ran = runs_as UPDATE_CLOCK.now (clock_params clock) old new our_tables means.schema _ update_clock.is update_clock.plain h.0 h.1 in
+        let done = updated schema.meta.name meta_tree schema.meta.columns schema.meta.key schema.meta.primary schema.meta.uniques schema.meta.orders schema.meta.checks 5 refl old new means.schema refl (subst IsByRowid (sym means.meta) (alone m))
+        clock_tests clock_project (clock_params clock) (λ r. refl) _ h.0 meta_row (with_clock clock) (m ∷ []) means.meta (λ it. refl) (λ it has on. stored (with_clock clock it)) (λ it has off. clock_kept clock it off) ran in
         let lawful : IsLawfulMeta (with_clock clock m) = record { clock = within; next_job = means.lawful.meta.next_job; next_grant = means.lawful.meta.next_grant } in
         (means_of new.now (with_clock clock m) k means.held (meta_changed old new m (open_grants m) (calls_of m) k (parts_of old.now m k means) done.0 clock m.next_job m.next_grant done.1 lawful), done.0)

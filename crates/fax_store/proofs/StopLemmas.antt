@@ -32,14 +32,11 @@ shows_none : (sql : List ℕ) (c : Compiled) (known : Result Compiled CompileErr
 shows_none sql c (Ok e) is plain s at = shows_nothing our_tables s sql e c is plain.0 at
 shows_none sql c (Err f) is plain s at = absurd plain
 
--- a query commits nothing by showing its rows
-pub query_commits_nothing : (s : State) (sql : List ℕ) (params : Row) → IsQueryText sql → (found : Trees) → CommitsShowing sql params s found → ⊥
-unfolding CommitsShowing
-query_commits_nothing s sql params query found h = absurd (let no = rw (shows_none sql h.0 (understood our_tables sql) refl query s.now.schema h.1.is) at h.2 in cc)
-
--- so a crash behind a query leaves what it could leave before
+-- a query commits nothing by showing its rows, so a crash behind it leaves what it could leave before
 pub queries_nothing : (old new : State) (sql : List ℕ) (params : Row) → IsQueryText sql → Survives old new (CommitsShowing sql params old) → CommitsNothing old new
-queries_nothing old new sql params query survives = nothing_by old new (CommitsShowing sql params old) survives (λ found clean. query_commits_nothing old sql params query found)
+unfolding CommitsShowing
+queries_nothing old new sql params query survives = nothing_by old new (CommitsShowing sql params old) survives (λ found clean h.
+    absurd (let no = rw (shows_none sql h.0 (understood our_tables sql) refl query old.now.schema h.1.is) at h.2 in cc))
 
 -- ---- BEGIN, COMMIT and ROLLBACK
 
@@ -60,14 +57,12 @@ quiet_nothing s _ text params found is h = absurd is
 -- so a crash behind a quiet command leaves what it could leave before
 control_nothing : (old new : State) (sql : List ℕ) (command : Command) → IsQuiet command → ((c : Compiled) → understood old.now.schema sql ≡ Ok c → IsControl sql command (Ok c)) → Survives old new (CommitsBy sql [] old) → CommitsNothing old new
 unfolding CommitsBy
-control_nothing old new sql command quiet is survives = nothing_by old new (CommitsBy sql [] old) survives (λ found clean. never found)
-  where
-    never : (found : Trees) → CommitsBy sql [] old found → ⊥
-    never found h =
-        let it = is h.0 h.1.is in
-        let text = text_of sql h.0 in
-        let full = timed [] h.0.formats h.1.now in
-        quiet_nothing old command text full found quiet (subst (λ k. CommitsAs old None k text full found) it.0 (subst (λ r. CommitsAs old r h.0.command text full found) it.1 h.2))
+control_nothing old new sql command quiet is survives = nothing_by old new (CommitsBy sql [] old) survives (λ found clean h.
+    let it = is h.0 h.1.is in
+    let text = text_of sql h.0 in
+    let full = timed [] h.0.formats h.1.now in
+    quiet_nothing old command text full found quiet
+    (subst (λ k. CommitsAs old None k text full found) it.0 (subst (λ r. CommitsAs old r h.0.command text full found) it.1 h.2)))
 
 -- what the text is understood as is this command
 known : (sql : List ℕ) (command : Command) (r : Result Compiled CompileError) → IsControl sql command r → (c : Compiled) → r ≡ Ok c → IsControl sql command (Ok c)

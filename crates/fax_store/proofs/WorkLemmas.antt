@@ -135,26 +135,26 @@ module _ (old new : State) (served : Serves new → Serves old) {A : Type 0} (re
           record { began = same.0.committed_is ∙ was.began; goes_on = λ _. (same.0.mode ∙ on.0, ap (λ (d : Database). d.schema) same.0.now_is ∙ on.1) }
       kept (Err e) left = record { began = committed_is old new left s.is_open ∙ was.began; goes_on = λ on. absurd cc }
 
+  -- a call that only reads keeps what a work means
+  pub keeps_by : Keeps old false new (is_err result)
+  keeps_by m₀ m k₀ k works s = kept result (read (was.goes_on refl).means.schema s.clean)
+    where
+      was : IsUnderWay old false m₀ k₀ m k
+      was = works (served s)
+
+      kept : (r : Result A StoreFault) → Reads old new r → IsUnderWay new (is_err r) m₀ k₀ m k
+      kept (Ok a) h =
+          let same = h.0 in
+          let inside = was.goes_on refl in record {
+            began = same_tables m₀ k₀ same.committed_is was.began;
+            goes_on = λ _. record { inside = same.mode ∙ inside.inside; means = same_tables m k same.now_is inside.means };
+          }
+      kept (Err e) left = record { began = same_tables m₀ k₀ (committed_is old new left s.is_open) was.began; goes_on = λ on. absurd cc }
+
   module _ (P : Queue → Ledger → A → Type 0) (answers : (m : Queue) (k : Ledger) → MeansNow old m k → Serves new → OrUnavailable result (P m k)) where
     -- what the tables mean inside a work
     works_now : (m₀ m : Queue) (k₀ k : Ledger) → Works old false m₀ k₀ m k → MeansNow old m k
     works_now m₀ m k₀ k works was = ((works was).goes_on refl).means
-
-    -- a call that only reads keeps what a work means
-    pub keeps_by : Keeps old false new (is_err result)
-    keeps_by m₀ m k₀ k works s = kept result (read (was.goes_on refl).means.schema s.clean)
-      where
-        was : IsUnderWay old false m₀ k₀ m k
-        was = works (served s)
-
-        kept : (r : Result A StoreFault) → Reads old new r → IsUnderWay new (is_err r) m₀ k₀ m k
-        kept (Ok a) h =
-            let same = h.0 in
-            let inside = was.goes_on refl in record {
-              began = same_tables m₀ k₀ same.committed_is was.began;
-              goes_on = λ _. record { inside = same.mode ∙ inside.inside; means = same_tables m k same.now_is inside.means };
-            }
-        kept (Err e) left = record { began = same_tables m₀ k₀ (committed_is old new left s.is_open) was.began; goes_on = λ on. absurd cc }
 
     -- inside a work, what it answers is so of all that the work means
     pub found_in : AnswersIn old false new result P

@@ -4,8 +4,6 @@ use Rattle.fax_value.specs.Name.{IsName}
 use Rattle.fax_schema.specs.declared.statements.TheConstants.{INSERT_DOWN}
 use Rattle.fax_store.proofs.ModemLemmas as modems
 use Rattle.fax_store.proofs.WorkLemmas.{move_by, only_unavailable}
-use Rattle.fax_store.proofs.StatementLemmas.{edit_text}
-use Rattle.fax_schema.proofs.ModemTexts as texts
 use Rattle.fax_store.proofs.FrameLemmas.{inserts_with, reads_on, runs_of, runs_then}
 use Rattle.fax_store.proofs.store.Store.add_mark.Goals as goal
 
@@ -33,6 +31,3 @@ returns g c =
           only_unavailable _ _ INSERT_DOWN.now (modems.params modem) c.insert.result (λ m k. is_down modem m ≡ false) inserts.leaves.served inserts.told
           (λ m k means free e h. modems.mark_goes modem _ _ m k means free e h) m₀ m k₀ k (λ _. first.1) s (sym first.0 ∙ c.if-branch.false);
     }
-
-pub insert-requires : goal.insert-requires
-insert-requires g c = edit_text INSERT_DOWN.now _ tt texts.insert_down

@@ -6,7 +6,6 @@ use Rattle.fax_schema.specs.Schema.{jobs_tree}
 use Rattle.fax_store.specs.Job.{BriefsStand, brief_places}
 use Rattle.fax_tables.specs.Job.{brief_shown}
 use Rattle.fax_store.proofs.JobsLemmas.{briefs_found, briefs_shown}
-use Rattle.fax_schema.proofs.StatementTexts.{select_briefs}
 use Rattle.fax_store.proofs.FrameLemmas.{finds_as}
 use Rattle.fax_store.proofs.store.Store.briefs.Goals as goal
 
@@ -23,6 +22,3 @@ returns g c = record {
       (λ found is. subst (IsPermutation (map (λ row. map (column row) brief_places) (db.trees jobs_tree))) is same) read;
   lawful = c.briefs_in.ensures.bare;
 }
-
-pub show-requires : goal.show-requires
-show-requires g c = select_briefs.plain

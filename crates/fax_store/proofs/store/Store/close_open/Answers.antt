@@ -6,15 +6,7 @@ use Rattle.fax_tables.proofs.TablesLemmas.{calls, calls_of}
 use Rattle.fax_store.proofs.GrantLemmas.{close_counted, close_params, grant_closed}
 use Rattle.fax_store.proofs.FrameLemmas.{runs_then, writes_where_refused, edits_with}
 use Rattle.fax_store.proofs.WorkLemmas.{inside_by, moves_by, ok_as, step_of}
-use Rattle.fax_schema.proofs.GrantTexts as texts
-use Rattle.fax_store.proofs.StatementLemmas.{edit_text}
 use Rattle.fax_store.proofs.store.Store.close_open.Goals as goal
-
-pub run-requires : goal.run-requires
-run-requires g c = edit_text SHUT_GRANT.now _ tt texts.shut_grant
-
-pub run-requires-2 : goal.run-requires-2
-run-requires-2 g c = edit_text DELETE_HOLD.now _ tt texts.delete_hold
 
 pub returns-in_err-run : goal.returns-in_err-run
 returns-in_err-run g c =

@@ -6,12 +6,8 @@ use Rattle.fax_store.specs.Grant.{SetsCalls}
 use Rattle.fax_tables.proofs.CreateLemmas.{commit_kept}
 use Rattle.fax_store.proofs.CallLemmas.{has_calls, no_calls, set_still, set_then}
 use Rattle.fax_store.proofs.HeldLemmas.{held_callable, held_counted, held_few, held_jobs, none_small, rows_still}
-use Rattle.fax_schema.proofs.StatementTexts.{select_held}
 use Rattle.fax_store.proofs.WorkLemmas.{both_as, ok_as}
 use Rattle.fax_store.proofs.store.Store.count_holds.Goals as goal
-
-pub show-requires : goal.show-requires
-show-requires g c = select_held.plain
 
 pub returns-clause-leaves : goal.returns-clause-leaves
 returns-clause-leaves g c = record {

@@ -8,12 +8,8 @@ use Rattle.fax_core.specs.Job.{Job}
 use Rattle.fax_schema.specs.declared.statements.TheConstants.{SELECT_DIAL}
 use Rattle.fax_tables.specs.Row.{number}
 use Rattle.fax_store.proofs.HeldLemmas.{dial_formed, dial_found, dial_there, dial_told}
-use Rattle.fax_schema.proofs.StatementTexts.{select_dial}
 use Rattle.fax_store.proofs.WorkLemmas.{told_cause, told_ok}
 use Rattle.fax_store.proofs.store.Store.dial_of.Goals as goal
-
-pub find-requires : goal.find-requires
-find-requires g c = select_dial.plain
 
 pub returns-in-Some-clause-answers : goal.returns-in-Some-clause-answers
 returns-in-Some-clause-answers g c m k j tables rows job clean =

@@ -2,8 +2,6 @@ use Rattle.std.proofs.Common.{rules}
 use Rattle.fax_schema.specs.declared.statements.TheConstants.{EXPIRE_JOBS}
 use Rattle.fax_store.specs.Job.{with_expired_in}
 use Rattle.fax_store.proofs.JobLemmas.{expired_params, jobs_expired}
-use Rattle.fax_store.proofs.StatementLemmas.{edit_text}
-use Rattle.fax_schema.proofs.StatementTexts as texts
 use Rattle.fax_store.proofs.FrameLemmas.{edits_with, reads_on, runs_of, runs_then, writes_by}
 use Rattle.fax_store.proofs.store.Store.expire_in.Goals as goal
 
@@ -27,6 +25,3 @@ returns g c = record {
       rw (first.0 c.if-branch.false) first.1;
   cause = search rules;
 }
-
-pub run-requires : goal.run-requires
-run-requires g c = edit_text EXPIRE_JOBS.now _ tt texts.expire_jobs

@@ -1,13 +1,9 @@
 use Rattle.std.proofs.Common.{sym, rules}
 use Rattle.fax_store.proofs.FoundLemmas.{queries_with}
 use Rattle.fax_schema.specs.declared.statements.TheConstants.{SELECT_FLOOR}
-use Rattle.fax_schema.proofs.ClientTexts.{select_floor}
 use Rattle.fax_store.proofs.CallLemmas.{params}
 use Rattle.fax_store.proofs.FloorLemmas.{floor_found, floor_low}
 use Rattle.fax_store.proofs.store.Store.floor.Goals as goal
-
-pub find-requires : goal.find-requires
-find-requires g c = select_floor.plain
 
 pub returns-in-Some-clause-answers : goal.returns-in-Some-clause-answers
 returns-in-Some-clause-answers g c m k means s =

@@ -2,7 +2,6 @@ use Rattle.std.proofs.Common.{sym, ◌∙◌, rules}
 use Rattle.fax_store.proofs.FoundLemmas.{queries_with}
 use Rattle.fax_schema.specs.declared.statements.TheConstants.{SELECT_EXPIRED}
 use Rattle.fax_store.proofs.JobLemmas.{expired_params, none_expired}
-use Rattle.fax_schema.proofs.StatementTexts.{select_expired}
 use Rattle.fax_store.proofs.FrameLemmas.{finds_as}
 use Rattle.fax_store.proofs.store.Store.has_expired.Goals as goal
 
@@ -14,6 +13,3 @@ returns g c = record {
       none_expired c.args.phase c.args.t _ _ m k (means (c.in_ok-row.ensures.leaves.served s)) c.in_ok-row.row found (sym c.is_some.ensures ∙ off);
   cause = search rules;
 }
-
-pub find-requires : goal.find-requires
-find-requires g c = select_expired.plain

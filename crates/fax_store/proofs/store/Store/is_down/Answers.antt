@@ -2,7 +2,6 @@ use Rattle.std.proofs.Common.{◌∙◌, rules}
 use Rattle.fax_store.proofs.FoundLemmas.{queries_with}
 use Rattle.fax_schema.specs.declared.statements.TheConstants.{SELECT_DOWN}
 use Rattle.fax_store.proofs.ModemLemmas as modems
-use Rattle.fax_schema.proofs.ModemTexts.{select_down}
 use Rattle.fax_store.proofs.FrameLemmas.{finds_as}
 use Rattle.fax_store.proofs.store.Store.is_down.Goals as goal
 
@@ -14,6 +13,3 @@ returns g c = record {
       c.is_some.ensures ∙ modems.mark_found modem _ _ m k (means (c.in_ok-row.ensures.leaves.served s)) c.in_ok-row.row found;
   cause = search rules;
 }
-
-pub find-requires : goal.find-requires
-find-requires g c = select_down.plain

@@ -6,7 +6,6 @@ use Rattle.fax_schema.specs.Schema.{jobs_tree}
 use Rattle.fax_store.specs.Job.{JobsStand, job_places}
 use Rattle.fax_tables.specs.Job.{job_shown}
 use Rattle.fax_store.proofs.JobsLemmas.{jobs_found, jobs_shown}
-use Rattle.fax_schema.proofs.StatementTexts.{select_jobs}
 use Rattle.fax_store.proofs.FrameLemmas.{finds_as}
 use Rattle.fax_store.proofs.store.Store.jobs.Goals as goal
 
@@ -22,6 +21,3 @@ returns g c = record {
       IfOk-weaker c.jobs_in.result (λ found. map (take 20) rows ≡ map job_shown found.items) (λ found. JobsStand db found.items)
       (λ found is. subst (IsPermutation (map (λ row. map (column row) job_places) (db.trees jobs_tree))) is same) read;
 }
-
-pub show-requires : goal.show-requires
-show-requires g c = select_jobs.plain

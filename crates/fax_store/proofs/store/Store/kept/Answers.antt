@@ -5,7 +5,6 @@ use Rattle.fax_store.specs.Store.{FindsRow}
 use Rattle.fax_store.specs.Kept.{IsKeptFor}
 use Rattle.fax_store.proofs.KeptLemmas.{none_kept, one_kept, tables_keep_once, params, reply_found, lawful_of, none_found}
 use Rattle.fax_tables.proofs.ResultLemmas.{passes_on}
-use Rattle.fax_schema.proofs.StatementTexts.{select_reply}
 use Rattle.fax_store.proofs.FrameLemmas.{finds_as}
 use Rattle.fax_store.proofs.FoundLemmas.{queries_with}
 use Rattle.fax_store.proofs.store.Store.kept.Goals as goal
@@ -49,6 +48,3 @@ returns-in-None g c = record {
       none_found client c.args.number _ _ db ours now (subst (FindsRow SELECT_REPLY.now (params client c.args.number) _ _) c.in-None.is (finds.found clean));
   lawful = tt;
 }
-
-pub find-requires : goal.find-requires
-find-requires g c = select_reply.plain

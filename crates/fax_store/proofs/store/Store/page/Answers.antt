@@ -3,7 +3,7 @@ use Rattle.fax_store.specs.declared.candidates.Front.TheVariants.{First, Number,
 use Rattle.fax_schema.specs.declared.statements.TheConstants.{SELECT_FIRST, SELECT_BEHIND_NUMBER, SELECT_BEHIND_TIME, SELECT_BEHIND_PRIORITY}
 use Rattle.fax_tables.specs.Row.{number}
 use Rattle.fax_store.proofs.CandidateLemmas.{answers_page, params, first_found, number_found, time_found, priority_found}
-use Rattle.fax_schema.proofs.StatementTexts.{number_tests, other_tests, priority_tests, time_tests, select_first, select_behind_number, select_behind_time, select_behind_priority}
+use Rattle.fax_schema.proofs.StatementTexts.{number_tests, other_tests, priority_tests, time_tests}
 use Rattle.fax_store.proofs.store.Store.page.Goals as goal
 
 pub returns-in-First : goal.returns-in-First
@@ -30,15 +30,3 @@ returns-in-Priority g c =
     answers_page g.S.Store c.args.asked.now c.args.most _ _ _ SELECT_BEHIND_PRIORITY.now _
     (params c.args.asked.now c.args.most (number c.in-Priority.priority ∷ []) priority_tests) (Priority c.in-Priority.priority) _ c.in-Priority.is
     (search rules) c.show-in-Priority.ensures (λ m k means rows h. priority_found c.args.asked.now c.args.most _ _ m k means rows c.in-Priority.priority h)
-
-pub show-requires : goal.show-requires
-show-requires g c = select_first.plain
-
-pub show-requires-in-Number : goal.show-requires-in-Number
-show-requires-in-Number g c = select_behind_number.plain
-
-pub show-requires-in-Time : goal.show-requires-in-Time
-show-requires-in-Time g c = select_behind_time.plain
-
-pub show-requires-in-Priority : goal.show-requires-in-Priority
-show-requires-in-Priority g c = select_behind_priority.plain

@@ -7,15 +7,7 @@ use Rattle.fax_tables.proofs.TablesLemmas.{calls, calls_of}
 use Rattle.fax_store.proofs.GrantLemmas.{hold_params, grant_params, hold_goes, grant_counted, grant_put, grant_goes}
 use Rattle.fax_store.proofs.FrameLemmas.{runs_then, writes_if_where_refused, inserts_with}
 use Rattle.fax_store.proofs.WorkLemmas.{inside_by, moves_by, ok_as, refused_as}
-use Rattle.fax_schema.proofs.GrantTexts as texts
-use Rattle.fax_store.proofs.StatementLemmas.{edit_text}
 use Rattle.fax_store.proofs.store.Store.place_grant.Goals as goal
-
-pub insert-requires : goal.insert-requires
-insert-requires g c = edit_text INSERT_HOLD.now _ tt texts.insert_hold
-
-pub insert-requires-2 : goal.insert-requires-2
-insert-requires-2 g c = edit_text INSERT_GRANT.now _ tt texts.insert_grant
 
 pub returns-in_err-insert : goal.returns-in_err-insert
 returns-in_err-insert g c =

@@ -5,11 +5,7 @@ use Rattle.fax_core.specs.State.{calls_to}
 use Rattle.fax_schema.specs.declared.statements.TheConstants.{SELECT_OPEN}
 use Rattle.fax_store.proofs.CallLemmas as calls
 use Rattle.fax_store.proofs.CountLemmas.{calls_fit}
-use Rattle.fax_schema.proofs.GrantTexts.{select_open}
 use Rattle.fax_store.proofs.store.Store.read_calls.Goals as goal
-
-pub find-requires : goal.find-requires
-find-requires g c = select_open.plain
 
 pub returns-in-Some-clause-counted : goal.returns-in-Some-clause-counted
 returns-in-Some-clause-counted g c count tables counted low clean =

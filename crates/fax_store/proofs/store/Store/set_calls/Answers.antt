@@ -8,16 +8,8 @@ use Rattle.fax_store.specs.Grant.{with_count}
 use Rattle.fax_tables.specs.Row.{number}
 use Rattle.fax_tables.proofs.CreateLemmas.{commit_kept}
 use Rattle.fax_store.proofs.CallLemmas.{calls_gone, calls_put, has_calls, params, set_then}
-use Rattle.fax_schema.proofs.GrantTexts as texts
-use Rattle.fax_store.proofs.StatementLemmas.{edit_text}
 use Rattle.fax_store.proofs.WorkLemmas.{err_as, ok_as}
 use Rattle.fax_store.proofs.store.Store.set_calls.Goals as goal
-
-pub run-requires : goal.run-requires
-run-requires g c = edit_text DELETE_CALLS.now _ tt texts.delete_calls
-
-pub run-requires-2 : goal.run-requires-2
-run-requires-2 g c = edit_text INSERT_CALLS.now _ tt texts.insert_calls
 
 pub returns-then-calls-eq0-clause-set : goal.returns-then-calls-eq0-clause-set
 returns-then-calls-eq0-clause-set g c count was clean =

@@ -4,7 +4,6 @@ use Rattle.sqlite.specs.State.{Shown}
 use Rattle.fax_schema.specs.declared.statements.TheConstants.{SELECT_WAITING}
 use Rattle.fax_tables.proofs.ResultLemmas.{or_weaker}
 use Rattle.fax_store.proofs.JobsLemmas as waiting
-use Rattle.fax_schema.proofs.StatementTexts.{select_waiting}
 use Rattle.fax_store.proofs.FrameLemmas.{finds_as}
 use Rattle.fax_store.proofs.store.Store.waiting.Goals as goal
 
@@ -20,6 +19,3 @@ returns g c = record {
       or_weaker c.jobs_in.result _ _ (λ found is. (it.0, is, it.2))
       (c.jobs_in.ensures.found it.0 (search rules) (waiting.all_waiting t m it.0 it.2 means_now.lawful.jobs));
 }
-
-pub show-requires : goal.show-requires
-show-requires g c = select_waiting.plain

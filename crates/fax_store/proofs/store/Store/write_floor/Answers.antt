@@ -1,19 +1,11 @@
 use Rattle.std.proofs.Common.{rules}
 use Rattle.fax_core.specs.Ledger.{floors_with}
 use Rattle.fax_schema.specs.declared.statements.TheConstants.{DELETE_FLOOR, INSERT_FLOOR}
-use Rattle.fax_schema.proofs.ClientTexts as texts
 use Rattle.fax_store.proofs.CallLemmas.{params}
 use Rattle.fax_store.proofs.FloorLemmas.{floor_gone, floor_params, floor_set}
-use Rattle.fax_store.proofs.StatementLemmas.{edit_text}
 use Rattle.fax_store.proofs.WorkLemmas.{step_by}
 use Rattle.fax_store.proofs.FrameLemmas.{edits_with, runs_then, writes_by, writes_where_refused}
 use Rattle.fax_store.proofs.store.Store.write_floor.Goals as goal
-
-pub run-requires : goal.run-requires
-run-requires g c = edit_text DELETE_FLOOR.now _ tt texts.delete_floor
-
-pub run-requires-2 : goal.run-requires-2
-run-requires-2 g c = edit_text INSERT_FLOOR.now _ tt texts.insert_floor
 
 pub returns : goal.returns
 returns g c = record {

@@ -5,8 +5,6 @@ use Rattle.fax_core.specs.Machine.{with_grant}
 use Rattle.fax_schema.specs.declared.statements.TheConstants.{UPDATE_REPORT}
 use Rattle.fax_store.proofs.GrantLemmas.{report_params, grant_reported}
 use Rattle.fax_store.proofs.WorkLemmas.{moves_of}
-use Rattle.fax_store.proofs.StatementLemmas.{edit_text}
-use Rattle.fax_schema.proofs.GrantTexts as texts
 use Rattle.fax_store.proofs.store.Store.write_report.Goals as goal
 
 pub returns-clause-written : goal.returns-clause-written
@@ -20,6 +18,3 @@ returns-clause-written g c m₀ m k₀ k report works s =
 
 pub returns-clause-cause : goal.returns-clause-cause
 returns-clause-cause g c fits = c.run.ensures.cause
-
-pub run-requires : goal.run-requires
-run-requires g c = edit_text UPDATE_REPORT.now _ tt texts.update_report

@@ -1,4 +1,3 @@
-use Rattle.std.proofs.Common.{refl}
 use Rattle.fax_core.specs.Machine.{with_grant}
 use Rattle.fax_core.specs.Ledger.{Ledger}
 use Rattle.fax_store.specs.Grant.{IsReport}
@@ -12,4 +11,4 @@ returns-clause-changes g c =
     (steps_where _ _ (IsReport c.args.grant.now) c.write_report-done.result (with_grant c.args.grant.now) (λ (k : Ledger). k) c.write_report-done.ensures.written)
 
 pub returns-clause-leaves : goal.returns-clause-leaves
-returns-clause-leaves g c = calls_by g.S.Store _ _ _ c.if-self.false c.is_err-self.ensures.value refl c.write_report-done.ensures.leaves
+returns-clause-leaves g c = calls_by g.S.Store c.if-self.false c.is_err-self.ensures.value c.write_report-done.ensures.leaves
